@@ -1,0 +1,9 @@
+pub mod Plane
+pub mod Expressions
+pub mod Fractions
+pub mod Nonzero
+pub mod Bridge
+pub mod Steps
+pub mod Geometry
+pub mod Rows
+pub mod Signs

@@ -1,0 +1,7 @@
+-- Powers in a ring.
+use Rattle.std.specs.Prelude.{ℕ, zero, suc}
+use Rattle.ring_laws.specs.Ring.{Ring}
+
+abbrev pub power : (R : Ring) → R.carrier → ℕ → R.carrier
+power R x zero = R.one
+power R x (suc n) = R.mul (power R x n) x
