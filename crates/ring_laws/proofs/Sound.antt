@@ -43,12 +43,12 @@ module _ (R : Ring) (v : ℕ → R.carrier) where
       subst (λ k. t k ≈ t m * (t n + one)) (sym (NatL.mul-suc m n))
       (natural-add (m *ₙ n) m ∘ plus (natural-mul m n) (flip (R.mul-one (t m))) ∘ flip (R.mul-add (t m) (t n) one))
 
-  constant-add : (p n a b : ℕ) → val (constant (p +ₙ a) (n +ₙ b)) ≈ val (constant p n) + val (constant a b)
+  pub constant-add : (p n a b : ℕ) → val (constant (p +ₙ a) (n +ₙ b)) ≈ val (constant p n) + val (constant a b)
   constant-add p n a b =
       plus (natural-add p a) (R.neg-same _ _ (natural-add n b) ∘ Laws.neg-add R (t n) (t b))
       ∘ Laws.add_swap R (t p) (t a) (neg (t n)) (neg (t b))
 
-  constant-mul : (p n a b : ℕ) → val (constant (p *ₙ a +ₙ n *ₙ b) (p *ₙ b +ₙ n *ₙ a)) ≈ val (constant p n) * val (constant a b)
+  pub constant-mul : (p n a b : ℕ) → val (constant (p *ₙ a +ₙ n *ₙ b) (p *ₙ b +ₙ n *ₙ a)) ≈ val (constant p n) * val (constant a b)
   constant-mul p n a b =
       plus (sums p a n b) (R.neg-same _ _ (sums p b n a) ∘ Laws.neg-add R (t p * t b) (t n * t a))
       ∘ plus self (R.add_comm _ _)

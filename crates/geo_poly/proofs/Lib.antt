@@ -1,0 +1,15 @@
+pub mod Orders
+pub mod MonomialLaws
+pub mod PolynomialLaws
+pub mod MonomialOrder
+pub mod Products
+pub mod Values
+pub mod ReplaceValue
+pub mod ReplaceBounds
+pub mod Negated
+pub mod ReplaceLoop
+pub mod ReplaceTerms
+pub mod Capped
+pub mod Division
+pub mod ExactQuotient
+pub mod Reflected

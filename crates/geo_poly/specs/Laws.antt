@@ -1,0 +1,24 @@
+-- What the definitions mean.
+use Rattle.std.specs.Prelude.{◌≡◌, ◌+◌, ◌↔◌, ◌+ℤ◌}
+use Rattle.std.specs.declared.cmp.Ordering.TheVariants.{Greater}
+use Rattle.geo_poly.specs.declared.variables.Var.{Var}
+use Rattle.sparse_lists.specs.SparseLists.{IsCanonical}
+use Rattle.geo_poly.specs.Monomials.{Powers, IsMonomial, exponent, product, monomial_cmp, IsEarlier}
+use Rattle.geo_poly.specs.Polynomials.{Terms, coefficients, term_cmp, coefficient, polynomial_of, sum_of}
+
+-- the polynomial of a list of terms is in order and has no zero, has the list's coefficients, and is the only such list
+abbrev pub PolynomialHasCoefficients : Type 0
+PolynomialHasCoefficients =
+    (p : Terms) → IsCanonical term_cmp coefficients (polynomial_of p)
+    × ((m : Powers) → coefficient m (polynomial_of p) ≡ coefficient m p)
+    × ((q : Terms) → IsCanonical term_cmp coefficients q → ((m : Powers) → coefficient m q ≡ coefficient m p) → q ≡ polynomial_of p)
+
+abbrev pub SumAddsCoefficients : Type 0
+SumAddsCoefficients = (p q : Terms) (m : Powers) → coefficient m (sum_of p q) ≡ coefficient m p +ℤ coefficient m q
+
+abbrev pub ProductAddsExponents : Type 0
+ProductAddsExponents = (m n : Powers) (v : Var) → exponent v (product m n) ≡ exponent v m + exponent v n
+
+-- the order of monomials is by the first variable in whose exponents they differ
+abbrev pub OrderIsByExponents : Type 0
+OrderIsByExponents = (m n : Powers) → IsMonomial m → IsMonomial n → (monomial_cmp m n ≡ Greater) ↔ IsEarlier m n

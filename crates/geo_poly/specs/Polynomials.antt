@@ -1,0 +1,69 @@
+-- A polynomial: its monomials with nonzero whole numbers, the greatest monomial first.
+use Rattle.std.specs.Prelude.{ℕ, ◌+◌, ◌*◌, ◌^◌, ◌<◌, ◌≤◌, ◌==◌, max, ℤ, pos, ◌+ℤ◌, ◌*ℤ◌, neg_ℤ, List, [], ◌∷◌, ◌++◌, map, sum_by, unsigned_abs}
+use Rattle.std.specs.Ordering.{flip_args}
+use Rattle.std.specs.declared.cmp.Ordering.{Ordering}
+use Rattle.sparse_lists.specs.SparseLists.{Amounts, AllKeys, IsCanonical, amount, canonical, put}
+use Rattle.geo_poly.specs.Monomials.{Powers, IsMonomial, degree_of, monomial_cmp, product}
+
+abbrev pub Terms : Type 0
+Terms = List (Powers × ℤ)
+
+abbrev pub coefficients : Amounts ℤ
+coefficients = record { zero = pos 0; add = ◌+ℤ◌; is_zero = λ c. unsigned_abs c == 0 }
+
+-- `Less` at the monomial that stands first, which is the greater one
+abbrev pub term_cmp : Powers → Powers → Ordering
+term_cmp = flip_args monomial_cmp
+
+-- the coefficient of a monomial, 0 where it is absent
+abbrev pub coefficient : Powers → Terms → ℤ
+coefficient = amount term_cmp coefficients
+
+-- the polynomial with the same coefficient at each monomial
+abbrev pub polynomial_of : Terms → Terms
+polynomial_of = canonical term_cmp coefficients
+
+abbrev pub norm_of : Terms → ℕ
+norm_of p = sum_by (λ t. unsigned_abs t.1) p
+
+abbrev pub total_degree : Terms → ℕ
+total_degree [] = 0
+total_degree (t ∷ ts) = max (degree_of t.0) (total_degree ts)
+
+pub record IsPolynomial (p : Terms) : Type 0 where
+  pub in_order : IsCanonical term_cmp coefficients p
+  pub monomials : AllKeys IsMonomial p
+  pub norm_fits : norm_of p < 2 ^ 127
+
+abbrev pub constant_of : ℤ → Terms
+constant_of n = put coefficients [] n []
+
+abbrev pub sum_of : Terms → Terms → Terms
+sum_of p q = polynomial_of (p ++ q)
+
+abbrev pub negated : Terms → Terms
+negated p = map (λ t. (t.0, neg_ℤ t.1)) p
+
+abbrev pub difference_of : Terms → Terms → Terms
+difference_of p q = sum_of p (negated q)
+
+-- each term of q times the term t
+abbrev pub multiples : Powers × ℤ → Terms → Terms
+multiples t q = map (λ u. (product t.0 u.0, t.1 *ℤ u.1)) q
+
+-- each term of p times each term of q
+abbrev pub products : Terms → Terms → Terms
+products [] q = []
+products (t ∷ ts) q = multiples t q ++ products ts q
+
+abbrev pub product_of : Terms → Terms → Terms
+product_of p q = polynomial_of (products p q)
+
+-- where a product may be made: the coefficients and the degrees stay within their bounds
+pub record CanMultiply (p q : Terms) : Type 0 where
+  pub left_in_order : IsCanonical term_cmp coefficients p
+  pub left_monomials : AllKeys IsMonomial p
+  pub right_in_order : IsCanonical term_cmp coefficients q
+  pub right_monomials : AllKeys IsMonomial q
+  pub norm_fits : norm_of p * norm_of q < 2 ^ 127
+  pub degree_fits : total_degree p + total_degree q ≤ 65535

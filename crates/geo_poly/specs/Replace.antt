@@ -1,0 +1,126 @@
+-- What becomes of a polynomial when variables are replaced at once, each by a numerator over a power of one denominator.
+use Rattle.std.specs.Prelude.{ℕ, zero, suc, ◌+◌, ◌*◌, ◌-◌, ◌^◌, ◌<◌, ◌≤◌, max, ℤ, Option, Some, None, List, [], ◌∷◌, ◌++◌, find, sum_by, unsigned_abs}
+use Rattle.std.specs.Ordering.{is_eq}
+use Rattle.geo_poly.specs.declared.variables.Var.{Var}
+use Rattle.geo_poly.specs.declared.polynomials.Piece.{Piece}
+use Rattle.geo_poly.specs.declared.polynomials.Row.{Row}
+use Rattle.geo_poly.specs.Variables.{var_cmp}
+use Rattle.sparse_lists.specs.SparseLists.{AllKeys, IsCanonical}
+use Rattle.geo_poly.specs.Monomials.{Powers, IsMonomial, degree_of}
+use Rattle.geo_poly.specs.Polynomials.{Terms, coefficients, term_cmp, polynomial_of, norm_of, total_degree, product_of}
+
+-- the bounds that a piece tells are such
+pub record IsBounded (piece : Piece) : Type 0 where
+  pub norm : norm_of piece.poly ≤ piece.weight
+  pub degree : total_degree piece.poly ≤ piece.degree
+  pub weight : 1 ≤ piece.weight
+
+-- the first row of a variable
+abbrev pub row_of : List Row → Var → Option Row
+row_of rows v = find (λ r. is_eq (var_cmp r.var v)) rows
+
+-- the power of the denominator that a variable calls for
+abbrev pub power_in : Option Row → ℕ
+power_in None = 0
+power_in (Some r) = r.power
+
+-- K of a monomial: the powers of its replaced variables times their exponents
+abbrev pub denominators : List Row → Powers → ℕ
+denominators rows [] = 0
+denominators rows (p ∷ m) = power_in (row_of rows p.0) * p.1 + denominators rows m
+
+-- D: the greatest of them
+abbrev pub most_denominators : List Row → Terms → ℕ
+most_denominators rows [] = 0
+most_denominators rows (t ∷ ts) = max (denominators rows t.0) (most_denominators rows ts)
+
+abbrev pub kept : Option Row → Var × ℕ → Powers → Powers
+kept None p m = p ∷ m
+kept (Some r) p m = m
+
+-- the variables that stay
+abbrev pub others : List Row → Powers → Powers
+others rows [] = []
+others rows (p ∷ m) = kept (row_of rows p.0) p (others rows m)
+
+-- p times q to the power n
+abbrev pub times_power : Terms → Terms → ℕ → Terms
+times_power p q zero = p
+times_power p q (suc n) = product_of (times_power p q n) q
+
+abbrev pub times_row : Option Row → ℕ → Terms → Terms
+times_row None n p = p
+times_row (Some r) n p = times_power p r.num.poly n
+
+-- times the numerators of the replaced variables, each to its exponent
+abbrev pub times_rows : List Row → Powers → Terms → Terms
+times_rows rows [] p = p
+times_rows rows (v ∷ m) p = times_rows rows m (times_row (row_of rows v.0) v.1 p)
+
+-- a term: its coefficient and other variables, its numerators, and the denominators that it lacks
+abbrev pub replaced_term : List Row → Terms → ℕ → Powers × ℤ → Terms
+replaced_term rows den top t = times_power (times_rows rows t.0 ((others rows t.0, t.1) ∷ [])) den (top - denominators rows t.0)
+
+abbrev pub replaced_terms : List Row → Terms → ℕ → Terms → Terms
+replaced_terms rows den top [] = []
+replaced_terms rows den top (t ∷ ts) = replaced_term rows den top t ++ replaced_terms rows den top ts
+
+abbrev pub replaced_by : List Row → Terms → Terms → Terms
+replaced_by rows den p = polynomial_of (replaced_terms rows den (most_denominators rows p) p)
+
+-- BOUNDS, from those that the pieces tell
+abbrev pub AllBounded : List Row → Type 0
+AllBounded [] = Unit {0}
+AllBounded (r ∷ rs) = IsBounded r.num × AllBounded rs
+
+abbrev pub weight_row : Option Row → ℕ → ℕ → ℕ
+weight_row None n w = w
+weight_row (Some r) n w = w * r.num.weight ^ n
+
+-- w times the weights of the numerators
+abbrev pub weight_rows : List Row → Powers → ℕ → ℕ
+weight_rows rows [] w = w
+weight_rows rows (v ∷ m) w = weight_rows rows m (weight_row (row_of rows v.0) v.1 w)
+
+abbrev pub term_weight : List Row → Piece → ℕ → Powers × ℤ → ℕ
+term_weight rows den top t = weight_rows rows t.0 (unsigned_abs t.1) * den.weight ^ (top - denominators rows t.0)
+
+abbrev pub degree_row : Option Row → ℕ → ℕ → ℕ
+degree_row None n d = d
+degree_row (Some r) n d = d + r.num.degree * n
+
+-- d plus the degrees of the numerators
+abbrev pub degree_rows : List Row → Powers → ℕ → ℕ
+degree_rows rows [] d = d
+degree_rows rows (v ∷ m) d = degree_rows rows m (degree_row (row_of rows v.0) v.1 d)
+
+abbrev pub term_degree : List Row → Piece → ℕ → Powers × ℤ → ℕ
+term_degree rows den top t = degree_rows rows t.0 (degree_of (others rows t.0)) + den.degree * (top - denominators rows t.0)
+
+abbrev pub weight_of : List Row → Piece → ℕ → Terms → ℕ
+weight_of rows den top p = sum_by (term_weight rows den top) p
+
+abbrev pub degree_bound : List Row → Piece → ℕ → Terms → ℕ
+degree_bound rows den top [] = 0
+degree_bound rows den top (t ∷ ts) = max (term_degree rows den top t) (degree_bound rows den top ts)
+
+-- where a replacement may be made
+pub record CanReplace (rows : List Row) (den : Piece) (top : ℕ) (p : Terms) : Type 0 where
+  pub rows_bounded : AllBounded rows
+  pub den_bounded : IsBounded den
+  pub in_order : IsCanonical term_cmp coefficients p
+  pub monomials : AllKeys IsMonomial p
+  pub top_fits : most_denominators rows p ≤ top
+  pub weight_fits : weight_of rows den top p < 2 ^ 127
+  pub degree_fits : degree_bound rows den top p ≤ 65535
+
+abbrev pub AllPowersSmall : List Row → Type 0
+AllPowersSmall [] = Unit {0}
+AllPowersSmall (r ∷ rs) = (r.power ≤ 2) × AllPowersSmall rs
+
+-- the bounds of the whole
+abbrev pub replaced_weight : List Row → Piece → Terms → ℕ
+replaced_weight rows den p = weight_of rows den (most_denominators rows p) p
+
+abbrev pub replaced_degree : List Row → Piece → Terms → ℕ
+replaced_degree rows den p = degree_bound rows den (most_denominators rows p) p

@@ -1,0 +1,180 @@
+ghost use Rattle.std.specs.Prelude.{◌≡◌, ◌+◌, ◌≤◌, [], ◌∷◌, ◌++◌, IfOk, IfSome, IfNone, OnOk, OnErr};
+ghost use Rattle.geo_poly.specs.Variables.{var_cmp};
+ghost use Rattle.sparse_lists.specs.SparseLists.{IsCanonical};
+ghost use Rattle.geo_poly.specs.Monomials.{degree_of, exponent, exponents, IsMonomial, monomial_cmp, product};
+ghost use Rattle.geo_poly.specs.Division.{IsNoMultiple};
+
+use crate::variables::Var;
+use std::alloc::{AllocError, Global};
+use std::cmp::Ordering;
+use std::marker::Model;
+
+/// Variables in order, with exponents of at least 1.
+#[derive(Drop)]
+pub struct Monomial {
+    powers: Vec<(Var, u32)>,
+}
+
+impl Model for Monomial {
+    ghost use Rattle.geo_poly.specs.Monomials.{Powers, IsMonomial};
+
+    ghost Value = { Powers };
+
+    ghost view = { λ m. m.powers.items };
+
+    ghost invariant = { λ m. IsMonomial m.powers.items };
+}
+
+impl Monomial {
+    pub fn one(alloc: Global) -> Monomial
+        ensures { result ≡ [] }
+    {
+        Monomial {
+            powers: Vec::new(alloc),
+        }
+    }
+
+    pub fn var(v: Var, alloc: Global) -> Result<Monomial, AllocError>
+        ensures { IfOk result (λ m. m ≡ (v, 1) ∷ []) }
+    {
+        let mut powers = Vec::new(alloc);
+        powers.push((v, 1))?;
+        Ok(Monomial { powers })
+    }
+
+    pub fn copy(&self, alloc: Global) -> Result<Monomial, AllocError>
+        ensures { IfOk result (λ m. m ≡ self.now) }
+    {
+        Ok(Monomial {
+            powers: Vec::from_slice(alloc, &self.powers)?,
+        })
+    }
+
+    pub fn powers(&self) -> &[(Var, u32)]
+        ensures { result.now ≡ self.now }
+    {
+        &self.powers
+    }
+
+    /// Adds a power behind the others.
+    pub fn push(&mut self, v: Var, exponent: u32) -> Result<(), AllocError>
+        requires { IsMonomial (self.old ++ (v, exponent) ∷ []) }
+        ensures ok { OnOk result (self.new ≡ self.old ++ (v, exponent) ∷ []) }
+        ensures err { OnErr result (self.new ≡ self.old) }
+    {
+        self.powers.push((v, exponent))?;
+        Ok(())
+    }
+
+    pub fn degree(&self) -> u32
+        ensures value { result ≡ degree_of self.now }
+        ensures small { result ≤ 65535 }
+    {
+        let mut degree = 0;
+        for (_, exponent) in &self.powers {
+            degree += *exponent;
+        }
+        degree
+    }
+
+    /// The exponent of the variable, and 0 where it is absent.
+    pub fn exponent(&self, v: Var) -> u32
+        ensures { result ≡ exponent v self.now }
+    {
+        let mut total = 0;
+        for (w, e) in &self.powers {
+            if v.compare(*w) == Ordering::Equal {
+                total += *e;
+            }
+        }
+        total
+    }
+
+    /// What times `by` is this monomial, where there is such a one.
+    pub fn over(&self, by: &Monomial, alloc: Global) -> Result<Option<Monomial>, AllocError>
+        ensures some { IfOk result (λ o. IfSome o (λ q. product by.now q ≡ self.now)) }
+        ensures monomial { IfOk result (λ o. IfSome o IsMonomial) }
+        ensures none { IfOk result (λ o. IfNone o (IsNoMultiple by.now self.now)) }
+    {
+        let mut rest = Monomial::one(alloc);
+        for (v, e) in &self.powers {
+            let left = e.saturating_sub(by.exponent(*v));
+            if left > 0 {
+                rest.push(*v, left)?;
+            }
+        }
+        if by.degree() + rest.degree() != self.degree() {
+            return Ok(None);
+        }
+        let whole = by.times(&rest, alloc)?;
+        match whole.compare(self) {
+            Ordering::Equal => Ok(Some(rest)),
+            _ => Ok(None),
+        }
+    }
+
+    /// `Greater` where `self` stands before `other` in a polynomial.
+    pub fn compare(&self, other: &Monomial) -> Ordering
+        ensures { result ≡ monomial_cmp self.now other.now }
+    {
+        let left = &self.powers;
+        let right = &other.powers;
+        let mut i = 0;
+        while i < left.len() && i < right.len() {
+            let (v, e) = left[i];
+            let (w, f) = right[i];
+            let order = w.compare(v).then(e.cmp(&f));
+            if order != Ordering::Equal {
+                return order;
+            }
+            i += 1;
+        }
+        left.len().cmp(&right.len())
+    }
+
+    pub fn times(&self, other: &Monomial, alloc: Global) -> Result<Monomial, AllocError>
+        requires { degree_of self.now + degree_of other.now ≤ 65535 }
+        ensures { IfOk result (λ m. m ≡ product self.now other.now) }
+    {
+        let powers = merged(alloc, &self.powers, &other.powers)?;
+        Ok(Monomial { powers })
+    }
+}
+
+/// Both lists in one, in order; where a variable stands in both, the exponents add up.
+fn merged(
+    alloc: Global,
+    left: &[(Var, u32)],
+    right: &[(Var, u32)],
+) -> Result<Vec<(Var, u32)>, AllocError>
+    requires left { IsCanonical var_cmp exponents left.now }
+    requires right { IsCanonical var_cmp exponents right.now }
+    requires fits { degree_of left.now + degree_of right.now ≤ 65535 }
+    ensures { IfOk result (λ v. v.items ≡ product left.now right.now) }
+{
+    let mut powers = Vec::new(alloc);
+    let mut i = 0;
+    let mut j = 0;
+    while i < left.len() && j < right.len() {
+        let (v, e) = left[i];
+        let (w, f) = right[j];
+        match v.compare(w) {
+            Ordering::Less => {
+                powers.push((v, e))?;
+                i += 1;
+            }
+            Ordering::Greater => {
+                powers.push((w, f))?;
+                j += 1;
+            }
+            Ordering::Equal => {
+                powers.push((v, e + f))?;
+                i += 1;
+                j += 1;
+            }
+        }
+    }
+    powers.extend_from_slice(&left[i..])?;
+    powers.extend_from_slice(&right[j..])?;
+    Ok(powers)
+}
