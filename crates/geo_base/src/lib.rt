@@ -1,13 +1,14 @@
-// A library with one function.
+//! What the other crates stand on: sources and sinks of bytes, budgets, and decimal text.
 #![tactic(auto)]
 
-ghost use Rattle.std.specs.Prelude.{◌≡◌};
-ghost use Rattle.geo_base.specs.Echo.{echo_of};
+pub use budgets::{Budget, Spent};
+pub use decimals::{DecimalError, push_decimal, read_decimal};
+pub use reading::{Failed, ReadError, Source, read_all};
+pub use texts::{NoMemory, Text};
+pub use writing::{PutError, Sink, write_all};
 
-// The `ensures` clause is the contract: what `echo` returns is `echo_of` of its argument, a definition
-// in `specs/Echo.antt`, which a caller's clause can cite too.
-pub fn echo(x: usize) -> usize
-    ensures { result ≡ echo_of x }
-{
-    x
-}
+mod budgets;
+mod decimals;
+mod reading;
+mod texts;
+mod writing;

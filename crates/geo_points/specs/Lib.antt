@@ -1,2 +1,4 @@
 pub mod Fraction
 pub mod Points
+pub mod Placements
+pub mod Steps

@@ -1,5 +1,5 @@
 //! Decides a statement of the first form and writes its log.
 #![tactic(auto)]
 
-pub mod log;
+pub mod first;
 pub mod program;

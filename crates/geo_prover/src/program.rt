@@ -1,5 +1,6 @@
 use geo_base::Text;
 use geo_points::PointId;
+use std::marker::Model;
 
 /// A command of the first form. The point that it makes is the next one, and no field.
 #[derive(Clone, Copy, Debug, PartialEq, Eq)]
@@ -16,13 +17,42 @@ pub enum Command {
     },
 }
 
+/// Names, in order of declaration. Contracts see the list of their bytes.
+#[derive(Debug, Drop)]
+pub struct Names {
+    pub items: Vec<Text>,
+}
+
+impl Model for Names {
+    ghost use Rattle.std.specs.Prelude.{List, ℕ};
+
+    ghost Value = { List (List ℕ) };
+
+    ghost view = { λ names. names.items.items };
+}
+
+/// Commands, in order. Contracts see the list.
+#[derive(Debug, Drop)]
+pub struct Commands {
+    pub items: Vec<Command>,
+}
+
+impl Model for Commands {
+    ghost use Rattle.std.specs.Prelude.{List};
+    ghost use Rattle.geo_prover.specs.declared.program.Command.{Command};
+
+    ghost Value = { List Command };
+
+    ghost view = { λ commands. commands.items.items };
+}
+
 /// A program of the first form: points with names, and the statement that three of them are collinear.
 #[derive(Debug, Drop)]
 pub struct Program {
     /// The names of the points, in order of declaration.
-    pub names: Vec<Text>,
+    pub names: Names,
     /// The commands, one for each point.
-    pub commands: Vec<Command>,
+    pub commands: Commands,
     /// The points of the statement `collinear A B C`.
     pub a: PointId,
     pub b: PointId,

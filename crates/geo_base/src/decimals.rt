@@ -1,0 +1,96 @@
+//! Numbers as decimal text.
+ghost use Rattle.std.specs.Prelude.{◌≡◌, ◌++◌, ◌<◌, ◌≤◌, ◌^◌, IfOk, OnOk, OnErr, IsErrOf, SomeIff, pos};
+ghost use Rattle.std.specs.Bool.{MatchBool};
+ghost use Rattle.std.specs.Char.{is_ascii_digit};
+ghost use Rattle.std.specs.Fmt.{signed_decimal};
+ghost use Rattle.std.specs.List.{list_all};
+ghost use Rattle.std.specs.Str.Parse.{AllDigits, IsNumeral, digits_value};
+ghost use Rattle.geo_base.specs.Decimals.{IsDecimal, decimal_size, decimal_value};
+
+use crate::texts::NoMemory;
+use itoa::Buffer;
+use std::alloc::Global;
+
+/// Why a text is no number.
+#[derive(Clone, Copy, Debug, PartialEq, Eq)]
+pub enum DecimalError {
+    /// The text is not an optional `-` and one or more digits.
+    NotDecimal,
+    /// The number's absolute value is past `2^127 - 1`.
+    Wide,
+}
+
+/// Appends the decimal text of `n`: no leading zeros, and a `-` where it is negative.
+pub fn push_decimal(_alloc: Global, out: &mut Vec<u8>, n: i128) -> Result<(), NoMemory>
+    ensures ok { OnOk result (out.new.items ≡ out.old.items ++ signed_decimal n) }
+    ensures err { OnErr result (out.new.items ≡ out.old.items) }
+{
+    out.extend_from_slice(Buffer::new().format(n).as_bytes())?;
+    Ok(())
+}
+
+/// The number that a decimal text writes. Leading zeros and `-0` are read like any other digits.
+pub fn read_decimal(bytes: &[u8]) -> Result<i128, DecimalError>
+    ensures value { IfOk result (λ z. z ≡ decimal_value bytes.now) }
+    ensures decimal { IfOk result (λ z. IsDecimal bytes.now) }
+    ensures fits { IfOk result (λ z. decimal_size bytes.now < 2 ^ 127) }
+    ensures not_decimal { IsErrOf result DecimalError.NotDecimal → ¬ (IsDecimal bytes.now) }
+    ensures wide { IsErrOf result DecimalError.Wide
+        → (IsDecimal bytes.now × (2 ^ 127 ≤ decimal_size bytes.now)) }
+{
+    match bytes {
+        [b'-', digits @ ..] => Ok(-read_digits(digits)?),
+        digits => read_digits(digits),
+    }
+}
+
+// The number that digits write.
+fn read_digits(digits: &[u8]) -> Result<i128, DecimalError>
+    ensures value { IfOk result (λ z. z ≡ pos (digits_value 10 digits.now)) }
+    ensures decimal { IfOk result (λ z. IsNumeral 10 digits.now) }
+    ensures fits { IfOk result (λ z. digits_value 10 digits.now < 2 ^ 127) }
+    ensures not_decimal { IsErrOf result DecimalError.NotDecimal → ¬ (IsNumeral 10 digits.now) }
+    ensures wide { IsErrOf result DecimalError.Wide
+        → (IsNumeral 10 digits.now × (2 ^ 127 ≤ digits_value 10 digits.now)) }
+{
+    if !is_numeral(digits) {
+        return Err(DecimalError::NotDecimal);
+    }
+    match size_of_digits(digits) {
+        Some(size) => Ok(size as i128),
+        None => Err(DecimalError::Wide),
+    }
+}
+
+// Whether there is a digit, and nothing else.
+fn is_numeral(bytes: &[u8]) -> bool
+    ensures { MatchBool result (IsNumeral 10 bytes.now) (¬ (IsNumeral 10 bytes.now)) }
+{
+    !bytes.is_empty() && are_digits(bytes)
+}
+
+// Whether there is nothing but digits.
+fn are_digits(bytes: &[u8]) -> bool
+    ensures { result ≡ list_all is_ascii_digit bytes.now }
+{
+    bytes.iter().all(|byte| byte.is_ascii_digit())
+}
+
+// The greatest absolute value that is read.
+const MAX: u128 = i128::MAX as u128;
+
+// The number that digits write, where it is at most `MAX`.
+fn size_of_digits(digits: &[u8]) -> Option<u128>
+    requires { AllDigits 10 digits.now }
+    ensures { SomeIff result (digits_value 10 digits.now < 2 ^ 127) (digits_value 10 digits.now) }
+{
+    let mut size: u128 = 0;
+    for byte in digits {
+        let digit = (*byte - b'0') as u128;
+        if size > (MAX - digit) / 10 {
+            return None;
+        }
+        size = size * 10 + digit;
+    }
+    Some(size)
+}

@@ -1,0 +1,1 @@
+pub use Rattle.geo_points.specs.Points.{IsAlong}

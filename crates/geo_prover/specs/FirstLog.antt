@@ -1,0 +1,28 @@
+-- What the first prover promises of the bytes that it reads and of the text that it writes.
+use Rattle.std.specs.Prelude.{◌≡◌, ℕ, List, [], ◌∷◌}
+use Rattle.geo_prover.specs.declared.program.Command.{Command}
+use Rattle.geo_prover.specs.declared.program.Command.TheVariants.{Point, Pratio}
+use Rattle.geo_prover.specs.declared.program.Program.{Program}
+use Rattle.geo_prover.specs.Program.{IsFirstForm, program_text}
+use Rattle.geo_prover.specs.Truth.{IsTrueProgram}
+
+-- two free points, and then a point by a ratio
+abbrev pub AreBuilt : List Command → Type 0
+AreBuilt (Point ∷ Point ∷ Pratio w u v n d ∷ []) = Unit {0}
+AreBuilt _ = ⊥
+
+-- a program of the first form that this prover takes
+pub record IsTaken (p : Program) : Type 0 where
+  pub first_form : IsFirstForm p
+  pub built : AreBuilt p.commands
+
+-- the bytes are the canonical text of a program that is taken; the text is its defined log, which is accepted, and the program is true
+pub record IsFirstRun (bytes text : List ℕ) : Type 0 where
+  pub program : Program
+  pub taken : IsTaken program
+  pub spelt : bytes ≡ program_text program
+  pub holds : IsTrueProgram program
+
+-- the bytes are the text of no program that is taken
+abbrev pub IsUnbuilt : List ℕ → Type 0
+IsUnbuilt bytes = (p : Program) → IsTaken p → bytes ≡ program_text p → ⊥
