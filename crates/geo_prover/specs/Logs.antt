@@ -1,7 +1,7 @@
 -- Logs: the lines that are accepted for a program, whoever wrote them, and those that the prover writes.
 use Rattle.std.specs.Prelude.{◌≡◌, ◌≢◌, ℕ, suc, ◌-◌, ◌^◌, ◌<◌, ◌≤◌, IsTrue, Bool, true, false, ◌||◌, All, Any, ℤ, pos, unsigned_abs, Some, List, [], ◌∷◌, ◌++◌, map, length, slice_get}
 
-use Rattle.geo_points.specs.declared.PointId.{PointId}
+use Rattle.geo_points.specs.declared.ids.PointId.{PointId}
 use Rattle.geo_poly.specs.declared.variables.Var.{Var}
 use Rattle.geo_poly.specs.declared.variables.Var.TheVariants.{R, S, P, X, Y, T}
 use Rattle.geo_poly.specs.Canonical.{canonical_area}
@@ -102,7 +102,7 @@ pub record IsHighest (commands : List Command) (y : PointId) (q : Terms) : Type 
 abbrev pub IsDefinedChain : List Command → ℕ → Terms → List Line → Terms → Type 0
 IsDefinedChain commands left q [] e = ⊥
 IsDefinedChain commands left q (Cut f r ∷ lines) e =
-    (q ≢ []) × IsFactorOf [] q f × (f ≢ ([], pos 1)) × IsPolynomial r × (product_of (f ∷ []) r ≡ q)
+    (q ≢ []) × IsFactorOf [] q f × (f ≢ ([], pos 1)) × IsCut f q r
     × IsDefinedChain commands left r lines e
 IsDefinedChain commands left q (End ∷ []) e = (q ≡ e) × NoCutDue q × HasNoArea q
 IsDefinedChain commands left q (PointLine y r ∷ lines) e =

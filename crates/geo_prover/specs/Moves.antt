@@ -2,10 +2,10 @@
 use Rattle.std.specs.Prelude.{◌≡◌, ◌≢◌, ℕ, ◌+◌, ◌-◌, ◌*◌, ◌^◌, ◌<◌, ◌≤◌, max, Bool, true, false, not, ◌==◌, ◌&&◌, ℤ, pos, unsigned_abs, Option, Some, None, List, [], ◌∷◌, map, filter, slice_get, sum_by, if◌then◌else◌}
 use Rattle.std.specs.List.{filter_map, flat_map}
 use Rattle.std.specs.Ordering.{is_eq}
-use Rattle.geo_points.specs.declared.PointId.{PointId}
+use Rattle.geo_points.specs.declared.ids.PointId.{PointId}
 use Rattle.geo_poly.specs.declared.canonical.Canon.{Canon}
-use Rattle.geo_poly.specs.declared.polynomials.Piece.{Piece}
-use Rattle.geo_poly.specs.declared.polynomials.Row.{Row}
+use Rattle.geo_poly.specs.declared.replacement.Piece.{Piece}
+use Rattle.geo_poly.specs.declared.replacement.Row.{Row}
 use Rattle.geo_poly.specs.declared.variables.Var.{Var}
 use Rattle.geo_poly.specs.declared.variables.Var.TheVariants.{R, S, P, X, Y, T}
 use Rattle.geo_poly.specs.Canonical.{canonical_area}

@@ -1,8 +1,6 @@
 use geo_base::Text;
 use geo_points::PointId;
-use geo_poly::factors::Factor;
-use geo_poly::polynomials::Poly;
-use geo_poly::variables::Var;
+use geo_poly::{Factor, Poly, Var};
 use std::marker::Model;
 
 /// What a log says of its program.
