@@ -1,6 +1,8 @@
 //! Decides a statement of the first form and writes its log.
 #![tactic(auto)]
 
+mod chain;
 pub mod first;
 pub mod log;
 pub mod program;
+mod quantities;
