@@ -2,5 +2,6 @@
 #![tactic(auto)]
 
 pub mod first;
+pub mod laws;
 pub mod log;
 pub mod program;
