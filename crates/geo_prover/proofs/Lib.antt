@@ -1,2 +1,5 @@
 pub mod PieceValues
+pub mod RowValues
+pub mod Meeting
+pub mod ChainValues
 pub mod DefinedChains

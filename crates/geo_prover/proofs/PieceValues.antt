@@ -105,29 +105,33 @@ module _ (at : ℕ → Point) (number : ℕ → Fraction) where
       sums (products (integer-neg t.1) self ∘ Laws.neg-mul fractions _ _) (negated_is ts)
       ∘ flip (Laws.neg-add fractions _ _)
 
-  sum_is : (p q : Terms) {a b : Fraction} → Same (value_at p) a → Same (value_at q) b → Same (value_at (sum_of p q)) (plus a b)
-  sum_is p q e f = value-sum_of fractions x p q ∘ sums e f
+  -- the value of the polynomial is a. A record, so that both can be read off such a fact
+  record HasValue (q : Terms) (a : Fraction) : Type 0 where
+    same : Same (value_at q) a
 
-  difference_is : (p q : Terms) {a b : Fraction} → Same (value_at p) a → Same (value_at q) b → Same (value_at (difference_of p q)) (minus a b)
-  difference_is p q e f = value-sum_of fractions x p (Polynomials.negated q) ∘ sums e (negated_is q ∘ opposites f) ∘ minus_is _ _
+  sum_is : {p q : Terms} {a b : Fraction} → HasValue p a → HasValue q b → HasValue (sum_of p q) (plus a b)
+  sum_is {p} {q} e f = record { same = value-sum_of fractions x p q ∘ sums e.same f.same }
+
+  difference_is : {p q : Terms} {a b : Fraction} → HasValue p a → HasValue q b → HasValue (difference_of p q) (minus a b)
+  difference_is {p} {q} e f = record { same = value-sum_of fractions x p (Polynomials.negated q) ∘ sums e.same (negated_is q ∘ opposites f.same) ∘ minus_is _ _ }
 
   pub product_is : (p q : Terms) {a b : Fraction} → Same (value_at p) a → Same (value_at q) b → Same (value_at (product_of p q)) (times a b)
   product_is p q e f = value-product_of fractions x p q ∘ products e f
 
-  scaled_is : (z : ℤ) (a b c : PointId) → Same (value_at (product_of (constant_of z) (canon_polynomial (canonical_area a b c)))) (times (whole z) (signed_area (at a.0) (at b.0) (at c.0)))
-  scaled_is z a b c = product_is (constant_of z) (canon_polynomial (canonical_area a b c)) (constant_is z) (area_is a b c)
+  scaled_is : (z : ℤ) (a b c : PointId) → HasValue (product_of (constant_of z) (canon_polynomial (canonical_area a b c))) (times (whole z) (signed_area (at a.0) (at b.0) (at c.0)))
+  scaled_is z a b c = record { same = product_is (constant_of z) (canon_polynomial (canonical_area a b c)) (constant_is z) (area_is a b c) }
 
   -- the numerator of the row of S_ABY
   pub along_is : (w u v : PointId) (n d : ℤ) (a b : PointId)
       → Same (value_at (along_numerator w u v n d a b).poly)
       (minus (plus (times (whole d) (signed_area (at a.0) (at b.0) (at w.0))) (times (whole n) (signed_area (at a.0) (at b.0) (at v.0)))) (times (whole n) (signed_area (at a.0) (at b.0) (at u.0))))
-  along_is w u v n d a b = difference_is _ _ (sum_is _ _ (scaled_is d a b w) (scaled_is n a b v)) (scaled_is n a b u)
+  along_is w u v n d a b = (difference_is (sum_is (scaled_is d a b w) (scaled_is n a b v)) (scaled_is n a b u)).same
 
   coordinate_is : (v : Var) → Same (value_at (variable_polynomial (pos 1) v)) (x v)
   coordinate_is v = variable_is (pos 1) v ∘ one_times (x v)
 
-  both_are : (v w : Var) → Same (value_at (product_of (variable_polynomial (pos 1) v) (variable_polynomial (pos 1) w))) (times (x v) (x w))
-  both_are v w = product_is (variable_polynomial (pos 1) v) (variable_polynomial (pos 1) w) (coordinate_is v) (coordinate_is w)
+  both_are : (v w : Var) → HasValue (product_of (variable_polynomial (pos 1) v) (variable_polynomial (pos 1) w)) (times (x v) (x w))
+  both_are v w = record { same = product_is (variable_polynomial (pos 1) v) (variable_polynomial (pos 1) w) (coordinate_is v) (coordinate_is w) }
 
   -- the numerator of the row of an area of free points
   pub free_is : (a b c : PointId)
@@ -136,10 +140,10 @@ module _ (at : ℕ → Point) (number : ℕ → Fraction) where
       (minus (plus (plus (minus (minus (times (x_coordinate A) (y_coordinate B)) (times (x_coordinate A) (y_coordinate C))) (times (y_coordinate A) (x_coordinate B))) (times (y_coordinate A) (x_coordinate C))) (times (x_coordinate B) (y_coordinate C)))
       (times (y_coordinate B) (x_coordinate C)))
   free_is a b c =
-      difference_is _ _
-      (sum_is _ _
-      (sum_is _ _
-      (difference_is _ _ (difference_is _ _ (both_are (X a) (Y b)) (both_are (X a) (Y c))) (both_are (Y a) (X b)))
+      (difference_is
+      (sum_is
+      (sum_is
+      (difference_is (difference_is (both_are (X a) (Y b)) (both_are (X a) (Y c))) (both_are (Y a) (X b)))
       (both_are (Y a) (X c)))
       (both_are (X b) (Y c)))
-      (both_are (Y b) (X c))
+      (both_are (Y b) (X c))).same
