@@ -15,7 +15,7 @@ use Rattle.geo_points.proofs.Nonzero.{cancel_fraction, zero_of_same}
 use Rattle.geo_poly.specs.declared.replacement.Row.{Row}
 use Rattle.geo_poly.specs.declared.variables.Var.{Var}
 use Rattle.geo_poly.specs.Monomials.{Powers}
-use Rattle.geo_poly.specs.Polynomials.{Terms}
+use Rattle.geo_poly.specs.Polynomials.{Terms, product_of}
 use Rattle.geo_poly.specs.Replace.{most_denominators, replaced_by}
 use Rattle.geo_poly.specs.Values.{value, variable_value}
 use Rattle.geo_poly.specs.Variables.{var_cmp}
@@ -30,13 +30,14 @@ use Rattle.geo_prover.specs.Logs.{IsAccepted, IsCut, LeadsTo, start_of}
 use Rattle.geo_prover.specs.Moves.{IsMoved, coordinate_move, move_charge, point_move, variables_of}
 use Rattle.geo_prover.specs.Program.{IsFirstForm}
 use Rattle.geo_prover.specs.Truth.{AreMet, Holds, IsMet, IsTrueProgram, Meets}
-use Rattle.geo_prover.proofs.Meeting.{met_at, meeting_exists}
+use Rattle.geo_prover.proofs.Meeting.{met_at, meeting_exists, whole_nonzero}
 use Rattle.geo_prover.proofs.PieceValues.{◌∘◌, flip, self, products, value_at, constant_is, area_is, product_is}
 use Rattle.geo_prover.proofs.RowValues.{along_rows-hold, point_rows-hold, free_rows-hold}
 
 abbrev zero_fraction : Fraction
 zero_fraction = whole (pos 0)
 
+-- equal ranks are one variable's
 equal_of : (o : Ordering) → is_eq o ≡ true → o ≡ Equal
 equal_of Less e = absurd (let q : ◌≡◌ {A = Bool} (is_eq Less) true = e in cc)
 equal_of Equal e = refl
@@ -54,15 +55,11 @@ null_of_power a d zero n h = flip (fractions.mul-one a) ∘ h
 null_of_power a d (suc k) n h =
     null_of_power a d k n (null_of_times (times a (power fractions d k)) d n (fractions.mul_assoc a (power fractions d k) d ∘ h))
 
-whole_nonzero : (d : ℤ) → (d ≡ pos 0 → ⊥) → IsNonzero (whole d)
-unfolding whole
-whole_nonzero d n = n
+one_nonzero : IsNonzero (whole (pos 1))
+one_nonzero = whole_nonzero (pos 1) (omega (arith, ints))
 
-one_nonzero : pos 1 ≡ pos 0 → ⊥
-one_nonzero e = omega (arith, ints, e)
-
-two_nonzero : pos 2 ≡ pos 0 → ⊥
-two_nonzero e = omega (arith, ints, e)
+two_nonzero : IsNonzero (whole (pos 2))
+two_nonzero = whole_nonzero (pos 2) (omega (arith, ints))
 
 module _ (placed : Placement) where
   abbrev at_placement : Terms → Fraction
@@ -77,28 +74,31 @@ module _ (placed : Placement) where
   replaced_null rows den q d n h den_is e =
       null_of_power (at_placement q) d (most_denominators rows q) n (flip (value-replaced_by fractions x one_variable d rows den q h den_is) ∘ e)
 
+  -- the elimination of the point that a command makes, where the command is met
   point_null : (y : PointId) (command : Command) (q : Terms) → IsMet placed y.0 command
       → Same (at_placement (replaced_by (point_move y command q).rows (point_move y command q).den.poly q)) zero_fraction → Same (at_placement q) zero_fraction
   point_null y PointCommand q met e =
-      replaced_null (point_move y PointCommand q).rows (point_move y PointCommand q).den.poly q (whole (pos 1)) (whole_nonzero (pos 1) one_nonzero)
+      replaced_null (point_move y PointCommand q).rows (point_move y PointCommand q).den.poly q (whole (pos 1)) one_nonzero
       (point_rows-hold placed.point placed.number y (variables_of q)) (constant_is placed.point placed.number (pos 1)) e
   point_null y (Pratio w u v n d) q met e =
       replaced_null (point_move y (Pratio w u v n d) q).rows (point_move y (Pratio w u v n d) q).den.poly q (whole d) met.has_value
       (along_rows-hold placed.point placed.number y w u v n d met.has_value met.along (variables_of q)) (constant_is placed.point placed.number d) e
 
+  -- the free points in their coordinates
   coordinates_null : (commands : List Command) (q : Terms)
       → Same (at_placement (replaced_by (coordinate_move commands q).rows (coordinate_move commands q).den.poly q)) zero_fraction → Same (at_placement q) zero_fraction
   coordinates_null commands q e =
-      replaced_null (coordinate_move commands q).rows (coordinate_move commands q).den.poly q (whole (pos 2)) (whole_nonzero (pos 2) two_nonzero)
+      replaced_null (coordinate_move commands q).rows (coordinate_move commands q).den.poly q (whole (pos 2)) two_nonzero
       (free_rows-hold placed.point placed.number commands (variables_of q)) (constant_is placed.point placed.number (pos 2)) e
-
-  cut_null : (f : Powers × ℤ) (q r : Terms) → IsCut f q r → Same (at_placement r) zero_fraction → Same (at_placement q) zero_fraction
-  cut_null f q r cut e =
-      subst (λ (p : Terms). Same (at_placement p) zero_fraction) cut.exact
-      (product_is placed.point placed.number (f ∷ []) r self e ∘ Laws.mul-zero fractions (at_placement (f ∷ [])))
 
   null_as : (q r : Terms) → r ≡ q → Same (at_placement r) zero_fraction → Same (at_placement q) zero_fraction
   null_as q r e h = subst (λ (p : Terms). Same (at_placement p) zero_fraction) e h
+
+  -- a product is 0 where its second factor is
+  cut_null : (f : Powers × ℤ) (q r : Terms) → IsCut f q r → Same (at_placement r) zero_fraction → Same (at_placement q) zero_fraction
+  cut_null f q r cut e =
+      null_as q (product_of (f ∷ []) r) cut.exact
+      (product_is placed.point placed.number (f ∷ []) r self e ∘ Laws.mul-zero fractions (at_placement (f ∷ [])))
 
   -- a chain that ends in 0 begins with a polynomial of the value 0
   chain_null : (commands : List Command) → AreMet placed 0 commands → (left : ℕ) (q : Terms) (lines : List Line)
@@ -115,6 +115,7 @@ module _ (placed : Placement) where
   chain_null commands met left q (Cut f r ∷ lines) h = cut_null f q r h.0 (chain_null commands met left r lines h.1)
   chain_null commands met left q _ h = absurd h
 
+-- the chain begins with the area of the statement's points
 accepted_holds : (p : Program) (steps : ℕ) (lines : List Line) → IsAccepted p steps lines → (placed : Placement) → Meets placed p → Holds placed p
 accepted_holds p steps lines log placed met =
     (collinear_null (placed.point p.a.0) (placed.point p.b.0) (placed.point p.c.0)).0

@@ -25,6 +25,7 @@ met_from placed k (first ∷ commands) (suc i) command h e =
     let here : suc k + i ≡ k + suc i = omega arith in
     subst (λ j. IsMet placed j command) here (met_from placed (suc k) commands i command h.1 e)
 
+-- the command that makes the point i is met
 pub met_at : (placed : Placement) (commands : List Command) (i : ℕ) (command : Command)
     → AreMet placed 0 commands → slice_get commands i ≡ Some command → IsMet placed i command
 met_at placed commands i command h e =
@@ -35,15 +36,13 @@ met_at placed commands i command h e =
 positive_nonzero : (d : ℤ) → pos 1 ≤ℤ d → d ≡ pos 0 → ⊥
 positive_nonzero d h e = omega (arith, ints, h, e)
 
-whole_nonzero : (d : ℤ) → pos 1 ≤ℤ d → IsNonzero (whole d)
+pub whole_nonzero : (d : ℤ) → pos 1 ≤ℤ d → IsNonzero (whole d)
 unfolding whole
 whole_nonzero d h = positive_nonzero d h
 
-no_numbers : ℕ → Fraction
-no_numbers k = whole (pos 0)
-
+-- the points in their places; a program of the first form has no parameters
 placement_of : (ℕ → Point) → Placement
-placement_of at = record { point = at; number = no_numbers }
+placement_of at = record { point = at; number = λ k. whole (pos 0) }
 
 -- the points with Y as the point k
 changed : ℕ → Point → (ℕ → Point) → ℕ → Point
@@ -67,6 +66,7 @@ record Extension (k : ℕ) (commands : List Command) (at : ℕ → Point) : Type
   below : (j : ℕ) → j < k → points j ≡ at j
   met : AreMet (placement_of points) k commands
 
+-- a step stays one where its points are replaced by equal ones
 moved_along : (W U V Y W' U' V' Y' : Point) (r : Fraction) → W' ≡ W → U' ≡ U → V' ≡ V → Y' ≡ Y → IsAlong W U V r Y → IsAlong W' U' V' r Y'
 moved_along W U V Y W' U' V' Y' r a b c d h =
     subst (λ (p : Point). IsAlong p U' V' r Y') (sym a)
@@ -97,5 +97,6 @@ extended k (Pratio w u v n d ∷ commands) at h =
 origin : Point
 origin = record { x = pos 0; y = pos 0; w = 1; positive = lit< tt }
 
+-- the points are made one after another, and a free point stays at the origin
 pub meeting_exists : (p : Program) → AreCommands 0 p.commands → (placed : Placement) × Meets placed p
 meeting_exists p h = let found = extended 0 p.commands (λ k. origin) h in (placement_of found.points, found.met)

@@ -41,6 +41,7 @@ module _ (at : ℕ → Point) (parameter : ℕ → Fraction) where
 
   -- the point y, which a ratio makes
   module _ (y w u v : PointId) (n d : ℤ) (nonzero : IsNonzero (whole d)) (along : IsAlong (at w.0) (at u.0) (at v.0) (number n d) (at y.0)) where
+    -- s is the area of a, b and y in some cyclic order
     row_is : (s : Fraction) (a b : PointId) → Same s (signed_area (at a.0) (at b.0) (at y.0))
         → Same (times s (power fractions (whole d) 1)) (value fractions x (along_numerator w u v n d a b).poly)
     row_is s a b turned =
