@@ -1,5 +1,5 @@
 -- A program with an accepted log is true.
-use Rattle.std.proofs.Common.{◌≡◌, ℕ, zero, suc, ◌-◌, Bool, true, ℤ, pos, Option, Some, List, [], ◌∷◌, slice_get, refl, sym, subst, arith}
+use Rattle.std.proofs.Common.{◌≡◌, ℕ, zero, suc, ◌-◌, Bool, true, ℤ, pos, List, [], ◌∷◌, refl, sym, subst, arith}
 use Rattle.std.proofs.lemmas.Int.{ints}
 use Rattle.std.specs.Ordering.{is_eq}
 use Rattle.std.specs.declared.cmp.Ordering.{Ordering}
@@ -17,21 +17,21 @@ use Rattle.geo_poly.specs.declared.variables.Var.{Var}
 use Rattle.geo_poly.specs.Monomials.{Powers}
 use Rattle.geo_poly.specs.Polynomials.{Terms, product_of}
 use Rattle.geo_poly.specs.Replace.{most_denominators, replaced_by}
-use Rattle.geo_poly.specs.Values.{value, variable_value}
+use Rattle.geo_poly.specs.Values.{variable_value}
 use Rattle.geo_poly.specs.Variables.{var_cmp}
 use Rattle.geo_poly.proofs.Orders.{var_order}
 use Rattle.geo_poly.proofs.ReplaceValue.{RowsHold, value-replaced_by}
 use Rattle.geo_prover.specs.declared.log.Line.{Line}
-use Rattle.geo_prover.specs.declared.log.Line.TheVariants.{Header, Program as ProgramLine, Goal, Start, Point as PointLine, Coords, Cut, End, Sample, Verdict as VerdictLine}
+use Rattle.geo_prover.specs.declared.log.Line.TheVariants.{Point as PointLine, Coords, Cut, End}
 use Rattle.geo_prover.specs.declared.program.Command.{Command}
 use Rattle.geo_prover.specs.declared.program.Command.TheVariants.{Point as PointCommand, Pratio}
 use Rattle.geo_prover.specs.declared.program.Program.{Program}
 use Rattle.geo_prover.specs.Logs.{IsAccepted, IsCut, LeadsTo, start_of}
-use Rattle.geo_prover.specs.Moves.{IsMoved, coordinate_move, move_charge, point_move, variables_of}
+use Rattle.geo_prover.specs.Moves.{coordinate_move, move_charge, point_move, variables_of}
 use Rattle.geo_prover.specs.Program.{IsFirstForm}
 use Rattle.geo_prover.specs.Truth.{AreMet, Holds, IsMet, IsTrueProgram, Meets}
 use Rattle.geo_prover.proofs.Meeting.{met_at, meeting_exists, whole_nonzero}
-use Rattle.geo_prover.proofs.PieceValues.{◌∘◌, flip, self, products, value_at, constant_is, area_is, product_is}
+use Rattle.geo_prover.proofs.PieceValues.{◌∘◌, flip, self, value_at, constant_is, area_is, product_is}
 use Rattle.geo_prover.proofs.RowValues.{along_rows-hold, point_rows-hold, free_rows-hold}
 
 abbrev zero_fraction : Fraction

@@ -1,9 +1,9 @@
 -- The prover's log is accepted.
-use Rattle.std.proofs.Common.{◌≡◌, ℕ, zero, suc, ◌^◌, ◌-◌, ◌<◌, All, ℤ, pos, unsigned_abs, List, [], ◌∷◌, map, refl, ap, arith}
+use Rattle.std.proofs.Common.{◌≡◌, ℕ, zero, suc, ◌^◌, ◌-◌, ◌<◌, All, unsigned_abs, List, [], ◌∷◌, map, refl, ap, arith}
 use Rattle.geo_poly.specs.declared.variables.Var.{Var}
 use Rattle.geo_poly.specs.Polynomials.{Terms}
 use Rattle.geo_prover.specs.declared.log.Line.{Line}
-use Rattle.geo_prover.specs.declared.log.Line.TheVariants.{Header, Program as ProgramLine, Goal, Start, Point as PointLine, Coords, Cut, End, Sample, Verdict as VerdictLine}
+use Rattle.geo_prover.specs.declared.log.Line.TheVariants.{Point as PointLine, Coords, Cut, End}
 use Rattle.geo_prover.specs.declared.program.Command.{Command}
 use Rattle.geo_prover.specs.declared.program.Program.{Program}
 use Rattle.geo_prover.specs.Logs.{IsAccepted, IsDefinedChain, IsDefinedLog, LeadsTo, coordinates_from, start_of, zeros}

@@ -1,5 +1,5 @@
 -- A placement that meets a program: each command of it, and that there is one.
-use Rattle.std.proofs.Common.{◌≡◌, ℕ, zero, suc, ◌+◌, ◌<◌, ◌≤◌, Bool, true, false, cond, eqb, ℤ, pos, negsuc, ◌≤ℤ◌, unsigned_abs, Option, Some, None, List, [], ◌∷◌, slice_get, refl, sym, ◌∙◌, ap, subst, arith, lit<}
+use Rattle.std.proofs.Common.{◌≡◌, ℕ, zero, suc, ◌+◌, ◌<◌, Bool, true, false, cond, eqb, ℤ, pos, ◌≤ℤ◌, Option, Some, None, List, [], ◌∷◌, slice_get, refl, sym, ◌∙◌, ap, subst, arith, lit<}
 use Rattle.std.proofs.lemmas.Bool.{eqb-true, eq-eqb}
 use Rattle.std.proofs.lemmas.Int.{ints}
 use Rattle.geo_points.specs.Fraction.{Fraction, IsNonzero, whole}
@@ -86,8 +86,8 @@ extended k (Pratio w u v n d ∷ commands) at h =
     let rest = extended (suc k) commands next h.1 in
     let kept : (j : ℕ) → j < k → rest.points j ≡ at j = λ j l. rest.below j (omega (arith, l)) ∙ changed-below k made.0 at j l in
     let along : IsAlong (rest.points w.0) (rest.points u.0) (rest.points v.0) (number n d) (rest.points k) =
-        moved_along (at w.0) (at u.0) (at v.0) made.0 (rest.points w.0) (rest.points u.0) (rest.points v.0) (rest.points k) (number n d)
-        (kept w.0 h.0.0) (kept u.0 h.0.1) (kept v.0 h.0.2) (rest.below k (omega arith) ∙ changed-here k made.0 at) made.1 in
+    moved_along (at w.0) (at u.0) (at v.0) made.0 (rest.points w.0) (rest.points u.0) (rest.points v.0) (rest.points k) (number n d)
+    (kept w.0 h.0.0) (kept u.0 h.0.1) (kept v.0 h.0.2) (rest.below k (omega arith) ∙ changed-here k made.0 at) made.1 in
     record {
       points = rest.points;
       below = kept;

@@ -17,7 +17,7 @@ use Rattle.geo_poly.specs.Polynomials as Polynomials
 use Rattle.geo_poly.specs.Values.{integer, value, variable_value}
 use Rattle.geo_poly.proofs.CanonicalAreas.{canonical_area-value}
 use Rattle.geo_poly.proofs.Values.{value-sum_of, value-product_of}
-use Rattle.geo_prover.specs.Moves.{variable_polynomial, canon_polynomial, area_piece, along_numerator, coordinate_numerator}
+use Rattle.geo_prover.specs.Moves.{variable_polynomial, canon_polynomial, along_numerator, coordinate_numerator}
 
 infixr 3 ◌∘◌
 pub ◌∘◌ : {a b c : Fraction} → Same a b → Same b c → Same a c

@@ -4,7 +4,7 @@ use Rattle.std.specs.List.{cons_option, filter_map}
 use Rattle.std.proofs.lemmas.Bool.{eqb-true}
 use Rattle.ring_laws.specs.Powers.{power}
 use Rattle.geo_points.specs.declared.ids.PointId.{PointId}
-use Rattle.geo_points.specs.Fraction.{Fraction, Same, whole, quotient, times, IsNonzero}
+use Rattle.geo_points.specs.Fraction.{Fraction, Same, whole, times, IsNonzero}
 use Rattle.geo_points.specs.Points.{Point, signed_area}
 use Rattle.geo_points.specs.Steps.{IsAlong}
 use Rattle.geo_points.proofs.AreaRows.{pratio-signed_area, free-signed_area}
@@ -13,7 +13,7 @@ use Rattle.geo_points.proofs.Nonzero.{quotient-times}
 use Rattle.geo_points.proofs.Signs.{signed_area-turn}
 use Rattle.geo_poly.specs.declared.replacement.Row.{Row}
 use Rattle.geo_poly.specs.declared.variables.Var.{Var}
-use Rattle.geo_poly.specs.declared.variables.Var.TheVariants.{R, S, P, X, Y, T}
+use Rattle.geo_poly.specs.declared.variables.Var.TheVariants.{S}
 use Rattle.geo_poly.specs.Values.{value, variable_value}
 use Rattle.geo_poly.proofs.ReplaceValue.{RowsHold}
 use Rattle.geo_prover.specs.declared.program.Command.{Command}
