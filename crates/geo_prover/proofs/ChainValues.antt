@@ -37,12 +37,12 @@ use Rattle.geo_prover.proofs.RowValues.{along_rows-hold, point_rows-hold, free_r
 abbrev zero_fraction : Fraction
 zero_fraction = whole (pos 0)
 
--- equal ranks are one variable's
 equal_of : (o : Ordering) → is_eq o ≡ true → o ≡ Equal
 equal_of Less e = absurd (let q : ◌≡◌ {A = Bool} (is_eq Less) true = e in cc)
 equal_of Equal e = refl
 equal_of Greater e = absurd (let q : ◌≡◌ {A = Bool} (is_eq Greater) true = e in cc)
 
+-- variables that compare as equal are the same
 one_variable : (v w : Var) → is_eq (var_cmp v w) ≡ true → v ≡ w
 one_variable v w e = var_order.exact v w (equal_of (var_cmp v w) e)
 
