@@ -4,3 +4,4 @@ pub mod Lines
 pub mod Moves
 pub mod Logs
 pub mod FirstLog
+pub mod Laws

@@ -1,8 +1,7 @@
 -- The text of a log: each line with its line feed.
-use Rattle.std.specs.Prelude.{ℕ, suc, Bool, cond, ◌==◌, codes, ℤ, pos, negsuc, unsigned_abs, List, [], ◌∷◌, ◌++◌, map}
+use Rattle.std.specs.Prelude.{ℕ, cond, ◌==◌, codes, ℤ, pos, negsuc, unsigned_abs, List, [], ◌∷◌, ◌++◌, map}
 use Rattle.std.specs.Fmt.{decimal, signed_decimal}
 use Rattle.std.specs.List.{flat_map, join_with_byte}
-use Rattle.geo_points.specs.declared.ids.PointId.{PointId}
 use Rattle.geo_poly.specs.declared.variables.Var.{Var}
 use Rattle.geo_poly.specs.declared.variables.Var.TheVariants.{R, S, P, X, Y, T}
 use Rattle.geo_poly.specs.Monomials.{Powers}

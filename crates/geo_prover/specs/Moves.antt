@@ -7,7 +7,7 @@ use Rattle.geo_poly.specs.declared.canonical.Canon.{Canon}
 use Rattle.geo_poly.specs.declared.replacement.Piece.{Piece}
 use Rattle.geo_poly.specs.declared.replacement.Row.{Row}
 use Rattle.geo_poly.specs.declared.variables.Var.{Var}
-use Rattle.geo_poly.specs.declared.variables.Var.TheVariants.{R, S, P, X, Y, T}
+use Rattle.geo_poly.specs.declared.variables.Var.TheVariants.{S, X, Y}
 use Rattle.geo_poly.specs.Canonical.{canonical_area}
 use Rattle.geo_poly.specs.Monomials.{Powers}
 use Rattle.geo_poly.specs.Polynomials.{Terms, constant_of, sum_of, difference_of, product_of}
@@ -15,7 +15,6 @@ use Rattle.geo_poly.specs.Replace.{row_of, denominators, most_denominators, repl
 use Rattle.geo_poly.specs.Variables.{var_cmp}
 use Rattle.geo_prover.specs.declared.program.Command.{Command}
 use Rattle.geo_prover.specs.declared.program.Command.TheVariants.{Point, Pratio}
-use Rattle.geo_prover.specs.declared.program.Program.{Program}
 
 -- POLYNOMIALS AS THEY ARE WRITTEN IN A ROW, with their weight, their count of monomials and their degree
 

@@ -3,6 +3,7 @@
 
 mod chain;
 pub mod first;
+pub mod laws;
 pub mod log;
 pub mod program;
 mod quantities;

@@ -1,0 +1,15 @@
+-- What a log says of its program.
+use Rattle.std.specs.Prelude.{ℕ, List}
+use Rattle.geo_prover.specs.declared.log.Line.{Line}
+use Rattle.geo_prover.specs.declared.program.Program.{Program}
+use Rattle.geo_prover.specs.Logs.{IsAccepted, IsDefinedLog}
+use Rattle.geo_prover.specs.Program.{IsFirstForm}
+use Rattle.geo_prover.specs.Truth.{IsTrueProgram}
+
+-- a program of the first form with an accepted log is true, whoever wrote the log
+abbrev pub AcceptedLogIsTrue : Type 0
+AcceptedLogIsTrue = (p : Program) (steps : ℕ) (lines : List Line) → IsFirstForm p → IsAccepted p steps lines → IsTrueProgram p
+
+-- the prover's log is an accepted one
+abbrev pub DefinedLogIsAccepted : Type 0
+DefinedLogIsAccepted = (p : Program) (steps : ℕ) (lines : List Line) → IsDefinedLog p steps lines → IsAccepted p steps lines
