@@ -1,3 +1,4 @@
 pub mod Program
 pub mod Truth
 pub mod FirstLog
+pub mod Reader

@@ -3,3 +3,5 @@
 
 pub mod first;
 pub mod program;
+pub mod reader;
+mod words;

@@ -1,0 +1,235 @@
+//! Reads the canonical text of a program of the first form: its lines, and on each line its words.
+ghost use Rattle.std.specs.Prelude.{◌≡◌, ℕ, ◌+◌, ◌<◌, ◌≤◌, ◌==◌, IsTrue, ◌↔◌, [], IfOk, IfSome, IfNone, length, map, slice_index_or};
+ghost use Rattle.std.specs.List.{slice_split};
+ghost use Rattle.geo_points.specs.declared.PointId.{PointId};
+ghost use Rattle.geo_prover.specs.declared.program.Command.{Command};
+ghost use Rattle.geo_prover.specs.declared.program.Program.{Program};
+ghost use Rattle.geo_prover.specs.Program.{IsFirstForm, Word, program_text};
+ghost use Rattle.geo_prover.specs.Reader.{AreDeclared, HasGoalWords, HasPratioWords, IsEnd, IsGoal, IsMade, IsNext, IsSpelt, words_of};
+
+use crate::program::{Command, Commands, Names, Program};
+use crate::words::{find_point, is_name, read_digit};
+use geo_base::{NoMemory, Text};
+use geo_points::PointId;
+use std::alloc::Global;
+
+// The greatest number of points of a program.
+const MOST_POINTS: usize = 16;
+
+// The name of a point and the command that makes it.
+#[derive(Clone, Copy)]
+struct Next<'a> {
+    name: &'a [u8],
+    command: Command,
+}
+
+// The points of `collinear A B C`.
+#[derive(Clone, Copy)]
+struct Goal {
+    a: PointId,
+    b: PointId,
+    c: PointId,
+}
+
+// The points that the first lines declare.
+#[derive(Drop)]
+struct Declared {
+    names: Vec<Text>,
+    commands: Vec<Command>,
+}
+
+/// The program of the first form whose canonical text the bytes are, where there is one.
+pub fn read_program(alloc: Global, bytes: &[u8]) -> Result<Option<Program>, NoMemory>
+    ensures some { IfOk result (λ o. IfSome o (λ p.
+      IsFirstForm p × (bytes.now ≡ program_text p))) }
+    ensures none { IfOk result (λ o. IfNone o ((p : Program) → IsFirstForm p
+      → bytes.now ≡ program_text p → ⊥)) }
+{
+    let lines = cut(alloc, bytes, b'\n')?;
+    read_lines(alloc, &lines)
+}
+
+// The program whose lines these are, the last one empty.
+fn read_lines(alloc: Global, lines: &[&[u8]]) -> Result<Option<Program>, NoMemory>
+    ensures some { IfOk result (λ o. IfSome o (λ p. IsSpelt (map (λ l. l.now) lines.now) p)) }
+    ensures none { IfOk result (λ o. IfNone o ((p : Program)
+      → IsSpelt (map (λ l. l.now) lines.now) p → ⊥)) }
+{
+    let declared = read_commands(alloc, lines)?;
+    match read_end(alloc, lines, &declared.names)? {
+        Some(Goal { a, b, c }) => Ok(Some(Program {
+            names: Names { items: declared.names },
+            commands: Commands { items: declared.commands },
+            a,
+            b,
+            c,
+        })),
+        None => Ok(None),
+    }
+}
+
+// The points of the first lines, up to one that declares none or to the greatest number.
+fn read_commands(alloc: Global, lines: &[&[u8]]) -> Result<Declared, NoMemory>
+    ensures declared { IfOk result (λ d.
+      AreDeclared (map (λ l. l.now) lines.now) d.names.items d.commands.items) }
+    ensures all { IfOk result (λ d. (p : Program) → IsSpelt (map (λ l. l.now) lines.now) p
+      → (p.names ≡ d.names.items) × (p.commands ≡ d.commands.items)) }
+{
+    let mut names = Vec::new(alloc);
+    let mut commands = Vec::new(alloc);
+    while let Some(next) = read_next(alloc, lines, &names)? {
+        let bytes = Vec::from_slice(alloc, next.name)?;
+        names.push(Text { bytes })?;
+        commands.push(next.command)?;
+    }
+    Ok(Declared { names, commands })
+}
+
+// The point that the line after those of the names declares.
+fn read_next<'a>(
+    alloc: Global,
+    lines: &[&'a [u8]],
+    names: &[Text],
+) -> Result<Option<Next<'a>>, NoMemory>
+    requires { length names.now ≤ 16 }
+    ensures room { IfOk result (λ o. IfSome o (λ next.
+      (length names.now < 16) × (length names.now < length lines.now))) }
+    ensures some { IfOk result (λ o. IfSome o (λ next. IsNext names.now
+      (words_of (slice_index_or (map (λ l. l.now) lines.now) (length names.now) []))
+      next.name.now next.command)) }
+    ensures none { IfOk result (λ o. IfNone o ((name : Word) → (command : Command)
+      → length names.now < 16 → length names.now < length lines.now
+      → IsNext names.now
+        (words_of (slice_index_or (map (λ l. l.now) lines.now) (length names.now) [])) name command
+      → ⊥)) }
+{
+    if names.len() >= MOST_POINTS || names.len() >= lines.len() {
+        return Ok(None);
+    }
+    let words = cut(alloc, lines[names.len()], b' ')?;
+    Ok(read_words(&words, names))
+}
+
+// The point that the words of a line declare.
+fn read_words<'a>(words: &[&'a [u8]], names: &[Text]) -> Option<Next<'a>>
+    requires { length names.now ≤ 16 }
+    ensures some { IfSome result (λ next.
+      IsNext names.now (map (λ w. w.now) words.now) next.name.now next.command) }
+    ensures none { IfNone result ((name : Word) → (command : Command)
+      → IsNext names.now (map (λ w. w.now) words.now) name command → ⊥) }
+{
+    let command = read_command(words, names)?;
+    let name = words[1];
+    if is_name(name) && find_point(names, name).is_none() {
+        Some(Next { name, command })
+    } else {
+        None
+    }
+}
+
+// The command that the words of a line are, whatever its point's name.
+fn read_command(words: &[&[u8]], names: &[Text]) -> Option<Command>
+    requires { length names.now ≤ 16 }
+    ensures some { IfSome result (λ command. IsMade names.now (map (λ w. w.now) words.now) command) }
+    ensures none { IfNone result ((command : Command)
+      → IsMade names.now (map (λ w. w.now) words.now) command → ⊥) }
+{
+    match words.len() {
+        2 if has_word(words, 0, b"point") => Some(Command::Point),
+        12 if is_pratio(words) => read_pratio(words, names),
+        _ => None,
+    }
+}
+
+// Whether the words have those of a `pratio` at their places.
+fn is_pratio(words: &[&[u8]]) -> bool
+    requires { length words.now ≡ 12 }
+    ensures { IsTrue result ↔ HasPratioWords (map (λ w. w.now) words.now) }
+{
+    has_word(words, 0, b"pratio")
+        && has_word(words, 5, b"div")
+        && has_word(words, 6, b"{")
+        && has_word(words, 8, b"}")
+        && has_word(words, 9, b"{")
+        && has_word(words, 11, b"}")
+}
+
+// The points and the number of a `pratio`.
+fn read_pratio(words: &[&[u8]], names: &[Text]) -> Option<Command>
+    requires few { length names.now ≤ 16 }
+    requires count { length words.now ≡ 12 }
+    requires shape { HasPratioWords (map (λ w. w.now) words.now) }
+    ensures some { IfSome result (λ command. IsMade names.now (map (λ w. w.now) words.now) command) }
+    ensures none { IfNone result ((command : Command)
+      → IsMade names.now (map (λ w. w.now) words.now) command → ⊥) }
+{
+    let w = find_point(names, words[2])?;
+    let u = find_point(names, words[3])?;
+    let v = find_point(names, words[4])?;
+    let n = read_digit(words[7])?;
+    let d = read_digit(words[10])?;
+    if d < 1 {
+        return None;
+    }
+    Some(Command::Pratio { w, u, v, n, d })
+}
+
+// The statement on the line after those of the names, where nothing but an empty line follows it.
+fn read_end(alloc: Global, lines: &[&[u8]], names: &[Text]) -> Result<Option<Goal>, NoMemory>
+    requires { length names.now ≤ 16 }
+    ensures some { IfOk result (λ o. IfSome o (λ g.
+      IsEnd (map (λ l. l.now) lines.now) names.now g.a g.b g.c)) }
+    ensures none { IfOk result (λ o. IfNone o ((a b c : PointId)
+      → IsEnd (map (λ l. l.now) lines.now) names.now a b c → ⊥)) }
+{
+    let count = names.len();
+    if lines.len() != count + 2 || !lines[count + 1].is_empty() {
+        return Ok(None);
+    }
+    let words = cut(alloc, lines[count], b' ')?;
+    Ok(read_goal(&words, names))
+}
+
+// The points of `prove { collinear A B C }`.
+fn read_goal(words: &[&[u8]], names: &[Text]) -> Option<Goal>
+    requires { length names.now ≤ 16 }
+    ensures some { IfSome result (λ g.
+      IsGoal names.now (map (λ w. w.now) words.now) g.a g.b g.c) }
+    ensures none { IfNone result ((a b c : PointId)
+      → IsGoal names.now (map (λ w. w.now) words.now) a b c → ⊥) }
+{
+    if words.len() != 7 || !is_goal(words) {
+        return None;
+    }
+    let a = find_point(names, words[3])?;
+    let b = find_point(names, words[4])?;
+    let c = find_point(names, words[5])?;
+    Some(Goal { a, b, c })
+}
+
+// Whether the words have those of the statement's line at their places.
+fn is_goal(words: &[&[u8]]) -> bool
+    requires { length words.now ≡ 7 }
+    ensures { IsTrue result ↔ HasGoalWords (map (λ w. w.now) words.now) }
+{
+    has_word(words, 0, b"prove")
+        && has_word(words, 1, b"{")
+        && has_word(words, 2, b"collinear")
+        && has_word(words, 6, b"}")
+}
+
+// Whether this word is the text.
+fn has_word(words: &[&[u8]], i: usize, text: &[u8]) -> bool
+    requires { i < length words.now }
+    ensures { IsTrue result ↔ (slice_index_or (map (λ w. w.now) words.now) i [] ≡ text.now) }
+{
+    words[i] == text
+}
+
+// The pieces between the bytes that are `separator`.
+fn cut<'a>(alloc: Global, bytes: &'a [u8], separator: u8) -> Result<Vec<&'a [u8]>, NoMemory>
+    ensures { IfOk result (λ pieces. map (λ x. x.now) pieces.items
+      ≡ slice_split (λ b. b == separator) bytes.now) }
+{
+    Ok(bytes.split(|byte| *byte == separator).collect(alloc)?)
+}
