@@ -1,5 +1,5 @@
 -- What the steps of the reader find in the words of lines.
-use Rattle.std.specs.Prelude.{◌≡◌, ℕ, suc, ◌+◌, ◌<◌, ◌≤◌, ◌==◌, All, Contains, codes, ℤ, unsigned_abs, List, [], ◌∷◌, ◌++◌, map, length, take, drop, slice_index_or}
+use Rattle.std.specs.Prelude.{◌≡◌, ℕ, suc, ◌+◌, ◌<◌, ◌≤◌, ◌==◌, All, Contains, codes, ℤ, unsigned_abs, List, [], ◌∷◌, ◌++◌, map, length, take, drop, slice_index, slice_index_or}
 use Rattle.std.specs.Fmt.{signed_decimal}
 use Rattle.std.specs.List.{slice_split}
 use Rattle.geo_points.specs.declared.PointId.{PointId}
@@ -29,6 +29,15 @@ pub record IsPoint (names : List Word) (word : Word) (q : PointId) : Type 0 wher
 pub record IsDigit (word : Word) (n : ℤ) : Type 0 where
   pub small : unsigned_abs n ≤ 9
   pub spelt : word ≡ signed_decimal n
+
+-- one digit
+abbrev pub IsBareDigit : Word → Type 0
+IsBareDigit word = (length word ≡ 1) × (48 ≤ slice_index word 0) × (slice_index word 0 ≤ 57)
+
+-- `-` and one digit that is not 0
+abbrev pub IsSignedDigit : Word → Type 0
+IsSignedDigit word =
+    (length word ≡ 2) × (slice_index word 0 ≡ 45) × (49 ≤ slice_index word 1) × (slice_index word 1 ≤ 57)
 
 -- `pratio`, `div` and the braces stand at their places among twelve words
 abbrev pub HasPratioWords : List Word → Type 0

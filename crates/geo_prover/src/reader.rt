@@ -1,17 +1,17 @@
 //! Reads the canonical text of a program of the first form: its lines, and on each line its words.
-ghost use Rattle.std.specs.Prelude.{◌≡◌, ℕ, ◌+◌, ◌<◌, ◌≤◌, ◌==◌, IsTrue, ◌↔◌, [], IfOk, IfSome, IfNone, length, map, slice_index_or};
+ghost use Rattle.std.specs.Prelude.{◌≡◌, ℕ, ℤ, Contains, ◌+◌, ◌<◌, ◌≤◌, ◌==◌, IsTrue, ◌↔◌, [], IfOk, IfSome, IfNone, length, map, slice_index_or};
 ghost use Rattle.std.specs.List.{slice_split};
 ghost use Rattle.geo_points.specs.declared.PointId.{PointId};
 ghost use Rattle.geo_prover.specs.declared.program.Command.{Command};
 ghost use Rattle.geo_prover.specs.declared.program.Program.{Program};
 ghost use Rattle.geo_prover.specs.Program.{IsFirstForm, Word, program_text};
-ghost use Rattle.geo_prover.specs.Reader.{AreDeclared, HasGoalWords, HasPratioWords, IsEnd, IsGoal, IsMade, IsNext, IsSpelt, words_of};
+ghost use Rattle.geo_prover.specs.Reader.{AreDeclared, HasGoalWords, HasPratioWords, IsDigit, IsEnd, IsGoal, IsMade, IsNext, IsPoint, IsSpelt, words_of};
 
 use crate::program::{Command, Commands, Names, Program};
-use crate::words::{find_point, is_name, read_digit};
+use crate::words::{find_point, has_word, is_name, read_digit};
 use geo_base::{NoMemory, Text};
 use geo_points::PointId;
-use std::alloc::Global;
+use std::alloc::{AllocError, Global};
 
 // The greatest number of points of a program.
 const MOST_POINTS: usize = 16;
@@ -106,7 +106,7 @@ fn read_next<'a>(
     if names.len() >= MOST_POINTS || names.len() >= lines.len() {
         return Ok(None);
     }
-    let words = cut(alloc, lines[names.len()], b' ')?;
+    let words = line_words(alloc, lines, names.len())?;
     Ok(read_words(&words, names))
 }
 
@@ -163,11 +163,11 @@ fn read_pratio(words: &[&[u8]], names: &[Text]) -> Option<Command>
     ensures none { IfNone result ((command : Command)
       → IsMade names.now (map (λ w. w.now) words.now) command → ⊥) }
 {
-    let w = find_point(names, words[2])?;
-    let u = find_point(names, words[3])?;
-    let v = find_point(names, words[4])?;
-    let n = read_digit(words[7])?;
-    let d = read_digit(words[10])?;
+    let w = point_at(names, words, 2)?;
+    let u = point_at(names, words, 3)?;
+    let v = point_at(names, words, 4)?;
+    let n = digit_at(words, 7)?;
+    let d = digit_at(words, 10)?;
     if d < 1 {
         return None;
     }
@@ -186,7 +186,7 @@ fn read_end(alloc: Global, lines: &[&[u8]], names: &[Text]) -> Result<Option<Goa
     if lines.len() != count + 2 || !lines[count + 1].is_empty() {
         return Ok(None);
     }
-    let words = cut(alloc, lines[count], b' ')?;
+    let words = line_words(alloc, lines, count)?;
     Ok(read_goal(&words, names))
 }
 
@@ -201,9 +201,9 @@ fn read_goal(words: &[&[u8]], names: &[Text]) -> Option<Goal>
     if words.len() != 7 || !is_goal(words) {
         return None;
     }
-    let a = find_point(names, words[3])?;
-    let b = find_point(names, words[4])?;
-    let c = find_point(names, words[5])?;
+    let a = point_at(names, words, 3)?;
+    let b = point_at(names, words, 4)?;
+    let c = point_at(names, words, 5)?;
     Some(Goal { a, b, c })
 }
 
@@ -218,18 +218,42 @@ fn is_goal(words: &[&[u8]]) -> bool
         && has_word(words, 6, b"}")
 }
 
-// Whether this word is the text.
-fn has_word(words: &[&[u8]], i: usize, text: &[u8]) -> bool
-    requires { i < length words.now }
-    ensures { IsTrue result ↔ (slice_index_or (map (λ w. w.now) words.now) i [] ≡ text.now) }
+// The point that this word names.
+fn point_at(names: &[Text], words: &[&[u8]], i: usize) -> Option<PointId>
+    requires few { length names.now ≤ 16 }
+    requires within { i < length words.now }
+    ensures some { IfSome result (λ q.
+      IsPoint names.now (slice_index_or (map (λ w. w.now) words.now) i []) q) }
+    ensures none { IfNone result (Contains names.now
+      (slice_index_or (map (λ w. w.now) words.now) i []) → ⊥) }
 {
-    words[i] == text
+    find_point(names, words[i])
+}
+
+// The number of one digit that this word is.
+fn digit_at(words: &[&[u8]], i: usize) -> Option<i128>
+    requires { i < length words.now }
+    ensures some { IfSome result (λ n. IsDigit (slice_index_or (map (λ w. w.now) words.now) i []) n) }
+    ensures none { IfNone result ((n : ℤ)
+      → IsDigit (slice_index_or (map (λ w. w.now) words.now) i []) n → ⊥) }
+{
+    read_digit(words[i])
+}
+
+// The words of this line.
+fn line_words<'a>(alloc: Global, lines: &[&'a [u8]], i: usize) -> Result<Vec<&'a [u8]>, NoMemory>
+    requires { i < length lines.now }
+    ensures { IfOk result (λ words. map (λ w. w.now) words.items
+      ≡ words_of (slice_index_or (map (λ l. l.now) lines.now) i [])) }
+{
+    let words = cut(alloc, lines[i], b' ')?;
+    Ok(words)
 }
 
 // The pieces between the bytes that are `separator`.
-fn cut<'a>(alloc: Global, bytes: &'a [u8], separator: u8) -> Result<Vec<&'a [u8]>, NoMemory>
+fn cut<'a>(alloc: Global, bytes: &'a [u8], separator: u8) -> Result<Vec<&'a [u8]>, AllocError>
     ensures { IfOk result (λ pieces. map (λ x. x.now) pieces.items
       ≡ slice_split (λ b. b == separator) bytes.now) }
 {
-    Ok(bytes.split(|byte| *byte == separator).collect(alloc)?)
+    bytes.split(|byte| *byte == separator).collect(alloc)
 }

@@ -1,8 +1,8 @@
 //! One word of a line: a name, a point that it names, or a number of one digit.
-ghost use Rattle.std.specs.Prelude.{◌≡◌, ℕ, ℤ, ◌<◌, ◌≤◌, ◌↔◌, IsTrue, IfSome, IfNone, Contains, length, slice_index};
+ghost use Rattle.std.specs.Prelude.{◌≡◌, ℕ, ℤ, ◌<◌, ◌≤◌, ◌↔◌, IsTrue, IfSome, IfNone, Contains, length, slice_index, slice_index_or, map, [], pos, negsuc, ◌-◌};
 ghost use Rattle.geo_points.specs.declared.PointId.{PointId};
 ghost use Rattle.geo_prover.specs.Program.{IsName, is_letter, is_name_byte, reserved_words};
-ghost use Rattle.geo_prover.specs.Reader.{IsDigit, IsPoint};
+ghost use Rattle.geo_prover.specs.Reader.{IsBareDigit, IsDigit, IsPoint, IsSignedDigit};
 
 use geo_base::Text;
 use geo_points::PointId;
@@ -91,12 +91,33 @@ fn is_name_byte(byte: u8) -> bool
 fn is_reserved(word: &[u8]) -> bool
     ensures { IsTrue result ↔ Contains reserved_words word.now }
 {
-    for reserved in &RESERVED {
-        if *reserved == word {
+    is_among(&RESERVED, word)
+}
+
+// Whether the word is one of the words.
+fn is_among(words: &[&[u8]], word: &[u8]) -> bool
+    ensures { IsTrue result ↔ Contains (map (λ w. w.now) words.now) word.now }
+{
+    for i in 0..words.len() {
+        if has_word(words, i, word) {
             return true;
         }
     }
     false
+}
+
+/// Whether the word at this place is the text.
+pub fn has_word(words: &[&[u8]], i: usize, text: &[u8]) -> bool
+    requires { i < length words.now }
+    ensures { IsTrue result ↔ (slice_index_or (map (λ w. w.now) words.now) i [] ≡ text.now) }
+{
+    is_same(words[i], text)
+}
+
+fn is_same(word: &[u8], text: &[u8]) -> bool
+    ensures { IsTrue result ↔ (word.now ≡ text.now) }
+{
+    word == text
 }
 
 /// The point that has the word as its name.
@@ -118,9 +139,42 @@ pub fn read_digit(word: &[u8]) -> Option<i128>
     ensures some { IfSome result (λ n. IsDigit word.now n) }
     ensures none { IfNone result ((n : ℤ) → IsDigit word.now n → ⊥) }
 {
-    match word {
-        [digit @ b'0'..=b'9'] => Some((*digit - b'0') as i128),
-        [b'-', digit @ b'1'..=b'9'] => Some(-((*digit - b'0') as i128)),
-        _ => None,
+    if is_bare_digit(word) {
+        return Some(bare_value(word[0]));
     }
+    if is_signed_digit(word) {
+        return Some(negative_value(word[1]));
+    }
+    None
+}
+
+// Whether the word is one digit.
+fn is_bare_digit(word: &[u8]) -> bool
+    ensures { IsTrue result ↔ IsBareDigit word.now }
+{
+    word.len() == 1 && word[0] >= b'0' && word[0] <= b'9'
+}
+
+// Whether the word is `-` and one digit that is not 0.
+fn is_signed_digit(word: &[u8]) -> bool
+    ensures { IsTrue result ↔ IsSignedDigit word.now }
+{
+    word.len() == 2 && word[0] == b'-' && word[1] >= b'1' && word[1] <= b'9'
+}
+
+fn bare_value(digit: u8) -> i128
+    requires low { 48 ≤ digit }
+    requires high { digit ≤ 57 }
+    ensures { result ≡ pos (digit - 48) }
+{
+    (digit - b'0') as i128
+}
+
+// What the digit stands for behind a `-`.
+fn negative_value(digit: u8) -> i128
+    requires low { 49 ≤ digit }
+    requires high { digit ≤ 57 }
+    ensures { result ≡ negsuc (digit - 49) }
+{
+    -((digit - b'0') as i128)
 }
