@@ -26,7 +26,7 @@ differ_more (first ∷ names) name h new =
     , differ_more names name h.1 (λ k. new (later_differ first names name k)) )
 
 -- a name is not among those before it
-differ_before : (names more : List Word) (name : Word) → AllDiffer (names ++ name ∷ more) → Contains names name → ⊥
+pub differ_before : (names more : List Word) (name : Word) → AllDiffer (names ++ name ∷ more) → Contains names name → ⊥
 differ_before [] more name h k = absurd (omega (arith, k.1))
 differ_before (first ∷ names) more name h (zero , lt , e) =
     let P : Word → Type 0 = λ w. Contains (names ++ name ∷ more) w in
@@ -51,7 +51,7 @@ same_point names p q h lt lu e =
 -- WORDS OF COMMANDS
 
 -- more names change nothing where a command names earlier points
-words_with_more : (names more : List Word) (name : Word) (command : Command) → IsCommand (length names) command
+pub words_with_more : (names more : List Word) (name : Word) (command : Command) → IsCommand (length names) command
     → command_words (names ++ more) name command ≡ command_words names name command
 words_with_more names more name Point h = refl
 words_with_more names more name (Pratio w u v n d) h =
@@ -80,13 +80,13 @@ all_words_with_more names more k (command ∷ commands) h few =
       (words_with_more names more (get_or names k []) command (command_below k (length names) command (omega arith) h.0))
     ∙ ap (λ x. command_words names (get_or names k []) command ∷ x) (all_words_with_more names more (suc k) commands h.1 (omega arith))
 
-words_in_row : (names : List Word) (k j : ℕ) (front rest : List Command) → j ≡ k + length front
+pub words_in_row : (names : List Word) (k j : ℕ) (front rest : List Command) → j ≡ k + length front
     → commands_words names k (front ++ rest) ≡ commands_words names k front ++ commands_words names j rest
 words_in_row names k j [] rest e = ap (λ i. commands_words names i rest) (omega arith)
 words_in_row names k j (command ∷ front) rest e =
     ap (λ x. command_words names (get_or names k []) command ∷ x) (words_in_row names (suc k) j front rest (omega arith))
 
-count_words : (names : List Word) (k : ℕ) (commands : List Command) → length (commands_words names k commands) ≡ length commands
+pub count_words : (names : List Word) (k : ℕ) (commands : List Command) → length (commands_words names k commands) ≡ length commands
 count_words names k [] = refl
 count_words names k (command ∷ commands) = ap suc (count_words names (suc k) commands)
 
@@ -96,17 +96,20 @@ made_more k j [] command e h made =
     let P : ℕ → Type 0 = λ i. IsCommand i command in let same : j ≡ k = omega arith in (subst P same made, tt)
 made_more k j (first ∷ commands) command e h made = (h.0, made_more (suc k) j commands command (omega arith) h.1 made)
 
-made_at : (k j : ℕ) (commands rest : List Command) (command : Command) → j ≡ k + length commands → AreCommands k (commands ++ command ∷ rest) → IsCommand j command
+pub made_at : (k j : ℕ) (commands rest : List Command) (command : Command) → j ≡ k + length commands → AreCommands k (commands ++ command ∷ rest) → IsCommand j command
 made_at k j [] rest command e h =
     let P : ℕ → Type 0 = λ i. IsCommand i command in let same : k ≡ j = omega arith in subst P same h.0
 made_at k j (first ∷ commands) rest command e h = made_at (suc k) j commands rest command (omega arith) h.1
 
+two_not_twelve : ◌≡◌ {A = ℕ} 2 12 → ⊥
+two_not_twelve f = omega arith
+
 -- a line's words say one command
-unique : (names : List Word) (m n : Word) (b c : Command) → AllDiffer names → IsCommand (length names) b → IsCommand (length names) c
+pub unique : (names : List Word) (m n : Word) (b c : Command) → AllDiffer names → IsCommand (length names) b → IsCommand (length names) c
     → command_words names m b ≡ command_words names n c → b ≡ c
 unique names m n Point Point h j k e = refl
-unique names m n Point (Pratio w u v z d) h j k e = let f : 2 ≡ 12 = ap length e in absurd (omega arith)
-unique names m n (Pratio w u v z d) Point h j k e = let f : 12 ≡ 2 = ap length e in absurd (omega arith)
+unique names m n Point (Pratio w u v z d) h j k e = absurd (two_not_twelve (ap length e))
+unique names m n (Pratio w u v z d) Point h j k e = absurd (two_not_twelve (sym (ap length e)))
 unique names m n (Pratio w u v z d) (Pratio w' u' v' z' d') h j k e =
     let at : ℕ → List Word → Word = λ i ws. get_or ws i [] in
     let is_w : w ≡ w' = same_point names w w' h j.0 k.0 (ap (at 2) e) in
@@ -144,7 +147,7 @@ begins_none p = record {
   commands_are = refl
 }
 
-line_at : (lines : List (List ℕ)) (i : ℕ) → get_or (map words_of lines) i ([] ∷ []) ≡ words_of (get_or lines i [])
+pub line_at : (lines : List (List ℕ)) (i : ℕ) → get_or (map words_of lines) i ([] ∷ []) ≡ words_of (get_or lines i [])
 line_at lines i = ListN.get_or-map words_of lines i []
 
 pub declared_more : (lines : List (List ℕ)) (names : List Word) (commands : List Command) (name : Word) (command : Command)

@@ -1,9 +1,12 @@
 -- The canonical decimals of one digit.
-use Rattle.std.proofs.Common.{◌≡◌, ℕ, suc, ◌+◌, ◌-◌, ◌<◌, ◌≤◌, ◌⊎◌, List, [], ◌∷◌, length, get_or, refl, sym, ap, ◌∙◌, inl, inr, arith}
-use Rattle.std.specs.Prelude.{ℤ, pos, negsuc, neg_ℤ, unsigned_abs}
+use Rattle.std.proofs.Common.{◌≡◌, ℕ, suc, ◌+◌, ◌-◌, ◌<◌, ◌≤◌, ◌⊎◌, List, [], ◌∷◌, length, get_or, true, false, refl, sym, ap, ◌∙◌, inl, inr, arith}
+use Rattle.std.specs.Prelude.{ℤ, pos, negsuc, ◌≤ℤ◌, unsigned_abs}
 use Rattle.std.specs.Fmt.{signed_decimal, decimal}
 use Rattle.std.proofs.lemmas.Fmt.{decimal_digit, signed_decimal_injective}
-use Rattle.std.proofs.lemmas.Int.{ints}
+use Rattle.std.proofs.lemmas.Int.{ints, to_z-of_z}
+use mir.Val.{to_z, of_z}
+use mir.Syntax.{w128}
+use lib.Signed.{lt_z}
 use Rattle.std.specs.Int.Signed.{mag}
 use Rattle.geo_prover.specs.Program.{Word}
 use Rattle.geo_prover.specs.Reader.{IsBareDigit, IsDigit, IsSignedDigit}
@@ -58,6 +61,16 @@ digit-from_signed word h = signed_digit word (get_or word 1 0 - 49) h (omega (ar
 unfold_mag : (z : ℤ) → mag z ≤ unsigned_abs z
 unfold_mag (pos n) = omega arith
 unfold_mag (negsuc n) = omega arith
+
+-- a number of one digit fits its type
+pub digit-cast : (z : ℤ) → unsigned_abs z ≤ 9 → to_z w128 (of_z w128 z) ≡ z
+digit-cast z h = to_z-of_z w128 z (omega (arith, unfold_mag z))
+
+pub not_below : (z : ℤ) → lt_z z (pos 1) ≡ false → pos 1 ≤ℤ z
+not_below z e = first_of (omega (arith, ints), grind (arith, ints))
+
+pub below : (z : ℤ) → lt_z z (pos 1) ≡ true → pos 1 ≤ℤ z → ⊥
+below z e h = first_of (omega (arith, ints), grind (arith, ints))
 
 -- a word is the decimal of one number at most
 pub digit-unique : (word : Word) (m n : ℤ) → IsDigit word m → IsDigit word n → m ≡ n

@@ -4,3 +4,4 @@ pub mod Items
 pub mod Digits
 pub mod Shapes
 pub mod Declaring
+pub mod Beginnings

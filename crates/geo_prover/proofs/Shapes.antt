@@ -8,12 +8,12 @@ use Rattle.geo_points.specs.declared.PointId.{PointId}
 use Rattle.geo_prover.specs.declared.program.Command.{Command}
 use Rattle.geo_prover.specs.declared.program.Command.TheVariants.{Point, Pratio}
 use Rattle.geo_prover.specs.Program.{Word, IsName, IsCommand, name_of, command_words}
-use Rattle.geo_prover.specs.Reader.{HasGoalWords, HasPratioWords, IsDigit, IsGoal, IsMade, IsNext, IsPoint, goal_words}
+use Rattle.geo_prover.specs.Reader.{HasGoalWords, HasPratioWords, IsDigit, IsGoal, IsMade, IsNewName, IsNext, IsPoint, goal_words}
 use Rattle.geo_prover.proofs.Items.{items, items_from}
 use Rattle.geo_prover.proofs.Digits.{digit-unique}
 
 -- the word at a place of a list that is known
-word_at : (words known : List Word) (i : ℕ) → words ≡ known → get_or words i [] ≡ get_or known i []
+pub word_at : (words known : List Word) (i : ℕ) → words ≡ known → get_or words i [] ≡ get_or known i []
 word_at words known i e = ap (λ w. get_or w i []) e
 
 names_point : (names : List Word) (word : Word) (q : PointId) → q.0 < length names → word ≡ name_of names q → Contains names word
@@ -62,7 +62,7 @@ pub record PratioParts (names words : List Word) : Type 0 where
   pub d_digit : IsDigit (get_or words 10 []) d
   pub d_positive : pos 1 ≤ℤ d
 
-digit_small : (d : ℤ) → pos 1 ≤ℤ d → d ≤ℤ pos 9 → unsigned_abs d ≤ 9
+pub digit_small : (d : ℤ) → pos 1 ≤ℤ d → d ≤ℤ pos 9 → unsigned_abs d ≤ 9
 digit_small d low high = omega (arith, ints)
 
 digit_low : (d : ℤ) → unsigned_abs d ≤ 9 → d ≤ℤ pos 9
@@ -142,3 +142,15 @@ made_with_second names words command h =
 
 pub made_from_next : (names words : List Word) (name : Word) (command : Command) → IsNext names words name command → IsMade names words command
 made_from_next names words name command h = record { name = name; spelt = h.spelt; made = h.made }
+
+-- a command and a new name make the next point
+pub next_from_made : (names words : List Word) (name : Word) (command : Command) → IsMade names words command → get_or words 1 [] ≡ name
+    → IsNewName names (get_or words 1 []) → IsNext names words name command
+next_from_made names words name command h e new =
+    let P : Word → Type 0 = λ w. IsNext names words w command in
+    subst P e (record { spelt = made_with_second names words command h; named = new.0; new = new.1; made = h.made })
+
+pub new_from_next : (names words : List Word) (name : Word) (command : Command) → IsNext names words name command → IsNewName names (get_or words 1 [])
+new_from_next names words name command h =
+    let P : Word → Type 0 = λ w. IsNewName names w in
+    subst P (sym (name_in_words names words name command h.spelt)) (h.named, h.new)

@@ -30,6 +30,10 @@ pub record IsDigit (word : Word) (n : ℤ) : Type 0 where
   pub small : unsigned_abs n ≤ 9
   pub spelt : word ≡ signed_decimal n
 
+-- the word may name the next point
+abbrev pub IsNewName : List Word → Word → Type 0
+IsNewName names word = IsName word × (Contains names word → ⊥)
+
 -- one digit
 abbrev pub IsBareDigit : Word → Type 0
 IsBareDigit word = (length word ≡ 1) × (48 ≤ slice_index word 0) × (slice_index word 0 ≤ 57)

@@ -5,7 +5,7 @@ ghost use Rattle.geo_points.specs.declared.PointId.{PointId};
 ghost use Rattle.geo_prover.specs.declared.program.Command.{Command};
 ghost use Rattle.geo_prover.specs.declared.program.Program.{Program};
 ghost use Rattle.geo_prover.specs.Program.{IsFirstForm, Word, program_text};
-ghost use Rattle.geo_prover.specs.Reader.{AreDeclared, HasGoalWords, HasPratioWords, IsDigit, IsEnd, IsGoal, IsMade, IsNext, IsPoint, IsSpelt, words_of};
+ghost use Rattle.geo_prover.specs.Reader.{AreDeclared, HasGoalWords, HasPratioWords, IsDigit, IsEnd, IsGoal, IsMade, IsNewName, IsNext, IsPoint, IsSpelt, words_of};
 
 use crate::program::{Command, Commands, Names, Program};
 use crate::words::{find_point, has_word, is_name, read_digit};
@@ -119,12 +119,29 @@ fn read_words<'a>(words: &[&'a [u8]], names: &[Text]) -> Option<Next<'a>>
       → IsNext names.now (map (λ w. w.now) words.now) name command → ⊥) }
 {
     let command = read_command(words, names)?;
-    let name = words[1];
-    if is_name(name) && find_point(names, name).is_none() {
-        Some(Next { name, command })
-    } else {
-        None
+    if !is_new_at(names, words, 1) {
+        return None;
     }
+    Some(Next {
+        name: words[1],
+        command,
+    })
+}
+
+// Whether this word may name the next point.
+fn is_new_at(names: &[Text], words: &[&[u8]], i: usize) -> bool
+    requires few { length names.now ≤ 16 }
+    requires within { i < length words.now }
+    ensures { IsTrue result ↔ IsNewName names.now (slice_index_or (map (λ w. w.now) words.now) i []) }
+{
+    is_new_name(names, words[i])
+}
+
+fn is_new_name(names: &[Text], word: &[u8]) -> bool
+    requires { length names.now ≤ 16 }
+    ensures { IsTrue result ↔ IsNewName names.now word.now }
+{
+    is_name(word) && find_point(names, word).is_none()
 }
 
 // The command that the words of a line are, whatever its point's name.
@@ -183,7 +200,7 @@ fn read_end(alloc: Global, lines: &[&[u8]], names: &[Text]) -> Result<Option<Goa
       → IsEnd (map (λ l. l.now) lines.now) names.now a b c → ⊥)) }
 {
     let count = names.len();
-    if lines.len() != count + 2 || !lines[count + 1].is_empty() {
+    if lines.len() != count + 2 || !has_word(lines, count + 1, b"") {
         return Ok(None);
     }
     let words = line_words(alloc, lines, count)?;

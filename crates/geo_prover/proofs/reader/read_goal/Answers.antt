@@ -15,9 +15,9 @@ returns-in_err-a-clause-none c =
 
 pub returns-in_err-b-clause-none : goal.returns-in_err-b-clause-none
 returns-in_err-b-clause-none c =
-    rw c.from_residual.ensures (λ p q r h. c.in_err-b.ensures.none (goal_parts c.args.names.now (map (λ w. w.now) c.args.words.now) p q r h).b)
+    rw c.from_residual-in_err-b.ensures (λ p q r h. c.in_err-b.ensures.none (goal_parts c.args.names.now (map (λ w. w.now) c.args.words.now) p q r h).b)
 
 pub returns-in_err-c-clause-none : goal.returns-in_err-c-clause-none
 returns-in_err-c-clause-none c =
-    rw c.from_residual.ensures (λ p q r h. c.in_err-c.ensures.none (goal_parts c.args.names.now (map (λ w. w.now) c.args.words.now) p q r h).c)
+    rw c.from_residual-in_err-c.ensures (λ p q r h. c.in_err-c.ensures.none (goal_parts c.args.names.now (map (λ w. w.now) c.args.words.now) p q r h).c)
 

@@ -3,6 +3,7 @@ use Rattle.std.specs.Prelude.{IfNone, IfSome}
 use Rattle.geo_prover.specs.declared.program.Command.{Command}
 use Rattle.geo_prover.specs.Program.{Word}
 use Rattle.geo_prover.specs.Reader.{IsNext, words_of}
+use Rattle.geo_prover.proofs.Items.{none_weaker}
 use Rattle.geo_prover.proofs.reader.read_next.Goals as goal
 
 pub returns-clause-some : goal.returns-clause-some
@@ -12,7 +13,7 @@ returns-clause-some c =
 
 pub returns-clause-none : goal.returns-clause-none
 returns-clause-none c =
-    let P : List Word → Type 0 = λ ws.
-      IfNone c.read_words.result ((name : Word) → (command : Command) → length c.args.names.now < 16
-        → length c.args.names.now < length c.args.lines.now → IsNext c.args.names.now ws name command → ⊥) in
-    subst P (ap (map (λ w. w.now)) c.deref.ensures.value ∙ c.in_ok-words.ensures) ?
+    let Q : List Word → Type 0 = λ ws. (name : Word) → (command : Command) → IsNext c.args.names.now ws name command → ⊥ in
+    let P : List Word → Type 0 = λ ws. IfNone c.read_words.result (Q ws) in
+    let none = subst P (ap (map (λ w. w.now)) c.deref.ensures.value ∙ c.in_ok-words.ensures) c.read_words.ensures.none in
+    none_weaker c.read_words.result _ _ (λ f name command room within h. f name command h) none
