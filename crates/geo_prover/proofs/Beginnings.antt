@@ -10,22 +10,22 @@ use Rattle.geo_prover.specs.declared.program.Command.{Command}
 use Rattle.geo_prover.specs.declared.program.Command.TheVariants.{Point, Pratio}
 use Rattle.geo_prover.specs.declared.program.Program.{Program}
 use Rattle.geo_prover.specs.Program.{Word, AllDiffer, IsName, IsCommand, AreCommands, IsFirstForm, command_words, commands_words, program_words}
-use Rattle.geo_prover.specs.Reader.{AreDeclared, IsEnd, IsGoal, IsNext, IsSpelt, goal_words, text_words, words_of}
+use Rattle.geo_prover.specs.Reader.{AreDeclared, IsEnd, IsStatement, IsNext, IsSpelt, statement_line, text_words, words_of}
 use Rattle.geo_prover.proofs.Declaring.{Begins, begins_none, count_words, declared_more, none_declared, differ_before, line_at, made_at, unique, words_in_row, words_with_more}
 use Rattle.geo_prover.proofs.Shapes.{name_in_words}
 
 -- the line of the statement stands after those of the commands, and an empty one after it
-goal_line : (lines : List (List ℕ)) (p : Program) (n : ℕ) → n ≡ length p.commands → IsSpelt lines p → words_of (get_or lines n []) ≡ goal_words p.names p.a p.b p.c
-goal_line lines p n e h =
+line_of_statement : (lines : List (List ℕ)) (p : Program) (n : ℕ) → n ≡ length p.commands → IsSpelt lines p → words_of (get_or lines n []) ≡ statement_line p.names p.a p.b p.c
+line_of_statement lines p n e h =
     let front = commands_words p.names 0 p.commands in
-    let goal = goal_words p.names p.a p.b p.c in
+    let goal = statement_line p.names p.a p.b p.c in
     sym (line_at lines n) ∙ ap (λ ws. get_or ws n ([] ∷ [])) (h.words ∙ append_assoc front (goal ∷ []) (([] ∷ []) ∷ []))
     ∙ get_or_at front goal (([] ∷ []) ∷ []) ([] ∷ []) n (count_words p.names 0 p.commands ∙ sym e)
 
 count_lines : (lines : List (List ℕ)) (p : Program) → IsSpelt lines p → length lines ≡ length p.commands + 2
 count_lines lines p h =
     let front = commands_words p.names 0 p.commands in
-    let goal = goal_words p.names p.a p.b p.c in
+    let goal = statement_line p.names p.a p.b p.c in
     let all : length (map words_of lines) ≡ length (front ++ goal ∷ []) + 1 =
         ap length h.words ∙ length-append (front ++ goal ∷ []) (([] ∷ []) ∷ []) in
     omega (arith, length-map lines words_of, all, length-append front (goal ∷ []), count_words p.names 0 p.commands)
@@ -38,16 +38,16 @@ ends : (lines : List (List ℕ)) (p : Program) → IsSpelt lines p → IsEnd lin
 ends lines p h =
     let n = length p.names in
     let form = h.first_form in
-    let front = commands_words p.names 0 p.commands ++ goal_words p.names p.a p.b p.c ∷ [] in
+    let front = commands_words p.names 0 p.commands ++ statement_line p.names p.a p.b p.c ∷ [] in
     let many : length front ≡ n + 1 =
-        length-append (commands_words p.names 0 p.commands) (goal_words p.names p.a p.b p.c ∷ [])
+        length-append (commands_words p.names 0 p.commands) (statement_line p.names p.a p.b p.c ∷ [])
         ∙ ap (λ k. k + 1) (count_words p.names 0 p.commands ∙ sym form.named) in
     let last : words_of (get_or lines (n + 1) []) ≡ [] ∷ [] =
         sym (line_at lines (n + 1)) ∙ ap (λ ws. get_or ws (n + 1) ([] ∷ [])) h.words ∙ get_or_at front ([] ∷ []) [] ([] ∷ []) (n + 1) many in
     record {
       count = omega (arith, count_lines lines p h, form.named);
       goal = record {
-        spelt = goal_line lines p n form.named h;
+        spelt = line_of_statement lines p n form.named h;
         a_declared = omega (arith, form.a_declared, form.named);
         b_declared = omega (arith, form.b_declared, form.named);
         c_declared = omega (arith, form.c_declared, form.named)
@@ -62,9 +62,9 @@ twelve_not_seven : ◌≡◌ {A = ℕ} 12 7 → ⊥
 twelve_not_seven f = omega arith
 
 -- no command is a statement
-goal_no_command : (names more : List Word) (name : Word) (command : Command) (a b c : PointId) → command_words names name command ≡ goal_words more a b c → ⊥
-goal_no_command names more name Point a b c e = two_not_seven (ap length e)
-goal_no_command names more name (Pratio w u v n d) a b c e = twelve_not_seven (ap length e)
+statement_no_command : (names more : List Word) (name : Word) (command : Command) (a b c : PointId) → command_words names name command ≡ statement_line more a b c → ⊥
+statement_no_command names more name Point a b c e = two_not_seven (ap length e)
+statement_no_command names more name (Pratio w u v n d) a b c e = twelve_not_seven (ap length e)
 
 -- what a program says of the line after those that were read
 record Continues (lines : List (List ℕ)) (names : List Word) (name : Word) (command : Command) : Type 0 where
@@ -78,7 +78,7 @@ continues : (lines : List (List ℕ)) (p : Program) (names more_names : List Wor
 continues lines p names more_names name commands more_commands command count h names_are commands_are =
     let n = length names in
     let form = h.first_form in
-    let goal = goal_words p.names p.a p.b p.c in
+    let goal = statement_line p.names p.a p.b p.c in
     let len : length p.commands ≡ length commands + suc (length more_commands) =
         ap length commands_are ∙ length-append commands (command ∷ more_commands) in
     let made : IsCommand n command =
@@ -144,9 +144,9 @@ one_more : (lines : List (List ℕ)) (names : List Word) (commands : List Comman
     → (p : Program) → IsSpelt lines p → (more_names : List Word) (more_commands : List Command) → p.names ≡ names ++ more_names → p.commands ≡ commands ++ more_commands
     → Begins (names ++ name ∷ []) (commands ++ command ∷ []) p
 one_more lines names commands name command d next p h [] [] e f =
-    let line : words_of (get_or lines (length names) []) ≡ goal_words p.names p.a p.b p.c =
-        goal_line lines p (length names) (omega (arith, d.count, ap length f, length-append commands [])) h in
-    absurd (goal_no_command names p.names name command p.a p.b p.c (sym next.spelt ∙ line))
+    let line : words_of (get_or lines (length names) []) ≡ statement_line p.names p.a p.b p.c =
+        line_of_statement lines p (length names) (omega (arith, d.count, ap length f, length-append commands [])) h in
+    absurd (statement_no_command names p.names name command p.a p.b p.c (sym next.spelt ∙ line))
 one_more lines names commands name command d next p h [] (other ∷ more) e f =
     absurd (omega (arith, h.first_form.named, d.count, ap length e, ap length f, length-append names [], length-append commands (other ∷ more)))
 one_more lines names commands name command d next p h (other ∷ more) [] e f =
@@ -183,15 +183,15 @@ spelt_from_end lines names commands a b c d h =
     let n = length commands in
     let words = map words_of lines in
     let many : length words ≡ n + 2 = omega (arith, length-map lines words_of, h.count, d.count) in
-    let goal : get_or words n ([] ∷ []) ≡ goal_words names a b c =
+    let goal : get_or words n ([] ∷ []) ≡ statement_line names a b c =
         line_at lines n ∙ ap (λ i. words_of (get_or lines i [])) (sym d.count) ∙ h.goal.spelt in
     let last : get_or words (n + 1) ([] ∷ []) ≡ [] ∷ [] =
         line_at lines (n + 1) ∙ ap (λ i. words_of (get_or lines (i + 1) [])) (sym d.count) ∙ ap words_of h.last in
     let tail : drop (n + 1) words ≡ ([] ∷ []) ∷ [] =
         drop_more words (n + 1) ([] ∷ []) (omega arith) ∙ ap (λ x. x ∷ drop (n + 1 + 1) words) last
         ∙ ap (λ x. ([] ∷ []) ∷ x) (drop_all (n + 1 + 1) words (omega arith)) in
-    let rest : drop n words ≡ goal_words names a b c ∷ ([] ∷ []) ∷ [] =
-        drop_more words n ([] ∷ []) (omega arith) ∙ ap (λ x. x ∷ drop (n + 1) words) goal ∙ ap (λ x. goal_words names a b c ∷ x) tail in
+    let rest : drop n words ≡ statement_line names a b c ∷ ([] ∷ []) ∷ [] =
+        drop_more words n ([] ∷ []) (omega arith) ∙ ap (λ x. x ∷ drop (n + 1) words) goal ∙ ap (λ x. statement_line names a b c ∷ x) tail in
     record {
       first_form = record {
         named = d.count;
@@ -204,7 +204,7 @@ spelt_from_end lines names commands a b c d h =
         c_declared = omega (arith, h.goal.c_declared, d.count)
       };
       words = sym (take-append-drop n words) ∙ ap (λ x. x ++ drop n words) d.spelt ∙ ap (λ x. commands_words names 0 commands ++ x) rest
-        ∙ sym (append_assoc (commands_words names 0 commands) (goal_words names a b c ∷ []) (([] ∷ []) ∷ []))
+        ∙ sym (append_assoc (commands_words names 0 commands) (statement_line names a b c ∷ []) (([] ∷ []) ∷ []))
     }
 
 -- THE LOOP

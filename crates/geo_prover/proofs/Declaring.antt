@@ -10,7 +10,7 @@ use Rattle.geo_prover.specs.declared.program.Command.{Command}
 use Rattle.geo_prover.specs.declared.program.Command.TheVariants.{Point, Pratio}
 use Rattle.geo_prover.specs.declared.program.Program.{Program}
 use Rattle.geo_prover.specs.Program.{Word, AllDiffer, IsName, IsCommand, AreCommands, IsFirstForm, name_of, command_words, commands_words}
-use Rattle.geo_prover.specs.Reader.{AreDeclared, IsDigit, IsEnd, IsGoal, IsNext, IsSpelt, goal_words, text_words, words_of}
+use Rattle.geo_prover.specs.Reader.{AreDeclared, IsDigit, IsEnd, IsStatement, IsNext, IsSpelt, statement_line, text_words, words_of}
 use Rattle.geo_prover.proofs.Digits.{digit-unique}
 use Rattle.geo_prover.proofs.Shapes.{digit_small, name_in_words, word_at}
 

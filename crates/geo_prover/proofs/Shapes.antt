@@ -8,7 +8,7 @@ use Rattle.geo_points.specs.declared.PointId.{PointId}
 use Rattle.geo_prover.specs.declared.program.Command.{Command}
 use Rattle.geo_prover.specs.declared.program.Command.TheVariants.{Point, Pratio}
 use Rattle.geo_prover.specs.Program.{Word, IsName, IsCommand, name_of, command_words}
-use Rattle.geo_prover.specs.Reader.{HasGoalWords, HasPratioWords, IsDigit, IsGoal, IsMade, IsNewName, IsNext, IsPoint, goal_words}
+use Rattle.geo_prover.specs.Reader.{HasStatementWords, HasPratioWords, IsDigit, IsStatement, IsMade, IsNewName, IsNext, IsPoint, statement_line}
 use Rattle.geo_prover.proofs.Items.{items, items_from}
 use Rattle.geo_prover.proofs.Digits.{digit-unique}
 
@@ -22,16 +22,16 @@ names_point names word q lt e =
 
 -- THE STATEMENT
 
-pub record GoalParts (names words : List Word) : Type 0 where
+pub record StatementParts (names words : List Word) : Type 0 where
   pub count : length words ≡ 7
-  pub keywords : HasGoalWords words
+  pub keywords : HasStatementWords words
   pub a : Contains names (get_or words 3 [])
   pub b : Contains names (get_or words 4 [])
   pub c : Contains names (get_or words 5 [])
 
-pub goal_parts : (names words : List Word) (a b c : PointId) → IsGoal names words a b c → GoalParts names words
-goal_parts names words a b c h =
-    let known = goal_words names a b c in record {
+pub statement_parts : (names words : List Word) (a b c : PointId) → IsStatement names words a b c → StatementParts names words
+statement_parts names words a b c h =
+    let known = statement_line names a b c in record {
       count = ap length h.spelt;
       keywords = (word_at words known 0 h.spelt, word_at words known 1 h.spelt, word_at words known 2 h.spelt, word_at words known 6 h.spelt);
       a = names_point names (get_or words 3 []) a h.a_declared (word_at words known 3 h.spelt);
@@ -39,11 +39,11 @@ goal_parts names words a b c h =
       c = names_point names (get_or words 5 []) c h.c_declared (word_at words known 5 h.spelt)
     }
 
-pub goal_from_parts : (names words : List Word) (a b c : PointId) → length words ≡ 7 → HasGoalWords words
-    → IsPoint names (get_or words 3 []) a → IsPoint names (get_or words 4 []) b → IsPoint names (get_or words 5 []) c → IsGoal names words a b c
-goal_from_parts names words a b c count h at_a at_b at_c =
+pub statement_from_parts : (names words : List Word) (a b c : PointId) → length words ≡ 7 → HasStatementWords words
+    → IsPoint names (get_or words 3 []) a → IsPoint names (get_or words 4 []) b → IsPoint names (get_or words 5 []) c → IsStatement names words a b c
+statement_from_parts names words a b c count h at_a at_b at_c =
     let all : words ≡ items words 0 7 = items_from words 0 7 (sym count) in
-    let same : items words 0 7 ≡ goal_words names a b c = cc in record {
+    let same : items words 0 7 ≡ statement_line names a b c = cc in record {
       spelt = all ∙ same;
       a_declared = at_a.declared;
       b_declared = at_b.declared;

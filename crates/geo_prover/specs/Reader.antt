@@ -76,21 +76,21 @@ pub record AreDeclared (lines : List (List ℕ)) (names : List Word) (commands :
   pub spelt : take (length commands) (map words_of lines) ≡ commands_words names 0 commands
 
 -- `prove`, `collinear` and the braces stand at their places among seven words
-abbrev pub HasGoalWords : List Word → Type 0
-HasGoalWords words =
+abbrev pub HasStatementWords : List Word → Type 0
+HasStatementWords words =
     (slice_index_or words 0 [] ≡ codes "prove")
     × (slice_index_or words 1 [] ≡ codes "{")
     × (slice_index_or words 2 [] ≡ codes "collinear")
     × (slice_index_or words 6 [] ≡ codes "}")
 
 -- the words of `prove { collinear A B C }`
-abbrev pub goal_words : List Word → PointId → PointId → PointId → List Word
-goal_words names a b c =
+abbrev pub statement_line : List Word → PointId → PointId → PointId → List Word
+statement_line names a b c =
     codes "prove" ∷ codes "{" ∷ codes "collinear" ∷ name_of names a ∷ name_of names b ∷ name_of names c ∷ codes "}" ∷ []
 
 -- the words state that three points are collinear
-pub record IsGoal (names words : List Word) (a b c : PointId) : Type 0 where
-  pub spelt : words ≡ goal_words names a b c
+pub record IsStatement (names words : List Word) (a b c : PointId) : Type 0 where
+  pub spelt : words ≡ statement_line names a b c
   pub a_declared : a.0 < length names
   pub b_declared : b.0 < length names
   pub c_declared : c.0 < length names
@@ -98,5 +98,5 @@ pub record IsGoal (names words : List Word) (a b c : PointId) : Type 0 where
 -- after the lines of the declared points stand the statement and the end
 pub record IsEnd (lines : List (List ℕ)) (names : List Word) (a b c : PointId) : Type 0 where
   pub count : length lines ≡ length names + 2
-  pub goal : IsGoal names (words_of (slice_index_or lines (length names) [])) a b c
+  pub goal : IsStatement names (words_of (slice_index_or lines (length names) [])) a b c
   pub last : slice_index_or lines (length names + 1) [] ≡ []

@@ -4,4 +4,6 @@
 pub mod first;
 pub mod program;
 pub mod reader;
+#[cfg(test)]
+mod reader_tests;
 mod words;

@@ -5,10 +5,10 @@ ghost use Rattle.geo_points.specs.declared.PointId.{PointId};
 ghost use Rattle.geo_prover.specs.declared.program.Command.{Command};
 ghost use Rattle.geo_prover.specs.declared.program.Program.{Program};
 ghost use Rattle.geo_prover.specs.Program.{IsFirstForm, Word, program_text};
-ghost use Rattle.geo_prover.specs.Reader.{AreDeclared, HasGoalWords, HasPratioWords, IsDigit, IsEnd, IsGoal, IsMade, IsNewName, IsNext, IsPoint, IsSpelt, words_of};
+ghost use Rattle.geo_prover.specs.Reader.{AreDeclared, HasStatementWords, HasPratioWords, IsDigit, IsEnd, IsStatement, IsMade, IsNewName, IsNext, IsPoint, IsSpelt, words_of};
 
 use crate::program::{Command, Commands, Names, Program};
-use crate::words::{find_point, has_word, is_name, read_digit};
+use crate::words::{find_point, has_text, is_name, read_digit};
 use geo_base::{NoMemory, Text};
 use geo_points::PointId;
 use std::alloc::{AllocError, Global};
@@ -25,7 +25,7 @@ struct Next<'a> {
 
 // The points of `collinear A B C`.
 #[derive(Clone, Copy)]
-struct Goal {
+struct Statement {
     a: PointId,
     b: PointId,
     c: PointId,
@@ -57,7 +57,7 @@ fn read_lines(alloc: Global, lines: &[&[u8]]) -> Result<Option<Program>, NoMemor
 {
     let declared = read_commands(alloc, lines)?;
     match read_end(alloc, lines, &declared.names)? {
-        Some(Goal { a, b, c }) => Ok(Some(Program {
+        Some(Statement { a, b, c }) => Ok(Some(Program {
             names: Names { items: declared.names },
             commands: Commands { items: declared.commands },
             a,
@@ -152,7 +152,7 @@ fn read_command(words: &[&[u8]], names: &[Text]) -> Option<Command>
       → IsMade names.now (map (λ w. w.now) words.now) command → ⊥) }
 {
     match words.len() {
-        2 if has_word(words, 0, b"point") => Some(Command::Point),
+        2 if has_text(words, 0, b"point") => Some(Command::Point),
         12 if is_pratio(words) => read_pratio(words, names),
         _ => None,
     }
@@ -163,12 +163,12 @@ fn is_pratio(words: &[&[u8]]) -> bool
     requires { length words.now ≡ 12 }
     ensures { IsTrue result ↔ HasPratioWords (map (λ w. w.now) words.now) }
 {
-    has_word(words, 0, b"pratio")
-        && has_word(words, 5, b"div")
-        && has_word(words, 6, b"{")
-        && has_word(words, 8, b"}")
-        && has_word(words, 9, b"{")
-        && has_word(words, 11, b"}")
+    has_text(words, 0, b"pratio")
+        && has_text(words, 5, b"div")
+        && has_text(words, 6, b"{")
+        && has_text(words, 8, b"}")
+        && has_text(words, 9, b"{")
+        && has_text(words, 11, b"}")
 }
 
 // The points and the number of a `pratio`.
@@ -192,7 +192,7 @@ fn read_pratio(words: &[&[u8]], names: &[Text]) -> Option<Command>
 }
 
 // The statement on the line after those of the names, where nothing but an empty line follows it.
-fn read_end(alloc: Global, lines: &[&[u8]], names: &[Text]) -> Result<Option<Goal>, NoMemory>
+fn read_end(alloc: Global, lines: &[&[u8]], names: &[Text]) -> Result<Option<Statement>, NoMemory>
     requires { length names.now ≤ 16 }
     ensures some { IfOk result (λ o. IfSome o (λ g.
       IsEnd (map (λ l. l.now) lines.now) names.now g.a g.b g.c)) }
@@ -200,39 +200,39 @@ fn read_end(alloc: Global, lines: &[&[u8]], names: &[Text]) -> Result<Option<Goa
       → IsEnd (map (λ l. l.now) lines.now) names.now a b c → ⊥)) }
 {
     let count = names.len();
-    if lines.len() != count + 2 || !has_word(lines, count + 1, b"") {
+    if lines.len() != count + 2 || !has_text(lines, count + 1, b"") {
         return Ok(None);
     }
     let words = line_words(alloc, lines, count)?;
-    Ok(read_goal(&words, names))
+    Ok(read_statement(&words, names))
 }
 
 // The points of `prove { collinear A B C }`.
-fn read_goal(words: &[&[u8]], names: &[Text]) -> Option<Goal>
+fn read_statement(words: &[&[u8]], names: &[Text]) -> Option<Statement>
     requires { length names.now ≤ 16 }
     ensures some { IfSome result (λ g.
-      IsGoal names.now (map (λ w. w.now) words.now) g.a g.b g.c) }
+      IsStatement names.now (map (λ w. w.now) words.now) g.a g.b g.c) }
     ensures none { IfNone result ((a b c : PointId)
-      → IsGoal names.now (map (λ w. w.now) words.now) a b c → ⊥) }
+      → IsStatement names.now (map (λ w. w.now) words.now) a b c → ⊥) }
 {
-    if words.len() != 7 || !is_goal(words) {
+    if words.len() != 7 || !is_statement(words) {
         return None;
     }
     let a = point_at(names, words, 3)?;
     let b = point_at(names, words, 4)?;
     let c = point_at(names, words, 5)?;
-    Some(Goal { a, b, c })
+    Some(Statement { a, b, c })
 }
 
 // Whether the words have those of the statement's line at their places.
-fn is_goal(words: &[&[u8]]) -> bool
+fn is_statement(words: &[&[u8]]) -> bool
     requires { length words.now ≡ 7 }
-    ensures { IsTrue result ↔ HasGoalWords (map (λ w. w.now) words.now) }
+    ensures { IsTrue result ↔ HasStatementWords (map (λ w. w.now) words.now) }
 {
-    has_word(words, 0, b"prove")
-        && has_word(words, 1, b"{")
-        && has_word(words, 2, b"collinear")
-        && has_word(words, 6, b"}")
+    has_text(words, 0, b"prove")
+        && has_text(words, 1, b"{")
+        && has_text(words, 2, b"collinear")
+        && has_text(words, 6, b"}")
 }
 
 // The point that this word names.

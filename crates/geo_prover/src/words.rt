@@ -99,7 +99,7 @@ fn is_among(words: &[&[u8]], word: &[u8]) -> bool
     ensures { IsTrue result ↔ Contains (map (λ w. w.now) words.now) word.now }
 {
     for i in 0..words.len() {
-        if has_word(words, i, word) {
+        if has_text(words, i, word) {
             return true;
         }
     }
@@ -107,7 +107,7 @@ fn is_among(words: &[&[u8]], word: &[u8]) -> bool
 }
 
 /// Whether the word at this place is the text.
-pub fn has_word(words: &[&[u8]], i: usize, text: &[u8]) -> bool
+pub fn has_text(words: &[&[u8]], i: usize, text: &[u8]) -> bool
     requires { i < length words.now }
     ensures { IsTrue result ↔ (slice_index_or (map (λ w. w.now) words.now) i [] ≡ text.now) }
 {

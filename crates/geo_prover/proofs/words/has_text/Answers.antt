@@ -1,7 +1,7 @@
 use Rattle.std.proofs.Common.{◌≡◌, ℕ, List}
 use Rattle.std.specs.Prelude.{IsTrue, ◌↔◌}
 use Rattle.geo_prover.proofs.Items.{at_place}
-use Rattle.geo_prover.proofs.words.has_word.Goals as goal
+use Rattle.geo_prover.proofs.words.has_text.Goals as goal
 
 pub returns : goal.returns
 returns c =
