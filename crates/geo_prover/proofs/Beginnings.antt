@@ -1,6 +1,6 @@
 -- Each program with these lines begins with the points that were read, and ends with its statement.
-use Rattle.std.proofs.Common.{◌≡◌, ℕ, zero, suc, ◌+◌, ◌<◌, ◌≤◌, List, [], ◌∷◌, ◌++◌, map, length, take, drop, get_or, refl, sym, ap, ◌∙◌, subst, inl, inr, arith}
-use Rattle.std.specs.Prelude.{All, Contains, codes}
+use Rattle.std.proofs.Common.{◌≡◌, ℕ, suc, ◌+◌, ◌<◌, List, [], ◌∷◌, ◌++◌, map, length, drop, get_or, refl, sym, ap, ◌∙◌, subst, arith}
+use Rattle.std.specs.Prelude.{Contains}
 use Rattle.std.specs.List.{join_with_byte}
 use Rattle.std.proofs.lemmas.List.Splits.{join_with_byte-slice_split}
 use Rattle.std.proofs.lemmas.List.{append-nil, append_assoc, drop_all, drop_more, get_or_at, length-append, length-map, take-append-drop}
@@ -9,8 +9,8 @@ use Rattle.geo_points.specs.declared.PointId.{PointId}
 use Rattle.geo_prover.specs.declared.program.Command.{Command}
 use Rattle.geo_prover.specs.declared.program.Command.TheVariants.{Point, Pratio}
 use Rattle.geo_prover.specs.declared.program.Program.{Program}
-use Rattle.geo_prover.specs.Program.{Word, AllDiffer, IsName, IsCommand, AreCommands, IsFirstForm, command_words, commands_words, program_words}
-use Rattle.geo_prover.specs.Reader.{AreDeclared, IsEnd, IsStatement, IsNext, IsSpelt, statement_line, text_words, words_of}
+use Rattle.geo_prover.specs.Program.{Word, AllDiffer, IsName, IsCommand, AreCommands, command_words, commands_words}
+use Rattle.geo_prover.specs.Reader.{AreDeclared, IsEnd, IsNext, IsSpelt, statement_line, words_of}
 use Rattle.geo_prover.proofs.Declaring.{Begins, begins_none, count_words, declared_more, none_declared, differ_before, line_at, made_at, unique, words_in_row, words_with_more}
 use Rattle.geo_prover.proofs.Shapes.{name_in_words}
 
@@ -27,7 +27,7 @@ count_lines lines p h =
     let front = commands_words p.names 0 p.commands in
     let goal = statement_line p.names p.a p.b p.c in
     let all : length (map words_of lines) ≡ length (front ++ goal ∷ []) + 1 =
-        ap length h.words ∙ length-append (front ++ goal ∷ []) (([] ∷ []) ∷ []) in
+    ap length h.words ∙ length-append (front ++ goal ∷ []) (([] ∷ []) ∷ []) in
     omega (arith, length-map lines words_of, all, length-append front (goal ∷ []), count_words p.names 0 p.commands)
 
 -- the line after the statement is empty, since it has one empty word
@@ -40,19 +40,19 @@ ends lines p h =
     let form = h.first_form in
     let front = commands_words p.names 0 p.commands ++ statement_line p.names p.a p.b p.c ∷ [] in
     let many : length front ≡ n + 1 =
-        length-append (commands_words p.names 0 p.commands) (statement_line p.names p.a p.b p.c ∷ [])
-        ∙ ap (λ k. k + 1) (count_words p.names 0 p.commands ∙ sym form.named) in
+    length-append (commands_words p.names 0 p.commands) (statement_line p.names p.a p.b p.c ∷ [])
+    ∙ ap (λ k. k + 1) (count_words p.names 0 p.commands ∙ sym form.named) in
     let last : words_of (get_or lines (n + 1) []) ≡ [] ∷ [] =
-        sym (line_at lines (n + 1)) ∙ ap (λ ws. get_or ws (n + 1) ([] ∷ [])) h.words ∙ get_or_at front ([] ∷ []) [] ([] ∷ []) (n + 1) many in
+    sym (line_at lines (n + 1)) ∙ ap (λ ws. get_or ws (n + 1) ([] ∷ [])) h.words ∙ get_or_at front ([] ∷ []) [] ([] ∷ []) (n + 1) many in
     record {
       count = omega (arith, count_lines lines p h, form.named);
       goal = record {
         spelt = line_of_statement lines p n form.named h;
         a_declared = omega (arith, form.a_declared, form.named);
         b_declared = omega (arith, form.b_declared, form.named);
-        c_declared = omega (arith, form.c_declared, form.named)
+        c_declared = omega (arith, form.c_declared, form.named);
       };
-      last = empty_line (get_or lines (n + 1) []) last
+      last = empty_line (get_or lines (n + 1) []) last;
     }
 
 two_not_seven : ◌≡◌ {A = ℕ} 2 7 → ⊥
@@ -80,38 +80,38 @@ continues lines p names more_names name commands more_commands command count h n
     let form = h.first_form in
     let goal = statement_line p.names p.a p.b p.c in
     let len : length p.commands ≡ length commands + suc (length more_commands) =
-        ap length commands_are ∙ length-append commands (command ∷ more_commands) in
+    ap length commands_are ∙ length-append commands (command ∷ more_commands) in
     let made : IsCommand n command =
-        let P : List Command → Type 0 = λ cs. AreCommands 0 cs in
-        made_at 0 n commands more_commands command (omega arith) (subst P commands_are form.commands) in
+    let P : List Command → Type 0 = λ cs. AreCommands 0 cs in
+    made_at 0 n commands more_commands command (omega arith) (subst P commands_are form.commands) in
     let named : get_or p.names n [] ≡ name =
-        ap (λ ns. get_or ns n []) names_are ∙ get_or_at names name more_names [] n refl in
+    ap (λ ns. get_or ns n []) names_are ∙ get_or_at names name more_names [] n refl in
     let front = commands_words p.names 0 commands in
     let rest = commands_words p.names (suc n) more_commands in
     let here = command_words p.names (get_or p.names n []) command in
     let row : map words_of lines ≡ front ++ here ∷ (rest ++ goal ∷ ([] ∷ []) ∷ []) =
-        h.words
-        ∙ ap (λ cs. (commands_words p.names 0 cs ++ goal ∷ []) ++ ([] ∷ []) ∷ []) commands_are
-        ∙ ap (λ ws. (ws ++ goal ∷ []) ++ ([] ∷ []) ∷ []) (words_in_row p.names 0 n commands (command ∷ more_commands) (omega arith))
-        ∙ append_assoc (front ++ here ∷ rest) (goal ∷ []) (([] ∷ []) ∷ [])
-        ∙ append_assoc front (here ∷ rest) (goal ∷ ([] ∷ []) ∷ []) in
+    h.words
+    ∙ ap (λ cs. (commands_words p.names 0 cs ++ goal ∷ []) ++ ([] ∷ []) ∷ []) commands_are
+    ∙ ap (λ ws. (ws ++ goal ∷ []) ++ ([] ∷ []) ∷ []) (words_in_row p.names 0 n commands (command ∷ more_commands) (omega arith))
+    ∙ append_assoc (front ++ here ∷ rest) (goal ∷ []) (([] ∷ []) ∷ [])
+    ∙ append_assoc front (here ∷ rest) (goal ∷ ([] ∷ []) ∷ []) in
     let line : words_of (get_or lines n []) ≡ here =
-        sym (line_at lines n) ∙ ap (λ ws. get_or ws n ([] ∷ [])) row
-        ∙ get_or_at front here (rest ++ goal ∷ ([] ∷ []) ∷ []) ([] ∷ []) n (count_words p.names 0 commands ∙ sym count) in
+    sym (line_at lines n) ∙ ap (λ ws. get_or ws n ([] ∷ [])) row
+    ∙ get_or_at front here (rest ++ goal ∷ ([] ∷ []) ∷ []) ([] ∷ []) n (count_words p.names 0 commands ∙ sym count) in
     let said : here ≡ command_words names name command =
-        ap (λ x. command_words p.names x command) named
-        ∙ ap (λ ns. command_words ns name command) names_are
-        ∙ words_with_more names (name ∷ more_names) name command made in
+    ap (λ x. command_words p.names x command) named
+    ∙ ap (λ ns. command_words ns name command) names_are
+    ∙ words_with_more names (name ∷ more_names) name command made in
     let is_name : IsName name =
-        let P : Word → Type 0 = λ w. IsName w in
-        subst P named (All-get_or IsName p.names n [] (omega (arith, form.named, len)) form.names) in
+    let P : Word → Type 0 = λ w. IsName w in
+    subst P named (All-get_or IsName p.names n [] (omega (arith, form.named, len)) form.names) in
     let new : Contains names name → ⊥ =
-        let P : List Word → Type 0 = λ ns. AllDiffer ns in
-        differ_before names more_names name (subst P names_are form.differ) in
+    let P : List Word → Type 0 = λ ns. AllDiffer ns in
+    differ_before names more_names name (subst P names_are form.differ) in
     record {
       next = record { spelt = line ∙ said; named = is_name; new = new; made = made };
       room = omega (arith, form.few, len);
-      within = omega (arith, count_lines lines p h, len)
+      within = omega (arith, count_lines lines p h, len);
     }
 
 nothing_more : (lines : List (List ℕ)) (names : List Word) (commands : List Command) → length names ≡ length commands
@@ -135,9 +135,10 @@ begins_all lines names commands d none p h b =
     nothing_more lines names commands d.count none p h b.more_names b.more_commands b.names_are b.commands_are
 
 same_next : (names words : List Word) (m n : Word) (b c : Command) → AllDiffer names → IsNext names words m b → IsNext names words n c → (m ≡ n) × (b ≡ c)
-same_next names words m n b c h j k =
-    ( sym (name_in_words names words m b j.spelt) ∙ name_in_words names words n c k.spelt
-    , unique names m n b c h j.made k.made (sym j.spelt ∙ k.spelt) )
+same_next names words m n b c h j k = (
+  sym (name_in_words names words m b j.spelt) ∙ name_in_words names words n c k.spelt,
+  unique names m n b c h j.made k.made (sym j.spelt ∙ k.spelt),
+)
 
 one_more : (lines : List (List ℕ)) (names : List Word) (commands : List Command) (name : Word) (command : Command) → AreDeclared lines names commands
     → IsNext names (words_of (get_or lines (length names) [])) name command
@@ -145,7 +146,7 @@ one_more : (lines : List (List ℕ)) (names : List Word) (commands : List Comman
     → Begins (names ++ name ∷ []) (commands ++ command ∷ []) p
 one_more lines names commands name command d next p h [] [] e f =
     let line : words_of (get_or lines (length names) []) ≡ statement_line p.names p.a p.b p.c =
-        line_of_statement lines p (length names) (omega (arith, d.count, ap length f, length-append commands [])) h in
+    line_of_statement lines p (length names) (omega (arith, d.count, ap length f, length-append commands [])) h in
     absurd (statement_no_command names p.names name command p.a p.b p.c (sym next.spelt ∙ line))
 one_more lines names commands name command d next p h [] (other ∷ more) e f =
     absurd (omega (arith, h.first_form.named, d.count, ap length e, ap length f, length-append names [], length-append commands (other ∷ more)))
@@ -158,7 +159,7 @@ one_more lines names commands name command d next p h (other ∷ more_names) (ma
       more_names = more_names;
       more_commands = more_commands;
       names_are = e ∙ sym (append_assoc names (other ∷ []) more_names) ∙ ap (λ x. (names ++ x ∷ []) ++ more_names) same.0;
-      commands_are = f ∙ sym (append_assoc commands (made ∷ []) more_commands) ∙ ap (λ x. (commands ++ x ∷ []) ++ more_commands) same.1
+      commands_are = f ∙ sym (append_assoc commands (made ∷ []) more_commands) ∙ ap (λ x. (commands ++ x ∷ []) ++ more_commands) same.1;
     }
 
 -- a program that begins with what was read begins with the next point too
@@ -184,14 +185,14 @@ spelt_from_end lines names commands a b c d h =
     let words = map words_of lines in
     let many : length words ≡ n + 2 = omega (arith, length-map lines words_of, h.count, d.count) in
     let goal : get_or words n ([] ∷ []) ≡ statement_line names a b c =
-        line_at lines n ∙ ap (λ i. words_of (get_or lines i [])) (sym d.count) ∙ h.goal.spelt in
+    line_at lines n ∙ ap (λ i. words_of (get_or lines i [])) (sym d.count) ∙ h.goal.spelt in
     let last : get_or words (n + 1) ([] ∷ []) ≡ [] ∷ [] =
-        line_at lines (n + 1) ∙ ap (λ i. words_of (get_or lines (i + 1) [])) (sym d.count) ∙ ap words_of h.last in
+    line_at lines (n + 1) ∙ ap (λ i. words_of (get_or lines (i + 1) [])) (sym d.count) ∙ ap words_of h.last in
     let tail : drop (n + 1) words ≡ ([] ∷ []) ∷ [] =
-        drop_more words (n + 1) ([] ∷ []) (omega arith) ∙ ap (λ x. x ∷ drop (n + 1 + 1) words) last
-        ∙ ap (λ x. ([] ∷ []) ∷ x) (drop_all (n + 1 + 1) words (omega arith)) in
+    drop_more words (n + 1) ([] ∷ []) (omega arith) ∙ ap (λ x. x ∷ drop (n + 1 + 1) words) last
+    ∙ ap (λ x. ([] ∷ []) ∷ x) (drop_all (n + 1 + 1) words (omega arith)) in
     let rest : drop n words ≡ statement_line names a b c ∷ ([] ∷ []) ∷ [] =
-        drop_more words n ([] ∷ []) (omega arith) ∙ ap (λ x. x ∷ drop (n + 1) words) goal ∙ ap (λ x. statement_line names a b c ∷ x) tail in
+    drop_more words n ([] ∷ []) (omega arith) ∙ ap (λ x. x ∷ drop (n + 1) words) goal ∙ ap (λ x. statement_line names a b c ∷ x) tail in
     record {
       first_form = record {
         named = d.count;
@@ -201,10 +202,10 @@ spelt_from_end lines names commands a b c d h =
         commands = d.made;
         a_declared = omega (arith, h.goal.a_declared, d.count);
         b_declared = omega (arith, h.goal.b_declared, d.count);
-        c_declared = omega (arith, h.goal.c_declared, d.count)
+        c_declared = omega (arith, h.goal.c_declared, d.count);
       };
       words = sym (take-append-drop n words) ∙ ap (λ x. x ++ drop n words) d.spelt ∙ ap (λ x. commands_words names 0 commands ++ x) rest
-        ∙ sym (append_assoc (commands_words names 0 commands) (statement_line names a b c ∷ []) (([] ∷ []) ∷ []))
+          ∙ sym (append_assoc (commands_words names 0 commands) (statement_line names a b c ∷ []) (([] ∷ []) ∷ []));
     }
 
 -- THE LOOP

@@ -1,18 +1,18 @@
 -- The points that the first lines declare, and the programs that begin with them.
-use Rattle.std.proofs.Common.{◌≡◌, ℕ, zero, suc, ◌+◌, ◌<◌, ◌≤◌, List, [], ◌∷◌, ◌++◌, map, length, take, drop, get_or, refl, sym, ap, ◌∙◌, subst, inl, inr, arith}
-use Rattle.std.specs.Prelude.{All, Contains, codes, ℤ}
+use Rattle.std.proofs.Common.{◌≡◌, ℕ, zero, suc, ◌+◌, ◌<◌, ◌≤◌, List, [], ◌∷◌, ◌++◌, map, length, take, get_or, refl, sym, ap, ◌∙◌, subst, inl, inr, arith}
+use Rattle.std.specs.Prelude.{Contains, codes}
 use Rattle.std.specs.Fmt.{signed_decimal}
 use Rattle.std.proofs.Math.ListN as ListN
-use Rattle.std.proofs.lemmas.List.{append-nil, append_assoc, drop_all, drop_more, get_or_append_left, get_or_at, length-append, length-map, length_push, take-append-drop, take_more}
-use Rattle.std.proofs.lemmas.List.Elements.{All-get_or, All-nil, All-push, All-same, Contains-append_right, Contains-get_or, Contains-push_cases}
+use Rattle.std.proofs.lemmas.List.{get_or_append_left, get_or_at, length-map, length_push, take_more}
+use Rattle.std.proofs.lemmas.List.Elements.{All-nil, All-push, Contains-append_right, Contains-get_or, Contains-push_cases}
 use Rattle.geo_points.specs.declared.PointId.{PointId}
 use Rattle.geo_prover.specs.declared.program.Command.{Command}
 use Rattle.geo_prover.specs.declared.program.Command.TheVariants.{Point, Pratio}
 use Rattle.geo_prover.specs.declared.program.Program.{Program}
-use Rattle.geo_prover.specs.Program.{Word, AllDiffer, IsName, IsCommand, AreCommands, IsFirstForm, name_of, command_words, commands_words}
-use Rattle.geo_prover.specs.Reader.{AreDeclared, IsDigit, IsEnd, IsStatement, IsNext, IsSpelt, statement_line, text_words, words_of}
+use Rattle.geo_prover.specs.Program.{Word, AllDiffer, IsName, IsCommand, AreCommands, name_of, command_words, commands_words}
+use Rattle.geo_prover.specs.Reader.{AreDeclared, IsNext, words_of}
 use Rattle.geo_prover.proofs.Digits.{digit-unique}
-use Rattle.geo_prover.proofs.Shapes.{digit_small, name_in_words, word_at}
+use Rattle.geo_prover.proofs.Shapes.{digit_small}
 
 -- NAMES THAT DIFFER
 
@@ -21,17 +21,18 @@ later_differ name names word h = Contains-append_right (name ∷ []) names word 
 
 differ_more : (names : List Word) (name : Word) → AllDiffer names → (Contains names name → ⊥) → AllDiffer (names ++ name ∷ [])
 differ_more [] name h new = (λ k. absurd (omega (arith, k.1)), tt)
-differ_more (first ∷ names) name h new =
-    ( λ k. elim (Contains-push_cases names name first k) [ inl i ↦ h.0 i | inr e ↦ new (0, omega arith, sym e) ]
-    , differ_more names name h.1 (λ k. new (later_differ first names name k)) )
+differ_more (first ∷ names) name h new = (
+  λ k. elim (Contains-push_cases names name first k) [ inl i ↦ h.0 i | inr e ↦ new (0, omega arith, sym e) ],
+  differ_more names name h.1 (λ k. new (later_differ first names name k)),
+)
 
 -- a name is not among those before it
 pub differ_before : (names more : List Word) (name : Word) → AllDiffer (names ++ name ∷ more) → Contains names name → ⊥
 differ_before [] more name h k = absurd (omega (arith, k.1))
-differ_before (first ∷ names) more name h (zero , lt , e) =
+differ_before (first ∷ names) more name h (zero, lt, e) =
     let P : Word → Type 0 = λ w. Contains (names ++ name ∷ more) w in
     h.0 (subst P (sym e) (Contains-append_right names (name ∷ more) name (0, omega arith, refl)))
-differ_before (first ∷ names) more name h (suc k , lt , e) = differ_before names more name h.1 (k, omega arith, e)
+differ_before (first ∷ names) more name h (suc k, lt, e) = differ_before names more name h.1 (k, omega arith, e)
 
 differ_at : (names : List Word) (i j : ℕ) → AllDiffer names → i < length names → j < length names → get_or names i [] ≡ get_or names j [] → i ≡ j
 differ_at [] i j h lt lu e = absurd (omega arith)
@@ -59,11 +60,11 @@ words_with_more names more name (Pratio w u v n d) h =
     let at_u = get_or_append_left names more [] u.0 h.1 in
     let at_v = get_or_append_left names more [] v.0 h.2 in
     ap (λ x. codes "pratio" ∷ name ∷ x ∷ name_of (names ++ more) u ∷ name_of (names ++ more) v
-      ∷ codes "div" ∷ codes "{" ∷ signed_decimal n ∷ codes "}" ∷ codes "{" ∷ signed_decimal d ∷ codes "}" ∷ []) at_w
+    ∷ codes "div" ∷ codes "{" ∷ signed_decimal n ∷ codes "}" ∷ codes "{" ∷ signed_decimal d ∷ codes "}" ∷ []) at_w
     ∙ ap (λ x. codes "pratio" ∷ name ∷ name_of names w ∷ x ∷ name_of (names ++ more) v
-      ∷ codes "div" ∷ codes "{" ∷ signed_decimal n ∷ codes "}" ∷ codes "{" ∷ signed_decimal d ∷ codes "}" ∷ []) at_u
+    ∷ codes "div" ∷ codes "{" ∷ signed_decimal n ∷ codes "}" ∷ codes "{" ∷ signed_decimal d ∷ codes "}" ∷ []) at_u
     ∙ ap (λ x. codes "pratio" ∷ name ∷ name_of names w ∷ name_of names u ∷ x
-      ∷ codes "div" ∷ codes "{" ∷ signed_decimal n ∷ codes "}" ∷ codes "{" ∷ signed_decimal d ∷ codes "}" ∷ []) at_v
+    ∷ codes "div" ∷ codes "{" ∷ signed_decimal n ∷ codes "}" ∷ codes "{" ∷ signed_decimal d ∷ codes "}" ∷ []) at_v
 
 command_below : (k n : ℕ) (command : Command) → k ≤ n → IsCommand k command → IsCommand n command
 command_below k n Point le made = tt
@@ -77,7 +78,7 @@ all_words_with_more names more k (command ∷ commands) h few =
     let at_k = get_or_append_left names more [] k (omega arith) in
     ap (λ x. command_words (names ++ more) x command ∷ commands_words (names ++ more) (suc k) commands) at_k
     ∙ ap (λ x. x ∷ commands_words (names ++ more) (suc k) commands)
-      (words_with_more names more (get_or names k []) command (command_below k (length names) command (omega arith) h.0))
+    (words_with_more names more (get_or names k []) command (command_below k (length names) command (omega arith) h.0))
     ∙ ap (λ x. command_words names (get_or names k []) command ∷ x) (all_words_with_more names more (suc k) commands h.1 (omega arith))
 
 pub words_in_row : (names : List Word) (k j : ℕ) (front rest : List Command) → j ≡ k + length front
@@ -117,7 +118,7 @@ unique names m n (Pratio w u v z d) (Pratio w' u' v' z' d') h j k e =
     let is_v : v ≡ v' = same_point names v v' h j.2 k.2 (ap (at 4) e) in
     let is_z : z ≡ z' = digit-unique (signed_decimal z) z z' (record { small = j.3; spelt = refl }) (record { small = k.3; spelt = ap (at 7) e }) in
     let is_d : d ≡ d' = digit-unique (signed_decimal d) d d'
-      (record { small = digit_small d j.4 j.5; spelt = refl }) (record { small = digit_small d' k.4 k.5; spelt = ap (at 10) e }) in
+    (record { small = digit_small d j.4 j.5; spelt = refl }) (record { small = digit_small d' k.4 k.5; spelt = ap (at 10) e }) in
     cc
 
 -- THE STEPS OF THE READER
@@ -136,7 +137,7 @@ none_declared lines = record {
   named = All-nil IsName;
   differ = tt;
   made = tt;
-  spelt = refl
+  spelt = refl;
 }
 
 pub begins_none : (p : Program) → Begins [] [] p
@@ -144,7 +145,7 @@ begins_none p = record {
   more_names = p.names;
   more_commands = p.commands;
   names_are = refl;
-  commands_are = refl
+  commands_are = refl;
 }
 
 pub line_at : (lines : List (List ℕ)) (i : ℕ) → get_or (map words_of lines) i ([] ∷ []) ≡ words_of (get_or lines i [])
@@ -160,14 +161,14 @@ declared_more lines names commands name command h room within next =
     let inside : n < length (map words_of lines) = omega (arith, length-map lines words_of, h.count) in
     let count : length (commands ++ command ∷ []) ≡ n + 1 = length_push commands command in
     let here : get_or (map words_of lines) n ([] ∷ []) ≡ command_words names name command =
-        line_at lines n ∙ ap (λ i. words_of (get_or lines i [])) (sym h.count) ∙ next.spelt in
+    line_at lines n ∙ ap (λ i. words_of (get_or lines i [])) (sym h.count) ∙ next.spelt in
     let named : get_or all n [] ≡ name = get_or_at names name [] [] n h.count in
     let last : command_words all (get_or all n []) command ≡ command_words names name command =
-        ap (λ x. command_words all x command) named ∙ words_with_more names (name ∷ []) name command next.made in
+    ap (λ x. command_words all x command) named ∙ words_with_more names (name ∷ []) name command next.made in
     let front : commands_words all 0 commands ≡ commands_words names 0 commands =
-        all_words_with_more names (name ∷ []) 0 commands h.made (omega (arith, h.count)) in
+    all_words_with_more names (name ∷ []) 0 commands h.made (omega (arith, h.count)) in
     let row : commands_words all 0 (commands ++ command ∷ []) ≡ commands_words all 0 commands ++ command_words all (get_or all n []) command ∷ [] =
-        words_in_row all 0 n commands (command ∷ []) (omega arith) in
+    words_in_row all 0 n commands (command ∷ []) (omega arith) in
     record {
       count = length_push names name ∙ ap (λ k. k + 1) h.count ∙ sym count;
       few = omega (arith, count, h.count);
@@ -175,7 +176,7 @@ declared_more lines names commands name command h room within next =
       differ = differ_more names name h.differ next.new;
       made = made_more 0 (length names) commands command (omega (arith, h.count)) h.made next.made;
       spelt = ap (λ k. take k (map words_of lines)) count ∙ take_more (map words_of lines) n ([] ∷ []) inside
-        ∙ ap (λ x. x ++ get_or (map words_of lines) n ([] ∷ []) ∷ []) h.spelt
-        ∙ ap (λ x. commands_words names 0 commands ++ x ∷ []) here
-        ∙ sym (row ∙ ap (λ x. x ++ command_words all (get_or all n []) command ∷ []) front ∙ ap (λ x. commands_words names 0 commands ++ x ∷ []) last)
+          ∙ ap (λ x. x ++ get_or (map words_of lines) n ([] ∷ []) ∷ []) h.spelt
+          ∙ ap (λ x. commands_words names 0 commands ++ x ∷ []) here
+          ∙ sym (row ∙ ap (λ x. x ++ command_words all (get_or all n []) command ∷ []) front ∙ ap (λ x. commands_words names 0 commands ++ x ∷ []) last);
     }

@@ -1,7 +1,7 @@
 -- The canonical decimals of one digit.
-use Rattle.std.proofs.Common.{◌≡◌, ℕ, suc, ◌+◌, ◌-◌, ◌<◌, ◌≤◌, ◌⊎◌, List, [], ◌∷◌, length, get_or, true, false, refl, sym, ap, ◌∙◌, inl, inr, arith}
+use Rattle.std.proofs.Common.{◌≡◌, ℕ, suc, ◌+◌, ◌-◌, ◌<◌, ◌≤◌, ◌⊎◌, [], ◌∷◌, length, get_or, true, false, refl, sym, ap, ◌∙◌, inl, inr, arith}
 use Rattle.std.specs.Prelude.{ℤ, pos, negsuc, ◌≤ℤ◌, unsigned_abs}
-use Rattle.std.specs.Fmt.{signed_decimal, decimal}
+use Rattle.std.specs.Fmt.{decimal}
 use Rattle.std.proofs.lemmas.Fmt.{decimal_digit, signed_decimal_injective}
 use Rattle.std.proofs.lemmas.Int.{ints, to_z-of_z}
 use mir.Val.{to_z, of_z}
@@ -42,7 +42,7 @@ two_items (b ∷ c ∷ d ∷ word) h = absurd (omega arith)
 bare_digit : (word : Word) (n : ℕ) → IsBareDigit word → get_or word 0 0 ≡ 48 + n → IsDigit word (pos n)
 bare_digit word n h e = record {
   small = omega (arith, h.2);
-  spelt = one_item word h.0 ∙ ap (λ b. b ∷ []) e ∙ sym (decimal_digit n (omega (arith, h.2)))
+  spelt = one_item word h.0 ∙ ap (λ b. b ∷ []) e ∙ sym (decimal_digit n (omega (arith, h.2)));
 }
 
 pub digit-from_bare : (word : Word) → IsBareDigit word → IsDigit word (pos (get_or word 0 0 - 48))
@@ -52,7 +52,7 @@ signed_digit : (word : Word) (n : ℕ) → IsSignedDigit word → get_or word 1 
 signed_digit word n h e = record {
   small = omega (arith, h.3);
   spelt = two_items word h.0 ∙ ap (λ b. b ∷ get_or word 1 0 ∷ []) h.1 ∙ ap (λ b. 45 ∷ b ∷ []) e
-    ∙ ap (λ w. 45 ∷ w) (sym (decimal_digit (suc n) (omega (arith, h.3))))
+      ∙ ap (λ w. 45 ∷ w) (sym (decimal_digit (suc n) (omega (arith, h.3))));
 }
 
 pub digit-from_signed : (word : Word) → IsSignedDigit word → IsDigit word (negsuc (get_or word 1 0 - 49))

@@ -1,13 +1,12 @@
 -- The words of a command and of a statement, from their places and back.
-use Rattle.std.proofs.Common.{◌≡◌, ℕ, suc, ◌+◌, ◌<◌, ◌≤◌, ◌⊎◌, List, [], ◌∷◌, map, length, get_or, refl, sym, ap, ◌∙◌, subst, inl, inr, arith}
+use Rattle.std.proofs.Common.{◌≡◌, ℕ, ◌<◌, ◌≤◌, ◌⊎◌, List, [], ◌∷◌, length, get_or, refl, sym, ap, ◌∙◌, subst, inl, inr, arith}
 use Rattle.std.specs.Prelude.{Contains, codes, ℤ, pos, ◌≤ℤ◌, unsigned_abs}
-use Rattle.std.specs.Fmt.{signed_decimal}
 use Rattle.std.proofs.lemmas.Int.{ints}
 use Rattle.std.proofs.lemmas.List.Elements.{Contains-get_or}
 use Rattle.geo_points.specs.declared.PointId.{PointId}
 use Rattle.geo_prover.specs.declared.program.Command.{Command}
 use Rattle.geo_prover.specs.declared.program.Command.TheVariants.{Point, Pratio}
-use Rattle.geo_prover.specs.Program.{Word, IsName, IsCommand, name_of, command_words}
+use Rattle.geo_prover.specs.Program.{Word, IsCommand, name_of, command_words}
 use Rattle.geo_prover.specs.Reader.{HasStatementWords, HasPratioWords, IsDigit, IsStatement, IsMade, IsNewName, IsNext, IsPoint, statement_line}
 use Rattle.geo_prover.proofs.Items.{items, items_from}
 use Rattle.geo_prover.proofs.Digits.{digit-unique}
@@ -36,7 +35,7 @@ statement_parts names words a b c h =
       keywords = (word_at words known 0 h.spelt, word_at words known 1 h.spelt, word_at words known 2 h.spelt, word_at words known 6 h.spelt);
       a = names_point names (get_or words 3 []) a h.a_declared (word_at words known 3 h.spelt);
       b = names_point names (get_or words 4 []) b h.b_declared (word_at words known 4 h.spelt);
-      c = names_point names (get_or words 5 []) c h.c_declared (word_at words known 5 h.spelt)
+      c = names_point names (get_or words 5 []) c h.c_declared (word_at words known 5 h.spelt);
     }
 
 pub statement_from_parts : (names words : List Word) (a b c : PointId) → length words ≡ 7 → HasStatementWords words
@@ -47,7 +46,7 @@ statement_from_parts names words a b c count h at_a at_b at_c =
       spelt = all ∙ same;
       a_declared = at_a.declared;
       b_declared = at_b.declared;
-      c_declared = at_c.declared
+      c_declared = at_c.declared;
     }
 
 -- A COMMAND
@@ -73,11 +72,17 @@ point_or_pratio : (names words : List Word) (name : Word) (command : Command) �
 point_or_pratio names words name Point e made = inl (ap length e, ap (λ w. get_or w 0 []) e)
 point_or_pratio names words name (Pratio w u v n d) e made =
     let known = command_words names name (Pratio w u v n d) in
-    inr
-    ( ap length e
-    , ( word_at words known 0 e, word_at words known 5 e, word_at words known 6 e, word_at words known 8 e, word_at words known 9 e
-      , word_at words known 11 e )
-    , record {
+    inr (
+      ap length e,
+      (
+        word_at words known 0 e,
+        word_at words known 5 e,
+        word_at words known 6 e,
+        word_at words known 8 e,
+        word_at words known 9 e,
+        word_at words known 11 e,
+      ),
+      record {
         w = names_point names (get_or words 2 []) w made.0 (word_at words known 2 e);
         u = names_point names (get_or words 3 []) u made.1 (word_at words known 3 e);
         v = names_point names (get_or words 4 []) v made.2 (word_at words known 4 e);
@@ -85,8 +90,9 @@ point_or_pratio names words name (Pratio w u v n d) e made =
         d = d;
         n_digit = record { small = made.3; spelt = word_at words known 7 e };
         d_digit = record { small = digit_small d made.4 made.5; spelt = word_at words known 10 e };
-        d_positive = made.4
-      } )
+        d_positive = made.4;
+      },
+    )
 
 pub made_cases : (names words : List Word) (command : Command) → IsMade names words command
     → ((length words ≡ 2) × (get_or words 0 [] ≡ codes "point")) ⊎ ((length words ≡ 12) × HasPratioWords words × PratioParts names words)
@@ -111,7 +117,7 @@ pratio_from_parts names words w u v n d count h at_w at_u at_v at_n at_d positiv
     let same : items words 0 12 ≡ command_words names (get_or words 1 []) (Pratio w u v n d) = cc in record {
       name = get_or words 1 [];
       spelt = all ∙ same;
-      made = (at_w.declared, at_u.declared, at_v.declared, at_n.small, positive, digit_low d at_d.small)
+      made = (at_w.declared, at_u.declared, at_v.declared, at_n.small, positive, digit_low d at_d.small);
     }
 
 -- no command has a number with the divisor d where d is below 1

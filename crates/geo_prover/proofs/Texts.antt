@@ -1,12 +1,12 @@
 -- The canonical text of a program, cut into lines and words.
 use Rattle.std.proofs.Common.{◌≡◌, ℕ, suc, ◌+◌, ◌<◌, ◌≤◌, Bool, true, false, ◌&&◌, not, eqb, List, [], ◌∷◌, ◌++◌, map, length, refl, sym, ap, ◌∙◌, subst, arith}
-use Rattle.std.specs.Prelude.{codes, ℤ, pos, negsuc, ◌≤ℤ◌, unsigned_abs, IsTrue, slice_index_or}
+use Rattle.std.specs.Prelude.{codes, ℤ, pos, negsuc, ◌≤ℤ◌, unsigned_abs, slice_index_or}
 use Rattle.std.specs.Fmt.{signed_decimal, decimal}
 use Rattle.std.specs.List.{All, list_all, join_with_byte, slice_split}
 use Rattle.std.proofs.lemmas.Bool.Decides.{nat_tests}
 use Rattle.std.proofs.lemmas.Fmt.{decimal_digit}
 use Rattle.std.proofs.lemmas.Int.{ints}
-use Rattle.std.proofs.lemmas.List.{map-append, get_or_append_left}
+use Rattle.std.proofs.lemmas.List.{map-append}
 use Rattle.std.proofs.lemmas.List.Elements.{All-append, All-cons, All-get_or, All-head, All-nil, All-tail, All-weaker}
 use Rattle.std.proofs.lemmas.List.Splits.{join_with_byte-slice_split}
 use Rattle.std.proofs.lemmas.List.Sums.{AllPass-from_list_all}
@@ -15,7 +15,7 @@ use Rattle.geo_prover.specs.declared.program.Command.{Command}
 use Rattle.geo_prover.specs.declared.program.Command.TheVariants.{Point, Pratio}
 use Rattle.geo_prover.specs.declared.program.Program.{Program}
 use Rattle.geo_prover.specs.Program.{Word, IsName, is_name_byte, IsCommand, AreCommands, IsFirstForm, name_of, command_words, commands_words, statement_words, program_words, program_lines, program_text}
-use Rattle.geo_prover.specs.Reader.{IsSpelt, text_words, words_of}
+use Rattle.geo_prover.specs.Reader.{IsSpelt, words_of}
 use Rattle.geo_prover.proofs.Splitting.{IsWithout, map-join-words, split-join, text_of-join}
 
 -- a byte that cuts neither lines nor words
@@ -45,20 +45,20 @@ plain word h =
     let all : All (λ b. is_plain b ≡ true) word = AllPass-from_list_all is_plain word h in
     record {
       spaces = All-weaker (λ b. is_plain b ≡ true) (λ b. eqb b 32 ≡ false) space_cuts word all;
-      feeds = All-weaker (λ b. is_plain b ≡ true) (λ b. eqb b 10 ≡ false) feed_cuts word all
+      feeds = All-weaker (λ b. is_plain b ≡ true) (λ b. eqb b 10 ≡ false) feed_cuts word all;
     }
 
 -- one byte, and a byte before a word
 byte_plain : (b : ℕ) → 32 < b → IsPlain (b ∷ [])
 byte_plain b h = record {
   spaces = All-cons (λ x. eqb x 32 ≡ false) b [] (grind (arith, nat_tests)) (All-nil (λ x. eqb x 32 ≡ false));
-  feeds = All-cons (λ x. eqb x 10 ≡ false) b [] (grind (arith, nat_tests)) (All-nil (λ x. eqb x 10 ≡ false))
+  feeds = All-cons (λ x. eqb x 10 ≡ false) b [] (grind (arith, nat_tests)) (All-nil (λ x. eqb x 10 ≡ false));
 }
 
 more_plain : (b : ℕ) (word : Word) → 32 < b → IsPlain word → IsPlain (b ∷ word)
 more_plain b word h p = record {
   spaces = All-cons (λ x. eqb x 32 ≡ false) b word (grind (arith, nat_tests)) p.spaces;
-  feeds = All-cons (λ x. eqb x 10 ≡ false) b word (grind (arith, nat_tests)) p.feeds
+  feeds = All-cons (λ x. eqb x 10 ≡ false) b word (grind (arith, nat_tests)) p.feeds;
 }
 
 name_space : (b : ℕ) → is_name_byte b ≡ true → eqb b 32 ≡ false
@@ -71,7 +71,7 @@ name_plain : (name : Word) → IsName name → IsPlain name
 name_plain name h =
     record {
       spaces = All-weaker (λ b. is_name_byte b ≡ true) (λ b. eqb b 32 ≡ false) name_space name h.rest;
-      feeds = All-weaker (λ b. is_name_byte b ≡ true) (λ b. eqb b 10 ≡ false) name_feed name h.rest
+      feeds = All-weaker (λ b. is_name_byte b ≡ true) (λ b. eqb b 10 ≡ false) name_feed name h.rest;
     }
 
 point_plain : (names : List Word) (q : PointId) → All IsName names → q.0 < length names → IsPlain (name_of names q)
@@ -98,8 +98,8 @@ words_of-line : (words : List Word) → IsClean words → words_of (join_with_by
 words_of-line words h =
     let P : List Word → Type 0 = λ w. words_of (join_with_byte 32 w) ≡ w in
     let all : All (IsWithout 32) (h.first ∷ h.more) =
-        let Q : List Word → Type 0 = λ w. All (IsWithout 32) w in
-        subst Q h.is (All-weaker IsPlain (IsWithout 32) (λ w p. p.spaces) words h.plain_words.each) in
+    let Q : List Word → Type 0 = λ w. All (IsWithout 32) w in
+    subst Q h.is (All-weaker IsPlain (IsWithout 32) (λ w p. p.spaces) words h.plain_words.each) in
     subst P (sym h.is) (split-join 32 h.first h.more all)
 
 -- the join of words without a byte, other than that between them, is without it
@@ -108,14 +108,14 @@ join_without word [] h = All-head (IsWithout 10) word [] h
 join_without word (next ∷ words) h =
     All-append (λ b. eqb b 10 ≡ false) word (32 ∷ join_with_byte 32 (next ∷ words)) (All-head (IsWithout 10) word (next ∷ words) h)
     (All-cons (λ b. eqb b 10 ≡ false) 32 (join_with_byte 32 (next ∷ words)) refl
-     (join_without next words (All-tail (IsWithout 10) word (next ∷ words) h)))
+    (join_without next words (All-tail (IsWithout 10) word (next ∷ words) h)))
 
 line_without : (words : List Word) → IsClean words → IsWithout 10 (join_with_byte 32 words)
 line_without words h =
     let P : List Word → Type 0 = λ w. IsWithout 10 (join_with_byte 32 w) in
     let Q : List Word → Type 0 = λ w. All (IsWithout 10) w in
     let all : All (IsWithout 10) (h.first ∷ h.more) =
-        subst Q h.is (All-weaker IsPlain (IsWithout 10) (λ w p. p.feeds) words h.plain_words.each) in
+    subst Q h.is (All-weaker IsPlain (IsWithout 10) (λ w p. p.feeds) words h.plain_words.each) in
     subst P (sym h.is) (join_without h.first h.more all)
 
 lines_without : (lines : List (List Word)) → All IsClean lines → All (IsWithout 10) (map (join_with_byte 32) lines)
@@ -156,16 +156,16 @@ command_clean names name Point all named made = record {
   first = codes "point";
   more = name ∷ [];
   is = refl;
-  plain_words = plain (codes "point") refl ⟨ name_plain name named ⟨ end
+  plain_words = plain (codes "point") refl ⟨ name_plain name named ⟨ end;
 }
 command_clean names name (Pratio w u v n d) all named made = record {
   first = codes "pratio";
   more = name ∷ name_of names w ∷ name_of names u ∷ name_of names v
-    ∷ codes "div" ∷ codes "{" ∷ signed_decimal n ∷ codes "}" ∷ codes "{" ∷ signed_decimal d ∷ codes "}" ∷ [];
+      ∷ codes "div" ∷ codes "{" ∷ signed_decimal n ∷ codes "}" ∷ codes "{" ∷ signed_decimal d ∷ codes "}" ∷ [];
   is = refl;
   plain_words = plain (codes "pratio") refl ⟨ name_plain name named ⟨ point_plain names w all made.0 ⟨ point_plain names u all made.1
-    ⟨ point_plain names v all made.2 ⟨ plain (codes "div") refl ⟨ opens ⟨ number_plain n made.3 ⟨ closes ⟨ opens
-    ⟨ number_plain d (digit_small d made.4 made.5) ⟨ closes ⟨ end
+      ⟨ point_plain names v all made.2 ⟨ plain (codes "div") refl ⟨ opens ⟨ number_plain n made.3 ⟨ closes ⟨ opens
+      ⟨ number_plain d (digit_small d made.4 made.5) ⟨ closes ⟨ end;
 }
 
 command_below : (k n : ℕ) (command : Command) → k ≤ n → IsCommand k command → IsCommand n command
@@ -191,9 +191,9 @@ program_clean p h =
       more = codes "{" ∷ statement_words p ++ codes "}" ∷ [];
       is = refl;
       plain_words = plain (codes "prove") refl ⟨ opens ⟨ plain (codes "collinear") refl
-        ⟨ point_plain p.names p.a h.names (omega (arith, h.named, h.a_declared))
-        ⟨ point_plain p.names p.b h.names (omega (arith, h.named, h.b_declared))
-        ⟨ point_plain p.names p.c h.names (omega (arith, h.named, h.c_declared)) ⟨ closes ⟨ end
+          ⟨ point_plain p.names p.a h.names (omega (arith, h.named, h.a_declared))
+          ⟨ point_plain p.names p.b h.names (omega (arith, h.named, h.b_declared))
+          ⟨ point_plain p.names p.c h.names (omega (arith, h.named, h.c_declared)) ⟨ closes ⟨ end;
     } in
     All-append IsClean (commands_words p.names 0 p.commands) (goal ∷ [])
     (commands_clean p.names 0 p.commands h.names h.commands (omega (arith, h.named)))
@@ -204,7 +204,7 @@ split_end [] h = refl
 split_end (line ∷ lines) h =
     split-join 10 line (lines ++ [] ∷ [])
     (All-append (IsWithout 10) (line ∷ lines) ([] ∷ []) h
-     (All-cons (IsWithout 10) [] [] (All-nil (λ b. eqb b 10 ≡ false)) (All-nil (IsWithout 10))))
+    (All-cons (IsWithout 10) [] [] (All-nil (λ b. eqb b 10 ≡ false)) (All-nil (IsWithout 10))))
 
 -- BOTH WAYS
 
@@ -218,13 +218,13 @@ pub text_from_spelt : (bytes : List ℕ) (p : Program) → IsSpelt (slice_split 
 text_from_spelt bytes p h =
     let lines = slice_split (λ b. eqb b 10) bytes in
     let same : lines ≡ program_lines p ++ [] ∷ [] =
-        sym (map-join-words lines) ∙ ap (map (join_with_byte 32)) h.words ∙ map-append (join_with_byte 32) (program_words p) (([] ∷ []) ∷ []) in
+    sym (map-join-words lines) ∙ ap (map (join_with_byte 32)) h.words ∙ map-append (join_with_byte 32) (program_words p) (([] ∷ []) ∷ []) in
     sym (join_with_byte-slice_split 10 bytes) ∙ ap (join_with_byte 10) same ∙ sym (text_of-join (program_lines p))
 
 pub spelt_from_text : (bytes : List ℕ) (p : Program) → IsFirstForm p → bytes ≡ program_text p → IsSpelt (slice_split (λ b. eqb b 10) bytes) p
 spelt_from_text bytes p h e = record {
   first_form = h;
   words = ap (map words_of) (ap (slice_split (λ b. eqb b 10)) e ∙ lines-program_text p h)
-    ∙ map-append words_of (program_lines p) ([] ∷ [])
-    ∙ ap (λ w. w ++ ([] ∷ []) ∷ []) (map-words-join (program_words p) (program_clean p h))
+      ∙ map-append words_of (program_lines p) ([] ∷ [])
+      ∙ ap (λ w. w ++ ([] ∷ []) ∷ []) (map-words-join (program_words p) (program_clean p h));
 }

@@ -1,5 +1,5 @@
 -- What the steps of the reader find in the words of lines.
-use Rattle.std.specs.Prelude.{◌≡◌, ℕ, suc, ◌+◌, ◌<◌, ◌≤◌, ◌==◌, All, Contains, codes, ℤ, unsigned_abs, List, [], ◌∷◌, ◌++◌, map, length, take, drop, slice_index, slice_index_or}
+use Rattle.std.specs.Prelude.{◌≡◌, ℕ, ◌+◌, ◌<◌, ◌≤◌, ◌==◌, All, Contains, codes, ℤ, unsigned_abs, List, [], ◌∷◌, ◌++◌, map, length, take, slice_index, slice_index_or}
 use Rattle.std.specs.Fmt.{signed_decimal}
 use Rattle.std.specs.List.{slice_split}
 use Rattle.geo_points.specs.declared.PointId.{PointId}

@@ -41,9 +41,9 @@ struct Declared {
 /// The program of the first form whose canonical text the bytes are, where there is one.
 pub fn read_program(alloc: Global, bytes: &[u8]) -> Result<Option<Program>, NoMemory>
     ensures some { IfOk result (λ o. IfSome o (λ p.
-      IsFirstForm p × (bytes.now ≡ program_text p))) }
+        IsFirstForm p × (bytes.now ≡ program_text p))) }
     ensures none { IfOk result (λ o. IfNone o ((p : Program) → IsFirstForm p
-      → bytes.now ≡ program_text p → ⊥)) }
+        → bytes.now ≡ program_text p → ⊥)) }
 {
     let lines = cut(alloc, bytes, b'\n')?;
     read_lines(alloc, &lines)
@@ -53,13 +53,17 @@ pub fn read_program(alloc: Global, bytes: &[u8]) -> Result<Option<Program>, NoMe
 fn read_lines(alloc: Global, lines: &[&[u8]]) -> Result<Option<Program>, NoMemory>
     ensures some { IfOk result (λ o. IfSome o (λ p. IsSpelt (map (λ l. l.now) lines.now) p)) }
     ensures none { IfOk result (λ o. IfNone o ((p : Program)
-      → IsSpelt (map (λ l. l.now) lines.now) p → ⊥)) }
+        → IsSpelt (map (λ l. l.now) lines.now) p → ⊥)) }
 {
     let declared = read_commands(alloc, lines)?;
     match read_end(alloc, lines, &declared.names)? {
         Some(Statement { a, b, c }) => Ok(Some(Program {
-            names: Names { items: declared.names },
-            commands: Commands { items: declared.commands },
+            names: Names {
+                items: declared.names,
+            },
+            commands: Commands {
+                items: declared.commands,
+            },
             a,
             b,
             c,
@@ -71,9 +75,9 @@ fn read_lines(alloc: Global, lines: &[&[u8]]) -> Result<Option<Program>, NoMemor
 // The points of the first lines, up to one that declares none or to the greatest number.
 fn read_commands(alloc: Global, lines: &[&[u8]]) -> Result<Declared, NoMemory>
     ensures declared { IfOk result (λ d.
-      AreDeclared (map (λ l. l.now) lines.now) d.names.items d.commands.items) }
+        AreDeclared (map (λ l. l.now) lines.now) d.names.items d.commands.items) }
     ensures all { IfOk result (λ d. (p : Program) → IsSpelt (map (λ l. l.now) lines.now) p
-      → (p.names ≡ d.names.items) × (p.commands ≡ d.commands.items)) }
+        → (p.names ≡ d.names.items) × (p.commands ≡ d.commands.items)) }
 {
     let mut names = Vec::new(alloc);
     let mut commands = Vec::new(alloc);
@@ -93,15 +97,15 @@ fn read_next<'a>(
 ) -> Result<Option<Next<'a>>, NoMemory>
     requires { length names.now ≤ 16 }
     ensures room { IfOk result (λ o. IfSome o (λ next.
-      (length names.now < 16) × (length names.now < length lines.now))) }
+        (length names.now < 16) × (length names.now < length lines.now))) }
     ensures some { IfOk result (λ o. IfSome o (λ next. IsNext names.now
-      (words_of (slice_index_or (map (λ l. l.now) lines.now) (length names.now) []))
-      next.name.now next.command)) }
+        (words_of (slice_index_or (map (λ l. l.now) lines.now) (length names.now) []))
+        next.name.now next.command)) }
     ensures none { IfOk result (λ o. IfNone o ((name : Word) → (command : Command)
-      → length names.now < 16 → length names.now < length lines.now
-      → IsNext names.now
+        → length names.now < 16 → length names.now < length lines.now
+        → IsNext names.now
         (words_of (slice_index_or (map (λ l. l.now) lines.now) (length names.now) [])) name command
-      → ⊥)) }
+        → ⊥)) }
 {
     if names.len() >= MOST_POINTS || names.len() >= lines.len() {
         return Ok(None);
@@ -114,9 +118,9 @@ fn read_next<'a>(
 fn read_words<'a>(words: &[&'a [u8]], names: &[Text]) -> Option<Next<'a>>
     requires { length names.now ≤ 16 }
     ensures some { IfSome result (λ next.
-      IsNext names.now (map (λ w. w.now) words.now) next.name.now next.command) }
+        IsNext names.now (map (λ w. w.now) words.now) next.name.now next.command) }
     ensures none { IfNone result ((name : Word) → (command : Command)
-      → IsNext names.now (map (λ w. w.now) words.now) name command → ⊥) }
+        → IsNext names.now (map (λ w. w.now) words.now) name command → ⊥) }
 {
     let command = read_command(words, names)?;
     if !is_new_at(names, words, 1) {
@@ -149,7 +153,7 @@ fn read_command(words: &[&[u8]], names: &[Text]) -> Option<Command>
     requires { length names.now ≤ 16 }
     ensures some { IfSome result (λ command. IsMade names.now (map (λ w. w.now) words.now) command) }
     ensures none { IfNone result ((command : Command)
-      → IsMade names.now (map (λ w. w.now) words.now) command → ⊥) }
+        → IsMade names.now (map (λ w. w.now) words.now) command → ⊥) }
 {
     match words.len() {
         2 if has_text(words, 0, b"point") => Some(Command::Point),
@@ -178,7 +182,7 @@ fn read_pratio(words: &[&[u8]], names: &[Text]) -> Option<Command>
     requires shape { HasPratioWords (map (λ w. w.now) words.now) }
     ensures some { IfSome result (λ command. IsMade names.now (map (λ w. w.now) words.now) command) }
     ensures none { IfNone result ((command : Command)
-      → IsMade names.now (map (λ w. w.now) words.now) command → ⊥) }
+        → IsMade names.now (map (λ w. w.now) words.now) command → ⊥) }
 {
     let w = point_at(names, words, 2)?;
     let u = point_at(names, words, 3)?;
@@ -195,9 +199,9 @@ fn read_pratio(words: &[&[u8]], names: &[Text]) -> Option<Command>
 fn read_end(alloc: Global, lines: &[&[u8]], names: &[Text]) -> Result<Option<Statement>, NoMemory>
     requires { length names.now ≤ 16 }
     ensures some { IfOk result (λ o. IfSome o (λ g.
-      IsEnd (map (λ l. l.now) lines.now) names.now g.a g.b g.c)) }
+        IsEnd (map (λ l. l.now) lines.now) names.now g.a g.b g.c)) }
     ensures none { IfOk result (λ o. IfNone o ((a b c : PointId)
-      → IsEnd (map (λ l. l.now) lines.now) names.now a b c → ⊥)) }
+        → IsEnd (map (λ l. l.now) lines.now) names.now a b c → ⊥)) }
 {
     let count = names.len();
     if lines.len() != count + 2 || !has_text(lines, count + 1, b"") {
@@ -211,9 +215,9 @@ fn read_end(alloc: Global, lines: &[&[u8]], names: &[Text]) -> Result<Option<Sta
 fn read_statement(words: &[&[u8]], names: &[Text]) -> Option<Statement>
     requires { length names.now ≤ 16 }
     ensures some { IfSome result (λ g.
-      IsStatement names.now (map (λ w. w.now) words.now) g.a g.b g.c) }
+        IsStatement names.now (map (λ w. w.now) words.now) g.a g.b g.c) }
     ensures none { IfNone result ((a b c : PointId)
-      → IsStatement names.now (map (λ w. w.now) words.now) a b c → ⊥) }
+        → IsStatement names.now (map (λ w. w.now) words.now) a b c → ⊥) }
 {
     if words.len() != 7 || !is_statement(words) {
         return None;
@@ -240,9 +244,9 @@ fn point_at(names: &[Text], words: &[&[u8]], i: usize) -> Option<PointId>
     requires few { length names.now ≤ 16 }
     requires within { i < length words.now }
     ensures some { IfSome result (λ q.
-      IsPoint names.now (slice_index_or (map (λ w. w.now) words.now) i []) q) }
+        IsPoint names.now (slice_index_or (map (λ w. w.now) words.now) i []) q) }
     ensures none { IfNone result (Contains names.now
-      (slice_index_or (map (λ w. w.now) words.now) i []) → ⊥) }
+        (slice_index_or (map (λ w. w.now) words.now) i []) → ⊥) }
 {
     find_point(names, words[i])
 }
@@ -252,7 +256,7 @@ fn digit_at(words: &[&[u8]], i: usize) -> Option<i128>
     requires { i < length words.now }
     ensures some { IfSome result (λ n. IsDigit (slice_index_or (map (λ w. w.now) words.now) i []) n) }
     ensures none { IfNone result ((n : ℤ)
-      → IsDigit (slice_index_or (map (λ w. w.now) words.now) i []) n → ⊥) }
+        → IsDigit (slice_index_or (map (λ w. w.now) words.now) i []) n → ⊥) }
 {
     read_digit(words[i])
 }
@@ -261,7 +265,7 @@ fn digit_at(words: &[&[u8]], i: usize) -> Option<i128>
 fn line_words<'a>(alloc: Global, lines: &[&'a [u8]], i: usize) -> Result<Vec<&'a [u8]>, NoMemory>
     requires { i < length lines.now }
     ensures { IfOk result (λ words. map (λ w. w.now) words.items
-      ≡ words_of (slice_index_or (map (λ l. l.now) lines.now) i [])) }
+        ≡ words_of (slice_index_or (map (λ l. l.now) lines.now) i [])) }
 {
     let words = cut(alloc, lines[i], b' ')?;
     Ok(words)
@@ -270,7 +274,7 @@ fn line_words<'a>(alloc: Global, lines: &[&'a [u8]], i: usize) -> Result<Vec<&'a
 // The pieces between the bytes that are `separator`.
 fn cut<'a>(alloc: Global, bytes: &'a [u8], separator: u8) -> Result<Vec<&'a [u8]>, AllocError>
     ensures { IfOk result (λ pieces. map (λ x. x.now) pieces.items
-      ≡ slice_split (λ b. b == separator) bytes.now) }
+        ≡ slice_split (λ b. b == separator) bytes.now) }
 {
     bytes.split(|byte| *byte == separator).collect(alloc)
 }

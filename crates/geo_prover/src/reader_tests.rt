@@ -9,8 +9,7 @@ const LONG: &str = "a12345678901234567890123456789012345678901234567890123456789
 
 #[test]
 fn reads_the_middle_of_two_points(rt: HostRuntime) -> Result<(), Fail> {
-    let text =
-        "point A\npoint B\npratio M A A B div { 1 } { 2 }\nprove { collinear A M B }\n";
+    let text = "point A\npoint B\npratio M A A B div { 1 } { 2 }\nprove { collinear A M B }\n";
     let program = read_program(rt.alloc(), text.as_bytes())?.expect(&rt, "a program");
     let mut names = Vec::new(rt.alloc());
     for name in &program.names.items {
@@ -57,7 +56,11 @@ fn reads_canonical_texts_alone(rt: HostRuntime) -> Result<(), Fail> {
         ("point 1\npoint A", end, false),
         ("point A\npoint A", end, false),
         ("pratio A A A A div { 1 } { 2 }", end, false),
-        ("point A\npratio B A A C div { 1 } { 2 }\npoint C", end, false),
+        (
+            "point A\npratio B A A C div { 1 } { 2 }\npoint C",
+            end,
+            false,
+        ),
         ("point A\npratio B A A A div { -0 } { 1 }", end, false),
         ("point A\npratio B A A A div { 01 } { 1 }", end, false),
         ("point A\npratio B A A A div { 10 } { 1 }", end, false),
@@ -77,7 +80,9 @@ fn reads_canonical_texts_alone(rt: HostRuntime) -> Result<(), Fail> {
 #[test]
 fn reads_names_of_64_bytes(rt: HostRuntime) -> Result<(), Fail> {
     for (more, want) in [("", true), ("4", false)] {
-        let text = format!(in rt.alloc(); "point A\npoint {LONG}{more}\nprove {{ collinear A A A }}\n")?;
+        let text = format!(in rt.alloc();
+            "point A\npoint {LONG}{more}\nprove {{ collinear A A A }}\n"
+        )?;
         let read = read_program(rt.alloc(), text.as_bytes())?;
         assert_eq!(rt; read.is_some(), want, "{text}");
     }

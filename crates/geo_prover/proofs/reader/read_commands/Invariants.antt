@@ -1,4 +1,4 @@
-use Rattle.std.proofs.Common.{ℕ, ◌-◌, map, length}
+use Rattle.std.proofs.Common.{◌-◌, map, length}
 use Rattle.geo_prover.specs.declared.program.Program.{Program}
 use Rattle.geo_prover.specs.Reader.{AreDeclared, IsSpelt}
 use Rattle.geo_prover.proofs.Declaring.{Begins}
@@ -8,7 +8,7 @@ use Rattle.geo_prover.proofs.reader.read_commands.Given as goal
 abbrev pub invariant-loop-commands : goal.invariant-loop-commands
 invariant-loop-commands l = record {
   declared : AreDeclared (map (λ line. line.now) l.lines) l.names.items l.commands.items;
-  begins : (p : Program) → IsSpelt (map (λ line. line.now) l.lines) p → Begins l.names.items l.commands.items p
+  begins : (p : Program) → IsSpelt (map (λ line. line.now) l.lines) p → Begins l.names.items l.commands.items p;
 }
 
 abbrev pub decreases-loop-commands : goal.decreases-loop-commands

@@ -1,4 +1,4 @@
-use Rattle.std.proofs.Common.{◌≡◌, ℕ, List, map, sym, subst, ◌∙◌}
+use Rattle.std.proofs.Common.{ℕ, List, map, sym, subst, ◌∙◌}
 use Rattle.geo_points.specs.declared.PointId.{PointId}
 use Rattle.geo_prover.specs.Program.{Word}
 use Rattle.geo_prover.specs.Reader.{IsEnd}

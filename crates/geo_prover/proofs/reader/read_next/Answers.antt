@@ -1,8 +1,8 @@
-use Rattle.std.proofs.Common.{◌≡◌, List, ℕ, map, length, subst, ap, ◌∙◌, ◌<◌}
+use Rattle.std.proofs.Common.{List, map, subst, ap, ◌∙◌}
 use Rattle.std.specs.Prelude.{IfNone, IfSome}
 use Rattle.geo_prover.specs.declared.program.Command.{Command}
 use Rattle.geo_prover.specs.Program.{Word}
-use Rattle.geo_prover.specs.Reader.{IsNext, words_of}
+use Rattle.geo_prover.specs.Reader.{IsNext}
 use Rattle.geo_prover.proofs.Items.{none_weaker}
 use Rattle.geo_prover.proofs.reader.read_next.Goals as goal
 

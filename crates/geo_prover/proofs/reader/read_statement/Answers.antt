@@ -20,4 +20,3 @@ returns-in_err-b-clause-none c =
 pub returns-in_err-c-clause-none : goal.returns-in_err-c-clause-none
 returns-in_err-c-clause-none c =
     rw c.from_residual-in_err-c.ensures (λ p q r h. c.in_err-c.ensures.none (statement_parts c.args.names.now (map (λ w. w.now) c.args.words.now) p q r h).c)
-
