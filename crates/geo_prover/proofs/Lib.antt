@@ -5,3 +5,10 @@ pub mod RowValues
 pub mod Meeting
 pub mod ChainValues
 pub mod DefinedChains
+pub mod Splitting
+pub mod Texts
+pub mod Items
+pub mod Digits
+pub mod Shapes
+pub mod Declaring
+pub mod Beginnings

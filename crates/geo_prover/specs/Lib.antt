@@ -5,3 +5,4 @@ pub mod Moves
 pub mod Logs
 pub mod FirstLog
 pub mod Laws
+pub mod Reader

@@ -7,3 +7,7 @@ pub mod laws;
 pub mod log;
 pub mod program;
 mod quantities;
+pub mod reader;
+#[cfg(test)]
+mod reader_tests;
+mod words;
