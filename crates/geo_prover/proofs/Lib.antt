@@ -12,3 +12,5 @@ pub mod Digits
 pub mod Shapes
 pub mod Declaring
 pub mod Beginnings
+pub mod Kept
+pub mod Started
