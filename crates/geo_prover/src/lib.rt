@@ -4,3 +4,4 @@
 pub mod first;
 pub mod log;
 pub mod program;
+pub mod writer;
