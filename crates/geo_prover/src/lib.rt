@@ -5,3 +5,5 @@ pub mod first;
 pub mod log;
 pub mod program;
 pub mod writer;
+#[cfg(test)]
+mod writer_tests;

@@ -66,7 +66,7 @@ fn push_goal(alloc: Global, out: &mut Vec<u8>, k: u32, text: &Text) -> Result<()
     ensures { OnOk result (out.new.items ≡ out.old.items ++ line_text (Line.Goal k text.now)) }
 {
     out.extend_from_slice(b"goal ")?;
-    push_decimal(alloc, out, k)?;
+    push_number(alloc, out, k)?;
     out.extend_from_slice(b" ")?;
     out.extend_from_slice(&text.bytes)?;
     Ok(())
@@ -77,7 +77,7 @@ fn push_point(alloc: Global, out: &mut Vec<u8>, at: PointId, poly: &Poly) -> Res
     ensures { OnOk result (out.new.items ≡ out.old.items ++ line_text (Line.Point at poly.now)) }
 {
     out.extend_from_slice(b"point ")?;
-    push_decimal(alloc, out, at.0)?;
+    push_number(alloc, out, at.0)?;
     out.extend_from_slice(b" : ")?;
     push_polynomial(alloc, out, poly)
 }
@@ -110,7 +110,7 @@ fn push_value(alloc: Global, out: &mut Vec<u8>, variable: Var, value: i128) -> R
     out.extend_from_slice(b" ")?;
     push_variable(alloc, out, variable)?;
     out.extend_from_slice(b"=")?;
-    push_signed(alloc, out, value)
+    push_integer(alloc, out, value)
 }
 
 /// Appends a verdict, with the number that it has.
@@ -119,18 +119,18 @@ fn push_verdict(alloc: Global, out: &mut Vec<u8>, verdict: Verdict) -> Result<()
 {
     match verdict {
         Verdict::Proved => out.extend_from_slice(b"proved")?,
-        Verdict::False(goal) => push_numbered(alloc, out, b"false ", goal)?,
-        Verdict::Impossible(condition) => push_numbered(alloc, out, b"impossible ", condition)?,
+        Verdict::False(goal) => push_labelled(alloc, out, b"false ", goal)?,
+        Verdict::Impossible(condition) => push_labelled(alloc, out, b"impossible ", condition)?,
     }
     Ok(())
 }
 
-/// Appends a text, and then a number.
-fn push_numbered(alloc: Global, out: &mut Vec<u8>, text: &[u8], n: u32) -> Result<(), NoMemory>
-    ensures { OnOk result (out.new.items ≡ out.old.items ++ (text.now ++ decimal n)) }
+/// Appends a label, and then a number.
+fn push_labelled(alloc: Global, out: &mut Vec<u8>, label: &[u8], n: u32) -> Result<(), NoMemory>
+    ensures { OnOk result (out.new.items ≡ out.old.items ++ (label.now ++ decimal n)) }
 {
-    out.extend_from_slice(text)?;
-    push_decimal(alloc, out, n)
+    out.extend_from_slice(label)?;
+    push_number(alloc, out, n)
 }
 
 /// Appends the terms with single spaces between them, or `0` where there is none.
@@ -169,14 +169,14 @@ fn push_coefficient(alloc: Global, out: &mut Vec<u8>, c: i128) -> Result<(), NoM
     if c >= 0 {
         out.push(b'+')?;
     }
-    push_signed(alloc, out, c)
+    push_integer(alloc, out, c)
 }
 
 /// Appends the number and the powers of a factor.
 fn push_factor(alloc: Global, out: &mut Vec<u8>, factor: &Factor) -> Result<(), NoMemory>
     ensures { OnOk result (out.new.items ≡ out.old.items ++ factor_text factor.now) }
 {
-    push_signed(alloc, out, factor.coef())?;
+    push_integer(alloc, out, factor.coef())?;
     for j in 0..factor.powers() {
         let (variable, exponent) = factor.power(j);
         push_power(alloc, out, variable, exponent)?;
@@ -197,7 +197,7 @@ fn push_power(
     push_variable(alloc, out, variable)?;
     if exponent != 1 {
         out.extend_from_slice(b"^")?;
-        push_decimal(alloc, out, exponent)?;
+        push_number(alloc, out, exponent)?;
     }
     Ok(())
 }
@@ -207,17 +207,17 @@ fn push_variable(alloc: Global, out: &mut Vec<u8>, variable: Var) -> Result<(), 
     ensures { OnOk result (out.new.items ≡ out.old.items ++ variable_name variable) }
 {
     match variable {
-        Var::R(a, b, c, d) => push_numbers(alloc, out, b'R', a.0, &[b.0, c.0, d.0]),
-        Var::S(a, b, c) => push_numbers(alloc, out, b'S', a.0, &[b.0, c.0]),
-        Var::P(a, b, c) => push_numbers(alloc, out, b'P', a.0, &[b.0, c.0]),
-        Var::X(a) => push_numbers(alloc, out, b'x', a.0, &[]),
-        Var::Y(a) => push_numbers(alloc, out, b'y', a.0, &[]),
-        Var::T(t) => push_numbers(alloc, out, b't', t.0, &[]),
+        Var::R(a, b, c, d) => push_name(alloc, out, b'R', a.0, &[b.0, c.0, d.0]),
+        Var::S(a, b, c) => push_name(alloc, out, b'S', a.0, &[b.0, c.0]),
+        Var::P(a, b, c) => push_name(alloc, out, b'P', a.0, &[b.0, c.0]),
+        Var::X(a) => push_name(alloc, out, b'x', a.0, &[]),
+        Var::Y(a) => push_name(alloc, out, b'y', a.0, &[]),
+        Var::T(t) => push_name(alloc, out, b't', t.0, &[]),
     }
 }
 
 /// Appends a letter, and numbers with dots between them.
-fn push_numbers(
+fn push_name(
     alloc: Global,
     out: &mut Vec<u8>,
     letter: u8,
@@ -228,27 +228,24 @@ fn push_numbers(
         ≡ out.old.items ++ (letter ∷ numbers_text (first ∷ others.now))) }
 {
     out.push(letter)?;
-    push_decimal(alloc, out, first)?;
+    push_number(alloc, out, first)?;
     for number in others {
         out.push(b'.')?;
-        push_decimal(alloc, out, *number)?;
+        push_number(alloc, out, *number)?;
     }
     Ok(())
 }
 
 /// Appends the digits of a number.
-fn push_decimal(alloc: Global, out: &mut Vec<u8>, n: u32) -> Result<(), NoMemory>
+fn push_number(alloc: Global, out: &mut Vec<u8>, n: u32) -> Result<(), NoMemory>
     ensures { OnOk result (out.new.items ≡ out.old.items ++ decimal n) }
 {
-    push_signed(alloc, out, n as i128)
+    push_integer(alloc, out, n as i128)
 }
 
-/// Appends the digits of a number, with a `-` before them where it is negative.
-fn push_signed(alloc: Global, out: &mut Vec<u8>, n: i128) -> Result<(), NoMemory>
+/// Appends the digits of an integer, with a `-` before them where it is negative.
+fn push_integer(alloc: Global, out: &mut Vec<u8>, n: i128) -> Result<(), NoMemory>
     ensures { OnOk result (out.new.items ≡ out.old.items ++ signed_decimal n) }
 {
-    match geo_base::push_decimal(alloc, out, n) {
-        Ok(()) => Ok(()),
-        Err(_) => Err(NoMemory),
-    }
+    geo_base::push_decimal(alloc, out, n).map_err(|_| NoMemory)
 }
