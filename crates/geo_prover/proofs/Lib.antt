@@ -14,3 +14,4 @@ pub mod Declaring
 pub mod Beginnings
 pub mod Kept
 pub mod Started
+pub mod Joined

@@ -11,3 +11,6 @@ pub mod reader;
 #[cfg(test)]
 mod reader_tests;
 mod words;
+pub mod writer;
+#[cfg(test)]
+mod writer_tests;
