@@ -3,4 +3,5 @@
 
 pub mod first;
 pub mod log;
+pub mod printer;
 pub mod program;
