@@ -15,3 +15,6 @@ pub mod Beginnings
 pub mod Kept
 pub mod Started
 pub mod Joined
+pub mod Joins
+pub mod Printed
+pub mod Lengths

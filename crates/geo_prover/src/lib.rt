@@ -5,6 +5,7 @@ mod chain;
 pub mod first;
 pub mod laws;
 pub mod log;
+pub mod printer;
 pub mod program;
 mod quantities;
 pub mod reader;
