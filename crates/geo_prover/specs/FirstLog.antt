@@ -45,6 +45,12 @@ pub record IsStarted (p : Program) (lines : List Line) : Type 0 where
   pub zero : IsDefinedChain p.commands 100000000 (start_of p) chain []
   pub short : length (log_text chain) ≤ 60000000
 
+-- the text is the prover's log of the program, with 100,000,000 steps
+pub record IsLogOf (p : Program) (text : List ℕ) : Type 0 where
+  pub lines : List Line
+  pub defined : IsDefinedLog p 100000000 lines
+  pub written : text ≡ log_text lines
+
 -- the bytes are the canonical text of a program that is taken; the text is its defined log, which is accepted, and the program is true
 pub record IsFirstRun (bytes text : List ℕ) : Type 0 where
   pub program : Program
