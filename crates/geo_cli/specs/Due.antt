@@ -1,5 +1,5 @@
 -- What a run is to write, and the cause of each text.
-use Rattle.std.specs.Prelude.{◌≡◌, ℕ, List, [], ◌∷◌, ◌++◌, Option, codes}
+use Rattle.std.specs.Prelude.{ℕ, List, [], ◌∷◌, ◌++◌, Option, codes}
 use Rattle.geo_cli.specs.declared.due.Due.{Due}
 use Rattle.geo_cli.specs.declared.due.Due.TheVariants.{Usage, TooLong, Unbuilt, Log}
 use Rattle.geo_cli.specs.declared.status.Status.{Status}
@@ -10,12 +10,15 @@ use Rattle.geo_prover.specs.FirstLog.{IsFirstRun, IsUnbuilt}
 
 -- THE LINES THAT SAY WHY THERE IS NO LOG
 
+-- the words are no command
 abbrev pub usage_line : List ℕ
 usage_line = codes "usage: geo_cli COMMAND [NUMBER] [--steps N]" ++ 10 ∷ []
 
+-- the input is longer than its limit
 abbrev pub too_long_line : List ℕ
 too_long_line = codes "too long" ++ 10 ∷ []
 
+-- the input is no program that is taken
 abbrev pub unbuilt_line : List ℕ
 unbuilt_line = codes "unbuilt" ++ 10 ∷ []
 
@@ -49,7 +52,7 @@ pub record IsDueForInput (words : List (List ℕ)) (left left' : Option (List �
   pub input : IsInput left bytes left'
   pub due_for : IsDueFor bytes due
 
--- what the words and the source's bytes before and after call for
+-- what the words call for, and the bytes that the source had left before and has left after
 abbrev pub IsDue : List (List ℕ) → Option (List ℕ) → Option (List ℕ) → Due → Type 0
 IsDue words left left' Usage = ¬ (IsProve words)
 IsDue words left left' TooLong = IsProve words × IsLong left left'

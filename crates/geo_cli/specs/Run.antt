@@ -1,9 +1,10 @@
 -- What each answer of a run says of its words, of the source's bytes to come, and of the bytes that the sink holds.
+-- A name with a prime is the same after the run.
 --
 -- No two causes among these hold at once: words are `prove` or are not; where the source tells its bytes, it gave
 -- more than the limit or ended within it; and the bytes of an input are the text of a program that is taken or of
 -- none. So where no fault rises and memory is found, each status comes exactly where its cause is.
-use Rattle.std.specs.Prelude.{◌≡◌, ℕ, ◌⊎◌, List, take, Option}
+use Rattle.std.specs.Prelude.{◌≡◌, ℕ, List, take, Option}
 use Rattle.geo_base.specs.Devices.{Grows, HasRisen}
 use Rattle.geo_cli.specs.declared.due.Due.{Due}
 use Rattle.geo_cli.specs.Due.{IsDue, due_text, too_long_line, unbuilt_line, usage_line}

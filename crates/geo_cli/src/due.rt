@@ -63,16 +63,12 @@ pub enum Stop {
 }
 
 /// What is due for these words and this source, which is read only for the word `prove`.
-pub fn decide<S: Source>(
-    alloc: Global,
-    words: &Vec<String>,
-    source: &mut S,
-) -> Result<Due, Stop>
+pub fn decide<S: Source>(alloc: Global, words: &Vec<String>, source: &mut S) -> Result<Due, Stop>
     ensures due { IfOk result (λ due.
         IsDue (bytes_of_words words.now.items) (S.left source.old) (S.left source.new) due) }
     ensures read_fault { IsErrOf result Stop.ReadFault
         → (IsProve (bytes_of_words words.now.items)
-          × HasRisen (S.faults source.old) (S.faults source.new)) }
+        × HasRisen (S.faults source.old) (S.faults source.new)) }
     ensures taken { Takes (S.left source.old) (S.left source.new) }
     ensures unread { ¬ (IsProve (bytes_of_words words.now.items)) → source.new ≡ source.old }
     ensures faults { S.faults source.old ≤ S.faults source.new }

@@ -38,7 +38,7 @@ pub fn run<S: Source, K: Sink>(
         (S.left source.old) (S.left source.new) (K.held sink.old) (K.held sink.new) }
     ensures no_memory { result ≡ Status.NoMemory → (K.held sink.new ≡ K.held sink.old)
         ⊎ WritesPart (bytes_of_words words.now.items)
-          (S.left source.old) (S.left source.new) (K.held sink.old) (K.held sink.new) }
+        (S.left source.old) (S.left source.new) (K.held sink.old) (K.held sink.new) }
     ensures taken { Takes (S.left source.old) (S.left source.new) }
     ensures unread { ¬ (IsProve (bytes_of_words words.now.items)) → source.new ≡ source.old }
     ensures source_faults { S.faults source.old ≤ S.faults source.new }

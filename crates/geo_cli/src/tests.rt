@@ -10,7 +10,8 @@ const USAGE: &[u8] = b"usage: geo_cli COMMAND [NUMBER] [--steps N]\n";
 const PROGRAM: &[u8] =
     b"point A\npoint B\npratio M A A B div { 1 } { 2 }\nprove { collinear A M B }\n";
 
-const LOG: &[u8] = b"geolog 1\n| point A\n| point B\n| pratio M A A B div { 1 } { 2 }\n| prove { collinear A M B }\ngoal 1 collinear A M B\nstart : -1*S0.1.2\ncut -1 : +1*S0.1.2\npoint 2 : 0\nend\nsample x0=0 y0=0 x1=0 y1=0\nverdict proved\n";
+const LOG: &[u8] =
+    b"geolog 1\n| point A\n| point B\n| pratio M A A B div { 1 } { 2 }\n| prove { collinear A M B }\ngoal 1 collinear A M B\nstart : -1*S0.1.2\ncut -1 : +1*S0.1.2\npoint 2 : 0\nend\nsample x0=0 y0=0 x1=0 y1=0\nverdict proved\n";
 
 const TWO_SPACES: &[u8] =
     b"point  A\npoint B\npratio M A A B div { 1 } { 2 }\nprove { collinear A M B }\n";
@@ -60,6 +61,7 @@ impl Row {
 
 // Whether a run over these bytes ends as the row says.
 fn expect_row(rt: &(impl AllocGlobal + Abort), row: &Row, input: Vec<u8>) -> Result<(), Fail> {
+    assert!(rt; 0 < row.piece);
     let alloc = rt.alloc();
     let mut words = Vec::new(alloc);
     for word in row.words {

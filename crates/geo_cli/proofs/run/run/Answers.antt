@@ -1,4 +1,4 @@
-use Rattle.std.proofs.Common.{rules, ◌≡◌, ℕ, List, Option, sym, ◌∙◌, ap, subst, arith}
+use Rattle.std.proofs.Common.{◌≡◌, ℕ, List, Option, sym, ◌∙◌, ap, arith}
 use Rattle.geo_base.specs.Devices.{Grows}
 use Rattle.geo_cli.specs.declared.due.Due.{Due}
 use Rattle.geo_cli.specs.declared.due.Due.TheVariants.{Usage, TooLong, Unbuilt, Log}
@@ -6,7 +6,7 @@ use Rattle.geo_cli.specs.declared.status.Status.{Status}
 use Rattle.geo_cli.specs.declared.status.Status.TheVariants as status
 use Rattle.geo_cli.specs.Due.{IsDue, due_status, due_text}
 use Rattle.geo_cli.specs.Status.{status_number}
-use Rattle.geo_cli.specs.Run.{Declines, Misuses, Overruns, Proves}
+use Rattle.geo_cli.specs.Run.{Proves}
 use Rattle.geo_cli.proofs.run.run.Goals as goal
 
 -- two statuses with different numbers are not equal

@@ -1,4 +1,4 @@
-use Rattle.std.proofs.Common.{◌≡◌, ◌↔◌, ℕ, ◌<◌, Bool, true, IsTrue, List, [], ◌∷◌, map, length, get_or, sym, ◌∙◌, ap, arith}
+use Rattle.std.proofs.Common.{◌≡◌, ◌↔◌, ℕ, ◌<◌, Bool, IsTrue, List, [], ◌∷◌, length, get_or, sym, ◌∙◌, ap, arith}
 use Rattle.std.proofs.Common.{String}
 use Rattle.std.specs.Str.{bytes_eq}
 use Rattle.std.specs.String.{string_bytes}
@@ -17,9 +17,10 @@ unfolding first_word
 one_word [] word bytes p r some few is read test = let no : ⊥ = omega arith in absurd no
 one_word (w ∷ []) word bytes p r some few is read test =
     let same : bytes ≡ string_bytes w = read ∙ ap string_bytes is in
-    let decided = bytes_eq-Decides bytes p in
-    ( (λ yes. ap (λ b. b ∷ []) (sym same ∙ decided.0 (sym test ∙ yes)))
-    , (λ equal. test ∙ decided.1 (same ∙ ap first_word equal)) )
+    let decided = bytes_eq-Decides bytes p in (
+      (λ yes. ap (λ b. b ∷ []) (sym same ∙ decided.0 (sym test ∙ yes))),
+      (λ equal. test ∙ decided.1 (same ∙ ap first_word equal)),
+    )
 one_word (w ∷ v ∷ words) word bytes p r some few is read test = let no : ⊥ = omega arith in absurd no
 
 pub returns-in-len1 : goal.returns-in-len1
