@@ -25,7 +25,7 @@ next_digit digits i all lt =
       low = at.0;
       high = at.1;
       value = omega (arith, digits_value_more 10 digits i lt, digit_value_digit (get_or digits i 0) at);
-      part = digits_value-take-le 10 digits (i + 1) (omega arith)
+      part = digits_value-take-le 10 digits (i + 1) (omega arith);
     }
 
 -- the test of one digit, both ways

@@ -1,5 +1,5 @@
 -- What a call does to a source's bytes to come, to a sink's bytes held, and to a device's count of faults.
-use Rattle.std.specs.Prelude.{◌≡◌, ℕ, ◌-◌, ◌^◌, ◌<◌, ◌⊎◌, ◌↔◌, List, [], ◌++◌, Option, None, Some, option_map}
+use Rattle.std.specs.Prelude.{◌≡◌, ℕ, ◌+◌, ◌-◌, ◌^◌, ◌<◌, ◌⊎◌, ◌↔◌, min, List, [], ◌++◌, Option, None, Some, option_map}
 
 -- a count of faults rose in a call: it is greater at the end, or stands at its last value
 abbrev pub HasRisen : ℕ → ℕ → Type 0
@@ -22,3 +22,7 @@ HasEnded (Some bytes) = bytes ≡ []
 abbrev pub MarksEnd : ℕ → Option (List ℕ) → Type 0
 MarksEnd count None = Unit {0}
 MarksEnd count (Some bytes) = (count ≡ 0) ↔ (bytes ≡ [])
+
+-- a count with one more, which stays at its last value
+abbrev pub count_up : ℕ → ℕ
+count_up count = min (count + 1) (2 ^ 64 - 1)

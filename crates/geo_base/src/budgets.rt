@@ -1,5 +1,5 @@
 //! A number of charges that a run may spend.
-ghost use Rattle.std.specs.Prelude.{◌≡◌, ◌-◌, ◌<◌, ◌≤◌, OnOk, OnErr};
+ghost use Rattle.std.specs.Prelude.{◌≡◌, ◌+◌, ◌<◌, ◌↔◌, IsErr, OnOk, OnErr};
 
 /// A charge is greater than what is left of the budget.
 #[derive(Clone, Copy, Debug, PartialEq, Eq)]
@@ -15,9 +15,8 @@ pub struct Budget {
 impl Budget {
     /// Takes `n` charges from what is left, all or none.
     pub fn spend(&mut self, n: u128) -> Result<(), Spent>
-        ensures enough { OnOk result (n ≤ self.old.left) }
-        ensures spent { OnOk result (self.new.left ≡ self.old.left - n) }
-        ensures short { OnErr result (self.old.left < n) }
+        ensures spent { OnOk result (self.new.left + n ≡ self.old.left) }
+        ensures short { IsErr result ↔ (self.old.left < n) }
         ensures kept { OnErr result (self.new ≡ self.old) }
     {
         if n <= self.left as u128 {

@@ -1,5 +1,5 @@
 //! Numbers as decimal text.
-ghost use Rattle.std.specs.Prelude.{◌≡◌, ◌++◌, ◌<◌, ◌≤◌, ◌^◌, IfOk, OnOk, OnErr, IsErrOf, SomeIff, pos};
+ghost use Rattle.std.specs.Prelude.{◌≡◌, ◌++◌, ◌<◌, ◌≤◌, ◌^◌, ◌↔◌, IfOk, OnOk, OnErr, IsErrOf, SomeIff, pos};
 ghost use Rattle.std.specs.Bool.{MatchBool};
 ghost use Rattle.std.specs.Char.{is_ascii_digit};
 ghost use Rattle.std.specs.Fmt.{signed_decimal};
@@ -7,7 +7,7 @@ ghost use Rattle.std.specs.List.{list_all};
 ghost use Rattle.std.specs.Str.Parse.{AllDigits, IsNumeral, digits_value};
 ghost use Rattle.geo_base.specs.Decimals.{IsDecimal, decimal_size, decimal_value};
 
-use crate::texts::NoMemory;
+use crate::no_memory::NoMemory;
 use itoa::Buffer;
 use std::alloc::Global;
 
@@ -32,11 +32,13 @@ pub fn push_decimal(_alloc: Global, out: &mut Vec<u8>, n: i128) -> Result<(), No
 /// The number that a decimal text writes. Leading zeros and `-0` are read like any other digits.
 pub fn read_decimal(bytes: &[u8]) -> Result<i128, DecimalError>
     ensures value { IfOk result (λ z. z ≡ decimal_value bytes.now) }
-    ensures decimal { IfOk result (λ z. IsDecimal bytes.now) }
-    ensures fits { IfOk result (λ z. decimal_size bytes.now < 2 ^ 127) }
-    ensures not_decimal { IsErrOf result DecimalError.NotDecimal → ¬ (IsDecimal bytes.now) }
+    ensures decimal { OnOk result (IsDecimal bytes.now) }
+    ensures fits { OnOk result (decimal_size bytes.now < 2 ^ 127) }
+    ensures read { IsDecimal bytes.now → decimal_size bytes.now < 2 ^ 127
+        → result ≡ Ok (decimal_value bytes.now) }
+    ensures not_decimal { IsErrOf result DecimalError.NotDecimal ↔ (¬ (IsDecimal bytes.now)) }
     ensures wide { IsErrOf result DecimalError.Wide
-        → (IsDecimal bytes.now × (2 ^ 127 ≤ decimal_size bytes.now)) }
+        ↔ (IsDecimal bytes.now × (2 ^ 127 ≤ decimal_size bytes.now)) }
 {
     match bytes {
         [b'-', digits @ ..] => Ok(-read_digits(digits)?),
@@ -47,8 +49,8 @@ pub fn read_decimal(bytes: &[u8]) -> Result<i128, DecimalError>
 // The number that digits write.
 fn read_digits(digits: &[u8]) -> Result<i128, DecimalError>
     ensures value { IfOk result (λ z. z ≡ pos (digits_value 10 digits.now)) }
-    ensures decimal { IfOk result (λ z. IsNumeral 10 digits.now) }
-    ensures fits { IfOk result (λ z. digits_value 10 digits.now < 2 ^ 127) }
+    ensures decimal { OnOk result (IsNumeral 10 digits.now) }
+    ensures fits { OnOk result (digits_value 10 digits.now < 2 ^ 127) }
     ensures not_decimal { IsErrOf result DecimalError.NotDecimal → ¬ (IsNumeral 10 digits.now) }
     ensures wide { IsErrOf result DecimalError.Wide
         → (IsNumeral 10 digits.now × (2 ^ 127 ≤ digits_value 10 digits.now)) }

@@ -1,14 +1,24 @@
 //! What the other crates stand on: sources and sinks of bytes, budgets, and decimal text.
 #![tactic(auto)]
 
+pub use adapters::{ReaderSource, WriterSink};
 pub use budgets::{Budget, Spent};
 pub use decimals::{DecimalError, push_decimal, read_decimal};
+pub use memory::{MemSink, MemSource};
+pub use no_memory::NoMemory;
 pub use reading::{Failed, ReadError, Source, read_all};
-pub use texts::{NoMemory, Text};
+pub use sure::{SureSink, SureSource};
+pub use texts::Text;
 pub use writing::{PutError, Sink, write_all};
 
+mod adapters;
 mod budgets;
 mod decimals;
+mod memory;
+mod no_memory;
 mod reading;
+mod sure;
+#[cfg(test)]
+mod tests;
 mod texts;
 mod writing;

@@ -1,5 +1,5 @@
 //! Sources of bytes, and reading one to its end.
-ghost use Rattle.std.specs.Prelude.{◌≡◌, ◌+◌, ◌<◌, ◌≤◌, ℕ, List, Option, length, take, IfOk, OnErr, IsErrOf};
+ghost use Rattle.std.specs.Prelude.{◌≡◌, ◌+◌, ◌<◌, ◌≤◌, ℕ, List, Option, length, take, IfOk, OnOk, OnErr, IsErrOf};
 ghost use Rattle.geo_base.specs.Devices.{HasEnded, HasRisen, Loses, MarksEnd};
 
 use std::alloc::{AllocError, Global};
@@ -68,7 +68,7 @@ const PIECE: usize = 4096;
 pub fn read_all<S: Source>(alloc: Global, source: &mut S, limit: u64) -> Result<Vec<u8>, ReadError>
     requires { limit ≤ 67108864 }
     ensures whole { IfOk result (λ v. Loses (S.left source.old) v.items (S.left source.new)) }
-    ensures ended { IfOk result (λ v. HasEnded (S.left source.new)) }
+    ensures ended { OnOk result (HasEnded (S.left source.new)) }
     ensures short { IfOk result (λ v. length v.items ≤ limit) }
     ensures too_long { IsErrOf result ReadError.TooLong → ((taken : List ℕ)
         × (length taken ≡ limit + 1) × Loses (S.left source.old) taken (S.left source.new)) }

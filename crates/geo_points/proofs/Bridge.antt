@@ -1,19 +1,19 @@
 -- The quantities on triples are those on coordinates that are fractions.
-use Rattle.std.proofs.Common.{◌≡◌, ℕ, ℤ, pos, [], ◌∷◌}
-use Rattle.ring_laws.specs.Solver.{variable, numeral, ◌⊞◌, ◌⊟◌, ◌⊠◌, entry_at, given, Quotient, as_quotient, quotient_at}
+use Rattle.std.proofs.Common.{ℕ, ℤ, pos, [], ◌∷◌}
+use Rattle.ring_laws.specs.Solver.{variable, numeral, ◌⊞◌, ◌⊟◌, ◌⊠◌, entry_at, Quotient, as_quotient, quotient_at}
 use Rattle.geo_points.specs.Fraction.{Fraction, Same, whole, times, plus, negated, minus}
-use Rattle.geo_points.specs.Points.{Point, signed_area, pythagoras_difference, cross_product}
+use Rattle.geo_points.specs.Points.{Point, x_coordinate, y_coordinate, signed_area, pythagoras_difference}
 use Rattle.geo_points.proofs.Plane.{Spot, double_area, pythagoras_value, double_area_expression, pythagoras_expression, spot}
 use Rattle.geo_points.proofs.Expressions.{half}
 use Rattle.ring_laws.proofs.Integers.{integers}
 use Rattle.geo_points.proofs.Fractions.{fractions}
 use Rattle.ring_laws.proofs.Sound.{agree}
-use Rattle.ring_laws.proofs.Combination.{by_combination}
 
+-- the coordinates of a point
 abbrev pub spot_of : Point → Spot Fraction
 spot_of A = record {
-  x = record { numerator = A.x; denominator = A.w; positive = A.positive };
-  y = record { numerator = A.y; denominator = A.w; positive = A.positive };
+  x = x_coordinate A;
+  y = y_coordinate A;
 }
 
 -- A.x, A.y, A.w are the variables 0, 1, 2, and so on
@@ -47,16 +47,4 @@ pythagoras_difference-is A B C =
       crossed = agree integers (coordinates A B C)
           (numeral 2 ⊠ ((ax ⊠ bw ⊟ bx ⊠ aw) ⊠ (cx ⊠ bw ⊟ bx ⊠ cw) ⊞ (ay ⊠ bw ⊟ by ⊠ aw) ⊠ (cy ⊠ bw ⊟ by ⊠ cw)) ⊠ right.bottom)
           (right.top ⊠ (aw ⊠ cw ⊠ bw ⊠ bw)) tt;
-    }
-
-pub line-is : (U V Y : Point) → cross_product U V U Y ≡ pos 0 → Same (double_area fractions (spot_of U) (spot_of V) (spot_of Y)) (whole (pos 0))
-unfolding whole plus negated times minus signed_area pythagoras_difference
-line-is U V Y h =
-    let left : Quotient = as_quotient ratios (double_area_expression (spot 0 1) (spot 2 3) (spot 4 5)) in
-    let ux = variable 0 in let uy = variable 1 in let uw = variable 2 in let vx = variable 3 in let vy = variable 4 in let vw = variable 5 in let yx = variable 6 in let yy = variable 7 in let yw = variable 8 in
-    record {
-      crossed = by_combination integers (coordinates U V Y)
-          (given (vw ⊠ uw ⊠ yw ⊠ uw) ((vx ⊠ uw ⊟ ux ⊠ vw) ⊠ (yy ⊠ uw ⊟ uy ⊠ yw) ⊟ (vy ⊠ uw ⊟ uy ⊠ vw) ⊠ (yx ⊠ uw ⊟ ux ⊠ yw)) (numeral 0) ∷ [])
-          (left.top ⊠ numeral 1) (numeral 0 ⊠ left.bottom)
-          (h, tt) tt;
     }

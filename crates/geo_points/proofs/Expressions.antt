@@ -3,13 +3,14 @@ use Rattle.std.specs.Prelude.{ℕ, zero, suc, pos, List, [], ◌∷◌}
 use Rattle.std.proofs.Common.{lit<}
 use Rattle.ring_laws.specs.Solver.{Expression, variable, numeral, ◌⊞◌, ◌⊟◌, ◌⊠◌, opposite, Given, given}
 use Rattle.geo_points.specs.Fraction.{Fraction, Same, whole, plus, negated, minus, times}
+pub use Rattle.geo_points.specs.Points.{x_coordinate, y_coordinate}
 use Rattle.geo_points.specs.Points.{Point, signed_area, pythagoras_difference}
 use Rattle.geo_points.proofs.Plane.{Spot, double_area_expression, pythagoras_expression, spot}
 
 infixl 6 ◌+'◌
 infixl 6 ◌-'◌
 infixl 7 ◌*'◌
--- places in the list of points, or in the list of numbers
+-- a coordinate, area, Pythagoras difference or number of the points and numbers of two lists, by their places there, and what sums, differences, products and opposites make of these
 pub data Quantity : Type 0 where
   abscissa : ℕ → Quantity
   ordinate : ℕ → Quantity
@@ -23,28 +24,27 @@ pub data Quantity : Type 0 where
   ◌*'◌ : Quantity → Quantity → Quantity
   opposite' : Quantity → Quantity
 
+-- the point (0, 0)
 abbrev pub origin : Point
 origin = record { x = pos 0; y = pos 0; w = 1; positive = lit< tt }
 
+-- the point at a place of a list, or the origin past its end
 abbrev pub point_at : List Point → ℕ → Point
 point_at [] k = origin
 point_at (A ∷ As) zero = A
 point_at (A ∷ As) (suc k) = point_at As k
 
+-- the number at a place of a list, or 0 past its end
 abbrev pub number_at : List Fraction → ℕ → Fraction
 number_at [] k = whole (pos 0)
 number_at (r ∷ rs) zero = r
 number_at (r ∷ rs) (suc k) = number_at rs k
 
-abbrev pub x_coordinate : Point → Fraction
-x_coordinate A = record { numerator = A.x; denominator = A.w; positive = A.positive }
-
-abbrev pub y_coordinate : Point → Fraction
-y_coordinate A = record { numerator = A.y; denominator = A.w; positive = A.positive }
-
+-- one half
 abbrev pub half : Fraction
 half = record { numerator = pos 1; denominator = 2; positive = lit< tt }
 
+-- the value of such an expression, for a list of points and a list of numbers
 abbrev pub quantity_value : List Point → List Fraction → Quantity → Fraction
 quantity_value As rs (abscissa i) = x_coordinate (point_at As i)
 quantity_value As rs (ordinate i) = y_coordinate (point_at As i)
@@ -59,13 +59,16 @@ quantity_value As rs (e *' f) = times (quantity_value As rs e) (quantity_value A
 quantity_value As rs (opposite' e) = negated (quantity_value As rs e)
 
 -- ---- the same, over coordinates. The variable 0 is a half; 3 i + 1, 3 i + 2, 3 i + 3 are x and y of point i, and number i
+-- 3 k, in a form that computes
 abbrev pub thrice : ℕ → ℕ
 thrice zero = zero
 thrice (suc k) = suc (suc (suc (thrice k)))
 
+-- the coordinates of point i
 abbrev pub spread_spot : ℕ → Spot Expression
 spread_spot i = spot (suc (thrice i)) (suc (suc (thrice i)))
 
+-- the expression with areas and Pythagoras differences written out in coordinates
 abbrev pub spread : Quantity → Expression
 spread (abscissa i) = variable (suc (thrice i))
 spread (ordinate i) = variable (suc (suc (thrice i)))
@@ -79,14 +82,17 @@ spread (e -' f) = spread e ⊟ spread f
 spread (e *' f) = spread e ⊠ spread f
 spread (opposite' e) = opposite (spread e)
 
--- ---- an equation between such expressions that is given, with its cofactor
+-- ---- equations between such expressions that are given
+-- `fact c a b` is the equation a = b with its cofactor c
 pub data Fact : Type 0 where
   fact : Quantity → Quantity → Quantity → Fact
 
+-- the equations in coordinates
 abbrev pub spread_facts : List Fact → List Given
 spread_facts [] = []
 spread_facts (fact c a b ∷ hs) = given (spread c) (spread a) (spread b) ∷ spread_facts hs
 
+-- each of the equations holds
 abbrev pub FactsHold : List Point → List Fraction → List Fact → Type 0
 FactsHold As rs [] = Unit {0}
 FactsHold As rs (fact c a b ∷ hs) = Same (quantity_value As rs a) (quantity_value As rs b) × FactsHold As rs hs

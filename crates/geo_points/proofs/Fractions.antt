@@ -57,6 +57,7 @@ negated-same a b h = record {
       (given (opposite (numeral 1)) (an ⊠ bd) (bn ⊠ ad) ∷ []) (opposite an ⊠ bd) (opposite bn ⊠ ad) (h.crossed, tt) tt;
 }
 
+-- the numerators and denominators of three fractions; an and ad are those of the first, and so on
 abbrev parts : Fraction → Fraction → Fraction → List ℤ
 parts a b c = a.numerator ∷ pos a.denominator ∷ b.numerator ∷ pos b.denominator ∷ c.numerator ∷ pos c.denominator ∷ []
 
@@ -122,6 +123,7 @@ module _ (a b c : Fraction) where
         ((an ⊠ bn ⊠ (ad ⊠ cd) ⊞ an ⊠ cn ⊠ (ad ⊠ bd)) ⊠ (ad ⊠ (bd ⊠ cd))) tt;
   }
 
+-- the ring of the fractions, up to being the same number
 abbrev pub fractions : Ring
 fractions = record {
   carrier = Fraction;

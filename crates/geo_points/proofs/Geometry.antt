@@ -90,6 +90,7 @@ module _ (As : List Point) (rs : List Fraction) where
   spread-facts (fact c a b ∷ hs) h =
       (F.same_trans _ _ _ (fractions.same_sym _ _ (spread-value a)) (F.same_trans _ _ _ h.0 (spread-value b)), spread-facts hs h.1)
 
+  -- the value of e is that of f, wherever the given equations hold, if the solver finds so
   pub geo_combination : (hs : List Fact) (e f : Quantity) → FactsHold As rs hs
       → T (is_zero (normal_form (combined (spread_facts hs) (spread e ⊟ spread f))))
       → Same (quantity_value As rs e) (quantity_value As rs f)

@@ -5,5 +5,8 @@ pub mod Nonzero
 pub mod Bridge
 pub mod Steps
 pub mod Geometry
-pub mod Rows
+pub mod AreaRows
 pub mod Signs
+pub mod Placed
+pub mod Collinear
+pub mod Exchange

@@ -3,15 +3,14 @@ use native.Mathlib.Nat as NatL
 use borrow.Author.Differences.{up, down, same_in, product_is}
 use Rattle.std.proofs.Common.{◌≡◌, ℕ, zero, suc, Bool, true, false, ◌+◌, ◌*◌, ◌<◌, ℤ, pos, negsuc, ◌+ℤ◌, ◌*ℤ◌, neg_ℤ, nat_abs, refl, sym, ◌∙◌, ap, arith, [], ◌∷◌, zero-lt-suc, mul-pos}
 use Rattle.ring_laws.specs.Solver.{variable, numeral, ◌⊞◌, ◌⊟◌, ◌⊠◌, opposite, entry_at, given}
-use Rattle.geo_points.specs.Fraction.{Fraction, Same, whole, minus, times, IsNonzero, quotient, quotient_at, plus, negated, quotient_by}
-use Rattle.geo_points.specs.Points.{Point, x_difference, y_difference, cross_product, run, rise, is_null, ratio, HasRatio}
-use Rattle.geo_points.proofs.Expressions.{x_coordinate, y_coordinate}
+use Rattle.geo_points.specs.Fraction.{Fraction, Same, whole, minus, times, IsNonzero, quotient, quotient_at, plus, negated}
+use Rattle.geo_points.specs.Points.{Point, x_coordinate, y_coordinate, x_difference, y_difference, cross_product, x_component, y_component, is_null, ratio, HasRatio}
 use Rattle.ring_laws.proofs.Integers.{integers}
 use Rattle.geo_points.proofs.Fractions.{fractions, cancel}
 use Rattle.ring_laws.proofs.Sound.{agree}
 use Rattle.ring_laws.proofs.Combination.{by_combination}
 
--- a factor that is not 0 cancels
+-- a factor that is not 0, of either sign, cancels
 pub cancel_factor : (x y d : ℤ) → (d ≡ pos 0 → ⊥) → x *ℤ d ≡ y *ℤ d → x ≡ y
 cancel_factor x y (pos zero) n e = absurd (n refl)
 cancel_factor x y (pos (suc k)) n e = cancel x y (suc k) (zero-lt-suc k) e
@@ -23,19 +22,19 @@ cancel_factor x y (negsuc k) n e =
     same_in x y (omega arith)
 
 pub zero_of_same : (a : Fraction) → Same a (whole (pos 0)) → a.numerator ≡ pos 0
-unfolding whole plus negated times minus quotient quotient_at quotient_by
+unfolding whole plus negated times minus quotient quotient_at
 zero_of_same a h =
     let n = variable 0 in let d = variable 1 in
     by_combination integers (entry_at integers (a.numerator ∷ pos a.denominator ∷ [])) (given (numeral 1) (n ⊠ numeral 1) (numeral 0 ⊠ d) ∷ []) n (numeral 0) (h.crossed, tt) tt
 
 pub same_of_zero : (a : Fraction) → a.numerator ≡ pos 0 → Same a (whole (pos 0))
-unfolding whole plus negated times minus quotient quotient_at quotient_by
+unfolding whole plus negated times minus quotient quotient_at
 same_of_zero a h =
     let n = variable 0 in let d = variable 1 in
     record { crossed = by_combination integers (entry_at integers (a.numerator ∷ pos a.denominator ∷ [])) (given (numeral 1) n (numeral 0) ∷ []) (n ⊠ numeral 1) (numeral 0 ⊠ d) (h, tt) tt }
 
 pub cancel_fraction : (a b c : Fraction) → IsNonzero c → Same (times a c) (times b c) → Same a b
-unfolding whole plus negated times minus quotient quotient_at quotient_by
+unfolding whole plus negated times minus quotient quotient_at
 cancel_fraction a b c n h =
     let an = variable 0 in let ad = variable 1 in let bn = variable 2 in let bd = variable 3 in let cn = variable 4 in let cd = variable 5 in
     record {
@@ -72,7 +71,7 @@ both_null a b e =
 
 -- ---- quotients
 pub quotient-times : (a b : Fraction) → IsNonzero b → Same (times (quotient a b) b) a
-unfolding whole plus negated times minus quotient quotient_at quotient_by
+unfolding whole plus negated times minus quotient quotient_at
 quotient-times a b n = record { crossed = go b.numerator b.denominator n }
   where
     go : (m : ℤ) (e : ℕ) → (m ≡ pos 0 → ⊥) → (quotient_at a m e).numerator *ℤ m *ℤ pos a.denominator ≡ a.numerator *ℤ pos ((quotient_at a m e).denominator * e)
@@ -86,15 +85,15 @@ quotient-times a b n = record { crossed = go b.numerator b.denominator n }
         agree integers (entry_at integers (a.numerator ∷ pos a.denominator ∷ pos (suc k) ∷ pos e ∷ [])) (opposite an ⊠ be ⊠ opposite m ⊠ ad) (an ⊠ (ad ⊠ m ⊠ be)) tt
 
 -- ---- ratios: k (D - C) = B - A
-vector-x : (A B : Point) → Same (run A B) (minus (x_coordinate B) (x_coordinate A))
-unfolding whole plus negated times minus quotient quotient_at quotient_by
-vector-x A B =
+pub x_component-is : (A B : Point) → Same (x_component A B) (minus (x_coordinate B) (x_coordinate A))
+unfolding whole plus negated times minus quotient quotient_at
+x_component-is A B =
     let ax = variable 0 in let aw = variable 1 in let bx = variable 2 in let bw = variable 3 in
     record { crossed = agree integers (entry_at integers (A.x ∷ pos A.w ∷ B.x ∷ pos B.w ∷ [])) ((bx ⊠ aw ⊟ ax ⊠ bw) ⊠ (bw ⊠ aw)) ((bx ⊠ aw ⊞ opposite ax ⊠ bw) ⊠ (aw ⊠ bw)) tt }
 
-vector-y : (A B : Point) → Same (rise A B) (minus (y_coordinate B) (y_coordinate A))
-unfolding whole plus negated times minus quotient quotient_at quotient_by
-vector-y A B =
+pub y_component-is : (A B : Point) → Same (y_component A B) (minus (y_coordinate B) (y_coordinate A))
+unfolding whole plus negated times minus quotient quotient_at
+y_component-is A B =
     let ax = variable 0 in let aw = variable 1 in let bx = variable 2 in let bw = variable 3 in
     record { crossed = agree integers (entry_at integers (A.y ∷ pos A.w ∷ B.y ∷ pos B.w ∷ [])) ((bx ⊠ aw ⊟ ax ⊠ bw) ⊠ (bw ⊠ aw)) ((bx ⊠ aw ⊞ opposite ax ⊠ bw) ⊠ (aw ⊠ bw)) tt }
 
@@ -107,18 +106,19 @@ other a b p q k n h e =
     (given (numeral 1) (a' ⊠ q') (b' ⊠ p') ∷ given q' (k' ⊠ p') a' ∷ [])
     (k' ⊠ q' ⊠ p') (b' ⊠ p') (h, (e, tt)) tt)
 
+-- k (D - C) is B - A, in both coordinates
 pub record IsRatio (A B C D : Point) (k : Fraction) : Type 0 where
   pub by_x : Same (times k (minus (x_coordinate D) (x_coordinate C))) (minus (x_coordinate B) (x_coordinate A))
   pub by_y : Same (times k (minus (y_coordinate D) (y_coordinate C))) (minus (y_coordinate B) (y_coordinate A))
 
-ratio_by : (A B C D : Point) (k : Fraction) → Same (times k (run C D)) (run A B) → Same (times k (rise C D)) (rise A B) → IsRatio A B C D k
+ratio_by : (A B C D : Point) (k : Fraction) → Same (times k (x_component C D)) (x_component A B) → Same (times k (y_component C D)) (y_component A B) → IsRatio A B C D k
 ratio_by A B C D k h g = record {
-  by_x = fractions.same_trans _ _ _ (fractions.mul-same _ _ _ _ (fractions.same_refl k) (fractions.same_sym _ _ (vector-x C D))) (fractions.same_trans _ _ _ h (vector-x A B));
-  by_y = fractions.same_trans _ _ _ (fractions.mul-same _ _ _ _ (fractions.same_refl k) (fractions.same_sym _ _ (vector-y C D))) (fractions.same_trans _ _ _ g (vector-y A B));
+  by_x = fractions.same_trans _ _ _ (fractions.mul-same _ _ _ _ (fractions.same_refl k) (fractions.same_sym _ _ (x_component-is C D))) (fractions.same_trans _ _ _ h (x_component-is A B));
+  by_y = fractions.same_trans _ _ _ (fractions.mul-same _ _ _ _ (fractions.same_refl k) (fractions.same_sym _ _ (y_component-is C D))) (fractions.same_trans _ _ _ g (y_component-is A B));
 }
 
-crossed_is : (A B C D : Point) → cross_product A B C D ≡ pos 0 → Same (times (run A B) (rise C D)) (times (rise A B) (run C D))
-unfolding whole plus negated times minus quotient quotient_at quotient_by
+pub crossed_is : (A B C D : Point) → cross_product A B C D ≡ pos 0 → Same (times (x_component A B) (y_component C D)) (times (y_component A B) (x_component C D))
+unfolding whole plus negated times minus quotient quotient_at
 crossed_is A B C D h =
     let p = variable 0 in let q = variable 1 in let r = variable 2 in let s = variable 3 in let d = variable 4 in let e = variable 5 in
     record {
@@ -126,25 +126,25 @@ crossed_is A B C D h =
           (given (d ⊠ e) (p ⊠ s ⊟ q ⊠ r) (numeral 0) ∷ []) (p ⊠ s ⊠ (d ⊠ e)) (q ⊠ r ⊠ (d ⊠ e)) (h, tt) tt;
     }
 
-null-true : (z : ℤ) → is_null z ≡ true → z ≡ pos 0
+pub null-true : (z : ℤ) → is_null z ≡ true → z ≡ pos 0
 null-true (pos zero) e = refl
 null-true (pos (suc k)) e = cc
 null-true (negsuc k) e = cc
 
-null-false : (z : ℤ) → is_null z ≡ false → z ≡ pos 0 → ⊥
+pub null-false : (z : ℤ) → is_null z ≡ false → z ≡ pos 0 → ⊥
 null-false z e h = let q : true ≡ false = sym (ap is_null h) ∙ e in cc
 
 pub ratio-is : (A B C D : Point) → HasRatio A B C D → IsRatio A B C D (ratio A B C D)
 ratio-is A B C D h = go (is_null (x_difference C D)) refl
   where
-    go : (b : Bool) → is_null (x_difference C D) ≡ b → IsRatio A B C D (elim b [ true ↦ quotient (rise A B) (rise C D) | false ↦ quotient (run A B) (run C D) ])
+    go : (b : Bool) → is_null (x_difference C D) ≡ b → IsRatio A B C D (elim b [ true ↦ quotient (y_component A B) (y_component C D) | false ↦ quotient (x_component A B) (x_component C D) ])
     go true e =
-        let n : IsNonzero (rise C D) = h.apart (null-true (x_difference C D) e) in
-        let k = quotient (rise A B) (rise C D) in
-        let t : Same (times k (rise C D)) (rise A B) = quotient-times (rise A B) (rise C D) n in
-        ratio_by A B C D k (other (rise A B) (run A B) (rise C D) (run C D) k n (fractions.same_sym _ _ (crossed_is A B C D h.parallel)) t) t
+        let n : IsNonzero (y_component C D) = h.apart (null-true (x_difference C D) e) in
+        let k = quotient (y_component A B) (y_component C D) in
+        let t : Same (times k (y_component C D)) (y_component A B) = quotient-times (y_component A B) (y_component C D) n in
+        ratio_by A B C D k (other (y_component A B) (x_component A B) (y_component C D) (x_component C D) k n (fractions.same_sym _ _ (crossed_is A B C D h.parallel)) t) t
     go false e =
-        let n : IsNonzero (run C D) = null-false (x_difference C D) e in
-        let k = quotient (run A B) (run C D) in
-        let t : Same (times k (run C D)) (run A B) = quotient-times (run A B) (run C D) n in
-        ratio_by A B C D k t (other (run A B) (rise A B) (run C D) (rise C D) k n (crossed_is A B C D h.parallel) t)
+        let n : IsNonzero (x_component C D) = null-false (x_difference C D) e in
+        let k = quotient (x_component A B) (x_component C D) in
+        let t : Same (times k (x_component C D)) (x_component A B) = quotient-times (x_component A B) (x_component C D) n in
+        ratio_by A B C D k t (other (x_component A B) (y_component A B) (x_component C D) (y_component C D) k n (crossed_is A B C D h.parallel) t)

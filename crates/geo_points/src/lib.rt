@@ -1,14 +1,17 @@
-//! Points of the plane with rational coordinates, and the quantities on them.
+//! Points of the plane with rational coordinates, and the quantities of the area method on them:
+//! the definitions on which all that is proved of geometry stands.
+//!
+//! A point is a triple of whole numbers and a number is a fraction, so the plane is the rational
+//! one. The crate also has the small types that every crate above shares.
 #![tactic(auto)]
 
-/// The number of a point, from 0 in the order of the steps that make the points.
-#[derive(Clone, Copy, Debug, PartialEq, Eq)]
-pub struct PointId(pub u32);
+mod divisors;
+mod ids;
+pub mod laws;
+mod memory;
+#[cfg(test)]
+mod tests;
 
-/// The number of a parameter, from 0 in the order of declaration.
-#[derive(Clone, Copy, Debug, PartialEq, Eq)]
-pub struct ParamId(pub u32);
-
-/// The index of a term in a store of terms.
-#[derive(Clone, Copy, Debug, PartialEq, Eq)]
-pub struct TermId(pub u32);
+pub use divisors::gcd;
+pub use ids::{ParamId, PointId, TermId};
+pub use memory::NoMemory;

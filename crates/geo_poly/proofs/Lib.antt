@@ -2,7 +2,7 @@ pub mod Orders
 pub mod MonomialLaws
 pub mod PolynomialLaws
 pub mod MonomialOrder
-pub mod Products
+pub mod ProductLaws
 pub mod Values
 pub mod ReplaceValue
 pub mod ReplaceBounds
@@ -10,6 +10,11 @@ pub mod Negated
 pub mod ReplaceLoop
 pub mod ReplaceTerms
 pub mod Capped
-pub mod Division
+pub mod Quotients
 pub mod ExactQuotient
 pub mod Reflected
+pub mod FactorLaws
+pub mod Cuts
+pub mod SignedContent
+pub mod FactorDivision
+pub mod CanonicalAreas

@@ -9,7 +9,7 @@ use Rattle.sparse_lists.specs.SparseLists.{AllKeys, IsBefore, IsCanonical}
 use Rattle.geo_poly.specs.Monomials.{Powers, IsMonomial, product}
 use Rattle.geo_poly.specs.Polynomials.{Terms, coefficients, term_cmp, norm_of, multiples, IsPolynomial}
 use Rattle.geo_poly.proofs.Orders.{term_order}
-use Rattle.geo_poly.proofs.Products.{later, norm_of-multiples}
+use Rattle.geo_poly.proofs.ProductLaws.{later, norm_of-multiples}
 
 reflected : (k m n : Powers) → IsMonomial m → IsMonomial n → term_cmp (product k m) (product k n) ≡ Less → term_cmp m n ≡ Less
 reflected k m n h g e = go (term_cmp m n) refl

@@ -7,7 +7,7 @@ use Rattle.geo_poly.specs.Polynomials.{Terms, coefficients, term_cmp, norm_of, t
 use Rattle.geo_poly.specs.Replace.{times_power}
 use Rattle.sparse_lists.proofs.Sums.{AllKeys-canonical, AllKeys-append}
 use Rattle.geo_poly.proofs.MonomialLaws.{degree_of-product}
-use Rattle.geo_poly.proofs.Products.{norm_of-product_of-le, monomials_of_products, IsCanonical-product_of}
+use Rattle.geo_poly.proofs.ProductLaws.{norm_of-product_of-le, monomials_of_products, IsCanonical-product_of}
 
 -- the degree is at most d where that of each monomial is
 UpTo : ℕ → Powers → Type 0

@@ -4,8 +4,8 @@ use Rattle.std.proofs.Math.Nat.{mul-le-mul_right}
 use Rattle.std.proofs.lemmas.List.{append-nil, take-append-drop}
 use Rattle.std.proofs.lemmas.List.Sums.{sum_by-cons, sum_by-append}
 use Rattle.geo_poly.specs.declared.variables.Var.{Var}
-use Rattle.geo_poly.specs.declared.polynomials.Piece.{Piece}
-use Rattle.geo_poly.specs.declared.polynomials.Row.{Row}
+use Rattle.geo_poly.specs.declared.replacement.Piece.{Piece}
+use Rattle.geo_poly.specs.declared.replacement.Row.{Row}
 use Rattle.geo_poly.specs.Variables.{var_cmp}
 use Rattle.sparse_lists.specs.SparseLists.{AllKeys, IsBefore, IsCanonical}
 use Rattle.geo_poly.specs.Monomials.{Powers, exponents, IsMonomial, degree_of}
@@ -15,7 +15,7 @@ use Rattle.geo_poly.proofs.Orders.{term_order}
 use Rattle.sparse_lists.proofs.Canonical.{IsCanonical-canonical, canonical_self, canonical-canonical_left, canonical_comm}
 use Rattle.geo_poly.proofs.PolynomialLaws.{coefficients_add, norm_of-polynomial_of-le}
 use Rattle.sparse_lists.proofs.Sums.{AllKeys-canonical, AllKeys-append}
-use Rattle.geo_poly.proofs.Products as Products
+use Rattle.geo_poly.proofs.ProductLaws as ProductLaws
 use Rattle.geo_poly.proofs.ReplaceBounds.{norm_of-times_power-le, IsCanonical-times_power, total_degree-times_power-le, monomials_of_times_power}
 use Rattle.geo_poly.proofs.ReplaceLoop.{bounded_row, weight_rows-mono, degree_rows-mono, degree_rows-grows}
 
@@ -146,8 +146,8 @@ CanReplace-front : (rows : List Row) (den : Piece) (top : ℕ) (p q : Terms) →
 CanReplace-front rows den top p q h = record {
   rows_bounded = h.rows_bounded;
   den_bounded = h.den_bounded;
-  in_order = Products.IsCanonical_front p q h.in_order;
-  monomials = Products.monomials_front p q h.monomials;
+  in_order = ProductLaws.IsCanonical_front p q h.in_order;
+  monomials = ProductLaws.monomials_front p q h.monomials;
   top_fits = omega (arith, most_append rows p q, h.top_fits);
   weight_fits = omega (arith, sum_by-append (term_weight rows den top) p q, h.weight_fits);
   degree_fits = omega (arith, degree_append rows den top p q, h.degree_fits);
@@ -157,8 +157,8 @@ CanReplace-back : (rows : List Row) (den : Piece) (top : ℕ) (p q : Terms) → 
 CanReplace-back rows den top p q h = record {
   rows_bounded = h.rows_bounded;
   den_bounded = h.den_bounded;
-  in_order = Products.IsCanonical_back p q h.in_order;
-  monomials = Products.monomials_back p q h.monomials;
+  in_order = ProductLaws.IsCanonical_back p q h.in_order;
+  monomials = ProductLaws.monomials_back p q h.monomials;
   top_fits = omega (arith, most_append rows p q, h.top_fits);
   weight_fits = omega (arith, sum_by-append (term_weight rows den top) p q, h.weight_fits);
   degree_fits = omega (arith, degree_append rows den top p q, h.degree_fits);

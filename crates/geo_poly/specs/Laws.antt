@@ -13,9 +13,11 @@ PolynomialHasCoefficients =
     × ((m : Powers) → coefficient m (polynomial_of p) ≡ coefficient m p)
     × ((q : Terms) → IsCanonical term_cmp coefficients q → ((m : Powers) → coefficient m q ≡ coefficient m p) → q ≡ polynomial_of p)
 
+-- the coefficients of a sum are the sums of the coefficients
 abbrev pub SumAddsCoefficients : Type 0
 SumAddsCoefficients = (p q : Terms) (m : Powers) → coefficient m (sum_of p q) ≡ coefficient m p +ℤ coefficient m q
 
+-- the exponents of a product are the sums of the exponents
 abbrev pub ProductAddsExponents : Type 0
 ProductAddsExponents = (m n : Powers) (v : Var) → exponent v (product m n) ≡ exponent v m + exponent v n
 

@@ -5,3 +5,5 @@ pub mod Values
 pub mod Replace
 pub mod Laws
 pub mod Division
+pub mod Factors
+pub mod Canonical

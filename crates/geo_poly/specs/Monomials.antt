@@ -8,9 +8,11 @@ use Rattle.geo_poly.specs.declared.variables.Var.{Var}
 use Rattle.geo_poly.specs.Variables.{var_cmp}
 use Rattle.sparse_lists.specs.SparseLists.{Amounts, IsCanonical, amount, canonical}
 
+-- variables with their exponents
 abbrev pub Powers : Type 0
 Powers = List (Var × ℕ)
 
+-- exponents add up, and 0 is that of an absent variable
 abbrev pub exponents : Amounts ℕ
 exponents = record { zero = 0; add = ◌+◌; is_zero = λ e. e == 0 }
 
@@ -18,9 +20,11 @@ exponents = record { zero = 0; add = ◌+◌; is_zero = λ e. e == 0 }
 abbrev pub exponent : Var → Powers → ℕ
 exponent = amount var_cmp exponents
 
+-- the sum of the exponents
 abbrev pub degree_of : Powers → ℕ
 degree_of m = sum_by (λ p. p.1) m
 
+-- the variables in order, each with an exponent of at least 1, and the degree within its bound
 pub record IsMonomial (m : Powers) : Type 0 where
   pub in_order : IsCanonical var_cmp exponents m
   pub degree_fits : degree_of m ≤ 65535

@@ -1,13 +1,15 @@
 -- A polynomial: its monomials with nonzero whole numbers, the greatest monomial first.
-use Rattle.std.specs.Prelude.{ℕ, ◌+◌, ◌*◌, ◌^◌, ◌<◌, ◌≤◌, ◌==◌, max, ℤ, pos, ◌+ℤ◌, ◌*ℤ◌, neg_ℤ, List, [], ◌∷◌, ◌++◌, map, sum_by, unsigned_abs}
+use Rattle.std.specs.Prelude.{ℕ, ◌+◌, ◌*◌, ◌^◌, ◌<◌, ◌≤◌, ◌==◌, max, ℤ, pos, ◌+ℤ◌, ◌*ℤ◌, neg_ℤ, List, [], ◌∷◌, ◌++◌, map, slice_index_or, sum_by, unsigned_abs}
 use Rattle.std.specs.Ordering.{flip_args}
 use Rattle.std.specs.declared.cmp.Ordering.{Ordering}
 use Rattle.sparse_lists.specs.SparseLists.{Amounts, AllKeys, IsCanonical, amount, canonical, put}
 use Rattle.geo_poly.specs.Monomials.{Powers, IsMonomial, degree_of, monomial_cmp, product}
 
+-- monomials with their coefficients
 abbrev pub Terms : Type 0
 Terms = List (Powers × ℤ)
 
+-- coefficients add up, and 0 is that of an absent monomial
 abbrev pub coefficients : Amounts ℤ
 coefficients = record { zero = pos 0; add = ◌+ℤ◌; is_zero = λ c. unsigned_abs c == 0 }
 
@@ -23,27 +25,38 @@ coefficient = amount term_cmp coefficients
 abbrev pub polynomial_of : Terms → Terms
 polynomial_of = canonical term_cmp coefficients
 
+-- the term at a place; past the end, the number 0
+abbrev pub term_at : Terms → ℕ → Powers × ℤ
+term_at p i = slice_index_or p i ([], pos 0)
+
+-- the sum of the absolute coefficients
 abbrev pub norm_of : Terms → ℕ
 norm_of p = sum_by (λ t. unsigned_abs t.1) p
 
+-- the greatest degree of a monomial, 0 where there is none
 abbrev pub total_degree : Terms → ℕ
 total_degree [] = 0
 total_degree (t ∷ ts) = max (degree_of t.0) (total_degree ts)
 
+-- the monomials in order, each with a coefficient that is not 0, and the norm within its bound
 pub record IsPolynomial (p : Terms) : Type 0 where
   pub in_order : IsCanonical term_cmp coefficients p
   pub monomials : AllKeys IsMonomial p
   pub norm_fits : norm_of p < 2 ^ 127
 
+-- the constant n, which has no term where n is 0
 abbrev pub constant_of : ℤ → Terms
 constant_of n = put coefficients [] n []
 
+-- the terms of both, with like terms added up
 abbrev pub sum_of : Terms → Terms → Terms
 sum_of p q = polynomial_of (p ++ q)
 
+-- each coefficient with the other sign
 abbrev pub negated : Terms → Terms
 negated p = map (λ t. (t.0, neg_ℤ t.1)) p
 
+-- the sum with the other, negated
 abbrev pub difference_of : Terms → Terms → Terms
 difference_of p q = sum_of p (negated q)
 
@@ -56,6 +69,7 @@ abbrev pub products : Terms → Terms → Terms
 products [] q = []
 products (t ∷ ts) q = multiples t q ++ products ts q
 
+-- the products of the terms, with like terms added up
 abbrev pub product_of : Terms → Terms → Terms
 product_of p q = polynomial_of (products p q)
 

@@ -2,8 +2,8 @@
 use Rattle.std.specs.Prelude.{ℕ, zero, suc, ◌+◌, ◌*◌, ◌-◌, ◌^◌, ◌<◌, ◌≤◌, max, ℤ, Option, Some, None, List, [], ◌∷◌, ◌++◌, find, sum_by, unsigned_abs}
 use Rattle.std.specs.Ordering.{is_eq}
 use Rattle.geo_poly.specs.declared.variables.Var.{Var}
-use Rattle.geo_poly.specs.declared.polynomials.Piece.{Piece}
-use Rattle.geo_poly.specs.declared.polynomials.Row.{Row}
+use Rattle.geo_poly.specs.declared.replacement.Piece.{Piece}
+use Rattle.geo_poly.specs.declared.replacement.Row.{Row}
 use Rattle.geo_poly.specs.Variables.{var_cmp}
 use Rattle.sparse_lists.specs.SparseLists.{AllKeys, IsCanonical}
 use Rattle.geo_poly.specs.Monomials.{Powers, IsMonomial, degree_of}
@@ -24,16 +24,17 @@ abbrev pub power_in : Option Row → ℕ
 power_in None = 0
 power_in (Some r) = r.power
 
--- K of a monomial: the powers of its replaced variables times their exponents
+-- the denominators of a monomial: the powers of its replaced variables times their exponents
 abbrev pub denominators : List Row → Powers → ℕ
 denominators rows [] = 0
 denominators rows (p ∷ m) = power_in (row_of rows p.0) * p.1 + denominators rows m
 
--- D: the greatest of them
+-- the greatest number of denominators of a monomial
 abbrev pub most_denominators : List Row → Terms → ℕ
 most_denominators rows [] = 0
 most_denominators rows (t ∷ ts) = max (denominators rows t.0) (most_denominators rows ts)
 
+-- a power stays where its variable has no row
 abbrev pub kept : Option Row → Var × ℕ → Powers → Powers
 kept None p m = p ∷ m
 kept (Some r) p m = m
@@ -48,6 +49,7 @@ abbrev pub times_power : Terms → Terms → ℕ → Terms
 times_power p q zero = p
 times_power p q (suc n) = product_of (times_power p q n) q
 
+-- times the row's numerator to the power n
 abbrev pub times_row : Option Row → ℕ → Terms → Terms
 times_row None n p = p
 times_row (Some r) n p = times_power p r.num.poly n
@@ -61,18 +63,21 @@ times_rows rows (v ∷ m) p = times_rows rows m (times_row (row_of rows v.0) v.1
 abbrev pub replaced_term : List Row → Terms → ℕ → Powers × ℤ → Terms
 replaced_term rows den top t = times_power (times_rows rows t.0 ((others rows t.0, t.1) ∷ [])) den (top - denominators rows t.0)
 
+-- what becomes of each term, one after another
 abbrev pub replaced_terms : List Row → Terms → ℕ → Terms → Terms
 replaced_terms rows den top [] = []
 replaced_terms rows den top (t ∷ ts) = replaced_term rows den top t ++ replaced_terms rows den top ts
 
+-- what becomes of the polynomial
 abbrev pub replaced_by : List Row → Terms → Terms → Terms
 replaced_by rows den p = polynomial_of (replaced_terms rows den (most_denominators rows p) p)
 
--- BOUNDS, from those that the pieces tell
+-- each numerator keeps its bounds
 abbrev pub AllBounded : List Row → Type 0
 AllBounded [] = Unit {0}
 AllBounded (r ∷ rs) = IsBounded r.num × AllBounded rs
 
+-- w times the weight of the row's numerator to the power n
 abbrev pub weight_row : Option Row → ℕ → ℕ → ℕ
 weight_row None n w = w
 weight_row (Some r) n w = w * r.num.weight ^ n
@@ -82,9 +87,11 @@ abbrev pub weight_rows : List Row → Powers → ℕ → ℕ
 weight_rows rows [] w = w
 weight_rows rows (v ∷ m) w = weight_rows rows m (weight_row (row_of rows v.0) v.1 w)
 
+-- the weight of what becomes of a term: it bounds the norm
 abbrev pub term_weight : List Row → Piece → ℕ → Powers × ℤ → ℕ
 term_weight rows den top t = weight_rows rows t.0 (unsigned_abs t.1) * den.weight ^ (top - denominators rows t.0)
 
+-- d plus n times the degree of the row's numerator
 abbrev pub degree_row : Option Row → ℕ → ℕ → ℕ
 degree_row None n d = d
 degree_row (Some r) n d = d + r.num.degree * n
@@ -94,12 +101,15 @@ abbrev pub degree_rows : List Row → Powers → ℕ → ℕ
 degree_rows rows [] d = d
 degree_rows rows (v ∷ m) d = degree_rows rows m (degree_row (row_of rows v.0) v.1 d)
 
+-- the degree of what becomes of a term
 abbrev pub term_degree : List Row → Piece → ℕ → Powers × ℤ → ℕ
 term_degree rows den top t = degree_rows rows t.0 (degree_of (others rows t.0)) + den.degree * (top - denominators rows t.0)
 
+-- the sum of the weights of the terms
 abbrev pub weight_of : List Row → Piece → ℕ → Terms → ℕ
 weight_of rows den top p = sum_by (term_weight rows den top) p
 
+-- the greatest degree of the terms
 abbrev pub degree_bound : List Row → Piece → ℕ → Terms → ℕ
 degree_bound rows den top [] = 0
 degree_bound rows den top (t ∷ ts) = max (term_degree rows den top t) (degree_bound rows den top ts)
@@ -114,13 +124,15 @@ pub record CanReplace (rows : List Row) (den : Piece) (top : ℕ) (p : Terms) : 
   pub weight_fits : weight_of rows den top p < 2 ^ 127
   pub degree_fits : degree_bound rows den top p ≤ 65535
 
+-- each power of the denominator is at most 2
 abbrev pub AllPowersSmall : List Row → Type 0
 AllPowersSmall [] = Unit {0}
 AllPowersSmall (r ∷ rs) = (r.power ≤ 2) × AllPowersSmall rs
 
--- the bounds of the whole
+-- the weight of the whole
 abbrev pub replaced_weight : List Row → Piece → Terms → ℕ
 replaced_weight rows den p = weight_of rows den (most_denominators rows p) p
 
+-- the degree of the whole
 abbrev pub replaced_degree : List Row → Piece → Terms → ℕ
 replaced_degree rows den p = degree_bound rows den (most_denominators rows p) p

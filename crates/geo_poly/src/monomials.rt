@@ -1,3 +1,5 @@
+//! Monomials: products of powers of variables.
+
 ghost use Rattle.std.specs.Prelude.{◌≡◌, ◌+◌, ◌≤◌, [], ◌∷◌, ◌++◌, IfOk, IfSome, IfNone, OnOk, OnErr};
 ghost use Rattle.geo_poly.specs.Variables.{var_cmp};
 ghost use Rattle.sparse_lists.specs.SparseLists.{IsCanonical};
@@ -5,7 +7,8 @@ ghost use Rattle.geo_poly.specs.Monomials.{degree_of, exponent, exponents, IsMon
 ghost use Rattle.geo_poly.specs.Division.{IsNoMultiple};
 
 use crate::variables::Var;
-use std::alloc::{AllocError, Global};
+use geo_points::NoMemory;
+use std::alloc::Global;
 use std::cmp::Ordering;
 use std::marker::Model;
 
@@ -26,6 +29,7 @@ impl Model for Monomial {
 }
 
 impl Monomial {
+    /// The monomial with no variable.
     pub fn one(alloc: Global) -> Monomial
         ensures { result ≡ [] }
     {
@@ -34,7 +38,8 @@ impl Monomial {
         }
     }
 
-    pub fn var(v: Var, alloc: Global) -> Result<Monomial, AllocError>
+    /// The variable to the power 1.
+    pub fn var(alloc: Global, v: Var) -> Result<Monomial, NoMemory>
         ensures { IfOk result (λ m. m ≡ (v, 1) ∷ []) }
     {
         let mut powers = Vec::new(alloc);
@@ -42,7 +47,8 @@ impl Monomial {
         Ok(Monomial { powers })
     }
 
-    pub fn copy(&self, alloc: Global) -> Result<Monomial, AllocError>
+    /// A monomial with the same powers.
+    pub fn copy(&self, alloc: Global) -> Result<Monomial, NoMemory>
         ensures { IfOk result (λ m. m ≡ self.now) }
     {
         Ok(Monomial {
@@ -50,6 +56,7 @@ impl Monomial {
         })
     }
 
+    /// The variables in order, with their exponents.
     pub fn powers(&self) -> &[(Var, u32)]
         ensures { result.now ≡ self.now }
     {
@@ -57,7 +64,7 @@ impl Monomial {
     }
 
     /// Adds a power behind the others.
-    pub fn push(&mut self, v: Var, exponent: u32) -> Result<(), AllocError>
+    pub fn push(&mut self, v: Var, exponent: u32) -> Result<(), NoMemory>
         requires { IsMonomial (self.old ++ (v, exponent) ∷ []) }
         ensures ok { OnOk result (self.new ≡ self.old ++ (v, exponent) ∷ []) }
         ensures err { OnErr result (self.new ≡ self.old) }
@@ -66,6 +73,7 @@ impl Monomial {
         Ok(())
     }
 
+    /// The sum of the exponents.
     pub fn degree(&self) -> u32
         ensures value { result ≡ degree_of self.now }
         ensures small { result ≤ 65535 }
@@ -83,7 +91,7 @@ impl Monomial {
     {
         let mut total = 0;
         for (w, e) in &self.powers {
-            if v.compare(*w) == Ordering::Equal {
+            if v == *w {
                 total += *e;
             }
         }
@@ -91,7 +99,7 @@ impl Monomial {
     }
 
     /// What times `by` is this monomial, where there is such a one.
-    pub fn over(&self, by: &Monomial, alloc: Global) -> Result<Option<Monomial>, AllocError>
+    pub fn over(&self, alloc: Global, by: &Monomial) -> Result<Option<Monomial>, NoMemory>
         ensures some { IfOk result (λ o. IfSome o (λ q. product by.now q ≡ self.now)) }
         ensures monomial { IfOk result (λ o. IfSome o IsMonomial) }
         ensures none { IfOk result (λ o. IfNone o (IsNoMultiple by.now self.now)) }
@@ -106,7 +114,7 @@ impl Monomial {
         if by.degree() + rest.degree() != self.degree() {
             return Ok(None);
         }
-        let whole = by.times(&rest, alloc)?;
+        let whole = by.times(alloc, &rest)?;
         match whole.compare(self) {
             Ordering::Equal => Ok(Some(rest)),
             _ => Ok(None),
@@ -123,7 +131,7 @@ impl Monomial {
         while i < left.len() && i < right.len() {
             let (v, e) = left[i];
             let (w, f) = right[i];
-            let order = w.compare(v).then(e.cmp(&f));
+            let order = w.cmp(&v).then(e.cmp(&f));
             if order != Ordering::Equal {
                 return order;
             }
@@ -132,7 +140,8 @@ impl Monomial {
         left.len().cmp(&right.len())
     }
 
-    pub fn times(&self, other: &Monomial, alloc: Global) -> Result<Monomial, AllocError>
+    /// The product: the exponents add up.
+    pub fn times(&self, alloc: Global, other: &Monomial) -> Result<Monomial, NoMemory>
         requires { degree_of self.now + degree_of other.now ≤ 65535 }
         ensures { IfOk result (λ m. m ≡ product self.now other.now) }
     {
@@ -146,7 +155,7 @@ fn merged(
     alloc: Global,
     left: &[(Var, u32)],
     right: &[(Var, u32)],
-) -> Result<Vec<(Var, u32)>, AllocError>
+) -> Result<Vec<(Var, u32)>, NoMemory>
     requires left { IsCanonical var_cmp exponents left.now }
     requires right { IsCanonical var_cmp exponents right.now }
     requires fits { degree_of left.now + degree_of right.now ≤ 65535 }
@@ -158,7 +167,7 @@ fn merged(
     while i < left.len() && j < right.len() {
         let (v, e) = left[i];
         let (w, f) = right[j];
-        match v.compare(w) {
+        match v.cmp(&w) {
             Ordering::Less => {
                 powers.push((v, e))?;
                 i += 1;

@@ -1,21 +1,37 @@
+//! The variables of polynomials, and their order.
+
 ghost use Rattle.std.specs.Prelude.{◌≡◌};
-ghost use Rattle.geo_poly.specs.Variables.{rank, var_cmp};
+ghost use Rattle.std.proofs.Common.{rules};
+ghost use Rattle.std.specs.Cmp.{partial_order_from_own_ties};
+ghost use Rattle.std.specs.Cmp.Rules.{comparing};
+ghost use Rattle.std.specs.Ordering.{as_partial_cmp, eq_by_cmp};
 
 use geo_points::{ParamId, PointId};
 use std::cmp::Ordering;
 
-/// A quantity that a polynomial speaks of.
-#[derive(Clone, Copy, Debug, PartialEq, Eq)]
+/// A quantity of a figure, by the numbers of its points.
+///
+/// `Less` is what stands before: ratios, then areas, then Pythagoras differences, each by its
+/// points; then the coordinates, point by point; then the parameters.
+#[derive(Clone, Copy, Debug)]
 pub enum Var {
+    /// The ratio of the parallel segments AB and CD.
     R(PointId, PointId, PointId, PointId),
+    /// The signed area of the triangle ABC.
     S(PointId, PointId, PointId),
+    /// The Pythagoras difference AB² + BC² − AC².
     P(PointId, PointId, PointId),
+    /// The first coordinate of a point.
     X(PointId),
+    /// The second coordinate of a point.
     Y(PointId),
+    /// A parameter.
     T(ParamId),
 }
 
 impl Var {
+    ghost use Rattle.geo_poly.specs.Variables.{rank};
+
     /// The kind, and then the numbers: the coordinates of a point stand together.
     fn rank(self) -> [u32; 5]
         ensures { result ≡ rank self }
@@ -29,11 +45,48 @@ impl Var {
             Var::T(t) => [4, t.0, 0, 0, 0],
         }
     }
+}
 
-    /// `Less` where `self` stands before `other`.
-    pub fn compare(self, other: Var) -> Ordering
-        ensures { result ≡ var_cmp self other }
-    {
+impl PartialEq for Var {
+    ghost use Rattle.geo_poly.specs.Variables.{var_cmp};
+
+    ghost eq = { eq_by_cmp var_cmp };
+
+    ghost laws = { Prim.search (comparing, rules) };
+
+    fn eq(&self, other: &Var) -> bool {
+        self.cmp(other) == Ordering::Equal
+    }
+}
+
+impl Eq for Var {
+    ghost laws = { Prim.search (comparing, rules) };
+}
+
+impl Ord for Var {
+    ghost use Rattle.geo_poly.specs.Variables.{var_cmp};
+
+    ghost cmp = { var_cmp };
+
+    ghost total = { Prim.search (comparing, rules) };
+
+    ghost matches_partial_cmp = { Prim.search (comparing, rules) };
+
+    ghost matches_eq = { Prim.search (comparing, rules) };
+
+    fn cmp(&self, other: &Var) -> Ordering {
         self.rank().cmp(&other.rank())
+    }
+}
+
+impl PartialOrd for Var {
+    ghost use Rattle.geo_poly.specs.Variables.{var_cmp};
+
+    ghost partial_cmp = { as_partial_cmp var_cmp };
+
+    ghost laws = { partial_order_from_own_ties (Prim.search (comparing, rules)) (Prim.search (comparing, rules)) };
+
+    fn partial_cmp(&self, other: &Var) -> Option<Ordering> {
+        Some(self.cmp(other))
     }
 }

@@ -3,6 +3,9 @@ use Rattle.std.specs.Prelude.{◌≡◌, ℕ, List, [], ◌∷◌}
 use Rattle.geo_prover.specs.declared.program.Command.{Command}
 use Rattle.geo_prover.specs.declared.program.Command.TheVariants.{Point, Pratio}
 use Rattle.geo_prover.specs.declared.program.Program.{Program}
+use Rattle.geo_prover.specs.declared.log.Line.{Line}
+use Rattle.geo_prover.specs.Lines.{log_text}
+use Rattle.geo_prover.specs.Logs.{IsAccepted, IsDefinedLog}
 use Rattle.geo_prover.specs.Program.{IsFirstForm, program_text}
 use Rattle.geo_prover.specs.Truth.{IsTrueProgram}
 
@@ -21,6 +24,10 @@ pub record IsFirstRun (bytes text : List ℕ) : Type 0 where
   pub program : Program
   pub taken : IsTaken program
   pub spelt : bytes ≡ program_text program
+  pub lines : List Line
+  pub defined : IsDefinedLog program 100000000 lines
+  pub accepted : IsAccepted program 100000000 lines
+  pub written : text ≡ log_text lines
   pub holds : IsTrueProgram program
 
 -- the bytes are the text of no program that is taken

@@ -2,7 +2,7 @@
 use Rattle.std.specs.Prelude.{◌≡◌, ℕ, suc, ◌+◌, ◌<◌, ◌≤◌, Bool, ◌&&◌, ◌||◌, ◌==◌, nat_le, IsTrue, All, Contains, codes, ℤ, pos, ◌≤ℤ◌, unsigned_abs, List, [], ◌∷◌, ◌++◌, map, length, slice_index, slice_index_or}
 use Rattle.std.specs.Fmt.{signed_decimal}
 use Rattle.std.specs.List.{AllPass, flat_map, join_with_byte}
-use Rattle.geo_points.specs.declared.PointId.{PointId}
+use Rattle.geo_points.specs.declared.ids.PointId.{PointId}
 use Rattle.geo_prover.specs.declared.program.Command.{Command}
 use Rattle.geo_prover.specs.declared.program.Command.TheVariants.{Point, Pratio}
 use Rattle.geo_prover.specs.declared.program.Program.{Program}

@@ -2,4 +2,5 @@
 #![tactic(auto)]
 
 pub mod first;
+pub mod log;
 pub mod program;

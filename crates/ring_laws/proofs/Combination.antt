@@ -18,6 +18,7 @@ module _ (R : Ring) (v : ℕ → R.carrier) where
   self : {a : carrier} → a ≈ a
   self {a} = R.same_refl a
 
+  -- what is taken away for equations that hold is 0
   combined-value : (hs : List Given) (e : Expression) → AllGivenHold R v hs → value R v (combined hs e) ≈ value R v e
   combined-value [] e h = self
   combined-value (given c a b ∷ hs) e h =
@@ -26,6 +27,7 @@ module _ (R : Ring) (v : ℕ → R.carrier) where
       (R.neg-same _ _ (R.mul-same _ _ _ _ self (Laws.sub_of_same R (value R v a) (value R v b) h.0) ∘ Laws.mul-zero R (value R v c)) ∘ Laws.neg-zero R)
       ∘ R.add-zero (value R v e)
 
+  -- expressions that the solver finds equal by given equations have the same value where the equations hold
   pub by_combination : (hs : List Given) (e f : Expression) → AllGivenHold R v hs → T (is_zero (normal_form (combined hs (e ⊟ f)))) → value R v e ≈ value R v f
   by_combination hs e f h z =
       Laws.same_of_sub R (value R v e) (value R v f)

@@ -1,10 +1,11 @@
--- The integers are a ring.
+-- The whole numbers are a ring.
 use lib.IntN as IntN
 use borrow.Author.Differences.{up, down, same_in, product_is, sum_is_lem}
 use Rattle.std.proofs.Common.{◌≡◌, ◌+◌, ◌*◌, ℤ, pos, ◌+ℤ◌, ◌*ℤ◌, neg_ℤ, refl, sym, ◌∙◌, ap, ap₂, arith}
 use Rattle.std.proofs.lemmas.Int.{ints}
 use Rattle.ring_laws.specs.Ring.{Ring}
 
+-- a whole number is read as `up` less `down`; these are the two parts of a product of three
 up_triple : (a b c : ℤ) → up (a *ℤ b *ℤ c) ≡ (up a * up b + down a * down b) * up c + (up a * down b + down a * up b) * down c
 up_triple a b c = (product_is (a *ℤ b) c).0 ∙ ap₂ (λ x y. x * up c + y * down c) (product_is a b).0 (product_is a b).1
 
@@ -21,6 +22,7 @@ mul-add a b c =
     same_in (a *ℤ (b +ℤ c)) (a *ℤ b +ℤ a *ℤ c)
     (omega (arith, product_is a (b +ℤ c), product_is a b, product_is a c, sum_is_lem (a *ℤ b) (a *ℤ c), ap (λ k. up a * k) (sum_is_lem b c), ap (λ k. down a * k) (sum_is_lem b c)))
 
+-- the ring of the whole numbers, in which `same` is equality
 abbrev pub integers : Ring
 integers = record {
   carrier = ℤ;

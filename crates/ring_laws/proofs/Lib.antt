@@ -4,3 +4,4 @@ pub mod Combination
 pub mod Congruence
 pub mod Integers
 pub mod Powers
+pub mod WholeValues

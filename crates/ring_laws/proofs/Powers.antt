@@ -1,6 +1,6 @@
 -- The laws of powers.
 use native.Mathlib.Nat as NatL
-use Rattle.std.proofs.Common.{◌≡◌, ℕ, zero as zeroₙ, suc, ◌+◌ as ◌+ₙ◌, ◌*◌ as ◌*ₙ◌, ◌-◌ as ◌-ₙ◌, List, [], ◌∷◌, subst, sym, arith}
+use Rattle.std.proofs.Common.{ℕ, zero as zeroₙ, suc, ◌+◌ as ◌+ₙ◌, ◌*◌ as ◌*ₙ◌, [], ◌∷◌, subst, sym}
 use Rattle.ring_laws.specs.Ring.{Ring}
 use Rattle.ring_laws.specs.Solver.{variable, ◌⊠◌, entry_at}
 use Rattle.ring_laws.specs.Powers.{power}

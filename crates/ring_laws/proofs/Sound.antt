@@ -27,17 +27,18 @@ module _ (R : Ring) (v : ℕ → R.carrier) where
   times : {a b c d : carrier} → a ≈ b → c ≈ d → a * c ≈ b * d
   times p q = R.mul-same _ _ _ _ p q
 
+  -- t k is the sum of k ones, and val q the value of a polynomial
   abbrev t : ℕ → carrier
   t = natural R
 
   abbrev val : Horner → carrier
   val = horner_value R v
 
-  natural-add : (m n : ℕ) → t (m +ₙ n) ≈ t m + t n
+  pub natural-add : (m n : ℕ) → t (m +ₙ n) ≈ t m + t n
   natural-add m zeroₙ = subst (λ k. t k ≈ t m + zero) (sym (NatL.add-zero m)) (flip (R.add-zero (t m)))
   natural-add m (suc n) = subst (λ k. t k ≈ t m + (t n + one)) (sym (NatL.add-suc m n)) (plus (natural-add m n) self ∘ R.add_assoc (t m) (t n) one)
 
-  natural-mul : (m n : ℕ) → t (m *ₙ n) ≈ t m * t n
+  pub natural-mul : (m n : ℕ) → t (m *ₙ n) ≈ t m * t n
   natural-mul m zeroₙ = subst (λ k. t k ≈ t m * zero) (sym (NatL.mul-zero m)) (flip (Laws.mul-zero R (t m)))
   natural-mul m (suc n) =
       subst (λ k. t k ≈ t m * (t n + one)) (sym (NatL.mul-suc m n))
@@ -65,31 +66,31 @@ module _ (R : Ring) (v : ℕ → R.carrier) where
   add_constant-value p n (constant a b) = constant-add p n a b
   add_constant-value p n (nested x P Q) = plus self (add_constant-value p n Q) ∘ Laws.add_left_comm R (v x * val P) (val (constant p n)) (val Q)
 
-  -- the two sums of two nodes
-  join_nested-value : (e l : Bool) (x : ℕ) (P Q : Horner) (fP fQ : Horner → Horner) (y : ℕ) (S U : Horner) (rest : Unit {0} → Horner)
+  -- the value of a sum of two nested polynomials, in each of the three orders of their variables
+  join_nested-value : (e l : Bool) (x : ℕ) (P Q : Horner) (add_P add_Q : Horner → Horner) (y : ℕ) (S U : Horner) (rest : Unit {0} → Horner)
       → (T e → x ≡ y)
-      → ((q : Horner) → val (fP q) ≈ val P + val q)
-      → ((q : Horner) → val (fQ q) ≈ val Q + val q)
+      → ((q : Horner) → val (add_P q) ≈ val P + val q)
+      → ((q : Horner) → val (add_Q q) ≈ val Q + val q)
       → val (rest tt) ≈ val (nested x P Q) + val U
-      → val (join_nested e l x P fP fQ y S U rest) ≈ val (nested x P Q) + val (nested y S U)
-  join_nested-value true l x P Q fP fQ y S U rest same hP hQ hr =
-      plus (times self (hP S)) (hQ U)
+      → val (join_nested e l x P add_P add_Q y S U rest) ≈ val (nested x P Q) + val (nested y S U)
+  join_nested-value true l x P Q add_P add_Q y S U rest same is_P is_Q is_rest =
+      plus (times self (is_P S)) (is_Q U)
       ∘ plus (R.mul-add (v x) (val P) (val S)) self
       ∘ Laws.add_swap R (v x * val P) (v x * val S) (val Q) (val U)
       ∘ subst (λ k. (v x * val P + val Q) + (v x * val S + val U) ≈ (v x * val P + val Q) + (v k * val S + val U)) (same tt) self
-  join_nested-value false true x P Q fP fQ y S U rest same hP hQ hr =
-      plus self (hQ (nested y S U)) ∘ flip (R.add_assoc _ _ _)
-  join_nested-value false false x P Q fP fQ y S U rest same hP hQ hr =
-      plus self hr ∘ Laws.add_left_comm R (v y * val S) (val (nested x P Q)) (val U)
+  join_nested-value false true x P Q add_P add_Q y S U rest same is_P is_Q is_rest =
+      plus self (is_Q (nested y S U)) ∘ flip (R.add_assoc _ _ _)
+  join_nested-value false false x P Q add_P add_Q y S U rest same is_P is_Q is_rest =
+      plus self is_rest ∘ Laws.add_left_comm R (v y * val S) (val (nested x P Q)) (val U)
 
-  add_nested-value : (x : ℕ) (P Q : Horner) (fP fQ : Horner → Horner)
-      → ((q : Horner) → val (fP q) ≈ val P + val q)
-      → ((q : Horner) → val (fQ q) ≈ val Q + val q)
-      → (q : Horner) → val (add_nested x P fP fQ q) ≈ val (nested x P Q) + val q
-  add_nested-value x P Q fP fQ hP hQ (constant a b) = plus self (hQ (constant a b)) ∘ flip (R.add_assoc _ _ _)
-  add_nested-value x P Q fP fQ hP hQ (nested y S U) =
-      join_nested-value (eqb x y) (ltb x y) x P Q fP fQ y S U (λ u. add_nested x P fP fQ U) (eqb→eq x y) hP hQ
-      (add_nested-value x P Q fP fQ hP hQ U)
+  add_nested-value : (x : ℕ) (P Q : Horner) (add_P add_Q : Horner → Horner)
+      → ((q : Horner) → val (add_P q) ≈ val P + val q)
+      → ((q : Horner) → val (add_Q q) ≈ val Q + val q)
+      → (q : Horner) → val (add_nested x P add_P add_Q q) ≈ val (nested x P Q) + val q
+  add_nested-value x P Q add_P add_Q is_P is_Q (constant a b) = plus self (is_Q (constant a b)) ∘ flip (R.add_assoc _ _ _)
+  add_nested-value x P Q add_P add_Q is_P is_Q (nested y S U) =
+      join_nested-value (eqb x y) (ltb x y) x P Q add_P add_Q y S U (λ u. add_nested x P add_P add_Q U) (eqb→eq x y) is_P is_Q
+      (add_nested-value x P Q add_P add_Q is_P is_Q U)
 
   add_horner-value : (p q : Horner) → val (add_horner p q) ≈ val p + val q
   add_horner-value (constant p n) q = add_constant-value p n q
@@ -107,13 +108,13 @@ module _ (R : Ring) (v : ℕ → R.carrier) where
   fresh-value : (x : ℕ) (q : Horner) → val (nested x q (constant 0 0)) ≈ v x * val q
   fresh-value x q = plus self zero-constant ∘ R.add-zero _
 
-  times_variable_at-value : (l : Bool) (x y : ℕ) (P Q : Horner) (rP rQ : Unit {0} → Horner)
-      → val (rP tt) ≈ v x * val P
-      → val (rQ tt) ≈ v x * val Q
-      → val (times_variable_at l x y P Q rP rQ) ≈ v x * val (nested y P Q)
-  times_variable_at-value true x y P Q rP rQ hP hQ =
-      plus (times self hP ∘ Laws.mul_left_comm R (v y) (v x) (val P)) hQ ∘ flip (R.mul-add (v x) (v y * val P) (val Q))
-  times_variable_at-value false x y P Q rP rQ hP hQ = fresh-value x (nested y P Q)
+  times_variable_at-value : (l : Bool) (x y : ℕ) (P Q : Horner) (raised_P raised_Q : Unit {0} → Horner)
+      → val (raised_P tt) ≈ v x * val P
+      → val (raised_Q tt) ≈ v x * val Q
+      → val (times_variable_at l x y P Q raised_P raised_Q) ≈ v x * val (nested y P Q)
+  times_variable_at-value true x y P Q raised_P raised_Q is_P is_Q =
+      plus (times self is_P ∘ Laws.mul_left_comm R (v y) (v x) (val P)) is_Q ∘ flip (R.mul-add (v x) (v y * val P) (val Q))
+  times_variable_at-value false x y P Q raised_P raised_Q is_P is_Q = fresh-value x (nested y P Q)
 
   times_variable-value : (x : ℕ) (q : Horner) → val (times_variable x q) ≈ v x * val q
   times_variable-value x (constant a b) = fresh-value x (constant a b)
@@ -134,6 +135,7 @@ module _ (R : Ring) (v : ℕ → R.carrier) where
       scale-value 0 1 q ∘ times (Laws.zero-add R (neg (zero + one)) ∘ R.neg-same _ _ (Laws.zero-add R one)) self
       ∘ Laws.neg-mul R one (val q) ∘ R.neg-same _ _ (R.mul_comm one (val q) ∘ R.mul-one (val q))
 
+  -- an expression and its normal form have the same value
   pub normal_form-value : (e : Expression) → val (normal_form e) ≈ value R v e
   normal_form-value (variable x) = fresh-value x (constant 1 0) ∘ times self one-constant ∘ R.mul-one (v x)
   normal_form-value (numeral k) = plus self (Laws.neg-zero R) ∘ R.add-zero (t k)
@@ -156,8 +158,10 @@ module _ (R : Ring) (v : ℕ → R.carrier) where
       plus (times self (is_zero-value P (and_left (is_zero P) (is_zero Q) h)) ∘ Laws.mul-zero R (v x)) (is_zero-value Q (and_right (is_zero P) (is_zero Q) h))
       ∘ R.add-zero zero
 
+  -- an expression whose normal form is 0 has the value 0
   pub vanishes : (e : Expression) → T (is_zero (normal_form e)) → value R v e ≈ zero
   vanishes e h = flip (normal_form-value e) ∘ is_zero-value (normal_form e) h
 
+  -- expressions that the solver finds equal have the same value
   pub agree : (e f : Expression) → T (agrees e f) → value R v e ≈ value R v f
   agree e f h = Laws.same_of_sub R (value R v e) (value R v f) (vanishes (e ⊟ f) h)

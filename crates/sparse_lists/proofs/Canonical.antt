@@ -121,6 +121,7 @@ module _ {K V : Type 0} (cmp : K → K → Ordering) (A : Amounts V) (order : Is
       let amounts : t.1 ≡ u.1 = sym (amount-head t ts h.1) ∙ same t.0 ∙ ap (λ (k : K). amount cmp A k (u ∷ us)) e ∙ amount-head u us g.1 in
       (amounts, λ k. adds.cancel (cond (is_eq (cmp k t.0)) t.1 A.zero) (amount cmp A k ts) (amount cmp A k us) (same k ∙ ap₂ (λ (x : K) (a : V). A.add (cond (is_eq (cmp k x)) a A.zero) (amount cmp A k us)) (sym e) (sym amounts)))
 
+  -- canonical lists with the same amounts are one list
   pub same_list : (ts us : List (K × V)) → IsCanonical cmp A ts → IsCanonical cmp A us → ((k : K) → amount cmp A k ts ≡ amount cmp A k us) → ts ≡ us
   same_list [] [] h g same = refl
   same_list [] (u ∷ us) h g same = differ u us [] g tt (λ k. sym (same k))
@@ -161,7 +162,7 @@ module _ {K V : Type 0} (cmp : K → K → Ordering) (A : Amounts V) (order : Is
   put_nonzero : (k : K) (a : V) (ts : List (K × V)) → A.is_zero a ≡ false → put A k a ts ≡ (k, a) ∷ ts
   put_nonzero k a ts e = ap (λ (b : Bool). cond b ts ((k, a) ∷ ts)) e
 
-  -- THE STEPS OF A MERGE
+  -- ---- the steps of a merge
   pub merge_less : (t u : K × V) (ts us : List (K × V)) → IsCanonical cmp A (t ∷ ts) → IsCanonical cmp A (u ∷ us) → cmp t.0 u.0 ≡ Less
       → canonical cmp A ((t ∷ ts) ++ (u ∷ us)) ≡ t ∷ canonical cmp A (ts ++ (u ∷ us))
   merge_less t u ts us h g e =

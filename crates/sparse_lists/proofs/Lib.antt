@@ -2,3 +2,4 @@ pub mod Canonical
 pub mod Merging
 pub mod Sums
 pub mod Totals
+pub mod NaturalAmounts

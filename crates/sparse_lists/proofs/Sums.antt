@@ -27,6 +27,7 @@ module _ {K V : Type 0} (cmp : K → K → Ordering) (A : Amounts V) (order : Is
             omega (arith, sum_by-put k (A.add a t.1) ts, f-add k a t.1, sum_by-cons f t ts)
         go Greater e rest = omega (arith, sum_by-cons f t (insert cmp A k a ts), sum_by-cons f t ts)
 
+    -- a sum over the entries, of numbers that add up as the amounts do, is that over the canonical list
     pub sum_by-canonical : (ts : List (K × V)) → sum_by f (canonical cmp A ts) ≡ sum_by f ts
     sum_by-canonical [] = refl
     sum_by-canonical (t ∷ ts) = omega (arith, sum_by-insert t.0 t.1 (canonical cmp A ts), sum_by-canonical ts, sum_by-cons f t ts)
@@ -46,6 +47,7 @@ module _ {K V : Type 0} (cmp : K → K → Ordering) (A : Amounts V) (order : Is
             omega (arith, sum_by-put-le k (A.add a t.1) ts, f-add-le k a t.1, sum_by-cons f t ts)
         go Greater e rest = omega (arith, sum_by-cons f t (insert cmp A k a ts), sum_by-cons f t ts)
 
+    -- of numbers that add up to no less, it is at least that over the canonical list
     pub sum_by-canonical-le : (ts : List (K × V)) → sum_by f (canonical cmp A ts) ≤ sum_by f ts
     sum_by-canonical-le [] = omega arith
     sum_by-canonical-le (t ∷ ts) = omega (arith, sum_by-insert-le t.0 t.1 (canonical cmp A ts), sum_by-canonical-le ts, sum_by-cons f t ts)
@@ -63,6 +65,7 @@ module _ {K V : Type 0} (cmp : K → K → Ordering) (A : Amounts V) (P : K → 
         | Greater ↦ (g.0, AllKeys-insert k a ts h g.1)
       ]
 
+  -- what holds for all keys of a list holds for those of its canonical list
   pub AllKeys-canonical : (ts : List (K × V)) → AllKeys P ts → AllKeys P (canonical cmp A ts)
   AllKeys-canonical [] h = tt
   AllKeys-canonical (t ∷ ts) h = AllKeys-insert t.0 t.1 (canonical cmp A ts) h.0 (AllKeys-canonical ts h.1)

@@ -5,6 +5,7 @@ use Rattle.std.specs.declared.cmp.Ordering.TheVariants.{Less, Equal, Greater}
 use Rattle.ring_laws.specs.Ring.{Ring}
 use Rattle.sparse_lists.specs.SparseLists.{Amounts, put, insert_at, insert, canonical, IsKeyOrder, IsAdditive}
 
+-- a commutative monoid up to an equivalence of its own
 pub record Monoid : Type 1 where
   pub carrier : Type 0
   pub same : carrier → carrier → Type 0
@@ -18,6 +19,7 @@ pub record Monoid : Type 1 where
   pub op_assoc : (a b c : carrier) → same (op (op a b) c) (op a (op b c))
   pub op-unit : (a : carrier) → same (op a unit) a
 
+-- a ring by its sum
 abbrev pub additive : Ring → Monoid
 additive R = record {
   carrier = R.carrier;
@@ -33,6 +35,7 @@ additive R = record {
   op-unit = R.add-zero;
 }
 
+-- a ring by its product
 abbrev pub multiplicative : Ring → Monoid
 multiplicative R = record {
   carrier = R.carrier;
@@ -48,6 +51,7 @@ multiplicative R = record {
   op-unit = R.mul-one;
 }
 
+-- the f x of all entries x, put together
 abbrev pub total : (M : Monoid) → {X : Type 0} → (X → M.carrier) → List X → M.carrier
 total M f [] = M.unit
 total M f (x ∷ xs) = M.op (f x) (total M f xs)
@@ -99,6 +103,7 @@ module _ (M : Monoid) where
             ∘ both self (both (subst (λ (x : K). f (k, t.1) ≈ f (x, t.1)) (order.exact k t.0 e) self) self)
         go Greater e rest = both self rest ∘ left_comm (f t) (f (k, a)) (total M f ts)
 
+    -- what f makes of a list and of its canonical list is the same, where f turns sums of amounts into the monoid's operation
     pub total-canonical : (ts : List (K × V)) → total M f (canonical cmp A ts) ≈ total M f ts
     total-canonical [] = self
     total-canonical (t ∷ ts) = total-insert t.0 t.1 (canonical cmp A ts) ∘ both self (total-canonical ts)

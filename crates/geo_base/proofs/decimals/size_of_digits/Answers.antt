@@ -17,5 +17,5 @@ pub loop-byte-preserved : goal.loop-byte-preserved
 loop-byte-preserved c =
     let next = next_digit c.args.digits.now c.loop-byte.byte-index c.requires c.loop-byte-test.true in record {
       value = omega arith;
-      fits = omega arith
+      fits = omega arith;
     }

@@ -5,5 +5,5 @@ use Rattle.geo_base.proofs.decimals.size_of_digits.Given as goal
 abbrev pub invariant-loop-byte : goal.invariant-loop-byte
 invariant-loop-byte l = record {
   value : l.size ≡ digits_value 10 (take l.byte-index l.digits);
-  fits : l.size < 2 ^ 127
+  fits : l.size < 2 ^ 127;
 }

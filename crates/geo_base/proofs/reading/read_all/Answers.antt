@@ -1,4 +1,4 @@
-use Rattle.std.proofs.Common.{◌≡◌, ℕ, ◌+◌, ◌≤◌, ◌++◌, List, Option, take, length, Result, OnErr, Ok, Err, arith}
+use Rattle.std.proofs.Common.{ℕ, ◌≤◌, ◌++◌, List, Option, take, length, Result, OnErr, Ok, Err, arith}
 use Rattle.std.proofs.lemmas.Grind.{common_steps}
 use Rattle.geo_base.specs.Devices.{Loses}
 use Rattle.geo_base.proofs.DeviceLemmas.{Loses-append}

@@ -34,7 +34,7 @@ loop-i-preserved-in-Less c =
       kept = rw c.in_ok-push-in-Less.ensures.items
           (kept_less var_cmp exponents var_order exponents_add m n c.loop-i.i c.loop-i.j (at m c.loop-i.i) (at n c.loop-i.j) c.loop-i-test.true c.if-j-right.true
           (at-is m c.loop-i.i c.loop-i-test.true) (at-is n c.loop-i.j c.if-j-right.true) c.requires.left c.requires.right
-          c.loop-i.powers.items (product m n) (sym c.compare.ensures ∙ c.in-Less.is) c.loop-i.invariant.kept);
+          c.loop-i.powers.items (product m n) (sym c.cmp.ensures ∙ c.in-Less.is) c.loop-i.invariant.kept);
     }
 
 pub loop-i-preserved-in-Greater : goal.loop-i-preserved-in-Greater
@@ -47,7 +47,7 @@ loop-i-preserved-in-Greater c =
       kept = rw c.in_ok-push-in-Greater.ensures.items
           (kept_greater var_cmp exponents var_order exponents_add m n c.loop-i.i c.loop-i.j (at m c.loop-i.i) (at n c.loop-i.j) c.loop-i-test.true c.if-j-right.true
           (at-is m c.loop-i.i c.loop-i-test.true) (at-is n c.loop-i.j c.if-j-right.true) c.requires.left c.requires.right
-          c.loop-i.powers.items (product m n) (sym c.compare.ensures ∙ c.in-Greater.is) c.loop-i.invariant.kept);
+          c.loop-i.powers.items (product m n) (sym c.cmp.ensures ∙ c.in-Greater.is) c.loop-i.invariant.kept);
     }
 
 pub loop-i-preserved : goal.loop-i-preserved
@@ -60,7 +60,7 @@ loop-i-preserved c =
       kept = rw c.in_ok-push-in-Equal.ensures.items
           (kept_equal var_cmp exponents var_order exponents_add m n c.loop-i.i c.loop-i.j (at m c.loop-i.i) (at n c.loop-i.j) c.loop-i-test.true c.if-j-right.true
           (at-is m c.loop-i.i c.loop-i-test.true) (at-is n c.loop-i.j c.if-j-right.true) c.requires.left c.requires.right
-          c.loop-i.powers.items (product m n) (sym c.compare.ensures ∙ c.in-Equal.is) (sum_nonzero m n c.loop-i.i c.loop-i.j c.loop-i-test.true c.requires.left) c.loop-i.invariant.kept);
+          c.loop-i.powers.items (product m n) (sym c.cmp.ensures ∙ c.in-Equal.is) (sum_nonzero m n c.loop-i.i c.loop-i.j c.loop-i-test.true c.requires.left) c.loop-i.invariant.kept);
     }
 
 pub returns : goal.returns

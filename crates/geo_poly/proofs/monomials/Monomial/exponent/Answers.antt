@@ -1,5 +1,5 @@
 use Rattle.std.proofs.Common.{arith}
-use Rattle.geo_poly.proofs.Division.{exponent-le}
+use Rattle.geo_poly.proofs.Quotients.{exponent-le}
 use Rattle.geo_poly.proofs.monomials.Monomial.exponent.Goals as goal
 
 pub loop-w-init : goal.loop-w-init

@@ -7,7 +7,7 @@ use Rattle.geo_poly.specs.Monomials.{Powers, IsMonomial, degree_of, exponent, pr
 use Rattle.geo_poly.specs.Division.{quotient, IsNoMultiple}
 use Rattle.geo_poly.proofs.Orders.{monomial_exact, term_order}
 use Rattle.sparse_lists.proofs.Merging.{drop_at, get_or_any}
-use Rattle.geo_poly.proofs.Division.{next_power, no_multiple, no_multiple_by_degree}
+use Rattle.geo_poly.proofs.Quotients.{next_power, no_multiple, no_multiple_by_degree}
 use Rattle.geo_poly.proofs.monomials.Monomial.over.Goals as goal
 
 abbrev none : Var × ℕ

@@ -1,7 +1,7 @@
 use Rattle.std.proofs.Common.{◌≡◌, ℕ, max, ap₂, ◌∙◌, sym, arith}
 use Rattle.std.specs.Ordering.{nat_cmp, ord_max}
 use Rattle.std.proofs.lemmas.Bool.Decides.{nat_tests}
-use Rattle.geo_poly.proofs.Products.{total_degree-more}
+use Rattle.geo_poly.proofs.ProductLaws.{total_degree-more}
 use Rattle.geo_poly.proofs.polynomials.Poly.degree.Goals as goal
 
 ord_max_is : (a b : ℕ) → ord_max nat_cmp a b ≡ max a b

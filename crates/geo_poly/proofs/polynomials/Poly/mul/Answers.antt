@@ -1,6 +1,6 @@
 use Rattle.std.proofs.Common.{◌≡◌, ◌*◌, ◌^◌, ◌<◌, ap₂, arith}
 use Rattle.geo_poly.specs.Polynomials.{norm_of, total_degree}
-use Rattle.geo_poly.proofs.Products.{total_degree-le, IsPolynomial-product_of}
+use Rattle.geo_poly.proofs.ProductLaws.{total_degree-le, IsPolynomial-product_of}
 use Rattle.geo_poly.proofs.polynomials.Poly.mul.Goals as goal
 
 pub overflow_add-degree : goal.overflow_add-degree

@@ -1,0 +1,23 @@
+//! Greatest common divisors.
+
+ghost use Rattle.std.specs.Prelude.{pos, ◌<◌, ◌^◌, ◌≤ℤ◌, unsigned_abs};
+ghost use Rattle.std.specs.Int.{IsGcd};
+
+/// The greatest common divisor of two numbers, whatever their signs. That of 0 and a number is the
+/// number's absolute value, so `gcd(0, 0)` is 0. The least `i128`, which has no absolute value of
+/// its own type, may not be given.
+pub fn gcd(a: i128, b: i128) -> i128
+    requires a_in { unsigned_abs a < 2 ^ 127 }
+    requires b_in { unsigned_abs b < 2 ^ 127 }
+    ensures not_negative { pos 0 ≤ℤ result }
+    ensures greatest { IsGcd (unsigned_abs a) (unsigned_abs b) (unsigned_abs result) }
+{
+    let mut x = a.unsigned_abs();
+    let mut y = b.unsigned_abs();
+    while y != 0 {
+        let rest = x % y;
+        x = y;
+        y = rest;
+    }
+    x as i128
+}

@@ -1,0 +1,42 @@
+//! What is proved of fractions, points and the quantities on them. The functions do nothing: what
+//! each says is its contract.
+
+ghost use Rattle.geo_points.specs.Laws.{AlongMakesOnePoint, FractionsAreAField, PythagorasDifferenceIsOfSquares, QuantitiesAreOfPoints, RatioScales, SameIsACongruence, SignedAreaTurns};
+
+/// Being the same fraction, by cross multiplication, is an equivalence that sums, products and
+/// opposites respect.
+pub fn same_is_a_congruence()
+    ensures { SameIsACongruence }
+{}
+
+/// Up to being the same, fractions have the laws of a field.
+pub fn fractions_are_a_field()
+    ensures { FractionsAreAField }
+{}
+
+/// A signed area is half the cross product of two sides. A swap of two corners changes its sign, a
+/// turn of the three keeps it, and it is 0 exactly where the corners lie on a line.
+pub fn signed_area_turns()
+    ensures { SignedAreaTurns }
+{}
+
+/// A Pythagoras difference is `AB² + CB² - AC²`.
+pub fn pythagoras_difference_is_of_squares()
+    ensures { PythagorasDifferenceIsOfSquares }
+{}
+
+/// Where the ratio of AB to CD is defined, it is the k with `B - A = k (D - C)`.
+pub fn ratio_scales()
+    ensures { RatioScales }
+{}
+
+/// Areas, Pythagoras differences and ratios are the same fractions for all triples that stand for
+/// the same points.
+pub fn quantities_are_of_points()
+    ensures { QuantitiesAreOfPoints }
+{}
+
+/// The step `Y - W = r (V - U)` makes a point for any W, U, V and r, and only that one.
+pub fn along_makes_one_point()
+    ensures { AlongMakesOnePoint }
+{}

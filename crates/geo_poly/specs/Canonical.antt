@@ -1,0 +1,59 @@
+-- Quantities as a sign times a variable whose points are sorted.
+use Rattle.std.specs.Prelude.{ℕ, ◌+◌, ◌-◌, ◌==◌, min, max, cond, ℤ, pos, negsuc, ◌*ℤ◌, Some, None, unsigned_abs}
+use Rattle.std.specs.Ordering.{nat_cmp}
+use Rattle.std.specs.declared.cmp.Ordering.{Ordering}
+use Rattle.std.specs.declared.cmp.Ordering.TheVariants.{Less, Equal, Greater}
+use Rattle.geo_points.specs.declared.ids.PointId.{PointId}
+use Rattle.geo_points.specs.Fraction.{Fraction, Same, whole, times}
+use Rattle.geo_points.specs.Points.{Point, signed_area}
+use Rattle.geo_poly.specs.declared.canonical.Canon.{Canon}
+use Rattle.geo_poly.specs.declared.variables.Var.{Var}
+use Rattle.geo_poly.specs.declared.variables.Var.TheVariants.{S}
+use Rattle.geo_poly.specs.Values.{variable_value}
+
+-- 1 where the order is right, -1 where it is wrong, 0 where both are the same
+abbrev pub ordering_sign : Ordering → ℤ
+ordering_sign Less = pos 1
+ordering_sign Equal = pos 0
+ordering_sign Greater = negsuc 0
+
+abbrev pub pair_sign : PointId → PointId → ℤ
+pair_sign a b = ordering_sign (nat_cmp a.0 b.0)
+
+-- the sign of the permutation that sorts three points: -1 for each pair in wrong order; 0 where two of them are the same
+abbrev pub permutation_sign : PointId → PointId → PointId → ℤ
+permutation_sign a b c = pair_sign a b *ℤ pair_sign b c *ℤ pair_sign a c
+
+abbrev pub least_of_three : ℕ → ℕ → ℕ → ℕ
+least_of_three a b c = min a (min b c)
+
+abbrev pub greatest_of_three : ℕ → ℕ → ℕ → ℕ
+greatest_of_three a b c = max a (max b c)
+
+-- the number that is left
+abbrev pub middle_of_three : ℕ → ℕ → ℕ → ℕ
+middle_of_three a b c = a + b + c - least_of_three a b c - greatest_of_three a b c
+
+-- the variable of the sorted points
+abbrev pub sorted_area : PointId → PointId → PointId → Var
+sorted_area a b c =
+    S (record { 0 = least_of_three a.0 b.0 c.0 }) (record { 0 = middle_of_three a.0 b.0 c.0 }) (record { 0 = greatest_of_three a.0 b.0 c.0 })
+
+-- a sign times a variable, which is the number 0 where the sign is 0
+abbrev pub signed_variable : ℤ → Var → Canon
+signed_variable sign v = cond (unsigned_abs sign == 0) (record { sign = pos 0; var = None }) (record { sign = sign; var = Some v })
+
+-- the signed area of ABC: 0 where two points are the same, else the variable of the sorted points with the sign of the permutation
+abbrev pub canonical_area : PointId → PointId → PointId → Canon
+canonical_area a b c = signed_variable (permutation_sign a b c) (sorted_area a b c)
+
+-- the sign times the value of the variable; the sign alone where there is none
+abbrev pub canon_value : (ℕ → Point) → (ℕ → Fraction) → Canon → Fraction
+canon_value at number r = elim r.var [ None ↦ whole r.sign | Some v ↦ times (whole r.sign) (variable_value at number v) ]
+
+-- LAW
+-- wherever the points are placed, the canonical form has the value of the signed area
+abbrev pub CanonicalAreaKeepsValue : Type 0
+CanonicalAreaKeepsValue =
+    (at : ℕ → Point) (number : ℕ → Fraction) (a b c : PointId)
+    → Same (signed_area (at a.0) (at b.0) (at c.0)) (canon_value at number (canonical_area a b c))
