@@ -1,0 +1,55 @@
+-- What each answer of a run says of its words, of the source's bytes to come, and of the bytes that the sink holds.
+-- A name with a prime is the same after the run.
+--
+-- No two causes among these hold at once: words are `prove` or are not; where the source tells its bytes, it gave
+-- more than the limit or ended within it; and the bytes of an input are the text of a program that is taken or of
+-- none. So where no fault rises and memory is found, each status comes exactly where its cause is.
+use Rattle.std.specs.Prelude.{◌≡◌, ℕ, List, take, Option}
+use Rattle.geo_base.specs.Devices.{Grows, HasRisen}
+use Rattle.geo_cli.specs.declared.due.Due.{Due}
+use Rattle.geo_cli.specs.Due.{IsDue, due_text, too_long_line, unbuilt_line, usage_line}
+use Rattle.geo_cli.specs.Input.{IsInput, IsLong}
+use Rattle.geo_cli.specs.Words.{IsProve}
+use Rattle.geo_prover.specs.FirstLog.{IsFirstRun, IsUnbuilt}
+
+-- the input was the text of a true program, and its log was written
+pub record Proves (words : List (List ℕ)) (left left' held held' : Option (List ℕ)) : Type 0 where
+  pub command : IsProve words
+  pub bytes : List ℕ
+  pub input : IsInput left bytes left'
+  pub text : List ℕ
+  pub log : IsFirstRun bytes text
+  pub written : Grows held text held'
+
+-- the words were no command; nothing was read, and the usage line was written
+pub record Misuses (words : List (List ℕ)) (left left' held held' : Option (List ℕ)) : Type 0 where
+  pub command : ¬ (IsProve words)
+  pub unread : left' ≡ left
+  pub written : Grows held usage_line held'
+
+-- the input was longer than the limit, and `too long` was written
+pub record Overruns (words : List (List ℕ)) (left left' held held' : Option (List ℕ)) : Type 0 where
+  pub command : IsProve words
+  pub long : IsLong left left'
+  pub written : Grows held too_long_line held'
+
+-- the input was no program that is taken, and `unbuilt` was written
+pub record Declines (words : List (List ℕ)) (left left' held held' : Option (List ℕ)) : Type 0 where
+  pub command : IsProve words
+  pub bytes : List ℕ
+  pub input : IsInput left bytes left'
+  pub unbuilt : IsUnbuilt bytes
+  pub written : Grows held unbuilt_line held'
+
+-- the first bytes of a text that is due were written
+pub record WritesPart (words : List (List ℕ)) (left left' held held' : Option (List ℕ)) : Type 0 where
+  pub due : Due
+  pub cause : IsDue words left left' due
+  pub count : ℕ
+  pub written : Grows held (take count (due_text due)) held'
+
+-- a read failed, and nothing was written
+pub record FailsToRead (words : List (List ℕ)) (faults faults' : ℕ) (held held' : Option (List ℕ)) : Type 0 where
+  pub command : IsProve words
+  pub fault : HasRisen faults faults'
+  pub unwritten : held' ≡ held

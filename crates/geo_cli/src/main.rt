@@ -1,0 +1,41 @@
+//! Proves a statement of plane geometry that standard input spells, and writes the log of the proof.
+#![tactic(auto)]
+
+use crate::run::run;
+use crate::status::Status;
+use geo_base::{ReaderSource, WriterSink};
+use std::env;
+use std::io::ErrorKind;
+use std::process::ExitCode;
+
+mod due;
+mod lines;
+mod run;
+mod status;
+#[cfg(test)]
+mod tests;
+mod words;
+
+fn main(rt: HostRuntime) -> ExitCode {
+    let status = match words_of(&rt) {
+        Ok(words) => {
+            let mut source = ReaderSource::new(rt.stdin());
+            let mut sink = WriterSink::new(rt.stdout());
+            run(rt.alloc(), &words, &mut source, &mut sink)
+        }
+        Err(status) => status,
+    };
+    ExitCode::from(status.number())
+}
+
+// The words after the program's name, or the status to end with where a word is no UTF-8 or memory is wanting.
+fn words_of(rt: &HostRuntime) -> Result<Vec<String>, Status> {
+    match env::args(rt) {
+        Ok(words) => words
+            .skip(1)
+            .collect(rt.alloc())
+            .map_err(|_| Status::NoMemory),
+        Err(error) if error.kind() == ErrorKind::OutOfMemory => Err(Status::NoMemory),
+        Err(_) => Err(Status::Usage),
+    }
+}
