@@ -246,3 +246,39 @@ begins_step lines names after_names commands after_commands s d p h b =
     let P : List Word → Type 0 = λ ns. Begins ns after_commands p in
     let Q : List Command → Type 0 = λ cs. Begins (names ++ s.name ∷ []) cs p in
     subst P (sym s.names_are) (subst Q (sym s.commands_are) (begins_more lines names commands s.name s.command d s.next p h b))
+
+-- ONE PROGRAM FOR A TEXT
+
+-- a program with these lines begins as any other does
+begins_as : (lines : List (List ℕ)) (q : Program) → IsSpelt lines q → (p : Program) → IsSpelt lines p
+    → (names : List Word) (commands : List Command) (more_names : List Word) (more_commands : List Command)
+    → AreDeclared lines names commands → q.names ≡ names ++ more_names → q.commands ≡ commands ++ more_commands
+    → Begins names commands p → Begins q.names q.commands p
+begins_as lines q g p h names commands [] [] d e f b =
+    let P : List Word → Type 0 = λ ns. Begins ns q.commands p in
+    let Q : List Command → Type 0 = λ cs. Begins names cs p in
+    subst P (sym (e ∙ append-nil names)) (subst Q (sym (f ∙ append-nil commands)) b)
+begins_as lines q g p h names commands [] (command ∷ more) d e f b =
+    absurd (omega (arith, g.first_form.named, d.count, ap length e, ap length f, length-append names [], length-append commands (command ∷ more)))
+begins_as lines q g p h names commands (name ∷ more) [] d e f b =
+    absurd (omega (arith, g.first_form.named, d.count, ap length e, ap length f, length-append names (name ∷ more), length-append commands []))
+begins_as lines q g p h names commands (name ∷ more_names) (command ∷ more_commands) d e f b =
+    let next = continues lines q names more_names name commands more_commands command d.count g e f in
+    begins_as lines q g p h (names ++ name ∷ []) (commands ++ command ∷ []) more_names more_commands
+    (declared_more lines names commands name command d next.room next.within next.next)
+    (e ∙ sym (append_assoc names (name ∷ []) more_names)) (f ∙ sym (append_assoc commands (command ∷ []) more_commands))
+    (begins_more lines names commands name command d next.next p h b)
+
+begins_with : (lines : List (List ℕ)) (q p : Program) → IsSpelt lines q → IsSpelt lines p → Begins q.names q.commands p
+begins_with lines q p g h = begins_as lines q g p h [] [] q.names q.commands (none_declared lines) refl refl (begins_none p)
+
+-- two programs with the same lines have the same commands
+pub same_commands : (lines : List (List ℕ)) (q p : Program) → IsSpelt lines q → IsSpelt lines p → p.commands ≡ q.commands
+same_commands lines q p g h =
+    let there = begins_with lines q p g h in
+    let back = begins_with lines p q h g in
+    same_from there.more_commands there.commands_are (λ command more e. omega (arith, ap length (there.commands_are ∙ ap (λ cs. q.commands ++ cs) e), ap length back.commands_are, length-append q.commands (command ∷ more), length-append p.commands back.more_commands))
+  where
+    same_from : (more : List Command) → p.commands ≡ q.commands ++ more → ((command : Command) → (rest : List Command) → more ≡ command ∷ rest → ⊥) → p.commands ≡ q.commands
+    same_from [] e none = e ∙ append-nil q.commands
+    same_from (command ∷ rest) e none = absurd (none command rest refl)
