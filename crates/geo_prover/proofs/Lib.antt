@@ -1,3 +1,3 @@
 pub mod Joins
-pub mod Printed
 pub mod Lengths
+pub mod Examples

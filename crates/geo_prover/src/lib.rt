@@ -5,3 +5,5 @@ pub mod first;
 pub mod log;
 pub mod printer;
 pub mod program;
+#[cfg(test)]
+mod tests;
