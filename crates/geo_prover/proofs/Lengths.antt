@@ -29,7 +29,7 @@ use Rattle.geo_prover.specs.Program.{Word, AreCommands, IsCommand, IsFirstForm, 
 -- LINES AND WORDS
 
 -- the bytes of texts with one more byte after each
-abbrev pub size : List (List ℕ) → ℕ
+abbrev size : List (List ℕ) → ℕ
 size [] = 0
 size (text ∷ texts) = length text + 1 + size texts
 
@@ -37,6 +37,7 @@ length-text_of : (texts : List (List ℕ)) → length (text_of texts) ≡ size t
 length-text_of [] = refl
 length-text_of (text ∷ texts) = simp length-append (omega (arith, length-text_of texts))
 
+-- words that are joined have one byte less
 length-join : (words : List Word) → length (join_with_byte 32 words) ≤ size words
 length-join [] = omega arith
 length-join (word ∷ []) = omega arith
@@ -46,6 +47,7 @@ size-append : (xs ys : List (List ℕ)) → size (xs ++ ys) ≡ size xs + size y
 size-append [] ys = omega arith
 size-append (x ∷ xs) ys = omega (arith, size-append xs ys)
 
+-- the bytes of a log's text
 abbrev log_size : List Line → ℕ
 log_size lines = size (map line_text lines)
 
@@ -55,12 +57,14 @@ length-log_text lines = length-text_of (map line_text lines)
 log_size-append : (xs ys : List Line) → log_size (xs ++ ys) ≡ log_size xs + log_size ys
 log_size-append xs ys = ap size (map-append line_text xs ys) ∙ size-append (map line_text xs) (map line_text ys)
 
+-- each line of the program has two bytes before it in the log
 log_size-program : (lines : List (List ℕ)) → log_size (map ProgramLine lines) ≤ 3 * size lines
 log_size-program [] = omega arith
 log_size-program (line ∷ lines) = omega (arith, log_size-program lines)
 
 -- NUMBERS
 
+-- numbers of one digit and a sign, and of two digits
 mag-le : (z : ℤ) → mag z ≤ unsigned_abs z
 mag-le (pos n) = omega arith
 mag-le (negsuc n) = omega arith
@@ -73,6 +77,7 @@ length-decimal n h = length-decimal-le 2 n (lit< tt) h (omega arith)
 
 -- THE PROGRAM
 
+-- a name has at most 64 bytes, and where there is no name it is empty
 name-short : (p : Program) → IsFirstForm p → (k : ℕ) → length (get_or p.names k []) ≤ 64
 name-short p h k =
     elim (cases_lt k (length p.names)) [
@@ -126,6 +131,7 @@ ordering-small Less = omega arith
 ordering-small Equal = omega arith
 ordering-small Greater = omega arith
 
+-- the first polynomial is 0, or an area with the sign of a permutation
 sign-small : (a b c : PointId) → unsigned_abs (permutation_sign a b c) ≤ 1
 sign-small a b c =
     let x = ordering-small (nat_cmp a.0 b.0) in
@@ -168,6 +174,7 @@ start-short p h =
 
 -- THE SAMPLE
 
+-- a free point has two coordinates, and its number at most two digits
 sample-short : (k : ℕ) (commands : List Command) → k + length commands ≤ 16
     → length (flat_map value_text (zeros (coordinates_from k commands))) ≤ 20 * length commands
 sample-short k [] h = omega arith
