@@ -16,5 +16,5 @@ pub mod Kept
 pub mod Started
 pub mod Joined
 pub mod Joins
-pub mod Printed
 pub mod Lengths
+pub mod Examples

@@ -15,3 +15,5 @@ mod words;
 pub mod writer;
 #[cfg(test)]
 mod writer_tests;
+#[cfg(test)]
+mod tests;

@@ -29,10 +29,8 @@ fn decimal_text(alloc: Global, n: i128) -> Result<Vec<u8>, NoMemory>
     ensures { IfOk result (λ bytes. bytes.items ≡ signed_decimal n) }
 {
     let mut bytes = Vec::new(alloc);
-    match push_decimal(alloc, &mut bytes, n) {
-        Ok(()) => Ok(bytes),
-        Err(_) => Err(NoMemory),
-    }
+    push_decimal(alloc, &mut bytes, n).map_err(|_| NoMemory)?;
+    Ok(bytes)
 }
 
 /// The name of the point with this number.
@@ -43,7 +41,7 @@ fn name_at(names: &Names, k: usize) -> &[u8]
     names.items[k].bytes.as_slice()
 }
 
-/// The command that makes the point k.
+/// The line of the command that makes the point k.
 fn command_line(alloc: Global, names: &Names, k: usize, command: Command) -> Result<Text, NoMemory>
     requires made { k < length names.now }
     requires earlier { IsCommand k command }
@@ -67,7 +65,7 @@ fn command_line(alloc: Global, names: &Names, k: usize, command: Command) -> Res
     }
 }
 
-/// `collinear A B C` with the names of the statement's points.
+/// `collinear A B C` with the names of the statement's points. Nothing but memory can run out.
 pub fn statement_text(alloc: Global, program: &Program) -> Result<Text, NoMemory>
     requires { IsFirstForm program.now }
     ensures { IfOk result (λ text. text ≡ statement_text program.now) }
@@ -85,11 +83,8 @@ fn goal_line(alloc: Global, program: &Program) -> Result<Text, NoMemory>
     ensures { IfOk result (λ text. text ≡ join_with_byte 32
         (codes "prove" ∷ codes "{" ∷ statement_words program.now ++ codes "}" ∷ [])) }
 {
-    let names = &program.names;
-    let a = name_at(names, program.a.0 as usize);
-    let b = name_at(names, program.b.0 as usize);
-    let c = name_at(names, program.c.0 as usize);
-    joined(alloc, &[b"prove", b"{", b"collinear", a, b, c, b"}"])
+    let statement = statement_text(alloc, program)?;
+    joined(alloc, &[b"prove", b"{", &statement.bytes, b"}"])
 }
 
 /// The line of each command.
@@ -106,7 +101,7 @@ fn command_lines(alloc: Global, names: &Names, commands: &[Command]) -> Result<V
     Ok(lines)
 }
 
-/// The lines of the canonical text, without their line feeds.
+/// The lines of the canonical text, without their line feeds. Nothing but memory can run out.
 pub fn program_lines(alloc: Global, program: &Program) -> Result<Vec<Text>, NoMemory>
     requires { IsFirstForm program.now }
     ensures { IfOk result (λ lines. lines.items ≡ program_lines program.now) }
