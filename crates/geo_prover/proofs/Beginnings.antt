@@ -1,7 +1,7 @@
 -- Each program with these lines begins with the points that were read, and ends with its statement.
-use Rattle.std.proofs.Common.{◌≡◌, ℕ, suc, ◌+◌, ◌<◌, List, [], ◌∷◌, ◌++◌, map, length, drop, get_or, refl, sym, ap, ◌∙◌, subst, arith}
+use Rattle.std.proofs.Common.{◌≡◌, ℕ, suc, ◌+◌, ◌<◌, List, [], ◌∷◌, ◌++◌, map, length, drop, eqb, get_or, refl, sym, ap, ◌∙◌, subst, arith}
 use Rattle.std.specs.Prelude.{Contains}
-use Rattle.std.specs.List.{join_with_byte}
+use Rattle.std.specs.List.{join_with_byte, slice_split}
 use Rattle.std.proofs.lemmas.List.Splits.{join_with_byte-slice_split}
 use Rattle.std.proofs.lemmas.List.{append-nil, append_assoc, drop_all, drop_more, get_or_at, length-append, length-map, take-append-drop}
 use Rattle.std.proofs.lemmas.List.Elements.{All-get_or}
@@ -9,10 +9,11 @@ use Rattle.geo_points.specs.declared.ids.PointId.{PointId}
 use Rattle.geo_prover.specs.declared.program.Command.{Command}
 use Rattle.geo_prover.specs.declared.program.Command.TheVariants.{Point, Pratio}
 use Rattle.geo_prover.specs.declared.program.Program.{Program}
-use Rattle.geo_prover.specs.Program.{Word, AllDiffer, IsName, IsCommand, AreCommands, command_words, commands_words}
+use Rattle.geo_prover.specs.Program.{Word, AllDiffer, IsFirstForm, IsName, program_text, IsCommand, AreCommands, command_words, commands_words}
 use Rattle.geo_prover.specs.Reader.{AreDeclared, IsEnd, IsNext, IsSpelt, statement_line, words_of}
 use Rattle.geo_prover.proofs.Declaring.{Begins, begins_none, count_words, declared_more, none_declared, differ_before, line_at, made_at, unique, words_in_row, words_with_more}
 use Rattle.geo_prover.proofs.Shapes.{name_in_words}
+use Rattle.geo_prover.proofs.Texts.{spelt_from_text}
 
 -- the line of the statement stands after those of the commands, and an empty one after it
 line_of_statement : (lines : List (List ℕ)) (p : Program) (n : ℕ) → n ≡ length p.commands → IsSpelt lines p → words_of (get_or lines n []) ≡ statement_line p.names p.a p.b p.c
@@ -282,3 +283,8 @@ same_commands lines q p g h =
     same_from : (more : List Command) → p.commands ≡ q.commands ++ more → ((command : Command) → (rest : List Command) → more ≡ command ∷ rest → ⊥) → p.commands ≡ q.commands
     same_from [] e none = e ∙ append-nil q.commands
     same_from (command ∷ rest) e none = absurd (none command rest refl)
+
+-- two programs of the first form with the same text have the same commands
+pub commands_of_text : (bytes : List ℕ) (q p : Program) → IsFirstForm q → IsFirstForm p → bytes ≡ program_text q → bytes ≡ program_text p → p.commands ≡ q.commands
+commands_of_text bytes q p g h e f =
+    same_commands (slice_split (λ b. eqb b 10) bytes) q p (spelt_from_text bytes q g e) (spelt_from_text bytes p h f)

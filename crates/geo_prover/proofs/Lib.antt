@@ -18,3 +18,4 @@ pub mod Joined
 pub mod Joins
 pub mod Lengths
 pub mod Examples
+pub mod LogLines
