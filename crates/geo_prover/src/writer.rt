@@ -2,7 +2,6 @@
 
 ghost use Rattle.std.specs.Prelude.{◌≡◌, ◌<◌, ◌∷◌, ◌++◌, length, unsigned_abs, IfOk, OnOk};
 ghost use Rattle.std.specs.Fmt.{decimal, signed_decimal};
-ghost use Rattle.std.specs.List.{flat_map};
 ghost use Rattle.geo_poly.specs.Polynomials.{term_at};
 ghost use Rattle.geo_prover.specs.Lines.{factor_text, line_text, log_text, numbers_text, polynomial_text, power_text, sign_text, term_text, value_text, variable_name, verdict_text};
 
@@ -97,20 +96,21 @@ fn push_sample(alloc: Global, out: &mut Vec<u8>, values: &Values) -> Result<(), 
     ensures { OnOk result (out.new.items ≡ out.old.items ++ line_text (Line.Sample values.now)) }
 {
     out.extend_from_slice(b"sample")?;
-    for (variable, value) in &values.items {
-        push_value(alloc, out, *variable, *value)?;
+    for value in &values.items {
+        push_value(alloc, out, value)?;
     }
     Ok(())
 }
 
 /// Appends a variable and its value, with a space before them.
-fn push_value(alloc: Global, out: &mut Vec<u8>, variable: Var, value: i128) -> Result<(), NoMemory>
-    ensures { OnOk result (out.new.items ≡ out.old.items ++ value_text (variable, value)) }
+fn push_value(alloc: Global, out: &mut Vec<u8>, value: &(Var, i128)) -> Result<(), NoMemory>
+    ensures { OnOk result (out.new.items ≡ out.old.items ++ value_text value.now) }
 {
+    let (variable, number) = *value;
     out.extend_from_slice(b" ")?;
     push_variable(alloc, out, variable)?;
     out.extend_from_slice(b"=")?;
-    push_integer(alloc, out, value)
+    push_integer(alloc, out, number)
 }
 
 /// Appends a verdict, with the number that it has.
@@ -164,7 +164,8 @@ fn push_term(alloc: Global, out: &mut Vec<u8>, poly: &Poly, i: u64) -> Result<()
 
 /// Appends a sign, also `+`, and the absolute value.
 fn push_coefficient(alloc: Global, out: &mut Vec<u8>, c: i128) -> Result<(), NoMemory>
-    ensures { OnOk result (out.new.items ≡ out.old.items ++ sign_text c ++ decimal (unsigned_abs c)) }
+    ensures { OnOk result (out.new.items
+        ≡ out.old.items ++ sign_text c ++ decimal (unsigned_abs c)) }
 {
     if c >= 0 {
         out.push(b'+')?;
