@@ -1,4 +1,4 @@
-//! The text of a log.
+//! The text of a log, as it is written line by line.
 
 ghost use Rattle.std.specs.Prelude.{◌≡◌, ◌<◌, ◌∷◌, ◌++◌, length, unsigned_abs, IfOk, OnOk};
 ghost use Rattle.std.specs.Fmt.{decimal, signed_decimal};
@@ -29,7 +29,10 @@ fn push_line(alloc: Global, out: &mut Vec<u8>, line: &Line) -> Result<(), NoMemo
 {
     match line {
         Line::Header => out.extend_from_slice(b"geolog 1")?,
-        Line::Program(text) => push_program(out, text)?,
+        Line::Program(text) => {
+            out.extend_from_slice(b"| ")?;
+            out.extend_from_slice(&text.bytes)?;
+        }
         Line::Goal { k, text } => push_goal(alloc, out, *k, text)?,
         Line::Start(poly) => {
             out.extend_from_slice(b"start : ")?;
@@ -51,16 +54,7 @@ fn push_line(alloc: Global, out: &mut Vec<u8>, line: &Line) -> Result<(), NoMemo
     Ok(())
 }
 
-/// Appends the line of a line of the program.
-fn push_program(out: &mut Vec<u8>, text: &Text) -> Result<(), NoMemory>
-    ensures { OnOk result (out.new.items ≡ out.old.items ++ line_text (Line.Program text.now)) }
-{
-    out.extend_from_slice(b"| ")?;
-    out.extend_from_slice(&text.bytes)?;
-    Ok(())
-}
-
-/// Appends the line of the goal of this number.
+/// Appends the line of the goal of this number, which heads its chain.
 fn push_goal(alloc: Global, out: &mut Vec<u8>, k: u32, text: &Text) -> Result<(), NoMemory>
     ensures { OnOk result (out.new.items ≡ out.old.items ++ line_text (Line.Goal k text.now)) }
 {
@@ -71,7 +65,7 @@ fn push_goal(alloc: Global, out: &mut Vec<u8>, k: u32, text: &Text) -> Result<()
     Ok(())
 }
 
-/// Appends the line of the elimination of a point.
+/// Appends the line of the elimination of a point, with the polynomial after it.
 fn push_point(alloc: Global, out: &mut Vec<u8>, at: PointId, poly: &Poly) -> Result<(), NoMemory>
     ensures { OnOk result (out.new.items ≡ out.old.items ++ line_text (Line.Point at poly.now)) }
 {
@@ -81,7 +75,7 @@ fn push_point(alloc: Global, out: &mut Vec<u8>, at: PointId, poly: &Poly) -> Res
     push_polynomial(alloc, out, poly)
 }
 
-/// Appends the line of the division by a factor.
+/// Appends the line of the division by a factor, with the quotient.
 fn push_cut(alloc: Global, out: &mut Vec<u8>, by: &Factor, poly: &Poly) -> Result<(), NoMemory>
     ensures { OnOk result (out.new.items ≡ out.old.items ++ line_text (Line.Cut by.now poly.now)) }
 {
