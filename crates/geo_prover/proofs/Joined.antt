@@ -1,11 +1,9 @@
--- Texts joined with a byte between them, as a loop that appends one after another makes them.
+-- A loop that appends one text after another: what each step adds to the whole.
 use Rattle.std.proofs.Common.{◌≡◌, ℕ, zero, suc, ◌+◌, ◌<◌, List, [], ◌∷◌, ◌++◌, length, map, take, get_or, add-one, refl, sym, ◌∙◌, ap, append_assoc, arith}
 use Rattle.std.specs.List.{flat_map, join_with_byte, slice_get}
 use Rattle.std.specs.Prelude.{Some}
 use Rattle.std.proofs.lemmas.List.{flat_map_more, map-append, take_more}
 use Rattle.std.proofs.lemmas.Option.{slice_get_within, get_or_from_slice_get}
-use Rattle.geo_poly.specs.Polynomials.{Terms}
-use Rattle.geo_prover.specs.Lines.{polynomial_text, term_text}
 
 -- one more text behind others
 join-append : (c : ℕ) (y : List ℕ) (ys : List (List ℕ)) (x : List ℕ) → join_with_byte c ((y ∷ ys) ++ x ∷ []) ≡ join_with_byte c (y ∷ ys) ++ (c ∷ x)
@@ -19,18 +17,13 @@ joined_more c f x ys i d lt =
     ∙ ap (λ l. join_with_byte c (f x ∷ l)) (map-append f (take i ys) (get_or ys i d ∷ []))
     ∙ join-append c (f x) (map f (take i ys)) (f (get_or ys i d))
 
--- the text of one more element behind i, of which there is one
+-- the text of one more element behind i, at least one
 pub joined_next : {A : Type 0} (c : ℕ) (f : A → List ℕ) (xs : List A) (i : ℕ) (d : A) → 0 < i → i < length xs → join_with_byte c (map f (take (i + 1) xs)) ≡ join_with_byte c (map f (take i xs)) ++ (c ∷ f (get_or xs i d))
 joined_next c f [] i d some lt = absurd (omega arith)
 joined_next c f (x ∷ xs) zero d some lt = absurd (omega arith)
 joined_next c f (x ∷ xs) (suc i) d some lt = rw (add-one (suc i)) (rw add-one at (joined_more c f x xs i d (omega arith)))
 
--- a polynomial that is not zero is its terms with spaces between them
-pub polynomial_joined : (q : Terms) → 0 < length q → polynomial_text q ≡ join_with_byte 32 (map term_text q)
-polynomial_joined [] some = absurd (omega arith)
-polynomial_joined (t ∷ ts) some = refl
-
--- the text of one more element behind j, after a front
+-- the text of one more element behind a front and j others, with nothing between them
 pub appended_next : {A : Type 0} (front : List ℕ) (f : A → List ℕ) (xs : List A) (j : ℕ) (x : A) → slice_get xs j ≡ Some x → front ++ flat_map f (take (j + 1) xs) ≡ (front ++ flat_map f (take j xs)) ++ f x
 appended_next front f xs j x e =
     ap (λ l. front ++ flat_map f l) (take_more xs j x (slice_get_within xs j x e))

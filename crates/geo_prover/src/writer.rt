@@ -1,8 +1,7 @@
-//! The text of a log.
+//! The text of a log, as it is written line by line.
 
 ghost use Rattle.std.specs.Prelude.{◌≡◌, ◌<◌, ◌∷◌, ◌++◌, length, unsigned_abs, IfOk, OnOk};
 ghost use Rattle.std.specs.Fmt.{decimal, signed_decimal};
-ghost use Rattle.std.specs.List.{flat_map};
 ghost use Rattle.geo_poly.specs.Polynomials.{term_at};
 ghost use Rattle.geo_prover.specs.Lines.{factor_text, line_text, log_text, numbers_text, polynomial_text, power_text, sign_text, term_text, value_text, variable_name, verdict_text};
 
@@ -30,7 +29,10 @@ fn push_line(alloc: Global, out: &mut Vec<u8>, line: &Line) -> Result<(), NoMemo
 {
     match line {
         Line::Header => out.extend_from_slice(b"geolog 1")?,
-        Line::Program(text) => push_program(out, text)?,
+        Line::Program(text) => {
+            out.extend_from_slice(b"| ")?;
+            out.extend_from_slice(&text.bytes)?;
+        }
         Line::Goal { k, text } => push_goal(alloc, out, *k, text)?,
         Line::Start(poly) => {
             out.extend_from_slice(b"start : ")?;
@@ -52,16 +54,7 @@ fn push_line(alloc: Global, out: &mut Vec<u8>, line: &Line) -> Result<(), NoMemo
     Ok(())
 }
 
-/// Appends the line of a line of the program.
-fn push_program(out: &mut Vec<u8>, text: &Text) -> Result<(), NoMemory>
-    ensures { OnOk result (out.new.items ≡ out.old.items ++ line_text (Line.Program text.now)) }
-{
-    out.extend_from_slice(b"| ")?;
-    out.extend_from_slice(&text.bytes)?;
-    Ok(())
-}
-
-/// Appends the line of the goal of this number.
+/// Appends the line of the goal of this number, which heads its chain.
 fn push_goal(alloc: Global, out: &mut Vec<u8>, k: u32, text: &Text) -> Result<(), NoMemory>
     ensures { OnOk result (out.new.items ≡ out.old.items ++ line_text (Line.Goal k text.now)) }
 {
@@ -72,7 +65,7 @@ fn push_goal(alloc: Global, out: &mut Vec<u8>, k: u32, text: &Text) -> Result<()
     Ok(())
 }
 
-/// Appends the line of the elimination of a point.
+/// Appends the line of the elimination of a point, with the polynomial after it.
 fn push_point(alloc: Global, out: &mut Vec<u8>, at: PointId, poly: &Poly) -> Result<(), NoMemory>
     ensures { OnOk result (out.new.items ≡ out.old.items ++ line_text (Line.Point at poly.now)) }
 {
@@ -82,7 +75,7 @@ fn push_point(alloc: Global, out: &mut Vec<u8>, at: PointId, poly: &Poly) -> Res
     push_polynomial(alloc, out, poly)
 }
 
-/// Appends the line of the division by a factor.
+/// Appends the line of the division by a factor, with the quotient.
 fn push_cut(alloc: Global, out: &mut Vec<u8>, by: &Factor, poly: &Poly) -> Result<(), NoMemory>
     ensures { OnOk result (out.new.items ≡ out.old.items ++ line_text (Line.Cut by.now poly.now)) }
 {
@@ -97,20 +90,21 @@ fn push_sample(alloc: Global, out: &mut Vec<u8>, values: &Values) -> Result<(), 
     ensures { OnOk result (out.new.items ≡ out.old.items ++ line_text (Line.Sample values.now)) }
 {
     out.extend_from_slice(b"sample")?;
-    for (variable, value) in &values.items {
-        push_value(alloc, out, *variable, *value)?;
+    for value in &values.items {
+        push_value(alloc, out, value)?;
     }
     Ok(())
 }
 
 /// Appends a variable and its value, with a space before them.
-fn push_value(alloc: Global, out: &mut Vec<u8>, variable: Var, value: i128) -> Result<(), NoMemory>
-    ensures { OnOk result (out.new.items ≡ out.old.items ++ value_text (variable, value)) }
+fn push_value(alloc: Global, out: &mut Vec<u8>, value: &(Var, i128)) -> Result<(), NoMemory>
+    ensures { OnOk result (out.new.items ≡ out.old.items ++ value_text value.now) }
 {
+    let (variable, number) = *value;
     out.extend_from_slice(b" ")?;
     push_variable(alloc, out, variable)?;
     out.extend_from_slice(b"=")?;
-    push_integer(alloc, out, value)
+    push_integer(alloc, out, number)
 }
 
 /// Appends a verdict, with the number that it has.
@@ -164,7 +158,8 @@ fn push_term(alloc: Global, out: &mut Vec<u8>, poly: &Poly, i: u64) -> Result<()
 
 /// Appends a sign, also `+`, and the absolute value.
 fn push_coefficient(alloc: Global, out: &mut Vec<u8>, c: i128) -> Result<(), NoMemory>
-    ensures { OnOk result (out.new.items ≡ out.old.items ++ sign_text c ++ decimal (unsigned_abs c)) }
+    ensures { OnOk result (out.new.items
+        ≡ out.old.items ++ sign_text c ++ decimal (unsigned_abs c)) }
 {
     if c >= 0 {
         out.push(b'+')?;

@@ -3,5 +3,5 @@ use Rattle.std.specs.List.{flat_map}
 use Rattle.geo_prover.specs.Lines.{value_text}
 use Rattle.geo_prover.proofs.writer.push_sample.Given as goal
 
-abbrev pub invariant-loop-variable : goal.invariant-loop-variable
-invariant-loop-variable l = l.out.items ≡ l.fn.out.items ++ codes "sample" ++ flat_map value_text (take l.variable-index l.variable-items)
+abbrev pub invariant-loop-value : goal.invariant-loop-value
+invariant-loop-value l = l.out.items ≡ l.fn.out.items ++ codes "sample" ++ flat_map value_text (take l.value-index l.value-items)
