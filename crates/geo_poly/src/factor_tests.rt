@@ -1,5 +1,7 @@
 //! Factors, division and canonical areas against values worked out by hand.
 
+ghost use Rattle.std.specs.Prelude.{◌^◌, ◌<◌, unsigned_abs};
+
 use crate::canonical::{Canon, canon_s};
 use crate::factors::Factor;
 use crate::polynomials::Poly;
@@ -12,83 +14,66 @@ const X0: Var = Var::X(PointId(0));
 
 const Y0: Var = Var::Y(PointId(0));
 
-/// `first*x0*y0 + second*x0`, where the numbers are small.
-fn multiple_of_x0(alloc: Global, first: i8, second: i8) -> Result<Poly, Fail> {
-    let x = Poly::var(alloc, X0)?;
-    let y = Poly::var(alloc, Y0)?;
-    let product = x
-        .mul(alloc, &y)?
-        .mul(alloc, &Poly::constant(alloc, first as i128)?)?;
-    let rest = x.mul(alloc, &Poly::constant(alloc, second as i128)?)?;
-    Ok(product.add(alloc, &rest)?)
+/// A number, times x0 and times y0 where that is said.
+fn term(alloc: Global, number: i128, x: bool, y: bool) -> Result<Poly, Fail>
+    requires { unsigned_abs number < 2 ^ 127 }
+{
+    let mut product = Poly::constant(alloc, number)?;
+    if x {
+        product = product.mul(alloc, &Poly::var(alloc, X0)?)?;
+    }
+    if y {
+        product = product.mul(alloc, &Poly::var(alloc, Y0)?)?;
+    }
+    Ok(product)
 }
 
-/// `first*y0 + second`, where the numbers are small.
-fn line_in_y0(alloc: Global, first: i8, second: i8) -> Result<Poly, Fail> {
-    let y = Poly::var(alloc, Y0)?;
-    let product = y.mul(alloc, &Poly::constant(alloc, first as i128)?)?;
-    Ok(product.add(alloc, &Poly::constant(alloc, second as i128)?)?)
+/// `first*y0 + second`, times x0 where that is said.
+fn line(alloc: Global, first: i128, second: i128, x: bool) -> Result<Poly, Fail>
+    requires first { unsigned_abs first < 2 ^ 127 }
+    requires second { unsigned_abs second < 2 ^ 127 }
+{
+    let slope = term(alloc, first, x, true)?;
+    let rest = term(alloc, second, x, false)?;
+    Ok(slope.add(alloc, &rest)?)
 }
 
 #[test]
-fn factors_are_cut_and_divided_out(rt: HostRuntime) -> Result<(), Fail> {
+fn factors_are_cut(rt: HostRuntime) -> Result<(), Fail> {
     let alloc = rt.alloc();
     let table = [
-        (
-            multiple_of_x0(alloc, 4, -6)?,
-            &[X0][..],
-            2,
-            1,
-            line_in_y0(alloc, 2, -3)?,
-        ),
-        (
-            multiple_of_x0(alloc, -4, 6)?,
-            &[Y0, X0][..],
-            -2,
-            1,
-            line_in_y0(alloc, 2, -3)?,
-        ),
-        (
-            multiple_of_x0(alloc, 4, -6)?,
-            &[Y0][..],
-            2,
-            0,
-            multiple_of_x0(alloc, 2, -3)?,
-        ),
-        (
-            multiple_of_x0(alloc, 5, 3)?,
-            &[][..],
-            1,
-            0,
-            multiple_of_x0(alloc, 5, 3)?,
-        ),
+        (4, -6, X0, 2, 1),
+        (-4, 6, X0, -2, 1),
+        (4, -6, Y0, 2, 0),
+        (5, 3, X0, 1, 1),
     ];
-    for (poly, known, coefficient, powers, quotient) in &table {
+    for (first, second, known, coefficient, powers) in table {
+        let poly = line(alloc, first, second, true)?;
         assert!(rt; !poly.is_zero());
-        let factor = poly.cut(alloc, *known)?;
-        assert_eq!(rt; factor.coef(), *coefficient);
-        assert_eq!(rt; factor.powers(), *powers);
+        let factor = poly.cut(alloc, &[known])?;
+        assert_eq!(rt; factor.coef(), coefficient);
+        assert_eq!(rt; factor.powers(), powers);
         if factor.powers() > 0 {
             assert_eq!(rt; factor.power(0), (X0, 1));
-        }
-        match poly.divide(alloc, &factor.copy(alloc)?)? {
-            Some(rest) => assert!(rt; rest.same(quotient)),
-            None => assert!(rt; false),
         }
     }
     Ok(())
 }
 
 #[test]
-fn factors_are_made(rt: HostRuntime) -> Result<(), Fail> {
+fn factors_are_divided_out(rt: HostRuntime) -> Result<(), Fail> {
     let alloc = rt.alloc();
-    assert!(rt; Factor::new(alloc, 1)?.is_one());
-    let mut factor = Factor::new(alloc, 5)?;
-    assert!(rt; !factor.is_one());
-    let poly = multiple_of_x0(alloc, 4, -6)?;
-    assert!(rt; poly.divide(alloc, &factor)?.is_none());
-    factor.times(X0, 2)?;
-    assert_eq!(rt; factor.power(0), (X0, 2));
+    let poly = line(alloc, 4, -6, true)?;
+    let mut factor = Factor::new(alloc, -2)?;
+    factor.times(X0, 1)?;
+    let quotient = line(alloc, -2, 3, false)?;
+    match poly.divide(alloc, &factor.copy(alloc)?)? {
+        Some(rest) => assert!(rt; rest.same(&quotient)),
+        None => assert!(rt; false),
+    }
+    let five = Factor::new(alloc, 5)?;
+    assert!(rt; poly.divide(alloc, &five)?.is_none());
+    assert!(rt; !five.is_one());
     Ok(())
 }
 

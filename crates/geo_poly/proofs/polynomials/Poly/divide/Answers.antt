@@ -1,4 +1,4 @@
-use Rattle.std.proofs.Common.{◌≡◌, ℕ, ℤ, [], ◌∷◌, sym, ap, subst, ◌∙◌, FitsSigned, to_z, of_z, unsigned_abs, arith}
+use Rattle.std.proofs.Common.{◌≡◌, ℤ, [], ◌∷◌, sym, ap, subst, ◌∙◌, FitsSigned, to_z, of_z, unsigned_abs, arith}
 use Rattle.std.specs.Int.{w128}
 use Rattle.std.proofs.lemmas.Int.{to_z-of_z, fits_signed_from_abs}
 use Rattle.sparse_lists.specs.SparseLists.{AllKeys}
