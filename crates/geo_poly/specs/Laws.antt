@@ -1,10 +1,15 @@
 -- What the definitions mean.
 use Rattle.std.specs.Prelude.{◌≡◌, ◌+◌, ◌↔◌, ◌+ℤ◌}
-use Rattle.std.specs.declared.cmp.Ordering.TheVariants.{Greater}
+use Rattle.std.specs.declared.cmp.Ordering.TheVariants.{Equal, Greater}
 use Rattle.geo_poly.specs.declared.variables.Var.{Var}
 use Rattle.sparse_lists.specs.SparseLists.{IsCanonical}
+use Rattle.geo_poly.specs.Variables.{var_cmp}
 use Rattle.geo_poly.specs.Monomials.{Powers, IsMonomial, exponent, product, monomial_cmp, IsEarlier}
 use Rattle.geo_poly.specs.Polynomials.{Terms, coefficients, term_cmp, coefficient, polynomial_of, sum_of}
+
+-- variables that compare as equal are the same
+abbrev pub OrderTellsVariables : Type 0
+OrderTellsVariables = (v w : Var) → var_cmp v w ≡ Equal → v ≡ w
 
 -- the polynomial of a list of terms is in order and has no zero, has the list's coefficients, and is the only such list
 abbrev pub PolynomialHasCoefficients : Type 0

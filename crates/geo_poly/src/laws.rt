@@ -2,7 +2,12 @@
 
 ghost use Rattle.geo_poly.specs.Canonical.{CanonicalAreaKeepsValue};
 ghost use Rattle.geo_poly.specs.Factors.{FactorDivides, FactorIsUnique};
-ghost use Rattle.geo_poly.specs.Laws.{OrderIsByExponents, PolynomialHasCoefficients, ProductAddsExponents, SumAddsCoefficients};
+ghost use Rattle.geo_poly.specs.Laws.{OrderIsByExponents, OrderTellsVariables, PolynomialHasCoefficients, ProductAddsExponents, SumAddsCoefficients};
+
+/// Variables that compare as equal are the same, so `==` tells them apart.
+pub fn order_tells_variables()
+    ensures { OrderTellsVariables }
+{}
 
 /// A list of terms has exactly one polynomial with its coefficients.
 pub fn polynomial_has_coefficients()

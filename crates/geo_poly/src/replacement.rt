@@ -17,14 +17,15 @@ use crate::terms::{Term, append_copies};
 use crate::variables::Var;
 use std::alloc::Global;
 
-/// A polynomial with bounds of its norm, its number of monomials and its degree.
-///
-/// `weight` and `count` are at least 1 wherever a piece is used.
+/// A polynomial with numbers that bound its size, which are known before it is multiplied out.
 #[derive(Drop)]
 pub struct Piece {
     pub poly: Poly,
+    /// At least 1 and the norm.
     pub weight: u128,
+    /// At least 1 and the number of monomials.
     pub count: u128,
+    /// At least the degree.
     pub degree: u128,
 }
 
@@ -32,7 +33,9 @@ pub struct Piece {
 #[derive(Drop)]
 pub struct Row {
     pub var: Var,
+    /// The power of the denominator, at most 2.
     pub power: u32,
+    /// The numerator.
     pub num: Piece,
 }
 
