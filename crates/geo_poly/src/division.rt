@@ -8,12 +8,11 @@ ghost use Rattle.geo_poly.specs.Polynomials.{Terms, IsPolynomial, multiples, nor
 ghost use Rattle.geo_poly.specs.Factors.{DividesAll, IsFactorOf, IsLeastExponent};
 
 use crate::factors::Factor;
-use geo_points::NoMemory;
 use crate::monomials::Monomial;
 use crate::polynomials::Poly;
 use crate::terms::Term;
 use crate::variables::Var;
-use geo_points::gcd;
+use geo_points::{NoMemory, gcd};
 use std::alloc::Global;
 
 impl Poly {

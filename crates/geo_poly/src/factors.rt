@@ -4,9 +4,9 @@ ghost use Rattle.geo_poly.specs.Variables.{var_cmp};
 ghost use Rattle.geo_poly.specs.Monomials.{degree_of};
 ghost use Rattle.geo_poly.specs.Factors.{IsFactor};
 
-use geo_points::NoMemory;
 use crate::monomials::Monomial;
 use crate::variables::Var;
+use geo_points::NoMemory;
 use std::alloc::Global;
 use std::marker::Model;
 

@@ -6,8 +6,8 @@ ghost use Rattle.sparse_lists.specs.SparseLists.{IsCanonical};
 ghost use Rattle.geo_poly.specs.Monomials.{degree_of, exponent, exponents, IsMonomial, monomial_cmp, product};
 ghost use Rattle.geo_poly.specs.Division.{IsNoMultiple};
 
-use geo_points::NoMemory;
 use crate::variables::Var;
+use geo_points::NoMemory;
 use std::alloc::Global;
 use std::cmp::Ordering;
 use std::marker::Model;

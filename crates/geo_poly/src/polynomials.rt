@@ -5,10 +5,10 @@ ghost use Rattle.sparse_lists.specs.SparseLists.{AllKeys};
 ghost use Rattle.geo_poly.specs.Monomials.{Powers, IsMonomial};
 ghost use Rattle.geo_poly.specs.Polynomials.{IsPolynomial, constant_of, multiples, norm_of, term_at, total_degree};
 
-use geo_points::NoMemory;
 use crate::monomials::Monomial;
 use crate::terms::{Term, append_copies, is_same_term, norm_of_terms};
 use crate::variables::Var;
+use geo_points::NoMemory;
 use std::alloc::Global;
 use std::marker::Model;
 

@@ -5,10 +5,10 @@ ghost use Rattle.geo_poly.specs.Monomials.{degree_of};
 ghost use Rattle.geo_poly.specs.Polynomials.{CanMultiply, multiples, norm_of, product_of, total_degree};
 
 use crate::limits::{MAX, MAX_DEGREE, PolyError, Which};
-use geo_points::NoMemory;
 use crate::polynomials::Poly;
 use crate::sums::merged;
 use crate::terms::{Term, norm_of_terms};
+use geo_points::NoMemory;
 use std::alloc::Global;
 
 impl Poly {

@@ -8,13 +8,13 @@ ghost use Rattle.geo_poly.specs.Polynomials.{coefficients, norm_of, polynomial_o
 ghost use Rattle.geo_poly.specs.Replace.{AllBounded, AllPowersSmall, CanReplace, IsBounded, degree_bound, denominators, most_denominators, others, replaced_by, replaced_degree, replaced_term, replaced_terms, replaced_weight, row_of, term_degree, term_weight, times_power, weight_of};
 
 use crate::limits::{MAX, MAX_DEGREE, PolyError, Which};
-use geo_points::NoMemory;
 use crate::monomials::Monomial;
 use crate::polynomials::Poly;
 use crate::products::product_of_terms;
 use crate::sums::merged;
 use crate::terms::{Term, append_copies};
 use crate::variables::Var;
+use geo_points::NoMemory;
 use std::alloc::Global;
 
 /// A polynomial with numbers that bound its size, which are known before it is multiplied out.

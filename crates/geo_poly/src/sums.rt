@@ -5,9 +5,9 @@ ghost use Rattle.sparse_lists.specs.SparseLists.{IsCanonical};
 ghost use Rattle.geo_poly.specs.Polynomials.{coefficients, difference_of, negated, norm_of, sum_of, term_cmp};
 
 use crate::limits::{MAX, PolyError, Which};
-use geo_points::NoMemory;
 use crate::polynomials::Poly;
 use crate::terms::{Term, append_copies, copy_term, norm_of_terms};
+use geo_points::NoMemory;
 use std::alloc::Global;
 use std::cmp::Ordering;
 

@@ -3,8 +3,8 @@
 ghost use Rattle.std.specs.Prelude.{◌≡◌, ◌↔◌, ◌^◌, ◌<◌, ◌++◌, IfOk, OnOk, IsTrue};
 ghost use Rattle.geo_poly.specs.Polynomials.{norm_of};
 
-use geo_points::NoMemory;
 use crate::monomials::Monomial;
+use geo_points::NoMemory;
 use std::alloc::Global;
 use std::cmp::Ordering;
 

@@ -21,10 +21,10 @@ logged p head chain lines values form started e f g =
     let front = Header ∷ map ProgramLine (program_lines p) in
     let goal = Goal 1 (statement_text p) in
     let begun : head ++ chain ≡ front ++ (goal ∷ Start (start_of p) ∷ started.chain) =
-        ap₂ (λ (xs ys : List Line). xs ++ ys) e started.split ∙ append_assoc front (goal ∷ []) (Start (start_of p) ∷ started.chain) in
+    ap₂ (λ (xs ys : List Line). xs ++ ys) e started.split ∙ append_assoc front (goal ∷ []) (Start (start_of p) ∷ started.chain) in
     let split : lines ≡ log_lines p started.chain (zeros (coordinates_from 0 p.commands)) =
-        g ∙ append_assoc (head ++ chain) (Sample values ∷ []) (VerdictLine Proved ∷ [])
-        ∙ ap₂ (λ (xs : List Line) (vs : List (Var × ℤ)). xs ++ (Sample vs ∷ VerdictLine Proved ∷ [])) begun f in
+    g ∙ append_assoc (head ++ chain) (Sample values ∷ []) (VerdictLine Proved ∷ [])
+    ∙ ap₂ (λ (xs : List Line) (vs : List (Var × ℤ)). xs ++ (Sample vs ∷ VerdictLine Proved ∷ [])) begun f in
     record {
       chain = started.chain;
       split = split;

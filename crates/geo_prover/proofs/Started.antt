@@ -97,10 +97,15 @@ last_is_highest step = record {
 pub elimination : (step : Along) (r : Terms) → IsCommand 2 (last_command step) → IsEliminated step r
     → IsDefinedChain (Point ∷ Point ∷ last_command step ∷ []) 100000000 whole_area (PointLine (point 2) r ∷ End ∷ []) []
 elimination step r h e =
-    let commands = Point ∷ Point ∷ last_command step ∷ [] in
-    (last_command step, refl, whole_area_cut_free, last_is_highest step, e,
-    end_of_nothing commands (100000000 - move_charge (point_move (point 2) (last_command step) whole_area) whole_area) r
-    (eliminated_nothing step r h e))
+    let commands = Point ∷ Point ∷ last_command step ∷ [] in (
+      last_command step,
+      refl,
+      whole_area_cut_free,
+      last_is_highest step,
+      e,
+      end_of_nothing commands (100000000 - move_charge (point_move (point 2) (last_command step) whole_area) whole_area) r
+          (eliminated_nothing step r h e),
+    )
 
 opposite_factor : IsFactorOf [] (variable_polynomial (negsuc 0) all_points) ([], negsuc 0)
 opposite_factor = record {
@@ -127,9 +132,13 @@ opposite_cut = record {
 pub cut_and_elimination : (step : Along) (r : Terms) → IsCommand 2 (last_command step) → IsEliminated step r
     → IsDefinedChain (Point ∷ Point ∷ last_command step ∷ []) 100000000 (variable_polynomial (negsuc 0) all_points)
     (Cut ([], negsuc 0) whole_area ∷ PointLine (point 2) r ∷ End ∷ []) []
-cut_and_elimination step r h e =
-    (λ q. absurd (let n : ◌≡◌ {A = ℕ} 1 0 = ap length q in omega (arith, n)), opposite_factor,
-    (λ q. absurd (let n : negsuc 0 ≡ pos 1 = ap (λ x. x.1) q in cc)), opposite_cut, elimination step r h e)
+cut_and_elimination step r h e = (
+  λ q. absurd (let n : ◌≡◌ {A = ℕ} 1 0 = ap length q in omega (arith, n)),
+  opposite_factor,
+  (λ q. absurd (let n : negsuc 0 ≡ pos 1 = ap (λ x. x.1) q in cc)),
+  opposite_cut,
+  elimination step r h e,
+)
 
 -- WHOLE CHAINS
 module _ (p : Program) where

@@ -11,9 +11,9 @@ mod quantities;
 pub mod reader;
 #[cfg(test)]
 mod reader_tests;
+#[cfg(test)]
+mod tests;
 mod words;
 pub mod writer;
 #[cfg(test)]
 mod writer_tests;
-#[cfg(test)]
-mod tests;

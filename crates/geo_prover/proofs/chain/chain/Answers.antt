@@ -26,9 +26,9 @@ returns c =
     let is_canon : canon ≡ canonical_area p.a p.b p.c = c.canon_s-canon.ensures in
     let start : c.in_ok-start.start ≡ start_of p = c.in_ok-start.ensures in
     let begun : c.push.new.self.items ≡ Start c.in_ok-start.start ∷ [] =
-        c.in_ok-push.ensures.items ∙ ap (λ (xs : List Line). xs ++ Start c.in_ok-start.start ∷ []) c.new-lines.ensures.items in
+    c.in_ok-push.ensures.items ∙ ap (λ (xs : List Line). xs ++ Start c.in_ok-start.start ∷ []) c.new-lines.ensures.items in
     let none : canonical_area p.a p.b p.c ≡ record { sign = pos 0; var = None } → ⊥ =
-        λ k. let q : ◌≡◌ {A = Option Var} None (Some c.in-Some.v) = sym (ap (λ (x : Canon). x.var) (is_canon ∙ k)) ∙ c.in-Some.is in absurd (cc) in
+    λ k. let q : ◌≡◌ {A = Option Var} None (Some c.in-Some.v) = sym (ap (λ (x : Canon). x.var) (is_canon ∙ k)) ∙ c.in-Some.is in absurd (cc) in
     elim c.if-canon-lt0.branch [
       | then-canon-lt0+in_ok-by+in_ok-push-3 w ↦
           elim small [
@@ -38,15 +38,15 @@ returns c =
                   | inl j ↦ absurd (let q : true ≡ false = sym w.if-canon-lt0.true ∙ not_negative canon (is_canon ∙ j) in cc)
                   | inr j ↦
                       let v : c.in-Some.v ≡ all_points =
-                          let q : ◌≡◌ {A = Option Var} (Some c.in-Some.v) (Some all_points) = sym c.in-Some.is ∙ ap (λ (x : Canon). x.var) (is_canon ∙ j) in cc in
+                      let q : ◌≡◌ {A = Option Var} (Some c.in-Some.v) (Some all_points) = sym c.in-Some.is ∙ ap (λ (x : Canon). x.var) (is_canon ∙ j) in cc in
                       let poly : c.in_ok-poly.poly ≡ whole_area = c.in_ok-poly.ensures ∙ ap (variable_polynomial (pos 1)) v in
                       let cut : c.if-canon-lt0.lines.items ≡ Start c.in_ok-start.start ∷ Cut ([], negsuc 0) whole_area ∷ [] =
-                          ap (λ v. v.items) w.lines-is ∙ w.in_ok-push-3.ensures.items
-                          ∙ ap₂ (λ (xs : List Line) (l : Line). xs ++ l ∷ []) begun (ap₂ Cut w.in_ok-by.ensures poly) in
+                      ap (λ v. v.items) w.lines-is ∙ w.in_ok-push-3.ensures.items
+                      ∙ ap₂ (λ (xs : List Line) (l : Line). xs ++ l ∷ []) begun (ap₂ Cut w.in_ok-by.ensures poly) in
                       let lines : c.push-3.new.self.items ≡ Start (variable_polynomial (negsuc 0) all_points) ∷ Cut ([], negsuc 0) whole_area ∷ PointLine (point 2) r ∷ End ∷ [] =
-                          c.in_ok-push-5.ensures.items
-                          ∙ ap (λ (xs : List Line). xs ++ End ∷ []) (c.in_ok-push-4.ensures.items ∙ ap (λ (xs : List Line). xs ++ PointLine (point 2) r ∷ []) cut)
-                          ∙ ap (λ (x : Terms). Start x ∷ Cut ([], negsuc 0) whole_area ∷ PointLine (point 2) r ∷ End ∷ []) (start ∙ ap canon_polynomial j) in
+                      c.in_ok-push-5.ensures.items
+                      ∙ ap (λ (xs : List Line). xs ++ End ∷ []) (c.in_ok-push-4.ensures.items ∙ ap (λ (xs : List Line). xs ++ PointLine (point 2) r ∷ []) cut)
+                      ∙ ap (λ (x : Terms). Start x ∷ Cut ([], negsuc 0) whole_area ∷ PointLine (point 2) r ∷ End ∷ []) (start ∙ ap canon_polynomial j) in
                       subst (λ (xs : List Line). IsStarted p xs) (sym lines) (started_with_opposite p step r c.last_step.ensures command c.in_ok-moved.ensures j)
                 ]
           ]
@@ -57,10 +57,10 @@ returns c =
                 elim k [
                   | inl j ↦
                       let lines : c.push-3.new.self.items ≡ Start whole_area ∷ PointLine (point 2) r ∷ End ∷ [] =
-                          c.in_ok-push-5.ensures.items
-                          ∙ ap (λ (xs : List Line). xs ++ End ∷ [])
-                          (c.in_ok-push-4.ensures.items ∙ ap (λ (xs : List Line). xs ++ PointLine (point 2) r ∷ []) (ap (λ v. v.items) w.lines-is ∙ begun))
-                          ∙ ap (λ (x : Terms). Start x ∷ PointLine (point 2) r ∷ End ∷ []) (start ∙ ap canon_polynomial j) in
+                      c.in_ok-push-5.ensures.items
+                      ∙ ap (λ (xs : List Line). xs ++ End ∷ [])
+                      (c.in_ok-push-4.ensures.items ∙ ap (λ (xs : List Line). xs ++ PointLine (point 2) r ∷ []) (ap (λ v. v.items) w.lines-is ∙ begun))
+                      ∙ ap (λ (x : Terms). Start x ∷ PointLine (point 2) r ∷ End ∷ []) (start ∙ ap canon_polynomial j) in
                       subst (λ (xs : List Line). IsStarted p xs) (sym lines) (started_with_area p step r c.last_step.ensures command c.in_ok-moved.ensures j)
                   | inr j ↦ absurd (let q : true ≡ false = sym (negative canon (is_canon ∙ j)) ∙ w.if-canon-lt0.false in cc)
                 ]

@@ -13,7 +13,7 @@ returns-then-not-is_built-clause-unbuilt c = λ e p taken text.
     let same : p.commands ≡ c.in-Ok-Some.program.commands = commands_of_text c.args.bytes.now c.in-Ok-Some.program p read.0 taken.first_form read.1 text in
     let commands : c.deref.result.now ≡ c.in-Ok-Some.program.commands = search rules in
     let built : true ≡ false =
-        sym (c.is_built.ensures.1 (subst (λ (cs : List Command). AreBuilt cs) (same ∙ sym commands) taken.built)) ∙ c.if-not-is_built.true in
+    sym (c.is_built.ensures.1 (subst (λ (cs : List Command). AreBuilt cs) (same ∙ sym commands) taken.built)) ∙ c.if-not-is_built.true in
     absurd (cc)
 
 pub returns-in-Ok-clause-log : goal.returns-in-Ok-clause-log
