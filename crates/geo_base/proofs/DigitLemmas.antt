@@ -53,7 +53,7 @@ list_all-from_AllDigits [] all = refl
 list_all-from_AllDigits (b ∷ bs) all =
     and_from (is_ascii_digit b) (list_all is_ascii_digit bs) (test-from_digit b all.0) (list_all-from_AllDigits bs all.1)
 
--- bytes of which there is one are a numeral exactly where all pass the test
+-- one or more bytes are a numeral exactly where all pass the test
 pub numeral_test : (bytes : List ℕ) (passed : Bool) → 0 < length bytes → passed ≡ list_all is_ascii_digit bytes → MatchBool passed (IsNumeral 10 bytes) (¬ (IsNumeral 10 bytes))
 numeral_test bytes true some e = (some, AllDigits-from_list_all bytes (sym e))
 numeral_test bytes false some e = λ numeral. let passed : list_all is_ascii_digit bytes ≡ true = list_all-from_AllDigits bytes numeral.1 in cc

@@ -21,7 +21,7 @@ pub enum Due {
     Usage,
     /// The line for an input that is longer than its limit.
     TooLong,
-    /// The line for an input that is no program of those that are taken.
+    /// The line for an input that is no program that this prover takes.
     Unbuilt,
     /// The log of a proof.
     Log(Text),

@@ -17,6 +17,7 @@ ordering_sign Less = pos 1
 ordering_sign Equal = pos 0
 ordering_sign Greater = negsuc 0
 
+-- that sign for two points, by their numbers
 abbrev pub pair_sign : PointId → PointId → ℤ
 pair_sign a b = ordering_sign (nat_cmp a.0 b.0)
 
@@ -24,13 +25,15 @@ pair_sign a b = ordering_sign (nat_cmp a.0 b.0)
 abbrev pub permutation_sign : PointId → PointId → PointId → ℤ
 permutation_sign a b c = pair_sign a b *ℤ pair_sign b c *ℤ pair_sign a c
 
+-- the least of three numbers
 abbrev pub least_of_three : ℕ → ℕ → ℕ → ℕ
 least_of_three a b c = min a (min b c)
 
+-- the greatest of three numbers
 abbrev pub greatest_of_three : ℕ → ℕ → ℕ → ℕ
 greatest_of_three a b c = max a (max b c)
 
--- the number that is left
+-- the number that is left of three without the least and the greatest
 abbrev pub middle_of_three : ℕ → ℕ → ℕ → ℕ
 middle_of_three a b c = a + b + c - least_of_three a b c - greatest_of_three a b c
 

@@ -15,5 +15,6 @@ rank (X a) = 3 ∷ a.0 ∷ 0 ∷ 0 ∷ 0 ∷ []
 rank (Y a) = 3 ∷ a.0 ∷ 1 ∷ 0 ∷ 0 ∷ []
 rank (T t) = 4 ∷ t.0 ∷ 0 ∷ 0 ∷ 0 ∷ []
 
+-- by the kind, and then by the numbers
 abbrev pub var_cmp : Var → Var → Ordering
 var_cmp = on rank (slice_cmp nat_cmp)

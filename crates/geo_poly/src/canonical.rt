@@ -9,7 +9,9 @@ use std::cmp::Ordering;
 /// A quantity as a sign times a variable. Where there is no variable, it is the number `sign`.
 #[derive(Clone, Copy, Debug, PartialEq, Eq)]
 pub struct Canon {
+    /// The sign -1, 0 or 1; with a variable it is not 0.
     pub sign: i128,
+    /// The variable, or `None` where the quantity is a number.
     pub var: Option<Var>,
 }
 

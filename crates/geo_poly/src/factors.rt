@@ -1,3 +1,5 @@
+//! Factors: what polynomials are divided by.
+
 ghost use Rattle.std.specs.Prelude.{◌≡◌, ◌≢◌, ◌+◌, ◌^◌, ◌<◌, ◌≤◌, ◌↔◌, [], ◌∷◌, ◌++◌, pos, length, slice_get, unsigned_abs, All, IfOk, OnOk, OnErr, IsTrue, Some};
 ghost use Rattle.std.specs.declared.cmp.Ordering.TheVariants.{Less};
 ghost use Rattle.geo_poly.specs.Variables.{var_cmp};
@@ -42,6 +44,7 @@ impl Factor {
         })
     }
 
+    /// A factor with the same number and the same powers.
     pub fn copy(&self, alloc: Global) -> Result<Factor, NoMemory>
         ensures { IfOk result (λ f. f ≡ self.now) }
     {
@@ -70,6 +73,7 @@ impl Factor {
         self.coefficient == 1 && self.monomial.powers().is_empty()
     }
 
+    /// The number, which is not 0. Every factor meets the clause `valid`.
     pub fn coef(&self) -> i128
         ensures value { result ≡ self.now.1 }
         ensures valid { IsFactor self.now }

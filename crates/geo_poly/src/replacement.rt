@@ -20,6 +20,7 @@ use std::alloc::Global;
 /// A polynomial with numbers that bound its size, which are known before it is multiplied out.
 #[derive(Drop)]
 pub struct Piece {
+    /// The polynomial.
     pub poly: Poly,
     /// At least 1 and the norm.
     pub weight: u128,
@@ -32,6 +33,7 @@ pub struct Piece {
 /// What stands for a variable: the variable times the denominator to the power is the numerator.
 #[derive(Drop)]
 pub struct Row {
+    /// The variable that is replaced.
     pub var: Var,
     /// The power of the denominator, at most 2.
     pub power: u32,

@@ -23,6 +23,7 @@ pub(crate) fn norm_of_terms(terms: &[Term]) -> u128
     norm
 }
 
+/// A term with the same monomial and coefficient.
 pub(crate) fn copy_term(alloc: Global, term: &Term) -> Result<Term, NoMemory>
     ensures { IfOk result (λ t. t ≡ term.now) }
 {

@@ -1,4 +1,4 @@
--- The canonical area of three points of which there are three in all, case by case.
+-- The canonical area of three of the points 0, 1 and 2, case by case.
 use Rattle.std.proofs.Common.{◌≡◌, ℕ, zero, suc, ◌<◌, ◌⊎◌, inl, inr, ℤ, pos, negsuc, Some, None, refl, arith}
 use Rattle.geo_points.specs.declared.ids.PointId.{PointId}
 use Rattle.geo_poly.specs.declared.canonical.Canon.{Canon}

@@ -86,7 +86,7 @@ number_plain : (n : ℤ) → unsigned_abs n ≤ 9 → IsPlain (signed_decimal n)
 number_plain (pos n) h = digit_plain n (omega arith)
 number_plain (negsuc n) h = more_plain 45 (decimal (suc n)) (omega arith) (digit_plain (suc n) (omega arith))
 
--- a line of plain words, of which there is one
+-- a line of one or more plain words
 record IsClean (words : List Word) : Type 0 where
   pub first : Word
   pub more : List Word

@@ -29,6 +29,7 @@ pub record IsTaken (p : Program) : Type 0 where
 abbrev pub all_points : Var
 all_points = S (record { 0 = 0 }) (record { 0 = 1 }) (record { 0 = 2 })
 
+-- the command that makes a point by this ratio
 abbrev pub last_command : Along → Command
 last_command step = Pratio step.w step.u step.v step.n step.d
 
@@ -38,7 +39,7 @@ IsEliminated step r =
     let area = variable_polynomial (pos 1) all_points in
     IsMoved (point_move (record { 0 = 2 }) (last_command step) area) 100000000 area r
 
--- the lines are the start and then the prover's chain to 0
+-- the lines are the start and then the prover's chain to 0, which leaves room for the other lines within the limit of a log
 pub record IsStarted (p : Program) (lines : List Line) : Type 0 where
   pub chain : List Line
   pub split : lines ≡ Start (start_of p) ∷ chain

@@ -29,6 +29,7 @@ variable_name (T t) = codes "t" ++ decimal t.0
 abbrev pub power_text : Var × ℕ → List ℕ
 power_text p = codes "*" ++ variable_name p.0 ++ cond (p.1 == 1) [] (codes "^" ++ decimal p.1)
 
+-- `-` where the number is negative, else `+`
 abbrev pub sign_text : ℤ → List ℕ
 sign_text (pos n) = codes "+"
 sign_text (negsuc n) = codes "-"
@@ -50,6 +51,7 @@ factor_text f = signed_decimal f.1 ++ flat_map power_text f.0
 abbrev pub value_text : Var × ℤ → List ℕ
 value_text v = codes " " ++ variable_name v.0 ++ codes "=" ++ signed_decimal v.1
 
+-- `proved`, or another verdict with the number of its goal or condition
 abbrev pub verdict_text : Verdict → List ℕ
 verdict_text Proved = codes "proved"
 verdict_text (False g) = codes "false " ++ decimal g
@@ -68,5 +70,6 @@ line_text End = codes "end"
 line_text (Sample values) = codes "sample" ++ flat_map value_text values
 line_text (VerdictLine v) = codes "verdict " ++ verdict_text v
 
+-- the lines, each with its line feed
 abbrev pub log_text : List Line → List ℕ
 log_text lines = text_of (map line_text lines)

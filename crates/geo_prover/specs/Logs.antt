@@ -23,6 +23,7 @@ start_of p = canon_polynomial (canonical_area p.a p.b p.c)
 
 -- CHAINS
 
+-- the variable is a signed area
 abbrev pub IsArea : Var → Type 0
 IsArea (S a b c) = Unit {0}
 IsArea _ = ⊥
@@ -76,6 +77,7 @@ pub record IsAccepted (p : Program) (steps : ℕ) (lines : List Line) : Type 0 w
 
 -- THE PROVER'S LOG
 
+-- the variable is an area with the corner y
 abbrev pub has_point : PointId → Var → Bool
 has_point y (S a b c) = is_point a y || is_point b y || is_point c y
 has_point y _ = false
@@ -84,6 +86,7 @@ has_point y _ = false
 abbrev pub Occurs : PointId → Terms → Type 0
 Occurs y q = Any (λ v. IsTrue (has_point y v)) (variables_of q)
 
+-- a command makes y, and not as a free point
 abbrev pub IsConstructed : List Command → PointId → Type 0
 IsConstructed commands y = (y.0 < length commands) × (is_free commands y ≡ false)
 

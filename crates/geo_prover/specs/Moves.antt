@@ -26,6 +26,7 @@ integer_piece z = record { poly = constant_of z; weight = unsigned_abs z; count 
 abbrev pub number_piece : ℤ → Piece
 number_piece z = record { poly = constant_of z; weight = max 1 (unsigned_abs z); count = 1; degree = 0 }
 
+-- a variable with the coefficient `sign`
 abbrev pub variable_polynomial : ℤ → Var → Terms
 variable_polynomial sign v = ((v, 1) ∷ [], sign) ∷ []
 
@@ -41,6 +42,7 @@ area_piece a b c = record { poly = canon_polynomial (canonical_area a b c); weig
 abbrev pub coordinate_piece : Var → Piece
 coordinate_piece v = record { poly = variable_polynomial (pos 1) v; weight = 1; count = 1; degree = 1 }
 
+-- the sum: weights and counts add up, and the degree is the greater one
 abbrev pub piece_sum : Piece → Piece → Piece
 piece_sum f g = record {
   poly = sum_of f.poly g.poly;
@@ -49,6 +51,7 @@ piece_sum f g = record {
   degree = max f.degree g.degree;
 }
 
+-- the difference, with the numbers of the sum
 abbrev pub piece_difference : Piece → Piece → Piece
 piece_difference f g = record {
   poly = difference_of f.poly g.poly;
@@ -57,6 +60,7 @@ piece_difference f g = record {
   degree = max f.degree g.degree;
 }
 
+-- the product: weights and counts are multiplied, and degrees add up
 abbrev pub piece_product : Piece → Piece → Piece
 piece_product f g = record {
   poly = product_of f.poly g.poly;
@@ -67,6 +71,7 @@ piece_product f g = record {
 
 -- ROWS
 
+-- both are the same point
 abbrev pub is_point : PointId → PointId → Bool
 is_point a b = a.0 == b.0
 
@@ -101,6 +106,7 @@ coordinate_numerator a b c =
     (product (X b) (Y c)))
     (product (Y b) (X c))
 
+-- there is a command, and it makes a free point
 abbrev pub is_free_command : Option Command → Bool
 is_free_command None = false
 is_free_command (Some Point) = true
@@ -154,6 +160,7 @@ coordinate_move commands q = record { rows = filter_map (free_row commands) (var
 
 -- THE CHARGE OF A MOVE
 
+-- k times the count of the numerator to the power e, where there is a row
 abbrev pub count_row : Option Row → ℕ → ℕ → ℕ
 count_row None e k = k
 count_row (Some r) e k = k * r.num.count ^ e
@@ -163,6 +170,7 @@ abbrev pub count_rows : List Row → Powers → ℕ → ℕ
 count_rows rows [] k = k
 count_rows rows (v ∷ m) k = count_rows rows m (count_row (row_of rows v.0) v.1 k)
 
+-- the exponent, where there is a row
 abbrev pub exponent_row : Option Row → ℕ → ℕ
 exponent_row None e = 0
 exponent_row (Some r) e = e
@@ -178,6 +186,7 @@ term_charge move top m =
     let lacking = top - denominators move.rows m in
     (replaced_exponents move.rows m + lacking + 1) * count_rows move.rows m (move.den.count ^ lacking)
 
+-- the charge of the step's number, 4 times the counts of the numerators and of the denominator, and the charges of the terms
 abbrev pub move_charge : Replacement → Terms → ℕ
 move_charge move q =
     move.charge + 4 * (sum_by (λ r. r.num.count) move.rows + move.den.count)

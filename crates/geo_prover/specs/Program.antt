@@ -13,9 +13,11 @@ Word = List ℕ
 
 -- NAMES
 
+-- `A` to `Z`, or `a` to `z`
 abbrev pub is_letter : ℕ → Bool
 is_letter b = (nat_le 65 b && nat_le b 90) || (nat_le 97 b && nat_le b 122)
 
+-- `0` to `9`
 abbrev pub is_digit : ℕ → Bool
 is_digit b = nat_le 48 b && nat_le b 57
 
@@ -73,6 +75,7 @@ pub record IsFirstForm (p : Program) : Type 0 where
 
 -- THE CANONICAL TEXT
 
+-- the name of a point
 abbrev pub name_of : List Word → PointId → Word
 name_of names q = slice_index_or names q.0 []
 
@@ -107,6 +110,7 @@ program_lines p = map (join_with_byte 32) (program_words p)
 abbrev pub text_of : List (List ℕ) → List ℕ
 text_of lines = flat_map (λ line. line ++ 10 ∷ []) lines
 
+-- the canonical text: the lines, each with its line feed
 abbrev pub program_text : Program → List ℕ
 program_text p = text_of (program_lines p)
 

@@ -12,11 +12,12 @@ use Rattle.geo_prover.specs.declared.program.Program.{Program}
 abbrev pub number : ℤ → ℤ → Fraction
 number n d = quotient (whole n) (whole d)
 
--- the command that makes the point k is met: X - W = n/d (V - U), and n/d has a value
+-- the point k is X with X - W = n/d (V - U), and n/d has a value
 pub record IsAlongNumber (placed : Placement) (k w u v : ℕ) (n d : ℤ) : Type 0 where
   pub has_value : IsNonzero (whole d)
   pub along : IsAlong (placed.point w) (placed.point u) (placed.point v) (number n d) (placed.point k)
 
+-- the command that makes the point k is met; that of a free point always is
 abbrev pub IsMet : Placement → ℕ → Command → Type 0
 IsMet placed k Point = Unit {0}
 IsMet placed k (Pratio w u v n d) = IsAlongNumber placed k w.0 u.0 v.0 n d

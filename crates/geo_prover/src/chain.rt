@@ -16,10 +16,15 @@ use std::alloc::Global;
 /// How a point Y is made: `Y - W = n/d (V - U)`.
 #[derive(Clone, Copy, Debug, PartialEq, Eq)]
 pub struct Along {
+    /// The point W, from which Y lies along UV.
     pub w: PointId,
+    /// The start U of the vector UV.
     pub u: PointId,
+    /// The end V of the vector UV.
     pub v: PointId,
+    /// The numerator of the number n/d.
     pub n: i128,
+    /// The denominator of the number n/d, at least 1.
     pub d: i128,
 }
 

@@ -22,11 +22,13 @@ use std::alloc::Global;
 pub enum FirstError {
     /// The bytes are no program that this prover takes.
     Unbuilt,
+    /// Memory ran out.
     NoMemory,
 }
 
 /// The log of the program that the bytes spell: the prover's lines with 100,000,000 steps, which end in
-/// `verdict proved`.
+/// `verdict proved`. `Unbuilt` comes exactly where the bytes are the canonical text of no program
+/// that this prover takes.
 pub fn first_log(alloc: Global, bytes: &[u8]) -> Result<Text, FirstError>
     requires { length bytes.now ≤ 67108864 }
     ensures log { IfOk result (λ text. IsFirstRun bytes.now text) }

@@ -1,3 +1,5 @@
+//! The lines of a log.
+
 use geo_base::Text;
 use geo_points::PointId;
 use geo_poly::{Factor, Poly, Var};
@@ -17,6 +19,7 @@ pub enum Verdict {
 /// A whole number for each variable, in order. Contracts see the list.
 #[derive(Drop)]
 pub struct Values {
+    /// The variables with their values.
     pub items: Vec<(Var, i128)>,
 }
 
@@ -32,17 +35,24 @@ impl Model for Values {
 /// A line of a log.
 #[derive(Drop)]
 pub enum Line {
+    /// The first line, which names the format.
     Header,
     /// A line of the program, without its line feed.
     Program(Text),
     /// The goal's number, from 1, and its text.
     Goal { k: u32, text: Text },
+    /// The polynomial that is 0 where the goal holds, with which its chain begins.
     Start(Poly),
+    /// The constructed point that was eliminated, and the polynomial after it.
     Point { at: PointId, poly: Poly },
+    /// The polynomial after the free points were put into coordinates.
     Coords(Poly),
     /// The polynomial before is the factor times this one.
     Cut { by: Factor, poly: Poly },
+    /// The end of a chain.
     End,
+    /// A value for each coordinate of a free point; they fix a placement that meets the program.
     Sample(Values),
+    /// What the log shows, on its last line.
     Verdict(Verdict),
 }

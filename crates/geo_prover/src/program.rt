@@ -1,3 +1,6 @@
+//! Programs of the first form: free points, points by a ratio, and the statement that three points
+//! are collinear.
+
 use geo_base::Text;
 use geo_points::PointId;
 use std::marker::Model;
@@ -9,10 +12,15 @@ pub enum Command {
     Point,
     /// The point X with `X - W = n/d (V - U)`.
     Pratio {
+        /// The point W, from which X lies along UV.
         w: PointId,
+        /// The start U of the vector UV.
         u: PointId,
+        /// The end V of the vector UV.
         v: PointId,
+        /// The numerator, from -9 to 9.
         n: i128,
+        /// The denominator, from 1 to 9.
         d: i128,
     },
 }
@@ -20,6 +28,7 @@ pub enum Command {
 /// Names, in order of declaration. Contracts see the list of their bytes.
 #[derive(Debug, Drop)]
 pub struct Names {
+    /// The names.
     pub items: Vec<Text>,
 }
 
@@ -34,6 +43,7 @@ impl Model for Names {
 /// Commands, in order. Contracts see the list.
 #[derive(Debug, Drop)]
 pub struct Commands {
+    /// The commands.
     pub items: Vec<Command>,
 }
 
@@ -53,8 +63,10 @@ pub struct Program {
     pub names: Names,
     /// The commands, one for each point.
     pub commands: Commands,
-    /// The points of the statement `collinear A B C`.
+    /// The first point of the statement `collinear A B C`.
     pub a: PointId,
+    /// The second point of the statement.
     pub b: PointId,
+    /// The third point of the statement.
     pub c: PointId,
 }

@@ -38,7 +38,7 @@ struct Declared {
     commands: Vec<Command>,
 }
 
-/// The program of the first form whose canonical text the bytes are, where there is one.
+/// The program of the first form whose canonical text the bytes are, or `None` where there is none.
 pub fn read_program(alloc: Global, bytes: &[u8]) -> Result<Option<Program>, NoMemory>
     ensures some { IfOk result (λ o. IfSome o (λ p.
         IsFirstForm p × (bytes.now ≡ program_text p))) }
