@@ -8,7 +8,7 @@ ghost use Rattle.geo_cli.specs.Words.{IsProve, bytes_of_words};
 use crate::status::Status;
 use crate::words::is_prove;
 use geo_base::{ReadError, Source, Text, read_all};
-use geo_prover::first::{FirstError, first_log};
+use geo_prover::{FirstError, first_log};
 use std::alloc::Global;
 
 /// The most bytes of a program.

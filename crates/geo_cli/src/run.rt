@@ -32,6 +32,7 @@ pub fn run<S: Source, K: Sink>(
         (S.left source.old) (S.left source.new) (K.held sink.old) (K.held sink.new) }
     ensures read_fault { result ≡ Status.ReadFault → FailsToRead (bytes_of_words words.now.items)
         (S.faults source.old) (S.faults source.new) (K.held sink.old) (K.held sink.new) }
+    ensures unwritten { result ≡ Status.ReadFault → sink.new ≡ sink.old }
     ensures write_fault { result ≡ Status.WriteFault
         → HasRisen (K.faults sink.old) (K.faults sink.new) }
     ensures write_part { result ≡ Status.WriteFault → WritesPart (bytes_of_words words.now.items)

@@ -122,7 +122,7 @@ accepted_holds p steps lines log placed met =
     (zero_of_same _
     (flip (area_is placed.point placed.number p.a p.b p.c) ∘ chain_null placed p.commands met steps (start_of p) log.chain log.zero))
 
-pub accepted_true : (p : Program) (steps : ℕ) (lines : List Line) → IsFirstForm p → IsAccepted p steps lines → IsTrueProgram p
-accepted_true p steps lines form log =
-    let found = meeting_exists p form.commands in
+pub accepted_true : (p : Program) (steps : ℕ) (lines : List Line) → IsAccepted p steps lines → IsTrueProgram p
+accepted_true p steps lines log =
+    let found = meeting_exists p log.first_form.commands in
     record { placed = found.0; meets = found.1; holds = accepted_holds p steps lines log }

@@ -7,6 +7,7 @@ use Rattle.geo_prover.specs.declared.log.Line.TheVariants.{Point as PointLine, C
 use Rattle.geo_prover.specs.declared.program.Command.{Command}
 use Rattle.geo_prover.specs.declared.program.Program.{Program}
 use Rattle.geo_prover.specs.Logs.{IsAccepted, IsDefinedChain, IsDefinedLog, LeadsTo, coordinates_from, start_of, zeros}
+use Rattle.geo_prover.specs.Program.{IsFirstForm}
 use Rattle.geo_prover.specs.Moves.{coordinate_move, move_charge, point_move}
 
 leads : (commands : List Command) (left : ℕ) (q : Terms) (lines : List Line) (e : Terms) → IsDefinedChain commands left q lines e → LeadsTo commands left q lines e
@@ -26,8 +27,9 @@ zeros_fit [] k d h = absurd (omega (arith, h))
 zeros_fit (v ∷ vs) zero d h = omega arith
 zeros_fit (v ∷ vs) (suc k) d h = zeros_fit vs k d (omega (arith, h))
 
-pub defined_accepted : (p : Program) (steps : ℕ) (lines : List Line) → IsDefinedLog p steps lines → IsAccepted p steps lines
-defined_accepted p steps lines log = record {
+pub defined_accepted : (p : Program) (steps : ℕ) (lines : List Line) → IsFirstForm p → IsDefinedLog p steps lines → IsAccepted p steps lines
+defined_accepted p steps lines form log = record {
+  first_form = form;
   chain = log.chain;
   values = zeros (coordinates_from 0 p.commands);
   split = log.split;

@@ -15,6 +15,10 @@ use Rattle.geo_prover.specs.Moves.{IsMoved, point_move, variable_polynomial}
 use Rattle.geo_prover.specs.Program.{IsFirstForm, program_text}
 use Rattle.geo_prover.specs.Truth.{IsTrueProgram}
 
+-- how many charges a log may take
+abbrev pub steps_of_prove : ℕ
+steps_of_prove = 100000000
+
 -- two free points, and then a point by a ratio
 abbrev pub AreBuilt : List Command → Type 0
 AreBuilt (Point ∷ Point ∷ Pratio w u v n d ∷ []) = Unit {0}
@@ -37,19 +41,19 @@ last_command step = Pratio step.w step.u step.v step.n step.d
 abbrev pub IsEliminated : Along → Terms → Type 0
 IsEliminated step r =
     let area = variable_polynomial (pos 1) all_points in
-    IsMoved (point_move (record { 0 = 2 }) (last_command step) area) 100000000 area r
+    IsMoved (point_move (record { 0 = 2 }) (last_command step) area) steps_of_prove area r
 
 -- the lines are the start and then the prover's chain to 0, which leaves room for the other lines within the limit of a log
 pub record IsStarted (p : Program) (lines : List Line) : Type 0 where
   pub chain : List Line
   pub split : lines ≡ Start (start_of p) ∷ chain
-  pub zero : IsDefinedChain p.commands 100000000 (start_of p) chain []
+  pub zero : IsDefinedChain p.commands steps_of_prove (start_of p) chain []
   pub short : length (log_text chain) ≤ 60000000
 
--- the text is the prover's log of the program, with 100,000,000 steps
+-- the text is the prover's log of the program, within the steps of `prove`
 pub record IsLogOf (p : Program) (text : List ℕ) : Type 0 where
   pub lines : List Line
-  pub defined : IsDefinedLog p 100000000 lines
+  pub defined : IsDefinedLog p steps_of_prove lines
   pub written : text ≡ log_text lines
 
 -- the bytes are the canonical text of a program that is taken; the text is its defined log, which is accepted, and the program is true
@@ -58,8 +62,8 @@ pub record IsFirstRun (bytes text : List ℕ) : Type 0 where
   pub taken : IsTaken program
   pub spelt : bytes ≡ program_text program
   pub lines : List Line
-  pub defined : IsDefinedLog program 100000000 lines
-  pub accepted : IsAccepted program 100000000 lines
+  pub defined : IsDefinedLog program steps_of_prove lines
+  pub accepted : IsAccepted program steps_of_prove lines
   pub written : text ≡ log_text lines
   pub holds : IsTrueProgram program
 

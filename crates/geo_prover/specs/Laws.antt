@@ -8,8 +8,8 @@ use Rattle.geo_prover.specs.Truth.{IsTrueProgram}
 
 -- a program of the first form with an accepted log is true, whoever wrote the log
 abbrev pub AcceptedLogIsTrue : Type 0
-AcceptedLogIsTrue = (p : Program) (steps : ℕ) (lines : List Line) → IsFirstForm p → IsAccepted p steps lines → IsTrueProgram p
+AcceptedLogIsTrue = (p : Program) (steps : ℕ) (lines : List Line) → IsAccepted p steps lines → IsTrueProgram p
 
 -- the prover's log is an accepted one
 abbrev pub DefinedLogIsAccepted : Type 0
-DefinedLogIsAccepted = (p : Program) (steps : ℕ) (lines : List Line) → IsDefinedLog p steps lines → IsAccepted p steps lines
+DefinedLogIsAccepted = (p : Program) (steps : ℕ) (lines : List Line) → IsFirstForm p → IsDefinedLog p steps lines → IsAccepted p steps lines

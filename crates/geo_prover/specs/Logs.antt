@@ -15,7 +15,7 @@ use Rattle.geo_prover.specs.declared.program.Command.TheVariants.{Point, Pratio}
 use Rattle.geo_prover.specs.declared.program.Program.{Program}
 use Rattle.geo_prover.specs.Lines.{log_text}
 use Rattle.geo_prover.specs.Moves.{IsMoved, canon_polynomial, coordinate_move, is_free, is_point, move_charge, point_move, variables_of}
-use Rattle.geo_prover.specs.Program.{program_lines, statement_text}
+use Rattle.geo_prover.specs.Program.{IsFirstForm, program_lines, statement_text}
 
 -- the numerator of the goal's term, which is the area of the statement's points. Its charge is 0, its weight and its degree are 1
 abbrev pub start_of : Program → Terms
@@ -68,6 +68,7 @@ log_lines p chain values =
 
 -- the lines are an accepted log of the program that ends in Proved, within so many steps. There is no condition, so the sample may be any numbers that fit
 pub record IsAccepted (p : Program) (steps : ℕ) (lines : List Line) : Type 0 where
+  pub first_form : IsFirstForm p
   pub chain : List Line
   pub values : List (Var × ℤ)
   pub split : lines ≡ log_lines p chain values

@@ -2,7 +2,7 @@
 
 ghost use Rattle.std.specs.Prelude.{◌≡◌, ◌↔◌, ◌≤◌, [], ◌∷◌, ◌++◌, map, length, IfOk, OnOk, IsTrue};
 ghost use Rattle.geo_prover.specs.declared.log.Line.TheVariants.{Header, Program as ProgramLine, Goal};
-ghost use Rattle.geo_prover.specs.FirstLog.{AreBuilt, IsFirstRun, IsLogOf, IsTaken, IsUnbuilt};
+ghost use Rattle.geo_prover.specs.FirstLog.{AreBuilt, IsFirstRun, IsLogOf, IsTaken, IsUnbuilt, steps_of_prove};
 ghost use Rattle.geo_prover.specs.Logs.{IsDefinedLog, coordinates_from, zeros};
 ghost use Rattle.geo_prover.specs.Program.{IsFirstForm, program_lines as lines_of_program, statement_text as text_of_statement};
 
@@ -70,7 +70,7 @@ fn written_log(alloc: Global, program: &Program) -> Result<Text, NoMemory>
 /// The prover's lines for the program.
 fn log_lines(alloc: Global, program: &Program) -> Result<Vec<Line>, NoMemory>
     requires { IsTaken program.now }
-    ensures { IfOk result (λ lines. IsDefinedLog program.now 100000000 lines.items) }
+    ensures { IfOk result (λ lines. IsDefinedLog program.now steps_of_prove lines.items) }
 {
     let mut lines = header_lines(alloc, program)?;
     append(&mut lines, chain(alloc, program)?)?;

@@ -1,19 +1,22 @@
-//! Decides a statement of the first form and writes its log.
+//! Decides a statement of the first form and writes its log; and the definitions of truth, of logs and
+//! of their acceptance, with the law that accepted logs are true.
 #![tactic(auto)]
 
 mod chain;
-pub mod first;
+mod first;
 pub mod laws;
-pub mod log;
-pub mod printer;
-pub mod program;
+mod log;
+mod printer;
+mod program;
 mod quantities;
-pub mod reader;
+mod reader;
 #[cfg(test)]
 mod reader_tests;
 #[cfg(test)]
 mod tests;
 mod words;
-pub mod writer;
+mod writer;
 #[cfg(test)]
 mod writer_tests;
+
+pub use first::{FirstError, first_log};

@@ -9,8 +9,8 @@ ghost use Rattle.geo_prover.specs.Reader.{AreDeclared, HasStatementWords, HasPra
 
 use crate::program::{Command, Commands, Names, Program};
 use crate::words::{find_point, has_text, is_name, read_digit};
-use geo_base::{NoMemory, Text};
-use geo_points::PointId;
+use geo_base::Text;
+use geo_points::{NoMemory, PointId};
 use std::alloc::{AllocError, Global};
 
 // The greatest number of points of a program.

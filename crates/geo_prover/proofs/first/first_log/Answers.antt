@@ -1,7 +1,7 @@
 use Rattle.std.proofs.Common.{◌≡◌, true, false, List, sym, subst, ◌∙◌, rules}
 use Rattle.std.specs.List.{slice_split}
 use Rattle.geo_prover.specs.declared.program.Command.{Command}
-use Rattle.geo_prover.specs.FirstLog.{AreBuilt}
+use Rattle.geo_prover.specs.FirstLog.{AreBuilt, steps_of_prove}
 use Rattle.geo_prover.proofs.Beginnings.{commands_of_text}
 use Rattle.geo_prover.proofs.ChainValues.{accepted_true}
 use Rattle.geo_prover.proofs.DefinedChains.{defined_accepted}
@@ -23,7 +23,7 @@ returns-in-Ok-clause-log c =
     let commands : c.deref.result.now ≡ p.commands = search rules in
     let built : AreBuilt p.commands = subst (λ (cs : List Command). AreBuilt cs) commands (c.is_built.ensures.0 c.if-not-is_built.false) in
     let log = c.in-Ok.ensures in
-    let accepted = defined_accepted p 100000000 log.lines log.defined in
+    let accepted = defined_accepted p steps_of_prove log.lines read.0 log.defined in
     record {
       program = p;
       taken = record { first_form = read.0; built = built };
@@ -32,5 +32,5 @@ returns-in-Ok-clause-log c =
       defined = log.defined;
       accepted = accepted;
       written = log.written;
-      holds = accepted_true p 100000000 log.lines read.0 accepted;
+      holds = accepted_true p steps_of_prove log.lines accepted;
     }
