@@ -28,7 +28,6 @@ use Rattle.geo_prover.specs.declared.program.Command.TheVariants.{Point as Point
 use Rattle.geo_prover.specs.declared.program.Program.{Program}
 use Rattle.geo_prover.specs.Logs.{IsAccepted, IsCut, LeadsTo, start_of}
 use Rattle.geo_prover.specs.Moves.{coordinate_move, move_charge, point_move, variables_of}
-use Rattle.geo_prover.specs.Program.{IsFirstForm}
 use Rattle.geo_prover.specs.Truth.{AreMet, Holds, IsMet, IsTrueProgram, Meets}
 use Rattle.geo_prover.proofs.Meeting.{met_at, meeting_exists, whole_nonzero}
 use Rattle.geo_prover.proofs.PieceValues.{◌∘◌, flip, self, value_at, constant_is, area_is, product_is}

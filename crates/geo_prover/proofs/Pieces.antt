@@ -1,11 +1,11 @@
 -- The bounds of a sum, a difference and a product of pieces.
-use Rattle.std.proofs.Common.{ℕ, ◌+◌, ◌*◌, ◌≤◌, max, [], ◌∷◌, ◌++◌, map, arith}
+use Rattle.std.proofs.Common.{ℕ, ◌*◌, ◌≤◌, max, [], ◌∷◌, ◌++◌, arith}
 use Rattle.std.proofs.Math.Nat.{mul-le-mul}
 use Rattle.sparse_lists.specs.SparseLists.{AllKeys}
 use Rattle.sparse_lists.proofs.Sums.{AllKeys-canonical, AllKeys-append}
 use Rattle.geo_poly.specs.declared.replacement.Piece.{Piece}
 use Rattle.geo_poly.specs.Monomials.{Powers, degree_of}
-use Rattle.geo_poly.specs.Polynomials.{Terms, coefficients, term_cmp, norm_of, total_degree, negated, sum_of, difference_of}
+use Rattle.geo_poly.specs.Polynomials.{Terms, coefficients, term_cmp, norm_of, total_degree, negated, sum_of}
 use Rattle.geo_poly.specs.Replace.{IsBounded}
 use Rattle.geo_poly.proofs.Negated.{norm_of-negated}
 use Rattle.geo_poly.proofs.PolynomialLaws.{norm_of-sum_of-le}

@@ -1,5 +1,5 @@
 -- The chain of a program with two free points and a point by a ratio ends in 0: the area of all three points is eliminated by its last point, whose row has only areas with a repeated point.
-use Rattle.std.proofs.Common.{◌≡◌, ◌≢◌, ℕ, zero, suc, ◌-◌, ◌<◌, ◌≤◌, ℤ, pos, negsuc, to_z, of_z, true, false, Some, None, List, [], ◌∷◌, ◌++◌, length, refl, sym, ap, ap₂, subst, ◌∙◌, All, arith, lit≤, lit<}
+use Rattle.std.proofs.Common.{◌≡◌, ℕ, zero, suc, ◌-◌, ◌<◌, ◌≤◌, ℤ, pos, negsuc, to_z, of_z, true, false, Some, None, List, [], ◌∷◌, length, refl, sym, ap, ap₂, subst, ◌∙◌, arith, lit≤, lit<}
 use Rattle.std.proofs.Math.Nat.{one-dvd}
 use Rattle.std.specs.Fmt.{digits}
 use Rattle.std.specs.Int.{◌∣◌, w128}
@@ -7,11 +7,10 @@ use lib.Signed.{lt_z}
 use Rattle.geo_points.specs.declared.ids.PointId.{PointId}
 use Rattle.geo_poly.specs.declared.canonical.Canon.{Canon}
 use Rattle.geo_poly.specs.Canonical.{canonical_area}
-use Rattle.geo_poly.specs.Factors.{IsFactor, IsFactorOf, DividesAll}
-use Rattle.geo_poly.specs.Polynomials.{Terms, IsPolynomial, polynomial_of, constant_of, sum_of, difference_of, products, product_of}
+use Rattle.geo_poly.specs.Factors.{IsFactorOf, DividesAll}
+use Rattle.geo_poly.specs.Polynomials.{Terms, polynomial_of, constant_of, sum_of, difference_of, products, product_of}
 use Rattle.geo_poly.specs.Replace.{replaced_by}
 use Rattle.geo_prover.specs.declared.chain.Along.{Along}
-use Rattle.geo_prover.specs.declared.log.Line.{Line}
 use Rattle.geo_prover.specs.declared.log.Line.TheVariants.{Start, Point as PointLine, Cut, End}
 use Rattle.geo_prover.specs.declared.program.Command.{Command}
 use Rattle.geo_prover.specs.declared.program.Command.TheVariants.{Point}

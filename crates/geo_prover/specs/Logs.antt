@@ -1,5 +1,5 @@
 -- Logs: the lines that are accepted for a program, whoever wrote them, and those that the prover writes.
-use Rattle.std.specs.Prelude.{◌≡◌, ◌≢◌, ℕ, suc, ◌-◌, ◌^◌, ◌<◌, ◌≤◌, IsTrue, Bool, true, false, ◌||◌, All, Any, ℤ, pos, unsigned_abs, Some, List, [], ◌∷◌, ◌++◌, map, length, slice_get}
+use Rattle.std.specs.Prelude.{◌≡◌, ◌≢◌, ℕ, suc, ◌-◌, ◌^◌, ◌<◌, ◌≤◌, IsTrue, Bool, false, ◌||◌, All, Any, ℤ, pos, unsigned_abs, Some, List, [], ◌∷◌, ◌++◌, map, length, slice_get}
 use Rattle.geo_points.specs.declared.ids.PointId.{PointId}
 use Rattle.geo_poly.specs.declared.variables.Var.{Var}
 use Rattle.geo_poly.specs.declared.variables.Var.TheVariants.{S, X, Y}

@@ -1,4 +1,4 @@
-use Rattle.std.proofs.Common.{◌≡◌, Bool, true, false, Some, None, Option, List, [], ◌∷◌, ◌++◌, sym, ap, ap₂, subst, ◌∙◌, inl, inr, pos, negsuc, arith}
+use Rattle.std.proofs.Common.{◌≡◌, true, false, Some, None, Option, List, [], ◌∷◌, ◌++◌, sym, ap, ap₂, subst, ◌∙◌, inl, inr, pos, negsuc, arith}
 use Rattle.geo_poly.specs.declared.canonical.Canon.{Canon}
 use Rattle.geo_poly.specs.declared.variables.Var.{Var}
 use Rattle.geo_poly.specs.Canonical.{canonical_area}

@@ -1,5 +1,4 @@
 use Rattle.std.proofs.Common.{◌≡◌, true, false, List, sym, subst, ◌∙◌, rules}
-use Rattle.std.specs.List.{slice_split}
 use Rattle.geo_prover.specs.declared.program.Command.{Command}
 use Rattle.geo_prover.specs.FirstLog.{AreBuilt, steps_of_prove}
 use Rattle.geo_prover.proofs.Beginnings.{commands_of_text}
