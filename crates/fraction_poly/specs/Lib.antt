@@ -1,0 +1,3 @@
+pub mod Measures
+pub mod MultipliedOut
+pub mod Laws

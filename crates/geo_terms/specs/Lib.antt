@@ -1,0 +1,5 @@
+pub mod Trees
+pub mod Stores
+pub mod Values
+pub mod Constructions
+pub mod Laws
