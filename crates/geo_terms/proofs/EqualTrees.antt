@@ -1,10 +1,10 @@
 -- In a store, equal trees stand at equal indices: by induction over the tree.
-use Rattle.std.proofs.Common.{◌≡◌, ℕ, ◌<◌, List, length, slice_get, Some, refl, sym, ap, ap₂, subst, ◌∙◌}
+use Rattle.std.proofs.Common.{◌≡◌, ◌<◌, List, length, slice_get, Some, refl, sym, ap, ap₂, subst, ◌∙◌}
 use Rattle.geo_points.specs.declared.ids.TermId.{TermId}
 use Rattle.geo_terms.specs.declared.nodes.Node.{Node}
 use Rattle.geo_terms.specs.declared.nodes.Node.TheVariants.{Int, Param, S, P, R, Neg, Add, Sub, Mul, Div}
 use Rattle.geo_terms.specs.Trees.{Tree, integer_leaf, parameter_leaf, area_leaf, pythagoras_leaf, ratio_leaf, negation, addition, subtraction, multiplication, division}
-use Rattle.geo_terms.specs.Stores.{Store, HasChildrenBelow, IsStore, tree_at, node_tree, trees_of, tree_of}
+use Rattle.geo_terms.specs.Stores.{Store, IsStore, tree_at, node_tree, trees_of, tree_of}
 use Rattle.geo_terms.proofs.Inductions.{HoldsOfParts, node_at, parts_within}
 use Rattle.geo_terms.proofs.Trees.{tree_of-node}
 

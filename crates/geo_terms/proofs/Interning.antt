@@ -1,5 +1,5 @@
 -- A node interned in a store: the store that it gives, and the trees in it.
-use Rattle.std.proofs.Common.{◌≡◌, ℕ, zero, suc, ◌<◌, Bool, true, false, ◌⊎◌, inl, inr, List, [], ◌∷◌, ◌++◌, if◌then◌else◌, length, slice_get, Some, refl, sym, ap, subst, ◌∙◌, true≢false, arith}
+use Rattle.std.proofs.Common.{◌≡◌, ℕ, zero, suc, ◌+◌, ◌<◌, ◌≤◌, Bool, true, false, ◌⊎◌, inl, inr, [], ◌∷◌, ◌++◌, if◌then◌else◌, length, slice_get, Some, refl, sym, ap, subst, ◌∙◌, true≢false, arith}
 use Rattle.std.specs.Prelude.{Contains}
 use Rattle.std.specs.List.{list_any}
 use Rattle.std.proofs.lemmas.List.{length_push}
@@ -37,29 +37,32 @@ IsStore-push nodes last h new = record { once = once; children = children; integ
   where
     no : (k : ℕ) (node : Node) → slice_get nodes k ≡ Some node → node ≡ last → ⊥
     no k node at same = new.unknown (subst (Contains nodes) same (Contains-slice_get nodes k node at))
+
     once : (i j : ℕ) (node : Node) → slice_get (nodes ++ last ∷ []) i ≡ Some node → slice_get (nodes ++ last ∷ []) j ≡ Some node → i ≡ j
     once i j node i_at j_at =
         elim (push_cases nodes last i node i_at) [
-          inl i_there ↦ elim (push_cases nodes last j node j_at) [
-            inl j_there ↦ h.once i j node i_there j_there
-          | inr j_end ↦ absurd (no i node i_there j_end.1)
+          | inl i_there ↦ elim (push_cases nodes last j node j_at) [
+            | inl j_there ↦ h.once i j node i_there j_there
+            | inr j_end ↦ absurd (no i node i_there j_end.1)
           ]
-        | inr i_end ↦ elim (push_cases nodes last j node j_at) [
-            inl j_there ↦ absurd (no j node j_there i_end.1)
-          | inr j_end ↦ i_end.0 ∙ sym j_end.0
+          | inr i_end ↦ elim (push_cases nodes last j node j_at) [
+            | inl j_there ↦ absurd (no j node j_there i_end.1)
+            | inr j_end ↦ i_end.0 ∙ sym j_end.0
           ]
         ]
+
     children : (k : ℕ) (node : Node) → slice_get (nodes ++ last ∷ []) k ≡ Some node → HasChildrenBelow k node
     children k node at =
         elim (push_cases nodes last k node at) [
-          inl there ↦ h.children k node there
-        | inr end ↦ subst (HasChildrenBelow k) (sym end.1) (subst (λ n. HasChildrenBelow n last) (sym end.0) new.children)
+          | inl there ↦ h.children k node there
+          | inr end ↦ subst (HasChildrenBelow k) (sym end.1) (subst (λ n. HasChildrenBelow n last) (sym end.0) new.children)
         ]
+
     integers : (k : ℕ) (node : Node) → slice_get (nodes ++ last ∷ []) k ≡ Some node → HasShortInteger node
     integers k node at =
         elim (push_cases nodes last k node at) [
-          inl there ↦ h.integers k node there
-        | inr end ↦ subst HasShortInteger (sym end.1) new.integer
+          | inl there ↦ h.integers k node there
+          | inr end ↦ subst HasShortInteger (sym end.1) new.integer
         ]
 
 -- INTERNING
@@ -94,8 +97,8 @@ pub tree_of-interned : {old new : Store} {node : Node} → IsInterned old node n
 tree_of-interned {old} {new} {node} (known found) h id at = tree_of-node old id node h at
 tree_of-interned {old} {new} {node} (added unknown) h id at =
     elim (push_cases old node id.0 node at) [
-      inl there ↦ absurd (unknown (Contains-slice_get old id.0 node there))
-    | inr end ↦ tree_of-push old node id end.0
+      | inl there ↦ absurd (unknown (Contains-slice_get old id.0 node there))
+      | inr end ↦ tree_of-push old node id end.0
     ]
 
 -- all other trees stay
@@ -107,3 +110,11 @@ others-interned {old} {new} {node} (added unknown) id within = tree_of-append ol
 pub pushed-interned : {old new : Store} {node : Node} → IsInterned old node new → (Contains old node → ⊥) → new ≡ old ++ node ∷ []
 pushed-interned (known found) unknown = absurd (unknown found)
 pushed-interned (added _) unknown = refl
+
+pub longer-interned : {old new : Store} {node : Node} → IsInterned old node new → length old ≤ length new
+longer-interned (known found) = omega arith
+longer-interned {old} {new} {node} (added unknown) = omega (arith, length_push old node)
+
+pub one_more-interned : {old new : Store} {node : Node} → IsInterned old node new → length new ≤ length old + 1
+one_more-interned (known found) = omega arith
+one_more-interned {old} {new} {node} (added unknown) = omega (arith, length_push old node)

@@ -1,6 +1,6 @@
 -- The trees of a store: a longer store begins with them, and the tree at an index is that of its node.
-use Rattle.std.proofs.Common.{◌≡◌, ℕ, zero, suc, ◌+◌, ◌<◌, ◌≤◌, List, [], ◌∷◌, ◌++◌, fold, length, take, drop, slice_get, Option, Some, None, refl, sym, ap, ap₂, subst, ◌∙◌, arith}
-use Rattle.std.proofs.lemmas.List.{append-nil, append_assoc, get_or_append_left, get_or_at, length-append, length-take-le, length_push}
+use Rattle.std.proofs.Common.{◌≡◌, ℕ, zero, suc, ◌+◌, ◌<◌, List, [], ◌∷◌, ◌++◌, fold, length, take, drop, slice_get, Some, refl, sym, ap, ap₂, subst, ◌∙◌, arith}
+use Rattle.std.proofs.lemmas.List.{append-nil, append_assoc, get_or_append_left, get_or_at, length-take-le, length_push}
 use Rattle.std.proofs.lemmas.List.Sums.{fold-append}
 use Rattle.std.proofs.lemmas.Option.{slice_get_within}
 use Rattle.geo_points.specs.declared.ids.TermId.{TermId}
@@ -92,9 +92,9 @@ tree_of-unfolds nodes id node below at =
     let count : length before ≡ id.0 = length-take-le id.0 nodes (omega arith) in
     let parts : nodes ≡ (before ++ node ∷ []) ++ after = split_at_node nodes id.0 node at in
     let begins : BeginsWith (trees_of before) (trees_of nodes) =
-        subst (λ xs. BeginsWith (trees_of before) (trees_of xs)) (sym (parts ∙ append_assoc before (node ∷ []) after)) (trees_of-begins before (node ∷ after)) in
+    subst (λ xs. BeginsWith (trees_of before) (trees_of xs)) (sym (parts ∙ append_assoc before (node ∷ []) after)) (trees_of-begins before (node ∷ after)) in
     let there : HasChildrenBelow (length (trees_of before)) node =
-        subst (λ k. HasChildrenBelow k node) (sym (length-trees_of before ∙ count)) below in
+    subst (λ k. HasChildrenBelow k node) (sym (length-trees_of before ∙ count)) below in
     ap (λ xs. tree_of xs id) parts
     ∙ tree_of-append (before ++ node ∷ []) after id (omega (arith, length_push before node))
     ∙ tree_of-push before node id (sym count)

@@ -2,7 +2,7 @@ use Rattle.std.proofs.Common.{◌≡◌, ◌∙◌, true, Some, sym, ap, subst, 
 use Rattle.geo_terms.specs.contracts.nodes.NodePartialEq.TheImpl.{eq-value}
 use Rattle.geo_terms.specs.declared.nodes.Node.{Node}
 use Rattle.geo_terms.specs.Stores.{IsStore}
-use Rattle.geo_terms.proofs.Interning.{IsInterned, interned, IsStore-interned, tree_of-interned, others-interned, pushed-interned}
+use Rattle.geo_terms.proofs.Interning.{IsInterned, interned, IsStore-interned, tree_of-interned, others-interned, pushed-interned, longer-interned, one_more-interned}
 use Rattle.geo_terms.proofs.stores.Terms.intern.Goals as goal
 use Rattle.geo_terms.proofs.stores.Terms.intern.Goals.{In_ok-index}
 
@@ -24,6 +24,9 @@ is_store c = subst IsStore c.self.view_is c.self.invariant
 pub invariant_of-self-2 : goal.invariant_of-self-2
 invariant_of-self-2 c = IsStore-interned (is_interned c) (is_store c) c.requires.children c.requires.integer c.requires.room
 
+pub returns-clause-valid : goal.returns-clause-valid
+returns-clause-valid c = invariant_of-self-2 c
+
 pub returns-clause-tree : goal.returns-clause-tree
 returns-clause-tree c =
     let stored = c.in_ok-index.ensures.stored in
@@ -34,3 +37,9 @@ returns-clause-added c = pushed-interned (is_interned c)
 
 pub returns-clause-others : goal.returns-clause-others
 returns-clause-others c = others-interned (is_interned c)
+
+pub returns-clause-longer : goal.returns-clause-longer
+returns-clause-longer c = longer-interned (is_interned c)
+
+pub returns-clause-one_more : goal.returns-clause-one_more
+returns-clause-one_more c = one_more-interned (is_interned c)
