@@ -3,7 +3,9 @@
 ghost use Rattle.std.specs.Prelude.{◌≤◌, IfOk, length};
 ghost use Rattle.geo_lexer.specs.Tokens.{IsLexed};
 
-use crate::token_types::Lexed;
+use crate::gaps::next_place;
+use crate::places::token_at;
+use crate::token_types::{Lexed, TokenList};
 use geo_base::NoMemory;
 use std::alloc::Global;
 
@@ -13,5 +15,24 @@ pub fn tokens(alloc: Global, bytes: &[u8]) -> Result<Lexed, NoMemory>
     requires { length bytes.now ≤ 67108864 }
     ensures { IfOk result (λ lexed. IsLexed bytes.now lexed.tokens lexed.fault) }
 {
-    Err(NoMemory)
+    let mut items = Vec::new(alloc);
+    let mut end = 0;
+    while let Some(start) = next_place(bytes, end) {
+        match token_at(bytes, start) {
+            Ok(token) => {
+                items.push(token)?;
+                end = token.end as usize;
+            }
+            Err(fault) => {
+                return Ok(Lexed {
+                    tokens: TokenList { items },
+                    fault: Some(fault),
+                });
+            }
+        }
+    }
+    Ok(Lexed {
+        tokens: TokenList { items },
+        fault: None,
+    })
 }
