@@ -1,0 +1,13 @@
+//! What is proved of tokens. The functions do nothing: what each says is its contract.
+
+ghost use Rattle.geo_lexer.specs.Laws.{LexingIsUnique, TokensAreWithin};
+
+/// A text has one lexing: its tokens and its fault are the same in any two.
+pub fn lexing_is_unique()
+    ensures { LexingIsUnique }
+{}
+
+/// The tokens of a lexing stand in the text, one after another, and before its fault.
+pub fn tokens_are_within()
+    ensures { TokensAreWithin }
+{}
