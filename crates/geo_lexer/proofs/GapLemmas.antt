@@ -1,7 +1,8 @@
 -- Gaps, byte by byte and joined.
 use Rattle.std.proofs.Common.{◌≡◌, ℕ, ◌+◌, ◌-◌, ◌<◌, ◌≤◌, ◌==◌, IsTrue, Bool, true, false, ◌&&◌, ◌||◌, not, List, [], ◌∷◌, ◌++◌, length, take, drop, get_or, refl, sym, ap, ◌∙◌, subst, arith, append_assoc, append-nil}
-use Rattle.std.proofs.lemmas.Bool.{or_from, and_left}
-use Rattle.std.proofs.lemmas.List.{take_more, take_all}
+use Rattle.std.proofs.lemmas.Bool.{false≢true}
+use Rattle.std.proofs.lemmas.Bool.Decides.{nat_tests}
+use Rattle.std.proofs.lemmas.List.{take_all}
 use Rattle.geo_lexer.specs.Bytes.{is_blank, is_comment_start, is_gap}
 use Rattle.geo_lexer.specs.Tokens.{IsGap, IsLastGap}
 
@@ -55,3 +56,36 @@ Leaves-last bytes start i inside within all leaves =
       ap (is_gap true false) (sym (append-nil front ∙ take_all i (drop start bytes) all))
       ∙ leaves.reads true [],
     )
+
+-- ---- gaps joined
+
+-- one of two tests passes, and what hangs on it is the same either way
+one_of : (blank comment : Bool) (p q x y r : Bool) → (blank && comment) ≡ false → ((blank && p) || (comment && q)) ≡ true → (p ≡ true → x ≡ r) → (q ≡ true → y ≡ r) → ((blank && x) || (comment && y)) ≡ r
+one_of true true p q x y r apart passes left right = absurd (false≢true (sym apart))
+one_of true false p q x y r apart passes left right = or-false x ∙ left (sym (or-false p) ∙ passes)
+one_of false true p q x y r apart passes left right = right passes
+one_of false false p q x y r apart passes left right = absurd (false≢true passes)
+
+-- no byte is a blank and a `%`
+never_both : (b : ℕ) → (is_blank b && is_comment_start b) ≡ false
+never_both b = grind (arith, nat_tests)
+
+-- what follows a gap is read as if it stood alone
+pub is_gap-append : (open_end inside : Bool) (front more : List ℕ) → is_gap false inside front ≡ true → is_gap open_end inside (front ++ more) ≡ is_gap open_end false more
+is_gap-append open_end true [] more gap = absurd (false≢true gap)
+is_gap-append open_end false [] more gap = refl
+is_gap-append open_end true (b ∷ bs) more gap = is_gap-append open_end (not (b == 10)) bs more gap
+is_gap-append open_end false (b ∷ bs) more gap =
+    one_of (is_blank b) (is_comment_start b) (is_gap false false bs) (is_gap false true bs) (is_gap open_end false (bs ++ more)) (is_gap open_end true (bs ++ more)) (is_gap open_end false more) (never_both b) gap
+    (λ blank. is_gap-append open_end false bs more blank)
+    (λ comment. is_gap-append open_end true bs more comment)
+
+-- and so is what follows a line feed after a last gap
+pub is_gap-line : (open_end inside : Bool) (front more : List ℕ) → is_gap true inside front ≡ true → is_gap open_end inside (front ++ 10 ∷ more) ≡ is_gap open_end false more
+is_gap-line open_end true [] more gap = refl
+is_gap-line open_end false [] more gap = or-false (is_gap open_end false more)
+is_gap-line open_end true (b ∷ bs) more gap = is_gap-line open_end (not (b == 10)) bs more gap
+is_gap-line open_end false (b ∷ bs) more gap =
+    one_of (is_blank b) (is_comment_start b) (is_gap true false bs) (is_gap true true bs) (is_gap open_end false (bs ++ 10 ∷ more)) (is_gap open_end true (bs ++ 10 ∷ more)) (is_gap open_end false more) (never_both b) gap
+    (λ blank. is_gap-line open_end false bs more blank)
+    (λ comment. is_gap-line open_end true bs more comment)

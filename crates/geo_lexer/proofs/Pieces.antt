@@ -11,6 +11,7 @@ use Rattle.geo_lexer.specs.declared.token_types.Kind.{Kind}
 use Rattle.geo_lexer.specs.declared.token_types.Kind.TheVariants.{Word, Number, Open, Close}
 use Rattle.geo_lexer.specs.Bytes.{is_blank, is_brace, is_comment_start, is_digit, is_letter, is_word_byte}
 use Rattle.geo_lexer.specs.Tokens.{BeginsNothing, IsByteAt, IsFaultAt, IsLongWordAt, IsNumberAt, IsTokenAt, IsWideNumberAt, IsWordAt, StopsAt}
+use Rattle.geo_lexer.proofs.Ranges.{get_or-slice_range, length-slice_range}
 
 -- a word, a number or a brace, of any length and size
 abbrev pub IsPieceAt : List ℕ → Kind → ℕ → ℕ → Type 0
@@ -37,7 +38,7 @@ abbrev kind_of : ℕ → Kind
 kind_of b = cond (is_letter b) Word (cond (b == 123) Open (cond (b == 125) Close Number))
 
 -- what the first byte of a piece is
-abbrev MayBegin : Kind → ℕ → Type 0
+abbrev pub MayBegin : Kind → ℕ → Type 0
 MayBegin Word b = is_letter b ≡ true
 MayBegin Number b = (is_digit b ≡ true) ⊎ (b ≡ 45)
 MayBegin Open b = b ≡ 123
@@ -55,7 +56,7 @@ kind_is Open b may = rw may refl
 kind_is Close b may = rw may refl
 
 -- what begins a piece is no blank and no `%`
-piece_is_no_gap : (kind : Kind) (b : ℕ) → MayBegin kind b → (is_blank b ≡ false) × (is_comment_start b ≡ false)
+pub piece_is_no_gap : (kind : Kind) (b : ℕ) → MayBegin kind b → (is_blank b ≡ false) × (is_comment_start b ≡ false)
 piece_is_no_gap Word b may = (grind (arith, nat_tests), grind (arith, nat_tests))
 piece_is_no_gap Number b (inl digit) = (grind (arith, nat_tests), grind (arith, nat_tests))
 piece_is_no_gap Number b (inr minus) = rw minus (refl, refl)
@@ -96,14 +97,6 @@ decimal_more : (xs : List ℕ) → IsDecimal xs → get_or xs 0 0 ≡ 45 → 1 <
 decimal_more xs decimal minus =
     let numeral : IsNumeral 10 (drop 1 xs) = subst (λ (t : Bool). IsNumeral 10 (cond t (drop 1 xs) xs)) (eq-eqb (get_or xs 0 0) 45 minus) decimal in
     omega (arith, numeral.0, length-drop 1 xs)
-
--- ---- the bytes from one place to another
-
-pub length-slice_range : (bytes : List ℕ) (start end : ℕ) → start ≤ end → end ≤ length bytes → length (slice_range bytes start end) ≡ end - start
-length-slice_range bytes start end onward within = simp (length-take, length-drop) (omega arith)
-
-pub get_or-slice_range : (bytes : List ℕ) (start end i : ℕ) → i < end - start → get_or (slice_range bytes start end) i 0 ≡ get_or bytes (start + i) 0
-get_or-slice_range bytes start end i inside = get_or-take (end - start) (drop start bytes) i 0 inside ∙ get_or-drop start bytes i 0
 
 -- ---- pieces
 

@@ -15,6 +15,7 @@ use Rattle.geo_lexer.specs.declared.token_types.Kind.TheVariants.{Word, Number}
 use Rattle.geo_lexer.specs.declared.token_types.Token.{Token}
 use Rattle.geo_lexer.specs.Bytes.{is_digit, is_letter, is_word_byte}
 use Rattle.geo_lexer.specs.Tokens.{BeginsNothing, IsFaultAt, IsNumberAt, IsTokenAt, IsWordAt, StopsAt}
+use Rattle.geo_lexer.proofs.Ranges.{slice_range_first}
 use Rattle.geo_lexer.proofs.Runs.{IsRun}
 
 -- a run whose first byte passes has some bytes
@@ -50,13 +51,6 @@ token_is bytes t kind start end kind_is start_is end_is at = (start_is, rw (kind
 pub fault_is : (bytes : List ℕ) (f : Fault) (refusal place : ℕ) → f.refusal ≡ refusal → f.place ≡ place → IsFaultAt bytes refusal place → (f.place ≡ place) × IsFaultAt bytes f.refusal f.place
 fault_is bytes f refusal place refusal_is place_is at = (place_is, rw (refusal_is, place_is) at)
 
--- the first byte, and then the others
-range_first : (bytes : List ℕ) (start end : ℕ) → start < length bytes → start < end → slice_range bytes start end ≡ get_or bytes start 0 ∷ slice_range bytes (start + 1) end
-range_first bytes start end inside some =
-    let size : end - start ≡ suc (end - (start + 1)) = omega arith in
-    ap (take (end - start)) (drop_more bytes start 0 inside)
-    ∙ ap (λ n. take n (get_or bytes start 0 ∷ drop (start + 1) bytes)) size
-
 -- digits are a decimal text
 decimal_digits : (b : ℕ) (ds : List ℕ) → is_digit b ≡ true → list_all is_digit ds ≡ true → IsDecimal (b ∷ ds)
 decimal_digits b ds digit all =
@@ -82,7 +76,7 @@ number_of_digit : (bytes : List ℕ) (start end : ℕ) → start < length bytes 
 number_of_digit bytes start end inside digit run =
     let onward = run.onward in
     let rest = slice_range bytes (start + 1) end in
-    subst IsDecimal (sym (range_first bytes start end inside (omega arith)))
+    subst IsDecimal (sym (slice_range_first bytes start end inside (omega arith)))
     (decimal_digits (get_or bytes start 0) rest digit (list_all-from_AllPass is_digit rest run.all))
 
 -- and so is a `-` with one or more digits after it
@@ -91,7 +85,7 @@ number_of_minus bytes start end inside minus more run =
     let within = run.within in
     let rest = slice_range bytes (start + 1) end in
     let some : 0 < length rest = omega (arith, length-take (end - (start + 1)) (drop (start + 1) bytes), length-drop (start + 1) bytes) in
-    subst IsDecimal (sym (range_first bytes start end inside (omega arith)))
+    subst IsDecimal (sym (slice_range_first bytes start end inside (omega arith)))
     (decimal_minus (get_or bytes start 0) rest minus some (list_all-from_AllPass is_digit rest run.all))
 
 -- a `-` whose run of digits is empty begins nothing
