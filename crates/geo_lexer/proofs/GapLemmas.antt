@@ -1,10 +1,16 @@
 -- Gaps, byte by byte and joined.
-use Rattle.std.proofs.Common.{◌≡◌, ℕ, ◌+◌, ◌-◌, ◌<◌, ◌≤◌, ◌==◌, IsTrue, Bool, true, false, ◌&&◌, ◌||◌, not, List, [], ◌∷◌, ◌++◌, length, take, drop, get_or, refl, sym, ap, ◌∙◌, subst, arith, append_assoc, append-nil}
-use Rattle.std.proofs.lemmas.Bool.{false≢true}
+use Rattle.std.proofs.Common.{◌≡◌, ℕ, ◌+◌, ◌-◌, ◌<◌, ◌≤◌, ◌==◌, IsTrue, Bool, true, false, ◌&&◌, ◌||◌, not, Option, Some, None, List, [], ◌∷◌, ◌++◌, length, take, drop, slice_range, refl, sym, ap, ◌∙◌, subst, arith, append_assoc, append-nil}
+use Rattle.std.proofs.lemmas.Bool.{and_parts, false≢true, not-true}
 use Rattle.std.proofs.lemmas.Bool.Decides.{nat_tests}
+use Rattle.std.proofs.Math.Nat.{le_trans}
 use Rattle.std.proofs.lemmas.List.{take_all}
+use Rattle.std.proofs.lemmas.List.Elements.{All-head, All-tail}
+use Rattle.std.proofs.lemmas.List.Folds.{drop_split}
+use Rattle.std.specs.List.{AllPass}
+use Rattle.geo_lexer.specs.declared.token_types.Fault.{Fault}
 use Rattle.geo_lexer.specs.Bytes.{is_blank, is_comment_start, is_gap}
-use Rattle.geo_lexer.specs.Tokens.{IsGap, IsLastGap}
+use Rattle.geo_lexer.specs.Tokens.{IsGap, IsLastGap, IsLexedEnd}
+use Rattle.geo_lexer.proofs.Ranges.{slice_range_split}
 
 -- these bytes, read from outside a comment, end inside one or not
 pub record Leaves (front : List ℕ) (inside : Bool) : Type 0 where
@@ -89,3 +95,35 @@ is_gap-line open_end false (b ∷ bs) more gap =
     one_of (is_blank b) (is_comment_start b) (is_gap true false bs) (is_gap true true bs) (is_gap open_end false (bs ++ 10 ∷ more)) (is_gap open_end true (bs ++ 10 ∷ more)) (is_gap open_end false more) (never_both b) gap
     (λ blank. is_gap-line open_end false bs more blank)
     (λ comment. is_gap-line open_end true bs more comment)
+
+-- a text is read from where a gap in it ends
+pub from_gap : (open_end : Bool) (bytes : List ℕ) (start place : ℕ) → IsGap bytes start place → is_gap open_end false (drop start bytes) ≡ is_gap open_end false (drop place bytes)
+from_gap open_end bytes start place gap =
+    ap (is_gap open_end false) (drop_split bytes start place gap.0)
+    ∙ is_gap-append open_end false (slice_range bytes start place) (drop place bytes) gap.2
+
+-- two gaps in a row are one
+pub IsGap-append : (bytes : List ℕ) (start place end : ℕ) → IsGap bytes start place → IsGap bytes place end → IsGap bytes start end
+IsGap-append bytes start place end first second = (
+  le_trans first.0 second.0,
+  second.1,
+  ap (is_gap false false) (slice_range_split bytes start place end first.0 second.0)
+  ∙ is_gap-append false false (slice_range bytes start place) (slice_range bytes place end) first.2
+  ∙ second.2,
+)
+
+-- a gap before the end of a text belongs to it
+pub IsLexedEnd-gap : (bytes : List ℕ) (start place : ℕ) (fault : Option Fault) → IsGap bytes start place → IsLexedEnd bytes place fault → IsLexedEnd bytes start fault
+IsLexedEnd-gap bytes start place None gap last =
+    (le_trans gap.0 gap.1, from_gap true bytes start place gap ∙ last.1)
+IsLexedEnd-gap bytes start place (Some fault) gap ends =
+    (IsGap-append bytes start place fault.place gap ends.0, ends.1)
+
+-- a text without `%` ends outside a comment
+pub closed_without_comment : (bytes : List ℕ) → AllPass (λ b. not (is_comment_start b)) bytes → is_gap true false bytes ≡ true → is_gap false false bytes ≡ true
+closed_without_comment [] plain gap = refl
+closed_without_comment (b ∷ bs) plain gap =
+    let no_comment : is_comment_start b ≡ false = not-true (is_comment_start b) (All-head (λ c. not (is_comment_start c) ≡ true) b bs plain) in
+    let parts = and_parts (is_blank b) (is_gap true false bs) (sym (or-false (is_blank b && is_gap true false bs)) ∙ (rw no_comment at gap)) in
+    let rest = closed_without_comment bs (All-tail (λ c. not (is_comment_start c) ≡ true) b bs plain) parts.1 in
+    rw (parts.0, no_comment, rest) refl

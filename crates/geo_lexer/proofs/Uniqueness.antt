@@ -2,7 +2,6 @@
 use Rattle.std.proofs.Common.{◌≡◌, ℕ, ◌+◌, ◌-◌, ◌<◌, ◌≤◌, ◌^◌, ◌⊎◌, Bool, true, false, Option, Some, None, List, [], ◌∷◌, ◌++◌, length, drop, get_or, slice_range, refl, ap, sym, ◌∙◌, subst, inl, inr, ⊎_elim, arith}
 use Rattle.std.proofs.lemmas.Bool.{cases_order, false≢true}
 use Rattle.std.proofs.lemmas.List.{drop_more}
-use Rattle.std.proofs.lemmas.List.Folds.{drop_split}
 use Rattle.geo_base.specs.Decimals.{decimal_size}
 use Rattle.geo_lexer.specs.declared.token_types.Fault.{Fault}
 use Rattle.geo_lexer.specs.declared.token_types.Kind.{Kind}
@@ -10,7 +9,7 @@ use Rattle.geo_lexer.specs.declared.token_types.Kind.TheVariants.{Word, Number, 
 use Rattle.geo_lexer.specs.declared.token_types.Token.{Token}
 use Rattle.geo_lexer.specs.Bytes.{is_blank, is_comment_start, is_gap}
 use Rattle.geo_lexer.specs.Tokens.{AreTokens, BeginsNothing, IsFaultAt, IsGap, IsLastGap, IsLexed, IsLexedEnd, IsLongWordAt, IsTokenAt, IsWideNumberAt}
-use Rattle.geo_lexer.proofs.GapLemmas.{is_gap-append}
+use Rattle.geo_lexer.proofs.GapLemmas.{from_gap, is_gap-append}
 use Rattle.geo_lexer.proofs.Pieces.{IsPieceAt, IsPieceAt-token, IsSmall, first_of_piece, nothing_is_no_piece, piece_is_no_gap, same_piece}
 use Rattle.geo_lexer.proofs.Ranges.{slice_range_first, slice_range_split}
 use Rattle.geo_lexer.proofs.TokenListLemmas.{IsFaultAt-within, IsTokenAt-within}
@@ -44,12 +43,6 @@ EndsGap-fault bytes refusal place (inr (inr long)) =
 -- a gap does not begin at what ends one
 stuck : (open_end : Bool) (b : ℕ) (bs : List ℕ) → is_blank b ≡ false → is_comment_start b ≡ false → is_gap open_end false (b ∷ bs) ≡ false
 stuck open_end b bs no_blank no_comment = rw (no_blank, no_comment) refl
-
--- a text is read from where a gap in it ends
-from_gap : (open_end : Bool) (bytes : List ℕ) (start place : ℕ) → IsGap bytes start place → is_gap open_end false (drop start bytes) ≡ is_gap open_end false (drop place bytes)
-from_gap open_end bytes start place gap =
-    ap (is_gap open_end false) (drop_split bytes start place gap.0)
-    ∙ is_gap-append open_end false (slice_range bytes start place) (drop place bytes) gap.2
 
 -- a last gap passes over no byte that ends gaps
 no_last_gap : (bytes : List ℕ) (start place : ℕ) → IsGap bytes start place → EndsGap bytes place → IsLastGap bytes start → ⊥
