@@ -8,8 +8,8 @@ use Rattle.geo_lexer.specs.declared.token_types.Kind.TheVariants.{Word, Number, 
 use Rattle.geo_lexer.specs.declared.token_types.Token.{Token}
 use Rattle.geo_lexer.specs.Bytes.{is_digit, is_gap, is_letter, is_word_byte}
 use Rattle.geo_lexer.specs.Lexemes.{Lexeme, word_lexeme, number_lexeme, lexeme_at, lexeme_of}
-use Rattle.geo_lexer.specs.Tokens.{AreTokens, IsByteAt, IsGap, IsNumberAt, IsTokenAt, IsWordAt, StopsAt}
-use Rattle.geo_lexer.proofs.Ranges.{slice_range-after, slice_range-before}
+use Rattle.geo_lexer.specs.Tokens.{AreTokens, IsByteAt, IsGap, IsLastGap, IsNumberAt, IsTokenAt, IsWordAt, StopsAt}
+use Rattle.geo_lexer.proofs.Ranges.{drop-after, slice_range-after, slice_range-before}
 use Rattle.geo_lexer.proofs.TokenListLemmas.{IsTokenAt-within}
 
 -- ---- at the front of a longer text
@@ -176,3 +176,10 @@ lexemes-after front bytes (t ∷ ts) =
     let first = lexeme_at-after front bytes t.kind t.start t.end in
     let rest = lexemes-after front bytes ts in
     λ i. first i ∷ rest i
+
+pub IsLastGap-after : (front bytes : List ℕ) (start : ℕ) → IsLastGap bytes start → IsLastGap (front ++ bytes) (length front + start)
+IsLastGap-after front bytes start last =
+    let within = last.0 in (
+      omega (arith, length-append front bytes),
+      ap (is_gap true false) (drop-after front bytes start) ∙ last.1,
+    )
