@@ -95,31 +95,3 @@ HasLexemes-space text more xs ys plain has next =
       within = last.0;
       closed = is_gap-append false false rest (32 ∷ []) (closed_without_comment rest (All-drop (λ b. not (is_comment_start b) ≡ true) has.lexed.end text plain) last.1);
     }) next
-
--- ---- parts of one token
-
--- the empty text has no lexemes
-pub HasLexemes-nil : HasLexemes [] []
-HasLexemes-nil = record {
-  tokens = [];
-  lexed = record { end = 0; tokens_are = refl; end_is = (omega arith, refl) };
-  meant = refl;
-}
-
--- a text that is one token
-one_token : (text : List ℕ) (kind : Kind) (x : Lexeme) → IsTokenAt text kind 0 (length text) → lexeme_at text kind 0 (length text) ≡ x → HasLexemes text (x ∷ [])
-one_token text kind x at meant = record {
-  tokens = record { kind = kind; start = 0; end = length text } ∷ [];
-  lexed = record {
-    end = length text;
-    tokens_are = ((omega arith, omega arith, refl), at, refl);
-    end_is = (omega arith, ap (is_gap true false) (drop_all (length text) text (omega arith)));
-  };
-  meant = λ i. meant i ∷ [];
-}
-
-pub HasLexemes-open : HasLexemes (123 ∷ []) (open_brace ∷ [])
-HasLexemes-open = one_token (123 ∷ []) Open open_brace (record { one = refl; within = omega arith; same = refl }) refl
-
-pub HasLexemes-close : HasLexemes (125 ∷ []) (close_brace ∷ [])
-HasLexemes-close = one_token (125 ∷ []) Close close_brace (record { one = refl; within = omega arith; same = refl }) refl

@@ -2,6 +2,7 @@
 use Rattle.std.specs.Prelude.{◌≡◌, ℕ, ◌<◌, ◌≤◌, List, Option, Some, All, AllPairs, length}
 use Rattle.geo_lexer.specs.declared.token_types.Fault.{Fault}
 use Rattle.geo_lexer.specs.declared.token_types.Token.{Token}
+use Rattle.geo_lexer.specs.Lexemes.{Lexeme, HasLexemes, MayStand}
 use Rattle.geo_lexer.specs.Tokens.{IsBefore, IsLexed, IsWithin}
 
 -- two lexings of one text have the same tokens and the same fault
@@ -9,6 +10,15 @@ abbrev pub LexingIsUnique : Type 0
 LexingIsUnique =
     (bytes : List ℕ) (ts us : List Token) (f g : Option Fault)
     → IsLexed bytes ts f → IsLexed bytes us g → (ts ≡ us) × (f ≡ g)
+
+-- a text has one list of lexemes
+abbrev pub LexemesAreUnique : Type 0
+LexemesAreUnique =
+    (bytes : List ℕ) (xs ys : List Lexeme) → HasLexemes bytes xs → HasLexemes bytes ys → xs ≡ ys
+
+-- a lexeme of a text is a word of at most 64 bytes, a number within 127 bits, or a brace
+abbrev pub LexemesAreSmall : Type 0
+LexemesAreSmall = (bytes : List ℕ) (xs : List Lexeme) → HasLexemes bytes xs → All MayStand xs
 
 -- each token of a lexing has one or more bytes, all of the text, and ends before the later ones begin; a fault begins within the text, after every token
 pub record TokensAreWithin : Type 0 where
