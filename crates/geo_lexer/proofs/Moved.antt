@@ -1,5 +1,5 @@
 -- Tokens of a text that is a part of a longer one.
-use Rattle.std.proofs.Common.{◌≡◌, ℕ, ◌+◌, ◌-◌, ◌<◌, ◌≤◌, ◌^◌, ◌⊎◌, IsTrue, Bool, true, false, List, [], ◌∷◌, ◌++◌, map, length, drop, get_or, slice_index, slice_range, refl, ap, sym, ◌∙◌, subst, inl, inr, ⊎_elim, arith, length-append, get_or-append-add}
+use Rattle.std.proofs.Common.{◌≡◌, ℕ, ◌+◌, ◌<◌, ◌≤◌, ◌^◌, Bool, true, false, List, [], ◌∷◌, ◌++◌, map, length, refl, ap, sym, ◌∙◌, subst, inl, inr, arith, length-append, get_or-append-add}
 use Rattle.std.specs.List.{AllPass}
 use Rattle.std.proofs.lemmas.List.{get_or_append_left, get_or_at}
 use Rattle.geo_base.specs.Decimals.{IsDecimal, decimal_size, decimal_value}
@@ -7,7 +7,7 @@ use Rattle.geo_lexer.specs.declared.token_types.Kind.{Kind}
 use Rattle.geo_lexer.specs.declared.token_types.Kind.TheVariants.{Word, Number, Open, Close}
 use Rattle.geo_lexer.specs.declared.token_types.Token.{Token}
 use Rattle.geo_lexer.specs.Bytes.{is_digit, is_gap, is_letter, is_word_byte}
-use Rattle.geo_lexer.specs.Lexemes.{Lexeme, word_lexeme, number_lexeme, lexeme_at, lexeme_of}
+use Rattle.geo_lexer.specs.Lexemes.{word_lexeme, number_lexeme, lexeme_at, lexeme_of}
 use Rattle.geo_lexer.specs.Tokens.{AreTokens, IsByteAt, IsGap, IsLastGap, IsNumberAt, IsTokenAt, IsWordAt, StopsAt}
 use Rattle.geo_lexer.proofs.Ranges.{drop-after, slice_range-after, slice_range-before}
 use Rattle.geo_lexer.proofs.TokenListLemmas.{IsTokenAt-within}

@@ -1,16 +1,14 @@
 -- Texts without comments, put together from words, numbers and braces.
-use Rattle.std.proofs.Common.{◌≡◌, ◌==◌, ℕ, suc, ◌+◌, ◌<◌, ◌≤◌, ◌^◌, Bool, true, false, not, ℤ, pos, negsuc, List, [], ◌∷◌, ◌++◌, length, get_or, refl, sym, ap, ◌∙◌, subst, arith, append_assoc}
+use Rattle.std.proofs.Common.{◌≡◌, ℕ, suc, ◌<◌, ◌≤◌, ◌^◌, true, not, ℤ, pos, negsuc, List, [], ◌∷◌, ◌++◌, get_or, refl, arith}
 use Rattle.std.specs.Prelude.{unsigned_abs}
 use Rattle.std.specs.Fmt.{signed_decimal, decimal}
-use Rattle.std.specs.Str.Parse.{AllDigits}
 use Rattle.std.proofs.lemmas.Bool.Decides.{nat_tests}
 use Rattle.std.proofs.lemmas.Fmt.{decimal_is_IsNumeral_wide}
 use Rattle.std.proofs.lemmas.List.Elements.{All-append, All-cons, All-from_get_or, All-nil, All-weaker}
 use Rattle.std.proofs.lemmas.Str.Parse.{digit_at}
 use Rattle.geo_lexer.specs.Bytes.{is_comment_start, is_word_byte}
 use Rattle.geo_lexer.specs.Lexemes.{Lexeme, word_lexeme, number_lexeme, open_brace, close_brace, HasLexemes, IsWord}
-use Rattle.geo_lexer.proofs.Joining.{HasLexemes-line, HasLexemes-space, HasNoComment}
-use Rattle.geo_lexer.proofs.Singles.{HasLexemes-close, HasLexemes-nil, HasLexemes-number, HasLexemes-open, HasLexemes-word}
+use Rattle.geo_lexer.proofs.Joining.{HasLexemes-close, HasLexemes-line, HasLexemes-nil, HasLexemes-number, HasLexemes-open, HasLexemes-space, HasLexemes-word, HasNoComment}
 
 -- the text has these lexemes, and no comment
 pub record Spells (text : List ℕ) (lexemes : List Lexeme) : Type 0 where

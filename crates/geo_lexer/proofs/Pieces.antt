@@ -1,7 +1,6 @@
 -- What stands at a place is of one kind, and ends at one place.
-use Rattle.std.proofs.Common.{◌≡◌, ◌==◌, ℕ, suc, ◌+◌, ◌-◌, ◌<◌, ◌≤◌, ◌^◌, ◌⊎◌, IsTrue, Bool, true, false, cond, if◌then◌else◌, List, [], ◌∷◌, length, drop, take, get_or, slice_index, slice_range, refl, ap, sym, ◌∙◌, subst, inl, inr, ⊎_elim, arith, length-drop, length-take, get_or-drop, get_or-take}
-use Rattle.std.specs.List.{AllPass}
-use Rattle.std.specs.Str.Parse.{AllDigits, IsNumeral}
+use Rattle.std.proofs.Common.{◌≡◌, ◌==◌, ℕ, ◌+◌, ◌-◌, ◌<◌, ◌≤◌, ◌^◌, ◌⊎◌, Bool, true, false, cond, List, length, drop, get_or, slice_range, refl, ap, sym, ◌∙◌, subst, inl, inr, ⊎_elim, arith, length-drop, get_or-drop}
+use Rattle.std.specs.Str.Parse.{IsNumeral}
 use Rattle.std.proofs.lemmas.Bool.{cases_Bool, cases_order, eq-eqb, eqb-true, false≢true}
 use Rattle.std.proofs.lemmas.Bool.Decides.{nat_tests}
 use Rattle.std.proofs.lemmas.List.Elements.{All-get_or}
@@ -9,8 +8,8 @@ use Rattle.std.proofs.lemmas.Str.Parse.{digit_at}
 use Rattle.geo_base.specs.Decimals.{IsDecimal, decimal_size}
 use Rattle.geo_lexer.specs.declared.token_types.Kind.{Kind}
 use Rattle.geo_lexer.specs.declared.token_types.Kind.TheVariants.{Word, Number, Open, Close}
-use Rattle.geo_lexer.specs.Bytes.{is_blank, is_brace, is_comment_start, is_digit, is_letter, is_word_byte}
-use Rattle.geo_lexer.specs.Tokens.{BeginsNothing, IsByteAt, IsFaultAt, IsLongWordAt, IsNumberAt, IsTokenAt, IsWideNumberAt, IsWordAt, StopsAt}
+use Rattle.geo_lexer.specs.Bytes.{is_blank, is_comment_start, is_digit, is_letter, is_word_byte}
+use Rattle.geo_lexer.specs.Tokens.{BeginsNothing, IsByteAt, IsNumberAt, IsTokenAt, IsWordAt, StopsAt}
 use Rattle.geo_lexer.proofs.Ranges.{get_or-slice_range, length-slice_range}
 
 -- a word, a number or a brace, of any length and size
@@ -71,9 +70,9 @@ decimal_first xs decimal =
     ⊎_elim
     (λ minus. inr (eqb-true (get_or xs 0 0) 45 minus))
     (λ plus.
-        let numeral : IsNumeral 10 xs = subst (λ (t : Bool). IsNumeral 10 (cond t (drop 1 xs) xs)) plus decimal in
-        let digit = digit_at xs 0 numeral.1 numeral.0 in
-        inl (grind (arith, nat_tests)))
+    let numeral : IsNumeral 10 xs = subst (λ (t : Bool). IsNumeral 10 (cond t (drop 1 xs) xs)) plus decimal in
+    let digit = digit_at xs 0 numeral.1 numeral.0 in
+    inl (grind (arith, nat_tests)))
     (cases_Bool (get_or xs 0 0 == 45))
 
 -- all its other bytes are digits
@@ -81,15 +80,15 @@ decimal_next : (xs : List ℕ) (i : ℕ) → IsDecimal xs → 0 < i → i < leng
 decimal_next xs i decimal later inside =
     ⊎_elim
     (λ minus.
-        let numeral : IsNumeral 10 (drop 1 xs) = subst (λ (t : Bool). IsNumeral 10 (cond t (drop 1 xs) xs)) minus decimal in
-        let digit = digit_at (drop 1 xs) (i - 1) numeral.1 (omega (arith, length-drop 1 xs)) in
-        let place : 1 + (i - 1) ≡ i = omega arith in
-        let same : get_or (drop 1 xs) (i - 1) 0 ≡ get_or xs i 0 = get_or-drop 1 xs (i - 1) 0 ∙ ap (λ (k : ℕ). get_or xs k 0) place in
-        grind (arith, nat_tests))
+    let numeral : IsNumeral 10 (drop 1 xs) = subst (λ (t : Bool). IsNumeral 10 (cond t (drop 1 xs) xs)) minus decimal in
+    let digit = digit_at (drop 1 xs) (i - 1) numeral.1 (omega (arith, length-drop 1 xs)) in
+    let place : 1 + (i - 1) ≡ i = omega arith in
+    let same : get_or (drop 1 xs) (i - 1) 0 ≡ get_or xs i 0 = get_or-drop 1 xs (i - 1) 0 ∙ ap (λ (k : ℕ). get_or xs k 0) place in
+    grind (arith, nat_tests))
     (λ plus.
-        let numeral : IsNumeral 10 xs = subst (λ (t : Bool). IsNumeral 10 (cond t (drop 1 xs) xs)) plus decimal in
-        let digit = digit_at xs i numeral.1 inside in
-        grind (arith, nat_tests))
+    let numeral : IsNumeral 10 xs = subst (λ (t : Bool). IsNumeral 10 (cond t (drop 1 xs) xs)) plus decimal in
+    let digit = digit_at xs i numeral.1 inside in
+    grind (arith, nat_tests))
     (cases_Bool (get_or xs 0 0 == 45))
 
 -- after its `-` there is a digit

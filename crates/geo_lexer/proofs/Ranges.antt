@@ -1,5 +1,5 @@
 -- The bytes of a text from one place to another.
-use Rattle.std.proofs.Common.{◌≡◌, ℕ, suc, ◌+◌, ◌-◌, ◌<◌, ◌≤◌, List, [], ◌∷◌, ◌++◌, length, drop, take, get_or, slice_range, refl, ap, sym, ◌∙◌, arith, length-append, length-drop, length-take, get_or-append-add, get_or-drop, get_or-take}
+use Rattle.std.proofs.Common.{◌≡◌, ℕ, suc, ◌+◌, ◌-◌, ◌<◌, ◌≤◌, List, ◌∷◌, ◌++◌, length, drop, take, get_or, slice_range, refl, ap, sym, ◌∙◌, arith, length-drop, length-take, get_or-drop, get_or-take}
 use Rattle.std.proofs.Math.Seq.{take-add}
 use Rattle.std.proofs.lemmas.List.{drop-append-le, drop-drop, drop_at, drop_more, take-append-le}
 

@@ -1,17 +1,14 @@
 -- Words and numbers, by the runs that they are made of.
-use Rattle.std.proofs.Common.{◌≡◌, ◌==◌, ℕ, suc, ◌+◌, ◌-◌, ◌<◌, ◌≤◌, ◌^◌, ◌⊎◌, IsTrue, Bool, true, false, List, [], ◌∷◌, length, drop, take, get_or, slice_index, slice_range, refl, ap, sym, ◌∙◌, subst, inl, inr, ⊎_elim, arith, length-drop, length-take}
+use Rattle.std.proofs.Common.{◌≡◌, ◌==◌, ℕ, ◌+◌, ◌-◌, ◌<◌, ◌⊎◌, IsTrue, Bool, true, false, List, ◌∷◌, length, drop, get_or, slice_index, slice_range, refl, ap, sym, ◌∙◌, subst, inl, inr, ⊎_elim, arith, length-drop, length-take}
 use Rattle.std.specs.List.{list_all}
-use Rattle.std.specs.Str.Parse.{AllDigits, IsNumeral}
 use Rattle.std.proofs.Math.Nat.{eq-or-lt_of_le}
 use Rattle.std.proofs.lemmas.Bool.{and_from}
 use Rattle.std.proofs.lemmas.Bool.Decides.{nat_tests}
-use Rattle.std.proofs.lemmas.List.{drop_more}
 use Rattle.std.proofs.lemmas.List.Sums.{list_all-from_AllPass}
-use Rattle.geo_base.specs.Decimals.{IsDecimal, decimal_size}
+use Rattle.geo_base.specs.Decimals.{IsDecimal}
 use Rattle.geo_base.proofs.DigitLemmas.{AllDigits-from_list_all}
 use Rattle.geo_lexer.specs.declared.token_types.Fault.{Fault}
 use Rattle.geo_lexer.specs.declared.token_types.Kind.{Kind}
-use Rattle.geo_lexer.specs.declared.token_types.Kind.TheVariants.{Word, Number}
 use Rattle.geo_lexer.specs.declared.token_types.Token.{Token}
 use Rattle.geo_lexer.specs.Bytes.{is_digit, is_letter, is_word_byte}
 use Rattle.geo_lexer.specs.Tokens.{BeginsNothing, IsFaultAt, IsNumberAt, IsTokenAt, IsWordAt, StopsAt}
@@ -23,9 +20,9 @@ some_of_first : (test : ℕ → Bool) (bytes : List ℕ) (start end : ℕ) → s
 some_of_first test bytes start end inside passes run =
     ⊎_elim
     (λ same. ⊎_elim
-        (λ ends. absurd (omega arith))
-        (λ stops. let fails : test (get_or bytes start 0) ≡ false = ap (λ (k : ℕ). test (get_or bytes k 0)) same ∙ stops.1 in cc)
-        run.whole)
+    (λ ends. absurd (omega arith))
+    (λ stops. let fails : test (get_or bytes start 0) ≡ false = ap (λ (k : ℕ). test (get_or bytes k 0)) same ∙ stops.1 in cc)
+    run.whole)
     (λ more. more)
     (eq-or-lt_of_le run.onward)
 

@@ -1,13 +1,13 @@
 -- Tokens in a row.
-use Rattle.std.proofs.Common.{◌≡◌, ℕ, ◌+◌, ◌<◌, ◌≤◌, ◌⊎◌, Option, Some, None, List, [], ◌∷◌, ◌++◌, length, All, refl, sym, subst, inl, inr, arith, rules}
-use Rattle.std.specs.Prelude.{AllPairs, IfSome}
+use Rattle.std.proofs.Common.{◌≡◌, ℕ, ◌<◌, ◌≤◌, Option, Some, List, [], ◌∷◌, ◌++◌, length, All, refl, sym, subst, inl, inr, arith}
+use Rattle.std.specs.Prelude.{AllPairs}
 use Rattle.std.proofs.lemmas.List.Elements.{All-cons, All-nil, All-weaker}
 use Rattle.std.proofs.lemmas.List.Kept.{AllPairs-cons}
 use Rattle.geo_lexer.specs.declared.token_types.Fault.{Fault}
 use Rattle.geo_lexer.specs.declared.token_types.Kind.{Kind}
 use Rattle.geo_lexer.specs.declared.token_types.Kind.TheVariants.{Word, Number, Open, Close}
 use Rattle.geo_lexer.specs.declared.token_types.Token.{Token}
-use Rattle.geo_lexer.specs.Tokens.{AreTokens, IsBefore, IsFaultAt, IsGap, IsLexed, IsLexedEnd, IsTokenAt, IsWithin}
+use Rattle.geo_lexer.specs.Tokens.{AreTokens, IsBefore, IsFaultAt, IsGap, IsLexed, IsTokenAt, IsWithin}
 
 -- tokens, and then tokens from where they end
 pub AreTokens-append : (bytes : List ℕ) (start middle end : ℕ) (ts us : List Token) → AreTokens bytes start ts middle → AreTokens bytes middle us end → AreTokens bytes start (ts ++ us) end

@@ -1,14 +1,14 @@
 -- A text has one lexing.
-use Rattle.std.proofs.Common.{◌≡◌, ℕ, ◌+◌, ◌-◌, ◌<◌, ◌≤◌, ◌^◌, ◌⊎◌, Bool, true, false, Option, Some, None, List, [], ◌∷◌, ◌++◌, length, drop, get_or, slice_range, refl, ap, sym, ◌∙◌, subst, inl, inr, ⊎_elim, arith}
+use Rattle.std.proofs.Common.{◌≡◌, ℕ, ◌+◌, ◌<◌, ◌≤◌, ◌^◌, Bool, true, false, Option, Some, None, List, [], ◌∷◌, length, drop, get_or, slice_range, refl, ap, sym, ◌∙◌, subst, inl, inr, ⊎_elim, arith}
 use Rattle.std.proofs.lemmas.Bool.{cases_order, false≢true}
 use Rattle.std.proofs.lemmas.List.{drop_more}
 use Rattle.geo_base.specs.Decimals.{decimal_size}
 use Rattle.geo_lexer.specs.declared.token_types.Fault.{Fault}
 use Rattle.geo_lexer.specs.declared.token_types.Kind.{Kind}
-use Rattle.geo_lexer.specs.declared.token_types.Kind.TheVariants.{Word, Number, Open, Close}
+use Rattle.geo_lexer.specs.declared.token_types.Kind.TheVariants.{Word, Number}
 use Rattle.geo_lexer.specs.declared.token_types.Token.{Token}
 use Rattle.geo_lexer.specs.Bytes.{is_blank, is_comment_start, is_gap}
-use Rattle.geo_lexer.specs.Tokens.{AreTokens, BeginsNothing, IsFaultAt, IsGap, IsLastGap, IsLexed, IsLexedEnd, IsLongWordAt, IsTokenAt, IsWideNumberAt}
+use Rattle.geo_lexer.specs.Tokens.{AreTokens, IsFaultAt, IsGap, IsLastGap, IsLexed, IsLexedEnd, IsLongWordAt, IsTokenAt, IsWideNumberAt}
 use Rattle.geo_lexer.proofs.GapLemmas.{from_gap, is_gap-append}
 use Rattle.geo_lexer.proofs.Pieces.{IsPieceAt, IsPieceAt-token, IsSmall, first_of_piece, nothing_is_no_piece, piece_is_no_gap, same_piece}
 use Rattle.geo_lexer.proofs.Ranges.{slice_range_first, slice_range_split}
