@@ -55,6 +55,7 @@ closing_gap text more b end closes =
       ap (is_gap false false) whole ∙ closes.closed,
     )
 
+-- two parts with a byte between them that no token takes
 join : (text more : List ℕ) (b : ℕ) (xs ys : List Lexeme) → Separates b → (has : HasLexemes text xs) → IsClosedBy text has.lexed.end b → HasLexemes more ys → HasLexemes (text ++ b ∷ more) (xs ++ ys)
 join text more b xs ys separates has closes next =
     let front = text ++ b ∷ [] in
@@ -117,6 +118,7 @@ one_token text kind x at meant = record {
   meant = λ i. meant i ∷ [];
 }
 
+-- the braces
 pub HasLexemes-open : HasLexemes (123 ∷ []) (open_brace ∷ [])
 HasLexemes-open = one_token (123 ∷ []) Open open_brace (record { one = refl; within = omega arith; same = refl }) refl
 
@@ -132,6 +134,7 @@ some_of_letter : (text : List ℕ) → is_letter (get_or text 0 0) ≡ true → 
 some_of_letter [] letter = absurd (false≢true letter)
 some_of_letter (b ∷ bs) letter = omega arith
 
+-- a word
 pub HasLexemes-word : (text : List ℕ) → IsWord text → HasLexemes text (word_lexeme text ∷ [])
 HasLexemes-word text word =
     let short = word.short in
@@ -167,5 +170,6 @@ number_text text z writes small =
     )
     (ap (λ t. number_lexeme (decimal_value t)) (whole text) ∙ ap number_lexeme writes.value)
 
+-- what is printed for a number within 127 bits
 pub HasLexemes-number : (z : ℤ) → unsigned_abs z < 2 ^ 127 → HasLexemes (signed_decimal z) (number_lexeme z ∷ [])
 HasLexemes-number z small = number_text (signed_decimal z) z (signed_decimal_writes z (omega arith)) small

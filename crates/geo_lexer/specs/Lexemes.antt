@@ -38,7 +38,7 @@ pub record IsWord (text : List ℕ) : Type 0 where
   pub all : AllPass is_word_byte text
   pub short : length text ≤ 64
 
--- the words that a text may have, and the numbers, which are within 127 bits
+-- a lexeme that a text may have: a word of at most 64 bytes, a number within 127 bits, or a brace
 abbrev pub MayStand : Lexeme → Type 0
 MayStand (word_lexeme text) = IsWord text
 MayStand (number_lexeme n) = unsigned_abs n < 2 ^ 127
