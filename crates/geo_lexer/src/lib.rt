@@ -1,0 +1,13 @@
+//! The tokens of the construction language: words, numbers and braces, with their places.
+#![tactic(auto)]
+
+mod gaps;
+pub mod laws;
+mod lexing;
+mod places;
+#[cfg(test)]
+mod tests;
+mod token_types;
+
+pub use lexing::tokens;
+pub use token_types::{Fault, Kind, Lexed, Token, TokenList};
