@@ -1,5 +1,18 @@
 //! The prover's chain.
 
+ghost use Rattle.std.specs.Prelude.{◌≡◌, ◌≢◌, ◌-◌, ◌<◌, ◌≤◌, List, [], ◌∷◌, ◌++◌, length, IfOk, IfSome, IfNone, OnOk};
+ghost use Rattle.geo_points.specs.declared.ids.PointId.{PointId};
+ghost use Rattle.geo_poly.specs.Factors.{IsFactorOf};
+ghost use Rattle.geo_poly.specs.Polynomials.{Terms, multiples};
+ghost use Rattle.geo_poly.specs.Replace.{AllBounded, AllPowersSmall, IsBounded};
+ghost use Rattle.geo_prover.specs.declared.log.Line.{Line};
+ghost use Rattle.geo_prover.specs.declared.program.Command.{Command};
+ghost use Rattle.geo_prover.specs.Chains.{IsTurn, Leads};
+ghost use Rattle.geo_prover.specs.FirstLog.{steps_of_prove};
+ghost use Rattle.geo_prover.specs.Logs.{HasNoArea, IsConstructed, IsCut, IsDefinedChain, IsHighest, NoCutDue, Occurs};
+ghost use Rattle.geo_prover.specs.Moves.{IsMoved, move_charge, variables_of};
+ghost use Rattle.geo_prover.specs.Program.{AreCommands};
+
 use crate::charges::move_charge;
 use crate::log::Line;
 use crate::moves::{Replacement, coordinate_move, point_move};
@@ -41,7 +54,14 @@ pub fn chain_to_zero(
     alloc: Global,
     commands: &[Command],
     start: Poly,
-) -> Result<Option<Vec<Line>>, NoMemory> {
+) -> Result<Option<Vec<Line>>, NoMemory>
+    requires made { AreCommands 0 commands.now }
+    requires few { length commands.now ≤ 16 }
+    ensures some { IfOk result (λ o. IfSome o
+        (λ lines. IsDefinedChain commands.now steps_of_prove start lines.items [])) }
+    ensures none { IfOk result (λ o. IfNone o ((lines : List Line)
+        → IsDefinedChain commands.now steps_of_prove start lines [] → ⊥)) }
+{
     let mut chain = Chain {
         poly: start,
         budget: Budget { left: STEPS },
@@ -59,7 +79,11 @@ pub fn chain_to_zero(
 
 impl Chain {
     /// Divides by the factor of the polynomial, where that is not 1.
-    fn cut(&mut self, alloc: Global) -> Result<(), NoMemory> {
+    fn cut(&mut self, alloc: Global) -> Result<(), NoMemory>
+        ensures leads { OnOk result ((commands : List Command) → Leads commands self.old self.new) }
+        ensures divided { OnOk result (NoCutDue self.new.poly) }
+        ensures unpaid { OnOk result (self.new.budget ≡ self.old.budget) }
+    {
         if self.poly.is_zero() {
             return Ok(());
         }
@@ -75,7 +99,12 @@ impl Chain {
     }
 
     /// Makes the next move of a polynomial that needs no cut.
-    fn turn(&mut self, alloc: Global, commands: &[Command]) -> Result<Turn, NoMemory> {
+    fn turn(&mut self, alloc: Global, commands: &[Command]) -> Result<Turn, NoMemory>
+        requires divided { NoCutDue self.old.poly }
+        requires made { AreCommands 0 commands.now }
+        requires few { length commands.now ≤ 16 }
+        ensures { IfOk result (IsTurn commands.now self.old self.new) }
+    {
         let variables = variables_of(alloc, &self.poly)?;
         match highest_constructed(commands, &variables) {
             Some(at) => self.eliminate(alloc, commands, &variables, at),
@@ -91,7 +120,13 @@ impl Chain {
         commands: &[Command],
         variables: &[Var],
         at: PointId,
-    ) -> Result<Turn, NoMemory> {
+    ) -> Result<Turn, NoMemory>
+        requires divided { NoCutDue self.old.poly }
+        requires made { AreCommands 0 commands.now }
+        requires variables { variables.now ≡ variables_of self.old.poly }
+        requires highest { IsHighest commands.now at self.old.poly }
+        ensures { IfOk result (IsTurn commands.now self.old self.new) }
+    {
         let replacement = point_move(alloc, at, commands[at.0 as usize], variables)?;
         let Some(poly) = replaced(alloc, &replacement, &self.poly, &mut self.budget)? else {
             return Ok(Turn::Stuck);
@@ -108,7 +143,13 @@ impl Chain {
         alloc: Global,
         commands: &[Command],
         variables: &[Var],
-    ) -> Result<Turn, NoMemory> {
+    ) -> Result<Turn, NoMemory>
+        requires divided { NoCutDue self.old.poly }
+        requires variables { variables.now ≡ variables_of self.old.poly }
+        requires areas { HasNoArea self.old.poly → ⊥ }
+        requires free { (z : PointId) → IsConstructed commands.now z → Occurs z self.old.poly → ⊥ }
+        ensures { IfOk result (IsTurn commands.now self.old self.new) }
+    {
         let replacement = coordinate_move(alloc, commands, variables)?;
         let Some(poly) = replaced(alloc, &replacement, &self.poly, &mut self.budget)? else {
             return Ok(Turn::Stuck);
@@ -120,7 +161,11 @@ impl Chain {
     }
 
     /// The lines with the end, where the polynomial is 0.
-    fn ended(self) -> Result<Option<Vec<Line>>, NoMemory> {
+    fn ended(self) -> Result<Option<Vec<Line>>, NoMemory>
+        ensures some { IfOk result (λ o. IfSome o (λ lines.
+            (self.poly ≡ []) × (lines.items ≡ self.lines.items ++ Line.End ∷ []))) }
+        ensures none { IfOk result (λ o. IfNone o (self.poly ≢ [])) }
+    {
         if !self.poly.is_zero() {
             return Ok(None);
         }
@@ -131,7 +176,12 @@ impl Chain {
 }
 
 /// The polynomial divided by its factor.
-fn quotient(alloc: Global, poly: &Poly, by: &Factor) -> Result<Poly, NoMemory> {
+fn quotient(alloc: Global, poly: &Poly, by: &Factor) -> Result<Poly, NoMemory>
+    requires some { poly.now ≢ [] }
+    requires factor { IsFactorOf [] poly.now by.now }
+    ensures cut { IfOk result (λ r. IsCut by.now poly.now r) }
+    ensures multiples { IfOk result (λ r. multiples by.now r ≡ poly.now) }
+{
     match poly.divide(alloc, by)? {
         Some(quotient) => Ok(quotient),
         None => unreachable!(),
@@ -139,7 +189,13 @@ fn quotient(alloc: Global, poly: &Poly, by: &Factor) -> Result<Poly, NoMemory> {
 }
 
 /// The constructed point of the highest number in the areas.
-fn highest_constructed(commands: &[Command], variables: &[Var]) -> Option<PointId> {
+fn highest_constructed(commands: &[Command], variables: &[Var]) -> Option<PointId>
+    requires { length commands.now ≤ 16 }
+    ensures some { IfSome result (λ y.
+        (q : Terms) → variables.now ≡ variables_of q → IsHighest commands.now y q) }
+    ensures none { IfNone result ((q : Terms) → variables.now ≡ variables_of q
+        → (z : PointId) → IsConstructed commands.now z → Occurs z q → ⊥) }
+{
     for k in (0..commands.len()).rev() {
         let y = PointId(k as u32);
         if !is_free(commands, y) && occurs(variables, y) {
@@ -156,7 +212,17 @@ fn replaced(
     replacement: &Replacement,
     poly: &Poly,
     budget: &mut Budget,
-) -> Result<Option<Poly>, NoMemory> {
+) -> Result<Option<Poly>, NoMemory>
+    requires rows { AllBounded replacement.now.rows }
+    requires powers { AllPowersSmall replacement.now.rows }
+    requires den { IsBounded replacement.now.den }
+    ensures some { IfOk result (λ o. IfSome o
+        (λ r. IsMoved replacement.now budget.old.left poly.now r)) }
+    ensures paid { IfOk result (λ o. IfSome o
+        (λ r. budget.new.left ≡ budget.old.left - move_charge replacement.now poly.now)) }
+    ensures none { IfOk result (λ o. IfNone o
+        ((r : Terms) → IsMoved replacement.now budget.old.left poly.now r → ⊥)) }
+{
     if replacement.rows.items.is_empty() {
         return Ok(None);
     }

@@ -1,8 +1,9 @@
 //! The first prover: free points, points by a ratio, and whether three points are collinear.
 
-ghost use Rattle.std.specs.Prelude.{◌≡◌, ◌↔◌, ◌≤◌, [], ◌∷◌, ◌++◌, map, length, IfOk, OnOk, IsTrue};
+ghost use Rattle.std.specs.Prelude.{◌≡◌, ◌≤◌, List, [], ◌∷◌, ◌++◌, map, length, IfOk, IfSome, IfNone, OnOk};
+ghost use Rattle.geo_prover.specs.declared.log.Line.{Line};
 ghost use Rattle.geo_prover.specs.declared.log.Line.TheVariants.{Header, Program as ProgramLine, Goal};
-ghost use Rattle.geo_prover.specs.FirstLog.{AreBuilt, IsFirstRun, IsLogOf, IsTaken, IsUnbuilt, steps_of_prove};
+ghost use Rattle.geo_prover.specs.FirstLog.{IsFirstRun, IsLogOf, IsUnbuilt, IsWholeLog, steps_of_prove};
 ghost use Rattle.geo_prover.specs.Logs.{IsDefinedLog, coordinates_from, zeros};
 ghost use Rattle.geo_prover.specs.Program.{IsFirstForm, program_lines as lines_of_program, statement_text as text_of_statement};
 
@@ -24,7 +25,7 @@ const LONGEST_LOG: usize = 67_108_864;
 /// Why there is no log.
 #[derive(Clone, Copy, Debug, PartialEq, Eq)]
 pub enum FirstError {
-    /// The bytes are no program that this prover takes.
+    /// The bytes are no program of the first form, or its log does not end in `verdict proved`.
     Unbuilt,
     /// Memory ran out.
     NoMemory,
@@ -33,7 +34,11 @@ pub enum FirstError {
 /// The log of the program that the bytes spell: the prover's lines with 100,000,000 steps, which end in
 /// `verdict proved`. `Unbuilt` comes exactly where the bytes are the canonical text of no program of the
 /// first form that has such a log.
-pub fn first_log(alloc: Global, bytes: &[u8]) -> Result<Text, FirstError> {
+pub fn first_log(alloc: Global, bytes: &[u8]) -> Result<Text, FirstError>
+    requires { length bytes.now ≤ 67108864 }
+    ensures log { IfOk result (λ text. IsFirstRun bytes.now text) }
+    ensures unbuilt { result ≡ Err FirstError.Unbuilt → IsUnbuilt bytes.now }
+{
     let program = match read_program(alloc, bytes) {
         Ok(Some(program)) => program,
         Ok(None) => return Err(FirstError::Unbuilt),
@@ -47,7 +52,12 @@ pub fn first_log(alloc: Global, bytes: &[u8]) -> Result<Text, FirstError> {
 }
 
 /// The text of the program's log, where there is one.
-fn written_log(alloc: Global, program: &Program) -> Result<Option<Text>, NoMemory> {
+fn written_log(alloc: Global, program: &Program) -> Result<Option<Text>, NoMemory>
+    requires { IsFirstForm program.now }
+    ensures some { IfOk result (λ o. IfSome o (λ text. IsLogOf program.now text)) }
+    ensures none { IfOk result (λ o. IfNone o ((lines : List Line)
+        → IsDefinedLog program.now steps_of_prove lines → ⊥)) }
+{
     let Some(lines) = log_lines(alloc, program)? else {
         return Ok(None);
     };
@@ -59,7 +69,12 @@ fn written_log(alloc: Global, program: &Program) -> Result<Option<Text>, NoMemor
 }
 
 /// The prover's lines for the program, where its chain ends in 0.
-fn log_lines(alloc: Global, program: &Program) -> Result<Option<Vec<Line>>, NoMemory> {
+fn log_lines(alloc: Global, program: &Program) -> Result<Option<Vec<Line>>, NoMemory>
+    requires { IsFirstForm program.now }
+    ensures some { IfOk result (λ o. IfSome o (λ lines. IsWholeLog program.now lines.items)) }
+    ensures none { IfOk result (λ o. IfNone o ((lines : List Line)
+        → IsDefinedLog program.now steps_of_prove lines → ⊥)) }
+{
     let mut lines = header_lines(alloc, program)?;
     let start = area_polynomial(alloc, program.a, program.b, program.c)?;
     lines.push(Line::Start(start.copy(alloc)?))?;

@@ -1,5 +1,11 @@
 //! What the moves of a chain replace.
 
+ghost use Rattle.std.specs.Prelude.{◌≡◌, pos, IfOk};
+ghost use Rattle.std.specs.List.{filter_map};
+ghost use Rattle.geo_poly.specs.Replace.{AllBounded, AllPowersSmall, IsBounded};
+ghost use Rattle.geo_prover.specs.Moves.{along_row, free_row, integer_piece, step_charge, step_denominator};
+ghost use Rattle.geo_prover.specs.Program.{IsCommand};
+
 use crate::program::Command;
 use crate::quantities::number;
 use crate::rows::{along_row, free_row};
@@ -41,7 +47,13 @@ pub fn point_move(
     y: PointId,
     command: Command,
     variables: &[Var],
-) -> Result<Replacement, NoMemory> {
+) -> Result<Replacement, NoMemory>
+    requires { IsCommand y.0 command }
+    ensures rows { IfOk result (λ m. m.rows ≡ filter_map (along_row y command) variables.now) }
+    ensures den { IfOk result (λ m. m.den ≡ step_denominator command) }
+    ensures charge { IfOk result (λ m. m.charge ≡ step_charge command) }
+    ensures bounded { IfOk result (λ m. AllBounded m.rows × AllPowersSmall m.rows × IsBounded m.den) }
+{
     let (d, charge) = match command {
         Command::Pratio { d, .. } => (d, 2),
         Command::Point => (1, 0),
@@ -59,7 +71,11 @@ fn point_rows(
     y: PointId,
     command: Command,
     variables: &[Var],
-) -> Result<Rows, NoMemory> {
+) -> Result<Rows, NoMemory>
+    requires { IsCommand y.0 command }
+    ensures rows { IfOk result (λ rows. rows ≡ filter_map (along_row y command) variables.now) }
+    ensures bounded { IfOk result (λ rows. AllBounded rows × AllPowersSmall rows) }
+{
     let mut items = Vec::new(alloc);
     for v in variables {
         if let Some(row) = along_row(alloc, y, command, *v)? {
@@ -74,7 +90,12 @@ pub fn coordinate_move(
     alloc: Global,
     commands: &[Command],
     variables: &[Var],
-) -> Result<Replacement, NoMemory> {
+) -> Result<Replacement, NoMemory>
+    ensures rows { IfOk result (λ m. m.rows ≡ filter_map (free_row commands.now) variables.now) }
+    ensures den { IfOk result (λ m. m.den ≡ integer_piece (pos 2)) }
+    ensures charge { IfOk result (λ m. m.charge ≡ 0) }
+    ensures bounded { IfOk result (λ m. AllBounded m.rows × AllPowersSmall m.rows × IsBounded m.den) }
+{
     Ok(Replacement {
         rows: coordinate_rows(alloc, commands, variables)?,
         den: number(alloc, 2)?,
@@ -87,7 +108,10 @@ fn coordinate_rows(
     alloc: Global,
     commands: &[Command],
     variables: &[Var],
-) -> Result<Rows, NoMemory> {
+) -> Result<Rows, NoMemory>
+    ensures rows { IfOk result (λ rows. rows ≡ filter_map (free_row commands.now) variables.now) }
+    ensures bounded { IfOk result (λ rows. AllBounded rows × AllPowersSmall rows) }
+{
     let mut items = Vec::new(alloc);
     for v in variables {
         if let Some(row) = free_row(alloc, commands, *v)? {

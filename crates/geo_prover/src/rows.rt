@@ -1,5 +1,10 @@
 //! The rows of the lemma table for signed areas.
 
+ghost use Rattle.std.specs.Prelude.{◌≡◌, ◌≤◌, IfOk, IfSome, unsigned_abs};
+ghost use Rattle.geo_poly.specs.Replace.{IsBounded};
+ghost use Rattle.geo_prover.specs.Moves.{along_row, area_piece, coordinate_numerator, coordinate_piece, free_row, is_free, number_piece, piece_product, points_after};
+ghost use Rattle.geo_prover.specs.Program.{IsCommand};
+
 use crate::program::Command;
 use crate::quantities::{area, coordinate, difference, number, product, sum};
 use geo_points::{NoMemory, PointId};
@@ -12,7 +17,11 @@ pub fn along_row(
     y: PointId,
     command: Command,
     variable: Var,
-) -> Result<Option<Row>, NoMemory> {
+) -> Result<Option<Row>, NoMemory>
+    requires { IsCommand y.0 command }
+    ensures row { IfOk result (λ o. o ≡ along_row y command variable) }
+    ensures bounded { IfOk result (λ o. IfSome o (λ r. IsBounded r.num)) }
+{
     let Command::Pratio { w, u, v, n, d } = command else {
         return Ok(None);
     };
@@ -35,7 +44,9 @@ pub fn along_row(
 }
 
 /// The two other points of the area a, b, c, in the cyclic order after `y`.
-fn points_after(y: PointId, a: PointId, b: PointId, c: PointId) -> Option<(PointId, PointId)> {
+fn points_after(y: PointId, a: PointId, b: PointId, c: PointId) -> Option<(PointId, PointId)>
+    ensures { result ≡ points_after y a b c }
+{
     if a == y {
         Some((b, c))
     } else if b == y {
@@ -48,7 +59,11 @@ fn points_after(y: PointId, a: PointId, b: PointId, c: PointId) -> Option<(Point
 }
 
 /// The number times the area of three points.
-fn multiple(alloc: Global, n: i128, a: PointId, b: PointId, c: PointId) -> Result<Piece, NoMemory> {
+fn multiple(alloc: Global, n: i128, a: PointId, b: PointId, c: PointId) -> Result<Piece, NoMemory>
+    requires { unsigned_abs n ≤ 9 }
+    ensures piece { IfOk result (λ f. f ≡ piece_product (number_piece n) (area_piece a b c)) }
+    ensures bounded { IfOk result IsBounded }
+{
     product(alloc, &number(alloc, n)?, &area(alloc, a, b, c)?)
 }
 
@@ -57,7 +72,10 @@ pub fn free_row(
     alloc: Global,
     commands: &[Command],
     variable: Var,
-) -> Result<Option<Row>, NoMemory> {
+) -> Result<Option<Row>, NoMemory>
+    ensures row { IfOk result (λ o. o ≡ free_row commands.now variable) }
+    ensures bounded { IfOk result (λ o. IfSome o (λ r. IsBounded r.num)) }
+{
     let Var::S(a, b, c) = variable else {
         return Ok(None);
     };
@@ -73,7 +91,9 @@ pub fn free_row(
 }
 
 /// Whether a command makes the point as a free one.
-pub fn is_free(commands: &[Command], a: PointId) -> bool {
+pub fn is_free(commands: &[Command], a: PointId) -> bool
+    ensures { result ≡ is_free commands.now a }
+{
     match commands.get(a.0 as usize) {
         Some(command) => *command == Command::Point,
         None => false,
@@ -86,7 +106,10 @@ fn coordinate_numerator(
     a: PointId,
     b: PointId,
     c: PointId,
-) -> Result<Piece, NoMemory> {
+) -> Result<Piece, NoMemory>
+    ensures piece { IfOk result (λ f. f ≡ coordinate_numerator a b c) }
+    ensures bounded { IfOk result IsBounded }
+{
     let ab = crossed(alloc, Var::X(a), Var::Y(b))?;
     let ac = crossed(alloc, Var::X(a), Var::Y(c))?;
     let ba = crossed(alloc, Var::Y(a), Var::X(b))?;
@@ -101,6 +124,9 @@ fn coordinate_numerator(
 }
 
 /// The product of two coordinates.
-fn crossed(alloc: Global, v: Var, w: Var) -> Result<Piece, NoMemory> {
+fn crossed(alloc: Global, v: Var, w: Var) -> Result<Piece, NoMemory>
+    ensures piece { IfOk result (λ f. f ≡ piece_product (coordinate_piece v) (coordinate_piece w)) }
+    ensures bounded { IfOk result IsBounded }
+{
     product(alloc, &coordinate(alloc, v)?, &coordinate(alloc, w)?)
 }
