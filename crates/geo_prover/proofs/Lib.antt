@@ -12,6 +12,9 @@ pub mod Shapes
 pub mod Declaring
 pub mod Beginnings
 pub mod Kept
+pub mod Cutting
+pub mod NextLines
+pub mod OneLog
 pub mod Joined
 pub mod Joins
 pub mod Examples

@@ -3,11 +3,10 @@
 ghost use Rattle.std.specs.Prelude.{◌≡◌, ◌≢◌, ◌-◌, ◌<◌, ◌≤◌, List, [], ◌∷◌, ◌++◌, length, IfOk, IfSome, IfNone, OnOk};
 ghost use Rattle.geo_points.specs.declared.ids.PointId.{PointId};
 ghost use Rattle.geo_poly.specs.Factors.{IsFactorOf};
-ghost use Rattle.geo_poly.specs.Polynomials.{Terms, multiples};
+ghost use Rattle.geo_poly.specs.Polynomials.{IsPolynomial, Terms, multiples};
 ghost use Rattle.geo_poly.specs.Replace.{AllBounded, AllPowersSmall, IsBounded};
 ghost use Rattle.geo_prover.specs.declared.log.Line.{Line};
 ghost use Rattle.geo_prover.specs.declared.program.Command.{Command};
-ghost use Rattle.geo_prover.specs.Chains.{IsTurn, Leads};
 ghost use Rattle.geo_prover.specs.FirstLog.{steps_of_prove};
 ghost use Rattle.geo_prover.specs.Logs.{HasNoArea, IsConstructed, IsCut, IsDefinedChain, IsHighest, NoCutDue, Occurs};
 ghost use Rattle.geo_prover.specs.Moves.{IsMoved, move_charge, variables_of};
@@ -36,6 +35,7 @@ struct Chain {
     budget: Budget,
     /// The lines after the start.
     lines: Vec<Line>,
+    ghost valid: { IsPolynomial poly },
 }
 
 /// What a turn of a chain came to.
@@ -57,6 +57,7 @@ pub fn chain_to_zero(
 ) -> Result<Option<Vec<Line>>, NoMemory>
     requires made { AreCommands 0 commands.now }
     requires few { length commands.now ≤ 16 }
+    requires valid { IsPolynomial start }
     ensures some { IfOk result (λ o. IfSome o
         (λ lines. IsDefinedChain commands.now steps_of_prove start lines.items [])) }
     ensures none { IfOk result (λ o. IfNone o ((lines : List Line)
@@ -78,6 +79,8 @@ pub fn chain_to_zero(
 }
 
 impl Chain {
+    ghost use Rattle.geo_prover.specs.Chains.{IsTurn, Leads};
+
     /// Divides by the factor of the polynomial, where that is not 1.
     fn cut(&mut self, alloc: Global) -> Result<(), NoMemory>
         ensures leads { OnOk result ((commands : List Command) → Leads commands self.old self.new) }
@@ -177,6 +180,7 @@ impl Chain {
 
 /// The polynomial divided by its factor.
 fn quotient(alloc: Global, poly: &Poly, by: &Factor) -> Result<Poly, NoMemory>
+    requires valid { IsPolynomial poly.now }
     requires some { poly.now ≢ [] }
     requires factor { IsFactorOf [] poly.now by.now }
     ensures cut { IfOk result (λ r. IsCut by.now poly.now r) }
