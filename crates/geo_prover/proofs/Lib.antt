@@ -15,6 +15,9 @@ pub mod Kept
 pub mod Cutting
 pub mod NextLines
 pub mod OneLog
+pub mod DistinctVariables
+pub mod Shares
+pub mod GrowingRows
 pub mod Joined
 pub mod Joins
 pub mod Examples

@@ -1,6 +1,6 @@
 -- A chain that is being made.
 use Rattle.std.specs.Prelude.{◌≡◌, ℕ, ◌<◌, List, ◌++◌}
-use Rattle.geo_poly.specs.Polynomials.{Terms}
+use Rattle.geo_poly.specs.Polynomials.{IsPolynomial, Terms}
 use Rattle.geo_prover.specs.declared.chain.Chain.{Chain}
 use Rattle.geo_prover.specs.declared.chain.Turn.{Turn}
 use Rattle.geo_prover.specs.declared.chain.Turn.TheVariants.{Moved, Ended, Stuck}
@@ -22,6 +22,6 @@ pub record Leads (commands : List Command) (from to : Chain) : Type 0 where
 
 -- what a turn makes of a chain: a move that was paid; or nothing, at an end or where no chain goes on
 abbrev pub IsTurn : List Command → Chain → Chain → Turn → Type 0
-IsTurn commands from to Moved = Leads commands from to × (to.budget.left < from.budget.left)
+IsTurn commands from to Moved = Leads commands from to × (to.budget.left < from.budget.left) × IsPolynomial to.poly
 IsTurn commands from to Ended = (to ≡ from) × HasNoArea from.poly
 IsTurn commands from to Stuck = (lines : List Line) (e : Terms) → IsDefinedChain commands from.budget.left from.poly lines e → ⊥

@@ -35,7 +35,6 @@ struct Chain {
     budget: Budget,
     /// The lines after the start.
     lines: Vec<Line>,
-    ghost valid: { IsPolynomial poly },
 }
 
 /// What a turn of a chain came to.
@@ -83,7 +82,9 @@ impl Chain {
 
     /// Divides by the factor of the polynomial, where that is not 1.
     fn cut(&mut self, alloc: Global) -> Result<(), NoMemory>
+        requires { IsPolynomial self.old.poly }
         ensures leads { OnOk result ((commands : List Command) → Leads commands self.old self.new) }
+        ensures valid { OnOk result (IsPolynomial self.new.poly) }
         ensures divided { OnOk result (NoCutDue self.new.poly) }
         ensures unpaid { OnOk result (self.new.budget ≡ self.old.budget) }
     {
@@ -103,6 +104,7 @@ impl Chain {
 
     /// Makes the next move of a polynomial that needs no cut.
     fn turn(&mut self, alloc: Global, commands: &[Command]) -> Result<Turn, NoMemory>
+        requires valid { IsPolynomial self.old.poly }
         requires divided { NoCutDue self.old.poly }
         requires made { AreCommands 0 commands.now }
         requires few { length commands.now ≤ 16 }
@@ -124,6 +126,7 @@ impl Chain {
         variables: &[Var],
         at: PointId,
     ) -> Result<Turn, NoMemory>
+        requires valid { IsPolynomial self.old.poly }
         requires divided { NoCutDue self.old.poly }
         requires made { AreCommands 0 commands.now }
         requires variables { variables.now ≡ variables_of self.old.poly }
@@ -147,6 +150,7 @@ impl Chain {
         commands: &[Command],
         variables: &[Var],
     ) -> Result<Turn, NoMemory>
+        requires valid { IsPolynomial self.old.poly }
         requires divided { NoCutDue self.old.poly }
         requires variables { variables.now ≡ variables_of self.old.poly }
         requires areas { HasNoArea self.old.poly → ⊥ }
@@ -217,11 +221,13 @@ fn replaced(
     poly: &Poly,
     budget: &mut Budget,
 ) -> Result<Option<Poly>, NoMemory>
+    requires valid { IsPolynomial poly.now }
     requires rows { AllBounded replacement.now.rows }
     requires powers { AllPowersSmall replacement.now.rows }
     requires den { IsBounded replacement.now.den }
     ensures some { IfOk result (λ o. IfSome o
         (λ r. IsMoved replacement.now budget.old.left poly.now r)) }
+    ensures valid { IfOk result (λ o. IfSome o IsPolynomial) }
     ensures paid { IfOk result (λ o. IfSome o
         (λ r. budget.new.left ≡ budget.old.left - move_charge replacement.now poly.now)) }
     ensures none { IfOk result (λ o. IfNone o

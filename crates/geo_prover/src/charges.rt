@@ -3,6 +3,7 @@
 ghost use Rattle.std.specs.Prelude.{◌≡◌, ◌+◌, ◌-◌, ◌*◌, ◌^◌, ◌≤◌, min, sum_by, IfOk};
 ghost use Rattle.std.specs.Option.{option_copied};
 ghost use Rattle.geo_poly.specs.Monomials.{IsMonomial};
+ghost use Rattle.geo_poly.specs.Polynomials.{IsPolynomial};
 ghost use Rattle.geo_poly.specs.Replace.{AllPowersSmall, denominators, most_denominators, row_of};
 ghost use Rattle.geo_prover.specs.Moves.{count_rows, move_charge, replaced_exponents, term_charge};
 
@@ -29,7 +30,8 @@ pub fn move_charge(
     replacement: &Replacement,
     poly: &Poly,
 ) -> Result<u128, NoMemory>
-    requires { AllPowersSmall replacement.now.rows }
+    requires powers { AllPowersSmall replacement.now.rows }
+    requires valid { IsPolynomial poly.now }
     ensures { IfOk result
         (λ n. n ≡ min (move_charge replacement.now poly.now) (2 ^ 128 - 1)) }
 {
@@ -56,7 +58,8 @@ fn charge_of_terms(
     replacement: &Replacement,
     poly: &Poly,
 ) -> Result<u128, NoMemory>
-    requires { AllPowersSmall replacement.now.rows }
+    requires powers { AllPowersSmall replacement.now.rows }
+    requires valid { IsPolynomial poly.now }
     ensures { IfOk result (λ n. n ≡ min
         (sum_by (λ t. term_charge replacement.now
         (most_denominators replacement.now.rows poly.now) t.0) poly.now) (2 ^ 128 - 1)) }
@@ -74,7 +77,8 @@ fn charge_of_terms(
 
 /// The greatest number of denominators of a monomial.
 fn most_denominators(alloc: Global, rows: &[Row], poly: &Poly) -> Result<u32, NoMemory>
-    requires { AllPowersSmall rows.now }
+    requires powers { AllPowersSmall rows.now }
+    requires valid { IsPolynomial poly.now }
     ensures { IfOk result (λ n. n ≡ most_denominators rows.now poly.now) }
 {
     let mut most = 0;

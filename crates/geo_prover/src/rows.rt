@@ -20,7 +20,7 @@ pub fn along_row(
 ) -> Result<Option<Row>, NoMemory>
     requires { IsCommand y.0 command }
     ensures row { IfOk result (λ o. o ≡ along_row y command variable) }
-    ensures bounded { IfOk result (λ o. IfSome o (λ r. IsBounded r.num)) }
+    ensures bounded { IfOk result (λ o. IfSome o (λ r. IsBounded r.num × (r.power ≤ 2))) }
 {
     let Command::Pratio { w, u, v, n, d } = command else {
         return Ok(None);
@@ -62,6 +62,7 @@ fn points_after(y: PointId, a: PointId, b: PointId, c: PointId) -> Option<(Point
 fn multiple(alloc: Global, n: i128, a: PointId, b: PointId, c: PointId) -> Result<Piece, NoMemory>
     requires { unsigned_abs n ≤ 9 }
     ensures piece { IfOk result (λ f. f ≡ piece_product (number_piece n) (area_piece a b c)) }
+    ensures light { IfOk result (λ f. f.weight ≤ 9) }
     ensures bounded { IfOk result IsBounded }
 {
     product(alloc, &number(alloc, n)?, &area(alloc, a, b, c)?)
@@ -74,7 +75,7 @@ pub fn free_row(
     variable: Var,
 ) -> Result<Option<Row>, NoMemory>
     ensures row { IfOk result (λ o. o ≡ free_row commands.now variable) }
-    ensures bounded { IfOk result (λ o. IfSome o (λ r. IsBounded r.num)) }
+    ensures bounded { IfOk result (λ o. IfSome o (λ r. IsBounded r.num × (r.power ≤ 2))) }
 {
     let Var::S(a, b, c) = variable else {
         return Ok(None);
