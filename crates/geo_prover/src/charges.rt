@@ -5,6 +5,7 @@ ghost use Rattle.std.specs.Option.{option_copied};
 ghost use Rattle.geo_poly.specs.Monomials.{IsMonomial};
 ghost use Rattle.geo_poly.specs.Polynomials.{IsPolynomial};
 ghost use Rattle.geo_poly.specs.Replace.{AllPowersSmall, denominators, most_denominators, row_of};
+ghost use Rattle.geo_prover.specs.declared.moves.Replacement.{Replacement};
 ghost use Rattle.geo_prover.specs.Moves.{count_rows, move_charge, replaced_exponents, term_charge};
 
 use crate::moves::Replacement;
@@ -35,9 +36,11 @@ pub fn move_charge(
     ensures { IfOk result
         (λ n. n ≡ min (move_charge replacement.now poly.now) (2 ^ 128 - 1)) }
 {
-    let counts = count_of_rows(&replacement.rows.items).saturating_add(replacement.den.count);
+    let rows = replacement.rows.items.as_slice();
+    let count = replacement.den.count;
+    let counts = count_of_rows(rows).saturating_add(count);
     let of_rows = replacement.charge.saturating_add(counts.saturating_mul(4));
-    let of_terms = charge_of_terms(alloc, replacement, poly)?;
+    let of_terms = charge_of_terms(alloc, rows, count, poly)?;
     Ok(of_rows.saturating_add(of_terms))
 }
 
@@ -52,25 +55,27 @@ fn count_of_rows(rows: &[Row]) -> u128
     counts
 }
 
-/// The sum of the charges of the terms, or the greatest number where it passes that.
+/// The sum of the charges of the terms, or the greatest number where it passes that; the denominator
+/// has so many monomials.
 fn charge_of_terms(
     alloc: Global,
-    replacement: &Replacement,
+    rows: &[Row],
+    count: u128,
     poly: &Poly,
 ) -> Result<u128, NoMemory>
-    requires powers { AllPowersSmall replacement.now.rows }
+    requires powers { AllPowersSmall rows.now }
     requires valid { IsPolynomial poly.now }
-    ensures { IfOk result (λ n. n ≡ min
-        (sum_by (λ t. term_charge replacement.now
-        (most_denominators replacement.now.rows poly.now) t.0) poly.now) (2 ^ 128 - 1)) }
+    ensures { IfOk result (λ n.
+        (move : Replacement) → move.rows ≡ rows.now → move.den.count ≡ count → n ≡ min
+        (sum_by (λ t. term_charge move (most_denominators move.rows poly.now) t.0) poly.now)
+        (2 ^ 128 - 1)) }
 {
-    let rows = replacement.rows.items.as_slice();
     let top = most_denominators(alloc, rows, poly)?;
     let mut charge = 0u128;
     for i in 0..poly.terms() {
         let powers = powers_of(alloc, poly, i)?;
         let share = share_of(rows, &powers);
-        charge = charge.saturating_add(charge_of_term(share, replacement.den.count, top));
+        charge = charge.saturating_add(charge_of_term(share, count, top));
     }
     Ok(charge)
 }

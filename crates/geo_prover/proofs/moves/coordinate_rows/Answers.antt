@@ -32,7 +32,7 @@ loop-v-preserved c =
       | in_default w ↦
           let items : c.match-branch-2.items.items ≡ c.loop-v.items.items = ap (λ x. x.items) w.items-is in
           record {
-            rows = items ∙ so_far.rows ∙ sym (rows_none (free_row c.args.commands.now) vs i none c.loop-v-test.true (sym row ∙ ?));
+            rows = items ∙ so_far.rows ∙ sym (rows_none (free_row c.args.commands.now) vs i none c.loop-v-test.true (sym row ∙ w.in_default.is));
             bounded = subst AllBounded (sym items) so_far.bounded;
             small = subst AllPowersSmall (sym items) so_far.small;
           }
