@@ -15,6 +15,7 @@ pub mod Kept
 pub mod Cutting
 pub mod NextLines
 pub mod OneLog
+pub mod Moving
 pub mod DistinctVariables
 pub mod Shares
 pub mod GrowingRows

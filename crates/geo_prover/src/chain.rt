@@ -106,6 +106,7 @@ impl Chain {
     fn turn(&mut self, alloc: Global, commands: &[Command]) -> Result<Turn, NoMemory>
         requires valid { IsPolynomial self.old.poly }
         requires divided { NoCutDue self.old.poly }
+        requires steps { self.old.budget.left ≤ steps_of_prove }
         requires made { AreCommands 0 commands.now }
         requires few { length commands.now ≤ 16 }
         ensures { IfOk result (IsTurn commands.now self.old self.new) }
@@ -128,6 +129,7 @@ impl Chain {
     ) -> Result<Turn, NoMemory>
         requires valid { IsPolynomial self.old.poly }
         requires divided { NoCutDue self.old.poly }
+        requires steps { self.old.budget.left ≤ steps_of_prove }
         requires made { AreCommands 0 commands.now }
         requires variables { variables.now ≡ variables_of self.old.poly }
         requires highest { IsHighest commands.now at self.old.poly }
@@ -152,6 +154,7 @@ impl Chain {
     ) -> Result<Turn, NoMemory>
         requires valid { IsPolynomial self.old.poly }
         requires divided { NoCutDue self.old.poly }
+        requires steps { self.old.budget.left ≤ steps_of_prove }
         requires variables { variables.now ≡ variables_of self.old.poly }
         requires areas { HasNoArea self.old.poly → ⊥ }
         requires free { (z : PointId) → IsConstructed commands.now z → Occurs z self.old.poly → ⊥ }
@@ -221,6 +224,7 @@ fn replaced(
     poly: &Poly,
     budget: &mut Budget,
 ) -> Result<Option<Poly>, NoMemory>
+    requires steps { budget.old.left ≤ steps_of_prove }
     requires valid { IsPolynomial poly.now }
     requires rows { AllBounded replacement.now.rows }
     requires powers { AllPowersSmall replacement.now.rows }
