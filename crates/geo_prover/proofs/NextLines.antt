@@ -121,6 +121,11 @@ forced_more commands a b c p q r xs ys h k = record {
       (second.0, first.1 ∙ ap (λ (zs : List Line). xs ++ zs) second.1 ∙ sym (append_assoc xs ys second.0), second.2);
 }
 
+pub forced_on : (commands : List Command) (a b c : ℕ) (p q r : Terms) (xs ys zs : List Line)
+    → AreForced commands a p xs b q → zs ≡ xs ++ ys → AreForced commands b q ys c r → AreForced commands a p zs c r
+forced_on commands a b c p q r xs ys zs h e k =
+    subst (λ (lines : List Line). AreForced commands a p lines c r) (sym e) (forced_more commands a b c p q r xs ys h k)
+
 -- the one cut that is due
 pub forced_cut : (commands : List Command) (left : ℕ) (q r : Terms) (f : Powers × ℤ) → q ≢ [] → IsFactorOf [] q f → f ≢ ([], pos 1) → IsCut f q r
     → AreForced commands left q (Cut f r ∷ []) left r
@@ -227,6 +232,25 @@ no_end commands left q due areas some all d = elim (next_line commands left q al
   where
     no_rows : (coordinate_move commands q).rows ≢ [] → ⊥
     no_rows some_rows = some_rows (no_free_rows commands (variables_of q) areas)
+
+-- WHOLE CHAINS
+-- at 0 the chain ends
+pub chain_ended : (commands : List Command) (steps left : ℕ) (start q : Terms) (lines all : List Line) → AreForced commands steps start lines left q
+    → NoCutDue q → HasNoArea q → q ≡ [] → all ≡ lines ++ End ∷ [] → IsDefinedChain commands steps start all []
+chain_ended commands steps left start q lines all h due areas zero e =
+    subst (λ (xs : List Line). IsDefinedChain commands steps start xs []) (sym e) (h.goes_on (End ∷ []) [] (zero, due, areas))
+
+pub no_chain_to_zero : (commands : List Command) (steps left : ℕ) (start q : Terms) (lines : List Line) → AreForced commands steps start lines left q
+    → NoCutDue q → HasNoArea q → q ≢ [] → (all : List Line) → IsDefinedChain commands steps start all [] → ⊥
+no_chain_to_zero commands steps left start q lines h due areas some all d =
+    let rest = h.forced all [] d in
+    no_end commands left q due areas some rest.0 rest.2
+
+pub no_chain : (commands : List Command) (steps left : ℕ) (start q : Terms) (lines : List Line) → AreForced commands steps start lines left q
+    → ((rest : List Line) (e : Terms) → IsDefinedChain commands left q rest e → ⊥) → (all : List Line) → IsDefinedChain commands steps start all [] → ⊥
+no_chain commands steps left start q lines h none all d =
+    let rest = h.forced all [] d in
+    none rest.0 [] rest.2
 
 -- ONE CHAIN
 pub chain_unique : (commands : List Command) (left : ℕ) (q : Terms) (lines other : List Line) (e f : Terms)
