@@ -22,4 +22,3 @@ pub mod GrowingRows
 pub mod Joined
 pub mod Joins
 pub mod Examples
-pub mod LogLines
