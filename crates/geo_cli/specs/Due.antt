@@ -18,7 +18,7 @@ usage_line = codes "usage: geo_cli COMMAND [NUMBER] [--steps N]" ++ 10 ∷ []
 abbrev pub too_long_line : List ℕ
 too_long_line = codes "too long" ++ 10 ∷ []
 
--- the input is no program that is taken
+-- the input is no program of the first form whose defined log ends in Proved
 abbrev pub unbuilt_line : List ℕ
 unbuilt_line = codes "unbuilt" ++ 10 ∷ []
 

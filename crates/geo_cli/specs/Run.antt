@@ -2,8 +2,10 @@
 -- A name with a prime is the same after the run.
 --
 -- No two causes among these hold at once: words are `prove` or are not; where the source tells its bytes, it gave
--- more than the limit or ended within it; and the bytes of an input are the text of a program that is taken or of
--- none. So where no fault rises and memory is found, each status comes exactly where its cause is.
+-- more than the limit or ended within it; and the bytes of an input are the text of a program of the first form
+-- whose defined log ends in Proved, or of none. A text has one such program at most, and a program one defined log
+-- (the laws `text_has_one_program` and `defined_log_is_unique` of `geo_prover`). So where no fault rises and memory
+-- is found, each status comes exactly where its cause is.
 use Rattle.std.specs.Prelude.{◌≡◌, ℕ, List, take, Option}
 use Rattle.geo_base.specs.Devices.{Grows, HasRisen}
 use Rattle.geo_cli.specs.declared.due.Due.{Due}
@@ -33,7 +35,7 @@ pub record Overruns (words : List (List ℕ)) (left left' held held' : Option (L
   pub long : IsLong left left'
   pub written : Grows held too_long_line held'
 
--- the input was no program that is taken, and `unbuilt` was written
+-- the input was no program of the first form whose defined log ends in Proved, and `unbuilt` was written
 pub record Declines (words : List (List ℕ)) (left left' held held' : Option (List ℕ)) : Type 0 where
   pub command : IsProve words
   pub bytes : List ℕ

@@ -21,7 +21,7 @@ pub enum Due {
     Usage,
     /// The line for an input that is longer than its limit.
     TooLong,
-    /// The line for an input that is no program that this prover takes.
+    /// The line for an input that is no program of the first form whose defined log ends in Proved.
     Unbuilt,
     /// The log of a proof.
     Log(Text),

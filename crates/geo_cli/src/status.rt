@@ -13,7 +13,7 @@ pub enum Status {
     ReadFault,
     /// The input is longer than its limit.
     TooLong,
-    /// The input is no program that this prover takes.
+    /// The input is no program of the first form whose defined log ends in Proved.
     Unbuilt,
     /// A write failed.
     WriteFault,

@@ -13,6 +13,12 @@ const PROGRAM: &[u8] =
 const LOG: &[u8] =
     b"geolog 1\n| point A\n| point B\n| pratio M A A B div { 1 } { 2 }\n| prove { collinear A M B }\ngoal 1 collinear A M B\nstart : -1*S0.1.2\ncut -1 : +1*S0.1.2\npoint 2 : 0\nend\nsample x0=0 y0=0 x1=0 y1=0\nverdict proved\n";
 
+const PARALLELOGRAM: &[u8] =
+    b"point A\npoint B\npoint C\npratio D A B C div { 1 } { 1 }\npratio M A A C div { 1 } { 2 }\nprove { collinear B M D }\n";
+
+const LOG_OF_PARALLELOGRAM: &[u8] =
+    b"geolog 1\n| point A\n| point B\n| point C\n| pratio D A B C div { 1 } { 1 }\n| pratio M A A C div { 1 } { 2 }\n| prove { collinear B M D }\ngoal 1 collinear B M D\nstart : -1*S1.3.4\ncut -1 : +1*S1.3.4\npoint 4 : +1*S0.1.3 -1*S1.2.3\npoint 3 : 0\nend\nsample x0=0 y0=0 x1=0 y1=0 x2=0 y2=0\nverdict proved\n";
+
 const TWO_SPACES: &[u8] =
     b"point  A\npoint B\npratio M A A B div { 1 } { 2 }\nprove { collinear A M B }\n";
 
@@ -118,6 +124,7 @@ fn runs_of_the_prover(rt: HostRuntime) -> Result<(), Fail> {
         Row::prove(PROGRAM, 1, Status::Proved, LOG),
         Row::prove(PROGRAM, 7, Status::Proved, LOG),
         Row::prove(PROGRAM, 4096, Status::Proved, LOG),
+        Row::prove(PARALLELOGRAM, 4096, Status::Proved, LOG_OF_PARALLELOGRAM),
         Row {
             failing_writes: &[3],
             ..Row::prove(PROGRAM, 4096, Status::WriteFault, b"geolog 1\n| point A\n")

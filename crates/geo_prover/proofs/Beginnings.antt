@@ -1,5 +1,5 @@
 -- Each program with these lines begins with the points that were read, and ends with its statement.
-use Rattle.std.proofs.Common.{◌≡◌, ℕ, suc, ◌+◌, ◌<◌, List, [], ◌∷◌, ◌++◌, map, length, drop, eqb, get_or, refl, sym, ap, ◌∙◌, subst, arith}
+use Rattle.std.proofs.Common.{◌≡◌, ℕ, suc, ◌+◌, ◌<◌, ◌≤◌, List, [], ◌∷◌, ◌++◌, map, length, drop, eqb, get_or, refl, sym, ap, ◌∙◌, subst, arith}
 use Rattle.std.specs.Prelude.{Contains}
 use Rattle.std.specs.List.{join_with_byte, slice_split}
 use Rattle.std.proofs.lemmas.List.Splits.{join_with_byte-slice_split}
@@ -11,7 +11,7 @@ use Rattle.geo_prover.specs.declared.program.Command.TheVariants.{Point, Pratio}
 use Rattle.geo_prover.specs.declared.program.Program.{Program}
 use Rattle.geo_prover.specs.Program.{Word, AllDiffer, IsFirstForm, IsName, program_text, IsCommand, AreCommands, command_words, commands_words}
 use Rattle.geo_prover.specs.Reader.{AreDeclared, IsEnd, IsNext, IsSpelt, statement_line, words_of}
-use Rattle.geo_prover.proofs.Declaring.{Begins, begins_none, count_words, declared_more, none_declared, differ_before, line_at, made_at, unique, words_in_row, words_with_more}
+use Rattle.geo_prover.proofs.Declaring.{Begins, begins_none, count_words, declared_more, none_declared, differ_before, line_at, made_at, same_point, unique, words_in_row, words_with_more}
 use Rattle.geo_prover.proofs.Shapes.{name_in_words}
 use Rattle.geo_prover.proofs.Texts.{spelt_from_text}
 
@@ -273,18 +273,49 @@ begins_as lines q g p h names commands (name ∷ more_names) (command ∷ more_c
 begins_with : (lines : List (List ℕ)) (q p : Program) → IsSpelt lines q → IsSpelt lines p → Begins q.names q.commands p
 begins_with lines q p g h = begins_as lines q g p h [] [] q.names q.commands (none_declared lines) refl refl (begins_none p)
 
--- two programs with the same lines have the same commands
-pub same_commands : (lines : List (List ℕ)) (q p : Program) → IsSpelt lines q → IsSpelt lines p → p.commands ≡ q.commands
-same_commands lines q p g h =
+-- a list that begins with another of its length is that
+same_from : {A : Type 0} (xs ys more : List A) → xs ≡ ys ++ more → length xs ≤ length ys → xs ≡ ys
+same_from xs ys [] e short = e ∙ append-nil ys
+same_from xs ys (z ∷ more) e short = absurd (omega (arith, ap length e, length-append ys (z ∷ more)))
+
+-- two programs with the same lines have the same names and commands
+same_parts : (lines : List (List ℕ)) (q p : Program) → IsSpelt lines q → IsSpelt lines p → (p.names ≡ q.names) × (p.commands ≡ q.commands)
+same_parts lines q p g h =
     let there = begins_with lines q p g h in
     let back = begins_with lines p q h g in
-    same_from there.more_commands there.commands_are (λ command more e. omega (arith, ap length (there.commands_are ∙ ap (λ cs. q.commands ++ cs) e), ap length back.commands_are, length-append q.commands (command ∷ more), length-append p.commands back.more_commands))
-  where
-    same_from : (more : List Command) → p.commands ≡ q.commands ++ more → ((command : Command) → (rest : List Command) → more ≡ command ∷ rest → ⊥) → p.commands ≡ q.commands
-    same_from [] e none = e ∙ append-nil q.commands
-    same_from (command ∷ rest) e none = absurd (none command rest refl)
+    (
+      same_from p.names q.names there.more_names there.names_are (omega (arith, ap length back.names_are, length-append p.names back.more_names)),
+      same_from p.commands q.commands there.more_commands there.commands_are
+          (omega (arith, ap length back.commands_are, length-append p.commands back.more_commands)),
+    )
 
--- two programs of the first form with the same text have the same commands
-pub commands_of_text : (bytes : List ℕ) (q p : Program) → IsFirstForm q → IsFirstForm p → bytes ≡ program_text q → bytes ≡ program_text p → p.commands ≡ q.commands
-commands_of_text bytes q p g h e f =
-    same_commands (slice_split (λ b. eqb b 10) bytes) q p (spelt_from_text bytes q g e) (spelt_from_text bytes p h f)
+-- the points of a statement, from its words
+same_points : (names : List Word) (a b c d e f : PointId) → AllDiffer names → a.0 < length names → b.0 < length names → c.0 < length names
+    → d.0 < length names → e.0 < length names → f.0 < length names
+    → statement_line names a b c ≡ statement_line names d e f → (a ≡ d) × (b ≡ e) × (c ≡ f)
+same_points names a b c d e f differ ha hb hc hd he hf same =
+    let at : ℕ → List Word → Word = λ i ws. get_or ws i [] in (
+      same_point names a d differ ha hd (ap (at 3) same),
+      same_point names b e differ hb he (ap (at 4) same),
+      same_point names c f differ hc hf (ap (at 5) same),
+    )
+
+same_program : (lines : List (List ℕ)) (p q : Program) → IsSpelt lines p → IsSpelt lines q → p ≡ q
+same_program lines p q h g =
+    let parts = same_parts lines q p g h in
+    let n = length p.commands in
+    let count : n ≡ length q.commands = ap length parts.1 in
+    let named : length p.names ≡ length q.names = ap length parts.0 in
+    let form = h.first_form in
+    let other = g.first_form in
+    let words : statement_line q.names p.a p.b p.c ≡ statement_line q.names q.a q.b q.c =
+    sym (ap (λ names. statement_line names p.a p.b p.c) parts.0) ∙ sym (line_of_statement lines p n refl h) ∙ line_of_statement lines q n count g in
+    let points = same_points q.names p.a p.b p.c q.a q.b q.c other.differ
+    (omega (arith, form.a_declared, other.named)) (omega (arith, form.b_declared, other.named)) (omega (arith, form.c_declared, other.named))
+    (omega (arith, other.a_declared, other.named)) (omega (arith, other.b_declared, other.named)) (omega (arith, other.c_declared, other.named)) words in
+    λ i. record { names = parts.0 i; commands = parts.1 i; a = points.0 i; b = points.1 i; c = points.2 i }
+
+-- two programs of the first form with the same text are the same
+pub one_program : (p q : Program) → IsFirstForm p → IsFirstForm q → program_text p ≡ program_text q → p ≡ q
+one_program p q h g e =
+    same_program (slice_split (λ b. eqb b 10) (program_text p)) p q (spelt_from_text (program_text p) p h refl) (spelt_from_text (program_text p) q g e)

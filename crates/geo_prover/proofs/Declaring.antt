@@ -45,7 +45,7 @@ differ_at (name ∷ names) (suc i) zero h lt lu e =
     absurd (h.0 (subst P e (Contains-get_or names i [] (omega arith))))
 differ_at (name ∷ names) (suc i) (suc j) h lt lu e = ap suc (differ_at names i j h.1 (omega arith) (omega arith) e)
 
-same_point : (names : List Word) (p q : PointId) → AllDiffer names → p.0 < length names → q.0 < length names → name_of names p ≡ name_of names q → p ≡ q
+pub same_point : (names : List Word) (p q : PointId) → AllDiffer names → p.0 < length names → q.0 < length names → name_of names p ≡ name_of names q → p ≡ q
 same_point names p q h lt lu e =
     let point : ℕ → PointId = λ k. record { 0 = k } in ap point (differ_at names p.0 q.0 h lt lu e)
 

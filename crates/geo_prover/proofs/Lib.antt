@@ -1,5 +1,4 @@
 pub mod Pieces
-pub mod SmallAreas
 pub mod PieceValues
 pub mod RowValues
 pub mod Meeting
@@ -13,9 +12,13 @@ pub mod Shapes
 pub mod Declaring
 pub mod Beginnings
 pub mod Kept
-pub mod Started
+pub mod Cutting
+pub mod NextLines
+pub mod OneLog
+pub mod Moving
+pub mod DistinctVariables
+pub mod Shares
+pub mod GrowingRows
 pub mod Joined
 pub mod Joins
-pub mod Lengths
 pub mod Examples
-pub mod LogLines

@@ -3,6 +3,7 @@ pub mod Truth
 pub mod Lines
 pub mod Moves
 pub mod Logs
+pub mod Chains
 pub mod FirstLog
 pub mod Laws
 pub mod Reader

@@ -13,6 +13,7 @@ use Rattle.geo_poly.specs.Monomials.{Powers}
 use Rattle.geo_poly.specs.Polynomials.{Terms, constant_of, sum_of, difference_of, product_of}
 use Rattle.geo_poly.specs.Replace.{row_of, denominators, most_denominators, replaced_by, replaced_weight, replaced_degree}
 use Rattle.geo_poly.specs.Variables.{var_cmp}
+use Rattle.geo_prover.specs.declared.moves.Replacement.{Replacement}
 use Rattle.geo_prover.specs.declared.program.Command.{Command}
 use Rattle.geo_prover.specs.declared.program.Command.TheVariants.{Point, Pratio}
 
@@ -142,13 +143,7 @@ distinct (v ∷ vs) = v ∷ filter (λ w. not (is_eq (var_cmp v w))) (distinct v
 abbrev pub variables_of : Terms → List Var
 variables_of q = distinct (flat_map (λ t. map (λ p. p.0) t.0) q)
 
--- MOVES
-
--- what a move replaces in a polynomial: a row for each variable, over one denominator; and the charge of its step's number
-pub record Replacement : Type 0 where
-  pub rows : List Row
-  pub den : Piece
-  pub charge : ℕ
+-- MOVES: what a move replaces in a polynomial is a row for each variable, over one denominator, with the charge of its step's number
 
 -- the elimination of the point y, which the command makes
 abbrev pub point_move : PointId → Command → Terms → Replacement

@@ -1,99 +1,252 @@
-//! The prover's chain of a program with two free points and a point by a ratio.
+//! The prover's chain.
 
-ghost use Rattle.std.specs.Prelude.{◌≡◌, ◌≤◌, [], ◌∷◌, pos, unsigned_abs, IfOk};
-ghost use Rattle.geo_poly.specs.Replace.{IsBounded};
-ghost use Rattle.geo_prover.specs.FirstLog.{IsEliminated, IsStarted, IsTaken, all_points, last_command};
-ghost use Rattle.geo_prover.specs.Moves.{along_numerator, variable_polynomial};
-ghost use Rattle.geo_prover.specs.declared.program.Command.TheVariants.{Point as FreePoint};
+ghost use Rattle.std.specs.Prelude.{◌≡◌, ◌≢◌, ◌-◌, ◌<◌, ◌≤◌, List, [], ◌∷◌, ◌++◌, length, IfOk, IfSome, IfNone, OnOk};
+ghost use Rattle.geo_points.specs.declared.ids.PointId.{PointId};
+ghost use Rattle.geo_poly.specs.Factors.{IsFactorOf};
+ghost use Rattle.geo_poly.specs.Polynomials.{IsPolynomial, Terms, multiples};
+ghost use Rattle.geo_poly.specs.Replace.{AllBounded, AllPowersSmall, IsBounded};
+ghost use Rattle.geo_prover.specs.declared.log.Line.{Line};
+ghost use Rattle.geo_prover.specs.declared.program.Command.{Command};
+ghost use Rattle.geo_prover.specs.FirstLog.{steps_of_prove};
+ghost use Rattle.geo_prover.specs.Logs.{HasNoArea, IsConstructed, IsCut, IsDefinedChain, IsHighest, NoCutDue, Occurs};
+ghost use Rattle.geo_prover.specs.Moves.{IsMoved, move_charge, variables_of};
+ghost use Rattle.geo_prover.specs.Program.{AreCommands};
 
+use crate::charges::move_charge;
 use crate::log::Line;
-use crate::program::{Command, Program};
-use crate::quantities::{area, area_polynomial, difference, number, product, sum, within_bounds};
+use crate::moves::{Replacement, coordinate_move, point_move};
+use crate::program::Command;
+use crate::rows::is_free;
+use crate::variables::{has_area, occurs, variables_of};
+use geo_base::Budget;
 use geo_points::{NoMemory, PointId};
-use geo_poly::{Factor, Piece, Poly, Row, Var, canon_s};
+use geo_poly::{Factor, Poly, PolyError, Var};
 use std::alloc::Global;
 
-/// How a point Y is made: `Y - W = n/d (V - U)`.
+/// How many charges a log may take.
+const STEPS: u64 = 100_000_000;
+
+/// A chain that is being made.
+#[derive(Drop)]
+struct Chain {
+    /// The polynomial after the lines.
+    poly: Poly,
+    /// What the lines left of the charges.
+    budget: Budget,
+    /// The lines after the start.
+    lines: Vec<Line>,
+}
+
+/// What a turn of a chain came to.
 #[derive(Clone, Copy, Debug, PartialEq, Eq)]
-pub struct Along {
-    /// The point W, from which Y lies along UV.
-    pub w: PointId,
-    /// The start U of the vector UV.
-    pub u: PointId,
-    /// The end V of the vector UV.
-    pub v: PointId,
-    /// The numerator of the number n/d.
-    pub n: i128,
-    /// The denominator of the number n/d, at least 1.
-    pub d: i128,
+enum Turn {
+    /// A move was made.
+    Moved,
+    /// There is no area left.
+    Ended,
+    /// There is no move within the limits.
+    Stuck,
 }
 
-/// The lines of the one chain, from its start to its end in 0.
-pub fn chain(alloc: Global, program: &Program) -> Result<Vec<Line>, NoMemory>
-    requires { IsTaken program.now }
-    ensures { IfOk result (λ lines. IsStarted program.now lines.items) }
+/// The lines of the one chain after its start, up to its end in 0; or `None` where there is no such chain.
+pub fn chain_to_zero(
+    alloc: Global,
+    commands: &[Command],
+    start: Poly,
+) -> Result<Option<Vec<Line>>, NoMemory>
+    requires made { AreCommands 0 commands.now }
+    requires few { length commands.now ≤ 16 }
+    requires valid { IsPolynomial start }
+    ensures some { IfOk result (λ o. IfSome o
+        (λ lines. IsDefinedChain commands.now steps_of_prove start lines.items [])) }
+    ensures none { IfOk result (λ o. IfNone o ((lines : List Line)
+        → IsDefinedChain commands.now steps_of_prove start lines [] → ⊥)) }
 {
-    let mut lines = Vec::new(alloc);
-    let canon = canon_s(program.a, program.b, program.c);
-    let start = area_polynomial(alloc, program.a, program.b, program.c)?;
-    lines.push(Line::Start(start))?;
-    let Some(v) = canon.var else {
+    let mut chain = Chain {
+        poly: start,
+        budget: Budget { left: STEPS },
+        lines: Vec::new(alloc),
+    };
+    loop {
+        chain.cut(alloc)?;
+        match chain.turn(alloc, commands)? {
+            Turn::Moved => {}
+            Turn::Ended => return chain.ended(),
+            Turn::Stuck => return Ok(None),
+        }
+    }
+}
+
+impl Chain {
+    ghost use Rattle.geo_prover.specs.Chains.{IsTurn, Leads};
+
+    /// Divides by the factor of the polynomial, where that is not 1.
+    fn cut(&mut self, alloc: Global) -> Result<(), NoMemory>
+        requires { IsPolynomial self.old.poly }
+        ensures leads { OnOk result ((commands : List Command) → Leads commands self.old self.new) }
+        ensures valid { OnOk result (IsPolynomial self.new.poly) }
+        ensures divided { OnOk result (NoCutDue self.new.poly) }
+        ensures unpaid { OnOk result (self.new.budget ≡ self.old.budget) }
+    {
+        if self.poly.is_zero() {
+            return Ok(());
+        }
+        let by = self.poly.cut(alloc, &[])?;
+        if by.is_one() {
+            return Ok(());
+        }
+        let poly = quotient(alloc, &self.poly, &by)?;
+        let copy = poly.copy(alloc)?;
+        self.lines.push(Line::Cut { by, poly: copy })?;
+        self.poly = poly;
+        Ok(())
+    }
+
+    /// Makes the next move of a polynomial that needs no cut.
+    fn turn(&mut self, alloc: Global, commands: &[Command]) -> Result<Turn, NoMemory>
+        requires valid { IsPolynomial self.old.poly }
+        requires divided { NoCutDue self.old.poly }
+        requires steps { self.old.budget.left ≤ steps_of_prove }
+        requires made { AreCommands 0 commands.now }
+        requires few { length commands.now ≤ 16 }
+        ensures { IfOk result (IsTurn commands.now self.old self.new) }
+    {
+        let variables = variables_of(alloc, &self.poly)?;
+        match highest_constructed(commands, &variables) {
+            Some(at) => self.eliminate(alloc, commands, &variables, at),
+            None if has_area(&variables) => self.put_into_coordinates(alloc, commands, &variables),
+            None => Ok(Turn::Ended),
+        }
+    }
+
+    /// Eliminates a point.
+    fn eliminate(
+        &mut self,
+        alloc: Global,
+        commands: &[Command],
+        variables: &[Var],
+        at: PointId,
+    ) -> Result<Turn, NoMemory>
+        requires valid { IsPolynomial self.old.poly }
+        requires divided { NoCutDue self.old.poly }
+        requires steps { self.old.budget.left ≤ steps_of_prove }
+        requires made { AreCommands 0 commands.now }
+        requires variables { variables.now ≡ variables_of self.old.poly }
+        requires highest { IsHighest commands.now at self.old.poly }
+        ensures { IfOk result (IsTurn commands.now self.old self.new) }
+    {
+        let replacement = point_move(alloc, at, commands[at.0 as usize], variables)?;
+        let Some(poly) = replaced(alloc, &replacement, &self.poly, &mut self.budget)? else {
+            return Ok(Turn::Stuck);
+        };
+        let copy = poly.copy(alloc)?;
+        self.lines.push(Line::Point { at, poly: copy })?;
+        self.poly = poly;
+        Ok(Turn::Moved)
+    }
+
+    /// Puts the free points into coordinates.
+    fn put_into_coordinates(
+        &mut self,
+        alloc: Global,
+        commands: &[Command],
+        variables: &[Var],
+    ) -> Result<Turn, NoMemory>
+        requires valid { IsPolynomial self.old.poly }
+        requires divided { NoCutDue self.old.poly }
+        requires steps { self.old.budget.left ≤ steps_of_prove }
+        requires variables { variables.now ≡ variables_of self.old.poly }
+        requires areas { HasNoArea self.old.poly → ⊥ }
+        requires free { (z : PointId) → IsConstructed commands.now z → Occurs z self.old.poly → ⊥ }
+        ensures { IfOk result (IsTurn commands.now self.old self.new) }
+    {
+        let replacement = coordinate_move(alloc, commands, variables)?;
+        let Some(poly) = replaced(alloc, &replacement, &self.poly, &mut self.budget)? else {
+            return Ok(Turn::Stuck);
+        };
+        let copy = poly.copy(alloc)?;
+        self.lines.push(Line::Coords(copy))?;
+        self.poly = poly;
+        Ok(Turn::Moved)
+    }
+
+    /// The lines with the end, where the polynomial is 0.
+    fn ended(self) -> Result<Option<Vec<Line>>, NoMemory>
+        ensures some { IfOk result (λ o. IfSome o (λ lines.
+            (self.poly ≡ []) × (lines.items ≡ self.lines.items ++ Line.End ∷ []))) }
+        ensures none { IfOk result (λ o. IfNone o (self.poly ≢ [])) }
+    {
+        if !self.poly.is_zero() {
+            return Ok(None);
+        }
+        let mut lines = self.lines;
         lines.push(Line::End)?;
-        return Ok(lines);
-    };
-    let poly = Poly::var(alloc, v)?;
-    let moved = eliminated(alloc, &poly, &last_step(program))?;
-    if canon.sign < 0 {
-        let by = Factor::new(alloc, -1)?;
-        lines.push(Line::Cut { by, poly })?;
-    }
-    let at = PointId(2);
-    lines.push(Line::Point { at, poly: moved })?;
-    lines.push(Line::End)?;
-    Ok(lines)
-}
-
-/// How the last point is made.
-fn last_step(program: &Program) -> Along
-    requires { IsTaken program.now }
-    ensures { program.now.commands ≡ FreePoint ∷ FreePoint ∷ last_command result ∷ [] }
-{
-    match program.commands.items[2] {
-        Command::Pratio { w, u, v, n, d } => Along { w, u, v, n, d },
-        Command::Point => unreachable!(),
+        Ok(Some(lines))
     }
 }
 
-/// The result of eliminating the last point from the area of all three.
-fn eliminated(alloc: Global, poly: &Poly, step: &Along) -> Result<Poly, NoMemory>
-    requires area { poly.now ≡ variable_polynomial (pos 1) all_points }
-    requires numerator { unsigned_abs step.now.n ≤ 9 }
-    requires denominator { unsigned_abs step.now.d ≤ 9 }
-    ensures { IfOk result (λ r. IsEliminated step.now r) }
+/// The polynomial divided by its factor.
+fn quotient(alloc: Global, poly: &Poly, by: &Factor) -> Result<Poly, NoMemory>
+    requires valid { IsPolynomial poly.now }
+    requires some { poly.now ≢ [] }
+    requires factor { IsFactorOf [] poly.now by.now }
+    ensures cut { IfOk result (λ r. IsCut by.now poly.now r) }
+    ensures multiples { IfOk result (λ r. multiples by.now r ≡ poly.now) }
 {
-    let num = numerator(alloc, step, PointId(0), PointId(1))?;
-    let row = Row {
-        var: Var::S(PointId(0), PointId(1), PointId(2)),
-        power: 1,
-        num,
-    };
-    let den = number(alloc, step.d)?;
-    within_bounds(poly.replace(alloc, &[row], &den))
+    match poly.divide(alloc, by)? {
+        Some(quotient) => Ok(quotient),
+        None => unreachable!(),
+    }
 }
 
-/// The numerator of `S_ABY` over d: `d S_ABW + n S_ABV - n S_ABU`.
-fn numerator(alloc: Global, step: &Along, a: PointId, b: PointId) -> Result<Piece, NoMemory>
-    requires numerator { unsigned_abs step.now.n ≤ 9 }
-    requires denominator { unsigned_abs step.now.d ≤ 9 }
-    ensures piece { IfOk result (λ f.
-        f ≡ along_numerator step.now.w step.now.u step.now.v step.now.n step.now.d a b) }
-    ensures bounded { IfOk result IsBounded }
+/// The constructed point of the highest number in the areas.
+fn highest_constructed(commands: &[Command], variables: &[Var]) -> Option<PointId>
+    requires { length commands.now ≤ 16 }
+    ensures some { IfSome result (λ y.
+        (q : Terms) → variables.now ≡ variables_of q → IsHighest commands.now y q) }
+    ensures none { IfNone result ((q : Terms) → variables.now ≡ variables_of q
+        → (z : PointId) → IsConstructed commands.now z → Occurs z q → ⊥) }
 {
-    let n = number(alloc, step.n)?;
-    let d = number(alloc, step.d)?;
-    let at_w = product(alloc, &d, &area(alloc, a, b, step.w)?)?;
-    let at_v = product(alloc, &n, &area(alloc, a, b, step.v)?)?;
-    let at_u = product(alloc, &n, &area(alloc, a, b, step.u)?)?;
-    let front = sum(alloc, &at_w, &at_v)?;
-    difference(alloc, &front, &at_u)
+    for k in (0..commands.len()).rev() {
+        let y = PointId(k as u32);
+        if !is_free(commands, y) && occurs(variables, y) {
+            return Some(y);
+        }
+    }
+    None
+}
+
+/// What a move makes of the polynomial, paid from the budget; or `None` where it replaces nothing or
+/// passes a limit.
+fn replaced(
+    alloc: Global,
+    replacement: &Replacement,
+    poly: &Poly,
+    budget: &mut Budget,
+) -> Result<Option<Poly>, NoMemory>
+    requires steps { budget.old.left ≤ steps_of_prove }
+    requires valid { IsPolynomial poly.now }
+    requires rows { AllBounded replacement.now.rows }
+    requires powers { AllPowersSmall replacement.now.rows }
+    requires den { IsBounded replacement.now.den }
+    ensures some { IfOk result (λ o. IfSome o
+        (λ r. IsMoved replacement.now budget.old.left poly.now r)) }
+    ensures valid { IfOk result (λ o. IfSome o IsPolynomial) }
+    ensures paid { IfOk result (λ o. IfSome o
+        (λ r. budget.new.left ≡ budget.old.left - move_charge replacement.now poly.now)) }
+    ensures none { IfOk result (λ o. IfNone o
+        ((r : Terms) → IsMoved replacement.now budget.old.left poly.now r → ⊥)) }
+{
+    if replacement.rows.items.is_empty() {
+        return Ok(None);
+    }
+    let charge = move_charge(alloc, replacement, poly)?;
+    if budget.spend(charge).is_err() {
+        return Ok(None);
+    }
+    match poly.replace(alloc, &replacement.rows.items, &replacement.den) {
+        Ok(poly) => Ok(Some(poly)),
+        Err(PolyError::TooLarge(_)) => Ok(None),
+        Err(PolyError::NoMemory) => Err(NoMemory),
+    }
 }

@@ -3,17 +3,21 @@
 #![tactic(auto)]
 
 mod chain;
+mod charges;
 mod first;
 pub mod laws;
 mod log;
+mod moves;
 mod printer;
 mod program;
 mod quantities;
 mod reader;
 #[cfg(test)]
 mod reader_tests;
+mod rows;
 #[cfg(test)]
 mod tests;
+mod variables;
 mod words;
 mod writer;
 #[cfg(test)]

@@ -2,7 +2,7 @@
 
 ghost use Rattle.std.specs.Prelude.{◌≡◌, ◌≢◌, ◌+◌, ◌*◌, ◌^◌, ◌<◌, ◌≤◌, max, negsuc, unsigned_abs, IfOk};
 ghost use Rattle.geo_poly.specs.Replace.{IsBounded};
-ghost use Rattle.geo_prover.specs.Moves.{area_piece, number_piece, piece_difference, piece_product, piece_sum, variable_polynomial};
+ghost use Rattle.geo_prover.specs.Moves.{area_piece, coordinate_piece, number_piece, piece_difference, piece_product, piece_sum, variable_polynomial};
 
 use geo_points::{NoMemory, PointId};
 use geo_poly::{Piece, Poly, PolyError, Var, Which, canon_s};
@@ -29,6 +29,19 @@ pub fn area(alloc: Global, a: PointId, b: PointId, c: PointId) -> Result<Piece, 
 {
     Ok(Piece {
         poly: area_polynomial(alloc, a, b, c)?,
+        weight: 1,
+        count: 1,
+        degree: 1,
+    })
+}
+
+/// A coordinate of a free point.
+pub fn coordinate(alloc: Global, v: Var) -> Result<Piece, NoMemory>
+    ensures piece { IfOk result (λ f. f ≡ coordinate_piece v) }
+    ensures bounded { IfOk result IsBounded }
+{
+    Ok(Piece {
+        poly: Poly::var(alloc, v)?,
         weight: 1,
         count: 1,
         degree: 1,

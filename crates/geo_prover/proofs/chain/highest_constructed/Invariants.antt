@@ -1,0 +1,9 @@
+use Rattle.std.proofs.Common.{◌≡◌, ◌≤◌, List}
+use Rattle.geo_points.specs.declared.ids.PointId.{PointId}
+use Rattle.geo_poly.specs.Polynomials.{Terms}
+use Rattle.geo_prover.specs.Logs.{IsConstructed, Occurs}
+use Rattle.geo_prover.specs.Moves.{variables_of}
+use Rattle.geo_prover.proofs.chain.highest_constructed.Given as goal
+
+abbrev pub invariant-loop-k : goal.invariant-loop-k
+invariant-loop-k l = (q : Terms) → l.variables ≡ variables_of q → (z : PointId) → IsConstructed l.commands z → l.k ≤ z.0 → Occurs z q → ⊥
