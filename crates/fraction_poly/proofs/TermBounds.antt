@@ -101,7 +101,7 @@ ArePositive-product a b h g = record {
   kd = mul-pos h.kd g.kd;
 }
 
-ArePositive-turned : (a : Numbers) → ArePositive a → ArePositive (turned_numbers a)
+pub ArePositive-turned : (a : Numbers) → ArePositive a → ArePositive (turned_numbers a)
 ArePositive-turned a h = record { wn = h.wd; wd = h.wn; kn = h.kd; kd = h.kn }
 
 ArePositive-variable : ArePositive variable_numbers

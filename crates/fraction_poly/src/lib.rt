@@ -3,8 +3,10 @@
 #![tactic(auto)]
 
 pub mod laws;
+mod fractions;
 mod measures;
 mod multiplying;
+mod reaching;
 #[cfg(test)]
 mod tests;
 
