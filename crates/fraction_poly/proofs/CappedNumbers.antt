@@ -1,5 +1,5 @@
 -- Numbers that are told up to a greatest one.
-use Rattle.std.proofs.Common.{◌≡◌, ℕ, ◌+◌, ◌*◌, ◌-◌, ◌^◌, ◌<◌, min, max, inl, inr, List, [], ◌∷◌, ◌++◌, length, slice_get, Some, sym, ap, ap₂, ◌∙◌, arith}
+use Rattle.std.proofs.Common.{◌≡◌, ℕ, ◌+◌, ◌*◌, ◌-◌, ◌^◌, ◌<◌, inl, inr, List, [], ◌∷◌, ◌++◌, length, slice_get, Some, sym, ap, ap₂, ◌∙◌, arith}
 use Rattle.std.proofs.lemmas.List.{length_push}
 use Rattle.std.proofs.lemmas.Option.{slice_get_within}
 use Rattle.geo_points.specs.declared.ids.TermId.{TermId}
@@ -9,7 +9,7 @@ use Rattle.geo_poly.proofs.Capped.{cap_left, cap_right}
 use Rattle.fraction_poly.specs.declared.measures.Numbers.{Numbers}
 use Rattle.fraction_poly.specs.Parts.{AreNumbersOf}
 use Rattle.fraction_poly.proofs.Places.{place_cases, slice_get-end, slice_get-front}
-use Rattle.fraction_poly.specs.Measures.{numbers_of, capped_number, capped, sum_numbers, product_numbers, turned_numbers}
+use Rattle.fraction_poly.specs.Measures.{numbers_of, capped_number, capped, sum_numbers, product_numbers}
 
 abbrev most : ℕ
 most = 2 ^ 128 - 1

@@ -1,13 +1,13 @@
 -- What has room has room for its parts, and for the products and sums that are made of them.
-use Rattle.std.proofs.Common.{◌≡◌, ℕ, ◌+◌, ◌*◌, ◌^◌, ◌<◌, ◌≤◌, ◌⊎◌, inl, inr, max, pos, unsigned_abs, Some, slice_get, refl, sym, subst, ap, arith}
-use Rattle.std.proofs.Math.Nat.{mul-le-mul, mul-le-mul_left, mul-le-mul_right}
+use Rattle.std.proofs.Common.{◌≡◌, ℕ, ◌+◌, ◌*◌, ◌^◌, ◌<◌, ◌≤◌, ◌⊎◌, inl, inr, Some, slice_get, sym, subst, arith}
+use Rattle.std.proofs.Math.Nat.{mul-le-mul, mul-le-mul_left}
 use Rattle.geo_points.specs.declared.ids.TermId.{TermId}
-use Rattle.geo_poly.specs.Polynomials.{Terms, norm_of, total_degree, product_of}
+use Rattle.geo_poly.specs.Polynomials.{Terms, norm_of, product_of}
 use Rattle.geo_poly.proofs.ProductLaws.{norm_of-product_of-le}
 use Rattle.geo_terms.specs.declared.nodes.Node.{Node}
 use Rattle.geo_terms.specs.declared.nodes.Node.TheVariants.{Int, Param, S, P, R, Neg, Add, Sub, Mul, Div}
 use Rattle.geo_terms.specs.Stores.{Store, IsStore, node_tree, trees_of, tree_of}
-use Rattle.geo_terms.specs.Trees.{Tree, integer_leaf, parameter_leaf, area_leaf, pythagoras_leaf, ratio_leaf, negation, addition, subtraction, multiplication, division}
+use Rattle.geo_terms.specs.Trees.{Tree, negation, addition, subtraction, multiplication, division}
 use Rattle.geo_terms.proofs.Trees.{tree_of-node}
 use Rattle.fraction_poly.specs.declared.measures.Numbers.{Numbers}
 use Rattle.fraction_poly.specs.Measures.{HasRoom, numbers_of, sum_numbers, product_numbers, turned_numbers}

@@ -1,11 +1,10 @@
 -- The numbers of a term bound its numerator and its denominator; its weights and counts are at least 1.
-use Rattle.std.proofs.Common.{ℕ, ◌+◌, ◌*◌, ◌<◌, ◌≤◌, max, pos, unsigned_abs, [], mul-pos, arith}
+use Rattle.std.proofs.Common.{◌*◌, ◌<◌, ◌≤◌, pos, [], mul-pos, arith}
 use Rattle.geo_poly.specs.Polynomials.{Terms, constant_of}
-use Rattle.geo_poly.specs.Canonical.{canonical_area}
 use Rattle.geo_poly.specs.declared.variables.Var.TheVariants.{T}
 use Rattle.geo_terms.specs.Trees.{Tree, integer_leaf, parameter_leaf, area_leaf, pythagoras_leaf, ratio_leaf, negation, addition, subtraction, multiplication, division}
 use Rattle.fraction_poly.specs.declared.measures.Numbers.{Numbers}
-use Rattle.fraction_poly.specs.Laws.{AreBounds, NumbersAreBounds}
+use Rattle.fraction_poly.specs.Laws.{NumbersAreBounds}
 use Rattle.fraction_poly.specs.Measures.{numbers_of, variable_numbers, sum_numbers, product_numbers, turned_numbers}
 use Rattle.fraction_poly.specs.MultipliedOut.{multiplied_out, fraction_sum, fraction_difference, fraction_product, fraction_quotient}
 use Rattle.fraction_poly.proofs.Sizes.{IsWithin, IsWithin-negated, IsWithin-sum, IsWithin-difference, IsWithin-product, IsWithin-constant, IsWithin-variable, IsWithin-area}

@@ -76,7 +76,11 @@ pub(crate) fn difference(
 }
 
 /// The product.
-pub(crate) fn product(alloc: Global, left: &Fraction, right: &Fraction) -> Result<Fraction, NoMemory>
+pub(crate) fn product(
+    alloc: Global,
+    left: &Fraction,
+    right: &Fraction,
+) -> Result<Fraction, NoMemory>
     requires numerators { ProductFits left.now.0 right.now.0 }
     requires denominators { ProductFits left.now.1 right.now.1 }
     ensures { IfOk result (λ f. f ≡ fraction_product left.now right.now) }

@@ -2,8 +2,8 @@
 //! and numbers that bound both are told before any product is made.
 #![tactic(auto)]
 
-pub mod laws;
 mod fractions;
+pub mod laws;
 mod measures;
 mod multiplying;
 mod reaching;

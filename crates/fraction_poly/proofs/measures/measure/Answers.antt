@@ -1,8 +1,7 @@
-use Rattle.std.proofs.Common.{◌≡◌, List, [], ◌∷◌, ◌++◌, sym, ap, subst, ◌∙◌, length, rules}
-use Rattle.geo_terms.specs.Stores.{node_tree, trees_of, tree_of}
+use Rattle.std.proofs.Common.{◌≡◌, sym, ap, subst, ◌∙◌, length, rules}
+use Rattle.geo_terms.specs.Stores.{trees_of, tree_of}
 use Rattle.geo_terms.specs.Trees.{Tree}
 use Rattle.geo_terms.proofs.Trees.{tree_of-node}
-use Rattle.fraction_poly.specs.declared.measures.Numbers.{Numbers}
 use Rattle.fraction_poly.specs.Measures.{capped, numbers_of}
 use Rattle.fraction_poly.specs.Parts.{AreNumbersOf}
 use Rattle.fraction_poly.proofs.CappedNumbers.{AreNumbersOf-push}

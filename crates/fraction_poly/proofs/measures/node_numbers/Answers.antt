@@ -1,4 +1,4 @@
-use Rattle.std.proofs.Common.{◌≡◌, sym, ap, ap₂, ◌∙◌, inl, inr}
+use Rattle.std.proofs.Common.{sym, ap, ap₂, ◌∙◌, inl, inr}
 use Rattle.geo_terms.specs.declared.nodes.Node.{Node}
 use Rattle.geo_terms.specs.Stores.{node_tree, tree_at}
 use Rattle.fraction_poly.specs.Measures.{capped, numbers_of, sum_numbers, product_numbers, turned_numbers}

@@ -1,13 +1,11 @@
-use Rattle.std.proofs.Common.{◌≡◌, inl, inr, Some, pos, ℤ, refl, sym, ap, subst, ◌∙◌, to_z, of_z, rules, unsigned_abs, ◌<◌, ◌^◌}
+use Rattle.std.proofs.Common.{◌≡◌, inl, inr, Some, ℤ, refl, sym, ap, subst, ◌∙◌, rules, unsigned_abs, ◌<◌, ◌^◌}
 use Rattle.std.specs.Int.{w128}
 use Rattle.std.proofs.lemmas.Int.{to_z-of_z}
 use Rattle.std.proofs.lemmas.Result.{IfOk-weaker}
-use Rattle.geo_poly.specs.Canonical.{canonical_area}
-use Rattle.geo_poly.specs.Polynomials.{Terms, constant_of, negated}
-use Rattle.geo_poly.specs.declared.variables.Var.TheVariants.{T}
+use Rattle.geo_poly.specs.Polynomials.{constant_of, negated}
 use Rattle.geo_terms.specs.declared.nodes.Node.TheVariants.{Int, Param, S, P, R, Neg, Add, Sub, Mul, Div}
 use Rattle.geo_terms.specs.Stores.{tree_of}
-use Rattle.fraction_poly.specs.MultipliedOut.{multiplied_out, whole_fraction, variable_polynomial, canon_polynomial, fraction_sum, fraction_difference, fraction_product, fraction_quotient}
+use Rattle.fraction_poly.specs.MultipliedOut.{multiplied_out, whole_fraction, fraction_sum, fraction_difference, fraction_product, fraction_quotient}
 use Rattle.fraction_poly.proofs.Nodes.{IsAtNode, node_fits, node_result, part_stands, integer_fits, negation_is, addition_fits, addition_is, subtraction_fits, subtraction_is, multiplication_fits, multiplication_is, division_fits, division_is}
 use Rattle.fraction_poly.proofs.multiplying.fraction.Goals as goal
 
@@ -158,4 +156,3 @@ pub unreachable-requires-in-R : goal.unreachable-requires-in-R
 unreachable-requires-in-R c =
     let h : IsAtNode c.args.terms.now c.args.parts.now c.args.id (R c.in-R.field-0 c.in-R.field-1 c.in-R.field-2 c.in-R.field-3) = record { store = c.requires.valid; at = c.node.ensures ∙ ap Some c.in-R.is; fits = c.requires.fits; ready = c.requires.parts } in
     (node_fits c.args.terms.now c.args.parts.now c.args.id (R c.in-R.field-0 c.in-R.field-1 c.in-R.field-2 c.in-R.field-3) h).quantities
-

@@ -1,7 +1,7 @@
-use Rattle.std.proofs.Common.{◌≡◌, ◌+◌, ◌-◌, ◌<◌, get_or, Bool, true, false, List, Some, replicate, length, slice_get, sym, ap, subst, ◌∙◌, rules, arith}
+use Rattle.std.proofs.Common.{◌≡◌, ◌-◌, get_or, Bool, true, false, List, Some, replicate, length, slice_get, sym, ap, subst, ◌∙◌, rules, arith}
 use Rattle.std.proofs.lemmas.Option.{slice_get_read}
 use Rattle.fraction_poly.specs.Parts.{IsMarked}
-use Rattle.fraction_poly.proofs.Marks.{MarksParts, IsReaching, reaching-none, reaching-marked, reaching-unmarked, reaching-all, below_more, written}
+use Rattle.fraction_poly.proofs.Marks.{MarksParts, IsReaching, reaching-none, reaching-marked, reaching-unmarked, below_more, written}
 use Rattle.fraction_poly.proofs.reaching.reached.Goals as goal
 
 pub loop-i-init : goal.loop-i-init
@@ -36,8 +36,8 @@ loop-i-preserved-then-index c =
     let long : length new ≡ length items = c.mark_parts-then-index.auto.marks ∙ ap length c.deref_mut-then-index.ensures.value in
     let marks : MarksParts node c.deref_mut-then-index.result.now new = record { parts = c.mark_parts-then-index.ensures.parts; kept = c.mark_parts-then-index.ensures.kept; others = c.mark_parts-then-index.ensures.others } in
     let marked : IsMarked items (record { 0 = i }) =
-        slice_get_read items (length items) i true (search rules) (omega (arith, c.loop-i.auto.i, c.loop-i.invariant.count))
-        (subst (λ (b : Bool). b ≡ get_or items i b) c.if-index.true c.index.ensures) in
+    slice_get_read items (length items) i true (search rules) (omega (arith, c.loop-i.auto.i, c.loop-i.invariant.count))
+    (subst (λ (b : Bool). b ≡ get_or items i b) c.if-index.true c.index.ensures) in
     subst (IsReaching nodes id i) (sym (written c.loop-i.marks.len items new (search rules) long))
     (reaching-marked nodes c.len.ensures.valid id c.loop-i.i i items new node c.loop-i.invariant (omega arith) marked c.node-then-index.ensures long
     (subst (λ (xs : List Bool). MarksParts node xs new) c.deref_mut-then-index.ensures.value marks))
@@ -47,6 +47,6 @@ loop-i-preserved c =
     let i = c.loop-i.i - 1 in
     let items = c.loop-i.marks.items in
     let unmarked : slice_get items i ≡ Some false =
-        slice_get_read items (length items) i false (search rules) (omega (arith, c.loop-i.auto.i, c.loop-i.invariant.count))
-        (subst (λ (b : Bool). b ≡ get_or items i b) c.if-index.false c.index.ensures) in
+    slice_get_read items (length items) i false (search rules) (omega (arith, c.loop-i.auto.i, c.loop-i.invariant.count))
+    (subst (λ (b : Bool). b ≡ get_or items i b) c.if-index.false c.index.ensures) in
     reaching-unmarked c.args.terms.now c.len.ensures.valid c.args.id c.loop-i.i i items c.loop-i.invariant (omega arith) (λ marked. cc)
