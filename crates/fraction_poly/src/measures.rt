@@ -1,12 +1,13 @@
 //! How large a term's numerator and denominator may be.
 
-ghost use Rattle.std.specs.Prelude.{◌≡◌, ◌+◌, ◌*◌, ◌<◌, IfOk, List, Some, length, slice_get};
-ghost use Rattle.fraction_poly.specs.Measures.{capped, capped_number, numbers_of};
+ghost use Rattle.std.specs.Prelude.{◌≡◌, ◌+◌, ◌*◌, ◌<◌, ◌↔◌, IfOk, IsTrue, List, Some, length, slice_get};
+ghost use Rattle.fraction_poly.specs.Measures.{HasRoom, capped, capped_number, numbers_of};
 ghost use Rattle.fraction_poly.specs.Parts.{AreNumbersOf};
 ghost use Rattle.geo_terms.specs.Stores.{HasChildrenBelow, node_tree, tree_of};
 ghost use Rattle.geo_terms.specs.Trees.{Tree};
 
 use geo_points::{NoMemory, TermId};
+use geo_poly::{MAX, MAX_DEGREE};
 use geo_terms::{Node, Terms};
 use std::alloc::Global;
 
@@ -33,6 +34,16 @@ pub struct Numbers {
 impl Numbers {
     ghost use Rattle.fraction_poly.specs.Measures.{product_numbers, sum_numbers, turned_numbers, variable_numbers};
     ghost use Rattle.geo_terms.specs.Trees.{integer_leaf};
+
+    /// Whether a term with these numbers may be multiplied out: the weights and the degrees are within the bounds of a
+    /// polynomial.
+    pub fn has_room(&self) -> bool
+        ensures { (e : Tree) → self.now ≡ capped (numbers_of e) → (IsTrue result ↔ HasRoom e) }
+    {
+        let weight = self.wn.max(self.wd);
+        let degree = self.gn.max(self.gd);
+        weight <= MAX as u128 && degree <= MAX_DEGREE as u128
+    }
 
     /// Those of a whole number.
     fn of_integer(n: i128) -> Numbers
