@@ -36,6 +36,7 @@ pub(crate) fn area(alloc: Global, a: PointId, b: PointId, c: PointId) -> Result<
 fn opposite(alloc: Global, poly: &Poly) -> Result<Poly, NoMemory>
     ensures { IfOk result (λ p. p ≡ negated poly.now) }
 {
+    // From here on it is known that the polynomial is in order and within its bounds.
     prove!(poly.norm() >= 0);
     within_bounds(Poly::zero(alloc).sub(alloc, poly))
 }
@@ -52,11 +53,9 @@ pub(crate) fn sum(alloc: Global, left: &Fraction, right: &Fraction) -> Result<Fr
     requires { SumFits left.now right.now }
     ensures { IfOk result (λ f. f ≡ fraction_sum left.now right.now) }
 {
-    let front = times(alloc, &left.0, &right.1)?;
-    let back = times(alloc, &right.0, &left.1)?;
-    let numerator = plus(alloc, &front, &back)?;
-    let denominator = times(alloc, &left.1, &right.1)?;
-    Ok((numerator, denominator))
+    let (front, back) = crossed(alloc, left, right)?;
+    let numerator = within_bounds(front.add(alloc, &back))?;
+    Ok((numerator, times(alloc, &left.1, &right.1)?))
 }
 
 /// The difference.
@@ -68,11 +67,22 @@ pub(crate) fn difference(
     requires { SumFits left.now right.now }
     ensures { IfOk result (λ f. f ≡ fraction_difference left.now right.now) }
 {
+    let (front, back) = crossed(alloc, left, right)?;
+    let numerator = within_bounds(front.sub(alloc, &back))?;
+    Ok((numerator, times(alloc, &left.1, &right.1)?))
+}
+
+/// Each numerator times the denominator of the other.
+#[tactic(auto, using(crate::proofs::Rooms::norms_fit))]
+fn crossed(alloc: Global, left: &Fraction, right: &Fraction) -> Result<(Poly, Poly), NoMemory>
+    requires { SumFits left.now right.now }
+    ensures products { IfOk result
+        (λ p. p ≡ (product_of left.now.0 right.now.1, product_of right.now.0 left.now.1)) }
+    ensures fits { IfOk result (λ p. norm_of p.0 + norm_of p.1 < 2 ^ 127) }
+{
     let front = times(alloc, &left.0, &right.1)?;
     let back = times(alloc, &right.0, &left.1)?;
-    let numerator = minus(alloc, &front, &back)?;
-    let denominator = times(alloc, &left.1, &right.1)?;
-    Ok((numerator, denominator))
+    Ok((front, back))
 }
 
 /// The product.
@@ -86,8 +96,7 @@ pub(crate) fn product(
     ensures { IfOk result (λ f. f ≡ fraction_product left.now right.now) }
 {
     let numerator = times(alloc, &left.0, &right.0)?;
-    let denominator = times(alloc, &left.1, &right.1)?;
-    Ok((numerator, denominator))
+    Ok((numerator, times(alloc, &left.1, &right.1)?))
 }
 
 /// The first divided by the second.
@@ -101,8 +110,7 @@ pub(crate) fn quotient(
     ensures { IfOk result (λ f. f ≡ fraction_quotient left.now right.now) }
 {
     let numerator = times(alloc, &left.0, &right.1)?;
-    let denominator = times(alloc, &left.1, &right.0)?;
-    Ok((numerator, denominator))
+    Ok((numerator, times(alloc, &left.1, &right.0)?))
 }
 
 /// A product that fits.
@@ -111,22 +119,6 @@ fn times(alloc: Global, left: &Poly, right: &Poly) -> Result<Poly, NoMemory>
     ensures { IfOk result (λ p. p ≡ product_of left.now right.now) }
 {
     within_bounds(left.mul(alloc, right))
-}
-
-/// A sum that fits.
-fn plus(alloc: Global, left: &Poly, right: &Poly) -> Result<Poly, NoMemory>
-    requires { norm_of left.now + norm_of right.now < 2 ^ 127 }
-    ensures { IfOk result (λ p. p ≡ sum_of left.now right.now) }
-{
-    within_bounds(left.add(alloc, right))
-}
-
-/// A difference that fits.
-fn minus(alloc: Global, left: &Poly, right: &Poly) -> Result<Poly, NoMemory>
-    requires { norm_of left.now + norm_of right.now < 2 ^ 127 }
-    ensures { IfOk result (λ p. p ≡ difference_of left.now right.now) }
-{
-    within_bounds(left.sub(alloc, right))
 }
 
 /// The polynomial of a call that passes no bound.

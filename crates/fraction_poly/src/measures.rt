@@ -149,6 +149,7 @@ pub fn measure(alloc: Global, terms: &Terms, id: TermId) -> Result<Numbers, NoMe
     requires { id.0 < length terms.now }
     ensures { IfOk result (λ numbers. numbers ≡ capped (numbers_of (tree_of terms.now id))) }
 {
+    // From here on it is known that parts stand before their nodes.
     prove!(id.0 < terms.len());
     let mut parts = Vec::new(alloc);
     for i in 0..id.0 {

@@ -22,6 +22,7 @@ pub fn multiply_out(alloc: Global, terms: &Terms, id: TermId) -> Result<(Poly, P
     requires room { HasRoom (tree_of terms.now id) }
     ensures { IfOk result (λ polys. polys ≡ multiplied_out (tree_of terms.now id)) }
 {
+    // From here on it is known that parts stand before their nodes.
     prove!(id.0 < terms.len());
     let reached = reached(alloc, terms, id)?;
     let mut parts: Vec<Option<Fraction>> = Vec::new(alloc);

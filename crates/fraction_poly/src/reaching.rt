@@ -15,6 +15,7 @@ pub(crate) fn reached(alloc: Global, terms: &Terms, id: TermId) -> Result<Vec<bo
     requires fits { CanMultiplyOut (tree_of terms.now id) }
     ensures { IfOk result (λ marks. AreReached terms.now id marks.items) }
 {
+    // From here on it is known that parts stand before their nodes.
     prove!(id.0 < terms.len());
     let mut marks = vec![in alloc; false; id.0 as usize]?;
     mark_parts(&mut marks, terms.node(id));
