@@ -1,6 +1,6 @@
 -- What numerators and denominators are worth.
 use Rattle.std.specs.Prelude.{◌≤◌, length}
-use Rattle.fraction_poly.specs.Measures.{HasRoom, numbers_of}
+use Rattle.fraction_poly.specs.Measures.{numbers_of}
 use Rattle.fraction_poly.specs.MultipliedOut.{IsOfAreas, multiplied_out}
 use Rattle.geo_points.proofs.Fractions.{fractions}
 use Rattle.geo_points.specs.Fraction.{Fraction, IsNonzero, Same, times}

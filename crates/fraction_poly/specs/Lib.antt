@@ -1,3 +1,4 @@
 pub mod Measures
 pub mod MultipliedOut
 pub mod Laws
+pub mod Parts

@@ -1,6 +1,5 @@
 -- A term as a numerator over a denominator.
 use Rattle.std.specs.Prelude.{ℤ, pos, Some, None, [], ◌∷◌}
-use Rattle.geo_points.specs.Placements.{Placement}
 use Rattle.geo_poly.specs.declared.canonical.Canon.{Canon}
 use Rattle.geo_poly.specs.declared.variables.Var.{Var}
 use Rattle.geo_poly.specs.declared.variables.Var.TheVariants.{T}

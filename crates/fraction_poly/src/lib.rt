@@ -2,9 +2,11 @@
 //! and numbers that bound both are told before any product is made.
 #![tactic(auto)]
 
+mod fractions;
 pub mod laws;
 mod measures;
 mod multiplying;
+mod reaching;
 #[cfg(test)]
 mod tests;
 

@@ -1,0 +1,133 @@
+-- The norm, the number of monomials and the degree of sums, products, constants and variables.
+use Rattle.std.proofs.Common.{◌≡◌, ℕ, ◌+◌, ◌*◌, ◌≤◌, max, Bool, true, false, cond, eqb, ℤ, pos, neg_ℤ, ◌*ℤ◌, Some, None, [], ◌∷◌, ◌++◌, refl, ap, unsigned_abs, length, sum_by, arith}
+use Rattle.std.proofs.Math.Nat.{mul-le-mul}
+use Rattle.std.proofs.lemmas.Int.{unsigned_abs-mul}
+use Rattle.std.proofs.lemmas.List.{length-append, length-map}
+use Rattle.std.proofs.lemmas.List.Sums.{sum_by-cons}
+use Rattle.std.specs.Ordering.{nat_cmp}
+use Rattle.std.specs.declared.cmp.Ordering.{Ordering}
+use Rattle.std.specs.declared.cmp.Ordering.TheVariants.{Less, Equal, Greater}
+use Rattle.geo_points.specs.declared.ids.PointId.{PointId}
+use Rattle.sparse_lists.specs.SparseLists.{AllKeys}
+use Rattle.sparse_lists.proofs.Sums.{AllKeys-canonical, AllKeys-append, sum_by-canonical-le}
+use Rattle.geo_poly.specs.declared.variables.Var.{Var}
+use Rattle.geo_poly.specs.Canonical.{ordering_sign, pair_sign, permutation_sign, sorted_area, signed_variable, canonical_area}
+use Rattle.geo_poly.specs.Monomials.{Powers, degree_of, product}
+use Rattle.geo_poly.specs.Polynomials.{Terms, coefficients, term_cmp, norm_of, total_degree, polynomial_of, constant_of, sum_of, negated, difference_of, multiples, products, product_of}
+use Rattle.geo_poly.proofs.Negated.{norm_of-negated}
+use Rattle.geo_poly.proofs.Orders.{term_order}
+use Rattle.geo_poly.proofs.PolynomialLaws.{coefficients_add, norm_of-sum_of-le}
+use Rattle.geo_poly.proofs.ProductLaws.{norm_of-product_of-le}
+use Rattle.geo_poly.proofs.ReplaceBounds.{total_degree-product_of-le}
+use Rattle.fraction_poly.specs.MultipliedOut.{variable_polynomial, canon_polynomial}
+
+-- w, k and g bound the norm, the number of monomials and the degree
+pub record IsWithin (p : Terms) (w k g : ℕ) : Type 0 where
+  pub norm : norm_of p ≤ w
+  pub count : length p ≤ k
+  pub degree : total_degree p ≤ g
+
+-- NUMBERS OF MONOMIALS
+each_one : (p : Terms) → sum_by (λ t. 1) p ≡ length p
+each_one [] = refl
+each_one (t ∷ ts) = omega (arith, sum_by-cons (λ (t : Powers × ℤ). 1) t ts, each_one ts)
+
+length-polynomial_of-le : (p : Terms) → length (polynomial_of p) ≤ length p
+length-polynomial_of-le p =
+    omega (arith, sum_by-canonical-le term_cmp coefficients term_order coefficients_add (λ t. 1) (λ k a b. omega arith) p, each_one p, each_one (polynomial_of p))
+
+length-products : (p q : Terms) → length (products p q) ≡ length p * length q
+length-products [] q = omega arith
+length-products (t ∷ ts) q = omega (arith, length-append (multiples t q) (products ts q), length-map {B = Powers × ℤ} q (λ (u : Powers × ℤ). (product t.0 u.0, t.1 *ℤ u.1)), length-products ts q)
+
+length-sum_of-le : (p q : Terms) → length (sum_of p q) ≤ length p + length q
+length-sum_of-le p q = omega (arith, length-polynomial_of-le (p ++ q), length-append p q)
+
+length-product_of-le : (p q : Terms) → length (product_of p q) ≤ length p * length q
+length-product_of-le p q = omega (arith, length-polynomial_of-le (products p q), length-products p q)
+
+-- DEGREES
+-- the degree is at most d where that of each monomial is
+UpTo : ℕ → Powers → Type 0
+UpTo d m = degree_of m ≤ d
+
+up_to : (p : Terms) (d : ℕ) → total_degree p ≤ d → AllKeys (UpTo d) p
+unfolding UpTo
+up_to [] d h = tt
+up_to (t ∷ ts) d h = (omega arith, up_to ts d (omega arith))
+
+from_up_to : (p : Terms) (d : ℕ) → AllKeys (UpTo d) p → total_degree p ≤ d
+unfolding UpTo
+from_up_to [] d h = omega arith
+from_up_to (t ∷ ts) d h = omega (arith, h.0, from_up_to ts d h.1)
+
+total_degree-sum_of-le : (p q : Terms) → total_degree (sum_of p q) ≤ max (total_degree p) (total_degree q)
+total_degree-sum_of-le p q =
+    let d = max (total_degree p) (total_degree q) in
+    from_up_to (sum_of p q) d (AllKeys-canonical term_cmp coefficients (UpTo d) (p ++ q) (AllKeys-append (UpTo d) p q (up_to p d (omega arith)) (up_to q d (omega arith))))
+
+total_degree-negated : (p : Terms) → total_degree (negated p) ≡ total_degree p
+total_degree-negated [] = refl
+total_degree-negated (t ∷ ts) = ap (max (degree_of t.0)) (total_degree-negated ts)
+
+-- SUMS AND PRODUCTS
+pub IsWithin-negated : (p : Terms) (w k g : ℕ) → IsWithin p w k g → IsWithin (negated p) w k g
+IsWithin-negated p w k g h = record {
+  norm = omega (arith, norm_of-negated p, h.norm);
+  count = omega (arith, length-map {B = Powers × ℤ} p (λ (t : Powers × ℤ). (t.0, neg_ℤ t.1)), h.count);
+  degree = omega (arith, total_degree-negated p, h.degree);
+}
+
+pub IsWithin-sum : (p q : Terms) (w k g v j f : ℕ) → IsWithin p w k g → IsWithin q v j f → IsWithin (sum_of p q) (w + v) (k + j) (max g f)
+IsWithin-sum p q w k g v j f h i = record {
+  norm = omega (arith, norm_of-sum_of-le p q, h.norm, i.norm);
+  count = omega (arith, length-sum_of-le p q, h.count, i.count);
+  degree = omega (arith, total_degree-sum_of-le p q, h.degree, i.degree);
+}
+
+pub IsWithin-difference : (p q : Terms) (w k g v j f : ℕ) → IsWithin p w k g → IsWithin q v j f → IsWithin (difference_of p q) (w + v) (k + j) (max g f)
+IsWithin-difference p q w k g v j f h i = IsWithin-sum p (negated q) w k g v j f h (IsWithin-negated q v j f i)
+
+pub IsWithin-product : (p q : Terms) (w k g v j f : ℕ) → IsWithin p w k g → IsWithin q v j f → IsWithin (product_of p q) (w * v) (k * j) (g + f)
+IsWithin-product p q w k g v j f h i = record {
+  norm = omega (arith, norm_of-product_of-le p q, mul-le-mul h.norm i.norm);
+  count = omega (arith, length-product_of-le p q, mul-le-mul h.count i.count);
+  degree = omega (arith, total_degree-product_of-le p q, h.degree, i.degree);
+}
+
+-- CONSTANTS AND VARIABLES
+pub IsWithin-constant : (z : ℤ) → IsWithin (constant_of z) (max 1 (unsigned_abs z)) 1 0
+IsWithin-constant z = go (eqb (unsigned_abs z) 0)
+  where
+    go : (b : Bool) → IsWithin (cond b [] (([], z) ∷ [])) (max 1 (unsigned_abs z)) 1 0
+    go true = record { norm = omega arith; count = omega arith; degree = omega arith }
+    go false = record { norm = omega (arith, sum_by-cons (λ (t : Powers × ℤ). unsigned_abs t.1) ([], z) []); count = omega arith; degree = omega arith }
+
+pub IsWithin-variable : (sign : ℤ) (v : Var) → unsigned_abs sign ≤ 1 → IsWithin (variable_polynomial sign v) 1 1 1
+IsWithin-variable sign v h = record {
+  norm = omega (arith, sum_by-cons (λ (t : Powers × ℤ). unsigned_abs t.1) ((v, 1) ∷ [], sign) [], h);
+  count = omega arith;
+  degree = omega (arith, sum_by-cons (λ (p : Var × ℕ). p.1) (v, 1) []);
+}
+
+small_sign : (o : Ordering) → unsigned_abs (ordering_sign o) ≤ 1
+small_sign Less = omega arith
+small_sign Equal = omega arith
+small_sign Greater = omega arith
+
+small_product : (y z : ℤ) → unsigned_abs y ≤ 1 → unsigned_abs z ≤ 1 → unsigned_abs (y *ℤ z) ≤ 1
+small_product y z h g = omega (arith, unsigned_abs-mul y z, mul-le-mul h g)
+
+small_permutation : (a b c : PointId) → unsigned_abs (permutation_sign a b c) ≤ 1
+small_permutation a b c =
+    small_product (pair_sign a b *ℤ pair_sign b c) (pair_sign a c) (small_product (pair_sign a b) (pair_sign b c) (small_sign (nat_cmp a.0 b.0)) (small_sign (nat_cmp b.0 c.0))) (small_sign (nat_cmp a.0 c.0))
+
+pub IsWithin-area : (a b c : PointId) → IsWithin (canon_polynomial (canonical_area a b c)) 1 1 1
+IsWithin-area a b c = go (permutation_sign a b c) (sorted_area a b c) (small_permutation a b c)
+  where
+    go : (sign : ℤ) (v : Var) → unsigned_abs sign ≤ 1 → IsWithin (canon_polynomial (signed_variable sign v)) 1 1 1
+    go sign v h =
+        elim (eqb (unsigned_abs sign) 0) as (λ b. IsWithin (canon_polynomial (cond b (record { sign = pos 0; var = None }) (record { sign = sign; var = Some v }))) 1 1 1) [
+          | true ↦ record { norm = omega arith; count = omega arith; degree = omega arith }
+          | false ↦ IsWithin-variable sign v h
+        ]
