@@ -1,0 +1,4 @@
+point A
+point B
+pratio M A A B 1
+prove { collinear A M B }

@@ -1,0 +1,4 @@
+point A
+point B
+point C
+prove { collinear A B C }

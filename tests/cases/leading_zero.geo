@@ -1,0 +1,4 @@
+point A
+point B
+pratio M A A B div { 01 } { 2 }
+prove { collinear A M B }

@@ -1,0 +1,2 @@
+point A
+prove { collinear A A A }

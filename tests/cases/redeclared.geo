@@ -1,0 +1,3 @@
+point A
+point A
+prove { collinear A A A }

@@ -1,0 +1,3 @@
+point A
+point B
+prove { collinear A A B }

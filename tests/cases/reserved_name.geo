@@ -1,0 +1,3 @@
+point weights
+point B
+prove { collinear B B B }

@@ -1,0 +1,3 @@
+point A
+pratio M A A M div { 1 } { 2 }
+prove { collinear A M A }
