@@ -1,0 +1,5 @@
+pub mod Texts
+pub mod Forms
+pub mod Slots
+pub mod Refusals
+pub mod Laws
