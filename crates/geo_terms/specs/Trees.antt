@@ -1,5 +1,5 @@
 -- Terms as trees.
-use Rattle.std.specs.Prelude.{ℕ, ◌<◌, Bool, true, false, ℤ}
+use Rattle.std.specs.Prelude.{ℕ, ◌<◌, ℤ}
 use Rattle.geo_points.specs.declared.ids.PointId.{PointId}
 use Rattle.geo_points.specs.declared.ids.ParamId.{ParamId}
 

@@ -1,6 +1,6 @@
 //! How the points of a figure are made, one step a point.
 
-ghost use Rattle.std.specs.Prelude.{◌≡◌, ◌<◌, ◌+◌, ◌++◌, ◌∷◌, [], Contains, IfOk, OnOk, OnErr, Some, length, slice_get};
+ghost use Rattle.std.specs.Prelude.{◌≡◌, ◌<◌, ◌≤◌, ◌+◌, ◌++◌, ◌∷◌, [], Contains, IfOk, OnOk, OnErr, Some, length, slice_get};
 ghost use Rattle.geo_points.specs.declared.ids.TermId.{TermId};
 ghost use Rattle.geo_terms.specs.Constructions.{IsConstruction, IsStep};
 ghost use Rattle.geo_terms.specs.Stores.{HasChildrenBelow, HasShortInteger, node_tree, tree_of, trees_of};
@@ -102,6 +102,8 @@ impl Steps {
             → self.new.nodes ≡ self.old.nodes ++ node ∷ []) }
         ensures others { (id : TermId) → id.0 < length self.old.nodes
             → tree_of self.new.nodes id ≡ tree_of self.old.nodes id }
+        ensures longer { length self.old.nodes ≤ length self.new.nodes }
+        ensures one_more { length self.new.nodes ≤ length self.old.nodes + 1 }
         ensures err { OnErr result (self.new ≡ self.old) }
     {
         self.terms.intern(node)

@@ -1,6 +1,6 @@
 //! A store of terms, in which each stands once.
 
-ghost use Rattle.std.specs.Prelude.{◌≡◌, ◌<◌, ◌++◌, ◌∷◌, ◌↔◌, [], Contains, IfOk, OnOk, OnErr, IsTrue, Some, length, slice_get};
+ghost use Rattle.std.specs.Prelude.{◌≡◌, ◌<◌, ◌≤◌, ◌+◌, ◌++◌, ◌∷◌, ◌↔◌, [], Contains, IfOk, OnOk, OnErr, IsTrue, Some, length, slice_get};
 ghost use Rattle.geo_points.specs.declared.ids.TermId.{TermId};
 ghost use Rattle.geo_terms.specs.Stores.{HasChildrenBelow, HasShortInteger, IsStore, node_tree, tree_of, trees_of};
 
@@ -47,6 +47,9 @@ impl Terms {
         ensures known { Contains self.old node → self.new ≡ self.old }
         ensures added { OnOk result ((Contains self.old node → ⊥) → self.new ≡ self.old ++ node ∷ []) }
         ensures others { (id : TermId) → id.0 < length self.old → tree_of self.new id ≡ tree_of self.old id }
+        ensures longer { length self.old ≤ length self.new }
+        ensures one_more { length self.new ≤ length self.old + 1 }
+        ensures valid { IsStore self.new }
         ensures err { OnErr result (self.new ≡ self.old) }
     {
         let (index, _) = self.nodes.insert_full(node)?;
