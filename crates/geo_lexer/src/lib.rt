@@ -1,7 +1,9 @@
 //! The tokens of the construction language: words, numbers and braces, with their places.
 #![tactic(auto)]
 
+mod gaps;
 mod lexing;
+mod places;
 #[cfg(test)]
 mod tests;
 mod token_types;
