@@ -2,9 +2,21 @@
 //! place, and why.
 #![tactic(auto)]
 
+mod command_words;
+mod commands;
+mod cursor;
+mod errors;
+mod expression_words;
+mod expressions;
 pub mod laws;
 mod parsing;
+mod reader;
+mod scope;
+mod statement;
+mod statement_words;
+mod tables;
 #[cfg(test)]
 mod tests;
 
-pub use parsing::{ParseError, parse};
+pub use errors::ParseError;
+pub use parsing::parse;

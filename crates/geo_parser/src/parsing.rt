@@ -6,25 +6,12 @@ ghost use Rattle.geo_parser.specs.Refusals.{IsRefused};
 ghost use Rattle.geo_program.specs.Programs.{Spells, program_text};
 ghost use Rattle.geo_program.specs.declared.program_type.Program.{Program};
 
-use geo_lexer::Fault;
-use geo_points::NoMemory;
+use crate::cursor::Cursor;
+use crate::errors::ParseError;
+use crate::reader::Reader;
+use geo_lexer::tokens;
 use geo_program::Program;
 use std::alloc::Global;
-
-/// Why there is no program.
-#[derive(Clone, Copy, Debug, PartialEq, Eq)]
-pub enum ParseError {
-    /// The text spells no program. The fault is its first token that may not stand at its place, with the number of the
-    /// refusal: 1 a byte that begins no token; 2 a number past `2^127 - 1`; 3 a word longer than 64 bytes; 4 another
-    /// token than may stand there, or the end of the text inside a command or the statement; 5 a word that is neither
-    /// reserved nor declared, where a declared name is due; 6 a declared word where a new name is due; 7 a name of
-    /// another kind; 8 a ratio in a step's number or in a divisor; 9 a brace that opens the 129th level inside an
-    /// expression; 10 the new name of a command with which points, those of constructions counted, pass 512; 11 the end
-    /// of the text where a command or `prove` is due; 12 a token after the statement.
-    Syntax(Fault),
-    /// Memory ran out.
-    NoMemory,
-}
 
 /// The program that the bytes spell. `Syntax` comes exactly where they spell none.
 pub fn parse(alloc: Global, bytes: &[u8]) -> Result<Program, ParseError>
@@ -35,5 +22,16 @@ pub fn parse(alloc: Global, bytes: &[u8]) -> Result<Program, ParseError>
     ensures spells_none { (f : Fault) → result ≡ Err (ParseError.Syntax f)
         → (p : Program) → Spells bytes.now p → ⊥ }
 {
-    Err(ParseError::NoMemory)
+    let lexed = tokens(alloc, bytes)?;
+    let cursor = Cursor::new(bytes, &lexed.tokens.items, lexed.fault);
+    let mut reader = Reader::new(alloc, cursor)?;
+    let commands = reader.commands(alloc)?;
+    let statement = reader.statement()?;
+    let Reader { scope, terms, .. } = reader;
+    Ok(Program {
+        names: scope.into_names(),
+        terms,
+        commands,
+        statement,
+    })
 }
