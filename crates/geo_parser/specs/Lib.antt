@@ -3,3 +3,7 @@ pub mod Forms
 pub mod Slots
 pub mod Refusals
 pub mod Laws
+pub mod Coming
+pub mod Pieces
+pub mod CommandWords
+pub mod StatementWords

@@ -1,5 +1,12 @@
 //! The words that begin a command, by what stands behind the new name.
 
+ghost use Rattle.std.specs.Prelude.{◌≡◌, ◌<◌, ◌∷◌, [], IfSome, length, option_map};
+ghost use Rattle.geo_parser.specs.CommandWords.{command_due, command_kind, command_points, command_text, direction_points, direction_text, pair_kind, pair_points, pair_text, step_text, triple_points, triple_text};
+ghost use Rattle.geo_parser.specs.Forms.{commands, due_behind};
+ghost use Rattle.geo_program.specs.Forms.{IsStored, command_form, form, line_argument, number_argument, point_argument};
+ghost use Rattle.geo_program.specs.declared.names.NameKind.TheVariants as kind;
+ghost use Rattle.geo_terms.specs.Stores.{Store, tree_of};
+
 use crate::tables::find;
 use geo_points::{PointId, TermId};
 use geo_program::{Command, LineId, NameKind};
@@ -114,12 +121,17 @@ const COMMANDS: [(&[u8], CommandWord); 24] = [
 
 impl CommandWord {
     /// The command that the word begins.
-    pub fn of(word: &[u8]) -> Option<CommandWord> {
+    pub fn of(word: &[u8]) -> Option<CommandWord>
+        ensures due { option_map command_due result ≡ due_behind word.now commands }
+        ensures text { IfSome result (λ w. command_text w ≡ word.now) }
+    {
         find(&COMMANDS, word)
     }
 
     /// What the new name names.
-    pub fn kind(self) -> NameKind {
+    pub fn kind(self) -> NameKind
+        ensures { result ≡ command_kind self }
+    {
         match self {
             CommandWord::Param => NameKind::Param,
             CommandWord::Pair(PairWord::Line | PairWord::Med) | CommandWord::Direction(_) => {
@@ -130,7 +142,9 @@ impl CommandWord {
     }
 
     /// How many points the construction makes.
-    pub fn points(self) -> u32 {
+    pub fn points(self) -> u32
+        ensures { result ≡ command_points self }
+    {
         match self {
             CommandWord::Param => 0,
             CommandWord::Pair(word) => word.points(),
@@ -142,7 +156,9 @@ impl CommandWord {
 }
 
 impl PairWord {
-    fn points(self) -> u32 {
+    fn points(self) -> u32
+        ensures { result ≡ pair_points self }
+    {
         match self {
             PairWord::Line => 0,
             PairWord::Med => 2,
@@ -152,7 +168,11 @@ impl PairWord {
     }
 
     /// The command on these points.
-    pub fn on(self, a: PointId, b: PointId) -> Command {
+    pub fn on(self, a: PointId, b: PointId) -> Command
+        ensures form { (nodes : Store) → command_form nodes result
+            ≡ form (pair_text self) (pair_kind self) (pair_points self) (point_argument a ∷ point_argument b ∷ []) }
+        ensures stored { (nodes : Store) → IsStored nodes result }
+    {
         match self {
             PairWord::Line => Command::Line { a, b },
             PairWord::Med => Command::Med { a, b },
@@ -165,7 +185,9 @@ impl PairWord {
 }
 
 impl TripleWord {
-    fn points(self) -> u32 {
+    fn points(self) -> u32
+        ensures { result ≡ triple_points self }
+    {
         match self {
             TripleWord::Foot | TripleWord::Translate | TripleWord::Inverse => 1,
             TripleWord::Reflect | TripleWord::Centroid | TripleWord::Second | TripleWord::Cc => 2,
@@ -175,7 +197,12 @@ impl TripleWord {
     }
 
     /// The command on these points.
-    pub fn on(self, a: PointId, b: PointId, c: PointId) -> Command {
+    pub fn on(self, a: PointId, b: PointId, c: PointId) -> Command
+        ensures form { (nodes : Store) → command_form nodes result
+            ≡ form (triple_text self) kind.Point (triple_points self)
+            (point_argument a ∷ point_argument b ∷ point_argument c ∷ []) }
+        ensures stored { (nodes : Store) → IsStored nodes result }
+    {
         match self {
             TripleWord::Foot => Command::Foot { p: a, a: b, b: c },
             TripleWord::Translate => Command::Translate { a, b, c },
@@ -192,7 +219,11 @@ impl TripleWord {
 
 impl DirectionWord {
     /// The command on this point and this line.
-    pub fn on(self, p: PointId, b: LineId) -> Command {
+    pub fn on(self, p: PointId, b: LineId) -> Command
+        ensures form { (nodes : Store) → command_form nodes result
+            ≡ form (direction_text self) kind.Line (direction_points self) (point_argument p ∷ line_argument b ∷ []) }
+        ensures stored { (nodes : Store) → IsStored nodes result }
+    {
         match self {
             DirectionWord::Parallel => Command::Parallel { p, b },
             DirectionWord::Perp => Command::Perp { p, b },
@@ -202,7 +233,12 @@ impl DirectionWord {
 
 impl StepWord {
     /// The command on these points and this number.
-    pub fn on(self, a: PointId, b: PointId, r: TermId) -> Command {
+    pub fn on(self, a: PointId, b: PointId, r: TermId) -> Command
+        ensures form { (nodes : Store) → command_form nodes result
+            ≡ form (step_text self) kind.Point 1
+            (point_argument a ∷ point_argument b ∷ number_argument (tree_of nodes r) ∷ []) }
+        ensures stored { (nodes : Store) → r.0 < length nodes → IsStored nodes result }
+    {
         match self {
             StepWord::Tratio => Command::Tratio { u: a, v: b, r },
             StepWord::Lratio => Command::Lratio { a, b, r },

@@ -1,5 +1,8 @@
 //! Why there is no program.
 
+ghost use Rattle.std.specs.Prelude.{◌≡◌};
+ghost use Rattle.geo_parser.specs.Pieces.{refusal_number};
+
 use geo_lexer::Fault;
 use std::alloc::{AllocError, AllocFailed};
 
@@ -87,7 +90,9 @@ pub enum Refusal {
 
 impl Refusal {
     /// Its number.
-    pub fn number(self) -> u32 {
+    pub fn number(self) -> u32
+        ensures { result ≡ refusal_number self }
+    {
         match self {
             Refusal::Expected => 4,
             Refusal::UnknownName => 5,

@@ -1,5 +1,10 @@
 //! The words that begin an expression, and the words that no name may be.
 
+ghost use Rattle.std.specs.Prelude.{◌≡◌, Bool, ℕ, IfSome, option_map};
+ghost use Rattle.geo_parser.specs.Forms.{due_behind, expressions};
+ghost use Rattle.geo_parser.specs.Slots as slots;
+ghost use Rattle.geo_parser.specs.StatementWords.{expression_due, expression_text};
+
 use crate::command_words::CommandWord;
 use crate::statement_words::StatementWord;
 use crate::tables::find;
@@ -41,13 +46,19 @@ const OTHERS: [(&[u8], ()); 3] = [(b"prove", ()), (b"assume", ()), (b"weights", 
 
 impl ExpressionWord {
     /// The expression that the word begins.
-    pub fn of(word: &[u8]) -> Option<ExpressionWord> {
+    pub fn of(word: &[u8]) -> Option<ExpressionWord>
+        ensures due { (level : ℕ) (ratios : Bool)
+            → option_map (expression_due level ratios) result ≡ due_behind word.now (expressions level ratios) }
+        ensures text { IfSome result (λ w. expression_text w ≡ word.now) }
+    {
         find(&EXPRESSIONS, word)
     }
 }
 
 /// Whether the word is reserved.
-pub fn is_reserved(word: &[u8]) -> bool {
+pub fn is_reserved(word: &[u8]) -> bool
+    ensures { result ≡ slots.is_reserved word.now }
+{
     CommandWord::of(word).is_some()
         || StatementWord::of(word).is_some()
         || ExpressionWord::of(word).is_some()

@@ -1,5 +1,11 @@
 //! The words that begin a statement, by what stands behind them.
 
+ghost use Rattle.std.specs.Prelude.{◌≡◌, ◌∷◌, [], IfSome, option_map};
+ghost use Rattle.geo_parser.specs.Forms.{due_behind, statements};
+ghost use Rattle.geo_parser.specs.StatementWords.{quadruple_text, statement_due, statement_text, triple_text};
+ghost use Rattle.geo_program.specs.Forms.{AreSidesStored, on_points, statement_form};
+ghost use Rattle.geo_terms.specs.Stores.{Store};
+
 use crate::tables::find;
 use geo_points::PointId;
 use geo_program::Statement;
@@ -55,14 +61,21 @@ const STATEMENTS: [(&[u8], StatementWord); 9] = [
 
 impl StatementWord {
     /// The statement that the word begins.
-    pub fn of(word: &[u8]) -> Option<StatementWord> {
+    pub fn of(word: &[u8]) -> Option<StatementWord>
+        ensures due { option_map statement_due result ≡ due_behind word.now statements }
+        ensures text { IfSome result (λ w. statement_text w ≡ word.now) }
+    {
         find(&STATEMENTS, word)
     }
 }
 
 impl TripleStatement {
     /// The statement on these points.
-    pub fn on(self, a: PointId, b: PointId, c: PointId) -> Statement {
+    pub fn on(self, a: PointId, b: PointId, c: PointId) -> Statement
+        ensures form { (nodes : Store) → statement_form nodes result
+            ≡ on_points (triple_text self) (a ∷ b ∷ c ∷ []) }
+        ensures stored { (nodes : Store) → AreSidesStored nodes result }
+    {
         match self {
             TripleStatement::Collinear => Statement::Collinear { a, b, c },
             TripleStatement::Midpoint => Statement::Midpoint { m: a, a: b, b: c },
@@ -72,7 +85,11 @@ impl TripleStatement {
 
 impl QuadrupleStatement {
     /// The statement on these points.
-    pub fn on(self, a: PointId, b: PointId, c: PointId, d: PointId) -> Statement {
+    pub fn on(self, a: PointId, b: PointId, c: PointId, d: PointId) -> Statement
+        ensures form { (nodes : Store) → statement_form nodes result
+            ≡ on_points (quadruple_text self) (a ∷ b ∷ c ∷ d ∷ []) }
+        ensures stored { (nodes : Store) → AreSidesStored nodes result }
+    {
         match self {
             QuadrupleStatement::Parallel => Statement::Parallel { a, b, c, d },
             QuadrupleStatement::Perpendicular => Statement::Perpendicular { a, b, c, d },
