@@ -7,3 +7,4 @@ pub mod Coming
 pub mod Pieces
 pub mod CommandWords
 pub mod StatementWords
+pub mod Dictionaries

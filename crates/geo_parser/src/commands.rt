@@ -40,7 +40,7 @@ impl<'a> Reader<'a> {
     fn command(&mut self, alloc: Global, word: CommandWord) -> Result<Command, ParseError> {
         let name = self.new_name(word.points())?;
         let command = self.arguments(word)?;
-        self.scope.declare(alloc, name, word.kind())?;
+        self.names.declare(alloc, name, word.kind())?;
         Ok(command)
     }
 
@@ -49,7 +49,7 @@ impl<'a> Reader<'a> {
         let Some(Piece::Word(word)) = self.cursor.peek() else {
             return Err(self.refuse(Refusal::Expected));
         };
-        if let Err(refusal) = self.scope.check_new(word) {
+        if let Err(refusal) = self.names.check_new(word) {
             return Err(self.refuse(refusal));
         }
         if self.points + points > MOST_POINTS {

@@ -11,7 +11,7 @@ mod expressions;
 pub mod laws;
 mod parsing;
 mod reader;
-mod scope;
+mod dictionary;
 mod statement;
 mod statement_words;
 mod tables;

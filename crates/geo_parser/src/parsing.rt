@@ -27,9 +27,9 @@ pub fn parse(alloc: Global, bytes: &[u8]) -> Result<Program, ParseError>
     let mut reader = Reader::new(alloc, cursor)?;
     let commands = reader.commands(alloc)?;
     let statement = reader.statement()?;
-    let Reader { scope, terms, .. } = reader;
+    let Reader { names, terms, .. } = reader;
     Ok(Program {
-        names: scope.into_names(),
+        names: names.into_names(),
         terms,
         commands,
         statement,

@@ -2,7 +2,7 @@
 
 use crate::cursor::{Cursor, Piece};
 use crate::errors::{ParseError, Refusal};
-use crate::scope::Scope;
+use crate::dictionary::Dictionary;
 use geo_points::PointId;
 use geo_program::{LineId, NameKind};
 use geo_terms::Terms;
@@ -17,7 +17,7 @@ pub struct Reader<'a> {
     /// The tokens to come.
     pub cursor: Cursor<'a>,
     /// The names that are declared.
-    pub scope: Scope<'a>,
+    pub names: Dictionary<'a>,
     /// The terms.
     pub terms: Terms,
     /// How many points the commands make, those of constructions counted.
@@ -29,7 +29,7 @@ impl<'a> Reader<'a> {
     pub fn new(alloc: Global, cursor: Cursor<'a>) -> Result<Reader<'a>, ParseError> {
         Ok(Reader {
             cursor,
-            scope: Scope::new(alloc),
+            names: Dictionary::new(alloc),
             terms: Terms::new(alloc)?,
             points: 0,
         })
@@ -53,7 +53,7 @@ impl<'a> Reader<'a> {
     /// The number of a declared name of this kind.
     pub fn name(&mut self, kind: NameKind) -> Result<u32, ParseError> {
         let number = match self.cursor.peek() {
-            Some(Piece::Word(word)) => self.scope.number(kind, word),
+            Some(Piece::Word(word)) => self.names.number(kind, word),
             _ => Err(Refusal::Expected),
         };
         match number {
