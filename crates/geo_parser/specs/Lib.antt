@@ -8,3 +8,4 @@ pub mod Pieces
 pub mod CommandWords
 pub mod StatementWords
 pub mod Dictionaries
+pub mod Reads
