@@ -3,6 +3,7 @@
 
 mod commands;
 pub mod laws;
+mod name_table;
 mod names;
 mod printing;
 mod program_type;

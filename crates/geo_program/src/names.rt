@@ -1,5 +1,7 @@
 //! The names that a program declares.
 
+ghost use Rattle.std.specs.Prelude.{◌≡◌};
+
 use geo_base::Text;
 use std::marker::Model;
 
@@ -21,6 +23,15 @@ pub struct Name {
     pub text: Text,
     /// What it names.
     pub kind: NameKind,
+}
+
+impl Name {
+    /// Its bytes.
+    pub fn bytes(&self) -> &[u8]
+        ensures { result.now ≡ self.now.text }
+    {
+        self.text.bytes.as_slice()
+    }
 }
 
 /// Names, in order of declaration. Points, parameters and lines are each counted from 0. Contracts see the list.
