@@ -1,10 +1,12 @@
 //! Programs of the construction language, and their canonical text.
 #![tactic(auto)]
 
+mod arguments;
 mod commands;
 pub mod laws;
 mod name_table;
 mod names;
+mod printer;
 mod printing;
 mod program_type;
 mod statements;

@@ -1,7 +1,8 @@
 //! The names of a program by kind and number.
 
-ghost use Rattle.std.specs.Prelude.{◌≡◌, ◌<◌, length, map, IfOk};
+ghost use Rattle.std.specs.Prelude.{◌≡◌, ◌<◌, map, IfOk};
 ghost use Rattle.geo_program.specs.Names.{name_text, names_of};
+ghost use Rattle.geo_program.specs.Printing.{declared};
 ghost use Rattle.geo_program.specs.declared.names.NameKind.TheVariants as kind;
 
 use crate::commands::LineId;
@@ -51,7 +52,7 @@ impl<'a> NameTable<'a> {
 
     /// The name of a point.
     pub fn point(&self, a: PointId) -> &[u8]
-        requires { a.0 < length (names_of kind.Point self.now) }
+        requires { a.0 < (declared self.now).points }
         ensures { result.now ≡ name_text kind.Point self.now a.0 }
     {
         self.points[a.0 as usize]
@@ -59,7 +60,7 @@ impl<'a> NameTable<'a> {
 
     /// The name of a parameter.
     pub fn param(&self, t: ParamId) -> &[u8]
-        requires { t.0 < length (names_of kind.Param self.now) }
+        requires { t.0 < (declared self.now).params }
         ensures { result.now ≡ name_text kind.Param self.now t.0 }
     {
         self.params[t.0 as usize]
@@ -67,7 +68,7 @@ impl<'a> NameTable<'a> {
 
     /// The name of a line.
     pub fn line(&self, a: LineId) -> &[u8]
-        requires { a.0 < length (names_of kind.Line self.now) }
+        requires { a.0 < (declared self.now).lines }
         ensures { result.now ≡ name_text kind.Line self.now a.0 }
     {
         self.lines[a.0 as usize]
