@@ -46,3 +46,7 @@ appends_none a = record { is = sym (append-nil a) }
 
 pub appends_lexeme : (a b : List ℕ) (lexeme : Lexeme) → b ≡ a ++ 32 ∷ lexeme_text lexeme → Appends a b (lexeme ∷ [])
 appends_lexeme a b lexeme h = record { is = h ∙ ap (λ t. a ++ t) (sym (spaced_one lexeme)) }
+
+-- the same lexemes, written otherwise
+pub appends_same : {a b : List ℕ} {xs : List Lexeme} (ys : List Lexeme) → Appends a b xs → xs ≡ ys → Appends a b ys
+appends_same {a} {b} {xs} ys h e = record { is = h.is ∙ ap (λ l. a ++ spaced l) e }
