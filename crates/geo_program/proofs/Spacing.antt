@@ -1,9 +1,9 @@
 -- Lexemes with spaces before them, one after another.
-use Rattle.std.proofs.Common.{◌≡◌, ℕ, List, [], ◌∷◌, ◌++◌, map, refl, sym, ap, ◌∙◌, append_assoc}
+use Rattle.std.proofs.Common.{◌≡◌, ℕ, ◌+◌, ◌<◌, List, [], ◌∷◌, ◌++◌, map, length, take, get_or, refl, sym, ap, ◌∙◌, append_assoc}
 use Rattle.std.specs.Prelude.{ℤ, codes}
 use Rattle.std.specs.Fmt.{signed_decimal}
 use Rattle.std.specs.List.{flat_map, join_with_byte}
-use Rattle.std.proofs.lemmas.List.{append-nil}
+use Rattle.std.proofs.lemmas.List.{append-nil, map_more}
 use Rattle.std.proofs.lemmas.List.Concat.{flat_map-append}
 use Rattle.geo_lexer.specs.Lexemes.{Lexeme, word_lexeme, number_lexeme, open_brace, close_brace}
 use Rattle.geo_program.specs.CanonicalText.{lexeme_text, line_text}
@@ -50,3 +50,18 @@ appends_lexeme a b lexeme h = record { is = h ∙ ap (λ t. a ++ t) (sym (spaced
 -- the same lexemes, written otherwise
 pub appends_same : {a b : List ℕ} {xs : List Lexeme} (ys : List Lexeme) → Appends a b xs → xs ≡ ys → Appends a b ys
 appends_same {a} {b} {xs} ys h e = record { is = h.is ∙ ap (λ l. a ++ spaced l) e }
+
+-- a line's first lexeme, and then the others
+pub begins_line : (a b c : List ℕ) (lexeme : Lexeme) (lexemes : List Lexeme) → b ≡ a ++ lexeme_text lexeme → Appends b c lexemes → c ≡ a ++ line_text (lexeme ∷ lexemes)
+begins_line a b c lexeme lexemes first rest =
+    rest.is
+    ∙ ap (λ t. t ++ spaced lexemes) first
+    ∙ append_assoc a (lexeme_text lexeme) (spaced lexemes)
+    ∙ ap (λ t. a ++ t) (sym (line_text-spaced lexeme lexemes))
+
+-- one more piece of what pieces make
+pub flat_map-map_more : {X Y Z : Type 0} (f : Y → List Z) (g : X → Y) (xs : List X) (i : ℕ) (d : X) → i < length xs → flat_map f (map g (take (i + 1) xs)) ≡ flat_map f (map g (take i xs)) ++ f (g (get_or xs i d))
+flat_map-map_more f g xs i d within =
+    ap (flat_map f) (map_more g xs i d within)
+    ∙ flat_map-append f (map g (take i xs)) (g (get_or xs i d) ∷ [])
+    ∙ ap (λ l. flat_map f (map g (take i xs)) ++ l) (append-nil (f (g (get_or xs i d))))
