@@ -30,12 +30,14 @@ pub length-lines : (lines : List (List Lexeme)) → AllByRecursion IsFilled line
 length-lines [] h = refl
 length-lines ([] ∷ lines) h = absurd h.0
 length-lines ((lexeme ∷ lexemes) ∷ lines) h =
-    omega (arith,
-        length-lines lines h.1,
-        length-line_text lexeme lexemes,
-        length-append (line_text (lexeme ∷ lexemes) ++ 10 ∷ []) (flat_map (λ line. line_text line ++ 10 ∷ []) lines),
-        length-append (line_text (lexeme ∷ lexemes)) (10 ∷ []),
-        sum_by-append lexeme_size (lexeme ∷ lexemes) (flat_map (λ (line : List Lexeme). line) lines))
+    omega (
+      arith,
+      length-lines lines h.1,
+      length-line_text lexeme lexemes,
+      length-append (line_text (lexeme ∷ lexemes) ++ 10 ∷ []) (flat_map (λ line. line_text line ++ 10 ∷ []) lines),
+      length-append (line_text (lexeme ∷ lexemes)) (10 ∷ []),
+      sum_by-append lexeme_size (lexeme ∷ lexemes) (flat_map (λ (line : List Lexeme). line) lines),
+    )
 
 -- commands, and one more line
 lines_filled : (all : List Name) (nodes : Store) (names : List Name) (commands : List Command) (sketches : List Sketch) (last : List Lexeme) → IsFilled last → AllByRecursion IsFilled (commands_lexemes all nodes names commands sketches ++ last ∷ [])
@@ -63,12 +65,14 @@ sketches_lengthen all nodes (name ∷ names) [] sketches last h = omega arith
 sketches_lengthen all nodes (name ∷ names) (command ∷ commands) [] last h = absurd (omega arith)
 sketches_lengthen all nodes (name ∷ names) (command ∷ commands) (sketch ∷ sketches) last h =
     let own = command_lexemes all nodes name command in
-    omega (arith,
-        sketches_lengthen all nodes names commands sketches last (omega arith),
-        lines_size-cons (own ++ []) (commands_lexemes all nodes names commands (no_sketches commands) ++ last ∷ []),
-        lines_size-cons (own ++ sketch_lexemes sketch) (commands_lexemes all nodes names commands sketches ++ last ∷ []),
-        sum_by-append lexeme_size own [],
-        sum_by-append lexeme_size own (sketch_lexemes sketch))
+    omega (
+      arith,
+      sketches_lengthen all nodes names commands sketches last (omega arith),
+      lines_size-cons (own ++ []) (commands_lexemes all nodes names commands (no_sketches commands) ++ last ∷ []),
+      lines_size-cons (own ++ sketch_lexemes sketch) (commands_lexemes all nodes names commands sketches ++ last ∷ []),
+      sum_by-append lexeme_size own [],
+      sum_by-append lexeme_size own (sketch_lexemes sketch),
+    )
 
 -- the canonical text is not longer than the lexemes of any text of the program, with a byte after each
 pub canonical_text_short : (p : Source) (sketches : List Sketch) → length p.commands ≡ length sketches → length (canonical_text p) ≤ sum_by lexeme_size (flat_map (λ line. line) (line_lexemes sketches p))

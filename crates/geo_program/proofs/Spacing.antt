@@ -1,13 +1,18 @@
 -- Lexemes with spaces before them, one after another.
-use Rattle.std.proofs.Common.{◌≡◌, ℕ, ◌+◌, ◌<◌, List, [], ◌∷◌, ◌++◌, map, length, take, get_or, refl, sym, ap, ◌∙◌, append_assoc}
+use Rattle.std.proofs.Common.{◌≡◌, ℕ, List, [], ◌∷◌, ◌++◌, map, refl, sym, ap, ◌∙◌, append_assoc}
 use Rattle.std.specs.Prelude.{ℤ, codes}
 use Rattle.std.specs.Fmt.{signed_decimal}
 use Rattle.std.specs.List.{flat_map, join_with_byte}
-use Rattle.std.proofs.lemmas.List.{append-nil, map_more}
+use Rattle.std.proofs.lemmas.List.{append-nil}
 use Rattle.std.proofs.lemmas.List.Concat.{flat_map-append}
 use Rattle.geo_lexer.specs.Lexemes.{Lexeme, word_lexeme, number_lexeme, open_brace, close_brace}
-use Rattle.geo_program.specs.CanonicalText.{lexeme_text, line_text}
+use Rattle.geo_points.specs.declared.ids.PointId.{PointId}
+use Rattle.geo_program.specs.declared.names.Name.{Name}
+use Rattle.geo_program.specs.CanonicalText.{argument_lexemes, lexeme_text, line_text}
+use Rattle.geo_program.specs.Expressions.{expression_lexemes, point_lexeme}
+use Rattle.geo_program.specs.Forms.{number_argument, point_argument}
 use Rattle.geo_program.specs.Printing.{spaced}
+use Rattle.geo_terms.specs.Trees.{Tree}
 
 pub spaced-append : (xs ys : List Lexeme) → spaced (xs ++ ys) ≡ spaced xs ++ spaced ys
 unfolding spaced
@@ -59,9 +64,11 @@ begins_line a b c lexeme lexemes first rest =
     ∙ append_assoc a (lexeme_text lexeme) (spaced lexemes)
     ∙ ap (λ t. a ++ t) (sym (line_text-spaced lexeme lexemes))
 
--- one more piece of what pieces make
-pub flat_map-map_more : {X Y Z : Type 0} (f : Y → List Z) (g : X → Y) (xs : List X) (i : ℕ) (d : X) → i < length xs → flat_map f (map g (take (i + 1) xs)) ≡ flat_map f (map g (take i xs)) ++ f (g (get_or xs i d))
-flat_map-map_more f g xs i d within =
-    ap (flat_map f) (map_more g xs i d within)
-    ∙ flat_map-append f (map g (take i xs)) (g (get_or xs i d) ∷ [])
-    ∙ ap (λ l. flat_map f (map g (take i xs)) ++ l) (append-nil (f (g (get_or xs i d))))
+-- a token that is this text
+pub appends_token : (a b token text : List ℕ) → b ≡ a ++ 32 ∷ token → token ≡ text → Appends a b (word_lexeme text ∷ [])
+appends_token a b token text h is = appends_lexeme a b (word_lexeme text) (h ∙ ap (λ t. a ++ 32 ∷ t) is)
+
+-- points and the number of a step, as arguments
+pub flat_map-points : (names : List Name) (points : List PointId) (e : Tree) → map (point_lexeme names) points ++ expression_lexemes names e ≡ flat_map (argument_lexemes names) (map point_argument points ++ number_argument e ∷ [])
+flat_map-points names [] e = sym (append-nil (expression_lexemes names e))
+flat_map-points names (a ∷ points) e = ap (λ l. point_lexeme names a ∷ l) (flat_map-points names points e)

@@ -6,7 +6,9 @@ use Rattle.std.proofs.lemmas.Int.{fits_signed_from_abs, to_z-of_z}
 use Rattle.geo_points.specs.declared.ids.TermId.{TermId}
 use Rattle.geo_program.specs.declared.names.Name.{Name}
 use Rattle.geo_program.specs.Expressions.{IsExpression, nesting}
+use Rattle.geo_program.specs.Forms.{number_argument}
 use Rattle.geo_program.specs.Printing.{IsPrintableTerm, declared}
+use Rattle.geo_program.specs.WellFormed.{IsArgument}
 use Rattle.geo_program.proofs.ScopeLemmas.{IsExpression-ratios}
 use Rattle.geo_terms.specs.declared.nodes.Node.{Node}
 use Rattle.geo_terms.specs.declared.nodes.Node.TheVariants.{Int, Neg, Add, Sub, Mul, Div}
@@ -78,3 +80,12 @@ module _ (names : List Name) (nodes : Store) (e : TermId) (h : IsPrintableTerm n
 -- an integer of a store is what it is as the code keeps it
 pub integer_kept : (nodes : Store) (k : ℕ) (n : ℤ) → IsStore nodes → slice_get nodes k ≡ Some (Int n) → to_z w128 (of_z w128 n) ≡ n
 integer_kept nodes k n h at = to_z-of_z w128 n (fits_signed_from_abs w128 n (omega (arith, h.integers k (Int n) at)))
+
+-- the number of a step is printable
+pub number_printable : (names : List Name) (nodes : Store) (r : TermId) → IsStore nodes → r.0 < length nodes → IsArgument (declared names) (number_argument (tree_of nodes r)) → IsPrintableTerm names nodes r
+number_printable names nodes r store stored h = record {
+  store = store;
+  stored = stored;
+  expression = IsExpression-ratios (declared names).points (declared names).params true (tree_of nodes r) h.0;
+  shallow = h.1;
+}

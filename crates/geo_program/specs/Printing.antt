@@ -4,13 +4,10 @@ use Rattle.std.specs.Borrow.{Bor}
 use Rattle.std.specs.List.{flat_map}
 use Rattle.geo_lexer.specs.Lexemes.{Lexeme}
 use Rattle.geo_points.specs.declared.ids.TermId.{TermId}
-use Rattle.geo_program.specs.declared.arguments.Argument.{Argument}
-use Rattle.geo_program.specs.declared.arguments.Argument.TheVariants.{Point, Line, Number, Side}
 use Rattle.geo_program.specs.declared.names.Name.{Name}
 use Rattle.geo_program.specs.declared.names.NameKind.TheVariants as kind
 use Rattle.geo_program.specs.CanonicalText.{lexeme_text}
 use Rattle.geo_program.specs.Expressions.{IsExpression, nesting}
-use Rattle.geo_program.specs.Forms as forms
 use Rattle.geo_program.specs.Names.{names_of}
 use Rattle.geo_program.specs.WellFormed.{Scope, empty_scope, scope_of}
 use Rattle.geo_terms.specs.Stores.{Store, IsStore, tree_of}
@@ -35,17 +32,3 @@ pub record IsPrintableTerm (names : List Name) (nodes : Store) (e : TermId) : Ty
   pub stored : e.0 < length nodes
   pub expression : IsExpression (declared names).points (declared names).params true (tree_of nodes e)
   pub shallow : nesting (tree_of nodes e) ≤ 128
-
--- the argument names what is declared
-abbrev pub IsPrintable : List Name → Store → Argument → Type 0
-IsPrintable names nodes (Point a) = a.0 < (declared names).points
-IsPrintable names nodes (Line a) = a.0 < (declared names).lines
-IsPrintable names nodes (Number r) = IsPrintableTerm names nodes r
-IsPrintable names nodes (Side e) = IsPrintableTerm names nodes e
-
--- the argument, its number unfolded to a tree
-abbrev pub unfolded : Store → Argument → forms.Argument
-unfolded nodes (Point a) = forms.point_argument a
-unfolded nodes (Line a) = forms.line_argument a
-unfolded nodes (Number r) = forms.number_argument (tree_of nodes r)
-unfolded nodes (Side e) = forms.side_argument (tree_of nodes e)

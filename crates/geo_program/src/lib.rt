@@ -1,7 +1,6 @@
 //! Programs of the construction language, and their canonical text.
 #![tactic(auto)]
 
-mod arguments;
 mod commands;
 pub mod laws;
 mod name_table;

@@ -80,7 +80,7 @@ push_expression-returns-in-Int t c =
     let kept = integer_kept c.args.self.now.terms.now c.args.e.0 n c.requires.store c.in-Int.ensures in
     on_ok_weaker c.push_number.result
     (λ one. spelt _ _ c.args.self.now.names _ (integer_leaf n) is
-        (appends_lexeme _ _ (number_lexeme n) (one ∙ ap (λ (z : ℤ). c.args.out.now.items ++ 32 ∷ signed_decimal z) kept)).is)
+    (appends_lexeme _ _ (number_lexeme n) (one ∙ ap (λ (z : ℤ). c.args.out.now.items ++ 32 ∷ signed_decimal z) kept)).is)
     c.push_number.ensures
 
 pub push_expression-returns-in-Param : goal.push_expression-returns-in-Param
@@ -89,7 +89,7 @@ push_expression-returns-in-Param t c =
     let is = unfolds _ _ _ c.requires (node.Param c.in-Param.t) c.in-Param.ensures in
     on_ok_weaker c.push_token.result
     (λ one. spelt _ _ names _ (parameter_leaf c.in-Param.t) is
-        (appends_lexeme _ _ (word_lexeme (name_text Param names c.in-Param.t.0)) (one ∙ ap (λ text. c.args.out.now.items ++ 32 ∷ text) c.param.ensures)).is)
+    (appends_lexeme _ _ (word_lexeme (name_text Param names c.in-Param.t.0)) (one ∙ ap (λ text. c.args.out.now.items ++ 32 ∷ text) c.param.ensures)).is)
     c.push_token.ensures
 
 pub push_expression-returns-in_ok-push_token-in-Neg :

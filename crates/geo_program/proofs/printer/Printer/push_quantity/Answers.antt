@@ -1,18 +1,13 @@
-use Rattle.std.proofs.Common.{◌≡◌, ◌++◌, [], ◌∷◌, take, sym, ap, ◌∙◌}
-use Rattle.std.proofs.lemmas.List.{map_more}
+use Rattle.std.proofs.Common.{map}
+use Rattle.std.proofs.lemmas.Result.{on_ok_weaker}
 use Rattle.geo_lexer.specs.Lexemes.{word_lexeme}
-use Rattle.geo_program.specs.Expressions.{point_lexeme, quantity_lexemes}
-use Rattle.geo_program.proofs.Spacing.{◌⟫◌, Appends, appends_lexeme, appends_same}
+use Rattle.geo_program.specs.Expressions.{point_lexeme}
+use Rattle.geo_program.proofs.Spacing.{◌⟫◌, appends, appends_lexeme}
 use Rattle.geo_program.proofs.printer.Printer.push_quantity.Goals as goal
 
-pub loop-point-init : goal.loop-point-init
-loop-point-init c = appends_lexeme _ _ (word_lexeme c.args.word.now) c.in_ok-push_token.ensures
-
-pub loop-point-preserved : goal.loop-point-preserved
-loop-point-preserved c =
-    let names = c.args.self.now.names in
-    let before = quantity_lexemes names c.args.word.now (take c.loop-point.point-index c.args.points.now) in
-    let one : Appends c.loop-point.out.items c.push_token-in-loop-point.new.out.items (word_lexeme c.point.result.now ∷ []) = appends_lexeme _ _ (word_lexeme c.point.result.now) c.in_ok-push_token-2.ensures in
-    appends_same _ (c.loop-point.invariant ⟫ one)
-    (ap (λ text. before ++ word_lexeme text ∷ []) c.point.ensures
-        ∙ sym (ap (λ l. word_lexeme c.args.word.now ∷ l) (map_more (point_lexeme names) c.args.points.now c.loop-point.point-index (record { 0 = 0 }) c.loop-point-test.true)))
+pub returns : goal.returns
+returns c =
+    let first = appends_lexeme _ _ (word_lexeme c.args.word.now) c.in_ok-push_token.ensures in
+    on_ok_weaker c.push_points.result
+    (λ last. (first ⟫ appends _ _ (map (point_lexeme c.args.self.now.names) c.args.points.now) last).is)
+    c.push_points.ensures
