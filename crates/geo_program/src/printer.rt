@@ -6,7 +6,7 @@ ghost use Rattle.std.specs.List.{AllByRecursion, flat_map};
 ghost use Rattle.geo_lexer.specs.Lexemes.{word_lexeme};
 ghost use Rattle.geo_program.specs.CanonicalText.{argument_lexemes, command_lexemes, line_text, statement_lexemes};
 ghost use Rattle.geo_program.specs.Expressions.{braced, expression_lexemes, point_lexeme, quantity_lexemes};
-ghost use Rattle.geo_program.specs.Forms.{command_form, line_argument, number_argument, point_argument, statement_form, IsStored, AreSidesStored};
+ghost use Rattle.geo_program.specs.Forms.{command_form, line_argument, number_argument, point_argument, side_argument, statement_form, IsStored, AreSidesStored};
 ghost use Rattle.geo_program.specs.Printing.{IsPrintableTerm, declared, spaced};
 ghost use Rattle.geo_program.specs.WellFormed.{IsArgument};
 ghost use Rattle.geo_terms.specs.Stores.{IsStore, tree_of};
@@ -224,8 +224,9 @@ impl<'a> Printer<'a> {
         requires e { IsPrintableTerm self.now.names self.now.terms.now e }
         requires f { IsPrintableTerm self.now.names self.now.terms.now f }
         ensures { OnOk result (out.new.items ≡ out.old.items
-            ++ spaced (braced (expression_lexemes self.now.names (tree_of self.now.terms.now e))
-            ++ braced (expression_lexemes self.now.names (tree_of self.now.terms.now f)))) }
+            ++ spaced (flat_map (argument_lexemes self.now.names)
+            (side_argument (tree_of self.now.terms.now e)
+            ∷ side_argument (tree_of self.now.terms.now f) ∷ []))) }
     {
         self.push_braced(alloc, out, e)?;
         self.push_braced(alloc, out, f)
