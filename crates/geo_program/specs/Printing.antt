@@ -6,7 +6,7 @@ use Rattle.geo_lexer.specs.Lexemes.{Lexeme}
 use Rattle.geo_points.specs.declared.ids.TermId.{TermId}
 use Rattle.geo_program.specs.declared.names.Name.{Name}
 use Rattle.geo_program.specs.declared.names.NameKind.TheVariants as kind
-use Rattle.geo_program.specs.CanonicalText.{lexeme_text}
+use Rattle.geo_program.specs.CanonicalText.{lexeme_text, line_text}
 use Rattle.geo_program.specs.Expressions.{IsExpression, nesting}
 use Rattle.geo_program.specs.Names.{names_of}
 use Rattle.geo_program.specs.WellFormed.{Scope, empty_scope, scope_of}
@@ -25,6 +25,10 @@ declared names = scope_of empty_scope names
 -- lexemes, each with a space before it
 unfoldable pub spaced : List Lexeme → List ℕ
 spaced lexemes = flat_map (λ lexeme. 32 ∷ lexeme_text lexeme) lexemes
+
+-- lines, each with its line feed
+abbrev pub lines_text : List (List Lexeme) → List ℕ
+lines_text lines = flat_map (λ line. line_text line ++ 10 ∷ []) lines
 
 -- the term stands in a store, and is an expression over the names whose braces stand at most 128 deep
 pub record IsPrintableTerm (names : List Name) (nodes : Store) (e : TermId) : Type 0 where

@@ -254,3 +254,12 @@ impl Model for Commands {
 
     ghost view = { λ commands. commands.items.items };
 }
+
+impl Commands {
+    /// The commands, in order.
+    pub fn as_slice(&self) -> &[Command]
+        ensures { result.now ≡ self.now }
+    {
+        self.items.as_slice()
+    }
+}

@@ -49,3 +49,12 @@ impl Model for Names {
 
     ghost view = { λ names. names.items.items };
 }
+
+impl Names {
+    /// The names, in order.
+    pub fn as_slice(&self) -> &[Name]
+        ensures { result.now ≡ self.now }
+    {
+        self.items.as_slice()
+    }
+}

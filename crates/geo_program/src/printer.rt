@@ -4,11 +4,11 @@ ghost use Rattle.std.specs.Prelude.{◌≡◌, ◌<◌, [], ◌∷◌, ◌++◌,
 ghost use Rattle.std.specs.Fmt.{signed_decimal};
 ghost use Rattle.std.specs.List.{AllByRecursion, flat_map};
 ghost use Rattle.geo_lexer.specs.Lexemes.{word_lexeme};
-ghost use Rattle.geo_program.specs.CanonicalText.{argument_lexemes, command_lexemes, line_text, statement_lexemes};
+ghost use Rattle.geo_program.specs.CanonicalText.{argument_lexemes, command_lexemes, commands_lexemes, line_text, no_sketches, statement_lexemes};
 ghost use Rattle.geo_program.specs.Expressions.{braced, expression_lexemes, point_lexeme, quantity_lexemes};
 ghost use Rattle.geo_program.specs.Forms.{command_form, line_argument, number_argument, point_argument, side_argument, statement_form, IsStored, AreSidesStored};
-ghost use Rattle.geo_program.specs.Printing.{IsPrintableTerm, declared, spaced};
-ghost use Rattle.geo_program.specs.WellFormed.{IsArgument};
+ghost use Rattle.geo_program.specs.Printing.{IsPrintableTerm, declared, lines_text, spaced};
+ghost use Rattle.geo_program.specs.WellFormed.{AreCommands, IsArgument, empty_scope};
 ghost use Rattle.geo_terms.specs.Stores.{IsStore, tree_of};
 
 use crate::commands::{Command, LineId};
@@ -46,6 +46,28 @@ pub struct Printer<'a> {
 }
 
 impl<'a> Printer<'a> {
+    /// Appends the lines of the commands that declare these names, one after another.
+    pub fn push_commands(
+        &self,
+        alloc: Global,
+        out: &mut Vec<u8>,
+        names: &[Name],
+        commands: &[Command],
+    ) -> Result<(), NoMemory>
+        requires store { IsStore self.now.terms.now }
+        requires names { self.now.names ≡ names.now }
+        requires commands { AreCommands self.now.terms.now empty_scope names.now commands.now }
+        ensures { OnOk result (out.new.items ≡ out.old.items ++ lines_text
+            (commands_lexemes names.now self.now.terms.now names.now commands.now
+            (no_sketches commands.now))) }
+    {
+        for (k, command) in commands.iter().enumerate() {
+            self.push_command(alloc, out, &names[k], *command)?;
+            out.push(b'\n')?;
+        }
+        Ok(())
+    }
+
     /// Appends the line of the command that makes what this name names, without its line feed.
     pub fn push_command(
         &self,

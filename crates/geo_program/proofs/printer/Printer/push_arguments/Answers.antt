@@ -34,7 +34,7 @@ push_numbered-requires-in-Lratio-clause-number c =
     number_printable names nodes c.in-Lratio.r c.requires.store stored arguments.1.1.0
 
 pub returns-in-Point : goal.returns-in-Point
-returns-in-Point c = 
+returns-in-Point c =
     (appends_none c.args.out.now.items).is
     ∙ ap (λ command. c.args.out.now.items ++ spaced (flat_map (argument_lexemes c.args.self.now.names) (command_form c.args.self.now.terms.now command).arguments)) (sym c.in-Point.is)
 

@@ -15,4 +15,4 @@ loop-point-preserved c =
     let one : Appends c.loop-point.out.items c.push_token.new.out.items (word_lexeme c.point.result.now ∷ []) = appends_lexeme _ _ (word_lexeme c.point.result.now) c.in_ok-push_token.ensures in
     appends_same _ (c.loop-point.invariant ⟫ one)
     (ap (λ text. before ++ word_lexeme text ∷ []) c.point.ensures
-        ∙ sym (map_more (point_lexeme names) c.args.points.now c.loop-point.point-index (record { 0 = 0 }) c.loop-point-test.true))
+    ∙ sym (map_more (point_lexeme names) c.args.points.now c.loop-point.point-index (record { 0 = 0 }) c.loop-point-test.true))
