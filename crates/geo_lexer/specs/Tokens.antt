@@ -90,3 +90,11 @@ pub record IsLexed (bytes : List ℕ) (tokens : List Token) (fault : Option Faul
   pub end : ℕ
   pub tokens_are : AreTokens bytes 0 tokens end
   pub end_is : IsLexedEnd bytes end fault
+
+-- a token has one or more bytes, all of the text
+abbrev pub IsWithin : List ℕ → Token → Type 0
+IsWithin bytes t = (t.start < t.end) × (t.end ≤ length bytes)
+
+-- a token ends before another one begins
+abbrev pub IsBefore : Token → Token → Type 0
+IsBefore t u = t.end ≤ u.start

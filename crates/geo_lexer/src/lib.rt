@@ -1,7 +1,10 @@
 //! The tokens of the construction language: words, numbers and braces, with their places.
 #![tactic(auto)]
 
+mod gaps;
+pub mod laws;
 mod lexing;
+mod places;
 #[cfg(test)]
 mod tests;
 mod token_types;
