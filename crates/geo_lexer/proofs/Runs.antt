@@ -1,5 +1,5 @@
 -- Runs: the bytes from a place on that pass a test, as many as there are.
-use Rattle.std.proofs.Common.{◌≡◌, ℕ, ◌+◌, ◌-◌, ◌<◌, ◌≤◌, Bool, true, false, List, length, drop, take, get_or, slice_range, ap, sym, ◌∙◌, subst, inl, inr, ⊎_elim, arith, length-drop, get_or-drop, get_or-take, length-take}
+use Rattle.std.proofs.Common.{◌≡◌, ℕ, ◌+◌, ◌-◌, ◌<◌, ◌≤◌, Bool, true, List, length, drop, get_or, slice_range, ap, sym, ◌∙◌, inl, inr, ⊎_elim, arith, length-drop, get_or-drop, get_or-take, length-take}
 use Rattle.std.specs.List.{AllPass, prefix_len}
 use Rattle.std.proofs.Math.Nat.{eq-or-lt_of_le}
 use Rattle.std.proofs.lemmas.List.Elements.{All-from_get_or}
@@ -26,8 +26,10 @@ IsRun-prefix_len test bytes start end inside is =
       all = All-from_get_or (λ b. test b ≡ true) (slice_range bytes start end) 0 (λ i below.
           let short : i < end - start = omega (arith, length-take (end - start) rest) in
           ap test (get_or-take (end - start) rest i 0 short) ∙ prefix_len_passes test rest i 0 (omega arith));
-      whole = ⊎_elim (λ ends. inl ends) (λ more. inr (more,
-          ap (λ (k : ℕ). test (get_or bytes k 0)) is
-          ∙ ap test (sym (get_or-drop start bytes size 0))
-          ∙ prefix_len_stops test rest 0 (omega arith))) (eq-or-lt_of_le within);
+      whole = ⊎_elim (λ ends. inl ends) (λ more. inr (
+        more,
+        ap (λ (k : ℕ). test (get_or bytes k 0)) is
+            ∙ ap test (sym (get_or-drop start bytes size 0))
+            ∙ prefix_len_stops test rest 0 (omega arith),
+      )) (eq-or-lt_of_le within);
     }

@@ -1,20 +1,18 @@
 -- Words and numbers, by the runs that they are made of.
-use Rattle.std.proofs.Common.{◌≡◌, ◌==◌, ℕ, suc, ◌+◌, ◌-◌, ◌<◌, ◌≤◌, ◌^◌, ◌⊎◌, IsTrue, Bool, true, false, List, [], ◌∷◌, length, drop, take, get_or, slice_index, slice_range, refl, ap, sym, ◌∙◌, subst, inl, inr, ⊎_elim, arith, length-drop, length-take}
+use Rattle.std.proofs.Common.{◌≡◌, ◌==◌, ℕ, ◌+◌, ◌-◌, ◌<◌, ◌⊎◌, IsTrue, Bool, true, false, List, ◌∷◌, length, drop, get_or, slice_index, slice_range, refl, ap, sym, ◌∙◌, subst, inl, inr, ⊎_elim, arith, length-drop, length-take}
 use Rattle.std.specs.List.{list_all}
-use Rattle.std.specs.Str.Parse.{AllDigits, IsNumeral}
 use Rattle.std.proofs.Math.Nat.{eq-or-lt_of_le}
 use Rattle.std.proofs.lemmas.Bool.{and_from}
 use Rattle.std.proofs.lemmas.Bool.Decides.{nat_tests}
-use Rattle.std.proofs.lemmas.List.{drop_more}
 use Rattle.std.proofs.lemmas.List.Sums.{list_all-from_AllPass}
-use Rattle.geo_base.specs.Decimals.{IsDecimal, decimal_size}
+use Rattle.geo_base.specs.Decimals.{IsDecimal}
 use Rattle.geo_base.proofs.DigitLemmas.{AllDigits-from_list_all}
 use Rattle.geo_lexer.specs.declared.token_types.Fault.{Fault}
 use Rattle.geo_lexer.specs.declared.token_types.Kind.{Kind}
-use Rattle.geo_lexer.specs.declared.token_types.Kind.TheVariants.{Word, Number}
 use Rattle.geo_lexer.specs.declared.token_types.Token.{Token}
 use Rattle.geo_lexer.specs.Bytes.{is_digit, is_letter, is_word_byte}
 use Rattle.geo_lexer.specs.Tokens.{BeginsNothing, IsFaultAt, IsNumberAt, IsTokenAt, IsWordAt, StopsAt}
+use Rattle.geo_lexer.proofs.Ranges.{slice_range_first}
 use Rattle.geo_lexer.proofs.Runs.{IsRun}
 
 -- a run whose first byte passes has some bytes
@@ -22,9 +20,9 @@ some_of_first : (test : ℕ → Bool) (bytes : List ℕ) (start end : ℕ) → s
 some_of_first test bytes start end inside passes run =
     ⊎_elim
     (λ same. ⊎_elim
-        (λ ends. absurd (omega arith))
-        (λ stops. let fails : test (get_or bytes start 0) ≡ false = ap (λ (k : ℕ). test (get_or bytes k 0)) same ∙ stops.1 in cc)
-        run.whole)
+    (λ ends. absurd (omega arith))
+    (λ stops. let fails : test (get_or bytes start 0) ≡ false = ap (λ (k : ℕ). test (get_or bytes k 0)) same ∙ stops.1 in cc)
+    run.whole)
     (λ more. more)
     (eq-or-lt_of_le run.onward)
 
@@ -49,13 +47,6 @@ token_is bytes t kind start end kind_is start_is end_is at = (start_is, rw (kind
 -- a fault at a place is what was asked of it
 pub fault_is : (bytes : List ℕ) (f : Fault) (refusal place : ℕ) → f.refusal ≡ refusal → f.place ≡ place → IsFaultAt bytes refusal place → (f.place ≡ place) × IsFaultAt bytes f.refusal f.place
 fault_is bytes f refusal place refusal_is place_is at = (place_is, rw (refusal_is, place_is) at)
-
--- the first byte, and then the others
-range_first : (bytes : List ℕ) (start end : ℕ) → start < length bytes → start < end → slice_range bytes start end ≡ get_or bytes start 0 ∷ slice_range bytes (start + 1) end
-range_first bytes start end inside some =
-    let size : end - start ≡ suc (end - (start + 1)) = omega arith in
-    ap (take (end - start)) (drop_more bytes start 0 inside)
-    ∙ ap (λ n. take n (get_or bytes start 0 ∷ drop (start + 1) bytes)) size
 
 -- digits are a decimal text
 decimal_digits : (b : ℕ) (ds : List ℕ) → is_digit b ≡ true → list_all is_digit ds ≡ true → IsDecimal (b ∷ ds)
@@ -82,7 +73,7 @@ number_of_digit : (bytes : List ℕ) (start end : ℕ) → start < length bytes 
 number_of_digit bytes start end inside digit run =
     let onward = run.onward in
     let rest = slice_range bytes (start + 1) end in
-    subst IsDecimal (sym (range_first bytes start end inside (omega arith)))
+    subst IsDecimal (sym (slice_range_first bytes start end inside (omega arith)))
     (decimal_digits (get_or bytes start 0) rest digit (list_all-from_AllPass is_digit rest run.all))
 
 -- and so is a `-` with one or more digits after it
@@ -91,7 +82,7 @@ number_of_minus bytes start end inside minus more run =
     let within = run.within in
     let rest = slice_range bytes (start + 1) end in
     let some : 0 < length rest = omega (arith, length-take (end - (start + 1)) (drop (start + 1) bytes), length-drop (start + 1) bytes) in
-    subst IsDecimal (sym (range_first bytes start end inside (omega arith)))
+    subst IsDecimal (sym (slice_range_first bytes start end inside (omega arith)))
     (decimal_minus (get_or bytes start 0) rest minus some (list_all-from_AllPass is_digit rest run.all))
 
 -- a `-` whose run of digits is empty begins nothing

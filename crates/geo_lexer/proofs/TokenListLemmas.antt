@@ -1,13 +1,13 @@
 -- Tokens in a row.
-use Rattle.std.proofs.Common.{◌≡◌, ℕ, ◌+◌, ◌<◌, ◌≤◌, ◌⊎◌, Option, Some, None, List, [], ◌∷◌, ◌++◌, length, All, refl, sym, subst, inl, inr, arith, rules}
-use Rattle.std.specs.Prelude.{AllPairs, IfSome}
+use Rattle.std.proofs.Common.{◌≡◌, ℕ, ◌<◌, ◌≤◌, Option, Some, List, [], ◌∷◌, ◌++◌, length, All, refl, sym, subst, inl, inr, arith}
+use Rattle.std.specs.Prelude.{AllPairs}
 use Rattle.std.proofs.lemmas.List.Elements.{All-cons, All-nil, All-weaker}
 use Rattle.std.proofs.lemmas.List.Kept.{AllPairs-cons}
 use Rattle.geo_lexer.specs.declared.token_types.Fault.{Fault}
 use Rattle.geo_lexer.specs.declared.token_types.Kind.{Kind}
 use Rattle.geo_lexer.specs.declared.token_types.Kind.TheVariants.{Word, Number, Open, Close}
 use Rattle.geo_lexer.specs.declared.token_types.Token.{Token}
-use Rattle.geo_lexer.specs.Tokens.{AreTokens, IsBefore, IsFaultAt, IsGap, IsLexed, IsLexedEnd, IsTokenAt, IsWithin}
+use Rattle.geo_lexer.specs.Tokens.{AreTokens, IsBefore, IsFaultAt, IsGap, IsLexed, IsTokenAt, IsWithin}
 
 -- tokens, and then tokens from where they end
 pub AreTokens-append : (bytes : List ℕ) (start middle end : ℕ) (ts us : List Token) → AreTokens bytes start ts middle → AreTokens bytes middle us end → AreTokens bytes start (ts ++ us) end
@@ -31,6 +31,7 @@ IsTokenAt-within bytes Close start end at = let one = at.one in (omega arith, at
 pub record StandInRow (bytes : List ℕ) (start : ℕ) (tokens : List Token) (end : ℕ) : Type 0 where
   pub onward : start ≤ end
   pub end_within : end ≤ length bytes
+  pub at_places : All (λ t. IsTokenAt bytes t.kind t.start t.end) tokens
   pub within : All (IsWithin bytes) tokens
   pub after : All (λ t. start ≤ t.start) tokens
   pub in_order : AllPairs IsBefore tokens
@@ -40,6 +41,7 @@ pub StandInRow-tokens : (bytes : List ℕ) (start end : ℕ) (tokens : List Toke
 StandInRow-tokens bytes start end [] inside are = record {
   onward = omega arith;
   end_within = omega arith;
+  at_places = All-nil (λ (t : Token). IsTokenAt bytes t.kind t.start t.end);
   within = All-nil (IsWithin bytes);
   after = All-nil (λ (t : Token). start ≤ t.start);
   in_order = λ i j d below last. absurd (omega arith);
@@ -52,6 +54,7 @@ StandInRow-tokens bytes start end (t ∷ ts) inside are =
     let onward = rest.onward in record {
       onward = omega arith;
       end_within = rest.end_within;
+      at_places = All-cons (λ (u : Token). IsTokenAt bytes u.kind u.start u.end) t ts are.1 rest.at_places;
       within = All-cons (IsWithin bytes) t ts within rest.within;
       after = All-cons (λ (u : Token). start ≤ u.start) t ts place (All-weaker (λ (u : Token). t.end ≤ u.start) (λ (u : Token). start ≤ u.start) (λ u later. omega arith) ts rest.after);
       in_order = AllPairs-cons IsBefore t ts rest.after rest.in_order;

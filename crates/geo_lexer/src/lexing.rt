@@ -1,6 +1,6 @@
 //! Splitting a text into its tokens.
 
-ghost use Rattle.std.specs.Prelude.{◌≤◌, ◌<◌, All, AllPairs, IfOk, IfSome, length};
+ghost use Rattle.std.specs.Prelude.{◌<◌, All, AllPairs, IfOk, IfSome, length};
 ghost use Rattle.geo_lexer.specs.Tokens.{IsBefore, IsLexed, IsWithin};
 
 use crate::gaps::next_place;
@@ -12,7 +12,6 @@ use std::alloc::Global;
 /// The tokens of a text, up to its end or to the first place where none can stand. Space, tab, carriage return and
 /// line feed separate tokens, and so does a comment, from `%` to the end of its line.
 pub fn tokens(alloc: Global, bytes: &[u8]) -> Result<Lexed, NoMemory>
-    requires { length bytes.now ≤ 67108864 }
     ensures lexed { IfOk result (λ lexed. IsLexed bytes.now lexed.tokens lexed.fault) }
     ensures within { IfOk result (λ lexed. All (IsWithin bytes.now) lexed.tokens) }
     ensures in_order { IfOk result (λ lexed. AllPairs IsBefore lexed.tokens) }

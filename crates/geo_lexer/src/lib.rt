@@ -2,6 +2,7 @@
 #![tactic(auto)]
 
 mod gaps;
+pub mod laws;
 mod lexing;
 mod places;
 #[cfg(test)]

@@ -10,7 +10,9 @@ use geo_base::{DecimalError, read_decimal};
 
 // The refusals of a text that is no token.
 const BAD_BYTE: u32 = 1;
+
 const WIDE_NUMBER: u32 = 2;
+
 const LONG_WORD: u32 = 3;
 
 // The most bytes of a word.
@@ -68,7 +70,9 @@ fn word_end(bytes: &[u8], start: usize) -> usize
     ensures run { result ≡ start + prefix_len is_word_byte (drop start bytes.now) }
     ensures within { result ≤ length bytes.now }
 {
-    let run = bytes[start..].iter().take_while(|byte| is_word_byte(**byte));
+    let run = bytes[start..]
+        .iter()
+        .take_while(|byte| is_word_byte(**byte));
     start + run.count()
 }
 

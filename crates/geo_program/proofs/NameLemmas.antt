@@ -1,8 +1,8 @@
 -- Names by kind and number, when names are added.
-use Rattle.std.proofs.Common.{◌≡◌, ℕ, ◌+◌, ◌<◌, ◌≤◌, Bool, true, false, List, [], ◌∷◌, ◌++◌, length, get_or, Some, None, refl, sym, ap, ◌∙◌, arith, length-append}
+use Rattle.std.proofs.Common.{◌≡◌, ℕ, ◌+◌, ◌<◌, ◌≤◌, Bool, true, false, List, [], ◌∷◌, ◌++◌, length, get_or, take, Some, None, refl, sym, ap, ◌∙◌, arith, length-append}
 use Rattle.std.specs.Prelude.{Option, if◌then◌else◌}
 use Rattle.std.specs.List.{cons_option, filter_map}
-use Rattle.std.proofs.lemmas.List.{append-nil, get_or_append_left, get_or_push, length_push}
+use Rattle.std.proofs.lemmas.List.{append-nil, get_or_append_left, get_or_push, length_push, take_more}
 use Rattle.std.proofs.lemmas.List.Elements.{filter_map-append}
 use Rattle.geo_program.specs.declared.names.Name.{Name}
 use Rattle.geo_program.specs.declared.names.NameKind.{NameKind}
@@ -59,3 +59,21 @@ pub name_text-push : (kind : NameKind) (names : List Name) (name : Name) (k : �
 name_text-push kind names name k h last =
     ap (λ texts. get_or texts k []) (names_of-push kind names name h)
     ∙ get_or_push (names_of kind names) name.text [] k last
+
+-- the names up to the next one
+take-next : (names : List Name) (i : ℕ) (name : Name) → i < length names → name ≡ get_or names i name → take (i + 1) names ≡ take i names ++ name ∷ []
+take-next names i name within at = take_more names i name within ∙ ap (λ n. take i names ++ n ∷ []) (sym at)
+
+-- one more text, of a name of this kind
+pub texts_more : (kind : NameKind) (names : List Name) (i : ℕ) (name : Name) (before : List (List ℕ)) → i < length names → name ≡ get_or names i name → is_kind name.kind kind ≡ true → before ≡ names_of kind (take i names) → before ++ name.text ∷ [] ≡ names_of kind (take (i + 1) names)
+texts_more kind names i name before within at same is =
+    ap (λ texts. texts ++ name.text ∷ []) is
+    ∙ sym (names_of-push kind (take i names) name (same_kind name.kind kind same))
+    ∙ ap (names_of kind) (sym (take-next names i name within at))
+
+-- none, of a name of another kind
+pub texts_same : (kind : NameKind) (names : List Name) (i : ℕ) (name : Name) (before : List (List ℕ)) → i < length names → name ≡ get_or names i name → is_kind name.kind kind ≡ false → before ≡ names_of kind (take i names) → before ≡ names_of kind (take (i + 1) names)
+texts_same kind names i name before within at other is =
+    is
+    ∙ sym (names_of-push_other kind (take i names) name other)
+    ∙ ap (names_of kind) (sym (take-next names i name within at))

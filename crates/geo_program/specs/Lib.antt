@@ -7,3 +7,4 @@ pub mod CanonicalText
 pub mod Spelling
 pub mod Programs
 pub mod Laws
+pub mod Printing

@@ -1,5 +1,9 @@
 //! The commands of a program.
 
+ghost use Rattle.std.specs.Prelude.{◌≡◌};
+ghost use Rattle.geo_program.specs.Forms.{command_form};
+ghost use Rattle.geo_terms.specs.Stores.{Store};
+
 use geo_points::{PointId, TermId};
 use std::marker::Model;
 
@@ -201,6 +205,40 @@ pub enum Command {
     },
 }
 
+impl Command {
+    /// The word that begins it.
+    pub fn word(self) -> &'static [u8]
+        ensures { (nodes : Store) → result.now ≡ (command_form nodes self).word }
+    {
+        match self {
+            Command::Point => b"point",
+            Command::Param => b"param",
+            Command::Line { .. } => b"line",
+            Command::Parallel { .. } => b"parallel",
+            Command::Perp { .. } => b"perp",
+            Command::Med { .. } => b"med",
+            Command::Intersec { .. } => b"intersec",
+            Command::Inter { .. } => b"inter",
+            Command::Foot { .. } => b"foot",
+            Command::Pratio { .. } => b"pratio",
+            Command::Tratio { .. } => b"tratio",
+            Command::Online { .. } => b"online",
+            Command::Lratio { .. } => b"lratio",
+            Command::Midpoint { .. } => b"midpoint",
+            Command::Translate { .. } => b"translate",
+            Command::Symmetric { .. } => b"symmetric",
+            Command::Reflect { .. } => b"reflect",
+            Command::Circumcenter { .. } => b"circumcenter",
+            Command::Orthocenter { .. } => b"orthocenter",
+            Command::Centroid { .. } => b"centroid",
+            Command::Oncircle { .. } => b"oncircle",
+            Command::Second { .. } => b"second",
+            Command::Cc { .. } => b"cc",
+            Command::Inverse { .. } => b"inverse",
+        }
+    }
+}
+
 /// Commands, in order. Contracts see the list.
 #[derive(Debug, Drop)]
 pub struct Commands {
@@ -215,4 +253,13 @@ impl Model for Commands {
     ghost Value = { List Command };
 
     ghost view = { λ commands. commands.items.items };
+}
+
+impl Commands {
+    /// The commands, in order.
+    pub fn as_slice(&self) -> &[Command]
+        ensures { result.now ≡ self.now }
+    {
+        self.items.as_slice()
+    }
 }

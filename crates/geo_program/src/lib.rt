@@ -3,7 +3,9 @@
 
 mod commands;
 pub mod laws;
+mod name_table;
 mod names;
+mod printer;
 mod printing;
 mod program_type;
 mod statements;

@@ -1,5 +1,7 @@
 //! The names that a program declares.
 
+ghost use Rattle.std.specs.Prelude.{◌≡◌};
+
 use geo_base::Text;
 use std::marker::Model;
 
@@ -23,6 +25,15 @@ pub struct Name {
     pub kind: NameKind,
 }
 
+impl Name {
+    /// Its bytes.
+    pub fn bytes(&self) -> &[u8]
+        ensures { result.now ≡ self.now.text }
+    {
+        self.text.bytes.as_slice()
+    }
+}
+
 /// Names, in order of declaration. Points, parameters and lines are each counted from 0. Contracts see the list.
 #[derive(Debug, Drop)]
 pub struct Names {
@@ -37,4 +48,13 @@ impl Model for Names {
     ghost Value = { List Name };
 
     ghost view = { λ names. names.items.items };
+}
+
+impl Names {
+    /// The names, in order.
+    pub fn as_slice(&self) -> &[Name]
+        ensures { result.now ≡ self.now }
+    {
+        self.items.as_slice()
+    }
 }

@@ -1,5 +1,9 @@
 //! What a program states.
 
+ghost use Rattle.std.specs.Prelude.{◌≡◌};
+ghost use Rattle.geo_program.specs.Forms.{statement_form};
+ghost use Rattle.geo_terms.specs.Stores.{Store};
+
 use geo_points::{PointId, TermId};
 
 /// The statement of a program.
@@ -92,4 +96,23 @@ pub enum Statement {
         /// The point D.
         d: PointId,
     },
+}
+
+impl Statement {
+    /// The word that begins it.
+    pub fn word(self) -> &'static [u8]
+        ensures { (nodes : Store) → result.now ≡ (statement_form nodes self).word }
+    {
+        match self {
+            Statement::Equal { .. } => b"equal",
+            Statement::Collinear { .. } => b"collinear",
+            Statement::Parallel { .. } => b"parallel",
+            Statement::Perpendicular { .. } => b"perpendicular",
+            Statement::Identical { .. } => b"identical",
+            Statement::Midpoint { .. } => b"midpoint",
+            Statement::SameLength { .. } => b"same_length",
+            Statement::Harmonic { .. } => b"harmonic",
+            Statement::Concyclic { .. } => b"concyclic",
+        }
+    }
 }

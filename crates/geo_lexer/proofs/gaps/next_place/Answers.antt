@@ -1,4 +1,4 @@
-use Rattle.std.proofs.Common.{◌+◌, ◌-◌, length, drop, take, subst, arith, length-drop}
+use Rattle.std.proofs.Common.{drop, take, subst, arith, length-drop}
 use Rattle.geo_lexer.proofs.GapLemmas.{Leaves, Leaves-gap, Leaves-last}
 use Rattle.geo_lexer.proofs.gaps.next_place.Goals as goal
 

@@ -1,4 +1,4 @@
-use Rattle.std.proofs.Common.{refl, inl, inr, arith}
+use Rattle.std.proofs.Common.{refl, inr, arith}
 use Rattle.geo_lexer.specs.declared.token_types.Kind.TheVariants.{Word}
 use Rattle.geo_lexer.specs.Bytes.{is_word_byte}
 use Rattle.geo_lexer.specs.Tokens.{IsWordAt}
