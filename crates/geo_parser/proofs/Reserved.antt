@@ -1,0 +1,43 @@
+-- Which words are reserved.
+use Rattle.std.proofs.Common.{◌≡◌, ℕ, Bool, true, false, ◌||◌, List, [], ◌∷◌, ◌++◌, is_some, map, refl, sym, ap, ◌∙◌, codes, None, Some}
+use Rattle.std.specs.List.{list_any}
+use Rattle.std.specs.Prelude.{Option, option_map}
+use Rattle.geo_program.specs.Words.{command_words, expression_words, reserved_words, statement_words}
+use Rattle.geo_parser.specs.Forms.{Slot, commands, due_behind, expressions, statements}
+use Rattle.geo_parser.specs.Slots.{is_reserved}
+use Rattle.geo_parser.specs.Texts.{found, is_text}
+use Rattle.geo_parser.proofs.Finding.{is_some-due_behind, is_some-found}
+
+-- the reserved words that begin nothing of a command, a statement or an expression
+abbrev pub other_words : List (List ℕ × Unit {0})
+other_words = (codes "prove", tt) ∷ (codes "assume", tt) ∷ (codes "weights", tt) ∷ []
+
+or_assoc : (a b c : Bool) → (a || b) || c ≡ (a || (b || c))
+or_assoc true b c = refl
+or_assoc false b c = refl
+
+list_any-append : (p : List ℕ → Bool) (xs ys : List (List ℕ)) → list_any p (xs ++ ys) ≡ (list_any p xs || list_any p ys)
+list_any-append p [] ys = refl
+list_any-append p (x ∷ xs) ys = ap (λ r. p x || r) (list_any-append p xs ys) ∙ sym (or_assoc (p x) (list_any p xs) (list_any p ys))
+
+-- a word that no table has is not reserved, and one that the first three have not is reserved where it is another
+pub is_reserved-others : (word : List ℕ) → is_some (due_behind word commands) ≡ false → is_some (due_behind word statements) ≡ false
+    → is_some (due_behind word (expressions 0 true)) ≡ false → is_reserved word ≡ is_some (found other_words word)
+is_reserved-others word no_command no_statement no_expression =
+    let p = is_text word in
+    let c : list_any p command_words ≡ false = sym (is_some-due_behind commands word) ∙ no_command in
+    let s : list_any p statement_words ≡ false = sym (is_some-due_behind statements word) ∙ no_statement in
+    let e : list_any p expression_words ≡ false = sym (is_some-due_behind (expressions 0 true) word) ∙ no_expression in
+    let others : List (List ℕ) = codes "prove" ∷ codes "assume" ∷ codes "weights" ∷ [] in
+    list_any-append p (command_words ++ statement_words ++ expression_words) others
+    ∙ ap (λ r. r || list_any p others) (list_any-append p (command_words ++ statement_words) expression_words
+    ∙ ap (λ r. r || list_any p expression_words) (list_any-append p command_words statement_words ∙ ap (λ r. r || list_any p statement_words) c ∙ s) ∙ e)
+    ∙ sym (is_some-found other_words word)
+
+is_some-option_map : {X Y : Type 0} (f : X → Y) (o : Option X) → is_some (option_map f o) ≡ is_some o
+is_some-option_map f None = refl
+is_some-option_map f (Some x) = refl
+
+-- where nothing is found, nothing is due
+pub is_some-map : {X Y : Type 0} (f : X → Y) (o : Option X) (d : Option Y) (r : Bool) → r ≡ is_some o → option_map f o ≡ d → is_some d ≡ r
+is_some-map f o d r h e = ap is_some (sym e) ∙ is_some-option_map f o ∙ sym h

@@ -1,0 +1,18 @@
+use Rattle.std.proofs.Common.{◌≡◌, ℕ, List, IfSome, map, option_map, ap, sym, ◌∙◌, refl, subst}
+use Rattle.std.specs.Prelude.{Option}
+use Rattle.geo_parser.specs.CommandWords.{command_due, command_text}
+use Rattle.geo_parser.specs.declared.command_words.CommandWord.{CommandWord}
+use Rattle.geo_parser.specs.declared.command_words.TheConstants.{COMMANDS}
+use Rattle.geo_parser.proofs.Finding.{due_behind-dues, text_found}
+use Rattle.geo_parser.proofs.command_words.CommandWord.of.Goals as goal
+
+abbrev table : List (List ℕ × CommandWord)
+table = map (λ e. (e.0.now, e.1)) COMMANDS
+
+pub returns-clause-due : goal.returns-clause-due
+returns-clause-due c = ap (option_map command_due) c.find.ensures ∙ due_behind-dues command_due table c.args.word.now
+
+pub returns-clause-text : goal.returns-clause-text
+returns-clause-text c =
+    let P : Option CommandWord → Type 0 = λ r. IfSome r (λ w. command_text w ≡ c.args.word.now) in
+    subst P (sym c.find.ensures) (text_found command_text table c.args.word.now refl)

@@ -1,0 +1,13 @@
+//! What is proved of spelling and of refusals. The functions do nothing: what each says is its contract.
+
+ghost use Rattle.geo_parser.specs.Laws.{RefusalsAreUnique, SpeltTextsAreNotRefused};
+
+/// A text that spells a program has no token that may not stand at its place.
+pub fn spelt_texts_are_not_refused()
+    ensures { SpeltTextsAreNotRefused }
+{}
+
+/// A text has one first refusal at most.
+pub fn refusals_are_unique()
+    ensures { RefusalsAreUnique }
+{}

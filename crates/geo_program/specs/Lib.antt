@@ -1,0 +1,10 @@
+pub mod Words
+pub mod Names
+pub mod Forms
+pub mod Expressions
+pub mod WellFormed
+pub mod CanonicalText
+pub mod Spelling
+pub mod Programs
+pub mod Laws
+pub mod Printing

@@ -1,0 +1,19 @@
+//! Programs of the construction language, and their canonical text.
+#![tactic(auto)]
+
+mod commands;
+pub mod laws;
+mod name_table;
+mod names;
+mod printer;
+mod printing;
+mod program_type;
+mod statements;
+#[cfg(test)]
+mod tests;
+
+pub use commands::{Command, Commands, LineId};
+pub use names::{Name, NameKind, Names};
+pub use printing::print;
+pub use program_type::Program;
+pub use statements::Statement;
