@@ -2,25 +2,26 @@
 -- A name with a prime is the same after the run.
 --
 -- No two causes among these hold at once: words are `prove` or are not; where the source tells its bytes, it gave
--- more than the limit or ended within it; and the bytes of an input are the text of a program of the first form
--- whose defined log ends in Proved, or of none. A text has one such program at most, and a program one defined log
--- (the laws `text_has_one_program` and `defined_log_is_unique` of `geo_prover`). So where no fault rises and memory
--- is found, each status comes exactly where its cause is.
+-- more than the limit or ended within it; the bytes of an input spell a program or are refused (the law
+-- `spelt_texts_are_not_refused` of `geo_parser`); they spell one program (`text_spells_one_program` of `geo_program`)
+-- and have one first refusal (`refusals_are_unique`); and a program's canonical text has a defined log that ends in
+-- Proved, and only one, or has none (`text_has_one_program` and `defined_log_is_unique` of `geo_prover`). So where no
+-- fault rises and memory is found, each status comes exactly where its cause is.
 use Rattle.std.specs.Prelude.{◌≡◌, ℕ, List, take, Option}
 use Rattle.geo_base.specs.Devices.{Grows, HasRisen}
 use Rattle.geo_cli.specs.declared.due.Due.{Due}
-use Rattle.geo_cli.specs.Due.{IsDue, due_text, too_long_line, unbuilt_line, usage_line}
+use Rattle.geo_cli.specs.Due.{HasLog, HasNoLog, IsDue, IsNoProgram, due_text, syntax_line, too_long_line, unbuilt_line, usage_line}
 use Rattle.geo_cli.specs.Input.{IsInput, IsLong}
 use Rattle.geo_cli.specs.Words.{IsProve}
-use Rattle.geo_prover.specs.FirstLog.{IsFirstRun, IsUnbuilt}
+use Rattle.geo_lexer.specs.declared.token_types.Fault.{Fault}
 
--- the input was the text of a true program, and its log was written
+-- the input spelt a true program, and its log was written
 pub record Proves (words : List (List ℕ)) (left left' held held' : Option (List ℕ)) : Type 0 where
   pub command : IsProve words
   pub bytes : List ℕ
   pub input : IsInput left bytes left'
   pub text : List ℕ
-  pub log : IsFirstRun bytes text
+  pub log : HasLog bytes text
   pub written : Grows held text held'
 
 -- the words were no command; nothing was read, and the usage line was written
@@ -35,12 +36,20 @@ pub record Overruns (words : List (List ℕ)) (left left' held held' : Option (L
   pub long : IsLong left left'
   pub written : Grows held too_long_line held'
 
--- the input was no program of the first form whose defined log ends in Proved, and `unbuilt` was written
+-- the input spelt no program, and its first refusal was written
+pub record Refuses (words : List (List ℕ)) (left left' held held' : Option (List ℕ)) (fault : Fault) : Type 0 where
+  pub command : IsProve words
+  pub bytes : List ℕ
+  pub input : IsInput left bytes left'
+  pub no_program : IsNoProgram bytes fault
+  pub written : Grows held (syntax_line fault) held'
+
+-- the input spelt a program that is not of the first form or has no defined log that ends in Proved, and `unbuilt` was written
 pub record Declines (words : List (List ℕ)) (left left' held held' : Option (List ℕ)) : Type 0 where
   pub command : IsProve words
   pub bytes : List ℕ
   pub input : IsInput left bytes left'
-  pub unbuilt : IsUnbuilt bytes
+  pub no_log : HasNoLog bytes
   pub written : Grows held unbuilt_line held'
 
 -- the first bytes of a text that is due were written

@@ -1,13 +1,17 @@
 //! What a run is to write and to answer.
 ghost use Rattle.std.specs.Prelude.{◌≡◌, ◌≤◌, length, IfOk, OnErr, IsErrOf};
+ghost use Rattle.geo_program.specs.Programs.{program_text};
 ghost use Rattle.geo_base.specs.Devices.{HasRisen};
-ghost use Rattle.geo_cli.specs.Due.{IsDue, IsDueFor, due_status, due_text};
+ghost use Rattle.geo_cli.specs.Due.{IsDue, IsDueFor, IsDueForText, due_status, due_text, syntax_line};
 ghost use Rattle.geo_cli.specs.Input.{Takes};
 ghost use Rattle.geo_cli.specs.Words.{IsProve, bytes_of_words};
 
 use crate::status::Status;
 use crate::words::is_prove;
-use geo_base::{ReadError, Source, Text, read_all};
+use geo_base::{NoMemory, ReadError, Source, Text, push_decimal, read_all};
+use geo_lexer::Fault;
+use geo_parser::{ParseError, parse};
+use geo_program::{Program, print};
 use geo_prover::{FirstError, first_log};
 use std::alloc::Global;
 
@@ -21,7 +25,14 @@ pub enum Due {
     Usage,
     /// The line for an input that is longer than its limit.
     TooLong,
-    /// The line for an input that is no program of the first form whose defined log ends in Proved.
+    /// The line for an input that spells no program.
+    Syntax {
+        /// Its first refusal.
+        fault: Fault,
+        /// The line.
+        line: Text,
+    },
+    /// The line for a program that is not of the first form, or whose defined log does not end in Proved.
     Unbuilt,
     /// The log of a proof.
     Log(Text),
@@ -35,6 +46,7 @@ impl Due {
         match self {
             Due::Usage => b"usage: geo_cli COMMAND [NUMBER] [--steps N]\n",
             Due::TooLong => b"too long\n",
+            Due::Syntax { line, .. } => &line.bytes,
             Due::Unbuilt => b"unbuilt\n",
             Due::Log(text) => &text.bytes,
         }
@@ -47,6 +59,10 @@ impl Due {
         match self {
             Due::Usage => Status::Usage,
             Due::TooLong => Status::TooLong,
+            Due::Syntax { fault, .. } => Status::Syntax {
+                refusal: fault.refusal,
+                place: fault.place,
+            },
             Due::Unbuilt => Status::Unbuilt,
             Due::Log(_) => Status::Proved,
         }
@@ -86,13 +102,44 @@ pub fn decide<S: Source>(alloc: Global, words: &Vec<String>, source: &mut S) -> 
 
 // What is due for an input of these bytes.
 fn decide_bytes(alloc: Global, bytes: &[u8]) -> Result<Due, Stop>
-    requires { length bytes.now ≤ 67108864 }
+    requires { length bytes.now ≤ 1048576 }
     ensures due { IfOk result (λ due. IsDueFor bytes.now due) }
     ensures err { OnErr result (result ≡ Err Stop.NoMemory) }
 {
-    match first_log(alloc, bytes) {
+    match parse(alloc, bytes) {
+        Ok(program) => decide_program(alloc, &program),
+        Err(ParseError::Syntax(fault)) => match syntax_line(alloc, fault) {
+            Ok(line) => Ok(Due::Syntax { fault, line }),
+            Err(NoMemory) => Err(Stop::NoMemory),
+        },
+        Err(ParseError::NoMemory) => Err(Stop::NoMemory),
+    }
+}
+
+// What is due for a program.
+fn decide_program(alloc: Global, program: &Program) -> Result<Due, Stop>
+    requires { length (program_text program.now) ≤ 4194304 }
+    ensures due { IfOk result (λ due. IsDueForText (program_text program.now) due) }
+    ensures err { OnErr result (result ≡ Err Stop.NoMemory) }
+{
+    let Ok(text) = print(alloc, program) else {
+        return Err(Stop::NoMemory);
+    };
+    match first_log(alloc, &text.bytes) {
         Ok(log) => Ok(Due::Log(log)),
         Err(FirstError::Unbuilt) => Ok(Due::Unbuilt),
         Err(FirstError::NoMemory) => Err(Stop::NoMemory),
     }
+}
+
+// The line that tells a refusal and its place.
+fn syntax_line(alloc: Global, fault: Fault) -> Result<Text, NoMemory>
+    ensures { IfOk result (λ line. line ≡ syntax_line fault) }
+{
+    let mut bytes = Vec::from_slice(alloc, b"syntax ")?;
+    push_decimal(alloc, &mut bytes, fault.refusal as i128)?;
+    bytes.extend_from_slice(b" at ")?;
+    push_decimal(alloc, &mut bytes, fault.place as i128)?;
+    bytes.push(b'\n')?;
+    Ok(Text { bytes })
 }

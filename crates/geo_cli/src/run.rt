@@ -1,8 +1,8 @@
 //! A run of the program, over any source and sink.
-ghost use Rattle.std.specs.Prelude.{◌≡◌, ◌≤◌, ◌⊎◌};
+ghost use Rattle.std.specs.Prelude.{◌≡◌, ℕ, ◌≤◌, ◌⊎◌};
 ghost use Rattle.geo_base.specs.Devices.{HasRisen};
 ghost use Rattle.geo_cli.specs.Input.{Takes};
-ghost use Rattle.geo_cli.specs.Run.{Declines, FailsToRead, Misuses, Overruns, Proves, WritesPart};
+ghost use Rattle.geo_cli.specs.Run.{Declines, FailsToRead, Misuses, Overruns, Proves, Refuses, WritesPart};
 ghost use Rattle.geo_cli.specs.Words.{IsProve, bytes_of_words};
 
 use crate::due::{Stop, decide};
@@ -13,7 +13,7 @@ use std::alloc::Global;
 
 /// Carries out the command that the words are. For `prove` it reads a program from the source to its
 /// end, and writes the log of its proof to the sink, by one `write_all` a line. It writes nothing
-/// before the words, the reading and the proof are done.
+/// before the words, the reading, the parsing and the proof are done.
 ///
 /// Where the answer is `NoMemory`, the part that was written may be empty.
 pub fn run<S: Source, K: Sink>(
@@ -28,6 +28,10 @@ pub fn run<S: Source, K: Sink>(
         (S.left source.old) (S.left source.new) (K.held sink.old) (K.held sink.new) }
     ensures too_long { result ≡ Status.TooLong → Overruns (bytes_of_words words.now.items)
         (S.left source.old) (S.left source.new) (K.held sink.old) (K.held sink.new) }
+    ensures syntax { (refusal place : ℕ) → result ≡ Status.Syntax refusal place
+        → Refuses (bytes_of_words words.now.items)
+        (S.left source.old) (S.left source.new) (K.held sink.old) (K.held sink.new)
+        (record { refusal = refusal; place = place }) }
     ensures unbuilt { result ≡ Status.Unbuilt → Declines (bytes_of_words words.now.items)
         (S.left source.old) (S.left source.new) (K.held sink.old) (K.held sink.new) }
     ensures read_fault { result ≡ Status.ReadFault → FailsToRead (bytes_of_words words.now.items)

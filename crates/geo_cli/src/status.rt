@@ -9,6 +9,13 @@ pub enum Status {
     Proved,
     /// The words are no command.
     Usage,
+    /// The input spells no program.
+    Syntax {
+        /// The number of the refusal.
+        refusal: u32,
+        /// The place of the token that is refused, in bytes from 0.
+        place: u64,
+    },
     /// A read failed.
     ReadFault,
     /// The input is longer than its limit.
@@ -29,6 +36,7 @@ impl Status {
         match self {
             Status::Proved => 0,
             Status::Usage => 3,
+            Status::Syntax { .. } => 4,
             Status::ReadFault => 8,
             Status::WriteFault => 9,
             Status::NoMemory => 10,

@@ -1,7 +1,7 @@
 use Rattle.std.proofs.Common.{◌≡◌, ℕ, List, Option, rules}
 use Rattle.std.proofs.lemmas.Result.{IfOk-weaker}
 use Rattle.geo_cli.specs.declared.due.Due.{Due}
-use Rattle.geo_cli.specs.declared.due.Due.TheVariants.{Usage, TooLong, Unbuilt, Log}
+use Rattle.geo_cli.specs.declared.due.Due.TheVariants.{Usage, TooLong, Syntax, Unbuilt, Log}
 use Rattle.geo_cli.specs.Due.{IsDue, IsDueFor}
 use Rattle.geo_cli.specs.Input.{IsInput}
 use Rattle.geo_cli.specs.Words.{IsProve, bytes_of_words}
@@ -11,6 +11,7 @@ use Rattle.geo_cli.proofs.due.decide.Goals as goal
 due_of_input : (words : List (List ℕ)) (left left' : Option (List ℕ)) (bytes : List ℕ) (due : Due) → IsProve words → IsInput left bytes left' → IsDueFor bytes due → IsDue words left left' due
 due_of_input words left left' bytes Usage command input h = absurd h
 due_of_input words left left' bytes TooLong command input h = absurd h
+due_of_input words left left' bytes (Syntax fault line) command input h = record { command = command; bytes = bytes; input = input; due_for = h }
 due_of_input words left left' bytes Unbuilt command input h = record { command = command; bytes = bytes; input = input; due_for = h }
 due_of_input words left left' bytes (Log text) command input h = record { command = command; bytes = bytes; input = input; due_for = h }
 

@@ -1,7 +1,7 @@
 use Rattle.std.proofs.Common.{◌≡◌, ℕ, List, Option, sym, ◌∙◌, ap, arith}
 use Rattle.geo_base.specs.Devices.{Grows}
 use Rattle.geo_cli.specs.declared.due.Due.{Due}
-use Rattle.geo_cli.specs.declared.due.Due.TheVariants.{Usage, TooLong, Unbuilt, Log}
+use Rattle.geo_cli.specs.declared.due.Due.TheVariants.{Usage, TooLong, Syntax, Unbuilt, Log}
 use Rattle.geo_cli.specs.declared.status.Status.{Status}
 use Rattle.geo_cli.specs.declared.status.Status.TheVariants as status
 use Rattle.geo_cli.specs.Due.{IsDue, due_status, due_text}
@@ -17,6 +17,7 @@ differ s t P same apart = absurd (apart (ap status_number same))
 proves : (words : List (List ℕ)) (left left' held held' : Option (List ℕ)) (due : Due) → IsDue words left left' due → Grows held (due_text due) held' → due_status due ≡ status.Proved → Proves words left left' held held'
 proves words left left' held held' Usage cause written is = differ _ _ _ is (λ e. omega arith)
 proves words left left' held held' TooLong cause written is = differ _ _ _ is (λ e. omega arith)
+proves words left left' held held' (Syntax fault line) cause written is = differ _ _ _ is (λ e. omega arith)
 proves words left left' held held' Unbuilt cause written is = differ _ _ _ is (λ e. omega arith)
 proves words left left' held held' (Log text) cause written is = record {
   command = cause.command;
