@@ -1,6 +1,6 @@
 -- One token that is read or refused, and what is read one after another.
 use Rattle.std.proofs.Common.{◌≡◌, ℕ, ◌+◌, ◌<◌, ◌≤◌, List, [], ◌∷◌, ◌++◌, length, map, Some, None, refl, sym, ap, ◌∙◌, subst, arith}
-use Rattle.std.specs.Prelude.{All, Err, IsErrAnd, Option, Result, option_map}
+use Rattle.std.specs.Prelude.{All, Err, IfSome, IsErrAnd, Option, Result, option_map}
 use Rattle.std.proofs.lemmas.Grind.{flat_map-append}
 use Rattle.std.proofs.lemmas.List.{append_assoc}
 use Rattle.std.proofs.lemmas.List.Elements.{All-append, All-cons, All-nil}
@@ -20,7 +20,7 @@ use Rattle.geo_parser.specs.declared.errors.ParseError.TheVariants.{Syntax}
 use Rattle.geo_parser.specs.declared.reader.Reader.{Reader}
 use Rattle.geo_parser.specs.Coming.{Coming, fault_from, fault_here, lexemes_of, next_lexeme, tail}
 use Rattle.geo_parser.specs.Forms.{Slot}
-use Rattle.geo_parser.specs.Pieces.{piece_lexeme}
+use Rattle.geo_parser.specs.Pieces.{IsPiece, piece_lexeme}
 use Rattle.geo_parser.specs.Reads.{Extends, Passes, Reads, ReadsArguments, ReadsName, Refuses, argument_slots, extent, fault_of, reading, scope}
 use Rattle.geo_parser.specs.Refusals.{fault_at, first_fault}
 use Rattle.geo_parser.specs.Slots.{Outcome, Reading, next, refused, taken}
@@ -34,7 +34,7 @@ abbrev pub advanced : Reader → Reader
 advanced s = record s { cursor = past s.cursor }
 
 -- where a token may stand, the reading goes on behind it
-first_fault-taken : (r r' : Reading) (slots rest : List Slot) (tokens : List (Lexeme × ℕ)) (end : ℕ) (stop : Option Fault) (l : Lexeme) → next_lexeme tokens ≡ Some l → next r slots l ≡ taken r' rest
+pub first_fault-taken : (r r' : Reading) (slots rest : List Slot) (tokens : List (Lexeme × ℕ)) (end : ℕ) (stop : Option Fault) (l : Lexeme) → next_lexeme tokens ≡ Some l → next r slots l ≡ taken r' rest
     → first_fault r slots tokens end stop ≡ first_fault r' rest (tail tokens) end stop
 first_fault-taken r r' slots rest [] end stop l is may = cc
 first_fault-taken r r' slots rest (t ∷ ts) end stop l is may =
@@ -203,3 +203,9 @@ module _ (F G : List Slot) (a : Reader) (l : Lexeme) (is : next_lexeme a.cursor.
   Refuses-behind f h = record {
     first = λ begun rest. first_fault-taken _ _ _ _ a.cursor.tokens a.cursor.end a.cursor.stop l is (goes begun rest) ∙ h.first begun rest;
   }
+
+-- the piece is one
+pub valid_piece : (r : Option Piece) (p q : Piece) → IfSome r IsPiece → r ≡ Some p → p ≡ q → IsPiece q
+valid_piece r p q h is same =
+    let P : Option Piece → Type 0 = λ o. IfSome o IsPiece in
+    subst IsPiece same (subst P is h)
