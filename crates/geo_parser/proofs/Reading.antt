@@ -62,6 +62,9 @@ length-tail (t ∷ ts) l is = omega arith
 pub Extends-self : (nodes : Store) → Extends nodes nodes
 Extends-self nodes = record { longer = omega arith; others = λ id within. refl }
 
+pub Extends-same : {old new : Store} → new ≡ old → Extends old new
+Extends-same {old} {new} e = let P : Store → Type 0 = λ nodes. Extends old nodes in subst P (sym e) (Extends-self old)
+
 pub Extends-then : (a b c : Store) → Extends a b → Extends b c → Extends a c
 Extends-then a b c h k = record {
   longer = omega (arith, h.longer, k.longer);
