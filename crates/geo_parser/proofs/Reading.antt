@@ -1,16 +1,18 @@
 -- One token that is read or refused, and what is read one after another.
 use Rattle.std.proofs.Common.{◌≡◌, ℕ, ◌+◌, ◌<◌, ◌≤◌, List, [], ◌∷◌, ◌++◌, length, map, Some, None, refl, sym, ap, ◌∙◌, subst, arith}
-use Rattle.std.specs.Prelude.{All, Err, IsErrAnd, Option, Result, option_map}
+use Rattle.std.specs.Prelude.{All, Err, IfSome, IsErrAnd, Option, Result, option_map}
 use Rattle.std.proofs.lemmas.Grind.{flat_map-append}
 use Rattle.std.proofs.lemmas.List.{append_assoc}
-use Rattle.std.proofs.lemmas.List.Elements.{All-append}
+use Rattle.std.proofs.lemmas.List.Elements.{All-append, All-cons, All-nil}
 use Rattle.geo_lexer.specs.declared.token_types.Fault.{Fault}
 use Rattle.geo_lexer.specs.Lexemes.{Lexeme}
 use Rattle.std.specs.List.{flat_map}
 use Rattle.geo_program.specs.CanonicalText.{argument_lexemes}
-use Rattle.geo_program.specs.Forms.{Argument}
+use Rattle.geo_program.specs.Forms.{Argument, line_argument, point_argument}
 use Rattle.geo_program.specs.WellFormed.{IsArgument, empty_scope, scope_of}
 use Rattle.geo_program.specs.declared.names.Name.{Name}
+use Rattle.geo_program.specs.declared.names.NameKind.TheVariants.{Line, Point}
+use Rattle.geo_program.proofs.ScopeLemmas.{lines_declared, points_declared}
 use Rattle.geo_terms.specs.Stores.{Store}
 use Rattle.geo_parser.specs.declared.cursor.Piece.{Piece}
 use Rattle.geo_parser.specs.declared.errors.ParseError.{ParseError}
@@ -18,8 +20,8 @@ use Rattle.geo_parser.specs.declared.errors.ParseError.TheVariants.{Syntax}
 use Rattle.geo_parser.specs.declared.reader.Reader.{Reader}
 use Rattle.geo_parser.specs.Coming.{Coming, fault_from, fault_here, lexemes_of, next_lexeme, tail}
 use Rattle.geo_parser.specs.Forms.{Slot}
-use Rattle.geo_parser.specs.Pieces.{piece_lexeme}
-use Rattle.geo_parser.specs.Reads.{Extends, Passes, Reads, ReadsArguments, Refuses, argument_slots, extent, fault_of, reading, scope}
+use Rattle.geo_parser.specs.Pieces.{IsPiece, piece_lexeme}
+use Rattle.geo_parser.specs.Reads.{Extends, Passes, Reads, ReadsArguments, ReadsName, Refuses, argument_slots, extent, fault_of, reading, scope}
 use Rattle.geo_parser.specs.Refusals.{fault_at, first_fault}
 use Rattle.geo_parser.specs.Slots.{Outcome, Reading, next, refused, taken}
 
@@ -32,7 +34,7 @@ abbrev pub advanced : Reader → Reader
 advanced s = record s { cursor = past s.cursor }
 
 -- where a token may stand, the reading goes on behind it
-first_fault-taken : (r r' : Reading) (slots rest : List Slot) (tokens : List (Lexeme × ℕ)) (end : ℕ) (stop : Option Fault) (l : Lexeme) → next_lexeme tokens ≡ Some l → next r slots l ≡ taken r' rest
+pub first_fault-taken : (r r' : Reading) (slots rest : List Slot) (tokens : List (Lexeme × ℕ)) (end : ℕ) (stop : Option Fault) (l : Lexeme) → next_lexeme tokens ≡ Some l → next r slots l ≡ taken r' rest
     → first_fault r slots tokens end stop ≡ first_fault r' rest (tail tokens) end stop
 first_fault-taken r r' slots rest [] end stop l is may = cc
 first_fault-taken r r' slots rest (t ∷ ts) end stop l is may =
@@ -59,6 +61,9 @@ length-tail (t ∷ ts) l is = omega arith
 
 pub Extends-self : (nodes : Store) → Extends nodes nodes
 Extends-self nodes = record { longer = omega arith; others = λ id within. refl }
+
+pub Extends-same : {old new : Store} → new ≡ old → Extends old new
+Extends-same {old} {new} e = let P : Store → Type 0 = λ nodes. Extends old nodes in subst P (sym e) (Extends-self old)
 
 pub Extends-then : (a b c : Store) → Extends a b → Extends b c → Extends a c
 Extends-then a b c h k = record {
@@ -145,3 +150,65 @@ ReadsArguments-then as' bs a b c h k =
       reads = subst S (sym (flat_map-append (argument_lexemes a.names) as' bs)) (subst R (sym slots) both);
       valid = All-append (IsArgument (scope a)) as' bs h.valid (subst Q names k.valid);
     }
+
+-- a declared name is an argument
+pub ReadsArguments-point : (a b : Reader) (k : ℕ) → ReadsName Point a b k → ReadsArguments (point_argument (record { 0 = k }) ∷ []) a b
+ReadsArguments-point a b k h = record {
+  reads = h.reads;
+  valid = All-cons (IsArgument (scope a)) _ [] (omega (arith, points_declared a.names, h.within)) (All-nil (IsArgument (scope a)));
+}
+
+pub ReadsArguments-line : (a b : Reader) (k : ℕ) → ReadsName Line a b k → ReadsArguments (line_argument (record { 0 = k }) ∷ []) a b
+ReadsArguments-line a b k h = record {
+  reads = h.reads;
+  valid = All-cons (IsArgument (scope a)) _ [] (omega (arith, lines_declared a.names, h.within)) (All-nil (IsArgument (scope a)));
+}
+
+-- where a token may stand at two places alike, nothing changes
+first_fault-same : (r : Reading) (F G : List Slot) (tokens : List (Lexeme × ℕ)) (end : ℕ) (stop : Option Fault) (l : Lexeme) → next_lexeme tokens ≡ Some l → next r F l ≡ next r G l → first_fault r F tokens end stop ≡ first_fault r G tokens end stop
+first_fault-same r F G [] end stop l is same = cc
+first_fault-same r F G (t ∷ ts) end stop l is same =
+    let here : t.0 ≡ l = cc in
+    ap (λ (o : Outcome). elim o [ refused refusal ↦ Some (fault_at t.1 refusal) | taken s more ↦ first_fault s more ts end stop ]) (ap (next r F) here ∙ same ∙ ap (next r G) (sym here))
+
+-- a token is read or refused where another thing is due, if it may stand there alike
+module _ (F G : List Slot) (a : Reader) (l : Lexeme) (is : next_lexeme a.cursor.tokens ≡ Some l)
+    (same : (begun : List Name) (rest : List Slot) → next (reading a.names begun a.points) (F ++ rest) l ≡ next (reading a.names begun a.points) (G ++ rest) l) where
+  pub Reads-other : (b : Reader) (xs : List Lexeme) → Reads G a b xs → Reads F a b xs
+  Reads-other b xs h = record {
+    passes = h.passes;
+    names = h.names;
+    points = h.points;
+    terms = h.terms;
+    room = h.room;
+    follows = λ begun rest. first_fault-same _ (F ++ rest) (G ++ rest) a.cursor.tokens a.cursor.end a.cursor.stop l is (same begun rest) ∙ h.follows begun rest;
+  }
+
+  pub Refuses-other : (f : Fault) → Refuses G a f → Refuses F a f
+  Refuses-other f h = record {
+    first = λ begun rest. first_fault-same _ (F ++ rest) (G ++ rest) a.cursor.tokens a.cursor.end a.cursor.stop l is (same begun rest) ∙ h.first begun rest;
+  }
+
+-- a token that is read makes other things due
+module _ (F G : List Slot) (a : Reader) (l : Lexeme) (is : next_lexeme a.cursor.tokens ≡ Some l)
+    (goes : (begun : List Name) (rest : List Slot) → next (reading a.names begun a.points) (F ++ rest) l ≡ taken (reading a.names begun a.points) (G ++ rest)) where
+  pub Reads-behind : (b : Reader) (xs : List Lexeme) → Reads G (advanced a) b xs → Reads F a b (l ∷ xs)
+  Reads-behind b xs h = record {
+    passes = Passes-then a (advanced a) b (l ∷ []) xs (Passes-token a l is) h.passes;
+    names = h.names;
+    points = h.points;
+    terms = h.terms;
+    room = omega (arith, h.room, length-tail a.cursor.tokens l is);
+    follows = λ begun rest. first_fault-taken _ _ _ _ a.cursor.tokens a.cursor.end a.cursor.stop l is (goes begun rest) ∙ h.follows begun rest;
+  }
+
+  pub Refuses-behind : (f : Fault) → Refuses G (advanced a) f → Refuses F a f
+  Refuses-behind f h = record {
+    first = λ begun rest. first_fault-taken _ _ _ _ a.cursor.tokens a.cursor.end a.cursor.stop l is (goes begun rest) ∙ h.first begun rest;
+  }
+
+-- the piece is one
+pub valid_piece : (r : Option Piece) (p q : Piece) → IfSome r IsPiece → r ≡ Some p → p ≡ q → IsPiece q
+valid_piece r p q h is same =
+    let P : Option Piece → Type 0 = λ o. IfSome o IsPiece in
+    subst IsPiece same (subst P is h)

@@ -1,12 +1,12 @@
 -- Which words are reserved.
-use Rattle.std.proofs.Common.{◌≡◌, ℕ, Bool, true, false, ◌||◌, List, [], ◌∷◌, ◌++◌, is_some, map, refl, sym, ap, ◌∙◌, codes, None, Some}
+use Rattle.std.proofs.Common.{◌≡◌, ℕ, zero, suc, ◌<◌, length, get_or, true≢false, arith, Bool, true, false, ◌||◌, List, [], ◌∷◌, ◌++◌, is_some, map, refl, sym, ap, ◌∙◌, codes, None, Some}
 use Rattle.std.specs.List.{list_any}
-use Rattle.std.specs.Prelude.{Option, option_map}
+use Rattle.std.specs.Prelude.{Contains, Option, option_map}
 use Rattle.geo_program.specs.Words.{command_words, expression_words, reserved_words, statement_words}
 use Rattle.geo_parser.specs.Forms.{Slot, commands, due_behind, expressions, statements}
 use Rattle.geo_parser.specs.Slots.{is_reserved}
 use Rattle.geo_parser.specs.Texts.{found, is_text}
-use Rattle.geo_parser.proofs.Finding.{is_some-due_behind, is_some-found}
+use Rattle.geo_parser.proofs.Finding.{is_text_self, is_some-due_behind, is_some-found}
 
 -- the reserved words that begin nothing of a command, a statement or an expression
 abbrev pub other_words : List (List ℕ × Unit {0})
@@ -15,6 +15,10 @@ other_words = (codes "prove", tt) ∷ (codes "assume", tt) ∷ (codes "weights",
 or_assoc : (a b c : Bool) → (a || b) || c ≡ (a || (b || c))
 or_assoc true b c = refl
 or_assoc false b c = refl
+
+or_true : (a : Bool) → (a || true) ≡ true
+or_true true = refl
+or_true false = refl
 
 list_any-append : (p : List ℕ → Bool) (xs ys : List (List ℕ)) → list_any p (xs ++ ys) ≡ (list_any p xs || list_any p ys)
 list_any-append p [] ys = refl
@@ -41,3 +45,13 @@ is_some-option_map f (Some x) = refl
 -- where nothing is found, nothing is due
 pub is_some-map : {X Y : Type 0} (f : X → Y) (o : Option X) (d : Option Y) (r : Bool) → r ≡ is_some o → option_map f o ≡ d → is_some d ≡ r
 is_some-map f o d r h e = ap is_some (sym e) ∙ is_some-option_map f o ∙ sym h
+
+-- a list that has a word passes the test
+any_text : (word : List ℕ) (words : List (List ℕ)) (k : ℕ) → k < length words → get_or words k word ≡ word → list_any (is_text word) words ≡ true
+any_text word [] k lt is = absurd (omega arith)
+any_text word (w ∷ ws) zero lt is = ap (λ b. b || list_any (is_text word) ws) (ap (is_text word) is ∙ is_text_self word)
+any_text word (w ∷ ws) (suc k) lt is = ap (λ b. is_text word w || b) (any_text word ws k (omega arith) is) ∙ or_true (is_text word w)
+
+-- a word that passes no test is not reserved
+pub not_reserved : (word : List ℕ) → is_reserved word ≡ false → Contains reserved_words word → ⊥
+not_reserved word h there = true≢false (sym (any_text word reserved_words there.0 there.1 there.2) ∙ h)

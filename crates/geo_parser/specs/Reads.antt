@@ -86,6 +86,7 @@ pub record ReadsArguments (arguments : List Argument) (old new : Reader) : Type 
 pub record ReadsName (kind : NameKind) (old new : Reader) (number : ℕ) : Type 0 where
   pub reads : Reads (name_slot kind ∷ []) old new (word_lexeme (name_text kind old.names number) ∷ [])
   pub within : number < length (names_of kind old.names)
+  pub room : extent new < extent old
 
 -- EXPRESSIONS
 

@@ -1,5 +1,12 @@
 //! Reading the commands.
 
+ghost use Rattle.std.specs.Prelude.{◌≡◌, ◌+◌, ◌≤◌, ◌∷◌, [], IfOk, IfNone, IfSome, OnOk, length};
+ghost use Rattle.geo_lexer.specs.declared.token_types.Fault.{Fault};
+ghost use Rattle.geo_parser.specs.CommandWords.{command_due, command_slots};
+ghost use Rattle.geo_parser.specs.Forms.{command_slot, new_name_slot, second_number_slot, sketch_slot};
+ghost use Rattle.geo_parser.specs.Reads.{ReadsCommand, ReadsForm, ReadsNewName, ReadsProve, ReadsSecond, ReadsSketch, ReadsWord, Refuses, extent};
+ghost use Rattle.geo_program.specs.declared.names.NameKind.{NameKind};
+
 use crate::command_words::CommandWord;
 use crate::cursor::Piece;
 use crate::errors::{ParseError, Refusal};
@@ -22,22 +29,39 @@ impl<'a> Reader<'a> {
     }
 
     // The word that begins a command, or `None` for `prove`.
-    fn command_word(&mut self) -> Result<Option<CommandWord>, ParseError> {
+    fn command_word(&mut self) -> Result<Option<CommandWord>, ParseError>
+        ensures command { IfOk result (λ o. IfSome o (λ word. ReadsWord word self.old self.new)) }
+        ensures prove { IfOk result (λ o. IfNone o (ReadsProve self.old self.new)) }
+        ensures refused { (f : Fault) → result ≡ Err (ParseError.Syntax f)
+            → Refuses (command_slot ∷ []) self.old f }
+    {
         let word = match self.cursor.peek() {
             Some(Piece::Word(word)) => word,
             Some(_) => return Err(self.refuse(Refusal::Expected)),
             None => return Err(self.refuse(Refusal::NoStatement)),
         };
-        let command = CommandWord::of(word);
-        if command.is_none() && word != b"prove".as_slice() {
-            return Err(self.refuse(Refusal::Expected));
+        if word == b"prove".as_slice() {
+            self.cursor.advance();
+            return Ok(None);
         }
-        self.cursor.advance();
-        Ok(command)
+        match CommandWord::of(word) {
+            Some(command) => {
+                self.cursor.advance();
+                Ok(Some(command))
+            }
+            None => Err(self.refuse(Refusal::Expected)),
+        }
     }
 
     // The command that the word begins. Its name is declared at its end.
-    fn command(&mut self, alloc: Global, word: CommandWord) -> Result<Command, ParseError> {
+    fn command(&mut self, alloc: Global, word: CommandWord) -> Result<Command, ParseError>
+        requires few { self.old.points ≤ 512 }
+        requires room { extent self.old ≤ 67108864 }
+        requires names { length self.old.names + length self.old.cursor.tokens ≤ 67108864 }
+        ensures ok { IfOk result (ReadsCommand word self.old self.new) }
+        ensures refused { (f : Fault) → result ≡ Err (ParseError.Syntax f)
+            → Refuses (command_due word) self.old f }
+    {
         let name = self.new_name(word.points())?;
         let command = self.arguments(word)?;
         self.names.declare(alloc, name, word.kind())?;
@@ -45,7 +69,13 @@ impl<'a> Reader<'a> {
     }
 
     // The new name of a command that makes so many points.
-    fn new_name(&mut self, points: u32) -> Result<&'a [u8], ParseError> {
+    fn new_name(&mut self, points: u32) -> Result<&'a [u8], ParseError>
+        requires few { self.old.points ≤ 512 }
+        requires points { points ≤ 5 }
+        ensures ok { IfOk result (λ word. ReadsNewName points self.old self.new word.now) }
+        ensures refused { (f : Fault) → result ≡ Err (ParseError.Syntax f)
+            → (kind : NameKind) → Refuses (new_name_slot kind points ∷ []) self.old f }
+    {
         let Some(Piece::Word(word)) = self.cursor.peek() else {
             return Err(self.refuse(Refusal::Expected));
         };
@@ -61,7 +91,12 @@ impl<'a> Reader<'a> {
     }
 
     // What stands behind the new name.
-    fn arguments(&mut self, word: CommandWord) -> Result<Command, ParseError> {
+    fn arguments(&mut self, word: CommandWord) -> Result<Command, ParseError>
+        requires { extent self.old ≤ 67108864 }
+        ensures ok { IfOk result (ReadsForm word self.old self.new) }
+        ensures refused { (f : Fault) → result ≡ Err (ParseError.Syntax f)
+            → Refuses (command_slots word) self.old f }
+    {
         match word {
             CommandWord::Point => {
                 self.sketch()?;
@@ -104,7 +139,11 @@ impl<'a> Reader<'a> {
     }
 
     // The two numbers that may follow the name of a point, and mean nothing.
-    fn sketch(&mut self) -> Result<(), ParseError> {
+    fn sketch(&mut self) -> Result<(), ParseError>
+        ensures ok { OnOk result (ReadsSketch self.old self.new) }
+        ensures refused { (f : Fault) → result ≡ Err (ParseError.Syntax f)
+            → Refuses (sketch_slot ∷ []) self.old f }
+    {
         if let Some(Piece::Number(_)) = self.cursor.peek() {
             self.cursor.advance();
             self.second_number()?;
@@ -113,13 +152,15 @@ impl<'a> Reader<'a> {
     }
 
     // The second of the two numbers.
-    fn second_number(&mut self) -> Result<(), ParseError> {
-        match self.cursor.peek() {
-            Some(Piece::Number(_)) => {
-                self.cursor.advance();
-                Ok(())
-            }
-            _ => Err(self.refuse(Refusal::Expected)),
-        }
+    fn second_number(&mut self) -> Result<(), ParseError>
+        ensures ok { OnOk result (ReadsSecond self.old self.new) }
+        ensures refused { (f : Fault) → result ≡ Err (ParseError.Syntax f)
+            → Refuses (second_number_slot ∷ []) self.old f }
+    {
+        let Some(Piece::Number(_)) = self.cursor.peek() else {
+            return Err(self.refuse(Refusal::Expected));
+        };
+        self.cursor.advance();
+        Ok(())
     }
 }

@@ -1,6 +1,6 @@
 //! The words that begin an expression, and the words that no name may be.
 
-ghost use Rattle.std.specs.Prelude.{◌≡◌, Bool, ℕ, IfSome, option_map};
+ghost use Rattle.std.specs.Prelude.{◌≡◌, ◌↔◌, Bool, ℕ, IfSome, IsTrue, option_map};
 ghost use Rattle.geo_parser.specs.Forms.{due_behind, expressions};
 ghost use Rattle.geo_parser.specs.Slots as slots;
 ghost use Rattle.geo_parser.specs.StatementWords.{expression_due, expression_text};
@@ -52,6 +52,13 @@ impl ExpressionWord {
         ensures text { IfSome result (λ w. expression_text w ≡ word.now) }
     {
         find(&EXPRESSIONS, word)
+    }
+
+    /// Whether it may stand where ratios may stand or not.
+    pub fn may_stand(self, ratios: bool) -> bool
+        ensures { IsTrue result ↔ (self ≡ ExpressionWord.Ratio → IsTrue ratios) }
+    {
+        ratios || !matches!(self, ExpressionWord::Ratio)
     }
 }
 

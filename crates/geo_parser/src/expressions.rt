@@ -1,5 +1,11 @@
 //! Reading an expression.
 
+ghost use Rattle.std.specs.Prelude.{◌≡◌, ◌+◌, ◌≤◌, ◌∷◌, [], ◌++◌, false, true, IfOk, IsTrue};
+ghost use Rattle.geo_lexer.specs.declared.token_types.Fault.{Fault};
+ghost use Rattle.geo_parser.specs.Forms.{a_number, close_slot, expression_slot, open_slot, side};
+ghost use Rattle.geo_parser.specs.Reads.{ReadsExpression, ReadsFormed, ReadsNode, ReadsPart, ReadsParts, Refuses, extent};
+ghost use Rattle.geo_parser.specs.StatementWords.{expression_due};
+
 use crate::cursor::Piece;
 use crate::errors::{ParseError, Refusal};
 use crate::expression_words::ExpressionWord;
@@ -10,18 +16,33 @@ use geo_terms::Node;
 
 impl<'a> Reader<'a> {
     /// An expression that stands between braces of its own: a side of an equation.
-    pub fn side(&mut self) -> Result<TermId, ParseError> {
+    pub fn side(&mut self) -> Result<TermId, ParseError>
+        requires { extent self.old ≤ 67108864 }
+        ensures ok { IfOk result (ReadsPart 0 true self.old self.new) }
+        ensures refused { (f : Fault) → result ≡ Err (ParseError.Syntax f) → Refuses side self.old f }
+    {
         self.part(0, true)
     }
 
     /// The number of a step.
-    pub fn number(&mut self) -> Result<TermId, ParseError> {
+    pub fn number(&mut self) -> Result<TermId, ParseError>
+        requires { extent self.old ≤ 67108864 }
+        ensures ok { IfOk result (ReadsExpression 0 false self.old self.new) }
+        ensures refused { (f : Fault) → result ≡ Err (ParseError.Syntax f)
+            → Refuses (a_number ∷ []) self.old f }
+    {
         self.expression(0, false)
     }
 
     // `{ e }`, the brace being that of this level.
     #[cycle(expression)]
-    fn part(&mut self, level: u32, ratios: bool) -> Result<TermId, ParseError> {
+    fn part(&mut self, level: u32, ratios: bool) -> Result<TermId, ParseError>
+        requires level { level ≤ 129 }
+        requires room { extent self.old ≤ 67108864 }
+        ensures ok { IfOk result (ReadsPart level ratios self.old self.new) }
+        ensures refused { (f : Fault) → result ≡ Err (ParseError.Syntax f)
+            → Refuses (open_slot level ∷ expression_slot level ratios ∷ close_slot ∷ []) self.old f }
+    {
         self.open(level)?;
         let term = self.expression(level, ratios)?;
         self.close()?;
@@ -30,24 +51,37 @@ impl<'a> Reader<'a> {
 
     // An expression inside so many braces, which may have a ratio where `ratios` tells so.
     #[cycle(expression)]
-    fn expression(&mut self, level: u32, ratios: bool) -> Result<TermId, ParseError> {
+    fn expression(&mut self, level: u32, ratios: bool) -> Result<TermId, ParseError>
+        requires level { level ≤ 128 }
+        requires room { extent self.old ≤ 67108864 }
+        ensures ok { IfOk result (ReadsExpression level ratios self.old self.new) }
+        ensures refused { (f : Fault) → result ≡ Err (ParseError.Syntax f)
+            → Refuses (expression_slot level ratios ∷ []) self.old f }
+    {
         let node = self.node(level, ratios)?;
-        Ok(self.terms.intern(node)?)
+        let term = self.terms.intern(node)?;
+        Ok(term)
     }
 
     // The node of an expression, whose parts are in the store.
     #[cycle(expression)]
-    fn node(&mut self, level: u32, ratios: bool) -> Result<Node, ParseError> {
+    fn node(&mut self, level: u32, ratios: bool) -> Result<Node, ParseError>
+        requires level { level ≤ 128 }
+        requires room { extent self.old ≤ 67108864 }
+        ensures ok { IfOk result (ReadsNode level ratios self.old self.new) }
+        ensures refused { (f : Fault) → result ≡ Err (ParseError.Syntax f)
+            → Refuses (expression_slot level ratios ∷ []) self.old f }
+    {
         match self.cursor.peek() {
             Some(Piece::Number(number)) => {
                 self.cursor.advance();
                 Ok(Node::Int(number))
             }
             Some(Piece::Word(word)) => match ExpressionWord::of(word) {
-                Some(ExpressionWord::Ratio) if !ratios => {
-                    Err(self.refuse(Refusal::RatioNotAllowed))
-                }
                 Some(form) => {
+                    if !form.may_stand(ratios) {
+                        return Err(self.refuse(Refusal::RatioNotAllowed));
+                    }
                     self.cursor.advance();
                     self.formed(form, level, ratios)
                 }
@@ -64,7 +98,14 @@ impl<'a> Reader<'a> {
         form: ExpressionWord,
         level: u32,
         ratios: bool,
-    ) -> Result<Node, ParseError> {
+    ) -> Result<Node, ParseError>
+        requires level { level ≤ 128 }
+        requires room { extent self.old ≤ 67108864 }
+        requires allowed { form ≡ ExpressionWord.Ratio → IsTrue ratios }
+        ensures ok { IfOk result (ReadsFormed form level ratios self.old self.new) }
+        ensures refused { (f : Fault) → result ≡ Err (ParseError.Syntax f)
+            → Refuses (expression_due level ratios form) self.old f }
+    {
         match form {
             ExpressionWord::SignedArea => {
                 let (a, b, c) = self.three_points()?;
@@ -78,7 +119,10 @@ impl<'a> Reader<'a> {
                 let (a, b, c, d) = self.four_points()?;
                 Ok(Node::R(a, b, c, d))
             }
-            ExpressionWord::Neg => Ok(Node::Neg(self.part(level + 1, ratios)?)),
+            ExpressionWord::Neg => {
+                let e = self.part(level + 1, ratios)?;
+                Ok(Node::Neg(e))
+            }
             ExpressionWord::Sum => {
                 let (e, f) = self.two_parts(level + 1, ratios, ratios)?;
                 Ok(Node::Add(e, f))
@@ -103,11 +147,18 @@ impl<'a> Reader<'a> {
     fn two_parts(
         &mut self,
         level: u32,
-        first_ratios: bool,
-        second_ratios: bool,
-    ) -> Result<(TermId, TermId), ParseError> {
-        let first = self.part(level, first_ratios)?;
-        let second = self.part(level, second_ratios)?;
-        Ok((first, second))
+        first: bool,
+        second: bool,
+    ) -> Result<(TermId, TermId), ParseError>
+        requires level { level ≤ 129 }
+        requires room { extent self.old ≤ 67108864 }
+        ensures ok { IfOk result (λ p. ReadsParts level first second self.old self.new p.0 p.1) }
+        ensures refused { (f : Fault) → result ≡ Err (ParseError.Syntax f)
+            → Refuses ((open_slot level ∷ expression_slot level first ∷ close_slot ∷ [])
+            ++ (open_slot level ∷ expression_slot level second ∷ close_slot ∷ [])) self.old f }
+    {
+        let e = self.part(level, first)?;
+        let f = self.part(level, second)?;
+        Ok((e, f))
     }
 }

@@ -1,11 +1,11 @@
-use Rattle.std.proofs.Common.{◌≡◌, Some, [], ◌∷◌, List, ℕ, sym, ap, ◌∙◌, refl, subst}
+use Rattle.std.proofs.Common.{◌≡◌, Some, [], ◌∷◌, List, ℕ, sym, ap, ◌∙◌, refl, subst, arith, length, ◌<◌}
 use Rattle.geo_lexer.specs.Lexemes.{word_lexeme}
 use Rattle.geo_parser.specs.Coming.{Coming, next_lexeme}
 use Rattle.geo_parser.specs.declared.cursor.Piece.TheVariants.{Word}
 use Rattle.geo_parser.specs.Forms.{name_slot}
 use Rattle.geo_parser.specs.Pieces.{refusal_number}
-use Rattle.geo_parser.specs.Reads.{Reads, ReadsName, reading}
-use Rattle.geo_parser.proofs.Reading.{Reads-token, Refuses-answer, Refuses-token, next_piece}
+use Rattle.geo_parser.specs.Reads.{Reads, ReadsName, extent, reading}
+use Rattle.geo_parser.proofs.Reading.{length-tail, Reads-token, Refuses-answer, Refuses-token, next_piece}
 use Rattle.geo_parser.proofs.reader.Reader.name.Goals as goal
 
 pub returns-in-Ok-clause-number : goal.returns-in-Ok-clause-number
@@ -18,7 +18,9 @@ returns-in-Ok-clause-number c =
     let read = Reads-token due s (word_lexeme word) is (λ begun rest. found.may_stand (reading s.names begun s.points) rest refl) in
     let P : Coming → Type 0 = λ k. Reads due s (record s { cursor = k }) (word_lexeme word ∷ []) in
     let Q : List ℕ → Type 0 = λ w. Reads due s (record s { cursor = c.advance.new.self }) (word_lexeme w ∷ []) in
-    record { reads = subst Q (sym found.text) (subst P (sym c.advance.ensures) read); within = found.within }
+    let shorter : extent (record s { cursor = c.advance.new.self }) < extent s =
+    omega (arith, length-tail s.cursor.tokens (word_lexeme word) is, ap (λ k. length k.tokens) c.advance.ensures) in
+    record { reads = subst Q (sym found.text) (subst P (sym c.advance.ensures) read); within = found.within; room = shorter }
 
 pub returns-in-Err-clause-refused : goal.returns-in-Err-clause-refused
 returns-in-Err-clause-refused c = λ f e.

@@ -1,0 +1,83 @@
+-- Reading what stands behind a command's new name and behind a statement's word.
+use Rattle.std.proofs.Common.{◌≡◌, ℕ, ◌+◌, ◌≤◌, ◌<◌, Bool, true, false, List, [], ◌∷◌, ◌++◌, length, Some, None, inl, refl, sym, ap, ◌∙◌, subst, arith}
+use Rattle.std.specs.Prelude.{All}
+use Rattle.std.specs.List.{flat_map}
+use Rattle.std.proofs.lemmas.List.{append-nil}
+use Rattle.std.proofs.lemmas.List.Elements.{All-cons, All-nil}
+use Rattle.geo_points.specs.declared.ids.TermId.{TermId}
+use Rattle.geo_lexer.specs.declared.token_types.Fault.{Fault}
+use Rattle.geo_lexer.specs.Lexemes.{Lexeme}
+use Rattle.geo_program.specs.CanonicalText.{argument_lexemes}
+use Rattle.geo_program.specs.Expressions.{braced, expression_lexemes}
+use Rattle.geo_program.specs.Forms.{AreSidesStored, Argument, CommandForm, IsStored, StatementForm, command_form, form, number_argument, side_argument, statement_form}
+use Rattle.geo_program.specs.WellFormed.{IsArgument}
+use Rattle.geo_program.specs.declared.commands.Command.{Command}
+use Rattle.geo_program.specs.declared.statements.Statement.{Statement}
+use Rattle.geo_terms.specs.Stores.{tree_of}
+use Rattle.geo_terms.specs.Trees.{Tree}
+use Rattle.geo_parser.specs.declared.command_words.CommandWord.{CommandWord}
+use Rattle.geo_parser.specs.declared.reader.Reader.{Reader}
+use Rattle.geo_parser.specs.declared.statement_words.StatementWord.{StatementWord}
+use Rattle.geo_parser.specs.CommandWords.{command_kind, command_points, command_slots, command_text}
+use Rattle.geo_parser.specs.Forms.{Slot, a_number, side}
+use Rattle.geo_parser.specs.Reads.{Reads, ReadsArguments, ReadsExpression, ReadsForm, ReadsPart, ReadsStated, Refuses, argument_slots, scope}
+use Rattle.geo_parser.specs.StatementWords.{statement_due, statement_text}
+
+-- the number of a step is an argument
+pub ReadsArguments-number : (a b : Reader) (e : TermId) → ReadsExpression 0 false a b e → ReadsArguments (number_argument (tree_of b.terms e) ∷ []) a b
+ReadsArguments-number a b e h =
+    let P : List Lexeme → Type 0 = λ ls. Reads (a_number ∷ []) a b ls in record {
+      reads = subst P (sym (append-nil (expression_lexemes a.names (tree_of b.terms e)))) h.reads;
+      valid = All-cons (IsArgument (scope a)) _ [] (h.tree.valid, omega (arith, h.tree.nested)) (All-nil (IsArgument (scope a)));
+    }
+
+-- a side of an equation is an argument
+pub ReadsArguments-side : (a b : Reader) (e : TermId) → ReadsPart 0 true a b e → ReadsArguments (side_argument (tree_of b.terms e) ∷ []) a b
+ReadsArguments-side a b e h =
+    let P : List Lexeme → Type 0 = λ ls. Reads side a b ls in record {
+      reads = subst P (sym (append-nil (braced (expression_lexemes a.names (tree_of b.terms e))))) h.reads;
+      valid = All-cons (IsArgument (scope a)) _ [] (h.tree.valid, omega (arith, h.tree.nested)) (All-nil (IsArgument (scope a)));
+    }
+
+-- a command with these arguments
+pub ReadsForm-made : (word : CommandWord) (arguments : List Argument) (old new : Reader) (command : Command) → ReadsArguments arguments old new → flat_map argument_slots arguments ≡ command_slots word
+    → command_form new.terms command ≡ form (command_text word) (command_kind word) (command_points word) arguments → IsStored new.terms command → ReadsForm word old new command
+ReadsForm-made word arguments old new command h slots made stored =
+    let same : arguments ≡ (command_form new.terms command).arguments = ap (λ f. f.arguments) (sym made) in
+    let P : List Slot → Type 0 = λ F. Reads F old new (flat_map (argument_lexemes old.names) arguments) in
+    let Q : List Argument → Type 0 = λ xs. Reads (command_slots word) old new (flat_map (argument_lexemes old.names) xs) in
+    let R : List Lexeme → Type 0 = λ ls. Reads (command_slots word) old new ls in
+    record {
+      sketch = None;
+      sketched = inl refl;
+      named = record { text = ap (λ f. f.word) made; kind = ap (λ f. f.kind) made; points = ap (λ f. f.points) made };
+      reads = subst R (sym (append-nil (flat_map (argument_lexemes old.names) (command_form new.terms command).arguments))) (subst Q same (subst P slots h.reads));
+      valid = subst (All (IsArgument (scope old))) same h.valid;
+      stored = stored;
+    }
+
+-- the word is known by an equation
+pub ReadsForm-at : (word word' : CommandWord) (old new : Reader) (command : Command) → word ≡ word' → ReadsForm word' old new command → ReadsForm word old new command
+ReadsForm-at word word' old new command e h = let P : CommandWord → Type 0 = λ w. ReadsForm w old new command in subst P (sym e) h
+
+pub Refuses-at : (word word' : CommandWord) (s : Reader) (f : Fault) → word ≡ word' → Refuses (command_slots word') s f → Refuses (command_slots word) s f
+Refuses-at word word' s f e h = let P : CommandWord → Type 0 = λ w. Refuses (command_slots w) s f in subst P (sym e) h
+
+-- a statement with these arguments
+pub ReadsStated-made : (word : StatementWord) (arguments : List Argument) (old new : Reader) (statement : Statement) → ReadsArguments arguments old new → flat_map argument_slots arguments ≡ statement_due word
+    → (statement_form new.terms statement).word ≡ statement_text word → (statement_form new.terms statement).arguments ≡ arguments → AreSidesStored new.terms statement → ReadsStated word old new statement
+ReadsStated-made word arguments old new statement h slots text made stored =
+    let P : List Slot → Type 0 = λ F. Reads F old new (flat_map (argument_lexemes old.names) arguments) in
+    let Q : List Argument → Type 0 = λ xs. Reads (statement_due word) old new (flat_map (argument_lexemes old.names) xs) in
+    record {
+      text = text;
+      reads = subst Q (sym made) (subst P slots h.reads);
+      valid = subst (All (IsArgument (scope old))) (sym made) h.valid;
+      sides = stored;
+    }
+
+pub ReadsStated-at : (word word' : StatementWord) (old new : Reader) (statement : Statement) → word ≡ word' → ReadsStated word' old new statement → ReadsStated word old new statement
+ReadsStated-at word word' old new statement e h = let P : StatementWord → Type 0 = λ w. ReadsStated w old new statement in subst P (sym e) h
+
+pub Refuses-stated : (word word' : StatementWord) (s : Reader) (f : Fault) → word ≡ word' → Refuses (statement_due word') s f → Refuses (statement_due word) s f
+Refuses-stated word word' s f e h = let P : StatementWord → Type 0 = λ w. Refuses (statement_due w) s f in subst P (sym e) h
