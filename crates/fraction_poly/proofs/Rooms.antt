@@ -10,21 +10,14 @@ use Rattle.geo_terms.specs.Stores.{Store, IsStore, node_tree, trees_of, tree_of}
 use Rattle.geo_terms.specs.Trees.{Tree, negation, addition, subtraction, multiplication, division}
 use Rattle.geo_terms.proofs.Trees.{tree_of-node}
 use Rattle.fraction_poly.specs.declared.measures.Numbers.{Numbers}
-use Rattle.fraction_poly.specs.Measures.{HasRoom, numbers_of, sum_numbers, product_numbers, turned_numbers}
+use Rattle.fraction_poly.specs.Measures.{HasRoom, HaveRoom, numbers_of, sum_numbers, product_numbers, turned_numbers}
 use Rattle.fraction_poly.specs.MultipliedOut.{multiplied_out}
 use Rattle.fraction_poly.specs.Parts.{CanMultiplyOut, ProductFits, SumFits, IsPart}
 use Rattle.fraction_poly.proofs.Sizes.{IsWithin}
 use Rattle.fraction_poly.proofs.TermBounds.{ArePositive, ArePositive-turned, Bound, bounds, positive}
 
 -- NUMBERS
--- the weights and the degrees are within the bounds of a polynomial
-pub record AreRoomy (a : Numbers) : Type 0 where
-  pub numerator_weight : a.wn < 2 ^ 127
-  pub denominator_weight : a.wd < 2 ^ 127
-  pub numerator_degree : a.gn ≤ 65535
-  pub denominator_degree : a.gd ≤ 65535
-
-roomy : (e : Tree) → HasRoom e → AreRoomy (numbers_of e)
+roomy : (e : Tree) → HasRoom e → HaveRoom (numbers_of e)
 roomy e h = record {
   numerator_weight = h.numerator_weight;
   denominator_weight = h.denominator_weight;
@@ -32,7 +25,7 @@ roomy e h = record {
   denominator_degree = h.denominator_degree;
 }
 
-has_room : (e : Tree) → AreRoomy (numbers_of e) → HasRoom e
+has_room : (e : Tree) → HaveRoom (numbers_of e) → HasRoom e
 has_room e h = record {
   numerator_weight = h.numerator_weight;
   denominator_weight = h.denominator_weight;
@@ -44,7 +37,7 @@ has_room e h = record {
 factor-le : (x y : ℕ) → 1 ≤ y → x ≤ x * y
 factor-le x y h = omega (arith, mul-le-mul_left x h)
 
-turned_roomy : (a : Numbers) → AreRoomy (turned_numbers a) → AreRoomy a
+turned_roomy : (a : Numbers) → HaveRoom (turned_numbers a) → HaveRoom a
 turned_roomy a h = record {
   numerator_weight = h.denominator_weight;
   denominator_weight = h.numerator_weight;
@@ -52,7 +45,7 @@ turned_roomy a h = record {
   denominator_degree = h.numerator_degree;
 }
 
-left_of_sum : (a b : Numbers) → ArePositive b → AreRoomy (sum_numbers a b) → AreRoomy a
+left_of_sum : (a b : Numbers) → ArePositive b → HaveRoom (sum_numbers a b) → HaveRoom a
 left_of_sum a b g h = record {
   numerator_weight = omega (arith, factor-le a.wn b.wd g.wd, h.numerator_weight);
   denominator_weight = omega (arith, factor-le a.wd b.wd g.wd, h.denominator_weight);
@@ -60,7 +53,7 @@ left_of_sum a b g h = record {
   denominator_degree = omega (arith, h.denominator_degree);
 }
 
-right_of_sum : (a b : Numbers) → ArePositive a → AreRoomy (sum_numbers a b) → AreRoomy b
+right_of_sum : (a b : Numbers) → ArePositive a → HaveRoom (sum_numbers a b) → HaveRoom b
 right_of_sum a b g h = record {
   numerator_weight = omega (arith, factor-le b.wn a.wd g.wd, h.numerator_weight);
   denominator_weight = omega (arith, factor-le b.wd a.wd g.wd, h.denominator_weight);
@@ -68,7 +61,7 @@ right_of_sum a b g h = record {
   denominator_degree = omega (arith, h.denominator_degree);
 }
 
-left_of_product : (a b : Numbers) → ArePositive b → AreRoomy (product_numbers a b) → AreRoomy a
+left_of_product : (a b : Numbers) → ArePositive b → HaveRoom (product_numbers a b) → HaveRoom a
 left_of_product a b g h = record {
   numerator_weight = omega (arith, factor-le a.wn b.wn g.wn, h.numerator_weight);
   denominator_weight = omega (arith, factor-le a.wd b.wd g.wd, h.denominator_weight);
@@ -76,7 +69,7 @@ left_of_product a b g h = record {
   denominator_degree = omega (arith, h.denominator_degree);
 }
 
-right_of_product : (a b : Numbers) → ArePositive a → AreRoomy (product_numbers a b) → AreRoomy b
+right_of_product : (a b : Numbers) → ArePositive a → HaveRoom (product_numbers a b) → HaveRoom b
 right_of_product a b g h = record {
   numerator_weight = omega (arith, factor-le b.wn a.wn g.wn, h.numerator_weight);
   denominator_weight = omega (arith, factor-le b.wd a.wd g.wd, h.denominator_weight);
@@ -129,7 +122,7 @@ product_fits p q w k g v j f h i norm degree = record {
   degree = omega (arith, h.degree, i.degree);
 }
 
-sum_fits : (a b : Numbers) (p q : Terms × Terms) → Bound a p → Bound b q → AreRoomy (sum_numbers a b) → SumFits p q
+sum_fits : (a b : Numbers) (p q : Terms × Terms) → Bound a p → Bound b q → HaveRoom (sum_numbers a b) → SumFits p q
 sum_fits a b p q h g room = record {
   left = product_fits p.0 q.1 a.wn a.kn a.gn b.wd b.kd b.gd h.numerator g.denominator (omega (arith, room.numerator_weight)) (omega (arith, room.numerator_degree));
   right = product_fits q.0 p.1 b.wn b.kn b.gn a.wd a.kd a.gd g.numerator h.denominator (omega (arith, room.numerator_weight)) (omega (arith, room.numerator_degree));

@@ -65,6 +65,13 @@ capped a = record {
 }
 
 -- the weights and the degrees are within the bounds of a polynomial
+pub record HaveRoom (a : Numbers) : Type 0 where
+  pub numerator_weight : a.wn < 2 ^ 127
+  pub denominator_weight : a.wd < 2 ^ 127
+  pub numerator_degree : a.gn ≤ 65535
+  pub denominator_degree : a.gd ≤ 65535
+
+-- so are those of the term
 pub record HasRoom (e : Tree) : Type 0 where
   pub numerator_weight : (numbers_of e).wn < 2 ^ 127
   pub denominator_weight : (numbers_of e).wd < 2 ^ 127

@@ -1,7 +1,7 @@
 //! How large a term's numerator and denominator may be.
 
 ghost use Rattle.std.specs.Prelude.{◌≡◌, ◌+◌, ◌*◌, ◌<◌, ◌↔◌, IfOk, IsTrue, List, Some, length, slice_get};
-ghost use Rattle.fraction_poly.specs.Measures.{HasRoom, capped, capped_number, numbers_of};
+ghost use Rattle.fraction_poly.specs.Measures.{HasRoom, HaveRoom, capped, capped_number, numbers_of};
 ghost use Rattle.fraction_poly.specs.Parts.{AreNumbersOf};
 ghost use Rattle.geo_terms.specs.Stores.{HasChildrenBelow, node_tree, tree_of};
 ghost use Rattle.geo_terms.specs.Trees.{Tree};
@@ -38,7 +38,8 @@ impl Numbers {
     /// Whether a term with these numbers may be multiplied out: the weights and the degrees are within the bounds of a
     /// polynomial.
     pub fn has_room(&self) -> bool
-        ensures { (e : Tree) → self.now ≡ capped (numbers_of e) → (IsTrue result ↔ HasRoom e) }
+        ensures bounds { IsTrue result ↔ HaveRoom self.now }
+        ensures term { (e : Tree) → self.now ≡ capped (numbers_of e) → (IsTrue result ↔ HasRoom e) }
     {
         let weight = self.wn.max(self.wd);
         let degree = self.gn.max(self.gd);

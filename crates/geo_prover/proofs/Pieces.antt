@@ -1,7 +1,6 @@
 -- The bounds of a sum, a difference and a product of pieces.
-use Rattle.std.proofs.Common.{◌≡◌, ℕ, ◌*◌, ◌≤◌, max, ℤ, to_z, of_z, unsigned_abs, [], ◌∷◌, ◌++◌, ap, subst, arith}
+use Rattle.std.proofs.Common.{◌≡◌, ℕ, ◌*◌, ◌≤◌, max, ℤ, unsigned_abs, [], ◌∷◌, ◌++◌, subst, arith}
 use Rattle.std.proofs.Math.Nat.{mul-le-mul}
-use Rattle.std.specs.Int.{w128}
 use Rattle.geo_points.specs.declared.ids.PointId.{PointId}
 use Rattle.sparse_lists.specs.SparseLists.{AllKeys}
 use Rattle.sparse_lists.proofs.Sums.{AllKeys-canonical, AllKeys-append}
@@ -13,11 +12,10 @@ use Rattle.geo_poly.proofs.Negated.{norm_of-negated}
 use Rattle.geo_poly.proofs.PolynomialLaws.{norm_of-sum_of-le}
 use Rattle.geo_poly.proofs.ProductLaws.{norm_of-product_of-le}
 use Rattle.geo_poly.proofs.ReplaceBounds.{total_degree-product_of-le}
-use Rattle.geo_prover.specs.Moves.{area_piece, number_piece, piece_sum, piece_difference, piece_product}
+use Rattle.geo_prover.specs.Moves.{piece_sum, piece_difference, piece_product}
 use Rattle.geo_prover.specs.declared.program.Command.{Command}
 use Rattle.geo_prover.specs.declared.program.Command.TheVariants.{Pratio}
 use Rattle.geo_prover.specs.Program.{IsCommand}
-use Rattle.geo_prover.proofs.Kept.{kept}
 use Rattle.geo_prover.proofs.Shapes.{digit_small}
 
 -- the degree is at most d

@@ -104,11 +104,7 @@ pub fn coordinate_move(
 }
 
 /// The rows of the areas whose points are all free.
-fn coordinate_rows(
-    alloc: Global,
-    commands: &[Command],
-    variables: &[Var],
-) -> Result<Rows, NoMemory>
+fn coordinate_rows(alloc: Global, commands: &[Command], variables: &[Var]) -> Result<Rows, NoMemory>
     ensures rows { IfOk result (λ rows. rows ≡ filter_map (free_row commands.now) variables.now) }
     ensures bounded { IfOk result (λ rows. AllBounded rows × AllPowersSmall rows) }
 {

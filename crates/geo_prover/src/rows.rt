@@ -69,11 +69,7 @@ fn multiple(alloc: Global, n: i128, a: PointId, b: PointId, c: PointId) -> Resul
 }
 
 /// The row of an area whose points are all free.
-pub fn free_row(
-    alloc: Global,
-    commands: &[Command],
-    variable: Var,
-) -> Result<Option<Row>, NoMemory>
+pub fn free_row(alloc: Global, commands: &[Command], variable: Var) -> Result<Option<Row>, NoMemory>
     ensures row { IfOk result (λ o. o ≡ free_row commands.now variable) }
     ensures bounded { IfOk result (λ o. IfSome o (λ r. IsBounded r.num × (r.power ≤ 2))) }
 {

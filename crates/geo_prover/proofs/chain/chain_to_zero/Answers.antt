@@ -1,12 +1,10 @@
-use Rattle.std.proofs.Common.{◌≡◌, ◌≢◌, ◌≤◌, ◌++◌, List, [], ◌∷◌, sym, ap, ◌∙◌, arith}
-use Rattle.std.specs.Prelude.{IfNone, IfSome}
-use Rattle.geo_poly.specs.Polynomials.{Terms}
+use Rattle.std.proofs.Common.{◌≡◌, ◌++◌, List, [], ◌∷◌, sym, ap, ◌∙◌, arith}
 use Rattle.geo_prover.specs.declared.chain.Chain.{Chain}
 use Rattle.geo_prover.specs.declared.log.Line.{Line}
 use Rattle.geo_prover.specs.declared.log.Line.TheVariants.{End}
 use Rattle.geo_prover.specs.Chains.{AreForced}
 use Rattle.geo_prover.specs.FirstLog.{steps_of_prove}
-use Rattle.geo_prover.specs.Logs.{HasNoArea, IsDefinedChain, NoCutDue}
+use Rattle.geo_prover.specs.Logs.{IsDefinedChain}
 use Rattle.geo_prover.proofs.Items.{ok_none_weaker, ok_some_weaker}
 use Rattle.geo_prover.proofs.NextLines.{chain_ended, forced_on, no_chain, no_chain_to_zero}
 use Rattle.geo_prover.proofs.chain.chain_to_zero.Goals as goal

@@ -1,6 +1,5 @@
-use Rattle.std.proofs.Common.{◌≡◌, ◌-◌, List, [], ◌∷◌, ◌++◌, sym, ap, subst, ◌∙◌}
+use Rattle.std.proofs.Common.{◌≡◌, ◌-◌, [], ◌∷◌, ◌++◌, sym, ap, subst, ◌∙◌}
 use Rattle.geo_poly.specs.Polynomials.{Terms}
-use Rattle.geo_prover.specs.declared.log.Line.{Line}
 use Rattle.geo_prover.specs.declared.log.Line.TheVariants.{Coords}
 use Rattle.geo_prover.specs.declared.moves.Replacement.{Replacement}
 use Rattle.geo_prover.specs.Chains.{AreForced}
@@ -31,8 +30,7 @@ returns c =
     is_coordinate_move c.in_ok-replacement.replacement commands c.args.variables.now q c.requires.variables built.rows built.den built.charge in
     let found = rw c.in-Some.is at c.in_ok-poly.ensures.some in
     let moved = subst (λ (m : Replacement). IsMoved m left q r) move found in
-    let paid = (rw c.in-Some.is at c.in_ok-poly.ensures.paid) ∙ ap (λ (m : Replacement). left - move_charge m q) move in
-    (
+    let paid = (rw c.in-Some.is at c.in_ok-poly.ensures.paid) ∙ ap (λ (m : Replacement). left - move_charge m q) move in (
       record {
         lines = Coords r ∷ [];
         grown = c.in_ok-push.ensures.items ∙ ap (λ (x : Terms). c.args.self.now.lines.items ++ Coords x ∷ []) c.in_ok-copy.ensures;
