@@ -16,6 +16,8 @@ pub mod Cutting
 pub mod NextLines
 pub mod OneLog
 pub mod Moving
+pub mod StepsOf
+pub mod StepNumbers
 pub mod DistinctVariables
 pub mod Shares
 pub mod GrowingRows

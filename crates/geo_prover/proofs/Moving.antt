@@ -3,7 +3,7 @@ use Rattle.std.proofs.Common.{◌≡◌, ◌≢◌, ◌↔◌, Result, Ok, Err, 
 use Rattle.std.specs.Prelude.{slice_get}
 use Rattle.std.specs.List.{filter_map}
 use Rattle.std.proofs.lemmas.Bool.{cases_lt}
-use Rattle.std.proofs.lemmas.Option.{slice_get-get_or}
+use Rattle.std.proofs.lemmas.Option.{get_or_from_slice_get, slice_get-get_or, slice_get_within}
 use Rattle.geo_points.specs.declared.ids.PointId.{PointId}
 use Rattle.geo_poly.specs.declared.limits.PolyError.{PolyError}
 use Rattle.geo_poly.specs.declared.limits.PolyError.TheVariants.{TooLarge}
@@ -131,3 +131,7 @@ made_at_place commands k h lt =
 
 pub at_place : (commands : List Command) (k : ℕ) → k < length commands → slice_get commands k ≡ Some (get_or commands k Point)
 at_place commands k lt = slice_get-get_or commands k Point lt
+
+pub made_where : (commands : List Command) (k : ℕ) (command : Command) → AreCommands 0 commands → slice_get commands k ≡ Some command → IsCommand k command
+made_where commands k command h at =
+    subst (λ (x : Command). IsCommand k x) (get_or_from_slice_get commands k command Point at) (made_at_place commands k h (slice_get_within commands k command at))

@@ -17,7 +17,9 @@ use Rattle.geo_poly.specs.Polynomials as Polynomials
 use Rattle.geo_poly.specs.Values.{integer, value, variable_value}
 use Rattle.geo_poly.proofs.CanonicalAreas.{canonical_area-value}
 use Rattle.geo_poly.proofs.Values.{value-sum_of, value-product_of}
-use Rattle.geo_prover.specs.Moves.{variable_polynomial, canon_polynomial, along_numerator, coordinate_numerator}
+use Rattle.fraction_poly.specs.MultipliedOut.{canon_polynomial, variable_polynomial}
+use Rattle.geo_prover.specs.declared.rows.Along.{Along}
+use Rattle.geo_prover.specs.Moves.{along_numerator, coordinate_numerator, number_piece}
 
 infixr 3 ◌∘◌
 pub ◌∘◌ : {a b c : Fraction} → Same a b → Same b c → Same a c
@@ -122,10 +124,10 @@ module _ (at : ℕ → Point) (number : ℕ → Fraction) where
   scaled_is z a b c = record { same = product_is (constant_of z) (canon_polynomial (canonical_area a b c)) (constant_is z) (area_is a b c) }
 
   -- the numerator of the row of S_ABY
-  pub along_is : (w u v : PointId) (n d : ℤ) (a b : PointId)
-      → Same (value_at (along_numerator w u v n d a b).poly)
-      (minus (plus (times (whole d) (signed_area (at a.0) (at b.0) (at w.0))) (times (whole n) (signed_area (at a.0) (at b.0) (at v.0)))) (times (whole n) (signed_area (at a.0) (at b.0) (at u.0))))
-  along_is w u v n d a b = (difference_is (sum_is (scaled_is d a b w) (scaled_is n a b v)) (scaled_is n a b u)).same
+  pub along_is : (p : Along) (n d : ℤ) (a b : PointId)
+      → Same (value_at (along_numerator p (number_piece n) (number_piece d) a b).poly)
+      (minus (plus (times (whole d) (signed_area (at a.0) (at b.0) (at p.w.0))) (times (whole n) (signed_area (at a.0) (at b.0) (at p.v.0)))) (times (whole n) (signed_area (at a.0) (at b.0) (at p.u.0))))
+  along_is p n d a b = (difference_is (sum_is (scaled_is d a b p.w) (scaled_is n a b p.v)) (scaled_is n a b p.u)).same
 
   coordinate_is : (v : Var) → Same (value_at (variable_polynomial (pos 1) v)) (x v)
   coordinate_is v = variable_is (pos 1) v ∘ one_times (x v)
