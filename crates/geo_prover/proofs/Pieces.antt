@@ -1,7 +1,6 @@
 -- The bounds of a sum, a difference and a product of pieces.
-use Rattle.std.proofs.Common.{◌≡◌, ℕ, ◌*◌, ◌≤◌, max, ℤ, unsigned_abs, [], ◌∷◌, ◌++◌, subst, arith}
+use Rattle.std.proofs.Common.{ℕ, ◌*◌, ◌≤◌, max, [], ◌∷◌, ◌++◌, arith}
 use Rattle.std.proofs.Math.Nat.{mul-le-mul}
-use Rattle.geo_points.specs.declared.ids.PointId.{PointId}
 use Rattle.sparse_lists.specs.SparseLists.{AllKeys}
 use Rattle.sparse_lists.proofs.Sums.{AllKeys-canonical, AllKeys-append}
 use Rattle.geo_poly.specs.declared.replacement.Piece.{Piece}
@@ -13,10 +12,6 @@ use Rattle.geo_poly.proofs.PolynomialLaws.{norm_of-sum_of-le}
 use Rattle.geo_poly.proofs.ProductLaws.{norm_of-product_of-le}
 use Rattle.geo_poly.proofs.ReplaceBounds.{total_degree-product_of-le}
 use Rattle.geo_prover.specs.Moves.{piece_sum, piece_difference, piece_product}
-use Rattle.geo_prover.specs.declared.program.Command.{Command}
-use Rattle.geo_prover.specs.declared.program.Command.TheVariants.{Pratio}
-use Rattle.geo_prover.specs.Program.{IsCommand}
-use Rattle.geo_prover.proofs.Shapes.{digit_small}
 
 -- the degree is at most d
 UpTo : ℕ → Powers → Type 0
@@ -62,10 +57,3 @@ IsBounded-product f g h k = record {
   degree = omega (arith, total_degree-product_of-le f.poly g.poly, h.degree, k.degree);
   weight = let weights : 1 * 1 ≤ f.weight * g.weight = mul-le-mul h.weight k.weight in omega (arith, weights);
 }
-
--- the numbers of a command are of one digit
-pub small_numbers : (k : ℕ) (command : Command) (w u v : PointId) (n d : ℤ) → command ≡ Pratio w u v n d → IsCommand k command → (unsigned_abs n ≤ 9) × (unsigned_abs d ≤ 9)
-small_numbers k command w u v n d e h =
-    let P : Command → Type 0 = λ x. IsCommand k x in
-    let made : IsCommand k (Pratio w u v n d) = subst P e h in
-    (made.3, digit_small d made.4 made.5)
