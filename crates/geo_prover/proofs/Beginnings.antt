@@ -282,8 +282,7 @@ same_from xs ys (z ∷ more) e short = absurd (omega (arith, ap length e, length
 same_parts : (lines : List (List ℕ)) (q p : Program) → IsSpelt lines q → IsSpelt lines p → (p.names ≡ q.names) × (p.commands ≡ q.commands)
 same_parts lines q p g h =
     let there = begins_with lines q p g h in
-    let back = begins_with lines p q h g in
-    (
+    let back = begins_with lines p q h g in (
       same_from p.names q.names there.more_names there.names_are (omega (arith, ap length back.names_are, length-append p.names back.more_names)),
       same_from p.commands q.commands there.more_commands there.commands_are
           (omega (arith, ap length back.commands_are, length-append p.commands back.more_commands)),

@@ -1,9 +1,8 @@
 -- Cuts by a number: there is one at most, and after it none is due.
 use lib.IntN as IntN
-use Rattle.std.proofs.Common.{◌≡◌, ℕ, ◌*◌, ◌<◌, eqb, false, ℤ, pos, negsuc, ◌*ℤ◌, ◌<ℤ◌, List, [], ◌∷◌, length, get_or, unsigned_abs, All, Contains, refl, sym, ap, ap₂, subst, ◌∙◌, inl, inr, lit≤, arith}
+use Rattle.std.proofs.Common.{◌≡◌, ℕ, ◌*◌, ◌<◌, eqb, false, ℤ, pos, negsuc, ◌*ℤ◌, ◌<ℤ◌, [], ◌∷◌, length, get_or, unsigned_abs, Contains, refl, sym, ap, ap₂, subst, ◌∙◌, lit≤, arith}
 use Rattle.std.specs.Int.{◌∣◌}
 use Rattle.std.proofs.Math.Nat.{dvd_of_mul-dvd-mul_left, mul-dvd-mul_left, one-dvd, mul-one}
-use Rattle.std.proofs.lemmas.Bool.{cases_lt}
 use Rattle.std.proofs.lemmas.Bool.Decides.{nat_tests}
 use Rattle.std.proofs.lemmas.Int.{ints, unsigned_abs-mul}
 use Rattle.std.proofs.lemmas.List.Sums.{sum_by-cons}
@@ -15,9 +14,8 @@ use Rattle.geo_points.proofs.Nonzero.{cancel_factor}
 use Rattle.geo_poly.specs.declared.variables.Var.{Var}
 use Rattle.geo_poly.specs.Factors.{DividesAll, IsFactor, IsFactorOf, leading_coefficient}
 use Rattle.geo_poly.specs.Monomials.{Powers, IsMonomial, exponents, exponent, product}
-use Rattle.geo_poly.specs.Polynomials.{IsPolynomial, Terms, multiples, product_of}
+use Rattle.geo_poly.specs.Polynomials.{IsPolynomial, Terms, multiples}
 use Rattle.geo_poly.specs.Variables.{var_cmp}
-use Rattle.geo_poly.proofs.FactorDivision.{factor_unique}
 use Rattle.geo_poly.proofs.FactorLaws.{multiples-product}
 use Rattle.geo_poly.proofs.Orders.{exponents_add, var_order}
 use Rattle.geo_poly.proofs.SignedContent.{nonzero_divisor}

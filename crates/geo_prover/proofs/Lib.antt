@@ -11,7 +11,6 @@ pub mod Digits
 pub mod Shapes
 pub mod Declaring
 pub mod Beginnings
-pub mod Kept
 pub mod Cutting
 pub mod NextLines
 pub mod OneLog

@@ -1,5 +1,5 @@
 -- Moves: what they make of a polynomial, what they cost, and the replacement that the code builds.
-use Rattle.std.proofs.Common.{◌≡◌, ◌≢◌, ◌↔◌, Result, Ok, Err, ap₂, ℕ, zero, suc, ◌+◌, ◌*◌, ◌-◌, ◌^◌, ◌<◌, ◌≤◌, min, pos, Some, List, [], ◌∷◌, length, get_or, refl, sym, ap, subst, ◌∙◌, inl, inr, arith}
+use Rattle.std.proofs.Common.{◌≡◌, ◌↔◌, Result, Ok, Err, ap₂, ℕ, zero, suc, ◌+◌, ◌*◌, ◌-◌, ◌^◌, ◌<◌, ◌≤◌, min, pos, Some, List, [], ◌∷◌, length, get_or, refl, sym, ap, subst, ◌∙◌, inl, inr, arith}
 use Rattle.std.specs.Prelude.{slice_get}
 use Rattle.std.specs.List.{filter_map}
 use Rattle.std.proofs.lemmas.Bool.{cases_lt}
@@ -103,12 +103,6 @@ not_replaced move left q r rows den result which rows-are den-is is norm degree 
     go Degree e weight degrees = let high = degree.0 e in omega (arith, high.1, degrees, h.degree_fits)
 
 -- WHAT THE CODE BUILDS
-pub is_point_move : (m : Replacement) (y : PointId) (command : Command) (vs : List Var) (q : Terms) → vs ≡ variables_of q
-    → m.rows ≡ filter_map (along_row y command) vs → m.den ≡ step_denominator command → m.charge ≡ step_charge command → m ≡ point_move y command q
-is_point_move m y command vs q found rows den charge =
-    let all : m.rows ≡ filter_map (along_row y command) (variables_of q) = rows ∙ ap (filter_map (along_row y command)) found in
-    λ i. record { rows = all i; den = den i; charge = charge i }
-
 pub is_coordinate_move : (m : Replacement) (commands : List Command) (vs : List Var) (q : Terms) → vs ≡ variables_of q
     → m.rows ≡ filter_map (free_row commands) vs → m.den ≡ integer_piece (pos 2) → m.charge ≡ 0 → m ≡ coordinate_move commands q
 is_coordinate_move m commands vs q found rows den charge =

@@ -1,5 +1,5 @@
 -- Which line a chain begins with: the prover's lines from a polynomial are determined.
-use Rattle.std.proofs.Common.{◌≡◌, ◌≢◌, ℕ, suc, ◌-◌, ◌<◌, ◌≤◌, Bool, true, false, Option, Some, None, All, Any, List, [], ◌∷◌, ◌++◌, length, get_or, ◌⊎◌, inl, inr, ℤ, pos, refl, sym, ap, ap₂, subst, ◌∙◌, append_assoc, arith}
+use Rattle.std.proofs.Common.{◌≡◌, ◌≢◌, ℕ, ◌-◌, Bool, true, false, Option, Some, None, All, List, [], ◌∷◌, ◌++◌, ◌⊎◌, inl, inr, ℤ, pos, refl, sym, ap, ap₂, subst, ◌∙◌, append_assoc, arith}
 use Rattle.std.specs.Prelude.{slice_get}
 use Rattle.std.specs.List.{cons_option, filter_map}
 use Rattle.std.proofs.lemmas.List.Elements.{All-head, All-tail}
@@ -104,12 +104,6 @@ next_line commands left q (Coords r ∷ lines) e due h =
 next_line commands left q _ e due h = absurd h
 
 -- FORCED LINES
-pub forced_none : (commands : List Command) (left : ℕ) (q : Terms) → AreForced commands left q [] left q
-forced_none commands left q = record {
-  goes_on = λ rest e h. h;
-  forced = λ all e h. (all, refl, h);
-}
-
 pub forced_more : (commands : List Command) (a b c : ℕ) (p q r : Terms) (xs ys : List Line)
     → AreForced commands a p xs b q → AreForced commands b q ys c r → AreForced commands a p (xs ++ ys) c r
 forced_more commands a b c p q r xs ys h k = record {
@@ -168,8 +162,7 @@ forced_point commands left q r y command due made highest moved = record {
         let made_y : slice_get commands y.0 ≡ Some next.command = subst (λ (z : PointId). slice_get commands z.0 ≡ Some next.command) point next.made in
         let same_command : next.command ≡ command = one_command commands y next.command command made_y made in
         let same_move : point_move next.y next.command q ≡ point_move y command q = ap₂ (λ (z : PointId) (c : Command). point_move z c q) point same_command in
-        let same : next.r ≡ r = next.moved.result ∙ ap (λ m. replaced_by m.rows m.den.poly q) same_move ∙ sym moved.result in
-        (
+        let same : next.r ≡ r = next.moved.result ∙ ap (λ m. replaced_by m.rows m.den.poly q) same_move ∙ sym moved.result in (
           next.rest,
           next.begun ∙ ap₂ (λ (z : PointId) (x : Terms). PointLine z x ∷ next.rest) point same,
           subst (λ (x : Terms). IsDefinedChain commands (left - move_charge (point_move y command q) q) x next.rest e) same
@@ -191,8 +184,7 @@ forced_coords commands left q r due areas free moved = record {
     go : (all : List Line) (e : Terms) → AreCoordsNext commands left q all e
         → (rest : List Line) × (all ≡ Coords r ∷ rest) × IsDefinedChain commands (left - move_charge (coordinate_move commands q) q) r rest e
     go all e next =
-        let same : next.r ≡ r = next.moved.result ∙ sym moved.result in
-        (
+        let same : next.r ≡ r = next.moved.result ∙ sym moved.result in (
           next.rest,
           next.begun ∙ ap (λ (x : Terms). Coords x ∷ next.rest) same,
           subst (λ (x : Terms). IsDefinedChain commands (left - move_charge (coordinate_move commands q) q) x next.rest e) same next.goes_on,

@@ -1,6 +1,8 @@
 -- The steps of commands: what stands at a place, and one step more.
-use Rattle.std.proofs.Common.{◌≡◌, ◌≢◌, ℕ, ◌+◌, ◌<◌, ◌≤◌, Bool, true, false, ℤ, unsigned_abs, Option, Some, None, inl, inr, List, [], ◌∷◌, ◌++◌, length, get_or, take, refl, sym, ap, ap₂, subst, ◌∙◌, arith}
+use Rattle.std.proofs.Common.{◌≡◌, ◌≢◌, ℕ, ◌+◌, ◌<◌, ◌≤◌, Bool, true, false, ℤ, to_z, of_z, unsigned_abs, Option, Some, None, inl, inr, List, [], ◌∷◌, ◌++◌, length, get_or, take, refl, sym, ap, ap₂, subst, ◌∙◌, arith}
+use Rattle.std.specs.Int.{w128}
 use Rattle.std.specs.Prelude.{slice_get}
+use Rattle.std.proofs.lemmas.Int.{fits_signed_from_abs, to_z-of_z}
 use Rattle.std.proofs.lemmas.List.{length_push, length-take-le, take_more}
 use Rattle.std.proofs.lemmas.Option.{slice_get-get_or, slice_get_past, slice_get_within}
 use Rattle.fraction_poly.proofs.Places.{place_cases, slice_get-end, slice_get-front}
@@ -18,7 +20,7 @@ use Rattle.geo_terms.specs.Stores.{Store, tree_of}
 use Rattle.geo_terms.specs.Trees.{IsStepNumber, integer_leaf, division}
 use Rattle.geo_terms.proofs.ConstructionLemmas.{HasTermsOf}
 use Rattle.geo_prover.proofs.Moving.{made_where}
-use Rattle.geo_prover.proofs.Pieces.{small_numbers}
+use Rattle.geo_prover.proofs.Shapes.{digit_small}
 
 -- WHAT STANDS AT A PLACE
 -- a command, and its step
@@ -75,6 +77,16 @@ along_command nodes (Pratio w' u' v' n d) w u v r h =
     let u_is : u ≡ u' = h.1 in
     let v_is : v ≡ v' = h.2 in
     record { n = n; d = d; is = cc; number = h.3 }
+
+-- small numbers are what they are as the code keeps them
+pub kept : (z : ℤ) → unsigned_abs z ≤ 9 → to_z w128 (of_z w128 z) ≡ z
+kept z h = to_z-of_z w128 z (fits_signed_from_abs w128 z (omega arith))
+
+-- the numbers of a command are of one digit
+pub small_numbers : (k : ℕ) (command : Command) (w u v : PointId) (n d : ℤ) → command ≡ Pratio w u v n d → IsCommand k command → (unsigned_abs n ≤ 9) × (unsigned_abs d ≤ 9)
+small_numbers k command w u v n d e h =
+    let made = subst (λ (x : Command). IsCommand k x) e h in
+    (made.3, digit_small d made.4 made.5)
 
 -- the number of a step along a vector, and it is of one digit
 pub record IsFirstNumber (nodes : Store) (r : TermId) : Type 0 where

@@ -26,11 +26,7 @@ struct Share {
 }
 
 /// The charge of a move on a polynomial, or the greatest number where it passes that.
-pub fn move_charge(
-    alloc: Global,
-    replacement: &Replacement,
-    poly: &Poly,
-) -> Result<u128, NoMemory>
+pub fn move_charge(alloc: Global, replacement: &Replacement, poly: &Poly) -> Result<u128, NoMemory>
     requires powers { AllPowersSmall replacement.now.rows }
     requires valid { IsPolynomial poly.now }
     ensures { IfOk result
@@ -57,12 +53,7 @@ fn count_of_rows(rows: &[Row]) -> u128
 
 /// The sum of the charges of the terms, or the greatest number where it passes that; the denominator
 /// has so many monomials.
-fn charge_of_terms(
-    alloc: Global,
-    rows: &[Row],
-    count: u128,
-    poly: &Poly,
-) -> Result<u128, NoMemory>
+fn charge_of_terms(alloc: Global, rows: &[Row], count: u128, poly: &Poly) -> Result<u128, NoMemory>
     requires powers { AllPowersSmall rows.now }
     requires valid { IsPolynomial poly.now }
     ensures { IfOk result (λ n.

@@ -1,5 +1,4 @@
-use Rattle.std.proofs.Common.{◌≡◌, ◌≢◌, ℕ, ◌+◌, ◌-◌, ◌^◌, ◌<◌, ◌≤◌, min, [], Err, ap, ◌∙◌, rules}
-use Rattle.geo_poly.specs.declared.limits.PolyError.TheVariants.{TooLarge}
+use Rattle.std.proofs.Common.{◌≡◌, ◌≢◌, ◌+◌, [], Err, ap, ◌∙◌, rules}
 use Rattle.geo_prover.specs.declared.moves.Replacement.{Replacement}
 use Rattle.geo_prover.specs.Moves.{IsMoved, move_charge}
 use Rattle.geo_prover.proofs.Moving.{IsPaid, IsReplaced, moved_polynomial, not_replaced, paid, replaced_fits}

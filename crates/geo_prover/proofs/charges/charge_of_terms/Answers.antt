@@ -1,13 +1,6 @@
-use Rattle.std.proofs.Common.{◌≡◌, ℕ, ◌+◌, ◌-◌, ◌*◌, ◌^◌, ◌≤◌, min, ℤ, List, drop, sym, ap, ap₂, subst, ◌∙◌, arith}
-use Rattle.std.specs.Prelude.{sum_by}
-use Rattle.std.proofs.lemmas.List.{drop_all}
-use Rattle.std.proofs.lemmas.List.Sums.{sum_by-cons}
-use Rattle.geo_poly.specs.declared.replacement.Row.{Row}
-use Rattle.geo_poly.specs.Monomials.{Powers}
-use Rattle.geo_poly.specs.Polynomials.{Terms, term_at}
-use Rattle.geo_poly.specs.Replace.{denominators, most_denominators}
-use Rattle.geo_prover.specs.declared.moves.Replacement.{Replacement}
-use Rattle.geo_prover.specs.Moves.{count_rows, replaced_exponents, term_charge}
+use Rattle.std.proofs.Common.{◌≡◌, ◌-◌, ◌^◌, min, ap, ◌∙◌, arith}
+use Rattle.geo_poly.specs.Polynomials.{term_at}
+use Rattle.geo_poly.specs.Replace.{denominators}
 use Rattle.geo_prover.proofs.Shares.{charge_with, charges_end, charges_more, denominators_at, monomial_at, term_charged}
 use Rattle.geo_prover.proofs.charges.charge_of_terms.Goals as goal
 

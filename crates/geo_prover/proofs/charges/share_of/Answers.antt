@@ -1,4 +1,4 @@
-use Rattle.std.proofs.Common.{◌≡◌, ℕ, ◌+◌, ◌<◌, ◌∷◌, drop, length, get_or, List, sym, subst, arith}
+use Rattle.std.proofs.Common.{ℕ, ◌+◌, ◌<◌, ◌∷◌, drop, length, get_or, List, sym, subst, arith}
 use Rattle.geo_poly.specs.declared.variables.Var.{Var}
 use Rattle.geo_poly.specs.declared.variables.Var.TheVariants.{R}
 use Rattle.geo_poly.specs.declared.replacement.Row.{Row}

@@ -5,9 +5,7 @@ use Rattle.geo_prover.specs.declared.program.Command.{Command}
 use Rattle.geo_prover.specs.Constructed.{IsStepOf}
 use Rattle.geo_terms.specs.declared.steps.Step.TheVariants.{Pratio}
 use Rattle.geo_terms.specs.Trees.{integer_leaf}
-use Rattle.geo_prover.proofs.Kept.{kept}
-use Rattle.geo_prover.proofs.Pieces.{small_numbers}
-use Rattle.geo_prover.proofs.StepsOf.{number_at}
+use Rattle.geo_prover.proofs.StepsOf.{kept, number_at, small_numbers}
 use Rattle.geo_prover.proofs.construction.step_of.Goals as goal
 
 pub returns-clause-step : goal.returns-clause-step

@@ -1,8 +1,5 @@
-use Rattle.std.proofs.Common.{◌≡◌, ◌≤◌, ℕ, List, length, sym, ap, ◌∙◌, arith, rules}
-use Rattle.geo_prover.specs.declared.log.Line.{Line}
-use Rattle.geo_prover.specs.FirstLog.{IsWholeLog}
+use Rattle.std.proofs.Common.{◌≡◌, length, sym, ap, ◌∙◌, arith, rules}
 use Rattle.geo_prover.specs.Lines.{log_text}
-use Rattle.geo_prover.proofs.Items.{some_at}
 use Rattle.geo_prover.proofs.OneLog.{whole_log_unique}
 use Rattle.geo_prover.proofs.first.written_log.Goals as goal
 

@@ -1,6 +1,5 @@
-use Rattle.std.proofs.Common.{◌≡◌, true, false, List, [], ◌∷◌, ◌++◌, sym, ap, ◌∙◌}
+use Rattle.std.proofs.Common.{◌≡◌, true, false, [], ◌∷◌, ◌++◌, sym, ap, ◌∙◌}
 use Rattle.geo_poly.specs.Polynomials.{Terms}
-use Rattle.geo_prover.specs.declared.log.Line.{Line}
 use Rattle.geo_prover.specs.declared.log.Line.TheVariants.{Cut}
 use Rattle.geo_prover.proofs.Cutting.{none_due}
 use Rattle.geo_prover.proofs.NextLines.{forced_cut}
