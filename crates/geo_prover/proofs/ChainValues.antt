@@ -6,6 +6,8 @@ use Rattle.std.specs.declared.cmp.Ordering.{Ordering}
 use Rattle.std.specs.declared.cmp.Ordering.TheVariants.{Less, Equal, Greater}
 use Rattle.ring_laws.specs.Powers.{power}
 use Rattle.ring_laws.proofs.Laws as Laws
+use Rattle.fraction_poly.specs.Laws.{polynomial_value}
+use Rattle.fraction_poly.proofs.PolynomialValues.{◌∘◌, flip, self, products, constant_is, area_is, product_is}
 use Rattle.geo_points.specs.declared.ids.PointId.{PointId}
 use Rattle.geo_points.specs.Fraction.{Fraction, Same, whole, times, IsNonzero}
 use Rattle.geo_points.specs.Placements.{Placement}
@@ -30,7 +32,6 @@ use Rattle.geo_prover.specs.Logs.{IsAccepted, IsCut, LeadsTo, start_of}
 use Rattle.geo_prover.specs.Moves.{coordinate_move, move_charge, point_move, variables_of}
 use Rattle.geo_prover.specs.Truth.{AreMet, Holds, IsMet, IsTrueProgram, Meets}
 use Rattle.geo_prover.proofs.Meeting.{met_at, meeting_exists, whole_nonzero}
-use Rattle.geo_prover.proofs.PieceValues.{◌∘◌, flip, self, value_at, constant_is, area_is, product_is}
 use Rattle.geo_prover.proofs.RowValues.{along_rows-hold, point_rows-hold, free_rows-hold}
 
 abbrev zero_fraction : Fraction
@@ -62,7 +63,7 @@ two_nonzero = whole_nonzero (pos 2) (omega (arith, ints))
 
 module _ (placed : Placement) where
   abbrev at_placement : Terms → Fraction
-  at_placement = value_at placed.point placed.number
+  at_placement = polynomial_value placed
 
   abbrev x : Var → Fraction
   x = variable_value placed.point placed.number
@@ -78,17 +79,17 @@ module _ (placed : Placement) where
       → Same (at_placement (replaced_by (point_move y command q).rows (point_move y command q).den.poly q)) zero_fraction → Same (at_placement q) zero_fraction
   point_null y PointCommand q met e =
       replaced_null (point_move y PointCommand q).rows (point_move y PointCommand q).den.poly q (whole (pos 1)) one_nonzero
-      (point_rows-hold placed.point placed.number y (variables_of q)) (constant_is placed.point placed.number (pos 1)) e
+      (point_rows-hold placed y (variables_of q)) (constant_is placed (pos 1)) e
   point_null y (Pratio w u v n d) q met e =
       replaced_null (point_move y (Pratio w u v n d) q).rows (point_move y (Pratio w u v n d) q).den.poly q (whole d) met.has_value
-      (along_rows-hold placed.point placed.number y w u v n d met.has_value met.along (variables_of q)) (constant_is placed.point placed.number d) e
+      (along_rows-hold placed y w u v n d met.has_value met.along (variables_of q)) (constant_is placed d) e
 
   -- the free points in their coordinates
   coordinates_null : (commands : List Command) (q : Terms)
       → Same (at_placement (replaced_by (coordinate_move commands q).rows (coordinate_move commands q).den.poly q)) zero_fraction → Same (at_placement q) zero_fraction
   coordinates_null commands q e =
       replaced_null (coordinate_move commands q).rows (coordinate_move commands q).den.poly q (whole (pos 2)) two_nonzero
-      (free_rows-hold placed.point placed.number commands (variables_of q)) (constant_is placed.point placed.number (pos 2)) e
+      (free_rows-hold placed commands (variables_of q)) (constant_is placed (pos 2)) e
 
   null_as : (q r : Terms) → r ≡ q → Same (at_placement r) zero_fraction → Same (at_placement q) zero_fraction
   null_as q r e h = subst (λ (p : Terms). Same (at_placement p) zero_fraction) e h
@@ -97,7 +98,7 @@ module _ (placed : Placement) where
   cut_null : (f : Powers × ℤ) (q r : Terms) → IsCut f q r → Same (at_placement r) zero_fraction → Same (at_placement q) zero_fraction
   cut_null f q r cut e =
       null_as q (product_of (f ∷ []) r) cut.exact
-      (product_is placed.point placed.number (f ∷ []) r self e ∘ Laws.mul-zero fractions (at_placement (f ∷ [])))
+      (product_is placed (f ∷ []) r ∘ products self e ∘ Laws.mul-zero fractions (at_placement (f ∷ [])))
 
   -- a chain that ends in 0 begins with a polynomial of the value 0
   chain_null : (commands : List Command) → AreMet placed 0 commands → (left : ℕ) (q : Terms) (lines : List Line)
@@ -119,7 +120,7 @@ accepted_holds : (p : Program) (steps : ℕ) (lines : List Line) → IsAccepted 
 accepted_holds p steps lines log placed met =
     (collinear_null (placed.point p.a.0) (placed.point p.b.0) (placed.point p.c.0)).0
     (zero_of_same _
-    (flip (area_is placed.point placed.number p.a p.b p.c) ∘ chain_null placed p.commands met steps (start_of p) log.chain log.zero))
+    (flip (area_is placed p.a p.b p.c) ∘ chain_null placed p.commands met steps (start_of p) log.chain log.zero))
 
 pub accepted_true : (p : Program) (steps : ℕ) (lines : List Line) → IsAccepted p steps lines → IsTrueProgram p
 accepted_true p steps lines log =

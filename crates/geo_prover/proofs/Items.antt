@@ -38,3 +38,7 @@ ok_some_weaker (Err e) P Q f h = tt
 pub ok_none_weaker : {X E : Type 0} (r : Result (Option X) E) (P Q : Type 0) → (P → Q) → IfOk r (λ o. IfNone o P) → IfOk r (λ o. IfNone o Q)
 ok_none_weaker (Ok o) P Q f h = none_weaker o P Q f h
 ok_none_weaker (Err e) P Q f h = tt
+
+pub ok_of_three : {X E : Type 0} (r : Result X E) (P Q R S : X → Type 0) → ((x : X) → P x → Q x → R x → S x) → IfOk r P → IfOk r Q → IfOk r R → IfOk r S
+ok_of_three (Ok x) P Q R S f h k l = f x h k l
+ok_of_three (Err e) P Q R S f h k l = tt

@@ -11,11 +11,12 @@ pub mod Digits
 pub mod Shapes
 pub mod Declaring
 pub mod Beginnings
-pub mod Kept
 pub mod Cutting
 pub mod NextLines
 pub mod OneLog
 pub mod Moving
+pub mod StepsOf
+pub mod StepNumbers
 pub mod DistinctVariables
 pub mod Shares
 pub mod GrowingRows

@@ -3,7 +3,7 @@ use Rattle.std.proofs.Common.{◌≡◌, ◌↔◌, Result, Ok, Err, ap₂, ℕ,
 use Rattle.std.specs.Prelude.{slice_get}
 use Rattle.std.specs.List.{filter_map}
 use Rattle.std.proofs.lemmas.Bool.{cases_lt}
-use Rattle.std.proofs.lemmas.Option.{slice_get-get_or}
+use Rattle.std.proofs.lemmas.Option.{get_or_from_slice_get, slice_get-get_or, slice_get_within}
 use Rattle.geo_points.specs.declared.ids.PointId.{PointId}
 use Rattle.geo_poly.specs.declared.limits.PolyError.{PolyError}
 use Rattle.geo_poly.specs.declared.limits.PolyError.TheVariants.{TooLarge}
@@ -18,7 +18,7 @@ use Rattle.geo_poly.proofs.ReplaceTerms.{IsPolynomial-replaced}
 use Rattle.geo_prover.specs.declared.moves.Replacement.{Replacement}
 use Rattle.geo_prover.specs.declared.program.Command.{Command}
 use Rattle.geo_prover.specs.declared.program.Command.TheVariants.{Point, Pratio}
-use Rattle.geo_prover.specs.Moves.{IsMoved, along_row, coordinate_move, free_row, integer_piece, move_charge, point_move, step_charge, step_denominator, variables_of}
+use Rattle.geo_prover.specs.Moves.{IsMoved, coordinate_move, free_row, integer_piece, move_charge, point_move, step_denominator, variables_of}
 use Rattle.geo_prover.specs.Program.{AreCommands, IsCommand}
 
 -- RESULTS
@@ -103,12 +103,6 @@ not_replaced move left q r rows den result which rows-are den-is is norm degree 
     go Degree e weight degrees = let high = degree.0 e in omega (arith, high.1, degrees, h.degree_fits)
 
 -- WHAT THE CODE BUILDS
-pub is_point_move : (m : Replacement) (y : PointId) (command : Command) (vs : List Var) (q : Terms) → vs ≡ variables_of q
-    → m.rows ≡ filter_map (along_row y command) vs → m.den ≡ step_denominator command → m.charge ≡ step_charge command → m ≡ point_move y command q
-is_point_move m y command vs q found rows den charge =
-    let all : m.rows ≡ filter_map (along_row y command) (variables_of q) = rows ∙ ap (filter_map (along_row y command)) found in
-    λ i. record { rows = all i; den = den i; charge = charge i }
-
 pub is_coordinate_move : (m : Replacement) (commands : List Command) (vs : List Var) (q : Terms) → vs ≡ variables_of q
     → m.rows ≡ filter_map (free_row commands) vs → m.den ≡ integer_piece (pos 2) → m.charge ≡ 0 → m ≡ coordinate_move commands q
 is_coordinate_move m commands vs q found rows den charge =
@@ -131,3 +125,7 @@ made_at_place commands k h lt =
 
 pub at_place : (commands : List Command) (k : ℕ) → k < length commands → slice_get commands k ≡ Some (get_or commands k Point)
 at_place commands k lt = slice_get-get_or commands k Point lt
+
+pub made_where : (commands : List Command) (k : ℕ) (command : Command) → AreCommands 0 commands → slice_get commands k ≡ Some command → IsCommand k command
+made_where commands k command h at =
+    subst (λ (x : Command). IsCommand k x) (get_or_from_slice_get commands k command Point at) (made_at_place commands k h (slice_get_within commands k command at))

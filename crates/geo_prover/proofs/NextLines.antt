@@ -104,12 +104,6 @@ next_line commands left q (Coords r ∷ lines) e due h =
 next_line commands left q _ e due h = absurd h
 
 -- FORCED LINES
-pub forced_none : (commands : List Command) (left : ℕ) (q : Terms) → AreForced commands left q [] left q
-forced_none commands left q = record {
-  goes_on = λ rest e h. h;
-  forced = λ all e h. (all, refl, h);
-}
-
 pub forced_more : (commands : List Command) (a b c : ℕ) (p q r : Terms) (xs ys : List Line)
     → AreForced commands a p xs b q → AreForced commands b q ys c r → AreForced commands a p (xs ++ ys) c r
 forced_more commands a b c p q r xs ys h k = record {

@@ -2,6 +2,7 @@ pub mod Program
 pub mod Truth
 pub mod Lines
 pub mod Moves
+pub mod Constructed
 pub mod Logs
 pub mod Chains
 pub mod FirstLog

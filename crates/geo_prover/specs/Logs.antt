@@ -1,5 +1,6 @@
 -- Logs: the lines that are accepted for a program, whoever wrote them, and those that the prover writes.
 use Rattle.std.specs.Prelude.{◌≡◌, ◌≢◌, ℕ, suc, ◌-◌, ◌^◌, ◌<◌, ◌≤◌, IsTrue, Bool, false, ◌||◌, All, Any, ℤ, pos, unsigned_abs, Some, List, [], ◌∷◌, ◌++◌, map, length, slice_get}
+use Rattle.fraction_poly.specs.MultipliedOut.{canon_polynomial}
 use Rattle.geo_points.specs.declared.ids.PointId.{PointId}
 use Rattle.geo_poly.specs.declared.variables.Var.{Var}
 use Rattle.geo_poly.specs.declared.variables.Var.TheVariants.{S, X, Y}
@@ -14,7 +15,7 @@ use Rattle.geo_prover.specs.declared.program.Command.{Command}
 use Rattle.geo_prover.specs.declared.program.Command.TheVariants.{Point, Pratio}
 use Rattle.geo_prover.specs.declared.program.Program.{Program}
 use Rattle.geo_prover.specs.Lines.{log_text}
-use Rattle.geo_prover.specs.Moves.{IsMoved, canon_polynomial, coordinate_move, is_free, is_point, move_charge, point_move, variables_of}
+use Rattle.geo_prover.specs.Moves.{IsMoved, coordinate_move, is_free, is_point, move_charge, point_move, variables_of}
 use Rattle.geo_prover.specs.Program.{IsFirstForm, program_lines, statement_text}
 
 -- the numerator of the goal's term, which is the area of the statement's points. Its charge is 0, its weight and its degree are 1

@@ -3,7 +3,7 @@ use Rattle.std.specs.Prelude.{◌≡◌, ◌≢◌, ℕ, ◌+◌, ◌-◌, ◌*�
 use Rattle.std.specs.List.{filter_map, flat_map}
 use Rattle.std.specs.Ordering.{is_eq}
 use Rattle.geo_points.specs.declared.ids.PointId.{PointId}
-use Rattle.geo_poly.specs.declared.canonical.Canon.{Canon}
+use Rattle.fraction_poly.specs.MultipliedOut.{canon_polynomial, variable_polynomial}
 use Rattle.geo_poly.specs.declared.replacement.Piece.{Piece}
 use Rattle.geo_poly.specs.declared.replacement.Row.{Row}
 use Rattle.geo_poly.specs.declared.variables.Var.{Var}
@@ -16,6 +16,7 @@ use Rattle.geo_poly.specs.Variables.{var_cmp}
 use Rattle.geo_prover.specs.declared.moves.Replacement.{Replacement}
 use Rattle.geo_prover.specs.declared.program.Command.{Command}
 use Rattle.geo_prover.specs.declared.program.Command.TheVariants.{Point, Pratio}
+use Rattle.geo_prover.specs.declared.rows.Along.{Along}
 
 -- POLYNOMIALS AS THEY ARE WRITTEN IN A ROW, with their weight, their count of monomials and their degree
 
@@ -26,14 +27,6 @@ integer_piece z = record { poly = constant_of z; weight = unsigned_abs z; count 
 -- the numerator or the denominator of a step's number
 abbrev pub number_piece : ℤ → Piece
 number_piece z = record { poly = constant_of z; weight = max 1 (unsigned_abs z); count = 1; degree = 0 }
-
--- a variable with the coefficient `sign`
-abbrev pub variable_polynomial : ℤ → Var → Terms
-variable_polynomial sign v = ((v, 1) ∷ [], sign) ∷ []
-
--- a sign times a variable, or the number that the sign is
-abbrev pub canon_polynomial : Canon → Terms
-canon_polynomial c = elim c.var [ None ↦ constant_of c.sign | Some v ↦ variable_polynomial c.sign v ]
 
 -- the signed area of three points
 abbrev pub area_piece : PointId → PointId → PointId → Piece
@@ -82,20 +75,25 @@ points_after y a b c =
     if is_point a y then Some (b, c) else (if is_point b y then Some (c, a) else (if is_point c y then Some (a, b) else None))
 
 -- Y - W = n/d (V - U) makes of S_ABY: d S_ABW + n S_ABV - n S_ABU, over d
-abbrev pub along_numerator : PointId → PointId → PointId → ℤ → ℤ → PointId → PointId → Piece
-along_numerator w u v n d a b =
+abbrev pub along_numerator : Along → Piece → Piece → PointId → PointId → Piece
+along_numerator p n d a b =
     piece_difference
-    (piece_sum (piece_product (number_piece d) (area_piece a b w)) (piece_product (number_piece n) (area_piece a b v)))
-    (piece_product (number_piece n) (area_piece a b u))
+    (piece_sum (piece_product d (area_piece a b p.w)) (piece_product n (area_piece a b p.v)))
+    (piece_product n (area_piece a b p.u))
+
+-- the row of an area that contains the point Y, with Y - W = n/d (V - U)
+abbrev pub row_along : Along → Piece → Piece → Var → Option Row
+row_along p n d (S a b c) =
+    elim (points_after p.y a b c) [
+      | None ↦ None
+      | Some ab ↦ Some (record { var = S a b c; power = 1; num = along_numerator p n d ab.0 ab.1 })
+    ]
+row_along p n d _ = None
 
 -- the row of an area that contains the point y, which the command makes
 abbrev pub along_row : PointId → Command → Var → Option Row
-along_row y (Pratio w u v n d) (S a b c) =
-    elim (points_after y a b c) [
-      | None ↦ None
-      | Some ab ↦ Some (record { var = S a b c; power = 1; num = along_numerator w u v n d ab.0 ab.1 })
-    ]
-along_row y _ _ = None
+along_row y (Pratio w u v n d) s = row_along (record { y = y; w = w; u = u; v = v }) (number_piece n) (number_piece d) s
+along_row y Point s = None
 
 -- x_A y_B - x_A y_C - y_A x_B + y_A x_C + x_B y_C - y_B x_C
 abbrev pub coordinate_numerator : PointId → PointId → PointId → Piece

@@ -7,20 +7,22 @@ ghost use Rattle.geo_poly.specs.Polynomials.{IsPolynomial, Terms, multiples};
 ghost use Rattle.geo_poly.specs.Replace.{AllBounded, AllPowersSmall, IsBounded};
 ghost use Rattle.geo_prover.specs.declared.log.Line.{Line};
 ghost use Rattle.geo_prover.specs.declared.program.Command.{Command};
+ghost use Rattle.geo_prover.specs.Constructed.{AreStepsOf, IsOfFirstForm};
 ghost use Rattle.geo_prover.specs.FirstLog.{steps_of_prove};
 ghost use Rattle.geo_prover.specs.Logs.{HasNoArea, IsConstructed, IsCut, IsDefinedChain, IsHighest, NoCutDue, Occurs};
 ghost use Rattle.geo_prover.specs.Moves.{IsMoved, move_charge, variables_of};
 ghost use Rattle.geo_prover.specs.Program.{AreCommands};
 
 use crate::charges::move_charge;
+use crate::construction::{is_free, steps_of};
 use crate::log::Line;
 use crate::moves::{Replacement, coordinate_move, point_move};
 use crate::program::Command;
-use crate::rows::is_free;
 use crate::variables::{has_area, occurs, variables_of};
 use geo_base::Budget;
 use geo_points::{NoMemory, PointId};
 use geo_poly::{Factor, Poly, PolyError, Var};
+use geo_terms::Steps;
 use std::alloc::Global;
 
 /// How many charges a log may take.
@@ -62,6 +64,21 @@ pub fn chain_to_zero(
     ensures none { IfOk result (λ o. IfNone o ((lines : List Line)
         → IsDefinedChain commands.now steps_of_prove start lines [] → ⊥)) }
 {
+    let steps = steps_of(alloc, commands)?;
+    lines_to_zero(alloc, &steps, start)
+}
+
+/// The lines of the one chain of the steps, likewise.
+fn lines_to_zero(alloc: Global, steps: &Steps, start: Poly) -> Result<Option<Vec<Line>>, NoMemory>
+    requires first_form { IsOfFirstForm steps.now }
+    requires valid { IsPolynomial start }
+    ensures some { IfOk result (λ o. IfSome o (λ lines. (commands : List Command)
+        → AreStepsOf commands steps.now
+        → IsDefinedChain commands steps_of_prove start lines.items [])) }
+    ensures none { IfOk result (λ o. IfNone o ((commands : List Command) (lines : List Line)
+        → AreStepsOf commands steps.now
+        → IsDefinedChain commands steps_of_prove start lines [] → ⊥)) }
+{
     let mut chain = Chain {
         poly: start,
         budget: Budget { left: STEPS },
@@ -69,7 +86,7 @@ pub fn chain_to_zero(
     };
     loop {
         chain.cut(alloc)?;
-        match chain.turn(alloc, commands)? {
+        match chain.turn(alloc, steps)? {
             Turn::Moved => {}
             Turn::Ended => return chain.ended(),
             Turn::Stuck => return Ok(None),
@@ -103,18 +120,18 @@ impl Chain {
     }
 
     /// Makes the next move of a polynomial that needs no cut.
-    fn turn(&mut self, alloc: Global, commands: &[Command]) -> Result<Turn, NoMemory>
+    fn turn(&mut self, alloc: Global, steps: &Steps) -> Result<Turn, NoMemory>
         requires valid { IsPolynomial self.old.poly }
         requires divided { NoCutDue self.old.poly }
-        requires steps { self.old.budget.left ≤ steps_of_prove }
-        requires made { AreCommands 0 commands.now }
-        requires few { length commands.now ≤ 16 }
-        ensures { IfOk result (IsTurn commands.now self.old self.new) }
+        requires left { self.old.budget.left ≤ steps_of_prove }
+        requires first_form { IsOfFirstForm steps.now }
+        ensures { IfOk result (λ turn. (commands : List Command)
+            → AreStepsOf commands steps.now → IsTurn commands self.old self.new turn) }
     {
         let variables = variables_of(alloc, &self.poly)?;
-        match highest_constructed(commands, &variables) {
-            Some(at) => self.eliminate(alloc, commands, &variables, at),
-            None if has_area(&variables) => self.put_into_coordinates(alloc, commands, &variables),
+        match highest_constructed(steps, &variables) {
+            Some(at) => self.eliminate(alloc, steps, &variables, at),
+            None if has_area(&variables) => self.put_into_coordinates(alloc, steps, &variables),
             None => Ok(Turn::Ended),
         }
     }
@@ -123,19 +140,21 @@ impl Chain {
     fn eliminate(
         &mut self,
         alloc: Global,
-        commands: &[Command],
+        steps: &Steps,
         variables: &[Var],
         at: PointId,
     ) -> Result<Turn, NoMemory>
         requires valid { IsPolynomial self.old.poly }
         requires divided { NoCutDue self.old.poly }
-        requires steps { self.old.budget.left ≤ steps_of_prove }
-        requires made { AreCommands 0 commands.now }
+        requires left { self.old.budget.left ≤ steps_of_prove }
+        requires first_form { IsOfFirstForm steps.now }
         requires variables { variables.now ≡ variables_of self.old.poly }
-        requires highest { IsHighest commands.now at self.old.poly }
-        ensures { IfOk result (IsTurn commands.now self.old self.new) }
+        requires highest { (commands : List Command)
+            → AreStepsOf commands steps.now → IsHighest commands at self.old.poly }
+        ensures { IfOk result (λ turn. (commands : List Command)
+            → AreStepsOf commands steps.now → IsTurn commands self.old self.new turn) }
     {
-        let replacement = point_move(alloc, at, commands[at.0 as usize], variables)?;
+        let replacement = point_move(alloc, at, steps, variables)?;
         let Some(poly) = replaced(alloc, &replacement, &self.poly, &mut self.budget)? else {
             return Ok(Turn::Stuck);
         };
@@ -149,18 +168,21 @@ impl Chain {
     fn put_into_coordinates(
         &mut self,
         alloc: Global,
-        commands: &[Command],
+        steps: &Steps,
         variables: &[Var],
     ) -> Result<Turn, NoMemory>
         requires valid { IsPolynomial self.old.poly }
         requires divided { NoCutDue self.old.poly }
-        requires steps { self.old.budget.left ≤ steps_of_prove }
+        requires left { self.old.budget.left ≤ steps_of_prove }
         requires variables { variables.now ≡ variables_of self.old.poly }
         requires areas { HasNoArea self.old.poly → ⊥ }
-        requires free { (z : PointId) → IsConstructed commands.now z → Occurs z self.old.poly → ⊥ }
-        ensures { IfOk result (IsTurn commands.now self.old self.new) }
+        requires free { (commands : List Command) (z : PointId)
+            → AreStepsOf commands steps.now → IsConstructed commands z
+            → Occurs z self.old.poly → ⊥ }
+        ensures { IfOk result (λ turn. (commands : List Command)
+            → AreStepsOf commands steps.now → IsTurn commands self.old self.new turn) }
     {
-        let replacement = coordinate_move(alloc, commands, variables)?;
+        let replacement = coordinate_move(alloc, steps, variables)?;
         let Some(poly) = replaced(alloc, &replacement, &self.poly, &mut self.budget)? else {
             return Ok(Turn::Stuck);
         };
@@ -200,16 +222,17 @@ fn quotient(alloc: Global, poly: &Poly, by: &Factor) -> Result<Poly, NoMemory>
 }
 
 /// The constructed point of the highest number in the areas.
-fn highest_constructed(commands: &[Command], variables: &[Var]) -> Option<PointId>
-    requires { length commands.now ≤ 16 }
-    ensures some { IfSome result (λ y.
-        (q : Terms) → variables.now ≡ variables_of q → IsHighest commands.now y q) }
-    ensures none { IfNone result ((q : Terms) → variables.now ≡ variables_of q
-        → (z : PointId) → IsConstructed commands.now z → Occurs z q → ⊥) }
+fn highest_constructed(steps: &Steps, variables: &[Var]) -> Option<PointId>
+    ensures some { IfSome result (λ y. (commands : List Command) (q : Terms)
+        → AreStepsOf commands steps.now → variables.now ≡ variables_of q
+        → IsHighest commands y q) }
+    ensures none { IfNone result ((commands : List Command) (q : Terms) (z : PointId)
+        → AreStepsOf commands steps.now → variables.now ≡ variables_of q
+        → IsConstructed commands z → Occurs z q → ⊥) }
 {
-    for k in (0..commands.len()).rev() {
-        let y = PointId(k as u32);
-        if !is_free(commands, y) && occurs(variables, y) {
+    for k in (0..steps.count()).rev() {
+        let y = PointId(k);
+        if !is_free(steps, y) && occurs(variables, y) {
             return Some(y);
         }
     }

@@ -4,6 +4,7 @@
 
 mod chain;
 mod charges;
+mod construction;
 mod first;
 pub mod laws;
 mod log;
@@ -15,6 +16,7 @@ mod reader;
 #[cfg(test)]
 mod reader_tests;
 mod rows;
+mod step_numbers;
 #[cfg(test)]
 mod tests;
 mod variables;

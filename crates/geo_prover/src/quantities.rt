@@ -1,22 +1,24 @@
 //! Polynomials as the rows of the lemma table write them, with the bounds that their form tells.
 
 ghost use Rattle.std.specs.Prelude.{◌≡◌, ◌≢◌, ◌+◌, ◌*◌, ◌^◌, ◌<◌, ◌≤◌, max, negsuc, unsigned_abs, IfOk};
+ghost use Rattle.fraction_poly.specs.MultipliedOut.{variable_polynomial};
 ghost use Rattle.geo_poly.specs.Replace.{IsBounded};
-ghost use Rattle.geo_prover.specs.Moves.{area_piece, coordinate_piece, number_piece, piece_difference, piece_product, piece_sum, variable_polynomial};
+ghost use Rattle.geo_prover.specs.Moves.{area_piece, coordinate_piece, integer_piece, piece_difference, piece_product, piece_sum};
 
 use geo_points::{NoMemory, PointId};
 use geo_poly::{Piece, Poly, PolyError, Var, Which, canon_s};
 use std::alloc::Global;
 
-/// The numerator or the denominator of a step's number.
-pub fn number(alloc: Global, z: i128) -> Result<Piece, NoMemory>
-    requires { unsigned_abs z < 2 ^ 127 }
-    ensures piece { IfOk result (λ f. f ≡ number_piece z) }
+/// A whole number but 0.
+pub fn integer(alloc: Global, z: i128) -> Result<Piece, NoMemory>
+    requires nonzero { 1 ≤ unsigned_abs z }
+    requires short { unsigned_abs z < 2 ^ 127 }
+    ensures piece { IfOk result (λ f. f ≡ integer_piece z) }
     ensures bounded { IfOk result IsBounded }
 {
     Ok(Piece {
         poly: Poly::constant(alloc, z)?,
-        weight: z.unsigned_abs().max(1),
+        weight: z.unsigned_abs(),
         count: 1,
         degree: 0,
     })

@@ -1,39 +1,53 @@
 //! The rows of the lemma table for signed areas.
 
-ghost use Rattle.std.specs.Prelude.{◌≡◌, ◌≤◌, IfOk, IfSome, unsigned_abs};
+ghost use Rattle.std.specs.Prelude.{◌≡◌, ◌≤◌, List, IfOk, IfSome};
 ghost use Rattle.geo_poly.specs.Replace.{IsBounded};
-ghost use Rattle.geo_prover.specs.Moves.{along_row, area_piece, coordinate_numerator, coordinate_piece, free_row, is_free, number_piece, piece_product, points_after};
-ghost use Rattle.geo_prover.specs.Program.{IsCommand};
+ghost use Rattle.geo_prover.specs.declared.program.Command.{Command};
+ghost use Rattle.geo_prover.specs.Constructed.{AreStepsOf, IsOfOneDigit};
+ghost use Rattle.geo_prover.specs.Moves.{area_piece, coordinate_numerator, coordinate_piece, free_row, piece_product, points_after, row_along};
 
-use crate::program::Command;
-use crate::quantities::{area, coordinate, difference, number, product, sum};
+use crate::construction::is_free;
+use crate::quantities::{area, coordinate, difference, product, sum};
 use geo_points::{NoMemory, PointId};
 use geo_poly::{Piece, Row, Var};
+use geo_terms::Steps;
 use std::alloc::Global;
 
-/// The row of an area that contains the point `y`, which the command makes.
+/// The point Y with `Y - W = r (V - U)`, whatever the number r.
+#[derive(Clone, Copy)]
+pub struct Along {
+    /// The point Y.
+    pub y: PointId,
+    /// The point W, from which Y lies along UV.
+    pub w: PointId,
+    /// The start U of the vector UV.
+    pub u: PointId,
+    /// The end V of the vector UV.
+    pub v: PointId,
+}
+
+/// The row of an area that contains the point Y, where the number is `num / den`.
 pub fn along_row(
     alloc: Global,
-    y: PointId,
-    command: Command,
+    along: Along,
+    num: &Piece,
+    den: &Piece,
     variable: Var,
 ) -> Result<Option<Row>, NoMemory>
-    requires { IsCommand y.0 command }
-    ensures row { IfOk result (λ o. o ≡ along_row y command variable) }
+    requires num { IsOfOneDigit num.now }
+    requires den { IsOfOneDigit den.now }
+    ensures row { IfOk result (λ o. o ≡ row_along along num.now den.now variable) }
     ensures bounded { IfOk result (λ o. IfSome o (λ r. IsBounded r.num × (r.power ≤ 2))) }
 {
-    let Command::Pratio { w, u, v, n, d } = command else {
-        return Ok(None);
-    };
     let Var::S(a, b, c) = variable else {
         return Ok(None);
     };
-    let Some((a, b)) = points_after(y, a, b, c) else {
+    let Some((a, b)) = points_after(along.y, a, b, c) else {
         return Ok(None);
     };
-    let at_w = multiple(alloc, d, a, b, w)?;
-    let at_v = multiple(alloc, n, a, b, v)?;
-    let at_u = multiple(alloc, n, a, b, u)?;
+    let at_w = multiple(alloc, den, a, b, along.w)?;
+    let at_v = multiple(alloc, num, a, b, along.v)?;
+    let at_u = multiple(alloc, num, a, b, along.u)?;
     let front = sum(alloc, &at_w, &at_v)?;
     let num = difference(alloc, &front, &at_u)?;
     Ok(Some(Row {
@@ -59,24 +73,31 @@ fn points_after(y: PointId, a: PointId, b: PointId, c: PointId) -> Option<(Point
 }
 
 /// The number times the area of three points.
-fn multiple(alloc: Global, n: i128, a: PointId, b: PointId, c: PointId) -> Result<Piece, NoMemory>
-    requires { unsigned_abs n ≤ 9 }
-    ensures piece { IfOk result (λ f. f ≡ piece_product (number_piece n) (area_piece a b c)) }
+fn multiple(
+    alloc: Global,
+    number: &Piece,
+    a: PointId,
+    b: PointId,
+    c: PointId,
+) -> Result<Piece, NoMemory>
+    requires { IsOfOneDigit number.now }
+    ensures piece { IfOk result (λ f. f ≡ piece_product number.now (area_piece a b c)) }
     ensures light { IfOk result (λ f. f.weight ≤ 9) }
     ensures bounded { IfOk result IsBounded }
 {
-    product(alloc, &number(alloc, n)?, &area(alloc, a, b, c)?)
+    product(alloc, number, &area(alloc, a, b, c)?)
 }
 
 /// The row of an area whose points are all free.
-pub fn free_row(alloc: Global, commands: &[Command], variable: Var) -> Result<Option<Row>, NoMemory>
-    ensures row { IfOk result (λ o. o ≡ free_row commands.now variable) }
+pub fn free_row(alloc: Global, steps: &Steps, variable: Var) -> Result<Option<Row>, NoMemory>
+    ensures row { IfOk result (λ o. (commands : List Command)
+        → AreStepsOf commands steps.now → o ≡ free_row commands variable) }
     ensures bounded { IfOk result (λ o. IfSome o (λ r. IsBounded r.num × (r.power ≤ 2))) }
 {
     let Var::S(a, b, c) = variable else {
         return Ok(None);
     };
-    if !is_free(commands, a) || !is_free(commands, b) || !is_free(commands, c) {
+    if !is_free(steps, a) || !is_free(steps, b) || !is_free(steps, c) {
         return Ok(None);
     }
     let num = coordinate_numerator(alloc, a, b, c)?;
@@ -85,16 +106,6 @@ pub fn free_row(alloc: Global, commands: &[Command], variable: Var) -> Result<Op
         power: 1,
         num,
     }))
-}
-
-/// Whether a command makes the point as a free one.
-pub fn is_free(commands: &[Command], a: PointId) -> bool
-    ensures { result ≡ is_free commands.now a }
-{
-    match commands.get(a.0 as usize) {
-        Some(command) => *command == Command::Point,
-        None => false,
-    }
 }
 
 /// Twice the area of three points, in their coordinates.

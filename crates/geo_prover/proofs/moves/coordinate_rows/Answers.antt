@@ -1,4 +1,4 @@
-use Rattle.std.proofs.Common.{◌≡◌, ◌≤◌, List, [], ◌∷◌, ◌++◌, get_or, sym, ap, subst, ◌∙◌}
+use Rattle.std.proofs.Common.{◌≡◌, ◌≤◌, List, [], ◌∷◌, ◌++◌, sym, ap, subst, ◌∙◌}
 use Rattle.geo_poly.specs.declared.variables.Var.{Var}
 use Rattle.geo_poly.specs.declared.variables.Var.TheVariants.{R}
 use Rattle.geo_poly.specs.declared.replacement.Row.{Row}
@@ -17,7 +17,6 @@ loop-v-preserved c =
     let vs = c.args.variables.now in
     let i = c.loop-v.v-index in
     let so_far = c.loop-v.invariant in
-    let row : c.in_ok-row.field-0 ≡ free_row c.args.commands.now (get_or vs i none) = c.in_ok-row.ensures.row in
     elim c.match-branch-2.branch [
       | in-Some+in_ok-push w ↦
           let r = w.in-Some.row in
@@ -25,14 +24,18 @@ loop-v-preserved c =
           some_at c.in_ok-row.field-0 r (λ r. IsBounded r.num × (r.power ≤ 2)) w.in-Some.is c.in_ok-row.ensures.bounded in
           let items : c.match-branch-2.items.items ≡ c.loop-v.items.items ++ w.in-Some.row ∷ [] = ap (λ x. x.items) w.items-is ∙ w.in_ok-push.ensures.items in
           record {
-            rows = items ∙ ap (λ (rows : List Row). rows ++ r ∷ []) so_far.rows ∙ sym (rows_some (free_row c.args.commands.now) vs i none r c.loop-v-test.true (sym row ∙ w.in-Some.is));
+            rows = λ commands built.
+                items ∙ ap (λ (rows : List Row). rows ++ r ∷ []) (so_far.rows commands built)
+                ∙ sym (rows_some (free_row commands) vs i none r c.loop-v-test.true (sym (c.in_ok-row.ensures.row commands built) ∙ w.in-Some.is));
             bounded = subst AllBounded (sym items) (AllBounded-push c.loop-v.items.items r so_far.bounded fits.0);
             small = subst AllPowersSmall (sym items) (AllPowersSmall-push c.loop-v.items.items r so_far.small fits.1);
           }
       | in_default w ↦
           let items : c.match-branch-2.items.items ≡ c.loop-v.items.items = ap (λ x. x.items) w.items-is in
           record {
-            rows = items ∙ so_far.rows ∙ sym (rows_none (free_row c.args.commands.now) vs i none c.loop-v-test.true (sym row ∙ w.in_default.is));
+            rows = λ commands built.
+                items ∙ so_far.rows commands built
+                ∙ sym (rows_none (free_row commands) vs i none c.loop-v-test.true (sym (c.in_ok-row.ensures.row commands built) ∙ w.in_default.is));
             bounded = subst AllBounded (sym items) so_far.bounded;
             small = subst AllPowersSmall (sym items) so_far.small;
           }

@@ -3,11 +3,11 @@ use Rattle.geo_poly.specs.declared.variables.Var.{Var}
 use Rattle.geo_poly.specs.declared.variables.Var.TheVariants.{R}
 use Rattle.geo_poly.specs.declared.replacement.Row.{Row}
 use Rattle.geo_poly.specs.Replace.{AllBounded, AllPowersSmall, IsBounded}
-use Rattle.geo_prover.specs.Moves.{along_row}
+use Rattle.geo_prover.specs.Moves.{row_along}
 use Rattle.geo_prover.proofs.Items.{some_at}
 use Rattle.geo_prover.proofs.GrowingRows.{AllBounded-push, AllPowersSmall-push, rows_none, rows_some}
-use Rattle.geo_prover.proofs.moves.point_rows.Goals as goal
-use Rattle.geo_prover.proofs.moves.point_rows.Goals.{in-Some+in_ok-push, in_default}
+use Rattle.geo_prover.proofs.moves.along_rows.Goals as goal
+use Rattle.geo_prover.proofs.moves.along_rows.Goals.{in-Some+in_ok-push, in_default}
 
 abbrev none : Var
 none = R (record { 0 = 0 }) (record { 0 = 0 }) (record { 0 = 0 }) (record { 0 = 0 })
@@ -17,7 +17,7 @@ loop-v-preserved c =
     let vs = c.args.variables.now in
     let i = c.loop-v.v-index in
     let so_far = c.loop-v.invariant in
-    let row : c.in_ok-row.field-0 ≡ along_row c.args.y c.args.command (get_or vs i none) = c.in_ok-row.ensures.row in
+    let row : c.in_ok-row.field-0 ≡ row_along c.args.along c.args.num.now c.args.den.now (get_or vs i none) = c.in_ok-row.ensures.row in
     elim c.match-branch-2.branch [
       | in-Some+in_ok-push w ↦
           let r = w.in-Some.row in
@@ -25,14 +25,14 @@ loop-v-preserved c =
           some_at c.in_ok-row.field-0 r (λ r. IsBounded r.num × (r.power ≤ 2)) w.in-Some.is c.in_ok-row.ensures.bounded in
           let items : c.match-branch-2.items.items ≡ c.loop-v.items.items ++ w.in-Some.row ∷ [] = ap (λ x. x.items) w.items-is ∙ w.in_ok-push.ensures.items in
           record {
-            rows = items ∙ ap (λ (rows : List Row). rows ++ r ∷ []) so_far.rows ∙ sym (rows_some (along_row c.args.y c.args.command) vs i none r c.loop-v-test.true (sym row ∙ w.in-Some.is));
+            rows = items ∙ ap (λ (rows : List Row). rows ++ r ∷ []) so_far.rows ∙ sym (rows_some (row_along c.args.along c.args.num.now c.args.den.now) vs i none r c.loop-v-test.true (sym row ∙ w.in-Some.is));
             bounded = subst AllBounded (sym items) (AllBounded-push c.loop-v.items.items r so_far.bounded fits.0);
             small = subst AllPowersSmall (sym items) (AllPowersSmall-push c.loop-v.items.items r so_far.small fits.1);
           }
       | in_default w ↦
           let items : c.match-branch-2.items.items ≡ c.loop-v.items.items = ap (λ x. x.items) w.items-is in
           record {
-            rows = items ∙ so_far.rows ∙ sym (rows_none (along_row c.args.y c.args.command) vs i none c.loop-v-test.true (sym row ∙ w.in_default.is));
+            rows = items ∙ so_far.rows ∙ sym (rows_none (row_along c.args.along c.args.num.now c.args.den.now) vs i none c.loop-v-test.true (sym row ∙ w.in_default.is));
             bounded = subst AllBounded (sym items) so_far.bounded;
             small = subst AllPowersSmall (sym items) so_far.small;
           }
