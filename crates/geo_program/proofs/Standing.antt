@@ -35,7 +35,8 @@ pub MayAllStand-append : (xs ys : List Lexeme) → MayAllStand xs → MayAllStan
 MayAllStand-append [] ys h k = k
 MayAllStand-append (x ∷ xs) ys h k = (h.0, MayAllStand-append xs ys h.1 k)
 
-both : (x y : Bool) → (x && y) ≡ true → (x ≡ true) × (y ≡ true)
+-- both parts of a test that passes
+pub both : (x y : Bool) → (x && y) ≡ true → (x ≡ true) × (y ≡ true)
 both true true h = (refl, refl)
 both true false h = absurd (cc)
 both false y h = absurd (cc)
