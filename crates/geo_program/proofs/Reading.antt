@@ -85,7 +85,7 @@ point_same a b h = ap (λ k. record { 0 = k }) h
 param_same : (a b : ParamId) → a.0 ≡ b.0 → a ≡ b
 param_same a b h = ap (λ k. record { 0 = k }) h
 
-line_same : (a b : LineId) → a.0 ≡ b.0 → a ≡ b
+pub line_same : (a b : LineId) → a.0 ≡ b.0 → a ≡ b
 line_same a b h = ap (λ k. record { 0 = k }) h
 
 -- a word that begins an expression is reserved
@@ -95,7 +95,7 @@ reserved_expression_word word found =
     (Contains-append_right (command_words ++ statement_words) expression_words word found)
 
 -- a part between braces is read in one way, where the part is
-braced_read : {A : Type 0} (spell : A → List Lexeme) (x y : A) (r s : List Lexeme)
+pub braced_read : {A : Type 0} (spell : A → List Lexeme) (x y : A) (r s : List Lexeme)
     → (spell x ++ (close_brace ∷ r) ≡ spell y ++ (close_brace ∷ s) → ReadsAlike x y (close_brace ∷ r) (close_brace ∷ s))
     → braced (spell x) ++ r ≡ braced (spell y) ++ s → ReadsAlike x y r s
 braced_read spell x y r s read h =
@@ -123,7 +123,7 @@ two_read spell word make e g f k r s read_first read_second h =
 
 module _ (names : List Name) (valid : All (λ n. IsNameText n.text) names) (differ : AllDiffer names) where
   -- a point's name tells the point
-  point_read : (a b : PointId) → a.0 < length (names_of Point names) → b.0 < length (names_of Point names) → point_lexeme names a ≡ point_lexeme names b → a ≡ b
+  pub point_read : (a b : PointId) → a.0 < length (names_of Point names) → b.0 < length (names_of Point names) → point_lexeme names a ≡ point_lexeme names b → a ≡ b
   point_read a b ha hb same =
       let texts : name_text Point names a.0 ≡ name_text Point names b.0 = cc in
       point_same a b (same_number Point names a.0 b.0 differ ha hb texts)
