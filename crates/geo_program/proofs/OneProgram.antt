@@ -6,6 +6,7 @@ use Rattle.std.proofs.lemmas.Bool.{false≢true}
 use Rattle.std.proofs.lemmas.List.{append-nil}
 use Rattle.std.proofs.lemmas.List.Elements.{All-head, All-tail}
 use Rattle.geo_lexer.specs.Lexemes.{HasLexemes, Lexeme, word_lexeme, number_lexeme, open_brace, close_brace}
+use Rattle.geo_lexer.proofs.Meanings.{one_meaning}
 use Rattle.geo_program.specs.declared.commands.Command.{Command}
 use Rattle.geo_program.specs.declared.commands.LineId.{LineId}
 use Rattle.geo_program.specs.declared.names.Name.{Name}
@@ -139,3 +140,98 @@ statement_read before np nq s t valid differ hs ht h =
     let tails : flat_map spell f.arguments ++ close_brace ∷ [] ≡ flat_map spell g.arguments ++ close_brace ∷ [] = cc in
     let read = arguments_read before valid differ f.arguments g.arguments (close_brace ∷ []) (close_brace ∷ []) (same_statement_shape np nq s t words) hs ht tails in
     statement_form_same f g words read.same
+
+-- PROGRAMS
+
+-- names with their commands and places for numbers, as many of each
+data AreTogether : List Name → List Command → List Sketch → Type 0 where
+  none : AreTogether [] [] []
+  more : {n : Name} {ns : List Name} {c : Command} {cs : List Command} {k : Sketch} {ks : List Sketch} → AreTogether ns cs ks → AreTogether (n ∷ ns) (c ∷ cs) (k ∷ ks)
+
+together : (nodes : Store) (s : Scope) (ns : List Name) (cs : List Command) (ks : List Sketch) → AreCommands nodes s ns cs → AreSketches cs ks → AreTogether ns cs ks
+together nodes s [] [] [] h g = none
+together nodes s [] [] (k ∷ ks) h g = absurd g
+together nodes s [] (c ∷ cs) ks h g = absurd h
+together nodes s (n ∷ ns) [] ks h g = absurd h
+together nodes s (n ∷ ns) (c ∷ cs) [] h g = absurd g
+together nodes s (n ∷ ns) (c ∷ cs) (k ∷ ks) h g = more (together nodes (declare n.kind s) ns cs ks h.1 g.1)
+
+-- the lexemes of commands and of a statement
+abbrev lines : List Name → Store → List Name → List Command → List Sketch → Statement → List Lexeme
+lines all nodes names commands sketches s =
+    flat_map (λ line. line) (commands_lexemes all nodes names commands sketches ++ statement_lexemes all nodes s ∷ [])
+
+lines_begin : (all : List Name) (nodes : Store) (names : List Name) (commands : List Command) (sketches : List Sketch) (s : Statement) → begins_with_word (lines all nodes names commands sketches s) ≡ true
+unfolding begins_with_word
+lines_begin all nodes (n ∷ names) (c ∷ commands) (k ∷ sketches) s = refl
+lines_begin all nodes _ _ _ s = refl
+
+-- a command's first word is no `prove`
+not_prove : (nodes : Store) (c : Command) → (command_form nodes c).word ≡ codes "prove" → ⊥
+not_prove nodes c h =
+    false≢true (sym (command_is_no_prove nodes c) ∙ eq-eqb (place_of (command_form nodes c).word command_words) (place_of (codes "prove") command_words) (ap (λ w. place_of w command_words) h))
+
+-- what is left of two programs is the same
+record SameLeft (np nq : Store) (sp sq : Statement) (ns ms : List Name) (cs ds : List Command) : Type 0 where
+  pub names : ns ≡ ms
+  pub commands : map (command_form np) cs ≡ map (command_form nq) ds
+  pub statement : statement_form np sp ≡ statement_form nq sq
+
+module _ (P Q : List Name) (np nq : Store) (sp sq : Statement)
+    (valid_p : All (λ n. IsNameText n.text) P) (differ_p : AllDiffer P)
+    (statement_p : All (IsArgument (scope_of empty_scope P)) (statement_form np sp).arguments)
+    (statement_q : All (IsArgument (scope_of empty_scope Q)) (statement_form nq sq).arguments) where
+
+  -- equal lexemes are those of the same commands and statement
+  lines_read : {ns ms : List Name} {cs ds : List Command} {ks ls : List Sketch} (before : List Name)
+      → AreTogether ns cs ks → AreTogether ms ds ls → P ≡ before ++ ns → Q ≡ before ++ ms
+      → AreCommands np (scope_of empty_scope before) ns cs → AreCommands nq (scope_of empty_scope before) ms ds
+      → lines P np ns cs ks sp ≡ lines Q nq ms ds ls sq → SameLeft np nq sp sq ns ms cs ds
+  lines_read before none none isp isq hp hq h =
+      let one : statement_lexemes P np sp ++ [] ≡ statement_lexemes Q nq sq ++ [] = h in
+      let all : P ≡ Q = isp ∙ sym isq in
+      let statements : statement_lexemes P np sp ≡ statement_lexemes P nq sq =
+      sym (append-nil (statement_lexemes P np sp)) ∙ one ∙ append-nil (statement_lexemes Q nq sq) ∙ ap (λ names. statement_lexemes names nq sq) (sym all) in
+      let over_p = subst (λ (names : List Name). All (IsArgument (scope_of empty_scope names)) (statement_form nq sq).arguments) (sym all) statement_q in
+      record { names = refl; commands = refl; statement = statement_read P np nq sp sq valid_p differ_p statement_p over_p statements }
+  lines_read before (more {c = c} tp) none isp isq hp hq h =
+      let word : (command_form np c).word ≡ codes "prove" = cc in absurd (not_prove np c word)
+  lines_read before none (more {c = d} tq) isp isq hp hq h =
+      let word : codes "prove" ≡ (command_form nq d).word = cc in absurd (not_prove nq d (sym word))
+  lines_read before (more {n = n} {ns = ns} {c = c} {cs = cs} {k = k} {ks = ks} tp) (more {n = m} {ns = ms} {c = d} {cs = ds} {k = l} {ks = ls} tq) isp isq hp hq h =
+      let r = lines P np ns cs ks sp in
+      let s = lines Q nq ms ds ls sq in
+      let valid = subst (λ (names : List Name). All (λ x. IsNameText x.text) names) isp valid_p in
+      let differ = subst AllDiffer isp differ_p in
+      let apart : (command_lexemes (before ++ n ∷ ns) np n c ++ sketch_lexemes k) ++ r ≡ (command_lexemes (before ++ m ∷ ms) nq m d ++ sketch_lexemes l) ++ s =
+      ap (λ all. (command_lexemes all np n c ++ sketch_lexemes k) ++ r) (sym isp) ∙ h ∙ ap (λ all. (command_lexemes all nq m d ++ sketch_lexemes l) ++ s) isq in
+      let one = command_read before (n ∷ ns) (m ∷ ms) np nq n m c d k l r s
+      (All-front (λ x. IsNameText x.text) before (n ∷ ns) valid) (AllDiffer-front before (n ∷ ns) differ)
+      hp.0 hq.0 (lines_begin P np ns cs ks sp) (lines_begin Q nq ms ds ls sq) apart in
+      let next = before ++ n ∷ [] in
+      let rest = lines_read next tp tq
+      (isp ∙ sym (append_assoc before (n ∷ []) ns))
+      (isq ∙ ap (λ x. before ++ x ∷ ms) (sym one.name) ∙ sym (append_assoc before (n ∷ []) ms))
+      (subst (λ (s : Scope). AreCommands np s ns cs) (sym (scope_of-push empty_scope before n)) hp.1)
+      (subst (λ (s : Scope). AreCommands nq s ms ds) (ap (λ x. declare x.kind (scope_of empty_scope before)) (sym one.name) ∙ sym (scope_of-push empty_scope before n)) hq.1)
+      one.rest in
+      record {
+        names = ap₂ (λ x xs. x ∷ xs) one.name rest.names;
+        commands = ap₂ (λ x xs. x ∷ xs) one.form rest.commands;
+        statement = rest.statement;
+      }
+
+-- programs of the same lexemes are the same
+pub same_lexemes : (p q : Source) (ks ls : List Sketch) → IsWellFormed p → IsWellFormed q → AreSketches p.commands ks → AreSketches q.commands ls
+    → flat_map (λ line. line) (line_lexemes ks p) ≡ flat_map (λ line. line) (line_lexemes ls q) → SameSource p q
+same_lexemes p q ks ls hp hq kp kq h =
+    let left = lines_read p.names q.names p.nodes q.nodes p.statement q.statement hp.names hp.differ hp.statement hq.statement []
+    (together p.nodes empty_scope p.names p.commands ks hp.commands kp) (together q.nodes empty_scope q.names q.commands ls hq.commands kq)
+    refl refl hp.commands hq.commands h in
+    record { names = left.names; commands = left.commands; statement = left.statement }
+
+-- a text spells one program at most
+pub spells_one : (bytes : List ℕ) (p q : Source) → SpellsSource bytes p → SpellsSource bytes q → SameSource p q
+spells_one bytes p q hp hq =
+    same_lexemes p q hp.sketches hq.sketches hp.well_formed hq.well_formed hp.sketched hq.sketched
+    (one_meaning bytes _ _ hp.lexemes hq.lexemes)
