@@ -1,29 +1,27 @@
 -- Lexemes are those of one program at most.
-use Rattle.std.proofs.Common.{◌≡◌, ℕ, zero, suc, ◌+◌, ◌<◌, ◌≤◌, Bool, true, false, Some, None, List, [], ◌∷◌, ◌++◌, map, length, eqb, refl, sym, ap, ap₂, subst, ◌∙◌, arith, append_assoc, eq-eqb}
-use Rattle.std.specs.Prelude.{All, codes, ℤ}
+use Rattle.std.proofs.Common.{◌≡◌, ℕ, Bool, true, false, Some, None, List, [], ◌∷◌, ◌++◌, map, refl, sym, ap, ap₂, subst, ◌∙◌, arith, append_assoc, eq-eqb}
+use Rattle.std.specs.Prelude.{All, codes}
 use Rattle.std.specs.List.{flat_map}
 use Rattle.std.proofs.lemmas.Bool.{false≢true}
 use Rattle.std.proofs.lemmas.List.{append-nil}
 use Rattle.std.proofs.lemmas.List.Elements.{All-head, All-tail}
-use Rattle.geo_lexer.specs.Lexemes.{HasLexemes, Lexeme, word_lexeme, number_lexeme, open_brace, close_brace}
+use Rattle.geo_lexer.specs.Lexemes.{Lexeme, word_lexeme, close_brace}
 use Rattle.geo_lexer.proofs.Meanings.{one_meaning}
 use Rattle.geo_program.specs.declared.commands.Command.{Command}
-use Rattle.geo_program.specs.declared.commands.LineId.{LineId}
 use Rattle.geo_program.specs.declared.names.Name.{Name}
-use Rattle.geo_program.specs.declared.names.NameKind.{NameKind}
-use Rattle.geo_program.specs.declared.names.NameKind.TheVariants.{Point, Param, Line}
+use Rattle.geo_program.specs.declared.names.NameKind.TheVariants.{Line}
 use Rattle.geo_program.specs.declared.statements.Statement.{Statement}
 use Rattle.geo_program.specs.CanonicalText.{Sketch, argument_lexemes, command_lexemes, commands_lexemes, line_lexemes, sketch_lexemes, statement_lexemes}
-use Rattle.geo_program.specs.Expressions.{braced, expression_lexemes, point_lexeme}
+use Rattle.geo_program.specs.Expressions.{expression_lexemes, point_lexeme}
 use Rattle.geo_program.specs.Forms.{Argument, CommandForm, StatementForm, point_argument, line_argument, number_argument, side_argument, command_form, statement_form}
-use Rattle.geo_program.specs.Names.{name_text, names_of}
+use Rattle.geo_program.specs.Names.{name_text}
 use Rattle.geo_program.specs.Spelling.{AreSketches, SameSource, SpellsSource}
 use Rattle.geo_program.specs.WellFormed.{AllDiffer, AreCommands, IsArgument, IsCommand, IsWellFormed, Scope, Source, declare, empty_scope, scope_of}
 use Rattle.geo_program.specs.Words.{IsNameText, command_words}
 use Rattle.geo_program.proofs.OnceNamed.{AllDiffer-front, All-front, same_number}
 use Rattle.geo_program.proofs.Reading.{ReadsAlike, braced_read, expression_read, line_same, place_of, point_read}
 use Rattle.geo_program.proofs.ScopeLemmas.{lines_declared, points_declared, scope_of-push}
-use Rattle.geo_program.proofs.Shapes.{Shape, argument_kind, command_is_no_prove, same_shape, same_statement_shape, shape_of}
+use Rattle.geo_program.proofs.Shapes.{argument_kind, command_is_no_prove, same_shape, same_statement_shape, shape_of}
 use Rattle.geo_program.proofs.Staying.{arguments_lexemes-append, over_names}
 use Rattle.geo_terms.specs.Stores.{Store}
 
@@ -181,7 +179,6 @@ module _ (P Q : List Name) (np nq : Store) (sp sq : Statement)
     (valid_p : All (λ n. IsNameText n.text) P) (differ_p : AllDiffer P)
     (statement_p : All (IsArgument (scope_of empty_scope P)) (statement_form np sp).arguments)
     (statement_q : All (IsArgument (scope_of empty_scope Q)) (statement_form nq sq).arguments) where
-
   -- equal lexemes are those of the same commands and statement
   lines_read : {ns ms : List Name} {cs ds : List Command} {ks ls : List Sketch} (before : List Name)
       → AreTogether ns cs ks → AreTogether ms ds ls → P ≡ before ++ ns → Q ≡ before ++ ms

@@ -1,7 +1,6 @@
 -- Expressions and arguments are read in one way: what follows them does not matter.
-use Rattle.std.proofs.Common.{◌≡◌, ℕ, zero, suc, ◌+◌, ◌<◌, ◌≤◌, ◌⊎◌, Bool, true, false, List, [], ◌∷◌, ◌++◌, map, length, get_or, eqb, ◌&&◌, if◌then◌else◌, refl, sym, ap, ap₂, subst, ◌∙◌, arith, append_assoc, eq-eqb}
-use Rattle.std.specs.Prelude.{All, Contains, ℤ, codes}
-use Rattle.std.specs.List.{AllByRecursion, flat_map}
+use Rattle.std.proofs.Common.{◌≡◌, ℕ, suc, ◌<◌, Bool, true, false, List, [], ◌∷◌, ◌++◌, length, eqb, ◌&&◌, if◌then◌else◌, refl, sym, ap, ap₂, ◌∙◌, arith, append_assoc, eq-eqb}
+use Rattle.std.specs.Prelude.{All, Contains, codes}
 use Rattle.std.proofs.lemmas.Bool.{eqb-true, false≢true}
 use Rattle.std.proofs.lemmas.List.Elements.{All-get_or, Contains-append_left, Contains-append_right}
 use Rattle.geo_lexer.specs.Lexemes.{Lexeme, word_lexeme, number_lexeme, open_brace, close_brace}
@@ -9,9 +8,8 @@ use Rattle.geo_points.specs.declared.ids.ParamId.{ParamId}
 use Rattle.geo_points.specs.declared.ids.PointId.{PointId}
 use Rattle.geo_program.specs.declared.commands.LineId.{LineId}
 use Rattle.geo_program.specs.declared.names.Name.{Name}
-use Rattle.geo_program.specs.declared.names.NameKind.TheVariants.{Point, Param, Line}
+use Rattle.geo_program.specs.declared.names.NameKind.TheVariants.{Point, Param}
 use Rattle.geo_program.specs.Expressions.{IsExpression, braced, expression_lexemes, point_lexeme, quantity_lexemes}
-use Rattle.geo_program.specs.Forms.{Argument, point_argument, line_argument, number_argument, side_argument}
 use Rattle.geo_program.specs.Names.{name_text, names_of}
 use Rattle.geo_program.specs.WellFormed.{AllDiffer}
 use Rattle.geo_program.specs.Words.{IsNameText, command_words, expression_words, reserved_words, statement_words}

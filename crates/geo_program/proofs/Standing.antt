@@ -1,12 +1,12 @@
 -- The lexemes of a well-formed program may stand in a text.
-use Rattle.std.proofs.Common.{◌≡◌, ℕ, zero, suc, ◌+◌, ◌<◌, ◌≤◌, ◌^◌, Bool, true, false, ◌&&◌, IsTrue, List, [], ◌∷◌, ◌++◌, map, length, get_or, leb, refl, sym, ap, ap₂, subst, ◌∙◌, arith, lit≤}
-use Rattle.std.specs.Prelude.{All, ℤ, codes, Contains}
+use Rattle.std.proofs.Common.{◌≡◌, ℕ, ◌<◌, Bool, true, false, ◌&&◌, List, [], ◌∷◌, ◌++◌, length, get_or, leb, refl, arith}
+use Rattle.std.specs.Prelude.{All, codes}
 use Rattle.std.specs.List.{AllByRecursion, flat_map, list_all}
 use Rattle.std.proofs.lemmas.Bool.{leb-true}
-use Rattle.std.proofs.lemmas.List.Elements.{All-get_or, All-head, All-tail, All-nil, All-cons, All-weaker, recursion_from_All, All-from_recursion}
+use Rattle.std.proofs.lemmas.List.Elements.{All-get_or, All-head, All-tail, All-nil, All-cons}
 use Rattle.std.proofs.lemmas.List.Sums.{AllPass-from_list_all}
 use Rattle.geo_lexer.specs.Bytes.{is_letter, is_word_byte}
-use Rattle.geo_lexer.specs.Lexemes.{IsWord, Lexeme, MayStand, word_lexeme, number_lexeme, open_brace, close_brace}
+use Rattle.geo_lexer.specs.Lexemes.{IsWord, Lexeme, MayStand, word_lexeme, close_brace}
 use Rattle.geo_points.specs.declared.ids.PointId.{PointId}
 use Rattle.geo_program.specs.declared.commands.Command.{Command}
 use Rattle.geo_program.specs.declared.commands.Command.TheVariants as command
@@ -16,10 +16,10 @@ use Rattle.geo_program.specs.declared.names.NameKind.TheVariants.{Point, Param, 
 use Rattle.geo_program.specs.declared.statements.Statement.{Statement}
 use Rattle.geo_program.specs.declared.statements.Statement.TheVariants as statement
 use Rattle.geo_program.specs.CanonicalText.{argument_lexemes, command_lexemes, statement_lexemes}
-use Rattle.geo_program.specs.Expressions.{IsExpression, braced, expression_lexemes, point_lexeme, quantity_lexemes}
+use Rattle.geo_program.specs.Expressions.{IsExpression, braced, expression_lexemes, point_lexeme}
 use Rattle.geo_program.specs.Forms.{Argument, point_argument, line_argument, number_argument, side_argument, command_form, statement_form}
 use Rattle.geo_program.specs.Names.{is_kind, name_text, names_of}
-use Rattle.geo_program.specs.Printing.{declared}
+use Rattle.geo_program.specs.Printing.{whole_scope}
 use Rattle.geo_program.specs.WellFormed.{IsArgument}
 use Rattle.geo_program.specs.Words.{IsNameText}
 use Rattle.geo_program.proofs.ScopeLemmas.{declared_of}
@@ -109,12 +109,12 @@ All-names_of P kind (name ∷ names) h =
 
 module _ (names : List Name) (valid : All (λ n. IsNameText n.text) names) where
   -- a declared name is a word
-  pub IsWord-name_text : (kind : NameKind) (k : ℕ) → k < declared_of kind (declared names) → IsWord (name_text kind names k)
+  pub IsWord-name_text : (kind : NameKind) (k : ℕ) → k < declared_of kind (whole_scope names) → IsWord (name_text kind names k)
   IsWord-name_text kind k within =
       IsWord-name (name_text kind names k)
       (All-get_or IsNameText (names_of kind names) k [] (omega (arith, length-names_of kind names)) (All-names_of IsNameText kind names valid))
 
-  point_stands : (a : PointId) → a.0 < (declared names).points → MayStand (point_lexeme names a)
+  point_stands : (a : PointId) → a.0 < (whole_scope names).points → MayStand (point_lexeme names a)
   point_stands a h = IsWord-name_text Point a.0 h
 
   braced_stands : (xs : List Lexeme) → MayAllStand xs → MayAllStand (braced xs)
@@ -123,7 +123,7 @@ module _ (names : List Name) (valid : All (λ n. IsNameText n.text) names) where
   parts_stand : (word : List ℕ) (xs ys : List Lexeme) → is_word word ≡ true → MayAllStand xs → MayAllStand ys → MayAllStand (word_lexeme word ∷ braced xs ++ braced ys)
   parts_stand word xs ys w h k = (IsWord-tested word w, MayAllStand-append (braced xs) (braced ys) (braced_stands xs h) (braced_stands ys k))
 
-  pub expression_stands : (ratios : Bool) (e : Tree) → IsExpression (declared names).points (declared names).params ratios e → MayAllStand (expression_lexemes names e)
+  pub expression_stands : (ratios : Bool) (e : Tree) → IsExpression (whole_scope names).points (whole_scope names).params ratios e → MayAllStand (expression_lexemes names e)
   expression_stands ratios (integer_leaf n) h = (h, tt)
   expression_stands ratios (parameter_leaf t) h = (IsWord-name_text Param t.0 h, tt)
   expression_stands ratios (area_leaf a b c) h =
@@ -139,24 +139,25 @@ module _ (names : List Name) (valid : All (λ n. IsNameText n.text) names) where
   expression_stands ratios (multiplication e f) h = parts_stand (codes "mult") _ _ refl (expression_stands ratios e h.0) (expression_stands ratios f h.1)
   expression_stands ratios (division e f) h = parts_stand (codes "div") _ _ refl (expression_stands ratios e h.0) (expression_stands false f h.1)
 
-  pub argument_stands : (x : Argument) → IsArgument (declared names) x → MayAllStand (argument_lexemes names x)
+  pub argument_stands : (x : Argument) → IsArgument (whole_scope names) x → MayAllStand (argument_lexemes names x)
   argument_stands (point_argument a) h = (point_stands a h, tt)
   argument_stands (line_argument a) h = (IsWord-name_text Line a.0 h, tt)
   argument_stands (number_argument e) h = expression_stands false e h.0
   argument_stands (side_argument e) h = braced_stands (expression_lexemes names e) (expression_stands true e h.0)
 
-  pub arguments_stand : (arguments : List Argument) → AllByRecursion (IsArgument (declared names)) arguments → MayAllStand (flat_map (argument_lexemes names) arguments)
+  pub arguments_stand : (arguments : List Argument) → AllByRecursion (IsArgument (whole_scope names)) arguments → MayAllStand (flat_map (argument_lexemes names) arguments)
   arguments_stand [] h = tt
   arguments_stand (x ∷ arguments) h =
       MayAllStand-append (argument_lexemes names x) (flat_map (argument_lexemes names) arguments) (argument_stands x h.0) (arguments_stand arguments h.1)
 
-  pub command_stands : (nodes : Store) (name : Name) (c : Command) → IsNameText name.text → AllByRecursion (IsArgument (declared names)) (command_form nodes c).arguments → MayAllStand (command_lexemes names nodes name c)
+  pub command_stands : (nodes : Store) (name : Name) (c : Command) → IsNameText name.text → AllByRecursion (IsArgument (whole_scope names)) (command_form nodes c).arguments → MayAllStand (command_lexemes names nodes name c)
   command_stands nodes name c named h =
       (IsWord-tested (command_form nodes c).word (command_word nodes c), (IsWord-name name.text named, arguments_stand (command_form nodes c).arguments h))
 
-  pub statement_stands : (nodes : Store) (s : Statement) → AllByRecursion (IsArgument (declared names)) (statement_form nodes s).arguments → MayAllStand (statement_lexemes names nodes s)
+  pub statement_stands : (nodes : Store) (s : Statement) → AllByRecursion (IsArgument (whole_scope names)) (statement_form nodes s).arguments → MayAllStand (statement_lexemes names nodes s)
   statement_stands nodes s h =
-      let inner = flat_map (argument_lexemes names) (statement_form nodes s).arguments in
-      (IsWord-tested (codes "prove") refl,
+      let inner = flat_map (argument_lexemes names) (statement_form nodes s).arguments in (
+        IsWord-tested (codes "prove") refl,
         braced_stands (word_lexeme (statement_form nodes s).word ∷ inner)
-        (IsWord-tested (statement_form nodes s).word (statement_word nodes s), arguments_stand (statement_form nodes s).arguments h))
+            (IsWord-tested (statement_form nodes s).word (statement_word nodes s), arguments_stand (statement_form nodes s).arguments h),
+      )
