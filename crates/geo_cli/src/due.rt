@@ -122,10 +122,19 @@ fn decide_program(alloc: Global, program: &Program) -> Result<Due, Stop>
     ensures due { IfOk result (λ due. IsDueForText (program_text program.now) due) }
     ensures err { OnErr result (result ≡ Err Stop.NoMemory) }
 {
-    let Ok(text) = print(alloc, program) else {
-        return Err(Stop::NoMemory);
-    };
-    match first_log(alloc, &text.bytes) {
+    match print(alloc, program) {
+        Ok(text) => decide_text(alloc, &text.bytes),
+        Err(_) => Err(Stop::NoMemory),
+    }
+}
+
+// What is due for a canonical text.
+fn decide_text(alloc: Global, text: &[u8]) -> Result<Due, Stop>
+    requires { length text.now ≤ 67108864 }
+    ensures due { IfOk result (λ due. IsDueForText text.now due) }
+    ensures err { OnErr result (result ≡ Err Stop.NoMemory) }
+{
+    match first_log(alloc, text) {
         Ok(log) => Ok(Due::Log(log)),
         Err(FirstError::Unbuilt) => Ok(Due::Unbuilt),
         Err(FirstError::NoMemory) => Err(Stop::NoMemory),
