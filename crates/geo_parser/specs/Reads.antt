@@ -1,14 +1,15 @@
 -- What the steps of the reader read, and what they refuse.
-use Rattle.std.specs.Prelude.{◌≡◌, ◌⊎◌, ℕ, ◌+◌, ◌<◌, ◌≤◌, All, Bool, ℤ, codes, Option, Some, None, List, [], ◌∷◌, ◌++◌, length}
+use Rattle.std.specs.Prelude.{◌≡◌, ◌⊎◌, ℕ, ◌+◌, ◌<◌, ◌≤◌, All, Bool, ℤ, codes, Option, Some, None, List, [], ◌∷◌, ◌++◌, length, sum_by}
 use Rattle.std.specs.List.{flat_map}
 use Rattle.geo_points.specs.declared.ids.TermId.{TermId}
 use Rattle.geo_lexer.specs.declared.token_types.Fault.{Fault}
 use Rattle.geo_lexer.specs.Lexemes.{Lexeme, word_lexeme, number_lexeme}
-use Rattle.geo_program.specs.CanonicalText.{Sketch, argument_lexemes, sketch_lexemes}
+use Rattle.geo_program.specs.CanonicalText.{Sketch, argument_lexemes, commands_lexemes, sketch_lexemes}
 use Rattle.geo_program.specs.Expressions.{IsExpression, braced, expression_lexemes, nesting}
 use Rattle.geo_program.specs.Forms.{AreSidesStored, Argument, IsStored, command_form, line_argument, number_argument, point_argument, side_argument, statement_form}
 use Rattle.geo_program.specs.Names.{name_text, names_of}
-use Rattle.geo_program.specs.WellFormed.{IsArgument, Scope, empty_scope, scope_of}
+use Rattle.geo_program.specs.Spelling.{AreSketches}
+use Rattle.geo_program.specs.WellFormed.{AllDiffer, AreCommands, IsArgument, Scope, empty_scope, scope_of}
 use Rattle.geo_program.specs.Words.{IsNameText}
 use Rattle.geo_program.specs.declared.commands.Command.{Command}
 use Rattle.geo_program.specs.declared.commands.Command.TheVariants.{Point}
@@ -220,6 +221,26 @@ pub record ReadsCommand (word : CommandWord) (old new : Reader) (command : Comma
   pub terms : Extends old.terms new.terms
   pub room : extent new ≤ extent old
   pub follows : (rest : List Slot) → fault_of old [] (command_due word ++ command_slot ∷ rest) ≡ fault_of new [] (command_slot ∷ rest)
+
+-- these commands stand there one after another, and the next one is due
+pub record ReadsCommands (old new : Reader) (commands : List Command) : Type 0 where
+  pub sketches : List Sketch
+  pub sketched : AreSketches commands sketches
+  pub passes : Passes old new (flat_map (λ line. line) (commands_lexemes new.names new.terms new.names commands sketches))
+  pub made : AreCommands new.terms empty_scope new.names commands
+  pub texts : All (λ name. IsNameText name.text) new.names
+  pub differ : AllDiffer new.names
+  pub counted : new.points ≡ sum_by (λ c. (command_form new.terms c).points) commands
+  pub few : new.points ≤ 512
+  pub room : extent new ≤ extent old
+  pub names : length new.names + length new.cursor.tokens ≤ length old.cursor.tokens
+  pub follows : fault_of old [] (command_slot ∷ []) ≡ fault_of new [] (command_slot ∷ [])
+
+-- these commands stand there, and behind them `prove`
+pub record ReadsAllCommands (old new : Reader) (commands : List Command) : Type 0 where
+  pub middle : Reader
+  pub read : ReadsCommands old middle commands
+  pub prove : ReadsProve middle new
 
 -- THE STATEMENT
 
