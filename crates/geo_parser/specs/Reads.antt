@@ -244,6 +244,14 @@ pub record ReadsAllCommands (old new : Reader) (commands : List Command) : Type 
 
 -- THE STATEMENT
 
+-- the word of a statement was due, and stands there
+pub record ReadsStatementWord (word : StatementWord) (old new : Reader) : Type 0 where
+  pub passes : Passes old new (word_lexeme (statement_text word) ∷ [])
+  pub names : new.names ≡ old.names
+  pub points : new.points ≡ old.points
+  pub terms : new.terms ≡ old.terms
+  pub follows : (begun : List Name) → (rest : List Slot) → fault_of old begun (statement_slot ∷ rest) ≡ fault_of new begun (statement_due word ++ rest)
+
 -- what stands behind the word of a statement, and the statement that it makes
 pub record ReadsStated (word : StatementWord) (old new : Reader) (statement : Statement) : Type 0 where
   pub text : (statement_form new.terms statement).word ≡ statement_text word
@@ -253,7 +261,7 @@ pub record ReadsStated (word : StatementWord) (old new : Reader) (statement : St
 
 -- `{ STATEMENT }` and then the end of the text
 pub record ReadsStatement (old new : Reader) (statement : Statement) : Type 0 where
-  pub reads : Reads statement_slots old new (braced (word_lexeme (statement_form new.terms statement).word ∷ flat_map (argument_lexemes old.names) (statement_form new.terms statement).arguments))
+  pub reads : Reads (open_slot 0 ∷ statement_slot ∷ close_slot ∷ []) old new (braced (word_lexeme (statement_form new.terms statement).word ∷ flat_map (argument_lexemes old.names) (statement_form new.terms statement).arguments))
   pub valid : All (IsArgument (scope old)) (statement_form new.terms statement).arguments
   pub sides : AreSidesStored new.terms statement
   pub ended : new.cursor.tokens ≡ []
