@@ -1,5 +1,5 @@
 -- The lines of commands, one after another.
-use Rattle.std.proofs.Common.{◌≡◌, ℕ, suc, ◌+◌, ◌<◌, ◌≤◌, List, [], ◌∷◌, ◌++◌, length, take, drop, get_or, refl, sym, ap, ap₂, subst, subst₂, ◌∙◌, arith, append_assoc, length-drop}
+use Rattle.std.proofs.Common.{◌≡◌, ℕ, ◌+◌, ◌<◌, ◌≤◌, List, [], ◌∷◌, ◌++◌, length, take, drop, get_or, refl, sym, ap, ap₂, subst, subst₂, ◌∙◌, arith, append_assoc, length-drop}
 use Rattle.std.specs.List.{AllByRecursion}
 use Rattle.std.specs.Prelude.{All}
 use Rattle.std.proofs.lemmas.List.{append-nil, drop_all, drop_more, take-append-drop, take_more}
@@ -7,19 +7,19 @@ use Rattle.std.proofs.lemmas.List.Elements.{recursion_from_All}
 use Rattle.geo_program.specs.declared.commands.Command.{Command}
 use Rattle.geo_program.specs.declared.names.Name.{Name}
 use Rattle.geo_program.specs.CanonicalText.{command_lexemes, commands_lexemes, line_text, no_sketches}
-use Rattle.geo_program.specs.Forms.{Argument, command_form}
-use Rattle.geo_program.specs.Printing.{declared, lines_text}
+use Rattle.geo_program.specs.Forms.{Argument}
+use Rattle.geo_program.specs.Printing.{whole_scope, lines_text}
 use Rattle.geo_program.specs.WellFormed.{AreCommands, IsArgument, IsCommand, Scope, declare, empty_scope, scope_of}
 use Rattle.geo_program.proofs.Pushing.{AreCommands-length}
 use Rattle.geo_program.proofs.ScopeLemmas.{IsWithinScope, IsWithinScope-append, arguments_wider, scope_of-push}
 use Rattle.geo_terms.specs.Stores.{Store}
 
 -- an argument over the first names is one over all
-pub arguments_declared : (names : List Name) (k : ℕ) (arguments : List Argument) → All (IsArgument (scope_of empty_scope (take k names))) arguments → AllByRecursion (IsArgument (declared names)) arguments
+pub arguments_declared : (names : List Name) (k : ℕ) (arguments : List Argument) → All (IsArgument (scope_of empty_scope (take k names))) arguments → AllByRecursion (IsArgument (whole_scope names)) arguments
 arguments_declared names k arguments h =
-    let wider : IsWithinScope (scope_of empty_scope (take k names)) (declared names) =
-    subst (λ (all : List Name). IsWithinScope (scope_of empty_scope (take k names)) (declared all)) (take-append-drop k names) (IsWithinScope-append (take k names) (drop k names)) in
-    recursion_from_All (IsArgument (declared names)) arguments (arguments_wider (scope_of empty_scope (take k names)) (declared names) arguments wider h)
+    let wider : IsWithinScope (scope_of empty_scope (take k names)) (whole_scope names) =
+    subst (λ (all : List Name). IsWithinScope (scope_of empty_scope (take k names)) (whole_scope all)) (take-append-drop k names) (IsWithinScope-append (take k names) (drop k names)) in
+    recursion_from_All (IsArgument (whole_scope names)) arguments (arguments_wider (scope_of empty_scope (take k names)) (whole_scope names) arguments wider h)
 
 module _ (all : List Name) (nodes : Store) (names : List Name) (commands : List Command) where
   -- the commands that are left at place k declare the names that are left

@@ -1,16 +1,15 @@
 -- Commands, with one more at the end.
-use Rattle.std.proofs.Common.{◌≡◌, ℕ, zero, suc, ◌+◌, ◌<◌, ◌≤◌, ◌⊎◌, List, [], ◌∷◌, ◌++◌, length, None, refl, sym, ap, ap₂, subst, ◌∙◌, arith, append_assoc, inl, inr}
-use Rattle.std.specs.Prelude.{Contains, map, sum_by}
-use Rattle.std.proofs.lemmas.List.{append-nil, map_push}
+use Rattle.std.proofs.Common.{◌≡◌, ℕ, zero, suc, ◌⊎◌, List, [], ◌∷◌, ◌++◌, length, None, refl, sym, ap, ap₂, subst, ◌∙◌, arith, append_assoc, inl, inr}
+use Rattle.std.specs.Prelude.{Contains, map}
+use Rattle.std.proofs.lemmas.List.{map_push}
 use Rattle.std.proofs.lemmas.List.Elements.{Contains-append_cases, Contains-append_right}
-use Rattle.geo_lexer.specs.Lexemes.{Lexeme}
 use Rattle.geo_program.specs.declared.commands.Command.{Command}
 use Rattle.geo_program.specs.declared.commands.Command.TheVariants.{Point}
 use Rattle.geo_program.specs.declared.names.Name.{Name}
 use Rattle.geo_program.specs.CanonicalText.{Sketch, command_lexemes, commands_lexemes, sketch_lexemes}
 use Rattle.geo_program.specs.Spelling.{AreSketches}
 use Rattle.geo_program.specs.WellFormed.{AllDiffer, AreCommands, IsCommand, Scope, declare, empty_scope, scope_of}
-use Rattle.geo_program.proofs.ScopeLemmas.{scope_of-append, scope_of-push}
+use Rattle.geo_program.proofs.ScopeLemmas.{scope_of-push}
 use Rattle.geo_program.proofs.Staying.{command_lexemes-append, command_lexemes-kept, KeepsTrees}
 use Rattle.geo_terms.specs.Stores.{Store}
 

@@ -1,6 +1,6 @@
 -- What stays when names and nodes are added.
-use Rattle.std.proofs.Common.{◌≡◌, ℕ, ◌+◌, ◌<◌, ◌≤◌, Bool, true, false, List, [], ◌∷◌, ◌++◌, map, length, refl, sym, ap, ap₂, subst, ◌∙◌, arith, length-append}
-use Rattle.std.specs.Prelude.{All, codes, ℤ}
+use Rattle.std.proofs.Common.{◌≡◌, ℕ, ◌<◌, ◌≤◌, Bool, true, false, List, [], ◌∷◌, ◌++◌, length, refl, sym, ap, ap₂, subst, ◌∙◌, arith, length-append}
+use Rattle.std.specs.Prelude.{All, codes}
 use Rattle.std.specs.List.{flat_map}
 use Rattle.std.proofs.lemmas.List.Elements.{All-head, All-tail}
 use Rattle.geo_lexer.specs.Lexemes.{Lexeme, word_lexeme}
@@ -12,10 +12,10 @@ use Rattle.geo_program.specs.declared.names.Name.{Name}
 use Rattle.geo_program.specs.declared.names.NameKind.TheVariants.{Point, Param, Line}
 use Rattle.geo_program.specs.declared.statements.Statement.{Statement}
 use Rattle.geo_program.specs.declared.statements.Statement.TheVariants as statement
-use Rattle.geo_program.specs.CanonicalText.{argument_lexemes, command_lexemes, commands_lexemes, statement_lexemes, Sketch}
-use Rattle.geo_program.specs.Expressions.{IsExpression, braced, expression_lexemes, point_lexeme, quantity_lexemes}
-use Rattle.geo_program.specs.Forms.{Argument, point_argument, line_argument, number_argument, side_argument, CommandForm, StatementForm, command_form, form, statement_form, IsStored, AreSidesStored}
-use Rattle.geo_program.specs.Names.{name_text, names_of}
+use Rattle.geo_program.specs.CanonicalText.{argument_lexemes, command_lexemes, statement_lexemes}
+use Rattle.geo_program.specs.Expressions.{IsExpression, braced, expression_lexemes, point_lexeme}
+use Rattle.geo_program.specs.Forms.{Argument, point_argument, line_argument, number_argument, side_argument, CommandForm, command_form, form, statement_form, IsStored, AreSidesStored}
+use Rattle.geo_program.specs.Names.{names_of}
 use Rattle.geo_program.specs.WellFormed.{AreCommands, IsArgument, IsCommand, Scope, declare, empty_scope, scope_of}
 use Rattle.geo_program.proofs.NameLemmas.{name_text-append}
 use Rattle.geo_program.proofs.ScopeLemmas.{points_declared, params_declared, lines_declared}

@@ -1,5 +1,5 @@
 -- Printable terms and their parts.
-use Rattle.std.proofs.Common.{◌≡◌, ℕ, suc, ◌+◌, ◌*◌, ◌<◌, ◌≤◌, false, true, List, length, slice_get, Some, ℤ, to_z, of_z, refl, sym, ap, subst, ◌∙◌, arith}
+use Rattle.std.proofs.Common.{◌≡◌, ℕ, suc, ◌<◌, ◌≤◌, true, List, length, slice_get, Some, ℤ, to_z, of_z, refl, ap, subst, arith}
 use Rattle.std.specs.Int.{w128}
 use Rattle.std.specs.Prelude.{max}
 use Rattle.std.proofs.lemmas.Int.{fits_signed_from_abs, to_z-of_z}
@@ -7,19 +7,19 @@ use Rattle.geo_points.specs.declared.ids.TermId.{TermId}
 use Rattle.geo_program.specs.declared.names.Name.{Name}
 use Rattle.geo_program.specs.Expressions.{IsExpression, nesting}
 use Rattle.geo_program.specs.Forms.{number_argument}
-use Rattle.geo_program.specs.Printing.{IsPrintableTerm, declared}
+use Rattle.geo_program.specs.Printing.{IsPrintableTerm, whole_scope}
 use Rattle.geo_program.specs.WellFormed.{IsArgument}
 use Rattle.geo_program.proofs.ScopeLemmas.{IsExpression-ratios}
 use Rattle.geo_terms.specs.declared.nodes.Node.{Node}
 use Rattle.geo_terms.specs.declared.nodes.Node.TheVariants.{Int, Neg, Add, Sub, Mul, Div}
 use Rattle.geo_terms.specs.Stores.{Store, IsStore, node_tree, tree_of, trees_of}
-use Rattle.geo_terms.specs.Trees.{Tree, negation, addition, subtraction, multiplication, division}
+use Rattle.geo_terms.specs.Trees.{Tree}
 use Rattle.geo_terms.proofs.Inductions.{parts_within}
 use Rattle.geo_terms.proofs.Trees.{tree_of-node}
 
 -- the tree of a printable term is an expression over the names, with braces at most 128 deep
 pub record IsPrintableTree (names : List Name) (tree : Tree) : Type 0 where
-  pub expression : IsExpression (declared names).points (declared names).params true tree
+  pub expression : IsExpression (whole_scope names).points (whole_scope names).params true tree
   pub shallow : nesting tree ≤ 128
 
 module _ (names : List Name) (nodes : Store) (e : TermId) (h : IsPrintableTerm names nodes e) where
@@ -31,7 +31,7 @@ module _ (names : List Name) (nodes : Store) (e : TermId) (h : IsPrintableTerm n
   tree_printable node at = subst (IsPrintableTree names) (unfolds node at) (record { expression = h.expression; shallow = h.shallow })
 
   -- a part of the term is printable
-  part : (f : TermId) → f.0 < length nodes → IsExpression (declared names).points (declared names).params true (tree_of nodes f) → nesting (tree_of nodes f) ≤ 128 → IsPrintableTerm names nodes f
+  part : (f : TermId) → f.0 < length nodes → IsExpression (whole_scope names).points (whole_scope names).params true (tree_of nodes f) → nesting (tree_of nodes f) ≤ 128 → IsPrintableTerm names nodes f
   part f stored expression shallow = record { store = h.store; stored = stored; expression = expression; shallow = shallow }
 
   -- the parts of an operation are printable, and their braces stand less deep
@@ -50,7 +50,7 @@ module _ (names : List Name) (nodes : Store) (e : TermId) (h : IsPrintableTerm n
       record { first = one; second = one; falls = omega arith }
 
   -- of an operation whose tree is this one of the trees of its parts
-  operation_parts : (node : Node) (f g : TermId) → slice_get nodes e.0 ≡ Some node → (f.0 < length nodes) × (g.0 < length nodes) → nesting (node_tree (trees_of nodes) node) ≡ suc (max (nesting (tree_of nodes f)) (nesting (tree_of nodes g))) → IsExpression (declared names).points (declared names).params true (tree_of nodes f) × IsExpression (declared names).points (declared names).params true (tree_of nodes g) → HasParts f g
+  operation_parts : (node : Node) (f g : TermId) → slice_get nodes e.0 ≡ Some node → (f.0 < length nodes) × (g.0 < length nodes) → nesting (node_tree (trees_of nodes) node) ≡ suc (max (nesting (tree_of nodes f)) (nesting (tree_of nodes g))) → IsExpression (whole_scope names).points (whole_scope names).params true (tree_of nodes f) × IsExpression (whole_scope names).points (whole_scope names).params true (tree_of nodes g) → HasParts f g
   operation_parts node f g at within is expressions =
       let tree = tree_printable node at in
       let shallow : nesting (node_tree (trees_of nodes) node) ≤ 128 = tree.shallow in
@@ -75,17 +75,17 @@ module _ (names : List Name) (nodes : Store) (e : TermId) (h : IsPrintableTerm n
   division_parts f g at =
       let both = (tree_printable (Div f g) at).expression in
       operation_parts (Div f g) f g at (parts_within nodes h.store e.0 (Div f g) at) refl
-      (both.0, IsExpression-ratios (declared names).points (declared names).params true (tree_of nodes g) both.1)
+      (both.0, IsExpression-ratios (whole_scope names).points (whole_scope names).params true (tree_of nodes g) both.1)
 
 -- an integer of a store is what it is as the code keeps it
 pub integer_kept : (nodes : Store) (k : ℕ) (n : ℤ) → IsStore nodes → slice_get nodes k ≡ Some (Int n) → to_z w128 (of_z w128 n) ≡ n
 integer_kept nodes k n h at = to_z-of_z w128 n (fits_signed_from_abs w128 n (omega (arith, h.integers k (Int n) at)))
 
 -- the number of a step is printable
-pub number_printable : (names : List Name) (nodes : Store) (r : TermId) → IsStore nodes → r.0 < length nodes → IsArgument (declared names) (number_argument (tree_of nodes r)) → IsPrintableTerm names nodes r
+pub number_printable : (names : List Name) (nodes : Store) (r : TermId) → IsStore nodes → r.0 < length nodes → IsArgument (whole_scope names) (number_argument (tree_of nodes r)) → IsPrintableTerm names nodes r
 number_printable names nodes r store stored h = record {
   store = store;
   stored = stored;
-  expression = IsExpression-ratios (declared names).points (declared names).params true (tree_of nodes r) h.0;
+  expression = IsExpression-ratios (whole_scope names).points (whole_scope names).params true (tree_of nodes r) h.0;
   shallow = h.1;
 }

@@ -1,5 +1,5 @@
 -- Expressions: what may stand in them, and their spelling.
-use Rattle.std.specs.Prelude.{◌≡◌, ℕ, suc, ◌<◌, ◌^◌, max, Bool, true, false, IsTrue, ℤ, unsigned_abs, codes, List, [], ◌∷◌, ◌++◌, map}
+use Rattle.std.specs.Prelude.{ℕ, suc, ◌<◌, ◌^◌, max, Bool, false, IsTrue, unsigned_abs, codes, List, [], ◌∷◌, ◌++◌, map}
 use Rattle.geo_points.specs.declared.ids.PointId.{PointId}
 use Rattle.geo_lexer.specs.Lexemes.{Lexeme, word_lexeme, number_lexeme, open_brace, close_brace}
 use Rattle.geo_program.specs.declared.names.Name.{Name}

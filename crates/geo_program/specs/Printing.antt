@@ -19,12 +19,12 @@ pub record IsNumbered (names : List Name) (p q r : List (Bor (List ℕ))) : Type
   pub lines : map (λ text. text.now) r ≡ names_of kind.Line names
 
 -- what the names declare
-abbrev pub declared : List Name → Scope
-declared names = scope_of empty_scope names
+abbrev pub whole_scope : List Name → Scope
+whole_scope names = scope_of empty_scope names
 
 -- lexemes, each with a space before it
-unfoldable pub spaced : List Lexeme → List ℕ
-spaced lexemes = flat_map (λ lexeme. 32 ∷ lexeme_text lexeme) lexemes
+unfoldable pub spaced_text : List Lexeme → List ℕ
+spaced_text lexemes = flat_map (λ lexeme. 32 ∷ lexeme_text lexeme) lexemes
 
 -- lines, each with its line feed
 abbrev pub lines_text : List (List Lexeme) → List ℕ
@@ -34,5 +34,5 @@ lines_text lines = flat_map (λ line. line_text line ++ 10 ∷ []) lines
 pub record IsPrintableTerm (names : List Name) (nodes : Store) (e : TermId) : Type 0 where
   pub store : IsStore nodes
   pub stored : e.0 < length nodes
-  pub expression : IsExpression (declared names).points (declared names).params true (tree_of nodes e)
+  pub expression : IsExpression (whole_scope names).points (whole_scope names).params true (tree_of nodes e)
   pub shallow : nesting (tree_of nodes e) ≤ 128

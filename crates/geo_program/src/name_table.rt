@@ -2,7 +2,7 @@
 
 ghost use Rattle.std.specs.Prelude.{◌≡◌, ◌<◌, map, IfOk};
 ghost use Rattle.geo_program.specs.Names.{name_text, names_of};
-ghost use Rattle.geo_program.specs.Printing.{declared};
+ghost use Rattle.geo_program.specs.Printing.{whole_scope};
 ghost use Rattle.geo_program.specs.declared.names.NameKind.TheVariants as kind;
 
 use crate::commands::LineId;
@@ -52,7 +52,7 @@ impl<'a> NameTable<'a> {
 
     /// The name of a point.
     pub fn point(&self, a: PointId) -> &[u8]
-        requires { a.0 < (declared self.now).points }
+        requires { a.0 < (whole_scope self.now).points }
         ensures { result.now ≡ name_text kind.Point self.now a.0 }
     {
         self.points[a.0 as usize]
@@ -60,7 +60,7 @@ impl<'a> NameTable<'a> {
 
     /// The name of a parameter.
     pub fn param(&self, t: ParamId) -> &[u8]
-        requires { t.0 < (declared self.now).params }
+        requires { t.0 < (whole_scope self.now).params }
         ensures { result.now ≡ name_text kind.Param self.now t.0 }
     {
         self.params[t.0 as usize]
@@ -68,7 +68,7 @@ impl<'a> NameTable<'a> {
 
     /// The name of a line.
     pub fn line(&self, a: LineId) -> &[u8]
-        requires { a.0 < (declared self.now).lines }
+        requires { a.0 < (whole_scope self.now).lines }
         ensures { result.now ≡ name_text kind.Line self.now a.0 }
     {
         self.lines[a.0 as usize]

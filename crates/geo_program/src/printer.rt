@@ -7,7 +7,7 @@ ghost use Rattle.geo_lexer.specs.Lexemes.{word_lexeme};
 ghost use Rattle.geo_program.specs.CanonicalText.{argument_lexemes, command_lexemes, commands_lexemes, line_text, no_sketches, statement_lexemes};
 ghost use Rattle.geo_program.specs.Expressions.{braced, expression_lexemes, point_lexeme, quantity_lexemes};
 ghost use Rattle.geo_program.specs.Forms.{command_form, line_argument, number_argument, point_argument, side_argument, statement_form, IsStored, AreSidesStored};
-ghost use Rattle.geo_program.specs.Printing.{IsPrintableTerm, declared, lines_text, spaced};
+ghost use Rattle.geo_program.specs.Printing.{IsPrintableTerm, whole_scope, lines_text, spaced_text};
 ghost use Rattle.geo_program.specs.WellFormed.{AreCommands, IsArgument, empty_scope};
 ghost use Rattle.geo_terms.specs.Stores.{IsStore, tree_of};
 
@@ -77,7 +77,7 @@ impl<'a> Printer<'a> {
         command: Command,
     ) -> Result<(), NoMemory>
         requires store { IsStore self.now.terms.now }
-        requires arguments { AllByRecursion (IsArgument (declared self.now.names))
+        requires arguments { AllByRecursion (IsArgument (whole_scope self.now.names))
             (command_form self.now.terms.now command).arguments }
         requires stored { IsStored self.now.terms.now command }
         ensures { OnOk result (out.new.items ≡ out.old.items
@@ -96,11 +96,11 @@ impl<'a> Printer<'a> {
         command: Command,
     ) -> Result<(), NoMemory>
         requires store { IsStore self.now.terms.now }
-        requires arguments { AllByRecursion (IsArgument (declared self.now.names))
+        requires arguments { AllByRecursion (IsArgument (whole_scope self.now.names))
             (command_form self.now.terms.now command).arguments }
         requires stored { IsStored self.now.terms.now command }
         ensures { OnOk result (out.new.items ≡ out.old.items
-            ++ spaced (flat_map (argument_lexemes self.now.names)
+            ++ spaced_text (flat_map (argument_lexemes self.now.names)
             (command_form self.now.terms.now command).arguments)) }
     {
         match command {
@@ -139,7 +139,7 @@ impl<'a> Printer<'a> {
         statement: Statement,
     ) -> Result<(), NoMemory>
         requires store { IsStore self.now.terms.now }
-        requires arguments { AllByRecursion (IsArgument (declared self.now.names))
+        requires arguments { AllByRecursion (IsArgument (whole_scope self.now.names))
             (statement_form self.now.terms.now statement).arguments }
         requires sides { AreSidesStored self.now.terms.now statement }
         ensures { OnOk result (out.new.items ≡ out.old.items
@@ -160,11 +160,11 @@ impl<'a> Printer<'a> {
         statement: Statement,
     ) -> Result<(), NoMemory>
         requires store { IsStore self.now.terms.now }
-        requires arguments { AllByRecursion (IsArgument (declared self.now.names))
+        requires arguments { AllByRecursion (IsArgument (whole_scope self.now.names))
             (statement_form self.now.terms.now statement).arguments }
         requires sides { AreSidesStored self.now.terms.now statement }
         ensures { OnOk result (out.new.items ≡ out.old.items
-            ++ spaced (flat_map (argument_lexemes self.now.names)
+            ++ spaced_text (flat_map (argument_lexemes self.now.names)
             (statement_form self.now.terms.now statement).arguments)) }
     {
         match statement {
@@ -182,9 +182,9 @@ impl<'a> Printer<'a> {
 
     /// Appends points.
     fn push_points(&self, out: &mut Vec<u8>, points: &[PointId]) -> Result<(), NoMemory>
-        requires { AllByRecursion (λ a. a.0 < (declared self.now.names).points) points.now }
+        requires { AllByRecursion (λ a. a.0 < (whole_scope self.now.names).points) points.now }
         ensures { OnOk result (out.new.items
-            ≡ out.old.items ++ spaced (map (point_lexeme self.now.names) points.now)) }
+            ≡ out.old.items ++ spaced_text (map (point_lexeme self.now.names) points.now)) }
     {
         for point in points {
             push_token(out, self.names.point(*point))?;
@@ -194,10 +194,10 @@ impl<'a> Printer<'a> {
 
     /// Appends a point and a line.
     fn push_point_and_line(&self, out: &mut Vec<u8>, p: PointId, b: LineId) -> Result<(), NoMemory>
-        requires point { p.0 < (declared self.now.names).points }
-        requires line { b.0 < (declared self.now.names).lines }
+        requires point { p.0 < (whole_scope self.now.names).points }
+        requires line { b.0 < (whole_scope self.now.names).lines }
         ensures { OnOk result (out.new.items ≡ out.old.items
-            ++ spaced (flat_map (argument_lexemes self.now.names)
+            ++ spaced_text (flat_map (argument_lexemes self.now.names)
             (point_argument p ∷ line_argument b ∷ []))) }
     {
         push_token(out, self.names.point(p))?;
@@ -206,10 +206,10 @@ impl<'a> Printer<'a> {
 
     /// Appends two lines.
     fn push_lines(&self, out: &mut Vec<u8>, a: LineId, b: LineId) -> Result<(), NoMemory>
-        requires a { a.0 < (declared self.now.names).lines }
-        requires b { b.0 < (declared self.now.names).lines }
+        requires a { a.0 < (whole_scope self.now.names).lines }
+        requires b { b.0 < (whole_scope self.now.names).lines }
         ensures { OnOk result (out.new.items ≡ out.old.items
-            ++ spaced (flat_map (argument_lexemes self.now.names)
+            ++ spaced_text (flat_map (argument_lexemes self.now.names)
             (line_argument a ∷ line_argument b ∷ []))) }
     {
         push_token(out, self.names.line(a))?;
@@ -224,10 +224,10 @@ impl<'a> Printer<'a> {
         points: &[PointId],
         r: TermId,
     ) -> Result<(), NoMemory>
-        requires points { AllByRecursion (λ a. a.0 < (declared self.now.names).points) points.now }
+        requires points { AllByRecursion (λ a. a.0 < (whole_scope self.now.names).points) points.now }
         requires number { IsPrintableTerm self.now.names self.now.terms.now r }
         ensures { OnOk result (out.new.items ≡ out.old.items
-            ++ spaced (flat_map (argument_lexemes self.now.names)
+            ++ spaced_text (flat_map (argument_lexemes self.now.names)
             (map point_argument points.now
             ++ number_argument (tree_of self.now.terms.now r) ∷ []))) }
     {
@@ -246,7 +246,7 @@ impl<'a> Printer<'a> {
         requires e { IsPrintableTerm self.now.names self.now.terms.now e }
         requires f { IsPrintableTerm self.now.names self.now.terms.now f }
         ensures { OnOk result (out.new.items ≡ out.old.items
-            ++ spaced (flat_map (argument_lexemes self.now.names)
+            ++ spaced_text (flat_map (argument_lexemes self.now.names)
             (side_argument (tree_of self.now.terms.now e)
             ∷ side_argument (tree_of self.now.terms.now f) ∷ []))) }
     {
@@ -259,7 +259,7 @@ impl<'a> Printer<'a> {
     fn push_expression(&self, alloc: Global, out: &mut Vec<u8>, e: TermId) -> Result<(), NoMemory>
         requires { IsPrintableTerm self.now.names self.now.terms.now e }
         ensures { OnOk result (out.new.items ≡ out.old.items
-            ++ spaced (expression_lexemes self.now.names (tree_of self.now.terms.now e))) }
+            ++ spaced_text (expression_lexemes self.now.names (tree_of self.now.terms.now e))) }
     {
         match self.terms.node(e) {
             Node::Int(n) => push_number(alloc, out, n),
@@ -285,9 +285,9 @@ impl<'a> Printer<'a> {
         word: &[u8],
         points: &[PointId],
     ) -> Result<(), NoMemory>
-        requires { AllByRecursion (λ a. a.0 < (declared self.now.names).points) points.now }
+        requires { AllByRecursion (λ a. a.0 < (whole_scope self.now.names).points) points.now }
         ensures { OnOk result (out.new.items
-            ≡ out.old.items ++ spaced (quantity_lexemes self.now.names word.now points.now)) }
+            ≡ out.old.items ++ spaced_text (quantity_lexemes self.now.names word.now points.now)) }
     {
         push_token(out, word)?;
         self.push_points(out, points)
@@ -305,7 +305,7 @@ impl<'a> Printer<'a> {
     ) -> Result<(), NoMemory>
         requires e { IsPrintableTerm self.now.names self.now.terms.now e }
         requires f { IsPrintableTerm self.now.names self.now.terms.now f }
-        ensures { OnOk result (out.new.items ≡ out.old.items ++ spaced (word_lexeme word.now
+        ensures { OnOk result (out.new.items ≡ out.old.items ++ spaced_text (word_lexeme word.now
             ∷ braced (expression_lexemes self.now.names (tree_of self.now.terms.now e))
             ++ braced (expression_lexemes self.now.names (tree_of self.now.terms.now f)))) }
     {
@@ -319,7 +319,7 @@ impl<'a> Printer<'a> {
     fn push_braced(&self, alloc: Global, out: &mut Vec<u8>, e: TermId) -> Result<(), NoMemory>
         requires { IsPrintableTerm self.now.names self.now.terms.now e }
         ensures { OnOk result (out.new.items ≡ out.old.items
-            ++ spaced (braced (expression_lexemes self.now.names (tree_of self.now.terms.now e)))) }
+            ++ spaced_text (braced (expression_lexemes self.now.names (tree_of self.now.terms.now e)))) }
     {
         push_token(out, b"{")?;
         self.push_expression(alloc, out, e)?;

@@ -1,7 +1,7 @@
 //! The canonical text of a program.
 
 ghost use Rattle.std.specs.Prelude.{◌≡◌, IfOk};
-ghost use Rattle.geo_program.specs.Programs.{program_text};
+ghost use Rattle.geo_program.specs.Programs.{Spells, program_text};
 
 use crate::name_table::NameTable;
 use crate::printer::Printer;
@@ -13,7 +13,8 @@ use std::alloc::Global;
 /// The canonical text: one command a line and then the statement, single spaces between all tokens, numbers in canonical
 /// decimal, no sketch numbers and no comments, and a line feed after each line.
 pub fn print(alloc: Global, program: &Program) -> Result<Text, NoMemory>
-    ensures { IfOk result (λ text. text ≡ program_text program.now) }
+    ensures text { IfOk result (λ text. text ≡ program_text program.now) }
+    ensures spelt { IfOk result (λ text. ∥ Spells text program.now ∥₁) }
 {
     // `len` also says that the store is valid.
     let _ = program.terms.len();

@@ -27,7 +27,7 @@ pub record HasTermsOf (old new : Store) : Type 0 where
   pub same : (id : TermId) → id.0 < length old → tree_of new id ≡ tree_of old id
 
 module _ (old new : Store) (terms : HasTermsOf old new) (points more_points params more_params : ℕ) (few : points ≤ more_points) (fewer : params ≤ more_params) where
-  IsStepTerm-more : (r : TermId) → IsStepTerm old points params r → IsStepTerm new more_points more_params r
+  pub IsStepTerm-more : (r : TermId) → IsStepTerm old points params r → IsStepTerm new more_points more_params r
   IsStepTerm-more r h = record {
     stored = omega (arith, terms.longer, h.stored);
     number = subst (IsStepNumber more_points more_params) (sym (terms.same r h.stored)) (IsStepNumber-more few fewer (tree_of old r) h.number);

@@ -50,6 +50,7 @@ record IsFound (nodes : Store) (id : TermId) (tree : Tree) : Type 0 where
   parts : HoldsOfParts (λ e. e.0 < length nodes) node
 
 module _ (nodes : Store) (h : IsStore nodes) where
+  -- at an index of the tree stands such a node
   find : (id : TermId) (tree : Tree) → id.0 < length nodes → tree_of nodes id ≡ tree → IsFound nodes id tree
   find id tree within is =
       let found = node_at nodes id.0 within in
@@ -84,6 +85,7 @@ module _ (nodes : Store) (h : IsStore nodes) where
       let rights : x.f ≡ y.f = only_q x.f y.f x_in.1 y_in.1 x.right_is y.right_is in
       x.made ∙ ap₂ make lefts rights ∙ sym y.made
 
+  -- so each tree stands at one index at most
   pub each_tree_once : (tree : Tree) → IsOnly tree
   each_tree_once (integer_leaf n) = only_by_node (integer_leaf n) (λ i j x y. x.form ∙ sym y.form)
   each_tree_once (parameter_leaf t) = only_by_node (parameter_leaf t) (λ i j x y. x.form ∙ sym y.form)

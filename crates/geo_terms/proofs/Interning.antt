@@ -12,6 +12,7 @@ use Rattle.geo_terms.specs.declared.nodes.Node.{Node}
 use Rattle.geo_terms.specs.Stores.{Store, HasChildrenBelow, HasShortInteger, IsStore, node_tree, trees_of, tree_of}
 use Rattle.geo_terms.proofs.Trees.{tree_of-append, tree_of-node, tree_of-push}
 
+-- a node at an index is a node of the store
 pub Contains-slice_get : (nodes : Store) (k : ℕ) (node : Node) → slice_get nodes k ≡ Some node → Contains nodes node
 Contains-slice_get nodes k node at = (k, slice_get_within nodes k node at, get_or_from_slice_get nodes k node node at)
 
@@ -24,7 +25,7 @@ push_cases (first ∷ nodes) last zero node at = inl at
 push_cases (first ∷ nodes) last (suc k) node at =
     elim (push_cases nodes last k node at) [ inl there ↦ inl there | inr end ↦ inr (ap suc end.0, end.1) ]
 
--- the node may be added to the store
+-- a node that is new, with its parts there
 pub record IsNew (nodes : Store) (node : Node) : Type 0 where
   pub children : HasChildrenBelow (length nodes) node
   pub integer : HasShortInteger node
@@ -35,18 +36,18 @@ pub record IsNew (nodes : Store) (node : Node) : Type 0 where
 pub IsStore-push : (nodes : Store) (last : Node) → IsStore nodes → IsNew nodes last → IsStore (nodes ++ last ∷ [])
 IsStore-push nodes last h new = record { once = once; children = children; integers = integers; few = omega (arith, length_push nodes last, new.room) }
   where
-    no : (k : ℕ) (node : Node) → slice_get nodes k ≡ Some node → node ≡ last → ⊥
-    no k node at same = new.unknown (subst (Contains nodes) same (Contains-slice_get nodes k node at))
+    differs : (k : ℕ) (node : Node) → slice_get nodes k ≡ Some node → node ≡ last → ⊥
+    differs k node at same = new.unknown (subst (Contains nodes) same (Contains-slice_get nodes k node at))
 
     once : (i j : ℕ) (node : Node) → slice_get (nodes ++ last ∷ []) i ≡ Some node → slice_get (nodes ++ last ∷ []) j ≡ Some node → i ≡ j
     once i j node i_at j_at =
         elim (push_cases nodes last i node i_at) [
           | inl i_there ↦ elim (push_cases nodes last j node j_at) [
             | inl j_there ↦ h.once i j node i_there j_there
-            | inr j_end ↦ absurd (no i node i_there j_end.1)
+            | inr j_end ↦ absurd (differs i node i_there j_end.1)
           ]
           | inr i_end ↦ elim (push_cases nodes last j node j_at) [
-            | inl j_there ↦ absurd (no j node j_there i_end.1)
+            | inl j_there ↦ absurd (differs j node j_there i_end.1)
             | inr j_end ↦ i_end.0 ∙ sym j_end.0
           ]
         ]
@@ -107,10 +108,12 @@ pub others-interned : {old new : Store} {node : Node} → IsInterned old node ne
 others-interned (known found) id within = refl
 others-interned {old} {new} {node} (added unknown) id within = tree_of-append old (node ∷ []) id within
 
+-- a node that was not there goes last
 pub pushed-interned : {old new : Store} {node : Node} → IsInterned old node new → (Contains old node → ⊥) → new ≡ old ++ node ∷ []
 pushed-interned (known found) unknown = absurd (unknown found)
 pushed-interned (added _) unknown = refl
 
+-- the store is no shorter, and at most one node longer
 pub longer-interned : {old new : Store} {node : Node} → IsInterned old node new → length old ≤ length new
 longer-interned (known found) = omega arith
 longer-interned {old} {new} {node} (added unknown) = omega (arith, length_push old node)

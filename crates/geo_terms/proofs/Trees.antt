@@ -21,6 +21,7 @@ pub record BeginsWith (front whole : List Tree) : Type 0 where
 abbrev pub trees_with : List Tree → Store → List Tree
 trees_with trees nodes = fold (λ trees node. trees ++ node_tree trees node ∷ []) trees nodes
 
+-- the trees that are there stay
 pub trees_with-begins : (trees : List Tree) (nodes : Store) → BeginsWith trees (trees_with trees nodes)
 trees_with-begins trees [] = record { rest = []; parts = sym (append-nil trees) }
 trees_with-begins trees (node ∷ nodes) =
@@ -28,14 +29,17 @@ trees_with-begins trees (node ∷ nodes) =
     let more = trees_with-begins (trees ++ tree ∷ []) nodes in
     record { rest = tree ∷ more.rest; parts = more.parts ∙ append_assoc trees (tree ∷ []) more.rest }
 
+-- there is one more tree for each node
 pub length-trees_with : (trees : List Tree) (nodes : Store) → length (trees_with trees nodes) ≡ length trees + length nodes
 length-trees_with trees [] = omega arith
 length-trees_with trees (node ∷ nodes) =
     omega (arith, length-trees_with (trees ++ node_tree trees node ∷ []) nodes, length_push trees (node_tree trees node))
 
+-- a store has as many trees as nodes
 pub length-trees_of : (nodes : Store) → length (trees_of nodes) ≡ length nodes
 length-trees_of nodes = omega (arith, length-trees_with [] nodes)
 
+-- the trees of more nodes come after those of the first
 pub trees_of-append : (nodes more : Store) → trees_of (nodes ++ more) ≡ trees_with (trees_of nodes) more
 trees_of-append nodes more = fold-append (λ trees node. trees ++ node_tree trees node ∷ []) [] nodes more
 
@@ -45,6 +49,7 @@ trees_of-begins nodes more = subst (BeginsWith (trees_of nodes)) (sym (trees_of-
 
 -- THE TREE AT AN INDEX
 
+-- an index below the first trees has the same tree in all of them
 pub tree_at-begins : (front whole : List Tree) (id : TermId) → BeginsWith front whole → id.0 < length front → tree_at whole id ≡ tree_at front id
 tree_at-begins front whole id h within =
     ap (λ trees. tree_at trees id) h.parts ∙ get_or_append_left front h.rest (integer_leaf (pos 0)) id.0 within

@@ -1,14 +1,14 @@
-use Rattle.std.proofs.Common.{◌≡◌, ◌+◌, ◌*◌, ◌<◌, ◌++◌, [], ◌∷◌, max, refl, sym, ap, subst, ◌∙◌, arith}
+use Rattle.std.proofs.Common.{◌≡◌, ◌++◌, ◌∷◌, sym, ap, ◌∙◌, arith}
 use Rattle.std.specs.Fmt.{signed_decimal}
 use Rattle.std.specs.Prelude.{List, codes, ℕ, ℤ}
 use Rattle.std.proofs.lemmas.Result.{on_ok_weaker}
 use Rattle.geo_lexer.specs.Lexemes.{close_brace, number_lexeme, open_brace, word_lexeme}
-use Rattle.geo_program.specs.Expressions.{braced, expression_lexemes, nesting}
+use Rattle.geo_program.specs.Expressions.{braced, expression_lexemes}
 use Rattle.geo_program.specs.Names.{name_text}
 use Rattle.geo_program.specs.declared.names.Name.{Name}
-use Rattle.geo_program.specs.Printing.{spaced}
+use Rattle.geo_program.specs.Printing.{spaced_text}
 use Rattle.geo_program.specs.declared.names.NameKind.TheVariants.{Param}
-use Rattle.geo_program.proofs.Spacing.{◌⟫◌, Appends, appends, appends_lexeme, appends_same, spaced_one}
+use Rattle.geo_program.proofs.Spacing.{◌⟫◌, appends, appends_lexeme}
 use Rattle.geo_program.proofs.TermLemmas.{addition_parts, division_parts, integer_kept, multiplication_parts, negation_part, subtraction_parts, tree_printable, unfolds}
 use Rattle.geo_program.proofs.printer.Printer.+expressions.Goals as goal
 use Rattle.geo_terms.specs.declared.nodes.Node.TheVariants as node
@@ -16,8 +16,8 @@ use Rattle.geo_terms.specs.Stores.{tree_of}
 use Rattle.geo_terms.specs.Trees.{Tree, integer_leaf, parameter_leaf, area_leaf, pythagoras_leaf, ratio_leaf, negation, addition, subtraction, multiplication, division}
 
 -- a tree is spelt like one that it equals
-spelt : (a b : List ℕ) (names : List Name) (tree node : Tree) → tree ≡ node → b ≡ a ++ spaced (expression_lexemes names node) → b ≡ a ++ spaced (expression_lexemes names tree)
-spelt a b names tree node is h = h ∙ ap (λ t. a ++ spaced (expression_lexemes names t)) (sym is)
+spelt : (a b : List ℕ) (names : List Name) (tree node : Tree) → tree ≡ node → b ≡ a ++ spaced_text (expression_lexemes names node) → b ≡ a ++ spaced_text (expression_lexemes names tree)
+spelt a b names tree node is h = h ∙ ap (λ t. a ++ spaced_text (expression_lexemes names t)) (sym is)
 
 pub push_braced-returns : goal.push_braced-returns
 push_braced-returns t c =

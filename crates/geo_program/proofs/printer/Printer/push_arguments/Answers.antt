@@ -3,7 +3,7 @@ use Rattle.std.specs.List.{AllByRecursion, flat_map}
 use Rattle.geo_program.specs.declared.commands.Command.{Command}
 use Rattle.geo_program.specs.Forms.{IsStored, command_form}
 use Rattle.geo_program.specs.CanonicalText.{argument_lexemes}
-use Rattle.geo_program.specs.Printing.{declared, spaced}
+use Rattle.geo_program.specs.Printing.{whole_scope, spaced_text}
 use Rattle.geo_program.specs.WellFormed.{IsArgument}
 use Rattle.geo_program.proofs.Spacing.{appends_none}
 use Rattle.geo_program.proofs.TermLemmas.{number_printable}
@@ -14,7 +14,7 @@ push_numbered-requires-clause-number c =
     let names = c.args.self.now.names in
     let nodes = c.args.self.now.terms.now in
     let stored = subst (λ (command : Command). IsStored nodes command) c.in-Pratio.is c.requires.stored in
-    let arguments = subst (λ (command : Command). AllByRecursion (IsArgument (declared names)) (command_form nodes command).arguments) c.in-Pratio.is c.requires.arguments in
+    let arguments = subst (λ (command : Command). AllByRecursion (IsArgument (whole_scope names)) (command_form nodes command).arguments) c.in-Pratio.is c.requires.arguments in
     number_printable names nodes c.in-Pratio.r c.requires.store stored arguments.1.1.1.0
 
 pub push_numbered-requires-in-Tratio-clause-number : goal.push_numbered-requires-in-Tratio-clause-number
@@ -22,7 +22,7 @@ push_numbered-requires-in-Tratio-clause-number c =
     let names = c.args.self.now.names in
     let nodes = c.args.self.now.terms.now in
     let stored = subst (λ (command : Command). IsStored nodes command) c.in-Tratio.is c.requires.stored in
-    let arguments = subst (λ (command : Command). AllByRecursion (IsArgument (declared names)) (command_form nodes command).arguments) c.in-Tratio.is c.requires.arguments in
+    let arguments = subst (λ (command : Command). AllByRecursion (IsArgument (whole_scope names)) (command_form nodes command).arguments) c.in-Tratio.is c.requires.arguments in
     number_printable names nodes c.in-Tratio.r c.requires.store stored arguments.1.1.0
 
 pub push_numbered-requires-in-Lratio-clause-number : goal.push_numbered-requires-in-Lratio-clause-number
@@ -30,15 +30,15 @@ push_numbered-requires-in-Lratio-clause-number c =
     let names = c.args.self.now.names in
     let nodes = c.args.self.now.terms.now in
     let stored = subst (λ (command : Command). IsStored nodes command) c.in-Lratio.is c.requires.stored in
-    let arguments = subst (λ (command : Command). AllByRecursion (IsArgument (declared names)) (command_form nodes command).arguments) c.in-Lratio.is c.requires.arguments in
+    let arguments = subst (λ (command : Command). AllByRecursion (IsArgument (whole_scope names)) (command_form nodes command).arguments) c.in-Lratio.is c.requires.arguments in
     number_printable names nodes c.in-Lratio.r c.requires.store stored arguments.1.1.0
 
 pub returns-in-Point : goal.returns-in-Point
 returns-in-Point c =
     (appends_none c.args.out.now.items).is
-    ∙ ap (λ command. c.args.out.now.items ++ spaced (flat_map (argument_lexemes c.args.self.now.names) (command_form c.args.self.now.terms.now command).arguments)) (sym c.in-Point.is)
+    ∙ ap (λ command. c.args.out.now.items ++ spaced_text (flat_map (argument_lexemes c.args.self.now.names) (command_form c.args.self.now.terms.now command).arguments)) (sym c.in-Point.is)
 
 pub returns-in-Param : goal.returns-in-Param
 returns-in-Param c =
     (appends_none c.args.out.now.items).is
-    ∙ ap (λ command. c.args.out.now.items ++ spaced (flat_map (argument_lexemes c.args.self.now.names) (command_form c.args.self.now.terms.now command).arguments)) (sym c.in-Param.is)
+    ∙ ap (λ command. c.args.out.now.items ++ spaced_text (flat_map (argument_lexemes c.args.self.now.names) (command_form c.args.self.now.terms.now command).arguments)) (sym c.in-Param.is)

@@ -1,11 +1,11 @@
-use Rattle.std.proofs.Common.{arith, get_or, ◌++◌, sym, ap, subst, ◌∙◌, ◌<◌}
+use Rattle.std.proofs.Common.{get_or, ◌++◌, sym, ap, subst, ◌∙◌}
 use Rattle.std.specs.List.{AllByRecursion}
 use Rattle.std.specs.Prelude.{List}
 use Rattle.geo_program.specs.declared.commands.Command.TheVariants.{Point}
 use Rattle.geo_program.specs.declared.names.Name.{Name}
 use Rattle.geo_program.specs.CanonicalText.{command_lexemes, line_text}
 use Rattle.geo_program.specs.Forms.{command_form}
-use Rattle.geo_program.specs.Printing.{declared}
+use Rattle.geo_program.specs.Printing.{whole_scope}
 use Rattle.geo_program.specs.WellFormed.{IsArgument}
 use Rattle.geo_program.proofs.CommandLines.{arguments_declared, name_left, next_command, next_left, written_all, written_next}
 use Rattle.geo_program.proofs.printer.Printer.push_commands.Goals as goal
@@ -19,7 +19,7 @@ push_command-requires-clause-arguments c =
     let names = c.args.names.now in
     let command = get_or c.args.commands.now c.loop-k.k Point in
     let next = next_command names nodes names c.args.commands.now c.loop-k.k c.index-names-k.result Point c.loop-k.invariant.left c.loop-k-test.true in
-    subst (λ (all : List Name). AllByRecursion (IsArgument (declared all)) (command_form nodes command).arguments) (sym c.requires.names)
+    subst (λ (all : List Name). AllByRecursion (IsArgument (whole_scope all)) (command_form nodes command).arguments) (sym c.requires.names)
     (arguments_declared names c.loop-k.k (command_form nodes command).arguments next.arguments)
 
 pub loop-k-preserved : goal.loop-k-preserved

@@ -1,6 +1,4 @@
-use Rattle.std.proofs.Common.{◌++◌, ◌∷◌, ap, ◌∙◌}
 use Rattle.std.proofs.lemmas.Result.{on_ok_weaker}
-use Rattle.geo_lexer.specs.Lexemes.{word_lexeme}
 use Rattle.geo_program.specs.declared.names.NameKind.TheVariants.{Line}
 use Rattle.geo_program.specs.Names.{name_text}
 use Rattle.geo_program.proofs.Spacing.{◌⟫◌, appends_token}

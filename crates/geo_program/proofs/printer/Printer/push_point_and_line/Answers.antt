@@ -1,4 +1,3 @@
-use Rattle.std.proofs.Common.{◌++◌, ◌∷◌, ap, ◌∙◌}
 use Rattle.std.proofs.lemmas.Result.{on_ok_weaker}
 use Rattle.geo_program.specs.declared.names.NameKind.TheVariants.{Line, Point}
 use Rattle.geo_program.specs.Names.{name_text}
