@@ -48,7 +48,7 @@ points_any : (nodes wider : Store) (command : Command) → (command_form wider c
 points_any nodes wider Point = refl
 points_any nodes wider _ = refl
 
-points_kept : (nodes wider : Store) (commands : List Command) → sum_by (λ c. (command_form wider c).points) commands ≡ sum_by (λ c. (command_form nodes c).points) commands
+pub points_kept : (nodes wider : Store) (commands : List Command) → sum_by (λ c. (command_form wider c).points) commands ≡ sum_by (λ c. (command_form nodes c).points) commands
 points_kept nodes wider [] = refl
 points_kept nodes wider (c ∷ commands) =
     omega (arith, sum_by-cons (λ (k : Command). (command_form wider k).points) c commands, sum_by-cons (λ (k : Command). (command_form nodes k).points) c commands, points_any nodes wider c, points_kept nodes wider commands)
