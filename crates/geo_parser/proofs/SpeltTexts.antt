@@ -1,5 +1,6 @@
 -- Texts that spell programs, and refusals.
-use Rattle.std.proofs.Common.{◌≡◌, ℕ, List, [], ◌∷◌, ◌++◌, Some, None, is_some, true≢false, length, map, refl, sym, ap, ◌∙◌, arith}
+use Rattle.std.proofs.Common.{◌≡◌, ℕ, List, [], ◌∷◌, ◌++◌, Some, None, is_some, true≢false, length, map, refl, sym, ap, ◌∙◌, subst, arith}
+use Rattle.std.specs.Prelude.{Err, IfOk, MatchResult, Ok, Result}
 use Rattle.std.specs.List.{flat_map}
 use Rattle.std.proofs.lemmas.Grind.{flat_map-append}
 use Rattle.std.proofs.lemmas.List.{append-nil}
@@ -11,10 +12,17 @@ use Rattle.geo_lexer.specs.Lexemes.{Lexeme, word_lexeme}
 use Rattle.geo_program.specs.CanonicalText.{Sketch, argument_lexemes, commands_lexemes, line_lexemes, statement_lexemes}
 use Rattle.geo_program.specs.Expressions.{braced}
 use Rattle.geo_program.specs.Forms.{statement_form}
+use Rattle.geo_program.specs.Programs.{SameProgram, Spells, program_text, source_of}
 use Rattle.geo_program.specs.Spelling.{AreSketches, SpellsSource}
 use Rattle.geo_program.specs.WellFormed.{IsWellFormed, Source}
+use Rattle.geo_program.specs.declared.program_type.Program.{Program}
+use Rattle.geo_program.proofs.LinesSpelt.{well_formed_is_spelt}
+use Rattle.geo_program.proofs.OneProgram.{spells_one}
+use Rattle.geo_program.proofs.Propositions.{program_well_formed}
+use Rattle.geo_parser.specs.declared.errors.ParseError.{ParseError}
+use Rattle.geo_parser.specs.declared.errors.ParseError.TheVariants.{NoMemory, Syntax}
 use Rattle.geo_parser.specs.Forms.{command_slot, end_slot}
-use Rattle.geo_parser.specs.Laws.{RefusalsAreUnique, SpeltTextsAreNotRefused}
+use Rattle.geo_parser.specs.Laws.{PrintedProgramsAreRead, RefusalsAreUnique, SpeltTextsAreNotRefused}
 use Rattle.geo_parser.specs.Refusals.{IsRefused, first_fault, placed_lexemes}
 use Rattle.geo_parser.specs.Slots.{Reading, beginning}
 use Rattle.geo_parser.specs.Reads.{reading}
@@ -60,3 +68,28 @@ spelt_not_refused bytes p fault spelt refused =
     sym refused.first ∙ ap (λ ts. first_fault beginning (command_slot ∷ []) (placed_lexemes bytes ts) (length bytes) refused.stop) same.0
     ∙ ap (λ stop. first_fault beginning (command_slot ∷ []) (placed_lexemes bytes own.tokens) (length bytes) stop) same.1 ∙ none in
     some_is_none some
+
+-- the canonical text of a program is read again
+pub read_again : PrintedProgramsAreRead
+read_again p =
+    let own = well_formed_is_spelt (source_of p) (program_well_formed p) in record {
+      same = λ q other. spells_one (program_text p) (source_of p) (source_of q) own other;
+      allowed = λ fault refused. spelt_not_refused (program_text p) (source_of p) fault own refused;
+    }
+
+-- what an answer says of a program that the text spells
+module _ (bytes : List ℕ) (p : Program) (own : Spells bytes p) where
+  pub same_program : (r : Result Program ParseError) → IfOk r (λ q. Spells bytes q) → IfOk r (SameProgram p)
+  same_program (Ok q) h = spells_one bytes (source_of p) (source_of q) own h
+  same_program (Err e) h = tt
+
+  pub same_or_no_memory : (r : Result Program ParseError) → IfOk r (λ q. Spells bytes q) → ((f : Fault) → r ≡ Err (Syntax f) → IsRefused bytes f) → MatchResult r (SameProgram p) (λ e. e ≡ NoMemory)
+  same_or_no_memory (Ok q) h refused = spells_one bytes (source_of p) (source_of q) own h
+  same_or_no_memory (Err (Syntax f)) h refused = absurd (spelt_not_refused bytes (source_of p) f own (refused f refl))
+  same_or_no_memory (Err NoMemory) h refused = refl
+
+-- a program's canonical text spells it
+pub printed_spells : (bytes : List ℕ) (p : Program) → bytes ≡ program_text p → Spells bytes p
+printed_spells bytes p e =
+    let P : List ℕ → Type 0 = λ text. Spells text p in
+    subst P (sym e) (well_formed_is_spelt (source_of p) (program_well_formed p))
