@@ -33,10 +33,10 @@ abbrev by_word : Bool → Option (List Slot) → Reading → List Slot → Outco
 by_word prove due r rest = if prove then taken (completed r) statement_slots else follow (completed r) due (command_slot ∷ rest)
 
 module _ (r : Reading) (word : List ℕ) (rest : List Slot) where
-  begin_command-prove : is_text word (codes "prove") ≡ true → begin_command r word rest ≡ taken (completed r) statement_slots
+  pub begin_command-prove : is_text word (codes "prove") ≡ true → begin_command r word rest ≡ taken (completed r) statement_slots
   begin_command-prove h = ap (λ b. by_word b (due_behind word commands) r rest) h
 
-  begin_command-due : (due : Option (List Slot)) → is_text word (codes "prove") ≡ false → due ≡ due_behind word commands → begin_command r word rest ≡ follow (completed r) due (command_slot ∷ rest)
+  pub begin_command-due : (due : Option (List Slot)) → is_text word (codes "prove") ≡ false → due ≡ due_behind word commands → begin_command r word rest ≡ follow (completed r) due (command_slot ∷ rest)
   begin_command-due due h is = ap (λ b. by_word b (due_behind word commands) r rest) h ∙ ap (λ o. follow (completed r) o (command_slot ∷ rest)) (sym is)
 
 -- where no name is begun, nothing is completed

@@ -55,3 +55,20 @@ any_text word (w ∷ ws) (suc k) lt is = ap (λ b. is_text word w || b) (any_tex
 -- a word that passes no test is not reserved
 pub not_reserved : (word : List ℕ) → is_reserved word ≡ false → Contains reserved_words word → ⊥
 not_reserved word h there = true≢false (sym (any_text word reserved_words there.0 there.1 there.2) ∙ h)
+
+or_false : (a b : Bool) → (a || b) ≡ false → (a ≡ false) × (b ≡ false)
+or_false true b h = absurd (true≢false h)
+or_false false b h = (refl, h)
+
+none_of : {X : Type 0} (o : Option X) → is_some o ≡ false → o ≡ None
+none_of None h = refl
+none_of (Some x) h = absurd (true≢false h)
+
+-- a word that is not reserved begins no expression
+pub free_of_expressions : (level : ℕ) (ratios : Bool) (word : List ℕ) → is_reserved word ≡ false → due_behind word (expressions level ratios) ≡ None
+free_of_expressions level ratios word free =
+    let p = is_text word in
+    let others : List (List ℕ) = codes "prove" ∷ codes "assume" ∷ codes "weights" ∷ [] in
+    let first = or_false _ _ (sym (list_any-append p (command_words ++ statement_words ++ expression_words) others) ∙ free) in
+    let second = or_false _ _ (sym (list_any-append p (command_words ++ statement_words) expression_words) ∙ first.0) in
+    none_of _ (is_some-due_behind (expressions level ratios) word ∙ second.1)

@@ -2,8 +2,10 @@
 use Rattle.std.specs.Prelude.{◌≡◌, ℕ, List}
 use Rattle.geo_lexer.specs.declared.token_types.Fault.{Fault}
 use Rattle.geo_parser.specs.Refusals.{IsRefused}
+use Rattle.geo_program.specs.Programs.{SameProgram, Spells, program_text}
 use Rattle.geo_program.specs.Spelling.{SpellsSource}
 use Rattle.geo_program.specs.WellFormed.{Source}
+use Rattle.geo_program.specs.declared.program_type.Program.{Program}
 
 -- a text that spells a program is not refused
 abbrev pub SpeltTextsAreNotRefused : Type 0
@@ -12,3 +14,12 @@ SpeltTextsAreNotRefused = (bytes : List ℕ) (p : Source) (fault : Fault) → Sp
 -- a text has one first refusal
 abbrev pub RefusalsAreUnique : Type 0
 RefusalsAreUnique = (bytes : List ℕ) (f g : Fault) → IsRefused bytes f → IsRefused bytes g → f ≡ g
+
+-- the canonical text of a program is that of no other program, and is not refused
+pub record IsReadAgain (p : Program) : Type 0 where
+  pub same : (q : Program) → Spells (program_text p) q → SameProgram p q
+  pub allowed : (fault : Fault) → IsRefused (program_text p) fault → ⊥
+
+-- the canonical text of each program is read again
+abbrev pub PrintedProgramsAreRead : Type 0
+PrintedProgramsAreRead = (p : Program) → IsReadAgain p

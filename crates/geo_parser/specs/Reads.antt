@@ -1,14 +1,15 @@
 -- What the steps of the reader read, and what they refuse.
-use Rattle.std.specs.Prelude.{◌≡◌, ◌⊎◌, ℕ, ◌+◌, ◌<◌, ◌≤◌, All, Bool, ℤ, codes, Option, Some, None, List, [], ◌∷◌, ◌++◌, length}
+use Rattle.std.specs.Prelude.{◌≡◌, ◌⊎◌, ℕ, ◌+◌, ◌<◌, ◌≤◌, All, Bool, ℤ, codes, Option, Some, None, List, [], ◌∷◌, ◌++◌, length, sum_by}
 use Rattle.std.specs.List.{flat_map}
 use Rattle.geo_points.specs.declared.ids.TermId.{TermId}
 use Rattle.geo_lexer.specs.declared.token_types.Fault.{Fault}
 use Rattle.geo_lexer.specs.Lexemes.{Lexeme, word_lexeme, number_lexeme}
-use Rattle.geo_program.specs.CanonicalText.{Sketch, argument_lexemes, sketch_lexemes}
+use Rattle.geo_program.specs.CanonicalText.{Sketch, argument_lexemes, commands_lexemes, sketch_lexemes}
 use Rattle.geo_program.specs.Expressions.{IsExpression, braced, expression_lexemes, nesting}
 use Rattle.geo_program.specs.Forms.{AreSidesStored, Argument, IsStored, command_form, line_argument, number_argument, point_argument, side_argument, statement_form}
 use Rattle.geo_program.specs.Names.{name_text, names_of}
-use Rattle.geo_program.specs.WellFormed.{IsArgument, Scope, empty_scope, scope_of}
+use Rattle.geo_program.specs.Spelling.{AreSketches}
+use Rattle.geo_program.specs.WellFormed.{AllDiffer, AreCommands, IsArgument, Scope, empty_scope, scope_of}
 use Rattle.geo_program.specs.Words.{IsNameText}
 use Rattle.geo_program.specs.declared.commands.Command.{Command}
 use Rattle.geo_program.specs.declared.commands.Command.TheVariants.{Point}
@@ -221,7 +222,35 @@ pub record ReadsCommand (word : CommandWord) (old new : Reader) (command : Comma
   pub room : extent new ≤ extent old
   pub follows : (rest : List Slot) → fault_of old [] (command_due word ++ command_slot ∷ rest) ≡ fault_of new [] (command_slot ∷ rest)
 
+-- these commands stand there one after another, and the next one is due
+pub record ReadsCommands (old new : Reader) (commands : List Command) : Type 0 where
+  pub sketches : List Sketch
+  pub sketched : AreSketches commands sketches
+  pub passes : Passes old new (flat_map (λ line. line) (commands_lexemes new.names new.terms new.names commands sketches))
+  pub made : AreCommands new.terms empty_scope new.names commands
+  pub texts : All (λ name. IsNameText name.text) new.names
+  pub differ : AllDiffer new.names
+  pub counted : new.points ≡ sum_by (λ c. (command_form new.terms c).points) commands
+  pub few : new.points ≤ 512
+  pub room : extent new ≤ extent old
+  pub names : length new.names + length new.cursor.tokens ≤ length old.cursor.tokens
+  pub follows : fault_of old [] (command_slot ∷ []) ≡ fault_of new [] (command_slot ∷ [])
+
+-- these commands stand there, and behind them `prove`
+pub record ReadsAllCommands (old new : Reader) (commands : List Command) : Type 0 where
+  pub middle : Reader
+  pub read : ReadsCommands old middle commands
+  pub prove : ReadsProve middle new
+
 -- THE STATEMENT
+
+-- the word of a statement was due, and stands there
+pub record ReadsStatementWord (word : StatementWord) (old new : Reader) : Type 0 where
+  pub passes : Passes old new (word_lexeme (statement_text word) ∷ [])
+  pub names : new.names ≡ old.names
+  pub points : new.points ≡ old.points
+  pub terms : new.terms ≡ old.terms
+  pub follows : (begun : List Name) → (rest : List Slot) → fault_of old begun (statement_slot ∷ rest) ≡ fault_of new begun (statement_due word ++ rest)
 
 -- what stands behind the word of a statement, and the statement that it makes
 pub record ReadsStated (word : StatementWord) (old new : Reader) (statement : Statement) : Type 0 where
@@ -232,7 +261,7 @@ pub record ReadsStated (word : StatementWord) (old new : Reader) (statement : St
 
 -- `{ STATEMENT }` and then the end of the text
 pub record ReadsStatement (old new : Reader) (statement : Statement) : Type 0 where
-  pub reads : Reads statement_slots old new (braced (word_lexeme (statement_form new.terms statement).word ∷ flat_map (argument_lexemes old.names) (statement_form new.terms statement).arguments))
+  pub reads : Reads (open_slot 0 ∷ statement_slot ∷ close_slot ∷ []) old new (braced (word_lexeme (statement_form new.terms statement).word ∷ flat_map (argument_lexemes old.names) (statement_form new.terms statement).arguments))
   pub valid : All (IsArgument (scope old)) (statement_form new.terms statement).arguments
   pub sides : AreSidesStored new.terms statement
   pub ended : new.cursor.tokens ≡ []

@@ -1,10 +1,10 @@
 //! Reading the commands.
 
-ghost use Rattle.std.specs.Prelude.{◌≡◌, ◌+◌, ◌≤◌, ◌∷◌, [], IfOk, IfNone, IfSome, OnOk, length};
+ghost use Rattle.std.specs.Prelude.{◌≡◌, ◌+◌, ◌≤◌, ◌∷◌, [], IfOk, IfNone, IfSome, OnOk, Some, length};
 ghost use Rattle.geo_lexer.specs.declared.token_types.Fault.{Fault};
 ghost use Rattle.geo_parser.specs.CommandWords.{command_due, command_slots};
 ghost use Rattle.geo_parser.specs.Forms.{command_slot, new_name_slot, second_number_slot, sketch_slot};
-ghost use Rattle.geo_parser.specs.Reads.{ReadsCommand, ReadsForm, ReadsNewName, ReadsProve, ReadsSecond, ReadsSketch, ReadsWord, Refuses, extent};
+ghost use Rattle.geo_parser.specs.Reads.{ReadsAllCommands, ReadsCommand, ReadsForm, ReadsNewName, ReadsProve, ReadsSecond, ReadsSketch, ReadsWord, Refuses, extent, fault_of};
 ghost use Rattle.geo_program.specs.declared.names.NameKind.{NameKind};
 
 use crate::command_words::CommandWord;
@@ -19,7 +19,14 @@ const MOST_POINTS: u32 = 512;
 
 impl<'a> Reader<'a> {
     /// The commands, up to `prove`.
-    pub fn commands(&mut self, alloc: Global) -> Result<Commands, ParseError> {
+    pub fn commands(&mut self, alloc: Global) -> Result<Commands, ParseError>
+        requires no_names { self.old.names ≡ [] }
+        requires no_points { self.old.points ≡ 0 }
+        requires room { extent self.old ≤ 67108864 }
+        ensures ok { IfOk result (ReadsAllCommands self.old self.new) }
+        ensures refused { (f : Fault) → result ≡ Err (ParseError.Syntax f)
+            → fault_of self.old [] (command_slot ∷ []) ≡ Some f }
+    {
         let mut items = Vec::new(alloc);
         while let Some(word) = self.command_word()? {
             let command = self.command(alloc, word)?;

@@ -1,5 +1,11 @@
 //! Reading the statement.
 
+ghost use Rattle.std.specs.Prelude.{◌≡◌, ◌≤◌, ◌∷◌, [], IfOk};
+ghost use Rattle.geo_lexer.specs.declared.token_types.Fault.{Fault};
+ghost use Rattle.geo_parser.specs.Forms.{statement_slot};
+ghost use Rattle.geo_parser.specs.Reads.{ReadsStated, ReadsStatement, ReadsStatementWord, Refuses, extent, statement_slots};
+ghost use Rattle.geo_parser.specs.StatementWords.{statement_due};
+
 use crate::cursor::Piece;
 use crate::errors::{ParseError, Refusal};
 use crate::reader::Reader;
@@ -8,7 +14,12 @@ use geo_program::Statement;
 
 impl<'a> Reader<'a> {
     /// `{ STATEMENT }` and the end of the text.
-    pub fn statement(&mut self) -> Result<Statement, ParseError> {
+    pub fn statement(&mut self) -> Result<Statement, ParseError>
+        requires { extent self.old ≤ 67108864 }
+        ensures ok { IfOk result (ReadsStatement self.old self.new) }
+        ensures refused { (f : Fault) → result ≡ Err (ParseError.Syntax f)
+            → Refuses statement_slots self.old f }
+    {
         self.open(0)?;
         let word = self.statement_word()?;
         let statement = self.stated(word)?;
@@ -18,22 +29,30 @@ impl<'a> Reader<'a> {
     }
 
     // The word that begins the statement.
-    fn statement_word(&mut self) -> Result<StatementWord, ParseError> {
-        let word = match self.cursor.peek() {
-            Some(Piece::Word(word)) => StatementWord::of(word),
-            _ => None,
+    fn statement_word(&mut self) -> Result<StatementWord, ParseError>
+        ensures ok { IfOk result (λ word. ReadsStatementWord word self.old self.new) }
+        ensures refused { (f : Fault) → result ≡ Err (ParseError.Syntax f)
+            → Refuses (statement_slot ∷ []) self.old f }
+    {
+        let Some(Piece::Word(word)) = self.cursor.peek() else {
+            return Err(self.refuse(Refusal::Expected));
         };
-        match word {
-            Some(word) => {
+        match StatementWord::of(word) {
+            Some(statement) => {
                 self.cursor.advance();
-                Ok(word)
+                Ok(statement)
             }
             None => Err(self.refuse(Refusal::Expected)),
         }
     }
 
     // What stands behind the word.
-    fn stated(&mut self, word: StatementWord) -> Result<Statement, ParseError> {
+    fn stated(&mut self, word: StatementWord) -> Result<Statement, ParseError>
+        requires { extent self.old ≤ 67108864 }
+        ensures ok { IfOk result (ReadsStated word self.old self.new) }
+        ensures refused { (f : Fault) → result ≡ Err (ParseError.Syntax f)
+            → Refuses (statement_due word) self.old f }
+    {
         match word {
             StatementWord::Equal => {
                 let e = self.side()?;

@@ -1,0 +1,152 @@
+-- Reading the commands one after another.
+use Rattle.std.proofs.Common.{◌≡◌, true≢false, ℕ, zero, suc, ◌+◌, ◌≤◌, ◌<◌, Bool, true, false, cond, List, [], ◌∷◌, ◌++◌, length, get_or, map, Some, None, codes, refl, sym, ap, ◌∙◌, subst, arith, length-append}
+use Rattle.std.specs.Prelude.{All, Contains, IfNone, IfSome, Option, find, sum_by}
+use Rattle.std.specs.List.{flat_map}
+use Rattle.std.proofs.lemmas.Grind.{flat_map-append}
+use Rattle.std.proofs.lemmas.List.{append-nil, length-map, length_push}
+use Rattle.std.proofs.lemmas.List.Elements.{All-nil, All-push}
+use Rattle.std.proofs.lemmas.List.Sums.{sum_by-cons, sum_by_push}
+use Rattle.geo_lexer.specs.Lexemes.{Lexeme, word_lexeme}
+use Rattle.geo_program.specs.CanonicalText.{Sketch, argument_lexemes, command_lexemes, commands_lexemes, sketch_lexemes}
+use Rattle.geo_program.specs.Forms.{command_form}
+use Rattle.geo_program.specs.Spelling.{AreSketches}
+use Rattle.geo_program.specs.WellFormed.{AllDiffer, AreCommands, IsArgument, IsCommand, empty_scope, scope_of}
+use Rattle.geo_program.specs.Words.{IsNameText}
+use Rattle.geo_program.specs.declared.commands.Command.{Command}
+use Rattle.geo_program.specs.declared.commands.Command.TheVariants.{Point}
+use Rattle.geo_program.specs.declared.names.Name.{Name}
+use Rattle.geo_program.proofs.Pushing.{AllDiffer-push, AreCommands-length, AreCommands-push, AreSketches-length, AreSketches-push, commands_lexemes-kept, commands_lexemes-push}
+use Rattle.geo_program.proofs.Staying.{AreCommands-kept, KeepsTrees, command_lexemes-append}
+use Rattle.geo_terms.specs.Stores.{Store}
+use Rattle.geo_parser.specs.declared.command_words.CommandWord.{CommandWord}
+use Rattle.geo_parser.specs.declared.reader.Reader.{Reader}
+use Rattle.geo_parser.specs.CommandWords.{command_due, command_kind, command_points, command_text}
+use Rattle.geo_parser.specs.Dictionaries.{name_of}
+use Rattle.geo_parser.specs.Forms.{command_slot}
+use Rattle.geo_parser.specs.Reads.{Extends, Passes, ReadsCommand, ReadsCommands, ReadsWord, a_name, extent, fault_of}
+use Rattle.geo_parser.specs.Texts.{is_text}
+use Rattle.geo_parser.proofs.CommandReading.{Passes-length}
+use Rattle.geo_parser.proofs.Finding.{is_text_self}
+use Rattle.geo_parser.proofs.Reading.{Extends-same, Extends-then, Passes-then}
+
+-- a word that no name is, is no name's text
+undeclared_at : (names : List Name) (word : List ℕ) → name_of names word ≡ None → (k : ℕ) → k < length names → get_or (map (λ n. n.text) names) k word ≡ word → ⊥
+undeclared_at [] word none k lt is = absurd (omega arith)
+undeclared_at (n ∷ names) word none k lt is = by (is_text n.text word) refl none k lt is (undeclared_at names word)
+  where
+    by : (b : Bool) → is_text n.text word ≡ b → cond b (Some n) (name_of names word) ≡ None → (k' : ℕ) → k' < length (n ∷ names) → get_or (n.text ∷ map (λ m. m.text) names) k' word ≡ word
+       → (name_of names word ≡ None → (j : ℕ) → j < length names → get_or (map (λ m. m.text) names) j word ≡ word → ⊥) → ⊥
+    by true h missing k' lt' is' rest = cc
+    by false h missing zero lt' is' rest = true≢false (sym (sym h ∙ ap (λ t. is_text t word) is' ∙ is_text_self word))
+    by false h missing (suc k') lt' is' rest = rest missing k' (omega arith) is'
+
+pub undeclared : (names : List Name) (word : List ℕ) → name_of names word ≡ None → Contains (map (λ n. n.text) names) word → ⊥
+undeclared names word none there = undeclared_at names word none there.0 (omega (arith, there.1, length-map names (λ (n : Name). n.text))) there.2
+
+-- how many points a command makes does not depend on the store
+points_any : (nodes wider : Store) (command : Command) → (command_form wider command).points ≡ (command_form nodes command).points
+points_any nodes wider Point = refl
+points_any nodes wider _ = refl
+
+pub points_kept : (nodes wider : Store) (commands : List Command) → sum_by (λ c. (command_form wider c).points) commands ≡ sum_by (λ c. (command_form nodes c).points) commands
+points_kept nodes wider [] = refl
+points_kept nodes wider (c ∷ commands) =
+    omega (arith, sum_by-cons (λ (k : Command). (command_form wider k).points) c commands, sum_by-cons (λ (k : Command). (command_form nodes k).points) c commands, points_any nodes wider c, points_kept nodes wider commands)
+
+pub KeepsTrees-extends : (old new : Store) → Extends old new → KeepsTrees old new
+KeepsTrees-extends old new h = record { longer = h.longer; trees = h.others }
+
+-- before the first command
+pub ReadsCommands-none : (s : Reader) → s.names ≡ [] → s.points ≡ 0 → ReadsCommands s s []
+ReadsCommands-none s no_names no_points =
+    let P : List Name → Type 0 = λ ns. Passes s s (flat_map (λ line. line) (commands_lexemes ns s.terms ns [] [])) in
+    let none : Passes s s [] = record { spelt = refl; stop = refl } in record {
+      sketches = [];
+      sketched = tt;
+      passes = subst P (sym no_names) none;
+      made = subst (λ ns. AreCommands s.terms empty_scope ns []) (sym no_names) tt;
+      texts = subst (All (λ n. IsNameText n.text)) (sym no_names) (All-nil (λ n. IsNameText n.text));
+      differ = subst AllDiffer (sym no_names) tt;
+      counted = no_points;
+      few = omega (arith, no_points);
+      room = omega arith;
+      names = omega (arith, ap length no_names);
+      follows = refl;
+    }
+
+module _ (a b c d : Reader) (commands : List Command) (word : CommandWord) (command : Command) (h : ReadsCommands a b commands) (w : ReadsWord word b c) (k : ReadsCommand word c d command) where
+  abbrev new : Name
+  new = a_name k.text (command_kind word)
+
+  abbrev longer : List Name
+  longer = b.names ++ new ∷ []
+
+  names_are : d.names ≡ longer
+  names_are = k.names ∙ ap (λ ns. ns ++ new ∷ []) w.names
+
+  terms_extend : Extends b.terms d.terms
+  terms_extend = Extends-then b.terms c.terms d.terms (Extends-same w.terms) k.terms
+
+  is_command : IsCommand d.terms (scope_of empty_scope b.names) new command
+  is_command = record {
+    named = sym k.named.kind;
+    arguments = subst (λ ns. All (IsArgument (scope_of empty_scope ns)) (command_form d.terms command).arguments) w.names k.valid;
+    stored = k.stored;
+  }
+
+  are_commands : AreCommands d.terms empty_scope longer (commands ++ command ∷ [])
+  are_commands =
+      AreCommands-push d.terms empty_scope b.names commands new command
+      (AreCommands-kept b.terms d.terms (KeepsTrees-extends b.terms d.terms terms_extend) empty_scope b.names commands h.made) is_command
+
+  -- the lexemes of the command
+  abbrev own : List Lexeme
+  own = command_lexemes b.names d.terms new command ++ sketch_lexemes k.sketch
+
+  lines_are : commands_lexemes longer d.terms longer (commands ++ command ∷ []) (h.sketches ++ k.sketch ∷ []) ≡ commands_lexemes b.names b.terms b.names commands h.sketches ++ own ∷ []
+  lines_are =
+      commands_lexemes-push longer d.terms b.names commands h.sketches new command k.sketch (AreCommands-length b.terms empty_scope b.names commands h.made) (AreSketches-length commands h.sketches h.sketched)
+      ∙ ap (λ lines. lines ++ (command_lexemes longer d.terms new command ++ sketch_lexemes k.sketch) ∷ [])
+        (commands_lexemes-kept [] b.names (new ∷ []) b.names b.terms d.terms commands h.sketches refl (KeepsTrees-extends b.terms d.terms terms_extend) h.made)
+      ∙ ap (λ ls. commands_lexemes b.names b.terms b.names commands h.sketches ++ (ls ++ sketch_lexemes k.sketch) ∷ []) (command_lexemes-append b.names (new ∷ []) d.terms new command is_command)
+
+  lexemes_are : flat_map (λ line. line) (commands_lexemes longer d.terms longer (commands ++ command ∷ []) (h.sketches ++ k.sketch ∷ [])) ≡ flat_map (λ line. line) (commands_lexemes b.names b.terms b.names commands h.sketches) ++ own
+  lexemes_are =
+      ap (flat_map (λ line. line)) lines_are
+      ∙ flat_map-append (λ (line : List Lexeme). line) (commands_lexemes b.names b.terms b.names commands h.sketches) (own ∷ [])
+      ∙ ap (λ ls. flat_map (λ (line : List Lexeme). line) (commands_lexemes b.names b.terms b.names commands h.sketches) ++ ls) (append-nil own)
+
+  own_is : word_lexeme (command_text word) ∷ (word_lexeme k.text ∷ flat_map (argument_lexemes c.names) (command_form d.terms command).arguments ++ sketch_lexemes k.sketch) ≡ own
+  own_is =
+      ap (λ ns. word_lexeme (command_text word) ∷ (word_lexeme k.text ∷ flat_map (argument_lexemes ns) (command_form d.terms command).arguments ++ sketch_lexemes k.sketch)) w.names
+      ∙ ap (λ t. word_lexeme t ∷ (word_lexeme k.text ∷ flat_map (argument_lexemes b.names) (command_form d.terms command).arguments ++ sketch_lexemes k.sketch)) (sym k.named.text)
+
+  passes_all : Passes a d (flat_map (λ line. line) (commands_lexemes longer d.terms longer (commands ++ command ∷ []) (h.sketches ++ k.sketch ∷ [])))
+  passes_all =
+      let one = Passes-then b c d (word_lexeme (command_text word) ∷ []) _ w.passes k.passes in
+      let P : List Lexeme → Type 0 = λ ls. Passes b d ls in
+      let Q : List Lexeme → Type 0 = λ ls. Passes a d ls in
+      subst Q (sym lexemes_are) (Passes-then a b d _ own h.passes (subst P own_is one))
+
+  -- one more command is read
+  pub ReadsCommands-more : ReadsCommands a d (commands ++ command ∷ [])
+  ReadsCommands-more = record {
+    sketches = h.sketches ++ k.sketch ∷ [];
+    sketched = AreSketches-push commands h.sketches command k.sketch h.sketched k.sketched;
+    passes = subst (λ ns. Passes a d (flat_map (λ line. line) (commands_lexemes ns d.terms ns (commands ++ command ∷ []) (h.sketches ++ k.sketch ∷ [])))) (sym names_are) passes_all;
+    made = subst (λ ns. AreCommands d.terms empty_scope ns (commands ++ command ∷ [])) (sym names_are) are_commands;
+    texts = subst (All (λ n. IsNameText n.text)) (sym names_are) (All-push (λ n. IsNameText n.text) b.names new h.texts k.valid_name);
+    differ = subst AllDiffer (sym names_are) (AllDiffer-push b.names new h.differ (undeclared b.names k.text (ap (λ ns. name_of ns k.text) (sym w.names) ∙ k.fresh.undeclared)));
+    counted = omega (arith, k.counted, w.points, h.counted, k.named.points, points_kept b.terms d.terms commands, sum_by_push (λ (e : Command). (command_form d.terms e).points) commands command);
+    few = k.few;
+    room = omega (arith, k.room, h.room, ap length w.terms, Passes-length b c _ w.passes);
+    names = omega (arith, ap length names_are, length_push b.names new, h.names, Passes-length b c _ w.passes, Passes-length c d _ k.passes);
+    follows = h.follows ∙ w.follows [] ∙ k.follows [];
+  }
+
+-- what an option's fact says of its value
+pub at_some : {X : Type 0} (o : Option X) (x : X) (P : X → Type 0) → o ≡ Some x → IfSome o P → P x
+at_some {X} o x P is h = let Q : Option X → Type 0 = λ r. IfSome r P in subst Q is h
+
+pub at_none : {X : Type 0} (o : Option X) (P : Type 0) → o ≡ None → IfNone o P → P
+at_none {X} o P is h = let Q : Option X → Type 0 = λ r. IfNone r P in subst Q is h
