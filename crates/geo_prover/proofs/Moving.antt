@@ -18,7 +18,7 @@ use Rattle.geo_poly.proofs.ReplaceTerms.{IsPolynomial-replaced}
 use Rattle.geo_prover.specs.declared.moves.Replacement.{Replacement}
 use Rattle.geo_prover.specs.declared.program.Command.{Command}
 use Rattle.geo_prover.specs.declared.program.Command.TheVariants.{Point, Pratio}
-use Rattle.geo_prover.specs.Moves.{IsMoved, along_row, coordinate_move, free_row, integer_piece, move_charge, point_move, step_charge, step_denominator, variables_of}
+use Rattle.geo_prover.specs.Moves.{IsMoved, coordinate_move, free_row, integer_piece, move_charge, point_move, step_denominator, variables_of}
 use Rattle.geo_prover.specs.Program.{AreCommands, IsCommand}
 
 -- RESULTS

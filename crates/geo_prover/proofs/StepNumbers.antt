@@ -1,13 +1,11 @@
 -- The number n/d of a step, multiplied out.
-use Rattle.std.proofs.Common.{◌≡◌, ℕ, ◌*◌, ◌-◌, ◌^◌, ◌<◌, ◌≤◌, max, min, Bool, true, false, cond, eqb, ℤ, pos, ◌*ℤ◌, unsigned_abs, List, [], ◌∷◌, refl, sym, ap, subst, ◌∙◌, arith}
+use Rattle.std.proofs.Common.{◌≡◌, ◌*◌, ◌≤◌, max, Bool, true, false, cond, eqb, ℤ, pos, ◌*ℤ◌, unsigned_abs, List, [], ◌∷◌, refl, ap, ◌∙◌, arith}
 use Rattle.std.proofs.lemmas.Int.{ints}
 use Rattle.std.specs.List.{filter_map}
-use Rattle.fraction_poly.specs.declared.measures.Numbers.{Numbers}
-use Rattle.fraction_poly.specs.Measures.{HasRoom, capped, capped_number, numbers_of}
+use Rattle.fraction_poly.specs.Measures.{capped, capped_number, numbers_of}
 use Rattle.fraction_poly.specs.Parts.{CanMultiplyOut}
 use Rattle.fraction_poly.proofs.Sizes.{IsWithin-constant}
 use Rattle.geo_points.specs.declared.ids.PointId.{PointId}
-use Rattle.geo_poly.specs.declared.replacement.Piece.{Piece}
 use Rattle.geo_poly.specs.declared.variables.Var.{Var}
 use Rattle.geo_poly.specs.Polynomials.{Terms, constant_of, product_of}
 use Rattle.geo_prover.specs.declared.moves.Replacement.{Replacement}

@@ -1,9 +1,9 @@
 -- The steps of commands: what stands at a place, and one step more.
-use Rattle.std.proofs.Common.{◌≡◌, ◌≢◌, ℕ, ◌+◌, ◌<◌, ◌≤◌, Bool, true, false, ℤ, to_z, of_z, unsigned_abs, Option, Some, None, inl, inr, List, [], ◌∷◌, ◌++◌, length, get_or, take, refl, sym, ap, ap₂, subst, ◌∙◌, arith}
+use Rattle.std.proofs.Common.{◌≡◌, ◌≢◌, ℕ, ◌<◌, ◌≤◌, Bool, true, false, ℤ, to_z, of_z, unsigned_abs, Option, Some, inl, inr, List, [], ◌∷◌, ◌++◌, length, get_or, refl, sym, ap, ap₂, subst, ◌∙◌, arith}
 use Rattle.std.specs.Int.{w128}
 use Rattle.std.specs.Prelude.{slice_get}
 use Rattle.std.proofs.lemmas.Int.{fits_signed_from_abs, to_z-of_z}
-use Rattle.std.proofs.lemmas.List.{length_push, length-take-le, take_more}
+use Rattle.std.proofs.lemmas.List.{length_push}
 use Rattle.std.proofs.lemmas.Option.{slice_get-get_or, slice_get_past, slice_get_within}
 use Rattle.fraction_poly.proofs.Places.{place_cases, slice_get-end, slice_get-front}
 use Rattle.geo_points.specs.declared.ids.PointId.{PointId}
@@ -15,7 +15,7 @@ use Rattle.geo_prover.specs.Moves.{is_free, is_free_command}
 use Rattle.geo_prover.specs.Program.{IsCommand}
 use Rattle.geo_terms.specs.declared.steps.Step.{Step}
 use Rattle.geo_terms.specs.declared.steps.Step.TheVariants.{Point as FreeStep, Inter, Foot, Pratio as AlongStep, Tratio}
-use Rattle.geo_terms.specs.Constructions.{Construction, IsStep, IsStepTerm}
+use Rattle.geo_terms.specs.Constructions.{Construction, IsStep}
 use Rattle.geo_terms.specs.Stores.{Store, tree_of}
 use Rattle.geo_terms.specs.Trees.{IsStepNumber, integer_leaf, division}
 use Rattle.geo_terms.proofs.ConstructionLemmas.{HasTermsOf}
@@ -169,8 +169,7 @@ is_step nodes k params (Pratio w u v n d) FreeStep made h = absurd h
 is_step nodes k params (Pratio w u v n d) (Inter u' v' p q) made h = absurd h
 is_step nodes k params (Pratio w u v n d) (Foot p u' v') made h = absurd h
 is_step nodes k params (Pratio w u v n d) (AlongStep w' u' v' r) made h =
-    let below : PointId → Type 0 = λ (p : PointId). p.0 < k in
-    (
+    let below : PointId → Type 0 = λ (p : PointId). p.0 < k in (
       subst below (sym h.0) made.0,
       subst below (sym h.1) made.1,
       subst below (sym h.2) made.2,

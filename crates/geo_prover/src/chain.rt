@@ -69,11 +69,7 @@ pub fn chain_to_zero(
 }
 
 /// The lines of the one chain of the steps, likewise.
-fn lines_to_zero(
-    alloc: Global,
-    steps: &Steps,
-    start: Poly,
-) -> Result<Option<Vec<Line>>, NoMemory>
+fn lines_to_zero(alloc: Global, steps: &Steps, start: Poly) -> Result<Option<Vec<Line>>, NoMemory>
     requires first_form { IsOfFirstForm steps.now }
     requires valid { IsPolynomial start }
     ensures some { IfOk result (λ o. IfSome o (λ lines. (commands : List Command)

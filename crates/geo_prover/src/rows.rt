@@ -89,11 +89,7 @@ fn multiple(
 }
 
 /// The row of an area whose points are all free.
-pub fn free_row(
-    alloc: Global,
-    steps: &Steps,
-    variable: Var,
-) -> Result<Option<Row>, NoMemory>
+pub fn free_row(alloc: Global, steps: &Steps, variable: Var) -> Result<Option<Row>, NoMemory>
     ensures row { IfOk result (λ o. (commands : List Command)
         → AreStepsOf commands steps.now → o ≡ free_row commands variable) }
     ensures bounded { IfOk result (λ o. IfSome o (λ r. IsBounded r.num × (r.power ≤ 2))) }

@@ -1,6 +1,4 @@
-use Rattle.std.proofs.Common.{◌≡◌, ◌≢◌, ◌≤◌, ◌++◌, List, [], ◌∷◌, sym, ap, ◌∙◌, arith}
-use Rattle.std.specs.Prelude.{IfNone, IfSome}
-use Rattle.geo_poly.specs.Polynomials.{Terms}
+use Rattle.std.proofs.Common.{◌≡◌, ◌++◌, List, [], ◌∷◌, sym, ap, ◌∙◌, arith}
 use Rattle.geo_prover.specs.declared.chain.Chain.{Chain}
 use Rattle.geo_prover.specs.declared.log.Line.{Line}
 use Rattle.geo_prover.specs.declared.log.Line.TheVariants.{End}
@@ -8,7 +6,7 @@ use Rattle.geo_prover.specs.declared.program.Command.{Command}
 use Rattle.geo_prover.specs.Constructed.{AreStepsOf}
 use Rattle.geo_prover.specs.Chains.{AreForced}
 use Rattle.geo_prover.specs.FirstLog.{steps_of_prove}
-use Rattle.geo_prover.specs.Logs.{HasNoArea, IsDefinedChain, NoCutDue}
+use Rattle.geo_prover.specs.Logs.{IsDefinedChain}
 use Rattle.geo_prover.proofs.Items.{ok_none_weaker, ok_some_weaker}
 use Rattle.geo_prover.proofs.NextLines.{chain_ended, forced_on, no_chain, no_chain_to_zero}
 use Rattle.geo_prover.proofs.chain.lines_to_zero.Goals as goal
@@ -42,12 +40,12 @@ returns-in-Ended-clause-some c =
     ok_some_weaker c.ended.result _
     (λ lines. (commands : List Command) → AreStepsOf commands c.args.steps.now → IsDefinedChain commands steps_of_prove c.args.start lines.items [])
     (λ lines h commands built.
-        let ended = turn commands built in
-        let same_poly : c.turn.new.self.poly ≡ c.cut.new.self.poly = ap (λ (x : Chain). x.poly) ended.0 in
-        let same_lines : c.turn.new.self.lines.items ≡ c.cut.new.self.lines.items = ap (λ (x : Chain). x.lines.items) ended.0 in
-        chain_ended commands steps_of_prove before.budget.left c.args.start before.poly before.lines.items lines.items
-        (cut_forced (goal.at.returns-in-Ended-clause-some c).After-turn commands built) c.in_ok-cut.ensures.divided ended.1 (sym same_poly ∙ h.0)
-        (h.1 ∙ ap (λ (xs : List Line). xs ++ End ∷ []) same_lines))
+    let ended = turn commands built in
+    let same_poly : c.turn.new.self.poly ≡ c.cut.new.self.poly = ap (λ (x : Chain). x.poly) ended.0 in
+    let same_lines : c.turn.new.self.lines.items ≡ c.cut.new.self.lines.items = ap (λ (x : Chain). x.lines.items) ended.0 in
+    chain_ended commands steps_of_prove before.budget.left c.args.start before.poly before.lines.items lines.items
+    (cut_forced (goal.at.returns-in-Ended-clause-some c).After-turn commands built) c.in_ok-cut.ensures.divided ended.1 (sym same_poly ∙ h.0)
+    (h.1 ∙ ap (λ (xs : List Line). xs ++ End ∷ []) same_lines))
     c.ended.ensures.some
 
 pub returns-in-Ended-clause-none : goal.returns-in-Ended-clause-none
@@ -57,10 +55,10 @@ returns-in-Ended-clause-none c =
     ok_none_weaker c.ended.result _
     ((commands : List Command) (lines : List Line) → AreStepsOf commands c.args.steps.now → IsDefinedChain commands steps_of_prove c.args.start lines [] → ⊥)
     (λ some commands lines built.
-        let ended = turn commands built in
-        let same_poly : c.turn.new.self.poly ≡ c.cut.new.self.poly = ap (λ (x : Chain). x.poly) ended.0 in
-        no_chain_to_zero commands steps_of_prove before.budget.left c.args.start before.poly before.lines.items
-        (cut_forced (goal.at.returns-in-Ended-clause-none c).After-turn commands built) c.in_ok-cut.ensures.divided ended.1 (λ zero. some (same_poly ∙ zero)) lines)
+    let ended = turn commands built in
+    let same_poly : c.turn.new.self.poly ≡ c.cut.new.self.poly = ap (λ (x : Chain). x.poly) ended.0 in
+    no_chain_to_zero commands steps_of_prove before.budget.left c.args.start before.poly before.lines.items
+    (cut_forced (goal.at.returns-in-Ended-clause-none c).After-turn commands built) c.in_ok-cut.ensures.divided ended.1 (λ zero. some (same_poly ∙ zero)) lines)
     c.ended.ensures.none
 
 pub returns-in-Stuck-clause-none : goal.returns-in-Stuck-clause-none

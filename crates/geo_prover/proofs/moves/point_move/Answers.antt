@@ -1,5 +1,4 @@
-use Rattle.std.proofs.Common.{◌≡◌, Some, length, sym, ap, subst, ◌∙◌, arith}
-use Rattle.std.specs.Prelude.{slice_get}
+use Rattle.std.proofs.Common.{◌≡◌, sym, ap, subst, ◌∙◌}
 use Rattle.fraction_poly.specs.Measures.{capped, numbers_of}
 use Rattle.fraction_poly.specs.Parts.{CanMultiplyOut}
 use Rattle.geo_terms.specs.Stores.{Store, tree_of}
@@ -41,8 +40,7 @@ step_number-requires-clause-uncapped c =
 -- the numerator and the denominator are of one digit
 digits : (c : In_ok-number) → IsFirstNumber c.look.result.now c.in-Pratio.r → IsOfOneDigit c.in_ok-number.number.num × IsOfOneDigit c.in_ok-number.number.den
 digits c h =
-    let is : c.in_ok-number.number ≡ quotient_number h.n h.d = c.in_ok-number.ensures ∙ ap step_number h.number.tree ∙ step_number-quotient h.n h.d in
-    (
+    let is : c.in_ok-number.number ≡ quotient_number h.n h.d = c.in_ok-number.ensures ∙ ap step_number h.number.tree ∙ step_number-quotient h.n h.d in (
       subst (λ (x : StepNumber). IsOfOneDigit x.num) (sym is) (digit_piece h.n h.n_small),
       subst (λ (x : StepNumber). IsOfOneDigit x.den) (sym is) (digit_piece h.d h.d_small),
     )
@@ -59,9 +57,9 @@ returns-clause-made c =
     let step = c.in-Pratio in
     ok_of_three c.along_move.result _ _ _ _
     (λ m rows den charge commands command q built at named.
-        let along = along_command c.args.steps.now.nodes command step.w step.u step.v step.r (built.each y.0 command _ at c.in-Pratio.ensures) in
-        let is : c.in_ok-number.number ≡ quotient_number along.n along.d =
-        c.in_ok-number.ensures ∙ ap (λ (nodes : Store). step_number (tree_of nodes c.in-Pratio.r)) c.look.ensures ∙ ap step_number along.number.tree ∙ step_number-quotient along.n along.d in
-        is_elimination m y step.w step.u step.v along.n along.d c.in_ok-number.number c.args.variables.now q named is rows den charge
-        ∙ ap (λ (x : Command). point_move c.args.y x q) (sym along.is))
+    let along = along_command c.args.steps.now.nodes command step.w step.u step.v step.r (built.each y.0 command _ at c.in-Pratio.ensures) in
+    let is : c.in_ok-number.number ≡ quotient_number along.n along.d =
+    c.in_ok-number.ensures ∙ ap (λ (nodes : Store). step_number (tree_of nodes c.in-Pratio.r)) c.look.ensures ∙ ap step_number along.number.tree ∙ step_number-quotient along.n along.d in
+    is_elimination m y step.w step.u step.v along.n along.d c.in_ok-number.number c.args.variables.now q named is rows den charge
+    ∙ ap (λ (x : Command). point_move c.args.y x q) (sym along.is))
     c.along_move.ensures.rows c.along_move.ensures.den c.along_move.ensures.charge

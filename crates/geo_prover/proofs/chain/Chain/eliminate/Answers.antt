@@ -1,7 +1,5 @@
-use Rattle.std.proofs.Common.{◌≡◌, ◌-◌, Some, List, [], ◌∷◌, ◌++◌, get_or, sym, ap, subst, ◌∙◌, arith}
-use Rattle.std.specs.Prelude.{slice_get}
+use Rattle.std.proofs.Common.{◌-◌, [], ◌∷◌, ◌++◌, get_or, sym, ap, subst, ◌∙◌}
 use Rattle.geo_poly.specs.Polynomials.{Terms}
-use Rattle.geo_prover.specs.declared.log.Line.{Line}
 use Rattle.geo_prover.specs.declared.log.Line.TheVariants.{Point as PointLine}
 use Rattle.geo_prover.specs.declared.moves.Replacement.{Replacement}
 use Rattle.geo_prover.specs.declared.program.Command.TheVariants.{Point}
@@ -33,8 +31,7 @@ returns c = λ commands built.
     let move = c.in_ok-replacement.ensures.made commands command q built here c.requires.variables in
     let found = rw c.in-Some.is at c.in_ok-poly.ensures.some in
     let moved = subst (λ (m : Replacement). IsMoved m c.args.self.now.budget.left q r) move found in
-    let paid = (rw c.in-Some.is at c.in_ok-poly.ensures.paid) ∙ ap (λ (m : Replacement). left - move_charge m q) move in
-    (
+    let paid = (rw c.in-Some.is at c.in_ok-poly.ensures.paid) ∙ ap (λ (m : Replacement). left - move_charge m q) move in (
       record {
         lines = PointLine c.args.at r ∷ [];
         grown = c.in_ok-push.ensures.items ∙ ap (λ (x : Terms). c.args.self.now.lines.items ++ PointLine c.args.at x ∷ []) c.in_ok-copy.ensures;
