@@ -35,7 +35,7 @@ undeclared_at [] word none k lt is = absurd (omega arith)
 undeclared_at (n ∷ names) word none k lt is = by (is_text n.text word) refl none k lt is (undeclared_at names word)
   where
     by : (b : Bool) → is_text n.text word ≡ b → cond b (Some n) (name_of names word) ≡ None → (k' : ℕ) → k' < length (n ∷ names) → get_or (n.text ∷ map (λ m. m.text) names) k' word ≡ word
-       → (name_of names word ≡ None → (j : ℕ) → j < length names → get_or (map (λ m. m.text) names) j word ≡ word → ⊥) → ⊥
+        → (name_of names word ≡ None → (j : ℕ) → j < length names → get_or (map (λ m. m.text) names) j word ≡ word → ⊥) → ⊥
     by true h missing k' lt' is' rest = cc
     by false h missing zero lt' is' rest = true≢false (sym (sym h ∙ ap (λ t. is_text t word) is' ∙ is_text_self word))
     by false h missing (suc k') lt' is' rest = rest missing k' (omega arith) is'
@@ -107,7 +107,7 @@ module _ (a b c d : Reader) (commands : List Command) (word : CommandWord) (comm
   lines_are =
       commands_lexemes-push longer d.terms b.names commands h.sketches new command k.sketch (AreCommands-length b.terms empty_scope b.names commands h.made) (AreSketches-length commands h.sketches h.sketched)
       ∙ ap (λ lines. lines ++ (command_lexemes longer d.terms new command ++ sketch_lexemes k.sketch) ∷ [])
-        (commands_lexemes-kept [] b.names (new ∷ []) b.names b.terms d.terms commands h.sketches refl (KeepsTrees-extends b.terms d.terms terms_extend) h.made)
+      (commands_lexemes-kept [] b.names (new ∷ []) b.names b.terms d.terms commands h.sketches refl (KeepsTrees-extends b.terms d.terms terms_extend) h.made)
       ∙ ap (λ ls. commands_lexemes b.names b.terms b.names commands h.sketches ++ (ls ++ sketch_lexemes k.sketch) ∷ []) (command_lexemes-append b.names (new ∷ []) d.terms new command is_command)
 
   lexemes_are : flat_map (λ line. line) (commands_lexemes longer d.terms longer (commands ++ command ∷ []) (h.sketches ++ k.sketch ∷ [])) ≡ flat_map (λ line. line) (commands_lexemes b.names b.terms b.names commands h.sketches) ++ own

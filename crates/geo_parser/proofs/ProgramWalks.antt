@@ -146,10 +146,10 @@ commands_go before (name ∷ names) all nodes (command ∷ commands) (sketch ∷
       points = others.points;
       declared = others.declared;
       goes =
-        ap (walk (reading declared begun points) (command_slot ∷ rest))
-        (append_assoc (command_lexemes all nodes name command ++ sketch_lexemes sketch) (flat_map (λ (line : List Lexeme). line) (commands_lexemes all nodes names commands sketches)) (word_lexeme (codes "prove") ∷ more)
-        ∙ ap (λ ls. (ls ++ sketch_lexemes sketch) ++ later) spelling)
-        ∙ one ∙ others.goes;
+          ap (walk (reading declared begun points) (command_slot ∷ rest))
+          (append_assoc (command_lexemes all nodes name command ++ sketch_lexemes sketch) (flat_map (λ (line : List Lexeme). line) (commands_lexemes all nodes names commands sketches)) (word_lexeme (codes "prove") ∷ more)
+          ∙ ap (λ ls. (ls ++ sketch_lexemes sketch) ++ later) spelling)
+          ∙ one ∙ others.goes;
     }
 
 -- THE STATEMENT
@@ -164,7 +164,7 @@ statement_goes names begun all points nodes statement rest here texts differ val
     let r = reading all [] points in
     let go = Goes-arguments all texts differ r refl arguments valid in
     walk_taken (reading names begun points) r (command_slot ∷ rest) statement_slots (word_lexeme (codes "prove")) (open_brace ∷ (word_lexeme (statement_form nodes statement).word ∷ spelling ++ close_brace ∷ []))
-      (begin_command-prove (reading names begun points) (codes "prove") rest refl ∙ ap (λ ns. taken (reading ns [] points) statement_slots) here)
+    (begin_command-prove (reading names begun points) (codes "prove") rest refl ∙ ap (λ ns. taken (reading ns [] points) statement_slots) here)
     ∙ walk_taken r r (statement_slot ∷ close_slot ∷ end_slot ∷ []) (slots ++ close_slot ∷ end_slot ∷ []) (word_lexeme (statement_form nodes statement).word) (spelling ++ close_brace ∷ [])
-      (ap (λ o. follow r o (close_slot ∷ end_slot ∷ [])) (sym (statement_due_behind nodes statement)))
+    (ap (λ o. follow r o (close_slot ∷ end_slot ∷ [])) (sym (statement_due_behind nodes statement)))
     ∙ go.goes (close_slot ∷ end_slot ∷ []) (close_brace ∷ [])

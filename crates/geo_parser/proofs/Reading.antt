@@ -124,7 +124,7 @@ module _ (F G : List Slot) (a b : Reader) (xs : List Lexeme) (h : Reads F a b xs
     terms = Extends-then a.terms b.terms c.terms h.terms k.terms;
     room = omega (arith, h.room, k.room);
     follows = λ begun rest.
-      ap (fault_of a begun) (append_assoc F G rest) ∙ h.follows begun (G ++ rest) ∙ k.follows begun rest;
+        ap (fault_of a begun) (append_assoc F G rest) ∙ h.follows begun (G ++ rest) ∙ k.follows begun rest;
   }
 
   pub Refuses-then : (f : Fault) → Refuses G b f → Refuses (F ++ G) a f

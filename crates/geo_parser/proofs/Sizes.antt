@@ -30,7 +30,7 @@ pub number_short : (bytes : List ℕ) → IsDecimal bytes → decimal_size bytes
 number_short bytes = by (starts_with_minus bytes)
   where
     by : (b : Bool) → IsNumeral 10 (if b then drop 1 bytes else bytes) → digits_value 10 (if b then drop 1 bytes else bytes) < 2 ^ 127
-       → length (signed_decimal (if b then neg_ℤ (pos (digits_value 10 (if b then drop 1 bytes else bytes))) else pos (digits_value 10 (if b then drop 1 bytes else bytes)))) ≤ length bytes
+        → length (signed_decimal (if b then neg_ℤ (pos (digits_value 10 (if b then drop 1 bytes else bytes))) else pos (digits_value 10 (if b then drop 1 bytes else bytes)))) ≤ length bytes
     by true numeral small =
         omega (arith, negative_short (digits_value 10 (drop 1 bytes)) (length (drop 1 bytes)) (decimal_short (drop 1 bytes) numeral small), length-drop 1 bytes, numeral.0)
     by false numeral small = decimal_short bytes numeral small
