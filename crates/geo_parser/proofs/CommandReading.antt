@@ -1,5 +1,5 @@
 -- Reading the words and the names of commands.
-use Rattle.std.proofs.Common.{◌≡◌, ℕ, ◌+◌, ◌<◌, ◌≤◌, Bool, true, false, List, [], ◌∷◌, ◌++◌, length, Some, None, codes, refl, sym, ap, ◌∙◌, subst, arith, length-append}
+use Rattle.std.proofs.Common.{◌≡◌, ℕ, ◌+◌, ◌≤◌, Bool, true, false, List, [], ◌∷◌, ◌++◌, length, Some, None, codes, refl, sym, ap, ◌∙◌, subst, arith, length-append}
 use Rattle.std.specs.Prelude.{All, Contains, Option, if◌then◌else◌, nat_le}
 use Rattle.std.specs.List.{flat_map}
 use Rattle.std.proofs.lemmas.List.{append-nil, length-map}
@@ -8,7 +8,7 @@ use Rattle.geo_lexer.specs.Lexemes.{Lexeme, word_lexeme, number_lexeme, open_bra
 use Rattle.geo_program.specs.CanonicalText.{argument_lexemes, sketch_lexemes}
 use Rattle.geo_program.specs.Forms.{command_form}
 use Rattle.geo_program.specs.WellFormed.{IsArgument, empty_scope, scope_of}
-use Rattle.geo_program.specs.Words.{IsNameText, reserved_words}
+use Rattle.geo_program.specs.Words.{reserved_words}
 use Rattle.geo_program.specs.declared.commands.Command.{Command}
 use Rattle.geo_program.specs.declared.names.Name.{Name}
 use Rattle.geo_program.specs.declared.names.NameKind.{NameKind}
@@ -21,7 +21,7 @@ use Rattle.geo_parser.specs.Forms.{Slot, command_slot, commands, due_behind, new
 use Rattle.geo_parser.specs.Pieces.{IsWord}
 use Rattle.geo_parser.specs.Reads.{Passes, ReadsCommand, ReadsForm, ReadsNewName, ReadsProve, ReadsWord, Refuses, a_name, extent, fault_of, reading, statement_slots}
 use Rattle.geo_parser.specs.Refusals.{fault_at, first_fault}
-use Rattle.geo_parser.specs.Slots.{Outcome, Reading, begin_command, begin_name, completed, follow, is_reserved, next, refused, taken}
+use Rattle.geo_parser.specs.Slots.{Outcome, Reading, begin_command, completed, follow, next, refused, taken}
 use Rattle.geo_parser.specs.Texts.{is_text}
 use Rattle.geo_parser.proofs.NameUses.{begin_name-new, begun}
 use Rattle.geo_parser.proofs.Reading.{Extends-same, Extends-then, Passes-then, Passes-token, Refuses-first, Refuses-token, advanced, first_fault-taken}

@@ -1,15 +1,14 @@
 -- Reading the commands one after another.
-use Rattle.std.proofs.Common.{◌≡◌, true≢false, ℕ, zero, suc, ◌+◌, ◌≤◌, ◌<◌, Bool, true, false, cond, List, [], ◌∷◌, ◌++◌, length, get_or, map, Some, None, codes, refl, sym, ap, ◌∙◌, subst, arith, length-append}
-use Rattle.std.specs.Prelude.{All, Contains, IfNone, IfSome, Option, find, sum_by}
+use Rattle.std.proofs.Common.{◌≡◌, true≢false, ℕ, zero, suc, ◌<◌, Bool, true, false, cond, List, [], ◌∷◌, ◌++◌, length, get_or, map, Some, None, refl, sym, ap, ◌∙◌, subst, arith}
+use Rattle.std.specs.Prelude.{All, Contains, IfNone, IfSome, Option, sum_by}
 use Rattle.std.specs.List.{flat_map}
 use Rattle.std.proofs.lemmas.Grind.{flat_map-append}
 use Rattle.std.proofs.lemmas.List.{append-nil, length-map, length_push}
 use Rattle.std.proofs.lemmas.List.Elements.{All-nil, All-push}
 use Rattle.std.proofs.lemmas.List.Sums.{sum_by-cons, sum_by_push}
 use Rattle.geo_lexer.specs.Lexemes.{Lexeme, word_lexeme}
-use Rattle.geo_program.specs.CanonicalText.{Sketch, argument_lexemes, command_lexemes, commands_lexemes, sketch_lexemes}
+use Rattle.geo_program.specs.CanonicalText.{argument_lexemes, command_lexemes, commands_lexemes, sketch_lexemes}
 use Rattle.geo_program.specs.Forms.{command_form}
-use Rattle.geo_program.specs.Spelling.{AreSketches}
 use Rattle.geo_program.specs.WellFormed.{AllDiffer, AreCommands, IsArgument, IsCommand, empty_scope, scope_of}
 use Rattle.geo_program.specs.Words.{IsNameText}
 use Rattle.geo_program.specs.declared.commands.Command.{Command}
@@ -20,10 +19,9 @@ use Rattle.geo_program.proofs.Staying.{AreCommands-kept, KeepsTrees, command_lex
 use Rattle.geo_terms.specs.Stores.{Store}
 use Rattle.geo_parser.specs.declared.command_words.CommandWord.{CommandWord}
 use Rattle.geo_parser.specs.declared.reader.Reader.{Reader}
-use Rattle.geo_parser.specs.CommandWords.{command_due, command_kind, command_points, command_text}
+use Rattle.geo_parser.specs.CommandWords.{command_kind, command_text}
 use Rattle.geo_parser.specs.Dictionaries.{name_of}
-use Rattle.geo_parser.specs.Forms.{command_slot}
-use Rattle.geo_parser.specs.Reads.{Extends, Passes, ReadsCommand, ReadsCommands, ReadsWord, a_name, extent, fault_of}
+use Rattle.geo_parser.specs.Reads.{Extends, Passes, ReadsCommand, ReadsCommands, ReadsWord, a_name}
 use Rattle.geo_parser.specs.Texts.{is_text}
 use Rattle.geo_parser.proofs.CommandReading.{Passes-length}
 use Rattle.geo_parser.proofs.Finding.{is_text_self}

@@ -19,7 +19,7 @@ use Rattle.geo_program.proofs.NameLemmas.{is_kind_self, same_kind, name_text-app
 use Rattle.geo_parser.specs.declared.dictionary.Counts.{Counts}
 use Rattle.geo_parser.specs.declared.dictionary.Meaning.{Meaning}
 use Rattle.geo_parser.specs.Dictionaries.{IsDictionary, IsMeant, IsMisused, IsNew, IsNoNewName, IsNumbered, Tells, count_of, counted, name_of}
-use Rattle.geo_parser.specs.Slots.{Reading, is_reserved}
+use Rattle.geo_parser.specs.Slots.{is_reserved}
 use Rattle.geo_parser.specs.Texts.{is_text}
 use Rattle.geo_parser.proofs.Finding.{is_text_lem, is_text_self}
 use Rattle.geo_parser.proofs.NameUses.{begin_name-declared, begin_name-reserved, use_name-known, use_name-reserved, use_name-unknown}

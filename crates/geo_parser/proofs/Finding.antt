@@ -1,7 +1,7 @@
 -- The first entry of a table, and what texts are the same.
 use Rattle.std.proofs.Common.{◌≡◌, ℕ, Bor, is_some, ◌||◌, ◌+◌, ◌<◌, ◌≤◌, Bool, true, false, cond, eqb, ◌&&◌, List, [], ◌∷◌, length, get_or, drop, map, Some, None, refl, sym, ap, ◌∙◌}
 use Rattle.std.specs.List.{list_any}
-use Rattle.std.specs.Prelude.{IfSome, Option, find, option_map}
+use Rattle.std.specs.Prelude.{IfSome, find, option_map}
 use Rattle.std.specs.Str.{bytes_eq}
 use Rattle.std.proofs.lemmas.List.{drop_all, drop_more}
 use Rattle.std.proofs.lemmas.Slice.Eq.{bytes_eq-Decides}

@@ -1,16 +1,16 @@
 -- Going through the lexemes of commands and of the statement.
-use Rattle.std.proofs.Common.{◌≡◌, ◌⊎◌, inl, inr, true≢false, ℕ, ◌+◌, ◌<◌, ◌≤◌, Bool, true, false, List, [], ◌∷◌, ◌++◌, length, map, Some, None, codes, refl, sym, ap, ◌∙◌, subst, arith}
-use Rattle.std.specs.Prelude.{All, Option, ℤ, if◌then◌else◌, nat_le, sum_by}
+use Rattle.std.proofs.Common.{◌≡◌, ◌⊎◌, inl, inr, true≢false, ℕ, ◌+◌, ◌≤◌, Bool, true, false, List, [], ◌∷◌, ◌++◌, Some, None, codes, refl, sym, ap, ◌∙◌, subst, arith}
+use Rattle.std.specs.Prelude.{All, nat_le, sum_by}
 use Rattle.std.specs.List.{flat_map}
 use Rattle.std.proofs.lemmas.Bool.Decides.{nat_tests}
 use Rattle.std.proofs.lemmas.List.{append-nil, append_assoc}
 use Rattle.std.proofs.lemmas.List.Elements.{All-head, All-tail}
 use Rattle.std.proofs.lemmas.List.Sums.{sum_by-cons}
-use Rattle.geo_lexer.specs.Lexemes.{Lexeme, word_lexeme, number_lexeme, open_brace, close_brace}
+use Rattle.geo_lexer.specs.Lexemes.{Lexeme, word_lexeme, open_brace, close_brace}
 use Rattle.geo_program.specs.CanonicalText.{Sketch, argument_lexemes, command_lexemes, commands_lexemes, sketch_lexemes, statement_lexemes}
 use Rattle.geo_program.specs.Forms.{command_form, statement_form}
 use Rattle.geo_program.specs.Spelling.{AreSketches}
-use Rattle.geo_program.specs.WellFormed.{AllDiffer, AreCommands, IsArgument, IsCommand, declare, empty_scope, scope_of}
+use Rattle.geo_program.specs.WellFormed.{AllDiffer, AreCommands, IsArgument, IsCommand, empty_scope, scope_of}
 use Rattle.geo_program.specs.Words.{IsNameText}
 use Rattle.geo_program.specs.declared.commands.Command.{Command}
 use Rattle.geo_program.specs.declared.commands.Command.TheVariants.{Point}
@@ -23,8 +23,7 @@ use Rattle.geo_terms.specs.Stores.{Store}
 use Rattle.geo_parser.specs.Dictionaries.{name_of}
 use Rattle.geo_parser.specs.Forms.{Slot, close_slot, command_slot, end_slot, new_name_slot, sketch_slot, statement_slot}
 use Rattle.geo_parser.specs.Reads.{argument_slots, reading, statement_slots}
-use Rattle.geo_parser.specs.Slots.{Outcome, Reading, begin_command, completed, follow, taken}
-use Rattle.geo_parser.specs.Texts.{is_text}
+use Rattle.geo_parser.specs.Slots.{Reading, follow, taken}
 use Rattle.geo_parser.proofs.CommandReading.{begin_command-due, begin_command-prove}
 use Rattle.geo_parser.proofs.DueBehind.{command_due_behind, command_is_no_prove, is_point, last_slots, sketch_slots, slots_of, statement_due_behind}
 use Rattle.geo_parser.proofs.ExpressionWalks.{Goes-arguments}

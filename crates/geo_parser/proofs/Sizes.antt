@@ -1,6 +1,6 @@
 -- How long the lexemes of a text are when they are written out again.
-use Rattle.std.proofs.Common.{◌≡◌, ℕ, zero, suc, ◌+◌, ◌-◌, ◌*◌, ◌^◌, ◌≤◌, ◌<◌, lit≤, Bool, true, false, List, [], ◌∷◌, length, map, drop, refl, sym, ap, ◌∙◌, arith, length-drop, length-take}
-use Rattle.std.specs.Prelude.{ℤ, pos, neg_ℤ, if◌then◌else◌, slice_range, sum_by}
+use Rattle.std.proofs.Common.{◌≡◌, ℕ, zero, suc, ◌+◌, ◌-◌, ◌*◌, ◌^◌, ◌≤◌, ◌<◌, Bool, true, false, List, [], ◌∷◌, length, map, drop, arith, length-drop, length-take}
+use Rattle.std.specs.Prelude.{pos, neg_ℤ, if◌then◌else◌, slice_range, sum_by}
 use Rattle.std.specs.Fmt.{decimal, signed_decimal}
 use Rattle.std.specs.Str.Parse.{IsNumeral, digits_value, starts_with_minus}
 use Rattle.std.proofs.lemmas.Fmt.{length-decimal-le_wide}
@@ -10,7 +10,7 @@ use Rattle.geo_base.specs.Decimals.{IsDecimal, decimal_size, decimal_value}
 use Rattle.geo_lexer.specs.declared.token_types.Kind.{Kind}
 use Rattle.geo_lexer.specs.declared.token_types.Kind.TheVariants.{Word, Number, Open, Close}
 use Rattle.geo_lexer.specs.declared.token_types.Token.{Token}
-use Rattle.geo_lexer.specs.Lexemes.{Lexeme, lexeme_at, lexeme_of}
+use Rattle.geo_lexer.specs.Lexemes.{lexeme_at, lexeme_of}
 use Rattle.geo_lexer.specs.Tokens.{AreTokens, IsTokenAt}
 use Rattle.geo_lexer.proofs.TokenListLemmas.{IsTokenAt-within}
 use Rattle.geo_program.proofs.Lengths.{lexeme_size}
