@@ -1,5 +1,5 @@
 -- Reading the words and the names of commands.
-use Rattle.std.proofs.Common.{◌≡◌, ℕ, ◌+◌, ◌<◌, ◌≤◌, Bool, true, false, List, [], ◌∷◌, ◌++◌, length, Some, None, codes, refl, sym, ap, ◌∙◌, subst, arith, length-append}
+use Rattle.std.proofs.Common.{◌≡◌, ℕ, ◌+◌, ◌≤◌, Bool, true, false, List, [], ◌∷◌, ◌++◌, length, Some, None, codes, refl, sym, ap, ◌∙◌, subst, arith, length-append}
 use Rattle.std.specs.Prelude.{All, Contains, Option, if◌then◌else◌, nat_le}
 use Rattle.std.specs.List.{flat_map}
 use Rattle.std.proofs.lemmas.List.{append-nil, length-map}
@@ -8,7 +8,7 @@ use Rattle.geo_lexer.specs.Lexemes.{Lexeme, word_lexeme, number_lexeme, open_bra
 use Rattle.geo_program.specs.CanonicalText.{argument_lexemes, sketch_lexemes}
 use Rattle.geo_program.specs.Forms.{command_form}
 use Rattle.geo_program.specs.WellFormed.{IsArgument, empty_scope, scope_of}
-use Rattle.geo_program.specs.Words.{IsNameText, reserved_words}
+use Rattle.geo_program.specs.Words.{reserved_words}
 use Rattle.geo_program.specs.declared.commands.Command.{Command}
 use Rattle.geo_program.specs.declared.names.Name.{Name}
 use Rattle.geo_program.specs.declared.names.NameKind.{NameKind}
@@ -21,7 +21,7 @@ use Rattle.geo_parser.specs.Forms.{Slot, command_slot, commands, due_behind, new
 use Rattle.geo_parser.specs.Pieces.{IsWord}
 use Rattle.geo_parser.specs.Reads.{Passes, ReadsCommand, ReadsForm, ReadsNewName, ReadsProve, ReadsWord, Refuses, a_name, extent, fault_of, reading, statement_slots}
 use Rattle.geo_parser.specs.Refusals.{fault_at, first_fault}
-use Rattle.geo_parser.specs.Slots.{Outcome, Reading, begin_command, begin_name, completed, follow, is_reserved, next, refused, taken}
+use Rattle.geo_parser.specs.Slots.{Outcome, Reading, begin_command, completed, follow, next, refused, taken}
 use Rattle.geo_parser.specs.Texts.{is_text}
 use Rattle.geo_parser.proofs.NameUses.{begin_name-new, begun}
 use Rattle.geo_parser.proofs.Reading.{Extends-same, Extends-then, Passes-then, Passes-token, Refuses-first, Refuses-token, advanced, first_fault-taken}
@@ -52,7 +52,7 @@ module _ (s : Reader) (word : List ℕ) (is : next_lexeme s.cursor.tokens ≡ So
         points = refl;
         terms = refl;
         follows = λ rest. first_fault-taken _ _ _ _ s.cursor.tokens s.cursor.end s.cursor.stop (word_lexeme word) is
-          (begin_command-prove (reading s.names [] s.points) word rest h ∙ ap (λ r. taken r statement_slots) (completed_none s.names s.points));
+            (begin_command-prove (reading s.names [] s.points) word rest h ∙ ap (λ r. taken r statement_slots) (completed_none s.names s.points));
       }
 
   pub ReadsWord-token : (command : CommandWord) → is_text word (codes "prove") ≡ false → Some (command_due command) ≡ due_behind word commands → command_text command ≡ word → ReadsWord command s (advanced s)
@@ -63,14 +63,14 @@ module _ (s : Reader) (word : List ℕ) (is : next_lexeme s.cursor.tokens ≡ So
         points = refl;
         terms = refl;
         follows = λ rest. first_fault-taken _ _ _ _ s.cursor.tokens s.cursor.end s.cursor.stop (word_lexeme word) is
-          (begin_command-due (reading s.names [] s.points) word rest (Some (command_due command)) h due ∙ ap (λ r. taken r (command_due command ++ command_slot ∷ rest)) (completed_none s.names s.points));
+            (begin_command-due (reading s.names [] s.points) word rest (Some (command_due command)) h due ∙ ap (λ r. taken r (command_due command ++ command_slot ∷ rest)) (completed_none s.names s.points));
       }
 
   pub Refuses-no_command : is_text word (codes "prove") ≡ false → None ≡ due_behind word commands → Refuses (command_slot ∷ []) s (fault_here 4 s.cursor.tokens s.cursor.end s.cursor.stop)
   Refuses-no_command h none =
       Refuses-token (command_slot ∷ []) s (word_lexeme word) is 4 (λ begun rest. begin_command-due (reading s.names begun s.points) word rest None h none)
 
--- A NEW NAME
+  -- A NEW NAME
 
   -- a word that can be no new name is refused
   pub Refuses-no_new_name : (kind : NameKind) (points refusal : ℕ) → IsNoNewName s.names word refusal → Refuses (new_name_slot kind points ∷ []) s (fault_here refusal s.cursor.tokens s.cursor.end s.cursor.stop)
@@ -94,7 +94,7 @@ module _ (s : Reader) (word : List ℕ) (is : next_lexeme s.cursor.tokens ≡ So
       valid = record { first = valid.first; rest = valid.rest; short = valid.short; free = free };
       fresh = new;
       follows = λ kind begun rest. first_fault-taken _ _ _ _ s.cursor.tokens s.cursor.end s.cursor.stop (word_lexeme word) is
-        (begin_name-new (reading s.names begun s.points) s.names refl kind points word rest true new.free new.undeclared few);
+          (begin_name-new (reading s.names begun s.points) s.names refl kind points word rest true new.free new.undeclared few);
     }
 
 -- A COMMAND

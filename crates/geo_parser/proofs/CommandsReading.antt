@@ -1,15 +1,14 @@
 -- Reading the commands one after another.
-use Rattle.std.proofs.Common.{◌≡◌, true≢false, ℕ, zero, suc, ◌+◌, ◌≤◌, ◌<◌, Bool, true, false, cond, List, [], ◌∷◌, ◌++◌, length, get_or, map, Some, None, codes, refl, sym, ap, ◌∙◌, subst, arith, length-append}
-use Rattle.std.specs.Prelude.{All, Contains, IfNone, IfSome, Option, find, sum_by}
+use Rattle.std.proofs.Common.{◌≡◌, true≢false, ℕ, zero, suc, ◌<◌, Bool, true, false, cond, List, [], ◌∷◌, ◌++◌, length, get_or, map, Some, None, refl, sym, ap, ◌∙◌, subst, arith}
+use Rattle.std.specs.Prelude.{All, Contains, IfNone, IfSome, Option, sum_by}
 use Rattle.std.specs.List.{flat_map}
 use Rattle.std.proofs.lemmas.Grind.{flat_map-append}
 use Rattle.std.proofs.lemmas.List.{append-nil, length-map, length_push}
 use Rattle.std.proofs.lemmas.List.Elements.{All-nil, All-push}
 use Rattle.std.proofs.lemmas.List.Sums.{sum_by-cons, sum_by_push}
 use Rattle.geo_lexer.specs.Lexemes.{Lexeme, word_lexeme}
-use Rattle.geo_program.specs.CanonicalText.{Sketch, argument_lexemes, command_lexemes, commands_lexemes, sketch_lexemes}
+use Rattle.geo_program.specs.CanonicalText.{argument_lexemes, command_lexemes, commands_lexemes, sketch_lexemes}
 use Rattle.geo_program.specs.Forms.{command_form}
-use Rattle.geo_program.specs.Spelling.{AreSketches}
 use Rattle.geo_program.specs.WellFormed.{AllDiffer, AreCommands, IsArgument, IsCommand, empty_scope, scope_of}
 use Rattle.geo_program.specs.Words.{IsNameText}
 use Rattle.geo_program.specs.declared.commands.Command.{Command}
@@ -20,10 +19,9 @@ use Rattle.geo_program.proofs.Staying.{AreCommands-kept, KeepsTrees, command_lex
 use Rattle.geo_terms.specs.Stores.{Store}
 use Rattle.geo_parser.specs.declared.command_words.CommandWord.{CommandWord}
 use Rattle.geo_parser.specs.declared.reader.Reader.{Reader}
-use Rattle.geo_parser.specs.CommandWords.{command_due, command_kind, command_points, command_text}
+use Rattle.geo_parser.specs.CommandWords.{command_kind, command_text}
 use Rattle.geo_parser.specs.Dictionaries.{name_of}
-use Rattle.geo_parser.specs.Forms.{command_slot}
-use Rattle.geo_parser.specs.Reads.{Extends, Passes, ReadsCommand, ReadsCommands, ReadsWord, a_name, extent, fault_of}
+use Rattle.geo_parser.specs.Reads.{Extends, Passes, ReadsCommand, ReadsCommands, ReadsWord, a_name}
 use Rattle.geo_parser.specs.Texts.{is_text}
 use Rattle.geo_parser.proofs.CommandReading.{Passes-length}
 use Rattle.geo_parser.proofs.Finding.{is_text_self}
@@ -35,7 +33,7 @@ undeclared_at [] word none k lt is = absurd (omega arith)
 undeclared_at (n ∷ names) word none k lt is = by (is_text n.text word) refl none k lt is (undeclared_at names word)
   where
     by : (b : Bool) → is_text n.text word ≡ b → cond b (Some n) (name_of names word) ≡ None → (k' : ℕ) → k' < length (n ∷ names) → get_or (n.text ∷ map (λ m. m.text) names) k' word ≡ word
-       → (name_of names word ≡ None → (j : ℕ) → j < length names → get_or (map (λ m. m.text) names) j word ≡ word → ⊥) → ⊥
+        → (name_of names word ≡ None → (j : ℕ) → j < length names → get_or (map (λ m. m.text) names) j word ≡ word → ⊥) → ⊥
     by true h missing k' lt' is' rest = cc
     by false h missing zero lt' is' rest = true≢false (sym (sym h ∙ ap (λ t. is_text t word) is' ∙ is_text_self word))
     by false h missing (suc k') lt' is' rest = rest missing k' (omega arith) is'
@@ -107,7 +105,7 @@ module _ (a b c d : Reader) (commands : List Command) (word : CommandWord) (comm
   lines_are =
       commands_lexemes-push longer d.terms b.names commands h.sketches new command k.sketch (AreCommands-length b.terms empty_scope b.names commands h.made) (AreSketches-length commands h.sketches h.sketched)
       ∙ ap (λ lines. lines ++ (command_lexemes longer d.terms new command ++ sketch_lexemes k.sketch) ∷ [])
-        (commands_lexemes-kept [] b.names (new ∷ []) b.names b.terms d.terms commands h.sketches refl (KeepsTrees-extends b.terms d.terms terms_extend) h.made)
+      (commands_lexemes-kept [] b.names (new ∷ []) b.names b.terms d.terms commands h.sketches refl (KeepsTrees-extends b.terms d.terms terms_extend) h.made)
       ∙ ap (λ ls. commands_lexemes b.names b.terms b.names commands h.sketches ++ (ls ++ sketch_lexemes k.sketch) ∷ []) (command_lexemes-append b.names (new ∷ []) d.terms new command is_command)
 
   lexemes_are : flat_map (λ line. line) (commands_lexemes longer d.terms longer (commands ++ command ∷ []) (h.sketches ++ k.sketch ∷ [])) ≡ flat_map (λ line. line) (commands_lexemes b.names b.terms b.names commands h.sketches) ++ own

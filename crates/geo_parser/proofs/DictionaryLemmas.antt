@@ -19,7 +19,7 @@ use Rattle.geo_program.proofs.NameLemmas.{is_kind_self, same_kind, name_text-app
 use Rattle.geo_parser.specs.declared.dictionary.Counts.{Counts}
 use Rattle.geo_parser.specs.declared.dictionary.Meaning.{Meaning}
 use Rattle.geo_parser.specs.Dictionaries.{IsDictionary, IsMeant, IsMisused, IsNew, IsNoNewName, IsNumbered, Tells, count_of, counted, name_of}
-use Rattle.geo_parser.specs.Slots.{Reading, is_reserved}
+use Rattle.geo_parser.specs.Slots.{is_reserved}
 use Rattle.geo_parser.specs.Texts.{is_text}
 use Rattle.geo_parser.proofs.Finding.{is_text_lem, is_text_self}
 use Rattle.geo_parser.proofs.NameUses.{begin_name-declared, begin_name-reserved, use_name-known, use_name-reserved, use_name-unknown}
@@ -31,7 +31,7 @@ numbered names kind word meaning h same = record {
   within = subst (λ k. meaning.number < length (names_of k names)) same h.within;
   text = subst (λ k. name_text k names meaning.number ≡ word) same h.text;
   may_stand = λ r rest declared.
-    use_name-known r names declared kind word rest h.name true h.free h.named (ap (λ k. is_kind k kind) (h.kind ∙ same) ∙ is_kind_self kind);
+      use_name-known r names declared kind word rest h.name true h.free h.named (ap (λ k. is_kind k kind) (h.kind ∙ same) ∙ is_kind_self kind);
 }
 
 pub misused_kind : (names : List Name) (kind : NameKind) (word : List ℕ) (meaning : Meaning) → IsMeant names word meaning → is_kind meaning.kind kind ≡ false → IsMisused names kind word 7
@@ -127,7 +127,7 @@ module _ (names : List Name) (word : List ℕ) (kind : NameKind) where
     named = name_of-new word true new.undeclared (is_text_self word);
     kind = sym same;
     within = subst (λ k. meaning.number < length (names_of k (names ++ new_name ∷ []))) (sym same)
-    (omega (arith, last, ap length (names_of-push kind names new_name refl), length_push (names_of kind names) word));
+        (omega (arith, last, ap length (names_of-push kind names new_name refl), length_push (names_of kind names) word));
     text = subst (λ k. name_text k (names ++ new_name ∷ []) meaning.number ≡ word) (sym same) (name_text-push kind names new_name meaning.number refl (sym last));
   }
 

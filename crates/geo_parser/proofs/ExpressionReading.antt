@@ -1,19 +1,16 @@
 -- Reading an expression.
-use Rattle.std.proofs.Common.{◌≡◌, ℕ, ◌+◌, ◌<◌, ◌≤◌, ◌^◌, suc, max, Bool, true, false, not, ◌&&◌, IsTrue, List, [], ◌∷◌, ◌++◌, length, Some, None, codes, refl, sym, ap, ◌∙◌, subst, arith}
-use Rattle.std.specs.Prelude.{All, Option, find, if◌then◌else◌, option_map}
+use Rattle.std.proofs.Common.{◌≡◌, ℕ, ◌<◌, ◌≤◌, Bool, true, false, not, ◌&&◌, IsTrue, List, [], ◌∷◌, ◌++◌, Some, None, codes, refl, sym, ap, ◌∙◌, subst, arith}
+use Rattle.std.specs.Prelude.{All, Option, if◌then◌else◌}
 use Rattle.std.specs.List.{flat_map}
-use Rattle.std.proofs.lemmas.List.{append_assoc}
 use Rattle.std.proofs.lemmas.List.Elements.{All-head, All-tail}
 use Rattle.geo_points.specs.declared.ids.PointId.{PointId}
-use Rattle.geo_points.specs.declared.ids.TermId.{TermId}
 use Rattle.geo_lexer.specs.declared.token_types.Fault.{Fault}
-use Rattle.geo_lexer.specs.Lexemes.{Lexeme, word_lexeme, number_lexeme}
+use Rattle.geo_lexer.specs.Lexemes.{Lexeme, word_lexeme}
 use Rattle.geo_program.specs.CanonicalText.{argument_lexemes}
-use Rattle.geo_program.specs.Expressions.{IsExpression, braced, expression_lexemes, nesting}
+use Rattle.geo_program.specs.Expressions.{expression_lexemes}
 use Rattle.geo_program.specs.Forms.{Argument, point_argument}
 use Rattle.geo_program.specs.WellFormed.{IsArgument}
-use Rattle.geo_program.specs.declared.names.Name.{Name}
-use Rattle.geo_program.specs.declared.names.NameKind.TheVariants.{Param, Point}
+use Rattle.geo_program.specs.declared.names.NameKind.TheVariants.{Param}
 use Rattle.geo_program.proofs.ScopeLemmas.{params_declared}
 use Rattle.geo_terms.specs.declared.nodes.Node.{Node}
 use Rattle.geo_terms.specs.declared.nodes.Node.TheVariants.{S, P, R}
@@ -23,7 +20,7 @@ use Rattle.geo_parser.specs.declared.expression_words.ExpressionWord.TheVariants
 use Rattle.geo_parser.specs.declared.reader.Reader.{Reader}
 use Rattle.geo_parser.specs.Coming.{next_lexeme}
 use Rattle.geo_parser.specs.Forms.{Slot, due_behind, expression_slot, expressions, name_slot}
-use Rattle.geo_parser.specs.Reads.{IsTree, Reads, ReadsArguments, ReadsFormed, ReadsName, ReadsNode, Refuses, extent, reading, scope, tree_of_node}
+use Rattle.geo_parser.specs.Reads.{Reads, ReadsArguments, ReadsFormed, ReadsName, ReadsNode, Refuses, reading, scope, tree_of_node}
 use Rattle.geo_parser.specs.Slots.{Outcome, Reading, begin_expression, refused, taken, use_name}
 use Rattle.geo_parser.specs.StatementWords.{expression_due, expression_text}
 use Rattle.geo_parser.specs.Texts.{is_text}

@@ -1,9 +1,8 @@
 -- Going through the lexemes of an expression and of arguments.
-use Rattle.std.proofs.Common.{◌≡◌, ℕ, suc, ◌+◌, ◌<◌, ◌≤◌, max, Bool, true, false, ◌||◌, not, IsTrue, List, [], ◌∷◌, ◌++◌, length, map, Some, None, codes, is_some, refl, sym, ap, ◌∙◌, subst, arith}
-use Rattle.std.specs.Prelude.{All, Option, if◌then◌else◌, nat_le}
-use Rattle.std.specs.List.{flat_map, list_any}
+use Rattle.std.proofs.Common.{◌≡◌, ℕ, ◌+◌, ◌<◌, ◌≤◌, Bool, true, false, IsTrue, List, [], ◌∷◌, ◌++◌, length, map, Some, refl, ap, ◌∙◌, subst, arith}
+use Rattle.std.specs.Prelude.{All, if◌then◌else◌, nat_le}
+use Rattle.std.specs.List.{flat_map}
 use Rattle.std.proofs.lemmas.Bool.Decides.{nat_tests}
-use Rattle.std.proofs.lemmas.List.{append-nil}
 use Rattle.std.proofs.lemmas.List.Elements.{All-head, All-tail}
 use Rattle.geo_points.specs.declared.ids.PointId.{PointId}
 use Rattle.geo_lexer.specs.Lexemes.{Lexeme, word_lexeme, number_lexeme, open_brace, close_brace}
@@ -20,11 +19,10 @@ use Rattle.geo_program.proofs.ScopeLemmas.{lines_declared, params_declared, poin
 use Rattle.geo_terms.specs.Trees.{Tree, integer_leaf, parameter_leaf, area_leaf, pythagoras_leaf, ratio_leaf, negation, addition, subtraction, multiplication, division}
 use Rattle.geo_parser.specs.declared.expression_words.ExpressionWord.{ExpressionWord}
 use Rattle.geo_parser.specs.declared.expression_words.ExpressionWord.TheVariants.{SignedArea, PythagorasDifference, Ratio, Neg, Sum, Sub, Mult, Div}
-use Rattle.geo_parser.specs.Forms.{Slot, a_line, a_number, a_point, close_slot, due_behind, expression_slot, expressions, name_slot, open_slot, part, side}
+use Rattle.geo_parser.specs.Forms.{a_point, close_slot, due_behind, expression_slot, expressions, name_slot, open_slot}
 use Rattle.geo_parser.specs.Reads.{argument_slots}
-use Rattle.geo_parser.specs.Slots.{Reading, is_reserved, next, refused, taken}
+use Rattle.geo_parser.specs.Slots.{Reading, refused, taken}
 use Rattle.geo_parser.specs.StatementWords.{expression_due, expression_text}
-use Rattle.geo_parser.specs.Texts.{is_text}
 use Rattle.geo_parser.proofs.ExpressionReading.{begin_expression-form, begin_expression-name}
 use Rattle.geo_parser.proofs.Known.{known}
 use Rattle.geo_parser.proofs.NameUses.{use_name-known}

@@ -1,7 +1,7 @@
 -- The first entry of a table, and what texts are the same.
 use Rattle.std.proofs.Common.{◌≡◌, ℕ, Bor, is_some, ◌||◌, ◌+◌, ◌<◌, ◌≤◌, Bool, true, false, cond, eqb, ◌&&◌, List, [], ◌∷◌, length, get_or, drop, map, Some, None, refl, sym, ap, ◌∙◌}
 use Rattle.std.specs.List.{list_any}
-use Rattle.std.specs.Prelude.{IfSome, Option, find, option_map}
+use Rattle.std.specs.Prelude.{IfSome, find, option_map}
 use Rattle.std.specs.Str.{bytes_eq}
 use Rattle.std.proofs.lemmas.List.{drop_all, drop_more}
 use Rattle.std.proofs.lemmas.Slice.Eq.{bytes_eq-Decides}
@@ -63,8 +63,8 @@ found-map [] word = refl
 found-map {W} (e ∷ es) word = by (is_text e.0.now word) (found-map es word)
   where
     by : (b : Bool) → found (map (λ (d : Bor (List ℕ) × W). (d.0.now, d.1)) es) word ≡ option_map (λ (d : Bor (List ℕ) × W). d.1) (find (λ d. is_text d.0.now word) es)
-       → option_map (λ (d : List ℕ × W). d.1) (cond b (Some (e.0.now, e.1)) (find (λ d. is_text d.0 word) (map (λ (d : Bor (List ℕ) × W). (d.0.now, d.1)) es)))
-       ≡ option_map (λ (d : Bor (List ℕ) × W). d.1) (cond b (Some e) (find (λ d. is_text d.0.now word) es))
+        → option_map (λ (d : List ℕ × W). d.1) (cond b (Some (e.0.now, e.1)) (find (λ d. is_text d.0 word) (map (λ (d : Bor (List ℕ) × W). (d.0.now, d.1)) es)))
+        ≡ option_map (λ (d : Bor (List ℕ) × W). d.1) (cond b (Some e) (find (λ d. is_text d.0.now word) es))
     by true h = refl
     by false h = h
 
@@ -77,8 +77,8 @@ due_behind-dues due [] word = refl
 due_behind-dues due (e ∷ es) word = by (is_text e.0 word) (due_behind-dues due es word)
   where
     by : (b : Bool) → option_map due (found es word) ≡ due_behind word (dues due es)
-       → option_map due (option_map (λ d. d.1) (cond b (Some e) (find (λ d. is_text d.0 word) es)))
-       ≡ option_map (λ d. d.1) (cond b (Some (e.0, due e.1)) (find (λ d. is_text d.0 word) (dues due es)))
+        → option_map due (option_map (λ d. d.1) (cond b (Some e) (find (λ d. is_text d.0 word) es)))
+        ≡ option_map (λ d. d.1) (cond b (Some (e.0, due e.1)) (find (λ d. is_text d.0 word) (dues due es)))
     by true h = refl
     by false h = h
 
@@ -88,7 +88,7 @@ text_found text [] word h = tt
 text_found text (e ∷ es) word h = by (is_text e.0 word) refl (text_found text es word cc)
   where
     by : (b : Bool) → is_text e.0 word ≡ b → IfSome (found es word) (λ w. text w ≡ word)
-       → IfSome (option_map (λ d. d.1) (cond b (Some e) (find (λ d. is_text d.0 word) es))) (λ w. text w ≡ word)
+        → IfSome (option_map (λ d. d.1) (cond b (Some e) (find (λ d. is_text d.0 word) es))) (λ w. text w ≡ word)
     by true passed rest = let same : text e.1 ≡ e.0 = cc in same ∙ same_text e.0 word passed
     by false failed rest = rest
 
@@ -98,7 +98,7 @@ is_some-found [] word = refl
 is_some-found (e ∷ es) word = by (is_text e.0 word) (is_text word e.0) (is_text_sym e.0 word) (is_some-found es word)
   where
     by : (b c : Bool) → b ≡ c → is_some (found es word) ≡ list_any (is_text word) (map (λ d. d.0) es)
-       → is_some (option_map (λ d. d.1) (cond b (Some e) (find (λ d. is_text d.0 word) es))) ≡ (c || list_any (is_text word) (map (λ d. d.0) es))
+        → is_some (option_map (λ d. d.1) (cond b (Some e) (find (λ d. is_text d.0 word) es))) ≡ (c || list_any (is_text word) (map (λ d. d.0) es))
     by true true h rest = refl
     by false false h rest = rest
     by true false h rest = cc

@@ -1,5 +1,5 @@
 -- Reading what stands behind a command's new name and behind a statement's word.
-use Rattle.std.proofs.Common.{◌≡◌, ℕ, ◌+◌, ◌≤◌, ◌<◌, Bool, true, false, List, [], ◌∷◌, ◌++◌, length, Some, None, inl, refl, sym, ap, ◌∙◌, subst, arith}
+use Rattle.std.proofs.Common.{◌≡◌, ℕ, ◌≤◌, true, false, List, [], ◌∷◌, length, None, inl, refl, sym, ap, ◌∙◌, subst, arith}
 use Rattle.std.specs.Prelude.{All}
 use Rattle.std.specs.List.{flat_map}
 use Rattle.std.proofs.lemmas.List.{append-nil}
@@ -9,14 +9,13 @@ use Rattle.geo_lexer.specs.declared.token_types.Fault.{Fault}
 use Rattle.geo_lexer.specs.Lexemes.{Lexeme, word_lexeme, open_brace, close_brace}
 use Rattle.geo_program.specs.CanonicalText.{argument_lexemes}
 use Rattle.geo_program.specs.Expressions.{braced, expression_lexemes}
-use Rattle.geo_program.specs.Forms.{AreSidesStored, Argument, CommandForm, IsStored, StatementForm, command_form, form, number_argument, side_argument, statement_form}
+use Rattle.geo_program.specs.Forms.{AreSidesStored, Argument, IsStored, StatementForm, command_form, form, number_argument, side_argument, statement_form}
 use Rattle.geo_program.specs.WellFormed.{IsArgument, empty_scope, scope_of}
 use Rattle.geo_program.specs.declared.commands.Command.{Command}
 use Rattle.geo_program.specs.declared.names.Name.{Name}
 use Rattle.geo_program.specs.declared.statements.Statement.{Statement}
 use Rattle.geo_program.proofs.Staying.{AreSidesStored-kept, statement_form-kept}
 use Rattle.geo_terms.specs.Stores.{tree_of}
-use Rattle.geo_terms.specs.Trees.{Tree}
 use Rattle.geo_parser.specs.declared.command_words.CommandWord.{CommandWord}
 use Rattle.geo_parser.specs.declared.reader.Reader.{Reader}
 use Rattle.geo_parser.specs.declared.statement_words.StatementWord.{StatementWord}

@@ -1,8 +1,7 @@
 -- The names of a well-formed program, one by one.
-use Rattle.std.proofs.Common.{◌≡◌, ℕ, zero, suc, ◌+◌, ◌<◌, Bool, true, false, ◌||◌, cond, List, [], ◌∷◌, ◌++◌, length, get_or, map, Some, None, true≢false, refl, sym, ap, ◌∙◌, subst, arith}
-use Rattle.std.specs.Prelude.{All, Contains, Option, find, if◌then◌else◌}
+use Rattle.std.proofs.Common.{◌≡◌, ℕ, zero, suc, ◌<◌, Bool, true, false, ◌||◌, cond, List, [], ◌∷◌, ◌++◌, length, get_or, map, Some, None, true≢false, refl, sym, ap, ◌∙◌, subst, arith}
+use Rattle.std.specs.Prelude.{All, Contains, if◌then◌else◌}
 use Rattle.std.specs.List.{cons_option, list_any}
-use Rattle.std.proofs.lemmas.List.{length-map}
 use Rattle.std.proofs.lemmas.List.Elements.{All-head, All-tail}
 use Rattle.geo_program.specs.WellFormed.{AllDiffer}
 use Rattle.geo_program.specs.Words.{IsNameText, reserved_words}
@@ -77,7 +76,7 @@ known kind [] k texts differ within = absurd (omega arith)
 known kind (n ∷ names) k texts differ within = by (is_kind n.kind kind) refl k within (λ j lt. known kind names j (All-tail (λ m. IsNameText m.text) n names texts) differ.1 lt)
   where
     by : (b : Bool) → is_kind n.kind kind ≡ b → (k' : ℕ) → k' < length (cons_option (if b then Some n.text else None) (names_of kind names))
-       → ((j : ℕ) → j < length (names_of kind names) → IsKnown names kind (name_text kind names j)) → IsKnown (n ∷ names) kind (get_or (cons_option (if b then Some n.text else None) (names_of kind names)) k' [])
+        → ((j : ℕ) → j < length (names_of kind names) → IsKnown names kind (name_text kind names j)) → IsKnown (n ∷ names) kind (get_or (cons_option (if b then Some n.text else None) (names_of kind names)) k' [])
     by true same zero lt rest = record {
       name = n;
       named = ap (λ b. cond b (Some n) (name_of names n.text)) (is_text_self n.text);

@@ -1,13 +1,12 @@
 -- What comes of a word where a name is due.
-use Rattle.std.proofs.Common.{◌≡◌, ℕ, ◌+◌, ◌≤◌, Bool, true, false, List, [], ◌∷◌, Some, None, refl, sym, ap, ◌∙◌}
-use Rattle.std.specs.Prelude.{Option, find, if◌then◌else◌, nat_le}
+use Rattle.std.proofs.Common.{◌≡◌, ℕ, ◌+◌, Bool, true, false, List, [], ◌∷◌, Some, None, refl, ap, ◌∙◌}
+use Rattle.std.specs.Prelude.{Option, if◌then◌else◌, nat_le}
 use Rattle.geo_program.specs.declared.names.Name.{Name}
 use Rattle.geo_program.specs.declared.names.NameKind.{NameKind}
 use Rattle.geo_program.specs.Names.{is_kind}
 use Rattle.geo_parser.specs.Dictionaries.{name_of}
 use Rattle.geo_parser.specs.Forms.{Slot}
 use Rattle.geo_parser.specs.Slots.{Outcome, Reading, begin_name, declared_name, is_reserved, refused, taken, use_name}
-use Rattle.geo_parser.specs.Texts.{is_text}
 
 -- a use, by what is known of the word
 abbrev by_kind : Bool → Reading → List Slot → Outcome

@@ -1,17 +1,17 @@
 -- Reading a whole program.
-use Rattle.std.proofs.Common.{◌≡◌, ℕ, ◌+◌, ◌*◌, ◌≤◌, ◌<◌, List, [], ◌∷◌, ◌++◌, length, map, Some, None, codes, refl, sym, ap, ◌∙◌, subst, arith}
+use Rattle.std.proofs.Common.{◌≡◌, ℕ, ◌*◌, ◌≤◌, List, [], ◌∷◌, ◌++◌, length, map, Some, None, codes, refl, sym, ap, ◌∙◌, subst, arith}
 use Rattle.std.specs.Prelude.{All, Option, sum_by}
 use Rattle.std.specs.List.{flat_map}
 use Rattle.std.proofs.lemmas.Grind.{flat_map-append}
-use Rattle.std.proofs.lemmas.List.{append-nil, append_assoc, length-map}
+use Rattle.std.proofs.lemmas.List.{append-nil, length-map}
 use Rattle.geo_lexer.specs.declared.token_types.Fault.{Fault}
 use Rattle.geo_lexer.specs.declared.token_types.Token.{Token}
-use Rattle.geo_lexer.specs.Lexemes.{HasLexemes, Lexeme, lexeme_of, word_lexeme}
-use Rattle.geo_lexer.specs.Tokens.{IsLexed, IsTokenAt}
+use Rattle.geo_lexer.specs.Lexemes.{Lexeme, lexeme_of, word_lexeme}
+use Rattle.geo_lexer.specs.Tokens.{IsLexed}
 use Rattle.geo_lexer.proofs.TokenListLemmas.{StandInRow-lexed}
 use Rattle.geo_program.specs.CanonicalText.{argument_lexemes, canonical_text, commands_lexemes, line_lexemes, statement_lexemes}
 use Rattle.geo_program.specs.Expressions.{braced}
-use Rattle.geo_program.specs.Forms.{command_form, statement_form}
+use Rattle.geo_program.specs.Forms.{statement_form}
 use Rattle.geo_program.specs.Spelling.{SpellsSource}
 use Rattle.geo_program.specs.WellFormed.{AllDiffer, AreCommands, IsArgument, IsWellFormed, Source, empty_scope, scope_of}
 use Rattle.geo_program.specs.Words.{IsNameText}
@@ -21,11 +21,10 @@ use Rattle.geo_program.specs.declared.statements.Statement.{Statement}
 use Rattle.geo_program.proofs.Lengths.{canonical_text_short, lexeme_size}
 use Rattle.geo_program.proofs.Pushing.{AreSketches-length, commands_lexemes-kept}
 use Rattle.geo_program.proofs.Staying.{AreCommands-kept}
-use Rattle.geo_terms.specs.Stores.{Store}
 use Rattle.geo_parser.specs.declared.reader.Reader.{Reader}
 use Rattle.geo_parser.specs.Coming.{Coming, lexemes_of}
 use Rattle.geo_parser.specs.Forms.{command_slot}
-use Rattle.geo_parser.specs.Reads.{Extends, Passes, ReadsAllCommands, ReadsStatement, Refuses, extent, fault_of, scope, statement_slots}
+use Rattle.geo_parser.specs.Reads.{Extends, Passes, ReadsAllCommands, ReadsStatement, Refuses, extent, fault_of, statement_slots}
 use Rattle.geo_parser.specs.Refusals.{IsRefused, placed_lexemes}
 use Rattle.geo_parser.proofs.CommandReading.{Passes-length}
 use Rattle.geo_parser.proofs.CommandsReading.{KeepsTrees-extends, points_kept}

@@ -1,16 +1,16 @@
 -- Going through the lexemes of commands and of the statement.
-use Rattle.std.proofs.Common.{◌≡◌, ◌⊎◌, inl, inr, true≢false, ℕ, ◌+◌, ◌<◌, ◌≤◌, Bool, true, false, List, [], ◌∷◌, ◌++◌, length, map, Some, None, codes, refl, sym, ap, ◌∙◌, subst, arith}
-use Rattle.std.specs.Prelude.{All, Option, ℤ, if◌then◌else◌, nat_le, sum_by}
+use Rattle.std.proofs.Common.{◌≡◌, ◌⊎◌, inl, inr, true≢false, ℕ, ◌+◌, ◌≤◌, Bool, true, false, List, [], ◌∷◌, ◌++◌, Some, None, codes, refl, sym, ap, ◌∙◌, subst, arith}
+use Rattle.std.specs.Prelude.{All, nat_le, sum_by}
 use Rattle.std.specs.List.{flat_map}
 use Rattle.std.proofs.lemmas.Bool.Decides.{nat_tests}
 use Rattle.std.proofs.lemmas.List.{append-nil, append_assoc}
 use Rattle.std.proofs.lemmas.List.Elements.{All-head, All-tail}
 use Rattle.std.proofs.lemmas.List.Sums.{sum_by-cons}
-use Rattle.geo_lexer.specs.Lexemes.{Lexeme, word_lexeme, number_lexeme, open_brace, close_brace}
+use Rattle.geo_lexer.specs.Lexemes.{Lexeme, word_lexeme, open_brace, close_brace}
 use Rattle.geo_program.specs.CanonicalText.{Sketch, argument_lexemes, command_lexemes, commands_lexemes, sketch_lexemes, statement_lexemes}
 use Rattle.geo_program.specs.Forms.{command_form, statement_form}
 use Rattle.geo_program.specs.Spelling.{AreSketches}
-use Rattle.geo_program.specs.WellFormed.{AllDiffer, AreCommands, IsArgument, IsCommand, declare, empty_scope, scope_of}
+use Rattle.geo_program.specs.WellFormed.{AllDiffer, AreCommands, IsArgument, IsCommand, empty_scope, scope_of}
 use Rattle.geo_program.specs.Words.{IsNameText}
 use Rattle.geo_program.specs.declared.commands.Command.{Command}
 use Rattle.geo_program.specs.declared.commands.Command.TheVariants.{Point}
@@ -23,8 +23,7 @@ use Rattle.geo_terms.specs.Stores.{Store}
 use Rattle.geo_parser.specs.Dictionaries.{name_of}
 use Rattle.geo_parser.specs.Forms.{Slot, close_slot, command_slot, end_slot, new_name_slot, sketch_slot, statement_slot}
 use Rattle.geo_parser.specs.Reads.{argument_slots, reading, statement_slots}
-use Rattle.geo_parser.specs.Slots.{Outcome, Reading, begin_command, completed, follow, taken}
-use Rattle.geo_parser.specs.Texts.{is_text}
+use Rattle.geo_parser.specs.Slots.{Reading, follow, taken}
 use Rattle.geo_parser.proofs.CommandReading.{begin_command-due, begin_command-prove}
 use Rattle.geo_parser.proofs.DueBehind.{command_due_behind, command_is_no_prove, is_point, last_slots, sketch_slots, slots_of, statement_due_behind}
 use Rattle.geo_parser.proofs.ExpressionWalks.{Goes-arguments}
@@ -146,10 +145,10 @@ commands_go before (name ∷ names) all nodes (command ∷ commands) (sketch ∷
       points = others.points;
       declared = others.declared;
       goes =
-        ap (walk (reading declared begun points) (command_slot ∷ rest))
-        (append_assoc (command_lexemes all nodes name command ++ sketch_lexemes sketch) (flat_map (λ (line : List Lexeme). line) (commands_lexemes all nodes names commands sketches)) (word_lexeme (codes "prove") ∷ more)
-        ∙ ap (λ ls. (ls ++ sketch_lexemes sketch) ++ later) spelling)
-        ∙ one ∙ others.goes;
+          ap (walk (reading declared begun points) (command_slot ∷ rest))
+          (append_assoc (command_lexemes all nodes name command ++ sketch_lexemes sketch) (flat_map (λ (line : List Lexeme). line) (commands_lexemes all nodes names commands sketches)) (word_lexeme (codes "prove") ∷ more)
+          ∙ ap (λ ls. (ls ++ sketch_lexemes sketch) ++ later) spelling)
+          ∙ one ∙ others.goes;
     }
 
 -- THE STATEMENT
@@ -164,7 +163,7 @@ statement_goes names begun all points nodes statement rest here texts differ val
     let r = reading all [] points in
     let go = Goes-arguments all texts differ r refl arguments valid in
     walk_taken (reading names begun points) r (command_slot ∷ rest) statement_slots (word_lexeme (codes "prove")) (open_brace ∷ (word_lexeme (statement_form nodes statement).word ∷ spelling ++ close_brace ∷ []))
-      (begin_command-prove (reading names begun points) (codes "prove") rest refl ∙ ap (λ ns. taken (reading ns [] points) statement_slots) here)
+    (begin_command-prove (reading names begun points) (codes "prove") rest refl ∙ ap (λ ns. taken (reading ns [] points) statement_slots) here)
     ∙ walk_taken r r (statement_slot ∷ close_slot ∷ end_slot ∷ []) (slots ++ close_slot ∷ end_slot ∷ []) (word_lexeme (statement_form nodes statement).word) (spelling ++ close_brace ∷ [])
-      (ap (λ o. follow r o (close_slot ∷ end_slot ∷ [])) (sym (statement_due_behind nodes statement)))
+    (ap (λ o. follow r o (close_slot ∷ end_slot ∷ [])) (sym (statement_due_behind nodes statement)))
     ∙ go.goes (close_slot ∷ end_slot ∷ []) (close_brace ∷ [])

@@ -1,5 +1,5 @@
 -- One token that is read or refused, and what is read one after another.
-use Rattle.std.proofs.Common.{◌≡◌, ℕ, ◌+◌, ◌<◌, ◌≤◌, List, [], ◌∷◌, ◌++◌, length, map, Some, None, refl, sym, ap, ◌∙◌, subst, arith}
+use Rattle.std.proofs.Common.{◌≡◌, ℕ, ◌+◌, List, [], ◌∷◌, ◌++◌, length, map, Some, refl, sym, ap, ◌∙◌, subst, arith}
 use Rattle.std.specs.Prelude.{All, Err, IfSome, IsErrAnd, Option, Result, option_map}
 use Rattle.std.proofs.lemmas.Grind.{flat_map-append}
 use Rattle.std.proofs.lemmas.List.{append_assoc}
@@ -18,10 +18,10 @@ use Rattle.geo_parser.specs.declared.cursor.Piece.{Piece}
 use Rattle.geo_parser.specs.declared.errors.ParseError.{ParseError}
 use Rattle.geo_parser.specs.declared.errors.ParseError.TheVariants.{Syntax}
 use Rattle.geo_parser.specs.declared.reader.Reader.{Reader}
-use Rattle.geo_parser.specs.Coming.{Coming, fault_from, fault_here, lexemes_of, next_lexeme, tail}
+use Rattle.geo_parser.specs.Coming.{Coming, fault_here, lexemes_of, next_lexeme, tail}
 use Rattle.geo_parser.specs.Forms.{Slot}
 use Rattle.geo_parser.specs.Pieces.{IsPiece, piece_lexeme}
-use Rattle.geo_parser.specs.Reads.{Extends, Passes, Reads, ReadsArguments, ReadsName, Refuses, argument_slots, extent, fault_of, reading, scope}
+use Rattle.geo_parser.specs.Reads.{Extends, Passes, Reads, ReadsArguments, ReadsName, Refuses, argument_slots, fault_of, reading, scope}
 use Rattle.geo_parser.specs.Refusals.{fault_at, first_fault}
 use Rattle.geo_parser.specs.Slots.{Outcome, Reading, next, refused, taken}
 
@@ -124,7 +124,7 @@ module _ (F G : List Slot) (a b : Reader) (xs : List Lexeme) (h : Reads F a b xs
     terms = Extends-then a.terms b.terms c.terms h.terms k.terms;
     room = omega (arith, h.room, k.room);
     follows = λ begun rest.
-      ap (fault_of a begun) (append_assoc F G rest) ∙ h.follows begun (G ++ rest) ∙ k.follows begun rest;
+        ap (fault_of a begun) (append_assoc F G rest) ∙ h.follows begun (G ++ rest) ∙ k.follows begun rest;
   }
 
   pub Refuses-then : (f : Fault) → Refuses G b f → Refuses (F ++ G) a f

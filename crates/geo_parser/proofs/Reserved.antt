@@ -1,9 +1,9 @@
 -- Which words are reserved.
-use Rattle.std.proofs.Common.{◌≡◌, ℕ, zero, suc, ◌<◌, length, get_or, true≢false, arith, Bool, true, false, ◌||◌, List, [], ◌∷◌, ◌++◌, is_some, map, refl, sym, ap, ◌∙◌, codes, None, Some}
+use Rattle.std.proofs.Common.{◌≡◌, ℕ, zero, suc, ◌<◌, length, get_or, true≢false, arith, Bool, true, false, ◌||◌, List, [], ◌∷◌, ◌++◌, is_some, refl, sym, ap, ◌∙◌, codes, None, Some}
 use Rattle.std.specs.List.{list_any}
 use Rattle.std.specs.Prelude.{Contains, Option, option_map}
 use Rattle.geo_program.specs.Words.{command_words, expression_words, reserved_words, statement_words}
-use Rattle.geo_parser.specs.Forms.{Slot, commands, due_behind, expressions, statements}
+use Rattle.geo_parser.specs.Forms.{commands, due_behind, expressions, statements}
 use Rattle.geo_parser.specs.Slots.{is_reserved}
 use Rattle.geo_parser.specs.Texts.{found, is_text}
 use Rattle.geo_parser.proofs.Finding.{is_text_self, is_some-due_behind, is_some-found}

@@ -1,6 +1,6 @@
 -- How long the lexemes of a text are when they are written out again.
-use Rattle.std.proofs.Common.{◌≡◌, ℕ, zero, suc, ◌+◌, ◌-◌, ◌*◌, ◌^◌, ◌≤◌, ◌<◌, lit≤, Bool, true, false, List, [], ◌∷◌, length, map, drop, refl, sym, ap, ◌∙◌, arith, length-drop, length-take}
-use Rattle.std.specs.Prelude.{ℤ, pos, neg_ℤ, if◌then◌else◌, slice_range, sum_by}
+use Rattle.std.proofs.Common.{◌≡◌, ℕ, zero, suc, ◌+◌, ◌-◌, ◌*◌, ◌^◌, ◌≤◌, ◌<◌, Bool, true, false, List, [], ◌∷◌, length, map, drop, arith, length-drop, length-take}
+use Rattle.std.specs.Prelude.{pos, neg_ℤ, if◌then◌else◌, slice_range, sum_by}
 use Rattle.std.specs.Fmt.{decimal, signed_decimal}
 use Rattle.std.specs.Str.Parse.{IsNumeral, digits_value, starts_with_minus}
 use Rattle.std.proofs.lemmas.Fmt.{length-decimal-le_wide}
@@ -10,7 +10,7 @@ use Rattle.geo_base.specs.Decimals.{IsDecimal, decimal_size, decimal_value}
 use Rattle.geo_lexer.specs.declared.token_types.Kind.{Kind}
 use Rattle.geo_lexer.specs.declared.token_types.Kind.TheVariants.{Word, Number, Open, Close}
 use Rattle.geo_lexer.specs.declared.token_types.Token.{Token}
-use Rattle.geo_lexer.specs.Lexemes.{Lexeme, lexeme_at, lexeme_of}
+use Rattle.geo_lexer.specs.Lexemes.{lexeme_at, lexeme_of}
 use Rattle.geo_lexer.specs.Tokens.{AreTokens, IsTokenAt}
 use Rattle.geo_lexer.proofs.TokenListLemmas.{IsTokenAt-within}
 use Rattle.geo_program.proofs.Lengths.{lexeme_size}
@@ -30,7 +30,7 @@ pub number_short : (bytes : List ℕ) → IsDecimal bytes → decimal_size bytes
 number_short bytes = by (starts_with_minus bytes)
   where
     by : (b : Bool) → IsNumeral 10 (if b then drop 1 bytes else bytes) → digits_value 10 (if b then drop 1 bytes else bytes) < 2 ^ 127
-       → length (signed_decimal (if b then neg_ℤ (pos (digits_value 10 (if b then drop 1 bytes else bytes))) else pos (digits_value 10 (if b then drop 1 bytes else bytes)))) ≤ length bytes
+        → length (signed_decimal (if b then neg_ℤ (pos (digits_value 10 (if b then drop 1 bytes else bytes))) else pos (digits_value 10 (if b then drop 1 bytes else bytes)))) ≤ length bytes
     by true numeral small =
         omega (arith, negative_short (digits_value 10 (drop 1 bytes)) (length (drop 1 bytes)) (decimal_short (drop 1 bytes) numeral small), length-drop 1 bytes, numeral.0)
     by false numeral small = decimal_short bytes numeral small

@@ -4,16 +4,14 @@ use Rattle.std.specs.Prelude.{Err, IfOk, MatchResult, Ok, Result}
 use Rattle.std.specs.List.{flat_map}
 use Rattle.std.proofs.lemmas.Grind.{flat_map-append}
 use Rattle.std.proofs.lemmas.List.{append-nil}
-use Rattle.std.specs.Prelude.{Option}
 use Rattle.geo_lexer.specs.declared.token_types.Fault.{Fault}
-use Rattle.geo_lexer.specs.declared.token_types.Token.{Token}
 use Rattle.geo_lexer.proofs.Uniqueness.{one_lexing}
 use Rattle.geo_lexer.specs.Lexemes.{Lexeme, word_lexeme}
 use Rattle.geo_program.specs.CanonicalText.{Sketch, argument_lexemes, commands_lexemes, line_lexemes, statement_lexemes}
 use Rattle.geo_program.specs.Expressions.{braced}
 use Rattle.geo_program.specs.Forms.{statement_form}
 use Rattle.geo_program.specs.Programs.{SameProgram, Spells, program_text, source_of}
-use Rattle.geo_program.specs.Spelling.{AreSketches, SpellsSource}
+use Rattle.geo_program.specs.Spelling.{AreSketches}
 use Rattle.geo_program.specs.WellFormed.{IsWellFormed, Source}
 use Rattle.geo_program.specs.declared.program_type.Program.{Program}
 use Rattle.geo_program.proofs.LinesSpelt.{well_formed_is_spelt}

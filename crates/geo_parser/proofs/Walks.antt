@@ -1,5 +1,5 @@
 -- Going through lexemes, whatever their places.
-use Rattle.std.proofs.Common.{◌≡◌, ℕ, ◌+◌, ◌<◌, ◌≤◌, List, [], ◌∷◌, ◌++◌, map, Some, None, refl, sym, ap, ◌∙◌, subst}
+use Rattle.std.proofs.Common.{◌≡◌, ℕ, List, [], ◌∷◌, ◌++◌, map, Some, None, refl, ap, ◌∙◌}
 use Rattle.std.specs.Prelude.{Option}
 use Rattle.std.proofs.lemmas.List.{append_assoc}
 use Rattle.geo_lexer.specs.declared.token_types.Fault.{Fault}
@@ -30,8 +30,8 @@ Goes-token r s due l h = record { goes = λ rest more. walk_taken r s (due ++ re
 pub Goes-then : (r s t : Reading) (F G : List Slot) (xs ys : List Lexeme) → Goes r F xs s → Goes s G ys t → Goes r (F ++ G) (xs ++ ys) t
 Goes-then r s t F G xs ys h k = record {
   goes = λ rest more.
-    ap (λ slots. walk r slots ((xs ++ ys) ++ more)) (append_assoc F G rest) ∙ ap (walk r (F ++ (G ++ rest))) (append_assoc xs ys more)
-    ∙ h.goes (G ++ rest) (ys ++ more) ∙ k.goes rest more;
+      ap (λ slots. walk r slots ((xs ++ ys) ++ more)) (append_assoc F G rest) ∙ ap (walk r (F ++ (G ++ rest))) (append_assoc xs ys more)
+      ∙ h.goes (G ++ rest) (ys ++ more) ∙ k.goes rest more;
 }
 
 -- a lexeme that makes other things due
@@ -57,7 +57,7 @@ first_fault-walk r s slots rest [] end h = ap (λ o. end_fault (due_at_end o) en
 first_fault-walk r s slots rest (t ∷ ts) end h = by (next r slots t.0) h (λ q more. first_fault-walk q s more rest ts end)
   where
     by : (o : Outcome) → walk_on o (map (λ u. u.0) ts) ≡ Some (s, rest)
-       → ((q : Reading) (more : List Slot) → walk q more (map (λ u. u.0) ts) ≡ Some (s, rest) → first_fault q more ts end None ≡ end_fault rest end None)
-       → fault_on o t.1 ts end ≡ end_fault rest end None
+        → ((q : Reading) (more : List Slot) → walk q more (map (λ u. u.0) ts) ≡ Some (s, rest) → first_fault q more ts end None ≡ end_fault rest end None)
+        → fault_on o t.1 ts end ≡ end_fault rest end None
     by (refused n) missing onward = cc
     by (taken q more) is onward = onward q more is

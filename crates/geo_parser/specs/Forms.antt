@@ -1,5 +1,5 @@
 -- What is due behind the first word of a command, of a statement and of an expression.
-use Rattle.std.specs.Prelude.{ℕ, ◌+◌, codes, Bool, true, false, Option, Some, None, List, [], ◌∷◌, ◌++◌, option_map, find}
+use Rattle.std.specs.Prelude.{ℕ, ◌+◌, codes, Bool, true, false, Option, List, [], ◌∷◌, ◌++◌, option_map, find}
 use Rattle.geo_parser.specs.Texts.{is_text}
 use Rattle.geo_program.specs.declared.names.NameKind.{NameKind}
 use Rattle.geo_program.specs.declared.names.NameKind.TheVariants.{Point, Param, Line}

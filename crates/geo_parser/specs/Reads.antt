@@ -26,7 +26,7 @@ use Rattle.geo_parser.specs.declared.statement_words.StatementWord.{StatementWor
 use Rattle.geo_parser.specs.Coming.{fault_from, lexemes_of}
 use Rattle.geo_parser.specs.CommandWords.{command_due, command_kind, command_points, command_slots, command_text}
 use Rattle.geo_parser.specs.Dictionaries.{IsNew}
-use Rattle.geo_parser.specs.Forms.{Slot, a_line, a_number, a_point, close_slot, command_slot, end_slot, expression_slot, name_slot, new_name_slot, open_slot, part, second_number_slot, side, sketch_slot, statement_slot}
+use Rattle.geo_parser.specs.Forms.{Slot, a_line, a_number, a_point, close_slot, command_slot, end_slot, expression_slot, name_slot, new_name_slot, open_slot, second_number_slot, side, sketch_slot, statement_slot}
 use Rattle.geo_parser.specs.Slots.{Reading}
 use Rattle.geo_parser.specs.StatementWords.{expression_due, expression_text, statement_due, statement_text}
 

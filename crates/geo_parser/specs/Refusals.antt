@@ -5,7 +5,7 @@ use Rattle.geo_lexer.specs.declared.token_types.Token.{Token}
 use Rattle.geo_lexer.specs.Lexemes.{Lexeme, lexeme_of}
 use Rattle.geo_lexer.specs.Tokens.{IsLexed}
 use Rattle.geo_parser.specs.Forms.{Slot, command_slot}
-use Rattle.geo_parser.specs.Slots.{Outcome, refused, taken, Reading, beginning, next, refusal_at_end}
+use Rattle.geo_parser.specs.Slots.{refused, taken, Reading, beginning, next, refusal_at_end}
 
 -- a refusal at its place
 abbrev pub fault_at : ℕ → ℕ → Fault

@@ -1,10 +1,10 @@
 -- Which tokens may stand at a place: by what is due there, and by the names that are declared so far.
-use Rattle.std.specs.Prelude.{ℕ, ◌+◌, Bool, true, false, ◌&&◌, ◌||◌, not, nat_le, nat_lt, codes, ℤ, Option, Some, None, List, [], ◌∷◌, ◌++◌, find, if◌then◌else◌, map}
+use Rattle.std.specs.Prelude.{ℕ, ◌+◌, Bool, ◌&&◌, not, nat_le, codes, Option, Some, None, List, [], ◌∷◌, ◌++◌, find, if◌then◌else◌}
 use Rattle.std.specs.List.{list_any}
 use Rattle.geo_lexer.specs.Lexemes.{Lexeme, word_lexeme, number_lexeme, open_brace, close_brace}
 use Rattle.geo_program.specs.declared.names.Name.{Name}
 use Rattle.geo_program.specs.declared.names.NameKind.{NameKind}
-use Rattle.geo_program.specs.declared.names.NameKind.TheVariants.{Point, Param, Line}
+use Rattle.geo_program.specs.declared.names.NameKind.TheVariants.{Param}
 use Rattle.geo_program.specs.Names.{is_kind}
 use Rattle.geo_program.specs.Words.{reserved_words}
 use Rattle.geo_parser.specs.Forms.{Slot, command_slot, new_name_slot, sketch_slot, second_number_slot, name_slot, expression_slot, open_slot, close_slot, statement_slot, end_slot, commands, due_behind, expressions, statements}

@@ -110,7 +110,10 @@ const COMMANDS: [(&[u8], CommandWord); 24] = [
     (b"translate", CommandWord::Triple(TripleWord::Translate)),
     (b"symmetric", CommandWord::Pair(PairWord::Symmetric)),
     (b"reflect", CommandWord::Triple(TripleWord::Reflect)),
-    (b"circumcenter", CommandWord::Triple(TripleWord::Circumcenter)),
+    (
+        b"circumcenter",
+        CommandWord::Triple(TripleWord::Circumcenter),
+    ),
     (b"orthocenter", CommandWord::Triple(TripleWord::Orthocenter)),
     (b"centroid", CommandWord::Triple(TripleWord::Centroid)),
     (b"oncircle", CommandWord::Pair(PairWord::Oncircle)),

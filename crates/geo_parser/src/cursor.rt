@@ -43,9 +43,10 @@ impl<'a> Model for Cursor<'a> {
     ghost Value = { Coming };
 
     ghost view = { λ c. record {
-        tokens = placed_lexemes c.bytes.now c.tokens.now;
-        end = length c.bytes.now;
-        stop = c.stop } };
+      tokens = placed_lexemes c.bytes.now c.tokens.now;
+      end = length c.bytes.now;
+      stop = c.stop;
+    } };
 
     ghost invariant = { λ c. (length c.bytes.now ≤ 67108864)
         × All (λ t. IsTokenAt c.bytes.now t.kind t.start t.end) c.tokens.now };
@@ -57,9 +58,10 @@ impl<'a> Cursor<'a> {
         requires short { length bytes.now ≤ 67108864 }
         requires tokens { All (λ t. IsTokenAt bytes.now t.kind t.start t.end) tokens.now }
         ensures { result ≡ record {
-            tokens = placed_lexemes bytes.now tokens.now;
-            end = length bytes.now;
-            stop = stop } }
+          tokens = placed_lexemes bytes.now tokens.now;
+          end = length bytes.now;
+          stop = stop;
+        } }
     {
         Cursor {
             bytes,

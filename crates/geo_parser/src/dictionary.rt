@@ -136,12 +136,7 @@ impl<'a> Dictionary<'a> {
     }
 
     /// Declares a new name.
-    pub fn declare(
-        &mut self,
-        alloc: Global,
-        word: &'a [u8],
-        kind: NameKind,
-    ) -> Result<(), NoMemory>
+    pub fn declare(&mut self, alloc: Global, word: &'a [u8], kind: NameKind) -> Result<(), NoMemory>
         requires new { IsNew self.old word.now }
         requires room { length self.old < 4294967295 }
         ensures ok { OnOk result (self.new ≡ self.old ++ (record { text = word.now; kind = kind }) ∷ []) }

@@ -32,7 +32,10 @@ pub enum ExpressionWord {
 
 const EXPRESSIONS: [(&[u8], ExpressionWord); 8] = [
     (b"signed_area3", ExpressionWord::SignedArea),
-    (b"pythagoras_difference3", ExpressionWord::PythagorasDifference),
+    (
+        b"pythagoras_difference3",
+        ExpressionWord::PythagorasDifference,
+    ),
     (b"sratio", ExpressionWord::Ratio),
     (b"neg", ExpressionWord::Neg),
     (b"sum", ExpressionWord::Sum),

@@ -93,12 +93,7 @@ impl<'a> Reader<'a> {
 
     // What stands behind the word of an expression.
     #[cycle(expression)]
-    fn formed(
-        &mut self,
-        form: ExpressionWord,
-        level: u32,
-        ratios: bool,
-    ) -> Result<Node, ParseError>
+    fn formed(&mut self, form: ExpressionWord, level: u32, ratios: bool) -> Result<Node, ParseError>
         requires level { level ≤ 128 }
         requires room { extent self.old ≤ 67108864 }
         requires allowed { form ≡ ExpressionWord.Ratio → IsTrue ratios }

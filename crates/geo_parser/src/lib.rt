@@ -5,13 +5,13 @@
 mod command_words;
 mod commands;
 mod cursor;
+mod dictionary;
 mod errors;
 mod expression_words;
 mod expressions;
 pub mod laws;
 mod parsing;
 mod reader;
-mod dictionary;
 mod statement;
 mod statement_words;
 mod tables;

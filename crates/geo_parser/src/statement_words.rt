@@ -49,14 +49,35 @@ pub enum StatementWord {
 
 const STATEMENTS: [(&[u8], StatementWord); 9] = [
     (b"equal", StatementWord::Equal),
-    (b"collinear", StatementWord::Triple(TripleStatement::Collinear)),
-    (b"parallel", StatementWord::Quadruple(QuadrupleStatement::Parallel)),
-    (b"perpendicular", StatementWord::Quadruple(QuadrupleStatement::Perpendicular)),
+    (
+        b"collinear",
+        StatementWord::Triple(TripleStatement::Collinear),
+    ),
+    (
+        b"parallel",
+        StatementWord::Quadruple(QuadrupleStatement::Parallel),
+    ),
+    (
+        b"perpendicular",
+        StatementWord::Quadruple(QuadrupleStatement::Perpendicular),
+    ),
     (b"identical", StatementWord::Identical),
-    (b"midpoint", StatementWord::Triple(TripleStatement::Midpoint)),
-    (b"same_length", StatementWord::Quadruple(QuadrupleStatement::SameLength)),
-    (b"harmonic", StatementWord::Quadruple(QuadrupleStatement::Harmonic)),
-    (b"concyclic", StatementWord::Quadruple(QuadrupleStatement::Concyclic)),
+    (
+        b"midpoint",
+        StatementWord::Triple(TripleStatement::Midpoint),
+    ),
+    (
+        b"same_length",
+        StatementWord::Quadruple(QuadrupleStatement::SameLength),
+    ),
+    (
+        b"harmonic",
+        StatementWord::Quadruple(QuadrupleStatement::Harmonic),
+    ),
+    (
+        b"concyclic",
+        StatementWord::Quadruple(QuadrupleStatement::Concyclic),
+    ),
 ];
 
 impl StatementWord {

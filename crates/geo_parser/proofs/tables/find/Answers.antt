@@ -1,4 +1,4 @@
-use Rattle.std.proofs.Common.{◌≡◌, ℕ, Bool, List, ap, sym, ◌∙◌, Bor}
+use Rattle.std.proofs.Common.{ℕ, List, ap, sym, ◌∙◌, Bor}
 use Rattle.std.specs.Prelude.{option_map}
 use Rattle.geo_parser.specs.Texts.{is_text}
 use Rattle.geo_parser.proofs.Finding.{found-map, find_here, find_later, find_none, is_text_lem}

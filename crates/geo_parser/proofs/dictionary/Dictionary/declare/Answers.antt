@@ -1,11 +1,9 @@
-use Rattle.std.proofs.Common.{◌≡◌, ℕ, ◌++◌, ◌∷◌, [], List, refl, sym, ap, subst, ◌∙◌, arith, length}
+use Rattle.std.proofs.Common.{◌≡◌, ℕ, ◌++◌, ◌∷◌, [], List, sym, ap, subst, ◌∙◌, arith, length}
 use Rattle.std.specs.HashMap.{get_by}
-use Rattle.std.specs.Prelude.{Option}
 use Rattle.std.specs.Str.{bytes_eq}
 use Rattle.std.proofs.lemmas.Map.Text.{hash_map_updates_str}
 use Rattle.geo_program.specs.declared.names.Name.{Name}
 use Rattle.geo_program.specs.declared.names.NameKind.{NameKind}
-use Rattle.geo_parser.specs.declared.dictionary.Meaning.{Meaning}
 use Rattle.geo_parser.specs.Dictionaries.{IsDictionary, IsNew, counted}
 use Rattle.geo_parser.proofs.DictionaryLemmas.{IsDictionary-declare, IsDictionary-same, count_of-dictionary, length-names_of, longer, new_name}
 use Rattle.geo_parser.proofs.dictionary.Dictionary.declare.Goals as goal

@@ -1,4 +1,4 @@
-use Rattle.std.proofs.Common.{◌≡◌, ◌<◌, [], ◌∷◌, ◌++◌, List, length, sym, ◌∙◌, subst, arith}
+use Rattle.std.proofs.Common.{◌<◌, [], ◌∷◌, List, length, sym, ◌∙◌, subst, arith}
 use Rattle.geo_program.specs.declared.commands.Command.{Command}
 use Rattle.geo_parser.specs.Forms.{command_slot}
 use Rattle.geo_parser.specs.Reads.{ReadsCommands, ReadsWord}

@@ -1,4 +1,4 @@
-use Rattle.std.proofs.Common.{[], ◌∷◌, refl, ap}
+use Rattle.std.proofs.Common.{refl, ap}
 use Rattle.geo_parser.specs.declared.statement_words.StatementWord.TheVariants.{Equal, Quadruple, Triple}
 use Rattle.geo_parser.specs.Forms.{side}
 use Rattle.geo_parser.proofs.FormReading.{ReadsStated-at, ReadsStated-made, Refuses-stated}
