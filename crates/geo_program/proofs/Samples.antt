@@ -1,5 +1,5 @@
 -- A program that a test prints is well-formed.
-use Rattle.std.proofs.Common.{◌≡◌, ℕ, zero, suc, ◌+◌, ◌<◌, ◌≤◌, Bool, true, false, if◌then◌else◌, List, [], ◌∷◌, map, length, eqb, eq-eqb, refl, sym, ap, ap₂, subst, ◌∙◌, arith, lit<, lit≤}
+use Rattle.std.proofs.Common.{◌≡◌, ℕ, zero, suc, ◌<◌, ◌≤◌, Bool, true, false, if◌then◌else◌, List, [], ◌∷◌, map, length, eqb, eq-eqb, refl, sym, ap, ap₂, subst, ◌∙◌, arith, lit<, lit≤}
 use Rattle.std.specs.Prelude.{All, Contains, codes}
 use Rattle.std.proofs.lemmas.List.Elements.{All-from_recursion, All-nil}
 use Rattle.geo_points.specs.declared.ids.PointId.{PointId}
@@ -9,7 +9,7 @@ use Rattle.geo_program.specs.declared.names.Name.{Name}
 use Rattle.geo_program.specs.declared.names.NameKind.TheVariants as kind
 use Rattle.geo_program.specs.declared.statements.Statement.TheVariants.{Collinear}
 use Rattle.geo_program.specs.CanonicalText.{canonical_text}
-use Rattle.geo_program.specs.Forms.{Argument, point_argument}
+use Rattle.geo_program.specs.Forms.{point_argument}
 use Rattle.geo_program.specs.WellFormed.{AllDiffer, IsArgument, IsCommand, IsWellFormed, Scope, Source, declare, empty_scope, scope_of}
 use Rattle.geo_program.specs.Spelling.{SpellsSource}
 use Rattle.geo_program.specs.Words.{IsNameText, reserved_words}
@@ -95,9 +95,13 @@ midpoint_well_formed = record {
   names = All-from_recursion (λ n. IsNameText n.text) (map point_name (codes "ABM"))
       (name_text (letter 65) refl (lit≤ tt), (name_text (letter 66) refl (lit≤ tt), (name_text (letter 77) refl (lit≤ tt), tt)));
   differ = texts_differ;
-  commands = (plain_command empty_scope 65,
-      (plain_command (declare kind.Point empty_scope) 66,
-          (midpoint_command (declare kind.Point (declare kind.Point empty_scope)) 77 (lit< tt), tt)));
+  commands = (
+    plain_command empty_scope 65,
+    (
+      plain_command (declare kind.Point empty_scope) 66,
+      (midpoint_command (declare kind.Point (declare kind.Point empty_scope)) 77 (lit< tt), tt),
+    ),
+  );
   few = lit≤ tt;
   statement = collinear_arguments (scope_of empty_scope (map point_name (codes "ABM"))) (lit< tt);
   sides = tt;
