@@ -5,3 +5,5 @@ pub mod Congruence
 pub mod Integers
 pub mod Powers
 pub mod WholeValues
+pub mod Fractions
+pub mod Quotients

@@ -1,6 +1,7 @@
-//! What is proved of the solver and of the whole numbers. The functions do nothing: what each says
+//! What is proved of the solver, of the whole numbers and of fractions. The functions do nothing: what each says
 //! is its contract.
 
+ghost use Rattle.ring_laws.specs.FractionLaws.{FractionsAreAField, SameIsACongruence};
 ghost use Rattle.ring_laws.specs.Laws.{CombinationIsSound, SolverIsSound, WholeNumbersAreARing};
 
 /// Expressions that the solver finds equal come to the same number, whatever whole numbers their
@@ -19,4 +20,15 @@ pub fn combination_is_sound()
 /// opposites, and products distribute over sums.
 pub fn whole_numbers_are_a_ring()
     ensures { WholeNumbersAreARing }
+{}
+
+/// Being the same fraction, by cross multiplication, is an equivalence that sums, products and
+/// opposites respect.
+pub fn same_is_a_congruence()
+    ensures { SameIsACongruence }
+{}
+
+/// Up to being the same, fractions have the laws of a field.
+pub fn fractions_are_a_field()
+    ensures { FractionsAreAField }
 {}

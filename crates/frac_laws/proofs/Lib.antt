@@ -1,0 +1,3 @@
+pub mod Coprime
+pub mod LowestTerms
+pub mod Sums

@@ -1,0 +1,13 @@
+//! Fractions of whole numbers of 128 bits, in lowest terms: sums and products are exact, or refused
+//! where a number that they need is too large.
+#![tactic(auto)]
+
+mod arithmetic;
+mod divisors;
+mod frac;
+pub mod laws;
+#[cfg(test)]
+mod tests;
+
+pub use divisors::gcd;
+pub use frac::{Frac, FracTooLarge};
