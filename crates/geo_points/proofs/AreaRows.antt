@@ -1,6 +1,6 @@
 -- The rows for signed areas of the elimination table, from the steps on triples.
 use Rattle.std.proofs.Common.{ℕ, pos, [], ◌∷◌, refl}
-use Rattle.geo_points.specs.Fraction.{Fraction, Same, whole, plus, minus, times, negated}
+use Rattle.ring_laws.specs.Fraction.{Fraction, Same, whole, plus, minus, times, negated}
 use Rattle.geo_points.specs.Points.{Point, x_coordinate, y_coordinate, signed_area}
 use Rattle.geo_points.specs.Steps.{IsAlong}
 use Rattle.geo_points.proofs.Expressions.{Quantity, abscissa, ordinate, area, whole_number, one_half, given_number, ◌+'◌, ◌-'◌, ◌*'◌, opposite', half, fact}

@@ -1,12 +1,12 @@
 -- The quantities on triples are those on coordinates that are fractions.
 use Rattle.std.proofs.Common.{ℕ, ℤ, pos, [], ◌∷◌}
 use Rattle.ring_laws.specs.Solver.{variable, numeral, ◌⊞◌, ◌⊟◌, ◌⊠◌, entry_at, Quotient, as_quotient, quotient_at}
-use Rattle.geo_points.specs.Fraction.{Fraction, Same, whole, times, plus, negated, minus}
+use Rattle.ring_laws.specs.Fraction.{Fraction, Same, whole, times, plus, negated, minus}
 use Rattle.geo_points.specs.Points.{Point, x_coordinate, y_coordinate, signed_area, pythagoras_difference}
 use Rattle.geo_points.proofs.Plane.{Spot, double_area, pythagoras_value, double_area_expression, pythagoras_expression, spot}
 use Rattle.geo_points.proofs.Expressions.{half}
 use Rattle.ring_laws.proofs.Integers.{integers}
-use Rattle.geo_points.proofs.Fractions.{fractions}
+use Rattle.ring_laws.proofs.Fractions.{fractions}
 use Rattle.ring_laws.proofs.Sound.{agree}
 
 -- the coordinates of a point

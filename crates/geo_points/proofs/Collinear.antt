@@ -4,7 +4,7 @@ use Rattle.ring_laws.specs.Solver.{variable, numeral, ◌⊞◌, ◌⊟◌, ◌�
 use Rattle.geo_points.specs.Points.{Point, cross_product, determinant, signed_area}
 use Rattle.ring_laws.proofs.Integers.{integers}
 use Rattle.ring_laws.proofs.Sound.{agree}
-use Rattle.geo_points.proofs.Fractions.{cancel}
+use Rattle.ring_laws.proofs.Fractions.{cancel}
 
 -- A.x, A.y, A.w are the variables 0, 1, 2, and so on
 abbrev coordinates : Point → Point → Point → ℕ → ℤ

@@ -1,13 +1,14 @@
 -- The quantities are those of the points, and not of the triples that stand for them.
 use Rattle.std.proofs.Common.{◌≡◌, Bool, true, false, ◌*◌, pos, ◌*ℤ◌, refl, [], ◌∷◌, mul-pos}
 use Rattle.ring_laws.specs.Solver.{variable, numeral, ◌⊟◌, ◌⊠◌, entry_at, given}
-use Rattle.geo_points.specs.Fraction.{Fraction, Same, minus, times, IsNonzero}
+use Rattle.ring_laws.specs.Fraction.{Fraction, Same, minus, times, IsNonzero}
 use Rattle.geo_points.specs.Points.{Point, x_coordinate, y_coordinate, x_difference, y_difference, x_component, y_component, cross_product, signed_area, pythagoras_difference, HasRatio, ratio, is_null}
 use Rattle.geo_points.specs.Placements.{SamePoint}
 use Rattle.ring_laws.proofs.Integers.{integers}
 use Rattle.ring_laws.proofs.Combination.{by_combination}
-use Rattle.geo_points.proofs.Fractions.{fractions, cancel}
-use Rattle.geo_points.proofs.Nonzero.{zero_of_same, same_of_zero, cancel_fraction, x_component-is, y_component-is, crossed_is, null-true, null-false, ratio-is, IsRatio}
+use Rattle.ring_laws.proofs.Fractions.{fractions, cancel}
+use Rattle.ring_laws.proofs.Quotients.{zero_of_same, same_of_zero, cancel_fraction}
+use Rattle.geo_points.proofs.Ratios.{x_component-is, y_component-is, crossed_is, null-true, null-false, ratio-is, IsRatio}
 use Rattle.geo_points.proofs.Expressions.{abscissa, ordinate, area, pythagoras, whole_number, one_half, ◌+'◌, ◌-'◌, ◌*'◌, fact}
 use Rattle.geo_points.proofs.Geometry.{geo_combination}
 

@@ -2,7 +2,7 @@
 use Rattle.std.specs.Prelude.{ℕ, zero, suc, pos, List, [], ◌∷◌}
 use Rattle.std.proofs.Common.{lit<}
 use Rattle.ring_laws.specs.Solver.{Expression, variable, numeral, ◌⊞◌, ◌⊟◌, ◌⊠◌, opposite, Given, given}
-use Rattle.geo_points.specs.Fraction.{Fraction, Same, whole, plus, negated, minus, times}
+use Rattle.ring_laws.specs.Fraction.{Fraction, Same, whole, plus, negated, minus, times}
 pub use Rattle.geo_points.specs.Points.{x_coordinate, y_coordinate}
 use Rattle.geo_points.specs.Points.{Point, signed_area, pythagoras_difference}
 use Rattle.geo_points.proofs.Plane.{Spot, double_area_expression, pythagoras_expression, spot}

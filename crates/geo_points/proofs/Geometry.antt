@@ -1,12 +1,12 @@
 -- Identities between quantities of points, from equations with cofactors, by computation.
 use Rattle.std.proofs.Common.{arith, ◌≡◌, ℕ, zero, suc, pos, List, [], ◌∷◌, T, refl, sym, subst, ap}
 use Rattle.ring_laws.specs.Solver.{◌⊟◌, natural, value, normal_form, is_zero, combined, AllGivenHold}
-use Rattle.geo_points.specs.Fraction.{Fraction, Same, whole, plus, times, negated, minus}
+use Rattle.ring_laws.specs.Fraction.{Fraction, Same, whole, plus, times, negated, minus}
 use Rattle.geo_points.specs.Points.{Point, signed_area, pythagoras_difference}
 use Rattle.geo_points.proofs.Plane.{Spot, double_area, pythagoras_value}
 use Rattle.geo_points.proofs.Expressions.{Quantity, abscissa, ordinate, area, pythagoras, whole_number, one_half, given_number, ◌+'◌, ◌-'◌, ◌*'◌, opposite', point_at, number_at, x_coordinate, y_coordinate, half, quantity_value, thrice, spread, Fact, fact, spread_facts, FactsHold}
-use Rattle.geo_points.proofs.Fractions as F
-use Rattle.geo_points.proofs.Fractions.{fractions}
+use Rattle.ring_laws.proofs.Fractions as F
+use Rattle.ring_laws.proofs.Fractions.{fractions}
 use Rattle.ring_laws.proofs.Combination.{by_combination}
 use Rattle.geo_points.proofs.Bridge.{spot_of, signed_area-is, pythagoras_difference-is}
 

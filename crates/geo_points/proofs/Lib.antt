@@ -1,7 +1,6 @@
 pub mod Plane
 pub mod Expressions
-pub mod Fractions
-pub mod Nonzero
+pub mod Ratios
 pub mod Bridge
 pub mod Steps
 pub mod Geometry
@@ -10,3 +9,14 @@ pub mod Signs
 pub mod Placed
 pub mod Collinear
 pub mod Exchange
+pub mod Lines
+pub mod LinearRows
+pub mod QuadraticRows
+pub mod RatioRows
+pub mod Denominators
+pub mod FreeRows
+pub mod RatioSigns
+pub mod Coordinates
+pub mod Zeros
+pub mod Making
+pub mod Same

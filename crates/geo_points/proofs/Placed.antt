@@ -1,7 +1,7 @@
 -- A step along a vector makes a point, and no other.
 use Rattle.std.proofs.Common.{ℕ, ◌*◌, ℤ, pos, ◌*ℤ◌, [], ◌∷◌, mul-pos}
 use Rattle.ring_laws.specs.Solver.{variable, ◌⊠◌, entry_at}
-use Rattle.geo_points.specs.Fraction.{Fraction, Same, plus, minus, times}
+use Rattle.ring_laws.specs.Fraction.{Fraction, Same, plus, minus, times}
 use Rattle.geo_points.specs.Points.{Point, x_coordinate, y_coordinate}
 use Rattle.geo_points.specs.Placements.{SamePoint}
 use Rattle.geo_points.specs.Steps.{IsAlong}

@@ -1,9 +1,8 @@
 -- What a swap or a turn of the points does to a signed area and to a Pythagoras difference.
 use Rattle.std.proofs.Common.{ℕ, pos, [], ◌∷◌}
-use Rattle.geo_points.specs.Fraction.{Same, whole, plus, negated, minus, times}
+use Rattle.ring_laws.specs.Fraction.{Same, whole, plus, negated, minus, times}
 use Rattle.geo_points.proofs.Expressions.{Quantity, abscissa, ordinate, area, pythagoras, whole_number, one_half, ◌+'◌, ◌-'◌, ◌*'◌, opposite', fact, x_coordinate, y_coordinate}
-use Rattle.geo_points.specs.Points.{Point, signed_area, pythagoras_difference}
-use Rattle.geo_points.specs.Laws.{squared_distance}
+use Rattle.geo_points.specs.Points.{Point, signed_area, pythagoras_difference, squared_distance}
 use Rattle.geo_points.proofs.Geometry.{geo_combination}
 use Rattle.geo_points.proofs.AreaRows.{cross', two_halves}
 
@@ -36,3 +35,9 @@ pythagoras_difference-length A B = geo_combination (A ∷ B ∷ []) [] [] (pytha
 pub pythagoras_difference-squares : (A B C : Point) → Same (pythagoras_difference A B C) (minus (plus (squared_distance A B) (squared_distance C B)) (squared_distance A C))
 pythagoras_difference-squares A B C =
     geo_combination (A ∷ B ∷ C ∷ []) [] [] (pythagoras 0 1 2) (square' 0 1 +' square' 2 1 -' square' 0 2) tt tt
+
+pub pythagoras_difference-first : (A C : Point) → Same (pythagoras_difference A A C) (whole (pos 0))
+pythagoras_difference-first A C = geo_combination (A ∷ C ∷ []) [] [] (pythagoras 0 0 1) (whole_number 0) tt tt
+
+pub pythagoras_difference-last : (A C : Point) → Same (pythagoras_difference A C C) (whole (pos 0))
+pythagoras_difference-last A C = geo_combination (A ∷ C ∷ []) [] [] (pythagoras 0 1 1) (whole_number 0) tt tt

@@ -1,7 +1,7 @@
 -- The equations of a step on whole numbers are its equations on coordinates that are fractions.
 use Rattle.std.proofs.Common.{ℕ, ℤ, pos, [], ◌∷◌}
 use Rattle.ring_laws.specs.Solver.{Expression, variable, numeral, ◌⊟◌, ◌⊠◌, entry_at, given, Quotient, as_quotient, quotient_at}
-use Rattle.geo_points.specs.Fraction.{Fraction, Same, whole, plus, negated, minus, times}
+use Rattle.ring_laws.specs.Fraction.{Fraction, Same, whole, plus, negated, minus, times}
 use Rattle.geo_points.specs.Points.{Point, x_coordinate, y_coordinate}
 use Rattle.geo_points.specs.Steps.{IsAlong}
 use Rattle.ring_laws.proofs.Integers.{integers}

@@ -1,30 +1,10 @@
 -- The laws that stand on the functions of `laws`.
 use Rattle.std.specs.Prelude.{◌≡◌, pos, ◌↔◌}
-use Rattle.geo_points.specs.Fraction.{Fraction, Same, whole, plus, negated, minus, times, IsNonzero, quotient}
-use Rattle.geo_points.specs.Points.{Point, x_coordinate, y_coordinate, cross_product, signed_area, pythagoras_difference, HasRatio, ratio}
+use Rattle.ring_laws.specs.Fraction.{Fraction, Same, whole, plus, negated, minus, times, IsNonzero, quotient}
+use Rattle.geo_points.specs.Points.{Point, squared_distance, x_coordinate, y_coordinate, cross_product, signed_area, pythagoras_difference, HasRatio, ratio}
 use Rattle.geo_points.specs.Placements.{SamePoint}
-use Rattle.geo_points.specs.Steps.{IsAlong}
-
--- being the same number is an equivalence, and sums, products and opposites respect it
-pub record SameIsACongruence : Type 0 where
-  pub reflexive : (a : Fraction) → Same a a
-  pub symmetric : (a b : Fraction) → Same a b → Same b a
-  pub transitive : (a b c : Fraction) → Same a b → Same b c → Same a c
-  pub sums : (a b c d : Fraction) → Same a b → Same c d → Same (plus a c) (plus b d)
-  pub products : (a b c d : Fraction) → Same a b → Same c d → Same (times a c) (times b d)
-  pub opposites : (a b : Fraction) → Same a b → Same (negated a) (negated b)
-
--- up to `Same`, the fractions meet the laws of a field
-pub record FractionsAreAField : Type 0 where
-  pub sum_commutes : (a b : Fraction) → Same (plus a b) (plus b a)
-  pub sum_associates : (a b c : Fraction) → Same (plus (plus a b) c) (plus a (plus b c))
-  pub zero : (a : Fraction) → Same (plus a (whole (pos 0))) a
-  pub opposite : (a : Fraction) → Same (plus a (negated a)) (whole (pos 0))
-  pub product_commutes : (a b : Fraction) → Same (times a b) (times b a)
-  pub product_associates : (a b c : Fraction) → Same (times (times a b) c) (times a (times b c))
-  pub one : (a : Fraction) → Same (times a (whole (pos 1))) a
-  pub distributes : (a b c : Fraction) → Same (times a (plus b c)) (plus (times a b) (times a c))
-  pub quotient_times_divisor : (a b : Fraction) → IsNonzero b → Same (times (quotient a b) b) a
+use Rattle.geo_points.specs.Steps.{IsAlong, IsCrossing, IsFoot, IsTurned}
+use Rattle.geo_points.specs.Vectors.{Differ}
 
 -- twice the signed area is the cross product of two sides; a swap of two corners turns its sign, a turn of all three keeps it, and it is 0 just where the corners lie on a line
 pub record SignedAreaTurns : Type 0 where
@@ -35,13 +15,6 @@ pub record SignedAreaTurns : Type 0 where
   pub turned : (A B C : Point) → Same (signed_area B C A) (signed_area A B C)
   pub repeated : (A B : Point) → Same (signed_area A A B) (whole (pos 0))
   pub collinear : (A B C : Point) → Same (signed_area A B C) (whole (pos 0)) ↔ (cross_product A B A C ≡ pos 0)
-
--- the square of the distance of A and B
-abbrev pub squared_distance : Point → Point → Fraction
-squared_distance A B =
-    let x = minus (x_coordinate B) (x_coordinate A) in
-    let y = minus (y_coordinate B) (y_coordinate A) in
-    plus (times x x) (times y y)
 
 -- a Pythagoras difference is AB² + CB² - AC²; so its ends may be swapped, and P_ABA is P_BAB
 pub record PythagorasDifferenceIsOfSquares : Type 0 where
@@ -70,3 +43,18 @@ pub record AlongMakesOnePoint : Type 0 where
       × Same (minus (y_coordinate Y) (y_coordinate W)) (times r (minus (y_coordinate V) (y_coordinate U))))
   pub exists : (W U V : Point) (r : Fraction) → (Y : Point) × IsAlong W U V r Y
   pub unique : (W U V : Point) (r : Fraction) (Y Z : Point) → IsAlong W U V r Y → IsAlong W U V r Z → SamePoint Y Z
+
+-- two lines that are not parallel have one common point
+pub record CrossingMakesOnePoint : Type 0 where
+  pub exists : (U V P Q : Point) → (cross_product U V P Q ≡ pos 0 → ⊥) → (Y : Point) × IsCrossing U V P Q Y
+  pub unique : (U V P Q Y Z : Point) → IsCrossing U V P Q Y → IsCrossing U V P Q Z → SamePoint Y Z
+
+-- a point has one foot on the line of two points that differ
+pub record FootMakesOnePoint : Type 0 where
+  pub exists : (P U V : Point) → Differ U V → (Y : Point) × IsFoot P U V Y
+  pub unique : (P U V Y Z : Point) → IsFoot P U V Y → IsFoot P U V Z → SamePoint Y Z
+
+-- the step Y - U = r J (V - U) makes one point
+pub record TurnedMakesOnePoint : Type 0 where
+  pub exists : (U V : Point) (r : Fraction) → (Y : Point) × IsTurned U V r Y
+  pub unique : (U V : Point) (r : Fraction) (Y Z : Point) → IsTurned U V r Y → IsTurned U V r Z → SamePoint Y Z

@@ -1,5 +1,5 @@
-pub mod Fraction
 pub mod Points
+pub mod Vectors
 pub mod Placements
 pub mod Steps
 pub mod Laws

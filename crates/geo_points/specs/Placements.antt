@@ -1,6 +1,6 @@
 -- Placements: what the points and the parameters of a construction stand for.
 use Rattle.std.specs.Prelude.{ℕ, ◌<◌}
-use Rattle.geo_points.specs.Fraction.{Fraction, Same}
+use Rattle.ring_laws.specs.Fraction.{Fraction, Same}
 use Rattle.geo_points.specs.Points.{Point, x_coordinate, y_coordinate}
 
 -- a triple for each point and a fraction for each parameter, by their numbers

@@ -1,7 +1,7 @@
 -- Points of the plane with rational coordinates, and the quantities of the area method on them.
 use Rattle.std.specs.Prelude.{◌≡◌, ℕ, zero, suc, Bool, true, false, ◌*◌, ◌<◌, ℤ, pos, negsuc, ◌+ℤ◌, ◌-ℤ◌, ◌*ℤ◌}
 use Rattle.std.proofs.Common.{mul-pos, lit<}
-use Rattle.geo_points.specs.Fraction.{Fraction, quotient}
+use Rattle.ring_laws.specs.Fraction.{Fraction, minus, plus, quotient, times}
 
 -- the point (x / w, y / w), as a triple of whole numbers with w at least 1
 pub record Point : Type 0 where
@@ -69,6 +69,13 @@ pythagoras_difference A B C = record {
   denominator = A.w * C.w * B.w * B.w;
   positive = mul-pos (mul-pos (mul-pos A.positive C.positive) B.positive) B.positive;
 }
+
+-- the square of the distance of A and B
+abbrev pub squared_distance : Point → Point → Fraction
+squared_distance A B =
+    let x = minus (x_coordinate B) (x_coordinate A) in
+    let y = minus (y_coordinate B) (y_coordinate A) in
+    plus (times x x) (times y y)
 
 -- ---- ratios
 -- the ratio AB / CD is defined: C differs from D, and AB is parallel to CD

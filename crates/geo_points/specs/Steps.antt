@@ -1,6 +1,6 @@
 -- The steps that make a point, as equations of whole numbers: all denominators are multiplied out.
 use Rattle.std.specs.Prelude.{◌≡◌, pos, ◌*ℤ◌, neg_ℤ}
-use Rattle.geo_points.specs.Fraction.{Fraction}
+use Rattle.ring_laws.specs.Fraction.{Fraction}
 use Rattle.geo_points.specs.Points.{Point, x_difference, y_difference, cross_product, dot_product}
 
 -- Y - W = r (V - U): from W, Y lies r times the vector UV on

@@ -1,18 +1,7 @@
-//! What is proved of fractions, points and the quantities on them. The functions do nothing: what
+//! What is proved of points and the quantities on them. The functions do nothing: what
 //! each says is its contract.
 
-ghost use Rattle.geo_points.specs.Laws.{AlongMakesOnePoint, FractionsAreAField, PythagorasDifferenceIsOfSquares, QuantitiesAreOfPoints, RatioScales, SameIsACongruence, SignedAreaTurns};
-
-/// Being the same fraction, by cross multiplication, is an equivalence that sums, products and
-/// opposites respect.
-pub fn same_is_a_congruence()
-    ensures { SameIsACongruence }
-{}
-
-/// Up to being the same, fractions have the laws of a field.
-pub fn fractions_are_a_field()
-    ensures { FractionsAreAField }
-{}
+ghost use Rattle.geo_points.specs.Laws.{AlongMakesOnePoint, CrossingMakesOnePoint, FootMakesOnePoint, PythagorasDifferenceIsOfSquares, QuantitiesAreOfPoints, RatioScales, SignedAreaTurns, TurnedMakesOnePoint};
 
 /// A signed area is half the cross product of two sides. A swap of two corners changes its sign, a
 /// turn of the three keeps it, and it is 0 exactly where the corners lie on a line.
@@ -39,4 +28,20 @@ pub fn quantities_are_of_points()
 /// The step `Y - W = r (V - U)` makes a point for any W, U, V and r, and only that one.
 pub fn along_makes_one_point()
     ensures { AlongMakesOnePoint }
+{}
+
+/// Two lines that are not parallel have one common point.
+pub fn crossing_makes_one_point()
+    ensures { CrossingMakesOnePoint }
+{}
+
+/// A point has one foot on the line of two points that differ.
+pub fn foot_makes_one_point()
+    ensures { FootMakesOnePoint }
+{}
+
+/// The step `Y - U = r J (V - U)`, where J turns a vector a quarter counter-clockwise, makes a point
+/// for any U, V and r, and only that one.
+pub fn turned_makes_one_point()
+    ensures { TurnedMakesOnePoint }
 {}

@@ -5,13 +5,9 @@
 //! one. The crate also has the small types that every crate above shares.
 #![tactic(auto)]
 
-mod divisors;
 mod ids;
 pub mod laws;
 mod memory;
-#[cfg(test)]
-mod tests;
 
-pub use divisors::gcd;
 pub use ids::{ParamId, PointId, TermId};
 pub use memory::NoMemory;

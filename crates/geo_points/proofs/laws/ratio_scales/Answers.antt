@@ -1,4 +1,4 @@
-use Rattle.geo_points.proofs.Nonzero.{ratio-is}
+use Rattle.geo_points.proofs.Ratios.{ratio-is}
 use Rattle.geo_points.proofs.laws.ratio_scales.Goals as goal
 
 pub returns : goal.returns

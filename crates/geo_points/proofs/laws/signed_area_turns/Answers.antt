@@ -1,5 +1,5 @@
 use Rattle.geo_points.specs.Points.{signed_area}
-use Rattle.geo_points.proofs.Nonzero.{same_of_zero, zero_of_same}
+use Rattle.ring_laws.proofs.Quotients.{same_of_zero, zero_of_same}
 use Rattle.geo_points.proofs.Signs.{signed_area-doubled, signed_area-swap, signed_area-turn, signed_area-twice}
 use Rattle.geo_points.proofs.Collinear.{collinear_null}
 use Rattle.geo_points.proofs.laws.signed_area_turns.Goals as goal
