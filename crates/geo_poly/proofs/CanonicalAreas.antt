@@ -6,9 +6,9 @@ use Rattle.std.specs.declared.cmp.Ordering.TheVariants.{Less, Equal, Greater}
 use Rattle.std.proofs.lemmas.Cmp.{ranked}
 use Rattle.ring_laws.proofs.Laws as Laws
 use Rattle.geo_points.specs.declared.ids.PointId.{PointId}
-use Rattle.geo_points.specs.Fraction.{Fraction, Same, whole, negated, times}
+use Rattle.ring_laws.specs.Fraction.{Fraction, Same, whole, negated, times}
 use Rattle.geo_points.specs.Points.{Point, signed_area}
-use Rattle.geo_points.proofs.Fractions.{fractions}
+use Rattle.ring_laws.proofs.Fractions.{fractions}
 use Rattle.geo_points.proofs.Signs.{signed_area-swap, signed_area-turn, signed_area-twice}
 use Rattle.geo_poly.specs.Canonical.{ordering_sign, least_of_three, middle_of_three, greatest_of_three, sorted_area, signed_variable, canonical_area, canon_value}
 

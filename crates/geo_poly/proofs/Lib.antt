@@ -1,6 +1,7 @@
 pub mod Orders
 pub mod MonomialLaws
 pub mod PolynomialLaws
+pub mod Lengths
 pub mod MonomialOrder
 pub mod ProductLaws
 pub mod Values
@@ -18,3 +19,18 @@ pub mod Cuts
 pub mod SignedContent
 pub mod FactorDivision
 pub mod CanonicalAreas
+pub mod CanonicalRatios
+pub mod WholePowers
+pub mod SpecialisedLaws
+pub mod Roots
+pub mod KeepingNumbers
+pub mod WholeValues
+pub mod GatheredFactors
+pub mod EachVariable
+pub mod SortedForms
+pub mod KeptVariables
+pub mod PolynomialRing
+pub mod ReplacementSums
+pub mod VariablesInOrder
+pub mod RowPlaces
+pub mod ProductOrder

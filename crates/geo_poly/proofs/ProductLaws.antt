@@ -20,7 +20,7 @@ use Rattle.geo_poly.proofs.PolynomialLaws.{coefficients_add, norm_of-polynomial_
 norm : Powers × ℤ → ℕ
 norm t = unsigned_abs t.1
 
-products-append : (p q r : Terms) → products (p ++ q) r ≡ products p r ++ products q r
+pub products-append : (p q r : Terms) → products (p ++ q) r ≡ products p r ++ products q r
 products-append [] q r = refl
 products-append (t ∷ ts) q r = ap (λ x. multiples t r ++ x) (products-append ts q r) ∙ sym (append_assoc (multiples t r) (products ts r) (products q r))
 

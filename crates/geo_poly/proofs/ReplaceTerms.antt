@@ -28,7 +28,7 @@ IsBefore-others rows v (p ∷ m) h = go (row_of rows p.0) (IsBefore-others rows 
     go None rest = (h.0, rest)
     go (Some r) rest = rest
 
-IsCanonical-others : (rows : List Row) (m : Powers) → IsCanonical var_cmp exponents m → IsCanonical var_cmp exponents (others rows m)
+pub IsCanonical-others : (rows : List Row) (m : Powers) → IsCanonical var_cmp exponents m → IsCanonical var_cmp exponents (others rows m)
 IsCanonical-others rows [] h = tt
 IsCanonical-others rows (p ∷ m) h = go (row_of rows p.0) (IsCanonical-others rows m h.2)
   where

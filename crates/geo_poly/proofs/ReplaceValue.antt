@@ -1,6 +1,8 @@
 -- A replacement multiplies the value by a power of the denominator.
 use Rattle.std.proofs.Common.{◌≡◌, ℕ, zero as zeroₙ, suc, ◌+◌ as ◌+ₙ◌, ◌*◌ as ◌*ₙ◌, ◌-◌ as ◌-ₙ◌, ◌≤◌, Bool, true, false, cond, ℤ, Option, Some, None, List, [], ◌∷◌, refl, subst, sym, arith}
 use Rattle.std.specs.Ordering.{is_eq}
+use Rattle.std.specs.declared.cmp.Ordering.{Ordering}
+use Rattle.std.specs.declared.cmp.Ordering.TheVariants.{Less, Equal, Greater}
 use Rattle.ring_laws.specs.Ring.{Ring}
 use Rattle.ring_laws.specs.Solver.{variable, ◌⊠◌, entry_at}
 use Rattle.ring_laws.specs.Powers.{power}
@@ -13,7 +15,11 @@ use Rattle.geo_poly.specs.Variables.{var_cmp}
 use Rattle.geo_poly.specs.Monomials.{Powers}
 use Rattle.geo_poly.specs.Polynomials.{Terms}
 use Rattle.geo_poly.specs.Values.{integer, monomial_value, value}
+use Rattle.ring_laws.proofs.Fractions.{fractions}
+use Rattle.ring_laws.specs.Fraction.{Fraction}
+use Rattle.geo_poly.specs.ReplacementLaws.{ReplacementHasTheValue, RowsTell}
 use Rattle.geo_poly.specs.Replace.{row_of, power_in, denominators, most_denominators, kept, others, times_power, times_row, times_rows, replaced_term, replaced_terms, replaced_by}
+use Rattle.geo_poly.proofs.Orders.{var_order}
 use Rattle.geo_poly.proofs.Values.{value-append, value-polynomial_of, value-product_of}
 
 module _ (R : Ring) (x : Var → R.carrier) where
@@ -140,3 +146,18 @@ module _ (R : Ring) (x : Var → R.carrier) where
     value-replaced_by rows den p h den-is =
         let top = most_denominators rows p in
         value-polynomial_of R x (replaced_terms rows den top p) ∘ value-replaced_terms rows den top p h den-is (omega arith)
+
+-- over fractions, with the value of the denominator for d
+rows_hold : (x : Var → Fraction) (d : Fraction) (rows : List Row) → RowsTell x d rows → RowsHold fractions x d rows
+rows_hold x d [] h = tt
+rows_hold x d (r ∷ rs) h = (h.0, rows_hold x d rs h.1)
+
+pub replacement_value : ReplacementHasTheValue
+replacement_value x rows den p h =
+    value-replaced_by fractions x (λ v w e. var_order.exact v w (equal (var_cmp v w) e)) (value fractions x den) rows den p
+    (rows_hold x (value fractions x den) rows h) (fractions.same_refl (value fractions x den))
+  where
+    equal : (o : Ordering) → is_eq o ≡ true → o ≡ Equal
+    equal Equal e = refl
+    equal Less e = absurd (cc)
+    equal Greater e = absurd (cc)

@@ -7,3 +7,10 @@ pub mod Laws
 pub mod Division
 pub mod Factors
 pub mod Canonical
+pub mod Specialise
+pub mod PolynomialVariables
+pub mod Cuts
+pub mod SortedVariables
+pub mod KeptVariables
+pub mod ReplacementLaws
+pub mod RowTables

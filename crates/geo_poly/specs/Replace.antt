@@ -1,5 +1,5 @@
 -- What becomes of a polynomial when variables are replaced at once, each by a numerator over a power of one denominator.
-use Rattle.std.specs.Prelude.{ℕ, zero, suc, ◌+◌, ◌*◌, ◌-◌, ◌^◌, ◌<◌, ◌≤◌, max, ℤ, Option, Some, None, List, [], ◌∷◌, ◌++◌, find, sum_by, unsigned_abs}
+use Rattle.std.specs.Prelude.{ℕ, zero, suc, ◌+◌, ◌*◌, ◌-◌, ◌^◌, ◌<◌, ◌≤◌, max, ℤ, Option, Some, None, List, [], ◌∷◌, ◌++◌, find, length, sum_by, unsigned_abs}
 use Rattle.std.specs.Ordering.{is_eq}
 use Rattle.geo_poly.specs.declared.variables.Var.{Var}
 use Rattle.geo_poly.specs.declared.replacement.Piece.{Piece}
@@ -9,10 +9,12 @@ use Rattle.sparse_lists.specs.SparseLists.{AllKeys, IsCanonical}
 use Rattle.geo_poly.specs.Monomials.{Powers, IsMonomial, degree_of}
 use Rattle.geo_poly.specs.Polynomials.{Terms, coefficients, term_cmp, polynomial_of, norm_of, total_degree, product_of}
 
--- the bounds that a piece tells are such
+-- the bounds that a piece tells are such, and its count is at most its weight, as each monomial has a coefficient of at least 1
 pub record IsBounded (piece : Piece) : Type 0 where
   pub norm : norm_of piece.poly ≤ piece.weight
+  pub count : length piece.poly ≤ piece.count
   pub degree : total_degree piece.poly ≤ piece.degree
+  pub light : piece.count ≤ piece.weight
   pub weight : 1 ≤ piece.weight
 
 -- the first row of a variable

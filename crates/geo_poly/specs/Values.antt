@@ -3,7 +3,7 @@ use Rattle.std.specs.Prelude.{ℕ, suc, ℤ, pos, negsuc, [], ◌∷◌}
 use Rattle.ring_laws.specs.Ring.{Ring}
 use Rattle.ring_laws.specs.Solver.{natural}
 use Rattle.ring_laws.specs.Powers.{power}
-use Rattle.geo_points.specs.Fraction.{Fraction}
+use Rattle.ring_laws.specs.Fraction.{Fraction}
 use Rattle.geo_points.specs.Points.{Point, ratio, signed_area, pythagoras_difference, x_coordinate, y_coordinate}
 use Rattle.geo_poly.specs.declared.variables.Var.{Var}
 use Rattle.geo_poly.specs.declared.variables.Var.TheVariants.{R, S, P, X, Y, T}

@@ -12,7 +12,8 @@ use crate::monomials::Monomial;
 use crate::polynomials::Poly;
 use crate::terms::Term;
 use crate::variables::Var;
-use geo_points::{NoMemory, gcd};
+use frac_laws::gcd;
+use geo_points::NoMemory;
 use std::alloc::Global;
 
 impl Poly {

@@ -1,8 +1,12 @@
 //! Laws of the definitions that the contracts cite; the functions do nothing.
 
-ghost use Rattle.geo_poly.specs.Canonical.{CanonicalAreaKeepsValue};
+ghost use Rattle.geo_poly.specs.Canonical.{CanonicalAreaKeepsValue, CanonicalDifferenceKeepsValue, CanonicalRatioKeepsValue};
 ghost use Rattle.geo_poly.specs.Factors.{FactorDivides, FactorIsUnique};
+ghost use Rattle.geo_poly.specs.KeptVariables.{SortedVariablesAreKept, VariablesAreKept};
 ghost use Rattle.geo_poly.specs.Laws.{OrderIsByExponents, OrderTellsVariables, PolynomialHasCoefficients, ProductAddsExponents, SumAddsCoefficients};
+ghost use Rattle.geo_poly.specs.ReplacementLaws.{ReplacedByIsTheSum, ReplacementHasTheValue};
+ghost use Rattle.geo_poly.specs.SortedVariables.{CanonicalFormsAreSorted, SortedVariablesAreCanonical};
+ghost use Rattle.geo_poly.specs.Specialise.{SmallNumbersKeepTheNorm, SomeNumberKeepsAll, SpecialisedIsSmaller, SpecialisedKeepsValue, ZerosAreFew};
 
 /// Variables that compare as equal are the same, so `==` tells them apart.
 pub fn order_tells_variables()
@@ -42,4 +46,76 @@ pub fn factor_divides()
 /// The canonical form of a signed area has its value.
 pub fn canonical_area_keeps_value()
     ensures { CanonicalAreaKeepsValue }
+{}
+
+/// The canonical form of a Pythagoras difference has its value.
+pub fn canonical_difference_keeps_value()
+    ensures { CanonicalDifferenceKeepsValue }
+{}
+
+/// The canonical form of a ratio has its value wherever the ratio is defined.
+pub fn canonical_ratio_keeps_value()
+    ensures { CanonicalRatioKeepsValue }
+{}
+
+/// With a number for a variable, a polynomial keeps its value wherever the variable has that number
+/// as its value.
+pub fn specialised_keeps_value()
+    ensures { SpecialisedKeepsValue }
+{}
+
+/// With a number for a variable, a polynomial lacks the variable, and neither its degrees nor the
+/// number of its monomials grow.
+pub fn specialised_is_smaller()
+    ensures { SpecialisedIsSmaller }
+{}
+
+/// With 0, 1 or -1 for a variable, the weight is at most the norm.
+pub fn small_numbers_keep_the_norm()
+    ensures { SmallNumbersKeepTheNorm }
+{}
+
+/// A polynomial that is not zero becomes zero at no more numbers than its degree in the variable.
+pub fn zeros_are_few()
+    ensures { ZerosAreFew }
+{}
+
+/// For polynomials none of which is zero, some number from 0 to the sum of their degrees in a variable
+/// makes none of them zero.
+pub fn some_number_keeps_all()
+    ensures { SomeNumberKeepsAll }
+{}
+
+/// The canonical form of a ratio, an area or a Pythagoras difference is a sign times a sorted
+/// variable, or one of the numbers -1, 0 and 1.
+pub fn canonical_forms_are_sorted()
+    ensures { CanonicalFormsAreSorted }
+{}
+
+/// A sorted variable is its own canonical form, with the sign 1. So each quantity has one name.
+pub fn sorted_variables_are_canonical()
+    ensures { SortedVariablesAreCanonical }
+{}
+
+/// Sums, differences, products, replacements, quotients and specialisations have no variable but
+/// those of the polynomials that they are made of.
+pub fn variables_are_kept()
+    ensures { VariablesAreKept }
+{}
+
+/// Where all variables of some polynomials are sorted, so are those of what is made of them.
+pub fn sorted_variables_are_kept()
+    ensures { SortedVariablesAreKept }
+{}
+
+/// What a replacement makes is the sum over the terms of what stays of the term, times the
+/// numerators and the denominator to the powers that the term calls for.
+pub fn replaced_by_is_the_sum()
+    ensures { ReplacedByIsTheSum }
+{}
+
+/// A replacement multiplies the value by the denominator, to the power of the term that calls for
+/// most.
+pub fn replacement_has_the_value()
+    ensures { ReplacementHasTheValue }
 {}

@@ -5,6 +5,7 @@ ghost use Rattle.geo_poly.specs.Variables.{var_cmp};
 ghost use Rattle.sparse_lists.specs.SparseLists.{IsCanonical};
 ghost use Rattle.geo_poly.specs.Monomials.{degree_of, exponent, exponents, IsMonomial, monomial_cmp, product};
 ghost use Rattle.geo_poly.specs.Division.{IsNoMultiple};
+ghost use Rattle.geo_poly.specs.Specialise.{without};
 
 use crate::variables::Var;
 use geo_points::NoMemory;
@@ -98,12 +99,29 @@ impl Monomial {
         total
     }
 
+    /// The monomial of the other variables.
+    pub fn without(&self, alloc: Global, v: Var) -> Result<Monomial, NoMemory>
+        ensures { IfOk result (λ m. m ≡ without v self.now) }
+    {
+        let mut powers = Vec::new(alloc);
+        for (w, e) in &self.powers {
+            if v != *w {
+                powers.push((*w, *e))?;
+            }
+        }
+        Ok(Monomial { powers })
+    }
+
     /// What times `by` is this monomial, where there is such a one.
     pub fn over(&self, alloc: Global, by: &Monomial) -> Result<Option<Monomial>, NoMemory>
         ensures some { IfOk result (λ o. IfSome o (λ q. product by.now q ≡ self.now)) }
         ensures monomial { IfOk result (λ o. IfSome o IsMonomial) }
         ensures none { IfOk result (λ o. IfNone o (IsNoMultiple by.now self.now)) }
     {
+        if by.powers().is_empty() {
+            let powers = Vec::from_slice(alloc, &self.powers)?;
+            return Ok(Some(Monomial { powers }));
+        }
         let mut rest = Monomial::one(alloc);
         for (v, e) in &self.powers {
             let left = e.saturating_sub(by.exponent(*v));

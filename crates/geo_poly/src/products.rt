@@ -47,7 +47,7 @@ fn multiples_of(alloc: Global, term: &Term, terms: &[Term]) -> Result<Vec<Term>,
     Ok(row)
 }
 
-/// The product, by halves of the left list, so that few terms are copied often.
+/// The product, by halves of the shorter list, so that few terms are merged often.
 pub(crate) fn product_of_terms(
     alloc: Global,
     left: &[Term],
@@ -56,13 +56,25 @@ pub(crate) fn product_of_terms(
     requires { CanMultiply left.now right.now }
     ensures { IfOk result (λ v. v.items ≡ product_of left.now right.now) }
 {
+    if left.len() <= right.len() {
+        product_by_halves(alloc, left, right)
+    } else {
+        product_by_halves(alloc, right, left)
+    }
+}
+
+/// The product, by halves of the left list.
+fn product_by_halves(alloc: Global, left: &[Term], right: &[Term]) -> Result<Vec<Term>, NoMemory>
+    requires { CanMultiply left.now right.now }
+    ensures { IfOk result (λ v. v.items ≡ product_of left.now right.now) }
+{
     match left {
         [] => Ok(Vec::new(alloc)),
         [term] => multiples_of(alloc, term, right),
         _ => {
             let (front, back) = left.split_at(left.len() / 2);
-            let front = product_of_terms(alloc, front, right)?;
-            let back = product_of_terms(alloc, back, right)?;
+            let front = product_by_halves(alloc, front, right)?;
+            let back = product_by_halves(alloc, back, right)?;
             merged(alloc, &front, &back)
         }
     }

@@ -1,36 +1,38 @@
 //! Replacing variables of a polynomial at once, each by a numerator over a power of one denominator.
 
 ghost use Rattle.std.specs.Prelude.{min, ◌-◌, ◌≡◌, ◌≢◌, ◌↔◌, ◌+◌, ◌*◌, ◌^◌, ◌<◌, ◌≤◌, pos, unsigned_abs, IfOk};
-ghost use Rattle.std.specs.Option.{option_copied};
 ghost use Rattle.sparse_lists.specs.SparseLists.{AllKeys, IsCanonical};
 ghost use Rattle.geo_poly.specs.Monomials.{IsMonomial};
 ghost use Rattle.geo_poly.specs.Polynomials.{coefficients, norm_of, polynomial_of, term_cmp, total_degree};
-ghost use Rattle.geo_poly.specs.Replace.{AllBounded, AllPowersSmall, CanReplace, IsBounded, degree_bound, denominators, most_denominators, others, replaced_by, replaced_degree, replaced_term, replaced_terms, replaced_weight, row_of, term_degree, term_weight, times_power, weight_of};
+ghost use Rattle.geo_poly.specs.Replace.{AllBounded, AllPowersSmall, CanReplace, IsBounded, degree_bound, denominators, most_denominators, others, replaced_by, replaced_degree, replaced_term, replaced_terms, replaced_weight, term_degree, term_weight, times_power, weight_of};
 
 use crate::limits::{MAX, MAX_DEGREE, PolyError, Which};
 use crate::monomials::Monomial;
 use crate::polynomials::Poly;
 use crate::products::product_of_terms;
+use crate::row_table::RowTable;
 use crate::sums::merged;
-use crate::terms::{Term, append_copies};
+use crate::terms::Term;
 use crate::variables::Var;
 use geo_points::NoMemory;
 use std::alloc::Global;
 
-/// A polynomial with numbers that bound its size, which are known before it is multiplied out.
+/// A polynomial with numbers that bound its size, which are known before it is multiplied out. They
+/// are promised only where a contract says `IsBounded`.
 #[derive(Drop)]
 pub struct Piece {
     /// The polynomial.
     pub poly: Poly,
-    /// At least 1 and the norm.
+    /// At least 1 and at least the norm.
     pub weight: u128,
-    /// At least 1 and the number of monomials.
+    /// At least the number of monomials, and at most the weight.
     pub count: u128,
     /// At least the degree.
     pub degree: u128,
 }
 
-/// What stands for a variable: the variable times the denominator to the power is the numerator.
+/// What stands for a variable: the variable times the denominator to the power is the numerator. Of
+/// several rows of one variable the first counts.
 #[derive(Drop)]
 pub struct Row {
     /// The variable that is replaced.
@@ -57,6 +59,7 @@ impl Poly {
             × (65535 < replaced_degree rows.now den.now self.now)) }
     {
         let terms = self.terms.as_slice();
+        let rows = &RowTable::new(alloc, rows);
         let top = most_denominators_of(terms, rows);
         if weight_of_terms(terms, rows, den, top) > MAX as u128 {
             return Err(PolyError::TooLarge(Which::Norm));
@@ -69,27 +72,15 @@ impl Poly {
     }
 }
 
-/// The first row of the variable.
-fn find_row(rows: &[Row], v: Var) -> Option<&Row>
-    ensures { option_copied result ≡ row_of rows.now v }
-{
-    for row in rows {
-        if row.var == v {
-            return Some(row);
-        }
-    }
-    None
-}
-
 /// The powers of the denominator that a monomial calls for.
-fn denominators_of(powers: &[(Var, u32)], rows: &[Row]) -> u32
+fn denominators_of(powers: &[(Var, u32)], rows: &RowTable) -> u32
     requires powers { AllPowersSmall rows.now }
     requires monomial { IsMonomial powers.now }
     ensures { result ≡ denominators rows.now powers.now }
 {
     let mut denominators = 0;
     for (v, e) in powers {
-        if let Some(row) = find_row(rows, *v) {
+        if let Some(row) = rows.find_row(*v) {
             denominators += row.power * *e;
         }
     }
@@ -97,7 +88,7 @@ fn denominators_of(powers: &[(Var, u32)], rows: &[Row]) -> u32
 }
 
 /// The greatest power of the denominator that a monomial calls for.
-fn most_denominators_of(terms: &[Term], rows: &[Row]) -> u32
+fn most_denominators_of(terms: &[Term], rows: &RowTable) -> u32
     requires powers { AllPowersSmall rows.now }
     requires monomials { AllKeys IsMonomial terms.now }
     ensures { result ≡ most_denominators rows.now terms.now }
@@ -116,7 +107,7 @@ fn most_denominators_of(terms: &[Term], rows: &[Row]) -> u32
 fn weight_of_term(
     powers: &[(Var, u32)],
     coefficient: i128,
-    rows: &[Row],
+    rows: &RowTable,
     den: &Piece,
     top: u32,
 ) -> u128
@@ -128,7 +119,7 @@ fn weight_of_term(
     let mut weight = coefficient.unsigned_abs();
     let mut missing = top;
     for (v, e) in powers {
-        if let Some(row) = find_row(rows, *v) {
+        if let Some(row) = rows.find_row(*v) {
             missing -= row.power * *e;
             weight = weight.saturating_mul(row.num.weight.saturating_pow(*e));
         }
@@ -137,7 +128,7 @@ fn weight_of_term(
 }
 
 /// The sum of the weights of what becomes of the terms, or the greatest number where it passes that.
-fn weight_of_terms(terms: &[Term], rows: &[Row], den: &Piece, top: u32) -> u128
+fn weight_of_terms(terms: &[Term], rows: &RowTable, den: &Piece, top: u32) -> u128
     requires rows { AllBounded rows.now }
     requires den { IsBounded den.now }
     requires top { most_denominators rows.now terms.now ≤ top }
@@ -151,7 +142,7 @@ fn weight_of_terms(terms: &[Term], rows: &[Row], den: &Piece, top: u32) -> u128
 }
 
 /// The degree of what becomes of a term, or the greatest number where it passes that.
-fn degree_of_term(powers: &[(Var, u32)], rows: &[Row], den: &Piece, top: u32) -> u128
+fn degree_of_term(powers: &[(Var, u32)], rows: &RowTable, den: &Piece, top: u32) -> u128
     requires top { denominators rows.now powers.now ≤ top }
     requires monomial { IsMonomial powers.now }
     ensures { result ≡ min (term_degree rows.now den.now top (powers.now, pos 1)) (2 ^ 128 - 1) }
@@ -159,7 +150,7 @@ fn degree_of_term(powers: &[(Var, u32)], rows: &[Row], den: &Piece, top: u32) ->
     let mut degree = 0u128;
     let mut missing = top;
     for (v, e) in powers {
-        match find_row(rows, *v) {
+        match rows.find_row(*v) {
             Some(row) => {
                 missing -= row.power * *e;
                 degree = degree.saturating_add(row.num.degree.saturating_mul(*e as u128));
@@ -171,7 +162,7 @@ fn degree_of_term(powers: &[(Var, u32)], rows: &[Row], den: &Piece, top: u32) ->
 }
 
 /// The greatest degree of what becomes of a term, or the greatest number where it passes that.
-fn degree_of_terms(terms: &[Term], rows: &[Row], den: &Piece, top: u32) -> u128
+fn degree_of_terms(terms: &[Term], rows: &RowTable, den: &Piece, top: u32) -> u128
     requires top { most_denominators rows.now terms.now ≤ top }
     requires monomials { AllKeys IsMonomial terms.now }
     ensures { result ≡ min (degree_bound rows.now den.now top terms.now) (2 ^ 128 - 1) }
@@ -189,20 +180,19 @@ fn degree_of_terms(terms: &[Term], rows: &[Row], den: &Piece, top: u32) -> u128
 /// The terms times the piece, as often as is said.
 fn times_power(
     alloc: Global,
-    terms: &[Term],
+    terms: Vec<Term>,
     piece: &Piece,
     count: u32,
 ) -> Result<Vec<Term>, NoMemory>
     requires piece { IsBounded piece.now }
-    requires in_order { IsCanonical term_cmp coefficients terms.now }
-    requires monomials { AllKeys IsMonomial terms.now }
-    requires norm { norm_of terms.now * piece.now.weight ^ count < 2 ^ 127 }
-    requires degree { total_degree terms.now + piece.now.degree * count ≤ 65535 }
-    ensures { IfOk result (λ v. v.items ≡ times_power terms.now piece.now.poly count) }
+    requires in_order { IsCanonical term_cmp coefficients terms.items }
+    requires monomials { AllKeys IsMonomial terms.items }
+    requires norm { norm_of terms.items * piece.now.weight ^ count < 2 ^ 127 }
+    requires degree { total_degree terms.items + piece.now.degree * count ≤ 65535 }
+    ensures { IfOk result (λ v. v.items ≡ times_power terms.items piece.now.poly count) }
 {
     let factor = &piece.poly;
-    let mut product = Vec::new(alloc);
-    append_copies(alloc, &mut product, terms)?;
+    let mut product = terms;
     for _k in 0..count {
         product = product_of_terms(alloc, &product, &factor.terms)?;
     }
@@ -210,13 +200,13 @@ fn times_power(
 }
 
 /// The variables with no row.
-fn others_of(alloc: Global, powers: &[(Var, u32)], rows: &[Row]) -> Result<Monomial, NoMemory>
+fn others_of(alloc: Global, powers: &[(Var, u32)], rows: &RowTable) -> Result<Monomial, NoMemory>
     requires { IsMonomial powers.now }
     ensures { IfOk result (λ m. m ≡ others rows.now powers.now) }
 {
     let mut kept = Monomial::one(alloc);
     for (v, e) in powers {
-        match find_row(rows, *v) {
+        match rows.find_row(*v) {
             Some(_) => {}
             None => kept.push(*v, *e)?,
         }
@@ -230,7 +220,7 @@ fn replaced_term(
     rest: Monomial,
     powers: &[(Var, u32)],
     coefficient: i128,
-    rows: &[Row],
+    rows: &RowTable,
     den: &Piece,
     top: u32,
 ) -> Result<Vec<Term>, NoMemory>
@@ -249,19 +239,19 @@ fn replaced_term(
     product.push((rest, coefficient))?;
     let mut missing = top;
     for (v, e) in powers {
-        if let Some(row) = find_row(rows, *v) {
+        if let Some(row) = rows.find_row(*v) {
             missing -= row.power * *e;
-            product = times_power(alloc, &product, &row.num, *e)?;
+            product = times_power(alloc, product, &row.num, *e)?;
         }
     }
-    times_power(alloc, &product, den, missing)
+    times_power(alloc, product, den, missing)
 }
 
 /// The sum of what becomes of the terms, by halves.
 fn replaced_terms(
     alloc: Global,
     terms: &[Term],
-    rows: &[Row],
+    rows: &RowTable,
     den: &Piece,
     top: u32,
 ) -> Result<Vec<Term>, NoMemory>

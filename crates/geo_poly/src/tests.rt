@@ -3,7 +3,7 @@
 ghost use Rattle.std.specs.Prelude.{◌<◌, length};
 ghost use Rattle.geo_poly.specs.Replace.{IsBounded};
 
-use crate::limits::PolyError;
+use crate::limits::{PolyError, Which};
 use crate::polynomials::Poly;
 use crate::replacement::{Piece, Row};
 use crate::variables::Var;
@@ -63,6 +63,7 @@ fn linear(alloc: Global, a: i32, b: i32) -> Result<Poly, PolyError> {
 }
 
 /// The polynomial with its own numbers as bounds.
+#[tactic(auto, using(crate::proofs::Lengths::own_count_is_light))]
 fn piece(poly: Poly) -> Piece
     ensures { IsBounded result }
 {
@@ -129,6 +130,33 @@ fn polynomials_are_combined(rt: HostRuntime) -> Result<(), Fail> {
 }
 
 #[test]
+fn variables_stand_in_order(rt: HostRuntime) -> Result<(), Fail> {
+    let alloc = rt.alloc();
+    let [a, b, c] = [PointId(0), PointId(1), PointId(2)];
+    let mixed = [
+        Var::T(ParamId(0)),
+        Var::Y(a),
+        Var::X(b),
+        Var::P(a, b, a),
+        Var::X(a),
+        Var::S(a, b, c),
+        Var::R(a, b, a, c),
+    ];
+    let mut sum = Poly::zero(alloc);
+    for v in mixed {
+        sum = sum.add(alloc, &Poly::var(alloc, v)?)?;
+    }
+    let square = sum.mul(alloc, &sum)?;
+    let mut text = String::new(alloc);
+    for v in square.variables(alloc)?.items {
+        text.push_str(named(alloc, v)?.as_str())?;
+        text.push_str(" ")?;
+    }
+    assert_eq!(rt; text.as_str(), "R0.1.0.2 S0.1.2 P0.1.0 x0 y0 x1 t0 ");
+    Ok(())
+}
+
+#[test]
 fn variables_are_replaced(rt: HostRuntime) -> Result<(), Fail> {
     let alloc = rt.alloc();
     let table = [
@@ -147,5 +175,45 @@ fn variables_are_replaced(rt: HostRuntime) -> Result<(), Fail> {
         let replaced = linear(alloc, a, b)?.replace(alloc, &rows, &den)?;
         assert_eq!(rt; spelled(alloc, &replaced)?.as_str(), text);
     }
+    Ok(())
+}
+
+#[test]
+fn variables_get_numbers(rt: HostRuntime) -> Result<(), Fail> {
+    let alloc = rt.alloc();
+    let x = Var::X(PointId(0));
+    let y = Var::Y(PointId(0));
+    let squares = linear(alloc, 1, 1)?.mul(alloc, &linear(alloc, 1, -1)?)?;
+    assert_eq!(rt; squares.degree_in(x), 2);
+    assert_eq!(rt; squares.degree_in(Var::T(ParamId(0))), 0);
+    let table = [
+        (x, 0, "-1*y0^2"),
+        (x, 3, "-1*y0^2 +9"),
+        (x, -3, "-1*y0^2 +9"),
+        (y, 2, "+1*x0^2 -4"),
+        (Var::T(ParamId(0)), 7, "+1*x0^2 -1*y0^2"),
+    ];
+    for (v, number, text) in table {
+        let special = squares.specialise(alloc, v, number)?;
+        assert_eq!(rt; spelled(alloc, &special)?.as_str(), text);
+    }
+    let at_three = squares.specialise(alloc, x, 3)?;
+    let zero = at_three.specialise(alloc, y, -3)?;
+    assert_eq!(rt; spelled(alloc, &zero)?.as_str(), "0");
+    Ok(())
+}
+
+#[test]
+fn numbers_are_refused_by_the_weight(rt: HostRuntime) -> Result<(), Fail> {
+    let alloc = rt.alloc();
+    let x = Var::X(PointId(0));
+    let large = linear(alloc, 1 << 30, 0)?;
+    let refused = match large.specialise(alloc, x, 1 << 97) {
+        Err(error) => Some(error),
+        Ok(_) => None,
+    };
+    assert_eq!(rt; refused, Some(PolyError::TooLarge(Which::Norm)));
+    let edge = large.specialise(alloc, x, (1 << 96) + 1)?;
+    assert_eq!(rt; edge.terms(), 1);
     Ok(())
 }

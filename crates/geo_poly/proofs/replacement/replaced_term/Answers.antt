@@ -38,8 +38,7 @@ times_power-requires-clause-norm c =
     let p = c.loop-v.product.items in
     let fits = row_fits rows top m k (at m i) (drop (i + 1) m) p c.loop-v.missing c.in-Some.row.now _ _ (sym c.in-Some.ensures) c.requires.rows
     (shown rows top m k i p c.loop-v.missing c.loop-v-test.true c.loop-v.invariant) (le_refl (weight_rows rows m (unsigned_abs k))) (le_refl (degree_rows rows m (degree_of (others rows m)))) in
-    rw c.deref.ensures.value
-    (omega (arith, fits.0, rows_weight_fits rows c.args.den.now top m k c.args.coefficient (to_z-of_z w128 c.args.coefficient (search rules)) c.requires.den c.requires.norm))
+    omega (arith, fits.0, rows_weight_fits rows c.args.den.now top m k c.args.coefficient (to_z-of_z w128 c.args.coefficient (search rules)) c.requires.den c.requires.norm)
 
 pub times_power-requires-clause-degree : goal.times_power-requires-clause-degree
 times_power-requires-clause-degree c =
@@ -51,7 +50,7 @@ times_power-requires-clause-degree c =
     let p = c.loop-v.product.items in
     let fits = row_fits rows top m k (at m i) (drop (i + 1) m) p c.loop-v.missing c.in-Some.row.now _ _ (sym c.in-Some.ensures) c.requires.rows
     (shown rows top m k i p c.loop-v.missing c.loop-v-test.true c.loop-v.invariant) (le_refl (weight_rows rows m (unsigned_abs k))) (le_refl (degree_rows rows m (degree_of (others rows m)))) in
-    rw c.deref.ensures.value (omega (arith, fits.1, c.requires.degree))
+    omega (arith, fits.1, c.requires.degree)
 
 pub loop-v-preserved : goal.loop-v-preserved
 loop-v-preserved c =
@@ -67,7 +66,7 @@ loop-v-preserved c =
           let row : row_of rows (at m i).0 ≡ Some w.in-Some.row.now = sym w.in-Some.ensures in
           let fits = row_fits rows top m k (at m i) (drop (i + 1) m) p c.loop-v.missing w.in-Some.row.now _ _ row c.requires.rows progress
           (le_refl (weight_rows rows m (unsigned_abs k))) (le_refl (degree_rows rows m (degree_of (others rows m)))) in
-          rw (w.product-is, w.in_ok-product.ensures, w.deref.ensures.value, w.missing-is)
+          rw (w.product-is, w.in_ok-product.ensures, w.missing-is)
           (Progress-some rows top m k (at m i) (drop (i + 1) m) p c.loop-v.missing w.in-Some.row.now row c.requires.rows progress (omega (arith, fits.1, c.requires.degree)))
       | in_default w ↦ rw (w.product-is, w.missing-is) (Progress-none rows top m k (at m i) (drop (i + 1) m) p c.loop-v.missing (sym w.in_default.ensures) progress)
     ]

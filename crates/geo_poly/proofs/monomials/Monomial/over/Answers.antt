@@ -1,11 +1,13 @@
-use Rattle.std.proofs.Common.{◌≡◌, ℕ, ◌+◌, ◌-◌, ◌<◌, ◌≤◌, ◌++◌, ◌∷◌, eqb, false, drop, length, get_or, sym, ap, subst, ◌∙◌, arith}
+use Rattle.std.proofs.Common.{◌≡◌, ℕ, ◌+◌, ◌-◌, ◌<◌, ◌≤◌, ◌++◌, [], ◌∷◌, eqb, true, false, drop, length, get_or, sym, ap, ap₂, subst, ◌∙◌, arith}
 use Rattle.std.proofs.lemmas.Bool.Decides.{nat_tests}
-use Rattle.std.proofs.lemmas.List.{drop_all, append-nil}
+use Rattle.std.proofs.lemmas.List.{drop_all, append-nil, nil_from_length}
 use Rattle.geo_poly.specs.declared.variables.Var.{Var}
 use Rattle.geo_poly.specs.declared.variables.Var.TheVariants.{R}
-use Rattle.geo_poly.specs.Monomials.{Powers, IsMonomial, degree_of, exponent, product, monomial_cmp}
+use Rattle.geo_poly.specs.Monomials.{Powers, IsMonomial, degree_of, exponent, exponents, product, monomial_cmp}
+use Rattle.geo_poly.specs.Variables.{var_cmp}
 use Rattle.geo_poly.specs.Division.{quotient, IsNoMultiple}
-use Rattle.geo_poly.proofs.Orders.{monomial_exact, term_order}
+use Rattle.geo_poly.proofs.Orders.{exponents_add, monomial_exact, term_order, var_order}
+use Rattle.sparse_lists.proofs.Canonical.{canonical_self}
 use Rattle.sparse_lists.proofs.Merging.{drop_at, get_or_any}
 use Rattle.geo_poly.proofs.Quotients.{next_power, no_multiple, no_multiple_by_degree}
 use Rattle.geo_poly.proofs.monomials.Monomial.over.Goals as goal
@@ -22,6 +24,9 @@ whole m k rest i h e = sym (append-nil rest) ∙ ap (λ (x : Powers). rest ++ qu
 
 nonzero : (n : ℕ) → 0 < n → eqb n 0 ≡ false
 nonzero n h = grind (arith, nat_tests)
+
+zero : (n : ℕ) → eqb n 0 ≡ true → n ≡ 0
+zero n h = grind (arith, nat_tests)
 
 pub push-requires : goal.push-requires
 push-requires c =
@@ -60,3 +65,10 @@ returns-in_default-clause-none c =
     (no_multiple m k h
     (λ e. c.in_default.not-Equal (c.compare.ensures
     ∙ ap (λ (x : Powers). monomial_cmp x c.args.self.now) (c.in_ok-whole.ensures ∙ ap (product k) rest ∙ e ∙ self-is) ∙ term_order.self c.args.self.now)))
+
+pub returns-then-is_empty-clause-some : goal.returns-then-is_empty-clause-some
+returns-then-is_empty-clause-some c =
+    let m = c.self.inside.powers.items in
+    let none : c.args.by.now ≡ [] = sym c.powers.ensures ∙ nil_from_length c.powers.result.now (zero (length c.powers.result.now) (sym c.is_empty.ensures ∙ c.if-is_empty.true)) in
+    ap₂ (λ (k n : Powers). product k n) none (c.in_ok-powers.ensures.items ∙ c.deref.ensures.value)
+    ∙ canonical_self var_cmp exponents var_order exponents_add m c.self.invariant.in_order ∙ c.self.view_is

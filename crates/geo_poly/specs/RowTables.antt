@@ -1,0 +1,12 @@
+-- The places of rows by their variables.
+use Rattle.std.specs.Prelude.{◌≡◌, ℕ, List, slice_get}
+use Rattle.std.specs.BTreeMap.{BTreeMap, get}
+use Rattle.std.specs.Option.{option_and_then}
+use Rattle.geo_poly.specs.declared.variables.Var.{Var}
+use Rattle.geo_poly.specs.declared.replacement.Row.{Row}
+use Rattle.geo_poly.specs.Replace.{row_of}
+use Rattle.geo_poly.specs.Variables.{var_cmp}
+
+-- at each variable of a row stands the place of its first row
+abbrev pub AreFirstPlaces : List Row → BTreeMap Var ℕ → Type 0
+AreFirstPlaces rows places = (v : Var) → option_and_then (slice_get rows) (get var_cmp places v) ≡ row_of rows v
