@@ -1,15 +1,16 @@
 -- Numbers that are told up to a greatest one.
-use Rattle.std.proofs.Common.{◌≡◌, ℕ, ◌+◌, ◌*◌, ◌-◌, ◌^◌, ◌<◌, inl, inr, List, [], ◌∷◌, ◌++◌, length, slice_get, Some, sym, ap, ap₂, ◌∙◌, arith}
-use Rattle.std.proofs.lemmas.List.{length_push}
-use Rattle.std.proofs.lemmas.Option.{slice_get_within}
+use Rattle.std.proofs.Common.{◌≡◌, ℕ, ◌+◌, ◌*◌, ◌-◌, ◌^◌, ◌<◌, suc, pos, inl, inr, List, [], ◌∷◌, ◌++◌, length, slice_get, Some, option_map, refl, sym, ap, ap₂, ◌∙◌, arith}
+use Rattle.std.proofs.lemmas.List.{length-map, length_push}
+use Rattle.std.proofs.lemmas.Option.{slice_get-get_or, slice_get-map, slice_get_within}
 use Rattle.geo_points.specs.declared.ids.TermId.{TermId}
-use Rattle.geo_terms.specs.Stores.{tree_at}
-use Rattle.geo_terms.specs.Trees.{Tree}
+use Rattle.geo_terms.specs.Stores.{Store, tree_at, trees_of}
+use Rattle.geo_terms.specs.Trees.{Tree, integer_leaf}
+use Rattle.geo_terms.proofs.Trees.{length-trees_of}
 use Rattle.geo_poly.proofs.Capped.{cap_left, cap_right}
 use Rattle.fraction_poly.specs.declared.measures.Numbers.{Numbers}
 use Rattle.fraction_poly.specs.Parts.{AreNumbersOf}
 use Rattle.fraction_poly.proofs.Places.{place_cases, slice_get-end, slice_get-front}
-use Rattle.fraction_poly.specs.Measures.{numbers_of, capped_number, capped, sum_numbers, product_numbers}
+use Rattle.fraction_poly.specs.Measures.{numbers_of, capped_number, capped, store_numbers, sum_numbers, product_numbers}
 
 abbrev most : ℕ
 most = 2 ^ 128 - 1
@@ -72,3 +73,21 @@ AreNumbersOf-push trees parts n h is = record { each = each }
           | inl below ↦ slice_get-front parts (n ∷ []) e.0 below ∙ h.each e below
           | inr same ↦ slice_get-end parts n e.0 same ∙ ap Some is ∙ ap (λ k. Some (capped (numbers_of (tree_at trees (record { 0 = k }))))) (sym same)
         ]
+
+same_list : {X : Type 0} (xs ys : List X) → length xs ≡ length ys → ((k : ℕ) → k < length xs → slice_get xs k ≡ slice_get ys k) → xs ≡ ys
+same_list [] [] e h = refl
+same_list [] (y ∷ ys) e h = absurd (omega (arith, e))
+same_list (x ∷ xs) [] e h = absurd (omega (arith, e))
+same_list (x ∷ xs) (y ∷ ys) e h =
+    let first : x ≡ y = let both : slice_get (x ∷ xs) 0 ≡ slice_get (y ∷ ys) 0 = h 0 (omega arith) in cc in
+    ap₂ (λ z zs. z ∷ zs) first (same_list xs ys (omega (arith, e)) (λ k within. h (suc k) (omega (arith, within))))
+
+-- the numbers of all trees of a store
+pub numbers_are_all : (nodes : Store) (numbers : List Numbers) → AreNumbersOf (trees_of nodes) numbers → length numbers ≡ length nodes → numbers ≡ store_numbers nodes
+numbers_are_all nodes numbers h count =
+    let trees = trees_of nodes in
+    let measured : Tree → Numbers = λ e. capped (numbers_of e) in
+    same_list numbers (store_numbers nodes) (count ∙ sym (length-trees_of nodes) ∙ sym (length-map trees measured))
+    (λ k within.
+    h.each (record { 0 = k }) within
+    ∙ sym (slice_get-map measured trees k ∙ ap (option_map measured) (slice_get-get_or trees k (integer_leaf (pos 0)) (omega (arith, within, count, length-trees_of nodes)))))

@@ -1,5 +1,6 @@
 -- What is known at a node, when its parts are multiplied out.
-use Rattle.std.proofs.Common.{◌≡◌, ℤ, ◌^◌, ◌<◌, inl, inr, List, Option, Some, slice_get, unsigned_abs, refl, sym, ap, ap₂, subst, ◌∙◌, arith}
+use Rattle.std.proofs.Common.{◌≡◌, ℤ, ◌^◌, ◌<◌, inl, inr, List, Some, length, slice_get, unsigned_abs, refl, sym, ap, ap₂, subst, ◌∙◌, arith}
+use Rattle.std.proofs.lemmas.Option.{slice_get_within}
 use Rattle.geo_points.specs.declared.ids.TermId.{TermId}
 use Rattle.geo_poly.specs.Polynomials.{Terms, negated}
 use Rattle.geo_terms.specs.declared.nodes.Node.{Node}
@@ -11,13 +12,13 @@ use Rattle.fraction_poly.specs.Parts.{CanMultiplyOut, SumFits, IsPart, HasParts}
 use Rattle.fraction_poly.proofs.Rooms.{ProductsFit, sum_fits_addition, sum_fits_subtraction, products_fit_multiplication, products_fit_division}
 
 -- the node stands at the index, may be multiplied out, and its parts are
-pub record IsAtNode (nodes : Store) (parts : List (Option (Terms × Terms))) (id : TermId) (node : Node) : Type 0 where
+pub record IsAtNode (nodes : Store) (parts : List (Terms × Terms)) (id : TermId) (node : Node) : Type 0 where
   pub store : IsStore nodes
   pub at : slice_get nodes id.0 ≡ Some node
   pub fits : CanMultiplyOut (tree_of nodes id)
   pub ready : HasParts nodes parts id
 
-module _ (nodes : Store) (parts : List (Option (Terms × Terms))) (id : TermId) (node : Node) (h : IsAtNode nodes parts id node) where
+module _ (nodes : Store) (parts : List (Terms × Terms)) (id : TermId) (node : Node) (h : IsAtNode nodes parts id node) where
   tree_is : tree_of nodes id ≡ node_tree (trees_of nodes) node
   tree_is = tree_of-node nodes id node h.store h.at
 
@@ -28,20 +29,20 @@ module _ (nodes : Store) (parts : List (Option (Terms × Terms))) (id : TermId) 
   pub node_result : (f : Terms × Terms) → f ≡ multiplied_out (node_tree (trees_of nodes) node) → f ≡ multiplied_out (tree_of nodes id)
   node_result f is = is ∙ sym (ap multiplied_out tree_is)
 
-  pub part_stands : (c : TermId) → IsPart node c → (f : Terms × Terms) × (slice_get parts c.0 ≡ Some (Some f))
-  part_stands c part = (multiplied_out (tree_of nodes c), h.ready.each node c h.at part)
+  pub part_stands : (c : TermId) → IsPart node c → c.0 < length parts
+  part_stands c part = slice_get_within parts c.0 (multiplied_out (tree_of nodes c)) (h.ready.each node c h.at part)
 
-  pub part_is : (c : TermId) (f : Terms × Terms) → IsPart node c → slice_get parts c.0 ≡ Some (Some f) → f ≡ multiplied_out (tree_of nodes c)
-  part_is c f part at = let is : slice_get parts c.0 ≡ Some (Some (multiplied_out (tree_of nodes c))) = h.ready.each node c h.at part in cc
+  pub part_is : (c : TermId) (f : Terms × Terms) → IsPart node c → slice_get parts c.0 ≡ Some f → f ≡ multiplied_out (tree_of nodes c)
+  part_is c f part at = let is : slice_get parts c.0 ≡ Some (multiplied_out (tree_of nodes c)) = h.ready.each node c h.at part in cc
 
-module _ (nodes : Store) (parts : List (Option (Terms × Terms))) (id : TermId) where
+module _ (nodes : Store) (parts : List (Terms × Terms)) (id : TermId) where
   pub integer_fits : (n : ℤ) → IsAtNode nodes parts id (Int n) → unsigned_abs n < 2 ^ 127
   integer_fits n h = omega (arith, (node_fits nodes parts id (Int n) h).room.numerator_weight)
 
-  pub negation_is : (e : TermId) (x : Terms × Terms) → IsAtNode nodes parts id (Neg e) → slice_get parts e.0 ≡ Some (Some x) → (negated x.0, x.1) ≡ multiplied_out (tree_of nodes id)
+  pub negation_is : (e : TermId) (x : Terms × Terms) → IsAtNode nodes parts id (Neg e) → slice_get parts e.0 ≡ Some x → (negated x.0, x.1) ≡ multiplied_out (tree_of nodes id)
   negation_is e x h at = node_result nodes parts id (Neg e) h _ (ap (λ (f : Terms × Terms). (negated f.0, f.1)) (part_is nodes parts id (Neg e) h e x refl at))
 
-  module _ (e f : TermId) (x y : Terms × Terms) (at_e : slice_get parts e.0 ≡ Some (Some x)) (at_f : slice_get parts f.0 ≡ Some (Some y)) where
+  module _ (e f : TermId) (x y : Terms × Terms) (at_e : slice_get parts e.0 ≡ Some x) (at_f : slice_get parts f.0 ≡ Some y) where
     -- both parts, at a node that is made of two
     left_is : (node : Node) → IsAtNode nodes parts id node → IsPart node e → x ≡ multiplied_out (tree_of nodes e)
     left_is node h part = part_is nodes parts id node h e x part at_e

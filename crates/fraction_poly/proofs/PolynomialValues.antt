@@ -5,17 +5,18 @@ use Rattle.std.proofs.lemmas.Int.{ints}
 use Rattle.ring_laws.specs.Solver.{natural}
 use Rattle.ring_laws.proofs.Laws as Laws
 use Rattle.geo_points.specs.declared.ids.PointId.{PointId}
-use Rattle.geo_points.specs.Fraction.{Fraction, Same, whole, plus, negated, minus, times}
+use Rattle.ring_laws.specs.Fraction.{Fraction, Same, whole, plus, negated, minus, times}
 use Rattle.geo_points.specs.Placements.{Placement}
-use Rattle.geo_points.specs.Points.{signed_area}
-use Rattle.geo_points.proofs.Fractions.{fractions}
+use Rattle.geo_points.specs.Points.{signed_area, pythagoras_difference, ratio, HasRatio}
+use Rattle.ring_laws.proofs.Fractions.{fractions}
 use Rattle.geo_poly.specs.declared.canonical.Canon.{Canon}
 use Rattle.geo_poly.specs.declared.variables.Var.{Var}
-use Rattle.geo_poly.specs.Canonical.{canonical_area, canon_value}
+use Rattle.geo_poly.specs.Canonical.{canonical_area, canonical_difference, canonical_ratio, canon_value}
 use Rattle.geo_poly.specs.Polynomials.{Terms, constant_of, sum_of, difference_of, product_of}
 use Rattle.geo_poly.specs.Polynomials as Polynomials
 use Rattle.geo_poly.specs.Values.{integer, variable_value}
 use Rattle.geo_poly.proofs.CanonicalAreas.{canonical_area-value}
+use Rattle.geo_poly.proofs.CanonicalRatios.{canonical_difference-value, canonical_ratio-value}
 use Rattle.geo_poly.proofs.Values.{value-sum_of, value-product_of}
 use Rattle.fraction_poly.specs.Laws.{polynomial_value}
 use Rattle.fraction_poly.specs.MultipliedOut.{variable_polynomial, canon_polynomial}
@@ -96,6 +97,15 @@ module _ (placed : Placement) where
   -- the value of a canonical area is the signed area
   pub area_is : (a b c : PointId) → Same (polynomial_value placed (canon_polynomial (canonical_area a b c))) (signed_area (placed.point a.0) (placed.point b.0) (placed.point c.0))
   area_is a b c = canon_is (canonical_area a b c) ∘ flip (canonical_area-value placed.point placed.number a b c)
+
+  -- that of a canonical Pythagoras difference is the difference
+  pub pythagoras_is : (a b c : PointId) → Same (polynomial_value placed (canon_polynomial (canonical_difference a b c))) (pythagoras_difference (placed.point a.0) (placed.point b.0) (placed.point c.0))
+  pythagoras_is a b c = canon_is (canonical_difference a b c) ∘ flip (canonical_difference-value placed.point placed.number a b c)
+
+  -- that of a canonical ratio is the ratio, where this is defined
+  pub ratio_is : (a b c d : PointId) → HasRatio (placed.point a.0) (placed.point b.0) (placed.point c.0) (placed.point d.0)
+      → Same (polynomial_value placed (canon_polynomial (canonical_ratio a b c d))) (ratio (placed.point a.0) (placed.point b.0) (placed.point c.0) (placed.point d.0))
+  ratio_is a b c d h = canon_is (canonical_ratio a b c d) ∘ flip (canonical_ratio-value placed.point placed.number a b c d h)
 
   pub negated_is : (q : Terms) → Same (polynomial_value placed (Polynomials.negated q)) (negated (polynomial_value placed q))
   negated_is [] = flip (Laws.neg-zero fractions)

@@ -1,24 +1,22 @@
 -- The norm, the number of monomials and the degree of sums, products, constants and variables.
-use Rattle.std.proofs.Common.{◌≡◌, ℕ, ◌+◌, ◌*◌, ◌≤◌, max, Bool, true, false, cond, eqb, ℤ, pos, neg_ℤ, ◌*ℤ◌, Some, None, [], ◌∷◌, ◌++◌, refl, ap, unsigned_abs, length, sum_by, arith}
+use Rattle.std.proofs.Common.{◌≡◌, ℕ, ◌+◌, ◌*◌, ◌≤◌, max, Bool, true, false, cond, eqb, ◌||◌, ℤ, pos, ◌*ℤ◌, Some, None, [], ◌∷◌, ◌++◌, refl, ap, unsigned_abs, length, arith}
 use Rattle.std.proofs.Math.Nat.{mul-le-mul}
-use Rattle.std.proofs.lemmas.Int.{unsigned_abs-mul}
-use Rattle.std.proofs.lemmas.List.{length-append, length-map}
 use Rattle.std.proofs.lemmas.List.Sums.{sum_by-cons}
 use Rattle.std.specs.Ordering.{nat_cmp}
-use Rattle.std.specs.declared.cmp.Ordering.{Ordering}
-use Rattle.std.specs.declared.cmp.Ordering.TheVariants.{Less, Equal, Greater}
 use Rattle.geo_points.specs.declared.ids.PointId.{PointId}
 use Rattle.sparse_lists.specs.SparseLists.{AllKeys}
-use Rattle.sparse_lists.proofs.Sums.{AllKeys-canonical, AllKeys-append, sum_by-canonical-le}
+use Rattle.sparse_lists.proofs.Sums.{AllKeys-canonical, AllKeys-append}
 use Rattle.geo_poly.specs.declared.variables.Var.{Var}
-use Rattle.geo_poly.specs.Canonical.{ordering_sign, pair_sign, permutation_sign, sorted_area, signed_variable, canonical_area}
-use Rattle.geo_poly.specs.Monomials.{Powers, degree_of, product}
-use Rattle.geo_poly.specs.Polynomials.{Terms, coefficients, term_cmp, norm_of, total_degree, polynomial_of, constant_of, sum_of, negated, difference_of, multiples, products, product_of}
+use Rattle.geo_poly.specs.declared.variables.Var.TheVariants.{R}
+use Rattle.geo_poly.specs.Canonical.{pair_sign, permutation_sign, sorted_area, signed_variable, canonical_area, is_point, sorted_difference, canonical_difference, lower, higher, is_same_pair, canonical_ratio}
+use Rattle.geo_poly.specs.Monomials.{Powers, degree_of}
+use Rattle.geo_poly.specs.Polynomials.{Terms, coefficients, term_cmp, norm_of, total_degree, constant_of, sum_of, negated, difference_of, products, product_of}
+use Rattle.geo_poly.proofs.Lengths.{length-negated, length-product_of-le, length-sum_of-le}
 use Rattle.geo_poly.proofs.Negated.{norm_of-negated}
-use Rattle.geo_poly.proofs.Orders.{term_order}
-use Rattle.geo_poly.proofs.PolynomialLaws.{coefficients_add, norm_of-sum_of-le}
+use Rattle.geo_poly.proofs.PolynomialLaws.{norm_of-sum_of-le}
 use Rattle.geo_poly.proofs.ProductLaws.{norm_of-product_of-le}
 use Rattle.geo_poly.proofs.ReplaceBounds.{total_degree-product_of-le}
+use Rattle.geo_poly.proofs.SortedForms.{small_product, small_sign}
 use Rattle.fraction_poly.specs.MultipliedOut.{variable_polynomial, canon_polynomial}
 
 -- w, k and g bound the norm, the number of monomials and the degree
@@ -26,25 +24,6 @@ pub record IsWithin (p : Terms) (w k g : ℕ) : Type 0 where
   pub norm : norm_of p ≤ w
   pub count : length p ≤ k
   pub degree : total_degree p ≤ g
-
--- NUMBERS OF MONOMIALS
-each_one : (p : Terms) → sum_by (λ t. 1) p ≡ length p
-each_one [] = refl
-each_one (t ∷ ts) = omega (arith, sum_by-cons (λ (t : Powers × ℤ). 1) t ts, each_one ts)
-
-length-polynomial_of-le : (p : Terms) → length (polynomial_of p) ≤ length p
-length-polynomial_of-le p =
-    omega (arith, sum_by-canonical-le term_cmp coefficients term_order coefficients_add (λ t. 1) (λ k a b. omega arith) p, each_one p, each_one (polynomial_of p))
-
-length-products : (p q : Terms) → length (products p q) ≡ length p * length q
-length-products [] q = omega arith
-length-products (t ∷ ts) q = omega (arith, length-append (multiples t q) (products ts q), length-map {B = Powers × ℤ} q (λ (u : Powers × ℤ). (product t.0 u.0, t.1 *ℤ u.1)), length-products ts q)
-
-length-sum_of-le : (p q : Terms) → length (sum_of p q) ≤ length p + length q
-length-sum_of-le p q = omega (arith, length-polynomial_of-le (p ++ q), length-append p q)
-
-length-product_of-le : (p q : Terms) → length (product_of p q) ≤ length p * length q
-length-product_of-le p q = omega (arith, length-polynomial_of-le (products p q), length-products p q)
 
 -- DEGREES
 -- the degree is at most d where that of each monomial is
@@ -74,7 +53,7 @@ total_degree-negated (t ∷ ts) = ap (max (degree_of t.0)) (total_degree-negated
 pub IsWithin-negated : (p : Terms) (w k g : ℕ) → IsWithin p w k g → IsWithin (negated p) w k g
 IsWithin-negated p w k g h = record {
   norm = omega (arith, norm_of-negated p, h.norm);
-  count = omega (arith, length-map {B = Powers × ℤ} p (λ (t : Powers × ℤ). (t.0, neg_ℤ t.1)), h.count);
+  count = omega (arith, length-negated p, h.count);
   degree = omega (arith, total_degree-negated p, h.degree);
 }
 
@@ -110,24 +89,39 @@ IsWithin-variable sign v h = record {
   degree = omega (arith, sum_by-cons (λ (p : Var × ℕ). p.1) (v, 1) []);
 }
 
-small_sign : (o : Ordering) → unsigned_abs (ordering_sign o) ≤ 1
-small_sign Less = omega arith
-small_sign Equal = omega arith
-small_sign Greater = omega arith
-
-small_product : (y z : ℤ) → unsigned_abs y ≤ 1 → unsigned_abs z ≤ 1 → unsigned_abs (y *ℤ z) ≤ 1
-small_product y z h g = omega (arith, unsigned_abs-mul y z, mul-le-mul h g)
-
 small_permutation : (a b c : PointId) → unsigned_abs (permutation_sign a b c) ≤ 1
 small_permutation a b c =
     small_product (pair_sign a b *ℤ pair_sign b c) (pair_sign a c) (small_product (pair_sign a b) (pair_sign b c) (small_sign (nat_cmp a.0 b.0)) (small_sign (nat_cmp b.0 c.0))) (small_sign (nat_cmp a.0 c.0))
 
+-- a sign times a variable, or a number that is a sign
+IsWithin-number : (z : ℤ) → unsigned_abs z ≤ 1 → IsWithin (canon_polynomial (record { sign = z; var = None })) 1 1 1
+IsWithin-number z h =
+    let w = IsWithin-constant z in
+    record { norm = omega (arith, w.norm); count = omega (arith, w.count); degree = omega (arith, w.degree) }
+
+IsWithin-signed : (sign : ℤ) (v : Var) → unsigned_abs sign ≤ 1 → IsWithin (canon_polynomial (signed_variable sign v)) 1 1 1
+IsWithin-signed sign v h =
+    elim (eqb (unsigned_abs sign) 0) as (λ b. IsWithin (canon_polynomial (cond b (record { sign = pos 0; var = None }) (record { sign = sign; var = Some v }))) 1 1 1) [
+      | true ↦ record { norm = omega arith; count = omega arith; degree = omega arith }
+      | false ↦ IsWithin-variable sign v h
+    ]
+
 pub IsWithin-area : (a b c : PointId) → IsWithin (canon_polynomial (canonical_area a b c)) 1 1 1
-IsWithin-area a b c = go (permutation_sign a b c) (sorted_area a b c) (small_permutation a b c)
-  where
-    go : (sign : ℤ) (v : Var) → unsigned_abs sign ≤ 1 → IsWithin (canon_polynomial (signed_variable sign v)) 1 1 1
-    go sign v h =
-        elim (eqb (unsigned_abs sign) 0) as (λ b. IsWithin (canon_polynomial (cond b (record { sign = pos 0; var = None }) (record { sign = sign; var = Some v }))) 1 1 1) [
-          | true ↦ record { norm = omega arith; count = omega arith; degree = omega arith }
-          | false ↦ IsWithin-variable sign v h
-        ]
+IsWithin-area a b c = IsWithin-signed (permutation_sign a b c) (sorted_area a b c) (small_permutation a b c)
+
+pub IsWithin-pythagoras : (a b c : PointId) → IsWithin (canon_polynomial (canonical_difference a b c)) 1 1 1
+IsWithin-pythagoras a b c =
+    elim (is_point a b || is_point b c) as (λ p. IsWithin (canon_polynomial (cond p (record { sign = pos 0; var = None }) (record { sign = pos 1; var = Some (sorted_difference a b c) }))) 1 1 1) [
+      | true ↦ record { norm = omega arith; count = omega arith; degree = omega arith }
+      | false ↦ IsWithin-variable (pos 1) (sorted_difference a b c) (omega arith)
+    ]
+
+pub IsWithin-ratio : (a b c d : PointId) → IsWithin (canon_polynomial (canonical_ratio a b c d)) 1 1 1
+IsWithin-ratio a b c d =
+    let sign = pair_sign a b *ℤ pair_sign c d in
+    let small = small_product (pair_sign a b) (pair_sign c d) (small_sign (nat_cmp a.0 b.0)) (small_sign (nat_cmp c.0 d.0)) in
+    let v = R (lower a b) (higher a b) (lower c d) (higher c d) in
+    elim (is_same_pair a b c d) as (λ p. IsWithin (canon_polynomial (cond p (record { sign = sign; var = None }) (signed_variable sign v))) 1 1 1) [
+      | true ↦ IsWithin-number sign small
+      | false ↦ IsWithin-signed sign v small
+    ]

@@ -3,19 +3,19 @@ use Rattle.std.proofs.Common.{◌≡◌, ℤ, pos, ◌*ℤ◌, [], ◌∷◌, sy
 use Rattle.std.proofs.lemmas.Int.{ints}
 use Rattle.ring_laws.specs.Solver.{variable, numeral, ◌⊞◌, ◌⊟◌, ◌⊠◌, opposite, entry_at, given}
 use Rattle.ring_laws.proofs.Combination.{by_combination}
-use Rattle.geo_points.specs.Fraction.{Fraction, IsNonzero, Same, whole, plus, negated, minus, times, quotient}
+use Rattle.ring_laws.specs.Fraction.{Fraction, IsNonzero, Same, whole, plus, negated, minus, times, quotient}
 use Rattle.geo_points.specs.Placements.{Placement}
-use Rattle.geo_points.proofs.Fractions.{fractions}
-use Rattle.geo_points.proofs.Nonzero.{cancel_factor, zero_of_same, same_of_zero, quotient-times}
+use Rattle.ring_laws.proofs.Fractions.{fractions}
+use Rattle.ring_laws.proofs.Quotients.{cancel_factor, zero_of_same, same_of_zero, quotient-times}
 use Rattle.geo_poly.specs.declared.variables.Var.TheVariants.{T}
 use Rattle.geo_poly.specs.Polynomials as Polynomials
 use Rattle.geo_poly.specs.Polynomials.{Terms, constant_of, sum_of, difference_of, product_of}
-use Rattle.geo_poly.specs.Canonical.{canonical_area}
+use Rattle.geo_poly.specs.Canonical.{canonical_area, canonical_difference, canonical_ratio}
 use Rattle.geo_terms.specs.Trees.{Tree, integer_leaf, parameter_leaf, area_leaf, pythagoras_leaf, ratio_leaf, negation, addition, subtraction, multiplication, division}
 use Rattle.geo_terms.specs.Values.{HasTreeValue, tree_value}
 use Rattle.fraction_poly.specs.Laws.{polynomial_value, MultipliedOutHasTheValue}
-use Rattle.fraction_poly.specs.MultipliedOut.{IsOfAreas, multiplied_out, canon_polynomial, variable_polynomial, fraction_sum, fraction_difference, fraction_product, fraction_quotient}
-use Rattle.fraction_poly.proofs.PolynomialValues.{◌∘◌, flip, self, sums, products, one_times, minus_is, opposites, constant_is, variable_is, area_is, negated_is, sum_is, difference_is, product_is}
+use Rattle.fraction_poly.specs.MultipliedOut.{multiplied_out, canon_polynomial, variable_polynomial, fraction_sum, fraction_difference, fraction_product, fraction_quotient}
+use Rattle.fraction_poly.proofs.PolynomialValues.{◌∘◌, flip, self, sums, products, one_times, minus_is, opposites, constant_is, variable_is, area_is, pythagoras_is, ratio_is, negated_is, sum_is, difference_is, product_is}
 
 -- NONZERO
 pub nonzero_same : (a b : Fraction) → Same a b → IsNonzero b → IsNonzero a
@@ -108,22 +108,22 @@ module _ (placed : Placement) where
   }
 
   -- each term that has a value, by its form
-  pub multiplied_out-value : (e : Tree) → IsOfAreas e → HasTreeValue placed e → IsOver placed (tree_value placed e) (multiplied_out e)
-  multiplied_out-value (integer_leaf m) h v = whole_over (whole m) (constant_of m) (constant_is placed m)
-  multiplied_out-value (parameter_leaf t) h v =
+  pub multiplied_out-value : (e : Tree) → HasTreeValue placed e → IsOver placed (tree_value placed e) (multiplied_out e)
+  multiplied_out-value (integer_leaf m) v = whole_over (whole m) (constant_of m) (constant_is placed m)
+  multiplied_out-value (parameter_leaf t) v =
       whole_over (placed.number t.0) (variable_polynomial (pos 1) (T t)) (variable_is placed (pos 1) (T t) ∘ one_times _)
-  multiplied_out-value (area_leaf a b c) h v = whole_over _ (canon_polynomial (canonical_area a b c)) (area_is placed a b c)
-  multiplied_out-value (pythagoras_leaf a b c) h v = absurd h
-  multiplied_out-value (ratio_leaf a b c d) h v = absurd h
-  multiplied_out-value (negation e) h v = opposite_over (tree_value placed e) (multiplied_out e) (multiplied_out-value e h v)
-  multiplied_out-value (addition e f) h v =
-      sum_over (tree_value placed e) (tree_value placed f) (multiplied_out e) (multiplied_out f) (multiplied_out-value e h.0 v.0) (multiplied_out-value f h.1 v.1)
-  multiplied_out-value (subtraction e f) h v =
-      difference_over (tree_value placed e) (tree_value placed f) (multiplied_out e) (multiplied_out f) (multiplied_out-value e h.0 v.0) (multiplied_out-value f h.1 v.1)
-  multiplied_out-value (multiplication e f) h v =
-      product_over (tree_value placed e) (tree_value placed f) (multiplied_out e) (multiplied_out f) (multiplied_out-value e h.0 v.0) (multiplied_out-value f h.1 v.1)
-  multiplied_out-value (division e f) h v =
-      quotient_over (tree_value placed e) (tree_value placed f) (multiplied_out e) (multiplied_out f) (multiplied_out-value e h.0 v.0) (multiplied_out-value f h.1 v.1) v.2
+  multiplied_out-value (area_leaf a b c) v = whole_over _ (canon_polynomial (canonical_area a b c)) (area_is placed a b c)
+  multiplied_out-value (pythagoras_leaf a b c) v = whole_over _ (canon_polynomial (canonical_difference a b c)) (pythagoras_is placed a b c)
+  multiplied_out-value (ratio_leaf a b c d) v = whole_over _ (canon_polynomial (canonical_ratio a b c d)) (ratio_is placed a b c d v)
+  multiplied_out-value (negation e) v = opposite_over (tree_value placed e) (multiplied_out e) (multiplied_out-value e v)
+  multiplied_out-value (addition e f) v =
+      sum_over (tree_value placed e) (tree_value placed f) (multiplied_out e) (multiplied_out f) (multiplied_out-value e v.0) (multiplied_out-value f v.1)
+  multiplied_out-value (subtraction e f) v =
+      difference_over (tree_value placed e) (tree_value placed f) (multiplied_out e) (multiplied_out f) (multiplied_out-value e v.0) (multiplied_out-value f v.1)
+  multiplied_out-value (multiplication e f) v =
+      product_over (tree_value placed e) (tree_value placed f) (multiplied_out e) (multiplied_out f) (multiplied_out-value e v.0) (multiplied_out-value f v.1)
+  multiplied_out-value (division e f) v =
+      quotient_over (tree_value placed e) (tree_value placed f) (multiplied_out e) (multiplied_out f) (multiplied_out-value e v.0) (multiplied_out-value f v.1) v.2
 
 pub values_are_told : MultipliedOutHasTheValue
-values_are_told placed e h v = let told = multiplied_out-value placed e h v in (told.nonzero, told.same)
+values_are_told placed e v = let told = multiplied_out-value placed e v in (told.nonzero, told.same)

@@ -1,11 +1,14 @@
 -- What numerators and denominators are worth.
 use Rattle.std.specs.Prelude.{◌≤◌, length}
+use Rattle.fraction_poly.specs.Forms.{Form, piece_of}
 use Rattle.fraction_poly.specs.Measures.{numbers_of}
-use Rattle.fraction_poly.specs.MultipliedOut.{IsOfAreas, multiplied_out}
-use Rattle.geo_points.proofs.Fractions.{fractions}
-use Rattle.geo_points.specs.Fraction.{Fraction, IsNonzero, Same, times}
+use Rattle.fraction_poly.specs.MultipliedOut.{multiplied_out}
+use Rattle.ring_laws.proofs.Fractions.{fractions}
+use Rattle.ring_laws.specs.Fraction.{Fraction, IsNonzero, Same, times}
 use Rattle.geo_points.specs.Placements.{Placement}
 use Rattle.geo_poly.specs.Polynomials.{Terms, norm_of, total_degree}
+use Rattle.geo_poly.specs.PolynomialVariables.{AllVariables}
+use Rattle.geo_poly.specs.SortedVariables.{IsSorted}
 use Rattle.geo_poly.specs.Values.{value, variable_value}
 use Rattle.geo_terms.specs.Trees.{Tree}
 use Rattle.geo_terms.specs.Values.{HasTreeValue, tree_value}
@@ -17,7 +20,7 @@ polynomial_value placed q = value fractions (variable_value placed.point placed.
 -- wherever a term has a value, its denominator is not 0, and the value times the denominator is the numerator
 abbrev pub MultipliedOutHasTheValue : Type 0
 MultipliedOutHasTheValue =
-    (placed : Placement) (e : Tree) → IsOfAreas e → HasTreeValue placed e
+    (placed : Placement) (e : Tree) → HasTreeValue placed e
     → IsNonzero (polynomial_value placed (multiplied_out e).1)
     × Same (times (tree_value placed e) (polynomial_value placed (multiplied_out e).1)) (polynomial_value placed (multiplied_out e).0)
 
@@ -33,3 +36,11 @@ pub record AreBounds (e : Tree) : Type 0 where
 -- the numbers of a term are bounds of its numerator and denominator
 abbrev pub NumbersAreBounds : Type 0
 NumbersAreBounds = (e : Tree) → AreBounds e
+
+-- each variable of a term's numerator and denominator is sorted
+abbrev pub MultipliedOutIsSorted : Type 0
+MultipliedOutIsSorted = (e : Tree) → AllVariables IsSorted (multiplied_out e).0 × AllVariables IsSorted (multiplied_out e).1
+
+-- and so is each variable of a form
+abbrev pub FormsAreSorted : Type 0
+FormsAreSorted = (f : Form) → AllVariables IsSorted (piece_of f).poly

@@ -1,6 +1,7 @@
 -- How large a term's numerator and denominator may be, by the form of the term; and the charge for making them.
-use Rattle.std.specs.Prelude.{ℕ, ◌+◌, ◌-◌, ◌*◌, ◌^◌, ◌<◌, ◌≤◌, max, min, unsigned_abs}
+use Rattle.std.specs.Prelude.{ℕ, ◌+◌, ◌-◌, ◌*◌, ◌^◌, ◌<◌, ◌≤◌, List, map, max, min, unsigned_abs}
 use Rattle.fraction_poly.specs.declared.measures.Numbers.{Numbers}
+use Rattle.geo_terms.specs.Stores.{Store, trees_of}
 use Rattle.geo_terms.specs.Trees.{Tree, integer_leaf, parameter_leaf, area_leaf, pythagoras_leaf, ratio_leaf, negation, addition, subtraction, multiplication, division}
 
 -- a parameter or a quantity over 1
@@ -63,6 +64,10 @@ capped a = record {
   gd = capped_number a.gd;
   charge = capped_number a.charge;
 }
+
+-- the numbers of each term of a store, by index
+abbrev pub store_numbers : Store → List Numbers
+store_numbers nodes = map (λ e. capped (numbers_of e)) (trees_of nodes)
 
 -- the weights and the degrees are within the bounds of a polynomial
 pub record HaveRoom (a : Numbers) : Type 0 where

@@ -1,5 +1,7 @@
 -- What the code knows, while it works on a node, of the nodes before it.
-use Rattle.std.specs.Prelude.{◌≡◌, ◌+◌, ◌*◌, ◌^◌, ◌<◌, ◌≤◌, ◌⊎◌, Bool, true, List, Option, Some, length, slice_get}
+use Rattle.std.specs.Prelude.{◌≡◌, ℕ, ◌+◌, ◌*◌, ◌^◌, ◌<◌, ◌≤◌, ◌⊎◌, List, Option, Some, length, nat_eq, slice_get}
+use Rattle.std.specs.HashMap.{HashMap, get}
+use Rattle.std.specs.Option.{unwrap_or}
 use Rattle.geo_points.specs.declared.ids.TermId.{TermId}
 use Rattle.geo_poly.specs.Polynomials.{Terms, norm_of, total_degree}
 use Rattle.geo_terms.specs.declared.nodes.Node.{Node}
@@ -8,7 +10,7 @@ use Rattle.geo_terms.specs.Stores.{Store, tree_at, tree_of}
 use Rattle.geo_terms.specs.Trees.{Tree}
 use Rattle.fraction_poly.specs.declared.measures.Numbers.{Numbers}
 use Rattle.fraction_poly.specs.Measures.{HasRoom, capped, numbers_of}
-use Rattle.fraction_poly.specs.MultipliedOut.{IsOfAreas, multiplied_out}
+use Rattle.fraction_poly.specs.MultipliedOut.{multiplied_out}
 
 -- NUMBERS
 -- the list has the numbers of the first trees
@@ -16,9 +18,8 @@ pub record AreNumbersOf (trees : List Tree) (numbers : List Numbers) : Type 0 wh
   pub each : (e : TermId) → e.0 < length numbers → slice_get numbers e.0 ≡ Some (capped (numbers_of (tree_at trees e)))
 
 -- BOUNDS
--- the term may be multiplied out: its quantities are areas, and its numbers have room
+-- the term may be multiplied out: its numbers have room
 pub record CanMultiplyOut (e : Tree) : Type 0 where
-  pub quantities : IsOfAreas e
   pub room : HasRoom e
 
 -- the product of the polynomials is within the bounds of one
@@ -44,20 +45,41 @@ IsPart (Div e f) c = (c ≡ e) ⊎ (c ≡ f)
 IsPart _ c = ⊥
 
 -- each part of the node at the index stands in the list, multiplied out
-pub record HasParts (nodes : Store) (fractions : List (Option (Terms × Terms))) (id : TermId) : Type 0 where
-  pub each : (node : Node) (c : TermId) → slice_get nodes id.0 ≡ Some node → IsPart node c → slice_get fractions c.0 ≡ Some (Some (multiplied_out (tree_of nodes c)))
+pub record HasParts (nodes : Store) (fractions : List (Terms × Terms)) (id : TermId) : Type 0 where
+  pub each : (node : Node) (c : TermId) → slice_get nodes id.0 ≡ Some node → IsPart node c → slice_get fractions c.0 ≡ Some (multiplied_out (tree_of nodes c))
 
--- the index is marked
-abbrev pub IsMarked : List Bool → TermId → Type 0
-IsMarked marks c = slice_get marks c.0 ≡ Some true
+-- each term of the store may be multiplied out
+pub record DoAllFit (nodes : Store) : Type 0 where
+  pub each : (c : TermId) → c.0 < length nodes → CanMultiplyOut (tree_of nodes c)
 
--- each part of the node at the index is marked
-pub record ArePartsMarked (nodes : Store) (marks : List Bool) (id : TermId) : Type 0 where
-  pub each : (node : Node) (c : TermId) → slice_get nodes id.0 ≡ Some node → IsPart node c → IsMarked marks c
+-- REACHED
+-- the index stands in the list, at the place k or after it
+abbrev pub StandsFrom : ℕ → List TermId → TermId → Type 0
+StandsFrom k order c = (j : ℕ) × (k ≤ j) × (slice_get order j ≡ Some c)
 
--- the marks, one for each index below the term's, have the term's parts, and with each its parts; and all may be multiplied out
-pub record AreReached (nodes : Store) (id : TermId) (marks : List Bool) : Type 0 where
-  pub count : length marks ≡ id.0
-  pub own : ArePartsMarked nodes marks id
-  pub others : (c : TermId) → IsMarked marks c → ArePartsMarked nodes marks c
-  pub fit : (c : TermId) → IsMarked marks c → CanMultiplyOut (tree_of nodes c)
+-- the list has the term's index, and after each of its indices those of the parts of the node there; they are no more than the nodes,
+-- and all may be multiplied out where the term may
+pub record AreReached (nodes : Store) (id : TermId) (order : List TermId) : Type 0 where
+  pub own : StandsFrom 0 order id
+  pub parts : (k : ℕ) (c d : TermId) (node : Node) → slice_get order k ≡ Some c → slice_get nodes c.0 ≡ Some node → IsPart node d → StandsFrom (k + 1) order d
+  pub stored : (k : ℕ) (c : TermId) → slice_get order k ≡ Some c → c.0 < length nodes
+  pub fit : CanMultiplyOut (tree_of nodes id) → (k : ℕ) (c : TermId) → slice_get order k ≡ Some c → CanMultiplyOut (tree_of nodes c)
+  pub few : length order ≤ length nodes
+
+-- MOVED
+-- where the map says that the index stands
+abbrev pub place_at : {S : Type 0} → HashMap ℕ TermId S → TermId → Option TermId
+place_at places c = get nat_eq places c.0
+
+-- the same, and 0 where it says nothing
+abbrev pub place_in : {S : Type 0} → HashMap ℕ TermId S → TermId → TermId
+place_in places c = unwrap_or (place_at places c) (record { 0 = 0 })
+
+-- the node over other indices of its parts
+abbrev pub over_parts : (TermId → TermId) → Node → Node
+over_parts f (Neg e) = Neg (f e)
+over_parts f (Add e g) = Add (f e) (f g)
+over_parts f (Sub e g) = Sub (f e) (f g)
+over_parts f (Mul e g) = Mul (f e) (f g)
+over_parts f (Div e g) = Div (f e) (f g)
+over_parts f node = node

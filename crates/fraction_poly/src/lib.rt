@@ -2,13 +2,24 @@
 //! and numbers that bound both are told before any product is made.
 #![tactic(auto)]
 
+mod cutting;
+mod drafts;
 mod fractions;
 pub mod laws;
+mod linear;
 mod measures;
 mod multiplying;
+mod pieces;
 mod reaching;
+mod step_numbers;
+mod store_numbers;
+mod table;
 #[cfg(test)]
 mod tests;
 
+pub use drafts::{Draft, RowDraft};
+pub use linear::{Linear, along_numerator, crossing_numerator, foot_numerator, step_draft};
 pub use measures::{Numbers, measure};
 pub use multiplying::multiply_out;
+pub use store_numbers::StoreNumbers;
+pub use table::{RowNumbers, Rows, draft_numbers, draft_row};

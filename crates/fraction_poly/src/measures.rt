@@ -6,6 +6,8 @@ ghost use Rattle.fraction_poly.specs.Parts.{AreNumbersOf};
 ghost use Rattle.geo_terms.specs.Stores.{HasChildrenBelow, node_tree, tree_of};
 ghost use Rattle.geo_terms.specs.Trees.{Tree};
 
+use crate::cutting::cut_out;
+use crate::store_numbers::StoreNumbers;
 use geo_points::{NoMemory, TermId};
 use geo_poly::{MAX, MAX_DEGREE};
 use geo_terms::{Node, Terms};
@@ -47,7 +49,7 @@ impl Numbers {
     }
 
     /// Those of a whole number.
-    fn of_integer(n: i128) -> Numbers
+    pub(crate) fn of_integer(n: i128) -> Numbers
         ensures { result ≡ capped (numbers_of (integer_leaf n)) }
     {
         Numbers {
@@ -145,22 +147,18 @@ fn charged(left: u128, right: u128, kn: u128, kd: u128) -> u128
         .saturating_add(kd)
 }
 
-/// The numbers of the term at an index. It takes time for each node up to the index, however often the term has it.
+/// The numbers of the term at an index. It takes time and memory for the nodes that the term reaches, each once; of
+/// many terms of one store, ask `StoreNumbers`.
 pub fn measure(alloc: Global, terms: &Terms, id: TermId) -> Result<Numbers, NoMemory>
     requires { id.0 < length terms.now }
     ensures { IfOk result (λ numbers. numbers ≡ capped (numbers_of (tree_of terms.now id))) }
 {
-    // From here on it is known that parts stand before their nodes.
-    prove!(id.0 < terms.len());
-    let mut parts = Vec::new(alloc);
-    for i in 0..id.0 {
-        parts.push(node_numbers(&parts, terms.node(TermId(i))))?;
-    }
-    Ok(node_numbers(&parts, terms.node(id)))
+    let (cut, place) = cut_out(alloc, terms, id)?;
+    Ok(StoreNumbers::new(alloc, &cut)?.numbers(place))
 }
 
 /// The numbers of a node over those of its parts.
-fn node_numbers(parts: &[Numbers], node: Node) -> Numbers
+pub(crate) fn node_numbers(parts: &[Numbers], node: Node) -> Numbers
     requires { HasChildrenBelow (length parts.now) node }
     ensures { (trees : List Tree) → AreNumbersOf trees parts.now
         → result ≡ capped (numbers_of (node_tree trees node)) }

@@ -1,38 +1,42 @@
 //! The numerator and the denominator of a term.
 
-ghost use Rattle.std.specs.Prelude.{◌≡◌, ◌<◌, Bool, IfOk, Some, length, slice_get};
+ghost use Rattle.std.specs.Prelude.{◌≡◌, ◌<◌, IfOk, Some, length, slice_get};
 ghost use Rattle.fraction_poly.specs.Measures.{HasRoom};
-ghost use Rattle.fraction_poly.specs.MultipliedOut.{IsOfAreas, multiplied_out};
-ghost use Rattle.fraction_poly.specs.Parts.{CanMultiplyOut, HasParts};
-ghost use Rattle.geo_poly.specs.Polynomials.{Terms as PolynomialTerms};
+ghost use Rattle.fraction_poly.specs.MultipliedOut.{multiplied_out};
+ghost use Rattle.fraction_poly.specs.Parts.{CanMultiplyOut, DoAllFit, HasParts};
 ghost use Rattle.geo_terms.specs.Stores.{IsStore, tree_of};
 
-use crate::fractions::{Fraction, area, difference, negation, product, quotient, sum, whole};
-use crate::reaching::reached;
+use crate::cutting::cut_out;
+use crate::fractions::{
+    Fraction, area, difference, negation, product, pythagoras, quotient, ratio, sum, whole,
+};
 use geo_points::{NoMemory, TermId};
 use geo_poly::{Poly, Var};
 use geo_terms::{Node, Terms};
 use std::alloc::Global;
 
-/// The numerator and the denominator of the term at an index. Each part of the term is multiplied out once, however
-/// often the term has it.
+/// The numerator and the denominator of the term at an index. Each node that the term reaches is multiplied out once,
+/// however often the term has it, and no other is looked at.
 pub fn multiply_out(alloc: Global, terms: &Terms, id: TermId) -> Result<(Poly, Poly), NoMemory>
     requires stored { id.0 < length terms.now }
-    requires quantities { IsOfAreas (tree_of terms.now id) }
     requires room { HasRoom (tree_of terms.now id) }
     ensures { IfOk result (λ polys. polys ≡ multiplied_out (tree_of terms.now id)) }
 {
+    let (cut, place) = cut_out(alloc, terms, id)?;
+    fraction_of(alloc, &cut, place)
+}
+
+/// The fraction of the term at an index, in a store whose terms may all be multiplied out: those up to the term are.
+fn fraction_of(alloc: Global, terms: &Terms, id: TermId) -> Result<Fraction, NoMemory>
+    requires stored { id.0 < length terms.now }
+    requires fit { DoAllFit terms.now }
+    ensures { IfOk result (λ f. f ≡ multiplied_out (tree_of terms.now id)) }
+{
     // From here on it is known that parts stand before their nodes.
     prove!(id.0 < terms.len());
-    let reached = reached(alloc, terms, id)?;
-    let mut parts: Vec<Option<Fraction>> = Vec::new(alloc);
+    let mut parts = Vec::new(alloc);
     for i in 0..id.0 {
-        let part = if reached[i as usize] {
-            Some(fraction(alloc, terms, &parts, TermId(i))?)
-        } else {
-            None
-        };
-        parts.push(part)?;
+        parts.push(fraction(alloc, terms, &parts, TermId(i))?)?;
     }
     fraction(alloc, terms, &parts, id)
 }
@@ -41,7 +45,7 @@ pub fn multiply_out(alloc: Global, terms: &Terms, id: TermId) -> Result<(Poly, P
 fn fraction(
     alloc: Global,
     terms: &Terms,
-    parts: &[Option<Fraction>],
+    parts: &[Fraction],
     id: TermId,
 ) -> Result<Fraction, NoMemory>
     requires stored { id.0 < length terms.now }
@@ -54,8 +58,8 @@ fn fraction(
         Node::Int(n) => whole(alloc, Poly::constant(alloc, n)?),
         Node::Param(t) => whole(alloc, Poly::var(alloc, Var::T(t))?),
         Node::S(a, b, c) => whole(alloc, area(alloc, a, b, c)?),
-        Node::P(..) => unreachable!(),
-        Node::R(..) => unreachable!(),
+        Node::P(a, b, c) => whole(alloc, pythagoras(alloc, a, b, c)?),
+        Node::R(a, b, c, d) => whole(alloc, ratio(alloc, a, b, c, d)?),
         Node::Neg(e) => negation(alloc, part(parts, e)),
         Node::Add(e, f) => sum(alloc, part(parts, e), part(parts, f)),
         Node::Sub(e, f) => difference(alloc, part(parts, e), part(parts, f)),
@@ -65,12 +69,9 @@ fn fraction(
 }
 
 /// The fraction of a part.
-fn part(parts: &[Option<Fraction>], id: TermId) -> &Fraction
-    requires { (f : PolynomialTerms × PolynomialTerms) × (slice_get parts.now id.0 ≡ Some (Some f)) }
-    ensures { slice_get parts.now id.0 ≡ Some (Some result.now) }
+fn part(parts: &[Fraction], id: TermId) -> &Fraction
+    requires { id.0 < length parts.now }
+    ensures { slice_get parts.now id.0 ≡ Some result.now }
 {
-    match &parts[id.0 as usize] {
-        Some(fraction) => fraction,
-        None => unreachable!(),
-    }
+    &parts[id.0 as usize]
 }

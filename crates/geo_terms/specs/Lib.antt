@@ -3,3 +3,4 @@ pub mod Stores
 pub mod Values
 pub mod Constructions
 pub mod Laws
+pub mod TermBounds

@@ -1,5 +1,5 @@
 -- The value of a term in a placement.
-use Rattle.geo_points.specs.Fraction.{Fraction, IsNonzero, whole, plus, minus, times, negated, quotient}
+use Rattle.ring_laws.specs.Fraction.{Fraction, IsNonzero, whole, plus, minus, times, negated, quotient}
 use Rattle.geo_points.specs.Placements.{Placement}
 use Rattle.geo_points.specs.Points.{signed_area, pythagoras_difference, ratio, HasRatio}
 use Rattle.geo_terms.specs.Trees.{Tree, integer_leaf, parameter_leaf, area_leaf, pythagoras_leaf, ratio_leaf, negation, addition, subtraction, multiplication, division}

@@ -1,4 +1,4 @@
-use Rattle.std.proofs.Common.{◌≡◌, inl, inr, Some, ℤ, refl, sym, ap, subst, ◌∙◌, rules, unsigned_abs, ◌<◌, ◌^◌}
+use Rattle.std.proofs.Common.{◌≡◌, inl, inr, ℤ, refl, sym, ap, subst, ◌∙◌, rules, unsigned_abs, ◌<◌, ◌^◌}
 use Rattle.std.specs.Int.{w128}
 use Rattle.std.proofs.lemmas.Int.{to_z-of_z}
 use Rattle.std.proofs.lemmas.Result.{IfOk-weaker}
@@ -6,7 +6,7 @@ use Rattle.geo_poly.specs.Polynomials.{constant_of, negated}
 use Rattle.geo_terms.specs.declared.nodes.Node.TheVariants.{Int, Param, S, P, R, Neg, Add, Sub, Mul, Div}
 use Rattle.geo_terms.specs.Stores.{tree_of}
 use Rattle.fraction_poly.specs.MultipliedOut.{multiplied_out, whole_fraction, fraction_sum, fraction_difference, fraction_product, fraction_quotient}
-use Rattle.fraction_poly.proofs.Nodes.{IsAtNode, node_fits, node_result, part_stands, integer_fits, negation_is, addition_fits, addition_is, subtraction_fits, subtraction_is, multiplication_fits, multiplication_is, division_fits, division_is}
+use Rattle.fraction_poly.proofs.Nodes.{IsAtNode, node_result, part_stands, integer_fits, negation_is, addition_fits, addition_is, subtraction_fits, subtraction_is, multiplication_fits, multiplication_is, division_fits, division_is}
 use Rattle.fraction_poly.proofs.multiplying.fraction.Goals as goal
 
 pub constant-requires : goal.constant-requires
@@ -147,12 +147,16 @@ returns-in-Div c =
     (λ f is. is ∙ division_is c.args.terms.now c.args.parts.now c.args.id c.in-Div.e c.in-Div.f c.part-in-Div.result.now c.part-in-Div-2.result.now c.part-in-Div.ensures c.part-in-Div-2.ensures h)
     c.quotient.ensures
 
-pub unreachable-requires : goal.unreachable-requires
-unreachable-requires c =
-    let h : IsAtNode c.args.terms.now c.args.parts.now c.args.id (P c.in-P.field-0 c.in-P.field-1 c.in-P.field-2) = record { store = c.requires.valid; at = c.node.ensures ∙ ap Some c.in-P.is; fits = c.requires.fits; ready = c.requires.parts } in
-    (node_fits c.args.terms.now c.args.parts.now c.args.id (P c.in-P.field-0 c.in-P.field-1 c.in-P.field-2) h).quantities
+pub returns-in_ok-pythagoras-in-P : goal.returns-in_ok-pythagoras-in-P
+returns-in_ok-pythagoras-in-P c =
+    let h : IsAtNode c.args.terms.now c.args.parts.now c.args.id (P c.in-P.a c.in-P.b c.in-P.c) = record { store = c.requires.valid; at = c.in-P.ensures; fits = c.requires.fits; ready = c.requires.parts } in
+    IfOk-weaker c.whole-in-P.result (λ f. f ≡ whole_fraction c.in_ok-pythagoras-in-P.field-0) (λ f. f ≡ multiplied_out (tree_of c.args.terms.now c.args.id))
+    (λ f is. node_result c.args.terms.now c.args.parts.now c.args.id (P c.in-P.a c.in-P.b c.in-P.c) h f (is ∙ ap whole_fraction c.in_ok-pythagoras-in-P.ensures))
+    c.whole-in-P.ensures
 
-pub unreachable-requires-in-R : goal.unreachable-requires-in-R
-unreachable-requires-in-R c =
-    let h : IsAtNode c.args.terms.now c.args.parts.now c.args.id (R c.in-R.field-0 c.in-R.field-1 c.in-R.field-2 c.in-R.field-3) = record { store = c.requires.valid; at = c.node.ensures ∙ ap Some c.in-R.is; fits = c.requires.fits; ready = c.requires.parts } in
-    (node_fits c.args.terms.now c.args.parts.now c.args.id (R c.in-R.field-0 c.in-R.field-1 c.in-R.field-2 c.in-R.field-3) h).quantities
+pub returns-in_ok-ratio-in-R : goal.returns-in_ok-ratio-in-R
+returns-in_ok-ratio-in-R c =
+    let h : IsAtNode c.args.terms.now c.args.parts.now c.args.id (R c.in-R.a c.in-R.b c.in-R.c c.in-R.d) = record { store = c.requires.valid; at = c.in-R.ensures; fits = c.requires.fits; ready = c.requires.parts } in
+    IfOk-weaker c.whole-in-R.result (λ f. f ≡ whole_fraction c.in_ok-ratio-in-R.field-0) (λ f. f ≡ multiplied_out (tree_of c.args.terms.now c.args.id))
+    (λ f is. node_result c.args.terms.now c.args.parts.now c.args.id (R c.in-R.a c.in-R.b c.in-R.c c.in-R.d) h f (is ∙ ap whole_fraction c.in_ok-ratio-in-R.ensures))
+    c.whole-in-R.ensures

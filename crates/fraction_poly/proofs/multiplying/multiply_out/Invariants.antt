@@ -1,5 +1,0 @@
-use Rattle.fraction_poly.proofs.Multiplied.{AreMultiplied}
-use Rattle.fraction_poly.proofs.multiplying.multiply_out.Given as goal
-
-abbrev pub invariant-loop-i : goal.invariant-loop-i
-invariant-loop-i l = AreMultiplied l.terms l.reached.items l.i l.parts.items

@@ -1,0 +1,101 @@
+-- Forms as the code writes them, over the number of a step.
+use Rattle.std.specs.Prelude.{ℕ, pos, Option, Some, None}
+use Rattle.fraction_poly.specs.declared.drafts.Bounds.{Bounds}
+use Rattle.fraction_poly.specs.declared.drafts.Draft.{Draft}
+use Rattle.fraction_poly.specs.declared.drafts.Draft.TheVariants.{Integer, Area, Pythagoras, Ratio, Abscissa, Ordinate, Numerator, Denominator, Sum', Difference', Product', Opposite'}
+use Rattle.fraction_poly.specs.declared.drafts.RowDraft.{RowDraft}
+use Rattle.fraction_poly.specs.declared.linear.Linear.{Linear}
+use Rattle.fraction_poly.specs.declared.linear.Linear.TheVariants.{Area as LinearArea, Pythagoras as LinearPythagoras}
+use Rattle.fraction_poly.specs.declared.measures.Numbers.{Numbers}
+use Rattle.fraction_poly.specs.declared.step_numbers.StepNumber.{StepNumber}
+use Rattle.fraction_poly.specs.Forms.{Form, integer, area, pythagoras, ratio, abscissa, ordinate, numerator, denominator, ◌⊞◌, ◌⊟◌, ◌⊠◌, opposite, PieceFits, integer_piece, variable_piece, piece_sum, piece_difference, piece_product, piece_opposite}
+use Rattle.fraction_poly.specs.Measures.{capped_number, numbers_of}
+use Rattle.fraction_poly.specs.MultipliedOut.{canon_polynomial, variable_polynomial}
+use Rattle.fraction_poly.specs.TableRows.{TableRow}
+use Rattle.geo_points.specs.declared.ids.PointId.{PointId}
+use Rattle.geo_points.specs.declared.ids.TermId.{TermId}
+use Rattle.geo_poly.specs.declared.replacement.Piece.{Piece}
+use Rattle.geo_poly.specs.declared.variables.Var.TheVariants.{X, Y}
+use Rattle.geo_poly.specs.Canonical.{canonical_area, canonical_difference, canonical_ratio}
+use Rattle.geo_poly.specs.Replace.{IsBounded}
+use Rattle.geo_terms.specs.declared.steps.Step.{Step}
+use Rattle.geo_terms.specs.declared.steps.Step.TheVariants.{Pratio, Tratio}
+use Rattle.geo_terms.specs.Stores.{Store, tree_of}
+use Rattle.geo_terms.specs.Trees.{Tree, integer_leaf}
+
+-- the form that a draft is, where the step's number is e
+abbrev pub form_of : Tree → Draft → Form
+form_of e (Integer n) = integer n
+form_of e (Area a b c) = area a b c
+form_of e (Pythagoras a b c) = pythagoras a b c
+form_of e (Ratio a b c d) = ratio a b c d
+form_of e (Abscissa a) = abscissa a
+form_of e (Ordinate a) = ordinate a
+form_of e Numerator = numerator e
+form_of e Denominator = denominator e
+form_of e (Sum' p f q g) = form_of e f ⊞ form_of e g
+form_of e (Difference' p f q g) = form_of e f ⊟ form_of e g
+form_of e (Product' p f q g) = form_of e f ⊠ form_of e g
+form_of e (Opposite' p f) = opposite (form_of e f)
+
+-- the number that a row uses, and 1 where it uses none
+abbrev pub number_tree : Store → Option TermId → Tree
+number_tree nodes None = integer_leaf (pos 1)
+number_tree nodes (Some r) = tree_of nodes r
+
+-- the row that a draft is
+abbrev pub row_of_draft : Store → RowDraft → TableRow
+row_of_draft nodes r =
+    let e = number_tree nodes r.number in
+    record { power = r.power; num = form_of e r.num; den = form_of e r.den; charge = (numbers_of e).charge }
+
+-- MULTIPLYING OUT
+
+-- what a draft multiplies out to, where the step's number is this
+abbrev pub drafted_piece : StepNumber → Draft → Piece
+drafted_piece n (Integer k) = integer_piece k
+drafted_piece n (Area a b c) = variable_piece (canon_polynomial (canonical_area a b c))
+drafted_piece n (Pythagoras a b c) = variable_piece (canon_polynomial (canonical_difference a b c))
+drafted_piece n (Ratio a b c d) = variable_piece (canon_polynomial (canonical_ratio a b c d))
+drafted_piece n (Abscissa a) = variable_piece (variable_polynomial (pos 1) (X a))
+drafted_piece n (Ordinate a) = variable_piece (variable_polynomial (pos 1) (Y a))
+drafted_piece n Numerator = n.num
+drafted_piece n Denominator = n.den
+drafted_piece n (Sum' p f q g) = piece_sum (drafted_piece n f) (drafted_piece n g)
+drafted_piece n (Difference' p f q g) = piece_difference (drafted_piece n f) (drafted_piece n g)
+drafted_piece n (Product' p f q g) = piece_product (drafted_piece n f) (drafted_piece n g)
+drafted_piece n (Opposite' p f) = piece_opposite (drafted_piece n f)
+
+-- the bounds that both parts of a number tell are such
+pub record IsBoundedNumber (n : StepNumber) : Type 0 where
+  pub num : IsBounded n.num
+  pub den : IsBounded n.den
+
+-- each sum, difference and product in the draft is within the bounds of a polynomial
+abbrev pub AllFit : StepNumber → Draft → Type 0
+AllFit n (Sum' p f q g) = PieceFits (piece_sum (drafted_piece n f) (drafted_piece n g)) × AllFit n f × AllFit n g
+AllFit n (Difference' p f q g) = PieceFits (piece_difference (drafted_piece n f) (drafted_piece n g)) × AllFit n f × AllFit n g
+AllFit n (Product' p f q g) = PieceFits (piece_product (drafted_piece n f) (drafted_piece n g)) × AllFit n f × AllFit n g
+AllFit n (Opposite' p f) = AllFit n f
+AllFit n _ = Unit {0}
+
+-- the numbers of both parts, with a charge
+abbrev pub numbers_in : StepNumber → ℕ → Numbers
+numbers_in n charge = record { wn = n.num.weight; wd = n.den.weight; kn = n.num.count; kd = n.den.count; gn = n.num.degree; gd = n.den.degree; charge = charge }
+
+-- the weight, the count and the degree of a piece
+abbrev pub piece_bounds : Piece → Bounds
+piece_bounds f = record { weight = capped_number f.weight; count = capped_number f.count; degree = capped_number f.degree }
+
+-- STEPS
+
+-- a linear quantity at a point
+abbrev pub linear_form : Linear → PointId → Form
+linear_form (LinearArea a b) x = area a b x
+linear_form (LinearPythagoras a b) x = pythagoras a b x
+
+-- the term of a step's number
+abbrev pub step_term : Step → Option TermId
+step_term (Pratio w u v r) = Some r
+step_term (Tratio u v r) = Some r
+step_term _ = None

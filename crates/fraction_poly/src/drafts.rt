@@ -1,0 +1,201 @@
+//! Rows as they are written, before they are multiplied out.
+
+ghost use Rattle.std.specs.Prelude.{◌≡◌, ◌≤◌, ◌+◌, ◌*◌, ◌^◌, ◌<◌, ℕ, max, IfOk};
+ghost use Rattle.fraction_poly.specs.Drafts.{AllFit, IsBoundedNumber, drafted_piece, form_of, numbers_in, piece_bounds};
+ghost use Rattle.fraction_poly.specs.Forms.{◌⊞◌, ◌⊟◌, ◌⊠◌, opposite};
+ghost use Rattle.fraction_poly.specs.Measures.{capped, capped_number};
+ghost use Rattle.fraction_poly.specs.declared.step_numbers.StepNumber.{StepNumber};
+ghost use Rattle.geo_terms.specs.Trees.{Tree};
+
+use crate::fractions::{area, pythagoras, ratio};
+use crate::measures::Numbers;
+use crate::pieces::{copied, difference, integer, opposite, product, sum, variable};
+use crate::step_numbers::StepNumber;
+use geo_points::{NoMemory, PointId, TermId};
+use geo_poly::{Piece, Poly, Var};
+use std::alloc::Global;
+
+/// A polynomial as a row writes it. It is not multiplied out yet.
+#[derive(Drop)]
+pub enum Draft {
+    /// A whole number.
+    Integer(u32),
+    /// The signed area of three points.
+    Area(PointId, PointId, PointId),
+    /// The Pythagoras difference of three points.
+    Pythagoras(PointId, PointId, PointId),
+    /// The ratio AB / CD.
+    Ratio(PointId, PointId, PointId, PointId),
+    /// The first coordinate of a point.
+    Abscissa(PointId),
+    /// The second coordinate of a point.
+    Ordinate(PointId),
+    /// The numerator of the step's number.
+    Numerator,
+    /// The denominator of the step's number.
+    Denominator,
+    /// The sum of both.
+    Sum(Box<Draft>, Box<Draft>),
+    /// The first less the second.
+    Difference(Box<Draft>, Box<Draft>),
+    /// The product of both.
+    Product(Box<Draft>, Box<Draft>),
+    /// The other sign.
+    Opposite(Box<Draft>),
+}
+
+/// What a draft multiplies out to is bounded so. A number past `2^128 - 1` is given as `2^128 - 1`.
+#[derive(Clone, Copy, Debug, PartialEq, Eq)]
+pub(crate) struct Bounds {
+    /// The weight: at least 1 and at least the norm.
+    pub weight: u128,
+    /// The count: at least the number of monomials, and at most the weight.
+    pub count: u128,
+    /// The degree: at least the total degree.
+    pub degree: u128,
+}
+
+/// A row as it is written.
+#[derive(Drop)]
+pub struct RowDraft {
+    /// The power of the denominator.
+    pub power: u32,
+    /// The numerator.
+    pub num: Draft,
+    /// The denominator.
+    pub den: Draft,
+    /// The term of the step's number, where the row uses one.
+    pub number: Option<TermId>,
+}
+
+impl Draft {
+    /// The sum.
+    pub fn plus(self, alloc: Global, other: Draft) -> Result<Draft, NoMemory>
+        ensures { IfOk result (λ d. (e : Tree) → form_of e d ≡ form_of e self ⊞ form_of e other) }
+    {
+        let left = Box::new(alloc, self)?;
+        Ok(Draft::Sum(left, Box::new(alloc, other)?))
+    }
+
+    /// The difference.
+    pub fn minus(self, alloc: Global, other: Draft) -> Result<Draft, NoMemory>
+        ensures { IfOk result (λ d. (e : Tree) → form_of e d ≡ form_of e self ⊟ form_of e other) }
+    {
+        let left = Box::new(alloc, self)?;
+        Ok(Draft::Difference(left, Box::new(alloc, other)?))
+    }
+
+    /// The product.
+    pub fn times(self, alloc: Global, other: Draft) -> Result<Draft, NoMemory>
+        ensures { IfOk result (λ d. (e : Tree) → form_of e d ≡ form_of e self ⊠ form_of e other) }
+    {
+        let left = Box::new(alloc, self)?;
+        Ok(Draft::Product(left, Box::new(alloc, other)?))
+    }
+
+    /// The other sign.
+    pub fn opposite(self, alloc: Global) -> Result<Draft, NoMemory>
+        ensures { IfOk result (λ d. (e : Tree) → form_of e d ≡ opposite (form_of e self)) }
+    {
+        Ok(Draft::Opposite(Box::new(alloc, self)?))
+    }
+
+    /// The numbers of what the draft multiplies out to, where the step's number has these.
+    pub(crate) fn bounds(&self, number: &Numbers) -> Bounds
+        ensures { (n : StepNumber) (charge : ℕ) → number.now ≡ capped (numbers_in n charge)
+            → result ≡ piece_bounds (drafted_piece n self.now) }
+    {
+        match self {
+            Draft::Integer(n) => Bounds::new(u128::from(*n).max(1), 1, 0),
+            Draft::Area(..) | Draft::Pythagoras(..) | Draft::Ratio(..) => Bounds::new(1, 1, 1),
+            Draft::Abscissa(_) | Draft::Ordinate(_) => Bounds::new(1, 1, 1),
+            Draft::Numerator => Bounds::new(number.wn, number.kn, number.gn),
+            Draft::Denominator => Bounds::new(number.wd, number.kd, number.gd),
+            Draft::Sum(left, right) => {
+                let left = left.bounds(number);
+                left.plus(right.bounds(number))
+            }
+            Draft::Difference(left, right) => {
+                let left = left.bounds(number);
+                left.plus(right.bounds(number))
+            }
+            Draft::Product(left, right) => {
+                let left = left.bounds(number);
+                left.times(right.bounds(number))
+            }
+            Draft::Opposite(draft) => draft.bounds(number),
+        }
+    }
+
+    /// What the draft multiplies out to, where the step's number is this.
+    pub(crate) fn piece(&self, alloc: Global, number: &StepNumber) -> Result<Piece, NoMemory>
+        requires number { IsBoundedNumber number.now }
+        requires fits { AllFit number.now self.now }
+        ensures { IfOk result (λ f. f ≡ drafted_piece number.now self.now) }
+    {
+        match self {
+            Draft::Integer(n) => integer(alloc, *n),
+            Draft::Area(a, b, c) => Ok(variable(area(alloc, *a, *b, *c)?)),
+            Draft::Pythagoras(a, b, c) => Ok(variable(pythagoras(alloc, *a, *b, *c)?)),
+            Draft::Ratio(a, b, c, d) => Ok(variable(ratio(alloc, *a, *b, *c, *d)?)),
+            Draft::Abscissa(a) => Ok(variable(Poly::var(alloc, Var::X(*a))?)),
+            Draft::Ordinate(a) => Ok(variable(Poly::var(alloc, Var::Y(*a))?)),
+            Draft::Numerator => copied(alloc, &number.num),
+            Draft::Denominator => copied(alloc, &number.den),
+            Draft::Sum(left, right) => {
+                let left = left.piece(alloc, number)?;
+                sum(alloc, &left, &right.piece(alloc, number)?)
+            }
+            Draft::Difference(left, right) => {
+                let left = left.piece(alloc, number)?;
+                difference(alloc, &left, &right.piece(alloc, number)?)
+            }
+            Draft::Product(left, right) => {
+                let left = left.piece(alloc, number)?;
+                product(alloc, &left, &right.piece(alloc, number)?)
+            }
+            Draft::Opposite(draft) => opposite(alloc, &draft.piece(alloc, number)?),
+        }
+    }
+}
+
+impl Bounds {
+    /// These three.
+    fn new(weight: u128, count: u128, degree: u128) -> Bounds
+        ensures weight { result.weight ≡ weight }
+        ensures count { result.count ≡ count }
+        ensures degree { result.degree ≡ degree }
+    {
+        Bounds {
+            weight,
+            count,
+            degree,
+        }
+    }
+
+    /// Those of a sum and of a difference.
+    fn plus(self, other: Bounds) -> Bounds
+        ensures weight { result.weight ≡ capped_number (self.weight + other.weight) }
+        ensures count { result.count ≡ capped_number (self.count + other.count) }
+        ensures degree { result.degree ≡ max self.degree other.degree }
+    {
+        Bounds {
+            weight: self.weight.saturating_add(other.weight),
+            count: self.count.saturating_add(other.count),
+            degree: self.degree.max(other.degree),
+        }
+    }
+
+    /// Those of a product.
+    fn times(self, other: Bounds) -> Bounds
+        ensures weight { result.weight ≡ capped_number (self.weight * other.weight) }
+        ensures count { result.count ≡ capped_number (self.count * other.count) }
+        ensures degree { result.degree ≡ capped_number (self.degree + other.degree) }
+    {
+        Bounds {
+            weight: self.weight.saturating_mul(other.weight),
+            count: self.count.saturating_mul(other.count),
+            degree: self.degree.saturating_add(other.degree),
+        }
+    }
+}
