@@ -1,0 +1,226 @@
+-- The rows that a move has for a list of variables, and their numbers.
+use Rattle.std.proofs.Common.{◌≡◌, ℕ, ◌+◌, ◌^◌, ◌<◌, ◌≤◌, Option, Some, None, List, [], ◌∷◌, ◌++◌, length, get_or, take, map, refl, sym, ap, subst, ◌∙◌, arith}
+use Rattle.std.specs.Prelude.{All, IfSome, IsSomeAnd}
+use Rattle.std.specs.List.{cons_option, filter_map}
+use Rattle.std.specs.Option.{option_map}
+use Rattle.std.proofs.lemmas.List.{append-nil, map_more, take_more}
+use Rattle.std.proofs.lemmas.List.Elements.{All-cons, All-nil, filter_map-append}
+use Rattle.fraction_poly.specs.declared.table.RowNumbers.{RowNumbers}
+use Rattle.fraction_poly.specs.Forms.{Form, piece_of}
+use Rattle.fraction_poly.specs.Measures.{capped_number}
+use Rattle.fraction_poly.specs.TableRows.{AreLight, HasPointsBelow, RowFits, TableRow, made_row, row_numbers}
+use Rattle.fraction_poly.proofs.PieceBounds.{bounded_form}
+use Rattle.fraction_poly.proofs.TableLemmas.{fits_of_numbers}
+use Rattle.geo_poly.specs.declared.replacement.Piece.{Piece}
+use Rattle.geo_poly.specs.declared.replacement.Row.{Row}
+use Rattle.geo_poly.specs.declared.variables.Var.{Var}
+use Rattle.geo_poly.specs.declared.variables.Var.TheVariants.{R, S, P, X, Y, T}
+use Rattle.geo_poly.specs.Replace.{AllBounded, AllPowersSmall, IsBounded}
+use Rattle.geo_poly.proofs.EachVariable.{EachIn}
+use Rattle.geo_terms.specs.Constructions.{Construction}
+use Rattle.area_coords.proofs.FreeSoundness.{free_rows_light}
+use Rattle.area_coords.specs.FreeTable.{free_table}
+use Rattle.elim_area.proofs.AreaSoundness.{area_rows_light}
+use Rattle.elim_area.specs.AreaTable.{area_table}
+use Rattle.elim_pyth.proofs.DifferenceSoundness.{difference_rows_light}
+use Rattle.elim_pyth.specs.DifferenceTable.{difference_table}
+use Rattle.elim_ratio.proofs.RatioSoundness.{ratio_rows_light}
+use Rattle.elim_ratio.specs.RatioTable.{ratio_table}
+use Rattle.elim_apply.specs.declared.moves.Move.{Move}
+use Rattle.elim_apply.specs.declared.moves.Move.TheVariants.{Ratio, Point, Coords}
+use Rattle.elim_apply.specs.declared.numbered.NumberedRow.{NumberedRow}
+use Rattle.elim_apply.specs.LemmaTable.{lemma_table, move_denominator, row_of_move}
+use Rattle.elim_apply.specs.Sketches.{CanMakeRow, numbered_row, sketched_denominator, sketches}
+use Rattle.elim_apply.proofs.CappedRows.{capped_piece, capped_row, capped_rows}
+use Rattle.elim_apply.proofs.LemmaTableSound.{by_own, some_of}
+use Rattle.elim_apply.proofs.TableCharges.{denominators_agree}
+
+each_row : (o : Option TableRow) (Q : TableRow → Type 0) → ((t : TableRow) → o ≡ Some t → Q t) → IfSome o Q
+each_row None Q h = tt
+each_row (Some t) Q h = h t refl
+
+module _ (c : Construction) (move : Move) where
+  abbrev row : Var → Option Row
+  row v = lemma_table.row c move v
+
+  -- each row of a move is light
+  pub light_rows : (v : Var) → IfSome (row_of_move c move v) (λ t. AreLight (row_numbers t))
+  light_rows v = go move v
+    where
+      go : (move : Move) (v : Var) → IfSome (row_of_move c move v) (λ t. AreLight (row_numbers t))
+      go (Ratio w lemma at) v =
+          by_own c w v lemma at (λ t. AreLight (row_numbers t)) (λ same. each_row (ratio_table lemma c at v) (λ t. AreLight (row_numbers t)) (λ t e. ratio_rows_light lemma c at v t e))
+      go (Point y) (S i j k) = each_row (area_table c y (S i j k)) (λ t. AreLight (row_numbers t)) (λ t e. area_rows_light c y (S i j k) t e)
+      go (Point y) (P i j k) = each_row (difference_table c y (P i j k)) (λ t. AreLight (row_numbers t)) (λ t e. difference_rows_light c y (P i j k) t e)
+      go (Point y) (R i j k l) = tt
+      go (Point y) (X i) = tt
+      go (Point y) (Y i) = tt
+      go (Point y) (T t) = tt
+      go Coords v = each_row (free_table c (record { 0 = 0 }) v) (λ t. AreLight (row_numbers t)) (λ t e. free_rows_light c (record { 0 = 0 }) v t e)
+
+  -- the numbers are those of the rows, capped
+  pub sketches_are : (vs : List Var) → sketches (filter_map (numbered_row c move) vs) ≡ capped_rows (filter_map row vs)
+  sketches_are [] = refl
+  sketches_are (v ∷ vs) = go (row_of_move c move v) (sketches_are vs)
+    where
+      go : (o : Option TableRow) → sketches (filter_map (numbered_row c move) vs) ≡ capped_rows (filter_map row vs)
+          → sketches (cons_option (option_map (λ t. record { var = v; numbers = row_numbers t }) o) (filter_map (numbered_row c move) vs))
+          ≡ capped_rows (cons_option (option_map (λ t. (made_row v t).0) o) (filter_map row vs))
+      go None h = h
+      go (Some t) h = ap (λ (rs : List Row). capped_row (made_row v t).0 ∷ rs) h
+
+  -- and their variables have these rows
+  pub names_are : (vs : List Var) → filter_map row (map (λ (n : NumberedRow). n.var) (filter_map (numbered_row c move) vs)) ≡ filter_map row vs
+  names_are [] = refl
+  names_are (v ∷ vs) = go (row_of_move c move v) refl (names_are vs)
+    where
+      go : (o : Option TableRow) → row_of_move c move v ≡ o
+          → filter_map row (map (λ (n : NumberedRow). n.var) (filter_map (numbered_row c move) vs)) ≡ filter_map row vs
+          → filter_map row (map (λ (n : NumberedRow). n.var) (cons_option (option_map (λ t. record { var = v; numbers = row_numbers t }) o) (filter_map (numbered_row c move) vs)))
+          ≡ cons_option (option_map (λ t. (made_row v t).0) o) (filter_map row vs)
+      go None e h = h
+      go (Some t) e h =
+          ap (λ (o : Option TableRow). cons_option (option_map (λ t. (made_row v t).0) o) (filter_map row (map (λ (n : NumberedRow). n.var) (filter_map (numbered_row c move) vs)))) e
+          ∙ ap (λ (rs : List Row). (made_row v t).0 ∷ rs) h
+
+  -- the numbers of one variable
+  pub numbered_some : (v : Var) (o : Option RowNumbers) (n : RowNumbers) → o ≡ option_map row_numbers (row_of_move c move v) → o ≡ Some n
+      → numbered_row c move v ≡ Some (record { var = v; numbers = n })
+  numbered_some v o n is some = go (row_of_move c move v) (sym some ∙ is)
+    where
+      go : (q : Option TableRow) → Some n ≡ option_map row_numbers q
+          → option_map {U = NumberedRow} (λ t. record { var = v; numbers = row_numbers t }) q ≡ Some (record { var = v; numbers = n })
+      go None e = absurd (cc)
+      go (Some t) e = let same : row_numbers t ≡ n = cc in ap (λ (m : RowNumbers). let n : NumberedRow = record { var = v; numbers = m } in Some n) same
+
+  pub numbered_none : (v : Var) (o : Option RowNumbers) → o ≡ option_map row_numbers (row_of_move c move v) → o ≡ None → numbered_row c move v ≡ None
+  numbered_none v o is none = go (row_of_move c move v) (sym none ∙ is)
+    where
+      go : (q : Option TableRow) → None ≡ option_map row_numbers q → option_map {U = NumberedRow} (λ t. record { var = v; numbers = row_numbers t }) q ≡ None
+      go None e = refl
+      go (Some t) e = absurd (cc)
+
+  -- where there are no numbers there are no rows
+  no_rows : (rows : List Row) → capped_rows rows ≡ [] → rows ≡ []
+  no_rows [] e = refl
+  no_rows (r ∷ rows) e = absurd (let z : ◌≡◌ {A = List Row} (capped_row r ∷ capped_rows rows) [] = e in cc)
+
+  no_sketches : (rows : List NumberedRow) → sketches rows ≡ [] → rows ≡ []
+  no_sketches [] e = refl
+  no_sketches (n ∷ rows) e = absurd (let z : ◌≡◌ {A = List Row} (sketches (n ∷ rows)) [] = e in cc)
+
+  pub none_made : (vs : List Var) → filter_map (numbered_row c move) vs ≡ [] → filter_map row vs ≡ []
+  none_made vs e = no_rows (filter_map row vs) (sym (sketches_are vs) ∙ ap sketches e)
+
+  pub none_numbered : (vs : List Var) → filter_map row vs ≡ [] → filter_map (numbered_row c move) vs ≡ []
+  none_numbered vs e = no_sketches (filter_map (numbered_row c move) vs) (sketches_are vs ∙ ap capped_rows e)
+
+  -- the bounds of the rows
+  pub rows_bounded : (vs : List Var) → AllBounded (filter_map row vs)
+  rows_bounded [] = tt
+  rows_bounded (v ∷ vs) = go (row_of_move c move v) (rows_bounded vs)
+    where
+      go : (o : Option TableRow) → AllBounded (filter_map row vs) → AllBounded (cons_option (option_map (λ t. (made_row v t).0) o) (filter_map row vs))
+      go None h = h
+      go (Some t) h = (bounded_form t.num, h)
+
+  pub denominator_bounded : IsBounded (lemma_table.denominator c move)
+  denominator_bounded = bounded_form (move_denominator c move)
+
+  pub rows_small : (vs : List Var) → AllPowersSmall (filter_map row vs)
+  rows_small [] = tt
+  rows_small (v ∷ vs) = go (row_of_move c move v) (light_rows v) (rows_small vs)
+    where
+      go : (o : Option TableRow) → IfSome o (λ t. AreLight (row_numbers t)) → AllPowersSmall (filter_map row vs)
+          → AllPowersSmall (cons_option (option_map (λ t. (made_row v t).0) o) (filter_map row vs))
+      go None l h = h
+      go (Some t) l h = (l.power, h)
+
+  capped_small : (rows : List Row) → AllPowersSmall rows → AllPowersSmall (capped_rows rows)
+  capped_small [] h = tt
+  capped_small (r ∷ rows) h = (h.0, capped_small rows h.1)
+
+  pub sketches_small : (vs : List Var) → AllPowersSmall (sketches (filter_map (numbered_row c move) vs))
+  sketches_small vs = subst AllPowersSmall (sym (sketches_are vs)) (capped_small (filter_map row vs) (rows_small vs))
+
+  -- a row that was made
+  pub made_is : (v : Var) (r : Row × Piece) → IsSomeAnd (row_of_move c move v) RowFits → IfSome (row_of_move c move v) (λ t. r ≡ made_row v t)
+      → (row v ≡ Some r.0) × (r.1 ≡ lemma_table.denominator c move)
+  made_is v r = go (row_of_move c move v) refl
+    where
+      go : (o : Option TableRow) → row_of_move c move v ≡ o → IsSomeAnd o RowFits → IfSome o (λ t. r ≡ made_row v t) → (row v ≡ Some r.0) × (r.1 ≡ lemma_table.denominator c move)
+      go None e fits is = absurd fits
+      go (Some t) e fits is = (
+        ap (option_map (λ t. (made_row v t).0)) e ∙ ap (λ (x : Row × Piece). Some x.0) (sym is),
+        ap (λ (x : Row × Piece). x.1) is ∙ ap piece_of (denominators_agree c move v t e).0,
+      )
+
+  -- the rows of one more variable of a list of numbers
+  pub names_more : (rows : List NumberedRow) (i : ℕ) (d : NumberedRow) (r : Row) → i < length rows → row (get_or rows i d).var ≡ Some r
+      → filter_map row (map (λ (n : NumberedRow). n.var) (take (i + 1) rows)) ≡ filter_map row (map (λ (n : NumberedRow). n.var) (take i rows)) ++ r ∷ []
+  names_more rows i d r lt is =
+      ap (filter_map row) (map_more (λ (n : NumberedRow). n.var) rows i d lt) ∙ filter_map-append row (map (λ (n : NumberedRow). n.var) (take i rows)) ((get_or rows i d).var ∷ [])
+      ∙ ap (λ (o : Option Row). filter_map row (map (λ (n : NumberedRow). n.var) (take i rows)) ++ cons_option o []) is
+
+  -- the numbers of the denominator, and the charge
+  pub record HasDenominator (n : NumberedRow) : Type 0 where
+    pub den : sketched_denominator n.numbers ≡ capped_piece (lemma_table.denominator c move)
+    pub charge : n.numbers.charge ≡ capped_number (lemma_table.charge c move)
+
+  pub all_over_one : (vs : List Var) → All HasDenominator (filter_map (numbered_row c move) vs)
+  all_over_one [] = All-nil HasDenominator
+  all_over_one (v ∷ vs) = go (row_of_move c move v) refl (all_over_one vs)
+    where
+      go : (o : Option TableRow) → row_of_move c move v ≡ o → All HasDenominator (filter_map (numbered_row c move) vs)
+          → All HasDenominator (cons_option (option_map (λ t. record { var = v; numbers = row_numbers t }) o) (filter_map (numbered_row c move) vs))
+      go None e h = h
+      go (Some t) e h =
+          let agree = denominators_agree c move v t e in
+          All-cons HasDenominator (record { var = v; numbers = row_numbers t }) (filter_map (numbered_row c move) vs)
+          (record { den = ap (λ (f : Form). capped_piece (piece_of f)) agree.0; charge = ap capped_number agree.1 }) h
+
+  -- WITHIN THE BOUNDS OF A POLYNOMIAL
+  -- the numerator is within the bounds of a polynomial
+  pub record NumeratorFits (r : Row) : Type 0 where
+    pub weight : r.num.weight < 2 ^ 127
+    pub degree : r.num.degree ≤ 65535
+
+  -- the row of the variable is
+  abbrev pub HasFittingRow : Var → Type 0
+  HasFittingRow v = (r : Row) → row v ≡ Some r → NumeratorFits r
+
+  pub can_make : (vs : List Var) → EachIn (HasPointsBelow (length c.steps)) vs → EachIn HasFittingRow vs → All (CanMakeRow c move) (filter_map (numbered_row c move) vs)
+  can_make [] points fits = All-nil (CanMakeRow c move)
+  can_make (v ∷ vs) points fits = go (row_of_move c move v) refl (can_make vs points.1 fits.1)
+    where
+      go : (o : Option TableRow) → row_of_move c move v ≡ o → All (CanMakeRow c move) (filter_map (numbered_row c move) vs)
+          → All (CanMakeRow c move) (cons_option (option_map (λ t. record { var = v; numbers = row_numbers t }) o) (filter_map (numbered_row c move) vs))
+      go None e h = h
+      go (Some t) e h =
+          let light : AreLight (row_numbers t) = some_of (row_of_move c move v) t (λ t. AreLight (row_numbers t)) e (light_rows v) in
+          let fit : NumeratorFits (made_row v t).0 = fits.0 (made_row v t).0 (ap (option_map (λ t. (made_row v t).0)) e) in
+          let row : IsSomeAnd (Some t) RowFits = fits_of_numbers (Some t) (row_numbers t) refl (omega (arith, fit.weight)) (omega (arith, fit.degree)) light in
+          All-cons (CanMakeRow c move) (record { var = v; numbers = row_numbers t }) (filter_map (numbered_row c move) vs)
+          (points.0, subst (λ (o : Option TableRow). IsSomeAnd o RowFits) (sym e) row) h
+
+-- LISTS
+-- what holds of each variable of a list holds at each place
+pub all_each : (Holds : Var → Type 0) (vs : List Var) → EachIn Holds vs → All Holds vs
+all_each Holds [] h = All-nil Holds
+all_each Holds (v ∷ vs) h = All-cons Holds v vs h.0 (all_each Holds vs h.1)
+
+-- the rows of one more variable
+module _ {B : Type 0} (f : Var → Option B) (vs : List Var) (i : ℕ) (d : Var) (lt : i < length vs) where
+  rows_more : filter_map f (take (i + 1) vs) ≡ filter_map f (take i vs) ++ cons_option (f (get_or vs i d)) []
+  rows_more = ap (filter_map f) (take_more vs i d lt) ∙ filter_map-append f (take i vs) (get_or vs i d ∷ [])
+
+  pub rows_some : (r : B) → f (get_or vs i d) ≡ Some r → filter_map f (take (i + 1) vs) ≡ filter_map f (take i vs) ++ r ∷ []
+  rows_some r e = rows_more ∙ ap (λ (o : Option B). filter_map f (take i vs) ++ cons_option o []) e
+
+  pub rows_none : f (get_or vs i d) ≡ None → filter_map f (take (i + 1) vs) ≡ filter_map f (take i vs)
+  rows_none e = rows_more ∙ ap (λ (o : Option B). filter_map f (take i vs) ++ cons_option o []) e ∙ append-nil (filter_map f (take i vs))
+
+-- a list with elements
+pub some_length : {A : Type 0} (xs : List A) → (xs ≡ [] → ⊥) → 0 < length xs
+some_length [] n = absurd (n refl)
+some_length (x ∷ xs) n = omega arith

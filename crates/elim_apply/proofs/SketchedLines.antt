@@ -1,0 +1,37 @@
+-- The size of a line, told by the numbers of its rows, is that of the line.
+use Rattle.std.proofs.Common.{◌≡◌, List, ap, ap₂, ◌∙◌}
+use Rattle.std.specs.List.{filter_map}
+use Rattle.fraction_poly.specs.Measures.{capped_number}
+use Rattle.geo_poly.specs.declared.replacement.Piece.{Piece}
+use Rattle.geo_poly.specs.declared.replacement.Row.{Row}
+use Rattle.geo_poly.specs.Polynomials.{Terms}
+use Rattle.geo_poly.specs.PolynomialVariables.{variables_of}
+use Rattle.geo_poly.specs.Replace.{replaced_degree, replaced_weight}
+use Rattle.geo_terms.specs.Constructions.{Construction}
+use Rattle.elim_apply.specs.declared.limits.LineSize.{LineSize}
+use Rattle.elim_apply.specs.declared.moves.Move.{Move}
+use Rattle.elim_apply.specs.declared.moves.Replacement.{Replacement}
+use Rattle.elim_apply.specs.declared.numbered.NumberedRow.{NumberedRow}
+use Rattle.elim_apply.specs.LemmaTable.{lemma_table}
+use Rattle.elim_apply.specs.Moves.{move_charge, replacement}
+use Rattle.elim_apply.specs.Sizes.{IsSizeOf}
+use Rattle.elim_apply.specs.Sketches.{numbered_row, sketch, sketched_denominator, sketches}
+use Rattle.elim_apply.proofs.CappedRows.{capped_move, capped_piece, capped_rows, move_charge-capped, replaced_degree-capped, replaced_weight-capped}
+use Rattle.elim_apply.proofs.NumberedRows.{HasDenominator, sketches_are}
+
+pub sketched_line : (c : Construction) (move : Move) (q : Terms) (rows : List NumberedRow) (first : NumberedRow) (size : LineSize)
+    → rows ≡ filter_map (numbered_row c move) (variables_of q) → HasDenominator c move first
+    → IsSizeOf size (move_charge (sketch rows first.numbers) q) (replaced_weight (sketches rows) (sketched_denominator first.numbers) q) (replaced_degree (sketches rows) (sketched_denominator first.numbers) q)
+    → IsSizeOf size (move_charge (replacement lemma_table c move q) q) (replaced_weight (replacement lemma_table c move q).rows (replacement lemma_table c move q).den q)
+    (replaced_degree (replacement lemma_table c move q).rows (replacement lemma_table c move q).den q)
+sketched_line c move q rows first size are one h =
+    let made = replacement lemma_table c move q in
+    let same : sketches rows ≡ capped_rows made.rows = ap sketches are ∙ sketches_are c move (variables_of q) in
+    let den : sketched_denominator first.numbers ≡ capped_piece made.den = one.den in
+    let charge : first.numbers.charge ≡ capped_number made.charge = one.charge in
+    let whole : sketch rows first.numbers ≡ capped_move made.rows made.den made.charge = λ i. record { rows = same i; den = den i; charge = charge i } in
+    record {
+      charge-is = h.charge-is ∙ ap (λ (m : Replacement). capped_number (move_charge m q)) whole ∙ move_charge-capped made.rows made.den made.charge q;
+      weight-is = h.weight-is ∙ ap₂ (λ (rs : List Row) (d : Piece). capped_number (replaced_weight rs d q)) same den ∙ replaced_weight-capped made.rows made.den q;
+      degree-is = h.degree-is ∙ ap₂ (λ (rs : List Row) (d : Piece). capped_number (replaced_degree rs d q)) same den ∙ replaced_degree-capped made.rows made.den q;
+    }

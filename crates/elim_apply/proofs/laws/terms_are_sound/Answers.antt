@@ -1,0 +1,5 @@
+use Rattle.elim_apply.proofs.TermVariables.{term_sound}
+use Rattle.elim_apply.proofs.laws.terms_are_sound.Goals as goal
+
+pub returns : goal.returns
+returns c = term_sound

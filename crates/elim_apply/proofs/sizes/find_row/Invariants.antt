@@ -1,0 +1,7 @@
+use Rattle.std.proofs.Common.{◌≡◌, drop}
+use Rattle.elim_apply.specs.Sketches.{sketches}
+use Rattle.geo_poly.specs.Replace.{row_of}
+use Rattle.elim_apply.proofs.sizes.find_row.Given as goal
+
+abbrev pub invariant-loop-row : goal.invariant-loop-row
+invariant-loop-row l = row_of (sketches (drop l.row-index l.rows)) l.v ≡ row_of (sketches l.rows) l.v

@@ -1,0 +1,9 @@
+use Rattle.std.proofs.Common.{◌+◌, ◌*◌, drop}
+use Rattle.std.specs.Prelude.{sum_by}
+use Rattle.elim_apply.specs.Sketches.{sketch, sketches}
+use Rattle.elim_apply.proofs.LineSizes.{IsSizeSoFar}
+use Rattle.elim_apply.proofs.sizes.size_of_line.Given as goal
+
+abbrev pub invariant-loop-i : goal.invariant-loop-i
+invariant-loop-i l =
+    IsSizeSoFar (sketch l.rows l.den) l.top (l.den.charge + 4 * (sum_by (λ r. r.num.count) (sketches l.rows) + l.den.kb)) l.poly (drop l.i l.poly) l.charge l.weight l.degree

@@ -1,0 +1,141 @@
+//! A move on a polynomial.
+
+ghost use Rattle.std.specs.Prelude.{◌≡◌, ◌≢◌, ◌-◌, ◌^◌, ◌<◌, ◌≤◌, ◌⊎◌, [], IfNone, IfOk, IfSome, IsErrOf, OnOk, length};
+ghost use Rattle.std.specs.List.{filter_map};
+ghost use Rattle.elim_apply.specs.LemmaTable.{lemma_table};
+ghost use Rattle.elim_apply.specs.Moves.{IsMoved, IsMoveStopped, move_charge, place_of, replacement, spent, too_large};
+ghost use Rattle.elim_apply.specs.Multiples.{IsMultiple};
+ghost use Rattle.elim_apply.specs.Naming.{IsPlaceBelow, IsPlaceMet};
+ghost use Rattle.elim_apply.specs.Sizes.{IsSizeOf};
+ghost use Rattle.elim_apply.specs.Sketches.{numbered_row};
+ghost use Rattle.fraction_poly.specs.TableRows.{HasPointsBelow, HasVariable};
+ghost use Rattle.geo_points.specs.Placements.{Placement};
+ghost use Rattle.geo_poly.specs.declared.limits.Which.{Which};
+ghost use Rattle.geo_poly.specs.PolynomialVariables.{AllVariables, variables_of};
+ghost use Rattle.geo_poly.specs.Polynomials.{IsPolynomial};
+ghost use Rattle.geo_poly.specs.Replace.{replaced_by, replaced_degree, replaced_weight};
+
+use crate::errors::ApplyError;
+use crate::limits::LineSize;
+use crate::moves::Move;
+use crate::numbered::{NumberedRow, made_rows, numbered_rows};
+use crate::sizes::size_of_line;
+use crate::variables::variables_of;
+use geo_base::Budget;
+use geo_points::NoMemory;
+use geo_poly::{Poly, PolyError, Which};
+use geo_terms::Steps;
+use std::alloc::Global;
+
+/// The polynomial after a move: the variables that have a row are replaced at once, and the whole is
+/// multiplied by the denominator as often as the monomial that needs it most. The charge of the
+/// line, its weight and its degree are tested in this order, before anything is multiplied out. The
+/// charge is spent as soon as it is within the budget.
+pub fn apply(
+    alloc: Global,
+    steps: &Steps,
+    p: &Poly,
+    mv: &Move,
+    budget: &mut Budget,
+) -> Result<Poly, ApplyError>
+    requires points { AllVariables (HasPointsBelow (length steps.now.steps)) p.now }
+    requires place { IsPlaceBelow (length steps.now.steps) (place_of mv.now) }
+    ensures moved { let made = replacement lemma_table steps.now mv.now p.now in
+        IfOk result (λ q. IsMoved made budget.old.left p.now q) }
+    ensures paid { let made = replacement lemma_table steps.now mv.now p.now in
+        OnOk result (budget.new.left ≡ budget.old.left - move_charge made p.now) }
+    ensures value { IfOk result (λ q. (placed : Placement)
+        → IsPlaceMet placed steps.now (place_of mv.now)
+        → AllVariables (HasVariable placed) p.now → IsMultiple placed q p.now) }
+    ensures no_row { let made = replacement lemma_table steps.now mv.now p.now in
+        IsErrOf result ApplyError.NoRow → (made.rows ≡ []) × (budget.new ≡ budget.old) }
+    ensures spent { let made = replacement lemma_table steps.now mv.now p.now in
+        IsErrOf result ApplyError.Spent → (made.rows ≢ [])
+        × IsMoveStopped made budget.old.left p.now spent × (budget.new ≡ budget.old) }
+    ensures too_large { let made = replacement lemma_table steps.now mv.now p.now in
+        (which : Which) → IsErrOf result (ApplyError.TooLarge which) → (made.rows ≢ [])
+        × IsMoveStopped made budget.old.left p.now (too_large which)
+        × (budget.new.left ≡ budget.old.left - move_charge made p.now) }
+    ensures memory { let made = replacement lemma_table steps.now mv.now p.now in
+        IsErrOf result ApplyError.NoMemory → (budget.new ≡ budget.old)
+        ⊎ (budget.new.left ≡ budget.old.left - move_charge made p.now) }
+{
+    // From here on it is known that the steps are a construction.
+    prove!(steps.count() <= 512);
+    let Some((rows, size)) = measured(alloc, steps, p, mv)? else {
+        return Err(ApplyError::NoRow);
+    };
+    size.spend(budget)?;
+    Ok(moved(alloc, steps, p, mv, &rows)?)
+}
+
+/// The rows that a move has for the polynomial, by their numbers, and the size of its line; `None`
+/// where it has no row.
+fn measured(
+    alloc: Global,
+    steps: &Steps,
+    p: &Poly,
+    mv: &Move,
+) -> Result<Option<(Vec<NumberedRow>, LineSize)>, NoMemory>
+    requires points { AllVariables (HasPointsBelow (length steps.now.steps)) p.now }
+    requires place { IsPlaceBelow (length steps.now.steps) (place_of mv.now) }
+    ensures none { let made = replacement lemma_table steps.now mv.now p.now in
+        IfOk result (λ o. IfNone o (made.rows ≡ [])) }
+    ensures some { let made = replacement lemma_table steps.now mv.now p.now in
+        IfOk result (λ o. IfSome o (λ _. made.rows ≢ [])) }
+    ensures rows { IfOk result (λ o. IfSome o (λ m. m.0.items
+        ≡ filter_map (numbered_row steps.now mv.now) (variables_of p.now))) }
+    ensures size { let made = replacement lemma_table steps.now mv.now p.now in
+        IfOk result (λ o. IfSome o (λ m. IsSizeOf m.1 (move_charge made p.now)
+        (replaced_weight made.rows made.den p.now) (replaced_degree made.rows made.den p.now))) }
+{
+    // From here on it is known that the polynomial is in order and within its bounds.
+    prove!(p.norm() >= 0);
+    let variables = variables_of(alloc, p)?;
+    let rows = numbered_rows(alloc, steps, mv, &variables)?;
+    if rows.is_empty() {
+        return Ok(None);
+    }
+    // All rows of a move have one denominator and one charge.
+    let size = size_of_line(&rows, rows[0].numbers, p);
+    Ok(Some((rows, size)))
+}
+
+/// The polynomial after a move whose line is within its limits.
+fn moved(
+    alloc: Global,
+    steps: &Steps,
+    p: &Poly,
+    mv: &Move,
+    rows: &[NumberedRow],
+) -> Result<Poly, NoMemory>
+    requires points { AllVariables (HasPointsBelow (length steps.now.steps)) p.now }
+    requires place { IsPlaceBelow (length steps.now.steps) (place_of mv.now) }
+    requires rows { rows.now ≡ filter_map (numbered_row steps.now mv.now) (variables_of p.now) }
+    requires some { rows.now ≢ [] }
+    requires weight { let made = replacement lemma_table steps.now mv.now p.now in
+        replaced_weight made.rows made.den p.now < 2 ^ 127 }
+    requires degree { let made = replacement lemma_table steps.now mv.now p.now in
+        replaced_degree made.rows made.den p.now ≤ 65535 }
+    ensures { let made = replacement lemma_table steps.now mv.now p.now in
+        IfOk result (λ q. q ≡ replaced_by made.rows made.den.poly p.now) }
+{
+    // From here on it is known that the polynomial is in order and within its bounds.
+    prove!(p.norm() >= 0);
+    let (rows, den) = made_rows(alloc, steps, mv, rows)?;
+    within_bounds(p.replace(alloc, &rows.items, &den))
+}
+
+/// The polynomial of a call that passes no bound.
+fn within_bounds(answer: Result<Poly, PolyError>) -> Result<Poly, NoMemory>
+    requires norm { answer ≢ Err (PolyError.TooLarge Which.Norm) }
+    requires degree { answer ≢ Err (PolyError.TooLarge Which.Degree) }
+    ensures { IfOk result (λ p. answer ≡ Ok p) }
+{
+    match answer {
+        Ok(poly) => Ok(poly),
+        Err(PolyError::NoMemory) => Err(NoMemory),
+        Err(PolyError::TooLarge(Which::Norm)) => unreachable!(),
+        Err(PolyError::TooLarge(Which::Degree)) => unreachable!(),
+    }
+}

@@ -1,0 +1,19 @@
+//! Moves: variables of a polynomial are replaced at once, by rows of the lemma table.
+#![tactic(auto)]
+
+mod applying;
+mod errors;
+pub mod laws;
+mod limits;
+mod moves;
+mod numbered;
+mod sizes;
+mod starting;
+#[cfg(test)]
+mod tests;
+mod variables;
+
+pub use applying::apply;
+pub use errors::ApplyError;
+pub use moves::{Move, Replacement, RowList};
+pub use starting::start;

@@ -1,0 +1,61 @@
+//! The start of a chain.
+
+ghost use Rattle.std.specs.Prelude.{◌≡◌, ◌≢◌, ◌+◌, ◌-◌, ◌<◌, ◌⊎◌, IfOk, IsErrOf, OnOk, length};
+ghost use Rattle.elim_apply.specs.Moves.{spent, too_large};
+ghost use Rattle.elim_apply.specs.Sizes.{IsSizeOf};
+ghost use Rattle.elim_apply.specs.Starts.{IsStarted, IsStartStopped, start_charge, start_degree, start_of, start_weight};
+ghost use Rattle.fraction_poly.specs.Measures.{capped, numbers_of};
+ghost use Rattle.geo_poly.specs.declared.limits.Which.{Which};
+ghost use Rattle.geo_terms.specs.Stores.{tree_of};
+ghost use Rattle.geo_terms.specs.Trees.{Tree};
+
+use crate::errors::ApplyError;
+use crate::limits::LineSize;
+use fraction_poly::{Numbers, measure, multiply_out};
+use geo_base::Budget;
+use geo_points::TermId;
+use geo_poly::Poly;
+use geo_terms::Steps;
+use std::alloc::Global;
+
+/// The numerator of the term at an index. The charge of the line, its weight and its degree are those
+/// of both sides of the fraction; they are tested in this order, before anything is multiplied out.
+/// The charge is spent as soon as it is within the budget.
+pub fn start(
+    alloc: Global,
+    steps: &Steps,
+    id: TermId,
+    budget: &mut Budget,
+) -> Result<Poly, ApplyError>
+    requires { id.0 < length steps.now.nodes }
+    ensures started { IfOk result (λ q. IsStarted budget.old.left (tree_of steps.now.nodes id)
+        × (q ≡ start_of (tree_of steps.now.nodes id))) }
+    ensures paid { OnOk result
+        (budget.new.left ≡ budget.old.left - start_charge (tree_of steps.now.nodes id)) }
+    ensures row { result ≢ Err ApplyError.NoRow }
+    ensures spent { IsErrOf result ApplyError.Spent
+        → IsStartStopped budget.old.left (tree_of steps.now.nodes id) spent
+        × (budget.new ≡ budget.old) }
+    ensures too_large { (which : Which) → IsErrOf result (ApplyError.TooLarge which)
+        → IsStartStopped budget.old.left (tree_of steps.now.nodes id) (too_large which)
+        × (budget.new.left ≡ budget.old.left - start_charge (tree_of steps.now.nodes id)) }
+    ensures memory { IsErrOf result ApplyError.NoMemory → (budget.new ≡ budget.old)
+        ⊎ (budget.new.left ≡ budget.old.left - start_charge (tree_of steps.now.nodes id)) }
+{
+    let numbers = measure(alloc, steps.look(), id)?;
+    size_of_start(numbers).spend(budget)?;
+    let (numerator, _) = multiply_out(alloc, steps.look(), id)?;
+    Ok(numerator)
+}
+
+/// The size of a start line, by the numbers of its term.
+fn size_of_start(numbers: Numbers) -> LineSize
+    ensures { (e : Tree) → numbers ≡ capped (numbers_of e)
+        → IsSizeOf result (start_charge e) (start_weight e) (start_degree e) }
+{
+    LineSize {
+        charge: numbers.charge,
+        weight: numbers.wn.max(numbers.wd),
+        degree: numbers.gn.max(numbers.gd),
+    }
+}

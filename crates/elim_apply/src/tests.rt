@@ -1,0 +1,106 @@
+//! Worked moves. What is expected was worked out by hand.
+
+ghost use Rattle.std.specs.Prelude.{◌≡◌, IfOk, length};
+
+use crate::{ApplyError, Move, apply};
+use geo_base::Budget;
+use geo_points::{NoMemory, PointId};
+use geo_poly::{Poly, Var};
+use geo_terms::{Node, Step, Steps};
+use std::alloc::Global;
+use std::test::Fail;
+
+/// Two free points and the middle between them.
+fn with_middle(alloc: Global) -> Result<Steps, NoMemory>
+    ensures { IfOk result (λ s. length s.steps ≡ 3) }
+{
+    let mut steps = Steps::new(alloc)?;
+    let a = steps.push(Step::Point)?;
+    let b = steps.push(Step::Point)?;
+    let one = steps.intern(Node::Int(1))?;
+    let two = steps.intern(Node::Int(2))?;
+    let r = steps.intern(Node::Div(one, two))?;
+    steps.push(Step::Pratio {
+        w: a,
+        u: a,
+        v: b,
+        r,
+    })?;
+    Ok(steps)
+}
+
+/// What the middle leaves of the area of the three points, with so many charges.
+fn without_middle(alloc: Global, left: u64) -> Result<Poly, ApplyError> {
+    let steps = with_middle(alloc)?;
+    let [a, b, y] = [PointId(0), PointId(1), PointId(2)];
+    let area = Poly::var(alloc, Var::S(a, b, y))?;
+    apply(alloc, &steps, &area, &Move::Point(y), &mut Budget { left })
+}
+
+#[test]
+fn a_middle_lies_on_its_line(rt: HostRuntime) -> Result<(), Fail> {
+    let alloc = rt.alloc();
+    assert!(rt; without_middle(alloc, 24).is_ok_and(|q| q.is_zero()));
+    assert!(rt; matches!(without_middle(alloc, 23), Err(ApplyError::Spent)));
+    Ok(())
+}
+
+/// Four free points.
+fn with_four(alloc: Global) -> Result<Steps, NoMemory>
+    ensures { IfOk result (λ s. length s.steps ≡ 4) }
+{
+    let mut steps = Steps::new(alloc)?;
+    steps.push(Step::Point)?;
+    steps.push(Step::Point)?;
+    steps.push(Step::Point)?;
+    steps.push(Step::Point)?;
+    Ok(steps)
+}
+
+/// The square of the distance of two free points, twice, in their coordinates.
+fn square(alloc: Global) -> Result<Poly, ApplyError> {
+    let steps = with_four(alloc)?;
+    let [c, d] = [PointId(2), PointId(3)];
+    let square = Poly::var(alloc, Var::P(c, d, c))?;
+    apply(
+        alloc,
+        &steps,
+        &square,
+        &Move::Coords,
+        &mut Budget { left: 52 },
+    )
+}
+
+#[test]
+fn free_points_have_coordinates(rt: HostRuntime) -> Result<(), Fail> {
+    assert!(rt; square(rt.alloc()).is_ok_and(|q| q.terms() == 6 && q.norm() == 16));
+    Ok(())
+}
+
+/// The ratio AF / BF goes, where F lies on the lines AB and CP.
+fn ratio_gone(alloc: Global, left: u64) -> Result<Poly, ApplyError> {
+    let mut steps = with_four(alloc)?;
+    let [a, b, c, p] = [PointId(0), PointId(1), PointId(2), PointId(3)];
+    let f = steps.push(Step::Inter {
+        u: a,
+        v: b,
+        p: c,
+        q: p,
+    })?;
+    let var = Var::R(a, f, b, f);
+    let ratio = Poly::var(alloc, var)?;
+    let mv = Move::Ratio {
+        var,
+        lemma: 21,
+        at: f,
+    };
+    apply(alloc, &steps, &ratio, &mv, &mut Budget { left })
+}
+
+#[test]
+fn a_ratio_becomes_an_area(rt: HostRuntime) -> Result<(), Fail> {
+    // 4 (1 + 1) for the row, and 2 for the term.
+    let area = Poly::var(rt.alloc(), Var::S(PointId(0), PointId(2), PointId(3)))?;
+    assert!(rt; ratio_gone(rt.alloc(), 10).is_ok_and(|q| q.same(&area)));
+    Ok(())
+}
