@@ -1,0 +1,6 @@
+pub mod TryEnds
+pub mod LeastSamples
+pub mod ValueLaws
+pub mod FoundSamples
+pub mod EveryEnd
+pub mod Changes

@@ -1,0 +1,5 @@
+pub mod Errors
+pub mod Tries
+pub mod Samples
+pub mod Laws
+pub mod Inner

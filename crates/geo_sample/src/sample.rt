@@ -1,0 +1,96 @@
+//! The search for the least sample.
+
+ghost use Rattle.std.specs.Prelude.{◌≡◌, ◌^◌, ◌<◌, ℕ, suc, pos, length, unsigned_abs, All, IfOk, IfErr};
+ghost use Rattle.geo_poly.specs.Specialise.{IsCollected, NoneZero};
+ghost use Rattle.geo_sample.specs.Tries.{AreMade, EndIn, search_tries, tries_below};
+ghost use Rattle.geo_sample.specs.Samples.{IsLeastSample, IsLeastValue, SearchEndsIn};
+ghost use Rattle.geo_sample.specs.Inner.{changes};
+
+use crate::errors::SampleError;
+use crate::trying::{are_valid, copies, none_becomes_zero, put_together, try_natural};
+use geo_base::Budget;
+use geo_poly::lists::{Polys, Values, Vars};
+use geo_poly::{Poly, Var};
+use std::alloc::Global;
+
+/// For each variable in order the least whole number from 0 at which, with the values before it put
+/// in, none of the polynomials is zero. The tries are made in order, each for its charge.
+pub fn least_sample(
+    alloc: Global,
+    polys: &Polys,
+    vars: &Vars,
+    budget: &mut Budget,
+) -> Result<Values, SampleError>
+    requires { NoneZero polys.now }
+    ensures least { IfOk result (λ xs. IsLeastSample vars.now polys.now xs) }
+    ensures fits { IfOk result (λ xs. All (λ x. unsigned_abs x.1 < 2 ^ 127) xs) }
+    ensures made { IfOk result
+        (λ xs. AreMade budget.old.left (search_tries xs polys.now) budget.new.left) }
+    ensures stopped { IfErr result
+        (λ e. SearchEndsIn e vars.now polys.now budget.old.left budget.new.left) }
+{
+    let items = least_values(alloc, &polys.items, &vars.items, budget)?;
+    Ok(Values { items })
+}
+
+/// The same of lists.
+fn least_values(
+    alloc: Global,
+    polys: &[Poly],
+    vars: &[Var],
+    budget: &mut Budget,
+) -> Result<Vec<(Var, i128)>, SampleError>
+    requires { NoneZero polys.now }
+    ensures least { IfOk result (λ xs. IsLeastSample vars.now polys.now xs.items) }
+    ensures fits { IfOk result (λ xs. All (λ x. unsigned_abs x.1 < 2 ^ 127) xs.items) }
+    ensures made { IfOk result
+        (λ xs. AreMade budget.old.left (search_tries xs.items polys.now) budget.new.left) }
+    ensures stopped { IfErr result
+        (λ e. SearchEndsIn e vars.now polys.now budget.old.left budget.new.left) }
+{
+    prove!(are_valid(polys));
+    let mut current = copies(alloc, polys)?;
+    let mut values = Vec::new(alloc);
+    for v in vars {
+        let (value, changes) = least_value(alloc, &current, *v, budget)?;
+        values.push(pair(*v, value))?;
+        current = put_together(current, changes);
+    }
+    Ok(values)
+}
+
+/// A variable with a natural number.
+fn pair(v: Var, k: u128) -> (Var, i128)
+    requires { k < 2 ^ 127 }
+    ensures { result ≡ (v, pos k) }
+{
+    (v, k as i128)
+}
+
+/// The least number for the variable, and what the polynomials become with it.
+fn least_value(
+    alloc: Global,
+    polys: &[Poly],
+    v: Var,
+    budget: &mut Budget,
+) -> Result<(u128, Vec<Option<Poly>>), SampleError>
+    requires collected { All IsCollected polys.now }
+    requires nonzero { NoneZero polys.now }
+    requires few { length polys.now < 2 ^ 64 }
+    ensures least { IfOk result (λ r. IsLeastValue v polys.now (pos r.0)) }
+    ensures fits { IfOk result (λ r. r.0 < 2 ^ 127) }
+    ensures changes { IfOk result (λ r. r.1.items ≡ changes v (pos r.0) polys.now) }
+    ensures made { IfOk result
+        (λ r. AreMade budget.old.left (tries_below (suc r.0) v polys.now) budget.new.left) }
+    ensures stopped { IfErr result (λ e. (k : ℕ) × IsLeastValue v polys.now (pos k)
+        × EndIn e budget.old.left (tries_below (suc k) v polys.now) budget.new.left) }
+{
+    let mut k = 0u128;
+    loop {
+        let changes = try_natural(alloc, polys, v, k, budget)?;
+        if none_becomes_zero(&changes) {
+            return Ok((k, changes));
+        }
+        k += 1;
+    }
+}
