@@ -1,0 +1,4 @@
+pub mod Writable
+pub mod Lines
+pub mod Laws
+pub mod Inner

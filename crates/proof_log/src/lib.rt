@@ -1,0 +1,19 @@
+//! The lines of a log, both ways: each line that may be written has a text, and from its text it
+//! is read back.
+#![tactic(auto)]
+
+mod errors;
+pub mod laws;
+mod leads;
+mod line_reader;
+mod log;
+mod reader;
+mod terms;
+#[cfg(test)]
+mod tests;
+mod writer;
+
+pub use errors::LineError;
+pub use line_reader::read_line;
+pub use log::{Line, Verdict};
+pub use writer::write_line;

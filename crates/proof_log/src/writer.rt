@@ -1,0 +1,363 @@
+//! Writing a line.
+
+ghost use Rattle.std.specs.Prelude.{codes, ◌≡◌, ◌<◌, [], ◌∷◌, ◌++◌, length, unsigned_abs, IfOk, OnOk};
+ghost use Rattle.std.specs.Fmt.{decimal, signed_decimal};
+ghost use Rattle.geo_poly.specs.Polynomials.{term_at};
+ghost use Rattle.proof_log.specs.Writable.{IsWritable};
+ghost use Rattle.proof_log.specs.Lines.{factor_text, line_text, numbers_text, place_text, polynomial_text, power_text, sign_text, term_text, value_text, variable_name, which_text};
+
+use crate::log::{Line, Verdict};
+use geo_base::Text;
+use geo_points::{NoMemory, PointId};
+use geo_poly::lists::Values;
+use geo_poly::{Factor, Poly, Var, Which};
+use std::alloc::Global;
+
+/// The text of a line, with its line feed.
+pub fn write_line(alloc: Global, line: &Line) -> Result<Text, NoMemory>
+    requires { IsWritable line.now }
+    ensures { IfOk result (λ text. text ≡ line_text line.now ++ 10 ∷ []) }
+{
+    let mut bytes = Vec::new(alloc);
+    push_line(alloc, &mut bytes, line)?;
+    bytes.push(b'\n')?;
+    Ok(Text { bytes })
+}
+
+/// Appends a line, without its line feed.
+fn push_line(alloc: Global, out: &mut Vec<u8>, line: &Line) -> Result<(), NoMemory>
+    ensures { OnOk result (out.new.items ≡ out.old.items ++ line_text line.now) }
+{
+    match line {
+        Line::Header => out.extend_from_slice(b"geolog 1")?,
+        Line::Program(text) => push_program(out, text)?,
+        Line::Condition { k, text } => push_condition(alloc, out, *k, text)?,
+        Line::Goal { k, text } => push_goal(alloc, out, *k, text)?,
+        Line::Start(poly) => push_start(alloc, out, poly)?,
+        Line::Ratio {
+            var,
+            lemma,
+            at,
+            poly,
+        } => push_ratio(alloc, out, *var, *lemma, *at, poly)?,
+        Line::Point { at, poly } => push_point(alloc, out, *at, poly)?,
+        Line::Coords(poly) => push_coords(alloc, out, poly)?,
+        Line::Cut { by, poly } => push_cut(alloc, out, by, poly)?,
+        Line::End => out.extend_from_slice(b"end")?,
+        Line::Sample(values) => push_sample(alloc, out, values)?,
+        Line::Verdict(verdict) => push_verdict(alloc, out, *verdict)?,
+        Line::StopTooLarge { line, which } => push_too_large(alloc, out, *line, *which)?,
+        Line::StopSpent { line } => push_spent(alloc, out, *line)?,
+    }
+    Ok(())
+}
+
+/// Appends a line of the program.
+fn push_program(out: &mut Vec<u8>, text: &Text) -> Result<(), NoMemory>
+    ensures { OnOk result (out.new.items ≡ out.old.items ++ line_text (Line.Program text.now)) }
+{
+    out.extend_from_slice(b"| ")?;
+    out.extend_from_slice(&text.bytes)?;
+    Ok(())
+}
+
+/// Appends the line of the condition of this number, which heads its chain.
+fn push_condition(alloc: Global, out: &mut Vec<u8>, k: u32, text: &Text) -> Result<(), NoMemory>
+    ensures { OnOk result (out.new.items ≡ out.old.items ++ line_text (Line.Condition k text.now)) }
+{
+    out.extend_from_slice(b"condition ")?;
+    push_number(alloc, out, k)?;
+    out.extend_from_slice(b" ")?;
+    out.extend_from_slice(&text.bytes)?;
+    Ok(())
+}
+
+/// Appends the line of the start of a chain.
+fn push_start(alloc: Global, out: &mut Vec<u8>, poly: &Poly) -> Result<(), NoMemory>
+    ensures { OnOk result (out.new.items ≡ out.old.items ++ line_text (Line.Start poly.now)) }
+{
+    out.extend_from_slice(b"start : ")?;
+    push_polynomial(alloc, out, poly)
+}
+
+/// Appends the line of a ratio that a lemma replaced, with the polynomial after it.
+fn push_ratio(
+    alloc: Global,
+    out: &mut Vec<u8>,
+    var: Var,
+    lemma: u32,
+    at: Option<PointId>,
+    poly: &Poly,
+) -> Result<(), NoMemory>
+    ensures { OnOk result (out.new.items
+        ≡ out.old.items ++ line_text (Line.Ratio var lemma at poly.now)) }
+{
+    out.extend_from_slice(b"ratio ")?;
+    push_variable(alloc, out, var)?;
+    out.extend_from_slice(b" by ")?;
+    push_number(alloc, out, lemma)?;
+    push_place(alloc, out, at)?;
+    out.extend_from_slice(b" : ")?;
+    push_polynomial(alloc, out, poly)
+}
+
+/// Appends the point that a lemma looks at, where it looks at one.
+fn push_place(alloc: Global, out: &mut Vec<u8>, at: Option<PointId>) -> Result<(), NoMemory>
+    ensures { OnOk result (out.new.items ≡ out.old.items ++ place_text at) }
+{
+    match at {
+        Some(point) => push_labelled(alloc, out, b" at ", point.0),
+        None => Ok(()),
+    }
+}
+
+/// Appends the line of the coordinates of the free points, with the polynomial after it.
+fn push_coords(alloc: Global, out: &mut Vec<u8>, poly: &Poly) -> Result<(), NoMemory>
+    ensures { OnOk result (out.new.items ≡ out.old.items ++ line_text (Line.Coords poly.now)) }
+{
+    out.extend_from_slice(b"coords : ")?;
+    push_polynomial(alloc, out, poly)
+}
+
+/// Appends the line of a stop at a line that passes a limit.
+fn push_too_large(alloc: Global, out: &mut Vec<u8>, line: u64, which: Which) -> Result<(), NoMemory>
+    ensures { OnOk result (out.new.items
+        ≡ out.old.items ++ line_text (Line.StopTooLarge line which)) }
+{
+    push_bound(alloc, out, b"stop too_large ", line, which)
+}
+
+/// Appends a label, a number and, behind a space, the name of a bound.
+fn push_bound(
+    alloc: Global,
+    out: &mut Vec<u8>,
+    label: &[u8],
+    n: u64,
+    which: Which,
+) -> Result<(), NoMemory>
+    ensures { OnOk result (out.new.items
+        ≡ out.old.items ++ (label.now ++ decimal n ++ codes " " ++ which_text which)) }
+{
+    out.extend_from_slice(label)?;
+    push_long(alloc, out, n)?;
+    out.extend_from_slice(b" ")?;
+    push_which(out, which)
+}
+
+/// Appends the name of a bound.
+fn push_which(out: &mut Vec<u8>, which: Which) -> Result<(), NoMemory>
+    ensures { OnOk result (out.new.items ≡ out.old.items ++ which_text which) }
+{
+    match which {
+        Which::Norm => out.extend_from_slice(b"norm")?,
+        Which::Degree => out.extend_from_slice(b"degree")?,
+    }
+    Ok(())
+}
+
+/// Appends the line of a stop at a line whose charge is too great.
+fn push_spent(alloc: Global, out: &mut Vec<u8>, line: u64) -> Result<(), NoMemory>
+    ensures { OnOk result (out.new.items ≡ out.old.items ++ line_text (Line.StopSpent line)) }
+{
+    out.extend_from_slice(b"stop spent ")?;
+    push_long(alloc, out, line)
+}
+
+/// Appends the line of the goal of this number, which heads its chain.
+fn push_goal(alloc: Global, out: &mut Vec<u8>, k: u32, text: &Text) -> Result<(), NoMemory>
+    ensures { OnOk result (out.new.items ≡ out.old.items ++ line_text (Line.Goal k text.now)) }
+{
+    out.extend_from_slice(b"goal ")?;
+    push_number(alloc, out, k)?;
+    out.extend_from_slice(b" ")?;
+    out.extend_from_slice(&text.bytes)?;
+    Ok(())
+}
+
+/// Appends the line of the elimination of a point, with the polynomial after it.
+fn push_point(alloc: Global, out: &mut Vec<u8>, at: PointId, poly: &Poly) -> Result<(), NoMemory>
+    ensures { OnOk result (out.new.items ≡ out.old.items ++ line_text (Line.Point at poly.now)) }
+{
+    out.extend_from_slice(b"point ")?;
+    push_number(alloc, out, at.0)?;
+    out.extend_from_slice(b" : ")?;
+    push_polynomial(alloc, out, poly)
+}
+
+/// Appends the line of the division by a factor, with the quotient.
+fn push_cut(alloc: Global, out: &mut Vec<u8>, by: &Factor, poly: &Poly) -> Result<(), NoMemory>
+    ensures { OnOk result (out.new.items ≡ out.old.items ++ line_text (Line.Cut by.now poly.now)) }
+{
+    out.extend_from_slice(b"cut ")?;
+    push_factor(alloc, out, by)?;
+    out.extend_from_slice(b" : ")?;
+    push_polynomial(alloc, out, poly)
+}
+
+/// Appends the line of a sample.
+fn push_sample(alloc: Global, out: &mut Vec<u8>, values: &Values) -> Result<(), NoMemory>
+    ensures { OnOk result (out.new.items ≡ out.old.items ++ line_text (Line.Sample values.now)) }
+{
+    out.extend_from_slice(b"sample")?;
+    for value in &values.items {
+        push_value(alloc, out, value)?;
+    }
+    Ok(())
+}
+
+/// Appends a variable and its value, with a space before them.
+fn push_value(alloc: Global, out: &mut Vec<u8>, value: &(Var, i128)) -> Result<(), NoMemory>
+    ensures { OnOk result (out.new.items ≡ out.old.items ++ value_text value.now) }
+{
+    let (variable, number) = *value;
+    out.extend_from_slice(b" ")?;
+    push_variable(alloc, out, variable)?;
+    out.extend_from_slice(b"=")?;
+    push_integer(alloc, out, number)
+}
+
+/// Appends a verdict, with the number that it has.
+fn push_verdict(alloc: Global, out: &mut Vec<u8>, verdict: Verdict) -> Result<(), NoMemory>
+    ensures { OnOk result (out.new.items ≡ out.old.items ++ line_text (Line.Verdict verdict)) }
+{
+    out.extend_from_slice(b"verdict ")?;
+    match verdict {
+        Verdict::Proved => out.extend_from_slice(b"proved")?,
+        Verdict::False(goal) => push_labelled(alloc, out, b"false ", goal)?,
+        Verdict::Impossible(condition) => push_labelled(alloc, out, b"impossible ", condition)?,
+    }
+    Ok(())
+}
+
+/// Appends a label, and then a number.
+fn push_labelled(alloc: Global, out: &mut Vec<u8>, label: &[u8], n: u32) -> Result<(), NoMemory>
+    ensures { OnOk result (out.new.items ≡ out.old.items ++ (label.now ++ decimal n)) }
+{
+    out.extend_from_slice(label)?;
+    push_number(alloc, out, n)
+}
+
+/// Appends the terms with single spaces between them, or `0` where there is none.
+fn push_polynomial(alloc: Global, out: &mut Vec<u8>, poly: &Poly) -> Result<(), NoMemory>
+    ensures { OnOk result (out.new.items ≡ out.old.items ++ polynomial_text poly.now) }
+{
+    if poly.is_zero() {
+        out.push(b'0')?;
+        return Ok(());
+    }
+    push_term(alloc, out, poly, 0)?;
+    for i in 1..poly.terms() {
+        out.push(b' ')?;
+        push_term(alloc, out, poly, i)?;
+    }
+    Ok(())
+}
+
+/// Appends the term at place i: its coefficient, which always has a sign, and its powers.
+fn push_term(alloc: Global, out: &mut Vec<u8>, poly: &Poly, i: u64) -> Result<(), NoMemory>
+    requires { i < length poly.now }
+    ensures { OnOk result (out.new.items ≡ out.old.items ++ term_text (term_at poly.now i)) }
+{
+    push_coefficient(alloc, out, poly.coefficient(i))?;
+    for j in 0..poly.powers(i) {
+        let (variable, exponent) = poly.power(i, j);
+        push_power(alloc, out, variable, exponent)?;
+    }
+    Ok(())
+}
+
+/// Appends a sign, also `+`, and the absolute value.
+fn push_coefficient(alloc: Global, out: &mut Vec<u8>, c: i128) -> Result<(), NoMemory>
+    ensures { OnOk result (out.new.items
+        ≡ out.old.items ++ sign_text c ++ decimal (unsigned_abs c)) }
+{
+    if c >= 0 {
+        out.push(b'+')?;
+    }
+    push_integer(alloc, out, c)
+}
+
+/// Appends the number and the powers of a factor.
+fn push_factor(alloc: Global, out: &mut Vec<u8>, factor: &Factor) -> Result<(), NoMemory>
+    ensures { OnOk result (out.new.items ≡ out.old.items ++ factor_text factor.now) }
+{
+    push_integer(alloc, out, factor.coef())?;
+    for j in 0..factor.powers() {
+        let (variable, exponent) = factor.power(j);
+        push_power(alloc, out, variable, exponent)?;
+    }
+    Ok(())
+}
+
+/// Appends `*`, a variable, and its exponent where that is not 1.
+fn push_power(
+    alloc: Global,
+    out: &mut Vec<u8>,
+    variable: Var,
+    exponent: u32,
+) -> Result<(), NoMemory>
+    ensures { OnOk result (out.new.items ≡ out.old.items ++ power_text (variable, exponent)) }
+{
+    out.extend_from_slice(b"*")?;
+    push_variable(alloc, out, variable)?;
+    if exponent != 1 {
+        out.extend_from_slice(b"^")?;
+        push_number(alloc, out, exponent)?;
+    }
+    Ok(())
+}
+
+/// Appends the name of a variable.
+fn push_variable(alloc: Global, out: &mut Vec<u8>, variable: Var) -> Result<(), NoMemory>
+    ensures { OnOk result (out.new.items ≡ out.old.items ++ variable_name variable) }
+{
+    match variable {
+        Var::R(a, b, c, d) => push_name(alloc, out, b'R', a.0, &[b.0, c.0, d.0]),
+        Var::S(a, b, c) => push_name(alloc, out, b'S', a.0, &[b.0, c.0]),
+        Var::P(a, b, c) => push_name(alloc, out, b'P', a.0, &[b.0, c.0]),
+        Var::X(a) => push_name(alloc, out, b'x', a.0, &[]),
+        Var::Y(a) => push_name(alloc, out, b'y', a.0, &[]),
+        Var::T(t) => push_name(alloc, out, b't', t.0, &[]),
+    }
+}
+
+/// Appends a letter, and numbers with dots between them.
+fn push_name(
+    alloc: Global,
+    out: &mut Vec<u8>,
+    letter: u8,
+    first: u32,
+    others: &[u32],
+) -> Result<(), NoMemory>
+    ensures { OnOk result (out.new.items
+        ≡ out.old.items ++ (letter ∷ numbers_text (first ∷ others.now))) }
+{
+    out.push(letter)?;
+    push_number(alloc, out, first)?;
+    for number in others {
+        out.push(b'.')?;
+        push_number(alloc, out, *number)?;
+    }
+    Ok(())
+}
+
+/// Appends the digits of a number.
+fn push_number(alloc: Global, out: &mut Vec<u8>, n: u32) -> Result<(), NoMemory>
+    ensures { OnOk result (out.new.items ≡ out.old.items ++ decimal n) }
+{
+    push_integer(alloc, out, n as i128)
+}
+
+/// Appends the digits of a number of 64 bits.
+fn push_long(alloc: Global, out: &mut Vec<u8>, n: u64) -> Result<(), NoMemory>
+    ensures { OnOk result (out.new.items ≡ out.old.items ++ decimal n) }
+{
+    push_integer(alloc, out, n as i128)
+}
+
+/// Appends the digits of an integer, with a `-` before them where it is negative.
+fn push_integer(alloc: Global, out: &mut Vec<u8>, n: i128) -> Result<(), NoMemory>
+    ensures { OnOk result (out.new.items ≡ out.old.items ++ signed_decimal n) }
+{
+    geo_base::push_decimal(alloc, out, n).map_err(|_| NoMemory)
+}
