@@ -1,12 +1,15 @@
-//! The edge to std's readers and writers, of whose bytes nothing is told.
-ghost use Rattle.std.specs.Prelude.{◌≡◌, ◌<◌, ◌≤◌, length, IfSome, None};
+//! The edge to std's readers and writers.
+ghost use Rattle.std.specs.Prelude.{◌≡◌, ◌<◌, ◌≤◌, ℕ, length, take};
+ghost use Rattle.std.specs.Prelude.{Err, IfOk, IfSome, None, OnErr, OnOk};
+ghost use Rattle.std.specs.Io.KnownBytes.{Appends, ReadConsumes};
+ghost use Rattle.geo_base.specs.Devices.{HasRisen, count_up};
 
 use crate::reading::{Failed, Source};
 use crate::writing::{PutError, Sink};
 use std::io::{Read, Write};
 
-/// A source over a reader, of whose bytes contracts know nothing. Each error of the reader is a
-/// fault.
+/// A source over a reader. As a source it tells no bytes; its `read` says what it takes of those
+/// that the reader tells, and standard input tells none. Each error of the reader is a fault.
 #[derive(Drop)]
 pub struct ReaderSource<R> {
     reader: R,
@@ -27,7 +30,15 @@ impl<R: Read> Source for ReaderSource<R> {
 
     ghost faults = { λ s. s.faults };
 
-    fn read(&mut self, buf: &mut [u8]) -> Result<usize, Failed> {
+    fn read(&mut self, buf: &mut [u8]) -> Result<usize, Failed>
+        ensures within { IfOk result (λ n. n ≤ length buf.old) }
+        ensures bytes { ReadConsumes (R.remaining self.old.reader) (R.remaining self.new.reader)
+            result buf.new }
+        ensures fault { OnErr result (HasRisen self.old.faults self.new.faults) }
+        ensures faults { self.old.faults ≤ self.new.faults }
+        ensures sound { OnOk result (self.new.faults ≡ self.old.faults) }
+        ensures counted { OnErr result (self.new.faults ≡ count_up self.old.faults) }
+    {
         match self.reader.read(buf) {
             Ok(count) => Ok(count),
             Err(_) => {
@@ -38,8 +49,10 @@ impl<R: Read> Source for ReaderSource<R> {
     }
 }
 
-/// A sink over a writer, of whose bytes contracts know nothing. It flushes after each write. Each
-/// error of the writer is a fault, and so is a write that takes nothing of a nonempty piece.
+/// A sink over a writer. As a sink it tells no bytes; its `write` says what it adds to those that
+/// the writer tells, and standard output tells none. It flushes after each write. Each error of the
+/// writer is a fault, and so is a write that takes nothing of a nonempty piece; the writer may then
+/// have taken the first bytes of the piece.
 #[derive(Drop)]
 pub struct WriterSink<W> {
     writer: W,
@@ -58,6 +71,10 @@ impl<W: Write> WriterSink<W> {
     fn write_through(&mut self, buf: &[u8]) -> Option<usize>
         ensures within { IfSome result (λ n. n ≤ length buf.now) }
         ensures some { 0 < length buf.now → IfSome result (λ n. 0 < n) }
+        ensures bytes { IfSome result (λ n. Appends (W.contents self.old.writer)
+            (W.contents self.new.writer) (take n buf.now)) }
+        ensures part { (n : ℕ) × Appends (W.contents self.old.writer)
+            (W.contents self.new.writer) (take n buf.now) }
         ensures faults { self.new.faults ≡ self.old.faults }
     {
         let count = self.writer.write(buf).ok()?;
@@ -74,7 +91,19 @@ impl<W: Write> Sink for WriterSink<W> {
 
     ghost faults = { λ s. s.faults };
 
-    fn write(&mut self, buf: &[u8]) -> Result<usize, PutError> {
+    fn write(&mut self, buf: &[u8]) -> Result<usize, PutError>
+        ensures within { IfOk result (λ n. n ≤ length buf.now) }
+        ensures some { 0 < length buf.now → IfOk result (λ n. 0 < n) }
+        ensures bytes { IfOk result (λ n. Appends (W.contents self.old.writer)
+            (W.contents self.new.writer) (take n buf.now)) }
+        ensures part { OnErr result ((n : ℕ) × Appends (W.contents self.old.writer)
+            (W.contents self.new.writer) (take n buf.now)) }
+        ensures fault { OnErr result (HasRisen self.old.faults self.new.faults) }
+        ensures faults { self.old.faults ≤ self.new.faults }
+        ensures sound { OnOk result (self.new.faults ≡ self.old.faults) }
+        ensures counted { OnErr result (self.new.faults ≡ count_up self.old.faults) }
+        ensures failed { OnErr result (result ≡ Err PutError.Failed) }
+    {
         match self.write_through(buf) {
             Some(count) => Ok(count),
             None => {

@@ -57,6 +57,23 @@ impl<'a> Write for Faulty<'a> {
     }
 }
 
+// Takes two bytes a call, and counts its flushes.
+#[derive(Drop)]
+struct CountsFlushes<'a> {
+    flushes: &'a mut u64,
+}
+
+impl<'a> Write for CountsFlushes<'a> {
+    fn write(&mut self, buf: &[u8]) -> io::Result<usize> {
+        Ok(buf.len().min(2))
+    }
+
+    fn flush(&mut self) -> io::Result<()> {
+        *self.flushes = self.flushes.saturating_add(1);
+        Ok(())
+    }
+}
+
 #[test]
 fn reads_to_the_end_or_the_limit(rt: HostRuntime) -> Result<(), Fail> {
     let text = b"point A\n";
@@ -158,6 +175,18 @@ fn a_writer_that_fails_in_mid_stream_is_a_fault(rt: HostRuntime) -> Result<(), F
     write_all(&mut sink, b"jk")?;
     drop(sink);
     assert_eq!(rt; taken.as_slice(), b"abdghjk".as_slice());
+    Ok(())
+}
+
+#[test]
+fn a_writer_is_flushed_after_each_write(rt: HostRuntime) -> Result<(), Fail> {
+    let mut flushes = 0;
+    let mut sink = WriterSink::new(CountsFlushes {
+        flushes: &mut flushes,
+    });
+    write_all(&mut sink, b"abcde")?;
+    drop(sink);
+    assert_eq!(rt; flushes, 3);
     Ok(())
 }
 

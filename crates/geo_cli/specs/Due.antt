@@ -1,11 +1,11 @@
 -- What a run is to write, and the cause of each text.
-use Rattle.std.specs.Prelude.{◌≡◌, ℕ, List, [], ◌∷◌, ◌++◌, Option, codes}
+use Rattle.std.specs.Prelude.{◌≡◌, ℕ, ◌<◌, ◌≤◌, List, [], ◌∷◌, ◌++◌, length, Option, codes}
 use Rattle.std.specs.Fmt.{decimal}
 use Rattle.geo_cli.specs.declared.due.Due.{Due}
 use Rattle.geo_cli.specs.declared.due.Due.TheVariants.{Usage, TooLong, Syntax, Unbuilt, Log}
 use Rattle.geo_cli.specs.declared.status.Status.{Status}
 use Rattle.geo_cli.specs.declared.status.Status.TheVariants as status
-use Rattle.geo_cli.specs.Input.{IsInput, IsLong}
+use Rattle.geo_cli.specs.Input.{IsInput, IsLong, input_limit}
 use Rattle.geo_cli.specs.Words.{IsProve}
 use Rattle.geo_lexer.specs.declared.token_types.Fault.{Fault}
 use Rattle.geo_parser.specs.Refusals.{IsRefused}
@@ -96,3 +96,9 @@ IsDue words left left' TooLong = IsProve words × IsLong left left'
 IsDue words left left' (Syntax fault line) = IsDueForInput words left left' (Syntax fault line)
 IsDue words left left' Unbuilt = IsDueForInput words left left' Unbuilt
 IsDue words left left' (Log text) = IsDueForInput words left left' (Log text)
+
+-- what the words call for where these are all bytes that the source has left
+abbrev pub IsCalledFor : List (List ℕ) → List ℕ → Due → Type 0
+IsCalledFor words bytes Usage = ¬ (IsProve words)
+IsCalledFor words bytes TooLong = IsProve words × (input_limit < length bytes)
+IsCalledFor words bytes due = IsProve words × (length bytes ≤ input_limit) × IsDueFor bytes due

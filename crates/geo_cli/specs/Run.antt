@@ -1,18 +1,14 @@
 -- What each answer of a run says of its words, of the source's bytes to come, and of the bytes that the sink holds.
 -- A name with a prime is the same after the run.
---
--- No two causes among these hold at once: words are `prove` or are not; where the source tells its bytes, it gave
--- more than the limit or ended within it; the bytes of an input spell a program or are refused (the law
--- `spelt_texts_are_not_refused` of `geo_parser`); they spell one program (`text_spells_one_program` of `geo_program`)
--- and have one first refusal (`refusals_are_unique`); and a program's canonical text has a defined log that ends in
--- Proved, and only one, or has none (`text_has_one_program` and `defined_log_is_unique` of `geo_prover`). So where no
--- fault rises and memory is found, each status comes exactly where its cause is.
-use Rattle.std.specs.Prelude.{◌≡◌, ℕ, List, take, Option}
+use Rattle.std.specs.Prelude.{◌≡◌, ◌⊎◌, ℕ, List, take, Option}
 use Rattle.geo_base.specs.Devices.{Grows, HasRisen}
 use Rattle.geo_cli.specs.declared.due.Due.{Due}
-use Rattle.geo_cli.specs.Due.{HasLog, HasNoLog, IsDue, IsNoProgram, due_text, syntax_line, too_long_line, unbuilt_line, usage_line}
+use Rattle.geo_cli.specs.Due.{HasLog, HasNoLog, IsDue, IsNoProgram, due_status, due_text}
+use Rattle.geo_cli.specs.Due.{syntax_line, too_long_line, unbuilt_line, usage_line}
 use Rattle.geo_cli.specs.Input.{IsInput, IsLong}
 use Rattle.geo_cli.specs.Words.{IsProve}
+use Rattle.geo_cli.specs.declared.status.Status.{Status}
+use Rattle.geo_cli.specs.declared.status.Status.TheVariants.{NoMemory}
 use Rattle.geo_lexer.specs.declared.token_types.Fault.{Fault}
 
 -- the input spelt a true program, and its log was written
@@ -64,3 +60,7 @@ pub record FailsToRead (words : List (List ℕ)) (faults faults' : ℕ) (held he
   pub command : IsProve words
   pub fault : HasRisen faults faults'
   pub unwritten : held' ≡ held
+
+-- what is due was written and answered, or memory ran out
+abbrev pub Answers : Due → Status → Option (List ℕ) → Option (List ℕ) → Type 0
+Answers due status held held' = (status ≡ NoMemory) ⊎ ((status ≡ due_status due) × Grows held (due_text due) held')

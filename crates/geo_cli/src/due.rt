@@ -8,9 +8,10 @@ ghost use Rattle.geo_cli.specs.Words.{IsProve, bytes_of_words};
 
 use crate::status::Status;
 use crate::words::is_prove;
-use geo_base::{NoMemory, ReadError, Source, Text, push_decimal, read_all};
+use geo_base::{ReadError, Source, Text, push_decimal, read_all};
 use geo_lexer::Fault;
 use geo_parser::{ParseError, parse};
+use geo_points::NoMemory;
 use geo_program::{Program, print};
 use geo_prover::{FirstError, first_log};
 use std::alloc::Global;
@@ -146,9 +147,9 @@ fn syntax_line(alloc: Global, fault: Fault) -> Result<Text, NoMemory>
     ensures { IfOk result (λ line. line ≡ syntax_line fault) }
 {
     let mut bytes = Vec::from_slice(alloc, b"syntax ")?;
-    push_decimal(alloc, &mut bytes, fault.refusal as i128)?;
+    push_decimal(alloc, &mut bytes, fault.refusal as i128).map_err(|_| NoMemory)?;
     bytes.extend_from_slice(b" at ")?;
-    push_decimal(alloc, &mut bytes, fault.place as i128)?;
+    push_decimal(alloc, &mut bytes, fault.place as i128).map_err(|_| NoMemory)?;
     bytes.push(b'\n')?;
     Ok(Text { bytes })
 }

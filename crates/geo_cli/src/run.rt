@@ -1,11 +1,13 @@
 //! A run of the program, over any source and sink.
-ghost use Rattle.std.specs.Prelude.{◌≡◌, ℕ, ◌≤◌, ◌⊎◌};
+ghost use Rattle.std.specs.Prelude.{◌≡◌, ℕ, ◌≤◌, ◌⊎◌, List, Some};
 ghost use Rattle.geo_base.specs.Devices.{HasRisen};
+ghost use Rattle.geo_cli.specs.Due.{IsCalledFor};
 ghost use Rattle.geo_cli.specs.Input.{Takes};
-ghost use Rattle.geo_cli.specs.Run.{Declines, FailsToRead, Misuses, Overruns, Proves, Refuses, WritesPart};
+ghost use Rattle.geo_cli.specs.Run.{Answers, Declines, FailsToRead, Misuses, Overruns, Proves};
+ghost use Rattle.geo_cli.specs.Run.{Refuses, WritesPart};
 ghost use Rattle.geo_cli.specs.Words.{IsProve, bytes_of_words};
 
-use crate::due::{Stop, decide};
+use crate::due::{Due, Stop, decide};
 use crate::lines::write_lines;
 use crate::status::Status;
 use geo_base::{PutError, Sink, Source};
@@ -15,6 +17,8 @@ use std::alloc::Global;
 /// end, and writes the log of its proof to the sink, by one `write_all` a line. It writes nothing
 /// before the words, the reading, the parsing and the proof are done.
 ///
+/// Each answer has its cause, and the causes exclude one another: where no count of faults rises
+/// and the source tells its bytes, what they call for is answered, or want of memory (`complete`).
 /// Where the answer is `NoMemory`, the part that was written may be empty.
 pub fn run<S: Source, K: Sink>(
     alloc: Global,
@@ -44,6 +48,11 @@ pub fn run<S: Source, K: Sink>(
     ensures no_memory { result ≡ Status.NoMemory → (K.held sink.new ≡ K.held sink.old)
         ⊎ WritesPart (bytes_of_words words.now.items)
         (S.left source.old) (S.left source.new) (K.held sink.old) (K.held sink.new) }
+    ensures complete { (bytes : List ℕ) (due : Due) → S.left source.old ≡ Some bytes
+        → IsCalledFor (bytes_of_words words.now.items) bytes due
+        → ¬ (HasRisen (S.faults source.old) (S.faults source.new))
+        → ¬ (HasRisen (K.faults sink.old) (K.faults sink.new))
+        → Answers due result (K.held sink.old) (K.held sink.new) }
     ensures taken { Takes (S.left source.old) (S.left source.new) }
     ensures unread { ¬ (IsProve (bytes_of_words words.now.items)) → source.new ≡ source.old }
     ensures source_faults { S.faults source.old ≤ S.faults source.new }

@@ -70,3 +70,8 @@ appends_token a b token text h is = appends_lexeme a b (word_lexeme text) (h ∙
 pub flat_map-points : (names : List Name) (points : List PointId) (e : Tree) → map (point_lexeme names) points ++ expression_lexemes names e ≡ flat_map (argument_lexemes names) (map point_argument points ++ number_argument e ∷ [])
 flat_map-points names [] e = sym (append-nil (expression_lexemes names e))
 flat_map-points names (a ∷ points) e = ap (λ l. point_lexeme names a ∷ l) (flat_map-points names points e)
+
+-- points, as arguments
+pub points_spelt : (names : List Name) (points : List PointId) → map (point_lexeme names) points ≡ flat_map (argument_lexemes names) (map point_argument points)
+points_spelt names [] = refl
+points_spelt names (a ∷ points) = ap (λ l. point_lexeme names a ∷ l) (points_spelt names points)

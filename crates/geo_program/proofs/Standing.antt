@@ -84,7 +84,7 @@ command_word nodes (command.Second a b c) = refl
 command_word nodes (command.Cc a b c) = refl
 command_word nodes (command.Inverse a b c) = refl
 
-statement_word : (nodes : Store) (s : Statement) → is_word (statement_form nodes s).word ≡ true
+pub statement_word : (nodes : Store) (s : Statement) → is_word (statement_form nodes s).word ≡ true
 statement_word nodes (statement.Equal a b) = refl
 statement_word nodes (statement.Collinear a b c) = refl
 statement_word nodes (statement.Parallel a b c d) = refl

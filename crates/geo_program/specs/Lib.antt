@@ -8,3 +8,4 @@ pub mod Spelling
 pub mod Programs
 pub mod Laws
 pub mod Printing
+pub mod FormTexts

@@ -13,7 +13,9 @@ mod statements;
 mod tests;
 
 pub use commands::{Command, Commands, LineId};
+pub use name_table::NameTable;
 pub use names::{Name, NameKind, Names};
+pub use printer::Printer;
 pub use printing::print;
 pub use program_type::Program;
 pub use statements::Statement;

@@ -1,12 +1,13 @@
 //! The lines of the canonical text.
 
-ghost use Rattle.std.specs.Prelude.{◌≡◌, ◌<◌, [], ◌∷◌, ◌++◌, map, OnOk};
+ghost use Rattle.std.specs.Prelude.{◌≡◌, ◌<◌, [], ◌∷◌, ◌++◌, map, IfOk, OnOk};
 ghost use Rattle.std.specs.Fmt.{signed_decimal};
 ghost use Rattle.std.specs.List.{AllByRecursion, flat_map};
 ghost use Rattle.geo_lexer.specs.Lexemes.{word_lexeme};
 ghost use Rattle.geo_program.specs.CanonicalText.{argument_lexemes, command_lexemes, commands_lexemes, line_text, no_sketches, statement_lexemes};
 ghost use Rattle.geo_program.specs.Expressions.{braced, expression_lexemes, point_lexeme, quantity_lexemes};
-ghost use Rattle.geo_program.specs.Forms.{command_form, line_argument, number_argument, point_argument, side_argument, statement_form, IsStored, AreSidesStored};
+ghost use Rattle.geo_program.specs.Forms.{command_form, line_argument, number_argument, on_points, point_argument, side_argument, statement_form, IsStored, AreSidesStored};
+ghost use Rattle.geo_program.specs.FormTexts.{form_text};
 ghost use Rattle.geo_program.specs.Printing.{IsPrintableTerm, whole_scope, lines_text, spaced_text};
 ghost use Rattle.geo_program.specs.WellFormed.{AreCommands, IsArgument, empty_scope};
 ghost use Rattle.geo_terms.specs.Stores.{IsStore, tree_of};
@@ -14,7 +15,9 @@ ghost use Rattle.geo_terms.specs.Stores.{IsStore, tree_of};
 use crate::commands::{Command, LineId};
 use crate::name_table::NameTable;
 use crate::names::Name;
+use crate::program_type::Program;
 use crate::statements::Statement;
+use geo_base::Text;
 use geo_points::{NoMemory, PointId, TermId};
 use geo_terms::{Node, Terms};
 use std::alloc::Global;
@@ -324,5 +327,80 @@ impl<'a> Printer<'a> {
         push_token(out, b"{")?;
         self.push_expression(alloc, out, e)?;
         push_token(out, b"}")
+    }
+}
+
+impl<'a> Printer<'a> {
+    /// The printer of a program's names and terms.
+    pub fn new(alloc: Global, program: &'a Program) -> Result<Printer<'a>, NoMemory>
+        ensures names { IfOk result (λ printer. printer.names ≡ program.now.names) }
+        ensures terms { IfOk result (λ printer. printer.terms.now ≡ program.now.terms) }
+    {
+        Ok(Printer {
+            names: NameTable::new(alloc, program.names.as_slice())?,
+            terms: &program.terms,
+        })
+    }
+
+    /// The text of a word and points, with single spaces between them.
+    pub fn points_text(
+        &self,
+        alloc: Global,
+        word: &[u8],
+        points: &[PointId],
+    ) -> Result<Text, NoMemory>
+        requires { AllByRecursion (λ a. a.0 < (whole_scope self.now.names).points) points.now }
+        ensures { IfOk result (λ text. text ≡ form_text self.now.names (on_points word.now points.now)) }
+    {
+        let mut bytes = Vec::new(alloc);
+        bytes.extend_from_slice(word)?;
+        self.push_points(&mut bytes, points)?;
+        Ok(Text { bytes })
+    }
+
+    /// The text of a word and two lines.
+    pub fn lines_text(
+        &self,
+        alloc: Global,
+        word: &[u8],
+        a: LineId,
+        b: LineId,
+    ) -> Result<Text, NoMemory>
+        requires a { a.0 < (whole_scope self.now.names).lines }
+        requires b { b.0 < (whole_scope self.now.names).lines }
+        ensures { IfOk result (λ text. text ≡ form_text self.now.names
+            (record { word = word.now; arguments = line_argument a ∷ line_argument b ∷ [] })) }
+    {
+        let mut bytes = Vec::new(alloc);
+        bytes.extend_from_slice(word)?;
+        self.push_lines(&mut bytes, a, b)?;
+        Ok(Text { bytes })
+    }
+
+    /// The text of a word and a term between braces.
+    pub fn side_text(&self, alloc: Global, word: &[u8], e: TermId) -> Result<Text, NoMemory>
+        requires { IsPrintableTerm self.now.names self.now.terms.now e }
+        ensures { IfOk result (λ text. text ≡ form_text self.now.names
+            (record { word = word.now; arguments = side_argument (tree_of self.now.terms.now e) ∷ [] })) }
+    {
+        let mut bytes = Vec::new(alloc);
+        bytes.extend_from_slice(word)?;
+        self.push_braced(alloc, &mut bytes, e)?;
+        Ok(Text { bytes })
+    }
+
+    /// The text of a statement, without `prove` and the braces around it.
+    pub fn statement_text(&self, alloc: Global, statement: Statement) -> Result<Text, NoMemory>
+        requires store { IsStore self.now.terms.now }
+        requires arguments { AllByRecursion (IsArgument (whole_scope self.now.names))
+            (statement_form self.now.terms.now statement).arguments }
+        requires sides { AreSidesStored self.now.terms.now statement }
+        ensures { IfOk result (λ text. text
+            ≡ form_text self.now.names (statement_form self.now.terms.now statement)) }
+    {
+        let mut bytes = Vec::new(alloc);
+        bytes.extend_from_slice(statement.word())?;
+        self.push_statement_arguments(alloc, &mut bytes, statement)?;
+        Ok(Text { bytes })
     }
 }

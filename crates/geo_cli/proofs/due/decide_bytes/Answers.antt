@@ -1,4 +1,4 @@
-use Rattle.std.proofs.Common.{◌≡◌, ℕ, List, Err, ap, ◌∙◌}
+use Rattle.std.proofs.Common.{ℕ, List, Err, ap, ◌∙◌}
 use Rattle.std.proofs.lemmas.Result.{IfOk-weaker}
 use Rattle.geo_cli.specs.declared.due.Due.{Due}
 use Rattle.geo_cli.specs.declared.due.Due.TheVariants.{Usage, TooLong, Syntax, Unbuilt, Log}

@@ -1,12 +1,13 @@
-use Rattle.std.proofs.Common.{◌≡◌, ℕ, List, Option, sym, ◌∙◌, ap, arith}
+use Rattle.std.proofs.Common.{◌≡◌, ℕ, List, Option, Some, sym, subst, ◌∙◌, ap, inr, arith}
 use Rattle.geo_base.specs.Devices.{Grows}
 use Rattle.geo_cli.specs.declared.due.Due.{Due}
 use Rattle.geo_cli.specs.declared.due.Due.TheVariants.{Usage, TooLong, Syntax, Unbuilt, Log}
 use Rattle.geo_cli.specs.declared.status.Status.{Status}
 use Rattle.geo_cli.specs.declared.status.Status.TheVariants as status
-use Rattle.geo_cli.specs.Due.{IsDue, due_status, due_text}
+use Rattle.geo_cli.specs.Due.{IsCalledFor, IsDue, due_status, due_text}
 use Rattle.geo_cli.specs.Status.{status_number}
-use Rattle.geo_cli.specs.Run.{Proves}
+use Rattle.geo_cli.specs.Run.{Answers, Proves}
+use Rattle.geo_cli.proofs.OneDue.{called_is_due}
 use Rattle.geo_cli.proofs.run.run.Goals as goal
 
 -- two statuses with different numbers are not equal
@@ -31,3 +32,13 @@ proves words left left' held held' (Log text) cause written is = record {
 pub returns-in-Ok-write_lines-clause-proved : goal.returns-in-Ok-write_lines-clause-proved
 returns-in-Ok-write_lines-clause-proved g c = λ is.
     proves _ _ _ _ _ c.in-Ok.due c.in-Ok.ensures.due (rw c.text.ensures at c.in-Ok-write_lines.ensures.whole) (sym c.status.ensures ∙ is)
+
+-- what was due and was written is what the words and the source's bytes call for
+answers : (words : List (List ℕ)) (left left' held held' : Option (List ℕ)) (bytes : List ℕ) (due other : Due) → left ≡ Some bytes → IsCalledFor words bytes due → IsDue words left left' other → Grows held (due_text other) held' → Answers due (due_status other) held held'
+answers words left left' held held' bytes due other told called cause written =
+    let alike = called_is_due words bytes left' due other called (rw told at cause) in
+    inr (sym alike.status, subst (λ text. Grows held text held') (sym alike.text) written)
+
+pub returns-in-Ok-write_lines-clause-complete : goal.returns-in-Ok-write_lines-clause-complete
+returns-in-Ok-write_lines-clause-complete g c = λ bytes due told called calm calm'.
+    rw c.status.ensures (answers _ _ _ _ _ bytes due c.in-Ok.due told called c.in-Ok.ensures.due (rw c.text.ensures at c.in-Ok-write_lines.ensures.whole))
