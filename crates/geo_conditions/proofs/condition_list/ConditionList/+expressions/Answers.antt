@@ -1,0 +1,112 @@
+use Rattle.std.proofs.Common.{◌≡◌, true, refl, sym, ap, subst, [], ◌∙◌, ◌++◌, arith, rules}
+use Rattle.std.proofs.lemmas.Result.{on_ok_weaker}
+use Rattle.std.specs.Prelude.{List}
+use Rattle.geo_points.specs.contracts.ids.TermIdPartialEq.TheImpl.{eq-value}
+use Rattle.geo_points.specs.declared.ids.TermId.{TermId}
+use Rattle.geo_lowering.specs.Conditions.{Condition, divisor_conditions, expression_conditions}
+use Rattle.geo_terms.specs.declared.nodes.Node.TheVariants as node
+use Rattle.geo_terms.specs.Stores.{tree_of, trees_of}
+use Rattle.geo_terms.specs.Trees.{addition, division, multiplication, negation, ratio_leaf, subtraction}
+use Rattle.geo_conditions.specs.ConditionLists.{Lists}
+use Rattle.geo_conditions.specs.Lists.{found_at}
+use Rattle.geo_conditions.proofs.KeptConditions.{addition_parts, division_parts, leaf_conditions, lists_at, lists_none, lists_tree, multiplication_parts, negation_part, subtraction_parts, unfolds, walked_before, walked_now}
+use Rattle.geo_conditions.proofs.condition_list.ConditionList.+expressions.Goals as goal
+
+-- the derived `==` is equality
+same : (x y : TermId) → (eq-value).it x y ≡ true → x ≡ y
+same x y e = search rules
+
+pub list_expression-returns-then-contains : goal.list_expression-returns-then-contains
+list_expression-returns-then-contains t c =
+    walked_before c.args.terms.now (eq-value).it same c.args.self.now c.args.e c.args.line c.requires.list (sym c.contains.ensures ∙ c.if-contains.true)
+
+pub list_expression-returns : goal.list_expression-returns
+list_expression-returns t c =
+    walked_now c.args.terms.now (eq-value).it same c.args.self.now c.list_parts.new.self _ c.args.e c.args.line c.in_ok-list_parts.ensures refl refl c.in_ok-insert.ensures.keys
+
+pub list_parts-list_expression-requires : goal.list_parts-list_expression-requires
+list_parts-list_expression-requires t c =
+    let parts = negation_part c.args.terms.now c.requires.list.store c.args.e c.requires.braces c.in-Neg.f c.in-Neg.ensures in
+    (omega (arith, parts.falls), (c.requires.list, parts.first))
+
+pub list_parts-list_both-requires : goal.list_parts-list_both-requires
+list_parts-list_both-requires t c =
+    let parts = addition_parts c.args.terms.now c.requires.list.store c.args.e c.requires.braces c.in-Add.f c.in-Add.g c.in-Add.ensures in
+    (omega (arith, parts.falls), (c.requires.list, (parts.first, parts.second)))
+
+pub list_parts-list_both-requires-in-Sub : goal.list_parts-list_both-requires-in-Sub
+list_parts-list_both-requires-in-Sub t c =
+    let parts = subtraction_parts c.args.terms.now c.requires.list.store c.args.e c.requires.braces c.in-Sub.f c.in-Sub.g c.in-Sub.ensures in
+    (omega (arith, parts.falls), (c.requires.list, (parts.first, parts.second)))
+
+pub list_parts-list_both-requires-in-Mul : goal.list_parts-list_both-requires-in-Mul
+list_parts-list_both-requires-in-Mul t c =
+    let parts = multiplication_parts c.args.terms.now c.requires.list.store c.args.e c.requires.braces c.in-Mul.f c.in-Mul.g c.in-Mul.ensures in
+    (omega (arith, parts.falls), (c.requires.list, (parts.first, parts.second)))
+
+pub list_parts-list_both-requires-in-Div : goal.list_parts-list_both-requires-in-Div
+list_parts-list_both-requires-in-Div t c =
+    let parts = division_parts c.args.terms.now c.requires.list.store c.args.e c.requires.braces c.in-Div.f c.in-Div.g c.in-Div.ensures in
+    (omega (arith, parts.falls), (c.requires.list, (parts.first, parts.second)))
+
+pub list_parts-list_divisor-requires-clause-braces : goal.list_parts-list_divisor-requires-clause-braces
+list_parts-list_divisor-requires-clause-braces t c =
+    (division_parts c.args.terms.now c.requires.list.store c.args.e c.requires.braces c.in-Div.f c.in-Div.g c.in-Div.ensures).second
+
+pub list_parts-returns-in-R : goal.list_parts-returns-in-R
+list_parts-returns-in-R t c =
+    let nodes = c.args.terms.now in
+    let is = unfolds nodes c.requires.list.store c.args.e c.requires.braces (node.R c.in-R.field-0 c.in-R.field-1 c.in-R.c c.in-R.d) c.in-R.ensures in
+    on_ok_weaker c.add.result
+    (λ one. lists_tree nodes c.args.self.now c.add.new.self c.args.line c.args.e (ratio_leaf c.in-R.field-0 c.in-R.field-1 c.in-R.c c.in-R.d) is one) c.add.ensures
+
+pub list_parts-returns-in-Neg : goal.list_parts-returns-in-Neg
+list_parts-returns-in-Neg t c =
+    let nodes = c.args.terms.now in
+    let is = unfolds nodes c.requires.list.store c.args.e c.requires.braces (node.Neg c.in-Neg.f) c.in-Neg.ensures in
+    on_ok_weaker c.list_expression.result
+    (λ all. lists_tree nodes c.args.self.now c.list_expression.new.self c.args.line c.args.e (negation (tree_of nodes c.in-Neg.f)) is all) c.list_expression.ensures
+
+pub list_parts-returns-in-Add : goal.list_parts-returns-in-Add
+list_parts-returns-in-Add t c =
+    let nodes = c.args.terms.now in
+    let is = unfolds nodes c.requires.list.store c.args.e c.requires.braces (node.Add c.in-Add.f c.in-Add.g) c.in-Add.ensures in
+    on_ok_weaker c.list_both.result
+    (λ all. lists_tree nodes c.args.self.now c.list_both.new.self c.args.line c.args.e (addition (tree_of nodes c.in-Add.f) (tree_of nodes c.in-Add.g)) is all)
+    c.list_both.ensures
+
+pub list_parts-returns-in-Sub : goal.list_parts-returns-in-Sub
+list_parts-returns-in-Sub t c =
+    let nodes = c.args.terms.now in
+    let is = unfolds nodes c.requires.list.store c.args.e c.requires.braces (node.Sub c.in-Sub.f c.in-Sub.g) c.in-Sub.ensures in
+    on_ok_weaker c.list_both-in-Sub.result
+    (λ all. lists_tree nodes c.args.self.now c.list_both-in-Sub.new.self c.args.line c.args.e (subtraction (tree_of nodes c.in-Sub.f) (tree_of nodes c.in-Sub.g)) is all)
+    c.list_both-in-Sub.ensures
+
+pub list_parts-returns-in-Mul : goal.list_parts-returns-in-Mul
+list_parts-returns-in-Mul t c =
+    let nodes = c.args.terms.now in
+    let is = unfolds nodes c.requires.list.store c.args.e c.requires.braces (node.Mul c.in-Mul.f c.in-Mul.g) c.in-Mul.ensures in
+    on_ok_weaker c.list_both-in-Mul.result
+    (λ all. lists_tree nodes c.args.self.now c.list_both-in-Mul.new.self c.args.line c.args.e (multiplication (tree_of nodes c.in-Mul.f) (tree_of nodes c.in-Mul.g)) is all)
+    c.list_both-in-Mul.ensures
+
+pub list_parts-returns-in_ok-list_both-in-Div : goal.list_parts-returns-in_ok-list_both-in-Div
+list_parts-returns-in_ok-list_both-in-Div t c =
+    let nodes = c.args.terms.now in
+    let f = tree_of nodes c.in-Div.f in
+    let g = tree_of nodes c.in-Div.g in
+    let is = unfolds nodes c.requires.list.store c.args.e c.requires.braces (node.Div c.in-Div.f c.in-Div.g) c.in-Div.ensures in
+    on_ok_weaker c.list_divisor.result
+    (λ last. lists_tree nodes c.args.self.now c.list_divisor.new.self c.args.line c.args.e (division f g) is
+    (lists_at nodes c.args.self.now c.list_both-in-Div.new.self c.list_divisor.new.self c.args.line (expression_conditions f ++ expression_conditions g) (divisor_conditions g)
+    c.in_ok-list_both-in-Div.ensures last))
+    c.list_divisor.ensures
+
+pub list_parts-returns-in_default : goal.list_parts-returns-in_default
+list_parts-returns-in_default t c =
+    let nodes = c.args.terms.now in
+    let d = c.in_default in
+    let is = unfolds nodes c.requires.list.store c.args.e c.requires.braces c.node.result c.node.ensures in
+    let none : expression_conditions (tree_of nodes c.args.e) ≡ [] = ap expression_conditions is ∙ leaf_conditions nodes (trees_of nodes) c.node.result d.not-R d.not-Neg d.not-Add d.not-Sub d.not-Mul d.not-Div in
+    subst (λ (cs : List Condition). Lists nodes c.args.self.now c.args.self.now (found_at c.args.line cs)) (sym none) (lists_none nodes c.args.self.now c.requires.list)

@@ -1,0 +1,22 @@
+//! The conditions and the goals of a program, made from the program alone, and its truth over placements.
+#![tactic(auto)]
+
+mod condition_items;
+mod condition_list;
+mod condition_sources;
+mod conditions;
+mod goal_items;
+mod goal_list;
+mod interning;
+mod item_terms;
+mod items;
+pub mod laws;
+mod problem;
+mod program_conditions;
+mod program_items;
+mod renaming;
+
+pub use conditions::{Condition, ListedCondition};
+pub use items::{Conditions, Goals, Item};
+pub use problem::{Problem, list};
+pub use program_items::list_items;

@@ -1,0 +1,14 @@
+pub mod Relations
+pub mod Lines
+pub mod Counting
+pub mod CommandsMet
+pub mod Conditions
+pub mod StepForms
+pub mod Lowering
+pub mod Building
+pub mod Laws
+pub mod Parts
+pub mod Renaming
+pub mod StepNumbers
+pub mod StepLists
+pub mod Growing
