@@ -1,0 +1,8 @@
+pub mod Searches
+pub mod Places
+pub mod Points
+pub mod Moves
+pub mod DueCuts
+pub mod Replacing
+pub mod KeptPoints
+pub mod Steps

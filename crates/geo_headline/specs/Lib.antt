@@ -1,0 +1,4 @@
+pub mod Subjects
+pub mod Laws
+pub mod Accepted
+pub mod Judged

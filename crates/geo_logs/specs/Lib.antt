@@ -1,0 +1,10 @@
+pub mod Chains
+pub mod Samples
+pub mod Logs
+pub mod Defined
+pub mod Places
+pub mod Ends
+pub mod Judging
+pub mod Placements
+pub mod Laws
+pub mod Shown

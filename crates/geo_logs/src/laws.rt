@@ -1,0 +1,57 @@
+//! What is proved of logs. The functions do nothing: what each says is its contract.
+
+ghost use Rattle.geo_logs.specs.Shown.{AcceptedLogsAreTrue};
+ghost use Rattle.geo_logs.specs.Laws.{AcceptedGoalsAreZero, AcceptedSampleRealises};
+ghost use Rattle.geo_logs.specs.Laws.{ChainsNameNoLater, ChargesAreSpent, DefinedLogIsUnique};
+ghost use Rattle.geo_logs.specs.Laws.{ImpossibleIsNeverMet, ProversLogIsAccepted};
+ghost use Rattle.geo_logs.specs.Laws.{ProversLogIsUnique};
+
+/// Where a log is accepted with Proved, each goal's term is 0 in every placement that meets the
+/// steps, wherever it has a value; with False(g) this holds of the goals before goal g.
+pub fn accepted_goals_are_zero()
+    ensures { AcceptedGoalsAreZero }
+{}
+
+/// Where a log is accepted with Impossible(k), condition k holds in no placement that meets the
+/// steps.
+pub fn impossible_is_never_met()
+    ensures { ImpossibleIsNeverMet }
+{}
+
+/// The sample of an accepted log makes the conditions hold, one after another while a placement is
+/// made; and with False(g) goal g is not 0 there.
+pub fn accepted_sample_realises()
+    ensures { AcceptedSampleRealises }
+{}
+
+/// The prover's own log is accepted, with as many steps left or more.
+pub fn provers_log_is_accepted()
+    ensures { ProversLogIsAccepted }
+{}
+
+/// A subject has one log of the prover at most.
+pub fn provers_log_is_unique()
+    ensures { ProversLogIsUnique }
+{}
+
+/// A subject has one defined list of lines at most, with one end: a verdict, a stop, or a text that
+/// gets too long.
+pub fn defined_log_is_unique()
+    ensures { DefinedLogIsUnique }
+{}
+
+/// A chain that begins with points below a number eliminates such points alone, and ends with such
+/// points alone.
+pub fn chains_name_no_later()
+    ensures { ChainsNameNoLater }
+{}
+
+/// An accepted log leaves no more steps than were given.
+pub fn charges_are_spent()
+    ensures { ChargesAreSpent }
+{}
+
+/// An accepted log over the lemma table shows its verdict, of every construction.
+pub fn accepted_logs_are_true()
+    ensures { AcceptedLogsAreTrue }
+{}
