@@ -1,0 +1,26 @@
+//! Tests that cross crates. There is nothing here but tests: of the calls that make a problem of a program, and of the
+//! moves of a chain, beside what a plain reference makes of the same programs.
+#![tactic(auto)]
+
+#[cfg(test)]
+mod chains;
+#[cfg(test)]
+mod descriptions;
+#[cfg(test)]
+mod examples;
+#[cfg(test)]
+mod move_degrees;
+#[cfg(test)]
+mod move_places;
+#[cfg(test)]
+mod move_texts;
+#[cfg(test)]
+mod moves;
+#[cfg(test)]
+mod moves_table;
+#[cfg(test)]
+mod problems;
+#[cfg(test)]
+mod ratio_moves_table;
+#[cfg(test)]
+mod starts;
