@@ -9,11 +9,11 @@ use Rattle.ring_laws.proofs.Laws as Laws
 use Rattle.fraction_poly.specs.Laws.{polynomial_value}
 use Rattle.fraction_poly.proofs.PolynomialValues.{◌∘◌, flip, self, products, constant_is, area_is, product_is}
 use Rattle.geo_points.specs.declared.ids.PointId.{PointId}
-use Rattle.geo_points.specs.Fraction.{Fraction, Same, whole, times, IsNonzero}
+use Rattle.ring_laws.specs.Fraction.{Fraction, Same, whole, times, IsNonzero}
 use Rattle.geo_points.specs.Placements.{Placement}
 use Rattle.geo_points.proofs.Collinear.{collinear_null}
-use Rattle.geo_points.proofs.Fractions.{fractions}
-use Rattle.geo_points.proofs.Nonzero.{cancel_fraction, zero_of_same}
+use Rattle.ring_laws.proofs.Fractions.{fractions}
+use Rattle.ring_laws.proofs.Quotients.{cancel_fraction, zero_of_same}
 use Rattle.geo_poly.specs.declared.replacement.Row.{Row}
 use Rattle.geo_poly.specs.declared.variables.Var.{Var}
 use Rattle.geo_poly.specs.Monomials.{Powers}

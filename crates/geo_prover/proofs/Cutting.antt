@@ -10,7 +10,7 @@ use Rattle.std.proofs.lemmas.Nat.Gcd.{le_of_dvd}
 use Rattle.std.proofs.lemmas.List.Elements.{All-cons, All-head, All-nil, All-tail}
 use Rattle.sparse_lists.specs.SparseLists.{AllKeys}
 use Rattle.sparse_lists.proofs.Canonical.{amount-head, canonical_self}
-use Rattle.geo_points.proofs.Nonzero.{cancel_factor}
+use Rattle.ring_laws.proofs.Quotients.{cancel_factor}
 use Rattle.geo_poly.specs.declared.variables.Var.{Var}
 use Rattle.geo_poly.specs.Factors.{DividesAll, IsFactor, IsFactorOf, leading_coefficient}
 use Rattle.geo_poly.specs.Monomials.{Powers, IsMonomial, exponents, exponent, product}

@@ -2,7 +2,7 @@
 use Rattle.std.proofs.Common.{◌≡◌, ℕ, zero, suc, ◌+◌, ◌<◌, Bool, true, false, cond, eqb, ℤ, pos, ◌≤ℤ◌, Option, Some, None, List, [], ◌∷◌, slice_get, refl, sym, ◌∙◌, ap, subst, arith, lit<}
 use Rattle.std.proofs.lemmas.Bool.{eqb-true, eq-eqb}
 use Rattle.std.proofs.lemmas.Int.{ints}
-use Rattle.geo_points.specs.Fraction.{Fraction, IsNonzero, whole}
+use Rattle.ring_laws.specs.Fraction.{Fraction, IsNonzero, whole}
 use Rattle.geo_points.specs.Points.{Point}
 use Rattle.geo_points.specs.Placements.{Placement}
 use Rattle.geo_points.specs.Steps.{IsAlong}

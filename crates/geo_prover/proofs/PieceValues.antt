@@ -5,7 +5,7 @@ use Rattle.fraction_poly.specs.MultipliedOut.{canon_polynomial, variable_polynom
 use Rattle.fraction_poly.proofs.PolynomialValues as Values
 use Rattle.fraction_poly.proofs.PolynomialValues.{◌∘◌, minus_is, one_times, opposites, products, self, sums}
 use Rattle.geo_points.specs.declared.ids.PointId.{PointId}
-use Rattle.geo_points.specs.Fraction.{Fraction, Same, whole, plus, minus, times}
+use Rattle.ring_laws.specs.Fraction.{Fraction, Same, whole, plus, minus, times}
 use Rattle.geo_points.specs.Placements.{Placement}
 use Rattle.geo_points.specs.Points.{signed_area, x_coordinate, y_coordinate}
 use Rattle.geo_poly.specs.declared.variables.Var.{Var}

@@ -6,13 +6,13 @@ use Rattle.ring_laws.specs.Powers.{power}
 use Rattle.fraction_poly.specs.Laws.{polynomial_value}
 use Rattle.fraction_poly.proofs.PolynomialValues.{◌∘◌, flip, self, products, one_times}
 use Rattle.geo_points.specs.declared.ids.PointId.{PointId}
-use Rattle.geo_points.specs.Fraction.{Fraction, Same, whole, times, IsNonzero}
+use Rattle.ring_laws.specs.Fraction.{Fraction, Same, whole, times, IsNonzero}
 use Rattle.geo_points.specs.Placements.{Placement}
 use Rattle.geo_points.specs.Points.{Point, signed_area}
 use Rattle.geo_points.specs.Steps.{IsAlong}
 use Rattle.geo_points.proofs.AreaRows.{pratio-signed_area, free-signed_area}
-use Rattle.geo_points.proofs.Fractions.{fractions}
-use Rattle.geo_points.proofs.Nonzero.{quotient-times}
+use Rattle.ring_laws.proofs.Fractions.{fractions}
+use Rattle.ring_laws.proofs.Quotients.{quotient-times}
 use Rattle.geo_points.proofs.Signs.{signed_area-turn}
 use Rattle.geo_poly.specs.declared.replacement.Row.{Row}
 use Rattle.geo_poly.specs.declared.variables.Var.{Var}

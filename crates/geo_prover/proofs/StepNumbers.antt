@@ -61,7 +61,6 @@ step_number-quotient n d =
 module _ (n d : ℤ) (n_small : unsigned_abs n ≤ 9) (d_small : unsigned_abs d ≤ 9) where
   pub quotient_fits : CanMultiplyOut (number_tree n d)
   quotient_fits = record {
-    quantities = (tt, tt);
     room = record { numerator_weight = omega arith; denominator_weight = omega arith; numerator_degree = omega arith; denominator_degree = omega arith };
   }
 
@@ -75,7 +74,7 @@ pub digit_piece : (z : ℤ) → unsigned_abs z ≤ 9 → IsOfOneDigit (number_pi
 digit_piece z small =
     let within = IsWithin-constant z in
     record {
-      bounded = record { norm = within.norm; degree = within.degree; weight = omega arith };
+      bounded = record { norm = within.norm; count = within.count; degree = within.degree; light = omega arith; weight = omega arith };
       light = omega arith;
       one_monomial = refl;
       constant = refl;

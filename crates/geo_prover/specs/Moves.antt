@@ -22,7 +22,7 @@ use Rattle.geo_prover.specs.declared.rows.Along.{Along}
 
 -- an integer that a row writes
 abbrev pub integer_piece : ℤ → Piece
-integer_piece z = record { poly = constant_of z; weight = unsigned_abs z; count = 1; degree = 0 }
+integer_piece z = record { poly = constant_of z; weight = max 1 (unsigned_abs z); count = 1; degree = 0 }
 
 -- the numerator or the denominator of a step's number
 abbrev pub number_piece : ℤ → Piece

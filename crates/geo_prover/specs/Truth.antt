@@ -1,6 +1,6 @@
 -- Truth of a program: what its commands and its statement say of placements. Nothing here knows a polynomial, a lemma or a log.
 use Rattle.std.specs.Prelude.{◌≡◌, ℕ, suc, ℤ, pos, List, [], ◌∷◌}
-use Rattle.geo_points.specs.Fraction.{Fraction, IsNonzero, whole, quotient}
+use Rattle.ring_laws.specs.Fraction.{Fraction, IsNonzero, whole, quotient}
 use Rattle.geo_points.specs.Points.{cross_product}
 use Rattle.geo_points.specs.Placements.{Placement}
 use Rattle.geo_points.specs.Steps.{IsAlong}

@@ -9,16 +9,15 @@ use geo_points::{NoMemory, PointId};
 use geo_poly::{Piece, Poly, PolyError, Var, Which, canon_s};
 use std::alloc::Global;
 
-/// A whole number but 0.
+/// A whole number.
 pub fn integer(alloc: Global, z: i128) -> Result<Piece, NoMemory>
-    requires nonzero { 1 ≤ unsigned_abs z }
     requires short { unsigned_abs z < 2 ^ 127 }
     ensures piece { IfOk result (λ f. f ≡ integer_piece z) }
     ensures bounded { IfOk result IsBounded }
 {
     Ok(Piece {
         poly: Poly::constant(alloc, z)?,
-        weight: z.unsigned_abs(),
+        weight: z.unsigned_abs().max(1),
         count: 1,
         degree: 0,
     })
@@ -75,7 +74,6 @@ pub fn sum(alloc: Global, left: &Piece, right: &Piece) -> Result<Piece, NoMemory
     requires left { IsBounded left.now }
     requires right { IsBounded right.now }
     requires weights { left.now.weight + right.now.weight < 2 ^ 127 }
-    requires counts { left.now.count + right.now.count < 2 ^ 127 }
     ensures piece { IfOk result (λ f. f ≡ piece_sum left.now right.now) }
     ensures bounded { IfOk result IsBounded }
 {
@@ -92,7 +90,6 @@ pub fn difference(alloc: Global, left: &Piece, right: &Piece) -> Result<Piece, N
     requires left { IsBounded left.now }
     requires right { IsBounded right.now }
     requires weights { left.now.weight + right.now.weight < 2 ^ 127 }
-    requires counts { left.now.count + right.now.count < 2 ^ 127 }
     ensures piece { IfOk result (λ f. f ≡ piece_difference left.now right.now) }
     ensures bounded { IfOk result IsBounded }
 {
@@ -109,7 +106,6 @@ pub fn product(alloc: Global, left: &Piece, right: &Piece) -> Result<Piece, NoMe
     requires left { IsBounded left.now }
     requires right { IsBounded right.now }
     requires weights { left.now.weight * right.now.weight < 2 ^ 127 }
-    requires counts { left.now.count * right.now.count < 2 ^ 127 }
     requires degrees { left.now.degree + right.now.degree ≤ 65535 }
     ensures piece { IfOk result (λ f. f ≡ piece_product left.now right.now) }
     ensures bounded { IfOk result IsBounded }
