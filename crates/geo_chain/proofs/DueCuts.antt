@@ -1,5 +1,5 @@
 -- The cut by the factor of a polynomial.
-use Rattle.std.proofs.Common.{◌≡◌, ◌≢◌, ◌^◌, ◌<◌, ◌≤◌, eqb, Bool, true, false, Contains, unsigned_abs, ℤ, pos, List, [], ◌∷◌, length, refl, sym, ◌∙◌, subst, arith}
+use Rattle.std.proofs.Common.{◌≡◌, ◌≢◌, ◌<◌, eqb, Bool, true, false, Contains, unsigned_abs, ℤ, pos, List, [], ◌∷◌, length, refl, sym, ◌∙◌, subst, arith}
 use Rattle.std.specs.Int.{◌∣◌}
 use Rattle.std.proofs.lemmas.Bool.Decides.{nat_tests}
 use Rattle.std.proofs.lemmas.List.Elements.{All-head}
@@ -7,9 +7,8 @@ use Rattle.std.proofs.lemmas.List.Sums.{sum_by-cons}
 use Rattle.std.proofs.lemmas.Nat.Gcd.{le_of_dvd}
 use Rattle.sparse_lists.specs.SparseLists.{AllKeys}
 use Rattle.geo_poly.specs.declared.variables.Var.{Var}
-use Rattle.geo_poly.specs.Cuts.{IsCut}
 use Rattle.geo_poly.specs.Factors.{IsFactor, IsFactorOf}
-use Rattle.geo_poly.specs.Monomials.{Powers, IsMonomial, exponent}
+use Rattle.geo_poly.specs.Monomials.{Powers, exponent}
 use Rattle.geo_poly.specs.Polynomials.{IsPolynomial, Terms, product_of}
 use Rattle.geo_poly.proofs.Cuts.{Contains-from_is_in, is_in, is_in_from_Contains}
 use Rattle.geo_poly.proofs.EachVariable.{from_exponents}

@@ -1,5 +1,5 @@
 -- A step of a chain names no new points.
-use Rattle.std.proofs.Common.{◌≡◌, ℕ, Bool, true, false, cond, Option, Some, None, List, [], length, sym, subst}
+use Rattle.std.proofs.Common.{◌≡◌, ℕ, Bool, true, false, cond, Option, Some, None, List, sym, subst}
 use Rattle.std.specs.List.{filter_map}
 use Rattle.std.specs.Option.{option_map}
 use Rattle.std.specs.Ordering.{is_eq}
@@ -17,7 +17,7 @@ use Rattle.elim_apply.specs.declared.moves.Move.TheVariants.{Ratio, Point, Coord
 use Rattle.elim_apply.specs.LemmaTable.{lemma_table}
 use Rattle.elim_apply.specs.Moves.{IsMoved, replacement}
 use Rattle.elim_apply.specs.Naming.{IsNamed}
-use Rattle.elim_apply.specs.Sound.{IsSoundTable, NamesNoLater}
+use Rattle.elim_apply.specs.Sound.{NamesNoLater}
 use Rattle.elim_apply.proofs.MoveRows.{lemma_table_sound}
 
 no_some : (r : Row) → ◌≡◌ {A = Option Row} None (Some r) → ⊥

@@ -1,10 +1,10 @@
 -- Which move is the next one.
-use Rattle.std.proofs.Common.{◌≡◌, ◌⊎◌, inl, inr, ⊎_elim, Contains, Option, Some, None, List, refl}
-use Rattle.std.specs.Prelude.{IfSome, Any}
+use Rattle.std.proofs.Common.{◌≡◌, Option, Some, None, refl}
+use Rattle.std.specs.Prelude.{IfSome}
 use Rattle.geo_poly.specs.declared.variables.Var.{Var}
 use Rattle.geo_poly.specs.declared.variables.Var.TheVariants.{R, S, P, X as Abscissa, Y as Ordinate, T as Number}
 use Rattle.geo_poly.specs.Polynomials.{Terms}
-use Rattle.geo_poly.specs.PolynomialVariables.{AllVariables, IsPlain, IsQuantity, variables_of}
+use Rattle.geo_poly.specs.PolynomialVariables.{IsPlain, IsQuantity}
 use Rattle.geo_poly.proofs.EachVariable.{all_variables}
 use Rattle.geo_terms.specs.Constructions.{Construction}
 use Rattle.elim_apply.specs.declared.moves.Move.{Move}

@@ -1,6 +1,6 @@
 -- The variables of a polynomial are those that stand in its terms.
-use Rattle.std.proofs.Common.{◌≡◌, ◌≢◌, ℕ, zero, suc, ◌+◌, ◌<◌, ◌≤◌, ◌⊎◌, ⊎_elim, IsTrue, Bool, true, false, Contains, ℤ, Option, Some, None, List, [], ◌∷◌, length, refl, sym, ◌∙◌, subst, arith}
-use Rattle.std.specs.Prelude.{slice_get, Any, IfSome, IfNone}
+use Rattle.std.proofs.Common.{◌≡◌, ℕ, zero, suc, ◌<◌, ◌≤◌, ⊎_elim, Contains, Option, Some, None, [], ◌∷◌, length, refl, sym, ◌∙◌, subst, arith}
+use Rattle.std.specs.Prelude.{slice_get, IfSome, IfNone}
 use Rattle.sparse_lists.specs.SparseLists.{AllKeys}
 use Rattle.geo_points.specs.declared.ids.PointId.{PointId}
 use Rattle.geo_poly.specs.declared.variables.Var.{Var}
@@ -11,7 +11,7 @@ use Rattle.geo_poly.proofs.EachVariable.{all_variables, each-contained, each-var
 use Rattle.geo_terms.specs.Constructions.{Construction}
 use Rattle.geo_logs.specs.Defined.{HasFreePointsAlone, IsHighest}
 use Rattle.geo_chain.specs.declared.first.Sought.{Sought}
-use Rattle.geo_chain.specs.Searches.{Fits, FitsItself, Improves, IsFirstFitting, IsMetBefore, IsMetIn, IsNoEarlier, IsNoHigher, MakesPoint, NoneFits}
+use Rattle.geo_chain.specs.Searches.{Fits, FitsItself, Improves, IsFirstFitting, IsMetBefore, IsNoEarlier, IsNoHigher, MakesPoint, NoneFits}
 
 module _ (Holds : Var → Type 0) where
   pub key_at : (m : Powers) (l : ℕ) (p : Var × ℕ) → AllKeys Holds m → slice_get m l ≡ Some p → Holds p.0

@@ -1,6 +1,6 @@
 -- The next move replaces something, and its polynomial names the points of the steps alone.
-use Rattle.std.proofs.Common.{◌≡◌, ◌≢◌, ℕ, zero, suc, ◌<◌, ◌||◌, ◌&&◌, ◌⊎◌, inl, inr, IsTrue, Bool, true, false, cond, Contains, ℤ, Option, Some, None, List, [], ◌∷◌, length, refl, sym, subst, arith, eq-eqb}
-use Rattle.std.specs.Prelude.{slice_get, find, if◌then◌else◌, Any}
+use Rattle.std.proofs.Common.{◌≡◌, ◌≢◌, ℕ, zero, suc, ◌<◌, ◌||◌, ◌&&◌, inl, inr, IsTrue, Bool, true, false, cond, Contains, Option, Some, None, List, [], ◌∷◌, length, refl, sym, subst, arith, eq-eqb}
+use Rattle.std.specs.Prelude.{slice_get, find, if◌then◌else◌}
 use Rattle.std.specs.List.{cons_option, filter_map}
 use Rattle.std.specs.Option.{is_some, option_and_then, option_map}
 use Rattle.std.specs.Ordering.{is_eq}
@@ -15,7 +15,7 @@ use Rattle.geo_poly.specs.Variables.{var_cmp}
 use Rattle.geo_poly.proofs.Orders.{var_order}
 use Rattle.geo_terms.specs.declared.steps.Step.{Step}
 use Rattle.geo_terms.specs.declared.steps.Step.TheVariants.{Point as FreeStep, Inter, Foot, Pratio, Tratio}
-use Rattle.geo_terms.specs.Constructions.{Construction, IsConstruction}
+use Rattle.geo_terms.specs.Constructions.{Construction}
 use Rattle.elim_apply.specs.declared.moves.Move.{Move}
 use Rattle.elim_apply.specs.declared.moves.Move.TheVariants.{Ratio, Point, Coords}
 use Rattle.geo_logs.specs.Defined.{HasFreePointsAlone, IsConstructed, IsNextMove, Occurs, has_point, is_point, named_point}
@@ -33,7 +33,7 @@ use Rattle.fraction_poly.specs.TableRows.{HasPointsBelow, TableRow, made_row}
 use Rattle.elim_apply.specs.LemmaTable.{lemma_table}
 use Rattle.elim_apply.specs.Moves.{place_of, replacement}
 use Rattle.elim_apply.specs.Naming.{IsPlaceBelow}
-use Rattle.geo_poly.specs.PolynomialVariables.{AllVariables, IsPlain, IsQuantity, IsRatio, variables_of}
+use Rattle.geo_poly.specs.PolynomialVariables.{AllVariables, IsQuantity, IsRatio, variables_of}
 use Rattle.geo_poly.proofs.EachVariable.{each-contained, each-variables}
 
 -- ROWS

@@ -1,10 +1,9 @@
 -- Searches one after the other, and what they come to.
-use Rattle.std.proofs.Common.{◌≡◌, ◌≢◌, ℕ, ◌+◌, ◌<◌, ◌≤◌, ◌⊎◌, inl, inr, ⊎_elim, Option, Some, None, List, length, refl, sym, ◌∙◌, subst, arith}
+use Rattle.std.proofs.Common.{◌≡◌, ℕ, ◌+◌, ◌<◌, ◌≤◌, ◌⊎◌, inl, inr, ⊎_elim, Option, Some, None, length, refl, sym, ◌∙◌, subst, arith}
 use Rattle.std.specs.Prelude.{slice_get}
 use Rattle.std.specs.declared.cmp.Ordering.{Ordering}
 use Rattle.std.specs.declared.cmp.Ordering.TheVariants.{Less, Equal, Greater}
 use Rattle.std.proofs.Math.Nat.{eq-or-lt_of_le}
-use Rattle.geo_points.specs.declared.ids.PointId.{PointId}
 use Rattle.geo_poly.specs.declared.variables.Var.{Var}
 use Rattle.geo_poly.specs.Monomials.{Powers}
 use Rattle.geo_poly.specs.Polynomials.{Terms, term_at}
@@ -55,13 +54,6 @@ module _ {A : Type 0} (NoBetter : A → A → Type 0) (order : IsOrder NoBetter)
     reaches = λ a h. subst (λ (z : A). NoBetter z b) (sym (only a h)) (order.self b);
   }
 
-  pub left : (Good : A → Type 0) (b : A) (c : A) → ((a : A) → Good a → a ≡ c) → NoBetter c b → Improves NoBetter Good (Some b) (Some b)
-  left Good b c only behind = record {
-    from = inl refl;
-    keeps = λ a e. reached (Some b) a e;
-    reaches = λ a h. subst (λ (z : A). NoBetter z b) (sym (only a h)) behind;
-  }
-
   -- two searches
   pub both : (First Second Third : A → Type 0) (x y z : Option A)
       → ((a : A) → First a → Third a) → ((a : A) → Second a → Third a) → ((a : A) → Third a → First a ⊎ Second a)
@@ -71,14 +63,6 @@ module _ {A : Type 0} (NoBetter : A → A → Type 0) (order : IsOrder NoBetter)
         (λ (f : (a : A) × (z ≡ Some a) × Second a). inr (f.0, f.1, two f.0 f.2)) g.from;
     keeps = λ a e. still y z a (h.keeps a e) g.keeps;
     reaches = λ a t. ⊎_elim (λ (f : First a). still y z a (h.reaches a f) g.keeps) (λ (s : Second a). g.reaches a s) (parts a t);
-  }
-
-  pub alike : (First Second : A → Type 0) (x y : Option A) → ((a : A) → First a → Second a) → ((a : A) → Second a → First a)
-      → Improves NoBetter First x y → Improves NoBetter Second x y
-  alike First Second x y there back h = record {
-    from = ⊎_elim (λ (e : y ≡ x). let r : (y ≡ x) ⊎ ((a : A) × (y ≡ Some a) × Second a) = inl e in r) (λ (f : (a : A) × (y ≡ Some a) × First a). inr (f.0, f.1, there f.0 f.2)) h.from;
-    keeps = h.keeps;
-    reaches = λ a g. h.reaches a (back a g);
   }
 
   module _ (Brings : Var → A → Type 0) where

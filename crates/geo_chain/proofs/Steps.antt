@@ -1,5 +1,5 @@
 -- The lines of cuts and of moves.
-use Rattle.std.proofs.Common.{◌≡◌, ℕ, ◌-◌, inl, ℤ, List, [], length, refl, sym, subst}
+use Rattle.std.proofs.Common.{◌≡◌, ℕ, inl, List, refl, sym, subst}
 use Rattle.geo_poly.specs.declared.variables.Var.{Var}
 use Rattle.geo_poly.specs.Polynomials.{Terms}
 use Rattle.geo_poly.specs.PolynomialVariables.{AllVariables}

@@ -1,8 +1,6 @@
 //! The next move.
 
 ghost use Rattle.std.specs.Prelude.{◌≡◌, ◌<◌, IfNone, IfSome, length};
-ghost use Rattle.elim_apply.specs.Moves.{place_of};
-ghost use Rattle.elim_apply.specs.Naming.{IsPlaceBelow};
 ghost use Rattle.elim_apply.specs.declared.moves.Move.TheVariants.{Ratio};
 ghost use Rattle.elim_ratio.specs.RatioTable.{first_lemma};
 ghost use Rattle.fraction_poly.specs.TableRows.{HasPointsBelow};
@@ -50,7 +48,8 @@ fn move_at(steps: &Steps, p: &Poly, y: PointId) -> Move
 /// The move of a ratio by its first lemma at the point.
 fn ratio_move(steps: &Steps, var: Var, y: PointId) -> Move
     requires { y.0 < length steps.now.steps }
-    ensures { let lemma = first_lemma steps.now y var in result ≡ Ratio var lemma (named_point lemma y) }
+    ensures { let lemma = first_lemma steps.now y var in
+        result ≡ Ratio var lemma (named_point lemma y) }
 {
     let lemma = first_lemma(steps, y, var);
     let at = if lemma == 0 { PointId(0) } else { y };

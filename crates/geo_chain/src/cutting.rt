@@ -1,6 +1,6 @@
 //! The cut line.
 
-ghost use Rattle.std.specs.Prelude.{◌≡◌, IfNone, IfOk, IfSome};
+ghost use Rattle.std.specs.Prelude.{IfNone, IfOk, IfSome};
 ghost use Rattle.geo_chain.specs.NextLines.{IsCutLine};
 ghost use Rattle.geo_logs.specs.Defined.{NoCutDue};
 

@@ -1,7 +1,10 @@
 -- Altered logs of `point A point B midpoint M A B prove { collinear A M B }`, and where each of them is refused.
-use Rattle.std.proofs.Common.{◌≡◌, ◌≢◌, ℕ, ◌==◌, Bool, true, false, inl, inr, pos, negsuc, Option, Some, List, [], ◌∷◌, ◌++◌, map, refl, sym, ◌∙◌, ap}
+use Rattle.std.proofs.Common.{◌≡◌, ◌≢◌, ℕ, ◌==◌, Bool, true, false, inl, inr, pos, negsuc, Option, Some, List, [], ◌∷◌, ◌++◌, map, refl, sym, ◌∙◌, ap, ◌*ℤ◌, unsigned_abs, arith}
 use Rattle.std.specs.Prelude.{codes, not}
+use Rattle.std.proofs.lemmas.Int.{unsigned_abs-mul}
 use Rattle.geo_poly.specs.Factors.{leading_coefficient}
+use Rattle.geo_poly.specs.Polynomials.{IsPolynomial, Terms, multiples, product_of}
+use Rattle.geo_poly.proofs.FactorLaws.{multiples-product}
 use Rattle.geo_terms.specs.Stores.{Store}
 use Rattle.geo_terms.specs.Trees.{area_leaf}
 use Rattle.geo_program.specs.declared.commands.Command.{Command}
@@ -17,7 +20,7 @@ use Rattle.elim_apply.specs.declared.moves.Move.TheVariants.{Point as PointMove}
 use Rattle.elim_apply.specs.LemmaTable.{lemma_table}
 use Rattle.elim_apply.specs.Moves.{replacement}
 use Rattle.geo_logs.specs.Chains.{cuts}
-use Rattle.geo_logs.specs.Judging.{IsFirstRefusal, Refusal, rejected, unfinished, wrong_polynomial, wrong_program, wrong_start, wrong_verdict}
+use Rattle.geo_logs.specs.Judging.{IsFirstRefusal, Refusal, rejected, unfinished, wrong_cut, wrong_polynomial, wrong_program, wrong_start, wrong_verdict}
 use Rattle.geo_logs.specs.Places.{before_line, before_sample, before_start, in_chain}
 use Rattle.geo_logs.proofs.Examples.{at}
 use Rattle.geo_logs.proofs.OneNext.{not_stopped}
@@ -66,6 +69,32 @@ other_start more =
   where
     signs_apart : times (pos 1) ≡ times (negsuc 0) → ⊥
     signs_apart e = let s : pos 1 ≡ negsuc 0 = ap leading_coefficient e in cc
+
+-- line 8 is `cut -2 : +1*S0.1.2`: 2 divides no polynomial with the coefficient -1
+odd : (s : Terms) → IsPolynomial s → product_of (([], negsuc 1) ∷ []) s ≢ times (negsuc 0)
+odd s h e = go s (multiples-product ([], negsuc 1) s (λ z. omega (arith, z)) h.monomials h.in_order ∙ e)
+  where
+    go : (ts : Terms) → multiples ([], negsuc 1) ts ≡ times (negsuc 0) → ⊥
+    go [] f = some_term (negsuc 0) (sym f)
+    go (t ∷ ts) f =
+        let first : negsuc 1 *ℤ t.1 ≡ negsuc 0 = ap leading_coefficient f in
+        let sizes : unsigned_abs (negsuc 1 *ℤ t.1) ≡ 1 = ap unsigned_abs first in
+        omega (arith, sizes, unsigned_abs-mul (negsuc 1) t.1)
+
+pub other_cut : (more : List (Option Line))
+    → IsFirstStop 100 (with_rest (Some goal_line ∷ Some (Start (times (negsuc 0))) ∷ Some (Cut ([], negsuc 1) (times (pos 1))) ∷ more)) 8 (rejected wrong_cut)
+other_cut more =
+    stop_behind (Some goal_line) (Some (Start (times (negsuc 0))) ∷ Some (Cut ([], negsuc 1) (times (pos 1))) ∷ more) 8 (rejected wrong_cut) tt
+    (inl (record {
+      good = goal_line ∷ Start (times (negsuc 0)) ∷ [];
+      place = in_chain [] 100 (times (negsuc 0));
+      read = Some (Cut ([], negsuc 1) (times (pos 1)));
+      more = more;
+      split = refl;
+      counted = refl;
+      stands = inl (inr (inr (record { steps = []; after = 100; last = times (negsuc 0); started = started; leads = (refl, refl); split = refl; stands = refl })));
+      refused = inr (refl, inr odd);
+    }))
 
 -- line 9 is `point 2 : +1*S0.1.2`: the result is another one
 pub other_result : (more : List (Option Line))

@@ -33,16 +33,17 @@ use Rattle.geo_conditions.specs.Truth.{IsTrueProgram}
 use Rattle.geo_sample.specs.Samples.{IsLeastValue}
 use Rattle.geo_sample.specs.Tries.{IsTooLarge, single_tries, search_tries}
 use Rattle.proof_log.specs.declared.log.Line.{Line}
-use Rattle.proof_log.specs.declared.log.Line.TheVariants.{Header, Program as ProgramLine, Goal, Start, Point as PointLine, Cut, End, Sample, Verdict as VerdictLine}
+use Rattle.proof_log.specs.declared.log.Line.TheVariants.{Header, Program as ProgramLine, Goal, Start, Point as PointLine, Cut, End, Sample, Verdict as VerdictLine, StopSpent}
 use Rattle.proof_log.specs.declared.log.Verdict.TheVariants.{Proved}
 use Rattle.proof_log.specs.Writable.{AllWritable, CanWritePolynomial, CanWriteValue, CanWriteValues, HasNoLineFeed, IsVariable}
 use Rattle.elim_apply.specs.declared.moves.Move.TheVariants.{Point as PointMove}
 use Rattle.elim_apply.specs.LemmaTable.{lemma_table}
-use Rattle.elim_apply.specs.Moves.{IsMoved, replacement}
+use Rattle.elim_apply.specs.Moves.{IsMoved, replacement, spent}
+use Rattle.geo_logs.specs.Places.{in_chain}
 use Rattle.elim_apply.specs.Starts.{IsStarted}
 use Rattle.geo_logs.specs.Chains.{Chain, IsAcceptedChain, cuts, moves}
-use Rattle.geo_logs.specs.Defined.{IsDefinedChain, IsHighest, IsLogOfProver, has_point}
-use Rattle.geo_logs.specs.Ends.{IsDefinedLog, ends_with}
+use Rattle.geo_logs.specs.Defined.{IsCutDue, IsDefinedChain, IsHighest, IsLogOfProver, has_point}
+use Rattle.geo_logs.specs.Ends.{IsDefinedLog, ends_by, ends_with}
 use Rattle.geo_logs.specs.Logs.{IsAccepted, Subject}
 use Rattle.geo_logs.specs.Samples.{IsAcceptedSample, IsLeastSample}
 use Rattle.geo_logs.proofs.Examples.{at}
@@ -330,6 +331,40 @@ midpoint_accepted = record {
     inl (refl, (refl, record { values = zeros; chosen = midpoint_sample_accepted; split = refl })),
   );
 }
+
+-- WITH 23 STEPS the move is not paid: eight lines, and the stop
+cut_due : IsCutDue [] (times (negsuc 0)) ([], negsuc 0)
+cut_due = record { nonzero = some_term (negsuc 0); factor = sole_factor (negsuc 0); divides = λ e. let s : negsuc 0 ≡ pos 1 = ap (λ f. f.1) e in cc }
+
+abbrev pub eight_lines : List Line
+eight_lines =
+    Header ∷ ProgramLine (codes "point A") ∷ ProgramLine (codes "point B") ∷ ProgramLine (codes "midpoint M A B") ∷ ProgramLine (codes "prove { collinear A M B }")
+    ∷ Goal 1 (codes "collinear A M B") ∷ Start (times (negsuc 0)) ∷ Cut ([], negsuc 0) (times (pos 1)) ∷ []
+
+pub midpoint_stops : IsDefinedLog lemma_table midpoint 23 (eight_lines ++ StopSpent 9 ∷ []) (ends_by spent)
+unfolding digits
+midpoint_stops = (
+  eight_lines,
+  refl,
+  (
+    in_chain [] 23 (times (pos 1)),
+    inr (
+      Goal 1 (codes "collinear A M B") ∷ Start (times (negsuc 0)) ∷ Cut ([], negsuc 0) (times (pos 1)) ∷ [],
+      refl,
+      inl (inr (inr (record {
+        steps = cuts ([], negsuc 0) (times (pos 1)) ∷ [];
+        after = 23;
+        last = times (pos 1);
+        started = record { paid = lit≤ tt; room = started.room };
+        leads = (cut_due, sign_cut, (refl, refl));
+        split = refl;
+        stands = refl;
+      }))),
+    ),
+    (PointMove (at 2), λ some. sole_factor (pos 1), (highest, no_ratio), lit< tt),
+  ),
+  lit≤ tt,
+)
 
 -- ITS BYTES
 abbrev pub midpoint_text : List ℕ

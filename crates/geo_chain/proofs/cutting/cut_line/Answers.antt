@@ -1,4 +1,4 @@
-use Rattle.std.proofs.Common.{◌≡◌, ◌≢◌, true, false, pos, [], sym, ◌∙◌}
+use Rattle.std.proofs.Common.{◌≡◌, ◌≢◌, true, false, [], sym, ◌∙◌}
 use Rattle.geo_poly.proofs.FactorDivision.{factor_quotient}
 use Rattle.geo_chain.proofs.DueCuts.{cut_made}
 use Rattle.geo_chain.proofs.cutting.cut_line.Goals as goal

@@ -1,5 +1,4 @@
 use Rattle.std.proofs.Common.{None, arith}
-use Rattle.geo_poly.specs.Polynomials.{Terms}
 use Rattle.geo_chain.specs.Searches.{IsNoHigher, MakesPoint}
 use Rattle.geo_chain.proofs.Places.{none_highest, some_highest, whole}
 use Rattle.geo_chain.proofs.Searches.{by_height, one_term}

@@ -1,4 +1,4 @@
-use Rattle.std.proofs.Common.{◌≡◌, Err, ap, length, subst, sym, rules}
+use Rattle.std.proofs.Common.{◌≡◌, Err, ap, length, subst, rules}
 use Rattle.elim_apply.specs.declared.errors.ApplyError.TheVariants.{NoRow, TooLarge}
 use Rattle.elim_apply.proofs.HandedOn.{handed_on}
 use Rattle.geo_chain.specs.NextLines.{IsCutLine, IsMoveDue}
