@@ -3,7 +3,7 @@
 ghost use Rattle.std.specs.Prelude.{◌≡◌, ◌<◌, ◌&&◌, IfOk, length, option_map};
 ghost use Rattle.std.specs.Option.{ForSome};
 ghost use Rattle.area_coords.specs.FreeTable.{area_in_coordinates, difference_in_coordinates, free_table, is_free};
-ghost use Rattle.fraction_poly.specs.Drafts.{form_of, row_of_draft};
+ghost use Rattle.fraction_poly.specs.Inner.Drafts.{form_of, row_of_draft};
 ghost use Rattle.fraction_poly.specs.Forms.{abscissa, ordinate, ◌⊞◌, ◌⊟◌, ◌⊠◌};
 ghost use Rattle.geo_terms.specs.Trees.{Tree};
 ghost use Rattle.fraction_poly.specs.TableRows.{HasPointsBelow};

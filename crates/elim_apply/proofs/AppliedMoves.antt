@@ -5,8 +5,8 @@ use Rattle.geo_poly.specs.declared.limits.Which.{Which}
 use Rattle.geo_poly.specs.declared.limits.Which.TheVariants.{Norm, Degree}
 use Rattle.geo_poly.specs.Polynomials.{Terms}
 use Rattle.geo_poly.specs.Replace.{replaced_degree, replaced_weight}
-use Rattle.elim_apply.specs.declared.moves.Replacement.{Replacement}
-use Rattle.elim_apply.specs.Moves.{IsLineStopped, IsMoveStopped, move_charge, too_large}
+use Rattle.geo_logs.specs.declared.moves.Replacement.{Replacement}
+use Rattle.geo_logs.specs.Moves.{IsLineStopped, IsMoveStopped, move_charge, too_large}
 
 -- a line that is stopped is that of a move that is stopped
 pub stopped_move : (made : Replacement) (left : ℕ) (q : Terms) (which : Which)

@@ -14,8 +14,8 @@ use Rattle.geo_poly.specs.Polynomials.{Terms}
 use Rattle.geo_poly.specs.Replace.{degree_bound, degree_row, degree_rows, denominators, kept, most_denominators, others, power_in, replaced_degree, replaced_weight, row_of, term_degree, term_weight, weight_of, weight_row, weight_rows}
 use Rattle.geo_poly.specs.Variables.{var_cmp}
 use Rattle.geo_poly.proofs.Capped.{cap_left, cap_right, cap_weights, same_degrees}
-use Rattle.elim_apply.specs.declared.moves.Replacement.{Replacement}
-use Rattle.elim_apply.specs.Moves.{count_row, count_rows, exponent_row, move_charge, replaced_exponents, term_charge}
+use Rattle.geo_logs.specs.declared.moves.Replacement.{Replacement}
+use Rattle.geo_logs.specs.Moves.{count_row, count_rows, exponent_row, move_charge, replaced_exponents, term_charge}
 
 -- a polynomial by its capped numbers
 abbrev pub capped_piece : Piece → Piece

@@ -9,7 +9,7 @@ use Rattle.geo_poly.specs.declared.variables.Var.{Var}
 use Rattle.geo_poly.specs.declared.variables.Var.TheVariants.{R, S, P, X, Y, T}
 use Rattle.geo_poly.proofs.Orders.{var_order}
 use Rattle.geo_terms.specs.Constructions.{Construction}
-use Rattle.elim_apply.specs.declared.moves.Move.TheVariants.{Ratio}
+use Rattle.geo_logs.specs.declared.moves.Move.TheVariants.{Ratio}
 use Rattle.elim_apply.specs.FirstLemmas.{FirstLemmaHasRow}
 use Rattle.elim_apply.specs.LemmaTable.{lemma_table}
 use Rattle.elim_ratio.specs.RatioTable.{ratio_table}

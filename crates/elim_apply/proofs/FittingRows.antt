@@ -11,9 +11,9 @@ use Rattle.geo_poly.specs.PolynomialVariables.{AllVariables, variables_of}
 use Rattle.geo_poly.specs.Replace.{replaced_degree, replaced_weight, row_of}
 use Rattle.geo_poly.proofs.EachVariable.{EachIn, each-variables}
 use Rattle.geo_terms.specs.Constructions.{Construction}
-use Rattle.elim_apply.specs.declared.moves.Move.{Move}
+use Rattle.geo_logs.specs.declared.moves.Move.{Move}
 use Rattle.elim_apply.specs.LemmaTable.{lemma_table, row_of_move}
-use Rattle.elim_apply.specs.Sketches.{CanMakeRow, numbered_row}
+use Rattle.elim_apply.specs.Inner.Sketches.{CanMakeRow, numbered_row}
 use Rattle.elim_apply.proofs.LineBounds.{RowWithin, Within, line_within, rows_each}
 use Rattle.elim_apply.proofs.NumberedRows.{HasFittingRow, NumeratorFits, can_make, denominator_bounded, rows_bounded}
 

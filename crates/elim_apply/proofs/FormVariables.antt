@@ -6,7 +6,7 @@ use Rattle.geo_poly.specs.declared.variables.Var.TheVariants.{X, Y}
 use Rattle.geo_poly.specs.Canonical.{permutation_sign, sorted_area, sorted_difference}
 use Rattle.geo_poly.specs.PolynomialVariables.{AllVariables}
 use Rattle.geo_poly.proofs.EachVariable.{of-product_of}
-use Rattle.elim_apply.proofs.TermVariables.{OfLeaves, of-constant_of, of-difference, of-difference_of, of-negated, of-ratio, of-signed, of-sum_of, of-term, of-variable, sorted_ratio}
+use Rattle.geo_logs.proofs.TermVariables.{OfLeaves, of-constant_of, of-difference, of-difference_of, of-negated, of-ratio, of-signed, of-sum_of, of-term, of-variable, sorted_ratio}
 
 module _ (Holds : Var → Type 0) where
   -- the property holds of the variables that the form writes

@@ -3,7 +3,7 @@ use Rattle.fraction_poly.specs.Laws.{polynomial_value}
 use Rattle.elim_apply.specs.LemmaTable.{lemma_table}
 use Rattle.elim_apply.specs.Multiples.{MoveKeepsValue}
 use Rattle.elim_apply.proofs.MoveRows.{lemma_table_sound}
-use Rattle.elim_apply.proofs.MoveValues.{move_kept}
+use Rattle.geo_logs.proofs.MoveValues.{move_kept}
 
 pub value_kept : MoveKeepsValue
 value_kept c valid move left p q moved placed met has =

@@ -24,9 +24,9 @@ use Rattle.geo_terms.specs.Constructions.{Construction, IsStepMet}
 use Rattle.geo_terms.specs.Stores.{tree_of}
 use Rattle.geo_terms.specs.Trees.{Tree, IsStepNumber, integer_leaf, parameter_leaf, area_leaf, pythagoras_leaf, ratio_leaf, negation, addition, subtraction, multiplication, division}
 use Rattle.geo_terms.specs.Values.{tree_value}
-use Rattle.elim_apply.specs.declared.moves.Move.{Move}
-use Rattle.elim_apply.specs.declared.moves.Move.TheVariants.{Ratio, Point, Coords}
-use Rattle.elim_apply.specs.Naming.{IsNamed}
+use Rattle.geo_logs.specs.declared.moves.Move.{Move}
+use Rattle.geo_logs.specs.declared.moves.Move.TheVariants.{Ratio, Point, Coords}
+use Rattle.geo_logs.specs.Naming.{IsNamed}
 use Rattle.geo_terms.specs.TermBounds.{IsTermBelow}
 use Rattle.fraction_poly.specs.StepForms.{step_denominator, step_row}
 use Rattle.geo_poly.specs.declared.replacement.Row.{Row}
@@ -37,9 +37,9 @@ use Rattle.elim_pyth.specs.DifferenceTable.{difference_row, difference_table, li
 use Rattle.area_coords.specs.FreeTable.{area_in_coordinates, difference_in_coordinates, free_table, is_free}
 use Rattle.elim_apply.specs.LemmaTable.{move_denominator, point_denominator, row_denominator, row_of_move}
 use Rattle.elim_ratio.specs.RatioTable.{end_at, ratio_table, same_line}
-use Rattle.elim_apply.proofs.MoveValues.{one_variable}
+use Rattle.geo_logs.proofs.MoveValues.{one_variable}
 use Rattle.elim_apply.proofs.RowVariables.{quadratic_row, Follows}
-use Rattle.elim_apply.proofs.TermVariables.{OfLeaves, difference_named, difference_valued, named_leaves, sorted_named, sorted_ratio}
+use Rattle.geo_logs.proofs.TermVariables.{OfLeaves, difference_named, difference_valued, named_leaves, sorted_named, sorted_ratio}
 
 -- NUMBERS OF STEPS
 number_below : (points params n : ℕ) (e : Tree) → points < n → IsStepNumber points params e → IsTermBelow n params e

@@ -1,7 +1,5 @@
-pub mod TermVariables
 pub mod FormVariables
 pub mod RowVariables
-pub mod MoveValues
 pub mod LemmaTableSound
 pub mod MoveRows
 pub mod CappedRows

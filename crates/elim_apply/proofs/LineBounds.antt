@@ -17,7 +17,7 @@ use Rattle.geo_poly.specs.Replace.{AllBounded, IsBounded, degree_bound, degree_r
 use Rattle.geo_poly.specs.Variables.{var_cmp}
 use Rattle.geo_poly.proofs.EachVariable.{EachIn}
 use Rattle.geo_poly.proofs.Orders.{var_order}
-use Rattle.elim_apply.proofs.MoveValues.{one_variable}
+use Rattle.geo_logs.proofs.MoveValues.{one_variable}
 
 -- POWERS
 one_le_power : (w e : ℕ) → 1 ≤ w → 1 ≤ w ^ e

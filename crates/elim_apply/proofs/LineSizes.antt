@@ -9,10 +9,10 @@ use Rattle.geo_poly.specs.Monomials.{Powers, degree_of}
 use Rattle.geo_poly.specs.Polynomials.{Terms}
 use Rattle.geo_poly.specs.Replace.{degree_bound, degree_rows, denominators, most_denominators, others, replaced_degree, replaced_weight, row_of, term_degree, term_weight, weight_of, weight_rows}
 use Rattle.geo_poly.proofs.Capped.{cap_left, cap_right}
-use Rattle.elim_apply.specs.declared.moves.Replacement.{Replacement}
+use Rattle.geo_logs.specs.declared.moves.Replacement.{Replacement}
 use Rattle.elim_apply.specs.declared.sizes.Share.{Share}
-use Rattle.elim_apply.specs.Moves.{count_row, count_rows, move_charge, replaced_exponents, term_charge}
-use Rattle.elim_apply.specs.Sizes.{IsSizeOf as HasSize}
+use Rattle.geo_logs.specs.Moves.{count_row, count_rows, move_charge, replaced_exponents, term_charge}
+use Rattle.elim_apply.specs.Inner.Sizes.{IsSizeOf as HasSize}
 use Rattle.elim_apply.proofs.LineShares.{IsShare}
 
 pub greater : (a b : ℕ) → ord_max nat_cmp a b ≡ max a b

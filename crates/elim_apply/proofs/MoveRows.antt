@@ -25,23 +25,23 @@ use Rattle.area_coords.proofs.FreeSoundness.{free_rows_hold}
 use Rattle.elim_area.proofs.AreaSoundness.{area_rows_hold}
 use Rattle.elim_pyth.proofs.DifferenceSoundness.{difference_rows_hold}
 use Rattle.elim_ratio.proofs.RatioSoundness.{pythagoras_rows_hold, ratio_rows_hold}
-use Rattle.elim_apply.specs.declared.moves.Move.{Move}
-use Rattle.elim_apply.specs.declared.moves.Move.TheVariants.{Ratio, Point, Coords}
+use Rattle.geo_logs.specs.declared.moves.Move.{Move}
+use Rattle.geo_logs.specs.declared.moves.Move.TheVariants.{Ratio, Point, Coords}
 use Rattle.elim_area.specs.AreaTable.{area_numerator, area_table, points_after}
 use Rattle.elim_pyth.specs.declared.pyth_rows.Reading.{Reading}
 use Rattle.elim_pyth.specs.declared.pyth_rows.Reading.TheVariants.{Linear, Quadratic}
 use Rattle.elim_pyth.specs.DifferenceTable.{difference_row, difference_table, reading}
 use Rattle.area_coords.specs.FreeTable.{free_table}
 use Rattle.elim_apply.specs.LemmaTable.{LemmaTableIsSound, lemma_table, move_denominator, row_of_move}
-use Rattle.elim_apply.specs.Moves.{place_of, place_of_lemma}
-use Rattle.elim_apply.specs.Naming.{IsNamed, IsPlaceBelow, IsPlaceMet}
+use Rattle.geo_logs.specs.Moves.{place_of, place_of_lemma}
+use Rattle.geo_logs.specs.Naming.{IsNamed, IsPlaceBelow, IsPlaceMet}
 use Rattle.elim_ratio.specs.RatioTable.{end_at, lemma_row, pythagoras_row, ratio_table, same_line}
-use Rattle.elim_apply.specs.Sound.{IsBoundedRow, IsSoundTable, NamesNoLater, TellsValue}
+use Rattle.geo_logs.specs.Sound.{IsBoundedRow, IsSoundTable, NamesNoLater, TellsValue}
 use Rattle.geo_poly.specs.PolynomialVariables.{AllVariables}
 use Rattle.elim_apply.proofs.FormVariables.{of-form}
 use Rattle.elim_apply.proofs.LemmaTableSound.{both_some, by_own, chained, each_some, move_den, names_follow, some_of, values_follow}
 use Rattle.elim_apply.proofs.RowVariables.{AreSteps, FitsRow, Follows, area_table_fits, difference_table_fits, free_area_fits, free_difference_fits, pythagoras_row_fits, ratio_table_fits, same_point}
-use Rattle.elim_apply.proofs.TermVariables.{ratio_named, sorted_ratio}
+use Rattle.geo_logs.proofs.TermVariables.{ratio_named, sorted_ratio}
 
 module _ (c : Construction) (Good : PointId → Type 0) (Holds : Var → Type 0) (follows : Follows c Good Holds) (steps : AreSteps c Good Holds follows) where
   abbrev Fit : TableRow → Type 0

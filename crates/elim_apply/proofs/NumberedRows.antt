@@ -26,11 +26,11 @@ use Rattle.elim_pyth.proofs.DifferenceSoundness.{difference_rows_light}
 use Rattle.elim_pyth.specs.DifferenceTable.{difference_table}
 use Rattle.elim_ratio.proofs.RatioSoundness.{ratio_rows_light}
 use Rattle.elim_ratio.specs.RatioTable.{ratio_table}
-use Rattle.elim_apply.specs.declared.moves.Move.{Move}
-use Rattle.elim_apply.specs.declared.moves.Move.TheVariants.{Ratio, Point, Coords}
+use Rattle.geo_logs.specs.declared.moves.Move.{Move}
+use Rattle.geo_logs.specs.declared.moves.Move.TheVariants.{Ratio, Point, Coords}
 use Rattle.elim_apply.specs.declared.numbered.NumberedRow.{NumberedRow}
 use Rattle.elim_apply.specs.LemmaTable.{lemma_table, move_denominator, row_of_move}
-use Rattle.elim_apply.specs.Sketches.{CanMakeRow, numbered_row, sketched_denominator, sketches}
+use Rattle.elim_apply.specs.Inner.Sketches.{CanMakeRow, numbered_row, sketched_denominator, sketches}
 use Rattle.elim_apply.proofs.CappedRows.{capped_piece, capped_row, capped_rows}
 use Rattle.elim_apply.proofs.LemmaTableSound.{by_own, some_of}
 use Rattle.elim_apply.proofs.TableCharges.{denominators_agree}

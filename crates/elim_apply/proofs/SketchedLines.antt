@@ -9,13 +9,13 @@ use Rattle.geo_poly.specs.PolynomialVariables.{variables_of}
 use Rattle.geo_poly.specs.Replace.{replaced_degree, replaced_weight}
 use Rattle.geo_terms.specs.Constructions.{Construction}
 use Rattle.elim_apply.specs.declared.limits.LineSize.{LineSize}
-use Rattle.elim_apply.specs.declared.moves.Move.{Move}
-use Rattle.elim_apply.specs.declared.moves.Replacement.{Replacement}
+use Rattle.geo_logs.specs.declared.moves.Move.{Move}
+use Rattle.geo_logs.specs.declared.moves.Replacement.{Replacement}
 use Rattle.elim_apply.specs.declared.numbered.NumberedRow.{NumberedRow}
 use Rattle.elim_apply.specs.LemmaTable.{lemma_table}
-use Rattle.elim_apply.specs.Moves.{move_charge, replacement}
-use Rattle.elim_apply.specs.Sizes.{IsSizeOf}
-use Rattle.elim_apply.specs.Sketches.{numbered_row, sketch, sketched_denominator, sketches}
+use Rattle.geo_logs.specs.Moves.{move_charge, replacement}
+use Rattle.elim_apply.specs.Inner.Sizes.{IsSizeOf}
+use Rattle.elim_apply.specs.Inner.Sketches.{numbered_row, sketch, sketched_denominator, sketches}
 use Rattle.elim_apply.proofs.CappedRows.{capped_move, capped_piece, capped_rows, move_charge-capped, replaced_degree-capped, replaced_weight-capped}
 use Rattle.elim_apply.proofs.NumberedRows.{HasDenominator, sketches_are}
 

@@ -17,8 +17,8 @@ use Rattle.elim_pyth.specs.declared.pyth_rows.Reading.{Reading}
 use Rattle.elim_pyth.specs.declared.pyth_rows.Reading.TheVariants.{Linear, Quadratic}
 use Rattle.elim_pyth.specs.DifferenceTable.{difference_row, difference_table, linear_numerator, reading}
 use Rattle.elim_ratio.specs.RatioTable.{ratio_table}
-use Rattle.elim_apply.specs.declared.moves.Move.{Move}
-use Rattle.elim_apply.specs.declared.moves.Move.TheVariants.{Ratio, Point, Coords}
+use Rattle.geo_logs.specs.declared.moves.Move.{Move}
+use Rattle.geo_logs.specs.declared.moves.Move.TheVariants.{Ratio, Point, Coords}
 use Rattle.elim_apply.specs.LemmaTable.{move_denominator, number_charge, point_charge, row_charge, row_of_move}
 use Rattle.elim_apply.specs.Multiples.{TableDenominatorsAgree}
 use Rattle.elim_apply.proofs.LemmaTableSound.{by_own, move_den, some_of}

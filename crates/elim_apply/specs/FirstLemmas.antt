@@ -4,7 +4,7 @@ use Rattle.geo_points.specs.declared.ids.PointId.{PointId}
 use Rattle.geo_poly.specs.declared.variables.Var.{Var}
 use Rattle.geo_poly.specs.PolynomialVariables.{IsRatio}
 use Rattle.geo_terms.specs.Constructions.{Construction}
-use Rattle.elim_apply.specs.declared.moves.Move.TheVariants.{Ratio}
+use Rattle.geo_logs.specs.declared.moves.Move.TheVariants.{Ratio}
 use Rattle.elim_apply.specs.LemmaTable.{lemma_table}
 use Rattle.elim_ratio.specs.RatioTable.{first_lemma}
 

@@ -10,14 +10,14 @@ use Rattle.geo_poly.specs.declared.variables.Var.TheVariants.{S, P}
 use Rattle.geo_poly.specs.Variables.{var_cmp}
 use Rattle.geo_terms.specs.declared.steps.Step.{Step}
 use Rattle.geo_terms.specs.Constructions.{Construction, IsConstruction}
-use Rattle.elim_apply.specs.declared.moves.Move.{Move}
-use Rattle.elim_apply.specs.declared.moves.Move.TheVariants.{Ratio, Point, Coords}
+use Rattle.geo_logs.specs.declared.moves.Move.{Move}
+use Rattle.geo_logs.specs.declared.moves.Move.TheVariants.{Ratio, Point, Coords}
 use Rattle.elim_area.specs.AreaTable.{area_table}
 use Rattle.elim_pyth.specs.DifferenceTable.{difference_table}
 use Rattle.area_coords.specs.FreeTable.{free_table}
-use Rattle.elim_apply.specs.Moves.{Table}
-use Rattle.elim_ratio.specs.RatioTable.{ratio_table}
-use Rattle.elim_apply.specs.Sound.{IsSoundTable}
+use Rattle.geo_logs.specs.Moves.{Table}
+use Rattle.elim_ratio.specs.RatioTable.{first_lemma, ratio_table}
+use Rattle.geo_logs.specs.Sound.{IsSoundTable}
 
 -- the row of a variable that a move replaces
 abbrev pub row_of_move : Construction → Move → Var → Option TableRow
@@ -65,6 +65,7 @@ lemma_table = record {
   row = λ c move v. option_map (λ r. (made_row v r).0) (row_of_move c move v);
   denominator = λ c move. piece_of (move_denominator c move);
   charge = number_charge;
+  first_lemma = first_lemma;
 }
 
 -- THE ROWS ARE SOUND

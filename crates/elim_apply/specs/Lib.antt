@@ -1,9 +1,4 @@
-pub mod Moves
-pub mod Naming
-pub mod Starts
-pub mod Sound
 pub mod LemmaTable
-pub mod Sketches
 pub mod Multiples
-pub mod Sizes
 pub mod FirstLemmas
+pub mod Inner

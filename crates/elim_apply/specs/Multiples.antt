@@ -10,10 +10,10 @@ use Rattle.geo_poly.specs.declared.variables.Var.{Var}
 use Rattle.geo_poly.specs.Polynomials.{Terms}
 use Rattle.geo_poly.specs.PolynomialVariables.{AllVariables}
 use Rattle.geo_terms.specs.Constructions.{Construction, IsConstruction}
-use Rattle.elim_apply.specs.declared.moves.Move.{Move}
+use Rattle.geo_logs.specs.declared.moves.Move.{Move}
 use Rattle.elim_apply.specs.LemmaTable.{lemma_table, move_denominator, number_charge, row_of_move}
-use Rattle.elim_apply.specs.Moves.{IsMoved, place_of, replacement}
-use Rattle.elim_apply.specs.Naming.{IsPlaceMet}
+use Rattle.geo_logs.specs.Moves.{IsMoved, place_of, replacement}
+use Rattle.geo_logs.specs.Naming.{IsPlaceMet}
 
 -- the value of q is that of p times a power of a number that is not 0, and each ratio in q is defined
 pub record IsMultiple (placed : Placement) (q p : Terms) : Type 0 where

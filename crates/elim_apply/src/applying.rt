@@ -3,11 +3,11 @@
 ghost use Rattle.std.specs.Prelude.{◌≡◌, ◌≢◌, ◌-◌, ◌^◌, ◌<◌, ◌≤◌, ◌⊎◌, [], IfNone, IfOk, IfSome, IsErrOf, OnOk, length};
 ghost use Rattle.std.specs.List.{filter_map};
 ghost use Rattle.elim_apply.specs.LemmaTable.{lemma_table};
-ghost use Rattle.elim_apply.specs.Moves.{IsMoved, IsMoveStopped, move_charge, place_of, replacement, spent, too_large};
+ghost use Rattle.geo_logs.specs.Moves.{IsMoved, IsMoveStopped, move_charge, place_of, replacement, spent, too_large};
 ghost use Rattle.elim_apply.specs.Multiples.{IsMultiple};
-ghost use Rattle.elim_apply.specs.Naming.{IsPlaceBelow, IsPlaceMet};
-ghost use Rattle.elim_apply.specs.Sizes.{IsSizeOf};
-ghost use Rattle.elim_apply.specs.Sketches.{numbered_row};
+ghost use Rattle.geo_logs.specs.Naming.{IsPlaceBelow, IsPlaceMet};
+ghost use Rattle.elim_apply.specs.Inner.Sizes.{IsSizeOf};
+ghost use Rattle.elim_apply.specs.Inner.Sketches.{numbered_row};
 ghost use Rattle.fraction_poly.specs.TableRows.{HasPointsBelow, HasVariable};
 ghost use Rattle.geo_points.specs.Placements.{Placement};
 ghost use Rattle.geo_poly.specs.declared.limits.Which.{Which};
@@ -17,7 +17,7 @@ ghost use Rattle.geo_poly.specs.Replace.{replaced_by, replaced_degree, replaced_
 
 use crate::errors::ApplyError;
 use crate::limits::LineSize;
-use crate::moves::Move;
+use geo_logs::Move;
 use crate::numbered::{NumberedRow, made_rows, numbered_rows};
 use crate::sizes::size_of_line;
 use crate::variables::variables_of;

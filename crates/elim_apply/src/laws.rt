@@ -4,7 +4,7 @@
 ghost use Rattle.elim_apply.specs.FirstLemmas.{FirstLemmaHasRow};
 ghost use Rattle.elim_apply.specs.LemmaTable.{LemmaTableIsSound};
 ghost use Rattle.elim_apply.specs.Multiples.{MoveKeepsValue, TableDenominatorsAgree};
-ghost use Rattle.elim_apply.specs.Sound.{TermsAreSound};
+ghost use Rattle.geo_logs.specs.Sound.{TermsAreSound};
 
 /// A term is sound, multiplied out.
 pub fn terms_are_sound()

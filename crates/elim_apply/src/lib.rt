@@ -5,7 +5,6 @@ mod applying;
 mod errors;
 pub mod laws;
 mod limits;
-mod moves;
 mod numbered;
 mod sizes;
 mod starting;
@@ -15,5 +14,5 @@ mod variables;
 
 pub use applying::apply;
 pub use errors::ApplyError;
-pub use moves::{Move, Replacement, RowList};
+pub use geo_logs::{Move, Replacement, RowList};
 pub use starting::start;

@@ -1,8 +1,8 @@
 //! The limits of a line.
 
 ghost use Rattle.std.specs.Prelude.{◌≡◌, ◌≢◌, ◌-◌, ℕ, OnOk};
-ghost use Rattle.elim_apply.specs.Moves.{IsLineStopped, spent, too_large};
-ghost use Rattle.elim_apply.specs.Sizes.{IsLineWithin, IsSizeOf};
+ghost use Rattle.geo_logs.specs.Moves.{IsLineStopped, spent, too_large};
+ghost use Rattle.elim_apply.specs.Inner.Sizes.{IsLineWithin, IsSizeOf};
 ghost use Rattle.geo_poly.specs.declared.limits.Which.{Which};
 
 use crate::errors::ApplyError;

@@ -4,12 +4,12 @@
 ghost use Rattle.std.specs.Prelude.{◌≡◌, ◌≢◌, ◌<◌, [], All, IfOk, IfSome, IsSomeAnd, length, map, option_map};
 ghost use Rattle.std.specs.List.{filter_map};
 ghost use Rattle.elim_apply.specs.LemmaTable.{lemma_table, row_of_move};
-ghost use Rattle.elim_apply.specs.Moves.{place_of};
-ghost use Rattle.elim_apply.specs.Naming.{IsPlaceBelow};
-ghost use Rattle.elim_apply.specs.Sketches.{CanMakeRow, numbered_row};
+ghost use Rattle.geo_logs.specs.Moves.{place_of};
+ghost use Rattle.geo_logs.specs.Naming.{IsPlaceBelow};
+ghost use Rattle.elim_apply.specs.Inner.Sketches.{CanMakeRow, numbered_row};
 ghost use Rattle.fraction_poly.specs.TableRows.{HasPointsBelow, RowFits, made_row, row_numbers};
 
-use crate::moves::{Move, RowList};
+use geo_logs::{Move, RowList};
 use area_coords::CoordRows;
 use elim_area::AreaRows;
 use elim_pyth::PythRows;

@@ -3,9 +3,9 @@
 
 ghost use Rattle.std.specs.Prelude.{◌≡◌, ◌+◌, ◌-◌, ◌*◌, ◌^◌, ◌<◌, ◌≤◌, length, min, sum_by, unsigned_abs};
 ghost use Rattle.std.specs.Option.{option_map};
-ghost use Rattle.elim_apply.specs.Moves.{count_rows, move_charge, replaced_exponents};
-ghost use Rattle.elim_apply.specs.Sketches.{sketch, sketched, sketched_denominator, sketches};
-ghost use Rattle.elim_apply.specs.Sizes.{IsSizeOf};
+ghost use Rattle.geo_logs.specs.Moves.{count_rows, move_charge, replaced_exponents};
+ghost use Rattle.elim_apply.specs.Inner.Sketches.{sketch, sketched, sketched_denominator, sketches};
+ghost use Rattle.elim_apply.specs.Inner.Sizes.{IsSizeOf};
 ghost use Rattle.geo_poly.specs.Monomials.{degree_of};
 ghost use Rattle.geo_poly.specs.Polynomials.{IsPolynomial, term_at};
 ghost use Rattle.geo_poly.specs.Replace.{AllPowersSmall, degree_rows, denominators, most_denominators, others, replaced_degree, replaced_weight, row_of, weight_rows};

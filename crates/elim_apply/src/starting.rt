@@ -1,9 +1,9 @@
 //! The start of a chain.
 
 ghost use Rattle.std.specs.Prelude.{◌≡◌, ◌≢◌, ◌+◌, ◌-◌, ◌<◌, ◌⊎◌, IfOk, IsErrOf, OnOk, length};
-ghost use Rattle.elim_apply.specs.Moves.{spent, too_large};
-ghost use Rattle.elim_apply.specs.Sizes.{IsSizeOf};
-ghost use Rattle.elim_apply.specs.Starts.{IsStarted, IsStartStopped, start_charge, start_degree, start_of, start_weight};
+ghost use Rattle.geo_logs.specs.Moves.{spent, too_large};
+ghost use Rattle.elim_apply.specs.Inner.Sizes.{IsSizeOf};
+ghost use Rattle.geo_logs.specs.Starts.{IsStarted, IsStartStopped, start_charge, start_degree, start_of, start_weight};
 ghost use Rattle.fraction_poly.specs.Measures.{capped, numbers_of};
 ghost use Rattle.geo_poly.specs.declared.limits.Which.{Which};
 ghost use Rattle.geo_terms.specs.Stores.{tree_of};

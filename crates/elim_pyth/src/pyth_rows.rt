@@ -3,7 +3,7 @@
 ghost use Rattle.std.specs.Prelude.{◌≡◌, ◌<◌, IfOk, Some, length, option_map};
 ghost use Rattle.std.specs.Option.{ForSome};
 ghost use Rattle.elim_pyth.specs.DifferenceTable.{difference_row, difference_table, linear_numerator, quadratic_numerator, quadratic_power, reading};
-ghost use Rattle.fraction_poly.specs.Drafts.{form_of, number_tree, row_of_draft, step_term};
+ghost use Rattle.fraction_poly.specs.Inner.Drafts.{form_of, number_tree, row_of_draft, step_term};
 ghost use Rattle.fraction_poly.specs.Forms.{area, denominator, integer, numerator, pythagoras, ◌⊟◌, ◌⊠◌};
 ghost use Rattle.fraction_poly.specs.Measures.{HasRoom};
 ghost use Rattle.fraction_poly.specs.TableRows.{RowFits};

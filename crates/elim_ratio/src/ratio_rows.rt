@@ -3,7 +3,7 @@
 ghost use Rattle.std.specs.Prelude.{◌≡◌, ◌<◌, ◌==◌, IfOk, IsTrue, Some, length, not, option_map};
 ghost use Rattle.std.specs.Option.{ForSome};
 ghost use Rattle.elim_ratio.specs.RatioTable.{lemma_row, ratio_table};
-ghost use Rattle.fraction_poly.specs.Drafts.{number_tree, row_of_draft, step_term};
+ghost use Rattle.fraction_poly.specs.Inner.Drafts.{number_tree, row_of_draft, step_term};
 ghost use Rattle.fraction_poly.specs.Measures.{HasRoom};
 ghost use Rattle.fraction_poly.specs.TableRows.{HasPointsBelow, RowFits};
 ghost use Rattle.geo_points.specs.declared.ids.TermId.{TermId};

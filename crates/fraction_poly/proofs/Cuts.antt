@@ -10,7 +10,7 @@ use Rattle.geo_terms.specs.declared.nodes.Node.TheVariants.{Int, Param, S, P, R,
 use Rattle.geo_terms.specs.Stores.{Store, HasChildrenBelow, HasShortInteger, IsStore, node_tree, tree_at, trees_of, tree_of}
 use Rattle.geo_terms.specs.Trees.{Tree, negation, addition, subtraction, multiplication, division}
 use Rattle.geo_terms.proofs.Trees.{tree_of-node}
-use Rattle.fraction_poly.specs.Parts.{AreReached, CanMultiplyOut, DoAllFit, IsPart, StandsFrom, over_parts, place_at, place_in}
+use Rattle.fraction_poly.specs.Inner.Parts.{AreReached, CanMultiplyOut, DoAllFit, IsPart, StandsFrom, over_parts, place_at, place_in}
 use Rattle.fraction_poly.proofs.Places.{place_cases, slice_get-end}
 
 -- A NODE OVER OTHER PARTS

@@ -5,7 +5,7 @@ use Rattle.geo_points.specs.declared.ids.TermId.{TermId}
 use Rattle.geo_poly.specs.Polynomials.{Terms}
 use Rattle.geo_terms.specs.Stores.{Store, IsStore, tree_of}
 use Rattle.fraction_poly.specs.MultipliedOut.{multiplied_out}
-use Rattle.fraction_poly.specs.Parts.{HasParts}
+use Rattle.fraction_poly.specs.Inner.Parts.{HasParts}
 use Rattle.fraction_poly.proofs.Places.{place_cases, slice_get-end, slice_get-front}
 use Rattle.fraction_poly.proofs.ReachedParts.{part_below}
 

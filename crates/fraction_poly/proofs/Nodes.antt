@@ -8,7 +8,7 @@ use Rattle.geo_terms.specs.declared.nodes.Node.TheVariants.{Int, Neg, Add, Sub, 
 use Rattle.geo_terms.specs.Stores.{Store, IsStore, node_tree, trees_of, tree_of}
 use Rattle.geo_terms.proofs.Trees.{tree_of-node}
 use Rattle.fraction_poly.specs.MultipliedOut.{multiplied_out, fraction_sum, fraction_difference, fraction_product, fraction_quotient}
-use Rattle.fraction_poly.specs.Parts.{CanMultiplyOut, SumFits, IsPart, HasParts}
+use Rattle.fraction_poly.specs.Inner.Parts.{CanMultiplyOut, SumFits, IsPart, HasParts}
 use Rattle.fraction_poly.proofs.Rooms.{ProductsFit, sum_fits_addition, sum_fits_subtraction, products_fit_multiplication, products_fit_division}
 
 -- the node stands at the index, may be multiplied out, and its parts are

@@ -5,7 +5,7 @@ use Rattle.fraction_poly.specs.declared.drafts.Draft.{Draft}
 use Rattle.fraction_poly.specs.declared.drafts.Draft.TheVariants.{Integer, Area, Pythagoras, Ratio, Abscissa, Ordinate, Numerator, Denominator, Sum', Difference', Product', Opposite'}
 use Rattle.fraction_poly.specs.declared.measures.Numbers.{Numbers}
 use Rattle.fraction_poly.specs.declared.step_numbers.StepNumber.{StepNumber}
-use Rattle.fraction_poly.specs.Drafts.{AllFit, IsBoundedNumber, drafted_piece, form_of}
+use Rattle.fraction_poly.specs.Inner.Drafts.{AllFit, IsBoundedNumber, drafted_piece, form_of}
 use Rattle.fraction_poly.specs.Forms.{Form, integer, area, pythagoras, ratio, abscissa, ordinate, numerator, denominator, ◌⊞◌, ◌⊟◌, ◌⊠◌, opposite, PieceFits, step_number, integer_piece, variable_piece, piece_sum, piece_difference, piece_product, piece_opposite, piece_of}
 use Rattle.fraction_poly.specs.Measures.{numbers_of, sum_numbers, product_numbers, turned_numbers}
 use Rattle.fraction_poly.proofs.Sizes.{IsWithin, IsWithin-sum, IsWithin-difference, IsWithin-product, IsWithin-negated, IsWithin-constant, IsWithin-variable, IsWithin-area, IsWithin-pythagoras, IsWithin-ratio}

@@ -13,7 +13,7 @@ use Rattle.geo_points.specs.declared.ids.TermId.{TermId}
 use Rattle.geo_terms.specs.declared.nodes.Node.{Node}
 use Rattle.geo_terms.specs.declared.nodes.Node.TheVariants.{Int, Param, S, P, R, Neg, Add, Sub, Mul, Div}
 use Rattle.geo_terms.specs.Stores.{Store, HasChildrenBelow, IsStore, tree_of}
-use Rattle.fraction_poly.specs.Parts.{AreReached, CanMultiplyOut, IsPart, StandsFrom}
+use Rattle.fraction_poly.specs.Inner.Parts.{AreReached, CanMultiplyOut, IsPart, StandsFrom}
 use Rattle.fraction_poly.proofs.Places.{place_cases, slice_get-end, slice_get-front}
 use Rattle.fraction_poly.proofs.Rooms.{part_fits}
 

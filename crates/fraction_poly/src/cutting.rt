@@ -1,7 +1,7 @@
 //! The part of a store that a term reaches.
 
 ghost use Rattle.std.specs.Prelude.{◌≡◌, ◌<◌, IfOk, IsSome, length};
-ghost use Rattle.fraction_poly.specs.Parts.{CanMultiplyOut, DoAllFit, IsPart, over_parts, place_at, place_in};
+ghost use Rattle.fraction_poly.specs.Inner.Parts.{CanMultiplyOut, DoAllFit, IsPart, over_parts, place_at, place_in};
 ghost use Rattle.geo_points.specs.declared.ids.TermId.{TermId};
 ghost use Rattle.geo_terms.specs.Stores.{tree_of};
 

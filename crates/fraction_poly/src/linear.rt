@@ -1,7 +1,7 @@
 //! What the steps give for quantities that contain the point which they make, as drafts.
 
 ghost use Rattle.std.specs.Prelude.{◌≡◌, IfOk};
-ghost use Rattle.fraction_poly.specs.Drafts.{form_of, linear_form, number_tree, row_of_draft, step_term};
+ghost use Rattle.fraction_poly.specs.Inner.Drafts.{form_of, linear_form, number_tree, row_of_draft, step_term};
 ghost use Rattle.fraction_poly.specs.Forms.{denominator, numerator};
 ghost use Rattle.fraction_poly.specs.StepForms.{along_numerator, crossing_numerator, foot_numerator, step_denominator, step_row};
 ghost use Rattle.geo_terms.specs.Stores.{Store};

@@ -2,7 +2,7 @@
 
 ghost use Rattle.std.specs.Prelude.{◌≡◌, ◌+◌, ◌*◌, ◌<◌, ◌↔◌, IfOk, IsTrue, List, Some, length, slice_get};
 ghost use Rattle.fraction_poly.specs.Measures.{HasRoom, HaveRoom, capped, capped_number, numbers_of};
-ghost use Rattle.fraction_poly.specs.Parts.{AreNumbersOf};
+ghost use Rattle.fraction_poly.specs.Inner.Parts.{AreNumbersOf};
 ghost use Rattle.geo_terms.specs.Stores.{HasChildrenBelow, node_tree, tree_of};
 ghost use Rattle.geo_terms.specs.Trees.{Tree};
 

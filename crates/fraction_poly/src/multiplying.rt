@@ -3,7 +3,7 @@
 ghost use Rattle.std.specs.Prelude.{◌≡◌, ◌<◌, IfOk, Some, length, slice_get};
 ghost use Rattle.fraction_poly.specs.Measures.{HasRoom};
 ghost use Rattle.fraction_poly.specs.MultipliedOut.{multiplied_out};
-ghost use Rattle.fraction_poly.specs.Parts.{CanMultiplyOut, DoAllFit, HasParts};
+ghost use Rattle.fraction_poly.specs.Inner.Parts.{CanMultiplyOut, DoAllFit, HasParts};
 ghost use Rattle.geo_terms.specs.Stores.{IsStore, tree_of};
 
 use crate::cutting::cut_out;

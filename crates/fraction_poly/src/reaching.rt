@@ -3,7 +3,7 @@
 ghost use Rattle.std.specs.Prelude.{◌≡◌, ◌<◌, ◌⊎◌, ℕ, IfOk, OnOk, IsTrue, length};
 ghost use Rattle.std.specs.BTreeSet.{contains};
 ghost use Rattle.std.specs.Ordering.{nat_cmp};
-ghost use Rattle.fraction_poly.specs.Parts.{AreReached, IsPart};
+ghost use Rattle.fraction_poly.specs.Inner.Parts.{AreReached, IsPart};
 ghost use Rattle.geo_points.specs.declared.ids.TermId.{TermId};
 
 use geo_points::{NoMemory, TermId};

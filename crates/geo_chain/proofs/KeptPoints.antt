@@ -12,12 +12,12 @@ use Rattle.geo_poly.specs.PolynomialVariables.{AllVariables, variables_of}
 use Rattle.geo_poly.proofs.EachVariable.{EachIn, OfNumerators, each-variables, of-both, of-replaced_by, of-rows, some_row}
 use Rattle.geo_terms.specs.Constructions.{Construction, IsConstruction}
 use Rattle.fraction_poly.specs.TableRows.{HasPointsBelow, TableRow, made_row}
-use Rattle.elim_apply.specs.declared.moves.Move.{Move}
-use Rattle.elim_apply.specs.declared.moves.Move.TheVariants.{Ratio, Point, Coords}
+use Rattle.geo_logs.specs.declared.moves.Move.{Move}
+use Rattle.geo_logs.specs.declared.moves.Move.TheVariants.{Ratio, Point, Coords}
 use Rattle.elim_apply.specs.LemmaTable.{lemma_table}
-use Rattle.elim_apply.specs.Moves.{IsMoved, replacement}
-use Rattle.elim_apply.specs.Naming.{IsNamed}
-use Rattle.elim_apply.specs.Sound.{NamesNoLater}
+use Rattle.geo_logs.specs.Moves.{IsMoved, replacement}
+use Rattle.geo_logs.specs.Naming.{IsNamed}
+use Rattle.geo_logs.specs.Sound.{NamesNoLater}
 use Rattle.elim_apply.proofs.MoveRows.{lemma_table_sound}
 
 no_some : (r : Row) → ◌≡◌ {A = Option Row} None (Some r) → ⊥

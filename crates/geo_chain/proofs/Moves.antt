@@ -7,12 +7,13 @@ use Rattle.geo_poly.specs.Polynomials.{Terms}
 use Rattle.geo_poly.specs.PolynomialVariables.{IsPlain, IsQuantity}
 use Rattle.geo_poly.proofs.EachVariable.{all_variables}
 use Rattle.geo_terms.specs.Constructions.{Construction}
-use Rattle.elim_apply.specs.declared.moves.Move.{Move}
+use Rattle.geo_logs.specs.declared.moves.Move.{Move}
 use Rattle.geo_logs.specs.Chains.{IsEnd}
 use Rattle.geo_logs.specs.Defined.{IsNextMove}
+use Rattle.elim_apply.specs.LemmaTable.{lemma_table}
 use Rattle.geo_logs.proofs.OneStep.{no_move}
 use Rattle.geo_chain.specs.declared.first.Sought.TheVariants.{AnyQuantity}
-use Rattle.geo_chain.specs.Searches.{NoneFits}
+use Rattle.geo_chain.specs.Inner.Searches.{NoneFits}
 
 plain_or : (v : Var) → (IsQuantity v → ⊥) → IsPlain v
 plain_or (R a b c d) h = h tt
@@ -27,6 +28,6 @@ pub end_of : (q : Terms) → NoneFits AnyQuantity q → IsEnd q
 end_of q none = all_variables IsPlain q (λ v c. plain_or v (none v c))
 
 -- at an end there is no next move
-pub none_at_end : (c : Construction) (q : Terms) (o : Option Move) → IfSome o (IsNextMove c q) → IsEnd q → o ≡ None
+pub none_at_end : (c : Construction) (q : Terms) (o : Option Move) → IfSome o (IsNextMove lemma_table c q) → IsEnd q → o ≡ None
 none_at_end c q None h e = refl
 none_at_end c q (Some m) h e = absurd (no_move c q m e h)

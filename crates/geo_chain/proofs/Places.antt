@@ -11,7 +11,7 @@ use Rattle.geo_poly.proofs.EachVariable.{all_variables, each-contained, each-var
 use Rattle.geo_terms.specs.Constructions.{Construction}
 use Rattle.geo_logs.specs.Defined.{HasFreePointsAlone, IsHighest}
 use Rattle.geo_chain.specs.declared.first.Sought.{Sought}
-use Rattle.geo_chain.specs.Searches.{Fits, FitsItself, Improves, IsFirstFitting, IsMetBefore, IsNoEarlier, IsNoHigher, MakesPoint, NoneFits}
+use Rattle.geo_chain.specs.Inner.Searches.{Fits, FitsItself, Improves, IsFirstFitting, IsMetBefore, IsNoEarlier, IsNoHigher, MakesPoint, NoneFits}
 
 module _ (Holds : Var → Type 0) where
   pub key_at : (m : Powers) (l : ℕ) (p : Var × ℕ) → AllKeys Holds m → slice_get m l ≡ Some p → Holds p.0

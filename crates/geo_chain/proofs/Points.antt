@@ -3,7 +3,7 @@ use Rattle.std.proofs.Common.{◌≡◌, ◌||◌, ◌⊎◌, inl, inr, ⊎_elim
 use Rattle.geo_points.specs.declared.ids.PointId.{PointId}
 use Rattle.geo_terms.specs.Constructions.{Construction}
 use Rattle.geo_logs.specs.Defined.{IsConstructed, is_point}
-use Rattle.geo_chain.specs.Searches.{Improves, IsNoHigher}
+use Rattle.geo_chain.specs.Inner.Searches.{Improves, IsNoHigher}
 use Rattle.geo_chain.proofs.Searches.{both, by_height}
 
 no_true : {P : Type 0} → IsTrue false → P

@@ -16,8 +16,8 @@ use Rattle.geo_poly.proofs.Orders.{var_order}
 use Rattle.geo_terms.specs.declared.steps.Step.{Step}
 use Rattle.geo_terms.specs.declared.steps.Step.TheVariants.{Point as FreeStep, Inter, Foot, Pratio, Tratio}
 use Rattle.geo_terms.specs.Constructions.{Construction}
-use Rattle.elim_apply.specs.declared.moves.Move.{Move}
-use Rattle.elim_apply.specs.declared.moves.Move.TheVariants.{Ratio, Point, Coords}
+use Rattle.geo_logs.specs.declared.moves.Move.{Move}
+use Rattle.geo_logs.specs.declared.moves.Move.TheVariants.{Ratio, Point, Coords}
 use Rattle.geo_logs.specs.Defined.{HasFreePointsAlone, IsConstructed, IsNextMove, Occurs, has_point, is_point, named_point}
 use Rattle.area_coords.specs.FreeTable.{area_in_coordinates, difference_in_coordinates, free_table, is_free, is_free_step}
 use Rattle.fraction_poly.specs.Forms.{integer}
@@ -31,8 +31,8 @@ use Rattle.elim_apply.proofs.FirstRows.{first_lemma_has_row}
 use Rattle.fraction_poly.specs.StepForms.{step_row}
 use Rattle.fraction_poly.specs.TableRows.{HasPointsBelow, TableRow, made_row}
 use Rattle.elim_apply.specs.LemmaTable.{lemma_table}
-use Rattle.elim_apply.specs.Moves.{place_of, replacement}
-use Rattle.elim_apply.specs.Naming.{IsPlaceBelow}
+use Rattle.geo_logs.specs.Moves.{place_of, replacement}
+use Rattle.geo_logs.specs.Naming.{IsPlaceBelow}
 use Rattle.geo_poly.specs.PolynomialVariables.{AllVariables, IsQuantity, IsRatio, variables_of}
 use Rattle.geo_poly.proofs.EachVariable.{each-contained, each-variables}
 
@@ -231,7 +231,7 @@ module _ (c : Construction) where
   below (x ∷ xs) (suc i) s e = let h : i < length xs = below xs i s e in omega (arith, h)
 
   -- the step at which the next move looks is one of the construction
-  pub place_below : (q : Terms) (move : Move) → IsNextMove c q move → IsPlaceBelow (length c.steps) (place_of move)
+  pub place_below : (q : Terms) (move : Move) → IsNextMove lemma_table c q move → IsPlaceBelow (length c.steps) (place_of move)
   place_below q (Ratio v zero at) h = tt
   place_below q (Ratio v (suc k) at) (inl (y, high, first, lemma, named)) =
       subst (λ (p : PointId). p.0 < length c.steps) (sym named) (below c.steps y.0 high.constructed.step high.constructed.made)
@@ -240,7 +240,7 @@ module _ (c : Construction) where
   place_below q Coords h = tt
 
   -- the next move replaces something
-  pub replaces : (q : Terms) (move : Move) → AllVariables (HasPointsBelow (length c.steps)) q → IsNextMove c q move → (replacement lemma_table c move q).rows ≢ []
+  pub replaces : (q : Terms) (move : Move) → AllVariables (HasPointsBelow (length c.steps)) q → IsNextMove lemma_table c q move → (replacement lemma_table c move q).rows ≢ []
   replaces q (Ratio v l at) points (inl (y, high, first, lemma, named)) =
       let found : IsTrue (is_some (Row_of (Ratio v l y) v)) = subst (λ k. IsTrue (is_some (Row_of (Ratio v k y) v))) (sym lemma) (first_row y v first.ratio) in
       rows_some (Row_of (Ratio v l at)) (variables_of q) v first.stands

@@ -9,7 +9,7 @@ use Rattle.geo_poly.specs.Monomials.{Powers}
 use Rattle.geo_poly.specs.Polynomials.{Terms, term_at}
 use Rattle.geo_poly.specs.Variables.{var_cmp}
 use Rattle.geo_poly.proofs.Orders.{var_order}
-use Rattle.geo_chain.specs.Searches.{Improves, IsMetBefore, IsMetIn, IsNoEarlier, IsNoHigher, Reaches}
+use Rattle.geo_chain.specs.Inner.Searches.{Improves, IsMetBefore, IsMetIn, IsNoEarlier, IsNoHigher, Reaches}
 
 -- an order in which nothing is better than itself
 pub record IsOrder {A : Type 0} (NoBetter : A → A → Type 0) : Type 0 where

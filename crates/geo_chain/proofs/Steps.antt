@@ -7,10 +7,10 @@ use Rattle.geo_poly.proofs.EachVariable.{of-cut}
 use Rattle.geo_terms.specs.Constructions.{Construction, IsConstruction}
 use Rattle.fraction_poly.specs.TableRows.{HasPointsBelow}
 use Rattle.proof_log.specs.declared.log.Line.{Line}
-use Rattle.elim_apply.specs.declared.moves.Move.{Move}
-use Rattle.elim_apply.specs.declared.moves.Move.TheVariants.{Ratio, Point, Coords}
+use Rattle.geo_logs.specs.declared.moves.Move.{Move}
+use Rattle.geo_logs.specs.declared.moves.Move.TheVariants.{Ratio, Point, Coords}
 use Rattle.elim_apply.specs.LemmaTable.{lemma_table}
-use Rattle.elim_apply.specs.Moves.{IsMoved, replacement}
+use Rattle.geo_logs.specs.Moves.{IsMoved, replacement}
 use Rattle.geo_logs.specs.Chains.{cuts, line_of, moves}
 use Rattle.geo_chain.specs.NextLines.{HasLinePointsBelow, IsCutLine, IsMoveDue, IsNextLine, left_after}
 use Rattle.geo_chain.proofs.KeptPoints.{points_kept}

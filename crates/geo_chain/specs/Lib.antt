@@ -1,2 +1,2 @@
-pub mod Searches
 pub mod NextLines
+pub mod Inner

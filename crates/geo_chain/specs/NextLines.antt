@@ -1,8 +1,8 @@
 -- The line that the prover writes after a polynomial.
 use Rattle.std.specs.Prelude.{◌≡◌, ℕ, ◌-◌, ◌⊎◌, ℤ, List, [], ◌∷◌}
-use Rattle.elim_apply.specs.declared.moves.Move.{Move}
+use Rattle.geo_logs.specs.declared.moves.Move.{Move}
 use Rattle.elim_apply.specs.LemmaTable.{lemma_table}
-use Rattle.elim_apply.specs.Moves.{move_charge, replacement}
+use Rattle.geo_logs.specs.Moves.{move_charge, replacement}
 use Rattle.fraction_poly.specs.TableRows.{HasPointsBelow}
 use Rattle.geo_logs.specs.Chains.{ChainStep, IsEnd, line_of}
 use Rattle.geo_logs.specs.Defined.{IsCutDue, IsNextMove, LeadsBySteps, NoCutDue}
@@ -28,7 +28,7 @@ pub record IsCutLine (known : List Var) (q : Terms) (line : Line) : Type 0 where
 -- no cut is due, and the move is the next one
 pub record IsMoveDue (c : Construction) (known : List Var) (q : Terms) (move : Move) : Type 0 where
   pub no_cut : NoCutDue known q
-  pub next : IsNextMove c q move
+  pub next : IsNextMove lemma_table c q move
 
 -- what is left after the charge of a move
 abbrev pub left_after : Construction → Move → Terms → ℕ → ℕ

@@ -1,7 +1,8 @@
 //! The next move.
 
 ghost use Rattle.std.specs.Prelude.{◌≡◌, ◌<◌, IfNone, IfSome, length};
-ghost use Rattle.elim_apply.specs.declared.moves.Move.TheVariants.{Ratio};
+ghost use Rattle.geo_logs.specs.declared.moves.Move.TheVariants.{Ratio};
+ghost use Rattle.elim_apply.specs.LemmaTable.{lemma_table};
 ghost use Rattle.elim_ratio.specs.RatioTable.{first_lemma};
 ghost use Rattle.fraction_poly.specs.TableRows.{HasPointsBelow};
 ghost use Rattle.geo_logs.specs.Chains.{IsEnd};
@@ -23,7 +24,7 @@ use geo_terms::Steps;
 /// looks at no point, and is given with point 0.
 pub fn next_move(steps: &Steps, p: &Poly) -> Option<Move>
     requires { AllVariables (HasPointsBelow (length steps.now.steps)) p.now }
-    ensures some { IfSome result (IsNextMove steps.now p.now) }
+    ensures some { IfSome result (IsNextMove lemma_table steps.now p.now) }
     ensures none { IfNone result (IsEnd p.now) }
     ensures end { IsEnd p.now → result ≡ None }
 {
@@ -37,7 +38,7 @@ pub fn next_move(steps: &Steps, p: &Poly) -> Option<Move>
 fn move_at(steps: &Steps, p: &Poly, y: PointId) -> Move
     requires below { y.0 < length steps.now.steps }
     requires highest { IsHighest steps.now y p.now }
-    ensures { IsNextMove steps.now p.now result }
+    ensures { IsNextMove lemma_table steps.now p.now result }
 {
     match first_fitting(p, Sought::RatioWith(y)) {
         Some(var) => ratio_move(steps, var, y),
@@ -59,7 +60,7 @@ fn ratio_move(steps: &Steps, var: Var, y: PointId) -> Move
 /// The next move where no constructed point is left.
 fn move_of_free(p: &Poly) -> Option<Move>
     ensures some { (c : Construction) → HasFreePointsAlone c p.now
-        → IfSome result (IsNextMove c p.now) }
+        → IfSome result (IsNextMove lemma_table c p.now) }
     ensures none { IfNone result (IsEnd p.now) }
 {
     if let Some(var) = first_fitting(p, Sought::AnyRatio) {

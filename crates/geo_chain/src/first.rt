@@ -1,7 +1,7 @@
 //! The first variable of a kind in a polynomial.
 
 ghost use Rattle.std.specs.Prelude.{◌≡◌, ◌<◌, ◌↔◌, IfNone, IfSome, IsTrue, length};
-ghost use Rattle.geo_chain.specs.Searches.{Fits, FitsItself, Improves, IsFirstFitting, IsMetIn, IsNoEarlier, NoneFits};
+ghost use Rattle.geo_chain.specs.Inner.Searches.{Fits, FitsItself, Improves, IsFirstFitting, IsMetIn, IsNoEarlier, NoneFits};
 ghost use Rattle.geo_logs.specs.Defined.{has_point};
 ghost use Rattle.geo_poly.specs.PolynomialVariables.{IsQuantity, IsRatio};
 ghost use Rattle.geo_poly.specs.Polynomials.{term_at};

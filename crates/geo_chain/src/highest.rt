@@ -2,7 +2,7 @@
 
 ghost use Rattle.std.specs.Prelude.{◌<◌, ◌↔◌, ◌||◌, IfNone, IfSome, IsTrue, length};
 ghost use Rattle.fraction_poly.specs.TableRows.{HasPointsBelow};
-ghost use Rattle.geo_chain.specs.Searches.{Improves, IsMetIn, IsNoHigher, MakesPoint};
+ghost use Rattle.geo_chain.specs.Inner.Searches.{Improves, IsMetIn, IsNoHigher, MakesPoint};
 ghost use Rattle.geo_logs.specs.Defined.{HasFreePointsAlone, IsConstructed, IsHighest, is_point};
 ghost use Rattle.geo_poly.specs.PolynomialVariables.{AllVariables};
 ghost use Rattle.geo_poly.specs.Polynomials.{term_at};

@@ -1,9 +1,9 @@
 //! The next line.
 
 ghost use Rattle.std.specs.Prelude.{◌≡◌, ◌≢◌, ◌⊎◌, IfOk, IsErrOf, length};
-ghost use Rattle.elim_apply.specs.Moves.{IsMoveStopped, place_of_lemma, replacement, spent, too_large};
+ghost use Rattle.geo_logs.specs.Moves.{IsMoveStopped, place_of_lemma, replacement, spent, too_large};
 ghost use Rattle.elim_apply.specs.LemmaTable.{lemma_table};
-ghost use Rattle.elim_apply.specs.declared.moves.Move.{Move};
+ghost use Rattle.geo_logs.specs.declared.moves.Move.{Move};
 ghost use Rattle.fraction_poly.specs.TableRows.{HasPointsBelow};
 ghost use Rattle.geo_chain.specs.NextLines.{HasLinePointsBelow, IsMoveDue, IsNextLine, left_after};
 ghost use Rattle.geo_logs.specs.Chains.{line_of, moves};

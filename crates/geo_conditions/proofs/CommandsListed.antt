@@ -9,7 +9,7 @@ use Rattle.geo_lowering.specs.Conditions.{Condition, command_conditions, early_c
 use Rattle.geo_lowering.specs.Counting.{named, counted, points_from, points_named}
 use Rattle.geo_conditions.specs.declared.condition_list.ConditionList.{ConditionList}
 use Rattle.geo_conditions.specs.declared.condition_sources.ConditionSource.{ConditionSource}
-use Rattle.geo_conditions.specs.ConditionLists.{Lists, conditions_given}
+use Rattle.geo_conditions.specs.Inner.ConditionLists.{Lists, conditions_given}
 use Rattle.geo_conditions.specs.Lists.{IsListed, found_at, found_from}
 use Rattle.geo_conditions.proofs.KeptConditions.{found, key, lists_at, lists_both}
 use Rattle.geo_conditions.proofs.Listings.{Ahead, ahead_next}

@@ -20,7 +20,7 @@ use Rattle.geo_terms.specs.Trees.{Tree, integer_leaf, parameter_leaf, area_leaf,
 use Rattle.geo_lowering.proofs.ConditionValues.{each_append}
 use Rattle.geo_points.specs.declared.ids.PointId.{PointId}
 use Rattle.geo_program.specs.FormTexts.{form_text}
-use Rattle.geo_program.specs.Printing.{whole_scope}
+use Rattle.geo_program.specs.Inner.Printing.{whole_scope}
 use Rattle.geo_program.proofs.Shapes.{same_statement_shape}
 use Rattle.geo_program.proofs.Standing.{statement_word}
 use Rattle.geo_conditions.specs.Laws.{GoalTextsTellGoals}

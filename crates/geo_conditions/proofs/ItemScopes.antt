@@ -12,7 +12,7 @@ use Rattle.geo_program.specs.declared.statements.Statement.{Statement}
 use Rattle.geo_program.specs.declared.statements.Statement.TheVariants as statement
 use Rattle.geo_program.specs.Expressions.{IsExpression}
 use Rattle.geo_program.specs.Forms.{AreSidesStored, IsStored, command_form, statement_form}
-use Rattle.geo_program.specs.Printing.{whole_scope}
+use Rattle.geo_program.specs.Inner.Printing.{whole_scope}
 use Rattle.geo_program.specs.WellFormed.{AreCommands, IsArgument, IsWellFormed, Scope, Source, declare}
 use Rattle.geo_program.proofs.ScopeLemmas.{IsExpression-ratios}
 use Rattle.geo_terms.specs.Stores.{Store, IsStore, tree_of}
@@ -24,8 +24,8 @@ use Rattle.geo_lowering.proofs.Laying.{named_program, scope}
 use Rattle.geo_conditions.specs.declared.conditions.Condition.{Condition}
 use Rattle.geo_conditions.specs.declared.conditions.Condition.TheVariants.{Different, NotCollinear, NotParallel, Crossing, Nonzero}
 use Rattle.geo_conditions.specs.declared.conditions.ListedCondition.{ListedCondition}
-use Rattle.geo_conditions.specs.ConditionLists.{AreSidesBraced, IsKept, IsNumberBraced, condition_of, found_of}
-use Rattle.geo_conditions.specs.ItemForms.{IsPrintableCondition, IsPrintableGoal}
+use Rattle.geo_conditions.specs.Inner.ConditionLists.{AreSidesBraced, IsKept, IsNumberBraced, condition_of, found_of}
+use Rattle.geo_conditions.specs.Inner.ItemForms.{IsPrintableCondition, IsPrintableGoal}
 use Rattle.geo_conditions.specs.Lists.{AreConditions, AreGoals, all_found}
 use Rattle.geo_conditions.specs.Statements.{pair_goals, ratio_goals, statement_goals}
 use Rattle.geo_conditions.proofs.Agreement.{IsConditionOver, IsStatementOver}

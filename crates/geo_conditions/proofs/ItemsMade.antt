@@ -7,15 +7,15 @@ use Rattle.geo_terms.specs.Stores.{Store}
 use Rattle.geo_terms.specs.Trees.{Tree, subtraction}
 use Rattle.geo_program.specs.declared.statements.Statement.{Statement}
 use Rattle.geo_program.specs.declared.statements.Statement.TheVariants as statement
-use Rattle.geo_lowering.specs.Renaming.{item_at}
+use Rattle.geo_lowering.specs.Inner.Renaming.{item_at}
 use Rattle.geo_lowering.proofs.ConditionValues.{each_append}
 use Rattle.geo_conditions.specs.declared.conditions.Condition.{Condition}
 use Rattle.geo_conditions.specs.declared.conditions.Condition.TheVariants as condition
 use Rattle.geo_conditions.specs.declared.items.Item.{Item}
 use Rattle.geo_conditions.specs.declared.item_terms.Places.{Places}
-use Rattle.geo_conditions.specs.ConditionLists.{condition_of}
-use Rattle.geo_conditions.specs.ItemForms.{AreItems, ArePlaced, HasItem, places_layout}
-use Rattle.geo_conditions.specs.ItemTerms.{AreSidesWithin, HasTerm, IsItemStored, IsTermWithin, Keeps, condition_item_term, goal_item_term, item_tree}
+use Rattle.geo_conditions.specs.Inner.ConditionLists.{condition_of}
+use Rattle.geo_conditions.specs.Inner.ItemForms.{AreItems, ArePlaced, HasItem, places_layout}
+use Rattle.geo_conditions.specs.Inner.ItemTerms.{AreSidesWithin, HasTerm, IsItemStored, IsTermWithin, Keeps, condition_item_term, goal_item_term, item_tree}
 use Rattle.geo_conditions.specs.Lists.{ItemForm, item_form}
 use Rattle.geo_conditions.specs.Terms.{condition_term, goal_term}
 use Rattle.geo_conditions.proofs.TermsInterned.{still_stored}

@@ -22,7 +22,7 @@ use Rattle.geo_conditions.specs.declared.condition_list.ConditionList.{Condition
 use Rattle.geo_conditions.specs.declared.conditions.Condition.{Condition as KeptCondition}
 use Rattle.geo_conditions.specs.declared.conditions.Condition.TheVariants.{Different, NotCollinear, NotParallel, Crossing, Nonzero}
 use Rattle.geo_conditions.specs.declared.conditions.ListedCondition.{ListedCondition}
-use Rattle.geo_conditions.specs.ConditionLists.{AreListed, HasBraces, IsConditionList, IsKept, Lists, condition_of, found_of}
+use Rattle.geo_conditions.specs.Inner.ConditionLists.{AreListed, HasBraces, IsConditionList, IsKept, Lists, condition_of, found_of}
 use Rattle.geo_conditions.specs.Lists.{Found, found_at}
 use Rattle.geo_conditions.proofs.Listings.{Leads, held, leads_both, leads_contain, leads_keep, leads_known, leads_new, leads_none, own_keys, unmapped}
 

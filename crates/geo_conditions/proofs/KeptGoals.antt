@@ -14,7 +14,7 @@ use Rattle.geo_terms.specs.Stores.{Store, node_tree, tree_of}
 use Rattle.geo_terms.specs.Trees.{Tree}
 use Rattle.geo_lowering.proofs.ConditionValues.{each_append}
 use Rattle.geo_conditions.specs.declared.goal_list.GoalList.{GoalList}
-use Rattle.geo_conditions.specs.GoalLists.{AreGoalsListed, IsGoalList, ListsGoals}
+use Rattle.geo_conditions.specs.Inner.GoalLists.{AreGoalsListed, IsGoalList, ListsGoals}
 use Rattle.geo_conditions.specs.Lists.{IsListed}
 use Rattle.geo_conditions.specs.Statements.{ratio_goals}
 use Rattle.geo_conditions.proofs.Listings.{Leads, held, leads_both, leads_contain, leads_keep, leads_known, leads_new, leads_none}

@@ -9,14 +9,14 @@ use Rattle.geo_program.specs.declared.statements.Statement.{Statement}
 use Rattle.geo_program.specs.WellFormed.{IsWellFormed, Source}
 use Rattle.geo_lowering.specs.Counting.{param_places, points_named}
 use Rattle.geo_lowering.specs.Lowering.{Layout, layout_of, line_places, pair_numbers, point_place, point_places}
-use Rattle.geo_lowering.specs.Renaming.{AreRenamed}
+use Rattle.geo_lowering.specs.Inner.Renaming.{AreRenamed}
 use Rattle.geo_lowering.proofs.Renamed.{renamed-same}
 use Rattle.geo_conditions.specs.declared.conditions.ListedCondition.{ListedCondition}
 use Rattle.geo_conditions.specs.declared.item_terms.Places.{Places}
 use Rattle.geo_conditions.specs.declared.items.Item.{Item}
-use Rattle.geo_conditions.specs.ConditionLists.{found_of}
-use Rattle.geo_conditions.specs.ItemForms.{AreItems, ArePlaced, IsPrintableCondition, IsPrintableGoal, condition_item_form, goal_item_form, places_layout}
-use Rattle.geo_conditions.specs.ItemTerms.{terms_layout}
+use Rattle.geo_conditions.specs.Inner.ConditionLists.{found_of}
+use Rattle.geo_conditions.specs.Inner.ItemForms.{AreItems, ArePlaced, IsPrintableCondition, IsPrintableGoal, condition_item_form, goal_item_form, places_layout}
+use Rattle.geo_conditions.specs.Inner.ItemTerms.{terms_layout}
 use Rattle.geo_conditions.specs.Lists.{AreConditions, AreGoals, AreStoredConditions, AreStoredGoals, condition_item}
 use Rattle.geo_conditions.proofs.ItemScopes.{named_few}
 

@@ -6,7 +6,7 @@ use Rattle.geo_terms.specs.Constructions.{Construction, IsConstruction, IsStep}
 use Rattle.geo_program.specs.WellFormed.{Source}
 use Rattle.geo_lowering.specs.Lowering.{IsLowered, LoweredForm}
 use Rattle.geo_lowering.specs.StepForms.{along, step_form, turned_along}
-use Rattle.geo_conditions.specs.ItemTerms.{Keeps}
+use Rattle.geo_conditions.specs.Inner.ItemTerms.{Keeps}
 
 module _ (old new : Construction) (keeps : Keeps old new) where
   -- the form of a step over the old store

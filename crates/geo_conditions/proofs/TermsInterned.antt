@@ -4,7 +4,7 @@ use Rattle.geo_points.specs.declared.ids.TermId.{TermId}
 use Rattle.geo_terms.specs.Constructions.{Construction}
 use Rattle.geo_terms.specs.Stores.{tree_of}
 use Rattle.geo_terms.specs.Trees.{Tree}
-use Rattle.geo_conditions.specs.ItemTerms.{HasTerm, Keeps}
+use Rattle.geo_conditions.specs.Inner.ItemTerms.{HasTerm, Keeps}
 
 pub keeps_all : (s : Construction) → Keeps s s
 keeps_all s = record { steps = refl; params = refl; longer = omega arith; trees = λ e b. refl }

@@ -3,8 +3,5 @@ pub mod Terms
 pub mod Lists
 pub mod Truth
 pub mod Laws
-pub mod ConditionLists
-pub mod GoalLists
-pub mod ItemTerms
-pub mod ItemForms
 pub mod Problems
+pub mod Inner

@@ -4,7 +4,7 @@ ghost use Rattle.std.specs.Prelude.{◌≡◌, ◌∷◌, ◌++◌, [], List, On
 ghost use Rattle.geo_lowering.specs.Conditions.{divisor_conditions, expression_conditions, nonzero};
 ghost use Rattle.geo_terms.specs.Stores.{IsStore, node_tree, tree_of};
 ghost use Rattle.geo_terms.specs.Trees.{Tree};
-ghost use Rattle.geo_conditions.specs.ConditionLists.{HasBraces, IsConditionList, IsKept, Lists, condition_of};
+ghost use Rattle.geo_conditions.specs.Inner.ConditionLists.{HasBraces, IsConditionList, IsKept, Lists, condition_of};
 ghost use Rattle.geo_conditions.specs.Lists.{found_at};
 
 use crate::conditions::{Condition, ListedCondition};

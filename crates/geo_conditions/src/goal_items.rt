@@ -3,8 +3,8 @@
 ghost use Rattle.std.specs.Prelude.{IfOk, OnOk, map};
 ghost use Rattle.std.specs.List.{AllByRecursion};
 ghost use Rattle.geo_terms.specs.Stores.{IsStore};
-ghost use Rattle.geo_conditions.specs.ItemForms.{AreItems, ArePlaced, HasItem, IsPrintableGoal, goal_item_form, places_layout};
-ghost use Rattle.geo_conditions.specs.ItemTerms.{Keeps};
+ghost use Rattle.geo_conditions.specs.Inner.ItemForms.{AreItems, ArePlaced, HasItem, IsPrintableGoal, goal_item_form, places_layout};
+ghost use Rattle.geo_conditions.specs.Inner.ItemTerms.{Keeps};
 
 use crate::interning::intern_item;
 use crate::item_terms::{Places, goal_term};

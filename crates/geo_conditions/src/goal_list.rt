@@ -4,8 +4,8 @@ ghost use Rattle.std.specs.Prelude.{◌≡◌, ◌∷◌, ◌++◌, [], List, If
 ghost use Rattle.geo_program.specs.declared.commands.Command.{Command};
 ghost use Rattle.geo_program.specs.declared.names.Name.{Name};
 ghost use Rattle.geo_terms.specs.Stores.{IsStore, Store, tree_of};
-ghost use Rattle.geo_conditions.specs.ConditionLists.{AreSidesBraced, HasBraces};
-ghost use Rattle.geo_conditions.specs.GoalLists.{IsGoalList, IsGoalSourceKept, ListsGoals, goals_given};
+ghost use Rattle.geo_conditions.specs.Inner.ConditionLists.{AreSidesBraced, HasBraces};
+ghost use Rattle.geo_conditions.specs.Inner.GoalLists.{IsGoalList, IsGoalSourceKept, ListsGoals, goals_given};
 ghost use Rattle.geo_conditions.specs.Lists.{AreGoals};
 ghost use Rattle.geo_conditions.specs.Statements.{pair_goals, ratio_goals};
 

@@ -3,7 +3,7 @@
 ghost use Rattle.std.specs.Prelude.{◌<◌, pos, IfOk, length};
 ghost use Rattle.geo_terms.specs.Stores.{HasChildrenBelow, HasShortInteger, node_tree, tree_of, trees_of};
 ghost use Rattle.geo_terms.specs.Trees.{addition, area_leaf, integer_leaf, multiplication, pythagoras_leaf, ratio_leaf, subtraction};
-ghost use Rattle.geo_conditions.specs.ItemTerms.{HasTerm, IsItemStored, item_tree};
+ghost use Rattle.geo_conditions.specs.Inner.ItemTerms.{HasTerm, IsItemStored, item_tree};
 ghost use Rattle.geo_conditions.specs.Terms.{area_of, circle_term, midpoint_term, parallel_term, pythagoras_of, ratio_of};
 
 use crate::item_terms::ItemTerm;

@@ -7,7 +7,7 @@ ghost use Rattle.geo_program.specs.Names.{is_kind};
 ghost use Rattle.geo_program.specs.declared.names.Name.{Name};
 ghost use Rattle.geo_program.specs.declared.names.NameKind.TheVariants as kind;
 ghost use Rattle.geo_terms.specs.Stores.{IsStore};
-ghost use Rattle.geo_conditions.specs.ConditionLists.{AreSidesBraced, IsConditionList, IsNumberBraced, IsSourceKept, Lists, conditions_given, found_of};
+ghost use Rattle.geo_conditions.specs.Inner.ConditionLists.{AreSidesBraced, IsConditionList, IsNumberBraced, IsSourceKept, Lists, conditions_given, found_of};
 ghost use Rattle.geo_conditions.specs.Lists.{AreConditions, found_at, found_from};
 ghost use Rattle.geo_conditions.specs.Statements.{statement_conditions};
 

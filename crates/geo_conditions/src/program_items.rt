@@ -4,8 +4,8 @@ ghost use Rattle.std.specs.Prelude.{IfOk, OnOk, map};
 ghost use Rattle.std.specs.List.{AllByRecursion};
 ghost use Rattle.geo_program.specs.Programs.{source_of};
 ghost use Rattle.geo_terms.specs.Stores.{IsStore};
-ghost use Rattle.geo_conditions.specs.ItemForms.{AreItems, ArePlaced, HasPlaces, IsPrintableCondition, IsPrintableGoal, condition_item_form, goal_item_form, places_layout};
-ghost use Rattle.geo_conditions.specs.ItemTerms.{Keeps};
+ghost use Rattle.geo_conditions.specs.Inner.ItemForms.{AreItems, ArePlaced, HasPlaces, IsPrintableCondition, IsPrintableGoal, condition_item_form, goal_item_form, places_layout};
+ghost use Rattle.geo_conditions.specs.Inner.ItemTerms.{Keeps};
 ghost use Rattle.geo_conditions.specs.Lists.{AreStoredConditions, AreStoredGoals};
 
 use crate::condition_items::condition_items;

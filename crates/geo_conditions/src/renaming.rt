@@ -2,8 +2,8 @@
 
 ghost use Rattle.std.specs.Prelude.{◌≡◌, ◌<◌, IfOk, OnOk, length, map, slice_index_or};
 ghost use Rattle.geo_terms.specs.Stores.{HasChildrenBelow};
-ghost use Rattle.geo_lowering.specs.Renaming.{AreRenamed, renamed_node};
-ghost use Rattle.geo_conditions.specs.ItemTerms.{Keeps, terms_layout};
+ghost use Rattle.geo_lowering.specs.Inner.Renaming.{AreRenamed, renamed_node};
+ghost use Rattle.geo_conditions.specs.Inner.ItemTerms.{Keeps, terms_layout};
 
 use geo_points::{NoMemory, ParamId, PointId, TermId};
 use geo_terms::{Node, Steps, Terms};

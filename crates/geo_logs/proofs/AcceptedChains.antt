@@ -9,17 +9,17 @@ use Rattle.geo_terms.specs.Constructions.{Construction, MeetsSteps}
 use Rattle.geo_terms.specs.Trees.{Tree}
 use Rattle.geo_terms.specs.Values.{HasTreeValue, tree_value}
 use Rattle.geo_logs.specs.Chains.{Chain, IsAcceptedChain}
-use Rattle.elim_apply.specs.Starts.{start_charge, start_of}
-use Rattle.elim_apply.specs.Moves.{Table}
+use Rattle.geo_logs.specs.Starts.{start_charge, start_of}
+use Rattle.geo_logs.specs.Moves.{Table}
 use Rattle.geo_logs.specs.Placements.{HasValuesBelow, HoldsAsCondition, MeetsStepsBelow}
 use Rattle.geo_terms.specs.TermBounds.{IsTermBelow}
 use Rattle.geo_logs.specs.Samples.{sample_variables}
-use Rattle.elim_apply.specs.Sound.{IsSoundTable, IsSoundTerm}
+use Rattle.geo_logs.specs.Sound.{IsSoundTable, IsSoundTerm}
 use Rattle.geo_logs.proofs.ChainPolynomials.{chain_polynomial, start_polynomial}
 use Rattle.geo_logs.proofs.ChainValues.{chain_named, chain_null, chain_null_on}
 use Rattle.geo_poly.proofs.EachVariable.{EachIn, each-contained}
 use Rattle.geo_logs.proofs.Known.{IsFar}
-use Rattle.elim_apply.proofs.MoveValues.{IsApart, apart, at_placement, nonzero, null_of_times, null_times, value_as, zero_fraction}
+use Rattle.geo_logs.proofs.MoveValues.{IsApart, apart, at_placement, nonzero, null_of_times, null_times, value_as, zero_fraction}
 use Rattle.geo_logs.proofs.SampleValues.{IsNonzeroAt, end_apart}
 
 module _ (placed : Placement) (c : Construction) (e : Tree) (sound : IsSoundTerm c e) (has_value : HasTreeValue placed e) where

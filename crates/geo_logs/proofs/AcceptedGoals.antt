@@ -14,11 +14,11 @@ use Rattle.proof_log.specs.declared.log.Verdict.TheVariants.{Proved, False, Impo
 use Rattle.geo_logs.specs.Chains.{Chain}
 use Rattle.geo_logs.specs.Laws.{SaysZero}
 use Rattle.geo_logs.specs.Logs.{AreConditionsWorked, AreGoalsWorked, Chains, IsAccepted, Item, Samples, Subject, known_by}
-use Rattle.elim_apply.specs.Moves.{Table}
+use Rattle.geo_logs.specs.Moves.{Table}
 use Rattle.geo_logs.specs.Placements.{HoldsAsCondition}
-use Rattle.elim_apply.specs.Sound.{IsSoundTable, IsSoundTerm}
+use Rattle.geo_logs.specs.Sound.{IsSoundTable, IsSoundTerm}
 use Rattle.geo_logs.proofs.AcceptedChains.{ended_in_zero}
-use Rattle.elim_apply.proofs.MoveValues.{apart}
+use Rattle.geo_logs.proofs.MoveValues.{apart}
 
 none_at : {P : Type 0} (i : ℕ) (item : Item) → slice_get {X = Item} [] i ≡ Some item → P
 none_at i item e = absurd (let q : ◌≡◌ {A = Option Item} None (Some item) = e in cc)

@@ -10,15 +10,15 @@ use Rattle.proof_log.specs.declared.log.Line.TheVariants.{Condition, Goal}
 use Rattle.proof_log.specs.declared.log.Verdict.{Verdict}
 use Rattle.proof_log.specs.declared.log.Verdict.TheVariants.{Proved, False}
 use Rattle.geo_logs.specs.Chains.{Chain, ChainStep, moves, cuts, IsAcceptedChain, LeadsTo}
-use Rattle.elim_apply.specs.Starts.{start_charge, start_of}
+use Rattle.geo_logs.specs.Starts.{start_charge, start_of}
 use Rattle.geo_logs.specs.Defined.{IsDefinedChain, LeadsBySteps}
 use Rattle.geo_logs.specs.Laws.{AreNamed, ProversLogIsAccepted}
 use Rattle.geo_logs.specs.Logs.{AreConditionsWorked, AreGoalsWorked, BeginsWithChain, IsConcluded, Item, known_by}
-use Rattle.elim_apply.specs.Moves.{Table, move_charge, replacement}
-use Rattle.elim_apply.specs.Naming.{IsNamed}
+use Rattle.geo_logs.specs.Moves.{Table, move_charge, replacement}
+use Rattle.geo_logs.specs.Naming.{IsNamed}
 use Rattle.geo_terms.specs.TermBounds.{IsTermBelow}
 use Rattle.geo_logs.specs.Samples.{IsAcceptedSample, IsLeastSample, sample_variables}
-use Rattle.elim_apply.specs.Sound.{IsSoundTable, IsSoundTerm}
+use Rattle.geo_logs.specs.Sound.{IsSoundTable, IsSoundTerm}
 use Rattle.geo_poly.specs.PolynomialVariables.{AllVariables, IsPlain}
 use Rattle.geo_logs.proofs.ChainValues.{chain_named}
 use Rattle.geo_logs.proofs.ChainPolynomials.{chain_polynomial, start_polynomial}

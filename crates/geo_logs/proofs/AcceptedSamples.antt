@@ -16,11 +16,11 @@ use Rattle.proof_log.specs.declared.log.Verdict.TheVariants.{Proved, False, Impo
 use Rattle.geo_logs.specs.Chains.{Chain, IsAcceptedChain, chain_lines}
 use Rattle.geo_logs.specs.Laws.{AcceptedSampleRealises, AreNamedBefore, GivesConditions, GivesFailure, HasSample, HoldBefore}
 use Rattle.geo_logs.specs.Logs.{AreConditionsWorked, AreGoalsWorked, Chains, Item, Samples, Subject, known_by}
-use Rattle.elim_apply.specs.Moves.{Table}
+use Rattle.geo_logs.specs.Moves.{Table}
 use Rattle.geo_logs.specs.Placements.{HasValuesBelow, HoldsAsCondition, MeetsStepsBelow}
 use Rattle.geo_terms.specs.TermBounds.{IsTermBelow}
 use Rattle.geo_logs.specs.Samples.{IsAcceptedSample, sample_variables}
-use Rattle.elim_apply.specs.Sound.{IsSoundTable, IsSoundTerm}
+use Rattle.geo_logs.specs.Sound.{IsSoundTable, IsSoundTerm}
 use Rattle.geo_logs.proofs.AcceptedChains.{ended_apart, start_apart}
 use Rattle.geo_poly.proofs.EachVariable.{EachIn, each-append}
 use Rattle.geo_logs.proofs.SampleValues.{IsNonzeroAt, each_nonzero}

@@ -20,11 +20,11 @@ use Rattle.geo_terms.specs.Trees.{Tree, integer_leaf, parameter_leaf, area_leaf,
 use Rattle.fraction_poly.specs.Measures.{HasRoom, numbers_of}
 use Rattle.fraction_poly.specs.MultipliedOut.{canon_polynomial, multiplied_out, variable_polynomial}
 use Rattle.fraction_poly.proofs.TermBounds.{bounds}
-use Rattle.elim_apply.specs.declared.moves.Move.{Move}
+use Rattle.geo_logs.specs.declared.moves.Move.{Move}
 use Rattle.geo_logs.specs.Chains.{ChainStep, moves, cuts, LeadsTo}
-use Rattle.elim_apply.specs.Starts.{start_of}
-use Rattle.elim_apply.specs.Moves.{Table, IsMoved, move_charge, replacement}
-use Rattle.elim_apply.specs.Sound.{IsSoundTable}
+use Rattle.geo_logs.specs.Starts.{start_of}
+use Rattle.geo_logs.specs.Moves.{Table, IsMoved, move_charge, replacement}
+use Rattle.geo_logs.specs.Sound.{IsSoundTable}
 use Rattle.geo_poly.specs.PolynomialVariables.{variables_of}
 use Rattle.geo_poly.proofs.EachVariable.{EachIn, some_row}
 

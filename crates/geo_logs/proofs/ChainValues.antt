@@ -7,14 +7,14 @@ use Rattle.geo_poly.specs.declared.variables.Var.{Var}
 use Rattle.geo_poly.specs.Polynomials.{Terms}
 use Rattle.geo_terms.specs.Constructions.{Construction, MeetsSteps}
 use Rattle.geo_logs.specs.Chains.{ChainStep, moves, cuts, LeadsTo}
-use Rattle.elim_apply.specs.Moves.{Table, move_charge, place_of, replacement}
+use Rattle.geo_logs.specs.Moves.{Table, move_charge, place_of, replacement}
 use Rattle.fraction_poly.specs.TableRows.{HasVariable}
-use Rattle.elim_apply.specs.Naming.{IsNamed, IsPlaceBelow, IsPlaceMet}
+use Rattle.geo_logs.specs.Naming.{IsNamed, IsPlaceBelow, IsPlaceMet}
 use Rattle.geo_logs.specs.Placements.{MeetsStepsBelow}
-use Rattle.elim_apply.specs.Sound.{IsSoundTable}
+use Rattle.geo_logs.specs.Sound.{IsSoundTable}
 use Rattle.geo_poly.specs.PolynomialVariables.{AllVariables}
 use Rattle.geo_poly.proofs.EachVariable.{of-cut}
-use Rattle.elim_apply.proofs.MoveValues.{IsApart, at_placement, at_variable, move_kept, move_named, null_after_cut, null_after_move, null_before_cut, null_before_move, value_as, zero_fraction}
+use Rattle.geo_logs.proofs.MoveValues.{IsApart, at_placement, at_variable, move_kept, move_named, null_after_cut, null_after_move, null_before_cut, null_before_move, value_as, zero_fraction}
 
 -- any step that is looked at is met, where all are
 any_met : (placed : Placement) (c : Construction) → MeetsSteps placed c → (place : Option PointId) → IsPlaceMet placed c place

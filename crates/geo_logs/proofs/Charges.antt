@@ -7,15 +7,15 @@ use Rattle.geo_terms.specs.Trees.{Tree}
 use Rattle.proof_log.specs.declared.log.Line.{Line}
 use Rattle.proof_log.specs.declared.log.Verdict.{Verdict}
 use Rattle.geo_logs.specs.Chains.{Chain, ChainStep, moves, cuts, IsAcceptedChain, LeadsTo}
-use Rattle.elim_apply.specs.Starts.{start_charge, start_of}
+use Rattle.geo_logs.specs.Starts.{start_charge, start_of}
 use Rattle.geo_logs.specs.Laws.{ChainsNameNoLater, ChargesAreSpent}
 use Rattle.geo_logs.specs.Logs.{AreConditionsWorked, AreGoalsWorked, Item, known_by}
-use Rattle.elim_apply.specs.Moves.{Table, move_charge, replacement}
-use Rattle.elim_apply.specs.Naming.{IsNamed}
+use Rattle.geo_logs.specs.Moves.{Table, move_charge, replacement}
+use Rattle.geo_logs.specs.Naming.{IsNamed}
 use Rattle.geo_logs.specs.Samples.{IsAcceptedSample}
 use Rattle.geo_poly.specs.PolynomialVariables.{AllVariables}
 use Rattle.geo_poly.proofs.EachVariable.{of-cut}
-use Rattle.elim_apply.proofs.MoveValues.{move_named}
+use Rattle.geo_logs.proofs.MoveValues.{move_named}
 
 -- NAMES
 pub name_no_later : ChainsNameNoLater

@@ -15,7 +15,7 @@ use Rattle.proof_log.specs.declared.log.Line.TheVariants.{Header, Program as Pro
 use Rattle.proof_log.specs.declared.log.Verdict.TheVariants.{False, Impossible}
 use Rattle.geo_logs.specs.Chains.{cuts}
 use Rattle.geo_logs.specs.Logs.{IsAccepted, Subject}
-use Rattle.elim_apply.specs.Moves.{Table}
+use Rattle.geo_logs.specs.Moves.{Table}
 
 abbrev pub at : ℕ → PointId
 at k = record { 0 = k }

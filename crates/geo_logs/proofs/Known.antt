@@ -11,10 +11,10 @@ use Rattle.geo_poly.specs.declared.variables.Var.{Var}
 use Rattle.geo_poly.specs.Monomials.{Powers}
 use Rattle.geo_poly.specs.Polynomials.{Terms}
 use Rattle.geo_poly.specs.Values.{integer}
-use Rattle.elim_apply.specs.Starts.{start_of}
+use Rattle.geo_logs.specs.Starts.{start_of}
 use Rattle.geo_logs.specs.Logs.{Item, known_by, only_variable, sole_variable}
 use Rattle.geo_poly.proofs.EachVariable.{EachIn}
-use Rattle.elim_apply.proofs.MoveValues.{IsApart, at_placement, at_variable, times_null, null_times, zero_fraction}
+use Rattle.geo_logs.proofs.MoveValues.{IsApart, at_placement, at_variable, times_null, null_times, zero_fraction}
 
 module _ (placed : Placement) where
   abbrev pub IsFar : Var → Type 0

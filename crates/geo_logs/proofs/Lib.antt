@@ -1,3 +1,5 @@
+pub mod TermVariables
+pub mod MoveValues
 pub mod ChainParts
 pub mod ChainPolynomials
 pub mod ChainValues
@@ -17,9 +19,3 @@ pub mod OneNext
 pub mod OneEnd
 pub mod OneList
 pub mod Charges
-pub mod AcceptedLogs
-pub mod Refusals
-pub mod Beginnings
-pub mod OneRefusal
-pub mod BegunTwice
-pub mod FirstRefusals

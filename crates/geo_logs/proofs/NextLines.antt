@@ -10,11 +10,11 @@ use Rattle.proof_log.specs.declared.log.Line.TheVariants.{Condition, Goal, Start
 use Rattle.proof_log.specs.declared.log.Verdict.{Verdict}
 use Rattle.proof_log.specs.declared.log.Verdict.TheVariants.{Proved, False, Impossible}
 use Rattle.geo_logs.specs.Chains.{ChainStep, line_of}
-use Rattle.elim_apply.specs.Starts.{IsStarted, start_charge, start_of}
+use Rattle.geo_logs.specs.Starts.{IsStarted, start_charge, start_of}
 use Rattle.geo_logs.specs.Defined.{IsDefinedChain, LeadsBySteps}
 use Rattle.geo_logs.specs.Ends.{GoesOn, IsAfterHeader, IsAfterPolynomial, IsAtSample, IsNext, Next, comes}
 use Rattle.geo_logs.specs.Logs.{BeginsWithChain, Item, Subject, known_by}
-use Rattle.elim_apply.specs.Moves.{Table}
+use Rattle.geo_logs.specs.Moves.{Table}
 use Rattle.geo_logs.specs.Places as Places
 use Rattle.geo_logs.specs.Places.{Place, before_line, before_sample, before_start, first_lines, in_chain}
 use Rattle.geo_logs.specs.Samples.{IsLeastSample}

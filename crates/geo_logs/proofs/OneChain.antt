@@ -9,14 +9,14 @@ use Rattle.proof_log.specs.declared.log.Line.{Line}
 use Rattle.proof_log.specs.declared.log.Line.TheVariants.{Header, Program as ProgramLine, Condition, Goal, Sample, Verdict as VerdictLine}
 use Rattle.proof_log.specs.declared.log.Verdict.{Verdict}
 use Rattle.proof_log.specs.declared.log.Verdict.TheVariants.{Proved, False, Impossible}
-use Rattle.elim_apply.specs.declared.moves.Move.{Move}
+use Rattle.geo_logs.specs.declared.moves.Move.{Move}
 use Rattle.geo_logs.specs.Chains.{Chain, ChainStep, moves, cuts, IsEnd, chain_lines}
 use Rattle.geo_poly.specs.Cuts.{IsCut}
-use Rattle.elim_apply.specs.Starts.{start_charge, start_of}
+use Rattle.geo_logs.specs.Starts.{start_charge, start_of}
 use Rattle.geo_logs.specs.Defined.{IsDefinedChain, LeadsBySteps, NoCutDue}
 use Rattle.geo_logs.specs.Laws.{ProversLogIsUnique}
 use Rattle.geo_logs.specs.Logs.{AreConditionsWorked, AreGoalsWorked, IsConcluded, Item, known_by}
-use Rattle.elim_apply.specs.Moves.{IsMoved, Table, move_charge, replacement}
+use Rattle.geo_logs.specs.Moves.{IsMoved, Table, move_charge, replacement}
 use Rattle.geo_logs.specs.Samples.{IsLeastSample, sample_variables}
 use Rattle.geo_sample.specs.Tries.{AreMade, search_tries}
 use Rattle.geo_sample.proofs.LeastSamples.{exists_one}
@@ -35,14 +35,14 @@ module _ (table : Table) (c : Construction) (known : List Var) where
   one_path : (left : ℕ) (q : Terms) (steps other : List ChainStep) (l l' : ℕ) (e e' : Terms)
       → LeadsBySteps table c known left q steps l e → IsOver e → LeadsBySteps table c known left q other l' e' → IsOver e' → (steps ≡ other) × (l ≡ l') × (e ≡ e')
   one_path left q [] [] l l' e e' h over g over' = (refl, sym h.0 ∙ g.0, sym h.1 ∙ g.1)
-  one_path left q [] (moves m r ∷ other) l l' e e' h over g over' = absurd (no_move c q m (over_as q e h.1 over).ended g.1)
+  one_path left q [] (moves m r ∷ other) l l' e e' h over g over' = absurd (no_move table c q m (over_as q e h.1 over).ended g.1)
   one_path left q [] (cuts f r ∷ other) l l' e e' h over g over' = absurd (no_cut known q f (over_as q e h.1 over).no_cut g.0)
-  one_path left q (moves m r ∷ steps) [] l l' e e' h over g over' = absurd (no_move c q m (over_as q e' g.1 over').ended h.1)
+  one_path left q (moves m r ∷ steps) [] l l' e e' h over g over' = absurd (no_move table c q m (over_as q e' g.1 over').ended h.1)
   one_path left q (cuts f r ∷ steps) [] l l' e e' h over g over' = absurd (no_cut known q f (over_as q e' g.1 over').no_cut h.0)
   one_path left q (moves m r ∷ steps) (cuts f s ∷ other) l l' e e' h over g over' = absurd (no_cut known q f h.0 g.0)
   one_path left q (cuts f r ∷ steps) (moves m s ∷ other) l l' e e' h over g over' = absurd (no_cut known q f g.0 h.0)
   one_path left q (moves m r ∷ steps) (moves n s ∷ other) l l' e e' h over g over' =
-      let move : n ≡ m = one_move c q n m g.1 h.1 in
+      let move : n ≡ m = one_move table c q n m g.1 h.1 in
       let result : s ≡ r = one_result table c left q s r m (subst (λ (x : Move). IsMoved (replacement table c x q) left q s) move g.2) h.2 in
       let after : ℕ = left - move_charge (replacement table c m q) q in
       let goes : LeadsBySteps table c known after s other l' e' = subst (λ (x : Move). LeadsBySteps table c known (left - move_charge (replacement table c x q) q) s other l' e') move g.3 in

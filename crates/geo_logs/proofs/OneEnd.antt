@@ -9,12 +9,12 @@ use Rattle.proof_log.specs.declared.log.Line.{Line}
 use Rattle.proof_log.specs.declared.log.Line.TheVariants.{End, Sample, Start, Verdict as VerdictLine}
 use Rattle.proof_log.specs.declared.log.Verdict.{Verdict}
 use Rattle.geo_logs.specs.Chains.{Chain, chain_lines, line_of}
-use Rattle.elim_apply.specs.Starts.{IsStarted, start_charge, start_of}
+use Rattle.geo_logs.specs.Starts.{IsStarted, start_charge, start_of}
 use Rattle.geo_logs.specs.Defined.{IsDefinedChain}
 use Rattle.geo_logs.specs.Ends.{IsAfterHeader, IsAtSample, Next, comes, stops}
 use Rattle.geo_logs.proofs.NextLines.{IsBegunChain, IsBegunEnd}
 use Rattle.geo_logs.specs.Logs.{IsConcluded}
-use Rattle.elim_apply.specs.Moves.{Table, Stop, spent, too_large}
+use Rattle.geo_logs.specs.Moves.{Table, Stop, spent, too_large}
 use Rattle.geo_logs.specs.Samples.{IsLeastSample, IsSearchStopped, error_of, sample_variables}
 use Rattle.geo_sample.specs.Tries.{AreMade, EndIn, Try, search_tries}
 use Rattle.geo_sample.proofs.LeastSamples.{exists_one}

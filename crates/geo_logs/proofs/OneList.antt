@@ -17,7 +17,7 @@ use Rattle.geo_logs.proofs.NextLines.{AreConditionsBegun, AreGoalsBegun, IsBegun
 use Rattle.geo_logs.specs.Laws.{DefinedLogIsUnique}
 use Rattle.proof_log.specs.Lines.{line_text, log_text}
 use Rattle.geo_logs.specs.Logs.{AreConditionsWorked, AreGoalsWorked, BeginsWithChain, Item, Subject, known_by}
-use Rattle.elim_apply.specs.Moves.{Table, Stop}
+use Rattle.geo_logs.specs.Moves.{Table, Stop}
 use Rattle.geo_logs.specs.Samples.{IsLeastSample}
 use Rattle.geo_logs.proofs.OneChain.{one_chain, provers_log_unique}
 use Rattle.geo_logs.proofs.OneEnd.{begun_compared, begun_within, end_within, ends_compared}

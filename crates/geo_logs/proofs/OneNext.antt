@@ -8,14 +8,14 @@ use Rattle.geo_terms.specs.Constructions.{Construction}
 use Rattle.geo_terms.specs.Trees.{Tree}
 use Rattle.proof_log.specs.declared.log.Line.{Line}
 use Rattle.proof_log.specs.declared.log.Line.TheVariants.{End}
-use Rattle.elim_apply.specs.declared.moves.Move.{Move}
-use Rattle.elim_apply.specs.declared.moves.Replacement.{Replacement}
+use Rattle.geo_logs.specs.declared.moves.Move.{Move}
+use Rattle.geo_logs.specs.declared.moves.Replacement.{Replacement}
 use Rattle.geo_logs.specs.Chains.{ChainStep, moves, cuts, IsEnd, line_of}
 use Rattle.geo_poly.specs.Cuts.{IsCut}
-use Rattle.elim_apply.specs.Starts.{IsStarted}
+use Rattle.geo_logs.specs.Starts.{IsStarted}
 use Rattle.geo_logs.specs.Defined.{LeadsBySteps, NoCutDue}
 use Rattle.geo_logs.specs.Ends.{IsAfterPolynomial, IsStartStopped, Next, comes, stops}
-use Rattle.elim_apply.specs.Moves.{IsMoveStopped, IsMoved, Table, move_charge, replacement, Stop, spent, too_large}
+use Rattle.geo_logs.specs.Moves.{IsMoveStopped, IsMoved, Table, move_charge, replacement, Stop, spent, too_large}
 use Rattle.geo_logs.proofs.OneStep.{no_cut, no_move, one_cut, one_factor, one_move, one_result}
 
 -- TWO BEGINNINGS
@@ -76,7 +76,7 @@ module _ (table : Table) (c : Construction) (known : List Var) where
   -- a step that is due is the only one
   one_due : (left : ℕ) (q : Terms) (x y : ChainStep) (l l' : ℕ) (r r' : Terms) → LeadsBySteps table c known left q (x ∷ []) l r → LeadsBySteps table c known left q (y ∷ []) l' r' → x ≡ y
   one_due left q (moves m r) (moves n s) l l' e e' h g =
-      let move : n ≡ m = one_move c q n m g.1 h.1 in
+      let move : n ≡ m = one_move table c q n m g.1 h.1 in
       let result : s ≡ r = one_result table c left q s r m (subst (λ (x : Move). IsMoved (replacement table c x q) left q s) move g.2) h.2 in
       ap₂ moves (sym move) (sym result)
   one_due left q (moves m r) (cuts f s) l l' e e' h g = absurd (no_cut known q f h.0 g.0)
@@ -98,12 +98,12 @@ module _ (table : Table) (c : Construction) (known : List Var) where
 
   -- where a step is due, nothing is over, and nothing is stopped
   not_over : (left : ℕ) (q : Terms) (x : ChainStep) (l : ℕ) (r : Terms) → LeadsBySteps table c known left q (x ∷ []) l r → NoCutDue known q → IsEnd q → ⊥
-  not_over left q (moves m r) l e h none end = no_move c q m end h.1
+  not_over left q (moves m r) l e h none end = no_move table c q m end h.1
   not_over left q (cuts f r) l e h none end = no_cut known q f none h.0
 
   due_not_stopped : (left : ℕ) (q : Terms) (x : ChainStep) (l : ℕ) (r : Terms) (s : Stop) → LeadsBySteps table c known left q (x ∷ []) l r → IsAfterPolynomial table c known left q (stops s) → ⊥
   due_not_stopped left q (moves m r) l e s h (n, none, next, stopped) =
-      let move : n ≡ m = one_move c q n m next h.1 in
+      let move : n ≡ m = one_move table c q n m next h.1 in
       not_stopped (replacement table c m q) left q r s h.2 (subst (λ (x : Move). IsMoveStopped (replacement table c x q) left q s) move stopped)
   due_not_stopped left q (cuts f r) l e s h (n, none, next, stopped) = no_cut known q f none h.0
 
@@ -114,11 +114,11 @@ module _ (table : Table) (c : Construction) (known : List Var) where
   one_next left q (comes a) (comes b) (inr (none, end, e)) (inl (y, l', r', g, f)) = absurd (not_over left q y l' r' g none end)
   one_next left q (comes a) (comes b) (inr (none, end, e)) (inr (none', end', f)) = ap comes (e ∙ sym f)
   one_next left q (comes a) (stops s) (inl (x, l, r, h, e)) g = absurd (due_not_stopped left q x l r s h g)
-  one_next left q (comes a) (stops s) (inr (none, end, e)) (m, none', next, stopped) = absurd (no_move c q m end next)
+  one_next left q (comes a) (stops s) (inr (none, end, e)) (m, none', next, stopped) = absurd (no_move table c q m end next)
   one_next left q (stops s) (comes b) g (inl (x, l, r, h, e)) = absurd (due_not_stopped left q x l r s h g)
-  one_next left q (stops s) (comes b) (m, none', next, stopped) (inr (none, end, e)) = absurd (no_move c q m end next)
+  one_next left q (stops s) (comes b) (m, none', next, stopped) (inr (none, end, e)) = absurd (no_move table c q m end next)
   one_next left q (stops s) (stops s') (m, none, next, stopped) (m', none', next', stopped') =
-      let move : m' ≡ m = one_move c q m' m next' next in
+      let move : m' ≡ m = one_move table c q m' m next' next in
       ap stops (one_stop (replacement table c m q) left q s s' stopped (subst (λ (x : Move). IsMoveStopped (replacement table c x q) left q s') move stopped'))
 
   -- where a step is due, its line comes
@@ -142,7 +142,7 @@ module _ (table : Table) (c : Construction) (known : List Var) where
   compare_paths left q (moves a s ∷ xs) (cuts f t ∷ ys) l l' r r' n m h after g after' = absurd (no_cut known q f h.0 g.0)
   compare_paths left q (cuts f s ∷ xs) (moves a t ∷ ys) l l' r r' n m h after g after' = absurd (no_cut known q f g.0 h.0)
   compare_paths left q (moves a s ∷ xs) (moves b t ∷ ys) l l' r r' n m h after g after' =
-      let move : b ≡ a = one_move c q b a g.1 h.1 in
+      let move : b ≡ a = one_move table c q b a g.1 h.1 in
       let result : t ≡ s = one_result table c left q t s a (subst (λ (x : Move). IsMoved (replacement table c x q) left q t) move g.2) h.2 in
       let rest : ℕ = left - move_charge (replacement table c a q) q in
       let goes : LeadsBySteps table c known rest t ys l' r' = subst (λ (x : Move). LeadsBySteps table c known (left - move_charge (replacement table c x q) q) t ys l' r') move g.3 in
@@ -173,7 +173,7 @@ module _ (table : Table) (c : Construction) (known : List Var) where
   path_within left q (moves a s ∷ xs) (cuts f t ∷ ys) l l' r r' n rest h after g none end = absurd (no_cut known q f h.0 g.0)
   path_within left q (cuts f s ∷ xs) (moves a t ∷ ys) l l' r r' n rest h after g none end = absurd (no_cut known q f g.0 h.0)
   path_within left q (moves a s ∷ xs) (moves b t ∷ ys) l l' r r' n rest h after g none end =
-      let move : b ≡ a = one_move c q b a g.1 h.1 in
+      let move : b ≡ a = one_move table c q b a g.1 h.1 in
       let result : t ≡ s = one_result table c left q t s a (subst (λ (x : Move). IsMoved (replacement table c x q) left q t) move g.2) h.2 in
       let on : ℕ = left - move_charge (replacement table c a q) q in
       let goes : LeadsBySteps table c known on t ys l' r' = subst (λ (x : Move). LeadsBySteps table c known (left - move_charge (replacement table c x q) q) t ys l' r') move g.3 in

@@ -17,13 +17,12 @@ use Rattle.geo_poly.proofs.FactorLaws.{multiples-product}
 use Rattle.geo_poly.proofs.MonomialOrder.{exponent-product}
 use Rattle.geo_poly.proofs.Orders.{exponents_add, var_order}
 use Rattle.geo_terms.specs.Constructions.{Construction}
-use Rattle.elim_apply.specs.declared.moves.Move.{Move}
-use Rattle.elim_apply.specs.declared.moves.Move.TheVariants.{Ratio, Point, Coords}
+use Rattle.geo_logs.specs.declared.moves.Move.{Move}
+use Rattle.geo_logs.specs.declared.moves.Move.TheVariants.{Ratio, Point, Coords}
 use Rattle.geo_poly.specs.Cuts.{IsCut}
 use Rattle.geo_logs.specs.Chains.{IsEnd}
 use Rattle.geo_logs.specs.Defined.{HasFreePointsAlone, IsCutDue, IsFirstRatio, IsHighest, IsNextMove, NoCutDue, Occurs, has_point, named_point}
-use Rattle.elim_ratio.specs.RatioTable.{first_lemma}
-use Rattle.elim_apply.specs.Moves.{IsMoved, Table, replacement}
+use Rattle.geo_logs.specs.Moves.{IsMoved, Table, replacement}
 use Rattle.geo_poly.specs.PolynomialVariables.{IsPlain, IsQuantity, IsRatio, variables_of}
 use Rattle.geo_poly.proofs.EachVariable.{each-contained, each-variables}
 
@@ -99,11 +98,11 @@ no_quantity q v end stands = no_plain_quantity v (each-contained IsPlain (variab
 no_point : (q : Terms) (y : PointId) → IsEnd q → Occurs y q → ⊥
 no_point q y end (k, v, lt, at, test) = no_quantity q v end (k, lt, at) (quantity_with_point y v test)
 
-pub no_move : (c : Construction) (q : Terms) (move : Move) → IsEnd q → IsNextMove c q move → ⊥
-no_move c q (Ratio v lemma at) end (inl h) = no_point q h.0 end h.1.occurs
-no_move c q (Ratio v lemma at) end (inr h) = no_quantity q v end h.1.stands (ratio_is_quantity v h.1.ratio)
-no_move c q (Point y) end h = no_point q y end h.0.occurs
-no_move c q Coords end (free, none, (k, v, lt, at, quantity)) = no_quantity q v end (k, lt, at) quantity
+pub no_move : (table : Table) (c : Construction) (q : Terms) (move : Move) → IsEnd q → IsNextMove table c q move → ⊥
+no_move table c q (Ratio v lemma at) end (inl h) = no_point q h.0 end h.1.occurs
+no_move table c q (Ratio v lemma at) end (inr h) = no_quantity q v end h.1.stands (ratio_is_quantity v h.1.ratio)
+no_move table c q (Point y) end h = no_point q y end h.0.occurs
+no_move table c q Coords end (free, none, (k, v, lt, at, quantity)) = no_quantity q v end (k, lt, at) quantity
 
 -- THE NEXT MOVE IS THE ONLY ONE
 one_point : (y z : PointId) → y.0 ≡ z.0 → y ≡ z
@@ -126,33 +125,33 @@ one_first Fits q v w h k = go (var_cmp v w) refl
 same_ratio_move : (v w : Var) (l m : ℕ) (a b : PointId) → v ≡ w → l ≡ m → a ≡ b → Ratio v l a ≡ Ratio w m b
 same_ratio_move v w l m a b p q r = ap₂ (λ (x : Var) (f : ℕ × PointId). Ratio x f.0 f.1) p (λ i. (q i, r i))
 
-pub one_move : (c : Construction) (q : Terms) (m n : Move) → IsNextMove c q m → IsNextMove c q n → m ≡ n
-one_move c q (Ratio v l a) (Ratio w k b) (inl h) (inl g) =
+pub one_move : (table : Table) (c : Construction) (q : Terms) (m n : Move) → IsNextMove table c q m → IsNextMove table c q n → m ≡ n
+one_move table c q (Ratio v l a) (Ratio w k b) (inl h) (inl g) =
     let point : h.0 ≡ g.0 = one_highest c h.0 g.0 q h.1 g.1 in
     let first : IsFirstRatio (λ u. IsTrue (has_point h.0 u)) q w = subst (λ (y : PointId). IsFirstRatio (λ u. IsTrue (has_point y u)) q w) (sym point) g.2 in
     let var : v ≡ w = one_first (λ u. IsTrue (has_point h.0 u)) q v w h.2 first in
-    let lemma : l ≡ k = h.3 ∙ ap₂ (first_lemma c) point var ∙ sym g.3 in
+    let lemma : l ≡ k = h.3 ∙ ap₂ (table.first_lemma c) point var ∙ sym g.3 in
     same_ratio_move v w l k a b var lemma (h.4 ∙ ap₂ named_point lemma point ∙ sym g.4)
-one_move c q (Ratio v l a) (Ratio w k b) (inl h) (inr g) = not_both_free c h.0 q h.1 g.0
-one_move c q (Ratio v l a) (Ratio w k b) (inr h) (inl g) = not_both_free c g.0 q g.1 h.0
-one_move c q (Ratio v l a) (Ratio w k b) (inr h) (inr g) =
+one_move table c q (Ratio v l a) (Ratio w k b) (inl h) (inr g) = not_both_free c h.0 q h.1 g.0
+one_move table c q (Ratio v l a) (Ratio w k b) (inr h) (inl g) = not_both_free c g.0 q g.1 h.0
+one_move table c q (Ratio v l a) (Ratio w k b) (inr h) (inr g) =
     same_ratio_move v w l k a b (one_first (λ u. Unit {0}) q v w h.1 g.1) (h.2 ∙ sym g.2) (h.3 ∙ sym g.3)
-one_move c q (Ratio v l a) (Point y) (inl h) g =
+one_move table c q (Ratio v l a) (Point y) (inl h) g =
     let point : h.0 ≡ y = one_highest c h.0 y q h.1 g.0 in
     absurd (g.1 v h.2.stands h.2.ratio (subst (λ (z : PointId). IsTrue (has_point z v)) point h.2.fits))
-one_move c q (Ratio v l a) (Point y) (inr h) g = not_both_free c y q g.0 h.0
-one_move c q (Ratio v l a) Coords (inl h) g = not_both_free c h.0 q h.1 g.0
-one_move c q (Ratio v l a) Coords (inr h) g = absurd (g.1 v h.1.stands h.1.ratio)
-one_move c q (Point y) (Ratio w k b) h (inl g) =
+one_move table c q (Ratio v l a) (Point y) (inr h) g = not_both_free c y q g.0 h.0
+one_move table c q (Ratio v l a) Coords (inl h) g = not_both_free c h.0 q h.1 g.0
+one_move table c q (Ratio v l a) Coords (inr h) g = absurd (g.1 v h.1.stands h.1.ratio)
+one_move table c q (Point y) (Ratio w k b) h (inl g) =
     let point : g.0 ≡ y = one_highest c g.0 y q g.1 h.0 in
     absurd (h.1 w g.2.stands g.2.ratio (subst (λ (z : PointId). IsTrue (has_point z w)) point g.2.fits))
-one_move c q (Point y) (Ratio w k b) h (inr g) = not_both_free c y q h.0 g.0
-one_move c q (Point y) (Point z) h g = ap Point (one_highest c y z q h.0 g.0)
-one_move c q (Point y) Coords h g = not_both_free c y q h.0 g.0
-one_move c q Coords (Ratio w k b) h (inl g) = not_both_free c g.0 q g.1 h.0
-one_move c q Coords (Ratio w k b) h (inr g) = absurd (h.1 w g.1.stands g.1.ratio)
-one_move c q Coords (Point z) h g = not_both_free c z q g.0 h.0
-one_move c q Coords Coords h g = refl
+one_move table c q (Point y) (Ratio w k b) h (inr g) = not_both_free c y q h.0 g.0
+one_move table c q (Point y) (Point z) h g = ap Point (one_highest c y z q h.0 g.0)
+one_move table c q (Point y) Coords h g = not_both_free c y q h.0 g.0
+one_move table c q Coords (Ratio w k b) h (inl g) = not_both_free c g.0 q g.1 h.0
+one_move table c q Coords (Ratio w k b) h (inr g) = absurd (h.1 w g.1.stands g.1.ratio)
+one_move table c q Coords (Point z) h g = not_both_free c z q g.0 h.0
+one_move table c q Coords Coords h g = refl
 
 -- a move has one result
 pub one_result : (table : Table) (c : Construction) (left : ℕ) (q r s : Terms) (move : Move) → IsMoved (replacement table c move q) left q r → IsMoved (replacement table c move q) left q s → r ≡ s

@@ -29,11 +29,11 @@ use Rattle.geo_poly.specs.Values.{integer, monomial_value, value}
 use Rattle.geo_terms.specs.Constructions.{Construction}
 use Rattle.geo_logs.specs.Chains.{IsEnd}
 use Rattle.geo_logs.specs.Placements.{HasValuesBelow}
-use Rattle.elim_apply.specs.Naming.{IsNamed}
+use Rattle.geo_logs.specs.Naming.{IsNamed}
 use Rattle.geo_logs.specs.Samples.{sample_variables, value_in}
 use Rattle.geo_poly.specs.PolynomialVariables.{AllVariables, IsPlain}
 use Rattle.geo_poly.proofs.EachVariable.{of-both}
-use Rattle.elim_apply.proofs.MoveValues.{IsApart, apart, at_placement, at_variable}
+use Rattle.geo_logs.proofs.MoveValues.{IsApart, apart, at_placement, at_variable}
 use Rattle.geo_logs.proofs.SampleVariables.{IsDistinct, own_values, plain_contained, sample_distinct}
 
 -- WHOLE NUMBERS AS FRACTIONS

@@ -14,7 +14,7 @@ use Rattle.geo_terms.specs.declared.steps.Step.{Step}
 use Rattle.geo_terms.specs.declared.steps.Step.TheVariants.{Point, Inter, Foot, Pratio, Tratio}
 use Rattle.geo_terms.specs.Constructions.{Construction}
 use Rattle.fraction_poly.proofs.PolynomialValues.{self}
-use Rattle.elim_apply.specs.Naming.{IsNamed}
+use Rattle.geo_logs.specs.Naming.{IsNamed}
 use Rattle.geo_logs.specs.Samples.{coordinates_from, parameters_from, sample_variables, value_in}
 use Rattle.geo_poly.specs.PolynomialVariables.{IsPlain}
 use Rattle.geo_poly.proofs.EachVariable.{EachIn}

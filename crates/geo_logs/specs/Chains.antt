@@ -2,16 +2,16 @@
 use Rattle.std.specs.Prelude.{◌≡◌, ℕ, ◌-◌, ℤ, List, [], ◌∷◌, ◌++◌, map}
 use Rattle.geo_poly.specs.declared.variables.Var.{Var}
 use Rattle.geo_poly.specs.Cuts.{IsCut}
-use Rattle.elim_apply.specs.Starts.{IsStarted, start_charge, start_of}
+use Rattle.geo_logs.specs.Starts.{IsStarted, start_charge, start_of}
 use Rattle.geo_poly.specs.Monomials.{Powers}
 use Rattle.geo_poly.specs.Polynomials.{Terms}
 use Rattle.geo_terms.specs.Constructions.{Construction}
 use Rattle.geo_terms.specs.Trees.{Tree}
 use Rattle.proof_log.specs.declared.log.Line.{Line}
 use Rattle.proof_log.specs.declared.log.Line.TheVariants.{Start, Ratio as RatioLine, Point as PointLine, Coords as CoordsLine, Cut, End}
-use Rattle.elim_apply.specs.declared.moves.Move.{Move}
-use Rattle.elim_apply.specs.declared.moves.Move.TheVariants.{Ratio, Point, Coords}
-use Rattle.elim_apply.specs.Moves.{Table, IsMoved, move_charge, place_of_lemma, replacement}
+use Rattle.geo_logs.specs.declared.moves.Move.{Move}
+use Rattle.geo_logs.specs.declared.moves.Move.TheVariants.{Ratio, Point, Coords}
+use Rattle.geo_logs.specs.Moves.{Table, IsMoved, move_charge, place_of_lemma, replacement}
 use Rattle.geo_poly.specs.PolynomialVariables.{AllVariables, IsPlain}
 
 -- THE STEPS OF A CHAIN

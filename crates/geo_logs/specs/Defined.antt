@@ -14,14 +14,13 @@ use Rattle.geo_terms.specs.Constructions.{Construction}
 use Rattle.geo_terms.specs.Trees.{Tree}
 use Rattle.proof_log.specs.declared.log.Line.{Line}
 use Rattle.proof_log.specs.declared.log.Verdict.{Verdict}
-use Rattle.elim_ratio.specs.RatioTable.{first_lemma}
-use Rattle.elim_apply.specs.declared.moves.Move.{Move}
-use Rattle.elim_apply.specs.declared.moves.Move.TheVariants.{Ratio, Point, Coords}
+use Rattle.geo_logs.specs.declared.moves.Move.{Move}
+use Rattle.geo_logs.specs.declared.moves.Move.TheVariants.{Ratio, Point, Coords}
 use Rattle.geo_logs.specs.Chains.{Chain, ChainStep, moves, cuts, IsEnd}
 use Rattle.geo_poly.specs.Cuts.{IsCut}
-use Rattle.elim_apply.specs.Starts.{IsStarted, start_charge, start_of}
+use Rattle.geo_logs.specs.Starts.{IsStarted, start_charge, start_of}
 use Rattle.geo_logs.specs.Logs.{Subject, IsLog}
-use Rattle.elim_apply.specs.Moves.{Table, IsMoved, move_charge, replacement}
+use Rattle.geo_logs.specs.Moves.{Table, IsMoved, move_charge, replacement}
 use Rattle.geo_logs.specs.Samples.{IsLeastSample}
 use Rattle.geo_poly.specs.PolynomialVariables.{IsQuantity, IsRatio, variables_of}
 
@@ -79,13 +78,13 @@ named_point (suc k) y = y
 
 -- the one move that the prover makes on q: the highest constructed point goes, ratio by ratio, and then all its areas and Pythagoras
 -- differences; without constructed points the ratios go, and then the rest
-abbrev pub IsNextMove : Construction → Terms → Move → Type 0
-IsNextMove c q (Ratio v lemma at) =
-    ((y : PointId) × IsHighest c y q × IsFirstRatio (λ w. IsTrue (has_point y w)) q v × (lemma ≡ first_lemma c y v)
+abbrev pub IsNextMove : Table → Construction → Terms → Move → Type 0
+IsNextMove table c q (Ratio v lemma at) =
+    ((y : PointId) × IsHighest c y q × IsFirstRatio (λ w. IsTrue (has_point y w)) q v × (lemma ≡ table.first_lemma c y v)
     × (at ≡ named_point lemma y))
     ⊎ (HasFreePointsAlone c q × IsFirstRatio (λ w. Unit {0}) q v × (lemma ≡ 0) × (at ≡ named_point 0 at))
-IsNextMove c q (Point y) = IsHighest c y q × HasNoRatioWith y q
-IsNextMove c q Coords = HasFreePointsAlone c q × HasNoRatio q × Any IsQuantity (variables_of q)
+IsNextMove table c q (Point y) = IsHighest c y q × HasNoRatioWith y q
+IsNextMove table c q Coords = HasFreePointsAlone c q × HasNoRatio q × Any IsQuantity (variables_of q)
 
 -- CHAINS
 -- no cut is due: q is 0, or its factor is 1
@@ -102,7 +101,7 @@ pub record IsCutDue (known : List Var) (q : Terms) (f : Powers × ℤ) : Type 0 
 abbrev pub LeadsBySteps : Table → Construction → List Var → ℕ → Terms → List ChainStep → ℕ → Terms → Type 0
 LeadsBySteps table c known left q [] left' e = (left ≡ left') × (q ≡ e)
 LeadsBySteps table c known left q (moves move r ∷ steps) left' e =
-    NoCutDue known q × IsNextMove c q move × IsMoved (replacement table c move q) left q r
+    NoCutDue known q × IsNextMove table c q move × IsMoved (replacement table c move q) left q r
     × LeadsBySteps table c known (left - move_charge (replacement table c move q) q) r steps left' e
 LeadsBySteps table c known left q (cuts f r ∷ steps) left' e =
     IsCutDue known q f × IsCut known f q r × LeadsBySteps table c known left r steps left' e

@@ -9,13 +9,13 @@ use Rattle.fraction_poly.specs.Measures.{numbers_of}
 use Rattle.proof_log.specs.declared.log.Line.{Line}
 use Rattle.proof_log.specs.declared.log.Line.TheVariants.{Start, End, Sample, StopTooLarge, StopSpent}
 use Rattle.proof_log.specs.declared.log.Verdict.{Verdict}
-use Rattle.elim_apply.specs.declared.moves.Move.{Move}
+use Rattle.geo_logs.specs.declared.moves.Move.{Move}
 use Rattle.geo_logs.specs.Chains.{ChainStep, IsEnd, line_of}
-use Rattle.elim_apply.specs.Starts.{IsStarted, start_charge, start_of}
+use Rattle.geo_logs.specs.Starts.{IsStarted, start_charge, start_of}
 use Rattle.geo_logs.specs.Defined.{IsDefinedChain, IsLogOfProver, IsNextMove, LeadsBySteps, NoCutDue}
 use Rattle.proof_log.specs.Lines.{log_text}
 use Rattle.geo_logs.specs.Logs.{Subject}
-use Rattle.elim_apply.specs.Moves.{IsMoveStopped, Table, replacement, Stop, spent, too_large}
+use Rattle.geo_logs.specs.Moves.{IsMoveStopped, Table, replacement, Stop, spent, too_large}
 use Rattle.geo_logs.specs.Places.{Place, IsBegun, before_line, before_sample, before_start, in_chain}
 use Rattle.geo_logs.specs.Samples.{IsLeastSample, IsSearchStopped}
 
@@ -43,7 +43,7 @@ IsAfterPolynomial table c known left q (comes line) =
     ((step : ChainStep) × (left' : ℕ) × (r : Terms) × LeadsBySteps table c known left q (step ∷ []) left' r × (line ≡ line_of step))
     ⊎ (NoCutDue known q × IsEnd q × (line ≡ End))
 IsAfterPolynomial table c known left q (stops stop) =
-    (move : Move) × NoCutDue known q × IsNextMove c q move × IsMoveStopped (replacement table c move q) left q stop
+    (move : Move) × NoCutDue known q × IsNextMove table c q move × IsMoveStopped (replacement table c move q) left q stop
 
 -- what comes where the sample is due
 abbrev pub IsAtSample : Construction → List Terms → ℕ → Next → Type 0

@@ -12,9 +12,9 @@ use Rattle.geo_terms.specs.Constructions.{Construction}
 use Rattle.proof_log.specs.declared.log.Line.{Line}
 use Rattle.proof_log.specs.declared.log.Line.TheVariants.{Header, Program, Condition, Goal, Start, Ratio, Point, Coords, Cut, End, Sample, Verdict as VerdictLine, StopTooLarge, StopSpent}
 use Rattle.proof_log.specs.declared.log.Verdict.{Verdict}
-use Rattle.elim_apply.specs.declared.moves.Move.{Move}
-use Rattle.elim_apply.specs.Moves.{IsMoveStopped, Stop, Table, replacement}
-use Rattle.elim_apply.specs.Starts.{IsStarted, start_of}
+use Rattle.geo_logs.specs.declared.moves.Move.{Move}
+use Rattle.geo_logs.specs.Moves.{IsMoveStopped, Stop, Table, replacement}
+use Rattle.geo_logs.specs.Starts.{IsStarted, start_of}
 use Rattle.geo_logs.specs.Chains.{IsAcceptedChain, IsEnd, LeadsTo, line_of, moves}
 use Rattle.geo_logs.specs.Ends.{IsStartStopped}
 use Rattle.geo_logs.specs.Logs.{AreConditionsWorked, Subject}

@@ -14,12 +14,12 @@ use Rattle.geo_logs.specs.Chains.{ChainStep, moves, cuts, LeadsTo}
 use Rattle.geo_logs.specs.Defined.{IsLogOfProver}
 use Rattle.geo_logs.specs.Ends.{Ending, IsDefinedLog}
 use Rattle.geo_logs.specs.Logs.{IsAccepted, Item, Subject}
-use Rattle.elim_apply.specs.Moves.{Table, place_of}
+use Rattle.geo_logs.specs.Moves.{Table, place_of}
 use Rattle.geo_logs.specs.Placements.{HasValuesBelow, HoldsAsCondition, MeetsStepsBelow}
-use Rattle.elim_apply.specs.Naming.{IsNamed, IsPlaceBelow}
+use Rattle.geo_logs.specs.Naming.{IsNamed, IsPlaceBelow}
 use Rattle.geo_terms.specs.TermBounds.{IsTermBelow}
 use Rattle.geo_logs.specs.Samples.{sample_variables}
-use Rattle.elim_apply.specs.Sound.{IsSoundTable, IsSoundTerm}
+use Rattle.geo_logs.specs.Sound.{IsSoundTable, IsSoundTerm}
 use Rattle.geo_poly.specs.PolynomialVariables.{AllVariables}
 
 -- THE UNIVERSAL HALF

@@ -1,3 +1,7 @@
+pub mod Moves
+pub mod Naming
+pub mod Starts
+pub mod Sound
 pub mod Chains
 pub mod Samples
 pub mod Logs
@@ -7,4 +11,3 @@ pub mod Ends
 pub mod Judging
 pub mod Placements
 pub mod Laws
-pub mod Shown

@@ -11,8 +11,8 @@ use Rattle.proof_log.specs.declared.log.Line.TheVariants.{Header, Program as Pro
 use Rattle.proof_log.specs.declared.log.Verdict.{Verdict}
 use Rattle.proof_log.specs.declared.log.Verdict.TheVariants.{Proved, False, Impossible}
 use Rattle.geo_logs.specs.Chains.{Chain, IsAcceptedChain, chain_lines}
-use Rattle.elim_apply.specs.Starts.{start_of}
-use Rattle.elim_apply.specs.Moves.{Table}
+use Rattle.geo_logs.specs.Starts.{start_of}
+use Rattle.geo_logs.specs.Moves.{Table}
 use Rattle.geo_logs.specs.Samples.{IsAcceptedSample}
 
 -- WHAT A LOG IS ABOUT

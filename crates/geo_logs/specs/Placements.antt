@@ -11,7 +11,7 @@ use Rattle.geo_terms.specs.declared.steps.Step.{Step}
 use Rattle.geo_terms.specs.Constructions.{Construction, IsStepMet}
 use Rattle.geo_terms.specs.Trees.{Tree}
 use Rattle.geo_terms.specs.Values.{HasTreeValue, tree_value}
-use Rattle.elim_apply.specs.Naming.{IsFree}
+use Rattle.geo_logs.specs.Naming.{IsFree}
 use Rattle.geo_logs.specs.Samples.{value_in}
 
 -- VALUES

@@ -8,7 +8,7 @@ use Rattle.proof_log.specs.declared.log.Line.TheVariants.{Header, Program as Pro
 use Rattle.proof_log.specs.declared.log.Verdict.{Verdict}
 use Rattle.proof_log.specs.declared.log.Verdict.TheVariants.{Proved, False, Impossible}
 use Rattle.geo_logs.specs.Chains.{ChainStep, line_of}
-use Rattle.elim_apply.specs.Starts.{IsStarted, start_charge, start_of}
+use Rattle.geo_logs.specs.Starts.{IsStarted, start_charge, start_of}
 use Rattle.geo_logs.specs.Logs.{BeginsWithChain, Chains, Item, Samples, Subject, known_by}
 
 -- what is due next

@@ -14,7 +14,7 @@ use Rattle.geo_sample.specs.Tries.{AreMade, EndIn, search_tries, single_tries}
 use Rattle.geo_terms.specs.declared.steps.Step.{Step}
 use Rattle.geo_terms.specs.declared.steps.Step.TheVariants.{Point}
 use Rattle.geo_terms.specs.Constructions.{Construction}
-use Rattle.elim_apply.specs.Moves.{Stop, spent, too_large}
+use Rattle.geo_logs.specs.Moves.{Stop, spent, too_large}
 
 -- THE VARIABLES
 -- the coordinates of each free point, where the steps make the points k, k + 1 and so on

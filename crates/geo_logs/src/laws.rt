@@ -1,6 +1,5 @@
 //! What is proved of logs. The functions do nothing: what each says is its contract.
 
-ghost use Rattle.geo_logs.specs.Shown.{AcceptedLogsAreTrue};
 ghost use Rattle.geo_logs.specs.Laws.{AcceptedGoalsAreZero, AcceptedSampleRealises};
 ghost use Rattle.geo_logs.specs.Laws.{ChainsNameNoLater, ChargesAreSpent, DefinedLogIsUnique};
 ghost use Rattle.geo_logs.specs.Laws.{ImpossibleIsNeverMet, ProversLogIsAccepted};
@@ -49,9 +48,4 @@ pub fn chains_name_no_later()
 /// An accepted log leaves no more steps than were given.
 pub fn charges_are_spent()
     ensures { ChargesAreSpent }
-{}
-
-/// An accepted log over the lemma table shows its verdict, of every construction.
-pub fn accepted_logs_are_true()
-    ensures { AcceptedLogsAreTrue }
 {}

@@ -3,3 +3,6 @@
 #![tactic(auto)]
 
 pub mod laws;
+mod moves;
+
+pub use moves::{Move, Replacement, RowList};

@@ -15,12 +15,12 @@ use Rattle.geo_program.specs.Forms.{IsStored}
 use Rattle.geo_program.specs.WellFormed.{AreCommands, IsWellFormed, Scope, Source, declare, empty_scope}
 use Rattle.geo_lowering.specs.declared.step_numbers.Fractions.{Fractions}
 use Rattle.geo_lowering.specs.Counting.{counted, named, next_point, next_number, numbers_from, numbers_had, points_past}
-use Rattle.geo_lowering.specs.Growing.{HasMore, KeepsTerms}
+use Rattle.geo_lowering.specs.Inner.Growing.{HasMore, KeepsTerms}
 use Rattle.geo_lowering.specs.Lowering.{Layout, command_steps, layout_of, steps_from}
-use Rattle.geo_lowering.specs.Renaming.{AreRenamed, item_at}
+use Rattle.geo_lowering.specs.Inner.Renaming.{AreRenamed, item_at}
 use Rattle.geo_lowering.specs.StepForms.{StepForm, along, turned_along, step_form}
-use Rattle.geo_lowering.specs.StepLists.{AreStepsFrom, HasStoredNumber, HaveForms}
-use Rattle.geo_lowering.specs.StepNumbers.{AreFractions, IsTerm}
+use Rattle.geo_lowering.specs.Inner.StepLists.{AreStepsFrom, HasStoredNumber, HaveForms}
+use Rattle.geo_lowering.specs.Inner.StepNumbers.{AreFractions, IsTerm}
 use Rattle.geo_lowering.proofs.Bounds.{Bounds, bounds_next, command_over, numbers_from-up, past_steps}
 use Rattle.geo_lowering.proofs.Exists.{points_past-up}
 use Rattle.geo_lowering.proofs.FormLaws.{AreFormsOver, past}

@@ -14,8 +14,8 @@ use Rattle.geo_terms.specs.Stores.{Store, HasChildrenBelow, HasShortInteger, IsS
 use Rattle.geo_terms.specs.Trees.{Tree, integer_leaf, parameter_leaf, area_leaf, pythagoras_leaf, ratio_leaf, negation, addition, subtraction, multiplication, division}
 use Rattle.geo_terms.proofs.Interning.{IsInterned, interned, known, added, IsStore-interned, longer-interned, one_more-interned, others-interned, tree_of-interned}
 use Rattle.geo_lowering.specs.StepForms.{StepForm, free, crossing_of, foot_of, along, turned_along}
-use Rattle.geo_lowering.specs.StepLists.{AreStepsFrom, HaveForms}
-use Rattle.geo_lowering.specs.StepNumbers.{IsTerm}
+use Rattle.geo_lowering.specs.Inner.StepLists.{AreStepsFrom, HaveForms}
+use Rattle.geo_lowering.specs.Inner.StepNumbers.{IsTerm}
 
 -- the derived `==` is equality
 same : (x y : Node) → (eq-value).it x y ≡ true → x ≡ y

@@ -8,7 +8,4 @@ pub mod Lowering
 pub mod Building
 pub mod Laws
 pub mod Parts
-pub mod Renaming
-pub mod StepNumbers
-pub mod StepLists
-pub mod Growing
+pub mod Inner

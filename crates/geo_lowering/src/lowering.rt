@@ -6,9 +6,9 @@ ghost use Rattle.geo_terms.specs.Constructions.{IsConstruction};
 ghost use Rattle.geo_lowering.specs.Counting.{numbers_had, points_past};
 ghost use Rattle.geo_lowering.specs.Lowering.{IsLowered, layout_of, steps_of};
 ghost use Rattle.geo_lowering.specs.Parts.{form_of, layout_at};
-ghost use Rattle.geo_lowering.specs.Renaming.{AreRenamed};
+ghost use Rattle.geo_lowering.specs.Inner.Renaming.{AreRenamed};
 ghost use Rattle.geo_lowering.specs.StepForms.{step_form};
-ghost use Rattle.geo_lowering.specs.StepNumbers.{AreFractions};
+ghost use Rattle.geo_lowering.specs.Inner.StepNumbers.{AreFractions};
 
 use crate::layouts::Places;
 use crate::lists::{After, Lines, Params, Points};

@@ -1,9 +1,9 @@
 //! Steps that are pushed together.
 
 ghost use Rattle.std.specs.Prelude.{◌≡◌, ◌≤◌, ◌+◌, OnOk, length, map};
-ghost use Rattle.geo_lowering.specs.Growing.{HasMore};
+ghost use Rattle.geo_lowering.specs.Inner.Growing.{HasMore};
 ghost use Rattle.geo_lowering.specs.StepForms.{step_form};
-ghost use Rattle.geo_lowering.specs.StepLists.{AreStepsFrom};
+ghost use Rattle.geo_lowering.specs.Inner.StepLists.{AreStepsFrom};
 
 use geo_points::NoMemory;
 use geo_terms::{Step, Steps};

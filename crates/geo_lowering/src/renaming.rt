@@ -3,7 +3,7 @@
 ghost use Rattle.std.specs.Prelude.{◌≡◌, ◌<◌, IfOk, length};
 ghost use Rattle.geo_terms.specs.Stores.{HasChildrenBelow};
 ghost use Rattle.geo_lowering.specs.Parts.{layout_at};
-ghost use Rattle.geo_lowering.specs.Renaming.{AreRenamed, renamed_node};
+ghost use Rattle.geo_lowering.specs.Inner.Renaming.{AreRenamed, renamed_node};
 
 use crate::layouts::Places;
 use geo_points::{NoMemory, TermId};

@@ -6,8 +6,8 @@ ghost use Rattle.geo_terms.specs.Trees.{Tree};
 ghost use Rattle.geo_lowering.specs.Lowering.{command_steps, half_tree, one_tree, two_thirds_tree};
 ghost use Rattle.geo_lowering.specs.Parts.{layout_at};
 ghost use Rattle.geo_lowering.specs.StepForms.{along as along_form, crossing_of, foot_of, turned_along};
-ghost use Rattle.geo_lowering.specs.StepLists.{HaveForms};
-ghost use Rattle.geo_lowering.specs.StepNumbers.{AreFractions, IsTerm, own_number};
+ghost use Rattle.geo_lowering.specs.Inner.StepLists.{HaveForms};
+ghost use Rattle.geo_lowering.specs.Inner.StepNumbers.{AreFractions, IsTerm, own_number};
 
 use crate::layouts::Places;
 use crate::step_numbers::Fractions;

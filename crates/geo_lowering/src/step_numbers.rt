@@ -4,11 +4,11 @@ ghost use Rattle.std.specs.Prelude.{◌≡◌, ◌<◌, [], IfOk, OnOk, length};
 ghost use Rattle.geo_terms.specs.Stores.{HasChildrenBelow, HasShortInteger, Store, node_tree, trees_of};
 ghost use Rattle.geo_program.specs.Forms.{IsStored};
 ghost use Rattle.geo_lowering.specs.Counting.{next_number};
-ghost use Rattle.geo_lowering.specs.Growing.{KeepsTerms};
+ghost use Rattle.geo_lowering.specs.Inner.Growing.{KeepsTerms};
 ghost use Rattle.geo_lowering.specs.Lowering.{one_tree};
 ghost use Rattle.geo_lowering.specs.Parts.{layout_at};
-ghost use Rattle.geo_lowering.specs.Renaming.{AreRenamed, item_at};
-ghost use Rattle.geo_lowering.specs.StepNumbers.{AreFractions, IsTerm, own_number};
+ghost use Rattle.geo_lowering.specs.Inner.Renaming.{AreRenamed, item_at};
+ghost use Rattle.geo_lowering.specs.Inner.StepNumbers.{AreFractions, IsTerm, own_number};
 ghost use Rattle.geo_terms.specs.Trees.{division};
 
 use crate::layouts::Places;

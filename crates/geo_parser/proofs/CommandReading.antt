@@ -14,12 +14,12 @@ use Rattle.geo_program.specs.declared.names.Name.{Name}
 use Rattle.geo_program.specs.declared.names.NameKind.{NameKind}
 use Rattle.geo_parser.specs.declared.command_words.CommandWord.{CommandWord}
 use Rattle.geo_parser.specs.declared.reader.Reader.{Reader}
-use Rattle.geo_parser.specs.Coming.{Coming, fault_from, fault_here, lexemes_of, next_lexeme}
-use Rattle.geo_parser.specs.CommandWords.{command_due, command_kind, command_points, command_slots, command_text}
-use Rattle.geo_parser.specs.Dictionaries.{IsNew, IsNoNewName}
+use Rattle.geo_parser.specs.Inner.Coming.{Coming, fault_from, fault_here, lexemes_of, next_lexeme}
+use Rattle.geo_parser.specs.Inner.CommandWords.{command_due, command_kind, command_points, command_slots, command_text}
+use Rattle.geo_parser.specs.Inner.Dictionaries.{IsNew, IsNoNewName}
 use Rattle.geo_parser.specs.Forms.{Slot, command_slot, commands, due_behind, new_name_slot}
-use Rattle.geo_parser.specs.Pieces.{IsWord}
-use Rattle.geo_parser.specs.Reads.{Passes, ReadsCommand, ReadsForm, ReadsNewName, ReadsProve, ReadsWord, Refuses, a_name, extent, fault_of, reading, statement_slots}
+use Rattle.geo_parser.specs.Inner.Pieces.{IsWord}
+use Rattle.geo_parser.specs.Inner.Reads.{Passes, ReadsCommand, ReadsForm, ReadsNewName, ReadsProve, ReadsWord, Refuses, a_name, extent, fault_of, reading, statement_slots}
 use Rattle.geo_parser.specs.Refusals.{fault_at, first_fault}
 use Rattle.geo_parser.specs.Slots.{Outcome, Reading, begin_command, completed, follow, next, refused, taken}
 use Rattle.geo_parser.specs.Texts.{is_text}

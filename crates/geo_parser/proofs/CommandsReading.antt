@@ -19,9 +19,9 @@ use Rattle.geo_program.proofs.Staying.{AreCommands-kept, KeepsTrees, command_lex
 use Rattle.geo_terms.specs.Stores.{Store}
 use Rattle.geo_parser.specs.declared.command_words.CommandWord.{CommandWord}
 use Rattle.geo_parser.specs.declared.reader.Reader.{Reader}
-use Rattle.geo_parser.specs.CommandWords.{command_kind, command_text}
-use Rattle.geo_parser.specs.Dictionaries.{name_of}
-use Rattle.geo_parser.specs.Reads.{Extends, Passes, ReadsCommand, ReadsCommands, ReadsWord, a_name}
+use Rattle.geo_parser.specs.Inner.CommandWords.{command_kind, command_text}
+use Rattle.geo_parser.specs.Inner.Dictionaries.{name_of}
+use Rattle.geo_parser.specs.Inner.Reads.{Extends, Passes, ReadsCommand, ReadsCommands, ReadsWord, a_name}
 use Rattle.geo_parser.specs.Texts.{is_text}
 use Rattle.geo_parser.proofs.CommandReading.{Passes-length}
 use Rattle.geo_parser.proofs.Finding.{is_text_self}

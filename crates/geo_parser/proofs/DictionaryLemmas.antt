@@ -18,7 +18,7 @@ use Rattle.geo_program.specs.Names.{is_kind, name_text, names_of}
 use Rattle.geo_program.proofs.NameLemmas.{is_kind_self, same_kind, name_text-append, name_text-push, names_of-append, names_of-push, names_of-push_other}
 use Rattle.geo_parser.specs.declared.dictionary.Counts.{Counts}
 use Rattle.geo_parser.specs.declared.dictionary.Meaning.{Meaning}
-use Rattle.geo_parser.specs.Dictionaries.{IsDictionary, IsMeant, IsMisused, IsNew, IsNoNewName, IsNumbered, Tells, count_of, counted, name_of}
+use Rattle.geo_parser.specs.Inner.Dictionaries.{IsDictionary, IsMeant, IsMisused, IsNew, IsNoNewName, IsNumbered, Tells, count_of, counted, name_of}
 use Rattle.geo_parser.specs.Slots.{is_reserved}
 use Rattle.geo_parser.specs.Texts.{is_text}
 use Rattle.geo_parser.proofs.Finding.{is_text_lem, is_text_self}

@@ -8,7 +8,7 @@ use Rattle.geo_program.specs.declared.statements.Statement.{Statement}
 use Rattle.geo_program.specs.declared.statements.Statement.TheVariants as statement
 use Rattle.geo_terms.specs.Stores.{Store}
 use Rattle.geo_parser.specs.Forms.{Slot, commands, due_behind, new_name_slot, sketch_slot, statements}
-use Rattle.geo_parser.specs.Reads.{argument_slots}
+use Rattle.geo_parser.specs.Inner.Reads.{argument_slots}
 use Rattle.geo_parser.specs.Texts.{is_text}
 
 -- the command is `point`

@@ -18,11 +18,11 @@ use Rattle.geo_terms.specs.declared.nodes.Node.TheVariants as node
 use Rattle.geo_parser.specs.declared.expression_words.ExpressionWord.{ExpressionWord}
 use Rattle.geo_parser.specs.declared.expression_words.ExpressionWord.TheVariants.{SignedArea, PythagorasDifference, Ratio, Neg, Sum, Sub, Mult, Div}
 use Rattle.geo_parser.specs.declared.reader.Reader.{Reader}
-use Rattle.geo_parser.specs.Coming.{next_lexeme}
+use Rattle.geo_parser.specs.Inner.Coming.{next_lexeme}
 use Rattle.geo_parser.specs.Forms.{Slot, due_behind, expression_slot, expressions, name_slot}
-use Rattle.geo_parser.specs.Reads.{Reads, ReadsArguments, ReadsFormed, ReadsName, ReadsNode, Refuses, reading, scope, tree_of_node}
+use Rattle.geo_parser.specs.Inner.Reads.{Reads, ReadsArguments, ReadsFormed, ReadsName, ReadsNode, Refuses, reading, scope, tree_of_node}
 use Rattle.geo_parser.specs.Slots.{Outcome, Reading, begin_expression, refused, taken, use_name}
-use Rattle.geo_parser.specs.StatementWords.{expression_due, expression_text}
+use Rattle.geo_parser.specs.Inner.StatementWords.{expression_due, expression_text}
 use Rattle.geo_parser.specs.Texts.{is_text}
 use Rattle.geo_parser.proofs.Finding.{same_text}
 use Rattle.geo_parser.proofs.Reading.{Reads-behind, Reads-other, Refuses-behind, Refuses-other, advanced, length-tail}

@@ -20,9 +20,9 @@ use Rattle.geo_terms.specs.Trees.{Tree, integer_leaf, parameter_leaf, area_leaf,
 use Rattle.geo_parser.specs.declared.expression_words.ExpressionWord.{ExpressionWord}
 use Rattle.geo_parser.specs.declared.expression_words.ExpressionWord.TheVariants.{SignedArea, PythagorasDifference, Ratio, Neg, Sum, Sub, Mult, Div}
 use Rattle.geo_parser.specs.Forms.{a_point, close_slot, due_behind, expression_slot, expressions, name_slot, open_slot}
-use Rattle.geo_parser.specs.Reads.{argument_slots}
+use Rattle.geo_parser.specs.Inner.Reads.{argument_slots}
 use Rattle.geo_parser.specs.Slots.{Reading, refused, taken}
-use Rattle.geo_parser.specs.StatementWords.{expression_due, expression_text}
+use Rattle.geo_parser.specs.Inner.StatementWords.{expression_due, expression_text}
 use Rattle.geo_parser.proofs.ExpressionReading.{begin_expression-form, begin_expression-name}
 use Rattle.geo_parser.proofs.Known.{known}
 use Rattle.geo_parser.proofs.NameUses.{use_name-known}

@@ -19,10 +19,10 @@ use Rattle.geo_terms.specs.Stores.{tree_of}
 use Rattle.geo_parser.specs.declared.command_words.CommandWord.{CommandWord}
 use Rattle.geo_parser.specs.declared.reader.Reader.{Reader}
 use Rattle.geo_parser.specs.declared.statement_words.StatementWord.{StatementWord}
-use Rattle.geo_parser.specs.CommandWords.{command_kind, command_points, command_slots, command_text}
+use Rattle.geo_parser.specs.Inner.CommandWords.{command_kind, command_points, command_slots, command_text}
 use Rattle.geo_parser.specs.Forms.{Slot, a_number, close_slot, end_slot, open_slot, side, statement_slot}
-use Rattle.geo_parser.specs.Reads.{Reads, ReadsArguments, ReadsExpression, ReadsForm, ReadsPart, ReadsStated, ReadsStatement, ReadsStatementWord, Refuses, argument_slots, extent, scope, statement_slots}
-use Rattle.geo_parser.specs.StatementWords.{statement_due, statement_text}
+use Rattle.geo_parser.specs.Inner.Reads.{Reads, ReadsArguments, ReadsExpression, ReadsForm, ReadsPart, ReadsStated, ReadsStatement, ReadsStatementWord, Refuses, argument_slots, extent, scope, statement_slots}
+use Rattle.geo_parser.specs.Inner.StatementWords.{statement_due, statement_text}
 use Rattle.geo_parser.proofs.CommandReading.{Passes-length}
 use Rattle.geo_parser.proofs.CommandsReading.{KeepsTrees-extends}
 use Rattle.geo_parser.proofs.Reading.{Extends-same, Extends-then, Passes-then, Reads-then, Refuses-first, Refuses-then}

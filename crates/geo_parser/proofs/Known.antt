@@ -8,7 +8,7 @@ use Rattle.geo_program.specs.Words.{IsNameText, reserved_words}
 use Rattle.geo_program.specs.declared.names.Name.{Name}
 use Rattle.geo_program.specs.declared.names.NameKind.{NameKind}
 use Rattle.geo_program.specs.Names.{is_kind, name_text, names_of}
-use Rattle.geo_parser.specs.Dictionaries.{name_of}
+use Rattle.geo_parser.specs.Inner.Dictionaries.{name_of}
 use Rattle.geo_parser.specs.Slots.{is_reserved}
 use Rattle.geo_parser.specs.Texts.{is_text}
 use Rattle.geo_parser.proofs.Finding.{is_text_self, same_text}

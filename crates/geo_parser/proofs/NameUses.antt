@@ -4,7 +4,7 @@ use Rattle.std.specs.Prelude.{Option, if◌then◌else◌, nat_le}
 use Rattle.geo_program.specs.declared.names.Name.{Name}
 use Rattle.geo_program.specs.declared.names.NameKind.{NameKind}
 use Rattle.geo_program.specs.Names.{is_kind}
-use Rattle.geo_parser.specs.Dictionaries.{name_of}
+use Rattle.geo_parser.specs.Inner.Dictionaries.{name_of}
 use Rattle.geo_parser.specs.Forms.{Slot}
 use Rattle.geo_parser.specs.Slots.{Outcome, Reading, begin_name, declared_name, is_reserved, refused, taken, use_name}
 

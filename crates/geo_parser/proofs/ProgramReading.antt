@@ -22,9 +22,9 @@ use Rattle.geo_program.proofs.Lengths.{canonical_text_short, lexeme_size}
 use Rattle.geo_program.proofs.Pushing.{AreSketches-length, commands_lexemes-kept}
 use Rattle.geo_program.proofs.Staying.{AreCommands-kept}
 use Rattle.geo_parser.specs.declared.reader.Reader.{Reader}
-use Rattle.geo_parser.specs.Coming.{Coming, lexemes_of}
+use Rattle.geo_parser.specs.Inner.Coming.{Coming, lexemes_of}
 use Rattle.geo_parser.specs.Forms.{command_slot}
-use Rattle.geo_parser.specs.Reads.{Extends, Passes, ReadsAllCommands, ReadsStatement, Refuses, extent, fault_of, statement_slots}
+use Rattle.geo_parser.specs.Inner.Reads.{Extends, Passes, ReadsAllCommands, ReadsStatement, Refuses, extent, fault_of, statement_slots}
 use Rattle.geo_parser.specs.Refusals.{IsRefused, placed_lexemes}
 use Rattle.geo_parser.proofs.CommandReading.{Passes-length}
 use Rattle.geo_parser.proofs.CommandsReading.{KeepsTrees-extends, points_kept}

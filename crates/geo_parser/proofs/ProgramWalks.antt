@@ -20,9 +20,9 @@ use Rattle.geo_program.proofs.OnceNamed.{AllDiffer-front, All-front}
 use Rattle.geo_program.proofs.ScopeLemmas.{scope_of-push}
 use Rattle.geo_program.proofs.Staying.{command_lexemes-append}
 use Rattle.geo_terms.specs.Stores.{Store}
-use Rattle.geo_parser.specs.Dictionaries.{name_of}
+use Rattle.geo_parser.specs.Inner.Dictionaries.{name_of}
 use Rattle.geo_parser.specs.Forms.{Slot, close_slot, command_slot, end_slot, new_name_slot, sketch_slot, statement_slot}
-use Rattle.geo_parser.specs.Reads.{argument_slots, reading, statement_slots}
+use Rattle.geo_parser.specs.Inner.Reads.{argument_slots, reading, statement_slots}
 use Rattle.geo_parser.specs.Slots.{Reading, follow, taken}
 use Rattle.geo_parser.proofs.CommandReading.{begin_command-due, begin_command-prove}
 use Rattle.geo_parser.proofs.DueBehind.{command_due_behind, command_is_no_prove, is_point, last_slots, sketch_slots, slots_of, statement_due_behind}

@@ -18,10 +18,10 @@ use Rattle.geo_parser.specs.declared.cursor.Piece.{Piece}
 use Rattle.geo_parser.specs.declared.errors.ParseError.{ParseError}
 use Rattle.geo_parser.specs.declared.errors.ParseError.TheVariants.{Syntax}
 use Rattle.geo_parser.specs.declared.reader.Reader.{Reader}
-use Rattle.geo_parser.specs.Coming.{Coming, fault_here, lexemes_of, next_lexeme, tail}
+use Rattle.geo_parser.specs.Inner.Coming.{Coming, fault_here, lexemes_of, next_lexeme, tail}
 use Rattle.geo_parser.specs.Forms.{Slot}
-use Rattle.geo_parser.specs.Pieces.{IsPiece, piece_lexeme}
-use Rattle.geo_parser.specs.Reads.{Extends, Passes, Reads, ReadsArguments, ReadsName, Refuses, argument_slots, fault_of, reading, scope}
+use Rattle.geo_parser.specs.Inner.Pieces.{IsPiece, piece_lexeme}
+use Rattle.geo_parser.specs.Inner.Reads.{Extends, Passes, Reads, ReadsArguments, ReadsName, Refuses, argument_slots, fault_of, reading, scope}
 use Rattle.geo_parser.specs.Refusals.{fault_at, first_fault}
 use Rattle.geo_parser.specs.Slots.{Outcome, Reading, next, refused, taken}
 

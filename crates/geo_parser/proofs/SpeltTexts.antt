@@ -23,7 +23,7 @@ use Rattle.geo_parser.specs.Forms.{command_slot, end_slot}
 use Rattle.geo_parser.specs.Laws.{PrintedProgramsAreRead, RefusalsAreUnique, SpeltTextsAreNotRefused}
 use Rattle.geo_parser.specs.Refusals.{IsRefused, first_fault, placed_lexemes}
 use Rattle.geo_parser.specs.Slots.{Reading, beginning}
-use Rattle.geo_parser.specs.Reads.{reading}
+use Rattle.geo_parser.specs.Inner.Reads.{reading}
 use Rattle.geo_parser.proofs.ProgramReading.{lexemes-whole_text}
 use Rattle.geo_parser.proofs.ProgramWalks.{commands_go, statement_goes}
 use Rattle.geo_parser.proofs.Walks.{first_fault-walk, walk}

@@ -3,9 +3,4 @@ pub mod Forms
 pub mod Slots
 pub mod Refusals
 pub mod Laws
-pub mod Coming
-pub mod Pieces
-pub mod CommandWords
-pub mod StatementWords
-pub mod Dictionaries
-pub mod Reads
+pub mod Inner

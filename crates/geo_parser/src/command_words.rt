@@ -1,7 +1,7 @@
 //! The words that begin a command, by what stands behind the new name.
 
 ghost use Rattle.std.specs.Prelude.{◌≡◌, ◌<◌, ◌∷◌, [], IfSome, length, option_map};
-ghost use Rattle.geo_parser.specs.CommandWords.{command_due, command_kind, command_points, command_text, direction_points, direction_text, pair_kind, pair_points, pair_text, step_text, triple_points, triple_text};
+ghost use Rattle.geo_parser.specs.Inner.CommandWords.{command_due, command_kind, command_points, command_text, direction_points, direction_text, pair_kind, pair_points, pair_text, step_text, triple_points, triple_text};
 ghost use Rattle.geo_parser.specs.Forms.{commands, due_behind};
 ghost use Rattle.geo_program.specs.Forms.{IsStored, command_form, form, line_argument, number_argument, point_argument};
 ghost use Rattle.geo_program.specs.declared.names.NameKind.TheVariants as kind;

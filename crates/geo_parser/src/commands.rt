@@ -2,9 +2,9 @@
 
 ghost use Rattle.std.specs.Prelude.{◌≡◌, ◌+◌, ◌≤◌, ◌∷◌, [], IfOk, IfNone, IfSome, OnOk, Some, length};
 ghost use Rattle.geo_lexer.specs.declared.token_types.Fault.{Fault};
-ghost use Rattle.geo_parser.specs.CommandWords.{command_due, command_slots};
+ghost use Rattle.geo_parser.specs.Inner.CommandWords.{command_due, command_slots};
 ghost use Rattle.geo_parser.specs.Forms.{command_slot, new_name_slot, second_number_slot, sketch_slot};
-ghost use Rattle.geo_parser.specs.Reads.{ReadsAllCommands, ReadsCommand, ReadsForm, ReadsNewName, ReadsProve, ReadsSecond, ReadsSketch, ReadsWord, Refuses, extent, fault_of};
+ghost use Rattle.geo_parser.specs.Inner.Reads.{ReadsAllCommands, ReadsCommand, ReadsForm, ReadsNewName, ReadsProve, ReadsSecond, ReadsSketch, ReadsWord, Refuses, extent, fault_of};
 ghost use Rattle.geo_program.specs.declared.names.NameKind.{NameKind};
 
 use crate::command_words::CommandWord;

@@ -4,8 +4,8 @@ ghost use Rattle.std.specs.Prelude.{◌≡◌, ◌≤◌, ◌<◌, ◌^◌, ◌�
 ghost use Rattle.geo_base.specs.Decimals.{IsDecimal, decimal_size, decimal_value};
 ghost use Rattle.geo_lexer.specs.Lexemes.{lexeme_of};
 ghost use Rattle.geo_lexer.specs.Tokens.{IsTokenAt};
-ghost use Rattle.geo_parser.specs.Coming.{fault_here, next_lexeme, tail};
-ghost use Rattle.geo_parser.specs.Pieces.{IsPiece, piece_lexeme, refusal_number};
+ghost use Rattle.geo_parser.specs.Inner.Coming.{fault_here, next_lexeme, tail};
+ghost use Rattle.geo_parser.specs.Inner.Pieces.{IsPiece, piece_lexeme, refusal_number};
 ghost use Rattle.geo_parser.specs.Refusals.{placed_lexemes};
 
 use crate::errors::{ParseError, Refusal};
@@ -37,7 +37,7 @@ pub struct Cursor<'a> {
 impl<'a> Model for Cursor<'a> {
     ghost use Rattle.std.specs.Prelude.{◌≤◌, All, length};
     ghost use Rattle.geo_lexer.specs.Tokens.{IsTokenAt};
-    ghost use Rattle.geo_parser.specs.Coming.{Coming};
+    ghost use Rattle.geo_parser.specs.Inner.Coming.{Coming};
     ghost use Rattle.geo_parser.specs.Refusals.{placed_lexemes};
 
     ghost Value = { Coming };

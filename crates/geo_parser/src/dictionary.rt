@@ -1,8 +1,8 @@
 //! The names that are declared so far.
 
 ghost use Rattle.std.specs.Prelude.{◌≡◌, ◌<◌, ◌++◌, ◌∷◌, [], IfErr, IfOk, OnErr, OnOk, length};
-ghost use Rattle.geo_parser.specs.Dictionaries.{IsMisused, IsNew, IsNoNewName, IsNumbered, count_of, counted};
-ghost use Rattle.geo_parser.specs.Pieces.{refusal_number};
+ghost use Rattle.geo_parser.specs.Inner.Dictionaries.{IsMisused, IsNew, IsNoNewName, IsNumbered, count_of, counted};
+ghost use Rattle.geo_parser.specs.Inner.Pieces.{refusal_number};
 
 use crate::errors::Refusal;
 use crate::expression_words::is_reserved;
@@ -80,7 +80,7 @@ impl<'a> Model for Dictionary<'a> {
     ghost use Rattle.std.specs.Str.{bytes_eq};
     ghost use Rattle.indexmap.specs.IndexMap.{get_by};
     ghost use Rattle.geo_program.specs.declared.names.Name.{Name};
-    ghost use Rattle.geo_parser.specs.Dictionaries.{IsDictionary};
+    ghost use Rattle.geo_parser.specs.Inner.Dictionaries.{IsDictionary};
 
     ghost Value = { List Name };
 

@@ -3,7 +3,7 @@
 ghost use Rattle.std.specs.Prelude.{◌≡◌, ◌↔◌, Bool, ℕ, IfSome, IsTrue, option_map};
 ghost use Rattle.geo_parser.specs.Forms.{due_behind, expressions};
 ghost use Rattle.geo_parser.specs.Slots as slots;
-ghost use Rattle.geo_parser.specs.StatementWords.{expression_due, expression_text};
+ghost use Rattle.geo_parser.specs.Inner.StatementWords.{expression_due, expression_text};
 
 use crate::command_words::CommandWord;
 use crate::statement_words::StatementWord;

@@ -3,8 +3,8 @@
 ghost use Rattle.std.specs.Prelude.{◌≡◌, ◌+◌, ◌≤◌, ◌∷◌, [], ◌++◌, false, true, IfOk, IsTrue};
 ghost use Rattle.geo_lexer.specs.declared.token_types.Fault.{Fault};
 ghost use Rattle.geo_parser.specs.Forms.{a_number, close_slot, expression_slot, open_slot, side};
-ghost use Rattle.geo_parser.specs.Reads.{ReadsExpression, ReadsFormed, ReadsNode, ReadsPart, ReadsParts, Refuses, extent};
-ghost use Rattle.geo_parser.specs.StatementWords.{expression_due};
+ghost use Rattle.geo_parser.specs.Inner.Reads.{ReadsExpression, ReadsFormed, ReadsNode, ReadsPart, ReadsParts, Refuses, extent};
+ghost use Rattle.geo_parser.specs.Inner.StatementWords.{expression_due};
 
 use crate::cursor::Piece;
 use crate::errors::{ParseError, Refusal};

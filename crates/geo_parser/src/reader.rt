@@ -3,11 +3,11 @@
 ghost use Rattle.std.specs.Prelude.{◌≡◌, ◌+◌, ◌≤◌, ◌∷◌, [], IfOk, None, OnOk};
 ghost use Rattle.geo_lexer.specs.declared.token_types.Fault.{Fault};
 ghost use Rattle.geo_lexer.specs.Lexemes.{close_brace, open_brace};
-ghost use Rattle.geo_parser.specs.Coming.{fault_here};
-ghost use Rattle.geo_parser.specs.Dictionaries.{IsNumbered};
+ghost use Rattle.geo_parser.specs.Inner.Coming.{fault_here};
+ghost use Rattle.geo_parser.specs.Inner.Dictionaries.{IsNumbered};
 ghost use Rattle.geo_parser.specs.Forms.{a_line, a_point, close_slot, end_slot, name_slot, open_slot};
-ghost use Rattle.geo_parser.specs.Pieces.{refusal_number};
-ghost use Rattle.geo_parser.specs.Reads.{Reads, ReadsArguments, ReadsName, Refuses};
+ghost use Rattle.geo_parser.specs.Inner.Pieces.{refusal_number};
+ghost use Rattle.geo_parser.specs.Inner.Reads.{Reads, ReadsArguments, ReadsName, Refuses};
 ghost use Rattle.geo_program.specs.Forms.{line_argument, point_argument};
 
 use crate::cursor::{Cursor, Piece};

@@ -13,4 +13,4 @@ pub mod Cuts
 pub mod SortedVariables
 pub mod KeptVariables
 pub mod ReplacementLaws
-pub mod RowTables
+pub mod Inner

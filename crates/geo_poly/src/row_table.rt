@@ -3,7 +3,7 @@
 ghost use Rattle.std.specs.Prelude.{◌≡◌, IfOk};
 ghost use Rattle.std.specs.Option.{option_copied};
 ghost use Rattle.geo_poly.specs.Replace.{row_of};
-ghost use Rattle.geo_poly.specs.RowTables.{AreFirstPlaces};
+ghost use Rattle.geo_poly.specs.Inner.RowTables.{AreFirstPlaces};
 
 use crate::replacement::Row;
 use crate::variables::Var;
@@ -23,7 +23,7 @@ pub(crate) struct RowTable<'a> {
 impl<'a> Model for RowTable<'a> {
     ghost use Rattle.std.specs.Prelude.{List, IfSome};
     ghost use Rattle.geo_poly.specs.declared.replacement.Row.{Row};
-    ghost use Rattle.geo_poly.specs.RowTables.{AreFirstPlaces};
+    ghost use Rattle.geo_poly.specs.Inner.RowTables.{AreFirstPlaces};
 
     ghost Value = { List Row };
 

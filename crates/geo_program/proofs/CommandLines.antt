@@ -8,7 +8,7 @@ use Rattle.geo_program.specs.declared.commands.Command.{Command}
 use Rattle.geo_program.specs.declared.names.Name.{Name}
 use Rattle.geo_program.specs.CanonicalText.{command_lexemes, commands_lexemes, line_text, no_sketches}
 use Rattle.geo_program.specs.Forms.{Argument}
-use Rattle.geo_program.specs.Printing.{whole_scope, lines_text}
+use Rattle.geo_program.specs.Inner.Printing.{whole_scope, lines_text}
 use Rattle.geo_program.specs.WellFormed.{AreCommands, IsArgument, IsCommand, Scope, declare, empty_scope, scope_of}
 use Rattle.geo_program.proofs.Pushing.{AreCommands-length}
 use Rattle.geo_program.proofs.ScopeLemmas.{IsWithinScope, IsWithinScope-append, arguments_wider, scope_of-push}

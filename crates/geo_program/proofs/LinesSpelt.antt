@@ -9,7 +9,7 @@ use Rattle.geo_program.specs.declared.commands.Command.{Command}
 use Rattle.geo_program.specs.declared.names.Name.{Name}
 use Rattle.geo_program.specs.CanonicalText.{canonical_text, command_lexemes, commands_lexemes, lexeme_text, line_lexemes, line_text, no_sketches, statement_lexemes}
 use Rattle.geo_program.specs.Forms.{Argument, command_form, statement_form}
-use Rattle.geo_program.specs.Printing.{whole_scope}
+use Rattle.geo_program.specs.Inner.Printing.{whole_scope}
 use Rattle.geo_program.specs.Spelling.{AreSketches, SpellsSource}
 use Rattle.geo_program.specs.WellFormed.{AreCommands, IsArgument, IsWellFormed, Scope, Source, declare, empty_scope, scope_of}
 use Rattle.geo_program.specs.Words.{IsNameText}

@@ -9,7 +9,7 @@ use Rattle.geo_program.specs.declared.names.Name.{Name}
 use Rattle.geo_program.specs.CanonicalText.{argument_lexemes, lexeme_text, line_text}
 use Rattle.geo_program.specs.Expressions.{expression_lexemes, point_lexeme}
 use Rattle.geo_program.specs.Forms.{number_argument, point_argument}
-use Rattle.geo_program.specs.Printing.{spaced_text}
+use Rattle.geo_program.specs.Inner.Printing.{spaced_text}
 use Rattle.geo_terms.specs.Trees.{Tree}
 
 pub spaced-append : (xs ys : List Lexeme) → spaced_text (xs ++ ys) ≡ spaced_text xs ++ spaced_text ys

@@ -19,7 +19,7 @@ use Rattle.geo_program.specs.CanonicalText.{argument_lexemes, command_lexemes, s
 use Rattle.geo_program.specs.Expressions.{IsExpression, braced, expression_lexemes, point_lexeme}
 use Rattle.geo_program.specs.Forms.{Argument, point_argument, line_argument, number_argument, side_argument, command_form, statement_form}
 use Rattle.geo_program.specs.Names.{is_kind, name_text, names_of}
-use Rattle.geo_program.specs.Printing.{whole_scope}
+use Rattle.geo_program.specs.Inner.Printing.{whole_scope}
 use Rattle.geo_program.specs.WellFormed.{IsArgument}
 use Rattle.geo_program.specs.Words.{IsNameText}
 use Rattle.geo_program.proofs.ScopeLemmas.{declared_of}

@@ -5,7 +5,7 @@ use Rattle.geo_program.specs.declared.names.Name.{Name}
 use Rattle.geo_program.specs.declared.names.NameKind.{NameKind}
 use Rattle.geo_program.specs.declared.names.NameKind.TheVariants.{Point, Param, Line}
 use Rattle.geo_program.specs.Names.{name_text, names_of}
-use Rattle.geo_program.specs.Printing.{whole_scope}
+use Rattle.geo_program.specs.Inner.Printing.{whole_scope}
 use Rattle.geo_program.specs.WellFormed.{empty_scope}
 use Rattle.geo_program.proofs.ScopeLemmas.{declared_of, declared_of-scope_of}
 

@@ -7,7 +7,7 @@ use Rattle.geo_points.specs.declared.ids.TermId.{TermId}
 use Rattle.geo_program.specs.declared.names.Name.{Name}
 use Rattle.geo_program.specs.Expressions.{IsExpression, nesting}
 use Rattle.geo_program.specs.Forms.{number_argument}
-use Rattle.geo_program.specs.Printing.{IsPrintableTerm, whole_scope}
+use Rattle.geo_program.specs.Inner.Printing.{IsPrintableTerm, whole_scope}
 use Rattle.geo_program.specs.WellFormed.{IsArgument}
 use Rattle.geo_program.proofs.ScopeLemmas.{IsExpression-ratios}
 use Rattle.geo_terms.specs.declared.nodes.Node.{Node}

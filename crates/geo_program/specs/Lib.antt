@@ -7,5 +7,5 @@ pub mod CanonicalText
 pub mod Spelling
 pub mod Programs
 pub mod Laws
-pub mod Printing
 pub mod FormTexts
+pub mod Inner

@@ -2,7 +2,7 @@
 
 ghost use Rattle.std.specs.Prelude.{◌≡◌, ◌<◌, map, IfOk};
 ghost use Rattle.geo_program.specs.Names.{name_text, names_of};
-ghost use Rattle.geo_program.specs.Printing.{whole_scope};
+ghost use Rattle.geo_program.specs.Inner.Printing.{whole_scope};
 ghost use Rattle.geo_program.specs.declared.names.NameKind.TheVariants as kind;
 
 use crate::commands::LineId;
@@ -26,7 +26,7 @@ impl<'a> Model for NameTable<'a> {
 
     ghost Value = { List Name };
 
-    ghost use Rattle.geo_program.specs.Printing.{IsNumbered};
+    ghost use Rattle.geo_program.specs.Inner.Printing.{IsNumbered};
 
     ghost view = { λ table. table.names.now };
 

@@ -8,7 +8,7 @@ ghost use Rattle.geo_program.specs.CanonicalText.{argument_lexemes, command_lexe
 ghost use Rattle.geo_program.specs.Expressions.{braced, expression_lexemes, point_lexeme, quantity_lexemes};
 ghost use Rattle.geo_program.specs.Forms.{command_form, line_argument, number_argument, on_points, point_argument, side_argument, statement_form, IsStored, AreSidesStored};
 ghost use Rattle.geo_program.specs.FormTexts.{form_text};
-ghost use Rattle.geo_program.specs.Printing.{IsPrintableTerm, whole_scope, lines_text, spaced_text};
+ghost use Rattle.geo_program.specs.Inner.Printing.{IsPrintableTerm, whole_scope, lines_text, spaced_text};
 ghost use Rattle.geo_program.specs.WellFormed.{AreCommands, IsArgument, empty_scope};
 ghost use Rattle.geo_terms.specs.Stores.{IsStore, tree_of};
 

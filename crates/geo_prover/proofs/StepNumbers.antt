@@ -3,7 +3,7 @@ use Rattle.std.proofs.Common.{◌≡◌, ◌*◌, ◌≤◌, max, Bool, true, fa
 use Rattle.std.proofs.lemmas.Int.{ints}
 use Rattle.std.specs.List.{filter_map}
 use Rattle.fraction_poly.specs.Measures.{capped, capped_number, numbers_of}
-use Rattle.fraction_poly.specs.Parts.{CanMultiplyOut}
+use Rattle.fraction_poly.specs.Inner.Parts.{CanMultiplyOut}
 use Rattle.fraction_poly.proofs.Sizes.{IsWithin-constant}
 use Rattle.geo_points.specs.declared.ids.PointId.{PointId}
 use Rattle.geo_poly.specs.declared.variables.Var.{Var}

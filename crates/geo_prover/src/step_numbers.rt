@@ -2,7 +2,7 @@
 
 ghost use Rattle.std.specs.Prelude.{◌≡◌, ◌<◌, IfOk, length};
 ghost use Rattle.fraction_poly.specs.Measures.{capped, numbers_of};
-ghost use Rattle.fraction_poly.specs.Parts.{CanMultiplyOut};
+ghost use Rattle.fraction_poly.specs.Inner.Parts.{CanMultiplyOut};
 ghost use Rattle.geo_prover.specs.Constructed.{step_number};
 ghost use Rattle.geo_terms.specs.Stores.{tree_of};
 

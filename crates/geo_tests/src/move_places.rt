@@ -1,8 +1,8 @@
 //! Tests of what a move asks for: points that are there.
 
 ghost use Rattle.std.specs.Prelude.{◌<◌, All, IfOk, IsTrue, length};
-ghost use Rattle.elim_apply.specs.Moves.{place_of};
-ghost use Rattle.elim_apply.specs.Naming.{IsPlaceBelow};
+ghost use Rattle.geo_logs.specs.Moves.{place_of};
+ghost use Rattle.geo_logs.specs.Naming.{IsPlaceBelow};
 ghost use Rattle.fraction_poly.specs.TableRows.{HasPointsBelow};
 ghost use Rattle.geo_poly.specs.PolynomialVariables.{AllVariables};
 

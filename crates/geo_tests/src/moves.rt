@@ -2,8 +2,8 @@
 //! charged, beside the tables of the reference.
 
 ghost use Rattle.std.specs.Prelude.{◌<◌, length};
-ghost use Rattle.elim_apply.specs.Moves.{place_of};
-ghost use Rattle.elim_apply.specs.Naming.{IsPlaceBelow};
+ghost use Rattle.geo_logs.specs.Moves.{place_of};
+ghost use Rattle.geo_logs.specs.Naming.{IsPlaceBelow};
 ghost use Rattle.fraction_poly.specs.TableRows.{HasPointsBelow};
 ghost use Rattle.geo_poly.specs.PolynomialVariables.{AllVariables};
 

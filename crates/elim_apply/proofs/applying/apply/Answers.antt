@@ -4,9 +4,9 @@ use Rattle.geo_poly.specs.PolynomialVariables.{variables_of}
 use Rattle.geo_poly.specs.Replace.{replaced_degree, replaced_weight}
 use Rattle.elim_apply.specs.declared.errors.ApplyError.TheVariants.{TooLarge}
 use Rattle.elim_apply.specs.LemmaTable.{lemma_table}
-use Rattle.elim_apply.specs.Moves.{IsMoved, move_charge, replacement}
-use Rattle.elim_apply.specs.Sizes.{IsSizeOf}
-use Rattle.elim_apply.specs.Sketches.{numbered_row}
+use Rattle.geo_logs.specs.Moves.{IsMoved, move_charge, replacement}
+use Rattle.elim_apply.specs.Inner.Sizes.{IsSizeOf}
+use Rattle.elim_apply.specs.Inner.Sketches.{numbered_row}
 use Rattle.elim_apply.proofs.AppliedMoves.{stopped_move}
 use Rattle.elim_apply.proofs.HandedOn.{handed_on}
 use Rattle.elim_apply.proofs.KeptValues.{value_kept}

@@ -7,7 +7,7 @@ use Rattle.geo_poly.specs.PolynomialVariables.{variables_of}
 use Rattle.geo_poly.specs.Replace.{AllPowersSmall}
 use Rattle.geo_poly.proofs.EachVariable.{each-variables}
 use Rattle.elim_apply.specs.declared.numbered.NumberedRow.{NumberedRow}
-use Rattle.elim_apply.specs.Sketches.{numbered_row, sketches}
+use Rattle.elim_apply.specs.Inner.Sketches.{numbered_row, sketches}
 use Rattle.elim_apply.proofs.AppliedMoves.{no_length}
 use Rattle.elim_apply.proofs.NumberedRows.{HasDenominator, all_each, all_over_one, none_made, none_numbered, sketches_small, some_length}
 use Rattle.elim_apply.proofs.SketchedLines.{sketched_line}

@@ -8,8 +8,8 @@ use Rattle.geo_poly.specs.PolynomialVariables.{variables_of}
 use Rattle.geo_poly.specs.Replace.{AllBounded, AllPowersSmall, IsBounded, replaced_by, replaced_degree, replaced_weight}
 use Rattle.elim_apply.specs.declared.numbered.NumberedRow.{NumberedRow}
 use Rattle.elim_apply.specs.LemmaTable.{lemma_table}
-use Rattle.elim_apply.specs.Moves.{replacement}
-use Rattle.elim_apply.specs.Sketches.{CanMakeRow}
+use Rattle.geo_logs.specs.Moves.{replacement}
+use Rattle.elim_apply.specs.Inner.Sketches.{CanMakeRow}
 use Rattle.elim_apply.proofs.AppliedMoves.{handed_answer}
 use Rattle.elim_apply.proofs.FittingRows.{line_rows}
 use Rattle.elim_apply.proofs.NumberedRows.{denominator_bounded, names_are, rows_bounded, rows_small}

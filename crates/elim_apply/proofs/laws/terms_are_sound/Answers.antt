@@ -1,4 +1,4 @@
-use Rattle.elim_apply.proofs.TermVariables.{term_sound}
+use Rattle.geo_logs.proofs.TermVariables.{term_sound}
 use Rattle.elim_apply.proofs.laws.terms_are_sound.Goals as goal
 
 pub returns : goal.returns

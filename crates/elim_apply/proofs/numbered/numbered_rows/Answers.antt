@@ -5,7 +5,7 @@ use Rattle.geo_poly.specs.declared.variables.Var.{Var}
 use Rattle.geo_poly.specs.declared.variables.Var.TheVariants.{R}
 use Rattle.elim_apply.specs.declared.numbered.NumberedRow.{NumberedRow}
 use Rattle.elim_apply.specs.LemmaTable.{row_of_move}
-use Rattle.elim_apply.specs.Sketches.{numbered_row}
+use Rattle.elim_apply.specs.Inner.Sketches.{numbered_row}
 use Rattle.elim_apply.proofs.NumberedRows.{numbered_none, numbered_some, rows_none, rows_some}
 use Rattle.elim_apply.proofs.numbered.numbered_rows.Goals as goal
 use Rattle.elim_apply.proofs.numbered.numbered_rows.Goals.{in-Some+in_ok-push, in_default}

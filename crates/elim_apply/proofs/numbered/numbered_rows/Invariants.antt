@@ -1,6 +1,6 @@
 use Rattle.std.proofs.Common.{◌≡◌, take}
 use Rattle.std.specs.List.{filter_map}
-use Rattle.elim_apply.specs.Sketches.{numbered_row}
+use Rattle.elim_apply.specs.Inner.Sketches.{numbered_row}
 use Rattle.elim_apply.proofs.numbered.numbered_rows.Given as goal
 
 abbrev pub invariant-loop-v : goal.invariant-loop-v

@@ -1,6 +1,6 @@
 use Rattle.std.proofs.Common.{◌≡◌, ◌+◌, ◌-◌, ◌^◌, ◌≤◌, min, drop}
 use Rattle.std.specs.Prelude.{sum_by}
-use Rattle.elim_apply.specs.Sketches.{sketches}
+use Rattle.elim_apply.specs.Inner.Sketches.{sketches}
 use Rattle.elim_apply.proofs.sizes.charge_of_rows.Given as goal
 
 abbrev pub invariant-loop-row : goal.invariant-loop-row

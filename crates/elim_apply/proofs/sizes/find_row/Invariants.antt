@@ -1,5 +1,5 @@
 use Rattle.std.proofs.Common.{◌≡◌, drop}
-use Rattle.elim_apply.specs.Sketches.{sketches}
+use Rattle.elim_apply.specs.Inner.Sketches.{sketches}
 use Rattle.geo_poly.specs.Replace.{row_of}
 use Rattle.elim_apply.proofs.sizes.find_row.Given as goal
 

@@ -1,6 +1,6 @@
 use Rattle.std.proofs.Common.{◌≡◌, ◌+◌, ◌<◌, max, drop, ap, ◌∙◌, arith}
 use Rattle.std.specs.Prelude.{length}
-use Rattle.elim_apply.specs.Sketches.{sketches}
+use Rattle.elim_apply.specs.Inner.Sketches.{sketches}
 use Rattle.geo_poly.specs.Polynomials.{term_at}
 use Rattle.geo_poly.specs.Replace.{denominators, most_denominators}
 use Rattle.elim_apply.proofs.LineShares.{term_shown}

@@ -1,5 +1,5 @@
 use Rattle.std.proofs.Common.{◌≡◌, max, drop}
-use Rattle.elim_apply.specs.Sketches.{sketches}
+use Rattle.elim_apply.specs.Inner.Sketches.{sketches}
 use Rattle.geo_poly.specs.Replace.{most_denominators}
 use Rattle.elim_apply.proofs.sizes.most_denominators.Given as goal
 

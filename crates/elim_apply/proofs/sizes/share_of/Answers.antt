@@ -1,5 +1,5 @@
 use Rattle.std.proofs.Common.{◌≡◌, ◌+◌, drop, sym, subst, unsigned_abs, arith, rules}
-use Rattle.elim_apply.specs.Sketches.{sketched, sketches}
+use Rattle.elim_apply.specs.Inner.Sketches.{sketched, sketches}
 use Rattle.geo_poly.specs.Monomials.{Powers}
 use Rattle.geo_poly.specs.Polynomials.{term_at}
 use Rattle.elim_apply.proofs.LineShares.{IsShareSoFar, monomial_at, no_share, power_shown, share_fits, share_keeping, share_replacing}

@@ -1,5 +1,5 @@
 use Rattle.std.proofs.Common.{drop, unsigned_abs}
-use Rattle.elim_apply.specs.Sketches.{sketches}
+use Rattle.elim_apply.specs.Inner.Sketches.{sketches}
 use Rattle.geo_poly.specs.Polynomials.{term_at}
 use Rattle.elim_apply.proofs.LineShares.{IsShareSoFar}
 use Rattle.elim_apply.proofs.sizes.share_of.Given as goal

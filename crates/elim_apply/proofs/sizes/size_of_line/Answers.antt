@@ -1,7 +1,7 @@
 use Rattle.std.proofs.Common.{◌+◌, ◌*◌, ◌<◌, drop, subst, arith}
 use Rattle.std.specs.Prelude.{length, sum_by}
 use Rattle.std.proofs.lemmas.List.{drop_all}
-use Rattle.elim_apply.specs.Sketches.{sketch, sketches}
+use Rattle.elim_apply.specs.Inner.Sketches.{sketch, sketches}
 use Rattle.geo_poly.specs.Polynomials.{Terms, term_at}
 use Rattle.elim_apply.proofs.LineShares.{denominators_at, term_shown}
 use Rattle.elim_apply.proofs.LineSizes.{IsSizeSoFar, line_size, no_size, size_more, whole_size}

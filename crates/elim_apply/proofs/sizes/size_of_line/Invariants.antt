@@ -1,6 +1,6 @@
 use Rattle.std.proofs.Common.{◌+◌, ◌*◌, drop}
 use Rattle.std.specs.Prelude.{sum_by}
-use Rattle.elim_apply.specs.Sketches.{sketch, sketches}
+use Rattle.elim_apply.specs.Inner.Sketches.{sketch, sketches}
 use Rattle.elim_apply.proofs.LineSizes.{IsSizeSoFar}
 use Rattle.elim_apply.proofs.sizes.size_of_line.Given as goal
 

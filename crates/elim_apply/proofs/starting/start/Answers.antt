@@ -4,8 +4,8 @@ use Rattle.fraction_poly.specs.MultipliedOut.{multiplied_out}
 use Rattle.geo_terms.specs.Stores.{Store, tree_of}
 use Rattle.geo_terms.specs.Trees.{Tree}
 use Rattle.elim_apply.specs.declared.errors.ApplyError.TheVariants.{Spent, TooLarge}
-use Rattle.elim_apply.specs.Sizes.{IsLineWithin, IsSizeOf}
-use Rattle.elim_apply.specs.Starts.{IsStarted, start_charge, start_degree, start_weight}
+use Rattle.elim_apply.specs.Inner.Sizes.{IsLineWithin, IsSizeOf}
+use Rattle.geo_logs.specs.Starts.{IsStarted, start_charge, start_degree, start_weight}
 use Rattle.elim_apply.proofs.HandedOn.{handed_on}
 use Rattle.elim_apply.proofs.starting.start.Goals as goal
 

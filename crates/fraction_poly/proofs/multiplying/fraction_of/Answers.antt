@@ -1,6 +1,6 @@
 use Rattle.std.proofs.Common.{◌+◌, List, refl, sym, subst, arith}
 use Rattle.geo_poly.specs.Polynomials.{Terms}
-use Rattle.fraction_poly.specs.Parts.{HasParts}
+use Rattle.fraction_poly.specs.Inner.Parts.{HasParts}
 use Rattle.fraction_poly.proofs.Multiplied.{AreMultiplied, AreMultiplied-push, HasParts-at}
 use Rattle.fraction_poly.proofs.multiplying.fraction_of.Goals as goal
 

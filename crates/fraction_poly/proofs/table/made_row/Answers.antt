@@ -1,6 +1,6 @@
 use Rattle.std.proofs.Common.{◌≡◌, sym, subst, ap, ◌∙◌}
 use Rattle.fraction_poly.specs.declared.step_numbers.StepNumber.{StepNumber}
-use Rattle.fraction_poly.specs.Drafts.{AllFit, IsBoundedNumber, drafted_piece, form_of, number_tree}
+use Rattle.fraction_poly.specs.Inner.Drafts.{AllFit, IsBoundedNumber, drafted_piece, form_of, number_tree}
 use Rattle.fraction_poly.specs.Forms.{PieceFits, piece_of, step_number}
 use Rattle.fraction_poly.proofs.PieceBounds.{all_fit, drafted-is, bounded_number}
 use Rattle.geo_poly.specs.declared.replacement.Piece.{Piece}

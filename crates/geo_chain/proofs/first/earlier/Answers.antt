@@ -1,7 +1,7 @@
 use Rattle.std.proofs.Common.{◌≡◌, true, refl, rules}
 use Rattle.std.specs.declared.cmp.Ordering.TheVariants.{Less}
 use Rattle.geo_poly.specs.Variables.{var_cmp}
-use Rattle.geo_chain.specs.Searches.{FitsItself}
+use Rattle.geo_chain.specs.Inner.Searches.{FitsItself}
 use Rattle.geo_chain.proofs.Searches.{stands_before}
 use Rattle.geo_chain.proofs.first.earlier.Goals as goal
 

@@ -1,5 +1,5 @@
 use Rattle.std.proofs.Common.{None, arith}
-use Rattle.geo_chain.specs.Searches.{FitsItself, IsNoEarlier}
+use Rattle.geo_chain.specs.Inner.Searches.{FitsItself, IsNoEarlier}
 use Rattle.geo_chain.proofs.Places.{none_first, some_first, whole}
 use Rattle.geo_chain.proofs.Searches.{by_place, one_term}
 use Rattle.geo_chain.proofs.first.first_fitting.Goals as goal

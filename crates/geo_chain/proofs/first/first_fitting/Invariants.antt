@@ -1,5 +1,5 @@
 use Rattle.std.proofs.Common.{None}
-use Rattle.geo_chain.specs.Searches.{FitsItself, Improves, IsMetBefore, IsNoEarlier}
+use Rattle.geo_chain.specs.Inner.Searches.{FitsItself, Improves, IsMetBefore, IsNoEarlier}
 use Rattle.geo_chain.proofs.first.first_fitting.Given as goal
 
 abbrev pub invariant-loop-i : goal.invariant-loop-i

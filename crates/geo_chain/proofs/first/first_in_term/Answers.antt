@@ -1,6 +1,6 @@
 use Rattle.std.proofs.Common.{arith}
 use Rattle.geo_poly.specs.Polynomials.{term_at}
-use Rattle.geo_chain.specs.Searches.{FitsItself, IsNoEarlier}
+use Rattle.geo_chain.specs.Inner.Searches.{FitsItself, IsNoEarlier}
 use Rattle.geo_chain.proofs.Searches.{all_places, by_place, no_place, one_place}
 use Rattle.geo_chain.proofs.first.first_in_term.Goals as goal
 

@@ -1,5 +1,5 @@
 use Rattle.std.proofs.Common.{None, arith}
-use Rattle.geo_chain.specs.Searches.{IsNoHigher, MakesPoint}
+use Rattle.geo_chain.specs.Inner.Searches.{IsNoHigher, MakesPoint}
 use Rattle.geo_chain.proofs.Places.{none_highest, some_highest, whole}
 use Rattle.geo_chain.proofs.Searches.{by_height, one_term}
 use Rattle.geo_chain.proofs.highest.highest_constructed.Goals as goal

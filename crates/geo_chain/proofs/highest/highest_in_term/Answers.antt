@@ -1,7 +1,7 @@
 use Rattle.std.proofs.Common.{arith}
 use Rattle.fraction_poly.specs.TableRows.{HasPointsBelow}
 use Rattle.geo_poly.specs.Polynomials.{term_at}
-use Rattle.geo_chain.specs.Searches.{IsNoHigher, MakesPoint}
+use Rattle.geo_chain.specs.Inner.Searches.{IsNoHigher, MakesPoint}
 use Rattle.geo_chain.proofs.Places.{variable_at}
 use Rattle.geo_chain.proofs.Searches.{all_places, by_height, no_place, one_place}
 use Rattle.geo_chain.proofs.highest.highest_in_term.Goals as goal

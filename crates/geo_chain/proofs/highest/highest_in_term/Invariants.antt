@@ -1,5 +1,5 @@
 use Rattle.geo_poly.specs.Polynomials.{term_at}
-use Rattle.geo_chain.specs.Searches.{Improves, IsMetIn, IsNoHigher, MakesPoint}
+use Rattle.geo_chain.specs.Inner.Searches.{Improves, IsMetIn, IsNoHigher, MakesPoint}
 use Rattle.geo_chain.proofs.highest.highest_in_term.Given as goal
 
 abbrev pub invariant-loop-j : goal.invariant-loop-j

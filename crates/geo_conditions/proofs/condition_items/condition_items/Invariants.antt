@@ -1,6 +1,6 @@
 use Rattle.std.proofs.Common.{map, take}
-use Rattle.geo_conditions.specs.ItemForms.{AreItems, condition_item_form, places_layout}
-use Rattle.geo_conditions.specs.ItemTerms.{Keeps}
+use Rattle.geo_conditions.specs.Inner.ItemForms.{AreItems, condition_item_form, places_layout}
+use Rattle.geo_conditions.specs.Inner.ItemTerms.{Keeps}
 use Rattle.geo_conditions.proofs.condition_items.condition_items.Given as goal
 
 -- the first ones have their items, and all that was there stays

@@ -1,7 +1,7 @@
 use Rattle.std.proofs.Common.{List, [], map, take, refl, sym, subst, subst₂}
 use Rattle.std.proofs.lemmas.List.{map_more}
 use Rattle.geo_conditions.specs.declared.items.Item.{Item}
-use Rattle.geo_conditions.specs.ItemForms.{AreItems, goal_item_form, places_layout}
+use Rattle.geo_conditions.specs.Inner.ItemForms.{AreItems, goal_item_form, places_layout}
 use Rattle.geo_conditions.specs.Lists.{ItemForm}
 use Rattle.geo_conditions.proofs.ItemsMade.{more_items, still_placed}
 use Rattle.geo_conditions.proofs.TermsInterned.{keeps_all, keeps_both}

@@ -12,12 +12,12 @@ use Rattle.geo_program.specs.WellFormed.{empty_scope}
 use Rattle.geo_program.proofs.Propositions.{program_well_formed}
 use Rattle.geo_lowering.specs.Counting.{points_named}
 use Rattle.geo_lowering.specs.Lowering.{pair_numbers}
-use Rattle.geo_conditions.specs.ConditionLists.{IsNumberBraced, found_of}
-use Rattle.geo_lowering.specs.Renaming.{AreRenamed}
+use Rattle.geo_conditions.specs.Inner.ConditionLists.{IsNumberBraced, found_of}
+use Rattle.geo_lowering.specs.Inner.Renaming.{AreRenamed}
 use Rattle.geo_conditions.specs.declared.conditions.ListedCondition.{ListedCondition}
 use Rattle.geo_conditions.specs.declared.item_terms.Places.{Places}
-use Rattle.geo_conditions.specs.ItemForms.{ArePlaced, IsPrintableCondition, IsPrintableGoal, places_layout}
-use Rattle.geo_conditions.specs.ItemTerms.{terms_layout}
+use Rattle.geo_conditions.specs.Inner.ItemForms.{ArePlaced, IsPrintableCondition, IsPrintableGoal, places_layout}
+use Rattle.geo_conditions.specs.Inner.ItemTerms.{terms_layout}
 use Rattle.geo_conditions.specs.Lists.{AreConditions}
 use Rattle.geo_conditions.proofs.ItemScopes.{conditions_printable, goals_printable, numbers_braced, sides_braced}
 use Rattle.geo_conditions.proofs.ListedItems.{conditions_by, few_named, goals_by, goals_by_names, placed_by, rows_by_names, same_layout}

@@ -1,5 +1,5 @@
 use Rattle.std.proofs.Common.{map}
-use Rattle.geo_conditions.specs.ItemForms.{condition_item_form, places_layout}
+use Rattle.geo_conditions.specs.Inner.ItemForms.{condition_item_form, places_layout}
 use Rattle.geo_conditions.proofs.ItemsMade.{still_items, still_placed}
 use Rattle.geo_conditions.proofs.TermsInterned.{keeps_both}
 use Rattle.geo_conditions.proofs.program_items.make_items.Goals as goal

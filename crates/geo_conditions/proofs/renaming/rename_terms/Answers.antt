@@ -4,9 +4,9 @@ use Rattle.std.proofs.lemmas.Option.{slice_get_within}
 use Rattle.geo_terms.specs.declared.nodes.Node.{Node}
 use Rattle.geo_terms.specs.Stores.{HasChildrenBelow, node_tree, tree_of, trees_of}
 use Rattle.geo_lowering.specs.Lowering.{Layout}
-use Rattle.geo_lowering.specs.Renaming.{AreRenamed, renamed_node}
+use Rattle.geo_lowering.specs.Inner.Renaming.{AreRenamed, renamed_node}
 use Rattle.geo_lowering.proofs.Renamed.{children, one_more}
-use Rattle.geo_conditions.specs.ItemTerms.{terms_layout}
+use Rattle.geo_conditions.specs.Inner.ItemTerms.{terms_layout}
 use Rattle.geo_conditions.proofs.TermsInterned.{keeps_all, keeps_both}
 use Rattle.geo_conditions.proofs.renaming.rename_terms.Goals as goal
 

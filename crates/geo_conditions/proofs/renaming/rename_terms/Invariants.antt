@@ -1,6 +1,6 @@
 use Rattle.std.proofs.Common.{◌≡◌, length}
-use Rattle.geo_lowering.specs.Renaming.{AreRenamed}
-use Rattle.geo_conditions.specs.ItemTerms.{Keeps, terms_layout}
+use Rattle.geo_lowering.specs.Inner.Renaming.{AreRenamed}
+use Rattle.geo_conditions.specs.Inner.ItemTerms.{Keeps, terms_layout}
 use Rattle.geo_conditions.proofs.renaming.rename_terms.Given as goal
 
 -- the first terms are renamed, and all that was there stays

@@ -5,11 +5,11 @@ use Rattle.geo_program.specs.declared.commands.Command.{Command}
 use Rattle.geo_program.specs.declared.commands.Command.TheVariants.{Point}
 use Rattle.geo_program.specs.Programs.{source_of}
 use Rattle.geo_program.proofs.Propositions.{program_well_formed}
-use Rattle.geo_lowering.specs.Growing.{HasMore}
+use Rattle.geo_lowering.specs.Inner.Growing.{HasMore}
 use Rattle.geo_lowering.specs.Lowering.{command_steps}
 use Rattle.geo_lowering.specs.Parts.{layout_at}
 use Rattle.geo_lowering.specs.StepForms.{step_form}
-use Rattle.geo_lowering.specs.StepLists.{AreStepsFrom, HaveForms}
+use Rattle.geo_lowering.specs.Inner.StepLists.{AreStepsFrom, HaveForms}
 use Rattle.geo_lowering.proofs.Begun.{IsBegun, begun_first, begun_next, kept_fractions, number_below, pushes_steps, pushes_within}
 use Rattle.geo_lowering.proofs.Small.{program_numbers, program_points}
 use Rattle.geo_lowering.proofs.lowering.push_commands.Goals as goal

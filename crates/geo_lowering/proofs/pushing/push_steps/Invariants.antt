@@ -1,6 +1,6 @@
 use Rattle.std.proofs.Common.{◌≡◌, ◌≤◌, ◌+◌, ◌++◌, length, map, drop}
 use Rattle.geo_lowering.specs.StepForms.{step_form}
-use Rattle.geo_lowering.specs.StepLists.{AreStepsFrom}
+use Rattle.geo_lowering.specs.Inner.StepLists.{AreStepsFrom}
 use Rattle.geo_lowering.proofs.pushing.push_steps.Given as goal
 
 -- what is pushed, and then what is left, are all steps; and what is left are steps over what is pushed

@@ -5,7 +5,7 @@ use Rattle.geo_terms.specs.declared.nodes.Node.{Node}
 use Rattle.geo_terms.specs.Stores.{HasChildrenBelow, node_tree, tree_of, trees_of}
 use Rattle.geo_lowering.specs.Lowering.{Layout}
 use Rattle.geo_lowering.specs.Parts.{layout_at}
-use Rattle.geo_lowering.specs.Renaming.{AreRenamed, renamed_node}
+use Rattle.geo_lowering.specs.Inner.Renaming.{AreRenamed, renamed_node}
 use Rattle.geo_lowering.proofs.Renamed.{children, one_more}
 use Rattle.geo_lowering.proofs.renaming.rename_terms.Goals as goal
 

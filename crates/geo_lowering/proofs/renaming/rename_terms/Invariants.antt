@@ -1,6 +1,6 @@
 use Rattle.std.proofs.Common.{◌≡◌, length}
 use Rattle.geo_lowering.specs.Parts.{layout_at}
-use Rattle.geo_lowering.specs.Renaming.{AreRenamed}
+use Rattle.geo_lowering.specs.Inner.Renaming.{AreRenamed}
 use Rattle.geo_lowering.proofs.renaming.rename_terms.Given as goal
 
 -- the first terms are renamed

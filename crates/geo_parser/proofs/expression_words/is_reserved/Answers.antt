@@ -1,7 +1,7 @@
 use Rattle.std.proofs.Common.{◌≡◌, true, false, true≢false, is_some, ap, sym, ◌∙◌}
-use Rattle.geo_parser.specs.CommandWords.{command_due}
+use Rattle.geo_parser.specs.Inner.CommandWords.{command_due}
 use Rattle.geo_parser.specs.Forms.{commands, due_behind, expressions, statements}
-use Rattle.geo_parser.specs.StatementWords.{expression_due, statement_due}
+use Rattle.geo_parser.specs.Inner.StatementWords.{expression_due, statement_due}
 use Rattle.geo_parser.proofs.Reserved.{is_reserved-others, is_some-map}
 use Rattle.geo_parser.proofs.expression_words.is_reserved.Goals as goal
 use Rattle.geo_parser.proofs.expression_words.is_reserved.Goals.{then-is_some, else-is_some, then-is_some-2, else-is_some-2}

@@ -9,8 +9,8 @@ use Rattle.geo_program.specs.declared.statements.Statement.{Statement}
 use Rattle.geo_program.proofs.LinesSpelt.{well_formed_is_spelt}
 use Rattle.geo_terms.specs.Stores.{Store}
 use Rattle.geo_parser.specs.declared.reader.Reader.{Reader}
-use Rattle.geo_parser.specs.Coming.{Coming}
-use Rattle.geo_parser.specs.Reads.{ReadsAllCommands, extent}
+use Rattle.geo_parser.specs.Inner.Coming.{Coming}
+use Rattle.geo_parser.specs.Inner.Reads.{ReadsAllCommands, extent}
 use Rattle.geo_parser.proofs.ProgramReading.{extent-all, extent-first, first_reader, refused_later, short, spelt}
 use Rattle.geo_parser.proofs.Reading.{answered}
 use Rattle.geo_parser.proofs.parsing.parse_tokens.Goals as goal

@@ -5,7 +5,7 @@ use Rattle.std.proofs.lemmas.List.Elements.{recursion_from_All}
 use Rattle.geo_program.specs.declared.commands.Command.{Command}
 use Rattle.geo_program.specs.declared.names.Name.{Name}
 use Rattle.geo_program.specs.Forms.{statement_form}
-use Rattle.geo_program.specs.Printing.{whole_scope}
+use Rattle.geo_program.specs.Inner.Printing.{whole_scope}
 use Rattle.geo_program.specs.WellFormed.{AreCommands, IsArgument, empty_scope}
 use Rattle.geo_program.proofs.Propositions.{program_well_formed}
 use Rattle.geo_program.proofs.printing.print.Goals as goal

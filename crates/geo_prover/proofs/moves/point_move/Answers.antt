@@ -1,6 +1,6 @@
 use Rattle.std.proofs.Common.{◌≡◌, sym, ap, subst, ◌∙◌}
 use Rattle.fraction_poly.specs.Measures.{capped, numbers_of}
-use Rattle.fraction_poly.specs.Parts.{CanMultiplyOut}
+use Rattle.fraction_poly.specs.Inner.Parts.{CanMultiplyOut}
 use Rattle.geo_terms.specs.Stores.{Store, tree_of}
 use Rattle.geo_terms.specs.Trees.{Tree}
 use Rattle.geo_prover.specs.declared.program.Command.{Command}

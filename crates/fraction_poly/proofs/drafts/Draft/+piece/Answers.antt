@@ -1,7 +1,7 @@
 use Rattle.std.proofs.Common.{◌≡◌, sym, subst}
 use Rattle.fraction_poly.specs.declared.drafts.Draft.{Draft}
 use Rattle.fraction_poly.specs.declared.step_numbers.StepNumber.{StepNumber}
-use Rattle.fraction_poly.specs.Drafts.{IsBoundedNumber, drafted_piece}
+use Rattle.fraction_poly.specs.Inner.Drafts.{IsBoundedNumber, drafted_piece}
 use Rattle.fraction_poly.proofs.PieceBounds.{bounded_draft}
 use Rattle.geo_poly.specs.declared.replacement.Piece.{Piece}
 use Rattle.geo_poly.specs.Replace.{IsBounded}

@@ -4,7 +4,7 @@ use Rattle.geo_terms.specs.Stores.{trees_of, tree_of}
 use Rattle.geo_terms.specs.Trees.{Tree}
 use Rattle.geo_terms.proofs.Trees.{tree_of-node}
 use Rattle.fraction_poly.specs.Measures.{capped, numbers_of}
-use Rattle.fraction_poly.specs.Parts.{AreNumbersOf}
+use Rattle.fraction_poly.specs.Inner.Parts.{AreNumbersOf}
 use Rattle.fraction_poly.proofs.CappedNumbers.{AreNumbersOf-push, numbers_are_all}
 use Rattle.fraction_poly.proofs.store_numbers.StoreNumbers.new.Goals as goal
 

@@ -2,7 +2,7 @@ use Rattle.std.proofs.Common.{◌≤◌, drop, arith}
 use Rattle.std.proofs.lemmas.List.Elements.{All-from_recursion}
 use Rattle.geo_program.specs.declared.commands.Command.TheVariants.{Point}
 use Rattle.geo_lowering.specs.Counting.{points_from}
-use Rattle.geo_conditions.specs.ConditionLists.{IsNumberBraced}
+use Rattle.geo_conditions.specs.Inner.ConditionLists.{IsNumberBraced}
 use Rattle.geo_conditions.proofs.CommandsListed.{next_command, next_count}
 use Rattle.geo_conditions.proofs.ConditionScopes.{points-up}
 use Rattle.geo_conditions.proofs.condition_list.ConditionList.list_commands.Goals as goal

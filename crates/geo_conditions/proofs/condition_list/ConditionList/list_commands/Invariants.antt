@@ -1,6 +1,6 @@
 use Rattle.std.proofs.Common.{◌≡◌, ◌+◌, drop}
 use Rattle.geo_lowering.specs.Counting.{points_from, points_named}
-use Rattle.geo_conditions.specs.ConditionLists.{IsConditionList}
+use Rattle.geo_conditions.specs.Inner.ConditionLists.{IsConditionList}
 use Rattle.geo_conditions.specs.Lists.{found_from}
 use Rattle.geo_conditions.proofs.KeptConditions.{found, key}
 use Rattle.geo_conditions.proofs.Listings.{Ahead}

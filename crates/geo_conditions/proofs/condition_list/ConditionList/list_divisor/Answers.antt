@@ -2,7 +2,7 @@ use Rattle.std.proofs.Common.{◌≡◌, [], ◌∷◌, List, subst, sym, ap, �
 use Rattle.std.proofs.lemmas.Result.{on_ok_weaker}
 use Rattle.geo_lowering.specs.Conditions.{Condition, divisor_conditions, nonzero}
 use Rattle.geo_terms.specs.Stores.{node_tree, tree_of, trees_of}
-use Rattle.geo_conditions.specs.ConditionLists.{Lists}
+use Rattle.geo_conditions.specs.Inner.ConditionLists.{Lists}
 use Rattle.geo_conditions.specs.Lists.{found_at}
 use Rattle.geo_conditions.proofs.KeptConditions.{lists_none, unfolds}
 use Rattle.geo_conditions.proofs.condition_list.ConditionList.list_divisor.Goals as goal

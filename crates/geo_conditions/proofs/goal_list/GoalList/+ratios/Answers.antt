@@ -7,7 +7,7 @@ use Rattle.geo_program.specs.declared.statements.Statement.{Statement}
 use Rattle.geo_terms.specs.declared.nodes.Node.TheVariants as node
 use Rattle.geo_terms.specs.Stores.{tree_of, trees_of}
 use Rattle.geo_terms.specs.Trees.{addition, division, multiplication, negation, ratio_leaf, subtraction}
-use Rattle.geo_conditions.specs.GoalLists.{ListsGoals}
+use Rattle.geo_conditions.specs.Inner.GoalLists.{ListsGoals}
 use Rattle.geo_conditions.specs.Statements.{ratio_goals}
 use Rattle.geo_conditions.proofs.KeptConditions.{addition_parts, division_parts, multiplication_parts, negation_part, subtraction_parts, unfolds}
 use Rattle.geo_conditions.proofs.KeptGoals.{leaf_goals, lists_none, lists_tree, walked_before, walked_now}

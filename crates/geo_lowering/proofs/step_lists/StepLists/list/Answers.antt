@@ -3,8 +3,8 @@ use Rattle.geo_terms.specs.Trees.{parameter_leaf}
 use Rattle.geo_program.specs.declared.commands.Command.{Command}
 use Rattle.geo_lowering.specs.Lowering.{command_steps, half_tree, one_tree}
 use Rattle.geo_lowering.specs.Parts.{layout_at}
-use Rattle.geo_lowering.specs.StepLists.{HaveForms}
-use Rattle.geo_lowering.specs.StepNumbers.{IsTerm, own_number}
+use Rattle.geo_lowering.specs.Inner.StepLists.{HaveForms}
+use Rattle.geo_lowering.specs.Inner.StepNumbers.{IsTerm, own_number}
 use Rattle.std.proofs.lemmas.Result.{IfOk-weaker}
 use Rattle.geo_lowering.proofs.step_lists.StepLists.list.Goals as goal
 

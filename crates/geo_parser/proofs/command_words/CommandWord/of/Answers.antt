@@ -1,6 +1,6 @@
 use Rattle.std.proofs.Common.{◌≡◌, ℕ, List, IfSome, map, option_map, ap, sym, ◌∙◌, refl, subst}
 use Rattle.std.specs.Prelude.{Option}
-use Rattle.geo_parser.specs.CommandWords.{command_due, command_text}
+use Rattle.geo_parser.specs.Inner.CommandWords.{command_due, command_text}
 use Rattle.geo_parser.specs.declared.command_words.CommandWord.{CommandWord}
 use Rattle.geo_parser.specs.declared.command_words.TheConstants.{COMMANDS}
 use Rattle.geo_parser.proofs.Finding.{due_behind-dues, text_found}

@@ -4,7 +4,7 @@ use Rattle.std.specs.Str.{bytes_eq}
 use Rattle.std.proofs.lemmas.Map.Text.{hash_map_updates_str}
 use Rattle.geo_program.specs.declared.names.Name.{Name}
 use Rattle.geo_program.specs.declared.names.NameKind.{NameKind}
-use Rattle.geo_parser.specs.Dictionaries.{IsDictionary, IsNew, counted}
+use Rattle.geo_parser.specs.Inner.Dictionaries.{IsDictionary, IsNew, counted}
 use Rattle.geo_parser.proofs.DictionaryLemmas.{IsDictionary-declare, IsDictionary-same, count_of-dictionary, length-names_of, longer, new_name}
 use Rattle.geo_parser.proofs.dictionary.Dictionary.declare.Goals as goal
 

@@ -1,6 +1,6 @@
 use Rattle.std.proofs.Common.{◌≡◌, ℕ, List, IfSome, map, option_map, ap, sym, ◌∙◌, refl, subst}
 use Rattle.std.specs.Prelude.{Option}
-use Rattle.geo_parser.specs.StatementWords.{expression_due, expression_text}
+use Rattle.geo_parser.specs.Inner.StatementWords.{expression_due, expression_text}
 use Rattle.geo_parser.specs.declared.expression_words.ExpressionWord.{ExpressionWord}
 use Rattle.geo_parser.specs.declared.expression_words.TheConstants.{EXPRESSIONS}
 use Rattle.geo_parser.proofs.Finding.{due_behind-dues, text_found}

@@ -3,10 +3,10 @@ use Rattle.std.specs.Prelude.{IfOk, option_map}
 use Rattle.std.proofs.lemmas.Result.{IfOk-weaker}
 use Rattle.geo_parser.specs.declared.cursor.Piece.TheVariants.{Word}
 use Rattle.geo_parser.specs.declared.expression_words.ExpressionWord.TheVariants.{PythagorasDifference, Ratio, SignedArea}
-use Rattle.geo_parser.specs.Coming.{Coming}
+use Rattle.geo_parser.specs.Inner.Coming.{Coming}
 use Rattle.geo_parser.specs.Forms.{Slot, close_slot, due_behind, expression_slot, expressions, open_slot}
-use Rattle.geo_parser.specs.Reads.{ReadsFormed, Refuses}
-use Rattle.geo_parser.specs.StatementWords.{expression_due}
+use Rattle.geo_parser.specs.Inner.Reads.{ReadsFormed, Refuses}
+use Rattle.geo_parser.specs.Inner.StatementWords.{expression_due}
 use Rattle.geo_parser.proofs.ExpressionReading.{ReadsFormed-area, ReadsFormed-at, ReadsFormed-difference, ReadsFormed-ratio, ReadsNode-form, ReadsNode-parameter, Refuses-form, Refuses-parameter}
 use Rattle.geo_parser.proofs.Reading.{Refuses-first, Refuses-then, answered, next_piece}
 use Rattle.geo_parser.proofs.reader.Reader.+expression.Goals as goal

@@ -1,8 +1,8 @@
 use Rattle.std.proofs.Common.{◌≡◌, [], ◌∷◌, ◌++◌, List, sym, ap, ◌∙◌, subst, arith}
 use Rattle.geo_program.specs.declared.names.Name.{Name}
 use Rattle.geo_program.specs.declared.names.NameKind.{NameKind}
-use Rattle.geo_parser.specs.CommandWords.{command_kind}
-use Rattle.geo_parser.specs.Reads.{ReadsCommand, a_name}
+use Rattle.geo_parser.specs.Inner.CommandWords.{command_kind}
+use Rattle.geo_parser.specs.Inner.Reads.{ReadsCommand, a_name}
 use Rattle.geo_parser.proofs.CommandReading.{ReadsCommand-made, Refuses-form, Refuses-name, extent-name}
 use Rattle.geo_parser.proofs.Reading.{answered}
 use Rattle.geo_parser.proofs.reader.Reader.command.Goals as goal

@@ -1,7 +1,7 @@
 use Rattle.std.proofs.Common.{◌<◌, [], ◌∷◌, List, length, sym, ◌∙◌, subst, arith}
 use Rattle.geo_program.specs.declared.commands.Command.{Command}
 use Rattle.geo_parser.specs.Forms.{command_slot}
-use Rattle.geo_parser.specs.Reads.{ReadsCommands, ReadsWord}
+use Rattle.geo_parser.specs.Inner.Reads.{ReadsCommands, ReadsWord}
 use Rattle.geo_parser.proofs.CommandReading.{Passes-length}
 use Rattle.geo_parser.proofs.CommandsReading.{ReadsCommands-more, at_some}
 use Rattle.geo_parser.proofs.Reading.{answered}

@@ -1,5 +1,5 @@
 use Rattle.std.proofs.Common.{length}
-use Rattle.geo_parser.specs.Reads.{ReadsCommands}
+use Rattle.geo_parser.specs.Inner.Reads.{ReadsCommands}
 use Rattle.geo_parser.proofs.reader.Reader.commands.Given as goal
 
 -- the commands so far stand there, and the next one is due

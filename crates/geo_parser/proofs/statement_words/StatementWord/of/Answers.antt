@@ -1,6 +1,6 @@
 use Rattle.std.proofs.Common.{◌≡◌, ℕ, List, IfSome, map, option_map, ap, sym, ◌∙◌, refl, subst}
 use Rattle.std.specs.Prelude.{Option}
-use Rattle.geo_parser.specs.StatementWords.{statement_due, statement_text}
+use Rattle.geo_parser.specs.Inner.StatementWords.{statement_due, statement_text}
 use Rattle.geo_parser.specs.declared.statement_words.StatementWord.{StatementWord}
 use Rattle.geo_parser.specs.declared.statement_words.TheConstants.{STATEMENTS}
 use Rattle.geo_parser.proofs.Finding.{due_behind-dues, text_found}

@@ -2,7 +2,7 @@ use Rattle.std.proofs.Common.{◌<◌, List, ap, subst, sym, ◌∙◌, arith}
 use Rattle.geo_program.specs.declared.names.Name.{Name}
 use Rattle.geo_program.specs.declared.names.NameKind.TheVariants.{Point}
 use Rattle.geo_program.specs.Names.{name_text}
-use Rattle.geo_program.specs.Printing.{whole_scope}
+use Rattle.geo_program.specs.Inner.Printing.{whole_scope}
 use Rattle.geo_program.proofs.TableLemmas.{table_text, table_within}
 use Rattle.geo_program.proofs.name_table.NameTable.point.Goals as goal
 

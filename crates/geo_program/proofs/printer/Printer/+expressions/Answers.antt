@@ -6,7 +6,7 @@ use Rattle.geo_lexer.specs.Lexemes.{close_brace, number_lexeme, open_brace, word
 use Rattle.geo_program.specs.Expressions.{braced, expression_lexemes}
 use Rattle.geo_program.specs.Names.{name_text}
 use Rattle.geo_program.specs.declared.names.Name.{Name}
-use Rattle.geo_program.specs.Printing.{spaced_text}
+use Rattle.geo_program.specs.Inner.Printing.{spaced_text}
 use Rattle.geo_program.specs.declared.names.NameKind.TheVariants.{Param}
 use Rattle.geo_program.proofs.Spacing.{◌⟫◌, appends, appends_lexeme}
 use Rattle.geo_program.proofs.TermLemmas.{addition_parts, division_parts, integer_kept, multiplication_parts, negation_part, subtraction_parts, tree_printable, unfolds}

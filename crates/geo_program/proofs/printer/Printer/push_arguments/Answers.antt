@@ -3,7 +3,7 @@ use Rattle.std.specs.List.{AllByRecursion, flat_map}
 use Rattle.geo_program.specs.declared.commands.Command.{Command}
 use Rattle.geo_program.specs.Forms.{IsStored, command_form}
 use Rattle.geo_program.specs.CanonicalText.{argument_lexemes}
-use Rattle.geo_program.specs.Printing.{whole_scope, spaced_text}
+use Rattle.geo_program.specs.Inner.Printing.{whole_scope, spaced_text}
 use Rattle.geo_program.specs.WellFormed.{IsArgument}
 use Rattle.geo_program.proofs.Spacing.{appends_none}
 use Rattle.geo_program.proofs.TermLemmas.{number_printable}

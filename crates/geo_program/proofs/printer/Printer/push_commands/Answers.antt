@@ -5,7 +5,7 @@ use Rattle.geo_program.specs.declared.commands.Command.TheVariants.{Point}
 use Rattle.geo_program.specs.declared.names.Name.{Name}
 use Rattle.geo_program.specs.CanonicalText.{command_lexemes, line_text}
 use Rattle.geo_program.specs.Forms.{command_form}
-use Rattle.geo_program.specs.Printing.{whole_scope}
+use Rattle.geo_program.specs.Inner.Printing.{whole_scope}
 use Rattle.geo_program.specs.WellFormed.{IsArgument}
 use Rattle.geo_program.proofs.CommandLines.{arguments_declared, name_left, next_command, next_left, written_all, written_next}
 use Rattle.geo_program.proofs.printer.Printer.push_commands.Goals as goal

@@ -1,6 +1,6 @@
 use Rattle.std.proofs.Common.{◌≡◌, ◌++◌, drop, take}
 use Rattle.geo_program.specs.CanonicalText.{commands_lexemes, no_sketches}
-use Rattle.geo_program.specs.Printing.{lines_text}
+use Rattle.geo_program.specs.Inner.Printing.{lines_text}
 use Rattle.geo_program.specs.WellFormed.{AreCommands, empty_scope, scope_of}
 use Rattle.geo_program.proofs.printer.Printer.push_commands.Given as goal
 

@@ -1,0 +1,3 @@
+-- What private functions and proofs speak of: the size of a line, before anything is multiplied out. No public contract cites it.
+pub mod Sketches
+pub mod Sizes

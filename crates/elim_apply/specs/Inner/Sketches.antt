@@ -1,0 +1,41 @@
+-- The rows of a move by their numbers alone, before anything is multiplied out.
+use Rattle.std.specs.Prelude.{Option, List, [], map, length, IsSomeAnd}
+use Rattle.std.specs.Option.{option_map}
+use Rattle.fraction_poly.specs.declared.table.RowNumbers.{RowNumbers}
+use Rattle.fraction_poly.specs.TableRows.{HasPointsBelow, RowFits, row_numbers}
+use Rattle.geo_poly.specs.declared.replacement.Piece.{Piece}
+use Rattle.geo_poly.specs.declared.replacement.Row.{Row}
+use Rattle.geo_poly.specs.declared.variables.Var.{Var}
+use Rattle.geo_terms.specs.Constructions.{Construction}
+use Rattle.geo_logs.specs.declared.moves.Move.{Move}
+use Rattle.geo_logs.specs.declared.moves.Replacement.{Replacement}
+use Rattle.elim_apply.specs.declared.numbered.NumberedRow.{NumberedRow}
+use Rattle.elim_apply.specs.LemmaTable.{row_of_move}
+
+-- a variable with the numbers of the row that the move has for it
+abbrev pub numbered_row : Construction → Move → Var → Option NumberedRow
+numbered_row c move v = option_map (λ t. record { var = v; numbers = row_numbers t }) (row_of_move c move v)
+
+-- a row of these numbers; its polynomial is not known yet, and 0 stands for it
+abbrev pub sketched : NumberedRow → Row
+sketched n = record {
+  var = n.var;
+  power = n.numbers.power;
+  num = record { poly = []; weight = n.numbers.wa; count = n.numbers.ka; degree = n.numbers.ga };
+}
+
+-- the same of the denominator
+abbrev pub sketched_denominator : RowNumbers → Piece
+sketched_denominator n = record { poly = []; weight = n.wb; count = n.kb; degree = n.gb }
+
+-- rows of these numbers
+abbrev pub sketches : List NumberedRow → List Row
+sketches rows = map sketched rows
+
+-- what a move replaces, by these numbers
+abbrev pub sketch : List NumberedRow → RowNumbers → Replacement
+sketch rows den = record { rows = sketches rows; den = sketched_denominator den; charge = den.charge }
+
+-- the row may be multiplied out: its points are there, and it is within the bounds of a polynomial
+abbrev pub CanMakeRow : Construction → Move → NumberedRow → Type 0
+CanMakeRow c move n = HasPointsBelow (length c.steps) n.var × IsSomeAnd (row_of_move c move n.var) RowFits

@@ -1,0 +1,3 @@
+-- What private functions and proofs speak of: drafts of rows, and terms multiplied out part by part. No public contract cites it.
+pub mod Parts
+pub mod Drafts

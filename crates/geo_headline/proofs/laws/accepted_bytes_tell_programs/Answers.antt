@@ -1,5 +1,0 @@
-use Rattle.geo_headline.proofs.Accepted.{accepted_bytes_tell_programs}
-use Rattle.geo_headline.proofs.laws.accepted_bytes_tell_programs.Goals as goal
-
-pub returns : goal.returns
-returns c = accepted_bytes_tell_programs

@@ -1,5 +1,0 @@
-use Rattle.geo_headline.proofs.Judged.{accepted_logs_do_not_stop}
-use Rattle.geo_headline.proofs.laws.accepted_logs_do_not_stop.Goals as goal
-
-pub returns : goal.returns
-returns c = accepted_logs_do_not_stop

@@ -1,4 +1,0 @@
-pub mod Subjects
-pub mod Laws
-pub mod Accepted
-pub mod Judged

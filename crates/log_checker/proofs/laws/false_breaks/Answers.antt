@@ -1,0 +1,5 @@
+use Rattle.log_checker.proofs.Realised.{false_breaks}
+use Rattle.log_checker.proofs.laws.false_breaks.Goals as goal
+
+pub returns : goal.returns
+returns c = false_breaks

@@ -1,0 +1,5 @@
+use Rattle.log_checker.proofs.Accepted.{programs_have_defined_logs}
+use Rattle.log_checker.proofs.laws.programs_have_defined_logs.Goals as goal
+
+pub returns : goal.returns
+returns c = programs_have_defined_logs

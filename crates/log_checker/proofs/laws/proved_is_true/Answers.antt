@@ -1,0 +1,5 @@
+use Rattle.log_checker.proofs.Realised.{proved_is_true}
+use Rattle.log_checker.proofs.laws.proved_is_true.Goals as goal
+
+pub returns : goal.returns
+returns c = proved_is_true

@@ -1,0 +1,97 @@
+-- Accepted logs as bytes, and what each program has: a subject and a defined log.
+use Rattle.std.specs.Prelude.{◌≡◌, ℕ, ◌≤◌, List, length}
+use Rattle.std.specs.List.{AllByRecursion}
+use Rattle.geo_program.specs.CanonicalText.{canonical_text}
+use Rattle.geo_program.specs.Spelling.{SameSource}
+use Rattle.geo_program.specs.WellFormed.{IsWellFormed, Source}
+use Rattle.geo_conditions.specs.Truth.{Breaks, IsImpossible, IsTrueProgram, Values}
+use Rattle.proof_log.specs.declared.log.Line.{Line}
+use Rattle.proof_log.specs.declared.log.Line.TheVariants.{Start, Ratio, Point, Coords, Cut}
+use Rattle.proof_log.specs.declared.log.Verdict.{Verdict}
+use Rattle.proof_log.specs.declared.log.Verdict.TheVariants.{Proved, False, Impossible}
+use Rattle.proof_log.specs.Lines.{log_text}
+use Rattle.proof_log.specs.Writable.{AllWritable, CanWritePolynomial}
+use Rattle.elim_apply.specs.LemmaTable.{lemma_table}
+use Rattle.geo_logs.specs.Ends.{Ending, IsDefinedLog}
+use Rattle.geo_logs.specs.Logs.{IsAccepted, Subject}
+use Rattle.log_checker.specs.Laws.{EndsWithValues, IsAcceptedLog, IsRealised}
+use Rattle.log_checker.specs.Subjects.{IsSubjectOf, source_lines}
+
+-- BYTES
+-- the bytes are a log of the well-formed program that is accepted with this verdict, within so many steps: the text of lines that may be
+-- written
+pub record Accepts (bytes : List ℕ) (steps : ℕ) (p : Source) (verdict : Verdict) : Type 0 where
+  pub lines : List Line
+  pub writable : AllWritable lines
+  pub written : bytes ≡ log_text lines
+  pub accepted : IsAcceptedLog p steps lines verdict
+
+-- the bytes are the text of lines that end with the verdict, and before it with a sample whose integers are these values
+pub record PrintsValues (bytes : List ℕ) (verdict : Verdict) (v : Values) : Type 0 where
+  pub lines : List Line
+  pub writable : AllWritable lines
+  pub written : bytes ≡ log_text lines
+  pub ends : EndsWithValues lines verdict v
+
+-- what accepted bytes say of their program
+pub record AcceptedBytesMean : Type 0 where
+  -- Proved: it is true, and the placement with the printed integers meets it
+  pub proved : (bytes : List ℕ) (steps : ℕ) (p : Source) → Accepts bytes steps p Proved
+      → IsTrueProgram p × ((v : Values) × PrintsValues bytes Proved v × IsRealised p v)
+  -- False: the printed integers break it
+  pub refuted : (bytes : List ℕ) (steps g : ℕ) (p : Source) → Accepts bytes steps p (False g)
+      → (v : Values) × PrintsValues bytes (False g) v × IsRealised p v × Breaks p v
+  -- Impossible: no placement meets it
+  pub impossible : (bytes : List ℕ) (steps k : ℕ) (p : Source) → Accepts bytes steps p (Impossible k) → IsImpossible p
+
+-- accepted bytes are a log of one program, with one verdict, whatever the steps
+abbrev pub AcceptedBytesTellPrograms : Type 0
+AcceptedBytesTellPrograms =
+    (bytes : List ℕ) (steps steps' : ℕ) (p q : Source) (verdict verdict' : Verdict) → Accepts bytes steps p verdict
+    → Accepts bytes steps' q verdict'
+    → SameSource p q × (verdict ≡ verdict')
+
+-- WHAT EACH PROGRAM HAS
+-- the program is well-formed, and its canonical text has at most 268,435,456 bytes
+pub record IsShortProgram (p : Source) : Type 0 where
+  pub well_formed : IsWellFormed p
+  pub short : length (canonical_text p) ≤ 268435456
+
+-- each such program has a subject
+abbrev pub ProgramsHaveSubjects : Type 0
+ProgramsHaveSubjects = (p : Source) → IsShortProgram p → (subject : Subject) × IsSubjectOf p subject
+
+-- and a defined log, for each number of steps
+abbrev pub ProgramsHaveDefinedLogs : Type 0
+ProgramsHaveDefinedLogs =
+    (p : Source) (steps : ℕ) → IsShortProgram p
+    → (subject : Subject) × IsSubjectOf p subject × ((lines : List Line) × (ending : Ending)
+    × IsDefinedLog lemma_table subject steps lines ending)
+
+-- ONE SUBJECT FOR ALL
+-- subjects of programs with the same lines have the same accepted logs and the same defined logs; so have two subjects of one program
+pub record SubjectsAgree : Type 0 where
+  pub accepted : (p q : Source) (one other : Subject) → IsWellFormed p → IsWellFormed q → source_lines p ≡ source_lines q
+      → IsSubjectOf p one → IsSubjectOf q other
+      → (steps left : ℕ) (lines : List Line) (verdict : Verdict) → IsAccepted lemma_table one steps lines verdict left
+      → IsAccepted lemma_table other steps lines verdict left
+  pub defined : (p q : Source) (one other : Subject) → IsWellFormed p → IsWellFormed q → source_lines p ≡ source_lines q → IsSubjectOf p one
+      → IsSubjectOf q other
+      → (steps : ℕ) (lines : List Line) (ending : Ending) → IsDefinedLog lemma_table one steps lines ending
+      → IsDefinedLog lemma_table other steps lines ending
+
+-- WRITING
+-- the polynomial of the line, where it has one, can be written
+abbrev pub HasWritablePolynomial : Line → Type 0
+HasWritablePolynomial (Start q) = CanWritePolynomial q
+HasWritablePolynomial (Ratio v lemma at q) = CanWritePolynomial q
+HasWritablePolynomial (Point at q) = CanWritePolynomial q
+HasWritablePolynomial (Coords q) = CanWritePolynomial q
+HasWritablePolynomial (Cut by q) = CanWritePolynomial q
+HasWritablePolynomial _ = Unit {0}
+
+-- so it is of each line of an accepted log
+abbrev pub AcceptedPolynomialsAreWritable : Type 0
+AcceptedPolynomialsAreWritable =
+    (p : Source) (steps : ℕ) (lines : List Line) (verdict : Verdict) → IsAcceptedLog p steps lines verdict
+    → AllByRecursion HasWritablePolynomial lines

@@ -1,0 +1,5 @@
+pub mod Shown
+pub mod Subjects
+pub mod Laws
+pub mod Accepted
+pub mod Judged

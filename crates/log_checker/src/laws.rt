@@ -1,0 +1,123 @@
+//! What is proved of programs and their logs. The functions do nothing: what each says is its
+//! contract.
+
+ghost use Rattle.log_checker.specs.Accepted.{AcceptedBytesMean, AcceptedBytesTellPrograms};
+ghost use Rattle.log_checker.specs.Accepted.{AcceptedPolynomialsAreWritable};
+ghost use Rattle.log_checker.specs.Accepted.{ProgramsHaveDefinedLogs, ProgramsHaveSubjects};
+ghost use Rattle.log_checker.specs.Accepted.{SubjectsAgree};
+ghost use Rattle.log_checker.specs.Judged.{AcceptedBytesAreNotRefused, AcceptedLogsDoNotStop};
+ghost use Rattle.log_checker.specs.Judged.{BytesAreReadInOneWay, BytesAreRefusedOnce};
+ghost use Rattle.log_checker.specs.Judged.{FirstStopIsUnique};
+ghost use Rattle.log_checker.specs.Laws.{AcceptedSamplesAreMet, AcceptedVerdictsHold};
+ghost use Rattle.log_checker.specs.Laws.{DefinedLogExists, DefinedLogsAreAccepted};
+ghost use Rattle.log_checker.specs.Laws.{DefinedVerdictsDecide, FalseBreaks, ImpossibleIsNeverMet};
+ghost use Rattle.log_checker.specs.Laws.{MeaningsExclude, ProvedIsTrue};
+ghost use Rattle.log_checker.specs.Shown.{AcceptedLogsAreTrue};
+
+/// What an accepted log says of all placements that meet its program.
+pub fn accepted_verdicts_hold()
+    ensures { AcceptedVerdictsHold }
+{}
+
+/// The sample of an accepted log has one placement that meets its program.
+pub fn accepted_samples_are_met()
+    ensures { AcceptedSamplesAreMet }
+{}
+
+/// An accepted log with Proved names a true program.
+pub fn proved_is_true()
+    ensures { ProvedIsTrue }
+{}
+
+/// An accepted log with False names a program that its printed integers break.
+pub fn false_breaks()
+    ensures { FalseBreaks }
+{}
+
+/// An accepted log with Impossible names a program that no placement meets.
+pub fn impossible_is_never_met()
+    ensures { ImpossibleIsNeverMet }
+{}
+
+/// No two of the three meanings hold of a program.
+pub fn meanings_exclude()
+    ensures { MeaningsExclude }
+{}
+
+/// The verdict of a defined log decides which of the three meanings holds.
+pub fn defined_verdicts_decide()
+    ensures { DefinedVerdictsDecide }
+{}
+
+/// Each program has a defined list with an end, for each number of steps.
+pub fn defined_log_exists()
+    ensures { DefinedLogExists }
+{}
+
+/// The prover's list that ends with a verdict is an accepted log with this verdict.
+pub fn defined_logs_are_accepted()
+    ensures { DefinedLogsAreAccepted }
+{}
+
+/// What accepted bytes say of their program: with Proved it is true, with False the printed
+/// integers break it, and with Impossible no placement meets it.
+pub fn accepted_bytes_mean()
+    ensures { AcceptedBytesMean }
+{}
+
+/// Accepted bytes are a log of one program, with one verdict.
+pub fn accepted_bytes_tell_programs()
+    ensures { AcceptedBytesTellPrograms }
+{}
+
+/// Each well-formed program of at most 268,435,456 bytes has a subject: what its logs are about.
+pub fn programs_have_subjects()
+    ensures { ProgramsHaveSubjects }
+{}
+
+/// And it has a defined log, for each number of steps.
+pub fn programs_have_defined_logs()
+    ensures { ProgramsHaveDefinedLogs }
+{}
+
+/// Whichever subject of a program is taken, the same lists of lines are accepted, and the same is
+/// the defined log.
+pub fn subjects_agree()
+    ensures { SubjectsAgree }
+{}
+
+/// What is read of an accepted log has no first stop.
+pub fn accepted_logs_do_not_stop()
+    ensures { AcceptedLogsDoNotStop }
+{}
+
+/// Bytes are read in one way.
+pub fn bytes_are_read_in_one_way()
+    ensures { BytesAreReadInOneWay }
+{}
+
+/// Accepted bytes are not refused, at no line and for no reason.
+pub fn accepted_bytes_are_not_refused()
+    ensures { AcceptedBytesAreNotRefused }
+{}
+
+/// What is read has one first stop at most: one line, for one reason.
+pub fn first_stop_is_unique()
+    ensures { FirstStopIsUnique }
+{}
+
+/// Bytes are refused at one line at most, for one reason.
+pub fn bytes_are_refused_once()
+    ensures { BytesAreRefusedOnce }
+{}
+
+/// Each polynomial of an accepted log can be written: its variables are sorted and their numbers
+/// are small.
+pub fn accepted_polynomials_are_writable()
+    ensures { AcceptedPolynomialsAreWritable }
+{}
+
+/// An accepted log over the lemma table shows its verdict, of every construction.
+pub fn accepted_logs_are_true()
+    ensures { AcceptedLogsAreTrue }
+{}
