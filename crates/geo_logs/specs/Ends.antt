@@ -1,17 +1,15 @@
 -- The prover's log with its end: a verdict, or the first line at which a stop is due.
-use Rattle.std.specs.Prelude.{◌≡◌, ℕ, suc, ◌^◌, ◌<◌, ◌≤◌, ◌⊎◌, max, ℤ, List, [], ◌∷◌, ◌++◌, length}
-use Rattle.geo_poly.specs.declared.limits.Which.TheVariants.{Norm, Degree}
+use Rattle.std.specs.Prelude.{◌≡◌, ℕ, suc, ◌<◌, ◌≤◌, ◌⊎◌, ℤ, List, [], ◌∷◌, ◌++◌, length}
 use Rattle.geo_poly.specs.declared.variables.Var.{Var}
 use Rattle.geo_poly.specs.Polynomials.{Terms}
 use Rattle.geo_terms.specs.Constructions.{Construction}
 use Rattle.geo_terms.specs.Trees.{Tree}
-use Rattle.fraction_poly.specs.Measures.{numbers_of}
 use Rattle.proof_log.specs.declared.log.Line.{Line}
 use Rattle.proof_log.specs.declared.log.Line.TheVariants.{Start, End, Sample, StopTooLarge, StopSpent}
 use Rattle.proof_log.specs.declared.log.Verdict.{Verdict}
 use Rattle.geo_logs.specs.declared.moves.Move.{Move}
 use Rattle.geo_logs.specs.Chains.{ChainStep, IsEnd, line_of}
-use Rattle.geo_logs.specs.Starts.{IsStarted, start_charge, start_of}
+use Rattle.geo_logs.specs.Starts.{IsStarted, IsStartStopped, start_of}
 use Rattle.geo_logs.specs.Defined.{IsDefinedChain, IsLogOfProver, IsNextMove, LeadsBySteps, NoCutDue}
 use Rattle.proof_log.specs.Lines.{log_text}
 use Rattle.geo_logs.specs.Logs.{Subject}
@@ -24,13 +22,6 @@ use Rattle.geo_logs.specs.Samples.{IsLeastSample, IsSearchStopped}
 pub data Next : Type 0 where
   comes : Line → Next
   stops : Stop → Next
-
--- a start is stopped: it is not paid; else the greater of its weights, and else the greater of its degrees, passes its limit
-abbrev pub IsStartStopped : ℕ → Tree → Stop → Type 0
-IsStartStopped left e spent = left < start_charge e
-IsStartStopped left e (too_large Norm) = (start_charge e ≤ left) × (2 ^ 127 ≤ max (numbers_of e).wn (numbers_of e).wd)
-IsStartStopped left e (too_large Degree) =
-    (start_charge e ≤ left) × (max (numbers_of e).wn (numbers_of e).wd < 2 ^ 127) × (65535 < max (numbers_of e).gn (numbers_of e).gd)
 
 -- what comes after the header of a chain
 abbrev pub IsAfterHeader : ℕ → Tree → Next → Type 0

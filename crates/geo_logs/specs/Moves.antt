@@ -96,7 +96,5 @@ pub record IsMoved (made : Replacement) (left : ℕ) (q r : Terms) : Type 0 wher
 
 -- the move is stopped: it is not paid; else its weight, and else its degree, passes its limit
 abbrev pub IsMoveStopped : Replacement → ℕ → Terms → Stop → Type 0
-IsMoveStopped made left q spent = left < move_charge made q
-IsMoveStopped made left q (too_large Norm) = (move_charge made q ≤ left) × (2 ^ 127 ≤ replaced_weight made.rows made.den q)
-IsMoveStopped made left q (too_large Degree) =
-    (move_charge made q ≤ left) × (replaced_weight made.rows made.den q < 2 ^ 127) × (65535 < replaced_degree made.rows made.den q)
+IsMoveStopped made left q =
+    IsLineStopped left (move_charge made q) (replaced_weight made.rows made.den q) (replaced_degree made.rows made.den q)
