@@ -12,9 +12,8 @@ use Rattle.geo_logs.specs.declared.moves.Move.{Move}
 use Rattle.geo_logs.specs.declared.moves.Replacement.{Replacement}
 use Rattle.geo_logs.specs.Chains.{ChainStep, moves, cuts, IsEnd, line_of}
 use Rattle.geo_poly.specs.Cuts.{IsCut}
-use Rattle.geo_logs.specs.Starts.{IsStarted}
+use Rattle.geo_logs.specs.Starts.{IsStarted, IsStartStopped}
 use Rattle.geo_logs.specs.Defined.{LeadsBySteps, NoCutDue}
-use Rattle.geo_logs.specs.Starts.{IsStartStopped}
 use Rattle.geo_logs.specs.Ends.{IsAfterPolynomial, Next, comes, stops}
 use Rattle.geo_logs.specs.Moves.{IsMoveStopped, IsMoved, Table, move_charge, replacement, Stop, spent, too_large}
 use Rattle.geo_logs.proofs.OneStep.{no_cut, no_move, one_cut, one_factor, one_move, one_result}

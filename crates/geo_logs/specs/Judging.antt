@@ -16,7 +16,6 @@ use Rattle.geo_logs.specs.declared.moves.Move.{Move}
 use Rattle.geo_logs.specs.Moves.{IsMoveStopped, Stop, Table, replacement}
 use Rattle.geo_logs.specs.Starts.{IsStarted, IsStartStopped, start_of}
 use Rattle.geo_logs.specs.Chains.{IsAcceptedChain, IsEnd, LeadsTo, line_of, moves}
-
 use Rattle.geo_logs.specs.Logs.{AreConditionsWorked, Subject}
 use Rattle.geo_logs.specs.Places.{AreConditionsBegun, Place, before_line, before_sample, before_start, first_lines, in_chain}
 use Rattle.geo_logs.specs.Samples.{AreTriesStopped, IsAcceptedSample, sample_variables}
