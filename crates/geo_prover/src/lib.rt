@@ -1,0 +1,23 @@
+//! The prover: writes the defined log of a program, line by line.
+#![tactic(auto)]
+
+mod chains;
+mod conditions;
+mod ending;
+mod errors;
+mod findings;
+mod goals;
+mod known;
+mod lines;
+mod log_writer;
+mod program_lines;
+mod proving;
+mod reading;
+mod sample_variables;
+mod summary;
+#[cfg(test)]
+mod tests;
+
+pub use errors::ProveError;
+pub use proving::prove;
+pub use summary::Summary;
