@@ -15,7 +15,7 @@ use Rattle.geo_conditions.proofs.Decisions.{lists_exist}
 use Rattle.proof_log.specs.declared.log.Line.{Line}
 use Rattle.proof_log.specs.declared.log.Line.TheVariants.{Header, Program as ProgramLine, Condition, Goal, Verdict as VerdictLine}
 use Rattle.proof_log.specs.declared.log.Verdict.{Verdict}
-use Rattle.proof_log.specs.declared.log.Verdict.TheVariants.{Proved}
+use Rattle.proof_log.specs.declared.log.Verdict.TheVariants.{Proved, False, Impossible}
 use Rattle.proof_log.proofs.NoLineFeeds.{logs_told}
 use Rattle.geo_logs.specs.Chains.{chain_lines}
 use Rattle.geo_logs.specs.Logs.{AreConditionsWorked, AreGoalsWorked, Chains, Item, Samples, known_by}
@@ -26,15 +26,22 @@ use Rattle.log_checker.proofs.Reached.{defined_log_exists}
 
 -- WHAT THEY MEAN
 pub accepted_bytes_mean : AcceptedBytesMean
-accepted_bytes_mean = record {
-  proved = λ bytes steps p a.
-      let met = accepted_samples_are_met p steps a.lines Proved a.accepted tt in
-      (proved_is_true p steps a.lines a.accepted, (met.0, record { lines = a.lines; writable = a.writable; written = a.written; ends = met.1 }, met.2));
-  refuted = λ bytes steps g p a.
-      let broken = false_breaks p steps g a.lines a.accepted in
-      (broken.0, record { lines = a.lines; writable = a.writable; written = a.written; ends = broken.1 }, record { placed = broken.2.placed; has = broken.2.has; meets = broken.2.meets; unique = broken.2.unique }, broken.2);
-  impossible = λ bytes steps k p a. impossible_is_never_met p steps k a.lines a.accepted;
-}
+accepted_bytes_mean bytes steps p Proved a =
+    let met = accepted_samples_are_met p steps a.lines Proved a.accepted tt in
+    (
+      proved_is_true p steps a.lines a.accepted,
+      (met.0, record { lines = a.lines; writable = a.writable; written = a.written; ends = met.1 }, met.2),
+    )
+accepted_bytes_mean bytes steps p (False g) a =
+    let broken = false_breaks p steps g a.lines a.accepted in
+    let breaks = broken.2 in
+    (
+      broken.0,
+      record { lines = a.lines; writable = a.writable; written = a.written; ends = broken.1 },
+      record { placed = breaks.placed; has = breaks.has; meets = breaks.meets; unique = breaks.unique },
+      breaks,
+    )
+accepted_bytes_mean bytes steps p (Impossible k) a = impossible_is_never_met p steps k a.lines a.accepted
 
 -- THE LINES OF THE PROGRAM
 -- the first line is none of a program

@@ -434,4 +434,4 @@ midpoint_accepts = record {
 
 -- and so the program is true
 pub midpoint_true : IsTrueProgram midpoint_source
-midpoint_true = (accepted_bytes_mean.proved midpoint_text 100 midpoint_source midpoint_accepts).0
+midpoint_true = (accepted_bytes_mean midpoint_text 100 midpoint_source Proved midpoint_accepts).0

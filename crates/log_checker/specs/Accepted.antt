@@ -33,16 +33,17 @@ pub record PrintsValues (bytes : List ℕ) (verdict : Verdict) (v : Values) : Ty
   pub written : bytes ≡ log_text lines
   pub ends : EndsWithValues lines verdict v
 
--- what accepted bytes say of their program
-pub record AcceptedBytesMean : Type 0 where
-  -- Proved: it is true, and the placement with the printed integers meets it
-  pub proved : (bytes : List ℕ) (steps : ℕ) (p : Source) → Accepts bytes steps p Proved
-      → IsTrueProgram p × ((v : Values) × PrintsValues bytes Proved v × IsRealised p v)
-  -- False: the printed integers break it
-  pub refuted : (bytes : List ℕ) (steps g : ℕ) (p : Source) → Accepts bytes steps p (False g)
-      → (v : Values) × PrintsValues bytes (False g) v × IsRealised p v × Breaks p v
-  -- Impossible: no placement meets it
-  pub impossible : (bytes : List ℕ) (steps k : ℕ) (p : Source) → Accepts bytes steps p (Impossible k) → IsImpossible p
+-- what accepted bytes with this verdict say of their program. Proved: it is true, and the placement with the printed integers meets it.
+-- False: the printed integers break it. Impossible: no placement meets it
+abbrev pub BytesMean : List ℕ → Source → Verdict → Type 0
+BytesMean bytes p Proved = IsTrueProgram p × ((v : Values) × PrintsValues bytes Proved v × IsRealised p v)
+BytesMean bytes p (False g) = (v : Values) × PrintsValues bytes (False g) v × IsRealised p v × Breaks p v
+BytesMean bytes p (Impossible k) = IsImpossible p
+
+-- accepted bytes mean what they say, whoever wrote them
+abbrev pub AcceptedBytesMean : Type 0
+AcceptedBytesMean =
+    (bytes : List ℕ) (steps : ℕ) (p : Source) (verdict : Verdict) → Accepts bytes steps p verdict → BytesMean bytes p verdict
 
 -- accepted bytes are a log of one program, with one verdict, whatever the steps
 abbrev pub AcceptedBytesTellPrograms : Type 0
