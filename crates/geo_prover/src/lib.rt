@@ -8,11 +8,9 @@ mod errors;
 mod findings;
 mod goals;
 mod known;
-mod lines;
 mod log_writer;
 mod program_lines;
 mod proving;
-mod reading;
 mod sample_variables;
 mod summary;
 #[cfg(test)]

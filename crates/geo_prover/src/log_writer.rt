@@ -1,8 +1,10 @@
 //! Writes a log line by line, within the limit of its text.
 
-ghost use Rattle.std.specs.Prelude.{◌≡◌, ◌≤◌, [], ◌∷◌, IfErr, OnOk};
-ghost use Rattle.geo_base.specs.Devices.{Grows};
+ghost use Rattle.std.specs.Prelude.{◌≡◌, ◌≤◌, ℕ, [], ◌∷◌, take, IfErr, IsErrOf, OnErr, OnOk};
+ghost use Rattle.geo_base.specs.Devices.{Grows, HasRisen};
 ghost use Rattle.geo_logs.specs.Moves.{spent, too_large};
+ghost use Rattle.geo_prover.specs.Inner.Causes.{IsOfSink};
+ghost use Rattle.proof_log.specs.Lines.{log_text};
 ghost use Rattle.proof_log.specs.Writable.{IsWritable};
 
 use crate::errors::ProveError;
@@ -15,6 +17,7 @@ use std::alloc::Global;
 const LOG_LIMIT: u64 = 67_108_864;
 
 /// How much of a log has been written.
+#[derive(Drop)]
 pub struct LogWriter {
     /// How many lines.
     pub lines: u64,
@@ -87,13 +90,31 @@ impl LogWriter {
 }
 
 /// Writes a line, whatever the limit.
-fn put_line<K: Sink>(alloc: Global, sink: &mut K, line: &Line) -> Result<(), ProveError> {
+fn put_line<K: Sink>(alloc: Global, sink: &mut K, line: &Line) -> Result<(), ProveError>
+    requires { IsWritable line.now }
+    ensures ok { OnOk result
+        (Grows (K.held sink.old) (log_text (line.now ∷ [])) (K.held sink.new)) }
+    ensures part { OnErr result ((n : ℕ)
+        × Grows (K.held sink.old) (take n (log_text (line.now ∷ []))) (K.held sink.new)) }
+    ensures causes { IfErr result IsOfSink }
+    ensures fault { IsErrOf result ProveError.WriteFault
+        → HasRisen (K.faults sink.old) (K.faults sink.new) }
+    ensures faults { K.faults sink.old ≤ K.faults sink.new }
+{
     let text = write_line(alloc, line)?;
     put(sink, &text.bytes)
 }
 
 /// Writes a text.
-fn put<K: Sink>(sink: &mut K, text: &[u8]) -> Result<(), ProveError> {
+fn put<K: Sink>(sink: &mut K, text: &[u8]) -> Result<(), ProveError>
+    ensures ok { OnOk result (Grows (K.held sink.old) text.now (K.held sink.new)) }
+    ensures part { OnErr result ((n : ℕ)
+        × Grows (K.held sink.old) (take n text.now) (K.held sink.new)) }
+    ensures causes { IfErr result IsOfSink }
+    ensures fault { IsErrOf result ProveError.WriteFault
+        → HasRisen (K.faults sink.old) (K.faults sink.new) }
+    ensures faults { K.faults sink.old ≤ K.faults sink.new }
+{
     match write_all(sink, text) {
         Ok(()) => Ok(()),
         Err(PutError::Failed) => Err(ProveError::WriteFault),
