@@ -1,13 +1,19 @@
 //! The chains of the conditions.
 
-use crate::chains::{Task, WorkedChain, work_chain};
+ghost use Rattle.std.specs.Prelude.{◌≡◌, ◌+◌, ◌^◌, ◌<◌, IfErr, IfNone, IfOk, IfSome, OnOk, length};
+ghost use Rattle.geo_poly.specs.Specialise.{NoneZero};
+ghost use Rattle.geo_prover.specs.Inner.Halting.{Halts, IsImpossibleAt, Passes};
+ghost use Rattle.geo_prover.specs.Inner.Parts.{CanWrite};
+ghost use Rattle.geo_prover.specs.Inner.Tasks.{IsConditionTask, IsReady, conditions_from, goals_from};
+ghost use Rattle.geo_prover.specs.Inner.Written.{state};
+
+use crate::chains::{Task, work_chain};
 use crate::errors::ProveError;
 use crate::findings::Findings;
 use crate::log_writer::LogWriter;
 use geo_base::{Budget, Sink, Text};
 use geo_conditions::Problem;
 use geo_points::NoMemory;
-use geo_poly::lists::Vars;
 use proof_log::Line;
 use std::alloc::Global;
 
@@ -20,7 +26,26 @@ pub fn work_conditions<K: Sink>(
     budget: &mut Budget,
     log: &mut LogWriter,
     sink: &mut K,
-) -> Result<Option<u32>, ProveError> {
+) -> Result<Option<u32>, ProveError>
+    requires ready { IsReady problem.now }
+    requires nonzero { NoneZero findings.old.ends }
+    requires writable { CanWrite problem.now.steps (conditions_from problem.now 0
+        findings.old.known findings.old.ends budget.old.left) log.old.bytes }
+    ensures met { IfOk result (λ found. IfNone found (Passes
+        (conditions_from problem.now 0 findings.old.known findings.old.ends budget.old.left)
+        (goals_from problem.now 0 findings.new.known findings.new.ends budget.new.left)
+        (state log.old (K.held sink.old) (K.faults sink.old))
+        (state log.new (K.held sink.new) (K.faults sink.new)))) }
+    ensures impossible { IfOk result (λ found. IfSome found (IsImpossibleAt
+        (conditions_from problem.now 0 findings.old.known findings.old.ends budget.old.left)
+        budget.new.left (state log.old (K.held sink.old) (K.faults sink.old))
+        (state log.new (K.held sink.new) (K.faults sink.new)))) }
+    ensures nonzero { OnOk result (NoneZero findings.new.ends) }
+    ensures err { IfErr result (Halts problem.now.steps
+        (conditions_from problem.now 0 findings.old.known findings.old.ends budget.old.left)
+        (state log.old (K.held sink.old) (K.faults sink.old))
+        (state log.new (K.held sink.new) (K.faults sink.new))) }
+{
     for i in 0..problem.conditions.items.len() {
         let task = condition_task(alloc, problem, i)?;
         let known = &findings.known;
@@ -34,7 +59,12 @@ pub fn work_conditions<K: Sink>(
 }
 
 /// The chain that is due for the condition at place i.
-fn condition_task(alloc: Global, problem: &Problem, i: usize) -> Result<Task, NoMemory> {
+fn condition_task(alloc: Global, problem: &Problem, i: usize) -> Result<Task, NoMemory>
+    requires place { i < length problem.now.conditions }
+    requires small { i + 1 < 2 ^ 32 }
+    ensures { IfOk result (λ task.
+        IsConditionTask problem.now.conditions i task.header task.term) }
+{
     let item = &problem.conditions.items[i];
     let header = Line::Condition {
         k: i as u32 + 1,
@@ -47,7 +77,9 @@ fn condition_task(alloc: Global, problem: &Problem, i: usize) -> Result<Task, No
 }
 
 /// The same text.
-pub fn copied(alloc: Global, text: &Text) -> Result<Text, NoMemory> {
+pub fn copied(alloc: Global, text: &Text) -> Result<Text, NoMemory>
+    ensures { IfOk result (λ copy. copy ≡ text.now) }
+{
     Ok(Text {
         bytes: Vec::from_slice(alloc, &text.bytes)?,
     })
