@@ -121,9 +121,9 @@ fn write_start<K: Sink>(
 {
     let line = Line::Start(first);
     log.write(alloc, sink, &line)?;
-    match line {
-        Line::Start(first) => Ok(first),
-        _ => unreachable!(),
+    match polynomial_of(line) {
+        Some(first) => Ok(first),
+        None => unreachable!(),
     }
 }
 
