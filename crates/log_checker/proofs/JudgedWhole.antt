@@ -19,7 +19,7 @@ use Rattle.geo_logs.specs.Samples.{IsAcceptedSample}
 use Rattle.log_checker.specs.Accepted.{Accepts, IsShortProgram}
 use Rattle.log_checker.specs.Judged.{AreRead, BeginsWithProgram, BytesAreJudged, GoesOnWith, IsFirstStop, IsJudged, IsOfProgramOrNone, IsProgramOver, IsReadable, Refuses, RestsAreJudged}
 use Rattle.log_checker.specs.Subjects.{IsSubjectOf, source_lines}
-use Rattle.log_checker.proofs.Accepted.{programs_have_subjects, text_of_lines}
+use Rattle.log_checker.proofs.AcceptedBytes.{programs_have_subjects, text_of_lines}
 use Rattle.log_checker.proofs.Onwards.{conditions_start}
 use Rattle.log_checker.proofs.Stepping.{Ends, closed, lines_go_on_or_are_refused}
 

@@ -29,7 +29,7 @@ pub mod LineFeeds
 pub mod WritableLines
 pub mod JudgedWhole
 pub mod DefinedBytes
-pub mod Accepted
+pub mod AcceptedBytes
 pub mod Midpoints
 pub mod AlikeSteps
 pub mod AlikeLogs

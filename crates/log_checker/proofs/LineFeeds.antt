@@ -29,7 +29,7 @@ use Rattle.proof_log.specs.Inner.Reading.{Passes, is_number_byte}
 use Rattle.proof_log.specs.Writable.{HasNoLineFeed}
 use Rattle.proof_log.proofs.Runs.{integer_passes, wide}
 use Rattle.geo_logs.specs.Logs.{Item, Subject}
-use Rattle.log_checker.specs.Subjects.{IsSubjectOf, source_lines}
+use Rattle.log_checker.specs.Subjects.{IsSubjectOf, SourceLinesHaveNoLineFeed, source_lines}
 use Rattle.log_checker.proofs.Places.{At, each_at, of_map}
 use Rattle.log_checker.proofs.Ready.{log_condition}
 use Rattle.log_checker.proofs.Verdicts.{log_goal, parts_of}
@@ -67,7 +67,7 @@ all_one_line : (lines : List (List Lexeme)) → MayAllStand (flat_map (λ line. 
 all_one_line [] h = tt
 all_one_line (l ∷ ls) h = (line_one_line l (each_front MayStand l (flat_map (λ line. line) ls) h), all_one_line ls (each_back MayStand l (flat_map (λ line. line) ls) h))
 
-pub program_one_line : (p : Source) → IsWellFormed p → AllByRecursion HasNoLineFeed (source_lines p)
+pub program_one_line : SourceLinesHaveNoLineFeed
 program_one_line p w =
     let lines = line_lexemes (no_sketches p.commands) p in
     let spelt = canonical_text_spelt p w in

@@ -16,6 +16,7 @@ ghost use Rattle.log_checker.specs.Laws.{DefinedLogExists, DefinedLogsAreAccepte
 ghost use Rattle.log_checker.specs.Laws.{DefinedVerdictsDecide, FalseBreaks, ImpossibleIsNeverMet};
 ghost use Rattle.log_checker.specs.Laws.{MeaningsExclude, ProvedIsTrue};
 ghost use Rattle.log_checker.specs.Shown.{AcceptedLogsAreTrue};
+ghost use Rattle.log_checker.specs.Subjects.{SourceLinesHaveNoLineFeed};
 
 /// What an accepted log says of all placements that meet its program.
 pub fn accepted_verdicts_hold()
@@ -160,4 +161,9 @@ pub fn rests_are_judged()
 /// Bytes are an accepted log, or they are refused.
 pub fn bytes_are_judged()
     ensures { BytesAreJudged }
+{}
+
+/// The lines of a well-formed program have no line feed.
+pub fn source_lines_have_no_line_feed()
+    ensures { SourceLinesHaveNoLineFeed }
 {}
