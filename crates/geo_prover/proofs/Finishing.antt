@@ -34,8 +34,11 @@ use Rattle.log_checker.specs.Accepted.{IsShortProgram}
 use Rattle.log_checker.specs.Subjects.{IsSubjectOf, log_item, source_lines}
 use Rattle.log_checker.proofs.Accepted.{programs_have_defined_logs}
 use Rattle.log_checker.proofs.Places.{At, at_map, each_at, each_of}
+use Rattle.log_checker.proofs.DefinedBytes.{defined_bytes_are_accepted}
+use Rattle.log_checker.proofs.Reached.{beginnings_go_on}
 use Rattle.log_checker.proofs.Realised.{conditions_named, goals_named}
 use Rattle.log_checker.proofs.Verdicts.{parts_of, valid}
+use Rattle.log_checker.proofs.WritableLines.{next_lines_are_writable}
 use Rattle.geo_prover.specs.declared.errors.ProveError.{ProveError}
 use Rattle.geo_prover.specs.declared.errors.ProveError.TheVariants.{TooLarge, Spent, TooLong, WriteFault, NoMemory}
 use Rattle.geo_prover.specs.declared.summary.Summary.{Summary}
@@ -46,7 +49,6 @@ use Rattle.geo_prover.specs.Inner.Halting.{Finishes, Halts, IsBrokenOff, IsPiece
 use Rattle.geo_prover.specs.Inner.Parts.{CanWrite, Continues, IsInside, Part, conditions_part, items_of, log_part}
 use Rattle.geo_prover.specs.Inner.Tasks.{IsItemReady, IsReady, conditions_from}
 use Rattle.geo_prover.specs.Inner.Written.{State, Writes}
-use Rattle.geo_prover.proofs.Awaited.{beginnings_go_on, defined_bytes_are_accepted, next_lines_are_writable}
 use Rattle.geo_prover.proofs.Passing.{halts_on, log_text-append, text_length-append}
 
 -- FRONTS

@@ -29,7 +29,7 @@ use Rattle.geo_prover.specs.Inner.Written.{State, Writes}
 use Rattle.geo_prover.proofs.Passing.{passes_at_once, reaches, writes_more, writes_nothing}
 
 -- PLACES
-at_drop : {A : Type 0} (xs : List A) (i : ℕ) (x : A) → slice_get xs i ≡ Some x → drop i xs ≡ x ∷ drop (suc i) xs
+pub at_drop : {A : Type 0} (xs : List A) (i : ℕ) (x : A) → slice_get xs i ≡ Some x → drop i xs ≡ x ∷ drop (suc i) xs
 at_drop [] i x e = absurd (let f : ⊥ = cc in f)
 at_drop (y ∷ ys) zero x e = let same : y ≡ x = cc in ap (λ z. z ∷ ys) same
 at_drop (y ∷ ys) (suc i) x e = at_drop ys i x e
@@ -78,6 +78,12 @@ module _ (problem : Problem) where
       abbrev own : Item
       own = log_item (item_form c.nodes item)
 
+      abbrev rest : List Item
+      rest = items_of c.nodes (drop (suc i) problem.conditions)
+
+      abbrev lines : List Line
+      lines = chain_lines header (term item) h.chain
+
       -- where it does not end in 0, the next condition follows
       pub condition_passes : end ≢ []
           → Passes (conditions_from problem i known listed left) (conditions_from problem (suc i) (known ++ cons_option variable []) (listed ++ end ∷ []) left') s t
@@ -105,9 +111,6 @@ module _ (problem : Problem) where
         };
         written = h.written;
       }
-        where
-          abbrev rest : List Item
-          rest = items_of c.nodes (drop (suc i) problem.conditions)
 
       -- where it does, it is impossible
       pub condition_impossible : end ≡ [] → IsImpossibleAt (conditions_from problem i known listed left) left' s t (suc i)
@@ -127,9 +130,6 @@ module _ (problem : Problem) where
             );
         written = h.written;
       }
-        where
-          abbrev lines : List Line
-          lines = chain_lines header (term item) h.chain
 
     -- behind all conditions come the goals
     pub conditions_over : (s : State) → length problem.conditions ≤ i → Passes (conditions_from problem i known listed left) (goals_from problem 0 known listed left) s s
