@@ -49,6 +49,7 @@ use Rattle.geo_prover.specs.Inner.Halting.{Finishes, Halts, IsBrokenOff, IsPiece
 use Rattle.geo_prover.specs.Inner.Parts.{CanWrite, Continues, IsInside, Part, conditions_part, items_of, log_part}
 use Rattle.geo_prover.specs.Inner.Tasks.{IsItemReady, IsReady, conditions_from}
 use Rattle.geo_prover.specs.Inner.Written.{State, Writes}
+use Rattle.geo_prover.proofs.Listing.{conditions_start}
 use Rattle.geo_prover.proofs.Passing.{halts_on, log_text-append, text_length-append}
 
 -- FRONTS
@@ -87,19 +88,6 @@ at_length (x ∷ xs) line rest = at_length xs line rest
 take_length : (before rest : List Line) → before ≡ take (length before) (before ++ rest)
 take_length [] rest = refl
 take_length (x ∷ xs) rest = ap (λ ys. x ∷ ys) (take_length xs rest)
-
--- the place before the first of some goals, and before the first of some conditions
-module _ (c : Construction) where
-  abbrev Begun : List Item → List Var → List Terms → ℕ → ℕ → List Item → List Line → Place → Type 0
-  Begun goals known listed k left items = (conditions_part c goals known listed k left items).begun
-
-  goals_start : (known : List Var) (listed : List Terms) (left : ℕ) (goals : List Item) → (place : Place) × Begun goals known listed 1 left [] [] place
-  goals_start known listed left [] = (before_sample listed left, inl (refl, refl))
-  goals_start known listed left (item ∷ items) = (before_line (Goal 1 item.text), inl (inl (refl, refl)))
-
-  conditions_start : (goals : List Item) (known : List Var) (listed : List Terms) (left : ℕ) (items : List Item) → (place : Place) × Begun goals known listed 1 left items [] place
-  conditions_start goals known listed left [] = goals_start known listed left goals
-  conditions_start goals known listed left (item ∷ items) = (before_line (Condition 1 item.text), inl (inl (refl, refl)))
 
 module _ (p : Source) (problem : Problem) (steps : ℕ) (w : IsWellFormed p) (small : steps < 2 ^ 127) (is : IsProblem p (form_of_problem problem) problem.conditions problem.goals) where
   abbrev c : Construction
@@ -246,7 +234,7 @@ module _ (p : Source) (problem : Problem) (steps : ℕ) (w : IsWellFormed p) (sm
 
     begun_among : (before rest : List Line) → first_lines subject ≡ before ++ rest → (place : Place) × whole.begun before place
     begun_among before [] e =
-        let start = conditions_start c subject.goals [] [] steps subject.conditions in
+        let start = conditions_start c subject.goals [] [] 1 steps subject.conditions in
         (start.0, inr ([], sym (e ∙ append-nil before) ∙ sym (append-nil (first_lines subject)), start.1))
     begun_among before (line ∷ rest) e = (before_line line, begun_before before line rest e)
 

@@ -1,12 +1,15 @@
 -- The chains of conditions and goals, one after another.
-use Rattle.std.proofs.Common.{◌≡◌, ◌≢◌, ℕ, zero, suc, ◌+◌, ◌<◌, ◌≤◌, ◌^◌, inl, inr, Option, Some, None, List, [], ◌∷◌, ◌++◌, map, length, append-nil, append_assoc, refl, sym, ◌∙◌, ap, subst, drop, ℤ, arith}
+use Rattle.std.proofs.Common.{◌≡◌, ◌≢◌, ℕ, zero, suc, ◌+◌, ◌<◌, ◌≤◌, ◌^◌, inl, inr, Option, Some, None, List, [], ◌∷◌, ◌++◌, map, length, append-nil, append_assoc, add-one, refl, sym, ◌∙◌, ap, subst, drop, ℤ, arith}
 use Rattle.std.specs.Prelude.{slice_get}
 use Rattle.std.specs.List.{cons_option}
+use Rattle.std.proofs.lemmas.List.Elements.{recursion_from_All}
 use Rattle.geo_conditions.specs.declared.items.Item.{Item as ListedItem}
 use Rattle.geo_conditions.specs.declared.problem.Problem.{Problem}
 use Rattle.geo_conditions.specs.Lists.{item_form}
 use Rattle.geo_poly.specs.declared.variables.Var.{Var}
+use Rattle.geo_points.specs.declared.ids.TermId.{TermId}
 use Rattle.geo_poly.specs.Polynomials.{Terms}
+use Rattle.geo_poly.specs.Specialise.{NoneZero}
 use Rattle.geo_terms.specs.Constructions.{Construction}
 use Rattle.geo_terms.specs.Stores.{Store, tree_of}
 use Rattle.geo_terms.specs.Trees.{Tree}
@@ -21,12 +24,15 @@ use Rattle.geo_logs.specs.Logs.{BeginsWithChain, Item, known_by, only_variable}
 use Rattle.geo_logs.specs.Places.{Place, before_line, before_sample}
 use Rattle.geo_logs.specs.Samples.{IsLeastSample}
 use Rattle.geo_logs.specs.Starts.{start_of}
+use Rattle.geo_logs.proofs.AcceptedProvers.{All-push}
 use Rattle.log_checker.specs.Subjects.{log_item}
-use Rattle.geo_prover.specs.Inner.Halting.{Finishes, IsImpossibleAt, Passes, WorksChain}
-use Rattle.geo_prover.specs.Inner.Parts.{CanWrite, Part, chain_part, conditions_part, end_part, goals_part, here_part, items_of}
-use Rattle.geo_prover.specs.Inner.Tasks.{conditions_from, goals_from}
+use Rattle.log_checker.proofs.Places.{each_at}
+use Rattle.geo_prover.specs.declared.errors.ProveError.TheVariants.{NoMemory}
+use Rattle.geo_prover.specs.Inner.Halting.{Finishes, Halts, IsImpossibleAt, Passes, WorksChain}
+use Rattle.geo_prover.specs.Inner.Parts.{CanWrite, IsInside, Part, chain_part, conditions_part, end_part, goals_part, here_part, items_of}
+use Rattle.geo_prover.specs.Inner.Tasks.{IsConditionTask, IsGoalTask, IsItemReady, IsReady, conditions_from, goals_from}
 use Rattle.geo_prover.specs.Inner.Written.{State, Writes}
-use Rattle.geo_prover.proofs.Passing.{passes_at_once, reaches, writes_more, writes_nothing}
+use Rattle.geo_prover.proofs.Passing.{memory_in, passes_at_once, reaches, writes_more, writes_nothing}
 
 -- PLACES
 pub at_drop : {A : Type 0} (xs : List A) (i : ℕ) (x : A) → slice_get xs i ≡ Some x → drop i xs ≡ x ∷ drop (suc i) xs
@@ -39,6 +45,21 @@ past_end [] zero h = refl
 past_end [] (suc i) h = refl
 past_end (x ∷ xs) zero h = absurd (omega (arith, h))
 past_end (x ∷ xs) (suc i) h = past_end xs i (omega (arith, h))
+
+some_at : {A : Type 0} (xs : List A) (i : ℕ) → i < length xs → (x : A) × (slice_get xs i ≡ Some x)
+some_at [] i h = absurd (omega (arith, h))
+some_at (x ∷ xs) zero h = (x, refl)
+some_at (x ∷ xs) (suc i) h = some_at xs i (omega (arith, h))
+
+-- what is due first
+module _ (c : Construction) where
+  goals_start : (known : List Var) (listed : List Terms) (k left : ℕ) (goals : List Item) → (place : Place) × (goals_part c known listed k left goals).begun [] place
+  goals_start known listed k left [] = (before_sample listed left, inl (refl, refl))
+  goals_start known listed k left (item ∷ items) = (before_line (Goal k item.text), inl (inl (refl, refl)))
+
+  pub conditions_start : (goals : List Item) (known : List Var) (listed : List Terms) (k left : ℕ) (items : List Item) → (place : Place) × (conditions_part c goals known listed k left items).begun [] place
+  conditions_start goals known listed k left [] = goals_start known listed 1 left goals
+  conditions_start goals known listed k left (item ∷ items) = (before_line (Condition k item.text), inl (inl (refl, refl)))
 
 module _ (problem : Problem) where
   abbrev c : Construction
@@ -195,6 +216,103 @@ module _ (problem : Problem) where
         passes_at_once (goals_from problem i known listed left) (end_part c listed Proved left) s
         (λ lines place h. subst (λ items. (Goals items).begun lines place) (sym none) h)
         (λ lines verdict l w. subst (λ items. (Goals items).whole lines verdict l) (sym none) w)
+
+    -- MEMORY
+    pub conditions_halt : (s : State) → s.bytes ≤ 67108864 → Halts c (conditions_from problem i known listed left) s s NoMemory
+    conditions_halt s fits =
+        let start = conditions_start c goals known listed (suc i) left (items_of c.nodes (drop i problem.conditions)) in
+        memory_in c (conditions_from problem i known listed left) start.0 s start.1 fits
+
+    pub goals_halt : (s : State) → s.bytes ≤ 67108864 → Halts c (goals_from problem i known listed left) s s NoMemory
+    goals_halt s fits =
+        let start = goals_start c known listed (suc i) left (items_of c.nodes (drop i problem.goals)) in
+        memory_in c (goals_from problem i known listed left) start.0 s start.1 fits
+
+    -- NUMBERS
+    -- the number of the next condition fits
+    pub condition_small : (bytes : ℕ) → CanWrite c (conditions_from problem i known listed left) bytes → bytes ≤ 67108864 → i < length problem.conditions → i + 1 < 2 ^ 32
+    condition_small bytes can fits lt =
+        let item = some_at problem.conditions i lt in
+        let header = Condition (suc i) item.0.text in
+        let begun = subst (λ items. (Conditions items).begun [] (before_line header)) (sym (items_at problem.conditions i item.0 item.1)) (inl (inl (refl, refl))) in
+        let head = can [] (before_line header) header begun refl (omega (arith, fits)) in
+        let fit : suc i < 2 ^ 32 = head.small in omega (arith, fit)
+
+    -- and that of the next goal
+    pub goal_small : (bytes : ℕ) → CanWrite c (goals_from problem i known listed left) bytes → bytes ≤ 67108864 → i < length problem.goals → i + 1 < 2 ^ 32
+    goal_small bytes can fits lt =
+        let item = some_at problem.goals i lt in
+        let header = Goal (suc i) item.0.text in
+        let begun = subst (λ items. (Goals items).begun [] (before_line header)) (sym (items_at problem.goals i item.0 item.1)) (inl (inl (refl, refl))) in
+        let head = can [] (before_line header) header begun refl (omega (arith, fits)) in
+        let fit : suc i < 2 ^ 32 = head.small in omega (arith, fit)
+
+    -- TASKS
+    module _ (header : Line) (id : TermId) where
+      abbrev Chain : ListedItem → Line → Part
+      Chain item head = chain_part c head known left (term item)
+
+      pub task_chain : (s : State) → IsConditionTask problem.conditions i header id → Passes (conditions_from problem i known listed left) (chain_part c header known left (tree_of c.nodes id)) s s
+      task_chain s task =
+          subst (λ h. Passes (conditions_from problem i known listed left) (chain_part c h known left (tree_of c.nodes id)) s s) (sym task.header_is)
+          (subst (λ t. Passes (conditions_from problem i known listed left) (chain_part c (Condition (suc i) task.item.text) known left (tree_of c.nodes t)) s s) (sym task.term_is) (condition_chain task.item s task.at))
+
+      pub goal_task_chain : (s : State) → IsGoalTask problem.goals i header id → Passes (goals_from problem i known listed left) (chain_part c header known left (tree_of c.nodes id)) s s
+      goal_task_chain s task =
+          subst (λ h. Passes (goals_from problem i known listed left) (chain_part c h known left (tree_of c.nodes id)) s s) (sym task.header_is)
+          (subst (λ t. Passes (goals_from problem i known listed left) (chain_part c (Goal (suc i) task.item.text) known left (tree_of c.nodes t)) s s) (sym task.term_is) (goal_chain task.item s task.at))
+
+      module _ (left' : ℕ) (s t : State) (end : Terms) (variable : Option Var) (h : WorksChain c header known left (tree_of c.nodes id) left' s t end variable) where
+        works_condition : (task : IsConditionTask problem.conditions i header id) → WorksChain c (Condition (suc i) task.item.text) known left (term task.item) left' s t end variable
+        works_condition task =
+            subst (λ x. WorksChain c (Condition (suc i) task.item.text) known left (tree_of c.nodes x) left' s t end variable) task.term_is
+            (subst (λ l. WorksChain c l known left (tree_of c.nodes id) left' s t end variable) task.header_is h)
+
+        works_goal : (task : IsGoalTask problem.goals i header id) → WorksChain c (Goal (suc i) task.item.text) known left (term task.item) left' s t end variable
+        works_goal task =
+            subst (λ x. WorksChain c (Goal (suc i) task.item.text) known left (tree_of c.nodes x) left' s t end variable) task.term_is
+            (subst (λ l. WorksChain c l known left (tree_of c.nodes id) left' s t end variable) task.header_is h)
+
+        -- a condition whose chain does not end in 0
+        pub task_passes : (known' : List Var) (listed' : List Terms) → IsConditionTask problem.conditions i header id → end ≢ [] → known' ≡ known ++ cons_option variable [] → listed' ≡ listed ++ end ∷ []
+            → Passes (conditions_from problem i known listed left) (conditions_from problem (i + 1) known' listed' left') s t
+        task_passes known' listed' task nonzero k l =
+            subst (λ n. Passes (conditions_from problem i known listed left) (conditions_from problem n known' listed' left') s t) (sym (add-one i))
+            (subst (λ ks. Passes (conditions_from problem i known listed left) (conditions_from problem (suc i) ks listed' left') s t) (sym k)
+            (subst (λ ls. Passes (conditions_from problem i known listed left) (conditions_from problem (suc i) (known ++ cons_option variable []) ls left') s t) (sym l)
+            (condition_passes task.item left' s t end variable task.at (works_condition task) nonzero)))
+
+        -- one whose chain does
+        pub task_impossible : IsConditionTask problem.conditions i header id → end ≡ [] → IsImpossibleAt (conditions_from problem i known listed left) left' s t (i + 1)
+        task_impossible task zero_end =
+            subst (λ n. IsImpossibleAt (conditions_from problem i known listed left) left' s t n) (sym (add-one i)) (condition_impossible task.item left' s t end variable task.at (works_condition task) zero_end)
+
+        -- a goal whose chain ends in 0
+        pub goal_task_passes : IsGoalTask problem.goals i header id → end ≡ [] → Passes (goals_from problem i known listed left) (goals_from problem (i + 1) known listed left') s t
+        goal_task_passes task zero_end =
+            subst (λ n. Passes (goals_from problem i known listed left) (goals_from problem n known listed left') s t) (sym (add-one i)) (goal_passes task.item left' s t end variable task.at (works_goal task) zero_end)
+
+        -- one whose chain does not
+        pub goal_task_fails : (listed' : List Terms) → IsGoalTask problem.goals i header id → end ≢ [] → listed' ≡ listed ++ end ∷ []
+            → Passes (goals_from problem i known listed left) (end_part c listed' (False (i + 1)) left') s t
+        goal_task_fails listed' task nonzero l =
+            subst (λ n. Passes (goals_from problem i known listed left) (end_part c listed' (False n) left') s t) (sym (add-one i))
+            (subst (λ ls. Passes (goals_from problem i known listed left) (end_part c ls (False (suc i)) left') s t) (sym l) (goal_fails task.item left' s t end variable task.at (works_goal task) nonzero))
+
+  -- READY ITEMS
+  pub condition_ready : (i : ℕ) (header : Line) (id : TermId) → IsReady problem → IsConditionTask problem.conditions i header id → (id.0 < length c.nodes) × IsInside c (tree_of c.nodes id)
+  condition_ready i header id ready task =
+      let own = each_at (IsItemReady c) problem.conditions i task.item (recursion_from_All (IsItemReady c) problem.conditions ready.conditions) task.at in
+      subst (λ (t : TermId). (t.0 < length c.nodes) × IsInside c (tree_of c.nodes t)) (sym task.term_is) (own.stored, own.inside)
+
+  pub goal_ready : (i : ℕ) (header : Line) (id : TermId) → IsReady problem → IsGoalTask problem.goals i header id → (id.0 < length c.nodes) × IsInside c (tree_of c.nodes id)
+  goal_ready i header id ready task =
+      let own = each_at (IsItemReady c) problem.goals i task.item (recursion_from_All (IsItemReady c) problem.goals ready.goals) task.at in
+      subst (λ (t : TermId). (t.0 < length c.nodes) × IsInside c (tree_of c.nodes t)) (sym task.term_is) (own.stored, own.inside)
+
+-- NONE ZERO
+pub nonzero_more : (listed listed' : List Terms) (end : Terms) → NoneZero listed → end ≢ [] → listed' ≡ listed ++ end ∷ [] → NoneZero listed'
+nonzero_more listed listed' end h n e = subst NoneZero (sym e) (All-push (λ r. r ≢ []) listed end h n)
 
 -- THE END
 module _ (c : Construction) (listed : List Terms) (verdict : Verdict) (left : ℕ) where

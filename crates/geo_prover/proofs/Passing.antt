@@ -10,13 +10,16 @@ use Rattle.proof_log.specs.declared.log.Line.{Line}
 use Rattle.proof_log.specs.declared.log.Verdict.{Verdict}
 use Rattle.proof_log.specs.Lines.{line_text, log_text}
 use Rattle.proof_log.specs.Writable.{IsWritable}
+use Rattle.elim_apply.specs.declared.errors.ApplyError.{ApplyError}
+use Rattle.elim_apply.specs.declared.errors.ApplyError.TheVariants.{NoRow, Spent as SpentThere, TooLarge as TooLargeThere, NoMemory as NoMemoryThere}
 use Rattle.elim_apply.specs.LemmaTable.{lemma_table}
+use Rattle.geo_poly.specs.declared.limits.Which.{Which}
 use Rattle.geo_logs.specs.Ends.{IsNext, comes, stop_line, stops, text_length}
 use Rattle.geo_logs.specs.Moves.{Stop, spent, too_large}
 use Rattle.geo_logs.specs.Places.{Place}
 use Rattle.geo_prover.specs.declared.errors.ProveError.{ProveError}
 use Rattle.geo_prover.specs.declared.errors.ProveError.TheVariants.{TooLarge, Spent, TooLong, WriteFault, NoMemory}
-use Rattle.geo_prover.specs.Inner.Halting.{Finishes, Halts, IsBrokenOff, IsPieceOfNext, IsStopped, IsTooLong, Passes}
+use Rattle.geo_prover.specs.Inner.Halting.{Finishes, Halts, IsAnswered, IsBrokenOff, IsPieceOfNext, IsStopped, IsTooLong, Passes}
 use Rattle.geo_prover.specs.Inner.Parts.{CanWrite, Continues, Part, here_part}
 use Rattle.geo_prover.specs.Inner.Written.{HasStopped, IsCutOff, IsUnwritten, State, Writes, WritesSome}
 
@@ -86,6 +89,11 @@ pub can_write_on : (c : Construction) (P Q : Part) (s t : State) → Passes P Q 
 can_write_on c P Q s t h can lines place line b n fits =
     can (h.lines ++ lines) place line (h.continues.begun lines place b) n
     (let m = h.written.measured in let l = text_length-append h.lines lines in omega (arith, m, l, fits))
+
+-- so the line that comes next at a place may
+pub write_here : (c : Construction) (P : Part) (place : Place) (s t : State) → Passes P (here_part place) s t → CanWrite c P s.bytes → t.bytes ≤ 67108864 → (line : Line)
+    → IsNext lemma_table c place (comes line) → IsWritable line
+write_here c P place s t h can fits line n = can_write_on c P (here_part place) s t h can [] place line (refl, refl) n (omega (arith, fits))
 
 -- STOPS
 module _ (c : Construction) (P Q : Part) (s t u : State) (h : Passes P Q s t) where
@@ -179,6 +187,10 @@ memory_at c place s t fits same faults = record {
 pub memory_here : (c : Construction) (place : Place) (s : State) → s.bytes ≤ 67108864 → Halts c (here_part place) s s NoMemory
 memory_here c place s fits = memory_at c place s s fits refl (omega arith)
 
+-- nor in a part that begins there
+pub memory_in : (c : Construction) (P : Part) (place : Place) (s : State) → P.begun [] place → s.bytes ≤ 67108864 → Halts c P s s NoMemory
+memory_in c P place s b fits = halts_on c P (here_part place) s s s (reaches P [] place s s b (writes_nothing s)) NoMemory (memory_here c place s fits)
+
 cut_off_at : (c : Construction) (place : Place) (line : Line) (s t : State) → IsNext lemma_table c place (comes line) → s.bytes ≤ 67108864 → IsCutOff line s t → IsBrokenOff c (here_part place) s t
 cut_off_at c place line s t next fits (inl h) = record {
   lines = [];
@@ -249,3 +261,22 @@ module _ (c : Construction) (place : Place) (stop : Stop) (s t : State) (next : 
   stopped_here TooLong h = absurd h
   stopped_here WriteFault h = (stop_part h.0, h.1)
   stopped_here NoMemory h = stop_part h
+
+-- CAUSES
+-- a line that is not made, at its place
+pub answered_here : (c : Construction) (place : Place) (s t : State) → s.bytes ≤ 67108864 → (error : ApplyError) → (error ≡ SpentThere → IsNext lemma_table c place (stops spent))
+    → ((which : Which) → error ≡ TooLargeThere which → IsNext lemma_table c place (stops (too_large which))) → (error ≡ NoRow → ⊥) → (e : ProveError) → IsAnswered error s t e
+    → Halts c (here_part place) s t e
+answered_here c place s t fits NoRow is_spent is_large is_made e h = absurd (is_made refl)
+answered_here c place s t fits SpentThere is_spent is_large is_made e h = stopped_here c place spent s t (is_spent refl) fits e h
+answered_here c place s t fits (TooLargeThere which) is_spent is_large is_made e h = stopped_here c place (too_large which) s t (is_large which refl) fits e h
+answered_here c place s t fits NoMemoryThere is_spent is_large is_made e h =
+    subst (λ x. Halts c (here_part place) s t x) (sym h.0) (subst (λ u. Halts c (here_part place) s u NoMemory) (sym h.1) (memory_here c place s fits))
+
+-- each line has a text
+pub some_text : (line : Line) → 0 < text_length (line ∷ [])
+some_text line =
+    let a : log_text (line ∷ []) ≡ line_text line ++ 10 ∷ [] = append-nil (line_text line ++ 10 ∷ []) in
+    let b : length (line_text line ++ 10 ∷ []) ≡ length (line_text line) + 1 = length-append (line_text line) (10 ∷ []) in
+    let d : text_length (line ∷ []) ≡ length (line_text line ++ 10 ∷ []) = ap length a in
+    omega (arith, b, d)
