@@ -16,6 +16,7 @@ returns-in_err-vars-clause-err g c =
 pub returns-in-Err-TooLarge-clause-err : goal.returns-in-Err-TooLarge-clause-err
 returns-in-Err-TooLarge-clause-err g c =
     let which = c.in-Err-TooLarge.which in
+    let stop = subst (λ e. SearchEndsIn e c.in_ok-vars.vars c.args.ends.now c.args.budget.now.left c.least_sample.new.budget.left) c.in-Err-TooLarge.field-0-is c.in-Err-TooLarge.ensures.stopped in
     stopped_here c.args.steps.now (before_sample c.args.ends.now c.args.budget.now.left) (too_large which) _ _
-    (c.least_sample.new.budget.left, subst (λ (vs : List Var). SearchEndsIn (TooLarge which) vs c.args.ends.now c.args.budget.now.left c.least_sample.new.budget.left) c.in_ok-vars.ensures c.in-Err-TooLarge.ensures.stopped)
+    (c.least_sample.new.budget.left, subst (λ (vs : List Var). SearchEndsIn (TooLarge which) vs c.args.ends.now c.args.budget.now.left c.least_sample.new.budget.left) c.in_ok-vars.ensures stop)
     c.args.log.now.within c.stop_too_large.result c.stop_too_large.ensures
