@@ -1,6 +1,6 @@
 -- The chains of conditions and goals, one after another.
 use Rattle.std.proofs.Common.{◌≡◌, ◌≢◌, ℕ, zero, suc, ◌+◌, ◌<◌, ◌≤◌, ◌^◌, inl, inr, Option, Some, None, List, [], ◌∷◌, ◌++◌, map, length, append-nil, append_assoc, add-one, refl, sym, ◌∙◌, ap, subst, drop, ℤ, arith}
-use Rattle.std.specs.Prelude.{slice_get}
+use Rattle.std.specs.Prelude.{IfNone, IfSome, slice_get}
 use Rattle.std.specs.List.{cons_option}
 use Rattle.std.proofs.lemmas.List.Elements.{recursion_from_All}
 use Rattle.geo_conditions.specs.declared.items.Item.{Item as ListedItem}
@@ -329,6 +329,18 @@ module _ (c : Construction) (listed : List Terms) (verdict : Verdict) (left : �
       whole = (refl, record { values = values; chosen = chosen; split = refl });
       written = writes_more (Sample values ∷ []) (VerdictLine verdict ∷ []) s t u w v;
     }
+
+-- what is told of the conditions, where nothing is known yet
+pub at_nothing : (R : Part → Type 0) (problem : Problem) (known : List Var) (listed : List Terms) (left : ℕ) → known ≡ [] → listed ≡ [] → R (conditions_from problem 0 known listed left) → R (conditions_from problem 0 [] [] left)
+at_nothing R problem known listed left k l h = subst (λ ks. R (conditions_from problem 0 ks [] left)) k (subst (λ ls. R (conditions_from problem 0 known ls left)) l h)
+
+-- the number, if there is one
+pub at_none : {A : Type 0} (P : Type 0) (o : Option A) → ((x : A) → o ≡ Some x → ⊥) → IfNone o P → P
+at_none P None n h = h
+at_none P (Some x) n h = absurd (n x refl)
+
+pub at_some : {A : Type 0} (P : A → Type 0) (o : Option A) (x : A) → o ≡ Some x → IfSome o P → P x
+at_some P o x e h = let Q : Option _ → Type 0 = λ q. IfSome q P in subst Q e h
 
 -- IMPOSSIBLE
 pub impossible_on : (P Q : Part) (s t u : State) (left k : ℕ) → Passes P Q s t → IsImpossibleAt Q left t u k → IsImpossibleAt P left s u k
