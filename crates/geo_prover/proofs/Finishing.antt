@@ -1,6 +1,6 @@
 -- From the parts of a log to the log of a program.
-use Rattle.std.proofs.Common.{◌≡◌, ℕ, zero, suc, ◌+◌, ◌-◌, ◌<◌, ◌≤◌, ◌^◌, inl, inr, Option, Some, None, List, [], ◌∷◌, ◌++◌, map, length, All, append-nil, append_assoc, refl, sym, ◌∙◌, ap, subst, take, drop, arith, lit≤}
-use Rattle.std.specs.Prelude.{slice_get}
+use Rattle.std.proofs.Common.{◌≡◌, ℕ, zero, suc, ◌+◌, ◌-◌, ◌<◌, ◌≤◌, ◌^◌, inl, inr, Option, Some, None, Ok, Err, List, [], ◌∷◌, ◌++◌, map, length, All, append-nil, append_assoc, refl, sym, ◌∙◌, ap, subst, take, drop, arith, lit≤}
+use Rattle.std.specs.Prelude.{IfErr, OnOk, Result, slice_get}
 use Rattle.std.specs.List.{AllByRecursion}
 use Rattle.std.proofs.lemmas.List.{length-append}
 use Rattle.std.proofs.lemmas.List.Elements.{All-from_recursion, recursion_from_All}
@@ -32,7 +32,7 @@ use Rattle.geo_logs.proofs.AcceptedProvers.{provers_log_accepted}
 use Rattle.geo_logs.proofs.Charges.{charges_spent}
 use Rattle.log_checker.specs.Accepted.{IsShortProgram}
 use Rattle.log_checker.specs.Subjects.{IsSubjectOf, log_item, source_lines}
-use Rattle.log_checker.proofs.Accepted.{programs_have_defined_logs}
+use Rattle.log_checker.proofs.AcceptedBytes.{programs_have_defined_logs}
 use Rattle.log_checker.proofs.Places.{At, at_map, each_at, each_of}
 use Rattle.log_checker.proofs.DefinedBytes.{defined_bytes_are_accepted}
 use Rattle.log_checker.proofs.Reached.{beginnings_go_on}
@@ -293,11 +293,20 @@ pub nothing_written : (p : Source) (steps : ℕ) → IsShortProgram p → (s t :
 nothing_written p steps short s t same faults =
     let log = programs_have_defined_logs p steps short in (
       record {
-        lines = log.2;
-        ending = log.3;
-        log = record { subject = log.0; about = log.1; defined = log.4 };
+        lines = log.2.0;
+        ending = log.2.1;
+        log = record { subject = log.0; about = log.1; defined = log.2.2 };
         count = 0;
         written = subst (λ held. Grows s.held [] held) (sym same) (Grows-nothing s.held);
       },
       faults,
     )
+
+-- faults never fall
+pub faults_kept : (p : Source) (steps : ℕ) (s t : State) (r : Result Summary ProveError) → OnOk r (s.faults ≤ t.faults) → IfErr r (IsAnswerOf p steps s t) → s.faults ≤ t.faults
+faults_kept p steps s t (Ok x) h e = h
+faults_kept p steps s t (Err (TooLarge n which)) h e = e.1
+faults_kept p steps s t (Err (Spent n)) h e = e.1
+faults_kept p steps s t (Err TooLong) h e = e.1
+faults_kept p steps s t (Err WriteFault) h e = e.2
+faults_kept p steps s t (Err NoMemory) h e = e.1

@@ -300,13 +300,13 @@ module _ (problem : Problem) where
             (subst (λ ls. Passes (goals_from problem i known listed left) (end_part c ls (False (suc i)) left') s t) (sym l) (goal_fails task.item left' s t end variable task.at (works_goal task) nonzero))
 
   -- READY ITEMS
-  pub condition_ready : (i : ℕ) (header : Line) (id : TermId) → IsReady problem → IsConditionTask problem.conditions i header id → (id.0 < length c.nodes) × IsInside c (tree_of c.nodes id)
-  condition_ready i header id ready task =
+  pub condition_ready : (i : ℕ) (head : Line) (id : TermId) → IsReady problem → IsConditionTask problem.conditions i head id → (id.0 < length c.nodes) × IsInside c (tree_of c.nodes id)
+  condition_ready i head id ready task =
       let own = each_at (IsItemReady c) problem.conditions i task.item (recursion_from_All (IsItemReady c) problem.conditions ready.conditions) task.at in
       subst (λ (t : TermId). (t.0 < length c.nodes) × IsInside c (tree_of c.nodes t)) (sym task.term_is) (own.stored, own.inside)
 
-  pub goal_ready : (i : ℕ) (header : Line) (id : TermId) → IsReady problem → IsGoalTask problem.goals i header id → (id.0 < length c.nodes) × IsInside c (tree_of c.nodes id)
-  goal_ready i header id ready task =
+  pub goal_ready : (i : ℕ) (head : Line) (id : TermId) → IsReady problem → IsGoalTask problem.goals i head id → (id.0 < length c.nodes) × IsInside c (tree_of c.nodes id)
+  goal_ready i head id ready task =
       let own = each_at (IsItemReady c) problem.goals i task.item (recursion_from_All (IsItemReady c) problem.goals ready.goals) task.at in
       subst (λ (t : TermId). (t.0 < length c.nodes) × IsInside c (tree_of c.nodes t)) (sym task.term_is) (own.stored, own.inside)
 
