@@ -68,7 +68,7 @@ integers_decided (negsuc m) (pos n) = inr (λ (e : negsuc m ≡ pos n). omega (a
 head_same : {A : Type 0} (x y : A) (xs ys : List A) → x ∷ xs ≡ y ∷ ys → x ≡ y
 head_same x y xs ys e = cc
 
-tail_same : {A : Type 0} (x y : A) (xs ys : List A) → x ∷ xs ≡ y ∷ ys → xs ≡ ys
+pub tail_same : {A : Type 0} (x y : A) (xs ys : List A) → x ∷ xs ≡ y ∷ ys → xs ≡ ys
 tail_same x y xs ys e = cc
 
 module _ {A : Type 0} (same : (x y : A) → Decided (x ≡ y)) where
