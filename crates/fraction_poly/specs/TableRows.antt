@@ -84,7 +84,9 @@ HasVariable placed _ = Unit {0}
 -- the denominator is not 0, and the variable times the denominator to the power is the numerator
 pub record RowHolds (placed : Placement) (row : Row) (den : Piece) : Type 0 where
   pub nonzero : IsNonzero (polynomial_value placed den.poly)
-  pub equation : Same (times (variable_value placed.point placed.number row.var) (power fractions (polynomial_value placed den.poly) row.power)) (polynomial_value placed row.num.poly)
+  pub equation : Same
+      (times (variable_value placed.point placed.number row.var) (power fractions (polynomial_value placed den.poly) row.power))
+      (polynomial_value placed row.num.poly)
 
 -- each row of the table holds wherever the step of its point is met and its variable has a value
 abbrev pub IsSound : Table → Type 0

@@ -75,7 +75,8 @@ IsCommandMet s placed X t (Inverse p o a) = IsInverse X (placed.point p.0) (plac
 abbrev pub AreCommandsMet : Source → Placement → ℕ → ℕ → List Command → Type 0
 AreCommandsMet s placed x m [] = Unit {0}
 AreCommandsMet s placed x m (c ∷ cs) =
-    IsCommandMet s placed (placed.point x) (placed.number m) c × AreCommandsMet s placed (counted kind.Point (named c) x) (next_number m c) cs
+    IsCommandMet s placed (placed.point x) (placed.number m) c
+    × AreCommandsMet s placed (counted kind.Point (named c) x) (next_number m c) cs
 
 -- the placement meets each command of the program
 abbrev pub MeetsCommands : Source → Placement → Type 0

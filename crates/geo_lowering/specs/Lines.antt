@@ -5,7 +5,8 @@ use Rattle.ring_laws.specs.Fraction.{Fraction, Same, whole, plus, minus, times, 
 use Rattle.geo_points.specs.Points.{squared_distance, Point, cross_product}
 use Rattle.geo_points.specs.Vectors.{run, rise}
 
--- the line through A and B; that through P in the direction of another; that through P at a right angle to another; the points at equal distance from A and B
+-- the line through A and B; that through P in the direction of another; that through P at a right angle to another; the points at equal
+-- distance from A and B
 pub data Line : Type 0 where
   through : Point → Point → Line
   alongside : Point → Line → Line

@@ -1,10 +1,14 @@
 //! Reading the commands.
 
-ghost use Rattle.std.specs.Prelude.{◌≡◌, ◌+◌, ◌≤◌, ◌∷◌, [], IfOk, IfNone, IfSome, OnOk, Some, length};
+ghost use Rattle.std.specs.Prelude.{◌≡◌, ◌+◌, ◌≤◌, ◌∷◌, [], IfOk, IfNone, IfSome, OnOk, Some};
+ghost use Rattle.std.specs.Prelude.{length};
 ghost use Rattle.geo_lexer.specs.declared.token_types.Fault.{Fault};
 ghost use Rattle.geo_parser.specs.Inner.CommandWords.{command_due, command_slots};
-ghost use Rattle.geo_parser.specs.Forms.{command_slot, new_name_slot, second_number_slot, sketch_slot};
-ghost use Rattle.geo_parser.specs.Inner.Reads.{ReadsAllCommands, ReadsCommand, ReadsForm, ReadsNewName, ReadsProve, ReadsSecond, ReadsSketch, ReadsWord, Refuses, extent, fault_of};
+ghost use Rattle.geo_parser.specs.Forms.{command_slot, new_name_slot, second_number_slot};
+ghost use Rattle.geo_parser.specs.Forms.{sketch_slot};
+ghost use Rattle.geo_parser.specs.Inner.Reads.{ReadsAllCommands, ReadsCommand, ReadsForm};
+ghost use Rattle.geo_parser.specs.Inner.Reads.{ReadsNewName, ReadsProve, ReadsSecond, ReadsSketch};
+ghost use Rattle.geo_parser.specs.Inner.Reads.{ReadsWord, Refuses, extent, fault_of};
 ghost use Rattle.geo_program.specs.declared.names.NameKind.{NameKind};
 
 use crate::command_words::CommandWord;

@@ -1,6 +1,7 @@
 //! The tokens that are still to be read.
 
-ghost use Rattle.std.specs.Prelude.{◌≡◌, ◌≤◌, ◌<◌, ◌^◌, ◌↔◌, All, IsTrue, IsSome, IfSome, None, [], length, option_map, slice_range};
+ghost use Rattle.std.specs.Prelude.{◌≡◌, ◌≤◌, ◌<◌, ◌^◌, ◌↔◌, All, IsTrue, IsSome, IfSome, None, []};
+ghost use Rattle.std.specs.Prelude.{length, option_map, slice_range};
 ghost use Rattle.geo_base.specs.Decimals.{IsDecimal, decimal_size, decimal_value};
 ghost use Rattle.geo_lexer.specs.Lexemes.{lexeme_of};
 ghost use Rattle.geo_lexer.specs.Tokens.{IsTokenAt};
@@ -96,7 +97,8 @@ impl<'a> Cursor<'a> {
         self.tokens.is_empty() && self.stop.is_none()
     }
 
-    /// Refuses the next token. Where none is left, what is no token is refused in its place, or else the end of the text.
+    /// Refuses the next token. Where none is left, what is no token is refused in its place, or
+    /// else the end of the text.
     pub fn refuse(&self, refusal: Refusal) -> ParseError
         ensures { result ≡ ParseError.Syntax
             (fault_here (refusal_number refusal) self.now.tokens self.now.end self.now.stop) }
@@ -105,7 +107,8 @@ impl<'a> Cursor<'a> {
     }
 
     fn fault(&self, refusal: Refusal) -> Fault
-        ensures { result ≡ fault_here (refusal_number refusal) self.now.tokens self.now.end self.now.stop }
+        ensures { result
+            ≡ fault_here (refusal_number refusal) self.now.tokens self.now.end self.now.stop }
     {
         let refusal = refusal.number();
         match (self.tokens, self.stop) {

@@ -3,7 +3,8 @@
 ghost use Rattle.std.specs.Prelude.{◌≡◌, ◌≤◌, ◌∷◌, [], IfOk};
 ghost use Rattle.geo_lexer.specs.declared.token_types.Fault.{Fault};
 ghost use Rattle.geo_parser.specs.Forms.{statement_slot};
-ghost use Rattle.geo_parser.specs.Inner.Reads.{ReadsStated, ReadsStatement, ReadsStatementWord, Refuses, extent, statement_slots};
+ghost use Rattle.geo_parser.specs.Inner.Reads.{ReadsStated, ReadsStatement, ReadsStatementWord};
+ghost use Rattle.geo_parser.specs.Inner.Reads.{Refuses, extent, statement_slots};
 ghost use Rattle.geo_parser.specs.Inner.StatementWords.{statement_due};
 
 use crate::cursor::Piece;

@@ -45,7 +45,8 @@ NoneZero ps = All (λ p. p ≢ []) ps
 -- with the number z for v, the value is the same wherever v has the value z
 abbrev pub SpecialisedKeepsValue : Type 0
 SpecialisedKeepsValue =
-    (x : Var → Fraction) (v : Var) (z : ℤ) (p : Terms) → Same (x v) (whole z) → Same (value fractions x (specialised v z p)) (value fractions x p)
+    (x : Var → Fraction) (v : Var) (z : ℤ) (p : Terms) → Same (x v) (whole z)
+    → Same (value fractions x (specialised v z p)) (value fractions x p)
 
 -- what becomes of a polynomial lacks v, and nothing grows but the norm, which the weight bounds
 pub record IsSmaller (v : Var) (z : ℤ) (p : Terms) : Type 0 where

@@ -1,5 +1,6 @@
 //! Division by what divides a polynomial.
-ghost use Rattle.std.specs.Prelude.{◌≡◌, ◌≢◌, ◌↔◌, ◌^◌, ◌<◌, ℕ, ℤ, ◌*ℤ◌, pos, List, [], ◌∷◌, length, unsigned_abs, Contains, IfOk, IfSome, IfNone, IsTrue};
+ghost use Rattle.std.specs.Prelude.{◌≡◌, ◌≢◌, ◌↔◌, ◌^◌, ◌<◌, ℕ, ℤ, ◌*ℤ◌, pos, List, [], ◌∷◌};
+ghost use Rattle.std.specs.Prelude.{length, unsigned_abs, Contains, IfOk, IfSome, IfNone, IsTrue};
 ghost use Rattle.std.specs.Int.{◌∣◌};
 ghost use Rattle.sparse_lists.specs.SparseLists.{AllKeys};
 ghost use Rattle.geo_poly.specs.declared.variables.Var.{Var};

@@ -29,7 +29,8 @@ pub record IsSample (vs : List Var) (ps : List Terms) (xs : List (Var × ℤ)) :
 abbrev pub LeastSampleKeepsAll : Type 0
 LeastSampleKeepsAll = (vs : List Var) (ps : List Terms) (xs : List (Var × ℤ)) → NoneZero ps → IsLeastSample vs ps xs → IsSample vs ps xs
 
--- where polynomials have no other variables than those with values and none is zero at these, the value of each is not 0 wherever each variable has its value
+-- where polynomials have no other variables than those with values and none is zero at these, the value of each is not 0 wherever each
+-- variable has its value
 abbrev pub ValuesAreNotZero : Type 0
 ValuesAreNotZero =
     (xs : List (Var × ℤ)) (ps : List Terms) (x : Var → Fraction) → All IsCollected ps
@@ -37,7 +38,8 @@ ValuesAreNotZero =
     → NoneZero (specialised_by xs ps) → All (λ y. Same (x y.0) (whole y.1)) xs
     → All (λ p. IsNonzero (value fractions x p)) ps
 
--- two ends of tries are the same: all are made, or the first stop is for the charge, or it is for the norm; and what is left then is told by the tries
+-- two ends of tries are the same: all are made, or the first stop is for the charge, or it is for the norm; and what is left then is told
+-- by the tries
 pub record EndsExclude (left : ℕ) (tries : List Try) (r s : ℕ) : Type 0 where
   pub made_or_spent : AreMade left tries r → AreSpent left tries s → ⊥
   pub made_or_large : AreMade left tries r → AreTooLarge left tries s → ⊥
@@ -58,11 +60,13 @@ pub record TriesEndInOneWay : Type 0 where
 -- where the tries that find a least sample are made, one try for each of its values costs no more
 abbrev pub SingleTriesCostNoMore : Type 0
 SingleTriesCostNoMore =
-    (vs : List Var) (ps : List Terms) (xs : List (Var × ℤ)) (left rest : ℕ) → IsLeastSample vs ps xs → AreMade left (search_tries xs ps) rest
+    (vs : List Var) (ps : List Terms) (xs : List (Var × ℤ)) (left rest : ℕ) → IsLeastSample vs ps xs
+    → AreMade left (search_tries xs ps) rest
     → (more : ℕ) × (rest ≤ more) × AreMade left (single_tries xs ps) more
 
 -- so with as many charges as the search for a sample had, or more, the test of the sample stops only for want of memory
 abbrev pub FoundSamplesPass : Type 0
 FoundSamplesPass =
-    (vs : List Var) (ps : List Terms) (xs : List (Var × ℤ)) (left rest more : ℕ) → IsLeastSample vs ps xs → AreMade left (search_tries xs ps) rest → left ≤ more
+    (vs : List Var) (ps : List Terms) (xs : List (Var × ℤ)) (left rest more : ℕ) → IsLeastSample vs ps xs
+    → AreMade left (search_tries xs ps) rest → left ≤ more
     → (e : SampleError) (s : ℕ) → EndIn e more (single_tries xs ps) s → e ≡ NoMemory

@@ -46,7 +46,8 @@ IsPart _ c = ⊥
 
 -- each part of the node at the index stands in the list, multiplied out
 pub record HasParts (nodes : Store) (fractions : List (Terms × Terms)) (id : TermId) : Type 0 where
-  pub each : (node : Node) (c : TermId) → slice_get nodes id.0 ≡ Some node → IsPart node c → slice_get fractions c.0 ≡ Some (multiplied_out (tree_of nodes c))
+  pub each : (node : Node) (c : TermId) → slice_get nodes id.0 ≡ Some node → IsPart node c
+      → slice_get fractions c.0 ≡ Some (multiplied_out (tree_of nodes c))
 
 -- each term of the store may be multiplied out
 pub record DoAllFit (nodes : Store) : Type 0 where
@@ -61,7 +62,8 @@ StandsFrom k order c = (j : ℕ) × (k ≤ j) × (slice_get order j ≡ Some c)
 -- and all may be multiplied out where the term may
 pub record AreReached (nodes : Store) (id : TermId) (order : List TermId) : Type 0 where
   pub own : StandsFrom 0 order id
-  pub parts : (k : ℕ) (c d : TermId) (node : Node) → slice_get order k ≡ Some c → slice_get nodes c.0 ≡ Some node → IsPart node d → StandsFrom (k + 1) order d
+  pub parts : (k : ℕ) (c d : TermId) (node : Node) → slice_get order k ≡ Some c → slice_get nodes c.0 ≡ Some node
+      → IsPart node d → StandsFrom (k + 1) order d
   pub stored : (k : ℕ) (c : TermId) → slice_get order k ≡ Some c → c.0 < length nodes
   pub fit : CanMultiplyOut (tree_of nodes id) → (k : ℕ) (c : TermId) → slice_get order k ≡ Some c → CanMultiplyOut (tree_of nodes c)
   pub few : length order ≤ length nodes
