@@ -39,7 +39,7 @@ same_commands all (name ∷ names) np nq (c ∷ cs) (d ∷ ds) h =
     ap₂ (λ x xs. form_lexemes all name x ∷ xs) form (same_commands all names np nq cs ds forms)
 
 -- programs that are the same have the same lines
-same_lines : (p q : Source) → SameSource p q → line_lexemes (no_sketches p.commands) p ≡ line_lexemes (no_sketches q.commands) q
+pub same_lines : (p q : Source) → SameSource p q → line_lexemes (no_sketches p.commands) p ≡ line_lexemes (no_sketches q.commands) q
 unfolding sentence_lexemes
 same_lines p q same =
     let commands = same_commands p.names p.names p.nodes q.nodes p.commands q.commands same.commands in
