@@ -80,7 +80,7 @@ try_large t =
     (at_most (2 ^ 127) (specialised_weight t.variable t.number p))) t.polys
 
 -- how tries end: all are made, or they are stopped
-abbrev TriesEnd : ℕ → List Try → Type 0
+abbrev pub TriesEnd : ℕ → List Try → Type 0
 TriesEnd left tries = ((rest : ℕ) × AreMade left tries rest) ⊎ ((stop : Stop) × (rest : ℕ) × EndIn (error_of stop) left tries rest)
 
 try_end : (left : ℕ) (t : Try) → TriesEnd left (t ∷ [])
@@ -91,7 +91,7 @@ try_end left t =
     (λ (fits : IsTooLarge t → ⊥). let found : TriesEnd left (t ∷ []) = inl (left - charge_of t, one_made left (left - charge_of t) t (omega (arith, paid)) fits) in found) (try_large t))
     (λ (short : left < charge_of t). let found : TriesEnd left (t ∷ []) = inr (spent, left, one_spent left t short) in found) (at_most (charge_of t) left)
 
-tries_end : (tries : List Try) (left : ℕ) → TriesEnd left tries
+pub tries_end : (tries : List Try) (left : ℕ) → TriesEnd left tries
 tries_end [] left = inl (left, AreMade-nil left)
 tries_end (t ∷ ts) left =
     ⊎_elim

@@ -27,15 +27,13 @@ use Rattle.log_checker.proofs.Reached.{defined_log_exists}
 -- WHAT THEY MEAN
 pub accepted_bytes_mean : AcceptedBytesMean
 accepted_bytes_mean bytes steps p Proved a =
-    let met = accepted_samples_are_met p steps a.lines Proved a.accepted tt in
-    (
+    let met = accepted_samples_are_met p steps a.lines Proved a.accepted tt in (
       proved_is_true p steps a.lines a.accepted,
       (met.0, record { lines = a.lines; writable = a.writable; written = a.written; ends = met.1 }, met.2),
     )
 accepted_bytes_mean bytes steps p (False g) a =
     let broken = false_breaks p steps g a.lines a.accepted in
-    let breaks = broken.2 in
-    (
+    let breaks = broken.2 in (
       broken.0,
       record { lines = a.lines; writable = a.writable; written = a.written; ends = broken.1 },
       record { placed = breaks.placed; has = breaks.has; meets = breaks.meets; unique = breaks.unique },
@@ -104,7 +102,7 @@ same_beginning (x ∷ xs) (y ∷ ys) r s e n m =
     (ap₂ (λ (z : List ℕ) (zs : List (List ℕ)). z ∷ zs) text more.0, more.1)
 
 -- ONE PROGRAM
-text_of_lines : (p : Source) → flat_map (λ (line : List ℕ). line ++ 10 ∷ []) (source_lines p) ≡ canonical_text p
+pub text_of_lines : (p : Source) → flat_map (λ (line : List ℕ). line ++ 10 ∷ []) (source_lines p) ≡ canonical_text p
 text_of_lines p = flat_map-map (λ (line : List ℕ). line ++ 10 ∷ []) line_text (line_lexemes (no_sketches p.commands) p)
 
 pub same_lines_same_text : (p q : Source) → source_lines p ≡ source_lines q → canonical_text p ≡ canonical_text q
