@@ -8,8 +8,9 @@ use std::env;
 use std::io::ErrorKind;
 use std::process::ExitCode;
 
-mod due;
-mod lines;
+mod answers;
+mod order;
+mod proving;
 mod run;
 mod status;
 #[cfg(test)]
