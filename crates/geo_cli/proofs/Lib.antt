@@ -1,2 +1,4 @@
+pub mod OrderLemmas
 pub mod OneDue
-pub mod Ends
+pub mod Answered
+pub mod Ended

@@ -1,13 +1,10 @@
 -- One thing is due at most for words and for a source that tells its bytes.
-use Rattle.std.proofs.Common.{◌≡◌, ℕ, ◌<◌, ◌≤◌, ◌⊎◌, inl, inr, ⊎_elim, List, [], ◌∷◌, ◌++◌, map, length, Option, Some, None, refl, sym, ap, subst, ◌∙◌, append-nil, length-append, arith}
-use Rattle.geo_cli.specs.declared.order.Command.TheVariants.{Prove}
-use Rattle.geo_cli.specs.declared.order.Order.{Order}
+use Rattle.std.proofs.Common.{◌≡◌, ℕ, ◌<◌, ◌≤◌, inl, inr, List, ◌++◌, map, length, Option, Some, None, refl, sym, ap, subst, ◌∙◌, append-nil, length-append, arith}
 use Rattle.geo_cli.specs.declared.status.Status.TheVariants.{Syntax}
 use Rattle.geo_cli.specs.Due.{Due, IsCalledFor, IsDue, IsDueFor, IsInputDue, IsLengthDue, IsLogDue, IsRefusalDue, IsUsageDue, syntax_line}
 use Rattle.geo_cli.specs.Input.{IsInput, IsLong, program_limit}
 use Rattle.geo_cli.specs.Status.{ending_status}
 use Rattle.geo_cli.specs.Words.{IsProve}
-use Rattle.geo_cli.proofs.Orders.{one_order}
 use Rattle.geo_lexer.specs.declared.token_types.Fault.{Fault}
 use Rattle.geo_logs.specs.Ends.{Ending}
 use Rattle.geo_logs.proofs.OneList.{defined_log_unique}
@@ -81,13 +78,11 @@ one_due_for steps bytes due other (inr h) (inr g) = one_refusal_due bytes due ot
 
 -- WHAT THE WORDS CALL FOR
 
--- words name one number of steps
-same_steps : (words : List (List ℕ)) (n m : ℕ) → IsProve words n → IsProve words m → n ≡ m
-same_steps words n m h g =
-    let one = one_order words (record { command = Prove; steps = n }) (record { command = Prove; steps = m }) h g in
-    ap (λ (order : Order). order.steps) one
+-- the words name one number of steps at most
+abbrev pub NamesOne : List (List ℕ) → Type 0
+NamesOne words = (n m : ℕ) → IsProve words n → IsProve words m → n ≡ m
 
-module _ (words : List (List ℕ)) (steps : ℕ) (command : IsProve words steps) (bytes : List ℕ) (left' : Option (List ℕ)) where
+module _ (words : List (List ℕ)) (one : NamesOne words) (steps : ℕ) (command : IsProve words steps) (bytes : List ℕ) (left' : Option (List ℕ)) where
   -- what is called for is what is due
   pub called_is_due : (due other : Due) → IsCalledFor steps bytes due → IsDue words (Some bytes) left' other → due ≡ other
   called_is_due due other h (inl g) = absurd (g.no_command steps command)
@@ -96,6 +91,6 @@ module _ (words : List (List ℕ)) (steps : ℕ) (command : IsProve words steps)
   called_is_due due other (inr h) (inr (inl g)) =
       let long = long_is_longer program_limit bytes left' g.long in absurd (let no : ⊥ = omega (arith, h.0, long) in no)
   called_is_due due other (inr h) (inr (inr g)) =
-      let of_steps : IsDueFor steps g.bytes other = subst (λ n. IsDueFor n g.bytes other) (same_steps words g.steps steps g.command command) g.due_for in
+      let of_steps : IsDueFor steps g.bytes other = subst (λ n. IsDueFor n g.bytes other) (one g.steps steps g.command command) g.due_for in
       let of_bytes : IsDueFor steps bytes other = subst (λ xs. IsDueFor steps xs other) (input_is_all program_limit bytes g.bytes left' g.input) of_steps in
       one_due_for steps bytes due other h.1 of_bytes

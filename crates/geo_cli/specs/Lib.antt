@@ -1,3 +1,4 @@
+pub mod Numbers
 pub mod Orders
 pub mod Words
 pub mod Status

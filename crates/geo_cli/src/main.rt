@@ -9,6 +9,7 @@ use std::io::ErrorKind;
 use std::process::ExitCode;
 
 mod answers;
+mod numbers;
 mod order;
 mod proving;
 mod run;

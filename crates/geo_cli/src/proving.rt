@@ -1,7 +1,7 @@
 //! The command `prove`: a program is read, and its log written.
 ghost use Rattle.std.specs.Prelude.{◌≡◌, ◌≢◌, ◌≤◌, ℕ, List, length};
 ghost use Rattle.geo_cli.specs.Due.{IsNoProgram};
-ghost use Rattle.geo_cli.specs.Inner.{AnswersBytes};
+ghost use Rattle.geo_cli.specs.Inner.Answering.{AnswersBytes};
 ghost use Rattle.geo_cli.specs.Input.{Takes, program_limit};
 ghost use Rattle.geo_cli.specs.Run.{Ends};
 ghost use Rattle.geo_cli.specs.Words.{IsProve};

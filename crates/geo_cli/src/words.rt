@@ -1,5 +1,5 @@
 //! The words of the command line.
-ghost use Rattle.std.specs.Prelude.{IfNone, IfSome};
+ghost use Rattle.std.specs.Prelude.{◌≡◌, ℕ, IfNone, IfSome};
 ghost use Rattle.geo_cli.specs.Due.{IsNoCommand};
 ghost use Rattle.geo_cli.specs.Words.{IsProve, bytes_of_words};
 
@@ -9,6 +9,8 @@ use crate::order::{Command, order_of};
 pub fn steps_of_prove(words: &Vec<String>) -> Option<u64>
     ensures some { IfSome result (IsProve (bytes_of_words words.now.items)) }
     ensures none { IfNone result (IsNoCommand (bytes_of_words words.now.items)) }
+    ensures one { (n m : ℕ) → IsProve (bytes_of_words words.now.items) n
+        → IsProve (bytes_of_words words.now.items) m → n ≡ m }
 {
     let order = order_of(words)?;
     match order.command {
