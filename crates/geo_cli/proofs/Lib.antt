@@ -1,1 +1,2 @@
 pub mod OneDue
+pub mod OrderLemmas

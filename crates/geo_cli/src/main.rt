@@ -10,6 +10,8 @@ use std::process::ExitCode;
 
 mod due;
 mod lines;
+mod numbers;
+mod order;
 mod run;
 mod status;
 #[cfg(test)]
