@@ -75,8 +75,8 @@ impl Intake {
         Ok(NextLine::Line(self.hand_out()))
     }
 
-    // Moves bytes from the piece to the line, up to a line feed, which is used up too. Answers whether
-    // there was one.
+    /// Moves bytes from the piece to the line, up to a line feed, which is used up too. Answers
+    /// whether there was one.
     fn take_line(&mut self) -> Result<bool, AllocError>
         ensures found { IfOk result (λ found. MatchBool found
             (self.old.line.items ++ self.old.piece
@@ -105,7 +105,7 @@ impl Intake {
         }
     }
 
-    // Reads the next piece in place of the last one, and answers whether it has bytes.
+    /// Reads the next piece in place of the last one, and answers whether it has bytes.
     fn refill<S: Source>(&mut self, source: &mut S) -> Result<bool, ReadError>
         requires limit { self.old.limit ≤ 67108864 }
         requires short { self.old.taken ≤ self.old.limit }
@@ -131,7 +131,7 @@ impl Intake {
         Ok(count > 0)
     }
 
-    // The line, which is handed out.
+    /// The line, which is handed out.
     fn hand_out(&mut self) -> Text
         ensures text { result ≡ self.old.line.items }
         ensures line { self.new.line.items ≡ [] }

@@ -1,4 +1,5 @@
-//! What the other crates stand on: sources and sinks of bytes, budgets, and decimal text.
+//! What the other crates stand on: sources and sinks of bytes, reading line by line, budgets, and
+//! decimal text.
 #![tactic(auto)]
 
 pub use adapters::{ReaderSource, WriterSink};

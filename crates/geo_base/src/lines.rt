@@ -72,7 +72,7 @@ impl LineReader {
     pub fn next<S: Source>(&mut self, source: &mut S) -> Result<NextLine, ReadError>
         requires { self.old.ended ≡ false }
 
-        // What is handed out was at the front of the open bytes; an error leaves these as they were.
+        // What is handed out was at the front of the open bytes; an error leaves these alone.
         ensures opened { Loses (open_bytes self.old.waiting (S.left source.old))
             (handed_out result) (open_bytes self.new.waiting (S.left source.new)) }
         ensures counted { length self.old.waiting + self.new.taken

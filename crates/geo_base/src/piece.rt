@@ -6,7 +6,7 @@ use crate::reading::{Failed, Source};
 use std::alloc::{AllocError, Global};
 use std::marker::Model;
 
-// The most bytes of one read.
+/// The most bytes of one read.
 const SIZE: usize = 65_536;
 
 /// The bytes of the last read that are not used up. Contracts see it as these bytes.
@@ -24,7 +24,8 @@ impl Model for Piece {
 
     ghost view = { λ p. slice_range p.bytes.items p.start p.end };
 
-    ghost invariant = { λ p. (p.start ≤ p.end) × (p.end ≤ vec_len p.bytes) × (vec_len p.bytes ≡ 65536) };
+    ghost invariant = { λ p. (p.start ≤ p.end) × (p.end ≤ vec_len p.bytes)
+        × (vec_len p.bytes ≡ 65536) };
 }
 
 impl Piece {
@@ -80,7 +81,7 @@ impl Piece {
     }
 }
 
-// Reads at most `most` bytes into the front of `bytes`, and answers how many.
+/// Reads at most `most` bytes into the front of `bytes`, and answers how many.
 fn read_front<S: Source>(source: &mut S, bytes: &mut [u8], most: usize) -> Result<usize, Failed>
     requires room { 0 < length bytes.old }
     requires some { 0 < most }

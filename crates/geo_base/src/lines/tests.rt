@@ -5,7 +5,7 @@ use crate::{LineReader, MemSource, NextLine, NoMemory, ReadError, SureSource};
 use std::alloc::Global;
 use std::test::Fail;
 
-// A source of `text` in pieces of at most `piece` bytes, whose call numbered `failing` fails.
+/// A source of `text` in pieces of at most `piece` bytes, whose call numbered `failing` fails.
 fn source_of(alloc: Global, text: &[u8], piece: usize, failing: u64) -> Result<MemSource, NoMemory>
     requires { 0 < piece }
 {
@@ -14,7 +14,7 @@ fn source_of(alloc: Global, text: &[u8], piece: usize, failing: u64) -> Result<M
     Ok(MemSource::new(alloc, bytes, piece, fails))
 }
 
-// All lines with a `|` after each, and then the rest.
+/// All lines with a `|` after each, and then the rest.
 fn all_lines(
     alloc: Global,
     reader: &mut LineReader,
