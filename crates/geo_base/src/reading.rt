@@ -27,7 +27,7 @@ pub trait Source {
         ensures faults { faults self.old ≤ faults self.new };
 }
 
-/// Why `read_all` gave no bytes.
+/// Why reading gave nothing.
 #[derive(Clone, Copy, Debug, PartialEq, Eq)]
 pub enum ReadError {
     /// A read failed.

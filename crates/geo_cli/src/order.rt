@@ -35,13 +35,13 @@ pub struct Order {
     pub steps: u64,
 }
 
-// The steps where no option tells them.
+/// The steps where no option tells them.
 const DEFAULT_STEPS: u64 = 100_000_000;
 
-// The most steps.
+/// The most steps.
 const MOST_STEPS: u64 = 1_000_000_000_000;
 
-// The greatest number of a generated program.
+/// The greatest number of a generated program.
 const MOST_BENCH: u64 = 60;
 
 /// The order that the words give, or `None` where they give none.
@@ -58,7 +58,7 @@ pub fn order_of(words: &Vec<String>) -> Option<Order>
     Some(Order { command, steps })
 }
 
-// The words before the first that begins with `-`, and those from there on.
+/// The words before the first that begins with `-`, and those from there on.
 fn cut(words: &[String]) -> (&[String], &[String])
     ensures front { bytes_of_words result.0.now ≡ front_of (bytes_of_words words.now) }
     ensures tail { bytes_of_words result.1.now ≡ tail_of (bytes_of_words words.now) }
@@ -71,15 +71,15 @@ fn cut(words: &[String]) -> (&[String], &[String])
     (words, &[])
 }
 
-// Whether the word begins with `-`.
+/// Whether the word begins with `-`.
 fn begins_option(word: &[u8]) -> bool
     ensures { result ≡ starts_with_minus word.now }
 {
     matches!(word, [b'-', ..])
 }
 
-// The steps that an option at the front tells, or the default where there are no words; and the
-// words behind it.
+/// The steps that an option at the front tells, or the default where there are no words; and the
+/// words behind it.
 fn steps_of(words: &[String]) -> Option<(u64, &[String])>
     ensures told { IfSome result (λ r.
         SplitsOff (bytes_of_words words.now) r.0 (bytes_of_words r.1.now)) }
@@ -98,7 +98,7 @@ fn steps_of(words: &[String]) -> Option<(u64, &[String])>
     Some((number_of(text, MOST_STEPS)?, rest))
 }
 
-// The command whose row these words are.
+/// The command whose row these words are.
 fn command_of(front: &[String], back: &[String]) -> Option<Command>
     ensures row { IfSome result (IsRow (bytes_of_words front.now ++ bytes_of_words back.now)) }
     ensures complete { (command : Command)
@@ -114,7 +114,7 @@ fn command_of(front: &[String], back: &[String]) -> Option<Command>
     }
 }
 
-// The words of both parts, where one part has none.
+/// The words of both parts, where one part has none.
 fn whole<'a>(front: &'a [String], back: &'a [String]) -> Option<&'a [String]>
     ensures all { IfSome result (λ all.
         bytes_of_words all.now ≡ bytes_of_words front.now ++ bytes_of_words back.now) }
@@ -130,7 +130,7 @@ fn whole<'a>(front: &'a [String], back: &'a [String]) -> Option<&'a [String]>
     }
 }
 
-// The command whose row is the name and these words.
+/// The command whose row is the name and these words.
 fn named_command(name: &String, words: &[String]) -> Option<Command>
     ensures row { IfSome result (IsRow (string_bytes name.now ∷ bytes_of_words words.now)) }
     ensures complete { (command : Command)
@@ -148,7 +148,7 @@ fn named_command(name: &String, words: &[String]) -> Option<Command>
     }
 }
 
-// The command whose row is the name alone.
+/// The command whose row is the name alone.
 fn plain_command(name: &str) -> Option<Command>
     ensures row { IfSome result (IsRow (name.now ∷ [])) }
     ensures complete { (command : Command) → IsRow (name.now ∷ []) command

@@ -3,7 +3,7 @@ use super::{Command, Order, order_of};
 use std::alloc::{AllocError, Global};
 use std::test::Fail;
 
-// The order of the words of a line, one space after each but the last.
+/// The order of the words of a line, one space after each but the last.
 fn order_of_line(alloc: Global, line: &str) -> Result<Option<Order>, AllocError> {
     let mut words = Vec::new(alloc);
     for word in line.split(' ') {
