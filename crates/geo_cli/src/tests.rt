@@ -38,8 +38,7 @@ const NUMBERS_LOG: &[u8] =
 const QUOTIENTS: &[u8] =
     b"param r prove { equal { div { 1 } { r } } { div { 1 } { sub { r } { 1 } } } }";
 
-const LARGEST: &[u8] =
-    b"param r prove { equal { r } { 170141183460469231731687303715884105726 } }";
+const LARGEST: &[u8] = b"param r prove { equal { r } { 170141183460469231731687303715884105726 } }";
 
 const TOO_LARGE: &[u8] =
     b"param r prove { equal { r } { 170141183460469231731687303715884105727 } }";
@@ -241,7 +240,12 @@ fn logs(rt: HostRuntime) -> Result<(), Fail> {
         Row::prove(CROSSING, 4096, Status::Impossible(1), CROSSING_LOG),
         Row::prove(FREE_POINTS, 4096, Status::False(1), FREE_POINTS_LOG),
         Row::prove(NUMBERS, 4096, Status::Proved, NUMBERS_LOG),
-        Row::prove(TOO_LARGE, 4096, Status::TooLarge { line: 5, which }, TOO_LARGE_LOG),
+        Row::prove(
+            TOO_LARGE,
+            4096,
+            Status::TooLarge { line: 5, which },
+            TOO_LARGE_LOG,
+        ),
     ];
     expect_rows(&rt, &rows)
 }

@@ -15,7 +15,7 @@ use Rattle.geo_program.specs.declared.commands.LineId.{LineId}
 use Rattle.geo_program.specs.declared.names.NameKind.TheVariants as kind
 use Rattle.geo_program.specs.WellFormed.{Source}
 use Rattle.geo_lowering.specs.Counting.{named, counted, next_number, param_place}
-use Rattle.geo_lowering.specs.Lines.{Line as DrawnLine, through, alongside, upright, bisector, line_at, IsOn}
+use Rattle.geo_lowering.specs.Lines.{DrawnLine, through, alongside, upright, bisector, line_at, IsOn}
 use Rattle.geo_lowering.specs.Relations.{IsOnBothLines, IsProjection, IsMidpoint, IsTranslate, IsSymmetric, IsReflection, IsCircumcenter, IsOrthocenter, IsCentroid, IsOnCircle, IsOnLineAndCircle, IsOnBothCircles, IsInverse}
 
 -- the placement as the terms of the program read it: they name parameters alone, and no other number

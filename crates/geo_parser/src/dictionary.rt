@@ -3,7 +3,7 @@
 ghost use Rattle.std.specs.Prelude.{◌≡◌, ◌<◌, ◌++◌, ◌∷◌, [], IfErr, IfOk, OnErr, OnOk, length};
 ghost use Rattle.geo_parser.specs.Inner.Dictionaries.{IsMisused, IsNew, IsNoNewName, IsNumbered};
 ghost use Rattle.geo_parser.specs.Inner.Dictionaries.{count_of, counted};
-ghost use Rattle.geo_parser.specs.Inner.Pieces.{refusal_number};
+ghost use Rattle.geo_parser.specs.Inner.Symbols.{refusal_number};
 
 use crate::errors::Refusal;
 use crate::expression_words::is_reserved;

@@ -1,7 +1,7 @@
 //! Why there is no program.
 
 ghost use Rattle.std.specs.Prelude.{◌≡◌};
-ghost use Rattle.geo_parser.specs.Inner.Pieces.{refusal_number};
+ghost use Rattle.geo_parser.specs.Inner.Symbols.{refusal_number};
 
 use geo_lexer::Fault;
 use std::alloc::{AllocError, AllocFailed};

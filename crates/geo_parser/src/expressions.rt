@@ -7,7 +7,7 @@ ghost use Rattle.geo_parser.specs.Inner.Reads.{ReadsExpression, ReadsFormed, Rea
 ghost use Rattle.geo_parser.specs.Inner.Reads.{ReadsParts, Refuses, extent};
 ghost use Rattle.geo_parser.specs.Inner.StatementWords.{expression_due};
 
-use crate::cursor::Piece;
+use crate::cursor::Symbol;
 use crate::errors::{ParseError, Refusal};
 use crate::expression_words::ExpressionWord;
 use crate::reader::Reader;
@@ -76,11 +76,11 @@ impl<'a> Reader<'a> {
             → Refuses (expression_slot level ratios ∷ []) self.old f }
     {
         match self.cursor.peek() {
-            Some(Piece::Number(number)) => {
+            Some(Symbol::Number(number)) => {
                 self.cursor.advance();
                 Ok(Node::Int(number))
             }
-            Some(Piece::Word(word)) => match ExpressionWord::of(word) {
+            Some(Symbol::Word(word)) => match ExpressionWord::of(word) {
                 Some(form) => {
                     if !form.may_stand(ratios) {
                         return Err(self.refuse(Refusal::RatioNotAllowed));

@@ -7,11 +7,11 @@ ghost use Rattle.geo_parser.specs.Inner.Coming.{fault_here};
 ghost use Rattle.geo_parser.specs.Inner.Dictionaries.{IsNumbered};
 ghost use Rattle.geo_parser.specs.Forms.{a_line, a_point, close_slot, end_slot, name_slot};
 ghost use Rattle.geo_parser.specs.Forms.{open_slot};
-ghost use Rattle.geo_parser.specs.Inner.Pieces.{refusal_number};
+ghost use Rattle.geo_parser.specs.Inner.Symbols.{refusal_number};
 ghost use Rattle.geo_parser.specs.Inner.Reads.{Reads, ReadsArguments, ReadsName, Refuses};
 ghost use Rattle.geo_program.specs.Forms.{line_argument, point_argument};
 
-use crate::cursor::{Cursor, Piece};
+use crate::cursor::{Cursor, Symbol};
 use crate::dictionary::Dictionary;
 use crate::errors::{ParseError, Refusal};
 use geo_points::PointId;
@@ -83,7 +83,7 @@ impl<'a> Reader<'a> {
         ensures refused { (f : Fault) → result ≡ Err (ParseError.Syntax f)
             → Refuses (name_slot kind ∷ []) self.old f }
     {
-        let Some(Piece::Word(word)) = self.cursor.peek() else {
+        let Some(Symbol::Word(word)) = self.cursor.peek() else {
             return Err(self.refuse(Refusal::Expected));
         };
         match self.names.number(kind, word) {
@@ -140,7 +140,7 @@ impl<'a> Reader<'a> {
         ensures refused { (f : Fault) → result ≡ Err (ParseError.Syntax f)
             → Refuses (open_slot level ∷ []) self.old f }
     {
-        let Some(Piece::Open) = self.cursor.peek() else {
+        let Some(Symbol::Open) = self.cursor.peek() else {
             return Err(self.refuse(Refusal::Expected));
         };
         if level > DEEPEST {
@@ -156,7 +156,7 @@ impl<'a> Reader<'a> {
         ensures refused { (f : Fault) → result ≡ Err (ParseError.Syntax f)
             → Refuses (close_slot ∷ []) self.old f }
     {
-        let Some(Piece::Close) = self.cursor.peek() else {
+        let Some(Symbol::Close) = self.cursor.peek() else {
             return Err(self.refuse(Refusal::Expected));
         };
         self.cursor.advance();

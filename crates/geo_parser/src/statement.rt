@@ -7,7 +7,7 @@ ghost use Rattle.geo_parser.specs.Inner.Reads.{ReadsStated, ReadsStatement, Read
 ghost use Rattle.geo_parser.specs.Inner.Reads.{Refuses, extent, statement_slots};
 ghost use Rattle.geo_parser.specs.Inner.StatementWords.{statement_due};
 
-use crate::cursor::Piece;
+use crate::cursor::Symbol;
 use crate::errors::{ParseError, Refusal};
 use crate::reader::Reader;
 use crate::statement_words::StatementWord;
@@ -35,7 +35,7 @@ impl<'a> Reader<'a> {
         ensures refused { (f : Fault) → result ≡ Err (ParseError.Syntax f)
             → Refuses (statement_slot ∷ []) self.old f }
     {
-        let Some(Piece::Word(word)) = self.cursor.peek() else {
+        let Some(Symbol::Word(word)) = self.cursor.peek() else {
             return Err(self.refuse(Refusal::Expected));
         };
         match StatementWord::of(word) {

@@ -22,9 +22,9 @@ pub struct Poly {
 }
 
 impl Model for Poly {
-    ghost use Rattle.geo_poly.specs.Polynomials.{Terms, IsPolynomial};
+    ghost use Rattle.geo_poly.specs.Polynomials.{Summands, IsPolynomial};
 
-    ghost Value = { Terms };
+    ghost Value = { Summands };
 
     ghost view = { λ p. p.terms.items };
 

@@ -128,12 +128,7 @@ fn polynomial_of(line: Line) -> Option<Poly> {
 }
 
 /// Writes the line of the stop, if it is one, and answers it.
-fn stopped<K: Sink>(
-    alloc: Global,
-    error: ApplyError,
-    log: &LogWriter,
-    sink: &mut K,
-) -> ProveError {
+fn stopped<K: Sink>(alloc: Global, error: ApplyError, log: &LogWriter, sink: &mut K) -> ProveError {
     match error {
         ApplyError::NoRow => unreachable!(),
         ApplyError::Spent => log.stop_spent(alloc, sink),

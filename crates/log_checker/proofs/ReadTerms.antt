@@ -6,7 +6,7 @@ use Rattle.std.specs.declared.cmp.Ordering.{Ordering}
 use Rattle.std.specs.declared.cmp.Ordering.TheVariants.{Less, Equal, Greater}
 use Rattle.geo_poly.specs.declared.variables.Var.{Var}
 use Rattle.geo_poly.specs.Monomials.{Powers}
-use Rattle.geo_poly.specs.Polynomials.{Terms, norm_of, term_cmp}
+use Rattle.geo_poly.specs.Polynomials.{Summands, norm_of, term_cmp}
 use Rattle.geo_poly.specs.Variables.{var_cmp}
 use Rattle.proof_log.specs.Inner.Growing.{last_of}
 use Rattle.proof_log.specs.Inner.Reading.{Begins, Form, NoneBegins, StopsAt, BeginsWith, coefficients, factors, integers, is_power_byte, polynomials, powers_after, single_powers, single_values, terms, value_lists}
@@ -107,13 +107,13 @@ factor_decided bytes = go (integer_decided bytes)
 none_written : CanWritePolynomial []
 none_written = record { polynomial = record { in_order = tt; monomials = tt; norm_fits = lit< tt }; variables = tt }
 
-terms_from : (fuel : ℕ) (s0 now : List ℕ) (list : Terms) (norm : ℕ) → AreTermsRead s0 now list norm → length now < fuel → IsWholeOrNone polynomials s0
+terms_from : (fuel : ℕ) (s0 now : List ℕ) (list : Summands) (norm : ℕ) → AreTermsRead s0 now list norm → length now < fuel → IsWholeOrNone polynomials s0
 terms_from zero s0 now list norm h few = absurd (omega (arith, few))
 terms_from (suc fuel) s0 now list norm h few = go (none_decided now) (byte_decided 32 now) (λ next more sum k l. terms_from fuel s0 next more sum k l)
   where
     pushed : (s1 : List ℕ) (space : now ≡ 32 ∷ s1) (t : Powers × ℤ) (s2 : List ℕ) → Begins terms s1 t s2 → Decided (norm_of list + unsigned_abs t.1 < 2 ^ 127)
         → Decided (IfSome (last_of list) (λ u. term_cmp u.0 t.0 ≡ Less))
-        → ((next : List ℕ) (more : Terms) (sum : ℕ) → AreTermsRead s0 next more sum → length next < fuel → IsWholeOrNone polynomials s0) → IsWholeOrNone polynomials s0
+        → ((next : List ℕ) (more : Summands) (sum : ℕ) → AreTermsRead s0 next more sum → length next < fuel → IsWholeOrNone polynomials s0) → IsWholeOrNone polynomials s0
     pushed s1 space t s2 read (inl room) (inl last) again =
         let less = term_shorter t s1 s2 read in
         let one : length now ≡ length (32 ∷ s1) = ap length space in
@@ -124,14 +124,14 @@ terms_from (suc fuel) s0 now list norm h few = go (none_decided now) (byte_decid
     pushed s1 space t s2 read (inr large) d again = inr (terms_refused s0 now list norm h s1 space (term_too_large list t s1 s2 read large))
 
     termed : (s1 : List ℕ) → now ≡ 32 ∷ s1 → IsFoundOrNone terms s1
-        → ((next : List ℕ) (more : Terms) (sum : ℕ) → AreTermsRead s0 next more sum → length next < fuel → IsWholeOrNone polynomials s0) → IsWholeOrNone polynomials s0
+        → ((next : List ℕ) (more : Summands) (sum : ℕ) → AreTermsRead s0 next more sum → length next < fuel → IsWholeOrNone polynomials s0) → IsWholeOrNone polynomials s0
     termed s1 space (inl k) again =
         pushed s1 space k.0 k.1 k.2 (less_decided (norm_of list + unsigned_abs k.0.1) (2 ^ 127))
         (if_some_decided (λ (u : Powers × ℤ). term_cmp u.0 k.0.0 ≡ Less) (λ u. order_decided (term_cmp u.0 k.0.0)) (last_of list)) again
     termed s1 space (inr n) again = inr (terms_refused s0 now list norm h s1 space (λ t r b more fits. n t r b))
 
     go : Decided (now ≡ []) → IsByteOrNone 32 now
-        → ((next : List ℕ) (more : Terms) (sum : ℕ) → AreTermsRead s0 next more sum → length next < fuel → IsWholeOrNone polynomials s0) → IsWholeOrNone polynomials s0
+        → ((next : List ℕ) (more : Summands) (sum : ℕ) → AreTermsRead s0 next more sum → length next < fuel → IsWholeOrNone polynomials s0) → IsWholeOrNone polynomials s0
     go (inl e) d again = inl (list, terms_end s0 now list norm h e)
     go (inr some) (inl k) again = termed k.0 k.1 (term_decided k.0) again
     go (inr some) (inr none) again = inr (terms_no_space s0 now list norm h some none)

@@ -2,7 +2,7 @@
 use Rattle.std.specs.Prelude.{◌≡◌, ℕ, suc, ◌+◌, ◌<◌, ◌≤◌, ◌⊎◌, Option, Some, None, List, [], ◌∷◌, ◌++◌, length, take}
 use Rattle.geo_base.specs.Devices.{Grows, HasRisen}
 use Rattle.geo_poly.specs.declared.variables.Var.{Var}
-use Rattle.geo_poly.specs.Polynomials.{Terms}
+use Rattle.geo_poly.specs.Polynomials.{Summands}
 use Rattle.geo_terms.specs.Constructions.{Construction}
 use Rattle.geo_terms.specs.Trees.{Tree}
 use Rattle.proof_log.specs.declared.log.Line.{Line}
@@ -77,7 +77,7 @@ Halts c part s t NoMemory = IsBrokenOff c part s t
 
 -- WHAT IS WRITTEN WHOLE
 -- the chain of the term was written; it ends so, and this variable is known then
-pub record WorksChain (c : Construction) (header : Line) (known : List Var) (left : ℕ) (e : Tree) (left' : ℕ) (s t : State) (end : Terms)
+pub record WorksChain (c : Construction) (header : Line) (known : List Var) (left : ℕ) (e : Tree) (left' : ℕ) (s t : State) (end : Summands)
     (variable : Option Var) : Type 0 where
   pub chain : Chain
   pub works : IsDefinedChain lemma_table c known left e chain left'

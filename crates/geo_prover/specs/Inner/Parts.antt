@@ -3,7 +3,7 @@ use Rattle.std.specs.Prelude.{◌≡◌, ℕ, ◌+◌, ◌≤◌, List, [], ◌+
 use Rattle.geo_conditions.specs.declared.items.Item.{Item as ListedItem}
 use Rattle.geo_conditions.specs.Lists.{item_form}
 use Rattle.geo_poly.specs.declared.variables.Var.{Var}
-use Rattle.geo_poly.specs.Polynomials.{Terms}
+use Rattle.geo_poly.specs.Polynomials.{Summands}
 use Rattle.geo_terms.specs.Constructions.{Construction}
 use Rattle.geo_terms.specs.Stores.{Store}
 use Rattle.geo_terms.specs.TermBounds.{IsTermBelow}
@@ -34,21 +34,21 @@ chain_part c header known left e = record {
 }
 
 -- the sample and the verdict
-abbrev pub end_part : Construction → List Terms → Verdict → ℕ → Part
+abbrev pub end_part : Construction → List Summands → Verdict → ℕ → Part
 end_part c listed verdict left = record {
   begun = IsBegunEnd (LeadsBySteps lemma_table c) (IsDefinedChain lemma_table c) (IsLeastSample c) listed verdict left;
   whole = λ lines other left'. (other ≡ verdict) × IsConcluded (IsDefinedChain lemma_table c) (IsLeastSample c) listed left lines verdict left';
 }
 
 -- the goals from number k on, and what follows
-abbrev pub goals_part : Construction → List Var → List Terms → ℕ → ℕ → List Item → Part
+abbrev pub goals_part : Construction → List Var → List Summands → ℕ → ℕ → List Item → Part
 goals_part c known listed k left items = record {
   begun = AreGoalsBegun (LeadsBySteps lemma_table c) (IsDefinedChain lemma_table c) (IsLeastSample c) known listed k left items;
   whole = AreGoalsWorked (IsDefinedChain lemma_table c) (IsLeastSample c) known listed k left items;
 }
 
 -- the conditions from number k on, and what follows
-abbrev pub conditions_part : Construction → List Item → List Var → List Terms → ℕ → ℕ → List Item → Part
+abbrev pub conditions_part : Construction → List Item → List Var → List Summands → ℕ → ℕ → List Item → Part
 conditions_part c goals known listed k left items = record {
   begun = AreConditionsBegun (LeadsBySteps lemma_table c) (IsDefinedChain lemma_table c) (IsLeastSample c) goals known listed k left items;
   whole = AreConditionsWorked (IsDefinedChain lemma_table c) (IsLeastSample c) goals known listed k left items;
