@@ -1,5 +1,6 @@
 //! Taking bytes from a source, line by line.
-ghost use Rattle.std.specs.Prelude.{◌≡◌, ◌+◌, ◌<◌, ◌≤◌, ◌∷◌, ◌++◌, ◌↔◌, [], length, Contains, IfOk, IsErrOf, IsTrue, OnErr, OnOk};
+ghost use Rattle.std.specs.Prelude.{◌≡◌, ◌+◌, ◌<◌, ◌≤◌, ◌∷◌, ◌++◌, ◌↔◌, [], length, Contains, IfOk};
+ghost use Rattle.std.specs.Prelude.{IsErrOf, IsTrue, OnErr, OnOk};
 ghost use Rattle.std.specs.Bool.{MatchBool};
 ghost use Rattle.geo_base.specs.Devices.{HasEnded, HasRisen, Loses};
 ghost use Rattle.geo_base.specs.Lines.{handed_out, is_rest, line_feed, open_bytes, text_of};

@@ -40,8 +40,8 @@ IsAnswered due status faults faults' held held' =
     ⊎ (IsCutShort status faults faults' × ((count : ℕ) × Grows held (take count due.text) held'))
 
 -- what the words and the input call for was answered
-pub record Answers (words : List (List ℕ)) (left left' : Option (List ℕ)) (faults faults' : ℕ) (held held' : Option (List ℕ)) (status : Status)
-    : Type 0 where
+pub record Answers (words : List (List ℕ)) (left left' : Option (List ℕ)) (faults faults' : ℕ) (held held' : Option (List ℕ))
+    (status : Status) : Type 0 where
   pub due : Due
   pub cause : IsDue words left left' due
   pub answered : IsAnswered due status faults faults' held held'

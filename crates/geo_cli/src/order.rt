@@ -1,5 +1,6 @@
 //! The order that the words of the command line give.
-ghost use Rattle.std.specs.Prelude.{◌≡◌, ◌<◌, ◌∷◌, ◌++◌, [], ℕ, List, length, IfNone, IfSome, IsSomeAnd};
+ghost use Rattle.std.specs.Prelude.{◌≡◌, ◌<◌, ◌∷◌, ◌++◌, [], ℕ, List, length, IfNone, IfSome};
+ghost use Rattle.std.specs.Prelude.{IsSomeAnd};
 ghost use Rattle.std.specs.Str.Parse.{starts_with_minus};
 ghost use Rattle.std.specs.String.{string_bytes};
 ghost use Rattle.geo_cli.specs.Inner.OrderParts.{SplitsOff, front_of, tail_of};

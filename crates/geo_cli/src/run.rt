@@ -15,7 +15,8 @@ use crate::words::steps_of_prove;
 use geo_base::{Sink, Source};
 use std::alloc::Global;
 
-/// Carries out the command that the words are. For `prove` it reads a program from the source to its
+/// Carries out the command that the words are. For `prove` it reads a program from the source to
+/// its
 /// end, and writes its log to the sink, each line when it is made. It writes nothing before the
 /// words, the reading and the parsing are done.
 pub fn run<S: Source, K: Sink>(

@@ -11,10 +11,13 @@ const USAGE: &[u8] = b"usage: geo_cli COMMAND [NUMBER] [--steps N]\n";
 const MIDPOINT: &[u8] = b"point A point B midpoint M A B prove { collinear A M B }";
 
 const MIDPOINT_LOG: &[u8] =
-    b"geolog 1\n| point A\n| point B\n| midpoint M A B\n| prove { collinear A M B }\ngoal 1 collinear A M B\nstart : -1*S0.1.2\ncut -1 : +1*S0.1.2\npoint 2 : 0\nend\nsample x0=0 y0=0 x1=0 y1=0\nverdict proved\n";
+    b"geolog 1\n| point A\n| point B\n| midpoint M A B\n| prove { collinear A M B }\n\
+    goal 1 collinear A M B\nstart : -1*S0.1.2\ncut -1 : +1*S0.1.2\npoint 2 : 0\nend\n\
+    sample x0=0 y0=0 x1=0 y1=0\nverdict proved\n";
 
 const MIDPOINT_STOP: &[u8] =
-    b"geolog 1\n| point A\n| point B\n| midpoint M A B\n| prove { collinear A M B }\ngoal 1 collinear A M B\nstart : -1*S0.1.2\ncut -1 : +1*S0.1.2\nstop spent 9\n";
+    b"geolog 1\n| point A\n| point B\n| midpoint M A B\n| prove { collinear A M B }\n\
+    goal 1 collinear A M B\nstart : -1*S0.1.2\ncut -1 : +1*S0.1.2\nstop spent 9\n";
 
 // The same program with comments and sketch numbers.
 const SKETCHED: &[u8] =
@@ -23,17 +26,22 @@ const SKETCHED: &[u8] =
 const CROSSING: &[u8] = b"point A point B inter X A B A B prove { collinear A B X }";
 
 const CROSSING_LOG: &[u8] =
-    b"geolog 1\n| point A\n| point B\n| inter X A B A B\n| prove { collinear A B X }\ncondition 1 not_parallel A B A B\nstart : 0\nend\nverdict impossible 1\n";
+    b"geolog 1\n| point A\n| point B\n| inter X A B A B\n| prove { collinear A B X }\n\
+    condition 1 not_parallel A B A B\nstart : 0\nend\nverdict impossible 1\n";
 
 const FREE_POINTS: &[u8] = b"point A point B point C prove { collinear A B C }";
 
 const FREE_POINTS_LOG: &[u8] =
-    b"geolog 1\n| point A\n| point B\n| point C\n| prove { collinear A B C }\ngoal 1 collinear A B C\nstart : +1*S0.1.2\ncoords : +1*x0*y1 -1*x0*y2 -1*y0*x1 +1*y0*x2 +1*x1*y2 -1*y1*x2\nend\nsample x0=0 y0=0 x1=0 y1=1 x2=1 y2=0\nverdict false 1\n";
+    b"geolog 1\n| point A\n| point B\n| point C\n| prove { collinear A B C }\n\
+    goal 1 collinear A B C\nstart : +1*S0.1.2\n\
+    coords : +1*x0*y1 -1*x0*y2 -1*y0*x1 +1*y0*x2 +1*x1*y2 -1*y1*x2\nend\n\
+    sample x0=0 y0=0 x1=0 y1=1 x2=1 y2=0\nverdict false 1\n";
 
 const NUMBERS: &[u8] = b"prove { equal { 1 } { 1 } }";
 
 const NUMBERS_LOG: &[u8] =
-    b"geolog 1\n| prove { equal { 1 } { 1 } }\ngoal 1 equal { 1 } { 1 }\nstart : 0\nend\nsample\nverdict proved\n";
+    b"geolog 1\n| prove { equal { 1 } { 1 } }\ngoal 1 equal { 1 } { 1 }\nstart : 0\nend\n\
+    sample\nverdict proved\n";
 
 const QUOTIENTS: &[u8] =
     b"param r prove { equal { div { 1 } { r } } { div { 1 } { sub { r } { 1 } } } }";
@@ -43,29 +51,36 @@ const LARGEST: &[u8] = b"param r prove { equal { r } { 1701411834604692317316873
 const TOO_LARGE: &[u8] =
     b"param r prove { equal { r } { 170141183460469231731687303715884105727 } }";
 
-const TOO_LARGE_LOG: &[u8] =
-    b"geolog 1\n| param r\n| prove { equal { r } { 170141183460469231731687303715884105727 } }\ngoal 1 equal { r } { 170141183460469231731687303715884105727 }\nstop too_large 5 norm\n";
+const TOO_LARGE_LOG: &[u8] = b"geolog 1\n| param r\n\
+    | prove { equal { r } { 170141183460469231731687303715884105727 } }\n\
+    goal 1 equal { r } { 170141183460469231731687303715884105727 }\nstop too_large 5 norm\n";
 
 // Theorems, and statements that fail or are never met.
 const DECIDED: [(&[u8], Status); 12] = [
     (
-        b"point A point B point C point P inter D B C A P inter E C A B P inter F A B C P prove { equal { mult { mult { sratio A F F B } { sratio B D D C } } { sratio C E E A } } { 1 } }",
+        b"point A point B point C point P inter D B C A P inter E C A B P inter F A B C P \
+        prove { equal { mult { mult { sratio A F F B } { sratio B D D C } } { sratio C E E \
+        A } } { 1 } }",
         Status::Proved,
     ),
     (
-        b"point A point B point C online D B C online E C A inter F A B D E prove { equal { mult { mult { sratio A F F B } { sratio B D D C } } { sratio C E E A } } { 1 } }",
+        b"point A point B point C online D B C online E C A inter F A B D E prove { equal { \
+        mult { mult { sratio A F F B } { sratio B D D C } } { sratio C E E A } } { 1 } }",
         Status::False(4),
     ),
     (
-        b"point A 20 20 % a triangle\npoint B 80 20 point C 40 60 circumcenter O A B C orthocenter H A B C centroid G A B C prove { collinear O H G }",
+        b"point A 20 20 % a triangle\npoint B 80 20 point C 40 60 circumcenter O A B C \
+        orthocenter H A B C centroid G A B C prove { collinear O H G }",
         Status::Proved,
     ),
     (
-        b"point A point B point C foot D A B C foot E B A C inter H A D B E prove { perpendicular C H A B }",
+        b"point A point B point C foot D A B C foot E B A C inter H A D B E prove { \
+        perpendicular C H A B }",
         Status::Proved,
     ),
     (
-        b"point A point B point A1 point B1 online C A B online C1 A1 B1 inter X A B1 A1 B inter Y A C1 A1 C inter Z B C1 B1 C prove { collinear X Y Z }",
+        b"point A point B point A1 point B1 online C A B online C1 A1 B1 inter X A B1 A1 B \
+        inter Y A C1 A1 C inter Z B C1 B1 C prove { collinear X Y Z }",
         Status::Proved,
     ),
     (
@@ -87,7 +102,8 @@ const DECIDED: [(&[u8], Status); 12] = [
     (LARGEST, Status::False(1)),
     (QUOTIENTS, Status::False(1)),
     (
-        b"point A point B line a A B perp b A a parallel c B b med d A B intersec M a d prove { midpoint M A B }",
+        b"point A point B line a A B perp b A a parallel c B b med d A B intersec M a d prove \
+        { midpoint M A B }",
         Status::Proved,
     ),
 ];

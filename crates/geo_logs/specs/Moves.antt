@@ -50,7 +50,11 @@ place_of Coords = None
 
 -- what a move replaces in a polynomial: each of its variables that has a row
 abbrev pub replacement : Table → Construction → Move → Summands → Replacement
-replacement table c move q = record { rows = filter_map (table.row c move) (variables_of q); den = table.denominator c move; charge = table.charge c move }
+replacement table c move q = record {
+  rows = filter_map (table.row c move) (variables_of q);
+  den = table.denominator c move;
+  charge = table.charge c move;
+}
 
 -- THE CHARGE OF A MOVE
 -- k times the count of the numerator to the power e, where there is a row

@@ -5,7 +5,8 @@ ghost use Rattle.std.specs.Int.{◌∣◌};
 ghost use Rattle.sparse_lists.specs.SparseLists.{AllKeys};
 ghost use Rattle.geo_poly.specs.declared.variables.Var.{Var};
 ghost use Rattle.geo_poly.specs.Monomials.{Powers, IsMonomial, exponent};
-ghost use Rattle.geo_poly.specs.Polynomials.{Summands, IsPolynomial, multiples, norm_of, product_of};
+ghost use Rattle.geo_poly.specs.Polynomials.{Summands, IsPolynomial, multiples, norm_of};
+ghost use Rattle.geo_poly.specs.Polynomials.{product_of};
 ghost use Rattle.geo_poly.specs.Factors.{DividesAll, IsFactorOf, IsLeastExponent};
 
 use crate::factors::Factor;

@@ -19,7 +19,8 @@ pub record LeastSampleExists : Type 0 where
 -- a least value is at most the sum of the degrees in its variable
 abbrev pub LeastValuesAreSmall : Type 0
 LeastValuesAreSmall =
-    (v : Var) (ps : List Summands) (z : ℤ) → All IsCollected ps → NoneZero ps → IsLeastValue v ps z → unsigned_abs z ≤ sum_by (degree_in v) ps
+    (v : Var) (ps : List Summands) (z : ℤ) → All IsCollected ps → NoneZero ps → IsLeastValue v ps z
+    → unsigned_abs z ≤ sum_by (degree_in v) ps
 
 -- a least sample has the variables in order, and at it none of the polynomials is zero
 pub record IsSample (vs : List Var) (ps : List Summands) (xs : List (Var × ℤ)) : Type 0 where

@@ -63,7 +63,8 @@ ProvedIsTrue = (p : Source) (steps : ℕ) (lines : List Line) → IsAcceptedLog 
 -- one that is accepted with False names a program that the integers of its sample break
 abbrev pub FalseBreaks : Type 0
 FalseBreaks =
-    (p : Source) (steps g : ℕ) (lines : List Line) → IsAcceptedLog p steps lines (False g) → (v : ProgramValues) × EndsWithValues lines (False g) v
+    (p : Source) (steps g : ℕ) (lines : List Line) → IsAcceptedLog p steps lines (False g)
+    → (v : ProgramValues) × EndsWithValues lines (False g) v
     × Breaks p v
 
 -- one that is accepted with Impossible names a program that no placement meets
