@@ -26,7 +26,8 @@ use Rattle.geo_poly.specs.PolynomialVariables.{AllVariables}
 pub record TellsValue (placed : Placement) (table : Table) (c : Construction) (move : Move) (v : Var) (r : Row) : Type 0 where
   pub nonzero : IsNonzero (polynomial_value placed (table.denominator c move).poly)
   pub tells : Same
-      (times (variable_value placed.point placed.number v) (power fractions (polynomial_value placed (table.denominator c move).poly) r.power))
+      (times (variable_value placed.point placed.number v)
+      (power fractions (polynomial_value placed (table.denominator c move).poly) r.power))
       (polynomial_value placed r.num.poly)
   pub numerator : AllVariables (HasVariable placed) r.num.poly
   pub denominator : AllVariables (HasVariable placed) (table.denominator c move).poly
