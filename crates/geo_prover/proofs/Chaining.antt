@@ -6,7 +6,7 @@ use Rattle.geo_chain.specs.NextLines.{HasLinePointsBelow, IsEndLine, IsNextLine,
 use Rattle.geo_poly.specs.declared.variables.Var.{Var}
 use Rattle.geo_poly.specs.declared.variables.Var.TheVariants.{R, S, P, X, Y, T}
 use Rattle.geo_poly.specs.Monomials.{Powers}
-use Rattle.geo_poly.specs.Polynomials.{Terms}
+use Rattle.geo_poly.specs.Polynomials.{Summands}
 use Rattle.geo_poly.specs.PolynomialVariables.{AllVariables}
 use Rattle.sparse_lists.specs.SparseLists.{AllKeys}
 use Rattle.geo_terms.specs.Constructions.{Construction}
@@ -36,7 +36,7 @@ module _ (Strong Weak : Var → Type 0) (weaker : (v : Var) → Strong v → Wea
   each_key [] h = tt
   each_key (p ∷ m) h = (weaker p.0 h.0, each_key m h.1)
 
-  each_variable : (q : Terms) → AllVariables Strong q → AllVariables Weak q
+  each_variable : (q : Summands) → AllVariables Strong q → AllVariables Weak q
   each_variable [] h = tt
   each_variable (t ∷ q) h = (each_key t.0 h.0, each_variable q h.1)
 
@@ -53,7 +53,7 @@ pub start_points : (c : Construction) (e : Tree) → IsInside c e → AllVariabl
 start_points c e h = each_variable (IsNamed c (length c.steps)) (HasPointsBelow (length c.steps)) (named_points c (length c.steps)) (start_of e) ((term_sound c e).named (length c.steps) h)
 
 -- so does the polynomial of the next line
-pub line_points : (n : ℕ) (l : Line) (q : Terms) → polynomial_on l ≡ Some q → HasLinePointsBelow n l → AllVariables (HasPointsBelow n) q
+pub line_points : (n : ℕ) (l : Line) (q : Summands) → polynomial_on l ≡ Some q → HasLinePointsBelow n l → AllVariables (HasPointsBelow n) q
 line_points n (line.Start r) q e h = let same : r ≡ q = cc in subst (AllVariables (HasPointsBelow n)) same h
 line_points n (line.Ratio v lemma at r) q e h = let same : r ≡ q = cc in subst (AllVariables (HasPointsBelow n)) same h
 line_points n (line.Point at r) q e h = let same : r ≡ q = cc in subst (AllVariables (HasPointsBelow n)) same h
@@ -70,11 +70,11 @@ line_points n (line.StopTooLarge m w) q e h = absurd (let f : ⊥ = cc in f)
 line_points n (line.StopSpent m) q e h = absurd (let f : ⊥ = cc in f)
 
 module _ (c : Construction) (known : List Var) where
-  abbrev Leads : ℕ → Terms → List ChainStep → ℕ → Terms → Type 0
+  abbrev Leads : ℕ → Summands → List ChainStep → ℕ → Summands → Type 0
   Leads left q steps left' r = LeadsBySteps lemma_table c known left q steps left' r
 
   -- STEPS
-  leads_more : (left : ℕ) (q : Terms) (xs : List ChainStep) (mid : ℕ) (r : Terms) (ys : List ChainStep) (left' : ℕ) (e : Terms) → Leads left q xs mid r → Leads mid r ys left' e
+  leads_more : (left : ℕ) (q : Summands) (xs : List ChainStep) (mid : ℕ) (r : Summands) (ys : List ChainStep) (left' : ℕ) (e : Summands) → Leads left q xs mid r → Leads mid r ys left' e
       → Leads left q (xs ++ ys) left' e
   leads_more left q [] mid r ys left' e h g =
       subst (λ k. Leads k q ys left' e) (sym h.0) (subst (λ t. Leads mid t ys left' e) (sym h.1) g)
@@ -83,34 +83,34 @@ module _ (c : Construction) (known : List Var) where
   leads_more left q (cuts f s ∷ xs) mid r ys left' e h g = (h.0, h.1, leads_more left s xs mid r ys left' e h.2 g)
 
   -- the step of a next line, with its polynomial
-  step_polynomial : (left : ℕ) (q : Terms) (step : ChainStep) (left' : ℕ) (r : Terms) → Leads left q (step ∷ []) left' r → polynomial_on (line_of step) ≡ Some r
+  step_polynomial : (left : ℕ) (q : Summands) (step : ChainStep) (left' : ℕ) (r : Summands) → Leads left q (step ∷ []) left' r → polynomial_on (line_of step) ≡ Some r
   step_polynomial left q (moves (Ratio v lemma at) s) left' r h = ap Some h.3.1
   step_polynomial left q (moves (Point at) s) left' r h = ap Some h.3.1
   step_polynomial left q (moves Coords s) left' r h = ap Some h.3.1
   step_polynomial left q (cuts f s) left' r h = ap Some h.2.1
 
   -- what was made of the first polynomial so far
-  pub record IsUnderWay (left : ℕ) (first : Terms) (left' : ℕ) (last : Terms) (s t : State) : Type 0 where
+  pub record IsUnderWay (left : ℕ) (first : Summands) (left' : ℕ) (last : Summands) (s t : State) : Type 0 where
     pub steps : List ChainStep
     pub leads : Leads left first steps left' last
     pub written : Writes (map line_of steps) s t
 
-  pub begins : (left : ℕ) (first : Terms) (s : State) → Writes [] s s → IsUnderWay left first left first s s
+  pub begins : (left : ℕ) (first : Summands) (s : State) → Writes [] s s → IsUnderWay left first left first s s
   begins left first s w = record { steps = []; leads = (refl, refl); written = w }
 
-  pub stands_at : (left : ℕ) (first : Terms) (left' : ℕ) (last : Terms) (s t : State) → IsUnderWay left first left' last s t
+  pub stands_at : (left : ℕ) (first : Summands) (left' : ℕ) (last : Summands) (s t : State) → IsUnderWay left first left' last s t
       → Passes (steps_part c known left first) (here_part (in_chain known left' last)) s t
   stands_at left first left' last s t h =
       reaches (steps_part c known left first) (map line_of h.steps) (in_chain known left' last) s t
       (record { steps = h.steps; after = left'; last = last; leads = h.leads; split = refl; stands = refl }) h.written
 
   -- a next line comes next
-  pub line_comes : (left : ℕ) (q : Terms) (l : Line) (left' : ℕ) → IsNextLine c known left q l left' → IsNext lemma_table c (in_chain known left q) (comes l)
+  pub line_comes : (left : ℕ) (q : Summands) (l : Line) (left' : ℕ) → IsNextLine c known left q l left' → IsNext lemma_table c (in_chain known left q) (comes l)
   line_comes left q l left' (inl h) = inl (h.step, left', h.next, h.leads, h.is)
   line_comes left q l left' (inr h) = inr (h.no_cut, h.ended, h.is)
 
   -- with a polynomial it is a step
-  pub goes_on : (left : ℕ) (first : Terms) (mid : ℕ) (last : Terms) (l : Line) (left' : ℕ) (q : Terms) (s t u : State) → IsUnderWay left first mid last s t
+  pub goes_on : (left : ℕ) (first : Summands) (mid : ℕ) (last : Summands) (l : Line) (left' : ℕ) (q : Summands) (s t u : State) → IsUnderWay left first mid last s t
       → IsNextLine c known mid last l left' → polynomial_on l ≡ Some q → Writes (l ∷ []) t u → IsUnderWay left first left' q s u
   goes_on left first mid last l left' q s t u h (inl g) on w =
       let same : Some g.next ≡ Some q = sym (step_polynomial mid last g.step left' g.next g.leads) ∙ ap polynomial_on (sym g.is) ∙ on in
@@ -125,7 +125,7 @@ module _ (c : Construction) (known : List Var) where
   goes_on left first mid last l left' q s t u h (inr g) on w = let same : None ≡ Some q = ap polynomial_on (sym g.is) ∙ on in absurd (let f : ⊥ = cc in f)
 
   -- without one it is the end
-  pub ends : (left : ℕ) (first : Terms) (mid : ℕ) (last : Terms) (l : Line) (left' : ℕ) (s t u : State) → IsUnderWay left first mid last s t → IsNextLine c known mid last l left'
+  pub ends : (left : ℕ) (first : Summands) (mid : ℕ) (last : Summands) (l : Line) (left' : ℕ) (s t u : State) → IsUnderWay left first mid last s t → IsNextLine c known mid last l left'
       → polynomial_on l ≡ None → Writes (l ∷ []) t u → WorksSteps c known left first left' s u last
   ends left first mid last l left' s t u h (inl g) on w =
       let same : Some g.next ≡ None = sym (step_polynomial mid last g.step left' g.next g.leads) ∙ ap polynomial_on (sym g.is) ∙ on in absurd (let f : ⊥ = cc in f)
@@ -145,7 +145,7 @@ module _ (c : Construction) (known : List Var) where
     pub at_start : (s t : State) → Writes (header ∷ []) s t → Passes (chain_part c header known left e) (here_part (before_start left e)) s t
     at_start s t w = reaches (chain_part c header known left e) (header ∷ []) (before_start left e) s t (inr (inl (refl, refl))) w
 
-    pub past_start : (left' : ℕ) (q : Terms) (s t : State) → IsStarted left e → left' ≡ left - start_charge e → q ≡ start_of e → Writes (header ∷ line.Start q ∷ []) s t
+    pub past_start : (left' : ℕ) (q : Summands) (s t : State) → IsStarted left e → left' ≡ left - start_charge e → q ≡ start_of e → Writes (header ∷ line.Start q ∷ []) s t
         → Passes (chain_part c header known left e) (steps_part c known left' q) s t
     past_start left' q s t started paid is w = record {
       lines = header ∷ line.Start q ∷ [];
@@ -164,7 +164,7 @@ module _ (c : Construction) (known : List Var) where
       written = w;
     }
 
-    pub works_chain : (mid : ℕ) (q : Terms) (variable : Option Var) (left' : ℕ) (end : Terms) (s t u : State) → IsStarted left e → mid ≡ left - start_charge e → q ≡ start_of e
+    pub works_chain : (mid : ℕ) (q : Summands) (variable : Option Var) (left' : ℕ) (end : Summands) (s t u : State) → IsStarted left e → mid ≡ left - start_charge e → q ≡ start_of e
         → variable ≡ only_variable q → Writes (header ∷ line.Start q ∷ []) s t → WorksSteps c known mid q left' t u end → WorksChain c header known left e left' s u end variable
     works_chain mid q variable left' end s t u started paid is told w h = record {
       chain = record { steps = h.steps; end = end };

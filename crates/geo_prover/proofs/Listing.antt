@@ -8,7 +8,7 @@ use Rattle.geo_conditions.specs.declared.problem.Problem.{Problem}
 use Rattle.geo_conditions.specs.Lists.{item_form}
 use Rattle.geo_poly.specs.declared.variables.Var.{Var}
 use Rattle.geo_points.specs.declared.ids.TermId.{TermId}
-use Rattle.geo_poly.specs.Polynomials.{Terms}
+use Rattle.geo_poly.specs.Polynomials.{Summands}
 use Rattle.geo_poly.specs.Specialise.{NoneZero}
 use Rattle.geo_terms.specs.Constructions.{Construction}
 use Rattle.geo_terms.specs.Stores.{Store, tree_of}
@@ -53,11 +53,11 @@ some_at (x ∷ xs) (suc i) h = some_at xs i (omega (arith, h))
 
 -- what is due first
 module _ (c : Construction) where
-  goals_start : (known : List Var) (listed : List Terms) (k left : ℕ) (goals : List Item) → (place : Place) × (goals_part c known listed k left goals).begun [] place
+  goals_start : (known : List Var) (listed : List Summands) (k left : ℕ) (goals : List Item) → (place : Place) × (goals_part c known listed k left goals).begun [] place
   goals_start known listed k left [] = (before_sample listed left, inl (refl, refl))
   goals_start known listed k left (item ∷ items) = (before_line (Goal k item.text), inl (inl (refl, refl)))
 
-  pub conditions_start : (goals : List Item) (known : List Var) (listed : List Terms) (k left : ℕ) (items : List Item) → (place : Place) × (conditions_part c goals known listed k left items).begun [] place
+  pub conditions_start : (goals : List Item) (known : List Var) (listed : List Summands) (k left : ℕ) (items : List Item) → (place : Place) × (conditions_part c goals known listed k left items).begun [] place
   conditions_start goals known listed k left [] = goals_start known listed 1 left goals
   conditions_start goals known listed k left (item ∷ items) = (before_line (Condition k item.text), inl (inl (refl, refl)))
 
@@ -76,7 +76,7 @@ module _ (problem : Problem) where
   items_at items i item at = ap (λ xs. items_of c.nodes xs) (at_drop items i item at)
 
   -- CONDITIONS
-  module _ (i : ℕ) (known : List Var) (listed : List Terms) (left : ℕ) where
+  module _ (i : ℕ) (known : List Var) (listed : List Summands) (left : ℕ) where
     abbrev Conditions : List Item → Part
     Conditions items = conditions_part c goals known listed (suc i) left items
 
@@ -91,7 +91,7 @@ module _ (problem : Problem) where
         (λ lines place h. subst (λ items. (Conditions items).begun lines place) (sym (items_at problem.conditions i item at)) (inl h))
         (λ lines verdict l w. absurd w)
 
-    module _ (item : ListedItem) (left' : ℕ) (s t : State) (end : Terms) (variable : Option Var) (at : slice_get problem.conditions i ≡ Some item)
+    module _ (item : ListedItem) (left' : ℕ) (s t : State) (end : Summands) (variable : Option Var) (at : slice_get problem.conditions i ≡ Some item)
         (h : WorksChain c (Condition (suc i) item.text) known left (term item) left' s t end variable) where
       abbrev header : Line
       header = Condition (suc i) item.text
@@ -120,15 +120,14 @@ module _ (problem : Problem) where
                       (subst (λ v. (conditions_part c goals (known ++ cons_option v []) (listed ++ end ∷ []) (suc (suc i)) left' rest).begun more place) h.told b),
                 ),
               ));
-          whole = λ more verdict l w. subst (λ items. (Conditions items).whole (chain_lines header (term item) h.chain ++ more) verdict l) (sym (items_at problem.conditions i item at))
-              (
-                record { chain = h.chain; after = left'; rest = more; split = refl; works = h.works },
-                inr (
-                  (λ e. nonzero (h.ended ∙ e)),
-                  subst (λ q. (conditions_part c goals (known ++ known_by (own ∷ [])) (listed ++ q ∷ []) (suc (suc i)) left' rest).whole more verdict l) h.ended
-                      (subst (λ v. (conditions_part c goals (known ++ cons_option v []) (listed ++ end ∷ []) (suc (suc i)) left' rest).whole more verdict l) h.told w),
-                ),
-              );
+          whole = λ more verdict l w. subst (λ items. (Conditions items).whole (chain_lines header (term item) h.chain ++ more) verdict l) (sym (items_at problem.conditions i item at)) (
+            record { chain = h.chain; after = left'; rest = more; split = refl; works = h.works },
+            inr (
+              (λ e. nonzero (h.ended ∙ e)),
+              subst (λ q. (conditions_part c goals (known ++ known_by (own ∷ [])) (listed ++ q ∷ []) (suc (suc i)) left' rest).whole more verdict l) h.ended
+                  (subst (λ v. (conditions_part c goals (known ++ cons_option v []) (listed ++ end ∷ []) (suc (suc i)) left' rest).whole more verdict l) h.told w),
+            ),
+          );
         };
         written = h.written;
       }
@@ -144,8 +143,7 @@ module _ (problem : Problem) where
               inl (sym h.ended ∙ zero_end, refl, refl),
             ));
         whole =
-            subst (λ items. (Conditions items).whole (lines ++ VerdictLine (Impossible (suc i)) ∷ []) (Impossible (suc i)) left') (sym (items_at problem.conditions i item at))
-            (
+            subst (λ items. (Conditions items).whole (lines ++ VerdictLine (Impossible (suc i)) ∷ []) (Impossible (suc i)) left') (sym (items_at problem.conditions i item at)) (
               record { chain = h.chain; after = left'; rest = VerdictLine (Impossible (suc i)) ∷ []; split = refl; works = h.works },
               inl (sym h.ended ∙ zero_end, refl, refl, refl),
             );
@@ -168,7 +166,7 @@ module _ (problem : Problem) where
         (λ lines place h. subst (λ items. (Goals items).begun lines place) (sym (items_at problem.goals i item at)) (inl h))
         (λ lines verdict l w. absurd w)
 
-    module _ (item : ListedItem) (left' : ℕ) (s t : State) (end : Terms) (variable : Option Var) (at : slice_get problem.goals i ≡ Some item)
+    module _ (item : ListedItem) (left' : ℕ) (s t : State) (end : Summands) (variable : Option Var) (at : slice_get problem.goals i ≡ Some item)
         (h : WorksChain c (Goal (suc i) item.text) known left (term item) left' s t end variable) where
       abbrev goal_lines : List Line
       goal_lines = chain_lines (Goal (suc i) item.text) (term item) h.chain
@@ -196,15 +194,14 @@ module _ (problem : Problem) where
                 record { chain = h.chain; after = left'; rest = more; split = refl; works = h.works },
                 inr ((λ e. nonzero (h.ended ∙ e)), subst (λ q. (end_part c (listed ++ q ∷ []) (False (suc i)) left').begun more place) h.ended b),
               ));
-          whole = λ more verdict l w. subst (λ items. (Goals items).whole (goal_lines ++ more) verdict l) (sym (items_at problem.goals i item at))
-              (
-                record { chain = h.chain; after = left'; rest = more; split = refl; works = h.works },
-                inr (
-                  (λ e. nonzero (h.ended ∙ e)),
-                  (subst (λ q. (end_part c (listed ++ q ∷ []) (False (suc i)) left').whole more verdict l) h.ended w).0,
-                  (subst (λ q. (end_part c (listed ++ q ∷ []) (False (suc i)) left').whole more verdict l) h.ended w).1,
-                ),
-              );
+          whole = λ more verdict l w. subst (λ items. (Goals items).whole (goal_lines ++ more) verdict l) (sym (items_at problem.goals i item at)) (
+            record { chain = h.chain; after = left'; rest = more; split = refl; works = h.works },
+            inr (
+              (λ e. nonzero (h.ended ∙ e)),
+              (subst (λ q. (end_part c (listed ++ q ∷ []) (False (suc i)) left').whole more verdict l) h.ended w).0,
+              (subst (λ q. (end_part c (listed ++ q ∷ []) (False (suc i)) left').whole more verdict l) h.ended w).1,
+            ),
+          );
         };
         written = h.written;
       }
@@ -262,7 +259,7 @@ module _ (problem : Problem) where
           subst (λ h. Passes (goals_from problem i known listed left) (chain_part c h known left (tree_of c.nodes id)) s s) (sym task.header_is)
           (subst (λ t. Passes (goals_from problem i known listed left) (chain_part c (Goal (suc i) task.item.text) known left (tree_of c.nodes t)) s s) (sym task.term_is) (goal_chain task.item s task.at))
 
-      module _ (left' : ℕ) (s t : State) (end : Terms) (variable : Option Var) (h : WorksChain c header known left (tree_of c.nodes id) left' s t end variable) where
+      module _ (left' : ℕ) (s t : State) (end : Summands) (variable : Option Var) (h : WorksChain c header known left (tree_of c.nodes id) left' s t end variable) where
         works_condition : (task : IsConditionTask problem.conditions i header id) → WorksChain c (Condition (suc i) task.item.text) known left (term task.item) left' s t end variable
         works_condition task =
             subst (λ x. WorksChain c (Condition (suc i) task.item.text) known left (tree_of c.nodes x) left' s t end variable) task.term_is
@@ -274,7 +271,7 @@ module _ (problem : Problem) where
             (subst (λ l. WorksChain c l known left (tree_of c.nodes id) left' s t end variable) task.header_is h)
 
         -- a condition whose chain does not end in 0
-        pub task_passes : (known' : List Var) (listed' : List Terms) → IsConditionTask problem.conditions i header id → end ≢ [] → known' ≡ known ++ cons_option variable [] → listed' ≡ listed ++ end ∷ []
+        pub task_passes : (known' : List Var) (listed' : List Summands) → IsConditionTask problem.conditions i header id → end ≢ [] → known' ≡ known ++ cons_option variable [] → listed' ≡ listed ++ end ∷ []
             → Passes (conditions_from problem i known listed left) (conditions_from problem (i + 1) known' listed' left') s t
         task_passes known' listed' task nonzero k l =
             subst (λ n. Passes (conditions_from problem i known listed left) (conditions_from problem n known' listed' left') s t) (sym (add-one i))
@@ -293,7 +290,7 @@ module _ (problem : Problem) where
             subst (λ n. Passes (goals_from problem i known listed left) (goals_from problem n known listed left') s t) (sym (add-one i)) (goal_passes task.item left' s t end variable task.at (works_goal task) zero_end)
 
         -- one whose chain does not
-        pub goal_task_fails : (listed' : List Terms) → IsGoalTask problem.goals i header id → end ≢ [] → listed' ≡ listed ++ end ∷ []
+        pub goal_task_fails : (listed' : List Summands) → IsGoalTask problem.goals i header id → end ≢ [] → listed' ≡ listed ++ end ∷ []
             → Passes (goals_from problem i known listed left) (end_part c listed' (False (i + 1)) left') s t
         goal_task_fails listed' task nonzero l =
             subst (λ n. Passes (goals_from problem i known listed left) (end_part c listed' (False n) left') s t) (sym (add-one i))
@@ -311,11 +308,11 @@ module _ (problem : Problem) where
       subst (λ (t : TermId). (t.0 < length c.nodes) × IsInside c (tree_of c.nodes t)) (sym task.term_is) (own.stored, own.inside)
 
 -- NONE ZERO
-pub nonzero_more : (listed listed' : List Terms) (end : Terms) → NoneZero listed → end ≢ [] → listed' ≡ listed ++ end ∷ [] → NoneZero listed'
+pub nonzero_more : (listed listed' : List Summands) (end : Summands) → NoneZero listed → end ≢ [] → listed' ≡ listed ++ end ∷ [] → NoneZero listed'
 nonzero_more listed listed' end h n e = subst NoneZero (sym e) (All-push (λ r. r ≢ []) listed end h n)
 
 -- THE END
-module _ (c : Construction) (listed : List Terms) (verdict : Verdict) (left : ℕ) where
+module _ (c : Construction) (listed : List Summands) (verdict : Verdict) (left : ℕ) where
   pub at_sample : (s : State) → Passes (end_part c listed verdict left) (here_part (before_sample listed left)) s s
   at_sample s = reaches (end_part c listed verdict left) [] (before_sample listed left) s s (inl (refl, refl)) (writes_nothing s)
 
@@ -331,7 +328,7 @@ module _ (c : Construction) (listed : List Terms) (verdict : Verdict) (left : �
     }
 
 -- what is told of the conditions, where nothing is known yet
-pub at_nothing : (R : Part → Type 0) (problem : Problem) (known : List Var) (listed : List Terms) (left : ℕ) → known ≡ [] → listed ≡ [] → R (conditions_from problem 0 known listed left) → R (conditions_from problem 0 [] [] left)
+pub at_nothing : (R : Part → Type 0) (problem : Problem) (known : List Var) (listed : List Summands) (left : ℕ) → known ≡ [] → listed ≡ [] → R (conditions_from problem 0 known listed left) → R (conditions_from problem 0 [] [] left)
 at_nothing R problem known listed left k l h = subst (λ ks. R (conditions_from problem 0 ks [] left)) k (subst (λ ls. R (conditions_from problem 0 known ls left)) l h)
 
 -- the number, if there is one

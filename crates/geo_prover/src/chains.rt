@@ -201,12 +201,7 @@ fn polynomial_of(line: Line) -> Option<Poly>
 }
 
 /// Writes the line of the stop, if it is one, and answers it.
-fn stopped<K: Sink>(
-    alloc: Global,
-    error: ApplyError,
-    log: &LogWriter,
-    sink: &mut K,
-) -> ProveError
+fn stopped<K: Sink>(alloc: Global, error: ApplyError, log: &LogWriter, sink: &mut K) -> ProveError
     requires { error ≢ ApplyError.NoRow }
     ensures { IsAnswered error (state log.now (K.held sink.old) (K.faults sink.old))
         (state log.now (K.held sink.new) (K.faults sink.new)) result }

@@ -88,7 +88,15 @@ fn work_condition<K: Sink>(
         (state log.new (K.held sink.new) (K.faults sink.new))) }
 {
     let task = condition_task(alloc, problem, i)?;
-    work_chain(alloc, &problem.steps, &findings.known, &task, budget, log, sink)
+    work_chain(
+        alloc,
+        &problem.steps,
+        &findings.known,
+        &task,
+        budget,
+        log,
+        sink,
+    )
 }
 
 /// The chain that is due for the condition at place i.

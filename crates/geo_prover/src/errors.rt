@@ -12,15 +12,10 @@ use std::alloc::{AllocError, AllocFailed};
 pub enum ProveError {
     /// The weight or the degree of the line of this number passes its limit. The stop line stands
     /// there.
-    TooLarge {
-        line: u64,
-        which: Which,
-    },
+    TooLarge { line: u64, which: Which },
     /// The charges up to the line of this number pass the steps that were given. The stop line
     /// stands there.
-    Spent {
-        line: u64,
-    },
+    Spent { line: u64 },
     /// The next line would take the text past 67,108,864 bytes.
     TooLong,
     /// A write failed.

@@ -86,7 +86,15 @@ fn work_goal<K: Sink>(
         (state log.new (K.held sink.new) (K.faults sink.new))) }
 {
     let task = goal_task(alloc, problem, i)?;
-    work_chain(alloc, &problem.steps, &findings.known, &task, budget, log, sink)
+    work_chain(
+        alloc,
+        &problem.steps,
+        &findings.known,
+        &task,
+        budget,
+        log,
+        sink,
+    )
 }
 
 /// The chain that is due for the goal at place i.

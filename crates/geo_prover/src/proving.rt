@@ -126,6 +126,14 @@ fn work<K: Sink>(
         return Ok(verdict);
     }
     let verdict = work_goals(alloc, problem, &mut findings, budget, log, sink)?;
-    conclude(alloc, &problem.steps, &findings.ends, verdict, budget, log, sink)?;
+    conclude(
+        alloc,
+        &problem.steps,
+        &findings.ends,
+        verdict,
+        budget,
+        log,
+        sink,
+    )?;
     Ok(verdict)
 }

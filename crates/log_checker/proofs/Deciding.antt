@@ -13,7 +13,7 @@ use Rattle.geo_poly.specs.Division.{quotient}
 use Rattle.geo_poly.specs.Factors.{IsFactor}
 use Rattle.geo_poly.specs.Monomials.{IsMonomial, Powers, product}
 use Rattle.geo_poly.specs.PolynomialVariables.{IsPlain}
-use Rattle.geo_poly.specs.Polynomials.{IsPolynomial, Terms, multiples, product_of}
+use Rattle.geo_poly.specs.Polynomials.{IsPolynomial, Summands, multiples, product_of}
 use Rattle.geo_poly.specs.Specialise.{NoneZero}
 use Rattle.geo_poly.specs.Variables.{var_cmp}
 use Rattle.geo_poly.proofs.Cuts.{Contains-from_is_in, is_in, is_in_from_Contains}
@@ -68,7 +68,7 @@ integers_decided (negsuc m) (pos n) = inr (λ (e : negsuc m ≡ pos n). omega (a
 head_same : {A : Type 0} (x y : A) (xs ys : List A) → x ∷ xs ≡ y ∷ ys → x ≡ y
 head_same x y xs ys e = cc
 
-tail_same : {A : Type 0} (x y : A) (xs ys : List A) → x ∷ xs ≡ y ∷ ys → xs ≡ ys
+pub tail_same : {A : Type 0} (x y : A) (xs ys : List A) → x ∷ xs ≡ y ∷ ys → xs ≡ ys
 tail_same x y xs ys e = cc
 
 module _ {A : Type 0} (same : (x y : A) → Decided (x ≡ y)) where
@@ -87,7 +87,7 @@ module _ {A B : Type 0} (same : (x y : A) → Decided (x ≡ y)) (other : (x y :
 pub monomials_decided : (m n : Powers) → Decided (m ≡ n)
 monomials_decided m n = lists_decided (pairs_decided variables_decided numbers_decided) m n
 
-pub polynomials_decided : (p q : Terms) → Decided (p ≡ q)
+pub polynomials_decided : (p q : Summands) → Decided (p ≡ q)
 polynomials_decided p q = lists_decided (pairs_decided monomials_decided integers_decided) p q
 
 pub texts_decided : (s t : List ℕ) → Decided (s ≡ t)
@@ -111,7 +111,7 @@ plain_decided (Ordinate a) = inl tt
 plain_decided (Number t) = inl tt
 
 -- no quantity of points is left, or one is
-pub end_decided : (q : Terms) → Decided (IsEnd q)
+pub end_decided : (q : Summands) → Decided (IsEnd q)
 end_decided q = keys_decided (λ (m : Powers). AllKeys IsPlain m) (λ m. keys_decided IsPlain plain_decided m) q
 
 contained_decided : (known : List Var) (v : Var) → Decided (Contains known v)
@@ -125,14 +125,14 @@ pub known_decided : (known : List Var) (m : Powers) → Decided (IsByKnown known
 known_decided known m = keys_decided (λ v. Contains known v) (contained_decided known) m
 
 -- none of the polynomials is 0, or one is
-pub nonzero_decided : (ps : List Terms) → Decided (NoneZero ps)
-nonzero_decided [] = inl (All-nil (λ (q : Terms). q ≢ []))
+pub nonzero_decided : (ps : List Summands) → Decided (NoneZero ps)
+nonzero_decided [] = inl (All-nil (λ (q : Summands). q ≢ []))
 nonzero_decided (p ∷ ps) = go (none_decided p) (nonzero_decided ps)
   where
     go : Decided (p ≡ []) → Decided (NoneZero ps) → Decided (NoneZero (p ∷ ps))
-    go (inl e) rest = inr (λ h. All-head (λ (q : Terms). q ≢ []) p ps h e)
-    go (inr n) (inl h) = inl (All-cons (λ (q : Terms). q ≢ []) p ps n h)
-    go (inr n) (inr none) = inr (λ h. none (All-tail (λ (q : Terms). q ≢ []) p ps h))
+    go (inl e) rest = inr (λ h. All-head (λ (q : Summands). q ≢ []) p ps h e)
+    go (inr n) (inl h) = inl (All-cons (λ (q : Summands). q ≢ []) p ps n h)
+    go (inr n) (inr none) = inr (λ h. none (All-tail (λ (q : Summands). q ≢ []) p ps h))
 
 -- DIVISION
 -- a number is a multiple, or it is none
@@ -147,30 +147,30 @@ multiple_decided d c n = go (integers_decided (int_rem c d) (pos 0))
     go (inr some) = inr (λ h. some (no_remainder c d h.0 n h.1))
 
 -- a list whose multiples are p
-record Quotient (f : Powers × ℤ) (p : Terms) : Type 0 where
-  terms : Terms
+record Quotient (f : Powers × ℤ) (p : Summands) : Type 0 where
+  terms : Summands
   whole : multiples f terms ≡ p
   monomials : AllKeys IsMonomial terms
 
-quotient_decided : (f : Powers × ℤ) (p : Terms) → (unsigned_abs f.1 ≡ 0 → ⊥) → AllKeys IsMonomial p → Quotient f p ⊎ ((q : Terms) → multiples f q ≡ p → ⊥)
+quotient_decided : (f : Powers × ℤ) (p : Summands) → (unsigned_abs f.1 ≡ 0 → ⊥) → AllKeys IsMonomial p → Quotient f p ⊎ ((q : Summands) → multiples f q ≡ p → ⊥)
 quotient_decided f [] n g = inl (record { terms = []; whole = refl; monomials = tt })
 quotient_decided f (t ∷ ts) n g =
     go (multiple_decided f.1 t.1 n) (monomials_decided (product f.0 (quotient t.0 f.0)) t.0) (quotient_decided f ts n g.1)
   where
     -- a list whose multiples these are has a first term and a rest
-    parts : (q : Terms) → multiples f q ≡ t ∷ ts → (u : Powers × ℤ) × (us : Terms) × (product f.0 u.0 ≡ t.0) × (f.1 *ℤ u.1 ≡ t.1) × (multiples f us ≡ ts)
-    parts [] e = absurd (let q : ◌≡◌ {A = Terms} [] (t ∷ ts) = e in cc)
+    parts : (q : Summands) → multiples f q ≡ t ∷ ts → (u : Powers × ℤ) × (us : Summands) × (product f.0 u.0 ≡ t.0) × (f.1 *ℤ u.1 ≡ t.1) × (multiples f us ≡ ts)
+    parts [] e = absurd (let q : ◌≡◌ {A = Summands} [] (t ∷ ts) = e in cc)
     parts (u ∷ us) e =
-        let both : ◌≡◌ {A = Terms} ((product f.0 u.0, f.1 *ℤ u.1) ∷ multiples f us) (t ∷ ts) = e in
+        let both : ◌≡◌ {A = Summands} ((product f.0 u.0, f.1 *ℤ u.1) ∷ multiples f us) (t ∷ ts) = e in
         let first : ◌≡◌ {A = Powers × ℤ} (product f.0 u.0, f.1 *ℤ u.1) t = head_same (product f.0 u.0, f.1 *ℤ u.1) t (multiples f us) ts both in
         (u, us, (λ i. (first i).0), (λ i. (first i).1), tail_same (product f.0 u.0, f.1 *ℤ u.1) t (multiples f us) ts both)
 
-    go : Decided ((z : ℤ) × (f.1 *ℤ z ≡ t.1)) → Decided (product f.0 (quotient t.0 f.0) ≡ t.0) → Quotient f ts ⊎ ((q : Terms) → multiples f q ≡ ts → ⊥)
-        → Quotient f (t ∷ ts) ⊎ ((q : Terms) → multiples f q ≡ t ∷ ts → ⊥)
+    go : Decided ((z : ℤ) × (f.1 *ℤ z ≡ t.1)) → Decided (product f.0 (quotient t.0 f.0) ≡ t.0) → Quotient f ts ⊎ ((q : Summands) → multiples f q ≡ ts → ⊥)
+        → Quotient f (t ∷ ts) ⊎ ((q : Summands) → multiples f q ≡ t ∷ ts → ⊥)
     go (inl z) (inl m) (inl rest) =
         inl (record {
           terms = (quotient t.0 f.0, z.0) ∷ rest.terms;
-          whole = ap₂ (λ (u : Powers × ℤ) (us : Terms). u ∷ us) (λ i. (m i, z.1 i)) rest.whole;
+          whole = ap₂ (λ (u : Powers × ℤ) (us : Summands). u ∷ us) (λ i. (m i, z.1 i)) rest.whole;
           monomials = (IsMonomial-quotient t.0 f.0 g.0, rest.monomials);
         })
     go (inr none) m rest = inr (λ q e. let h = parts q e in none (h.0.1, h.3))
@@ -178,12 +178,12 @@ quotient_decided f (t ∷ ts) n g =
     go (inl z) (inl m) (inr none) = inr (λ q e. let h = parts q e in none h.1 h.4)
 
 -- the factor divides the polynomial, or it does not
-pub division_decided : (f : Powers × ℤ) (q : Terms) → IsFactor f → IsPolynomial q
-    → ((s : Terms) × IsPolynomial s × (product_of (f ∷ []) s ≡ q)) ⊎ ((s : Terms) → IsPolynomial s → product_of (f ∷ []) s ≢ q)
+pub division_decided : (f : Powers × ℤ) (q : Summands) → IsFactor f → IsPolynomial q
+    → ((s : Summands) × IsPolynomial s × (product_of (f ∷ []) s ≡ q)) ⊎ ((s : Summands) → IsPolynomial s → product_of (f ∷ []) s ≢ q)
 division_decided f q h g = go (quotient_decided f q h.nonzero g.monomials)
   where
-    go : Quotient f q ⊎ ((s : Terms) → multiples f s ≡ q → ⊥)
-        → ((s : Terms) × IsPolynomial s × (product_of (f ∷ []) s ≡ q)) ⊎ ((s : Terms) → IsPolynomial s → product_of (f ∷ []) s ≢ q)
+    go : Quotient f q ⊎ ((s : Summands) → multiples f s ≡ q → ⊥)
+        → ((s : Summands) × IsPolynomial s × (product_of (f ∷ []) s ≡ q)) ⊎ ((s : Summands) → IsPolynomial s → product_of (f ∷ []) s ≢ q)
     go (inl r) =
         let valid = IsPolynomial-reflected f r.terms q h.nonzero r.monomials r.whole g in
         inl (r.terms, valid, sym (multiples-product f r.terms h.nonzero valid.monomials valid.in_order) ∙ r.whole)

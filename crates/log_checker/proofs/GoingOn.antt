@@ -5,7 +5,7 @@ use Rattle.std.specs.List.{AllByRecursion, flat_map}
 use Rattle.std.proofs.lemmas.List.{append_assoc, length-append}
 use Rattle.std.proofs.lemmas.Grind.{flat_map-append}
 use Rattle.geo_poly.specs.declared.variables.Var.{Var}
-use Rattle.geo_poly.specs.Polynomials.{Terms}
+use Rattle.geo_poly.specs.Polynomials.{Summands}
 use Rattle.geo_terms.specs.Constructions.{Construction}
 use Rattle.geo_terms.specs.Trees.{Tree}
 use Rattle.proof_log.specs.declared.log.Line.{Line}
@@ -38,21 +38,21 @@ due : (line other : Line) → comes line ≡ comes other → line ≡ other
 due line other e = cc
 
 module _ (table : Table) (c : Construction) where
-  abbrev Leads : List Var → ℕ → Terms → List ChainStep → ℕ → Terms → Type 0
+  abbrev Leads : List Var → ℕ → Summands → List ChainStep → ℕ → Summands → Type 0
   Leads = LeadsBySteps table c
 
   abbrev Works : List Var → ℕ → Tree → Chain → ℕ → Type 0
   Works = IsDefinedChain table c
 
-  abbrev Chosen : List Terms → ℕ → List (Var × ℤ) → ℕ → Type 0
+  abbrev Chosen : List Summands → ℕ → List (Var × ℤ) → ℕ → Type 0
   Chosen = IsLeastSample c
 
   -- the prover ends a chain where no cut is due and no quantity of points is left
-  abbrev Ends : List Var → Terms → Type 0
+  abbrev Ends : List Var → Summands → Type 0
   Ends known q = NoCutDue known q × IsEnd q
 
   -- one step more
-  one_more : (known : List Var) (left : ℕ) (q : Terms) (steps : List ChainStep) (after : ℕ) (last : Terms) (step : ChainStep) (left' : ℕ) (r : Terms)
+  one_more : (known : List Var) (left : ℕ) (q : Summands) (steps : List ChainStep) (after : ℕ) (last : Summands) (step : ChainStep) (left' : ℕ) (r : Summands)
       → Leads known left q steps after last → Leads known after last (step ∷ []) left' r → Leads known left q (steps ++ step ∷ []) left' r
   one_more known left q [] after last step left' r h g =
       subst (λ k. Leads known k q (step ∷ []) left' r) (sym h.0) (subst (λ t. Leads known after t (step ∷ []) left' r) (sym h.1) g)
@@ -60,7 +60,7 @@ module _ (table : Table) (c : Construction) where
       (h.0, h.1, h.2, one_more known (left - move_charge (replacement table c m q) q) s steps after last step left' r h.3 g)
   one_more known left q (cuts f s ∷ steps) after last step left' r h g = (h.0, h.1, one_more known left s steps after last step left' r h.2 g)
 
-  finished : (known : List Var) (left : ℕ) (e : Tree) (steps : List ChainStep) (after : ℕ) (last : Terms) → IsStarted left e → Leads known (left - start_charge e) (start_of e) steps after last
+  finished : (known : List Var) (left : ℕ) (e : Tree) (steps : List ChainStep) (after : ℕ) (last : Summands) → IsStarted left e → Leads known (left - start_charge e) (start_of e) steps after last
       → Ends known last → Works known left e (record { steps = steps; end = last }) after
   finished known left e steps after last s h end = record { started = s; leads = h; no_cut = end.0; ended = end.1 }
 

@@ -17,9 +17,11 @@ use Rattle.geo_logs.specs.Logs.{Subject}
 use Rattle.geo_logs.specs.Places.{Place}
 use Rattle.geo_logs.specs.Samples.{IsAcceptedSample}
 use Rattle.log_checker.specs.Accepted.{Accepts, IsShortProgram}
-use Rattle.log_checker.specs.Judged.{AreRead, BeginsWithProgram, BytesAreJudged, GoesOnWith, IsFirstStop, IsJudged, IsOfProgramOrNone, IsProgramOver, IsReadable, Refuses, RestsAreJudged}
+use Rattle.log_checker.specs.Judged.{AcceptedWhereNotRefused, AreRead, BeginsWithProgram, BytesAreJudged, GoesOnWith, IsFirstStop, IsJudged, IsOfProgramOrNone, IsProgramOver, IsReadable, Refuses, RestsAreJudged}
 use Rattle.log_checker.specs.Subjects.{IsSubjectOf, source_lines}
 use Rattle.log_checker.proofs.AcceptedBytes.{programs_have_subjects, text_of_lines}
+use Rattle.log_checker.proofs.Judged.{accepted_bytes_are_not_refused}
+use Rattle.log_checker.proofs.ReadLines.{bytes_are_read}
 use Rattle.log_checker.proofs.Onwards.{conditions_start}
 use Rattle.log_checker.proofs.Stepping.{Ends, closed, lines_go_on_or_are_refused}
 
@@ -204,8 +206,9 @@ rest_readable : (texts : List (List ℕ)) (rest : List (Option Line)) → AllByR
 rest_readable [] rest h = h
 rest_readable (t ∷ ts) rest h = rest_readable ts rest h.1
 
-pub bytes_are_judged : BytesAreJudged
-bytes_are_judged bytes steps reads are small decided = go reads are decided
+judged_reads : (bytes : List ℕ) (steps : ℕ) (reads : List (Option Line)) → AreRead bytes reads → length bytes ≤ 268435456
+    → ((first : BeginsWithProgram reads) → IsOfProgramOrNone first.texts) → Outcome bytes steps
+judged_reads bytes steps reads are small decided = go reads are decided
   where
     go : (rs : List (Option Line)) → AreRead bytes rs → ((first : BeginsWithProgram rs) → IsOfProgramOrNone first.texts) → Outcome bytes steps
     go [] h d = stop bytes steps [] 1 (rejected unfinished) h (inl (refl, refl))
@@ -217,3 +220,16 @@ bytes_are_judged bytes steps reads are small decided = go reads are decided
         let all = (readable bytes (Some Header ∷ rs) h).1 in
         behind_program bytes steps (Some Header ∷ rs) h first small parts.rest refl (d first) (rest_readable parts.texts parts.rest (subst (AllByRecursion IsReadable) parts.split all))
     go (Some line ∷ rs) h d = stop bytes steps (Some line ∷ rs) 1 (rejected wrong_line) h (inl (refl, refl))
+
+pub bytes_are_judged : BytesAreJudged
+bytes_are_judged bytes steps small known = let read = bytes_are_read bytes in judged_reads bytes steps read.0 read.1 small (known read.0 read.1)
+
+pub accepted_where_not_refused : AcceptedWhereNotRefused
+accepted_where_not_refused bytes steps small known = (only, (λ none. where_not (bytes_are_judged bytes steps small known) none))
+  where
+    only : (p : Source) × (verdict : Verdict) × Accepts bytes steps p verdict → (number : ℕ) (refusal : Refusal) → Refuses bytes steps number refusal → ⊥
+    only (p, verdict, a) number refusal r = accepted_bytes_are_not_refused bytes steps number p verdict refusal a r
+
+    where_not : Outcome bytes steps → ((number : ℕ) (refusal : Refusal) → Refuses bytes steps number refusal → ⊥) → (p : Source) × (verdict : Verdict) × Accepts bytes steps p verdict
+    where_not (inl a) none = a
+    where_not (inr r) none = absurd (none r.0 r.1 r.2)

@@ -27,6 +27,9 @@ pub mod Deciding
 pub mod Stepping
 pub mod LineFeeds
 pub mod WritableLines
+pub mod ReadParts
+pub mod ReadTerms
+pub mod ReadLines
 pub mod JudgedWhole
 pub mod DefinedBytes
 pub mod AcceptedBytes

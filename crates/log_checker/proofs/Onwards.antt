@@ -2,7 +2,7 @@
 use Rattle.std.proofs.Common.{◌≡◌, ◌≢◌, ℕ, suc, ◌-◌, ◌⊎◌, inl, inr, ⊎_elim, ℤ, List, [], ◌∷◌, ◌++◌, map, append-nil, refl, sym, ◌∙◌, ap, subst}
 use Rattle.std.proofs.lemmas.List.{append_assoc}
 use Rattle.geo_poly.specs.declared.variables.Var.{Var}
-use Rattle.geo_poly.specs.Polynomials.{Terms}
+use Rattle.geo_poly.specs.Polynomials.{Summands}
 use Rattle.geo_terms.specs.Trees.{Tree}
 use Rattle.proof_log.specs.declared.log.Line.{Line}
 use Rattle.proof_log.specs.declared.log.Line.TheVariants.{Condition, End, Goal, Sample, Start, Verdict as VerdictLine}
@@ -15,14 +15,14 @@ use Rattle.geo_logs.specs.Places.{AreConditionsBegun, AreGoalsBegun, IsBegunChai
 
 -- which polynomials may end a chain, with these variables known
 abbrev pub Endings : Type 1
-Endings = List Var → Terms → Type 0
+Endings = List Var → Summands → Type 0
 
 -- paths that go on step by step, and are whole where they end
 pub record AreClosed (Leads : Paths) (Works : Chains) (Ends : Endings) : Type 0 where
-  pub none : (known : List Var) (left : ℕ) (q : Terms) → Leads known left q [] left q
-  pub more : (known : List Var) (left : ℕ) (q : Terms) (steps : List ChainStep) (after : ℕ) (last : Terms) (step : ChainStep) (left' : ℕ) (r : Terms) → Leads known left q steps after last
+  pub none : (known : List Var) (left : ℕ) (q : Summands) → Leads known left q [] left q
+  pub more : (known : List Var) (left : ℕ) (q : Summands) (steps : List ChainStep) (after : ℕ) (last : Summands) (step : ChainStep) (left' : ℕ) (r : Summands) → Leads known left q steps after last
       → Leads known after last (step ∷ []) left' r → Leads known left q (steps ++ step ∷ []) left' r
-  pub whole : (known : List Var) (left : ℕ) (e : Tree) (steps : List ChainStep) (after : ℕ) (last : Terms) → IsStarted left e
+  pub whole : (known : List Var) (left : ℕ) (e : Tree) (steps : List ChainStep) (after : ℕ) (last : Summands) → IsStarted left e
       → Leads known (left - start_charge e) (start_of e) steps after last → Ends known last → Works known left e (record { steps = steps; end = last }) after
 
 module _ (Leads : Paths) (Works : Chains) (Chosen : Samples) (Ends : Endings) where
@@ -31,7 +31,7 @@ module _ (Leads : Paths) (Works : Chains) (Chosen : Samples) (Ends : Endings) wh
   Comes (before_line line') line = line ≡ line'
   Comes (before_start left e) line = (line ≡ Start (start_of e)) × IsStarted left e
   Comes (in_chain known left q) line =
-      ((step : ChainStep) × (left' : ℕ) × (r : Terms) × Leads known left q (step ∷ []) left' r × (line ≡ line_of step)) ⊎ ((line ≡ End) × Ends known q)
+      ((step : ChainStep) × (left' : ℕ) × (r : Summands) × Leads known left q (step ∷ []) left' r × (line ≡ line_of step)) ⊎ ((line ≡ End) × Ends known q)
   Comes (before_sample listed left) line = (values : List (Var × ℤ)) × (left' : ℕ) × Chosen listed left values left' × (line ≡ Sample values)
 
 map-last : (steps : List ChainStep) (step : ChainStep) → map line_of (steps ++ step ∷ []) ≡ map line_of steps ++ line_of step ∷ []
@@ -100,13 +100,13 @@ module _ (Leads : Paths) (Works : Chains) (Chosen : Samples) (Ends : Endings) (c
           })
 
   -- THE END
-  abbrev BegunEnd : List Terms → Verdict → ℕ → List Line → Place → Type 0
+  abbrev BegunEnd : List Summands → Verdict → ℕ → List Line → Place → Type 0
   BegunEnd listed verdict left xs place = IsBegunEnd Leads Works Chosen listed verdict left xs place
 
-  abbrev Concluded : List Terms → ℕ → List Line → Verdict → ℕ → Type 0
+  abbrev Concluded : List Summands → ℕ → List Line → Verdict → ℕ → Type 0
   Concluded listed left xs verdict l = IsConcluded Works Chosen listed left xs verdict l
 
-  end_on : (listed : List Terms) (verdict : Verdict) (left : ℕ) (xs : List Line) (place : Place) (line : Line) → BegunEnd listed verdict left xs place → ComesHere place line
+  end_on : (listed : List Summands) (verdict : Verdict) (left : ℕ) (xs : List Line) (place : Place) (line : Line) → BegunEnd listed verdict left xs place → ComesHere place line
       → ((place' : Place) × BegunEnd listed verdict left (xs ++ line ∷ []) place') ⊎ ((l : ℕ) × Concluded listed left (xs ++ line ∷ []) verdict l)
   end_on listed verdict left xs place line (inl h) n =
       let s = comes_at place (before_sample listed left) line h.1 n in
@@ -125,22 +125,22 @@ module _ (Leads : Paths) (Works : Chains) (Chosen : Samples) (Ends : Endings) (c
   longer head known left item xs line h =
       record { chain = h.chain; after = h.after; rest = h.rest ++ line ∷ []; split = ap (λ ys. ys ++ line ∷ []) h.split ∙ append_assoc (chain_lines head item.term h.chain) h.rest (line ∷ []); works = h.works }
 
-  is_zero : (q : Terms) → (q ≡ []) ⊎ (q ≢ [])
+  is_zero : (q : Summands) → (q ≡ []) ⊎ (q ≢ [])
   is_zero [] = inl refl
-  is_zero (t ∷ ts) = inr (λ e. let q : ◌≡◌ {A = Terms} (t ∷ ts) [] = e in cc)
+  is_zero (t ∷ ts) = inr (λ e. let q : ◌≡◌ {A = Summands} (t ∷ ts) [] = e in cc)
 
   -- GOALS
-  abbrev BegunGoals : List Var → List Terms → ℕ → ℕ → List Item → List Line → Place → Type 0
+  abbrev BegunGoals : List Var → List Summands → ℕ → ℕ → List Item → List Line → Place → Type 0
   BegunGoals known listed k left items xs place = AreGoalsBegun Leads Works Chosen known listed k left items xs place
 
-  abbrev WorkedGoals : List Var → List Terms → ℕ → ℕ → List Item → List Line → Verdict → ℕ → Type 0
+  abbrev WorkedGoals : List Var → List Summands → ℕ → ℕ → List Item → List Line → Verdict → ℕ → Type 0
   WorkedGoals known listed k left items xs verdict l = AreGoalsWorked Works Chosen known listed k left items xs verdict l
 
-  goals_start : (known : List Var) (listed : List Terms) (k left : ℕ) (items : List Item) → (place : Place) × BegunGoals known listed k left items [] place
+  goals_start : (known : List Var) (listed : List Summands) (k left : ℕ) (items : List Item) → (place : Place) × BegunGoals known listed k left items [] place
   goals_start known listed k left [] = (before_sample listed left, inl (refl, refl))
   goals_start known listed k left (item ∷ items) = (before_line (Goal k item.text), inl (inl (refl, refl)))
 
-  goals_on : (known : List Var) (listed : List Terms) (k left : ℕ) (items : List Item) (xs : List Line) (place : Place) (line : Line) → BegunGoals known listed k left items xs place
+  goals_on : (known : List Var) (listed : List Summands) (k left : ℕ) (items : List Item) (xs : List Line) (place : Place) (line : Line) → BegunGoals known listed k left items xs place
       → ComesHere place line
       → ((place' : Place) × BegunGoals known listed k left items (xs ++ line ∷ []) place') ⊎ ((verdict : Verdict) × (l : ℕ) × WorkedGoals known listed k left items (xs ++ line ∷ []) verdict l)
   goals_on known listed k left [] xs place line h n =
@@ -167,17 +167,17 @@ module _ (Leads : Paths) (Works : Chains) (Chosen : Samples) (Ends : Endings) (c
 
   -- CONDITIONS
   module _ (goals : List Item) where
-    abbrev BegunAll : List Var → List Terms → ℕ → ℕ → List Item → List Line → Place → Type 0
+    abbrev BegunAll : List Var → List Summands → ℕ → ℕ → List Item → List Line → Place → Type 0
     BegunAll known listed k left items xs place = AreConditionsBegun Leads Works Chosen goals known listed k left items xs place
 
-    abbrev WorkedAll : List Var → List Terms → ℕ → ℕ → List Item → List Line → Verdict → ℕ → Type 0
+    abbrev WorkedAll : List Var → List Summands → ℕ → ℕ → List Item → List Line → Verdict → ℕ → Type 0
     WorkedAll known listed k left items xs verdict l = AreConditionsWorked Works Chosen goals known listed k left items xs verdict l
 
-    pub conditions_start : (known : List Var) (listed : List Terms) (k left : ℕ) (items : List Item) → (place : Place) × BegunAll known listed k left items [] place
+    pub conditions_start : (known : List Var) (listed : List Summands) (k left : ℕ) (items : List Item) → (place : Place) × BegunAll known listed k left items [] place
     conditions_start known listed k left [] = goals_start known listed 1 left goals
     conditions_start known listed k left (item ∷ items) = (before_line (Condition k item.text), inl (inl (refl, refl)))
 
-    pub conditions_on : (known : List Var) (listed : List Terms) (k left : ℕ) (items : List Item) (xs : List Line) (place : Place) (line : Line) → BegunAll known listed k left items xs place
+    pub conditions_on : (known : List Var) (listed : List Summands) (k left : ℕ) (items : List Item) (xs : List Line) (place : Place) (line : Line) → BegunAll known listed k left items xs place
         → ComesHere place line
         → ((place' : Place) × BegunAll known listed k left items (xs ++ line ∷ []) place') ⊎ ((verdict : Verdict) × (l : ℕ) × WorkedAll known listed k left items (xs ++ line ∷ []) verdict l)
     conditions_on known listed k left [] xs place line h n = goals_on known listed 1 left goals xs place line h n

@@ -4,7 +4,7 @@ use Rattle.geo_poly.specs.declared.variables.Var.{Var}
 use Rattle.geo_poly.specs.Cuts.{IsCut}
 use Rattle.geo_poly.specs.Monomials.{Powers}
 use Rattle.geo_poly.specs.PolynomialVariables.{AllVariables}
-use Rattle.geo_poly.specs.Polynomials.{IsPolynomial, Terms}
+use Rattle.geo_poly.specs.Polynomials.{IsPolynomial, Summands}
 use Rattle.geo_poly.specs.Replace.{replaced_by}
 use Rattle.geo_program.specs.WellFormed.{IsWellFormed, Source}
 use Rattle.geo_sample.proofs.LeastSamples.{collected_polynomials}
@@ -36,11 +36,11 @@ AnyText text = Unit {0}
 
 module _ (c : Construction) where
   -- IN A CHAIN
-  polynomial_next : (known : List Var) (left : ℕ) (q : Terms) → IsPolynomial q → AllVariables (IsNamed c (length c.steps)) q
+  polynomial_next : (known : List Var) (left : ℕ) (q : Summands) → IsPolynomial q → AllVariables (IsNamed c (length c.steps)) q
       → (next : Next) × IsAfterPolynomial lemma_table c known left q next
   polynomial_next known left q valid named = ⊎_elim uncut cut (cut_or_none known q valid)
     where
-      cut : (f : Powers × ℤ) × (r : Terms) × IsCutDue known q f × IsCut known f q r → (next : Next) × IsAfterPolynomial lemma_table c known left q next
+      cut : (f : Powers × ℤ) × (r : Summands) × IsCutDue known q f × IsCut known f q r → (next : Next) × IsAfterPolynomial lemma_table c known left q next
       cut (f, r, due, is) = (comes (line_of (cuts f r)), inl (cuts f r, left, r, (due, is, (refl, refl)), refl))
 
       uncut : NoCutDue known q → (next : Next) × IsAfterPolynomial lemma_table c known left q next

@@ -5,7 +5,7 @@ use Rattle.std.proofs.lemmas.List.{length-append}
 use Rattle.std.proofs.lemmas.List.Elements.{All-nil}
 use Rattle.geo_poly.specs.declared.variables.Var.{Var}
 use Rattle.geo_poly.specs.PolynomialVariables.{AllVariables}
-use Rattle.geo_poly.specs.Polynomials.{IsPolynomial, Terms}
+use Rattle.geo_poly.specs.Polynomials.{IsPolynomial, Summands}
 use Rattle.geo_poly.specs.Specialise.{NoneZero}
 use Rattle.geo_program.specs.WellFormed.{IsWellFormed, Source}
 use Rattle.geo_terms.specs.Constructions.{Construction, IsConstruction}
@@ -33,11 +33,11 @@ use Rattle.log_checker.proofs.Writing.{IsOwn, path_own, start_own, written}
 
 -- paths and chains that may stand in accepted logs
 pub record AreAccepted (c : Construction) (Leads : Paths) (Works : Chains) : Type 0 where
-  pub path : (known : List Var) (left : ℕ) (q : Terms) (steps : List ChainStep) (left' : ℕ) (e : Terms) → Leads known left q steps left' e → LeadsTo lemma_table c known left q steps left' e
+  pub path : (known : List Var) (left : ℕ) (q : Summands) (steps : List ChainStep) (left' : ℕ) (e : Summands) → Leads known left q steps left' e → LeadsTo lemma_table c known left q steps left' e
   pub chain : (known : List Var) (left : ℕ) (e : Tree) (chain : Chain) (left' : ℕ) → Works known left e chain left' → IsAcceptedChain lemma_table c known left e chain left'
 
 -- the variable of which a polynomial is a multiple stands in it
-only_has : (P : Var → Type 0) (q : Terms) → AllVariables P q → AllByRecursion P (cons_option (only_variable q) [])
+only_has : (P : Var → Type 0) (q : Summands) → AllVariables P q → AllByRecursion P (cons_option (only_variable q) [])
 only_has P [] h = tt
 only_has P (([], z) ∷ []) h = tt
 only_has P ((p ∷ [], z) ∷ []) h = go (p.1 == 1)
@@ -67,7 +67,7 @@ module _ (c : Construction) (construction : IsConstruction c) (Fits : List ℕ �
   IsDue n (VerdictLine (Impossible k)) = k ≤ n
   IsDue n _ = ⊥
 
-  abbrev pub AreListed : List Terms → Type 0
+  abbrev pub AreListed : List Summands → Type 0
   AreListed listed = All IsPolynomial listed × NoneZero listed
 
   -- what is known of a place, by the number of the line that is due there behind the program
@@ -124,7 +124,7 @@ module _ (c : Construction) (construction : IsConstruction c) (Fits : List ℕ �
     fewer : (known : List Var) (left : ℕ) (e : Tree) (chain : Chain) (after : ℕ) → Works known left e chain after → left ≤ limit → after ≤ limit
     fewer known left e chain after w l = let s = chain_spent lemma_table c known left e chain after (accepted.chain known left e chain after w) in omega (arith, s, l)
 
-    listed_more : (listed : List Terms) (q : Terms) → AreListed listed → IsPolynomial q → q ≢ [] → AreListed (listed ++ q ∷ [])
+    listed_more : (listed : List Summands) (q : Summands) → AreListed listed → IsPolynomial q → q ≢ [] → AreListed (listed ++ q ∷ [])
     listed_more listed q h p n = (All-push IsPolynomial listed q h.0 p, All-push (λ r. r ≢ []) listed q h.1 n)
 
     known_more : (known : List Var) (left : ℕ) (item : Item) (chain : Chain) (after : ℕ) → IsItem item → AllByRecursion IsVariable known → Works known left item.term chain after
@@ -135,14 +135,14 @@ module _ (c : Construction) (construction : IsConstruction c) (Fits : List ℕ �
         each_append IsVariable known (known_by (item ∷ [])) v (only_has IsVariable (start_of item.term) own.variables)
 
     -- THE END
-    end_good : (listed : List Terms) (verdict : Verdict) (left before : ℕ) (xs : List Line) (place : Place) → AreListed listed → left ≤ limit → IsDue (suc before) (VerdictLine verdict)
+    end_good : (listed : List Summands) (verdict : Verdict) (left before : ℕ) (xs : List Line) (place : Place) → AreListed listed → left ≤ limit → IsDue (suc before) (VerdictLine verdict)
         → IsBegunEnd Leads Works Chosen listed verdict left xs place → IsGood (suc (before + length xs)) place
     end_good listed verdict left before xs place l s due (inl h) = good_at (suc (before + length xs)) place (before_sample listed left) h.1 (l, s)
     end_good listed verdict left before xs place l s due (inr h) =
         good_at (suc (before + length xs)) place (before_line (VerdictLine verdict)) h.4 (due_up (suc before) (suc (before + length xs)) (omega arith) (VerdictLine verdict) due)
 
     -- GOALS AND CONDITIONS
-    goals_good : (known : List Var) (listed : List Terms) (k left before : ℕ) (items : List Item) (xs : List Line) (place : Place) → AllByRecursion IsItem items → AllByRecursion IsVariable known
+    goals_good : (known : List Var) (listed : List Summands) (k left before : ℕ) (items : List Item) (xs : List Line) (place : Place) → AllByRecursion IsItem items → AllByRecursion IsVariable known
         → AreListed listed → left ≤ limit → 1 ≤ k → k ≤ suc before → AreGoalsBegun Leads Works Chosen known listed k left items xs place → IsGood (suc (before + length xs)) place
     goals_good known listed k left before [] xs place i v l s one up h = end_good listed Proved left before xs place l s tt h
     goals_good known listed k left before (item ∷ items) xs place i v l s one up (inl h) =
@@ -160,7 +160,7 @@ module _ (c : Construction) (construction : IsConstruction c) (Fits : List ℕ �
         (listed_more listed first.chain.end l (ended_own known left item.term first.chain first.after i.0.below first.works).polynomial h.0)
         (fewer known left item.term first.chain first.after first.works s) (omega (arith, up)) h.1)
 
-    pub conditions_good : (goals : List Item) (known : List Var) (listed : List Terms) (k left before : ℕ) (items : List Item) (xs : List Line) (place : Place) → AllByRecursion IsItem goals
+    pub conditions_good : (goals : List Item) (known : List Var) (listed : List Summands) (k left before : ℕ) (items : List Item) (xs : List Line) (place : Place) → AllByRecursion IsItem goals
         → AllByRecursion IsItem items → AllByRecursion IsVariable known → AreListed listed → left ≤ limit → 1 ≤ k → k ≤ suc before
         → AreConditionsBegun Leads Works Chosen goals known listed k left items xs place → IsGood (suc (before + length xs)) place
     conditions_good goals known listed k left before [] xs place g i v l s one up h = goals_good known listed 1 left before goals xs place g v l s (omega arith) (omega arith) h

@@ -6,7 +6,7 @@ use Rattle.geo_points.specs.declared.ids.PointId.{PointId}
 use Rattle.geo_poly.specs.declared.variables.Var.{Var}
 use Rattle.geo_poly.specs.Cuts.{IsCut}
 use Rattle.geo_poly.specs.Monomials.{Powers}
-use Rattle.geo_poly.specs.Polynomials.{IsPolynomial, Terms, product_of}
+use Rattle.geo_poly.specs.Polynomials.{IsPolynomial, Summands, product_of}
 use Rattle.geo_poly.specs.Replace.{replaced_by}
 use Rattle.geo_poly.specs.Specialise.{NoneZero}
 use Rattle.geo_sample.specs.Samples.{specialised_by}
@@ -142,7 +142,7 @@ module _ (c : Construction) where
   values_fit [] h = All-nil (λ (v : Var × ℤ). unsigned_abs v.1 < 2 ^ 127)
   values_fit (v ∷ vs) h = All-cons (λ (v : Var × ℤ). unsigned_abs v.1 < 2 ^ 127) v vs h.0.fits (values_fit vs h.1)
 
-  at_sample : (listed : List Terms) (left : ℕ) (line : Line) → IsWritable line → FitsOrIsRefused (before_sample listed left) line
+  at_sample : (listed : List Summands) (left : ℕ) (line : Line) → IsWritable line → FitsOrIsRefused (before_sample listed left) line
   at_sample listed left (Sample values) w =
       go (lists_decided variables_decided (map (λ (v : Var × ℤ). v.0) values) (sample_variables c)) (tries_end (single_tries values listed) left) (nonzero_decided (specialised_by values listed))
     where
@@ -155,9 +155,9 @@ module _ (c : Construction) where
   at_sample listed left line w = of_other_kind (before_sample listed left) line refl
 
   -- INSIDE A CHAIN
-  module _ (known : List Var) (left : ℕ) (q : Terms) where
+  module _ (known : List Var) (left : ℕ) (q : Summands) where
     -- a move: its line fits, or it is refused
-    abbrev MoveFitsOrIsRefused : Move → Terms → Type 0
+    abbrev MoveFitsOrIsRefused : Move → Summands → Type 0
     MoveFitsOrIsRefused move r =
         (LeadsTo lemma_table c known left q (moves move r ∷ []) (left - move_charge (replacement lemma_table c move q) q) r)
         ⊎ ((refusal : Refusal) × IsMoveRefused lemma_table c left q move r refusal)
@@ -165,7 +165,7 @@ module _ (c : Construction) where
     abbrev made_by : Move → Replacement
     made_by move = replacement lemma_table c move q
 
-    of_move : (move : Move) (r : Terms) → MoveFitsOrIsRefused move r
+    of_move : (move : Move) (r : Summands) → MoveFitsOrIsRefused move r
     of_move move r = rowless (none_decided (made_by move).rows)
       where
         moved : (made_by move).rows ≢ [] → IsMoved (made_by move) left q (replaced_by (made_by move).rows (made_by move).den.poly q) → Decided (r ≡ replaced_by (made_by move).rows (made_by move).den.poly q) → MoveFitsOrIsRefused move r
@@ -184,35 +184,35 @@ module _ (c : Construction) where
     abbrev here : Place
     here = in_chain known left q
 
-    of_ratio : (v : Var) (lemma : ℕ) (at : PointId) (r : Terms) → MoveFitsOrIsRefused (Ratio v lemma at) r → FitsOrIsRefused here (line_of (moves (Ratio v lemma at) r))
+    of_ratio : (v : Var) (lemma : ℕ) (at : PointId) (r : Summands) → MoveFitsOrIsRefused (Ratio v lemma at) r → FitsOrIsRefused here (line_of (moves (Ratio v lemma at) r))
     of_ratio v lemma at r (inl h) = inl (inl (moves (Ratio v lemma at) r, left - move_charge (replacement lemma_table c (Ratio v lemma at) q) q, r, h, refl))
     of_ratio v lemma at r (inr h) = of_this_kind here (line_of (moves (Ratio v lemma at) r)) h.0 refl (Ratio v lemma at, r, refl, h.1)
 
     -- the point of a ratio's line stands there exactly where the lemma looks at one
-    ratio_line : (v : Var) (lemma : ℕ) (at : Option PointId) (r : Terms) → CanWriteLemma lemma at → FitsOrIsRefused here (RatioLine v lemma at r)
+    ratio_line : (v : Var) (lemma : ℕ) (at : Option PointId) (r : Summands) → CanWriteLemma lemma at → FitsOrIsRefused here (RatioLine v lemma at r)
     ratio_line v zero None r w = of_ratio v 0 (record { 0 = 0 }) r (of_move (Ratio v 0 (record { 0 = 0 })) r)
     ratio_line v zero (Some y) r w = absurd (let e : true ≡ false = w.no_point.1 refl in cc)
     ratio_line v (suc k) None r w = absurd (let n : suc k ≡ 0 = w.no_point.0 refl in omega (arith, n))
     ratio_line v (suc k) (Some y) r w = of_ratio v (suc k) y r (of_move (Ratio v (suc k) y) r)
 
-    point_line : (at : PointId) (r : Terms) → MoveFitsOrIsRefused (Point at) r → FitsOrIsRefused here (PointLine at r)
+    point_line : (at : PointId) (r : Summands) → MoveFitsOrIsRefused (Point at) r → FitsOrIsRefused here (PointLine at r)
     point_line at r (inl h) = inl (inl (moves (Point at) r, left - move_charge (replacement lemma_table c (Point at) q) q, r, h, refl))
     point_line at r (inr h) = of_this_kind here (PointLine at r) h.0 refl (Point at, r, refl, h.1)
 
-    coords_line : (r : Terms) → MoveFitsOrIsRefused Coords r → FitsOrIsRefused here (CoordsLine r)
+    coords_line : (r : Summands) → MoveFitsOrIsRefused Coords r → FitsOrIsRefused here (CoordsLine r)
     coords_line r (inl h) = inl (inl (moves Coords r, left - move_charge (replacement lemma_table c Coords q) q, r, h, refl))
     coords_line r (inr h) = of_this_kind here (CoordsLine r) h.0 refl (Coords, r, refl, h.1)
 
-    cut_line : (f : Powers × ℤ) (r : Terms) → IsPolynomial q → IsWritable (Cut f r) → FitsOrIsRefused here (Cut f r)
+    cut_line : (f : Powers × ℤ) (r : Summands) → IsPolynomial q → IsWritable (Cut f r) → FitsOrIsRefused here (Cut f r)
     cut_line f r valid w = go (known_decided known f.0) (division_decided f q w.0.factor valid)
       where
-        exact : IsByKnown known f.0 → (s : Terms) → IsPolynomial s → product_of (f ∷ []) s ≡ q → Decided (r ≡ s) → FitsOrIsRefused here (Cut f r)
+        exact : IsByKnown known f.0 → (s : Summands) → IsPolynomial s → product_of (f ∷ []) s ≡ q → Decided (r ≡ s) → FitsOrIsRefused here (Cut f r)
         exact k s p e (inl same) =
             let cut : IsCut known f q s = record { factor = w.0.factor; by_known = k; polynomial = p; exact = e } in
             inl (inl (cuts f r, left, r, (subst (IsCut known f q) (sym same) cut, (refl, refl)), refl))
         exact k s p e (inr n) = of_this_kind here (Cut f r) (rejected wrong_polynomial) refl (k, (s, p, e, n))
 
-        go : Decided (IsByKnown known f.0) → ((s : Terms) × IsPolynomial s × (product_of (f ∷ []) s ≡ q)) ⊎ ((s : Terms) → IsPolynomial s → product_of (f ∷ []) s ≢ q)
+        go : Decided (IsByKnown known f.0) → ((s : Summands) × IsPolynomial s × (product_of (f ∷ []) s ≡ q)) ⊎ ((s : Summands) → IsPolynomial s → product_of (f ∷ []) s ≢ q)
             → FitsOrIsRefused here (Cut f r)
         go (inr n) d = of_this_kind here (Cut f r) (rejected wrong_cut) refl (inl n)
         go (inl k) (inr none) = of_this_kind here (Cut f r) (rejected wrong_cut) refl (inr none)
@@ -246,16 +246,16 @@ module _ (c : Construction) where
 
 -- GOING ON
 module _ (c : Construction) where
-  abbrev Leads : List Var → ℕ → Terms → List ChainStep → ℕ → Terms → Type 0
+  abbrev Leads : List Var → ℕ → Summands → List ChainStep → ℕ → Summands → Type 0
   Leads = LeadsTo lemma_table c
 
   abbrev Works : List Var → ℕ → Tree → Chain → ℕ → Type 0
   Works = IsAcceptedChain lemma_table c
 
-  abbrev pub Ends : List Var → Terms → Type 0
+  abbrev pub Ends : List Var → Summands → Type 0
   Ends known q = IsEnd q
 
-  one_more : (known : List Var) (left : ℕ) (q : Terms) (steps : List ChainStep) (after : ℕ) (last : Terms) (step : ChainStep) (left' : ℕ) (r : Terms)
+  one_more : (known : List Var) (left : ℕ) (q : Summands) (steps : List ChainStep) (after : ℕ) (last : Summands) (step : ChainStep) (left' : ℕ) (r : Summands)
       → Leads known left q steps after last → Leads known after last (step ∷ []) left' r → Leads known left q (steps ++ step ∷ []) left' r
   one_more known left q [] after last step left' r h g =
       subst (λ k. Leads known k q (step ∷ []) left' r) (sym h.0) (subst (λ t. Leads known after t (step ∷ []) left' r) (sym h.1) g)

@@ -10,7 +10,7 @@ use Rattle.geo_points.specs.declared.ids.PointId.{PointId}
 use Rattle.geo_poly.specs.declared.variables.Var.{Var}
 use Rattle.geo_poly.specs.Monomials.{Powers}
 use Rattle.geo_poly.specs.PolynomialVariables.{IsRatio, variables_of}
-use Rattle.geo_poly.specs.Polynomials.{Terms}
+use Rattle.geo_poly.specs.Polynomials.{Summands}
 use Rattle.geo_poly.proofs.EachVariable.{each-contained, each-variables}
 use Rattle.geo_sample.proofs.LeastSamples.{collected_polynomials, sample_keeps}
 use Rattle.geo_terms.specs.Constructions.{Construction, IsConstruction}
@@ -67,11 +67,11 @@ module _ (c : Construction) (construction : IsConstruction c) where
   first_small : (y : PointId) (v : Var) → IsRatio v → first_lemma c y v < 2 ^ 32
   first_small y v h = found_small (λ lemma. is_some (lemma_table.row c (Ratio v lemma y) v)) lemmas (first_lemma c y v) (lit< tt, (lit< tt, (lit< tt, (lit< tt, (lit< tt, (lit< tt, (lit< tt, tt))))))) (first_lemma_has_row c y v h)
 
-  own_variable : (q : Terms) (v : Var) → IsOwn c construction q → Contains (variables_of q) v → IsVariable v
+  own_variable : (q : Summands) (v : Var) → IsOwn c construction q → Contains (variables_of q) v → IsVariable v
   own_variable q v h st = each-contained IsVariable (variables_of q) v (each-variables IsVariable q (written c construction q h).variables) st
 
   -- MOVES AND CUTS
-  move_written : (q r : Terms) (move : Move) → IsOwn c construction q → IsNextMove lemma_table c q move → IsOwn c construction r → IsWritable (line_of (moves move r))
+  move_written : (q r : Summands) (move : Move) → IsOwn c construction q → IsNextMove lemma_table c q move → IsOwn c construction r → IsWritable (line_of (moves move r))
   move_written q r (Ratio v lemma at) h (inl n) o =
       let few = constructed_small n.0 n.1.constructed in
       let lemma_small : lemma < 2 ^ 32 = subst (λ k. k < 2 ^ 32) (sym n.3) (first_small n.0 v n.2.ratio) in
@@ -93,7 +93,7 @@ module _ (c : Construction) (construction : IsConstruction c) where
       each_contained (w ∷ vs) v g (zero, lt, e) = subst IsVariable e g.0
       each_contained (w ∷ vs) v g (suc i, lt, e) = each_contained vs v g.1 (i, omega (arith, lt), e)
 
-  step_written : (known : List Var) (left : ℕ) (q : Terms) (step : ChainStep) (left' : ℕ) (r : Terms) → IsOwn c construction q → AllByRecursion IsVariable known
+  step_written : (known : List Var) (left : ℕ) (q : Summands) (step : ChainStep) (left' : ℕ) (r : Summands) → IsOwn c construction q → AllByRecursion IsVariable known
       → LeadsBySteps lemma_table c known left q (step ∷ []) left' r → IsWritable (line_of step)
   step_written known left q (moves move s) left' r h k l = move_written q s move h l.1 (moved_own c construction move left q s h l.2)
   step_written known left q (cuts f s) left' r h k l =

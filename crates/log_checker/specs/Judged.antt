@@ -1,5 +1,5 @@
 -- Logs as they are read: the lines of bytes, and the first line at which a log is refused.
-use Rattle.std.specs.Prelude.{◌≡◌, ◌≢◌, ℕ, suc, ◌≤◌, ◌⊎◌, Option, Some, None, List, [], ◌∷◌, ◌++◌, length, map}
+use Rattle.std.specs.Prelude.{◌≡◌, ◌≢◌, ◌↔◌, ℕ, suc, ◌≤◌, ◌⊎◌, Option, Some, None, List, [], ◌∷◌, ◌++◌, length, map}
 use Rattle.std.specs.List.{AllByRecursion}
 use Rattle.geo_program.specs.WellFormed.{IsWellFormed, Source}
 use Rattle.proof_log.specs.declared.log.Line.{Line}
@@ -129,13 +129,24 @@ abbrev pub IsOfProgramOrNone : List (List ℕ) → Type 0
 IsOfProgramOrNone texts =
     ((p : Source) × IsWellFormed p × (source_lines p ≡ texts)) ⊎ ((p : Source) → IsWellFormed p → source_lines p ≢ texts)
 
--- bytes that are read so, of which that is known, are an accepted log, or they are refused
+-- that is known of the lines of the program that are read of the bytes
+abbrev pub IsProgramKnown : List ℕ → Type 0
+IsProgramKnown bytes =
+    (reads : List (Option Line)) → AreRead bytes reads → (first : BeginsWithProgram reads) → IsOfProgramOrNone first.texts
+
+-- then the bytes are an accepted log, or they are refused
 abbrev pub BytesAreJudged : Type 0
 BytesAreJudged =
-    (bytes : List ℕ) (steps : ℕ) (reads : List (Option Line)) → AreRead bytes reads → length bytes ≤ 268435456
-    → ((first : BeginsWithProgram reads) → IsOfProgramOrNone first.texts)
+    (bytes : List ℕ) (steps : ℕ) → length bytes ≤ 268435456 → IsProgramKnown bytes
     → ((p : Source) × (verdict : Verdict) × Accepts bytes steps p verdict)
     ⊎ ((number : ℕ) × (refusal : Refusal) × Refuses bytes steps number refusal)
+
+-- so they are accepted exactly where they are refused at no line
+abbrev pub AcceptedWhereNotRefused : Type 0
+AcceptedWhereNotRefused =
+    (bytes : List ℕ) (steps : ℕ) → length bytes ≤ 268435456 → IsProgramKnown bytes
+    → ((p : Source) × (verdict : Verdict) × Accepts bytes steps p verdict)
+    ↔ ((number : ℕ) (refusal : Refusal) → Refuses bytes steps number refusal → ⊥)
 
 -- LAWS
 -- what is read of an accepted log has no first stop
@@ -144,7 +155,11 @@ AcceptedLogsDoNotStop =
     (p : Source) (steps number : ℕ) (lines : List Line) (verdict : Verdict) (refusal : Refusal)
     → IsAcceptedLog p steps lines verdict → IsFirstStop steps (map Some lines) number refusal → ⊥
 
--- bytes are read in one way
+-- bytes are read
+abbrev pub BytesAreRead : Type 0
+BytesAreRead = (bytes : List ℕ) → (reads : List (Option Line)) × AreRead bytes reads
+
+-- and in one way
 abbrev pub BytesAreReadInOneWay : Type 0
 BytesAreReadInOneWay = (bytes : List ℕ) (reads other : List (Option Line)) → AreRead bytes reads → AreRead bytes other → reads ≡ other
 

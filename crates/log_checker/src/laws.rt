@@ -8,7 +8,8 @@ ghost use Rattle.log_checker.specs.Accepted.{SubjectsAgree};
 ghost use Rattle.log_checker.specs.Begun.{BeginningsGoOn, DefinedBytesAreAccepted};
 ghost use Rattle.log_checker.specs.Begun.{DefinedLogsAreWritable, NextLinesAreWritable};
 ghost use Rattle.log_checker.specs.Judged.{AcceptedBytesAreNotRefused, AcceptedLogsDoNotStop};
-ghost use Rattle.log_checker.specs.Judged.{BytesAreJudged, LinesGoOnOrAreRefused, RestsAreJudged};
+ghost use Rattle.log_checker.specs.Judged.{AcceptedWhereNotRefused, BytesAreJudged, BytesAreRead};
+ghost use Rattle.log_checker.specs.Judged.{LinesGoOnOrAreRefused, RestsAreJudged};
 ghost use Rattle.log_checker.specs.Judged.{BytesAreReadInOneWay, BytesAreRefusedOnce};
 ghost use Rattle.log_checker.specs.Judged.{FirstStopIsUnique};
 ghost use Rattle.log_checker.specs.Laws.{AcceptedSamplesAreMet, AcceptedVerdictsHold};
@@ -158,9 +159,20 @@ pub fn rests_are_judged()
     ensures { RestsAreJudged }
 {}
 
-/// Bytes are an accepted log, or they are refused.
+/// Bytes are read, line by line.
+pub fn bytes_are_read()
+    ensures { BytesAreRead }
+{}
+
+/// Bytes of which it is known whether they begin with a program are an accepted log, or they are
+/// refused.
 pub fn bytes_are_judged()
     ensures { BytesAreJudged }
+{}
+
+/// Such bytes are accepted exactly where they are refused at no line.
+pub fn accepted_where_not_refused()
+    ensures { AcceptedWhereNotRefused }
 {}
 
 /// The lines of a well-formed program have no line feed.

@@ -2,7 +2,7 @@
 use Rattle.std.specs.Prelude.{◌≡◌, ℕ, suc, ◌+◌, ◌<◌, ◌≤◌, ◌⊎◌, Option, Some, None, List, [], ◌∷◌, ◌++◌, length, map, take}
 use Rattle.geo_base.specs.Devices.{Grows, HasRisen}
 use Rattle.geo_poly.specs.declared.variables.Var.{Var}
-use Rattle.geo_poly.specs.Polynomials.{Terms}
+use Rattle.geo_poly.specs.Polynomials.{Summands}
 use Rattle.geo_terms.specs.Constructions.{Construction}
 use Rattle.geo_terms.specs.Trees.{Tree}
 use Rattle.proof_log.specs.declared.log.Line.{Line}
@@ -86,7 +86,7 @@ IsAnswered NoMemoryThere s t e = (e ≡ NoMemory) × (t ≡ s)
 
 -- WHAT IS WRITTEN WHOLE
 -- the steps from the polynomial on and the end were written, and the last polynomial is this
-pub record WorksSteps (c : Construction) (known : List Var) (left : ℕ) (q : Terms) (left' : ℕ) (s t : State) (end : Terms) : Type 0 where
+pub record WorksSteps (c : Construction) (known : List Var) (left : ℕ) (q : Summands) (left' : ℕ) (s t : State) (end : Summands) : Type 0 where
   pub steps : List ChainStep
   pub leads : LeadsBySteps lemma_table c known left q steps left' end
   pub no_cut : NoCutDue known end
@@ -94,7 +94,7 @@ pub record WorksSteps (c : Construction) (known : List Var) (left : ℕ) (q : Te
   pub written : Writes (map line_of steps ++ End ∷ []) s t
 
 -- the chain of the term was written; it ends so, and this variable is known then
-pub record WorksChain (c : Construction) (header : Line) (known : List Var) (left : ℕ) (e : Tree) (left' : ℕ) (s t : State) (end : Terms)
+pub record WorksChain (c : Construction) (header : Line) (known : List Var) (left : ℕ) (e : Tree) (left' : ℕ) (s t : State) (end : Summands)
     (variable : Option Var) : Type 0 where
   pub chain : Chain
   pub works : IsDefinedChain lemma_table c known left e chain left'

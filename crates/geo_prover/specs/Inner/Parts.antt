@@ -3,7 +3,7 @@ use Rattle.std.specs.Prelude.{◌≡◌, ℕ, ◌+◌, ◌≤◌, Option, Some, 
 use Rattle.geo_conditions.specs.declared.items.Item.{Item as ListedItem}
 use Rattle.geo_conditions.specs.Lists.{item_form}
 use Rattle.geo_poly.specs.declared.variables.Var.{Var}
-use Rattle.geo_poly.specs.Polynomials.{Terms}
+use Rattle.geo_poly.specs.Polynomials.{Summands}
 use Rattle.geo_terms.specs.Constructions.{Construction}
 use Rattle.geo_terms.specs.Stores.{Store}
 use Rattle.geo_terms.specs.TermBounds.{IsTermBelow}
@@ -33,16 +33,16 @@ abbrev pub here_part : Place → Part
 here_part here = record { begun = λ lines place. (lines ≡ []) × (place ≡ here); whole = λ lines verdict left. ⊥ }
 
 -- some steps lead from the polynomial to another, and these are their lines
-pub record IsBegunSteps (c : Construction) (known : List Var) (left : ℕ) (q : Terms) (lines : List Line) (place : Place) : Type 0 where
+pub record IsBegunSteps (c : Construction) (known : List Var) (left : ℕ) (q : Summands) (lines : List Line) (place : Place) : Type 0 where
   pub steps : List ChainStep
   pub after : ℕ
-  pub last : Terms
+  pub last : Summands
   pub leads : LeadsBySteps lemma_table c known left q steps after last
   pub split : lines ≡ map line_of steps
   pub stands : place ≡ in_chain known after last
 
 -- the steps of a chain after a polynomial
-abbrev pub steps_part : Construction → List Var → ℕ → Terms → Part
+abbrev pub steps_part : Construction → List Var → ℕ → Summands → Part
 steps_part c known left q = record { begun = IsBegunSteps c known left q; whole = λ lines verdict left'. ⊥ }
 
 -- the chain of a term, behind which something else follows
@@ -53,21 +53,21 @@ chain_part c header known left e = record {
 }
 
 -- the sample and the verdict
-abbrev pub end_part : Construction → List Terms → Verdict → ℕ → Part
+abbrev pub end_part : Construction → List Summands → Verdict → ℕ → Part
 end_part c listed verdict left = record {
   begun = IsBegunEnd (LeadsBySteps lemma_table c) (IsDefinedChain lemma_table c) (IsLeastSample c) listed verdict left;
   whole = λ lines other left'. (other ≡ verdict) × IsConcluded (IsDefinedChain lemma_table c) (IsLeastSample c) listed left lines verdict left';
 }
 
 -- the goals from number k on, and what follows
-abbrev pub goals_part : Construction → List Var → List Terms → ℕ → ℕ → List Item → Part
+abbrev pub goals_part : Construction → List Var → List Summands → ℕ → ℕ → List Item → Part
 goals_part c known listed k left items = record {
   begun = AreGoalsBegun (LeadsBySteps lemma_table c) (IsDefinedChain lemma_table c) (IsLeastSample c) known listed k left items;
   whole = AreGoalsWorked (IsDefinedChain lemma_table c) (IsLeastSample c) known listed k left items;
 }
 
 -- the conditions from number k on, and what follows
-abbrev pub conditions_part : Construction → List Item → List Var → List Terms → ℕ → ℕ → List Item → Part
+abbrev pub conditions_part : Construction → List Item → List Var → List Summands → ℕ → ℕ → List Item → Part
 conditions_part c goals known listed k left items = record {
   begun = AreConditionsBegun (LeadsBySteps lemma_table c) (IsDefinedChain lemma_table c) (IsLeastSample c) goals known listed k left items;
   whole = AreConditionsWorked (IsDefinedChain lemma_table c) (IsLeastSample c) goals known listed k left items;
@@ -96,7 +96,7 @@ CanWrite c part bytes =
 
 -- LINES
 -- the polynomial of a line
-abbrev pub polynomial_on : Line → Option Terms
+abbrev pub polynomial_on : Line → Option Summands
 polynomial_on (Start q) = Some q
 polynomial_on (Ratio v lemma at q) = Some q
 polynomial_on (Point at q) = Some q

@@ -4,7 +4,7 @@ use Rattle.geo_conditions.specs.declared.items.Item.{Item}
 use Rattle.geo_conditions.specs.declared.problem.Problem.{Problem}
 use Rattle.geo_points.specs.declared.ids.TermId.{TermId}
 use Rattle.geo_poly.specs.declared.variables.Var.{Var}
-use Rattle.geo_poly.specs.Polynomials.{Terms}
+use Rattle.geo_poly.specs.Polynomials.{Summands}
 use Rattle.geo_terms.specs.Constructions.{Construction}
 use Rattle.geo_terms.specs.Stores.{tree_of}
 use Rattle.proof_log.specs.declared.log.Line.{Line}
@@ -36,10 +36,10 @@ pub record IsGoalTask (items : List Item) (i : ℕ) (header : Line) (term : Term
   pub term_is : term ≡ item.term
 
 -- the conditions from place i on, and what follows
-abbrev pub conditions_from : Problem → ℕ → List Var → List Terms → ℕ → Part
+abbrev pub conditions_from : Problem → ℕ → List Var → List Summands → ℕ → Part
 conditions_from problem i known listed left =
     conditions_part problem.steps (items_of problem.steps.nodes problem.goals) known listed (suc i) left (items_of problem.steps.nodes (drop i problem.conditions))
 
 -- the goals from place i on, and what follows
-abbrev pub goals_from : Problem → ℕ → List Var → List Terms → ℕ → Part
+abbrev pub goals_from : Problem → ℕ → List Var → List Summands → ℕ → Part
 goals_from problem i known listed left = goals_part problem.steps known listed (suc i) left (items_of problem.steps.nodes (drop i problem.goals))
