@@ -1,8 +1,8 @@
 //! Worked logs.
 
 use crate::{ProveError, prove};
-use geo_base::{MemSink, NoMemory as OutOfMemory};
-use geo_parser::{ParseError, parse};
+use geo_base::MemSink;
+use geo_parser::parse;
 use geo_poly::Which;
 use proof_log::Verdict;
 use std::alloc::{AllocError, Global};
