@@ -1,6 +1,7 @@
 -- What is due behind good lines, line by line.
 use Rattle.std.proofs.Common.{◌≡◌, ◌≢◌, ℕ, zero, suc, ◌-◌, ◌<◌, ◌≤◌, ◌⊎◌, inl, inr, ℤ, Option, Some, None, List, [], ◌∷◌, ◌++◌, map, length, drop, append-nil, append_assoc, refl, sym, ◌∙◌, ap, subst, arith}
 use Rattle.std.specs.List.{cons_option}
+use Rattle.std.specs.Option.{option_to_list}
 use Rattle.std.proofs.Math.ListN.{drop_of_length-le}
 use Rattle.geo_poly.specs.declared.variables.Var.{Var}
 use Rattle.geo_poly.specs.Polynomials.{Terms}
@@ -33,16 +34,12 @@ drop_item (y ∷ xs) zero x e = ap (λ z. z ∷ xs) (first y x xs e)
 drop_item (y ∷ xs) (suc i) x e = drop_item xs i x e
 
 -- the variable that a start makes known, if any
-abbrev pub known_own : Option Var → List Var
-known_own None = []
-known_own (Some v) = v ∷ []
-
-own_list : (o : Option Var) → cons_option o [] ≡ known_own o
+own_list : (o : Option Var) → cons_option o [] ≡ option_to_list o
 own_list None = refl
 own_list (Some v) = refl
 
-known_own_by : (o : Option Var) (item : Item) → o ≡ only_variable (start_of item.term) → known_by (item ∷ []) ≡ known_own o
-known_own_by o item e = own_list (only_variable (start_of item.term)) ∙ ap known_own (sym e)
+known_own_by : (o : Option Var) (item : Item) → o ≡ only_variable (start_of item.term) → known_by (item ∷ []) ≡ option_to_list o
+known_own_by o item e = own_list (only_variable (start_of item.term)) ∙ ap option_to_list (sym e)
 
 -- the item at a place of the list
 item_at : {A : Type 0} (xs : List A) (i : ℕ) → i < length xs → (x : A) × At xs i x
@@ -245,7 +242,7 @@ module _ (subject : Subject) (steps : ℕ) where
       }
 
   -- the chain, and what follows it
-  begins : (header : Line) (known : List Var) (first left : ℕ) (item : Item) (chain : Chain) (more : List Line) → Works known first item.term chain left
+  abbrev begins : (header : Line) (known : List Var) (first left : ℕ) (item : Item) (chain : Chain) (more : List Line) → Works known first item.term chain left
       → BeginsWithChain Works Chosen header known first item (chain_lines header item.term chain ++ more)
   begins header known first left item chain more w = record { chain = chain; after = left; rest = more; split = refl; works = w }
 
@@ -255,11 +252,11 @@ module _ (subject : Subject) (steps : ℕ) where
 
   pub condition_done : (good : List Line) (known : List Var) (listed : List Terms) (left k : ℕ) (own : Option Var) (q : Terms)
       → IsStepDue subject steps good known listed left (task.Condition k) own q → IsEnd q → q ≢ []
-      → AreConditionsDue subject steps (good ++ End ∷ []) (known ++ known_own own) (listed ++ q ∷ []) left k
+      → AreConditionsDue subject steps (good ++ End ∷ []) (known ++ option_to_list own) (listed ++ q ∷ []) left k
   condition_done good known listed left k own q d end nonzero = go (done good known listed left (task.Condition k) own q d end)
     where
-      go : IsDone good known listed left (task.Condition k) own q → AreConditionsDue subject steps (good ++ End ∷ []) (known ++ known_own own) (listed ++ q ∷ []) left k
-      go w = subst (λ n. AreConditionsDue subject steps (good ++ End ∷ []) (known ++ known_own own) (listed ++ q ∷ []) left n) (sym w.due.1) here
+      go : IsDone good known listed left (task.Condition k) own q → AreConditionsDue subject steps (good ++ End ∷ []) (known ++ option_to_list own) (listed ++ q ∷ []) left k
+      go w = subst (λ n. AreConditionsDue subject steps (good ++ End ∷ []) (known ++ option_to_list own) (listed ++ q ∷ []) left n) (sym w.due.1) here
         where
           index : ℕ
           index = w.due.0
@@ -273,7 +270,7 @@ module _ (subject : Subject) (steps : ℕ) where
           same_split : good ++ End ∷ [] ≡ w.before ++ chain_lines header w.item.term w.chain
           same_split = w.split ∙ ap (λ n. w.before ++ chain_lines (ConditionLine n w.item.text) w.item.term w.chain) w.due.1
 
-          known_more : known ++ known_own own ≡ known ++ known_by (w.item ∷ [])
+          known_more : known ++ option_to_list own ≡ known ++ known_by (w.item ∷ [])
           known_more = ap (λ vs. known ++ vs) (sym (known_own_by own w.item w.alone))
 
           listed_more : listed ++ q ∷ [] ≡ listed ++ w.chain.end ∷ []
@@ -282,7 +279,7 @@ module _ (subject : Subject) (steps : ℕ) where
           apart : w.chain.end ≢ []
           apart = subst (λ r. r ≢ []) (sym w.ends) nonzero
 
-          here : AreConditionsDue subject steps (good ++ End ∷ []) (known ++ known_own own) (listed ++ q ∷ []) left (suc index)
+          here : AreConditionsDue subject steps (good ++ End ∷ []) (known ++ option_to_list own) (listed ++ q ∷ []) left (suc index)
           here = record {
             begun = λ more place h.
                 subst (λ ls. Good ls place) (behind good w.before (chain_lines header w.item.term w.chain) more same_split)
@@ -314,7 +311,7 @@ module _ (subject : Subject) (steps : ℕ) where
   pub impossible_due : (good : List Line) (known : List Var) (listed : List Terms) (left k : ℕ) (own : Option Var) (q : Terms)
       → IsStepDue subject steps good known listed left (task.Condition k) own q → IsEnd q → q ≡ []
       → IsVerdictDue subject steps (good ++ End ∷ []) (Impossible k) left
-  impossible_due good known listed left k own q d end zero = go (done good known listed left (task.Condition k) own q d end)
+  impossible_due good known listed left k own q d end none_left = go (done good known listed left (task.Condition k) own q d end)
     where
       go : IsDone good known listed left (task.Condition k) own q → IsVerdictDue subject steps (good ++ End ∷ []) (Impossible k) left
       go w = subst (λ n. IsVerdictDue subject steps (good ++ End ∷ []) (Impossible n) left) (sym w.due.1) here
@@ -335,19 +332,19 @@ module _ (subject : Subject) (steps : ℕ) where
                 (w.due.3.begun (chain_lines header w.item.term w.chain ++ []) (before_line (VerdictLine (Impossible (suc index))))
                 (subst (λ items. AreConditionsBegun Leads Works Chosen subject.goals known listed (suc index) w.first items (chain_lines header w.item.term w.chain ++ []) (before_line (VerdictLine (Impossible (suc index)))))
                 (sym (drop_item subject.conditions index w.item w.due.2))
-                (inr (begins header known w.first left w.item w.chain [] w.works, inl (w.ends ∙ zero, refl, refl)))));
+                (inr (begins header known w.first left w.item w.chain [] w.works, inl (w.ends ∙ none_left, refl, refl)))));
             whole =
                 subst (λ ls. IsWhole subject steps ls (Impossible (suc index)) left) (behind good w.before (chain_lines header w.item.term w.chain) (VerdictLine (Impossible (suc index)) ∷ []) same_split)
                 (w.due.3.worked (chain_lines header w.item.term w.chain ++ VerdictLine (Impossible (suc index)) ∷ []) (Impossible (suc index)) left
                 (subst (λ items. AreConditionsWorked Works Chosen subject.goals known listed (suc index) w.first items (chain_lines header w.item.term w.chain ++ VerdictLine (Impossible (suc index)) ∷ []) (Impossible (suc index)) left)
                 (sym (drop_item subject.conditions index w.item w.due.2))
-                (begins header known w.first left w.item w.chain (VerdictLine (Impossible (suc index)) ∷ []) w.works, inl (w.ends ∙ zero, refl, refl, refl))));
+                (begins header known w.first left w.item w.chain (VerdictLine (Impossible (suc index)) ∷ []) w.works, inl (w.ends ∙ none_left, refl, refl, refl))));
           }
 
   pub goal_zero : (good : List Line) (known : List Var) (listed : List Terms) (left k : ℕ) (own : Option Var) (q : Terms)
       → IsStepDue subject steps good known listed left (task.Goal k) own q → IsEnd q → q ≡ []
       → AreGoalsDue subject steps (good ++ End ∷ []) known listed left k
-  goal_zero good known listed left k own q d end zero = go (done good known listed left (task.Goal k) own q d end)
+  goal_zero good known listed left k own q d end none_left = go (done good known listed left (task.Goal k) own q d end)
     where
       go : IsDone good known listed left (task.Goal k) own q → AreGoalsDue subject steps (good ++ End ∷ []) known listed left k
       go w = subst (λ n. AreGoalsDue subject steps (good ++ End ∷ []) known listed left n) (sym w.due.1) here
@@ -368,13 +365,13 @@ module _ (subject : Subject) (steps : ℕ) where
                 (w.due.3.begun (chain_lines header w.item.term w.chain ++ more) place
                 (subst (λ items. AreGoalsBegun Leads Works Chosen known listed (suc index) w.first items (chain_lines header w.item.term w.chain ++ more) place)
                 (sym (drop_item subject.goals index w.item w.due.2))
-                (inr (begins header known w.first left w.item w.chain more w.works, inl (w.ends ∙ zero, h)))));
+                (inr (begins header known w.first left w.item w.chain more w.works, inl (w.ends ∙ none_left, h)))));
             worked = λ more verdict left' h.
                 subst (λ ls. IsWhole subject steps ls verdict left') (behind good w.before (chain_lines header w.item.term w.chain) more same_split)
                 (w.due.3.worked (chain_lines header w.item.term w.chain ++ more) verdict left'
                 (subst (λ items. AreGoalsWorked Works Chosen known listed (suc index) w.first items (chain_lines header w.item.term w.chain ++ more) verdict left')
                 (sym (drop_item subject.goals index w.item w.due.2))
-                (begins header known w.first left w.item w.chain more w.works, inl (w.ends ∙ zero, h))));
+                (begins header known w.first left w.item w.chain more w.works, inl (w.ends ∙ none_left, h))));
           }
 
   pub goal_fails : (good : List Line) (known : List Var) (listed : List Terms) (left k : ℕ) (own : Option Var) (q : Terms)

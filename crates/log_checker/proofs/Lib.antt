@@ -21,7 +21,7 @@ pub mod NextStops
 pub mod NextCuts
 pub mod NextMoves
 pub mod Reached
-pub mod Accepted
+pub mod AcceptedBytes
 pub mod Midpoints
 pub mod AlikeSteps
 pub mod AlikeLogs
@@ -32,3 +32,9 @@ pub mod OneStop
 pub mod AlteredLogs
 pub mod Writing
 pub mod DueChains
+pub mod DueMoves
+pub mod LineFeeds
+pub mod KeysInTurn
+pub mod DueRefusals
+pub mod SampleNames
+pub mod PassedOn

@@ -129,10 +129,7 @@ fn after_condition(
     if last.is_zero() {
         return Ok(Due::Verdict(Verdict::Impossible(k)));
     }
-    if let Some(v) = own {
-        evidence.known.items.push(v)?;
-    }
-    evidence.ends.items.push(last)?;
+    evidence.add(own, last)?;
     Ok(condition_due(problem, k as usize))
 }
 
@@ -151,6 +148,6 @@ fn after_goal(
     if last.is_zero() {
         return Ok(goal_due(problem, k as usize));
     }
-    evidence.ends.items.push(last)?;
+    evidence.add(None, last)?;
     Ok(Due::Sample(Verdict::False(k)))
 }

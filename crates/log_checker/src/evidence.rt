@@ -1,8 +1,11 @@
 //! What the lines of a log leave for those after them.
 
-ghost use Rattle.std.specs.Prelude.{◌≡◌, []};
+ghost use Rattle.std.specs.Option.{option_to_list};
+ghost use Rattle.std.specs.Prelude.{◌≡◌, [], ◌∷◌, ◌++◌, OnOk};
 
 use geo_base::Budget;
+use geo_points::NoMemory;
+use geo_poly::{Poly, Var};
 use geo_poly::lists::{Polys, Vars};
 use std::alloc::Global;
 
@@ -34,4 +37,32 @@ impl Evidence {
             budget: Budget { left: steps },
         }
     }
+
+    /// Adds the end of a chain, and the variable that the chain makes known, if any.
+    pub fn add(&mut self, own: Option<Var>, end: Poly) -> Result<(), NoMemory>
+        ensures known { OnOk result (self.new.known ≡ self.old.known ++ option_to_list own) }
+        ensures ends { OnOk result (self.new.ends ≡ self.old.ends ++ end ∷ []) }
+        ensures left { self.new.budget ≡ self.old.budget }
+    {
+        add_known(&mut self.known, own)?;
+        add_end(&mut self.ends, end)
+    }
+}
+
+/// Adds the variable, if any.
+fn add_known(known: &mut Vars, own: Option<Var>) -> Result<(), NoMemory>
+    ensures { OnOk result (known.new ≡ known.old ++ option_to_list own) }
+{
+    if let Some(v) = own {
+        known.items.push(v)?;
+    }
+    Ok(())
+}
+
+/// Adds the polynomial.
+fn add_end(ends: &mut Polys, end: Poly) -> Result<(), NoMemory>
+    ensures { OnOk result (ends.new ≡ ends.old ++ end ∷ []) }
+{
+    ends.items.push(end)?;
+    Ok(())
 }

@@ -1,6 +1,6 @@
 //! The headers of chains, and what is due behind a chain.
 
-ghost use Rattle.std.specs.Prelude.{◌≡◌, ◌+◌, ◌^◌, ◌<◌, ◌↔◌, ℕ, List, [], suc, IfErr, IfOk, IsTrue, length};
+ghost use Rattle.std.specs.Prelude.{◌≡◌, ◌+◌, ◌^◌, ◌<◌, ◌↔◌, ℕ, List, suc, IfErr, IfOk, IsTrue, length};
 ghost use Rattle.geo_logs.specs.Places.{before_line};
 ghost use Rattle.geo_terms.specs.Constructions.{Construction};
 ghost use Rattle.log_checker.specs.Checkers.{AreConditionsDue, AreGoalsDue, IsDue, subject_of};
@@ -17,9 +17,10 @@ use proof_log::{Line, Verdict};
 
 /// What is due where the conditions from this index on are still to be worked.
 pub(crate) fn condition_due(problem: &Problem, index: usize) -> Due
-    ensures { (steps : ℕ) (good : List Line) (e : Evidence)
-        → AreConditionsDue (subject_of [] problem.now) steps good e.known e.ends e.budget.left index
-        → IsDue (subject_of [] problem.now) steps e result good }
+    ensures { (texts : List (List ℕ)) (steps : ℕ) (good : List Line) (e : Evidence)
+        → AreConditionsDue (subject_of texts problem.now) steps
+        good e.known e.ends e.budget.left index
+        → IsDue (subject_of texts problem.now) steps e result good }
 {
     if index < problem.conditions.items.len() {
         Due::Condition(index)
@@ -30,9 +31,10 @@ pub(crate) fn condition_due(problem: &Problem, index: usize) -> Due
 
 /// What is due where the goals from this index on are still to be worked.
 pub(crate) fn goal_due(problem: &Problem, index: usize) -> Due
-    ensures { (steps : ℕ) (good : List Line) (e : Evidence)
-        → AreGoalsDue (subject_of [] problem.now) steps good e.known e.ends e.budget.left index
-        → IsDue (subject_of [] problem.now) steps e result good }
+    ensures { (texts : List (List ℕ)) (steps : ℕ) (good : List Line) (e : Evidence)
+        → AreGoalsDue (subject_of texts problem.now) steps
+        good e.known e.ends e.budget.left index
+        → IsDue (subject_of texts problem.now) steps e result good }
 {
     if index < problem.goals.items.len() {
         Due::Goal(index)

@@ -1,6 +1,6 @@
 //! The sample of a log.
 
-ghost use Rattle.std.specs.Prelude.{◌≡◌, ◌↔◌, ◌++◌, ◌∷◌, [], IfErr, IfOk, IsTrue, OnOk, map};
+ghost use Rattle.std.specs.Prelude.{◌≡◌, ◌↔◌, ◌<◌, ◌++◌, ◌∷◌, [], IfErr, IfOk, IsTrue, OnOk, Some, length, map, slice_get};
 ghost use Rattle.geo_logs.specs.Judging.{IsSampleRefused};
 ghost use Rattle.geo_logs.specs.Samples.{IsAcceptedSample, coordinates_from, sample_variables};
 ghost use Rattle.log_checker.specs.Inner.Lines.{Tells};
@@ -82,9 +82,26 @@ fn are_variables_of(values: &[(Var, i128)], variables: &[Var]) -> bool
         return false;
     }
     for i in 0..values.len() {
-        if variables[i] != values[i].0 {
+        let v = name_at(values, i);
+        if !is_at(variables, i, v) {
             return false;
         }
     }
     true
+}
+
+/// The variable of the value at a place.
+fn name_at(values: &[(Var, i128)], i: usize) -> Var
+    requires { i < length values.now }
+    ensures { slice_get (map (λ v. v.0) values.now) i ≡ Some result }
+{
+    values[i].0
+}
+
+/// Whether this variable stands at the place.
+fn is_at(variables: &[Var], i: usize, v: Var) -> bool
+    requires { i < length variables.now }
+    ensures { IsTrue result ↔ (slice_get variables.now i ≡ Some v) }
+{
+    variables[i] == v
 }

@@ -56,7 +56,7 @@ pub record IsReady (q : Problem) : Type 0 where
 
 -- some lines lead to what is due
 abbrev pub IsReached : Problem → Evidence → Due → Type 0
-IsReached q e due = (steps : ℕ) × (good : List Line) × IsDue (subject_of [] q) steps e due good
+IsReached q e due = (texts : List (List ℕ)) × (steps : ℕ) × (good : List Line) × IsDue (subject_of texts q) steps e due good
 
 -- behind good lines, or a whole log, the line is refused
 abbrev pub IsRefusedAfter : Subject → ℕ → List Line → Option Line → Refusal → Type 0
@@ -67,13 +67,14 @@ IsRefusedAfter subject steps good read refusal =
 -- the line leads from what is due to what is due behind it, with what the chains leave before and after
 abbrev pub LeadsOn : Problem → Evidence → Due → Line → Evidence → Due → Type 0
 LeadsOn q e due line e' due' =
-    (steps : ℕ) (good : List Line) → IsDue (subject_of [] q) steps e due good → IsDue (subject_of [] q) steps e' due' (good ++ line ∷ [])
+    (texts : List (List ℕ)) (steps : ℕ) (good : List Line) → IsDue (subject_of texts q) steps e due good
+    → IsDue (subject_of texts q) steps e' due' (good ++ line ∷ [])
 
 -- the line is refused where this is due
 abbrev pub RefusesWhere : Problem → Evidence → Due → Line → Stop → Type 0
 RefusesWhere q e due line stop =
-    (steps : ℕ) (good : List Line) → IsDue (subject_of [] q) steps e due good
-    → Tells (IsRefusedAfter (subject_of [] q) steps good (Some line)) stop
+    (texts : List (List ℕ)) (steps : ℕ) (good : List Line) → IsDue (subject_of texts q) steps e due good
+    → Tells (IsRefusedAfter (subject_of texts q) steps good (Some line)) stop
 
 -- the work goes on with the line, for the same program
 pub record GoesOn (w : Work) (line : Line) (w' : Work) : Type 0 where
