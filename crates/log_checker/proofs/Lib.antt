@@ -38,3 +38,5 @@ pub mod KeysInTurn
 pub mod DueRefusals
 pub mod SampleNames
 pub mod PassedOn
+pub mod DueSteps
+pub mod DueProblems

@@ -1,5 +1,5 @@
 -- The variables of a sample, one after another.
-use Rattle.std.proofs.Common.{◌≡◌, ℕ, zero, suc, ◌+◌, ◌<◌, ℤ, List, [], ◌∷◌, ◌++◌, map, take, length, ◌⊎◌, inl, inr, append_assoc, add-one, Option, Some, refl, sym, ◌∙◌, ap, subst, arith}
+use Rattle.std.proofs.Common.{◌≡◌, ℕ, zero, suc, ◌+◌, ◌<◌, ℤ, List, [], ◌∷◌, ◌++◌, map, take, length, ◌⊎◌, inl, inr, append_assoc, add-one, Option, Some, Bool, IsTrue, ◌↔◌, ◌^◌, All, unsigned_abs, refl, sym, ◌∙◌, ap, subst, arith}
 use Rattle.geo_points.specs.declared.ids.PointId.{PointId}
 use Rattle.geo_poly.specs.declared.variables.Var.{Var}
 use Rattle.geo_poly.specs.declared.variables.Var.TheVariants.{X, Y, T}
@@ -7,7 +7,14 @@ use Rattle.geo_terms.specs.declared.steps.Step.{Step}
 use Rattle.geo_terms.specs.declared.steps.Step.TheVariants.{Point}
 use Rattle.geo_logs.specs.Samples.{coordinates_from, parameters_from}
 use Rattle.std.specs.Prelude.{slice_get}
-use Rattle.log_checker.proofs.KeysInTurn.{same_or_below}
+use Rattle.std.specs.Ordering.{eq_by_cmp, is_eq}
+use Rattle.std.specs.declared.cmp.Ordering.{Ordering}
+use Rattle.std.specs.declared.cmp.Ordering.TheVariants.{Less, Equal, Greater}
+use Rattle.std.proofs.lemmas.List.Elements.{All-cons, All-nil}
+use Rattle.geo_poly.specs.Variables.{var_cmp}
+use Rattle.geo_poly.proofs.Orders.{var_order}
+use Rattle.proof_log.specs.Writable.{CanWriteValues}
+use Rattle.log_checker.proofs.KeysInTurn.{false_not, same_or_below}
 use Rattle.log_checker.proofs.Places.{At, first, none}
 
 -- the first items and one more
@@ -71,3 +78,25 @@ one_more_place xs ys i e h k l = go (same_or_below k i l)
     go : (k < i) ⊎ (k ≡ i) → slice_get xs k ≡ slice_get ys k
     go (inl lt) = h k lt
     go (inr same) = subst (λ n. slice_get xs n ≡ slice_get ys n) (sym same) e
+
+-- VARIABLES
+is_equal : (o : Ordering) → IsTrue (is_eq o) → o ≡ Equal
+is_equal Less h = absurd (false_not h)
+is_equal Equal h = refl
+is_equal Greater h = absurd (false_not h)
+
+-- the test of variables by their order
+pub same_by_cmp : (b : Bool) (v w : Var) → b ≡ eq_by_cmp var_cmp v w → IsTrue b ↔ (v ≡ w)
+same_by_cmp b v w e =
+    ((λ h. var_order.exact v w (is_equal (var_cmp v w) (sym e ∙ h))),
+    (λ s. e ∙ ap (λ u. is_eq (var_cmp v u)) (sym s) ∙ ap is_eq (var_order.self v)))
+
+-- values that can be written fit
+pub all_fit : (values : List (Var × ℤ)) → CanWriteValues values → All (λ (v : Var × ℤ). unsigned_abs v.1 < 2 ^ 127) values
+all_fit [] h = All-nil (λ (v : Var × ℤ). unsigned_abs v.1 < 2 ^ 127)
+all_fit (v ∷ values) h = All-cons (λ (w : Var × ℤ). unsigned_abs w.1 < 2 ^ 127) v values h.0.fits (all_fit values h.1)
+
+-- items at the same place of the same lists
+pub same_item : (xs ys : List Var) (i : ℕ) (v w : Var) → slice_get xs i ≡ Some v → slice_get ys i ≡ Some w → xs ≡ ys → v ≡ w
+same_item xs ys i v w at there e =
+    let q : ◌≡◌ {A = Option Var} (Some v) (Some w) = sym at ∙ ap (λ (zs : List Var). slice_get zs i) e ∙ there in cc

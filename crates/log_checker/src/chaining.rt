@@ -19,6 +19,7 @@ use elim_apply::Move;
 use geo_base::Budget;
 use geo_conditions::Problem;
 use geo_points::NoMemory;
+use geo_poly::lists::Vars;
 use geo_poly::{Poly, Var};
 use geo_terms::Steps;
 use proof_log::{Line, Verdict};
@@ -45,8 +46,7 @@ pub(crate) fn after_chain_line(
     if let Line::End = line {
         return after_end(problem, evidence, task, own, before);
     }
-    let known = evidence.known.items.as_slice();
-    let budget = &mut evidence.budget;
+    let Evidence { known, budget, .. } = evidence;
     let poly = after_step(alloc, &problem.steps, known, budget, &before, line)?;
     Ok(Due::Step { task, own, poly })
 }
@@ -55,7 +55,7 @@ pub(crate) fn after_chain_line(
 fn after_step(
     alloc: Global,
     steps: &Steps,
-    known: &[Var],
+    known: &Vars,
     budget: &mut Budget,
     before: &Poly,
     line: Line,

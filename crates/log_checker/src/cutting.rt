@@ -7,13 +7,14 @@ ghost use Rattle.log_checker.specs.Inner.Lines.{Tells};
 
 use crate::reasons::Reason;
 use crate::stops::Stop;
+use geo_poly::lists::Vars;
 use geo_poly::{Factor, Poly, Var};
 use std::alloc::Global;
 
 /// The polynomial after a cut line with this factor and this polynomial.
 pub(crate) fn after_cut(
     alloc: Global,
-    known: &[Var],
+    known: &Vars,
     before: &Poly,
     by: &Factor,
     poly: &Poly,
@@ -25,7 +26,7 @@ pub(crate) fn after_cut(
 {
     // From here on it is known that the factor is one.
     prove!(by.coef() != 0);
-    if !is_by_known(known, by) {
+    if !is_by_known(&known.items, by) {
         return Err(Stop::Rejected(Reason::WrongCut));
     }
     let Some(quotient) = before.divide(alloc, by)? else {

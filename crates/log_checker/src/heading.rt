@@ -1,6 +1,6 @@
 //! The headers of chains, and what is due behind a chain.
 
-ghost use Rattle.std.specs.Prelude.{◌≡◌, ◌+◌, ◌^◌, ◌<◌, ◌↔◌, ℕ, List, suc, IfErr, IfOk, IsTrue, length};
+ghost use Rattle.std.specs.Prelude.{◌≡◌, ◌+◌, ◌^◌, ◌<◌, ◌↔◌, ℕ, List, suc, IfErr, IfOk, IsTrue, Some, length, slice_get};
 ghost use Rattle.geo_logs.specs.Places.{before_line};
 ghost use Rattle.geo_terms.specs.Constructions.{Construction};
 ghost use Rattle.log_checker.specs.Checkers.{AreConditionsDue, AreGoalsDue, IsDue, subject_of};
@@ -56,7 +56,7 @@ pub(crate) fn after_condition_header(
     ensures refused { (e : Evidence)
         → IfErr result (RefusesWhere problem.now e (Due.Condition index) line.now) }
 {
-    let item = &problem.conditions.items[index];
+    let item = condition_at(problem, index);
     let task = condition_task(item, index, line)?;
     let term = item.term;
     Ok(Due::Start { task, term })
@@ -71,10 +71,26 @@ pub(crate) fn after_goal_header(problem: &Problem, index: usize, line: &Line) ->
     ensures refused { (e : Evidence)
         → IfErr result (RefusesWhere problem.now e (Due.Goal index) line.now) }
 {
-    let item = &problem.goals.items[index];
+    let item = goal_at(problem, index);
     let task = goal_task(item, index, line)?;
     let term = item.term;
     Ok(Due::Start { task, term })
+}
+
+/// The condition at this index.
+fn condition_at(problem: &Problem, index: usize) -> &Item
+    requires { index < length problem.now.conditions }
+    ensures { slice_get problem.now.conditions index ≡ Some result.now }
+{
+    &problem.conditions.items[index]
+}
+
+/// The goal at this index.
+fn goal_at(problem: &Problem, index: usize) -> &Item
+    requires { index < length problem.now.goals }
+    ensures { slice_get problem.now.goals index ≡ Some result.now }
+{
+    &problem.goals.items[index]
 }
 
 /// The chain that begins with the line, where it is that of the condition at this index.

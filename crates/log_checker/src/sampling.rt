@@ -83,7 +83,8 @@ fn are_variables_of(values: &[(Var, i128)], variables: &[Var]) -> bool
     }
     for i in 0..values.len() {
         let v = name_at(values, i);
-        if !is_at(variables, i, v) {
+        let w = variable_at(variables, i);
+        if !is_same(v, w) {
             return false;
         }
     }
@@ -98,10 +99,17 @@ fn name_at(values: &[(Var, i128)], i: usize) -> Var
     values[i].0
 }
 
-/// Whether this variable stands at the place.
-fn is_at(variables: &[Var], i: usize, v: Var) -> bool
+/// The variable at a place.
+fn variable_at(variables: &[Var], i: usize) -> Var
     requires { i < length variables.now }
-    ensures { IsTrue result ↔ (slice_get variables.now i ≡ Some v) }
+    ensures { slice_get variables.now i ≡ Some result }
 {
-    variables[i] == v
+    variables[i]
+}
+
+/// Whether both are the same variable.
+fn is_same(v: Var, w: Var) -> bool
+    ensures { IsTrue result ↔ (v ≡ w) }
+{
+    v == w
 }
