@@ -122,7 +122,7 @@ module _ (subject : Subject) (steps : ℕ) where
       (chain_stands d.before known listed d.first t d.item d.lines (in_chain known left q) d.due (inr (inr d.open_chain)))
 
   -- the header
-  pub start_due : (good : List Line) (known : List Var) (listed : List Terms) (left : ℕ) (t : Task) (item : Item) → IsTaskDue subject steps good known listed left t item
+  abbrev pub start_due : (good : List Line) (known : List Var) (listed : List Terms) (left : ℕ) (t : Task) (item : Item) → IsTaskDue subject steps good known listed left t item
       → IsStartDue subject steps (good ++ header_of subject steps t item ∷ []) known listed left t
   start_due good known listed left t item d = record { before = good; item = item; due = d; split = refl }
 

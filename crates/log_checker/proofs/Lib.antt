@@ -40,3 +40,5 @@ pub mod SampleNames
 pub mod PassedOn
 pub mod DueSteps
 pub mod DueProblems
+pub mod ProgramTexts
+pub mod JudgedNext

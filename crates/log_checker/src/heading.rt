@@ -1,6 +1,6 @@
 //! The headers of chains, and what is due behind a chain.
 
-ghost use Rattle.std.specs.Prelude.{◌≡◌, ◌+◌, ◌^◌, ◌<◌, ◌↔◌, ℕ, List, suc, IfErr, IfOk, IsTrue, Some, length, slice_get};
+ghost use Rattle.std.specs.Prelude.{◌≡◌, ◌<◌, ◌↔◌, ℕ, List, suc, IfErr, IfOk, IsTrue, Some, length, slice_get};
 ghost use Rattle.geo_logs.specs.Places.{before_line};
 ghost use Rattle.geo_terms.specs.Constructions.{Construction};
 ghost use Rattle.log_checker.specs.Checkers.{AreConditionsDue, AreGoalsDue, IsDue, subject_of};
@@ -95,7 +95,6 @@ fn goal_at(problem: &Problem, index: usize) -> &Item
 
 /// The chain that begins with the line, where it is that of the condition at this index.
 fn condition_task(item: &Item, index: usize, line: &Line) -> Result<Task, Stop>
-    requires { index + 1 < 2 ^ 64 }
     ensures task { IfOk result (λ t. t ≡ Task.Condition (suc index)) }
     ensures line { IfOk result (λ _. line.now ≡ Line.Condition (suc index) item.now.text) }
     ensures refused { (c : Construction) → IfErr result
@@ -115,7 +114,6 @@ fn condition_task(item: &Item, index: usize, line: &Line) -> Result<Task, Stop>
 
 /// The chain that begins with the line, where it is that of the goal at this index.
 fn goal_task(item: &Item, index: usize, line: &Line) -> Result<Task, Stop>
-    requires { index + 1 < 2 ^ 64 }
     ensures task { IfOk result (λ t. t ≡ Task.Goal (suc index)) }
     ensures line { IfOk result (λ _. line.now ≡ Line.Goal (suc index) item.now.text) }
     ensures refused { (c : Construction) → IfErr result
@@ -135,8 +133,7 @@ fn goal_task(item: &Item, index: usize, line: &Line) -> Result<Task, Stop>
 
 /// Whether the number and the text are those of the item at this index.
 fn is_head(item: &Item, index: usize, k: u32, text: &Text) -> bool
-    requires { index + 1 < 2 ^ 64 }
     ensures { IsTrue result ↔ ((k ≡ suc index) × (text.now ≡ item.now.text)) }
 {
-    k as u64 == index as u64 + 1 && text.bytes.as_slice() == item.text.bytes.as_slice()
+    k > 0 && k as u64 - 1 == index as u64 && text.bytes.as_slice() == item.text.bytes.as_slice()
 }

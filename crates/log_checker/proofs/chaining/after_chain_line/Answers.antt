@@ -1,6 +1,8 @@
 use Rattle.std.proofs.Common.{◌++◌, [], ◌∷◌, sym, subst}
+use Rattle.std.proofs.lemmas.Result.{IfOk-from_err}
+use Rattle.proof_log.specs.declared.log.Line.{Line}
 use Rattle.log_checker.specs.Checkers.{IsStepDue, subject_of}
-use Rattle.log_checker.specs.Inner.Lines.{RefusesWhere}
+use Rattle.log_checker.specs.Inner.Lines.{LeadsOn, RefusesWhere}
 use Rattle.log_checker.specs.declared.due.Due.TheVariants.{Step}
 use Rattle.log_checker.proofs.DueChains.{next_step_due}
 use Rattle.log_checker.proofs.DueProblems.{step_named}
@@ -16,7 +18,26 @@ after_step-requires c = record {
 }
 
 pub returns-in_err-poly : goal.returns-in_err-poly
-returns-in_err-poly c = ?
+returns-in_err-poly c =
+    let q = c.args.problem.now in
+    let e = c.args.evidence.now in
+    record {
+      goes = IfOk-from_err c.from_residual.result (LeadsOn q e (Step c.args.task c.args.own c.args.before) c.args.line (record e { budget = c.after_step.new.budget })) c.from_residual.ensures.0;
+      refused =
+          passed_on c.from_residual.result c.in_err-poly.field-0.0 (RefusesWhere q e (Step c.args.task c.args.own c.args.before) c.args.line) c.from_residual.ensures.1
+          (step_refused q e c.args.task c.args.own c.args.before c.args.line c.in_err-poly.field-0.0 c.in_err-poly.ensures.refused);
+    }
 
 pub returns : goal.returns
-returns c = ?
+returns c =
+    let q = c.args.problem.now in
+    let e = c.args.evidence.now in
+    let made = c.in_ok-poly.ensures.step in
+    record {
+      goes = λ texts steps good d.
+          let s = subject_of texts q in
+          let Due : Line → Type 0 = λ l. IsStepDue s steps (good ++ l ∷ []) e.known e.ends c.after_step.new.budget.left c.args.task c.args.own c.in_ok-poly.poly in
+          subst Due (sym made.is)
+          (next_step_due s steps good e.known e.ends e.budget.left c.after_step.new.budget.left c.args.task c.args.own c.args.before c.in_ok-poly.poly made.step d made.leads);
+      refused = tt;
+    }
