@@ -439,16 +439,37 @@ module _ (subject : Subject) (steps : ℕ) where
   }
 
   -- WHERE THE LOG STANDS
-  pub stands : (e : Evidence) (d : Due) (good : List Line) → IsDue subject steps e d good
-      → ((place : Place) × Good good place) ⊎ IsGoodToEnd lemma_table subject steps good
-  stands e (due.Condition index) good h =
-      let at = item_at subject.conditions index h.0 in
-      inl (before_line (ConditionLine (suc index) at.0.text), header_stands good e.known e.ends e.budget.left (task.Condition (suc index)) at.0 (index, refl, at.1, h.1))
-  stands e (due.Goal index) good h =
-      let at = item_at subject.goals index h.0 in
-      inl (before_line (GoalLine (suc index) at.0.text), header_stands good e.known e.ends e.budget.left (task.Goal (suc index)) at.0 (index, refl, at.1, h.1))
-  stands e (due.Start t term) good h = inl (before_start e.budget.left h.0.item.term, start_stands good e.known e.ends e.budget.left t h.0)
-  stands e (due.Step t own q) good h = inl (in_chain e.known e.budget.left q, step_stands good e.known e.ends e.budget.left t own q h)
-  stands e (due.Sample verdict) good h = inl (before_sample e.ends e.budget.left, sample_stands good e.ends verdict e.budget.left h)
-  stands e (due.Verdict verdict) good h = inl (before_line (VerdictLine verdict), h.stands)
-  stands e (due.Nothing verdict) good h = inr (verdict, e.budget.left, h)
+  -- before the verdict the log stands at a place
+  pub stands_open : (e : Evidence) (d : Due) (good : List Line) → ((v : Verdict) → d ≢ due.Nothing v) → IsDue subject steps e d good → (place : Place) × Good good place
+  stands_open e (due.Condition index) good n h =
+      let at = item_at subject.conditions index h.0 in (
+        before_line (ConditionLine (suc index) at.0.text),
+        header_stands good e.known e.ends e.budget.left (task.Condition (suc index)) at.0 (index, refl, at.1, h.1),
+      )
+  stands_open e (due.Goal index) good n h =
+      let at = item_at subject.goals index h.0 in (
+        before_line (GoalLine (suc index) at.0.text),
+        header_stands good e.known e.ends e.budget.left (task.Goal (suc index)) at.0 (index, refl, at.1, h.1),
+      )
+  stands_open e (due.Start t term) good n h = (before_start e.budget.left h.0.item.term, start_stands good e.known e.ends e.budget.left t h.0)
+  stands_open e (due.Step t own q) good n h = (in_chain e.known e.budget.left q, step_stands good e.known e.ends e.budget.left t own q h)
+  stands_open e (due.Sample verdict) good n h = (before_sample e.ends e.budget.left, sample_stands good e.ends verdict e.budget.left h)
+  stands_open e (due.Verdict verdict) good n h = (before_line (VerdictLine verdict), h.stands)
+  stands_open e (due.Nothing verdict) good n h = absurd (n verdict refl)
+
+  is_nothing : (d : Due) → ((v : Verdict) × (d ≡ due.Nothing v)) ⊎ ((v : Verdict) → d ≢ due.Nothing v)
+  is_nothing (due.Nothing v) = inl (v, refl)
+  is_nothing (due.Condition index) = inr (λ v (e : due.Condition index ≡ due.Nothing v). cc)
+  is_nothing (due.Goal index) = inr (λ v (e : due.Goal index ≡ due.Nothing v). cc)
+  is_nothing (due.Start t term) = inr (λ v (e : due.Start t term ≡ due.Nothing v). cc)
+  is_nothing (due.Step t own q) = inr (λ v (e : due.Step t own q ≡ due.Nothing v). cc)
+  is_nothing (due.Sample w) = inr (λ v (e : due.Sample w ≡ due.Nothing v). cc)
+  is_nothing (due.Verdict w) = inr (λ v (e : due.Verdict w ≡ due.Nothing v). cc)
+
+  -- at a place, or behind the verdict
+  pub stands : (e : Evidence) (d : Due) (good : List Line) → IsDue subject steps e d good → ((place : Place) × Good good place) ⊎ IsGoodToEnd lemma_table subject steps good
+  stands e d good h = go (is_nothing d)
+    where
+      go : ((v : Verdict) × (d ≡ due.Nothing v)) ⊎ ((v : Verdict) → d ≢ due.Nothing v) → ((place : Place) × Good good place) ⊎ IsGoodToEnd lemma_table subject steps good
+      go (inl (v, is)) = inr (v, e.budget.left, subst (λ x. IsDue subject steps e x good) is h)
+      go (inr n) = inl (stands_open e d good n h)

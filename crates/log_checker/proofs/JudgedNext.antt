@@ -84,7 +84,7 @@ module _ (w : Work) (steps : ℕ) where
     number_there : suc (length lines) ≡ number_after lemma_table subject steps good
     number_there = ap (λ ls. suc (length ls)) is ∙ ap suc (length-append (first_lines subject) good)
 
-    subject_there : IsSubjectOf p subject
+    pub subject_there : IsSubjectOf p subject
     subject_there = about p w.problem at.problem
 
     refused_first : (read : Option Line) (more : List (Option Line)) (number : ℕ) (refusal : Refusal) → number ≡ suc (length lines) → IsRefusedAfter subject steps good read refusal
@@ -144,7 +144,7 @@ module _ (w : Work) (steps : ℕ) where
         none_read [] n none = n refl
         none_read (l ∷ ls) n none = let q : ◌≡◌ {A = List (Option Line)} (Some l ∷ map Some ls) [] = none in cc
 
-    pub accepted_work : (verdict : Verdict) → IsWhole subject steps good verdict w.evidence.budget.left → IsAcceptedLog p steps lines verdict
+    abbrev pub accepted_work : (verdict : Verdict) → IsWhole subject steps good verdict w.evidence.budget.left → IsAcceptedLog p steps lines verdict
     accepted_work verdict whole = record {
       well_formed = at.well_formed;
       subject = subject;

@@ -42,3 +42,4 @@ pub mod DueSteps
 pub mod DueProblems
 pub mod ProgramTexts
 pub mod JudgedNext
+pub mod JudgedAnswers

@@ -1,11 +1,12 @@
 //! One line more, and the end of a log.
 
-ghost use Rattle.std.specs.Prelude.{◌≡◌, ◌≢◌, ℕ, List, [], ◌∷◌, ◌++◌, ◌+◌, ◌≤◌, suc, IfErr, IfOk, IfSome, OnOk, length};
+ghost use Rattle.std.specs.Prelude.{◌≡◌, ◌≢◌, ℕ, List, [], ◌∷◌, ◌++◌, ◌+◌, ◌≤◌, suc, IfErr, IfOk, IfSome, None, OnOk, Some, length};
 ghost use Rattle.geo_program.specs.CanonicalText.{canonical_text};
 ghost use Rattle.geo_program.specs.Programs.{source_of};
 ghost use Rattle.log_checker.specs.Checked.{TellsStop};
 ghost use Rattle.log_checker.specs.Checkers.{IsAtWork, IsLeftBy};
-ghost use Rattle.log_checker.specs.Inner.Judged.{GoesOnWith, IsAnswerOf, IsNextState, IsNoProgram, IsReachedState, IsRefusedWork, Leaves, StopsNext, StopsThere};
+ghost use Rattle.log_checker.specs.Inner.Judged.{GoesOnWith, IsAnswerOf, IsRefusedBehind, IsNextState, IsNoProgram, IsReachedState, IsRefusedWork, Leaves, StopsNext, StopsThere};
+ghost use Rattle.log_checker.specs.Inner.Lines.{GoesOn};
 ghost use Rattle.log_checker.specs.Judged.{IsRead};
 ghost use Rattle.proof_log.specs.Writable.{IsWritable};
 ghost use Rattle.proof_log.specs.declared.log.Line.{Line};
@@ -132,9 +133,25 @@ fn after_work(
     ensures refused { (steps : ℕ) (good : List Line) → IsAtWork work steps good
         → IfErr result (TellsStop (IsRefusedWork work steps good read number)) }
 {
-    let Some(line) = read else {
-        return Err(Stop::Rejected(Reason::BadLine).at(number));
-    };
+    match read {
+        Some(line) => after_work_line(alloc, number, work, line),
+        None => Err(Stop::Rejected(Reason::BadLine).at(number)),
+    }
+}
+
+/// The work behind the line of this number.
+fn after_work_line(
+    alloc: Global,
+    number: u64,
+    work: Work,
+    line: Line,
+) -> Result<Work, CheckError>
+    requires reached { (steps : ℕ) × (good : List Line) × IsAtWork work steps good }
+    requires writable { IsWritable line }
+    ensures goes { IfOk result (GoesOn work line) }
+    ensures refused { (steps : ℕ) (good : List Line) → IsAtWork work steps good
+        → IfErr result (TellsStop (IsRefusedWork work steps good (Some line) number)) }
+{
     match work_after(alloc, work, line) {
         Ok(work) => Ok(work),
         Err(stop) => Err(stop.at(number)),
@@ -154,7 +171,8 @@ pub(crate) fn answer_at_end(state: State, steps: u64, count: u64) -> Result<Acce
     match state {
         State::Work(work) => answer_of_work(work, steps, count),
         State::Failed(error) => Err(error),
-        State::Empty | State::Program(_) => Err(unfinished(count)),
+        State::Empty => Err(unfinished(count)),
+        State::Program(_) => Err(unfinished(count)),
     }
 }
 
@@ -201,10 +219,26 @@ pub(crate) fn refusal_of_rest(alloc: Global, steps: u64, number: u64, state: Sta
 {
     match state {
         State::Failed(error) => error,
-        State::Program(program) => match tested_program(alloc, &program, steps) {
-            Ok(_) => Stop::Rejected(Reason::BadLine).at(number),
-            Err(error) => error,
-        },
-        State::Empty | State::Work(_) => Stop::Rejected(Reason::BadLine).at(number),
+        State::Empty => bad_line(number),
+        State::Program(program) => refusal_behind_program(alloc, steps, number, &program),
+        State::Work(_) => bad_line(number),
+    }
+}
+
+/// The error of bytes that are no line, as the line of this number.
+fn bad_line(number: u64) -> CheckError
+    ensures { result ≡ CheckError.Rejected number 21 }
+{
+    Stop::Rejected(Reason::BadLine).at(number)
+}
+
+/// The answer where bytes without a line feed follow the lines of the program.
+fn refusal_behind_program(alloc: Global, steps: u64, number: u64, program: &[u8]) -> CheckError
+    requires { length program.now ≤ 67108864 }
+    ensures { TellsStop (IsRefusedBehind program.now steps number) result }
+{
+    match tested_program(alloc, program, steps) {
+        Ok(_) => bad_line(number),
+        Err(error) => error,
     }
 }

@@ -1,12 +1,12 @@
 -- What the code answers of a line or of a rest, where a state is what some lines leave.
-use Rattle.std.specs.Prelude.{◌≡◌, ◌≢◌, ℕ, ◌+◌, ◌≤◌, Option, Some, List, [], ◌∷◌, ◌++◌, length, map}
+use Rattle.std.specs.Prelude.{◌≡◌, ◌≢◌, ℕ, ◌+◌, ◌≤◌, ◌⊎◌, Option, Some, List, [], ◌∷◌, ◌++◌, length, map}
 use Rattle.geo_program.specs.CanonicalText.{canonical_text}
 use Rattle.geo_program.specs.Programs.{source_of}
 use Rattle.geo_program.specs.WellFormed.{IsWellFormed, Source}
 use Rattle.proof_log.specs.declared.log.Line.{Line}
 use Rattle.proof_log.specs.Lines.{log_text}
 use Rattle.proof_log.specs.Writable.{AllWritable}
-use Rattle.geo_logs.specs.Judging.{Refusal, rejected, wrong_program}
+use Rattle.geo_logs.specs.Judging.{Refusal, bad_line, rejected, wrong_program}
 use Rattle.log_checker.specs.Checkers.{IsAtWork, IsLeftBy, subject_of}
 use Rattle.log_checker.specs.Inner.Lines.{GoesOn, IsRefusedAfter}
 use Rattle.log_checker.specs.Judged.{IsFirstStop}
@@ -58,6 +58,13 @@ pub record IsNoProgram (bytes : List ℕ) (n : ℕ) (refusal : Refusal) : Type 0
   pub at : n ≡ 2
   pub refused : refusal ≡ rejected wrong_program
   pub none : (p : Source) → IsWellFormed p → canonical_text p ≢ bytes
+
+-- the bytes are the text of no program; or of one, and a bad line is refused behind it
+abbrev pub IsRefusedBehind : List ℕ → ℕ → ℕ → ℕ → Refusal → Type 0
+IsRefusedBehind bytes steps number n refusal =
+    IsNoProgram bytes n refusal
+    ⊎ ((n ≡ number) × (refusal ≡ rejected bad_line)
+    × ((w : Work) × (canonical_text (source_of w.program) ≡ bytes) × IsAtWork w steps []))
 
 -- the answer is that of the accepted lines
 pub record IsAnswerOf (steps : ℕ) (lines : List Line) (answer : Accepted) : Type 0 where
