@@ -56,7 +56,7 @@ split_read texts good more =
     let lines : map Some (map ProgramLine texts ++ good) ≡ programs texts ++ map Some good = map-append (λ (l : Line). Some l) (map ProgramLine texts) good ∙ ap (λ rs. rs ++ map Some good) (programs_read texts) in
     ap (λ rs. Some Header ∷ (rs ++ more)) lines ∙ ap (λ rs. Some Header ∷ rs) (append_assoc (programs texts) (map Some good) more)
 
-begins : (texts : List (List ℕ)) (good : List Line) (more : List (Option Line)) → IsProgramOver (map Some good ++ more)
+abbrev begins : (texts : List (List ℕ)) (good : List Line) (more : List (Option Line)) → IsProgramOver (map Some good ++ more)
     → BeginsWithProgram (map Some (Header ∷ map ProgramLine texts ++ good) ++ more)
 begins texts good more over = record { texts = texts; rest = map Some good ++ more; split = split_read texts good more; over = over }
 
@@ -171,7 +171,8 @@ unfinished_program steps texts lines number is e =
 -- GOING ON
 over_more : (good : List Line) (more : List (Option Line)) → good ≢ [] → IsProgramOver (map Some good) → IsProgramOver (map Some good ++ more)
 over_more [] more n h = absurd (n refl)
-over_more (g ∷ good) more n h = h
+over_more (ProgramLine text ∷ good) more n h = absurd h
+over_more (g ∷ good) more n h = tt
 
 pub over_behind : (good : List Line) → good ≢ [] → IsProgramOver (map Some good) → (read : Option Line) (more : List (Option Line)) → IsProgramOver (map Some good ++ read ∷ more)
 over_behind good n h read more = over_more good (read ∷ more) n h

@@ -5,7 +5,7 @@ ghost use Rattle.geo_program.specs.CanonicalText.{canonical_text};
 ghost use Rattle.geo_program.specs.Programs.{source_of};
 ghost use Rattle.log_checker.specs.Checked.{TellsStop};
 ghost use Rattle.log_checker.specs.Checkers.{IsAtWork, IsLeftBy};
-ghost use Rattle.log_checker.specs.Inner.Judged.{GoesOnWith, IsAnswerOf, IsRefusedBehind, IsNextState, IsNoProgram, IsReachedState, IsRefusedWork, Leaves, StopsNext, StopsThere};
+ghost use Rattle.log_checker.specs.Inner.Judged.{BeginsWith, GoesOnWith, IsAnswerOf, IsFirstRefused, IsNextState, IsNoProgram, IsReachedState, IsRefusedWork, Leaves, StopsNext, StopsThere};
 ghost use Rattle.log_checker.specs.Inner.Lines.{GoesOn};
 ghost use Rattle.log_checker.specs.Judged.{IsRead};
 ghost use Rattle.proof_log.specs.Writable.{IsWritable};
@@ -79,7 +79,7 @@ fn after_program(
     alloc: Global,
     steps: u64,
     number: u64,
-    mut program: Vec<u8>,
+    program: Vec<u8>,
     read: Option<Line>,
 ) -> Result<State, CheckError>
     requires reached { IsReachedState steps (State.Program program) }
@@ -90,12 +90,58 @@ fn after_program(
         → number ≡ suc (length lines)
         → IfErr result (TellsStop (StopsNext steps lines read)) }
 {
-    if let Some(Line::Program(text)) = read {
-        push_line(&mut program, &text.bytes)?;
-        return Ok(State::Program(program));
+    match read {
+        Some(line) => after_program_line(alloc, steps, number, program, line),
+        None => {
+            let work = behind_program(alloc, steps, number, &program, None)?;
+            Ok(State::Work(work))
+        }
     }
-    let work = tested_program(alloc, &program, steps)?;
-    Ok(State::Work(after_work(alloc, number, work, read)?))
+}
+
+/// The state behind a line that follows these lines of the program.
+fn after_program_line(
+    alloc: Global,
+    steps: u64,
+    number: u64,
+    mut program: Vec<u8>,
+    line: Line,
+) -> Result<State, CheckError>
+    requires reached { IsReachedState steps (State.Program program) }
+    requires writable { IsWritable line }
+    ensures goes { (lines : List Line) → Leaves steps lines (State.Program program)
+        → IfOk result (IsNextState steps lines (Some line)) }
+    ensures refused { (lines : List Line) → Leaves steps lines (State.Program program)
+        → number ≡ suc (length lines)
+        → IfErr result (TellsStop (StopsNext steps lines (Some line))) }
+{
+    match line {
+        Line::Program(text) => {
+            push_line(&mut program, &text.bytes)?;
+            Ok(State::Program(program))
+        }
+        line => {
+            let work = behind_program(alloc, steps, number, &program, Some(line))?;
+            Ok(State::Work(work))
+        }
+    }
+}
+
+/// The work behind what is read, as the line of this number, behind the program with this text.
+fn behind_program(
+    alloc: Global,
+    steps: u64,
+    number: u64,
+    program: &[u8],
+    read: Option<Line>,
+) -> Result<Work, CheckError>
+    requires fits { length program.now ≤ 67108864 }
+    requires writable { IfSome read IsWritable }
+    ensures goes { IfOk result (BeginsWith program.now steps read) }
+    ensures refused { IfErr result (TellsStop (IsFirstRefused program.now steps read number)) }
+{
+    let work = tested_program(alloc, program, steps)?;
+    after_work(alloc, number, work, read)
 }
 
 /// Adds a line with its line feed.
@@ -235,10 +281,10 @@ fn bad_line(number: u64) -> CheckError
 /// The answer where bytes without a line feed follow the lines of the program.
 fn refusal_behind_program(alloc: Global, steps: u64, number: u64, program: &[u8]) -> CheckError
     requires { length program.now ≤ 67108864 }
-    ensures { TellsStop (IsRefusedBehind program.now steps number) result }
+    ensures { TellsStop (IsFirstRefused program.now steps None number) result }
 {
-    match tested_program(alloc, program, steps) {
-        Ok(_) => bad_line(number),
+    match behind_program(alloc, steps, number, program, None) {
+        Ok(_) => unreachable!(),
         Err(error) => error,
     }
 }

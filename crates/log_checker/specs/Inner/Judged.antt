@@ -6,7 +6,7 @@ use Rattle.geo_program.specs.WellFormed.{IsWellFormed, Source}
 use Rattle.proof_log.specs.declared.log.Line.{Line}
 use Rattle.proof_log.specs.Lines.{log_text}
 use Rattle.proof_log.specs.Writable.{AllWritable}
-use Rattle.geo_logs.specs.Judging.{Refusal, bad_line, rejected, wrong_program}
+use Rattle.geo_logs.specs.Judging.{Refusal, rejected, wrong_program}
 use Rattle.log_checker.specs.Checkers.{IsAtWork, IsLeftBy, subject_of}
 use Rattle.log_checker.specs.Inner.Lines.{GoesOn, IsRefusedAfter}
 use Rattle.log_checker.specs.Judged.{IsFirstStop}
@@ -59,12 +59,21 @@ pub record IsNoProgram (bytes : List ℕ) (n : ℕ) (refusal : Refusal) : Type 0
   pub refused : refusal ≡ rejected wrong_program
   pub none : (p : Source) → IsWellFormed p → canonical_text p ≢ bytes
 
--- the bytes are the text of no program; or of one, and a bad line is refused behind it
-abbrev pub IsRefusedBehind : List ℕ → ℕ → ℕ → ℕ → Refusal → Type 0
-IsRefusedBehind bytes steps number n refusal =
-    IsNoProgram bytes n refusal
-    ⊎ ((n ≡ number) × (refusal ≡ rejected bad_line)
-    × ((w : Work) × (canonical_text (source_of w.program) ≡ bytes) × IsAtWork w steps []))
+-- a work of the program with this text, where no line came behind it
+pub record IsBegunWork (bytes : List ℕ) (steps : ℕ) (w : Work) : Type 0 where
+  pub text : canonical_text (source_of w.program) ≡ bytes
+  pub begun : IsAtWork w steps []
+
+-- the first line behind the program is refused: the bytes are the text of no program, or the work refuses it
+abbrev pub IsFirstRefused : List ℕ → ℕ → Option Line → ℕ → ℕ → Refusal → Type 0
+IsFirstRefused bytes steps read number n refusal =
+    IsNoProgram bytes n refusal ⊎ ((w : Work) × IsBegunWork bytes steps w × IsRefusedWork w steps [] read number n refusal)
+
+-- what was read is a line, with which the work begins
+pub record BeginsWith (bytes : List ℕ) (steps : ℕ) (read : Option Line) (w' : Work) : Type 0 where
+  pub work : Work
+  pub begun : IsBegunWork bytes steps work
+  pub goes : GoesOnWith work read w'
 
 -- the answer is that of the accepted lines
 pub record IsAnswerOf (steps : ℕ) (lines : List Line) (answer : Accepted) : Type 0 where

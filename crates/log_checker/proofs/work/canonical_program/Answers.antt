@@ -1,4 +1,4 @@
-use Rattle.std.proofs.Common.{◌≡◌, ap, sym, ◌∙◌, rules, refl, Err}
+use Rattle.std.proofs.Common.{◌≡◌, ap, ◌∙◌, rules, Err}
 use Rattle.geo_program.specs.CanonicalText.{canonical_text}
 use Rattle.geo_program.specs.Programs.{source_of}
 use Rattle.log_checker.proofs.ProgramTexts.{differs, not_spelt}
@@ -10,5 +10,6 @@ returns-in-Err-Syntax-clause-refused c =
 
 pub returns-then-ne-clause-refused : goal.returns-then-ne-clause-refused
 returns-then-ne-clause-refused c =
-    let text : c.as_slice.result.now ≡ c.in_ok-text.text = search rules in
-    differs c.args.bytes.now (source_of c.in-Ok.program) c.in-Ok.ensures.spelt (λ e. ?)
+    let text : c.as_slice.result.now ≡ canonical_text (source_of c.in-Ok.program) = search rules in
+    differs c.args.bytes.now (source_of c.in-Ok.program) c.in-Ok.ensures.spelt
+    (λ (e : canonical_text (source_of c.in-Ok.program) ≡ c.args.bytes.now). let same : c.as_slice.result.now ≡ c.args.bytes.now = text ∙ e in search rules)
