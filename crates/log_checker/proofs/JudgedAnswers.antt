@@ -103,6 +103,11 @@ first_goes steps lines program line w' leaves other h = go leaves.left
           left = first_next steps texts h.work w' lines line is there other h.begun.begun (subst (λ l. GoesOn h.work l w') same h.goes.goes);
         }
 
+-- no program goes on with another line
+pub over_line : (line : Line) (more : List (Option Line)) → ((text : List ℕ) → line ≢ ProgramLine text) → IsProgramOver (Some line ∷ more)
+over_line (ProgramLine text) more n = absurd (n text refl)
+over_line line more n = tt
+
 -- nothing goes on with what is no line
 pub none_begins : (bytes : List ℕ) (steps : ℕ) (w' : Work) → BeginsWith bytes steps None w' → ⊥
 none_begins bytes steps w' h = let q : ◌≡◌ {A = Option Line} None (Some h.goes.line) = h.goes.is_read in cc

@@ -164,13 +164,14 @@ pub record CheckerValue : Type 0 where
   pub lines : ℕ
   pub state : State
 
+-- the error of a failed state
+abbrev pub failure_of : State → Option CheckError
+failure_of (state.Failed error) = Some error
+failure_of _ = None
+
 -- the error after which it answers nothing else
 abbrev pub error_of : CheckerValue → Option CheckError
 error_of checker = failure_of checker.state
-  where
-    failure_of : State → Option CheckError
-    failure_of (state.Failed error) = Some error
-    failure_of _ = None
 
 -- it has taken these pieces, each with a line feed: they are the texts of lines, which leave what it keeps
 pub record StandsFor (checker : CheckerValue) (pieces : List (List ℕ)) : Type 0 where

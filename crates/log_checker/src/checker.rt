@@ -2,7 +2,7 @@
 
 use crate::accepted::Accepted;
 use crate::errors::CheckError;
-use crate::judging::{answer_at_end, line_of, refusal_of_rest, state_after};
+use crate::judging::{answer_at_end, judged, refusal_of_rest};
 use crate::state::State;
 use geo_points::NoMemory;
 use std::alloc::Global;
@@ -70,6 +70,9 @@ impl Checker {
         ensures kept { OnErr result (self.new.taken ≡ self.old.taken) }
         ensures steps { self.new.steps ≡ self.old.steps }
     {
+        if let Some(error) = self.state.failure() {
+            return Err(error);
+        }
         let state = mem::replace(&mut self.state, State::Failed(CheckError::NoMemory));
         match judged(self.alloc, self.steps, self.lines + 1, state, line) {
             Ok(state) => {
@@ -109,19 +112,4 @@ impl Checker {
             Err(refusal_of_rest(alloc, steps, lines + 1, state))
         }
     }
-}
-
-/// The state behind the line of this number.
-fn judged(
-    alloc: Global,
-    steps: u64,
-    number: u64,
-    state: State,
-    line: &[u8],
-) -> Result<State, CheckError> {
-    if let State::Failed(error) = state {
-        return Err(error);
-    }
-    let read = line_of(alloc, line)?;
-    state_after(alloc, steps, number, state, read)
 }

@@ -1,6 +1,6 @@
 //! A whole log.
 
-ghost use Rattle.std.specs.Prelude.{◌≤◌, IfErr, IfOk, length};
+ghost use Rattle.std.specs.Prelude.{◌≡◌, ◌==◌, ◌≤◌, IfErr, IfOk, length, position};
 ghost use Rattle.geo_program.specs.Programs.{source_of};
 ghost use Rattle.log_checker.specs.Accepted.{BytesMean};
 ghost use Rattle.log_checker.specs.Checked.{IsAnswer, IsRefusedLog, TellsStop};
@@ -19,12 +19,17 @@ pub fn check(alloc: Global, bytes: &[u8], steps: u64) -> Result<Accepted, CheckE
     ensures refused { IfErr result (TellsStop (IsRefusedLog bytes.now steps)) }
 {
     let mut checker = Checker::new(alloc, steps)?;
-    let mut begin = 0;
-    for at in 0..bytes.len() {
-        if bytes[at] == b'\n' {
-            checker.take(&bytes[begin..at])?;
-            begin = at + 1;
-        }
+    let mut rest = bytes;
+    while let Some(at) = line_feed_at(rest) {
+        checker.take(&rest[..at])?;
+        rest = &rest[at + 1..];
     }
-    checker.finish(&bytes[begin..])
+    checker.finish(rest)
+}
+
+/// Where the first line feed stands.
+fn line_feed_at(bytes: &[u8]) -> Option<usize>
+    ensures { result ≡ position (λ b. b == 10) bytes.now }
+{
+    bytes.iter().position(|b| *b == b'\n')
 }

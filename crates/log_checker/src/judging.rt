@@ -5,7 +5,8 @@ ghost use Rattle.geo_program.specs.CanonicalText.{canonical_text};
 ghost use Rattle.geo_program.specs.Programs.{source_of};
 ghost use Rattle.log_checker.specs.Checked.{TellsStop};
 ghost use Rattle.log_checker.specs.Checkers.{IsAtWork, IsLeftBy};
-ghost use Rattle.log_checker.specs.Inner.Judged.{BeginsWith, GoesOnWith, IsAnswerOf, IsFirstRefused, IsNextState, IsNoProgram, IsReachedState, IsRefusedWork, Leaves, StopsNext, StopsThere};
+ghost use Rattle.log_checker.specs.Inner.Judged.{BeginsWith, GoesOnWith, IsAnswerOf, IsFirstRefused, IsNextPiece, IsNextState, IsNoProgram};
+ghost use Rattle.log_checker.specs.Inner.Judged.{IsReachedState, IsRefusedWork, Leaves, StopsAtPiece, StopsNext, StopsThere};
 ghost use Rattle.log_checker.specs.Inner.Lines.{GoesOn};
 ghost use Rattle.log_checker.specs.Judged.{IsRead};
 ghost use Rattle.proof_log.specs.Writable.{IsWritable};
@@ -23,8 +24,26 @@ use geo_points::NoMemory;
 use proof_log::{Line, LineError, read_line};
 use std::alloc::Global;
 
+/// The state behind the line of this number, which has these bytes.
+pub(crate) fn judged(
+    alloc: Global,
+    steps: u64,
+    number: u64,
+    state: State,
+    line: &[u8],
+) -> Result<State, CheckError>
+    requires { IsReachedState steps state }
+    ensures goes { (lines : List Line) → Leaves steps lines state
+        → IfOk result (IsNextPiece steps lines line.now) }
+    ensures refused { (lines : List Line) → Leaves steps lines state → number ≡ suc (length lines)
+        → IfErr result (TellsStop (StopsAtPiece steps lines line.now)) }
+{
+    let read = line_of(alloc, line)?;
+    state_after(alloc, steps, number, state, read)
+}
+
 /// The line with this text; `None` where there is none.
-pub(crate) fn line_of(alloc: Global, bytes: &[u8]) -> Result<Option<Line>, NoMemory>
+fn line_of(alloc: Global, bytes: &[u8]) -> Result<Option<Line>, NoMemory>
     ensures { IfOk result (IsRead bytes.now) }
 {
     match read_line(alloc, bytes) {
@@ -35,7 +54,7 @@ pub(crate) fn line_of(alloc: Global, bytes: &[u8]) -> Result<Option<Line>, NoMem
 }
 
 /// The state behind what is read as the line of this number.
-pub(crate) fn state_after(
+fn state_after(
     alloc: Global,
     steps: u64,
     number: u64,

@@ -15,3 +15,18 @@ pub(crate) enum State {
     /// A line was refused, or memory ran out.
     Failed(CheckError),
 }
+
+impl State {
+    ghost use Rattle.std.specs.Prelude.{◌≡◌};
+    ghost use Rattle.log_checker.specs.Checkers.{failure_of};
+
+    /// The error, where it has failed.
+    pub fn failure(&self) -> Option<CheckError>
+        ensures { result ≡ failure_of self.now }
+    {
+        match self {
+            State::Failed(error) => Some(*error),
+            State::Empty | State::Program(_) | State::Work(_) => None,
+        }
+    }
+}

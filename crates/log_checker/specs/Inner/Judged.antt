@@ -4,12 +4,12 @@ use Rattle.geo_program.specs.CanonicalText.{canonical_text}
 use Rattle.geo_program.specs.Programs.{source_of}
 use Rattle.geo_program.specs.WellFormed.{IsWellFormed, Source}
 use Rattle.proof_log.specs.declared.log.Line.{Line}
-use Rattle.proof_log.specs.Lines.{log_text}
-use Rattle.proof_log.specs.Writable.{AllWritable}
+use Rattle.proof_log.specs.Lines.{line_text, log_text}
+use Rattle.proof_log.specs.Writable.{AllWritable, IsWritable}
 use Rattle.geo_logs.specs.Judging.{Refusal, rejected, wrong_program}
 use Rattle.log_checker.specs.Checkers.{IsAtWork, IsLeftBy, subject_of}
 use Rattle.log_checker.specs.Inner.Lines.{GoesOn, IsRefusedAfter}
-use Rattle.log_checker.specs.Judged.{IsFirstStop}
+use Rattle.log_checker.specs.Judged.{IsFirstStop, IsRead}
 use Rattle.log_checker.specs.Laws.{IsAcceptedLog}
 use Rattle.log_checker.specs.Subjects.{source_lines}
 use Rattle.log_checker.specs.declared.accepted.Accepted.{Accepted}
@@ -80,3 +80,16 @@ pub record IsAnswerOf (steps : ℕ) (lines : List Line) (answer : Accepted) : Ty
   pub accepted : IsAcceptedLog (source_of answer.program) steps lines answer.verdict
   pub counted : answer.lines ≡ length lines
   pub charged : answer.charge + accepted.left ≡ steps
+
+-- the piece is the text of a line, with which the lines leave this state
+pub record IsNextPiece (steps : ℕ) (lines : List Line) (piece : List ℕ) (state : State) : Type 0 where
+  pub line : Line
+  pub writable : IsWritable line
+  pub text : line_text line ≡ piece
+  pub left : IsLeftBy steps state (lines ++ line ∷ [])
+
+-- what is read of the piece stops behind the lines
+pub record StopsAtPiece (steps : ℕ) (lines : List Line) (piece : List ℕ) (number : ℕ) (refusal : Refusal) : Type 0 where
+  pub read : Option Line
+  pub is_read : IsRead piece read
+  pub stops : StopsNext steps lines read number refusal

@@ -1,4 +1,6 @@
-use Rattle.std.proofs.Common.{subst, sym}
+use Rattle.std.proofs.Common.{◌≡◌, suc, List, [], length, subst, sym, ap, ◌∙◌}
+use Rattle.std.specs.Result.{IfErr}
+use Rattle.proof_log.specs.declared.log.Line.{Line}
 use Rattle.log_checker.specs.Checked.{TellsStop}
 use Rattle.log_checker.specs.Inner.Judged.{Leaves, StopsNext}
 use Rattle.log_checker.proofs.JudgedAnswers.{next_tells, work_goes}
@@ -13,7 +15,10 @@ returns-in_err-after_work-in-Work-clause-refused c = λ lines leaves count.
     (λ good there. c.in_err-after_work-in-Work.ensures.refused c.args.steps good there))
 
 pub returns-in-Empty-clause-refused : goal.returns-in-Empty-clause-refused
-returns-in-Empty-clause-refused c = ?
+returns-in-Empty-clause-refused c = λ lines leaves count.
+    let empty : lines ≡ [] = (subst (Leaves c.args.steps lines) c.in-Empty.is leaves).left in
+    let Tells : List Line → Type 0 = λ ls. IfErr c.after_header.result (TellsStop (StopsNext c.args.steps ls c.args.read)) in
+    subst Tells (sym empty) (c.after_header.ensures.refused c.args.steps (count ∙ ap (λ ls. suc (length ls)) empty))
 
 pub returns-in_ok-after_work-in-Work-clause-goes : goal.returns-in_ok-after_work-in-Work-clause-goes
 returns-in_ok-after_work-in-Work-clause-goes c = λ lines leaves.
