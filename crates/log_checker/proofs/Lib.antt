@@ -43,3 +43,5 @@ pub mod DueProblems
 pub mod ProgramTexts
 pub mod JudgedNext
 pub mod JudgedAnswers
+pub mod CheckerSteps
+pub mod FirstFeeds
