@@ -1,9 +1,11 @@
 //! A move on a polynomial.
 
-ghost use Rattle.std.specs.Prelude.{◌≡◌, ◌≢◌, ◌-◌, ◌^◌, ◌<◌, ◌≤◌, ◌⊎◌, [], IfNone, IfOk, IfSome, IsErrOf, OnOk, length};
+ghost use Rattle.std.specs.Prelude.{◌≡◌, ◌≢◌, ◌-◌, ◌^◌, ◌<◌, ◌≤◌, ◌⊎◌, [], IfNone, IfOk, IfSome};
+ghost use Rattle.std.specs.Prelude.{IsErrOf, OnOk, length};
 ghost use Rattle.std.specs.List.{filter_map};
 ghost use Rattle.elim_apply.specs.LemmaTable.{lemma_table};
-ghost use Rattle.geo_logs.specs.Moves.{IsMoved, IsMoveStopped, move_charge, place_of, replacement, spent, too_large};
+ghost use Rattle.geo_logs.specs.Moves.{IsMoved, IsMoveStopped, move_charge, place_of, replacement};
+ghost use Rattle.geo_logs.specs.Moves.{spent, too_large};
 ghost use Rattle.elim_apply.specs.Multiples.{IsMultiple};
 ghost use Rattle.geo_logs.specs.Naming.{IsPlaceBelow, IsPlaceMet};
 ghost use Rattle.elim_apply.specs.Inner.Sizes.{IsSizeOf};
@@ -17,17 +19,18 @@ ghost use Rattle.geo_poly.specs.Replace.{replaced_by, replaced_degree, replaced_
 
 use crate::errors::ApplyError;
 use crate::limits::LineSize;
-use geo_logs::Move;
 use crate::numbered::{NumberedRow, made_rows, numbered_rows};
 use crate::sizes::size_of_line;
 use crate::variables::variables_of;
 use geo_base::Budget;
+use geo_logs::Move;
 use geo_points::NoMemory;
 use geo_poly::{Poly, PolyError, Which};
 use geo_terms::Steps;
 use std::alloc::Global;
 
-/// The polynomial after a move: the variables that have a row are replaced at once, and the whole is
+/// The polynomial after a move: the variables that have a row are replaced at once, and the whole
+/// is
 /// multiplied by the denominator as often as the monomial that needs it most. The charge of the
 /// line, its weight and its degree are tested in this order, before anything is multiplied out. The
 /// charge is spent as soon as it is within the budget.

@@ -1,7 +1,8 @@
 //! The rows that a move has for the variables of a polynomial: first their numbers, and then the
 //! rows.
 
-ghost use Rattle.std.specs.Prelude.{◌≡◌, ◌≢◌, ◌<◌, [], All, IfOk, IfSome, IsSomeAnd, length, map, option_map};
+ghost use Rattle.std.specs.Prelude.{◌≡◌, ◌≢◌, ◌<◌, [], All, IfOk, IfSome, IsSomeAnd, length, map};
+ghost use Rattle.std.specs.Prelude.{option_map};
 ghost use Rattle.std.specs.List.{filter_map};
 ghost use Rattle.elim_apply.specs.LemmaTable.{lemma_table, row_of_move};
 ghost use Rattle.geo_logs.specs.Moves.{place_of};
@@ -9,12 +10,12 @@ ghost use Rattle.geo_logs.specs.Naming.{IsPlaceBelow};
 ghost use Rattle.elim_apply.specs.Inner.Sketches.{CanMakeRow, numbered_row};
 ghost use Rattle.fraction_poly.specs.TableRows.{HasPointsBelow, RowFits, made_row, row_numbers};
 
-use geo_logs::{Move, RowList};
 use area_coords::CoordRows;
 use elim_area::AreaRows;
 use elim_pyth::PythRows;
 use elim_ratio::RatioRows;
 use fraction_poly::{RowNumbers, Rows};
+use geo_logs::{Move, RowList};
 use geo_points::{NoMemory, PointId};
 use geo_poly::{Piece, Row, Var};
 use geo_terms::Steps;

@@ -3,7 +3,7 @@ use Rattle.std.proofs.Common.{◌≡◌, ℕ, suc, inl, inr, List, [], ◌∷◌
 use Rattle.std.specs.List.{flat_map}
 use Rattle.std.proofs.lemmas.List.Folds.{flat_map-map}
 use Rattle.geo_poly.specs.declared.variables.Var.{Var}
-use Rattle.geo_poly.specs.Polynomials.{Terms}
+use Rattle.geo_poly.specs.Polynomials.{Summands}
 use Rattle.geo_program.specs.CanonicalText.{canonical_text, line_lexemes, line_text, no_sketches}
 use Rattle.geo_program.specs.Spelling.{SameSource, SpellsSource}
 use Rattle.geo_program.specs.WellFormed.{IsWellFormed, Source}
@@ -67,7 +67,7 @@ one_end (x ∷ []) l m h g = sym h ∙ g
 one_end (x ∷ y ∷ xs) l m h g = one_end (y ∷ xs) l m h g
 
 module _ (Works : Chains) (IsChosen : Samples) where
-  goals_first : (known : List Var) (listed : List Terms) (k left : ℕ) (items : List Item) (lines : List Line) (verdict : Verdict) (left' : ℕ)
+  goals_first : (known : List Var) (listed : List Summands) (k left : ℕ) (items : List Item) (lines : List Line) (verdict : Verdict) (left' : ℕ)
       → AreGoalsWorked Works IsChosen known listed k left items lines verdict left' → NoProgramFirst lines × EndsIn lines (VerdictLine verdict)
   goals_first known listed k left [] lines verdict left' h =
       (subst NoProgramFirst (sym h.1.split) tt, subst (λ ls. EndsIn ls (VerdictLine verdict)) (sym h.1.split) (ap (λ v. VerdictLine v) (sym h.0)))
@@ -78,7 +78,7 @@ module _ (Works : Chains) (IsChosen : Samples) where
       let rest : EndsIn first.rest (VerdictLine verdict) = subst (λ ls. EndsIn ls (VerdictLine verdict)) (sym h.2.split) (ap (λ v. VerdictLine v) (sym h.1)) in
       (subst NoProgramFirst (sym first.split) tt, subst (λ ls. EndsIn ls (VerdictLine verdict)) (sym first.split) (in_front (chain_lines (Goal k item.text) item.term first.chain) first.rest (VerdictLine verdict) rest))
 
-  pub conditions_first : (goals : List Item) (known : List Var) (listed : List Terms) (k left : ℕ) (items : List Item) (lines : List Line) (verdict : Verdict) (left' : ℕ)
+  pub conditions_first : (goals : List Item) (known : List Var) (listed : List Summands) (k left : ℕ) (items : List Item) (lines : List Line) (verdict : Verdict) (left' : ℕ)
       → AreConditionsWorked Works IsChosen goals known listed k left items lines verdict left' → NoProgramFirst lines × EndsIn lines (VerdictLine verdict)
   conditions_first goals known listed k left [] lines verdict left' h = goals_first known listed 1 left goals lines verdict left' h
   conditions_first goals known listed k left (item ∷ items) lines verdict left' (first, inl h) =
@@ -102,7 +102,7 @@ same_beginning (x ∷ xs) (y ∷ ys) r s e n m =
     (ap₂ (λ (z : List ℕ) (zs : List (List ℕ)). z ∷ zs) text more.0, more.1)
 
 -- ONE PROGRAM
-text_of_lines : (p : Source) → flat_map (λ (line : List ℕ). line ++ 10 ∷ []) (source_lines p) ≡ canonical_text p
+pub text_of_lines : (p : Source) → flat_map (λ (line : List ℕ). line ++ 10 ∷ []) (source_lines p) ≡ canonical_text p
 text_of_lines p = flat_map-map (λ (line : List ℕ). line ++ 10 ∷ []) line_text (line_lexemes (no_sketches p.commands) p)
 
 pub same_lines_same_text : (p q : Source) → source_lines p ≡ source_lines q → canonical_text p ≡ canonical_text q

@@ -1,17 +1,16 @@
 -- The lines of a program, and the texts of its conditions and goals, have no line feed.
-use Rattle.std.proofs.Common.{◌≡◌, ◌≢◌, ℕ, ◌<◌, ◌^◌, true, false, All, ℤ, List, [], ◌∷◌, ◌++◌, map, unsigned_abs, refl, sym, ◌∙◌, ap, subst, arith}
-use Rattle.std.specs.Prelude.{codes, slice_get}
+use Rattle.std.proofs.Common.{◌≡◌, ℕ, true, false, List, [], ◌∷◌, ◌++◌, map, unsigned_abs, refl, sym, ◌∙◌, ap, subst, arith}
+use Rattle.std.specs.Prelude.{codes}
 use Rattle.std.specs.Fmt.{signed_decimal}
-use Rattle.std.specs.List.{AllByRecursion, AllPass, flat_map}
+use Rattle.std.specs.List.{AllByRecursion, flat_map}
 use Rattle.std.proofs.lemmas.List.Elements.{recursion_from_All}
 use Rattle.geo_lexer.specs.Bytes.{is_word_byte}
-use Rattle.geo_lexer.specs.Lexemes.{IsWord, Lexeme, MayStand, close_brace, number_lexeme, open_brace, word_lexeme}
+use Rattle.geo_lexer.specs.Lexemes.{Lexeme, MayStand, close_brace, number_lexeme, open_brace, word_lexeme}
 use Rattle.geo_lexer.proofs.Meanings.{lexemes_may_stand}
 use Rattle.geo_program.specs.CanonicalText.{argument_lexemes, lexeme_text, line_lexemes, line_text, no_sketches}
 use Rattle.geo_program.specs.declared.statements.Statement.{Statement}
 use Rattle.geo_program.specs.Expressions.{braced, expression_lexemes}
 use Rattle.geo_program.specs.Forms.{line_argument, point_argument, statement_form}
-use Rattle.geo_program.specs.Inner.Printing.{whole_scope}
 use Rattle.geo_program.specs.WellFormed.{IsWellFormed, Scope, Source, empty_scope, scope_of}
 use Rattle.geo_program.proofs.LinesSpelt.{canonical_text_spelt}
 use Rattle.geo_program.proofs.Standing.{IsWord-tested, MayAllStand, MayAllStand-append, arguments_stand, expression_stands, statement_word}
@@ -30,7 +29,7 @@ use Rattle.proof_log.specs.Inner.Reading.{Passes, is_number_byte}
 use Rattle.proof_log.specs.Writable.{HasNoLineFeed}
 use Rattle.proof_log.proofs.Runs.{integer_passes, wide}
 use Rattle.geo_logs.specs.Logs.{Item, Subject}
-use Rattle.log_checker.specs.Subjects.{IsSubjectOf, source_lines}
+use Rattle.log_checker.specs.Subjects.{IsSubjectOf, SourceLinesHaveNoLineFeed, source_lines}
 use Rattle.log_checker.proofs.Places.{At, each_at, of_map}
 use Rattle.log_checker.proofs.Ready.{log_condition}
 use Rattle.log_checker.proofs.Verdicts.{log_goal, parts_of}
@@ -68,7 +67,7 @@ all_one_line : (lines : List (List Lexeme)) → MayAllStand (flat_map (λ line. 
 all_one_line [] h = tt
 all_one_line (l ∷ ls) h = (line_one_line l (each_front MayStand l (flat_map (λ line. line) ls) h), all_one_line ls (each_back MayStand l (flat_map (λ line. line) ls) h))
 
-pub program_one_line : (p : Source) → IsWellFormed p → AllByRecursion HasNoLineFeed (source_lines p)
+pub program_one_line : SourceLinesHaveNoLineFeed
 program_one_line p w =
     let lines = line_lexemes (no_sketches p.commands) p in
     let spelt = canonical_text_spelt p w in
