@@ -1,16 +1,14 @@
 -- A checker takes a line, and is finished.
-use Rattle.std.proofs.Common.{◌≡◌, ◌≢◌, ℕ, zero, suc, ◌+◌, ◌≤◌, inl, inr, Option, Some, None, List, [], ◌∷◌, ◌++◌, map, length, append-nil, append_assoc, refl, sym, ◌∙◌, ap, subst, arith}
-use Rattle.std.specs.List.{flat_map}
+use Rattle.std.proofs.Common.{◌≡◌, ◌≢◌, ℕ, suc, ◌+◌, ◌≤◌, inl, inr, Option, Some, None, List, [], ◌∷◌, ◌++◌, map, length, append-nil, append_assoc, refl, sym, ◌∙◌, ap, subst, arith}
 use Rattle.std.proofs.lemmas.List.{length-append, map-append}
 use Rattle.std.proofs.lemmas.List.Folds.{flat_map-map}
-use Rattle.geo_program.specs.Programs.{source_of}
 use Rattle.proof_log.specs.declared.log.Line.{Line}
 use Rattle.proof_log.specs.Lines.{line_text, log_text}
 use Rattle.proof_log.specs.Writable.{AllWritable, HasNoLineFeed, IsWritable}
 use Rattle.proof_log.proofs.NoLineFeeds.{no_line_feed}
 use Rattle.geo_logs.specs.Judging.{Refusal}
 use Rattle.log_checker.specs.Checked.{AreEachRead, IsAnswer, StopsAt, TellsStop}
-use Rattle.log_checker.specs.Checkers.{CheckerValue, IsLeftBy, IsSound, StandsFor, error_of, with_feeds}
+use Rattle.log_checker.specs.Checkers.{CheckerValue, IsSound, StandsFor, error_of, with_feeds}
 use Rattle.log_checker.specs.Inner.Judged.{IsAnswerOf, IsNextPiece, IsReachedState, Leaves, StopsAtPiece, StopsNext, StopsThere}
 use Rattle.log_checker.specs.Judged.{AreRead, IsFirstStop, IsRead, Refuses}
 use Rattle.log_checker.specs.declared.accepted.Accepted.{Accepted}

@@ -1,5 +1,5 @@
 -- Bytes that begin with lines that stop are refused there.
-use Rattle.std.proofs.Common.{◌≡◌, ℕ, inl, inr, Option, List, [], ◌∷◌, ◌++◌, append_assoc, refl, sym, ◌∙◌, ap, subst}
+use Rattle.std.proofs.Common.{◌≡◌, ℕ, inl, inr, Option, List, [], ◌∷◌, ◌++◌, append_assoc, refl, sym, ◌∙◌, subst}
 use Rattle.proof_log.specs.declared.log.Line.{Line}
 use Rattle.proof_log.specs.Writable.{HasNoLineFeed}
 use Rattle.geo_logs.specs.Judging.{Refusal}

@@ -1,6 +1,5 @@
 -- The variables of a sample, one after another.
 use Rattle.std.proofs.Common.{◌≡◌, ℕ, zero, suc, ◌+◌, ◌<◌, ℤ, List, [], ◌∷◌, ◌++◌, map, take, length, ◌⊎◌, inl, inr, append_assoc, add-one, Option, Some, Bool, IsTrue, ◌↔◌, ◌^◌, All, unsigned_abs, refl, sym, ◌∙◌, ap, subst, arith}
-use Rattle.geo_points.specs.declared.ids.PointId.{PointId}
 use Rattle.geo_poly.specs.declared.variables.Var.{Var}
 use Rattle.geo_poly.specs.declared.variables.Var.TheVariants.{X, Y, T}
 use Rattle.geo_terms.specs.declared.steps.Step.{Step}
@@ -87,9 +86,10 @@ is_equal Greater h = absurd (false_not h)
 
 -- the test of variables by their order
 pub same_by_cmp : (b : Bool) (v w : Var) → b ≡ eq_by_cmp var_cmp v w → IsTrue b ↔ (v ≡ w)
-same_by_cmp b v w e =
-    ((λ h. var_order.exact v w (is_equal (var_cmp v w) (sym e ∙ h))),
-    (λ s. e ∙ ap (λ u. is_eq (var_cmp v u)) (sym s) ∙ ap is_eq (var_order.self v)))
+same_by_cmp b v w e = (
+  (λ h. var_order.exact v w (is_equal (var_cmp v w) (sym e ∙ h))),
+  (λ s. e ∙ ap (λ u. is_eq (var_cmp v u)) (sym s) ∙ ap is_eq (var_order.self v)),
+)
 
 -- values that can be written fit
 pub all_fit : (values : List (Var × ℤ)) → CanWriteValues values → All (λ (v : Var × ℤ). unsigned_abs v.1 < 2 ^ 127) values
