@@ -1,0 +1,2 @@
+-- What private functions and proofs speak of. No public contract cites it.
+pub mod Printing
