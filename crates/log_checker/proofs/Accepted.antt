@@ -27,15 +27,13 @@ use Rattle.log_checker.proofs.Reached.{defined_log_exists}
 -- WHAT THEY MEAN
 pub accepted_bytes_mean : AcceptedBytesMean
 accepted_bytes_mean bytes steps p Proved a =
-    let met = accepted_samples_are_met p steps a.lines Proved a.accepted tt in
-    (
+    let met = accepted_samples_are_met p steps a.lines Proved a.accepted tt in (
       proved_is_true p steps a.lines a.accepted,
       (met.0, record { lines = a.lines; writable = a.writable; written = a.written; ends = met.1 }, met.2),
     )
 accepted_bytes_mean bytes steps p (False g) a =
     let broken = false_breaks p steps g a.lines a.accepted in
-    let breaks = broken.2 in
-    (
+    let breaks = broken.2 in (
       broken.0,
       record { lines = a.lines; writable = a.writable; written = a.written; ends = broken.1 },
       record { placed = breaks.placed; has = breaks.has; meets = breaks.meets; unique = breaks.unique },

@@ -3,3 +3,4 @@ pub mod Subjects
 pub mod Laws
 pub mod Accepted
 pub mod Judged
+pub mod Inner
