@@ -1,6 +1,6 @@
 //! A program that is made for any number: quadrangles in one another.
 
-ghost use Rattle.std.specs.Prelude.{◌≡◌, ◌+◌, ◌*◌, ◌<◌, ◌≤◌, ◌∷◌, ◌++◌, IfOk, OnOk};
+ghost use Rattle.std.specs.Prelude.{◌≡◌, ◌+◌, ◌*◌, ◌<◌, ◌≤◌, [], ◌∷◌, ◌++◌, IfOk, OnOk};
 ghost use Rattle.geo_program.specs.Programs.{source_of};
 ghost use Rattle.geo_prover.specs.Bench.{IsBench, bench_commands, bench_names, corner, corner_names, middles, numbered_name};
 

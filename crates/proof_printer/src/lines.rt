@@ -1,7 +1,9 @@
 //! What is printed of each line of a log.
 
-ghost use Rattle.std.specs.Prelude.{codes, ◌≡◌, ◌++◌, OnOk};
+ghost use Rattle.std.specs.Prelude.{codes, ◌≡◌, [], ◌++◌, OnOk};
+ghost use Rattle.std.specs.Fmt.{decimal};
 ghost use Rattle.proof_printer.specs.Readable.{ended, end_text, lines_of, move_lines, polynomial_after, ratio_move, verdict_text};
+ghost use Rattle.proof_printer.specs.Inner.Names.{naming_in};
 ghost use Rattle.proof_printer.specs.Inner.Printing.{CanMove, CanPrint};
 
 use crate::numbers::push_number;
@@ -26,7 +28,7 @@ impl Printer {
     ) -> Result<(), NoMemory>
         requires { CanPrint self.now.steps before.now line.now }
         ensures { OnOk result (out.new.items
-            ≡ out.old.items ++ lines_of self.now.namer self.now.steps before.now line.now) }
+            ≡ out.old.items ++ lines_of (naming_in self.now.namer) self.now.steps before.now line.now) }
     {
         match line {
             Line::Header => Ok(()),
@@ -56,7 +58,7 @@ impl Printer {
     /// Appends the start of a chain.
     fn push_start(&self, alloc: Global, out: &mut Vec<u8>, poly: &Poly) -> Result<(), NoMemory>
         ensures { OnOk result (out.new.items ≡ out.old.items
-            ++ lines_of self.now.namer self.now.steps [] (Line.Start poly.now)) }
+            ++ lines_of (naming_in self.now.namer) self.now.steps [] (Line.Start poly.now)) }
     {
         out.extend_from_slice(b"  ")?;
         self.namer.push_polynomial(alloc, out, poly)?;
@@ -75,7 +77,7 @@ impl Printer {
     ) -> Result<(), NoMemory>
         requires { CanMove self.now.steps before.now mv.now }
         ensures { OnOk result (out.new.items ≡ out.old.items
-            ++ move_lines self.now.namer self.now.steps before.now mv.now poly.now) }
+            ++ move_lines (naming_in self.now.namer) self.now.steps before.now mv.now poly.now) }
     {
         let made = replacement_of(alloc, &self.steps, before, mv)?;
         self.namer.push_replacement(alloc, out, &made, poly)
@@ -90,7 +92,7 @@ impl Printer {
         poly: &Poly,
     ) -> Result<(), NoMemory>
         ensures { OnOk result (out.new.items ≡ out.old.items
-            ++ lines_of self.now.namer self.now.steps [] (Line.Cut by.now poly.now)) }
+            ++ lines_of (naming_in self.now.namer) self.now.steps [] (Line.Cut by.now poly.now)) }
     {
         out.extend_from_slice(b"  divide by ")?;
         self.namer.push_factor(alloc, out, by)?;
@@ -108,7 +110,7 @@ impl Printer {
         values: &Values,
     ) -> Result<(), NoMemory>
         ensures { OnOk result (out.new.items ≡ out.old.items
-            ++ lines_of self.now.namer self.now.steps [] (Line.Sample values.now)) }
+            ++ lines_of (naming_in self.now.namer) self.now.steps [] (Line.Sample values.now)) }
     {
         out.extend_from_slice(b"At")?;
         self.namer.push_values(alloc, out, &values.items)?;

@@ -2,6 +2,7 @@
 
 ghost use Rattle.std.specs.Prelude.{codes, ◌≡◌, ◌++◌, OnOk};
 ghost use Rattle.std.specs.List.{flat_map};
+ghost use Rattle.proof_printer.specs.Inner.Names.{naming_in};
 ghost use Rattle.proof_printer.specs.Readable.{denominator_text, ended, replacement_lines, row_text};
 
 use crate::namer::Namer;
@@ -21,7 +22,7 @@ impl Namer {
         poly: &Poly,
     ) -> Result<(), NoMemory>
         ensures { OnOk result (out.new.items
-            ≡ out.old.items ++ replacement_lines self.now made.now poly.now) }
+            ≡ out.old.items ++ replacement_lines (naming_in self.now) made.now poly.now) }
     {
         self.push_rows(alloc, out, &made.rows.items, &made.den.poly)?;
         out.extend_from_slice(b"  gives ")?;
@@ -39,7 +40,7 @@ impl Namer {
         den: &Poly,
     ) -> Result<(), NoMemory>
         ensures { OnOk result (out.new.items ≡ out.old.items
-            ++ flat_map (λ row. ended (row_text self.now den.now row)) rows.now) }
+            ++ flat_map (λ row. ended (row_text (naming_in self.now) den.now row)) rows.now) }
     {
         for row in rows {
             self.push_row(alloc, out, row, den)?;
@@ -56,7 +57,7 @@ impl Namer {
         den: &Poly,
     ) -> Result<(), NoMemory>
         ensures { OnOk result (out.new.items
-            ≡ out.old.items ++ ended (row_text self.now den.now row.now)) }
+            ≡ out.old.items ++ ended (row_text (naming_in self.now) den.now row.now)) }
     {
         out.extend_from_slice(b"  ")?;
         self.push_variable(alloc, out, row.var)?;
@@ -77,7 +78,7 @@ impl Namer {
         power: u32,
     ) -> Result<(), NoMemory>
         ensures { OnOk result (out.new.items
-            ≡ out.old.items ++ denominator_text self.now den.now power) }
+            ≡ out.old.items ++ denominator_text (naming_in self.now) den.now power) }
     {
         if power == 0 {
             return Ok(());

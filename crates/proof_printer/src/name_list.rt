@@ -1,31 +1,21 @@
 //! Names by number.
 
-ghost use Rattle.std.specs.Prelude.{◌≡◌, ◌<◌, ◌++◌, All, IfOk, OnOk, map, unwrap_or};
+ghost use Rattle.std.specs.Prelude.{◌≡◌, ◌<◌, ◌≤◌, ◌^◌, ◌++◌, All, IfOk, OnOk, map, unwrap_or};
 ghost use Rattle.std.specs.Fmt.{decimal};
 ghost use Rattle.std.specs.Option.{option_map};
+ghost use Rattle.proof_printer.specs.Inner.Names.{name_in};
 ghost use Rattle.proof_printer.specs.Naming.{name_at, name_or_number};
 
 use crate::numbers::push_number;
 use geo_base::Text;
 use geo_points::NoMemory;
 use std::alloc::Global;
-use std::marker::Model;
 
-/// A name for each number: that of a list, or else a mark and the number. Contracts see the function
-/// from numbers to names.
+/// A name for each number: that of a list, or else a mark and the number.
 #[derive(Drop)]
 pub(crate) struct NameList {
     mark: Text,
     names: Vec<Text>,
-}
-
-impl Model for NameList {
-    ghost use Rattle.std.specs.Prelude.{ℕ, List, ◌++◌, slice_get, unwrap_or};
-    ghost use Rattle.std.specs.Fmt.{decimal};
-
-    ghost Value = { ℕ → List ℕ };
-
-    ghost view = { λ l. λ n. unwrap_or (slice_get l.names.items n) (l.mark ++ decimal n) };
 }
 
 impl NameList {
@@ -36,11 +26,11 @@ impl NameList {
         places: &[u32],
         names: &[&[u8]],
     ) -> Result<NameList, NoMemory>
-        ensures { IfOk result (λ l. l ≡ name_or_number mark.now places.now (map (λ name. name.now) names.now)) }
+        ensures { IfOk result (λ l. name_in l ≡ name_or_number mark.now places.now (map (λ name. name.now) names.now)) }
     {
         let mut list = Vec::new(alloc);
         for n in 0..one_past(places) {
-            list.push(name_or_mark(alloc, mark, places, names, n)?)?;
+            list.push(name_or_mark(alloc, mark, places, names, n as u32)?)?;
         }
         let mark = Text {
             bytes: Vec::from_slice(alloc, mark)?,
@@ -50,7 +40,7 @@ impl NameList {
 
     /// Appends the name of the number.
     pub fn push(&self, alloc: Global, out: &mut Vec<u8>, n: u32) -> Result<(), NoMemory>
-        ensures { OnOk result (out.new.items ≡ out.old.items ++ self.now n) }
+        ensures { OnOk result (out.new.items ≡ out.old.items ++ name_in self.now n) }
     {
         match self.names.get(n as usize) {
             Some(name) => out.extend_from_slice(&name.bytes)?,
@@ -64,13 +54,13 @@ impl NameList {
 }
 
 /// A number past all places.
-fn one_past(places: &[u32]) -> u32
-    requires { All (λ place. place < 2 ^ 31) places.now }
-    ensures { All (λ place. place < result) places.now }
+fn one_past(places: &[u32]) -> u64
+    ensures past { All (λ place. place < result) places.now }
+    ensures small { result ≤ 2 ^ 32 }
 {
     let mut past = 0;
     for place in places {
-        past = past.max(*place + 1);
+        past = past.max(u64::from(*place) + 1);
     }
     past
 }
@@ -100,9 +90,9 @@ fn name_or_mark(
 fn find_name<'a>(places: &[u32], names: &[&'a [u8]], n: u32) -> Option<&'a [u8]>
     ensures { option_map (λ name. name.now) result ≡ name_at places.now (map (λ name. name.now) names.now) n }
 {
-    for (place, name) in places.iter().zip(names) {
+    for (k, place) in places.iter().enumerate() {
         if *place == n {
-            return Some(*name);
+            return names.get(k).copied();
         }
     }
     None

@@ -1,10 +1,11 @@
 //! The names of a program's points, parameters and variables.
 
-ghost use Rattle.std.specs.Prelude.{◌≡◌, ◌∷◌, ◌++◌, IfOk, OnOk, map};
+ghost use Rattle.std.specs.Prelude.{codes, ◌≡◌, [], ◌∷◌, ◌++◌, IfOk, OnOk, map};
 ghost use Rattle.geo_lowering.specs.Lowering.{IsLowered};
 ghost use Rattle.geo_lowering.specs.Parts.{form_of};
 ghost use Rattle.geo_program.specs.Names.{names_of};
 ghost use Rattle.geo_program.specs.Programs.{source_of};
+ghost use Rattle.proof_printer.specs.Inner.Names.{naming_in};
 ghost use Rattle.proof_printer.specs.Naming.{naming_of, points_text, variable_text};
 
 use crate::name_list::NameList;
@@ -13,28 +14,19 @@ use geo_points::{NoMemory, ParamId, PointId};
 use geo_poly::Var;
 use geo_program::{Name, NameKind, Program};
 use std::alloc::Global;
-use std::marker::Model;
 
-/// The names of points and parameters by number. Contracts see both functions.
+/// The names of points and parameters by number.
 #[derive(Drop)]
 pub(crate) struct Namer {
     points: NameList,
     params: NameList,
 }
 
-impl Model for Namer {
-    ghost use Rattle.proof_printer.specs.Naming.{Naming};
-
-    ghost Value = { Naming };
-
-    ghost view = { λ namer. record { point = namer.points; param = namer.params } };
-}
-
 impl Namer {
     /// The names of a program that is lowered so.
     pub fn new(alloc: Global, program: &Program, lowered: &Lowered) -> Result<Namer, NoMemory>
         requires { IsLowered (source_of program.now) (form_of lowered.now) }
-        ensures { IfOk result (λ namer. namer ≡ naming_of (source_of program.now)) }
+        ensures { IfOk result (λ namer. naming_in namer ≡ naming_of (source_of program.now)) }
     {
         let names = program.names.as_slice();
         let points = texts_of(alloc, names, NameKind::Point)?;
@@ -49,7 +41,7 @@ impl Namer {
 
     /// Appends the name of a variable.
     pub fn push_variable(&self, alloc: Global, out: &mut Vec<u8>, v: Var) -> Result<(), NoMemory>
-        ensures { OnOk result (out.new.items ≡ out.old.items ++ variable_text self.now v) }
+        ensures { OnOk result (out.new.items ≡ out.old.items ++ variable_text (naming_in self.now) v) }
     {
         match v {
             Var::R(a, b, c, d) => self.push_ratio(alloc, out, [a, b], [c, d]),
@@ -71,7 +63,7 @@ impl Namer {
         others: &[PointId],
     ) -> Result<(), NoMemory>
         ensures { OnOk result (out.new.items ≡ out.old.items
-            ++ (letter.now ++ points_text self.now (first ∷ others.now) ++ codes ")")) }
+            ++ (letter.now ++ points_text (naming_in self.now) (first ∷ others.now) ++ codes ")")) }
     {
         out.extend_from_slice(letter)?;
         self.push_points(alloc, out, first, others)?;
@@ -86,7 +78,10 @@ impl Namer {
         out: &mut Vec<u8>,
         one: [PointId; 2],
         other: [PointId; 2],
-    ) -> Result<(), NoMemory> {
+    ) -> Result<(), NoMemory>
+        ensures { OnOk result (out.new.items ≡ out.old.items ++ (codes "R("
+            ++ points_text (naming_in self.now) one ++ codes ";" ++ points_text (naming_in self.now) other ++ codes ")")) }
+    {
         out.extend_from_slice(b"R(")?;
         self.push_points(alloc, out, one[0], &[one[1]])?;
         out.push(b';')?;
@@ -104,7 +99,7 @@ impl Namer {
         others: &[PointId],
     ) -> Result<(), NoMemory>
         ensures { OnOk result (out.new.items
-            ≡ out.old.items ++ points_text self.now (first ∷ others.now)) }
+            ≡ out.old.items ++ points_text (naming_in self.now) (first ∷ others.now)) }
     {
         self.points.push(alloc, out, first.0)?;
         for point in others {

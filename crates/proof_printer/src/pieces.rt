@@ -15,8 +15,12 @@ pub(crate) fn split_line(bytes: &[u8]) -> Option<(&[u8], &[u8])>
     ensures one_line { IfSome result (λ r. HasNoLineFeed r.0.now) }
     ensures none { IsNone result → HasNoLineFeed bytes.now }
 {
-    let at = bytes.iter().position(|b| *b == b'\n')?;
-    Some((&bytes[..at], &bytes[at + 1..]))
+    for (at, byte) in bytes.iter().enumerate() {
+        if *byte == b'\n' {
+            return Some((&bytes[..at], &bytes[at + 1..]));
+        }
+    }
+    None
 }
 
 /// The line that was written so.

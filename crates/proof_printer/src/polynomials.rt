@@ -2,8 +2,10 @@
 
 ghost use Rattle.std.specs.Prelude.{codes, ◌≡◌, ◌<◌, ◌++◌, length, unsigned_abs, OnOk};
 ghost use Rattle.std.specs.Fmt.{decimal};
+ghost use Rattle.std.specs.List.{flat_map};
 ghost use Rattle.geo_poly.specs.Polynomials.{term_at};
 ghost use Rattle.proof_log.specs.Lines.{sign_text};
+ghost use Rattle.proof_printer.specs.Inner.Names.{naming_in};
 ghost use Rattle.proof_printer.specs.Polynomials.{exponent_text, factor_text, polynomial_text, power_text, term_text, value_text};
 
 use crate::namer::Namer;
@@ -20,7 +22,7 @@ impl Namer {
         out: &mut Vec<u8>,
         poly: &Poly,
     ) -> Result<(), NoMemory>
-        ensures { OnOk result (out.new.items ≡ out.old.items ++ polynomial_text self.now poly.now) }
+        ensures { OnOk result (out.new.items ≡ out.old.items ++ polynomial_text (naming_in self.now) poly.now) }
     {
         if poly.is_zero() {
             out.push(b'0')?;
@@ -43,7 +45,7 @@ impl Namer {
         i: u64,
     ) -> Result<(), NoMemory>
         requires { i < length poly.now }
-        ensures { OnOk result (out.new.items ≡ out.old.items ++ term_text self.now (term_at poly.now i)) }
+        ensures { OnOk result (out.new.items ≡ out.old.items ++ term_text (naming_in self.now) (term_at poly.now i)) }
     {
         push_coefficient(alloc, out, poly.coefficient(i))?;
         for j in 0..poly.powers(i) {
@@ -60,7 +62,7 @@ impl Namer {
         out: &mut Vec<u8>,
         factor: &Factor,
     ) -> Result<(), NoMemory>
-        ensures { OnOk result (out.new.items ≡ out.old.items ++ factor_text self.now factor.now) }
+        ensures { OnOk result (out.new.items ≡ out.old.items ++ factor_text (naming_in self.now) factor.now) }
     {
         push_integer(alloc, out, factor.coef())?;
         for j in 0..factor.powers() {
@@ -78,7 +80,7 @@ impl Namer {
         variable: Var,
         exponent: u32,
     ) -> Result<(), NoMemory>
-        ensures { OnOk result (out.new.items ≡ out.old.items ++ power_text self.now (variable, exponent)) }
+        ensures { OnOk result (out.new.items ≡ out.old.items ++ power_text (naming_in self.now) (variable, exponent)) }
     {
         out.extend_from_slice(b"*")?;
         self.push_variable(alloc, out, variable)?;
@@ -92,7 +94,7 @@ impl Namer {
         out: &mut Vec<u8>,
         values: &[(Var, i128)],
     ) -> Result<(), NoMemory>
-        ensures { OnOk result (out.new.items ≡ out.old.items ++ flat_map (value_text self.now) values.now) }
+        ensures { OnOk result (out.new.items ≡ out.old.items ++ flat_map (value_text (naming_in self.now)) values.now) }
     {
         for value in values {
             self.push_value(alloc, out, value)?;
@@ -107,7 +109,7 @@ impl Namer {
         out: &mut Vec<u8>,
         value: &(Var, i128),
     ) -> Result<(), NoMemory>
-        ensures { OnOk result (out.new.items ≡ out.old.items ++ value_text self.now value.now) }
+        ensures { OnOk result (out.new.items ≡ out.old.items ++ value_text (naming_in self.now) value.now) }
     {
         let (variable, number) = *value;
         out.extend_from_slice(b" ")?;

@@ -5,6 +5,7 @@ ghost use Rattle.geo_program.specs.Programs.{source_of};
 ghost use Rattle.geo_lowering.specs.Lowering.{IsLowered};
 ghost use Rattle.geo_lowering.specs.Parts.{form_of};
 ghost use Rattle.proof_printer.specs.Naming.{naming_of};
+ghost use Rattle.proof_printer.specs.Inner.Names.{naming_in};
 ghost use Rattle.proof_printer.specs.Inner.Printing.{IsPrintable, IsPrinted};
 
 use crate::lines::polynomial_after;
@@ -30,7 +31,7 @@ impl Printer {
     /// The readable proof of a log.
     pub fn print(&self, alloc: Global, bytes: &[u8]) -> Result<Text, NoMemory>
         requires { IsPrintable self.now.steps bytes.now }
-        ensures { IfOk result (λ text. IsPrinted self.now.namer self.now.steps bytes.now text) }
+        ensures { IfOk result (λ text. IsPrinted (naming_in self.now.namer) self.now.steps bytes.now text) }
     {
         let mut out = Vec::new(alloc);
         let mut before = Poly::zero(alloc);
