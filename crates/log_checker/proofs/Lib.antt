@@ -31,3 +31,4 @@ pub mod AlikeRefusals
 pub mod OneStop
 pub mod AlteredLogs
 pub mod Writing
+pub mod DueChains

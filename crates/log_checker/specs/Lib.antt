@@ -3,4 +3,6 @@ pub mod Subjects
 pub mod Laws
 pub mod Accepted
 pub mod Judged
+pub mod Checkers
+pub mod Checked
 pub mod Inner

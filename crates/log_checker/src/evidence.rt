@@ -1,5 +1,7 @@
 //! What the lines of a log leave for those after them.
 
+ghost use Rattle.std.specs.Prelude.{◌≡◌, []};
+
 use geo_base::Budget;
 use geo_poly::lists::{Polys, Vars};
 use std::alloc::Global;
@@ -17,7 +19,11 @@ pub(crate) struct Evidence {
 
 impl Evidence {
     /// What is there before the first chain.
-    pub fn new(alloc: Global, steps: u64) -> Evidence {
+    pub fn new(alloc: Global, steps: u64) -> Evidence
+        ensures known { result.known ≡ [] }
+        ensures ends { result.ends ≡ [] }
+        ensures left { result.budget.left ≡ steps }
+    {
         Evidence {
             known: Vars {
                 items: Vec::new(alloc),

@@ -1,83 +1,124 @@
-//! The headers and the starts of chains, and what is due behind a chain.
+//! The headers of chains, and what is due behind a chain.
 
-use crate::ending::only_variable;
-use crate::places::{Place, Task};
+ghost use Rattle.std.specs.Prelude.{◌≡◌, ◌+◌, ◌^◌, ◌<◌, ◌↔◌, ℕ, List, [], suc, IfErr, IfOk, IsTrue, length};
+ghost use Rattle.geo_logs.specs.Places.{before_line};
+ghost use Rattle.geo_terms.specs.Constructions.{Construction};
+ghost use Rattle.log_checker.specs.Checkers.{AreConditionsDue, AreGoalsDue, IsDue, subject_of};
+ghost use Rattle.log_checker.specs.Inner.Lines.{IsReady, LeadsOn, RefusesAt, RefusesWhere};
+ghost use Rattle.log_checker.specs.declared.evidence.Evidence.{Evidence};
+ghost use Rattle.proof_log.specs.declared.log.Line.{Line};
+
+use crate::due::{Due, Task};
 use crate::reasons::Reason;
 use crate::stops::Stop;
-use elim_apply::start;
-use geo_base::{Budget, Text};
+use geo_base::Text;
 use geo_conditions::{Item, Problem};
-use geo_points::TermId;
-use geo_poly::Poly;
 use proof_log::{Line, Verdict};
-use std::alloc::Global;
 
 /// What is due where the conditions from this index on are still to be worked.
-pub(crate) fn condition_due(problem: &Problem, index: usize) -> Place {
+pub(crate) fn condition_due(problem: &Problem, index: usize) -> Due
+    ensures { (steps : ℕ) (good : List Line) (e : Evidence)
+        → AreConditionsDue (subject_of [] problem.now) steps good e.known e.ends e.budget.left index
+        → IsDue (subject_of [] problem.now) steps e result good }
+{
     if index < problem.conditions.items.len() {
-        Place::Condition(index)
+        Due::Condition(index)
     } else {
         goal_due(problem, 0)
     }
 }
 
 /// What is due where the goals from this index on are still to be worked.
-pub(crate) fn goal_due(problem: &Problem, index: usize) -> Place {
+pub(crate) fn goal_due(problem: &Problem, index: usize) -> Due
+    ensures { (steps : ℕ) (good : List Line) (e : Evidence)
+        → AreGoalsDue (subject_of [] problem.now) steps good e.known e.ends e.budget.left index
+        → IsDue (subject_of [] problem.now) steps e result good }
+{
     if index < problem.goals.items.len() {
-        Place::Goal(index)
+        Due::Goal(index)
     } else {
-        Place::Sample(Verdict::Proved)
+        Due::Sample(Verdict::Proved)
     }
 }
 
-/// The chain that begins with the line, where the header of the condition at this index is due.
-pub(crate) fn condition_header(item: &Item, index: usize, line: &Line) -> Result<Task, Stop> {
+/// What is due behind the line, where the header of the condition at this index is due.
+pub(crate) fn after_condition_header(
+    problem: &Problem,
+    index: usize,
+    line: &Line,
+) -> Result<Due, Stop>
+    requires ready { IsReady problem.now }
+    requires index { index < length problem.now.conditions }
+    ensures goes { (e : Evidence)
+        → IfOk result (LeadsOn problem.now e (Due.Condition index) line.now e) }
+    ensures refused { (e : Evidence)
+        → IfErr result (RefusesWhere problem.now e (Due.Condition index) line.now) }
+{
+    let item = &problem.conditions.items[index];
+    let task = condition_task(item, index, line)?;
+    let term = item.term;
+    Ok(Due::Start { task, term })
+}
+
+/// What is due behind the line, where the header of the goal at this index is due.
+pub(crate) fn after_goal_header(problem: &Problem, index: usize, line: &Line) -> Result<Due, Stop>
+    requires ready { IsReady problem.now }
+    requires index { index < length problem.now.goals }
+    ensures goes { (e : Evidence)
+        → IfOk result (LeadsOn problem.now e (Due.Goal index) line.now e) }
+    ensures refused { (e : Evidence)
+        → IfErr result (RefusesWhere problem.now e (Due.Goal index) line.now) }
+{
+    let item = &problem.goals.items[index];
+    let task = goal_task(item, index, line)?;
+    let term = item.term;
+    Ok(Due::Start { task, term })
+}
+
+/// The chain that begins with the line, where it is that of the condition at this index.
+fn condition_task(item: &Item, index: usize, line: &Line) -> Result<Task, Stop>
+    requires { index + 1 < 2 ^ 64 }
+    ensures task { IfOk result (λ t. t ≡ Task.Condition (suc index)) }
+    ensures line { IfOk result (λ _. line.now ≡ Line.Condition (suc index) item.now.text) }
+    ensures refused { (c : Construction) → IfErr result
+        (RefusesAt c (before_line (Line.Condition (suc index) item.now.text)) line.now) }
+{
     match line {
-        Line::Condition { k, text } if is_header(item, index, *k, text) => Ok(Task::Condition(*k)),
-        Line::Condition { .. } | Line::Goal { .. } => Err(Stop::Rejected(Reason::WrongChain)),
+        Line::Condition { k, text } => {
+            if !is_head(item, index, *k, text) {
+                return Err(Stop::Rejected(Reason::WrongChain));
+            }
+            Ok(Task::Condition(*k))
+        }
+        Line::Goal { .. } => Err(Stop::Rejected(Reason::WrongChain)),
         _ => Err(Stop::Rejected(Reason::WrongLine)),
     }
 }
 
-/// The chain that begins with the line, where the header of the goal at this index is due.
-pub(crate) fn goal_header(item: &Item, index: usize, line: &Line) -> Result<Task, Stop> {
+/// The chain that begins with the line, where it is that of the goal at this index.
+fn goal_task(item: &Item, index: usize, line: &Line) -> Result<Task, Stop>
+    requires { index + 1 < 2 ^ 64 }
+    ensures task { IfOk result (λ t. t ≡ Task.Goal (suc index)) }
+    ensures line { IfOk result (λ _. line.now ≡ Line.Goal (suc index) item.now.text) }
+    ensures refused { (c : Construction) → IfErr result
+        (RefusesAt c (before_line (Line.Goal (suc index) item.now.text)) line.now) }
+{
     match line {
-        Line::Goal { k, text } if is_header(item, index, *k, text) => Ok(Task::Goal(*k)),
-        Line::Condition { .. } | Line::Goal { .. } => Err(Stop::Rejected(Reason::WrongChain)),
+        Line::Goal { k, text } => {
+            if !is_head(item, index, *k, text) {
+                return Err(Stop::Rejected(Reason::WrongChain));
+            }
+            Ok(Task::Goal(*k))
+        }
+        Line::Condition { .. } => Err(Stop::Rejected(Reason::WrongChain)),
         _ => Err(Stop::Rejected(Reason::WrongLine)),
     }
 }
 
 /// Whether the number and the text are those of the item at this index.
-fn is_header(item: &Item, index: usize, k: u32, text: &Text) -> bool {
+fn is_head(item: &Item, index: usize, k: u32, text: &Text) -> bool
+    requires { index + 1 < 2 ^ 64 }
+    ensures { IsTrue result ↔ ((k ≡ suc index) × (text.now ≡ item.now.text)) }
+{
     k as u64 == index as u64 + 1 && text.bytes.as_slice() == item.text.bytes.as_slice()
-}
-
-/// The term of a chain.
-pub(crate) fn term_of(problem: &Problem, task: Task) -> TermId {
-    match task {
-        Task::Condition(k) => problem.conditions.items[k as usize - 1].term,
-        Task::Goal(k) => problem.goals.items[k as usize - 1].term,
-    }
-}
-
-/// Where the chain stands behind a start line with this polynomial.
-pub(crate) fn after_start(
-    alloc: Global,
-    problem: &Problem,
-    task: Task,
-    poly: Poly,
-    budget: &mut Budget,
-) -> Result<Place, Stop> {
-    let term = term_of(problem, task);
-    let right = start(alloc, &problem.steps, term, budget)?;
-    if !right.same(&poly) {
-        return Err(Stop::Rejected(Reason::WrongStart));
-    }
-    let own = only_variable(&right);
-    Ok(Place::Chain {
-        task,
-        own,
-        poly: right,
-    })
 }

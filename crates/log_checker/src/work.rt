@@ -1,16 +1,27 @@
 //! A log behind the lines of its program, judged line by line.
 
-use crate::chaining::{after_end, after_step};
+ghost use Rattle.std.specs.Prelude.{◌≡◌, ℕ, List, [], Some, ◌≤◌, IfErr, IfOk, length};
+ghost use Rattle.geo_program.specs.CanonicalText.{canonical_text};
+ghost use Rattle.geo_program.specs.Programs.{Spells, source_of};
+ghost use Rattle.log_checker.specs.Checkers.{IsAtWork, subject_of};
+ghost use Rattle.log_checker.specs.Subjects.{source_lines};
+ghost use Rattle.log_checker.specs.declared.evidence.Evidence.{Evidence};
+ghost use Rattle.geo_conditions.specs.declared.problem.Problem.{Problem};
+ghost use Rattle.proof_log.specs.declared.log.Line.{Line};
+ghost use Rattle.log_checker.specs.Inner.Lines.{GoesOn, IsReached, IsReady, IsRefusedAfter, LeadsOn, RefusesWhere, Tells, TellsNoProgram};
+ghost use Rattle.proof_log.specs.Writable.{IsWritable};
+
+use crate::chaining::after_chain_line;
+use crate::due::Due;
 use crate::evidence::Evidence;
-use crate::heading::{after_start, condition_due, condition_header, goal_header};
-use crate::places::{Place, Task};
+use crate::heading::{after_condition_header, after_goal_header, condition_due};
 use crate::reasons::Reason;
 use crate::sampling::test_sample;
+use crate::starting::after_start_line;
 use crate::stops::Stop;
 use geo_conditions::{Problem, list};
 use geo_lowering::lower;
 use geo_parser::{ParseError, parse};
-use geo_poly::{Poly, Var};
 use geo_program::{Program, print};
 use proof_log::{Line, Verdict};
 use std::alloc::Global;
@@ -25,48 +36,61 @@ pub(crate) struct Work {
     /// What the chains leave.
     pub evidence: Evidence,
     /// What is due.
-    pub place: Place,
+    pub due: Due,
 }
 
-impl Work {
-    /// The work of the program whose canonical text the bytes are.
-    pub fn new(alloc: Global, bytes: &[u8], steps: u64) -> Result<Work, Stop> {
-        let program = canonical_program(alloc, bytes)?;
-        let lowered = lower(alloc, &program)?;
-        let problem = list(alloc, &program, lowered)?;
-        let evidence = Evidence::new(alloc, steps);
-        let place = condition_due(&problem, 0);
-        Ok(Work {
-            program,
-            problem,
-            evidence,
-            place,
-        })
-    }
+/// The work of the program whose canonical text the bytes are.
+pub(crate) fn begun_work(alloc: Global, bytes: &[u8], steps: u64) -> Result<Work, Stop>
+    requires { length bytes.now ≤ 67108864 }
+    ensures program { IfOk result (λ w. canonical_text (source_of w.program) ≡ bytes.now) }
+    ensures begun { IfOk result (λ w. IsAtWork w steps []) }
+    ensures refused { IfErr result (TellsNoProgram bytes.now) }
+{
+    let program = canonical_program(alloc, bytes)?;
+    let lowered = lower(alloc, &program)?;
+    let problem = list(alloc, &program, lowered)?;
+    let evidence = Evidence::new(alloc, steps);
+    let due = condition_due(&problem, 0);
+    Ok(Work {
+        program,
+        problem,
+        evidence,
+        due,
+    })
+}
 
-    /// The work behind the line. What is no line of a log is given as `None`.
-    pub fn after(self, alloc: Global, read: Option<Line>) -> Result<Work, Stop> {
-        let Some(line) = read else {
-            return Err(Stop::Rejected(Reason::BadLine));
-        };
-        let Work {
-            program,
-            problem,
-            mut evidence,
-            place,
-        } = self;
-        let place = after_line(alloc, &problem, &mut evidence, place, line)?;
-        Ok(Work {
-            program,
-            problem,
-            evidence,
-            place,
-        })
-    }
+/// The work behind the line.
+pub(crate) fn work_after(alloc: Global, work: Work, line: Line) -> Result<Work, Stop>
+    requires reached { (steps : ℕ) × (good : List Line) × IsAtWork work steps good }
+    requires writable { IsWritable line }
+    ensures goes { IfOk result (GoesOn work line) }
+    ensures refused { (steps : ℕ) (good : List Line) → IsAtWork work steps good
+        → IfErr result (Tells (IsRefusedAfter
+        (subject_of (source_lines (source_of work.program)) work.problem)
+        steps good (Some line))) }
+{
+    let Work {
+        program,
+        problem,
+        mut evidence,
+        due,
+    } = work;
+    let due = after_line(alloc, &problem, &mut evidence, due, line)?;
+    Ok(Work {
+        program,
+        problem,
+        evidence,
+        due,
+    })
 }
 
 /// The program whose canonical text the bytes are.
-fn canonical_program(alloc: Global, bytes: &[u8]) -> Result<Program, Stop> {
+fn canonical_program(alloc: Global, bytes: &[u8]) -> Result<Program, Stop>
+    requires { length bytes.now ≤ 67108864 }
+    ensures spelt { IfOk result (Spells bytes.now) }
+    ensures program { IfOk result (λ p. canonical_text (source_of p) ≡ bytes.now) }
+    ensures refused { IfErr result (TellsNoProgram bytes.now) }
+{
     let program = match parse(alloc, bytes) {
         Ok(program) => program,
         Err(ParseError::Syntax(_)) => return Err(Stop::Rejected(Reason::WrongProgram)),
@@ -84,70 +108,66 @@ fn after_line(
     alloc: Global,
     problem: &Problem,
     evidence: &mut Evidence,
-    place: Place,
+    due: Due,
     line: Line,
-) -> Result<Place, Stop> {
-    match place {
-        Place::Condition(index) => {
-            let item = &problem.conditions.items[index];
-            Ok(Place::Start(condition_header(item, index, &line)?))
+) -> Result<Due, Stop>
+    requires ready { IsReady problem.now }
+    requires reached { IsReached problem.now evidence.old due }
+    requires writable { IsWritable line }
+    ensures goes { IfOk result (LeadsOn problem.now evidence.old due line evidence.new) }
+    ensures refused { IfErr result (RefusesWhere problem.now evidence.old due line) }
+{
+    match due {
+        Due::Condition(index) => after_condition_header(problem, index, &line),
+        Due::Goal(index) => after_goal_header(problem, index, &line),
+        Due::Start { task, term } => {
+            after_start_line(alloc, problem, evidence, task, term, line)
         }
-        Place::Goal(index) => {
-            let item = &problem.goals.items[index];
-            Ok(Place::Start(goal_header(item, index, &line)?))
-        }
-        Place::Start(task) => match line {
-            Line::Start(poly) => after_start(alloc, problem, task, poly, &mut evidence.budget),
-            _ => Err(Stop::Rejected(Reason::WrongLine)),
-        },
-        Place::Chain { task, own, poly } => {
+        Due::Step { task, own, poly } => {
             after_chain_line(alloc, problem, evidence, task, own, poly, line)
         }
-        Place::Sample(verdict) => after_sample(alloc, problem, evidence, verdict, line),
-        Place::Verdict(verdict) => after_verdict(verdict, line),
-        Place::Over(_) => Err(Stop::Rejected(Reason::WrongLine)),
+        Due::Sample(verdict) => after_sample(alloc, problem, evidence, verdict, line),
+        Due::Verdict(verdict) => after_verdict(verdict, line),
+        Due::Nothing(_) => Err(Stop::Rejected(Reason::WrongLine)),
     }
 }
 
-/// What is due behind a line in a chain.
-fn after_chain_line(
-    alloc: Global,
-    problem: &Problem,
-    evidence: &mut Evidence,
-    task: Task,
-    own: Option<Var>,
-    before: Poly,
-    line: Line,
-) -> Result<Place, Stop> {
-    if let Line::End = line {
-        return after_end(problem, evidence, task, own, before);
-    }
-    let poly = after_step(alloc, &problem.steps, evidence, &before, line)?;
-    Ok(Place::Chain { task, own, poly })
-}
-
-/// What is due behind the sample, where it stands before this verdict.
+/// What is due behind the line, where a sample is due before this verdict.
 fn after_sample(
     alloc: Global,
     problem: &Problem,
     evidence: &mut Evidence,
     verdict: Verdict,
     line: Line,
-) -> Result<Place, Stop> {
-    match line {
-        Line::Sample(values) => {
-            test_sample(alloc, &problem.steps, &values, evidence)?;
-            Ok(Place::Verdict(verdict))
-        }
-        _ => Err(Stop::Rejected(Reason::WrongLine)),
-    }
+) -> Result<Due, Stop>
+    requires { IsWritable line }
+    ensures goes { IfOk result
+        (LeadsOn problem.now evidence.old (Due.Sample verdict) line evidence.new) }
+    ensures refused { IfErr result
+        (RefusesWhere problem.now evidence.old (Due.Sample verdict) line) }
+{
+    let Line::Sample(values) = line else {
+        return Err(Stop::Rejected(Reason::WrongLine));
+    };
+    let Evidence { ends, budget, .. } = evidence;
+    test_sample(alloc, &problem.steps, &values, ends, budget)?;
+    Ok(Due::Verdict(verdict))
 }
 
-/// What is due behind the verdict, where it is to be this one.
-fn after_verdict(due: Verdict, line: Line) -> Result<Place, Stop> {
+/// What is due behind the line, where this verdict is due.
+fn after_verdict(due: Verdict, line: Line) -> Result<Due, Stop>
+    ensures goes { (q : Problem) (e : Evidence)
+        → IfOk result (LeadsOn q e (Due.Verdict due) line e) }
+    ensures refused { (q : Problem) (e : Evidence)
+        → IfErr result (RefusesWhere q e (Due.Verdict due) line) }
+{
     match line {
-        Line::Verdict(verdict) if verdict == due => Ok(Place::Over(due)),
-        Line::Verdict(_) => Err(Stop::Rejected(Reason::WrongVerdict)),
+        Line::Verdict(verdict) => {
+            if verdict != due {
+                return Err(Stop::Rejected(Reason::WrongVerdict));
+            }
+            Ok(Due::Nothing(due))
+        }
         _ => Err(Stop::Rejected(Reason::WrongLine)),
     }
 }

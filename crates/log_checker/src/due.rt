@@ -1,5 +1,6 @@
 //! Where a log stands behind the lines of its program.
 
+use geo_points::TermId;
 use geo_poly::{Poly, Var};
 use proof_log::Verdict;
 
@@ -14,15 +15,18 @@ pub(crate) enum Task {
 
 /// What is due next.
 #[derive(Drop)]
-pub(crate) enum Place {
+pub(crate) enum Due {
     /// The header of the condition at this index.
     Condition(usize),
     /// The header of the goal at this index.
     Goal(usize),
-    /// The start of the chain.
-    Start(Task),
+    /// The start of the chain of this task, which is the numerator of this term.
+    Start {
+        task: Task,
+        term: TermId,
+    },
     /// A line of the chain, after this polynomial.
-    Chain {
+    Step {
         task: Task,
         /// The variable that the start of the chain is a multiple of, where there is one.
         own: Option<Var>,
@@ -33,5 +37,5 @@ pub(crate) enum Place {
     /// This verdict.
     Verdict(Verdict),
     /// Nothing: this verdict was the last line.
-    Over(Verdict),
+    Nothing(Verdict),
 }
