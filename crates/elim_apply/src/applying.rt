@@ -17,11 +17,11 @@ ghost use Rattle.geo_poly.specs.Replace.{replaced_by, replaced_degree, replaced_
 
 use crate::errors::ApplyError;
 use crate::limits::LineSize;
-use geo_logs::Move;
 use crate::numbered::{NumberedRow, made_rows, numbered_rows};
 use crate::sizes::size_of_line;
 use crate::variables::variables_of;
 use geo_base::Budget;
+use geo_logs::Move;
 use geo_points::NoMemory;
 use geo_poly::{Poly, PolyError, Which};
 use geo_terms::Steps;

@@ -9,12 +9,12 @@ ghost use Rattle.geo_logs.specs.Naming.{IsPlaceBelow};
 ghost use Rattle.elim_apply.specs.Inner.Sketches.{CanMakeRow, numbered_row};
 ghost use Rattle.fraction_poly.specs.TableRows.{HasPointsBelow, RowFits, made_row, row_numbers};
 
-use geo_logs::{Move, RowList};
 use area_coords::CoordRows;
 use elim_area::AreaRows;
 use elim_pyth::PythRows;
 use elim_ratio::RatioRows;
 use fraction_poly::{RowNumbers, Rows};
+use geo_logs::{Move, RowList};
 use geo_points::{NoMemory, PointId};
 use geo_poly::{Piece, Row, Var};
 use geo_terms::Steps;
