@@ -196,22 +196,16 @@ fn push_verdict(alloc: Global, out: &mut Vec<u8>, verdict: Verdict) -> Result<()
     match verdict {
         Verdict::Proved => out.extend_from_slice(b"Proved.\n")?,
         Verdict::False(goal) => {
-            push_numbered(alloc, out, b"False: goal ", goal, b" fails there.\n")?;
+            push_numbered(alloc, out, b"False: goal ", goal, b" fails there.")?;
         }
-        Verdict::Impossible(condition) => {
-            push_numbered(
-                alloc,
-                out,
-                b"Impossible: condition ",
-                condition,
-                b" is never met.\n",
-            )?;
+        Verdict::Impossible(k) => {
+            push_numbered(alloc, out, b"Impossible: condition ", k, b" is never met.")?;
         }
     }
     Ok(())
 }
 
-/// Appends a number between two texts.
+/// Appends a line: a number between two texts.
 fn push_numbered(
     alloc: Global,
     out: &mut Vec<u8>,
@@ -220,10 +214,11 @@ fn push_numbered(
     behind: &[u8],
 ) -> Result<(), NoMemory>
     ensures { OnOk result (out.new.items ≡ out.old.items
-        ++ (before.now ++ decimal n ++ behind.now)) }
+        ++ ended (before.now ++ decimal n ++ behind.now)) }
 {
     out.extend_from_slice(before)?;
     push_number(alloc, out, n)?;
     out.extend_from_slice(behind)?;
+    out.push(b'\n')?;
     Ok(())
 }

@@ -1,6 +1,9 @@
 //! The text of a log as a proof.
 
-ghost use Rattle.std.specs.Prelude.{◌≡◌, ◌≤◌, ℕ, IfOk, length};
+ghost use Rattle.std.specs.Prelude.{◌≡◌, ◌≤◌, IfErr, IfOk, length};
+ghost use Rattle.geo_program.specs.Programs.{source_of};
+ghost use Rattle.geo_lowering.specs.Lowering.{IsLowered};
+ghost use Rattle.log_checker.specs.Checked.{IsRefusedLog, TellsStop};
 ghost use Rattle.proof_printer.specs.Proofs.{IsReadableProof};
 
 use crate::namer::Namer;
@@ -15,7 +18,8 @@ use std::alloc::Global;
 /// The readable proof of a log, which is checked first. The refusals are those of `check`.
 pub fn text(alloc: Global, bytes: &[u8], steps: u64) -> Result<Text, CheckError>
     requires { length bytes.now ≤ 67108864 }
-    ensures proof { IfOk result (λ text. IsReadableProof bytes.now steps text) }
+    ensures readable { IfOk result (IsReadableProof bytes.now steps) }
+    ensures refused { IfErr result (TellsStop (IsRefusedLog bytes.now steps)) }
 {
     let accepted = check(alloc, bytes, steps)?;
     let printer = printer_of(alloc, &accepted.program)?;
