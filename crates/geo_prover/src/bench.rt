@@ -2,7 +2,8 @@
 
 ghost use Rattle.std.specs.Prelude.{◌≡◌, ◌+◌, ◌*◌, ◌<◌, ◌≤◌, [], ◌∷◌, ◌++◌, IfOk, OnOk};
 ghost use Rattle.geo_program.specs.Programs.{source_of};
-ghost use Rattle.geo_prover.specs.Bench.{IsBench, bench_commands, bench_names, corner, corner_names, middles, numbered_name};
+ghost use Rattle.geo_prover.specs.Bench.{IsBench, bench_commands, bench_names, corner};
+ghost use Rattle.geo_prover.specs.Bench.{corner_names, middles, numbered_name};
 
 use geo_base::Text;
 use geo_points::{NoMemory, PointId};

@@ -1,5 +1,5 @@
 -- The lines of an accepted log can be printed, one behind another.
-use Rattle.std.proofs.Common.{◌≡◌, ℕ, zero, suc, ◌+◌, ◌-◌, ◌<◌, ◌≤◌, ◌^◌, inl, inr, if◌then◌else◌, None, List, [], ◌∷◌, ◌++◌, map, length, refl, sym, subst, arith}
+use Rattle.std.proofs.Common.{◌≡◌, ℕ, zero, suc, ◌-◌, ◌<◌, ◌^◌, inl, inr, if◌then◌else◌, None, List, [], ◌∷◌, ◌++◌, map, length, refl, sym, subst, arith}
 use Rattle.std.specs.List.{AllByRecursion, filter_map}
 use Rattle.std.specs.Option.{option_map}
 use Rattle.std.specs.Ordering.{is_eq}
@@ -18,7 +18,7 @@ use Rattle.geo_logs.specs.declared.moves.Move.{Move}
 use Rattle.geo_logs.specs.declared.moves.Move.TheVariants as move
 use Rattle.geo_logs.specs.Chains.{ChainStep, IsAcceptedChain, LeadsTo, cuts, line_of, moves}
 use Rattle.geo_logs.specs.Logs.{AreConditionsWorked, AreGoalsWorked, BeginsWithChain, IsConcluded, Item, known_by}
-use Rattle.geo_logs.specs.Moves.{IsMoved, move_charge, place_of_lemma, replacement}
+use Rattle.geo_logs.specs.Moves.{IsMoved, move_charge, replacement}
 use Rattle.geo_logs.specs.Naming.{IsNamed}
 use Rattle.geo_logs.specs.Samples.{IsAcceptedSample}
 use Rattle.geo_logs.specs.Sound.{IsSoundTable}
@@ -34,7 +34,7 @@ use Rattle.proof_log.specs.declared.log.Line.TheVariants.{Header, Program as Pro
 use Rattle.proof_log.specs.declared.log.Verdict.{Verdict}
 use Rattle.proof_log.specs.declared.log.Verdict.TheVariants.{Proved, False}
 use Rattle.proof_printer.specs.Inner.Printing.{CanMove, CanPrint, CanPrintAll}
-use Rattle.proof_printer.specs.Readable.{polynomial_after, ratio_move}
+use Rattle.proof_printer.specs.Readable.{polynomial_after}
 
 module _ (c : Construction) (construction : IsConstruction c) where
   sound : IsSoundTable lemma_table c
@@ -100,7 +100,7 @@ module _ (c : Construction) (construction : IsConstruction c) where
 
   -- CHAINS
   -- the lines can be printed behind any polynomial
-  abbrev pub Anywhere : List Line → Type 0
+  abbrev Anywhere : List Line → Type 0
   Anywhere lines = (q : Terms) → CanPrintAll c q lines
 
   steps_can : (known : List Var) (left : ℕ) (q : Terms) (steps : List ChainStep) (left' : ℕ) (e : Terms) (rest : List Line) → AllVariables (IsNamed c points) q → left < 2 ^ 128
@@ -116,29 +116,18 @@ module _ (c : Construction) (construction : IsConstruction c) where
   abbrev IsBelow : Item → Type 0
   IsBelow item = IsTermBelow points c.params item.term
 
-  -- the header of a chain needs nothing, and leaves the polynomial as it was
-  pub record IsHeader (header : Line) : Type 0 where
-    pub can : (q : Terms) → CanPrint c q header
-    pub stays : (q : Terms) → polynomial_after q header ≡ q
-
-  chain_can : (header : Line) → IsHeader header → (known : List Var) (left : ℕ) (item : Item) (lines : List Line) → IsBelow item → left < 2 ^ 128
-      → (first : BeginsWithChain (IsAcceptedChain lemma_table c) (IsAcceptedSample c) header known left item lines) → Anywhere first.rest → Anywhere lines
-  chain_can header h known left item lines item_below few first rest =
+  chain_can : (head : Line) → ((q : Terms) → CanPrint c q head) → (known : List Var) (left : ℕ) (item : Item) (lines : List Line) → IsBelow item → left < 2 ^ 128
+      → (first : BeginsWithChain (IsAcceptedChain lemma_table c) (IsAcceptedSample c) head known left item lines) → Anywhere first.rest → Anywhere lines
+  chain_can head h known left item lines item_below few first rest =
       let e = item.term in
       let inner = steps_can known (left - start_charge e) (start_of e) first.chain.steps first.after first.chain.end first.rest ((term_sound c e).named points item_below) (omega (arith, few))
       first.works.leads rest in
-      subst Anywhere (sym first.split) (λ q. (h.can q, (tt, inner)))
+      subst Anywhere (sym first.split) (λ q. (h q, (tt, inner)))
 
-  after_few : (known : List Var) (left : ℕ) (item : Item) (header : Line) (lines : List Line)
-      → (first : BeginsWithChain (IsAcceptedChain lemma_table c) (IsAcceptedSample c) header known left item lines) → left < 2 ^ 128 → first.after < 2 ^ 128
-  after_few known left item header lines first few =
+  after_few : (known : List Var) (left : ℕ) (item : Item) (head : Line) (lines : List Line)
+      → (first : BeginsWithChain (IsAcceptedChain lemma_table c) (IsAcceptedSample c) head known left item lines) → left < 2 ^ 128 → first.after < 2 ^ 128
+  after_few known left item head lines first few =
       let less = chain_spent lemma_table c known left item.term first.chain first.after first.works in omega (arith, less, few)
-
-  condition_header : (k : ℕ) (text : List ℕ) → IsHeader (Condition k text)
-  condition_header k text = record { can = λ q. tt; stays = λ q. refl }
-
-  goal_header : (k : ℕ) (text : List ℕ) → IsHeader (Goal k text)
-  goal_header k text = record { can = λ q. tt; stays = λ q. refl }
 
   concluded_can : (listed : List Terms) (left : ℕ) (lines : List Line) (verdict : Verdict) (left' : ℕ)
       → IsConcluded (IsAcceptedChain lemma_table c) (IsAcceptedSample c) listed left lines verdict left' → Anywhere lines
@@ -148,10 +137,10 @@ module _ (c : Construction) (construction : IsConstruction c) where
       → AreGoalsWorked (IsAcceptedChain lemma_table c) (IsAcceptedSample c) known listed k left items lines verdict left' → Anywhere lines
   goals_can known listed k left [] lines verdict left' b few h = concluded_can listed left lines Proved left' h.1
   goals_can known listed k left (item ∷ items) lines verdict left' b few (first, inl h) =
-      chain_can (Goal k item.text) (goal_header k item.text) known left item lines b.0 few first
+      chain_can (Goal k item.text) (λ q. tt) known left item lines b.0 few first
       (goals_can known listed (suc k) first.after items first.rest verdict left' b.1 (after_few known left item (Goal k item.text) lines first few) h.1)
   goals_can known listed k left (item ∷ items) lines verdict left' b few (first, inr h) =
-      chain_can (Goal k item.text) (goal_header k item.text) known left item lines b.0 few first
+      chain_can (Goal k item.text) (λ q. tt) known left item lines b.0 few first
       (concluded_can (listed ++ first.chain.end ∷ []) first.after first.rest (False k) left' h.2)
 
   conditions_can : (goals : List Item) (known : List Var) (listed : List Terms) (k left : ℕ) (items : List Item) (lines : List Line) (verdict : Verdict) (left' : ℕ)
@@ -159,9 +148,9 @@ module _ (c : Construction) (construction : IsConstruction c) where
       → AreConditionsWorked (IsAcceptedChain lemma_table c) (IsAcceptedSample c) goals known listed k left items lines verdict left' → Anywhere lines
   conditions_can goals known listed k left [] lines verdict left' g b few h = goals_can known listed 1 left goals lines verdict left' g few h
   conditions_can goals known listed k left (item ∷ items) lines verdict left' g b few (first, inl h) =
-      chain_can (Condition k item.text) (condition_header k item.text) known left item lines b.0 few first (subst Anywhere (sym h.2) (λ q. (tt, tt)))
+      chain_can (Condition k item.text) (λ q. tt) known left item lines b.0 few first (subst Anywhere (sym h.2) (λ q. (tt, tt)))
   conditions_can goals known listed k left (item ∷ items) lines verdict left' g b few (first, inr h) =
-      chain_can (Condition k item.text) (condition_header k item.text) known left item lines b.0 few first
+      chain_can (Condition k item.text) (λ q. tt) known left item lines b.0 few first
       (conditions_can goals (known ++ known_by (item ∷ [])) (listed ++ first.chain.end ∷ []) (suc k) first.after items first.rest verdict left' g b.1
       (after_few known left item (Condition k item.text) lines first few) h.1)
 

@@ -2,7 +2,8 @@
 
 ghost use Rattle.std.specs.Prelude.{codes, ◌≡◌, [], ◌++◌, OnOk};
 ghost use Rattle.std.specs.Fmt.{decimal};
-ghost use Rattle.proof_printer.specs.Readable.{ended, end_text, lines_of, move_lines, polynomial_after, ratio_move, verdict_text};
+ghost use Rattle.proof_printer.specs.Readable.{end_text, ended, lines_of, move_lines};
+ghost use Rattle.proof_printer.specs.Readable.{polynomial_after, ratio_move, verdict_text};
 ghost use Rattle.proof_printer.specs.Inner.Names.{naming_in};
 ghost use Rattle.proof_printer.specs.Inner.Printing.{CanMove, CanPrint};
 
@@ -27,8 +28,8 @@ impl Printer {
         line: &Line,
     ) -> Result<(), NoMemory>
         requires { CanPrint self.now.steps before.now line.now }
-        ensures { OnOk result (out.new.items
-            ≡ out.old.items ++ lines_of (naming_in self.now.namer) self.now.steps before.now line.now) }
+        ensures { OnOk result (out.new.items ≡ out.old.items
+            ++ lines_of (naming_in self.now.namer) self.now.steps before.now line.now) }
     {
         match line {
             Line::Header => Ok(()),
@@ -103,12 +104,7 @@ impl Printer {
     }
 
     /// Appends the values of a sample.
-    fn push_sample(
-        &self,
-        alloc: Global,
-        out: &mut Vec<u8>,
-        values: &Values,
-    ) -> Result<(), NoMemory>
+    fn push_sample(&self, alloc: Global, out: &mut Vec<u8>, values: &Values) -> Result<(), NoMemory>
         ensures { OnOk result (out.new.items ≡ out.old.items
             ++ lines_of (naming_in self.now.namer) self.now.steps [] (Line.Sample values.now)) }
     {

@@ -1,9 +1,10 @@
 //! What a move replaces, line by line.
 
-ghost use Rattle.std.specs.Prelude.{codes, ◌≡◌, ◌++◌, OnOk};
+ghost use Rattle.std.specs.Prelude.{◌≡◌, ◌++◌, OnOk};
 ghost use Rattle.std.specs.List.{flat_map};
 ghost use Rattle.proof_printer.specs.Inner.Names.{naming_in};
-ghost use Rattle.proof_printer.specs.Readable.{denominator_text, ended, replacement_lines, row_text};
+ghost use Rattle.proof_printer.specs.Readable.{denominator_text, ended};
+ghost use Rattle.proof_printer.specs.Readable.{replacement_lines, row_text};
 
 use crate::namer::Namer;
 use crate::polynomials::push_exponent;

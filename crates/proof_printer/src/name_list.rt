@@ -1,7 +1,6 @@
 //! Names by number.
 
-ghost use Rattle.std.specs.Prelude.{◌≡◌, ◌<◌, ◌≤◌, ◌^◌, ◌++◌, All, IfOk, OnOk, map, unwrap_or};
-ghost use Rattle.std.specs.Fmt.{decimal};
+ghost use Rattle.std.specs.Prelude.{◌≡◌, ◌<◌, ◌≤◌, ◌^◌, ◌++◌, All, IfOk, OnOk, map};
 ghost use Rattle.std.specs.Option.{option_map};
 ghost use Rattle.proof_printer.specs.Inner.Names.{name_in};
 ghost use Rattle.proof_printer.specs.Naming.{name_at, name_or_number};
@@ -19,14 +18,16 @@ pub(crate) struct NameList {
 }
 
 impl NameList {
-    /// The names of what stands at these places, and for all other numbers the mark with the number.
+    /// The names of what stands at these places, and for all other numbers the mark with the
+    /// number.
     pub fn new(
         alloc: Global,
         mark: &[u8],
         places: &[u32],
         names: &[&[u8]],
     ) -> Result<NameList, NoMemory>
-        ensures { IfOk result (λ l. name_in l ≡ name_or_number mark.now places.now (map (λ name. name.now) names.now)) }
+        ensures { let texts = map (λ name. name.now) names.now in
+            IfOk result (λ l. name_in l ≡ name_or_number mark.now places.now texts) }
     {
         let mut list = Vec::new(alloc);
         for n in 0..one_past(places) {
@@ -73,7 +74,8 @@ fn name_or_mark(
     names: &[&[u8]],
     n: u32,
 ) -> Result<Text, NoMemory>
-    ensures { IfOk result (λ text. text ≡ name_or_number mark.now places.now (map (λ name. name.now) names.now) n) }
+    ensures { let texts = map (λ name. name.now) names.now in
+        IfOk result (λ text. text ≡ name_or_number mark.now places.now texts n) }
 {
     let mut bytes = Vec::new(alloc);
     match find_name(places, names, n) {
@@ -88,7 +90,8 @@ fn name_or_mark(
 
 /// The name of what stands at place n.
 fn find_name<'a>(places: &[u32], names: &[&'a [u8]], n: u32) -> Option<&'a [u8]>
-    ensures { option_map (λ name. name.now) result ≡ name_at places.now (map (λ name. name.now) names.now) n }
+    ensures { let texts = map (λ name. name.now) names.now in
+        option_map (λ name. name.now) result ≡ name_at places.now texts n }
 {
     for (k, place) in places.iter().enumerate() {
         if *place == n {

@@ -41,7 +41,8 @@ impl Namer {
 
     /// Appends the name of a variable.
     pub fn push_variable(&self, alloc: Global, out: &mut Vec<u8>, v: Var) -> Result<(), NoMemory>
-        ensures { OnOk result (out.new.items ≡ out.old.items ++ variable_text (naming_in self.now) v) }
+        ensures { OnOk result (out.new.items
+            ≡ out.old.items ++ variable_text (naming_in self.now) v) }
     {
         match v {
             Var::R(a, b, c, d) => self.push_ratio(alloc, out, [a, b], [c, d]),
@@ -80,7 +81,8 @@ impl Namer {
         other: [PointId; 2],
     ) -> Result<(), NoMemory>
         ensures { OnOk result (out.new.items ≡ out.old.items ++ (codes "R("
-            ++ points_text (naming_in self.now) one ++ codes ";" ++ points_text (naming_in self.now) other ++ codes ")")) }
+            ++ points_text (naming_in self.now) one ++ codes ";"
+            ++ points_text (naming_in self.now) other ++ codes ")")) }
     {
         out.extend_from_slice(b"R(")?;
         self.push_points(alloc, out, one[0], &[one[1]])?;

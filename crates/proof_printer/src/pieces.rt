@@ -1,6 +1,6 @@
 //! The lines of bytes.
 
-ghost use Rattle.std.specs.Prelude.{◌≡◌, [], ◌∷◌, ◌++◌, IfSome, IsNone, IfOk};
+ghost use Rattle.std.specs.Prelude.{◌≡◌, ◌∷◌, ◌++◌, IfSome, IsNone, IfOk};
 ghost use Rattle.proof_log.specs.declared.log.Line.{Line};
 ghost use Rattle.proof_log.specs.Lines.{line_text};
 ghost use Rattle.proof_log.specs.Writable.{HasNoLineFeed, IsWritable};
@@ -26,7 +26,8 @@ pub(crate) fn split_line(bytes: &[u8]) -> Option<(&[u8], &[u8])>
 /// The line that was written so.
 pub(crate) fn read_written(alloc: Global, bytes: &[u8]) -> Result<Line, NoMemory>
     requires { (line : Line) × IsWritable line × (bytes.now ≡ line_text line) }
-    ensures { (line : Line) → IsWritable line → bytes.now ≡ line_text line → IfOk result (λ l. l ≡ line) }
+    ensures { (line : Line) → IsWritable line → bytes.now ≡ line_text line
+        → IfOk result (λ l. l ≡ line) }
 {
     match read_line(alloc, bytes) {
         Ok(line) => Ok(line),

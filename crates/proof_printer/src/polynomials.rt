@@ -1,12 +1,13 @@
 //! Polynomials, factors and values with the names of a program.
 
-ghost use Rattle.std.specs.Prelude.{codes, ◌≡◌, ◌<◌, ◌++◌, length, unsigned_abs, OnOk};
+ghost use Rattle.std.specs.Prelude.{◌≡◌, ◌<◌, ◌++◌, length, unsigned_abs, OnOk};
 ghost use Rattle.std.specs.Fmt.{decimal};
 ghost use Rattle.std.specs.List.{flat_map};
 ghost use Rattle.geo_poly.specs.Polynomials.{term_at};
 ghost use Rattle.proof_log.specs.Lines.{sign_text};
 ghost use Rattle.proof_printer.specs.Inner.Names.{naming_in};
-ghost use Rattle.proof_printer.specs.Polynomials.{exponent_text, factor_text, polynomial_text, power_text, term_text, value_text};
+ghost use Rattle.proof_printer.specs.Polynomials.{exponent_text, factor_text, polynomial_text};
+ghost use Rattle.proof_printer.specs.Polynomials.{power_text, term_text, value_text};
 
 use crate::namer::Namer;
 use crate::numbers::{push_integer, push_number};
@@ -22,7 +23,8 @@ impl Namer {
         out: &mut Vec<u8>,
         poly: &Poly,
     ) -> Result<(), NoMemory>
-        ensures { OnOk result (out.new.items ≡ out.old.items ++ polynomial_text (naming_in self.now) poly.now) }
+        ensures { OnOk result (out.new.items
+            ≡ out.old.items ++ polynomial_text (naming_in self.now) poly.now) }
     {
         if poly.is_zero() {
             out.push(b'0')?;
@@ -45,7 +47,8 @@ impl Namer {
         i: u64,
     ) -> Result<(), NoMemory>
         requires { i < length poly.now }
-        ensures { OnOk result (out.new.items ≡ out.old.items ++ term_text (naming_in self.now) (term_at poly.now i)) }
+        ensures { OnOk result (out.new.items
+            ≡ out.old.items ++ term_text (naming_in self.now) (term_at poly.now i)) }
     {
         push_coefficient(alloc, out, poly.coefficient(i))?;
         for j in 0..poly.powers(i) {
@@ -62,7 +65,8 @@ impl Namer {
         out: &mut Vec<u8>,
         factor: &Factor,
     ) -> Result<(), NoMemory>
-        ensures { OnOk result (out.new.items ≡ out.old.items ++ factor_text (naming_in self.now) factor.now) }
+        ensures { OnOk result (out.new.items
+            ≡ out.old.items ++ factor_text (naming_in self.now) factor.now) }
     {
         push_integer(alloc, out, factor.coef())?;
         for j in 0..factor.powers() {
@@ -80,7 +84,8 @@ impl Namer {
         variable: Var,
         exponent: u32,
     ) -> Result<(), NoMemory>
-        ensures { OnOk result (out.new.items ≡ out.old.items ++ power_text (naming_in self.now) (variable, exponent)) }
+        ensures { OnOk result (out.new.items
+            ≡ out.old.items ++ power_text (naming_in self.now) (variable, exponent)) }
     {
         out.extend_from_slice(b"*")?;
         self.push_variable(alloc, out, variable)?;
@@ -94,7 +99,8 @@ impl Namer {
         out: &mut Vec<u8>,
         values: &[(Var, i128)],
     ) -> Result<(), NoMemory>
-        ensures { OnOk result (out.new.items ≡ out.old.items ++ flat_map (value_text (naming_in self.now)) values.now) }
+        ensures { OnOk result (out.new.items
+            ≡ out.old.items ++ flat_map (value_text (naming_in self.now)) values.now) }
     {
         for value in values {
             self.push_value(alloc, out, value)?;
@@ -109,7 +115,8 @@ impl Namer {
         out: &mut Vec<u8>,
         value: &(Var, i128),
     ) -> Result<(), NoMemory>
-        ensures { OnOk result (out.new.items ≡ out.old.items ++ value_text (naming_in self.now) value.now) }
+        ensures { OnOk result (out.new.items
+            ≡ out.old.items ++ value_text (naming_in self.now) value.now) }
     {
         let (variable, number) = *value;
         out.extend_from_slice(b" ")?;
@@ -120,11 +127,7 @@ impl Namer {
 }
 
 /// Appends `^` and the exponent, where that is not 1.
-pub(crate) fn push_exponent(
-    alloc: Global,
-    out: &mut Vec<u8>,
-    exponent: u32,
-) -> Result<(), NoMemory>
+pub(crate) fn push_exponent(alloc: Global, out: &mut Vec<u8>, exponent: u32) -> Result<(), NoMemory>
     ensures { OnOk result (out.new.items ≡ out.old.items ++ exponent_text exponent) }
 {
     if exponent != 1 {

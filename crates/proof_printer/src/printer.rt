@@ -1,10 +1,6 @@
 //! A whole log, line by line.
 
-ghost use Rattle.std.specs.Prelude.{◌≡◌, IfOk};
-ghost use Rattle.geo_program.specs.Programs.{source_of};
-ghost use Rattle.geo_lowering.specs.Lowering.{IsLowered};
-ghost use Rattle.geo_lowering.specs.Parts.{form_of};
-ghost use Rattle.proof_printer.specs.Naming.{naming_of};
+ghost use Rattle.std.specs.Prelude.{IfOk};
 ghost use Rattle.proof_printer.specs.Inner.Names.{naming_in};
 ghost use Rattle.proof_printer.specs.Inner.Printing.{IsPrintable, IsPrinted};
 
@@ -31,7 +27,8 @@ impl Printer {
     /// The readable proof of a log.
     pub fn print(&self, alloc: Global, bytes: &[u8]) -> Result<Text, NoMemory>
         requires { IsPrintable self.now.steps bytes.now }
-        ensures { IfOk result (λ text. IsPrinted (naming_in self.now.namer) self.now.steps bytes.now text) }
+        ensures { IfOk result
+            (IsPrinted (naming_in self.now.namer) self.now.steps bytes.now) }
     {
         let mut out = Vec::new(alloc);
         let mut before = Poly::zero(alloc);

@@ -2,8 +2,10 @@
 
 ghost use Rattle.std.specs.Prelude.{◌≡◌, ◌≤◌, IfErr, IfOk, length};
 ghost use Rattle.geo_program.specs.Programs.{source_of};
-ghost use Rattle.geo_lowering.specs.Lowering.{IsLowered};
 ghost use Rattle.log_checker.specs.Checked.{IsRefusedLog, TellsStop};
+ghost use Rattle.proof_printer.specs.Inner.Names.{naming_in};
+ghost use Rattle.proof_printer.specs.Inner.Printing.{IsConstructionOf};
+ghost use Rattle.proof_printer.specs.Naming.{naming_of};
 ghost use Rattle.proof_printer.specs.Proofs.{IsReadableProof};
 
 use crate::namer::Namer;
@@ -27,7 +29,12 @@ pub fn text(alloc: Global, bytes: &[u8], steps: u64) -> Result<Text, CheckError>
 }
 
 /// The printer of a program's logs.
-fn printer_of(alloc: Global, program: &Program) -> Result<Printer, NoMemory> {
+fn printer_of(alloc: Global, program: &Program) -> Result<Printer, NoMemory>
+    ensures names { IfOk result (λ printer.
+        naming_in printer.namer ≡ naming_of (source_of program.now)) }
+    ensures steps { IfOk result (λ printer.
+        IsConstructionOf (source_of program.now) printer.steps) }
+{
     let lowered = lower(alloc, program)?;
     let namer = Namer::new(alloc, program, &lowered)?;
     let Lowered {

@@ -45,46 +45,39 @@ const MIDDLE: Worked = Worked {
     ],
 };
 
-/// The ratio of two segments that are not parallel.
-const SEGMENTS: Worked = Worked {
+/// Two conditions on one number, and a goal that fails.
+const NUMBERS: Worked = Worked {
     log: &[
         "geolog 1",
-        "| point A",
-        "| point B",
-        "| point C",
-        "| point D",
-        "| prove { equal { sratio A B C D } { 1 } }",
-        "condition 1 different C D",
-        "start : +1*P2.3.2",
-        "coords : +2*x2^2 -4*x2*x3 +2*y2^2 -4*y2*y3 +2*x3^2 +2*y3^2",
-        "cut 2 : +1*x2^2 -2*x2*x3 +1*y2^2 -2*y2*y3 +1*x3^2 +1*y3^2",
+        "| param r",
+        "| prove { equal { div { 1 } { r } } { div { 1 } { sub { r } { 1 } } } }",
+        "condition 1 nonzero { r }",
+        "start : +1*t0",
         "end",
-        "goal 1 parallel A B C D",
-        "start : +1*S0.2.3 -1*S1.2.3",
-        "coords : +1*x0*y2 -1*x0*y3 -1*y0*x2 +1*y0*x3 -1*x1*y2 +1*x1*y3 +1*y1*x2 -1*y1*x3",
+        "condition 2 nonzero { sub { r } { 1 } }",
+        "start : +1*t0 -1",
         "end",
-        "sample x0=0 y0=0 x1=0 y1=1 x2=0 y2=0 x3=1 y3=0",
+        "goal 1 equal { div { 1 } { r } } { div { 1 } { sub { r } { 1 } } }",
+        "start : -1",
+        "cut -1 : +1",
+        "end",
+        "sample t0=2",
         "verdict false 1",
     ],
     proof: &[
-        "point A",
-        "point B",
-        "point C",
-        "point D",
-        "prove { equal { sratio A B C D } { 1 } }",
-        "Condition 1: different C D",
-        "  +1*P(C,D,C)",
-        "  P(C,D,C) = (+2*x(C)^2 -4*x(C)*x(D) +2*y(C)^2 -4*y(C)*y(D) +2*x(D)^2 +2*y(D)^2)",
-        "  gives +2*x(C)^2 -4*x(C)*x(D) +2*y(C)^2 -4*y(C)*y(D) +2*x(D)^2 +2*y(D)^2",
-        "  divide by 2: +1*x(C)^2 -2*x(C)*x(D) +1*y(C)^2 -2*y(C)*y(D) +1*x(D)^2 +1*y(D)^2",
+        "param r",
+        "prove { equal { div { 1 } { r } } { div { 1 } { sub { r } { 1 } } } }",
+        "Condition 1: nonzero { r }",
+        "  +1*r",
         "  not zero",
-        "Goal 1: parallel A B C D",
-        "  +1*S(A,C,D) -1*S(B,C,D)",
-        "  S(A,C,D) = (+1*x(A)*y(C) -1*x(A)*y(D) -1*y(A)*x(C) +1*y(A)*x(D) +1*x(C)*y(D) -1*y(C)*x(D)) / (+2)",
-        "  S(B,C,D) = (+1*x(B)*y(C) -1*x(B)*y(D) -1*y(B)*x(C) +1*y(B)*x(D) +1*x(C)*y(D) -1*y(C)*x(D)) / (+2)",
-        "  gives +1*x(A)*y(C) -1*x(A)*y(D) -1*y(A)*x(C) +1*y(A)*x(D) -1*x(B)*y(C) +1*x(B)*y(D) +1*y(B)*x(C) -1*y(B)*x(D)",
+        "Condition 2: nonzero { sub { r } { 1 } }",
+        "  +1*r -1",
         "  not zero",
-        "At x(A)=0 y(A)=0 x(B)=0 y(B)=1 x(C)=0 y(C)=0 x(D)=1 y(D)=0",
+        "Goal 1: equal { div { 1 } { r } } { div { 1 } { sub { r } { 1 } } }",
+        "  -1",
+        "  divide by -1: +1",
+        "  not zero",
+        "At r=2",
         "False: goal 1 fails there.",
     ],
 };
@@ -225,7 +218,7 @@ fn refuses(answer: Result<Text, CheckError>, error: CheckError) -> bool {
 
 #[test]
 fn logs_are_printed(rt: HostRuntime) -> Result<(), Fail> {
-    for worked in [MIDDLE, SEGMENTS, ITSELF, CIRCLE] {
+    for worked in [MIDDLE, NUMBERS, ITSELF, CIRCLE] {
         let log = joined(rt.alloc(), worked.log)?;
         let proof = joined(rt.alloc(), worked.proof)?;
         assert!(rt; log.len() <= 67_108_864);

@@ -1,4 +1,3 @@
-use Rattle.std.proofs.Common.{◌∙◌, get_or}
 use Rattle.proof_printer.proofs.Lookups.{no_line_feed-next}
 use Rattle.proof_printer.proofs.pieces.split_line.Goals as goal
 

@@ -9,7 +9,7 @@ pub loop-n-preserved : goal.loop-n-preserved
 loop-n-preserved c =
     let name = name_or_number c.args.mark.now c.args.places.now (map (λ name. name.now) c.args.names.now) in
     let longer : c.push.new.self.items ≡ c.loop-n.list.items ++ name c.loop-n.n ∷ [] =
-    c.in_ok-push.ensures.items ∙ ap (λ (x : List ℕ). c.loop-n.list.items ++ x ∷ []) c.in_ok-name_or_mark.ensures in
+    ◌∙◌ {A = List (List ℕ)} c.in_ok-push.ensures.items (ap (λ (x : List ℕ). c.loop-n.list.items ++ x ∷ []) c.in_ok-name_or_mark.ensures) in
     subst (λ (l : List (List ℕ)). NamedBelow name l (c.loop-n.n + 1)) (sym longer) (named-more name c.loop-n.list.items c.loop-n.n c.loop-n.invariant)
 
 pub returns : goal.returns

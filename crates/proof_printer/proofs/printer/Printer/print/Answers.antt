@@ -1,6 +1,5 @@
 use Rattle.std.proofs.Common.{◌++◌, ◌∙◌, refl, sym, subst, ap}
 use Rattle.proof_log.specs.declared.log.Line.{Line}
-use Rattle.geo_poly.specs.Polynomials.{Terms}
 use Rattle.proof_printer.specs.Inner.Names.{naming_in}
 use Rattle.proof_printer.specs.Inner.Printing.{CanPrint}
 use Rattle.proof_printer.specs.Readable.{lines_of, polynomial_after}
