@@ -2,7 +2,8 @@
 
 ghost use Rattle.std.specs.Prelude.{◌≡◌, ◌<◌, ◌&&◌, IfOk, length, option_map};
 ghost use Rattle.std.specs.Option.{ForSome};
-ghost use Rattle.area_coords.specs.FreeTable.{area_in_coordinates, difference_in_coordinates, free_table, is_free};
+ghost use Rattle.area_coords.specs.FreeTable.{area_in_coordinates, difference_in_coordinates};
+ghost use Rattle.area_coords.specs.FreeTable.{free_table, is_free};
 ghost use Rattle.fraction_poly.specs.Inner.Drafts.{form_of, row_of_draft};
 ghost use Rattle.fraction_poly.specs.Forms.{abscissa, ordinate, ◌⊞◌, ◌⊟◌, ◌⊠◌};
 ghost use Rattle.geo_terms.specs.Trees.{Tree};
@@ -14,7 +15,8 @@ use geo_poly::{Piece, Row, Var};
 use geo_terms::{Step, Steps};
 use std::alloc::Global;
 
-/// The rows of areas and Pythagoras differences of free points. They look at no step but those of the points.
+/// The rows of areas and Pythagoras differences of free points. They look at no step but those of
+/// the points.
 #[derive(Clone, Copy, Debug, PartialEq, Eq)]
 pub struct CoordRows;
 
@@ -49,7 +51,8 @@ impl Rows for CoordRows {
     }
 }
 
-/// The row of a quantity whose points are all free, as it is written. The point `_at` is not looked at.
+/// The row of a quantity whose points are all free, as it is written. The point `_at` is not looked
+/// at.
 fn free_row(
     alloc: Global,
     steps: &Steps,
@@ -57,7 +60,8 @@ fn free_row(
     var: Var,
 ) -> Result<Option<RowDraft>, NoMemory>
     requires { HasPointsBelow (length steps.now.steps) var }
-    ensures row { IfOk result (λ o. option_map (row_of_draft steps.now.nodes) o ≡ free_table steps.now _at var) }
+    ensures row { IfOk result (λ o. option_map (row_of_draft steps.now.nodes) o
+        ≡ free_table steps.now _at var) }
     ensures number { IfOk result (λ o. ForSome o (λ d. d.number ≡ None)) }
 {
     let (power, num) = match var {
@@ -77,7 +81,8 @@ fn free_row(
 
 /// Whether all three points are free.
 fn are_free(steps: &Steps, a: PointId, b: PointId, c: PointId) -> bool
-    requires { (a.0 < length steps.now.steps) × (b.0 < length steps.now.steps) × (c.0 < length steps.now.steps) }
+    requires { (a.0 < length steps.now.steps) × (b.0 < length steps.now.steps)
+        × (c.0 < length steps.now.steps) }
     ensures { result ≡ (is_free steps.now a && is_free steps.now b && is_free steps.now c) }
 {
     is_free(steps, a) && is_free(steps, b) && is_free(steps, c)
@@ -104,7 +109,8 @@ fn area_in_coordinates(alloc: Global, a: PointId, b: PointId, c: PointId) -> Res
 /// `x_A y_B - x_A y_C - y_A x_B + y_A x_C`.
 fn products_from(alloc: Global, a: PointId, b: PointId, c: PointId) -> Result<Draft, NoMemory>
     ensures { IfOk result (λ d. (e : Tree) → form_of e d
-        ≡ abscissa a ⊠ ordinate b ⊟ abscissa a ⊠ ordinate c ⊟ ordinate a ⊠ abscissa b ⊞ ordinate a ⊠ abscissa c) }
+        ≡ abscissa a ⊠ ordinate b ⊟ abscissa a ⊠ ordinate c
+        ⊟ ordinate a ⊠ abscissa b ⊞ ordinate a ⊠ abscissa c) }
 {
     let ab = Draft::Abscissa(a).times(alloc, Draft::Ordinate(b))?;
     let ac = Draft::Abscissa(a).times(alloc, Draft::Ordinate(c))?;
@@ -136,7 +142,8 @@ fn with_products_upward(
     c: PointId,
 ) -> Result<Draft, NoMemory>
     ensures { IfOk result (λ d. (e : Tree) → form_of e d ≡ form_of e front
-        ⊞ ordinate a ⊠ ordinate c ⊟ ordinate a ⊠ ordinate b ⊟ ordinate b ⊠ ordinate c ⊞ ordinate b ⊠ ordinate b) }
+        ⊞ ordinate a ⊠ ordinate c ⊟ ordinate a ⊠ ordinate b
+        ⊟ ordinate b ⊠ ordinate c ⊞ ordinate b ⊠ ordinate b) }
 {
     let ac = Draft::Ordinate(a).times(alloc, Draft::Ordinate(c))?;
     let ab = Draft::Ordinate(a).times(alloc, Draft::Ordinate(b))?;
@@ -149,7 +156,8 @@ fn with_products_upward(
 /// `x_A x_C - x_A x_B - x_B x_C + x_B x_B`.
 fn products_across(alloc: Global, a: PointId, b: PointId, c: PointId) -> Result<Draft, NoMemory>
     ensures { IfOk result (λ d. (e : Tree) → form_of e d
-        ≡ abscissa a ⊠ abscissa c ⊟ abscissa a ⊠ abscissa b ⊟ abscissa b ⊠ abscissa c ⊞ abscissa b ⊠ abscissa b) }
+        ≡ abscissa a ⊠ abscissa c ⊟ abscissa a ⊠ abscissa b
+        ⊟ abscissa b ⊠ abscissa c ⊞ abscissa b ⊠ abscissa b) }
 {
     let ac = Draft::Abscissa(a).times(alloc, Draft::Abscissa(c))?;
     let ab = Draft::Abscissa(a).times(alloc, Draft::Abscissa(b))?;

@@ -10,7 +10,7 @@ use Rattle.geo_poly.specs.declared.replacement.Piece.{Piece}
 use Rattle.geo_poly.specs.declared.replacement.Row.{Row}
 use Rattle.geo_poly.specs.declared.variables.Var.{Var}
 use Rattle.geo_poly.specs.Monomials.{Powers, degree_of}
-use Rattle.geo_poly.specs.Polynomials.{Terms}
+use Rattle.geo_poly.specs.Polynomials.{Summands}
 use Rattle.geo_poly.specs.Replace.{degree_bound, degree_row, degree_rows, denominators, kept, most_denominators, others, power_in, replaced_degree, replaced_weight, row_of, term_degree, term_weight, weight_of, weight_row, weight_rows}
 use Rattle.geo_poly.specs.Variables.{var_cmp}
 use Rattle.geo_poly.proofs.Capped.{cap_left, cap_right, cap_weights, same_degrees}
@@ -100,7 +100,7 @@ others-capped rows (p ∷ m) =
     ap (λ (o : Option Row). kept o p (others (capped_rows rows) m)) (row_of-capped rows p.0) ∙ same_kept (row_of rows p.0) p (others (capped_rows rows) m)
     ∙ ap (λ (n : Powers). kept (row_of rows p.0) p n) (others-capped rows m)
 
-most-capped : (rows : List Row) (q : Terms) → most_denominators (capped_rows rows) q ≡ most_denominators rows q
+most-capped : (rows : List Row) (q : Summands) → most_denominators (capped_rows rows) q ≡ most_denominators rows q
 most-capped rows [] = refl
 most-capped rows (t ∷ ts) = ap₂ (λ x y. max x y) (denominators-capped rows t.0) (most-capped rows ts)
 
@@ -181,7 +181,7 @@ module _ (rows : List Row) (den : Piece) where
       ∙ ap (λ k. min (k * den.weight ^ n) (2 ^ 128 - 1)) (weights-capped rows t.0 w)
       ∙ cap_left (weight_rows rows t.0 w) (den.weight ^ n) (2 ^ 128 - 1)
 
-  pub replaced_weight-capped : (q : Terms) → min (replaced_weight (capped_rows rows) (capped_piece den) q) (2 ^ 128 - 1) ≡ min (replaced_weight rows den q) (2 ^ 128 - 1)
+  pub replaced_weight-capped : (q : Summands) → min (replaced_weight (capped_rows rows) (capped_piece den) q) (2 ^ 128 - 1) ≡ min (replaced_weight rows den q) (2 ^ 128 - 1)
   replaced_weight-capped q =
       ap (λ top. min (weight_of (capped_rows rows) (capped_piece den) top q) (2 ^ 128 - 1)) (most-capped rows q)
       ∙ sum-capped (term_weight (capped_rows rows) (capped_piece den) (most_denominators rows q)) (term_weight rows den (most_denominators rows q)) (term_weight-capped (most_denominators rows q)) q
@@ -197,7 +197,7 @@ module _ (rows : List Row) (den : Piece) where
       both : (a b c d m : ℕ) → min a m ≡ min b m → min c m ≡ min d m → min (a + c) m ≡ min (b + d) m
       both a b c d m h g = omega (arith, h, g)
 
-  degree_bound-capped : (top : ℕ) (q : Terms) → min (degree_bound (capped_rows rows) (capped_piece den) top q) (2 ^ 128 - 1) ≡ min (degree_bound rows den top q) (2 ^ 128 - 1)
+  degree_bound-capped : (top : ℕ) (q : Summands) → min (degree_bound (capped_rows rows) (capped_piece den) top q) (2 ^ 128 - 1) ≡ min (degree_bound rows den top q) (2 ^ 128 - 1)
   degree_bound-capped top [] = refl
   degree_bound-capped top (t ∷ ts) =
       both (term_degree (capped_rows rows) (capped_piece den) top t) (term_degree rows den top t) (degree_bound (capped_rows rows) (capped_piece den) top ts) (degree_bound rows den top ts) (2 ^ 128 - 1)
@@ -206,7 +206,7 @@ module _ (rows : List Row) (den : Piece) where
       both : (a b c d m : ℕ) → min a m ≡ min b m → min c m ≡ min d m → min (max a c) m ≡ min (max b d) m
       both a b c d m h g = omega (arith, h, g)
 
-  pub replaced_degree-capped : (q : Terms) → min (replaced_degree (capped_rows rows) (capped_piece den) q) (2 ^ 128 - 1) ≡ min (replaced_degree rows den q) (2 ^ 128 - 1)
+  pub replaced_degree-capped : (q : Summands) → min (replaced_degree (capped_rows rows) (capped_piece den) q) (2 ^ 128 - 1) ≡ min (replaced_degree rows den q) (2 ^ 128 - 1)
   replaced_degree-capped q =
       ap (λ top. min (degree_bound (capped_rows rows) (capped_piece den) top q) (2 ^ 128 - 1)) (most-capped rows q)
       ∙ degree_bound-capped (most_denominators rows q) q
@@ -231,7 +231,7 @@ module _ (rows : List Row) (den : Piece) where
         ∙ same_counts rows m (capped_number den.count ^ n) (den.count ^ n) (2 ^ 128 - 1) (cap_power den.count n (2 ^ 128 - 1)))
         ∙ cap_right (e + n + 1) (count_rows rows m (den.count ^ n)) (2 ^ 128 - 1)
 
-    pub move_charge-capped : (q : Terms) → min (move_charge capped_move q) (2 ^ 128 - 1) ≡ min (move_charge whole_move q) (2 ^ 128 - 1)
+    pub move_charge-capped : (q : Summands) → min (move_charge capped_move q) (2 ^ 128 - 1) ≡ min (move_charge whole_move q) (2 ^ 128 - 1)
     move_charge-capped q =
         let f : Row → ℕ = λ r. r.num.count in
         ap (λ top. min (capped_number charge + 4 * (sum_by f (capped_rows rows) + capped_number den.count) + sum_by (λ (t : Powers × ℤ). term_charge capped_move top t.0) q) (2 ^ 128 - 1)) (most-capped rows q)

@@ -6,7 +6,7 @@ use Rattle.std.specs.Option.{option_map}
 use Rattle.fraction_poly.specs.TableRows.{HasPointsBelow, TableRow, made_row}
 use Rattle.geo_poly.specs.declared.replacement.Row.{Row}
 use Rattle.geo_poly.specs.declared.variables.Var.{Var}
-use Rattle.geo_poly.specs.Polynomials.{Terms, IsPolynomial}
+use Rattle.geo_poly.specs.Polynomials.{Summands, IsPolynomial}
 use Rattle.geo_poly.specs.PolynomialVariables.{AllVariables, variables_of}
 use Rattle.geo_poly.specs.Replace.{replaced_degree, replaced_weight, row_of}
 use Rattle.geo_poly.proofs.EachVariable.{EachIn, each-variables}
@@ -29,7 +29,7 @@ module _ (c : Construction) (move : Move) where
       go None e = absurd (let q : ◌≡◌ {A = Option Row} None (Some r) = e in cc)
       go (Some t) e = let same : (made_row v t).0 ≡ r = cc in ap (λ (x : Row). x.var) (sym same)
 
-  module _ (q : Terms) (valid : IsPolynomial q) where
+  module _ (q : Summands) (valid : IsPolynomial q) where
     abbrev rows : List Row
     rows = filter_map row (variables_of q)
 

@@ -11,7 +11,7 @@ use Rattle.geo_poly.specs.declared.replacement.Piece.{Piece}
 use Rattle.geo_poly.specs.declared.replacement.Row.{Row}
 use Rattle.geo_poly.specs.declared.variables.Var.{Var}
 use Rattle.geo_poly.specs.Monomials.{Powers, IsMonomial, degree_of, exponents}
-use Rattle.geo_poly.specs.Polynomials.{Terms, IsPolynomial, coefficients, term_cmp}
+use Rattle.geo_poly.specs.Polynomials.{Summands, IsPolynomial, coefficients, term_cmp}
 use Rattle.geo_poly.specs.PolynomialVariables.{AllVariables}
 use Rattle.geo_poly.specs.Replace.{AllBounded, IsBounded, degree_bound, degree_row, degree_rows, denominators, most_denominators, others, replaced_degree, replaced_weight, row_of, term_weight, weight_of, weight_row, weight_rows}
 use Rattle.geo_poly.specs.Variables.{var_cmp}
@@ -101,7 +101,7 @@ module _ (rows : List Row) (bounded : AllBounded rows) where
 
   -- A POLYNOMIAL
   module _ (den : Piece) (heavy : IsBounded den) (top : ℕ) where
-    terms_within : (most greatest : ℕ) (q : Terms) → IsCanonical term_cmp coefficients q → AllKeys IsMonomial q
+    terms_within : (most greatest : ℕ) (q : Summands) → IsCanonical term_cmp coefficients q → AllKeys IsMonomial q
         → weight_of rows den top q ≤ most → degree_bound rows den top q ≤ greatest → AllVariables (Within most greatest) q
     terms_within most greatest [] c m weight degree = tt
     terms_within most greatest (t ∷ ts) c m weight degree =
@@ -114,7 +114,7 @@ module _ (rows : List Row) (bounded : AllBounded rows) where
           terms_within most greatest ts c.2 m.1 (omega (arith, sum, weight)) (omega (arith, degree)),
         )
 
-  pub line_within : (den : Piece) → IsBounded den → (q : Terms) → IsPolynomial q → AllVariables (Within (replaced_weight rows den q) (replaced_degree rows den q)) q
+  pub line_within : (den : Piece) → IsBounded den → (q : Summands) → IsPolynomial q → AllVariables (Within (replaced_weight rows den q) (replaced_degree rows den q)) q
   line_within den heavy q valid =
       terms_within den heavy (most_denominators rows q) (replaced_weight rows den q) (replaced_degree rows den q) q valid.in_order valid.monomials (omega arith) (omega arith)
 

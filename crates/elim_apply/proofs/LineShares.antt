@@ -8,7 +8,7 @@ use Rattle.sparse_lists.specs.SparseLists.{AllKeys}
 use Rattle.geo_poly.specs.declared.replacement.Row.{Row}
 use Rattle.geo_poly.specs.declared.variables.Var.{Var}
 use Rattle.geo_poly.specs.Monomials.{Powers, IsMonomial, degree_of}
-use Rattle.geo_poly.specs.Polynomials.{Terms, term_at}
+use Rattle.geo_poly.specs.Polynomials.{Summands, term_at}
 use Rattle.geo_poly.specs.Replace.{AllPowersSmall, degree_rows, denominators, most_denominators, others, power_in, row_of, weight_row, weight_rows}
 use Rattle.geo_poly.proofs.Capped.{cap_right, cap_weights, degree_none, degree_some, denominators-le}
 use Rattle.elim_apply.specs.declared.sizes.Share.{Share}
@@ -144,18 +144,18 @@ whole_share rows m k share h = record {
 }
 
 -- TERMS BY THEIR PLACES
-pub monomial_at : (q : Terms) (i : ℕ) → AllKeys IsMonomial q → i < length q → IsMonomial (term_at q i).0
+pub monomial_at : (q : Summands) (i : ℕ) → AllKeys IsMonomial q → i < length q → IsMonomial (term_at q i).0
 monomial_at [] i h lt = absurd (omega arith)
 monomial_at (t ∷ ts) zero h lt = h.0
 monomial_at (t ∷ ts) (suc i) h lt = monomial_at ts i h.1 (omega arith)
 
-pub term_shown : (q : Terms) (i : ℕ) → i < length q → drop i q ≡ term_at q i ∷ drop (i + 1) q
+pub term_shown : (q : Summands) (i : ℕ) → i < length q → drop i q ≡ term_at q i ∷ drop (i + 1) q
 term_shown q i lt = drop_more q i ([], pos 0) lt
 
 pub power_shown : {A : Type 0} (m : List A) (j : ℕ) (p : A) → slice_get m j ≡ Some p → drop j m ≡ p ∷ drop (j + 1) m
 power_shown m j p e = drop_more m j p (slice_get_within m j p e) ∙ ap (λ x. x ∷ drop (j + 1) m) (get_or_from_slice_get m j p p e)
 
-pub denominators_at : (rows : List Row) (q : Terms) (i : ℕ) → i < length q → denominators rows (term_at q i).0 ≤ most_denominators rows q
+pub denominators_at : (rows : List Row) (q : Summands) (i : ℕ) → i < length q → denominators rows (term_at q i).0 ≤ most_denominators rows q
 denominators_at rows [] i lt = absurd (omega arith)
 denominators_at rows (t ∷ ts) zero lt = omega arith
 denominators_at rows (t ∷ ts) (suc i) lt = omega (arith, denominators_at rows ts i (omega arith))

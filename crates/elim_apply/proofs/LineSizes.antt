@@ -6,7 +6,7 @@ use Rattle.std.proofs.lemmas.Bool.Decides.{nat_tests}
 use Rattle.std.proofs.lemmas.List.Sums.{sum_by-cons}
 use Rattle.geo_poly.specs.declared.replacement.Row.{Row}
 use Rattle.geo_poly.specs.Monomials.{Powers, degree_of}
-use Rattle.geo_poly.specs.Polynomials.{Terms}
+use Rattle.geo_poly.specs.Polynomials.{Summands}
 use Rattle.geo_poly.specs.Replace.{degree_bound, degree_rows, denominators, most_denominators, others, replaced_degree, replaced_weight, row_of, term_degree, term_weight, weight_of, weight_rows}
 use Rattle.geo_poly.proofs.Capped.{cap_left, cap_right}
 use Rattle.geo_logs.specs.declared.moves.Replacement.{Replacement}
@@ -77,7 +77,7 @@ module _ (made : Replacement) (top : ℕ) where
       sum d x y m h = omega (arith, h)
 
   -- the terms of q before those of `left` have this size, where the rows have the charge `start`
-  pub record IsSizeSoFar (start : ℕ) (q left : Terms) (charge weight degree : ℕ) : Type 0 where
+  pub record IsSizeSoFar (start : ℕ) (q left : Summands) (charge weight degree : ℕ) : Type 0 where
     pub charge-is : min (charge + sum_by (λ (t : Powers × ℤ). term_charge made top t.0) left) (2 ^ 128 - 1) ≡ min (start + sum_by (λ (t : Powers × ℤ). term_charge made top t.0) q) (2 ^ 128 - 1)
     pub charge_fits : charge ≤ 2 ^ 128 - 1
     pub weight-is : min (weight + weight_of made.rows made.den top left) (2 ^ 128 - 1) ≡ min (weight_of made.rows made.den top q) (2 ^ 128 - 1)
@@ -85,7 +85,7 @@ module _ (made : Replacement) (top : ℕ) where
     pub degree-is : min (max degree (degree_bound made.rows made.den top left)) (2 ^ 128 - 1) ≡ min (degree_bound made.rows made.den top q) (2 ^ 128 - 1)
     pub degree_fits : degree ≤ 2 ^ 128 - 1
 
-  pub no_size : (start charge : ℕ) (q : Terms) → charge ≡ min start (2 ^ 128 - 1) → IsSizeSoFar start q q charge 0 0
+  pub no_size : (start charge : ℕ) (q : Summands) → charge ≡ min start (2 ^ 128 - 1) → IsSizeSoFar start q q charge 0 0
   no_size start charge q h = record {
     charge-is = capped charge start (sum_by (λ (t : Powers × ℤ). term_charge made top t.0) q) (2 ^ 128 - 1) h;
     charge_fits = omega (arith, h);
@@ -106,7 +106,7 @@ module _ (made : Replacement) (top : ℕ) where
       → min (max a (max term rest)) m ≡ min all m → min (max after rest) m ≡ min all m
   most a after one term rest all m p q s = omega (arith, p, q, s)
 
-  pub size_more : (start : ℕ) (q : Terms) (t : Powers × ℤ) (left : Terms) (share : Share) (charge weight degree c w d charge' weight' degree' : ℕ)
+  pub size_more : (start : ℕ) (q : Summands) (t : Powers × ℤ) (left : Summands) (share : Share) (charge weight degree c w d charge' weight' degree' : ℕ)
       → IsShare made.rows t.0 (unsigned_abs t.1) share → IsTermSize made top share c w d
       → charge' ≡ min (charge + c) (2 ^ 128 - 1) → weight' ≡ min (weight + w) (2 ^ 128 - 1) → degree' ≡ max degree d
       → IsSizeSoFar start q (t ∷ left) charge weight degree → IsSizeSoFar start q left charge' weight' degree'
@@ -124,14 +124,14 @@ module _ (made : Replacement) (top : ℕ) where
       }
 
   -- all terms
-  pub record IsSize (start : ℕ) (q : Terms) (charge weight degree : ℕ) : Type 0 where
+  pub record IsSize (start : ℕ) (q : Summands) (charge weight degree : ℕ) : Type 0 where
     pub charge-is : charge ≡ min (start + sum_by (λ (t : Powers × ℤ). term_charge made top t.0) q) (2 ^ 128 - 1)
     pub weight-is : weight ≡ min (weight_of made.rows made.den top q) (2 ^ 128 - 1)
     pub degree-is : degree ≡ min (degree_bound made.rows made.den top q) (2 ^ 128 - 1)
 
-  pub whole_size : (start : ℕ) (q left : Terms) (charge weight degree : ℕ) → left ≡ [] → IsSizeSoFar start q left charge weight degree → IsSize start q charge weight degree
+  pub whole_size : (start : ℕ) (q left : Summands) (charge weight degree : ℕ) → left ≡ [] → IsSizeSoFar start q left charge weight degree → IsSize start q charge weight degree
   whole_size start q left charge weight degree none h =
-      let e = subst (λ (l : Terms). IsSizeSoFar start q l charge weight degree) none h in
+      let e = subst (λ (l : Summands). IsSizeSoFar start q l charge weight degree) none h in
       record {
         charge-is = sums charge (start + sum_by (λ (t : Powers × ℤ). term_charge made top t.0) q) (2 ^ 128 - 1) e.charge_fits e.charge-is;
         weight-is = sums weight (weight_of made.rows made.den top q) (2 ^ 128 - 1) e.weight_fits e.weight-is;
@@ -145,7 +145,7 @@ module _ (made : Replacement) (top : ℕ) where
       greatest a x m f h = omega (arith, f, h)
 
 -- the size of the line
-pub line_size : (made : Replacement) (top : ℕ) (q : Terms) (charge weight degree : ℕ) → top ≡ most_denominators made.rows q
+pub line_size : (made : Replacement) (top : ℕ) (q : Summands) (charge weight degree : ℕ) → top ≡ most_denominators made.rows q
     → IsSize made top (made.charge + 4 * (sum_by (λ r. r.num.count) made.rows + made.den.count)) q charge weight degree
     → HasSize (record { charge = charge; weight = weight; degree = degree }) (move_charge made q) (replaced_weight made.rows made.den q) (replaced_degree made.rows made.den q)
 line_size made top q charge weight degree is h =

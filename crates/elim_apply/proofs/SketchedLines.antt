@@ -4,7 +4,7 @@ use Rattle.std.specs.List.{filter_map}
 use Rattle.fraction_poly.specs.Measures.{capped_number}
 use Rattle.geo_poly.specs.declared.replacement.Piece.{Piece}
 use Rattle.geo_poly.specs.declared.replacement.Row.{Row}
-use Rattle.geo_poly.specs.Polynomials.{Terms}
+use Rattle.geo_poly.specs.Polynomials.{Summands}
 use Rattle.geo_poly.specs.PolynomialVariables.{variables_of}
 use Rattle.geo_poly.specs.Replace.{replaced_degree, replaced_weight}
 use Rattle.geo_terms.specs.Constructions.{Construction}
@@ -19,7 +19,7 @@ use Rattle.elim_apply.specs.Inner.Sketches.{numbered_row, sketch, sketched_denom
 use Rattle.elim_apply.proofs.CappedRows.{capped_move, capped_piece, capped_rows, move_charge-capped, replaced_degree-capped, replaced_weight-capped}
 use Rattle.elim_apply.proofs.NumberedRows.{HasDenominator, sketches_are}
 
-pub sketched_line : (c : Construction) (move : Move) (q : Terms) (rows : List NumberedRow) (first : NumberedRow) (size : LineSize)
+pub sketched_line : (c : Construction) (move : Move) (q : Summands) (rows : List NumberedRow) (first : NumberedRow) (size : LineSize)
     → rows ≡ filter_map (numbered_row c move) (variables_of q) → HasDenominator c move first
     → IsSizeOf size (move_charge (sketch rows first.numbers) q) (replaced_weight (sketches rows) (sketched_denominator first.numbers) q) (replaced_degree (sketches rows) (sketched_denominator first.numbers) q)
     → IsSizeOf size (move_charge (replacement lemma_table c move q) q) (replaced_weight (replacement lemma_table c move q).rows (replacement lemma_table c move q).den q)

@@ -7,7 +7,7 @@ use Rattle.ring_laws.proofs.Fractions.{fractions}
 use Rattle.ring_laws.specs.Fraction.{Fraction, IsNonzero, Same, times}
 use Rattle.geo_points.specs.Placements.{Placement}
 use Rattle.geo_poly.specs.declared.variables.Var.{Var}
-use Rattle.geo_poly.specs.Polynomials.{Terms}
+use Rattle.geo_poly.specs.Polynomials.{Summands}
 use Rattle.geo_poly.specs.PolynomialVariables.{AllVariables}
 use Rattle.geo_terms.specs.Constructions.{Construction, IsConstruction}
 use Rattle.geo_logs.specs.declared.moves.Move.{Move}
@@ -16,7 +16,7 @@ use Rattle.geo_logs.specs.Moves.{IsMoved, place_of, replacement}
 use Rattle.geo_logs.specs.Naming.{IsPlaceMet}
 
 -- the value of q is that of p times a power of a number that is not 0, and each ratio in q is defined
-pub record IsMultiple (placed : Placement) (q p : Terms) : Type 0 where
+pub record IsMultiple (placed : Placement) (q p : Summands) : Type 0 where
   pub factor : Fraction
   pub exponent : ℕ
   pub nonzero : IsNonzero factor
@@ -27,7 +27,7 @@ pub record IsMultiple (placed : Placement) (q p : Terms) : Type 0 where
 -- wherever the step is met that a move looks at, and each ratio of the polynomial is defined, its result is such a multiple
 abbrev pub MoveKeepsValue : Type 0
 MoveKeepsValue =
-    (c : Construction) → IsConstruction c → (move : Move) (left : ℕ) (p q : Terms) → IsMoved (replacement lemma_table c move p) left p q
+    (c : Construction) → IsConstruction c → (move : Move) (left : ℕ) (p q : Summands) → IsMoved (replacement lemma_table c move p) left p q
     → (placed : Placement) → IsPlaceMet placed c (place_of move) → AllVariables (HasVariable placed) p → IsMultiple placed q p
 
 -- all rows of a move have its denominator and its charge

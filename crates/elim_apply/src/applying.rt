@@ -1,9 +1,11 @@
 //! A move on a polynomial.
 
-ghost use Rattle.std.specs.Prelude.{◌≡◌, ◌≢◌, ◌-◌, ◌^◌, ◌<◌, ◌≤◌, ◌⊎◌, [], IfNone, IfOk, IfSome, IsErrOf, OnOk, length};
+ghost use Rattle.std.specs.Prelude.{◌≡◌, ◌≢◌, ◌-◌, ◌^◌, ◌<◌, ◌≤◌, ◌⊎◌, [], IfNone, IfOk, IfSome};
+ghost use Rattle.std.specs.Prelude.{IsErrOf, OnOk, length};
 ghost use Rattle.std.specs.List.{filter_map};
 ghost use Rattle.elim_apply.specs.LemmaTable.{lemma_table};
-ghost use Rattle.geo_logs.specs.Moves.{IsMoved, IsMoveStopped, move_charge, place_of, replacement, spent, too_large};
+ghost use Rattle.geo_logs.specs.Moves.{IsMoved, IsMoveStopped, move_charge, place_of, replacement};
+ghost use Rattle.geo_logs.specs.Moves.{spent, too_large};
 ghost use Rattle.elim_apply.specs.Multiples.{IsMultiple};
 ghost use Rattle.geo_logs.specs.Naming.{IsPlaceBelow, IsPlaceMet};
 ghost use Rattle.elim_apply.specs.Inner.Sizes.{IsSizeOf};
@@ -27,7 +29,8 @@ use geo_poly::{Poly, PolyError, Which};
 use geo_terms::Steps;
 use std::alloc::Global;
 
-/// The polynomial after a move: the variables that have a row are replaced at once, and the whole is
+/// The polynomial after a move: the variables that have a row are replaced at once, and the whole
+/// is
 /// multiplied by the denominator as often as the monomial that needs it most. The charge of the
 /// line, its weight and its degree are tested in this order, before anything is multiplied out. The
 /// charge is spent as soon as it is within the budget.

@@ -1,7 +1,8 @@
 //! The rows that a move has for the variables of a polynomial: first their numbers, and then the
 //! rows.
 
-ghost use Rattle.std.specs.Prelude.{◌≡◌, ◌≢◌, ◌<◌, [], All, IfOk, IfSome, IsSomeAnd, length, map, option_map};
+ghost use Rattle.std.specs.Prelude.{◌≡◌, ◌≢◌, ◌<◌, [], All, IfOk, IfSome, IsSomeAnd, length, map};
+ghost use Rattle.std.specs.Prelude.{option_map};
 ghost use Rattle.std.specs.List.{filter_map};
 ghost use Rattle.elim_apply.specs.LemmaTable.{lemma_table, row_of_move};
 ghost use Rattle.geo_logs.specs.Moves.{place_of};

@@ -1,14 +1,18 @@
-//! The charge, the weight and the degree of the line of a move, before anything is multiplied out. A
+//! The charge, the weight and the degree of the line of a move, before anything is multiplied out.
+//! A
 //! number past `2^128 - 1` is given as `2^128 - 1`.
 
-ghost use Rattle.std.specs.Prelude.{◌≡◌, ◌+◌, ◌-◌, ◌*◌, ◌^◌, ◌<◌, ◌≤◌, length, min, sum_by, unsigned_abs};
+ghost use Rattle.std.specs.Prelude.{◌≡◌, ◌+◌, ◌-◌, ◌*◌, ◌^◌, ◌<◌, ◌≤◌, length, min, sum_by};
+ghost use Rattle.std.specs.Prelude.{unsigned_abs};
 ghost use Rattle.std.specs.Option.{option_map};
 ghost use Rattle.geo_logs.specs.Moves.{count_rows, move_charge, replaced_exponents};
 ghost use Rattle.elim_apply.specs.Inner.Sketches.{sketch, sketched, sketched_denominator, sketches};
 ghost use Rattle.elim_apply.specs.Inner.Sizes.{IsSizeOf};
 ghost use Rattle.geo_poly.specs.Monomials.{degree_of};
 ghost use Rattle.geo_poly.specs.Polynomials.{IsPolynomial, term_at};
-ghost use Rattle.geo_poly.specs.Replace.{AllPowersSmall, degree_rows, denominators, most_denominators, others, replaced_degree, replaced_weight, row_of, weight_rows};
+ghost use Rattle.geo_poly.specs.Replace.{AllPowersSmall, degree_rows, denominators};
+ghost use Rattle.geo_poly.specs.Replace.{most_denominators, others, replaced_degree};
+ghost use Rattle.geo_poly.specs.Replace.{replaced_weight, row_of, weight_rows};
 
 use crate::limits::LineSize;
 use crate::numbered::NumberedRow;

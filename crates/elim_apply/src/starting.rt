@@ -3,7 +3,8 @@
 ghost use Rattle.std.specs.Prelude.{◌≡◌, ◌≢◌, ◌+◌, ◌-◌, ◌<◌, ◌⊎◌, IfOk, IsErrOf, OnOk, length};
 ghost use Rattle.geo_logs.specs.Moves.{spent, too_large};
 ghost use Rattle.elim_apply.specs.Inner.Sizes.{IsSizeOf};
-ghost use Rattle.geo_logs.specs.Starts.{IsStarted, IsStartStopped, start_charge, start_degree, start_of, start_weight};
+ghost use Rattle.geo_logs.specs.Starts.{IsStarted, IsStartStopped, start_charge, start_degree};
+ghost use Rattle.geo_logs.specs.Starts.{start_of, start_weight};
 ghost use Rattle.fraction_poly.specs.Measures.{capped, numbers_of};
 ghost use Rattle.geo_poly.specs.declared.limits.Which.{Which};
 ghost use Rattle.geo_terms.specs.Stores.{tree_of};
@@ -18,7 +19,8 @@ use geo_poly::Poly;
 use geo_terms::Steps;
 use std::alloc::Global;
 
-/// The numerator of the term at an index. The charge of the line, its weight and its degree are those
+/// The numerator of the term at an index. The charge of the line, its weight and its degree are
+/// those
 /// of both sides of the fraction; they are tested in this order, before anything is multiplied out.
 /// The charge is spent as soon as it is within the budget.
 pub fn start(

@@ -2,9 +2,12 @@
 
 ghost use Rattle.std.specs.Prelude.{◌≡◌, ◌<◌, IfOk, Some, length, option_map};
 ghost use Rattle.std.specs.Option.{ForSome};
-ghost use Rattle.elim_pyth.specs.DifferenceTable.{difference_row, difference_table, linear_numerator, quadratic_numerator, quadratic_power, reading};
+ghost use Rattle.elim_pyth.specs.DifferenceTable.{difference_row, difference_table};
+ghost use Rattle.elim_pyth.specs.DifferenceTable.{linear_numerator, quadratic_numerator};
+ghost use Rattle.elim_pyth.specs.DifferenceTable.{quadratic_power, reading};
 ghost use Rattle.fraction_poly.specs.Inner.Drafts.{form_of, number_tree, row_of_draft, step_term};
-ghost use Rattle.fraction_poly.specs.Forms.{area, denominator, integer, numerator, pythagoras, ◌⊟◌, ◌⊠◌};
+ghost use Rattle.fraction_poly.specs.Forms.{area, denominator, integer, numerator, pythagoras, ◌⊟◌};
+ghost use Rattle.fraction_poly.specs.Forms.{◌⊠◌};
 ghost use Rattle.fraction_poly.specs.Measures.{HasRoom};
 ghost use Rattle.fraction_poly.specs.TableRows.{RowFits};
 ghost use Rattle.geo_points.specs.declared.ids.TermId.{TermId};
@@ -73,11 +76,13 @@ fn difference_row(
     var: Var,
 ) -> Result<Option<RowDraft>, NoMemory>
     requires { at.0 < length steps.now.steps }
-    ensures row { IfOk result (λ o. option_map (row_of_draft steps.now.nodes) o ≡ difference_table steps.now at var) }
+    ensures row { IfOk result (λ o. option_map (row_of_draft steps.now.nodes) o
+        ≡ difference_table steps.now at var) }
     ensures stored { IfOk result (λ o. ForSome o (λ d.
         (r : TermId) → d.number ≡ Some r → r.0 < length steps.now.nodes)) }
     ensures room { IfOk result (λ o. ForSome o (λ d.
-        RowFits (row_of_draft steps.now.nodes d) → HasRoom (number_tree steps.now.nodes d.number))) }
+        RowFits (row_of_draft steps.now.nodes d)
+        → HasRoom (number_tree steps.now.nodes d.number))) }
 {
     // From here on it is known that the steps' numbers stand in the store.
     prove!(at.0 < steps.count());
@@ -136,7 +141,8 @@ fn linear_numerator(
     b: PointId,
 ) -> Result<Option<Draft>, NoMemory>
     ensures { IfOk result (λ o. (nodes : Store)
-        → option_map (form_of (number_tree nodes (step_term step))) o ≡ linear_numerator nodes step a b) }
+        → option_map (form_of (number_tree nodes (step_term step))) o
+        ≡ linear_numerator nodes step a b) }
 {
     let difference = Linear::Pythagoras(a, b);
     let numerator = match step {
@@ -158,7 +164,8 @@ fn turned_numerator(
     b: PointId,
 ) -> Result<Draft, NoMemory>
     ensures { IfOk result (λ d. (e : Tree) → form_of e d
-        ≡ integer 4 ⊠ denominator e ⊠ pythagoras a b u ⊟ integer 16 ⊠ numerator e ⊠ (area u a b ⊟ area v a b)) }
+        ≡ integer 4 ⊠ denominator e ⊠ pythagoras a b u
+        ⊟ integer 16 ⊠ numerator e ⊠ (area u a b ⊟ area v a b)) }
 {
     let front = Draft::Integer(4)
         .times(alloc, Draft::Denominator)?
@@ -178,7 +185,8 @@ fn quadratic_numerator(
     b: PointId,
 ) -> Result<Option<Draft>, NoMemory>
     ensures { IfOk result (λ o. (nodes : Store)
-        → option_map (form_of (number_tree nodes (step_term step))) o ≡ quadratic_numerator nodes step a b) }
+        → option_map (form_of (number_tree nodes (step_term step))) o
+        ≡ quadratic_numerator nodes step a b) }
 {
     let numerator = match step {
         Step::Point => return Ok(None),

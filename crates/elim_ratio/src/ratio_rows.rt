@@ -65,11 +65,13 @@ fn ratio_row(
     var: Var,
 ) -> Result<Option<RowDraft>, NoMemory>
     requires { IsTrue (not (lemma == 0)) → at.0 < length steps.now.steps }
-    ensures row { IfOk result (λ o. option_map (row_of_draft steps.now.nodes) o ≡ ratio_table lemma steps.now at var) }
+    ensures row { IfOk result (λ o. option_map (row_of_draft steps.now.nodes) o
+        ≡ ratio_table lemma steps.now at var) }
     ensures stored { IfOk result (λ o. ForSome o (λ d.
         (r : TermId) → d.number ≡ Some r → r.0 < length steps.now.nodes)) }
     ensures room { IfOk result (λ o. ForSome o (λ d.
-        RowFits (row_of_draft steps.now.nodes d) → HasRoom (number_tree steps.now.nodes d.number))) }
+        RowFits (row_of_draft steps.now.nodes d)
+        → HasRoom (number_tree steps.now.nodes d.number))) }
 {
     let Var::R(a, b, c, d) = var else {
         return Ok(None);
@@ -101,7 +103,8 @@ fn lemma_row(
 ) -> Result<Option<RowDraft>, NoMemory>
     ensures row { IfOk result (λ o. (nodes : Store) → option_map (row_of_draft nodes) o
         ≡ lemma_row lemma nodes y step ratio.a ratio.turned ratio.c ratio.d) }
-    ensures number { IfOk result (λ o. ForSome o (λ d. (r : TermId) → d.number ≡ Some r → step_term step ≡ Some r)) }
+    ensures number { IfOk result
+        (λ o. ForSome o (λ d. (r : TermId) → d.number ≡ Some r → step_term step ≡ Some r)) }
 {
     match step {
         Step::Inter { u, v, p, q } => match lemma {

@@ -21,7 +21,8 @@ IsSameNumber f h = f.num *ℤ h.den ≡ h.num *ℤ f.den
 abbrev pub AreSomePast : ℤ → ℤ → ℤ → Type 0
 AreSomePast left right den = IsPast left ⊎ (IsPast right ⊎ (IsPast (left +ℤ right) ⊎ IsPast den))
 
--- a / b + c / d is refused: with g the greatest common divisor of b and d, one of a (d / g), c (b / g), their sum and b (d / g) is too large
+-- a / b + c / d is refused: with g the greatest common divisor of b and d, one of a (d / g), c (b / g), their sum and b (d / g) is too
+-- large
 abbrev pub IsSumTooLarge : Frac → Frac → Type 0
 IsSumTooLarge f h =
     (g : ℕ) × IsGcd (unsigned_abs f.den) (unsigned_abs h.den) g

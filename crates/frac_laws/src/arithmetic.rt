@@ -1,10 +1,12 @@
 //! Sums and products of fractions.
 
-ghost use Rattle.std.specs.Prelude.{◌≡◌, ◌≢◌, ◌↔◌, ◌<◌, ◌≤◌, ◌^◌, ◌/◌, pos, ◌*ℤ◌, ◌+ℤ◌, unsigned_abs, ◌⊎◌, IfOk, IsErr, IsTrue};
+ghost use Rattle.std.specs.Prelude.{◌≡◌, ◌≢◌, ◌↔◌, ◌<◌, ◌≤◌, ◌^◌, ◌/◌, pos, ◌*ℤ◌, ◌+ℤ◌};
+ghost use Rattle.std.specs.Prelude.{unsigned_abs, ◌⊎◌, IfOk, IsErr, IsTrue};
 ghost use Rattle.std.specs.Int.{◌∣◌};
 ghost use Rattle.ring_laws.specs.Fraction.{plus, times};
 ghost use Rattle.frac_laws.specs.Lowest.{IsPast, signed_by};
-ghost use Rattle.frac_laws.specs.Numbers.{AreSomePast, IsNumber, IsProductTooLarge, IsSameNumber, IsSumTooLarge, fraction_of};
+ghost use Rattle.frac_laws.specs.Numbers.{AreSomePast, IsNumber, IsProductTooLarge, IsSameNumber};
+ghost use Rattle.frac_laws.specs.Numbers.{IsSumTooLarge, fraction_of};
 
 use crate::divisors::common_divisor;
 use crate::frac::{Frac, FracTooLarge};
@@ -27,7 +29,8 @@ impl Frac {
     /// The sum. Over the least common denominator: it is refused where one of the two numerators
     /// over it, their sum, or that denominator is too large.
     pub fn add(&self, other: &Frac) -> Result<Frac, FracTooLarge>
-        ensures sum { IfOk result (λ r. IsNumber r (plus (fraction_of self.now) (fraction_of other.now))) }
+        ensures sum { IfOk result
+            (λ r. IsNumber r (plus (fraction_of self.now) (fraction_of other.now))) }
         ensures too_large { IsErr result ↔ IsSumTooLarge self.now other.now }
     {
         let (b, d) = (self.den.unsigned_abs(), other.den.unsigned_abs());
@@ -43,7 +46,8 @@ impl Frac {
 
     /// The product. It is refused where its numerator or denominator in lowest terms is too large.
     pub fn mul(&self, other: &Frac) -> Result<Frac, FracTooLarge>
-        ensures product { IfOk result (λ r. IsNumber r (times (fraction_of self.now) (fraction_of other.now))) }
+        ensures product { IfOk result
+            (λ r. IsNumber r (times (fraction_of self.now) (fraction_of other.now))) }
         ensures too_large { IsErr result ↔ IsProductTooLarge self.now other.now }
     {
         let first = Frac::new(self.num, other.den);

@@ -13,7 +13,7 @@ use Rattle.geo_points.specs.Placements.{Placement}
 use Rattle.geo_points.specs.Points.{signed_area, pythagoras_difference, ratio as point_ratio, HasRatio, x_coordinate, y_coordinate}
 use Rattle.geo_poly.specs.declared.variables.Var.{Var}
 use Rattle.geo_poly.specs.declared.variables.Var.TheVariants.{X, Y}
-use Rattle.geo_poly.specs.Polynomials.{Terms}
+use Rattle.geo_poly.specs.Polynomials.{Summands}
 use Rattle.geo_poly.specs.Values.{variable_value}
 
 -- the form has no ratio

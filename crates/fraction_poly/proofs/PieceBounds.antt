@@ -12,7 +12,7 @@ use Rattle.fraction_poly.proofs.Sizes.{IsWithin, IsWithin-sum, IsWithin-differen
 use Rattle.fraction_poly.proofs.TermBounds.{bounds, positive}
 use Rattle.geo_poly.specs.declared.replacement.Piece.{Piece}
 use Rattle.geo_poly.specs.declared.variables.Var.TheVariants.{X, Y}
-use Rattle.geo_poly.specs.Polynomials.{Terms}
+use Rattle.geo_poly.specs.Polynomials.{Summands}
 use Rattle.geo_poly.specs.Replace.{IsBounded}
 use Rattle.geo_terms.specs.Trees.{Tree, integer_leaf, parameter_leaf, area_leaf, pythagoras_leaf, ratio_leaf, negation, addition, subtraction, multiplication, division}
 
@@ -41,7 +41,7 @@ bounded_opposite f h =
     let turned = IsWithin-negated f.poly f.weight f.count f.degree (within f h) in
     record { norm = turned.norm; count = turned.count; degree = turned.degree; light = h.light; weight = h.weight }
 
-pub bounded_variable : (q : Terms) → IsWithin q 1 1 1 → IsBounded (variable_piece q)
+pub bounded_variable : (q : Summands) → IsWithin q 1 1 1 → IsBounded (variable_piece q)
 bounded_variable q h = record { norm = h.norm; count = h.count; degree = h.degree; light = omega arith; weight = omega arith }
 
 pub bounded_integer : (n : ℕ) → IsBounded (integer_piece n)

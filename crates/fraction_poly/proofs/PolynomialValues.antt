@@ -12,7 +12,7 @@ use Rattle.ring_laws.proofs.Fractions.{fractions}
 use Rattle.geo_poly.specs.declared.canonical.Canon.{Canon}
 use Rattle.geo_poly.specs.declared.variables.Var.{Var}
 use Rattle.geo_poly.specs.Canonical.{canonical_area, canonical_difference, canonical_ratio, canon_value}
-use Rattle.geo_poly.specs.Polynomials.{Terms, constant_of, sum_of, difference_of, product_of}
+use Rattle.geo_poly.specs.Polynomials.{Summands, constant_of, sum_of, difference_of, product_of}
 use Rattle.geo_poly.specs.Polynomials as Polynomials
 use Rattle.geo_poly.specs.Values.{integer, variable_value}
 use Rattle.geo_poly.proofs.CanonicalAreas.{canonical_area-value}
@@ -107,17 +107,17 @@ module _ (placed : Placement) where
       → Same (polynomial_value placed (canon_polynomial (canonical_ratio a b c d))) (ratio (placed.point a.0) (placed.point b.0) (placed.point c.0) (placed.point d.0))
   ratio_is a b c d h = canon_is (canonical_ratio a b c d) ∘ flip (canonical_ratio-value placed.point placed.number a b c d h)
 
-  pub negated_is : (q : Terms) → Same (polynomial_value placed (Polynomials.negated q)) (negated (polynomial_value placed q))
+  pub negated_is : (q : Summands) → Same (polynomial_value placed (Polynomials.negated q)) (negated (polynomial_value placed q))
   negated_is [] = flip (Laws.neg-zero fractions)
   negated_is (t ∷ ts) =
       sums (products (integer-neg t.1) self ∘ Laws.neg-mul fractions _ _) (negated_is ts)
       ∘ flip (Laws.neg-add fractions _ _)
 
-  pub sum_is : (p q : Terms) → Same (polynomial_value placed (sum_of p q)) (plus (polynomial_value placed p) (polynomial_value placed q))
+  pub sum_is : (p q : Summands) → Same (polynomial_value placed (sum_of p q)) (plus (polynomial_value placed p) (polynomial_value placed q))
   sum_is p q = value-sum_of fractions x p q
 
-  pub difference_is : (p q : Terms) → Same (polynomial_value placed (difference_of p q)) (plus (polynomial_value placed p) (negated (polynomial_value placed q)))
+  pub difference_is : (p q : Summands) → Same (polynomial_value placed (difference_of p q)) (plus (polynomial_value placed p) (negated (polynomial_value placed q)))
   difference_is p q = value-sum_of fractions x p (Polynomials.negated q) ∘ sums self (negated_is q)
 
-  pub product_is : (p q : Terms) → Same (polynomial_value placed (product_of p q)) (times (polynomial_value placed p) (polynomial_value placed q))
+  pub product_is : (p q : Summands) → Same (polynomial_value placed (product_of p q)) (times (polynomial_value placed p) (polynomial_value placed q))
   product_is p q = value-product_of fractions x p q

@@ -10,7 +10,7 @@ use Rattle.geo_poly.specs.declared.variables.Var.{Var}
 use Rattle.geo_poly.specs.declared.variables.Var.TheVariants.{R}
 use Rattle.geo_poly.specs.Canonical.{pair_sign, permutation_sign, sorted_area, signed_variable, canonical_area, is_point, sorted_difference, canonical_difference, lower, higher, is_same_pair, canonical_ratio}
 use Rattle.geo_poly.specs.Monomials.{Powers, degree_of}
-use Rattle.geo_poly.specs.Polynomials.{Terms, coefficients, term_cmp, norm_of, total_degree, constant_of, sum_of, negated, difference_of, products, product_of}
+use Rattle.geo_poly.specs.Polynomials.{Summands, coefficients, term_cmp, norm_of, total_degree, constant_of, sum_of, negated, difference_of, products, product_of}
 use Rattle.geo_poly.proofs.Lengths.{length-negated, length-product_of-le, length-sum_of-le}
 use Rattle.geo_poly.proofs.Negated.{norm_of-negated}
 use Rattle.geo_poly.proofs.PolynomialLaws.{norm_of-sum_of-le}
@@ -20,7 +20,7 @@ use Rattle.geo_poly.proofs.SortedForms.{small_product, small_sign}
 use Rattle.fraction_poly.specs.MultipliedOut.{variable_polynomial, canon_polynomial}
 
 -- w, k and g bound the norm, the number of monomials and the degree
-pub record IsWithin (p : Terms) (w k g : ℕ) : Type 0 where
+pub record IsWithin (p : Summands) (w k g : ℕ) : Type 0 where
   pub norm : norm_of p ≤ w
   pub count : length p ≤ k
   pub degree : total_degree p ≤ g
@@ -30,44 +30,44 @@ pub record IsWithin (p : Terms) (w k g : ℕ) : Type 0 where
 UpTo : ℕ → Powers → Type 0
 UpTo d m = degree_of m ≤ d
 
-up_to : (p : Terms) (d : ℕ) → total_degree p ≤ d → AllKeys (UpTo d) p
+up_to : (p : Summands) (d : ℕ) → total_degree p ≤ d → AllKeys (UpTo d) p
 unfolding UpTo
 up_to [] d h = tt
 up_to (t ∷ ts) d h = (omega arith, up_to ts d (omega arith))
 
-from_up_to : (p : Terms) (d : ℕ) → AllKeys (UpTo d) p → total_degree p ≤ d
+from_up_to : (p : Summands) (d : ℕ) → AllKeys (UpTo d) p → total_degree p ≤ d
 unfolding UpTo
 from_up_to [] d h = omega arith
 from_up_to (t ∷ ts) d h = omega (arith, h.0, from_up_to ts d h.1)
 
-total_degree-sum_of-le : (p q : Terms) → total_degree (sum_of p q) ≤ max (total_degree p) (total_degree q)
+total_degree-sum_of-le : (p q : Summands) → total_degree (sum_of p q) ≤ max (total_degree p) (total_degree q)
 total_degree-sum_of-le p q =
     let d = max (total_degree p) (total_degree q) in
     from_up_to (sum_of p q) d (AllKeys-canonical term_cmp coefficients (UpTo d) (p ++ q) (AllKeys-append (UpTo d) p q (up_to p d (omega arith)) (up_to q d (omega arith))))
 
-total_degree-negated : (p : Terms) → total_degree (negated p) ≡ total_degree p
+total_degree-negated : (p : Summands) → total_degree (negated p) ≡ total_degree p
 total_degree-negated [] = refl
 total_degree-negated (t ∷ ts) = ap (max (degree_of t.0)) (total_degree-negated ts)
 
 -- SUMS AND PRODUCTS
-pub IsWithin-negated : (p : Terms) (w k g : ℕ) → IsWithin p w k g → IsWithin (negated p) w k g
+pub IsWithin-negated : (p : Summands) (w k g : ℕ) → IsWithin p w k g → IsWithin (negated p) w k g
 IsWithin-negated p w k g h = record {
   norm = omega (arith, norm_of-negated p, h.norm);
   count = omega (arith, length-negated p, h.count);
   degree = omega (arith, total_degree-negated p, h.degree);
 }
 
-pub IsWithin-sum : (p q : Terms) (w k g v j f : ℕ) → IsWithin p w k g → IsWithin q v j f → IsWithin (sum_of p q) (w + v) (k + j) (max g f)
+pub IsWithin-sum : (p q : Summands) (w k g v j f : ℕ) → IsWithin p w k g → IsWithin q v j f → IsWithin (sum_of p q) (w + v) (k + j) (max g f)
 IsWithin-sum p q w k g v j f h i = record {
   norm = omega (arith, norm_of-sum_of-le p q, h.norm, i.norm);
   count = omega (arith, length-sum_of-le p q, h.count, i.count);
   degree = omega (arith, total_degree-sum_of-le p q, h.degree, i.degree);
 }
 
-pub IsWithin-difference : (p q : Terms) (w k g v j f : ℕ) → IsWithin p w k g → IsWithin q v j f → IsWithin (difference_of p q) (w + v) (k + j) (max g f)
+pub IsWithin-difference : (p q : Summands) (w k g v j f : ℕ) → IsWithin p w k g → IsWithin q v j f → IsWithin (difference_of p q) (w + v) (k + j) (max g f)
 IsWithin-difference p q w k g v j f h i = IsWithin-sum p (negated q) w k g v j f h (IsWithin-negated q v j f i)
 
-pub IsWithin-product : (p q : Terms) (w k g v j f : ℕ) → IsWithin p w k g → IsWithin q v j f → IsWithin (product_of p q) (w * v) (k * j) (g + f)
+pub IsWithin-product : (p q : Summands) (w k g v j f : ℕ) → IsWithin p w k g → IsWithin q v j f → IsWithin (product_of p q) (w * v) (k * j) (g + f)
 IsWithin-product p q w k g v j f h i = record {
   norm = omega (arith, norm_of-product_of-le p q, mul-le-mul h.norm i.norm);
   count = omega (arith, length-product_of-le p q, mul-le-mul h.count i.count);

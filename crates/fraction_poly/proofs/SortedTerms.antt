@@ -7,7 +7,7 @@ use Rattle.fraction_poly.specs.MultipliedOut.{canon_polynomial, multiplied_out}
 use Rattle.geo_poly.specs.declared.canonical.Canon.{Canon}
 use Rattle.geo_poly.specs.declared.variables.Var.{Var}
 use Rattle.geo_poly.specs.declared.variables.Var.TheVariants.{R, S, P}
-use Rattle.geo_poly.specs.Polynomials.{Terms, constant_of, product_of}
+use Rattle.geo_poly.specs.Polynomials.{Summands, constant_of, product_of}
 use Rattle.geo_poly.specs.PolynomialVariables.{AllVariables}
 use Rattle.geo_poly.specs.SortedVariables.{IsSorted, IsSortedForm}
 use Rattle.geo_poly.proofs.EachVariable.{of-product_of}
@@ -15,7 +15,7 @@ use Rattle.geo_poly.proofs.KeptVariables.{of-difference_of, of-negated, of-sum_o
 use Rattle.geo_poly.proofs.SortedForms.{forms_are_sorted}
 use Rattle.geo_terms.specs.Trees.{Tree, integer_leaf, parameter_leaf, area_leaf, pythagoras_leaf, ratio_leaf, negation, addition, subtraction, multiplication, division}
 
-abbrev AllSorted : Terms → Type 0
+abbrev AllSorted : Summands → Type 0
 AllSorted q = AllVariables IsSorted q
 
 constant : (z : ℤ) → AllSorted (constant_of z)
@@ -30,14 +30,14 @@ canonical c h = go c.var h.variable
 
 -- TERMS
 -- of a numerator and a denominator
-record BothSorted (f : Terms × Terms) : Type 0 where
+record BothSorted (f : Summands × Summands) : Type 0 where
   num : AllSorted f.0
   den : AllSorted f.1
 
-product : (p q : Terms) → AllSorted p → AllSorted q → AllSorted (product_of p q)
+product : (p q : Summands) → AllSorted p → AllSorted q → AllSorted (product_of p q)
 product = of-product_of IsSorted
 
-over_one : (p : Terms) → AllSorted p → BothSorted (p, constant_of (pos 1))
+over_one : (p : Summands) → AllSorted p → BothSorted (p, constant_of (pos 1))
 over_one p h = record { num = h; den = constant (pos 1) }
 
 both : (e : Tree) → BothSorted (multiplied_out e)

@@ -4,7 +4,7 @@ use Rattle.std.specs.Option.{option_map}
 use Rattle.fraction_poly.specs.declared.table.RowNumbers.{RowNumbers}
 use Rattle.fraction_poly.specs.Forms.{piece_of}
 use Rattle.fraction_poly.specs.Measures.{capped_number}
-use Rattle.fraction_poly.specs.TableRows.{AreLight, HasVariable, IsLight, IsPointMet, IsSound, IsSoundAnywhere, RowFits, RowHolds, Table, TableRow, made_row, row_numbers}
+use Rattle.fraction_poly.specs.TableRows.{AreLight, HasVariable, IsLight, IsPointMet, IsSound, IsSoundAnywhere, RowFits, RowHolds, RowTable, TableRow, made_row, row_numbers}
 use Rattle.fraction_poly.proofs.PieceBounds.{bounded_form}
 use Rattle.geo_points.specs.declared.ids.PointId.{PointId}
 use Rattle.geo_points.specs.Placements.{Placement}
@@ -14,7 +14,7 @@ use Rattle.geo_poly.specs.declared.variables.Var.{Var}
 use Rattle.geo_poly.specs.Replace.{IsBounded}
 use Rattle.geo_terms.specs.Constructions.{Construction}
 
-module _ (table : Table) (c : Construction) (y : PointId) (v : Var) where
+module _ (table : RowTable) (c : Construction) (y : PointId) (v : Var) where
   -- the numbers that are told are light
   pub light_numbers : IsLight table → (o : Option RowNumbers) → o ≡ option_map row_numbers (table c y v) → IfSome o AreLight
   light_numbers light o is = subst (λ (p : Option RowNumbers). IfSome p AreLight) (sym is) (go (table c y v) refl)

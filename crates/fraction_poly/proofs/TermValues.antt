@@ -9,7 +9,7 @@ use Rattle.ring_laws.proofs.Fractions.{fractions}
 use Rattle.ring_laws.proofs.Quotients.{cancel_factor, zero_of_same, same_of_zero, quotient-times}
 use Rattle.geo_poly.specs.declared.variables.Var.TheVariants.{T}
 use Rattle.geo_poly.specs.Polynomials as Polynomials
-use Rattle.geo_poly.specs.Polynomials.{Terms, constant_of, sum_of, difference_of, product_of}
+use Rattle.geo_poly.specs.Polynomials.{Summands, constant_of, sum_of, difference_of, product_of}
 use Rattle.geo_poly.specs.Canonical.{canonical_area, canonical_difference, canonical_ratio}
 use Rattle.geo_terms.specs.Trees.{Tree, integer_leaf, parameter_leaf, area_leaf, pythagoras_leaf, ratio_leaf, negation, addition, subtraction, multiplication, division}
 use Rattle.geo_terms.specs.Values.{HasTreeValue, tree_value}
@@ -33,22 +33,22 @@ nonzero_times a b n m e = n (cancel_factor a.numerator (pos 0) b.numerator m (e 
     null_times z = omega (arith, ints)
 
 -- a numerator over a denominator that is not 0 is the number a
-pub record IsOver (placed : Placement) (a : Fraction) (p : Terms × Terms) : Type 0 where
+pub record IsOver (placed : Placement) (a : Fraction) (p : Summands × Summands) : Type 0 where
   pub nonzero : IsNonzero (polynomial_value placed p.1)
   pub same : Same (times a (polynomial_value placed p.1)) (polynomial_value placed p.0)
 
 module _ (placed : Placement) where
-  abbrev at : Terms → Fraction
+  abbrev at : Summands → Fraction
   at = polynomial_value placed
 
   -- a polynomial over 1
-  pub whole_over : (a : Fraction) (n : Terms) → Same (at n) a → IsOver placed a (n, constant_of (pos 1))
+  pub whole_over : (a : Fraction) (n : Summands) → Same (at n) a → IsOver placed a (n, constant_of (pos 1))
   whole_over a n h = record {
     nonzero = nonzero_same _ _ (constant_is placed (pos 1)) nonzero_one;
     same = products self (constant_is placed (pos 1)) ∘ fractions.mul-one a ∘ flip h;
   }
 
-  pub opposite_over : (a : Fraction) (p : Terms × Terms) → IsOver placed a p → IsOver placed (negated a) (Polynomials.negated p.0, p.1)
+  pub opposite_over : (a : Fraction) (p : Summands × Summands) → IsOver placed a p → IsOver placed (negated a) (Polynomials.negated p.0, p.1)
   opposite_over a p h = record {
     nonzero = h.nonzero;
     same =
@@ -57,10 +57,10 @@ module _ (placed : Placement) where
         ∘ flip (negated_is placed p.0);
   }
 
-  denominator_nonzero : (a b : Fraction) (p q : Terms × Terms) → IsOver placed a p → IsOver placed b q → IsNonzero (at (product_of p.1 q.1))
+  denominator_nonzero : (a b : Fraction) (p q : Summands × Summands) → IsOver placed a p → IsOver placed b q → IsNonzero (at (product_of p.1 q.1))
   denominator_nonzero a b p q h g = nonzero_same _ _ (product_is placed p.1 q.1) (nonzero_times _ _ h.nonzero g.nonzero)
 
-  pub sum_over : (a b : Fraction) (p q : Terms × Terms) → IsOver placed a p → IsOver placed b q → IsOver placed (plus a b) (fraction_sum p q)
+  pub sum_over : (a b : Fraction) (p q : Summands × Summands) → IsOver placed a p → IsOver placed b q → IsOver placed (plus a b) (fraction_sum p q)
   sum_over a b p q h g = record {
     nonzero = denominator_nonzero a b p q h g;
     same =
@@ -71,7 +71,7 @@ module _ (placed : Placement) where
         ∘ flip (sum_is placed (product_of p.0 q.1) (product_of q.0 p.1) ∘ sums (product_is placed p.0 q.1) (product_is placed q.0 p.1));
   }
 
-  pub difference_over : (a b : Fraction) (p q : Terms × Terms) → IsOver placed a p → IsOver placed b q → IsOver placed (minus a b) (fraction_difference p q)
+  pub difference_over : (a b : Fraction) (p q : Summands × Summands) → IsOver placed a p → IsOver placed b q → IsOver placed (minus a b) (fraction_difference p q)
   difference_over a b p q h g = record {
     nonzero = denominator_nonzero a b p q h g;
     same =
@@ -82,7 +82,7 @@ module _ (placed : Placement) where
         ∘ flip (difference_is placed (product_of p.0 q.1) (product_of q.0 p.1) ∘ sums (product_is placed p.0 q.1) (opposites (product_is placed q.0 p.1)));
   }
 
-  pub product_over : (a b : Fraction) (p q : Terms × Terms) → IsOver placed a p → IsOver placed b q → IsOver placed (times a b) (fraction_product p q)
+  pub product_over : (a b : Fraction) (p q : Summands × Summands) → IsOver placed a p → IsOver placed b q → IsOver placed (times a b) (fraction_product p q)
   product_over a b p q h g = record {
     nonzero = denominator_nonzero a b p q h g;
     same =
@@ -93,7 +93,7 @@ module _ (placed : Placement) where
         ∘ flip (product_is placed p.0 q.0);
   }
 
-  pub quotient_over : (a b : Fraction) (p q : Terms × Terms) → IsOver placed a p → IsOver placed b q → IsNonzero b → IsOver placed (quotient a b) (fraction_quotient p q)
+  pub quotient_over : (a b : Fraction) (p q : Summands × Summands) → IsOver placed a p → IsOver placed b q → IsNonzero b → IsOver placed (quotient a b) (fraction_quotient p q)
   quotient_over a b p q h g n = record {
     nonzero =
         nonzero_same _ _ (product_is placed p.1 q.0)

@@ -6,7 +6,7 @@ use Rattle.fraction_poly.specs.MultipliedOut.{multiplied_out}
 use Rattle.ring_laws.proofs.Fractions.{fractions}
 use Rattle.ring_laws.specs.Fraction.{Fraction, IsNonzero, Same, times}
 use Rattle.geo_points.specs.Placements.{Placement}
-use Rattle.geo_poly.specs.Polynomials.{Terms, norm_of, total_degree}
+use Rattle.geo_poly.specs.Polynomials.{Summands, norm_of, total_degree}
 use Rattle.geo_poly.specs.PolynomialVariables.{AllVariables}
 use Rattle.geo_poly.specs.SortedVariables.{IsSorted}
 use Rattle.geo_poly.specs.Values.{value, variable_value}
@@ -14,7 +14,7 @@ use Rattle.geo_terms.specs.Trees.{Tree}
 use Rattle.geo_terms.specs.Values.{HasTreeValue, tree_value}
 
 -- the value of a polynomial where the points and the parameters are placed
-abbrev pub polynomial_value : Placement → Terms → Fraction
+abbrev pub polynomial_value : Placement → Summands → Fraction
 polynomial_value placed q = value fractions (variable_value placed.point placed.number) q
 
 -- wherever a term has a value, its denominator is not 0, and the value times the denominator is the numerator

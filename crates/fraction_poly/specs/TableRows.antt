@@ -26,8 +26,8 @@ pub record TableRow : Type 0 where
   pub charge : ℕ
 
 -- the rows of the variables at a point of a construction
-abbrev pub Table : Type 0
-Table = Construction → PointId → Var → Option TableRow
+abbrev pub RowTable : Type 0
+RowTable = Construction → PointId → Var → Option TableRow
 
 -- NUMBERS
 
@@ -84,22 +84,24 @@ HasVariable placed _ = Unit {0}
 -- the denominator is not 0, and the variable times the denominator to the power is the numerator
 pub record RowHolds (placed : Placement) (row : Row) (den : Piece) : Type 0 where
   pub nonzero : IsNonzero (polynomial_value placed den.poly)
-  pub equation : Same (times (variable_value placed.point placed.number row.var) (power fractions (polynomial_value placed den.poly) row.power)) (polynomial_value placed row.num.poly)
+  pub equation : Same
+      (times (variable_value placed.point placed.number row.var) (power fractions (polynomial_value placed den.poly) row.power))
+      (polynomial_value placed row.num.poly)
 
 -- each row of the table holds wherever the step of its point is met and its variable has a value
-abbrev pub IsSound : Table → Type 0
+abbrev pub IsSound : RowTable → Type 0
 IsSound table =
     (c : Construction) (y : PointId) (v : Var) (r : TableRow) → table c y v ≡ Some r
     → (placed : Placement) → IsPointMet placed c y → HasVariable placed v
     → RowHolds placed (made_row v r).0 (made_row v r).1
 
 -- each row of the table holds wherever its variable has a value, whatever step makes its point
-abbrev pub IsSoundAnywhere : Table → Type 0
+abbrev pub IsSoundAnywhere : RowTable → Type 0
 IsSoundAnywhere table =
     (c : Construction) (y : PointId) (v : Var) (r : TableRow) → table c y v ≡ Some r
     → (placed : Placement) → HasVariable placed v
     → RowHolds placed (made_row v r).0 (made_row v r).1
 
 -- each row of the table has a small power, and no denominator past the bounds of a polynomial where its numerator is within them
-abbrev pub IsLight : Table → Type 0
+abbrev pub IsLight : RowTable → Type 0
 IsLight table = (c : Construction) (y : PointId) (v : Var) (r : TableRow) → table c y v ≡ Some r → AreLight (row_numbers r)

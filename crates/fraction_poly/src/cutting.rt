@@ -1,7 +1,8 @@
 //! The part of a store that a term reaches.
 
 ghost use Rattle.std.specs.Prelude.{◌≡◌, ◌<◌, IfOk, IsSome, length};
-ghost use Rattle.fraction_poly.specs.Inner.Parts.{CanMultiplyOut, DoAllFit, IsPart, over_parts, place_at, place_in};
+ghost use Rattle.fraction_poly.specs.Inner.Parts.{CanMultiplyOut, DoAllFit, IsPart, over_parts};
+ghost use Rattle.fraction_poly.specs.Inner.Parts.{place_at, place_in};
 ghost use Rattle.geo_points.specs.declared.ids.TermId.{TermId};
 ghost use Rattle.geo_terms.specs.Stores.{tree_of};
 
@@ -11,8 +12,8 @@ use geo_terms::{Node, Terms};
 use std::alloc::Global;
 use std::collections::HashMap;
 
-/// The nodes that a term reaches, as a store of their own, and the term's index there. It takes time and memory for
-/// these nodes alone.
+/// The nodes that a term reaches, as a store of their own, and the term's index there. It takes
+/// time and memory for these nodes alone.
 pub(crate) fn cut_out(alloc: Global, terms: &Terms, id: TermId) -> Result<(Terms, TermId), NoMemory>
     requires { id.0 < length terms.now }
     ensures stored { IfOk result (λ cut. cut.1.0 < length cut.0) }

@@ -1,7 +1,8 @@
 //! Rows as they are written, before they are multiplied out.
 
 ghost use Rattle.std.specs.Prelude.{◌≡◌, ◌≤◌, ◌+◌, ◌*◌, ◌^◌, ◌<◌, ℕ, max, IfOk};
-ghost use Rattle.fraction_poly.specs.Inner.Drafts.{AllFit, IsBoundedNumber, drafted_piece, form_of, numbers_in, piece_bounds};
+ghost use Rattle.fraction_poly.specs.Inner.Drafts.{AllFit, IsBoundedNumber, drafted_piece, form_of};
+ghost use Rattle.fraction_poly.specs.Inner.Drafts.{numbers_in, piece_bounds};
 ghost use Rattle.fraction_poly.specs.Forms.{◌⊞◌, ◌⊟◌, ◌⊠◌, opposite};
 ghost use Rattle.fraction_poly.specs.Measures.{capped, capped_number};
 ghost use Rattle.fraction_poly.specs.declared.step_numbers.StepNumber.{StepNumber};

@@ -1,5 +1,5 @@
-//! Terms multiplied out: a term becomes a numerator and a denominator, two polynomials over the quantities of points,
-//! and numbers that bound both are told before any product is made.
+//! Terms multiplied out: a term becomes a numerator and a denominator, two polynomials over the
+//! quantities of points, and numbers that bound both are told before any product is made.
 #![tactic(auto)]
 
 mod cutting;

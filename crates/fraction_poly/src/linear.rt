@@ -1,9 +1,11 @@
 //! What the steps give for quantities that contain the point which they make, as drafts.
 
 ghost use Rattle.std.specs.Prelude.{◌≡◌, IfOk};
-ghost use Rattle.fraction_poly.specs.Inner.Drafts.{form_of, linear_form, number_tree, row_of_draft, step_term};
+ghost use Rattle.fraction_poly.specs.Inner.Drafts.{form_of, linear_form, number_tree, row_of_draft};
+ghost use Rattle.fraction_poly.specs.Inner.Drafts.{step_term};
 ghost use Rattle.fraction_poly.specs.Forms.{denominator, numerator};
-ghost use Rattle.fraction_poly.specs.StepForms.{along_numerator, crossing_numerator, foot_numerator, step_denominator, step_row};
+ghost use Rattle.fraction_poly.specs.StepForms.{along_numerator, crossing_numerator};
+ghost use Rattle.fraction_poly.specs.StepForms.{foot_numerator, step_denominator, step_row};
 ghost use Rattle.geo_terms.specs.Stores.{Store};
 ghost use Rattle.geo_terms.specs.Trees.{Tree};
 
@@ -42,7 +44,8 @@ pub fn crossing_numerator(
     q: PointId,
     quantity: Linear,
 ) -> Result<Draft, NoMemory>
-    ensures { IfOk result (λ d. (e : Tree) → form_of e d ≡ crossing_numerator u v p q (linear_form quantity)) }
+    ensures { IfOk result (λ d. (e : Tree)
+        → form_of e d ≡ crossing_numerator u v p q (linear_form quantity)) }
 {
     let front = Draft::Area(u, p, q).times(alloc, quantity.at(v))?;
     let back = Draft::Area(v, p, q).times(alloc, quantity.at(u))?;
@@ -57,7 +60,8 @@ pub fn foot_numerator(
     v: PointId,
     quantity: Linear,
 ) -> Result<Draft, NoMemory>
-    ensures { IfOk result (λ d. (e : Tree) → form_of e d ≡ foot_numerator p u v (linear_form quantity)) }
+    ensures { IfOk result (λ d. (e : Tree)
+        → form_of e d ≡ foot_numerator p u v (linear_form quantity)) }
 {
     let front = Draft::Pythagoras(p, u, v).times(alloc, quantity.at(v))?;
     let back = Draft::Pythagoras(p, v, u).times(alloc, quantity.at(u))?;

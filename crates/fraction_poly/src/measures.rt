@@ -1,7 +1,9 @@
 //! How large a term's numerator and denominator may be.
 
-ghost use Rattle.std.specs.Prelude.{◌≡◌, ◌+◌, ◌*◌, ◌<◌, ◌↔◌, IfOk, IsTrue, List, Some, length, slice_get};
-ghost use Rattle.fraction_poly.specs.Measures.{HasRoom, HaveRoom, capped, capped_number, numbers_of};
+ghost use Rattle.std.specs.Prelude.{◌≡◌, ◌+◌, ◌*◌, ◌<◌, ◌↔◌, IfOk, IsTrue, List, Some, length};
+ghost use Rattle.std.specs.Prelude.{slice_get};
+ghost use Rattle.fraction_poly.specs.Measures.{HasRoom, HaveRoom, capped, capped_number};
+ghost use Rattle.fraction_poly.specs.Measures.{numbers_of};
 ghost use Rattle.fraction_poly.specs.Inner.Parts.{AreNumbersOf};
 ghost use Rattle.geo_terms.specs.Stores.{HasChildrenBelow, node_tree, tree_of};
 ghost use Rattle.geo_terms.specs.Trees.{Tree};
@@ -13,8 +15,8 @@ use geo_poly::{MAX, MAX_DEGREE};
 use geo_terms::{Node, Terms};
 use std::alloc::Global;
 
-/// Bounds of a term's numerator and denominator, by the form of the term, and the charge for making them. A number
-/// past `2^128 - 1` is given as `2^128 - 1`.
+/// Bounds of a term's numerator and denominator, by the form of the term, and the charge for making
+/// them. A number past `2^128 - 1` is given as `2^128 - 1`.
 #[derive(Clone, Copy, Debug, PartialEq, Eq)]
 pub struct Numbers {
     /// The weight of the numerator: at least 1 and its norm.
@@ -34,11 +36,12 @@ pub struct Numbers {
 }
 
 impl Numbers {
-    ghost use Rattle.fraction_poly.specs.Measures.{product_numbers, sum_numbers, turned_numbers, variable_numbers};
+    ghost use Rattle.fraction_poly.specs.Measures.{product_numbers, sum_numbers, turned_numbers};
+    ghost use Rattle.fraction_poly.specs.Measures.{variable_numbers};
     ghost use Rattle.geo_terms.specs.Trees.{integer_leaf};
 
-    /// Whether a term with these numbers may be multiplied out: the weights and the degrees are within the bounds of a
-    /// polynomial.
+    /// Whether a term with these numbers may be multiplied out: the weights and the degrees are
+    /// within the bounds of a polynomial.
     pub fn has_room(&self) -> bool
         ensures bounds { IsTrue result ↔ HaveRoom self.now }
         ensures term { (e : Tree) → self.now ≡ capped (numbers_of e) → (IsTrue result ↔ HasRoom e) }
@@ -147,8 +150,8 @@ fn charged(left: u128, right: u128, kn: u128, kd: u128) -> u128
         .saturating_add(kd)
 }
 
-/// The numbers of the term at an index. It takes time and memory for the nodes that the term reaches, each once; of
-/// many terms of one store, ask `StoreNumbers`.
+/// The numbers of the term at an index. It takes time and memory for the nodes that the term
+/// reaches, each once; of many terms of one store, ask `StoreNumbers`.
 pub fn measure(alloc: Global, terms: &Terms, id: TermId) -> Result<Numbers, NoMemory>
     requires { id.0 < length terms.now }
     ensures { IfOk result (λ numbers. numbers ≡ capped (numbers_of (tree_of terms.now id))) }

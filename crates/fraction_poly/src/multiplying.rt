@@ -15,8 +15,8 @@ use geo_poly::{Poly, Var};
 use geo_terms::{Node, Terms};
 use std::alloc::Global;
 
-/// The numerator and the denominator of the term at an index. Each node that the term reaches is multiplied out once,
-/// however often the term has it, and no other is looked at.
+/// The numerator and the denominator of the term at an index. Each node that the term reaches is
+/// multiplied out once, however often the term has it, and no other is looked at.
 pub fn multiply_out(alloc: Global, terms: &Terms, id: TermId) -> Result<(Poly, Poly), NoMemory>
     requires stored { id.0 < length terms.now }
     requires room { HasRoom (tree_of terms.now id) }
@@ -26,7 +26,8 @@ pub fn multiply_out(alloc: Global, terms: &Terms, id: TermId) -> Result<(Poly, P
     fraction_of(alloc, &cut, place)
 }
 
-/// The fraction of the term at an index, in a store whose terms may all be multiplied out: those up to the term are.
+/// The fraction of the term at an index, in a store whose terms may all be multiplied out: those up
+/// to the term are.
 fn fraction_of(alloc: Global, terms: &Terms, id: TermId) -> Result<Fraction, NoMemory>
     requires stored { id.0 < length terms.now }
     requires fit { DoAllFit terms.now }

@@ -1,7 +1,9 @@
 //! Polynomials with the numbers that their form tells.
 
 ghost use Rattle.std.specs.Prelude.{◌≡◌, ◌+◌, ◌*◌, ◌^◌, ◌<◌, ◌≤◌, IfOk};
-ghost use Rattle.fraction_poly.specs.Forms.{PieceFits, integer_piece, piece_difference, piece_opposite, piece_product, piece_sum, variable_piece};
+ghost use Rattle.fraction_poly.specs.Forms.{PieceFits, integer_piece, piece_difference};
+ghost use Rattle.fraction_poly.specs.Forms.{piece_opposite, piece_product, piece_sum};
+ghost use Rattle.fraction_poly.specs.Forms.{variable_piece};
 ghost use Rattle.geo_poly.specs.Replace.{IsBounded};
 
 use crate::fractions::{opposite as opposite_polynomial, within_bounds};

@@ -11,8 +11,9 @@ use geo_terms::{Node, Terms};
 use std::alloc::Global;
 use std::collections::BTreeSet;
 
-/// The indices of the term, of its parts, of the parts of these, and so on: each once, and from the greatest down, so
-/// that parts come after their nodes. It takes time and memory for these nodes alone.
+/// The indices of the term, of its parts, of the parts of these, and so on: each once, and from the
+/// greatest down, so that parts come after their nodes. It takes time and memory for these nodes
+/// alone.
 pub(crate) fn reached(alloc: Global, terms: &Terms, id: TermId) -> Result<Vec<TermId>, NoMemory>
     requires { id.0 < length terms.now }
     ensures { IfOk result (λ order. AreReached terms.now id order.items) }
@@ -31,8 +32,10 @@ pub(crate) fn reached(alloc: Global, terms: &Terms, id: TermId) -> Result<Vec<Te
 
 /// Adds the indices of a node's parts. All others stay.
 fn add_parts(pending: &mut BTreeSet<u32>, node: Node) -> Result<(), NoMemory>
-    ensures parts { OnOk result ((c : TermId) → IsPart node c → IsTrue (contains nat_cmp pending.new c.0)) }
-    ensures kept { OnOk result ((k : ℕ) → IsTrue (contains nat_cmp pending.old k) → IsTrue (contains nat_cmp pending.new k)) }
+    ensures parts { OnOk result ((c : TermId) → IsPart node c
+        → IsTrue (contains nat_cmp pending.new c.0)) }
+    ensures kept { OnOk result ((k : ℕ) → IsTrue (contains nat_cmp pending.old k)
+        → IsTrue (contains nat_cmp pending.new k)) }
     ensures others { OnOk result ((c : TermId) → IsTrue (contains nat_cmp pending.new c.0)
         → IsTrue (contains nat_cmp pending.old c.0) ⊎ IsPart node c) }
 {

@@ -40,7 +40,8 @@ impl StoreNumbers {
         Ok(StoreNumbers { each })
     }
 
-    /// Those of the term at an index: what `measure` tells of it. Terms that were added to the store since have none.
+    /// Those of the term at an index: what `measure` tells of it. Terms that were added to the
+    /// store since have none.
     pub fn numbers(&self, id: TermId) -> Numbers
         requires { id.0 < length self.now }
         ensures listed { slice_get self.now id.0 ≡ Some result }

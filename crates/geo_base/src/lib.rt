@@ -1,9 +1,11 @@
-//! What the other crates stand on: sources and sinks of bytes, budgets, and decimal text.
+//! What the other crates stand on: sources and sinks of bytes, reading line by line, budgets, and
+//! decimal text.
 #![tactic(auto)]
 
 pub use adapters::{ReaderSource, WriterSink};
 pub use budgets::{Budget, Spent};
 pub use decimals::{DecimalError, push_decimal, read_decimal};
+pub use lines::{LineReader, NextLine};
 pub use memory::{MemSink, MemSource};
 pub use no_memory::NoMemory;
 pub use reading::{Failed, ReadError, Source, read_all};
@@ -14,8 +16,11 @@ pub use writing::{PutError, Sink, write_all};
 mod adapters;
 mod budgets;
 mod decimals;
+mod intake;
+mod lines;
 mod memory;
 mod no_memory;
+mod piece;
 mod reading;
 mod sure;
 #[cfg(test)]

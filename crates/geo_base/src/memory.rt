@@ -1,5 +1,6 @@
 //! A source and a sink in memory whose calls fail where a test wants them to.
-ghost use Rattle.std.specs.Prelude.{◌≡◌, ◌<◌, ◌≤◌, ◌++◌, ◌↔◌, [], length, min, take, Contains, IfOk, IsErr, OnErr, OnOk, Some};
+ghost use Rattle.std.specs.Prelude.{◌≡◌, ◌<◌, ◌≤◌, ◌++◌, ◌↔◌, [], length, min, take, Contains};
+ghost use Rattle.std.specs.Prelude.{IfOk, IsErr, OnErr, OnOk, Some};
 ghost use Rattle.std.specs.Prelude.{IsErrOf};
 ghost use Rattle.geo_base.specs.Devices.{Grows, HasRisen, Loses, MarksEnd, count_up};
 

@@ -1,5 +1,6 @@
 //! Sources of bytes, and reading one to its end.
-ghost use Rattle.std.specs.Prelude.{◌≡◌, ◌+◌, ◌<◌, ◌≤◌, ℕ, List, Option, length, take, IfOk, OnOk, OnErr, IsErrOf};
+ghost use Rattle.std.specs.Prelude.{◌≡◌, ◌+◌, ◌<◌, ◌≤◌, ℕ, List, Option, length, take, IfOk, OnOk};
+ghost use Rattle.std.specs.Prelude.{OnErr, IsErrOf};
 ghost use Rattle.geo_base.specs.Devices.{HasEnded, HasRisen, Loses, MarksEnd};
 
 use std::alloc::{AllocError, Global};
@@ -16,7 +17,8 @@ pub trait Source {
     // How many reads have failed.
     ghost faults: { Self → ℕ };
 
-    /// Reads bytes into the front of `buf` and answers how many. For a nonempty `buf` an answer of 0
+    /// Reads bytes into the front of `buf` and answers how many. For a nonempty `buf` an answer of
+    /// 0
     /// is the end of the input.
     fn read(&mut self, buf: &mut [u8]) -> Result<usize, Failed>
         ensures within { IfOk result (λ n. n ≤ length buf.old) }
@@ -27,7 +29,7 @@ pub trait Source {
         ensures faults { faults self.old ≤ faults self.new };
 }
 
-/// Why `read_all` gave no bytes.
+/// Why reading gave nothing.
 #[derive(Clone, Copy, Debug, PartialEq, Eq)]
 pub enum ReadError {
     /// A read failed.

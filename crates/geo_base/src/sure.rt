@@ -1,5 +1,6 @@
 //! A source and a sink in memory whose calls do not fail.
-ghost use Rattle.std.specs.Prelude.{◌≡◌, ◌++◌, ◌↔◌, [], length, min, take, IfOk, IsOk, IsOkUnless, OnErr, OnOk, Some};
+ghost use Rattle.std.specs.Prelude.{◌≡◌, ◌++◌, ◌↔◌, [], length, min, take, IfOk, IsOk, IsOkUnless};
+ghost use Rattle.std.specs.Prelude.{OnErr, OnOk, Some};
 
 use crate::reading::{Failed, Source};
 use crate::writing::{PutError, Sink};

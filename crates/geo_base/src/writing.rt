@@ -1,5 +1,6 @@
 //! Sinks of bytes, and writing a whole text into one.
-ghost use Rattle.std.specs.Prelude.{◌≡◌, ◌<◌, ◌≤◌, ℕ, List, Option, length, take, IfOk, OnOk, OnErr, IsErrOf};
+ghost use Rattle.std.specs.Prelude.{◌≡◌, ◌<◌, ◌≤◌, ℕ, List, Option, length, take, IfOk, OnOk};
+ghost use Rattle.std.specs.Prelude.{OnErr, IsErrOf};
 ghost use Rattle.geo_base.specs.Devices.{Grows, HasRisen};
 
 use crate::reading::Failed;
@@ -39,7 +40,8 @@ pub trait Sink {
         ensures some { 0 < length buf.now → IfOk result (λ n. 0 < n) }
         ensures grown { IfOk result (λ n. Grows (held self.old) (take n buf.now) (held self.new)) }
         ensures kept { OnErr result (held self.new ≡ held self.old) }
-        ensures fault { IsErrOf result PutError.Failed → HasRisen (faults self.old) (faults self.new) }
+        ensures fault { IsErrOf result PutError.Failed
+            → HasRisen (faults self.old) (faults self.new) }
         ensures faults { faults self.old ≤ faults self.new };
 }
 

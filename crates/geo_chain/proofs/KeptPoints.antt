@@ -6,7 +6,7 @@ use Rattle.std.specs.Ordering.{is_eq}
 use Rattle.geo_poly.specs.declared.replacement.Row.{Row}
 use Rattle.geo_poly.specs.declared.variables.Var.{Var}
 use Rattle.geo_poly.specs.declared.variables.Var.TheVariants.{R, S, P, X as Abscissa, Y as Ordinate, T as Number}
-use Rattle.geo_poly.specs.Polynomials.{Terms}
+use Rattle.geo_poly.specs.Polynomials.{Summands}
 use Rattle.geo_poly.specs.Variables.{var_cmp}
 use Rattle.geo_poly.specs.PolynomialVariables.{AllVariables, variables_of}
 use Rattle.geo_poly.proofs.EachVariable.{EachIn, OfNumerators, each-variables, of-both, of-replaced_by, of-rows, some_row}
@@ -50,11 +50,11 @@ module _ (c : Construction) (valid : IsConstruction c) where
   of_named n (Ordinate a) h = h.0
   of_named n (Number t) h = tt
 
-  all_named : (n : ℕ) (q : Terms) → AllVariables (IsNamed c n) q → AllVariables (HasPointsBelow n) q
+  all_named : (n : ℕ) (q : Summands) → AllVariables (IsNamed c n) q → AllVariables (HasPointsBelow n) q
   all_named n q h = of-both (IsNamed c n) (IsNamed c n) (HasPointsBelow n) (λ v a b. of_named n v a) q h h
 
   -- the polynomial after a move has points below n alone, if that before has
-  pub points_kept : (n : ℕ) (move : Move) (left : ℕ) (q r : Terms) → AllVariables (HasPointsBelow n) q → IsMoved (replacement lemma_table c move q) left q r
+  pub points_kept : (n : ℕ) (move : Move) (left : ℕ) (q r : Summands) → AllVariables (HasPointsBelow n) q → IsMoved (replacement lemma_table c move q) left q r
       → AllVariables (HasPointsBelow n) r
   points_kept n move left q r points moved =
       let rows : List Row = filter_map (lemma_table.row c move) (variables_of q) in

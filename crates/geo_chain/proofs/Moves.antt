@@ -3,7 +3,7 @@ use Rattle.std.proofs.Common.{◌≡◌, Option, Some, None, refl}
 use Rattle.std.specs.Prelude.{IfSome}
 use Rattle.geo_poly.specs.declared.variables.Var.{Var}
 use Rattle.geo_poly.specs.declared.variables.Var.TheVariants.{R, S, P, X as Abscissa, Y as Ordinate, T as Number}
-use Rattle.geo_poly.specs.Polynomials.{Terms}
+use Rattle.geo_poly.specs.Polynomials.{Summands}
 use Rattle.geo_poly.specs.PolynomialVariables.{IsPlain, IsQuantity}
 use Rattle.geo_poly.proofs.EachVariable.{all_variables}
 use Rattle.geo_terms.specs.Constructions.{Construction}
@@ -24,10 +24,10 @@ plain_or (Ordinate a) h = tt
 plain_or (Number t) h = tt
 
 -- where no quantity of points is left, a chain ends
-pub end_of : (q : Terms) → NoneFits AnyQuantity q → IsEnd q
+pub end_of : (q : Summands) → NoneFits AnyQuantity q → IsEnd q
 end_of q none = all_variables IsPlain q (λ v c. plain_or v (none v c))
 
 -- at an end there is no next move
-pub none_at_end : (c : Construction) (q : Terms) (o : Option Move) → IfSome o (IsNextMove lemma_table c q) → IsEnd q → o ≡ None
+pub none_at_end : (c : Construction) (q : Summands) (o : Option Move) → IfSome o (IsNextMove lemma_table c q) → IsEnd q → o ≡ None
 none_at_end c q None h e = refl
 none_at_end c q (Some m) h e = absurd (no_move c q m e h)

@@ -10,7 +10,7 @@ use Rattle.geo_points.specs.declared.ids.PointId.{PointId}
 use Rattle.geo_poly.specs.declared.replacement.Row.{Row}
 use Rattle.geo_poly.specs.declared.variables.Var.{Var}
 use Rattle.geo_poly.specs.declared.variables.Var.TheVariants.{R, S, P, X as Abscissa, Y as Ordinate, T as Number}
-use Rattle.geo_poly.specs.Polynomials.{Terms}
+use Rattle.geo_poly.specs.Polynomials.{Summands}
 use Rattle.geo_poly.specs.Variables.{var_cmp}
 use Rattle.geo_poly.proofs.Orders.{var_order}
 use Rattle.geo_terms.specs.declared.steps.Step.{Step}
@@ -178,7 +178,7 @@ module _ (c : Construction) where
   point_row y made (Ordinate a) h n = let q : false ≡ true = h in absurd (cc)
   point_row y made (Number t) h n = let q : false ≡ true = h in absurd (cc)
 
-  module _ (q : Terms) (free : HasFreePointsAlone c q) (named : AllVariables (HasPointsBelow (length c.steps)) q) where
+  module _ (q : Summands) (free : HasFreePointsAlone c q) (named : AllVariables (HasPointsBelow (length c.steps)) q) where
     free_here : (a : PointId) → a.0 < length c.steps → Occurs a q → IsTrue (is_free c a)
     free_here a lt occurs = go (slice_get c.steps a.0) refl
       where
@@ -231,7 +231,7 @@ module _ (c : Construction) where
   below (x ∷ xs) (suc i) s e = let h : i < length xs = below xs i s e in omega (arith, h)
 
   -- the step at which the next move looks is one of the construction
-  pub place_below : (q : Terms) (move : Move) → IsNextMove lemma_table c q move → IsPlaceBelow (length c.steps) (place_of move)
+  pub place_below : (q : Summands) (move : Move) → IsNextMove lemma_table c q move → IsPlaceBelow (length c.steps) (place_of move)
   place_below q (Ratio v zero at) h = tt
   place_below q (Ratio v (suc k) at) (inl (y, high, first, lemma, named)) =
       subst (λ (p : PointId). p.0 < length c.steps) (sym named) (below c.steps y.0 high.constructed.step high.constructed.made)
@@ -240,7 +240,7 @@ module _ (c : Construction) where
   place_below q Coords h = tt
 
   -- the next move replaces something
-  pub replaces : (q : Terms) (move : Move) → AllVariables (HasPointsBelow (length c.steps)) q → IsNextMove lemma_table c q move → (replacement lemma_table c move q).rows ≢ []
+  pub replaces : (q : Summands) (move : Move) → AllVariables (HasPointsBelow (length c.steps)) q → IsNextMove lemma_table c q move → (replacement lemma_table c move q).rows ≢ []
   replaces q (Ratio v l at) points (inl (y, high, first, lemma, named)) =
       let found : IsTrue (is_some (Row_of (Ratio v l y) v)) = subst (λ k. IsTrue (is_some (Row_of (Ratio v k y) v))) (sym lemma) (first_row y v first.ratio) in
       rows_some (Row_of (Ratio v l at)) (variables_of q) v first.stands

@@ -6,7 +6,7 @@ use Rattle.std.specs.declared.cmp.Ordering.TheVariants.{Less, Equal, Greater}
 use Rattle.std.proofs.Math.Nat.{eq-or-lt_of_le}
 use Rattle.geo_poly.specs.declared.variables.Var.{Var}
 use Rattle.geo_poly.specs.Monomials.{Powers}
-use Rattle.geo_poly.specs.Polynomials.{Terms, term_at}
+use Rattle.geo_poly.specs.Polynomials.{Summands, term_at}
 use Rattle.geo_poly.specs.Variables.{var_cmp}
 use Rattle.geo_poly.proofs.Orders.{var_order}
 use Rattle.geo_chain.specs.Inner.Searches.{Improves, IsMetBefore, IsMetIn, IsNoEarlier, IsNoHigher, Reaches}
@@ -93,10 +93,10 @@ module _ {A : Type 0} (NoBetter : A → A → Type 0) (order : IsOrder NoBetter)
     all_places m j x y h g i = let e : j ≡ length m = omega (arith, h, g) in subst (λ n. Improves NoBetter (IsMetIn Brings m n) x y) e i
 
     -- TERMS
-    pub no_term : (q : Terms) (x : Option A) → Improves NoBetter (IsMetBefore Brings q 0) x x
+    pub no_term : (q : Summands) (x : Option A) → Improves NoBetter (IsMetBefore Brings q 0) x x
     no_term q x = nothing (IsMetBefore Brings q 0) x (λ a h. let l = h.before in omega (arith, l))
 
-    pub one_term : (q : Terms) (i : ℕ) (x y z : Option A) → Improves NoBetter (IsMetBefore Brings q i) x y
+    pub one_term : (q : Summands) (i : ℕ) (x y z : Option A) → Improves NoBetter (IsMetBefore Brings q i) x y
         → Improves NoBetter (IsMetIn Brings (term_at q i).0 (length (term_at q i).0)) y z → Improves NoBetter (IsMetBefore Brings q (i + 1)) x z
     one_term q i x y z h g = both (IsMetBefore Brings q i) (Here i) (IsMetBefore Brings q (i + 1)) x y z
         (λ a k. record { place = k.place; before = (let l = k.before in omega (arith, l)); met = k.met })

@@ -1,7 +1,8 @@
 //! The first variable of a kind in a polynomial.
 
 ghost use Rattle.std.specs.Prelude.{◌≡◌, ◌<◌, ◌↔◌, IfNone, IfSome, IsTrue, length};
-ghost use Rattle.geo_chain.specs.Inner.Searches.{Fits, FitsItself, Improves, IsFirstFitting, IsMetIn, IsNoEarlier, NoneFits};
+ghost use Rattle.geo_chain.specs.Inner.Searches.{Fits, FitsItself, Improves, IsFirstFitting};
+ghost use Rattle.geo_chain.specs.Inner.Searches.{IsMetIn, IsNoEarlier, NoneFits};
 ghost use Rattle.geo_logs.specs.Defined.{has_point};
 ghost use Rattle.geo_poly.specs.PolynomialVariables.{IsQuantity, IsRatio};
 ghost use Rattle.geo_poly.specs.Polynomials.{term_at};

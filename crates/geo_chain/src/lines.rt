@@ -1,7 +1,8 @@
 //! The next line.
 
 ghost use Rattle.std.specs.Prelude.{◌≡◌, ◌≢◌, ◌⊎◌, IfOk, IsErrOf, length};
-ghost use Rattle.geo_logs.specs.Moves.{IsMoveStopped, place_of_lemma, replacement, spent, too_large};
+ghost use Rattle.geo_logs.specs.Moves.{IsMoveStopped, place_of_lemma, replacement, spent};
+ghost use Rattle.geo_logs.specs.Moves.{too_large};
 ghost use Rattle.elim_apply.specs.LemmaTable.{lemma_table};
 ghost use Rattle.geo_logs.specs.declared.moves.Move.{Move};
 ghost use Rattle.fraction_poly.specs.TableRows.{HasPointsBelow};

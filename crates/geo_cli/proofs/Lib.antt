@@ -1,1 +1,4 @@
+pub mod OrderLemmas
 pub mod OneDue
+pub mod Answered
+pub mod Ended

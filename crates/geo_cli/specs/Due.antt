@@ -1,19 +1,26 @@
--- What a run is to write, and the cause of each text.
-use Rattle.std.specs.Prelude.{◌≡◌, ℕ, ◌<◌, ◌≤◌, List, [], ◌∷◌, ◌++◌, length, Option, codes}
+-- What a run is to write and to answer, and the cause of it.
+use Rattle.std.specs.Prelude.{◌≡◌, ◌⊎◌, ℕ, ◌<◌, ◌≤◌, List, [], ◌∷◌, ◌++◌, length, Option, codes}
 use Rattle.std.specs.Fmt.{decimal}
-use Rattle.geo_cli.specs.declared.due.Due.{Due}
-use Rattle.geo_cli.specs.declared.due.Due.TheVariants.{Usage, TooLong, Syntax, Unbuilt, Log}
 use Rattle.geo_cli.specs.declared.status.Status.{Status}
-use Rattle.geo_cli.specs.declared.status.Status.TheVariants as status
-use Rattle.geo_cli.specs.Input.{IsInput, IsLong, input_limit}
+use Rattle.geo_cli.specs.declared.status.Status.TheVariants.{Usage, Syntax, TooLong}
+use Rattle.geo_cli.specs.Input.{IsInput, IsLong, program_limit}
+use Rattle.geo_cli.specs.Status.{ending_status}
 use Rattle.geo_cli.specs.Words.{IsProve}
 use Rattle.geo_lexer.specs.declared.token_types.Fault.{Fault}
+use Rattle.geo_logs.specs.Ends.{Ending}
 use Rattle.geo_parser.specs.Refusals.{IsRefused}
 use Rattle.geo_program.specs.declared.program_type.Program.{Program}
-use Rattle.geo_program.specs.Programs.{Spells, program_text}
-use Rattle.geo_prover.specs.FirstLog.{IsFirstRun, IsUnbuilt}
+use Rattle.geo_program.specs.Programs.{Spells, source_of}
+use Rattle.geo_prover.specs.Proving.{IsLogOf}
+use Rattle.proof_log.specs.declared.log.Line.{Line}
+use Rattle.proof_log.specs.Lines.{log_text}
 
--- THE LINES THAT SAY WHY THERE IS NO LOG
+-- a text that is to be written, and the answer then
+pub record Due : Type 0 where
+  pub text : List ℕ
+  pub status : Status
+
+-- LINES THAT SAY WHY THERE IS NO LOG
 
 -- the words are no command
 abbrev pub usage_line : List ℕ
@@ -27,78 +34,65 @@ too_long_line = codes "too long" ++ 10 ∷ []
 abbrev pub syntax_line : Fault → List ℕ
 syntax_line fault = codes "syntax " ++ decimal fault.refusal ++ codes " at " ++ decimal fault.place ++ 10 ∷ []
 
--- the input spells a program that is not of the first form, or one whose defined log does not end in Proved
-abbrev pub unbuilt_line : List ℕ
-unbuilt_line = codes "unbuilt" ++ 10 ∷ []
+-- WHAT AN INPUT CALLS FOR
 
--- WHAT AN INPUT IS
-
--- the bytes spell a program whose canonical text is one of the first form; the text is its defined log, which is accepted, and the program is true
-pub record HasLog (bytes text : List ℕ) : Type 0 where
+-- the bytes spell a program: its log, with so many steps, up to its end
+pub record IsLogDue (steps : ℕ) (bytes : List ℕ) (due : Due) : Type 0 where
   pub program : Program
   pub spelt : Spells bytes program
-  pub log : IsFirstRun (program_text program) text
-
--- the bytes spell a program whose canonical text is not of the first form, or whose defined log does not end in Proved
-pub record HasNoLog (bytes : List ℕ) : Type 0 where
-  pub program : Program
-  pub spelt : Spells bytes program
-  pub unbuilt : IsUnbuilt (program_text program)
+  pub lines : List Line
+  pub ending : Ending
+  pub log : IsLogOf (source_of program) steps lines ending
+  pub is : due ≡ record { text = log_text lines; status = ending_status lines ending }
 
 -- the bytes spell no program, and this is their first refusal
 pub record IsNoProgram (bytes : List ℕ) (fault : Fault) : Type 0 where
   pub refused : IsRefused bytes fault
   pub spells_none : (program : Program) → Spells bytes program → ⊥
 
--- WHAT IS DUE
+-- the bytes spell no program: the line that tells why
+pub record IsRefusalDue (bytes : List ℕ) (due : Due) : Type 0 where
+  pub fault : Fault
+  pub no_program : IsNoProgram bytes fault
+  pub is : due ≡ record { text = syntax_line fault; status = Syntax fault.refusal fault.place }
 
--- the text that is to be written
-abbrev pub due_text : Due → List ℕ
-due_text Usage = usage_line
-due_text TooLong = too_long_line
-due_text (Syntax fault line) = line
-due_text Unbuilt = unbuilt_line
-due_text (Log text) = text
+-- what `prove` is to write of these bytes
+abbrev pub IsDueFor : ℕ → List ℕ → Due → Type 0
+IsDueFor steps bytes due = IsLogDue steps bytes due ⊎ IsRefusalDue bytes due
 
--- the answer once it is written
-abbrev pub due_status : Due → Status
-due_status Usage = status.Usage
-due_status TooLong = status.TooLong
-due_status (Syntax fault line) = status.Syntax fault.refusal fault.place
-due_status Unbuilt = status.Unbuilt
-due_status (Log text) = status.Proved
+-- WHAT THE WORDS CALL FOR
 
--- what an input of these bytes calls for: its log, or a line that says why there is none
-abbrev pub IsDueFor : List ℕ → Due → Type 0
-IsDueFor bytes Usage = ⊥
-IsDueFor bytes TooLong = ⊥
-IsDueFor bytes (Syntax fault line) = IsNoProgram bytes fault × (line ≡ syntax_line fault)
-IsDueFor bytes Unbuilt = HasNoLog bytes
-IsDueFor bytes (Log text) = HasLog bytes text
+-- the words are no command
+abbrev pub IsNoCommand : List (List ℕ) → Type 0
+IsNoCommand words = (steps : ℕ) → IsProve words steps → ⊥
 
--- what a canonical text calls for
-abbrev pub IsDueForText : List ℕ → Due → Type 0
-IsDueForText text Unbuilt = IsUnbuilt text
-IsDueForText text (Log log) = IsFirstRun text log
-IsDueForText text _ = ⊥
+-- they are no command: nothing is read
+pub record IsUsageDue (words : List (List ℕ)) (left left' : Option (List ℕ)) (due : Due) : Type 0 where
+  pub no_command : IsNoCommand words
+  pub unread : left' ≡ left
+  pub is : due ≡ record { text = usage_line; status = Usage }
 
--- the word is `prove`, and the input calls for this
-pub record IsDueForInput (words : List (List ℕ)) (left left' : Option (List ℕ)) (due : Due) : Type 0 where
-  pub command : IsProve words
+-- the input is longer than its limit
+pub record IsLengthDue (words : List (List ℕ)) (left left' : Option (List ℕ)) (due : Due) : Type 0 where
+  pub steps : ℕ
+  pub command : IsProve words steps
+  pub long : IsLong program_limit left left'
+  pub is : due ≡ record { text = too_long_line; status = TooLong }
+
+-- the input is read to its end
+pub record IsInputDue (words : List (List ℕ)) (left left' : Option (List ℕ)) (due : Due) : Type 0 where
+  pub steps : ℕ
+  pub command : IsProve words steps
   pub bytes : List ℕ
-  pub input : IsInput left bytes left'
-  pub due_for : IsDueFor bytes due
+  pub input : IsInput program_limit left bytes left'
+  pub due_for : IsDueFor steps bytes due
 
--- what the words call for, and the bytes that the source had left before and has left after
+-- what the words call for, with the bytes that the source had left before and has left after
 abbrev pub IsDue : List (List ℕ) → Option (List ℕ) → Option (List ℕ) → Due → Type 0
-IsDue words left left' Usage = ¬ (IsProve words)
-IsDue words left left' TooLong = IsProve words × IsLong left left'
-IsDue words left left' (Syntax fault line) = IsDueForInput words left left' (Syntax fault line)
-IsDue words left left' Unbuilt = IsDueForInput words left left' Unbuilt
-IsDue words left left' (Log text) = IsDueForInput words left left' (Log text)
+IsDue words left left' due = IsUsageDue words left left' due ⊎ (IsLengthDue words left left' due ⊎ IsInputDue words left left' due)
 
--- what the words call for where these are all bytes that the source has left
-abbrev pub IsCalledFor : List (List ℕ) → List ℕ → Due → Type 0
-IsCalledFor words bytes Usage = ¬ (IsProve words)
-IsCalledFor words bytes TooLong = IsProve words × (input_limit < length bytes)
-IsCalledFor words bytes due = IsProve words × (length bytes ≤ input_limit) × IsDueFor bytes due
+-- what the word `prove` calls for where these are all bytes that the source has left
+abbrev pub IsCalledFor : ℕ → List ℕ → Due → Type 0
+IsCalledFor steps bytes due =
+    ((program_limit < length bytes) × (due ≡ record { text = too_long_line; status = TooLong }))
+    ⊎ ((length bytes ≤ program_limit) × IsDueFor steps bytes due)

@@ -3,23 +3,23 @@ use Rattle.std.specs.Prelude.{◌≡◌, ℕ, ◌+◌, ◌≤◌, List, length, 
 use Rattle.geo_base.specs.Devices.{HasEnded, Loses}
 
 -- the most bytes of a program
-abbrev pub input_limit : ℕ
-input_limit = 1048576
+abbrev pub program_limit : ℕ
+program_limit = 1048576
 
 -- all bytes of the source were read, and they are within the limit
-pub record IsInput (left : Option (List ℕ)) (bytes : List ℕ) (left' : Option (List ℕ)) : Type 0 where
+pub record IsInput (limit : ℕ) (left : Option (List ℕ)) (bytes : List ℕ) (left' : Option (List ℕ)) : Type 0 where
   pub lost : Loses left bytes left'
   pub ended : HasEnded left'
-  pub short : length bytes ≤ input_limit
+  pub short : length bytes ≤ limit
 
 -- the source gave more bytes than the limit
-pub record IsLong (left left' : Option (List ℕ)) : Type 0 where
+pub record IsLong (limit : ℕ) (left left' : Option (List ℕ)) : Type 0 where
   pub taken : List ℕ
   pub lost : Loses left taken left'
-  pub longer : length taken ≡ input_limit + 1
+  pub longer : length taken ≡ limit + 1
 
 -- the source lost the bytes that were taken, at most one past the limit
-pub record Takes (left left' : Option (List ℕ)) : Type 0 where
+pub record Takes (limit : ℕ) (left left' : Option (List ℕ)) : Type 0 where
   pub taken : List ℕ
   pub lost : Loses left taken left'
-  pub few : length taken ≤ input_limit + 1
+  pub few : length taken ≤ limit + 1

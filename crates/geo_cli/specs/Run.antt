@@ -1,66 +1,67 @@
--- What each answer of a run says of its words, of the source's bytes to come, and of the bytes that the sink holds.
--- A name with a prime is the same after the run.
+-- How a run ends, by its words, the bytes that the source has still to give, the bytes that the sink holds, and the counts of faults of
+-- both. A name with a prime is the same after the run.
 use Rattle.std.specs.Prelude.{◌≡◌, ◌⊎◌, ℕ, List, take, Option}
 use Rattle.geo_base.specs.Devices.{Grows, HasRisen}
-use Rattle.geo_cli.specs.declared.due.Due.{Due}
-use Rattle.geo_cli.specs.Due.{HasLog, HasNoLog, IsDue, IsNoProgram, due_status, due_text}
-use Rattle.geo_cli.specs.Due.{syntax_line, too_long_line, unbuilt_line, usage_line}
-use Rattle.geo_cli.specs.Input.{IsInput, IsLong}
-use Rattle.geo_cli.specs.Words.{IsProve}
 use Rattle.geo_cli.specs.declared.status.Status.{Status}
-use Rattle.geo_cli.specs.declared.status.Status.TheVariants.{NoMemory}
-use Rattle.geo_lexer.specs.declared.token_types.Fault.{Fault}
+use Rattle.geo_cli.specs.declared.status.Status.TheVariants.{NoMemory, ReadFault, WriteFault}
+use Rattle.geo_cli.specs.Due.{Due, IsDue}
+use Rattle.geo_cli.specs.Input.{IsInput, program_limit}
+use Rattle.geo_cli.specs.Words.{IsProve}
+use Rattle.geo_program.specs.declared.program_type.Program.{Program}
+use Rattle.geo_program.specs.Programs.{Spells, source_of}
+use Rattle.log_checker.specs.Accepted.{Accepts, BytesMean}
+use Rattle.proof_log.specs.declared.log.Verdict.{Verdict}
 
--- the input spelt a true program, and its log was written
-pub record Proves (words : List (List ℕ)) (left left' held held' : Option (List ℕ)) : Type 0 where
-  pub command : IsProve words
+-- THE MAIN CLAUSE
+-- the words are `prove` with so many steps, the source gave these bytes and no more, they spell this program, and the sink holds this text
+-- besides; the text is a log of the program that is accepted with these steps and this verdict; and it means: the statement is true, or
+-- the printed integers break it, or no placement meets the program
+pub record Decides (words : List (List ℕ)) (left left' held held' : Option (List ℕ)) (verdict : Verdict) : Type 0 where
+  pub steps : ℕ
+  pub command : IsProve words steps
   pub bytes : List ℕ
-  pub input : IsInput left bytes left'
+  pub input : IsInput program_limit left bytes left'
+  pub program : Program
+  pub spelt : Spells bytes program
   pub text : List ℕ
-  pub log : HasLog bytes text
   pub written : Grows held text held'
+  pub accepted : Accepts text steps (source_of program) verdict
+  pub means : BytesMean text (source_of program) verdict
 
--- the words were no command; nothing was read, and the usage line was written
-pub record Misuses (words : List (List ℕ)) (left left' held held' : Option (List ℕ)) : Type 0 where
-  pub command : ¬ (IsProve words)
-  pub unread : left' ≡ left
-  pub written : Grows held usage_line held'
+-- THE ENDS OF A RUN
+-- writing was cut short: a write failed, or memory ran out
+abbrev pub IsCutShort : Status → ℕ → ℕ → Type 0
+IsCutShort status faults faults' = ((status ≡ WriteFault) × HasRisen faults faults') ⊎ (status ≡ NoMemory)
 
--- the input was longer than the limit, and `too long` was written
-pub record Overruns (words : List (List ℕ)) (left left' held held' : Option (List ℕ)) : Type 0 where
-  pub command : IsProve words
-  pub long : IsLong left left'
-  pub written : Grows held too_long_line held'
+-- the text was written and the status answered; or writing was cut short behind its first bytes
+abbrev pub IsAnswered : Due → Status → ℕ → ℕ → Option (List ℕ) → Option (List ℕ) → Type 0
+IsAnswered due status faults faults' held held' =
+    ((status ≡ due.status) × Grows held due.text held')
+    ⊎ (IsCutShort status faults faults' × ((count : ℕ) × Grows held (take count due.text) held'))
 
--- the input spelt no program, and its first refusal was written
-pub record Refuses (words : List (List ℕ)) (left left' held held' : Option (List ℕ)) (fault : Fault) : Type 0 where
-  pub command : IsProve words
-  pub bytes : List ℕ
-  pub input : IsInput left bytes left'
-  pub no_program : IsNoProgram bytes fault
-  pub written : Grows held (syntax_line fault) held'
-
--- the input spelt a program that is not of the first form or has no defined log that ends in Proved, and `unbuilt` was written
-pub record Declines (words : List (List ℕ)) (left left' held held' : Option (List ℕ)) : Type 0 where
-  pub command : IsProve words
-  pub bytes : List ℕ
-  pub input : IsInput left bytes left'
-  pub no_log : HasNoLog bytes
-  pub written : Grows held unbuilt_line held'
-
--- the first bytes of a text that is due were written
-pub record WritesPart (words : List (List ℕ)) (left left' held held' : Option (List ℕ)) : Type 0 where
+-- what the words and the input call for was answered
+pub record Answers (words : List (List ℕ)) (left left' : Option (List ℕ)) (faults faults' : ℕ) (held held' : Option (List ℕ))
+    (status : Status) : Type 0 where
   pub due : Due
   pub cause : IsDue words left left' due
-  pub count : ℕ
-  pub written : Grows held (take count (due_text due)) held'
+  pub answered : IsAnswered due status faults faults' held held'
 
 -- a read failed, and nothing was written
-pub record FailsToRead (words : List (List ℕ)) (faults faults' : ℕ) (held held' : Option (List ℕ)) : Type 0 where
-  pub command : IsProve words
+pub record FailsToRead (words : List (List ℕ)) (faults faults' : ℕ) (held held' : Option (List ℕ)) (status : Status) : Type 0 where
+  pub is : status ≡ ReadFault
+  pub steps : ℕ
+  pub command : IsProve words steps
   pub fault : HasRisen faults faults'
   pub unwritten : held' ≡ held
 
--- what is due was written and answered, or memory ran out
-abbrev pub Answers : Due → Status → Option (List ℕ) → Option (List ℕ) → Type 0
-Answers due status held held' = (status ≡ NoMemory) ⊎ ((status ≡ due_status due) × Grows held (due_text due) held')
+-- memory ran out, and nothing was written
+pub record RunsOut (held held' : Option (List ℕ)) (status : Status) : Type 0 where
+  pub is : status ≡ NoMemory
+  pub unwritten : held' ≡ held
+
+-- every run ends in one of these ways
+abbrev pub Ends :
+    List (List ℕ) → Option (List ℕ) → Option (List ℕ) → ℕ → ℕ → ℕ → ℕ → Option (List ℕ) → Option (List ℕ) → Status → Type 0
+Ends words left left' source_faults source_faults' faults faults' held held' status =
+    Answers words left left' faults faults' held held' status
+    ⊎ (FailsToRead words source_faults source_faults' held held' status ⊎ RunsOut held held' status)

@@ -1,15 +1,36 @@
--- The numbers that the program ends with.
-use Rattle.std.specs.Prelude.{ℕ}
+-- How a run ended.
+use Rattle.std.specs.Prelude.{ℕ, List, length}
 use Rattle.geo_cli.specs.declared.status.Status.{Status}
-use Rattle.geo_cli.specs.declared.status.Status.TheVariants.{Proved, Usage, Syntax, ReadFault, TooLong, Unbuilt, WriteFault, NoMemory}
+use Rattle.geo_cli.specs.declared.status.Status.TheVariants.{Proved, False, Impossible, Usage, Syntax, TooLarge, Spent, ReadFault, WriteFault, NoMemory, TooLong}
+use Rattle.geo_logs.specs.Ends.{Ending, ends_by, ends_with, too_long}
+use Rattle.geo_logs.specs.Moves.{spent, too_large}
+use Rattle.proof_log.specs.declared.log.Line.{Line}
+use Rattle.proof_log.specs.declared.log.Verdict.{Verdict}
+use Rattle.proof_log.specs.declared.log.Verdict.TheVariants as verdict
 
--- the number of each status
+-- the number that the program ends with
 abbrev pub status_number : Status → ℕ
 status_number Proved = 0
+status_number (False g) = 1
+status_number (Impossible k) = 2
 status_number Usage = 3
 status_number (Syntax refusal place) = 4
+status_number (TooLarge line which) = 6
+status_number (Spent line) = 7
 status_number ReadFault = 8
 status_number WriteFault = 9
 status_number NoMemory = 10
 status_number TooLong = 12
-status_number Unbuilt = 14
+
+-- the answer that tells a verdict
+abbrev pub verdict_status : Verdict → Status
+verdict_status verdict.Proved = Proved
+verdict_status (verdict.False g) = False g
+verdict_status (verdict.Impossible k) = Impossible k
+
+-- the answer that tells how a log of these lines ends; a stop is told with the number of its line, the last
+abbrev pub ending_status : List Line → Ending → Status
+ending_status lines (ends_with v left) = verdict_status v
+ending_status lines (ends_by spent) = Spent (length lines)
+ending_status lines (ends_by (too_large which)) = TooLarge (length lines) which
+ending_status lines too_long = TooLong

@@ -1,4 +1,5 @@
-//! Proves a statement of plane geometry that standard input spells, and writes the log of the proof.
+//! Proves a statement of plane geometry that standard input spells, and writes the log of the
+//! proof.
 #![tactic(auto)]
 
 use crate::run::run;
@@ -8,8 +9,10 @@ use std::env;
 use std::io::ErrorKind;
 use std::process::ExitCode;
 
-mod due;
-mod lines;
+mod answers;
+mod numbers;
+mod order;
+mod proving;
 mod run;
 mod status;
 #[cfg(test)]
@@ -28,7 +31,8 @@ fn main(rt: HostRuntime) -> ExitCode {
     ExitCode::from(status.number())
 }
 
-// The words after the program's name, or the status to end with where a word is no UTF-8 or memory is wanting.
+// The words after the program's name, or the status to end with where a word is no UTF-8 or memory
+// is wanting.
 fn words_of(rt: &HostRuntime) -> Result<Vec<String>, Status> {
     match env::args(rt) {
         Ok(words) => words

@@ -1,12 +1,19 @@
 //! How a run ended.
 ghost use Rattle.std.specs.Prelude.{◌≡◌};
-ghost use Rattle.geo_cli.specs.Status.{status_number};
+ghost use Rattle.geo_cli.specs.Status.{status_number, verdict_status};
+
+use geo_poly::Which;
+use proof_log::Verdict;
 
 /// How a run ended.
 #[derive(Clone, Copy, Debug, PartialEq, Eq)]
 pub enum Status {
-    /// The log of a proof was written.
+    /// The statement is true.
     Proved,
+    /// The statement fails at the printed integers: the number of the goal that is not 0 there.
+    False(u32),
+    /// No placement meets the program: the number of the condition that is never met.
+    Impossible(u32),
     /// The words are no command.
     Usage,
     /// The input spells no program.
@@ -16,16 +23,26 @@ pub enum Status {
         /// The place of the token that is refused, in bytes from 0.
         place: u64,
     },
+    /// A line of the log passes a limit.
+    TooLarge {
+        /// The number of the line, from 1.
+        line: u64,
+        /// Which limit: that of norms, or that of degrees.
+        which: Which,
+    },
+    /// The charges pass the steps.
+    Spent {
+        /// The number of the line, from 1.
+        line: u64,
+    },
     /// A read failed.
     ReadFault,
-    /// The input is longer than its limit.
-    TooLong,
-    /// The input is no program of the first form whose defined log ends in Proved.
-    Unbuilt,
     /// A write failed.
     WriteFault,
     /// Memory ran out.
     NoMemory,
+    /// The input, or the log, is longer than its limit.
+    TooLong,
 }
 
 impl Status {
@@ -35,13 +52,27 @@ impl Status {
     {
         match self {
             Status::Proved => 0,
+            Status::False(_) => 1,
+            Status::Impossible(_) => 2,
             Status::Usage => 3,
             Status::Syntax { .. } => 4,
+            Status::TooLarge { .. } => 6,
+            Status::Spent { .. } => 7,
             Status::ReadFault => 8,
             Status::WriteFault => 9,
             Status::NoMemory => 10,
             Status::TooLong => 12,
-            Status::Unbuilt => 14,
+        }
+    }
+
+    /// The answer that tells a verdict.
+    pub fn of_verdict(verdict: Verdict) -> Status
+        ensures { result ≡ verdict_status verdict }
+    {
+        match verdict {
+            Verdict::Proved => Status::Proved,
+            Verdict::False(goal) => Status::False(goal),
+            Verdict::Impossible(condition) => Status::Impossible(condition),
         }
     }
 }

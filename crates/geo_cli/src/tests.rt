@@ -2,30 +2,111 @@
 use crate::run::run;
 use crate::status::Status;
 use geo_base::{MemSink, MemSource};
+use geo_poly::Which;
 use std::process::Abort;
 use std::test::Fail;
 
 const USAGE: &[u8] = b"usage: geo_cli COMMAND [NUMBER] [--steps N]\n";
 
-const PROGRAM: &[u8] =
-    b"point A\npoint B\npratio M A A B div { 1 } { 2 }\nprove { collinear A M B }\n";
+const MIDPOINT: &[u8] = b"point A point B midpoint M A B prove { collinear A M B }";
 
-const LOG: &[u8] =
-    b"geolog 1\n| point A\n| point B\n| pratio M A A B div { 1 } { 2 }\n| prove { collinear A M B }\ngoal 1 collinear A M B\nstart : -1*S0.1.2\ncut -1 : +1*S0.1.2\npoint 2 : 0\nend\nsample x0=0 y0=0 x1=0 y1=0\nverdict proved\n";
+const MIDPOINT_LOG: &[u8] =
+    b"geolog 1\n| point A\n| point B\n| midpoint M A B\n| prove { collinear A M B }\n\
+    goal 1 collinear A M B\nstart : -1*S0.1.2\ncut -1 : +1*S0.1.2\npoint 2 : 0\nend\n\
+    sample x0=0 y0=0 x1=0 y1=0\nverdict proved\n";
 
-const PARALLELOGRAM: &[u8] =
-    b"point A\npoint B\npoint C\npratio D A B C div { 1 } { 1 }\npratio M A A C div { 1 } { 2 }\nprove { collinear B M D }\n";
+const MIDPOINT_STOP: &[u8] =
+    b"geolog 1\n| point A\n| point B\n| midpoint M A B\n| prove { collinear A M B }\n\
+    goal 1 collinear A M B\nstart : -1*S0.1.2\ncut -1 : +1*S0.1.2\nstop spent 9\n";
 
-const LOG_OF_PARALLELOGRAM: &[u8] =
-    b"geolog 1\n| point A\n| point B\n| point C\n| pratio D A B C div { 1 } { 1 }\n| pratio M A A C div { 1 } { 2 }\n| prove { collinear B M D }\ngoal 1 collinear B M D\nstart : -1*S1.3.4\ncut -1 : +1*S1.3.4\npoint 4 : +1*S0.1.3 -1*S1.2.3\npoint 3 : 0\nend\nsample x0=0 y0=0 x1=0 y1=0 x2=0 y2=0\nverdict proved\n";
+// The same program with comments and sketch numbers.
+const SKETCHED: &[u8] =
+    b"point A 20 10% a comment\npoint B -7 007 midpoint M A B prove{collinear A M B}% the end";
 
-// The same program on one line, with comments and sketch numbers.
-const ONE_LINE: &[u8] =
-    b"point A 20 10% a comment\npoint B -7 007 pratio M A A B div{1}{ 02}prove{collinear A M B}% the end";
+const CROSSING: &[u8] = b"point A point B inter X A B A B prove { collinear A B X }";
+
+const CROSSING_LOG: &[u8] =
+    b"geolog 1\n| point A\n| point B\n| inter X A B A B\n| prove { collinear A B X }\n\
+    condition 1 not_parallel A B A B\nstart : 0\nend\nverdict impossible 1\n";
 
 const FREE_POINTS: &[u8] = b"point A point B point C prove { collinear A B C }";
 
-const OTHER_STATEMENT: &[u8] = b"param r prove { equal { r } { r } }";
+const FREE_POINTS_LOG: &[u8] =
+    b"geolog 1\n| point A\n| point B\n| point C\n| prove { collinear A B C }\n\
+    goal 1 collinear A B C\nstart : +1*S0.1.2\n\
+    coords : +1*x0*y1 -1*x0*y2 -1*y0*x1 +1*y0*x2 +1*x1*y2 -1*y1*x2\nend\n\
+    sample x0=0 y0=0 x1=0 y1=1 x2=1 y2=0\nverdict false 1\n";
+
+const NUMBERS: &[u8] = b"prove { equal { 1 } { 1 } }";
+
+const NUMBERS_LOG: &[u8] =
+    b"geolog 1\n| prove { equal { 1 } { 1 } }\ngoal 1 equal { 1 } { 1 }\nstart : 0\nend\n\
+    sample\nverdict proved\n";
+
+const QUOTIENTS: &[u8] =
+    b"param r prove { equal { div { 1 } { r } } { div { 1 } { sub { r } { 1 } } } }";
+
+const LARGEST: &[u8] = b"param r prove { equal { r } { 170141183460469231731687303715884105726 } }";
+
+const TOO_LARGE: &[u8] =
+    b"param r prove { equal { r } { 170141183460469231731687303715884105727 } }";
+
+const TOO_LARGE_LOG: &[u8] = b"geolog 1\n| param r\n\
+    | prove { equal { r } { 170141183460469231731687303715884105727 } }\n\
+    goal 1 equal { r } { 170141183460469231731687303715884105727 }\nstop too_large 5 norm\n";
+
+// Theorems, and statements that fail or are never met.
+const DECIDED: [(&[u8], Status); 12] = [
+    (
+        b"point A point B point C point P inter D B C A P inter E C A B P inter F A B C P \
+        prove { equal { mult { mult { sratio A F F B } { sratio B D D C } } { sratio C E E \
+        A } } { 1 } }",
+        Status::Proved,
+    ),
+    (
+        b"point A point B point C online D B C online E C A inter F A B D E prove { equal { \
+        mult { mult { sratio A F F B } { sratio B D D C } } { sratio C E E A } } { 1 } }",
+        Status::False(4),
+    ),
+    (
+        b"point A 20 20 % a triangle\npoint B 80 20 point C 40 60 circumcenter O A B C \
+        orthocenter H A B C centroid G A B C prove { collinear O H G }",
+        Status::Proved,
+    ),
+    (
+        b"point A point B point C foot D A B C foot E B A C inter H A D B E prove { \
+        perpendicular C H A B }",
+        Status::Proved,
+    ),
+    (
+        b"point A point B point A1 point B1 online C A B online C1 A1 B1 inter X A B1 A1 B \
+        inter Y A C1 A1 C inter Z B C1 B1 C prove { collinear X Y Z }",
+        Status::Proved,
+    ),
+    (
+        b"point O point A symmetric B A O oncircle X O A prove { perpendicular A X X B }",
+        Status::Proved,
+    ),
+    (
+        b"point A point B point C point D prove { equal { sratio A B C D } { 1 } }",
+        Status::False(1),
+    ),
+    (
+        b"point A point B point C prove { equal { sratio A B C C } { 1 } }",
+        Status::Impossible(1),
+    ),
+    (
+        b"point A point B point C prove { equal { signed_area3 A B C } { 1 } }",
+        Status::False(1),
+    ),
+    (LARGEST, Status::False(1)),
+    (QUOTIENTS, Status::False(1)),
+    (
+        b"point A point B line a A B perp b A a parallel c B b med d A B intersec M a d prove \
+        { midpoint M A B }",
+        Status::Proved,
+    ),
+];
 
 // Texts that spell no program, with the refusal, its place and the line that tells both.
 const REFUSED: [(&[u8], u32, u64, &[u8]); 12] = [
@@ -73,7 +154,8 @@ struct Row {
     failing_reads: &'static [u64],
     failing_writes: &'static [u64],
     status: Status,
-    held: &'static [u8],
+    // what the sink holds then, where that is compared
+    held: Option<&'static [u8]>,
 }
 
 impl Row {
@@ -86,7 +168,7 @@ impl Row {
             failing_reads: &[],
             failing_writes: &[],
             status,
-            held,
+            held: Some(held),
         }
     }
 
@@ -94,12 +176,12 @@ impl Row {
     const fn misuse(words: &'static [&'static str]) -> Row {
         Row {
             words,
-            input: PROGRAM,
+            input: MIDPOINT,
             piece: 4096,
             failing_reads: &[],
             failing_writes: &[],
             status: Status::Usage,
-            held: USAGE,
+            held: Some(USAGE),
         }
     }
 }
@@ -117,7 +199,9 @@ fn expect_row(rt: &(impl AllocGlobal + Abort), row: &Row, input: Vec<u8>) -> Res
     let mut sink = MemSink::new(alloc, Vec::from_slice(alloc, row.failing_writes)?);
     let status = run(alloc, &words, &mut source, &mut sink);
     assert_eq!(rt; status, row.status);
-    assert_eq!(rt; sink.bytes(), row.held);
+    if let Some(held) = row.held {
+        assert_eq!(rt; sink.bytes(), held);
+    }
     Ok(())
 }
 
@@ -139,17 +223,18 @@ fn expect_rows(rt: &(impl AllocGlobal + Abort), rows: &[Row]) -> Result<(), Fail
 fn runs_that_need_no_log(rt: HostRuntime) -> Result<(), Fail> {
     let rows = [
         Row::misuse(&[]),
-        Row::misuse(&["check"]),
         Row::misuse(&["prove", "now"]),
+        Row::misuse(&["prove", "--steps", "0"]),
+        Row::misuse(&["prove", "--steps", "5", "--steps", "5"]),
         Row {
             status: Status::WriteFault,
             failing_writes: &[1],
-            held: b"",
+            held: Some(b""),
             ..Row::misuse(&["prov"])
         },
         Row {
             failing_reads: &[2],
-            ..Row::prove(PROGRAM, 16, Status::ReadFault, b"")
+            ..Row::prove(MIDPOINT, 16, Status::ReadFault, b"")
         },
     ];
     expect_rows(&rt, &rows)?;
@@ -158,21 +243,64 @@ fn runs_that_need_no_log(rt: HostRuntime) -> Result<(), Fail> {
 }
 
 #[test]
-fn runs_of_the_prover(rt: HostRuntime) -> Result<(), Fail> {
+fn logs(rt: HostRuntime) -> Result<(), Fail> {
+    let which = Which::Norm;
     let rows = [
-        Row::prove(PROGRAM, 1, Status::Proved, LOG),
-        Row::prove(PROGRAM, 7, Status::Proved, LOG),
-        Row::prove(PROGRAM, 4096, Status::Proved, LOG),
-        Row::prove(PARALLELOGRAM, 4096, Status::Proved, LOG_OF_PARALLELOGRAM),
+        Row::prove(MIDPOINT, 1, Status::Proved, MIDPOINT_LOG),
+        Row::prove(MIDPOINT, 7, Status::Proved, MIDPOINT_LOG),
+        Row::prove(SKETCHED, 4096, Status::Proved, MIDPOINT_LOG),
         Row {
             failing_writes: &[3],
-            ..Row::prove(PROGRAM, 4096, Status::WriteFault, b"geolog 1\n| point A\n")
+            ..Row::prove(MIDPOINT, 4096, Status::WriteFault, b"geolog 1\n| point A\n")
         },
-        Row::prove(ONE_LINE, 5, Status::Proved, LOG),
-        Row::prove(FREE_POINTS, 4096, Status::Unbuilt, b"unbuilt\n"),
-        Row::prove(OTHER_STATEMENT, 4096, Status::Unbuilt, b"unbuilt\n"),
+        Row::prove(CROSSING, 4096, Status::Impossible(1), CROSSING_LOG),
+        Row::prove(FREE_POINTS, 4096, Status::False(1), FREE_POINTS_LOG),
+        Row::prove(NUMBERS, 4096, Status::Proved, NUMBERS_LOG),
+        Row::prove(
+            TOO_LARGE,
+            4096,
+            Status::TooLarge { line: 5, which },
+            TOO_LARGE_LOG,
+        ),
     ];
     expect_rows(&rt, &rows)
+}
+
+#[test]
+fn edges_of_the_budget(rt: HostRuntime) -> Result<(), Fail> {
+    let rows = [
+        Row {
+            words: &["prove", "--steps", "24"],
+            ..Row::prove(MIDPOINT, 4096, Status::Proved, MIDPOINT_LOG)
+        },
+        Row {
+            words: &["--steps=23", "prove"],
+            ..Row::prove(MIDPOINT, 4096, Status::Spent { line: 9 }, MIDPOINT_STOP)
+        },
+        Row {
+            words: &["prove", "--steps", "28"],
+            held: None,
+            ..Row::prove(QUOTIENTS, 4096, Status::False(1), b"")
+        },
+        Row {
+            words: &["prove", "--steps=27"],
+            held: None,
+            ..Row::prove(QUOTIENTS, 4096, Status::Spent { line: 14 }, b"")
+        },
+    ];
+    expect_rows(&rt, &rows)
+}
+
+#[test]
+fn verdicts(rt: HostRuntime) -> Result<(), Fail> {
+    for (input, status) in DECIDED {
+        let row = Row {
+            held: None,
+            ..Row::prove(b"", 4096, status, b"")
+        };
+        expect_row(&rt, &row, Vec::from_slice(rt.alloc(), input)?)?;
+    }
+    Ok(())
 }
 
 #[test]

@@ -13,7 +13,7 @@ use Rattle.geo_conditions.specs.Laws.{SameProgramsMeanTheSame}
 use Rattle.geo_conditions.specs.Lists.{AreConditionItems, AreGoalItems, Found, IsListed, ItemForm, condition_form, condition_item, goal_item}
 use Rattle.geo_conditions.specs.Statements.{pair_goals}
 use Rattle.geo_conditions.specs.Terms.{condition_term, goal_term}
-use Rattle.geo_conditions.specs.Truth.{Breaks, HasValues, Holds, IsImpossible, IsTrueProgram, Meets, Values, whole_point}
+use Rattle.geo_conditions.specs.Truth.{Breaks, HasValues, Holds, IsImpossible, IsTrueProgram, Meets, ProgramValues, whole_point}
 use Rattle.geo_conditions.proofs.GoalTexts.{IsPair, pairs_paired, same_pair}
 use Rattle.geo_conditions.proofs.Listings.{held, listed_hold}
 use Rattle.geo_conditions.proofs.Sightings.{same_condition, same_found, same_frees, same_holding, same_layout, same_length, same_met, same_named, same_numbers, same_saying}
@@ -41,7 +41,7 @@ true_too p q s h = record {
 impossible : (p q : Source) → SameSource p q → IsImpossible p → IsImpossible q
 impossible p q s h placed m = h placed (meets q p (turned p q s) placed m)
 
-values : (p q : Source) → SameSource p q → (placed : Placement) (v : Values) → HasValues p placed v → HasValues q placed v
+values : (p q : Source) → SameSource p q → (placed : Placement) (v : ProgramValues) → HasValues p placed v → HasValues q placed v
 values p q s placed v h = record {
   points = h.points ∙ ap length (same_frees p q s);
   numbers = h.numbers ∙ same_numbers p q s;
@@ -52,7 +52,7 @@ values p q s placed v h = record {
   same_numbers = h.same_numbers;
 }
 
-breaks : (p q : Source) → SameSource p q → (v : Values) → Breaks p v → Breaks q v
+breaks : (p q : Source) → SameSource p q → (v : ProgramValues) → Breaks p v → Breaks q v
 breaks p q s v h =
     let t = turned p q s in
     record {

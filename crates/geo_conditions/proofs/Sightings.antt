@@ -12,7 +12,7 @@ use Rattle.geo_program.specs.WellFormed.{Source}
 use Rattle.geo_lowering.specs.CommandsMet.{AreCommandsMet, MeetsCommands, drawn, line_of, lines_of, reading}
 use Rattle.geo_lowering.specs.Conditions.{Condition, IsConditionMet, command_conditions}
 use Rattle.geo_lowering.specs.Counting.{named, hidden, further, counted, gathered, next_point, next_number, numbers_from, numbers_had, param_places, points_from, points_named}
-use Rattle.geo_lowering.specs.Lines.{Line as DrawnLine, line_at}
+use Rattle.geo_lowering.specs.Lines.{DrawnLine, line_at}
 use Rattle.geo_lowering.specs.Lowering.{Pair, layout_of, line_places, pair_of, point_place, point_places}
 use Rattle.geo_conditions.specs.Lists.{Found, all_found, found_at, found_from}
 use Rattle.geo_conditions.specs.Truth.{Holds, free_points, is_free}

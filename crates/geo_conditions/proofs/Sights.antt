@@ -21,7 +21,7 @@ use Rattle.geo_program.specs.WellFormed.{Source}
 use Rattle.geo_lowering.specs.CommandsMet.{IsCommandMet, drawn, line_of, reading}
 use Rattle.geo_lowering.specs.Conditions.{Condition, different, not_collinear, not_parallel, crossing, nonzero, IsConditionMet, command_conditions, expression_conditions}
 use Rattle.geo_lowering.specs.Counting.{named, hidden, has_number}
-use Rattle.geo_lowering.specs.Lines.{Line as DrawnLine, AreParallel, IsOn}
+use Rattle.geo_lowering.specs.Lines.{DrawnLine, AreParallel, IsOn}
 use Rattle.geo_lowering.specs.Lowering.{Layout, Pair, pair_of, renamed}
 use Rattle.geo_conditions.specs.Statements.{HaveSameValue, StatementHolds, pair_goals, ratio_goals, statement_conditions}
 use Rattle.geo_conditions.specs.Terms.{goal_term}

@@ -17,7 +17,7 @@ use Rattle.geo_program.specs.FormTexts.{form_text}
 use Rattle.geo_conditions.specs.Lists.{condition_form, AreConditionItems, AreConditions, AreGoalItems, AreGoals, Found, ItemForm, all_found}
 use Rattle.geo_conditions.specs.Statements.{pair_goals, statement_goals}
 use Rattle.geo_conditions.specs.Terms.{HasNonzeroValue, HasZeroValue, condition_term, goal_term}
-use Rattle.geo_conditions.specs.Truth.{Breaks, HasValues, Holds, IsImpossible, IsTrueProgram, Meets, Values}
+use Rattle.geo_conditions.specs.Truth.{Breaks, HasValues, Holds, IsImpossible, IsTrueProgram, Meets, ProgramValues}
 
 -- the lowered placement extends the other one, and meets all steps
 pub record IsLoweredTo (p : Source) (l : LoweredForm) (placed lowered : Placement) : Type 0 where
@@ -107,14 +107,14 @@ PlacementsAreRealised =
 -- two placements with the same values that meet a program are the same
 abbrev pub ValuesFixPlacements : Type 0
 ValuesFixPlacements =
-    (p : Source) (v : Values) (one other : Placement) → IsWellFormed p
+    (p : Source) (v : ProgramValues) (one other : Placement) → IsWellFormed p
     → HasValues p one v → Meets p one → HasValues p other v → Meets p other
     → SamePlacement (points_named p.commands) (numbers_had p.commands) one other
 
 -- values break a program where the statement fails in some placement with these values that meets it
 abbrev pub OneFailureBreaks : Type 0
 OneFailureBreaks =
-    (p : Source) (v : Values) (placed : Placement)
+    (p : Source) (v : ProgramValues) (placed : Placement)
     → IsWellFormed p → HasValues p placed v → Meets p placed → (Holds p placed → ⊥) → Breaks p v
 
 -- conditions that a program gives have one text only where they are the same
@@ -149,9 +149,9 @@ ZeroConditionsMakeImpossible =
 
 -- a program is not true and broken, nor true and impossible, nor broken and impossible
 pub record VerdictsExclude : Type 0 where
-  pub true_or_broken : (p : Source) (v : Values) → IsTrueProgram p → Breaks p v → ⊥
+  pub true_or_broken : (p : Source) (v : ProgramValues) → IsTrueProgram p → Breaks p v → ⊥
   pub true_or_impossible : (p : Source) → IsTrueProgram p → IsImpossible p → ⊥
-  pub broken_or_impossible : (p : Source) (v : Values) → Breaks p v → IsImpossible p → ⊥
+  pub broken_or_impossible : (p : Source) (v : ProgramValues) → Breaks p v → IsImpossible p → ⊥
 
 -- every program has its list of conditions and its list of goals
 pub record ListsExist : Type 0 where
@@ -172,7 +172,7 @@ pub record MeanTheSame (p q : Source) : Type 0 where
   pub holds : (placed : Placement) → Holds p placed ↔ Holds q placed
   pub is_true : IsTrueProgram p ↔ IsTrueProgram q
   pub impossible : IsImpossible p ↔ IsImpossible q
-  pub broken : (v : Values) → Breaks p v ↔ Breaks q v
+  pub broken : (v : ProgramValues) → Breaks p v ↔ Breaks q v
   pub conditions : (items : List ItemForm) → AreConditionItems p items ↔ AreConditionItems q items
   pub goals : (items : List ItemForm) → AreGoalItems p items ↔ AreGoalItems q items
 

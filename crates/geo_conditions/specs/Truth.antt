@@ -35,7 +35,7 @@ IsImpossible p = (placed : Placement) → Meets p placed → ⊥
 
 -- VALUES
 -- whole numbers for a program: x and y for each `point` command in order, and one number for each command that has a number, in order
-pub record Values : Type 0 where
+pub record ProgramValues : Type 0 where
   pub coordinates : List (ℤ × ℤ)
   pub numbers : List ℤ
 
@@ -58,7 +58,7 @@ abbrev pub whole_point : ℤ × ℤ → Triple
 whole_point xy = record { x = xy.0; y = xy.1; w = 1; positive = lit< tt }
 
 -- the placement of the program has these values
-pub record HasValues (p : Source) (placed : Placement) (v : Values) : Type 0 where
+pub record HasValues (p : Source) (placed : Placement) (v : ProgramValues) : Type 0 where
   pub points : length v.coordinates ≡ length (free_points 0 p.commands)
   pub numbers : length v.numbers ≡ numbers_had p.commands
   pub same_points : (k : ℕ) → k < length v.coordinates
@@ -68,7 +68,7 @@ pub record HasValues (p : Source) (placed : Placement) (v : Values) : Type 0 whe
 
 -- the values break the program: some placement with these values meets it, every two such placements are the same, and the
 -- statement does not hold in them
-pub record Breaks (p : Source) (v : Values) : Type 0 where
+pub record Breaks (p : Source) (v : ProgramValues) : Type 0 where
   pub placed : Placement
   pub has : HasValues p placed v
   pub meets : Meets p placed

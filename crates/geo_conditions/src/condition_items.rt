@@ -4,7 +4,9 @@ ghost use Rattle.std.specs.Prelude.{◌≡◌, IfOk, OnOk, map};
 ghost use Rattle.std.specs.List.{AllByRecursion};
 ghost use Rattle.geo_program.specs.FormTexts.{form_text};
 ghost use Rattle.geo_conditions.specs.Inner.ConditionLists.{condition_of};
-ghost use Rattle.geo_conditions.specs.Inner.ItemForms.{AreItems, ArePlaced, HasItem, IsPrintableCondition, condition_item_form, places_layout};
+ghost use Rattle.geo_conditions.specs.Inner.ItemForms.{AreItems, ArePlaced, HasItem};
+ghost use Rattle.geo_conditions.specs.Inner.ItemForms.{IsPrintableCondition, condition_item_form};
+ghost use Rattle.geo_conditions.specs.Inner.ItemForms.{places_layout};
 ghost use Rattle.geo_conditions.specs.Inner.ItemTerms.{Keeps};
 ghost use Rattle.geo_conditions.specs.Lists.{condition_form};
 

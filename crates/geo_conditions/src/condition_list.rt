@@ -4,7 +4,8 @@ ghost use Rattle.std.specs.Prelude.{◌≡◌, ◌∷◌, ◌++◌, [], List, On
 ghost use Rattle.geo_lowering.specs.Conditions.{divisor_conditions, expression_conditions, nonzero};
 ghost use Rattle.geo_terms.specs.Stores.{IsStore, node_tree, tree_of};
 ghost use Rattle.geo_terms.specs.Trees.{Tree};
-ghost use Rattle.geo_conditions.specs.Inner.ConditionLists.{HasBraces, IsConditionList, IsKept, Lists, condition_of};
+ghost use Rattle.geo_conditions.specs.Inner.ConditionLists.{HasBraces, IsConditionList, IsKept};
+ghost use Rattle.geo_conditions.specs.Inner.ConditionLists.{Lists, condition_of};
 ghost use Rattle.geo_conditions.specs.Lists.{found_at};
 
 use crate::conditions::{Condition, ListedCondition};
@@ -13,7 +14,8 @@ use geo_terms::{Node, Terms};
 use indexmap::IndexSet;
 use std::alloc::Global;
 
-/// The conditions that are listed so far, in order, and the terms whose conditions are all among them.
+/// The conditions that are listed so far, in order, and the terms whose conditions are all among
+/// them.
 #[derive(Drop)]
 pub struct ConditionList {
     /// The conditions, with their lines.
@@ -49,7 +51,8 @@ impl ConditionList {
         }
     }
 
-    /// Lists a condition that this line gives, where it is not listed yet. The store is that of its term.
+    /// Lists a condition that this line gives, where it is not listed yet. The store is that of its
+    /// term.
     pub fn add(&mut self, terms: &Terms, condition: Condition, line: u64) -> Result<(), NoMemory>
         requires list { IsConditionList terms.now self.old }
         requires kept { IsKept terms.now condition }
@@ -76,8 +79,8 @@ impl ConditionList {
         }
     }
 
-    /// Lists the conditions of an expression, from left to right and each after those of its parts. A term that was
-    /// walked before gives no more. The calls stand at most as deep as braces do.
+    /// Lists the conditions of an expression, from left to right and each after those of its parts.
+    /// A term that was walked before gives no more. The calls stand at most as deep as braces do.
     #[cycle(expressions)]
     pub fn list_expression(&mut self, terms: &Terms, e: TermId, line: u64) -> Result<(), NoMemory>
         requires list { IsConditionList terms.now self.old }

@@ -3,7 +3,8 @@
 ghost use Rattle.std.specs.Prelude.{◌≡◌, ◌++◌};
 ghost use Rattle.geo_lowering.specs.Conditions.{early_conditions, late_conditions};
 ghost use Rattle.geo_terms.specs.Stores.{Store};
-ghost use Rattle.geo_conditions.specs.Inner.ConditionLists.{AreSidesBraced, IsNumberBraced, IsSourceKept, conditions_given};
+ghost use Rattle.geo_conditions.specs.Inner.ConditionLists.{AreSidesBraced, IsNumberBraced};
+ghost use Rattle.geo_conditions.specs.Inner.ConditionLists.{IsSourceKept, conditions_given};
 ghost use Rattle.geo_conditions.specs.Statements.{statement_conditions};
 
 use crate::conditions::Condition;

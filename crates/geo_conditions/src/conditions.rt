@@ -3,8 +3,8 @@
 use geo_points::{PointId, TermId};
 use geo_program::LineId;
 
-/// What must hold for a command or for the statement to mean anything. Points, lines and terms are the program's, so two
-/// conditions of a program have one text only where they are equal.
+/// What must hold for a command or for the statement to mean anything. Points, lines and terms are
+/// the program's, so two conditions of a program have one text only where they are equal.
 #[derive(Clone, Copy, Debug, PartialEq, Eq, Hash)]
 pub enum Condition {
     /// A and B differ.

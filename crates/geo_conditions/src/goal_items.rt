@@ -3,7 +3,9 @@
 ghost use Rattle.std.specs.Prelude.{IfOk, OnOk, map};
 ghost use Rattle.std.specs.List.{AllByRecursion};
 ghost use Rattle.geo_terms.specs.Stores.{IsStore};
-ghost use Rattle.geo_conditions.specs.Inner.ItemForms.{AreItems, ArePlaced, HasItem, IsPrintableGoal, goal_item_form, places_layout};
+ghost use Rattle.geo_conditions.specs.Inner.ItemForms.{AreItems, ArePlaced, HasItem};
+ghost use Rattle.geo_conditions.specs.Inner.ItemForms.{IsPrintableGoal, goal_item_form};
+ghost use Rattle.geo_conditions.specs.Inner.ItemForms.{places_layout};
 ghost use Rattle.geo_conditions.specs.Inner.ItemTerms.{Keeps};
 
 use crate::interning::intern_item;
@@ -39,7 +41,8 @@ fn goal_item(
     })
 }
 
-/// The items of the listed goals, in order, their terms in the store of the steps. All have this line.
+/// The items of the listed goals, in order, their terms in the store of the steps. All have this
+/// line.
 pub fn goal_items(
     alloc: Global,
     printer: &Printer,

@@ -5,7 +5,8 @@ ghost use Rattle.geo_program.specs.declared.commands.Command.{Command};
 ghost use Rattle.geo_program.specs.declared.names.Name.{Name};
 ghost use Rattle.geo_terms.specs.Stores.{IsStore, Store, tree_of};
 ghost use Rattle.geo_conditions.specs.Inner.ConditionLists.{AreSidesBraced, HasBraces};
-ghost use Rattle.geo_conditions.specs.Inner.GoalLists.{IsGoalList, IsGoalSourceKept, ListsGoals, goals_given};
+ghost use Rattle.geo_conditions.specs.Inner.GoalLists.{IsGoalList, IsGoalSourceKept, ListsGoals};
+ghost use Rattle.geo_conditions.specs.Inner.GoalLists.{goals_given};
 ghost use Rattle.geo_conditions.specs.Lists.{AreGoals};
 ghost use Rattle.geo_conditions.specs.Statements.{pair_goals, ratio_goals};
 
@@ -79,8 +80,8 @@ impl GoalList {
         Ok(())
     }
 
-    // Lists the goals of the ratios of an expression, from left to right. A term that was walked before gives no more.
-    // The calls stand at most as deep as braces do.
+    // Lists the goals of the ratios of an expression, from left to right. A term that was walked
+    // before gives no more. The calls stand at most as deep as braces do.
     #[cycle(ratios)]
     fn list_ratios(&mut self, terms: &Terms, e: TermId) -> Result<(), NoMemory>
         requires list { IsGoalList terms.now self.old }

@@ -1,10 +1,14 @@
-//! The terms of conditions and goals, put into the store of the steps. A store with no room left is answered by NoMemory.
+//! The terms of conditions and goals, put into the store of the steps. A store with no room left is
+//! answered by NoMemory.
 
 ghost use Rattle.std.specs.Prelude.{◌<◌, pos, IfOk, length};
-ghost use Rattle.geo_terms.specs.Stores.{HasChildrenBelow, HasShortInteger, node_tree, tree_of, trees_of};
-ghost use Rattle.geo_terms.specs.Trees.{addition, area_leaf, integer_leaf, multiplication, pythagoras_leaf, ratio_leaf, subtraction};
+ghost use Rattle.geo_terms.specs.Stores.{HasChildrenBelow, HasShortInteger, node_tree, tree_of};
+ghost use Rattle.geo_terms.specs.Stores.{trees_of};
+ghost use Rattle.geo_terms.specs.Trees.{addition, area_leaf, integer_leaf, multiplication};
+ghost use Rattle.geo_terms.specs.Trees.{pythagoras_leaf, ratio_leaf, subtraction};
 ghost use Rattle.geo_conditions.specs.Inner.ItemTerms.{HasTerm, IsItemStored, item_tree};
-ghost use Rattle.geo_conditions.specs.Terms.{area_of, circle_term, midpoint_term, parallel_term, pythagoras_of, ratio_of};
+ghost use Rattle.geo_conditions.specs.Terms.{area_of, circle_term, midpoint_term, parallel_term};
+ghost use Rattle.geo_conditions.specs.Terms.{pythagoras_of, ratio_of};
 
 use crate::item_terms::ItemTerm;
 use geo_points::{NoMemory, PointId, TermId};

@@ -2,7 +2,9 @@
 
 ghost use Rattle.std.specs.Prelude.{◌≡◌, length};
 ghost use Rattle.geo_lowering.specs.Lowering.{pair_numbers};
-ghost use Rattle.geo_conditions.specs.Inner.ItemTerms.{AreSidesWithin, IsTermWithin, condition_item_term, goal_item_term, placed_pair};
+ghost use Rattle.geo_conditions.specs.Inner.ItemTerms.{AreSidesWithin, IsTermWithin};
+ghost use Rattle.geo_conditions.specs.Inner.ItemTerms.{condition_item_term, goal_item_term};
+ghost use Rattle.geo_conditions.specs.Inner.ItemTerms.{placed_pair};
 
 use crate::conditions::Condition;
 use crate::renaming::point_at;

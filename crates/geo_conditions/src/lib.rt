@@ -1,4 +1,5 @@
-//! The conditions and the goals of a program, made from the program alone, and its truth over placements.
+//! The conditions and the goals of a program, made from the program alone, and its truth over
+//! placements.
 #![tactic(auto)]
 
 mod condition_items;

@@ -15,7 +15,8 @@ use geo_program::Program;
 use geo_terms::Steps;
 use std::alloc::Global;
 
-/// A lowered program with its conditions and its goals, whose terms stand in the store of the steps.
+/// A lowered program with its conditions and its goals, whose terms stand in the store of the
+/// steps.
 #[derive(Drop)]
 pub struct Problem {
     /// The steps, hidden points among them.
@@ -34,8 +35,8 @@ pub struct Problem {
     pub goals: Goals,
 }
 
-/// The conditions and goals of a program beside its lowered form, which is taken over. After want of memory the lowered
-/// form is gone.
+/// The conditions and goals of a program beside its lowered form, which is taken over. After want
+/// of memory the lowered form is gone.
 pub fn list(alloc: Global, program: &Program, lowered: Lowered) -> Result<Problem, NoMemory>
     requires { IsLowered (source_of program.now) (form_of lowered) }
     ensures { IfOk result (λ q.

@@ -1,4 +1,5 @@
-//! The conditions of a program: those of each command, a line each, and then those of the statement.
+//! The conditions of a program: those of each command, a line each, and then those of the
+//! statement.
 
 ghost use Rattle.std.specs.Prelude.{◌≡◌, ◌<◌, ◌≤◌, List, IfOk, OnOk, map};
 ghost use Rattle.std.specs.List.{AllByRecursion};
@@ -7,7 +8,9 @@ ghost use Rattle.geo_program.specs.Names.{is_kind};
 ghost use Rattle.geo_program.specs.declared.names.Name.{Name};
 ghost use Rattle.geo_program.specs.declared.names.NameKind.TheVariants as kind;
 ghost use Rattle.geo_terms.specs.Stores.{IsStore};
-ghost use Rattle.geo_conditions.specs.Inner.ConditionLists.{AreSidesBraced, IsConditionList, IsNumberBraced, IsSourceKept, Lists, conditions_given, found_of};
+ghost use Rattle.geo_conditions.specs.Inner.ConditionLists.{AreSidesBraced, IsConditionList};
+ghost use Rattle.geo_conditions.specs.Inner.ConditionLists.{IsNumberBraced, IsSourceKept, Lists};
+ghost use Rattle.geo_conditions.specs.Inner.ConditionLists.{conditions_given, found_of};
 ghost use Rattle.geo_conditions.specs.Lists.{AreConditions, found_at, found_from};
 ghost use Rattle.geo_conditions.specs.Statements.{statement_conditions};
 

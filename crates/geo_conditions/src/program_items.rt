@@ -4,7 +4,10 @@ ghost use Rattle.std.specs.Prelude.{IfOk, OnOk, map};
 ghost use Rattle.std.specs.List.{AllByRecursion};
 ghost use Rattle.geo_program.specs.Programs.{source_of};
 ghost use Rattle.geo_terms.specs.Stores.{IsStore};
-ghost use Rattle.geo_conditions.specs.Inner.ItemForms.{AreItems, ArePlaced, HasPlaces, IsPrintableCondition, IsPrintableGoal, condition_item_form, goal_item_form, places_layout};
+ghost use Rattle.geo_conditions.specs.Inner.ItemForms.{AreItems, ArePlaced, HasPlaces};
+ghost use Rattle.geo_conditions.specs.Inner.ItemForms.{IsPrintableCondition, IsPrintableGoal};
+ghost use Rattle.geo_conditions.specs.Inner.ItemForms.{condition_item_form, goal_item_form};
+ghost use Rattle.geo_conditions.specs.Inner.ItemForms.{places_layout};
 ghost use Rattle.geo_conditions.specs.Inner.ItemTerms.{Keeps};
 ghost use Rattle.geo_conditions.specs.Lists.{AreStoredConditions, AreStoredGoals};
 
@@ -50,8 +53,8 @@ fn make_items(
     Ok((conditions, goals))
 }
 
-/// The conditions and the goals of a program, their terms in the store of its lowered steps, which get terms and nothing
-/// else. The lists say where what has a name stands among the steps.
+/// The conditions and the goals of a program, their terms in the store of its lowered steps, which
+/// get terms and nothing else. The lists say where what has a name stands among the steps.
 pub fn list_items(
     alloc: Global,
     program: &Program,

@@ -61,8 +61,8 @@ fn node_at(points: &[PointId], params: &[ParamId], items: &[TermId], node: Node)
     }
 }
 
-/// All terms of a store, renamed, in the store of the steps: the item at each place is the term of that index. A store
-/// with no room left is answered by NoMemory.
+/// All terms of a store, renamed, in the store of the steps: the item at each place is the term of
+/// that index. A store with no room left is answered by NoMemory.
 pub fn rename_terms(
     alloc: Global,
     steps: &mut Steps,

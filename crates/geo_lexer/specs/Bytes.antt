@@ -25,7 +25,8 @@ is_blank b = b == 9 || b == 10 || b == 13 || b == 32
 abbrev pub is_comment_start : ℕ → Bool
 is_comment_start b = b == 37
 
--- blanks and whole comments, a comment being `%` and all up to its line feed; `inside` tells whether the text begins inside a comment, `open_end` whether it may end inside one
+-- blanks and whole comments, a comment being `%` and all up to its line feed; `inside` tells whether the text begins inside a comment,
+-- `open_end` whether it may end inside one
 abbrev pub is_gap : Bool → Bool → List ℕ → Bool
 is_gap open_end inside [] = open_end || not inside
 is_gap open_end true (b ∷ bs) = is_gap open_end (not (b == 10)) bs

@@ -20,10 +20,13 @@ LexemesAreUnique =
 abbrev pub LexemesAreSmall : Type 0
 LexemesAreSmall = (bytes : List ℕ) (xs : List Lexeme) → HasLexemes bytes xs → All MayStand xs
 
--- each token of a lexing stands at its place, has one or more bytes, all of the text, and ends before the later ones begin; a fault begins within the text, after every token
+-- each token of a lexing stands at its place, has one or more bytes, all of the text, and ends before the later ones begin; a fault begins
+-- within the text, after every token
 pub record TokensAreWithin : Type 0 where
-  pub at_places : (bytes : List ℕ) (tokens : List Token) (fault : Option Fault) → IsLexed bytes tokens fault → All (λ t. IsTokenAt bytes t.kind t.start t.end) tokens
+  pub at_places : (bytes : List ℕ) (tokens : List Token) (fault : Option Fault) → IsLexed bytes tokens fault
+      → All (λ t. IsTokenAt bytes t.kind t.start t.end) tokens
   pub within : (bytes : List ℕ) (tokens : List Token) (fault : Option Fault) → IsLexed bytes tokens fault → All (IsWithin bytes) tokens
   pub in_order : (bytes : List ℕ) (tokens : List Token) (fault : Option Fault) → IsLexed bytes tokens fault → AllPairs IsBefore tokens
   pub fault_within : (bytes : List ℕ) (tokens : List Token) (fault : Fault) → IsLexed bytes tokens (Some fault) → fault.place < length bytes
-  pub fault_after : (bytes : List ℕ) (tokens : List Token) (fault : Fault) → IsLexed bytes tokens (Some fault) → All (λ t. t.end ≤ fault.place) tokens
+  pub fault_after : (bytes : List ℕ) (tokens : List Token) (fault : Fault) → IsLexed bytes tokens (Some fault)
+      → All (λ t. t.end ≤ fault.place) tokens

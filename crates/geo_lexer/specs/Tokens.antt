@@ -53,7 +53,8 @@ abbrev pub AreTokens : List ℕ → ℕ → List Token → ℕ → Type 0
 AreTokens bytes start [] end = start ≡ end
 AreTokens bytes start (t ∷ ts) end = IsGap bytes start t.start × IsTokenAt bytes t.kind t.start t.end × AreTokens bytes t.end ts end
 
--- the byte at this place begins no token and no gap: it is no letter, no digit, no brace, no blank, no `%`, and no `-` with a digit after it
+-- the byte at this place begins no token and no gap:
+-- it is no letter, no digit, no brace, no blank, no `%`, and no `-` with a digit after it
 pub record BeginsNothing (bytes : List ℕ) (place : ℕ) : Type 0 where
   pub within : place < length bytes
   pub no_word : is_letter (slice_index bytes place) ≡ false

@@ -1,6 +1,7 @@
 //! What is proved of tokens. The functions do nothing: what each says is its contract.
 
-ghost use Rattle.geo_lexer.specs.Laws.{LexemesAreSmall, LexemesAreUnique, LexingIsUnique, TokensAreWithin};
+ghost use Rattle.geo_lexer.specs.Laws.{LexemesAreSmall, LexemesAreUnique, LexingIsUnique};
+ghost use Rattle.geo_lexer.specs.Laws.{TokensAreWithin};
 
 /// A text has one lexing: its tokens and its fault are the same in any two.
 pub fn lexing_is_unique()

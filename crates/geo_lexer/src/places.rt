@@ -1,8 +1,10 @@
 //! The token at a place.
 
-ghost use Rattle.std.specs.Prelude.{◌≡◌, ◌+◌, ◌≤◌, ◌<◌, ◌⊎◌, IsTrue, false, drop, length, IfOk, IfErr, slice_index};
+ghost use Rattle.std.specs.Prelude.{◌≡◌, ◌+◌, ◌≤◌, ◌<◌, ◌⊎◌, IsTrue, false, drop, length, IfOk};
+ghost use Rattle.std.specs.Prelude.{IfErr, slice_index};
 ghost use Rattle.std.specs.List.{prefix_len};
-ghost use Rattle.geo_lexer.specs.Bytes.{is_blank, is_comment_start, is_digit, is_letter, is_word_byte};
+ghost use Rattle.geo_lexer.specs.Bytes.{is_blank, is_comment_start, is_digit, is_letter};
+ghost use Rattle.geo_lexer.specs.Bytes.{is_word_byte};
 ghost use Rattle.geo_lexer.specs.Tokens.{IsTokenAt, IsFaultAt};
 
 use crate::token_types::{Fault, Kind, Token};
@@ -23,7 +25,8 @@ pub(crate) fn token_at(bytes: &[u8], start: usize) -> Result<Token, Fault>
     requires within { start < length bytes.now }
     requires no_blank { is_blank (slice_index bytes.now start) ≡ false }
     requires no_comment { is_comment_start (slice_index bytes.now start) ≡ false }
-    ensures token { IfOk result (λ t. (t.start ≡ start) × IsTokenAt bytes.now t.kind t.start t.end) }
+    ensures token { IfOk result (λ t. (t.start ≡ start)
+        × IsTokenAt bytes.now t.kind t.start t.end) }
     ensures fault { IfErr result (λ f. (f.place ≡ start) × IsFaultAt bytes.now f.refusal f.place) }
 {
     match bytes[start] {
@@ -39,7 +42,8 @@ pub(crate) fn token_at(bytes: &[u8], start: usize) -> Result<Token, Fault>
 fn word_at(bytes: &[u8], start: usize) -> Result<Token, Fault>
     requires within { start < length bytes.now }
     requires letter { IsTrue (is_letter (slice_index bytes.now start)) }
-    ensures token { IfOk result (λ t. (t.start ≡ start) × IsTokenAt bytes.now t.kind t.start t.end) }
+    ensures token { IfOk result (λ t. (t.start ≡ start)
+        × IsTokenAt bytes.now t.kind t.start t.end) }
     ensures fault { IfErr result (λ f. (f.place ≡ start) × IsFaultAt bytes.now f.refusal f.place) }
 {
     let end = word_end(bytes, start);
@@ -52,8 +56,10 @@ fn word_at(bytes: &[u8], start: usize) -> Result<Token, Fault>
 // The number that begins at a place, by a digit or a `-`.
 fn number_at(bytes: &[u8], start: usize) -> Result<Token, Fault>
     requires within { start < length bytes.now }
-    requires digit_or_minus { IsTrue (is_digit (slice_index bytes.now start)) ⊎ (slice_index bytes.now start ≡ 45) }
-    ensures token { IfOk result (λ t. (t.start ≡ start) × IsTokenAt bytes.now t.kind t.start t.end) }
+    requires digit_or_minus { IsTrue (is_digit (slice_index bytes.now start))
+        ⊎ (slice_index bytes.now start ≡ 45) }
+    ensures token { IfOk result (λ t. (t.start ≡ start)
+        × IsTokenAt bytes.now t.kind t.start t.end) }
     ensures fault { IfErr result (λ f. (f.place ≡ start) × IsFaultAt bytes.now f.refusal f.place) }
 {
     let end = digits_end(bytes, start + 1);

@@ -29,8 +29,8 @@ pub struct Token {
 /// A refusal, with the place of the first byte of the token that is refused.
 #[derive(Clone, Copy, Debug, PartialEq, Eq)]
 pub struct Fault {
-    /// The number of the refusal. Of the three that the lexer gives, 1 is a byte that begins no token, 2 a number past
-    /// `2^127 - 1` in absolute value, 3 a word longer than 64 bytes.
+    /// The number of the refusal. Of the three that the lexer gives, 1 is a byte that begins no
+    /// token, 2 a number past `2^127 - 1` in absolute value, 3 a word longer than 64 bytes.
     pub refusal: u32,
     /// The byte where the refused token begins, counted from 0.
     pub place: u64,

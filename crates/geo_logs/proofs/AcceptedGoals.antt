@@ -4,7 +4,7 @@ use Rattle.std.specs.Prelude.{slice_get}
 use Rattle.ring_laws.specs.Fraction.{Same, whole}
 use Rattle.geo_points.specs.Placements.{Placement}
 use Rattle.geo_poly.specs.declared.variables.Var.{Var}
-use Rattle.geo_poly.specs.Polynomials.{Terms}
+use Rattle.geo_poly.specs.Polynomials.{Summands}
 use Rattle.geo_terms.specs.Constructions.{MeetsSteps}
 use Rattle.geo_terms.specs.Trees.{Tree}
 use Rattle.geo_terms.specs.Values.{HasTreeValue, tree_value}
@@ -52,7 +52,7 @@ module _ (Works : Chains) (IsChosen : Samples) where
     pub works : Works known left e chain after
     pub zero : chain.end ≡ []
 
-  goals_zero : (known : List Var) (listed : List Terms) (k left : ℕ) (items : List Item) (lines : List Line) (verdict : Verdict) (left' : ℕ)
+  goals_zero : (known : List Var) (listed : List Summands) (k left : ℕ) (items : List Item) (lines : List Line) (verdict : Verdict) (left' : ℕ)
       → AreGoalsWorked Works IsChosen known listed k left items lines verdict left'
       → (i : ℕ) (goal : Item) → slice_get items i ≡ Some goal → SaysZeroFrom k verdict i → EndsInZero goal.term
   goals_zero known listed k left [] lines verdict left' h i goal at says = none_at i goal at
@@ -64,13 +64,13 @@ module _ (Works : Chains) (IsChosen : Samples) where
   goals_zero known listed k left (item ∷ items) lines verdict left' (first, inr failed) i goal at says =
       let late : k + i < k = subst (λ (v : Verdict). SaysZeroFrom k v i) failed.1 says in absurd (omega arith)
 
-  goals_possible : (known : List Var) (listed : List Terms) (k left : ℕ) (items : List Item) (lines : List Line) (j : ℕ) (left' : ℕ)
+  goals_possible : (known : List Var) (listed : List Summands) (k left : ℕ) (items : List Item) (lines : List Line) (j : ℕ) (left' : ℕ)
       → AreGoalsWorked Works IsChosen known listed k left items lines (Impossible j) left' → ⊥
   goals_possible known listed k left [] lines j left' h = let e : Impossible j ≡ Proved = h.0 in cc
   goals_possible known listed k left (item ∷ items) lines j left' (first, inl ended) = goals_possible known listed (suc k) first.after items first.rest j left' ended.1
   goals_possible known listed k left (item ∷ items) lines j left' (first, inr failed) = let e : Impossible j ≡ False k = failed.1 in cc
 
-  conditions_zero : (goals : List Item) (known : List Var) (listed : List Terms) (k left : ℕ) (items : List Item) (lines : List Line) (verdict : Verdict) (left' : ℕ)
+  conditions_zero : (goals : List Item) (known : List Var) (listed : List Summands) (k left : ℕ) (items : List Item) (lines : List Line) (verdict : Verdict) (left' : ℕ)
       → AreConditionsWorked Works IsChosen goals known listed k left items lines verdict left'
       → (i : ℕ) (goal : Item) → slice_get goals i ≡ Some goal → SaysZero verdict i → EndsInZero goal.term
   conditions_zero goals known listed k left [] lines verdict left' h i goal at says =
@@ -91,7 +91,7 @@ module _ (Works : Chains) (IsChosen : Samples) where
   same_number : (j k : ℕ) → Impossible j ≡ Impossible k → j ≡ k
   same_number j k e = cc
 
-  conditions_impossible : (goals : List Item) (known : List Var) (listed : List Terms) (k left : ℕ) (items : List Item) (lines : List Line) (j : ℕ) (left' : ℕ)
+  conditions_impossible : (goals : List Item) (known : List Var) (listed : List Summands) (k left : ℕ) (items : List Item) (lines : List Line) (j : ℕ) (left' : ℕ)
       → AreConditionsWorked Works IsChosen goals known listed k left items lines (Impossible j) left' → IsImpossibleAt k j items
   conditions_impossible goals known listed k left [] lines j left' h = absurd (goals_possible known listed 1 left goals lines j left' h)
   conditions_impossible goals known listed k left (item ∷ items) lines j left' (first, inl ended) =

@@ -2,7 +2,7 @@
 use Rattle.std.proofs.Common.{◌≡◌, ℕ, suc, ◌-◌, ◌^◌, ◌<◌, ◌≤◌, inl, inr, All, Contains, length, ℤ, List, [], ◌∷◌, ◌++◌, refl, arith}
 use Rattle.std.proofs.lemmas.List.Elements.{All-cons, All-head, All-nil, All-tail}
 use Rattle.geo_poly.specs.declared.variables.Var.{Var}
-use Rattle.geo_poly.specs.Polynomials.{IsPolynomial, Terms}
+use Rattle.geo_poly.specs.Polynomials.{IsPolynomial, Summands}
 use Rattle.geo_terms.specs.Constructions.{Construction}
 use Rattle.geo_terms.specs.Trees.{Tree}
 use Rattle.proof_log.specs.declared.log.Line.{Line}
@@ -33,7 +33,7 @@ All-push Holds [] x h g = All-cons Holds x [] g (All-nil Holds)
 All-push Holds (y ∷ xs) x h g = All-cons Holds y (xs ++ x ∷ []) (All-head Holds y xs h) (All-push Holds xs x (All-tail Holds y xs h) g)
 
 module _ (table : Table) (c : Construction) where
-  pub leads : (known : List Var) (left : ℕ) (q : Terms) (steps : List ChainStep) (left' : ℕ) (e : Terms)
+  pub leads : (known : List Var) (left : ℕ) (q : Summands) (steps : List ChainStep) (left' : ℕ) (e : Summands)
       → LeadsBySteps table c known left q steps left' e → LeadsTo table c known left q steps left' e
   leads known left q [] left' e h = h
   leads known left q (moves move r ∷ steps) left' e h = (h.2, leads known (left - move_charge (replacement table c move q) q) r steps left' e h.3)
@@ -47,7 +47,7 @@ module _ (table : Table) (c : Construction) where
   }
 
   module _ (sound : IsSoundTable table c) where
-    abbrev HasSampleVariables : Terms → Type 0
+    abbrev HasSampleVariables : Summands → Type 0
     HasSampleVariables q = AllVariables (λ v. Contains (sample_variables c) v) q
 
     end_contained : (known : List Var) (left : ℕ) (e : Tree) (chain : Chain) (left' : ℕ) → IsDefinedChain table c known left e chain left'
@@ -64,22 +64,22 @@ module _ (table : Table) (c : Construction) where
         (leads known (left - start_charge e) (start_of e) chain.steps left' chain.end h.leads)
 
     -- what is listed: polynomials, none of them 0, with the variables of a sample
-    record AreFit (listed : List Terms) : Type 0 where
+    record AreFit (listed : List Summands) : Type 0 where
       polynomials : All IsPolynomial listed
       some : All (λ q. (q ≡ []) → ⊥) listed
       contained : All HasSampleVariables listed
 
     fit_nothing : AreFit []
-    fit_nothing = record { polynomials = All-nil IsPolynomial; some = All-nil (λ (q : Terms). (q ≡ []) → ⊥); contained = All-nil HasSampleVariables }
+    fit_nothing = record { polynomials = All-nil IsPolynomial; some = All-nil (λ (q : Summands). (q ≡ []) → ⊥); contained = All-nil HasSampleVariables }
 
-    fit_push : (listed : List Terms) (q : Terms) → AreFit listed → IsPolynomial q → ((q ≡ []) → ⊥) → HasSampleVariables q → AreFit (listed ++ q ∷ [])
+    fit_push : (listed : List Summands) (q : Summands) → AreFit listed → IsPolynomial q → ((q ≡ []) → ⊥) → HasSampleVariables q → AreFit (listed ++ q ∷ [])
     fit_push listed q fit polynomial nonzero contained = record {
       polynomials = All-push IsPolynomial listed q fit.polynomials polynomial;
       some = All-push (λ q. (q ≡ []) → ⊥) listed q fit.some nonzero;
       contained = All-push HasSampleVariables listed q fit.contained contained;
     }
 
-    sample_accepted : (listed : List Terms) (left : ℕ) (values : List (Var × ℤ)) (left' : ℕ) → AreFit listed → left < 2 ^ 127
+    sample_accepted : (listed : List Summands) (left : ℕ) (values : List (Var × ℤ)) (left' : ℕ) → AreFit listed → left < 2 ^ 127
         → IsLeastSample c listed left values left' → (more : ℕ) × (left' ≤ more) × IsAcceptedSample c listed left values more
     sample_accepted listed left values left' fit small h =
         let collected = collected_polynomials listed fit.polynomials in
@@ -111,14 +111,14 @@ module _ (table : Table) (c : Construction) where
         let spent : after ≤ left = chain_spent table c known left item.term chain after (chain_accepted known left item.term chain after works) in
         omega (arith, spent, small)
 
-    concluded : (listed : List Terms) (left : ℕ) (lines : List Line) (verdict : Verdict) (left' : ℕ) → AreFit listed → left < 2 ^ 127
+    concluded : (listed : List Summands) (left : ℕ) (lines : List Line) (verdict : Verdict) (left' : ℕ) → AreFit listed → left < 2 ^ 127
         → IsConcluded (IsDefinedChain table c) (IsLeastSample c) listed left lines verdict left'
         → (more : ℕ) × (left' ≤ more) × IsConcluded (IsAcceptedChain table c) (IsAcceptedSample c) listed left lines verdict more
     concluded listed left lines verdict left' fit small h =
         let sample = sample_accepted listed left h.values left' fit small h.chosen in
         (sample.0, sample.1, record { values = h.values; chosen = sample.2; split = h.split })
 
-    goals_accepted : (known : List Var) (listed : List Terms) (k left : ℕ) (items : List Item) (lines : List Line) (verdict : Verdict) (left' : ℕ)
+    goals_accepted : (known : List Var) (listed : List Summands) (k left : ℕ) (items : List Item) (lines : List Line) (verdict : Verdict) (left' : ℕ)
         → AreNamed c items → AreFit listed → left < 2 ^ 127
         → AreGoalsWorked (IsDefinedChain table c) (IsLeastSample c) known listed k left items lines verdict left'
         → (more : ℕ) × (left' ≤ more) × AreGoalsWorked (IsAcceptedChain table c) (IsAcceptedSample c) known listed k left items lines verdict more
@@ -134,7 +134,7 @@ module _ (table : Table) (c : Construction) where
         (end_contained known left item.term first.chain first.after first.works own.0 own.1)) (spent_by known left item first.chain first.after first.works small) failed.2 in
         (end.0, end.1, (begins (Goal k item.text) known left item lines first, inr (failed.0, failed.1, end.2)))
 
-    conditions_accepted : (goals : List Item) (known : List Var) (listed : List Terms) (k left : ℕ) (items : List Item) (lines : List Line) (verdict : Verdict) (left' : ℕ)
+    conditions_accepted : (goals : List Item) (known : List Var) (listed : List Summands) (k left : ℕ) (items : List Item) (lines : List Line) (verdict : Verdict) (left' : ℕ)
         → AreNamed c goals → AreNamed c items → AreFit listed → left < 2 ^ 127
         → AreConditionsWorked (IsDefinedChain table c) (IsLeastSample c) goals known listed k left items lines verdict left'
         → (more : ℕ) × (left' ≤ more) × AreConditionsWorked (IsAcceptedChain table c) (IsAcceptedSample c) goals known listed k left items lines verdict more

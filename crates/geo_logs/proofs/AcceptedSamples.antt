@@ -5,7 +5,7 @@ use Rattle.std.proofs.Math.Nat.{eq-or-lt_of_le}
 use Rattle.ring_laws.specs.Fraction.{IsNonzero}
 use Rattle.geo_points.specs.Placements.{Placement}
 use Rattle.geo_poly.specs.declared.variables.Var.{Var}
-use Rattle.geo_poly.specs.Polynomials.{Terms}
+use Rattle.geo_poly.specs.Polynomials.{Summands}
 use Rattle.geo_poly.proofs.Cuts.{All-front, All-last}
 use Rattle.geo_terms.specs.Trees.{Tree}
 use Rattle.geo_terms.specs.Values.{HasTreeValue, tree_value}
@@ -87,19 +87,19 @@ module _ (Works : Chains) (IsChosen : Samples) where
       record { place = h.place; goal = h.goal; number = h.number; at = h.at; worked = later known item conditions (length conditions) values h.goal.term h.worked }
   failing_later known item conditions k items values (Impossible j) h = tt
 
-  module _ (suits : (listed : List Terms) (left : ℕ) (values : List (Var × ℤ)) (left' : ℕ) → IsChosen listed left values left' → All (IsNonzeroAt values) listed) where
+  module _ (suits : (listed : List Summands) (left : ℕ) (values : List (Var × ℤ)) (left' : ℕ) → IsChosen listed left values left' → All (IsNonzeroAt values) listed) where
     -- the lines end with a sample at which the listed polynomials are not 0
-    pub record EndsWithSample (known : List Var) (listed : List Terms) (k : ℕ) (goals : List Item) (lines : List Line) (verdict : Verdict) (left' : ℕ) : Type 0 where
+    pub record EndsWithSample (known : List Var) (listed : List Summands) (k : ℕ) (goals : List Item) (lines : List Line) (verdict : Verdict) (left' : ℕ) : Type 0 where
       pub before : List Line
       pub values : List (Var × ℤ)
-      pub all : List Terms
+      pub all : List Summands
       pub left : ℕ
       pub split : lines ≡ before ++ Sample values ∷ VerdictLine verdict ∷ []
       pub chosen : IsChosen all left values left'
       pub nonzero : All (IsNonzeroAt values) listed
       pub failure : Failure known [] k goals values verdict
 
-    goals_sampled : (known : List Var) (listed : List Terms) (k left : ℕ) (items : List Item) (lines : List Line) (verdict : Verdict) (left' : ℕ)
+    goals_sampled : (known : List Var) (listed : List Summands) (k left : ℕ) (items : List Item) (lines : List Line) (verdict : Verdict) (left' : ℕ)
         → AreGoalsWorked Works IsChosen known listed k left items lines verdict left' → EndsWithSample known listed k items lines verdict left'
     goals_sampled known listed k left [] lines verdict left' h =
         let end = h.1 in
@@ -158,10 +158,10 @@ module _ (Works : Chains) (IsChosen : Samples) where
         })
 
     -- and so does each chain of a condition
-    pub record IsSampled (known : List Var) (listed : List Terms) (goals items : List Item) (lines : List Line) (verdict : Verdict) (left' : ℕ) : Type 0 where
+    pub record IsSampled (known : List Var) (listed : List Summands) (goals items : List Item) (lines : List Line) (verdict : Verdict) (left' : ℕ) : Type 0 where
       pub before : List Line
       pub values : List (Var × ℤ)
-      pub all : List Terms
+      pub all : List Summands
       pub left : ℕ
       pub split : lines ≡ before ++ Sample values ∷ VerdictLine verdict ∷ []
       pub chosen : IsChosen all left values left'
@@ -169,7 +169,7 @@ module _ (Works : Chains) (IsChosen : Samples) where
       pub conditions : (i : ℕ) (condition : Item) → slice_get items i ≡ Some condition → IsWorkedAt known items i values condition.term
       pub failure : Failure known items 1 goals values verdict
 
-    pub conditions_sampled : (goals : List Item) (known : List Var) (listed : List Terms) (k left : ℕ) (items : List Item) (lines : List Line) (verdict : Verdict) (left' : ℕ)
+    pub conditions_sampled : (goals : List Item) (known : List Var) (listed : List Summands) (k left : ℕ) (items : List Item) (lines : List Line) (verdict : Verdict) (left' : ℕ)
         → AreConditionsWorked Works IsChosen goals known listed k left items lines verdict left' → HasSample verdict → IsSampled known listed goals items lines verdict left'
     conditions_sampled goals known listed k left [] lines verdict left' h some =
         let end = goals_sampled known listed 1 left goals lines verdict left' h in

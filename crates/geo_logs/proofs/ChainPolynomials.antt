@@ -10,7 +10,7 @@ use Rattle.geo_poly.specs.declared.variables.Var.{Var}
 use Rattle.geo_poly.specs.declared.variables.Var.TheVariants.{R, T}
 use Rattle.geo_poly.specs.Canonical.{canonical_difference, canonical_ratio, higher, is_point, is_same_pair, lower, pair_sign, permutation_sign, signed_variable, sorted_area, sorted_difference}
 use Rattle.geo_poly.specs.Monomials.{IsMonomial}
-use Rattle.geo_poly.specs.Polynomials.{IsPolynomial, Terms, coefficients, constant_of, negated, norm_of, product_of, products, sum_of, term_cmp, total_degree}
+use Rattle.geo_poly.specs.Polynomials.{IsPolynomial, Summands, coefficients, constant_of, negated, norm_of, product_of, products, sum_of, term_cmp, total_degree}
 use Rattle.geo_poly.specs.Replace.{AllBounded, most_denominators}
 use Rattle.geo_poly.proofs.Negated.{IsCanonical-negated}
 use Rattle.geo_poly.proofs.ProductLaws.{monomials_of_products}
@@ -30,24 +30,24 @@ use Rattle.geo_poly.proofs.EachVariable.{EachIn, some_row}
 
 -- ORDER AND MONOMIALS
 -- a polynomial but for its norm
-record IsOrdered (p : Terms) : Type 0 where
+record IsOrdered (p : Summands) : Type 0 where
   in_order : IsCanonical term_cmp coefficients p
   monomials : AllKeys IsMonomial p
 
-with_norm : (p : Terms) → IsOrdered p → norm_of p < 2 ^ 127 → IsPolynomial p
+with_norm : (p : Summands) → IsOrdered p → norm_of p < 2 ^ 127 → IsPolynomial p
 with_norm p h fits = record { in_order = h.in_order; monomials = h.monomials; norm_fits = fits }
 
-ordered_product : (p q : Terms) → total_degree p + total_degree q ≤ 65535 → IsOrdered (product_of p q)
+ordered_product : (p q : Summands) → total_degree p + total_degree q ≤ 65535 → IsOrdered (product_of p q)
 ordered_product p q fits = record {
   in_order = IsCanonical-polynomial_of (products p q);
   monomials = AllKeys-canonical term_cmp coefficients IsMonomial (products p q) (monomials_of_products p q fits);
 }
 
-monomials_of_negated : (p : Terms) → AllKeys IsMonomial p → AllKeys IsMonomial (negated p)
+monomials_of_negated : (p : Summands) → AllKeys IsMonomial p → AllKeys IsMonomial (negated p)
 monomials_of_negated [] h = tt
 monomials_of_negated (t ∷ ts) h = (h.0, monomials_of_negated ts h.1)
 
-ordered_sum : (p q : Terms) → AllKeys IsMonomial p → AllKeys IsMonomial q → IsOrdered (sum_of p q)
+ordered_sum : (p q : Summands) → AllKeys IsMonomial p → AllKeys IsMonomial q → IsOrdered (sum_of p q)
 ordered_sum p q h g = record {
   in_order = IsCanonical-polynomial_of (p ++ q);
   monomials = AllKeys-canonical term_cmp coefficients IsMonomial (p ++ q) (AllKeys-append IsMonomial p q h g);
@@ -139,7 +139,7 @@ module _ (table : Table) (c : Construction) (sound : IsSoundTable table c) where
   any_variables [] = tt
   any_variables (v ∷ vs) = (tt, any_variables vs)
 
-  move_polynomial : (move : Move) (left : ℕ) (q r : Terms) → IsPolynomial q → IsMoved (replacement table c move q) left q r → IsPolynomial r
+  move_polynomial : (move : Move) (left : ℕ) (q r : Summands) → IsPolynomial q → IsMoved (replacement table c move q) left q r → IsPolynomial r
   move_polynomial move left q r valid moved =
       let rows : List Row = filter_map (table.row c move) (variables_of q) in
       let one = some_row (λ v. Unit {0}) (table.row c move) (variables_of q) (any_variables (variables_of q)) moved.replaces in
@@ -156,7 +156,7 @@ module _ (table : Table) (c : Construction) (sound : IsSoundTable table c) where
         degree_fits = moved.degree_fits;
       }))
 
-  pub chain_polynomial : (known : List Var) (left : ℕ) (q : Terms) (steps : List ChainStep) (left' : ℕ) (e : Terms) → IsPolynomial q → LeadsTo table c known left q steps left' e
+  pub chain_polynomial : (known : List Var) (left : ℕ) (q : Summands) (steps : List ChainStep) (left' : ℕ) (e : Summands) → IsPolynomial q → LeadsTo table c known left q steps left' e
       → IsPolynomial e
   chain_polynomial known left q [] left' e valid h = subst IsPolynomial h.1 valid
   chain_polynomial known left q (moves move r ∷ steps) left' e valid h =

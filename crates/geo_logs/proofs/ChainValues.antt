@@ -4,7 +4,7 @@ use Rattle.geo_points.specs.declared.ids.PointId.{PointId}
 use Rattle.ring_laws.specs.Fraction.{Same}
 use Rattle.geo_points.specs.Placements.{Placement}
 use Rattle.geo_poly.specs.declared.variables.Var.{Var}
-use Rattle.geo_poly.specs.Polynomials.{Terms}
+use Rattle.geo_poly.specs.Polynomials.{Summands}
 use Rattle.geo_terms.specs.Constructions.{Construction, MeetsSteps}
 use Rattle.geo_logs.specs.Chains.{ChainStep, moves, cuts, LeadsTo}
 use Rattle.geo_logs.specs.Moves.{Table, move_charge, place_of, replacement}
@@ -28,7 +28,7 @@ below_met placed c n met (Some y) below = λ step at. met y.0 step below at
 
 module _ (table : Table) (c : Construction) (sound : IsSoundTable table c) (known : List Var) where
   -- THE UNIVERSAL HALF
-  pub chain_null : (placed : Placement) → MeetsSteps placed c → (left : ℕ) (q : Terms) (steps : List ChainStep) (left' : ℕ) (e : Terms)
+  pub chain_null : (placed : Placement) → MeetsSteps placed c → (left : ℕ) (q : Summands) (steps : List ChainStep) (left' : ℕ) (e : Summands)
       → AllVariables (HasVariable placed) q → LeadsTo table c known left q steps left' e
       → Same (at_placement placed e) zero_fraction → Same (at_placement placed q) zero_fraction
   chain_null placed met left q [] left' e defined h z = value_as placed q e (sym h.1) z
@@ -42,7 +42,7 @@ module _ (table : Table) (c : Construction) (sound : IsSoundTable table c) (know
 
   -- THE EXISTENCE HALF
   -- all that a chain names, its beginning names
-  pub chain_named : (n left : ℕ) (q : Terms) (steps : List ChainStep) (left' : ℕ) (e : Terms) → AllVariables (IsNamed c n) q → LeadsTo table c known left q steps left' e
+  pub chain_named : (n left : ℕ) (q : Summands) (steps : List ChainStep) (left' : ℕ) (e : Summands) → AllVariables (IsNamed c n) q → LeadsTo table c known left q steps left' e
       → AllVariables (IsNamed c n) e
   chain_named n left q [] left' e named h = subst (AllVariables (IsNamed c n)) h.1 named
   chain_named n left q (moves move r ∷ steps) left' e named h =
@@ -50,7 +50,7 @@ module _ (table : Table) (c : Construction) (sound : IsSoundTable table c) (know
   chain_named n left q (cuts f r ∷ steps) left' e named h = chain_named n left r steps left' e (of-cut (IsNamed c n) known f q r h.0 named) h.1
 
   pub chain_null_on : (placed : Placement) (n : ℕ) → MeetsStepsBelow placed c n → ((v : Var) → Contains known v → IsApart (at_variable placed v))
-      → (left : ℕ) (q : Terms) (steps : List ChainStep) (left' : ℕ) (e : Terms)
+      → (left : ℕ) (q : Summands) (steps : List ChainStep) (left' : ℕ) (e : Summands)
       → AllVariables (IsNamed c n) q → AllVariables (HasVariable placed) q → LeadsTo table c known left q steps left' e
       → Same (at_placement placed q) zero_fraction → Same (at_placement placed e) zero_fraction
   chain_null_on placed n met far left q [] left' e named defined h z = value_as placed e q h.1 z

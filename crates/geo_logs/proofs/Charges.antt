@@ -1,7 +1,7 @@
 -- Charges are spent, and chains name no later points.
 use Rattle.std.proofs.Common.{ℕ, suc, ◌-◌, ◌≤◌, inl, inr, ℤ, List, [], ◌∷◌, ◌++◌, subst, arith}
 use Rattle.geo_poly.specs.declared.variables.Var.{Var}
-use Rattle.geo_poly.specs.Polynomials.{Terms}
+use Rattle.geo_poly.specs.Polynomials.{Summands}
 use Rattle.geo_terms.specs.Constructions.{Construction}
 use Rattle.geo_terms.specs.Trees.{Tree}
 use Rattle.proof_log.specs.declared.log.Line.{Line}
@@ -29,7 +29,7 @@ name_no_later table c known n left q (cuts f r ∷ steps) left' e sound named h 
 
 -- CHARGES
 module _ (table : Table) (c : Construction) where
-  path_spent : (known : List Var) (left : ℕ) (q : Terms) (steps : List ChainStep) (left' : ℕ) (e : Terms) → LeadsTo table c known left q steps left' e → left' ≤ left
+  path_spent : (known : List Var) (left : ℕ) (q : Summands) (steps : List ChainStep) (left' : ℕ) (e : Summands) → LeadsTo table c known left q steps left' e → left' ≤ left
   path_spent known left q [] left' e h = omega (arith, h.0)
   path_spent known left q (moves move r ∷ steps) left' e h =
       let rest = path_spent known (left - move_charge (replacement table c move q) q) r steps left' e h.1 in omega (arith, rest)
@@ -39,10 +39,10 @@ module _ (table : Table) (c : Construction) where
   chain_spent known left e chain left' h =
       let rest = path_spent known (left - start_charge e) (start_of e) chain.steps left' chain.end h.leads in omega (arith, rest)
 
-  sample_spent : (listed : List Terms) (left : ℕ) (values : List (Var × ℤ)) (left' : ℕ) → IsAcceptedSample c listed left values left' → left' ≤ left
+  sample_spent : (listed : List Summands) (left : ℕ) (values : List (Var × ℤ)) (left' : ℕ) → IsAcceptedSample c listed left values left' → left' ≤ left
   sample_spent listed left values left' h = let charged = h.made.charged in omega (arith, charged)
 
-  goals_spent : (known : List Var) (listed : List Terms) (k left : ℕ) (items : List Item) (lines : List Line) (verdict : Verdict) (left' : ℕ)
+  goals_spent : (known : List Var) (listed : List Summands) (k left : ℕ) (items : List Item) (lines : List Line) (verdict : Verdict) (left' : ℕ)
       → AreGoalsWorked (IsAcceptedChain table c) (IsAcceptedSample c) known listed k left items lines verdict left' → left' ≤ left
   goals_spent known listed k left [] lines verdict left' h = sample_spent listed left h.1.values left' h.1.chosen
   goals_spent known listed k left (item ∷ items) lines verdict left' (first, inl ended) =
@@ -52,7 +52,7 @@ module _ (table : Table) (c : Construction) where
       let rest = sample_spent (listed ++ first.chain.end ∷ []) first.after failed.2.values left' failed.2.chosen in
       omega (arith, rest, chain_spent known left item.term first.chain first.after first.works)
 
-  conditions_spent : (goals : List Item) (known : List Var) (listed : List Terms) (k left : ℕ) (items : List Item) (lines : List Line) (verdict : Verdict) (left' : ℕ)
+  conditions_spent : (goals : List Item) (known : List Var) (listed : List Summands) (k left : ℕ) (items : List Item) (lines : List Line) (verdict : Verdict) (left' : ℕ)
       → AreConditionsWorked (IsAcceptedChain table c) (IsAcceptedSample c) goals known listed k left items lines verdict left' → left' ≤ left
   conditions_spent goals known listed k left [] lines verdict left' h = goals_spent known listed 1 left goals lines verdict left' h
   conditions_spent goals known listed k left (item ∷ items) lines verdict left' (first, inl ended) =

@@ -5,7 +5,7 @@ use Rattle.std.proofs.lemmas.List.Elements.{All-cons, All-nil}
 use Rattle.geo_points.specs.declared.ids.PointId.{PointId}
 use Rattle.geo_poly.specs.declared.variables.Var.{Var}
 use Rattle.geo_poly.specs.declared.variables.Var.TheVariants.{T}
-use Rattle.geo_poly.specs.Polynomials.{Terms}
+use Rattle.geo_poly.specs.Polynomials.{Summands}
 use Rattle.geo_poly.specs.Specialise.{specialised_weight}
 use Rattle.geo_sample.proofs.TryEnds.{one_made}
 use Rattle.geo_terms.specs.declared.steps.Step.TheVariants.{Point, Inter}
@@ -73,7 +73,7 @@ quotients = record {
   goals = record { text = codes "equal { div { 1 } { r } } { div { 1 } { sub { r } { 1 } } }"; term = subtraction (division one r) (division one (subtraction r one)) } ∷ [];
 }
 
-abbrev pub whole_number : ℤ → Terms
+abbrev pub whole_number : ℤ → Summands
 whole_number z = ([], z) ∷ []
 
 abbrev pub quotients_rest : List Line
@@ -90,25 +90,25 @@ quotients_lines =
 abbrev IsSmall : Var × ℤ → Type 0
 IsSmall v = unsigned_abs v.1 < 2 ^ 127
 
-abbrev IsSome : Terms → Type 0
+abbrev IsSome : Summands → Type 0
 IsSome p = (p ≡ []) → ⊥
 
 one_some : (z : ℤ) → IsSome (whole_number z)
 one_some z e = let n : ◌≡◌ {A = ℕ} 1 0 = ap length e in omega (arith, n)
 
 -- the weights of the one try
-abbrev IsHeavy : Terms → Type 0
+abbrev IsHeavy : Summands → Type 0
 IsHeavy q = 2 ^ 127 ≤ specialised_weight t (pos 2) q
 
-abbrev quotients_listed : List Terms
+abbrev quotients_listed : List Summands
 quotients_listed = (((t, 1) ∷ [], pos 1) ∷ []) ∷ (((t, 1) ∷ [], pos 1) ∷ ([], negsuc 0) ∷ []) ∷ whole_number (pos 1) ∷ []
 
-light : (q : Terms) → specialised_weight t (pos 2) q < 2 ^ 127 → IsHeavy q → ⊥
+light : (q : Summands) → specialised_weight t (pos 2) q < 2 ^ 127 → IsHeavy q → ⊥
 light q fits heavy = omega (arith, fits, heavy)
 
 not_heavy : Any IsHeavy quotients_listed → ⊥
 not_heavy (i, q, lt, e, heavy) =
-    subst (λ (p : Terms). IsHeavy p → ⊥) e
+    subst (λ (p : Summands). IsHeavy p → ⊥) e
     (All-cons (λ q. IsHeavy q → ⊥) (((t, 1) ∷ [], pos 1) ∷ []) ((((t, 1) ∷ [], pos 1) ∷ ([], negsuc 0) ∷ []) ∷ whole_number (pos 1) ∷ []) (light (((t, 1) ∷ [], pos 1) ∷ []) (lit< tt))
     (All-cons (λ q. IsHeavy q → ⊥) (((t, 1) ∷ [], pos 1) ∷ ([], negsuc 0) ∷ []) (whole_number (pos 1) ∷ []) (light (((t, 1) ∷ [], pos 1) ∷ ([], negsuc 0) ∷ []) (lit< tt))
     (All-cons (λ q. IsHeavy q → ⊥) (whole_number (pos 1)) [] (light (whole_number (pos 1)) (lit< tt)) (All-nil (λ q. IsHeavy q → ⊥)))) i q lt) heavy

@@ -9,7 +9,7 @@ use Rattle.geo_points.specs.Placements.{Placement}
 use Rattle.ring_laws.proofs.Fractions.{fractions}
 use Rattle.geo_poly.specs.declared.variables.Var.{Var}
 use Rattle.geo_poly.specs.Monomials.{Powers}
-use Rattle.geo_poly.specs.Polynomials.{Terms}
+use Rattle.geo_poly.specs.Polynomials.{Summands}
 use Rattle.geo_poly.specs.Values.{integer}
 use Rattle.geo_logs.specs.Starts.{start_of}
 use Rattle.geo_logs.specs.Logs.{Item, known_by, only_variable, sole_variable}
@@ -35,7 +35,7 @@ module _ (placed : Placement) where
       go false e = tt
   sole_far (p ∷ r ∷ m) z n = tt
 
-  only_far : (q : Terms) → IsApart (at_placement placed q) → EachIn IsFar (cons_option (only_variable q) [])
+  only_far : (q : Summands) → IsApart (at_placement placed q) → EachIn IsFar (cons_option (only_variable q) [])
   only_far [] n = tt
   only_far (t ∷ []) n = sole_far t.0 t.1 n
   only_far (t ∷ u ∷ ts) n = tt

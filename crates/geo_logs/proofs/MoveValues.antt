@@ -16,7 +16,7 @@ use Rattle.ring_laws.proofs.Quotients.{cancel_fraction, same_of_zero, zero_of_sa
 use Rattle.geo_poly.specs.declared.replacement.Row.{Row}
 use Rattle.geo_poly.specs.declared.variables.Var.{Var}
 use Rattle.geo_poly.specs.Monomials.{Powers}
-use Rattle.geo_poly.specs.Polynomials.{Terms, product_of}
+use Rattle.geo_poly.specs.Polynomials.{Summands, product_of}
 use Rattle.geo_poly.specs.Replace.{most_denominators}
 use Rattle.geo_poly.specs.Values.{integer, monomial_value, variable_value}
 use Rattle.geo_poly.specs.Variables.{var_cmp}
@@ -99,11 +99,11 @@ module _ (placed : Placement) where
   at_variable = variable_value placed.point placed.number
 
   -- the value of a polynomial
-  abbrev pub at_placement : Terms → Fraction
+  abbrev pub at_placement : Summands → Fraction
   at_placement = polynomial_value placed
 
-  pub value_as : (q r : Terms) → r ≡ q → Same (at_placement r) zero_fraction → Same (at_placement q) zero_fraction
-  value_as q r e h = subst (λ (p : Terms). Same (at_placement p) zero_fraction) e h
+  pub value_as : (q r : Summands) → r ≡ q → Same (at_placement r) zero_fraction → Same (at_placement q) zero_fraction
+  value_as q r e h = subst (λ (p : Summands). Same (at_placement p) zero_fraction) e h
 
   -- MOVES
   module _ (table : Table) (c : Construction) (sound : IsSoundTable table c) where
@@ -122,17 +122,17 @@ module _ (placed : Placement) where
             )
 
     -- a move multiplies the value by a power of a number that is not 0, and leaves ratios that are defined
-    pub record IsKept (move : Move) (q r : Terms) : Type 0 where
+    pub record IsKept (move : Move) (q r : Summands) : Type 0 where
       pub nonzero : IsNonzero (at_placement (table.denominator c move).poly)
       pub exponent : ℕ
       pub value : Same (at_placement r) (times (at_placement q) (power fractions (at_placement (table.denominator c move).poly) exponent))
       pub defined : AllVariables (HasVariable placed) r
 
-    pub move_kept : (move : Move) (left : ℕ) (q r : Terms) → IsPlaceMet placed c (place_of move) → AllVariables (HasVariable placed) q
+    pub move_kept : (move : Move) (left : ℕ) (q r : Summands) → IsPlaceMet placed c (place_of move) → AllVariables (HasVariable placed) q
         → IsMoved (replacement table c move q) left q r → IsKept move q r
     move_kept move left q r met defined moved =
         let rows : List Row = filter_map (table.row c move) (variables_of q) in
-        let den : Terms = (table.denominator c move).poly in
+        let den : Summands = (table.denominator c move).poly in
         let each : EachIn (HasVariable placed) (variables_of q) = each-variables (HasVariable placed) q defined in
         let one = some_row (HasVariable placed) (table.row c move) (variables_of q) each moved.replaces in
         let told : TellsValue placed table c move one.0 one.1 = sound.sound placed move one.0 one.1 one.2 met one.3 in
@@ -141,21 +141,21 @@ module _ (placed : Placement) where
         record {
           nonzero = told.nonzero;
           exponent = most_denominators rows q;
-          value = subst (λ (p : Terms). Same (at_placement p) (times (at_placement q) (power fractions (at_placement den) (most_denominators rows q)))) (sym moved.result)
+          value = subst (λ (p : Summands). Same (at_placement p) (times (at_placement q) (power fractions (at_placement den) (most_denominators rows q)))) (sym moved.result)
               (value-replaced_by fractions at_variable one_variable (at_placement den) rows den q (rows_hold move met (variables_of q) each) self);
           defined = subst (AllVariables (HasVariable placed)) (sym moved.result) (of-replaced_by (HasVariable placed) rows den q numerators told.denominator defined);
         }
 
     -- so it is 0 just where it was
-    pub null_before_move : (move : Move) (q r : Terms) → IsKept move q r → Same (at_placement r) zero_fraction → Same (at_placement q) zero_fraction
+    pub null_before_move : (move : Move) (q r : Summands) → IsKept move q r → Same (at_placement r) zero_fraction → Same (at_placement q) zero_fraction
     null_before_move move q r k e = null_of_power (at_placement q) (at_placement (table.denominator c move).poly) k.exponent k.nonzero (flip k.value ∘ e)
 
-    pub null_after_move : (move : Move) (q r : Terms) → IsKept move q r → Same (at_placement q) zero_fraction → Same (at_placement r) zero_fraction
+    pub null_after_move : (move : Move) (q r : Summands) → IsKept move q r → Same (at_placement q) zero_fraction → Same (at_placement r) zero_fraction
     null_after_move move q r k e = k.value ∘ null_times (at_placement q) _ e
 
   -- CUTS
   -- a product is 0 where its second factor is
-  pub null_before_cut : (known : List Var) (f : Powers × ℤ) (q r : Terms) → IsCut known f q r → Same (at_placement r) zero_fraction → Same (at_placement q) zero_fraction
+  pub null_before_cut : (known : List Var) (f : Powers × ℤ) (q r : Summands) → IsCut known f q r → Same (at_placement r) zero_fraction → Same (at_placement q) zero_fraction
   null_before_cut known f q r cut e =
       value_as q (product_of (f ∷ []) r) cut.exact
       (value-factor fractions at_variable f r ∘ times_null _ (at_placement r) e)
@@ -172,23 +172,23 @@ module _ (placed : Placement) where
   apart_integer z n h = apart (whole z) (whole_nonzero z (null_of_abs z n)) (flip (integer_is z) ∘ h)
 
   -- where no known variable is 0, a product is 0 only where its second factor is
-  pub null_after_cut : (known : List Var) (f : Powers × ℤ) (q r : Terms) → ((v : Var) → Contains known v → IsApart (at_variable v)) → IsCut known f q r
+  pub null_after_cut : (known : List Var) (f : Powers × ℤ) (q r : Summands) → ((v : Var) → Contains known v → IsApart (at_variable v)) → IsCut known f q r
       → Same (at_placement q) zero_fraction → Same (at_placement r) zero_fraction
   null_after_cut known f q r n cut e =
       let by : Fraction = times (integer fractions f.1) (monomial_value fractions at_variable f.0) in
       let far : IsApart by = apart_times (integer fractions f.1) (monomial_value fractions at_variable f.0) (apart_integer f.1 cut.factor.nonzero) (apart_monomial known f.0 n cut.by_known) in
       let both : Same (at_placement q) (times by (at_placement r)) =
-      subst (λ (p : Terms). Same (at_placement p) (times by (at_placement r))) cut.exact (value-factor fractions at_variable f r) in
+      subst (λ (p : Summands). Same (at_placement p) (times by (at_placement r))) cut.exact (value-factor fractions at_variable f r) in
       null_of_times (at_placement r) by (nonzero by far) (fractions.mul_comm (at_placement r) by ∘ flip both ∘ e)
 
 -- NAMES
 module _ (table : Table) (c : Construction) (sound : IsSoundTable table c) (n : ℕ) where
   -- a move looks at no later step, and brings in no later point
-  pub record IsNamedOn (move : Move) (r : Terms) : Type 0 where
+  pub record IsNamedOn (move : Move) (r : Summands) : Type 0 where
     pub place : IsPlaceBelow n (place_of move)
     pub names : AllVariables (IsNamed c n) r
 
-  pub move_named : (move : Move) (left : ℕ) (q r : Terms) → AllVariables (IsNamed c n) q → IsMoved (replacement table c move q) left q r → IsNamedOn move r
+  pub move_named : (move : Move) (left : ℕ) (q r : Summands) → AllVariables (IsNamed c n) q → IsMoved (replacement table c move q) left q r → IsNamedOn move r
   move_named move left q r named moved =
       let rows : List Row = filter_map (table.row c move) (variables_of q) in
       let each : EachIn (IsNamed c n) (variables_of q) = each-variables (IsNamed c n) q named in

@@ -2,7 +2,7 @@
 use Rattle.std.proofs.Common.{◌≡◌, ◌≢◌, ℕ, suc, ◌-◌, ◌⊎◌, inl, inr, ℤ, Some, List, [], ◌∷◌, ◌++◌, map, take, subst}
 use Rattle.std.specs.Prelude.{slice_get}
 use Rattle.geo_poly.specs.declared.variables.Var.{Var}
-use Rattle.geo_poly.specs.Polynomials.{Terms}
+use Rattle.geo_poly.specs.Polynomials.{Summands}
 use Rattle.geo_terms.specs.Constructions.{Construction}
 use Rattle.geo_terms.specs.Trees.{Tree}
 use Rattle.proof_log.specs.declared.log.Line.{Line}
@@ -24,7 +24,7 @@ use Rattle.geo_logs.specs.Samples.{IsLeastSample}
 pub record IsOpenChain (table : Table) (c : Construction) (header : Line) (known : List Var) (left : ℕ) (e : Tree) (lines : List Line) (next : Next) : Type 0 where
   pub steps : List ChainStep
   pub after : ℕ
-  pub last : Terms
+  pub last : Summands
   pub started : IsStarted left e
   pub leads : LeadsBySteps table c known (left - start_charge e) (start_of e) steps after last
   pub split : lines ≡ header ∷ Start (start_of e) ∷ map line_of steps
@@ -38,13 +38,13 @@ IsBegunChain table c header known left e lines next =
     ⊎ IsOpenChain table c header known left e lines next)
 
 -- the lines begin the end of a log: its sample and its verdict
-abbrev pub IsBegunEnd : Construction → List Terms → Verdict → ℕ → List Line → Next → Type 0
+abbrev pub IsBegunEnd : Construction → List Summands → Verdict → ℕ → List Line → Next → Type 0
 IsBegunEnd c listed verdict left lines next =
     ((lines ≡ []) × IsAtSample c listed left next)
     ⊎ ((values : List (Var × ℤ)) × (left' : ℕ) × IsLeastSample c listed left values left' × (lines ≡ Sample values ∷ []) × (next ≡ comes (VerdictLine verdict)))
 
 -- the lines begin the chains of the goals from number k on, and what follows them
-abbrev pub AreGoalsBegun : Table → Construction → List Var → List Terms → ℕ → ℕ → List Item → List Line → Next → Type 0
+abbrev pub AreGoalsBegun : Table → Construction → List Var → List Summands → ℕ → ℕ → List Item → List Line → Next → Type 0
 AreGoalsBegun table c known listed k left [] lines next = IsBegunEnd c listed Proved left lines next
 AreGoalsBegun table c known listed k left (item ∷ items) lines next =
     IsBegunChain table c (Goal k item.text) known left item.term lines next
@@ -53,7 +53,7 @@ AreGoalsBegun table c known listed k left (item ∷ items) lines next =
     ⊎ (first.chain.end ≢ []) × IsBegunEnd c (listed ++ first.chain.end ∷ []) (False k) first.after first.rest next))
 
 -- the lines begin the chains of the conditions from number k on, and what follows them
-abbrev pub AreConditionsBegun : Table → Construction → List Item → List Var → List Terms → ℕ → ℕ → List Item → List Line → Next → Type 0
+abbrev pub AreConditionsBegun : Table → Construction → List Item → List Var → List Summands → ℕ → ℕ → List Item → List Line → Next → Type 0
 AreConditionsBegun table c goals known listed k left [] lines next = AreGoalsBegun table c known listed 1 left goals lines next
 AreConditionsBegun table c goals known listed k left (item ∷ items) lines next =
     IsBegunChain table c (Condition k item.text) known left item.term lines next
@@ -89,12 +89,12 @@ module _ (table : Table) (c : Construction) where
         follows = next_as place (in_chain known h.after h.last) next h.stands n;
       }))
 
-  end_next : (listed : List Terms) (verdict : Verdict) (left : ℕ) (lines : List Line) (place : Place) (next : Next) → IsNext table c place next
+  end_next : (listed : List Summands) (verdict : Verdict) (left : ℕ) (lines : List Line) (place : Place) (next : Next) → IsNext table c place next
       → Places.IsBegunEnd (LeadsBySteps table c) (IsDefinedChain table c) (IsLeastSample c) listed verdict left lines place → IsBegunEnd c listed verdict left lines next
   end_next listed verdict left lines place next n (inl h) = inl (h.0, next_as place (before_sample listed left) next h.1 n)
   end_next listed verdict left lines place next n (inr (values, left', chosen, split, e)) = inr (values, left', chosen, split, next_as place (before_line (VerdictLine verdict)) next e n)
 
-  goals_next : (known : List Var) (listed : List Terms) (k left : ℕ) (items : List Item) (lines : List Line) (place : Place) (next : Next) → IsNext table c place next
+  goals_next : (known : List Var) (listed : List Summands) (k left : ℕ) (items : List Item) (lines : List Line) (place : Place) (next : Next) → IsNext table c place next
       → Places.AreGoalsBegun (LeadsBySteps table c) (IsDefinedChain table c) (IsLeastSample c) known listed k left items lines place → AreGoalsBegun table c known listed k left items lines next
   goals_next known listed k left [] lines place next n h = end_next listed Proved left lines place next n h
   goals_next known listed k left (item ∷ items) lines place next n (inl h) = inl (chain_next (Goal k item.text) known left item.term lines place next n h)
@@ -102,7 +102,7 @@ module _ (table : Table) (c : Construction) where
   goals_next known listed k left (item ∷ items) lines place next n (inr (first, inr h)) =
       inr (first, inr (h.0, end_next (listed ++ first.chain.end ∷ []) (False k) first.after first.rest place next n h.1))
 
-  conditions_next : (goals : List Item) (known : List Var) (listed : List Terms) (k left : ℕ) (items : List Item) (lines : List Line) (place : Place) (next : Next) → IsNext table c place next
+  conditions_next : (goals : List Item) (known : List Var) (listed : List Summands) (k left : ℕ) (items : List Item) (lines : List Line) (place : Place) (next : Next) → IsNext table c place next
       → Places.AreConditionsBegun (LeadsBySteps table c) (IsDefinedChain table c) (IsLeastSample c) goals known listed k left items lines place
       → AreConditionsBegun table c goals known listed k left items lines next
   conditions_next goals known listed k left [] lines place next n h = goals_next known listed 1 left goals lines place next n h

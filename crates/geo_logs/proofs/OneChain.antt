@@ -2,7 +2,7 @@
 use Rattle.std.proofs.Common.{◌≡◌, ℕ, suc, ◌-◌, ◌⊎◌, inl, inr, ℤ, List, [], ◌∷◌, ◌++◌, map, refl, sym, ap, ap₂, ◌∙◌, subst}
 use Rattle.geo_poly.specs.declared.variables.Var.{Var}
 use Rattle.geo_poly.specs.Monomials.{Powers}
-use Rattle.geo_poly.specs.Polynomials.{Terms}
+use Rattle.geo_poly.specs.Polynomials.{Summands}
 use Rattle.geo_terms.specs.Constructions.{Construction}
 use Rattle.geo_terms.specs.Trees.{Tree}
 use Rattle.proof_log.specs.declared.log.Line.{Line}
@@ -25,14 +25,14 @@ use Rattle.geo_logs.proofs.OneStep.{no_cut, no_move, one_cut, one_factor, one_mo
 
 module _ (table : Table) (c : Construction) (known : List Var) where
   -- nothing more is due
-  pub record IsOver (q : Terms) : Type 0 where
+  pub record IsOver (q : Summands) : Type 0 where
     pub no_cut : NoCutDue known q
     pub ended : IsEnd q
 
-  over_as : (q e : Terms) → q ≡ e → IsOver e → IsOver q
+  over_as : (q e : Summands) → q ≡ e → IsOver e → IsOver q
   over_as q e same h = subst IsOver (sym same) h
 
-  one_path : (left : ℕ) (q : Terms) (steps other : List ChainStep) (l l' : ℕ) (e e' : Terms)
+  one_path : (left : ℕ) (q : Summands) (steps other : List ChainStep) (l l' : ℕ) (e e' : Summands)
       → LeadsBySteps table c known left q steps l e → IsOver e → LeadsBySteps table c known left q other l' e' → IsOver e' → (steps ≡ other) × (l ≡ l') × (e ≡ e')
   one_path left q [] [] l l' e e' h over g over' = (refl, sym h.0 ∙ g.0, sym h.1 ∙ g.1)
   one_path left q [] (moves m r ∷ other) l l' e e' h over g over' = absurd (no_move table c q m (over_as q e h.1 over).ended g.1)
@@ -46,12 +46,12 @@ module _ (table : Table) (c : Construction) (known : List Var) where
       let result : s ≡ r = one_result table c left q s r m (subst (λ (x : Move). IsMoved (replacement table c x q) left q s) move g.2) h.2 in
       let after : ℕ = left - move_charge (replacement table c m q) q in
       let goes : LeadsBySteps table c known after s other l' e' = subst (λ (x : Move). LeadsBySteps table c known (left - move_charge (replacement table c x q) q) s other l' e') move g.3 in
-      let rest = one_path after r steps other l l' e e' h.3 over (subst (λ (x : Terms). LeadsBySteps table c known after x other l' e') result goes) over' in
+      let rest = one_path after r steps other l l' e e' h.3 over (subst (λ (x : Summands). LeadsBySteps table c known after x other l' e') result goes) over' in
       (ap₂ (λ (x : ChainStep) (xs : List ChainStep). x ∷ xs) (ap₂ moves (sym move) (sym result)) rest.0, rest.1, rest.2)
   one_path left q (cuts f r ∷ steps) (cuts k s ∷ other) l l' e e' h over g over' =
       let factor : k ≡ f = one_factor known q k f g.0 h.0 in
       let result : s ≡ r = one_cut known f q s r (subst (λ (x : Powers × ℤ). IsCut known x q s) factor g.1) h.1 in
-      let rest = one_path left r steps other l l' e e' h.2 over (subst (λ (x : Terms). LeadsBySteps table c known left x other l' e') result g.2) over' in
+      let rest = one_path left r steps other l l' e e' h.2 over (subst (λ (x : Summands). LeadsBySteps table c known left x other l' e') result g.2) over' in
       (ap₂ (λ (x : ChainStep) (xs : List ChainStep). x ∷ xs) (ap₂ cuts (sym factor) (sym result)) rest.0, rest.1, rest.2)
 
   pub one_chain : (left : ℕ) (e : Tree) (chain other : Chain) (l l' : ℕ) → IsDefinedChain table c known left e chain l → IsDefinedChain table c known left e other l'
@@ -62,7 +62,7 @@ module _ (table : Table) (c : Construction) (known : List Var) where
       ((λ i. record { steps = same.0 i; end = same.2 i }), same.1)
 
 -- THE LEAST SAMPLE
-pub one_sample : (c : Construction) (listed : List Terms) (left : ℕ) (values other : List (Var × ℤ)) (l l' : ℕ) → IsLeastSample c listed left values l → IsLeastSample c listed left other l'
+pub one_sample : (c : Construction) (listed : List Summands) (left : ℕ) (values other : List (Var × ℤ)) (l l' : ℕ) → IsLeastSample c listed left values l → IsLeastSample c listed left other l'
     → (values ≡ other) × (l ≡ l')
 one_sample c listed left values other l l' h g =
     let same : values ≡ other = exists_one.unique (sample_variables c) listed values other h.least g.least in
@@ -71,14 +71,14 @@ one_sample c listed left values other l l' h g =
 
 -- WHOLE LOGS
 module _ (table : Table) (c : Construction) where
-  one_conclusion : (listed : List Terms) (left : ℕ) (lines other : List Line) (v : Verdict) (l l' : ℕ)
+  one_conclusion : (listed : List Summands) (left : ℕ) (lines other : List Line) (v : Verdict) (l l' : ℕ)
       → IsConcluded (IsDefinedChain table c) (IsLeastSample c) listed left lines v l → IsConcluded (IsDefinedChain table c) (IsLeastSample c) listed left other v l'
       → (lines ≡ other) × (l ≡ l')
   one_conclusion listed left lines other v l l' h g =
       let same = one_sample c listed left h.values g.values l l' h.chosen g.chosen in
       (h.split ∙ ap (λ (values : List (Var × ℤ)). Sample values ∷ VerdictLine v ∷ []) same.0 ∙ sym g.split, same.1)
 
-  one_goals : (known : List Var) (listed : List Terms) (k left : ℕ) (items : List Item) (lines other : List Line) (v w : Verdict) (l l' : ℕ)
+  one_goals : (known : List Var) (listed : List Summands) (k left : ℕ) (items : List Item) (lines other : List Line) (v w : Verdict) (l l' : ℕ)
       → AreGoalsWorked (IsDefinedChain table c) (IsLeastSample c) known listed k left items lines v l → AreGoalsWorked (IsDefinedChain table c) (IsLeastSample c) known listed k left items other w l'
       → (lines ≡ other) × (v ≡ w) × (l ≡ l')
   one_goals known listed k left [] lines other v w l l' h g =
@@ -107,7 +107,7 @@ module _ (table : Table) (c : Construction) where
           let tail = one_conclusion (listed ++ chain.end ∷ []) after rest rest' (False k) l l' failed.2 goes in
           (split ∙ ap₂ (λ (x : Chain) (xs : List Line). chain_lines (Goal k item.text) item.term x ++ xs) same_chain tail.0 ∙ sym split', failed.1 ∙ sym failed'.1, tail.1)
 
-  one_conditions : (goals : List Item) (known : List Var) (listed : List Terms) (k left : ℕ) (items : List Item) (lines other : List Line) (v w : Verdict) (l l' : ℕ)
+  one_conditions : (goals : List Item) (known : List Var) (listed : List Summands) (k left : ℕ) (items : List Item) (lines other : List Line) (v w : Verdict) (l l' : ℕ)
       → AreConditionsWorked (IsDefinedChain table c) (IsLeastSample c) goals known listed k left items lines v l
       → AreConditionsWorked (IsDefinedChain table c) (IsLeastSample c) goals known listed k left items other w l'
       → (lines ≡ other) × (v ≡ w) × (l ≡ l')
@@ -116,7 +116,7 @@ module _ (table : Table) (c : Construction) where
       let same = one_chain table c known left item.term first.chain first'.chain first.after first'.after first.works first'.works in
       go (λ end after rest rest' h g. one_conditions goals (known ++ known_by (item ∷ [])) (listed ++ end ∷ []) (suc k) after items rest rest' v w l l' h g) first.chain first'.chain first.after first'.after same.0 same.1 first.rest first'.rest first.split first'.split more more'
     where
-      go : ((end : Terms) (after : ℕ) (rest rest' : List Line) → AreConditionsWorked (IsDefinedChain table c) (IsLeastSample c) goals (known ++ known_by (item ∷ [])) (listed ++ end ∷ []) (suc k) after items rest v l → AreConditionsWorked (IsDefinedChain table c) (IsLeastSample c) goals (known ++ known_by (item ∷ [])) (listed ++ end ∷ []) (suc k) after items rest' w l' → (rest ≡ rest') × (v ≡ w) × (l ≡ l'))
+      go : ((end : Summands) (after : ℕ) (rest rest' : List Line) → AreConditionsWorked (IsDefinedChain table c) (IsLeastSample c) goals (known ++ known_by (item ∷ [])) (listed ++ end ∷ []) (suc k) after items rest v l → AreConditionsWorked (IsDefinedChain table c) (IsLeastSample c) goals (known ++ known_by (item ∷ [])) (listed ++ end ∷ []) (suc k) after items rest' w l' → (rest ≡ rest') × (v ≡ w) × (l ≡ l'))
           → (chain chain' : Chain) (after after' : ℕ) → chain ≡ chain' → after ≡ after' → (rest rest' : List Line)
           → lines ≡ chain_lines (Condition k item.text) item.term chain ++ rest → other ≡ chain_lines (Condition k item.text) item.term chain' ++ rest'
           → ((chain.end ≡ []) × (v ≡ Impossible k) × (rest ≡ VerdictLine (Impossible k) ∷ []) × (after ≡ l)

@@ -2,7 +2,7 @@
 use Rattle.std.proofs.Common.{◌≡◌, ℕ, ◌-◌, inl, inr, ℤ, List, [], ◌∷◌, ◌++◌, map, append_assoc, refl, sym, ap, ◌∙◌, subst}
 use Rattle.geo_poly.specs.declared.limits.Which.TheVariants.{Norm, Degree}
 use Rattle.geo_poly.specs.declared.variables.Var.{Var}
-use Rattle.geo_poly.specs.Polynomials.{Terms}
+use Rattle.geo_poly.specs.Polynomials.{Summands}
 use Rattle.geo_terms.specs.Constructions.{Construction}
 use Rattle.geo_terms.specs.Trees.{Tree}
 use Rattle.proof_log.specs.declared.log.Line.{Line}
@@ -82,7 +82,7 @@ made_not_stopped left tries r r' spent h g = (ends_exclude left tries r r').made
 made_not_stopped left tries r r' (too_large Norm) h g = (ends_exclude left tries r r').made_or_large h g
 made_not_stopped left tries r r' (too_large Degree) h g = g
 
-module _ (c : Construction) (listed : List Terms) (left : ℕ) where
+module _ (c : Construction) (listed : List Summands) (left : ℕ) where
   sample_not_stopped : (values : List (Var × ℤ)) (left' : ℕ) (s : Stop) → IsLeastSample c listed left values left' → IsSearchStopped c listed left s → ⊥
   sample_not_stopped values left' s h (rest, (xs, least, ended)) =
       let same : xs ≡ values = exists_one.unique (sample_variables c) listed xs values least h.least in

@@ -3,7 +3,7 @@ use Rattle.std.proofs.Common.{◌≡◌, ℕ, zero, suc, ◌+◌, ◌<◌, ◌�
 use Rattle.std.specs.Prelude.{slice_get}
 use Rattle.std.proofs.lemmas.List.{length-append}
 use Rattle.geo_poly.specs.declared.variables.Var.{Var}
-use Rattle.geo_poly.specs.Polynomials.{Terms}
+use Rattle.geo_poly.specs.Polynomials.{Summands}
 use Rattle.geo_terms.specs.Constructions.{Construction}
 use Rattle.proof_log.specs.declared.log.Line.{Line}
 use Rattle.proof_log.specs.declared.log.Line.TheVariants.{Condition, Goal, Verdict as VerdictLine}
@@ -53,7 +53,7 @@ module _ (table : Table) (c : Construction) where
       let same = one_chain table c known left item.term first.chain second.chain first.after second.after first.works second.works in
       record { chain = same.0; after = same.1; split = first.split ∙ ap (λ (x : Chain). chain_lines head item.term x ++ first.rest) same.0 }
 
-  goals_compared : (known : List Var) (listed : List Terms) (k left : ℕ) (items : List Item) (xs ys : List Line) (n m : Next)
+  goals_compared : (known : List Var) (listed : List Summands) (k left : ℕ) (items : List Item) (xs ys : List Line) (n m : Next)
       → AreGoalsBegun table c known listed k left items xs n → AreGoalsBegun table c known listed k left items ys m → AreCompared xs n ys m
   goals_compared known listed k left [] xs ys n m h g = ends_compared c listed left Proved xs ys n m h g
   goals_compared known listed k left (item ∷ items) xs ys n m (inl h) (inl g) = begun_compared table c (Goal k item.text) known left item.term xs ys n m h g
@@ -79,7 +79,7 @@ module _ (table : Table) (c : Construction) where
       compared_as xs (chain_lines head item.term second.chain ++ first.rest) ys (chain_lines head item.term second.chain ++ second.rest) n m same.split second.split
       (compared_behind (chain_lines head item.term second.chain) first.rest n second.rest m (ends_compared c (listed ++ second.chain.end ∷ []) second.after (False k) first.rest second.rest n m goes g.1))
 
-  goals_within : (known : List Var) (listed : List Terms) (k left : ℕ) (items : List Item) (xs ys : List Line) (n : Next) (verdict : Verdict) (left' : ℕ)
+  goals_within : (known : List Var) (listed : List Summands) (k left : ℕ) (items : List Item) (xs ys : List Line) (n : Next) (verdict : Verdict) (left' : ℕ)
       → AreGoalsBegun table c known listed k left items xs n → AreGoalsWorked (IsDefinedChain table c) (IsLeastSample c) known listed k left items ys verdict left' → IsAhead xs n ys
   goals_within known listed k left [] xs ys n verdict left' h g = end_within c listed left Proved table xs n ys left' h g.1
   goals_within known listed k left (item ∷ items) xs ys n verdict left' (inl h) (second, g) = within_first (Goal k item.text) known left item xs ys n h second
@@ -104,7 +104,7 @@ module _ (table : Table) (c : Construction) where
       (ahead_behind (chain_lines head item.term second.chain) first.rest n second.rest
       (end_within c (listed ++ second.chain.end ∷ []) second.after (False k) table first.rest n second.rest left' goes g.2))
 
-  conditions_compared : (goals : List Item) (known : List Var) (listed : List Terms) (k left : ℕ) (items : List Item) (xs ys : List Line) (n m : Next)
+  conditions_compared : (goals : List Item) (known : List Var) (listed : List Summands) (k left : ℕ) (items : List Item) (xs ys : List Line) (n m : Next)
       → AreConditionsBegun table c goals known listed k left items xs n → AreConditionsBegun table c goals known listed k left items ys m → AreCompared xs n ys m
   conditions_compared goals known listed k left [] xs ys n m h g = goals_compared known listed 1 left goals xs ys n m h g
   conditions_compared goals known listed k left (item ∷ items) xs ys n m (inl h) (inl g) = begun_compared table c (Condition k item.text) known left item.term xs ys n m h g
@@ -130,7 +130,7 @@ module _ (table : Table) (c : Construction) where
       (compared_behind (chain_lines head item.term second.chain) first.rest n second.rest m
       (conditions_compared goals (known ++ known_by (item ∷ [])) (listed ++ second.chain.end ∷ []) (suc k) second.after items first.rest second.rest n m goes g.1))
 
-  conditions_within : (goals : List Item) (known : List Var) (listed : List Terms) (k left : ℕ) (items : List Item) (xs ys : List Line) (n : Next) (verdict : Verdict) (left' : ℕ)
+  conditions_within : (goals : List Item) (known : List Var) (listed : List Summands) (k left : ℕ) (items : List Item) (xs ys : List Line) (n : Next) (verdict : Verdict) (left' : ℕ)
       → AreConditionsBegun table c goals known listed k left items xs n → AreConditionsWorked (IsDefinedChain table c) (IsLeastSample c) goals known listed k left items ys verdict left'
       → IsAhead xs n ys
   conditions_within goals known listed k left [] xs ys n verdict left' h g = goals_within known listed 1 left goals xs ys n verdict left' h g

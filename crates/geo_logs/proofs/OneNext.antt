@@ -3,7 +3,7 @@ use Rattle.std.proofs.Common.{◌≡◌, ℕ, ◌-◌, ◌⊎◌, inl, inr, ℤ,
 use Rattle.geo_poly.specs.declared.limits.Which.TheVariants.{Norm, Degree}
 use Rattle.geo_poly.specs.declared.variables.Var.{Var}
 use Rattle.geo_poly.specs.Monomials.{Powers}
-use Rattle.geo_poly.specs.Polynomials.{Terms}
+use Rattle.geo_poly.specs.Polynomials.{Summands}
 use Rattle.geo_terms.specs.Constructions.{Construction}
 use Rattle.geo_terms.specs.Trees.{Tree}
 use Rattle.proof_log.specs.declared.log.Line.{Line}
@@ -39,7 +39,7 @@ pub no_stop_ahead : {A : Type 0} (xs : List Line) (s : Stop) (ys : List Line) �
 no_stop_ahead xs s ys (l, zs, e, f) = absurd (let q : stops s ≡ comes l = e in cc)
 
 -- STOPS
-pub one_stop : (made : Replacement) (left : ℕ) (q : Terms) (s s' : Stop) → IsMoveStopped made left q s → IsMoveStopped made left q s' → s ≡ s'
+pub one_stop : (made : Replacement) (left : ℕ) (q : Summands) (s s' : Stop) → IsMoveStopped made left q s → IsMoveStopped made left q s' → s ≡ s'
 one_stop made left q spent spent h g = refl
 one_stop made left q spent (too_large Norm) h g = absurd (omega (arith, h, g.0))
 one_stop made left q spent (too_large Degree) h g = absurd (omega (arith, h, g.0))
@@ -50,7 +50,7 @@ one_stop made left q (too_large Degree) spent h g = absurd (omega (arith, g, h.0
 one_stop made left q (too_large Degree) (too_large Norm) h g = absurd (omega (arith, g.1, h.1))
 one_stop made left q (too_large Degree) (too_large Degree) h g = refl
 
-pub not_stopped : (made : Replacement) (left : ℕ) (q r : Terms) (s : Stop) → IsMoved made left q r → IsMoveStopped made left q s → ⊥
+pub not_stopped : (made : Replacement) (left : ℕ) (q r : Summands) (s : Stop) → IsMoved made left q r → IsMoveStopped made left q s → ⊥
 not_stopped made left q r spent h g = omega (arith, h.paid, g)
 not_stopped made left q r (too_large Norm) h g = omega (arith, h.weight_fits, g.1)
 not_stopped made left q r (too_large Degree) h g = omega (arith, h.degree_fits, g.2)
@@ -74,7 +74,7 @@ start_not_stopped left e (too_large Degree) h g = omega (arith, h.room.numerator
 module _ (table : Table) (c : Construction) (known : List Var) where
   -- STEPS
   -- a step that is due is the only one
-  one_due : (left : ℕ) (q : Terms) (x y : ChainStep) (l l' : ℕ) (r r' : Terms) → LeadsBySteps table c known left q (x ∷ []) l r → LeadsBySteps table c known left q (y ∷ []) l' r' → x ≡ y
+  one_due : (left : ℕ) (q : Summands) (x y : ChainStep) (l l' : ℕ) (r r' : Summands) → LeadsBySteps table c known left q (x ∷ []) l r → LeadsBySteps table c known left q (y ∷ []) l' r' → x ≡ y
   one_due left q (moves m r) (moves n s) l l' e e' h g =
       let move : n ≡ m = one_move table c q n m g.1 h.1 in
       let result : s ≡ r = one_result table c left q s r m (subst (λ (x : Move). IsMoved (replacement table c x q) left q s) move g.2) h.2 in
@@ -87,28 +87,28 @@ module _ (table : Table) (c : Construction) (known : List Var) where
       ap₂ cuts (sym factor) (sym result)
 
   -- the first of some steps is due
-  record IsDue (left : ℕ) (q : Terms) (x : ChainStep) : Type 0 where
+  record IsDue (left : ℕ) (q : Summands) (x : ChainStep) : Type 0 where
     after : ℕ
-    result : Terms
+    result : Summands
     leads : LeadsBySteps table c known left q (x ∷ []) after result
 
-  first_due : (left : ℕ) (q : Terms) (x : ChainStep) (xs : List ChainStep) (l : ℕ) (e : Terms) → LeadsBySteps table c known left q (x ∷ xs) l e → IsDue left q x
+  first_due : (left : ℕ) (q : Summands) (x : ChainStep) (xs : List ChainStep) (l : ℕ) (e : Summands) → LeadsBySteps table c known left q (x ∷ xs) l e → IsDue left q x
   first_due left q (moves m r) xs l e h = record { after = left - move_charge (replacement table c m q) q; result = r; leads = (h.0, h.1, h.2, (refl, refl)) }
   first_due left q (cuts f r) xs l e h = record { after = left; result = r; leads = (h.0, h.1, (refl, refl)) }
 
   -- where a step is due, nothing is over, and nothing is stopped
-  not_over : (left : ℕ) (q : Terms) (x : ChainStep) (l : ℕ) (r : Terms) → LeadsBySteps table c known left q (x ∷ []) l r → NoCutDue known q → IsEnd q → ⊥
+  not_over : (left : ℕ) (q : Summands) (x : ChainStep) (l : ℕ) (r : Summands) → LeadsBySteps table c known left q (x ∷ []) l r → NoCutDue known q → IsEnd q → ⊥
   not_over left q (moves m r) l e h none end = no_move table c q m end h.1
   not_over left q (cuts f r) l e h none end = no_cut known q f none h.0
 
-  due_not_stopped : (left : ℕ) (q : Terms) (x : ChainStep) (l : ℕ) (r : Terms) (s : Stop) → LeadsBySteps table c known left q (x ∷ []) l r → IsAfterPolynomial table c known left q (stops s) → ⊥
+  due_not_stopped : (left : ℕ) (q : Summands) (x : ChainStep) (l : ℕ) (r : Summands) (s : Stop) → LeadsBySteps table c known left q (x ∷ []) l r → IsAfterPolynomial table c known left q (stops s) → ⊥
   due_not_stopped left q (moves m r) l e s h (n, none, next, stopped) =
       let move : n ≡ m = one_move table c q n m next h.1 in
       not_stopped (replacement table c m q) left q r s h.2 (subst (λ (x : Move). IsMoveStopped (replacement table c x q) left q s) move stopped)
   due_not_stopped left q (cuts f r) l e s h (n, none, next, stopped) = no_cut known q f none h.0
 
   -- what comes after a polynomial is the only thing
-  pub one_next : (left : ℕ) (q : Terms) (n m : Next) → IsAfterPolynomial table c known left q n → IsAfterPolynomial table c known left q m → n ≡ m
+  pub one_next : (left : ℕ) (q : Summands) (n m : Next) → IsAfterPolynomial table c known left q n → IsAfterPolynomial table c known left q m → n ≡ m
   one_next left q (comes a) (comes b) (inl (x, l, r, h, e)) (inl (y, l', r', g, f)) = ap comes (e ∙ ap line_of (one_due left q x y l l' r r' h g) ∙ sym f)
   one_next left q (comes a) (comes b) (inl (x, l, r, h, e)) (inr (none, end, f)) = absurd (not_over left q x l r h none end)
   one_next left q (comes a) (comes b) (inr (none, end, e)) (inl (y, l', r', g, f)) = absurd (not_over left q y l' r' g none end)
@@ -122,14 +122,14 @@ module _ (table : Table) (c : Construction) (known : List Var) where
       ap stops (one_stop (replacement table c m q) left q s s' stopped (subst (λ (x : Move). IsMoveStopped (replacement table c x q) left q s') move stopped'))
 
   -- where a step is due, its line comes
-  comes_step : (left : ℕ) (q : Terms) (x : ChainStep) (n : Next) → IsDue left q x → IsAfterPolynomial table c known left q n → n ≡ comes (line_of x)
+  comes_step : (left : ℕ) (q : Summands) (x : ChainStep) (n : Next) → IsDue left q x → IsAfterPolynomial table c known left q n → n ≡ comes (line_of x)
   comes_step left q x n due h = one_next left q n (comes (line_of x)) h (inl (x, due.after, due.result, due.leads, refl))
 
-  moved_on : (left : ℕ) (q l : Terms) (k : ℕ) → k ≡ left → q ≡ l → (n : Next) → IsAfterPolynomial table c known k l n → IsAfterPolynomial table c known left q n
-  moved_on left q l k e f n h = subst (λ (x : Terms). IsAfterPolynomial table c known left x n) (sym f) (subst (λ j. IsAfterPolynomial table c known j l n) e h)
+  moved_on : (left : ℕ) (q l : Summands) (k : ℕ) → k ≡ left → q ≡ l → (n : Next) → IsAfterPolynomial table c known k l n → IsAfterPolynomial table c known left q n
+  moved_on left q l k e f n h = subst (λ (x : Summands). IsAfterPolynomial table c known left x n) (sym f) (subst (λ j. IsAfterPolynomial table c known j l n) e h)
 
   -- PATHS
-  pub compare_paths : (left : ℕ) (q : Terms) (xs ys : List ChainStep) (l l' : ℕ) (r r' : Terms) (n m : Next)
+  pub compare_paths : (left : ℕ) (q : Summands) (xs ys : List ChainStep) (l l' : ℕ) (r r' : Summands) (n m : Next)
       → LeadsBySteps table c known left q xs l r → IsAfterPolynomial table c known l r n
       → LeadsBySteps table c known left q ys l' r' → IsAfterPolynomial table c known l' r' m
       → AreCompared (map line_of xs) n (map line_of ys) m
@@ -146,18 +146,18 @@ module _ (table : Table) (c : Construction) (known : List Var) where
       let result : t ≡ s = one_result table c left q t s a (subst (λ (x : Move). IsMoved (replacement table c x q) left q t) move g.2) h.2 in
       let rest : ℕ = left - move_charge (replacement table c a q) q in
       let goes : LeadsBySteps table c known rest t ys l' r' = subst (λ (x : Move). LeadsBySteps table c known (left - move_charge (replacement table c x q) q) t ys l' r') move g.3 in
-      let found = compare_paths rest s xs ys l l' r r' n m h.3 after (subst (λ (x : Terms). LeadsBySteps table c known rest x ys l' r') result goes) after' in
+      let found = compare_paths rest s xs ys l l' r r' n m h.3 after (subst (λ (x : Summands). LeadsBySteps table c known rest x ys l' r') result goes) after' in
       subst (λ (x : ChainStep). AreCompared (line_of (moves a s) ∷ map line_of xs) n (line_of x ∷ map line_of ys) m) (ap₂ moves (sym move) (sym result))
       (compared_behind (line_of (moves a s) ∷ []) (map line_of xs) n (map line_of ys) m found)
   compare_paths left q (cuts f s ∷ xs) (cuts k t ∷ ys) l l' r r' n m h after g after' =
       let factor : k ≡ f = one_factor known q k f g.0 h.0 in
       let result : t ≡ s = one_cut known f q t s (subst (λ (x : Powers × ℤ). IsCut known x q t) factor g.1) h.1 in
-      let found = compare_paths left s xs ys l l' r r' n m h.2 after (subst (λ (x : Terms). LeadsBySteps table c known left x ys l' r') result g.2) after' in
+      let found = compare_paths left s xs ys l l' r r' n m h.2 after (subst (λ (x : Summands). LeadsBySteps table c known left x ys l' r') result g.2) after' in
       subst (λ (x : ChainStep). AreCompared (line_of (cuts f s) ∷ map line_of xs) n (line_of x ∷ map line_of ys) m) (ap₂ cuts (sym factor) (sym result))
       (compared_behind (line_of (cuts f s) ∷ []) (map line_of xs) n (map line_of ys) m found)
 
   -- a path that is not over stands within a whole chain
-  pub path_within : (left : ℕ) (q : Terms) (xs ys : List ChainStep) (l l' : ℕ) (r r' : Terms) (n : Next) (rest : List Line)
+  pub path_within : (left : ℕ) (q : Summands) (xs ys : List ChainStep) (l l' : ℕ) (r r' : Summands) (n : Next) (rest : List Line)
       → LeadsBySteps table c known left q xs l r → IsAfterPolynomial table c known l r n
       → LeadsBySteps table c known left q ys l' r' → NoCutDue known r' → IsEnd r'
       → IsAhead (map line_of xs) n (map line_of ys ++ End ∷ rest)
@@ -177,12 +177,12 @@ module _ (table : Table) (c : Construction) (known : List Var) where
       let result : t ≡ s = one_result table c left q t s a (subst (λ (x : Move). IsMoved (replacement table c x q) left q t) move g.2) h.2 in
       let on : ℕ = left - move_charge (replacement table c a q) q in
       let goes : LeadsBySteps table c known on t ys l' r' = subst (λ (x : Move). LeadsBySteps table c known (left - move_charge (replacement table c x q) q) t ys l' r') move g.3 in
-      let found = path_within on s xs ys l l' r r' n rest h.3 after (subst (λ (x : Terms). LeadsBySteps table c known on x ys l' r') result goes) none end in
+      let found = path_within on s xs ys l l' r r' n rest h.3 after (subst (λ (x : Summands). LeadsBySteps table c known on x ys l' r') result goes) none end in
       subst (λ (x : ChainStep). IsAhead (line_of (moves a s) ∷ map line_of xs) n (line_of x ∷ map line_of ys ++ End ∷ rest)) (ap₂ moves (sym move) (sym result))
       (ahead_behind (line_of (moves a s) ∷ []) (map line_of xs) n (map line_of ys ++ End ∷ rest) found)
   path_within left q (cuts f s ∷ xs) (cuts k t ∷ ys) l l' r r' n rest h after g none end =
       let factor : k ≡ f = one_factor known q k f g.0 h.0 in
       let result : t ≡ s = one_cut known f q t s (subst (λ (x : Powers × ℤ). IsCut known x q t) factor g.1) h.1 in
-      let found = path_within left s xs ys l l' r r' n rest h.2 after (subst (λ (x : Terms). LeadsBySteps table c known left x ys l' r') result g.2) none end in
+      let found = path_within left s xs ys l l' r r' n rest h.2 after (subst (λ (x : Summands). LeadsBySteps table c known left x ys l' r') result g.2) none end in
       subst (λ (x : ChainStep). IsAhead (line_of (cuts f s) ∷ map line_of xs) n (line_of x ∷ map line_of ys ++ End ∷ rest)) (ap₂ cuts (sym factor) (sym result))
       (ahead_behind (line_of (cuts f s) ∷ []) (map line_of xs) n (map line_of ys ++ End ∷ rest) found)

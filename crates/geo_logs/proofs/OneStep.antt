@@ -10,7 +10,7 @@ use Rattle.ring_laws.proofs.Quotients.{cancel_factor}
 use Rattle.geo_poly.specs.declared.variables.Var.{Var}
 use Rattle.geo_poly.specs.declared.variables.Var.TheVariants.{R, S, P, X, Y, T}
 use Rattle.geo_poly.specs.Monomials.{Powers, IsMonomial, exponent, exponents, product}
-use Rattle.geo_poly.specs.Polynomials.{Terms, multiples}
+use Rattle.geo_poly.specs.Polynomials.{Summands, multiples}
 use Rattle.geo_poly.specs.Variables.{var_cmp}
 use Rattle.geo_poly.proofs.FactorDivision.{factor_unique}
 use Rattle.geo_poly.proofs.FactorLaws.{multiples-product}
@@ -36,10 +36,10 @@ same_monomial k m n h g e =
     same_list var_cmp exponents var_order exponents_add m n h.in_order g.in_order
     (λ v. let both : exponent v (product k m) ≡ exponent v (product k n) = ap (exponent v) e in omega (arith, both, exponent-product v k m, exponent-product v k n))
 
-none_of_some : (t : Powers × ℤ) (ts : Terms) → [] ≡ t ∷ ts → ⊥
+none_of_some : (t : Powers × ℤ) (ts : Summands) → [] ≡ t ∷ ts → ⊥
 none_of_some t ts e = let n : ◌≡◌ {A = ℕ} 0 (length (t ∷ ts)) = ap length e in omega (arith, n)
 
-same_terms : (f : Powers × ℤ) (r s : Terms) → (unsigned_abs f.1 ≡ 0 → ⊥) → AllKeys IsMonomial r → AllKeys IsMonomial s → multiples f r ≡ multiples f s → r ≡ s
+same_terms : (f : Powers × ℤ) (r s : Summands) → (unsigned_abs f.1 ≡ 0 → ⊥) → AllKeys IsMonomial r → AllKeys IsMonomial s → multiples f r ≡ multiples f s → r ≡ s
 same_terms f [] [] nonzero g h e = refl
 same_terms f [] (u ∷ us) nonzero g h e = absurd (none_of_some _ _ e)
 same_terms f (t ∷ ts) [] nonzero g h e = absurd (none_of_some _ _ (sym e))
@@ -48,20 +48,20 @@ same_terms f (t ∷ ts) (u ∷ us) nonzero g h e =
     let rest : multiples f ts ≡ multiples f us = cc in
     let monomial : t.0 ≡ u.0 = same_monomial f.0 t.0 u.0 g.0 h.0 (ap (λ x. x.0) first) in
     let number : t.1 ≡ u.1 = same_quotient f.1 t.1 u.1 nonzero (ap (λ x. x.1) first) in
-    ap₂ (λ (x : Powers × ℤ) (xs : Terms). x ∷ xs) (λ i. (monomial i, number i)) (same_terms f ts us nonzero g.1 h.1 rest)
+    ap₂ (λ (x : Powers × ℤ) (xs : Summands). x ∷ xs) (λ i. (monomial i, number i)) (same_terms f ts us nonzero g.1 h.1 rest)
 
 -- a cut has one result
-pub one_cut : (known : List Var) (f : Powers × ℤ) (q r s : Terms) → IsCut known f q r → IsCut known f q s → r ≡ s
+pub one_cut : (known : List Var) (f : Powers × ℤ) (q r s : Summands) → IsCut known f q r → IsCut known f q s → r ≡ s
 one_cut known f q r s h k =
     same_terms f r s h.factor.nonzero h.polynomial.monomials k.polynomial.monomials
     (multiples-product f r h.factor.nonzero h.polynomial.monomials h.polynomial.in_order ∙ h.exact ∙ sym k.exact
     ∙ sym (multiples-product f s h.factor.nonzero k.polynomial.monomials k.polynomial.in_order))
 
 -- a cut is due, or none
-pub no_cut : (known : List Var) (q : Terms) (f : Powers × ℤ) → NoCutDue known q → IsCutDue known q f → ⊥
+pub no_cut : (known : List Var) (q : Summands) (f : Powers × ℤ) → NoCutDue known q → IsCutDue known q f → ⊥
 no_cut known q f none due = due.divides (factor_unique known q f ([], pos 1) due.factor (none due.nonzero))
 
-pub one_factor : (known : List Var) (q : Terms) (f g : Powers × ℤ) → IsCutDue known q f → IsCutDue known q g → f ≡ g
+pub one_factor : (known : List Var) (q : Summands) (f g : Powers × ℤ) → IsCutDue known q f → IsCutDue known q g → f ≡ g
 one_factor known q f g h k = factor_unique known q f g h.factor k.factor
 
 -- AN END HAS NO NEXT MOVE
@@ -92,13 +92,13 @@ ratio_is_quantity (X a) h = absurd h
 ratio_is_quantity (Y a) h = absurd h
 ratio_is_quantity (T t) h = absurd h
 
-no_quantity : (q : Terms) (v : Var) → IsEnd q → Contains (variables_of q) v → IsQuantity v → ⊥
+no_quantity : (q : Summands) (v : Var) → IsEnd q → Contains (variables_of q) v → IsQuantity v → ⊥
 no_quantity q v end stands = no_plain_quantity v (each-contained IsPlain (variables_of q) v (each-variables IsPlain q end) stands)
 
-no_point : (q : Terms) (y : PointId) → IsEnd q → Occurs y q → ⊥
+no_point : (q : Summands) (y : PointId) → IsEnd q → Occurs y q → ⊥
 no_point q y end (k, v, lt, at, test) = no_quantity q v end (k, lt, at) (quantity_with_point y v test)
 
-pub no_move : (table : Table) (c : Construction) (q : Terms) (move : Move) → IsEnd q → IsNextMove table c q move → ⊥
+pub no_move : (table : Table) (c : Construction) (q : Summands) (move : Move) → IsEnd q → IsNextMove table c q move → ⊥
 no_move table c q (Ratio v lemma at) end (inl h) = no_point q h.0 end h.1.occurs
 no_move table c q (Ratio v lemma at) end (inr h) = no_quantity q v end h.1.stands (ratio_is_quantity v h.1.ratio)
 no_move table c q (Point y) end h = no_point q y end h.0.occurs
@@ -108,13 +108,13 @@ no_move table c q Coords end (free, none, (k, v, lt, at, quantity)) = no_quantit
 one_point : (y z : PointId) → y.0 ≡ z.0 → y ≡ z
 one_point y z e = let point : ℕ → PointId = λ k. record { 0 = k } in ap point e
 
-one_highest : (c : Construction) (y z : PointId) (q : Terms) → IsHighest c y q → IsHighest c z q → y ≡ z
+one_highest : (c : Construction) (y z : PointId) (q : Summands) → IsHighest c y q → IsHighest c z q → y ≡ z
 one_highest c y z q h k = one_point y z (omega (arith, h.highest z k.constructed k.occurs, k.highest y h.constructed h.occurs))
 
-not_both_free : {A : Type 0} (c : Construction) (y : PointId) (q : Terms) → IsHighest c y q → HasFreePointsAlone c q → A
+not_both_free : {A : Type 0} (c : Construction) (y : PointId) (q : Summands) → IsHighest c y q → HasFreePointsAlone c q → A
 not_both_free c y q h free = absurd (free y h.constructed h.occurs)
 
-one_first : (Fits : Var → Type 0) (q : Terms) (v w : Var) → IsFirstRatio Fits q v → IsFirstRatio Fits q w → v ≡ w
+one_first : (Fits : Var → Type 0) (q : Summands) (v w : Var) → IsFirstRatio Fits q v → IsFirstRatio Fits q w → v ≡ w
 one_first Fits q v w h k = go (var_cmp v w) refl
   where
     go : (o : Ordering) → var_cmp v w ≡ o → v ≡ w
@@ -125,7 +125,7 @@ one_first Fits q v w h k = go (var_cmp v w) refl
 same_ratio_move : (v w : Var) (l m : ℕ) (a b : PointId) → v ≡ w → l ≡ m → a ≡ b → Ratio v l a ≡ Ratio w m b
 same_ratio_move v w l m a b p q r = ap₂ (λ (x : Var) (f : ℕ × PointId). Ratio x f.0 f.1) p (λ i. (q i, r i))
 
-pub one_move : (table : Table) (c : Construction) (q : Terms) (m n : Move) → IsNextMove table c q m → IsNextMove table c q n → m ≡ n
+pub one_move : (table : Table) (c : Construction) (q : Summands) (m n : Move) → IsNextMove table c q m → IsNextMove table c q n → m ≡ n
 one_move table c q (Ratio v l a) (Ratio w k b) (inl h) (inl g) =
     let point : h.0 ≡ g.0 = one_highest c h.0 g.0 q h.1 g.1 in
     let first : IsFirstRatio (λ u. IsTrue (has_point h.0 u)) q w = subst (λ (y : PointId). IsFirstRatio (λ u. IsTrue (has_point y u)) q w) (sym point) g.2 in
@@ -154,5 +154,5 @@ one_move table c q Coords (Point z) h g = not_both_free c z q g.0 h.0
 one_move table c q Coords Coords h g = refl
 
 -- a move has one result
-pub one_result : (table : Table) (c : Construction) (left : ℕ) (q r s : Terms) (move : Move) → IsMoved (replacement table c move q) left q r → IsMoved (replacement table c move q) left q s → r ≡ s
+pub one_result : (table : Table) (c : Construction) (left : ℕ) (q r s : Summands) (move : Move) → IsMoved (replacement table c move q) left q r → IsMoved (replacement table c move q) left q s → r ≡ s
 one_result table c left q r s move h g = h.result ∙ sym g.result

@@ -17,7 +17,7 @@ use Rattle.ring_laws.proofs.Fractions.{fractions}
 use Rattle.geo_poly.specs.declared.variables.Var.{Var}
 use Rattle.geo_poly.specs.declared.variables.Var.TheVariants.{R, S, P, X, Y, T}
 use Rattle.geo_poly.specs.Monomials.{Powers, exponent}
-use Rattle.geo_poly.specs.Polynomials.{IsPolynomial, Terms}
+use Rattle.geo_poly.specs.Polynomials.{IsPolynomial, Summands}
 use Rattle.geo_poly.specs.Specialise.{IsCollected, NoneZero, degree_in, specialised}
 use Rattle.geo_poly.specs.Variables.{var_cmp}
 use Rattle.geo_poly.proofs.Orders.{var_order}
@@ -69,7 +69,7 @@ module _ (x : Var → Fraction) (y : Var → ℤ) where
   whole-monomial (p ∷ m) h =
       products (whole-power (x p.0) (y p.0) p.1 h.0) (whole-monomial m h.1) ∘ whole-times (power integers (y p.0) p.1) (monomial_value integers y m)
 
-  whole-value : (q : Terms) → AllVariables IsWhole q → Same (value fractions x q) (whole (value integers y q))
+  whole-value : (q : Summands) → AllVariables IsWhole q → Same (value fractions x q) (whole (value integers y q))
   whole-value [] h = self
   whole-value (t ∷ ts) h =
       sums (products (whole-integer t.1) (whole-monomial t.0 h.0) ∘ whole-times (integer integers t.1) (monomial_value integers y t.0)) (whole-value ts h.1)
@@ -89,7 +89,7 @@ All-from_map : {A B : Type 0} (Holds : B → Type 0) (f : A → B) (xs : List A)
 All-from_map Holds f [] h = All-nil (λ x. Holds (f x))
 All-from_map Holds f (x ∷ xs) h = All-cons (λ x. Holds (f x)) x xs (All-head Holds (f x) (map f xs) h) (All-from_map Holds f xs (All-tail Holds (f x) (map f xs) h))
 
-of-any : (Holds : Var → Type 0) → ((v : Var) → Holds v) → (q : Terms) → AllVariables Holds q
+of-any : (Holds : Var → Type 0) → ((v : Var) → Holds v) → (q : Summands) → AllVariables Holds q
 of-any Holds each [] = tt
 of-any Holds each (t ∷ ts) = (powers t.0, of-any Holds each ts)
   where
@@ -98,12 +98,12 @@ of-any Holds each (t ∷ ts) = (powers t.0, of-any Holds each ts)
     powers (p ∷ m) = (each p.0, powers m)
 
 -- the polynomial is not 0 with all values put in
-abbrev pub IsNonzeroAt : List (Var × ℤ) → Terms → Type 0
+abbrev pub IsNonzeroAt : List (Var × ℤ) → Summands → Type 0
 IsNonzeroAt values q = NoneZero (specialised_by values (q ∷ []))
 
-pub each_nonzero : (values : List (Var × ℤ)) (listed : List Terms) → NoneZero (specialised_by values listed) → All (IsNonzeroAt values) listed
+pub each_nonzero : (values : List (Var × ℤ)) (listed : List Summands) → NoneZero (specialised_by values listed) → All (IsNonzeroAt values) listed
 each_nonzero [] listed h =
-    All-weaker (λ (q : Terms). (q ≡ []) → ⊥) (IsNonzeroAt []) (λ q some. All-cons (λ (p : Terms). (p ≡ []) → ⊥) q [] some (All-nil (λ (p : Terms). (p ≡ []) → ⊥))) listed h
+    All-weaker (λ (q : Summands). (q ≡ []) → ⊥) (IsNonzeroAt []) (λ q some. All-cons (λ (p : Summands). (p ≡ []) → ⊥) q [] some (All-nil (λ (p : Summands). (p ≡ []) → ⊥))) listed h
 each_nonzero (value ∷ values) listed h =
     All-from_map (IsNonzeroAt values) (specialised value.0 value.1) listed (each_nonzero values (all_specialised value.0 value.1 listed) h)
 
@@ -120,16 +120,16 @@ module _ (v : Var) (vs : List Var) (lacks : Contains vs v → ⊥) where
   lacking_powers [] h = omega arith
   lacking_powers (p ∷ m) h = lacking_power p m h.0 (lacking_powers m h.1)
 
-  lacking_terms : (q : Terms) → AllVariables (λ w. Contains vs w) q → AllKeys (λ m. exponent v m ≤ 0) q
+  lacking_terms : (q : Summands) → AllVariables (λ w. Contains vs w) q → AllKeys (λ m. exponent v m ≤ 0) q
   lacking_terms [] h = tt
   lacking_terms (t ∷ ts) h = (lacking_powers t.0 h.0, lacking_terms ts h.1)
 
-  lacking : (q : Terms) → AllVariables (λ w. Contains vs w) q → degree_in v q ≡ 0
+  lacking : (q : Summands) → AllVariables (λ w. Contains vs w) q → degree_in v q ≡ 0
   lacking q h = let le : degree_in v q ≤ 0 = degree_in-from_keys v 0 q (lacking_terms q h) in omega (arith, le)
 
 -- an end that is not 0 at a sample is not 0 in a placement with its values
 pub end_apart : (placed : Placement) (c : Construction) (n : ℕ) (values : List (Var × ℤ)) → map (λ v. v.0) values ≡ sample_variables c → HasValuesBelow placed c n values
-    → (e : Terms) → IsPolynomial e → IsEnd e → AllVariables (IsNamed c n) e → IsNonzeroAt values e → IsApart (at_placement placed e)
+    → (e : Summands) → IsPolynomial e → IsEnd e → AllVariables (IsNamed c n) e → IsNonzeroAt values e → IsApart (at_placement placed e)
 end_apart placed c n values ordered h e valid plain named some z =
     let at_sample : Var → Fraction = λ v. whole (value_in values v) in
     let here : Same (at_placement placed e) (whole (value integers (value_in values) e)) =
@@ -139,7 +139,7 @@ end_apart placed c n values ordered h e valid plain named some z =
     subst (λ (vs : List Var). AllVariables (λ v. Contains vs v) e) (sym ordered) (of-both IsPlain (IsNamed c n) (λ v. Contains (sample_variables c) v) (plain_contained c n) e plain named) in
     let apart_there = not_zero values (e ∷ []) at_sample
     (All-cons IsCollected e [] (record { in_order = valid.in_order; monomials = valid.monomials }) (All-nil IsCollected))
-    (All-cons (λ (q : Terms). (v : Var) → (Contains (map (λ (y : Var × ℤ). y.0) values) v → ⊥) → degree_in v q ≡ 0) e [] (λ v lacks. lacking v (map (λ (y : Var × ℤ). y.0) values) lacks e contained)
-    (All-nil (λ (q : Terms). (v : Var) → (Contains (map (λ (y : Var × ℤ). y.0) values) v → ⊥) → degree_in v q ≡ 0)))
+    (All-cons (λ (q : Summands). (v : Var) → (Contains (map (λ (y : Var × ℤ). y.0) values) v → ⊥) → degree_in v q ≡ 0) e [] (λ v lacks. lacking v (map (λ (y : Var × ℤ). y.0) values) lacks e contained)
+    (All-nil (λ (q : Summands). (v : Var) → (Contains (map (λ (y : Var × ℤ). y.0) values) v → ⊥) → degree_in v q ≡ 0)))
     some (own_values values (subst IsDistinct (sym ordered) (sample_distinct c))) in
-    apart (value fractions at_sample e) (All-head (λ (q : Terms). IsNonzero (value fractions at_sample q)) e [] apart_there) (there ∘ flip here ∘ z)
+    apart (value fractions at_sample e) (All-head (λ (q : Summands). IsNonzero (value fractions at_sample q)) e [] apart_there) (there ∘ flip here ∘ z)

@@ -7,7 +7,7 @@ use Rattle.geo_poly.specs.declared.variables.Var.{Var}
 use Rattle.geo_poly.specs.declared.variables.Var.TheVariants.{R, P, T}
 use Rattle.geo_poly.specs.Canonical.{canonical_difference, canonical_ratio, higher, is_point, is_same_pair, lower, pair_sign, permutation_sign, signed_variable, sorted_area, sorted_difference}
 use Rattle.geo_poly.proofs.CanonicalRatios.{canonical_ratio-defined}
-use Rattle.geo_poly.specs.Polynomials.{Terms, constant_of, difference_of, negated, product_of, sum_of}
+use Rattle.geo_poly.specs.Polynomials.{Summands, constant_of, difference_of, negated, product_of, sum_of}
 use Rattle.geo_terms.specs.Constructions.{Construction}
 use Rattle.geo_terms.specs.Trees.{Tree, integer_leaf, parameter_leaf, area_leaf, pythagoras_leaf, ratio_leaf, negation, addition, subtraction, multiplication, division}
 use Rattle.geo_terms.specs.Values.{HasTreeValue}
@@ -21,14 +21,14 @@ use Rattle.geo_poly.specs.PolynomialVariables.{AllVariables}
 use Rattle.geo_poly.proofs.EachVariable.{of-append, of-polynomial_of, of-product_of}
 
 module _ (Holds : Var → Type 0) where
-  pub of-sum_of : (p q : Terms) → AllVariables Holds p → AllVariables Holds q → AllVariables Holds (sum_of p q)
+  pub of-sum_of : (p q : Summands) → AllVariables Holds p → AllVariables Holds q → AllVariables Holds (sum_of p q)
   of-sum_of p q h g = of-polynomial_of Holds (p ++ q) (of-append Holds p q h g)
 
-  pub of-negated : (p : Terms) → AllVariables Holds p → AllVariables Holds (negated p)
+  pub of-negated : (p : Summands) → AllVariables Holds p → AllVariables Holds (negated p)
   of-negated [] h = tt
   of-negated (t ∷ ts) h = (h.0, of-negated ts h.1)
 
-  pub of-difference_of : (p q : Terms) → AllVariables Holds p → AllVariables Holds q → AllVariables Holds (difference_of p q)
+  pub of-difference_of : (p q : Summands) → AllVariables Holds p → AllVariables Holds q → AllVariables Holds (difference_of p q)
   of-difference_of p q h g = of-sum_of p (negated q) h (of-negated q g)
 
   pub of-constant_of : (z : ℤ) → AllVariables Holds (constant_of z)
@@ -75,7 +75,7 @@ module _ (Holds : Var → Type 0) where
   OfLeaves (multiplication e f) = OfLeaves e × OfLeaves f
   OfLeaves (division e f) = OfLeaves e × OfLeaves f
 
-  abbrev OfBoth : Terms × Terms → Type 0
+  abbrev OfBoth : Summands × Summands → Type 0
   OfBoth f = AllVariables Holds f.0 × AllVariables Holds f.1
 
   pub of-term : (e : Tree) → OfLeaves e → OfBoth (multiplied_out e)

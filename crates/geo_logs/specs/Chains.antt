@@ -4,7 +4,7 @@ use Rattle.geo_poly.specs.declared.variables.Var.{Var}
 use Rattle.geo_poly.specs.Cuts.{IsCut}
 use Rattle.geo_logs.specs.Starts.{IsStarted, start_charge, start_of}
 use Rattle.geo_poly.specs.Monomials.{Powers}
-use Rattle.geo_poly.specs.Polynomials.{Terms}
+use Rattle.geo_poly.specs.Polynomials.{Summands}
 use Rattle.geo_terms.specs.Constructions.{Construction}
 use Rattle.geo_terms.specs.Trees.{Tree}
 use Rattle.proof_log.specs.declared.log.Line.{Line}
@@ -17,12 +17,12 @@ use Rattle.geo_poly.specs.PolynomialVariables.{AllVariables, IsPlain}
 -- THE STEPS OF A CHAIN
 -- a move or a cut, with the polynomial after it
 pub data ChainStep : Type 0 where
-  moves : Move → Terms → ChainStep
-  cuts : Powers × ℤ → Terms → ChainStep
+  moves : Move → Summands → ChainStep
+  cuts : Powers × ℤ → Summands → ChainStep
 
 -- the steps lead from q to e: moves and cuts in any order with their exact results, none past its limits, with so many steps left at first
 -- and at last
-abbrev pub LeadsTo : Table → Construction → List Var → ℕ → Terms → List ChainStep → ℕ → Terms → Type 0
+abbrev pub LeadsTo : Table → Construction → List Var → ℕ → Summands → List ChainStep → ℕ → Summands → Type 0
 LeadsTo table c known left q [] left' e = (left ≡ left') × (q ≡ e)
 LeadsTo table c known left q (moves move r ∷ steps) left' e =
     IsMoved (replacement table c move q) left q r
@@ -30,13 +30,13 @@ LeadsTo table c known left q (moves move r ∷ steps) left' e =
 LeadsTo table c known left q (cuts f r ∷ steps) left' e = IsCut known f q r × LeadsTo table c known left r steps left' e
 
 -- no quantity of points is left
-abbrev pub IsEnd : Terms → Type 0
+abbrev pub IsEnd : Summands → Type 0
 IsEnd q = AllVariables IsPlain q
 
 -- a chain: its steps and the polynomial at its end
 pub record Chain : Type 0 where
   pub steps : List ChainStep
-  pub end : Terms
+  pub end : Summands
 
 -- the chain is one of the term: the right start, moves and cuts in any order, an end
 pub record IsAcceptedChain (table : Table) (c : Construction) (known : List Var) (left : ℕ) (e : Tree) (chain : Chain) (left' : ℕ)

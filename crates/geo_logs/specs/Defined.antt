@@ -6,7 +6,7 @@ use Rattle.geo_poly.specs.declared.variables.Var.{Var}
 use Rattle.geo_poly.specs.declared.variables.Var.TheVariants.{R, S, P}
 use Rattle.geo_poly.specs.Factors.{IsFactorOf}
 use Rattle.geo_poly.specs.Monomials.{Powers}
-use Rattle.geo_poly.specs.Polynomials.{Terms}
+use Rattle.geo_poly.specs.Polynomials.{Summands}
 use Rattle.geo_poly.specs.Variables.{var_cmp}
 use Rattle.geo_terms.specs.declared.steps.Step.{Step}
 use Rattle.geo_terms.specs.declared.steps.Step.TheVariants.{Point as FreeStep}
@@ -37,7 +37,7 @@ has_point y (P a b c) = is_point a y || is_point b y || is_point c y
 has_point y _ = false
 
 -- some quantity of q has the point y
-abbrev pub Occurs : PointId → Terms → Type 0
+abbrev pub Occurs : PointId → Summands → Type 0
 Occurs y q = Any (λ v. IsTrue (has_point y v)) (variables_of q)
 
 -- a step makes y, and not as a free point
@@ -47,28 +47,28 @@ pub record IsConstructed (c : Construction) (y : PointId) : Type 0 where
   pub not_free : step ≢ FreeStep
 
 -- y is the constructed point of the highest number in the quantities of q
-pub record IsHighest (c : Construction) (y : PointId) (q : Terms) : Type 0 where
+pub record IsHighest (c : Construction) (y : PointId) (q : Summands) : Type 0 where
   pub constructed : IsConstructed c y
   pub occurs : Occurs y q
   pub highest : (z : PointId) → IsConstructed c z → Occurs z q → z.0 ≤ y.0
 
 -- no constructed point is in the quantities of q
-abbrev pub HasFreePointsAlone : Construction → Terms → Type 0
+abbrev pub HasFreePointsAlone : Construction → Summands → Type 0
 HasFreePointsAlone c q = (y : PointId) → IsConstructed c y → Occurs y q → ⊥
 
 -- v is the first ratio of q with this property, in the order of variables
-pub record IsFirstRatio (Fits : Var → Type 0) (q : Terms) (v : Var) : Type 0 where
+pub record IsFirstRatio (Fits : Var → Type 0) (q : Summands) (v : Var) : Type 0 where
   pub stands : Contains (variables_of q) v
   pub ratio : IsRatio v
   pub fits : Fits v
   pub first : (w : Var) → Contains (variables_of q) w → IsRatio w → Fits w → var_cmp w v ≢ Less
 
 -- no ratio of q has the point y
-abbrev pub HasNoRatioWith : PointId → Terms → Type 0
+abbrev pub HasNoRatioWith : PointId → Summands → Type 0
 HasNoRatioWith y q = (v : Var) → Contains (variables_of q) v → IsRatio v → IsTrue (has_point y v) → ⊥
 
 -- q has no ratio
-abbrev pub HasNoRatio : Terms → Type 0
+abbrev pub HasNoRatio : Summands → Type 0
 HasNoRatio q = (v : Var) → Contains (variables_of q) v → IsRatio v → ⊥
 
 -- the point that a move names for a lemma: lemma 0 looks at none, and then it is point 0
@@ -78,7 +78,7 @@ named_point (suc k) y = y
 
 -- the one move that the prover makes on q: the highest constructed point goes, ratio by ratio, and then all its areas and Pythagoras
 -- differences; without constructed points the ratios go, and then the rest
-abbrev pub IsNextMove : Table → Construction → Terms → Move → Type 0
+abbrev pub IsNextMove : Table → Construction → Summands → Move → Type 0
 IsNextMove table c q (Ratio v lemma at) =
     ((y : PointId) × IsHighest c y q × IsFirstRatio (λ w. IsTrue (has_point y w)) q v × (lemma ≡ table.first_lemma c y v)
     × (at ≡ named_point lemma y))
@@ -88,17 +88,17 @@ IsNextMove table c q Coords = HasFreePointsAlone c q × HasNoRatio q × Any IsQu
 
 -- CHAINS
 -- no cut is due: q is 0, or its factor is 1
-abbrev pub NoCutDue : List Var → Terms → Type 0
+abbrev pub NoCutDue : List Var → Summands → Type 0
 NoCutDue known q = q ≢ [] → IsFactorOf known q ([], pos 1)
 
 -- the cut by f is due
-pub record IsCutDue (known : List Var) (q : Terms) (f : Powers × ℤ) : Type 0 where
+pub record IsCutDue (known : List Var) (q : Summands) (f : Powers × ℤ) : Type 0 where
   pub nonzero : q ≢ []
   pub factor : IsFactorOf known q f
   pub divides : f ≢ ([], pos 1)
 
 -- the prover's steps lead from q to e: a cut where one is due, else the next move
-abbrev pub LeadsBySteps : Table → Construction → List Var → ℕ → Terms → List ChainStep → ℕ → Terms → Type 0
+abbrev pub LeadsBySteps : Table → Construction → List Var → ℕ → Summands → List ChainStep → ℕ → Summands → Type 0
 LeadsBySteps table c known left q [] left' e = (left ≡ left') × (q ≡ e)
 LeadsBySteps table c known left q (moves move r ∷ steps) left' e =
     NoCutDue known q × IsNextMove table c q move × IsMoved (replacement table c move q) left q r

@@ -1,7 +1,7 @@
 -- The prover's log with its end: a verdict, or the first line at which a stop is due.
 use Rattle.std.specs.Prelude.{◌≡◌, ℕ, suc, ◌<◌, ◌≤◌, ◌⊎◌, ℤ, List, [], ◌∷◌, ◌++◌, length}
 use Rattle.geo_poly.specs.declared.variables.Var.{Var}
-use Rattle.geo_poly.specs.Polynomials.{Terms}
+use Rattle.geo_poly.specs.Polynomials.{Summands}
 use Rattle.geo_terms.specs.Constructions.{Construction}
 use Rattle.geo_terms.specs.Trees.{Tree}
 use Rattle.proof_log.specs.declared.log.Line.{Line}
@@ -29,15 +29,15 @@ IsAfterHeader left e (comes line) = (line ≡ Start (start_of e)) × IsStarted l
 IsAfterHeader left e (stops stop) = IsStartStopped left e stop
 
 -- what comes in a chain after the polynomial q
-abbrev pub IsAfterPolynomial : Table → Construction → List Var → ℕ → Terms → Next → Type 0
+abbrev pub IsAfterPolynomial : Table → Construction → List Var → ℕ → Summands → Next → Type 0
 IsAfterPolynomial table c known left q (comes line) =
-    ((step : ChainStep) × (left' : ℕ) × (r : Terms) × LeadsBySteps table c known left q (step ∷ []) left' r × (line ≡ line_of step))
+    ((step : ChainStep) × (left' : ℕ) × (r : Summands) × LeadsBySteps table c known left q (step ∷ []) left' r × (line ≡ line_of step))
     ⊎ (NoCutDue known q × IsEnd q × (line ≡ End))
 IsAfterPolynomial table c known left q (stops stop) =
     (move : Move) × NoCutDue known q × IsNextMove table c q move × IsMoveStopped (replacement table c move q) left q stop
 
 -- what comes where the sample is due
-abbrev pub IsAtSample : Construction → List Terms → ℕ → Next → Type 0
+abbrev pub IsAtSample : Construction → List Summands → ℕ → Next → Type 0
 IsAtSample c listed left (comes line) =
     (values : List (Var × ℤ)) × (left' : ℕ) × IsLeastSample c listed left values left' × (line ≡ Sample values)
 IsAtSample c listed left (stops stop) = IsSearchStopped c listed left stop

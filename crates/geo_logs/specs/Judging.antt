@@ -3,7 +3,7 @@ use Rattle.std.specs.Prelude.{◌≡◌, ◌≢◌, ℕ, suc, ◌+◌, ◌⊎◌
 use Rattle.sparse_lists.specs.SparseLists.{AllKeys}
 use Rattle.geo_poly.specs.declared.variables.Var.{Var}
 use Rattle.geo_poly.specs.Monomials.{Powers}
-use Rattle.geo_poly.specs.Polynomials.{Terms, IsPolynomial, product_of}
+use Rattle.geo_poly.specs.Polynomials.{Summands, IsPolynomial, product_of}
 use Rattle.geo_poly.specs.Replace.{replaced_by}
 use Rattle.geo_poly.specs.Specialise.{NoneZero}
 use Rattle.geo_sample.specs.Samples.{specialised_by}
@@ -102,7 +102,7 @@ IsOtherLine due line (rejected wrong_verdict) = (kind_of due ≡ verdict_kind) �
 IsOtherLine due line _ = ⊥
 
 -- a move: nothing is replaced; else it is stopped; else the result is another one
-abbrev pub IsMoveRefused : Table → Construction → ℕ → Terms → Move → Terms → Refusal → Type 0
+abbrev pub IsMoveRefused : Table → Construction → ℕ → Summands → Move → Summands → Refusal → Type 0
 IsMoveRefused table c left q move r (rejected no_row) = (replacement table c move q).rows ≡ []
 IsMoveRefused table c left q move r (stopped stop) =
     ((replacement table c move q).rows ≢ []) × IsMoveStopped (replacement table c move q) left q stop
@@ -116,21 +116,21 @@ abbrev pub IsByKnown : List Var → Powers → Type 0
 IsByKnown known m = AllKeys (λ v. Contains known v) m
 
 -- a cut: by a variable that is not known, or with a rest; else the quotient is another one
-abbrev pub IsCutRefused : List Var → Terms → Powers × ℤ → Terms → Refusal → Type 0
-IsCutRefused known q f r (rejected wrong_cut) = (IsByKnown known f.0 → ⊥) ⊎ ((s : Terms) → IsPolynomial s → product_of (f ∷ []) s ≢ q)
+abbrev pub IsCutRefused : List Var → Summands → Powers × ℤ → Summands → Refusal → Type 0
+IsCutRefused known q f r (rejected wrong_cut) = (IsByKnown known f.0 → ⊥) ⊎ ((s : Summands) → IsPolynomial s → product_of (f ∷ []) s ≢ q)
 IsCutRefused known q f r (rejected wrong_polynomial) =
-    IsByKnown known f.0 × ((s : Terms) × IsPolynomial s × (product_of (f ∷ []) s ≡ q) × (r ≢ s))
+    IsByKnown known f.0 × ((s : Summands) × IsPolynomial s × (product_of (f ∷ []) s ≡ q) × (r ≢ s))
 IsCutRefused known q f r _ = ⊥
 
 -- a line inside a chain, after the polynomial q
-abbrev pub IsInnerRefused : Table → Construction → List Var → ℕ → Terms → Line → Refusal → Type 0
+abbrev pub IsInnerRefused : Table → Construction → List Var → ℕ → Summands → Line → Refusal → Type 0
 IsInnerRefused table c known left q End refusal = (refusal ≡ rejected not_ended) × (IsEnd q → ⊥)
 IsInnerRefused table c known left q (Cut f r) refusal = IsCutRefused known q f r refusal
 IsInnerRefused table c known left q line refusal =
-    (move : Move) × (r : Terms) × (line ≡ line_of (moves move r)) × IsMoveRefused table c left q move r refusal
+    (move : Move) × (r : Summands) × (line ≡ line_of (moves move r)) × IsMoveRefused table c left q move r refusal
 
 -- a sample: other variables, or in another order; else a try is stopped; else a listed polynomial is 0
-abbrev pub IsSampleRefused : Construction → List Terms → ℕ → List (Var × ℤ) → Refusal → Type 0
+abbrev pub IsSampleRefused : Construction → List Summands → ℕ → List (Var × ℤ) → Refusal → Type 0
 IsSampleRefused c listed left values (rejected wrong_sample) =
     (map (λ v. v.0) values ≢ sample_variables c)
     ⊎ ((map (λ v. v.0) values ≡ sample_variables c) × ((left' : ℕ) × AreMade left (single_tries values listed) left')

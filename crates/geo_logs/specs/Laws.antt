@@ -3,7 +3,7 @@ use Rattle.std.specs.Prelude.{◌≡◌, ℕ, suc, ◌^◌, ◌<◌, ◌≤◌, 
 use Rattle.ring_laws.specs.Fraction.{Same, IsNonzero, whole}
 use Rattle.geo_points.specs.Placements.{Placement}
 use Rattle.geo_poly.specs.declared.variables.Var.{Var}
-use Rattle.geo_poly.specs.Polynomials.{Terms}
+use Rattle.geo_poly.specs.Polynomials.{Summands}
 use Rattle.geo_terms.specs.Constructions.{Construction, MeetsSteps}
 use Rattle.geo_terms.specs.Values.{HasTreeValue, tree_value}
 use Rattle.proof_log.specs.declared.log.Line.{Line}
@@ -58,7 +58,7 @@ LookBelow n (cuts f r ∷ steps) = LookBelow n steps
 -- ends with such points alone
 abbrev pub ChainsNameNoLater : Type 0
 ChainsNameNoLater =
-    (table : Table) (c : Construction) (known : List Var) (n left : ℕ) (q : Terms) (steps : List ChainStep) (left' : ℕ) (e : Terms)
+    (table : Table) (c : Construction) (known : List Var) (n left : ℕ) (q : Summands) (steps : List ChainStep) (left' : ℕ) (e : Summands)
     → IsSoundTable table c → AllVariables (IsNamed c n) q → LeadsTo table c known left q steps left' e
     → LookBelow n steps × AllVariables (IsNamed c n) e
 

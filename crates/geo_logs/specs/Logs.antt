@@ -3,7 +3,7 @@ use Rattle.std.specs.Prelude.{◌≡◌, ◌≢◌, ℕ, suc, ◌==◌, ◌⊎�
 use Rattle.std.specs.List.{filter_map}
 use Rattle.geo_poly.specs.declared.variables.Var.{Var}
 use Rattle.geo_poly.specs.Monomials.{Powers}
-use Rattle.geo_poly.specs.Polynomials.{Terms}
+use Rattle.geo_poly.specs.Polynomials.{Summands}
 use Rattle.geo_terms.specs.Constructions.{Construction}
 use Rattle.geo_terms.specs.Trees.{Tree}
 use Rattle.proof_log.specs.declared.log.Line.{Line}
@@ -36,7 +36,7 @@ sole_variable (p ∷ []) = cond (p.1 == 1) (Some p.0) None
 sole_variable (p ∷ r ∷ m) = None
 
 -- the variable of which a polynomial is a multiple by a number
-abbrev pub only_variable : Terms → Option Var
+abbrev pub only_variable : Summands → Option Var
 only_variable [] = None
 only_variable (t ∷ []) = sole_variable t.0
 only_variable (t ∷ u ∷ ts) = None
@@ -52,7 +52,7 @@ Chains = List Var → ℕ → Tree → Chain → ℕ → Type 0
 
 -- which samples for the listed polynomials may stand, with so many steps left before and after
 abbrev pub Samples : Type 1
-Samples = List Terms → ℕ → List (Var × ℤ) → ℕ → Type 0
+Samples = List Summands → ℕ → List (Var × ℤ) → ℕ → Type 0
 
 module _ (Works : Chains) (IsChosen : Samples) where
   -- the lines begin with the chain of the item
@@ -64,13 +64,13 @@ module _ (Works : Chains) (IsChosen : Samples) where
     pub works : Works known left item.term chain after
 
   -- the lines are a sample for the listed polynomials, and the verdict
-  pub record IsConcluded (listed : List Terms) (left : ℕ) (lines : List Line) (verdict : Verdict) (left' : ℕ) : Type 0 where
+  pub record IsConcluded (listed : List Summands) (left : ℕ) (lines : List Line) (verdict : Verdict) (left' : ℕ) : Type 0 where
     pub values : List (Var × ℤ)
     pub chosen : IsChosen listed left values left'
     pub split : lines ≡ Sample values ∷ VerdictLine verdict ∷ []
 
   -- the chains of the goals from number k on, up to and with the first that does not end in 0, and the end of the log
-  abbrev pub AreGoalsWorked : List Var → List Terms → ℕ → ℕ → List Item → List Line → Verdict → ℕ → Type 0
+  abbrev pub AreGoalsWorked : List Var → List Summands → ℕ → ℕ → List Item → List Line → Verdict → ℕ → Type 0
   AreGoalsWorked known listed k left [] lines verdict left' = (verdict ≡ Proved) × IsConcluded listed left lines Proved left'
   AreGoalsWorked known listed k left (item ∷ items) lines verdict left' =
       (first : BeginsWithChain (Goal k item.text) known left item lines)
@@ -79,7 +79,7 @@ module _ (Works : Chains) (IsChosen : Samples) where
 
   -- the chains of the conditions from number k on, up to and with the first that ends in 0, and what follows; `known` and `listed` come
   -- from those before
-  abbrev pub AreConditionsWorked : List Item → List Var → List Terms → ℕ → ℕ → List Item → List Line → Verdict → ℕ → Type 0
+  abbrev pub AreConditionsWorked : List Item → List Var → List Summands → ℕ → ℕ → List Item → List Line → Verdict → ℕ → Type 0
   AreConditionsWorked goals known listed k left [] lines verdict left' = AreGoalsWorked known listed 1 left goals lines verdict left'
   AreConditionsWorked goals known listed k left (item ∷ items) lines verdict left' =
       (first : BeginsWithChain (Condition k item.text) known left item lines)

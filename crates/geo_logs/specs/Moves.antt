@@ -8,7 +8,7 @@ use Rattle.geo_poly.specs.declared.replacement.Piece.{Piece}
 use Rattle.geo_poly.specs.declared.replacement.Row.{Row}
 use Rattle.geo_poly.specs.declared.variables.Var.{Var}
 use Rattle.geo_poly.specs.Monomials.{Powers}
-use Rattle.geo_poly.specs.Polynomials.{Terms}
+use Rattle.geo_poly.specs.Polynomials.{Summands}
 use Rattle.geo_poly.specs.Replace.{row_of, denominators, most_denominators, replaced_by, replaced_weight, replaced_degree}
 use Rattle.geo_terms.specs.Constructions.{Construction}
 use Rattle.geo_logs.specs.declared.moves.Move.{Move}
@@ -49,8 +49,12 @@ place_of (Point at) = Some at
 place_of Coords = None
 
 -- what a move replaces in a polynomial: each of its variables that has a row
-abbrev pub replacement : Table → Construction → Move → Terms → Replacement
-replacement table c move q = record { rows = filter_map (table.row c move) (variables_of q); den = table.denominator c move; charge = table.charge c move }
+abbrev pub replacement : Table → Construction → Move → Summands → Replacement
+replacement table c move q = record {
+  rows = filter_map (table.row c move) (variables_of q);
+  den = table.denominator c move;
+  charge = table.charge c move;
+}
 
 -- THE CHARGE OF A MOVE
 -- k times the count of the numerator to the power e, where there is a row
@@ -80,14 +84,14 @@ term_charge made top m =
     (replaced_exponents made.rows m + lacking + 1) * count_rows made.rows m (made.den.count ^ lacking)
 
 -- the charge of the step's number, 4 times the counts of the numerators and of the denominator, and the charges of the terms
-abbrev pub move_charge : Replacement → Terms → ℕ
+abbrev pub move_charge : Replacement → Summands → ℕ
 move_charge made q =
     made.charge + 4 * (sum_by (λ r. r.num.count) made.rows + made.den.count)
     + sum_by (λ t. term_charge made (most_denominators made.rows q) t.0) q
 
 -- THE RESULT OF A MOVE
 -- the move replaces something in q, is within its limits with so many steps left, and has the result r
-pub record IsMoved (made : Replacement) (left : ℕ) (q r : Terms) : Type 0 where
+pub record IsMoved (made : Replacement) (left : ℕ) (q r : Summands) : Type 0 where
   pub replaces : made.rows ≢ []
   pub paid : move_charge made q ≤ left
   pub weight_fits : replaced_weight made.rows made.den q < 2 ^ 127
@@ -95,6 +99,6 @@ pub record IsMoved (made : Replacement) (left : ℕ) (q r : Terms) : Type 0 wher
   pub result : r ≡ replaced_by made.rows made.den.poly q
 
 -- the move is stopped: it is not paid; else its weight, and else its degree, passes its limit
-abbrev pub IsMoveStopped : Replacement → ℕ → Terms → Stop → Type 0
+abbrev pub IsMoveStopped : Replacement → ℕ → Summands → Stop → Type 0
 IsMoveStopped made left q =
     IsLineStopped left (move_charge made q) (replaced_weight made.rows made.den q) (replaced_degree made.rows made.den q)

@@ -1,7 +1,7 @@
 -- Where a log stands after some of its lines.
 use Rattle.std.specs.Prelude.{◌≡◌, ◌≢◌, ℕ, suc, ◌-◌, ◌⊎◌, ℤ, Some, List, [], ◌∷◌, ◌++◌, map, slice_get, take}
 use Rattle.geo_poly.specs.declared.variables.Var.{Var}
-use Rattle.geo_poly.specs.Polynomials.{Terms}
+use Rattle.geo_poly.specs.Polynomials.{Summands}
 use Rattle.geo_terms.specs.Trees.{Tree}
 use Rattle.proof_log.specs.declared.log.Line.{Line}
 use Rattle.proof_log.specs.declared.log.Line.TheVariants.{Header, Program as ProgramLine, Condition, Goal, Start, Sample, Verdict as VerdictLine}
@@ -18,13 +18,13 @@ pub data Place : Type 0 where
   -- the start of the term, with so many steps left
   before_start : ℕ → Tree → Place
   -- in a chain with these known variables, with so many steps left, after this polynomial
-  in_chain : List Var → ℕ → Terms → Place
+  in_chain : List Var → ℕ → Summands → Place
   -- the sample for the listed polynomials, with so many steps left
-  before_sample : List Terms → ℕ → Place
+  before_sample : List Summands → ℕ → Place
 
 -- which steps may lead from a polynomial to another, with these known variables, and with so many steps left before and after
 abbrev pub Paths : Type 1
-Paths = List Var → ℕ → Terms → List ChainStep → ℕ → Terms → Type 0
+Paths = List Var → ℕ → Summands → List ChainStep → ℕ → Summands → Type 0
 
 -- the header and the lines of the program
 abbrev pub first_lines : Subject → List Line
@@ -36,7 +36,7 @@ module _ (Leads : Paths) (Works : Chains) (IsChosen : Samples) where
   pub record IsOpenChain (header : Line) (known : List Var) (left : ℕ) (e : Tree) (lines : List Line) (place : Place) : Type 0 where
     pub steps : List ChainStep
     pub after : ℕ
-    pub last : Terms
+    pub last : Summands
     pub started : IsStarted left e
     pub leads : Leads known (left - start_charge e) (start_of e) steps after last
     pub split : lines ≡ header ∷ Start (start_of e) ∷ map line_of steps
@@ -50,14 +50,14 @@ module _ (Leads : Paths) (Works : Chains) (IsChosen : Samples) where
       ⊎ IsOpenChain header known left e lines place)
 
   -- the lines begin the end of a log: its sample and its verdict
-  abbrev pub IsBegunEnd : List Terms → Verdict → ℕ → List Line → Place → Type 0
+  abbrev pub IsBegunEnd : List Summands → Verdict → ℕ → List Line → Place → Type 0
   IsBegunEnd listed verdict left lines place =
       ((lines ≡ []) × (place ≡ before_sample listed left))
       ⊎ ((values : List (Var × ℤ)) × (left' : ℕ) × IsChosen listed left values left' × (lines ≡ Sample values ∷ [])
       × (place ≡ before_line (VerdictLine verdict)))
 
   -- the lines begin the chains of the goals from number k on, and what follows them
-  abbrev pub AreGoalsBegun : List Var → List Terms → ℕ → ℕ → List Item → List Line → Place → Type 0
+  abbrev pub AreGoalsBegun : List Var → List Summands → ℕ → ℕ → List Item → List Line → Place → Type 0
   AreGoalsBegun known listed k left [] lines place = IsBegunEnd listed Proved left lines place
   AreGoalsBegun known listed k left (item ∷ items) lines place =
       IsBegunChain (Goal k item.text) known left item.term lines place
@@ -66,7 +66,7 @@ module _ (Leads : Paths) (Works : Chains) (IsChosen : Samples) where
       ⊎ (first.chain.end ≢ []) × IsBegunEnd (listed ++ first.chain.end ∷ []) (False k) first.after first.rest place))
 
   -- the lines begin the chains of the conditions from number k on, and what follows them
-  abbrev pub AreConditionsBegun : List Item → List Var → List Terms → ℕ → ℕ → List Item → List Line → Place → Type 0
+  abbrev pub AreConditionsBegun : List Item → List Var → List Summands → ℕ → ℕ → List Item → List Line → Place → Type 0
   AreConditionsBegun goals known listed k left [] lines place = AreGoalsBegun known listed 1 left goals lines place
   AreConditionsBegun goals known listed k left (item ∷ items) lines place =
       IsBegunChain (Condition k item.text) known left item.term lines place

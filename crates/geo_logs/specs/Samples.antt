@@ -3,7 +3,7 @@ use Rattle.std.specs.Prelude.{◌≡◌, ℕ, zero, suc, ◌^◌, ◌<◌, ℤ, 
 use Rattle.std.specs.Ordering.{is_eq}
 use Rattle.geo_poly.specs.declared.variables.Var.{Var}
 use Rattle.geo_poly.specs.declared.variables.Var.TheVariants.{X, Y, T}
-use Rattle.geo_poly.specs.Polynomials.{Terms}
+use Rattle.geo_poly.specs.Polynomials.{Summands}
 use Rattle.geo_poly.specs.Specialise.{NoneZero}
 use Rattle.geo_poly.specs.Variables.{var_cmp}
 use Rattle.geo_sample.specs.declared.errors.SampleError.{SampleError}
@@ -41,7 +41,7 @@ value_in (w ∷ ws) v = cond (is_eq (var_cmp w.0 v)) w.1 (value_in ws v)
 -- SAMPLES OF ACCEPTED LOGS
 -- a value for each variable in order, within the limit; one try for each of them, none past its limits, with so many steps left at first
 -- and at last; and no listed polynomial is 0 with all of them
-pub record IsAcceptedSample (c : Construction) (listed : List Terms) (left : ℕ) (values : List (Var × ℤ)) (left' : ℕ) : Type 0 where
+pub record IsAcceptedSample (c : Construction) (listed : List Summands) (left : ℕ) (values : List (Var × ℤ)) (left' : ℕ) : Type 0 where
   pub variables : map (λ v. v.0) values ≡ sample_variables c
   pub fits : All (λ v. unsigned_abs v.1 < 2 ^ 127) values
   pub made : AreMade left (single_tries values listed) left'
@@ -49,7 +49,7 @@ pub record IsAcceptedSample (c : Construction) (listed : List Terms) (left : ℕ
 
 -- THE LEAST SAMPLE
 -- the least values, variable by variable, and the tries that find them, none past its limits
-pub record IsLeastSample (c : Construction) (listed : List Terms) (left : ℕ) (values : List (Var × ℤ)) (left' : ℕ) : Type 0 where
+pub record IsLeastSample (c : Construction) (listed : List Summands) (left : ℕ) (values : List (Var × ℤ)) (left' : ℕ) : Type 0 where
   pub least : Search.IsLeastSample (sample_variables c) listed values
   pub made : AreMade left (search_tries values listed) left'
 
@@ -60,9 +60,9 @@ error_of spent = Spent
 error_of (too_large which) = TooLarge which
 
 -- the search for the least sample is stopped
-abbrev pub IsSearchStopped : Construction → List Terms → ℕ → Stop → Type 0
+abbrev pub IsSearchStopped : Construction → List Summands → ℕ → Stop → Type 0
 IsSearchStopped c listed left stop = (rest : ℕ) × SearchEndsIn (error_of stop) (sample_variables c) listed left rest
 
 -- the tries of these values are stopped
-abbrev pub AreTriesStopped : List Terms → ℕ → List (Var × ℤ) → Stop → Type 0
+abbrev pub AreTriesStopped : List Summands → ℕ → List (Var × ℤ) → Stop → Type 0
 AreTriesStopped listed left values stop = (rest : ℕ) × EndIn (error_of stop) left (single_tries values listed) rest

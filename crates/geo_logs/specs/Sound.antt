@@ -21,10 +21,14 @@ use Rattle.geo_logs.specs.Naming.{IsNamed, IsPlaceBelow, IsPlaceMet}
 use Rattle.geo_terms.specs.TermBounds.{IsTermBelow}
 use Rattle.geo_poly.specs.PolynomialVariables.{AllVariables}
 
--- the row tells the value of its variable: the denominator is not 0, the variable times its power is the numerator, and the ratios in both are defined
+-- the row tells the value of its variable: the denominator is not 0, the variable times its power is the numerator, and the ratios in both
+-- are defined
 pub record TellsValue (placed : Placement) (table : Table) (c : Construction) (move : Move) (v : Var) (r : Row) : Type 0 where
   pub nonzero : IsNonzero (polynomial_value placed (table.denominator c move).poly)
-  pub tells : Same (times (variable_value placed.point placed.number v) (power fractions (polynomial_value placed (table.denominator c move).poly) r.power)) (polynomial_value placed r.num.poly)
+  pub tells : Same
+      (times (variable_value placed.point placed.number v)
+      (power fractions (polynomial_value placed (table.denominator c move).poly) r.power))
+      (polynomial_value placed r.num.poly)
   pub numerator : AllVariables (HasVariable placed) r.num.poly
   pub denominator : AllVariables (HasVariable placed) (table.denominator c move).poly
 
@@ -47,7 +51,8 @@ pub record IsSoundTable (table : Table) (c : Construction) : Type 0 where
   pub bounded : (move : Move) (v : Var) (r : Row) → table.row c move v ≡ Some r → IsBoundedRow table c move r
   pub named : (n : ℕ) (move : Move) (v : Var) (r : Row) → table.row c move v ≡ Some r → IsNamed c n v → NamesNoLater table c n move r
 
--- the term multiplied out is sound: where it has a value, this is numerator over denominator, and the ratios in the numerator are defined; and the numerator names no other points
+-- the term multiplied out is sound: where it has a value, this is numerator over denominator, and the ratios in the numerator are defined;
+-- and the numerator names no other points
 pub record IsSoundTerm (c : Construction) (e : Tree) : Type 0 where
   pub nonzero : (placed : Placement) → HasTreeValue placed e → IsNonzero (polynomial_value placed (multiplied_out e).1)
   pub tells : (placed : Placement) → HasTreeValue placed e

@@ -2,12 +2,12 @@
 use Rattle.std.specs.Prelude.{ℕ, ◌≤◌, max}
 use Rattle.fraction_poly.specs.Measures.{HasRoom, numbers_of}
 use Rattle.fraction_poly.specs.MultipliedOut.{multiplied_out}
-use Rattle.geo_poly.specs.Polynomials.{Terms}
+use Rattle.geo_poly.specs.Polynomials.{Summands}
 use Rattle.geo_terms.specs.Trees.{Tree}
 use Rattle.geo_logs.specs.Moves.{IsLineStopped, Stop}
 
 -- the numerator of a term
-abbrev pub start_of : Tree → Terms
+abbrev pub start_of : Tree → Summands
 start_of e = (multiplied_out e).0
 
 -- the charge of a start

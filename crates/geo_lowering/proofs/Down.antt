@@ -10,7 +10,7 @@ use Rattle.geo_program.specs.declared.names.NameKind.TheVariants as kind
 use Rattle.geo_program.specs.WellFormed.{IsWellFormed, Source}
 use Rattle.geo_lowering.specs.Counting.{named, counted, next_point, next_number, points_from}
 use Rattle.geo_lowering.specs.CommandsMet.{lines_of, AreCommandsMet, MeetsCommands}
-use Rattle.geo_lowering.specs.Lines.{Line as DrawnLine}
+use Rattle.geo_lowering.specs.Lines.{DrawnLine}
 use Rattle.geo_lowering.specs.Lowering.{Layout, layout_of, command_steps, steps_from, steps_of, Extends}
 use Rattle.geo_lowering.specs.StepForms.{AreFormsMet}
 use Rattle.geo_lowering.proofs.Laying.{AreNamed, AreLaid, AreDrawn, named_program, laid_program, drawn_program}

@@ -17,10 +17,10 @@ use Rattle.geo_points.proofs.Coordinates.{cross_product-is, turned-x, turned-y, 
 use Rattle.geo_points.proofs.Zeros.{is_nonzero, not_same, denied, geo_cancel}
 use Rattle.geo_lowering.proofs.Centers.{bisector_down, bisector_up}
 use Rattle.geo_lowering.proofs.ZeroTerms.{parallel-is}
-use Rattle.geo_lowering.specs.Lines.{Line, through, alongside, upright, bisector, direction, cross_direction, IsOn}
+use Rattle.geo_lowering.specs.Lines.{DrawnLine, through, alongside, upright, bisector, direction, cross_direction, IsOn}
 
 -- the line l is the line CD, and its direction a number other than 0 times D - C
-pub record Stands (l : Line) (C D : Point) : Type 0 where
+pub record Stands (l : DrawnLine) (C D : Point) : Type 0 where
   pub factor : Fraction
   pub nonzero : IsNonzero factor
   pub by_x : Same (direction l).right (times factor (run C D))
@@ -46,7 +46,7 @@ pub line_stands : (A B : Point) → Stands (through A B) A B
 line_stands A B =
     record { factor = one; nonzero = one_nonzero; by_x = geo_combination (A ∷ B ∷ []) [] [] (abscissa 1 -' abscissa 0) (whole_number 1 *' (abscissa 1 -' abscissa 0)) tt tt; by_y = geo_combination (A ∷ B ∷ []) [] [] (ordinate 1 -' ordinate 0) (whole_number 1 *' (ordinate 1 -' ordinate 0)) tt tt; down = λ X h. h; up = λ X h. h }
 
-pub parallel_stands : (P : Point) (l : Line) (C D E : Point) → Stands l C D → IsAlong P C D one E → Stands (alongside P l) P E
+pub parallel_stands : (P : Point) (l : DrawnLine) (C D E : Point) → Stands l C D → IsAlong P C D one E → Stands (alongside P l) P E
 parallel_stands P l C D E s e =
     record {
       factor = s.factor;
@@ -57,7 +57,7 @@ parallel_stands P l C D E s e =
       up = λ X o. geo_combination (P ∷ C ∷ D ∷ E ∷ X ∷ []) ((direction l).right ∷ (direction l).upwards ∷ s.factor ∷ []) (fact (opposite' (given_number 2)) (cross' 0 3 0 4) (whole_number 0) ∷ fact (ordinate 0 -' ordinate 4) (given_number 0) (given_number 2 *' (abscissa 2 -' abscissa 1)) ∷ fact (abscissa 4 -' abscissa 0) (given_number 1) (given_number 2 *' (ordinate 2 -' ordinate 1)) ∷ fact (opposite' (given_number 2 *' (ordinate 0 -' ordinate 4))) (abscissa 3 -' abscissa 0) (whole_number 1 *' (abscissa 2 -' abscissa 1)) ∷ fact (given_number 2 *' (abscissa 0 -' abscissa 4)) (ordinate 3 -' ordinate 0) (whole_number 1 *' (ordinate 2 -' ordinate 1)) ∷ []) ((abscissa 4 -' abscissa 0) *' given_number 1 -' (ordinate 4 -' ordinate 0) *' given_number 0) (whole_number 0) (cross_product-is P E P X o, (s.by_x, (s.by_y, (along-x P C D one E e, (along-y P C D one E e, tt))))) tt;
     }
 
-pub perp_stands : (P : Point) (l : Line) (C D E G : Point) → Stands l C D → IsAlong P C D one E → IsTurned P E one G → Stands (upright P l) P G
+pub perp_stands : (P : Point) (l : DrawnLine) (C D E G : Point) → Stands l C D → IsAlong P C D one E → IsTurned P E one G → Stands (upright P l) P G
 perp_stands P l C D E G s e g =
     record {
       factor = s.factor;
@@ -79,26 +79,26 @@ med_stands A B D E d e =
       up = λ X o. bisector_up A B X D E d e o;
     }
 
-pub directions-are : (l m : Line) (C D E G : Point) → Stands l C D → Stands m E G
+pub directions-are : (l m : DrawnLine) (C D E G : Point) → Stands l C D → Stands m E G
     → (Same (cross_direction (direction l) (direction m)) (whole (pos 0)) → cross_product C D E G ≡ pos 0) × (cross_product C D E G ≡ pos 0 → Same (cross_direction (direction l) (direction m)) (whole (pos 0)))
 directions-are l m C D E G s u = (
   λ h. cross_null C D E G (geo_cancel (C ∷ D ∷ E ∷ G ∷ []) ((direction l).right ∷ (direction l).upwards ∷ s.factor ∷ (direction m).right ∷ (direction m).upwards ∷ u.factor ∷ []) (fact (whole_number 1) (given_number 0 *' given_number 4 -' given_number 1 *' given_number 3) (whole_number 0) ∷ fact (opposite' (given_number 4)) (given_number 0) (given_number 2 *' (abscissa 1 -' abscissa 0)) ∷ fact (given_number 3) (given_number 1) (given_number 2 *' (ordinate 1 -' ordinate 0)) ∷ fact (opposite' (given_number 2 *' (ordinate 0 -' ordinate 1))) (given_number 3) (given_number 5 *' (abscissa 3 -' abscissa 2)) ∷ fact (given_number 2 *' (abscissa 0 -' abscissa 1)) (given_number 4) (given_number 5 *' (ordinate 3 -' ordinate 2)) ∷ []) (cross' 0 1 2 3) (whole_number 0) (given_number 2 *' given_number 5) (times_nonzero s.factor u.factor s.nonzero u.nonzero) (h, (s.by_x, (s.by_y, (u.by_x, (u.by_y, tt))))) tt),
   λ h. geo_combination (C ∷ D ∷ E ∷ G ∷ []) ((direction l).right ∷ (direction l).upwards ∷ s.factor ∷ (direction m).right ∷ (direction m).upwards ∷ u.factor ∷ []) (fact (given_number 2 *' given_number 5) (cross' 0 1 2 3) (whole_number 0) ∷ fact (given_number 4) (given_number 0) (given_number 2 *' (abscissa 1 -' abscissa 0)) ∷ fact (opposite' (given_number 3)) (given_number 1) (given_number 2 *' (ordinate 1 -' ordinate 0)) ∷ fact (given_number 2 *' (ordinate 0 -' ordinate 1)) (given_number 3) (given_number 5 *' (abscissa 3 -' abscissa 2)) ∷ fact (opposite' (given_number 2 *' (abscissa 0 -' abscissa 1))) (given_number 4) (given_number 5 *' (ordinate 3 -' ordinate 2)) ∷ []) (given_number 0 *' given_number 4 -' given_number 1 *' given_number 3) (whole_number 0) (cross_product-is C D E G h, (s.by_x, (s.by_y, (u.by_x, (u.by_y, tt))))) tt,
 )
 
-pub crossing-is : (l m : Line) (C D E G : Point) → Stands l C D → Stands m E G
+pub crossing-is : (l m : DrawnLine) (C D E G : Point) → Stands l C D → Stands m E G
     → ((Same (cross_direction (direction l) (direction m)) (whole (pos 0)) → ⊥) → IsNonzero (minus (signed_area C E G) (signed_area D E G)))
     × (IsNonzero (minus (signed_area C E G) (signed_area D E G)) → Same (cross_direction (direction l) (direction m)) (whole (pos 0)) → ⊥)
 crossing-is l m C D E G s u =
     let d = directions-are l m C D E G s u in let p = parallel-is C D E G in
     denied (minus (signed_area C E G) (signed_area D E G)) (λ h. p.0 (d.0 h), λ h. d.1 (p.1 h))
 
-pub intersec_down : (X : Point) (l m : Line) (C D E G : Point) → Stands l C D → Stands m E G → IsOn X l → IsOn X m
+pub intersec_down : (X : Point) (l m : DrawnLine) (C D E G : Point) → Stands l C D → Stands m E G → IsOn X l → IsOn X m
     → (Same (cross_direction (direction l) (direction m)) (whole (pos 0)) → ⊥) → IsCrossing C D E G X
 intersec_down X l m C D E G s u o p n =
     record { on_first = s.down X o; on_second = u.down X p; crosses = λ z. n ((directions-are l m C D E G s u).1 z) }
 
-pub intersec_up : (X : Point) (l m : Line) (C D E G : Point) → Stands l C D → Stands m E G → IsCrossing C D E G X → IsOn X l × IsOn X m
+pub intersec_up : (X : Point) (l m : DrawnLine) (C D E G : Point) → Stands l C D → Stands m E G → IsCrossing C D E G X → IsOn X l × IsOn X m
 intersec_up X l m C D E G s u c =
     (s.up X c.on_first, u.up X c.on_second)
 

@@ -16,7 +16,7 @@ use Rattle.geo_program.specs.declared.names.NameKind.TheVariants as kind
 use Rattle.geo_program.specs.WellFormed.{IsWellFormed, Source}
 use Rattle.geo_lowering.specs.Counting.{named, hidden, further, counted, next_point, next_number}
 use Rattle.geo_lowering.specs.CommandsMet.{reading, drawn, lines_of, IsCommandMet, AreCommandsMet, MeetsCommands}
-use Rattle.geo_lowering.specs.Lines.{Line as DrawnLine, line_at}
+use Rattle.geo_lowering.specs.Lines.{DrawnLine, line_at}
 use Rattle.geo_lowering.specs.Lowering.{Layout, Pair, layout_of, pair_of, renamed, command_steps, steps_from, steps_of, Extends}
 use Rattle.geo_lowering.specs.StepForms.{AreFormsMet}
 use Rattle.geo_lowering.proofs.FormLaws.{met_front, met_back}

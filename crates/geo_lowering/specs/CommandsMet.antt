@@ -15,7 +15,7 @@ use Rattle.geo_program.specs.declared.commands.LineId.{LineId}
 use Rattle.geo_program.specs.declared.names.NameKind.TheVariants as kind
 use Rattle.geo_program.specs.WellFormed.{Source}
 use Rattle.geo_lowering.specs.Counting.{named, counted, next_number, param_place}
-use Rattle.geo_lowering.specs.Lines.{Line as DrawnLine, through, alongside, upright, bisector, line_at, IsOn}
+use Rattle.geo_lowering.specs.Lines.{DrawnLine, through, alongside, upright, bisector, line_at, IsOn}
 use Rattle.geo_lowering.specs.Relations.{IsOnBothLines, IsProjection, IsMidpoint, IsTranslate, IsSymmetric, IsReflection, IsCircumcenter, IsOrthocenter, IsCentroid, IsOnCircle, IsOnLineAndCircle, IsOnBothCircles, IsInverse}
 
 -- the placement as the terms of the program read it: they name parameters alone, and no other number
@@ -75,7 +75,8 @@ IsCommandMet s placed X t (Inverse p o a) = IsInverse X (placed.point p.0) (plac
 abbrev pub AreCommandsMet : Source → Placement → ℕ → ℕ → List Command → Type 0
 AreCommandsMet s placed x m [] = Unit {0}
 AreCommandsMet s placed x m (c ∷ cs) =
-    IsCommandMet s placed (placed.point x) (placed.number m) c × AreCommandsMet s placed (counted kind.Point (named c) x) (next_number m c) cs
+    IsCommandMet s placed (placed.point x) (placed.number m) c
+    × AreCommandsMet s placed (counted kind.Point (named c) x) (next_number m c) cs
 
 -- the placement meets each command of the program
 abbrev pub MeetsCommands : Source → Placement → Type 0

@@ -28,8 +28,10 @@ pub data Condition : Type 0 where
 -- the condition holds
 abbrev pub IsConditionMet : Source → Placement → Condition → Type 0
 IsConditionMet s placed (different a b) = Differ (placed.point a.0) (placed.point b.0)
-IsConditionMet s placed (not_collinear a b c) = cross_product (placed.point a.0) (placed.point b.0) (placed.point a.0) (placed.point c.0) ≢ pos 0
-IsConditionMet s placed (not_parallel a b c d) = cross_product (placed.point a.0) (placed.point b.0) (placed.point c.0) (placed.point d.0) ≢ pos 0
+IsConditionMet s placed (not_collinear a b c) =
+    cross_product (placed.point a.0) (placed.point b.0) (placed.point a.0) (placed.point c.0) ≢ pos 0
+IsConditionMet s placed (not_parallel a b c d) =
+    cross_product (placed.point a.0) (placed.point b.0) (placed.point c.0) (placed.point d.0) ≢ pos 0
 IsConditionMet s placed (crossing a b) = AreParallel (line_of s placed a) (line_of s placed b) → ⊥
 IsConditionMet s placed (nonzero e) = HasTreeValue (reading s placed) e × IsNonzero (tree_value (reading s placed) e)
 
@@ -39,7 +41,8 @@ divisor_conditions (integer_leaf (pos (suc n))) = []
 divisor_conditions (integer_leaf (negsuc n)) = []
 divisor_conditions f = nonzero f ∷ []
 
--- the conditions that an expression gives, from left to right and each after those of its parts: of a ratio that its second pair differs, of a division its divisor's
+-- the conditions that an expression gives, from left to right and each after those of its parts: of a ratio that its second pair differs,
+-- of a division its divisor's
 abbrev pub expression_conditions : Tree → List Condition
 expression_conditions (ratio_leaf a b c d) = different c d ∷ []
 expression_conditions (negation e) = expression_conditions e
@@ -84,4 +87,5 @@ command_conditions nodes x c = early_conditions nodes c ++ late_conditions x c
 abbrev pub AreConditionsMet : Source → Placement → ℕ → List Command → Type 0
 AreConditionsMet s placed x [] = Unit {0}
 AreConditionsMet s placed x (c ∷ cs) =
-    All (IsConditionMet s placed) (command_conditions s.nodes (record { 0 = x }) c) × AreConditionsMet s placed (counted kind.Point (named c) x) cs
+    All (IsConditionMet s placed) (command_conditions s.nodes (record { 0 = x }) c)
+    × AreConditionsMet s placed (counted kind.Point (named c) x) cs

@@ -23,7 +23,8 @@ use Rattle.geo_points.specs.Vectors.{Differ}
 -- every placement that meets the commands of a program and their conditions extends to one that meets all steps
 abbrev pub PlacementsExtend : Type 0
 PlacementsExtend =
-    (p : Source) (l : LoweredForm) (placed : Placement) → IsWellFormed p → IsLowered p l → MeetsCommands p placed → AreConditionsMet p placed 0 p.commands
+    (p : Source) (l : LoweredForm) (placed : Placement) → IsWellFormed p → IsLowered p l → MeetsCommands p placed
+    → AreConditionsMet p placed 0 p.commands
     → (lowered : Placement) × Extends p placed lowered × MeetsSteps lowered l.construction
 
 -- every lowered placement that meets all steps extends one that meets the commands
@@ -40,7 +41,8 @@ FreePointsFixPlacements =
     → AreFreesSame placed other 0 p.commands → ((k : ℕ) → k < numbers_had p.commands → Same (placed.number k) (other.number k))
     → SamePlacement (points_named p.commands) (numbers_had p.commands) placed other
 
--- the conditions of each command that do not name its point hold in every placement that is made of the given free points and numbers by the steps of the commands before it
+-- the conditions of each command that do not name its point hold in every placement that is made of the given free points and numbers by
+-- the steps of the commands before it
 abbrev pub IsReady : Source → Placement → Type 0
 IsReady p given =
     (before rest : List Command) (c : Command) → p.commands ≡ before ++ c ∷ rest
@@ -51,7 +53,8 @@ IsReady p given =
 abbrev pub PlacementsAreMade : Type 0
 PlacementsAreMade =
     (p : Source) (l : LoweredForm) (given : Placement) → IsWellFormed p → IsLowered p l → IsReady p given
-    → (lowered : Placement) × MeetsSteps lowered l.construction × AreFreesSame (forgotten p lowered) given 0 p.commands × (lowered.number ≡ given.number)
+    → (lowered : Placement) × MeetsSteps lowered l.construction × AreFreesSame (forgotten p lowered) given 0 p.commands
+    × (lowered.number ≡ given.number)
 
 -- the points that a command adds are those that its form counts
 abbrev pub PointsAreCounted : Type 0

@@ -1,4 +1,5 @@
--- What the commands say of the point X that they make, in the points that they name. `pratio`, `tratio`, `lratio` and `online` say what their step does.
+-- What the commands say of the point X that they make, in the points that they name. `pratio`, `tratio`, `lratio` and `online` say what
+-- their step does.
 use Rattle.std.specs.Prelude.{◌≡◌, ◌*◌, pos, ◌+ℤ◌, ◌*ℤ◌}
 use Rattle.std.proofs.Common.{mul-pos, lit<}
 use Rattle.ring_laws.specs.Fraction.{Fraction, Same, whole, plus, minus, times}
@@ -78,7 +79,9 @@ pub record IsCentroid (X A B C : Point) : Type 0 where
 -- OX² = OA², and (X - A) x ((O - A) + t J (A - O)) = 0, where J turns a vector a quarter counter-clockwise
 pub record IsOnCircle (X O A : Point) (t : Fraction) : Type 0 where
   pub distance : Same (squared_distance O X) (squared_distance O A)
-  pub aligned : Same (minus (times (run A X) (plus (rise A O) (times t (run O A)))) (times (rise A X) (minus (run A O) (times t (rise O A))))) (whole (pos 0))
+  pub aligned : Same
+      (minus (times (run A X) (plus (rise A O) (times t (run O A)))) (times (rise A X) (minus (run A O) (times t (rise O A)))))
+      (whole (pos 0))
 
 -- X lies on the line AB, and OX² = OA²
 pub record IsOnLineAndCircle (X A B O : Point) : Type 0 where
@@ -104,11 +107,13 @@ squared_norm A = plus (times (x_coordinate A) (x_coordinate A)) (times (y_coordi
 abbrev pub minor : Point → Point → Point → Fraction
 minor A B C =
     plus
-    (plus (minus (times (x_coordinate A) (y_coordinate B)) (times (x_coordinate B) (y_coordinate A))) (minus (times (x_coordinate B) (y_coordinate C)) (times (x_coordinate C) (y_coordinate B))))
+    (plus (minus (times (x_coordinate A) (y_coordinate B)) (times (x_coordinate B) (y_coordinate A)))
+    (minus (times (x_coordinate B) (y_coordinate C)) (times (x_coordinate C) (y_coordinate B))))
     (minus (times (x_coordinate C) (y_coordinate A)) (times (x_coordinate A) (y_coordinate C)))
 
 -- the determinant of the rows (x² + y², x, y, 1) of A, B, C and D, by its first column
 abbrev pub circle_determinant : Point → Point → Point → Point → Fraction
 circle_determinant A B C D =
-    minus (plus (minus (times (squared_norm A) (minor B C D)) (times (squared_norm B) (minor A C D))) (times (squared_norm C) (minor A B D)))
+    minus (plus (minus (times (squared_norm A) (minor B C D)) (times (squared_norm B) (minor A C D)))
+    (times (squared_norm C) (minor A B D)))
     (times (squared_norm D) (minor A B C))

@@ -2,7 +2,8 @@
 
 ghost use Rattle.std.specs.Prelude.{◌≡◌, ◌<◌, ◌≤◌, length, map, IfOk};
 ghost use Rattle.geo_lowering.specs.Counting.{param_places, points_past};
-ghost use Rattle.geo_lowering.specs.Lowering.{layout_of, line_places, pair_numbers, point_place, point_places};
+ghost use Rattle.geo_lowering.specs.Lowering.{layout_of, line_places, pair_numbers, point_place};
+ghost use Rattle.geo_lowering.specs.Lowering.{point_places};
 ghost use Rattle.geo_lowering.specs.Parts.{layout_at};
 
 use crate::lists::{Lines, Params, Points};
@@ -27,10 +28,12 @@ impl Places {
     pub fn new(alloc: Global, commands: &[Command]) -> Result<Places, NoMemory>
         requires points { points_past 0 commands.now ≤ 512 }
         requires commands { length commands.now < 4294967295 }
-        ensures points { IfOk result (λ places. map (λ a. a.0) places.points ≡ point_places 0 commands.now) }
+        ensures points { IfOk result (λ places. map (λ a. a.0) places.points
+            ≡ point_places 0 commands.now) }
         ensures lines { IfOk result (λ places.
             map pair_numbers places.lines ≡ line_places (point_place commands.now) 0 commands.now) }
-        ensures params { IfOk result (λ places. map (λ t. t.0) places.params ≡ param_places 0 commands.now) }
+        ensures params { IfOk result (λ places. map (λ t. t.0) places.params
+            ≡ param_places 0 commands.now) }
         ensures layout { IfOk result (λ places. layout_at places ≡ layout_of commands.now) }
     {
         let points = place_points(alloc, commands)?;

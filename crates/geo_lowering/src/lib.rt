@@ -1,5 +1,6 @@
-//! The commands of the language over placements, and their lowering to the elementary steps of a construction with
-//! hidden points: what each command says of the points that it names, its conditions, its steps, and that the two agree.
+//! The commands of the language over placements, and their lowering to the elementary steps of a
+//! construction with hidden points: what each command says of the points that it names, its
+//! conditions, its steps, and that the two agree.
 #![tactic(auto)]
 
 pub mod laws;

@@ -71,8 +71,8 @@ fn push_commands(
     Ok(())
 }
 
-/// The lowered form of a program: each command makes its hidden points and then the point that it names. Terms are
-/// interned once; a store with no room for them left is answered by NoMemory.
+/// The lowered form of a program: each command makes its hidden points and then the point that it
+/// names. Terms are interned once; a store with no room for them left is answered by NoMemory.
 pub fn lower(alloc: Global, program: &Program) -> Result<Lowered, NoMemory>
     ensures { IfOk result (λ l. IsLowered (source_of program.now) (form_of l)) }
 {

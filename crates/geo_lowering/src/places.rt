@@ -1,11 +1,13 @@
-//! Where what has a name stands in the lowered form. The places depend on the commands alone, so they are known before
-//! any step is made.
+//! Where what has a name stands in the lowered form. The places depend on the commands alone, so
+//! they are known before any step is made.
 
 ghost use Rattle.std.specs.Prelude.{◌≡◌, ◌+◌, ◌<◌, ◌≤◌, length, map, slice_index_or, IfOk};
 ghost use Rattle.geo_program.specs.Names.{is_kind};
 ghost use Rattle.geo_program.specs.declared.names.NameKind.TheVariants as kind;
-ghost use Rattle.geo_lowering.specs.Counting.{further, has_number, hidden, named, next_point, param_places, points_past};
-ghost use Rattle.geo_lowering.specs.Lowering.{line_places, pair_numbers, pair_of, point_places, points_after};
+ghost use Rattle.geo_lowering.specs.Counting.{further, has_number, hidden, named, next_point};
+ghost use Rattle.geo_lowering.specs.Counting.{param_places, points_past};
+ghost use Rattle.geo_lowering.specs.Lowering.{line_places, pair_numbers, pair_of, point_places};
+ghost use Rattle.geo_lowering.specs.Lowering.{points_after};
 
 use crate::lists::{After, Lines, Params, Points};
 use geo_points::{NoMemory, ParamId, PointId};
@@ -143,7 +145,8 @@ pub fn point_at(points: &[PointId], a: PointId) -> PointId
 // The points of the line that a command names, whose own points begin at n.
 fn pair_at(points: &[PointId], n: u32, command: &Command) -> (PointId, PointId)
     requires { n ≤ 4294967000 }
-    ensures { pair_numbers result ≡ pair_of (λ a. slice_index_or (map (λ p. p.0) points.now) a 0) n command.now }
+    ensures { pair_numbers result
+        ≡ pair_of (λ a. slice_index_or (map (λ p. p.0) points.now) a 0) n command.now }
 {
     match *command {
         Command::Line { a, b } => (point_at(points, a), point_at(points, b)),
@@ -161,7 +164,8 @@ pub fn place_lines(
 ) -> Result<Lines, NoMemory>
     requires { points_past 0 commands.now ≤ 512 }
     ensures { IfOk result (λ lines.
-        map pair_numbers lines ≡ line_places (λ a. slice_index_or (map (λ p. p.0) points.now) a 0) 0 commands.now) }
+        map pair_numbers lines
+        ≡ line_places (λ a. slice_index_or (map (λ p. p.0) points.now) a 0) 0 commands.now) }
 {
     let mut items = Vec::new(alloc);
     let mut n = 0;

@@ -10,7 +10,8 @@ use geo_terms::{Step, Steps};
 
 /// All steps of the list, one after another.
 pub fn push_steps(steps: &mut Steps, list: &[Step]) -> Result<(), NoMemory>
-    requires steps { AreStepsFrom steps.old.nodes (length steps.old.steps) steps.old.params list.now }
+    requires steps { AreStepsFrom steps.old.nodes (length steps.old.steps) steps.old.params
+        list.now }
     requires room { length steps.old.steps + length list.now ≤ 512 }
     ensures { OnOk result (HasMore steps.old steps.new (map (step_form steps.old.nodes) list.now)) }
 {

@@ -5,7 +5,8 @@ ghost use Rattle.geo_terms.specs.Stores.{Store};
 ghost use Rattle.geo_terms.specs.Trees.{Tree};
 ghost use Rattle.geo_lowering.specs.Lowering.{command_steps, half_tree, one_tree, two_thirds_tree};
 ghost use Rattle.geo_lowering.specs.Parts.{layout_at};
-ghost use Rattle.geo_lowering.specs.StepForms.{along as along_form, crossing_of, foot_of, turned_along};
+ghost use Rattle.geo_lowering.specs.StepForms.{along as along_form, crossing_of, foot_of};
+ghost use Rattle.geo_lowering.specs.StepForms.{turned_along};
 ghost use Rattle.geo_lowering.specs.Inner.StepLists.{HaveForms};
 ghost use Rattle.geo_lowering.specs.Inner.StepNumbers.{AreFractions, IsTerm, own_number};
 
@@ -30,10 +31,12 @@ pub struct StepLists<'a> {
 }
 
 impl<'a> StepLists<'a> {
-    /// The steps of the command: those of its hidden points, and then that of the point that it names.
+    /// The steps of the command: those of its hidden points, and then that of the point that it
+    /// names.
     pub fn list(&self, alloc: Global, command: &Command) -> Result<Vec<Step>, NoMemory>
         requires { self.now.next ≤ 4294967000 }
-        ensures { let l = layout_at self.now.places.now in IfOk result (λ list. (nodes source : Store) (m : ℕ)
+        ensures { let l = layout_at self.now.places.now in
+            IfOk result (λ list. (nodes source : Store) (m : ℕ)
             → AreFractions nodes self.now.fractions
             → IsTerm nodes (own_number l source m command.now) self.now.number
             → HaveForms nodes (command_steps l source self.now.next m command.now) list.items) }
@@ -125,7 +128,8 @@ impl<'a> StepLists<'a> {
     fn crossing_lines(&self, alloc: Global, a: LineId, b: LineId) -> Result<Vec<Step>, NoMemory>
         ensures { let l = layout_at self.now.places.now in
             IfOk result (λ list. (nodes : Store) → HaveForms nodes
-            (crossing_of (l.line a.0).left (l.line a.0).right (l.line b.0).left (l.line b.0).right ∷ []) list.items) }
+            (crossing_of (l.line a.0).left (l.line a.0).right
+            (l.line b.0).left (l.line b.0).right ∷ []) list.items) }
     {
         let (u, v) = self.places.line(a);
         let (p, q) = self.places.line(b);
@@ -149,8 +153,10 @@ impl<'a> StepLists<'a> {
     // A point along the line b from P.
     fn parallel(&self, alloc: Global, p: PointId, b: LineId) -> Result<Vec<Step>, NoMemory>
         ensures { let l = layout_at self.now.places.now in
-            IfOk result (λ list. (nodes : Store) → AreFractions nodes self.now.fractions → HaveForms nodes
-            (along_form (l.point p.0) (l.line b.0).left (l.line b.0).right one_tree ∷ []) list.items) }
+            IfOk result (λ list. (nodes : Store) → AreFractions nodes self.now.fractions
+            → HaveForms nodes
+            (along_form (l.point p.0) (l.line b.0).left (l.line b.0).right one_tree ∷ [])
+            list.items) }
     {
         let w = self.places.point(p);
         let (u, v) = self.places.line(b);
@@ -161,7 +167,8 @@ impl<'a> StepLists<'a> {
     // A point along the line b from P, and then one turned about P.
     fn upright(&self, alloc: Global, p: PointId, b: LineId) -> Result<Vec<Step>, NoMemory>
         ensures { let l = layout_at self.now.places.now in let n = self.now.next in
-            IfOk result (λ list. (nodes : Store) → AreFractions nodes self.now.fractions → HaveForms nodes
+            IfOk result (λ list. (nodes : Store) → AreFractions nodes self.now.fractions
+            → HaveForms nodes
             (along_form (l.point p.0) (l.line b.0).left (l.line b.0).right one_tree
             ∷ turned_along (l.point p.0) n one_tree ∷ []) list.items) }
     {
@@ -178,7 +185,8 @@ impl<'a> StepLists<'a> {
     // The middle of AB, and then a point turned about it.
     fn bisector(&self, alloc: Global, a: PointId, b: PointId) -> Result<Vec<Step>, NoMemory>
         ensures { let l = layout_at self.now.places.now in let n = self.now.next in
-            IfOk result (λ list. (nodes : Store) → AreFractions nodes self.now.fractions → HaveForms nodes
+            IfOk result (λ list. (nodes : Store) → AreFractions nodes self.now.fractions
+            → HaveForms nodes
             (along_form (l.point a.0) (l.point a.0) (l.point b.0) half_tree
             ∷ turned_along n (l.point b.0) one_tree ∷ []) list.items) }
     {
@@ -210,8 +218,10 @@ impl<'a> StepLists<'a> {
         a: PointId,
     ) -> Result<Vec<Step>, NoMemory>
         ensures { let l = layout_at self.now.places.now in let n = self.now.next in
-            IfOk result (λ list. (nodes : Store) → AreFractions nodes self.now.fractions → HaveForms nodes
-            (foot_of (l.point p.0) (l.point u.0) (l.point v.0) ∷ along_form n (l.point a.0) n one_tree ∷ []) list.items) }
+            IfOk result (λ list. (nodes : Store) → AreFractions nodes self.now.fractions
+            → HaveForms nodes
+            (foot_of (l.point p.0) (l.point u.0) (l.point v.0)
+            ∷ along_form n (l.point a.0) n one_tree ∷ []) list.items) }
     {
         let (p, u, v) = (
             self.places.point(p),
@@ -240,7 +250,8 @@ impl<'a> StepLists<'a> {
         c: PointId,
     ) -> Result<Vec<Step>, NoMemory>
         ensures { let l = layout_at self.now.places.now in let n = self.now.next in
-            IfOk result (λ list. (nodes : Store) → AreFractions nodes self.now.fractions → HaveForms nodes
+            IfOk result (λ list. (nodes : Store) → AreFractions nodes self.now.fractions
+            → HaveForms nodes
             (along_form (l.point b.0) (l.point b.0) (l.point c.0) half_tree
             ∷ along_form (l.point a.0) (l.point a.0) n two_thirds_tree ∷ []) list.items) }
     {
@@ -299,7 +310,8 @@ impl<'a> StepLists<'a> {
     fn on_circle(&self, alloc: Global, o: PointId, a: PointId) -> Result<Vec<Step>, NoMemory>
         requires { self.now.next ≤ 4294967000 }
         ensures { let l = layout_at self.now.places.now in let n = self.now.next in
-            IfOk result (λ list. (nodes : Store) (e : Tree) → AreFractions nodes self.now.fractions → IsTerm nodes e self.now.number → HaveForms nodes
+            IfOk result (λ list. (nodes : Store) (e : Tree) → AreFractions nodes self.now.fractions
+            → IsTerm nodes e self.now.number → HaveForms nodes
             (turned_along (l.point o.0) (l.point a.0) e ∷ foot_of (l.point o.0) (l.point a.0) n
             ∷ along_form (suc n) (l.point a.0) (suc n) one_tree ∷ []) list.items) }
     {
@@ -332,7 +344,8 @@ impl<'a> StepLists<'a> {
     ) -> Result<Vec<Step>, NoMemory>
         requires { self.now.next ≤ 4294967000 }
         ensures { let l = layout_at self.now.places.now in let n = self.now.next in
-            IfOk result (λ list. (nodes : Store) → AreFractions nodes self.now.fractions → HaveForms nodes
+            IfOk result (λ list. (nodes : Store) → AreFractions nodes self.now.fractions
+            → HaveForms nodes
             (along_form (l.point a.0) (l.point a.0) (l.point b.0) half_tree
             ∷ turned_along n (l.point b.0) one_tree
             ∷ along_form (l.point a.0) (l.point a.0) (l.point c.0) half_tree

@@ -1,7 +1,8 @@
 //! The numbers of steps, in the store of the steps.
 
 ghost use Rattle.std.specs.Prelude.{◌≡◌, ◌<◌, [], IfOk, OnOk, length};
-ghost use Rattle.geo_terms.specs.Stores.{HasChildrenBelow, HasShortInteger, Store, node_tree, trees_of};
+ghost use Rattle.geo_terms.specs.Stores.{HasChildrenBelow, HasShortInteger, Store, node_tree};
+ghost use Rattle.geo_terms.specs.Stores.{trees_of};
 ghost use Rattle.geo_program.specs.Forms.{IsStored};
 ghost use Rattle.geo_lowering.specs.Counting.{next_number};
 ghost use Rattle.geo_lowering.specs.Inner.Growing.{KeepsTerms};
@@ -33,7 +34,8 @@ pub fn intern(steps: &mut Steps, node: Node) -> Result<TermId, NoMemory>
     requires integer { HasShortInteger node }
     ensures keeps { KeepsTerms steps.old steps.new }
     ensures params { steps.new.params ≡ steps.old.params }
-    ensures term { IfOk result (λ id. IsTerm steps.new.nodes (node_tree (trees_of steps.old.nodes) node) id) }
+    ensures term { IfOk result
+        (λ id. IsTerm steps.new.nodes (node_tree (trees_of steps.old.nodes) node) id) }
 {
     if steps.look().len() == u32::MAX {
         return Err(NoMemory);
@@ -83,8 +85,8 @@ fn term_at(terms: &[TermId], r: TermId) -> TermId
     }
 }
 
-/// The number of a command's step where it depends on the command, and else 1. A command that has a number of its
-/// own takes a new parameter.
+/// The number of a command's step where it depends on the command, and else 1. A command that has a
+/// number of its own takes a new parameter.
 pub fn number_of(
     steps: &mut Steps,
     places: &Places,
@@ -95,8 +97,10 @@ pub fn number_of(
     requires { steps.old.params < 4294967295 }
     ensures keeps { KeepsTerms steps.old steps.new }
     ensures params { OnOk result (steps.new.params ≡ next_number steps.old.params command.now) }
-    ensures term { (source : Store) → AreRenamed (layout_at places.now) source steps.old.nodes terms.now
-        → length terms.now ≡ length source → IsStored source command.now → IsTerm steps.old.nodes one_tree one
+    ensures term { (source : Store)
+        → AreRenamed (layout_at places.now) source steps.old.nodes terms.now
+        → length terms.now ≡ length source → IsStored source command.now
+        → IsTerm steps.old.nodes one_tree one
         → IfOk result (λ id. IsTerm steps.new.nodes
         (own_number (layout_at places.now) source steps.old.params command.now) id) }
 {

@@ -18,7 +18,7 @@ use Rattle.geo_parser.specs.Inner.Coming.{Coming, fault_from, fault_here, lexeme
 use Rattle.geo_parser.specs.Inner.CommandWords.{command_due, command_kind, command_points, command_slots, command_text}
 use Rattle.geo_parser.specs.Inner.Dictionaries.{IsNew, IsNoNewName}
 use Rattle.geo_parser.specs.Forms.{Slot, command_slot, commands, due_behind, new_name_slot}
-use Rattle.geo_parser.specs.Inner.Pieces.{IsWord}
+use Rattle.geo_parser.specs.Inner.Symbols.{IsWord}
 use Rattle.geo_parser.specs.Inner.Reads.{Passes, ReadsCommand, ReadsForm, ReadsNewName, ReadsProve, ReadsWord, Refuses, a_name, extent, fault_of, reading, statement_slots}
 use Rattle.geo_parser.specs.Refusals.{fault_at, first_fault}
 use Rattle.geo_parser.specs.Slots.{Outcome, Reading, begin_command, completed, follow, next, refused, taken}

@@ -14,13 +14,13 @@ use Rattle.geo_program.specs.declared.names.Name.{Name}
 use Rattle.geo_program.specs.declared.names.NameKind.TheVariants.{Line, Point}
 use Rattle.geo_program.proofs.ScopeLemmas.{lines_declared, points_declared}
 use Rattle.geo_terms.specs.Stores.{Store}
-use Rattle.geo_parser.specs.declared.cursor.Piece.{Piece}
+use Rattle.geo_parser.specs.declared.cursor.Symbol.{Symbol}
 use Rattle.geo_parser.specs.declared.errors.ParseError.{ParseError}
 use Rattle.geo_parser.specs.declared.errors.ParseError.TheVariants.{Syntax}
 use Rattle.geo_parser.specs.declared.reader.Reader.{Reader}
 use Rattle.geo_parser.specs.Inner.Coming.{Coming, fault_here, lexemes_of, next_lexeme, tail}
 use Rattle.geo_parser.specs.Forms.{Slot}
-use Rattle.geo_parser.specs.Inner.Pieces.{IsPiece, piece_lexeme}
+use Rattle.geo_parser.specs.Inner.Symbols.{IsSymbol, symbol_lexeme}
 use Rattle.geo_parser.specs.Inner.Reads.{Extends, Passes, Reads, ReadsArguments, ReadsName, Refuses, argument_slots, fault_of, reading, scope}
 use Rattle.geo_parser.specs.Refusals.{fault_at, first_fault}
 use Rattle.geo_parser.specs.Slots.{Outcome, Reading, next, refused, taken}
@@ -112,8 +112,8 @@ answered {T} r x f h is =
     ap Err (sym same)
 
 -- the next lexeme is that of the piece
-pub next_piece : (tokens : List (Lexeme × ℕ)) (r : Option Piece) (p q : Piece) → option_map piece_lexeme r ≡ next_lexeme tokens → r ≡ Some p → p ≡ q → next_lexeme tokens ≡ Some (piece_lexeme q)
-next_piece tokens r p q h is same = sym h ∙ ap (option_map piece_lexeme) is ∙ ap (λ k. Some (piece_lexeme k)) same
+pub next_piece : (tokens : List (Lexeme × ℕ)) (r : Option Symbol) (p q : Symbol) → option_map symbol_lexeme r ≡ next_lexeme tokens → r ≡ Some p → p ≡ q → next_lexeme tokens ≡ Some (symbol_lexeme q)
+next_piece tokens r p q h is same = sym h ∙ ap (option_map symbol_lexeme) is ∙ ap (λ k. Some (symbol_lexeme k)) same
 
 module _ (F G : List Slot) (a b : Reader) (xs : List Lexeme) (h : Reads F a b xs) where
   pub Reads-then : (c : Reader) (ys : List Lexeme) → Reads G b c ys → Reads (F ++ G) a c (xs ++ ys)
@@ -208,7 +208,7 @@ module _ (F G : List Slot) (a : Reader) (l : Lexeme) (is : next_lexeme a.cursor.
   }
 
 -- the piece is one
-pub valid_piece : (r : Option Piece) (p q : Piece) → IfSome r IsPiece → r ≡ Some p → p ≡ q → IsPiece q
+pub valid_piece : (r : Option Symbol) (p q : Symbol) → IfSome r IsSymbol → r ≡ Some p → p ≡ q → IsSymbol q
 valid_piece r p q h is same =
-    let P : Option Piece → Type 0 = λ o. IfSome o IsPiece in
-    subst IsPiece same (subst P is h)
+    let P : Option Symbol → Type 0 = λ o. IfSome o IsSymbol in
+    subst IsSymbol same (subst P is h)

@@ -1,9 +1,14 @@
 //! The words that begin a command, by what stands behind the new name.
 
 ghost use Rattle.std.specs.Prelude.{◌≡◌, ◌<◌, ◌∷◌, [], IfSome, length, option_map};
-ghost use Rattle.geo_parser.specs.Inner.CommandWords.{command_due, command_kind, command_points, command_text, direction_points, direction_text, pair_kind, pair_points, pair_text, step_text, triple_points, triple_text};
+ghost use Rattle.geo_parser.specs.Inner.CommandWords.{command_due, command_kind, command_points};
+ghost use Rattle.geo_parser.specs.Inner.CommandWords.{command_text, direction_points};
+ghost use Rattle.geo_parser.specs.Inner.CommandWords.{direction_text, pair_kind, pair_points};
+ghost use Rattle.geo_parser.specs.Inner.CommandWords.{pair_text, step_text, triple_points};
+ghost use Rattle.geo_parser.specs.Inner.CommandWords.{triple_text};
 ghost use Rattle.geo_parser.specs.Forms.{commands, due_behind};
-ghost use Rattle.geo_program.specs.Forms.{IsStored, command_form, form, line_argument, number_argument, point_argument};
+ghost use Rattle.geo_program.specs.Forms.{IsStored, command_form, form, line_argument};
+ghost use Rattle.geo_program.specs.Forms.{number_argument, point_argument};
 ghost use Rattle.geo_program.specs.declared.names.NameKind.TheVariants as kind;
 ghost use Rattle.geo_terms.specs.Stores.{Store, tree_of};
 
@@ -173,7 +178,8 @@ impl PairWord {
     /// The command on these points.
     pub fn on(self, a: PointId, b: PointId) -> Command
         ensures form { (nodes : Store) → command_form nodes result
-            ≡ form (pair_text self) (pair_kind self) (pair_points self) (point_argument a ∷ point_argument b ∷ []) }
+            ≡ form (pair_text self) (pair_kind self) (pair_points self)
+            (point_argument a ∷ point_argument b ∷ []) }
         ensures stored { (nodes : Store) → IsStored nodes result }
     {
         match self {
@@ -224,7 +230,8 @@ impl DirectionWord {
     /// The command on this point and this line.
     pub fn on(self, p: PointId, b: LineId) -> Command
         ensures form { (nodes : Store) → command_form nodes result
-            ≡ form (direction_text self) kind.Line (direction_points self) (point_argument p ∷ line_argument b ∷ []) }
+            ≡ form (direction_text self) kind.Line (direction_points self)
+            (point_argument p ∷ line_argument b ∷ []) }
         ensures stored { (nodes : Store) → IsStored nodes result }
     {
         match self {

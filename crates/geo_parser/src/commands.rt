@@ -1,14 +1,18 @@
 //! Reading the commands.
 
-ghost use Rattle.std.specs.Prelude.{◌≡◌, ◌+◌, ◌≤◌, ◌∷◌, [], IfOk, IfNone, IfSome, OnOk, Some, length};
+ghost use Rattle.std.specs.Prelude.{◌≡◌, ◌+◌, ◌≤◌, ◌∷◌, [], IfOk, IfNone, IfSome, OnOk, Some};
+ghost use Rattle.std.specs.Prelude.{length};
 ghost use Rattle.geo_lexer.specs.declared.token_types.Fault.{Fault};
 ghost use Rattle.geo_parser.specs.Inner.CommandWords.{command_due, command_slots};
-ghost use Rattle.geo_parser.specs.Forms.{command_slot, new_name_slot, second_number_slot, sketch_slot};
-ghost use Rattle.geo_parser.specs.Inner.Reads.{ReadsAllCommands, ReadsCommand, ReadsForm, ReadsNewName, ReadsProve, ReadsSecond, ReadsSketch, ReadsWord, Refuses, extent, fault_of};
+ghost use Rattle.geo_parser.specs.Forms.{command_slot, new_name_slot, second_number_slot};
+ghost use Rattle.geo_parser.specs.Forms.{sketch_slot};
+ghost use Rattle.geo_parser.specs.Inner.Reads.{ReadsAllCommands, ReadsCommand, ReadsForm};
+ghost use Rattle.geo_parser.specs.Inner.Reads.{ReadsNewName, ReadsProve, ReadsSecond, ReadsSketch};
+ghost use Rattle.geo_parser.specs.Inner.Reads.{ReadsWord, Refuses, extent, fault_of};
 ghost use Rattle.geo_program.specs.declared.names.NameKind.{NameKind};
 
 use crate::command_words::CommandWord;
-use crate::cursor::Piece;
+use crate::cursor::Symbol;
 use crate::errors::{ParseError, Refusal};
 use crate::reader::Reader;
 use geo_program::{Command, Commands};
@@ -43,7 +47,7 @@ impl<'a> Reader<'a> {
             → Refuses (command_slot ∷ []) self.old f }
     {
         let word = match self.cursor.peek() {
-            Some(Piece::Word(word)) => word,
+            Some(Symbol::Word(word)) => word,
             Some(_) => return Err(self.refuse(Refusal::Expected)),
             None => return Err(self.refuse(Refusal::NoStatement)),
         };
@@ -83,7 +87,7 @@ impl<'a> Reader<'a> {
         ensures refused { (f : Fault) → result ≡ Err (ParseError.Syntax f)
             → (kind : NameKind) → Refuses (new_name_slot kind points ∷ []) self.old f }
     {
-        let Some(Piece::Word(word)) = self.cursor.peek() else {
+        let Some(Symbol::Word(word)) = self.cursor.peek() else {
             return Err(self.refuse(Refusal::Expected));
         };
         if let Err(refusal) = self.names.check_new(word) {
@@ -151,7 +155,7 @@ impl<'a> Reader<'a> {
         ensures refused { (f : Fault) → result ≡ Err (ParseError.Syntax f)
             → Refuses (sketch_slot ∷ []) self.old f }
     {
-        if let Some(Piece::Number(_)) = self.cursor.peek() {
+        if let Some(Symbol::Number(_)) = self.cursor.peek() {
             self.cursor.advance();
             self.second_number()?;
         }
@@ -164,7 +168,7 @@ impl<'a> Reader<'a> {
         ensures refused { (f : Fault) → result ≡ Err (ParseError.Syntax f)
             → Refuses (second_number_slot ∷ []) self.old f }
     {
-        let Some(Piece::Number(_)) = self.cursor.peek() else {
+        let Some(Symbol::Number(_)) = self.cursor.peek() else {
             return Err(self.refuse(Refusal::Expected));
         };
         self.cursor.advance();

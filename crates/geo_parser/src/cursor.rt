@@ -1,11 +1,12 @@
 //! The tokens that are still to be read.
 
-ghost use Rattle.std.specs.Prelude.{◌≡◌, ◌≤◌, ◌<◌, ◌^◌, ◌↔◌, All, IsTrue, IsSome, IfSome, None, [], length, option_map, slice_range};
+ghost use Rattle.std.specs.Prelude.{◌≡◌, ◌≤◌, ◌<◌, ◌^◌, ◌↔◌, All, IsTrue, IsSome, IfSome, None, []};
+ghost use Rattle.std.specs.Prelude.{length, option_map, slice_range};
 ghost use Rattle.geo_base.specs.Decimals.{IsDecimal, decimal_size, decimal_value};
 ghost use Rattle.geo_lexer.specs.Lexemes.{lexeme_of};
 ghost use Rattle.geo_lexer.specs.Tokens.{IsTokenAt};
 ghost use Rattle.geo_parser.specs.Inner.Coming.{fault_here, next_lexeme, tail};
-ghost use Rattle.geo_parser.specs.Inner.Pieces.{IsPiece, piece_lexeme, refusal_number};
+ghost use Rattle.geo_parser.specs.Inner.Symbols.{IsSymbol, symbol_lexeme, refusal_number};
 ghost use Rattle.geo_parser.specs.Refusals.{placed_lexemes};
 
 use crate::errors::{ParseError, Refusal};
@@ -15,7 +16,7 @@ use std::marker::Model;
 
 /// What a token means.
 #[derive(Clone, Copy)]
-pub enum Piece<'a> {
+pub enum Symbol<'a> {
     /// A word.
     Word(&'a [u8]),
     /// A number.
@@ -71,9 +72,9 @@ impl<'a> Cursor<'a> {
     }
 
     /// The next token.
-    pub fn peek(&self) -> Option<Piece<'a>>
-        ensures lexeme { option_map piece_lexeme result ≡ next_lexeme self.now.tokens }
-        ensures valid { IfSome result IsPiece }
+    pub fn peek(&self) -> Option<Symbol<'a>>
+        ensures lexeme { option_map symbol_lexeme result ≡ next_lexeme self.now.tokens }
+        ensures valid { IfSome result IsSymbol }
     {
         match self.tokens {
             [token, ..] => Some(meaning(self.bytes, *token)),
@@ -96,7 +97,8 @@ impl<'a> Cursor<'a> {
         self.tokens.is_empty() && self.stop.is_none()
     }
 
-    /// Refuses the next token. Where none is left, what is no token is refused in its place, or else the end of the text.
+    /// Refuses the next token. Where none is left, what is no token is refused in its place, or
+    /// else the end of the text.
     pub fn refuse(&self, refusal: Refusal) -> ParseError
         ensures { result ≡ ParseError.Syntax
             (fault_here (refusal_number refusal) self.now.tokens self.now.end self.now.stop) }
@@ -105,7 +107,8 @@ impl<'a> Cursor<'a> {
     }
 
     fn fault(&self, refusal: Refusal) -> Fault
-        ensures { result ≡ fault_here (refusal_number refusal) self.now.tokens self.now.end self.now.stop }
+        ensures { result
+            ≡ fault_here (refusal_number refusal) self.now.tokens self.now.end self.now.stop }
     {
         let refusal = refusal.number();
         match (self.tokens, self.stop) {
@@ -123,17 +126,17 @@ impl<'a> Cursor<'a> {
 }
 
 // What the token means.
-fn meaning<'a>(bytes: &'a [u8], token: Token) -> Piece<'a>
+fn meaning<'a>(bytes: &'a [u8], token: Token) -> Symbol<'a>
     requires { IsTokenAt bytes.now token.kind token.start token.end }
-    ensures lexeme { piece_lexeme result ≡ lexeme_of bytes.now token }
-    ensures valid { IsPiece result }
+    ensures lexeme { symbol_lexeme result ≡ lexeme_of bytes.now token }
+    ensures valid { IsSymbol result }
 {
     let text = &bytes[token.start as usize..token.end as usize];
     match token.kind {
-        Kind::Word => Piece::Word(text),
-        Kind::Number => Piece::Number(number(text)),
-        Kind::Open => Piece::Open,
-        Kind::Close => Piece::Close,
+        Kind::Word => Symbol::Word(text),
+        Kind::Number => Symbol::Number(number(text)),
+        Kind::Open => Symbol::Open,
+        Kind::Close => Symbol::Close,
     }
 }
 

@@ -1,8 +1,9 @@
 //! The names that are declared so far.
 
 ghost use Rattle.std.specs.Prelude.{◌≡◌, ◌<◌, ◌++◌, ◌∷◌, [], IfErr, IfOk, OnErr, OnOk, length};
-ghost use Rattle.geo_parser.specs.Inner.Dictionaries.{IsMisused, IsNew, IsNoNewName, IsNumbered, count_of, counted};
-ghost use Rattle.geo_parser.specs.Inner.Pieces.{refusal_number};
+ghost use Rattle.geo_parser.specs.Inner.Dictionaries.{IsMisused, IsNew, IsNoNewName, IsNumbered};
+ghost use Rattle.geo_parser.specs.Inner.Dictionaries.{count_of, counted};
+ghost use Rattle.geo_parser.specs.Inner.Symbols.{refusal_number};
 
 use crate::errors::Refusal;
 use crate::expression_words::is_reserved;
@@ -139,7 +140,8 @@ impl<'a> Dictionary<'a> {
     pub fn declare(&mut self, alloc: Global, word: &'a [u8], kind: NameKind) -> Result<(), NoMemory>
         requires new { IsNew self.old word.now }
         requires room { length self.old < 4294967295 }
-        ensures ok { OnOk result (self.new ≡ self.old ++ (record { text = word.now; kind = kind }) ∷ []) }
+        ensures ok { OnOk result (self.new
+            ≡ self.old ++ (record { text = word.now; kind = kind }) ∷ []) }
         ensures err { OnErr result (self.new ≡ self.old) }
     {
         let bytes = Vec::from_slice(alloc, word)?;

@@ -51,7 +51,8 @@ impl ExpressionWord {
     /// The expression that the word begins.
     pub fn of(word: &[u8]) -> Option<ExpressionWord>
         ensures due { (level : ℕ) (ratios : Bool)
-            → option_map (expression_due level ratios) result ≡ due_behind word.now (expressions level ratios) }
+            → option_map (expression_due level ratios) result
+            ≡ due_behind word.now (expressions level ratios) }
         ensures text { IfSome result (λ w. expression_text w ≡ word.now) }
     {
         find(&EXPRESSIONS, word)

@@ -3,10 +3,11 @@
 ghost use Rattle.std.specs.Prelude.{◌≡◌, ◌+◌, ◌≤◌, ◌∷◌, [], ◌++◌, false, true, IfOk, IsTrue};
 ghost use Rattle.geo_lexer.specs.declared.token_types.Fault.{Fault};
 ghost use Rattle.geo_parser.specs.Forms.{a_number, close_slot, expression_slot, open_slot, side};
-ghost use Rattle.geo_parser.specs.Inner.Reads.{ReadsExpression, ReadsFormed, ReadsNode, ReadsPart, ReadsParts, Refuses, extent};
+ghost use Rattle.geo_parser.specs.Inner.Reads.{ReadsExpression, ReadsFormed, ReadsNode, ReadsPart};
+ghost use Rattle.geo_parser.specs.Inner.Reads.{ReadsParts, Refuses, extent};
 ghost use Rattle.geo_parser.specs.Inner.StatementWords.{expression_due};
 
-use crate::cursor::Piece;
+use crate::cursor::Symbol;
 use crate::errors::{ParseError, Refusal};
 use crate::expression_words::ExpressionWord;
 use crate::reader::Reader;
@@ -19,7 +20,8 @@ impl<'a> Reader<'a> {
     pub fn side(&mut self) -> Result<TermId, ParseError>
         requires { extent self.old ≤ 67108864 }
         ensures ok { IfOk result (ReadsPart 0 true self.old self.new) }
-        ensures refused { (f : Fault) → result ≡ Err (ParseError.Syntax f) → Refuses side self.old f }
+        ensures refused { (f : Fault) → result ≡ Err (ParseError.Syntax f)
+            → Refuses side self.old f }
     {
         self.part(0, true)
     }
@@ -41,7 +43,8 @@ impl<'a> Reader<'a> {
         requires room { extent self.old ≤ 67108864 }
         ensures ok { IfOk result (ReadsPart level ratios self.old self.new) }
         ensures refused { (f : Fault) → result ≡ Err (ParseError.Syntax f)
-            → Refuses (open_slot level ∷ expression_slot level ratios ∷ close_slot ∷ []) self.old f }
+            → Refuses
+            (open_slot level ∷ expression_slot level ratios ∷ close_slot ∷ []) self.old f }
     {
         self.open(level)?;
         let term = self.expression(level, ratios)?;
@@ -73,11 +76,11 @@ impl<'a> Reader<'a> {
             → Refuses (expression_slot level ratios ∷ []) self.old f }
     {
         match self.cursor.peek() {
-            Some(Piece::Number(number)) => {
+            Some(Symbol::Number(number)) => {
                 self.cursor.advance();
                 Ok(Node::Int(number))
             }
-            Some(Piece::Word(word)) => match ExpressionWord::of(word) {
+            Some(Symbol::Word(word)) => match ExpressionWord::of(word) {
                 Some(form) => {
                     if !form.may_stand(ratios) {
                         return Err(self.refuse(Refusal::RatioNotAllowed));

@@ -1,5 +1,5 @@
-//! Reads a text of the construction language: the program that it spells, or the first token that may not stand at its
-//! place, and why.
+//! Reads a text of the construction language: the program that it spells, or the first token that
+//! may not stand at its place, and why.
 #![tactic(auto)]
 
 mod command_words;

@@ -14,8 +14,8 @@ use geo_lexer::{Fault, Token, tokens};
 use geo_program::Program;
 use std::alloc::Global;
 
-/// The program that the bytes spell. `Syntax` comes exactly where they spell none. Of the canonical text of a program
-/// the answer is that program, or want of memory.
+/// The program that the bytes spell. `Syntax` comes exactly where they spell none. Of the canonical
+/// text of a program the answer is that program, or want of memory.
 pub fn parse(alloc: Global, bytes: &[u8]) -> Result<Program, ParseError>
     requires { length bytes.now ≤ 67108864 }
     ensures spelt { IfOk result (λ p. Spells bytes.now p) }

@@ -5,12 +5,13 @@ ghost use Rattle.geo_lexer.specs.declared.token_types.Fault.{Fault};
 ghost use Rattle.geo_lexer.specs.Lexemes.{close_brace, open_brace};
 ghost use Rattle.geo_parser.specs.Inner.Coming.{fault_here};
 ghost use Rattle.geo_parser.specs.Inner.Dictionaries.{IsNumbered};
-ghost use Rattle.geo_parser.specs.Forms.{a_line, a_point, close_slot, end_slot, name_slot, open_slot};
-ghost use Rattle.geo_parser.specs.Inner.Pieces.{refusal_number};
+ghost use Rattle.geo_parser.specs.Forms.{a_line, a_point, close_slot, end_slot, name_slot};
+ghost use Rattle.geo_parser.specs.Forms.{open_slot};
+ghost use Rattle.geo_parser.specs.Inner.Symbols.{refusal_number};
 ghost use Rattle.geo_parser.specs.Inner.Reads.{Reads, ReadsArguments, ReadsName, Refuses};
 ghost use Rattle.geo_program.specs.Forms.{line_argument, point_argument};
 
-use crate::cursor::{Cursor, Piece};
+use crate::cursor::{Cursor, Symbol};
 use crate::dictionary::Dictionary;
 use crate::errors::{ParseError, Refusal};
 use geo_points::PointId;
@@ -59,7 +60,8 @@ impl<'a> Reader<'a> {
 
     /// A declared point.
     pub fn point(&mut self) -> Result<PointId, ParseError>
-        ensures point { IfOk result (λ a. ReadsArguments (point_argument a ∷ []) self.old self.new) }
+        ensures point { IfOk result
+            (λ a. ReadsArguments (point_argument a ∷ []) self.old self.new) }
         ensures refused { (f : Fault) → result ≡ Err (ParseError.Syntax f)
             → Refuses (a_point ∷ []) self.old f }
     {
@@ -81,7 +83,7 @@ impl<'a> Reader<'a> {
         ensures refused { (f : Fault) → result ≡ Err (ParseError.Syntax f)
             → Refuses (name_slot kind ∷ []) self.old f }
     {
-        let Some(Piece::Word(word)) = self.cursor.peek() else {
+        let Some(Symbol::Word(word)) = self.cursor.peek() else {
             return Err(self.refuse(Refusal::Expected));
         };
         match self.names.number(kind, word) {
@@ -119,8 +121,9 @@ impl<'a> Reader<'a> {
 
     /// Four declared points.
     pub fn four_points(&mut self) -> Result<(PointId, PointId, PointId, PointId), ParseError>
-        ensures points { IfOk result (λ p. ReadsArguments (point_argument p.0
-            ∷ point_argument p.1 ∷ point_argument p.2 ∷ point_argument p.3 ∷ []) self.old self.new) }
+        ensures points { IfOk result (λ p. ReadsArguments
+            (point_argument p.0 ∷ point_argument p.1 ∷ point_argument p.2 ∷ point_argument p.3 ∷ [])
+            self.old self.new) }
         ensures refused { (f : Fault) → result ≡ Err (ParseError.Syntax f)
             → Refuses (a_point ∷ a_point ∷ a_point ∷ a_point ∷ []) self.old f }
     {
@@ -131,12 +134,13 @@ impl<'a> Reader<'a> {
 
     /// `{`, the brace of this level inside an expression.
     pub fn open(&mut self, level: u32) -> Result<(), ParseError>
-        ensures read { OnOk result (Reads (open_slot level ∷ []) self.old self.new (open_brace ∷ [])) }
+        ensures read { OnOk result
+            (Reads (open_slot level ∷ []) self.old self.new (open_brace ∷ [])) }
         ensures level { OnOk result (level ≤ 128) }
         ensures refused { (f : Fault) → result ≡ Err (ParseError.Syntax f)
             → Refuses (open_slot level ∷ []) self.old f }
     {
-        let Some(Piece::Open) = self.cursor.peek() else {
+        let Some(Symbol::Open) = self.cursor.peek() else {
             return Err(self.refuse(Refusal::Expected));
         };
         if level > DEEPEST {
@@ -152,7 +156,7 @@ impl<'a> Reader<'a> {
         ensures refused { (f : Fault) → result ≡ Err (ParseError.Syntax f)
             → Refuses (close_slot ∷ []) self.old f }
     {
-        let Some(Piece::Close) = self.cursor.peek() else {
+        let Some(Symbol::Close) = self.cursor.peek() else {
             return Err(self.refuse(Refusal::Expected));
         };
         self.cursor.advance();
@@ -161,7 +165,8 @@ impl<'a> Reader<'a> {
 
     /// Nothing but the end of the text.
     pub fn end(&self) -> Result<(), ParseError>
-        ensures ended { OnOk result ((self.now.cursor.tokens ≡ []) × (self.now.cursor.stop ≡ None)) }
+        ensures ended { OnOk result ((self.now.cursor.tokens ≡ [])
+            × (self.now.cursor.stop ≡ None)) }
         ensures refused { (f : Fault) → result ≡ Err (ParseError.Syntax f)
             → Refuses (end_slot ∷ []) self.now f }
     {

@@ -3,10 +3,11 @@
 ghost use Rattle.std.specs.Prelude.{◌≡◌, ◌≤◌, ◌∷◌, [], IfOk};
 ghost use Rattle.geo_lexer.specs.declared.token_types.Fault.{Fault};
 ghost use Rattle.geo_parser.specs.Forms.{statement_slot};
-ghost use Rattle.geo_parser.specs.Inner.Reads.{ReadsStated, ReadsStatement, ReadsStatementWord, Refuses, extent, statement_slots};
+ghost use Rattle.geo_parser.specs.Inner.Reads.{ReadsStated, ReadsStatement, ReadsStatementWord};
+ghost use Rattle.geo_parser.specs.Inner.Reads.{Refuses, extent, statement_slots};
 ghost use Rattle.geo_parser.specs.Inner.StatementWords.{statement_due};
 
-use crate::cursor::Piece;
+use crate::cursor::Symbol;
 use crate::errors::{ParseError, Refusal};
 use crate::reader::Reader;
 use crate::statement_words::StatementWord;
@@ -34,7 +35,7 @@ impl<'a> Reader<'a> {
         ensures refused { (f : Fault) → result ≡ Err (ParseError.Syntax f)
             → Refuses (statement_slot ∷ []) self.old f }
     {
-        let Some(Piece::Word(word)) = self.cursor.peek() else {
+        let Some(Symbol::Word(word)) = self.cursor.peek() else {
             return Err(self.refuse(Refusal::Expected));
         };
         match StatementWord::of(word) {

@@ -2,7 +2,8 @@
 
 ghost use Rattle.std.specs.Prelude.{◌≡◌, ◌∷◌, [], IfSome, option_map};
 ghost use Rattle.geo_parser.specs.Forms.{due_behind, statements};
-ghost use Rattle.geo_parser.specs.Inner.StatementWords.{quadruple_text, statement_due, statement_text, triple_text};
+ghost use Rattle.geo_parser.specs.Inner.StatementWords.{quadruple_text, statement_due};
+ghost use Rattle.geo_parser.specs.Inner.StatementWords.{statement_text, triple_text};
 ghost use Rattle.geo_program.specs.Forms.{AreSidesStored, on_points, statement_form};
 ghost use Rattle.geo_terms.specs.Stores.{Store};
 

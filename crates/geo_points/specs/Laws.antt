@@ -6,11 +6,13 @@ use Rattle.geo_points.specs.Placements.{SamePoint}
 use Rattle.geo_points.specs.Steps.{IsAlong, IsCrossing, IsFoot, IsTurned}
 use Rattle.geo_points.specs.Vectors.{Differ}
 
--- twice the signed area is the cross product of two sides; a swap of two corners turns its sign, a turn of all three keeps it, and it is 0 just where the corners lie on a line
+-- twice the signed area is the cross product of two sides; a swap of two corners turns its sign, a turn of all three keeps it, and it is 0
+-- just where the corners lie on a line
 pub record SignedAreaTurns : Type 0 where
   pub doubled : (A B C : Point)
       → Same (times (whole (pos 2)) (signed_area A B C))
-      (minus (times (minus (x_coordinate B) (x_coordinate A)) (minus (y_coordinate C) (y_coordinate A))) (times (minus (y_coordinate B) (y_coordinate A)) (minus (x_coordinate C) (x_coordinate A))))
+      (minus (times (minus (x_coordinate B) (x_coordinate A)) (minus (y_coordinate C) (y_coordinate A)))
+      (times (minus (y_coordinate B) (y_coordinate A)) (minus (x_coordinate C) (x_coordinate A))))
   pub swapped : (A B C : Point) → Same (signed_area A C B) (negated (signed_area A B C))
   pub turned : (A B C : Point) → Same (signed_area B C A) (signed_area A B C)
   pub repeated : (A B : Point) → Same (signed_area A A B) (whole (pos 0))
@@ -18,7 +20,8 @@ pub record SignedAreaTurns : Type 0 where
 
 -- a Pythagoras difference is AB² + CB² - AC²; so its ends may be swapped, and P_ABA is P_BAB
 pub record PythagorasDifferenceIsOfSquares : Type 0 where
-  pub squares : (A B C : Point) → Same (pythagoras_difference A B C) (minus (plus (squared_distance A B) (squared_distance C B)) (squared_distance A C))
+  pub squares : (A B C : Point)
+      → Same (pythagoras_difference A B C) (minus (plus (squared_distance A B) (squared_distance C B)) (squared_distance A C))
   pub swapped : (A B C : Point) → Same (pythagoras_difference C B A) (pythagoras_difference A B C)
   pub length : (A B : Point) → Same (pythagoras_difference A B A) (pythagoras_difference B A B)
 
@@ -32,7 +35,8 @@ RatioScales =
 -- an area, a Pythagoras difference and a ratio depend on the points alone: other triples for the same points give the same fractions
 pub record QuantitiesAreOfPoints : Type 0 where
   pub areas : (A B C A' B' C' : Point) → SamePoint A A' → SamePoint B B' → SamePoint C C' → Same (signed_area A B C) (signed_area A' B' C')
-  pub differences : (A B C A' B' C' : Point) → SamePoint A A' → SamePoint B B' → SamePoint C C' → Same (pythagoras_difference A B C) (pythagoras_difference A' B' C')
+  pub differences : (A B C A' B' C' : Point) → SamePoint A A' → SamePoint B B' → SamePoint C C'
+      → Same (pythagoras_difference A B C) (pythagoras_difference A' B' C')
   pub ratios : (A B C D A' B' C' D' : Point) → SamePoint A A' → SamePoint B B' → SamePoint C C' → SamePoint D D' → HasRatio A B C D
       → HasRatio A' B' C' D' × Same (ratio A B C D) (ratio A' B' C' D')
 

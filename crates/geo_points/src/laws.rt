@@ -1,7 +1,10 @@
 //! What is proved of points and the quantities on them. The functions do nothing: what
 //! each says is its contract.
 
-ghost use Rattle.geo_points.specs.Laws.{AlongMakesOnePoint, CrossingMakesOnePoint, FootMakesOnePoint, PythagorasDifferenceIsOfSquares, QuantitiesAreOfPoints, RatioScales, SignedAreaTurns, TurnedMakesOnePoint};
+ghost use Rattle.geo_points.specs.Laws.{AlongMakesOnePoint, CrossingMakesOnePoint};
+ghost use Rattle.geo_points.specs.Laws.{FootMakesOnePoint, PythagorasDifferenceIsOfSquares};
+ghost use Rattle.geo_points.specs.Laws.{QuantitiesAreOfPoints, RatioScales, SignedAreaTurns};
+ghost use Rattle.geo_points.specs.Laws.{TurnedMakesOnePoint};
 
 /// A signed area is half the cross product of two sides. A swap of two corners changes its sign, a
 /// turn of the three keeps it, and it is 0 exactly where the corners lie on a line.
@@ -40,8 +43,8 @@ pub fn foot_makes_one_point()
     ensures { FootMakesOnePoint }
 {}
 
-/// The step `Y - U = r J (V - U)`, where J turns a vector a quarter counter-clockwise, makes a point
-/// for any U, V and r, and only that one.
+/// The step `Y - U = r J (V - U)`, where J turns a vector a quarter counter-clockwise, makes a
+/// point for any U, V and r, and only that one.
 pub fn turned_makes_one_point()
     ensures { TurnedMakesOnePoint }
 {}

@@ -13,7 +13,7 @@ use Rattle.geo_poly.specs.declared.variables.Var.{Var}
 use Rattle.geo_poly.specs.Variables.{var_cmp}
 use Rattle.sparse_lists.specs.SparseLists.{AllKeys, IsBefore, IsCanonical, put}
 use Rattle.geo_poly.specs.Monomials.{Powers, exponents, exponent, degree_of, IsMonomial}
-use Rattle.geo_poly.specs.Polynomials.{Terms}
+use Rattle.geo_poly.specs.Polynomials.{Summands}
 use Rattle.geo_poly.specs.Factors.{DividesAll, IsLeastExponent}
 use Rattle.geo_poly.proofs.Orders.{var_order, exponents_add}
 use Rattle.sparse_lists.proofs.Canonical.{amount-put, amount-before, amount-head, IsBefore-put, IsCanonical-put}
@@ -30,7 +30,7 @@ All-last P (x ∷ xs) y h = All-last P xs y (All-tail P x (xs ++ y ∷ []) h)
 
 -- THE DIVISOR OF THE COEFFICIENTS
 -- one more coefficient
-pub more_divides : (p : Terms) (i : ℕ) (t : Powers × ℤ) (x a b g : ℕ) → i < length p → t ≡ get_or p i t → IsGcd a b g → a ≡ x → b ≡ unsigned_abs t.1 → DividesAll x (take i p) → DividesAll g (take (i + 1) p)
+pub more_divides : (p : Summands) (i : ℕ) (t : Powers × ℤ) (x a b g : ℕ) → i < length p → t ≡ get_or p i t → IsGcd a b g → a ≡ x → b ≡ unsigned_abs t.1 → DividesAll x (take i p) → DividesAll g (take (i + 1) p)
 more_divides p i t x a b g h at gcd a-is b-is divides =
     let left : g ∣ x = subst (λ n. g ∣ n) a-is gcd.0 in
     let right : g ∣ unsigned_abs t.1 = subst (λ n. g ∣ n) b-is gcd.1 in
@@ -38,24 +38,24 @@ more_divides p i t x a b g h at gcd a-is b-is divides =
     (All-weaker (λ (t : Powers × ℤ). x ∣ unsigned_abs t.1) (λ (t : Powers × ℤ). g ∣ unsigned_abs t.1) (λ u d. dvd_trans g left d) (take i p) divides)
     (subst (λ (u : Powers × ℤ). g ∣ unsigned_abs u.1) at right)
 
-pub more_greatest : (p : Terms) (i : ℕ) (t : Powers × ℤ) (x a b g : ℕ) → i < length p → t ≡ get_or p i t → IsGcd a b g → a ≡ x → b ≡ unsigned_abs t.1 → ((d : ℕ) → DividesAll d (take i p) → d ∣ x) → (d : ℕ) → DividesAll d (take (i + 1) p) → d ∣ g
+pub more_greatest : (p : Summands) (i : ℕ) (t : Powers × ℤ) (x a b g : ℕ) → i < length p → t ≡ get_or p i t → IsGcd a b g → a ≡ x → b ≡ unsigned_abs t.1 → ((d : ℕ) → DividesAll d (take i p) → d ∣ x) → (d : ℕ) → DividesAll d (take (i + 1) p) → d ∣ g
 more_greatest p i t x a b g h at gcd a-is b-is greatest d all =
     let P : Powers × ℤ → Type 0 = λ t. d ∣ unsigned_abs t.1 in
-    let parts : All P (take i p ++ get_or p i t ∷ []) = subst (λ (q : Terms). DividesAll d q) (take_more p i t h) all in
+    let parts : All P (take i p ++ get_or p i t ∷ []) = subst (λ (q : Summands). DividesAll d q) (take_more p i t h) all in
     let left : d ∣ x = greatest d (All-front P (take i p) (get_or p i t ∷ []) parts) in
     let right : d ∣ unsigned_abs t.1 = subst P (sym at) (All-last P (take i p) (get_or p i t) parts) in
     gcd.2 d (subst (λ n. d ∣ n) (sym a-is) left) (subst (λ n. d ∣ n) (sym b-is) right)
 
 -- THE LEAST EXPONENT
 -- one more monomial
-pub more_at_most : (v : Var) (p : Terms) (i : ℕ) (t : Powers × ℤ) (least next : ℕ) → i < length p → t ≡ get_or p i t → next ≡ min least (exponent v t.0) → All (λ (u : Powers × ℤ). least ≤ exponent v u.0) (take i p) → All (λ (u : Powers × ℤ). next ≤ exponent v u.0) (take (i + 1) p)
+pub more_at_most : (v : Var) (p : Summands) (i : ℕ) (t : Powers × ℤ) (least next : ℕ) → i < length p → t ≡ get_or p i t → next ≡ min least (exponent v t.0) → All (λ (u : Powers × ℤ). least ≤ exponent v u.0) (take i p) → All (λ (u : Powers × ℤ). next ≤ exponent v u.0) (take (i + 1) p)
 more_at_most v p i t least next h at next-is all =
     let last : next ≤ exponent v t.0 = omega (arith, next-is) in
     All-more (λ (u : Powers × ℤ). next ≤ exponent v u.0) p i t h
     (All-weaker (λ (u : Powers × ℤ). least ≤ exponent v u.0) (λ (u : Powers × ℤ). next ≤ exponent v u.0) (λ u le. omega (arith, le, next-is)) (take i p) all)
     (subst (λ (u : Powers × ℤ). next ≤ exponent v u.0) at last)
 
-pub more_reached : (v : Var) (p : Terms) (i : ℕ) (t : Powers × ℤ) (least next : ℕ) → i < length p → t ≡ get_or p i t → next ≡ min least (exponent v t.0) → Any (λ (u : Powers × ℤ). exponent v u.0 ≡ least) p → Any (λ (u : Powers × ℤ). exponent v u.0 ≡ next) p
+pub more_reached : (v : Var) (p : Summands) (i : ℕ) (t : Powers × ℤ) (least next : ℕ) → i < length p → t ≡ get_or p i t → next ≡ min least (exponent v t.0) → Any (λ (u : Powers × ℤ). exponent v u.0 ≡ least) p → Any (λ (u : Powers × ℤ). exponent v u.0 ≡ next) p
 more_reached v p i t least next h at next-is any = elim (either least (exponent v t.0)) [
   | inl e ↦ subst (λ n. Any (λ (u : Powers × ℤ). exponent v u.0 ≡ n) p) (sym (next-is ∙ e)) any
   | inr e ↦ (i, t, h, sym at, sym (next-is ∙ e))
@@ -64,7 +64,7 @@ more_reached v p i t least next h at next-is any = elim (either least (exponent 
     either : (a b : ℕ) → (min a b ≡ a) ⊎ (min a b ≡ b)
     either a b = grind (arith, nat_tests)
 
-pub same_least : (v : Var) (p : Terms) (e f : ℕ) → IsLeastExponent v p e → IsLeastExponent v p f → e ≡ f
+pub same_least : (v : Var) (p : Summands) (e f : ℕ) → IsLeastExponent v p e → IsLeastExponent v p f → e ≡ f
 same_least v p e f h g =
     let below : e ≤ f = under e f h.at_most g.reached in
     let above : f ≤ e = under f e g.at_most h.reached in
@@ -185,15 +185,15 @@ is_in_from_Contains (k ∷ ks) v (suc i, h, at) = go (var_cmp k v) (is_in_from_C
     go Equal e = refl
 
 -- the least of e and of the exponents of v
-abbrev pub least_under : Var → ℕ → Terms → ℕ
+abbrev pub least_under : Var → ℕ → Summands → ℕ
 least_under v e [] = e
 least_under v e (t ∷ ts) = min (exponent v t.0) (least_under v e ts)
 
-abbrev pub least_of : Var → Terms → ℕ
+abbrev pub least_of : Var → Summands → ℕ
 least_of v [] = 0
 least_of v (t ∷ ts) = least_under v (exponent v t.0) ts
 
-under_all : (v : Var) (e : ℕ) (p : Terms) → (least_under v e p ≤ e) × All (λ (t : Powers × ℤ). least_under v e p ≤ exponent v t.0) p
+under_all : (v : Var) (e : ℕ) (p : Summands) → (least_under v e p ≤ e) × All (λ (t : Powers × ℤ). least_under v e p ≤ exponent v t.0) p
 under_all v e [] = (omega arith, All-nil (λ (t : Powers × ℤ). e ≤ exponent v t.0))
 under_all v e (t ∷ ts) =
     let rest = under_all v e ts in
@@ -206,7 +206,7 @@ under_all v e (t ∷ ts) =
 Any-cons : {X : Type 0} (P : X → Type 0) (x : X) (xs : List X) → Any P xs → Any P (x ∷ xs)
 Any-cons P x xs (i, y, h, at, p) = (suc i, y, omega arith, at, p)
 
-under_reached : (v : Var) (e : ℕ) (p : Terms) → (least_under v e p ≡ e) ⊎ Any (λ (t : Powers × ℤ). exponent v t.0 ≡ least_under v e p) p
+under_reached : (v : Var) (e : ℕ) (p : Summands) → (least_under v e p ≡ e) ⊎ Any (λ (t : Powers × ℤ). exponent v t.0 ≡ least_under v e p) p
 under_reached v e [] = inl refl
 under_reached v e (t ∷ ts) = go (least_under v e ts) (either (exponent v t.0) (least_under v e ts)) (under_reached v e ts)
   where
@@ -218,7 +218,7 @@ under_reached v e (t ∷ ts) = go (least_under v e ts) (either (exponent v t.0) 
     go n (inr q) (inl r) = inl (q ∙ r)
     go n (inr q) (inr any) = inr (subst (λ k. Any (λ (u : Powers × ℤ). exponent v u.0 ≡ k) (t ∷ ts)) (sym q) (Any-cons (λ (u : Powers × ℤ). exponent v u.0 ≡ n) t ts any))
 
-pub IsLeastExponent-least_of : (v : Var) (p : Terms) → 0 < length p → IsLeastExponent v p (least_of v p)
+pub IsLeastExponent-least_of : (v : Var) (p : Summands) → 0 < length p → IsLeastExponent v p (least_of v p)
 IsLeastExponent-least_of v [] h = absurd (omega arith)
 IsLeastExponent-least_of v (t ∷ ts) h = record {
   at_most =
@@ -231,13 +231,13 @@ IsLeastExponent-least_of v (t ∷ ts) h = record {
 }
 
 -- the exponent of a variable in the factor
-abbrev pub common_exponent : List Var → Terms → Var → ℕ
+abbrev pub common_exponent : List Var → Summands → Var → ℕ
 common_exponent ks p v = cond (is_in ks v) (least_of v p) 0
 
-pub common_exponent-known : (ks : List Var) (p : Terms) (v : Var) → Contains ks v → common_exponent ks p v ≡ least_of v p
+pub common_exponent-known : (ks : List Var) (p : Summands) (v : Var) → Contains ks v → common_exponent ks p v ≡ least_of v p
 common_exponent-known ks p v h = ap (λ (b : Bool). cond b (least_of v p) 0) (is_in_from_Contains ks v h)
 
-pub common_exponent-other : (ks : List Var) (p : Terms) (v : Var) → (Contains ks v → ⊥) → common_exponent ks p v ≡ 0
+pub common_exponent-other : (ks : List Var) (p : Summands) (v : Var) → (Contains ks v → ⊥) → common_exponent ks p v ≡ 0
 common_exponent-other ks p v n = go (is_in ks v) refl
   where
     go : (b : Bool) → is_in ks v ≡ b → cond b (least_of v p) 0 ≡ 0
@@ -245,7 +245,7 @@ common_exponent-other ks p v n = go (is_in ks v) refl
     go false e = refl
 
 -- it is at most the exponent in the first monomial
-pub common_exponent-le : (ks : List Var) (p : Terms) (t : Powers × ℤ) (v : Var) → 0 < length p → t ≡ get_or p 0 t → common_exponent ks p v ≤ exponent v t.0
+pub common_exponent-le : (ks : List Var) (p : Summands) (t : Powers × ℤ) (v : Var) → 0 < length p → t ≡ get_or p 0 t → common_exponent ks p v ≤ exponent v t.0
 common_exponent-le ks p t v h at =
     let le : least_of v p ≤ exponent v t.0 = subst (λ (u : Powers × ℤ). least_of v p ≤ exponent v u.0) (sym at) ((IsLeastExponent-least_of v p h).at_most 0 t h) in
     go (is_in ks v) le
@@ -254,25 +254,25 @@ common_exponent-le ks p t v h at =
     go true le = le
     go false le = omega arith
 
-pub IsMonomial-first : (p : Terms) (t : Powers × ℤ) → 0 < length p → t ≡ get_or p 0 t → AllKeys IsMonomial p → IsMonomial t.0
+pub IsMonomial-first : (p : Summands) (t : Powers × ℤ) → 0 < length p → t ≡ get_or p 0 t → AllKeys IsMonomial p → IsMonomial t.0
 IsMonomial-first [] t h at all = absurd (omega arith)
 IsMonomial-first (u ∷ us) t h at all = subst (λ (x : Powers × ℤ). IsMonomial x.0) (sym at) all.0
 
 -- the exponents in the factor are at most those of the first monomial
-pub IsAbove-first : (ks : List Var) (p : Terms) (t : Powers × ℤ) → 0 < length p → t ≡ get_or p 0 t → IsMonomial t.0 → IsAbove (common_exponent ks p) t.0
+pub IsAbove-first : (ks : List Var) (p : Summands) (t : Powers × ℤ) → 0 < length p → t ≡ get_or p 0 t → IsMonomial t.0 → IsAbove (common_exponent ks p) t.0
 IsAbove-first ks p t h at monomial = IsAbove-from_exponents (common_exponent ks p) t.0 monomial.in_order (λ v some. common_exponent-le ks p t v h at)
 
 -- the exponent that the code finds
-pub found_exponent : (ks : List Var) (p : Terms) (v : Var) (e : ℕ) → 0 < length p → Contains ks v → IsLeastExponent v p e → e ≡ common_exponent ks p v
+pub found_exponent : (ks : List Var) (p : Summands) (v : Var) (e : ℕ) → 0 < length p → Contains ks v → IsLeastExponent v p e → e ≡ common_exponent ks p v
 found_exponent ks p v e some h least = same_least v p e (least_of v p) least (IsLeastExponent-least_of v p some) ∙ sym (common_exponent-known ks p v h)
 
 -- what the reduced monomial is, known variable by known variable
-pub known_in_reduced : (ks : List Var) (p : Terms) (t : Powers × ℤ) (v : Var) → 0 < length p → t ≡ get_or p 0 t → IsMonomial t.0 → Contains ks v → IsLeastExponent v p (exponent v (reduced (common_exponent ks p) t.0))
+pub known_in_reduced : (ks : List Var) (p : Summands) (t : Powers × ℤ) (v : Var) → 0 < length p → t ≡ get_or p 0 t → IsMonomial t.0 → Contains ks v → IsLeastExponent v p (exponent v (reduced (common_exponent ks p) t.0))
 known_in_reduced ks p t v some at monomial h =
     subst (IsLeastExponent v p)
     (sym (exponent-reduced (common_exponent ks p) v t.0 monomial.in_order (common_exponent-le ks p t v some at) ∙ common_exponent-known ks p v h))
     (IsLeastExponent-least_of v p some)
 
-pub other_in_reduced : (ks : List Var) (p : Terms) (t : Powers × ℤ) (v : Var) → 0 < length p → t ≡ get_or p 0 t → IsMonomial t.0 → (Contains ks v → ⊥) → exponent v (reduced (common_exponent ks p) t.0) ≡ 0
+pub other_in_reduced : (ks : List Var) (p : Summands) (t : Powers × ℤ) (v : Var) → 0 < length p → t ≡ get_or p 0 t → IsMonomial t.0 → (Contains ks v → ⊥) → exponent v (reduced (common_exponent ks p) t.0) ≡ 0
 other_in_reduced ks p t v some at monomial n =
     exponent-reduced (common_exponent ks p) v t.0 monomial.in_order (common_exponent-le ks p t v some at) ∙ common_exponent-other ks p v n

@@ -12,7 +12,7 @@ use Rattle.sparse_lists.proofs.Sums.{AllKeys-canonical, AllKeys-append}
 use Rattle.geo_poly.specs.declared.replacement.Row.{Row}
 use Rattle.geo_poly.specs.declared.variables.Var.{Var}
 use Rattle.geo_poly.specs.Monomials.{Powers, IsMonomial, exponent, exponents, product}
-use Rattle.geo_poly.specs.Polynomials.{Terms, coefficients, term_cmp, polynomial_of, multiples, products, product_of}
+use Rattle.geo_poly.specs.Polynomials.{Summands, coefficients, term_cmp, polynomial_of, multiples, products, product_of}
 use Rattle.geo_poly.specs.Replace.{denominators, kept, most_denominators, others, replaced_by, replaced_term, replaced_terms, row_of, times_power, times_row, times_rows}
 use Rattle.geo_poly.specs.Variables.{var_cmp}
 use Rattle.geo_poly.proofs.FactorLaws.{multiples-product}
@@ -30,25 +30,25 @@ module _ (Holds : Var → Type 0) where
   of-product : (m n : Powers) → OfMonomial m → OfMonomial n → OfMonomial (product m n)
   of-product m n h g = AllKeys-canonical var_cmp exponents Holds (m ++ n) (AllKeys-append Holds m n h g)
 
-  pub of-polynomial_of : (p : Terms) → AllVariables Holds p → AllVariables Holds (polynomial_of p)
+  pub of-polynomial_of : (p : Summands) → AllVariables Holds p → AllVariables Holds (polynomial_of p)
   of-polynomial_of p h = AllKeys-canonical term_cmp coefficients (λ m. AllKeys Holds m) p h
 
-  pub of-append : (p q : Terms) → AllVariables Holds p → AllVariables Holds q → AllVariables Holds (p ++ q)
+  pub of-append : (p q : Summands) → AllVariables Holds p → AllVariables Holds q → AllVariables Holds (p ++ q)
   of-append p q h g = AllKeys-append (λ m. AllKeys Holds m) p q h g
 
-  of-multiples : (t : Powers × ℤ) (q : Terms) → OfMonomial t.0 → AllVariables Holds q → AllVariables Holds (multiples t q)
+  of-multiples : (t : Powers × ℤ) (q : Summands) → OfMonomial t.0 → AllVariables Holds q → AllVariables Holds (multiples t q)
   of-multiples t [] h g = tt
   of-multiples t (u ∷ us) h g = (of-product t.0 u.0 h g.0, of-multiples t us h g.1)
 
-  of-products : (p q : Terms) → AllVariables Holds p → AllVariables Holds q → AllVariables Holds (products p q)
+  of-products : (p q : Summands) → AllVariables Holds p → AllVariables Holds q → AllVariables Holds (products p q)
   of-products [] q h g = tt
   of-products (t ∷ ts) q h g = of-append (multiples t q) (products ts q) (of-multiples t q h.0 g) (of-products ts q h.1 g)
 
-  pub of-product_of : (p q : Terms) → AllVariables Holds p → AllVariables Holds q → AllVariables Holds (product_of p q)
+  pub of-product_of : (p q : Summands) → AllVariables Holds p → AllVariables Holds q → AllVariables Holds (product_of p q)
   of-product_of p q h g = of-polynomial_of (products p q) (of-products p q h g)
 
   -- REPLACEMENTS
-  pub of-times_power : (p q : Terms) (n : ℕ) → AllVariables Holds p → AllVariables Holds q → AllVariables Holds (times_power p q n)
+  pub of-times_power : (p q : Summands) (n : ℕ) → AllVariables Holds p → AllVariables Holds q → AllVariables Holds (times_power p q n)
   of-times_power p q zero h g = h
   of-times_power p q (suc n) h g = of-product_of (times_power p q n) q (of-times_power p q n h g) g
 
@@ -69,11 +69,11 @@ module _ (Holds : Var → Type 0) where
       go true rest = h.0
       go false rest = rest
 
-  of-times_row : (o : Option Row) (n : ℕ) (p : Terms) → OfNumerator o → AllVariables Holds p → AllVariables Holds (times_row o n p)
+  of-times_row : (o : Option Row) (n : ℕ) (p : Summands) → OfNumerator o → AllVariables Holds p → AllVariables Holds (times_row o n p)
   of-times_row None n p g h = h
   of-times_row (Some r) n p g h = of-times_power p r.num.poly n h g
 
-  pub of-times_rows : (rows : List Row) (m : Powers) (p : Terms) → OfNumerators rows → AllVariables Holds p → AllVariables Holds (times_rows rows m p)
+  pub of-times_rows : (rows : List Row) (m : Powers) (p : Summands) → OfNumerators rows → AllVariables Holds p → AllVariables Holds (times_rows rows m p)
   of-times_rows rows [] p g h = h
   of-times_rows rows (v ∷ m) p g h =
       of-times_rows rows m (times_row (row_of rows v.0) v.1 p) g (of-times_row (row_of rows v.0) v.1 p (of-row rows v.0 g) h)
@@ -86,19 +86,19 @@ module _ (Holds : Var → Type 0) where
       go None rest = (h.0, rest)
       go (Some r) rest = rest
 
-  of-replaced_term : (rows : List Row) (den : Terms) (top : ℕ) (t : Powers × ℤ) → OfNumerators rows → AllVariables Holds den → OfMonomial t.0
+  of-replaced_term : (rows : List Row) (den : Summands) (top : ℕ) (t : Powers × ℤ) → OfNumerators rows → AllVariables Holds den → OfMonomial t.0
       → AllVariables Holds (replaced_term rows den top t)
   of-replaced_term rows den top t g d h =
       of-times_power (times_rows rows t.0 ((others rows t.0, t.1) ∷ [])) den (top - denominators rows t.0)
       (of-times_rows rows t.0 ((others rows t.0, t.1) ∷ []) g (of-others rows t.0 h, tt)) d
 
-  of-replaced_terms : (rows : List Row) (den : Terms) (top : ℕ) (q : Terms) → OfNumerators rows → AllVariables Holds den → AllVariables Holds q
+  of-replaced_terms : (rows : List Row) (den : Summands) (top : ℕ) (q : Summands) → OfNumerators rows → AllVariables Holds den → AllVariables Holds q
       → AllVariables Holds (replaced_terms rows den top q)
   of-replaced_terms rows den top [] g d h = tt
   of-replaced_terms rows den top (t ∷ ts) g d h =
       of-append (replaced_term rows den top t) (replaced_terms rows den top ts) (of-replaced_term rows den top t g d h.0) (of-replaced_terms rows den top ts g d h.1)
 
-  pub of-replaced_by : (rows : List Row) (den q : Terms) → OfNumerators rows → AllVariables Holds den → AllVariables Holds q
+  pub of-replaced_by : (rows : List Row) (den q : Summands) → OfNumerators rows → AllVariables Holds den → AllVariables Holds q
       → AllVariables Holds (replaced_by rows den q)
   of-replaced_by rows den q g d h =
       of-polynomial_of (replaced_terms rows den (most_denominators rows q) q) (of-replaced_terms rows den (most_denominators rows q) q g d h)
@@ -132,12 +132,12 @@ module _ (Holds : Var → Type 0) where
   of-second k m valid h =
       from_exponents m valid.in_order (λ v n. of-exponent (product k m) v h (λ z. n (omega (arith, z, exponent-product v k m))))
 
-  of-multiplied : (f : Powers × ℤ) (r : Terms) → AllKeys IsMonomial r → AllVariables Holds (multiples f r) → AllVariables Holds r
+  of-multiplied : (f : Powers × ℤ) (r : Summands) → AllKeys IsMonomial r → AllVariables Holds (multiples f r) → AllVariables Holds r
   of-multiplied f [] valid h = tt
   of-multiplied f (t ∷ ts) valid h = (of-second f.0 t.0 valid.0 h.0, of-multiplied f ts valid.1 h.1)
 
   -- a quotient has no other variables
-  pub of-cut : (known : List Var) (f : Powers × ℤ) (q r : Terms) → IsCut known f q r → AllVariables Holds q → AllVariables Holds r
+  pub of-cut : (known : List Var) (f : Powers × ℤ) (q r : Summands) → IsCut known f q r → AllVariables Holds q → AllVariables Holds r
   of-cut known f q r cut h =
       let whole : multiples f r ≡ q = multiples-product f r cut.factor.nonzero cut.polynomial.monomials cut.polynomial.in_order ∙ cut.exact in
       of-multiplied f r cut.polynomial.monomials (subst (AllVariables Holds) (sym whole) h)
@@ -156,7 +156,7 @@ module _ (Holds : Var → Type 0) where
   each-powers [] h = tt
   each-powers (p ∷ m) h = (h.0, each-powers m h.1)
 
-  each-terms : (q : Terms) → AllVariables Holds q → EachIn (flat_map (λ t. map (λ p. p.0) t.0) q)
+  each-terms : (q : Summands) → AllVariables Holds q → EachIn (flat_map (λ t. map (λ p. p.0) t.0) q)
   each-terms [] h = tt
   each-terms (t ∷ ts) h = each-append (map (λ p. p.0) t.0) (flat_map (λ t. map (λ p. p.0) t.0) ts) (each-powers t.0 h.0) (each-terms ts h.1)
 
@@ -191,7 +191,7 @@ module _ (Holds : Var → Type 0) where
       let first = of-insert_key us v both.0 in
       (first.0, (first.1, both.1))
 
-  pub each-variables : (q : Terms) → AllVariables Holds q → EachIn (variables_of q)
+  pub each-variables : (q : Summands) → AllVariables Holds q → EachIn (variables_of q)
   each-variables q h = each-fold [] (flat_map (λ t. map (λ p. p.0) t.0) q) tt (each-terms q h)
 
   front_in : (vs ws : List Var) → EachIn (vs ++ ws) → EachIn vs
@@ -206,7 +206,7 @@ module _ (Holds : Var → Type 0) where
   of_powers [] h = tt
   of_powers (p ∷ m) h = (h.0, of_powers m h.1)
 
-  of_terms : (q : Terms) → EachIn (flat_map (λ t. map (λ p. p.0) t.0) q) → AllVariables Holds q
+  of_terms : (q : Summands) → EachIn (flat_map (λ t. map (λ p. p.0) t.0) q) → AllVariables Holds q
   of_terms [] h = tt
   of_terms (t ∷ ts) h =
       let here = map (λ p. p.0) t.0 in let rest = flat_map (λ (u : Powers × ℤ). map (λ p. p.0) u.0) ts in
@@ -217,7 +217,7 @@ module _ (Holds : Var → Type 0) where
   each_of (v ∷ vs) h = (h v (0, omega arith, refl), each_of vs (λ w c. h w (suc c.0, (let l = c.1 in omega (arith, l)), c.2)))
 
   -- what holds of each variable in the list of variables holds of each variable
-  pub all_variables : (q : Terms) → ((v : Var) → Contains (variables_of q) v → Holds v) → AllVariables Holds q
+  pub all_variables : (q : Summands) → ((v : Var) → Contains (variables_of q) v → Holds v) → AllVariables Holds q
   all_variables q h = of_terms q (of-fold [] (flat_map (λ t. map (λ p. p.0) t.0) q) (each_of (variables_of q) h)).1
 
   -- where rows are taken for some variables, one of them has a row
@@ -241,7 +241,7 @@ module _ (Holds : Var → Type 0) where
       go (Some r) e rest = (each v r e h.0, rest)
 
 -- two properties together
-pub of-both : (First Second Third : Var → Type 0) → ((v : Var) → First v → Second v → Third v) → (q : Terms) → AllVariables First q → AllVariables Second q → AllVariables Third q
+pub of-both : (First Second Third : Var → Type 0) → ((v : Var) → First v → Second v → Third v) → (q : Summands) → AllVariables First q → AllVariables Second q → AllVariables Third q
 of-both First Second Third both [] h g = tt
 of-both First Second Third both (t ∷ ts) h g = (monomial t.0 h.0 g.0, of-both First Second Third both ts h.1 g.1)
   where

@@ -11,7 +11,7 @@ use Rattle.geo_poly.specs.declared.variables.Var.{Var}
 use Rattle.geo_poly.specs.Variables.{var_cmp}
 use Rattle.sparse_lists.specs.SparseLists.{AllKeys}
 use Rattle.geo_poly.specs.Monomials.{Powers, exponents, exponent, IsMonomial, product}
-use Rattle.geo_poly.specs.Polynomials.{Terms, IsPolynomial, multiples, product_of}
+use Rattle.geo_poly.specs.Polynomials.{Summands, IsPolynomial, multiples, product_of}
 use Rattle.geo_poly.specs.Division.{quotient}
 use Rattle.geo_poly.specs.Factors.{DividesAll, IsFactorOf}
 use Rattle.geo_poly.specs.Values.{integer, monomial_value, value}
@@ -42,7 +42,7 @@ same_number (negsuc m) (negsuc n) e f g = let same : m ≡ n = omega (arith, e) 
 none_unknown : (known : List Var) (v : Var) → is_in known v ≡ false → Contains known v → ⊥
 none_unknown known v e h = let q : false ≡ true = sym e ∙ is_in_from_Contains known v h in cc
 
-same_exponent : (known : List Var) (p : Terms) (f g : Powers × ℤ) (v : Var) → IsFactorOf known p f → IsFactorOf known p g → exponent v f.0 ≡ exponent v g.0
+same_exponent : (known : List Var) (p : Summands) (f g : Powers × ℤ) (v : Var) → IsFactorOf known p f → IsFactorOf known p g → exponent v f.0 ≡ exponent v g.0
 same_exponent known p f g v h k = go (is_in known v) refl
   where
     go : (b : Bool) → is_in known v ≡ b → exponent v f.0 ≡ exponent v g.0
@@ -51,7 +51,7 @@ same_exponent known p f g v h k = go (is_in known v) refl
         same_least v p (exponent v f.0) (exponent v g.0) (h.known_variables v here) (k.known_variables v here)
     go false e = h.other_variables v (none_unknown known v e) ∙ sym (k.other_variables v (none_unknown known v e))
 
-pub factor_unique : (known : List Var) (p : Terms) (f g : Powers × ℤ) → IsFactorOf known p f → IsFactorOf known p g → f ≡ g
+pub factor_unique : (known : List Var) (p : Summands) (f g : Powers × ℤ) → IsFactorOf known p f → IsFactorOf known p g → f ≡ g
 factor_unique known p f g h k =
     let size : unsigned_abs f.1 ≡ unsigned_abs g.1 = dvd_antisymm (k.greatest (unsigned_abs f.1) h.divides) (h.greatest (unsigned_abs g.1) k.divides) in
     let number : f.1 ≡ g.1 = same_number f.1 g.1 size (λ b. k.sign.1 (h.sign.0 b)) (λ b. h.sign.1 (k.sign.0 b)) in
@@ -76,12 +76,12 @@ divided_monomial m k h below =
     (λ v. omega (arith, exponent-product v k (quotient m k), exponent-quotient v m k h.in_order, below v))
 
 -- a list whose multiples are p
-record Divided (f : Powers × ℤ) (p : Terms) : Type 0 where
-  rest : Terms
+record Divided (f : Powers × ℤ) (p : Summands) : Type 0 where
+  rest : Summands
   whole : multiples f rest ≡ p
   monomials : AllKeys IsMonomial rest
 
-divided : (f : Powers × ℤ) (p : Terms) → (unsigned_abs f.1 ≡ 0 → ⊥) → AllKeys IsMonomial p → DividesAll (unsigned_abs f.1) p → ((v : Var) → All (λ (t : Powers × ℤ). exponent v f.0 ≤ exponent v t.0) p) → Divided f p
+divided : (f : Powers × ℤ) (p : Summands) → (unsigned_abs f.1 ≡ 0 → ⊥) → AllKeys IsMonomial p → DividesAll (unsigned_abs f.1) p → ((v : Var) → All (λ (t : Powers × ℤ). exponent v f.0 ≤ exponent v t.0) p) → Divided f p
 divided f [] n g all below = record { rest = []; whole = refl; monomials = tt }
 divided f (t ∷ ts) n g all below =
     let D : Powers × ℤ → Type 0 = λ t. unsigned_abs f.1 ∣ unsigned_abs t.1 in
@@ -91,22 +91,22 @@ divided f (t ∷ ts) n g all below =
     let monomial = divided_monomial t.0 f.0 g.0 (λ v. All-head (λ (t : Powers × ℤ). exponent v f.0 ≤ exponent v t.0) t ts (below v)) in
     record {
       rest = (quotient t.0 f.0, number.0) ∷ tail.rest;
-      whole = ap₂ (λ (u : Powers × ℤ) (us : Terms). u ∷ us) (λ i. (monomial i, number.1 i)) tail.whole;
+      whole = ap₂ (λ (u : Powers × ℤ) (us : Summands). u ∷ us) (λ i. (monomial i, number.1 i)) tail.whole;
       monomials = (IsMonomial-quotient t.0 f.0 g.0, tail.monomials);
     }
 
-below_all : (known : List Var) (p : Terms) (f : Powers × ℤ) → IsFactorOf known p f → (v : Var) → All (λ (t : Powers × ℤ). exponent v f.0 ≤ exponent v t.0) p
+below_all : (known : List Var) (p : Summands) (f : Powers × ℤ) → IsFactorOf known p f → (v : Var) → All (λ (t : Powers × ℤ). exponent v f.0 ≤ exponent v t.0) p
 below_all known p f h v = go (is_in known v) refl
   where
     go : (b : Bool) → is_in known v ≡ b → All (λ (t : Powers × ℤ). exponent v f.0 ≤ exponent v t.0) p
     go true e = (h.known_variables v (Contains-from_is_in known v e)).at_most
     go false e = let none = h.other_variables v (none_unknown known v e) in λ k d lt. omega (arith, none)
 
-some_terms : (p : Terms) → (p ≡ [] → ⊥) → 0 < length p
+some_terms : (p : Summands) → (p ≡ [] → ⊥) → 0 < length p
 some_terms [] n = absurd (n refl)
 some_terms (t ∷ ts) n = omega arith
 
-pub factor_quotient : (known : List Var) (p : Terms) (f : Powers × ℤ) → IsPolynomial p → (p ≡ [] → ⊥) → IsFactorOf known p f → (q : Terms) × IsPolynomial q × (product_of (f ∷ []) q ≡ p)
+pub factor_quotient : (known : List Var) (p : Summands) (f : Powers × ℤ) → IsPolynomial p → (p ≡ [] → ⊥) → IsFactorOf known p f → (q : Summands) × IsPolynomial q × (product_of (f ∷ []) q ≡ p)
 factor_quotient known p f h n factor =
     let nonzero = nonzero_divisor p (unsigned_abs f.1) h (some_terms p n) factor.divides in
     let found = divided f p nonzero h.monomials factor.divides (below_all known p f factor) in
@@ -114,7 +114,7 @@ factor_quotient known p f h n factor =
     (found.rest, polynomial, sym (multiples-product f found.rest nonzero polynomial.monomials polynomial.in_order) ∙ found.whole)
 
 -- THE VALUE OF A MULTIPLE
-pub value-factor : (R : Ring) (x : Var → R.carrier) (f : Powers × ℤ) (q : Terms) → R.same (value R x (product_of (f ∷ []) q)) (R.mul (R.mul (integer R f.1) (monomial_value R x f.0)) (value R x q))
+pub value-factor : (R : Ring) (x : Var → R.carrier) (f : Powers × ℤ) (q : Summands) → R.same (value R x (product_of (f ∷ []) q)) (R.mul (R.mul (integer R f.1) (monomial_value R x f.0)) (value R x q))
 value-factor R x f q =
     R.same_trans _ _ _ (value-product_of R x (f ∷ []) q)
     (R.mul-same _ _ _ _ (R.add-zero (R.mul (integer R f.1) (monomial_value R x f.0))) (R.same_refl (value R x q)))

@@ -8,7 +8,7 @@ use Rattle.geo_poly.specs.declared.variables.Var.{Var}
 use Rattle.geo_poly.specs.Variables.{var_cmp}
 use Rattle.sparse_lists.specs.SparseLists.{AllKeys, IsCanonical}
 use Rattle.geo_poly.specs.Monomials.{Powers, exponents, degree_of, IsMonomial}
-use Rattle.geo_poly.specs.Polynomials.{Terms, coefficients, term_cmp, multiples, product_of}
+use Rattle.geo_poly.specs.Polynomials.{Summands, coefficients, term_cmp, multiples, product_of}
 use Rattle.geo_poly.proofs.Orders.{var_order, exponents_add, term_order}
 use Rattle.geo_poly.proofs.PolynomialLaws.{coefficients_add}
 use Rattle.geo_poly.proofs.ProductLaws.{IsCanonical-multiples}
@@ -36,7 +36,7 @@ IsMonomial-push m v e h some later fits = record {
 
 -- PRODUCTS BY ONE TERM
 -- the multiples of a polynomial by a term that is not 0 are the product
-pub multiples-product : (t : Powers × ℤ) (q : Terms) → (unsigned_abs t.1 ≡ 0 → ⊥) → AllKeys IsMonomial q → IsCanonical term_cmp coefficients q → multiples t q ≡ product_of (t ∷ []) q
+pub multiples-product : (t : Powers × ℤ) (q : Summands) → (unsigned_abs t.1 ≡ 0 → ⊥) → AllKeys IsMonomial q → IsCanonical term_cmp coefficients q → multiples t q ≡ product_of (t ∷ []) q
 multiples-product t q n g h =
     sym (canonical_self term_cmp coefficients term_order coefficients_add (multiples t q) (IsCanonical-multiples t q (nonzero (unsigned_abs t.1) (omega (arith, n))) g h))
     ∙ ap (Rattle.sparse_lists.specs.SparseLists.canonical term_cmp coefficients) (sym (append-nil (multiples t q)))

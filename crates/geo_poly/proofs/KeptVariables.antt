@@ -7,7 +7,7 @@ use Rattle.geo_poly.specs.declared.replacement.Row.{Row}
 use Rattle.geo_poly.specs.declared.variables.Var.{Var}
 use Rattle.geo_poly.specs.KeptVariables.{AllNumerators, KeepsVariables}
 use Rattle.geo_poly.specs.Monomials.{Powers}
-use Rattle.geo_poly.specs.Polynomials.{Terms, difference_of, negated, sum_of}
+use Rattle.geo_poly.specs.Polynomials.{Summands, difference_of, negated, sum_of}
 use Rattle.geo_poly.specs.PolynomialVariables.{AllVariables}
 use Rattle.geo_poly.specs.Replace.{denominators, kept, most_denominators, others, replaced_by, replaced_term, replaced_terms, row_of, times_rows}
 use Rattle.geo_poly.specs.Specialise.{specialised, specialised_term, without}
@@ -15,14 +15,14 @@ use Rattle.geo_poly.specs.Variables.{var_cmp}
 use Rattle.geo_poly.proofs.EachVariable.{OfNumerators, of-append, of-cut, of-polynomial_of, of-product_of, of-times_power, of-times_rows}
 
 module _ (Holds : Var → Type 0) where
-  pub of-sum_of : (p q : Terms) → AllVariables Holds p → AllVariables Holds q → AllVariables Holds (sum_of p q)
+  pub of-sum_of : (p q : Summands) → AllVariables Holds p → AllVariables Holds q → AllVariables Holds (sum_of p q)
   of-sum_of p q h g = of-polynomial_of Holds (p ++ q) (of-append Holds p q h g)
 
-  pub of-negated : (p : Terms) → AllVariables Holds p → AllVariables Holds (negated p)
+  pub of-negated : (p : Summands) → AllVariables Holds p → AllVariables Holds (negated p)
   of-negated [] h = tt
   of-negated (t ∷ ts) h = (h.0, of-negated ts h.1)
 
-  pub of-difference_of : (p q : Terms) → AllVariables Holds p → AllVariables Holds q → AllVariables Holds (difference_of p q)
+  pub of-difference_of : (p q : Summands) → AllVariables Holds p → AllVariables Holds q → AllVariables Holds (difference_of p q)
   of-difference_of p q h g = of-sum_of p (negated q) h (of-negated q g)
 
   -- REPLACEMENTS
@@ -42,19 +42,19 @@ module _ (Holds : Var → Type 0) where
       go None e rest = (h.0 e, rest)
       go (Some r) e rest = rest
 
-  of-term : (rows : List Row) (den : Terms) (top : ℕ) (t : Powers × ℤ) → OfNumerators Holds rows → AllVariables Holds den → AllKeys (Stays rows) t.0
+  of-term : (rows : List Row) (den : Summands) (top : ℕ) (t : Powers × ℤ) → OfNumerators Holds rows → AllVariables Holds den → AllKeys (Stays rows) t.0
       → AllVariables Holds (replaced_term rows den top t)
   of-term rows den top t g d h =
       of-times_power Holds (times_rows rows t.0 ((others rows t.0, t.1) ∷ [])) den (top - denominators rows t.0)
       (of-times_rows Holds rows t.0 ((others rows t.0, t.1) ∷ []) g (of-others rows t.0 h, tt)) d
 
-  of-terms : (rows : List Row) (den : Terms) (top : ℕ) (p : Terms) → OfNumerators Holds rows → AllVariables Holds den → AllVariables (Stays rows) p
+  of-terms : (rows : List Row) (den : Summands) (top : ℕ) (p : Summands) → OfNumerators Holds rows → AllVariables Holds den → AllVariables (Stays rows) p
       → AllVariables Holds (replaced_terms rows den top p)
   of-terms rows den top [] g d h = tt
   of-terms rows den top (t ∷ ts) g d h =
       of-append Holds (replaced_term rows den top t) (replaced_terms rows den top ts) (of-term rows den top t g d h.0) (of-terms rows den top ts g d h.1)
 
-  pub of-replacement : (rows : List Row) (den p : Terms) → AllNumerators Holds rows → AllVariables Holds den → AllVariables (Stays rows) p
+  pub of-replacement : (rows : List Row) (den p : Summands) → AllNumerators Holds rows → AllVariables Holds den → AllVariables (Stays rows) p
       → AllVariables Holds (replaced_by rows den p)
   of-replacement rows den p g d h =
       of-polynomial_of Holds (replaced_terms rows den (most_denominators rows p) p) (of-terms rows den (most_denominators rows p) p (numerators rows g) d h)
@@ -68,11 +68,11 @@ module _ (Holds : Var → Type 0) where
       go true rest = (h.0, rest)
       go false rest = rest
 
-  of-specialised_terms : (v : Var) (z : ℤ) (p : Terms) → AllVariables Holds p → AllVariables Holds (map (specialised_term v z) p)
+  of-specialised_terms : (v : Var) (z : ℤ) (p : Summands) → AllVariables Holds p → AllVariables Holds (map (specialised_term v z) p)
   of-specialised_terms v z [] h = tt
   of-specialised_terms v z (t ∷ ts) h = (of-without v t.0 h.0, of-specialised_terms v z ts h.1)
 
-  pub of-specialised : (v : Var) (z : ℤ) (p : Terms) → AllVariables Holds p → AllVariables Holds (specialised v z p)
+  pub of-specialised : (v : Var) (z : ℤ) (p : Summands) → AllVariables Holds p → AllVariables Holds (specialised v z p)
   of-specialised v z p h = of-polynomial_of Holds (map (specialised_term v z) p) (of-specialised_terms v z p h)
 
 -- every property is kept

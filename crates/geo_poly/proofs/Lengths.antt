@@ -7,42 +7,42 @@ use Rattle.std.proofs.lemmas.List.Sums.{sum_by-cons}
 use Rattle.sparse_lists.specs.SparseLists.{IsCanonical}
 use Rattle.sparse_lists.proofs.Sums.{sum_by-canonical-le}
 use Rattle.geo_poly.specs.Monomials.{Powers, product}
-use Rattle.geo_poly.specs.Polynomials.{Terms, coefficients, IsPolynomial, constant_of, difference_of, multiples, negated, norm_of, polynomial_of, product_of, products, sum_of, term_cmp}
+use Rattle.geo_poly.specs.Polynomials.{Summands, coefficients, IsPolynomial, constant_of, difference_of, multiples, negated, norm_of, polynomial_of, product_of, products, sum_of, term_cmp}
 use Rattle.geo_poly.specs.Replace.{times_power}
 use Rattle.geo_poly.proofs.Orders.{term_order}
 use Rattle.geo_poly.proofs.PolynomialLaws.{coefficients_add}
 
-each_one : (p : Terms) → sum_by (λ t. 1) p ≡ length p
+each_one : (p : Summands) → sum_by (λ t. 1) p ≡ length p
 each_one [] = refl
 each_one (t ∷ ts) = omega (arith, sum_by-cons (λ (t : Powers × ℤ). 1) t ts, each_one ts)
 
-pub length-polynomial_of-le : (p : Terms) → length (polynomial_of p) ≤ length p
+pub length-polynomial_of-le : (p : Summands) → length (polynomial_of p) ≤ length p
 length-polynomial_of-le p =
     omega (arith, sum_by-canonical-le term_cmp coefficients term_order coefficients_add (λ t. 1) (λ k a b. omega arith) p, each_one p, each_one (polynomial_of p))
 
 -- SUMS
-pub length-sum_of-le : (p q : Terms) → length (sum_of p q) ≤ length p + length q
+pub length-sum_of-le : (p q : Summands) → length (sum_of p q) ≤ length p + length q
 length-sum_of-le p q = omega (arith, length-polynomial_of-le (p ++ q), length-append p q)
 
-pub length-negated : (p : Terms) → length (negated p) ≡ length p
+pub length-negated : (p : Summands) → length (negated p) ≡ length p
 length-negated p = length-map {B = Powers × ℤ} p (λ (t : Powers × ℤ). (t.0, neg_ℤ t.1))
 
-pub length-difference_of-le : (p q : Terms) → length (difference_of p q) ≤ length p + length q
+pub length-difference_of-le : (p q : Summands) → length (difference_of p q) ≤ length p + length q
 length-difference_of-le p q = omega (arith, length-sum_of-le p (negated q), length-negated q)
 
 -- PRODUCTS
-pub length-multiples : (t : Powers × ℤ) (q : Terms) → length (multiples t q) ≡ length q
+pub length-multiples : (t : Powers × ℤ) (q : Summands) → length (multiples t q) ≡ length q
 length-multiples t q = length-map {B = Powers × ℤ} q (λ (u : Powers × ℤ). (product t.0 u.0, t.1 *ℤ u.1))
 
-pub length-products : (p q : Terms) → length (products p q) ≡ length p * length q
+pub length-products : (p q : Summands) → length (products p q) ≡ length p * length q
 length-products [] q = omega arith
 length-products (t ∷ ts) q = omega (arith, length-append (multiples t q) (products ts q), length-multiples t q, length-products ts q)
 
-pub length-product_of-le : (p q : Terms) → length (product_of p q) ≤ length p * length q
+pub length-product_of-le : (p q : Summands) → length (product_of p q) ≤ length p * length q
 length-product_of-le p q = omega (arith, length-polynomial_of-le (products p q), length-products p q)
 
 -- p times q to the power n
-pub length-times_power-le : (p q : Terms) (k n : ℕ) → length q ≤ k → length (times_power p q n) ≤ length p * k ^ n
+pub length-times_power-le : (p q : Summands) (k n : ℕ) → length q ≤ k → length (times_power p q n) ≤ length p * k ^ n
 length-times_power-le p q k zero h = rw (pow-zero k, mul-one (length p)) (omega arith)
 length-times_power-le p q k (suc n) h =
     let before : length (times_power p q n) * length q ≤ length p * k ^ n * k = mul-le-mul (length-times_power-le p q k n h) h in
@@ -57,12 +57,12 @@ length-constant_of-le z = go (eqb (unsigned_abs z) 0)
     go false = omega arith
 
 -- each coefficient counts at least 1 in the norm
-pub length-le-norm_of : (p : Terms) → IsCanonical term_cmp coefficients p → length p ≤ norm_of p
+pub length-le-norm_of : (p : Summands) → IsCanonical term_cmp coefficients p → length p ≤ norm_of p
 length-le-norm_of [] h = omega arith
 length-le-norm_of (t ∷ ts) h =
     let some : 1 ≤ unsigned_abs t.1 = grind (arith, nat_tests) in
     omega (arith, some, sum_by-cons (λ (t : Powers × ℤ). unsigned_abs t.1) t ts, length-le-norm_of ts h.2)
 
 -- so the number of monomials and the norm, each 1 where it is 0, are a count and a weight
-pub own_count_is_light : (p : Terms) → IsPolynomial p → max (length p) 1 ≤ max (norm_of p) 1
+pub own_count_is_light : (p : Summands) → IsPolynomial p → max (length p) 1 ≤ max (norm_of p) 1
 own_count_is_light p h = omega (arith, length-le-norm_of p h.in_order)

@@ -6,7 +6,7 @@ use Rattle.std.proofs.lemmas.Bool.Decides.{nat_tests}
 use Rattle.std.proofs.lemmas.List.Sums.{sum_by-append, get_or-le-sum_by}
 use Rattle.sparse_lists.specs.SparseLists.{IsAdditive}
 use Rattle.geo_poly.specs.Monomials.{Powers, IsMonomial}
-use Rattle.geo_poly.specs.Polynomials.{Terms, coefficients, term_cmp, polynomial_of, norm_of, IsPolynomial, sum_of}
+use Rattle.geo_poly.specs.Polynomials.{Summands, coefficients, term_cmp, polynomial_of, norm_of, IsPolynomial, sum_of}
 use Rattle.geo_poly.proofs.Orders.{term_order}
 use Rattle.sparse_lists.proofs.Canonical.{IsCanonical-canonical}
 use Rattle.sparse_lists.proofs.Sums.{sum_by-canonical-le, AllKeys-canonical, AllKeys-append}
@@ -28,13 +28,13 @@ coefficients_add = record {
 pub unsigned_abs-add-le : (a b : ℤ) → unsigned_abs (a +ℤ b) ≤ unsigned_abs a + unsigned_abs b
 unsigned_abs-add-le a b = omega (arith, ints)
 
-pub norm_of-polynomial_of-le : (p : Terms) → norm_of (polynomial_of p) ≤ norm_of p
+pub norm_of-polynomial_of-le : (p : Summands) → norm_of (polynomial_of p) ≤ norm_of p
 norm_of-polynomial_of-le p = sum_by-canonical-le term_cmp coefficients term_order coefficients_add (λ t. unsigned_abs t.1) (λ k a b. unsigned_abs-add-le a b) p
 
-pub norm_of-sum_of-le : (p q : Terms) → norm_of (sum_of p q) ≤ norm_of p + norm_of q
+pub norm_of-sum_of-le : (p q : Summands) → norm_of (sum_of p q) ≤ norm_of p + norm_of q
 norm_of-sum_of-le p q = omega (arith, norm_of-polynomial_of-le (p ++ q), sum_by-append (λ (t : Powers × ℤ). unsigned_abs t.1) p q)
 
-pub IsPolynomial-sum_of : (p q : Terms) → IsPolynomial p → IsPolynomial q → norm_of p + norm_of q < 2 ^ 127 → IsPolynomial (sum_of p q)
+pub IsPolynomial-sum_of : (p q : Summands) → IsPolynomial p → IsPolynomial q → norm_of p + norm_of q < 2 ^ 127 → IsPolynomial (sum_of p q)
 IsPolynomial-sum_of p q h g fits = record {
   in_order = IsCanonical-canonical term_cmp coefficients term_order coefficients_add (p ++ q);
   monomials = AllKeys-canonical term_cmp coefficients IsMonomial (p ++ q) (AllKeys-append IsMonomial p q h.monomials g.monomials);
@@ -47,7 +47,7 @@ pub record FitsSum (a b : ℤ) : Type 0 where
   pub right : FitsSigned w128 b
   pub sum : FitsSigned w128 (a +ℤ b)
 
-pub fits_at : (p q : Terms) (i j : ℕ) (t u : Powers × ℤ) → i < length p → j < length q → t ≡ get_or p i t → u ≡ get_or q j u → norm_of p + norm_of q < 2 ^ 127 → FitsSum t.1 u.1
+pub fits_at : (p q : Summands) (i j : ℕ) (t u : Powers × ℤ) → i < length p → j < length q → t ≡ get_or p i t → u ≡ get_or q j u → norm_of p + norm_of q < 2 ^ 127 → FitsSum t.1 u.1
 fits_at p q i j t u left_in right_in t-is u-is fits =
     let size : Powers × ℤ → ℕ = λ t. unsigned_abs t.1 in
     let left : unsigned_abs t.1 ≤ norm_of p = subst (λ x. size x ≤ norm_of p) (sym t-is) (get_or-le-sum_by size p i t left_in) in

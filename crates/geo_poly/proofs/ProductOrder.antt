@@ -5,7 +5,7 @@ use Rattle.std.proofs.Math.IntN.{*ℤ_comm}
 use Rattle.sparse_lists.proofs.Canonical.{amount-append, canonical_comm, canonical_same}
 use Rattle.geo_poly.specs.Variables.{var_cmp}
 use Rattle.geo_poly.specs.Monomials.{Powers, exponents, product}
-use Rattle.geo_poly.specs.Polynomials.{Terms, coefficient, coefficients, multiples, product_of, products, term_cmp}
+use Rattle.geo_poly.specs.Polynomials.{Summands, coefficient, coefficients, multiples, product_of, products, term_cmp}
 use Rattle.geo_poly.proofs.Orders.{exponents_add, term_order, var_order}
 use Rattle.geo_poly.proofs.PolynomialLaws.{coefficients_add}
 
@@ -28,7 +28,7 @@ exchange h a b c =
     ∙ sym (coefficients_add.assoc h b (a +ℤ c))
 
 -- the products by u, and those by the others
-by_one : (k : Powers) (p : Terms) (u : Powers × ℤ) (us : Terms) → coefficient k (products p (u ∷ us)) ≡ coefficient k (multiples u p) +ℤ coefficient k (products p us)
+by_one : (k : Powers) (p : Summands) (u : Powers × ℤ) (us : Summands) → coefficient k (products p (u ∷ us)) ≡ coefficient k (multiples u p) +ℤ coefficient k (products p us)
 by_one k [] u us = sym (coefficients_add.zero-add (pos 0))
 by_one k (t ∷ ts) u us =
     ap (λ (x : ℤ). at k (times t u) +ℤ x)
@@ -38,15 +38,15 @@ by_one k (t ∷ ts) u us =
     ∙ ap₂ (λ (x y : ℤ). (x +ℤ coefficient k (multiples u ts)) +ℤ y) (ap (at k) (times_comm t u))
     (sym (amount-append term_cmp coefficients term_order coefficients_add k (multiples t us) (products ts us)))
 
-no_products : (p : Terms) → products p [] ≡ []
+no_products : (p : Summands) → products p [] ≡ []
 no_products [] = refl
 no_products (t ∷ ts) = no_products ts
 
-same_coefficients : (k : Powers) (p q : Terms) → coefficient k (products p q) ≡ coefficient k (products q p)
+same_coefficients : (k : Powers) (p q : Summands) → coefficient k (products p q) ≡ coefficient k (products q p)
 same_coefficients k p [] = ap (coefficient k) (no_products p)
 same_coefficients k p (u ∷ us) =
     by_one k p u us ∙ ap (λ (x : ℤ). coefficient k (multiples u p) +ℤ x) (same_coefficients k p us)
     ∙ sym (amount-append term_cmp coefficients term_order coefficients_add k (multiples u p) (products us p))
 
-pub product_of_comm : (p q : Terms) → product_of p q ≡ product_of q p
+pub product_of_comm : (p q : Summands) → product_of p q ≡ product_of q p
 product_of_comm p q = canonical_same term_cmp coefficients term_order coefficients_add (products p q) (products q p) (λ k. same_coefficients k p q)

@@ -7,7 +7,7 @@ use Rattle.std.proofs.lemmas.Bool.Decides.{nat_tests}
 use Rattle.std.proofs.lemmas.Int.{unsigned_abs-mul}
 use Rattle.sparse_lists.specs.SparseLists.{AllKeys, IsBefore, IsCanonical}
 use Rattle.geo_poly.specs.Monomials.{Powers, IsMonomial, product}
-use Rattle.geo_poly.specs.Polynomials.{Terms, coefficients, term_cmp, norm_of, multiples, IsPolynomial}
+use Rattle.geo_poly.specs.Polynomials.{Summands, coefficients, term_cmp, norm_of, multiples, IsPolynomial}
 use Rattle.geo_poly.proofs.Orders.{term_order}
 use Rattle.geo_poly.proofs.ProductLaws.{later, norm_of-multiples}
 
@@ -23,7 +23,7 @@ reflected k m n h g e = go (term_cmp m n) refl
         let turned : term_cmp (product k m) (product k n) ≡ Greater = term_order.flip (product k n) (product k m) (later k n m g h (term_order.flip_back m n f)) in
         absurd (let q : Less ≡ Greater = sym e ∙ turned in cc)
 
-IsBefore-reflected : (t : Powers × ℤ) (m : Powers) (us : Terms) → IsMonomial m → AllKeys IsMonomial us → IsBefore term_cmp (product t.0 m) (multiples t us) → IsBefore term_cmp m us
+IsBefore-reflected : (t : Powers × ℤ) (m : Powers) (us : Summands) → IsMonomial m → AllKeys IsMonomial us → IsBefore term_cmp (product t.0 m) (multiples t us) → IsBefore term_cmp m us
 IsBefore-reflected t m [] h g b = tt
 IsBefore-reflected t m (u ∷ us) h g b = (reflected t.0 m u.0 h g.0 b.0, IsBefore-reflected t m us h g.1 b.1)
 
@@ -37,12 +37,12 @@ nonzero_factor a b h = go (eqb (unsigned_abs b) 0) refl
         let whole : unsigned_abs (a *ℤ b) ≡ 0 = unsigned_abs-mul a b ∙ ap (λ n. unsigned_abs a * n) none ∙ omega arith in
         absurd (grind (arith, nat_tests))
 
-IsCanonical-reflected : (t : Powers × ℤ) (q : Terms) → AllKeys IsMonomial q → IsCanonical term_cmp coefficients (multiples t q) → IsCanonical term_cmp coefficients q
+IsCanonical-reflected : (t : Powers × ℤ) (q : Summands) → AllKeys IsMonomial q → IsCanonical term_cmp coefficients (multiples t q) → IsCanonical term_cmp coefficients q
 IsCanonical-reflected t [] g c = tt
 IsCanonical-reflected t (u ∷ us) g c =
     (nonzero_factor t.1 u.1 c.0, IsBefore-reflected t u.0 us g.0 g.1 c.1, IsCanonical-reflected t us g.1 c.2)
 
-pub IsPolynomial-reflected : (t : Powers × ℤ) (q p : Terms) → (unsigned_abs t.1 ≡ 0 → ⊥) → AllKeys IsMonomial q → multiples t q ≡ p → IsPolynomial p → IsPolynomial q
+pub IsPolynomial-reflected : (t : Powers × ℤ) (q p : Summands) → (unsigned_abs t.1 ≡ 0 → ⊥) → AllKeys IsMonomial q → multiples t q ≡ p → IsPolynomial p → IsPolynomial q
 IsPolynomial-reflected t q p n g e h =
     let norm : unsigned_abs t.1 * norm_of q ≡ norm_of p = sym (norm_of-multiples t q) ∙ ap norm_of e in
     let some : 1 ≤ unsigned_abs t.1 = omega (arith, n) in

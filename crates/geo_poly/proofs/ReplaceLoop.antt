@@ -8,12 +8,12 @@ use Rattle.geo_poly.specs.declared.replacement.Row.{Row}
 use Rattle.geo_poly.specs.Variables.{var_cmp}
 use Rattle.sparse_lists.specs.SparseLists.{AllKeys, IsCanonical}
 use Rattle.geo_poly.specs.Monomials.{Powers, IsMonomial, degree_of}
-use Rattle.geo_poly.specs.Polynomials.{Terms, coefficients, term_cmp, norm_of, total_degree}
+use Rattle.geo_poly.specs.Polynomials.{Summands, coefficients, term_cmp, norm_of, total_degree}
 use Rattle.geo_poly.specs.Replace.{IsBounded, AllBounded, row_of, power_in, denominators, others, times_power, times_row, times_rows, weight_row, weight_rows, term_weight, degree_row, degree_rows}
 use Rattle.geo_poly.proofs.ReplaceBounds.{norm_of-times_power-le, total_degree-times_power-le, IsCanonical-times_power, monomials_of_times_power}
 
 -- p is what the variables before those of `left` have made
-pub record Progress (rows : List Row) (top : ℕ) (m : Powers) (c : ℤ) (left : Powers) (p : Terms) (missing : ℕ) : Type 0 where
+pub record Progress (rows : List Row) (top : ℕ) (m : Powers) (c : ℤ) (left : Powers) (p : Summands) (missing : ℕ) : Type 0 where
   pub kept : times_rows rows left p ≡ times_rows rows m ((others rows m, c) ∷ [])
   pub in_order : IsCanonical term_cmp coefficients p
   pub monomials : AllKeys IsMonomial p
@@ -69,7 +69,7 @@ degree_rows-grows rows (v ∷ m) d =
     omega (arith, degree_row-grows (row_of rows v.0) v.1 d, degree_rows-grows rows m (degree_row (row_of rows v.0) v.1 d))
 
 -- a variable with no row
-pub Progress-none : (rows : List Row) (top : ℕ) (m : Powers) (c : ℤ) (v : Var × ℕ) (left : Powers) (p : Terms) (missing : ℕ) → row_of rows v.0 ≡ None → Progress rows top m c (v ∷ left) p missing → Progress rows top m c left p missing
+pub Progress-none : (rows : List Row) (top : ℕ) (m : Powers) (c : ℤ) (v : Var × ℕ) (left : Powers) (p : Summands) (missing : ℕ) → row_of rows v.0 ≡ None → Progress rows top m c (v ∷ left) p missing → Progress rows top m c left p missing
 Progress-none rows top m c v left p missing e h = record {
   kept = ap (λ (o : Option Row). times_rows rows left (times_row o v.1 p)) (sym e) ∙ h.kept;
   in_order = h.in_order;
@@ -82,7 +82,7 @@ Progress-none rows top m c v left p missing e h = record {
 }
 
 -- a variable with a row: what its call may do, and what it makes
-pub row_fits : (rows : List Row) (top : ℕ) (m : Powers) (c : ℤ) (v : Var × ℕ) (left : Powers) (p : Terms) (missing : ℕ) (r : Row) (w d : ℕ) → row_of rows v.0 ≡ Some r → AllBounded rows → Progress rows top m c (v ∷ left) p missing
+pub row_fits : (rows : List Row) (top : ℕ) (m : Powers) (c : ℤ) (v : Var × ℕ) (left : Powers) (p : Summands) (missing : ℕ) (r : Row) (w d : ℕ) → row_of rows v.0 ≡ Some r → AllBounded rows → Progress rows top m c (v ∷ left) p missing
     → weight_rows rows m (unsigned_abs c) ≤ w → degree_rows rows m (degree_of (others rows m)) ≤ d
     → (norm_of p * r.num.weight ^ v.1 ≤ w) × (total_degree p + r.num.degree * v.1 ≤ d) × (r.power * v.1 ≤ missing)
 row_fits rows top m c v left p missing r w d e bounded h w-le d-le =
@@ -94,7 +94,7 @@ row_fits rows top m c v left p missing r w d e bounded h w-le d-le =
       omega (arith, at, h.missing-is),
     )
 
-pub Progress-some : (rows : List Row) (top : ℕ) (m : Powers) (c : ℤ) (v : Var × ℕ) (left : Powers) (p : Terms) (missing : ℕ) (r : Row) → row_of rows v.0 ≡ Some r → AllBounded rows → Progress rows top m c (v ∷ left) p missing
+pub Progress-some : (rows : List Row) (top : ℕ) (m : Powers) (c : ℤ) (v : Var × ℕ) (left : Powers) (p : Summands) (missing : ℕ) (r : Row) → row_of rows v.0 ≡ Some r → AllBounded rows → Progress rows top m c (v ∷ left) p missing
     → total_degree p + r.num.degree * v.1 ≤ 65535 → Progress rows top m c left (times_power p r.num.poly v.1) (missing - r.power * v.1)
 Progress-some rows top m c v left p missing r e bounded h fits =
     let b = bounded_row rows v.0 r bounded e in

@@ -13,7 +13,7 @@ use Rattle.geo_poly.specs.declared.variables.Var.{Var}
 use Rattle.geo_poly.specs.declared.replacement.Row.{Row}
 use Rattle.geo_poly.specs.Variables.{var_cmp}
 use Rattle.geo_poly.specs.Monomials.{Powers}
-use Rattle.geo_poly.specs.Polynomials.{Terms}
+use Rattle.geo_poly.specs.Polynomials.{Summands}
 use Rattle.geo_poly.specs.Values.{integer, monomial_value, value}
 use Rattle.ring_laws.proofs.Fractions.{fractions}
 use Rattle.ring_laws.specs.Fraction.{Fraction}
@@ -41,10 +41,10 @@ module _ (R : Ring) (x : Var → R.carrier) where
   times : {a b c d : carrier} → a ≈ b → c ≈ d → a * c ≈ b * d
   times p q = R.mul-same _ _ _ _ p q
 
-  val : Terms → carrier
+  val : Summands → carrier
   val = value R x
 
-  pub value-times_power : (p q : Terms) (n : ℕ) → value R x (times_power p q n) ≈ value R x p * power R (value R x q) n
+  pub value-times_power : (p q : Summands) (n : ℕ) → value R x (times_power p q n) ≈ value R x p * power R (value R x q) n
   value-times_power p q zeroₙ = flip (R.mul-one (value R x p))
   value-times_power p q (suc n) =
       value-product_of R x (times_power p q n) q ∘ times (value-times_power p q n) self ∘ R.mul_assoc (value R x p) (power R (value R x q) n) (value R x q)
@@ -79,12 +79,12 @@ module _ (R : Ring) (x : Var → R.carrier) where
     numerators rows [] = one
     numerators rows (v ∷ m) = numerator (row_of rows v.0) v.1 * numerators rows m
 
-    value-times_row : (o : Option Row) (n : ℕ) (p : Terms) → value R x (times_row o n p) ≈ value R x p * numerator o n
+    value-times_row : (o : Option Row) (n : ℕ) (p : Summands) → value R x (times_row o n p) ≈ value R x p * numerator o n
     unfolding numerator
     value-times_row None n p = flip (R.mul-one (value R x p))
     value-times_row (Some r) n p = value-times_power p r.num.poly n
 
-    value-times_rows : (rows : List Row) (m : Powers) (p : Terms) → value R x (times_rows rows m p) ≈ value R x p * numerators rows m
+    value-times_rows : (rows : List Row) (m : Powers) (p : Summands) → value R x (times_rows rows m p) ≈ value R x p * numerators rows m
     unfolding numerators
     value-times_rows rows [] p = flip (R.mul-one (value R x p))
     value-times_rows rows (v ∷ m) p =
@@ -117,7 +117,7 @@ module _ (R : Ring) (x : Var → R.carrier) where
             ∘ agree R (entry_at R (p ∷ k ∷ monomial_value R x m ∷ power R d (denominators rows m) ∷ [])) (a ⊠ b ⊠ (c ⊠ e)) (a ⊠ c ⊠ (b ⊠ e)) tt
             ∘ times self (flip (power-add R d (r.power *ₙ v.1) (denominators rows m)))
 
-    value-replaced_term : (rows : List Row) (den : Terms) (top : ℕ) (t : Powers × ℤ) → RowsHold d rows → value R x den ≈ d → denominators rows t.0 ≤ top
+    value-replaced_term : (rows : List Row) (den : Summands) (top : ℕ) (t : Powers × ℤ) → RowsHold d rows → value R x den ≈ d → denominators rows t.0 ≤ top
         → value R x (replaced_term rows den top t) ≈ (integer R t.1 * monomial_value R x t.0) * power R d top
     value-replaced_term rows den top t h den-is le =
         let a = variable 0 in let b = variable 1 in let c = variable 2 in let e = variable 3 in
@@ -132,7 +132,7 @@ module _ (R : Ring) (x : Var → R.carrier) where
         ∘ agree R (entry_at R (i ∷ m ∷ power R d k ∷ power R d (top -ₙ k) ∷ [])) (a ⊠ (b ⊠ c) ⊠ e) (a ⊠ b ⊠ (c ⊠ e)) tt
         ∘ times self (flip (power-add R d k (top -ₙ k)) ∘ subst (λ j. power R d j ≈ power R d top) (sym all) self)
 
-    value-replaced_terms : (rows : List Row) (den : Terms) (top : ℕ) (p : Terms) → RowsHold d rows → value R x den ≈ d → most_denominators rows p ≤ top
+    value-replaced_terms : (rows : List Row) (den : Summands) (top : ℕ) (p : Summands) → RowsHold d rows → value R x den ≈ d → most_denominators rows p ≤ top
         → value R x (replaced_terms rows den top p) ≈ value R x p * power R d top
     value-replaced_terms rows den top [] h den-is le = flip (R.mul_comm zero (power R d top) ∘ Laws.mul-zero R (power R d top))
     value-replaced_terms rows den top (t ∷ ts) h den-is le =
@@ -141,7 +141,7 @@ module _ (R : Ring) (x : Var → R.carrier) where
         ∘ flip (Laws.add-mul R (integer R t.1 * monomial_value R x t.0) (value R x ts) (power R d top))
 
     -- THE LAW OF A MOVE
-    pub value-replaced_by : (rows : List Row) (den p : Terms) → RowsHold d rows → value R x den ≈ d
+    pub value-replaced_by : (rows : List Row) (den p : Summands) → RowsHold d rows → value R x den ≈ d
         → value R x (replaced_by rows den p) ≈ value R x p * power R d (most_denominators rows p)
     value-replaced_by rows den p h den-is =
         let top = most_denominators rows p in

@@ -16,7 +16,7 @@ use Rattle.sparse_lists.proofs.Canonical.{amount-canonical, same_list}
 use Rattle.geo_poly.specs.declared.variables.Var.{Var}
 use Rattle.geo_poly.specs.Variables.{var_cmp}
 use Rattle.geo_poly.specs.Monomials.{Powers, exponents, exponent, IsMonomial}
-use Rattle.geo_poly.specs.Polynomials.{Terms, coefficients, term_cmp}
+use Rattle.geo_poly.specs.Polynomials.{Summands, coefficients, term_cmp}
 use Rattle.geo_poly.specs.Specialise.{without, specialised_term, specialised, degree_in, IsCollected}
 use Rattle.geo_poly.proofs.Orders.{var_order, exponents_add, term_order}
 use Rattle.geo_poly.proofs.PolynomialLaws.{coefficients_add}
@@ -169,11 +169,11 @@ module _ (n : Powers) (v : Var) where
   abbrev part : Powers × ℤ → ℤ
   part t = cond (is_eq (term_cmp n (without v t.0))) t.1 (pos 0)
 
-  abbrev pub parts : Terms → List ℤ
+  abbrev pub parts : Summands → List ℤ
   parts [] = []
   parts (t ∷ ts) = add_at (exponent v t.0) (part t) (parts ts)
 
-  length-parts-le : (p : Terms) → length (parts p) ≤ degree_in v p + 1
+  length-parts-le : (p : Summands) → length (parts p) ≤ degree_in v p + 1
   length-parts-le [] = omega arith
   length-parts-le (t ∷ ts) = omega (arith, length-add_at-le (exponent v t.0) (part t) (parts ts), length-parts-le ts)
 
@@ -182,13 +182,13 @@ module _ (n : Powers) (v : Var) where
   cond_times false c w = let x = variable 0 in agree integers (entry_at integers (w ∷ [])) (numeral 0) (numeral 0 ⊠ x) tt
 
   -- the coefficient of n in what becomes of the terms with z for v
-  amount-parts : (z : ℤ) (p : Terms) → amount term_cmp coefficients n (map (specialised_term v z) p) ≡ at_number (parts p) z
+  amount-parts : (z : ℤ) (p : Summands) → amount term_cmp coefficients n (map (specialised_term v z) p) ≡ at_number (parts p) z
   amount-parts z [] = refl
   amount-parts z (t ∷ ts) =
       ap₂ (λ a b. a +ℤ b) (cond_times (is_eq (term_cmp n (without v t.0))) t.1 (int_pow z (exponent v t.0))) (amount-parts z ts)
       ∙ sym (at_number-add_at (exponent v t.0) (part t) (parts ts) z)
 
-  root_of_parts : (z : ℤ) (p : Terms) → specialised v z p ≡ [] → at_number (parts p) z ≡ pos 0
+  root_of_parts : (z : ℤ) (p : Summands) → specialised v z p ≡ [] → at_number (parts p) z ≡ pos 0
   root_of_parts z p e =
       sym (amount-parts z p) ∙ sym (amount-canonical term_cmp coefficients term_order coefficients_add n (map (specialised_term v z) p))
       ∙ ap (amount term_cmp coefficients n) e
@@ -203,7 +203,7 @@ same_monomial v m n h g rest e = same_list var_cmp exponents var_order exponents
     go w Equal f = subst (λ (u : Var). exponent u m ≡ exponent u n) (sym (var_order.exact w v f)) e
 
 -- no later term has the same place
-no_other : (v : Var) (m : Powers) (ts : Terms) → IsMonomial m → AllKeys IsMonomial ts → IsBefore term_cmp m ts → get_or (parts (without v m) v ts) (exponent v m) (pos 0) ≡ pos 0
+no_other : (v : Var) (m : Powers) (ts : Summands) → IsMonomial m → AllKeys IsMonomial ts → IsBefore term_cmp m ts → get_or (parts (without v m) v ts) (exponent v m) (pos 0) ≡ pos 0
 no_other v m [] h g b = refl
 no_other v m (t ∷ ts) h g b = go (eqb (exponent v t.0) (exponent v m)) refl (no_other v m ts h g.1 b.1)
   where
@@ -230,23 +230,23 @@ no_other v m (t ∷ ts) h g b = go (eqb (exponent v t.0) (exponent v m)) refl (n
         ∙ ap₂ (λ a b. a +ℤ b) (different e (term_cmp (without v m) (without v t.0)) refl) (ap (λ (j : ℕ). get_or (parts (without v m) v ts) j (pos 0)) e ∙ rest)
 
 -- the first coefficient stands at its place
-first_part : (v : Var) (t : Powers × ℤ) (ts : Terms) → IsCollected (t ∷ ts) → get_or (parts (without v t.0) v (t ∷ ts)) (exponent v t.0) (pos 0) ≡ t.1
+first_part : (v : Var) (t : Powers × ℤ) (ts : Summands) → IsCollected (t ∷ ts) → get_or (parts (without v t.0) v (t ∷ ts)) (exponent v t.0) (pos 0) ≡ t.1
 first_part v t ts h =
     add_at_same (exponent v t.0) (part (without v t.0) v t) (parts (without v t.0) v ts)
     ∙ ap₂ (λ a b. a +ℤ b) (ap (λ (o : Ordering). cond (is_eq o) t.1 (pos 0)) (term_order.self (without v t.0))) (no_other v t.0 ts h.monomials.0 h.monomials.1 h.in_order.1)
     ∙ (let add_zero : t.1 +ℤ pos 0 ≡ t.1 = omega (arith, ints) in add_zero)
 
 -- zs are numbers at which p becomes zero
-abbrev pub AreZeros : Var → Terms → List ℤ → Type 0
+abbrev pub AreZeros : Var → Summands → List ℤ → Type 0
 AreZeros v p [] = Unit {0}
 AreZeros v p (z ∷ zs) = (specialised v z p ≡ []) × AreZeros v p zs
 
-roots_of_zeros : (n : Powers) (v : Var) (p : Terms) (zs : List ℤ) → AreZeros v p zs → AreRoots (parts n v p) zs
+roots_of_zeros : (n : Powers) (v : Var) (p : Summands) (zs : List ℤ) → AreZeros v p zs → AreRoots (parts n v p) zs
 roots_of_zeros n v p [] h = tt
 roots_of_zeros n v p (z ∷ zs) h = (root_of_parts n v z p h.0, roots_of_zeros n v p zs h.1)
 
 -- THE ROOT BOUND
-pub zeros_are_few : (v : Var) (p : Terms) (zs : List ℤ) → IsCollected p → (p ≡ [] → ⊥) → AreApart zs → AreZeros v p zs → length zs ≤ degree_in v p
+pub zeros_are_few : (v : Var) (p : Summands) (zs : List ℤ) → IsCollected p → (p ≡ [] → ⊥) → AreApart zs → AreZeros v p zs → length zs ≤ degree_in v p
 zeros_are_few v [] zs h n apart zeros = absurd (n refl)
 zeros_are_few v (t ∷ ts) zs h n apart zeros = go (ltb (degree_in v (t ∷ ts)) (length zs)) refl
   where

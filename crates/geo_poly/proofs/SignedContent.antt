@@ -8,7 +8,7 @@ use Rattle.std.proofs.lemmas.Int.{ints, to_z-of_z, fits_signed_from_abs}
 use Rattle.std.proofs.lemmas.List.Elements.{All-head}
 use Rattle.geo_poly.specs.declared.variables.Var.{Var}
 use Rattle.geo_poly.specs.Monomials.{Powers, IsMonomial, exponent}
-use Rattle.geo_poly.specs.Polynomials.{Terms, IsPolynomial}
+use Rattle.geo_poly.specs.Polynomials.{Summands, IsPolynomial}
 use Rattle.geo_poly.specs.Factors.{DividesAll, IsFactor, IsFactorOf, IsLeastExponent, leading_coefficient}
 
 -- z is D with the sign of c
@@ -21,12 +21,12 @@ size-negated D = omega (arith, ints)
 pub size-signed : (c D z : ℤ) → IsSigned c D z → unsigned_abs z ≡ unsigned_abs D
 size-signed c D z h = elim h.choice [ inl p ↦ ap unsigned_abs p.1 ∙ size-negated D | inr p ↦ ap unsigned_abs p.1 ]
 
-pub leading_coefficient-is : (p : Terms) (t : Powers × ℤ) → 0 < length p → leading_coefficient p ≡ (get_or p 0 t).1
+pub leading_coefficient-is : (p : Summands) (t : Powers × ℤ) → 0 < length p → leading_coefficient p ≡ (get_or p 0 t).1
 leading_coefficient-is [] t h = absurd (omega arith)
 leading_coefficient-is (u ∷ us) t h = refl
 
 -- a divisor of the coefficients is not 0
-pub nonzero_divisor : (p : Terms) (d : ℕ) → IsPolynomial p → 0 < length p → DividesAll d p → d ≡ 0 → ⊥
+pub nonzero_divisor : (p : Summands) (d : ℕ) → IsPolynomial p → 0 < length p → DividesAll d p → d ≡ 0 → ⊥
 nonzero_divisor [] d h some all e = absurd (omega arith)
 nonzero_divisor (t ∷ ts) d h some all e =
     let zero-dvd : 0 ∣ unsigned_abs t.1 = subst (λ n. n ∣ unsigned_abs t.1) e (All-head (λ (t : Powers × ℤ). d ∣ unsigned_abs t.1) t ts all) in
@@ -46,14 +46,14 @@ signs c D z positive nonzero h = elim h.choice [
     not_negative : (D z : ℤ) → D ≡ pos (unsigned_abs D) → z ≡ D → z <ℤ pos 0 → ⊥
     not_negative D z positive e below = omega (arith, ints, positive, e, below)
 
-pub IsFactor-signed : (p : Terms) (m : Powers) (D z : ℤ) → IsPolynomial p → 0 < length p → DividesAll (unsigned_abs D) p → unsigned_abs D < 2 ^ 127 → IsSigned (leading_coefficient p) D z → IsMonomial m → IsFactor (m, z)
+pub IsFactor-signed : (p : Summands) (m : Powers) (D z : ℤ) → IsPolynomial p → 0 < length p → DividesAll (unsigned_abs D) p → unsigned_abs D < 2 ^ 127 → IsSigned (leading_coefficient p) D z → IsMonomial m → IsFactor (m, z)
 IsFactor-signed p m D z h some divides fits signed monomial = record {
   monomial = monomial;
   nonzero = λ e. nonzero_divisor p (unsigned_abs D) h some divides (sym (size-signed (leading_coefficient p) D z signed) ∙ e);
   fits = omega (arith, size-signed (leading_coefficient p) D z signed, fits);
 }
 
-pub IsFactorOf-signed : (ks : List Var) (p : Terms) (m : Powers) (D z : ℤ)
+pub IsFactorOf-signed : (ks : List Var) (p : Summands) (m : Powers) (D z : ℤ)
     → IsPolynomial p
     → 0 < length p
     → D ≡ pos (unsigned_abs D)

@@ -21,7 +21,7 @@ use Rattle.sparse_lists.proofs.Sums.{AllKeys-canonical, sum_by-canonical-le}
 use Rattle.geo_poly.specs.declared.variables.Var.{Var}
 use Rattle.geo_poly.specs.Variables.{var_cmp}
 use Rattle.geo_poly.specs.Monomials.{Powers, exponents, exponent, degree_of, IsMonomial}
-use Rattle.geo_poly.specs.Polynomials.{Terms, coefficients, term_cmp, polynomial_of, norm_of, total_degree, IsPolynomial, sum_of}
+use Rattle.geo_poly.specs.Polynomials.{Summands, coefficients, term_cmp, polynomial_of, norm_of, total_degree, IsPolynomial, sum_of}
 use Rattle.geo_poly.specs.Values.{integer, monomial_value, value}
 use Rattle.geo_poly.specs.Specialise.{without, specialised_term, specialised, specialised_weight, degree_in, IsCollected, IsSmaller}
 use Rattle.geo_poly.proofs.Orders.{var_order, term_order}
@@ -104,18 +104,18 @@ IsMonomial-without v m h = record {
 
 -- THE POLYNOMIAL
 -- what holds of each monomial without v holds of each monomial of the result
-keys : (P : Powers → Type 0) (v : Var) (z : ℤ) (p : Terms) → AllKeys (λ m. P (without v m)) p → AllKeys P (map (specialised_term v z) p)
+keys : (P : Powers → Type 0) (v : Var) (z : ℤ) (p : Summands) → AllKeys (λ m. P (without v m)) p → AllKeys P (map (specialised_term v z) p)
 keys P v z [] h = tt
 keys P v z (t ∷ ts) h = (h.0, keys P v z ts h.1)
 
-pub AllKeys-specialised : (P : Powers → Type 0) (v : Var) (z : ℤ) (p : Terms) → AllKeys (λ m. P (without v m)) p → AllKeys P (specialised v z p)
+pub AllKeys-specialised : (P : Powers → Type 0) (v : Var) (z : ℤ) (p : Summands) → AllKeys (λ m. P (without v m)) p → AllKeys P (specialised v z p)
 AllKeys-specialised P v z p h = AllKeys-canonical term_cmp coefficients P (map (specialised_term v z) p) (keys P v z p h)
 
-pub AllKeys-weaker : (P Q : Powers → Type 0) → ((m : Powers) → P m → Q m) → (p : Terms) → AllKeys P p → AllKeys Q p
+pub AllKeys-weaker : (P Q : Powers → Type 0) → ((m : Powers) → P m → Q m) → (p : Summands) → AllKeys P p → AllKeys Q p
 AllKeys-weaker P Q f [] h = tt
 AllKeys-weaker P Q f (t ∷ ts) h = (f t.0 h.0, AllKeys-weaker P Q f ts h.1)
 
-norm_of-terms : (v : Var) (z : ℤ) (p : Terms) → norm_of (map (specialised_term v z) p) ≡ specialised_weight v z p
+norm_of-terms : (v : Var) (z : ℤ) (p : Summands) → norm_of (map (specialised_term v z) p) ≡ specialised_weight v z p
 norm_of-terms v z [] = refl
 norm_of-terms v z (t ∷ ts) =
     let f : Powers × ℤ → ℕ = λ t. unsigned_abs t.1 in
@@ -124,7 +124,7 @@ norm_of-terms v z (t ∷ ts) =
     ∙ ap₂ (λ a b. a +ₙ b) (unsigned_abs-mul t.1 (int_pow z (exponent v t.0)) ∙ ap (λ k. unsigned_abs t.1 *ₙ k) (unsigned_abs-int_pow z (exponent v t.0))) (norm_of-terms v z ts)
     ∙ sym (sum_by-cons g t ts)
 
-pub norm_of-specialised-le : (v : Var) (z : ℤ) (p : Terms) → norm_of (specialised v z p) ≤ specialised_weight v z p
+pub norm_of-specialised-le : (v : Var) (z : ℤ) (p : Summands) → norm_of (specialised v z p) ≤ specialised_weight v z p
 norm_of-specialised-le v z p = omega (arith, norm_of-polynomial_of-le (map (specialised_term v z) p), norm_of-terms v z p)
 
 -- the weight at small numbers
@@ -132,7 +132,7 @@ small_power : (a e : ℕ) → a ≤ 1 → a ^ e ≤ 1
 small_power a zero h = omega (arith, pow-zero a)
 small_power a (suc e) h = omega (arith, pow-suc a e, mul-le-mul (small_power a e h) h)
 
-pub small_weight : (v : Var) (z : ℤ) (p : Terms) → unsigned_abs z ≤ 1 → specialised_weight v z p ≤ norm_of p
+pub small_weight : (v : Var) (z : ℤ) (p : Summands) → unsigned_abs z ≤ 1 → specialised_weight v z p ≤ norm_of p
 small_weight v z [] h = omega arith
 small_weight v z (t ∷ ts) h =
     let f : Powers × ℤ → ℕ = λ t. unsigned_abs t.1 in
@@ -140,64 +140,64 @@ small_weight v z (t ∷ ts) h =
     let le : unsigned_abs t.1 *ₙ unsigned_abs z ^ exponent v t.0 ≤ unsigned_abs t.1 *ₙ 1 = mul-le-mul_left (unsigned_abs t.1) (small_power (unsigned_abs z) (exponent v t.0) h) in
     omega (arith, le, small_weight v z ts h, sum_by-cons f t ts, sum_by-cons g t ts)
 
-pub IsPolynomial-specialised : (v : Var) (z : ℤ) (p : Terms) → AllKeys IsMonomial p → specialised_weight v z p < 2 ^ 127 → IsPolynomial (specialised v z p)
+pub IsPolynomial-specialised : (v : Var) (z : ℤ) (p : Summands) → AllKeys IsMonomial p → specialised_weight v z p < 2 ^ 127 → IsPolynomial (specialised v z p)
 IsPolynomial-specialised v z p h fits = record {
   in_order = IsCanonical-polynomial_of (map (specialised_term v z) p);
   monomials = AllKeys-specialised IsMonomial v z p (AllKeys-weaker IsMonomial (λ m. IsMonomial (without v m)) (IsMonomial-without v) p h);
   norm_fits = omega (arith, norm_of-specialised-le v z p, fits);
 }
 
-pub IsCollected-specialised : (v : Var) (z : ℤ) (p : Terms) → IsCollected p → IsCollected (specialised v z p)
+pub IsCollected-specialised : (v : Var) (z : ℤ) (p : Summands) → IsCollected p → IsCollected (specialised v z p)
 IsCollected-specialised v z p h = record {
   in_order = IsCanonical-polynomial_of (map (specialised_term v z) p);
   monomials = AllKeys-specialised IsMonomial v z p (AllKeys-weaker IsMonomial (λ m. IsMonomial (without v m)) (IsMonomial-without v) p h.monomials);
 }
 
 -- a canonical list is no longer than the list
-ones : (p : Terms) → sum_by (λ t. 1) p ≡ length p
+ones : (p : Summands) → sum_by (λ t. 1) p ≡ length p
 ones [] = refl
 ones (t ∷ ts) = omega (arith, sum_by-cons (λ (t : Powers × ℤ). 1) t ts, ones ts)
 
-length-map_terms : (v : Var) (z : ℤ) (p : Terms) → length (map (specialised_term v z) p) ≡ length p
+length-map_terms : (v : Var) (z : ℤ) (p : Summands) → length (map (specialised_term v z) p) ≡ length p
 length-map_terms v z [] = refl
 length-map_terms v z (t ∷ ts) = omega (arith, length-map_terms v z ts)
 
-length-specialised-le : (v : Var) (z : ℤ) (p : Terms) → length (specialised v z p) ≤ length p
+length-specialised-le : (v : Var) (z : ℤ) (p : Summands) → length (specialised v z p) ≤ length p
 length-specialised-le v z p =
     let fewer : sum_by (λ (t : Powers × ℤ). 1) (specialised v z p) ≤ sum_by (λ (t : Powers × ℤ). 1) (map (specialised_term v z) p) =
     sum_by-canonical-le term_cmp coefficients term_order coefficients_add (λ t. 1) (λ k a b. omega arith) (map (specialised_term v z) p) in
     omega (arith, fewer, ones (specialised v z p), ones (map (specialised_term v z) p), length-map_terms v z p)
 
 -- a list in two parts
-pub specialised_halves : (v : Var) (z : ℤ) (n : ℕ) (p : Terms) → sum_of (specialised v z (take n p)) (specialised v z (drop n p)) ≡ specialised v z p
+pub specialised_halves : (v : Var) (z : ℤ) (n : ℕ) (p : Summands) → sum_of (specialised v z (take n p)) (specialised v z (drop n p)) ≡ specialised v z p
 specialised_halves v z n p =
     sum_of-polynomial_of (map (specialised_term v z) (take n p)) (map (specialised_term v z) (drop n p))
     ∙ ap polynomial_of (sym (map-append (specialised_term v z) (take n p) (drop n p)) ∙ ap (map (specialised_term v z)) (take-append-drop n p))
 
-pub weight_halves : (v : Var) (z : ℤ) (n : ℕ) (p : Terms) → specialised_weight v z (take n p) +ₙ specialised_weight v z (drop n p) ≡ specialised_weight v z p
+pub weight_halves : (v : Var) (z : ℤ) (n : ℕ) (p : Summands) → specialised_weight v z (take n p) +ₙ specialised_weight v z (drop n p) ≡ specialised_weight v z p
 weight_halves v z n p =
     sym (sum_by-append (λ (t : Powers × ℤ). unsigned_abs t.1 *ₙ unsigned_abs z ^ exponent v t.0) (take n p) (drop n p)) ∙ ap (specialised_weight v z) (take-append-drop n p)
 
-pub weight-more : (v : Var) (z : ℤ) (p : Terms) (i : ℕ) (t : Powers × ℤ) → i < length p → t ≡ get_or p i t
+pub weight-more : (v : Var) (z : ℤ) (p : Summands) (i : ℕ) (t : Powers × ℤ) → i < length p → t ≡ get_or p i t
     → specialised_weight v z (take (i +ₙ 1) p) ≡ specialised_weight v z (take i p) +ₙ unsigned_abs t.1 *ₙ unsigned_abs z ^ exponent v t.0
 weight-more v z p i t h e =
     let f : Powers × ℤ → ℕ = λ t. unsigned_abs t.1 *ₙ unsigned_abs z ^ exponent v t.0 in
     ap (specialised_weight v z) (take_more p i t h) ∙ sum_by-append f (take i p) (get_or p i t ∷ [])
     ∙ (let one : sum_by f (get_or p i t ∷ []) ≡ f t = ap (λ (u : Powers × ℤ). sum_by f (u ∷ [])) (sym e) ∙ (let s : sum_by f (t ∷ []) ≡ f t = omega (arith, sum_by-cons f t []) in s) in ap (λ k. specialised_weight v z (take i p) +ₙ k) one)
 
-pub weight_front : (v : Var) (z : ℤ) (n : ℕ) (p : Terms) → specialised_weight v z p < 2 ^ 127 → specialised_weight v z (take n p) < 2 ^ 127
+pub weight_front : (v : Var) (z : ℤ) (n : ℕ) (p : Summands) → specialised_weight v z p < 2 ^ 127 → specialised_weight v z (take n p) < 2 ^ 127
 weight_front v z n p fits = omega (arith, fits, weight_halves v z n p)
 
-pub weight_back : (v : Var) (z : ℤ) (n : ℕ) (p : Terms) → specialised_weight v z p < 2 ^ 127 → specialised_weight v z (drop n p) < 2 ^ 127
+pub weight_back : (v : Var) (z : ℤ) (n : ℕ) (p : Summands) → specialised_weight v z p < 2 ^ 127 → specialised_weight v z (drop n p) < 2 ^ 127
 weight_back v z n p fits = omega (arith, fits, weight_halves v z n p)
 
-pub IsCanonical-take : (n : ℕ) (p : Terms) → IsCanonical term_cmp coefficients p → IsCanonical term_cmp coefficients (take n p)
+pub IsCanonical-take : (n : ℕ) (p : Summands) → IsCanonical term_cmp coefficients p → IsCanonical term_cmp coefficients (take n p)
 IsCanonical-take n p h = IsCanonical_front (take n p) (drop n p) (subst (IsCanonical term_cmp coefficients) (sym (take-append-drop n p)) h)
 
-pub IsCanonical-drop : (n : ℕ) (p : Terms) → IsCanonical term_cmp coefficients p → IsCanonical term_cmp coefficients (drop n p)
+pub IsCanonical-drop : (n : ℕ) (p : Summands) → IsCanonical term_cmp coefficients p → IsCanonical term_cmp coefficients (drop n p)
 IsCanonical-drop n p h = IsCanonical_back (take n p) (drop n p) (subst (IsCanonical term_cmp coefficients) (sym (take-append-drop n p)) h)
 
-pub IsCanonical-specialised : (v : Var) (z : ℤ) (p : Terms) → IsCanonical term_cmp coefficients (specialised v z p)
+pub IsCanonical-specialised : (v : Var) (z : ℤ) (p : Summands) → IsCanonical term_cmp coefficients (specialised v z p)
 IsCanonical-specialised v z p = IsCanonical-polynomial_of (map (specialised_term v z) p)
 
 -- a power of a number fits where a multiple of it does
@@ -211,59 +211,59 @@ pub multiple_fits : (c z : ℤ) (e : ℕ) → unsigned_abs c *ₙ unsigned_abs z
 multiple_fits c z e fits =
     fits_signed_from_abs w128 (c *ℤ int_pow z e) (omega (arith, fits, unsigned_abs-mul c (int_pow z e), ap (λ k. unsigned_abs c *ₙ k) (unsigned_abs-int_pow z e)))
 
-pub specialised_halves_fit : (v : Var) (z : ℤ) (n : ℕ) (p : Terms) → specialised_weight v z p < 2 ^ 127 → norm_of (specialised v z (take n p)) +ₙ norm_of (specialised v z (drop n p)) < 2 ^ 127
+pub specialised_halves_fit : (v : Var) (z : ℤ) (n : ℕ) (p : Summands) → specialised_weight v z p < 2 ^ 127 → norm_of (specialised v z (take n p)) +ₙ norm_of (specialised v z (drop n p)) < 2 ^ 127
 specialised_halves_fit v z n p fits =
     omega (arith, fits, weight_halves v z n p, norm_of-specialised-le v z (take n p), norm_of-specialised-le v z (drop n p))
 
 -- EXPONENTS AND DEGREES
-pub degree_in-from_keys : (w : Var) (d : ℕ) (p : Terms) → AllKeys (λ m. exponent w m ≤ d) p → degree_in w p ≤ d
+pub degree_in-from_keys : (w : Var) (d : ℕ) (p : Summands) → AllKeys (λ m. exponent w m ≤ d) p → degree_in w p ≤ d
 degree_in-from_keys w d [] h = omega arith
 degree_in-from_keys w d (t ∷ ts) h = omega (arith, h.0, degree_in-from_keys w d ts h.1)
 
-pub keys_from_degree_in : (w : Var) (d : ℕ) (p : Terms) → degree_in w p ≤ d → AllKeys (λ m. exponent w m ≤ d) p
+pub keys_from_degree_in : (w : Var) (d : ℕ) (p : Summands) → degree_in w p ≤ d → AllKeys (λ m. exponent w m ≤ d) p
 keys_from_degree_in w d [] h = tt
 keys_from_degree_in w d (t ∷ ts) h = (omega (arith, h), keys_from_degree_in w d ts (omega (arith, h)))
 
 -- one more monomial
-degree_in-append : (v : Var) (p q : Terms) → degree_in v (p ++ q) ≡ max (degree_in v p) (degree_in v q)
+degree_in-append : (v : Var) (p q : Summands) → degree_in v (p ++ q) ≡ max (degree_in v p) (degree_in v q)
 degree_in-append v [] q = omega arith
 degree_in-append v (t ∷ ts) q = omega (arith, degree_in-append v ts q)
 
-pub degree_in-more : (v : Var) (p : Terms) (i : ℕ) (t : Powers × ℤ) → i < length p → t ≡ get_or p i t → degree_in v (take (i +ₙ 1) p) ≡ max (degree_in v (take i p)) (exponent v t.0)
+pub degree_in-more : (v : Var) (p : Summands) (i : ℕ) (t : Powers × ℤ) → i < length p → t ≡ get_or p i t → degree_in v (take (i +ₙ 1) p) ≡ max (degree_in v (take i p)) (exponent v t.0)
 degree_in-more v p i t h e =
     ap (degree_in v) (take_more p i t h) ∙ degree_in-append v (take i p) (get_or p i t ∷ [])
     ∙ (let last : max (exponent v (get_or p i t).0) 0 ≡ exponent v t.0 = ap (λ (u : Powers × ℤ). max (exponent v u.0) 0) (sym e) ∙ (let m : max (exponent v t.0) 0 ≡ exponent v t.0 = omega arith in m) in ap (λ k. max (degree_in v (take i p)) k) last)
 
-pub degree_in-specialised_self : (v : Var) (z : ℤ) (p : Terms) → degree_in v (specialised v z p) ≡ 0
+pub degree_in-specialised_self : (v : Var) (z : ℤ) (p : Summands) → degree_in v (specialised v z p) ≡ 0
 degree_in-specialised_self v z p =
     let le : degree_in v (specialised v z p) ≤ 0 = degree_in-from_keys v 0 (specialised v z p) (AllKeys-specialised (λ m. exponent v m ≤ 0) v z p (all p)) in
     omega (arith, le)
   where
-    all : (p : Terms) → AllKeys (λ m. exponent v (without v m) ≤ 0) p
+    all : (p : Summands) → AllKeys (λ m. exponent v (without v m) ≤ 0) p
     all [] = tt
     all (t ∷ ts) = (omega (arith, exponent-without_self v t.0), all ts)
 
-pub degree_in-specialised-le : (v : Var) (z : ℤ) (w : Var) (p : Terms) → degree_in w (specialised v z p) ≤ degree_in w p
+pub degree_in-specialised-le : (v : Var) (z : ℤ) (w : Var) (p : Summands) → degree_in w (specialised v z p) ≤ degree_in w p
 degree_in-specialised-le v z w p =
     let d = degree_in w p in
     degree_in-from_keys w d (specialised v z p) (AllKeys-specialised (λ m. exponent w m ≤ d) v z p
     (AllKeys-weaker (λ m. exponent w m ≤ d) (λ m. exponent w (without v m) ≤ d) (λ m h. omega (arith, h, exponent-without-le v w m)) p (keys_from_degree_in w d p (omega arith))))
 
-degree_from_keys : (d : ℕ) (p : Terms) → AllKeys (λ m. degree_of m ≤ d) p → total_degree p ≤ d
+degree_from_keys : (d : ℕ) (p : Summands) → AllKeys (λ m. degree_of m ≤ d) p → total_degree p ≤ d
 degree_from_keys d [] h = omega arith
 degree_from_keys d (t ∷ ts) h = omega (arith, h.0, degree_from_keys d ts h.1)
 
-keys_from_degree : (d : ℕ) (p : Terms) → total_degree p ≤ d → AllKeys (λ m. degree_of m ≤ d) p
+keys_from_degree : (d : ℕ) (p : Summands) → total_degree p ≤ d → AllKeys (λ m. degree_of m ≤ d) p
 keys_from_degree d [] h = tt
 keys_from_degree d (t ∷ ts) h = (omega (arith, h), keys_from_degree d ts (omega (arith, h)))
 
-pub total_degree-specialised-le : (v : Var) (z : ℤ) (p : Terms) → total_degree (specialised v z p) ≤ total_degree p
+pub total_degree-specialised-le : (v : Var) (z : ℤ) (p : Summands) → total_degree (specialised v z p) ≤ total_degree p
 total_degree-specialised-le v z p =
     let d = total_degree p in
     degree_from_keys d (specialised v z p) (AllKeys-specialised (λ m. degree_of m ≤ d) v z p
     (AllKeys-weaker (λ m. degree_of m ≤ d) (λ m. degree_of (without v m) ≤ d) (λ m h. omega (arith, h, degree_of-without-le v m)) p (keys_from_degree d p (omega arith))))
 
-pub IsSmaller-specialised : (v : Var) (z : ℤ) (p : Terms) → IsSmaller v z p
+pub IsSmaller-specialised : (v : Var) (z : ℤ) (p : Summands) → IsSmaller v z p
 IsSmaller-specialised v z p = record {
   collected = IsCollected-specialised v z p;
   gone = degree_in-specialised_self v z p;
@@ -293,21 +293,21 @@ times_one c = *ℤ-one c
 times_power_zero : (c z : ℤ) → c *ℤ int_pow z 0 ≡ c
 times_power_zero c z = ap (λ k. c *ℤ k) (int_pow-zero z) ∙ times_one c
 
-terms-lacking : (v : Var) (z : ℤ) (p : Terms) → AllKeys IsMonomial p → degree_in v p ≡ 0 → map (specialised_term v z) p ≡ p
+terms-lacking : (v : Var) (z : ℤ) (p : Summands) → AllKeys IsMonomial p → degree_in v p ≡ 0 → map (specialised_term v z) p ≡ p
 terms-lacking v z [] h none = refl
 terms-lacking v z (t ∷ ts) h none =
     let first : exponent v t.0 ≡ 0 = omega (arith, none) in
     let same : specialised_term v z t ≡ t =
     ap₂ (λ (m : Powers) (c : ℤ). (m, c)) (without-lacking v t.0 h.0.in_order first) (ap (λ e. t.1 *ℤ int_pow z e) first ∙ times_power_zero t.1 z) in
-    ap₂ (λ (u : Powers × ℤ) (us : Terms). u ∷ us) same (terms-lacking v z ts h.1 (omega (arith, none)))
+    ap₂ (λ (u : Powers × ℤ) (us : Summands). u ∷ us) same (terms-lacking v z ts h.1 (omega (arith, none)))
 
 -- it stays as it is
-pub specialised-lacking : (v : Var) (z : ℤ) (p : Terms) → IsCollected p → degree_in v p ≡ 0 → specialised v z p ≡ p
+pub specialised-lacking : (v : Var) (z : ℤ) (p : Summands) → IsCollected p → degree_in v p ≡ 0 → specialised v z p ≡ p
 specialised-lacking v z p h none =
     ap polynomial_of (terms-lacking v z p h.monomials none) ∙ canonical_self term_cmp coefficients term_order coefficients_add p h.in_order
 
 -- its weight is its norm
-pub weight-lacking : (v : Var) (z : ℤ) (p : Terms) → degree_in v p ≡ 0 → specialised_weight v z p ≡ norm_of p
+pub weight-lacking : (v : Var) (z : ℤ) (p : Summands) → degree_in v p ≡ 0 → specialised_weight v z p ≡ norm_of p
 weight-lacking v z [] none = refl
 weight-lacking v z (t ∷ ts) none =
     let f : Powers × ℤ → ℕ = λ t. unsigned_abs t.1 in
@@ -362,7 +362,7 @@ module _ (R : Ring) (x : Var → R.carrier) where
           (times self rest ∘ flip (R.mul_assoc (power R (x v) p.1) (power R (x v) (exponent v m)) (monomial_value R x (without v m))) ∘ times (flip (power-add R (x v) p.1 (exponent v m))) self)
 
   module _ (v : Var) (z : ℤ) (at : x v ≈ integer R z) where
-    value-terms : (p : Terms) → value R x (map (specialised_term v z) p) ≈ value R x p
+    value-terms : (p : Summands) → value R x (map (specialised_term v z) p) ≈ value R x p
     value-terms [] = self
     value-terms (t ∷ ts) =
         let e = exponent v t.0 in
@@ -373,5 +373,5 @@ module _ (R : Ring) (x : Var → R.carrier) where
         (value-terms ts)
 
     -- the value stays where v has the value z
-    pub value-specialised : (p : Terms) → value R x (specialised v z p) ≈ value R x p
+    pub value-specialised : (p : Summands) → value R x (specialised v z p) ≈ value R x p
     value-specialised p = value-polynomial_of R x (map (specialised_term v z) p) ∘ value-terms p

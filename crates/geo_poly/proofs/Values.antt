@@ -10,7 +10,7 @@ use Rattle.ring_laws.proofs.Powers.{power-add}
 use Rattle.geo_poly.specs.declared.variables.Var.{Var}
 use Rattle.geo_poly.specs.Variables.{var_cmp}
 use Rattle.geo_poly.specs.Monomials.{Powers, exponents, product}
-use Rattle.geo_poly.specs.Polynomials.{Terms, coefficients, term_cmp, polynomial_of, sum_of, multiples, products, product_of}
+use Rattle.geo_poly.specs.Polynomials.{Summands, coefficients, term_cmp, polynomial_of, sum_of, multiples, products, product_of}
 use Rattle.geo_poly.specs.Values.{integer, monomial_value, value}
 use Rattle.geo_poly.proofs.Orders.{var_order, exponents_add, term_order}
 use Rattle.geo_poly.proofs.PolynomialLaws.{coefficients_add}
@@ -83,7 +83,7 @@ module _ (R : Ring) where
     monomial_value-total [] = self
     monomial_value-total (p ∷ m) = times self (monomial_value-total m)
 
-    value-total : (p : Terms) → value R x p ≈ total (additive R) summand p
+    value-total : (p : Summands) → value R x p ≈ total (additive R) summand p
     unfolding summand
     value-total [] = self
     value-total (t ∷ ts) = plus self (value-total ts)
@@ -96,7 +96,7 @@ module _ (R : Ring) where
         ∘ total-append (multiplicative R) factor m n
         ∘ times (flip (monomial_value-total m)) (flip (monomial_value-total n))
 
-    pub value-polynomial_of : (p : Terms) → value R x (polynomial_of p) ≈ value R x p
+    pub value-polynomial_of : (p : Summands) → value R x (polynomial_of p) ≈ value R x p
     unfolding summand
     value-polynomial_of p =
         value-total (polynomial_of p)
@@ -105,13 +105,13 @@ module _ (R : Ring) where
         (λ m. R.mul_comm zero (monomial_value R x m) ∘ Laws.mul-zero R (monomial_value R x m)) p
         ∘ flip (value-total p)
 
-    pub value-append : (p q : Terms) → value R x (p ++ q) ≈ value R x p + value R x q
+    pub value-append : (p q : Summands) → value R x (p ++ q) ≈ value R x p + value R x q
     value-append p q = value-total (p ++ q) ∘ total-append (additive R) summand p q ∘ plus (flip (value-total p)) (flip (value-total q))
 
-    pub value-sum_of : (p q : Terms) → value R x (sum_of p q) ≈ value R x p + value R x q
+    pub value-sum_of : (p q : Summands) → value R x (sum_of p q) ≈ value R x p + value R x q
     value-sum_of p q = value-polynomial_of (p ++ q) ∘ value-append p q
 
-    value-multiples : (t : Powers × ℤ) (q : Terms) → value R x (multiples t q) ≈ (integer R t.1 * monomial_value R x t.0) * value R x q
+    value-multiples : (t : Powers × ℤ) (q : Summands) → value R x (multiples t q) ≈ (integer R t.1 * monomial_value R x t.0) * value R x q
     value-multiples t [] = flip (Laws.mul-zero R (integer R t.1 * monomial_value R x t.0))
     value-multiples t (u ∷ us) =
         let a = variable 0 in let b = variable 1 in let c = variable 2 in let d = variable 3 in
@@ -120,11 +120,11 @@ module _ (R : Ring) where
         (value-multiples t us)
         ∘ flip (R.mul-add (integer R t.1 * monomial_value R x t.0) (integer R u.1 * monomial_value R x u.0) (value R x us))
 
-    value-products : (p q : Terms) → value R x (products p q) ≈ value R x p * value R x q
+    value-products : (p q : Summands) → value R x (products p q) ≈ value R x p * value R x q
     value-products [] q = flip (R.mul_comm zero (value R x q) ∘ Laws.mul-zero R (value R x q))
     value-products (t ∷ ts) q =
         value-append (multiples t q) (products ts q) ∘ plus (value-multiples t q) (value-products ts q)
         ∘ flip (Laws.add-mul R (integer R t.1 * monomial_value R x t.0) (value R x ts) (value R x q))
 
-    pub value-product_of : (p q : Terms) → value R x (product_of p q) ≈ value R x p * value R x q
+    pub value-product_of : (p q : Summands) → value R x (product_of p q) ≈ value R x p * value R x q
     value-product_of p q = value-polynomial_of (products p q) ∘ value-products p q

@@ -10,7 +10,7 @@ use Rattle.std.specs.declared.cmp.Ordering.TheVariants.{Less, Equal, Greater}
 use Rattle.sparse_lists.specs.SparseLists.{AllKeys}
 use Rattle.geo_poly.specs.declared.variables.Var.{Var}
 use Rattle.geo_poly.specs.Monomials.{Powers, IsMonomial, exponent}
-use Rattle.geo_poly.specs.Polynomials.{Terms, IsPolynomial}
+use Rattle.geo_poly.specs.Polynomials.{Summands, IsPolynomial}
 use Rattle.geo_poly.specs.Variables.{var_cmp}
 use Rattle.geo_poly.specs.PolynomialVariables.{AllVariables, HasVariable, variables_of}
 use Rattle.geo_poly.proofs.EachVariable.{all_variables, each-contained, each-variables, from_exponents, of-exponent}
@@ -49,29 +49,29 @@ sorted-fold : (us vs : List Var) → IsStrictlySortedBy var_cmp us → IsStrictl
 sorted-fold us [] s = s
 sorted-fold us (v ∷ vs) s = sorted-fold (insert_key var_cmp us v) vs (sorted-insert_key us v s)
 
-pub variables_in_order : (q : Terms) → IsStrictlySortedBy var_cmp (variables_of q)
+pub variables_in_order : (q : Summands) → IsStrictlySortedBy var_cmp (variables_of q)
 unfolding IsStrictlySortedBy
 variables_in_order q = sorted-fold [] (flat_map (λ t. map (λ p. p.0) t.0) q) tt
 
 -- MEMBERS
-have_each : (Holds : Var → Type 0) (ts : Terms) → ((v : Var) → HasVariable v ts → Holds v) → AllKeys IsMonomial ts → AllVariables Holds ts
+have_each : (Holds : Var → Type 0) (ts : Summands) → ((v : Var) → HasVariable v ts → Holds v) → AllKeys IsMonomial ts → AllVariables Holds ts
 have_each Holds [] each m = tt
 have_each Holds (t ∷ ts) each m = (
   from_exponents Holds t.0 m.0.in_order (λ v n. each v (0, t, omega arith, refl, n)),
   have_each Holds ts (λ v h. each v (suc h.0, h.1, (let l = h.2 in omega (arith, l)), h.3, h.4)) m.1,
 )
 
-pub has_contained : (q : Terms) (v : Var) → AllKeys IsMonomial q → Contains (variables_of q) v → HasVariable v q
+pub has_contained : (q : Summands) (v : Var) → AllKeys IsMonomial q → Contains (variables_of q) v → HasVariable v q
 has_contained q v m stands =
     each-contained (λ w. HasVariable w q) (variables_of q) v (each-variables (λ w. HasVariable w q) q (have_each (λ w. HasVariable w q) q (λ w h. h) m)) stands
 
-of_has : (Holds : Var → Type 0) (ts : Terms) (v : Var) → AllVariables Holds ts → HasVariable v ts → Holds v
+of_has : (Holds : Var → Type 0) (ts : Summands) (v : Var) → AllVariables Holds ts → HasVariable v ts → Holds v
 of_has Holds [] v h (k, t, lt, e, n) = absurd (omega arith)
 of_has Holds (t ∷ ts) v h (zero, u, lt, e, n) = of-exponent Holds t.0 v h.0 (λ z. n (ap (λ (x : Powers × ℤ). exponent v x.0) (sym e) ∙ z))
 of_has Holds (t ∷ ts) v h (suc k, u, lt, e, n) = of_has Holds ts v h.1 (k, u, omega arith, e, n)
 
-pub contained_has : (q : Terms) (v : Var) → HasVariable v q → Contains (variables_of q) v
+pub contained_has : (q : Summands) (v : Var) → HasVariable v q → Contains (variables_of q) v
 contained_has q v has = of_has (Contains (variables_of q)) q v (all_variables (Contains (variables_of q)) q (λ w stands. stands)) has
 
-pub variables_exact : (q : Terms) → IsPolynomial q → (v : Var) → Contains (variables_of q) v ↔ HasVariable v q
+pub variables_exact : (q : Summands) → IsPolynomial q → (v : Var) → Contains (variables_of q) v ↔ HasVariable v q
 variables_exact q valid v = (has_contained q v valid.monomials, contained_has q v)

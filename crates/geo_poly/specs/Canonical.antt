@@ -40,7 +40,9 @@ middle_of_three a b c = a + b + c - least_of_three a b c - greatest_of_three a b
 -- the variable of the sorted points
 abbrev pub sorted_area : PointId → PointId → PointId → Var
 sorted_area a b c =
-    S (record { 0 = least_of_three a.0 b.0 c.0 }) (record { 0 = middle_of_three a.0 b.0 c.0 }) (record { 0 = greatest_of_three a.0 b.0 c.0 })
+    S (record { 0 = least_of_three a.0 b.0 c.0 })
+    (record { 0 = middle_of_three a.0 b.0 c.0 })
+    (record { 0 = greatest_of_three a.0 b.0 c.0 })
 
 -- a sign times a variable, which is the number 0 where the sign is 0
 abbrev pub signed_variable : ℤ → Var → Canon
@@ -69,17 +71,20 @@ sorted_difference a b c = if is_point a c then P (lower a b) (higher a b) (lower
 -- the Pythagoras difference of ABC: 0 where the middle is an end, else the variable
 abbrev pub canonical_difference : PointId → PointId → PointId → Canon
 canonical_difference a b c =
-    if is_point a b || is_point b c then record { sign = pos 0; var = None } else record { sign = pos 1; var = Some (sorted_difference a b c) }
+    if is_point a b || is_point b c then record { sign = pos 0; var = None }
+    else record { sign = pos 1; var = Some (sorted_difference a b c) }
 
 -- both pairs have the same points
 abbrev pub is_same_pair : PointId → PointId → PointId → PointId → Bool
 is_same_pair a b c d = is_point (lower a b) (lower c d) && is_point (higher a b) (higher c d)
 
--- the ratio AB / CD: 0 where a pair has one point twice, else -1 for each pair that stands in the wrong order, times the variable of the sorted pairs; this is 1 where they are the same
+-- the ratio AB / CD: 0 where a pair has one point twice, else -1 for each pair that stands in the wrong order, times the variable of the
+-- sorted pairs; this is 1 where they are the same
 abbrev pub canonical_ratio : PointId → PointId → PointId → PointId → Canon
 canonical_ratio a b c d =
     let sign = pair_sign a b *ℤ pair_sign c d in
-    if is_same_pair a b c d then record { sign = sign; var = None } else signed_variable sign (R (lower a b) (higher a b) (lower c d) (higher c d))
+    if is_same_pair a b c d then record { sign = sign; var = None }
+    else signed_variable sign (R (lower a b) (higher a b) (lower c d) (higher c d))
 
 -- the sign times the value of the variable; the sign alone where there is none
 abbrev pub canon_value : (ℕ → Point) → (ℕ → Fraction) → Canon → Fraction

@@ -4,7 +4,7 @@ use Rattle.geo_poly.specs.declared.replacement.Row.{Row}
 use Rattle.geo_poly.specs.declared.variables.Var.{Var}
 use Rattle.geo_poly.specs.Cuts.{IsCut}
 use Rattle.geo_poly.specs.Monomials.{Powers}
-use Rattle.geo_poly.specs.Polynomials.{Terms, difference_of, product_of, sum_of}
+use Rattle.geo_poly.specs.Polynomials.{Summands, difference_of, product_of, sum_of}
 use Rattle.geo_poly.specs.PolynomialVariables.{AllVariables}
 use Rattle.geo_poly.specs.Replace.{replaced_by, row_of}
 use Rattle.geo_poly.specs.SortedVariables.{IsSorted}
@@ -17,13 +17,13 @@ AllNumerators Holds (r ∷ rs) = AllVariables Holds r.num.poly × AllNumerators 
 
 -- the property is kept; in a replacement only the variables that stay need to have it
 pub record KeepsVariables (Holds : Var → Type 0) : Type 0 where
-  pub sum : (p q : Terms) → AllVariables Holds p → AllVariables Holds q → AllVariables Holds (sum_of p q)
-  pub difference : (p q : Terms) → AllVariables Holds p → AllVariables Holds q → AllVariables Holds (difference_of p q)
-  pub product : (p q : Terms) → AllVariables Holds p → AllVariables Holds q → AllVariables Holds (product_of p q)
-  pub replacement : (rows : List Row) (den p : Terms) → AllNumerators Holds rows → AllVariables Holds den
+  pub sum : (p q : Summands) → AllVariables Holds p → AllVariables Holds q → AllVariables Holds (sum_of p q)
+  pub difference : (p q : Summands) → AllVariables Holds p → AllVariables Holds q → AllVariables Holds (difference_of p q)
+  pub product : (p q : Summands) → AllVariables Holds p → AllVariables Holds q → AllVariables Holds (product_of p q)
+  pub replacement : (rows : List Row) (den p : Summands) → AllNumerators Holds rows → AllVariables Holds den
       → AllVariables (λ v. row_of rows v ≡ None → Holds v) p → AllVariables Holds (replaced_by rows den p)
-  pub cut : (known : List Var) (f : Powers × ℤ) (p q : Terms) → IsCut known f p q → AllVariables Holds p → AllVariables Holds q
-  pub specialisation : (v : Var) (z : ℤ) (p : Terms) → AllVariables Holds p → AllVariables Holds (specialised v z p)
+  pub cut : (known : List Var) (f : Powers × ℤ) (p q : Summands) → IsCut known f p q → AllVariables Holds p → AllVariables Holds q
+  pub specialisation : (v : Var) (z : ℤ) (p : Summands) → AllVariables Holds p → AllVariables Holds (specialised v z p)
 
 -- LAWS
 -- no variable is new: where each variable of what is given stands in a list, so does each variable of what is made

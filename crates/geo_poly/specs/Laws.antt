@@ -5,7 +5,7 @@ use Rattle.geo_poly.specs.declared.variables.Var.{Var}
 use Rattle.sparse_lists.specs.SparseLists.{IsCanonical}
 use Rattle.geo_poly.specs.Variables.{var_cmp}
 use Rattle.geo_poly.specs.Monomials.{Powers, IsMonomial, exponent, product, monomial_cmp, IsEarlier}
-use Rattle.geo_poly.specs.Polynomials.{Terms, coefficients, term_cmp, coefficient, polynomial_of, sum_of}
+use Rattle.geo_poly.specs.Polynomials.{Summands, coefficients, term_cmp, coefficient, polynomial_of, sum_of}
 
 -- variables that compare as equal are the same
 abbrev pub OrderTellsVariables : Type 0
@@ -14,13 +14,13 @@ OrderTellsVariables = (v w : Var) → var_cmp v w ≡ Equal → v ≡ w
 -- the polynomial of a list of terms is in order and has no zero, has the list's coefficients, and is the only such list
 abbrev pub PolynomialHasCoefficients : Type 0
 PolynomialHasCoefficients =
-    (p : Terms) → IsCanonical term_cmp coefficients (polynomial_of p)
+    (p : Summands) → IsCanonical term_cmp coefficients (polynomial_of p)
     × ((m : Powers) → coefficient m (polynomial_of p) ≡ coefficient m p)
-    × ((q : Terms) → IsCanonical term_cmp coefficients q → ((m : Powers) → coefficient m q ≡ coefficient m p) → q ≡ polynomial_of p)
+    × ((q : Summands) → IsCanonical term_cmp coefficients q → ((m : Powers) → coefficient m q ≡ coefficient m p) → q ≡ polynomial_of p)
 
 -- the coefficients of a sum are the sums of the coefficients
 abbrev pub SumAddsCoefficients : Type 0
-SumAddsCoefficients = (p q : Terms) (m : Powers) → coefficient m (sum_of p q) ≡ coefficient m p +ℤ coefficient m q
+SumAddsCoefficients = (p q : Summands) (m : Powers) → coefficient m (sum_of p q) ≡ coefficient m p +ℤ coefficient m q
 
 -- the exponents of a product are the sums of the exponents
 abbrev pub ProductAddsExponents : Type 0

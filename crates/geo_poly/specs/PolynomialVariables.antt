@@ -6,19 +6,19 @@ use Rattle.sparse_lists.specs.SparseLists.{AllKeys}
 use Rattle.geo_poly.specs.declared.variables.Var.{Var}
 use Rattle.geo_poly.specs.declared.variables.Var.TheVariants.{R, S, P, X, Y, T}
 use Rattle.geo_poly.specs.Monomials.{exponent}
-use Rattle.geo_poly.specs.Polynomials.{Terms}
+use Rattle.geo_poly.specs.Polynomials.{Summands}
 use Rattle.geo_poly.specs.Variables.{var_cmp}
 
 -- the variables of a polynomial in their order, each once
-abbrev pub variables_of : Terms → List Var
+abbrev pub variables_of : Summands → List Var
 variables_of q = fold (insert_key var_cmp) [] (flat_map (λ t. map (λ p. p.0) t.0) q)
 
 -- a monomial of the polynomial has the variable
-abbrev pub HasVariable : Var → Terms → Type 0
+abbrev pub HasVariable : Var → Summands → Type 0
 HasVariable v q = Any (λ t. exponent v t.0 ≢ 0) q
 
 -- each variable of the polynomial has the property
-abbrev pub AllVariables : (Var → Type 0) → Terms → Type 0
+abbrev pub AllVariables : (Var → Type 0) → Summands → Type 0
 AllVariables Holds q = AllKeys (λ m. AllKeys Holds m) q
 
 -- the variable is a ratio

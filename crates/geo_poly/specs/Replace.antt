@@ -7,7 +7,7 @@ use Rattle.geo_poly.specs.declared.replacement.Row.{Row}
 use Rattle.geo_poly.specs.Variables.{var_cmp}
 use Rattle.sparse_lists.specs.SparseLists.{AllKeys, IsCanonical}
 use Rattle.geo_poly.specs.Monomials.{Powers, IsMonomial, degree_of}
-use Rattle.geo_poly.specs.Polynomials.{Terms, coefficients, term_cmp, polynomial_of, norm_of, total_degree, product_of}
+use Rattle.geo_poly.specs.Polynomials.{Summands, coefficients, term_cmp, polynomial_of, norm_of, total_degree, product_of}
 
 -- the bounds that a piece tells are such, and its count is at most its weight, as each monomial has a coefficient of at least 1
 pub record IsBounded (piece : Piece) : Type 0 where
@@ -32,7 +32,7 @@ denominators rows [] = 0
 denominators rows (p ∷ m) = power_in (row_of rows p.0) * p.1 + denominators rows m
 
 -- the greatest number of denominators of a monomial
-abbrev pub most_denominators : List Row → Terms → ℕ
+abbrev pub most_denominators : List Row → Summands → ℕ
 most_denominators rows [] = 0
 most_denominators rows (t ∷ ts) = max (denominators rows t.0) (most_denominators rows ts)
 
@@ -47,31 +47,31 @@ others rows [] = []
 others rows (p ∷ m) = kept (row_of rows p.0) p (others rows m)
 
 -- p times q to the power n
-abbrev pub times_power : Terms → Terms → ℕ → Terms
+abbrev pub times_power : Summands → Summands → ℕ → Summands
 times_power p q zero = p
 times_power p q (suc n) = product_of (times_power p q n) q
 
 -- times the row's numerator to the power n
-abbrev pub times_row : Option Row → ℕ → Terms → Terms
+abbrev pub times_row : Option Row → ℕ → Summands → Summands
 times_row None n p = p
 times_row (Some r) n p = times_power p r.num.poly n
 
 -- times the numerators of the replaced variables, each to its exponent
-abbrev pub times_rows : List Row → Powers → Terms → Terms
+abbrev pub times_rows : List Row → Powers → Summands → Summands
 times_rows rows [] p = p
 times_rows rows (v ∷ m) p = times_rows rows m (times_row (row_of rows v.0) v.1 p)
 
 -- a term: its coefficient and other variables, its numerators, and the denominators that it lacks
-abbrev pub replaced_term : List Row → Terms → ℕ → Powers × ℤ → Terms
+abbrev pub replaced_term : List Row → Summands → ℕ → Powers × ℤ → Summands
 replaced_term rows den top t = times_power (times_rows rows t.0 ((others rows t.0, t.1) ∷ [])) den (top - denominators rows t.0)
 
 -- what becomes of each term, one after another
-abbrev pub replaced_terms : List Row → Terms → ℕ → Terms → Terms
+abbrev pub replaced_terms : List Row → Summands → ℕ → Summands → Summands
 replaced_terms rows den top [] = []
 replaced_terms rows den top (t ∷ ts) = replaced_term rows den top t ++ replaced_terms rows den top ts
 
 -- what becomes of the polynomial
-abbrev pub replaced_by : List Row → Terms → Terms → Terms
+abbrev pub replaced_by : List Row → Summands → Summands → Summands
 replaced_by rows den p = polynomial_of (replaced_terms rows den (most_denominators rows p) p)
 
 -- each numerator keeps its bounds
@@ -108,16 +108,16 @@ abbrev pub term_degree : List Row → Piece → ℕ → Powers × ℤ → ℕ
 term_degree rows den top t = degree_rows rows t.0 (degree_of (others rows t.0)) + den.degree * (top - denominators rows t.0)
 
 -- the sum of the weights of the terms
-abbrev pub weight_of : List Row → Piece → ℕ → Terms → ℕ
+abbrev pub weight_of : List Row → Piece → ℕ → Summands → ℕ
 weight_of rows den top p = sum_by (term_weight rows den top) p
 
 -- the greatest degree of the terms
-abbrev pub degree_bound : List Row → Piece → ℕ → Terms → ℕ
+abbrev pub degree_bound : List Row → Piece → ℕ → Summands → ℕ
 degree_bound rows den top [] = 0
 degree_bound rows den top (t ∷ ts) = max (term_degree rows den top t) (degree_bound rows den top ts)
 
 -- where a replacement may be made
-pub record CanReplace (rows : List Row) (den : Piece) (top : ℕ) (p : Terms) : Type 0 where
+pub record CanReplace (rows : List Row) (den : Piece) (top : ℕ) (p : Summands) : Type 0 where
   pub rows_bounded : AllBounded rows
   pub den_bounded : IsBounded den
   pub in_order : IsCanonical term_cmp coefficients p
@@ -132,9 +132,9 @@ AllPowersSmall [] = Unit {0}
 AllPowersSmall (r ∷ rs) = (r.power ≤ 2) × AllPowersSmall rs
 
 -- the weight of the whole
-abbrev pub replaced_weight : List Row → Piece → Terms → ℕ
+abbrev pub replaced_weight : List Row → Piece → Summands → ℕ
 replaced_weight rows den p = weight_of rows den (most_denominators rows p) p
 
 -- the degree of the whole
-abbrev pub replaced_degree : List Row → Piece → Terms → ℕ
+abbrev pub replaced_degree : List Row → Piece → Summands → ℕ
 replaced_degree rows den p = degree_bound rows den (most_denominators rows p) p

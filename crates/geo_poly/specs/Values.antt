@@ -8,7 +8,7 @@ use Rattle.geo_points.specs.Points.{Point, ratio, signed_area, pythagoras_differ
 use Rattle.geo_poly.specs.declared.variables.Var.{Var}
 use Rattle.geo_poly.specs.declared.variables.Var.TheVariants.{R, S, P, X, Y, T}
 use Rattle.geo_poly.specs.Monomials.{Powers}
-use Rattle.geo_poly.specs.Polynomials.{Terms}
+use Rattle.geo_poly.specs.Polynomials.{Summands}
 
 -- a whole number as an element of the ring
 abbrev pub integer : (ring : Ring) → ℤ → ring.carrier
@@ -21,7 +21,7 @@ monomial_value ring x [] = ring.one
 monomial_value ring x (p ∷ m) = ring.mul (power ring (x p.0) p.1) (monomial_value ring x m)
 
 -- the sum of the terms
-abbrev pub value : (ring : Ring) → (Var → ring.carrier) → Terms → ring.carrier
+abbrev pub value : (ring : Ring) → (Var → ring.carrier) → Summands → ring.carrier
 value ring x [] = ring.zero
 value ring x (t ∷ ts) = ring.add (ring.mul (integer ring t.1) (monomial_value ring x t.0)) (value ring x ts)
 

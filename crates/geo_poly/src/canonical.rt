@@ -1,6 +1,7 @@
 //! Quantities as a sign times a variable whose points are sorted.
 ghost use Rattle.std.specs.Prelude.{◌≡◌, ◌≤◌, ◌*ℤ◌, unsigned_abs};
-ghost use Rattle.geo_poly.specs.Canonical.{canonical_area, canonical_difference, canonical_ratio, higher, lower, pair_sign, sorted_difference};
+ghost use Rattle.geo_poly.specs.Canonical.{canonical_area, canonical_difference, canonical_ratio};
+ghost use Rattle.geo_poly.specs.Canonical.{higher, lower, pair_sign, sorted_difference};
 
 use crate::variables::Var;
 use geo_points::PointId;
@@ -37,8 +38,8 @@ pub fn canon_s(a: PointId, b: PointId, c: PointId) -> Canon
     }
 }
 
-/// The Pythagoras difference of three points: 0 where the middle one is an end, else the variable with
-/// its ends sorted; that of a segment has the lower point at its ends.
+/// The Pythagoras difference of three points: 0 where the middle one is an end, else the variable
+/// with its ends sorted; that of a segment has the lower point at its ends.
 pub fn canon_p(a: PointId, b: PointId, c: PointId) -> Canon
     ensures { result ≡ canonical_difference a b c }
 {
@@ -62,9 +63,9 @@ fn sorted_difference(a: PointId, b: PointId, c: PointId) -> Var
     }
 }
 
-/// The ratio of AB to CD: 0 where a pair has one point twice, else a sign for each pair that stands in
-/// the wrong order, times the variable of the sorted pairs, or alone where these are the same. Where C
-/// is D, the ratio has no value anywhere, so nothing rests on the 0.
+/// The ratio of AB to CD: 0 where a pair has one point twice, else a sign for each pair that stands
+/// in the wrong order, times the variable of the sorted pairs, or alone where these are the same.
+/// Where C is D, the ratio has no value anywhere, so nothing rests on the 0.
 pub fn canon_r(a: PointId, b: PointId, c: PointId, d: PointId) -> Canon
     ensures { result ≡ canonical_ratio a b c d }
 {

@@ -1,10 +1,12 @@
 //! Division by what divides a polynomial.
-ghost use Rattle.std.specs.Prelude.{◌≡◌, ◌≢◌, ◌↔◌, ◌^◌, ◌<◌, ℕ, ℤ, ◌*ℤ◌, pos, List, [], ◌∷◌, length, unsigned_abs, Contains, IfOk, IfSome, IfNone, IsTrue};
+ghost use Rattle.std.specs.Prelude.{◌≡◌, ◌≢◌, ◌↔◌, ◌^◌, ◌<◌, ℕ, ℤ, ◌*ℤ◌, pos, List, [], ◌∷◌};
+ghost use Rattle.std.specs.Prelude.{length, unsigned_abs, Contains, IfOk, IfSome, IfNone, IsTrue};
 ghost use Rattle.std.specs.Int.{◌∣◌};
 ghost use Rattle.sparse_lists.specs.SparseLists.{AllKeys};
 ghost use Rattle.geo_poly.specs.declared.variables.Var.{Var};
 ghost use Rattle.geo_poly.specs.Monomials.{Powers, IsMonomial, exponent};
-ghost use Rattle.geo_poly.specs.Polynomials.{Terms, IsPolynomial, multiples, norm_of, product_of};
+ghost use Rattle.geo_poly.specs.Polynomials.{Summands, IsPolynomial, multiples, norm_of};
+ghost use Rattle.geo_poly.specs.Polynomials.{product_of};
 ghost use Rattle.geo_poly.specs.Factors.{DividesAll, IsFactorOf, IsLeastExponent};
 
 use crate::factors::Factor;
@@ -38,12 +40,12 @@ impl Poly {
         ensures some { IfOk result (λ o. IfSome o (λ q. product_of (by.now ∷ []) q ≡ self.now)) }
         ensures polynomial { IfOk result (λ o. IfSome o IsPolynomial) }
         ensures none { IfOk result (λ o. IfNone o
-            ((q : Terms) → IsPolynomial q → product_of (by.now ∷ []) q ≡ self.now → ⊥)) }
+            ((q : Summands) → IsPolynomial q → product_of (by.now ∷ []) q ≡ self.now → ⊥)) }
 
         // The same of the list of multiples, for each list of terms.
         ensures multiples { IfOk result (λ o. IfSome o (λ q. multiples by.now q ≡ self.now)) }
         ensures no_multiples { IfOk result
-            (λ o. IfNone o ((q : Terms) → multiples by.now q ≡ self.now → ⊥)) }
+            (λ o. IfNone o ((q : Summands) → multiples by.now q ≡ self.now → ⊥)) }
     {
         match quotients(alloc, &self.terms, &by.monomial, by.coefficient)? {
             Some(terms) => Ok(Some(Poly { terms })),
@@ -119,7 +121,7 @@ fn quotients(
         (λ o. IfSome o (λ q. multiples (monomial.now, coefficient) q.items ≡ terms.now)) }
     ensures monomials { IfOk result (λ o. IfSome o (λ q. AllKeys IsMonomial q.items)) }
     ensures none { IfOk result
-        (λ o. IfNone o ((q : Terms) → multiples (monomial.now, coefficient) q ≡ terms.now → ⊥)) }
+        (λ o. IfNone o ((q : Summands) → multiples (monomial.now, coefficient) q ≡ terms.now → ⊥)) }
 {
     let mut rest = Vec::new(alloc);
     for term in terms {

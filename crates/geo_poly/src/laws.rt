@@ -1,12 +1,18 @@
 //! Laws of the definitions that the contracts cite; the functions do nothing.
 
-ghost use Rattle.geo_poly.specs.Canonical.{CanonicalAreaKeepsValue, CanonicalDifferenceKeepsValue, CanonicalRatioKeepsValue};
+ghost use Rattle.geo_poly.specs.Canonical.{CanonicalAreaKeepsValue, CanonicalDifferenceKeepsValue};
+ghost use Rattle.geo_poly.specs.Canonical.{CanonicalRatioKeepsValue};
 ghost use Rattle.geo_poly.specs.Factors.{FactorDivides, FactorIsUnique};
 ghost use Rattle.geo_poly.specs.KeptVariables.{SortedVariablesAreKept, VariablesAreKept};
-ghost use Rattle.geo_poly.specs.Laws.{OrderIsByExponents, OrderTellsVariables, PolynomialHasCoefficients, ProductAddsExponents, SumAddsCoefficients};
+ghost use Rattle.geo_poly.specs.Laws.{OrderIsByExponents, OrderTellsVariables};
+ghost use Rattle.geo_poly.specs.Laws.{PolynomialHasCoefficients, ProductAddsExponents};
+ghost use Rattle.geo_poly.specs.Laws.{SumAddsCoefficients};
 ghost use Rattle.geo_poly.specs.ReplacementLaws.{ReplacedByIsTheSum, ReplacementHasTheValue};
-ghost use Rattle.geo_poly.specs.SortedVariables.{CanonicalFormsAreSorted, SortedVariablesAreCanonical};
-ghost use Rattle.geo_poly.specs.Specialise.{SmallNumbersKeepTheNorm, SomeNumberKeepsAll, SpecialisedIsSmaller, SpecialisedKeepsValue, ZerosAreFew};
+ghost use Rattle.geo_poly.specs.SortedVariables.{CanonicalFormsAreSorted};
+ghost use Rattle.geo_poly.specs.SortedVariables.{SortedVariablesAreCanonical};
+ghost use Rattle.geo_poly.specs.Specialise.{SmallNumbersKeepTheNorm, SomeNumberKeepsAll};
+ghost use Rattle.geo_poly.specs.Specialise.{SpecialisedIsSmaller, SpecialisedKeepsValue};
+ghost use Rattle.geo_poly.specs.Specialise.{ZerosAreFew};
 
 /// Variables that compare as equal are the same, so `==` tells them apart.
 pub fn order_tells_variables()
@@ -28,7 +34,8 @@ pub fn product_adds_exponents()
     ensures { ProductAddsExponents }
 {}
 
-/// Of two monomials the earlier has the greater exponent at the first variable in which they differ.
+/// Of two monomials the earlier has the greater exponent at the first variable in which they
+/// differ.
 pub fn order_is_by_exponents()
     ensures { OrderIsByExponents }
 {}
@@ -80,8 +87,8 @@ pub fn zeros_are_few()
     ensures { ZerosAreFew }
 {}
 
-/// For polynomials none of which is zero, some number from 0 to the sum of their degrees in a variable
-/// makes none of them zero.
+/// For polynomials none of which is zero, some number from 0 to the sum of their degrees in a
+/// variable makes none of them zero.
 pub fn some_number_keeps_all()
     ensures { SomeNumberKeepsAll }
 {}

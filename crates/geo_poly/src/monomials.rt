@@ -1,9 +1,11 @@
 //! Monomials: products of powers of variables.
 
-ghost use Rattle.std.specs.Prelude.{◌≡◌, ◌+◌, ◌≤◌, [], ◌∷◌, ◌++◌, IfOk, IfSome, IfNone, OnOk, OnErr};
+ghost use Rattle.std.specs.Prelude.{◌≡◌, ◌+◌, ◌≤◌, [], ◌∷◌, ◌++◌, IfOk, IfSome, IfNone, OnOk};
+ghost use Rattle.std.specs.Prelude.{OnErr};
 ghost use Rattle.geo_poly.specs.Variables.{var_cmp};
 ghost use Rattle.sparse_lists.specs.SparseLists.{IsCanonical};
-ghost use Rattle.geo_poly.specs.Monomials.{degree_of, exponent, exponents, IsMonomial, monomial_cmp, product};
+ghost use Rattle.geo_poly.specs.Monomials.{degree_of, exponent, exponents, IsMonomial};
+ghost use Rattle.geo_poly.specs.Monomials.{monomial_cmp, product};
 ghost use Rattle.geo_poly.specs.Division.{IsNoMultiple};
 ghost use Rattle.geo_poly.specs.Specialise.{without};
 

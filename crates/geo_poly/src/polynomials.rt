@@ -1,9 +1,11 @@
 //! Polynomials with whole coefficients: how they are made and read.
 
-ghost use Rattle.std.specs.Prelude.{◌≡◌, ◌≢◌, ◌↔◌, ◌^◌, ◌<◌, [], ◌∷◌, pos, length, unsigned_abs, slice_get, IfOk, IfSome, IfNone, IsTrue, List, ℤ, ◌*ℤ◌};
+ghost use Rattle.std.specs.Prelude.{◌≡◌, ◌≢◌, ◌↔◌, ◌^◌, ◌<◌, [], ◌∷◌, pos, length, unsigned_abs};
+ghost use Rattle.std.specs.Prelude.{slice_get, IfOk, IfSome, IfNone, IsTrue, List, ℤ, ◌*ℤ◌};
 ghost use Rattle.sparse_lists.specs.SparseLists.{AllKeys};
 ghost use Rattle.geo_poly.specs.Monomials.{Powers, IsMonomial};
-ghost use Rattle.geo_poly.specs.Polynomials.{IsPolynomial, constant_of, multiples, norm_of, term_at, total_degree};
+ghost use Rattle.geo_poly.specs.Polynomials.{IsPolynomial, constant_of, multiples, norm_of};
+ghost use Rattle.geo_poly.specs.Polynomials.{term_at, total_degree};
 
 use crate::monomials::Monomial;
 use crate::terms::{Term, append_copies, is_same_term, norm_of_terms};
@@ -12,16 +14,17 @@ use geo_points::NoMemory;
 use std::alloc::Global;
 use std::marker::Model;
 
-/// A polynomial over whole numbers: monomials with nonzero coefficients, the greatest monomial first.
+/// A polynomial over whole numbers: monomials with nonzero coefficients, the greatest monomial
+/// first.
 #[derive(Drop)]
 pub struct Poly {
     pub(crate) terms: Vec<Term>,
 }
 
 impl Model for Poly {
-    ghost use Rattle.geo_poly.specs.Polynomials.{Terms, IsPolynomial};
+    ghost use Rattle.geo_poly.specs.Polynomials.{Summands, IsPolynomial};
 
-    ghost Value = { Terms };
+    ghost Value = { Summands };
 
     ghost view = { λ p. p.terms.items };
 

@@ -2,7 +2,8 @@
 
 ghost use Rattle.std.specs.Prelude.{◌≡◌, ◌↔◌, ◌+◌, ◌*◌, ◌^◌, ◌<◌, ◌≤◌, unsigned_abs, IfOk};
 ghost use Rattle.geo_poly.specs.Monomials.{degree_of};
-ghost use Rattle.geo_poly.specs.Polynomials.{CanMultiply, multiples, norm_of, product_of, total_degree};
+ghost use Rattle.geo_poly.specs.Polynomials.{CanMultiply, multiples, norm_of, product_of};
+ghost use Rattle.geo_poly.specs.Polynomials.{total_degree};
 
 use crate::limits::{MAX, MAX_DEGREE, PolyError, Which};
 use crate::polynomials::Poly;
@@ -12,8 +13,8 @@ use geo_points::NoMemory;
 use std::alloc::Global;
 
 impl Poly {
-    /// The product. It is refused by the norms and the degrees of the factors; a product with zero has
-    /// a degree that fits.
+    /// The product. It is refused by the norms and the degrees of the factors; a product with zero
+    /// has a degree that fits.
     pub fn mul(&self, alloc: Global, other: &Poly) -> Result<Poly, PolyError>
         ensures product { IfOk result (λ p. p ≡ product_of self.now other.now) }
         ensures norm { (result ≡ Err (PolyError.TooLarge Which.Norm))

@@ -1,10 +1,17 @@
-//! Replacing variables of a polynomial at once, each by a numerator over a power of one denominator.
+//! Replacing variables of a polynomial at once, each by a numerator over a power of one
+//! denominator.
 
-ghost use Rattle.std.specs.Prelude.{min, ◌-◌, ◌≡◌, ◌≢◌, ◌↔◌, ◌+◌, ◌*◌, ◌^◌, ◌<◌, ◌≤◌, pos, unsigned_abs, IfOk};
+ghost use Rattle.std.specs.Prelude.{min, ◌-◌, ◌≡◌, ◌≢◌, ◌↔◌, ◌+◌, ◌*◌, ◌^◌, ◌<◌, ◌≤◌, pos};
+ghost use Rattle.std.specs.Prelude.{unsigned_abs, IfOk};
 ghost use Rattle.sparse_lists.specs.SparseLists.{AllKeys, IsCanonical};
 ghost use Rattle.geo_poly.specs.Monomials.{IsMonomial};
-ghost use Rattle.geo_poly.specs.Polynomials.{coefficients, norm_of, polynomial_of, term_cmp, total_degree};
-ghost use Rattle.geo_poly.specs.Replace.{AllBounded, AllPowersSmall, CanReplace, IsBounded, degree_bound, denominators, most_denominators, others, replaced_by, replaced_degree, replaced_term, replaced_terms, replaced_weight, term_degree, term_weight, times_power, weight_of};
+ghost use Rattle.geo_poly.specs.Polynomials.{coefficients, norm_of, polynomial_of, term_cmp};
+ghost use Rattle.geo_poly.specs.Polynomials.{total_degree};
+ghost use Rattle.geo_poly.specs.Replace.{AllBounded, AllPowersSmall, CanReplace, IsBounded};
+ghost use Rattle.geo_poly.specs.Replace.{degree_bound, denominators, most_denominators, others};
+ghost use Rattle.geo_poly.specs.Replace.{replaced_by, replaced_degree, replaced_term};
+ghost use Rattle.geo_poly.specs.Replace.{replaced_terms, replaced_weight, term_degree, term_weight};
+ghost use Rattle.geo_poly.specs.Replace.{times_power, weight_of};
 
 use crate::limits::{MAX, MAX_DEGREE, PolyError, Which};
 use crate::monomials::Monomial;
@@ -44,9 +51,9 @@ pub struct Row {
 }
 
 impl Poly {
-    /// Replaces the variables of the rows at once, and multiplies by the denominator as often as the
-    /// monomial that needs it most, so that no fraction is left. The norm is tested first, by the
-    /// weights of the pieces, and then the degree, by their degrees.
+    /// Replaces the variables of the rows at once, and multiplies by the denominator as often as
+    /// the monomial that needs it most, so that no fraction is left. The norm is tested first, by
+    /// the weights of the pieces, and then the degree, by their degrees.
     pub fn replace(&self, alloc: Global, rows: &[Row], den: &Piece) -> Result<Poly, PolyError>
         requires rows { AllBounded rows.now }
         requires powers { AllPowersSmall rows.now }
@@ -114,7 +121,8 @@ fn weight_of_term(
     requires rows { AllBounded rows.now }
     requires den { IsBounded den.now }
     requires top { denominators rows.now powers.now ≤ top }
-    ensures { result ≡ min (term_weight rows.now den.now top (powers.now, coefficient)) (2 ^ 128 - 1) }
+    ensures { result
+        ≡ min (term_weight rows.now den.now top (powers.now, coefficient)) (2 ^ 128 - 1) }
 {
     let mut weight = coefficient.unsigned_abs();
     let mut missing = top;
@@ -127,7 +135,8 @@ fn weight_of_term(
     weight.saturating_mul(den.weight.saturating_pow(missing))
 }
 
-/// The sum of the weights of what becomes of the terms, or the greatest number where it passes that.
+/// The sum of the weights of what becomes of the terms, or the greatest number where it passes
+/// that.
 fn weight_of_terms(terms: &[Term], rows: &RowTable, den: &Piece, top: u32) -> u128
     requires rows { AllBounded rows.now }
     requires den { IsBounded den.now }
@@ -214,7 +223,8 @@ fn others_of(alloc: Global, powers: &[(Var, u32)], rows: &RowTable) -> Result<Mo
     Ok(kept)
 }
 
-/// The term with its numerators, and the denominators that it lacks; `rest` has its other variables.
+/// The term with its numerators, and the denominators that it lacks; `rest` has its other
+/// variables.
 fn replaced_term(
     alloc: Global,
     rest: Monomial,

@@ -2,7 +2,8 @@
 
 ghost use Rattle.std.specs.Prelude.{◌≡◌, ◌≢◌, ◌↔◌, ◌+◌, ◌^◌, ◌<◌, ◌≤◌, IfOk};
 ghost use Rattle.sparse_lists.specs.SparseLists.{IsCanonical};
-ghost use Rattle.geo_poly.specs.Polynomials.{coefficients, difference_of, negated, norm_of, sum_of, term_cmp};
+ghost use Rattle.geo_poly.specs.Polynomials.{coefficients, difference_of, negated, norm_of, sum_of};
+ghost use Rattle.geo_poly.specs.Polynomials.{term_cmp};
 
 use crate::limits::{MAX, PolyError, Which};
 use crate::polynomials::Poly;

@@ -84,7 +84,8 @@ impl PartialOrd for Var {
 
     ghost partial_cmp = { as_partial_cmp var_cmp };
 
-    ghost laws = { partial_order_from_own_ties (Prim.search (comparing, rules)) (Prim.search (comparing, rules)) };
+    ghost laws = { partial_order_from_own_ties
+        (Prim.search (comparing, rules)) (Prim.search (comparing, rules)) };
 
     fn partial_cmp(&self, other: &Var) -> Option<Ordering> {
         Some(self.cmp(other))

@@ -49,7 +49,11 @@ expression_lexemes names (area_leaf a b c) = quantity_lexemes names (codes "sign
 expression_lexemes names (pythagoras_leaf a b c) = quantity_lexemes names (codes "pythagoras_difference3") (a ∷ b ∷ c ∷ [])
 expression_lexemes names (ratio_leaf a b c d) = quantity_lexemes names (codes "sratio") (a ∷ b ∷ c ∷ d ∷ [])
 expression_lexemes names (negation e) = word_lexeme (codes "neg") ∷ braced (expression_lexemes names e)
-expression_lexemes names (addition e f) = word_lexeme (codes "sum") ∷ braced (expression_lexemes names e) ++ braced (expression_lexemes names f)
-expression_lexemes names (subtraction e f) = word_lexeme (codes "sub") ∷ braced (expression_lexemes names e) ++ braced (expression_lexemes names f)
-expression_lexemes names (multiplication e f) = word_lexeme (codes "mult") ∷ braced (expression_lexemes names e) ++ braced (expression_lexemes names f)
-expression_lexemes names (division e f) = word_lexeme (codes "div") ∷ braced (expression_lexemes names e) ++ braced (expression_lexemes names f)
+expression_lexemes names (addition e f) =
+    word_lexeme (codes "sum") ∷ braced (expression_lexemes names e) ++ braced (expression_lexemes names f)
+expression_lexemes names (subtraction e f) =
+    word_lexeme (codes "sub") ∷ braced (expression_lexemes names e) ++ braced (expression_lexemes names f)
+expression_lexemes names (multiplication e f) =
+    word_lexeme (codes "mult") ∷ braced (expression_lexemes names e) ++ braced (expression_lexemes names f)
+expression_lexemes names (division e f) =
+    word_lexeme (codes "div") ∷ braced (expression_lexemes names e) ++ braced (expression_lexemes names f)

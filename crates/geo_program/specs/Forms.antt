@@ -38,18 +38,24 @@ command_form nodes (Parallel p b) = form (codes "parallel") kind.Line 1 (point_a
 command_form nodes (Perp p b) = form (codes "perp") kind.Line 2 (point_argument p ∷ line_argument b ∷ [])
 command_form nodes (Med a b) = form (codes "med") kind.Line 2 (point_argument a ∷ point_argument b ∷ [])
 command_form nodes (Intersec a b) = form (codes "intersec") kind.Point 1 (line_argument a ∷ line_argument b ∷ [])
-command_form nodes (Inter a b c d) = form (codes "inter") kind.Point 1 (point_argument a ∷ point_argument b ∷ point_argument c ∷ point_argument d ∷ [])
+command_form nodes (Inter a b c d) =
+    form (codes "inter") kind.Point 1 (point_argument a ∷ point_argument b ∷ point_argument c ∷ point_argument d ∷ [])
 command_form nodes (Foot p a b) = form (codes "foot") kind.Point 1 (point_argument p ∷ point_argument a ∷ point_argument b ∷ [])
-command_form nodes (Pratio w u v r) = form (codes "pratio") kind.Point 1 (point_argument w ∷ point_argument u ∷ point_argument v ∷ number_argument (tree_of nodes r) ∷ [])
-command_form nodes (Tratio u v r) = form (codes "tratio") kind.Point 1 (point_argument u ∷ point_argument v ∷ number_argument (tree_of nodes r) ∷ [])
+command_form nodes (Pratio w u v r) =
+    form (codes "pratio") kind.Point 1 (point_argument w ∷ point_argument u ∷ point_argument v ∷ number_argument (tree_of nodes r) ∷ [])
+command_form nodes (Tratio u v r) =
+    form (codes "tratio") kind.Point 1 (point_argument u ∷ point_argument v ∷ number_argument (tree_of nodes r) ∷ [])
 command_form nodes (Online a b) = form (codes "online") kind.Point 1 (point_argument a ∷ point_argument b ∷ [])
-command_form nodes (Lratio a b r) = form (codes "lratio") kind.Point 1 (point_argument a ∷ point_argument b ∷ number_argument (tree_of nodes r) ∷ [])
+command_form nodes (Lratio a b r) =
+    form (codes "lratio") kind.Point 1 (point_argument a ∷ point_argument b ∷ number_argument (tree_of nodes r) ∷ [])
 command_form nodes (Midpoint a b) = form (codes "midpoint") kind.Point 1 (point_argument a ∷ point_argument b ∷ [])
 command_form nodes (Translate a b c) = form (codes "translate") kind.Point 1 (point_argument a ∷ point_argument b ∷ point_argument c ∷ [])
 command_form nodes (Symmetric a o) = form (codes "symmetric") kind.Point 1 (point_argument a ∷ point_argument o ∷ [])
 command_form nodes (Reflect a p q) = form (codes "reflect") kind.Point 2 (point_argument a ∷ point_argument p ∷ point_argument q ∷ [])
-command_form nodes (Circumcenter a b c) = form (codes "circumcenter") kind.Point 5 (point_argument a ∷ point_argument b ∷ point_argument c ∷ [])
-command_form nodes (Orthocenter a b c) = form (codes "orthocenter") kind.Point 3 (point_argument a ∷ point_argument b ∷ point_argument c ∷ [])
+command_form nodes (Circumcenter a b c) =
+    form (codes "circumcenter") kind.Point 5 (point_argument a ∷ point_argument b ∷ point_argument c ∷ [])
+command_form nodes (Orthocenter a b c) =
+    form (codes "orthocenter") kind.Point 3 (point_argument a ∷ point_argument b ∷ point_argument c ∷ [])
 command_form nodes (Centroid a b c) = form (codes "centroid") kind.Point 2 (point_argument a ∷ point_argument b ∷ point_argument c ∷ [])
 command_form nodes (Oncircle o a) = form (codes "oncircle") kind.Point 3 (point_argument o ∷ point_argument a ∷ [])
 command_form nodes (Second a b o) = form (codes "second") kind.Point 2 (point_argument a ∷ point_argument b ∷ point_argument o ∷ [])

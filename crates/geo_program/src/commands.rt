@@ -11,8 +11,8 @@ use std::marker::Model;
 #[derive(Clone, Copy, Debug, PartialEq, Eq, PartialOrd, Ord, Hash)]
 pub struct LineId(pub u32);
 
-/// A command. What it makes has the next name of the program, which is no field. A [`PointId`] counts the program's
-/// points alone, and not those that a construction adds.
+/// A command. What it makes has the next name of the program, which is no field. A [`PointId`]
+/// counts the program's points alone, and not those that a construction adds.
 #[derive(Clone, Copy, Debug, PartialEq, Eq)]
 pub enum Command {
     /// A free point.

@@ -1,4 +1,5 @@
-//! What is proved of texts and the programs that they spell. The functions do nothing: what each says is its contract.
+//! What is proved of texts and the programs that they spell. The functions do nothing: what each
+//! says is its contract.
 
 ghost use Rattle.geo_program.specs.Laws.{SameProgramsHaveTheSameText, TextSpellsOneProgram};
 ghost use Rattle.geo_program.specs.Laws.{WellFormedProgramsAreSpelt};

@@ -11,7 +11,8 @@ use geo_points::{NoMemory, ParamId, PointId};
 use std::alloc::Global;
 use std::marker::Model;
 
-/// The names of a program, numbered by kind once, so that no look-up searches. Contracts see the list of all names.
+/// The names of a program, numbered by kind once, so that no look-up searches. Contracts see the
+/// list of all names.
 #[derive(Drop)]
 pub struct NameTable<'a> {
     names: &'a [Name],

@@ -34,7 +34,8 @@ impl Name {
     }
 }
 
-/// Names, in order of declaration. Points, parameters and lines are each counted from 0. Contracts see the list.
+/// Names, in order of declaration. Points, parameters and lines are each counted from 0. Contracts
+/// see the list.
 #[derive(Debug, Drop)]
 pub struct Names {
     /// The names.

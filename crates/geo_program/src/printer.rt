@@ -4,11 +4,17 @@ ghost use Rattle.std.specs.Prelude.{◌≡◌, ◌<◌, [], ◌∷◌, ◌++◌,
 ghost use Rattle.std.specs.Fmt.{signed_decimal};
 ghost use Rattle.std.specs.List.{AllByRecursion, flat_map};
 ghost use Rattle.geo_lexer.specs.Lexemes.{word_lexeme};
-ghost use Rattle.geo_program.specs.CanonicalText.{argument_lexemes, command_lexemes, commands_lexemes, line_text, no_sketches, statement_lexemes};
-ghost use Rattle.geo_program.specs.Expressions.{braced, expression_lexemes, point_lexeme, quantity_lexemes};
-ghost use Rattle.geo_program.specs.Forms.{command_form, line_argument, number_argument, on_points, point_argument, side_argument, statement_form, IsStored, AreSidesStored};
+ghost use Rattle.geo_program.specs.CanonicalText.{argument_lexemes, command_lexemes};
+ghost use Rattle.geo_program.specs.CanonicalText.{commands_lexemes, line_text, no_sketches};
+ghost use Rattle.geo_program.specs.CanonicalText.{statement_lexemes};
+ghost use Rattle.geo_program.specs.Expressions.{braced, expression_lexemes, point_lexeme};
+ghost use Rattle.geo_program.specs.Expressions.{quantity_lexemes};
+ghost use Rattle.geo_program.specs.Forms.{command_form, line_argument, number_argument, on_points};
+ghost use Rattle.geo_program.specs.Forms.{point_argument, side_argument, statement_form, IsStored};
+ghost use Rattle.geo_program.specs.Forms.{AreSidesStored};
 ghost use Rattle.geo_program.specs.FormTexts.{form_text};
-ghost use Rattle.geo_program.specs.Inner.Printing.{IsPrintableTerm, whole_scope, lines_text, spaced_text};
+ghost use Rattle.geo_program.specs.Inner.Printing.{IsPrintableTerm, whole_scope, lines_text};
+ghost use Rattle.geo_program.specs.Inner.Printing.{spaced_text};
 ghost use Rattle.geo_program.specs.WellFormed.{AreCommands, IsArgument, empty_scope};
 ghost use Rattle.geo_terms.specs.Stores.{IsStore, tree_of};
 
@@ -227,7 +233,8 @@ impl<'a> Printer<'a> {
         points: &[PointId],
         r: TermId,
     ) -> Result<(), NoMemory>
-        requires points { AllByRecursion (λ a. a.0 < (whole_scope self.now.names).points) points.now }
+        requires points { AllByRecursion (λ a. a.0 < (whole_scope self.now.names).points)
+            points.now }
         requires number { IsPrintableTerm self.now.names self.now.terms.now r }
         ensures { OnOk result (out.new.items ≡ out.old.items
             ++ spaced_text (flat_map (argument_lexemes self.now.names)
@@ -322,7 +329,8 @@ impl<'a> Printer<'a> {
     fn push_braced(&self, alloc: Global, out: &mut Vec<u8>, e: TermId) -> Result<(), NoMemory>
         requires { IsPrintableTerm self.now.names self.now.terms.now e }
         ensures { OnOk result (out.new.items ≡ out.old.items
-            ++ spaced_text (braced (expression_lexemes self.now.names (tree_of self.now.terms.now e)))) }
+            ++ spaced_text (braced
+            (expression_lexemes self.now.names (tree_of self.now.terms.now e)))) }
     {
         push_token(out, b"{")?;
         self.push_expression(alloc, out, e)?;
@@ -350,7 +358,8 @@ impl<'a> Printer<'a> {
         points: &[PointId],
     ) -> Result<Text, NoMemory>
         requires { AllByRecursion (λ a. a.0 < (whole_scope self.now.names).points) points.now }
-        ensures { IfOk result (λ text. text ≡ form_text self.now.names (on_points word.now points.now)) }
+        ensures { IfOk result (λ text. text
+            ≡ form_text self.now.names (on_points word.now points.now)) }
     {
         let mut bytes = Vec::new(alloc);
         bytes.extend_from_slice(word)?;
@@ -380,8 +389,10 @@ impl<'a> Printer<'a> {
     /// The text of a word and a term between braces.
     pub fn side_text(&self, alloc: Global, word: &[u8], e: TermId) -> Result<Text, NoMemory>
         requires { IsPrintableTerm self.now.names self.now.terms.now e }
-        ensures { IfOk result (λ text. text ≡ form_text self.now.names
-            (record { word = word.now; arguments = side_argument (tree_of self.now.terms.now e) ∷ [] })) }
+        ensures { IfOk result (λ text. text ≡ form_text self.now.names (record {
+          word = word.now;
+          arguments = side_argument (tree_of self.now.terms.now e) ∷ [];
+        })) }
     {
         let mut bytes = Vec::new(alloc);
         bytes.extend_from_slice(word)?;

@@ -10,8 +10,9 @@ use geo_base::Text;
 use geo_points::NoMemory;
 use std::alloc::Global;
 
-/// The canonical text: one command a line and then the statement, single spaces between all tokens, numbers in canonical
-/// decimal, no sketch numbers and no comments, and a line feed after each line.
+/// The canonical text: one command a line and then the statement, single spaces between all tokens,
+/// numbers in canonical decimal, no sketch numbers and no comments, and a line feed after each
+/// line.
 pub fn print(alloc: Global, program: &Program) -> Result<Text, NoMemory>
     ensures text { IfOk result (λ text. text ≡ program_text program.now) }
     ensures spelt { IfOk result (λ text. ∥ Spells text program.now ∥₁) }

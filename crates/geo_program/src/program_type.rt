@@ -9,8 +9,8 @@ use crate::names::Names;
 use crate::statements::Statement;
 use geo_terms::Terms;
 
-/// A program: the names that it declares, its commands, one for each name, and its statement. The two numbers that may
-/// follow a point's name mean nothing and are not kept.
+/// A program: the names that it declares, its commands, one for each name, and its statement. The
+/// two numbers that may follow a point's name mean nothing and are not kept.
 #[derive(Drop)]
 pub struct Program {
     /// The names, in order of declaration.
@@ -22,10 +22,11 @@ pub struct Program {
     /// The statement.
     pub statement: Statement,
     /// Its canonical text spells it.
-    ghost spelt: { ∥ SpellsSource
-        (canonical_text record { names = names; nodes = terms; commands = commands; statement = statement })
+    ghost spelt: { ∥ SpellsSource (canonical_text
+        record { names = names; nodes = terms; commands = commands; statement = statement })
         (record { names = names; nodes = terms; commands = commands; statement = statement }) ∥₁ },
     /// Its canonical text is at most 268,435,456 bytes long.
     ghost short: { length (canonical_text
-        (record { names = names; nodes = terms; commands = commands; statement = statement })) ≤ 268435456 },
+        (record { names = names; nodes = terms; commands = commands; statement = statement }))
+        ≤ 268435456 },
 }

@@ -1,10 +1,2 @@
-pub mod Program
-pub mod Truth
-pub mod Lines
-pub mod Moves
-pub mod Constructed
-pub mod Logs
-pub mod Chains
-pub mod FirstLog
-pub mod Laws
-pub mod Reader
+pub mod Proving
+pub mod Inner

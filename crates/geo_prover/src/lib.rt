@@ -1,28 +1,21 @@
-//! Decides a statement of the first form and writes its log; and the definitions of truth, of logs and
-//! of their acceptance, with the law that accepted logs are true.
+//! The prover: writes the defined log of a program, line by line.
 #![tactic(auto)]
 
-mod chain;
-mod charges;
-mod construction;
-mod first;
-pub mod laws;
-mod log;
-mod moves;
-mod printer;
-mod program;
-mod quantities;
-mod reader;
-#[cfg(test)]
-mod reader_tests;
-mod rows;
-mod step_numbers;
+mod chains;
+mod conditions;
+mod ending;
+mod errors;
+mod findings;
+mod goals;
+mod known;
+mod log_writer;
+mod program_lines;
+mod proving;
+mod sample_variables;
+mod summary;
 #[cfg(test)]
 mod tests;
-mod variables;
-mod words;
-mod writer;
-#[cfg(test)]
-mod writer_tests;
 
-pub use first::{FirstError, first_log};
+pub use errors::ProveError;
+pub use proving::prove;
+pub use summary::Summary;

@@ -5,28 +5,28 @@ use Rattle.std.proofs.lemmas.Bool.Decides.{nat_tests}
 use Rattle.std.proofs.lemmas.List.Elements.{All-nil, All-cons, All-head, All-tail}
 use Rattle.sparse_lists.proofs.Merging.{drop_at, get_or_any}
 use Rattle.geo_poly.specs.declared.variables.Var.{Var}
-use Rattle.geo_poly.specs.Polynomials.{Terms}
+use Rattle.geo_poly.specs.Polynomials.{Summands}
 use Rattle.geo_poly.specs.Specialise.{specialised, degree_in, IsCollected, NoneZero}
 use Rattle.geo_poly.proofs.SpecialisedLaws.{specialised-lacking}
 use Rattle.geo_sample.specs.Tries.{all_specialised}
 use Rattle.geo_sample.specs.Inner.{NoneBecomesZero, change, changed, changes}
 
 -- ONE POLYNOMIAL
-changed_one : (v : Var) (z : ℤ) (p : Terms) → IsCollected p → unwrap_or (change v z p) p ≡ specialised v z p
+changed_one : (v : Var) (z : ℤ) (p : Summands) → IsCollected p → unwrap_or (change v z p) p ≡ specialised v z p
 changed_one v z p h = go (eqb (degree_in v p) 0) refl
   where
     go : (b : Bool) → eqb (degree_in v p) 0 ≡ b → unwrap_or (cond b None (Some (specialised v z p))) p ≡ specialised v z p
     go true e = let none : degree_in v p ≡ 0 = grind (arith, nat_tests) in sym (specialised-lacking v z p h none)
     go false e = refl
 
-change_not_zero : (v : Var) (z : ℤ) (p : Terms) → (specialised v z p ≡ [] → ⊥) → change v z p ≡ Some [] → ⊥
+change_not_zero : (v : Var) (z : ℤ) (p : Summands) → (specialised v z p ≡ [] → ⊥) → change v z p ≡ Some [] → ⊥
 change_not_zero v z p some = go (eqb (degree_in v p) 0)
   where
     go : (b : Bool) → cond b None (Some (specialised v z p)) ≡ Some [] → ⊥
     go true e = absurd (cc)
     go false e = let same : specialised v z p ≡ [] = cc in some same
 
-not_zero_change : (v : Var) (z : ℤ) (p : Terms) → IsCollected p → (p ≡ [] → ⊥) → (change v z p ≡ Some [] → ⊥) → specialised v z p ≡ [] → ⊥
+not_zero_change : (v : Var) (z : ℤ) (p : Summands) → IsCollected p → (p ≡ [] → ⊥) → (change v z p ≡ Some [] → ⊥) → specialised v z p ≡ [] → ⊥
 not_zero_change v z p h some = go (eqb (degree_in v p) 0) refl
   where
     go : (b : Bool) → eqb (degree_in v p) 0 ≡ b → (cond b None (Some (specialised v z p)) ≡ Some [] → ⊥) → specialised v z p ≡ [] → ⊥
@@ -34,37 +34,37 @@ not_zero_change v z p h some = go (eqb (degree_in v p) 0) refl
     go false e other is = other (ap Some is)
 
 -- ALL POLYNOMIALS
-pub changed_all : (v : Var) (z : ℤ) (ps : List Terms) → All IsCollected ps → changed (changes v z ps) ps ≡ all_specialised v z ps
+pub changed_all : (v : Var) (z : ℤ) (ps : List Summands) → All IsCollected ps → changed (changes v z ps) ps ≡ all_specialised v z ps
 changed_all v z [] h = refl
 changed_all v z (p ∷ ps) h =
-    ap₂ (λ (q : Terms) (qs : List Terms). q ∷ qs) (changed_one v z p (All-head IsCollected p ps h)) (changed_all v z ps (All-tail IsCollected p ps h))
+    ap₂ (λ (q : Summands) (qs : List Summands). q ∷ qs) (changed_one v z p (All-head IsCollected p ps h)) (changed_all v z ps (All-tail IsCollected p ps h))
 
-pub becomes_from_zero : (v : Var) (z : ℤ) (ps : List Terms) → NoneZero (all_specialised v z ps) → NoneBecomesZero (changes v z ps)
-becomes_from_zero v z [] h = All-nil (λ (c : Option Terms). c ≡ Some [] → ⊥)
+pub becomes_from_zero : (v : Var) (z : ℤ) (ps : List Summands) → NoneZero (all_specialised v z ps) → NoneBecomesZero (changes v z ps)
+becomes_from_zero v z [] h = All-nil (λ (c : Option Summands). c ≡ Some [] → ⊥)
 becomes_from_zero v z (p ∷ ps) h =
-    All-cons (λ (c : Option Terms). c ≡ Some [] → ⊥) (change v z p) (changes v z ps)
-    (change_not_zero v z p (All-head (λ (q : Terms). q ≡ [] → ⊥) (specialised v z p) (all_specialised v z ps) h))
-    (becomes_from_zero v z ps (All-tail (λ (q : Terms). q ≡ [] → ⊥) (specialised v z p) (all_specialised v z ps) h))
+    All-cons (λ (c : Option Summands). c ≡ Some [] → ⊥) (change v z p) (changes v z ps)
+    (change_not_zero v z p (All-head (λ (q : Summands). q ≡ [] → ⊥) (specialised v z p) (all_specialised v z ps) h))
+    (becomes_from_zero v z ps (All-tail (λ (q : Summands). q ≡ [] → ⊥) (specialised v z p) (all_specialised v z ps) h))
 
-pub zero_from_becomes : (v : Var) (z : ℤ) (ps : List Terms) → All IsCollected ps → NoneZero ps → NoneBecomesZero (changes v z ps) → NoneZero (all_specialised v z ps)
-zero_from_becomes v z [] h some g = All-nil (λ (q : Terms). q ≡ [] → ⊥)
+pub zero_from_becomes : (v : Var) (z : ℤ) (ps : List Summands) → All IsCollected ps → NoneZero ps → NoneBecomesZero (changes v z ps) → NoneZero (all_specialised v z ps)
+zero_from_becomes v z [] h some g = All-nil (λ (q : Summands). q ≡ [] → ⊥)
 zero_from_becomes v z (p ∷ ps) h some g =
-    All-cons (λ (q : Terms). q ≡ [] → ⊥) (specialised v z p) (all_specialised v z ps)
-    (not_zero_change v z p (All-head IsCollected p ps h) (All-head (λ (q : Terms). q ≡ [] → ⊥) p ps some) (All-head (λ (c : Option Terms). c ≡ Some [] → ⊥) (change v z p) (changes v z ps) g))
-    (zero_from_becomes v z ps (All-tail IsCollected p ps h) (All-tail (λ (q : Terms). q ≡ [] → ⊥) p ps some) (All-tail (λ (c : Option Terms). c ≡ Some [] → ⊥) (change v z p) (changes v z ps) g))
+    All-cons (λ (q : Summands). q ≡ [] → ⊥) (specialised v z p) (all_specialised v z ps)
+    (not_zero_change v z p (All-head IsCollected p ps h) (All-head (λ (q : Summands). q ≡ [] → ⊥) p ps some) (All-head (λ (c : Option Summands). c ≡ Some [] → ⊥) (change v z p) (changes v z ps) g))
+    (zero_from_becomes v z ps (All-tail IsCollected p ps h) (All-tail (λ (q : Summands). q ≡ [] → ⊥) p ps some) (All-tail (λ (c : Option Summands). c ≡ Some [] → ⊥) (change v z p) (changes v z ps) g))
 
 -- THE LOOP THAT PUTS TOGETHER
 -- what is put together of polynomials and what they become
-pub put_all : (v : Var) (z : ℤ) (ps before now next : List Terms) (cs : List (Option Terms)) → All IsCollected ps → before ≡ ps → now ≡ ps → cs ≡ changes v z before → next ≡ changed cs now → next ≡ all_specialised v z ps
+pub put_all : (v : Var) (z : ℤ) (ps before now next : List Summands) (cs : List (Option Summands)) → All IsCollected ps → before ≡ ps → now ≡ ps → cs ≡ changes v z before → next ≡ changed cs now → next ≡ all_specialised v z ps
 put_all v z ps before now next cs h b n c e = e ∙ ap₂ changed (c ∙ ap (changes v z) b) n ∙ changed_all v z ps h
 
-pub length-changed : (cs : List (Option Terms)) (ps : List Terms) → length (changed cs ps) ≡ length ps
+pub length-changed : (cs : List (Option Summands)) (ps : List Summands) → length (changed cs ps) ≡ length ps
 length-changed [] ps = refl
 length-changed (c ∷ cs) [] = refl
 length-changed (c ∷ cs) (p ∷ ps) = omega (arith, length-changed cs ps)
 
 -- a change that is moved out of what is left of their list
-pub same_left : (now cs : List (Option Terms)) (i : ℕ) (c : Option Terms) → i < length now → i < length cs → c ≡ get_or now i c → drop i now ≡ drop i cs → (get_or cs i None ≡ c) × (drop (i + 1) now ≡ drop (i + 1) cs)
+pub same_left : (now cs : List (Option Summands)) (i : ℕ) (c : Option Summands) → i < length now → i < length cs → c ≡ get_or now i c → drop i now ≡ drop i cs → (get_or cs i None ≡ c) × (drop (i + 1) now ≡ drop (i + 1) cs)
 same_left now cs i c lt below at same =
     let d = get_or cs i None in
     let both : c ∷ drop (i + 1) now ≡ get_or cs i None ∷ drop (i + 1) cs = sym (drop_at now i c lt at) ∙ same ∙ drop_at cs i d below (get_or_any cs i None d below) in
@@ -73,20 +73,20 @@ same_left now cs i c lt below at same =
     (first, rest)
 
 -- one more that stays
-stays : (c : Option Terms) (p : Terms) → ((q : Terms) → c ≡ Some q → ⊥) → unwrap_or c p ≡ p
+stays : (c : Option Summands) (p : Summands) → ((q : Summands) → c ≡ Some q → ⊥) → unwrap_or c p ≡ p
 stays None p none = refl
 stays (Some q) p none = absurd (none q refl)
 
-pub stays-more : (cs : List (Option Terms)) (ps : List Terms) (i : ℕ) → i < length cs → ((q : Terms) → get_or cs i None ≡ Some q → ⊥) → changed (take (suc i) cs) ps ≡ changed (take i cs) ps
+pub stays-more : (cs : List (Option Summands)) (ps : List Summands) (i : ℕ) → i < length cs → ((q : Summands) → get_or cs i None ≡ Some q → ⊥) → changed (take (suc i) cs) ps ≡ changed (take i cs) ps
 stays-more [] ps i lt none = absurd (omega (arith, lt))
 stays-more (c ∷ cs) [] zero lt none = refl
-stays-more (c ∷ cs) (p ∷ ps) zero lt none = ap (λ (q : Terms). q ∷ ps) (stays c p none)
+stays-more (c ∷ cs) (p ∷ ps) zero lt none = ap (λ (q : Summands). q ∷ ps) (stays c p none)
 stays-more (c ∷ cs) [] (suc i) lt none = refl
-stays-more (c ∷ cs) (p ∷ ps) (suc i) lt none = ap (λ (qs : List Terms). unwrap_or c p ∷ qs) (stays-more cs ps i (omega (arith, lt)) none)
+stays-more (c ∷ cs) (p ∷ ps) (suc i) lt none = ap (λ (qs : List Summands). unwrap_or c p ∷ qs) (stays-more cs ps i (omega (arith, lt)) none)
 
 -- one more that becomes another
-pub becomes-more : (cs : List (Option Terms)) (ps : List Terms) (i : ℕ) (q : Terms) → i < length cs → length cs ≡ length ps → get_or cs i None ≡ Some q → changed (take (suc i) cs) ps ≡ set (changed (take i cs) ps) i q
+pub becomes-more : (cs : List (Option Summands)) (ps : List Summands) (i : ℕ) (q : Summands) → i < length cs → length cs ≡ length ps → get_or cs i None ≡ Some q → changed (take (suc i) cs) ps ≡ set (changed (take i cs) ps) i q
 becomes-more [] ps i q lt same e = absurd (omega (arith, lt))
 becomes-more (c ∷ cs) [] i q lt same e = absurd (omega (arith, same))
-becomes-more (c ∷ cs) (p ∷ ps) zero q lt same e = ap (λ (d : Option Terms). unwrap_or d p ∷ ps) e
-becomes-more (c ∷ cs) (p ∷ ps) (suc i) q lt same e = ap (λ (qs : List Terms). unwrap_or c p ∷ qs) (becomes-more cs ps i q (omega (arith, lt)) (omega (arith, same)) e)
+becomes-more (c ∷ cs) (p ∷ ps) zero q lt same e = ap (λ (d : Option Summands). unwrap_or d p ∷ ps) e
+becomes-more (c ∷ cs) (p ∷ ps) (suc i) q lt same e = ap (λ (qs : List Summands). unwrap_or c p ∷ qs) (becomes-more cs ps i q (omega (arith, lt)) (omega (arith, same)) e)

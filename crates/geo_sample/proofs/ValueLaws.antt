@@ -12,7 +12,7 @@ use Rattle.sparse_lists.proofs.Canonical.{amount-head}
 use Rattle.geo_poly.specs.declared.variables.Var.{Var}
 use Rattle.geo_poly.specs.Variables.{var_cmp}
 use Rattle.geo_poly.specs.Monomials.{Powers, exponents, exponent}
-use Rattle.geo_poly.specs.Polynomials.{Terms, term_cmp}
+use Rattle.geo_poly.specs.Polynomials.{Summands, term_cmp}
 use Rattle.geo_poly.specs.Specialise.{specialised, degree_in, IsCollected, NoneZero}
 use Rattle.geo_poly.specs.Values.{integer, value}
 use Rattle.geo_poly.proofs.Orders.{var_order, exponents_add, term_order}
@@ -32,16 +32,16 @@ no_powers (p ∷ m) h none =
     absurd (grind (arith, nat_tests))
 
 -- the polynomial has no variable
-abbrev LacksAll : Terms → Type 0
+abbrev LacksAll : Summands → Type 0
 LacksAll p = (v : Var) → degree_in v p ≡ 0
 
-first_lacks : (t : Powers × ℤ) (ts : Terms) → LacksAll (t ∷ ts) → (v : Var) → exponent v t.0 ≡ 0
+first_lacks : (t : Powers × ℤ) (ts : Summands) → LacksAll (t ∷ ts) → (v : Var) → exponent v t.0 ≡ 0
 first_lacks t ts h v = omega (arith, h v)
 
-rest_lacks : (t : Powers × ℤ) (ts : Terms) → LacksAll (t ∷ ts) → LacksAll ts
+rest_lacks : (t : Powers × ℤ) (ts : Summands) → LacksAll (t ∷ ts) → LacksAll ts
 rest_lacks t ts h v = omega (arith, h v)
 
-one_only : (t : Powers × ℤ) (ts : Terms) → IsCollected (t ∷ ts) → LacksAll (t ∷ ts) → ts ≡ []
+one_only : (t : Powers × ℤ) (ts : Summands) → IsCollected (t ∷ ts) → LacksAll (t ∷ ts) → ts ≡ []
 one_only t [] h none = refl
 one_only t (u ∷ us) h none =
     let first : t.0 ≡ [] = no_powers t.0 h.monomials.0.in_order (first_lacks t (u ∷ us) none) in
@@ -55,14 +55,14 @@ unfolding whole
 nonzero_whole z n a h e =
     n (zero_of_same (whole z) (fractions.same_trans _ _ _ (fractions.same_sym _ _ h) (same_of_zero a e)))
 
-nonzero_constant : (x : Var → Fraction) (p : Terms) → IsCollected p → (p ≡ [] → ⊥) → LacksAll p → IsNonzero (value fractions x p)
+nonzero_constant : (x : Var → Fraction) (p : Summands) → IsCollected p → (p ≡ [] → ⊥) → LacksAll p → IsNonzero (value fractions x p)
 nonzero_constant x [] h some none = absurd (some refl)
 nonzero_constant x (t ∷ ts) h some none =
     let first : t.0 ≡ [] = no_powers t.0 h.monomials.0.in_order (first_lacks t ts none) in
     let alone : ts ≡ [] = one_only t ts h none in
     let number : t.1 ≡ pos 0 → ⊥ = λ e. nonzero e h.in_order.0 in
     subst (λ (m : Powers). IsNonzero (value fractions x ((m, t.1) ∷ ts))) (sym first)
-    (subst (λ (us : Terms). IsNonzero (value fractions x (([], t.1) ∷ us))) (sym alone)
+    (subst (λ (us : Summands). IsNonzero (value fractions x (([], t.1) ∷ us))) (sym alone)
     (nonzero_whole t.1 number (value fractions x (([], t.1) ∷ [])) (worth t.1)))
   where
     nonzero : t.1 ≡ pos 0 → eqb (unsigned_abs t.1) 0 ≡ false → ⊥
@@ -75,14 +75,14 @@ nonzero_constant x (t ∷ ts) h some none =
 
 -- VALUES PUT IN
 -- the polynomial has no other variables than those of the list
-abbrev HasOnly : List Var → Terms → Type 0
+abbrev HasOnly : List Var → Summands → Type 0
 HasOnly vs p = (v : Var) → (Contains vs v → ⊥) → degree_in v p ≡ 0
 
 not_in_tail : (w v : Var) (vs : List Var) → (v ≡ w → ⊥) → (Contains vs v → ⊥) → Contains (w ∷ vs) v → ⊥
 not_in_tail w v vs n h (zero, lt, at) = n (sym at)
 not_in_tail w v vs n h (suc i, lt, at) = h (i, omega (arith, lt), at)
 
-fewer : (w : Var) (z : ℤ) (vs : List Var) (p : Terms) → HasOnly (w ∷ vs) p → HasOnly vs (specialised w z p)
+fewer : (w : Var) (z : ℤ) (vs : List Var) (p : Summands) → HasOnly (w ∷ vs) p → HasOnly vs (specialised w z p)
 fewer w z vs p h v out = go (var_cmp v w) refl
   where
     other : (v ≡ w → ⊥) → degree_in v (specialised w z p) ≡ 0
@@ -110,7 +110,7 @@ All-both P Q R f xs h g k d lt = f (get_or xs k d) (h k d lt) (g k d lt)
 moved : (a b : Fraction) → Same a b → IsNonzero a → IsNonzero b
 moved a b h n e = n (zero_of_same a (fractions.same_trans _ _ _ h (same_of_zero b e)))
 
-pub not_zero : (xs : List (Var × ℤ)) (ps : List Terms) (x : Var → Fraction) → All IsCollected ps → All (HasOnly (map (λ y. y.0) xs)) ps → NoneZero (specialised_by xs ps) → All (λ y. Same (x y.0) (whole y.1)) xs
+pub not_zero : (xs : List (Var × ℤ)) (ps : List Summands) (x : Var → Fraction) → All IsCollected ps → All (HasOnly (map (λ y. y.0) xs)) ps → NoneZero (specialised_by xs ps) → All (λ y. Same (x y.0) (whole y.1)) xs
     → All (λ p. IsNonzero (value fractions x p)) ps
 not_zero [] ps x h only some at =
     All-both (λ p. IsCollected p × (p ≡ [] → ⊥)) (HasOnly []) (λ p. IsNonzero (value fractions x p))

@@ -12,8 +12,8 @@ use geo_poly::lists::{Polys, Values};
 use geo_poly::{Poly, Var};
 use std::alloc::Global;
 
-/// Whether none of the polynomials is zero at the values, which are put in one after another: one try
-/// for each value, also after a polynomial has become zero.
+/// Whether none of the polynomials is zero at the values, which are put in one after another: one
+/// try for each value, also after a polynomial has become zero.
 pub fn values_hold(
     alloc: Global,
     polys: &Polys,

@@ -1,6 +1,7 @@
 //! The search for the least sample.
 
-ghost use Rattle.std.specs.Prelude.{◌≡◌, ◌^◌, ◌<◌, ℕ, suc, pos, length, unsigned_abs, All, IfOk, IfErr};
+ghost use Rattle.std.specs.Prelude.{◌≡◌, ◌^◌, ◌<◌, ℕ, suc, pos, length, unsigned_abs, All, IfOk};
+ghost use Rattle.std.specs.Prelude.{IfErr};
 ghost use Rattle.geo_poly.specs.Specialise.{IsCollected, NoneZero};
 ghost use Rattle.geo_sample.specs.Tries.{AreMade, EndIn, search_tries, tries_below};
 ghost use Rattle.geo_sample.specs.Samples.{IsLeastSample, IsLeastValue, SearchEndsIn};

@@ -1,6 +1,7 @@
 //! One try: a number put for a variable of all polynomials, for a charge.
 
-ghost use Rattle.std.specs.Prelude.{min, pos, ◌≡◌, ◌≢◌, ◌⊎◌, ◌↔◌, ◌-◌, ◌^◌, ◌<◌, ◌≤◌, Some, [], ◌∷◌, length, sum_by, All, Any, IfOk, IfErr, IsTrue};
+ghost use Rattle.std.specs.Prelude.{min, pos, ◌≡◌, ◌≢◌, ◌⊎◌, ◌↔◌, ◌-◌, ◌^◌, ◌<◌, ◌≤◌, Some, []};
+ghost use Rattle.std.specs.Prelude.{◌∷◌, length, sum_by, All, Any, IfOk, IfErr, IsTrue};
 ghost use Rattle.geo_poly.specs.Polynomials.{IsPolynomial};
 ghost use Rattle.geo_poly.specs.Specialise.{NoneZero, specialised_weight};
 ghost use Rattle.geo_sample.specs.Tries.{AreMade, EndIn};

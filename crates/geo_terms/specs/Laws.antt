@@ -6,7 +6,9 @@ use Rattle.geo_terms.specs.Stores.{Store, IsStore, node_tree, tree_of, trees_of}
 
 -- an index unfolds to the tree of its node over the trees of the node's parts
 abbrev pub NodesUnfold : Type 0
-NodesUnfold = (nodes : Store) (id : TermId) (node : Node) → IsStore nodes → slice_get nodes id.0 ≡ Some node → tree_of nodes id ≡ node_tree (trees_of nodes) node
+NodesUnfold =
+    (nodes : Store) (id : TermId) (node : Node) → IsStore nodes → slice_get nodes id.0 ≡ Some node
+    → tree_of nodes id ≡ node_tree (trees_of nodes) node
 
 -- where nodes are added at the end, all trees stay
 abbrev pub OtherTreesStay : Type 0

@@ -1,4 +1,5 @@
-//! What is proved of stores and their trees. The functions do nothing: what each says is its contract.
+//! What is proved of stores and their trees. The functions do nothing: what each says is its
+//! contract.
 
 ghost use Rattle.geo_terms.specs.Laws.{EqualTreesHaveEqualIndices, NodesUnfold, OtherTreesStay};
 

@@ -1,9 +1,11 @@
 //! How the points of a figure are made, one step a point.
 
-ghost use Rattle.std.specs.Prelude.{◌≡◌, ◌<◌, ◌≤◌, ◌+◌, ◌++◌, ◌∷◌, [], Contains, IfOk, OnOk, OnErr, Some, length, slice_get};
+ghost use Rattle.std.specs.Prelude.{◌≡◌, ◌<◌, ◌≤◌, ◌+◌, ◌++◌, ◌∷◌, [], Contains, IfOk, OnOk, OnErr};
+ghost use Rattle.std.specs.Prelude.{Some, length, slice_get};
 ghost use Rattle.geo_points.specs.declared.ids.TermId.{TermId};
 ghost use Rattle.geo_terms.specs.Constructions.{IsConstruction, IsStep};
-ghost use Rattle.geo_terms.specs.Stores.{HasChildrenBelow, HasShortInteger, node_tree, tree_of, trees_of};
+ghost use Rattle.geo_terms.specs.Stores.{HasChildrenBelow, HasShortInteger, node_tree, tree_of};
+ghost use Rattle.geo_terms.specs.Stores.{trees_of};
 
 use crate::nodes::Node;
 use crate::stores::Terms;
@@ -73,7 +75,8 @@ impl Model for Steps {
 
     ghost view = { λ s. record { nodes = s.terms; steps = s.steps.items; params = s.params } };
 
-    ghost invariant = { λ s. IsConstruction (record { nodes = s.terms; steps = s.steps.items; params = s.params }) };
+    ghost invariant = { λ s.
+        IsConstruction (record { nodes = s.terms; steps = s.steps.items; params = s.params }) };
 }
 
 impl Steps {
@@ -88,7 +91,8 @@ impl Steps {
         })
     }
 
-    /// The index of the node in the store of the steps, as `Terms::intern` gives it. All steps stay.
+    /// The index of the node in the store of the steps, as `Terms::intern` gives it. All steps
+    /// stay.
     pub fn intern(&mut self, node: Node) -> Result<TermId, NoMemory>
         requires children { HasChildrenBelow (length self.old.nodes) node }
         requires integer { HasShortInteger node }
@@ -96,7 +100,8 @@ impl Steps {
         ensures steps { self.new.steps ≡ self.old.steps }
         ensures params { self.new.params ≡ self.old.params }
         ensures node { IfOk result (λ id. slice_get self.new.nodes id.0 ≡ Some node) }
-        ensures tree { IfOk result (λ id. tree_of self.new.nodes id ≡ node_tree (trees_of self.old.nodes) node) }
+        ensures tree { IfOk result (λ id. tree_of self.new.nodes id
+            ≡ node_tree (trees_of self.old.nodes) node) }
         ensures known { Contains self.old.nodes node → self.new.nodes ≡ self.old.nodes }
         ensures added { OnOk result ((Contains self.old.nodes node → ⊥)
             → self.new.nodes ≡ self.old.nodes ++ node ∷ []) }
@@ -116,13 +121,14 @@ impl Steps {
         &self.terms
     }
 
-    /// The point that the step makes, which is the next one. The step names earlier points alone; its number is a
-    /// term without ratios over earlier points and the parameters that are there.
+    /// The point that the step makes, which is the next one. The step names earlier points alone;
+    /// its number is a term without ratios over earlier points and the parameters that are there.
     pub fn push(&mut self, step: Step) -> Result<PointId, NoMemory>
         requires step { IsStep self.old.nodes (length self.old.steps) self.old.params step }
         requires room { length self.old.steps < 512 }
         ensures point { IfOk result (λ y. y.0 ≡ length self.old.steps) }
-        ensures ok { OnOk result (self.new ≡ record self.old { steps = self.old.steps ++ step ∷ [] }) }
+        ensures ok { OnOk result (self.new
+            ≡ record self.old { steps = self.old.steps ++ step ∷ [] }) }
         ensures err { OnErr result (self.new ≡ self.old) }
     {
         let point = PointId(self.steps.len() as u32);

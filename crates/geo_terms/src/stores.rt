@@ -1,8 +1,10 @@
 //! A store of terms, in which each stands once.
 
-ghost use Rattle.std.specs.Prelude.{◌≡◌, ◌<◌, ◌≤◌, ◌+◌, ◌++◌, ◌∷◌, ◌↔◌, [], Contains, IfOk, OnOk, OnErr, IsTrue, Some, length, slice_get};
+ghost use Rattle.std.specs.Prelude.{◌≡◌, ◌<◌, ◌≤◌, ◌+◌, ◌++◌, ◌∷◌, ◌↔◌, [], Contains, IfOk, OnOk};
+ghost use Rattle.std.specs.Prelude.{OnErr, IsTrue, Some, length, slice_get};
 ghost use Rattle.geo_points.specs.declared.ids.TermId.{TermId};
-ghost use Rattle.geo_terms.specs.Stores.{HasChildrenBelow, HasShortInteger, IsStore, node_tree, tree_of, trees_of};
+ghost use Rattle.geo_terms.specs.Stores.{HasChildrenBelow, HasShortInteger, IsStore, node_tree};
+ghost use Rattle.geo_terms.specs.Stores.{tree_of, trees_of};
 
 use crate::nodes::Node;
 use geo_points::{NoMemory, TermId};
@@ -10,8 +12,8 @@ use indexmap::IndexSet;
 use std::alloc::Global;
 use std::marker::Model;
 
-/// Terms by index: a list of nodes, each once, whose children stand at lower indices. So each index stands for a
-/// finite tree, and equal terms have equal indices.
+/// Terms by index: a list of nodes, each once, whose children stand at lower indices. So each index
+/// stands for a finite tree, and equal terms have equal indices.
 #[derive(Drop)]
 pub struct Terms {
     nodes: IndexSet<Node>,
@@ -43,10 +45,13 @@ impl Terms {
         requires integer { HasShortInteger node }
         requires room { length self.old < 4294967295 }
         ensures node { IfOk result (λ id. slice_get self.new id.0 ≡ Some node) }
-        ensures tree { IfOk result (λ id. tree_of self.new id ≡ node_tree (trees_of self.old) node) }
+        ensures tree { IfOk result (λ id. tree_of self.new id
+            ≡ node_tree (trees_of self.old) node) }
         ensures known { Contains self.old node → self.new ≡ self.old }
-        ensures added { OnOk result ((Contains self.old node → ⊥) → self.new ≡ self.old ++ node ∷ []) }
-        ensures others { (id : TermId) → id.0 < length self.old → tree_of self.new id ≡ tree_of self.old id }
+        ensures added { OnOk result ((Contains self.old node → ⊥)
+            → self.new ≡ self.old ++ node ∷ []) }
+        ensures others { (id : TermId) → id.0 < length self.old
+            → tree_of self.new id ≡ tree_of self.old id }
         ensures longer { length self.old ≤ length self.new }
         ensures one_more { length self.new ≤ length self.old + 1 }
         ensures valid { IsStore self.new }

@@ -7,7 +7,8 @@ pub enum Item {
     Goal(usize),
 }
 
-// A move, by the numbers of points. A ratio's has those of the ratio, the lemma and the point that it looks at.
+// A move, by the numbers of points. A ratio's has those of the ratio, the lemma and the point that
+// it looks at.
 #[derive(Clone, Copy)]
 pub enum Named {
     Ratio([u32; 4], u32, u32),
@@ -15,8 +16,10 @@ pub enum Named {
     Coords,
 }
 
-// A term, the moves on its start, and the text of the chain: the charge and the polynomial of each line, and before them
-// each row in use, with its power, with weight, count and degree of both sides, and with its charge. Where a move gives
+// A term, the moves on its start, and the text of the chain: the charge and the polynomial of each
+// line, and before them
+// each row in use, with its power, with weight, count and degree of both sides, and with its
+// charge. Where a move gives
 // no polynomial, the one before it stands.
 pub type Chain = (Item, &'static [Named], &'static str);
 

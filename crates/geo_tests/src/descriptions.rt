@@ -103,7 +103,8 @@ fn push_lines(out: &mut String, lines: &[(PointId, PointId)]) -> Result<(), NoMe
     Ok(())
 }
 
-/// The places of the points, lines and parameters that have names, the number of points after each command, the numbers
+/// The places of the points, lines and parameters that have names, the number of points after each
+/// command, the numbers
 /// of points and parameters that are made, each step, each condition and each goal.
 pub fn describe(alloc: Global, problem: &Problem) -> Result<String, NoMemory> {
     let points: Vec<u32> = problem.points.items.iter().map(|y| y.0).collect(alloc)?;

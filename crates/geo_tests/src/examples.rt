@@ -1,5 +1,7 @@
-//! Programs, and the problems that are made of them: which points, lines and parameters have which names, the steps, the
-//! conditions and the goals. What is expected was written by a plain reference, which is no part of this repository.
+//! Programs, and the problems that are made of them: which points, lines and parameters have which
+//! names, the steps, the
+//! conditions and the goals. What is expected was written by a plain reference, which is no part of
+//! this repository.
 
 // A text that spells a program, and its problem as a text.
 pub const EXAMPLES: &[(&str, &str)] = &[

@@ -1,4 +1,5 @@
-//! Tests that cross crates. There is nothing here but tests: of the calls that make a problem of a program, and of the
+//! Tests that cross crates. There is nothing here but tests: of the calls that make a problem of a
+//! program, and of the
 //! moves of a chain, beside what a plain reference makes of the same programs.
 #![tactic(auto)]
 

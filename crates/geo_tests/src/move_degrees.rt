@@ -1,4 +1,5 @@
-//! Moves whose line has the greatest degree, and one more. What is expected was written by a plain reference, which is no
+//! Moves whose line has the greatest degree, and one more. What is expected was written by a plain
+//! reference, which is no
 //! part of this repository.
 
 use crate::chains::{Item, Named};
@@ -43,7 +44,8 @@ fn steep_program(alloc: Global, powers: &[u32]) -> Result<String, NoMemory> {
     )?)
 }
 
-// The exponents of the powers of r, and the chain: the row has degree 2049, and the line 31 * 2049 and the powers of r.
+// The exponents of the powers of r, and the chain: the row has degree 2049, and the line 31 * 2049
+// and the powers of r.
 const STEEP: &[(&[u32], &str)] = &[
     (
         &[10, 9, 8, 7, 6, 5],

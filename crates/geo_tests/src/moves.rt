@@ -1,4 +1,5 @@
-//! Starts and moves on small figures: what each line of a chain has, which rows of the lemma table are in use, and what is
+//! Starts and moves on small figures: what each line of a chain has, which rows of the lemma table
+//! are in use, and what is
 //! charged, beside the tables of the reference.
 
 ghost use Rattle.std.specs.Prelude.{◌<◌, length};
@@ -210,7 +211,8 @@ fn push_rows(
     Ok(())
 }
 
-// Appends the rows and the line of a move, and answers the polynomial that stands then: after an error the one before.
+// Appends the rows and the line of a move, and answers the polynomial that stands then: after an
+// error the one before.
 fn push_line(
     alloc: Global,
     out: &mut String,
@@ -280,7 +282,8 @@ pub fn problem_of(alloc: Global, text: &str) -> Result<Problem, ParseError> {
     Ok(list(alloc, &program, lowered)?)
 }
 
-// The first chain that is not that of the table, after its program, and no text where there is none.
+// The first chain that is not that of the table, after its program, and no text where there is
+// none.
 fn odd_chain(alloc: Global, figures: &[Figure]) -> Result<String, NoMemory> {
     for (program, chains) in figures {
         let Ok(problem) = problem_of(alloc, program) else {

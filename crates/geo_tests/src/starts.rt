@@ -1,4 +1,5 @@
-//! The starts of the statements of programs. What is expected was written by a plain reference, which is no part of this
+//! The starts of the statements of programs. What is expected was written by a plain reference,
+//! which is no part of this
 //! repository.
 
 use crate::problems::problem_of;
@@ -9,7 +10,8 @@ use proof_log::{Line, read_line};
 use std::alloc::Global;
 use std::test::Fail;
 
-// A text that spells a program, the charge of the start of its statement, and the line of this start.
+// A text that spells a program, the charge of the start of its statement, and the line of this
+// start.
 const STARTS: &[(&str, u64, &str)] = &[
     (
         "point A point B midpoint M A B prove { collinear A M B }",

@@ -2,7 +2,7 @@
 use Rattle.std.proofs.Common.{◌≡◌, ℕ, suc, ◌-◌, inl, inr, ℤ, List, [], ◌∷◌, ◌++◌, ◌∙◌, subst}
 use Rattle.geo_points.specs.declared.ids.PointId.{PointId}
 use Rattle.geo_poly.specs.declared.variables.Var.{Var}
-use Rattle.geo_poly.specs.Polynomials.{Terms}
+use Rattle.geo_poly.specs.Polynomials.{Summands}
 use Rattle.geo_terms.specs.Constructions.{Construction}
 use Rattle.geo_terms.specs.Trees.{Tree}
 use Rattle.geo_sample.specs.Samples.{SearchEndsIn}
@@ -27,10 +27,10 @@ use Rattle.log_checker.proofs.AlikeSteps.{AlikeConstructions, constructed_same, 
 
 -- CHAINS
 module _ (c d : Construction) (h : AlikeConstructions c d) where
-  moved : (move : Move) (left : ℕ) (q r : Terms) → IsMoved (replacement lemma_table c move q) left q r → IsMoved (replacement lemma_table d move q) left q r
+  moved : (move : Move) (left : ℕ) (q r : Summands) → IsMoved (replacement lemma_table c move q) left q r → IsMoved (replacement lemma_table d move q) left q r
   moved move left q r m = subst (λ (x : Replacement). IsMoved x left q r) (replacement_same c d h move q) m
 
-  pub leads_alike : (known : List Var) (left : ℕ) (q : Terms) (steps : List ChainStep) (left' : ℕ) (e : Terms)
+  pub leads_alike : (known : List Var) (left : ℕ) (q : Summands) (steps : List ChainStep) (left' : ℕ) (e : Summands)
       → LeadsTo lemma_table c known left q steps left' e → LeadsTo lemma_table d known left q steps left' e
   leads_alike known left q [] left' e l = l
   leads_alike known left q (moves move r ∷ steps) left' e l = (
@@ -45,27 +45,27 @@ module _ (c d : Construction) (h : AlikeConstructions c d) where
   chain_alike known left e chain left' a =
       record { started = a.started; leads = leads_alike known (left - start_charge e) (start_of e) chain.steps left' chain.end a.leads; ended = a.ended }
 
-  pub sample_alike : (listed : List Terms) (left : ℕ) (values : List (Var × ℤ)) (left' : ℕ) → IsAcceptedSample c listed left values left' → IsAcceptedSample d listed left values left'
+  pub sample_alike : (listed : List Summands) (left : ℕ) (values : List (Var × ℤ)) (left' : ℕ) → IsAcceptedSample c listed left values left' → IsAcceptedSample d listed left values left'
   sample_alike listed left values left' a = record { variables = a.variables ∙ variables_same c d h; fits = a.fits; made = a.made; nonzero = a.nonzero }
 
   -- the prover's
-  highest_alike : (y : PointId) (q : Terms) → IsHighest c y q → IsHighest d y q
+  highest_alike : (y : PointId) (q : Summands) → IsHighest c y q → IsHighest d y q
   highest_alike y q a = record {
     constructed = constructed_same c d h y a.constructed;
     occurs = a.occurs;
     highest = λ z made occurs. a.highest z (constructed_same d c (turned_round c d h) z made) occurs;
   }
 
-  free_alike : (q : Terms) → HasFreePointsAlone c q → HasFreePointsAlone d q
+  free_alike : (q : Summands) → HasFreePointsAlone c q → HasFreePointsAlone d q
   free_alike q a = λ y made occurs. a y (constructed_same d c (turned_round c d h) y made) occurs
 
-  next_alike : (q : Terms) (move : Move) → IsNextMove lemma_table c q move → IsNextMove lemma_table d q move
+  next_alike : (q : Summands) (move : Move) → IsNextMove lemma_table c q move → IsNextMove lemma_table d q move
   next_alike q (Ratio v lemma at) (inl a) = inl (a.0, highest_alike a.0 q a.1, a.2, a.3 ∙ first_lemma_same c d h a.0 v, a.4)
   next_alike q (Ratio v lemma at) (inr a) = inr (free_alike q a.0, a.1, a.2, a.3)
   next_alike q (Point y) a = (highest_alike y q a.0, a.1)
   next_alike q Coords a = (free_alike q a.0, a.1, a.2)
 
-  pub steps_alike : (known : List Var) (left : ℕ) (q : Terms) (steps : List ChainStep) (left' : ℕ) (e : Terms)
+  pub steps_alike : (known : List Var) (left : ℕ) (q : Summands) (steps : List ChainStep) (left' : ℕ) (e : Summands)
       → LeadsBySteps lemma_table c known left q steps left' e → LeadsBySteps lemma_table d known left q steps left' e
   steps_alike known left q [] left' e l = l
   steps_alike known left q (moves move r ∷ steps) left' e l = (
@@ -86,7 +86,7 @@ module _ (c d : Construction) (h : AlikeConstructions c d) where
     ended = a.ended;
   }
 
-  pub least_alike : (listed : List Terms) (left : ℕ) (values : List (Var × ℤ)) (left' : ℕ) → IsLeastSample c listed left values left' → IsLeastSample d listed left values left'
+  pub least_alike : (listed : List Summands) (left : ℕ) (values : List (Var × ℤ)) (left' : ℕ) → IsLeastSample c listed left values left' → IsLeastSample d listed left values left'
   least_alike listed left values left' a = record { least = subst (λ (vs : List Var). Search.IsLeastSample vs listed values) (variables_same c d h) a.least; made = a.made }
 
   pub next_line_alike : (place : Place) (next : Next) → IsNext lemma_table c place next → IsNext lemma_table d place next
@@ -102,15 +102,15 @@ module _ (c d : Construction) (h : AlikeConstructions c d) where
 -- LOGS: chains and samples that may stand in one may stand in the other
 module _ (W V : Chains) (C D : Samples)
     (chain : (known : List Var) (left : ℕ) (e : Tree) (x : Chain) (left' : ℕ) → W known left e x left' → V known left e x left')
-    (sample : (listed : List Terms) (left : ℕ) (values : List (Var × ℤ)) (left' : ℕ) → C listed left values left' → D listed left values left') where
+    (sample : (listed : List Summands) (left : ℕ) (values : List (Var × ℤ)) (left' : ℕ) → C listed left values left' → D listed left values left') where
   abbrev first_alike : (header : Line) (known : List Var) (left : ℕ) (item : Item) (lines : List Line) → BeginsWithChain W C header known left item lines → BeginsWithChain V D header known left item lines
   first_alike header known left item lines a =
       record { chain = a.chain; after = a.after; rest = a.rest; split = a.split; works = chain known left item.term a.chain a.after a.works }
 
-  concluded_alike : (listed : List Terms) (left : ℕ) (lines : List Line) (verdict : Verdict) (left' : ℕ) → IsConcluded W C listed left lines verdict left' → IsConcluded V D listed left lines verdict left'
+  concluded_alike : (listed : List Summands) (left : ℕ) (lines : List Line) (verdict : Verdict) (left' : ℕ) → IsConcluded W C listed left lines verdict left' → IsConcluded V D listed left lines verdict left'
   concluded_alike listed left lines verdict left' a = record { values = a.values; chosen = sample listed left a.values left' a.chosen; split = a.split }
 
-  goals_alike : (known : List Var) (listed : List Terms) (k left : ℕ) (items : List Item) (lines : List Line) (verdict : Verdict) (left' : ℕ)
+  goals_alike : (known : List Var) (listed : List Summands) (k left : ℕ) (items : List Item) (lines : List Line) (verdict : Verdict) (left' : ℕ)
       → AreGoalsWorked W C known listed k left items lines verdict left' → AreGoalsWorked V D known listed k left items lines verdict left'
   goals_alike known listed k left [] lines verdict left' a = (a.0, concluded_alike listed left lines Proved left' a.1)
   goals_alike known listed k left (item ∷ items) lines verdict left' (a, inl b) =
@@ -118,7 +118,7 @@ module _ (W V : Chains) (C D : Samples)
   goals_alike known listed k left (item ∷ items) lines verdict left' (a, inr b) =
       (first_alike (Goal k item.text) known left item lines a, inr (b.0, b.1, concluded_alike (listed ++ a.chain.end ∷ []) a.after a.rest (False k) left' b.2))
 
-  pub worked_alike : (goals : List Item) (known : List Var) (listed : List Terms) (k left : ℕ) (items : List Item) (lines : List Line) (verdict : Verdict) (left' : ℕ)
+  pub worked_alike : (goals : List Item) (known : List Var) (listed : List Summands) (k left : ℕ) (items : List Item) (lines : List Line) (verdict : Verdict) (left' : ℕ)
       → AreConditionsWorked W C goals known listed k left items lines verdict left' → AreConditionsWorked V D goals known listed k left items lines verdict left'
   worked_alike goals known listed k left [] lines verdict left' a = goals_alike known listed 1 left goals lines verdict left' a
   worked_alike goals known listed k left (item ∷ items) lines verdict left' (a, inl b) = (first_alike (Condition k item.text) known left item lines a, inl b)
@@ -129,7 +129,7 @@ module _ (W V : Chains) (C D : Samples)
 
   -- beginnings
   module _ (L M : Paths)
-      (path : (known : List Var) (left : ℕ) (q : Terms) (steps : List ChainStep) (left' : ℕ) (e : Terms) → L known left q steps left' e → M known left q steps left' e) where
+      (path : (known : List Var) (left : ℕ) (q : Summands) (steps : List ChainStep) (left' : ℕ) (e : Summands) → L known left q steps left' e → M known left q steps left' e) where
     begun_chain_alike : (header : Line) (known : List Var) (left : ℕ) (e : Tree) (lines : List Line) (place : Place)
         → IsBegunChain L W C header known left e lines place → IsBegunChain M V D header known left e lines place
     begun_chain_alike header known left e lines place (inl a) = inl a
@@ -145,12 +145,12 @@ module _ (W V : Chains) (C D : Samples)
           stands = a.stands;
         }))
 
-    begun_end_alike : (listed : List Terms) (verdict : Verdict) (left : ℕ) (lines : List Line) (place : Place)
+    begun_end_alike : (listed : List Summands) (verdict : Verdict) (left : ℕ) (lines : List Line) (place : Place)
         → IsBegunEnd L W C listed verdict left lines place → IsBegunEnd M V D listed verdict left lines place
     begun_end_alike listed verdict left lines place (inl a) = inl a
     begun_end_alike listed verdict left lines place (inr a) = inr (a.0, a.1, sample listed left a.0 a.1 a.2, a.3, a.4)
 
-    goals_begun_alike : (known : List Var) (listed : List Terms) (k left : ℕ) (items : List Item) (lines : List Line) (place : Place)
+    goals_begun_alike : (known : List Var) (listed : List Summands) (k left : ℕ) (items : List Item) (lines : List Line) (place : Place)
         → AreGoalsBegun L W C known listed k left items lines place → AreGoalsBegun M V D known listed k left items lines place
     goals_begun_alike known listed k left [] lines place a = begun_end_alike listed Proved left lines place a
     goals_begun_alike known listed k left (item ∷ items) lines place (inl a) = inl (begun_chain_alike (Goal k item.text) known left item.term lines place a)
@@ -159,7 +159,7 @@ module _ (W V : Chains) (C D : Samples)
     goals_begun_alike known listed k left (item ∷ items) lines place (inr (a, inr b)) =
         inr (first_alike (Goal k item.text) known left item lines a, inr (b.0, begun_end_alike (listed ++ a.chain.end ∷ []) (False k) a.after a.rest place b.1))
 
-    pub begun_alike : (goals : List Item) (known : List Var) (listed : List Terms) (k left : ℕ) (items : List Item) (lines : List Line) (place : Place)
+    pub begun_alike : (goals : List Item) (known : List Var) (listed : List Summands) (k left : ℕ) (items : List Item) (lines : List Line) (place : Place)
         → AreConditionsBegun L W C goals known listed k left items lines place → AreConditionsBegun M V D goals known listed k left items lines place
     begun_alike goals known listed k left [] lines place a = goals_begun_alike known listed 1 left goals lines place a
     begun_alike goals known listed k left (item ∷ items) lines place (inl a) = inl (begun_chain_alike (Condition k item.text) known left item.term lines place a)

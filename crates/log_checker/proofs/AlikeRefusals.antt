@@ -1,7 +1,7 @@
 -- Subjects with the same items over constructions with the same steps have the same refusals.
 use Rattle.std.proofs.Common.{◌≡◌, ◌≢◌, ℕ, inl, inr, ℤ, Option, Some, None, List, [], sym, ◌∙◌, subst}
 use Rattle.geo_poly.specs.declared.variables.Var.{Var}
-use Rattle.geo_poly.specs.Polynomials.{Terms}
+use Rattle.geo_poly.specs.Polynomials.{Summands}
 use Rattle.geo_poly.specs.Replace.{replaced_by}
 use Rattle.geo_terms.specs.Constructions.{Construction}
 use Rattle.geo_terms.specs.Trees.{Tree}
@@ -20,20 +20,20 @@ use Rattle.log_checker.proofs.AlikeLogs.{AlikeSubjects, begun_alike, chain_alike
 use Rattle.log_checker.proofs.AlikeSteps.{AlikeConstructions, replacement_same, variables_same}
 
 module _ (c d : Construction) (h : AlikeConstructions c d) where
-  move_alike : (left : ℕ) (q : Terms) (m : Move) (t : Terms) (r : Refusal) → IsMoveRefused lemma_table c left q m t r → IsMoveRefused lemma_table d left q m t r
+  move_alike : (left : ℕ) (q : Summands) (m : Move) (t : Summands) (r : Refusal) → IsMoveRefused lemma_table c left q m t r → IsMoveRefused lemma_table d left q m t r
   move_alike left q m t (rejected no_row) a = subst (λ (x : Replacement). x.rows ≡ []) (replacement_same c d h m q) a
   move_alike left q m t (stopped stop) a = subst (λ (x : Replacement). (x.rows ≢ []) × IsMoveStopped x left q stop) (replacement_same c d h m q) a
   move_alike left q m t (rejected wrong_polynomial) a =
       subst (λ (x : Replacement). (x.rows ≢ []) × ((stop : Stop) → IsMoveStopped x left q stop → ⊥) × (t ≢ replaced_by x.rows x.den.poly q)) (replacement_same c d h m q) a
   move_alike left q m t _ a = absurd a
 
-  abbrev HasMove : Construction → ℕ → Terms → Line → Refusal → Type 0
-  HasMove e left q l r = (move : Move) × (t : Terms) × (l ≡ line_of (moves move t)) × IsMoveRefused lemma_table e left q move t r
+  abbrev HasMove : Construction → ℕ → Summands → Line → Refusal → Type 0
+  HasMove e left q l r = (move : Move) × (t : Summands) × (l ≡ line_of (moves move t)) × IsMoveRefused lemma_table e left q move t r
 
-  moves_alike : (left : ℕ) (q : Terms) (l : Line) (r : Refusal) → HasMove c left q l r → HasMove d left q l r
+  moves_alike : (left : ℕ) (q : Summands) (l : Line) (r : Refusal) → HasMove c left q l r → HasMove d left q l r
   moves_alike left q l r (m, t, e, a) = (m, t, e, move_alike left q m t r a)
 
-  inner_alike : (known : List Var) (left : ℕ) (q : Terms) (l : Line) (r : Refusal) → IsInnerRefused lemma_table c known left q l r → IsInnerRefused lemma_table d known left q l r
+  inner_alike : (known : List Var) (left : ℕ) (q : Summands) (l : Line) (r : Refusal) → IsInnerRefused lemma_table c known left q l r → IsInnerRefused lemma_table d known left q l r
   inner_alike known left q End r a = a
   inner_alike known left q (Cut f t) r a = a
   inner_alike known left q Header r a = moves_alike left q Header r a
@@ -49,7 +49,7 @@ module _ (c d : Construction) (h : AlikeConstructions c d) where
   inner_alike known left q (StopTooLarge n which) r a = moves_alike left q (StopTooLarge n which) r a
   inner_alike known left q (StopSpent n) r a = moves_alike left q (StopSpent n) r a
 
-  sample_refused_alike : (listed : List Terms) (left : ℕ) (values : List (Var × ℤ)) (r : Refusal) → IsSampleRefused c listed left values r → IsSampleRefused d listed left values r
+  sample_refused_alike : (listed : List Summands) (left : ℕ) (values : List (Var × ℤ)) (r : Refusal) → IsSampleRefused c listed left values r → IsSampleRefused d listed left values r
   sample_refused_alike listed left values (rejected wrong_sample) (inl a) = inl (λ e. a (e ∙ sym (variables_same c d h)))
   sample_refused_alike listed left values (rejected wrong_sample) (inr a) = inr (a.0 ∙ variables_same c d h, a.1, a.2)
   sample_refused_alike listed left values (stopped stop) a = (a.0 ∙ variables_same c d h, a.1)
@@ -60,7 +60,7 @@ module _ (c d : Construction) (h : AlikeConstructions c d) where
   start_refused_alike left e (Start q) (rejected wrong_start) a = a
   start_refused_alike left e _ _ a = absurd a
 
-  at_sample_alike : (listed : List Terms) (left : ℕ) (l : Line) (r : Refusal) → IsRefusedAt lemma_table c (before_sample listed left) l r → IsRefusedAt lemma_table d (before_sample listed left) l r
+  at_sample_alike : (listed : List Summands) (left : ℕ) (l : Line) (r : Refusal) → IsRefusedAt lemma_table c (before_sample listed left) l r → IsRefusedAt lemma_table d (before_sample listed left) l r
   at_sample_alike listed left (Sample values) r a = sample_refused_alike listed left values r a
   at_sample_alike listed left _ r a = absurd a
 

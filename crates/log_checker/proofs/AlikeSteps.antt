@@ -14,7 +14,7 @@ use Rattle.geo_points.specs.declared.ids.TermId.{TermId}
 use Rattle.geo_poly.specs.declared.variables.Var.{Var}
 use Rattle.geo_poly.specs.declared.variables.Var.TheVariants.{R, S, P, X as Abscissa, Y as Ordinate, T as Number}
 use Rattle.geo_poly.specs.PolynomialVariables.{variables_of}
-use Rattle.geo_poly.specs.Polynomials.{Terms}
+use Rattle.geo_poly.specs.Polynomials.{Summands}
 use Rattle.geo_poly.specs.Variables.{var_cmp}
 use Rattle.geo_terms.specs.declared.steps.Step.{Step}
 use Rattle.geo_terms.specs.declared.steps.Step.TheVariants.{Point, Inter, Foot, Pratio, Tratio}
@@ -307,7 +307,7 @@ module _ (c d : Construction) (h : AlikeConstructions c d) where
   charge_same Coords = refl
 
   -- a move replaces the same
-  pub replacement_same : (move : Move) (q : Terms) → replacement lemma_table c move q ≡ replacement lemma_table d move q
+  pub replacement_same : (move : Move) (q : Summands) → replacement lemma_table c move q ≡ replacement lemma_table d move q
   replacement_same move q = λ i. record {
     rows = filter_map (λ v. option_map (λ r. (made_row v r).0) (row_same move v i)) (variables_of q);
     den = piece_of (denominator_same move i);

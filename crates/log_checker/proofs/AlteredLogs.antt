@@ -3,7 +3,7 @@ use Rattle.std.proofs.Common.{◌≡◌, ◌≢◌, ℕ, ◌==◌, Bool, true, f
 use Rattle.std.specs.Prelude.{codes, not}
 use Rattle.std.proofs.lemmas.Int.{unsigned_abs-mul}
 use Rattle.geo_poly.specs.Factors.{leading_coefficient}
-use Rattle.geo_poly.specs.Polynomials.{IsPolynomial, Terms, multiples, product_of}
+use Rattle.geo_poly.specs.Polynomials.{IsPolynomial, Summands, multiples, product_of}
 use Rattle.geo_poly.proofs.FactorLaws.{multiples-product}
 use Rattle.geo_terms.specs.Stores.{Store}
 use Rattle.geo_terms.specs.Trees.{area_leaf}
@@ -71,10 +71,10 @@ other_start more =
     signs_apart e = let s : pos 1 ≡ negsuc 0 = ap leading_coefficient e in cc
 
 -- line 8 is `cut -2 : +1*S0.1.2`: 2 divides no polynomial with the coefficient -1
-odd : (s : Terms) → IsPolynomial s → product_of (([], negsuc 1) ∷ []) s ≢ times (negsuc 0)
+odd : (s : Summands) → IsPolynomial s → product_of (([], negsuc 1) ∷ []) s ≢ times (negsuc 0)
 odd s h e = go s (multiples-product ([], negsuc 1) s (λ z. omega (arith, z)) h.monomials h.in_order ∙ e)
   where
-    go : (ts : Terms) → multiples ([], negsuc 1) ts ≡ times (negsuc 0) → ⊥
+    go : (ts : Summands) → multiples ([], negsuc 1) ts ≡ times (negsuc 0) → ⊥
     go [] f = some_term (negsuc 0) (sym f)
     go (t ∷ ts) f =
         let first : negsuc 1 *ℤ t.1 ≡ negsuc 0 = ap leading_coefficient f in

@@ -3,7 +3,7 @@ use Rattle.std.proofs.Common.{◌≡◌, ℕ, zero, suc, ◌-◌, inl, inr, Opti
 use Rattle.std.specs.Prelude.{slice_get, take}
 use Rattle.std.proofs.lemmas.List.{append_assoc}
 use Rattle.geo_poly.specs.declared.variables.Var.{Var}
-use Rattle.geo_poly.specs.Polynomials.{Terms}
+use Rattle.geo_poly.specs.Polynomials.{Summands}
 use Rattle.geo_terms.specs.Constructions.{Construction}
 use Rattle.geo_terms.specs.Trees.{Tree}
 use Rattle.proof_log.specs.declared.log.Line.{Line}
@@ -59,16 +59,16 @@ module _ (c : Construction) where
 
   -- CHAINS
   module _ (known : List Var) where
-    abbrev Leads : ℕ → Terms → List ChainStep → ℕ → Terms → Type 0
+    abbrev Leads : ℕ → Summands → List ChainStep → ℕ → Summands → Type 0
     Leads left q steps left' e = LeadsTo lemma_table c known left q steps left' e
 
-    pub record IsRest (after : ℕ) (last : Terms) (l : ℕ) (e : Terms) (lines : List Line) (tail : List Line) : Type 0 where
+    pub record IsRest (after : ℕ) (last : Summands) (l : ℕ) (e : Summands) (lines : List Line) (tail : List Line) : Type 0 where
       pub steps : List ChainStep
       pub leads : Leads after last steps l e
       pub same : map line_of steps ++ End ∷ tail ≡ lines
 
     -- a path over the same lines goes on from where another stands
-    path_rest : (left : ℕ) (q : Terms) (zs : List ChainStep) (l : ℕ) (e : Terms) (xs : List ChainStep) (after : ℕ) (last : Terms) (tail more : List Line)
+    path_rest : (left : ℕ) (q : Summands) (zs : List ChainStep) (l : ℕ) (e : Summands) (xs : List ChainStep) (after : ℕ) (last : Summands) (tail more : List Line)
         → Leads left q zs l e → Leads left q xs after last → map line_of zs ++ End ∷ tail ≡ map line_of xs ++ more → IsRest after last l e more tail
     path_rest left q zs l e [] after last tail more h g same =
         record { steps = zs; leads = subst (λ k. Leads k last zs l e) g.0 (subst (λ r. Leads left r zs l e) g.1 h); same = same }
@@ -89,7 +89,7 @@ module _ (c : Construction) where
         path_rest left s zs l e xs after last tail more (subst (λ t. Leads left t zs l e) result h.1) g.1
         (tail_of (Cut f r) (Cut k s) (map line_of zs ++ End ∷ tail) (map line_of xs ++ more) same)
 
-    open_goes : (after : ℕ) (last : Terms) (l : ℕ) (e : Terms) (more tail : List Line) → IsEnd e → IsRest after last l e more tail → Goes (in_chain known after last) more
+    open_goes : (after : ℕ) (last : Summands) (l : ℕ) (e : Summands) (more tail : List Line) → IsEnd e → IsRest after last l e more tail → Goes (in_chain known after last) more
     open_goes after last l e more tail end h = go h.steps h.leads h.same
       where
         go : (steps : List ChainStep) → Leads after last steps l e → map line_of steps ++ End ∷ tail ≡ more → Goes (in_chain known after last) more
@@ -98,12 +98,12 @@ module _ (c : Construction) where
             (line_of (moves m r), map line_of steps ++ End ∷ tail, sym same, inl (moves m r, after - move_charge (replacement lemma_table c m last) last, r, (g.0, (refl, refl)), refl))
         go (cuts f r ∷ steps) g same = (Cut f r, map line_of steps ++ End ∷ tail, sym same, inl (cuts f r, after, r, (g.0, (refl, refl)), refl))
 
-    pub record AreEnded (after : ℕ) (last : Terms) (l : ℕ) (e : Terms) (tail other : List Line) : Type 0 where
+    pub record AreEnded (after : ℕ) (last : Summands) (l : ℕ) (e : Summands) (tail other : List Line) : Type 0 where
       pub left : l ≡ after
       pub end : e ≡ last
       pub tails : tail ≡ other
 
-    full_ends : (after : ℕ) (last : Terms) (l : ℕ) (e : Terms) (tail other : List Line) → IsRest after last l e (End ∷ other) tail → AreEnded after last l e tail other
+    full_ends : (after : ℕ) (last : Summands) (l : ℕ) (e : Summands) (tail other : List Line) → IsRest after last l e (End ∷ other) tail → AreEnded after last l e tail other
     full_ends after last l e tail other h = go h.steps h.leads h.same
       where
         go : (steps : List ChainStep) → Leads after last steps l e → map line_of steps ++ End ∷ tail ≡ End ∷ other → AreEnded after last l e tail other
@@ -150,7 +150,7 @@ module _ (c : Construction) where
           (path_rest (left - start_charge e) (start_of e) first.chain.steps first.after first.chain.end done.chain.steps done.after done.chain.end first.rest (End ∷ (done.rest ++ zs)) first.works.leads done.works.leads lines)
 
   -- THE END
-  module _ (listed : List Terms) (left : ℕ) where
+  module _ (listed : List Summands) (left : ℕ) where
     end_goes : (ws xs zs : List Line) (verdict : Verdict) (l : ℕ) (place : Place) → IsConcluded (IsAcceptedChain lemma_table c) (IsAcceptedSample c) listed left ws verdict l → ws ≡ xs ++ zs
         → IsBegunEnd (LeadsTo lemma_table c) (IsAcceptedChain lemma_table c) (IsAcceptedSample c) listed verdict left xs place → Goes place zs
     end_goes ws xs zs verdict l place h same (inl g) =
@@ -167,14 +167,14 @@ module _ (c : Construction) where
         let both : Sample g.values ∷ VerdictLine other ∷ zs ≡ Sample h.values ∷ VerdictLine verdict ∷ [] = ap (λ ys. ys ++ zs) (sym g.split) ∙ sym same ∙ h.split in
         tail_of (VerdictLine other) (VerdictLine verdict) zs [] (tail_of (Sample g.values) (Sample h.values) (VerdictLine other ∷ zs) (VerdictLine verdict ∷ []) both)
 
-  abbrev Worked : List Var → List Terms → ℕ → ℕ → List Item → List Line → Verdict → ℕ → Type 0
+  abbrev Worked : List Var → List Summands → ℕ → ℕ → List Item → List Line → Verdict → ℕ → Type 0
   Worked known listed k left items ws verdict l = AreGoalsWorked (IsAcceptedChain lemma_table c) (IsAcceptedSample c) known listed k left items ws verdict l
 
-  abbrev Concluded : List Terms → ℕ → List Line → Verdict → ℕ → Type 0
+  abbrev Concluded : List Summands → ℕ → List Line → Verdict → ℕ → Type 0
   Concluded listed left ws verdict l = IsConcluded (IsAcceptedChain lemma_table c) (IsAcceptedSample c) listed left ws verdict l
 
   -- GOALS
-  goals_go : (known : List Var) (listed : List Terms) (k left : ℕ) (items : List Item) (ws xs zs : List Line) (verdict : Verdict) (l : ℕ) (place : Place)
+  goals_go : (known : List Var) (listed : List Summands) (k left : ℕ) (items : List Item) (ws xs zs : List Line) (verdict : Verdict) (l : ℕ) (place : Place)
       → Worked known listed k left items ws verdict l → ws ≡ xs ++ zs
       → AreGoalsBegun (LeadsTo lemma_table c) (IsAcceptedChain lemma_table c) (IsAcceptedSample c) known listed k left items xs place → Goes place zs
   goals_go known listed k left [] ws xs zs verdict l place h same g = end_goes listed left ws xs zs Proved l place h.1 same g
@@ -193,7 +193,7 @@ module _ (c : Construction) where
       (subst (λ n. Concluded (listed ++ done.chain.end ∷ []) n first.rest (False k) l) d.left
       (subst (λ t. Concluded (listed ++ t ∷ []) first.after first.rest (False k) l) d.end h.2)) d.tails g.1
 
-  goals_done : (known : List Var) (listed : List Terms) (k left : ℕ) (items : List Item) (ws xs zs : List Line) (verdict other : Verdict) (l l' : ℕ)
+  goals_done : (known : List Var) (listed : List Summands) (k left : ℕ) (items : List Item) (ws xs zs : List Line) (verdict other : Verdict) (l l' : ℕ)
       → Worked known listed k left items ws verdict l → ws ≡ xs ++ zs → Worked known listed k left items xs other l' → zs ≡ []
   goals_done known listed k left [] ws xs zs verdict other l l' h same g = end_done listed left ws xs zs Proved Proved l l' h.1 same g.1
   goals_done known listed k left (item ∷ items) ws xs zs verdict other l l' (first, inl h) same (done, inl g) =
@@ -212,10 +212,10 @@ module _ (c : Construction) where
 
   -- CONDITIONS
   module _ (goals : List Item) where
-    abbrev AllWorked : List Var → List Terms → ℕ → ℕ → List Item → List Line → Verdict → ℕ → Type 0
+    abbrev AllWorked : List Var → List Summands → ℕ → ℕ → List Item → List Line → Verdict → ℕ → Type 0
     AllWorked known listed k left items ws verdict l = AreConditionsWorked (IsAcceptedChain lemma_table c) (IsAcceptedSample c) goals known listed k left items ws verdict l
 
-    conditions_go : (known : List Var) (listed : List Terms) (k left : ℕ) (items : List Item) (ws xs zs : List Line) (verdict : Verdict) (l : ℕ) (place : Place)
+    conditions_go : (known : List Var) (listed : List Summands) (k left : ℕ) (items : List Item) (ws xs zs : List Line) (verdict : Verdict) (l : ℕ) (place : Place)
         → AllWorked known listed k left items ws verdict l → ws ≡ xs ++ zs
         → AreConditionsBegun (LeadsTo lemma_table c) (IsAcceptedChain lemma_table c) (IsAcceptedSample c) goals known listed k left items xs place → Goes place zs
     conditions_go known listed k left [] ws xs zs verdict l place h same g = goals_go known listed 1 left goals ws xs zs verdict l place h same g
@@ -235,7 +235,7 @@ module _ (c : Construction) where
         (subst (λ n. AllWorked known' (listed ++ done.chain.end ∷ []) (suc k) n items first.rest verdict l) d.left
         (subst (λ t. AllWorked known' (listed ++ t ∷ []) (suc k) first.after items first.rest verdict l) d.end h.1)) d.tails g.1
 
-    conditions_done : (known : List Var) (listed : List Terms) (k left : ℕ) (items : List Item) (ws xs zs : List Line) (verdict other : Verdict) (l l' : ℕ)
+    conditions_done : (known : List Var) (listed : List Summands) (k left : ℕ) (items : List Item) (ws xs zs : List Line) (verdict other : Verdict) (l l' : ℕ)
         → AllWorked known listed k left items ws verdict l → ws ≡ xs ++ zs → AllWorked known listed k left items xs other l' → zs ≡ []
     conditions_done known listed k left [] ws xs zs verdict other l l' h same g = goals_done known listed 1 left goals ws xs zs verdict other l l' h same g
     conditions_done known listed k left (item ∷ items) ws xs zs verdict other l l' (first, inl h) same (done, inl g) =

@@ -1,7 +1,7 @@
 -- Of two beginnings of accepted logs the longer goes on where the shorter stands, and none goes on behind a whole log.
 use Rattle.std.proofs.Common.{◌≡◌, ℕ, suc, ◌-◌, ◌⊎◌, inl, inr, List, [], ◌∷◌, ◌++◌, map, append_assoc, refl, sym, ◌∙◌, ap, subst}
 use Rattle.geo_poly.specs.declared.variables.Var.{Var}
-use Rattle.geo_poly.specs.Polynomials.{Terms}
+use Rattle.geo_poly.specs.Polynomials.{Summands}
 use Rattle.geo_terms.specs.Constructions.{Construction}
 use Rattle.geo_terms.specs.Trees.{Tree}
 use Rattle.proof_log.specs.declared.log.Line.{Line}
@@ -34,10 +34,10 @@ module _ (c : Construction) where
 
   -- CHAINS
   module _ (known : List Var) where
-    abbrev Leads : ℕ → Terms → List ChainStep → ℕ → Terms → Type 0
+    abbrev Leads : ℕ → Summands → List ChainStep → ℕ → Summands → Type 0
     Leads left q steps left' e = LeadsTo lemma_table c known left q steps left' e
 
-    path_reaches : (left : ℕ) (q : Terms) (zs : List ChainStep) (l : ℕ) (e : Terms) (xs : List ChainStep) (after : ℕ) (last : Terms) (more : List Line)
+    path_reaches : (left : ℕ) (q : Summands) (zs : List ChainStep) (l : ℕ) (e : Summands) (xs : List ChainStep) (after : ℕ) (last : Summands) (more : List Line)
         → Leads left q zs l e → Leads left q xs after last → map line_of zs ≡ map line_of xs ++ more → Reaches (in_chain known after last) more (in_chain known l e)
     path_reaches left q [] l e [] after last more h g same =
         let charges : after ≡ l = sym g.0 ∙ h.0 in let ends : last ≡ e = sym g.1 ∙ h.1 in inl (sym same, λ i. in_chain known (charges i) (ends i))
@@ -120,13 +120,13 @@ module _ (c : Construction) where
             (tail_of (Start (start_of item.term)) (Start (start_of item.term)) (map line_of h.steps) (map line_of done.chain.steps ++ End ∷ (done.rest ++ zs)) first))
 
   -- THE END
-  abbrev EndBegun : List Terms → Verdict → ℕ → List Line → Place → Type 0
+  abbrev EndBegun : List Summands → Verdict → ℕ → List Line → Place → Type 0
   EndBegun listed verdict left lines place = IsBegunEnd (LeadsTo lemma_table c) (IsAcceptedChain lemma_table c) (IsAcceptedSample c) listed verdict left lines place
 
-  abbrev Concluded : List Terms → ℕ → List Line → Verdict → ℕ → Type 0
+  abbrev Concluded : List Summands → ℕ → List Line → Verdict → ℕ → Type 0
   Concluded listed left lines verdict l = IsConcluded (IsAcceptedChain lemma_table c) (IsAcceptedSample c) listed left lines verdict l
 
-  end_reaches : (listed : List Terms) (verdict : Verdict) (left : ℕ) (ws xs zs : List Line) (place other : Place) → ws ≡ xs ++ zs
+  end_reaches : (listed : List Summands) (verdict : Verdict) (left : ℕ) (ws xs zs : List Line) (place other : Place) → ws ≡ xs ++ zs
       → EndBegun listed verdict left ws other → EndBegun listed verdict left xs place → Reaches place zs other
   end_reaches listed verdict left ws xs zs place other same (inl h) (inl g) = inl (ap (λ ys. ys ++ zs) (sym g.0) ∙ sym same ∙ h.0, g.1 ∙ sym h.1)
   end_reaches listed verdict left ws xs zs place other same (inl h) (inr g) = no_item (Sample g.0) zs (sym h.0 ∙ same ∙ ap (λ ys. ys ++ zs) g.3)
@@ -136,7 +136,7 @@ module _ (c : Construction) where
       let both : Sample g.0 ∷ zs ≡ Sample h.0 ∷ [] = ap (λ ys. ys ++ zs) (sym g.3) ∙ sym same ∙ h.3 in
       inl (tail_of (Sample g.0) (Sample h.0) zs [] both, g.4 ∙ sym h.4)
 
-  end_not_done : {A : Type 0} (listed : List Terms) (verdict : Verdict) (left l : ℕ) (ws xs zs : List Line) (other : Place) → ws ≡ xs ++ zs
+  end_not_done : {A : Type 0} (listed : List Summands) (verdict : Verdict) (left l : ℕ) (ws xs zs : List Line) (other : Place) → ws ≡ xs ++ zs
       → EndBegun listed verdict left ws other → Concluded listed left xs verdict l → A
   end_not_done listed verdict left l ws xs zs other same (inl h) g = no_item (Sample g.values) (VerdictLine verdict ∷ zs) (sym h.0 ∙ same ∙ ap (λ ys. ys ++ zs) g.split)
   end_not_done listed verdict left l ws xs zs other same (inr h) g =
@@ -144,13 +144,13 @@ module _ (c : Construction) where
       no_item (VerdictLine verdict) zs (tail_of (Sample h.0) (Sample g.values) [] (VerdictLine verdict ∷ zs) both)
 
   -- GOALS
-  abbrev GoalsBegun : List Var → List Terms → ℕ → ℕ → List Item → List Line → Place → Type 0
+  abbrev GoalsBegun : List Var → List Summands → ℕ → ℕ → List Item → List Line → Place → Type 0
   GoalsBegun known listed k left items lines place = AreGoalsBegun (LeadsTo lemma_table c) (IsAcceptedChain lemma_table c) (IsAcceptedSample c) known listed k left items lines place
 
-  abbrev GoalsWorked : List Var → List Terms → ℕ → ℕ → List Item → List Line → Verdict → ℕ → Type 0
+  abbrev GoalsWorked : List Var → List Summands → ℕ → ℕ → List Item → List Line → Verdict → ℕ → Type 0
   GoalsWorked known listed k left items lines verdict l = AreGoalsWorked (IsAcceptedChain lemma_table c) (IsAcceptedSample c) known listed k left items lines verdict l
 
-  goals_reach : (known : List Var) (listed : List Terms) (k left : ℕ) (items : List Item) (ws xs zs : List Line) (place other : Place) → ws ≡ xs ++ zs
+  goals_reach : (known : List Var) (listed : List Summands) (k left : ℕ) (items : List Item) (ws xs zs : List Line) (place other : Place) → ws ≡ xs ++ zs
       → GoalsBegun known listed k left items ws other → GoalsBegun known listed k left items xs place → Reaches place zs other
   goals_reach known listed k left [] ws xs zs place other same h g = end_reaches listed Proved left ws xs zs place other same h g
   goals_reach known listed k left (item ∷ items) ws xs zs place other same (inl h) (inl g) = chain_reaches known (Goal k item.text) left item.term ws xs zs place other same h g
@@ -169,7 +169,7 @@ module _ (c : Construction) where
       (subst (λ n. EndBegun (listed ++ done.chain.end ∷ []) (False k) n first.rest other) d.left
       (subst (λ t. EndBegun (listed ++ t ∷ []) (False k) first.after first.rest other) d.end h.1)) g.1
 
-  goals_not_done : {A : Type 0} (known : List Var) (listed : List Terms) (k left l : ℕ) (items : List Item) (ws xs zs : List Line) (verdict : Verdict) (other : Place) → ws ≡ xs ++ zs
+  goals_not_done : {A : Type 0} (known : List Var) (listed : List Summands) (k left l : ℕ) (items : List Item) (ws xs zs : List Line) (verdict : Verdict) (other : Place) → ws ≡ xs ++ zs
       → GoalsBegun known listed k left items ws other → GoalsWorked known listed k left items xs verdict l → A
   goals_not_done known listed k left l [] ws xs zs verdict other same h g = end_not_done listed Proved left l ws xs zs other same h g.1
   goals_not_done known listed k left l (item ∷ items) ws xs zs verdict other same (inl h) (done, g) = done_not_open known (Goal k item.text) left item ws xs zs other same h done
@@ -188,13 +188,13 @@ module _ (c : Construction) where
 
   -- CONDITIONS
   module _ (goals : List Item) where
-    abbrev AllBegun : List Var → List Terms → ℕ → ℕ → List Item → List Line → Place → Type 0
+    abbrev AllBegun : List Var → List Summands → ℕ → ℕ → List Item → List Line → Place → Type 0
     AllBegun known listed k left items lines place = AreConditionsBegun (LeadsTo lemma_table c) (IsAcceptedChain lemma_table c) (IsAcceptedSample c) goals known listed k left items lines place
 
-    abbrev AllWorked : List Var → List Terms → ℕ → ℕ → List Item → List Line → Verdict → ℕ → Type 0
+    abbrev AllWorked : List Var → List Summands → ℕ → ℕ → List Item → List Line → Verdict → ℕ → Type 0
     AllWorked known listed k left items lines verdict l = AreConditionsWorked (IsAcceptedChain lemma_table c) (IsAcceptedSample c) goals known listed k left items lines verdict l
 
-    pub begun_reaches : (known : List Var) (listed : List Terms) (k left : ℕ) (items : List Item) (ws xs zs : List Line) (place other : Place) → ws ≡ xs ++ zs
+    pub begun_reaches : (known : List Var) (listed : List Summands) (k left : ℕ) (items : List Item) (ws xs zs : List Line) (place other : Place) → ws ≡ xs ++ zs
         → AllBegun known listed k left items ws other → AllBegun known listed k left items xs place → Reaches place zs other
     begun_reaches known listed k left [] ws xs zs place other same h g = goals_reach known listed 1 left goals ws xs zs place other same h g
     begun_reaches known listed k left (item ∷ items) ws xs zs place other same (inl h) (inl g) = chain_reaches known (Condition k item.text) left item.term ws xs zs place other same h g
@@ -214,7 +214,7 @@ module _ (c : Construction) where
         (subst (λ n. AllBegun more (listed ++ done.chain.end ∷ []) (suc k) n items first.rest other) d.left
         (subst (λ t. AllBegun more (listed ++ t ∷ []) (suc k) first.after items first.rest other) d.end h.1)) g.1
 
-    pub begun_not_done : {A : Type 0} (known : List Var) (listed : List Terms) (k left l : ℕ) (items : List Item) (ws xs zs : List Line) (verdict : Verdict) (other : Place) → ws ≡ xs ++ zs
+    pub begun_not_done : {A : Type 0} (known : List Var) (listed : List Summands) (k left l : ℕ) (items : List Item) (ws xs zs : List Line) (verdict : Verdict) (other : Place) → ws ≡ xs ++ zs
         → AllBegun known listed k left items ws other → AllWorked known listed k left items xs verdict l → A
     begun_not_done known listed k left l [] ws xs zs verdict other same h g = goals_not_done known listed 1 left l goals ws xs zs verdict other same h g
     begun_not_done known listed k left l (item ∷ items) ws xs zs verdict other same (inl h) (done, g) = done_not_open known (Condition k item.text) left item ws xs zs other same h done

@@ -23,7 +23,7 @@ use Rattle.geo_lowering.specs.Conditions.{nonzero}
 use Rattle.geo_lowering.specs.Lowering.{IsLowered, LoweredForm}
 use Rattle.geo_conditions.specs.Lists.{all_found, condition_item, goal_item}
 use Rattle.geo_conditions.specs.Statements.{statement_goals}
-use Rattle.geo_conditions.specs.Truth.{Breaks, IsImpossible, Values}
+use Rattle.geo_conditions.specs.Truth.{Breaks, IsImpossible, ProgramValues}
 use Rattle.proof_log.specs.declared.log.Verdict.TheVariants.{False}
 use Rattle.elim_apply.specs.LemmaTable.{lemma_table}
 use Rattle.geo_logs.proofs.Examples.{at, quotients, quotients_accepted, quotients_lines, twice, twice_accepted, twice_lines}
@@ -218,7 +218,7 @@ quotients_about = record {
 }
 
 -- the value of its sample breaks it
-quotients_broken : (v : Values) × EndsWithValues quotients_lines (False 1) v × Breaks quotients_source v
+quotients_broken : (v : ProgramValues) × EndsWithValues quotients_lines (False 1) v × Breaks quotients_source v
 quotients_broken =
     false_breaks quotients_source 20 1 quotients_lines
     (record { well_formed = quotients_well_formed; subject = quotients; about = quotients_about; left = 0; accepted = quotients_accepted lemma_table })

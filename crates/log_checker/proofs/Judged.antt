@@ -12,7 +12,7 @@ use Rattle.geo_logs.specs.Judging.{IsFirstRefusal, Refusal}
 use Rattle.geo_logs.specs.Logs.{IsAccepted, Subject}
 use Rattle.log_checker.proofs.Beginnings.{none_refused}
 use Rattle.log_checker.specs.Judged.{AcceptedBytesAreNotRefused, AcceptedLogsDoNotStop, AreRead, BytesAreReadInOneWay, IsFirstStop, IsHeaderRefused, IsProgramOver, IsRead}
-use Rattle.log_checker.proofs.Accepted.{EndsIn, NoProgramFirst, conditions_first}
+use Rattle.log_checker.proofs.AcceptedBytes.{EndsIn, NoProgramFirst, conditions_first}
 use Rattle.log_checker.proofs.AlikeLogs.{accepted_alike}
 use Rattle.log_checker.proofs.OneSubject.{alike_subjects}
 

@@ -12,7 +12,7 @@ use Rattle.geo_poly.specs.Cuts.{IsCut}
 use Rattle.geo_poly.specs.Factors.{IsFactorOf}
 use Rattle.geo_poly.specs.PolynomialVariables.{IsRatio}
 use Rattle.geo_poly.specs.Monomials.{Powers}
-use Rattle.geo_poly.specs.Polynomials.{IsPolynomial, Terms}
+use Rattle.geo_poly.specs.Polynomials.{IsPolynomial, Summands}
 use Rattle.geo_terms.specs.declared.nodes.Node.{Node}
 use Rattle.geo_terms.specs.declared.nodes.Node.TheVariants as node
 use Rattle.geo_terms.specs.declared.steps.Step.{Step}
@@ -49,7 +49,7 @@ use Rattle.geo_logs.specs.Samples.{IsAcceptedSample, IsLeastSample}
 use Rattle.geo_logs.proofs.Examples.{at}
 use Rattle.log_checker.specs.Accepted.{Accepts}
 use Rattle.log_checker.specs.Subjects.{IsSubjectOf}
-use Rattle.log_checker.proofs.Accepted.{accepted_bytes_mean}
+use Rattle.log_checker.proofs.AcceptedBytes.{accepted_bytes_mean}
 use Rattle.log_checker.proofs.Examples.{letter_name, letter_point, letters_apart, none_in, only_in, term}
 use Rattle.log_checker.proofs.Places.{below}
 
@@ -192,7 +192,7 @@ midpoint_about = record {
 abbrev pub S012 : Var
 S012 = area (at 0) (at 1) (at 2)
 
-abbrev pub times : ℤ → Terms
+abbrev pub times : ℤ → Summands
 times z = ((S012, 1) ∷ [], z) ∷ []
 
 abbrev pub zeros : List (Var × ℤ)

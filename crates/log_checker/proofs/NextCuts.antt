@@ -7,7 +7,7 @@ use Rattle.std.proofs.lemmas.List.Elements.{All-cons, All-head, All-nil, All-tai
 use Rattle.geo_poly.specs.declared.variables.Var.{Var}
 use Rattle.geo_poly.specs.Factors.{DividesAll, IsFactor, IsFactorOf}
 use Rattle.geo_poly.specs.Monomials.{Powers, IsMonomial, exponents}
-use Rattle.geo_poly.specs.Polynomials.{IsPolynomial, Terms, norm_of}
+use Rattle.geo_poly.specs.Polynomials.{IsPolynomial, Summands, norm_of}
 use Rattle.geo_poly.proofs.Cuts.{IsAbove-first, IsMonomial-reduced, common_exponent, Contains-from_is_in, is_in, known_in_reduced, least_of, other_in_reduced, reduced}
 use Rattle.std.proofs.lemmas.Int.{ints}
 use Rattle.std.proofs.lemmas.Bool.Decides.{nat_tests}
@@ -27,12 +27,12 @@ gcd_exists (suc fuel) a (suc b) h =
     let g = gcd_exists fuel (suc b) (a % suc b) (omega (arith, h, less)) in (g.0, IsGcd-from_mod a (suc b) g.0 g.1)
 
 -- the greatest divisor of all coefficients
-pub record HasContent (p : Terms) : Type 0 where
+pub record HasContent (p : Summands) : Type 0 where
   pub content : ℕ
   pub divides : DividesAll content p
   pub greatest : (d : ℕ) → DividesAll d p → d ∣ content
 
-content_of : (p : Terms) → HasContent p
+content_of : (p : Summands) → HasContent p
 content_of [] = record { content = 0; divides = All-nil (λ t. 0 ∣ unsigned_abs t.1); greatest = λ d h. dvd-zero d }
 content_of (t ∷ ts) =
     let rest = content_of ts in
@@ -57,7 +57,7 @@ keys_of_put P v k m h rest = go (eqb k 0)
     go true = rest
     go false = (h, rest)
 
-keys_known : (known : List Var) (p : Terms) (m : Powers) → AllKeys (λ v. Contains known v) (reduced (common_exponent known p) m)
+keys_known : (known : List Var) (p : Summands) (m : Powers) → AllKeys (λ v. Contains known v) (reduced (common_exponent known p) m)
 keys_known known p [] = tt
 keys_known known p (u ∷ m) = go (is_in known u.0) refl (keys_known known p m)
   where
@@ -67,15 +67,15 @@ keys_known known p (u ∷ m) = go (is_in known u.0) refl (keys_known known p m)
     go false e rest = rest
 
 -- the factor of a polynomial, and that it may be cut by
-pub record HasFactor (known : List Var) (q : Terms) : Type 0 where
+pub record HasFactor (known : List Var) (q : Summands) : Type 0 where
   pub factor : Powers × ℤ
   pub is : IsFactorOf known q factor
   pub fits : IsFactor factor
   pub by_known : AllKeys (λ v. Contains known v) factor.0
 
-factor_exists : (known : List Var) (t : Powers × ℤ) (ts : Terms) → IsPolynomial (t ∷ ts) → HasFactor known (t ∷ ts)
+factor_exists : (known : List Var) (t : Powers × ℤ) (ts : Summands) → IsPolynomial (t ∷ ts) → HasFactor known (t ∷ ts)
 factor_exists known t ts h =
-    let p : Terms = t ∷ ts in
+    let p : Summands = t ∷ ts in
     let some : 0 < length p = omega arith in
     let c = content_of p in
     let z = signed t.1 c.content in
@@ -103,11 +103,11 @@ is_one ([], negsuc k) = inr (λ e. let n : negsuc k ≡ pos 1 = λ i. (e i).1 in
 is_one (u ∷ m, z) = inr (λ e. let n : ◌≡◌ {A = Powers} (u ∷ m) [] = λ i. (e i).0 in cc)
 
 -- a cut is due, or none is
-pub cut_or_none : (known : List Var) (q : Terms) → IsPolynomial q → NoCutDue known q ⊎ ((f : Powers × ℤ) × (r : Terms) × IsCutDue known q f × IsCut known f q r)
+pub cut_or_none : (known : List Var) (q : Summands) → IsPolynomial q → NoCutDue known q ⊎ ((f : Powers × ℤ) × (r : Summands) × IsCutDue known q f × IsCut known f q r)
 cut_or_none known [] h = inl (λ n. absurd (n refl))
 cut_or_none known (t ∷ ts) h =
-    let q : Terms = t ∷ ts in
-    let some : q ≢ [] = λ e. let n : ◌≡◌ {A = Terms} (t ∷ ts) [] = e in cc in
+    let q : Summands = t ∷ ts in
+    let some : q ≢ [] = λ e. let n : ◌≡◌ {A = Summands} (t ∷ ts) [] = e in cc in
     let f = factor_exists known t ts h in
     let r = factor_quotient known q f.factor h some f.is in
     ⊎_elim (λ (e : f.factor ≡ ([], pos 1)). inl (λ n. subst (λ g. IsFactorOf known q g) e f.is))

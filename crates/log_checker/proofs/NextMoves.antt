@@ -11,7 +11,7 @@ use Rattle.geo_points.specs.declared.ids.PointId.{PointId}
 use Rattle.geo_poly.specs.declared.replacement.Row.{Row}
 use Rattle.geo_poly.specs.declared.variables.Var.{Var}
 use Rattle.geo_poly.specs.declared.variables.Var.TheVariants.{R, S, P, X as Abscissa, Y as Ordinate, T as Number}
-use Rattle.geo_poly.specs.Polynomials.{Terms}
+use Rattle.geo_poly.specs.Polynomials.{Summands}
 use Rattle.geo_poly.specs.Variables.{var_cmp}
 use Rattle.geo_poly.proofs.Orders.{var_order}
 use Rattle.geo_terms.specs.declared.steps.Step.{Step}
@@ -276,7 +276,7 @@ module _ (c : Construction) where
       go (Some (Pratio w u v r)) e = inl (record { step = Pratio w u v r; made = e; not_free = λ n. cc })
       go (Some (Tratio u v r)) e = inl (record { step = Tratio u v r; made = e; not_free = λ n. cc })
 
-  module _ (q : Terms) where
+  module _ (q : Summands) where
     occurs_or_not : (y : PointId) → Occurs y q ⊎ (Occurs y q → ⊥)
     occurs_or_not y = any_or_none (λ v. IsTrue (has_point y v)) (λ v. true_or_not (has_point y v)) (variables_of q)
 

@@ -2,7 +2,7 @@
 use Rattle.std.proofs.Common.{◌≢◌, ℕ, zero, suc, ◌-◌, ◌^◌, ◌<◌, ◌≤◌, ◌⊎◌, inl, inr, ⊎_elim, max, All, List, [], ◌∷◌, refl, sym, subst, arith}
 use Rattle.std.specs.Prelude.{Any}
 use Rattle.geo_poly.specs.declared.limits.Which.TheVariants.{Norm, Degree}
-use Rattle.geo_poly.specs.Polynomials.{Terms}
+use Rattle.geo_poly.specs.Polynomials.{Summands}
 use Rattle.geo_poly.specs.Replace.{replaced_by, replaced_degree, replaced_weight}
 use Rattle.geo_poly.specs.Specialise.{IsCollected, NoneZero, specialised_weight}
 use Rattle.geo_terms.specs.Constructions.{Construction}
@@ -46,7 +46,7 @@ start_next left e =
     (λ (short : left < start_charge e). let found : (next : Next) × IsAfterHeader left e next = (stops spent, short) in found) (at_most (start_charge e) left)
 
 -- MOVES
-pub moved_or_stopped : (made : Replacement) (left : ℕ) (q : Terms) → made.rows ≢ [] → IsMoved made left q (replaced_by made.rows made.den.poly q) ⊎ ((stop : Stop) × IsMoveStopped made left q stop)
+pub moved_or_stopped : (made : Replacement) (left : ℕ) (q : Summands) → made.rows ≢ [] → IsMoved made left q (replaced_by made.rows made.den.poly q) ⊎ ((stop : Stop) × IsMoveStopped made left q stop)
 moved_or_stopped made left q some =
     let w = replaced_weight made.rows made.den q in let d = replaced_degree made.rows made.den q in
     ⊎_elim
@@ -80,7 +80,7 @@ try_large t =
     (at_most (2 ^ 127) (specialised_weight t.variable t.number p))) t.polys
 
 -- how tries end: all are made, or they are stopped
-abbrev TriesEnd : ℕ → List Try → Type 0
+abbrev pub TriesEnd : ℕ → List Try → Type 0
 TriesEnd left tries = ((rest : ℕ) × AreMade left tries rest) ⊎ ((stop : Stop) × (rest : ℕ) × EndIn (error_of stop) left tries rest)
 
 try_end : (left : ℕ) (t : Try) → TriesEnd left (t ∷ [])
@@ -91,7 +91,7 @@ try_end left t =
     (λ (fits : IsTooLarge t → ⊥). let found : TriesEnd left (t ∷ []) = inl (left - charge_of t, one_made left (left - charge_of t) t (omega (arith, paid)) fits) in found) (try_large t))
     (λ (short : left < charge_of t). let found : TriesEnd left (t ∷ []) = inr (spent, left, one_spent left t short) in found) (at_most (charge_of t) left)
 
-tries_end : (tries : List Try) (left : ℕ) → TriesEnd left tries
+pub tries_end : (tries : List Try) (left : ℕ) → TriesEnd left tries
 tries_end [] left = inl (left, AreMade-nil left)
 tries_end (t ∷ ts) left =
     ⊎_elim
@@ -102,7 +102,7 @@ tries_end (t ∷ ts) left =
     (λ (h : (stop : Stop) × (rest : ℕ) × EndIn (error_of stop) left (t ∷ []) rest).
     let found : TriesEnd left (t ∷ ts) = inr (h.0, h.1, EndIn-before (error_of h.0) left h.1 (t ∷ []) ts h.2) in found) (try_end left t)
 
-pub sample_next : (c : Construction) (listed : List Terms) (left : ℕ) → All IsCollected listed → NoneZero listed → (next : Next) × IsAtSample c listed left next
+pub sample_next : (c : Construction) (listed : List Summands) (left : ℕ) → All IsCollected listed → NoneZero listed → (next : Next) × IsAtSample c listed left next
 sample_next c listed left collected some =
     let s = exists_one.exists (sample_variables c) listed collected some in
     ⊎_elim

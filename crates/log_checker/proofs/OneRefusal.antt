@@ -2,7 +2,7 @@
 use Rattle.std.proofs.Common.{◌≡◌, ◌≢◌, ℕ, ◌⊎◌, inl, inr, ℤ, Option, Some, None, List, [], ◌∷◌, refl, sym, ◌∙◌, ap, subst}
 use Rattle.geo_poly.specs.declared.variables.Var.{Var}
 use Rattle.geo_poly.specs.Monomials.{Powers}
-use Rattle.geo_poly.specs.Polynomials.{Terms, IsPolynomial, product_of}
+use Rattle.geo_poly.specs.Polynomials.{Summands, IsPolynomial, product_of}
 use Rattle.geo_sample.specs.Tries.{single_tries}
 use Rattle.geo_terms.specs.Constructions.{Construction}
 use Rattle.geo_terms.specs.Trees.{Tree}
@@ -41,13 +41,13 @@ other_once due l r s h g = go (other_is due l r h) (other_is due l s g)
 
 -- MOVES
 -- how a move is refused
-abbrev IsHow : Replacement → ℕ → Terms → Refusal → Type 0
+abbrev IsHow : Replacement → ℕ → Summands → Refusal → Type 0
 IsHow made left q r =
     ((r ≡ rejected no_row) × (made.rows ≡ []))
     ⊎ (((stop : Stop) × (r ≡ stopped stop) × (made.rows ≢ []) × IsMoveStopped made left q stop)
     ⊎ ((r ≡ rejected wrong_polynomial) × (made.rows ≢ []) × ((stop : Stop) → IsMoveStopped made left q stop → ⊥)))
 
-how_once : (made : Replacement) (left : ℕ) (q : Terms) (r s : Refusal) → IsHow made left q r → IsHow made left q s → r ≡ s
+how_once : (made : Replacement) (left : ℕ) (q : Summands) (r s : Refusal) → IsHow made left q r → IsHow made left q s → r ≡ s
 how_once made left q r s (inl a) (inl b) = a.0 ∙ sym b.0
 how_once made left q r s (inl a) (inr (inl b)) = absurd (b.2 a.1)
 how_once made left q r s (inl a) (inr (inr b)) = absurd (b.1 a.1)
@@ -59,38 +59,38 @@ how_once made left q r s (inr (inr a)) (inr (inl b)) = absurd (a.2 b.0 b.3)
 how_once made left q r s (inr (inr a)) (inr (inr b)) = a.0 ∙ sym b.0
 
 module _ (c : Construction) where
-  how : (left : ℕ) (q : Terms) (m : Move) (t : Terms) (r : Refusal) → IsMoveRefused lemma_table c left q m t r → IsHow (replacement lemma_table c m q) left q r
+  how : (left : ℕ) (q : Summands) (m : Move) (t : Summands) (r : Refusal) → IsMoveRefused lemma_table c left q m t r → IsHow (replacement lemma_table c m q) left q r
   how left q m t (rejected no_row) h = inl (refl, h)
   how left q m t (stopped stop) h = inr (inl (stop, refl, h.0, h.1))
   how left q m t (rejected wrong_polynomial) h = inr (inr (refl, h.0, h.1))
   how left q m t _ h = absurd h
 
-  abbrev HasMove : ℕ → Terms → Line → Refusal → Type 0
-  HasMove left q l r = (move : Move) × (t : Terms) × (l ≡ line_of (moves move t)) × IsMoveRefused lemma_table c left q move t r
+  abbrev HasMove : ℕ → Summands → Line → Refusal → Type 0
+  HasMove left q l r = (move : Move) × (t : Summands) × (l ≡ line_of (moves move t)) × IsMoveRefused lemma_table c left q move t r
 
-  moves_once : (left : ℕ) (q : Terms) (l : Line) (r s : Refusal) → HasMove left q l r → HasMove left q l s → r ≡ s
+  moves_once : (left : ℕ) (q : Summands) (l : Line) (r s : Refusal) → HasMove left q l r → HasMove left q l s → r ≡ s
   moves_once left q l r s (m, t, e, h) (k, u, f, g) =
       let one = same_move c q m k t u (sym e ∙ f) in
       how_once (replacement lemma_table c k q) left q r s (subst (λ (x : Replacement). IsHow x left q r) one.0 (how left q m t r h)) (how left q k u s g)
 
   -- CUTS
-  abbrev IsWrongCut : List Var → Terms → Powers × ℤ → Type 0
-  IsWrongCut known q f = (IsByKnown known f.0 → ⊥) ⊎ ((s : Terms) → IsPolynomial s → product_of (f ∷ []) s ≢ q)
+  abbrev IsWrongCut : List Var → Summands → Powers × ℤ → Type 0
+  IsWrongCut known q f = (IsByKnown known f.0 → ⊥) ⊎ ((s : Summands) → IsPolynomial s → product_of (f ∷ []) s ≢ q)
 
-  abbrev IsExactCut : List Var → Terms → Powers × ℤ → Type 0
-  IsExactCut known q f = IsByKnown known f.0 × ((s : Terms) × IsPolynomial s × (product_of (f ∷ []) s ≡ q))
+  abbrev IsExactCut : List Var → Summands → Powers × ℤ → Type 0
+  IsExactCut known q f = IsByKnown known f.0 × ((s : Summands) × IsPolynomial s × (product_of (f ∷ []) s ≡ q))
 
-  cut_is : (known : List Var) (q : Terms) (f : Powers × ℤ) (t : Terms) (r : Refusal) → IsCutRefused known q f t r
+  cut_is : (known : List Var) (q : Summands) (f : Powers × ℤ) (t : Summands) (r : Refusal) → IsCutRefused known q f t r
       → ((r ≡ rejected wrong_cut) × IsWrongCut known q f) ⊎ ((r ≡ rejected wrong_polynomial) × IsExactCut known q f)
   cut_is known q f t (rejected wrong_cut) h = inl (refl, h)
   cut_is known q f t (rejected wrong_polynomial) h = inr (refl, (h.0, (h.1.0, h.1.1, h.1.2)))
   cut_is known q f t _ h = absurd h
 
-  not_both : {A : Type 0} (known : List Var) (q : Terms) (f : Powers × ℤ) → IsWrongCut known q f → IsExactCut known q f → A
+  not_both : {A : Type 0} (known : List Var) (q : Summands) (f : Powers × ℤ) → IsWrongCut known q f → IsExactCut known q f → A
   not_both known q f (inl a) b = absurd (a b.0)
   not_both known q f (inr a) b = absurd (a b.1.0 b.1.1 b.1.2)
 
-  cut_once : (known : List Var) (q : Terms) (f : Powers × ℤ) (t : Terms) (r s : Refusal) → IsCutRefused known q f t r → IsCutRefused known q f t s → r ≡ s
+  cut_once : (known : List Var) (q : Summands) (f : Powers × ℤ) (t : Summands) (r s : Refusal) → IsCutRefused known q f t r → IsCutRefused known q f t s → r ≡ s
   cut_once known q f t r s h g = go (cut_is known q f t r h) (cut_is known q f t s g)
     where
       go : ((r ≡ rejected wrong_cut) × IsWrongCut known q f) ⊎ ((r ≡ rejected wrong_polynomial) × IsExactCut known q f)
@@ -100,7 +100,7 @@ module _ (c : Construction) where
       go (inr a) (inl b) = not_both known q f b.1 a.1
       go (inr a) (inr b) = a.0 ∙ sym b.0
 
-  inner_once : (known : List Var) (left : ℕ) (q : Terms) (l : Line) (r s : Refusal)
+  inner_once : (known : List Var) (left : ℕ) (q : Summands) (l : Line) (r s : Refusal)
       → IsInnerRefused lemma_table c known left q l r → IsInnerRefused lemma_table c known left q l s → r ≡ s
   inner_once known left q End r s h g = h.0 ∙ sym g.0
   inner_once known left q (Cut f t) r s h g = cut_once known q f t r s h g
@@ -118,14 +118,14 @@ module _ (c : Construction) where
   inner_once known left q (StopSpent n) r s h g = moves_once left q (StopSpent n) r s h g
 
   -- STARTS
-  start_is : (left : ℕ) (e : Tree) (q : Terms) (r : Refusal) → IsRefusedAt lemma_table c (before_start left e) (Start q) r
+  start_is : (left : ℕ) (e : Tree) (q : Summands) (r : Refusal) → IsRefusedAt lemma_table c (before_start left e) (Start q) r
       → ((stop : Stop) × (r ≡ stopped stop) × IsRefusedAt lemma_table c (before_start left e) (Start q) (stopped stop))
       ⊎ ((r ≡ rejected wrong_start) × IsRefusedAt lemma_table c (before_start left e) (Start q) (rejected wrong_start))
   start_is left e q (stopped stop) h = inl (stop, refl, h)
   start_is left e q (rejected wrong_start) h = inr (refl, h)
   start_is left e q _ h = absurd h
 
-  start_once : (left : ℕ) (e : Tree) (q : Terms) (r s : Refusal)
+  start_once : (left : ℕ) (e : Tree) (q : Summands) (r s : Refusal)
       → IsRefusedAt lemma_table c (before_start left e) (Start q) r → IsRefusedAt lemma_table c (before_start left e) (Start q) s → r ≡ s
   start_once left e q r s h g = go (start_is left e q r h) (start_is left e q s g)
     where
@@ -139,23 +139,23 @@ module _ (c : Construction) where
       go (inr a) (inr b) = a.0 ∙ sym b.0
 
   -- SAMPLES
-  abbrev IsWrongSample : List Terms → ℕ → List (Var × ℤ) → Type 0
+  abbrev IsWrongSample : List Summands → ℕ → List (Var × ℤ) → Type 0
   IsWrongSample listed left values = IsSampleRefused c listed left values (rejected wrong_sample)
 
-  abbrev IsStoppedSample : List Terms → ℕ → List (Var × ℤ) → Refusal → Type 0
+  abbrev IsStoppedSample : List Summands → ℕ → List (Var × ℤ) → Refusal → Type 0
   IsStoppedSample listed left values r = (stop : Stop) × (r ≡ stopped stop) × IsSampleRefused c listed left values (stopped stop)
 
-  sample_is : (listed : List Terms) (left : ℕ) (values : List (Var × ℤ)) (r : Refusal) → IsSampleRefused c listed left values r
+  sample_is : (listed : List Summands) (left : ℕ) (values : List (Var × ℤ)) (r : Refusal) → IsSampleRefused c listed left values r
       → ((r ≡ rejected wrong_sample) × IsWrongSample listed left values) ⊎ IsStoppedSample listed left values r
   sample_is listed left values (rejected wrong_sample) h = inl (refl, h)
   sample_is listed left values (stopped stop) h = inr (stop, refl, h)
   sample_is listed left values _ h = absurd h
 
-  wrong_or_stopped : {A : Type 0} (listed : List Terms) (left : ℕ) (values : List (Var × ℤ)) (r : Refusal) → IsWrongSample listed left values → IsStoppedSample listed left values r → A
+  wrong_or_stopped : {A : Type 0} (listed : List Summands) (left : ℕ) (values : List (Var × ℤ)) (r : Refusal) → IsWrongSample listed left values → IsStoppedSample listed left values r → A
   wrong_or_stopped listed left values r (inl a) b = absurd (a b.2.0)
   wrong_or_stopped listed left values r (inr a) b = absurd (tries.made_not_stopped left (single_tries values listed) a.1.0 b.2.1.0 b.0 a.1.1 b.2.1.1)
 
-  sample_once : (listed : List Terms) (left : ℕ) (values : List (Var × ℤ)) (r s : Refusal) → IsSampleRefused c listed left values r → IsSampleRefused c listed left values s → r ≡ s
+  sample_once : (listed : List Summands) (left : ℕ) (values : List (Var × ℤ)) (r s : Refusal) → IsSampleRefused c listed left values r → IsSampleRefused c listed left values s → r ≡ s
   sample_once listed left values r s h g = go (sample_is listed left values r h) (sample_is listed left values s g)
     where
       go : ((r ≡ rejected wrong_sample) × IsWrongSample listed left values) ⊎ IsStoppedSample listed left values r
@@ -170,7 +170,7 @@ module _ (c : Construction) where
   at_start_once left e (Start q) r s h g = start_once left e q r s h g
   at_start_once left e _ r s h g = absurd h
 
-  at_sample_once : (listed : List Terms) (left : ℕ) (l : Line) (r s : Refusal)
+  at_sample_once : (listed : List Summands) (left : ℕ) (l : Line) (r s : Refusal)
       → IsRefusedAt lemma_table c (before_sample listed left) l r → IsRefusedAt lemma_table c (before_sample listed left) l s → r ≡ s
   at_sample_once listed left (Sample values) r s h g = sample_once listed left values r s h g
   at_sample_once listed left _ r s h g = absurd h

@@ -13,7 +13,7 @@ use Rattle.geo_conditions.proofs.Listings.{listed_once}
 use Rattle.geo_logs.specs.Logs.{Subject}
 use Rattle.log_checker.specs.Accepted.{SubjectsAgree}
 use Rattle.log_checker.specs.Subjects.{IsSubjectOf, log_item, source_lines}
-use Rattle.log_checker.proofs.Accepted.{same_lines_same_program}
+use Rattle.log_checker.proofs.AcceptedBytes.{same_lines_same_program}
 use Rattle.log_checker.proofs.AlikeLogs.{AlikeSubjects, accepted_alike, defined_log_alike}
 
 one_conditions : (p : Source) (one other : List ItemForm) → AreConditionItems p one → AreConditionItems p other → one ≡ other

@@ -19,7 +19,7 @@ use Rattle.geo_lowering.specs.Counting.{named, counted, hidden, further, next_po
 use Rattle.geo_lowering.specs.Lowering.{IsLowered, Layout, LoweredForm, layout_of, command_steps, point_place, steps_from}
 use Rattle.geo_lowering.specs.StepForms.{StepForm, free, step_form}
 use Rattle.geo_lowering.proofs.Laying.{AreLaid, laid_program}
-use Rattle.geo_conditions.specs.Truth.{HasValues, Values, free_points, is_free, whole_point}
+use Rattle.geo_conditions.specs.Truth.{HasValues, ProgramValues, free_points, is_free, whole_point}
 use Rattle.geo_logs.specs.Samples.{coordinates_from, parameters_from, sample_variables, value_in}
 use Rattle.geo_logs.proofs.SampleVariables.{EachValue, IsDistinct, IsOwn, each_own, sample_distinct}
 use Rattle.log_checker.specs.Subjects.{AreSampleValues}
@@ -31,7 +31,7 @@ abbrev pub sample_pair : Source → List (Var × ℤ) → ℕ → ℤ × ℤ
 sample_pair p values a = (value_in values (Abscissa (record { 0 = point_place p.commands a })), value_in values (Ordinate (record { 0 = point_place p.commands a })))
 
 -- the values that a sample gives the program
-abbrev pub sample_values : Source → List (Var × ℤ) → Values
+abbrev pub sample_values : Source → List (Var × ℤ) → ProgramValues
 sample_values p values = record {
   coordinates = map (sample_pair p values) (free_points 0 p.commands);
   numbers = map (λ v. value_in values v) (parameters_from 0 (numbers_had p.commands));

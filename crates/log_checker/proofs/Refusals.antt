@@ -7,7 +7,7 @@ use Rattle.geo_points.specs.declared.ids.PointId.{PointId}
 use Rattle.geo_poly.specs.declared.variables.Var.{Var}
 use Rattle.geo_poly.specs.declared.variables.Var.TheVariants.{R, S, P, X as Abscissa, Y as Ordinate, T as Number}
 use Rattle.geo_poly.specs.Monomials.{Powers}
-use Rattle.geo_poly.specs.Polynomials.{Terms}
+use Rattle.geo_poly.specs.Polynomials.{Summands}
 use Rattle.geo_terms.specs.Constructions.{Construction}
 use Rattle.geo_terms.specs.Trees.{Tree}
 use Rattle.elim_ratio.specs.RatioTable.{ratio_table}
@@ -44,7 +44,7 @@ module _ (c : Construction) where
   blind_row (Ordinate a) at other = refl
   blind_row (Number t) at other = refl
 
-  blind : (v : Var) (at other : PointId) (q : Terms) → replacement lemma_table c (Ratio v 0 at) q ≡ replacement lemma_table c (Ratio v 0 other) q
+  blind : (v : Var) (at other : PointId) (q : Summands) → replacement lemma_table c (Ratio v 0 at) q ≡ replacement lemma_table c (Ratio v 0 other) q
   blind v at other q = λ i. record {
     rows = filter_map (λ w. option_map (λ r. (made_row w r).0) (if is_eq (var_cmp v w) then blind_row w at other i else None)) (variables_of q);
     den = piece_of (row_denominator (blind_row v at other i));
@@ -52,10 +52,10 @@ module _ (c : Construction) where
   }
 
   -- two moves with one line replace the same, and have the same result
-  abbrev pub AreOne : Terms → Move → Terms → Move → Terms → Type 0
+  abbrev pub AreOne : Summands → Move → Summands → Move → Summands → Type 0
   AreOne q m r n s = (replacement lemma_table c m q ≡ replacement lemma_table c n q) × (r ≡ s)
 
-  ratio_one : (q : Terms) (v w : Var) (lemma other : ℕ) (at there : PointId) (r s : Terms)
+  ratio_one : (q : Summands) (v w : Var) (lemma other : ℕ) (at there : PointId) (r s : Summands)
       → RatioLine v lemma (place_of_lemma lemma at) r ≡ RatioLine w other (place_of_lemma other there) s → AreOne q (Ratio v lemma at) r (Ratio w other there) s
   ratio_one q v w zero zero at there r s e =
       let same : v ≡ w = cc in
@@ -71,7 +71,7 @@ module _ (c : Construction) where
       let result : r ≡ s = cc in
       ((λ i. replacement lemma_table c (Ratio (same i) (number i) (point i)) q), result)
 
-  pub same_move : (q : Terms) (m n : Move) (r s : Terms) → line_of (moves m r) ≡ line_of (moves n s) → AreOne q m r n s
+  pub same_move : (q : Summands) (m n : Move) (r s : Summands) → line_of (moves m r) ≡ line_of (moves n s) → AreOne q m r n s
   same_move q (Ratio v lemma at) (Ratio w other there) r s e = ratio_one q v w lemma other at there r s e
   same_move q (Ratio v lemma at) (Point b) r s e = absurd (let n : RatioLine v lemma (place_of_lemma lemma at) r ≡ PointLine b s = e in cc)
   same_move q (Ratio v lemma at) Coords r s e = absurd (let n : RatioLine v lemma (place_of_lemma lemma at) r ≡ CoordsLine s = e in cc)
@@ -91,7 +91,7 @@ module _ (c : Construction) where
   not_end (moves Coords r) e = absurd (let n : CoordsLine r ≡ End = e in cc)
   not_end (cuts f r) e = absurd (let n : Cut f r ≡ End = e in cc)
 
-  pub not_cut : {A : Type 0} (m : Move) (r : Terms) (f : Powers × ℤ) (s : Terms) → line_of (moves m r) ≡ Cut f s → A
+  pub not_cut : {A : Type 0} (m : Move) (r : Summands) (f : Powers × ℤ) (s : Summands) → line_of (moves m r) ≡ Cut f s → A
   not_cut (Ratio v lemma at) r f s e = absurd (let n : RatioLine v lemma (place_of_lemma lemma at) r ≡ Cut f s = e in cc)
   not_cut (Point a) r f s e = absurd (let n : PointLine a r ≡ Cut f s = e in cc)
   not_cut Coords r f s e = absurd (let n : CoordsLine r ≡ Cut f s = e in cc)
@@ -101,26 +101,26 @@ module _ (c : Construction) where
   Fits (before_line due) line = line ≡ due
   Fits (before_start left e) line = (line ≡ Start (start_of e)) × IsStarted left e
   Fits (in_chain known left q) line =
-      ((step : ChainStep) × (left' : ℕ) × (r : Terms) × LeadsTo lemma_table c known left q (step ∷ []) left' r × (line ≡ line_of step)) ⊎ ((line ≡ End) × IsEnd q)
+      ((step : ChainStep) × (left' : ℕ) × (r : Summands) × LeadsTo lemma_table c known left q (step ∷ []) left' r × (line ≡ line_of step)) ⊎ ((line ≡ End) × IsEnd q)
   Fits (before_sample listed left) line = (values : List (Var × ℤ)) × (left' : ℕ) × IsAcceptedSample c listed left values left' × (line ≡ Sample values)
 
   abbrev RefusedAt : Place → Line → Refusal → Type 0
   RefusedAt place line refusal = IsRefusedAt lemma_table c place line refusal
 
-  move_fits : (left : ℕ) (q : Terms) (m n : Move) (r s : Terms) (refusal : Refusal) → IsMoved (replacement lemma_table c m q) left q r → AreOne q m r n s → IsMoveRefused lemma_table c left q n s refusal → ⊥
+  move_fits : (left : ℕ) (q : Summands) (m n : Move) (r s : Summands) (refusal : Refusal) → IsMoved (replacement lemma_table c m q) left q r → AreOne q m r n s → IsMoveRefused lemma_table c left q n s refusal → ⊥
   move_fits left q m n r s (rejected no_row) h one bad = h.replaces (ap (λ (x : Replacement). x.rows) one.0 ∙ bad)
   move_fits left q m n r s (stopped stop) h one bad = not_stopped (replacement lemma_table c n q) left q r stop (subst (λ x. IsMoved x left q r) one.0 h) bad.1
   move_fits left q m n r s (rejected wrong_polynomial) h one bad = bad.2 (sym one.1 ∙ (subst (λ x. IsMoved x left q r) one.0 h).result)
   move_fits left q m n r s _ h one bad = absurd bad
 
-  cut_fits : (known : List Var) (q : Terms) (f : Powers × ℤ) (r : Terms) (refusal : Refusal) → IsCut known f q r → IsCutRefused known q f r refusal → ⊥
+  cut_fits : (known : List Var) (q : Summands) (f : Powers × ℤ) (r : Summands) (refusal : Refusal) → IsCut known f q r → IsCutRefused known q f r refusal → ⊥
   cut_fits known q f r (rejected wrong_cut) h (inl bad) = bad h.by_known
   cut_fits known q f r (rejected wrong_cut) h (inr bad) = bad r h.polynomial h.exact
   cut_fits known q f r (rejected wrong_polynomial) h bad =
       bad.1.3 (one_cut known f q r bad.1.0 h (record { factor = h.factor; by_known = bad.0; polynomial = bad.1.1; exact = bad.1.2 }))
   cut_fits known q f r _ h bad = absurd bad
 
-  step_fits : (known : List Var) (left : ℕ) (q : Terms) (step : ChainStep) (left' : ℕ) (r : Terms) (refusal : Refusal) → LeadsTo lemma_table c known left q (step ∷ []) left' r
+  step_fits : (known : List Var) (left : ℕ) (q : Summands) (step : ChainStep) (left' : ℕ) (r : Summands) (refusal : Refusal) → LeadsTo lemma_table c known left q (step ∷ []) left' r
       → RefusedAt (in_chain known left q) (line_of step) refusal → ⊥
   step_fits known left q (moves (Ratio v lemma at) s) left' r refusal h (n, t, e, bad) = move_fits left q (Ratio v lemma at) n s t refusal h.0 (same_move q (Ratio v lemma at) n s t e) bad
   step_fits known left q (moves (Point a) s) left' r refusal h (n, t, e, bad) = move_fits left q (Point a) n s t refusal h.0 (same_move q (Point a) n s t e) bad
@@ -137,7 +137,7 @@ module _ (c : Construction) where
   start_fits left e (rejected wrong_start) h bad = bad.1 refl
   start_fits left e _ h bad = absurd bad
 
-  sample_fits : (listed : List Terms) (left : ℕ) (values : List (Var × ℤ)) (left' : ℕ) (refusal : Refusal) → IsAcceptedSample c listed left values left' → IsSampleRefused c listed left values refusal → ⊥
+  sample_fits : (listed : List Summands) (left : ℕ) (values : List (Var × ℤ)) (left' : ℕ) (refusal : Refusal) → IsAcceptedSample c listed left values left' → IsSampleRefused c listed left values refusal → ⊥
   sample_fits listed left values left' (rejected wrong_sample) h (inl bad) = bad h.variables
   sample_fits listed left values left' (rejected wrong_sample) h (inr bad) = bad.2 h.nonzero
   sample_fits listed left values left' (stopped stop) h bad = made_not_stopped left _ left' bad.1.0 stop h.made bad.1.1

@@ -1,5 +1,5 @@
 -- The polynomials of accepted logs can be written.
-use Rattle.std.proofs.Common.{◌≡◌, ℕ, suc, ◌<◌, ◌-◌, ◌^◌, inl, inr, Option, Some, None, List, [], ◌∷◌, ◌++◌, length, map, refl, sym, subst, arith}
+use Rattle.std.proofs.Common.{◌≡◌, ℕ, suc, ◌<◌, ◌-◌, ◌^◌, inl, inr, ℤ, Option, Some, None, List, [], ◌∷◌, ◌++◌, length, map, refl, sym, subst, arith}
 use Rattle.std.specs.List.{AllByRecursion, cons_option, filter_map}
 use Rattle.std.specs.Option.{option_map}
 use Rattle.fraction_poly.specs.Forms.{piece_of}
@@ -8,14 +8,17 @@ use Rattle.fraction_poly.proofs.SortedTerms.{forms_sorted, multiplied_sorted}
 use Rattle.geo_poly.specs.declared.variables.Var.{Var}
 use Rattle.geo_poly.specs.declared.variables.Var.TheVariants.{R, S, P, X as Abscissa, Y as Ordinate, T as Number}
 use Rattle.geo_poly.specs.KeptVariables.{AllNumerators}
+use Rattle.geo_poly.specs.Cuts.{IsCut}
+use Rattle.geo_poly.specs.Monomials.{Powers}
 use Rattle.geo_poly.specs.PolynomialVariables.{AllVariables, variables_of}
-use Rattle.geo_poly.specs.Polynomials.{IsPolynomial, Terms}
+use Rattle.geo_poly.specs.Polynomials.{IsPolynomial, Summands}
 use Rattle.geo_poly.specs.Replace.{row_of}
 use Rattle.geo_poly.specs.SortedVariables.{IsSorted}
 use Rattle.geo_poly.proofs.EachVariable.{all_variables, each-contained, each-variables, of-cut}
 use Rattle.geo_poly.proofs.KeptVariables.{kept_property}
 use Rattle.geo_terms.specs.Constructions.{Construction, IsConstruction}
 use Rattle.geo_terms.specs.TermBounds.{IsTermBelow}
+use Rattle.geo_terms.specs.Trees.{Tree}
 use Rattle.geo_lowering.proofs.ConditionValues.{each_append}
 use Rattle.proof_log.specs.declared.log.Line.{Line}
 use Rattle.proof_log.specs.declared.log.Line.TheVariants.{Program as ProgramLine, Condition, Goal, End}
@@ -28,7 +31,7 @@ use Rattle.elim_apply.specs.LemmaTable.{lemma_table, move_denominator, row_of_mo
 use Rattle.geo_logs.specs.Moves.{IsMoved, move_charge, replacement}
 use Rattle.geo_logs.specs.Naming.{IsNamed}
 use Rattle.geo_logs.specs.Sound.{IsSoundTable}
-use Rattle.geo_logs.specs.Starts.{start_charge, start_of}
+use Rattle.geo_logs.specs.Starts.{IsStarted, start_charge, start_of}
 use Rattle.elim_apply.proofs.MoveRows.{lemma_table_sound}
 use Rattle.geo_logs.proofs.MoveValues.{move_named}
 use Rattle.geo_logs.proofs.TermVariables.{term_sound}
@@ -48,13 +51,13 @@ module _ (c : Construction) (construction : IsConstruction c) where
   sound : IsSoundTable lemma_table c
   sound = lemma_table_sound c construction
 
-  abbrev IsNamedHere : Var → Type 0
+  abbrev pub IsNamedHere : Var → Type 0
   IsNamedHere v = IsNamed c (length c.steps) v
 
-  small : (k : ℕ) → k < length c.steps → k < 2 ^ 32
+  pub small : (k : ℕ) → k < length c.steps → k < 2 ^ 32
   small k lt = let few = construction.few in omega (arith, lt, few)
 
-  variable : (v : Var) → IsSorted v → IsNamedHere v → IsVariable v
+  pub variable : (v : Var) → IsSorted v → IsNamedHere v → IsVariable v
   variable (R a b d e) s n = record { sorted = s; small = (small a.0 n.0, (small b.0 n.1, (small d.0 n.2, (small e.0 n.3, tt)))) }
   variable (S a b d) s n = record { sorted = s; small = (small a.0 n.0, (small b.0 n.1, (small d.0 n.2, tt))) }
   variable (P a b d) s n = record { sorted = s; small = (small a.0 n.0, (small b.0 n.1, (small d.0 n.2, tt))) }
@@ -63,12 +66,12 @@ module _ (c : Construction) (construction : IsConstruction c) where
   variable (Number t) s n = record { sorted = s; small = (let fit = construction.params_fit in omega (arith, n, fit), tt) }
 
   -- a polynomial in sorted variables over the points and parameters
-  pub record IsOwn (q : Terms) : Type 0 where
+  pub record IsOwn (q : Summands) : Type 0 where
     pub polynomial : IsPolynomial q
     pub sorted : AllVariables IsSorted q
     pub named : AllVariables IsNamedHere q
 
-  written : (q : Terms) → IsOwn q → CanWritePolynomial q
+  pub written : (q : Summands) → IsOwn q → CanWritePolynomial q
   written q h = record {
     polynomial = h.polynomial;
     variables = all_variables IsVariable q (λ v st.
@@ -85,7 +88,7 @@ module _ (c : Construction) (construction : IsConstruction c) where
       go None rest = rest
       go (Some r) rest = (forms_sorted r.num, rest)
 
-  moved_own : (move : Move) (left : ℕ) (q r : Terms) → IsOwn q → IsMoved (replacement lemma_table c move q) left q r → IsOwn r
+  pub moved_own : (move : Move) (left : ℕ) (q r : Summands) → IsOwn q → IsMoved (replacement lemma_table c move q) left q r → IsOwn r
   moved_own move left q r h m = record {
     polynomial = chain_polynomial lemma_table c sound [] left q (moves move r ∷ []) (left - move_charge (replacement lemma_table c move q) q) r h.polynomial (m, (refl, refl));
     sorted =
@@ -96,26 +99,36 @@ module _ (c : Construction) (construction : IsConstruction c) where
     named = (move_named lemma_table c sound (length c.steps) move left q r h.named m).names;
   }
 
-  line_written : (move : Move) (r : Terms) → CanWritePolynomial r → HasWritablePolynomial (line_of (moves move r))
+  pub cut_own : (known : List Var) (f : Powers × ℤ) (q r : Summands) → IsOwn q → IsCut known f q r → IsOwn r
+  cut_own known f q r h k = record { polynomial = k.polynomial; sorted = (kept_property IsSorted).cut known f q r k h.sorted; named = of-cut IsNamedHere known f q r k h.named }
+
+  -- a path keeps to such polynomials
+  pub path_own : (known : List Var) (left : ℕ) (q : Summands) (steps : List ChainStep) (left' : ℕ) (e : Summands) → IsOwn q → LeadsTo lemma_table c known left q steps left' e → IsOwn e
+  path_own known left q [] left' e h l = subst IsOwn l.1 h
+  path_own known left q (moves move r ∷ steps) left' e h l =
+      path_own known (left - move_charge (replacement lemma_table c move q) q) r steps left' e (moved_own move left q r h l.0) l.1
+  path_own known left q (cuts f r ∷ steps) left' e h l = path_own known left r steps left' e (cut_own known f q r h l.0) l.1
+
+  line_written : (move : Move) (r : Summands) → CanWritePolynomial r → HasWritablePolynomial (line_of (moves move r))
   line_written (Ratio v lemma at) r h = h
   line_written (Point at) r h = h
   line_written Coords r h = h
 
-  steps_written : (known : List Var) (left : ℕ) (q : Terms) (steps : List ChainStep) (left' : ℕ) (e : Terms) → IsOwn q → LeadsTo lemma_table c known left q steps left' e
+  steps_written : (known : List Var) (left : ℕ) (q : Summands) (steps : List ChainStep) (left' : ℕ) (e : Summands) → IsOwn q → LeadsTo lemma_table c known left q steps left' e
       → AreWritten (map line_of steps)
   steps_written known left q [] left' e h l = tt
   steps_written known left q (moves move r ∷ steps) left' e h l =
       let own = moved_own move left q r h l.0 in
       (line_written move r (written r own), steps_written known (left - move_charge (replacement lemma_table c move q) q) r steps left' e own l.1)
   steps_written known left q (cuts f r ∷ steps) left' e h l =
-      let own : IsOwn r = record {
-        polynomial = l.0.polynomial;
-        sorted = (kept_property IsSorted).cut known f q r l.0 h.sorted;
-        named = of-cut IsNamedHere known f q r l.0 h.named;
-      } in
+      let own = cut_own known f q r h l.0 in
       (written r own, steps_written known left r steps left' e own l.1)
 
   -- CHAINS
+  pub start_own : (left : ℕ) (e : Tree) → IsTermBelow (length c.steps) c.params e → IsStarted left e → IsOwn (start_of e)
+  start_own left e below started =
+      record { polynomial = start_polynomial e started.room; sorted = (multiplied_sorted e).0; named = (term_sound c e).named (length c.steps) below }
+
   abbrev IsBelow : Item → Type 0
   IsBelow item = IsTermBelow (length c.steps) c.params item.term
 
@@ -123,20 +136,16 @@ module _ (c : Construction) (construction : IsConstruction c) where
       → (first : BeginsWithChain (IsAcceptedChain lemma_table c) (IsAcceptedSample c) header known left item lines) → AreWritten first.rest → AreWritten lines
   chain_written header h known left item lines below first rest =
       let e = item.term in
-      let own : IsOwn (start_of e) = record {
-        polynomial = start_polynomial e first.works.started.room;
-        sorted = (multiplied_sorted e).0;
-        named = (term_sound c e).named (length c.steps) below;
-      } in
+      let own = start_own left e below first.works.started in
       let steps = steps_written known (left - start_charge e) (start_of e) first.chain.steps first.after first.chain.end own first.works.leads in
       let inner = each_append HasWritablePolynomial (map line_of first.chain.steps) (End ∷ []) steps (tt, tt) in
       subst AreWritten (sym first.split) (each_append HasWritablePolynomial (chain_lines header e first.chain) first.rest (h, (written (start_of e) own, inner)) rest)
 
-  concluded_written : (listed : List Terms) (left : ℕ) (lines : List Line) (verdict : Verdict) (left' : ℕ)
+  concluded_written : (listed : List Summands) (left : ℕ) (lines : List Line) (verdict : Verdict) (left' : ℕ)
       → IsConcluded (IsAcceptedChain lemma_table c) (IsAcceptedSample c) listed left lines verdict left' → AreWritten lines
   concluded_written listed left lines verdict left' h = subst AreWritten (sym h.split) (tt, (tt, tt))
 
-  goals_written : (known : List Var) (listed : List Terms) (k left : ℕ) (items : List Item) (lines : List Line) (verdict : Verdict) (left' : ℕ) → AllByRecursion IsBelow items
+  goals_written : (known : List Var) (listed : List Summands) (k left : ℕ) (items : List Item) (lines : List Line) (verdict : Verdict) (left' : ℕ) → AllByRecursion IsBelow items
       → AreGoalsWorked (IsAcceptedChain lemma_table c) (IsAcceptedSample c) known listed k left items lines verdict left' → AreWritten lines
   goals_written known listed k left [] lines verdict left' b h = concluded_written listed left lines Proved left' h.1
   goals_written known listed k left (item ∷ items) lines verdict left' b (first, inl h) =
@@ -144,7 +153,7 @@ module _ (c : Construction) (construction : IsConstruction c) where
   goals_written known listed k left (item ∷ items) lines verdict left' b (first, inr h) =
       chain_written (Goal k item.text) tt known left item lines b.0 first (concluded_written (listed ++ first.chain.end ∷ []) first.after first.rest (False k) left' h.2)
 
-  conditions_written : (goals : List Item) (known : List Var) (listed : List Terms) (k left : ℕ) (items : List Item) (lines : List Line) (verdict : Verdict) (left' : ℕ)
+  conditions_written : (goals : List Item) (known : List Var) (listed : List Summands) (k left : ℕ) (items : List Item) (lines : List Line) (verdict : Verdict) (left' : ℕ)
       → AllByRecursion IsBelow goals → AllByRecursion IsBelow items
       → AreConditionsWorked (IsAcceptedChain lemma_table c) (IsAcceptedSample c) goals known listed k left items lines verdict left' → AreWritten lines
   conditions_written goals known listed k left [] lines verdict left' g b h = goals_written known listed 1 left goals lines verdict left' g h

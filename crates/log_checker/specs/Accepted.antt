@@ -4,7 +4,7 @@ use Rattle.std.specs.List.{AllByRecursion}
 use Rattle.geo_program.specs.CanonicalText.{canonical_text}
 use Rattle.geo_program.specs.Spelling.{SameSource}
 use Rattle.geo_program.specs.WellFormed.{IsWellFormed, Source}
-use Rattle.geo_conditions.specs.Truth.{Breaks, IsImpossible, IsTrueProgram, Values}
+use Rattle.geo_conditions.specs.Truth.{Breaks, IsImpossible, IsTrueProgram, ProgramValues}
 use Rattle.proof_log.specs.declared.log.Line.{Line}
 use Rattle.proof_log.specs.declared.log.Line.TheVariants.{Start, Ratio, Point, Coords, Cut}
 use Rattle.proof_log.specs.declared.log.Verdict.{Verdict}
@@ -27,7 +27,7 @@ pub record Accepts (bytes : List ℕ) (steps : ℕ) (p : Source) (verdict : Verd
   pub accepted : IsAcceptedLog p steps lines verdict
 
 -- the bytes are the text of lines that end with the verdict, and before it with a sample whose integers are these values
-pub record PrintsValues (bytes : List ℕ) (verdict : Verdict) (v : Values) : Type 0 where
+pub record PrintsValues (bytes : List ℕ) (verdict : Verdict) (v : ProgramValues) : Type 0 where
   pub lines : List Line
   pub writable : AllWritable lines
   pub written : bytes ≡ log_text lines
@@ -36,8 +36,8 @@ pub record PrintsValues (bytes : List ℕ) (verdict : Verdict) (v : Values) : Ty
 -- what accepted bytes with this verdict say of their program. Proved: it is true, and the placement with the printed integers meets it.
 -- False: the printed integers break it. Impossible: no placement meets it
 abbrev pub BytesMean : List ℕ → Source → Verdict → Type 0
-BytesMean bytes p Proved = IsTrueProgram p × ((v : Values) × PrintsValues bytes Proved v × IsRealised p v)
-BytesMean bytes p (False g) = (v : Values) × PrintsValues bytes (False g) v × IsRealised p v × Breaks p v
+BytesMean bytes p Proved = IsTrueProgram p × ((v : ProgramValues) × PrintsValues bytes Proved v × IsRealised p v)
+BytesMean bytes p (False g) = (v : ProgramValues) × PrintsValues bytes (False g) v × IsRealised p v × Breaks p v
 BytesMean bytes p (Impossible k) = IsImpossible p
 
 -- accepted bytes mean what they say, whoever wrote them

@@ -1,5 +1,6 @@
 -- Logs as they are read: the lines of bytes, and the first line at which a log is refused.
-use Rattle.std.specs.Prelude.{◌≡◌, ◌≢◌, ℕ, suc, ◌⊎◌, Option, Some, None, List, [], ◌∷◌, ◌++◌, length, map}
+use Rattle.std.specs.Prelude.{◌≡◌, ◌≢◌, ◌↔◌, ℕ, suc, ◌≤◌, ◌⊎◌, Option, Some, None, List, [], ◌∷◌, ◌++◌, length, map}
+use Rattle.std.specs.List.{AllByRecursion}
 use Rattle.geo_program.specs.WellFormed.{IsWellFormed, Source}
 use Rattle.proof_log.specs.declared.log.Line.{Line}
 use Rattle.proof_log.specs.declared.log.Line.TheVariants.{Header, Program as ProgramLine}
@@ -7,8 +8,9 @@ use Rattle.proof_log.specs.declared.log.Verdict.{Verdict}
 use Rattle.proof_log.specs.Lines.{line_text}
 use Rattle.proof_log.specs.Writable.{HasNoLineFeed, IsWritable}
 use Rattle.elim_apply.specs.LemmaTable.{lemma_table}
-use Rattle.geo_logs.specs.Judging.{IsFirstRefusal, Refusal, bad_line, rejected, unfinished, wrong_line, wrong_program}
+use Rattle.geo_logs.specs.Judging.{IsFirstRefusal, IsGoodSoFar, IsGoodToEnd, IsRefused, Refusal, bad_line, rejected, unfinished, wrong_line, wrong_program}
 use Rattle.geo_logs.specs.Logs.{Subject}
+use Rattle.geo_logs.specs.Places.{Place}
 use Rattle.log_checker.specs.Accepted.{Accepts}
 use Rattle.log_checker.specs.Laws.{IsAcceptedLog}
 use Rattle.log_checker.specs.Subjects.{IsSubjectOf, source_lines}
@@ -91,6 +93,61 @@ pub record Refuses (bytes : List ℕ) (steps number : ℕ) (refusal : Refusal) :
   pub are_read : AreRead bytes reads
   pub stops : IsFirstStop steps reads number refusal
 
+-- GOING ON
+-- good lines with this line behind them are good so far, or a whole log
+abbrev pub GoesOnWith : Subject → ℕ → List Line → Line → Type 0
+GoesOnWith subject steps good line =
+    ((place : Place) × IsGoodSoFar lemma_table subject steps (good ++ line ∷ []) place)
+    ⊎ IsGoodToEnd lemma_table subject steps (good ++ line ∷ [])
+
+-- at the place of good lines a line goes on from them, or it is refused there
+abbrev pub LinesGoOnOrAreRefused : Type 0
+LinesGoOnOrAreRefused =
+    (p : Source) (subject : Subject) (steps : ℕ) (good : List Line) (place : Place) (line : Line) → IsWellFormed p → IsSubjectOf p subject
+    → IsGoodSoFar lemma_table subject steps good place → IsWritable line
+    → GoesOnWith subject steps good line ⊎ ((refusal : Refusal) × IsRefused lemma_table subject.construction place (Some line) refusal)
+
+-- what is read: a line that may be written, or no line of a log
+abbrev pub IsReadable : Option Line → Type 0
+IsReadable None = Unit {0}
+IsReadable (Some line) = IsWritable line
+
+-- what is read behind the lines of the program is that of an accepted log, whole, or it has a first line that is refused
+abbrev pub IsJudged : Subject → ℕ → List (Option Line) → Type 0
+IsJudged subject steps reads =
+    ((lines : List Line) × (reads ≡ map Some lines) × IsGoodToEnd lemma_table subject steps lines)
+    ⊎ ((number : ℕ) × (refusal : Refusal) × IsFirstRefusal lemma_table subject steps reads number refusal)
+
+-- so it is of whatever is read
+abbrev pub RestsAreJudged : Type 0
+RestsAreJudged =
+    (p : Source) (subject : Subject) (steps : ℕ) (reads : List (Option Line)) → IsWellFormed p → IsSubjectOf p subject
+    → AllByRecursion IsReadable reads → IsJudged subject steps reads
+
+-- the texts are the lines of a well-formed program, or of none
+abbrev pub IsOfProgramOrNone : List (List ℕ) → Type 0
+IsOfProgramOrNone texts =
+    ((p : Source) × IsWellFormed p × (source_lines p ≡ texts)) ⊎ ((p : Source) → IsWellFormed p → source_lines p ≢ texts)
+
+-- that is known of the lines of the program that are read of the bytes
+abbrev pub IsProgramKnown : List ℕ → Type 0
+IsProgramKnown bytes =
+    (reads : List (Option Line)) → AreRead bytes reads → (first : BeginsWithProgram reads) → IsOfProgramOrNone first.texts
+
+-- then the bytes are an accepted log, or they are refused
+abbrev pub BytesAreJudged : Type 0
+BytesAreJudged =
+    (bytes : List ℕ) (steps : ℕ) → length bytes ≤ 268435456 → IsProgramKnown bytes
+    → ((p : Source) × (verdict : Verdict) × Accepts bytes steps p verdict)
+    ⊎ ((number : ℕ) × (refusal : Refusal) × Refuses bytes steps number refusal)
+
+-- so they are accepted exactly where they are refused at no line
+abbrev pub AcceptedWhereNotRefused : Type 0
+AcceptedWhereNotRefused =
+    (bytes : List ℕ) (steps : ℕ) → length bytes ≤ 268435456 → IsProgramKnown bytes
+    → ((p : Source) × (verdict : Verdict) × Accepts bytes steps p verdict)
+    ↔ ((number : ℕ) (refusal : Refusal) → Refuses bytes steps number refusal → ⊥)
+
 -- LAWS
 -- what is read of an accepted log has no first stop
 abbrev pub AcceptedLogsDoNotStop : Type 0
@@ -98,7 +155,11 @@ AcceptedLogsDoNotStop =
     (p : Source) (steps number : ℕ) (lines : List Line) (verdict : Verdict) (refusal : Refusal)
     → IsAcceptedLog p steps lines verdict → IsFirstStop steps (map Some lines) number refusal → ⊥
 
--- bytes are read in one way
+-- bytes are read
+abbrev pub BytesAreRead : Type 0
+BytesAreRead = (bytes : List ℕ) → (reads : List (Option Line)) × AreRead bytes reads
+
+-- and in one way
 abbrev pub BytesAreReadInOneWay : Type 0
 BytesAreReadInOneWay = (bytes : List ℕ) (reads other : List (Option Line)) → AreRead bytes reads → AreRead bytes other → reads ≡ other
 

@@ -4,7 +4,7 @@ use Rattle.geo_points.specs.Placements.{Placement, SamePlacement}
 use Rattle.geo_poly.specs.declared.variables.Var.{Var}
 use Rattle.geo_program.specs.WellFormed.{IsWellFormed, Source}
 use Rattle.geo_lowering.specs.Counting.{numbers_had, points_named}
-use Rattle.geo_conditions.specs.Truth.{Breaks, HasValues, Holds, IsImpossible, IsTrueProgram, Meets, Values}
+use Rattle.geo_conditions.specs.Truth.{Breaks, HasValues, Holds, IsImpossible, IsTrueProgram, Meets, ProgramValues}
 use Rattle.proof_log.specs.declared.log.Line.{Line}
 use Rattle.proof_log.specs.declared.log.Line.TheVariants.{Sample, Verdict as VerdictLine}
 use Rattle.proof_log.specs.declared.log.Verdict.{Verdict}
@@ -36,7 +36,7 @@ AcceptedVerdictsHold =
 
 -- THE EXISTENCE HALF
 -- some placement with these values meets the program, and every two such placements are the same
-pub record IsRealised (p : Source) (v : Values) : Type 0 where
+pub record IsRealised (p : Source) (v : ProgramValues) : Type 0 where
   pub placed : Placement
   pub has : HasValues p placed v
   pub meets : Meets p placed
@@ -44,7 +44,7 @@ pub record IsRealised (p : Source) (v : Values) : Type 0 where
       → SamePlacement (points_named p.commands) (numbers_had p.commands) one other
 
 -- the lines end with the verdict, and before it with a sample whose integers are these values
-pub record EndsWithValues (lines : List Line) (verdict : Verdict) (v : Values) : Type 0 where
+pub record EndsWithValues (lines : List Line) (verdict : Verdict) (v : ProgramValues) : Type 0 where
   pub before : List Line
   pub sample : List (Var × ℤ)
   pub split : lines ≡ before ++ Sample sample ∷ VerdictLine verdict ∷ []
@@ -53,7 +53,7 @@ pub record EndsWithValues (lines : List Line) (verdict : Verdict) (v : Values) :
 abbrev pub AcceptedSamplesAreMet : Type 0
 AcceptedSamplesAreMet =
     (p : Source) (steps : ℕ) (lines : List Line) (verdict : Verdict) → IsAcceptedLog p steps lines verdict → HasSample verdict
-    → (v : Values) × EndsWithValues lines verdict v × IsRealised p v
+    → (v : ProgramValues) × EndsWithValues lines verdict v × IsRealised p v
 
 -- THE THREE VERDICTS
 -- a log that is accepted with Proved names a true program
@@ -63,7 +63,8 @@ ProvedIsTrue = (p : Source) (steps : ℕ) (lines : List Line) → IsAcceptedLog 
 -- one that is accepted with False names a program that the integers of its sample break
 abbrev pub FalseBreaks : Type 0
 FalseBreaks =
-    (p : Source) (steps g : ℕ) (lines : List Line) → IsAcceptedLog p steps lines (False g) → (v : Values) × EndsWithValues lines (False g) v
+    (p : Source) (steps g : ℕ) (lines : List Line) → IsAcceptedLog p steps lines (False g)
+    → (v : ProgramValues) × EndsWithValues lines (False g) v
     × Breaks p v
 
 -- one that is accepted with Impossible names a program that no placement meets

@@ -2,6 +2,7 @@ pub mod Shown
 pub mod Subjects
 pub mod Laws
 pub mod Accepted
+pub mod Begun
 pub mod Judged
 pub mod Checkers
 pub mod Checked

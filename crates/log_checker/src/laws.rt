@@ -5,7 +5,11 @@ ghost use Rattle.log_checker.specs.Accepted.{AcceptedBytesMean, AcceptedBytesTel
 ghost use Rattle.log_checker.specs.Accepted.{AcceptedPolynomialsAreWritable};
 ghost use Rattle.log_checker.specs.Accepted.{ProgramsHaveDefinedLogs, ProgramsHaveSubjects};
 ghost use Rattle.log_checker.specs.Accepted.{SubjectsAgree};
+ghost use Rattle.log_checker.specs.Begun.{BeginningsGoOn, DefinedBytesAreAccepted};
+ghost use Rattle.log_checker.specs.Begun.{DefinedLogsAreWritable, NextLinesAreWritable};
 ghost use Rattle.log_checker.specs.Judged.{AcceptedBytesAreNotRefused, AcceptedLogsDoNotStop};
+ghost use Rattle.log_checker.specs.Judged.{AcceptedWhereNotRefused, BytesAreJudged, BytesAreRead};
+ghost use Rattle.log_checker.specs.Judged.{LinesGoOnOrAreRefused, RestsAreJudged};
 ghost use Rattle.log_checker.specs.Judged.{BytesAreReadInOneWay, BytesAreRefusedOnce};
 ghost use Rattle.log_checker.specs.Judged.{FirstStopIsUnique};
 ghost use Rattle.log_checker.specs.Laws.{AcceptedSamplesAreMet, AcceptedVerdictsHold};
@@ -13,6 +17,7 @@ ghost use Rattle.log_checker.specs.Laws.{DefinedLogExists, DefinedLogsAreAccepte
 ghost use Rattle.log_checker.specs.Laws.{DefinedVerdictsDecide, FalseBreaks, ImpossibleIsNeverMet};
 ghost use Rattle.log_checker.specs.Laws.{MeaningsExclude, ProvedIsTrue};
 ghost use Rattle.log_checker.specs.Shown.{AcceptedLogsAreTrue};
+ghost use Rattle.log_checker.specs.Subjects.{SourceLinesHaveNoLineFeed};
 
 /// What an accepted log says of all placements that meet its program.
 pub fn accepted_verdicts_hold()
@@ -120,4 +125,57 @@ pub fn accepted_polynomials_are_writable()
 /// An accepted log over the lemma table shows its verdict, of every construction.
 pub fn accepted_logs_are_true()
     ensures { AcceptedLogsAreTrue }
+{}
+
+/// Lines that begin the prover's log, within the limit of its text, are a beginning of a defined
+/// log; with the line that comes next they are one too.
+pub fn beginnings_go_on()
+    ensures { BeginningsGoOn }
+{}
+
+/// Each line that comes next in the prover's log may be written.
+pub fn next_lines_are_writable()
+    ensures { NextLinesAreWritable }
+{}
+
+/// Each line of a defined log may be written.
+pub fn defined_logs_are_writable()
+    ensures { DefinedLogsAreWritable }
+{}
+
+/// The text of a defined log that ends with a verdict is accepted with this verdict.
+pub fn defined_bytes_are_accepted()
+    ensures { DefinedBytesAreAccepted }
+{}
+
+/// At the place of good lines a line goes on from them, or it is refused there.
+pub fn lines_go_on_or_are_refused()
+    ensures { LinesGoOnOrAreRefused }
+{}
+
+/// What is read behind the lines of a program is that of an accepted log, or it has a first line
+/// that is refused.
+pub fn rests_are_judged()
+    ensures { RestsAreJudged }
+{}
+
+/// Bytes are read, line by line.
+pub fn bytes_are_read()
+    ensures { BytesAreRead }
+{}
+
+/// Bytes of which it is known whether they begin with a program are an accepted log, or they are
+/// refused.
+pub fn bytes_are_judged()
+    ensures { BytesAreJudged }
+{}
+
+/// Such bytes are accepted exactly where they are refused at no line.
+pub fn accepted_where_not_refused()
+    ensures { AcceptedWhereNotRefused }
+{}
+
+/// The lines of a well-formed program have no line feed.
+pub fn source_lines_have_no_line_feed()
+    ensures { SourceLinesHaveNoLineFeed }
 {}

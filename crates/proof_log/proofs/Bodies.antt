@@ -12,7 +12,7 @@ use Rattle.geo_poly.specs.declared.limits.Which.{Which}
 use Rattle.geo_poly.specs.declared.limits.Which.TheVariants.{Norm, Degree}
 use Rattle.geo_poly.specs.declared.variables.Var.{Var}
 use Rattle.geo_poly.specs.Monomials.{Powers}
-use Rattle.geo_poly.specs.Polynomials.{Terms}
+use Rattle.geo_poly.specs.Polynomials.{Summands}
 use Rattle.proof_log.specs.declared.log.Line.{Line}
 use Rattle.proof_log.specs.declared.log.Line.TheVariants.{Header, Program, Condition, Goal, Start, Ratio, Point, Coords, Cut, End, Sample, Verdict as VerdictLine, StopTooLarge, StopSpent}
 use Rattle.proof_log.specs.declared.log.Verdict.{Verdict}
@@ -119,10 +119,10 @@ module _ (s0 s1 : List ℕ) (colon : s0 ≡ codes " : " ++ s1) where
   result_unread none q r b =
       none q r (record { spelt = colon_off s1 (polynomial_text q ++ r) (sym colon ∙ b.spelt); fits = b.fits; stops = b.stops })
 
-  pub result_read : (q : Terms) → Begins polynomials s1 q [] → Begins results s0 q []
+  pub result_read : (q : Summands) → Begins polynomials s1 q [] → Begins results s0 q []
   result_read q b = record { spelt = colon ∙ ap (λ l. codes " : " ++ l) b.spelt; fits = b.fits; stops = b.stops }
 
-pub results_unique : (bytes : List ℕ) (p q : Terms) → Begins results bytes p [] → Begins results bytes q [] → p ≡ q
+pub results_unique : (bytes : List ℕ) (p q : Summands) → Begins results bytes p [] → Begins results bytes q [] → p ≡ q
 results_unique bytes p q a b =
     let at : Begins polynomials (polynomial_text p ++ []) p [] = record { spelt = refl; fits = a.fits; stops = tt } in
     let tail : polynomial_text p ++ [] ≡ polynomial_text q ++ [] = colon_off (polynomial_text p ++ []) (polynomial_text q ++ []) (sym a.spelt ∙ b.spelt) in
@@ -266,7 +266,7 @@ stop_other bytes rest n h none s r k = none s.1 (wide_unique bytes n s.0 rest (3
 pub record IsRatioLine (bytes : List ℕ) (l : Line) : Type 0 where
   pub var : Var
   pub lemma : ℕ × Option PointId
-  pub poly : Terms
+  pub poly : Summands
   pub is : l ≡ Ratio var lemma.0 lemma.1 poly
   pub ratio : IsRatio var
   pub rest : List ℕ
@@ -278,7 +278,7 @@ pub record IsRatioLine (bytes : List ℕ) (l : Line) : Type 0 where
 -- a line of a point: the point and the polynomial
 pub record IsPointLine (bytes : List ℕ) (l : Line) : Type 0 where
   pub at : PointId
-  pub poly : Terms
+  pub poly : Summands
   pub is : l ≡ Point at poly
   pub rest : List ℕ
   pub number : Begins (naturals 32) bytes at.0 rest
@@ -287,13 +287,13 @@ pub record IsPointLine (bytes : List ℕ) (l : Line) : Type 0 where
 -- a line of a cut: the factor and the polynomial
 pub record IsCutLine (bytes : List ℕ) (l : Line) : Type 0 where
   pub by : Powers × ℤ
-  pub poly : Terms
+  pub poly : Summands
   pub is : l ≡ Cut by poly
   pub rest : List ℕ
   pub factor : Begins factors bytes by rest
   pub result : Begins results rest poly []
 
-ratio_line : (bytes : List ℕ) (v : Var) (lemma : ℕ) (at : Option PointId) (q : Terms) → IsBody RatioLead bytes (Ratio v lemma at q) → IsRatioLine bytes (Ratio v lemma at q)
+ratio_line : (bytes : List ℕ) (v : Var) (lemma : ℕ) (at : Option PointId) (q : Summands) → IsBody RatioLead bytes (Ratio v lemma at q) → IsRatioLine bytes (Ratio v lemma at q)
 ratio_line bytes v lemma at q h =
     let behind = codes " : " ++ polynomial_text q in record {
       var = v;
@@ -340,7 +340,7 @@ goal_body bytes (Goal k text) h = ((k, text), refl, whole heads bytes (k, text) 
 goal_body bytes (VerdictLine v) h = absurd (no_verdict v GoalLead refl h.lead_is)
 goal_body bytes _ h = let e = h.lead_is in absurd (cc)
 
-pub start_body : (bytes : List ℕ) (l : Line) → IsBody StartLead bytes l → (q : Terms) × (l ≡ Start q) × Begins polynomials bytes q []
+pub start_body : (bytes : List ℕ) (l : Line) → IsBody StartLead bytes l → (q : Summands) × (l ≡ Start q) × Begins polynomials bytes q []
 start_body bytes (Start q) h = (q, refl, whole polynomials bytes q h.spelt h.writable)
 start_body bytes (VerdictLine v) h = absurd (no_verdict v StartLead refl h.lead_is)
 start_body bytes _ h = let e = h.lead_is in absurd (cc)
@@ -362,7 +362,7 @@ point_body bytes (Point at q) h = record {
 point_body bytes (VerdictLine v) h = absurd (no_verdict v PointLead refl h.lead_is)
 point_body bytes _ h = let e = h.lead_is in absurd (cc)
 
-pub coords_body : (bytes : List ℕ) (l : Line) → IsBody CoordsLead bytes l → (q : Terms) × (l ≡ Coords q) × Begins polynomials bytes q []
+pub coords_body : (bytes : List ℕ) (l : Line) → IsBody CoordsLead bytes l → (q : Summands) × (l ≡ Coords q) × Begins polynomials bytes q []
 coords_body bytes (Coords q) h = (q, refl, whole polynomials bytes q h.spelt h.writable)
 coords_body bytes (VerdictLine v) h = absurd (no_verdict v CoordsLead refl h.lead_is)
 coords_body bytes _ h = let e = h.lead_is in absurd (cc)

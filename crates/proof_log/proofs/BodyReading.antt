@@ -7,7 +7,7 @@ use Rattle.geo_points.specs.declared.ids.PointId.{PointId}
 use Rattle.geo_poly.specs.declared.limits.Which.{Which}
 use Rattle.geo_poly.specs.declared.variables.Var.{Var}
 use Rattle.geo_poly.specs.Monomials.{Powers}
-use Rattle.geo_poly.specs.Polynomials.{Terms}
+use Rattle.geo_poly.specs.Polynomials.{Summands}
 use Rattle.proof_log.specs.declared.log.Line.{Line}
 use Rattle.proof_log.specs.declared.log.Line.TheVariants.{Header, Program, Condition, Goal, Start, Ratio, Point, Coords, Cut, End, Sample, Verdict as VerdictLine, StopTooLarge, StopSpent}
 use Rattle.proof_log.specs.declared.log.Verdict.TheVariants.{Proved, False, Impossible}
@@ -60,13 +60,13 @@ goal_read bytes x h = record { writable = h.fits; lead_is = refl; spelt = unwhol
 pub goal_refused : (bytes : List ℕ) → NoneBegins heads bytes → (l : Line) → IsBody GoalLead bytes l → ⊥
 goal_refused bytes none l h = let a = goal_body bytes l h in none a.0 [] a.2
 
-pub start_read : (bytes : List ℕ) (x : Terms) → Begins polynomials bytes x [] → IsBody StartLead bytes (Start x)
+pub start_read : (bytes : List ℕ) (x : Summands) → Begins polynomials bytes x [] → IsBody StartLead bytes (Start x)
 start_read bytes x h = record { writable = h.fits; lead_is = refl; spelt = unwhole polynomials bytes x h }
 
 pub start_refused : (bytes : List ℕ) → NoneBegins polynomials bytes → (l : Line) → IsBody StartLead bytes l → ⊥
 start_refused bytes none l h = let a = start_body bytes l h in none a.0 [] a.2
 
-pub coords_read : (bytes : List ℕ) (x : Terms) → Begins polynomials bytes x [] → IsBody CoordsLead bytes (Coords x)
+pub coords_read : (bytes : List ℕ) (x : Summands) → Begins polynomials bytes x [] → IsBody CoordsLead bytes (Coords x)
 coords_read bytes x h = record { writable = h.fits; lead_is = refl; spelt = unwhole polynomials bytes x h }
 
 pub coords_refused : (bytes : List ℕ) → NoneBegins polynomials bytes → (l : Line) → IsBody CoordsLead bytes l → ⊥
@@ -139,7 +139,7 @@ module _ (s0 s1 : List ℕ) (v : Var) (read : Begins variables s0 v s1) where
           let Q : List ℕ → Type 0 = λ r. Begins results r a.poly [] in
           none a.poly [] (subst Q (sym same) a.result)
 
-      pub ratio_read : (q : Terms) → IsRatio v → Begins results s3 q [] → IsBody RatioLead s0 (Ratio v lemma.0 lemma.1 q)
+      pub ratio_read : (q : Summands) → IsRatio v → Begins results s3 q [] → IsBody RatioLead s0 (Ratio v lemma.0 lemma.1 q)
       ratio_read q ratio result = record {
         writable = (ratio, read.fits, found.fits, result.fits);
         lead_is = refl;
@@ -159,7 +159,7 @@ module _ (s0 s1 : List ℕ) (n : ℕ) (read : Begins (naturals 32) s0 n s1) wher
       let Q : List ℕ → Type 0 = λ r. Begins results r a.poly [] in
       none a.poly [] (subst Q (sym (small_unique s0 n a.at.0 s1 a.rest read a.number).1) a.result)
 
-  pub point_read : (q : Terms) → Begins results s1 q [] → IsBody PointLead s0 (Point (record { 0 = n }) q)
+  pub point_read : (q : Summands) → Begins results s1 q [] → IsBody PointLead s0 (Point (record { 0 = n }) q)
   point_read q result = record {
     writable = (read.fits, result.fits);
     lead_is = refl;
@@ -178,7 +178,7 @@ module _ (s0 s1 : List ℕ) (f : Powers × ℤ) (read : Begins factors s0 f s1) 
       let Q : List ℕ → Type 0 = λ r. Begins results r a.poly [] in
       none a.poly [] (subst Q (sym (factors_unique s0 f a.by s1 a.rest read a.factor).1) a.result)
 
-  pub cut_read : (q : Terms) → Begins results s1 q [] → IsBody CutLead s0 (Cut f q)
+  pub cut_read : (q : Summands) → Begins results s1 q [] → IsBody CutLead s0 (Cut f q)
   cut_read q result = record {
     writable = (read.fits, result.fits);
     lead_is = refl;

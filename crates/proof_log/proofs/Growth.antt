@@ -14,7 +14,7 @@ use Rattle.sparse_lists.specs.SparseLists.{AllKeys, Amounts, IsBefore, IsCanonic
 use Rattle.geo_poly.specs.declared.variables.Var.{Var}
 use Rattle.geo_poly.specs.Monomials.{Powers, IsEarlier, IsMonomial, degree_of, exponents}
 use Rattle.geo_poly.specs.Factors.{AreInOrder}
-use Rattle.geo_poly.specs.Polynomials.{Terms, coefficients, norm_of, term_cmp}
+use Rattle.geo_poly.specs.Polynomials.{Summands, coefficients, norm_of, term_cmp}
 use Rattle.geo_poly.specs.Variables.{var_cmp}
 use Rattle.geo_poly.proofs.MonomialOrder.{IsEarlier-from_cmp, cmp_from_IsEarlier}
 use Rattle.geo_poly.proofs.Orders.{term_order, var_order}
@@ -169,7 +169,7 @@ shorter p s0 s1 h = let n : length s0 ≡ length (power_text p ++ s1) = ap lengt
 
 -- POLYNOMIALS
 
-pub norm_more : (q : Terms) (t : Powers × ℤ) (more : Terms) → norm_of (q ++ t ∷ more) ≡ norm_of q + unsigned_abs t.1 + norm_of more
+pub norm_more : (q : Summands) (t : Powers × ℤ) (more : Summands) → norm_of (q ++ t ∷ more) ≡ norm_of q + unsigned_abs t.1 + norm_of more
 norm_more q t more =
     let whole = sum_by-append (λ (u : Powers × ℤ). unsigned_abs u.1) q (t ∷ more) in let tail = sum_by-cons (λ (u : Powers × ℤ). unsigned_abs u.1) t more in omega arith
 
@@ -206,24 +206,24 @@ earlier_first : (m n : Powers) → IsMonomial m → IsMonomial n → IsEarlier m
 earlier_first m n h g = ((λ e. term_order.flip_back n m (cmp_from_IsEarlier m n h.in_order g.in_order e)), (λ e. IsEarlier-from_cmp m n h.in_order g.in_order (term_order.flip m n e)))
 
 -- so do the last terms of polynomials
-pub last_first : (q : Terms) (n : Powers) → CanWritePolynomial q → IsMonomial n → IfSome (last_of q) (λ u. IsEarlier u.0 n) ↔ IfSome (last_of q) (λ u. term_cmp u.0 n ≡ Less)
+pub last_first : (q : Summands) (n : Powers) → CanWritePolynomial q → IsMonomial n → IfSome (last_of q) (λ u. IsEarlier u.0 n) ↔ IfSome (last_of q) (λ u. term_cmp u.0 n ≡ Less)
 last_first q n h g = inner q h.polynomial.monomials
   where
-    inner : (q : Terms) → AllKeys IsMonomial q → IfSome (last_of q) (λ u. IsEarlier u.0 n) ↔ IfSome (last_of q) (λ u. term_cmp u.0 n ≡ Less)
+    inner : (q : Summands) → AllKeys IsMonomial q → IfSome (last_of q) (λ u. IsEarlier u.0 n) ↔ IfSome (last_of q) (λ u. term_cmp u.0 n ≡ Less)
     inner [] h = ((λ e. tt), (λ e. tt))
     inner (u ∷ []) h = earlier_first u.0 n h.0 g
     inner (u ∷ v ∷ q) h = inner (v ∷ q) h.1
 
 -- the terms of a polynomial stand in order
-pub terms_in_order : (q : Terms) → CanWritePolynomial q → AreInOrder q
+pub terms_in_order : (q : Summands) → CanWritePolynomial q → AreInOrder q
 terms_in_order q h = inner q h.polynomial.in_order h.polynomial.monomials
   where
-    inner : (q : Terms) → IsCanonical term_cmp coefficients q → AllKeys IsMonomial q → AreInOrder q
+    inner : (q : Summands) → IsCanonical term_cmp coefficients q → AllKeys IsMonomial q → AreInOrder q
     inner [] h g = tt
     inner (t ∷ []) h g = tt
     inner (t ∷ u ∷ q) h g = ((earlier_first t.0 u.0 g.0 g.1.0).1 h.1.0, inner (u ∷ q) h.2 g.1)
 
-module _ (done : Terms) (t : Powers × ℤ) where
+module _ (done : Summands) (t : Powers × ℤ) where
   pub polynomial_more : CanWritePolynomial done → CanWriteFactor t → norm_of done + unsigned_abs t.1 < 2 ^ 127 → IfSome (last_of done) (λ u. term_cmp u.0 t.0 ≡ Less) → CanWritePolynomial (done ++ t ∷ [])
   polynomial_more h term fits last =
       let some : unsigned_abs t.1 ≢ 0 = term.factor.nonzero in
@@ -237,7 +237,7 @@ module _ (done : Terms) (t : Powers × ℤ) where
       }
 
   module _ (s0 s1 : List ℕ) (read : Begins terms s0 t s1) where
-    term_refused : ((more : Terms) → CanWritePolynomial (done ++ t ∷ more) → ⊥) → RefusesTerm s0 done
+    term_refused : ((more : Summands) → CanWritePolynomial (done ++ t ∷ more) → ⊥) → RefusesTerm s0 done
     term_refused none u rest other more fits =
         let same = (terms_unique s0 t u s1 rest read other).0 in
         let P : (Powers × ℤ) → Type 0 = λ z. CanWritePolynomial (done ++ z ∷ more) in
@@ -250,7 +250,7 @@ module _ (done : Terms) (t : Powers × ℤ) where
     term_misplaced other = term_refused (λ more fits. other (canonical_last term_cmp coefficients term_order done t more fits.polynomial.in_order))
 
 -- a term is put behind those of a list
-pub term_pushed : (s0 s1 : List ℕ) (list more : Terms) (t : Powers × ℤ) (sum : ℕ) → Begins terms s0 t s1 → CanWritePolynomial list → norm_of list + unsigned_abs t.1 < 2 ^ 127
+pub term_pushed : (s0 s1 : List ℕ) (list more : Summands) (t : Powers × ℤ) (sum : ℕ) → Begins terms s0 t s1 → CanWritePolynomial list → norm_of list + unsigned_abs t.1 < 2 ^ 127
     → IfSome (last_of list) (λ u. term_cmp u.0 t.0 ≡ Less) → more ≡ list ++ t ∷ [] → sum ≡ norm_of list + unsigned_abs t.1 → PushesTerm s0 s1 list more sum
 term_pushed s0 s1 list more t sum read written room last grown is =
     let total = norm_more list t [] in
@@ -264,9 +264,9 @@ term_pushed s0 s1 list more t sum read written room last grown is =
     }
 
 -- the terms of a polynomial, as far as they are read: at least one
-pub record AreTermsRead (s0 now : List ℕ) (list : Terms) (norm : ℕ) : Type 0 where
+pub record AreTermsRead (s0 now : List ℕ) (list : Summands) (norm : ℕ) : Type 0 where
   pub first : Powers × ℤ
-  pub others : Terms
+  pub others : Summands
   pub list_is : list ≡ first ∷ others
   pub norm_is : norm ≡ norm_of list
   pub written : CanWritePolynomial list
@@ -290,9 +290,9 @@ first_refuses s0 s1 t read none (u ∷ us) r k =
     let Q : List ℕ → Type 0 = λ l. Begins (terms_after (t ∷ [])) l us r in
     none us r (subst Q (sym one.1) (subst P (sym one.0) parts.1))
 
-pub terms_begin : (s0 s1 : List ℕ) (list : Terms) (norm : ℕ) → PushesTerm s0 s1 [] list norm → AreTermsRead s0 s1 list norm
+pub terms_begin : (s0 s1 : List ℕ) (list : Summands) (norm : ℕ) → PushesTerm s0 s1 [] list norm → AreTermsRead s0 s1 list norm
 terms_begin s0 s1 list norm k =
-    let P : Terms → Type 0 = λ l. NoneBegins (terms_after l) s1 in record {
+    let P : Summands → Type 0 = λ l. NoneBegins (terms_after l) s1 in record {
       first = k.term;
       others = [];
       list_is = k.grown;
@@ -302,7 +302,7 @@ terms_begin s0 s1 list norm k =
       refuses = λ none. first_refuses s0 s1 k.term k.read (subst P k.grown none);
     }
 
-module _ (s0 now : List ℕ) (list : Terms) (norm : ℕ) (h : AreTermsRead s0 now list norm) where
+module _ (s0 now : List ℕ) (list : Summands) (norm : ℕ) (h : AreTermsRead s0 now list norm) where
   pub terms_no_space : (now ≡ [] → ⊥) → ((rest : List ℕ) → now ≡ 32 ∷ rest → ⊥) → NoneBegins polynomials s0
   terms_no_space some none = h.refuses inner
     where
@@ -312,7 +312,7 @@ module _ (s0 now : List ℕ) (list : Terms) (norm : ℕ) (h : AreTermsRead s0 no
 
   module _ (s1 : List ℕ) (space : now ≡ 32 ∷ s1) where
     -- behind a space a term is due
-    pub due_term : (t : Powers × ℤ) (ts : Terms) (r : List ℕ) → Begins (terms_after list) now (t ∷ ts) r → Begins terms s1 t (flat_map next_term.text ts ++ r)
+    pub due_term : (t : Powers × ℤ) (ts : Summands) (r : List ℕ) → Begins (terms_after list) now (t ∷ ts) r → Begins terms s1 t (flat_map next_term.text ts ++ r)
     due_term t ts r k =
         let item = item_begins next_term is_byte CanWritePolynomial terms_listed list now t ts r k in
         let both : 32 ∷ s1 ≡ 32 ∷ (term_text t ++ (flat_map next_term.text ts ++ r)) = sym space ∙ item.spelt in
@@ -326,10 +326,10 @@ module _ (s0 now : List ℕ) (list : Terms) (norm : ℕ) (h : AreTermsRead s0 no
         inner [] r k = let e : [] ≡ 32 ∷ s1 = sym (k.spelt ∙ nothing_stops r k.stops) ∙ space in absurd (cc)
         inner (t ∷ ts) r k = none t (flat_map next_term.text ts ++ r) (due_term t ts r k) ts k.fits
 
-    pub terms_step : (s2 : List ℕ) (more : Terms) (sum : ℕ) → PushesTerm s1 s2 list more sum → AreTermsRead s0 s2 more sum
+    pub terms_step : (s2 : List ℕ) (more : Summands) (sum : ℕ) → PushesTerm s1 s2 list more sum → AreTermsRead s0 s2 more sum
     terms_step s2 more sum k =
         let next : Begins next_term now k.term s2 = record { spelt = space ∙ ap (λ l. 32 ∷ l) k.read.spelt; fits = k.read.fits; stops = k.read.stops } in
-        let P : Terms → Type 0 = λ l. NoneBegins (terms_after l) s2 in record {
+        let P : Summands → Type 0 = λ l. NoneBegins (terms_after l) s2 in record {
           first = h.first;
           others = h.others ++ k.term ∷ [];
           list_is = k.grown ∙ ap (λ l. l ++ k.term ∷ []) h.list_is;

@@ -10,7 +10,7 @@ use Rattle.geo_poly.specs.declared.limits.Which.TheVariants.{Norm, Degree}
 use Rattle.geo_poly.specs.declared.variables.Var.{Var}
 use Rattle.geo_poly.specs.declared.variables.Var.TheVariants.{R, S, P, X, Y, T}
 use Rattle.geo_poly.specs.Monomials.{Powers}
-use Rattle.geo_poly.specs.Polynomials.{Terms}
+use Rattle.geo_poly.specs.Polynomials.{Summands}
 use Rattle.proof_log.specs.declared.log.Line.{Line}
 use Rattle.proof_log.specs.declared.log.Line.TheVariants.{Header, Program, Condition, Goal, Start, Ratio, Point, Coords, Cut, End, Sample, Verdict as VerdictLine, StopTooLarge, StopSpent}
 use Rattle.proof_log.specs.declared.log.Verdict.TheVariants.{Proved, False, Impossible}
@@ -117,13 +117,13 @@ term t h =
 factor : (t : Powers × ℤ) → CanWriteFactor t → HasNoLineFeed (factor_text t)
 factor t h = joined (signed_decimal t.1) (flat_map power_text t.0) (integer t.1 h.factor.fits) (powers t.0 (factor_monomial t h))
 
-terms : (ts : Terms) → CanWritePolynomial ts → HasNoLineFeed (flat_map next_term.text ts)
+terms : (ts : Summands) → CanWritePolynomial ts → HasNoLineFeed (flat_map next_term.text ts)
 terms [] h = tt
 terms (t ∷ ts) h =
     joined (codes " " ++ term_text t) (flat_map next_term.text ts)
     (joined (codes " ") (term_text t) space (term t (polynomial_item [] t ts h))) (terms ts (polynomial_tail t ts h))
 
-polynomial : (q : Terms) → CanWritePolynomial q → HasNoLineFeed (polynomial_text q)
+polynomial : (q : Summands) → CanWritePolynomial q → HasNoLineFeed (polynomial_text q)
 unfolding has_none
 polynomial [] h = known (codes "0") refl
 polynomial (t ∷ ts) h =

@@ -8,7 +8,7 @@ use Rattle.std.proofs.lemmas.Bool.Decides.{nat_tests}
 use Rattle.std.proofs.lemmas.List.Sums.{sum_by-cons}
 use Rattle.geo_poly.specs.declared.variables.Var.{Var}
 use Rattle.geo_poly.specs.Monomials.{Powers, degree_of}
-use Rattle.geo_poly.specs.Polynomials.{Terms, norm_of}
+use Rattle.geo_poly.specs.Polynomials.{Summands, norm_of}
 use Rattle.proof_log.specs.Lines.{polynomial_text, power_text, sign_text, term_text, variable_name}
 use Rattle.proof_log.specs.Writable.{CanWriteFactor, CanWriteMonomial, CanWritePolynomial, CanWriteValue, CanWriteValues, IsVariable}
 use Rattle.proof_log.specs.Inner.Reading.{Begins, Form, StopsAt, coefficients, exponent_text, factors, integers, is_byte, is_number_byte, is_power_byte, next_term, polynomials, powers_after, single_powers, single_values, terms, terms_after, value_lists, variables}
@@ -126,7 +126,7 @@ factors_unique bytes t u r s h k = same_parts bytes integers t u r s integers_un
 
 -- POLYNOMIALS
 
-pub polynomial_tail : (t : Powers × ℤ) (ts : Terms) → CanWritePolynomial (t ∷ ts) → CanWritePolynomial ts
+pub polynomial_tail : (t : Powers × ℤ) (ts : Summands) → CanWritePolynomial (t ∷ ts) → CanWritePolynomial ts
 polynomial_tail t ts h = record {
   polynomial = record {
     in_order = h.polynomial.in_order.2;
@@ -136,7 +136,7 @@ polynomial_tail t ts h = record {
   variables = h.variables.1;
 }
 
-pub polynomial_item : (done : Terms) (t : Powers × ℤ) (ts : Terms) → CanWritePolynomial (done ++ t ∷ ts) → CanWriteFactor t
+pub polynomial_item : (done : Summands) (t : Powers × ℤ) (ts : Summands) → CanWritePolynomial (done ++ t ∷ ts) → CanWriteFactor t
 polynomial_item [] t ts h =
     let nonzero : eqb (unsigned_abs t.1) 0 ≡ false = h.polynomial.in_order.0 in
     let sum = sum_by-cons (λ (u : Powers × ℤ). unsigned_abs u.1) t ts in
@@ -172,16 +172,16 @@ terms_listed = record {
   item = polynomial_item;
 }
 
-pub terms_after_unique : (done : Terms) → Unique (terms_after done)
+pub terms_after_unique : (done : Summands) → Unique (terms_after done)
 terms_after_unique done bytes p q r s h k = list_unique next_term is_byte CanWritePolynomial terms_listed done p q bytes r s h k
 
 -- the terms with spaces between them
-pub joined_terms : (t : Powers × ℤ) (ts : Terms) → polynomial_text (t ∷ ts) ≡ term_text t ++ flat_map next_term.text ts
+pub joined_terms : (t : Powers × ℤ) (ts : Summands) → polynomial_text (t ∷ ts) ≡ term_text t ++ flat_map next_term.text ts
 joined_terms t [] = sym (append-nil (term_text t))
 joined_terms t (u ∷ ts) = ap (λ l. term_text t ++ (32 ∷ l)) (joined_terms u ts)
 
 -- a polynomial that is not zero is a term, and others behind it
-pub polynomial_parts : (bytes : List ℕ) (t : Powers × ℤ) (ts : Terms) (r : List ℕ) → Begins polynomials bytes (t ∷ ts) r → Begins terms bytes t (flat_map next_term.text ts ++ r) × Begins (terms_after (t ∷ [])) (flat_map next_term.text ts ++ r) ts r
+pub polynomial_parts : (bytes : List ℕ) (t : Powers × ℤ) (ts : Summands) (r : List ℕ) → Begins polynomials bytes (t ∷ ts) r → Begins terms bytes t (flat_map next_term.text ts ++ r) × Begins (terms_after (t ∷ [])) (flat_map next_term.text ts ++ r) ts r
 polynomial_parts bytes t ts r h = (
   record {
     spelt = h.spelt ∙ ap (λ l. l ++ r) (joined_terms t ts) ∙ append_assoc (term_text t) (flat_map next_term.text ts) r;

@@ -5,7 +5,7 @@ use Rattle.std.specs.List.{flat_map, join_with_byte}
 use Rattle.geo_poly.specs.declared.variables.Var.{Var}
 use Rattle.geo_poly.specs.declared.variables.Var.TheVariants.{R, S, P, X, Y, T}
 use Rattle.geo_poly.specs.Monomials.{Powers}
-use Rattle.geo_poly.specs.Polynomials.{Terms}
+use Rattle.geo_poly.specs.Polynomials.{Summands}
 use Rattle.proof_log.specs.declared.log.Line.{Line}
 use Rattle.geo_poly.specs.declared.limits.Which.{Which}
 use Rattle.geo_poly.specs.declared.limits.Which.TheVariants.{Norm, Degree}
@@ -41,7 +41,7 @@ abbrev pub term_text : Powers × ℤ → List ℕ
 term_text t = sign_text t.1 ++ decimal (unsigned_abs t.1) ++ flat_map power_text t.0
 
 -- `0`, or the terms with single spaces between them
-abbrev pub polynomial_text : Terms → List ℕ
+abbrev pub polynomial_text : Summands → List ℕ
 polynomial_text [] = codes "0"
 polynomial_text (t ∷ ts) = join_with_byte 32 (map term_text (t ∷ ts))
 

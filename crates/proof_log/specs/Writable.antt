@@ -6,7 +6,7 @@ use Rattle.geo_poly.specs.declared.variables.Var.{Var}
 use Rattle.geo_poly.specs.declared.variables.Var.TheVariants.{R, S, P, X, Y, T}
 use Rattle.geo_poly.specs.Monomials.{Powers, IsMonomial}
 use Rattle.geo_poly.specs.Factors.{IsFactor}
-use Rattle.geo_poly.specs.Polynomials.{Terms, IsPolynomial}
+use Rattle.geo_poly.specs.Polynomials.{Summands, IsPolynomial}
 pub use Rattle.geo_poly.specs.SortedVariables.{IsSorted}
 use Rattle.geo_poly.specs.PolynomialVariables.{AllVariables, IsRatio}
 use Rattle.proof_log.specs.declared.log.Line.{Line}
@@ -48,7 +48,7 @@ pub record CanWriteFactor (f : Powers × ℤ) : Type 0 where
   pub variables : AllKeys IsVariable f.0
 
 -- a polynomial in variables of lines
-pub record CanWritePolynomial (q : Terms) : Type 0 where
+pub record CanWritePolynomial (q : Summands) : Type 0 where
   pub polynomial : IsPolynomial q
   pub variables : AllVariables IsVariable q
 

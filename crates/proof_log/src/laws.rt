@@ -1,7 +1,8 @@
 //! What is proved of lines and their texts. The functions do nothing: what each says is its
 //! contract.
 
-ghost use Rattle.proof_log.specs.Laws.{LinesAreToldByTexts, LinesHaveNoLineFeed, LogsAreToldByTexts};
+ghost use Rattle.proof_log.specs.Laws.{LinesAreToldByTexts, LinesHaveNoLineFeed};
+ghost use Rattle.proof_log.specs.Laws.{LogsAreToldByTexts};
 
 /// Two lines that may be written and have the same text are the same line.
 pub fn lines_are_told_by_texts()

@@ -1,11 +1,16 @@
 //! Reading a line.
 
 ghost use Rattle.std.specs.List.{list_any};
-ghost use Rattle.std.specs.Prelude.{◌≡◌, ◌==◌, false, true, [], IsNone, IsTrue, ◌↔◌, IfSome, IfOk, OnOk, IsErrOf};
-ghost use Rattle.proof_log.specs.declared.leads.Lead.TheVariants.{Condition as ConditionLead, Cut as CutLead, Goal as GoalLead, Point as PointLead, Ratio as RatioLead};
+ghost use Rattle.std.specs.Prelude.{◌≡◌, ◌==◌, false, true, [], IsNone, IsTrue, ◌↔◌, IfSome, IfOk};
+ghost use Rattle.std.specs.Prelude.{OnOk, IsErrOf};
+ghost use Rattle.proof_log.specs.declared.leads.Lead.TheVariants.{Condition as ConditionLead};
+ghost use Rattle.proof_log.specs.declared.leads.Lead.TheVariants.{Cut as CutLead, Goal as GoalLead};
+ghost use Rattle.proof_log.specs.declared.leads.Lead.TheVariants.{Point as PointLead};
+ghost use Rattle.proof_log.specs.declared.leads.Lead.TheVariants.{Ratio as RatioLead};
 ghost use Rattle.geo_poly.specs.PolynomialVariables.{IsRatio};
 ghost use Rattle.proof_log.specs.declared.log.Line.{Line};
-ghost use Rattle.proof_log.specs.Inner.Leads.{IsBody, heads, last_numbers, lemmas, results, stops, texts};
+ghost use Rattle.proof_log.specs.Inner.Leads.{IsBody, heads, last_numbers, lemmas, results, stops};
+ghost use Rattle.proof_log.specs.Inner.Leads.{texts};
 ghost use Rattle.proof_log.specs.Lines.{line_text};
 ghost use Rattle.proof_log.specs.Inner.Reading.{Begins, NoneBegins};
 ghost use Rattle.proof_log.specs.Writable.{HasNoLineFeed, IsWritable};

@@ -35,8 +35,8 @@ pub enum Line {
     },
     /// The numerator of the term of the condition or goal.
     Start(Poly),
-    /// The ratio that was replaced by the elimination lemma of this number, the point that the lemma
-    /// looks at (lemma 0 looks at none), and the polynomial after it.
+    /// The ratio that was replaced by the elimination lemma of this number, the point that the
+    /// lemma looks at (lemma 0 looks at none), and the polynomial after it.
     Ratio {
         var: Var,
         lemma: u32,

@@ -1,11 +1,16 @@
 //! Reading what a line is made of.
 
-ghost use Rattle.std.specs.Prelude.{◌≡◌, ◌+◌, ◌^◌, ◌<◌, ◌≤◌, ◌↔◌, ℕ, ℤ, List, [], ◌∷◌, ◌++◌, length, unsigned_abs, slice_get, IsTrue, IsNone, IfSome, OnSome, Some};
+ghost use Rattle.std.specs.Prelude.{◌≡◌, ◌+◌, ◌^◌, ◌<◌, ◌≤◌, ◌↔◌, ℕ, ℤ, List, [], ◌∷◌, ◌++◌};
+ghost use Rattle.std.specs.Prelude.{length, unsigned_abs, slice_get, IsTrue, IsNone, IfSome};
+ghost use Rattle.std.specs.Prelude.{OnSome, Some};
 ghost use Rattle.std.specs.List.{prefix_len};
 ghost use Rattle.geo_poly.specs.Monomials.{degree_of};
 ghost use Rattle.geo_poly.specs.declared.variables.Var.{Var};
 ghost use Rattle.proof_log.specs.Writable.{CanWriteMonomial, IsSorted};
-ghost use Rattle.proof_log.specs.Inner.Reading.{Begins, NoneBegins, Passes, StopsAt, coefficients, exponents, integers, is_number_byte, is_power_byte, names, naturals, number_lists, single_powers, variables};
+ghost use Rattle.proof_log.specs.Inner.Reading.{Begins, NoneBegins, Passes, StopsAt, coefficients};
+ghost use Rattle.proof_log.specs.Inner.Reading.{exponents, integers, is_number_byte, is_power_byte};
+ghost use Rattle.proof_log.specs.Inner.Reading.{names, naturals, number_lists, single_powers};
+ghost use Rattle.proof_log.specs.Inner.Reading.{variables};
 
 use geo_base::read_decimal;
 use geo_points::{ParamId, PointId};

@@ -1,13 +1,18 @@
 //! Reading terms, polynomials and values.
 
-ghost use Rattle.std.specs.Prelude.{◌≡◌, ◌≢◌, ◌↔◌, ◌^◌, ◌<◌, ◌≤◌, false, true, [], ◌∷◌, ◌++◌, unsigned_abs, slice_get, IsTrue, IsNone, IfSome, IfOk, IsErrOf, Some};
+ghost use Rattle.std.specs.Prelude.{◌≡◌, ◌≢◌, ◌↔◌, ◌^◌, ◌<◌, ◌≤◌, false, true, [], ◌∷◌, ◌++◌};
+ghost use Rattle.std.specs.Prelude.{unsigned_abs, slice_get, IsTrue, IsNone, IfSome, IfOk, IsErrOf};
+ghost use Rattle.std.specs.Prelude.{Some};
 ghost use Rattle.std.specs.declared.cmp.Ordering.TheVariants.{Less};
 ghost use Rattle.geo_poly.specs.Monomials.{IsEarlier, degree_of};
 ghost use Rattle.geo_poly.specs.Polynomials.{norm_of};
 ghost use Rattle.geo_poly.specs.Variables.{var_cmp};
 ghost use Rattle.proof_log.specs.Writable.{CanWriteMonomial, CanWritePolynomial};
-ghost use Rattle.proof_log.specs.Inner.Reading.{Begins, BeginsWith, NoneBegins, StopsAt, factors, is_power_byte, polynomials, powers_after, single_values, terms, value_lists};
-ghost use Rattle.proof_log.specs.Inner.Growing.{PushesPower, PushesTerm, RefusesPower, RefusesTerm, last_of};
+ghost use Rattle.proof_log.specs.Inner.Reading.{Begins, BeginsWith, NoneBegins, StopsAt, factors};
+ghost use Rattle.proof_log.specs.Inner.Reading.{is_power_byte, polynomials, powers_after};
+ghost use Rattle.proof_log.specs.Inner.Reading.{single_values, terms, value_lists};
+ghost use Rattle.proof_log.specs.Inner.Growing.{PushesPower, PushesTerm, RefusesPower, RefusesTerm};
+ghost use Rattle.proof_log.specs.Inner.Growing.{last_of};
 
 use crate::errors::LineError;
 use crate::reader::{Reader, is_power_byte};

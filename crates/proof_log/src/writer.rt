@@ -1,10 +1,13 @@
 //! Writing a line.
 
-ghost use Rattle.std.specs.Prelude.{codes, ◌≡◌, ◌<◌, [], ◌∷◌, ◌++◌, length, unsigned_abs, IfOk, OnOk};
+ghost use Rattle.std.specs.Prelude.{codes, ◌≡◌, ◌<◌, [], ◌∷◌, ◌++◌, length, unsigned_abs, IfOk};
+ghost use Rattle.std.specs.Prelude.{OnOk};
 ghost use Rattle.std.specs.Fmt.{decimal, signed_decimal};
 ghost use Rattle.geo_poly.specs.Polynomials.{term_at};
 ghost use Rattle.proof_log.specs.Writable.{IsWritable};
-ghost use Rattle.proof_log.specs.Lines.{factor_text, line_text, numbers_text, place_text, polynomial_text, power_text, sign_text, term_text, value_text, variable_name, which_text};
+ghost use Rattle.proof_log.specs.Lines.{factor_text, line_text, numbers_text, place_text};
+ghost use Rattle.proof_log.specs.Lines.{polynomial_text, power_text, sign_text, term_text};
+ghost use Rattle.proof_log.specs.Lines.{value_text, variable_name, which_text};
 
 use crate::log::{Line, Verdict};
 use geo_base::Text;

@@ -18,7 +18,11 @@ whole z = record { numerator = z; denominator = 1; positive = lit< tt }
 
 -- a + b
 unfoldable pub plus : Fraction → Fraction → Fraction
-plus a b = record { numerator = a.numerator *ℤ pos b.denominator +ℤ b.numerator *ℤ pos a.denominator; denominator = a.denominator * b.denominator; positive = mul-pos a.positive b.positive }
+plus a b = record {
+  numerator = a.numerator *ℤ pos b.denominator +ℤ b.numerator *ℤ pos a.denominator;
+  denominator = a.denominator * b.denominator;
+  positive = mul-pos a.positive b.positive;
+}
 
 -- - a
 unfoldable pub negated : Fraction → Fraction
@@ -30,7 +34,8 @@ minus a b = plus a (negated b)
 
 -- a b
 unfoldable pub times : Fraction → Fraction → Fraction
-times a b = record { numerator = a.numerator *ℤ b.numerator; denominator = a.denominator * b.denominator; positive = mul-pos a.positive b.positive }
+times a b =
+    record { numerator = a.numerator *ℤ b.numerator; denominator = a.denominator * b.denominator; positive = mul-pos a.positive b.positive }
 
 -- a is not 0
 abbrev pub IsNonzero : Fraction → Type 0
@@ -39,8 +44,10 @@ IsNonzero a = a.numerator ≡ pos 0 → ⊥
 -- a divided by n / d, by the sign of n, which goes to the numerator. It means something where n is not 0, and else it is set to 0
 unfoldable pub quotient_at : Fraction → ℤ → ℕ → Fraction
 quotient_at a (pos zero) d = whole (pos 0)
-quotient_at a (pos (suc k)) d = record { numerator = a.numerator *ℤ pos d; denominator = a.denominator * suc k; positive = mul-pos a.positive (zero-lt-suc k) }
-quotient_at a (negsuc k) d = record { numerator = neg_ℤ a.numerator *ℤ pos d; denominator = a.denominator * suc k; positive = mul-pos a.positive (zero-lt-suc k) }
+quotient_at a (pos (suc k)) d =
+    record { numerator = a.numerator *ℤ pos d; denominator = a.denominator * suc k; positive = mul-pos a.positive (zero-lt-suc k) }
+quotient_at a (negsuc k) d =
+    record { numerator = neg_ℤ a.numerator *ℤ pos d; denominator = a.denominator * suc k; positive = mul-pos a.positive (zero-lt-suc k) }
 
 -- a / b, where b is not 0
 unfoldable pub quotient : Fraction → Fraction → Fraction

@@ -1,4 +1,5 @@
--- Expressions over a ring, and a normal form of theirs that computes: two expressions are equal in every ring where the normal form of their difference is 0.
+-- Expressions over a ring, and a normal form of theirs that computes: two expressions are equal in every ring where the normal form of
+-- their difference is 0.
 use Rattle.std.specs.Prelude.{ℕ, zero, suc, ◌+◌, ◌*◌, Bool, true, false, ◌&&◌, eqb, ltb, List, [], ◌∷◌}
 use Rattle.ring_laws.specs.Ring.{Ring}
 
@@ -52,7 +53,8 @@ add_constant p n (constant a b) = constant (p + a) (n + b)
 add_constant p n (nested x P Q) = nested x P (add_constant p n Q)
 
 -- the sum of x P + Q and y S + U, by whether x is y and whether x is below y; `add_P` and `add_Q` add P and Q, and `rest` is x P + Q plus U
-abbrev pub join_nested : Bool → Bool → ℕ → Horner → (Horner → Horner) → (Horner → Horner) → ℕ → Horner → Horner → (Unit {0} → Horner) → Horner
+abbrev pub join_nested : Bool → Bool → ℕ → Horner → (Horner → Horner) → (Horner → Horner) → ℕ → Horner → Horner
+    → (Unit {0} → Horner) → Horner
 join_nested true _ x P add_P add_Q y S U rest = nested x (add_P S) (add_Q U)
 join_nested false true x P add_P add_Q y S U rest = nested x P (add_Q (nested y S U))
 join_nested false false x P add_P add_Q y S U rest = nested y S (rest tt)

@@ -1,5 +1,5 @@
-//! What is proved of the solver, of the whole numbers and of fractions. The functions do nothing: what each says
-//! is its contract.
+//! What is proved of the solver, of the whole numbers and of fractions. The functions do nothing:
+//! what each says is its contract.
 
 ghost use Rattle.ring_laws.specs.FractionLaws.{FractionsAreAField, SameIsACongruence};
 ghost use Rattle.ring_laws.specs.Laws.{CombinationIsSound, SolverIsSound, WholeNumbersAreARing};

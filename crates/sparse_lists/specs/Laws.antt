@@ -12,9 +12,12 @@ abbrev pub CanonicalListIsTheOnlyOne : Type 0
 CanonicalListIsTheOnlyOne =
     (ts : List (ℕ × ℕ)) → IsCanonical nat_cmp natural_amounts (canonical nat_cmp natural_amounts ts)
     × ((k : ℕ) → amount nat_cmp natural_amounts k (canonical nat_cmp natural_amounts ts) ≡ amount nat_cmp natural_amounts k ts)
-    × ((us : List (ℕ × ℕ)) → IsCanonical nat_cmp natural_amounts us → ((k : ℕ) → amount nat_cmp natural_amounts k us ≡ amount nat_cmp natural_amounts k ts) → us ≡ canonical nat_cmp natural_amounts ts)
+    × ((us : List (ℕ × ℕ)) → IsCanonical nat_cmp natural_amounts us
+    → ((k : ℕ) → amount nat_cmp natural_amounts k us ≡ amount nat_cmp natural_amounts k ts)
+    → us ≡ canonical nat_cmp natural_amounts ts)
 
 -- two lists one after the other have the sum of their amounts at each key
 abbrev pub AppendedListsAddUp : Type 0
 AppendedListsAddUp =
-    (ts us : List (ℕ × ℕ)) (k : ℕ) → amount nat_cmp natural_amounts k (canonical nat_cmp natural_amounts (ts ++ us)) ≡ amount nat_cmp natural_amounts k ts + amount nat_cmp natural_amounts k us
+    (ts us : List (ℕ × ℕ)) (k : ℕ) → amount nat_cmp natural_amounts k (canonical nat_cmp natural_amounts (ts ++ us))
+    ≡ amount nat_cmp natural_amounts k ts + amount nat_cmp natural_amounts k us

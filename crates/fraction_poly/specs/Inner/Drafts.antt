@@ -81,7 +81,16 @@ AllFit n _ = Unit {0}
 
 -- the numbers of both parts, with a charge
 abbrev pub numbers_in : StepNumber → ℕ → Numbers
-numbers_in n charge = record { wn = n.num.weight; wd = n.den.weight; kn = n.num.count; kd = n.den.count; gn = n.num.degree; gd = n.den.degree; charge = charge }
+numbers_in n charge =
+    record {
+      wn = n.num.weight;
+      wd = n.den.weight;
+      kn = n.num.count;
+      kd = n.den.count;
+      gn = n.num.degree;
+      gd = n.den.degree;
+      charge = charge;
+    }
 
 -- the weight, the count and the degree of a piece
 abbrev pub piece_bounds : Piece → Bounds

@@ -3,7 +3,7 @@ use Rattle.std.specs.Prelude.{◌≡◌, ℕ, ◌+◌, ◌*◌, ◌^◌, ◌<◌
 use Rattle.std.specs.HashMap.{HashMap, get}
 use Rattle.std.specs.Option.{unwrap_or}
 use Rattle.geo_points.specs.declared.ids.TermId.{TermId}
-use Rattle.geo_poly.specs.Polynomials.{Terms, norm_of, total_degree}
+use Rattle.geo_poly.specs.Polynomials.{Summands, norm_of, total_degree}
 use Rattle.geo_terms.specs.declared.nodes.Node.{Node}
 use Rattle.geo_terms.specs.declared.nodes.Node.TheVariants.{Neg, Add, Sub, Mul, Div}
 use Rattle.geo_terms.specs.Stores.{Store, tree_at, tree_of}
@@ -23,12 +23,12 @@ pub record CanMultiplyOut (e : Tree) : Type 0 where
   pub room : HasRoom e
 
 -- the product of the polynomials is within the bounds of one
-pub record ProductFits (p q : Terms) : Type 0 where
+pub record ProductFits (p q : Summands) : Type 0 where
   pub norm : norm_of p * norm_of q < 2 ^ 127
   pub degree : total_degree p + total_degree q ≤ 65535
 
 -- the sum of two numerators over denominators is, and the difference
-pub record SumFits (a b : Terms × Terms) : Type 0 where
+pub record SumFits (a b : Summands × Summands) : Type 0 where
   pub left : ProductFits a.0 b.1
   pub right : ProductFits b.0 a.1
   pub both : norm_of a.0 * norm_of b.1 + norm_of b.0 * norm_of a.1 < 2 ^ 127
@@ -45,8 +45,9 @@ IsPart (Div e f) c = (c ≡ e) ⊎ (c ≡ f)
 IsPart _ c = ⊥
 
 -- each part of the node at the index stands in the list, multiplied out
-pub record HasParts (nodes : Store) (fractions : List (Terms × Terms)) (id : TermId) : Type 0 where
-  pub each : (node : Node) (c : TermId) → slice_get nodes id.0 ≡ Some node → IsPart node c → slice_get fractions c.0 ≡ Some (multiplied_out (tree_of nodes c))
+pub record HasParts (nodes : Store) (fractions : List (Summands × Summands)) (id : TermId) : Type 0 where
+  pub each : (node : Node) (c : TermId) → slice_get nodes id.0 ≡ Some node → IsPart node c
+      → slice_get fractions c.0 ≡ Some (multiplied_out (tree_of nodes c))
 
 -- each term of the store may be multiplied out
 pub record DoAllFit (nodes : Store) : Type 0 where
@@ -61,7 +62,8 @@ StandsFrom k order c = (j : ℕ) × (k ≤ j) × (slice_get order j ≡ Some c)
 -- and all may be multiplied out where the term may
 pub record AreReached (nodes : Store) (id : TermId) (order : List TermId) : Type 0 where
   pub own : StandsFrom 0 order id
-  pub parts : (k : ℕ) (c d : TermId) (node : Node) → slice_get order k ≡ Some c → slice_get nodes c.0 ≡ Some node → IsPart node d → StandsFrom (k + 1) order d
+  pub parts : (k : ℕ) (c d : TermId) (node : Node) → slice_get order k ≡ Some c → slice_get nodes c.0 ≡ Some node
+      → IsPart node d → StandsFrom (k + 1) order d
   pub stored : (k : ℕ) (c : TermId) → slice_get order k ≡ Some c → c.0 < length nodes
   pub fit : CanMultiplyOut (tree_of nodes id) → (k : ℕ) (c : TermId) → slice_get order k ≡ Some c → CanMultiplyOut (tree_of nodes c)
   pub few : length order ≤ length nodes

@@ -8,7 +8,7 @@ use Rattle.geo_points.specs.declared.ids.PointId.{PointId}
 use Rattle.geo_poly.specs.declared.variables.Var.{Var}
 use Rattle.geo_poly.specs.Monomials.{Powers}
 use Rattle.geo_poly.specs.PolynomialVariables.{IsQuantity, IsRatio, variables_of}
-use Rattle.geo_poly.specs.Polynomials.{Terms, term_at}
+use Rattle.geo_poly.specs.Polynomials.{Summands, term_at}
 use Rattle.geo_poly.specs.Variables.{var_cmp}
 use Rattle.geo_terms.specs.Constructions.{Construction}
 
@@ -42,7 +42,7 @@ pub record IsMetIn {A : Type 0} (Brings : Var → A → Type 0) (m : Powers) (j 
   pub brings : Brings power.0 a
 
 -- a comes with a variable of a term before place i
-pub record IsMetBefore {A : Type 0} (Brings : Var → A → Type 0) (q : Terms) (i : ℕ) (a : A) : Type 0 where
+pub record IsMetBefore {A : Type 0} (Brings : Var → A → Type 0) (q : Summands) (i : ℕ) (a : A) : Type 0 where
   pub place : ℕ
   pub before : place < i
   pub met : IsMetIn Brings (term_at q place).0 (length (term_at q place).0) a
@@ -63,11 +63,11 @@ abbrev pub FitsItself : Sought → Var → Var → Type 0
 FitsItself sought v w = (w ≡ v) × Fits sought v
 
 -- v is the first variable of the kind
-pub record IsFirstFitting (sought : Sought) (q : Terms) (v : Var) : Type 0 where
+pub record IsFirstFitting (sought : Sought) (q : Summands) (v : Var) : Type 0 where
   pub stands : Contains (variables_of q) v
   pub fits : Fits sought v
   pub first : (w : Var) → Contains (variables_of q) w → Fits sought w → var_cmp w v ≢ Less
 
 -- no variable is of the kind
-abbrev pub NoneFits : Sought → Terms → Type 0
+abbrev pub NoneFits : Sought → Summands → Type 0
 NoneFits sought q = (v : Var) → Contains (variables_of q) v → Fits sought v → ⊥

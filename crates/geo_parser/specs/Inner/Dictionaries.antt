@@ -31,7 +31,8 @@ pub record IsNew (names : List Name) (word : List ℕ) : Type 0 where
 
 -- where a new name is due, the word is refused with this number
 pub record IsNoNewName (names : List Name) (word : List ℕ) (refusal : ℕ) : Type 0 where
-  pub may_not : (r : Reading) → (kind : NameKind) → (points : ℕ) → (rest : List Slot) → r.declared ≡ names → begin_name r kind points word rest ≡ refused refusal
+  pub may_not : (r : Reading) → (kind : NameKind) → (points : ℕ) → (rest : List Slot) → r.declared ≡ names
+      → begin_name r kind points word rest ≡ refused refusal
 
 -- what the word names, by kind and number
 pub record IsMeant (names : List Name) (word : List ℕ) (meaning : Meaning) : Type 0 where

@@ -104,13 +104,15 @@ pub record ReadsExpression (level : ℕ) (ratios : Bool) (old new : Reader) (e :
 
 -- `{ e }`, where the brace is of this level
 pub record ReadsPart (level : ℕ) (ratios : Bool) (old new : Reader) (e : TermId) : Type 0 where
-  pub reads : Reads (open_slot level ∷ expression_slot level ratios ∷ close_slot ∷ []) old new (braced (expression_lexemes old.names (tree_of new.terms e)))
+  pub reads : Reads (open_slot level ∷ expression_slot level ratios ∷ close_slot ∷ []) old new
+      (braced (expression_lexemes old.names (tree_of new.terms e)))
   pub stored : e.0 < length new.terms
   pub tree : IsTree level ratios old (tree_of new.terms e)
 
 -- `{ e } { f }`
 pub record ReadsParts (level : ℕ) (ratios ratios' : Bool) (old new : Reader) (e f : TermId) : Type 0 where
-  pub reads : Reads ((open_slot level ∷ expression_slot level ratios ∷ close_slot ∷ []) ++ (open_slot level ∷ expression_slot level ratios' ∷ close_slot ∷ [])) old new
+  pub reads : Reads ((open_slot level ∷ expression_slot level ratios ∷ close_slot ∷ [])
+      ++ (open_slot level ∷ expression_slot level ratios' ∷ close_slot ∷ [])) old new
       (braced (expression_lexemes old.names (tree_of new.terms e)) ++ braced (expression_lexemes old.names (tree_of new.terms f)))
   pub stored : e.0 < length new.terms
   pub tree : IsTree level ratios old (tree_of new.terms e)
@@ -200,7 +202,8 @@ pub record ReadsForm (word : CommandWord) (old new : Reader) (command : Command)
   pub sketch : Sketch
   pub sketched : (sketch ≡ None) ⊎ (command ≡ Point)
   pub named : HasWord word new.terms command
-  pub reads : Reads (command_slots word) old new (flat_map (argument_lexemes old.names) (command_form new.terms command).arguments ++ sketch_lexemes sketch)
+  pub reads : Reads (command_slots word) old new
+      (flat_map (argument_lexemes old.names) (command_form new.terms command).arguments ++ sketch_lexemes sketch)
   pub valid : All (IsArgument (scope old)) (command_form new.terms command).arguments
   pub stored : IsStored new.terms command
 
@@ -210,7 +213,8 @@ pub record ReadsCommand (word : CommandWord) (old new : Reader) (command : Comma
   pub sketch : Sketch
   pub sketched : (sketch ≡ None) ⊎ (command ≡ Point)
   pub named : HasWord word new.terms command
-  pub passes : Passes old new (word_lexeme text ∷ flat_map (argument_lexemes old.names) (command_form new.terms command).arguments ++ sketch_lexemes sketch)
+  pub passes : Passes old new
+      (word_lexeme text ∷ flat_map (argument_lexemes old.names) (command_form new.terms command).arguments ++ sketch_lexemes sketch)
   pub names : new.names ≡ old.names ++ a_name text (command_kind word) ∷ []
   pub valid_name : IsNameText text
   pub fresh : IsNew old.names text
@@ -250,7 +254,8 @@ pub record ReadsStatementWord (word : StatementWord) (old new : Reader) : Type 0
   pub names : new.names ≡ old.names
   pub points : new.points ≡ old.points
   pub terms : new.terms ≡ old.terms
-  pub follows : (begun : List Name) → (rest : List Slot) → fault_of old begun (statement_slot ∷ rest) ≡ fault_of new begun (statement_due word ++ rest)
+  pub follows : (begun : List Name) → (rest : List Slot)
+      → fault_of old begun (statement_slot ∷ rest) ≡ fault_of new begun (statement_due word ++ rest)
 
 -- what stands behind the word of a statement, and the statement that it makes
 pub record ReadsStated (word : StatementWord) (old new : Reader) (statement : Statement) : Type 0 where
@@ -261,7 +266,9 @@ pub record ReadsStated (word : StatementWord) (old new : Reader) (statement : St
 
 -- `{ STATEMENT }` and then the end of the text
 pub record ReadsStatement (old new : Reader) (statement : Statement) : Type 0 where
-  pub reads : Reads (open_slot 0 ∷ statement_slot ∷ close_slot ∷ []) old new (braced (word_lexeme (statement_form new.terms statement).word ∷ flat_map (argument_lexemes old.names) (statement_form new.terms statement).arguments))
+  pub reads : Reads (open_slot 0 ∷ statement_slot ∷ close_slot ∷ []) old new
+      (braced (word_lexeme (statement_form new.terms statement).word
+      ∷ flat_map (argument_lexemes old.names) (statement_form new.terms statement).arguments))
   pub valid : All (IsArgument (scope old)) (statement_form new.terms statement).arguments
   pub sides : AreSidesStored new.terms statement
   pub ended : new.cursor.tokens ≡ []

@@ -2,7 +2,7 @@
 use Rattle.std.specs.Prelude.{◌≡◌, ℕ, ℤ, Option, Some, None, List, [], ◌∷◌, ◌++◌}
 use Rattle.geo_poly.specs.declared.variables.Var.{Var}
 use Rattle.geo_poly.specs.Monomials.{Powers, degree_of}
-use Rattle.geo_poly.specs.Polynomials.{Terms, norm_of}
+use Rattle.geo_poly.specs.Polynomials.{Summands, norm_of}
 use Rattle.proof_log.specs.Writable.{CanWriteMonomial, CanWritePolynomial}
 use Rattle.proof_log.specs.Inner.Reading.{Begins, single_powers, terms}
 
@@ -26,7 +26,7 @@ RefusesPower bytes done =
     (p : Var × ℕ) (rest : List ℕ) → Begins single_powers bytes p rest → (more : Powers) → CanWriteMonomial (done ++ p ∷ more) → ⊥
 
 -- a term is read that may stand behind those of the list, and the list has it, with its norm
-pub record PushesTerm (bytes rest : List ℕ) (old new : Terms) (norm : ℕ) : Type 0 where
+pub record PushesTerm (bytes rest : List ℕ) (old new : Summands) (norm : ℕ) : Type 0 where
   pub term : Powers × ℤ
   pub read : Begins terms bytes term rest
   pub grown : new ≡ old ++ term ∷ []
@@ -34,6 +34,6 @@ pub record PushesTerm (bytes rest : List ℕ) (old new : Terms) (norm : ℕ) : T
   pub norm_is : norm ≡ norm_of new
 
 -- no term is there that may stand behind these
-abbrev pub RefusesTerm : List ℕ → Terms → Type 0
+abbrev pub RefusesTerm : List ℕ → Summands → Type 0
 RefusesTerm bytes done =
-    (t : Powers × ℤ) (rest : List ℕ) → Begins terms bytes t rest → (more : Terms) → CanWritePolynomial (done ++ t ∷ more) → ⊥
+    (t : Powers × ℤ) (rest : List ℕ) → Begins terms bytes t rest → (more : Summands) → CanWritePolynomial (done ++ t ∷ more) → ⊥

@@ -4,7 +4,7 @@ use Rattle.std.specs.Fmt.{decimal}
 use Rattle.std.specs.List.{flat_map}
 use Rattle.geo_points.specs.declared.ids.PointId.{PointId}
 use Rattle.geo_poly.specs.declared.limits.Which.{Which}
-use Rattle.geo_poly.specs.Polynomials.{Terms}
+use Rattle.geo_poly.specs.Polynomials.{Summands}
 use Rattle.proof_log.specs.declared.log.Line.{Line}
 use Rattle.proof_log.specs.declared.log.Line.TheVariants.{Header, Program, Condition, Goal, Start, Ratio, Point, Coords, Cut, End, Sample, Verdict as VerdictLine, StopTooLarge, StopSpent}
 use Rattle.proof_log.specs.declared.log.Verdict.TheVariants.{Proved, False, Impossible}
@@ -95,7 +95,7 @@ abbrev pub heads : Form (ℕ × List ℕ)
 heads = record { text = λ h. decimal h.0 ++ (codes " " ++ h.1); fits = λ h. CanWriteHead h.0 h.1; more = is_byte }
 
 -- a polynomial behind ` : `, up to the end of the line
-abbrev pub results : Form Terms
+abbrev pub results : Form Summands
 results = record { text = λ q. codes " : " ++ polynomial_text q; fits = CanWritePolynomial; more = is_byte }
 
 -- a lemma with the point that it looks at, where it looks at one

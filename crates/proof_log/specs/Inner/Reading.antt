@@ -5,7 +5,7 @@ use Rattle.std.specs.Fmt.{decimal, signed_decimal}
 use Rattle.std.specs.List.{flat_map}
 use Rattle.geo_poly.specs.declared.variables.Var.{Var}
 use Rattle.geo_poly.specs.Monomials.{Powers}
-use Rattle.geo_poly.specs.Polynomials.{Terms}
+use Rattle.geo_poly.specs.Polynomials.{Summands}
 use Rattle.proof_log.specs.Lines.{factor_text, numbers_text, polynomial_text, power_text, sign_text, term_text, value_text, variable_name}
 use Rattle.proof_log.specs.Writable.{AreSmall, CanWriteFactor, CanWriteMonomial, CanWritePolynomial, CanWriteValue, CanWriteValues, IsVariable, numbers}
 
@@ -117,11 +117,11 @@ abbrev pub next_term : Form (Powers × ℤ)
 next_term = record { text = λ t. codes " " ++ term_text t; fits = CanWriteFactor; more = is_power_byte }
 
 -- what may stand behind these terms, up to the end of the line
-abbrev pub terms_after : Terms → Form Terms
+abbrev pub terms_after : Summands → Form Summands
 terms_after done = record { text = flat_map (λ t. codes " " ++ term_text t); fits = λ ts. CanWritePolynomial (done ++ ts); more = is_byte }
 
 -- polynomials, up to the end of the line
-abbrev pub polynomials : Form Terms
+abbrev pub polynomials : Form Summands
 polynomials = record { text = polynomial_text; fits = CanWritePolynomial; more = is_byte }
 
 -- values

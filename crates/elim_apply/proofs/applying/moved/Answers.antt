@@ -3,7 +3,7 @@ use Rattle.std.specs.Prelude.{All, IfOk}
 use Rattle.std.specs.List.{filter_map}
 use Rattle.geo_poly.specs.declared.replacement.Piece.{Piece}
 use Rattle.geo_poly.specs.declared.replacement.Row.{Row}
-use Rattle.geo_poly.specs.Polynomials.{Terms}
+use Rattle.geo_poly.specs.Polynomials.{Summands}
 use Rattle.geo_poly.specs.PolynomialVariables.{variables_of}
 use Rattle.geo_poly.specs.Replace.{AllBounded, AllPowersSmall, IsBounded, replaced_by, replaced_degree, replaced_weight}
 use Rattle.elim_apply.specs.declared.numbered.NumberedRow.{NumberedRow}
@@ -81,5 +81,5 @@ returns c =
     let result : replaced_by c.deref.result.now c.in_ok-rows.den.poly q ≡ replaced_by made.rows made.den.poly q =
     ap₂ (λ (rs : List Row) (d : Piece). replaced_by rs d.poly q) rows c.in_ok-rows.ensures.den in
     let told : IfOk c.replace.result (λ p. p ≡ replaced_by made.rows made.den.poly q) =
-    subst (λ (r : Terms). IfOk c.replace.result (λ p. p ≡ r)) result c.replace.ensures.replaced in
+    subst (λ (r : Summands). IfOk c.replace.result (λ p. p ≡ r)) result c.replace.ensures.replaced in
     handed_answer c.within_bounds.result c.replace.result (λ p. p ≡ replaced_by made.rows made.den.poly q) c.within_bounds.ensures told

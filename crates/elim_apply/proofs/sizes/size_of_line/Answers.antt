@@ -2,7 +2,7 @@ use Rattle.std.proofs.Common.{◌+◌, ◌*◌, ◌<◌, drop, subst, arith}
 use Rattle.std.specs.Prelude.{length, sum_by}
 use Rattle.std.proofs.lemmas.List.{drop_all}
 use Rattle.elim_apply.specs.Inner.Sketches.{sketch, sketches}
-use Rattle.geo_poly.specs.Polynomials.{Terms, term_at}
+use Rattle.geo_poly.specs.Polynomials.{Summands, term_at}
 use Rattle.elim_apply.proofs.LineShares.{denominators_at, term_shown}
 use Rattle.elim_apply.proofs.LineSizes.{IsSizeSoFar, line_size, no_size, size_more, whole_size}
 use Rattle.elim_apply.proofs.sizes.size_of_line.Goals as goal
@@ -30,7 +30,7 @@ loop-i-preserved c =
     let i = c.loop-i.i in
     let start = made.charge + 4 * (sum_by (λ r. r.num.count) made.rows + made.den.count) in
     let lt : i < length q = omega (arith, c.loop-i-test.true, c.terms-i-end.ensures) in
-    let here = subst (λ (left : Terms). IsSizeSoFar made top start q left c.loop-i.charge c.loop-i.weight c.loop-i.degree) (term_shown q i lt) c.loop-i.invariant in
+    let here = subst (λ (left : Summands). IsSizeSoFar made top start q left c.loop-i.charge c.loop-i.weight c.loop-i.degree) (term_shown q i lt) c.loop-i.invariant in
     size_more made top start q (term_at q i) (drop (i + 1) q) c.share_of-share.result c.loop-i.charge c.loop-i.weight c.loop-i.degree
     c.charge.result c.weight_over.result c.degree_over.result c.saturating_add-charge.result c.saturating_add-weight.result c.max-degree.result
     (record {

@@ -1,5 +1,5 @@
 use Rattle.std.proofs.Common.{◌+◌, List, refl, sym, subst, arith}
-use Rattle.geo_poly.specs.Polynomials.{Terms}
+use Rattle.geo_poly.specs.Polynomials.{Summands}
 use Rattle.fraction_poly.specs.Inner.Parts.{HasParts}
 use Rattle.fraction_poly.proofs.Multiplied.{AreMultiplied, AreMultiplied-push, HasParts-at}
 use Rattle.fraction_poly.proofs.multiplying.fraction_of.Goals as goal
@@ -11,7 +11,7 @@ pub fraction-requires-clause-parts : goal.fraction-requires-clause-parts
 fraction-requires-clause-parts c =
     let nodes = c.args.terms.now in
     let i = c.loop-i.i in
-    subst (λ (parts : List (Terms × Terms)). HasParts nodes parts (record { 0 = i })) (sym c.deref.ensures.value)
+    subst (λ (parts : List (Summands × Summands)). HasParts nodes parts (record { 0 = i })) (sym c.deref.ensures.value)
     (HasParts-at nodes i c.loop-i.parts.items c.loop-i.invariant (record { 0 = i }) c.len.ensures.valid refl)
 
 pub loop-i-preserved : goal.loop-i-preserved
@@ -23,5 +23,5 @@ loop-i-preserved c =
 pub fraction-requires-2-clause-parts : goal.fraction-requires-2-clause-parts
 fraction-requires-2-clause-parts c =
     let nodes = c.args.terms.now in
-    subst (λ (parts : List (Terms × Terms)). HasParts nodes parts c.args.id) (sym c.deref-2.ensures.value)
+    subst (λ (parts : List (Summands × Summands)). HasParts nodes parts c.args.id) (sym c.deref-2.ensures.value)
     (HasParts-at nodes c.loop-i.i c.loop-i.parts.items c.loop-i.invariant c.args.id c.len.ensures.valid (omega (arith, c.loop-i.auto.i-end)))

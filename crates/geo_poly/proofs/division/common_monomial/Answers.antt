@@ -6,7 +6,7 @@ use Rattle.geo_poly.specs.declared.variables.Var.{Var}
 use Rattle.geo_poly.specs.declared.variables.Var.TheVariants.{R}
 use Rattle.geo_poly.specs.Monomials.{Powers, IsMonomial, exponent}
 use Rattle.sparse_lists.specs.SparseLists.{AllKeys}
-use Rattle.geo_poly.specs.Polynomials.{Terms}
+use Rattle.geo_poly.specs.Polynomials.{Summands}
 use Rattle.geo_poly.specs.Factors.{IsLeastExponent}
 use Rattle.geo_poly.proofs.Cuts.{reduced, IsAbove, IsMonomial-reduced, next_reduced, next_put, next_left_out, common_exponent, common_exponent-other, IsMonomial-first, IsAbove-first, found_exponent, known_in_reduced, other_in_reduced}
 use Rattle.geo_poly.proofs.division.common_monomial.Goals as goal
@@ -29,10 +29,10 @@ nonzero : (n : ℕ) → 0 < n → eqb n 0 ≡ false
 nonzero n h = grind (arith, nat_tests)
 
 -- what the loop knows of the first monomial
-IsMonomial-items : (m : Powers) (terms : Terms) (t : Powers × ℤ) → m ≡ (get_or terms 0 t).0 → 0 < length terms → t ≡ get_or terms 0 t → AllKeys IsMonomial terms → IsMonomial m
+IsMonomial-items : (m : Powers) (terms : Summands) (t : Powers × ℤ) → m ≡ (get_or terms 0 t).0 → 0 < length terms → t ≡ get_or terms 0 t → AllKeys IsMonomial terms → IsMonomial m
 IsMonomial-items m terms t is some at all = subst IsMonomial (ap (λ (x : Powers × ℤ). x.0) at ∙ sym is) (IsMonomial-first terms t some at all)
 
-IsAbove-items : (known : List Var) (m : Powers) (terms : Terms) (t : Powers × ℤ) → m ≡ (get_or terms 0 t).0 → 0 < length terms → t ≡ get_or terms 0 t → AllKeys IsMonomial terms → IsAbove (common_exponent known terms) m
+IsAbove-items : (known : List Var) (m : Powers) (terms : Summands) (t : Powers × ℤ) → m ≡ (get_or terms 0 t).0 → 0 < length terms → t ≡ get_or terms 0 t → AllKeys IsMonomial terms → IsAbove (common_exponent known terms) m
 IsAbove-items known m terms t is some at all =
     subst (IsAbove (common_exponent known terms)) (ap (λ (x : Powers × ℤ). x.0) at ∙ sym is) (IsAbove-first known terms t some at (IsMonomial-first terms t some at all))
 

@@ -2,7 +2,7 @@ use Rattle.std.proofs.Common.{◌≡◌, ℕ, ◌+◌, pos, take, unsigned_abs, 
 use Rattle.std.specs.Int.{w128, ◌∣◌}
 use Rattle.std.proofs.lemmas.Int.{ints, to_z-of_z}
 use Rattle.std.proofs.lemmas.List.{take_all}
-use Rattle.geo_poly.specs.Polynomials.{Terms}
+use Rattle.geo_poly.specs.Polynomials.{Summands}
 use Rattle.geo_poly.specs.Factors.{DividesAll}
 use Rattle.geo_poly.proofs.Cuts.{more_divides, more_greatest}
 use Rattle.geo_poly.proofs.division.content.Goals as goal
@@ -31,9 +31,9 @@ loop-coefficient-preserved c =
 pub returns-clause-divides : goal.returns-clause-divides
 returns-clause-divides c =
     let whole = take_all c.loop-coefficient.coefficient-index c.args.terms.now c.loop-coefficient-test.false in
-    subst (λ (q : Terms). DividesAll (unsigned_abs (to_z w128 c.loop-coefficient.divisor-bits)) q) whole c.loop-coefficient.invariant.divides
+    subst (λ (q : Summands). DividesAll (unsigned_abs (to_z w128 c.loop-coefficient.divisor-bits)) q) whole c.loop-coefficient.invariant.divides
 
 pub returns-clause-greatest : goal.returns-clause-greatest
 returns-clause-greatest c = λ d all.
     let whole = take_all c.loop-coefficient.coefficient-index c.args.terms.now c.loop-coefficient-test.false in
-    c.loop-coefficient.invariant.greatest d (subst (λ (q : Terms). DividesAll d q) (sym whole) all)
+    c.loop-coefficient.invariant.greatest d (subst (λ (q : Summands). DividesAll d q) (sym whole) all)

@@ -1,6 +1,6 @@
 use Rattle.std.proofs.Common.{◌≡◌, ◌≤◌, min, All, ℤ, ap, subst, ◌∙◌}
 use Rattle.std.proofs.lemmas.List.{take_all}
-use Rattle.geo_poly.specs.Polynomials.{Terms}
+use Rattle.geo_poly.specs.Polynomials.{Summands}
 use Rattle.geo_poly.specs.Monomials.{Powers, exponent}
 use Rattle.geo_poly.proofs.Cuts.{more_at_most, more_reached}
 use Rattle.geo_poly.proofs.division.least_exponent.Goals as goal
@@ -18,7 +18,7 @@ loop-monomial-preserved c =
 pub returns : goal.returns
 returns c = record {
   at_most =
-      subst (λ (q : Terms). All (λ (t : Powers × ℤ). c.loop-monomial.least ≤ exponent c.args.v t.0) q)
+      subst (λ (q : Summands). All (λ (t : Powers × ℤ). c.loop-monomial.least ≤ exponent c.args.v t.0) q)
       (take_all c.loop-monomial.monomial-index c.args.terms.now c.loop-monomial-test.false) c.loop-monomial.invariant.at_most;
   reached = c.loop-monomial.invariant.reached;
 }

@@ -1,6 +1,6 @@
 use Rattle.std.proofs.Common.{◌/◌, length, ◌∙◌, ap, rules}
 use Rattle.std.proofs.lemmas.Result.{IfOk-weaker}
-use Rattle.geo_poly.specs.Polynomials.{Terms, product_of, CanMultiply}
+use Rattle.geo_poly.specs.Polynomials.{Summands, product_of, CanMultiply}
 use Rattle.geo_poly.proofs.ProductLaws.{CanMultiply-take, CanMultiply-drop, halves_fit, product_of_halves, IsCanonical-product_of, single, product_of_one}
 use Rattle.geo_poly.proofs.products.+product_by_halves.Goals as goal
 
@@ -27,7 +27,7 @@ pub returns-in-len1 : goal.returns-in-len1
 returns-in-len1 t c =
     let whole = single c.args.left.now c.term-item.result c.in-len1.len_at_least c.in-len1.len_below c.term-item.is in
     let can : CanMultiply _ c.args.right.now = rw (← whole) at c.requires in
-    IfOk-weaker c.multiples_of.result _ _ (λ v h. h ∙ product_of_one c.term-item.result c.args.right.now can ∙ ap (λ (x : Terms). product_of x c.args.right.now) whole) c.multiples_of.ensures
+    IfOk-weaker c.multiples_of.result _ _ (λ v h. h ∙ product_of_one c.term-item.result c.args.right.now can ∙ ap (λ (x : Summands). product_of x c.args.right.now) whole) c.multiples_of.ensures
 
 pub returns-in_ok-back-in_default : goal.returns-in_ok-back-in_default
 returns-in_ok-back-in_default t c =

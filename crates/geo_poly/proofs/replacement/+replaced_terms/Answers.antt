@@ -4,7 +4,7 @@ use Rattle.std.proofs.lemmas.Int.{to_z-of_z}
 use Rattle.sparse_lists.specs.SparseLists.{IsCanonical}
 use Rattle.geo_poly.specs.Monomials.{Powers}
 use Rattle.std.proofs.lemmas.Result.{IfOk-weaker}
-use Rattle.geo_poly.specs.Polynomials.{Terms, coefficients, term_cmp, polynomial_of}
+use Rattle.geo_poly.specs.Polynomials.{Summands, coefficients, term_cmp, polynomial_of}
 use Rattle.geo_poly.specs.Replace.{replaced_term, replaced_terms}
 use Rattle.geo_poly.proofs.ProductLaws.{single}
 use Rattle.geo_poly.proofs.ReplaceTerms.{CanReplace-take, CanReplace-drop, replaced_halves, replaced_halves_fit, replaced_of_one, IsCanonical-polynomial_of}
@@ -42,7 +42,7 @@ returns-in_ok-rest-in-len1 t c =
     let in_order : IsCanonical term_cmp coefficients (term ∷ []) = subst (IsCanonical term_cmp coefficients) (sym whole) c.requires.in_order in
     IfOk-weaker c.replaced_term.result _ _
     (λ v h. h ∙ ap (replaced_term rows den c.args.top) same ∙ replaced_of_one rows den c.args.top term in_order.0
-    ∙ ap (λ (x : Terms). polynomial_of (replaced_terms rows den c.args.top x)) whole)
+    ∙ ap (λ (x : Summands). polynomial_of (replaced_terms rows den c.args.top x)) whole)
     c.replaced_term.ensures
 
 pub returns-in_ok-back-in_default : goal.returns-in_ok-back-in_default

@@ -6,7 +6,7 @@ use Rattle.geo_poly.specs.declared.variables.Var.{Var}
 use Rattle.geo_poly.specs.declared.variables.Var.TheVariants.{R}
 use Rattle.geo_poly.specs.declared.replacement.Row.{Row}
 use Rattle.geo_poly.specs.Monomials.{Powers, degree_of}
-use Rattle.geo_poly.specs.Polynomials.{Terms}
+use Rattle.geo_poly.specs.Polynomials.{Summands}
 use Rattle.geo_poly.specs.Replace.{row_of, others, weight_rows, degree_rows}
 use Rattle.sparse_lists.proofs.Merging.{drop_at, get_or_any}
 use Rattle.geo_poly.proofs.ReplaceLoop.{Progress, bounded_row, Progress-none, Progress-some, row_fits, rows_weight_fits}
@@ -20,7 +20,7 @@ abbrev at : Powers → ℕ → Var × ℕ
 at m i = get_or m i none
 
 -- the progress, with the variable of this turn shown
-shown : (rows : List Row) (top : ℕ) (m : Powers) (k : ℤ) (i : ℕ) (p : Terms) (missing : ℕ) → i < length m → Progress rows top m k (drop i m) p missing → Progress rows top m k (at m i ∷ drop (i + 1) m) p missing
+shown : (rows : List Row) (top : ℕ) (m : Powers) (k : ℤ) (i : ℕ) (p : Summands) (missing : ℕ) → i < length m → Progress rows top m k (drop i m) p missing → Progress rows top m k (at m i ∷ drop (i + 1) m) p missing
 shown rows top m k i p missing h progress =
     subst (λ left. Progress rows top m k left p missing) (drop_at m i (at m i) h (get_or_any m i none (at m i) h)) progress
 

@@ -4,7 +4,7 @@ use Rattle.std.proofs.lemmas.List.{length-map, take_more, take-append-drop}
 use Rattle.sparse_lists.proofs.Merging.{drop_at, get_or_any}
 use Rattle.geo_poly.specs.declared.variables.Var.{Var}
 use Rattle.geo_poly.specs.declared.variables.Var.TheVariants.{R}
-use Rattle.geo_poly.specs.Polynomials.{Terms}
+use Rattle.geo_poly.specs.Polynomials.{Summands}
 use Rattle.geo_sample.specs.Tries.{AreMade, EndIn, single_tries}
 use Rattle.geo_sample.specs.Samples.{specialised_by}
 use Rattle.geo_sample.specs.Inner.{change}
@@ -30,7 +30,7 @@ returns-in_err-changes-clause-stopped c =
     let mid = c.loop-value.budget.left in
     let rest = c.try_value.new.budget.left in
     let p = err_from_is_err_and c.from_residual-in_err-changes.result c.from_residual-in_err-changes.ensures.1 in
-    let stop = subst (λ (qs : List Terms). EndIn e mid (single_try x qs ∷ []) rest) (c.deref.ensures.value ∙ c.loop-value.invariant.current) c.in_err-changes.ensures.stopped in
+    let stop = subst (λ (qs : List Summands). EndIn e mid (single_try x qs ∷ []) rest) (c.deref.ensures.value ∙ c.loop-value.invariant.current) c.in_err-changes.ensures.stopped in
     if_err _ c.from_residual-in_err-changes.result e p.0 p.1 p.2
     (subst (λ (ys : List (Var × ℤ)). EndIn e left (single_tries ys ps) rest) (parts xs i c.loop-value-test.true)
     (stopped_single e x ps (take i xs) (drop (i + 1) xs) left mid rest c.loop-value.invariant.made stop))
@@ -51,7 +51,7 @@ loop-value-preserved c =
     let rest = c.try_value.new.budget.left in
     let more : take (i + 1) xs ≡ take i xs ++ x ∷ [] = take_more xs i none c.loop-value-test.true in
     let before : c.deref.result.now ≡ specialised_by (take i xs) ps = c.deref.ensures.value ∙ c.loop-value.invariant.current in
-    let made = subst (λ (qs : List Terms). AreMade mid (single_try x qs ∷ []) rest) before c.in_ok-changes.ensures.made in
+    let made = subst (λ (qs : List Summands). AreMade mid (single_try x qs ∷ []) rest) before c.in_ok-changes.ensures.made in
     let next =
     put_all x.0 x.1 (specialised_by (take i xs) ps) c.deref.result.now c.loop-value.current.items c.put_together-current.result.items c.in_ok-changes.changes.items
     (collected_by (take i xs) ps (collected_polynomials ps c.are_valid.ensures.valid)) before c.loop-value.invariant.current c.in_ok-changes.ensures.changes c.put_together-current.ensures in

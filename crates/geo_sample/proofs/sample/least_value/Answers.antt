@@ -1,7 +1,7 @@
 use Rattle.std.proofs.Common.{ℕ, pos, Option, List, ◌∷◌, [], refl, sym, subst, ◌∙◌, arith, add-one}
 use Rattle.std.proofs.lemmas.Result.{err_from_is_err_and}
 use Rattle.std.proofs.lemmas.Bool.{false≢true}
-use Rattle.geo_poly.specs.Polynomials.{Terms}
+use Rattle.geo_poly.specs.Polynomials.{Summands}
 use Rattle.geo_sample.specs.Tries.{AreMade, tries_below}
 use Rattle.geo_sample.specs.Inner.{NoneBecomesZero}
 use Rattle.geo_sample.proofs.Changes.{becomes_from_zero, zero_from_becomes}
@@ -72,7 +72,7 @@ loop-changes-preserved c =
     let left = c.args.budget.now.left in
     let rest = c.try_natural.new.budget.left in
     let gone : NoneBecomesZero c.deref.result.now → ⊥ = λ h. false≢true (sym c.if-none_becomes_zero.false ∙ c.none_becomes_zero.ensures.1 h) in
-    let here = subst (λ (cs : List (Option Terms)). NoneBecomesZero cs → ⊥) (c.deref.ensures.value ∙ c.in_ok-changes.ensures.changes) gone in
+    let here = subst (λ (cs : List (Option Summands)). NoneBecomesZero cs → ⊥) (c.deref.ensures.value ∙ c.in_ok-changes.ensures.changes) gone in
     record {
       lost = λ j lt keeps. one_more_lost v ps k c.loop-changes.invariant.lost (λ h. here (becomes_from_zero v (pos k) ps h)) j (omega (arith, lt)) keeps;
       made =

@@ -5,7 +5,7 @@ use Rattle.std.proofs.lemmas.List.Elements.{All-push}
 use Rattle.sparse_lists.proofs.Merging.{drop_at, get_or_any}
 use Rattle.geo_poly.specs.declared.variables.Var.{Var}
 use Rattle.geo_poly.specs.declared.variables.Var.TheVariants.{R}
-use Rattle.geo_poly.specs.Polynomials.{Terms}
+use Rattle.geo_poly.specs.Polynomials.{Summands}
 use Rattle.geo_poly.specs.Specialise.{IsCollected, NoneZero}
 use Rattle.geo_sample.specs.declared.errors.SampleError.TheVariants.{NoMemory}
 use Rattle.geo_sample.specs.Tries.{AreMade, EndIn, search_tries, tries_below}
@@ -48,7 +48,7 @@ returns-in_err-value-clause-stopped c =
     let rest = c.least_value.new.budget.left in
     let p = err_from_is_err_and c.from_residual-in_err-value.result c.from_residual-in_err-value.ensures.1 in
     let stop =
-    subst (λ (qs : List Terms). (k : ℕ) × IsLeastValue v qs (pos k) × EndIn e mid (tries_below (suc k) v qs) rest)
+    subst (λ (qs : List Summands). (k : ℕ) × IsLeastValue v qs (pos k) × EndIn e mid (tries_below (suc k) v qs) rest)
     (c.deref.ensures.value ∙ c.loop-v.invariant.current) c.in_err-value.ensures.stopped in
     if_err _ c.from_residual-in_err-value.result e p.0 p.1 p.2
     (subst (λ (ws : List Var). SearchEndsIn e ws ps left rest) (parts vs i c.loop-v-test.true)
@@ -67,8 +67,8 @@ returns-in_err-push-clause-stopped c =
     let rest = c.least_value.new.budget.left in
     let p = err_from_is_err_and c.from_residual-in_err-push.result c.from_residual-in_err-push.ensures.1 in
     let before : c.deref.result.now ≡ specialised_by c.loop-v.values.items c.args.polys.now = c.deref.ensures.value ∙ c.loop-v.invariant.current in
-    let value = subst (λ (qs : List Terms). IsLeastValue v qs (pos k)) before c.in_ok-value.ensures.least in
-    let made = subst (λ (qs : List Terms). AreMade mid (tries_below (suc k) v qs) rest) before c.in_ok-value.ensures.made in
+    let value = subst (λ (qs : List Summands). IsLeastValue v qs (pos k)) before c.in_ok-value.ensures.least in
+    let made = subst (λ (qs : List Summands). AreMade mid (tries_below (suc k) v qs) rest) before c.in_ok-value.ensures.made in
     if_err _ c.from_residual-in_err-push.result NoMemory p.0 p.1 p.2
     (subst (λ (ws : List Var). SearchEndsIn NoMemory ws ps left rest) (parts vs i c.loop-v-test.true)
     (stopped_search NoMemory (take i vs) (drop (i + 1) vs) v ps xs left mid rest (collected_polynomials ps c.are_valid.ensures.valid) c.loop-v.invariant.least c.loop-v.invariant.made
@@ -90,8 +90,8 @@ loop-v-preserved c =
     let mid = c.loop-v.budget.left in
     let rest = c.least_value.new.budget.left in
     let before : c.deref.result.now ≡ specialised_by c.loop-v.values.items c.args.polys.now = c.deref.ensures.value ∙ c.loop-v.invariant.current in
-    let value = subst (λ (qs : List Terms). IsLeastValue v qs (pos k)) before c.in_ok-value.ensures.least in
-    let made = subst (λ (qs : List Terms). AreMade mid (tries_below (suc k) v qs) rest) before c.in_ok-value.ensures.made in
+    let value = subst (λ (qs : List Summands). IsLeastValue v qs (pos k)) before c.in_ok-value.ensures.least in
+    let made = subst (λ (qs : List Summands). AreMade mid (tries_below (suc k) v qs) rest) before c.in_ok-value.ensures.made in
     let items : c.push.new.self.items ≡ xs ++ (v, pos k) ∷ [] = c.in_ok-push.ensures.items ∙ ap (λ (x : Var × ℤ). xs ++ x ∷ []) c.pair.ensures in
     let more : take (i + 1) vs ≡ take i vs ++ v ∷ [] = take_more vs i none c.loop-v-test.true in
     let next =

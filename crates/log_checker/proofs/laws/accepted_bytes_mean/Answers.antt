@@ -1,4 +1,4 @@
-use Rattle.log_checker.proofs.Accepted.{accepted_bytes_mean}
+use Rattle.log_checker.proofs.AcceptedBytes.{accepted_bytes_mean}
 use Rattle.log_checker.proofs.laws.accepted_bytes_mean.Goals as goal
 
 pub returns : goal.returns

@@ -1,4 +1,4 @@
-use Rattle.log_checker.proofs.Accepted.{programs_have_defined_logs}
+use Rattle.log_checker.proofs.AcceptedBytes.{programs_have_defined_logs}
 use Rattle.log_checker.proofs.laws.programs_have_defined_logs.Goals as goal
 
 pub returns : goal.returns

@@ -1,4 +1,4 @@
-use Rattle.log_checker.proofs.Accepted.{programs_have_subjects}
+use Rattle.log_checker.proofs.AcceptedBytes.{programs_have_subjects}
 use Rattle.log_checker.proofs.laws.programs_have_subjects.Goals as goal
 
 pub returns : goal.returns

@@ -1,7 +1,7 @@
 use Rattle.std.proofs.Common.{◌≡◌, ℕ, Bool, IsTrue, List, [], ◌∷◌, None, ap, subst, sym, ◌∙◌}
 use Rattle.std.specs.Prelude.{IfOk, option_map}
 use Rattle.std.proofs.lemmas.Result.{IfOk-weaker}
-use Rattle.geo_parser.specs.declared.cursor.Piece.TheVariants.{Word}
+use Rattle.geo_parser.specs.declared.cursor.Symbol.TheVariants.{Word}
 use Rattle.geo_parser.specs.declared.expression_words.ExpressionWord.TheVariants.{PythagorasDifference, Ratio, SignedArea}
 use Rattle.geo_parser.specs.Inner.Coming.{Coming}
 use Rattle.geo_parser.specs.Forms.{Slot, close_slot, due_behind, expression_slot, expressions, open_slot}

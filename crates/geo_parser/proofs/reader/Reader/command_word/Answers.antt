@@ -1,7 +1,7 @@
 use Rattle.std.proofs.Common.{◌≡◌, false, None, codes, ap, sym, ◌∙◌}
 use Rattle.std.specs.Prelude.{option_map}
 use Rattle.std.specs.Str.{bytes_eq}
-use Rattle.geo_parser.specs.declared.cursor.Piece.TheVariants.{Word}
+use Rattle.geo_parser.specs.declared.cursor.Symbol.TheVariants.{Word}
 use Rattle.geo_parser.specs.Inner.CommandWords.{command_due}
 use Rattle.geo_parser.specs.Forms.{commands, due_behind}
 use Rattle.geo_parser.specs.Texts.{is_text}

@@ -1,9 +1,9 @@
 use Rattle.std.proofs.Common.{[], ◌∷◌, List, ℕ, sym, ap, refl, subst, arith, length, ◌<◌}
 use Rattle.geo_lexer.specs.Lexemes.{word_lexeme}
 use Rattle.geo_parser.specs.Inner.Coming.{Coming}
-use Rattle.geo_parser.specs.declared.cursor.Piece.TheVariants.{Word}
+use Rattle.geo_parser.specs.declared.cursor.Symbol.TheVariants.{Word}
 use Rattle.geo_parser.specs.Forms.{name_slot}
-use Rattle.geo_parser.specs.Inner.Pieces.{refusal_number}
+use Rattle.geo_parser.specs.Inner.Symbols.{refusal_number}
 use Rattle.geo_parser.specs.Inner.Reads.{Reads, extent, reading}
 use Rattle.geo_parser.proofs.Reading.{length-tail, Reads-token, Refuses-answer, Refuses-token, next_piece}
 use Rattle.geo_parser.proofs.reader.Reader.name.Goals as goal

@@ -1,9 +1,9 @@
 use Rattle.std.proofs.Common.{◌≡◌, ◌+◌, true, false, sym, subst, arith}
 use Rattle.std.specs.Prelude.{nat_le}
 use Rattle.std.proofs.lemmas.Bool.Decides.{nat_tests}
-use Rattle.geo_parser.specs.declared.cursor.Piece.TheVariants.{Word}
+use Rattle.geo_parser.specs.declared.cursor.Symbol.TheVariants.{Word}
 use Rattle.geo_parser.specs.Inner.Coming.{Coming}
-use Rattle.geo_parser.specs.Inner.Pieces.{IsWord, refusal_number}
+use Rattle.geo_parser.specs.Inner.Symbols.{IsWord, refusal_number}
 use Rattle.geo_parser.specs.Inner.Reads.{ReadsNewName}
 use Rattle.geo_parser.proofs.CommandReading.{ReadsNewName-token, Refuses-no_new_name, Refuses-points}
 use Rattle.geo_parser.proofs.Reading.{Refuses-answer, next_piece, valid_piece}

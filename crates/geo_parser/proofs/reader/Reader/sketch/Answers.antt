@@ -1,6 +1,6 @@
 use Rattle.std.proofs.Common.{[], ◌∷◌, Some, refl, subst}
 use Rattle.geo_lexer.specs.Lexemes.{number_lexeme}
-use Rattle.geo_parser.specs.declared.cursor.Piece.TheVariants.{Number}
+use Rattle.geo_parser.specs.declared.cursor.Symbol.TheVariants.{Number}
 use Rattle.geo_parser.specs.Inner.Coming.{Coming}
 use Rattle.geo_parser.specs.Forms.{second_number_slot, sketch_slot}
 use Rattle.geo_parser.specs.Inner.Reads.{ReadsSecond, Refuses}

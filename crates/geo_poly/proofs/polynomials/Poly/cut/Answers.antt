@@ -1,13 +1,13 @@
 use Rattle.std.proofs.Common.{◌≡◌, ◌<◌, ◌^◌, ℤ, inl, inr, [], ◌∷◌, length, get_or, unsigned_abs, FitsSigned, to_z, sym, subst, ◌∙◌, rules, arith}
 use Rattle.std.specs.Int.{w128}
 use Rattle.std.proofs.lemmas.Int.{ints, to_z-of_z}
-use Rattle.geo_poly.specs.Polynomials.{Terms, IsPolynomial}
+use Rattle.geo_poly.specs.Polynomials.{Summands, IsPolynomial}
 use Rattle.geo_poly.specs.Factors.{IsFactorOf, leading_coefficient}
 use Rattle.geo_poly.proofs.SignedContent.{IsSigned, leading_coefficient-is, IsFactor-signed, IsFactorOf-signed, negated_number, is_negative, is_not_negative}
 use Rattle.geo_poly.proofs.polynomials.Poly.cut.Goals as goal
 use Rattle.geo_poly.proofs.polynomials.Poly.cut.Goals.{In_ok-monomial, then-terms-lt0, else-terms-lt0}
 
-some_terms : (p q : Terms) → p ≡ q → (q ≡ [] → ⊥) → 0 < length p
+some_terms : (p q : Summands) → p ≡ q → (q ≡ [] → ⊥) → 0 < length p
 some_terms [] q e n = absurd (n (sym e))
 some_terms (t ∷ ts) q e n = omega arith
 
@@ -44,5 +44,5 @@ invariant_of-result c =
 
 pub returns : goal.returns
 returns c =
-    subst (λ (x : Terms). IsFactorOf c.args.known.now x (c.in_ok-monomial.monomial, to_z w128 c.if-terms-lt0.coefficient-bits)) (c.as_slice-terms.ensures.value ∙ c.self.view_is)
+    subst (λ (x : Summands). IsFactorOf c.args.known.now x (c.in_ok-monomial.monomial, to_z w128 c.if-terms-lt0.coefficient-bits)) (c.as_slice-terms.ensures.value ∙ c.self.view_is)
     (IsFactorOf-signed c.args.known.now c.as_slice-terms.result.now c.in_ok-monomial.monomial c.content-divisor.result (to_z w128 c.if-terms-lt0.coefficient-bits) (whole c) (some c) c.content-divisor.ensures.positive c.content-divisor.ensures.divides c.content-divisor.ensures.greatest (signed c) c.in_ok-monomial.ensures.monomial c.in_ok-monomial.ensures.known c.in_ok-monomial.ensures.others)

@@ -1,19 +1,19 @@
 use Rattle.std.proofs.Common.{◌≡◌, true, false, ap, sym, subst, ◌∙◌, ◌++◌}
 use Rattle.std.specs.Prelude.{Err, codes}
 use Rattle.proof_log.specs.declared.errors.LineError.TheVariants.{BadLine}
-use Rattle.geo_poly.specs.Polynomials.{Terms}
+use Rattle.geo_poly.specs.Polynomials.{Summands}
 use Rattle.proof_log.specs.Inner.Growing.{PushesTerm, RefusesTerm}
 use Rattle.proof_log.proofs.Growth.{bad_error, first_term_refused, from_err, from_ok_or, terms_begin, terms_end, terms_no_space, terms_refused, terms_step}
 use Rattle.proof_log.proofs.reader.Reader.all_terms.Goals as goal
 
 pub returns-in_err-norm-clause-bad : goal.returns-in_err-norm-clause-bad
 returns-in_err-norm-clause-bad c = λ is.
-    let P : Terms → Type 0 = λ l. RefusesTerm c.args.self.now l in
+    let P : Summands → Type 0 = λ l. RefusesTerm c.args.self.now l in
     first_term_refused c.args.self.now c.requires (subst P c.new.ensures.items (c.in_err-norm.ensures.bad (ap Err (bad_error c.from_residual.result c.in_err-norm.field-0.0 BadLine c.from_residual.ensures.1 is))))
 
 pub loop-alloc-init : goal.loop-alloc-init
 loop-alloc-init c =
-    let P : Terms → Type 0 = λ l. PushesTerm c.args.self.now c.push_term.new.self l c.push_term.new.list c.in_ok-norm.norm in
+    let P : Summands → Type 0 = λ l. PushesTerm c.args.self.now c.push_term.new.self l c.push_term.new.list c.in_ok-norm.norm in
     terms_begin c.args.self.now c.push_term.new.self c.push_term.new.list c.in_ok-norm.norm (subst P c.new.ensures.items c.in_ok-norm.ensures.read)
 
 pub returns-in_err-ok_or-clause-bad : goal.returns-in_err-ok_or-clause-bad

@@ -1,0 +1,41 @@
+//! The texts that a run writes besides logs.
+ghost use Rattle.std.specs.Prelude.{◌≡◌, ◌≤◌, IfOk};
+ghost use Rattle.geo_cli.specs.Due.{syntax_line};
+ghost use Rattle.geo_cli.specs.Run.{IsAnswered};
+
+use crate::status::Status;
+use geo_base::{PutError, Sink, Text, push_decimal, write_all};
+use geo_lexer::Fault;
+use geo_points::NoMemory;
+use std::alloc::Global;
+
+/// The line for words that are no command.
+pub const USAGE: &[u8] = b"usage: geo_cli COMMAND [NUMBER] [--steps N]\n";
+
+/// The line for an input that is longer than its limit.
+pub const TOO_LONG: &[u8] = b"too long\n";
+
+/// Writes the text, and gives the status that is answered then.
+pub fn answer<K: Sink>(sink: &mut K, text: &[u8], status: Status) -> Status
+    ensures answered { IsAnswered (record { text = text.now; status = status }) result
+        (K.faults sink.old) (K.faults sink.new) (K.held sink.old) (K.held sink.new) }
+    ensures faults { K.faults sink.old ≤ K.faults sink.new }
+{
+    match write_all(sink, text) {
+        Ok(()) => status,
+        Err(PutError::Failed) => Status::WriteFault,
+        Err(PutError::NoMemory) => Status::NoMemory,
+    }
+}
+
+/// The line that tells a refusal and its place.
+pub fn syntax_line(alloc: Global, fault: Fault) -> Result<Text, NoMemory>
+    ensures { IfOk result (λ line. line ≡ syntax_line fault) }
+{
+    let mut bytes = Vec::from_slice(alloc, b"syntax ")?;
+    push_decimal(alloc, &mut bytes, fault.refusal as i128).map_err(|_| NoMemory)?;
+    bytes.extend_from_slice(b" at ")?;
+    push_decimal(alloc, &mut bytes, fault.place as i128).map_err(|_| NoMemory)?;
+    bytes.push(b'\n')?;
+    Ok(Text { bytes })
+}

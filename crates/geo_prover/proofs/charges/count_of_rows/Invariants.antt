@@ -1,9 +1,0 @@
-use Rattle.std.proofs.Common.{◌≡◌, ◌+◌, ◌-◌, ◌^◌, ◌≤◌, min, drop}
-use Rattle.std.specs.Prelude.{sum_by}
-use Rattle.geo_prover.proofs.charges.count_of_rows.Given as goal
-
-abbrev pub invariant-loop-row : goal.invariant-loop-row
-invariant-loop-row l = record {
-  fits : l.counts ≤ 2 ^ 128 - 1;
-  so_far : min (l.counts + sum_by (λ r. r.num.count) (drop l.row-index l.rows)) (2 ^ 128 - 1) ≡ min (sum_by (λ r. r.num.count) l.rows) (2 ^ 128 - 1);
-}

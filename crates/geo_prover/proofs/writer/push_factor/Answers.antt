@@ -1,9 +1,0 @@
-use Rattle.std.specs.Fmt.{signed_decimal}
-use Rattle.geo_prover.specs.Lines.{power_text}
-use Rattle.geo_prover.proofs.Joined.{appended_next, grown}
-use Rattle.geo_prover.proofs.writer.push_factor.Goals as goal
-
-pub loop-j-preserved : goal.loop-j-preserved
-loop-j-preserved c =
-    let next = appended_next (signed_decimal c.args.factor.now.1) power_text c.args.factor.now.0 c.loop-j.j c.power-variable.result c.power-variable.ensures in
-    grown _ _ _ _ _ _ c.loop-j.invariant c.in_ok-push_power.ensures next

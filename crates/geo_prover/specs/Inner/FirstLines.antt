@@ -1,0 +1,43 @@
+-- The header and the lines of the program.
+use Rattle.std.specs.Prelude.{◌≡◌, ℕ, ◌+◌, ◌<◌, ◌≤◌, List, [], ◌∷◌, ◌++◌, length, take}
+use Rattle.std.specs.List.{flat_map}
+use Rattle.geo_base.specs.Devices.{Grows, HasRisen}
+use Rattle.geo_logs.specs.Ends.{text_length}
+use Rattle.proof_log.specs.declared.log.Line.{Line}
+use Rattle.proof_log.specs.Lines.{log_text}
+use Rattle.geo_prover.specs.declared.errors.ProveError.{ProveError}
+use Rattle.geo_prover.specs.declared.errors.ProveError.TheVariants.{TooLarge, Spent, TooLong, WriteFault, NoMemory}
+use Rattle.geo_prover.specs.Inner.Written.{State}
+
+-- texts, each with its line feed
+abbrev pub pieces : List (List ℕ) → List ℕ
+pieces texts = flat_map (λ text. text ++ 10 ∷ []) texts
+
+-- some of the lines were written, and the next one takes the text past its limit
+pub record IsTooLongAmong (all : List Line) (s t : State) : Type 0 where
+  pub before : List Line
+  pub line : Line
+  pub rest : List Line
+  pub split : all ≡ before ++ line ∷ rest
+  pub fits : s.bytes + text_length before ≤ 67108864
+  pub long : 67108864 < s.bytes + text_length (before ++ line ∷ [])
+  pub written : Grows s.held (log_text before) t.held
+  pub faults : s.faults ≤ t.faults
+
+-- some of the lines were written, within the limit, the last of them perhaps in part
+pub record IsPartAmong (all : List Line) (s t : State) : Type 0 where
+  pub before : List Line
+  pub rest : List Line
+  pub count : ℕ
+  pub split : all ≡ before ++ rest
+  pub fits : s.bytes + text_length before ≤ 67108864
+  pub written : Grows s.held (take count (log_text before)) t.held
+  pub faults : s.faults ≤ t.faults
+
+-- where the writing of lines breaks off, and why
+abbrev pub IsBrokenOffAmong : List Line → State → State → ProveError → Type 0
+IsBrokenOffAmong all s t (TooLarge n which) = ⊥
+IsBrokenOffAmong all s t (Spent n) = ⊥
+IsBrokenOffAmong all s t TooLong = IsTooLongAmong all s t
+IsBrokenOffAmong all s t WriteFault = IsPartAmong all s t × HasRisen s.faults t.faults
+IsBrokenOffAmong all s t NoMemory = IsPartAmong all s t

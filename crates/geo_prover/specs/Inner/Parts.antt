@@ -1,0 +1,85 @@
+-- The parts of the prover's log over the lemma table: how each begins, and what it is whole.
+use Rattle.std.specs.Prelude.{◌≡◌, ℕ, ◌+◌, ◌≤◌, List, [], ◌++◌, length, map}
+use Rattle.geo_conditions.specs.declared.items.Item.{Item as ListedItem}
+use Rattle.geo_conditions.specs.Lists.{item_form}
+use Rattle.geo_poly.specs.declared.variables.Var.{Var}
+use Rattle.geo_poly.specs.Polynomials.{Summands}
+use Rattle.geo_terms.specs.Constructions.{Construction}
+use Rattle.geo_terms.specs.Stores.{Store}
+use Rattle.geo_terms.specs.TermBounds.{IsTermBelow}
+use Rattle.geo_terms.specs.Trees.{Tree}
+use Rattle.proof_log.specs.declared.log.Line.{Line}
+use Rattle.proof_log.specs.declared.log.Verdict.{Verdict}
+use Rattle.proof_log.specs.Writable.{IsWritable}
+use Rattle.elim_apply.specs.LemmaTable.{lemma_table}
+use Rattle.geo_logs.specs.Defined.{IsDefinedChain, IsLogOfProver, LeadsBySteps}
+use Rattle.geo_logs.specs.Ends.{IsNext, comes, text_length}
+use Rattle.geo_logs.specs.Logs.{AreConditionsWorked, AreGoalsWorked, IsConcluded, Item, Subject}
+use Rattle.geo_logs.specs.Places.{AreConditionsBegun, AreGoalsBegun, IsBegun, IsBegunChain, IsBegunEnd, Place}
+use Rattle.geo_logs.specs.Samples.{IsLeastSample}
+use Rattle.log_checker.specs.Subjects.{log_item}
+
+-- PARTS
+-- the lines that begin a part of a log, each list with the place after it; and those that are all of it and of the log, with the verdict and
+-- the steps that are left
+pub record Part : Type 1 where
+  pub begun : List Line → Place → Type 0
+  pub whole : List Line → Verdict → ℕ → Type 0
+
+-- the chain of a term, behind which something else follows
+abbrev pub chain_part : Construction → Line → List Var → ℕ → Tree → Part
+chain_part c header known left e = record {
+  begun = IsBegunChain (LeadsBySteps lemma_table c) (IsDefinedChain lemma_table c) (IsLeastSample c) header known left e;
+  whole = λ lines verdict left'. ⊥;
+}
+
+-- the sample and the verdict
+abbrev pub end_part : Construction → List Summands → Verdict → ℕ → Part
+end_part c listed verdict left = record {
+  begun = IsBegunEnd (LeadsBySteps lemma_table c) (IsDefinedChain lemma_table c) (IsLeastSample c) listed verdict left;
+  whole = λ lines other left'. (other ≡ verdict) × IsConcluded (IsDefinedChain lemma_table c) (IsLeastSample c) listed left lines verdict left';
+}
+
+-- the goals from number k on, and what follows
+abbrev pub goals_part : Construction → List Var → List Summands → ℕ → ℕ → List Item → Part
+goals_part c known listed k left items = record {
+  begun = AreGoalsBegun (LeadsBySteps lemma_table c) (IsDefinedChain lemma_table c) (IsLeastSample c) known listed k left items;
+  whole = AreGoalsWorked (IsDefinedChain lemma_table c) (IsLeastSample c) known listed k left items;
+}
+
+-- the conditions from number k on, and what follows
+abbrev pub conditions_part : Construction → List Item → List Var → List Summands → ℕ → ℕ → List Item → Part
+conditions_part c goals known listed k left items = record {
+  begun = AreConditionsBegun (LeadsBySteps lemma_table c) (IsDefinedChain lemma_table c) (IsLeastSample c) goals known listed k left items;
+  whole = AreConditionsWorked (IsDefinedChain lemma_table c) (IsLeastSample c) goals known listed k left items;
+}
+
+-- the log
+abbrev pub log_part : Subject → ℕ → Part
+log_part subject steps =
+    let c = subject.construction in
+    record {
+      begun = IsBegun (LeadsBySteps lemma_table c) (IsDefinedChain lemma_table c) (IsLeastSample c) subject steps;
+      whole = IsLogOfProver lemma_table subject steps;
+    }
+
+-- behind these lines a part goes on as another
+pub record Continues (part next : Part) (lines : List Line) : Type 0 where
+  pub begun : (more : List Line) (place : Place) → next.begun more place → part.begun (lines ++ more) place
+  pub whole : (more : List Line) (verdict : Verdict) (left : ℕ) → next.whole more verdict left → part.whole (lines ++ more) verdict left
+
+-- each line that comes next in the part may be written, where the text before it is within the limit
+abbrev pub CanWrite : Construction → Part → ℕ → Type 0
+CanWrite c part bytes =
+    (lines : List Line) (place : Place) (line : Line) → part.begun lines place → IsNext lemma_table c place (comes line)
+    → bytes + text_length lines ≤ 67108864
+    → IsWritable line
+
+-- ITEMS
+-- listed items as a log takes them
+abbrev pub items_of : Store → List ListedItem → List Item
+items_of nodes items = map log_item (map (item_form nodes) items)
+
+-- the term names points and parameters of the construction
+abbrev pub IsInside : Construction → Tree → Type 0
+IsInside c e = IsTermBelow (length c.steps) c.params e

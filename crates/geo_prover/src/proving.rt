@@ -1,0 +1,94 @@
+//! The log of a program.
+
+ghost use Rattle.std.specs.Prelude.{◌≡◌, ◌≤◌, ℕ, length, IfOk, IsErrOf};
+ghost use Rattle.geo_base.specs.Devices.{HasRisen};
+ghost use Rattle.geo_logs.specs.Ends.{too_long};
+ghost use Rattle.geo_logs.specs.Moves.{spent, too_large};
+ghost use Rattle.geo_poly.specs.declared.limits.Which.{Which};
+ghost use Rattle.geo_program.specs.Programs.{source_of};
+ghost use Rattle.geo_prover.specs.Proving.{Concludes, StopsAt, WritesLog, WritesPart};
+
+use crate::conditions::work_conditions;
+use crate::ending::conclude;
+use crate::errors::ProveError;
+use crate::findings::Findings;
+use crate::goals::work_goals;
+use crate::log_writer::LogWriter;
+use crate::program_lines::write_first_lines;
+use crate::summary::Summary;
+use geo_base::{Budget, Sink};
+use geo_conditions::{Problem, list};
+use geo_lowering::lower;
+use geo_program::Program;
+use proof_log::{Line, Verdict};
+use std::alloc::Global;
+
+/// Writes the defined log of the program, each line as soon as it is made: the header, the program,
+/// the chains of its conditions and goals, the sample and the verdict.
+pub fn prove<K: Sink>(
+    alloc: Global,
+    program: &Program,
+    steps: u64,
+    sink: &mut K,
+) -> Result<Summary, ProveError>
+    ensures verdict { IfOk result (Concludes (source_of program.now) steps
+        (K.held sink.old) (K.held sink.new)) }
+
+    // The last line is that of the stop.
+    ensures spent { (line : ℕ) → result ≡ Err (ProveError.Spent line)
+        → StopsAt (source_of program.now) steps (K.held sink.old) (K.held sink.new) spent line }
+    ensures too_large { (line : ℕ) (which : Which) → result ≡ Err (ProveError.TooLarge line which)
+        → StopsAt (source_of program.now) steps (K.held sink.old) (K.held sink.new)
+        (too_large which) line }
+
+    // The next line is left out.
+    ensures too_long { IsErrOf result ProveError.TooLong
+        → WritesLog (source_of program.now) steps (K.held sink.old) (K.held sink.new) too_long }
+
+    // After both the log was written in part.
+    ensures write_fault { IsErrOf result ProveError.WriteFault
+        → HasRisen (K.faults sink.old) (K.faults sink.new)
+        × WritesPart (source_of program.now) steps (K.held sink.old) (K.held sink.new) }
+    ensures memory { IsErrOf result ProveError.NoMemory
+        → WritesPart (source_of program.now) steps (K.held sink.old) (K.held sink.new) }
+    ensures faults { K.faults sink.old ≤ K.faults sink.new }
+{
+    let lowered = lower(alloc, program)?;
+    let problem = list(alloc, program, lowered)?;
+    let mut budget = Budget { left: steps };
+    let mut log = LogWriter::new();
+    write_first_lines(alloc, program, &mut log, sink)?;
+    let verdict = work(alloc, &problem, &mut budget, &mut log, sink)?;
+    Ok(Summary {
+        verdict,
+        lines: log.lines,
+        charge: steps - budget.left,
+    })
+}
+
+/// Writes the chains, and what follows them.
+fn work<K: Sink>(
+    alloc: Global,
+    problem: &Problem,
+    budget: &mut Budget,
+    log: &mut LogWriter,
+    sink: &mut K,
+) -> Result<Verdict, ProveError> {
+    let mut findings = Findings::new(alloc);
+    if let Some(k) = work_conditions(alloc, problem, &mut findings, budget, log, sink)? {
+        let verdict = Verdict::Impossible(k);
+        log.write(alloc, sink, &Line::Verdict(verdict))?;
+        return Ok(verdict);
+    }
+    let verdict = work_goals(alloc, problem, &mut findings, budget, log, sink)?;
+    conclude(
+        alloc,
+        &problem.steps,
+        &findings.ends,
+        verdict,
+        budget,
+        log,
+        sink,
+    )?;
+    Ok(verdict)
+}

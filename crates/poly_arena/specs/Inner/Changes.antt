@@ -1,0 +1,31 @@
+-- What a step changes, and where a chain is live in the table.
+use Rattle.std.specs.Prelude.{◌≡◌, ℕ, ◌+◌, Option, Some, None, List, slice_get, slice_set}
+use Rattle.poly_arena.specs.declared.nodes.Node.{Node}
+use Rattle.poly_arena.specs.declared.nodes.Free.{Free}
+use Rattle.poly_arena.specs.declared.nodes.Slot.{Slot}
+use Rattle.poly_arena.specs.declared.nodes.Slot.TheVariants.{Live}
+use Rattle.poly_arena.specs.Nodes.{node_at}
+
+-- a chain is live at that number, and begins at `first`
+abbrev pub IsLiveSlot : List Slot → ℕ → Type 0
+IsLiveSlot slots number = (first : Option ℕ) × (slice_get slots number ≡ Some (Live first))
+
+-- the nodes with the node i linked behind the last one of a chain, where it has one
+abbrev pub linked : List Node → Option ℕ → ℕ → List Node
+linked nodes None i = nodes
+linked nodes (Some l) i = slice_set nodes l (record (node_at nodes l) { next = Some i })
+
+-- the first node of the chain then
+abbrev pub first_or : Option ℕ → Option ℕ → ℕ → Option ℕ
+first_or None first i = Some i
+first_or (Some l) first i = first
+
+-- the nodes with one put before the free chain, where there is one to put
+abbrev pub released : List Node → Option ℕ → Option ℕ → List Node
+released nodes free None = nodes
+released nodes free (Some i) = slice_set nodes i (record (node_at nodes i) { next = free })
+
+-- the free chain then
+abbrev pub released_free : Free → Option ℕ → Free
+released_free free None = free
+released_free free (Some i) = record { first = Some i; count = free.count + 1 }
