@@ -1,5 +1,7 @@
 -- Bytes have one readable proof.
 use Rattle.std.proofs.Common.{◌≡◌, ℕ, List, [], ◌∷◌, ◌++◌, refl, sym, ap, ap₂, ◌∙◌, codes}
+use Rattle.geo_points.specs.declared.ids.ParamId.{ParamId}
+use Rattle.geo_points.specs.declared.ids.PointId.{PointId}
 use Rattle.geo_poly.specs.Polynomials.{Summands}
 use Rattle.geo_terms.specs.Constructions.{Construction}
 use Rattle.geo_program.specs.Names.{names_of}
