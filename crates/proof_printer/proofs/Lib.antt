@@ -2,4 +2,3 @@ pub mod Lookups
 pub mod PrintedLines
 pub mod PrintableLogs
 pub mod AcceptedProofs
-pub mod OneProof

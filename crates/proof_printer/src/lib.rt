@@ -2,7 +2,6 @@
 //! stands for each variable.
 #![tactic(auto)]
 
-pub mod laws;
 mod lines;
 mod moves;
 mod name_list;
