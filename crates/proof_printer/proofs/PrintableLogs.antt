@@ -8,7 +8,7 @@ use Rattle.fraction_poly.specs.TableRows.{HasPointsBelow, made_row}
 use Rattle.geo_points.specs.declared.ids.PointId.{PointId}
 use Rattle.geo_poly.specs.declared.variables.Var.{Var}
 use Rattle.geo_poly.specs.declared.variables.Var.TheVariants.{R, S, P, X as Abscissa, Y as Ordinate, T as Number}
-use Rattle.geo_poly.specs.Polynomials.{Terms}
+use Rattle.geo_poly.specs.Polynomials.{Summands}
 use Rattle.geo_poly.specs.PolynomialVariables.{AllVariables, variables_of}
 use Rattle.geo_poly.specs.Variables.{var_cmp}
 use Rattle.geo_poly.proofs.EachVariable.{of-both, of-cut}
@@ -52,11 +52,11 @@ module _ (c : Construction) (construction : IsConstruction c) where
   below (Ordinate a) h = h.0
   below (Number t) h = tt
 
-  all_below : (q : Terms) → AllVariables (IsNamed c points) q → AllVariables (HasPointsBelow points) q
+  all_below : (q : Summands) → AllVariables (IsNamed c points) q → AllVariables (HasPointsBelow points) q
   all_below q h = of-both (IsNamed c points) (IsNamed c points) (HasPointsBelow points) (λ v a b. below v a) q h h
 
   -- MOVES
-  moved : (mv : Move) (left : ℕ) (q r : Terms) → AllVariables (IsNamed c points) q → left < 2 ^ 128 → IsMoved (replacement lemma_table c mv q) left q r → CanMove c q mv
+  moved : (mv : Move) (left : ℕ) (q r : Summands) → AllVariables (IsNamed c points) q → left < 2 ^ 128 → IsMoved (replacement lemma_table c mv q) left q r → CanMove c q mv
   moved mv left q r named few m = record {
     points = all_below q named;
     place = (move_named lemma_table c sound points mv left q r named m).place;
@@ -77,7 +77,7 @@ module _ (c : Construction) (construction : IsConstruction c) where
   same_rows x y (Ordinate a) = refl
   same_rows x y (Number t) = refl
 
-  same_replacement : (w : Var) (x y : PointId) (q : Terms) → replacement lemma_table c (move.Ratio w zero x) q ≡ replacement lemma_table c (move.Ratio w zero y) q
+  same_replacement : (w : Var) (x y : PointId) (q : Summands) → replacement lemma_table c (move.Ratio w zero x) q ≡ replacement lemma_table c (move.Ratio w zero y) q
   same_replacement w x y q = λ i. record {
     rows = filter_map (λ v. option_map (λ r. (made_row v r).0) (if is_eq (var_cmp w v) then same_rows x y v i else None)) (variables_of q);
     den = piece_of (row_denominator (same_rows x y w i));
@@ -85,7 +85,7 @@ module _ (c : Construction) (construction : IsConstruction c) where
   }
 
   -- the line of a move can be printed, and the polynomial behind it is its result
-  step_can : (mv : Move) (left : ℕ) (q r : Terms) → AllVariables (IsNamed c points) q → left < 2 ^ 128 → IsMoved (replacement lemma_table c mv q) left q r
+  step_can : (mv : Move) (left : ℕ) (q r : Summands) → AllVariables (IsNamed c points) q → left < 2 ^ 128 → IsMoved (replacement lemma_table c mv q) left q r
       → CanPrint c q (line_of (moves mv r))
   step_can (move.Ratio v zero at) left q r named few m =
       moved (move.Ratio v zero (record { 0 = 0 })) left q r named few (subst (λ made. IsMoved made left q r) (same_replacement v at (record { 0 = 0 }) q) m)
@@ -93,7 +93,7 @@ module _ (c : Construction) (construction : IsConstruction c) where
   step_can (move.Point at) left q r named few m = moved (move.Point at) left q r named few m
   step_can move.Coords left q r named few m = moved move.Coords left q r named few m
 
-  after_step : (mv : Move) (q r : Terms) → polynomial_after q (line_of (moves mv r)) ≡ r
+  after_step : (mv : Move) (q r : Summands) → polynomial_after q (line_of (moves mv r)) ≡ r
   after_step (move.Ratio v lemma at) q r = refl
   after_step (move.Point at) q r = refl
   after_step move.Coords q r = refl
@@ -101,22 +101,22 @@ module _ (c : Construction) (construction : IsConstruction c) where
   -- CHAINS
   -- the lines can be printed behind any polynomial
   abbrev Anywhere : List Line → Type 0
-  Anywhere lines = (q : Terms) → CanPrintAll c q lines
+  Anywhere lines = (q : Summands) → CanPrintAll c q lines
 
-  steps_can : (known : List Var) (left : ℕ) (q : Terms) (steps : List ChainStep) (left' : ℕ) (e : Terms) (rest : List Line) → AllVariables (IsNamed c points) q → left < 2 ^ 128
+  steps_can : (known : List Var) (left : ℕ) (q : Summands) (steps : List ChainStep) (left' : ℕ) (e : Summands) (rest : List Line) → AllVariables (IsNamed c points) q → left < 2 ^ 128
       → LeadsTo lemma_table c known left q steps left' e → Anywhere rest → CanPrintAll c q ((map line_of steps ++ End ∷ []) ++ rest)
   steps_can known left q [] left' e rest named few leads can = (tt, can q)
   steps_can known left q (moves mv r ∷ steps) left' e rest named few leads can =
       let spent = move_charge (replacement lemma_table c mv q) q in
       let next = steps_can known (left - spent) r steps left' e rest (move_named lemma_table c sound points mv left q r named leads.0).names (omega (arith, few)) leads.1 can in
-      (step_can mv left q r named few leads.0, subst (λ (p : Terms). CanPrintAll c p ((map line_of steps ++ End ∷ []) ++ rest)) (sym (after_step mv q r)) next)
+      (step_can mv left q r named few leads.0, subst (λ (p : Summands). CanPrintAll c p ((map line_of steps ++ End ∷ []) ++ rest)) (sym (after_step mv q r)) next)
   steps_can known left q (cuts f r ∷ steps) left' e rest named few leads can =
       (tt, steps_can known left r steps left' e rest (of-cut (IsNamed c points) known f q r leads.0 named) few leads.1 can)
 
   abbrev IsBelow : Item → Type 0
   IsBelow item = IsTermBelow points c.params item.term
 
-  chain_can : (head : Line) → ((q : Terms) → CanPrint c q head) → (known : List Var) (left : ℕ) (item : Item) (lines : List Line) → IsBelow item → left < 2 ^ 128
+  chain_can : (head : Line) → ((q : Summands) → CanPrint c q head) → (known : List Var) (left : ℕ) (item : Item) (lines : List Line) → IsBelow item → left < 2 ^ 128
       → (first : BeginsWithChain (IsAcceptedChain lemma_table c) (IsAcceptedSample c) head known left item lines) → Anywhere first.rest → Anywhere lines
   chain_can head h known left item lines item_below few first rest =
       let e = item.term in
@@ -129,11 +129,11 @@ module _ (c : Construction) (construction : IsConstruction c) where
   after_few known left item head lines first few =
       let less = chain_spent lemma_table c known left item.term first.chain first.after first.works in omega (arith, less, few)
 
-  concluded_can : (listed : List Terms) (left : ℕ) (lines : List Line) (verdict : Verdict) (left' : ℕ)
+  concluded_can : (listed : List Summands) (left : ℕ) (lines : List Line) (verdict : Verdict) (left' : ℕ)
       → IsConcluded (IsAcceptedChain lemma_table c) (IsAcceptedSample c) listed left lines verdict left' → Anywhere lines
   concluded_can listed left lines verdict left' h = subst Anywhere (sym h.split) (λ q. (tt, (tt, tt)))
 
-  goals_can : (known : List Var) (listed : List Terms) (k left : ℕ) (items : List Item) (lines : List Line) (verdict : Verdict) (left' : ℕ) → AllByRecursion IsBelow items → left < 2 ^ 128
+  goals_can : (known : List Var) (listed : List Summands) (k left : ℕ) (items : List Item) (lines : List Line) (verdict : Verdict) (left' : ℕ) → AllByRecursion IsBelow items → left < 2 ^ 128
       → AreGoalsWorked (IsAcceptedChain lemma_table c) (IsAcceptedSample c) known listed k left items lines verdict left' → Anywhere lines
   goals_can known listed k left [] lines verdict left' b few h = concluded_can listed left lines Proved left' h.1
   goals_can known listed k left (item ∷ items) lines verdict left' b few (first, inl h) =
@@ -143,7 +143,7 @@ module _ (c : Construction) (construction : IsConstruction c) where
       chain_can (Goal k item.text) (λ q. tt) known left item lines b.0 few first
       (concluded_can (listed ++ first.chain.end ∷ []) first.after first.rest (False k) left' h.2)
 
-  conditions_can : (goals : List Item) (known : List Var) (listed : List Terms) (k left : ℕ) (items : List Item) (lines : List Line) (verdict : Verdict) (left' : ℕ)
+  conditions_can : (goals : List Item) (known : List Var) (listed : List Summands) (k left : ℕ) (items : List Item) (lines : List Line) (verdict : Verdict) (left' : ℕ)
       → AllByRecursion IsBelow goals → AllByRecursion IsBelow items → left < 2 ^ 128
       → AreConditionsWorked (IsAcceptedChain lemma_table c) (IsAcceptedSample c) goals known listed k left items lines verdict left' → Anywhere lines
   conditions_can goals known listed k left [] lines verdict left' g b few h = goals_can known listed 1 left goals lines verdict left' g few h

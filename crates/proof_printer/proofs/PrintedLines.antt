@@ -1,6 +1,6 @@
 -- What is printed of a log, line by line.
 use Rattle.std.proofs.Common.{◌≡◌, ℕ, List, [], ◌∷◌, ◌++◌, append-nil, append_assoc, refl, sym, ap, subst, ◌∙◌}
-use Rattle.geo_poly.specs.Polynomials.{Terms}
+use Rattle.geo_poly.specs.Polynomials.{Summands}
 use Rattle.geo_terms.specs.Constructions.{Construction}
 use Rattle.proof_log.specs.declared.log.Line.{Line}
 use Rattle.proof_log.specs.Lines.{line_text, log_text}
@@ -35,7 +35,7 @@ has_feed (x ∷ xs) r h = has_feed xs r h.1
 
 module _ (n : Naming) (c : Construction) (bytes : List ℕ) where
   -- before the first line
-  pub printing_begins : (text : List ℕ) (before : Terms) → text ≡ [] → before ≡ [] → IsPrintable c bytes → IsPrinting n c bytes bytes text before
+  pub printing_begins : (text : List ℕ) (before : Summands) → text ≡ [] → before ≡ [] → IsPrintable c bytes → IsPrinting n c bytes bytes text before
   printing_begins text before none zero h = record {
     lines = h.lines;
     writable = h.writable;
@@ -43,19 +43,19 @@ module _ (n : Naming) (c : Construction) (bytes : List ℕ) where
     left = h.lines;
     left-writable = h.writable;
     left-written = h.written;
-    left-can = subst (λ (q : Terms). CanPrintAll c q h.lines) (sym zero) h.can;
-    printed = ap (λ (t : List ℕ). t ++ readable n c before h.lines) none ∙ ap (λ (q : Terms). readable n c q h.lines) zero;
+    left-can = subst (λ (q : Summands). CanPrintAll c q h.lines) (sym zero) h.can;
+    printed = ap (λ (t : List ℕ). t ++ readable n c before h.lines) none ∙ ap (λ (q : Summands). readable n c q h.lines) zero;
   }
 
   -- the next line, and what holds behind it
-  pub record HasNext (piece behind text : List ℕ) (before : Terms) : Type 0 where
+  pub record HasNext (piece behind text : List ℕ) (before : Summands) : Type 0 where
     pub line : Line
     pub writable : IsWritable line
     pub spelt : piece ≡ line_text line
     pub can : CanPrint c before line
-    pub after : (longer : List ℕ) (q : Terms) → longer ≡ text ++ lines_of n c before line → q ≡ polynomial_after before line → IsPrinting n c bytes behind longer q
+    pub after : (longer : List ℕ) (q : Summands) → longer ≡ text ++ lines_of n c before line → q ≡ polynomial_after before line → IsPrinting n c bytes behind longer q
 
-  pub next_line : (rest text : List ℕ) (before : Terms) (piece behind : List ℕ) → IsPrinting n c bytes rest text before → rest ≡ piece ++ (10 ∷ behind) → HasNoLineFeed piece
+  pub next_line : (rest text : List ℕ) (before : Summands) (piece behind : List ℕ) → IsPrinting n c bytes rest text before → rest ≡ piece ++ (10 ∷ behind) → HasNoLineFeed piece
       → HasNext piece behind text before
   next_line rest text before piece behind h split one = go h.left h.left-writable (sym h.left-written ∙ split) h.left-can h.printed
     where
@@ -76,15 +76,15 @@ module _ (n : Naming) (c : Construction) (bytes : List ℕ) where
               left = left;
               left-writable = w.1;
               left-written = sym found.1;
-              left-can = subst (λ (q : Terms). CanPrintAll c q left) (sym is) can.1;
+              left-can = subst (λ (q : Summands). CanPrintAll c q left) (sym is) can.1;
               printed =
-                  ap (λ (t : List ℕ). t ++ readable n c q left) grown ∙ ap (λ (q : Terms). (text ++ lines_of n c before l) ++ readable n c q left) is
+                  ap (λ (t : List ℕ). t ++ readable n c q left) grown ∙ ap (λ (q : Summands). (text ++ lines_of n c before l) ++ readable n c q left) is
                   ∙ append_assoc text (lines_of n c before l) (readable n c (polynomial_after before l) left) ∙ printed;
             };
           }
 
   -- behind the last line
-  pub printing_ends : (rest text : List ℕ) (before : Terms) → IsPrinting n c bytes rest text before → HasNoLineFeed rest → IsPrinted n c bytes text
+  pub printing_ends : (rest text : List ℕ) (before : Summands) → IsPrinting n c bytes rest text before → HasNoLineFeed rest → IsPrinted n c bytes text
   printing_ends rest text before h none = go h.left h.left-written h.printed
     where
       go : (left : List Line) → rest ≡ log_text left → text ++ readable n c before left ≡ readable n c [] h.lines → IsPrinted n c bytes text

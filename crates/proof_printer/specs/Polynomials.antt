@@ -4,7 +4,7 @@ use Rattle.std.specs.Fmt.{decimal, signed_decimal}
 use Rattle.std.specs.List.{flat_map, join_with_byte}
 use Rattle.geo_poly.specs.declared.variables.Var.{Var}
 use Rattle.geo_poly.specs.Monomials.{Powers}
-use Rattle.geo_poly.specs.Polynomials.{Terms}
+use Rattle.geo_poly.specs.Polynomials.{Summands}
 use Rattle.proof_log.specs.Lines.{sign_text}
 use Rattle.proof_printer.specs.Naming.{Naming, variable_text}
 
@@ -21,7 +21,7 @@ abbrev pub term_text : Naming → Powers × ℤ → List ℕ
 term_text n t = sign_text t.1 ++ decimal (unsigned_abs t.1) ++ flat_map (power_text n) t.0
 
 -- `0`, or the terms with single spaces between them
-abbrev pub polynomial_text : Naming → Terms → List ℕ
+abbrev pub polynomial_text : Naming → Summands → List ℕ
 polynomial_text n [] = codes "0"
 polynomial_text n (t ∷ ts) = join_with_byte 32 (map (term_text n) (t ∷ ts))
 
