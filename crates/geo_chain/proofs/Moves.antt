@@ -30,4 +30,4 @@ end_of q none = all_variables IsPlain q (λ v c. plain_or v (none v c))
 -- at an end there is no next move
 pub none_at_end : (c : Construction) (q : Summands) (o : Option Move) → IfSome o (IsNextMove lemma_table c q) → IsEnd q → o ≡ None
 none_at_end c q None h e = refl
-none_at_end c q (Some m) h e = absurd (no_move c q m e h)
+none_at_end c q (Some m) h e = absurd (no_move lemma_table c q m e h)

@@ -4,3 +4,5 @@ pub mod Written
 pub mod FirstLines
 pub mod Parts
 pub mod Halting
+pub mod Tasks
+pub mod Answers

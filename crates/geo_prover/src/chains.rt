@@ -1,13 +1,17 @@
 //! The chain of a condition or a goal.
 
-ghost use Rattle.std.specs.Prelude.{◌≡◌, ◌<◌, IfErr, IfOk, length};
+ghost use Rattle.std.specs.Prelude.{◌≡◌, ◌≢◌, ◌-◌, ◌<◌, ◌∷◌, [], IfErr, IfOk, OnOk, length};
+ghost use Rattle.geo_chain.specs.NextLines.{HasLinePointsBelow, IsNextLine};
+ghost use Rattle.geo_logs.specs.Places.{before_start, in_chain};
+ghost use Rattle.geo_logs.specs.Starts.{IsStarted, start_charge, start_of};
+ghost use Rattle.proof_log.specs.declared.log.Line.TheVariants.{Start};
 ghost use Rattle.fraction_poly.specs.TableRows.{HasPointsBelow};
 ghost use Rattle.geo_poly.specs.PolynomialVariables.{AllVariables};
 ghost use Rattle.geo_terms.specs.Stores.{tree_of};
 ghost use Rattle.proof_log.specs.Writable.{IsWritable};
-ghost use Rattle.geo_prover.specs.Inner.Halting.{Halts, WorksChain};
-ghost use Rattle.geo_prover.specs.Inner.Parts.{CanWrite, IsInside, chain_part};
-ghost use Rattle.geo_prover.specs.Inner.Written.{Writes, state};
+ghost use Rattle.geo_prover.specs.Inner.Halting.{Halts, IsAnswered, WorksChain, WorksSteps};
+ghost use Rattle.geo_prover.specs.Inner.Parts.{CanWrite, IsInside, chain_part, here_part, polynomial_on, steps_part};
+ghost use Rattle.geo_prover.specs.Inner.Written.{IsUnwritten, Writes, state};
 
 use crate::errors::ProveError;
 use crate::known::sole_variable;
@@ -65,14 +69,38 @@ pub fn work_chain<K: Sink>(
         (state log.new (K.held sink.new) (K.faults sink.new))) }
 {
     log.write(alloc, sink, &task.header)?;
-    let first = match start(alloc, steps, task.term, budget) {
-        Ok(first) => first,
-        Err(error) => return Err(stopped(alloc, error, log, sink)),
-    };
+    let first = first_polynomial(alloc, steps, task.term, budget, log, sink)?;
     let variable = sole_variable(&first);
     let first = write_start(alloc, first, log, sink)?;
     let end = work_steps(alloc, steps, known, first, budget, log, sink)?;
     Ok(WorkedChain { end, variable })
+}
+
+/// The polynomial at the start; the line of a stop is written.
+fn first_polynomial<K: Sink>(
+    alloc: Global,
+    steps: &Steps,
+    term: TermId,
+    budget: &mut Budget,
+    log: &LogWriter,
+    sink: &mut K,
+) -> Result<Poly, ProveError>
+    requires { term.0 < length steps.now.nodes }
+    ensures started { OnOk result
+        (IsStarted budget.old.left (tree_of steps.now.nodes term)) }
+    ensures start { IfOk result (λ q. q ≡ start_of (tree_of steps.now.nodes term)) }
+    ensures paid { OnOk result
+        (budget.new.left ≡ budget.old.left - start_charge (tree_of steps.now.nodes term)) }
+    ensures kept { OnOk result (sink.new ≡ sink.old) }
+    ensures err { IfErr result (Halts steps.now
+        (here_part (before_start budget.old.left (tree_of steps.now.nodes term)))
+        (state log.now (K.held sink.old) (K.faults sink.old))
+        (state log.now (K.held sink.new) (K.faults sink.new))) }
+{
+    match start(alloc, steps, term, budget) {
+        Ok(first) => Ok(first),
+        Err(error) => Err(stopped(alloc, error, log, sink)),
+    }
 }
 
 /// Writes the start, and gives it back.
@@ -81,12 +109,21 @@ fn write_start<K: Sink>(
     first: Poly,
     log: &mut LogWriter,
     sink: &mut K,
-) -> Result<Poly, ProveError> {
+) -> Result<Poly, ProveError>
+    requires { IsWritable (Start first) }
+    ensures same { IfOk result (λ q. q ≡ first) }
+    ensures ok { OnOk result (Writes (Start first ∷ [])
+        (state log.old (K.held sink.old) (K.faults sink.old))
+        (state log.new (K.held sink.new) (K.faults sink.new))) }
+    ensures err { IfErr result (IsUnwritten (Start first)
+        (state log.old (K.held sink.old) (K.faults sink.old))
+        (state log.new (K.held sink.new) (K.faults sink.new))) }
+{
     let line = Line::Start(first);
     log.write(alloc, sink, &line)?;
-    match line {
-        Line::Start(first) => Ok(first),
-        _ => unreachable!(),
+    match polynomial_of(line) {
+        Some(first) => Ok(first),
+        None => unreachable!(),
     }
 }
 
@@ -100,13 +137,21 @@ fn work_steps<K: Sink>(
     budget: &mut Budget,
     log: &mut LogWriter,
     sink: &mut K,
-) -> Result<Poly, ProveError> {
+) -> Result<Poly, ProveError>
+    requires points { AllVariables (HasPointsBelow (length steps.now.steps)) first }
+    requires writable { CanWrite steps.now
+        (steps_part steps.now known.now budget.old.left first) log.old.bytes }
+    ensures ok { IfOk result (WorksSteps steps.now known.now budget.old.left first
+        budget.new.left (state log.old (K.held sink.old) (K.faults sink.old))
+        (state log.new (K.held sink.new) (K.faults sink.new))) }
+    ensures err { IfErr result (Halts steps.now
+        (steps_part steps.now known.now budget.old.left first)
+        (state log.old (K.held sink.old) (K.faults sink.old))
+        (state log.new (K.held sink.new) (K.faults sink.new))) }
+{
     let mut last = first;
     loop {
-        let line = match next_line(alloc, steps, &last, known, budget) {
-            Ok(line) => line,
-            Err(error) => return Err(stopped(alloc, error, log, sink)),
-        };
+        let line = line_after(alloc, steps, known, &last, budget, log, sink)?;
         log.write(alloc, sink, &line)?;
         match polynomial_of(line) {
             Some(poly) => last = poly,
@@ -115,8 +160,36 @@ fn work_steps<K: Sink>(
     }
 }
 
+/// The line after a polynomial; the line of a stop is written.
+fn line_after<K: Sink>(
+    alloc: Global,
+    steps: &Steps,
+    known: &Vars,
+    last: &Poly,
+    budget: &mut Budget,
+    log: &LogWriter,
+    sink: &mut K,
+) -> Result<Line, ProveError>
+    requires { AllVariables (HasPointsBelow (length steps.now.steps)) last.now }
+    ensures line { IfOk result (λ line.
+        IsNextLine steps.now known.now budget.old.left last.now line budget.new.left) }
+    ensures points { IfOk result (HasLinePointsBelow (length steps.now.steps)) }
+    ensures kept { OnOk result (sink.new ≡ sink.old) }
+    ensures err { IfErr result (Halts steps.now
+        (here_part (in_chain known.now budget.old.left last.now))
+        (state log.now (K.held sink.old) (K.faults sink.old))
+        (state log.now (K.held sink.new) (K.faults sink.new))) }
+{
+    match next_line(alloc, steps, last, known, budget) {
+        Ok(line) => Ok(line),
+        Err(error) => Err(stopped(alloc, error, log, sink)),
+    }
+}
+
 /// The polynomial of a line, if it has one.
-fn polynomial_of(line: Line) -> Option<Poly> {
+fn polynomial_of(line: Line) -> Option<Poly>
+    ensures { result ≡ polynomial_on line }
+{
     match line {
         Line::Start(poly) => Some(poly),
         Line::Ratio { poly, .. } => Some(poly),
@@ -128,7 +201,11 @@ fn polynomial_of(line: Line) -> Option<Poly> {
 }
 
 /// Writes the line of the stop, if it is one, and answers it.
-fn stopped<K: Sink>(alloc: Global, error: ApplyError, log: &LogWriter, sink: &mut K) -> ProveError {
+fn stopped<K: Sink>(alloc: Global, error: ApplyError, log: &LogWriter, sink: &mut K) -> ProveError
+    requires { error ≢ ApplyError.NoRow }
+    ensures { IsAnswered error (state log.now (K.held sink.old) (K.faults sink.old))
+        (state log.now (K.held sink.new) (K.faults sink.new)) result }
+{
     match error {
         ApplyError::NoRow => unreachable!(),
         ApplyError::Spent => log.stop_spent(alloc, sink),

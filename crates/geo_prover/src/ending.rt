@@ -1,5 +1,13 @@
 //! The sample and the verdict.
 
+ghost use Rattle.std.specs.Prelude.{◌≡◌, IfErr, IfOk, OnOk};
+ghost use Rattle.geo_logs.specs.Places.{before_sample};
+ghost use Rattle.geo_logs.specs.Samples.{IsLeastSample};
+ghost use Rattle.geo_poly.specs.Specialise.{NoneZero};
+ghost use Rattle.geo_prover.specs.Inner.Halting.{Finishes, Halts};
+ghost use Rattle.geo_prover.specs.Inner.Parts.{CanWrite, end_part, here_part};
+ghost use Rattle.geo_prover.specs.Inner.Written.{state};
+
 use crate::errors::ProveError;
 use crate::log_writer::LogWriter;
 use crate::sample_variables::variables_of_sample;
@@ -19,7 +27,18 @@ pub fn conclude<K: Sink>(
     budget: &mut Budget,
     log: &mut LogWriter,
     sink: &mut K,
-) -> Result<(), ProveError> {
+) -> Result<(), ProveError>
+    requires nonzero { NoneZero ends.now }
+    requires writable { CanWrite steps.now (end_part steps.now ends.now verdict budget.old.left)
+        log.old.bytes }
+    ensures ok { OnOk result (Finishes (end_part steps.now ends.now verdict budget.old.left)
+        (state log.old (K.held sink.old) (K.faults sink.old))
+        (state log.new (K.held sink.new) (K.faults sink.new)) verdict budget.new.left) }
+    ensures err { IfErr result (Halts steps.now
+        (end_part steps.now ends.now verdict budget.old.left)
+        (state log.old (K.held sink.old) (K.faults sink.old))
+        (state log.new (K.held sink.new) (K.faults sink.new))) }
+{
     let values = find_sample(alloc, steps, ends, budget, log, sink)?;
     log.write(alloc, sink, &Line::Sample(values))?;
     log.write(alloc, sink, &Line::Verdict(verdict))
@@ -33,7 +52,16 @@ fn find_sample<K: Sink>(
     budget: &mut Budget,
     log: &LogWriter,
     sink: &mut K,
-) -> Result<Values, ProveError> {
+) -> Result<Values, ProveError>
+    requires { NoneZero ends.now }
+    ensures least { IfOk result (λ values.
+        IsLeastSample steps.now ends.now budget.old.left values budget.new.left) }
+    ensures kept { OnOk result (sink.new ≡ sink.old) }
+    ensures err { IfErr result (Halts steps.now
+        (here_part (before_sample ends.now budget.old.left))
+        (state log.now (K.held sink.old) (K.faults sink.old))
+        (state log.now (K.held sink.new) (K.faults sink.new))) }
+{
     let vars = variables_of_sample(alloc, steps)?;
     match least_sample(alloc, ends, &vars, budget) {
         Ok(values) => Ok(values),

@@ -5,6 +5,7 @@ ghost use Rattle.std.specs.List.{cons_option};
 
 use crate::chains::WorkedChain;
 use geo_points::NoMemory;
+use geo_poly::Poly;
 use geo_poly::lists::{Polys, Vars};
 use std::alloc::Global;
 
@@ -43,6 +44,15 @@ impl Findings {
             self.known.items.push(variable)?;
         }
         self.ends.items.push(chain.end)?;
+        Ok(())
+    }
+
+    /// What the chain of a goal that fails shows.
+    pub fn add_end(&mut self, end: Poly) -> Result<(), NoMemory>
+        ensures known { OnOk result (self.new.known ≡ self.old.known) }
+        ensures ends { OnOk result (self.new.ends ≡ self.old.ends ++ end ∷ []) }
+    {
+        self.ends.items.push(end)?;
         Ok(())
     }
 }

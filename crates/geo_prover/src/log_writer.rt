@@ -32,7 +32,8 @@ impl LogWriter {
 
     /// Nothing has been written.
     pub fn new() -> LogWriter
-        ensures { result ≡ record { lines = 0; bytes = 0 } }
+        ensures lines { result.lines ≡ 0 }
+        ensures bytes { result.bytes ≡ 0 }
     {
         LogWriter { lines: 0, bytes: 0 }
     }

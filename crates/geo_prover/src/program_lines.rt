@@ -1,7 +1,7 @@
 //! The header and the lines of the program.
 
-ghost use Rattle.std.specs.Prelude.{◌≡◌, ◌∷◌, ◌++◌, [], List, ℕ, IfErr, OnOk, map};
-ghost use Rattle.std.specs.List.{AllByRecursion, flat_map};
+ghost use Rattle.std.specs.Prelude.{◌≡◌, ◌==◌, ◌∷◌, List, ℕ, IfErr, OnOk, map};
+ghost use Rattle.std.specs.List.{AllByRecursion, position};
 ghost use Rattle.geo_program.specs.Programs.{source_of};
 ghost use Rattle.log_checker.specs.Subjects.{source_lines};
 ghost use Rattle.proof_log.specs.declared.log.Line.TheVariants.{Header, Program as ProgramLine};
@@ -56,10 +56,17 @@ fn write_pieces<K: Sink>(
         (state log.new (K.held sink.new) (K.faults sink.new)) e) }
 {
     let mut rest = text;
-    while let Some(end) = rest.iter().position(|b| *b == b'\n') {
+    while let Some(end) = first_line_feed(rest) {
         let bytes = Vec::from_slice(alloc, &rest[..end])?;
         log.write(alloc, sink, &Line::Program(Text { bytes }))?;
         rest = &rest[end + 1..];
     }
     Ok(())
+}
+
+/// The place of the first line feed.
+fn first_line_feed(text: &[u8]) -> Option<usize>
+    ensures { result ≡ position (λ b. b == 10) text.now }
+{
+    text.iter().position(|b| *b == b'\n')
 }

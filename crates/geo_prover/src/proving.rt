@@ -1,11 +1,18 @@
 //! The log of a program.
 
-ghost use Rattle.std.specs.Prelude.{◌≡◌, ◌≤◌, ℕ, length, IfOk, IsErrOf};
+ghost use Rattle.std.specs.Prelude.{◌≡◌, ◌≤◌, ℕ, [], IfErr, IfOk, IsErrOf, OnOk};
 ghost use Rattle.geo_base.specs.Devices.{HasRisen};
 ghost use Rattle.geo_logs.specs.Ends.{too_long};
 ghost use Rattle.geo_logs.specs.Moves.{spent, too_large};
 ghost use Rattle.geo_poly.specs.declared.limits.Which.{Which};
 ghost use Rattle.geo_program.specs.Programs.{source_of};
+ghost use Rattle.geo_prover.specs.Inner.Halting.{Finishes, Halts};
+ghost use Rattle.geo_prover.specs.Inner.Parts.{CanWrite};
+ghost use Rattle.geo_prover.specs.Inner.Tasks.{IsReady, conditions_from};
+ghost use Rattle.geo_prover.specs.Inner.Written.{first_state, state};
+ghost use Rattle.geo_conditions.specs.Lists.{IsProblem};
+ghost use Rattle.geo_conditions.specs.Problems.{form_of_problem};
+ghost use Rattle.geo_prover.specs.Inner.Answers.{IsAnswerOf};
 ghost use Rattle.geo_prover.specs.Proving.{Concludes, StopsAt, WritesLog, WritesPart};
 
 use crate::conditions::work_conditions;
@@ -19,6 +26,7 @@ use crate::summary::Summary;
 use geo_base::{Budget, Sink};
 use geo_conditions::{Problem, list};
 use geo_lowering::lower;
+use geo_points::NoMemory;
 use geo_program::Program;
 use proof_log::{Line, Verdict};
 use std::alloc::Global;
@@ -53,8 +61,24 @@ pub fn prove<K: Sink>(
         → WritesPart (source_of program.now) steps (K.held sink.old) (K.held sink.new) }
     ensures faults { K.faults sink.old ≤ K.faults sink.new }
 {
-    let lowered = lower(alloc, program)?;
-    let problem = list(alloc, program, lowered)?;
+    prove_all(alloc, program, steps, sink)
+}
+
+/// The same, with all errors in one clause.
+fn prove_all<K: Sink>(
+    alloc: Global,
+    program: &Program,
+    steps: u64,
+    sink: &mut K,
+) -> Result<Summary, ProveError>
+    ensures ok { IfOk result (Concludes (source_of program.now) steps
+        (K.held sink.old) (K.held sink.new)) }
+    ensures err { IfErr result (IsAnswerOf (source_of program.now) steps
+        (first_state (K.held sink.old) (K.faults sink.old))
+        (first_state (K.held sink.new) (K.faults sink.new))) }
+    ensures faults { OnOk result (K.faults sink.old ≤ K.faults sink.new) }
+{
+    let problem = problem_of(alloc, program)?;
     let mut budget = Budget { left: steps };
     let mut log = LogWriter::new();
     write_first_lines(alloc, program, &mut log, sink)?;
@@ -66,6 +90,15 @@ pub fn prove<K: Sink>(
     })
 }
 
+/// The conditions and goals of the program over its lowered form.
+fn problem_of(alloc: Global, program: &Program) -> Result<Problem, NoMemory>
+    ensures { IfOk result (λ q.
+        IsProblem (source_of program.now) (form_of_problem q) q.conditions q.goals) }
+{
+    let lowered = lower(alloc, program)?;
+    list(alloc, program, lowered)
+}
+
 /// Writes the chains, and what follows them.
 fn work<K: Sink>(
     alloc: Global,
@@ -73,7 +106,19 @@ fn work<K: Sink>(
     budget: &mut Budget,
     log: &mut LogWriter,
     sink: &mut K,
-) -> Result<Verdict, ProveError> {
+) -> Result<Verdict, ProveError>
+    requires ready { IsReady problem.now }
+    requires writable { CanWrite problem.now.steps
+        (conditions_from problem.now 0 [] [] budget.old.left) log.old.bytes }
+    ensures ok { IfOk result (λ verdict. Finishes
+        (conditions_from problem.now 0 [] [] budget.old.left)
+        (state log.old (K.held sink.old) (K.faults sink.old))
+        (state log.new (K.held sink.new) (K.faults sink.new)) verdict budget.new.left) }
+    ensures err { IfErr result (Halts problem.now.steps
+        (conditions_from problem.now 0 [] [] budget.old.left)
+        (state log.old (K.held sink.old) (K.faults sink.old))
+        (state log.new (K.held sink.new) (K.faults sink.new))) }
+{
     let mut findings = Findings::new(alloc);
     if let Some(k) = work_conditions(alloc, problem, &mut findings, budget, log, sink)? {
         let verdict = Verdict::Impossible(k);

@@ -1,18 +1,20 @@
 -- How a part of the log is written to its end, or where it stops.
-use Rattle.std.specs.Prelude.{◌≡◌, ℕ, suc, ◌+◌, ◌<◌, ◌≤◌, ◌⊎◌, Option, Some, None, List, [], ◌∷◌, ◌++◌, length, take}
+use Rattle.std.specs.Prelude.{◌≡◌, ℕ, suc, ◌+◌, ◌<◌, ◌≤◌, ◌⊎◌, Option, Some, None, List, [], ◌∷◌, ◌++◌, length, map, take}
 use Rattle.geo_base.specs.Devices.{Grows, HasRisen}
 use Rattle.geo_poly.specs.declared.variables.Var.{Var}
 use Rattle.geo_poly.specs.Polynomials.{Summands}
 use Rattle.geo_terms.specs.Constructions.{Construction}
 use Rattle.geo_terms.specs.Trees.{Tree}
 use Rattle.proof_log.specs.declared.log.Line.{Line}
-use Rattle.proof_log.specs.declared.log.Line.TheVariants.{Verdict as VerdictLine}
+use Rattle.proof_log.specs.declared.log.Line.TheVariants.{End, Verdict as VerdictLine}
 use Rattle.proof_log.specs.declared.log.Verdict.{Verdict}
 use Rattle.proof_log.specs.declared.log.Verdict.TheVariants.{Impossible}
 use Rattle.proof_log.specs.Lines.{log_text}
+use Rattle.elim_apply.specs.declared.errors.ApplyError.{ApplyError}
+use Rattle.elim_apply.specs.declared.errors.ApplyError.TheVariants.{NoRow, Spent as SpentThere, TooLarge as TooLargeThere, NoMemory as NoMemoryThere}
 use Rattle.elim_apply.specs.LemmaTable.{lemma_table}
-use Rattle.geo_logs.specs.Chains.{Chain, chain_lines}
-use Rattle.geo_logs.specs.Defined.{IsDefinedChain}
+use Rattle.geo_logs.specs.Chains.{Chain, ChainStep, IsEnd, chain_lines, line_of}
+use Rattle.geo_logs.specs.Defined.{IsDefinedChain, LeadsBySteps, NoCutDue}
 use Rattle.geo_logs.specs.Ends.{IsNext, Next, comes, stop_line, stops, text_length}
 use Rattle.geo_logs.specs.Logs.{only_variable}
 use Rattle.geo_logs.specs.Moves.{Stop, spent, too_large}
@@ -21,7 +23,7 @@ use Rattle.geo_logs.specs.Starts.{start_of}
 use Rattle.geo_prover.specs.declared.errors.ProveError.{ProveError}
 use Rattle.geo_prover.specs.declared.errors.ProveError.TheVariants.{TooLarge, Spent, TooLong, WriteFault, NoMemory}
 use Rattle.geo_prover.specs.Inner.Parts.{Continues, Part}
-use Rattle.geo_prover.specs.Inner.Written.{State, Writes}
+use Rattle.geo_prover.specs.Inner.Written.{HasStopped, State, Writes}
 
 -- STOPS
 -- the part stops behind the lines, and the line of the stop was written
@@ -75,7 +77,22 @@ Halts c part s t TooLong = IsTooLong c part s t
 Halts c part s t WriteFault = IsBrokenOff c part s t × HasRisen s.faults t.faults
 Halts c part s t NoMemory = IsBrokenOff c part s t
 
+-- a line that has no polynomial for this reason is answered so
+abbrev pub IsAnswered : ApplyError → State → State → ProveError → Type 0
+IsAnswered NoRow s t e = Unit {0}
+IsAnswered SpentThere s t e = HasStopped spent s t e
+IsAnswered (TooLargeThere which) s t e = HasStopped (too_large which) s t e
+IsAnswered NoMemoryThere s t e = (e ≡ NoMemory) × (t ≡ s)
+
 -- WHAT IS WRITTEN WHOLE
+-- the steps from the polynomial on and the end were written, and the last polynomial is this
+pub record WorksSteps (c : Construction) (known : List Var) (left : ℕ) (q : Summands) (left' : ℕ) (s t : State) (end : Summands) : Type 0 where
+  pub steps : List ChainStep
+  pub leads : LeadsBySteps lemma_table c known left q steps left' end
+  pub no_cut : NoCutDue known end
+  pub ended : IsEnd end
+  pub written : Writes (map line_of steps ++ End ∷ []) s t
+
 -- the chain of the term was written; it ends so, and this variable is known then
 pub record WorksChain (c : Construction) (header : Line) (known : List Var) (left : ℕ) (e : Tree) (left' : ℕ) (s t : State) (end : Summands)
     (variable : Option Var) : Type 0 where
@@ -92,7 +109,7 @@ pub record Passes (part next : Part) (s t : State) : Type 0 where
   pub written : Writes lines s t
 
 -- lines were written behind which nothing but this verdict comes
-pub record IsImpossibleAt (c : Construction) (part : Part) (left : ℕ) (s t : State) (k : ℕ) : Type 0 where
+pub record IsImpossibleAt (part : Part) (left : ℕ) (s t : State) (k : ℕ) : Type 0 where
   pub lines : List Line
   pub begun : part.begun lines (before_line (VerdictLine (Impossible k)))
   pub whole : part.whole (lines ++ VerdictLine (Impossible k) ∷ []) (Impossible k) left

@@ -1,5 +1,5 @@
 -- The parts of the prover's log over the lemma table: how each begins, and what it is whole.
-use Rattle.std.specs.Prelude.{◌≡◌, ℕ, ◌+◌, ◌≤◌, List, [], ◌++◌, length, map}
+use Rattle.std.specs.Prelude.{◌≡◌, ℕ, ◌+◌, ◌≤◌, Option, Some, None, List, [], ◌++◌, length, map}
 use Rattle.geo_conditions.specs.declared.items.Item.{Item as ListedItem}
 use Rattle.geo_conditions.specs.Lists.{item_form}
 use Rattle.geo_poly.specs.declared.variables.Var.{Var}
@@ -9,13 +9,15 @@ use Rattle.geo_terms.specs.Stores.{Store}
 use Rattle.geo_terms.specs.TermBounds.{IsTermBelow}
 use Rattle.geo_terms.specs.Trees.{Tree}
 use Rattle.proof_log.specs.declared.log.Line.{Line}
+use Rattle.proof_log.specs.declared.log.Line.TheVariants.{Start, Ratio, Point, Coords, Cut}
 use Rattle.proof_log.specs.declared.log.Verdict.{Verdict}
 use Rattle.proof_log.specs.Writable.{IsWritable}
 use Rattle.elim_apply.specs.LemmaTable.{lemma_table}
+use Rattle.geo_logs.specs.Chains.{ChainStep, line_of}
 use Rattle.geo_logs.specs.Defined.{IsDefinedChain, IsLogOfProver, LeadsBySteps}
 use Rattle.geo_logs.specs.Ends.{IsNext, comes, text_length}
 use Rattle.geo_logs.specs.Logs.{AreConditionsWorked, AreGoalsWorked, IsConcluded, Item, Subject}
-use Rattle.geo_logs.specs.Places.{AreConditionsBegun, AreGoalsBegun, IsBegun, IsBegunChain, IsBegunEnd, Place}
+use Rattle.geo_logs.specs.Places.{AreConditionsBegun, AreGoalsBegun, IsBegun, IsBegunChain, IsBegunEnd, Place, in_chain}
 use Rattle.geo_logs.specs.Samples.{IsLeastSample}
 use Rattle.log_checker.specs.Subjects.{log_item}
 
@@ -25,6 +27,23 @@ use Rattle.log_checker.specs.Subjects.{log_item}
 pub record Part : Type 1 where
   pub begun : List Line → Place → Type 0
   pub whole : List Line → Verdict → ℕ → Type 0
+
+-- nothing yet, at this place
+abbrev pub here_part : Place → Part
+here_part here = record { begun = λ lines place. (lines ≡ []) × (place ≡ here); whole = λ lines verdict left. ⊥ }
+
+-- some steps lead from the polynomial to another, and these are their lines
+pub record IsBegunSteps (c : Construction) (known : List Var) (left : ℕ) (q : Summands) (lines : List Line) (place : Place) : Type 0 where
+  pub steps : List ChainStep
+  pub after : ℕ
+  pub last : Summands
+  pub leads : LeadsBySteps lemma_table c known left q steps after last
+  pub split : lines ≡ map line_of steps
+  pub stands : place ≡ in_chain known after last
+
+-- the steps of a chain after a polynomial
+abbrev pub steps_part : Construction → List Var → ℕ → Summands → Part
+steps_part c known left q = record { begun = IsBegunSteps c known left q; whole = λ lines verdict left'. ⊥ }
 
 -- the chain of a term, behind which something else follows
 abbrev pub chain_part : Construction → Line → List Var → ℕ → Tree → Part
@@ -74,6 +93,16 @@ CanWrite c part bytes =
     (lines : List Line) (place : Place) (line : Line) → part.begun lines place → IsNext lemma_table c place (comes line)
     → bytes + text_length lines ≤ 67108864
     → IsWritable line
+
+-- LINES
+-- the polynomial of a line
+abbrev pub polynomial_on : Line → Option Summands
+polynomial_on (Start q) = Some q
+polynomial_on (Ratio v lemma at q) = Some q
+polynomial_on (Point at q) = Some q
+polynomial_on (Coords q) = Some q
+polynomial_on (Cut by q) = Some q
+polynomial_on _ = None
 
 -- ITEMS
 -- listed items as a log takes them

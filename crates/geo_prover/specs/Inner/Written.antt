@@ -19,6 +19,10 @@ pub record State : Type 0 where
 abbrev pub state : LogWriter → Option (List ℕ) → ℕ → State
 state log held faults = record { lines = log.lines; bytes = log.bytes; held = held; faults = faults }
 
+-- nothing of the log is written yet
+abbrev pub first_state : Option (List ℕ) → ℕ → State
+first_state held faults = record { lines = 0; bytes = 0; held = held; faults = faults }
+
 -- these lines were written
 pub record Writes (lines : List Line) (s t : State) : Type 0 where
   pub counted : t.lines ≡ s.lines + length lines

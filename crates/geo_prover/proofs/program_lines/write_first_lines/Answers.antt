@@ -1,0 +1,34 @@
+use Rattle.std.proofs.Common.{◌≡◌, [], ◌∷◌, map, ◌∙◌, rules}
+use Rattle.std.proofs.lemmas.Result.{IfErr-weaker, on_ok_weaker}
+use Rattle.geo_program.specs.Programs.{program_text, source_of}
+use Rattle.geo_program.proofs.Propositions.{program_well_formed}
+use Rattle.log_checker.specs.Subjects.{source_lines}
+use Rattle.log_checker.proofs.LineFeeds.{program_one_line}
+use Rattle.proof_log.specs.declared.log.Line.TheVariants.{Header, Program as ProgramLine}
+use Rattle.geo_prover.proofs.FirstLines.{broken_on, program_pieces, unwritten_first}
+use Rattle.geo_prover.proofs.Handing.{if_err}
+use Rattle.geo_prover.proofs.Passing.{writes_more}
+use Rattle.geo_prover.proofs.program_lines.write_first_lines.Goals as goal
+
+pub returns-in_err-write-clause-err : goal.returns-in_err-write-clause-err
+returns-in_err-write-clause-err g c =
+    if_err _ _ c.in_err-write.field-0.0 c.from_residual-in_err-write.ensures.1
+    (unwritten_first _ _ c.args.log.now.within Header (map ProgramLine (source_lines (source_of c.args.program.now))) c.in_err-write.field-0.0 c.in_err-write.ensures.err)
+
+pub returns-clause-ok : goal.returns-clause-ok
+returns-clause-ok g c =
+    let p = source_of c.args.program.now in
+    let text : c.deref.result.now ≡ program_text c.args.program.now = search rules in
+    on_ok_weaker c.write_pieces.result
+    (λ f. writes_more (Header ∷ []) (map ProgramLine (source_lines p)) _ _ _ c.in_ok-write.ensures.ok
+    (f (source_lines p) (text ∙ program_pieces p) (program_one_line p (program_well_formed c.args.program.now))))
+    c.write_pieces.ensures.ok
+
+pub returns-clause-err : goal.returns-clause-err
+returns-clause-err g c =
+    let p = source_of c.args.program.now in
+    let text : c.deref.result.now ≡ program_text c.args.program.now = search rules in
+    IfErr-weaker c.write_pieces.result _ _
+    (λ e f. broken_on (Header ∷ []) _ _ _ c.in_ok-write.ensures.ok (map ProgramLine (source_lines p)) e
+    (f (source_lines p) (text ∙ program_pieces p) (program_one_line p (program_well_formed c.args.program.now))))
+    c.write_pieces.ensures.err
