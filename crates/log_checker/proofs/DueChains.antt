@@ -4,7 +4,7 @@ use Rattle.std.specs.List.{cons_option}
 use Rattle.std.specs.Option.{option_to_list}
 use Rattle.std.proofs.Math.ListN.{drop_of_length-le}
 use Rattle.geo_poly.specs.declared.variables.Var.{Var}
-use Rattle.geo_poly.specs.Polynomials.{Terms}
+use Rattle.geo_poly.specs.Polynomials.{Summands}
 use Rattle.geo_terms.specs.Constructions.{Construction}
 use Rattle.geo_terms.specs.Trees.{Tree}
 use Rattle.proof_log.specs.declared.log.Line.{Line}
@@ -51,13 +51,13 @@ module _ (subject : Subject) (steps : ℕ) where
   abbrev C : Construction
   C = subject.construction
 
-  abbrev Leads : List Var → ℕ → Terms → List ChainStep → ℕ → Terms → Type 0
+  abbrev Leads : List Var → ℕ → Summands → List ChainStep → ℕ → Summands → Type 0
   Leads = LeadsTo lemma_table C
 
   abbrev Works : List Var → ℕ → Tree → Chain → ℕ → Type 0
   Works = IsAcceptedChain lemma_table C
 
-  abbrev Chosen : List Terms → ℕ → List (Var × ℤ) → ℕ → Type 0
+  abbrev Chosen : List Summands → ℕ → List (Var × ℤ) → ℕ → Type 0
   Chosen = IsAcceptedSample C
 
   abbrev Good : List Line → Place → Type 0
@@ -73,7 +73,7 @@ module _ (subject : Subject) (steps : ℕ) where
   pub all_due : AreConditionsDue subject steps [] [] [] steps 0
   all_due = record { begun = λ more place h. h; worked = λ more verdict left h. h }
 
-  pub goals_due : (good : List Line) (known : List Var) (listed : List Terms) (left index : ℕ) → length subject.conditions ≤ index
+  pub goals_due : (good : List Line) (known : List Var) (listed : List Summands) (left index : ℕ) → length subject.conditions ≤ index
       → AreConditionsDue subject steps good known listed left index → AreGoalsDue subject steps good known listed left 0
   goals_due good known listed left index over d = record {
     begun = λ more place h. d.begun more place (subst (λ items. AreConditionsBegun Leads Works Chosen subject.goals known listed (suc index) left items more place) (sym none_left) h);
@@ -83,7 +83,7 @@ module _ (subject : Subject) (steps : ℕ) where
       none_left : drop index subject.conditions ≡ []
       none_left = drop_of_length-le subject.conditions over
 
-  pub sample_due : (good : List Line) (known : List Var) (listed : List Terms) (left index : ℕ) → length subject.goals ≤ index
+  pub sample_due : (good : List Line) (known : List Var) (listed : List Summands) (left index : ℕ) → length subject.goals ≤ index
       → AreGoalsDue subject steps good known listed left index → IsSampleDue subject steps good listed Proved left
   sample_due good known listed left index over d = record {
     begun = λ more place h. d.begun more place (subst (λ items. AreGoalsBegun Leads Works Chosen known listed (suc index) left items more place) (sym none_left) h);
@@ -94,7 +94,7 @@ module _ (subject : Subject) (steps : ℕ) where
       none_left = drop_of_length-le subject.goals over
 
   -- CHAINS
-  chain_stands : (good : List Line) (known : List Var) (listed : List Terms) (left : ℕ) (t : Task) (item : Item) (lines : List Line) (place : Place)
+  chain_stands : (good : List Line) (known : List Var) (listed : List Summands) (left : ℕ) (t : Task) (item : Item) (lines : List Line) (place : Place)
       → IsTaskDue subject steps good known listed left t item → Begun (header_of subject steps t item) known left item.term lines place → Good (good ++ lines) place
   chain_stands good known listed left (task.Condition k) item lines place (index, e, at, d) h =
       d.begun lines place (subst (λ items. AreConditionsBegun Leads Works Chosen subject.goals known listed (suc index) left items lines place) (sym (drop_item subject.conditions index item at))
@@ -103,31 +103,31 @@ module _ (subject : Subject) (steps : ℕ) where
       d.begun lines place (subst (λ items. AreGoalsBegun Leads Works Chosen known listed (suc index) left items lines place) (sym (drop_item subject.goals index item at))
       (inl (subst (λ n. Begun (GoalLine n item.text) known left item.term lines place) e h)))
 
-  pub header_stands : (good : List Line) (known : List Var) (listed : List Terms) (left : ℕ) (t : Task) (item : Item) → IsTaskDue subject steps good known listed left t item
+  pub header_stands : (good : List Line) (known : List Var) (listed : List Summands) (left : ℕ) (t : Task) (item : Item) → IsTaskDue subject steps good known listed left t item
       → Good good (before_line (header_of subject steps t item))
   header_stands good known listed left t item d =
       subst (λ ls. Good ls (before_line (header_of subject steps t item))) (append-nil good)
       (chain_stands good known listed left t item [] (before_line (header_of subject steps t item)) d (inl (refl, refl)))
 
-  pub start_stands : (good : List Line) (known : List Var) (listed : List Terms) (left : ℕ) (t : Task) (d : IsStartDue subject steps good known listed left t)
+  pub start_stands : (good : List Line) (known : List Var) (listed : List Summands) (left : ℕ) (t : Task) (d : IsStartDue subject steps good known listed left t)
       → Good good (before_start left d.item.term)
   start_stands good known listed left t d =
       subst (λ ls. Good ls (before_start left d.item.term)) (sym d.split)
       (chain_stands d.before known listed left t d.item (header_of subject steps t d.item ∷ []) (before_start left d.item.term) d.due (inr (inl (refl, refl))))
 
-  pub step_stands : (good : List Line) (known : List Var) (listed : List Terms) (left : ℕ) (t : Task) (own : Option Var) (q : Terms)
+  pub step_stands : (good : List Line) (known : List Var) (listed : List Summands) (left : ℕ) (t : Task) (own : Option Var) (q : Summands)
       → IsStepDue subject steps good known listed left t own q → Good good (in_chain known left q)
   step_stands good known listed left t own q d =
       subst (λ ls. Good ls (in_chain known left q)) (sym d.split)
       (chain_stands d.before known listed d.first t d.item d.lines (in_chain known left q) d.due (inr (inr d.open_chain)))
 
   -- the header
-  abbrev pub start_due : (good : List Line) (known : List Var) (listed : List Terms) (left : ℕ) (t : Task) (item : Item) → IsTaskDue subject steps good known listed left t item
+  abbrev pub start_due : (good : List Line) (known : List Var) (listed : List Summands) (left : ℕ) (t : Task) (item : Item) → IsTaskDue subject steps good known listed left t item
       → IsStartDue subject steps (good ++ header_of subject steps t item ∷ []) known listed left t
   start_due good known listed left t item d = record { before = good; item = item; due = d; split = refl }
 
   -- the start
-  pub first_step_due : (good : List Line) (known : List Var) (listed : List Terms) (left left' : ℕ) (t : Task) (own : Option Var) (q : Terms) (d : IsStartDue subject steps good known listed left t)
+  pub first_step_due : (good : List Line) (known : List Var) (listed : List Summands) (left left' : ℕ) (t : Task) (own : Option Var) (q : Summands) (d : IsStartDue subject steps good known listed left t)
       → IsStarted left d.item.term → q ≡ start_of d.item.term → left' ≡ left - start_charge d.item.term → own ≡ only_variable q
       → IsStepDue subject steps (good ++ Start q ∷ []) known listed left' t own q
   first_step_due good known listed left left' t own q d started is charged alone =
@@ -152,7 +152,7 @@ module _ (subject : Subject) (steps : ℕ) where
       }
 
   -- one step more
-  one_more : (known : List Var) (left : ℕ) (q : Terms) (front : List ChainStep) (after : ℕ) (last : Terms) (step : ChainStep) (left' : ℕ) (r : Terms)
+  one_more : (known : List Var) (left : ℕ) (q : Summands) (front : List ChainStep) (after : ℕ) (last : Summands) (step : ChainStep) (left' : ℕ) (r : Summands)
       → Leads known left q front after last → Leads known after last (step ∷ []) left' r → Leads known left q (front ++ step ∷ []) left' r
   one_more known left q [] after last step left' r h g =
       subst (λ k. Leads known k q (step ∷ []) left' r) (sym h.0) (subst (λ t. Leads known after t (step ∷ []) left' r) (sym h.1) g)
@@ -165,13 +165,13 @@ module _ (subject : Subject) (steps : ℕ) where
   map-last (s ∷ front) step = ap (λ ys. line_of s ∷ ys) (map-last front step)
 
   -- what an open chain at this place has worked
-  pub record HasWorked (header : Line) (known : List Var) (first : ℕ) (e : Tree) (lines : List Line) (left : ℕ) (q : Terms) : Type 0 where
+  pub record HasWorked (header : Line) (known : List Var) (first : ℕ) (e : Tree) (lines : List Line) (left : ℕ) (q : Summands) : Type 0 where
     pub front : List ChainStep
     pub started : IsStarted first e
     pub leads : Leads known (first - start_charge e) (start_of e) front left q
     pub split : lines ≡ header ∷ Start (start_of e) ∷ map line_of front
 
-  pub worked_there : (header : Line) (known : List Var) (first : ℕ) (e : Tree) (lines : List Line) (left : ℕ) (q : Terms) → Open header known first e lines (in_chain known left q)
+  pub worked_there : (header : Line) (known : List Var) (first : ℕ) (e : Tree) (lines : List Line) (left : ℕ) (q : Summands) → Open header known first e lines (in_chain known left q)
       → HasWorked header known first e lines left q
   worked_there header known first e lines left q h =
       let same : in_chain known left q ≡ in_chain known h.after h.last = h.stands in
@@ -184,7 +184,7 @@ module _ (subject : Subject) (steps : ℕ) where
         split = h.split;
       }
 
-  pub next_step_due : (good : List Line) (known : List Var) (listed : List Terms) (left left' : ℕ) (t : Task) (own : Option Var) (q r : Terms) (step : ChainStep)
+  pub next_step_due : (good : List Line) (known : List Var) (listed : List Summands) (left left' : ℕ) (t : Task) (own : Option Var) (q r : Summands) (step : ChainStep)
       → IsStepDue subject steps good known listed left t own q → Leads known left q (step ∷ []) left' r
       → IsStepDue subject steps (good ++ line_of step ∷ []) known listed left' t own r
   next_step_due good known listed left left' t own q r step d g =
@@ -212,7 +212,7 @@ module _ (subject : Subject) (steps : ℕ) where
 
   -- THE END OF A CHAIN
   -- the chain with its end line
-  record IsDone (good : List Line) (known : List Var) (listed : List Terms) (left : ℕ) (t : Task) (own : Option Var) (q : Terms) : Type 0 where
+  record IsDone (good : List Line) (known : List Var) (listed : List Summands) (left : ℕ) (t : Task) (own : Option Var) (q : Summands) : Type 0 where
     before : List Line
     item : Item
     first : ℕ
@@ -223,7 +223,7 @@ module _ (subject : Subject) (steps : ℕ) where
     split : good ++ End ∷ [] ≡ before ++ chain_lines (header_of subject steps t item) item.term chain
     alone : own ≡ only_variable (start_of item.term)
 
-  done : (good : List Line) (known : List Var) (listed : List Terms) (left : ℕ) (t : Task) (own : Option Var) (q : Terms) → IsStepDue subject steps good known listed left t own q → IsEnd q
+  done : (good : List Line) (known : List Var) (listed : List Summands) (left : ℕ) (t : Task) (own : Option Var) (q : Summands) → IsStepDue subject steps good known listed left t own q → IsEnd q
       → IsDone good known listed left t own q
   done good known listed left t own q d end =
       let header = header_of subject steps t d.item in
@@ -250,7 +250,7 @@ module _ (subject : Subject) (steps : ℕ) where
   behind : (good before lines more : List Line) → good ++ End ∷ [] ≡ before ++ lines → before ++ (lines ++ more) ≡ (good ++ End ∷ []) ++ more
   behind good before lines more e = sym (append_assoc before lines more) ∙ ap (λ ls. ls ++ more) (sym e)
 
-  pub condition_done : (good : List Line) (known : List Var) (listed : List Terms) (left k : ℕ) (own : Option Var) (q : Terms)
+  pub condition_done : (good : List Line) (known : List Var) (listed : List Summands) (left k : ℕ) (own : Option Var) (q : Summands)
       → IsStepDue subject steps good known listed left (task.Condition k) own q → IsEnd q → q ≢ []
       → AreConditionsDue subject steps (good ++ End ∷ []) (known ++ option_to_list own) (listed ++ q ∷ []) left k
   condition_done good known listed left k own q d end nonzero = go (done good known listed left (task.Condition k) own q d end)
@@ -308,7 +308,7 @@ module _ (subject : Subject) (steps : ℕ) where
                 )));
           }
 
-  pub impossible_due : (good : List Line) (known : List Var) (listed : List Terms) (left k : ℕ) (own : Option Var) (q : Terms)
+  pub impossible_due : (good : List Line) (known : List Var) (listed : List Summands) (left k : ℕ) (own : Option Var) (q : Summands)
       → IsStepDue subject steps good known listed left (task.Condition k) own q → IsEnd q → q ≡ []
       → IsVerdictDue subject steps (good ++ End ∷ []) (Impossible k) left
   impossible_due good known listed left k own q d end none_left = go (done good known listed left (task.Condition k) own q d end)
@@ -341,7 +341,7 @@ module _ (subject : Subject) (steps : ℕ) where
                 (begins header known w.first left w.item w.chain (VerdictLine (Impossible (suc index)) ∷ []) w.works, inl (w.ends ∙ none_left, refl, refl, refl))));
           }
 
-  pub goal_zero : (good : List Line) (known : List Var) (listed : List Terms) (left k : ℕ) (own : Option Var) (q : Terms)
+  pub goal_zero : (good : List Line) (known : List Var) (listed : List Summands) (left k : ℕ) (own : Option Var) (q : Summands)
       → IsStepDue subject steps good known listed left (task.Goal k) own q → IsEnd q → q ≡ []
       → AreGoalsDue subject steps (good ++ End ∷ []) known listed left k
   goal_zero good known listed left k own q d end none_left = go (done good known listed left (task.Goal k) own q d end)
@@ -374,7 +374,7 @@ module _ (subject : Subject) (steps : ℕ) where
                 (begins header known w.first left w.item w.chain more w.works, inl (w.ends ∙ none_left, h))));
           }
 
-  pub goal_fails : (good : List Line) (known : List Var) (listed : List Terms) (left k : ℕ) (own : Option Var) (q : Terms)
+  pub goal_fails : (good : List Line) (known : List Var) (listed : List Summands) (left k : ℕ) (own : Option Var) (q : Summands)
       → IsStepDue subject steps good known listed left (task.Goal k) own q → IsEnd q → q ≢ []
       → IsSampleDue subject steps (good ++ End ∷ []) (listed ++ q ∷ []) (False k) left
   goal_fails good known listed left k own q d end nonzero = go (done good known listed left (task.Goal k) own q d end)
@@ -426,10 +426,10 @@ module _ (subject : Subject) (steps : ℕ) where
           }
 
   -- THE SAMPLE
-  pub sample_stands : (good : List Line) (listed : List Terms) (verdict : Verdict) (left : ℕ) → IsSampleDue subject steps good listed verdict left → Good good (before_sample listed left)
+  pub sample_stands : (good : List Line) (listed : List Summands) (verdict : Verdict) (left : ℕ) → IsSampleDue subject steps good listed verdict left → Good good (before_sample listed left)
   sample_stands good listed verdict left d = subst (λ ls. Good ls (before_sample listed left)) (append-nil good) (d.begun [] (before_sample listed left) (inl (refl, refl)))
 
-  pub verdict_due : (good : List Line) (listed : List Terms) (verdict : Verdict) (left : ℕ) (values : List (Var × ℤ)) (left' : ℕ) → IsSampleDue subject steps good listed verdict left
+  pub verdict_due : (good : List Line) (listed : List Summands) (verdict : Verdict) (left : ℕ) (values : List (Var × ℤ)) (left' : ℕ) → IsSampleDue subject steps good listed verdict left
       → IsAcceptedSample C listed left values left' → IsVerdictDue subject steps (good ++ Sample values ∷ []) verdict left'
   verdict_due good listed verdict left values left' d chosen = record {
     stands = d.begun (Sample values ∷ []) (before_line (VerdictLine verdict)) (inr (values, left', chosen, refl, refl));

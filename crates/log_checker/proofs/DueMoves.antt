@@ -4,7 +4,7 @@ use Rattle.std.specs.List.{cons_option, filter_map}
 use Rattle.geo_poly.specs.declared.replacement.Row.{Row}
 use Rattle.geo_poly.specs.declared.variables.Var.{Var}
 use Rattle.geo_poly.specs.declared.variables.Var.TheVariants.{R, S, P, X as Abscissa, Y as Ordinate, T as Number}
-use Rattle.geo_poly.specs.Polynomials.{Terms}
+use Rattle.geo_poly.specs.Polynomials.{Summands}
 use Rattle.geo_poly.specs.PolynomialVariables.{AllVariables, variables_of}
 use Rattle.geo_poly.proofs.EachVariable.{EachIn, each-variables, of-both}
 use Rattle.geo_terms.specs.Constructions.{Construction, IsConstruction}
@@ -24,7 +24,7 @@ module _ (c : Construction) where
   point_of n (Ordinate a) h = h.0
   point_of n (Number t) h = tt
 
-  pub points_named : (n : ℕ) (q : Terms) → AllVariables (IsNamed c n) q → AllVariables (HasPointsBelow n) q
+  pub points_named : (n : ℕ) (q : Summands) → AllVariables (IsNamed c n) q → AllVariables (HasPointsBelow n) q
   points_named n q h = of-both (IsNamed c n) (IsNamed c n) (HasPointsBelow n) (λ v a b. point_of n v a) q h h
 
   module _ (valid : IsConstruction c) (n : ℕ) (move : Move) (past : IsPlaceBelow n (place_of move) → ⊥) where
@@ -38,5 +38,5 @@ module _ (c : Construction) where
         ap (λ o. cons_option o (filter_map (lemma_table.row c move) vs)) (no_row v (lemma_table.row c move v) refl h.0) ∙ no_rows vs h.1
 
     -- a move that looks at a point past the last one replaces nothing
-    pub nothing_past : (q : Terms) → AllVariables (IsNamed c n) q → (replacement lemma_table c move q).rows ≡ []
+    pub nothing_past : (q : Summands) → AllVariables (IsNamed c n) q → (replacement lemma_table c move q).rows ≡ []
     nothing_past q h = no_rows (variables_of q) (each-variables (IsNamed c n) q h)

@@ -2,7 +2,7 @@
 use Rattle.std.proofs.Common.{◌≡◌, ℕ, suc, ◌-◌, ◌<◌, List, [], ◌∷◌, ◌++◌, Option, map, length, refl, sym, ap, subst}
 use Rattle.std.proofs.lemmas.List.Elements.{recursion_from_All}
 use Rattle.geo_poly.specs.declared.variables.Var.{Var}
-use Rattle.geo_poly.specs.Polynomials.{Terms}
+use Rattle.geo_poly.specs.Polynomials.{Summands}
 use Rattle.geo_terms.specs.Constructions.{Construction, IsConstruction}
 use Rattle.geo_terms.specs.TermBounds.{IsTermBelow}
 use Rattle.geo_program.specs.WellFormed.{IsWellFormed, Source}
@@ -62,13 +62,13 @@ module _ (q : Problem) (ready : IsReady q) where
   pub construction_valid : IsConstruction q.steps
   construction_valid = valid p subject ready.well_formed parts
 
-  task_below : (texts : List (List ℕ)) (steps : ℕ) (good : List Line) (known : List Var) (listed : List Terms) (left : ℕ) (t : Task) (item : Item)
+  task_below : (texts : List (List ℕ)) (steps : ℕ) (good : List Line) (known : List Var) (listed : List Summands) (left : ℕ) (t : Task) (item : Item)
       → IsTaskDue (subject_of texts q) steps good known listed left t item → IsTermBelow (length q.steps.steps) q.steps.params item.term
   task_below texts steps good known listed left (task.Condition k) item (index, e, at, d) = (conditions_named p subject ready.well_formed parts index item at).0
   task_below texts steps good known listed left (task.Goal k) item (index, e, at, d) = (goals_named p subject ready.well_formed parts index item at).0
 
   -- the polynomial of a chain in work
-  pub step_named : (e : Evidence) (t : Task) (own : Option Var) (r : Terms) → IsReached q e (due.Step t own r) → IsNamedBy q.steps r
+  pub step_named : (e : Evidence) (t : Task) (own : Option Var) (r : Summands) → IsReached q e (due.Step t own r) → IsNamedBy q.steps r
   step_named e t own r (texts, steps, good, d) =
       let s = subject_of texts q in
       let term = d.item.term in

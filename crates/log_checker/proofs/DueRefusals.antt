@@ -2,7 +2,7 @@
 use Rattle.std.proofs.Common.{◌≡◌, ◌≢◌, ℕ, suc, ◌<◌, ◌==◌, inl, inr, false, ℤ, Option, Some, None, List, [], ◌∷◌, ◌++◌, refl, sym, ◌∙◌, subst, arith}
 use Rattle.std.proofs.lemmas.Bool.Decides.{nat_tests}
 use Rattle.geo_poly.specs.declared.variables.Var.{Var}
-use Rattle.geo_poly.specs.Polynomials.{Terms}
+use Rattle.geo_poly.specs.Polynomials.{Summands}
 use Rattle.geo_points.specs.declared.ids.TermId.{TermId}
 use Rattle.geo_terms.specs.Constructions.{Construction}
 use Rattle.geo_terms.specs.Stores.{tree_of}
@@ -55,7 +55,7 @@ other_kind a b e same = let q : (kind_number a == kind_number a) ≡ false = sub
     go : (n : ℕ) → (n == n) ≡ false → ⊥
     go n q = grind (arith, nat_tests)
 
-pub no_start : (line : Line) → ((q : Terms) → line ≢ Start q) → kind_of line ≢ start_kind
+pub no_start : (line : Line) → ((q : Summands) → line ≢ Start q) → kind_of line ≢ start_kind
 no_start (Start q) h = absurd (h q refl)
 no_start line h = other_kind (kind_of line) start_kind refl
 
@@ -110,12 +110,12 @@ module _ (q : Problem) (e : Evidence) where
   pub start_wrong_line : (t : Task) (term : TermId) (line : Line) → kind_of line ≢ start_kind → RefusesWhere q e (due.Start t term) line (Rejected reason.WrongLine)
   start_wrong_line t term line n = start_refused t term line (Rejected reason.WrongLine) (inl (n, refl))
 
-  pub step_refused : (t : Task) (own : Option Var) (r : Terms) (line : Line) (stop : Stop) → RefusesAt q.steps (in_chain e.known e.budget.left r) line stop
+  pub step_refused : (t : Task) (own : Option Var) (r : Summands) (line : Line) (stop : Stop) → RefusesAt q.steps (in_chain e.known e.budget.left r) line stop
       → RefusesWhere q e (due.Step t own r) line stop
   step_refused t own r line stop h texts steps good d =
       refused_there texts steps good (in_chain e.known e.budget.left r) (step_stands (subject_of texts q) steps good e.known e.ends e.budget.left t own r d) line stop h
 
-  pub step_not_ended : (t : Task) (own : Option Var) (r : Terms) → (IsEnd r → ⊥) → RefusesWhere q e (due.Step t own r) End (Rejected reason.NotEnded)
+  pub step_not_ended : (t : Task) (own : Option Var) (r : Summands) → (IsEnd r → ⊥) → RefusesWhere q e (due.Step t own r) End (Rejected reason.NotEnded)
   step_not_ended t own r n = step_refused t own r End (Rejected reason.NotEnded) (inr (refl, (refl, n)))
 
   pub sample_refused : (v : Verdict) (line : Line) (stop : Stop) → RefusesAt q.steps (before_sample e.ends e.budget.left) line stop → RefusesWhere q e (due.Sample v) line stop

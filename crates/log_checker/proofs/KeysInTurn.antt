@@ -1,7 +1,7 @@
 -- Keys of a list, looked at one after another.
 use Rattle.std.proofs.Common.{◌≡◌, ℕ, zero, suc, ◌+◌, ◌<◌, ◌≤◌, ◌⊎◌, inl, inr, Bool, true, false, IsTrue, ◌↔◌, Option, Some, None, List, [], ◌∷◌, length, refl, sym, subst, arith}
 use Rattle.sparse_lists.specs.SparseLists.{AllKeys}
-use Rattle.geo_poly.specs.Polynomials.{Terms, term_at}
+use Rattle.geo_poly.specs.Polynomials.{Summands, term_at}
 use Rattle.geo_poly.specs.Monomials.{Powers}
 use Rattle.log_checker.proofs.Places.{At, below, first, none}
 
@@ -60,22 +60,22 @@ module _ {K V : Type 0} (P : K → Type 0) where
 
 -- the same of the terms of a polynomial
 module _ (P : Powers → Type 0) where
-  abbrev pub TermsBelow : ℕ → Terms → Type 0
+  abbrev pub TermsBelow : ℕ → Summands → Type 0
   TermsBelow n q = (k : ℕ) → k < n → P (term_at q k).0
 
-  pub terms_more : (q : Terms) (n : ℕ) → P (term_at q n).0 → TermsBelow n q → TermsBelow (n + 1) q
+  pub terms_more : (q : Summands) (n : ℕ) → P (term_at q n).0 → TermsBelow n q → TermsBelow (n + 1) q
   terms_more q n p h k l = go (same_or_below k n l)
     where
       go : (k < n) ⊎ (k ≡ n) → P (term_at q k).0
       go (inl lt) = h k lt
       go (inr same) = subst (λ i. P (term_at q i).0) (sym same) p
 
-  pub terms_all : (q : Terms) (n : ℕ) → length q ≤ n → TermsBelow n q → AllKeys P q
+  pub terms_all : (q : Summands) (n : ℕ) → length q ≤ n → TermsBelow n q → AllKeys P q
   terms_all [] n l h = tt
   terms_all (t ∷ q) zero l h = absurd (omega (arith, l))
   terms_all (t ∷ q) (suc n) l h = (h 0 (omega arith), terms_all q n (omega (arith, l)) (λ k lt. h (suc k) (omega (arith, lt))))
 
-  pub term_of : (q : Terms) (k : ℕ) → k < length q → AllKeys P q → P (term_at q k).0
+  pub term_of : (q : Summands) (k : ℕ) → k < length q → AllKeys P q → P (term_at q k).0
   term_of [] k l h = absurd (omega (arith, l))
   term_of (t ∷ q) zero l h = h.0
   term_of (t ∷ q) (suc k) l h = term_of q k (omega (arith, l)) h.1

@@ -2,7 +2,7 @@
 use Rattle.std.specs.Prelude.{◌≡◌, ◌≢◌, ℕ, suc, ◌<◌, ◌≤◌, Option, Some, None, List, [], ◌∷◌, ◌++◌, length, map, slice_get, drop}
 use Rattle.std.specs.List.{flat_map}
 use Rattle.geo_poly.specs.declared.variables.Var.{Var}
-use Rattle.geo_poly.specs.Polynomials.{Terms}
+use Rattle.geo_poly.specs.Polynomials.{Summands}
 use Rattle.geo_terms.specs.Constructions.{Construction}
 use Rattle.geo_terms.specs.Stores.{tree_of}
 use Rattle.geo_program.specs.Programs.{source_of}
@@ -54,7 +54,7 @@ module _ (subject : Subject) (steps : ℕ) where
       subject.goals [] [] 1 steps subject.conditions lines verdict left
 
   -- the chain of the condition at this index: what begins or ends from there on begins or ends the log
-  pub record AreConditionsDue (good : List Line) (known : List Var) (listed : List Terms) (left index : ℕ) : Type 0 where
+  pub record AreConditionsDue (good : List Line) (known : List Var) (listed : List Summands) (left index : ℕ) : Type 0 where
     pub begun : let c = subject.construction in (more : List Line) (place : Place)
         → AreConditionsBegun (LeadsTo lemma_table c) (IsAcceptedChain lemma_table c) (IsAcceptedSample c)
         subject.goals known listed (suc index) left (drop index subject.conditions) more place
@@ -65,7 +65,7 @@ module _ (subject : Subject) (steps : ℕ) where
         → IsWhole (good ++ more) verdict left'
 
   -- the chain of the goal at this index
-  pub record AreGoalsDue (good : List Line) (known : List Var) (listed : List Terms) (left index : ℕ) : Type 0 where
+  pub record AreGoalsDue (good : List Line) (known : List Var) (listed : List Summands) (left index : ℕ) : Type 0 where
     pub begun : let c = subject.construction in (more : List Line) (place : Place)
         → AreGoalsBegun (LeadsTo lemma_table c) (IsAcceptedChain lemma_table c) (IsAcceptedSample c)
         known listed (suc index) left (drop index subject.goals) more place
@@ -76,7 +76,7 @@ module _ (subject : Subject) (steps : ℕ) where
         → IsWhole (good ++ more) verdict left'
 
   -- a sample, and then this verdict
-  pub record IsSampleDue (good : List Line) (listed : List Terms) (verdict : Verdict) (left : ℕ) : Type 0 where
+  pub record IsSampleDue (good : List Line) (listed : List Summands) (verdict : Verdict) (left : ℕ) : Type 0 where
     pub begun : let c = subject.construction in (more : List Line) (place : Place)
         → IsBegunEnd (LeadsTo lemma_table c) (IsAcceptedChain lemma_table c) (IsAcceptedSample c) listed verdict left more place
         → IsGoodSoFar lemma_table subject steps (good ++ more) place
@@ -95,21 +95,21 @@ module _ (subject : Subject) (steps : ℕ) where
   header_of (task.Goal k) item = GoalLine k item.text
 
   -- the chain of this item
-  abbrev pub IsTaskDue : List Line → List Var → List Terms → ℕ → Task → Item → Type 0
+  abbrev pub IsTaskDue : List Line → List Var → List Summands → ℕ → Task → Item → Type 0
   IsTaskDue good known listed left (task.Condition k) item =
       (index : ℕ) × (k ≡ suc index) × (slice_get subject.conditions index ≡ Some item) × AreConditionsDue good known listed left index
   IsTaskDue good known listed left (task.Goal k) item =
       (index : ℕ) × (k ≡ suc index) × (slice_get subject.goals index ≡ Some item) × AreGoalsDue good known listed left index
 
   -- the start of the chain whose header is the last line
-  pub record IsStartDue (good : List Line) (known : List Var) (listed : List Terms) (left : ℕ) (task : Task) : Type 0 where
+  pub record IsStartDue (good : List Line) (known : List Var) (listed : List Summands) (left : ℕ) (task : Task) : Type 0 where
     pub before : List Line
     pub item : Item
     pub due : IsTaskDue before known listed left task item
     pub split : good ≡ before ++ header_of task item ∷ []
 
   -- a line of the chain, after the polynomial; where its start is a multiple of one variable, this is `own`
-  pub record IsStepDue (good : List Line) (known : List Var) (listed : List Terms) (left : ℕ) (task : Task) (own : Option Var) (q : Terms)
+  pub record IsStepDue (good : List Line) (known : List Var) (listed : List Summands) (left : ℕ) (task : Task) (own : Option Var) (q : Summands)
       : Type 0 where
     pub before : List Line
     pub lines : List Line

@@ -1,6 +1,6 @@
 -- What the code answers of a line, part by part.
 use Rattle.std.specs.Prelude.{◌≡◌, ◌≢◌, ℕ, suc, ◌⊎◌, Option, Some, None, List, [], ◌∷◌, ◌++◌, map, length}
-use Rattle.geo_poly.specs.Polynomials.{Terms}
+use Rattle.geo_poly.specs.Polynomials.{Summands}
 use Rattle.geo_poly.specs.PolynomialVariables.{AllVariables}
 use Rattle.geo_terms.specs.Constructions.{Construction}
 use Rattle.geo_program.specs.CanonicalText.{canonical_text}
@@ -39,13 +39,13 @@ abbrev pub RefusesAt : Construction → Place → Line → Stop → Type 0
 RefusesAt c place line = Tells (IsRefused lemma_table c place (Some line))
 
 -- the line is that of a step of a chain
-pub record IsStepLine (c : Construction) (known : List Var) (left : ℕ) (q : Terms) (line : Line) (left' : ℕ) (r : Terms) : Type 0 where
+pub record IsStepLine (c : Construction) (known : List Var) (left : ℕ) (q : Summands) (line : Line) (left' : ℕ) (r : Summands) : Type 0 where
   pub step : ChainStep
   pub leads : LeadsTo lemma_table c known left q (step ∷ []) left' r
   pub is : line ≡ line_of step
 
 -- all that the polynomial names is in the construction
-abbrev pub IsNamedBy : Construction → Terms → Type 0
+abbrev pub IsNamedBy : Construction → Summands → Type 0
 IsNamedBy c q = AllVariables (IsNamed c (length c.steps)) q
 
 -- the problem is that of a program
