@@ -1,7 +1,6 @@
 -- The first line feed of bytes.
-use Rattle.std.proofs.Common.{◌≡◌, ◌≢◌, ℕ, zero, suc, ◌+◌, ◌-◌, ◌<◌, ◌≤◌, ◌==◌, nat_lt, Bool, true, false, cond, Option, Some, None, List, [], ◌∷◌, ◌++◌, length, take, drop, refl, sym, ◌∙◌, ap, subst, arith}
+use Rattle.std.proofs.Common.{◌≡◌, ◌≢◌, ℕ, zero, suc, ◌+◌, ◌-◌, ◌<◌, ◌≤◌, ◌==◌, nat_lt, Bool, true, false, not, cond, Option, Some, None, List, [], ◌∷◌, ◌++◌, length, take, drop, refl, sym, ◌∙◌, ap, subst, arith}
 use Rattle.std.specs.Prelude.{position}
-use Rattle.std.specs.Bool.{not}
 use Rattle.std.specs.List.{position_or_len, prefix_len}
 use Rattle.std.proofs.lemmas.Bool.Decides.{nat_tests}
 use Rattle.proof_log.specs.Writable.{HasNoLineFeed}
@@ -34,29 +33,29 @@ front_behind x xs e = ap (λ b. cond (not b) (1 + front xs) 0) e ∙ one_plus (f
 
 front_free : (xs : List ℕ) → HasNoLineFeed (take (front xs) xs)
 front_free [] = tt
-front_free (x ∷ xs) = go (x == 10) refl
+front_free (x ∷ xs) = go (front_free xs) (x == 10) refl
   where
-    go : (t : Bool) → (x == 10) ≡ t → HasNoLineFeed (take (front (x ∷ xs)) (x ∷ xs))
-    go true e = subst (λ n. HasNoLineFeed (take n (x ∷ xs))) (sym (front_at x xs e)) tt
-    go false e = subst (λ n. HasNoLineFeed (take n (x ∷ xs))) (sym (front_behind x xs e)) (other_byte x e, front_free xs)
+    go : HasNoLineFeed (take (front xs) xs) → (t : Bool) → (x == 10) ≡ t → HasNoLineFeed (take (front (x ∷ xs)) (x ∷ xs))
+    go free true e = subst (λ n. HasNoLineFeed (take n (x ∷ xs))) (sym (front_at x xs e)) tt
+    go free false e = subst (λ n. HasNoLineFeed (take n (x ∷ xs))) (sym (front_behind x xs e)) (other_byte x e, free)
 
 front_splits : (xs : List ℕ) → front xs < length xs → xs ≡ take (front xs) xs ++ 10 ∷ drop (suc (front xs)) xs
 front_splits [] l = absurd (omega (arith, l))
-front_splits (x ∷ xs) l = go (x == 10) refl
+front_splits (x ∷ xs) l = go (λ below. front_splits xs below) (x == 10) refl
   where
-    go : (t : Bool) → (x == 10) ≡ t → x ∷ xs ≡ take (front (x ∷ xs)) (x ∷ xs) ++ 10 ∷ drop (suc (front (x ∷ xs))) (x ∷ xs)
-    go true e = subst (λ n. x ∷ xs ≡ take n (x ∷ xs) ++ 10 ∷ drop (suc n) (x ∷ xs)) (sym (front_at x xs e)) (ap (λ b. b ∷ xs) (same_byte x e))
-    go false e =
+    go : (front xs < length xs → xs ≡ take (front xs) xs ++ 10 ∷ drop (suc (front xs)) xs) → (t : Bool) → (x == 10) ≡ t → x ∷ xs ≡ take (front (x ∷ xs)) (x ∷ xs) ++ 10 ∷ drop (suc (front (x ∷ xs))) (x ∷ xs)
+    go behind true e = subst (λ n. x ∷ xs ≡ take n (x ∷ xs) ++ 10 ∷ drop (suc n) (x ∷ xs)) (sym (front_at x xs e)) (ap (λ b. b ∷ xs) (same_byte x e))
+    go behind false e =
         let below : front xs < length xs = omega (arith, l, front_behind x xs e) in
-        subst (λ n. x ∷ xs ≡ take n (x ∷ xs) ++ 10 ∷ drop (suc n) (x ∷ xs)) (sym (front_behind x xs e)) (ap (λ ys. x ∷ ys) (front_splits xs below))
+        subst (λ n. x ∷ xs ≡ take n (x ∷ xs) ++ 10 ∷ drop (suc n) (x ∷ xs)) (sym (front_behind x xs e)) (ap (λ ys. x ∷ ys) (behind below))
 
 all_free : (xs : List ℕ) → length xs ≤ front xs → HasNoLineFeed xs
 all_free [] l = tt
-all_free (x ∷ xs) l = go (x == 10) refl
+all_free (x ∷ xs) l = go (λ below. all_free xs below) (x == 10) refl
   where
-    go : (t : Bool) → (x == 10) ≡ t → HasNoLineFeed (x ∷ xs)
-    go true e = absurd (omega (arith, l, front_at x xs e))
-    go false e = (other_byte x e, all_free xs (omega (arith, l, front_behind x xs e)))
+    go : (length xs ≤ front xs → HasNoLineFeed xs) → (t : Bool) → (x == 10) ≡ t → HasNoLineFeed (x ∷ xs)
+    go free true e = absurd (omega (arith, l, front_at x xs e))
+    go free false e = (other_byte x e, free (omega (arith, l, front_behind x xs e)))
 
 -- where it stands
 pub feed_found : (xs : List ℕ) (at : ℕ) → position (λ b. b == 10) xs ≡ Some at → IsFirstPiece xs (take at xs) (drop (suc at) xs) × (at < length xs)
