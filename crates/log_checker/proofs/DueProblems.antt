@@ -93,9 +93,11 @@ module _ (q : Problem) (ready : IsReady q) where
       let s = subject_of texts q in
       let log : stored.Item → Item = λ i. log_item (item_form q.steps.nodes i) in
       subst (λ u. IsDue s steps e (due.Start u item.term) (good ++ line ∷ [])) (sym same)
-      (subst (λ l. IsDue s steps e (due.Start (task.Condition (suc index)) item.term) (good ++ l ∷ [])) (sym is)
-      (start_due s steps good e.known e.ends e.budget.left (task.Condition (suc index)) (log item) (index, refl, at_map log q.conditions index item at, d.1),
-      condition_stored index item at, refl))
+      (subst (λ l. IsDue s steps e (due.Start (task.Condition (suc index)) item.term) (good ++ l ∷ [])) (sym is) (
+        start_due s steps good e.known e.ends e.budget.left (task.Condition (suc index)) (log item) (index, refl, at_map log q.conditions index item at, d.1),
+        condition_stored index item at,
+        refl,
+      ))
 
   pub goal_goes : (e : Evidence) (index : ℕ) (item : stored.Item) (line : Line) (t : Task) → At q.goals index item → line ≡ GoalLine (suc index) item.text
       → t ≡ task.Goal (suc index) → LeadsOn q e (due.Goal index) line e (due.Start t item.term)
@@ -103,6 +105,8 @@ module _ (q : Problem) (ready : IsReady q) where
       let s = subject_of texts q in
       let log : stored.Item → Item = λ i. log_item (item_form q.steps.nodes i) in
       subst (λ u. IsDue s steps e (due.Start u item.term) (good ++ line ∷ [])) (sym same)
-      (subst (λ l. IsDue s steps e (due.Start (task.Goal (suc index)) item.term) (good ++ l ∷ [])) (sym is)
-      (start_due s steps good e.known e.ends e.budget.left (task.Goal (suc index)) (log item) (index, refl, at_map log q.goals index item at, d.1),
-      goal_stored index item at, refl))
+      (subst (λ l. IsDue s steps e (due.Start (task.Goal (suc index)) item.term) (good ++ l ∷ [])) (sym is) (
+        start_due s steps good e.known e.ends e.budget.left (task.Goal (suc index)) (log item) (index, refl, at_map log q.goals index item at, d.1),
+        goal_stored index item at,
+        refl,
+      ))

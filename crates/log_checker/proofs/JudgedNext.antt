@@ -98,15 +98,18 @@ module _ (w : Work) (steps : ℕ) where
         → IsRefusedWork w steps good read number n refusal → StopsNext steps lines read n refusal
     refused_next read number n refusal e over h more =
         subst (λ ls. IsFirstStop steps (map Some ls ++ read ∷ more) n refusal) (sym is)
-        (inr (begins (source_lines p) good (read ∷ more) (over more), inr (inr (record {
-          something = no_more good read more;
-          program = p;
-          well_formed = at.well_formed;
-          written = refl;
-          subject = subject;
-          about = subject_there;
-          refused = refused_first read more n refusal (h.at ∙ e) h.refused;
-        }))))
+        (inr (
+          begins (source_lines p) good (read ∷ more) (over more),
+          inr (inr (record {
+            something = no_more good read more;
+            program = p;
+            well_formed = at.well_formed;
+            written = refl;
+            subject = subject;
+            about = subject_there;
+            refused = refused_first read more n refusal (h.at ∙ e) h.refused;
+          })),
+        ))
 
     -- a bad line is refused wherever the log stands
     pub bad_next : (number : ℕ) → IsRefusedWork w steps good None number number (rejected bad_line)
@@ -123,22 +126,25 @@ module _ (w : Work) (steps : ℕ) where
         let whole : map Some (Header ∷ map ProgramLine (source_lines p) ++ good) ++ [] ≡ map Some lines =
         append-nil (map Some (Header ∷ map ProgramLine (source_lines p) ++ good)) ∙ ap (λ (ls : List Line). map Some ls) (sym is) in
         subst (λ rs. IsFirstStop steps rs number (rejected unfinished)) whole
-        (inr (begins (source_lines p) good [] (subst IsProgramOver (sym (append-nil (map Some good))) over), inr (inr (record {
-          something = λ none. none_read good some (sym (append-nil (map Some good)) ∙ none);
-          program = p;
-          well_formed = at.well_formed;
-          written = refl;
-          subject = subject;
-          about = subject_there;
-          refused = inr (inr (record {
-            good = good;
-            place = place;
-            split = append-nil (map Some good);
-            counted = e ∙ number_there;
-            stands = stands_there;
-            refused = refl;
-          }));
-        }))))
+        (inr (
+          begins (source_lines p) good [] (subst IsProgramOver (sym (append-nil (map Some good))) over),
+          inr (inr (record {
+            something = λ none. none_read good some (sym (append-nil (map Some good)) ∙ none);
+            program = p;
+            well_formed = at.well_formed;
+            written = refl;
+            subject = subject;
+            about = subject_there;
+            refused = inr (inr (record {
+              good = good;
+              place = place;
+              split = append-nil (map Some good);
+              counted = e ∙ number_there;
+              stands = stands_there;
+              refused = refl;
+            }));
+          })),
+        ))
       where
         none_read : (ls : List Line) → ls ≢ [] → ◌≡◌ {A = List (Option Line)} (map Some ls) [] → ⊥
         none_read [] n none = n refl

@@ -87,9 +87,10 @@ is_equal Greater h = absurd (false_not h)
 
 -- the test of variables by their order
 pub same_by_cmp : (b : Bool) (v w : Var) → b ≡ eq_by_cmp var_cmp v w → IsTrue b ↔ (v ≡ w)
-same_by_cmp b v w e =
-    ((λ h. var_order.exact v w (is_equal (var_cmp v w) (sym e ∙ h))),
-    (λ s. e ∙ ap (λ u. is_eq (var_cmp v u)) (sym s) ∙ ap is_eq (var_order.self v)))
+same_by_cmp b v w e = (
+  (λ h. var_order.exact v w (is_equal (var_cmp v w) (sym e ∙ h))),
+  (λ s. e ∙ ap (λ u. is_eq (var_cmp v u)) (sym s) ∙ ap is_eq (var_order.self v)),
+)
 
 -- values that can be written fit
 pub all_fit : (values : List (Var × ℤ)) → CanWriteValues values → All (λ (v : Var × ℤ). unsigned_abs v.1 < 2 ^ 127) values

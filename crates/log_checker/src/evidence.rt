@@ -5,8 +5,8 @@ ghost use Rattle.std.specs.Prelude.{◌≡◌, [], ◌∷◌, ◌++◌, OnOk};
 
 use geo_base::Budget;
 use geo_points::NoMemory;
-use geo_poly::{Poly, Var};
 use geo_poly::lists::{Polys, Vars};
+use geo_poly::{Poly, Var};
 use std::alloc::Global;
 
 /// What the chains so far leave for the lines after them.

@@ -205,12 +205,7 @@ fn after_work(
 }
 
 /// The work behind the line of this number.
-fn after_work_line(
-    alloc: Global,
-    number: u64,
-    work: Work,
-    line: Line,
-) -> Result<Work, CheckError>
+fn after_work_line(alloc: Global, number: u64, work: Work, line: Line) -> Result<Work, CheckError>
     requires reached { (steps : ℕ) × (good : List Line) × IsAtWork work steps good }
     requires writable { IsWritable line }
     ensures goes { IfOk result (GoesOn work line) }

@@ -24,8 +24,8 @@ returns-in_err-take-clause-refused c =
     let first = (feed_found c.loop-at.rest.now c.in-Some.at (sym c.line_feed_at.ensures ∙ c.in-Some.is)).0 in
     passed_on c.from_residual-in_err-take.result c.in_err-take.field-0.0 (TellsStop (IsRefusedLog c.args.bytes.now c.args.steps)) c.from_residual-in_err-take.ensures.1
     (
-      stops_early c.args.bytes.now c.loop-at.rest.now (take c.in-Some.at c.loop-at.rest.now) (drop (suc c.in-Some.at) c.loop-at.rest.now) c.args.steps
-      c.loop-at.checker t c.in_err-take.field-0.0 first.split (c.in_err-take.ensures.refused t.pieces t.stands)
+    stops_early c.args.bytes.now c.loop-at.rest.now (take c.in-Some.at c.loop-at.rest.now) (drop (suc c.in-Some.at) c.loop-at.rest.now) c.args.steps
+    c.loop-at.checker t c.in_err-take.field-0.0 first.split (c.in_err-take.ensures.refused t.pieces t.stands)
     )
 
 pub loop-at-preserved : goal.loop-at-preserved
@@ -34,8 +34,8 @@ loop-at-preserved c =
     let first = (feed_found c.loop-at.rest.now c.in-Some.at (sym c.line_feed_at.ensures ∙ c.in-Some.is)).0 in
     subst (IsTaken c.args.bytes.now c.args.steps c.take.new.self) (behind_feed c.loop-at.rest.now c.in-Some.at)
     (
-      taken_more c.args.bytes.now c.loop-at.rest.now (take c.in-Some.at c.loop-at.rest.now) (drop (suc c.in-Some.at) c.loop-at.rest.now) c.args.steps
-      c.loop-at.checker c.take.new.self t first.split c.in_ok-take.ensures.steps (c.in_ok-take.ensures.goes t.pieces t.stands)
+    taken_more c.args.bytes.now c.loop-at.rest.now (take c.in-Some.at c.loop-at.rest.now) (drop (suc c.in-Some.at) c.loop-at.rest.now) c.args.steps
+    c.loop-at.checker c.take.new.self t first.split c.in_ok-take.ensures.steps (c.in_ok-take.ensures.goes t.pieces t.stands)
     )
 
 pub finish-requires-clause-one_line : goal.finish-requires-clause-one_line
@@ -47,6 +47,6 @@ returns-clause-means c =
     IfOk-weaker c.finish.result (IsAnswer c.args.bytes.now c.args.steps) (λ a. BytesMean c.args.bytes.now (source_of a.program) a.verdict)
     (λ a answer. accepted_bytes_mean c.args.bytes.now c.args.steps (source_of a.program) a.verdict answer.accepts)
     (
-      subst (λ bs. IfOk c.finish.result (IsAnswer bs c.args.steps)) (sym t.split)
-      (subst (λ k. IfOk c.finish.result (IsAnswer (with_feeds t.pieces ++ c.loop-at.rest.now) k)) t.steps_are (c.finish.ensures.accepted t.pieces t.stands))
+    subst (λ bs. IfOk c.finish.result (IsAnswer bs c.args.steps)) (sym t.split)
+    (subst (λ k. IfOk c.finish.result (IsAnswer (with_feeds t.pieces ++ c.loop-at.rest.now) k)) t.steps_are (c.finish.ensures.accepted t.pieces t.stands))
     )
