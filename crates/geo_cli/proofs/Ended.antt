@@ -1,11 +1,15 @@
 -- How a run ends, from what its parts say.
+use Rattle.std.specs.Prelude.{IfSome}
 use Rattle.std.proofs.Common.{◌≡◌, ◌≢◌, ◌⊎◌, inl, inr, ℕ, ◌<◌, ◌≤◌, ◌^◌, List, [], ◌∷◌, Option, Some, refl, sym, ◌∙◌, ap, subst, arith}
 use Rattle.geo_base.specs.Devices.{Grows, HasRisen}
 use Rattle.geo_cli.specs.declared.order.Order.{Order}
 use Rattle.geo_cli.specs.declared.status.Status.{Status}
 use Rattle.geo_cli.specs.declared.status.Status.TheVariants as status
 use Rattle.geo_cli.specs.Due.{Due, IsAcceptedDue, IsCalledFor, IsDue, IsDueFor, IsDueForLog, IsLogDue, IsNoCommand, IsReadDue, usage_line}
-use Rattle.geo_cli.specs.Input.{IsInput, log_limit, program_limit}
+use Rattle.geo_cli.specs.declared.words.Task.{Task}
+use Rattle.geo_cli.specs.declared.words.Task.TheVariants as task
+use Rattle.geo_cli.specs.Inner.Tasks.{IsTask}
+use Rattle.geo_cli.specs.Input.{IsInput, Takes, log_limit, program_limit}
 use Rattle.geo_cli.specs.Orders.{IsOrder, TellsSteps}
 use Rattle.geo_cli.specs.Run.{Answers, Checks, Ends, FailsToRead, IsAnswered, IsCutShort, Proves, RunsOut}
 use Rattle.geo_cli.specs.Status.{ending_status, refusal_status, status_number, verdict_status}
@@ -188,3 +192,21 @@ misused words left held held' g f f' s none h = inl (record {
   cause = inl (record { no_command = none; unread = refl; is = refl });
   answered = h;
 })
+
+-- they call for nothing
+pub uncalled : (words : List (List ℕ)) (bytes : List ℕ) (due : Due) (P : Type 0) → IsNoCommand words → IsCalledFor words bytes due → P
+uncalled words bytes due P none (inl (n, command, call)) = absurd (none.no_prove n command)
+uncalled words bytes due P none (inr (n, command, call)) = absurd (none.no_check n command)
+
+-- WORDS THAT ARE A COMMAND
+pub ordered_prove : (words : List (List ℕ)) (answer : Option Task) (steps : ℕ) → answer ≡ Some (task.Prove steps) → IfSome answer (IsTask words)
+    → IsProve words steps
+ordered_prove words answer steps is h = subst (λ (a : Option Task). IfSome a (IsTask words)) is h
+
+pub ordered_check : (words : List (List ℕ)) (answer : Option Task) (steps : ℕ) → answer ≡ Some (task.Check steps) → IfSome answer (IsTask words)
+    → IsCheck words steps
+ordered_check words answer steps is h = subst (λ (a : Option Task). IfSome a (IsTask words)) is h
+
+-- what is within the limit of a program is within that of a log
+pub takes_more : (left left' : Option (List ℕ)) → Takes program_limit left left' → Takes log_limit left left'
+takes_more left left' h = let few = h.few in record { taken = h.taken; lost = h.lost; few = omega (arith, few) }

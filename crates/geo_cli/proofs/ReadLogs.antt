@@ -71,7 +71,7 @@ taken_next steps pieces checker checker' line (Err e) same took (inl stands) =
       e,
       took.fails,
       tells_stop_map (StopsAt checker.steps (pieces ++ line ∷ [])) (StopsEarly (with_feeds (pieces ++ line ∷ [])) steps)
-      (λ n r h. early steps (pieces ++ line ∷ []) n r (subst (λ k. StopsAt k (pieces ++ line ∷ []) n r) same h)) e (took.refused pieces stands),
+          (λ n r h. early steps (pieces ++ line ∷ []) n r (subst (λ k. StopsAt k (pieces ++ line ∷ []) n r) same h)) e (took.refused pieces stands),
     )
 taken_next steps pieces checker checker' line answer same took (inr (e, failed, tells)) =
     inr (
@@ -144,7 +144,7 @@ reading_next steps left l l' reader reader' checker checker' line answer h took 
     record {
       pieces = h.pieces ++ line ∷ [];
       opened = subst (λ bs. Loses left bs (open_bytes reader'.waiting l')) (sym (one_more h.pieces line))
-      (Loses-append left (open_bytes reader.waiting l) (open_bytes reader'.waiting l') bytes (line ++ 10 ∷ []) h.opened opened);
+          (Loses-append left (open_bytes reader.waiting l) (open_bytes reader'.waiting l') bytes (line ++ 10 ∷ []) h.opened opened);
       counted = let c = counts.counted in let d = h.counted in omega (arith, c, d, size);
       limit = counts.limit ∙ h.limit;
       within = let c = counts.limit in let d = h.limit in omega (arith, within, c, d);
@@ -190,11 +190,10 @@ module _ (steps : ℕ) (left l l' : Option (List ℕ)) (reader reader' : ReaderS
   judged rest answer f (inl stands) =
       subst (λ k. IsJudgement (with_feeds h.pieces ++ rest) k answer) h.steps_are (f.accepted h.pieces stands, f.refused h.pieces stands)
   judged rest answer f (inr (e, failed, tells)) =
-      subst (IsJudgement (with_feeds h.pieces ++ rest) steps) (sym (f.failed e failed))
-      (
+      subst (IsJudgement (with_feeds h.pieces ++ rest) steps) (sym (f.failed e failed)) (
         tt,
         tells_stop_map (StopsEarly (with_feeds h.pieces) steps) (IsRefusedLog (with_feeds h.pieces ++ rest) steps)
-        (λ n r s. inl (early_more (with_feeds h.pieces) rest steps n r s)) e tells,
+            (λ n r s. inl (early_more (with_feeds h.pieces) rest steps n r s)) e tells,
       )
 
   -- the log was read to its end

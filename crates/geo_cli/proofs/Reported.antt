@@ -1,11 +1,12 @@
 -- What `check` tells of a log is what is due for it.
-use Rattle.std.proofs.Common.{◌≡◌, ◌⊎◌, ℕ, suc, ◌+◌, ◌<◌, ◌≤◌, inl, inr, List, [], ◌∷◌, ◌++◌, length, get_or, drop, map, codes, Option, refl, sym, ap, subst, ◌∙◌, append_assoc, append-nil, arith}
+use Rattle.std.proofs.Common.{◌≡◌, ◌⊎◌, ℕ, suc, ◌+◌, ◌<◌, ◌≤◌, inl, inr, List, [], ◌∷◌, ◌++◌, length, get_or, drop, map, codes, Option, Result, Ok, Err, refl, sym, ap, subst, ◌∙◌, append_assoc, append-nil, arith}
 use Rattle.std.proofs.lemmas.List.{drop_all, drop_more}
 use Rattle.std.specs.Fmt.{decimal}
+use Rattle.std.specs.Prelude.{IfErr, IfOk}
 use Rattle.geo_cli.specs.declared.status.Status.{Status}
 use Rattle.geo_cli.specs.Due.{Due, IsDueForLog, conditions_text}
 use Rattle.geo_cli.specs.Inner.Answering.{AnswersLog}
-use Rattle.geo_cli.specs.Inner.Judgements.{IsAcceptedText, IsRefusal, condition_line, condition_lines, error_line, error_status}
+use Rattle.geo_cli.specs.Inner.Judgements.{IsAcceptedText, IsJudgement, IsRefusal, condition_line, condition_lines, error_line, error_status}
 use Rattle.geo_cli.specs.Run.{IsAnswered}
 use Rattle.geo_cli.specs.Status.{verdict_status}
 use Rattle.geo_conditions.specs.declared.items.Item.{Item}
@@ -16,15 +17,25 @@ use Rattle.geo_program.specs.CanonicalText.{canonical_text}
 use Rattle.geo_program.specs.WellFormed.{Source}
 use Rattle.geo_terms.specs.Stores.{Store}
 use Rattle.log_checker.specs.Accepted.{Accepts}
-use Rattle.log_checker.specs.Checked.{AreEachRead, IsRefusedLog, StopsEarly, TellsStop}
+use Rattle.log_checker.specs.Checked.{AreEachRead, IsAnswer, IsRefusedLog, StopsEarly, TellsStop}
 use Rattle.log_checker.specs.Checkers.{with_feeds}
 use Rattle.log_checker.specs.Judged.{AreRead, Refuses}
+use Rattle.log_checker.specs.declared.accepted.Accepted.{Accepted}
 use Rattle.log_checker.specs.declared.errors.CheckError.{CheckError}
 use Rattle.log_checker.specs.declared.errors.CheckError.TheVariants as error
 use Rattle.log_checker.proofs.ReadLines.{bytes_are_read}
 use Rattle.proof_log.specs.declared.log.Line.{Line}
 use Rattle.proof_log.specs.declared.log.Verdict.{Verdict}
 use Rattle.proof_log.specs.Lines.{verdict_text}
+
+-- JUDGEMENTS
+pub judged_ok : (bytes : List ℕ) (steps : ℕ) (answer : Result Accepted CheckError) (accepted : Accepted) → answer ≡ Ok accepted
+    → IsJudgement bytes steps answer → IsAnswer bytes steps accepted
+judged_ok bytes steps answer accepted is h = subst (λ (a : Result Accepted CheckError). IfOk a (IsAnswer bytes steps)) is h.0
+
+pub judged_err : (bytes : List ℕ) (steps : ℕ) (answer : Result Accepted CheckError) (e : CheckError) → answer ≡ Err e
+    → IsJudgement bytes steps answer → TellsStop (IsRefusedLog bytes steps) e
+judged_err bytes steps answer e is h = subst (λ (a : Result Accepted CheckError). IfErr a (TellsStop (IsRefusedLog bytes steps))) is h.1
 
 -- REFUSALS
 -- pieces that are read, and what is read behind them
@@ -52,7 +63,7 @@ early_refused bytes steps n r h =
     record {
       reads = h.stops.reads ++ read.0;
       are_read = subst (λ bs. AreRead bs (h.stops.reads ++ read.0)) (sym h.split)
-      (read_behind h.pieces h.rest h.stops.reads read.0 h.stops.are_read read.1);
+          (read_behind h.pieces h.rest h.stops.reads read.0 h.stops.are_read read.1);
       stops = h.stops.stops read.0;
     }
 
@@ -124,7 +135,7 @@ text_of_accepted p nodes items verdict text are is = record {
   conditions = map (item_form nodes) items;
   listed = are;
   is = is ∙ append_assoc (canonical_text p) (condition_lines 1 items) (codes "accepted " ++ verdict_text verdict ++ 10 ∷ [])
-  ∙ ap (λ (t : List ℕ). canonical_text p ++ t ++ codes "accepted " ++ verdict_text verdict ++ 10 ∷ []) (same_lines nodes 1 items);
+      ∙ ap (λ (t : List ℕ). canonical_text p ++ t ++ codes "accepted " ++ verdict_text verdict ++ 10 ∷ []) (same_lines nodes 1 items);
 }
 
 -- the line of the next item is written

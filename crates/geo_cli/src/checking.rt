@@ -46,11 +46,7 @@ pub fn run_check<S: Source, K: Sink>(
 }
 
 /// Tells what became of a log.
-fn report<K: Sink>(
-    alloc: Global,
-    judged: Result<Accepted, CheckError>,
-    sink: &mut K,
-) -> Status
+fn report<K: Sink>(alloc: Global, judged: Result<Accepted, CheckError>, sink: &mut K) -> Status
     ensures answers { (steps : ℕ) (bytes : List ℕ) → IsJudgement bytes steps judged
         → AnswersLog steps bytes (K.faults sink.old) (K.faults sink.new)
         (K.held sink.old) (K.held sink.new) result }

@@ -1,6 +1,8 @@
 //! Logs under `check`, and devices that fail.
-use super::{CROSSING_LOG, FREE_POINTS_LOG, MIDPOINT, MIDPOINT_LOG, Row, TOO_LARGE_LOG, expect_row};
-use super::expect_rows;
+use super::{
+    CROSSING_LOG, FREE_POINTS_LOG, MIDPOINT, MIDPOINT_LOG, Row, TOO_LARGE_LOG, expect_row,
+    expect_rows,
+};
 use crate::run::run;
 use crate::status::Status;
 use geo_base::{MemSink, MemSource};
@@ -43,8 +45,7 @@ const MIDPOINT_ACCEPTED: &[u8] =
 const FREE_POINTS_ACCEPTED: &[u8] =
     b"point A\npoint B\npoint C\nprove { collinear A B C }\naccepted false 1\n";
 
-const CROSSING_ACCEPTED: &[u8] =
-    b"point A\npoint B\ninter X A B A B\nprove { collinear A B X }\n\
+const CROSSING_ACCEPTED: &[u8] = b"point A\npoint B\ninter X A B A B\nprove { collinear A B X }\n\
     condition 1 not_parallel A B A B\naccepted impossible 1\n";
 
 const TOO_LARGE_START: &[u8] = b"geolog 1\n| param r\n\
@@ -157,7 +158,12 @@ fn judged_logs(rt: HostRuntime) -> Result<(), Fail> {
         },
         Row {
             words: &["check", "--steps", "23"],
-            ..check(MIDPOINT_LOG, 4096, Status::Spent { line: 9 }, b"stop spent 9\n")
+            ..check(
+                MIDPOINT_LOG,
+                4096,
+                Status::Spent { line: 9 },
+                b"stop spent 9\n",
+            )
         },
         check(
             TOO_LARGE_LOG,

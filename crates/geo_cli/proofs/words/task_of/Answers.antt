@@ -36,7 +36,6 @@ if_none (Some n) P h = tt
 pub returns-in_err-order-clause-none : goal.returns-in_err-order-clause-none
 returns-in_err-order-clause-none c = if_none _ _ (none_given _ _ c.order_of.ensures.complete c.in_err-order.was)
 
-
 not_prove : (command : Command) → (command ≡ Text) ⊎ ((x : ℕ) × (command ≡ Bench x)) → command ≡ Prove → ⊥
 not_prove command (inl h) g = let no : ◌≡◌ {A = Command} Text Prove = sym h ∙ g in cc
 not_prove command (inr (x, h)) g = let no : ◌≡◌ {A = Command} (Bench x) Prove = sym h ∙ g in cc
