@@ -3,7 +3,10 @@ use Rattle.std.proofs.Common.{◌≡◌, ◌⊎◌, ℕ, ◌+◌, ◌-◌, ◌<�
 use Rattle.std.specs.Prelude.{IfErr, IfOk, OnErr, OnOk}
 use Rattle.std.proofs.lemmas.List.Elements.{Contains-append_right, Contains-get_or}
 use Rattle.geo_base.specs.Devices.{HasEnded, Loses}
-use Rattle.geo_base.specs.Lines.{ReaderState, open_bytes}
+use Rattle.geo_base.specs.Lines.{ReaderState, handed_out, open_bytes, text_of}
+use Rattle.geo_base.specs.declared.lines.NextLine.{NextLine}
+use Rattle.geo_base.specs.declared.lines.NextLine.TheVariants.{Line, Rest}
+use Rattle.geo_base.specs.declared.reading.ReadError.{ReadError}
 use Rattle.geo_base.proofs.DeviceLemmas.{Loses-append}
 use Rattle.geo_cli.specs.Input.{IsInput, IsLong, Takes, log_limit}
 use Rattle.geo_cli.specs.Inner.Judgements.{IsJudgedInput, IsJudgement}
@@ -243,3 +246,34 @@ module _ (steps : ℕ) (left l l' : Option (List ℕ)) (reader reader' : ReaderS
   read_part opened counts most =
       let size = counted_so_far counts in let d = counts.limit in let k = h.limit in
       record { taken = with_feeds h.pieces ++ reader'.waiting; lost = lost_so_far opened; few = omega (arith, size, d, k, most) }
+
+-- WHAT A CALL HANDS OUT
+-- the bytes that the next line or the rest uses up
+abbrev pub handed : NextLine → List ℕ
+handed next = handed_out {E = ReadError} (Ok next)
+
+pub record Hands (l l' : Option (List ℕ)) (reader reader' : ReaderState) (bytes : List ℕ) : Type 0 where
+  pub opened : Loses (open_bytes reader.waiting l) bytes (open_bytes reader'.waiting l')
+  pub counts : Counts reader reader' bytes
+
+pub hands_line : (l l' : Option (List ℕ)) (reader reader' : ReaderState) (next : NextLine) (line text : List ℕ) → next ≡ Line line → line ≡ text
+    → Hands l l' reader reader' (handed next) → Hands l l' reader reader' (text ++ 10 ∷ [])
+hands_line l l' reader reader' next line text is same =
+    subst (Hands l l' reader reader') (ap handed is ∙ ap (λ (xs : List ℕ). xs ++ 10 ∷ []) same)
+
+pub hands_rest : (l l' : Option (List ℕ)) (reader reader' : ReaderState) (next : NextLine) (rest text : List ℕ) → next ≡ Rest rest → rest ≡ text
+    → Hands l l' reader reader' (handed next) → Hands l l' reader reader' text
+hands_rest l l' reader reader' next rest text is same = subst (Hands l l' reader reader') (ap handed is ∙ same)
+
+-- neither has a line feed
+pub line_clean : (next : NextLine) (line text : List ℕ) → next ≡ Line line → line ≡ text → (Contains (text_of next) 10 → ⊥) → HasNoLineFeed text
+line_clean next line text is same none =
+    no_line_feed text (subst (λ (xs : List ℕ). Contains xs 10 → ⊥) (ap text_of is ∙ same) none)
+
+pub rest_clean : (next : NextLine) (rest text : List ℕ) → next ≡ Rest rest → rest ≡ text → (Contains (text_of next) 10 → ⊥) → HasNoLineFeed text
+rest_clean next rest text is same none =
+    no_line_feed text (subst (λ (xs : List ℕ). Contains xs 10 → ⊥) (ap text_of is ∙ same) none)
+
+pub on_err : {T E : Type 0} (r : Result T E) (P : Type 0) → P → OnErr r P
+on_err (Ok x) P h = tt
+on_err (Err e) P h = h

@@ -118,24 +118,16 @@ module _ (steps : ℕ) (bytes : List ℕ) (f f' : ℕ) (held held' : Option (Lis
 same_lines : (nodes : Store) (k : ℕ) (items : List Item) → condition_lines k items ≡ conditions_text k (map (item_form nodes) items)
 same_lines nodes k [] = refl
 same_lines nodes k (item ∷ items) =
-    line_behind (decimal k) item.text (condition_lines (suc k) items)
+    append_assoc (codes "condition " ++ decimal k ++ codes " " ++ item.text) (10 ∷ []) (condition_lines (suc k) items)
     ∙ ap (λ (rest : List ℕ). codes "condition " ++ decimal k ++ codes " " ++ item.text ++ 10 ∷ rest) (same_lines nodes (suc k) items)
-  where
-    line_behind : (number text rest : List ℕ) → (codes "condition " ++ number ++ codes " " ++ text ++ 10 ∷ []) ++ rest ≡ codes "condition " ++ number ++ codes " " ++ text ++ 10 ∷ rest
-    line_behind number text rest =
-        append_assoc (codes "condition ") (number ++ codes " " ++ text ++ 10 ∷ []) rest
-        ∙ ap (λ (t : List ℕ). codes "condition " ++ t)
-        (append_assoc number (codes " " ++ text ++ 10 ∷ []) rest
-        ∙ ap (λ (t : List ℕ). number ++ t) (append_assoc (codes " ") (text ++ 10 ∷ []) rest ∙ ap (λ (t : List ℕ). codes " " ++ t) (append_assoc text (10 ∷ []) rest)))
 
 -- the text of an accepted log
 pub text_of_accepted : (p : Source) (nodes : Store) (items : List Item) (verdict : Verdict) (text : List ℕ) → AreConditionItems p (map (item_form nodes) items)
-    → text ≡ (canonical_text p ++ condition_lines 1 items) ++ (codes "accepted " ++ verdict_text verdict ++ 10 ∷ []) → IsAcceptedText p verdict text
+    → text ≡ canonical_text p ++ condition_lines 1 items ++ codes "accepted " ++ verdict_text verdict ++ 10 ∷ [] → IsAcceptedText p verdict text
 text_of_accepted p nodes items verdict text are is = record {
   conditions = map (item_form nodes) items;
   listed = are;
-  is = is ∙ append_assoc (canonical_text p) (condition_lines 1 items) (codes "accepted " ++ verdict_text verdict ++ 10 ∷ [])
-      ∙ ap (λ (t : List ℕ). canonical_text p ++ t ++ codes "accepted " ++ verdict_text verdict ++ 10 ∷ []) (same_lines nodes 1 items);
+  is = is ∙ ap (λ (t : List ℕ). canonical_text p ++ t ++ codes "accepted " ++ verdict_text verdict ++ 10 ∷ []) (same_lines nodes 1 items);
 }
 
 -- the line of the next item is written

@@ -122,7 +122,7 @@ const ALTERED_FREE_POINTS: [(usize, &[u8], u64, u32); 10] = [
 ];
 
 // A run of `check` without faults.
-const fn check(input: &'static [u8], piece: usize, status: Status, held: &'static [u8]) -> Row {
+fn check(input: &'static [u8], piece: usize, status: Status, held: &'static [u8]) -> Row {
     Row {
         words: &["check"],
         ..Row::prove(input, piece, status, held)
