@@ -251,7 +251,7 @@ fn failing_reads(rt: HostRuntime) -> Result<(), Fail> {
         let mut sink = MemSink::new(alloc, Vec::new(alloc));
         let status = run(alloc, &words_of(&rt, "check")?, &mut source, &mut sink);
         assert_eq!(rt; status, Status::ReadFault);
-        assert_eq!(rt; sink.bytes(), b"");
+        assert_eq!(rt; sink.bytes().len(), 0);
     }
     Ok(())
 }
