@@ -14,3 +14,4 @@ pub mod SortedVariables
 pub mod KeptVariables
 pub mod ReplacementLaws
 pub mod RowTables
+pub mod Shared
