@@ -10,7 +10,7 @@ use Rattle.mono_store.specs.Stores.{Links, Keeps, monomial_of}
 use Rattle.geo_poly.specs.declared.shared.Shared.{Shared}
 use Rattle.geo_poly.specs.declared.variables.Var.{Var}
 use Rattle.geo_poly.specs.Monomials.{Powers, IsMonomial}
-use Rattle.geo_poly.specs.Polynomials.{Terms, norm_of}
+use Rattle.geo_poly.specs.Polynomials.{Terms, norm_of, term_at}
 use Rattle.geo_poly.specs.Shared.{AllPlaces, AreParts, Indices, IsIndex, IsIndexOf, named, powers_at, term_of, terms_of, told, told_powers, told_term}
 
 pub take_more : {X : Type 0} (xs : List X) (i : ℕ) (x : X) → i < length xs → x ≡ get_or xs i x → take (i + 1) xs ≡ take i xs ++ x ∷ []
@@ -69,6 +69,14 @@ module _ (p : Shared) (i : ℕ) (within : i < length p.list.now) where
 
   pub told-take : take (i + 1) (told p) ≡ take i (told p) ++ told_term p (item p.list.now i) ∷ []
   told-take = take_more (told p) i (told_term p t) told-within told-is
+
+-- of a polynomial with these parts, a place has its term there
+pub list_within : (p : Shared) (q : Terms) (i : ℕ) → told p ≡ q → i < length q → i < length p.list.now
+list_within p q i e within = omega (arith, ap length e, length-terms_of p.vars.now p.monos.now p.list.now)
+
+pub told_at : (p : Shared) (q : Terms) (i : ℕ) → told p ≡ q → i < length q → term_at q i ≡ told_term p (item p.list.now i)
+told_at p q i e within =
+    ap (λ (ts : Terms). term_at ts i) (sym e) ∙ get_or-map (told_term p) p.list.now i (record { 0 = 0 }, pos 0) ([], pos 0) (list_within p q i e within)
 
 pub norm_of-more : (p : Shared) (i : ℕ) → i < length p.list.now → norm_of (take (i + 1) (told p)) ≡ norm_of (take i (told p)) + unsigned_abs (item p.list.now i).1
 norm_of-more p i within =

@@ -23,7 +23,8 @@ impl Poly {
         requires { self.now ≢ [] }
         ensures { IfOk result (λ f. IsFactorOf known.now self.now f) }
     {
-        let terms = self.terms.as_slice();
+        let own = self.to_terms(alloc)?;
+        let terms = own.as_slice();
         let divisor = content(terms);
         let coefficient = if terms[0].1 < 0 { -divisor } else { divisor };
         let monomial = common_monomial(alloc, terms, known)?;
@@ -45,8 +46,9 @@ impl Poly {
         ensures no_multiples { IfOk result
             (λ o. IfNone o ((q : Terms) → multiples by.now q ≡ self.now → ⊥)) }
     {
-        match quotients(alloc, &self.terms, &by.monomial, by.coefficient)? {
-            Some(terms) => Ok(Some(Poly { terms })),
+        let terms = self.to_terms(alloc)?;
+        match quotients(alloc, &terms, &by.monomial, by.coefficient)? {
+            Some(quotient) => Ok(Some(Poly::from_terms(alloc, &quotient)?)),
             None => Ok(None),
         }
     }

@@ -10,6 +10,7 @@ ghost use Rattle.geo_poly.specs.PolynomialVariables.{HasVariable, variables_of};
 
 use crate::lists::Vars;
 use crate::polynomials::Poly;
+use crate::terms::Term;
 use crate::variables::Var;
 use geo_points::NoMemory;
 use std::alloc::Global;
@@ -22,13 +23,20 @@ impl Poly {
         ensures in_order { IsStrictlySortedBy var_cmp (variables_of self.now) }
         ensures exact { (v : Var) → Contains (variables_of self.now) v ↔ HasVariable v self.now }
     {
-        let mut variables = BTreeSet::new(alloc);
-        for (monomial, _) in &self.terms {
-            insert_variables(&mut variables, monomial.powers())?;
-        }
-        let items = variables.into_iter().collect(alloc)?;
-        Ok(Vars { items })
+        variables_of_terms(alloc, &self.to_terms(alloc)?)
     }
+}
+
+/// The variables of the monomials, in order and each once.
+pub(crate) fn variables_of_terms(alloc: Global, terms: &[Term]) -> Result<Vars, NoMemory>
+    ensures { IfOk result (λ vs. vs ≡ variables_of terms.now) }
+{
+    let mut variables = BTreeSet::new(alloc);
+    for (monomial, _) in terms {
+        insert_variables(&mut variables, monomial.powers())?;
+    }
+    let items = variables.into_iter().collect(alloc)?;
+    Ok(Vars { items })
 }
 
 /// Inserts the variables of a monomial.

@@ -7,7 +7,7 @@ ghost use Rattle.geo_poly.specs.Polynomials.{CanMultiply, multiples, norm_of, pr
 use crate::limits::{MAX, MAX_DEGREE, PolyError, Which};
 use crate::polynomials::Poly;
 use crate::sums::merged;
-use crate::terms::{Term, norm_of_terms};
+use crate::terms::Term;
 use geo_points::NoMemory;
 use std::alloc::Global;
 
@@ -22,15 +22,17 @@ impl Poly {
             ↔ ((norm_of self.now * norm_of other.now < 2 ^ 127)
             × (65535 < total_degree self.now + total_degree other.now)) }
     {
-        match norm_of_terms(&self.terms).checked_mul(norm_of_terms(&other.terms)) {
+        match self.unsigned_norm().checked_mul(other.unsigned_norm()) {
             Some(norm) if norm <= MAX as u128 => {}
             _ => return Err(PolyError::TooLarge(Which::Norm)),
         }
         if self.degree() + other.degree() > MAX_DEGREE {
             return Err(PolyError::TooLarge(Which::Degree));
         }
-        let terms = product_of_terms(alloc, &self.terms, &other.terms)?;
-        Ok(Poly { terms })
+        let left = self.to_terms(alloc)?;
+        let right = other.to_terms(alloc)?;
+        let product = product_of_terms(alloc, &left, &right)?;
+        Ok(Poly::from_terms(alloc, &product)?)
     }
 }
 

@@ -17,7 +17,7 @@ small c =
     omega (arith, ints, c.content-divisor.ensures.positive)
 
 some : (c : In_ok-monomial) → 0 < length c.as_slice-terms.result.now
-some c = some_terms c.as_slice-terms.result.now c.args.self.now (c.as_slice-terms.ensures.value ∙ c.self.view_is) c.requires
+some c = some_terms c.as_slice-terms.result.now c.args.self.now (c.as_slice-terms.ensures.value ∙ c.in_ok-own.ensures.terms) c.requires
 
 -- the code's coefficient is the divisor with the sign of the leading coefficient
 signed : (c : In_ok-monomial) → IsSigned (leading_coefficient c.as_slice-terms.result.now) c.content-divisor.result (to_z w128 c.if-terms-lt0.coefficient-bits)
@@ -36,7 +36,7 @@ signed c =
     })
 
 whole : (c : In_ok-monomial) → IsPolynomial c.as_slice-terms.result.now
-whole c = subst IsPolynomial (sym c.as_slice-terms.ensures.value) c.self.invariant
+whole c = subst IsPolynomial (sym (c.as_slice-terms.ensures.value ∙ c.in_ok-own.ensures.terms)) c.in_ok-own.ensures.valid
 
 pub invariant_of-result : goal.invariant_of-result
 invariant_of-result c =
@@ -44,5 +44,5 @@ invariant_of-result c =
 
 pub returns : goal.returns
 returns c =
-    subst (λ (x : Terms). IsFactorOf c.args.known.now x (c.in_ok-monomial.monomial, to_z w128 c.if-terms-lt0.coefficient-bits)) (c.as_slice-terms.ensures.value ∙ c.self.view_is)
+    subst (λ (x : Terms). IsFactorOf c.args.known.now x (c.in_ok-monomial.monomial, to_z w128 c.if-terms-lt0.coefficient-bits)) (c.as_slice-terms.ensures.value ∙ c.in_ok-own.ensures.terms)
     (IsFactorOf-signed c.args.known.now c.as_slice-terms.result.now c.in_ok-monomial.monomial c.content-divisor.result (to_z w128 c.if-terms-lt0.coefficient-bits) (whole c) (some c) c.content-divisor.ensures.positive c.content-divisor.ensures.divides c.content-divisor.ensures.greatest (signed c) c.in_ok-monomial.ensures.monomial c.in_ok-monomial.ensures.known c.in_ok-monomial.ensures.others)
