@@ -5,6 +5,9 @@ ghost use Rattle.std.specs.Prelude.{unsigned_abs, slice_get, IfOk, IfSome, IfNon
 ghost use Rattle.geo_poly.specs.Polynomials.{IsPolynomial, constant_of, norm_of, term_at};
 ghost use Rattle.geo_poly.specs.Polynomials.{total_degree};
 ghost use Rattle.geo_poly.specs.Shared.{IsShared, terms_of};
+ghost use Rattle.geo_poly.specs.Variables.{var_cmp};
+ghost use Rattle.mono_store.specs.Stores.{IsStore};
+ghost use Rattle.std.specs.List.Sorted.{IsStrictlySortedBy};
 
 use crate::interning::stored_terms;
 use crate::lists::Vars;
@@ -15,7 +18,7 @@ use crate::shared::{Indexed, Shared};
 use crate::terms::Term;
 use crate::variables::Var;
 use geo_points::NoMemory;
-use mono_store::Monos;
+use mono_store::{MonoId, Monos};
 use std::alloc::Global;
 use std::marker::Model;
 
@@ -51,6 +54,28 @@ impl Poly {
             monos: &self.monos,
             list: self.list.as_slice(),
         }
+    }
+
+    /// The variables in order, in which every variable that occurs stands: those that `shared` tells.
+    pub fn vars(&self) -> &Vars
+        ensures { IsStrictlySortedBy var_cmp result.now }
+    {
+        &self.vars
+    }
+
+    /// The store of the monomials: that which `shared` tells.
+    pub fn monos(&self) -> &Monos
+        ensures { IsStore result.now }
+    {
+        let _one = self.monos.one();
+        &self.monos
+    }
+
+    /// The index of the monomial at place i, from 0, in the store `monos`: that which `shared` tells.
+    pub fn mono_at(&self, i: u64) -> MonoId
+        requires { i < length self.now }
+    {
+        self.list[i as usize].0
     }
 
     /// The zero polynomial.

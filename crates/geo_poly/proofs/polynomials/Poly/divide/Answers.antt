@@ -29,7 +29,8 @@ from_terms-requires c =
     let q = c.in-Some.quotient.items in
     let some = rw c.in-Some.is at c.in_ok-quotient.ensures.some in
     let monomials : AllKeys IsMonomial c.in-Some.quotient.items = rw c.in-Some.is at c.in_ok-quotient.ensures.monomials in
-    quotient_is f p q c.by.invariant c.in_ok-terms.ensures.valid monomials (found f p c.deref.result.now q c.by.invariant some (c.deref.ensures.value ∙ c.in_ok-terms.ensures.terms))
+    subst IsPolynomial (sym c.deref-in-Some.ensures.value)
+    (quotient_is f p q c.by.invariant c.in_ok-terms.ensures.valid monomials (found f p c.deref.result.now q c.by.invariant some (c.deref.ensures.value ∙ c.in_ok-terms.ensures.terms)))
 
 pub returns-in-Some-clause-polynomial : goal.returns-in-Some-clause-polynomial
 returns-in-Some-clause-polynomial c =
@@ -38,7 +39,8 @@ returns-in-Some-clause-polynomial c =
     let q = c.in-Some.quotient.items in
     let some = rw c.in-Some.is at c.in_ok-quotient.ensures.some in
     let monomials : AllKeys IsMonomial c.in-Some.quotient.items = rw c.in-Some.is at c.in_ok-quotient.ensures.monomials in
-    quotient_is f p q c.by.invariant c.in_ok-terms.ensures.valid monomials (found f p c.deref.result.now q c.by.invariant some (c.deref.ensures.value ∙ c.in_ok-terms.ensures.terms))
+    subst IsPolynomial (sym (c.in_ok-from_terms-in-Some.ensures ∙ c.deref-in-Some.ensures.value))
+    (quotient_is f p q c.by.invariant c.in_ok-terms.ensures.valid monomials (found f p c.deref.result.now q c.by.invariant some (c.deref.ensures.value ∙ c.in_ok-terms.ensures.terms)))
 
 pub returns-in-Some-clause-some : goal.returns-in-Some-clause-some
 returns-in-Some-clause-some c =
@@ -49,7 +51,8 @@ returns-in-Some-clause-some c =
     let monomials : AllKeys IsMonomial c.in-Some.quotient.items = rw c.in-Some.is at c.in_ok-quotient.ensures.monomials in
     let whole = found f p c.deref.result.now q c.by.invariant some (c.deref.ensures.value ∙ c.in_ok-terms.ensures.terms) in
     let quotient = quotient_is f p q c.by.invariant c.in_ok-terms.ensures.valid monomials whole in
-    subst (λ (g : Powers × ℤ). product_of (g ∷ []) q ≡ c.args.self.now) c.by.view_is (product_is f p q c.by.invariant quotient whole)
+    subst (λ (r : Terms). product_of (c.args.by.now ∷ []) r ≡ c.args.self.now) (sym (c.in_ok-from_terms-in-Some.ensures ∙ c.deref-in-Some.ensures.value))
+    (subst (λ (g : Powers × ℤ). product_of (g ∷ []) q ≡ c.args.self.now) c.by.view_is (product_is f p q c.by.invariant quotient whole))
 
 pub returns-in-Some-clause-multiples : goal.returns-in-Some-clause-multiples
 returns-in-Some-clause-multiples c =
@@ -57,7 +60,8 @@ returns-in-Some-clause-multiples c =
     let p = c.args.self.now in
     let q = c.in-Some.quotient.items in
     let some = rw c.in-Some.is at c.in_ok-quotient.ensures.some in
-    subst (λ (g : Powers × ℤ). multiples g q ≡ c.args.self.now) c.by.view_is (found f p c.deref.result.now q c.by.invariant some c.deref.ensures.value ∙ c.in_ok-terms.ensures.terms)
+    subst (λ (r : Terms). multiples c.args.by.now r ≡ c.args.self.now) (sym (c.in_ok-from_terms-in-Some.ensures ∙ c.deref-in-Some.ensures.value))
+    (subst (λ (g : Powers × ℤ). multiples g q ≡ c.args.self.now) c.by.view_is (found f p c.deref.result.now q c.by.invariant some (c.deref.ensures.value ∙ c.in_ok-terms.ensures.terms)))
 
 pub returns-clause-no_multiples : goal.returns-clause-no_multiples
 returns-clause-no_multiples c = λ q e.
