@@ -1,12 +1,12 @@
 -- The terms that the parts of a polynomial tell, place by place.
-use Rattle.std.proofs.Common.{◌≡◌, ℕ, zero, suc, ◌+◌, ◌<◌, ◌≤◌, ℤ, pos, add-one, List, [], ◌∷◌, ◌++◌, get_or, slice_get, Some, length, map, take, drop, refl, sym, ap, ap₂, subst, ◌∙◌, unsigned_abs, arith}
-use Rattle.std.proofs.lemmas.List.{get_or-map, length-map, take-map}
+use Rattle.std.proofs.Common.{◌≡◌, ℕ, zero, suc, ◌+◌, ◌<◌, ℤ, pos, add-one, List, [], ◌∷◌, ◌++◌, get_or, slice_get, Some, length, take, drop, refl, sym, ap, ap₂, subst, ◌∙◌, unsigned_abs, arith}
+use Rattle.std.proofs.lemmas.List.{get_or-map, length-map}
 use Rattle.std.proofs.lemmas.List.Sums.{sum_by-append}
 use Rattle.sparse_lists.specs.SparseLists.{AllKeys}
 use Rattle.sparse_lists.proofs.Sums.{AllKeys-at}
 use Rattle.sparse_lists.proofs.Merging.{drop_at, get_or_any}
 use Rattle.mono_store.specs.declared.links.MonoId.{MonoId}
-use Rattle.mono_store.specs.Stores.{Links, Keeps, monomial_of}
+use Rattle.mono_store.specs.Stores.{Links, Keeps}
 use Rattle.geo_poly.specs.declared.shared.Shared.{Shared}
 use Rattle.geo_poly.specs.declared.variables.Var.{Var}
 use Rattle.geo_poly.specs.Monomials.{Powers, IsMonomial}

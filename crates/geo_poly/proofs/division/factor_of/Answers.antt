@@ -2,7 +2,7 @@ use Rattle.std.proofs.Common.{◌≡◌, ◌<◌, ◌^◌, ℤ, inl, inr, [], �
 use Rattle.std.specs.Int.{w128}
 use Rattle.std.proofs.lemmas.Int.{ints, to_z-of_z}
 use Rattle.geo_poly.specs.Polynomials.{Terms, IsPolynomial}
-use Rattle.geo_poly.specs.Factors.{IsFactorOf, leading_coefficient}
+use Rattle.geo_poly.specs.Factors.{leading_coefficient}
 use Rattle.geo_poly.proofs.SignedContent.{IsSigned, leading_coefficient-is, IsFactor-signed, IsFactorOf-signed, negated_number, is_negative, is_not_negative}
 use Rattle.geo_poly.proofs.division.factor_of.Goals as goal
 use Rattle.geo_poly.proofs.division.factor_of.Goals.{In_ok-monomial, then-terms-lt0, else-terms-lt0}

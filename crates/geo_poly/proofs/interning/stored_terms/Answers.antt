@@ -1,12 +1,11 @@
-use Rattle.std.proofs.Common.{◌≡◌, ◌∙◌, ap, ap₂, sym, ◌++◌, ◌∷◌, [], take, FitsSigned, rules}
+use Rattle.std.proofs.Common.{◌∙◌, ap, ap₂, sym, ◌++◌, ◌∷◌, [], take, FitsSigned, rules}
 use Rattle.std.specs.Int.{w128}
-use Rattle.std.specs.Prelude.{Contains, ℤ, List, ℕ}
+use Rattle.std.specs.Prelude.{Contains, ℤ}
 use Rattle.std.proofs.lemmas.Int.{to_z-of_z}
 use Rattle.std.proofs.lemmas.List.{map-append}
 use Rattle.sparse_lists.specs.SparseLists.{AllKeys}
 use Rattle.sparse_lists.proofs.Sums.{AllKeys-append, AllKeys-at}
 use Rattle.mono_store.proofs.Interning.{Keeps_trans}
-use Rattle.geo_poly.specs.declared.variables.Var.{Var}
 use Rattle.geo_poly.specs.Monomials.{IsMonomial, Powers}
 use Rattle.geo_poly.specs.Polynomials.{Terms}
 use Rattle.geo_poly.specs.Shared.{IsIndex, powers_at, term_of, terms_of}

@@ -1,4 +1,4 @@
-use Rattle.std.proofs.Common.{◌≡◌, ◌+◌, ◌≤◌}
+use Rattle.std.proofs.Common.{◌≡◌, ◌+◌}
 use Rattle.geo_poly.specs.Monomials.{degree_of}
 use Rattle.geo_poly.specs.Shared.{IsIndexOf, told_powers}
 use Rattle.geo_poly.proofs.reading.degree_at.Given as goal

@@ -1,4 +1,4 @@
-use Rattle.std.proofs.Common.{ap, ◌∙◌}
+use Rattle.std.proofs.Common.{ap}
 use Rattle.mono_store.proofs.Unfolding.{monomial_of-one}
 use Rattle.geo_poly.specs.Shared.{named}
 use Rattle.geo_poly.proofs.reading.first_power.Goals as goal

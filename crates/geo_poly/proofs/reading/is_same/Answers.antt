@@ -2,7 +2,7 @@ use Rattle.std.proofs.Common.{◌∙◌, ap₂, sym, ℤ, ◌++◌, ◌∷◌, [
 use Rattle.std.proofs.lemmas.Bool.{false≢true}
 use Rattle.geo_poly.specs.Monomials.{Powers}
 use Rattle.geo_poly.specs.Polynomials.{Terms}
-use Rattle.geo_poly.proofs.Told.{index_at, item, same_at, told-take}
+use Rattle.geo_poly.proofs.Told.{index_at, same_at, told-take}
 use Rattle.geo_poly.proofs.reading.is_same.Goals as goal
 
 pub is_same_term-requires-clause-left : goal.is_same_term-requires-clause-left

@@ -1,4 +1,4 @@
-use Rattle.std.proofs.Common.{◌≡◌, ℕ, ◌∙◌, sym, ap, ap₂, ◌+◌, ℤ, unsigned_abs, FitsSigned, rules}
+use Rattle.std.proofs.Common.{◌∙◌, sym, ap, ap₂, ◌+◌, unsigned_abs, FitsSigned, rules}
 use Rattle.std.specs.Int.{w128}
 use Rattle.std.proofs.lemmas.Int.{to_z-of_z}
 use Rattle.geo_poly.proofs.Told.{item, norm_of-more}

@@ -1,4 +1,4 @@
-use Rattle.std.proofs.Common.{◌≡◌, ℕ, ◌∙◌, ap, drop, length, length-drop, subst, arith}
+use Rattle.std.proofs.Common.{◌≡◌, ℕ, ◌∙◌, ap, length, length-drop, subst, arith}
 use Rattle.std.specs.Prelude.{slice_get, Some}
 use Rattle.geo_poly.specs.Shared.{told_powers}
 use Rattle.geo_poly.proofs.Told.{drop_next, dropped_get}

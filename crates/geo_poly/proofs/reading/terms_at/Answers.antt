@@ -1,4 +1,4 @@
-use Rattle.std.proofs.Common.{◌∙◌, ap₂, sym, refl, List, ℤ, ◌++◌, ◌∷◌, [], FitsSigned, to_z, rules}
+use Rattle.std.proofs.Common.{◌∙◌, ap₂, sym, refl, ℤ, ◌++◌, ◌∷◌, [], FitsSigned, rules}
 use Rattle.std.specs.Int.{w128}
 use Rattle.std.proofs.lemmas.Int.{to_z-of_z}
 use Rattle.geo_poly.specs.Monomials.{Powers}

@@ -1,4 +1,4 @@
-use Rattle.std.proofs.Common.{◌≡◌, ◌+◌, ◌-◌, ◌^◌, min, ◌∷◌, sym, subst}
+use Rattle.std.proofs.Common.{◌≡◌, ◌+◌, ◌-◌, ◌^◌, min, sym, subst}
 use Rattle.geo_poly.specs.Monomials.{Powers, degree_of}
 use Rattle.geo_poly.specs.Replace.{denominators, degree_rows, others}
 use Rattle.geo_poly.specs.Shared.{told_powers}

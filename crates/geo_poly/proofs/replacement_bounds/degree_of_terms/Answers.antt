@@ -1,4 +1,4 @@
-use Rattle.std.proofs.Common.{◌≡◌, ◌+◌, ◌-◌, ◌^◌, ◌≤◌, min, max, ◌∷◌, drop, pos, subst, arith}
+use Rattle.std.proofs.Common.{◌≡◌, ◌-◌, ◌^◌, ◌≤◌, min, max, pos, subst, arith}
 use Rattle.std.proofs.lemmas.List.{drop_all}
 use Rattle.geo_poly.specs.Polynomials.{Terms}
 use Rattle.geo_poly.specs.Replace.{degree_bound, most_denominators, term_degree}

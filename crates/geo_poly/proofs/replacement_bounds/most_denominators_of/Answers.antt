@@ -1,4 +1,4 @@
-use Rattle.std.proofs.Common.{◌≡◌, ◌+◌, max, ◌∷◌, drop, subst, arith}
+use Rattle.std.proofs.Common.{◌≡◌, max, subst, arith}
 use Rattle.geo_poly.specs.Polynomials.{Terms}
 use Rattle.geo_poly.specs.Replace.{denominators, most_denominators}
 use Rattle.geo_poly.specs.Shared.{told, told_powers}

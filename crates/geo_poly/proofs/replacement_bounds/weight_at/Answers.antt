@@ -1,4 +1,4 @@
-use Rattle.std.proofs.Common.{◌≡◌, ◌-◌, ◌^◌, min, ◌∷◌, unsigned_abs, sym, subst, arith}
+use Rattle.std.proofs.Common.{◌≡◌, ◌-◌, ◌^◌, unsigned_abs, sym, subst, arith}
 use Rattle.geo_poly.specs.Monomials.{Powers}
 use Rattle.geo_poly.specs.Replace.{denominators, weight_rows}
 use Rattle.geo_poly.specs.Shared.{told_powers}

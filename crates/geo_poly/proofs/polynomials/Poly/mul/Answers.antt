@@ -1,5 +1,5 @@
-use Rattle.std.proofs.Common.{◌≡◌, ◌*◌, ◌^◌, ◌<◌, ap₂, arith}
-use Rattle.geo_poly.specs.Polynomials.{norm_of, total_degree}
+use Rattle.std.proofs.Common.{◌*◌, ◌^◌, ◌<◌, ap₂, arith}
+use Rattle.geo_poly.specs.Polynomials.{norm_of}
 use Rattle.geo_poly.proofs.ProductLaws.{total_degree-le, IsPolynomial-product_of}
 use Rattle.geo_poly.proofs.polynomials.Poly.mul.Goals as goal
 
