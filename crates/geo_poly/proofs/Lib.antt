@@ -36,3 +36,7 @@ pub mod RowPlaces
 pub mod ProductOrder
 pub mod Naming
 pub mod Told
+pub mod KeyedChains
+pub mod ChainSteps
+pub mod ChainHalves
+pub mod ChainMultiples

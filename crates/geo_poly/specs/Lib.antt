@@ -15,3 +15,5 @@ pub mod KeptVariables
 pub mod ReplacementLaws
 pub mod RowTables
 pub mod Shared
+pub mod StoreOrder
+pub mod Chained
