@@ -13,10 +13,10 @@ use Rattle.mono_store.specs.Stores.{Keeps, Links, count, monomial_of}
 use Rattle.poly_arena.specs.Chains.{Chains, IsLive, Pairs, list_of, pairs_of}
 use Rattle.poly_arena.specs.Orders.{IsFalling, SumsFit, sum_of as chain_sum}
 use Rattle.geo_poly.specs.declared.variables.Var.{Var}
-use Rattle.geo_poly.specs.Chained.{IsKey, keyed_term, keyed_terms}
+use Rattle.geo_poly.specs.Chained.{IsKey, indexed_pair, keyed_term, keyed_terms}
 use Rattle.geo_poly.specs.Monomials.{Powers}
 use Rattle.geo_poly.specs.Polynomials.{Terms, coefficients, norm_of, sum_of, term_cmp}
-use Rattle.geo_poly.specs.Shared.{powers_at}
+use Rattle.geo_poly.specs.Shared.{Indices, IsIndex, powers_at, terms_of}
 use Rattle.geo_poly.specs.StoreOrder.{index_cmp}
 use Rattle.geo_poly.specs.Variables.{var_cmp}
 use Rattle.geo_poly.proofs.Naming.{canonical-rename, cmp-named}
@@ -78,3 +78,20 @@ pub keyed_terms-kept : (vars : List Var) (old new : Links) (ts : Pairs) → Keep
 keyed_terms-kept vars old new [] h g = refl
 keyed_terms-kept vars old new (t ∷ ts) h g =
     ap₂ (λ (m : Powers) (us : Terms). (m, t.1) ∷ us) (powers_at-kept vars old new (record { 0 = t.0 }) h g.0) (keyed_terms-kept vars old new ts h g.1)
+
+-- THE LIST OF A CHAIN
+
+chain_terms_of : (vars : List Var) (links : Links) (pairs : Pairs) → terms_of vars links (map indexed_pair pairs) ≡ keyed_terms vars links pairs
+chain_terms_of vars links [] = refl
+chain_terms_of vars links (t ∷ pairs) = ap (λ (ts : Terms). keyed_term vars links t ∷ ts) (chain_terms_of vars links pairs)
+
+chain_indices_of : (vars : List Var) (links : Links) (pairs : Pairs) → AllKeys (IsKey vars links) pairs → AllKeys (IsIndex vars links) (map indexed_pair pairs)
+chain_indices_of vars links [] h = tt
+chain_indices_of vars links (t ∷ pairs) h = (h.0, chain_indices_of vars links pairs h.1)
+
+-- the keys of a chain as a list of indices
+pub chain_terms : (vars : List Var) (links : Links) (list : Indices) (pairs : Pairs) → list ≡ map indexed_pair pairs → terms_of vars links list ≡ keyed_terms vars links pairs
+chain_terms vars links list pairs e = ap (terms_of vars links) e ∙ chain_terms_of vars links pairs
+
+pub chain_indices : (vars : List Var) (links : Links) (list : Indices) (pairs : Pairs) → list ≡ map indexed_pair pairs → AllKeys (IsKey vars links) pairs → AllKeys (IsIndex vars links) list
+chain_indices vars links list pairs e h = subst (λ (xs : Indices). AllKeys (IsIndex vars links) xs) (sym e) (chain_indices_of vars links pairs h)

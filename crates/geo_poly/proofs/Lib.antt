@@ -40,3 +40,4 @@ pub mod KeyedChains
 pub mod ChainSteps
 pub mod ChainHalves
 pub mod ChainMultiples
+pub mod Unions

@@ -1,6 +1,7 @@
 -- Chains that stand for polynomials: their keys are the indices of monomials in a store.
 use Rattle.std.specs.Prelude.{◌≡◌, ◌≢◌, ℕ, ℤ, List, map, None}
 use Rattle.sparse_lists.specs.SparseLists.{AllKeys}
+use Rattle.mono_store.specs.declared.links.MonoId.{MonoId}
 use Rattle.mono_store.specs.Stores.{Links}
 use Rattle.poly_arena.specs.Chains.{Chains, IsLive, Pairs, list_of, pairs_of}
 use Rattle.geo_poly.specs.declared.variables.Var.{Var}
@@ -11,6 +12,10 @@ use Rattle.geo_poly.specs.Shared.{IsIndex, powers_at}
 -- the number is the index of a monomial, whose variables are in the list
 abbrev pub IsKey : List Var → Links → ℕ → Type 0
 IsKey vars links k = IsIndex vars links (record { 0 = k })
+
+-- a key with a coefficient as an index with that coefficient
+abbrev pub indexed_pair : ℕ × ℤ → MonoId × ℤ
+indexed_pair t = (record { 0 = t.0 }, t.1)
 
 -- the term that a key with a coefficient stands for
 abbrev pub keyed_term : List Var → Links → ℕ × ℤ → Powers × ℤ

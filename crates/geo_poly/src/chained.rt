@@ -87,7 +87,7 @@ pub(crate) fn multiples_chain(
 }
 
 /// The chain of the product, by halves of the left list, so that few terms are merged often.
-pub(crate) fn product_chain(
+pub(crate) fn chain_by_halves(
     store: &mut Monos,
     arena: &mut Arena,
     vars: &[Var],
@@ -111,8 +111,8 @@ pub(crate) fn product_chain(
         [term] => multiples_chain(store, arena, vars, *term, right),
         _ => {
             let (front, back) = left.split_at(left.len() / 2);
-            let sum = product_chain(store, arena, vars, front, right)?;
-            match product_chain(store, arena, vars, back, right) {
+            let sum = chain_by_halves(store, arena, vars, front, right)?;
+            match chain_by_halves(store, arena, vars, back, right) {
                 Ok(rest) => Ok(summed(store, arena, vars, sum, rest)),
                 Err(error) => {
                     arena.give_back(sum);
@@ -120,5 +120,32 @@ pub(crate) fn product_chain(
                 }
             }
         }
+    }
+}
+
+/// The chain of the product, by halves of the shorter list.
+pub(crate) fn product_chain(
+    store: &mut Monos,
+    arena: &mut Arena,
+    vars: &[Var],
+    left: &[Indexed],
+    right: &[Indexed],
+) -> Result<Chain, NoMemory>
+    requires rising { IsStrictlySortedBy var_cmp vars.now }
+    requires left { AllKeys (IsIndex vars.now store.old) left.now }
+    requires right { AllKeys (IsIndex vars.now store.old) right.now }
+    requires fits { CanMultiply (terms_of vars.now store.old left.now)
+        (terms_of vars.now store.old right.now) }
+    ensures chain { IfOk result (λ c. StandsFor vars.now store.new arena.new c
+        (product_of (terms_of vars.now store.old left.now)
+        (terms_of vars.now store.old right.now))) }
+    ensures adds { IfOk result (AddsChain arena.old arena.new) }
+    ensures err { OnErr result (SameChains arena.old arena.new) }
+    ensures kept { Keeps store.old store.new }
+{
+    if left.len() <= right.len() {
+        chain_by_halves(store, arena, vars, left, right)
+    } else {
+        chain_by_halves(store, arena, vars, right, left)
     }
 }

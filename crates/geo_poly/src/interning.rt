@@ -1,9 +1,10 @@
 //! Monomials put into a store, whose variables are numbered by their places in a list.
 
-ghost use Rattle.std.specs.Prelude.{◌≡◌, ◌<◌, Contains, IfOk, length};
+ghost use Rattle.std.specs.Prelude.{◌≡◌, ◌<◌, Contains, IfOk, length, map};
 ghost use Rattle.std.specs.List.Sorted.{IsStrictlySortedBy};
 ghost use Rattle.sparse_lists.specs.SparseLists.{AllKeys};
 ghost use Rattle.mono_store.specs.Stores.{Keeps};
+ghost use Rattle.geo_poly.specs.Chained.{indexed_pair};
 ghost use Rattle.geo_poly.specs.Monomials.{IsMonomial};
 ghost use Rattle.geo_poly.specs.PolynomialVariables.{AllVariables};
 ghost use Rattle.geo_poly.specs.Shared.{IsIndex, powers_at, terms_of, var_at};
@@ -69,6 +70,17 @@ pub(crate) fn stored_terms(
     let mut list = Vec::with_capacity(alloc, terms.len())?;
     for term in terms {
         list.push((stored(store, vars, term.0.powers())?, term.1))?;
+    }
+    Ok(list)
+}
+
+/// The keys of a chain as indices.
+pub(crate) fn indexed(alloc: Global, pairs: &[(u64, i128)]) -> Result<Vec<Indexed>, NoMemory>
+    ensures { IfOk result (λ list. list.items ≡ map indexed_pair pairs.now) }
+{
+    let mut list = Vec::with_capacity(alloc, pairs.len())?;
+    for (key, coefficient) in pairs {
+        list.push((MonoId(*key), *coefficient))?;
     }
     Ok(list)
 }

@@ -49,3 +49,27 @@ fn insert_variables(variables: &mut BTreeSet<Var>, powers: &[(Var, u32)]) -> Res
     }
     Ok(())
 }
+
+/// The variables of both lists, in order and each once.
+pub(crate) fn union(alloc: Global, left: &Vars, right: &Vars) -> Result<Vars, NoMemory>
+    ensures rising { IfOk result (IsStrictlySortedBy var_cmp) }
+    ensures left { IfOk result (λ vs. (v : Var) → Contains left.now v → Contains vs v) }
+    ensures right { IfOk result (λ vs. (v : Var) → Contains right.now v → Contains vs v) }
+{
+    let mut variables = BTreeSet::new(alloc);
+    insert_all(&mut variables, left.as_slice())?;
+    insert_all(&mut variables, right.as_slice())?;
+    let items = variables.into_iter().collect(alloc)?;
+    Ok(Vars { items })
+}
+
+/// Inserts variables.
+fn insert_all(variables: &mut BTreeSet<Var>, more: &[Var]) -> Result<(), NoMemory>
+    ensures { OnOk result
+        (variables.new.keys ≡ fold (insert_key var_cmp) variables.old.keys more.now) }
+{
+    for v in more {
+        variables.insert(*v)?;
+    }
+    Ok(())
+}

@@ -1,7 +1,11 @@
 //! Polynomials with whole coefficients: how they are made and read.
 
 ghost use Rattle.std.specs.Prelude.{◌≡◌, ◌≢◌, ◌↔◌, ◌^◌, ◌<◌, [], ◌∷◌, pos, length};
-ghost use Rattle.std.specs.Prelude.{unsigned_abs, slice_get, IfOk, IfSome, IfNone, IsTrue};
+ghost use Rattle.std.specs.Prelude.{unsigned_abs, slice_get, Contains, IfOk, IsTrue};
+ghost use Rattle.sparse_lists.specs.SparseLists.{AllKeys};
+ghost use Rattle.poly_arena.specs.Chains.{IsLive, pairs_of};
+ghost use Rattle.geo_poly.specs.Chained.{IsKey, keyed_terms};
+ghost use Rattle.geo_poly.specs.PolynomialVariables.{AllVariables};
 ghost use Rattle.geo_poly.specs.Polynomials.{IsPolynomial, constant_of, norm_of, term_at};
 ghost use Rattle.geo_poly.specs.Polynomials.{total_degree};
 ghost use Rattle.geo_poly.specs.Shared.{IsShared, terms_of};
@@ -9,7 +13,7 @@ ghost use Rattle.geo_poly.specs.Variables.{var_cmp};
 ghost use Rattle.mono_store.specs.Stores.{IsStore};
 ghost use Rattle.std.specs.List.Sorted.{IsStrictlySortedBy};
 
-use crate::interning::stored_terms;
+use crate::interning::{indexed, stored_terms};
 use crate::lists::Vars;
 use crate::monomials::Monomial;
 use crate::polynomial_variables::variables_of_terms;
@@ -19,6 +23,7 @@ use crate::terms::Term;
 use crate::variables::Var;
 use geo_points::NoMemory;
 use mono_store::{MonoId, Monos};
+use poly_arena::{Arena, Chain};
 use std::alloc::Global;
 use std::marker::Model;
 
@@ -58,7 +63,8 @@ impl Poly {
 
     /// The variables in order, in which every variable that occurs stands: those that `shared` tells.
     pub fn vars(&self) -> &Vars
-        ensures { IsStrictlySortedBy var_cmp result.now }
+        ensures rising { IsStrictlySortedBy var_cmp result.now }
+        ensures known { AllVariables (Contains result.now) self.now }
     {
         &self.vars
     }
@@ -127,6 +133,26 @@ impl Poly {
         let vars = variables_of_terms(alloc, terms)?;
         let mut monos = Monos::new(alloc);
         let list = stored_terms(alloc, &mut monos, vars.as_slice(), terms)?;
+        Ok(Poly { vars, monos, list })
+    }
+
+    /// The polynomial that a chain stands for. The chain and its arena are spent.
+    pub(crate) fn from_chain(
+        alloc: Global,
+        vars: Vars,
+        monos: Monos,
+        mut arena: Arena,
+        chain: Chain,
+    ) -> Result<Poly, NoMemory>
+        requires rising { IsStrictlySortedBy var_cmp vars }
+        requires live { IsLive arena chain }
+        requires keys { AllKeys (IsKey vars monos) (pairs_of arena chain) }
+        requires polynomial { IsPolynomial (keyed_terms vars monos (pairs_of arena chain)) }
+        ensures { IfOk result (λ p. p ≡ keyed_terms vars monos (pairs_of arena chain)) }
+    {
+        let pairs = arena.to_list(alloc, &chain);
+        arena.give_back(chain);
+        let list = indexed(alloc, &pairs?)?;
         Ok(Poly { vars, monos, list })
     }
 
