@@ -41,3 +41,5 @@ pub mod ChainSteps
 pub mod ChainHalves
 pub mod ChainMultiples
 pub mod Unions
+pub mod ChainSwaps
+pub mod ChainSums

@@ -99,7 +99,11 @@ fn times_power(
 }
 
 /// The variables with no row.
-fn others_of(alloc: Global, powers: &[(Var, u32)], rows: &RowTable) -> Result<Monomial, NoMemory>
+pub(crate) fn others_of(
+    alloc: Global,
+    powers: &[(Var, u32)],
+    rows: &RowTable,
+) -> Result<Monomial, NoMemory>
     requires { IsMonomial powers.now }
     ensures { IfOk result (λ m. m ≡ others rows.now powers.now) }
 {
