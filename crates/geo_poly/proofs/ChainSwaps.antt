@@ -1,5 +1,5 @@
 -- Chains that are spent for others, and the lists that stand for pieces, where a store grows.
-use Rattle.std.proofs.Common.{◌≡◌, ℕ, zero, suc, length, arith, ◌⊎◌, inl, inr, Some, None, List, [], ◌∷◌, ◌++◌, refl, sym, ap, subst, ◌∙◌}
+use Rattle.std.proofs.Common.{◌≡◌, ℕ, zero, suc, ◌<◌, get_or, length, arith, ◌⊎◌, inl, inr, Some, None, List, [], ◌∷◌, ◌++◌, refl, sym, ap, subst, ◌∙◌}
 use Rattle.std.specs.Prelude.{◌≢◌, slice_get}
 use Rattle.mono_store.specs.Stores.{Keeps, Links}
 use Rattle.poly_arena.specs.Chains.{Chains, Updates, list_of}
@@ -8,7 +8,9 @@ use Rattle.geo_poly.specs.declared.settings.Setting.{Setting}
 use Rattle.geo_poly.specs.declared.variables.Var.{Var}
 use Rattle.geo_poly.specs.Chained.{AddsChain, SameChains}
 use Rattle.geo_poly.specs.Inner.Settings.{AreStored, IsSet, IsStoredAs, Swaps}
+use Rattle.geo_poly.specs.KeptVariables.{AllNumerators}
 use Rattle.geo_poly.specs.Polynomials.{Terms}
+use Rattle.geo_poly.specs.PolynomialVariables.{AllVariables}
 use Rattle.geo_poly.specs.Shared.{Indices, terms_of}
 use Rattle.geo_poly.proofs.ChainSteps.{same_or}
 use Rattle.geo_poly.proofs.Told.{indices-kept, terms_of-kept}
@@ -89,7 +91,8 @@ AreStored-push vars links (other ∷ rows) (first ∷ lists) row list h g = (h.0
 
 pub AreStored-at : (vars : List Var) (links : Links) (rows : List Row) (lists : List Indices) (i : ℕ) (row : Row) (list : Indices) → AreStored vars links rows lists
     → slice_get rows i ≡ Some row → slice_get lists i ≡ Some list → IsStoredAs vars links list row.num.poly
-AreStored-at vars links [] lists i row list h at there = absurd (cc)
+AreStored-at vars links [] lists zero row list h at there = absurd (cc)
+AreStored-at vars links [] lists (suc i) row list h at there = absurd (cc)
 AreStored-at vars links (other ∷ rows) [] i row list h at there = absurd h
 AreStored-at vars links (other ∷ rows) (first ∷ lists) zero row list h at there =
     let same : other ≡ row = cc in
@@ -111,3 +114,9 @@ IsSet-kept setting old new kept h = record {
   rows_stored = AreStored-kept setting.vars.now old new setting.rows.now setting.nums.now kept h.rows_stored;
   den_stored = IsStoredAs-kept setting.vars.now old new setting.den.list.now setting.den.piece.now.poly kept h.den_stored;
 }
+
+-- what each numerator has, that of a row has
+pub AllNumerators-at : (Holds : Var → Type 0) (rows : List Row) (i : ℕ) (row : Row) → i < length rows → row ≡ get_or rows i row → AllNumerators Holds rows → AllVariables Holds row.num.poly
+AllNumerators-at Holds [] i row within is h = absurd (omega arith)
+AllNumerators-at Holds (first ∷ rows) zero row within is h = subst (λ (r : Row). AllVariables Holds r.num.poly) (sym is) h.0
+AllNumerators-at Holds (first ∷ rows) (suc i) row within is h = AllNumerators-at Holds rows i row (omega arith) is h.1
