@@ -6,6 +6,7 @@ mod errors;
 pub mod laws;
 mod limits;
 mod numbered;
+mod replacing;
 mod sizes;
 mod starting;
 #[cfg(test)]
@@ -15,4 +16,5 @@ mod variables;
 pub use applying::apply;
 pub use errors::ApplyError;
 pub use geo_logs::{Move, Replacement, RowList};
+pub use replacing::replacement_of;
 pub use starting::start;

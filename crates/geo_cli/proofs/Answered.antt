@@ -1,12 +1,14 @@
--- What `prove` did with the bytes of a program is what is due for them.
+-- What `prove` did with the bytes of a program is what is due for them; and how a command ends.
 use Rattle.std.proofs.Common.{◌≡◌, ℕ, inl, inr, List, Option, refl, ap, length}
+use Rattle.geo_base.specs.Devices.{HasRisen}
 use Rattle.geo_cli.specs.declared.status.Status.{Status}
-use Rattle.geo_cli.specs.declared.status.Status.TheVariants.{TooLarge, Spent, TooLong}
-use Rattle.geo_cli.specs.Inner.Answering.{AnswersBytes}
-use Rattle.geo_cli.specs.Input.{IsInput, program_limit}
-use Rattle.geo_cli.specs.Run.{Ends, IsCutShort}
+use Rattle.geo_cli.specs.declared.status.Status.TheVariants.{ReadFault, TooLarge, Spent, TooLong}
+use Rattle.geo_cli.specs.Due.{Due, IsDue, IsDueFor, IsDueForLog, IsNoCommand, too_long_line}
+use Rattle.geo_cli.specs.Inner.Answering.{AnswersBytes, AnswersDue, AnswersLog}
+use Rattle.geo_cli.specs.Input.{IsInput, IsLong, log_limit, program_limit}
+use Rattle.geo_cli.specs.Run.{Ends, IsAnswered, IsCutShort}
 use Rattle.geo_cli.specs.Status.{ending_status, verdict_status}
-use Rattle.geo_cli.specs.Words.{IsProve}
+use Rattle.geo_cli.specs.Words.{IsCheck, IsProve}
 use Rattle.geo_logs.specs.Ends.{ends_by, ends_with, too_long}
 use Rattle.geo_logs.specs.Moves.{spent, too_large}
 use Rattle.geo_poly.specs.declared.limits.Which.{Which}
@@ -67,13 +69,43 @@ module _ (p : Program) (steps : ℕ) (bytes : List ℕ) (spelt : Spells bytes p)
         inr (cut, (w.count, w.written)),
       )
 
--- what becomes of an input that was read to its end
-pub of_input : (words : List (List ℕ)) (steps : ℕ) (bytes : List ℕ) (left left' held held' : Option (List ℕ)) (g g' f f' : ℕ) (s : Status)
-    → IsProve words steps → IsInput program_limit left bytes left' → AnswersBytes steps bytes f f' held held' s
-    → Ends words left left' g g' f f' held held' s
-of_input words steps bytes left left' held held' g g' f f' s command input (inl h) = inl (record {
-  due = h.0;
-  cause = inr (inr (record { steps = steps; command = command; bytes = bytes; input = input; due_for = h.1 }));
-  answered = h.2;
-})
-of_input words steps bytes left left' held held' g g' f f' s command input (inr out) = inr (inr out)
+-- HOW A COMMAND ENDS
+module _ (words : List (List ℕ)) (left left' held held' : Option (List ℕ)) (g g' f f' : ℕ) (s : Status) where
+  abbrev Ended : Type 0
+  Ended = Ends words left left' g g' f f' held held' s
+
+  -- something that is due was answered
+  by_due : (Of : Due → Type 0) → ((due : Due) → Of due → IsDue words left left' due) → AnswersDue Of f f' held held' s → Ended
+  by_due Of cause (inl h) = inl (record { due = h.0; cause = cause h.0 h.1; answered = h.2 })
+  by_due Of cause (inr out) = inr (inr out)
+
+  -- an input was read to its end
+  pub of_program : (steps : ℕ) (bytes : List ℕ) → IsProve words steps → IsInput program_limit left bytes left' → AnswersBytes steps bytes f f' held held' s → Ended
+  of_program steps bytes command input =
+      by_due (IsDueFor steps bytes) (λ due h. inr (inl (record { steps = steps; command = command; of_input = inr (bytes, input, h) })))
+
+  pub of_log : (steps : ℕ) (bytes : List ℕ) → IsCheck words steps → IsInput log_limit left bytes left' → AnswersLog steps bytes f f' held held' s → Ended
+  of_log steps bytes command input =
+      by_due (IsDueForLog steps bytes) (λ due h. inr (inr (record { steps = steps; command = command; of_input = inr (bytes, input, h) })))
+
+  -- an input was too long
+  abbrev long_due : Due
+  long_due = record { text = too_long_line; status = TooLong }
+
+  pub of_long_program : (steps : ℕ) → IsProve words steps → IsLong program_limit left left' → IsAnswered long_due s f f' held held' → Ended
+  of_long_program steps command long h = inl (record {
+    due = long_due;
+    cause = inr (inl (record { steps = steps; command = command; of_input = inl (long, refl) }));
+    answered = h;
+  })
+
+  pub of_long_log : (steps : ℕ) → IsCheck words steps → IsLong log_limit left left' → IsAnswered long_due s f f' held held' → Ended
+  of_long_log steps command long h = inl (record {
+    due = long_due;
+    cause = inr (inr (record { steps = steps; command = command; of_input = inl (long, refl) }));
+    answered = h;
+  })
+
+  -- a read failed
+  pub of_fault : (IsNoCommand words → ⊥) → s ≡ ReadFault → HasRisen g g' → held' ≡ held → Ended
+  of_fault command is risen kept = inr (inl (record { is = is; command = command; fault = risen; unwritten = kept }))

@@ -1,4 +1,6 @@
 pub mod OrderLemmas
 pub mod OneDue
 pub mod Answered
+pub mod ReadLogs
+pub mod Reported
 pub mod Ended

@@ -1,19 +1,26 @@
 -- What a run is to write and to answer, and the cause of it.
-use Rattle.std.specs.Prelude.{◌≡◌, ◌⊎◌, ℕ, ◌<◌, ◌≤◌, List, [], ◌∷◌, ◌++◌, length, Option, codes}
+use Rattle.std.specs.Prelude.{◌≡◌, ◌⊎◌, ℕ, suc, ◌<◌, ◌≤◌, List, [], ◌∷◌, ◌++◌, length, Option, codes}
 use Rattle.std.specs.Fmt.{decimal}
 use Rattle.geo_cli.specs.declared.status.Status.{Status}
 use Rattle.geo_cli.specs.declared.status.Status.TheVariants.{Usage, Syntax, TooLong}
-use Rattle.geo_cli.specs.Input.{IsInput, IsLong, program_limit}
-use Rattle.geo_cli.specs.Status.{ending_status}
-use Rattle.geo_cli.specs.Words.{IsProve}
+use Rattle.geo_cli.specs.Input.{IsInput, IsLong, log_limit, program_limit}
+use Rattle.geo_cli.specs.Status.{ending_status, refusal_status, verdict_status}
+use Rattle.geo_cli.specs.Words.{IsCheck, IsProve}
+use Rattle.geo_conditions.specs.Lists.{AreConditionItems, ItemForm}
 use Rattle.geo_lexer.specs.declared.token_types.Fault.{Fault}
-use Rattle.geo_logs.specs.Ends.{Ending}
+use Rattle.geo_logs.specs.Ends.{Ending, stop_line}
+use Rattle.geo_logs.specs.Judging.{Refusal, number_of, rejected, stopped}
 use Rattle.geo_parser.specs.Refusals.{IsRefused}
+use Rattle.geo_program.specs.CanonicalText.{canonical_text}
 use Rattle.geo_program.specs.declared.program_type.Program.{Program}
 use Rattle.geo_program.specs.Programs.{Spells, source_of}
+use Rattle.geo_program.specs.WellFormed.{Source}
 use Rattle.geo_prover.specs.Proving.{IsLogOf}
+use Rattle.log_checker.specs.Accepted.{Accepts}
+use Rattle.log_checker.specs.Judged.{Refuses}
 use Rattle.proof_log.specs.declared.log.Line.{Line}
-use Rattle.proof_log.specs.Lines.{log_text}
+use Rattle.proof_log.specs.declared.log.Verdict.{Verdict}
+use Rattle.proof_log.specs.Lines.{line_text, log_text, verdict_text}
 
 -- a text that is to be written, and the answer then
 pub record Due : Type 0 where
@@ -60,11 +67,50 @@ pub record IsRefusalDue (bytes : List ℕ) (due : Due) : Type 0 where
 abbrev pub IsDueFor : ℕ → List ℕ → Due → Type 0
 IsDueFor steps bytes due = IsLogDue steps bytes due ⊎ IsRefusalDue bytes due
 
+-- WHAT A LOG CALLS FOR
+
+-- `condition 1 TEXT` for each of the conditions, numbered from k on
+abbrev pub conditions_text : ℕ → List ItemForm → List ℕ
+conditions_text k [] = []
+conditions_text k (item ∷ items) =
+    codes "condition " ++ decimal k ++ codes " " ++ item.text ++ 10 ∷ conditions_text (suc k) items
+
+-- the program, its conditions, and the verdict
+abbrev pub accepted_text : Source → List ItemForm → Verdict → List ℕ
+accepted_text p conditions verdict =
+    canonical_text p ++ conditions_text 1 conditions ++ codes "accepted " ++ verdict_text verdict ++ 10 ∷ []
+
+-- the bytes are an accepted log
+pub record IsAcceptedDue (steps : ℕ) (bytes : List ℕ) (due : Due) : Type 0 where
+  pub program : Source
+  pub verdict : Verdict
+  pub accepted : Accepts bytes steps program verdict
+  pub conditions : List ItemForm
+  pub listed : AreConditionItems program conditions
+  pub is : due ≡ record { text = accepted_text program conditions verdict; status = verdict_status verdict }
+
+-- the line that tells the refusal of a line
+abbrev pub refusal_line : ℕ → Refusal → List ℕ
+refusal_line number (rejected reason) = codes "rejected " ++ decimal number ++ codes " " ++ decimal (number_of reason) ++ 10 ∷ []
+refusal_line number (stopped stop) = line_text (stop_line number stop) ++ 10 ∷ []
+
+-- the bytes are refused, at the line of this number
+pub record IsRejectionDue (steps : ℕ) (bytes : List ℕ) (due : Due) : Type 0 where
+  pub number : ℕ
+  pub refusal : Refusal
+  pub refused : Refuses bytes steps number refusal
+  pub is : due ≡ record { text = refusal_line number refusal; status = refusal_status number refusal }
+
+-- what `check` is to write of these bytes
+abbrev pub IsDueForLog : ℕ → List ℕ → Due → Type 0
+IsDueForLog steps bytes due = IsAcceptedDue steps bytes due ⊎ IsRejectionDue steps bytes due
+
 -- WHAT THE WORDS CALL FOR
 
--- the words are no command
-abbrev pub IsNoCommand : List (List ℕ) → Type 0
-IsNoCommand words = (steps : ℕ) → IsProve words steps → ⊥
+-- the words are no command that there is
+pub record IsNoCommand (words : List (List ℕ)) : Type 0 where
+  pub no_prove : (steps : ℕ) → IsProve words steps → ⊥
+  pub no_check : (steps : ℕ) → IsCheck words steps → ⊥
 
 -- they are no command: nothing is read
 pub record IsUsageDue (words : List (List ℕ)) (left left' : Option (List ℕ)) (due : Due) : Type 0 where
@@ -72,27 +118,34 @@ pub record IsUsageDue (words : List (List ℕ)) (left left' : Option (List ℕ))
   pub unread : left' ≡ left
   pub is : due ≡ record { text = usage_line; status = Usage }
 
--- the input is longer than its limit
-pub record IsLengthDue (words : List (List ℕ)) (left left' : Option (List ℕ)) (due : Due) : Type 0 where
-  pub steps : ℕ
-  pub command : IsProve words steps
-  pub long : IsLong program_limit left left'
-  pub is : due ≡ record { text = too_long_line; status = TooLong }
+-- what a command with this limit is to write of the input: where it is longer than its limit, or read to its end
+abbrev pub IsReadDue : ℕ → (List ℕ → Due → Type 0) → Option (List ℕ) → Option (List ℕ) → Due → Type 0
+IsReadDue limit For left left' due =
+    (IsLong limit left left' × (due ≡ record { text = too_long_line; status = TooLong }))
+    ⊎ ((bytes : List ℕ) × IsInput limit left bytes left' × For bytes due)
 
--- the input is read to its end
-pub record IsInputDue (words : List (List ℕ)) (left left' : Option (List ℕ)) (due : Due) : Type 0 where
+-- what `prove` and `check` are to write
+pub record IsProveDue (words : List (List ℕ)) (left left' : Option (List ℕ)) (due : Due) : Type 0 where
   pub steps : ℕ
   pub command : IsProve words steps
-  pub bytes : List ℕ
-  pub input : IsInput program_limit left bytes left'
-  pub due_for : IsDueFor steps bytes due
+  pub of_input : IsReadDue program_limit (IsDueFor steps) left left' due
+
+pub record IsCheckDue (words : List (List ℕ)) (left left' : Option (List ℕ)) (due : Due) : Type 0 where
+  pub steps : ℕ
+  pub command : IsCheck words steps
+  pub of_input : IsReadDue log_limit (IsDueForLog steps) left left' due
 
 -- what the words call for, with the bytes that the source had left before and has left after
 abbrev pub IsDue : List (List ℕ) → Option (List ℕ) → Option (List ℕ) → Due → Type 0
-IsDue words left left' due = IsUsageDue words left left' due ⊎ (IsLengthDue words left left' due ⊎ IsInputDue words left left' due)
+IsDue words left left' due = IsUsageDue words left left' due ⊎ (IsProveDue words left left' due ⊎ IsCheckDue words left left' due)
 
--- what the word `prove` calls for where these are all bytes that the source has left
-abbrev pub IsCalledFor : ℕ → List ℕ → Due → Type 0
-IsCalledFor steps bytes due =
-    ((program_limit < length bytes) × (due ≡ record { text = too_long_line; status = TooLong }))
-    ⊎ ((length bytes ≤ program_limit) × IsDueFor steps bytes due)
+-- what a command with this limit calls for where these are all bytes that the source has left
+abbrev pub IsReadCall : ℕ → (List ℕ → Due → Type 0) → List ℕ → Due → Type 0
+IsReadCall limit For bytes due =
+    ((limit < length bytes) × (due ≡ record { text = too_long_line; status = TooLong })) ⊎ ((length bytes ≤ limit) × For bytes due)
+
+-- what the words call for then
+abbrev pub IsCalledFor : List (List ℕ) → List ℕ → Due → Type 0
+IsCalledFor words bytes due =
+    ((steps : ℕ) × IsProve words steps × IsReadCall program_limit (IsDueFor steps) bytes due)
+    ⊎ ((steps : ℕ) × IsCheck words steps × IsReadCall log_limit (IsDueForLog steps) bytes due)

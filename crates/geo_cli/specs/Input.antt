@@ -6,6 +6,10 @@ use Rattle.geo_base.specs.Devices.{HasEnded, Loses}
 abbrev pub program_limit : ℕ
 program_limit = 1048576
 
+-- the most bytes of a log
+abbrev pub log_limit : ℕ
+log_limit = 67108864
+
 -- all bytes of the source were read, and they are within the limit
 pub record IsInput (limit : ℕ) (left : Option (List ℕ)) (bytes : List ℕ) (left' : Option (List ℕ)) : Type 0 where
   pub lost : Loses left bytes left'

@@ -4,11 +4,12 @@ use Rattle.std.specs.Prelude.{◌≡◌, ◌⊎◌, ℕ, List, take, Option}
 use Rattle.geo_base.specs.Devices.{Grows, HasRisen}
 use Rattle.geo_cli.specs.declared.status.Status.{Status}
 use Rattle.geo_cli.specs.declared.status.Status.TheVariants.{NoMemory, ReadFault, WriteFault}
-use Rattle.geo_cli.specs.Due.{Due, IsDue}
-use Rattle.geo_cli.specs.Input.{IsInput, program_limit}
-use Rattle.geo_cli.specs.Words.{IsProve}
+use Rattle.geo_cli.specs.Due.{Due, IsDue, IsNoCommand}
+use Rattle.geo_cli.specs.Input.{IsInput, log_limit, program_limit}
+use Rattle.geo_cli.specs.Words.{IsCheck, IsProve}
 use Rattle.geo_program.specs.declared.program_type.Program.{Program}
 use Rattle.geo_program.specs.Programs.{Spells, source_of}
+use Rattle.geo_program.specs.WellFormed.{Source}
 use Rattle.log_checker.specs.Accepted.{Accepts, BytesMean}
 use Rattle.proof_log.specs.declared.log.Verdict.{Verdict}
 
@@ -16,7 +17,7 @@ use Rattle.proof_log.specs.declared.log.Verdict.{Verdict}
 -- the words are `prove` with so many steps, the source gave these bytes and no more, they spell this program, and the sink holds this text
 -- besides; the text is a log of the program that is accepted with these steps and this verdict; and it means: the statement is true, or
 -- the printed integers break it, or no placement meets the program
-pub record Decides (words : List (List ℕ)) (left left' held held' : Option (List ℕ)) (verdict : Verdict) : Type 0 where
+pub record Proves (words : List (List ℕ)) (left left' held held' : Option (List ℕ)) (verdict : Verdict) : Type 0 where
   pub steps : ℕ
   pub command : IsProve words steps
   pub bytes : List ℕ
@@ -27,6 +28,17 @@ pub record Decides (words : List (List ℕ)) (left left' held held' : Option (Li
   pub written : Grows held text held'
   pub accepted : Accepts text steps (source_of program) verdict
   pub means : BytesMean text (source_of program) verdict
+
+-- the words are `check` with so many steps, the source gave these bytes and no more, whoever wrote them; they are a log of this program
+-- that is accepted with these steps and this verdict; and it means that
+pub record Checks (words : List (List ℕ)) (left left' : Option (List ℕ)) (verdict : Verdict) : Type 0 where
+  pub steps : ℕ
+  pub command : IsCheck words steps
+  pub bytes : List ℕ
+  pub input : IsInput log_limit left bytes left'
+  pub program : Source
+  pub accepted : Accepts bytes steps program verdict
+  pub means : BytesMean bytes program verdict
 
 -- THE ENDS OF A RUN
 -- writing was cut short: a write failed, or memory ran out
@@ -49,8 +61,7 @@ pub record Answers (words : List (List ℕ)) (left left' : Option (List ℕ)) (f
 -- a read failed, and nothing was written
 pub record FailsToRead (words : List (List ℕ)) (faults faults' : ℕ) (held held' : Option (List ℕ)) (status : Status) : Type 0 where
   pub is : status ≡ ReadFault
-  pub steps : ℕ
-  pub command : IsProve words steps
+  pub command : IsNoCommand words → ⊥
   pub fault : HasRisen faults faults'
   pub unwritten : held' ≡ held
 

@@ -1,9 +1,10 @@
 -- How a run ended.
 use Rattle.std.specs.Prelude.{ℕ, List, length}
 use Rattle.geo_cli.specs.declared.status.Status.{Status}
-use Rattle.geo_cli.specs.declared.status.Status.TheVariants.{Proved, False, Impossible, Usage, Syntax, TooLarge, Spent, ReadFault, WriteFault, NoMemory, TooLong}
+use Rattle.geo_cli.specs.declared.status.Status.TheVariants.{Proved, False, Impossible, Usage, Syntax, TooLarge, Spent, ReadFault, WriteFault, NoMemory, Rejected, TooLong}
 use Rattle.geo_logs.specs.Ends.{Ending, ends_by, ends_with, too_long}
-use Rattle.geo_logs.specs.Moves.{spent, too_large}
+use Rattle.geo_logs.specs.Judging.{Refusal, number_of, rejected, stopped}
+use Rattle.geo_logs.specs.Moves.{Stop, spent, too_large}
 use Rattle.proof_log.specs.declared.log.Line.{Line}
 use Rattle.proof_log.specs.declared.log.Verdict.{Verdict}
 use Rattle.proof_log.specs.declared.log.Verdict.TheVariants as verdict
@@ -20,6 +21,7 @@ status_number (Spent line) = 7
 status_number ReadFault = 8
 status_number WriteFault = 9
 status_number NoMemory = 10
+status_number (Rejected line reason) = 11
 status_number TooLong = 12
 
 -- the answer that tells a verdict
@@ -28,9 +30,18 @@ verdict_status verdict.Proved = Proved
 verdict_status (verdict.False g) = False g
 verdict_status (verdict.Impossible k) = Impossible k
 
+-- the answer that tells a stop at the line of this number
+abbrev pub stop_status : ℕ → Stop → Status
+stop_status number spent = Spent number
+stop_status number (too_large which) = TooLarge number which
+
 -- the answer that tells how a log of these lines ends; a stop is told with the number of its line, the last
 abbrev pub ending_status : List Line → Ending → Status
 ending_status lines (ends_with v left) = verdict_status v
-ending_status lines (ends_by spent) = Spent (length lines)
-ending_status lines (ends_by (too_large which)) = TooLarge (length lines) which
+ending_status lines (ends_by stop) = stop_status (length lines) stop
 ending_status lines too_long = TooLong
+
+-- the answer that tells why a log is refused at the line of this number
+abbrev pub refusal_status : ℕ → Refusal → Status
+refusal_status number (rejected reason) = Rejected number (number_of reason)
+refusal_status number (stopped stop) = stop_status number stop

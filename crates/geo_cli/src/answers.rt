@@ -1,5 +1,6 @@
 //! The texts that a run writes besides logs.
-ghost use Rattle.std.specs.Prelude.{◌≡◌, ◌≤◌, IfOk};
+ghost use Rattle.std.specs.Prelude.{◌≡◌, ◌≤◌, ◌∷◌, ◌++◌, [], codes, IfOk};
+ghost use Rattle.std.specs.Fmt.{decimal};
 ghost use Rattle.geo_cli.specs.Due.{syntax_line};
 ghost use Rattle.geo_cli.specs.Run.{IsAnswered};
 
@@ -36,6 +37,19 @@ pub fn syntax_line(alloc: Global, fault: Fault) -> Result<Text, NoMemory>
     push_decimal(alloc, &mut bytes, fault.refusal as i128).map_err(|_| NoMemory)?;
     bytes.extend_from_slice(b" at ")?;
     push_decimal(alloc, &mut bytes, fault.place as i128).map_err(|_| NoMemory)?;
+    bytes.push(b'\n')?;
+    Ok(Text { bytes })
+}
+
+/// The line that tells at which line a log is rejected, and the number of the reason.
+pub fn rejected_line(alloc: Global, line: u64, reason: u32) -> Result<Text, NoMemory>
+    ensures { IfOk result (λ text.
+        text ≡ codes "rejected " ++ decimal line ++ codes " " ++ decimal reason ++ 10 ∷ []) }
+{
+    let mut bytes = Vec::from_slice(alloc, b"rejected ")?;
+    push_decimal(alloc, &mut bytes, line as i128).map_err(|_| NoMemory)?;
+    bytes.push(b' ')?;
+    push_decimal(alloc, &mut bytes, reason as i128).map_err(|_| NoMemory)?;
     bytes.push(b'\n')?;
     Ok(Text { bytes })
 }

@@ -1,5 +1,5 @@
 //! Proves a statement of plane geometry that standard input spells, and writes the log of the
-//! proof.
+//! proof; or checks a log that standard input gives.
 #![tactic(auto)]
 
 use crate::run::run;
@@ -9,7 +9,10 @@ use std::env;
 use std::io::ErrorKind;
 use std::process::ExitCode;
 
+mod acceptance;
 mod answers;
+mod checking;
+mod judging;
 mod numbers;
 mod order;
 mod proving;

@@ -1,8 +1,10 @@
 //! How a run ended.
 ghost use Rattle.std.specs.Prelude.{◌≡◌};
+ghost use Rattle.geo_cli.specs.Inner.Judgements.{error_status};
 ghost use Rattle.geo_cli.specs.Status.{status_number, verdict_status};
 
 use geo_poly::Which;
+use log_checker::CheckError;
 use proof_log::Verdict;
 
 /// How a run ended.
@@ -41,6 +43,13 @@ pub enum Status {
     WriteFault,
     /// Memory ran out.
     NoMemory,
+    /// A line of the log is not accepted.
+    Rejected {
+        /// The number of the line, from 1.
+        line: u64,
+        /// The number of the reason.
+        reason: u32,
+    },
     /// The input, or the log, is longer than its limit.
     TooLong,
 }
@@ -61,6 +70,7 @@ impl Status {
             Status::ReadFault => 8,
             Status::WriteFault => 9,
             Status::NoMemory => 10,
+            Status::Rejected { .. } => 11,
             Status::TooLong => 12,
         }
     }
@@ -73,6 +83,17 @@ impl Status {
             Verdict::Proved => Status::Proved,
             Verdict::False(goal) => Status::False(goal),
             Verdict::Impossible(condition) => Status::Impossible(condition),
+        }
+    }
+    /// The answer that tells why a log is refused.
+    pub fn of_error(error: CheckError) -> Status
+        ensures { result ≡ error_status error }
+    {
+        match error {
+            CheckError::Rejected { line, reason } => Status::Rejected { line, reason },
+            CheckError::TooLarge { line, which } => Status::TooLarge { line, which },
+            CheckError::Spent { line } => Status::Spent { line },
+            CheckError::NoMemory => Status::NoMemory,
         }
     }
 }

@@ -6,6 +6,8 @@ use geo_poly::Which;
 use std::process::Abort;
 use std::test::Fail;
 
+mod checking;
+
 const USAGE: &[u8] = b"usage: geo_cli COMMAND [NUMBER] [--steps N]\n";
 
 const MIDPOINT: &[u8] = b"point A point B midpoint M A B prove { collinear A M B }";

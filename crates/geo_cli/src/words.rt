@@ -1,20 +1,33 @@
-//! The words of the command line.
-ghost use Rattle.std.specs.Prelude.{◌≡◌, ℕ, IfNone, IfSome};
+//! What the words of the command line order.
+ghost use Rattle.std.specs.Prelude.{◌≡◌, IfNone, IfSome};
 ghost use Rattle.geo_cli.specs.Due.{IsNoCommand};
-ghost use Rattle.geo_cli.specs.Words.{IsProve, bytes_of_words};
+ghost use Rattle.geo_cli.specs.Inner.Tasks.{IsTask};
+ghost use Rattle.geo_cli.specs.Orders.{IsOrder};
+ghost use Rattle.geo_cli.specs.Words.{bytes_of_words};
+ghost use Rattle.geo_cli.specs.declared.order.Order.{Order};
 
 use crate::order::{Command, order_of};
 
-/// The number of steps, where the words are the command `prove`.
-pub fn steps_of_prove(words: &Vec<String>) -> Option<u64>
-    ensures some { IfSome result (IsProve (bytes_of_words words.now.items)) }
+/// A command that there is, with the steps that it may take.
+#[derive(Clone, Copy, Debug, PartialEq, Eq)]
+pub enum Task {
+    /// Prove the statement of a program.
+    Prove(u64),
+    /// Check a log.
+    Check(u64),
+}
+
+/// The task that the words order, where they are a command that there is.
+pub fn task_of(words: &Vec<String>) -> Option<Task>
+    ensures some { IfSome result (IsTask (bytes_of_words words.now.items)) }
     ensures none { IfNone result (IsNoCommand (bytes_of_words words.now.items)) }
-    ensures one { (n m : ℕ) → IsProve (bytes_of_words words.now.items) n
-        → IsProve (bytes_of_words words.now.items) m → n ≡ m }
+    ensures one { (a b : Order) → IsOrder (bytes_of_words words.now.items) a
+        → IsOrder (bytes_of_words words.now.items) b → a ≡ b }
 {
     let order = order_of(words)?;
     match order.command {
-        Command::Prove => Some(order.steps),
-        Command::Check | Command::Text | Command::Bench(_) => None,
+        Command::Prove => Some(Task::Prove(order.steps)),
+        Command::Check => Some(Task::Check(order.steps)),
+        Command::Text | Command::Bench(_) => None,
     }
 }

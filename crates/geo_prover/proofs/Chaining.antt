@@ -1,8 +1,8 @@
 -- Chains: the header, the start, the steps, the end.
-use Rattle.std.proofs.Common.{◌≡◌, ℕ, ◌-◌, ◌<◌, ◌≤◌, inl, inr, ⊎_elim, Option, Some, None, List, [], ◌∷◌, ◌++◌, map, length, refl, sym, ◌∙◌, ap, subst, arith}
+use Rattle.std.proofs.Common.{◌≡◌, ℕ, ◌-◌, inl, inr, Option, Some, None, List, [], ◌∷◌, ◌++◌, map, length, refl, sym, ◌∙◌, ap, subst}
 use Rattle.std.proofs.lemmas.List.{map-append}
 use Rattle.fraction_poly.specs.TableRows.{HasPointsBelow}
-use Rattle.geo_chain.specs.NextLines.{HasLinePointsBelow, IsEndLine, IsNextLine, IsStepLine}
+use Rattle.geo_chain.specs.NextLines.{HasLinePointsBelow, IsNextLine}
 use Rattle.geo_poly.specs.declared.variables.Var.{Var}
 use Rattle.geo_poly.specs.declared.variables.Var.TheVariants.{R, S, P, X, Y, T}
 use Rattle.geo_poly.specs.Monomials.{Powers}
@@ -13,22 +13,21 @@ use Rattle.geo_terms.specs.Constructions.{Construction}
 use Rattle.geo_terms.specs.Trees.{Tree}
 use Rattle.proof_log.specs.declared.log.Line.{Line}
 use Rattle.proof_log.specs.declared.log.Line.TheVariants as line
-use Rattle.proof_log.specs.Writable.{IsWritable}
 use Rattle.elim_apply.specs.LemmaTable.{lemma_table}
 use Rattle.geo_logs.specs.declared.moves.Move.TheVariants.{Ratio, Point, Coords}
-use Rattle.geo_logs.specs.Chains.{Chain, ChainStep, moves, cuts, IsEnd, chain_lines, line_of}
-use Rattle.geo_logs.specs.Defined.{IsDefinedChain, LeadsBySteps, NoCutDue}
-use Rattle.geo_logs.specs.Ends.{IsNext, comes, text_length}
+use Rattle.geo_logs.specs.Chains.{ChainStep, moves, cuts, line_of}
+use Rattle.geo_logs.specs.Defined.{LeadsBySteps}
+use Rattle.geo_logs.specs.Ends.{IsNext, comes}
 use Rattle.geo_logs.specs.Logs.{only_variable}
 use Rattle.geo_logs.specs.Moves.{move_charge, replacement}
 use Rattle.geo_logs.specs.Naming.{IsNamed}
-use Rattle.geo_logs.specs.Places.{Place, before_line, before_start, in_chain}
+use Rattle.geo_logs.specs.Places.{before_line, before_start, in_chain}
 use Rattle.geo_logs.specs.Starts.{IsStarted, start_charge, start_of}
 use Rattle.geo_logs.proofs.TermVariables.{term_sound}
 use Rattle.geo_prover.specs.Inner.Halting.{Passes, WorksChain, WorksSteps}
-use Rattle.geo_prover.specs.Inner.Parts.{CanWrite, Continues, IsBegunSteps, IsInside, chain_part, here_part, polynomial_on, steps_part}
+use Rattle.geo_prover.specs.Inner.Parts.{IsInside, chain_part, here_part, polynomial_on, steps_part}
 use Rattle.geo_prover.specs.Inner.Written.{State, Writes}
-use Rattle.geo_prover.proofs.Passing.{can_write_on, passes_on, reaches, writes_more}
+use Rattle.geo_prover.proofs.Passing.{reaches, writes_more}
 
 -- VARIABLES
 module _ (Strong Weak : Var → Type 0) (weaker : (v : Var) → Strong v → Weak v) where

@@ -1,33 +1,28 @@
 -- From the parts of a log to the log of a program.
-use Rattle.std.proofs.Common.{◌≡◌, ℕ, zero, suc, ◌+◌, ◌-◌, ◌<◌, ◌≤◌, ◌^◌, inl, inr, Option, Some, None, Ok, Err, List, [], ◌∷◌, ◌++◌, map, length, All, append-nil, append_assoc, refl, sym, ◌∙◌, ap, subst, take, drop, arith, lit≤}
+use Rattle.std.proofs.Common.{◌≡◌, ℕ, zero, suc, ◌+◌, ◌-◌, ◌<◌, ◌≤◌, ◌^◌, inl, inr, Some, Ok, Err, List, [], ◌∷◌, ◌++◌, map, length, append-nil, append_assoc, refl, sym, ◌∙◌, ap, subst, take, arith}
 use Rattle.std.specs.Prelude.{IfErr, OnOk, Result, slice_get}
-use Rattle.std.specs.List.{AllByRecursion}
 use Rattle.std.proofs.lemmas.List.{length-append}
 use Rattle.std.proofs.lemmas.List.Elements.{All-from_recursion, recursion_from_All}
-use Rattle.geo_base.specs.Devices.{Grows, HasRisen}
-use Rattle.geo_base.proofs.DeviceLemmas.{Grows-append, Grows-nothing}
+use Rattle.geo_base.specs.Devices.{Grows}
+use Rattle.geo_base.proofs.DeviceLemmas.{Grows-nothing}
 use Rattle.geo_conditions.specs.declared.items.Item.{Item as ListedItem}
 use Rattle.geo_conditions.specs.declared.problem.Problem.{Problem}
 use Rattle.geo_conditions.specs.Lists.{IsProblem, item_form}
 use Rattle.geo_conditions.specs.Problems.{form_of_problem}
-use Rattle.geo_poly.specs.declared.variables.Var.{Var}
-use Rattle.geo_poly.specs.Polynomials.{Summands}
-use Rattle.geo_program.specs.CanonicalText.{canonical_text}
 use Rattle.geo_program.specs.WellFormed.{IsWellFormed, Source}
 use Rattle.geo_terms.specs.Constructions.{Construction}
-use Rattle.geo_terms.specs.Stores.{Store, tree_of}
+use Rattle.geo_terms.specs.Stores.{tree_of}
 use Rattle.proof_log.specs.declared.log.Line.{Line}
-use Rattle.proof_log.specs.declared.log.Line.TheVariants.{Header, Program as ProgramLine, Condition, Goal}
+use Rattle.proof_log.specs.declared.log.Line.TheVariants.{Header, Program as ProgramLine}
 use Rattle.proof_log.specs.declared.log.Verdict.{Verdict}
 use Rattle.proof_log.specs.Lines.{log_text}
-use Rattle.proof_log.specs.Writable.{IsWritable}
 use Rattle.elim_apply.specs.LemmaTable.{lemma_table}
 use Rattle.elim_apply.proofs.MoveRows.{lemma_table_sound}
-use Rattle.geo_logs.specs.Ends.{Ending, IsDefinedLog, IsNext, comes, ends_by, ends_with, stop_line, stops, text_length, too_long}
+use Rattle.geo_logs.specs.Ends.{Ending, IsDefinedLog, ends_by, ends_with, stop_line, text_length, too_long}
 use Rattle.geo_logs.specs.Defined.{IsLogOfProver}
-use Rattle.geo_logs.specs.Logs.{Item, Subject}
+use Rattle.geo_logs.specs.Logs.{Subject}
 use Rattle.geo_logs.specs.Moves.{Stop, spent, too_large}
-use Rattle.geo_logs.specs.Places.{Place, before_line, before_sample, first_lines}
+use Rattle.geo_logs.specs.Places.{Place, before_line, first_lines}
 use Rattle.geo_logs.proofs.AcceptedProvers.{provers_log_accepted}
 use Rattle.geo_logs.proofs.Charges.{charges_spent}
 use Rattle.log_checker.specs.Accepted.{IsShortProgram}
@@ -44,13 +39,13 @@ use Rattle.geo_prover.specs.declared.errors.ProveError.TheVariants.{TooLarge, Sp
 use Rattle.geo_prover.specs.declared.summary.Summary.{Summary}
 use Rattle.geo_prover.specs.Proving.{Concludes, IsLogOf, StopsAt, WritesLog, WritesPart}
 use Rattle.geo_prover.specs.Inner.Answers.{IsAnswerOf}
-use Rattle.geo_prover.specs.Inner.FirstLines.{IsBrokenOffAmong, IsPartAmong, IsTooLongAmong}
+use Rattle.geo_prover.specs.Inner.FirstLines.{IsBrokenOffAmong, IsPartAmong}
 use Rattle.geo_prover.specs.Inner.Halting.{Finishes, Halts, IsBrokenOff, IsPieceOfNext, IsStopped, IsTooLong, Passes}
-use Rattle.geo_prover.specs.Inner.Parts.{CanWrite, Continues, IsInside, Part, conditions_part, items_of, log_part}
+use Rattle.geo_prover.specs.Inner.Parts.{CanWrite, IsInside, Part, items_of, log_part}
 use Rattle.geo_prover.specs.Inner.Tasks.{IsItemReady, IsReady, conditions_from}
 use Rattle.geo_prover.specs.Inner.Written.{State, Writes}
 use Rattle.geo_prover.proofs.Listing.{conditions_start}
-use Rattle.geo_prover.proofs.Passing.{halts_on, log_text-append, text_length-append}
+use Rattle.geo_prover.proofs.Passing.{log_text-append, text_length-append}
 
 -- FRONTS
 take_front : (xs ys : List ℕ) → take (length xs) (xs ++ ys) ≡ xs

@@ -1,10 +1,10 @@
 -- The lines of a program in its text.
-use Rattle.std.proofs.Common.{◌≡◌, ℕ, suc, ◌+◌, ◌-◌, ◌<◌, ◌≤◌, Bool, true, false, not, cond, inl, inr, Option, Some, None, List, [], ◌∷◌, ◌++◌, map, length, take, drop, append-nil, append_assoc, refl, sym, ◌∙◌, ap, subst, arith}
+use Rattle.std.proofs.Common.{◌≡◌, ℕ, suc, ◌+◌, ◌<◌, ◌≤◌, Bool, true, false, not, cond, inl, inr, Some, None, List, [], ◌∷◌, ◌++◌, map, length, take, drop, append-nil, append_assoc, refl, sym, ◌∙◌, ap, subst, arith}
 use Rattle.std.specs.Prelude.{◌==◌, nat_lt}
 use Rattle.std.specs.List.{AllByRecursion, flat_map, position, prefix_len}
 use Rattle.std.proofs.lemmas.Bool.{eqb-false, lt-ltb, ltb-true, ne_eqb}
 use Rattle.std.proofs.lemmas.List.{length-append, map-append}
-use Rattle.geo_base.specs.Devices.{Grows, HasRisen}
+use Rattle.geo_base.specs.Devices.{Grows}
 use Rattle.geo_base.proofs.DeviceLemmas.{Grows-append, Grows-nothing, HasRisen-after}
 use Rattle.geo_lexer.specs.Lexemes.{Lexeme}
 use Rattle.geo_program.specs.CanonicalText.{canonical_text, line_lexemes, line_text, no_sketches}
@@ -12,7 +12,7 @@ use Rattle.geo_program.specs.WellFormed.{Source}
 use Rattle.log_checker.specs.Subjects.{source_lines}
 use Rattle.geo_logs.specs.Ends.{text_length}
 use Rattle.proof_log.specs.declared.log.Line.{Line}
-use Rattle.proof_log.specs.declared.log.Line.TheVariants.{Header, Program as ProgramLine}
+use Rattle.proof_log.specs.declared.log.Line.TheVariants.{Program as ProgramLine}
 use Rattle.proof_log.specs.Lines.{log_text}
 use Rattle.proof_log.specs.Writable.{HasNoLineFeed}
 use Rattle.geo_prover.specs.declared.errors.ProveError.{ProveError}

@@ -1,5 +1,5 @@
 -- The chains of conditions and goals, one after another.
-use Rattle.std.proofs.Common.{◌≡◌, ◌≢◌, ℕ, zero, suc, ◌+◌, ◌<◌, ◌≤◌, ◌^◌, inl, inr, Option, Some, None, List, [], ◌∷◌, ◌++◌, map, length, append-nil, append_assoc, add-one, refl, sym, ◌∙◌, ap, subst, drop, ℤ, arith}
+use Rattle.std.proofs.Common.{◌≡◌, ◌≢◌, ℕ, zero, suc, ◌+◌, ◌<◌, ◌≤◌, ◌^◌, inl, inr, Option, Some, None, List, [], ◌∷◌, ◌++◌, length, append-nil, append_assoc, add-one, refl, sym, ◌∙◌, ap, subst, drop, ℤ, arith}
 use Rattle.std.specs.Prelude.{IfNone, IfSome, slice_get}
 use Rattle.std.specs.List.{cons_option}
 use Rattle.std.proofs.lemmas.List.Elements.{recursion_from_All}
@@ -11,19 +11,16 @@ use Rattle.geo_points.specs.declared.ids.TermId.{TermId}
 use Rattle.geo_poly.specs.Polynomials.{Summands}
 use Rattle.geo_poly.specs.Specialise.{NoneZero}
 use Rattle.geo_terms.specs.Constructions.{Construction}
-use Rattle.geo_terms.specs.Stores.{Store, tree_of}
+use Rattle.geo_terms.specs.Stores.{tree_of}
 use Rattle.geo_terms.specs.Trees.{Tree}
 use Rattle.proof_log.specs.declared.log.Line.{Line}
 use Rattle.proof_log.specs.declared.log.Line.TheVariants.{Condition, Goal, Sample, Verdict as VerdictLine}
 use Rattle.proof_log.specs.declared.log.Verdict.{Verdict}
 use Rattle.proof_log.specs.declared.log.Verdict.TheVariants.{Proved, False, Impossible}
-use Rattle.elim_apply.specs.LemmaTable.{lemma_table}
 use Rattle.geo_logs.specs.Chains.{chain_lines}
-use Rattle.geo_logs.specs.Defined.{IsDefinedChain}
-use Rattle.geo_logs.specs.Logs.{BeginsWithChain, Item, known_by, only_variable}
+use Rattle.geo_logs.specs.Logs.{Item, known_by}
 use Rattle.geo_logs.specs.Places.{Place, before_line, before_sample}
 use Rattle.geo_logs.specs.Samples.{IsLeastSample}
-use Rattle.geo_logs.specs.Starts.{start_of}
 use Rattle.geo_logs.proofs.AcceptedProvers.{All-push}
 use Rattle.log_checker.specs.Subjects.{log_item}
 use Rattle.log_checker.proofs.Places.{each_at}

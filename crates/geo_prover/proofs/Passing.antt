@@ -1,9 +1,8 @@
 -- Parts of a log in a row: what was written adds up, a stop behind lines is a stop of the whole.
-use Rattle.std.proofs.Common.{◌≡◌, ℕ, suc, ◌+◌, ◌<◌, ◌≤◌, inl, inr, ⊎_elim, Option, List, [], ◌∷◌, ◌++◌, length, append-nil, append_assoc, refl, sym, ◌∙◌, ap, subst, take, arith}
-use Rattle.std.specs.List.{flat_map}
+use Rattle.std.proofs.Common.{◌≡◌, ℕ, suc, ◌+◌, ◌<◌, ◌≤◌, inl, inr, List, [], ◌∷◌, ◌++◌, length, append-nil, append_assoc, refl, sym, ◌∙◌, ap, subst, take, arith}
 use Rattle.std.proofs.lemmas.List.{length-append}
 use Rattle.std.proofs.lemmas.Grind.{flat_map-append}
-use Rattle.geo_base.specs.Devices.{Grows, HasRisen}
+use Rattle.geo_base.specs.Devices.{Grows}
 use Rattle.geo_base.proofs.DeviceLemmas.{Grows-append, Grows-nothing, HasRisen-after}
 use Rattle.geo_terms.specs.Constructions.{Construction}
 use Rattle.proof_log.specs.declared.log.Line.{Line}

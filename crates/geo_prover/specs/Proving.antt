@@ -1,5 +1,5 @@
 -- What the prover writes, and what it answers.
-use Rattle.std.specs.Prelude.{◌≡◌, ℕ, ◌+◌, Option, List, [], ◌∷◌, ◌++◌, length, take}
+use Rattle.std.specs.Prelude.{◌≡◌, ℕ, ◌+◌, Option, List, length, take}
 use Rattle.geo_base.specs.Devices.{Grows}
 use Rattle.geo_program.specs.WellFormed.{Source}
 use Rattle.proof_log.specs.declared.log.Line.{Line}
@@ -18,8 +18,8 @@ pub record IsLogOf (p : Source) (steps : ℕ) (lines : List Line) (ending : Endi
   pub about : IsSubjectOf p subject
   pub defined : IsDefinedLog lemma_table subject steps lines ending
 
--- the log was written whole: it ends with the verdict that is told, and it is an accepted log of the program; its lines are counted, and the
--- charges are what is not left of the steps
+-- the log was written whole: it ends with the verdict that is told, and it is an accepted log of the program; its lines are counted, and
+-- the charges are what is not left of the steps
 pub record Concludes (p : Source) (steps : ℕ) (held held' : Option (List ℕ)) (summary : Summary) : Type 0 where
   pub lines : List Line
   pub left : ℕ

@@ -10,7 +10,8 @@ ghost use Rattle.geo_poly.specs.PolynomialVariables.{AllVariables};
 ghost use Rattle.geo_terms.specs.Stores.{tree_of};
 ghost use Rattle.proof_log.specs.Writable.{IsWritable};
 ghost use Rattle.geo_prover.specs.Inner.Halting.{Halts, IsAnswered, WorksChain, WorksSteps};
-ghost use Rattle.geo_prover.specs.Inner.Parts.{CanWrite, IsInside, chain_part, here_part, polynomial_on, steps_part};
+ghost use Rattle.geo_prover.specs.Inner.Parts.{CanWrite, IsInside, chain_part};
+ghost use Rattle.geo_prover.specs.Inner.Parts.{here_part, polynomial_on, steps_part};
 ghost use Rattle.geo_prover.specs.Inner.Written.{IsUnwritten, Writes, state};
 
 use crate::errors::ProveError;

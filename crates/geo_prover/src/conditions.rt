@@ -1,11 +1,13 @@
 //! The chains of the conditions.
 
-ghost use Rattle.std.specs.Prelude.{◌≡◌, ◌≢◌, ◌+◌, ◌^◌, ◌<◌, ◌∷◌, ◌++◌, [], IfErr, IfNone, IfOk, IfSome, OnOk, length};
+ghost use Rattle.std.specs.Prelude.{◌≡◌, ◌≢◌, ◌+◌, ◌^◌, ◌<◌, ◌∷◌, ◌++◌, [], length};
+ghost use Rattle.std.specs.Prelude.{IfErr, IfNone, IfOk, IfSome, OnOk};
 ghost use Rattle.std.specs.List.{cons_option};
 ghost use Rattle.geo_poly.specs.Specialise.{NoneZero};
 ghost use Rattle.geo_prover.specs.Inner.Halting.{Halts, IsImpossibleAt, Passes};
 ghost use Rattle.geo_prover.specs.Inner.Parts.{CanWrite};
-ghost use Rattle.geo_prover.specs.Inner.Tasks.{IsConditionTask, IsReady, conditions_from, goals_from};
+ghost use Rattle.geo_prover.specs.Inner.Tasks.{IsConditionTask, IsReady};
+ghost use Rattle.geo_prover.specs.Inner.Tasks.{conditions_from, goals_from};
 ghost use Rattle.geo_prover.specs.Inner.Written.{state};
 
 use crate::chains::{Task, WorkedChain, work_chain};

@@ -1,6 +1,7 @@
 //! The chains of the goals.
 
-ghost use Rattle.std.specs.Prelude.{◌≡◌, ◌≢◌, ◌+◌, ◌^◌, ◌<◌, ◌∷◌, ◌++◌, [], IfErr, IfOk, OnOk, length};
+ghost use Rattle.std.specs.Prelude.{◌≡◌, ◌≢◌, ◌+◌, ◌^◌, ◌<◌, ◌∷◌, ◌++◌, [], length};
+ghost use Rattle.std.specs.Prelude.{IfErr, IfOk, OnOk};
 ghost use Rattle.proof_log.specs.declared.log.Verdict.TheVariants.{False};
 ghost use Rattle.geo_poly.specs.Specialise.{NoneZero};
 ghost use Rattle.geo_prover.specs.Inner.Halting.{Halts, Passes};

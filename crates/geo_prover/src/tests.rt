@@ -1,8 +1,8 @@
 //! Worked logs.
 
 use crate::{ProveError, prove};
-use geo_base::{MemSink, NoMemory as OutOfMemory};
-use geo_parser::{ParseError, parse};
+use geo_base::MemSink;
+use geo_parser::parse;
 use geo_poly::Which;
 use proof_log::Verdict;
 use std::alloc::{AllocError, Global};
@@ -29,7 +29,8 @@ const MIDDLE: &[u8] = b"point A point B midpoint M A B prove { collinear A M B }
 
 const CEVA: &[u8] =
     b"point A point B point C point P inter D B C A P inter E C A B P inter F A B C P \
-    prove { equal { mult { mult { sratio A F F B } { sratio B D D C } } { sratio C E E A } } { 1 } }";
+    prove { equal { mult { mult { sratio A F F B } { sratio B D D C } } \
+    { sratio C E E A } } { 1 } }";
 
 const SEGMENTS: &[u8] = b"point A point B point C point D prove { equal { sratio A B C D } { 1 } }";
 

@@ -42,3 +42,16 @@ pub mod AlikeRefusals
 pub mod OneStop
 pub mod AlteredLogs
 pub mod Writing
+pub mod DueChains
+pub mod DueMoves
+pub mod KeysInTurn
+pub mod DueRefusals
+pub mod SampleNames
+pub mod PassedOn
+pub mod DueSteps
+pub mod DueProblems
+pub mod ProgramTexts
+pub mod JudgedNext
+pub mod JudgedAnswers
+pub mod CheckerSteps
+pub mod FirstFeeds

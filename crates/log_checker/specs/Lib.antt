@@ -4,3 +4,6 @@ pub mod Laws
 pub mod Accepted
 pub mod Begun
 pub mod Judged
+pub mod Checkers
+pub mod Checked
+pub mod Inner

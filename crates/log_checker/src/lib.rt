@@ -1,5 +1,30 @@
-//! What the logs of a program prove of it: an accepted log with Proved, False or Impossible,
-//! whoever wrote it, and the prover's own.
+//! Logs are judged line by line; and what the logs of a program prove of it: an accepted log with
+//! Proved, False or Impossible, whoever wrote it, and the prover's own.
 #![tactic(auto)]
 
+mod accepted;
+mod chaining;
+mod checker;
+mod checking;
+mod cutting;
+mod due;
+mod ending;
+mod errors;
+mod evidence;
+mod heading;
+mod judging;
 pub mod laws;
+mod moving;
+mod reasons;
+mod sampling;
+mod starting;
+mod state;
+mod stops;
+#[cfg(test)]
+mod tests;
+mod work;
+
+pub use accepted::Accepted;
+pub use checker::Checker;
+pub use checking::check;
+pub use errors::CheckError;

@@ -1,5 +1,5 @@
 -- How a part of the log is written to its end, or where it stops.
-use Rattle.std.specs.Prelude.{◌≡◌, ℕ, suc, ◌+◌, ◌<◌, ◌≤◌, ◌⊎◌, Option, Some, None, List, [], ◌∷◌, ◌++◌, length, map, take}
+use Rattle.std.specs.Prelude.{◌≡◌, ℕ, suc, ◌+◌, ◌<◌, ◌≤◌, ◌⊎◌, Option, List, [], ◌∷◌, ◌++◌, length, map, take}
 use Rattle.geo_base.specs.Devices.{Grows, HasRisen}
 use Rattle.geo_poly.specs.declared.variables.Var.{Var}
 use Rattle.geo_poly.specs.Polynomials.{Summands}
@@ -11,11 +11,12 @@ use Rattle.proof_log.specs.declared.log.Verdict.{Verdict}
 use Rattle.proof_log.specs.declared.log.Verdict.TheVariants.{Impossible}
 use Rattle.proof_log.specs.Lines.{log_text}
 use Rattle.elim_apply.specs.declared.errors.ApplyError.{ApplyError}
-use Rattle.elim_apply.specs.declared.errors.ApplyError.TheVariants.{NoRow, Spent as SpentThere, TooLarge as TooLargeThere, NoMemory as NoMemoryThere}
+use Rattle.elim_apply.specs.declared.errors.ApplyError.TheVariants.{NoRow, Spent as SpentThere, TooLarge as TooLargeThere}
+use Rattle.elim_apply.specs.declared.errors.ApplyError.TheVariants.{NoMemory as NoMemoryThere}
 use Rattle.elim_apply.specs.LemmaTable.{lemma_table}
 use Rattle.geo_logs.specs.Chains.{Chain, ChainStep, IsEnd, chain_lines, line_of}
 use Rattle.geo_logs.specs.Defined.{IsDefinedChain, LeadsBySteps, NoCutDue}
-use Rattle.geo_logs.specs.Ends.{IsNext, Next, comes, stop_line, stops, text_length}
+use Rattle.geo_logs.specs.Ends.{IsNext, comes, stop_line, stops, text_length}
 use Rattle.geo_logs.specs.Logs.{only_variable}
 use Rattle.geo_logs.specs.Moves.{Stop, spent, too_large}
 use Rattle.geo_logs.specs.Places.{Place, before_line}
@@ -86,7 +87,8 @@ IsAnswered NoMemoryThere s t e = (e ≡ NoMemory) × (t ≡ s)
 
 -- WHAT IS WRITTEN WHOLE
 -- the steps from the polynomial on and the end were written, and the last polynomial is this
-pub record WorksSteps (c : Construction) (known : List Var) (left : ℕ) (q : Summands) (left' : ℕ) (s t : State) (end : Summands) : Type 0 where
+pub record WorksSteps (c : Construction) (known : List Var) (left : ℕ) (q : Summands) (left' : ℕ) (s t : State) (end : Summands)
+    : Type 0 where
   pub steps : List ChainStep
   pub leads : LeadsBySteps lemma_table c known left q steps left' end
   pub no_cut : NoCutDue known end

@@ -22,8 +22,8 @@ use Rattle.geo_logs.specs.Samples.{IsLeastSample}
 use Rattle.log_checker.specs.Subjects.{log_item}
 
 -- PARTS
--- the lines that begin a part of a log, each list with the place after it; and those that are all of it and of the log, with the verdict and
--- the steps that are left
+-- the lines that begin a part of a log, each list with the place after it; and those that are all of it and of the log, with the verdict
+-- and the steps that are left
 pub record Part : Type 1 where
   pub begun : List Line → Place → Type 0
   pub whole : List Line → Verdict → ℕ → Type 0
@@ -56,7 +56,8 @@ chain_part c header known left e = record {
 abbrev pub end_part : Construction → List Summands → Verdict → ℕ → Part
 end_part c listed verdict left = record {
   begun = IsBegunEnd (LeadsBySteps lemma_table c) (IsDefinedChain lemma_table c) (IsLeastSample c) listed verdict left;
-  whole = λ lines other left'. (other ≡ verdict) × IsConcluded (IsDefinedChain lemma_table c) (IsLeastSample c) listed left lines verdict left';
+  whole = λ lines other left'.
+      (other ≡ verdict) × IsConcluded (IsDefinedChain lemma_table c) (IsLeastSample c) listed left lines verdict left';
 }
 
 -- the goals from number k on, and what follows

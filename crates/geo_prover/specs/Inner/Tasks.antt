@@ -38,8 +38,10 @@ pub record IsGoalTask (items : List Item) (i : ℕ) (header : Line) (term : Term
 -- the conditions from place i on, and what follows
 abbrev pub conditions_from : Problem → ℕ → List Var → List Summands → ℕ → Part
 conditions_from problem i known listed left =
-    conditions_part problem.steps (items_of problem.steps.nodes problem.goals) known listed (suc i) left (items_of problem.steps.nodes (drop i problem.conditions))
+    let nodes = problem.steps.nodes in
+    conditions_part problem.steps (items_of nodes problem.goals) known listed (suc i) left (items_of nodes (drop i problem.conditions))
 
 -- the goals from place i on, and what follows
 abbrev pub goals_from : Problem → ℕ → List Var → List Summands → ℕ → Part
-goals_from problem i known listed left = goals_part problem.steps known listed (suc i) left (items_of problem.steps.nodes (drop i problem.goals))
+goals_from problem i known listed left =
+    goals_part problem.steps known listed (suc i) left (items_of problem.steps.nodes (drop i problem.goals))

@@ -1,4 +1,4 @@
-use Rattle.std.proofs.Common.{◌≡◌, ◌∙◌, [], ◌∷◌, ap, refl, sym, subst}
+use Rattle.std.proofs.Common.{◌∙◌, [], ◌∷◌, ap, refl, sym, subst}
 use Rattle.fraction_poly.specs.TableRows.{HasPointsBelow}
 use Rattle.geo_logs.specs.Logs.{only_variable}
 use Rattle.geo_logs.specs.Places.{before_line, before_start}

@@ -1,11 +1,10 @@
-use Rattle.std.proofs.Common.{◌≡◌, ◌+◌, ◌-◌, ◌<◌, [], ◌∷◌, sym, subst, arith}
+use Rattle.std.proofs.Common.{sym, subst}
 use Rattle.geo_logs.specs.Places.{in_chain}
 use Rattle.geo_prover.specs.Inner.Parts.{here_part, steps_part}
 use Rattle.geo_prover.specs.Inner.Written.{state}
-use Rattle.geo_prover.specs.declared.log_writer.LogWriter.{LogWriter}
-use Rattle.geo_prover.proofs.Chaining.{IsUnderWay, ends, goes_on, line_comes, line_points, stands_at}
+use Rattle.geo_prover.proofs.Chaining.{IsUnderWay, goes_on, line_comes, line_points, stands_at}
 use Rattle.geo_prover.proofs.Handing.{if_err}
-use Rattle.geo_prover.proofs.Passing.{halts_on, some_text, unwritten_here, write_here}
+use Rattle.geo_prover.proofs.Passing.{halts_on, unwritten_here, write_here}
 use Rattle.geo_prover.proofs.chains.work_steps.Goals as goal
 
 pub returns-in_err-line-clause-err : goal.returns-in_err-line-clause-err

@@ -1,0 +1,104 @@
+//! The command `check`: a log is read, and told to be accepted or refused.
+ghost use Rattle.std.specs.Prelude.{◌≡◌, ◌≢◌, ◌≤◌, ℕ, List, IfOk};
+ghost use Rattle.geo_cli.specs.Inner.Answering.{AnswersLog};
+ghost use Rattle.geo_cli.specs.Inner.Judgements.{IsJudgement, IsRefusal, error_line};
+ghost use Rattle.geo_cli.specs.Input.{Takes, log_limit};
+ghost use Rattle.geo_cli.specs.Run.{Ends};
+ghost use Rattle.geo_cli.specs.Words.{IsCheck};
+ghost use Rattle.geo_program.specs.Programs.{source_of};
+ghost use Rattle.log_checker.specs.Accepted.{Accepts};
+ghost use Rattle.log_checker.specs.Checked.{IsRefusedLog, TellsStop};
+
+use crate::acceptance::accepted_text;
+use crate::answers::{TOO_LONG, answer, rejected_line};
+use crate::judging::judge;
+use crate::status::Status;
+use geo_base::{ReadError, Sink, Source, Text};
+use geo_points::NoMemory;
+use geo_program::Program;
+use log_checker::{Accepted, CheckError};
+use proof_log::{Line, Verdict, write_line};
+use std::alloc::Global;
+
+/// Reads a log to its end, judges it with so many steps, and tells its program, its conditions and
+/// its verdict, or the line at which it is refused.
+pub fn run_check<S: Source, K: Sink>(
+    alloc: Global,
+    steps: u64,
+    source: &mut S,
+    sink: &mut K,
+) -> Status
+    ensures ends { (words : List (List ℕ)) → IsCheck words steps
+        → Ends words (S.left source.old) (S.left source.new)
+        (S.faults source.old) (S.faults source.new) (K.faults sink.old) (K.faults sink.new)
+        (K.held sink.old) (K.held sink.new) result }
+    ensures unwritten { result ≡ Status.ReadFault → sink.new ≡ sink.old }
+    ensures taken { Takes log_limit (S.left source.old) (S.left source.new) }
+    ensures source_faults { S.faults source.old ≤ S.faults source.new }
+    ensures sink_faults { K.faults sink.old ≤ K.faults sink.new }
+{
+    match judge(alloc, steps, source) {
+        Ok(judged) => report(alloc, judged, sink),
+        Err(ReadError::TooLong) => answer(sink, TOO_LONG, Status::TooLong),
+        Err(ReadError::ReadFault) => Status::ReadFault,
+        Err(ReadError::NoMemory) => Status::NoMemory,
+    }
+}
+
+/// Tells what became of a log.
+fn report<K: Sink>(alloc: Global, judged: Result<Accepted, CheckError>, sink: &mut K) -> Status
+    ensures answers { (steps : ℕ) (bytes : List ℕ) → IsJudgement bytes steps judged
+        → AnswersLog steps bytes (K.faults sink.old) (K.faults sink.new)
+        (K.held sink.old) (K.held sink.new) result }
+    ensures reads { result ≢ Status.ReadFault }
+    ensures faults { K.faults sink.old ≤ K.faults sink.new }
+{
+    match judged {
+        Ok(accepted) => accept(alloc, &accepted.program, accepted.verdict, sink),
+        Err(error) => refuse(alloc, error, sink),
+    }
+}
+
+/// Tells an accepted log.
+fn accept<K: Sink>(alloc: Global, program: &Program, verdict: Verdict, sink: &mut K) -> Status
+    ensures answers { (steps : ℕ) (bytes : List ℕ)
+        → Accepts bytes steps (source_of program.now) verdict
+        → AnswersLog steps bytes (K.faults sink.old) (K.faults sink.new)
+        (K.held sink.old) (K.held sink.new) result }
+    ensures reads { result ≢ Status.ReadFault }
+    ensures faults { K.faults sink.old ≤ K.faults sink.new }
+{
+    let Ok(text) = accepted_text(alloc, program, verdict) else {
+        return Status::NoMemory;
+    };
+    answer(sink, &text.bytes, Status::of_verdict(verdict))
+}
+
+/// Tells why a log is refused.
+fn refuse<K: Sink>(alloc: Global, error: CheckError, sink: &mut K) -> Status
+    ensures answers { (steps : ℕ) (bytes : List ℕ) → TellsStop (IsRefusedLog bytes steps) error
+        → AnswersLog steps bytes (K.faults sink.old) (K.faults sink.new)
+        (K.held sink.old) (K.held sink.new) result }
+    ensures reads { result ≢ Status.ReadFault }
+    ensures faults { K.faults sink.old ≤ K.faults sink.new }
+{
+    let Ok(line) = refusal_line(alloc, error) else {
+        return Status::NoMemory;
+    };
+    answer(sink, &line.bytes, Status::of_error(error))
+}
+
+/// The line that tells why a log is refused.
+fn refusal_line(alloc: Global, error: CheckError) -> Result<Text, NoMemory>
+    ensures text { IfOk result (λ line. line ≡ error_line error) }
+    ensures refusal { IfOk result (λ _. IsRefusal error) }
+{
+    match error {
+        CheckError::Rejected { line, reason } => rejected_line(alloc, line, reason),
+        CheckError::TooLarge { line, which } => {
+            write_line(alloc, &Line::StopTooLarge { line, which })
+        }
+        CheckError::Spent { line } => write_line(alloc, &Line::StopSpent { line }),
+        CheckError::NoMemory => Err(NoMemory),
+    }
+}

@@ -1,0 +1,149 @@
+-- The text of a workload's program is short.
+use Rattle.std.proofs.Common.{◌≡◌, ℕ, zero, suc, ◌+◌, ◌*◌, ◌≤◌, Bool, true, false, if◌then◌else◌, List, [], ◌∷◌, ◌++◌, length, get_or, Some, None, refl, arith, length-append}
+use Rattle.std.specs.Prelude.{All, codes, sum_by}
+use Rattle.std.specs.List.{AllByRecursion, cons_option, flat_map}
+use Rattle.std.proofs.lemmas.List.Sums.{sum_by-append, sum_by-cons}
+use Rattle.geo_lexer.specs.Lexemes.{Lexeme, word_lexeme}
+use Rattle.geo_points.specs.declared.ids.PointId.{PointId}
+use Rattle.geo_program.specs.declared.commands.Command.{Command}
+use Rattle.geo_program.specs.declared.commands.Command.TheVariants.{Midpoint, Point}
+use Rattle.geo_program.specs.declared.names.Name.{Name}
+use Rattle.geo_program.specs.declared.names.NameKind.TheVariants as kind
+use Rattle.geo_program.specs.CanonicalText.{argument_lexemes, command_lexemes, commands_lexemes, no_sketches}
+use Rattle.geo_program.specs.Expressions.{braced}
+use Rattle.geo_program.specs.Forms.{StatementForm}
+use Rattle.geo_program.specs.Names.{is_kind, name_text, names_of}
+use Rattle.geo_program.specs.Words.{IsNameText}
+use Rattle.geo_program.proofs.Lengths.{lexeme_size}
+use Rattle.geo_terms.specs.Stores.{Store}
+use Rattle.geo_prover.specs.Bench.{bench_commands, bench_statement, corner, middles, quadrangle_commands}
+
+-- the name of each point has at most 64 bytes
+pub short_points : (names : List Name) → AllByRecursion (λ n. length n.text ≤ 64) names → (k : ℕ) → length (name_text kind.Point names k) ≤ 64
+short_points [] h k = empty k
+  where
+    empty : (k : ℕ) → length (get_or {A = List ℕ} [] k []) ≤ 64
+    empty zero = omega arith
+    empty (suc k) = omega arith
+short_points (n ∷ names) h k = by_test (short_points names h.1) (is_kind n.kind kind.Point) k
+  where
+    by_test : ((k : ℕ) → length (name_text kind.Point names k) ≤ 64) → (b : Bool) (k : ℕ)
+        → length (get_or (cons_option (if b then Some n.text else None) (names_of kind.Point names)) k []) ≤ 64
+    by_test later true zero = h.0
+    by_test later true (suc k) = later k
+    by_test later false k = later k
+
+-- a free point or a middle
+abbrev pub IsSimple : Command → Type 0
+IsSimple Point = Unit {0}
+IsSimple (Midpoint a b) = Unit {0}
+IsSimple _ = ⊥
+
+-- lexemes of at most m bytes
+pub sizes_small : (m : ℕ) (lexemes : List Lexeme) → AllByRecursion (λ l. lexeme_size l ≤ m) lexemes → sum_by lexeme_size lexemes ≤ m * length lexemes
+sizes_small m [] h = omega arith
+sizes_small m (l ∷ lexemes) h = omega (arith, h.0, sum_by-cons lexeme_size l lexemes, sizes_small m lexemes h.1)
+
+module _ (all : List Name) (nodes : Store) (short : (k : ℕ) → length (name_text kind.Point all k) ≤ 64) where
+  -- the lexemes of a command, with a byte after each
+  command_short : (name : Name) (command : Command) → length name.text ≤ 64 → IsSimple command → sum_by lexeme_size (command_lexemes all nodes name command) ≤ 300
+  command_short name Point h simple =
+      let small = sizes_small 65 (command_lexemes all nodes name Point) (omega arith, (omega (arith, h), tt)) in omega (arith, small)
+  command_short name (Midpoint a b) h simple =
+      let small = sizes_small 65 (command_lexemes all nodes name (Midpoint a b)) (omega arith, (omega (arith, h), (omega (arith, short a.0), (omega (arith, short b.0), tt)))) in
+      omega (arith, small)
+  command_short name _ h simple = absurd simple
+
+  pub commands_short : (names : List Name) (commands : List Command) → AllByRecursion (λ n. length n.text ≤ 64) names → AllByRecursion IsSimple commands
+      → sum_by lexeme_size (flat_map (λ line. line) (commands_lexemes all nodes names commands (no_sketches commands))) ≤ 300 * length commands
+  commands_short [] commands h simple = omega arith
+  commands_short (name ∷ names) [] h simple = omega arith
+  commands_short (name ∷ names) (command ∷ commands) h simple =
+      let own = command_lexemes all nodes name command in
+      omega (
+        arith,
+        commands_short names commands h.1 simple.1,
+        command_short name command h.0 simple.0,
+        sum_by-append lexeme_size (own ++ []) (flat_map (λ (line : List Lexeme). line) (commands_lexemes all nodes names commands (no_sketches commands))),
+        sum_by-append lexeme_size own [],
+      )
+
+-- the commands of a workload
+simple_append : (one other : List Command) → AllByRecursion IsSimple one → AllByRecursion IsSimple other → AllByRecursion IsSimple (one ++ other)
+simple_append [] other h k = k
+simple_append (c ∷ one) other h k = (h.0, simple_append one other h.1 k)
+
+quadrangles_simple : (n : ℕ) → AllByRecursion IsSimple (quadrangle_commands n)
+quadrangles_simple zero = (tt, (tt, (tt, (tt, tt))))
+quadrangles_simple (suc n) = simple_append (quadrangle_commands n) (middles n) (quadrangles_simple n) (tt, (tt, (tt, (tt, tt))))
+
+pub bench_simple : (n : ℕ) → AllByRecursion IsSimple (bench_commands n)
+bench_simple n = simple_append (quadrangle_commands n) (Midpoint (corner 0 n) (corner 2 n) ∷ Midpoint (corner 0 1) (corner 2 1) ∷ []) (quadrangles_simple n) (tt, (tt, tt))
+
+quadrangles_count : (n : ℕ) → length (quadrangle_commands n) ≡ 4 * n + 4
+quadrangles_count zero = refl
+quadrangles_count (suc n) = omega (arith, quadrangles_count n, length-append (quadrangle_commands n) (middles n))
+
+pub bench_count : (n : ℕ) → length (bench_commands n) ≡ 4 * n + 6
+bench_count n = omega (arith, quadrangles_count n, length-append (quadrangle_commands n) (Midpoint (corner 0 n) (corner 2 n) ∷ Midpoint (corner 0 1) (corner 2 1) ∷ []))
+
+-- names have at most 64 bytes
+pub texts_short : (names : List Name) → All (λ n. IsNameText n.text) names → AllByRecursion (λ n. length n.text ≤ 64) names
+texts_short [] h = tt
+texts_short (n ∷ names) h = ((h 0 n (omega arith)).short, texts_short names (λ k d lt. h (suc k) d (omega (arith, lt))))
+
+-- THE STATEMENT
+-- the lexemes of a statement of this form
+abbrev pub form_lexemes : List Name → StatementForm → List Lexeme
+form_lexemes names f = word_lexeme (codes "prove") ∷ braced (word_lexeme f.word ∷ flat_map (argument_lexemes names) f.arguments)
+
+pub statement_short : (names : List Name) (n : ℕ) → ((k : ℕ) → length (name_text kind.Point names k) ≤ 64) → sum_by lexeme_size (form_lexemes names (bench_statement n)) ≤ 1040
+statement_short names n short =
+    let name = λ (a : PointId). let h : length (name_text kind.Point names a.0) + 1 ≤ 65 = omega (arith, short a.0) in h in
+    let small = sizes_small 65 (form_lexemes names (bench_statement n)) (
+      omega arith,
+      (
+        omega arith,
+        (
+          omega arith,
+          (
+            omega arith,
+            (
+              omega arith,
+              (
+                name (corner 0 0),
+                (
+                  name (corner 0 (suc n)),
+                  (
+                    name (corner 1 0),
+                    (
+                      omega arith,
+                      (
+                        omega arith,
+                        (
+                          omega arith,
+                          (
+                            name (corner 0 0),
+                            (
+                              name (corner 1 (suc n)),
+                              (
+                                name (corner 1 0),
+                                (
+                                  omega arith,
+                                  (omega arith, tt),
+                                ),
+                              ),
+                            ),
+                          ),
+                        ),
+                      ),
+                    ),
+                  ),
+                ),
+              ),
+            ),
+          ),
+        ),
+      ),
+    ) in
+    omega (arith, small)

@@ -1,0 +1,17 @@
+//! What is answered of an accepted log.
+
+use geo_program::Program;
+use proof_log::Verdict;
+
+/// What is answered of an accepted log.
+#[derive(Drop)]
+pub struct Accepted {
+    /// Its program.
+    pub program: Program,
+    /// Its verdict.
+    pub verdict: Verdict,
+    /// The number of its lines.
+    pub lines: u64,
+    /// The sum of the charges of its lines.
+    pub charge: u64,
+}

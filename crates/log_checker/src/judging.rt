@@ -1,0 +1,304 @@
+//! One line more, and the end of a log.
+
+ghost use Rattle.std.specs.Prelude.{◌≡◌, ◌≢◌, ℕ, List, [], ◌∷◌, ◌++◌, ◌+◌, ◌≤◌, suc, IfErr, IfOk, IfSome, None, OnOk, Some, length};
+ghost use Rattle.geo_program.specs.CanonicalText.{canonical_text};
+ghost use Rattle.geo_program.specs.Programs.{source_of};
+ghost use Rattle.log_checker.specs.Checked.{TellsStop};
+ghost use Rattle.log_checker.specs.Checkers.{IsAtWork, IsLeftBy};
+ghost use Rattle.log_checker.specs.Inner.Judged.{BeginsWith, GoesOnWith, IsAnswerOf, IsFirstRefused, IsNextPiece, IsNextState, IsNoProgram};
+ghost use Rattle.log_checker.specs.Inner.Judged.{IsReachedState, IsRefusedWork, Leaves, StopsAtPiece, StopsNext, StopsThere};
+ghost use Rattle.log_checker.specs.Inner.Lines.{GoesOn};
+ghost use Rattle.log_checker.specs.Judged.{IsRead};
+ghost use Rattle.proof_log.specs.Writable.{IsWritable};
+ghost use Rattle.proof_log.specs.declared.log.Line.{Line};
+ghost use Rattle.log_checker.specs.declared.errors.CheckError.{CheckError};
+
+use crate::accepted::Accepted;
+use crate::due::Due;
+use crate::errors::CheckError;
+use crate::reasons::Reason;
+use crate::state::State;
+use crate::stops::Stop;
+use crate::work::{Work, begun_work, work_after};
+use geo_points::NoMemory;
+use proof_log::{Line, LineError, read_line};
+use std::alloc::Global;
+
+/// The state behind the line of this number, which has these bytes.
+pub(crate) fn judged(
+    alloc: Global,
+    steps: u64,
+    number: u64,
+    state: State,
+    line: &[u8],
+) -> Result<State, CheckError>
+    requires { IsReachedState steps state }
+    ensures goes { (lines : List Line) → Leaves steps lines state
+        → IfOk result (IsNextPiece steps lines line.now) }
+    ensures refused { (lines : List Line) → Leaves steps lines state → number ≡ suc (length lines)
+        → IfErr result (TellsStop (StopsAtPiece steps lines line.now)) }
+{
+    let read = line_of(alloc, line)?;
+    state_after(alloc, steps, number, state, read)
+}
+
+/// The line with this text; `None` where there is none.
+fn line_of(alloc: Global, bytes: &[u8]) -> Result<Option<Line>, NoMemory>
+    ensures { IfOk result (IsRead bytes.now) }
+{
+    match read_line(alloc, bytes) {
+        Ok(line) => Ok(Some(line)),
+        Err(LineError::BadLine) => Ok(None),
+        Err(LineError::NoMemory) => Err(NoMemory),
+    }
+}
+
+/// The state behind what is read as the line of this number.
+fn state_after(
+    alloc: Global,
+    steps: u64,
+    number: u64,
+    state: State,
+    read: Option<Line>,
+) -> Result<State, CheckError>
+    requires reached { IsReachedState steps state }
+    requires writable { IfSome read IsWritable }
+    ensures goes { (lines : List Line) → Leaves steps lines state
+        → IfOk result (IsNextState steps lines read) }
+    ensures refused { (lines : List Line) → Leaves steps lines state → number ≡ suc (length lines)
+        → IfErr result (TellsStop (StopsNext steps lines read)) }
+    ensures failed { (e : CheckError) → state ≡ State.Failed e → result ≡ Err e }
+{
+    match state {
+        State::Empty => after_header(alloc, number, read),
+        State::Program(program) => after_program(alloc, steps, number, program, read),
+        State::Work(work) => Ok(State::Work(after_work(alloc, number, work, read)?)),
+        State::Failed(error) => Err(error),
+    }
+}
+
+/// The state behind the first line.
+fn after_header(alloc: Global, number: u64, read: Option<Line>) -> Result<State, CheckError>
+    ensures goes { (steps : ℕ) → IfOk result (IsNextState steps [] read) }
+    ensures refused { (steps : ℕ) → number ≡ 1 → IfErr result (TellsStop (StopsNext steps [] read)) }
+{
+    match read {
+        Some(line) => {
+            let Line::Header = line else {
+                return Err(Stop::Rejected(Reason::WrongLine).at(number));
+            };
+            Ok(State::Program(Vec::new(alloc)))
+        }
+        None => Err(Stop::Rejected(Reason::BadLine).at(number)),
+    }
+}
+
+/// The state behind what is read behind these lines of the program.
+fn after_program(
+    alloc: Global,
+    steps: u64,
+    number: u64,
+    program: Vec<u8>,
+    read: Option<Line>,
+) -> Result<State, CheckError>
+    requires reached { IsReachedState steps (State.Program program) }
+    requires writable { IfSome read IsWritable }
+    ensures goes { (lines : List Line) → Leaves steps lines (State.Program program)
+        → IfOk result (IsNextState steps lines read) }
+    ensures refused { (lines : List Line) → Leaves steps lines (State.Program program)
+        → number ≡ suc (length lines)
+        → IfErr result (TellsStop (StopsNext steps lines read)) }
+{
+    match read {
+        Some(line) => after_program_line(alloc, steps, number, program, line),
+        None => {
+            let work = behind_program(alloc, steps, number, &program, None)?;
+            Ok(State::Work(work))
+        }
+    }
+}
+
+/// The state behind a line that follows these lines of the program.
+fn after_program_line(
+    alloc: Global,
+    steps: u64,
+    number: u64,
+    mut program: Vec<u8>,
+    line: Line,
+) -> Result<State, CheckError>
+    requires reached { IsReachedState steps (State.Program program) }
+    requires writable { IsWritable line }
+    ensures goes { (lines : List Line) → Leaves steps lines (State.Program program)
+        → IfOk result (IsNextState steps lines (Some line)) }
+    ensures refused { (lines : List Line) → Leaves steps lines (State.Program program)
+        → number ≡ suc (length lines)
+        → IfErr result (TellsStop (StopsNext steps lines (Some line))) }
+{
+    match line {
+        Line::Program(text) => {
+            push_line(&mut program, &text.bytes)?;
+            Ok(State::Program(program))
+        }
+        line => {
+            let work = behind_program(alloc, steps, number, &program, Some(line))?;
+            Ok(State::Work(work))
+        }
+    }
+}
+
+/// The work behind what is read, as the line of this number, behind the program with this text.
+fn behind_program(
+    alloc: Global,
+    steps: u64,
+    number: u64,
+    program: &[u8],
+    read: Option<Line>,
+) -> Result<Work, CheckError>
+    requires fits { length program.now ≤ 67108864 }
+    requires writable { IfSome read IsWritable }
+    ensures goes { IfOk result (BeginsWith program.now steps read) }
+    ensures refused { IfErr result (TellsStop (IsFirstRefused program.now steps read number)) }
+{
+    let work = tested_program(alloc, program, steps)?;
+    after_work(alloc, number, work, read)
+}
+
+/// Adds a line with its line feed.
+fn push_line(program: &mut Vec<u8>, text: &[u8]) -> Result<(), NoMemory>
+    ensures { OnOk result (program.new.items ≡ program.old.items ++ (text.now ++ 10 ∷ [])) }
+{
+    program.extend_from_slice(text)?;
+    program.push(b'\n')?;
+    Ok(())
+}
+
+/// The work of the program with this text. What is wrong with it is told of line 2.
+fn tested_program(alloc: Global, program: &[u8], steps: u64) -> Result<Work, CheckError>
+    requires { length program.now ≤ 67108864 }
+    ensures program { IfOk result (λ w. canonical_text (source_of w.program) ≡ program.now) }
+    ensures begun { IfOk result (λ w. IsAtWork w steps []) }
+    ensures refused { IfErr result (TellsStop (IsNoProgram program.now)) }
+{
+    match begun_work(alloc, program, steps) {
+        Ok(work) => Ok(work),
+        Err(stop) => Err(stop.at(2)),
+    }
+}
+
+/// The work behind what is read as the line of this number.
+fn after_work(
+    alloc: Global,
+    number: u64,
+    work: Work,
+    read: Option<Line>,
+) -> Result<Work, CheckError>
+    requires reached { (steps : ℕ) × (good : List Line) × IsAtWork work steps good }
+    requires writable { IfSome read IsWritable }
+    ensures goes { IfOk result (GoesOnWith work read) }
+    ensures refused { (steps : ℕ) (good : List Line) → IsAtWork work steps good
+        → IfErr result (TellsStop (IsRefusedWork work steps good read number)) }
+{
+    match read {
+        Some(line) => after_work_line(alloc, number, work, line),
+        None => Err(Stop::Rejected(Reason::BadLine).at(number)),
+    }
+}
+
+/// The work behind the line of this number.
+fn after_work_line(alloc: Global, number: u64, work: Work, line: Line) -> Result<Work, CheckError>
+    requires reached { (steps : ℕ) × (good : List Line) × IsAtWork work steps good }
+    requires writable { IsWritable line }
+    ensures goes { IfOk result (GoesOn work line) }
+    ensures refused { (steps : ℕ) (good : List Line) → IsAtWork work steps good
+        → IfErr result (TellsStop (IsRefusedWork work steps good (Some line) number)) }
+{
+    match work_after(alloc, work, line) {
+        Ok(work) => Ok(work),
+        Err(stop) => Err(stop.at(number)),
+    }
+}
+
+/// The answer where nothing follows the lines, of which there are so many.
+pub(crate) fn answer_at_end(state: State, steps: u64, count: u64) -> Result<Accepted, CheckError>
+    requires reached { IsReachedState steps state }
+    requires few { count ≤ 67108864 }
+    ensures accepted { (lines : List Line) → Leaves steps lines state → count ≡ length lines
+        → IfOk result (IsAnswerOf steps lines) }
+    ensures refused { (lines : List Line) → Leaves steps lines state → count ≡ length lines
+        → IfErr result (TellsStop (StopsThere steps lines)) }
+    ensures failed { (e : CheckError) → state ≡ State.Failed e → result ≡ Err e }
+{
+    match state {
+        State::Work(work) => answer_of_work(work, steps, count),
+        State::Failed(error) => Err(error),
+        State::Empty => Err(unfinished(count)),
+        State::Program(_) => Err(unfinished(count)),
+    }
+}
+
+/// The error where a line is wanting behind so many lines.
+fn unfinished(count: u64) -> CheckError
+    requires { count ≤ 67108864 }
+    ensures { result ≡ CheckError.Rejected (suc count) 32 }
+{
+    Stop::Rejected(Reason::Unfinished).at(count + 1)
+}
+
+/// The answer where nothing follows the lines, of which there are so many.
+fn answer_of_work(work: Work, steps: u64, count: u64) -> Result<Accepted, CheckError>
+    requires reached { IsReachedState steps (State.Work work) }
+    requires few { count ≤ 67108864 }
+    ensures accepted { (lines : List Line) → Leaves steps lines (State.Work work)
+        → count ≡ length lines → IfOk result (IsAnswerOf steps lines) }
+    ensures refused { (lines : List Line) → Leaves steps lines (State.Work work)
+        → count ≡ length lines → IfErr result (TellsStop (StopsThere steps lines)) }
+{
+    let Work {
+        program,
+        evidence,
+        due,
+        ..
+    } = work;
+    match due {
+        Due::Nothing(verdict) => Ok(Accepted {
+            program,
+            verdict,
+            lines: count,
+            charge: steps - evidence.budget.left,
+        }),
+        _ => Err(unfinished(count)),
+    }
+}
+
+/// The answer where bytes without a line feed follow the lines, as the line of this number.
+pub(crate) fn refusal_of_rest(alloc: Global, steps: u64, number: u64, state: State) -> CheckError
+    requires { IsReachedState steps state }
+    ensures refused { (lines : List Line) → Leaves steps lines state → number ≡ suc (length lines)
+        → TellsStop (StopsNext steps lines None) result }
+    ensures failed { (e : CheckError) → state ≡ State.Failed e → result ≡ e }
+{
+    match state {
+        State::Failed(error) => error,
+        State::Empty => bad_line(number),
+        State::Program(program) => refusal_behind_program(alloc, steps, number, &program),
+        State::Work(_) => bad_line(number),
+    }
+}
+
+/// The error of bytes that are no line, as the line of this number.
+fn bad_line(number: u64) -> CheckError
+    ensures { result ≡ CheckError.Rejected number 21 }
+{
+    Stop::Rejected(Reason::BadLine).at(number)
+}
+
+/// The answer where bytes without a line feed follow the lines of the program.
+fn refusal_behind_program(alloc: Global, steps: u64, number: u64, program: &[u8]) -> CheckError
+    requires { length program.now ≤ 67108864 }
+    ensures { TellsStop (IsFirstRefused program.now steps None number) result }
+{
+    match behind_program(alloc, steps, number, program, None) {
+        Ok(_) => unreachable!(),
+        Err(error) => error,
+    }
+}

@@ -1,0 +1,72 @@
+//! The moves of a chain.
+
+ghost use Rattle.std.specs.Prelude.{◌≡◌, ◌-◌, ◌↔◌, IfErr, IfOk, IsNone, IsTrue, OnOk, length};
+ghost use Rattle.elim_apply.specs.LemmaTable.{lemma_table};
+ghost use Rattle.geo_logs.specs.Judging.{IsMoveRefused};
+ghost use Rattle.geo_logs.specs.Moves.{IsMoved, move_charge, place_of, place_of_lemma, replacement};
+ghost use Rattle.geo_logs.specs.Naming.{IsPlaceBelow};
+ghost use Rattle.geo_logs.specs.declared.moves.Move.TheVariants.{Ratio};
+ghost use Rattle.geo_points.specs.declared.ids.PointId.{PointId};
+ghost use Rattle.log_checker.specs.Inner.Lines.{IsNamedBy, Tells};
+
+use crate::reasons::Reason;
+use crate::stops::Stop;
+use elim_apply::{Move, apply};
+use geo_base::Budget;
+use geo_points::PointId;
+use geo_poly::{Poly, Var};
+use geo_terms::Steps;
+use std::alloc::Global;
+
+/// The polynomial after a move line with this polynomial.
+pub(crate) fn after_move(
+    alloc: Global,
+    steps: &Steps,
+    before: &Poly,
+    mv: &Move,
+    poly: &Poly,
+    budget: &mut Budget,
+) -> Result<Poly, Stop>
+    requires { IsNamedBy steps.now before.now }
+    ensures result { IfOk result (λ q. q ≡ poly.now) }
+    ensures moved { let made = replacement lemma_table steps.now mv.now before.now in
+        IfOk result (IsMoved made budget.old.left before.now) }
+    ensures paid { let made = replacement lemma_table steps.now mv.now before.now in
+        OnOk result (budget.new.left ≡ budget.old.left - move_charge made before.now) }
+    ensures refused { IfErr result (Tells (IsMoveRefused lemma_table steps.now budget.old.left
+        before.now mv.now poly.now)) }
+{
+    // From here on it is known that the steps are a construction.
+    prove!(steps.count() <= 512);
+    if !has_place(steps, mv) {
+        return Err(Stop::Rejected(Reason::NoRow));
+    }
+    let moved = apply(alloc, steps, before, mv, budget)?;
+    if !moved.same(poly) {
+        return Err(Stop::Rejected(Reason::WrongPoly));
+    }
+    Ok(moved)
+}
+
+/// Whether the point that the move looks at, if any, is one of the construction.
+fn has_place(steps: &Steps, mv: &Move) -> bool
+    ensures { IsTrue result ↔ IsPlaceBelow (length steps.now.steps) (place_of mv.now) }
+{
+    match mv {
+        Move::Ratio { lemma, at, .. } => *lemma == 0 || at.0 < steps.count(),
+        Move::Point(at) => at.0 < steps.count(),
+        Move::Coords => true,
+    }
+}
+
+/// The move of a ratio line. Lemma 0 looks at no point.
+pub(crate) fn ratio_move(var: Var, lemma: u32, at: Option<PointId>) -> Move
+    requires { IsNone at ↔ (lemma ≡ 0) }
+    ensures { (y : PointId) × (result ≡ Ratio var lemma y) × (at ≡ place_of_lemma lemma y) }
+{
+    Move::Ratio {
+        var,
+        lemma,
+        at: at.unwrap_or(PointId(0)),
+    }
+}

@@ -1,0 +1,4 @@
+pub mod Lookups
+pub mod PrintedLines
+pub mod PrintableLogs
+pub mod AcceptedProofs

@@ -1,0 +1,17 @@
+//! Logs as proofs that a person reads: variables by the names of their points, each move with what
+//! stands for each variable.
+#![tactic(auto)]
+
+mod lines;
+mod moves;
+mod name_list;
+mod namer;
+mod numbers;
+mod pieces;
+mod polynomials;
+mod printer;
+mod printing;
+#[cfg(test)]
+mod tests;
+
+pub use printing::text;

@@ -1,0 +1,21 @@
+//! Numbers in a text.
+
+ghost use Rattle.std.specs.Prelude.{◌≡◌, ◌++◌, OnOk};
+ghost use Rattle.std.specs.Fmt.{decimal, signed_decimal};
+
+use geo_points::NoMemory;
+use std::alloc::Global;
+
+/// Appends the digits of a number.
+pub(crate) fn push_number(alloc: Global, out: &mut Vec<u8>, n: u32) -> Result<(), NoMemory>
+    ensures { OnOk result (out.new.items ≡ out.old.items ++ decimal n) }
+{
+    push_integer(alloc, out, n as i128)
+}
+
+/// Appends the digits of an integer, with a `-` before them where it is negative.
+pub(crate) fn push_integer(alloc: Global, out: &mut Vec<u8>, n: i128) -> Result<(), NoMemory>
+    ensures { OnOk result (out.new.items ≡ out.old.items ++ signed_decimal n) }
+{
+    geo_base::push_decimal(alloc, out, n).map_err(|_| NoMemory)
+}

@@ -1,0 +1,44 @@
+//! A whole log, line by line.
+
+ghost use Rattle.std.specs.Prelude.{IfOk};
+ghost use Rattle.proof_printer.specs.Inner.Names.{naming_in};
+ghost use Rattle.proof_printer.specs.Inner.Printing.{IsPrintable, IsPrinted};
+
+use crate::lines::polynomial_after;
+use crate::namer::Namer;
+use crate::pieces::{read_written, split_line};
+use geo_base::Text;
+use geo_points::NoMemory;
+use geo_poly::Poly;
+use geo_terms::Steps;
+use std::alloc::Global;
+
+/// What the lines of a log are printed by: the names of its program, and the steps of its
+/// construction.
+#[derive(Drop)]
+pub(crate) struct Printer {
+    /// The names of points and parameters.
+    pub namer: Namer,
+    /// The steps.
+    pub steps: Steps,
+}
+
+impl Printer {
+    /// The readable proof of a log.
+    pub fn print(&self, alloc: Global, bytes: &[u8]) -> Result<Text, NoMemory>
+        requires { IsPrintable self.now.steps bytes.now }
+        ensures { IfOk result
+            (IsPrinted (naming_in self.now.namer) self.now.steps bytes.now) }
+    {
+        let mut out = Vec::new(alloc);
+        let mut before = Poly::zero(alloc);
+        let mut rest = bytes;
+        while let Some((piece, behind)) = split_line(rest) {
+            let line = read_written(alloc, piece)?;
+            self.push_line(alloc, &mut out, &before, &line)?;
+            before = polynomial_after(before, line);
+            rest = behind;
+        }
+        Ok(Text { bytes: out })
+    }
+}
