@@ -5,3 +5,7 @@ pub mod Chaining
 pub mod Listing
 pub mod Sampling
 pub mod Finishing
+pub mod BenchPrograms
+pub mod BenchLengths
+pub mod BenchNames
+pub mod BenchSpelt

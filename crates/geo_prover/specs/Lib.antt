@@ -1,2 +1,3 @@
 pub mod Proving
 pub mod Inner
+pub mod Bench

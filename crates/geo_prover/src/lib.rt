@@ -1,6 +1,9 @@
 //! The prover: writes the defined log of a program, line by line.
 #![tactic(auto)]
 
+mod bench;
+#[cfg(test)]
+mod bench_tests;
 mod chains;
 mod conditions;
 mod ending;
@@ -16,6 +19,7 @@ mod summary;
 #[cfg(test)]
 mod tests;
 
+pub use bench::bench_program;
 pub use errors::ProveError;
 pub use proving::prove;
 pub use summary::Summary;
