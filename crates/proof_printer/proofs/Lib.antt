@@ -2,3 +2,4 @@ pub mod Lookups
 pub mod PrintedLines
 pub mod PrintableLogs
 pub mod AcceptedProofs
+pub mod OneProof

@@ -2,6 +2,7 @@
 //! stands for each variable.
 #![tactic(auto)]
 
+pub mod laws;
 mod lines;
 mod moves;
 mod name_list;

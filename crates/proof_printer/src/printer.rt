@@ -1,15 +1,19 @@
 //! A whole log, line by line.
 
-ghost use Rattle.std.specs.Prelude.{IfOk};
+ghost use Rattle.std.specs.Prelude.{◌≡◌, IfOk};
+ghost use Rattle.geo_program.specs.Programs.{source_of};
 ghost use Rattle.proof_printer.specs.Inner.Names.{naming_in};
-ghost use Rattle.proof_printer.specs.Inner.Printing.{IsPrintable, IsPrinted};
+ghost use Rattle.proof_printer.specs.Inner.Printing.{IsConstructionOf, IsPrintable, IsPrinted};
+ghost use Rattle.proof_printer.specs.Naming.{naming_of};
 
 use crate::lines::polynomial_after;
 use crate::namer::Namer;
 use crate::pieces::{read_written, split_line};
 use geo_base::Text;
+use geo_lowering::{Lowered, lower};
 use geo_points::NoMemory;
 use geo_poly::Poly;
+use geo_program::Program;
 use geo_terms::Steps;
 use std::alloc::Global;
 
@@ -24,6 +28,25 @@ pub(crate) struct Printer {
 }
 
 impl Printer {
+    /// The printer of a program's logs.
+    pub fn new(alloc: Global, program: &Program) -> Result<Printer, NoMemory>
+        ensures names { IfOk result (λ printer.
+            naming_in printer.namer ≡ naming_of (source_of program.now)) }
+        ensures steps { IfOk result (λ printer.
+            IsConstructionOf (source_of program.now) printer.steps) }
+    {
+        let lowered = lower(alloc, program)?;
+        let namer = Namer::new(alloc, program, &lowered)?;
+        let Lowered {
+            steps,
+            points: _,
+            lines: _,
+            params: _,
+            after: _,
+        } = lowered;
+        Ok(Printer { namer, steps })
+    }
+
     /// The readable proof of a log.
     pub fn print(&self, alloc: Global, bytes: &[u8]) -> Result<Text, NoMemory>
         requires { IsPrintable self.now.steps bytes.now }
