@@ -1,26 +1,33 @@
 -- What a run is to write and to answer, and the cause of it.
-use Rattle.std.specs.Prelude.{◌≡◌, ◌⊎◌, ℕ, suc, ◌<◌, ◌≤◌, List, [], ◌∷◌, ◌++◌, length, Option, codes}
+use Rattle.std.specs.Prelude.{◌≡◌, ◌⊎◌, ℕ, suc, ◌-◌, ◌<◌, ◌≤◌, List, [], ◌∷◌, ◌++◌, length, Option, None, Some, codes}
 use Rattle.std.specs.Fmt.{decimal}
+use Rattle.geo_cli.specs.declared.order.Command.{Command}
+use Rattle.geo_cli.specs.declared.order.Command.TheVariants.{Bench, Check, Prove, Text}
+use Rattle.geo_cli.specs.declared.order.Order.{Order}
 use Rattle.geo_cli.specs.declared.status.Status.{Status}
-use Rattle.geo_cli.specs.declared.status.Status.TheVariants.{Usage, Syntax, TooLong}
+use Rattle.geo_cli.specs.declared.status.Status.TheVariants.{Done, Usage, Syntax, TooLong}
 use Rattle.geo_cli.specs.Input.{IsInput, IsLong, log_limit, program_limit}
+use Rattle.geo_cli.specs.Orders.{IsOrder}
 use Rattle.geo_cli.specs.Status.{ending_status, refusal_status, verdict_status}
-use Rattle.geo_cli.specs.Words.{IsCheck, IsProve}
+use Rattle.geo_cli.specs.Words.{IsNoCommand}
 use Rattle.geo_conditions.specs.Lists.{AreConditionItems, ItemForm}
 use Rattle.geo_lexer.specs.declared.token_types.Fault.{Fault}
-use Rattle.geo_logs.specs.Ends.{Ending, stop_line}
+use Rattle.geo_logs.specs.Ends.{Ending, ends_by, ends_with, stop_line, too_long}
 use Rattle.geo_logs.specs.Judging.{Refusal, number_of, rejected, stopped}
+use Rattle.geo_lowering.specs.Lowering.{IsLowered, LoweredForm}
 use Rattle.geo_parser.specs.Refusals.{IsRefused}
 use Rattle.geo_program.specs.CanonicalText.{canonical_text}
 use Rattle.geo_program.specs.declared.program_type.Program.{Program}
 use Rattle.geo_program.specs.Programs.{Spells, source_of}
 use Rattle.geo_program.specs.WellFormed.{Source}
+use Rattle.geo_prover.specs.Bench.{IsBench}
 use Rattle.geo_prover.specs.Proving.{IsLogOf}
 use Rattle.log_checker.specs.Accepted.{Accepts}
 use Rattle.log_checker.specs.Judged.{Refuses}
 use Rattle.proof_log.specs.declared.log.Line.{Line}
 use Rattle.proof_log.specs.declared.log.Verdict.{Verdict}
 use Rattle.proof_log.specs.Lines.{line_text, log_text, verdict_text}
+use Rattle.proof_printer.specs.Proofs.{IsReadableProof}
 
 -- a text that is to be written, and the answer then
 pub record Due : Type 0 where
@@ -105,12 +112,49 @@ pub record IsRejectionDue (steps : ℕ) (bytes : List ℕ) (due : Due) : Type 0 
 abbrev pub IsDueForLog : ℕ → List ℕ → Due → Type 0
 IsDueForLog steps bytes due = IsAcceptedDue steps bytes due ⊎ IsRejectionDue steps bytes due
 
--- WHAT THE WORDS CALL FOR
+-- the bytes are an accepted log: its readable proof
+pub record IsReadableDue (steps : ℕ) (bytes : List ℕ) (due : Due) : Type 0 where
+  pub text : List ℕ
+  pub readable : IsReadableProof bytes steps text
+  pub is : due ≡ record { text = text; status = Done }
 
--- the words are no command that there is
-pub record IsNoCommand (words : List (List ℕ)) : Type 0 where
-  pub no_prove : (steps : ℕ) → IsProve words steps → ⊥
-  pub no_check : (steps : ℕ) → IsCheck words steps → ⊥
+-- what `text` is to write of these bytes
+abbrev pub IsDueForText : ℕ → List ℕ → Due → Type 0
+IsDueForText steps bytes due = IsReadableDue steps bytes due ⊎ IsRejectionDue steps bytes due
+
+-- WHAT A NUMBER CALLS FOR
+
+-- `points 10`
+abbrev pub count_line : List ℕ → ℕ → List ℕ
+count_line name count = name ++ codes " " ++ decimal count ++ 10 ∷ []
+
+-- how the log with so many steps ends: its lines, its charge and its verdict, or its stop; a log that gets too long says no more
+abbrev pub ending_text : ℕ → List Line → Ending → List ℕ
+ending_text steps lines (ends_with verdict left) =
+    count_line (codes "lines") (length lines) ++ count_line (codes "charge") (steps - left) ++ verdict_text verdict ++ 10 ∷ []
+ending_text steps lines (ends_by stop) = line_text (stop_line (length lines) stop) ++ 10 ∷ []
+ending_text steps lines too_long = []
+
+-- the number, the points of the program, hidden ones counted, and how its log ends
+abbrev pub bench_text : ℕ → ℕ → ℕ → List Line → Ending → List ℕ
+bench_text number points steps lines ending =
+    count_line (codes "bench") number ++ count_line (codes "points") points ++ ending_text steps lines ending
+
+-- what `bench` is to write for this number: its program's log, with so many steps, ends so
+pub record IsBenchDue (number steps : ℕ) (due : Due) : Type 0 where
+  pub program : Program
+  pub made : IsBench number (source_of program)
+  pub form : LoweredForm
+  pub lowered : IsLowered (source_of program) form
+  pub lines : List Line
+  pub ending : Ending
+  pub log : IsLogOf (source_of program) steps lines ending
+  pub is : due ≡ record {
+    text = bench_text number (length form.construction.steps) steps lines ending;
+    status = ending_status lines ending;
+  }
+
+-- WHAT THE WORDS CALL FOR
 
 -- they are no command: nothing is read
 pub record IsUsageDue (words : List (List ℕ)) (left left' : Option (List ℕ)) (due : Due) : Type 0 where
@@ -124,28 +168,36 @@ IsReadDue limit For left left' due =
     (IsLong limit left left' × (due ≡ record { text = too_long_line; status = TooLong }))
     ⊎ ((bytes : List ℕ) × IsInput limit left bytes left' × For bytes due)
 
--- what `prove` and `check` are to write
-pub record IsProveDue (words : List (List ℕ)) (left left' : Option (List ℕ)) (due : Due) : Type 0 where
-  pub steps : ℕ
-  pub command : IsProve words steps
-  pub of_input : IsReadDue program_limit (IsDueFor steps) left left' due
+-- what each command with so many steps is to write; `bench` reads nothing
+abbrev pub IsCommandDue : Command → ℕ → Option (List ℕ) → Option (List ℕ) → Due → Type 0
+IsCommandDue Prove steps left left' due = IsReadDue program_limit (IsDueFor steps) left left' due
+IsCommandDue Check steps left left' due = IsReadDue log_limit (IsDueForLog steps) left left' due
+IsCommandDue Text steps left left' due = IsReadDue log_limit (IsDueForText steps) left left' due
+IsCommandDue (Bench number) steps left left' due = (left' ≡ left) × IsBenchDue number steps due
 
-pub record IsCheckDue (words : List (List ℕ)) (left left' : Option (List ℕ)) (due : Due) : Type 0 where
-  pub steps : ℕ
-  pub command : IsCheck words steps
-  pub of_input : IsReadDue log_limit (IsDueForLog steps) left left' due
+-- they give an order
+pub record IsOrderDue (words : List (List ℕ)) (left left' : Option (List ℕ)) (due : Due) : Type 0 where
+  pub order : Order
+  pub given : IsOrder words order
+  pub of_command : IsCommandDue order.command order.steps left left' due
 
 -- what the words call for, with the bytes that the source had left before and has left after
 abbrev pub IsDue : List (List ℕ) → Option (List ℕ) → Option (List ℕ) → Due → Type 0
-IsDue words left left' due = IsUsageDue words left left' due ⊎ (IsProveDue words left left' due ⊎ IsCheckDue words left left' due)
+IsDue words left left' due = IsUsageDue words left left' due ⊎ IsOrderDue words left left' due
 
--- what a command with this limit calls for where these are all bytes that the source has left
-abbrev pub IsReadCall : ℕ → (List ℕ → Due → Type 0) → List ℕ → Due → Type 0
-IsReadCall limit For bytes due =
+-- what a command with this limit calls for where the source tells all bytes that it has left
+abbrev pub IsReadCall : ℕ → (List ℕ → Due → Type 0) → Option (List ℕ) → Due → Type 0
+IsReadCall limit For None due = ⊥
+IsReadCall limit For (Some bytes) due =
     ((limit < length bytes) × (due ≡ record { text = too_long_line; status = TooLong })) ⊎ ((length bytes ≤ limit) × For bytes due)
 
+-- what each command calls for then; `bench` asks for no source that tells its bytes
+abbrev pub IsCommandCall : Command → ℕ → Option (List ℕ) → Due → Type 0
+IsCommandCall Prove steps left due = IsReadCall program_limit (IsDueFor steps) left due
+IsCommandCall Check steps left due = IsReadCall log_limit (IsDueForLog steps) left due
+IsCommandCall Text steps left due = IsReadCall log_limit (IsDueForText steps) left due
+IsCommandCall (Bench number) steps left due = IsBenchDue number steps due
+
 -- what the words call for then
-abbrev pub IsCalledFor : List (List ℕ) → List ℕ → Due → Type 0
-IsCalledFor words bytes due =
-    ((steps : ℕ) × IsProve words steps × IsReadCall program_limit (IsDueFor steps) bytes due)
-    ⊎ ((steps : ℕ) × IsCheck words steps × IsReadCall log_limit (IsDueForLog steps) bytes due)
+abbrev pub IsCalledFor : List (List ℕ) → Option (List ℕ) → Due → Type 0
+IsCalledFor words left due = (order : Order) × IsOrder words order × IsCommandCall order.command order.steps left due

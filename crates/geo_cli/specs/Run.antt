@@ -1,17 +1,24 @@
 -- How a run ends, by its words, the bytes that the source has still to give, the bytes that the sink holds, and the counts of faults of
 -- both. A name with a prime is the same after the run.
-use Rattle.std.specs.Prelude.{◌≡◌, ◌⊎◌, ℕ, List, take, Option}
+use Rattle.std.specs.Prelude.{◌≡◌, ◌⊎◌, ℕ, List, length, take, Option}
 use Rattle.geo_base.specs.Devices.{Grows, HasRisen}
 use Rattle.geo_cli.specs.declared.status.Status.{Status}
 use Rattle.geo_cli.specs.declared.status.Status.TheVariants.{NoMemory, ReadFault, WriteFault}
-use Rattle.geo_cli.specs.Due.{Due, IsDue, IsNoCommand}
+use Rattle.geo_cli.specs.Due.{Due, IsDue, bench_text}
 use Rattle.geo_cli.specs.Input.{IsInput, log_limit, program_limit}
-use Rattle.geo_cli.specs.Words.{IsCheck, IsProve}
+use Rattle.geo_cli.specs.Words.{IsBenchOf, IsCheck, IsProve, IsText, ReadsNothing}
+use Rattle.geo_logs.specs.Ends.{ends_with}
+use Rattle.geo_lowering.specs.Lowering.{IsLowered, LoweredForm}
 use Rattle.geo_program.specs.declared.program_type.Program.{Program}
 use Rattle.geo_program.specs.Programs.{Spells, source_of}
 use Rattle.geo_program.specs.WellFormed.{Source}
+use Rattle.geo_prover.specs.Bench.{IsBench}
+use Rattle.geo_prover.specs.Proving.{IsLogOf}
 use Rattle.log_checker.specs.Accepted.{Accepts, BytesMean}
+use Rattle.proof_log.specs.declared.log.Line.{Line}
 use Rattle.proof_log.specs.declared.log.Verdict.{Verdict}
+use Rattle.proof_log.specs.Lines.{log_text}
+use Rattle.proof_printer.specs.Proofs.{IsReadableProof}
 
 -- THE MAIN CLAUSE
 -- the words are `prove` with so many steps, the source gave these bytes and no more, they spell this program, and the sink holds this text
@@ -40,6 +47,39 @@ pub record Checks (words : List (List ℕ)) (left left' : Option (List ℕ)) (ve
   pub accepted : Accepts bytes steps program verdict
   pub means : BytesMean bytes program verdict
 
+-- the words are `bench` with this number and so many steps; the log of the program of this number, with these steps, ends with this
+-- verdict, and is accepted; and it means that; the sink holds the numbers of that log besides, and not the log
+pub record Benches (words : List (List ℕ)) (held held' : Option (List ℕ)) (verdict : Verdict) : Type 0 where
+  pub number : ℕ
+  pub steps : ℕ
+  pub command : IsBenchOf words number steps
+  pub program : Program
+  pub made : IsBench number (source_of program)
+  pub form : LoweredForm
+  pub lowered : IsLowered (source_of program) form
+  pub lines : List Line
+  pub left : ℕ
+  pub log : IsLogOf (source_of program) steps lines (ends_with verdict left)
+  pub accepted : Accepts (log_text lines) steps (source_of program) verdict
+  pub means : BytesMean (log_text lines) (source_of program) verdict
+  pub written : Grows held (bench_text number (length form.construction.steps) steps lines (ends_with verdict left)) held'
+
+-- what a verdict that is answered tells, by the command
+abbrev pub IsDecided : List (List ℕ) → Option (List ℕ) → Option (List ℕ) → Option (List ℕ) → Option (List ℕ) → Verdict → Type 0
+IsDecided words left left' held held' verdict =
+    Proves words left left' held held' verdict ⊎ (Checks words left left' verdict ⊎ Benches words held held' verdict)
+
+-- the words are `text` with so many steps, the source gave these bytes and no more, they are an accepted log, and the sink holds its
+-- readable proof besides
+pub record Prints (words : List (List ℕ)) (left left' held held' : Option (List ℕ)) : Type 0 where
+  pub steps : ℕ
+  pub command : IsText words steps
+  pub bytes : List ℕ
+  pub input : IsInput log_limit left bytes left'
+  pub text : List ℕ
+  pub readable : IsReadableProof bytes steps text
+  pub written : Grows held text held'
+
 -- THE ENDS OF A RUN
 -- writing was cut short: a write failed, or memory ran out
 abbrev pub IsCutShort : Status → ℕ → ℕ → Type 0
@@ -61,7 +101,7 @@ pub record Answers (words : List (List ℕ)) (left left' : Option (List ℕ)) (f
 -- a read failed, and nothing was written
 pub record FailsToRead (words : List (List ℕ)) (faults faults' : ℕ) (held held' : Option (List ℕ)) (status : Status) : Type 0 where
   pub is : status ≡ ReadFault
-  pub command : IsNoCommand words → ⊥
+  pub command : ReadsNothing words → ⊥
   pub fault : HasRisen faults faults'
   pub unwritten : held' ≡ held
 

@@ -1,8 +1,9 @@
 -- The words of the command line, as lists of bytes.
-use Rattle.std.specs.Prelude.{ℕ, List, map}
+use Rattle.std.specs.Prelude.{ℕ, ◌⊎◌, List, map}
 use Rattle.std.specs.String.{string_bytes}
 use Rattle.std.specs.declared.string.String.{String}
-use Rattle.geo_cli.specs.declared.order.Command.TheVariants.{Check, Prove}
+use Rattle.geo_cli.specs.declared.order.Command.TheVariants.{Bench, Check, Prove, Text}
+use Rattle.geo_cli.specs.declared.order.Order.{Order}
 use Rattle.geo_cli.specs.Orders.{IsOrder}
 
 -- the bytes of each word
@@ -16,3 +17,19 @@ IsProve words steps = IsOrder words (record { command = Prove; steps = steps })
 -- the words are `check`, with so many steps
 abbrev pub IsCheck : List (List ℕ) → ℕ → Type 0
 IsCheck words steps = IsOrder words (record { command = Check; steps = steps })
+
+-- the words are `text`, with so many steps
+abbrev pub IsText : List (List ℕ) → ℕ → Type 0
+IsText words steps = IsOrder words (record { command = Text; steps = steps })
+
+-- the words are `bench` and this number, with so many steps
+abbrev pub IsBenchOf : List (List ℕ) → ℕ → ℕ → Type 0
+IsBenchOf words number steps = IsOrder words (record { command = Bench number; steps = steps })
+
+-- the words are no command
+abbrev pub IsNoCommand : List (List ℕ) → Type 0
+IsNoCommand words = (order : Order) → IsOrder words order → ⊥
+
+-- the words are no command, or one that reads nothing
+abbrev pub ReadsNothing : List (List ℕ) → Type 0
+ReadsNothing words = IsNoCommand words ⊎ ((number : ℕ) × (steps : ℕ) × IsBenchOf words number steps)

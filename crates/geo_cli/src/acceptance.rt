@@ -1,11 +1,10 @@
 //! The text that tells an accepted log: its program, its conditions, and its verdict.
-ghost use Rattle.std.specs.Prelude.{◌≡◌, ◌∷◌, ◌++◌, [], codes, IfOk, OnOk};
-ghost use Rattle.std.specs.Fmt.{decimal};
+ghost use Rattle.std.specs.Prelude.{◌≡◌, ◌++◌, IfOk, OnOk};
 ghost use Rattle.geo_cli.specs.Inner.Judgements.{IsAcceptedText, condition_line, condition_lines};
 ghost use Rattle.geo_program.specs.Programs.{source_of};
-ghost use Rattle.proof_log.specs.Lines.{verdict_text};
 
-use geo_base::{Text, push_decimal};
+use crate::answers::{push_numbered, push_verdict};
+use geo_base::Text;
 use geo_conditions::{Item, list};
 use geo_lowering::lower;
 use geo_points::NoMemory;
@@ -22,6 +21,7 @@ pub fn accepted_text(alloc: Global, program: &Program, verdict: Verdict) -> Resu
     let problem = list(alloc, program, lowered)?;
     let Text { mut bytes } = print(alloc, program)?;
     push_conditions(alloc, &mut bytes, &problem.conditions.items)?;
+    bytes.extend_from_slice(b"accepted ")?;
     push_verdict(alloc, &mut bytes, verdict)?;
     Ok(Text { bytes })
 }
@@ -50,33 +50,4 @@ fn push_condition(
     out.extend_from_slice(text)?;
     out.push(b'\n')?;
     Ok(())
-}
-
-/// Appends the line of the verdict.
-fn push_verdict(alloc: Global, out: &mut Vec<u8>, verdict: Verdict) -> Result<(), NoMemory>
-    ensures { OnOk result (out.new.items
-        ≡ out.old.items ++ codes "accepted " ++ verdict_text verdict ++ 10 ∷ []) }
-{
-    match verdict {
-        Verdict::Proved => out.extend_from_slice(b"accepted proved")?,
-        Verdict::False(goal) => push_numbered(alloc, out, b"accepted false ", goal as u64)?,
-        Verdict::Impossible(condition) => {
-            push_numbered(alloc, out, b"accepted impossible ", condition as u64)?
-        }
-    }
-    out.push(b'\n')?;
-    Ok(())
-}
-
-/// Appends words and a number.
-fn push_numbered(
-    alloc: Global,
-    out: &mut Vec<u8>,
-    words: &[u8],
-    number: u64,
-) -> Result<(), NoMemory>
-    ensures { OnOk result (out.new.items ≡ out.old.items ++ words.now ++ decimal number) }
-{
-    out.extend_from_slice(words)?;
-    push_decimal(alloc, out, number as i128).map_err(|_| NoMemory)
 }

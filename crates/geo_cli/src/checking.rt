@@ -1,23 +1,22 @@
 //! The command `check`: a log is read, and told to be accepted or refused.
-ghost use Rattle.std.specs.Prelude.{◌≡◌, ◌≢◌, ◌≤◌, ℕ, List, IfOk};
+ghost use Rattle.std.specs.Prelude.{◌≡◌, ◌≢◌, ◌≤◌, ℕ, List};
 ghost use Rattle.geo_cli.specs.Inner.Answering.{AnswersLog};
-ghost use Rattle.geo_cli.specs.Inner.Judgements.{IsJudgement, IsRefusal, error_line};
+ghost use Rattle.geo_cli.specs.Inner.Judgements.{IsJudgement};
 ghost use Rattle.geo_cli.specs.Input.{Takes, log_limit};
 ghost use Rattle.geo_cli.specs.Run.{Ends};
 ghost use Rattle.geo_cli.specs.Words.{IsCheck};
 ghost use Rattle.geo_program.specs.Programs.{source_of};
 ghost use Rattle.log_checker.specs.Accepted.{Accepts};
-ghost use Rattle.log_checker.specs.Checked.{IsRefusedLog, TellsStop};
 
 use crate::acceptance::accepted_text;
-use crate::answers::{TOO_LONG, answer, rejected_line};
+use crate::answers::{TOO_LONG, answer};
 use crate::judging::judge;
+use crate::refusing::refuse;
 use crate::status::Status;
-use geo_base::{ReadError, Sink, Source, Text};
-use geo_points::NoMemory;
+use geo_base::{ReadError, Sink, Source};
 use geo_program::Program;
 use log_checker::{Accepted, CheckError};
-use proof_log::{Line, Verdict, write_line};
+use proof_log::Verdict;
 use std::alloc::Global;
 
 /// Reads a log to its end, judges it with so many steps, and tells its program, its conditions and
@@ -72,33 +71,4 @@ fn accept<K: Sink>(alloc: Global, program: &Program, verdict: Verdict, sink: &mu
         return Status::NoMemory;
     };
     answer(sink, &text.bytes, Status::of_verdict(verdict))
-}
-
-/// Tells why a log is refused.
-fn refuse<K: Sink>(alloc: Global, error: CheckError, sink: &mut K) -> Status
-    ensures answers { (steps : ℕ) (bytes : List ℕ) → TellsStop (IsRefusedLog bytes steps) error
-        → AnswersLog steps bytes (K.faults sink.old) (K.faults sink.new)
-        (K.held sink.old) (K.held sink.new) result }
-    ensures reads { result ≢ Status.ReadFault }
-    ensures faults { K.faults sink.old ≤ K.faults sink.new }
-{
-    let Ok(line) = refusal_line(alloc, error) else {
-        return Status::NoMemory;
-    };
-    answer(sink, &line.bytes, Status::of_error(error))
-}
-
-/// The line that tells why a log is refused.
-fn refusal_line(alloc: Global, error: CheckError) -> Result<Text, NoMemory>
-    ensures text { IfOk result (λ line. line ≡ error_line error) }
-    ensures refusal { IfOk result (λ _. IsRefusal error) }
-{
-    match error {
-        CheckError::Rejected { line, reason } => rejected_line(alloc, line, reason),
-        CheckError::TooLarge { line, which } => {
-            write_line(alloc, &Line::StopTooLarge { line, which })
-        }
-        CheckError::Spent { line } => write_line(alloc, &Line::StopSpent { line }),
-        CheckError::NoMemory => Err(NoMemory),
-    }
 }

@@ -9,7 +9,7 @@ use log_checker::{Accepted, CheckError, Checker};
 use std::alloc::Global;
 
 /// The most bytes of a log.
-const LOG_LIMIT: u64 = 67_108_864;
+pub const LOG_LIMIT: u64 = 67_108_864;
 
 /// Reads a log to its end, and judges it. Behind a refusal it reads on, for an input that fails or
 /// is too long is no log.

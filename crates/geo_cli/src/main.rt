@@ -1,5 +1,6 @@
 //! Proves a statement of plane geometry that standard input spells, and writes the log of the
-//! proof; or checks a log that standard input gives.
+//! proof; or checks a log that standard input gives, or writes it as a proof that a person reads;
+//! or proves a generated program.
 #![tactic(auto)]
 
 use crate::run::run;
@@ -11,16 +12,18 @@ use std::process::ExitCode;
 
 mod acceptance;
 mod answers;
+mod benching;
 mod checking;
 mod judging;
 mod numbers;
 mod order;
+mod printing;
 mod proving;
+mod refusing;
 mod run;
 mod status;
 #[cfg(test)]
 mod tests;
-mod words;
 
 fn main(rt: HostRuntime) -> ExitCode {
     let status = match words_of(&rt) {

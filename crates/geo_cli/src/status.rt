@@ -52,6 +52,8 @@ pub enum Status {
     },
     /// The input, or the log, is longer than its limit.
     TooLong,
+    /// A readable proof is written.
+    Done,
 }
 
 impl Status {
@@ -72,6 +74,7 @@ impl Status {
             Status::NoMemory => 10,
             Status::Rejected { .. } => 11,
             Status::TooLong => 12,
+            Status::Done => 13,
         }
     }
 
@@ -85,6 +88,7 @@ impl Status {
             Verdict::Impossible(condition) => Status::Impossible(condition),
         }
     }
+
     /// The answer that tells why a log is refused.
     pub fn of_error(error: CheckError) -> Status
         ensures { result ≡ error_status error }
