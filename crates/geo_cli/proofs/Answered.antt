@@ -1,14 +1,15 @@
--- What `prove` did with the bytes of a program is what is due for them; and how a command ends.
-use Rattle.std.proofs.Common.{◌≡◌, ℕ, inl, inr, List, Option, refl, ap, length}
+-- What `prove` did with the bytes of a program is what is due for them; and what a command did with its input.
+use Rattle.std.proofs.Common.{◌≡◌, ℕ, inl, inr, List, Option, refl, sym, ap, subst, length}
 use Rattle.geo_base.specs.Devices.{HasRisen}
+use Rattle.geo_cli.specs.declared.order.Command.{Command}
+use Rattle.geo_cli.specs.declared.order.Command.TheVariants.{Bench, Check, Prove, Text}
 use Rattle.geo_cli.specs.declared.status.Status.{Status}
 use Rattle.geo_cli.specs.declared.status.Status.TheVariants.{ReadFault, TooLarge, Spent, TooLong}
-use Rattle.geo_cli.specs.Due.{Due, IsDue, IsDueFor, IsDueForLog, IsNoCommand, too_long_line}
-use Rattle.geo_cli.specs.Inner.Answering.{AnswersBytes, AnswersDue, AnswersLog}
+use Rattle.geo_cli.specs.Due.{Due, IsBenchDue, IsCommandDue, IsDueFor, IsDueForLog, IsDueForText, IsReadDue, too_long_line}
+use Rattle.geo_cli.specs.Inner.Answering.{AnswersBytes, AnswersCommand, AnswersDue, AnswersInput}
 use Rattle.geo_cli.specs.Input.{IsInput, IsLong, log_limit, program_limit}
-use Rattle.geo_cli.specs.Run.{Ends, IsAnswered, IsCutShort}
+use Rattle.geo_cli.specs.Run.{IsAnswered, IsCutShort}
 use Rattle.geo_cli.specs.Status.{ending_status, verdict_status}
-use Rattle.geo_cli.specs.Words.{IsCheck, IsProve}
 use Rattle.geo_logs.specs.Ends.{ends_by, ends_with, too_long}
 use Rattle.geo_logs.specs.Moves.{spent, too_large}
 use Rattle.geo_poly.specs.declared.limits.Which.{Which}
@@ -69,43 +70,53 @@ module _ (p : Program) (steps : ℕ) (bytes : List ℕ) (spelt : Spells bytes p)
         inr (cut, (w.count, w.written)),
       )
 
--- HOW A COMMAND ENDS
-module _ (words : List (List ℕ)) (left left' held held' : Option (List ℕ)) (g g' f f' : ℕ) (s : Status) where
-  abbrev Ended : Type 0
-  Ended = Ends words left left' g g' f f' held held' s
+-- WHAT A COMMAND ANSWERS
+-- what answers one thing that may be due answers another
+pub answers_more : (Of Also : Due → Type 0) → ((due : Due) → Of due → Also due) → (f f' : ℕ) (held held' : Option (List ℕ)) (s : Status)
+    → AnswersDue Of f f' held held' s → AnswersDue Also f f' held held' s
+answers_more Of Also more f f' held held' s (inl (due, h, answered)) = inl (due, more due h, answered)
+answers_more Of Also more f f' held held' s (inr out) = inr out
 
-  -- something that is due was answered
-  by_due : (Of : Due → Type 0) → ((due : Due) → Of due → IsDue words left left' due) → AnswersDue Of f f' held held' s → Ended
-  by_due Of cause (inl h) = inl (record { due = h.0; cause = cause h.0 h.1; answered = h.2 })
-  by_due Of cause (inr out) = inr (inr out)
+module _ (limit : ℕ) (For : List ℕ → Due → Type 0) (left left' held held' : Option (List ℕ)) (g g' f f' : ℕ) (s : Status) where
+  abbrev Answered : Type 0
+  Answered = AnswersInput limit For left left' g g' f f' held held' s
 
   -- an input was read to its end
-  pub of_program : (steps : ℕ) (bytes : List ℕ) → IsProve words steps → IsInput program_limit left bytes left' → AnswersBytes steps bytes f f' held held' s → Ended
-  of_program steps bytes command input =
-      by_due (IsDueFor steps bytes) (λ due h. inr (inl (record { steps = steps; command = command; of_input = inr (bytes, input, h) })))
-
-  pub of_log : (steps : ℕ) (bytes : List ℕ) → IsCheck words steps → IsInput log_limit left bytes left' → AnswersLog steps bytes f f' held held' s → Ended
-  of_log steps bytes command input =
-      by_due (IsDueForLog steps bytes) (λ due h. inr (inr (record { steps = steps; command = command; of_input = inr (bytes, input, h) })))
+  pub of_input : (bytes : List ℕ) → IsInput limit left bytes left' → AnswersDue (For bytes) f f' held held' s → Answered
+  of_input bytes input h =
+      inl (answers_more (For bytes) (IsReadDue limit For left left') (λ due is. inr (bytes, input, is)) f f' held held' s h)
 
   -- an input was too long
-  abbrev long_due : Due
-  long_due = record { text = too_long_line; status = TooLong }
-
-  pub of_long_program : (steps : ℕ) → IsProve words steps → IsLong program_limit left left' → IsAnswered long_due s f f' held held' → Ended
-  of_long_program steps command long h = inl (record {
-    due = long_due;
-    cause = inr (inl (record { steps = steps; command = command; of_input = inl (long, refl) }));
-    answered = h;
-  })
-
-  pub of_long_log : (steps : ℕ) → IsCheck words steps → IsLong log_limit left left' → IsAnswered long_due s f f' held held' → Ended
-  of_long_log steps command long h = inl (record {
-    due = long_due;
-    cause = inr (inr (record { steps = steps; command = command; of_input = inl (long, refl) }));
-    answered = h;
-  })
+  pub of_long : IsLong limit left left' → IsAnswered (record { text = too_long_line; status = TooLong }) s f f' held held' → Answered
+  of_long long h = inl (inl (record { text = too_long_line; status = TooLong }, inl (long, refl), h))
 
   -- a read failed
-  pub of_fault : (IsNoCommand words → ⊥) → s ≡ ReadFault → HasRisen g g' → held' ≡ held → Ended
-  of_fault command is risen kept = inr (inl (record { is = is; command = command; fault = risen; unwritten = kept }))
+  pub of_fault : s ≡ ReadFault → HasRisen g g' → held' ≡ held → Answered
+  of_fault is risen kept = inr (is, risen, kept)
+
+-- WHAT AN ORDER IS ANSWERED
+module _ (steps : ℕ) (left left' held held' : Option (List ℕ)) (g g' f f' : ℕ) (s : Status) where
+  abbrev Carried : Command → Type 0
+  Carried command = AnswersCommand command steps left left' g g' f f' held held' s
+
+  by_reading : (command : Command) (limit : ℕ) (For : List ℕ → Due → Type 0) → ((number : ℕ) → command ≡ Bench number → ⊥)
+      → ((due : Due) → IsReadDue limit For left left' due → IsCommandDue command steps left left' due)
+      → AnswersInput limit For left left' g g' f f' held held' s → Carried command
+  by_reading command limit For reads more (inl h) =
+      inl (answers_more (IsReadDue limit For left left') (IsCommandDue command steps left left') more f f' held held' s h)
+  by_reading command limit For reads more (inr h) = inr (reads, h)
+
+  pub by_prove : (command : Command) → command ≡ Prove → AnswersInput program_limit (IsDueFor steps) left left' g g' f f' held held' s → Carried command
+  by_prove command is h = subst Carried (sym is) (by_reading Prove program_limit (IsDueFor steps) (λ number no. absurd (cc)) (λ due d. d) h)
+
+  pub by_check : (command : Command) → command ≡ Check → AnswersInput log_limit (IsDueForLog steps) left left' g g' f f' held held' s → Carried command
+  by_check command is h = subst Carried (sym is) (by_reading Check log_limit (IsDueForLog steps) (λ number no. absurd (cc)) (λ due d. d) h)
+
+  pub by_text : (command : Command) → command ≡ Text → AnswersInput log_limit (IsDueForText steps) left left' g g' f f' held held' s → Carried command
+  by_text command is h = subst Carried (sym is) (by_reading Text log_limit (IsDueForText steps) (λ number no. absurd (cc)) (λ due d. d) h)
+
+  pub by_bench : (command : Command) (number : ℕ) → command ≡ Bench number → left' ≡ left
+      → AnswersDue (IsBenchDue number steps) f f' held held' s → Carried command
+  by_bench command number is unread h =
+      subst Carried (sym is)
+      (inl (answers_more (IsBenchDue number steps) (IsCommandDue (Bench number) steps left left') (λ due d. (unread, d)) f f' held held' s h))

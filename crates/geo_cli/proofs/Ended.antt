@@ -1,25 +1,25 @@
 -- How a run ends, from what its parts say.
-use Rattle.std.specs.Prelude.{IfSome}
-use Rattle.std.proofs.Common.{◌≡◌, ◌≢◌, ◌⊎◌, inl, inr, ℕ, ◌<◌, ◌≤◌, ◌^◌, List, [], ◌∷◌, Option, Some, refl, sym, ◌∙◌, ap, subst, arith}
+use Rattle.std.proofs.Common.{◌≡◌, ◌⊎◌, inl, inr, ℕ, ◌<◌, ◌≤◌, ◌^◌, List, [], ◌∷◌, length, Option, None, Some, refl, sym, ◌∙◌, ap, subst, arith}
 use Rattle.geo_base.specs.Devices.{Grows, HasRisen}
+use Rattle.geo_cli.specs.declared.order.Command.{Command}
+use Rattle.geo_cli.specs.declared.order.Command.TheVariants.{Bench, Check, Prove, Text}
 use Rattle.geo_cli.specs.declared.order.Order.{Order}
 use Rattle.geo_cli.specs.declared.status.Status.{Status}
 use Rattle.geo_cli.specs.declared.status.Status.TheVariants as status
-use Rattle.geo_cli.specs.Due.{Due, IsAcceptedDue, IsCalledFor, IsDue, IsDueFor, IsDueForLog, IsLogDue, IsNoCommand, IsReadDue, usage_line}
-use Rattle.geo_cli.specs.declared.words.Task.{Task}
-use Rattle.geo_cli.specs.declared.words.Task.TheVariants as task
-use Rattle.geo_cli.specs.Inner.Tasks.{IsTask}
+use Rattle.geo_cli.specs.Due.{Due, IsAcceptedDue, IsBenchDue, IsCalledFor, IsCommandDue, IsDue, IsLogDue, IsReadDue, bench_text, usage_line}
+use Rattle.geo_cli.specs.Inner.Answering.{AnswersCommand, HasNumber}
 use Rattle.geo_cli.specs.Input.{IsInput, Takes, log_limit, program_limit}
-use Rattle.geo_cli.specs.Orders.{IsOrder, TellsSteps}
-use Rattle.geo_cli.specs.Run.{Answers, Checks, Ends, FailsToRead, IsAnswered, IsCutShort, Proves, RunsOut}
-use Rattle.geo_cli.specs.Status.{ending_status, refusal_status, status_number, verdict_status}
-use Rattle.geo_cli.specs.Words.{IsCheck, IsProve}
+use Rattle.geo_cli.specs.Orders.{IsOrder, IsRow, TellsSteps}
+use Rattle.geo_cli.specs.Run.{Benches, Checks, Ends, IsAnswered, IsCutShort, IsDecided, Prints, Proves}
+use Rattle.geo_cli.specs.Status.{ending_status, refusal_status, status_number, stop_status, verdict_status}
+use Rattle.geo_cli.specs.Words.{IsBenchOf, IsCheck, IsNoCommand, IsProve, ReadsNothing}
 use Rattle.geo_cli.proofs.OneDue.{GivesOne, called_is_due}
 use Rattle.geo_logs.specs.Ends.{Ending, ends_by, ends_with, too_long}
 use Rattle.geo_logs.specs.Judging.{Refusal, rejected, stopped}
-use Rattle.geo_logs.specs.Moves.{spent, too_large}
+use Rattle.geo_logs.specs.Moves.{Stop, spent, too_large}
 use Rattle.geo_program.specs.Programs.{source_of}
 use Rattle.geo_program.specs.WellFormed.{IsWellFormed, Source}
+use Rattle.geo_program.proofs.Propositions.{program_well_formed}
 use Rattle.geo_prover.specs.Proving.{IsLogOf}
 use Rattle.log_checker.specs.Accepted.{Accepts}
 use Rattle.log_checker.proofs.AcceptedBytes.{accepted_bytes_mean}
@@ -60,13 +60,22 @@ few_told (word ∷ []) steps h = h.2.2
 few_told (word ∷ text ∷ []) steps h = h.1.2
 few_told (word ∷ text ∷ more ∷ words) steps h = absurd h
 
-few_steps : (words : List (List ℕ)) (steps : ℕ) → IsProve words steps → steps < 2 ^ 127
-few_steps words steps h = let few = few_told h.option steps h.steps in omega (arith, few)
+few_steps : (words : List (List ℕ)) (command : Command) (steps : ℕ) → IsOrder words (record { command = command; steps = steps }) → steps < 2 ^ 127
+few_steps words command steps h = let few = few_told h.option steps h.steps in omega (arith, few)
 
 -- VERDICTS
 accepted_log : (p : Source) (steps left : ℕ) (lines : List Line) (verdict : Verdict) → IsWellFormed p → steps < 2 ^ 127
     → IsLogOf p steps lines (ends_with verdict left) → Accepts (log_text lines) steps p verdict
 accepted_log p steps left lines verdict w small h = defined_bytes_are_accepted p h.subject steps left lines verdict w h.about small h.defined
+
+-- an ending that is told by the status of a verdict is that verdict
+ends_so : (verdict : Verdict) (lines : List Line) (ending : Ending) → ending_status lines ending ≡ verdict_status verdict
+    → (left : ℕ) × (ending ≡ ends_with verdict left)
+ends_so verdict lines (ends_with v left) says = (left, ap (λ x. ends_with x left) (same_verdict v verdict says))
+ends_so verdict lines (ends_by spent) says = no_verdict verdict (ending_status lines (ends_by spent)) _ says (omega arith)
+ends_so verdict lines (ends_by (too_large which)) says =
+    no_verdict verdict (ending_status lines (ends_by (too_large which))) _ says (omega arith)
+ends_so verdict lines too_long says = no_verdict verdict (ending_status lines too_long) _ says (omega arith)
 
 -- a refusal tells no verdict
 no_refusal : (v : Verdict) (n : ℕ) (r : Refusal) (P : Type 0) → refusal_status n r ≡ verdict_status v → P
@@ -74,37 +83,35 @@ no_refusal v n (rejected reason) P says = no_verdict v (refusal_status n (reject
 no_refusal v n (stopped spent) P says = no_verdict v (refusal_status n (stopped spent)) P says (omega arith)
 no_refusal v n (stopped (too_large which)) P says = no_verdict v (refusal_status n (stopped (too_large which))) P says (omega arith)
 
+-- the status that is due, where it is that of the run
+due_says : (due other : Due) (s t : Status) → s ≡ due.status → due ≡ other → s ≡ t → other.status ≡ t
+due_says due other s t answered is says = ap (λ (d : Due). d.status) (sym is) ∙ sym answered ∙ says
+
 module _ (words : List (List ℕ)) (left left' held held' : Option (List ℕ)) (verdict : Verdict) where
   abbrev Decided : Type 0
-  Decided = Proves words left left' held held' verdict ⊎ Checks words left left' verdict
+  Decided = IsDecided words left left' held held' verdict
 
-  module _ (steps : ℕ) (command : IsProve words steps) (bytes : List ℕ) (input : IsInput program_limit left bytes left') where
-    -- a log that was written and ends with this verdict
-    log_proves : (due : Due) (log : IsLogDue steps bytes due) (ending : Ending) → log.ending ≡ ending
-        → ending_status log.lines ending ≡ verdict_status verdict → Grows held due.text held' → Proves words left left' held held' verdict
-    log_proves due log (ends_with v k) is says written =
-        let same : v ≡ verdict = same_verdict v verdict says in
-        let p = source_of log.program in
-        let ends : log.ending ≡ ends_with verdict k = is ∙ ap (λ x. ends_with x k) same in
-        let of_log : IsLogOf p steps log.lines (ends_with verdict k) = subst (IsLogOf p steps log.lines) ends log.log in
-        let accepted = accepted_log p steps k log.lines verdict log.spelt.well_formed (few_steps words steps command) of_log in
-        let grown : Grows held (log_text log.lines) held' = subst (λ (d : Due). Grows held d.text held') log.is written in
-        record {
-          steps = steps;
-          command = command;
-          bytes = bytes;
-          input = input;
-          program = log.program;
-          spelt = log.spelt;
-          text = log_text log.lines;
-          written = grown;
-          accepted = accepted;
-          means = accepted_bytes_mean (log_text log.lines) steps p verdict accepted;
-        }
-    log_proves due log (ends_by spent) is says written = no_verdict verdict (ending_status log.lines (ends_by spent)) _ says (omega arith)
-    log_proves due log (ends_by (too_large which)) is says written =
-        no_verdict verdict (ending_status log.lines (ends_by (too_large which))) _ says (omega arith)
-    log_proves due log too_long is says written = no_verdict verdict (ending_status log.lines too_long) _ says (omega arith)
+  -- a log that was written and ends with this verdict
+  log_proves : (steps : ℕ) → IsProve words steps → (bytes : List ℕ) → IsInput program_limit left bytes left' → (due : Due) (log : IsLogDue steps bytes due)
+      → ending_status log.lines log.ending ≡ verdict_status verdict → Grows held due.text held' → Proves words left left' held held' verdict
+  log_proves steps command bytes input due log says written =
+      let ends = ends_so verdict log.lines log.ending says in
+      let p = source_of log.program in
+      let of_log : IsLogOf p steps log.lines (ends_with verdict ends.0) = subst (IsLogOf p steps log.lines) ends.1 log.log in
+      let accepted = accepted_log p steps ends.0 log.lines verdict log.spelt.well_formed (few_steps words Prove steps command) of_log in
+      let grown : Grows held (log_text log.lines) held' = subst (λ (d : Due). Grows held d.text held') log.is written in
+      record {
+        steps = steps;
+        command = command;
+        bytes = bytes;
+        input = input;
+        program = log.program;
+        spelt = log.spelt;
+        text = log_text log.lines;
+        written = grown;
+        accepted = accepted;
+        means = accepted_bytes_mean (log_text log.lines) steps p verdict accepted;
+      }
 
   -- a log that was read and is accepted with this verdict
   log_checks : (steps : ℕ) → IsCheck words steps → (bytes : List ℕ) → IsInput log_limit left bytes left' → (due : Due) (h : IsAcceptedDue steps bytes due)
@@ -121,33 +128,60 @@ module _ (words : List (List ℕ)) (left left' held held' : Option (List ℕ)) (
         means = accepted_bytes_mean bytes steps h.program verdict accepted;
       }
 
-  -- the status that is due, where it is that of the verdict
-  due_says : (due other : Due) (s : Status) → s ≡ due.status → due ≡ other → s ≡ verdict_status verdict → other.status ≡ verdict_status verdict
-  due_says due other s answered is says = ap (λ (d : Due). d.status) (sym is) ∙ sym answered ∙ says
+  -- the log of a generated program, which ends with this verdict
+  log_benches : (number steps : ℕ) → IsBenchOf words number steps → (due : Due) (h : IsBenchDue number steps due)
+      → ending_status h.lines h.ending ≡ verdict_status verdict → Grows held due.text held' → Benches words held held' verdict
+  log_benches number steps command due h says written =
+      let ends = ends_so verdict h.lines h.ending says in
+      let p = source_of h.program in
+      let points = length h.form.construction.steps in
+      let of_log : IsLogOf p steps h.lines (ends_with verdict ends.0) = subst (IsLogOf p steps h.lines) ends.1 h.log in
+      let accepted = accepted_log p steps ends.0 h.lines verdict (program_well_formed h.program) (few_steps words (Bench number) steps command) of_log in
+      let grown : Grows held (bench_text number points steps h.lines h.ending) held' = subst (λ (d : Due). Grows held d.text held') h.is written in
+      record {
+        number = number;
+        steps = steps;
+        command = command;
+        program = h.program;
+        made = h.made;
+        form = h.form;
+        lowered = h.lowered;
+        lines = h.lines;
+        left = ends.0;
+        log = of_log;
+        accepted = accepted;
+        means = accepted_bytes_mean (log_text h.lines) steps p verdict accepted;
+        written = subst (λ (e : Ending). Grows held (bench_text number points steps h.lines e) held') ends.1 grown;
+      }
 
-  program_decides : (due : Due) (s : Status) (steps : ℕ) → IsProve words steps → s ≡ due.status → Grows held due.text held' → s ≡ verdict_status verdict
-      → IsReadDue program_limit (IsDueFor steps) left left' due → Decided
-  program_decides due s steps command answered written says (inl h) =
-      no_verdict verdict status.TooLong _ (due_says due _ s answered h.1 says) (omega arith)
-  program_decides due s steps command answered written says (inr (bytes, input, inl log)) =
-      inl (log_proves steps command bytes input due log log.ending refl (due_says due _ s answered log.is says) written)
-  program_decides due s steps command answered written says (inr (bytes, input, inr refusal)) =
-      no_verdict verdict (status.Syntax refusal.fault.refusal refusal.fault.place) _ (due_says due _ s answered refusal.is says) (omega arith)
-
-  input_decides : (due : Due) (s : Status) (steps : ℕ) → IsCheck words steps → s ≡ due.status → s ≡ verdict_status verdict
-      → IsReadDue log_limit (IsDueForLog steps) left left' due → Decided
-  input_decides due s steps command answered says (inl h) =
-      no_verdict verdict status.TooLong _ (due_says due _ s answered h.1 says) (omega arith)
-  input_decides due s steps command answered says (inr (bytes, input, inl h)) =
-      inr (log_checks steps command bytes input due h (due_says due _ s answered h.is says))
-  input_decides due s steps command answered says (inr (bytes, input, inr h)) =
-      no_refusal verdict h.number h.refusal _ (due_says due _ s answered h.is says)
+  command_decides : (command : Command) (steps : ℕ) → IsOrder words (record { command = command; steps = steps }) → (due : Due) (s : Status)
+      → s ≡ due.status → Grows held due.text held' → s ≡ verdict_status verdict → IsCommandDue command steps left left' due → Decided
+  command_decides Prove steps given due s answered written says (inl h) =
+      no_verdict verdict status.TooLong _ (due_says due _ s _ answered h.1 says) (omega arith)
+  command_decides Prove steps given due s answered written says (inr (bytes, input, inl log)) =
+      inl (log_proves steps given bytes input due log (due_says due _ s _ answered log.is says) written)
+  command_decides Prove steps given due s answered written says (inr (bytes, input, inr refusal)) =
+      no_verdict verdict (status.Syntax refusal.fault.refusal refusal.fault.place) _ (due_says due _ s _ answered refusal.is says) (omega arith)
+  command_decides Check steps given due s answered written says (inl h) =
+      no_verdict verdict status.TooLong _ (due_says due _ s _ answered h.1 says) (omega arith)
+  command_decides Check steps given due s answered written says (inr (bytes, input, inl h)) =
+      inr (inl (log_checks steps given bytes input due h (due_says due _ s _ answered h.is says)))
+  command_decides Check steps given due s answered written says (inr (bytes, input, inr h)) =
+      no_refusal verdict h.number h.refusal _ (due_says due _ s _ answered h.is says)
+  command_decides Text steps given due s answered written says (inl h) =
+      no_verdict verdict status.TooLong _ (due_says due _ s _ answered h.1 says) (omega arith)
+  command_decides Text steps given due s answered written says (inr (bytes, input, inl h)) =
+      no_verdict verdict status.Done _ (due_says due _ s _ answered h.is says) (omega arith)
+  command_decides Text steps given due s answered written says (inr (bytes, input, inr h)) =
+      no_refusal verdict h.number h.refusal _ (due_says due _ s _ answered h.is says)
+  command_decides (Bench number) steps given due s answered written says (unread, h) =
+      inr (inr (log_benches number steps given due h (due_says due _ s _ answered h.is says) written))
 
   due_decides : (due : Due) (s : Status) → IsDue words left left' due → s ≡ due.status → Grows held due.text held' → s ≡ verdict_status verdict → Decided
   due_decides due s (inl h) answered written says =
-      no_verdict verdict status.Usage _ (due_says due _ s answered h.is says) (omega arith)
-  due_decides due s (inr (inl h)) answered written says = program_decides due s h.steps h.command answered written says h.of_input
-  due_decides due s (inr (inr h)) answered written says = input_decides due s h.steps h.command answered says h.of_input
+      no_verdict verdict status.Usage _ (due_says due _ s _ answered h.is says) (omega arith)
+  due_decides due s (inr h) answered written says =
+      command_decides h.order.command h.order.steps h.given due s answered written says h.of_command
 
   cut_decides : (s : Status) (faults faults' : ℕ) (P : Type 0) → IsCutShort s faults faults' → s ≡ verdict_status verdict → P
   cut_decides s faults faults' P (inl h) says = no_verdict verdict status.WriteFault P (sym h.0 ∙ says) (omega arith)
@@ -156,7 +190,7 @@ module _ (words : List (List ℕ)) (left left' held held' : Option (List ℕ)) (
   -- a run that answers the verdict
   pub decides : (source_faults source_faults' faults faults' : ℕ) (s : Status)
       → Ends words left left' source_faults source_faults' faults faults' held held' s → s ≡ verdict_status verdict
-      → Proves words left left' held held' verdict ⊎ Checks words left left' verdict
+      → IsDecided words left left' held held' verdict
   decides g g' f f' s (inl h) says = by_answer h.answered
     where
       by_answer : IsAnswered h.due s f f' held held' → Decided
@@ -165,24 +199,94 @@ module _ (words : List (List ℕ)) (left left' held held' : Option (List ℕ)) (
   decides g g' f f' s (inr (inl h)) says = no_verdict verdict status.ReadFault _ (sym h.is ∙ says) (omega arith)
   decides g g' f f' s (inr (inr h)) says = no_verdict verdict status.NoMemory _ (sym h.is ∙ says) (omega arith)
 
+-- READABLE PROOFS
+-- a status that tells no readable proof
+not_done : (s : Status) (P : Type 0) → s ≡ status.Done → status_number s < 13 → P
+not_done s P is low = differ s status.Done P is (λ e. omega (arith, e, low))
+
+verdict_low : (v : Verdict) → status_number (verdict_status v) < 13
+verdict_low Proved = omega arith
+verdict_low (False g) = omega arith
+verdict_low (Impossible k) = omega arith
+
+stop_low : (n : ℕ) (stop : Stop) → status_number (stop_status n stop) < 13
+stop_low n spent = omega arith
+stop_low n (too_large which) = omega arith
+
+ending_low : (lines : List Line) (ending : Ending) → status_number (ending_status lines ending) < 13
+ending_low lines (ends_with v left) = verdict_low v
+ending_low lines (ends_by stop) = stop_low (length lines) stop
+ending_low lines too_long = omega arith
+
+refusal_low : (n : ℕ) (r : Refusal) → status_number (refusal_status n r) < 13
+refusal_low n (rejected reason) = omega arith
+refusal_low n (stopped stop) = stop_low n stop
+
+module _ (words : List (List ℕ)) (left left' held held' : Option (List ℕ)) where
+  command_prints : (command : Command) (steps : ℕ) → IsOrder words (record { command = command; steps = steps }) → (due : Due) (s : Status)
+      → s ≡ due.status → Grows held due.text held' → s ≡ status.Done → IsCommandDue command steps left left' due → Prints words left left' held held'
+  command_prints Prove steps given due s answered written done (inl h) = not_done _ _ (due_says due _ s _ answered h.1 done) (omega arith)
+  command_prints Prove steps given due s answered written done (inr (bytes, input, inl h)) =
+      not_done _ _ (due_says due _ s _ answered h.is done) (ending_low h.lines h.ending)
+  command_prints Prove steps given due s answered written done (inr (bytes, input, inr h)) =
+      not_done _ _ (due_says due _ s _ answered h.is done) (omega arith)
+  command_prints Check steps given due s answered written done (inl h) = not_done _ _ (due_says due _ s _ answered h.1 done) (omega arith)
+  command_prints Check steps given due s answered written done (inr (bytes, input, inl h)) =
+      not_done _ _ (due_says due _ s _ answered h.is done) (verdict_low h.verdict)
+  command_prints Check steps given due s answered written done (inr (bytes, input, inr h)) =
+      not_done _ _ (due_says due _ s _ answered h.is done) (refusal_low h.number h.refusal)
+  command_prints Text steps given due s answered written done (inl h) = not_done _ _ (due_says due _ s _ answered h.1 done) (omega arith)
+  command_prints Text steps given due s answered written done (inr (bytes, input, inl h)) = record {
+    steps = steps;
+    command = given;
+    bytes = bytes;
+    input = input;
+    text = h.text;
+    readable = h.readable;
+    written = subst (λ (d : Due). Grows held d.text held') h.is written;
+  }
+  command_prints Text steps given due s answered written done (inr (bytes, input, inr h)) =
+      not_done _ _ (due_says due _ s _ answered h.is done) (refusal_low h.number h.refusal)
+  command_prints (Bench number) steps given due s answered written done (unread, h) =
+      not_done _ _ (due_says due _ s _ answered h.is done) (ending_low h.lines h.ending)
+
+  due_prints : (due : Due) (s : Status) → IsDue words left left' due → s ≡ due.status → Grows held due.text held' → s ≡ status.Done
+      → Prints words left left' held held'
+  due_prints due s (inl h) answered written done = not_done _ _ (due_says due _ s _ answered h.is done) (omega arith)
+  due_prints due s (inr h) answered written done =
+      command_prints h.order.command h.order.steps h.given due s answered written done h.of_command
+
+  cut_prints : (s : Status) (faults faults' : ℕ) (P : Type 0) → IsCutShort s faults faults' → s ≡ status.Done → P
+  cut_prints s faults faults' P (inl h) done = not_done status.WriteFault P (sym h.0 ∙ done) (omega arith)
+  cut_prints s faults faults' P (inr h) done = not_done status.NoMemory P (sym h ∙ done) (omega arith)
+
+  -- a run that answers that a readable proof is written
+  pub prints : (g g' f f' : ℕ) (s : Status) → Ends words left left' g g' f f' held held' s → s ≡ status.Done → Prints words left left' held held'
+  prints g g' f f' s (inl h) done = by_answer h.answered
+    where
+      by_answer : IsAnswered h.due s f f' held held' → Prints words left left' held held'
+      by_answer (inl a) = due_prints h.due s h.cause a.0 a.1 done
+      by_answer (inr a) = cut_prints s f f' _ a.0 done
+  prints g g' f f' s (inr (inl h)) done = not_done status.ReadFault _ (sym h.is ∙ done) (omega arith)
+  prints g g' f f' s (inr (inr h)) done = not_done status.NoMemory _ (sym h.is ∙ done) (omega arith)
+
 -- COMPLETENESS
 module _ (words : List (List ℕ)) (one : GivesOne words) (left left' held held' : Option (List ℕ)) where
   -- a run with no fault answers what is called for, or runs out of memory
-  pub completes : (g g' f f' : ℕ) (s : Status) → Ends words left left' g g' f f' held held' s → (bytes : List ℕ) (due : Due)
-      → left ≡ Some bytes → IsCalledFor words bytes due → ¬ (HasRisen g g') → ¬ (HasRisen f f')
-      → (s ≡ status.NoMemory) ⊎ ((s ≡ due.status) × Grows held due.text held')
-  completes g g' f f' s (inl h) bytes due told called calm calm' = by_answer h.answered
+  pub completes : (g g' f f' : ℕ) (s : Status) → Ends words left left' g g' f f' held held' s → (due : Due) → IsCalledFor words left due
+      → ¬ (HasRisen g g') → ¬ (HasRisen f f') → (s ≡ status.NoMemory) ⊎ ((s ≡ due.status) × Grows held due.text held')
+  completes g g' f f' s (inl h) due called calm calm' = by_answer h.answered
     where
       same : due ≡ h.due
-      same = called_is_due words one bytes left' due h.due called (subst (λ l. IsDue words l left' h.due) told h.cause)
+      same = called_is_due words one left left' due h.due called h.cause
 
       by_answer : IsAnswered h.due s f f' held held' → (s ≡ status.NoMemory) ⊎ ((s ≡ due.status) × Grows held due.text held')
       by_answer (inl a) =
           inr (a.0 ∙ ap (λ (d : Due). d.status) (sym same), subst (λ (d : Due). Grows held d.text held') (sym same) a.1)
       by_answer (inr ((inl cut), part)) = absurd (calm' cut.1)
       by_answer (inr ((inr cut), part)) = inl cut
-  completes g g' f f' s (inr (inl h)) bytes due told called calm calm' = absurd (calm h.fault)
-  completes g g' f f' s (inr (inr h)) bytes due told called calm calm' = inl h.is
+  completes g g' f f' s (inr (inl h)) due called calm calm' = absurd (calm h.fault)
+  completes g g' f f' s (inr (inr h)) due called calm calm' = inl h.is
 
 -- WORDS THAT ARE NO COMMAND
 pub misused : (words : List (List ℕ)) (left held held' : Option (List ℕ)) (g f f' : ℕ) (s : Status) → IsNoCommand words
@@ -193,19 +297,41 @@ misused words left held held' g f f' s none h = inl (record {
   answered = h;
 })
 
--- they call for nothing
-pub uncalled : (words : List (List ℕ)) (bytes : List ℕ) (due : Due) (P : Type 0) → IsNoCommand words → IsCalledFor words bytes due → P
-uncalled words bytes due P none (inl (n, command, call)) = absurd (none.no_prove n command)
-uncalled words bytes due P none (inr (n, command, call)) = absurd (none.no_check n command)
+-- where no order is read there is none
+pub no_order : (words : List (List ℕ)) (answer : Option Order) → ((order : Order) → IsOrder words order → answer ≡ Some order) → answer ≡ None
+    → IsNoCommand words
+no_order words answer complete is order given = let no : ◌≡◌ {A = Option Order} None (Some order) = sym is ∙ complete order given in cc
 
 -- WORDS THAT ARE A COMMAND
-pub ordered_prove : (words : List (List ℕ)) (answer : Option Task) (steps : ℕ) → answer ≡ Some (task.Prove steps) → IfSome answer (IsTask words)
-    → IsProve words steps
-ordered_prove words answer steps is h = subst (λ (a : Option Task). IfSome a (IsTask words)) is h
+-- the number of a generated program
+pub has_number : (words : List (List ℕ)) (command : Command) → IsRow words command → HasNumber command
+has_number words Prove row = tt
+has_number words Check row = tt
+has_number words Text row = tt
+has_number words (Bench number) (text, is, written, some, few) = (some, few)
 
-pub ordered_check : (words : List (List ℕ)) (answer : Option Task) (steps : ℕ) → answer ≡ Some (task.Check steps) → IfSome answer (IsTask words)
-    → IsCheck words steps
-ordered_check words answer steps is h = subst (λ (a : Option Task). IfSome a (IsTask words)) is h
+module _ (words : List (List ℕ)) (one : GivesOne words) (order : Order) (given : IsOrder words order) where
+  -- which command it is
+  same_command : (number steps : ℕ) → IsBenchOf words number steps → order.command ≡ Bench number
+  same_command number steps bench = ap (λ (o : Order). o.command) (one order (record { command = Bench number; steps = steps }) given bench)
+
+  -- what the command answered is an end of the run
+  pub ends_in : (left left' held held' : Option (List ℕ)) (g g' f f' : ℕ) (s : Status)
+      → AnswersCommand order.command order.steps left left' g g' f f' held held' s → Ends words left left' g g' f f' held held' s
+  ends_in left left' held held' g g' f f' s (inl (inl (due, h, answered))) =
+      inl (record { due = due; cause = inr (record { order = order; given = given; of_command = h }); answered = answered })
+  ends_in left left' held held' g g' f f' s (inl (inr out)) = inr (inr out)
+  ends_in left left' held held' g g' f f' s (inr (reads, is, risen, kept)) =
+      inr (inl (record { is = is; command = command; fault = risen; unwritten = kept }))
+    where
+      command : ReadsNothing words → ⊥
+      command (inl none) = none order given
+      command (inr (number, steps, bench)) = reads number (same_command number steps bench)
+
+  -- the words read nothing only where the command is `bench`
+  pub reads_nothing : (P : Type 0) → ((number : ℕ) → order.command ≡ Bench number → P) → ReadsNothing words → P
+  reads_nothing P unread (inl none) = absurd (none order given)
+  reads_nothing P unread (inr (number, steps, bench)) = unread number (same_command number steps bench)
 
 -- what is within the limit of a program is within that of a log
 pub takes_more : (left left' : Option (List ℕ)) → Takes program_limit left left' → Takes log_limit left left'

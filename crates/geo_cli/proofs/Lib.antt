@@ -3,4 +3,5 @@ pub mod OneDue
 pub mod Answered
 pub mod ReadLogs
 pub mod Reported
+pub mod Benched
 pub mod Ended

@@ -1,14 +1,13 @@
 -- One thing is due at most for words and for a source that tells its bytes.
-use Rattle.std.proofs.Common.{◌≡◌, ℕ, ◌<◌, ◌≤◌, inl, inr, List, [], ◌∷◌, ◌++◌, map, length, codes, Option, Some, None, refl, sym, ap, subst, ◌∙◌, append-nil, length-append, arith}
+use Rattle.std.proofs.Common.{◌≡◌, ℕ, zero, suc, ◌<◌, ◌≤◌, inl, inr, List, [], ◌∷◌, ◌++◌, map, length, codes, Option, Some, None, refl, sym, ap, subst, ◌∙◌, append-nil, length-append, length-map, map-append, arith}
 use Rattle.geo_cli.specs.declared.order.Command.{Command}
-use Rattle.geo_cli.specs.declared.order.Command.TheVariants.{Check, Prove}
+use Rattle.geo_cli.specs.declared.order.Command.TheVariants.{Bench, Check, Prove, Text}
 use Rattle.geo_cli.specs.declared.order.Order.{Order}
-use Rattle.geo_cli.specs.declared.status.Status.TheVariants.{Syntax}
-use Rattle.geo_cli.specs.Due.{Due, IsAcceptedDue, IsCalledFor, IsDue, IsDueFor, IsDueForLog, IsLogDue, IsReadCall, IsReadDue, IsRefusalDue, IsRejectionDue, conditions_text, refusal_line, syntax_line}
+use Rattle.geo_cli.specs.declared.status.Status.TheVariants.{Done, Syntax}
+use Rattle.geo_cli.specs.Due.{Due, IsAcceptedDue, IsBenchDue, IsCalledFor, IsCommandCall, IsCommandDue, IsDue, IsDueFor, IsDueForLog, IsDueForText, IsLogDue, IsReadCall, IsReadDue, IsReadableDue, IsRefusalDue, IsRejectionDue, bench_text, conditions_text, refusal_line, syntax_line}
 use Rattle.geo_cli.specs.Input.{IsInput, IsLong, log_limit, program_limit}
 use Rattle.geo_cli.specs.Orders.{IsOrder}
 use Rattle.geo_cli.specs.Status.{ending_status, refusal_status, verdict_status}
-use Rattle.geo_cli.specs.Words.{IsCheck, IsProve}
 use Rattle.geo_conditions.specs.Lists.{AreConditionItems, Found, ItemForm, all_found, condition_item}
 use Rattle.geo_conditions.proofs.Listings.{listed_once}
 use Rattle.geo_conditions.proofs.SamePrograms.{same_programs_mean_the_same}
@@ -17,11 +16,18 @@ use Rattle.geo_logs.specs.Ends.{Ending}
 use Rattle.geo_logs.proofs.OneList.{defined_log_unique}
 use Rattle.elim_apply.specs.LemmaTable.{lemma_table}
 use Rattle.geo_parser.proofs.SpeltTexts.{one_refusal}
+use Rattle.geo_lowering.specs.StepForms.{step_form}
+use Rattle.geo_lowering.proofs.Alike.{lowered_forms_agree, same_programs_lower_alike}
 use Rattle.geo_program.specs.CanonicalText.{line_text}
+use Rattle.geo_program.specs.declared.commands.Command.TheVariants.{Midpoint}
+use Rattle.geo_program.specs.Forms.{command_form}
 use Rattle.geo_program.specs.Programs.{source_of}
+use Rattle.geo_program.specs.Spelling.{SameSource}
 use Rattle.geo_program.specs.WellFormed.{IsWellFormed, Source}
 use Rattle.geo_program.proofs.OneProgram.{spells_one}
 use Rattle.geo_program.proofs.OneText.{same_lines, same_text}
+use Rattle.geo_program.proofs.Propositions.{program_well_formed}
+use Rattle.geo_prover.specs.Bench.{IsBench, bench_commands, corner, middles, quadrangle_commands}
 use Rattle.geo_prover.specs.Proving.{IsLogOf}
 use Rattle.log_checker.specs.Subjects.{source_lines}
 use Rattle.log_checker.proofs.AcceptedBytes.{accepted_bytes_tell_programs}
@@ -30,6 +36,8 @@ use Rattle.log_checker.proofs.OneStop.{bytes_are_refused_once}
 use Rattle.log_checker.proofs.OneSubject.{subjects_agree}
 use Rattle.proof_log.specs.declared.log.Line.{Line}
 use Rattle.proof_log.specs.Lines.{log_text, verdict_text}
+use Rattle.proof_printer.proofs.OneProof.{readable_proof_is_unique}
+use Rattle.geo_terms.specs.Stores.{Store}
 
 -- THE BYTES OF AN INPUT
 
@@ -124,6 +132,63 @@ one_due_for_log steps bytes due other (inr h) (inl g) =
     absurd (accepted_bytes_are_not_refused bytes steps h.number g.program g.verdict h.refusal g.accepted h.refused)
 one_due_for_log steps bytes due other (inr h) (inr g) = one_rejection_due steps bytes due other h g
 
+-- an accepted log calls for one proof
+one_readable_due : (steps : ℕ) (bytes : List ℕ) (due other : Due) → IsReadableDue steps bytes due → IsReadableDue steps bytes other → due ≡ other
+one_readable_due steps bytes due other h g =
+    let same : h.text ≡ g.text = readable_proof_is_unique bytes steps steps h.text g.text h.readable g.readable in
+    h.is ∙ (λ i. record { text = same i; status = Done }) ∙ sym g.is
+
+-- one thing is due at most for a log that is to be printed
+one_due_for_text : (steps : ℕ) (bytes : List ℕ) (due other : Due) → IsDueForText steps bytes due → IsDueForText steps bytes other → due ≡ other
+one_due_for_text steps bytes due other (inl h) (inl g) = one_readable_due steps bytes due other h g
+one_due_for_text steps bytes due other (inl h) (inr g) =
+    let r = h.readable in absurd (accepted_bytes_are_not_refused bytes steps g.number r.program r.verdict g.refusal r.accepted g.refused)
+one_due_for_text steps bytes due other (inr h) (inl g) =
+    let r = g.readable in absurd (accepted_bytes_are_not_refused bytes steps h.number r.program r.verdict h.refusal r.accepted h.refused)
+one_due_for_text steps bytes due other (inr h) (inr g) = one_rejection_due steps bytes due other h g
+
+-- WHAT A NUMBER CALLS FOR
+
+-- the commands have the same forms over any store
+quadrangle_forms : (np nq : Store) (n : ℕ) → map (command_form np) (quadrangle_commands n) ≡ map (command_form nq) (quadrangle_commands n)
+quadrangle_forms np nq zero = refl
+quadrangle_forms np nq (suc n) =
+    map-append (command_form np) (quadrangle_commands n) (middles n)
+    ∙ ap (λ forms. forms ++ map (command_form nq) (middles n)) (quadrangle_forms np nq n)
+    ∙ sym (map-append (command_form nq) (quadrangle_commands n) (middles n))
+
+bench_forms : (np nq : Store) (n : ℕ) → map (command_form np) (bench_commands n) ≡ map (command_form nq) (bench_commands n)
+bench_forms np nq n =
+    let last = Midpoint (corner 0 n) (corner 2 n) ∷ Midpoint (corner 0 1) (corner 2 1) ∷ [] in
+    map-append (command_form np) (quadrangle_commands n) last
+    ∙ ap (λ forms. forms ++ map (command_form nq) last) (quadrangle_forms np nq n)
+    ∙ sym (map-append (command_form nq) (quadrangle_commands n) last)
+
+-- a number has one program
+one_bench : (n : ℕ) (p q : Source) → IsBench n p → IsBench n q → SameSource p q
+one_bench n p q h g = record {
+  names = h.names ∙ sym g.names;
+  commands = ap (map (command_form p.nodes)) h.commands ∙ bench_forms p.nodes q.nodes n ∙ ap (map (command_form q.nodes)) (sym g.commands);
+  statement = h.statement ∙ sym g.statement;
+}
+
+-- a number calls for one text
+one_bench_due : (number steps : ℕ) (due other : Due) → IsBenchDue number steps due → IsBenchDue number steps other → due ≡ other
+one_bench_due number steps due other h g =
+    let p = source_of h.program in
+    let q = source_of g.program in
+    let same = one_bench number p q h.made g.made in
+    let lines : source_lines p ≡ source_lines q = ap (map line_text) (same_lines p q same) in
+    let one = one_log p q steps h.lines g.lines h.ending g.ending (program_well_formed h.program) (program_well_formed g.program) lines h.log g.log in
+    let a = h.form.construction in
+    let b = g.form.construction in
+    let forms = lowered_forms_agree q h.form g.form (same_programs_lower_alike p q h.form same h.lowered) g.lowered in
+    let points : length a.steps ≡ length b.steps =
+    sym (length-map a.steps (step_form a.nodes)) ∙ ap length forms.steps ∙ length-map b.steps (step_form b.nodes) in
+    h.is
+    ∙ (λ i. record { text = bench_text number (points i) steps (one.0 i) (one.1 i); status = ending_status (one.0 i) (one.1 i) })
+    ∙ sym g.is
+
 -- WHAT THE WORDS CALL FOR
 
 -- the words give one order at most
@@ -132,35 +197,27 @@ GivesOne words = (a b : Order) → IsOrder words a → IsOrder words b → a ≡
 
 -- where one thing is due at most for each input, what is called for is what is due
 one_read : (limit : ℕ) (For : List ℕ → Due → Type 0) → ((bytes : List ℕ) (due other : Due) → For bytes due → For bytes other → due ≡ other)
-    → (bytes : List ℕ) (left' : Option (List ℕ)) (due other : Due) → IsReadCall limit For bytes due → IsReadDue limit For (Some bytes) left' other
-    → due ≡ other
-one_read limit For one bytes left' due other (inl h) (inl g) = h.1 ∙ sym g.1
-one_read limit For one bytes left' due other (inl h) (inr g) = absurd (not_past limit bytes g.0 left' g.1 h.0)
-one_read limit For one bytes left' due other (inr h) (inl g) =
+    → (left left' : Option (List ℕ)) (due other : Due) → IsReadCall limit For left due → IsReadDue limit For left left' other → due ≡ other
+one_read limit For one None left' due other call g = absurd call
+one_read limit For one (Some bytes) left' due other (inl h) (inl g) = h.1 ∙ sym g.1
+one_read limit For one (Some bytes) left' due other (inl h) (inr g) = absurd (not_past limit bytes g.0 left' g.1 h.0)
+one_read limit For one (Some bytes) left' due other (inr h) (inl g) =
     let long = long_is_longer limit bytes left' g.0 in absurd (let no : ⊥ = omega (arith, h.0, long) in no)
-one_read limit For one bytes left' due other (inr h) (inr g) =
+one_read limit For one (Some bytes) left' due other (inr h) (inr g) =
     one bytes due other h.1 (subst (λ xs. For xs other) (input_is_all limit bytes g.0 left' g.1) g.2)
 
-module _ (words : List (List ℕ)) (one : GivesOne words) (bytes : List ℕ) (left' : Option (List ℕ)) where
-  -- the words are not both commands
-  not_both : (n m : ℕ) → IsProve words n → IsCheck words m → ⊥
-  not_both n m p c =
-      let same : ◌≡◌ {A = Command} Prove Check =
-      ap (λ (o : Order). o.command) (one (record { command = Prove; steps = n }) (record { command = Check; steps = m }) p c) in cc
+one_command : (command : Command) (steps : ℕ) (left left' : Option (List ℕ)) (due other : Due) → IsCommandCall command steps left due
+    → IsCommandDue command steps left left' other → due ≡ other
+one_command Prove steps left left' due other = one_read program_limit (IsDueFor steps) (one_due_for steps) left left' due other
+one_command Check steps left left' due other = one_read log_limit (IsDueForLog steps) (one_due_for_log steps) left left' due other
+one_command Text steps left left' due other = one_read log_limit (IsDueForText steps) (one_due_for_text steps) left left' due other
+one_command (Bench number) steps left left' due other h g = one_bench_due number steps due other h g.1
 
-  -- what is called for is what is due
-  pub called_is_due : (due other : Due) → IsCalledFor words bytes due → IsDue words (Some bytes) left' other → due ≡ other
-  called_is_due due other (inl (n, p, call)) (inl g) = absurd (g.no_command.no_prove n p)
-  called_is_due due other (inr (n, c, call)) (inl g) = absurd (g.no_command.no_check n c)
-  called_is_due due other (inl (n, p, call)) (inr (inr g)) = absurd (not_both n g.steps p g.command)
-  called_is_due due other (inr (n, c, call)) (inr (inl g)) = absurd (not_both g.steps n g.command c)
-  called_is_due due other (inl (n, p, call)) (inr (inl g)) =
-      let same : g.steps ≡ n =
-      ap (λ (o : Order). o.steps) (one (record { command = Prove; steps = g.steps }) (record { command = Prove; steps = n }) g.command p) in
-      one_read program_limit (IsDueFor n) (one_due_for n) bytes left' due other call
-      (subst (λ k. IsReadDue program_limit (IsDueFor k) (Some bytes) left' other) same g.of_input)
-  called_is_due due other (inr (n, c, call)) (inr (inr g)) =
-      let same : g.steps ≡ n =
-      ap (λ (o : Order). o.steps) (one (record { command = Check; steps = g.steps }) (record { command = Check; steps = n }) g.command c) in
-      one_read log_limit (IsDueForLog n) (one_due_for_log n) bytes left' due other call
-      (subst (λ k. IsReadDue log_limit (IsDueForLog k) (Some bytes) left' other) same g.of_input)
+-- what is called for is what is due
+pub called_is_due : (words : List (List ℕ)) → GivesOne words → (left left' : Option (List ℕ)) (due other : Due) → IsCalledFor words left due
+    → IsDue words left left' other → due ≡ other
+called_is_due words one left left' due other (order, given, call) (inl g) = absurd (g.no_command order given)
+called_is_due words one left left' due other (order, given, call) (inr g) =
+    let same : g.order ≡ order = one g.order order g.given given in
+    one_command order.command order.steps left left' due other call
+    (subst (λ (o : Order). IsCommandDue o.command o.steps left left' other) same g.of_command)

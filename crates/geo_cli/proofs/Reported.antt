@@ -1,11 +1,12 @@
--- What `check` tells of a log is what is due for it.
+-- What `check` and `text` tell of a log is what is due for it.
 use Rattle.std.proofs.Common.{◌≡◌, ◌⊎◌, ℕ, suc, ◌+◌, ◌<◌, ◌≤◌, inl, inr, List, [], ◌∷◌, ◌++◌, length, get_or, drop, map, codes, Option, Result, Ok, Err, refl, sym, ap, subst, ◌∙◌, append_assoc, append-nil, arith}
 use Rattle.std.proofs.lemmas.List.{drop_all, drop_more}
 use Rattle.std.specs.Fmt.{decimal}
 use Rattle.std.specs.Prelude.{IfErr, IfOk}
 use Rattle.geo_cli.specs.declared.status.Status.{Status}
-use Rattle.geo_cli.specs.Due.{Due, IsDueForLog, conditions_text}
-use Rattle.geo_cli.specs.Inner.Answering.{AnswersLog}
+use Rattle.geo_cli.specs.declared.status.Status.TheVariants.{Done}
+use Rattle.geo_cli.specs.Due.{Due, IsRejectionDue, conditions_text}
+use Rattle.geo_cli.specs.Inner.Answering.{AnswersLog, AnswersRefusal, AnswersText}
 use Rattle.geo_cli.specs.Inner.Judgements.{IsAcceptedText, IsJudgement, IsRefusal, condition_line, condition_lines, error_line, error_status}
 use Rattle.geo_cli.specs.Run.{IsAnswered}
 use Rattle.geo_cli.specs.Status.{verdict_status}
@@ -27,6 +28,7 @@ use Rattle.log_checker.proofs.ReadLines.{bytes_are_read}
 use Rattle.proof_log.specs.declared.log.Line.{Line}
 use Rattle.proof_log.specs.declared.log.Verdict.{Verdict}
 use Rattle.proof_log.specs.Lines.{verdict_text}
+use Rattle.proof_printer.specs.Proofs.{IsReadableProof}
 
 -- JUDGEMENTS
 pub judged_ok : (bytes : List ℕ) (steps : ℕ) (answer : Result Accepted CheckError) (accepted : Accepted) → answer ≡ Ok accepted
@@ -73,23 +75,23 @@ log_refused bytes steps n r (inr h) = h
 
 -- the line of a refusal is due
 pub error_due : (bytes : List ℕ) (steps : ℕ) (e : CheckError) → IsRefusal e → TellsStop (IsRefusedLog bytes steps) e
-    → IsDueForLog steps bytes (record { text = error_line e; status = error_status e })
+    → IsRejectionDue steps bytes (record { text = error_line e; status = error_status e })
 error_due bytes steps (error.Rejected line reason) is (r, number, h) =
-    inr (record {
+    record {
       number = line;
       refusal = rejected r;
       refused = log_refused bytes steps line (rejected r) h;
       is = λ i. record { text = error_line (error.Rejected line (number i)); status = error_status (error.Rejected line (number i)) };
-    })
+    }
 error_due bytes steps (error.TooLarge line which) is h =
-    inr (record { number = line; refusal = stopped (too_large which); refused = log_refused bytes steps line (stopped (too_large which)) h; is = refl })
+    record { number = line; refusal = stopped (too_large which); refused = log_refused bytes steps line (stopped (too_large which)) h; is = refl }
 error_due bytes steps (error.Spent line) is h =
-    inr (record { number = line; refusal = stopped spent; refused = log_refused bytes steps line (stopped spent) h; is = refl })
+    record { number = line; refusal = stopped spent; refused = log_refused bytes steps line (stopped spent) h; is = refl }
 error_due bytes steps error.NoMemory is h = absurd is
 
 module _ (steps : ℕ) (bytes : List ℕ) (f f' : ℕ) (held held' : Option (List ℕ)) (s : Status) where
   pub refusal_told : (e : CheckError) (text : List ℕ) (status : Status) → IsRefusal e → TellsStop (IsRefusedLog bytes steps) e → text ≡ error_line e
-      → status ≡ error_status e → IsAnswered (record { text = text; status = status }) s f f' held held' → AnswersLog steps bytes f f' held held' s
+      → status ≡ error_status e → IsAnswered (record { text = text; status = status }) s f f' held held' → AnswersRefusal steps bytes f f' held held' s
   refusal_told e text status is h same same' answered =
       inl (
         record { text = error_line e; status = error_status e },
@@ -112,6 +114,11 @@ module _ (steps : ℕ) (bytes : List ℕ) (f f' : ℕ) (held held' : Option (Lis
         }),
         answered,
       )
+
+  pub proof_told : (text : List ℕ) → IsReadableProof bytes steps text → IsAnswered (record { text = text; status = Done }) s f f' held held'
+      → AnswersText steps bytes f f' held held' s
+  proof_told text readable answered =
+      inl (record { text = text; status = Done }, inl (record { text = text; readable = readable; is = refl }), answered)
 
 -- ACCEPTED LOGS
 -- the lines of the items

@@ -1,10 +1,9 @@
 //! The command `check`: a log is read, and told to be accepted or refused.
 ghost use Rattle.std.specs.Prelude.{◌≡◌, ◌≢◌, ◌≤◌, ℕ, List};
-ghost use Rattle.geo_cli.specs.Inner.Answering.{AnswersLog};
+ghost use Rattle.geo_cli.specs.Due.{IsDueForLog};
+ghost use Rattle.geo_cli.specs.Inner.Answering.{AnswersInput, AnswersLog};
 ghost use Rattle.geo_cli.specs.Inner.Judgements.{IsJudgement};
 ghost use Rattle.geo_cli.specs.Input.{Takes, log_limit};
-ghost use Rattle.geo_cli.specs.Run.{Ends};
-ghost use Rattle.geo_cli.specs.Words.{IsCheck};
 ghost use Rattle.geo_program.specs.Programs.{source_of};
 ghost use Rattle.log_checker.specs.Accepted.{Accepts};
 
@@ -27,10 +26,9 @@ pub fn run_check<S: Source, K: Sink>(
     source: &mut S,
     sink: &mut K,
 ) -> Status
-    ensures ends { (words : List (List ℕ)) → IsCheck words steps
-        → Ends words (S.left source.old) (S.left source.new)
-        (S.faults source.old) (S.faults source.new) (K.faults sink.old) (K.faults sink.new)
-        (K.held sink.old) (K.held sink.new) result }
+    ensures answers { AnswersInput log_limit (IsDueForLog steps)
+        (S.left source.old) (S.left source.new) (S.faults source.old) (S.faults source.new)
+        (K.faults sink.old) (K.faults sink.new) (K.held sink.old) (K.held sink.new) result }
     ensures unwritten { result ≡ Status.ReadFault → sink.new ≡ sink.old }
     ensures taken { Takes log_limit (S.left source.old) (S.left source.new) }
     ensures source_faults { S.faults source.old ≤ S.faults source.new }

@@ -1,9 +1,8 @@
 //! The command `text`: a log is read, and its readable proof written.
-ghost use Rattle.std.specs.Prelude.{◌≡◌, ◌≢◌, ◌≤◌, ℕ, List, length};
-ghost use Rattle.geo_cli.specs.Inner.Answering.{AnswersText};
+ghost use Rattle.std.specs.Prelude.{◌≡◌, ◌≢◌, ◌≤◌, length};
+ghost use Rattle.geo_cli.specs.Due.{IsDueForText};
+ghost use Rattle.geo_cli.specs.Inner.Answering.{AnswersInput, AnswersText};
 ghost use Rattle.geo_cli.specs.Input.{Takes, log_limit};
-ghost use Rattle.geo_cli.specs.Run.{Ends};
-ghost use Rattle.geo_cli.specs.Words.{IsText};
 
 use crate::answers::{TOO_LONG, answer};
 use crate::judging::LOG_LIMIT;
@@ -21,10 +20,9 @@ pub fn run_text<S: Source, K: Sink>(
     source: &mut S,
     sink: &mut K,
 ) -> Status
-    ensures ends { (words : List (List ℕ)) → IsText words steps
-        → Ends words (S.left source.old) (S.left source.new)
-        (S.faults source.old) (S.faults source.new) (K.faults sink.old) (K.faults sink.new)
-        (K.held sink.old) (K.held sink.new) result }
+    ensures answers { AnswersInput log_limit (IsDueForText steps)
+        (S.left source.old) (S.left source.new) (S.faults source.old) (S.faults source.new)
+        (K.faults sink.old) (K.faults sink.new) (K.held sink.old) (K.held sink.new) result }
     ensures unwritten { result ≡ Status.ReadFault → sink.new ≡ sink.old }
     ensures taken { Takes log_limit (S.left source.old) (S.left source.new) }
     ensures source_faults { S.faults source.old ≤ S.faults source.new }

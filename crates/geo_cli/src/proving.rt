@@ -1,10 +1,8 @@
 //! The command `prove`: a program is read, and its log written.
 ghost use Rattle.std.specs.Prelude.{◌≡◌, ◌≢◌, ◌≤◌, ℕ, List, length};
-ghost use Rattle.geo_cli.specs.Due.{IsNoProgram};
-ghost use Rattle.geo_cli.specs.Inner.Answering.{AnswersBytes};
+ghost use Rattle.geo_cli.specs.Due.{IsDueFor, IsNoProgram};
+ghost use Rattle.geo_cli.specs.Inner.Answering.{AnswersBytes, AnswersInput};
 ghost use Rattle.geo_cli.specs.Input.{Takes, program_limit};
-ghost use Rattle.geo_cli.specs.Run.{Ends};
-ghost use Rattle.geo_cli.specs.Words.{IsProve};
 ghost use Rattle.geo_program.specs.Programs.{Spells};
 
 use crate::answers::{TOO_LONG, answer, syntax_line};
@@ -27,10 +25,9 @@ pub fn run_prove<S: Source, K: Sink>(
     source: &mut S,
     sink: &mut K,
 ) -> Status
-    ensures ends { (words : List (List ℕ)) → IsProve words steps
-        → Ends words (S.left source.old) (S.left source.new)
-        (S.faults source.old) (S.faults source.new) (K.faults sink.old) (K.faults sink.new)
-        (K.held sink.old) (K.held sink.new) result }
+    ensures answers { AnswersInput program_limit (IsDueFor steps)
+        (S.left source.old) (S.left source.new) (S.faults source.old) (S.faults source.new)
+        (K.faults sink.old) (K.faults sink.new) (K.held sink.old) (K.held sink.new) result }
     ensures unwritten { result ≡ Status.ReadFault → sink.new ≡ sink.old }
     ensures taken { Takes program_limit (S.left source.old) (S.left source.new) }
     ensures source_faults { S.faults source.old ≤ S.faults source.new }

@@ -1,8 +1,10 @@
 //! A run of the program, over any source and sink.
-ghost use Rattle.std.specs.Prelude.{◌≡◌, ◌≤◌, ◌⊎◌};
+ghost use Rattle.std.specs.Prelude.{◌≡◌, ◌≤◌, ◌⊎◌, ℕ};
 ghost use Rattle.geo_base.specs.Devices.{Grows, HasRisen};
 ghost use Rattle.geo_cli.specs.Due.{Due, IsCalledFor};
+ghost use Rattle.geo_cli.specs.Inner.Answering.{AnswersCommand, HasNumber};
 ghost use Rattle.geo_cli.specs.Input.{Takes, log_limit};
+ghost use Rattle.geo_cli.specs.declared.order.Command.TheVariants.{Bench};
 ghost use Rattle.geo_cli.specs.Run.{Ends, IsDecided, Prints};
 ghost use Rattle.geo_cli.specs.Status.{verdict_status};
 ghost use Rattle.geo_cli.specs.Words.{ReadsNothing, bytes_of_words};
@@ -11,7 +13,7 @@ ghost use Rattle.proof_log.specs.declared.log.Verdict.{Verdict};
 use crate::answers::{USAGE, answer};
 use crate::benching::run_bench;
 use crate::checking::run_check;
-use crate::order::{Command, order_of};
+use crate::order::{Command, Order, order_of};
 use crate::printing::run_text;
 use crate::proving::run_prove;
 use crate::status::Status;
@@ -50,9 +52,29 @@ pub fn run<S: Source, K: Sink>(
     ensures source_faults { S.faults source.old ≤ S.faults source.new }
     ensures sink_faults { K.faults sink.old ≤ K.faults sink.new }
 {
-    let Some(order) = order_of(words) else {
-        return answer(sink, USAGE, Status::Usage);
-    };
+    match order_of(words) {
+        Some(order) => carry_out(alloc, order, source, sink),
+        None => answer(sink, USAGE, Status::Usage),
+    }
+}
+
+/// Carries out an order.
+fn carry_out<S: Source, K: Sink>(
+    alloc: Global,
+    order: Order,
+    source: &mut S,
+    sink: &mut K,
+) -> Status
+    requires { HasNumber order.command }
+    ensures answers { AnswersCommand order.command order.steps
+        (S.left source.old) (S.left source.new) (S.faults source.old) (S.faults source.new)
+        (K.faults sink.old) (K.faults sink.new) (K.held sink.old) (K.held sink.new) result }
+    ensures unwritten { result ≡ Status.ReadFault → sink.new ≡ sink.old }
+    ensures taken { Takes log_limit (S.left source.old) (S.left source.new) }
+    ensures unread { (number : ℕ) → order.command ≡ Bench number → source.new ≡ source.old }
+    ensures source_faults { S.faults source.old ≤ S.faults source.new }
+    ensures sink_faults { K.faults sink.old ≤ K.faults sink.new }
+{
     match order.command {
         Command::Prove => run_prove(alloc, order.steps, source, sink),
         Command::Check => run_check(alloc, order.steps, source, sink),

@@ -1,7 +1,11 @@
 -- What becomes of the bytes of an input.
-use Rattle.std.specs.Prelude.{◌⊎◌, ℕ, List, Option}
+use Rattle.std.specs.Prelude.{◌≡◌, ◌⊎◌, ◌≤◌, ℕ, List, Option}
+use Rattle.geo_base.specs.Devices.{HasRisen}
+use Rattle.geo_cli.specs.declared.order.Command.{Command}
+use Rattle.geo_cli.specs.declared.order.Command.TheVariants.{Bench}
 use Rattle.geo_cli.specs.declared.status.Status.{Status}
-use Rattle.geo_cli.specs.Due.{Due, IsDueFor, IsDueForLog, IsDueForText, IsRejectionDue}
+use Rattle.geo_cli.specs.declared.status.Status.TheVariants.{ReadFault}
+use Rattle.geo_cli.specs.Due.{Due, IsCommandDue, IsDueFor, IsDueForLog, IsDueForText, IsReadDue, IsRejectionDue}
 use Rattle.geo_cli.specs.Run.{IsAnswered, RunsOut}
 
 -- something that is due was answered, or memory ran out before
@@ -24,3 +28,22 @@ AnswersText steps bytes = AnswersDue (IsDueForText steps bytes)
 -- what both are to write of a log that is refused
 abbrev pub AnswersRefusal : ℕ → List ℕ → ℕ → ℕ → Option (List ℕ) → Option (List ℕ) → Status → Type 0
 AnswersRefusal steps bytes = AnswersDue (IsRejectionDue steps bytes)
+
+-- what a command with this limit is to write of its input was answered; or a read failed and nothing was written; or memory ran out before
+abbrev pub AnswersInput :
+    ℕ → (List ℕ → Due → Type 0) → Option (List ℕ) → Option (List ℕ) → ℕ → ℕ → ℕ → ℕ → Option (List ℕ) → Option (List ℕ) → Status → Type 0
+AnswersInput limit For left left' source_faults source_faults' faults faults' held held' status =
+    AnswersDue (IsReadDue limit For left left') faults faults' held held' status
+    ⊎ ((status ≡ ReadFault) × HasRisen source_faults source_faults' × (held' ≡ held))
+
+-- what a command is to write was answered; or it reads and a read failed, and nothing was written; or memory ran out before
+abbrev pub AnswersCommand :
+    Command → ℕ → Option (List ℕ) → Option (List ℕ) → ℕ → ℕ → ℕ → ℕ → Option (List ℕ) → Option (List ℕ) → Status → Type 0
+AnswersCommand command steps left left' source_faults source_faults' faults faults' held held' status =
+    AnswersDue (IsCommandDue command steps left left') faults faults' held held' status
+    ⊎ (((number : ℕ) → command ≡ Bench number → ⊥) × (status ≡ ReadFault) × HasRisen source_faults source_faults' × (held' ≡ held))
+
+-- a generated program has a number from 1 to 60
+abbrev pub HasNumber : Command → Type 0
+HasNumber (Bench number) = (1 ≤ number) × (number ≤ 60)
+HasNumber _ = Unit {0}

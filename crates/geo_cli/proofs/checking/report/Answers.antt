@@ -1,3 +1,6 @@
+use Rattle.std.proofs.Common.{inr}
+use Rattle.geo_cli.specs.Due.{IsDueForLog, IsRejectionDue}
+use Rattle.geo_cli.proofs.Answered.{answers_more}
 use Rattle.geo_cli.proofs.Reported.{judged_err, judged_ok}
 use Rattle.geo_cli.proofs.checking.report.Goals as goal
 
@@ -5,4 +8,6 @@ pub returns-in-Ok-clause-answers : goal.returns-in-Ok-clause-answers
 returns-in-Ok-clause-answers g c = λ steps bytes h. c.accept.ensures.answers steps bytes (judged_ok bytes steps _ _ c.in-Ok.is h).accepts
 
 pub returns-in-Err-clause-answers : goal.returns-in-Err-clause-answers
-returns-in-Err-clause-answers g c = λ steps bytes h. c.refuse.ensures.answers steps bytes (judged_err bytes steps _ _ c.in-Err.is h)
+returns-in-Err-clause-answers g c = λ steps bytes h.
+    answers_more (IsRejectionDue steps bytes) (IsDueForLog steps bytes) (λ due is. inr is) _ _ _ _ _
+    (c.refuse.ensures.answers steps bytes (judged_err bytes steps _ _ c.in-Err.is h))

@@ -1,16 +1,19 @@
 use Rattle.std.proofs.Common.{rules, refl}
-use Rattle.geo_cli.proofs.Answered.{of_fault, of_long_program, of_program}
+use Rattle.geo_cli.specs.Due.{IsDueFor}
+use Rattle.geo_cli.specs.Input.{program_limit}
+use Rattle.geo_cli.proofs.Answered.{of_fault, of_input, of_long}
 use Rattle.geo_cli.proofs.proving.run_prove.Goals as goal
 
-pub returns-in-Ok-clause-ends : goal.returns-in-Ok-clause-ends
-returns-in-Ok-clause-ends g c = λ words command.
-    of_program words _ _ _ _ _ _ _ _ _ _ _ command (record { lost = search rules; ended = search rules; short = search rules }) c.prove_bytes.ensures.answers
+pub returns-in-Ok-clause-answers : goal.returns-in-Ok-clause-answers
+returns-in-Ok-clause-answers g c =
+    of_input program_limit (IsDueFor c.args.steps) _ _ _ _ _ _ _ _ _ _ (record { lost = search rules; ended = search rules; short = search rules })
+    c.prove_bytes.ensures.answers
 
-pub returns-in-Err-TooLong-clause-ends : goal.returns-in-Err-TooLong-clause-ends
-returns-in-Err-TooLong-clause-ends g c = λ words command.
+pub returns-in-Err-TooLong-clause-answers : goal.returns-in-Err-TooLong-clause-answers
+returns-in-Err-TooLong-clause-answers g c =
     let h = c.read_all.ensures.too_long (search rules) in
-    of_long_program words _ _ _ _ _ _ _ _ _ _ command (record { taken = h.0; longer = h.1; lost = h.2 }) c.answer.ensures.answered
+    of_long program_limit (IsDueFor c.args.steps) _ _ _ _ _ _ _ _ _ (record { taken = h.0; longer = h.1; lost = h.2 }) c.answer.ensures.answered
 
-pub returns-in-Err-ReadFault-clause-ends : goal.returns-in-Err-ReadFault-clause-ends
-returns-in-Err-ReadFault-clause-ends g c = λ words command.
-    of_fault words _ _ _ _ _ _ _ _ _ (λ none. none.no_prove _ command) refl (c.read_all.ensures.fault (search rules)) refl
+pub returns-in-Err-ReadFault-clause-answers : goal.returns-in-Err-ReadFault-clause-answers
+returns-in-Err-ReadFault-clause-answers g c =
+    of_fault program_limit (IsDueFor c.args.steps) _ _ _ _ _ _ _ _ _ refl (c.read_all.ensures.fault (search rules)) refl

@@ -1,42 +1,31 @@
-use Rattle.std.proofs.Common.{rules, Some, ap, ◌∙◌}
-use Rattle.geo_cli.proofs.Ended.{completes, decides, misused, ordered_check, ordered_prove, takes_more, uncalled}
+use Rattle.std.proofs.Common.{rules, ◌≡◌}
+use Rattle.geo_cli.proofs.Ended.{completes, decides, ends_in, has_number, misused, no_order, prints, reads_nothing}
 use Rattle.geo_cli.proofs.run.run.Goals as goal
 
-pub returns-in-Some-Prove-clause-decides : goal.returns-in-Some-Prove-clause-decides
-returns-in-Some-Prove-clause-decides g c = λ verdict says.
-    let command = ordered_prove _ _ _ (c.in-Some-Prove.is ∙ ap Some c.in-Some-Prove.field-0-is) c.task_of.ensures.some in
-    decides _ _ _ _ _ verdict _ _ _ _ _ (c.run_prove.ensures.ends _ command) says
+pub carry_out-requires : goal.carry_out-requires
+carry_out-requires g c = has_number _ _ c.in-Some.ensures.given.row
 
-pub returns-in-Some-Prove-clause-ends : goal.returns-in-Some-Prove-clause-ends
-returns-in-Some-Prove-clause-ends g c =
-    let command = ordered_prove _ _ _ (c.in-Some-Prove.is ∙ ap Some c.in-Some-Prove.field-0-is) c.task_of.ensures.some in
-    c.run_prove.ensures.ends _ command
+pub returns-in-Some-clause-decides : goal.returns-in-Some-clause-decides
+returns-in-Some-clause-decides g c = λ verdict.
+    decides _ _ _ _ _ verdict _ _ _ _ _ (ends_in _ c.order_of.ensures.one _ c.in-Some.ensures.given _ _ _ _ _ _ _ _ _ c.carry_out.ensures.answers)
 
-pub returns-in-Some-Prove-clause-complete : goal.returns-in-Some-Prove-clause-complete
-returns-in-Some-Prove-clause-complete g c =
-    let command = ordered_prove _ _ _ (c.in-Some-Prove.is ∙ ap Some c.in-Some-Prove.field-0-is) c.task_of.ensures.some in
-    completes _ c.task_of.ensures.one _ _ _ _ _ _ _ _ _ (c.run_prove.ensures.ends _ command)
+pub returns-in-Some-clause-prints : goal.returns-in-Some-clause-prints
+returns-in-Some-clause-prints g c =
+    prints _ _ _ _ _ _ _ _ _ _ (ends_in _ c.order_of.ensures.one _ c.in-Some.ensures.given _ _ _ _ _ _ _ _ _ c.carry_out.ensures.answers)
 
-pub returns-in-Some-Prove-clause-taken : goal.returns-in-Some-Prove-clause-taken
-returns-in-Some-Prove-clause-taken g c = takes_more _ _ c.run_prove.ensures.taken
+pub returns-in-Some-clause-ends : goal.returns-in-Some-clause-ends
+returns-in-Some-clause-ends g c = ends_in _ c.order_of.ensures.one _ c.in-Some.ensures.given _ _ _ _ _ _ _ _ _ c.carry_out.ensures.answers
 
-pub returns-in-Some-Check-clause-decides : goal.returns-in-Some-Check-clause-decides
-returns-in-Some-Check-clause-decides g c = λ verdict says.
-    let command = ordered_check _ _ _ (c.in-Some-Check.is ∙ ap Some c.in-Some-Check.field-0-is) c.task_of.ensures.some in
-    decides _ _ _ _ _ verdict _ _ _ _ _ (c.run_check.ensures.ends _ command) says
+pub returns-in-Some-clause-complete : goal.returns-in-Some-clause-complete
+returns-in-Some-clause-complete g c =
+    completes _ c.order_of.ensures.one _ _ _ _ _ _ _ _ _
+    (ends_in _ c.order_of.ensures.one _ c.in-Some.ensures.given _ _ _ _ _ _ _ _ _ c.carry_out.ensures.answers)
 
-pub returns-in-Some-Check-clause-ends : goal.returns-in-Some-Check-clause-ends
-returns-in-Some-Check-clause-ends g c =
-    let command = ordered_check _ _ _ (c.in-Some-Check.is ∙ ap Some c.in-Some-Check.field-0-is) c.task_of.ensures.some in
-    c.run_check.ensures.ends _ command
-
-pub returns-in-Some-Check-clause-complete : goal.returns-in-Some-Check-clause-complete
-returns-in-Some-Check-clause-complete g c =
-    let command = ordered_check _ _ _ (c.in-Some-Check.is ∙ ap Some c.in-Some-Check.field-0-is) c.task_of.ensures.some in
-    completes _ c.task_of.ensures.one _ _ _ _ _ _ _ _ _ (c.run_check.ensures.ends _ command)
+pub returns-in-Some-clause-unread : goal.returns-in-Some-clause-unread
+returns-in-Some-clause-unread g c = reads_nothing _ c.order_of.ensures.one _ c.in-Some.ensures.given _ c.carry_out.ensures.unread
 
 pub returns-in-None-clause-ends : goal.returns-in-None-clause-ends
-returns-in-None-clause-ends g c = misused _ _ _ _ _ _ _ _ c.in-None.ensures.none c.answer.ensures.answered
+returns-in-None-clause-ends g c = misused _ _ _ _ _ _ _ _ (no_order _ _ c.order_of.ensures.complete c.in-None.is) c.answer.ensures.answered
 
 pub returns-in-None-clause-complete : goal.returns-in-None-clause-complete
-returns-in-None-clause-complete g c = λ bytes due told called calm calm'. uncalled _ bytes due _ c.in-None.ensures.none called
+returns-in-None-clause-complete g c = λ due called calm calm'. absurd (no_order _ _ c.order_of.ensures.complete c.in-None.is called.0 called.1)

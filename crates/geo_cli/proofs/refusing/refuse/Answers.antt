@@ -1,6 +1,6 @@
 use Rattle.std.proofs.Common.{◌≡◌, rules}
 use Rattle.geo_cli.proofs.Reported.{refusal_told}
-use Rattle.geo_cli.proofs.checking.refuse.Goals as goal
+use Rattle.geo_cli.proofs.refusing.refuse.Goals as goal
 
 pub returns-clause-answers : goal.returns-clause-answers
 returns-clause-answers g c = λ steps bytes tells.
