@@ -1,11 +1,9 @@
 //! The command `bench`: a generated program is proved, and told how its log ends.
-ghost use Rattle.std.specs.Prelude.{◌≡◌, ◌≢◌, ◌≤◌, ◌∷◌, ◌++◌, [], codes, ℕ, IfOk};
-ghost use Rattle.geo_cli.specs.Due.{IsBenchDue, count_line};
+ghost use Rattle.std.specs.Prelude.{◌≡◌, ◌≢◌, ◌≤◌, IfOk};
+ghost use Rattle.geo_cli.specs.Due.{IsBenchDue};
 ghost use Rattle.geo_cli.specs.Inner.Answering.{AnswersDue};
-ghost use Rattle.geo_cli.specs.Inner.Telling.{TellsEnding};
-ghost use Rattle.geo_cli.specs.Status.{verdict_status};
+ghost use Rattle.geo_cli.specs.Inner.Telling.{TellsEnding, stop_report, summary_report};
 ghost use Rattle.geo_program.specs.Programs.{source_of};
-ghost use Rattle.proof_log.specs.Lines.{line_text, verdict_text};
 ghost use Rattle.proof_log.specs.Writable.{IsWritable};
 
 use crate::answers::{answer, push_count, push_verdict};
@@ -90,10 +88,7 @@ fn tell_ending(alloc: Global, program: &Program, steps: u64) -> Result<Report, N
 
 /// How a log ends with a verdict: its lines, its charge and the verdict.
 fn tell_summary(alloc: Global, summary: Summary) -> Result<Report, NoMemory>
-    ensures text { IfOk result (λ report. report.text
-        ≡ count_line (codes "lines") summary.lines ++ count_line (codes "charge") summary.charge
-        ++ verdict_text summary.verdict ++ 10 ∷ []) }
-    ensures status { IfOk result (λ report. report.status ≡ verdict_status summary.verdict) }
+    ensures { IfOk result (λ report. report ≡ summary_report summary) }
 {
     let mut bytes = Vec::new(alloc);
     push_count(alloc, &mut bytes, b"lines", summary.lines)?;
@@ -108,8 +103,7 @@ fn tell_summary(alloc: Global, summary: Summary) -> Result<Report, NoMemory>
 /// How a log ends by a stop, which has this line and this status.
 fn tell_stop(alloc: Global, stop: &Line, status: Status) -> Result<Report, NoMemory>
     requires { IsWritable stop.now }
-    ensures text { IfOk result (λ report. report.text ≡ line_text stop.now ++ 10 ∷ []) }
-    ensures status { IfOk result (λ report. report.status ≡ status) }
+    ensures { IfOk result (λ report. report ≡ stop_report stop.now status) }
 {
     let text = write_line(alloc, stop)?;
     Ok(Report { text, status })

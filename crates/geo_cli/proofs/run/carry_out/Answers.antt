@@ -1,4 +1,4 @@
-use Rattle.std.proofs.Common.{rules, refl, absurd}
+use Rattle.std.proofs.Common.{refl}
 use Rattle.geo_cli.proofs.Answered.{by_bench, by_check, by_prove, by_text}
 use Rattle.geo_cli.proofs.Ended.{takes_more}
 use Rattle.geo_cli.proofs.run.carry_out.Goals as goal

@@ -1,4 +1,3 @@
-use Rattle.std.proofs.Common.{rules, ◌≡◌}
 use Rattle.geo_cli.proofs.Ended.{completes, decides, ends_in, has_number, misused, no_order, prints, reads_nothing}
 use Rattle.geo_cli.proofs.run.run.Goals as goal
 
