@@ -25,13 +25,16 @@ impl Model for Checker {
 
     ghost Value = { CheckerValue };
 
-    ghost view = { λ c. record { steps = c.steps; taken = c.taken; lines = c.lines; state = c.state } };
+    ghost view = { λ c.
+        record { steps = c.steps; taken = c.taken; lines = c.lines; state = c.state } };
 
-    ghost invariant = { λ c. IsSound (record { steps = c.steps; taken = c.taken; lines = c.lines; state = c.state }) };
+    ghost invariant = { λ c.
+        IsSound (record { steps = c.steps; taken = c.taken; lines = c.lines; state = c.state }) };
 }
 
 impl Checker {
-    ghost use Rattle.std.specs.Prelude.{◌≡◌, ◌+◌, ◌≤◌, ◌++◌, ◌∷◌, [], ℕ, List, IfErr, IfOk, OnErr, OnOk, length};
+    ghost use Rattle.std.specs.Prelude.{◌≡◌, ◌+◌, ◌≤◌, ◌++◌, ◌∷◌, [], ℕ, List, IfErr, IfOk, OnErr};
+    ghost use Rattle.std.specs.Prelude.{OnOk, length};
     ghost use Rattle.log_checker.specs.Checked.{IsAnswer, IsRefusedLog, StopsAt, TellsStop};
     ghost use Rattle.log_checker.specs.Checkers.{StandsFor, error_of, with_feeds};
     ghost use Rattle.proof_log.specs.Writable.{HasNoLineFeed};
