@@ -7,7 +7,8 @@ ghost use Rattle.geo_cli.specs.Run.{Ends};
 ghost use Rattle.geo_cli.specs.Words.{IsCheck};
 ghost use Rattle.geo_program.specs.Programs.{source_of};
 ghost use Rattle.log_checker.specs.Accepted.{Accepts};
-ghost use Rattle.log_checker.specs.Checked.{IsRefusedLog, TellsStop};
+ghost use Rattle.log_checker.specs.Checked.{TellsStop};
+ghost use Rattle.log_checker.specs.Judged.{Refuses};
 
 use crate::acceptance::accepted_text;
 use crate::answers::{TOO_LONG, answer, rejected_line};
@@ -76,7 +77,7 @@ fn accept<K: Sink>(alloc: Global, program: &Program, verdict: Verdict, sink: &mu
 
 /// Tells why a log is refused.
 fn refuse<K: Sink>(alloc: Global, error: CheckError, sink: &mut K) -> Status
-    ensures answers { (steps : ℕ) (bytes : List ℕ) → TellsStop (IsRefusedLog bytes steps) error
+    ensures answers { (steps : ℕ) (bytes : List ℕ) → TellsStop (Refuses bytes steps) error
         → AnswersLog steps bytes (K.faults sink.old) (K.faults sink.new)
         (K.held sink.old) (K.held sink.new) result }
     ensures reads { result ≢ Status.ReadFault }
