@@ -11,10 +11,12 @@ use Rattle.geo_base.proofs.DeviceLemmas.{Loses-append}
 use Rattle.geo_cli.specs.Input.{IsInput, IsLong, Takes, log_limit}
 use Rattle.geo_cli.specs.Inner.Judgements.{IsJudgedInput, IsJudgement}
 use Rattle.geo_logs.specs.Judging.{Refusal}
-use Rattle.log_checker.specs.Checked.{IsAnswer, IsRefusedLog, StopsAt, StopsEarly, TellsStop}
+use Rattle.log_checker.specs.Checked.{IsAnswer, StopsAt, TellsStop}
 use Rattle.log_checker.specs.Checkers.{CheckerValue, StandsFor, error_of, with_feeds}
+use Rattle.log_checker.specs.Judged.{Refuses}
 use Rattle.log_checker.specs.declared.accepted.Accepted.{Accepted}
 use Rattle.log_checker.specs.declared.errors.CheckError.{CheckError}
+use Rattle.log_checker.proofs.EarlyStops.{stops_early}
 use Rattle.log_checker.proofs.JudgedAnswers.{tells_stop_map}
 use Rattle.log_checker.proofs.ProgramTexts.{with_feeds-append}
 use Rattle.proof_log.specs.Writable.{HasNoLineFeed}
@@ -38,6 +40,17 @@ open_none waiting (Some bytes) none = ap (λ ws. Some (ws ++ bytes)) none
 lost_waiting : (left left' : Option (List ℕ)) (taken waiting : List ℕ) → Loses left taken (open_bytes waiting left') → Loses left (taken ++ waiting) left'
 lost_waiting left None taken waiting h = h
 lost_waiting left (Some bytes) taken waiting h = h ∙ ap Some (sym (append_assoc taken waiting bytes))
+
+-- EARLY STOPS
+-- the bytes begin with lines that meet this stop, whatever follows them
+pub record StopsEarly (bytes : List ℕ) (steps number : ℕ) (refusal : Refusal) : Type 0 where
+  pub pieces : List (List ℕ)
+  pub rest : List ℕ
+  pub split : bytes ≡ with_feeds pieces ++ rest
+  pub stops : StopsAt steps pieces number refusal
+
+early_refused : (bytes : List ℕ) (steps n : ℕ) (r : Refusal) → StopsEarly bytes steps n r → Refuses bytes steps n r
+early_refused bytes steps n r h = stops_early bytes h.rest h.pieces steps n r h.split h.stops
 
 -- THE CHECKER
 -- it stands for the pieces, or it has failed at a stop of the first of them
@@ -185,7 +198,7 @@ module _ (steps : ℕ) (left l l' : Option (List ℕ)) (reader reader' : ReaderS
   -- what finishing answers
   pub record Finishes (rest : List ℕ) (answer : Result Accepted CheckError) : Type 0 where
     pub accepted : (pieces : List (List ℕ)) → StandsFor checker pieces → IfOk answer (IsAnswer (with_feeds pieces ++ rest) checker.steps)
-    pub refused : (pieces : List (List ℕ)) → StandsFor checker pieces → IfErr answer (TellsStop (IsRefusedLog (with_feeds pieces ++ rest) checker.steps))
+    pub refused : (pieces : List (List ℕ)) → StandsFor checker pieces → IfErr answer (TellsStop (Refuses (with_feeds pieces ++ rest) checker.steps))
     pub failed : (e : CheckError) → error_of checker ≡ Some e → answer ≡ Err e
 
   judged : (rest : List ℕ) (answer : Result Accepted CheckError) → Finishes rest answer → HasTaken steps h.pieces checker
@@ -195,8 +208,8 @@ module _ (steps : ℕ) (left l l' : Option (List ℕ)) (reader reader' : ReaderS
   judged rest answer f (inr (e, failed, tells)) =
       subst (IsJudgement (with_feeds h.pieces ++ rest) steps) (sym (f.failed e failed)) (
         tt,
-        tells_stop_map (StopsEarly (with_feeds h.pieces) steps) (IsRefusedLog (with_feeds h.pieces ++ rest) steps)
-            (λ n r s. inl (early_more (with_feeds h.pieces) rest steps n r s)) e tells,
+        tells_stop_map (StopsEarly (with_feeds h.pieces) steps) (Refuses (with_feeds h.pieces ++ rest) steps)
+            (λ n r s. early_refused (with_feeds h.pieces ++ rest) steps n r (early_more (with_feeds h.pieces) rest steps n r s)) e tells,
       )
 
   -- the log was read to its end

@@ -18,14 +18,11 @@ use Rattle.geo_program.specs.CanonicalText.{canonical_text}
 use Rattle.geo_program.specs.WellFormed.{Source}
 use Rattle.geo_terms.specs.Stores.{Store}
 use Rattle.log_checker.specs.Accepted.{Accepts}
-use Rattle.log_checker.specs.Checked.{AreEachRead, IsAnswer, IsRefusedLog, StopsEarly, TellsStop}
-use Rattle.log_checker.specs.Checkers.{with_feeds}
-use Rattle.log_checker.specs.Judged.{AreRead, Refuses}
+use Rattle.log_checker.specs.Checked.{IsAnswer, TellsStop}
+use Rattle.log_checker.specs.Judged.{Refuses}
 use Rattle.log_checker.specs.declared.accepted.Accepted.{Accepted}
 use Rattle.log_checker.specs.declared.errors.CheckError.{CheckError}
 use Rattle.log_checker.specs.declared.errors.CheckError.TheVariants as error
-use Rattle.log_checker.proofs.ReadLines.{bytes_are_read}
-use Rattle.proof_log.specs.declared.log.Line.{Line}
 use Rattle.proof_log.specs.declared.log.Verdict.{Verdict}
 use Rattle.proof_log.specs.Lines.{verdict_text}
 use Rattle.proof_printer.specs.Proofs.{IsReadableProof}
@@ -36,61 +33,28 @@ pub judged_ok : (bytes : List ℕ) (steps : ℕ) (answer : Result Accepted Check
 judged_ok bytes steps answer accepted is h = subst (λ (a : Result Accepted CheckError). IfOk a (IsAnswer bytes steps)) is h.0
 
 pub judged_err : (bytes : List ℕ) (steps : ℕ) (answer : Result Accepted CheckError) (e : CheckError) → answer ≡ Err e
-    → IsJudgement bytes steps answer → TellsStop (IsRefusedLog bytes steps) e
-judged_err bytes steps answer e is h = subst (λ (a : Result Accepted CheckError). IfErr a (TellsStop (IsRefusedLog bytes steps))) is h.1
+    → IsJudgement bytes steps answer → TellsStop (Refuses bytes steps) e
+judged_err bytes steps answer e is h = subst (λ (a : Result Accepted CheckError). IfErr a (TellsStop (Refuses bytes steps))) is h.1
 
 -- REFUSALS
--- pieces that are read, and what is read behind them
-read_behind : (pieces : List (List ℕ)) (rest : List ℕ) (reads more : List (Option Line)) → AreEachRead pieces reads → AreRead rest more
-    → AreRead (with_feeds pieces ++ rest) (reads ++ more)
-read_behind [] rest [] more each behind = behind
-read_behind [] rest (read ∷ reads) more each behind = absurd each
-read_behind (piece ∷ pieces) rest [] more each behind = absurd each
-read_behind (piece ∷ pieces) rest (read ∷ reads) more (one_line, is_read, each) behind =
-    inl (
-      record {
-        piece = piece;
-        rest = with_feeds pieces ++ rest;
-        split = append_assoc (piece ++ 10 ∷ []) (with_feeds pieces) rest ∙ append_assoc piece (10 ∷ []) (with_feeds pieces ++ rest);
-        one_line = one_line;
-        is_read = is_read;
-      },
-      read_behind pieces rest reads more each behind,
-    )
-
--- a stop of the first lines is one of the whole
-early_refused : (bytes : List ℕ) (steps n : ℕ) (r : Refusal) → StopsEarly bytes steps n r → Refuses bytes steps n r
-early_refused bytes steps n r h =
-    let read = bytes_are_read h.rest in
-    record {
-      reads = h.stops.reads ++ read.0;
-      are_read = subst (λ bs. AreRead bs (h.stops.reads ++ read.0)) (sym h.split)
-          (read_behind h.pieces h.rest h.stops.reads read.0 h.stops.are_read read.1);
-      stops = h.stops.stops read.0;
-    }
-
-log_refused : (bytes : List ℕ) (steps n : ℕ) (r : Refusal) → IsRefusedLog bytes steps n r → Refuses bytes steps n r
-log_refused bytes steps n r (inl h) = early_refused bytes steps n r h
-log_refused bytes steps n r (inr h) = h
-
 -- the line of a refusal is due
-pub error_due : (bytes : List ℕ) (steps : ℕ) (e : CheckError) → IsRefusal e → TellsStop (IsRefusedLog bytes steps) e
+pub error_due : (bytes : List ℕ) (steps : ℕ) (e : CheckError) → IsRefusal e → TellsStop (Refuses bytes steps) e
     → IsRejectionDue steps bytes (record { text = error_line e; status = error_status e })
 error_due bytes steps (error.Rejected line reason) is (r, number, h) =
     record {
       number = line;
       refusal = rejected r;
-      refused = log_refused bytes steps line (rejected r) h;
+      refused = h;
       is = λ i. record { text = error_line (error.Rejected line (number i)); status = error_status (error.Rejected line (number i)) };
     }
 error_due bytes steps (error.TooLarge line which) is h =
-    record { number = line; refusal = stopped (too_large which); refused = log_refused bytes steps line (stopped (too_large which)) h; is = refl }
+    record { number = line; refusal = stopped (too_large which); refused = h; is = refl }
 error_due bytes steps (error.Spent line) is h =
-    record { number = line; refusal = stopped spent; refused = log_refused bytes steps line (stopped spent) h; is = refl }
+    record { number = line; refusal = stopped spent; refused = h; is = refl }
 error_due bytes steps error.NoMemory is h = absurd is
 
 module _ (steps : ℕ) (bytes : List ℕ) (f f' : ℕ) (held held' : Option (List ℕ)) (s : Status) where
-  pub refusal_told : (e : CheckError) (text : List ℕ) (status : Status) → IsRefusal e → TellsStop (IsRefusedLog bytes steps) e → text ≡ error_line e
+  pub refusal_told : (e : CheckError) (text : List ℕ) (status : Status) → IsRefusal e → TellsStop (Refuses bytes steps) e → text ≡ error_line e
       → status ≡ error_status e → IsAnswered (record { text = text; status = status }) s f f' held held' → AnswersRefusal steps bytes f f' held held' s
   refusal_told e text status is h same same' answered =
       inl (

@@ -2,7 +2,8 @@
 ghost use Rattle.std.specs.Prelude.{◌≡◌, ◌≢◌, ◌≤◌, ℕ, List, IfOk};
 ghost use Rattle.geo_cli.specs.Inner.Answering.{AnswersRefusal};
 ghost use Rattle.geo_cli.specs.Inner.Judgements.{IsRefusal, error_line};
-ghost use Rattle.log_checker.specs.Checked.{IsRefusedLog, TellsStop};
+ghost use Rattle.log_checker.specs.Checked.{TellsStop};
+ghost use Rattle.log_checker.specs.Judged.{Refuses};
 
 use crate::answers::{answer, rejected_line};
 use crate::status::Status;
@@ -14,7 +15,7 @@ use std::alloc::Global;
 
 /// Tells why a log is refused.
 pub fn refuse<K: Sink>(alloc: Global, error: CheckError, sink: &mut K) -> Status
-    ensures answers { (steps : ℕ) (bytes : List ℕ) → TellsStop (IsRefusedLog bytes steps) error
+    ensures answers { (steps : ℕ) (bytes : List ℕ) → TellsStop (Refuses bytes steps) error
         → AnswersRefusal steps bytes (K.faults sink.old) (K.faults sink.new)
         (K.held sink.old) (K.held sink.new) result }
     ensures reads { result ≢ Status.ReadFault }

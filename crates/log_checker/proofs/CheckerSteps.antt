@@ -1,22 +1,21 @@
 -- A checker takes a line, and is finished.
-use Rattle.std.proofs.Common.{◌≡◌, ◌≢◌, ℕ, zero, suc, ◌+◌, ◌≤◌, inl, inr, Option, Some, None, List, [], ◌∷◌, ◌++◌, map, length, append-nil, append_assoc, refl, sym, ◌∙◌, ap, subst, arith}
-use Rattle.std.specs.List.{flat_map}
+use Rattle.std.proofs.Common.{◌≡◌, ◌≢◌, ℕ, suc, ◌+◌, ◌≤◌, inl, inr, Option, Some, None, List, [], ◌∷◌, ◌++◌, map, length, append-nil, append_assoc, refl, sym, ◌∙◌, ap, subst, arith}
 use Rattle.std.proofs.lemmas.List.{length-append, map-append}
 use Rattle.std.proofs.lemmas.List.Folds.{flat_map-map}
-use Rattle.geo_program.specs.Programs.{source_of}
 use Rattle.proof_log.specs.declared.log.Line.{Line}
 use Rattle.proof_log.specs.Lines.{line_text, log_text}
 use Rattle.proof_log.specs.Writable.{AllWritable, HasNoLineFeed, IsWritable}
 use Rattle.proof_log.proofs.NoLineFeeds.{no_line_feed}
 use Rattle.geo_logs.specs.Judging.{Refusal}
-use Rattle.log_checker.specs.Checked.{AreEachRead, IsAnswer, IsRefusedLog, StopsAt, TellsStop}
-use Rattle.log_checker.specs.Checkers.{CheckerValue, IsLeftBy, IsSound, StandsFor, error_of, with_feeds}
+use Rattle.log_checker.specs.Checked.{AreEachRead, IsAnswer, StopsAt, TellsStop}
+use Rattle.log_checker.specs.Checkers.{CheckerValue, IsSound, StandsFor, error_of, with_feeds}
 use Rattle.log_checker.specs.Inner.Judged.{IsAnswerOf, IsNextPiece, IsReachedState, Leaves, StopsAtPiece, StopsNext, StopsThere}
-use Rattle.log_checker.specs.Judged.{AreRead, IsFirstStop, IsRead}
+use Rattle.log_checker.specs.Judged.{AreRead, IsFirstStop, IsRead, Refuses}
 use Rattle.log_checker.specs.declared.accepted.Accepted.{Accepted}
 use Rattle.log_checker.specs.declared.errors.CheckError.{CheckError}
 use Rattle.log_checker.specs.declared.state.State.{State}
 use Rattle.log_checker.specs.declared.state.State.TheVariants as state
+use Rattle.log_checker.proofs.EarlyStops.{stops_early}
 use Rattle.log_checker.proofs.Judged.{lines_read}
 use Rattle.log_checker.proofs.Places.{map-length}
 use Rattle.log_checker.proofs.JudgedAnswers.{tells_stop_map}
@@ -120,15 +119,15 @@ finish_answers c pieces rest a h none answer = record {
 }
 
 pub finish_stops : (c : CheckerValue) (pieces : List (List ℕ)) (rest : List ℕ) (e : CheckError) (h : StandsFor c pieces) → rest ≡ [] → TellsStop (StopsThere c.steps h.lines) e
-    → TellsStop (IsRefusedLog (with_feeds pieces ++ rest) c.steps) e
-finish_stops c pieces rest e h none t = tells_stop_map (StopsThere c.steps h.lines) (IsRefusedLog (with_feeds pieces ++ rest) c.steps) go e t
+    → TellsStop (Refuses (with_feeds pieces ++ rest) c.steps) e
+finish_stops c pieces rest e h none t = tells_stop_map (StopsThere c.steps h.lines) (Refuses (with_feeds pieces ++ rest) c.steps) go e t
   where
-    go : (n : ℕ) (r : Refusal) → StopsThere c.steps h.lines n r → IsRefusedLog (with_feeds pieces ++ rest) c.steps n r
-    go n r s = inr (record {
+    go : (n : ℕ) (r : Refusal) → StopsThere c.steps h.lines n r → Refuses (with_feeds pieces ++ rest) c.steps n r
+    go n r s = record {
       reads = map Some h.lines;
       are_read = lines_read h.lines (with_feeds pieces ++ rest) h.writable (ap (λ bs. with_feeds pieces ++ bs) none ∙ append-nil (with_feeds pieces) ∙ text_taken c pieces h);
       stops = s;
-    })
+    }
 
 rest_read : (lines : List Line) (rest bytes : List ℕ) → AllWritable lines → rest ≢ [] → HasNoLineFeed rest → bytes ≡ log_text lines ++ rest → AreRead bytes (map Some lines ++ None ∷ [])
 rest_read [] rest bytes w some one_line e = inr ((λ none. some (sym e ∙ none)), subst HasNoLineFeed (sym e) one_line, refl, refl)
@@ -145,15 +144,15 @@ rest_read (l ∷ lines) rest bytes w some one_line e =
     )
 
 pub rest_stops : (c : CheckerValue) (pieces : List (List ℕ)) (rest : List ℕ) (e : CheckError) (h : StandsFor c pieces) → rest ≢ [] → HasNoLineFeed rest → TellsStop (StopsNext c.steps h.lines None) e
-    → TellsStop (IsRefusedLog (with_feeds pieces ++ rest) c.steps) e
-rest_stops c pieces rest e h some one_line t = tells_stop_map (StopsNext c.steps h.lines None) (IsRefusedLog (with_feeds pieces ++ rest) c.steps) go e t
+    → TellsStop (Refuses (with_feeds pieces ++ rest) c.steps) e
+rest_stops c pieces rest e h some one_line t = tells_stop_map (StopsNext c.steps h.lines None) (Refuses (with_feeds pieces ++ rest) c.steps) go e t
   where
-    go : (n : ℕ) (r : Refusal) → StopsNext c.steps h.lines None n r → IsRefusedLog (with_feeds pieces ++ rest) c.steps n r
-    go n r s = inr (record {
+    go : (n : ℕ) (r : Refusal) → StopsNext c.steps h.lines None n r → Refuses (with_feeds pieces ++ rest) c.steps n r
+    go n r s = record {
       reads = map Some h.lines ++ None ∷ [];
       are_read = rest_read h.lines rest (with_feeds pieces ++ rest) h.writable some one_line (ap (λ bs. bs ++ rest) (text_taken c pieces h));
       stops = s [];
-    })
+    }
 
 -- WHOLE BYTES
 -- the checker has taken the pieces before the rest
@@ -191,8 +190,8 @@ pub taken_more : (bytes rest piece behind : List ℕ) (steps : ℕ) (c c' : Chec
 taken_more bytes rest piece behind steps c c' t e same stands =
     record { pieces = t.pieces ++ piece ∷ []; stands = stands; split = moved_on t.pieces bytes rest piece behind t.split e; steps_are = same ∙ t.steps_are }
 
-pub stops_early : (bytes rest piece behind : List ℕ) (steps : ℕ) (c : CheckerValue) (t : IsTaken bytes steps c rest) (e : CheckError) → rest ≡ piece ++ 10 ∷ behind
-    → TellsStop (StopsAt c.steps (t.pieces ++ piece ∷ [])) e → TellsStop (IsRefusedLog bytes steps) e
-stops_early bytes rest piece behind steps c t e is h =
-    tells_stop_map (StopsAt c.steps (t.pieces ++ piece ∷ [])) (IsRefusedLog bytes steps)
-    (λ n r s. inl (record { pieces = t.pieces ++ piece ∷ []; rest = behind; split = moved_on t.pieces bytes rest piece behind t.split is; stops = subst (λ k. StopsAt k (t.pieces ++ piece ∷ []) n r) t.steps_are s })) e h
+pub stopped : (bytes rest piece behind : List ℕ) (steps : ℕ) (c : CheckerValue) (t : IsTaken bytes steps c rest) (e : CheckError) → rest ≡ piece ++ 10 ∷ behind
+    → TellsStop (StopsAt c.steps (t.pieces ++ piece ∷ [])) e → TellsStop (Refuses bytes steps) e
+stopped bytes rest piece behind steps c t e is h =
+    tells_stop_map (StopsAt c.steps (t.pieces ++ piece ∷ [])) (Refuses bytes steps)
+    (λ n r s. stops_early bytes behind (t.pieces ++ piece ∷ []) steps n r (moved_on t.pieces bytes rest piece behind t.split is) (subst (λ k. StopsAt k (t.pieces ++ piece ∷ []) n r) t.steps_are s)) e h

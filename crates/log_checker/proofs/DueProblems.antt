@@ -3,9 +3,9 @@ use Rattle.std.proofs.Common.{◌≡◌, ℕ, suc, ◌-◌, ◌<◌, List, [], �
 use Rattle.std.proofs.lemmas.List.Elements.{recursion_from_All}
 use Rattle.geo_poly.specs.declared.variables.Var.{Var}
 use Rattle.geo_poly.specs.Polynomials.{Summands}
-use Rattle.geo_terms.specs.Constructions.{Construction, IsConstruction}
+use Rattle.geo_terms.specs.Constructions.{IsConstruction}
 use Rattle.geo_terms.specs.TermBounds.{IsTermBelow}
-use Rattle.geo_program.specs.WellFormed.{IsWellFormed, Source}
+use Rattle.geo_program.specs.WellFormed.{Source}
 use Rattle.geo_conditions.specs.declared.items.Item as stored
 use Rattle.geo_conditions.specs.declared.problem.Problem.{Problem}
 use Rattle.geo_conditions.specs.Lists.{IsProblem, item_form}

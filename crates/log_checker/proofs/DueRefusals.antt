@@ -1,5 +1,5 @@
 -- What is refused where this or that is due.
-use Rattle.std.proofs.Common.{◌≡◌, ◌≢◌, ℕ, suc, ◌<◌, ◌==◌, inl, inr, false, ℤ, Option, Some, None, List, [], ◌∷◌, ◌++◌, refl, sym, ◌∙◌, subst, arith}
+use Rattle.std.proofs.Common.{◌≡◌, ◌≢◌, ℕ, suc, ◌==◌, inl, inr, false, ℤ, Option, Some, List, refl, sym, ◌∙◌, subst, arith}
 use Rattle.std.proofs.lemmas.Bool.Decides.{nat_tests}
 use Rattle.geo_poly.specs.declared.variables.Var.{Var}
 use Rattle.geo_poly.specs.Polynomials.{Summands}
@@ -13,15 +13,14 @@ use Rattle.geo_logs.specs.Logs.{Item}
 use Rattle.log_checker.specs.Subjects.{log_item}
 use Rattle.log_checker.proofs.Places.{At, at_map}
 use Rattle.proof_log.specs.declared.log.Line.{Line}
-use Rattle.proof_log.specs.declared.log.Line.TheVariants.{Header, Program as ProgramLine, Condition as ConditionLine, Goal as GoalLine, Start, Ratio, Point, Coords, Cut, End, Sample, Verdict as VerdictLine, StopTooLarge, StopSpent}
+use Rattle.proof_log.specs.declared.log.Line.TheVariants.{Condition as ConditionLine, Goal as GoalLine, Start, End, Sample, Verdict as VerdictLine}
 use Rattle.proof_log.specs.declared.log.Verdict.{Verdict}
 use Rattle.elim_apply.specs.LemmaTable.{lemma_table}
 use Rattle.geo_logs.specs.Chains.{IsEnd}
-use Rattle.geo_logs.specs.Judging.{IsGoodSoFar, IsRefused, IsSampleRefused, Kind, Refusal, bad_line, chain_kind, header_kind, inner_kind, kind_at, kind_of, not_ended, program_kind, rejected, sample_kind, start_kind, stop_kind, verdict_kind, wrong_chain, wrong_line, wrong_verdict}
+use Rattle.geo_logs.specs.Judging.{IsGoodSoFar, IsRefused, IsSampleRefused, Kind, Refusal, chain_kind, header_kind, inner_kind, kind_of, program_kind, sample_kind, start_kind, stop_kind, verdict_kind}
 use Rattle.geo_logs.specs.Places.{Place, before_line, before_sample, before_start, in_chain}
-use Rattle.log_checker.specs.Checkers.{IsDue, header_of, subject_of}
+use Rattle.log_checker.specs.Checkers.{subject_of}
 use Rattle.log_checker.specs.Inner.Lines.{IsRefusedAfter, RefusesAt, RefusesWhere, Tells}
-use Rattle.log_checker.specs.declared.due.Due.{Due}
 use Rattle.log_checker.specs.declared.due.Due.TheVariants as due
 use Rattle.log_checker.specs.declared.due.Task.{Task}
 use Rattle.log_checker.specs.declared.due.Task.TheVariants as task

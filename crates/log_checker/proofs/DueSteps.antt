@@ -1,5 +1,5 @@
 -- Lines of moves and cuts in a chain.
-use Rattle.std.proofs.Common.{◌≡◌, ℕ, ◌-◌, Result, Ok, Err, ℤ, Some, List, [], ◌∷◌, refl, sym, ◌∙◌, ap, subst, inr}
+use Rattle.std.proofs.Common.{◌≡◌, ℕ, ◌-◌, Result, Ok, Err, ℤ, Some, List, refl, sym, ◌∙◌, ap, subst, inr}
 use Rattle.std.specs.Result.{IfErr, IfOk, OnOk}
 use Rattle.geo_poly.specs.declared.variables.Var.{Var}
 use Rattle.geo_poly.specs.Cuts.{IsCut}

@@ -17,7 +17,7 @@ use Rattle.log_checker.proofs.AlikeLogs.{accepted_alike}
 use Rattle.log_checker.proofs.OneSubject.{alike_subjects}
 
 -- PIECES
-first_piece : (xs ys r s : List ℕ) → HasNoLineFeed xs → HasNoLineFeed ys → xs ++ (10 ∷ r) ≡ ys ++ (10 ∷ s) → (xs ≡ ys) × (r ≡ s)
+pub first_piece : (xs ys r s : List ℕ) → HasNoLineFeed xs → HasNoLineFeed ys → xs ++ (10 ∷ r) ≡ ys ++ (10 ∷ s) → (xs ≡ ys) × (r ≡ s)
 first_piece [] [] r s h k e = let tail : r ≡ s = cc in (refl, tail)
 first_piece [] (y ∷ ys) r s h k e = let same : y ≡ 10 = cc in absurd (k.0 same)
 first_piece (x ∷ xs) [] r s h k e = let same : x ≡ 10 = cc in absurd (h.0 same)
@@ -27,15 +27,15 @@ first_piece (x ∷ xs) (y ∷ ys) r s h k e =
     let rest = first_piece xs ys r s h.1 k.1 tail in
     (λ i. head i ∷ rest.0 i, rest.1)
 
-not_empty : (xs r : List ℕ) → [] ≡ xs ++ (10 ∷ r) → ⊥
+pub not_empty : (xs r : List ℕ) → [] ≡ xs ++ (10 ∷ r) → ⊥
 not_empty [] r e = cc
 not_empty (x ∷ xs) r e = cc
 
-has_feed : (xs r : List ℕ) → HasNoLineFeed (xs ++ (10 ∷ r)) → ⊥
+pub has_feed : (xs r : List ℕ) → HasNoLineFeed (xs ++ (10 ∷ r)) → ⊥
 has_feed [] r h = h.0 refl
 has_feed (x ∷ xs) r h = has_feed xs r h.1
 
-one_read : (piece : List ℕ) (read other : Option Line) → IsRead piece read → IsRead piece other → read ≡ other
+pub one_read : (piece : List ℕ) (read other : Option Line) → IsRead piece read → IsRead piece other → read ≡ other
 one_read piece None None h g = refl
 one_read piece None (Some m) h g = absurd (h m g.0 g.1)
 one_read piece (Some l) None h g = absurd (g l h.0 h.1)

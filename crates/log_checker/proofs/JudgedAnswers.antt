@@ -1,5 +1,5 @@
 -- Answers of lines and rests, where lines leave a state.
-use Rattle.std.proofs.Common.{◌≡◌, ◌≢◌, ℕ, suc, ◌+◌, ◌-◌, ◌≤◌, ◌⊎◌, inl, inr, Result, Ok, Err, Option, Some, None, List, [], ◌∷◌, ◌++◌, map, length, append-nil, refl, sym, ◌∙◌, ap, subst, arith}
+use Rattle.std.proofs.Common.{◌≡◌, ◌≢◌, ℕ, suc, ◌≤◌, inl, inr, Option, Some, None, List, [], ◌∷◌, ◌++◌, map, length, append-nil, refl, sym, ◌∙◌, ap, subst, arith}
 use Rattle.std.proofs.lemmas.List.{length-append}
 use Rattle.geo_program.specs.CanonicalText.{canonical_text}
 use Rattle.geo_program.specs.Programs.{source_of}
@@ -15,16 +15,14 @@ use Rattle.geo_logs.specs.Judging.{Refusal, bad_line, rejected, unfinished}
 use Rattle.geo_logs.proofs.Charges.{charges_spent}
 use Rattle.log_checker.specs.Checked.{TellsStop}
 use Rattle.log_checker.specs.Checkers.{IsAtWork, IsDue, IsLeftBy, subject_of, with_feeds}
-use Rattle.log_checker.specs.Inner.Judged.{BeginsWith, GoesOnWith, IsAnswerOf, IsFirstRefused, IsNextState, IsNoProgram, IsRefusedWork, Leaves, StopsNext, StopsThere}
+use Rattle.log_checker.specs.Inner.Judged.{BeginsWith, GoesOnWith, IsFirstRefused, IsNextState, IsNoProgram, IsRefusedWork, Leaves, StopsNext, StopsThere}
 use Rattle.log_checker.specs.Inner.Lines.{GoesOn, IsRefusedAfter, Tells}
 use Rattle.log_checker.specs.Inner.Stops.{numbered, reason_of}
 use Rattle.log_checker.specs.Judged.{IsProgramOver}
 use Rattle.log_checker.specs.Laws.{IsAcceptedLog}
 use Rattle.log_checker.specs.Subjects.{source_lines}
-use Rattle.log_checker.specs.declared.accepted.Accepted.{Accepted}
 use Rattle.log_checker.specs.declared.errors.CheckError.{CheckError}
 use Rattle.log_checker.specs.declared.errors.CheckError.TheVariants as error
-use Rattle.log_checker.specs.declared.state.State.{State}
 use Rattle.log_checker.specs.declared.state.State.TheVariants as state
 use Rattle.log_checker.specs.declared.stops.Stop.{Stop}
 use Rattle.log_checker.specs.declared.stops.Stop.TheVariants as stop

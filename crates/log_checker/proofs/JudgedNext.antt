@@ -1,34 +1,26 @@
 -- What stops at the next line, and what goes on with it, where lines leave a state.
-use Rattle.std.proofs.Common.{◌≡◌, ◌≢◌, ℕ, zero, suc, ◌+◌, ◌-◌, ◌≤◌, ◌⊎◌, inl, inr, Option, Some, None, List, [], ◌∷◌, ◌++◌, map, length, append-nil, append_assoc, refl, sym, ◌∙◌, ap, subst, arith}
-use Rattle.std.specs.List.{AllByRecursion}
+use Rattle.std.proofs.Common.{◌≡◌, ◌≢◌, ℕ, suc, ◌⊎◌, inl, inr, Option, Some, None, List, [], ◌∷◌, ◌++◌, map, length, append-nil, append_assoc, refl, sym, ◌∙◌, ap, subst}
 use Rattle.std.proofs.lemmas.List.{length-append, map-append}
-use Rattle.geo_program.specs.CanonicalText.{canonical_text}
 use Rattle.geo_program.specs.Programs.{source_of}
-use Rattle.geo_program.specs.WellFormed.{IsWellFormed, Source}
+use Rattle.geo_program.specs.WellFormed.{Source}
 use Rattle.proof_log.specs.declared.log.Line.{Line}
 use Rattle.proof_log.specs.declared.log.Line.TheVariants.{Header, Program as ProgramLine}
 use Rattle.proof_log.specs.declared.log.Verdict.{Verdict}
-use Rattle.proof_log.specs.Lines.{line_text, log_text}
-use Rattle.proof_log.specs.Writable.{AllWritable, HasNoLineFeed}
 use Rattle.elim_apply.specs.LemmaTable.{lemma_table}
-use Rattle.geo_logs.specs.Judging.{IsFirstRefusal, IsGoodSoFar, IsGoodToEnd, Refusal, bad_line, number_after, rejected, unfinished, wrong_line, wrong_program}
+use Rattle.geo_logs.specs.Judging.{IsFirstRefusal, IsGoodSoFar, IsGoodToEnd, Refusal, bad_line, number_after, rejected, unfinished, wrong_line}
 use Rattle.geo_logs.specs.Logs.{Subject}
 use Rattle.geo_logs.specs.Places.{Place, first_lines}
-use Rattle.geo_logs.proofs.Charges.{charges_spent}
 use Rattle.log_checker.specs.Checkers.{IsAtWork, IsLeftBy, IsWhole, subject_of, with_feeds}
-use Rattle.log_checker.specs.Inner.Judged.{GoesOnWith, IsAnswerOf, IsNextState, IsNoProgram, IsReachedState, IsRefusedWork, Leaves, StopsNext, StopsThere}
+use Rattle.log_checker.specs.Inner.Judged.{IsNoProgram, IsRefusedWork, StopsNext, StopsThere}
 use Rattle.log_checker.specs.Inner.Lines.{GoesOn, IsRefusedAfter}
 use Rattle.log_checker.specs.Judged.{BeginsWithProgram, IsFirstStop, IsHeaderRefused, IsProgramOver}
 use Rattle.log_checker.specs.Laws.{IsAcceptedLog}
 use Rattle.log_checker.specs.Subjects.{IsSubjectOf, source_lines}
-use Rattle.log_checker.specs.declared.accepted.Accepted.{Accepted}
-use Rattle.log_checker.specs.declared.state.State.{State}
 use Rattle.log_checker.specs.declared.state.State.TheVariants as state
 use Rattle.log_checker.specs.declared.work.Work.{Work}
-use Rattle.log_checker.specs.declared.due.Due.TheVariants as due
 use Rattle.log_checker.proofs.DueChains.{stands}
 use Rattle.log_checker.proofs.DueProblems.{about}
-use Rattle.log_checker.proofs.ProgramTexts.{lines_of_none, lines_of_text, texts_one_line, with_feeds-append}
+use Rattle.log_checker.proofs.ProgramTexts.{lines_of_none, with_feeds-append}
 
 -- THE HEADER
 header_wrong : (line : Line) (more : List (Option Line)) → line ≢ Header → IsHeaderRefused (Some line ∷ more) (rejected wrong_line)

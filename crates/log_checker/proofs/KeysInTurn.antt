@@ -1,9 +1,9 @@
 -- Keys of a list, looked at one after another.
-use Rattle.std.proofs.Common.{◌≡◌, ℕ, zero, suc, ◌+◌, ◌<◌, ◌≤◌, ◌⊎◌, inl, inr, Bool, true, false, IsTrue, ◌↔◌, Option, Some, None, List, [], ◌∷◌, length, refl, sym, subst, arith}
+use Rattle.std.proofs.Common.{◌≡◌, ℕ, zero, suc, ◌+◌, ◌<◌, ◌≤◌, ◌⊎◌, inl, inr, true, false, IsTrue, ◌↔◌, Option, Some, List, [], ◌∷◌, length, refl, sym, subst, arith}
 use Rattle.sparse_lists.specs.SparseLists.{AllKeys}
 use Rattle.geo_poly.specs.Polynomials.{Summands, term_at}
 use Rattle.geo_poly.specs.Monomials.{Powers}
-use Rattle.log_checker.proofs.Places.{At, below, first, none}
+use Rattle.log_checker.proofs.Places.{At, first, none}
 
 pub false_not : IsTrue false → ⊥
 false_not e = let q : false ≡ true = e in cc

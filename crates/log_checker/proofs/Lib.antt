@@ -55,3 +55,5 @@ pub mod JudgedNext
 pub mod JudgedAnswers
 pub mod CheckerSteps
 pub mod FirstFeeds
+pub mod EarlyStops
+pub mod NoStops

@@ -1,6 +1,6 @@
 -- Texts of programs: with their lines, and of none.
-use Rattle.std.proofs.Common.{◌≡◌, ◌≢◌, ℕ, zero, suc, ◌+◌, ◌≤◌, List, [], ◌∷◌, ◌++◌, map, length, append_assoc, refl, sym, ◌∙◌, ap, ap₂, subst, arith}
-use Rattle.std.specs.List.{AllByRecursion, flat_map}
+use Rattle.std.proofs.Common.{◌≡◌, ◌≢◌, ℕ, ◌+◌, ◌≤◌, List, [], ◌∷◌, ◌++◌, map, length, append_assoc, refl, sym, ◌∙◌, ap, subst, arith}
+use Rattle.std.specs.List.{AllByRecursion}
 use Rattle.std.proofs.lemmas.List.{length-append}
 use Rattle.std.proofs.lemmas.List.Folds.{flat_map-map}
 use Rattle.geo_lexer.specs.declared.token_types.Fault.{Fault}
@@ -12,8 +12,7 @@ use Rattle.geo_program.specs.WellFormed.{IsWellFormed, Source}
 use Rattle.geo_program.proofs.LinesSpelt.{well_formed_is_spelt}
 use Rattle.geo_program.proofs.OneProgram.{spells_one}
 use Rattle.geo_program.proofs.OneText.{same_text}
-use Rattle.proof_log.specs.declared.log.Line.{Line}
-use Rattle.proof_log.specs.declared.log.Line.TheVariants.{Header, Program as ProgramLine}
+use Rattle.proof_log.specs.declared.log.Line.TheVariants.{Program as ProgramLine}
 use Rattle.proof_log.specs.Lines.{line_text, log_text}
 use Rattle.proof_log.specs.Writable.{AllWritable, HasNoLineFeed}
 use Rattle.log_checker.specs.Checkers.{with_feeds}

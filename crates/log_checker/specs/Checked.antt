@@ -1,13 +1,13 @@
--- What is answered of bytes: an accepted log, or its first stop.
-use Rattle.std.specs.Prelude.{◌≡◌, ℕ, ◌+◌, ◌⊎◌, Option, List, [], ◌∷◌, ◌++◌, length}
+-- What is answered of bytes and of their lines: an accepted log, or its first stop.
+use Rattle.std.specs.Prelude.{◌≡◌, ℕ, ◌+◌, Option, List, [], ◌∷◌, ◌++◌, length}
 use Rattle.geo_program.specs.Programs.{source_of}
 use Rattle.proof_log.specs.declared.log.Line.{Line}
 use Rattle.proof_log.specs.Writable.{HasNoLineFeed}
 use Rattle.geo_logs.specs.Judging.{Reason, Refusal, number_of, rejected, stopped}
 use Rattle.geo_logs.specs.Moves.{spent, too_large}
 use Rattle.log_checker.specs.Accepted.{Accepts}
-use Rattle.log_checker.specs.Checkers.{with_feeds}
-use Rattle.log_checker.specs.Judged.{IsFirstStop, IsRead, Refuses}
+use Rattle.log_checker.specs.Checkers.{CheckerValue, StandsFor}
+use Rattle.log_checker.specs.Judged.{IsFirstStop, IsRead}
 use Rattle.log_checker.specs.declared.accepted.Accepted.{Accepted}
 use Rattle.log_checker.specs.declared.errors.CheckError.{CheckError}
 use Rattle.log_checker.specs.declared.errors.CheckError.TheVariants as error
@@ -32,20 +32,16 @@ pub record StopsAt (steps : ℕ) (pieces : List (List ℕ)) (number : ℕ) (refu
   pub are_read : AreEachRead pieces reads
   pub stops : (more : List (Option Line)) → IsFirstStop steps (reads ++ more) number refusal
 
--- the bytes begin with lines that meet this stop, whatever follows them
-pub record StopsEarly (bytes : List ℕ) (steps number : ℕ) (refusal : Refusal) : Type 0 where
-  pub pieces : List (List ℕ)
-  pub rest : List ℕ
-  pub split : bytes ≡ with_feeds pieces ++ rest
-  pub stops : StopsAt steps pieces number refusal
-
--- the bytes are refused at the line of this number: by their first lines, or as a whole
-abbrev pub IsRefusedLog : List ℕ → ℕ → ℕ → Refusal → Type 0
-IsRefusedLog bytes steps number refusal = StopsEarly bytes steps number refusal ⊎ Refuses bytes steps number refusal
-
 -- the error tells such a stop; want of memory tells nothing
 abbrev pub TellsStop : (ℕ → Refusal → Type 0) → CheckError → Type 0
 TellsStop Stops (error.Rejected line reason) = (r : Reason) × (reason ≡ number_of r) × Stops line (rejected r)
 TellsStop Stops (error.TooLarge line which) = Stops line (stopped (too_large which))
 TellsStop Stops (error.Spent line) = Stops line (stopped spent)
 TellsStop Stops error.NoMemory = Unit {0}
+
+-- LAWS
+-- where a checker stands for pieces, judging them meets no stop
+abbrev pub CheckersMeetNoStop : Type 0
+CheckersMeetNoStop =
+    (checker : CheckerValue) (pieces : List (List ℕ)) (number : ℕ) (refusal : Refusal) → StandsFor checker pieces
+    → StopsAt checker.steps pieces number refusal → ⊥

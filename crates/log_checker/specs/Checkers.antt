@@ -3,7 +3,6 @@ use Rattle.std.specs.Prelude.{◌≡◌, ◌≢◌, ℕ, suc, ◌<◌, ◌≤◌
 use Rattle.std.specs.List.{flat_map}
 use Rattle.geo_poly.specs.declared.variables.Var.{Var}
 use Rattle.geo_poly.specs.Polynomials.{Summands}
-use Rattle.geo_terms.specs.Constructions.{Construction}
 use Rattle.geo_terms.specs.Stores.{tree_of}
 use Rattle.geo_program.specs.Programs.{source_of}
 use Rattle.geo_program.specs.WellFormed.{IsWellFormed}
@@ -19,7 +18,7 @@ use Rattle.elim_apply.specs.LemmaTable.{lemma_table}
 use Rattle.geo_logs.specs.Chains.{IsAcceptedChain, LeadsTo}
 use Rattle.geo_logs.specs.Judging.{IsGoodSoFar}
 use Rattle.geo_logs.specs.Logs.{AreConditionsWorked, AreGoalsWorked, IsConcluded, Item, Subject, only_variable}
-use Rattle.geo_logs.specs.Places.{AreConditionsBegun, AreGoalsBegun, IsBegunEnd, IsOpenChain, Place, before_line, before_start, first_lines, in_chain}
+use Rattle.geo_logs.specs.Places.{AreConditionsBegun, AreGoalsBegun, IsBegunEnd, IsOpenChain, Place, before_line, first_lines, in_chain}
 use Rattle.geo_logs.specs.Samples.{IsAcceptedSample}
 use Rattle.geo_logs.specs.Starts.{start_of}
 use Rattle.log_checker.specs.Judged.{IsProgramOver}
@@ -109,8 +108,8 @@ module _ (subject : Subject) (steps : ℕ) where
     pub split : good ≡ before ++ header_of task item ∷ []
 
   -- a line of the chain, after the polynomial; where its start is a multiple of one variable, this is `own`
-  pub record IsStepDue (good : List Line) (known : List Var) (listed : List Summands) (left : ℕ) (task : Task) (own : Option Var) (q : Summands)
-      : Type 0 where
+  pub record IsStepDue (good : List Line) (known : List Var) (listed : List Summands) (left : ℕ) (task : Task)
+      (own : Option Var) (q : Summands) : Type 0 where
     pub before : List Line
     pub lines : List Line
     pub item : Item

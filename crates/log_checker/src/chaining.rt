@@ -3,7 +3,8 @@
 ghost use Rattle.std.specs.Prelude.{◌≡◌, ◌≢◌, IfErr, IfOk};
 ghost use Rattle.geo_logs.specs.Chains.{IsEnd};
 ghost use Rattle.geo_logs.specs.Places.{in_chain};
-ghost use Rattle.log_checker.specs.Inner.Lines.{IsNamedBy, IsReached, IsReady, IsStepLine, LeadsOn, RefusesAt, RefusesWhere};
+ghost use Rattle.log_checker.specs.Inner.Lines.{IsNamedBy, IsReached, IsReady, IsStepLine, LeadsOn};
+ghost use Rattle.log_checker.specs.Inner.Lines.{RefusesAt, RefusesWhere};
 ghost use Rattle.log_checker.specs.declared.stops.Stop.TheVariants.{NoMemory as OutOfMemory};
 ghost use Rattle.proof_log.specs.Writable.{IsWritable};
 

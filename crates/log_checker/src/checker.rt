@@ -25,15 +25,19 @@ impl Model for Checker {
 
     ghost Value = { CheckerValue };
 
-    ghost view = { λ c. record { steps = c.steps; taken = c.taken; lines = c.lines; state = c.state } };
+    ghost view = { λ c.
+        record { steps = c.steps; taken = c.taken; lines = c.lines; state = c.state } };
 
-    ghost invariant = { λ c. IsSound (record { steps = c.steps; taken = c.taken; lines = c.lines; state = c.state }) };
+    ghost invariant = { λ c.
+        IsSound (record { steps = c.steps; taken = c.taken; lines = c.lines; state = c.state }) };
 }
 
 impl Checker {
-    ghost use Rattle.std.specs.Prelude.{◌≡◌, ◌+◌, ◌≤◌, ◌++◌, ◌∷◌, [], ℕ, List, IfErr, IfOk, OnErr, OnOk, length};
-    ghost use Rattle.log_checker.specs.Checked.{IsAnswer, IsRefusedLog, StopsAt, TellsStop};
+    ghost use Rattle.std.specs.Prelude.{◌≡◌, ◌+◌, ◌≤◌, ◌++◌, ◌∷◌, [], ℕ, List, IfErr, IfOk, OnErr};
+    ghost use Rattle.std.specs.Prelude.{OnOk, length};
+    ghost use Rattle.log_checker.specs.Checked.{IsAnswer, StopsAt, TellsStop};
     ghost use Rattle.log_checker.specs.Checkers.{StandsFor, error_of, with_feeds};
+    ghost use Rattle.log_checker.specs.Judged.{Refuses};
     ghost use Rattle.proof_log.specs.Writable.{HasNoLineFeed};
 
     /// A checker that has taken no line. The charges of the log may add up to so many steps.
@@ -96,7 +100,7 @@ impl Checker {
         ensures accepted { (pieces : List (List ℕ)) → StandsFor self pieces
             → IfOk result (IsAnswer (with_feeds pieces ++ rest.now) self.steps) }
         ensures refused { (pieces : List (List ℕ)) → StandsFor self pieces
-            → IfErr result (TellsStop (IsRefusedLog (with_feeds pieces ++ rest.now) self.steps)) }
+            → IfErr result (TellsStop (Refuses (with_feeds pieces ++ rest.now) self.steps)) }
         ensures failed { (e : CheckError) → error_of self ≡ Some e → result ≡ Err e }
     {
         let Checker {

@@ -3,7 +3,8 @@
 ghost use Rattle.std.specs.Prelude.{◌≡◌, ◌==◌, ◌≤◌, IfErr, IfOk, length, position};
 ghost use Rattle.geo_program.specs.Programs.{source_of};
 ghost use Rattle.log_checker.specs.Accepted.{BytesMean};
-ghost use Rattle.log_checker.specs.Checked.{IsAnswer, IsRefusedLog, TellsStop};
+ghost use Rattle.log_checker.specs.Checked.{IsAnswer, TellsStop};
+ghost use Rattle.log_checker.specs.Judged.{Refuses};
 
 use crate::accepted::Accepted;
 use crate::checker::Checker;
@@ -16,7 +17,7 @@ pub fn check(alloc: Global, bytes: &[u8], steps: u64) -> Result<Accepted, CheckE
     requires { length bytes.now ≤ 67108864 }
     ensures accepted { IfOk result (IsAnswer bytes.now steps) }
     ensures means { IfOk result (λ a. BytesMean bytes.now (source_of a.program) a.verdict) }
-    ensures refused { IfErr result (TellsStop (IsRefusedLog bytes.now steps)) }
+    ensures refused { IfErr result (TellsStop (Refuses bytes.now steps)) }
 {
     let mut checker = Checker::new(alloc, steps)?;
     let mut rest = bytes;

@@ -7,12 +7,12 @@ use geo_poly::Which;
 #[derive(Clone, Copy, Debug, PartialEq, Eq)]
 pub enum CheckError {
     /// The line is rejected. The number of the reason: 21 no line of a log, or one without its line
-    /// feed; 22 a line of a kind that may not stand there; 23 lines of no program, told of line 2; 24
-    /// the header of another chain than the next one; 25 another start; 26 a move that replaces
-    /// nothing; 27 another polynomial than the move or the cut gives; 28 a cut by a variable that is
-    /// not known, or with a rest; 29 the end of a chain where a quantity of points is left; 30 a
-    /// sample with other variables, or at which a listed polynomial is zero; 31 another verdict than
-    /// the evidence gives; 32 no line where one is due.
+    /// feed; 22 a line of a kind that may not stand there; 23 lines of no program, told of line 2;
+    /// 24 the header of another chain than the next one; 25 another start; 26 a move that replaces
+    /// nothing; 27 another polynomial than the move or the cut gives; 28 a cut by a variable that
+    /// is not known, or with a rest; 29 the end of a chain where a quantity of points is left; 30 a
+    /// sample with other variables, or at which a listed polynomial is zero; 31 another verdict
+    /// than the evidence gives; 32 no line where one is due.
     Rejected {
         /// The number of the line, from 1.
         line: u64,
@@ -37,9 +37,9 @@ pub enum CheckError {
 
 impl From<NoMemory> for CheckError {
     ghost use Rattle.std.specs.Prelude.{◌≡◌};
-    ghost use Rattle.log_checker.specs.declared.errors.CheckError.TheVariants.{NoMemory as OutOfMemory};
+    ghost use Rattle.log_checker.specs.declared.errors.CheckError.TheVariants as error;
 
-    ghost from_gives = { λ _ e. e ≡ OutOfMemory };
+    ghost from_gives = { λ _ e. e ≡ error.NoMemory };
 
     fn from(_error: NoMemory) -> CheckError {
         CheckError::NoMemory

@@ -1,6 +1,7 @@
 //! The headers of chains, and what is due behind a chain.
 
-ghost use Rattle.std.specs.Prelude.{◌≡◌, ◌<◌, ◌↔◌, ℕ, List, suc, IfErr, IfOk, IsTrue, Some, length, slice_get};
+ghost use Rattle.std.specs.Prelude.{◌≡◌, ◌<◌, ◌↔◌, ℕ, List, suc, IfErr, IfOk, IsTrue, Some, length};
+ghost use Rattle.std.specs.Prelude.{slice_get};
 ghost use Rattle.geo_logs.specs.Places.{before_line};
 ghost use Rattle.geo_terms.specs.Constructions.{Construction};
 ghost use Rattle.log_checker.specs.Checkers.{AreConditionsDue, AreGoalsDue, IsDue, subject_of};

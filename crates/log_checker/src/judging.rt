@@ -1,12 +1,16 @@
 //! One line more, and the end of a log.
 
-ghost use Rattle.std.specs.Prelude.{◌≡◌, ◌≢◌, ℕ, List, [], ◌∷◌, ◌++◌, ◌+◌, ◌≤◌, suc, IfErr, IfOk, IfSome, None, OnOk, Some, length};
+ghost use Rattle.std.specs.Prelude.{◌≡◌, ◌≢◌, ℕ, List, [], ◌∷◌, ◌++◌, ◌+◌, ◌≤◌, suc, IfErr, IfOk};
+ghost use Rattle.std.specs.Prelude.{IfSome, None, OnOk, Some, length};
 ghost use Rattle.geo_program.specs.CanonicalText.{canonical_text};
 ghost use Rattle.geo_program.specs.Programs.{source_of};
 ghost use Rattle.log_checker.specs.Checked.{TellsStop};
 ghost use Rattle.log_checker.specs.Checkers.{IsAtWork, IsLeftBy};
-ghost use Rattle.log_checker.specs.Inner.Judged.{BeginsWith, GoesOnWith, IsAnswerOf, IsFirstRefused, IsNextPiece, IsNextState, IsNoProgram};
-ghost use Rattle.log_checker.specs.Inner.Judged.{IsReachedState, IsRefusedWork, Leaves, StopsAtPiece, StopsNext, StopsThere};
+ghost use Rattle.log_checker.specs.Inner.Judged.{BeginsWith, GoesOnWith, IsAnswerOf};
+ghost use Rattle.log_checker.specs.Inner.Judged.{IsFirstRefused, IsNextPiece, IsNextState};
+ghost use Rattle.log_checker.specs.Inner.Judged.{IsNoProgram};
+ghost use Rattle.log_checker.specs.Inner.Judged.{IsReachedState, IsRefusedWork, Leaves};
+ghost use Rattle.log_checker.specs.Inner.Judged.{StopsAtPiece, StopsNext, StopsThere};
 ghost use Rattle.log_checker.specs.Inner.Lines.{GoesOn};
 ghost use Rattle.log_checker.specs.Judged.{IsRead};
 ghost use Rattle.proof_log.specs.Writable.{IsWritable};
@@ -80,7 +84,8 @@ fn state_after(
 /// The state behind the first line.
 fn after_header(alloc: Global, number: u64, read: Option<Line>) -> Result<State, CheckError>
     ensures goes { (steps : ℕ) → IfOk result (IsNextState steps [] read) }
-    ensures refused { (steps : ℕ) → number ≡ 1 → IfErr result (TellsStop (StopsNext steps [] read)) }
+    ensures refused { (steps : ℕ) → number ≡ 1
+        → IfErr result (TellsStop (StopsNext steps [] read)) }
 {
     match read {
         Some(line) => {

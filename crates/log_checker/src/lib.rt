@@ -4,6 +4,7 @@
 
 mod accepted;
 mod chaining;
+pub mod checked_laws;
 mod checker;
 mod checking;
 mod cutting;

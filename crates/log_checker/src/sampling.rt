@@ -1,6 +1,7 @@
 //! The sample of a log.
 
-ghost use Rattle.std.specs.Prelude.{◌≡◌, ◌↔◌, ◌<◌, ◌++◌, ◌∷◌, [], IfErr, IfOk, IsTrue, OnOk, Some, length, map, slice_get};
+ghost use Rattle.std.specs.Prelude.{◌≡◌, ◌↔◌, ◌<◌, ◌++◌, ◌∷◌, [], IfErr, IfOk, IsTrue, OnOk, Some};
+ghost use Rattle.std.specs.Prelude.{length, map, slice_get};
 ghost use Rattle.geo_logs.specs.Judging.{IsSampleRefused};
 ghost use Rattle.geo_logs.specs.Samples.{IsAcceptedSample, coordinates_from, sample_variables};
 ghost use Rattle.log_checker.specs.Inner.Lines.{Tells};

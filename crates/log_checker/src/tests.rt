@@ -1,5 +1,8 @@
 //! Whole logs, cut logs and altered logs, against worked tables.
 
+ghost use Rattle.std.specs.Prelude.{◌≤◌, length};
+ghost use Rattle.proof_log.specs.Writable.{HasNoLineFeed};
+
 use crate::{Accepted, CheckError, Checker, check};
 use geo_poly::Which;
 use proof_log::Verdict;
@@ -79,14 +82,12 @@ fn altered(
     lines: usize,
 ) -> Result<Vec<u8>, AllocError> {
     let mut bytes = Vec::new(alloc);
-    let mut at = 0;
-    for old in log {
+    for at in 0..log.len() {
         if at < lines {
-            let new = if at + 1 == number { line } else { *old };
+            let new = if at + 1 == number { line } else { log[at] };
             bytes.extend_from_slice(new.as_bytes())?;
             bytes.push(b'\n')?;
         }
-        at += 1;
     }
     Ok(bytes)
 }
@@ -293,7 +294,10 @@ fn cut_logs_are_refused(rt: HostRuntime) -> Result<(), Fail> {
 }
 
 /// Whether a line is refused so where none came before it, and so is every later call.
-fn stays_refused(alloc: Global, line: &[u8], error: CheckError) -> bool {
+fn stays_refused(alloc: Global, line: &[u8], error: CheckError) -> bool
+    requires one_line { HasNoLineFeed line.now }
+    requires short { length line.now ≤ 100 }
+{
     let Ok(mut checker) = Checker::new(alloc, 24) else {
         return false;
     };

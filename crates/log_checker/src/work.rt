@@ -8,7 +8,8 @@ ghost use Rattle.log_checker.specs.Subjects.{source_lines};
 ghost use Rattle.log_checker.specs.declared.evidence.Evidence.{Evidence};
 ghost use Rattle.geo_conditions.specs.declared.problem.Problem.{Problem};
 ghost use Rattle.proof_log.specs.declared.log.Line.{Line};
-ghost use Rattle.log_checker.specs.Inner.Lines.{GoesOn, IsReached, IsReady, IsRefusedAfter, LeadsOn, RefusesWhere, Tells, TellsNoProgram};
+ghost use Rattle.log_checker.specs.Inner.Lines.{GoesOn, IsReached, IsReady, IsRefusedAfter};
+ghost use Rattle.log_checker.specs.Inner.Lines.{LeadsOn, RefusesWhere, Tells, TellsNoProgram};
 ghost use Rattle.proof_log.specs.Writable.{IsWritable};
 
 use crate::chaining::after_chain_line;

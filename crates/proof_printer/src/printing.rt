@@ -1,7 +1,8 @@
 //! The text of a log as a proof.
 
 ghost use Rattle.std.specs.Prelude.{◌≤◌, IfErr, IfOk, length};
-ghost use Rattle.log_checker.specs.Checked.{IsRefusedLog, TellsStop};
+ghost use Rattle.log_checker.specs.Checked.{TellsStop};
+ghost use Rattle.log_checker.specs.Judged.{Refuses};
 ghost use Rattle.proof_printer.specs.Proofs.{IsReadableProof};
 
 use crate::printer::Printer;
@@ -13,7 +14,7 @@ use std::alloc::Global;
 pub fn text(alloc: Global, bytes: &[u8], steps: u64) -> Result<Text, CheckError>
     requires { length bytes.now ≤ 67108864 }
     ensures readable { IfOk result (IsReadableProof bytes.now steps) }
-    ensures refused { IfErr result (TellsStop (IsRefusedLog bytes.now steps)) }
+    ensures refused { IfErr result (TellsStop (Refuses bytes.now steps)) }
 {
     let accepted = check(alloc, bytes, steps)?;
     let printer = Printer::new(alloc, &accepted.program)?;

@@ -8,7 +8,8 @@ use Rattle.geo_cli.specs.Input.{IsInput, log_limit}
 use Rattle.geo_conditions.specs.declared.items.Item.{Item}
 use Rattle.geo_conditions.specs.Lists.{AreConditionItems, ItemForm}
 use Rattle.geo_program.specs.WellFormed.{Source}
-use Rattle.log_checker.specs.Checked.{IsAnswer, IsRefusedLog, TellsStop}
+use Rattle.log_checker.specs.Checked.{IsAnswer, TellsStop}
+use Rattle.log_checker.specs.Judged.{Refuses}
 use Rattle.log_checker.specs.declared.accepted.Accepted.{Accepted}
 use Rattle.log_checker.specs.declared.errors.CheckError.{CheckError}
 use Rattle.log_checker.specs.declared.errors.CheckError.TheVariants as error
@@ -18,7 +19,7 @@ use Rattle.proof_log.specs.Lines.{line_text}
 
 -- the answer tells that the bytes are accepted, or that they are refused
 abbrev pub IsJudgement : List ℕ → ℕ → Result Accepted CheckError → Type 0
-IsJudgement bytes steps answer = IfOk answer (IsAnswer bytes steps) × IfErr answer (TellsStop (IsRefusedLog bytes steps))
+IsJudgement bytes steps answer = IfOk answer (IsAnswer bytes steps) × IfErr answer (TellsStop (Refuses bytes steps))
 
 -- a log was read to its end, and this is the answer
 pub record IsJudgedInput (steps : ℕ) (left left' : Option (List ℕ)) (answer : Result Accepted CheckError) : Type 0 where

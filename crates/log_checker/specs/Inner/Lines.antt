@@ -1,10 +1,9 @@
 -- What the code answers of a line, part by part.
-use Rattle.std.specs.Prelude.{◌≡◌, ◌≢◌, ℕ, suc, ◌⊎◌, Option, Some, None, List, [], ◌∷◌, ◌++◌, map, length}
+use Rattle.std.specs.Prelude.{◌≡◌, ◌≢◌, ℕ, ◌⊎◌, Option, Some, List, [], ◌∷◌, ◌++◌, length}
 use Rattle.geo_poly.specs.Polynomials.{Summands}
 use Rattle.geo_poly.specs.PolynomialVariables.{AllVariables}
 use Rattle.geo_terms.specs.Constructions.{Construction}
 use Rattle.geo_program.specs.CanonicalText.{canonical_text}
-use Rattle.geo_program.specs.Programs.{source_of}
 use Rattle.geo_program.specs.WellFormed.{IsWellFormed, Source}
 use Rattle.geo_conditions.specs.declared.problem.Problem.{Problem}
 use Rattle.geo_conditions.specs.Lists.{IsProblem}
@@ -39,7 +38,8 @@ abbrev pub RefusesAt : Construction → Place → Line → Stop → Type 0
 RefusesAt c place line = Tells (IsRefused lemma_table c place (Some line))
 
 -- the line is that of a step of a chain
-pub record IsStepLine (c : Construction) (known : List Var) (left : ℕ) (q : Summands) (line : Line) (left' : ℕ) (r : Summands) : Type 0 where
+pub record IsStepLine (c : Construction) (known : List Var) (left : ℕ) (q : Summands) (line : Line) (left' : ℕ) (r : Summands)
+    : Type 0 where
   pub step : ChainStep
   pub leads : LeadsTo lemma_table c known left q (step ∷ []) left' r
   pub is : line ≡ line_of step

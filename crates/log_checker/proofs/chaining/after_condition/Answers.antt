@@ -1,5 +1,4 @@
-use Rattle.std.proofs.Common.{◌≡◌, ◌++◌, [], ◌∷◌, refl, sym, subst}
-use Rattle.std.specs.Option.{option_to_list}
+use Rattle.std.proofs.Common.{◌++◌, [], ◌∷◌, refl, sym, subst}
 use Rattle.log_checker.specs.Checkers.{AreConditionsDue, subject_of}
 use Rattle.proof_log.specs.declared.log.Line.TheVariants.{End}
 use Rattle.log_checker.proofs.DueChains.{condition_done, impossible_due}

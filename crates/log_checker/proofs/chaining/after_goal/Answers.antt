@@ -1,4 +1,4 @@
-use Rattle.std.proofs.Common.{◌≡◌, ◌++◌, [], ◌∷◌, refl, sym, subst}
+use Rattle.std.proofs.Common.{◌++◌, [], ◌∷◌, refl, sym, subst}
 use Rattle.log_checker.specs.Checkers.{IsSampleDue, subject_of}
 use Rattle.proof_log.specs.declared.log.Line.TheVariants.{End}
 use Rattle.proof_log.specs.declared.log.Verdict.TheVariants.{False}

@@ -1,4 +1,4 @@
-use Rattle.std.proofs.Common.{◌≡◌, ap, sym, ◌∙◌, rules}
+use Rattle.std.proofs.Common.{ap, sym, ◌∙◌}
 use Rattle.proof_log.specs.declared.log.Line.TheVariants.{Ratio as RatioLine}
 use Rattle.geo_logs.specs.Chains.{line_of, moves}
 use Rattle.geo_logs.specs.declared.moves.Move.TheVariants.{Coords, Point}

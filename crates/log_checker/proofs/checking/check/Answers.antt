@@ -1,13 +1,14 @@
-use Rattle.std.proofs.Common.{◌≡◌, ◌-◌, ◌++◌, ◌∷◌, ◌+◌, ℕ, suc, [], List, take, drop, length, refl, ap, subst, sym, ◌∙◌, arith}
+use Rattle.std.proofs.Common.{◌≡◌, ◌-◌, ◌++◌, ◌+◌, ℕ, suc, List, take, drop, length, ap, subst, sym, ◌∙◌, arith}
 use Rattle.std.proofs.lemmas.List.{take_rest}
 use Rattle.std.proofs.lemmas.Result.{IfOk-weaker}
 use Rattle.std.specs.Result.{IfOk}
 use Rattle.geo_program.specs.Programs.{source_of}
 use Rattle.log_checker.specs.Accepted.{BytesMean}
-use Rattle.log_checker.specs.Checked.{IsAnswer, IsRefusedLog, TellsStop}
+use Rattle.log_checker.specs.Checked.{IsAnswer, TellsStop}
 use Rattle.log_checker.specs.Checkers.{with_feeds}
+use Rattle.log_checker.specs.Judged.{Refuses}
 use Rattle.log_checker.proofs.AcceptedBytes.{accepted_bytes_mean}
-use Rattle.log_checker.proofs.CheckerSteps.{IsTaken, stops_early, taken_more}
+use Rattle.log_checker.proofs.CheckerSteps.{IsTaken, stopped, taken_more}
 use Rattle.log_checker.proofs.FirstFeeds.{feed_absent, feed_found}
 use Rattle.log_checker.proofs.PassedOn.{passed_on}
 use Rattle.log_checker.proofs.checking.check.Goals as goal
@@ -22,9 +23,9 @@ pub returns-in_err-take-clause-refused : goal.returns-in_err-take-clause-refused
 returns-in_err-take-clause-refused c =
     let t = c.loop-at.invariant in
     let first = (feed_found c.loop-at.rest.now c.in-Some.at (sym c.line_feed_at.ensures ∙ c.in-Some.is)).0 in
-    passed_on c.from_residual-in_err-take.result c.in_err-take.field-0.0 (TellsStop (IsRefusedLog c.args.bytes.now c.args.steps)) c.from_residual-in_err-take.ensures.1
+    passed_on c.from_residual-in_err-take.result c.in_err-take.field-0.0 (TellsStop (Refuses c.args.bytes.now c.args.steps)) c.from_residual-in_err-take.ensures.1
     (
-    stops_early c.args.bytes.now c.loop-at.rest.now (take c.in-Some.at c.loop-at.rest.now) (drop (suc c.in-Some.at) c.loop-at.rest.now) c.args.steps
+    stopped c.args.bytes.now c.loop-at.rest.now (take c.in-Some.at c.loop-at.rest.now) (drop (suc c.in-Some.at) c.loop-at.rest.now) c.args.steps
     c.loop-at.checker t c.in_err-take.field-0.0 first.split (c.in_err-take.ensures.refused t.pieces t.stands)
     )
 

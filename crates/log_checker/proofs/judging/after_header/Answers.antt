@@ -1,9 +1,8 @@
-use Rattle.std.proofs.Common.{◌≡◌, ℕ, [], Some, None, Option, refl, sym, subst}
+use Rattle.std.proofs.Common.{ℕ, [], Some, None, Option, refl, sym, subst}
 use Rattle.proof_log.specs.declared.log.Line.{Line}
 use Rattle.geo_logs.specs.Judging.{bad_line, rejected, wrong_line}
 use Rattle.log_checker.specs.Checked.{TellsStop}
 use Rattle.log_checker.specs.Inner.Judged.{StopsNext}
-use Rattle.log_checker.specs.declared.errors.CheckError.TheVariants.{Rejected}
 use Rattle.log_checker.proofs.JudgedNext.{bad_header, no_header}
 use Rattle.log_checker.proofs.judging.after_header.Goals as goal
 

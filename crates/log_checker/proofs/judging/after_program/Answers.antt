@@ -1,4 +1,4 @@
-use Rattle.std.proofs.Common.{◌≡◌, Option, None, length, ap, sym, subst, arith}
+use Rattle.std.proofs.Common.{Option, None, length, ap, sym, subst, arith}
 use Rattle.std.specs.Result.{IfErr}
 use Rattle.proof_log.specs.declared.log.Line.{Line}
 use Rattle.log_checker.specs.Checked.{TellsStop}

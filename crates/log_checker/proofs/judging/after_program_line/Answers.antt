@@ -1,7 +1,6 @@
-use Rattle.std.proofs.Common.{◌≡◌, ◌≤◌, Option, Some, length, ap, sym, subst, rules, arith, ◌++◌, ◌∷◌, []}
+use Rattle.std.proofs.Common.{◌≡◌, Some, length, ap, sym, subst, rules, arith, ◌++◌, ◌∷◌, []}
 use Rattle.std.proofs.lemmas.Result.{IfOk-from_err}
 use Rattle.proof_log.specs.declared.log.Line.{Line}
-use Rattle.proof_log.specs.declared.log.Line.TheVariants.{Program as ProgramLine}
 use Rattle.log_checker.specs.Checked.{TellsStop}
 use Rattle.log_checker.specs.Inner.Judged.{BeginsWith, IsFirstRefused, IsNextState, StopsNext}
 use Rattle.log_checker.specs.declared.state.State.TheVariants.{Program}

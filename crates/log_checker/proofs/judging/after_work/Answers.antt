@@ -1,4 +1,4 @@
-use Rattle.std.proofs.Common.{Option, None, Some, refl, sym, subst}
+use Rattle.std.proofs.Common.{Option, None, refl, sym, subst}
 use Rattle.std.specs.Result.{IfErr}
 use Rattle.proof_log.specs.declared.log.Line.{Line}
 use Rattle.geo_logs.specs.Judging.{bad_line}

@@ -1,4 +1,4 @@
-use Rattle.std.proofs.Common.{◌≤◌, sym, subst, ap, ◌∙◌, arith}
+use Rattle.std.proofs.Common.{sym, subst, arith}
 use Rattle.log_checker.specs.Checked.{TellsStop}
 use Rattle.log_checker.specs.Inner.Judged.{StopsThere}
 use Rattle.log_checker.proofs.JudgedAnswers.{accepted_there, unfinished_tells}

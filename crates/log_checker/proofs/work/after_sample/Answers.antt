@@ -1,6 +1,5 @@
 use Rattle.std.proofs.Common.{sym, subst}
 use Rattle.proof_log.specs.declared.log.Line.{Line}
-use Rattle.proof_log.specs.declared.log.Line.TheVariants.{Sample as SampleLine}
 use Rattle.log_checker.specs.Inner.Lines.{RefusesWhere}
 use Rattle.log_checker.specs.declared.due.Due.TheVariants.{Sample}
 use Rattle.log_checker.proofs.DueRefusals.{no_sample, sample_wrong, sample_wrong_line}
