@@ -104,7 +104,7 @@ module _ (steps : ℕ) (left left' held held' : Option (List ℕ)) (g g' f f' : 
       → AnswersInput limit For left left' g g' f f' held held' s → Carried command
   by_reading command limit For reads more (inl h) =
       inl (answers_more (IsReadDue limit For left left') (IsCommandDue command steps left left') more f f' held held' s h)
-  by_reading command limit For reads more (inr h) = inr (reads, h)
+  by_reading command limit For reads more (inr h) = inr (reads, h.0, h.1, h.2)
 
   pub by_prove : (command : Command) → command ≡ Prove → AnswersInput program_limit (IsDueFor steps) left left' g g' f f' held held' s → Carried command
   by_prove command is h = subst Carried (sym is) (by_reading Prove program_limit (IsDueFor steps) (λ number no. absurd (cc)) (λ due d. d) h)

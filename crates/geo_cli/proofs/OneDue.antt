@@ -1,5 +1,6 @@
 -- One thing is due at most for words and for a source that tells its bytes.
-use Rattle.std.proofs.Common.{◌≡◌, ℕ, zero, suc, ◌<◌, ◌≤◌, inl, inr, List, [], ◌∷◌, ◌++◌, map, length, codes, Option, Some, None, refl, sym, ap, subst, ◌∙◌, append-nil, length-append, length-map, map-append, arith}
+use Rattle.std.proofs.Common.{◌≡◌, ℕ, zero, suc, ◌<◌, ◌≤◌, inl, inr, List, [], ◌∷◌, ◌++◌, map, length, codes, Option, Some, None, refl, sym, ap, subst, ◌∙◌, append-nil, length-append, arith}
+use Rattle.std.proofs.lemmas.List.{length-map, map-append}
 use Rattle.geo_cli.specs.declared.order.Command.{Command}
 use Rattle.geo_cli.specs.declared.order.Command.TheVariants.{Bench, Check, Prove, Text}
 use Rattle.geo_cli.specs.declared.order.Order.{Order}
@@ -208,9 +209,9 @@ one_read limit For one (Some bytes) left' due other (inr h) (inr g) =
 
 one_command : (command : Command) (steps : ℕ) (left left' : Option (List ℕ)) (due other : Due) → IsCommandCall command steps left due
     → IsCommandDue command steps left left' other → due ≡ other
-one_command Prove steps left left' due other = one_read program_limit (IsDueFor steps) (one_due_for steps) left left' due other
-one_command Check steps left left' due other = one_read log_limit (IsDueForLog steps) (one_due_for_log steps) left left' due other
-one_command Text steps left left' due other = one_read log_limit (IsDueForText steps) (one_due_for_text steps) left left' due other
+one_command Prove steps left left' due other h g = one_read program_limit (IsDueFor steps) (one_due_for steps) left left' due other h g
+one_command Check steps left left' due other h g = one_read log_limit (IsDueForLog steps) (one_due_for_log steps) left left' due other h g
+one_command Text steps left left' due other h g = one_read log_limit (IsDueForText steps) (one_due_for_text steps) left left' due other h g
 one_command (Bench number) steps left left' due other h g = one_bench_due number steps due other h g.1
 
 -- what is called for is what is due

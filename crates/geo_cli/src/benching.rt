@@ -50,14 +50,14 @@ fn bench_report(alloc: Global, number: u32, steps: u64) -> Result<Report, NoMemo
 {
     let program = bench_program(alloc, number)?;
     let points = lower(alloc, &program)?.steps.count();
-    let ending = tell_ending(alloc, &program, steps)?;
+    let Report { text, status } = tell_ending(alloc, &program, steps)?;
     let mut bytes = Vec::new(alloc);
     push_count(alloc, &mut bytes, b"bench", number as u64)?;
     push_count(alloc, &mut bytes, b"points", points as u64)?;
-    bytes.extend_from_slice(&ending.text.bytes)?;
+    bytes.extend_from_slice(&text.bytes)?;
     Ok(Report {
         text: Text { bytes },
-        status: ending.status,
+        status,
     })
 }
 

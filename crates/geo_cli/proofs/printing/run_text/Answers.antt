@@ -17,6 +17,3 @@ returns-in-Err-TooLong-clause-answers g c =
 pub returns-in-Err-ReadFault-clause-answers : goal.returns-in-Err-ReadFault-clause-answers
 returns-in-Err-ReadFault-clause-answers g c =
     of_fault log_limit (IsDueForText c.args.steps) _ _ _ _ _ _ _ _ _ refl (c.read_all.ensures.fault (search rules)) refl
-
-pub returns-in-Ok-clause-taken : goal.returns-in-Ok-clause-taken
-returns-in-Ok-clause-taken g c = ?
