@@ -3,6 +3,6 @@ point A
 point B
 point C
 circumcenter O A B C
-orthocenter H A B C
 centroid G A B C
-prove { equal { sratio H G G O } { 1 } }
+lratio H O G 2
+prove { perpendicular A H B C }

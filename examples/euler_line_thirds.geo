@@ -1,8 +1,9 @@
-% Euler's line (Leonhard Euler, 18th century), second part: HG is twice GO.
+% The Euler line (Leonhard Euler, 18th century), second part: the point H on it with OH = 3 OG is the orthocenter, for
+% circumcenter O and centroid G.
 point A
 point B
 point C
 circumcenter O A B C
-orthocenter H A B C
 centroid G A B C
-prove { equal { sratio H G G O } { 2 } }
+lratio H O G 3
+prove { perpendicular A H B C }

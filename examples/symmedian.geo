@@ -1,10 +1,11 @@
-% The symmedian (Emile Lemoine, 19th century): the line from A to the pole of BC in the circumcircle divides BC in the
-% ratio of the squares of the sides: BX AC^2 = XC AB^2.
-point O
-point A
-oncircle B O A
-oncircle C O A
+% The symmedian (Emile Lemoine, 19th century): T is the pole of the chord BC of a circle, where the tangents at B and C
+% meet. For a point A of the circle, AT divides BC in the ratio of the squares of the sides: BX AC^2 = XC AB^2.
+point B
+point C
 midpoint M B C
-inverse T M O A
+param r
+tratio T M B r
+tratio O M B div { -1 } { r } % BO is perpendicular to BT
+oncircle A O B
 inter X B C A T
 prove { equal { mult { sratio B X X C } { pythagoras_difference3 A C A } } { pythagoras_difference3 A B A } }
