@@ -6,8 +6,8 @@ point A
 point C
 param r
 lratio B M A r
+lratio D M C div { mult { r } { pythagoras_difference3 M A M } } { pythagoras_difference3 M C M } % MA MB = MC MD
 circumcenter O A B C
-second D C M O
 tratio T M O 1 % the first chord is on MT
 inter X A D M T
 symmetric Y X M

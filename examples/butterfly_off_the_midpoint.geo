@@ -1,11 +1,10 @@
-% The butterfly theorem where M is not the midpoint of the first chord. False.
+% The butterfly theorem where M is not the midpoint of the first chord: T is any point. False.
 point M
 point A
 point C
 param r
 lratio B M A r
-circumcenter O A B C
-second D C M O
+lratio D M C div { mult { r } { pythagoras_difference3 M A M } } { pythagoras_difference3 M C M } % MA MB = MC MD
 point T
 inter X A D M T
 symmetric Y X M

@@ -1,11 +1,11 @@
-% The centre of the nine-point circle is half-way between circumcenter and orthocenter (19th century).
+% The centre N of the nine-point circle is on the Euler line (19th century): behind the centroid G, with ON = 3/2 OG. Its
+% distances to the midpoints of the sides are equal.
 point A
 point B
 point C
 circumcenter O A B C
-orthocenter H A B C
+centroid G A B C
+lratio N O G div { 3 } { 2 }
 midpoint D B C
 midpoint E C A
-midpoint F A B
-midpoint N O H
 prove { same_length N D N E }

@@ -1,9 +1,10 @@
 % The distance from a corner of a triangle to the orthocenter is twice that from the circumcenter to the opposite side
-% (classical): AH and OM are parallel, and their ratio is 2.
+% (classical): go from A twice as far as from the circumcenter O to the midpoint M of BC; this point H is the orthocenter.
 point A
 point B
 point C
 circumcenter O A B C
-orthocenter H A B C
 midpoint M B C
-prove { equal { sratio A H O M } { 2 } }
+translate K O M A
+translate H O M K
+prove { perpendicular B H C A }
