@@ -1,3 +1,5 @@
+% Ceva's theorem (Giovanni Ceva, 1678): three lines through one point P from the corners of a triangle cut the sides in
+% ratios whose product is 1.
 point A
 point B
 point C

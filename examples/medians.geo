@@ -1,3 +1,4 @@
+% The medians of a triangle meet at two thirds of their length (Archimedes).
 point A
 point B
 point C

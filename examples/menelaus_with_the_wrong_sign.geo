@@ -1,3 +1,4 @@
+% Menelaus' theorem with the sign of Ceva's theorem: false.
 point A
 point B
 point C

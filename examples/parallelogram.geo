@@ -1,3 +1,4 @@
+% The diagonals of a parallelogram bisect one another (classical).
 point A
 point B
 point C

@@ -1,3 +1,4 @@
+% Thales' theorem (Thales of Miletus, 6th century BC): the angle in a half-circle is right.
 point O
 point A
 symmetric B A O

@@ -1,0 +1,10 @@
+% Bottema's theorem with one square inside: both are turned the same way. False.
+point A
+point B
+point C
+tratio P A C 1
+tratio Q B C 1
+midpoint M P Q
+midpoint D A B
+tratio E D B 1
+prove { identical M E }

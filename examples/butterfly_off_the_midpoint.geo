@@ -1,0 +1,11 @@
+% The butterfly theorem where M is not the midpoint of the first chord: T is any point. False.
+point M
+point A
+point C
+param r
+lratio B M A r
+lratio D M C div { mult { r } { pythagoras_difference3 M A M } } { pythagoras_difference3 M C M } % MA MB = MC MD
+point T
+inter X A D M T
+symmetric Y X M
+prove { collinear B C Y }

@@ -1,0 +1,11 @@
+% Varignon's theorem, second part: the parallelogram of the midpoints has half of the area of the quadrilateral.
+point A
+point B
+point C
+point D
+midpoint K A B
+midpoint L B C
+midpoint M C D
+midpoint N D A
+prove { equal { mult { 2 } { sum { signed_area3 K L M } { signed_area3 K M N } } }
+              { sum { signed_area3 A B C } { signed_area3 A C D } } }
