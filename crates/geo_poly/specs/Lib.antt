@@ -14,3 +14,6 @@ pub mod SortedVariables
 pub mod KeptVariables
 pub mod ReplacementLaws
 pub mod RowTables
+pub mod Shared
+pub mod StoreOrder
+pub mod Chained
