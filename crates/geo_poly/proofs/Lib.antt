@@ -34,3 +34,10 @@ pub mod ReplacementSums
 pub mod VariablesInOrder
 pub mod RowPlaces
 pub mod ProductOrder
+pub mod Naming
+pub mod Told
+pub mod KeyedChains
+pub mod ChainSteps
+pub mod ChainHalves
+pub mod ChainMultiples
+pub mod Unions

@@ -25,14 +25,8 @@ impl Poly {
         requires { self.now ≢ [] }
         ensures { IfOk result (λ f. IsFactorOf known.now self.now f) }
     {
-        let terms = self.terms.as_slice();
-        let divisor = content(terms);
-        let coefficient = if terms[0].1 < 0 { -divisor } else { divisor };
-        let monomial = common_monomial(alloc, terms, known)?;
-        Ok(Factor {
-            coefficient,
-            monomial,
-        })
+        let terms = self.to_terms(alloc)?;
+        factor_of(alloc, &terms, known)
     }
 
     /// The polynomial that gives this one when multiplied by the factor, where there is such a one.
@@ -47,11 +41,28 @@ impl Poly {
         ensures no_multiples { IfOk result
             (λ o. IfNone o ((q : Summands) → multiples by.now q ≡ self.now → ⊥)) }
     {
-        match quotients(alloc, &self.terms, &by.monomial, by.coefficient)? {
-            Some(terms) => Ok(Some(Poly { terms })),
+        let terms = self.to_terms(alloc)?;
+        match quotients(alloc, &terms, &by.monomial, by.coefficient)? {
+            Some(quotient) => Ok(Some(Poly::from_terms(alloc, &quotient)?)),
             None => Ok(None),
         }
     }
+}
+
+/// The greatest common divisor of the coefficients, with the sign of the first, times each known
+/// variable to its least exponent.
+fn factor_of(alloc: Global, terms: &[Term], known: &[Var]) -> Result<Factor, NoMemory>
+    requires some { terms.now ≢ [] }
+    requires polynomial { IsPolynomial terms.now }
+    ensures { IfOk result (λ f. IsFactorOf known.now terms.now f) }
+{
+    let divisor = content(terms);
+    let coefficient = if terms[0].1 < 0 { -divisor } else { divisor };
+    let monomial = common_monomial(alloc, terms, known)?;
+    Ok(Factor {
+        coefficient,
+        monomial,
+    })
 }
 
 /// The greatest common divisor of the coefficients.

@@ -10,6 +10,7 @@ ghost use Rattle.geo_poly.specs.PolynomialVariables.{HasVariable, variables_of};
 
 use crate::lists::Vars;
 use crate::polynomials::Poly;
+use crate::terms::Term;
 use crate::variables::Var;
 use geo_points::NoMemory;
 use std::alloc::Global;
@@ -22,13 +23,20 @@ impl Poly {
         ensures in_order { IsStrictlySortedBy var_cmp (variables_of self.now) }
         ensures exact { (v : Var) → Contains (variables_of self.now) v ↔ HasVariable v self.now }
     {
-        let mut variables = BTreeSet::new(alloc);
-        for (monomial, _) in &self.terms {
-            insert_variables(&mut variables, monomial.powers())?;
-        }
-        let items = variables.into_iter().collect(alloc)?;
-        Ok(Vars { items })
+        variables_of_terms(alloc, &self.to_terms(alloc)?)
     }
+}
+
+/// The variables of the monomials, in order and each once.
+pub(crate) fn variables_of_terms(alloc: Global, terms: &[Term]) -> Result<Vars, NoMemory>
+    ensures { IfOk result (λ vs. vs ≡ variables_of terms.now) }
+{
+    let mut variables = BTreeSet::new(alloc);
+    for (monomial, _) in terms {
+        insert_variables(&mut variables, monomial.powers())?;
+    }
+    let items = variables.into_iter().collect(alloc)?;
+    Ok(Vars { items })
 }
 
 /// Inserts the variables of a monomial.
@@ -37,6 +45,30 @@ fn insert_variables(variables: &mut BTreeSet<Var>, powers: &[(Var, u32)]) -> Res
         ≡ fold (insert_key var_cmp) variables.old.keys (map (λ p. p.0) powers.now)) }
 {
     for (v, _) in powers {
+        variables.insert(*v)?;
+    }
+    Ok(())
+}
+
+/// The variables of both lists, in order and each once.
+pub(crate) fn union(alloc: Global, left: &Vars, right: &Vars) -> Result<Vars, NoMemory>
+    ensures rising { IfOk result (IsStrictlySortedBy var_cmp) }
+    ensures left { IfOk result (λ vs. (v : Var) → Contains left.now v → Contains vs v) }
+    ensures right { IfOk result (λ vs. (v : Var) → Contains right.now v → Contains vs v) }
+{
+    let mut variables = BTreeSet::new(alloc);
+    insert_all(&mut variables, left.as_slice())?;
+    insert_all(&mut variables, right.as_slice())?;
+    let items = variables.into_iter().collect(alloc)?;
+    Ok(Vars { items })
+}
+
+/// Inserts variables.
+fn insert_all(variables: &mut BTreeSet<Var>, more: &[Var]) -> Result<(), NoMemory>
+    ensures { OnOk result
+        (variables.new.keys ≡ fold (insert_key var_cmp) variables.old.keys more.now) }
+{
+    for v in more {
         variables.insert(*v)?;
     }
     Ok(())

@@ -1,22 +1,19 @@
-//! Replacing variables of a polynomial at once, each by a numerator over a power of one
-//! denominator.
+//! Replacing variables of a polynomial at once, each by a numerator over a power of one denominator.
 
-ghost use Rattle.std.specs.Prelude.{min, ◌-◌, ◌≡◌, ◌≢◌, ◌↔◌, ◌+◌, ◌*◌, ◌^◌, ◌<◌, ◌≤◌, pos};
-ghost use Rattle.std.specs.Prelude.{unsigned_abs, IfOk};
+ghost use Rattle.std.specs.Prelude.{◌≡◌, ◌≢◌, ◌↔◌, ◌+◌, ◌*◌, ◌^◌, ◌<◌, ◌≤◌, unsigned_abs, IfOk};
 ghost use Rattle.sparse_lists.specs.SparseLists.{AllKeys, IsCanonical};
 ghost use Rattle.geo_poly.specs.Monomials.{IsMonomial};
-ghost use Rattle.geo_poly.specs.Polynomials.{coefficients, norm_of, polynomial_of, term_cmp};
-ghost use Rattle.geo_poly.specs.Polynomials.{total_degree};
+ghost use Rattle.geo_poly.specs.Polynomials.{coefficients, norm_of, polynomial_of, term_cmp, total_degree};
 ghost use Rattle.geo_poly.specs.Replace.{AllBounded, AllPowersSmall, CanReplace, IsBounded};
-ghost use Rattle.geo_poly.specs.Replace.{degree_bound, denominators, most_denominators, others};
-ghost use Rattle.geo_poly.specs.Replace.{replaced_by, replaced_degree, replaced_term};
-ghost use Rattle.geo_poly.specs.Replace.{replaced_terms, replaced_weight, term_degree, term_weight};
-ghost use Rattle.geo_poly.specs.Replace.{times_power, weight_of};
+ghost use Rattle.geo_poly.specs.Replace.{denominators, others, replaced_by, replaced_degree};
+ghost use Rattle.geo_poly.specs.Replace.{replaced_term, replaced_terms, replaced_weight};
+ghost use Rattle.geo_poly.specs.Replace.{term_degree, term_weight, times_power};
 
 use crate::limits::{MAX, MAX_DEGREE, PolyError, Which};
 use crate::monomials::Monomial;
 use crate::polynomials::Poly;
 use crate::products::product_of_terms;
+use crate::replacement_bounds::{degree_of_terms, most_denominators_of, weight_of_terms};
 use crate::row_table::RowTable;
 use crate::sums::merged;
 use crate::terms::Term;
@@ -51,9 +48,9 @@ pub struct Row {
 }
 
 impl Poly {
-    /// Replaces the variables of the rows at once, and multiplies by the denominator as often as
-    /// the monomial that needs it most, so that no fraction is left. The norm is tested first, by
-    /// the weights of the pieces, and then the degree, by their degrees.
+    /// Replaces the variables of the rows at once, and multiplies by the denominator as often as the
+    /// monomial that needs it most, so that no fraction is left. The norm is tested first, by the
+    /// weights of the pieces, and then the degree, by their degrees.
     pub fn replace(&self, alloc: Global, rows: &[Row], den: &Piece) -> Result<Poly, PolyError>
         requires rows { AllBounded rows.now }
         requires powers { AllPowersSmall rows.now }
@@ -65,125 +62,18 @@ impl Poly {
             ↔ ((replaced_weight rows.now den.now self.now < 2 ^ 127)
             × (65535 < replaced_degree rows.now den.now self.now)) }
     {
-        let terms = self.terms.as_slice();
         let rows = &RowTable::new(alloc, rows);
-        let top = most_denominators_of(terms, rows);
-        if weight_of_terms(terms, rows, den, top) > MAX as u128 {
+        let p = &self.shared();
+        let top = most_denominators_of(p, rows);
+        if weight_of_terms(p, rows, den, top) > MAX as u128 {
             return Err(PolyError::TooLarge(Which::Norm));
         }
-        if degree_of_terms(terms, rows, den, top) > MAX_DEGREE as u128 {
+        if degree_of_terms(p, rows, den, top) > MAX_DEGREE as u128 {
             return Err(PolyError::TooLarge(Which::Degree));
         }
-        let terms = replaced_terms(alloc, terms, rows, den, top)?;
-        Ok(Poly { terms })
+        let terms = replaced_terms(alloc, &self.to_terms(alloc)?, rows, den, top)?;
+        Ok(Poly::from_terms(alloc, &terms)?)
     }
-}
-
-/// The powers of the denominator that a monomial calls for.
-fn denominators_of(powers: &[(Var, u32)], rows: &RowTable) -> u32
-    requires powers { AllPowersSmall rows.now }
-    requires monomial { IsMonomial powers.now }
-    ensures { result ≡ denominators rows.now powers.now }
-{
-    let mut denominators = 0;
-    for (v, e) in powers {
-        if let Some(row) = rows.find_row(*v) {
-            denominators += row.power * *e;
-        }
-    }
-    denominators
-}
-
-/// The greatest power of the denominator that a monomial calls for.
-fn most_denominators_of(terms: &[Term], rows: &RowTable) -> u32
-    requires powers { AllPowersSmall rows.now }
-    requires monomials { AllKeys IsMonomial terms.now }
-    ensures { result ≡ most_denominators rows.now terms.now }
-{
-    let mut most = 0;
-    for term in terms {
-        let denominators = denominators_of(term.0.powers(), rows);
-        if denominators > most {
-            most = denominators;
-        }
-    }
-    most
-}
-
-/// The weight of what becomes of a term, or the greatest number where it passes that.
-fn weight_of_term(
-    powers: &[(Var, u32)],
-    coefficient: i128,
-    rows: &RowTable,
-    den: &Piece,
-    top: u32,
-) -> u128
-    requires rows { AllBounded rows.now }
-    requires den { IsBounded den.now }
-    requires top { denominators rows.now powers.now ≤ top }
-    ensures { result
-        ≡ min (term_weight rows.now den.now top (powers.now, coefficient)) (2 ^ 128 - 1) }
-{
-    let mut weight = coefficient.unsigned_abs();
-    let mut missing = top;
-    for (v, e) in powers {
-        if let Some(row) = rows.find_row(*v) {
-            missing -= row.power * *e;
-            weight = weight.saturating_mul(row.num.weight.saturating_pow(*e));
-        }
-    }
-    weight.saturating_mul(den.weight.saturating_pow(missing))
-}
-
-/// The sum of the weights of what becomes of the terms, or the greatest number where it passes
-/// that.
-fn weight_of_terms(terms: &[Term], rows: &RowTable, den: &Piece, top: u32) -> u128
-    requires rows { AllBounded rows.now }
-    requires den { IsBounded den.now }
-    requires top { most_denominators rows.now terms.now ≤ top }
-    ensures { result ≡ min (weight_of rows.now den.now top terms.now) (2 ^ 128 - 1) }
-{
-    let mut weight = 0u128;
-    for term in terms {
-        weight = weight.saturating_add(weight_of_term(term.0.powers(), term.1, rows, den, top));
-    }
-    weight
-}
-
-/// The degree of what becomes of a term, or the greatest number where it passes that.
-fn degree_of_term(powers: &[(Var, u32)], rows: &RowTable, den: &Piece, top: u32) -> u128
-    requires top { denominators rows.now powers.now ≤ top }
-    requires monomial { IsMonomial powers.now }
-    ensures { result ≡ min (term_degree rows.now den.now top (powers.now, pos 1)) (2 ^ 128 - 1) }
-{
-    let mut degree = 0u128;
-    let mut missing = top;
-    for (v, e) in powers {
-        match rows.find_row(*v) {
-            Some(row) => {
-                missing -= row.power * *e;
-                degree = degree.saturating_add(row.num.degree.saturating_mul(*e as u128));
-            }
-            None => degree = degree.saturating_add(*e as u128),
-        }
-    }
-    degree.saturating_add(den.degree.saturating_mul(missing as u128))
-}
-
-/// The greatest degree of what becomes of a term, or the greatest number where it passes that.
-fn degree_of_terms(terms: &[Term], rows: &RowTable, den: &Piece, top: u32) -> u128
-    requires top { most_denominators rows.now terms.now ≤ top }
-    requires monomials { AllKeys IsMonomial terms.now }
-    ensures { result ≡ min (degree_bound rows.now den.now top terms.now) (2 ^ 128 - 1) }
-{
-    let mut degree = 0u128;
-    for term in terms {
-        let of_term = degree_of_term(term.0.powers(), rows, den, top);
-        if of_term > degree {
-            degree = of_term;
-        }
-    }
-    degree
 }
 
 /// The terms times the piece, as often as is said.
@@ -200,10 +90,10 @@ fn times_power(
     requires degree { total_degree terms.items + piece.now.degree * count ≤ 65535 }
     ensures { IfOk result (λ v. v.items ≡ times_power terms.items piece.now.poly count) }
 {
-    let factor = &piece.poly;
+    let factor = piece.poly.to_terms(alloc)?;
     let mut product = terms;
     for _k in 0..count {
-        product = product_of_terms(alloc, &product, &factor.terms)?;
+        product = product_of_terms(alloc, &product, &factor)?;
     }
     Ok(product)
 }
@@ -223,8 +113,7 @@ fn others_of(alloc: Global, powers: &[(Var, u32)], rows: &RowTable) -> Result<Mo
     Ok(kept)
 }
 
-/// The term with its numerators, and the denominators that it lacks; `rest` has its other
-/// variables.
+/// The term with its numerators, and the denominators that it lacks; `rest` has its other variables.
 fn replaced_term(
     alloc: Global,
     rest: Monomial,

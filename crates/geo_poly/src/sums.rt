@@ -7,7 +7,7 @@ ghost use Rattle.geo_poly.specs.Polynomials.{term_cmp};
 
 use crate::limits::{MAX, PolyError, Which};
 use crate::polynomials::Poly;
-use crate::terms::{Term, append_copies, copy_term, norm_of_terms};
+use crate::terms::{Term, append_copies, copy_term};
 use geo_points::NoMemory;
 use std::alloc::Global;
 use std::cmp::Ordering;
@@ -20,11 +20,13 @@ impl Poly {
             ↔ (2 ^ 127 ≤ norm_of self.now + norm_of other.now) }
         ensures degree { result ≢ Err (PolyError.TooLarge Which.Degree) }
     {
-        if norm_of_terms(&self.terms) + norm_of_terms(&other.terms) > MAX as u128 {
+        if self.unsigned_norm() + other.unsigned_norm() > MAX as u128 {
             return Err(PolyError::TooLarge(Which::Norm));
         }
-        let terms = merged(alloc, &self.terms, &other.terms)?;
-        Ok(Poly { terms })
+        let left = self.to_terms(alloc)?;
+        let right = other.to_terms(alloc)?;
+        let sum = merged(alloc, &left, &right)?;
+        Ok(Poly::from_terms(alloc, &sum)?)
     }
 
     /// The difference. It is refused by the norms of both, not by that of the difference.
@@ -34,12 +36,13 @@ impl Poly {
             ↔ (2 ^ 127 ≤ norm_of self.now + norm_of other.now) }
         ensures degree { result ≢ Err (PolyError.TooLarge Which.Degree) }
     {
-        if norm_of_terms(&self.terms) + norm_of_terms(&other.terms) > MAX as u128 {
+        if self.unsigned_norm() + other.unsigned_norm() > MAX as u128 {
             return Err(PolyError::TooLarge(Which::Norm));
         }
-        let negated = negated_terms(alloc, &other.terms)?;
-        let terms = merged(alloc, &self.terms, &negated)?;
-        Ok(Poly { terms })
+        let left = self.to_terms(alloc)?;
+        let right = negated_terms(alloc, &other.to_terms(alloc)?)?;
+        let difference = merged(alloc, &left, &right)?;
+        Ok(Poly::from_terms(alloc, &difference)?)
     }
 }
 

@@ -1,26 +1,22 @@
-use Rattle.std.proofs.Common.{◌≡◌, arith}
-use Rattle.geo_poly.specs.Polynomials.{norm_of, negated}
+use Rattle.std.proofs.Common.{arith}
+use Rattle.geo_poly.specs.Polynomials.{negated}
 use Rattle.geo_poly.proofs.PolynomialLaws.{IsPolynomial-sum_of}
 use Rattle.geo_poly.proofs.Negated.{norm_of-negated, IsCanonical-negated, IsPolynomial-negated}
 use Rattle.geo_poly.proofs.polynomials.Poly.sub.Goals as goal
 
 pub merged-requires-clause-right : goal.merged-requires-clause-right
 merged-requires-clause-right c =
-    rw (c.deref-5.ensures.value, c.in_ok-negated.ensures, c.deref-3.ensures.value) (IsCanonical-negated c.other.inside.terms.items c.other.invariant.in_order)
+    rw (c.deref-3.ensures.value, c.in_ok-right.ensures, c.deref.ensures.value, c.in_ok-to_terms.ensures.terms) (IsCanonical-negated c.args.other.now c.in_ok-to_terms.ensures.valid.in_order)
 
 pub merged-requires-clause-fits : goal.merged-requires-clause-fits
 merged-requires-clause-fits c =
-    let p = c.self.inside.terms.items in
-    let q = c.other.inside.terms.items in
-    let left : c.norm_of_terms.result ≡ norm_of p = rw (← c.deref.ensures.value) c.norm_of_terms.ensures in
-    let right : c.norm_of_terms-2.result ≡ norm_of q = rw (← c.deref-2.ensures.value) c.norm_of_terms-2.ensures in
-    rw (c.deref-4.ensures.value, c.deref-5.ensures.value, c.in_ok-negated.ensures, c.deref-3.ensures.value) (omega (arith, norm_of-negated q, c.if-norm_of_terms.false))
+    rw (c.deref-2.ensures.value, c.in_ok-left.ensures.terms, c.deref-3.ensures.value, c.in_ok-right.ensures, c.deref.ensures.value, c.in_ok-to_terms.ensures.terms)
+    (omega (arith, norm_of-negated c.args.other.now, c.unsigned_norm.ensures.norm, c.unsigned_norm-2.ensures.norm, c.if-unsigned_norm.false))
 
-pub invariant_of-result : goal.invariant_of-result
-invariant_of-result c =
-    let p = c.self.inside.terms.items in
-    let q = c.other.inside.terms.items in
-    let left : c.norm_of_terms.result ≡ norm_of p = rw (← c.deref.ensures.value) c.norm_of_terms.ensures in
-    let right : c.norm_of_terms-2.result ≡ norm_of q = rw (← c.deref-2.ensures.value) c.norm_of_terms-2.ensures in
-    rw (c.in_ok-terms.ensures, c.deref-4.ensures.value, c.deref-5.ensures.value, c.in_ok-negated.ensures, c.deref-3.ensures.value)
-    (IsPolynomial-sum_of p (negated q) c.self.invariant (IsPolynomial-negated q c.other.invariant) (omega (arith, norm_of-negated q, c.if-norm_of_terms.false)))
+pub from_terms-requires : goal.from_terms-requires
+from_terms-requires c =
+    let p = c.args.self.now in
+    let q = c.args.other.now in
+    rw (c.deref-4.ensures.value, c.in_ok-difference.ensures, c.deref-2.ensures.value, c.in_ok-left.ensures.terms, c.deref-3.ensures.value, c.in_ok-right.ensures, c.deref.ensures.value, c.in_ok-to_terms.ensures.terms)
+    (IsPolynomial-sum_of p (negated q) c.in_ok-left.ensures.valid (IsPolynomial-negated q c.in_ok-to_terms.ensures.valid)
+    (omega (arith, norm_of-negated q, c.unsigned_norm.ensures.norm, c.unsigned_norm-2.ensures.norm, c.if-unsigned_norm.false)))
