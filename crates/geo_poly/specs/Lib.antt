@@ -17,3 +17,4 @@ pub mod RowTables
 pub mod Shared
 pub mod StoreOrder
 pub mod Chained
+pub mod Inner
