@@ -10,7 +10,7 @@ use Rattle.geo_poly.specs.Chained.{AddsChain, IsKey, SameChains, StandsFor, keye
 use Rattle.geo_poly.specs.Polynomials.{Summands}
 use Rattle.geo_poly.proofs.KeyedChains.{keyed_terms-kept, keys-kept}
 
-same_or : (m n : ℕ) → (m ≡ n) ⊎ (m ≢ n)
+pub same_or : (m n : ℕ) → (m ≡ n) ⊎ (m ≢ n)
 same_or zero zero = inl refl
 same_or zero (suc n) = inr (λ e. omega arith)
 same_or (suc m) zero = inr (λ e. omega arith)

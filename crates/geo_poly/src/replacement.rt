@@ -62,7 +62,61 @@ impl Poly {
             ↔ ((replaced_weight rows.now den.now self.now < 2 ^ 127)
             × (65535 < replaced_degree rows.now den.now self.now)) }
     {
-        let rows = &RowTable::new(alloc, rows);
+        let table = &RowTable::new(alloc, rows);
+        let top = self.test_replacement(table, den)?;
+        Ok(self.replacement(alloc, rows, table, den, top)?)
+    }
+
+    /// The chain of the replacement, in an arena and over a store that are given; the variables have
+    /// the places in `vars` as their numbers. It is refused as `replace` is.
+    pub fn replace_chain(
+        &self,
+        alloc: Global,
+        rows: &[Row],
+        den: &Piece,
+        vars: &Vars,
+        store: &mut Monos,
+        arena: &mut Arena,
+    ) -> Result<Chain, PolyError>
+        requires rows { AllBounded rows.now }
+        requires powers { AllPowersSmall rows.now }
+        requires den { IsBounded den.now }
+        requires rising { IsStrictlySortedBy var_cmp vars.now }
+        requires known { AllVariables (Contains vars.now) self.now }
+        requires rows_known { AllNumerators (Contains vars.now) rows.now }
+        requires den_known { AllVariables (Contains vars.now) den.now.poly }
+        ensures chain { IfOk result (λ c. StandsFor vars.now store.new arena.new c
+            (replaced_by rows.now den.now.poly self.now)) }
+        ensures adds { IfOk result (AddsChain arena.old arena.new) }
+        ensures norm { (result ≡ Err (PolyError.TooLarge Which.Norm))
+            ↔ (2 ^ 127 ≤ replaced_weight rows.now den.now self.now) }
+        ensures degree { (result ≡ Err (PolyError.TooLarge Which.Degree))
+            ↔ ((replaced_weight rows.now den.now self.now < 2 ^ 127)
+            × (65535 < replaced_degree rows.now den.now self.now)) }
+        ensures refused { (which : Which) → result ≡ Err (PolyError.TooLarge which)
+            → (arena.new ≡ arena.old) × (store.new ≡ store.old) }
+        ensures err { OnErr result (SameChains arena.old arena.new) }
+        ensures kept { Keeps store.old store.new }
+    {
+        let table = &RowTable::new(alloc, rows);
+        let top = self.test_replacement(table, den)?;
+        Ok(self.chained_replacement(alloc, rows, table, den, top, vars, store, arena)?)
+    }
+
+    /// Whether the replacement fits, and how many denominators each term is to get.
+    fn test_replacement(&self, rows: &RowTable, den: &Piece) -> Result<u32, PolyError>
+        requires rows { AllBounded rows.now }
+        requires powers { AllPowersSmall rows.now }
+        requires den { IsBounded den.now }
+        ensures top { IfOk result (λ top. top ≡ most_denominators rows.now self.now) }
+        ensures can { IfOk result (λ top. CanReplace rows.now den.now top self.now) }
+        ensures norm { (result ≡ Err (PolyError.TooLarge Which.Norm))
+            ↔ (2 ^ 127 ≤ replaced_weight rows.now den.now self.now) }
+        ensures degree { (result ≡ Err (PolyError.TooLarge Which.Degree))
+            ↔ ((replaced_weight rows.now den.now self.now < 2 ^ 127)
+            × (65535 < replaced_degree rows.now den.now self.now)) }
+        ensures memory { result ≢ Err PolyError.NoMemory }
+    {
         let p = &self.shared();
         let top = most_denominators_of(p, rows);
         if weight_of_terms(p, rows, den, top) > MAX as u128 {
@@ -71,35 +125,96 @@ impl Poly {
         if degree_of_terms(p, rows, den, top) > MAX_DEGREE as u128 {
             return Err(PolyError::TooLarge(Which::Degree));
         }
-        let terms = replaced_terms(alloc, &self.to_terms(alloc)?, rows, den, top)?;
-        Ok(Poly::from_terms(alloc, &terms)?)
+        Ok(top)
+    }
+
+    /// The replacement, which fits, with a store and an arena of its own.
+    fn replacement(
+        &self,
+        alloc: Global,
+        rows: &[Row],
+        table: &RowTable,
+        den: &Piece,
+        top: u32,
+    ) -> Result<Poly, NoMemory>
+        requires table { table.now ≡ rows.now }
+        requires top { top ≡ most_denominators rows.now self.now }
+        requires can { CanReplace rows.now den.now top self.now }
+        ensures { IfOk result (λ p. p ≡ replaced_by rows.now den.now.poly self.now) }
+    {
+        let own = union(alloc, self.vars(), den.poly.vars())?;
+        let vars = with_rows(alloc, &own, rows)?;
+        let mut store = Monos::new(alloc);
+        let mut arena = Arena::new(alloc)?;
+        let chain = self
+            .chained_replacement(alloc, rows, table, den, top, &vars, &mut store, &mut arena)?;
+        Poly::from_chain(alloc, vars, store, arena, chain)
+    }
+
+    /// The chain of the replacement, which fits.
+    fn chained_replacement(
+        &self,
+        alloc: Global,
+        rows: &[Row],
+        table: &RowTable,
+        den: &Piece,
+        top: u32,
+        vars: &Vars,
+        store: &mut Monos,
+        arena: &mut Arena,
+    ) -> Result<Chain, NoMemory>
+        requires table { table.now ≡ rows.now }
+        requires top { top ≡ most_denominators rows.now self.now }
+        requires can { CanReplace rows.now den.now top self.now }
+        requires rising { IsStrictlySortedBy var_cmp vars.now }
+        requires known { AllVariables (Contains vars.now) self.now }
+        requires rows_known { AllNumerators (Contains vars.now) rows.now }
+        requires den_known { AllVariables (Contains vars.now) den.now.poly }
+        ensures chain { IfOk result (λ c. StandsFor vars.now store.new arena.new c
+            (replaced_by rows.now den.now.poly self.now)) }
+        ensures adds { IfOk result (AddsChain arena.old arena.new) }
+        ensures err { OnErr result (SameChains arena.old arena.new) }
+        ensures kept { Keeps store.old store.new }
+    {
+        let vars = vars.as_slice();
+        let nums = stored_rows(alloc, store, vars, rows)?;
+        let list = stored_terms(alloc, store, vars, &den.poly.to_terms(alloc)?)?;
+        let terms = self.to_terms(alloc)?;
+        let setting = Setting {
+            vars,
+            rows: table,
+            nums: &nums,
+            den: StoredPiece {
+                piece: den,
+                list: &list,
+            },
+            top,
+        };
+        replaced_chain(alloc, &setting, store, arena, &terms)
     }
 }
 
-/// The terms times the piece, as often as is said.
-fn times_power(
-    alloc: Global,
-    terms: Vec<Term>,
-    piece: &Piece,
-    count: u32,
-) -> Result<Vec<Term>, NoMemory>
-    requires piece { IsBounded piece.now }
-    requires in_order { IsCanonical term_cmp coefficients terms.items }
-    requires monomials { AllKeys IsMonomial terms.items }
-    requires norm { norm_of terms.items * piece.now.weight ^ count < 2 ^ 127 }
-    requires degree { total_degree terms.items + piece.now.degree * count ≤ 65535 }
-    ensures { IfOk result (λ v. v.items ≡ times_power terms.items piece.now.poly count) }
+/// The variables of the list and those of the numerators, in order and each once.
+fn with_rows(alloc: Global, own: &Vars, rows: &[Row]) -> Result<Vars, NoMemory>
+    ensures rising { IfOk result (IsStrictlySortedBy var_cmp) }
+    ensures own { IfOk result (λ vs. (v : Var) → Contains own.now v → Contains vs v) }
+    ensures rows { IfOk result (λ vs. AllNumerators (Contains vs) rows.now) }
 {
-    let factor = piece.poly.to_terms(alloc)?;
-    let mut product = terms;
-    for _k in 0..count {
-        product = product_of_terms(alloc, &product, &factor)?;
+    let mut variables = BTreeSet::new(alloc);
+    insert_all(&mut variables, own.as_slice())?;
+    for row in rows {
+        insert_all(&mut variables, row.num.poly.vars().as_slice())?;
     }
-    Ok(product)
+    let items = variables.into_iter().collect(alloc)?;
+    Ok(Vars { items })
 }
 
 /// The variables with no row.
-fn others_of(alloc: Global, powers: &[(Var, u32)], rows: &RowTable) -> Result<Monomial, NoMemory>
+pub(crate) fn others_of(
+    alloc: Global,
+    powers: &[(Var, u32)],
+    rows: &RowTable,
+) -> Result<Monomial, NoMemory>
     requires { IsMonomial powers.now }
     ensures { IfOk result (λ m. m ≡ others rows.now powers.now) }
 {
@@ -111,65 +226,4 @@ fn others_of(alloc: Global, powers: &[(Var, u32)], rows: &RowTable) -> Result<Mo
         }
     }
     Ok(kept)
-}
-
-/// The term with its numerators, and the denominators that it lacks; `rest` has its other variables.
-fn replaced_term(
-    alloc: Global,
-    rest: Monomial,
-    powers: &[(Var, u32)],
-    coefficient: i128,
-    rows: &RowTable,
-    den: &Piece,
-    top: u32,
-) -> Result<Vec<Term>, NoMemory>
-    requires rest { rest ≡ others rows.now powers.now }
-    requires monomial { IsMonomial rest }
-    requires nonzero { unsigned_abs coefficient ≢ 0 }
-    requires rows { AllBounded rows.now }
-    requires den { IsBounded den.now }
-    requires top { denominators rows.now powers.now ≤ top }
-    requires norm { term_weight rows.now den.now top (powers.now, coefficient) < 2 ^ 127 }
-    requires degree { term_degree rows.now den.now top (powers.now, coefficient) ≤ 65535 }
-    ensures { IfOk result
-        (λ v. v.items ≡ replaced_term rows.now den.now.poly top (powers.now, coefficient)) }
-{
-    let mut product = Vec::new(alloc);
-    product.push((rest, coefficient))?;
-    let mut missing = top;
-    for (v, e) in powers {
-        if let Some(row) = rows.find_row(*v) {
-            missing -= row.power * *e;
-            product = times_power(alloc, product, &row.num, *e)?;
-        }
-    }
-    times_power(alloc, product, den, missing)
-}
-
-/// The sum of what becomes of the terms, by halves.
-fn replaced_terms(
-    alloc: Global,
-    terms: &[Term],
-    rows: &RowTable,
-    den: &Piece,
-    top: u32,
-) -> Result<Vec<Term>, NoMemory>
-    requires { CanReplace rows.now den.now top terms.now }
-    ensures { IfOk result
-        (λ v. v.items ≡ polynomial_of (replaced_terms rows.now den.now.poly top terms.now)) }
-{
-    match terms {
-        [] => Ok(Vec::new(alloc)),
-        [term] => {
-            let powers = term.0.powers();
-            let rest = others_of(alloc, powers, rows)?;
-            replaced_term(alloc, rest, powers, term.1, rows, den, top)
-        }
-        _ => {
-            let (front, back) = terms.split_at(terms.len() / 2);
-            let front = replaced_terms(alloc, front, rows, den, top)?;
-            let back = replaced_terms(alloc, back, rows, den, top)?;
-            merged(alloc, &front, &back)
-        }
-    }
 }
