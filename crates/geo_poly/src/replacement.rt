@@ -1,25 +1,35 @@
 //! Replacing variables of a polynomial at once, each by a numerator over a power of one denominator.
 
-ghost use Rattle.std.specs.Prelude.{◌≡◌, ◌≢◌, ◌↔◌, ◌+◌, ◌*◌, ◌^◌, ◌<◌, ◌≤◌, unsigned_abs, IfOk};
-ghost use Rattle.sparse_lists.specs.SparseLists.{AllKeys, IsCanonical};
+ghost use Rattle.std.specs.Prelude.{◌≡◌, ◌≢◌, ◌↔◌, ◌^◌, ◌<◌, ◌≤◌, Contains, IfOk, OnErr};
+ghost use Rattle.std.specs.List.Sorted.{IsStrictlySortedBy};
+ghost use Rattle.mono_store.specs.Stores.{Keeps};
+ghost use Rattle.geo_poly.specs.declared.limits.Which.{Which};
+ghost use Rattle.geo_poly.specs.declared.variables.Var.{Var};
+ghost use Rattle.geo_poly.specs.Chained.{AddsChain, SameChains, StandsFor};
+ghost use Rattle.geo_poly.specs.KeptVariables.{AllNumerators};
 ghost use Rattle.geo_poly.specs.Monomials.{IsMonomial};
-ghost use Rattle.geo_poly.specs.Polynomials.{coefficients, norm_of, polynomial_of, term_cmp, total_degree};
+ghost use Rattle.geo_poly.specs.PolynomialVariables.{AllVariables};
 ghost use Rattle.geo_poly.specs.Replace.{AllBounded, AllPowersSmall, CanReplace, IsBounded};
-ghost use Rattle.geo_poly.specs.Replace.{denominators, others, replaced_by, replaced_degree};
-ghost use Rattle.geo_poly.specs.Replace.{replaced_term, replaced_terms, replaced_weight};
-ghost use Rattle.geo_poly.specs.Replace.{term_degree, term_weight, times_power};
+ghost use Rattle.geo_poly.specs.Replace.{most_denominators, others, replaced_by};
+ghost use Rattle.geo_poly.specs.Replace.{replaced_degree, replaced_weight};
+ghost use Rattle.geo_poly.specs.Variables.{var_cmp};
 
+use crate::chained_replacement::{replaced_chain, stored_rows};
+use crate::interning::stored_terms;
 use crate::limits::{MAX, MAX_DEGREE, PolyError, Which};
+use crate::lists::Vars;
 use crate::monomials::Monomial;
+use crate::polynomial_variables::{insert_all, union};
 use crate::polynomials::Poly;
-use crate::products::product_of_terms;
 use crate::replacement_bounds::{degree_of_terms, most_denominators_of, weight_of_terms};
 use crate::row_table::RowTable;
-use crate::sums::merged;
-use crate::terms::Term;
+use crate::settings::{Setting, StoredPiece};
 use crate::variables::Var;
 use geo_points::NoMemory;
+use mono_store::Monos;
+use poly_arena::{Arena, Chain};
 use std::alloc::Global;
+use std::collections::BTreeSet;
 
 /// A polynomial with numbers that bound its size, which are known before it is multiplied out. They
 /// are promised only where a contract says `IsBounded`.
