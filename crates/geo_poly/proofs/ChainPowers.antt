@@ -1,5 +1,6 @@
 -- A chain times a polynomial that is stored, as often as is said, and the first chain of a term.
-use Rattle.std.proofs.Common.{◌≡◌, ℕ, ◌+◌, ◌*◌, ◌-◌, ◌^◌, ◌<◌, ◌≤◌, Bool, true, false, eqb, add-one, ℤ, Option, Some, None, List, [], ◌∷◌, refl, sym, ap, ap₂, subst, ◌∙◌, unsigned_abs, arith, nat_tests}
+use Rattle.std.proofs.Common.{◌≡◌, ℕ, ◌+◌, ◌*◌, ◌-◌, ◌^◌, ◌<◌, ◌≤◌, Bool, true, false, eqb, add-one, ℤ, Option, Some, None, List, [], ◌∷◌, refl, sym, ap, ap₂, subst, ◌∙◌, unsigned_abs, arith}
+use Rattle.std.proofs.lemmas.Bool.Decides.{nat_tests}
 use Rattle.std.specs.Prelude.{◌≢◌}
 use Rattle.std.proofs.Math.Nat.{mul-le-mul_right}
 use Rattle.sparse_lists.specs.SparseLists.{AllKeys}
@@ -69,17 +70,20 @@ Progress-start rows top m c monomial nonzero fits =
 
 -- after the last variable
 module _ (rows : List Row) (den : Piece) (top : ℕ) (m : Powers) (c : ℤ) (p : Summands) (missing : ℕ) (done : Progress rows top m c [] p missing) where
+  lacking : missing ≡ top - denominators rows m
+  lacking = omega (arith, done.missing-is)
+
   pub last_norm : term_weight rows den top (m, c) < 2 ^ 127 → norm_of p * den.weight ^ missing < 2 ^ 127
   last_norm h =
       let w = weight_rows rows m (unsigned_abs c) in
-      let same : weight_rows rows m (unsigned_abs c) * den.weight ^ missing ≡ weight_rows rows m (unsigned_abs c) * den.weight ^ (top - denominators rows m) = ap (λ n. w * den.weight ^ n) done.missing-is in
+      let same : weight_rows rows m (unsigned_abs c) * den.weight ^ missing ≡ weight_rows rows m (unsigned_abs c) * den.weight ^ (top - denominators rows m) = ap (λ n. w * den.weight ^ n) lacking in
       let bound : norm_of p * den.weight ^ missing ≤ weight_rows rows m (unsigned_abs c) * den.weight ^ missing = mul-le-mul_right (den.weight ^ missing) done.norm in
       omega (arith, same, bound, h)
 
   pub last_degree : term_degree rows den top (m, c) ≤ 65535 → total_degree p + den.degree * missing ≤ 65535
   last_degree h =
-      let same : den.degree * missing ≡ den.degree * (top - denominators rows m) = ap (λ n. den.degree * n) done.missing-is in
+      let same : den.degree * missing ≡ den.degree * (top - denominators rows m) = ap (λ n. den.degree * n) lacking in
       omega (arith, same, done.degree, h)
 
   pub last_is : (q : Summands) → times_power p q missing ≡ replaced_term rows q top (m, c)
-  last_is q = ap₂ (λ (x : Summands) (n : ℕ). times_power x q n) done.kept done.missing-is
+  last_is q = ap₂ (λ (x : Summands) (n : ℕ). times_power x q n) done.kept lacking

@@ -1,7 +1,7 @@
 //! Replacements as chains of an arena.
 
 ghost use Rattle.std.specs.Prelude.{◌≡◌, ◌≢◌, ◌+◌, ◌*◌, ◌^◌, ◌<◌, ◌≤◌, ◌∷◌, [], unsigned_abs};
-ghost use Rattle.std.specs.Prelude.{Contains, IfOk, OnErr, None, Some};
+ghost use Rattle.std.specs.Prelude.{Contains, IfOk, OnErr, None, Some, length, slice_get};
 ghost use Rattle.std.specs.List.Sorted.{IsStrictlySortedBy};
 ghost use Rattle.sparse_lists.specs.SparseLists.{AllKeys, IsCanonical};
 ghost use Rattle.mono_store.specs.Stores.{Keeps};
@@ -20,8 +20,9 @@ ghost use Rattle.geo_poly.specs.Shared.{IsIndex, powers_at, terms_of};
 ghost use Rattle.geo_poly.specs.Variables.{var_cmp};
 
 use crate::chained::{product_chain, summed};
-use crate::interning::{indexed, stored, stored_terms};
-use crate::replacement::{Row, others_of};
+use crate::interning::{indexed, place_of, stored_terms};
+use crate::replacement::Row;
+use crate::row_table::RowTable;
 use crate::settings::{IndexList, Setting, StoredPiece};
 use crate::shared::Indexed;
 use crate::terms::Term;
@@ -130,6 +131,42 @@ fn times_power_chain(
     Ok(product)
 }
 
+/// The list at a place.
+fn list_at(lists: &[IndexList], i: usize) -> &[Indexed]
+    requires { i < length lists.now }
+    ensures { slice_get lists.now i ≡ Some result.now }
+{
+    lists[i].as_slice()
+}
+
+/// The index of the monomial of the variables with no row.
+fn stored_others(
+    store: &mut Monos,
+    vars: &[Var],
+    rows: &RowTable,
+    powers: &[(Var, u32)],
+) -> Result<MonoId, NoMemory>
+    requires rising { IsStrictlySortedBy var_cmp vars.now }
+    requires monomial { IsMonomial powers.now }
+    requires known { AllKeys (Contains vars.now) powers.now }
+    ensures index { IfOk result (IsIndex vars.now store.new) }
+    ensures powers { IfOk result
+        (λ id. powers_at vars.now store.new id ≡ others rows.now powers.now) }
+    ensures kept { Keeps store.old store.new }
+{
+    let mut id = store.one();
+    let mut i = powers.len();
+    while i > 0 {
+        i -= 1;
+        let (v, exponent) = powers[i];
+        match rows.find_row(v) {
+            Some(_) => {}
+            None => id = store.mono(place_of(vars, v), exponent, id)?,
+        }
+    }
+    Ok(id)
+}
+
 /// The chain of a term with its numerators, and the denominators that it lacks; `rest` has its other
 /// variables.
 fn replaced_term_chain(
@@ -168,7 +205,7 @@ fn replaced_term_chain(
             missing -= row.power * *e;
             let factor = StoredPiece {
                 piece: &row.num,
-                list: setting.nums[i].as_slice(),
+                list: list_at(setting.nums, i),
             };
             product = times_power_chain(alloc, store, arena, vars, product, &factor, *e)?;
         }
@@ -198,8 +235,7 @@ pub(crate) fn replaced_chain(
         [] => Ok(arena.chain()?),
         [term] => {
             let powers = term.0.powers();
-            let others = others_of(alloc, powers, setting.rows)?;
-            let rest = stored(store, setting.vars, others.powers())?;
+            let rest = stored_others(store, setting.vars, setting.rows, powers)?;
             replaced_term_chain(alloc, setting, store, arena, rest, powers, term.1)
         }
         _ => {

@@ -18,7 +18,7 @@ use mono_store::{MonoId, Monos};
 use std::alloc::Global;
 
 /// The place of a variable in the list.
-fn place_of(vars: &[Var], v: Var) -> u64
+pub(crate) fn place_of(vars: &[Var], v: Var) -> u64
     requires rising { IsStrictlySortedBy var_cmp vars.now }
     requires known { Contains vars.now v }
     ensures within { result < length vars.now }

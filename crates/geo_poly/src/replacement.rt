@@ -7,10 +7,9 @@ ghost use Rattle.geo_poly.specs.declared.limits.Which.{Which};
 ghost use Rattle.geo_poly.specs.declared.variables.Var.{Var};
 ghost use Rattle.geo_poly.specs.Chained.{AddsChain, SameChains, StandsFor};
 ghost use Rattle.geo_poly.specs.KeptVariables.{AllNumerators};
-ghost use Rattle.geo_poly.specs.Monomials.{IsMonomial};
 ghost use Rattle.geo_poly.specs.PolynomialVariables.{AllVariables};
 ghost use Rattle.geo_poly.specs.Replace.{AllBounded, AllPowersSmall, CanReplace, IsBounded};
-ghost use Rattle.geo_poly.specs.Replace.{most_denominators, others, replaced_by};
+ghost use Rattle.geo_poly.specs.Replace.{most_denominators, replaced_by};
 ghost use Rattle.geo_poly.specs.Replace.{replaced_degree, replaced_weight};
 ghost use Rattle.geo_poly.specs.Variables.{var_cmp};
 
@@ -18,7 +17,6 @@ use crate::chained_replacement::{replaced_chain, stored_rows};
 use crate::interning::stored_terms;
 use crate::limits::{MAX, MAX_DEGREE, PolyError, Which};
 use crate::lists::Vars;
-use crate::monomials::Monomial;
 use crate::polynomial_variables::{insert_all, union};
 use crate::polynomials::Poly;
 use crate::replacement_bounds::{degree_of_terms, most_denominators_of, weight_of_terms};
@@ -217,23 +215,4 @@ fn with_rows(alloc: Global, own: &Vars, rows: &[Row]) -> Result<Vars, NoMemory>
     }
     let items = variables.into_iter().collect(alloc)?;
     Ok(Vars { items })
-}
-
-/// The variables with no row.
-pub(crate) fn others_of(
-    alloc: Global,
-    powers: &[(Var, u32)],
-    rows: &RowTable,
-) -> Result<Monomial, NoMemory>
-    requires { IsMonomial powers.now }
-    ensures { IfOk result (λ m. m ≡ others rows.now powers.now) }
-{
-    let mut kept = Monomial::one(alloc);
-    for (v, e) in powers {
-        match rows.find_row(*v) {
-            Some(_) => {}
-            None => kept.push(*v, *e)?,
-        }
-    }
-    Ok(kept)
 }

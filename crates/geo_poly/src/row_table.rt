@@ -71,8 +71,16 @@ impl<'a> RowTable<'a> {
         requires { i < length self.now }
         ensures { slice_get self.now i ≡ Some result.now }
     {
-        &self.rows[i]
+        row_at(self.rows, i)
     }
+}
+
+/// The row at a place.
+fn row_at(rows: &[Row], i: usize) -> &Row
+    requires { i < length rows.now }
+    ensures { slice_get rows.now i ≡ Some result.now }
+{
+    &rows[i]
 }
 
 /// The place of the first row of each variable.

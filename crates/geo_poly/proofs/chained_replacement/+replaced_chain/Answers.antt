@@ -5,15 +5,16 @@ use Rattle.std.proofs.lemmas.Int.{to_z-of_z}
 use Rattle.std.proofs.lemmas.Result.{IfOk-weaker}
 use Rattle.sparse_lists.specs.SparseLists.{AllKeys, IsCanonical}
 use Rattle.geo_poly.specs.Chained.{StandsFor}
-use Rattle.geo_poly.specs.Monomials.{Powers}
+use Rattle.geo_poly.specs.Monomials.{IsMonomial, Powers}
 use Rattle.geo_poly.specs.Polynomials.{Summands, coefficients, polynomial_of, term_cmp}
+use Rattle.geo_poly.specs.PolynomialVariables.{AllVariables}
 use Rattle.geo_poly.specs.Replace.{replaced_term, replaced_terms}
 use Rattle.geo_poly.proofs.ChainHalves.{AllKeys-drop, AllKeys-take}
 use Rattle.geo_poly.proofs.ChainPowers.{known_others}
 use Rattle.geo_poly.proofs.ChainSums.{first_order, first_still, norms_fit, second_order, sum_is}
 use Rattle.geo_poly.proofs.ChainSwaps.{IsSet-kept}
 use Rattle.geo_poly.proofs.ProductLaws.{single}
-use Rattle.geo_poly.proofs.ReplaceTerms.{CanReplace-drop, CanReplace-take, IsCanonical-polynomial_of, replaced_halves, replaced_halves_fit, replaced_of_one}
+use Rattle.geo_poly.proofs.ReplaceTerms.{CanReplace-drop, CanReplace-take, IsCanonical-polynomial_of, IsMonomial-others, replaced_halves, replaced_halves_fit, replaced_of_one}
 use Rattle.geo_poly.proofs.chained_replacement.+replaced_chain.Goals as goal
 
 pub replaced_chain-requires : goal.replaced_chain-requires
@@ -58,11 +59,37 @@ summed-requires-clause-fits t c =
     c.in_ok-sum-in_default.sum c.in-Ok.rest _ _ c.in_ok-sum-in_default.ensures.chain c.in-Ok.ensures.adds c.in-Ok.ensures.chain
     (rw (c.split_at.ensures.front, c.split_at.ensures.back) (replaced_halves_fit setting.rows.now setting.den.piece.now setting.top (length c.args.terms.now / 2) c.args.terms.now c.requires.can))
 
-pub stored-requires-clause-known : goal.stored-requires-clause-known
-stored-requires-clause-known t c = ?
+pub stored_others-requires-clause-known : goal.stored_others-requires-clause-known
+stored_others-requires-clause-known t c =
+    let known = c.args.setting.now.vars.now in
+    let whole = single c.args.terms.now c.term-item.result c.in-len1.len_at_least c.in-len1.len_below c.term-item.is in
+    let all : AllVariables (Contains c.args.setting.now.vars.now) (c.term-item.result ∷ []) = subst (λ (ts : Summands). AllVariables (Contains known) ts) (sym whole) c.requires.known in
+    rw c.powers-powers.ensures all.0
 
-pub returns-in-len1-clause-chain : goal.returns-in-len1-clause-chain
-returns-in-len1-clause-chain t c = ?
+pub replaced_term_chain-requires-clause-monomial : goal.replaced_term_chain-requires-clause-monomial
+replaced_term_chain-requires-clause-monomial t c =
+    let rows = c.args.setting.now.rows.now in
+    let whole = single c.args.terms.now c.term-item.result c.in-len1.len_at_least c.in-len1.len_below c.term-item.is in
+    let all : AllKeys IsMonomial (c.term-item.result ∷ []) = subst (λ (ts : Summands). AllKeys IsMonomial ts) (sym whole) c.requires.can.monomials in
+    rw c.powers-powers.ensures (IsMonomial-others rows c.term-item.result.0 all.0)
+
+pub replaced_term_chain-requires-clause-set : goal.replaced_term_chain-requires-clause-set
+replaced_term_chain-requires-clause-set t c = IsSet-kept c.args.setting.now c.args.store.now c.stored_others.new.store c.in_ok-rest-in-len1.ensures.kept c.requires.set
+
+pub returns-in_ok-rest-in-len1-clause-chain : goal.returns-in_ok-rest-in-len1-clause-chain
+returns-in_ok-rest-in-len1-clause-chain t c =
+    let setting = c.args.setting.now in
+    let term = c.term-item.result in
+    let rows = setting.rows.now in
+    let den = setting.den.piece.now.poly in
+    let whole = single c.args.terms.now term c.in-len1.len_at_least c.in-len1.len_below c.term-item.is in
+    let fits : FitsSigned w128 c.term-item.result.1 = search rules in
+    let same : (c.powers-powers.result.now, to_z w128 (of_z w128 term.1)) ≡ term = ap₂ (λ (m : Powers) (a : ℤ). (m, a)) c.powers-powers.ensures (to_z-of_z w128 term.1 fits) in
+    let in_order : IsCanonical term_cmp coefficients (term ∷ []) = subst (IsCanonical term_cmp coefficients) (sym whole) c.requires.can.in_order in
+    IfOk-weaker c.replaced_term_chain.result _ _
+    (λ v h. subst (λ (p : Summands). StandsFor setting.vars.now c.replaced_term_chain.new.store c.replaced_term_chain.new.arena v p)
+    (ap (replaced_term rows den setting.top) same ∙ replaced_of_one rows den setting.top term in_order.0 ∙ ap (λ (x : Summands). polynomial_of (replaced_terms rows den setting.top x)) whole) h)
+    c.replaced_term_chain.ensures.chain
 
 pub returns-in-Ok-clause-chain : goal.returns-in-Ok-clause-chain
 returns-in-Ok-clause-chain t c =

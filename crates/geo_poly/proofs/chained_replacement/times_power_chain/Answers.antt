@@ -1,10 +1,10 @@
-use Rattle.std.proofs.Common.{refl}
+use Rattle.std.proofs.Common.{rules}
 use Rattle.mono_store.proofs.Interning.{Keeps_trans}
 use Rattle.poly_arena.specs.Chains.{pairs_of}
 use Rattle.geo_poly.specs.Chained.{keyed_terms}
 use Rattle.geo_poly.specs.Polynomials.{IsPolynomial}
 use Rattle.geo_poly.proofs.ChainPowers.{StandsFor-self, next_power, power_fits}
-use Rattle.geo_poly.proofs.ChainSwaps.{Swaps-refl, Swaps-spent, Swaps-trans}
+use Rattle.geo_poly.proofs.ChainSwaps.{on_err, Swaps-refl, Swaps-spent, Swaps-trans}
 use Rattle.geo_poly.proofs.ReplaceBounds.{CanMultiply-times_power}
 use Rattle.geo_poly.proofs.Told.{indices-kept}
 use Rattle.geo_poly.proofs.chained_replacement.times_power_chain.Goals as goal
@@ -44,6 +44,6 @@ loop-k-preserved c =
           c.times_list.new.store c.times_list.new.arena made c.in_ok-product.ensures.chain;
     }
 
-pub returns-in_err-times_list-clause-err : goal.returns-in_err-times_list-clause-err
-returns-in_err-times_list-clause-err c =
-    Swaps-spent c.args.arena.now c.loop-k.arena c.times_list.new.arena c.args.chain c.loop-k.product c.loop-k.invariant.swaps c.in_err-times_list.ensures.err
+pub returns-in_err-product-clause-err : goal.returns-in_err-product-clause-err
+returns-in_err-product-clause-err c =
+    on_err c.from_residual.result _ (Swaps-spent c.args.arena.now c.loop-k.arena c.times_list.new.arena c.args.chain c.loop-k.product c.loop-k.invariant.swaps c.in_err-product.ensures.err)
