@@ -70,9 +70,8 @@ impl Poly {
             ↔ ((replaced_weight rows.now den.now self.now < 2 ^ 127)
             × (65535 < replaced_degree rows.now den.now self.now)) }
     {
-        let table = &RowTable::new(alloc, rows);
-        let top = self.test_replacement(table, den)?;
-        Ok(self.replacement(alloc, rows, table, den, top)?)
+        let (table, top) = self.test_replacement(alloc, rows, den)?;
+        Ok(self.replacement(alloc, &table, den, top)?)
     }
 
     /// The chain of the replacement, in an arena and over a store that are given; the variables have
@@ -106,18 +105,23 @@ impl Poly {
         ensures err { OnErr result (SameChains arena.old arena.new) }
         ensures kept { Keeps store.old store.new }
     {
-        let table = &RowTable::new(alloc, rows);
-        let top = self.test_replacement(table, den)?;
-        Ok(self.chained_replacement(alloc, rows, table, den, top, vars, store, arena)?)
+        let (table, top) = self.test_replacement(alloc, rows, den)?;
+        Ok(self.chained_replacement(alloc, &table, den, top, vars, store, arena)?)
     }
 
-    /// Whether the replacement fits, and how many denominators each term is to get.
-    fn test_replacement(&self, rows: &RowTable, den: &Piece) -> Result<u32, PolyError>
+    /// Whether the replacement fits; if so, the rows, and how many denominators each term is to get.
+    fn test_replacement<'a>(
+        &self,
+        alloc: Global,
+        rows: &'a [Row],
+        den: &Piece,
+    ) -> Result<(RowTable<'a>, u32), PolyError>
         requires rows { AllBounded rows.now }
         requires powers { AllPowersSmall rows.now }
         requires den { IsBounded den.now }
-        ensures top { IfOk result (λ top. top ≡ most_denominators rows.now self.now) }
-        ensures can { IfOk result (λ top. CanReplace rows.now den.now top self.now) }
+        ensures rows { IfOk result (λ t. t.0 ≡ rows.now) }
+        ensures top { IfOk result (λ t. t.1 ≡ most_denominators rows.now self.now) }
+        ensures can { IfOk result (λ t. CanReplace rows.now den.now t.1 self.now) }
         ensures norm { (result ≡ Err (PolyError.TooLarge Which.Norm))
             ↔ (2 ^ 127 ≤ replaced_weight rows.now den.now self.now) }
         ensures degree { (result ≡ Err (PolyError.TooLarge Which.Degree))
@@ -126,36 +130,35 @@ impl Poly {
         ensures memory { result ≢ Err PolyError.NoMemory }
     {
         let p = &self.shared();
-        let top = most_denominators_of(p, rows);
-        if weight_of_terms(p, rows, den, top) > MAX as u128 {
+        let table = RowTable::new(alloc, rows);
+        let top = most_denominators_of(p, &table);
+        if weight_of_terms(p, &table, den, top) > MAX as u128 {
             return Err(PolyError::TooLarge(Which::Norm));
         }
-        if degree_of_terms(p, rows, den, top) > MAX_DEGREE as u128 {
+        if degree_of_terms(p, &table, den, top) > MAX_DEGREE as u128 {
             return Err(PolyError::TooLarge(Which::Degree));
         }
-        Ok(top)
+        Ok((table, top))
     }
 
     /// The replacement, which fits, with a store and an arena of its own.
     fn replacement(
         &self,
         alloc: Global,
-        rows: &[Row],
-        table: &RowTable,
+        rows: &RowTable,
         den: &Piece,
         top: u32,
     ) -> Result<Poly, NoMemory>
-        requires table { table.now ≡ rows.now }
         requires top { top ≡ most_denominators rows.now self.now }
         requires can { CanReplace rows.now den.now top self.now }
         ensures { IfOk result (λ p. p ≡ replaced_by rows.now den.now.poly self.now) }
     {
         let own = union(alloc, self.vars(), den.poly.vars())?;
-        let vars = with_rows(alloc, &own, rows)?;
+        let vars = with_rows(alloc, &own, rows.rows())?;
         let mut store = Monos::new(alloc);
         let mut arena = Arena::new(alloc)?;
-        let chain = self
-            .chained_replacement(alloc, rows, table, den, top, &vars, &mut store, &mut arena)?;
+        let chain =
+            self.chained_replacement(alloc, rows, den, top, &vars, &mut store, &mut arena)?;
         Poly::from_chain(alloc, vars, store, arena, chain)
     }
 
@@ -163,15 +166,13 @@ impl Poly {
     fn chained_replacement(
         &self,
         alloc: Global,
-        rows: &[Row],
-        table: &RowTable,
+        rows: &RowTable,
         den: &Piece,
         top: u32,
         vars: &Vars,
         store: &mut Monos,
         arena: &mut Arena,
     ) -> Result<Chain, NoMemory>
-        requires table { table.now ≡ rows.now }
         requires top { top ≡ most_denominators rows.now self.now }
         requires can { CanReplace rows.now den.now top self.now }
         requires rising { IsStrictlySortedBy var_cmp vars.now }
@@ -185,12 +186,12 @@ impl Poly {
         ensures kept { Keeps store.old store.new }
     {
         let vars = vars.as_slice();
-        let nums = stored_rows(alloc, store, vars, rows)?;
+        let nums = stored_rows(alloc, store, vars, rows.rows())?;
         let list = stored_terms(alloc, store, vars, &den.poly.to_terms(alloc)?)?;
         let terms = self.to_terms(alloc)?;
         let setting = Setting {
             vars,
-            rows: table,
+            rows,
             nums: &nums,
             den: StoredPiece {
                 piece: den,

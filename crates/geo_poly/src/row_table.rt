@@ -44,6 +44,13 @@ impl<'a> RowTable<'a> {
         RowTable { rows, places }
     }
 
+    /// The rows.
+    pub(crate) fn rows(&self) -> &[Row]
+        ensures { result.now ≡ self.now }
+    {
+        self.rows
+    }
+
     /// The first row of the variable.
     pub(crate) fn find_row(&self, v: Var) -> Option<&Row>
         ensures { option_copied result ≡ row_of self.now v }
