@@ -13,7 +13,7 @@ use Rattle.geo_poly.specs.Chained.{IsKey, StandsFor, keyed_terms}
 use Rattle.geo_poly.specs.Inner.Settings.{IsStoredAs}
 use Rattle.geo_poly.specs.Monomials.{IsMonomial, Powers, degree_of}
 use Rattle.geo_poly.specs.Polynomials.{CanMultiply, Summands, norm_of, product_of, total_degree}
-use Rattle.geo_poly.specs.Replace.{degree_rows, denominators, kept, others, replaced_term, row_of, term_degree, term_weight, times_power, weight_rows}
+use Rattle.geo_poly.specs.Replace.{denominators, kept, others, replaced_term, row_of, term_degree, term_weight, times_power, weight_rows}
 use Rattle.geo_poly.specs.Shared.{Indices, terms_of}
 use Rattle.geo_poly.proofs.ReplaceLoop.{Progress, degree_rows-mono, weight_rows-mono}
 use Rattle.geo_poly.proofs.Told.{terms_of-kept}

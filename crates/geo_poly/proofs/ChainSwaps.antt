@@ -1,6 +1,6 @@
 -- Chains that are spent for others, and the lists that stand for pieces, where a store grows.
-use Rattle.std.proofs.Common.{◌≡◌, ℕ, zero, suc, ◌<◌, get_or, length, arith, ◌⊎◌, inl, inr, Some, None, List, [], ◌∷◌, ◌++◌, refl, sym, ap, subst, ◌∙◌}
-use Rattle.std.specs.Prelude.{◌≢◌, slice_get, Result, Ok, Err, OnErr}
+use Rattle.std.proofs.Common.{◌≡◌, ℕ, zero, suc, ◌<◌, get_or, length, arith, inl, inr, Some, None, List, [], ◌∷◌, ◌++◌, refl, sym, ap, subst, ◌∙◌}
+use Rattle.std.specs.Prelude.{slice_get, Result, Ok, Err, OnErr}
 use Rattle.mono_store.specs.Stores.{Keeps, Links}
 use Rattle.poly_arena.specs.Chains.{Chains, Updates, list_of}
 use Rattle.geo_poly.specs.declared.replacement.Row.{Row}
@@ -11,7 +11,7 @@ use Rattle.geo_poly.specs.Inner.Settings.{AreStored, IsSet, IsStoredAs, Swaps}
 use Rattle.geo_poly.specs.KeptVariables.{AllNumerators}
 use Rattle.geo_poly.specs.Polynomials.{Summands}
 use Rattle.geo_poly.specs.PolynomialVariables.{AllVariables}
-use Rattle.geo_poly.specs.Shared.{Indices, terms_of}
+use Rattle.geo_poly.specs.Shared.{Indices}
 use Rattle.geo_poly.proofs.ChainSteps.{same_or}
 use Rattle.geo_poly.proofs.Told.{indices-kept, terms_of-kept}
 

@@ -64,10 +64,7 @@ pub(crate) fn union(alloc: Global, left: &Vars, right: &Vars) -> Result<Vars, No
 }
 
 /// Inserts variables.
-pub(crate) fn insert_all(
-    variables: &mut BTreeSet<Var>,
-    more: &[Var],
-) -> Result<(), NoMemory>
+pub(crate) fn insert_all(variables: &mut BTreeSet<Var>, more: &[Var]) -> Result<(), NoMemory>
     ensures { OnOk result
         (variables.new.keys ≡ fold (insert_key var_cmp) variables.old.keys more.now) }
 {

@@ -153,13 +153,27 @@ impl Poly {
         requires can { CanReplace rows.now den.now top self.now }
         ensures { IfOk result (λ p. p ≡ replaced_by rows.now den.now.poly self.now) }
     {
-        let own = union(alloc, self.vars(), den.poly.vars())?;
-        let vars = with_rows(alloc, &own, rows.rows())?;
+        let vars = self.replacement_vars(alloc, rows.rows(), den)?;
         let mut store = Monos::new(alloc);
         let mut arena = Arena::new(alloc)?;
-        let chain =
-            self.chained_replacement(alloc, rows, den, top, &vars, &mut store, &mut arena)?;
+        let chain = self.chained_replacement(alloc, rows, den, top, &vars, &mut store, &mut arena)?;
         Poly::from_chain(alloc, vars, store, arena, chain)
+    }
+
+    /// The variables of all that the replacement is made of.
+    pub(crate) fn replacement_vars(
+        &self,
+        alloc: Global,
+        rows: &[Row],
+        den: &Piece,
+    ) -> Result<Vars, NoMemory>
+        ensures rising { IfOk result (IsStrictlySortedBy var_cmp) }
+        ensures known { IfOk result (λ vs. AllVariables (Contains vs) self.now) }
+        ensures rows_known { IfOk result (λ vs. AllNumerators (Contains vs) rows.now) }
+        ensures den_known { IfOk result (λ vs. AllVariables (Contains vs) den.now.poly) }
+    {
+        let own = union(alloc, self.vars(), den.poly.vars())?;
+        with_rows(alloc, &own, rows)
     }
 
     /// The chain of the replacement, which fits.

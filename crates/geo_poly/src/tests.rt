@@ -248,7 +248,34 @@ fn products_stand_in_a_callers_arena(rt: HostRuntime) -> Result<(), Fail> {
     let mut arena = Arena::new(alloc)?;
     let text = format!(in alloc; " {}:+1 {}:-1", x_squared.0, y_squared.0)?;
     let chain = left.mul_chain(alloc, &right, &vars, &mut store, &mut arena)?;
-    assert_eq!(rt; spelled_chain(alloc, &mut arena, chain)?.as_str(), text.as_str());
+    assert_eq!(rt;
+        spelled_chain(alloc, &mut arena, chain)?.as_str(),
+        text.as_str()
+    );
+    Ok(())
+}
+
+#[test]
+fn replacements_stand_in_a_callers_arena(rt: HostRuntime) -> Result<(), Fail> {
+    let alloc = rt.alloc();
+    let sum = linear(alloc, 1, 1)?;
+    let rows = [Row {
+        var: Var::X(PointId(0)),
+        power: 1,
+        num: piece(linear(alloc, 0, 1)?),
+    }];
+    let den = piece(Poly::constant(alloc, 2)?);
+    let vars = sum.replacement_vars(alloc, &rows, &den)?;
+    let mut store = Monos::new(alloc);
+    let one = store.one();
+    let y = store.mono(1, 1, one)?;
+    let text = format!(in alloc; " {}:+3", y.0)?;
+    let mut arena = Arena::new(alloc)?;
+    let chain = sum.replace_chain(alloc, &rows, &den, &vars, &mut store, &mut arena)?;
+    assert_eq!(rt;
+        spelled_chain(alloc, &mut arena, chain)?.as_str(),
+        text.as_str()
+    );
     Ok(())
 }
 

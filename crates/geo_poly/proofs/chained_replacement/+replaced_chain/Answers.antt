@@ -10,7 +10,6 @@ use Rattle.geo_poly.specs.Polynomials.{Summands, coefficients, polynomial_of, te
 use Rattle.geo_poly.specs.PolynomialVariables.{AllVariables}
 use Rattle.geo_poly.specs.Replace.{replaced_term, replaced_terms}
 use Rattle.geo_poly.proofs.ChainHalves.{AllKeys-drop, AllKeys-take}
-use Rattle.geo_poly.proofs.ChainPowers.{known_others}
 use Rattle.geo_poly.proofs.ChainSums.{first_order, first_still, norms_fit, second_order, sum_is}
 use Rattle.geo_poly.proofs.ChainSwaps.{IsSet-kept}
 use Rattle.geo_poly.proofs.ProductLaws.{single}
@@ -20,18 +19,30 @@ use Rattle.geo_poly.proofs.chained_replacement.+replaced_chain.Goals as goal
 pub replaced_chain-requires : goal.replaced_chain-requires
 replaced_chain-requires t c =
     let setting = c.args.setting.now in
-    let n = length c.args.terms.now / 2 in
-    (search rules, (c.requires.set,
-    (rw c.split_at.ensures.front (AllKeys-take (λ (m : Powers). AllKeys (Contains setting.vars.now) m) n c.args.terms.now c.requires.known),
-    rw c.split_at.ensures.front (CanReplace-take setting.rows.now setting.den.piece.now setting.top n c.args.terms.now c.requires.can))))
+    let n = length c.args.terms.now / 2 in (
+      search rules,
+      (
+        c.requires.set,
+        (
+          rw c.split_at.ensures.front (AllKeys-take (λ (m : Powers). AllKeys (Contains setting.vars.now) m) n c.args.terms.now c.requires.known),
+          rw c.split_at.ensures.front (CanReplace-take setting.rows.now setting.den.piece.now setting.top n c.args.terms.now c.requires.can),
+        ),
+      ),
+    )
 
 pub replaced_chain-requires-in_default : goal.replaced_chain-requires-in_default
 replaced_chain-requires-in_default t c =
     let setting = c.args.setting.now in
-    let n = length c.args.terms.now / 2 in
-    (search rules, (IsSet-kept setting c.args.store.now c.replaced_chain.new.store c.in_ok-sum-in_default.ensures.kept c.requires.set,
-    (rw c.split_at.ensures.back (AllKeys-drop (λ (m : Powers). AllKeys (Contains setting.vars.now) m) n c.args.terms.now c.requires.known),
-    rw c.split_at.ensures.back (CanReplace-drop setting.rows.now setting.den.piece.now setting.top n c.args.terms.now c.requires.can))))
+    let n = length c.args.terms.now / 2 in (
+      search rules,
+      (
+        IsSet-kept setting c.args.store.now c.replaced_chain.new.store c.in_ok-sum-in_default.ensures.kept c.requires.set,
+        (
+          rw c.split_at.ensures.back (AllKeys-drop (λ (m : Powers). AllKeys (Contains setting.vars.now) m) n c.args.terms.now c.requires.known),
+          rw c.split_at.ensures.back (CanReplace-drop setting.rows.now setting.den.piece.now setting.top n c.args.terms.now c.requires.can),
+        ),
+      ),
+    )
 
 pub summed-requires-clause-left_keys : goal.summed-requires-clause-left_keys
 summed-requires-clause-left_keys t c =

@@ -1,20 +1,17 @@
-use Rattle.std.proofs.Common.{◌≡◌, ℕ, ◌+◌, ◌<◌, ℤ, Some, List, [], ◌∷◌, drop, length, get_or, sym, ap, subst, ◌∙◌, to_z, of_z, unsigned_abs, rules, arith}
+use Rattle.std.proofs.Common.{◌≡◌, ℕ, ◌+◌, ◌<◌, ℤ, Some, List, ◌∷◌, drop, length, get_or, sym, subst, ◌∙◌, to_z, of_z, unsigned_abs, rules, arith}
 use Rattle.std.proofs.Math.Nat.{le_refl}
 use Rattle.std.specs.Int.{w128}
 use Rattle.std.proofs.lemmas.Int.{to_z-of_z}
-use Rattle.std.proofs.lemmas.Result.{IfOk-weaker, on_err_weaker}
 use Rattle.mono_store.proofs.Interning.{Keeps_trans}
-use Rattle.poly_arena.specs.Chains.{Chains, pairs_of}
+use Rattle.poly_arena.specs.Chains.{pairs_of}
 use Rattle.geo_poly.specs.declared.variables.Var.{Var}
 use Rattle.geo_poly.specs.declared.variables.Var.TheVariants.{R}
 use Rattle.geo_poly.specs.declared.replacement.Row.{Row}
-use Rattle.geo_poly.specs.Chained.{StandsFor, keyed_terms}
+use Rattle.geo_poly.specs.Chained.{keyed_terms}
 use Rattle.geo_poly.specs.Monomials.{Powers, degree_of}
 use Rattle.geo_poly.specs.Polynomials.{Summands}
 use Rattle.geo_poly.specs.Replace.{degree_rows, others, row_of, weight_rows}
 use Rattle.sparse_lists.proofs.Merging.{drop_at, get_or_any}
-use Rattle.geo_poly.proofs.ChainPowers.{Progress-start, last_degree, last_is, last_norm}
-use Rattle.geo_poly.proofs.ChainSteps.{StandsFor-list, gave_back}
 use Rattle.geo_poly.proofs.ChainSwaps.{AddsChain-swaps, AreStored-at, IsStoredAs-kept, length-AreStored}
 use Rattle.geo_poly.proofs.ReplaceLoop.{Progress, Progress-none, Progress-some, bounded_row, row_fits, rows_weight_fits}
 use Rattle.geo_poly.proofs.chained_replacement.replaced_term_chain.Goals as goal
@@ -30,7 +27,6 @@ at m i = get_or m i none
 shown : (rows : List Row) (top : ℕ) (m : Powers) (k : ℤ) (i : ℕ) (p : Summands) (missing : ℕ) → i < length m → Progress rows top m k (drop i m) p missing → Progress rows top m k (at m i ∷ drop (i + 1) m) p missing
 shown rows top m k i p missing h progress =
     subst (λ left. Progress rows top m k left p missing) (drop_at m i (at m i) h (get_or_any m i none (at m i) h)) progress
-
 
 pub list_at-requires : goal.list_at-requires
 list_at-requires c =

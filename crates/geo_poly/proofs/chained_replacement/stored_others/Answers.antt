@@ -15,7 +15,7 @@ use Rattle.geo_poly.specs.Replace.{others, row_of}
 use Rattle.geo_poly.specs.Shared.{AllPlaces, named, var_at}
 use Rattle.geo_poly.specs.Variables.{var_cmp}
 use Rattle.geo_poly.proofs.Naming.{IsMonomial-drop, IsPowerBefore-named}
-use Rattle.geo_poly.proofs.ReplaceTerms.{IsMonomial-others, others-none, others-some}
+use Rattle.geo_poly.proofs.ReplaceTerms.{IsMonomial-others, others-none}
 use Rattle.geo_poly.proofs.chained_replacement.stored_others.Goals as goal
 
 abbrev none : Var × ℕ

@@ -1,9 +1,9 @@
-use Rattle.std.proofs.Common.{◌≡◌, map, sym, ap, ap₂, subst, ◌∙◌}
+use Rattle.std.proofs.Common.{map, sym, ap, subst, ◌∙◌}
 use Rattle.std.proofs.lemmas.Result.{IfOk-weaker, on_err_weaker}
 use Rattle.poly_arena.specs.Chains.{Pairs, pairs_of}
-use Rattle.geo_poly.specs.Chained.{StandsFor, indexed_pair, keyed_terms}
+use Rattle.geo_poly.specs.Chained.{StandsFor, indexed_pair}
 use Rattle.geo_poly.specs.Polynomials.{CanMultiply, Summands, product_of}
-use Rattle.geo_poly.specs.Shared.{Indices, terms_of}
+use Rattle.geo_poly.specs.Shared.{terms_of}
 use Rattle.geo_poly.proofs.ChainSwaps.{Swaps-from, spent_same}
 use Rattle.geo_poly.proofs.KeyedChains.{chain_indices, chain_terms}
 use Rattle.geo_poly.proofs.chained_replacement.times_list.Goals as goal

@@ -1,4 +1,4 @@
-use Rattle.std.proofs.Common.{refl, rules, arith}
+use Rattle.std.proofs.Common.{refl, arith}
 use Rattle.geo_poly.proofs.polynomials.Poly.test_replacement.Goals as goal
 
 pub returns-then-weight_of_terms-clause-norm : goal.returns-then-weight_of_terms-clause-norm
