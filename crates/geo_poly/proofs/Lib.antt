@@ -44,3 +44,4 @@ pub mod ChainPowers
 pub mod Unions
 pub mod ChainSwaps
 pub mod ChainSums
+pub mod ReplacedHalves

@@ -7,7 +7,7 @@ ghost use Rattle.sparse_lists.specs.SparseLists.{AllKeys, IsCanonical};
 ghost use Rattle.mono_store.specs.Stores.{Keeps};
 ghost use Rattle.poly_arena.specs.Chains.{IsLive, Updates, list_of, pairs_of};
 ghost use Rattle.geo_poly.specs.Chained.{AddsChain, IsKey, SameChains, StandsFor, keyed_terms};
-ghost use Rattle.geo_poly.specs.Inner.Settings.{AreStored, IsSet, IsStoredAs, Swaps};
+ghost use Rattle.geo_poly.specs.Inner.Settings.{AreStored, IsSet, IsStoredAs, Swaps, told_list};
 ghost use Rattle.geo_poly.specs.KeptVariables.{AllNumerators};
 ghost use Rattle.geo_poly.specs.Monomials.{IsMonomial};
 ghost use Rattle.geo_poly.specs.Polynomials.{CanMultiply, coefficients, norm_of, polynomial_of};
@@ -16,16 +16,16 @@ ghost use Rattle.geo_poly.specs.PolynomialVariables.{AllVariables};
 ghost use Rattle.geo_poly.specs.Replace.{CanReplace, IsBounded, denominators, others};
 ghost use Rattle.geo_poly.specs.Replace.{replaced_term, replaced_terms, term_degree, term_weight};
 ghost use Rattle.geo_poly.specs.Replace.{times_power};
-ghost use Rattle.geo_poly.specs.Shared.{IsIndex, powers_at, terms_of};
+ghost use Rattle.geo_poly.specs.Shared.{IsIndex, IsIndexOf, powers_at, terms_of};
 ghost use Rattle.geo_poly.specs.Variables.{var_cmp};
 
 use crate::chained::{product_chain, summed};
 use crate::interning::{indexed, place_of, stored_terms};
+use crate::reading::read_powers;
 use crate::replacement::Row;
 use crate::row_table::RowTable;
 use crate::settings::{IndexList, Setting, StoredPiece};
-use crate::shared::Indexed;
-use crate::terms::Term;
+use crate::shared::{Indexed, Shared};
 use crate::variables::Var;
 use geo_points::NoMemory;
 use mono_store::{MonoId, Monos};
@@ -213,35 +213,41 @@ fn replaced_term_chain(
     times_power_chain(alloc, store, arena, vars, product, &setting.den, missing)
 }
 
-/// The chain of the sum of what becomes of the terms, by halves.
+/// The chain of the sum of what becomes of the terms, by halves. The list of powers is for reading
+/// one monomial after the other.
 pub(crate) fn replaced_chain(
     alloc: Global,
     setting: &Setting,
     store: &mut Monos,
     arena: &mut Arena,
-    terms: &[Term],
+    p: &Shared,
+    list: &[Indexed],
+    powers: &mut Vec<(Var, u32)>,
 ) -> Result<Chain, NoMemory>
     requires set { IsSet setting.now store.old }
-    requires known { AllVariables (Contains setting.now.vars.now) terms.now }
-    requires can { CanReplace setting.now.rows.now setting.now.den.piece.now setting.now.top terms.now }
+    requires indices { AllKeys (IsIndexOf p.now) list.now }
+    requires known { AllVariables (Contains setting.now.vars.now) (told_list p.now list.now) }
+    requires can { CanReplace setting.now.rows.now setting.now.den.piece.now setting.now.top
+        (told_list p.now list.now) }
     ensures chain { IfOk result (λ c. StandsFor setting.now.vars.now store.new arena.new c
         (polynomial_of (replaced_terms setting.now.rows.now setting.now.den.piece.now.poly
-        setting.now.top terms.now))) }
+        setting.now.top (told_list p.now list.now)))) }
     ensures adds { IfOk result (AddsChain arena.old arena.new) }
     ensures err { OnErr result (SameChains arena.old arena.new) }
     ensures kept { Keeps store.old store.new }
 {
-    match terms {
+    match list {
         [] => Ok(arena.chain()?),
         [term] => {
-            let powers = term.0.powers();
+            read_powers(p, term.0, powers)?;
+            let powers = powers.as_slice();
             let rest = stored_others(store, setting.vars, setting.rows, powers)?;
             replaced_term_chain(alloc, setting, store, arena, rest, powers, term.1)
         }
         _ => {
-            let (front, back) = terms.split_at(terms.len() / 2);
-            let sum = replaced_chain(alloc, setting, store, arena, front)?;
-            match replaced_chain(alloc, setting, store, arena, back) {
+            let (front, back) = list.split_at(list.len() / 2);
+            let sum = replaced_chain(alloc, setting, store, arena, p, front, powers)?;
+            match replaced_chain(alloc, setting, store, arena, p, back, powers) {
                 Ok(rest) => Ok(summed(store, arena, setting.vars, sum, rest)),
                 Err(error) => {
                     arena.give_back(sum);

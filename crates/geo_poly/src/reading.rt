@@ -1,7 +1,7 @@
 //! The monomials of a polynomial, read link by link.
 
 ghost use Rattle.std.specs.Prelude.{◌≡◌, ◌↔◌, ◌<◌, ◌≤◌, ◌^◌, ◌∷◌, [], length, slice_get};
-ghost use Rattle.std.specs.Prelude.{IfOk, IfSome, IfNone, IsTrue};
+ghost use Rattle.std.specs.Prelude.{IfOk, IfSome, IfNone, IsTrue, OnOk};
 ghost use Rattle.geo_poly.specs.Monomials.{IsMonomial, degree_of, exponent};
 ghost use Rattle.geo_poly.specs.Polynomials.{norm_of, total_degree};
 ghost use Rattle.geo_poly.specs.Shared.{AreParts, IsIndexOf, told, told_powers, told_term};
@@ -42,6 +42,24 @@ pub(crate) fn monomial_at(alloc: Global, p: &Shared, id: MonoId) -> Result<Monom
         rest = next;
     }
     Ok(Monomial::from_powers(powers))
+}
+
+/// The powers of a monomial, in place of what the list had.
+pub(crate) fn read_powers(
+    p: &Shared,
+    id: MonoId,
+    powers: &mut Vec<(Var, u32)>,
+) -> Result<(), NoMemory>
+    requires { IsIndexOf p.now id }
+    ensures { OnOk result (powers.new.items ≡ told_powers p.now id) }
+{
+    powers.clear();
+    let mut rest = id;
+    while let Some((v, e, next)) = first_power(p, rest) {
+        powers.push((v, e))?;
+        rest = next;
+    }
+    Ok(())
 }
 
 /// The sum of the exponents.

@@ -202,7 +202,8 @@ impl Poly {
         let vars = vars.as_slice();
         let nums = stored_rows(alloc, store, vars, rows.rows())?;
         let list = stored_terms(alloc, store, vars, &den.poly.to_terms(alloc)?)?;
-        let terms = self.to_terms(alloc)?;
+        let p = &self.shared();
+        let mut powers = Vec::new(alloc);
         let setting = Setting {
             vars,
             rows,
@@ -213,7 +214,7 @@ impl Poly {
             },
             top,
         };
-        replaced_chain(alloc, &setting, store, arena, &terms)
+        replaced_chain(alloc, &setting, store, arena, p, p.list, &mut powers)
     }
 }
 

@@ -6,11 +6,16 @@ use Rattle.mono_store.specs.Stores.{Links}
 use Rattle.poly_arena.specs.Chains.{Chains, list_of}
 use Rattle.geo_poly.specs.declared.replacement.Row.{Row}
 use Rattle.geo_poly.specs.declared.settings.Setting.{Setting}
+use Rattle.geo_poly.specs.declared.shared.Shared.{Shared}
 use Rattle.geo_poly.specs.declared.variables.Var.{Var}
 use Rattle.geo_poly.specs.Polynomials.{IsPolynomial, Summands}
 use Rattle.geo_poly.specs.Replace.{AllBounded, IsBounded}
 use Rattle.geo_poly.specs.Shared.{Indices, IsIndex, terms_of}
 use Rattle.geo_poly.specs.Variables.{var_cmp}
+
+-- the terms that some indices of a polynomial's store stand for
+abbrev pub told_list : Shared → Indices → Summands
+told_list p list = terms_of p.vars.now p.monos.now list
 
 -- the list of indices stands for the polynomial
 pub record IsStoredAs (vars : List Var) (links : Links) (list : Indices) (p : Summands) : Type 0 where
