@@ -246,8 +246,8 @@ fn products_stand_in_a_callers_arena(rt: HostRuntime) -> Result<(), Fail> {
     let x_squared = store.mono(0, 2, one)?;
     let y_squared = store.mono(1, 2, one)?;
     let mut arena = Arena::new(alloc)?;
-    let chain = left.mul_chain(alloc, &right, &vars, &mut store, &mut arena)?;
     let text = format!(in alloc; " {}:+1 {}:-1", x_squared.0, y_squared.0)?;
+    let chain = left.mul_chain(alloc, &right, &vars, &mut store, &mut arena)?;
     assert_eq!(rt;
         spelled_chain(alloc, &mut arena, chain)?.as_str(),
         text.as_str()
