@@ -41,3 +41,7 @@ pub mod ChainSteps
 pub mod ChainHalves
 pub mod ChainMultiples
 pub mod Unions
+pub mod ZeroPut
+pub mod Entries
+pub mod Moved
+pub mod Places
