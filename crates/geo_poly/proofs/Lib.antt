@@ -45,3 +45,4 @@ pub mod ZeroPut
 pub mod Entries
 pub mod Moved
 pub mod Places
+pub mod IndexSums

@@ -126,6 +126,14 @@ impl Poly {
         Poly::over(alloc, &self.shared(), list)
     }
 
+    /// The polynomial of a list over these variables and this store.
+    pub(crate) fn from_list(vars: Vars, monos: Monos, list: Vec<Indexed>) -> Poly
+        requires { IsShared vars monos list.items }
+        ensures { result ≡ terms_of vars monos list.items }
+    {
+        Poly { vars, monos, list }
+    }
+
     /// The polynomial of a list, over copies of the variables and of the store.
     pub(crate) fn over(alloc: Global, p: &Shared, list: Vec<Indexed>) -> Result<Poly, NoMemory>
         requires { IsShared p.now.vars.now p.now.monos.now list.items }
