@@ -99,16 +99,16 @@ module _ (vars : List Var) (links : Links) (left right : Indices) (i j : ℕ) (i
     goes_less e = (
       AllKeys-append (IsIndex vars links) list (item left i ∷ []) indices (list_index vars links left i i_in left_indices, tt),
       ap (λ (ts : Summands). ts ++ canonical term_cmp coefficients (drop (i + 1) p ++ drop j q)) (terms-append vars links list (item left i ∷ []))
-      ∙ kept_less term_cmp coefficients term_order coefficients_add p q i j t u (list_within vars links left i i_in) (list_within vars links right j j_in)
-      (list_is vars links left i i_in) (list_is vars links right j j_in) left_order right_order (terms_of vars links list) (sum_of p q) (ordered Less e) kept,
+          ∙ kept_less term_cmp coefficients term_order coefficients_add p q i j t u (list_within vars links left i i_in) (list_within vars links right j j_in)
+          (list_is vars links left i i_in) (list_is vars links right j j_in) left_order right_order (terms_of vars links list) (sum_of p q) (ordered Less e) kept,
     )
 
     pub goes_greater : numbered_cmp (monomial_of links (item right j).0) (monomial_of links (item left i).0) ≡ Greater → Goes (list ++ item right j ∷ []) i (j + 1)
     goes_greater e = (
       AllKeys-append (IsIndex vars links) list (item right j ∷ []) indices (list_index vars links right j j_in right_indices, tt),
       ap (λ (ts : Summands). ts ++ canonical term_cmp coefficients (drop i p ++ drop (j + 1) q)) (terms-append vars links list (item right j ∷ []))
-      ∙ kept_greater term_cmp coefficients term_order coefficients_add p q i j t u (list_within vars links left i i_in) (list_within vars links right j j_in)
-      (list_is vars links left i i_in) (list_is vars links right j j_in) left_order right_order (terms_of vars links list) (sum_of p q) (ordered Greater e) kept,
+          ∙ kept_greater term_cmp coefficients term_order coefficients_add p q i j t u (list_within vars links left i i_in) (list_within vars links right j j_in)
+          (list_is vars links left i i_in) (list_is vars links right j j_in) left_order right_order (terms_of vars links list) (sum_of p q) (ordered Greater e) kept,
     )
 
     pub goes_equal : (z : ℤ) → z ≡ (item left i).1 +ℤ (item right j).1 → eqb (unsigned_abs ((item left i).1 +ℤ (item right j).1)) 0 ≡ false
@@ -116,9 +116,9 @@ module _ (vars : List Var) (links : Links) (left right : Indices) (i j : ℕ) (i
     goes_equal z is nonzero e = (
       AllKeys-append (IsIndex vars links) list (((item left i).0, z) ∷ []) indices (list_index vars links left i i_in left_indices, tt),
       ap (λ (ts : Summands). ts ++ canonical term_cmp coefficients (drop (i + 1) p ++ drop (j + 1) q))
-      (terms-append vars links list (((item left i).0, z) ∷ []) ∙ ap (λ (k : ℤ). terms_of vars links list ++ (t.0, k) ∷ []) is)
-      ∙ kept_equal term_cmp coefficients term_order coefficients_add p q i j t u (list_within vars links left i i_in) (list_within vars links right j j_in)
-      (list_is vars links left i i_in) (list_is vars links right j j_in) left_order right_order (terms_of vars links list) (sum_of p q) (ordered Equal e) nonzero kept,
+          (terms-append vars links list (((item left i).0, z) ∷ []) ∙ ap (λ (k : ℤ). terms_of vars links list ++ (t.0, k) ∷ []) is)
+          ∙ kept_equal term_cmp coefficients term_order coefficients_add p q i j t u (list_within vars links left i i_in) (list_within vars links right j j_in)
+          (list_is vars links left i i_in) (list_is vars links right j j_in) left_order right_order (terms_of vars links list) (sum_of p q) (ordered Equal e) nonzero kept,
     )
 
     pub goes_cancel : eqb (unsigned_abs ((item left i).1 +ℤ (item right j).1)) 0 ≡ true
@@ -126,7 +126,7 @@ module _ (vars : List Var) (links : Links) (left right : Indices) (i j : ℕ) (i
     goes_cancel none e = (
       indices,
       kept_cancel term_cmp coefficients term_order coefficients_add p q i j t u (list_within vars links left i i_in) (list_within vars links right j j_in)
-      (list_is vars links left i i_in) (list_is vars links right j j_in) left_order right_order (terms_of vars links list) (sum_of p q) (ordered Equal e) none kept,
+          (list_is vars links left i i_in) (list_is vars links right j j_in) left_order right_order (terms_of vars links list) (sum_of p q) (ordered Equal e) none kept,
     )
 
 -- what is left of both goes behind

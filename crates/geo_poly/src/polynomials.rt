@@ -122,8 +122,9 @@ impl Poly {
     pub fn copy(&self, alloc: Global) -> Result<Poly, NoMemory>
         ensures { IfOk result (λ p. p ≡ self.now) }
     {
-        let list = Vec::from_slice(alloc, &self.list)?;
-        Poly::over(alloc, &self.shared(), list)
+        let p = self.shared();
+        let list = Vec::from_slice(alloc, p.list)?;
+        Poly::over(alloc, &p, list)
     }
 
     /// The polynomial of a list over these variables and this store.

@@ -1,5 +1,5 @@
 use Rattle.sparse_lists.proofs.Merging.{get_or_any}
-use Rattle.std.proofs.Common.{◌≡◌, ℕ, ◌<◌, get_or, ◌/◌, ◌∷◌, [], length, sym, ap, subst, ◌∙◌, rules, arith, ℤ}
+use Rattle.std.proofs.Common.{◌≡◌, ℕ, ◌<◌, get_or, ◌/◌, length, sym, ap, subst, ◌∙◌, rules, arith}
 use Rattle.std.proofs.lemmas.List.{get_or-map}
 use Rattle.std.proofs.lemmas.Result.{IfOk-weaker}
 use Rattle.geo_poly.specs.Chained.{StandsFor}

@@ -1,4 +1,4 @@
-use Rattle.std.proofs.Common.{◌≡◌, ℕ, ◌+◌, ◌-◌, ◌<◌, drop, length, sym, subst, FitsSigned, ℤ, rules, arith}
+use Rattle.std.proofs.Common.{◌≡◌, ℕ, ◌+◌, ◌-◌, ◌<◌, drop, length, sym, subst, FitsSigned, rules, arith}
 use Rattle.std.specs.Int.{w128}
 use Rattle.mono_store.proofs.Interning.{Keeps_trans}
 use Rattle.poly_arena.specs.Chains.{pairs_of}

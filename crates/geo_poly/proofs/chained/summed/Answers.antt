@@ -1,9 +1,8 @@
-use Rattle.std.proofs.Common.{◌<◌, sym, subst, ◌∙◌, ap}
+use Rattle.std.proofs.Common.{◌<◌, sym, subst}
 use Rattle.sparse_lists.specs.SparseLists.{AllKeys}
 use Rattle.mono_store.specs.Stores.{Links, count}
-use Rattle.poly_arena.specs.Chains.{Merges, Pairs, pairs_of}
+use Rattle.poly_arena.specs.Chains.{Merges, pairs_of}
 use Rattle.poly_arena.specs.Orders.{IsFalling, sum_of as chain_sum}
-use Rattle.geo_poly.specs.Chained.{StandsFor}
 use Rattle.geo_poly.specs.StoreOrder.{index_cmp}
 use Rattle.geo_poly.proofs.ChainSteps.{StandsFor-list}
 use Rattle.geo_poly.proofs.KeyedChains.{falls-terms, keys-chain_sum, keys-within, sums_fit, terms-chain_sum}

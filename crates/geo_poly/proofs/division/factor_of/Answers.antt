@@ -1,4 +1,4 @@
-use Rattle.std.proofs.Common.{◌≡◌, ◌<◌, ◌^◌, ℤ, inl, inr, [], ◌∷◌, length, get_or, unsigned_abs, FitsSigned, to_z, refl, sym, ap, subst, ◌∙◌, rules, arith}
+use Rattle.std.proofs.Common.{◌≡◌, ◌<◌, ◌^◌, ℤ, inl, inr, [], ◌∷◌, length, unsigned_abs, FitsSigned, to_z, refl, sym, ap, subst, ◌∙◌, rules, arith}
 use Rattle.std.specs.Int.{w128}
 use Rattle.std.proofs.lemmas.Int.{ints, to_z-of_z}
 use Rattle.geo_poly.specs.Polynomials.{Summands, IsPolynomial}

@@ -1,8 +1,8 @@
-use Rattle.std.proofs.Common.{◌≡◌, ◌<◌, sym, ◌∙◌, length, arith}
+use Rattle.std.proofs.Common.{◌<◌, sym, ◌∙◌, length, arith}
 use Rattle.mono_store.specs.Stores.{monomial_of}
 use Rattle.mono_store.proofs.Products.{IsPowerBefore}
 use Rattle.geo_poly.specs.Inner.Moved.{IsSame}
-use Rattle.geo_poly.proofs.Moved.{is_moved, next_is, no_next, no_place, one_is_moved, power_before}
+use Rattle.geo_poly.proofs.Moved.{is_moved, next_is, one_is_moved, power_before}
 use Rattle.geo_poly.proofs.moving.moved_monomial.Goals as goal
 
 pub returns-in-None-clause-moved : goal.returns-in-None-clause-moved

@@ -1,5 +1,5 @@
-use Rattle.std.proofs.Common.{refl, sym, subst, rules, arith}
-use Rattle.geo_poly.proofs.Moved.{AreMoved-push, first_moved}
+use Rattle.std.proofs.Common.{refl, rules, arith}
+use Rattle.geo_poly.proofs.Moved.{first_moved}
 use Rattle.geo_poly.proofs.moving.moved_monomials.Goals as goal
 
 pub loop-k-init : goal.loop-k-init

@@ -4,7 +4,6 @@ use Rattle.std.proofs.lemmas.Bool.Decides.{nat_tests}
 use Rattle.std.proofs.lemmas.Int.{to_z-of_z}
 use Rattle.std.proofs.lemmas.List.{map-append, take_all}
 use Rattle.sparse_lists.proofs.Sums.{AllKeys-append}
-use Rattle.geo_poly.specs.Monomials.{exponent}
 use Rattle.geo_poly.specs.Polynomials.{Summands, IsPolynomial}
 use Rattle.geo_poly.specs.Shared.{IsIndexOf, term_of, terms_of, told, told_powers, told_term}
 use Rattle.geo_poly.specs.Specialise.{specialised, specialised_weight}

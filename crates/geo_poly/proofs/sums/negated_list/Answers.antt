@@ -1,4 +1,4 @@
-use Rattle.std.proofs.Common.{◌≡◌, ℤ, neg_ℤ, [], ◌∷◌, ◌++◌, refl, sym, ap, ap₂, ◌∙◌}
+use Rattle.std.proofs.Common.{ℤ, [], ◌∷◌, ◌++◌, refl, sym, ap, ap₂, ◌∙◌}
 use Rattle.sparse_lists.proofs.Sums.{AllKeys-append}
 use Rattle.geo_poly.specs.Polynomials.{Summands}
 use Rattle.geo_poly.specs.Shared.{IsIndex, powers_at, term_of, terms_of}

@@ -1,4 +1,4 @@
-use Rattle.std.proofs.Common.{◌≡◌, map, sym, ap, subst, ◌∙◌}
+use Rattle.std.proofs.Common.{map, sym, ap, subst, ◌∙◌}
 use Rattle.poly_arena.specs.Chains.{Pairs, pairs_of}
 use Rattle.geo_poly.specs.Chained.{indexed_pair}
 use Rattle.geo_poly.specs.Polynomials.{IsPolynomial}

@@ -1,9 +1,7 @@
 use Rattle.std.proofs.Common.{◌≡◌, List, sym, ap, ap₂, subst, ◌∙◌, arith}
-use Rattle.std.specs.Prelude.{Contains}
 use Rattle.sparse_lists.specs.SparseLists.{AllKeys}
 use Rattle.geo_poly.specs.declared.variables.Var.{Var}
-use Rattle.geo_poly.specs.PolynomialVariables.{AllVariables}
-use Rattle.geo_poly.specs.Polynomials.{Summands, IsPolynomial, sum_of, norm_of}
+use Rattle.geo_poly.specs.Polynomials.{IsPolynomial, sum_of, norm_of}
 use Rattle.geo_poly.specs.Shared.{IsIndex, terms_of, told}
 use Rattle.geo_poly.proofs.PolynomialLaws.{IsPolynomial-sum_of}
 use Rattle.geo_poly.proofs.Unions.{AllVariables-longer}
