@@ -1,6 +1,6 @@
 -- Chains that are spent for others, and the lists that stand for pieces, where a store grows.
 use Rattle.std.proofs.Common.{◌≡◌, ℕ, zero, suc, ◌<◌, get_or, length, arith, inl, inr, Some, None, List, [], ◌∷◌, ◌++◌, refl, sym, ap, subst, ◌∙◌}
-use Rattle.std.specs.Prelude.{slice_get, Result, Ok, Err, OnErr}
+use Rattle.std.specs.Prelude.{slice_get, Result, Ok, Err, IfOk, OnErr}
 use Rattle.mono_store.specs.Stores.{Keeps, Links}
 use Rattle.poly_arena.specs.Chains.{Chains, Updates, list_of}
 use Rattle.geo_poly.specs.declared.replacement.Row.{Row}
@@ -19,6 +19,11 @@ use Rattle.geo_poly.proofs.Told.{indices-kept, terms_of-kept}
 pub on_err : {T E : Type 0} (r : Result T E) (P : Type 0) → P → OnErr r P
 on_err (Ok x) P h = tt
 on_err (Err e) P h = h
+
+-- what follows from two facts on a value holds of it
+pub both_ok : {T E : Type 0} (r : Result T E) (P Q S : T → Type 0) → ((x : T) → P x → Q x → S x) → IfOk r P → IfOk r Q → IfOk r S
+both_ok (Ok x) P Q S f h g = f x h g
+both_ok (Err e) P Q S f h g = tt
 
 -- SWAPS
 

@@ -45,3 +45,8 @@ pub mod Unions
 pub mod ChainSwaps
 pub mod ChainSums
 pub mod ReplacedHalves
+pub mod ZeroPut
+pub mod Entries
+pub mod Moved
+pub mod Places
+pub mod IndexSums

@@ -2,3 +2,4 @@
 -- cites it.
 pub mod RowTables
 pub mod Settings
+pub mod Moved

@@ -20,7 +20,9 @@ ghost use Rattle.geo_poly.specs.Shared.{IsIndex, IsIndexOf, powers_at, terms_of}
 ghost use Rattle.geo_poly.specs.Variables.{var_cmp};
 
 use crate::chained::{product_chain, summed};
-use crate::interning::{indexed, place_of, stored_terms};
+use crate::interning::{indexed, place_of};
+use crate::moving::moved;
+use crate::polynomials::Poly;
 use crate::reading::read_powers;
 use crate::replacement::Row;
 use crate::row_table::RowTable;
@@ -31,6 +33,21 @@ use geo_points::NoMemory;
 use mono_store::{MonoId, Monos};
 use poly_arena::{Arena, Chain};
 use std::alloc::Global;
+
+/// The polynomial as indices of the store.
+fn stored_poly(
+    alloc: Global,
+    store: &mut Monos,
+    vars: &[Var],
+    poly: &Poly,
+) -> Result<Vec<Indexed>, NoMemory>
+    requires rising { IsStrictlySortedBy var_cmp vars.now }
+    requires known { AllVariables (Contains vars.now) poly.now }
+    ensures stored { IfOk result (λ list. IsStoredAs vars.now store.new list.items poly.now) }
+    ensures kept { Keeps store.old store.new }
+{
+    moved(alloc, store, vars, &poly.shared())
+}
 
 /// The numerators of the rows as indices of the store.
 pub(crate) fn stored_rows(
@@ -46,8 +63,7 @@ pub(crate) fn stored_rows(
 {
     let mut nums = Vec::with_capacity(alloc, rows.len())?;
     for row in rows {
-        let terms = row.num.poly.to_terms(alloc)?;
-        let items = stored_terms(alloc, store, vars, &terms)?;
+        let items = stored_poly(alloc, store, vars, &row.num.poly)?;
         nums.push(IndexList { items })?;
     }
     Ok(nums)

@@ -122,7 +122,45 @@ impl Poly {
     pub fn copy(&self, alloc: Global) -> Result<Poly, NoMemory>
         ensures { IfOk result (λ p. p ≡ self.now) }
     {
-        Poly::from_terms(alloc, &self.to_terms(alloc)?)
+        let p = self.shared();
+        let list = Vec::from_slice(alloc, p.list)?;
+        Poly::over(alloc, &p, list)
+    }
+
+    /// The polynomial of a list over these variables and this store.
+    pub(crate) fn from_list(vars: Vars, monos: Monos, list: Vec<Indexed>) -> Poly
+        requires { IsShared vars monos list.items }
+        ensures { result ≡ terms_of vars monos list.items }
+    {
+        Poly { vars, monos, list }
+    }
+
+    /// The polynomial of a list, over copies of the variables and of the store.
+    pub(crate) fn over(alloc: Global, p: &Shared, list: Vec<Indexed>) -> Result<Poly, NoMemory>
+        requires { IsShared p.now.vars.now p.now.monos.now list.items }
+        ensures { IfOk result (λ q. q ≡ terms_of p.now.vars.now p.now.monos.now list.items) }
+    {
+        let vars = Vars {
+            items: Vec::from_slice(alloc, p.vars)?,
+        };
+        let monos = p.monos.copy(alloc)?;
+        Ok(Poly { vars, monos, list })
+    }
+
+    /// The polynomial of a list: over a new store where most of the given one is not in use.
+    pub(crate) fn of_part(alloc: Global, p: &Shared, list: Vec<Indexed>) -> Result<Poly, NoMemory>
+        requires { IsShared p.now.vars.now p.now.monos.now list.items }
+        ensures { IfOk result (λ q. q ≡ terms_of p.now.vars.now p.now.monos.now list.items) }
+    {
+        if p.monos.links() / 4 <= (list.len() as u64).saturating_add(16) {
+            return Poly::over(alloc, p, list);
+        }
+        let part = Shared {
+            vars: p.vars,
+            monos: p.monos,
+            list: list.as_slice(),
+        };
+        Poly::from_terms(alloc, &terms_at(alloc, &part)?)
     }
 
     /// The polynomial of these terms.

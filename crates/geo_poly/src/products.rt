@@ -13,9 +13,9 @@ ghost use Rattle.geo_poly.specs.PolynomialVariables.{AllVariables};
 ghost use Rattle.geo_poly.specs.Variables.{var_cmp};
 
 use crate::chained::product_chain;
-use crate::interning::stored_terms;
 use crate::limits::{MAX, MAX_DEGREE, PolyError, Which};
 use crate::lists::Vars;
+use crate::moving::moved;
 use crate::polynomial_variables::union;
 use crate::polynomials::Poly;
 use crate::sums::merged;
@@ -122,8 +122,8 @@ impl Poly {
         ensures kept { Keeps store.old store.new }
     {
         let vars = vars.as_slice();
-        let left = stored_terms(alloc, store, vars, &self.to_terms(alloc)?)?;
-        let right = stored_terms(alloc, store, vars, &other.to_terms(alloc)?)?;
+        let left = moved(alloc, store, vars, &self.shared())?;
+        let right = moved(alloc, store, vars, &other.shared())?;
         product_chain(store, arena, vars, &left, &right)
     }
 }
