@@ -1,9 +1,9 @@
 -- Two halves of a product by chains, one after the other in a store that grows.
-use Rattle.std.proofs.Common.{◌≡◌, ℕ, zero, suc, ◌+◌, ◌^◌, ◌<◌, List, [], ◌∷◌, length, map, take, drop, refl, sym, ap, ap₂, subst, ◌∙◌}
+use Rattle.std.proofs.Common.{◌≡◌, ℕ, zero, suc, ◌+◌, ◌^◌, ◌<◌, List, [], ◌∷◌, take, drop, sym, ap, ap₂, subst, ◌∙◌}
 use Rattle.std.proofs.lemmas.List.{drop-map, take-map}
 use Rattle.sparse_lists.specs.SparseLists.{AllKeys, IsCanonical}
 use Rattle.mono_store.specs.Stores.{Keeps, Links}
-use Rattle.poly_arena.specs.Chains.{Chains, list_of, pairs_of}
+use Rattle.poly_arena.specs.Chains.{Chains, pairs_of}
 use Rattle.geo_poly.specs.declared.variables.Var.{Var}
 use Rattle.geo_poly.specs.Chained.{AddsChain, StandsFor, keyed_terms}
 use Rattle.geo_poly.specs.Polynomials.{CanMultiply, Summands, coefficients, norm_of, product_of, sum_of, term_cmp}

@@ -1,5 +1,5 @@
 -- A product that is put before a chain of products.
-use Rattle.std.proofs.Common.{◌≡◌, ℕ, ◌+◌, ◌-◌, ◌*◌, ◌^◌, ◌<◌, ◌≤◌, ℤ, pos, ◌*ℤ◌, List, [], ◌∷◌, drop, get_or, length, unsigned_abs, FitsSigned, refl, sym, ap, ap₂, subst, ◌∙◌, arith}
+use Rattle.std.proofs.Common.{◌≡◌, ℕ, ◌+◌, ◌*◌, ◌^◌, ◌<◌, ◌≤◌, ℤ, pos, ◌*ℤ◌, List, [], ◌∷◌, drop, get_or, length, unsigned_abs, FitsSigned, sym, ap, ap₂, subst, ◌∙◌, arith}
 use Rattle.std.specs.Int.{w128}
 use Rattle.std.specs.List.Sorted.{IsStrictlySortedBy}
 use Rattle.std.proofs.lemmas.List.{get_or-map}
@@ -13,7 +13,7 @@ use Rattle.poly_arena.specs.Chains.{Pairs}
 use Rattle.geo_poly.specs.declared.variables.Var.{Var}
 use Rattle.geo_poly.specs.Chained.{IsKey, keyed_terms}
 use Rattle.geo_poly.specs.Monomials.{Powers, degree_of, product}
-use Rattle.geo_poly.specs.Polynomials.{CanMultiply, Summands, multiples, norm_of, total_degree}
+use Rattle.geo_poly.specs.Polynomials.{CanMultiply, Summands, multiples, norm_of}
 use Rattle.geo_poly.specs.Shared.{AllPlaces, Indices, IsIndex, named, powers_at, term_of, terms_of}
 use Rattle.geo_poly.specs.Variables.{var_cmp}
 use Rattle.geo_poly.proofs.KeyedChains.{keyed_terms-kept, keys-kept}

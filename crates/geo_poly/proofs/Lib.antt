@@ -46,3 +46,4 @@ pub mod Entries
 pub mod Moved
 pub mod Places
 pub mod IndexSums
+pub mod ChangedParts
