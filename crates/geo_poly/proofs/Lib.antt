@@ -50,3 +50,4 @@ pub mod Entries
 pub mod Moved
 pub mod Places
 pub mod IndexSums
+pub mod ChangedParts

@@ -3,3 +3,4 @@
 pub mod RowTables
 pub mod Settings
 pub mod Moved
+pub mod Parts

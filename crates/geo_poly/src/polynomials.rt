@@ -61,7 +61,8 @@ impl Poly {
         }
     }
 
-    /// The variables in order, in which every variable that occurs stands: those that `shared` tells.
+    /// The variables in order, in which every variable that occurs stands: those that `shared`
+    /// tells.
     pub fn vars(&self) -> &Vars
         ensures rising { IsStrictlySortedBy var_cmp result.now }
         ensures known { AllVariables (Contains result.now) self.now }
@@ -77,11 +78,16 @@ impl Poly {
         &self.monos
     }
 
-    /// The index of the monomial at place i, from 0, in the store `monos`: that which `shared` tells.
+    /// The index of the monomial at place i, from 0, in the store `monos`: that which `shared`
+    /// tells. It is 0 at the monomial with no variable.
     pub fn mono_at(&self, i: u64) -> MonoId
         requires { i < length self.now }
+        ensures { (result.0 ≡ 0) ↔ ((term_at self.now i).0 ≡ []) }
     {
-        self.list[i as usize].0
+        let p = self.shared();
+        let _one = p.monos.one();
+        let (id, _) = p.list[i as usize];
+        id
     }
 
     /// The zero polynomial.
@@ -148,11 +154,33 @@ impl Poly {
     }
 
     /// The polynomial of a list: over a new store where most of the given one is not in use.
+    pub(crate) fn compact(
+        alloc: Global,
+        vars: Vars,
+        monos: Monos,
+        list: Vec<Indexed>,
+    ) -> Result<Poly, NoMemory>
+        requires { IsShared vars monos list.items }
+        ensures { IfOk result (λ q. q ≡ terms_of vars monos list.items) }
+    {
+        if !is_sparse(&monos, list.len()) {
+            return Ok(Poly { vars, monos, list });
+        }
+        let part = Shared {
+            vars: vars.as_slice(),
+            monos: &monos,
+            list: list.as_slice(),
+        };
+        let terms = terms_at(alloc, &part)?;
+        Poly::from_terms(alloc, &terms)
+    }
+
+    /// The polynomial of a list: over a new store where most of the given one is not in use.
     pub(crate) fn of_part(alloc: Global, p: &Shared, list: Vec<Indexed>) -> Result<Poly, NoMemory>
         requires { IsShared p.now.vars.now p.now.monos.now list.items }
         ensures { IfOk result (λ q. q ≡ terms_of p.now.vars.now p.now.monos.now list.items) }
     {
-        if p.monos.links() / 4 <= (list.len() as u64).saturating_add(16) {
+        if !is_sparse(p.monos, list.len()) {
             return Poly::over(alloc, p, list);
         }
         let part = Shared {
@@ -272,4 +300,9 @@ impl Poly {
     {
         is_same(&self.shared(), &other.shared())
     }
+}
+
+/// Whether a store has far more links than that many monomials need. Nothing rests on it but time.
+fn is_sparse(monos: &Monos, monomials: usize) -> bool {
+    monos.links() / 4 > (monomials as u64).saturating_add(16)
 }

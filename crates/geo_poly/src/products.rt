@@ -26,8 +26,8 @@ use poly_arena::{Arena, Chain};
 use std::alloc::Global;
 
 impl Poly {
-    /// The product. It is refused by the norms and the degrees of the factors; a product with zero has
-    /// a degree that fits.
+    /// The product. It is refused by the norms and the degrees of the factors; a product with zero
+    /// has a degree that fits.
     pub fn mul(&self, alloc: Global, other: &Poly) -> Result<Poly, PolyError>
         ensures product { IfOk result (λ p. p ≡ product_of self.now other.now) }
         ensures norm { (result ≡ Err (PolyError.TooLarge Which.Norm))
@@ -40,8 +40,8 @@ impl Poly {
         Ok(self.product(alloc, other)?)
     }
 
-    /// The chain of the product, in an arena and over a store that are given; the variables have the
-    /// places in `vars` as their numbers. It is refused as `mul` is.
+    /// The chain of the product, in an arena and over a store that are given; the variables have
+    /// the places in `vars` as their numbers. It is refused as `mul` is.
     pub fn mul_chain(
         &self,
         alloc: Global,

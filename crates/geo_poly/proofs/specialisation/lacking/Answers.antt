@@ -10,7 +10,8 @@ use Rattle.geo_poly.specs.Specialise.{specialised, specialised_weight}
 use Rattle.geo_poly.proofs.Entries.{item_fits}
 use Rattle.geo_poly.proofs.SpecialisedLaws.{IsPolynomial-specialised, small_weight}
 use Rattle.geo_poly.proofs.Told.{index_at, item, length-terms_of, monomial_at, told-is, told-within}
-use Rattle.geo_poly.proofs.ZeroPut.{lacking-more, lacks, specialised-zero}
+use Rattle.geo_poly.proofs.ZeroPut.{lacking-more, specialised-zero}
+use Rattle.geo_poly.specs.Inner.Parts.{lacks}
 use Rattle.geo_poly.proofs.specialisation.lacking.Goals as goal
 use Rattle.geo_poly.proofs.specialisation.lacking.Goals.{After-loop-id, then-exponent_at-eq0+in_ok-push, else-exponent_at-eq0}
 

@@ -1,7 +1,7 @@
 use Rattle.std.proofs.Common.{◌≡◌, filter, take}
 use Rattle.sparse_lists.specs.SparseLists.{AllKeys}
 use Rattle.geo_poly.specs.Shared.{IsIndexOf, terms_of, told}
-use Rattle.geo_poly.proofs.ZeroPut.{lacks}
+use Rattle.geo_poly.specs.Inner.Parts.{lacks}
 use Rattle.geo_poly.proofs.specialisation.lacking.Given as goal
 
 abbrev pub invariant-loop-id : goal.invariant-loop-id
