@@ -2,12 +2,16 @@
 
 ghost use Rattle.std.specs.Prelude.{◌<◌, length};
 ghost use Rattle.geo_poly.specs.Replace.{IsBounded};
+ghost use Rattle.poly_arena.specs.Chains.{IsLive};
 
 use crate::limits::{PolyError, Which};
+use crate::polynomial_variables::union;
 use crate::polynomials::Poly;
 use crate::replacement::{Piece, Row};
 use crate::variables::Var;
 use geo_points::{ParamId, PointId};
+use mono_store::Monos;
+use poly_arena::{Arena, Chain};
 use std::alloc::{AllocError, Global};
 use std::test::Fail;
 
@@ -215,5 +219,81 @@ fn numbers_are_refused_by_the_weight(rt: HostRuntime) -> Result<(), Fail> {
     assert_eq!(rt; refused, Some(PolyError::TooLarge(Which::Norm)));
     let edge = large.specialise(alloc, x, (1 << 96) + 1)?;
     assert_eq!(rt; edge.terms(), 1);
+    Ok(())
+}
+
+/// The pairs of a chain, each as `2:-1`, the key first. The chain is spent.
+fn spelled_chain(alloc: Global, arena: &mut Arena, chain: Chain) -> Result<String, AllocError>
+    requires { IsLive arena.old chain }
+{
+    let pairs = arena.to_list(alloc, &chain);
+    arena.give_back(chain);
+    let mut text = String::new(alloc);
+    for (key, coefficient) in pairs?.as_slice() {
+        text.push_str(format!(in alloc; " {key}:{coefficient:+}")?.as_str())?;
+    }
+    Ok(text)
+}
+
+#[test]
+fn products_stand_in_a_callers_arena(rt: HostRuntime) -> Result<(), Fail> {
+    let alloc = rt.alloc();
+    let left = linear(alloc, 1, 1)?;
+    let right = linear(alloc, 1, -1)?;
+    let vars = union(alloc, left.vars(), right.vars())?;
+    let mut store = Monos::new(alloc);
+    let one = store.one();
+    let x_squared = store.mono(0, 2, one)?;
+    let y_squared = store.mono(1, 2, one)?;
+    let mut arena = Arena::new(alloc)?;
+    let text = format!(in alloc; " {}:+1 {}:-1", x_squared.0, y_squared.0)?;
+    let chain = left.mul_chain(alloc, &right, &vars, &mut store, &mut arena)?;
+    assert_eq!(rt;
+        spelled_chain(alloc, &mut arena, chain)?.as_str(),
+        text.as_str()
+    );
+    Ok(())
+}
+
+#[test]
+fn replacements_stand_in_a_callers_arena(rt: HostRuntime) -> Result<(), Fail> {
+    let alloc = rt.alloc();
+    let sum = linear(alloc, 1, 1)?;
+    let rows = [Row {
+        var: Var::X(PointId(0)),
+        power: 1,
+        num: piece(linear(alloc, 0, 1)?),
+    }];
+    let den = piece(Poly::constant(alloc, 2)?);
+    let vars = sum.replacement_vars(alloc, &rows, &den)?;
+    let mut store = Monos::new(alloc);
+    let one = store.one();
+    let y = store.mono(1, 1, one)?;
+    let text = format!(in alloc; " {}:+3", y.0)?;
+    let mut arena = Arena::new(alloc)?;
+    let chain = sum.replace_chain(alloc, &rows, &den, &vars, &mut store, &mut arena)?;
+    assert_eq!(rt;
+        spelled_chain(alloc, &mut arena, chain)?.as_str(),
+        text.as_str()
+    );
+    Ok(())
+}
+
+#[test]
+fn parts_of_a_polynomial_are_told(rt: HostRuntime) -> Result<(), Fail> {
+    let alloc = rt.alloc();
+    let poly = linear(alloc, 2, -3)?;
+    let mut text = String::new(alloc);
+    for v in poly.vars().as_slice() {
+        text.push_str(named(alloc, *v)?.as_str())?;
+    }
+    for (id, coefficient) in poly.shared().list {
+        text.push_str(format!(in alloc; " {}:{coefficient:+}", id.0)?.as_str())?;
+    }
+    assert_eq!(rt; text.as_str(), "x0y0 1:+2 2:-3");
+    assert_eq!(rt; poly.monos().one().0, 0);
+    if poly.terms() == 2 {
+        assert_eq!(rt; poly.mono_at(1).0, 2);
+    }
     Ok(())
 }
