@@ -20,4 +20,5 @@ pub record IsReadableProof (bytes : List ℕ) (steps : ℕ) (text : List ℕ) : 
 -- bytes have one readable proof at most, whatever the steps, and over whichever lowered form
 abbrev pub ReadableProofIsUnique : Type 0
 ReadableProofIsUnique =
-    (bytes : List ℕ) (steps steps' : ℕ) (text text' : List ℕ) → IsReadableProof bytes steps text → IsReadableProof bytes steps' text' → text ≡ text'
+    (bytes : List ℕ) (steps steps' : ℕ) (text text' : List ℕ) → IsReadableProof bytes steps text
+    → IsReadableProof bytes steps' text' → text ≡ text'
