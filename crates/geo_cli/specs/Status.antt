@@ -1,7 +1,8 @@
 -- How a run ended.
 use Rattle.std.specs.Prelude.{ℕ, List, length}
 use Rattle.geo_cli.specs.declared.status.Status.{Status}
-use Rattle.geo_cli.specs.declared.status.Status.TheVariants.{Proved, False, Impossible, Usage, Syntax, TooLarge, Spent, ReadFault, WriteFault, NoMemory, Rejected, TooLong, Done}
+use Rattle.geo_cli.specs.declared.status.Status.TheVariants.{Proved, False, Impossible, Usage, Syntax, TooLarge, Spent}
+use Rattle.geo_cli.specs.declared.status.Status.TheVariants.{ReadFault, WriteFault, NoMemory, Rejected, TooLong, Done}
 use Rattle.geo_logs.specs.Ends.{Ending, ends_by, ends_with, too_long}
 use Rattle.geo_logs.specs.Judging.{Refusal, number_of, rejected, stopped}
 use Rattle.geo_logs.specs.Moves.{Stop, spent, too_large}
