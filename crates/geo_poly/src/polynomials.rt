@@ -219,7 +219,7 @@ impl Poly {
         let pairs = arena.to_list(alloc, &chain);
         arena.give_back(chain);
         let list = indexed(alloc, &pairs?)?;
-        Ok(Poly { vars, monos, list })
+        Poly::compact(alloc, vars, monos, list)
     }
 
     /// The terms, with monomials of their own.

@@ -1,12 +1,13 @@
-use Rattle.std.proofs.Common.{map, sym, ap, subst, ◌∙◌}
+use Rattle.std.proofs.Common.{◌≡◌, map, sym, ap, subst, ◌∙◌}
+use Rattle.std.specs.Prelude.{IfOk}
 use Rattle.poly_arena.specs.Chains.{Pairs, pairs_of}
 use Rattle.geo_poly.specs.Chained.{indexed_pair}
-use Rattle.geo_poly.specs.Polynomials.{IsPolynomial}
+use Rattle.geo_poly.specs.Polynomials.{IsPolynomial, Summands}
 use Rattle.geo_poly.proofs.KeyedChains.{chain_indices, chain_terms}
 use Rattle.geo_poly.proofs.polynomials.Poly.from_chain.Goals as goal
 
-pub invariant_of-result : goal.invariant_of-result
-invariant_of-result c =
+pub compact-requires : goal.compact-requires
+compact-requires c =
     let pairs = pairs_of c.args.arena c.args.chain in
     let same = c.in_ok-list.ensures ∙ ap (λ (ps : Pairs). map indexed_pair ps) (c.deref.ensures.value ∙ c.in_ok-pairs.ensures) in
     record {
@@ -19,4 +20,5 @@ pub returns : goal.returns
 returns c =
     let pairs = pairs_of c.args.arena c.args.chain in
     let same = c.in_ok-list.ensures ∙ ap (λ (ps : Pairs). map indexed_pair ps) (c.deref.ensures.value ∙ c.in_ok-pairs.ensures) in
-    chain_terms c.args.vars c.args.monos c.in_ok-list.list.items pairs same
+    subst (λ (q : Summands). IfOk c.compact.result (λ p. p ≡ q)) (chain_terms c.args.vars c.args.monos c.in_ok-list.list.items pairs same)
+    c.compact.ensures
