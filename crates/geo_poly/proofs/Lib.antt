@@ -51,3 +51,4 @@ pub mod Moved
 pub mod Places
 pub mod IndexSums
 pub mod ChangedParts
+pub mod Dividing

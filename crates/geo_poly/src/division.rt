@@ -8,13 +8,13 @@ ghost use Rattle.geo_poly.specs.Monomials.{Powers, IsMonomial, exponent};
 ghost use Rattle.geo_poly.specs.Polynomials.{Summands, IsPolynomial, multiples, norm_of};
 ghost use Rattle.geo_poly.specs.Polynomials.{product_of};
 ghost use Rattle.geo_poly.specs.Factors.{DividesAll, IsFactorOf, IsLeastExponent};
-ghost use Rattle.geo_poly.specs.Shared.{AreParts, told};
+ghost use Rattle.geo_poly.specs.Shared.{AreParts, IsIndexOf, terms_of, told};
 
 use crate::factors::Factor;
 use crate::monomials::Monomial;
 use crate::polynomials::Poly;
 use crate::reading::{exponent_at, monomial_at};
-use crate::shared::Shared;
+use crate::shared::{Indexed, Shared};
 use crate::terms::Term;
 use crate::variables::Var;
 use frac_laws::gcd;
@@ -43,12 +43,60 @@ impl Poly {
         ensures no_multiples { IfOk result
             (λ o. IfNone o ((q : Summands) → multiples by.now q ≡ self.now → ⊥)) }
     {
+        if by.monomial.powers().is_empty() {
+            return self.over_number(alloc, by);
+        }
         let terms = self.to_terms(alloc)?;
         match quotients(alloc, &terms, &by.monomial, by.coefficient)? {
             Some(quotient) => Ok(Some(Poly::from_terms(alloc, &quotient)?)),
             None => Ok(None),
         }
     }
+
+    /// The same for a factor that has no variable: the monomials stay.
+    fn over_number(&self, alloc: Global, by: &Factor) -> Result<Option<Poly>, NoMemory>
+        requires { by.now.0 ≡ [] }
+        ensures some { IfOk result (λ o. IfSome o (λ q. product_of (by.now ∷ []) q ≡ self.now)) }
+        ensures polynomial { IfOk result (λ o. IfSome o IsPolynomial) }
+        ensures none { IfOk result (λ o. IfNone o
+            ((q : Summands) → IsPolynomial q → product_of (by.now ∷ []) q ≡ self.now → ⊥)) }
+        ensures multiples { IfOk result (λ o. IfSome o (λ q. multiples by.now q ≡ self.now)) }
+        ensures no_multiples { IfOk result
+            (λ o. IfNone o ((q : Summands) → multiples by.now q ≡ self.now → ⊥)) }
+    {
+        let p = self.shared();
+        match number_quotients(alloc, &p, by.coefficient)? {
+            Some(list) => Ok(Some(Poly::over(alloc, &p, list)?)),
+            None => Ok(None),
+        }
+    }
+}
+
+/// The list that gives the terms when each coefficient is multiplied, where there is such a one.
+fn number_quotients(
+    alloc: Global,
+    p: &Shared,
+    number: i128,
+) -> Result<Option<Vec<Indexed>>, NoMemory>
+    requires nonzero { unsigned_abs number ≢ 0 }
+    requires parts { AreParts p.now }
+    ensures some { IfOk result (λ o. IfSome o (λ list. multiples ([], number)
+        (terms_of p.now.vars.now p.now.monos.now list.items) ≡ told p.now)) }
+    ensures indices { IfOk result
+        (λ o. IfSome o (λ list. AllKeys (IsIndexOf p.now) list.items)) }
+    ensures monomials { IfOk result (λ o. IfSome o (λ list.
+        AllKeys IsMonomial (terms_of p.now.vars.now p.now.monos.now list.items))) }
+    ensures none { IfOk result
+        (λ o. IfNone o ((q : Summands) → multiples ([], number) q ≡ told p.now → ⊥)) }
+{
+    let mut list = Vec::with_capacity(alloc, p.list.len())?;
+    for (id, coefficient) in p.list {
+        match exact_quotient(*coefficient, number) {
+            Some(quotient) => list.push((*id, quotient))?,
+            None => return Ok(None),
+        }
+    }
+    Ok(Some(list))
 }
 
 /// The greatest common divisor of the coefficients, with the sign of the first, times each known

@@ -208,6 +208,24 @@ fn variables_get_numbers(rt: HostRuntime) -> Result<(), Fail> {
 }
 
 #[test]
+fn zero_leaves_the_other_terms(rt: HostRuntime) -> Result<(), Fail> {
+    let alloc = rt.alloc();
+    let product = linear(alloc, 1, 2)?.mul(alloc, &linear(alloc, 1, 0)?)?;
+    let sum = product.add(alloc, &Poly::constant(alloc, 3)?)?;
+    assert_eq!(rt; spelled(alloc, &sum)?.as_str(), "+1*x0^2 +2*x0*y0 +3");
+    let at_zero = sum.specialise(alloc, Var::Y(PointId(0)), 0)?;
+    assert_eq!(rt; spelled(alloc, &at_zero)?.as_str(), "+1*x0^2 +3");
+    let number = at_zero
+        .specialise(alloc, Var::X(PointId(0)), 0)?
+        .copy(alloc)?;
+    assert_eq!(rt; spelled(alloc, &number)?.as_str(), "+3");
+    if number.terms() == 1 {
+        assert_eq!(rt; number.mono_at(0).0, 0);
+    }
+    Ok(())
+}
+
+#[test]
 fn numbers_are_refused_by_the_weight(rt: HostRuntime) -> Result<(), Fail> {
     let alloc = rt.alloc();
     let x = Var::X(PointId(0));
