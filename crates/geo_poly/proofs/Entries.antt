@@ -1,5 +1,5 @@
 -- The coefficients of a polynomial fit, since its norm does.
-use Rattle.std.proofs.Common.{◌≡◌, ℕ, ◌^◌, ◌<◌, ◌≤◌, ℤ, length, sym, subst, unsigned_abs, FitsSigned, arith}
+use Rattle.std.proofs.Common.{ℕ, ◌^◌, ◌<◌, ◌≤◌, ℤ, length, sym, subst, unsigned_abs, FitsSigned, arith}
 use Rattle.std.specs.Int.{w128}
 use Rattle.std.proofs.lemmas.Int.{fits_signed_from_abs}
 use Rattle.std.proofs.lemmas.List.Sums.{get_or-le-sum_by}
