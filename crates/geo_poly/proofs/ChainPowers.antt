@@ -1,20 +1,23 @@
 -- A chain times a polynomial that is stored, as often as is said, and the first chain of a term.
-use Rattle.std.proofs.Common.{◌≡◌, ℕ, ◌+◌, ◌*◌, ◌-◌, ◌^◌, ◌<◌, ◌≤◌, Bool, true, false, eqb, add-one, ℤ, Option, Some, None, List, [], ◌∷◌, refl, sym, ap, ap₂, subst, ◌∙◌, unsigned_abs, arith}
+use Rattle.std.proofs.Common.{◌≡◌, ℕ, zero, suc, ◌+◌, ◌*◌, ◌-◌, ◌^◌, ◌<◌, ◌≤◌, Bool, true, false, eqb, add-one, ℤ, pos, Option, Some, None, List, [], ◌∷◌, refl, sym, ap, ap₂, subst, ◌∙◌, unsigned_abs, arith}
 use Rattle.std.proofs.lemmas.Bool.Decides.{nat_tests}
 use Rattle.std.specs.Prelude.{◌≢◌}
 use Rattle.std.proofs.Math.Nat.{mul-le-mul_right}
-use Rattle.sparse_lists.specs.SparseLists.{AllKeys}
+use Rattle.sparse_lists.specs.SparseLists.{AllKeys, IsCanonical}
 use Rattle.mono_store.specs.Stores.{Keeps, Links}
+use Rattle.mono_store.proofs.Unfolding.{monomial_of-one}
 use Rattle.poly_arena.specs.Chains.{Chains, IsLive, pairs_of}
 use Rattle.geo_poly.specs.declared.replacement.Piece.{Piece}
 use Rattle.geo_poly.specs.declared.replacement.Row.{Row}
 use Rattle.geo_poly.specs.declared.variables.Var.{Var}
 use Rattle.geo_poly.specs.Chained.{IsKey, StandsFor, keyed_terms}
 use Rattle.geo_poly.specs.Inner.Settings.{IsStoredAs}
-use Rattle.geo_poly.specs.Monomials.{IsMonomial, Powers, degree_of}
-use Rattle.geo_poly.specs.Polynomials.{CanMultiply, Summands, norm_of, product_of, total_degree}
+use Rattle.geo_poly.specs.Monomials.{IsMonomial, Powers, degree_of, exponents}
+use Rattle.geo_poly.specs.Polynomials.{CanMultiply, Summands, coefficients, norm_of, product_of, term_cmp, total_degree}
 use Rattle.geo_poly.specs.Replace.{denominators, kept, others, replaced_term, row_of, term_degree, term_weight, times_power, weight_rows}
-use Rattle.geo_poly.specs.Shared.{Indices, terms_of}
+use Rattle.geo_poly.specs.Shared.{Indices, named, powers_at, terms_of}
+use Rattle.geo_poly.specs.Variables.{var_cmp}
+use Rattle.geo_poly.proofs.PolynomialRing.{IsNormal, product_of-one}
 use Rattle.geo_poly.proofs.ReplaceLoop.{Progress, degree_rows-mono, weight_rows-mono}
 use Rattle.geo_poly.proofs.Told.{terms_of-kept}
 
@@ -36,6 +39,23 @@ module _ (vars : List Var) (s0 s : Links) (grown : Keeps s0 s) (list : Indices) 
   pub next_power : (s2 : Links) (a2 : Chains) (m : ℕ) → StandsFor vars s2 a2 m (product_of (keyed_terms vars s (pairs_of a n)) (terms_of vars s list))
       → StandsFor vars s2 a2 m (times_power base poly (k + 1))
   next_power s2 a2 m h = subst (λ (x : Summands). StandsFor vars s2 a2 m x) (ap₂ product_of chain.terms factor_is ∙ ap (times_power base poly) (sym (add-one k))) h
+
+-- WHERE THE POLYNOMIAL IS 1
+
+times_power-one : (p : Summands) (n : ℕ) → IsNormal p → times_power p (([], pos 1) ∷ []) n ≡ p
+times_power-one p zero h = refl
+times_power-one p (suc n) h = ap (λ (x : Summands). product_of x (([], pos 1) ∷ [])) (times_power-one p n h) ∙ product_of-one p h
+
+orders : (p : Summands) → AllKeys IsMonomial p → AllKeys (λ (m : Powers). IsCanonical var_cmp exponents m) p
+orders [] h = tt
+orders (t ∷ ts) h = (h.0.in_order, orders ts h.1)
+
+pub times_power-by_one : (vars : List Var) (links : Links) (list : Indices) (poly p : Summands) (n : ℕ) → list ≡ (record { 0 = 0 }, pos 1) ∷ [] → terms_of vars links list ≡ poly
+    → IsCanonical term_cmp coefficients p → AllKeys IsMonomial p → times_power p poly n ≡ p
+times_power-by_one vars links list poly p n e terms in_order monomials =
+    let one : powers_at vars links (record { 0 = 0 }) ≡ [] = ap (named vars) (monomial_of-one links (record { 0 = 0 }) refl) in
+    let is : poly ≡ ([], pos 1) ∷ [] = sym terms ∙ ap (terms_of vars links) e ∙ ap (λ (m : Powers). (m, pos 1) ∷ []) one in
+    ap (λ (q : Summands). times_power p q n) is ∙ times_power-one p n (record { in_order = in_order; monomials = orders p monomials })
 
 -- the variables that stay have what each variable has
 pub known_others : (Holds : Var → Type 0) (rows : List Row) (m : Powers) → AllKeys Holds m → AllKeys Holds (others rows m)

@@ -1,7 +1,8 @@
 //! Replacements as chains of an arena.
 
 ghost use Rattle.std.specs.Prelude.{◌≡◌, ◌≢◌, ◌+◌, ◌*◌, ◌^◌, ◌<◌, ◌≤◌, ◌∷◌, [], unsigned_abs};
-ghost use Rattle.std.specs.Prelude.{Contains, IfOk, OnErr, None, Some, length, slice_get};
+ghost use Rattle.std.specs.Prelude.{Contains, IfOk, IsTrue, OnErr, None, Some};
+ghost use Rattle.std.specs.Prelude.{length, pos, slice_get};
 ghost use Rattle.std.specs.List.Sorted.{IsStrictlySortedBy};
 ghost use Rattle.sparse_lists.specs.SparseLists.{AllKeys, IsCanonical};
 ghost use Rattle.mono_store.specs.Stores.{Keeps};
@@ -110,7 +111,18 @@ fn times_list(
     product_chain(store, arena, vars, &left, list)
 }
 
-/// The chain times the piece, as often as is said. The chain is spent, also where there is no memory.
+/// Whether the list is that of the polynomial 1.
+fn is_one(list: &[Indexed]) -> bool
+    ensures { IsTrue result → list.now ≡ (record { 0 = 0 }, pos 1) ∷ [] }
+{
+    match list {
+        [term] => term.0.0 == 0 && term.1 == 1,
+        _ => false,
+    }
+}
+
+/// The chain times the piece, as often as is said; it is not multiplied by 1. The chain is spent, also
+/// where there is no memory.
 fn times_power_chain(
     alloc: Global,
     store: &mut Monos,
@@ -140,6 +152,9 @@ fn times_power_chain(
     ensures err { OnErr result (Updates arena.old arena.new chain None) }
     ensures kept { Keeps store.old store.new }
 {
+    if is_one(factor.list) {
+        return Ok(chain);
+    }
     let mut product = chain;
     for _k in 0..count {
         product = times_list(alloc, store, arena, vars, product, factor.list)?;

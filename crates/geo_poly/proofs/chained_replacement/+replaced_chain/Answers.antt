@@ -1,16 +1,13 @@
-use Rattle.std.proofs.Common.{◌≡◌, ℕ, ◌/◌, [], ◌∷◌, length, refl, sym, ap, ap₂, subst, ◌∙◌, rules, ℤ, FitsSigned, to_z, of_z}
+use Rattle.std.proofs.Common.{ℕ, ◌/◌, [], ◌∷◌, length, refl, sym, subst, ◌∙◌, rules, FitsSigned, to_z, of_z}
 use Rattle.std.specs.Int.{w128}
-use Rattle.std.specs.Prelude.{Contains}
 use Rattle.std.proofs.lemmas.Int.{to_z-of_z}
 use Rattle.std.proofs.lemmas.Result.{IfOk-weaker}
-use Rattle.sparse_lists.specs.SparseLists.{AllKeys, IsCanonical}
+use Rattle.sparse_lists.specs.SparseLists.{AllKeys}
 use Rattle.geo_poly.specs.Chained.{StandsFor}
 use Rattle.geo_poly.specs.Inner.Settings.{told_list}
-use Rattle.geo_poly.specs.Monomials.{IsMonomial, Powers}
-use Rattle.geo_poly.specs.Polynomials.{Summands, coefficients, polynomial_of, term_cmp}
-use Rattle.geo_poly.specs.PolynomialVariables.{AllVariables}
-use Rattle.geo_poly.specs.Replace.{CanReplace, replaced_term, replaced_terms}
-use Rattle.geo_poly.specs.Shared.{Indices, IsIndexOf, told_powers, told_term}
+use Rattle.geo_poly.specs.Polynomials.{Summands, polynomial_of}
+use Rattle.geo_poly.specs.Replace.{replaced_terms}
+use Rattle.geo_poly.specs.Shared.{Indices, IsIndexOf}
 use Rattle.geo_poly.proofs.ChainSums.{first_order, first_still, norms_fit, second_order, sum_is}
 use Rattle.geo_poly.proofs.ChainSwaps.{IsSet-kept}
 use Rattle.geo_poly.proofs.ReplaceTerms.{IsCanonical-polynomial_of, IsMonomial-others}

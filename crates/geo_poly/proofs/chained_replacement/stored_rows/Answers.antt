@@ -1,10 +1,8 @@
-use Rattle.std.proofs.Common.{◌++◌, ◌∷◌, [], List, take, sym, subst, ◌∙◌}
+use Rattle.std.proofs.Common.{◌++◌, ◌∷◌, [], List, take, sym, subst}
 use Rattle.std.specs.Prelude.{Contains}
 use Rattle.mono_store.proofs.Interning.{Keeps_trans}
 use Rattle.geo_poly.specs.declared.replacement.Row.{Row}
-use Rattle.geo_poly.specs.Inner.Settings.{AreStored, IsStoredAs}
-use Rattle.geo_poly.specs.PolynomialVariables.{AllVariables}
-use Rattle.geo_poly.specs.Polynomials.{IsPolynomial, Summands}
+use Rattle.geo_poly.specs.Inner.Settings.{AreStored}
 use Rattle.geo_poly.proofs.ChainSwaps.{AllNumerators-at, AreStored-kept, AreStored-push}
 use Rattle.geo_poly.proofs.Told.{take_more}
 use Rattle.geo_poly.proofs.chained_replacement.stored_rows.Goals as goal

@@ -1,13 +1,27 @@
-use Rattle.std.proofs.Common.{rules}
+use Rattle.std.proofs.Common.{rules, subst, sym}
 use Rattle.mono_store.proofs.Interning.{Keeps_trans}
 use Rattle.poly_arena.specs.Chains.{pairs_of}
-use Rattle.geo_poly.specs.Chained.{keyed_terms}
-use Rattle.geo_poly.specs.Polynomials.{IsPolynomial}
-use Rattle.geo_poly.proofs.ChainPowers.{StandsFor-self, next_power, power_fits}
+use Rattle.geo_poly.specs.Chained.{StandsFor, keyed_terms}
+use Rattle.geo_poly.specs.Polynomials.{IsPolynomial, Summands}
+use Rattle.geo_poly.proofs.ChainPowers.{StandsFor-self, next_power, power_fits, times_power-by_one}
 use Rattle.geo_poly.proofs.ChainSwaps.{on_err, Swaps-refl, Swaps-spent, Swaps-trans}
 use Rattle.geo_poly.proofs.ReplaceBounds.{CanMultiply-times_power}
 use Rattle.geo_poly.proofs.Told.{indices-kept}
 use Rattle.geo_poly.proofs.chained_replacement.times_power_chain.Goals as goal
+
+pub returns-then-is_one-clause-chain : goal.returns-then-is_one-clause-chain
+returns-then-is_one-clause-chain c =
+    let vars = c.args.vars.now in
+    let s = c.args.store.now in
+    let a = c.args.arena.now in
+    let poly = c.args.factor.now.piece.now.poly in
+    let base = keyed_terms vars s (pairs_of a c.args.chain) in
+    subst (λ (p : Summands). StandsFor vars s a c.args.chain p)
+    (sym (times_power-by_one vars s c.args.factor.now.list.now poly base c.args.count (c.is_one.ensures c.if-is_one.true) c.requires.stored.terms c.requires.in_order c.requires.monomials))
+    (StandsFor-self vars s a c.args.chain c.requires.live c.requires.keys)
+
+pub returns-then-is_one-clause-swaps : goal.returns-then-is_one-clause-swaps
+returns-then-is_one-clause-swaps c = Swaps-refl c.args.arena.now c.args.chain
 
 pub loop-k-init : goal.loop-k-init
 loop-k-init c = record {
