@@ -1,5 +1,5 @@
 -- One thing is due at most for words and for a source that tells its bytes.
-use Rattle.std.proofs.Common.{◌≡◌, ℕ, zero, suc, ◌<◌, ◌≤◌, inl, inr, List, [], ◌∷◌, ◌++◌, map, length, codes, Option, Some, None, refl, sym, ap, subst, ◌∙◌, append-nil, length-append, arith}
+use Rattle.std.proofs.Common.{◌≡◌, ℕ, zero, suc, ◌<◌, inl, inr, List, [], ◌∷◌, ◌++◌, map, length, codes, Option, Some, None, refl, sym, ap, subst, ◌∙◌, append-nil, length-append, arith}
 use Rattle.std.proofs.lemmas.List.{length-map, map-append}
 use Rattle.geo_cli.specs.declared.order.Command.{Command}
 use Rattle.geo_cli.specs.declared.order.Command.TheVariants.{Bench, Check, Prove, Text}
@@ -12,7 +12,6 @@ use Rattle.geo_cli.specs.Status.{ending_status, refusal_status, verdict_status}
 use Rattle.geo_conditions.specs.Lists.{AreConditionItems, Found, ItemForm, all_found, condition_item}
 use Rattle.geo_conditions.proofs.Listings.{listed_once}
 use Rattle.geo_conditions.proofs.SamePrograms.{same_programs_mean_the_same}
-use Rattle.geo_lexer.specs.declared.token_types.Fault.{Fault}
 use Rattle.geo_logs.specs.Ends.{Ending}
 use Rattle.geo_logs.proofs.OneList.{defined_log_unique}
 use Rattle.elim_apply.specs.LemmaTable.{lemma_table}

@@ -1,5 +1,5 @@
 -- A log that is read line by line, and the checker that takes its lines.
-use Rattle.std.proofs.Common.{◌≡◌, ◌⊎◌, ℕ, ◌+◌, ◌-◌, ◌<◌, ◌≤◌, inl, inr, false, true, List, [], ◌∷◌, ◌++◌, length, Option, Some, None, Result, Ok, Err, Contains, refl, sym, ap, subst, ◌∙◌, append-nil, append_assoc, length-append, arith}
+use Rattle.std.proofs.Common.{◌≡◌, ◌⊎◌, ℕ, ◌+◌, ◌-◌, ◌<◌, ◌≤◌, inl, inr, false, List, [], ◌∷◌, ◌++◌, length, Option, Some, None, Result, Ok, Err, Contains, refl, sym, ap, subst, ◌∙◌, append-nil, append_assoc, length-append, arith}
 use Rattle.std.specs.Prelude.{IfErr, IfOk, OnErr, OnOk}
 use Rattle.std.proofs.lemmas.List.Elements.{Contains-append_right, Contains-get_or}
 use Rattle.geo_base.specs.Devices.{HasEnded, Loses}
@@ -8,7 +8,7 @@ use Rattle.geo_base.specs.declared.lines.NextLine.{NextLine}
 use Rattle.geo_base.specs.declared.lines.NextLine.TheVariants.{Line, Rest}
 use Rattle.geo_base.specs.declared.reading.ReadError.{ReadError}
 use Rattle.geo_base.proofs.DeviceLemmas.{Loses-append}
-use Rattle.geo_cli.specs.Input.{IsInput, IsLong, Takes, log_limit}
+use Rattle.geo_cli.specs.Input.{IsLong, Takes, log_limit}
 use Rattle.geo_cli.specs.Inner.Judgements.{IsJudgedInput, IsJudgement}
 use Rattle.geo_logs.specs.Judging.{Refusal}
 use Rattle.log_checker.specs.Checked.{IsAnswer, StopsAt, TellsStop}

@@ -1,5 +1,5 @@
 -- What `check` and `text` tell of a log is what is due for it.
-use Rattle.std.proofs.Common.{◌≡◌, ◌⊎◌, ℕ, suc, ◌+◌, ◌<◌, ◌≤◌, inl, inr, List, [], ◌∷◌, ◌++◌, length, get_or, drop, map, codes, Option, Result, Ok, Err, refl, sym, ap, subst, ◌∙◌, append_assoc, append-nil, arith}
+use Rattle.std.proofs.Common.{◌≡◌, ℕ, suc, ◌+◌, ◌<◌, ◌≤◌, inl, List, [], ◌∷◌, ◌++◌, length, get_or, drop, map, codes, Option, Result, Ok, Err, refl, sym, ap, subst, ◌∙◌, append_assoc, append-nil, arith}
 use Rattle.std.proofs.lemmas.List.{drop_all, drop_more}
 use Rattle.std.specs.Fmt.{decimal}
 use Rattle.std.specs.Prelude.{IfErr, IfOk}
@@ -11,8 +11,8 @@ use Rattle.geo_cli.specs.Inner.Judgements.{IsAcceptedText, IsJudgement, IsRefusa
 use Rattle.geo_cli.specs.Run.{IsAnswered}
 use Rattle.geo_cli.specs.Status.{verdict_status}
 use Rattle.geo_conditions.specs.declared.items.Item.{Item}
-use Rattle.geo_conditions.specs.Lists.{AreConditionItems, ItemForm, item_form}
-use Rattle.geo_logs.specs.Judging.{Refusal, number_of, rejected, stopped}
+use Rattle.geo_conditions.specs.Lists.{AreConditionItems, item_form}
+use Rattle.geo_logs.specs.Judging.{rejected, stopped}
 use Rattle.geo_logs.specs.Moves.{spent, too_large}
 use Rattle.geo_program.specs.CanonicalText.{canonical_text}
 use Rattle.geo_program.specs.WellFormed.{Source}

@@ -1,4 +1,4 @@
-use Rattle.std.proofs.Common.{◌≡◌, rules, subst}
+use Rattle.std.proofs.Common.{rules, subst}
 use Rattle.geo_cli.specs.Inner.Judgements.{IsAcceptedText}
 use Rattle.geo_program.specs.Programs.{source_of}
 use Rattle.geo_cli.proofs.Reported.{acceptance_told}

@@ -1,4 +1,4 @@
-use Rattle.std.proofs.Common.{rules, ◌∙◌, ap, Err}
+use Rattle.std.proofs.Common.{◌∙◌, ap, Err}
 use Rattle.geo_cli.proofs.proving.prove_bytes.Goals as goal
 
 pub returns-in-Err-Syntax-clause-answers : goal.returns-in-Err-Syntax-clause-answers

@@ -1,4 +1,4 @@
-use Rattle.std.proofs.Common.{◌≡◌, rules}
+use Rattle.std.proofs.Common.{rules}
 use Rattle.geo_cli.proofs.Reported.{refusal_told}
 use Rattle.geo_cli.proofs.refusing.refuse.Goals as goal
 
