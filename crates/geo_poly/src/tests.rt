@@ -1,7 +1,7 @@
 //! Each call that allocates, run once with ample memory against a value worked out by hand.
 
 ghost use Rattle.std.specs.Prelude.{◌<◌, length};
-ghost use Rattle.geo_poly.specs.Replace.{IsBounded};
+ghost use Rattle.geo_poly.specs.Replace.{AllBounded, AllPowersSmall, IsBounded};
 ghost use Rattle.poly_arena.specs.Chains.{IsLive};
 
 use crate::limits::{PolyError, Which};
@@ -253,47 +253,59 @@ fn spelled_chain(alloc: Global, arena: &mut Arena, chain: Chain) -> Result<Strin
     Ok(text)
 }
 
-#[test]
-fn products_stand_in_a_callers_arena(rt: HostRuntime) -> Result<(), Fail> {
-    let alloc = rt.alloc();
-    let left = linear(alloc, 1, 1)?;
-    let right = linear(alloc, 1, -1)?;
+/// The chain of a product in a new arena, and the indices of both squares in its store.
+fn product_in_arena(alloc: Global, left: &Poly, right: &Poly) -> Result<(String, String), Fail> {
     let vars = union(alloc, left.vars(), right.vars())?;
     let mut store = Monos::new(alloc);
     let one = store.one();
-    let x_squared = store.mono(0, 2, one)?;
-    let y_squared = store.mono(1, 2, one)?;
+    let first = store.mono(0, 2, one)?;
+    let second = store.mono(1, 2, one)?;
+    let wanted = format!(in alloc; " {}:+1 {}:-1", first.0, second.0)?;
     let mut arena = Arena::new(alloc)?;
-    let text = format!(in alloc; " {}:+1 {}:-1", x_squared.0, y_squared.0)?;
-    let chain = left.mul_chain(alloc, &right, &vars, &mut store, &mut arena)?;
-    assert_eq!(rt;
-        spelled_chain(alloc, &mut arena, chain)?.as_str(),
-        text.as_str()
-    );
+    let chain = left.mul_chain(alloc, right, &vars, &mut store, &mut arena)?;
+    Ok((spelled_chain(alloc, &mut arena, chain)?, wanted))
+}
+
+#[test]
+fn products_stand_in_a_callers_arena(rt: HostRuntime) -> Result<(), Fail> {
+    let alloc = rt.alloc();
+    let (chain, wanted) = product_in_arena(alloc, &linear(alloc, 1, 1)?, &linear(alloc, 1, -1)?)?;
+    assert_eq!(rt; chain.as_str(), wanted.as_str());
     Ok(())
+}
+
+/// The chain of a replacement in a new arena, and three times the second variable in its store.
+fn replacement_in_arena(
+    alloc: Global,
+    poly: &Poly,
+    rows: &[Row],
+    den: &Piece,
+) -> Result<(String, String), Fail>
+    requires rows { AllBounded rows.now }
+    requires powers { AllPowersSmall rows.now }
+    requires den { IsBounded den.now }
+{
+    let vars = poly.replacement_vars(alloc, rows, den)?;
+    let mut store = Monos::new(alloc);
+    let one = store.one();
+    let second = store.mono(1, 1, one)?;
+    let wanted = format!(in alloc; " {}:+3", second.0)?;
+    let mut arena = Arena::new(alloc)?;
+    let chain = poly.replace_chain(alloc, rows, den, &vars, &mut store, &mut arena)?;
+    Ok((spelled_chain(alloc, &mut arena, chain)?, wanted))
 }
 
 #[test]
 fn replacements_stand_in_a_callers_arena(rt: HostRuntime) -> Result<(), Fail> {
     let alloc = rt.alloc();
-    let sum = linear(alloc, 1, 1)?;
     let rows = [Row {
         var: Var::X(PointId(0)),
         power: 1,
         num: piece(linear(alloc, 0, 1)?),
     }];
     let den = piece(Poly::constant(alloc, 2)?);
-    let vars = sum.replacement_vars(alloc, &rows, &den)?;
-    let mut store = Monos::new(alloc);
-    let one = store.one();
-    let y = store.mono(1, 1, one)?;
-    let text = format!(in alloc; " {}:+3", y.0)?;
-    let mut arena = Arena::new(alloc)?;
-    let chain = sum.replace_chain(alloc, &rows, &den, &vars, &mut store, &mut arena)?;
-    assert_eq!(rt;
-        spelled_chain(alloc, &mut arena, chain)?.as_str(),
-        text.as_str()
-    );
+    let (chain, wanted) = replacement_in_arena(alloc, &linear(alloc, 1, 1)?, &rows, &den)?;
+    assert_eq!(rt; chain.as_str(), wanted.as_str());
     Ok(())
 }
 
