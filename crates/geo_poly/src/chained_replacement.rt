@@ -121,8 +121,8 @@ fn is_one(list: &[Indexed]) -> bool
     }
 }
 
-/// The chain times the piece, as often as is said; it is not multiplied by 1. The chain is spent, also
-/// where there is no memory.
+/// The chain times the piece, as often as is said; it is not multiplied by 1. The chain is spent,
+/// also where there is no memory.
 fn times_power_chain(
     alloc: Global,
     store: &mut Monos,
@@ -198,8 +198,8 @@ fn stored_others(
     Ok(id)
 }
 
-/// The chain of a term with its numerators, and the denominators that it lacks; `rest` has its other
-/// variables.
+/// The chain of a term with its numerators, and the denominators that it lacks; `rest` has its
+/// other variables.
 fn replaced_term_chain(
     alloc: Global,
     setting: &Setting,

@@ -1,4 +1,4 @@
-//! Replacing variables of a polynomial at once, each by a numerator over a power of one denominator.
+//! Replacing variables of a polynomial at once, each by a numerator over a power of a denominator.
 
 ghost use Rattle.std.specs.Prelude.{◌≡◌, ◌≢◌, ◌↔◌, ◌^◌, ◌<◌, ◌≤◌, Contains, IfOk, OnErr};
 ghost use Rattle.std.specs.List.Sorted.{IsStrictlySortedBy};
@@ -56,9 +56,9 @@ pub struct Row {
 }
 
 impl Poly {
-    /// Replaces the variables of the rows at once, and multiplies by the denominator as often as the
-    /// monomial that needs it most, so that no fraction is left. The norm is tested first, by the
-    /// weights of the pieces, and then the degree, by their degrees.
+    /// Replaces the variables of the rows at once, and multiplies by the denominator as often as
+    /// the monomial that needs it most, so that no fraction is left. The norm is tested first, by
+    /// the weights of the pieces, and then the degree, by their degrees.
     pub fn replace(&self, alloc: Global, rows: &[Row], den: &Piece) -> Result<Poly, PolyError>
         requires rows { AllBounded rows.now }
         requires powers { AllPowersSmall rows.now }
@@ -74,7 +74,7 @@ impl Poly {
         Ok(self.replacement(alloc, &table, den, top)?)
     }
 
-    /// The chain of the replacement, in an arena and over a store that are given; the variables have
+    /// The chain of the replacement, in an arena and over a store that are given; variables have
     /// the places in `vars` as their numbers. It is refused as `replace` is.
     pub fn replace_chain(
         &self,
@@ -109,7 +109,7 @@ impl Poly {
         Ok(self.chained_replacement(alloc, &table, den, top, vars, store, arena)?)
     }
 
-    /// Whether the replacement fits; if so, the rows, and how many denominators each term is to get.
+    /// Whether the replacement fits; if so, the rows, and how many denominators a term is to get.
     fn test_replacement<'a>(
         &self,
         alloc: Global,

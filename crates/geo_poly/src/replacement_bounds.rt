@@ -69,7 +69,7 @@ fn weight_at(p: &Shared, t: Indexed, rows: &RowTable, den: &Piece, top: u32) -> 
     weight.saturating_mul(den.weight.saturating_pow(missing))
 }
 
-/// The sum of the weights of what becomes of the terms, or the greatest number where it passes that.
+/// The sum of the weights of what becomes of the terms, or the greatest number where it passes it.
 pub(crate) fn weight_of_terms(p: &Shared, rows: &RowTable, den: &Piece, top: u32) -> u128
     requires parts { AreParts p.now }
     requires rows { AllBounded rows.now }
