@@ -1,6 +1,2 @@
--- What private functions and proofs speak of: how rows are looked up, and how a replacement is made by chains. No public contract
--- cites it.
+-- What private functions and proofs speak of: how rows are looked up. No public contract cites it.
 pub mod RowTables
-pub mod Settings
-pub mod Moved
-pub mod Parts

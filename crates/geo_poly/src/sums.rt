@@ -1,23 +1,14 @@
 //! Sums and differences of polynomials.
 
-ghost use Rattle.std.specs.Prelude.{◌≡◌, ◌≢◌, ◌↔◌, ◌+◌, ◌^◌, ◌<◌, ◌≤◌, Contains, IfOk};
-ghost use Rattle.std.specs.List.Sorted.{IsStrictlySortedBy};
-ghost use Rattle.sparse_lists.specs.SparseLists.{AllKeys, IsCanonical};
+ghost use Rattle.std.specs.Prelude.{◌≡◌, ◌≢◌, ◌↔◌, ◌+◌, ◌^◌, ◌<◌, ◌≤◌, IfOk};
+ghost use Rattle.sparse_lists.specs.SparseLists.{IsCanonical};
 ghost use Rattle.geo_poly.specs.Polynomials.{coefficients, difference_of, negated, norm_of, sum_of};
 ghost use Rattle.geo_poly.specs.Polynomials.{term_cmp};
-ghost use Rattle.geo_poly.specs.PolynomialVariables.{AllVariables};
-ghost use Rattle.geo_poly.specs.Shared.{AreParts, IsIndex, terms_of, told};
-ghost use Rattle.geo_poly.specs.Variables.{var_cmp};
 
 use crate::limits::{MAX, PolyError, Which};
-use crate::moving::moved;
-use crate::polynomial_variables::union;
 use crate::polynomials::Poly;
-use crate::shared::{Indexed, Shared};
-use crate::terms::{Term, append_copies, copy_term};
-use crate::variables::Var;
+use crate::terms::{Term, append_copies, copy_term, norm_of_terms};
 use geo_points::NoMemory;
-use mono_store::Monos;
 use std::alloc::Global;
 use std::cmp::Ordering;
 
@@ -29,10 +20,11 @@ impl Poly {
             ↔ (2 ^ 127 ≤ norm_of self.now + norm_of other.now) }
         ensures degree { result ≢ Err (PolyError.TooLarge Which.Degree) }
     {
-        if self.unsigned_norm() + other.unsigned_norm() > MAX as u128 {
+        if norm_of_terms(&self.terms) + norm_of_terms(&other.terms) > MAX as u128 {
             return Err(PolyError::TooLarge(Which::Norm));
         }
-        Ok(self.sum(alloc, other)?)
+        let terms = merged(alloc, &self.terms, &other.terms)?;
+        Ok(Poly { terms })
     }
 
     /// The difference. It is refused by the norms of both, not by that of the difference.
@@ -42,153 +34,23 @@ impl Poly {
             ↔ (2 ^ 127 ≤ norm_of self.now + norm_of other.now) }
         ensures degree { result ≢ Err (PolyError.TooLarge Which.Degree) }
     {
-        if self.unsigned_norm() + other.unsigned_norm() > MAX as u128 {
+        if norm_of_terms(&self.terms) + norm_of_terms(&other.terms) > MAX as u128 {
             return Err(PolyError::TooLarge(Which::Norm));
         }
-        Ok(self.difference(alloc, other)?)
-    }
-
-    /// The sum, which fits, over a new store.
-    fn sum(&self, alloc: Global, other: &Poly) -> Result<Poly, NoMemory>
-        requires { norm_of self.now + norm_of other.now < 2 ^ 127 }
-        ensures { IfOk result (λ p. p ≡ sum_of self.now other.now) }
-    {
-        let vars = union(alloc, self.vars(), other.vars())?;
-        let mut monos = Monos::new(alloc);
-        let (p, q) = (self.shared(), other.shared());
-        let list = sum_list(alloc, &mut monos, vars.as_slice(), &p, &q)?;
-        Ok(Poly::from_list(vars, monos, list))
-    }
-
-    /// The difference, which fits, over a new store.
-    fn difference(&self, alloc: Global, other: &Poly) -> Result<Poly, NoMemory>
-        requires { norm_of self.now + norm_of other.now < 2 ^ 127 }
-        ensures { IfOk result (λ p. p ≡ difference_of self.now other.now) }
-    {
-        let vars = union(alloc, self.vars(), other.vars())?;
-        let mut monos = Monos::new(alloc);
-        let (p, q) = (self.shared(), other.shared());
-        let list = difference_list(alloc, &mut monos, vars.as_slice(), &p, &q)?;
-        Ok(Poly::from_list(vars, monos, list))
+        let negated = negated_terms(alloc, &other.terms)?;
+        let terms = merged(alloc, &self.terms, &negated)?;
+        Ok(Poly { terms })
     }
 }
 
-/// The list of the sum, in a store.
-fn sum_list(
-    alloc: Global,
-    store: &mut Monos,
-    vars: &[Var],
-    p: &Shared,
-    q: &Shared,
-) -> Result<Vec<Indexed>, NoMemory>
-    requires rising { IsStrictlySortedBy var_cmp vars.now }
-    requires left { AreParts p.now }
-    requires right { AreParts q.now }
-    requires left_known { AllVariables (Contains vars.now) (told p.now) }
-    requires right_known { AllVariables (Contains vars.now) (told q.now) }
-    requires fits { norm_of (told p.now) + norm_of (told q.now) < 2 ^ 127 }
-    ensures indices { IfOk result (λ list. AllKeys (IsIndex vars.now store.new) list.items) }
-    ensures sum { IfOk result
-        (λ list. terms_of vars.now store.new list.items ≡ sum_of (told p.now) (told q.now)) }
+/// Copies of the terms with the other sign.
+fn negated_terms(alloc: Global, terms: &[Term]) -> Result<Vec<Term>, NoMemory>
+    requires { norm_of terms.now < 2 ^ 127 }
+    ensures { IfOk result (λ v. v.items ≡ negated terms.now) }
 {
-    let left = moved(alloc, store, vars, p)?;
-    let right = moved(alloc, store, vars, q)?;
-    merged_lists(alloc, store, vars, &left, &right)
-}
-
-/// The list of the difference, in a store.
-fn difference_list(
-    alloc: Global,
-    store: &mut Monos,
-    vars: &[Var],
-    p: &Shared,
-    q: &Shared,
-) -> Result<Vec<Indexed>, NoMemory>
-    requires rising { IsStrictlySortedBy var_cmp vars.now }
-    requires left { AreParts p.now }
-    requires right { AreParts q.now }
-    requires left_known { AllVariables (Contains vars.now) (told p.now) }
-    requires right_known { AllVariables (Contains vars.now) (told q.now) }
-    requires fits { norm_of (told p.now) + norm_of (told q.now) < 2 ^ 127 }
-    ensures indices { IfOk result (λ list. AllKeys (IsIndex vars.now store.new) list.items) }
-    ensures difference { IfOk result
-        (λ list. terms_of vars.now store.new list.items
-        ≡ difference_of (told p.now) (told q.now)) }
-{
-    let left = moved(alloc, store, vars, p)?;
-    let right = moved(alloc, store, vars, q)?;
-    let opposite = negated_list(alloc, store, vars, &right)?;
-    merged_lists(alloc, store, vars, &left, &opposite)
-}
-
-/// Both lists in one, in order; where a monomial stands in both, the coefficients add up.
-pub(crate) fn merged_lists(
-    alloc: Global,
-    store: &Monos,
-    vars: &[Var],
-    left: &[Indexed],
-    right: &[Indexed],
-) -> Result<Vec<Indexed>, NoMemory>
-    requires rising { IsStrictlySortedBy var_cmp vars.now }
-    requires left_indices { AllKeys (IsIndex vars.now store.now) left.now }
-    requires right_indices { AllKeys (IsIndex vars.now store.now) right.now }
-    requires left { IsCanonical term_cmp coefficients (terms_of vars.now store.now left.now) }
-    requires right { IsCanonical term_cmp coefficients (terms_of vars.now store.now right.now) }
-    requires fits { norm_of (terms_of vars.now store.now left.now)
-        + norm_of (terms_of vars.now store.now right.now) < 2 ^ 127 }
-    ensures indices { IfOk result (λ list. AllKeys (IsIndex vars.now store.now) list.items) }
-    ensures sum { IfOk result (λ list. terms_of vars.now store.now list.items
-        ≡ sum_of (terms_of vars.now store.now left.now) (terms_of vars.now store.now right.now)) }
-{
-    let _ = vars;
-    let mut list = Vec::new(alloc);
-    let mut i = 0;
-    let mut j = 0;
-    while i < left.len() && j < right.len() {
-        let t = left[i];
-        let u = right[j];
-        match store.compare(u.0, t.0) {
-            Ordering::Less => {
-                list.push(t)?;
-                i += 1;
-            }
-            Ordering::Greater => {
-                list.push(u)?;
-                j += 1;
-            }
-            Ordering::Equal => {
-                let sum = t.1 + u.1;
-                if sum != 0 {
-                    list.push((t.0, sum))?;
-                }
-                i += 1;
-                j += 1;
-            }
-        }
-    }
-    list.extend_from_slice(&left[i..])?;
-    list.extend_from_slice(&right[j..])?;
-    Ok(list)
-}
-
-/// The list with the other sign of each coefficient.
-fn negated_list(
-    alloc: Global,
-    store: &Monos,
-    vars: &[Var],
-    list: &[Indexed],
-) -> Result<Vec<Indexed>, NoMemory>
-    requires indices { AllKeys (IsIndex vars.now store.now) list.now }
-    requires fits { norm_of (terms_of vars.now store.now list.now) < 2 ^ 127 }
-    ensures indices { IfOk result (λ v. AllKeys (IsIndex vars.now store.now) v.items) }
-    ensures negated { IfOk result (λ v. terms_of vars.now store.now v.items
-        ≡ negated (terms_of vars.now store.now list.now)) }
-{
-    let _ = vars;
-    let _ = store;
-    let mut opposite = Vec::with_capacity(alloc, list.len())?;
-    for (id, coefficient) in list {
-        opposite.push((*id, -*coefficient))?;
+    let mut opposite = Vec::with_capacity(alloc, terms.len())?;
+    for term in terms {
+        opposite.push((term.0.copy(alloc)?, -term.1))?;
     }
     Ok(opposite)
 }
