@@ -34,3 +34,5 @@ pub mod ReplacementSums
 pub mod VariablesInOrder
 pub mod RowPlaces
 pub mod ProductOrder
+pub mod Merges
+pub mod ZeroPut

@@ -274,7 +274,7 @@ IsSmaller-specialised v z p = record {
 }
 
 -- A POLYNOMIAL THAT LACKS THE VARIABLE
-without-lacking : (v : Var) (m : Powers) → IsCanonical var_cmp exponents m → exponent v m ≡ 0 → without v m ≡ m
+pub without-lacking : (v : Var) (m : Powers) → IsCanonical var_cmp exponents m → exponent v m ≡ 0 → without v m ≡ m
 without-lacking v [] h none = refl
 without-lacking v (p ∷ m) h none = go (var_cmp v p.0) none (without-lacking v m h.2 (omega (arith, none)))
   where
@@ -290,7 +290,7 @@ times_one : (c : ℤ) → c *ℤ pos 1 ≡ c
 unfolding one_ℤ
 times_one c = *ℤ-one c
 
-times_power_zero : (c z : ℤ) → c *ℤ int_pow z 0 ≡ c
+pub times_power_zero : (c z : ℤ) → c *ℤ int_pow z 0 ≡ c
 times_power_zero c z = ap (λ k. c *ℤ k) (int_pow-zero z) ∙ times_one c
 
 terms-lacking : (v : Var) (z : ℤ) (p : Summands) → AllKeys IsMonomial p → degree_in v p ≡ 0 → map (specialised_term v z) p ≡ p

@@ -8,7 +8,7 @@ ghost use Rattle.geo_poly.specs.Polynomials.{IsPolynomial, constant_of, multiple
 ghost use Rattle.geo_poly.specs.Polynomials.{term_at, total_degree};
 
 use crate::monomials::Monomial;
-use crate::terms::{Term, append_copies, is_same_term, norm_of_terms};
+use crate::terms::{Term, copies, is_same_term, norm_of_terms};
 use crate::variables::Var;
 use geo_points::NoMemory;
 use std::alloc::Global;
@@ -66,8 +66,7 @@ impl Poly {
     pub fn copy(&self, alloc: Global) -> Result<Poly, NoMemory>
         ensures { IfOk result (λ p. p ≡ self.now) }
     {
-        let mut terms = Vec::new(alloc);
-        append_copies(alloc, &mut terms, &self.terms)?;
+        let terms = copies(alloc, &self.terms)?;
         Ok(Poly { terms })
     }
 

@@ -76,7 +76,7 @@ fn product_by_halves(alloc: Global, left: &[Term], right: &[Term]) -> Result<Vec
             let (front, back) = left.split_at(left.len() / 2);
             let front = product_by_halves(alloc, front, right)?;
             let back = product_by_halves(alloc, back, right)?;
-            merged(alloc, &front, &back)
+            merged(alloc, front, back)
         }
     }
 }

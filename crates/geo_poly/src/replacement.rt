@@ -280,7 +280,7 @@ fn replaced_terms(
             let (front, back) = terms.split_at(terms.len() / 2);
             let front = replaced_terms(alloc, front, rows, den, top)?;
             let back = replaced_terms(alloc, back, rows, den, top)?;
-            merged(alloc, &front, &back)
+            merged(alloc, front, back)
         }
     }
 }

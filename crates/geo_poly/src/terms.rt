@@ -1,6 +1,6 @@
 //! Lists of monomials with coefficients, of which polynomials are made.
 
-ghost use Rattle.std.specs.Prelude.{◌≡◌, ◌↔◌, ◌^◌, ◌<◌, ◌++◌, IfOk, OnOk, IsTrue};
+ghost use Rattle.std.specs.Prelude.{◌≡◌, ◌↔◌, ◌^◌, ◌<◌, IfOk, IsTrue};
 ghost use Rattle.geo_poly.specs.Polynomials.{norm_of};
 
 use crate::monomials::Monomial;
@@ -30,18 +30,15 @@ pub(crate) fn copy_term(alloc: Global, term: &Term) -> Result<Term, NoMemory>
     Ok((term.0.copy(alloc)?, term.1))
 }
 
-/// Adds copies of the terms at the end.
-pub(crate) fn append_copies(
-    alloc: Global,
-    to: &mut Vec<Term>,
-    from: &[Term],
-) -> Result<(), NoMemory>
-    ensures { OnOk result (to.new.items ≡ to.old.items ++ from.now) }
+/// Copies of the terms.
+pub(crate) fn copies(alloc: Global, terms: &[Term]) -> Result<Vec<Term>, NoMemory>
+    ensures { IfOk result (λ v. v.items ≡ terms.now) }
 {
-    for term in from {
-        to.push(copy_term(alloc, term)?)?;
+    let mut copies = Vec::with_capacity(alloc, terms.len())?;
+    for term in terms {
+        copies.push(copy_term(alloc, term)?)?;
     }
-    Ok(())
+    Ok(copies)
 }
 
 /// Whether monomial and coefficient are the same.

@@ -20,15 +20,15 @@ replaced_terms-requires-in_default t c =
 
 pub merged-requires-clause-left : goal.merged-requires-clause-left
 merged-requires-clause-left t c =
-    rw (c.deref.ensures.value, c.in_ok-front-in_default.ensures) (IsCanonical-polynomial_of (replaced_terms c.args.rows.now c.args.den.now.poly c.args.top c.split_at.result.0.now))
+    rw (c.in_ok-front-in_default.ensures) (IsCanonical-polynomial_of (replaced_terms c.args.rows.now c.args.den.now.poly c.args.top c.split_at.result.0.now))
 
 pub merged-requires-clause-right : goal.merged-requires-clause-right
 merged-requires-clause-right t c =
-    rw (c.deref-in_default.ensures.value, c.in_ok-back-in_default.ensures) (IsCanonical-polynomial_of (replaced_terms c.args.rows.now c.args.den.now.poly c.args.top c.split_at.result.1.now))
+    rw (c.in_ok-back-in_default.ensures) (IsCanonical-polynomial_of (replaced_terms c.args.rows.now c.args.den.now.poly c.args.top c.split_at.result.1.now))
 
 pub merged-requires-clause-fits : goal.merged-requires-clause-fits
 merged-requires-clause-fits t c =
-    rw (c.deref.ensures.value, c.deref-in_default.ensures.value, c.in_ok-front-in_default.ensures, c.in_ok-back-in_default.ensures, c.split_at.ensures.front, c.split_at.ensures.back)
+    rw (c.in_ok-front-in_default.ensures, c.in_ok-back-in_default.ensures, c.split_at.ensures.front, c.split_at.ensures.back)
     (replaced_halves_fit c.args.rows.now c.args.den.now c.args.top (length c.args.terms.now / 2) c.args.terms.now c.requires)
 
 pub returns-in_ok-rest-in-len1 : goal.returns-in_ok-rest-in-len1
@@ -48,6 +48,6 @@ returns-in_ok-rest-in-len1 t c =
 pub returns-in_ok-back-in_default : goal.returns-in_ok-back-in_default
 returns-in_ok-back-in_default t c =
     IfOk-weaker c.merged.result _ _
-    (λ v h. h ∙ rw (c.deref.ensures.value, c.deref-in_default.ensures.value, c.in_ok-front-in_default.ensures, c.in_ok-back-in_default.ensures, c.split_at.ensures.front, c.split_at.ensures.back)
+    (λ v h. h ∙ rw (c.in_ok-front-in_default.ensures, c.in_ok-back-in_default.ensures, c.split_at.ensures.front, c.split_at.ensures.back)
     (replaced_halves c.args.rows.now c.args.den.now.poly c.args.top (length c.args.terms.now / 2) c.args.terms.now))
     c.merged.ensures
