@@ -30,8 +30,7 @@ use geo_terms::Steps;
 use std::alloc::Global;
 
 /// The polynomial after a move: the variables that have a row are replaced at once, and the whole
-/// is
-/// multiplied by the denominator as often as the monomial that needs it most. The charge of the
+/// is multiplied by the denominator as often as the monomial that needs it most. The charge of the
 /// line, its weight and its degree are tested in this order, before anything is multiplied out. The
 /// charge is spent as soon as it is within the budget.
 pub fn apply(

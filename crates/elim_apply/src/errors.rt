@@ -19,9 +19,9 @@ pub enum ApplyError {
 
 impl From<NoMemory> for ApplyError {
     ghost use Rattle.std.specs.Prelude.{◌≡◌};
-    ghost use Rattle.elim_apply.specs.declared.errors.ApplyError.TheVariants.{NoMemory as OutOfMemory};
+    ghost use Rattle.elim_apply.specs.declared.errors.ApplyError.TheVariants.{NoMemory as NoRoom};
 
-    ghost from_gives = { λ _ e. e ≡ OutOfMemory };
+    ghost from_gives = { λ _ e. e ≡ NoRoom };
 
     fn from(_error: NoMemory) -> ApplyError {
         ApplyError::NoMemory

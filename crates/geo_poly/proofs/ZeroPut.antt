@@ -1,11 +1,10 @@
 -- With 0 for a variable, what is left of a polynomial is its terms that lack the variable.
-use Rattle.std.proofs.Common.{◌≡◌, ℕ, zero, suc, ◌+◌, ◌*◌ as ◌*ₙ◌, ◌^◌, ◌<◌, eqb, Bool, true, false, cond, ℤ, pos, ◌+ℤ◌, ◌*ℤ◌, [], ◌∷◌, ◌++◌, filter, take, length, get_or, refl, ap, ap₂, ◌∙◌, unsigned_abs, arith}
+use Rattle.std.proofs.Common.{◌≡◌, ℕ, zero, suc, ◌*◌ as ◌*ₙ◌, ◌^◌, eqb, Bool, true, false, cond, ℤ, pos, ◌+ℤ◌, ◌*ℤ◌, [], ◌∷◌, filter, refl, ap, ap₂, ◌∙◌, unsigned_abs, arith}
 use Rattle.std.specs.Int.{int_pow}
 use Rattle.std.specs.Ordering.{is_eq}
 use Rattle.std.proofs.lemmas.Bool.Decides.{nat_tests}
 use Rattle.std.proofs.lemmas.Int.{unsigned_abs-mul}
 use Rattle.std.proofs.Math.Nat.{pow-suc}
-use Rattle.std.proofs.lemmas.List.Elements.{filter-append}
 use Rattle.sparse_lists.specs.SparseLists.{AllKeys, IsBefore, IsCanonical, insert}
 use Rattle.sparse_lists.proofs.Canonical.{IsCanonical-insert, amount-insert, insert_before, same_list}
 use Rattle.geo_poly.specs.declared.variables.Var.{Var}

@@ -1,6 +1,5 @@
-use Rattle.std.proofs.Common.{◌≡◌, ◌++◌, None, Some, refl, ap, subst, ◌∙◌}
+use Rattle.std.proofs.Common.{None, Some, refl, ap, subst, ◌∙◌}
 use Rattle.std.specs.declared.cmp.Ordering.TheVariants.{Less, Equal, Greater}
-use Rattle.geo_poly.specs.Polynomials.{sum_of}
 use Rattle.geo_poly.specs.Inner.Merges.{IsOrderOfFirsts}
 use Rattle.geo_poly.proofs.Merges.{both_added, finished, left_moved, right_moved}
 use Rattle.geo_poly.proofs.sums.merged.Goals as goal
