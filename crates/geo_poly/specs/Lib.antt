@@ -13,4 +13,7 @@ pub mod Cuts
 pub mod SortedVariables
 pub mod KeptVariables
 pub mod ReplacementLaws
+pub mod Shared
+pub mod StoreOrder
+pub mod Chained
 pub mod Inner
