@@ -10,7 +10,7 @@ use Rattle.geo_cli.specs.Due.{Due, IsAcceptedDue, IsBenchDue, IsCalledFor, IsCom
 use Rattle.geo_cli.specs.Inner.Answering.{AnswersCommand, HasNumber}
 use Rattle.geo_cli.specs.Input.{IsInput, Takes, log_limit, program_limit}
 use Rattle.geo_cli.specs.Orders.{IsOrder, IsRow, TellsSteps}
-use Rattle.geo_cli.specs.Run.{Benches, Checks, Ends, IsAnswered, IsCutShort, IsDecided, Prints, Proves}
+use Rattle.geo_cli.specs.Run.{Benches, Checks, Ends, IsAnswered, IsCutShort, Prints, Proves, VerdictTells}
 use Rattle.geo_cli.specs.Status.{ending_status, refusal_status, status_number, stop_status, verdict_status}
 use Rattle.geo_cli.specs.Words.{IsBenchOf, IsCheck, IsNoCommand, IsProve, ReadsNothing}
 use Rattle.geo_cli.proofs.OneDue.{GivesOne, called_is_due}
@@ -89,7 +89,7 @@ due_says due other s t answered is says = ap (λ (d : Due). d.status) (sym is) �
 
 module _ (words : List (List ℕ)) (left left' held held' : Option (List ℕ)) (verdict : Verdict) where
   abbrev Decided : Type 0
-  Decided = IsDecided words left left' held held' verdict
+  Decided = VerdictTells words left left' held held' verdict
 
   -- a log that was written and ends with this verdict
   log_proves : (steps : ℕ) → IsProve words steps → (bytes : List ℕ) → IsInput program_limit left bytes left' → (due : Due) (log : IsLogDue steps bytes due)
@@ -190,7 +190,7 @@ module _ (words : List (List ℕ)) (left left' held held' : Option (List ℕ)) (
   -- a run that answers the verdict
   pub decides : (source_faults source_faults' faults faults' : ℕ) (s : Status)
       → Ends words left left' source_faults source_faults' faults faults' held held' s → s ≡ verdict_status verdict
-      → IsDecided words left left' held held' verdict
+      → VerdictTells words left left' held held' verdict
   decides g g' f f' s (inl h) says = by_answer h.answered
     where
       by_answer : IsAnswered h.due s f f' held held' → Decided

@@ -60,14 +60,14 @@ pub record IsLogDue (steps : ℕ) (bytes : List ℕ) (due : Due) : Type 0 where
   pub is : due ≡ record { text = log_text lines; status = ending_status lines ending }
 
 -- the bytes spell no program, and this is their first refusal
-pub record IsNoProgram (bytes : List ℕ) (fault : Fault) : Type 0 where
+pub record SpellsNone (bytes : List ℕ) (fault : Fault) : Type 0 where
   pub refused : IsRefused bytes fault
   pub spells_none : (program : Program) → Spells bytes program → ⊥
 
 -- the bytes spell no program: the line that tells why
 pub record IsRefusalDue (bytes : List ℕ) (due : Due) : Type 0 where
   pub fault : Fault
-  pub no_program : IsNoProgram bytes fault
+  pub no_program : SpellsNone bytes fault
   pub is : due ≡ record { text = syntax_line fault; status = Syntax fault.refusal fault.place }
 
 -- what `prove` is to write of these bytes

@@ -65,8 +65,8 @@ pub record Benches (words : List (List ℕ)) (held held' : Option (List ℕ)) (v
   pub written : Grows held (bench_text number (length form.construction.steps) steps lines (ends_with verdict left)) held'
 
 -- what a verdict that is answered tells, by the command
-abbrev pub IsDecided : List (List ℕ) → Option (List ℕ) → Option (List ℕ) → Option (List ℕ) → Option (List ℕ) → Verdict → Type 0
-IsDecided words left left' held held' verdict =
+abbrev pub VerdictTells : List (List ℕ) → Option (List ℕ) → Option (List ℕ) → Option (List ℕ) → Option (List ℕ) → Verdict → Type 0
+VerdictTells words left left' held held' verdict =
     Proves words left left' held held' verdict ⊎ (Checks words left left' verdict ⊎ Benches words held held' verdict)
 
 -- the words are `text` with so many steps, the source gave these bytes and no more, they are an accepted log, and the sink holds its

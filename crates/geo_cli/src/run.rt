@@ -5,7 +5,7 @@ ghost use Rattle.geo_cli.specs.Due.{Due, IsCalledFor};
 ghost use Rattle.geo_cli.specs.Inner.Answering.{AnswersCommand, HasNumber};
 ghost use Rattle.geo_cli.specs.Input.{Takes, log_limit};
 ghost use Rattle.geo_cli.specs.declared.order.Command.TheVariants.{Bench};
-ghost use Rattle.geo_cli.specs.Run.{Ends, IsDecided, Prints};
+ghost use Rattle.geo_cli.specs.Run.{Ends, Prints, VerdictTells};
 ghost use Rattle.geo_cli.specs.Status.{verdict_status};
 ghost use Rattle.geo_cli.specs.Words.{ReadsNothing, bytes_of_words};
 ghost use Rattle.proof_log.specs.declared.log.Verdict.{Verdict};
@@ -32,7 +32,7 @@ pub fn run<S: Source, K: Sink>(
     sink: &mut K,
 ) -> Status
     ensures decides { (verdict : Verdict) → result ≡ verdict_status verdict
-        → IsDecided (bytes_of_words words.now.items) (S.left source.old) (S.left source.new)
+        → VerdictTells (bytes_of_words words.now.items) (S.left source.old) (S.left source.new)
         (K.held sink.old) (K.held sink.new) verdict }
     ensures prints { result ≡ Status.Done
         → Prints (bytes_of_words words.now.items) (S.left source.old) (S.left source.new)

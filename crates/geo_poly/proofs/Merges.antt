@@ -72,7 +72,7 @@ both_added out (t ∷ ts) (u ∷ us) out' p' q' whole e m h =
           ∙ h.kept;
     })
 
-append_nil : (xs : Summands) → xs ++ [] ≡ xs
+pub append_nil : (xs : Summands) → xs ++ [] ≡ xs
 append_nil xs = search rules
 
 -- where one list has run out, the other is what is left

@@ -181,7 +181,7 @@ fn merged(
     requires fits { degree_of left.now + degree_of right.now ≤ 65535 }
     ensures { IfOk result (λ v. v.items ≡ product left.now right.now) }
 {
-    let mut powers = Vec::new(alloc);
+    let mut powers = Vec::with_capacity(alloc, left.len().saturating_add(right.len()))?;
     let mut i = 0;
     let mut j = 0;
     while i < left.len() && j < right.len() {

@@ -1,6 +1,7 @@
 //! Sums and differences of polynomials.
 
-ghost use Rattle.std.specs.Prelude.{◌≡◌, ◌≢◌, ◌↔◌, ◌+◌, ◌++◌, ◌^◌, ◌<◌, ◌≤◌, IfOk, OnOk};
+ghost use Rattle.std.specs.Prelude.{◌≡◌, ◌≢◌, ◌↔◌, ◌+◌, ◌++◌, ◌^◌, ◌<◌, ◌≤◌, IfOk, OnOk, Some};
+ghost use Rattle.std.specs.declared.cmp.Ordering.TheVariants.{Equal};
 ghost use Rattle.sparse_lists.specs.SparseLists.{IsCanonical};
 ghost use Rattle.geo_poly.specs.Polynomials.{coefficients, difference_of, negated, norm_of, sum_of};
 ghost use Rattle.geo_poly.specs.Polynomials.{term_cmp};
@@ -114,7 +115,8 @@ fn add_firsts(
     left: &mut VecDeque<Term>,
     right: &mut VecDeque<Term>,
 ) -> Result<(), NoMemory>
-    requires { norm_of left.old.items + norm_of right.old.items < 2 ^ 127 }
+    requires firsts { IsOrderOfFirsts left.old.items right.old.items (Some Equal) }
+    requires fits { norm_of left.old.items + norm_of right.old.items < 2 ^ 127 }
     ensures { OnOk result (AddsFirsts to.old.items left.old.items right.old.items to.new.items
         left.new.items right.new.items) }
 {

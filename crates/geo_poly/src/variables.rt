@@ -75,7 +75,17 @@ impl Ord for Var {
     ghost matches_eq = { Prim.search (comparing, rules) };
 
     fn cmp(&self, other: &Var) -> Ordering {
-        self.rank().cmp(&other.rank())
+        match (*self, *other) {
+            (Var::R(a, b, c, d), Var::R(e, f, g, h)) => (a, b, c, d).cmp(&(e, f, g, h)),
+            (Var::S(a, b, c), Var::S(d, e, f)) => (a, b, c).cmp(&(d, e, f)),
+            (Var::P(a, b, c), Var::P(d, e, f)) => (a, b, c).cmp(&(d, e, f)),
+            (Var::X(a), Var::X(b)) => a.cmp(&b),
+            (Var::X(a), Var::Y(b)) => a.cmp(&b).then(Ordering::Less),
+            (Var::Y(a), Var::X(b)) => a.cmp(&b).then(Ordering::Greater),
+            (Var::Y(a), Var::Y(b)) => a.cmp(&b),
+            (Var::T(s), Var::T(t)) => s.cmp(&t),
+            (v, w) => v.rank().cmp(&w.rank()),
+        }
     }
 }
 

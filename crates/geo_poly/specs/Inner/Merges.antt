@@ -15,7 +15,7 @@ abbrev pub MovesFirst : Summands → Summands → Summands → Summands → Type
 MovesFirst to [] to' from' = (to' ≡ to) × (from' ≡ [])
 MovesFirst to (t ∷ ts) to' from' = (to' ≡ to ++ t ∷ []) × (from' ≡ ts)
 
--- the first terms of two lists go, added up, to the end of `to`, unless the sum is 0
+-- the first terms of two lists go, added up, to the end of `to`, unless the sum is 0; both lists have one where this is asked for
 abbrev pub AddsFirsts : Summands → Summands → Summands → Summands → Summands → Summands → Type 0
 AddsFirsts to (t ∷ ts) (u ∷ us) to' left' right' = (to' ≡ to ++ put coefficients t.0 (t.1 +ℤ u.1) []) × (left' ≡ ts) × (right' ≡ us)
 AddsFirsts to [] right to' left' right' = ⊤
