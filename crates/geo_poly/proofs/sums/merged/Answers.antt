@@ -11,8 +11,8 @@ loop-order-preserved-in-Continue-branch-2 c =
     let less : IsOrderOfFirsts p q (Some Less) = subst (IsOrderOfFirsts p q) (c.in-Some.is ∙ ap Some c.in-Less.is) c.order_of_firsts.ensures in
     left_moved c.loop-order.terms.items p q _ _ _ less c.in_ok-move_first-in-Less.ensures c.loop-order.invariant
 
-pub requires-add_firsts-firsts : goal.requires-add_firsts-firsts
-requires-add_firsts-firsts c =
+pub add_firsts-requires-clause-firsts : goal.add_firsts-requires-clause-firsts
+add_firsts-requires-clause-firsts c =
     subst (IsOrderOfFirsts c.loop-order.left.items c.loop-order.right.items) (c.in-Some.is ∙ ap Some c.in-Equal.is) c.order_of_firsts.ensures
 
 pub loop-order-preserved-in-Continue-branch-3 : goal.loop-order-preserved-in-Continue-branch-3
