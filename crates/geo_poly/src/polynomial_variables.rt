@@ -7,11 +7,16 @@ ghost use Rattle.std.specs.BTreeSet.{insert_key};
 ghost use Rattle.geo_poly.specs.declared.variables.Var.{Var};
 ghost use Rattle.geo_poly.specs.Variables.{var_cmp};
 ghost use Rattle.geo_poly.specs.PolynomialVariables.{HasVariable, variables_of};
+ghost use Rattle.geo_poly.specs.Shared.{AreParts, IsIndexOf, told, told_powers};
 
 use crate::lists::Vars;
 use crate::polynomials::Poly;
+use crate::reading::first_power;
+use crate::shared::Shared;
+use crate::terms::Term;
 use crate::variables::Var;
 use geo_points::NoMemory;
+use mono_store::MonoId;
 use std::alloc::Global;
 use std::collections::BTreeSet;
 
@@ -22,13 +27,47 @@ impl Poly {
         ensures in_order { IsStrictlySortedBy var_cmp (variables_of self.now) }
         ensures exact { (v : Var) → Contains (variables_of self.now) v ↔ HasVariable v self.now }
     {
-        let mut variables = BTreeSet::new(alloc);
-        for (monomial, _) in &self.terms {
-            insert_variables(&mut variables, monomial.powers())?;
-        }
-        let items = variables.into_iter().collect(alloc)?;
-        Ok(Vars { items })
+        variables_at(alloc, &self.shared())
     }
+}
+
+/// The variables of the monomials, read link by link.
+fn variables_at(alloc: Global, p: &Shared) -> Result<Vars, NoMemory>
+    requires { AreParts p.now }
+    ensures { IfOk result (λ vs. vs ≡ variables_of (told p.now)) }
+{
+    let mut variables = BTreeSet::new(alloc);
+    for (id, _) in p.list {
+        insert_powers(&mut variables, p, *id)?;
+    }
+    let items = variables.into_iter().collect(alloc)?;
+    Ok(Vars { items })
+}
+
+/// Inserts the variables of the monomial at an index.
+fn insert_powers(variables: &mut BTreeSet<Var>, p: &Shared, id: MonoId) -> Result<(), NoMemory>
+    requires { IsIndexOf p.now id }
+    ensures { OnOk result (variables.new.keys
+        ≡ fold (insert_key var_cmp) variables.old.keys (map (λ p. p.0) (told_powers p.now id))) }
+{
+    let mut rest = id;
+    while let Some((v, _, next)) = first_power(p, rest) {
+        variables.insert(v)?;
+        rest = next;
+    }
+    Ok(())
+}
+
+/// The variables of the monomials, in order and each once.
+pub(crate) fn variables_of_terms(alloc: Global, terms: &[Term]) -> Result<Vars, NoMemory>
+    ensures { IfOk result (λ vs. vs ≡ variables_of terms.now) }
+{
+    let mut variables = BTreeSet::new(alloc);
+    for (monomial, _) in terms {
+        insert_variables(&mut variables, monomial.powers())?;
+    }
+    let items = variables.into_iter().collect(alloc)?;
+    Ok(Vars { items })
 }
 
 /// Inserts the variables of a monomial.
@@ -37,6 +76,30 @@ fn insert_variables(variables: &mut BTreeSet<Var>, powers: &[(Var, u32)]) -> Res
         ≡ fold (insert_key var_cmp) variables.old.keys (map (λ p. p.0) powers.now)) }
 {
     for (v, _) in powers {
+        variables.insert(*v)?;
+    }
+    Ok(())
+}
+
+/// The variables of both lists, in order and each once.
+pub(crate) fn union(alloc: Global, left: &Vars, right: &Vars) -> Result<Vars, NoMemory>
+    ensures rising { IfOk result (IsStrictlySortedBy var_cmp) }
+    ensures left { IfOk result (λ vs. (v : Var) → Contains left.now v → Contains vs v) }
+    ensures right { IfOk result (λ vs. (v : Var) → Contains right.now v → Contains vs v) }
+{
+    let mut variables = BTreeSet::new(alloc);
+    insert_all(&mut variables, left.as_slice())?;
+    insert_all(&mut variables, right.as_slice())?;
+    let items = variables.into_iter().collect(alloc)?;
+    Ok(Vars { items })
+}
+
+/// Inserts variables.
+pub(crate) fn insert_all(variables: &mut BTreeSet<Var>, more: &[Var]) -> Result<(), NoMemory>
+    ensures { OnOk result
+        (variables.new.keys ≡ fold (insert_key var_cmp) variables.old.keys more.now) }
+{
+    for v in more {
         variables.insert(*v)?;
     }
     Ok(())

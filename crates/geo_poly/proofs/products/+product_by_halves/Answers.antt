@@ -13,14 +13,14 @@ product_by_halves-requires-in_default t c =
     (search rules, rw c.split_at.ensures.back (CanMultiply-drop (length c.args.left.now / 2) c.args.left.now c.args.right.now c.requires))
 
 pub merged-requires-clause-left : goal.merged-requires-clause-left
-merged-requires-clause-left t c = rw (c.in_ok-front-in_default.ensures) (IsCanonical-product_of c.split_at.result.0.now c.args.right.now)
+merged-requires-clause-left t c = rw (c.deref.ensures.value, c.in_ok-front-in_default.ensures) (IsCanonical-product_of c.split_at.result.0.now c.args.right.now)
 
 pub merged-requires-clause-right : goal.merged-requires-clause-right
-merged-requires-clause-right t c = rw (c.in_ok-back-in_default.ensures) (IsCanonical-product_of c.split_at.result.1.now c.args.right.now)
+merged-requires-clause-right t c = rw (c.deref-in_default.ensures.value, c.in_ok-back-in_default.ensures) (IsCanonical-product_of c.split_at.result.1.now c.args.right.now)
 
 pub merged-requires-clause-fits : goal.merged-requires-clause-fits
 merged-requires-clause-fits t c =
-    rw (c.in_ok-front-in_default.ensures, c.in_ok-back-in_default.ensures, c.split_at.ensures.front, c.split_at.ensures.back)
+    rw (c.deref.ensures.value, c.deref-in_default.ensures.value, c.in_ok-front-in_default.ensures, c.in_ok-back-in_default.ensures, c.split_at.ensures.front, c.split_at.ensures.back)
     (halves_fit (length c.args.left.now / 2) c.args.left.now c.args.right.now c.requires)
 
 pub returns-in-len1 : goal.returns-in-len1
@@ -32,6 +32,6 @@ returns-in-len1 t c =
 pub returns-in_ok-back-in_default : goal.returns-in_ok-back-in_default
 returns-in_ok-back-in_default t c =
     IfOk-weaker c.merged.result _ _
-    (λ v h. h ∙ rw (c.in_ok-front-in_default.ensures, c.in_ok-back-in_default.ensures, c.split_at.ensures.front, c.split_at.ensures.back)
+    (λ v h. h ∙ rw (c.deref.ensures.value, c.deref-in_default.ensures.value, c.in_ok-front-in_default.ensures, c.in_ok-back-in_default.ensures, c.split_at.ensures.front, c.split_at.ensures.back)
     (product_of_halves (length c.args.left.now / 2) c.args.left.now c.args.right.now))
     c.merged.ensures

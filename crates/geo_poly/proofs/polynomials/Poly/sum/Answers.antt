@@ -1,0 +1,31 @@
+use Rattle.std.proofs.Common.{◌≡◌, List, sym, ap, ap₂, subst, ◌∙◌, arith}
+use Rattle.sparse_lists.specs.SparseLists.{AllKeys}
+use Rattle.geo_poly.specs.declared.variables.Var.{Var}
+use Rattle.geo_poly.specs.Polynomials.{IsPolynomial, sum_of, norm_of}
+use Rattle.geo_poly.specs.Shared.{IsIndex, terms_of, told}
+use Rattle.geo_poly.proofs.PolynomialLaws.{IsPolynomial-sum_of}
+use Rattle.geo_poly.proofs.Unions.{AllVariables-longer}
+use Rattle.geo_poly.proofs.polynomials.Poly.sum.Goals as goal
+
+pub sum_list-requires-clause-left_known : goal.sum_list-requires-clause-left_known
+sum_list-requires-clause-left_known c =
+    rw (c.as_slice.ensures, c.shared-p.ensures.terms) (AllVariables-longer c.vars.result.now c.in_ok-vars.vars c.args.self.now c.in_ok-vars.ensures.left c.vars.ensures.known)
+
+pub sum_list-requires-clause-right_known : goal.sum_list-requires-clause-right_known
+sum_list-requires-clause-right_known c =
+    rw (c.as_slice.ensures, c.shared-q.ensures.terms) (AllVariables-longer c.vars-2.result.now c.in_ok-vars.vars c.args.other.now c.in_ok-vars.ensures.right c.vars-2.ensures.known)
+
+pub sum_list-requires-clause-fits : goal.sum_list-requires-clause-fits
+sum_list-requires-clause-fits c = omega (arith, ap norm_of c.shared-p.ensures.terms, ap norm_of c.shared-q.ensures.terms, c.requires)
+
+pub from_list-requires : goal.from_list-requires
+from_list-requires c = record {
+  rising = c.in_ok-vars.ensures.rising;
+  indices = subst (λ (vs : List Var). AllKeys (IsIndex vs c.sum_list.new.store) c.in_ok-list.list.items) c.as_slice.ensures c.in_ok-list.ensures.indices;
+  polynomial = subst IsPolynomial (sym (subst (λ (vs : List Var). terms_of vs c.sum_list.new.store c.in_ok-list.list.items ≡ sum_of (told c.shared-p.result) (told c.shared-q.result)) c.as_slice.ensures c.in_ok-list.ensures.sum ∙ ap₂ sum_of c.shared-p.ensures.terms c.shared-q.ensures.terms))
+      (IsPolynomial-sum_of c.args.self.now c.args.other.now (subst IsPolynomial c.shared-p.ensures.terms c.shared-p.ensures.valid.polynomial)
+      (subst IsPolynomial c.shared-q.ensures.terms c.shared-q.ensures.valid.polynomial) c.requires);
+}
+
+pub returns : goal.returns
+returns c = c.from_list.ensures ∙ (subst (λ (vs : List Var). terms_of vs c.sum_list.new.store c.in_ok-list.list.items ≡ sum_of (told c.shared-p.result) (told c.shared-q.result)) c.as_slice.ensures c.in_ok-list.ensures.sum ∙ ap₂ sum_of c.shared-p.ensures.terms c.shared-q.ensures.terms)
