@@ -1,14 +1,12 @@
 //! Products of polynomials.
 
-ghost use Rattle.std.specs.Prelude.{◌≡◌, ◌≢◌, ◌↔◌, ◌+◌, ◌*◌, ◌^◌, ◌<◌, ◌≤◌, unsigned_abs};
+ghost use Rattle.std.specs.Prelude.{◌≡◌, ◌≢◌, ◌↔◌, ◌+◌, ◌*◌, ◌^◌, ◌<◌, ◌≤◌};
 ghost use Rattle.std.specs.Prelude.{Contains, IfOk, OnErr, OnOk};
 ghost use Rattle.std.specs.List.Sorted.{IsStrictlySortedBy};
 ghost use Rattle.mono_store.specs.Stores.{Keeps};
 ghost use Rattle.geo_poly.specs.declared.limits.Which.{Which};
 ghost use Rattle.geo_poly.specs.Chained.{AddsChain, SameChains, StandsFor};
-ghost use Rattle.geo_poly.specs.Monomials.{degree_of};
-ghost use Rattle.geo_poly.specs.Polynomials.{CanMultiply, multiples, norm_of, product_of};
-ghost use Rattle.geo_poly.specs.Polynomials.{total_degree};
+ghost use Rattle.geo_poly.specs.Polynomials.{CanMultiply, norm_of, product_of, total_degree};
 ghost use Rattle.geo_poly.specs.PolynomialVariables.{AllVariables};
 ghost use Rattle.geo_poly.specs.Variables.{var_cmp};
 
@@ -18,8 +16,6 @@ use crate::lists::Vars;
 use crate::moving::moved;
 use crate::polynomial_variables::union;
 use crate::polynomials::Poly;
-use crate::sums::merged;
-use crate::terms::Term;
 use crate::ticks::Ticks;
 use geo_points::NoMemory;
 use mono_store::Monos;
@@ -137,51 +133,5 @@ impl Poly {
         let right = moved(alloc, store, vars, &other.shared())?;
         let mut ticks = Ticks::<L>::new(blank);
         product_chain(store, arena, vars, &left, &right, &mut ticks)
-    }
-}
-
-/// Each of the terms times the one.
-fn multiples_of(alloc: Global, term: &Term, terms: &[Term]) -> Result<Vec<Term>, NoMemory>
-    requires norm { unsigned_abs term.now.1 * norm_of terms.now < 2 ^ 127 }
-    requires degree { degree_of term.now.0 + total_degree terms.now ≤ 65535 }
-    ensures { IfOk result (λ v. v.items ≡ multiples term.now terms.now) }
-{
-    let mut row = Vec::with_capacity(alloc, terms.len())?;
-    for other in terms {
-        row.push((term.0.times(alloc, &other.0)?, term.1 * other.1))?;
-    }
-    Ok(row)
-}
-
-/// The product, by halves of the shorter list, so that few terms are merged often.
-pub(crate) fn product_of_terms(
-    alloc: Global,
-    left: &[Term],
-    right: &[Term],
-) -> Result<Vec<Term>, NoMemory>
-    requires { CanMultiply left.now right.now }
-    ensures { IfOk result (λ v. v.items ≡ product_of left.now right.now) }
-{
-    if left.len() <= right.len() {
-        product_by_halves(alloc, left, right)
-    } else {
-        product_by_halves(alloc, right, left)
-    }
-}
-
-/// The product, by halves of the left list.
-fn product_by_halves(alloc: Global, left: &[Term], right: &[Term]) -> Result<Vec<Term>, NoMemory>
-    requires { CanMultiply left.now right.now }
-    ensures { IfOk result (λ v. v.items ≡ product_of left.now right.now) }
-{
-    match left {
-        [] => Ok(Vec::new(alloc)),
-        [term] => multiples_of(alloc, term, right),
-        _ => {
-            let (front, back) = left.split_at(left.len() / 2);
-            let front = product_by_halves(alloc, front, right)?;
-            let back = product_by_halves(alloc, back, right)?;
-            merged(alloc, &front, &back)
-        }
     }
 }

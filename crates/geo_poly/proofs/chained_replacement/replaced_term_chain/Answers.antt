@@ -16,7 +16,7 @@ use Rattle.sparse_lists.proofs.Merging.{drop_at, drop_past, get_or_any}
 use Rattle.geo_poly.proofs.ChainSteps.{gave_back}
 use Rattle.geo_poly.proofs.ChainSwaps.{AddsChain-swaps, AreStored-at, IsStoredAs-kept, length-AreStored}
 use Rattle.geo_poly.proofs.ReplaceLoop.{Progress, Progress-none, Progress-some, bounded_row, row_fits, rows_weight_fits}
-use Rattle.geo_poly.proofs.TickBounds.{Counting, Counting-none, Counting-some, Counting-start, counted_term, power_size}
+use Rattle.geo_poly.proofs.TickBounds.{Counting, Counting-none, Counting-some, counted_term, power_size}
 use Rattle.geo_poly.proofs.chained_replacement.replaced_term_chain.Goals as goal
 use Rattle.geo_poly.proofs.chained_replacement.replaced_term_chain.Goals.{in-Some+in_ok-product-2, in_default}
 
