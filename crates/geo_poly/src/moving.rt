@@ -153,7 +153,7 @@ fn places_in(alloc: Global, former: &[Var], vars: &[Var]) -> Result<Vec<Option<u
 }
 
 /// The place of a variable in the list, where it stands there.
-fn find_place(vars: &[Var], v: Var) -> Option<u64>
+pub(crate) fn find_place(vars: &[Var], v: Var) -> Option<u64>
     requires { IsStrictlySortedBy var_cmp vars.now }
     ensures { IsPlaceOf vars.now v result }
 {

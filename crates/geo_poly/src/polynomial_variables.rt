@@ -1,6 +1,6 @@
 //! The variables of a polynomial.
 
-ghost use Rattle.std.specs.Prelude.{◌≡◌, ◌↔◌, ◌++◌, map, Contains, IfOk, OnOk};
+ghost use Rattle.std.specs.Prelude.{◌≡◌, ◌↔◌, ◌++◌, map, Contains, IfOk, IsTrue, OnOk};
 ghost use Rattle.std.specs.List.{fold};
 ghost use Rattle.std.specs.List.Sorted.{IsStrictlySortedBy};
 ghost use Rattle.std.specs.BTreeSet.{insert_key};
@@ -10,6 +10,7 @@ ghost use Rattle.geo_poly.specs.PolynomialVariables.{HasVariable, variables_of};
 ghost use Rattle.geo_poly.specs.Shared.{AreParts, IsIndexOf, told, told_powers};
 
 use crate::lists::Vars;
+use crate::moving::find_place;
 use crate::polynomials::Poly;
 use crate::reading::first_power;
 use crate::shared::Shared;
@@ -83,6 +84,37 @@ fn insert_variables(variables: &mut BTreeSet<Var>, powers: &[(Var, u32)]) -> Res
 
 /// The variables of both lists, in order and each once.
 pub(crate) fn union(alloc: Global, left: &Vars, right: &Vars) -> Result<Vars, NoMemory>
+    requires left { IsStrictlySortedBy var_cmp left.now }
+    requires right { IsStrictlySortedBy var_cmp right.now }
+    ensures rising { IfOk result (IsStrictlySortedBy var_cmp) }
+    ensures left { IfOk result (λ vs. (v : Var) → Contains left.now v → Contains vs v) }
+    ensures right { IfOk result (λ vs. (v : Var) → Contains right.now v → Contains vs v) }
+{
+    if has_all(left.as_slice(), right.as_slice()) {
+        return left.copy(alloc);
+    }
+    if has_all(right.as_slice(), left.as_slice()) {
+        return right.copy(alloc);
+    }
+    collected(alloc, left, right)
+}
+
+/// Whether the first list has each variable of the second.
+pub(crate) fn has_all(list: &[Var], others: &[Var]) -> bool
+    requires { IsStrictlySortedBy var_cmp list.now }
+    ensures { IsTrue result → (v : Var) → Contains others.now v → Contains list.now v }
+{
+    for v in others {
+        match find_place(list, *v) {
+            Some(_) => {}
+            None => return false,
+        }
+    }
+    true
+}
+
+/// The variables of both lists, sorted by a set.
+fn collected(alloc: Global, left: &Vars, right: &Vars) -> Result<Vars, NoMemory>
     ensures rising { IfOk result (IsStrictlySortedBy var_cmp) }
     ensures left { IfOk result (λ vs. (v : Var) → Contains left.now v → Contains vs v) }
     ensures right { IfOk result (λ vs. (v : Var) → Contains right.now v → Contains vs v) }

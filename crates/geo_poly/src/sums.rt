@@ -10,8 +10,9 @@ ghost use Rattle.geo_poly.specs.Shared.{AreParts, IsIndex, terms_of, told};
 ghost use Rattle.geo_poly.specs.Variables.{var_cmp};
 
 use crate::limits::{MAX, PolyError, Which};
+use crate::lists::Vars;
 use crate::moving::moved;
-use crate::polynomial_variables::union;
+use crate::polynomial_variables::{has_all, union};
 use crate::polynomials::Poly;
 use crate::shared::{Indexed, Shared};
 use crate::terms::{Term, append_copies, copy_term};
@@ -53,9 +54,15 @@ impl Poly {
         requires { norm_of self.now + norm_of other.now < 2 ^ 127 }
         ensures { IfOk result (λ p. p ≡ sum_of self.now other.now) }
     {
+        let (p, q) = (self.shared(), other.shared());
+        if has_all(p.vars, q.vars) {
+            return sum_over(alloc, &p, &q);
+        }
+        if has_all(q.vars, p.vars) {
+            return sum_over(alloc, &q, &p);
+        }
         let vars = union(alloc, self.vars(), other.vars())?;
         let mut monos = Monos::new(alloc);
-        let (p, q) = (self.shared(), other.shared());
         let list = sum_list(alloc, &mut monos, vars.as_slice(), &p, &q)?;
         Ok(Poly::from_list(vars, monos, list))
     }
@@ -65,12 +72,46 @@ impl Poly {
         requires { norm_of self.now + norm_of other.now < 2 ^ 127 }
         ensures { IfOk result (λ p. p ≡ difference_of self.now other.now) }
     {
+        let (p, q) = (self.shared(), other.shared());
+        if has_all(p.vars, q.vars) {
+            return difference_over(alloc, &p, &q);
+        }
         let vars = union(alloc, self.vars(), other.vars())?;
         let mut monos = Monos::new(alloc);
-        let (p, q) = (self.shared(), other.shared());
         let list = difference_list(alloc, &mut monos, vars.as_slice(), &p, &q)?;
         Ok(Poly::from_list(vars, monos, list))
     }
+}
+
+/// The sum, over a copy of the store of the first, which has the variables of both.
+fn sum_over(alloc: Global, p: &Shared, q: &Shared) -> Result<Poly, NoMemory>
+    requires left { AreParts p.now }
+    requires right { AreParts q.now }
+    requires known { AllVariables (Contains p.now.vars.now) (told q.now) }
+    requires fits { norm_of (told p.now) + norm_of (told q.now) < 2 ^ 127 }
+    ensures { IfOk result (λ s. s ≡ sum_of (told p.now) (told q.now)) }
+{
+    let mut monos = p.monos.copy(alloc)?;
+    let right = moved(alloc, &mut monos, p.vars, q)?;
+    let list = merged_lists(alloc, &monos, p.vars, p.list, &right)?;
+    let items = Vec::from_slice(alloc, p.vars)?;
+    Poly::compact(alloc, Vars { items }, monos, list)
+}
+
+/// The difference, over a copy of the store of the first, which has the variables of both.
+fn difference_over(alloc: Global, p: &Shared, q: &Shared) -> Result<Poly, NoMemory>
+    requires left { AreParts p.now }
+    requires right { AreParts q.now }
+    requires known { AllVariables (Contains p.now.vars.now) (told q.now) }
+    requires fits { norm_of (told p.now) + norm_of (told q.now) < 2 ^ 127 }
+    ensures { IfOk result (λ s. s ≡ difference_of (told p.now) (told q.now)) }
+{
+    let mut monos = p.monos.copy(alloc)?;
+    let right = moved(alloc, &mut monos, p.vars, q)?;
+    let opposite = negated_list(alloc, &monos, p.vars, &right)?;
+    let list = merged_lists(alloc, &monos, p.vars, p.list, &opposite)?;
+    let items = Vec::from_slice(alloc, p.vars)?;
+    Poly::compact(alloc, Vars { items }, monos, list)
 }
 
 /// The list of the sum, in a store.

@@ -5,7 +5,7 @@ use Rattle.geo_poly.specs.Polynomials.{IsPolynomial, difference_of, negated, nor
 use Rattle.geo_poly.specs.Shared.{IsIndex, terms_of, told}
 use Rattle.geo_poly.proofs.Negated.{IsPolynomial-negated, norm_of-negated}
 use Rattle.geo_poly.proofs.PolynomialLaws.{IsPolynomial-sum_of}
-use Rattle.geo_poly.proofs.Unions.{AllVariables-longer}
+use Rattle.geo_poly.proofs.Unions.{AllVariables-longer, known_variables}
 use Rattle.geo_poly.proofs.polynomials.Poly.difference.Goals as goal
 
 pub difference_list-requires-clause-left_known : goal.difference_list-requires-clause-left_known
@@ -30,3 +30,8 @@ from_list-requires c = record {
 
 pub returns : goal.returns
 returns c = c.from_list.ensures ∙ (subst (λ (vs : List Var). terms_of vs c.difference_list.new.store c.in_ok-list.list.items ≡ difference_of (told c.shared-p.result) (told c.shared-q.result)) c.as_slice.ensures c.in_ok-list.ensures.difference ∙ ap₂ difference_of c.shared-p.ensures.terms c.shared-q.ensures.terms)
+
+pub difference_over-requires-clause-known : goal.difference_over-requires-clause-known
+difference_over-requires-clause-known c =
+    AllVariables-longer c.shared-q.result.vars.now c.shared-p.result.vars.now (told c.shared-q.result) (c.has_all.ensures c.if-has_all.true)
+    (known_variables c.shared-q.result.vars.now c.shared-q.result.monos.now c.shared-q.result.list.now c.shared-q.ensures.valid.indices)
