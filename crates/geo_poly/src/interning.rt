@@ -30,11 +30,34 @@ pub(crate) fn place_of(vars: &[Var], v: Var) -> u64
     }
 }
 
-/// The index of the monomial with these powers.
-pub(crate) fn stored(
+/// The place of a variable in the list. It is looked for first where it is supposed to stand.
+fn place_near(vars: &[Var], v: Var, guess: u64) -> u64
+    requires rising { IsStrictlySortedBy var_cmp vars.now }
+    requires known { Contains vars.now v }
+    ensures within { result < length vars.now }
+    ensures variable { var_at vars.now result ≡ v }
+{
+    match vars.get(guess as usize) {
+        Some(w) if *w == v => guess,
+        _ => place_of(vars, v),
+    }
+}
+
+/// The number at a place, and 0 past the end.
+fn number_at(numbers: &[u64], i: usize) -> u64 {
+    match numbers.get(i) {
+        Some(number) => *number,
+        None => 0,
+    }
+}
+
+/// The index of the monomial with these powers. The places of its variables are put down as guesses
+/// for the next monomial, which has mostly the same.
+fn stored(
     store: &mut Monos,
     vars: &[Var],
     powers: &[(Var, u32)],
+    guesses: &mut Vec<u64>,
 ) -> Result<MonoId, NoMemory>
     requires rising { IsStrictlySortedBy var_cmp vars.now }
     requires monomial { IsMonomial powers.now }
@@ -43,12 +66,17 @@ pub(crate) fn stored(
     ensures powers { IfOk result (λ id. powers_at vars.now store.new id ≡ powers.now) }
     ensures kept { Keeps store.old store.new }
 {
+    guesses.resize(powers.len(), 0)?;
     let mut id = store.one();
     let mut i = powers.len();
     while i > 0 {
         i -= 1;
         let (v, exponent) = powers[i];
-        id = store.mono(place_of(vars, v), exponent, id)?;
+        let place = place_near(vars, v, number_at(guesses, i));
+        if i < guesses.len() {
+            guesses[i] = place;
+        }
+        id = store.mono(place, exponent, id)?;
     }
     Ok(id)
 }
@@ -68,8 +96,10 @@ pub(crate) fn stored_terms(
     ensures kept { Keeps store.old store.new }
 {
     let mut list = Vec::with_capacity(alloc, terms.len())?;
+    let mut guesses = Vec::new(alloc);
     for term in terms {
-        list.push((stored(store, vars, term.0.powers())?, term.1))?;
+        let id = stored(store, vars, term.0.powers(), &mut guesses)?;
+        list.push((id, term.1))?;
     }
     Ok(list)
 }

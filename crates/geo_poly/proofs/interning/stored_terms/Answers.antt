@@ -28,15 +28,15 @@ loop-term-preserved c =
     let list = c.loop-term.list.items in
     let t = c.term-item.result in
     let i = c.loop-term.term-index in
-    let kept = c.in_ok-stored.ensures.kept in
+    let kept = c.in_ok-id.ensures.kept in
     let fits : FitsSigned w128 c.term-item.result.1 = search rules in
     record {
       kept = Keeps_trans c.loop-term.invariant.kept kept;
       indices = rw c.in_ok-push.ensures.items
-          (AllKeys-append (IsIndex vars new) list _ (indices-kept vars old new list kept c.loop-term.invariant.indices) (c.in_ok-stored.ensures.index, tt));
+          (AllKeys-append (IsIndex vars new) list _ (indices-kept vars old new list kept c.loop-term.invariant.indices) (c.in_ok-id.ensures.index, tt));
       terms = ap (terms_of vars new) c.in_ok-push.ensures.items
           ∙ map-append (term_of vars new) list _
-          ∙ ap₂ (λ (ts : Summands) (z : ℤ). ts ++ (powers_at vars new c.in_ok-stored.field-0, z) ∷ []) (terms_of-kept vars old new list kept c.loop-term.invariant.indices ∙ c.loop-term.invariant.terms) (to_z-of_z w128 t.1 fits)
-          ∙ ap (λ (m : Powers). take i c.args.terms.now ++ (m, t.1) ∷ []) (c.in_ok-stored.ensures.powers ∙ c.powers.ensures)
+          ∙ ap₂ (λ (ts : Summands) (z : ℤ). ts ++ (powers_at vars new c.in_ok-id.id, z) ∷ []) (terms_of-kept vars old new list kept c.loop-term.invariant.indices ∙ c.loop-term.invariant.terms) (to_z-of_z w128 t.1 fits)
+          ∙ ap (λ (m : Powers). take i c.args.terms.now ++ (m, t.1) ∷ []) (c.in_ok-id.ensures.powers ∙ c.powers.ensures)
           ∙ sym (take_more c.args.terms.now i t c.loop-term-test.true c.term-item.is);
     }
