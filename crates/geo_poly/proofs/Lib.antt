@@ -54,3 +54,4 @@ pub mod ChangedParts
 pub mod Dividing
 pub mod ZeroFactors
 pub mod TickBounds
+pub mod KnownVariables

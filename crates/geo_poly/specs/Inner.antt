@@ -3,5 +3,6 @@
 pub mod RowTables
 pub mod Settings
 pub mod TermFactors
+pub mod Visits
 pub mod Moved
 pub mod Parts

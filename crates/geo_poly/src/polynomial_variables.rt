@@ -1,10 +1,12 @@
 //! The variables of a polynomial.
 
 ghost use Rattle.std.specs.Prelude.{◌≡◌, ◌↔◌, ◌++◌, map, Contains, IfOk, IsTrue, OnOk};
+ghost use Rattle.std.specs.Prelude.{◌≢◌, ℕ, false, slice_index_or};
 ghost use Rattle.std.specs.List.{fold};
 ghost use Rattle.std.specs.List.Sorted.{IsStrictlySortedBy};
 ghost use Rattle.std.specs.BTreeSet.{insert_key};
 ghost use Rattle.geo_poly.specs.declared.variables.Var.{Var};
+ghost use Rattle.geo_poly.specs.Inner.Visits.{AreVisited};
 ghost use Rattle.geo_poly.specs.Variables.{var_cmp};
 ghost use Rattle.geo_poly.specs.PolynomialVariables.{HasVariable, variables_of};
 ghost use Rattle.geo_poly.specs.Shared.{AreParts, IsIndexOf, told, told_powers};
@@ -32,31 +34,60 @@ impl Poly {
     }
 }
 
-/// The variables of the monomials, read link by link.
+/// The variables of the monomials. Each link of the store is looked at once.
 fn variables_at(alloc: Global, p: &Shared) -> Result<Vars, NoMemory>
     requires { AreParts p.now }
     ensures { IfOk result (λ vs. vs ≡ variables_of (told p.now)) }
 {
     let mut variables = BTreeSet::new(alloc);
+    let mut visited = Vec::new(alloc);
+    visited.resize((p.monos.links() as usize).saturating_add(1), false)?;
     for (id, _) in p.list {
-        insert_powers(&mut variables, p, *id)?;
+        insert_powers(&mut variables, &mut visited, p, *id)?;
     }
     let items = variables.into_iter().collect(alloc)?;
     Ok(Vars { items })
 }
 
-/// Inserts the variables of the monomial at an index.
-fn insert_powers(variables: &mut BTreeSet<Var>, p: &Shared, id: MonoId) -> Result<(), NoMemory>
-    requires { IsIndexOf p.now id }
-    ensures { OnOk result (variables.new.keys
+/// Inserts the variables of the monomial at an index, up to a part whose variables stand there.
+fn insert_powers(
+    variables: &mut BTreeSet<Var>,
+    visited: &mut Vec<bool>,
+    p: &Shared,
+    id: MonoId,
+) -> Result<(), NoMemory>
+    requires index { IsIndexOf p.now id }
+    requires rising { IsStrictlySortedBy var_cmp variables.old.keys }
+    requires visited { AreVisited p.now visited.old.items variables.old.keys }
+    ensures keys { OnOk result (variables.new.keys
         ≡ fold (insert_key var_cmp) variables.old.keys (map (λ p. p.0) (told_powers p.now id))) }
+    ensures visited { OnOk result (AreVisited p.now visited.new.items variables.new.keys) }
 {
     let mut rest = id;
     while let Some((v, _, next)) = first_power(p, rest) {
+        if mark(visited, rest.0 as usize) {
+            return Ok(());
+        }
         variables.insert(v)?;
         rest = next;
     }
     Ok(())
+}
+
+/// Marks a place. Whether it was marked before.
+fn mark(visited: &mut Vec<bool>, place: usize) -> bool
+    ensures before { result ≡ slice_index_or visited.old.items place false }
+    ensures others { (k : ℕ) → k ≢ place
+        → slice_index_or visited.new.items k false ≡ slice_index_or visited.old.items k false }
+{
+    match visited.get(place) {
+        Some(true) => true,
+        Some(false) => {
+            visited[place] = true;
+            false
+        }
+        None => false,
+    }
 }
 
 /// The variables of the monomials, in order and each once.
