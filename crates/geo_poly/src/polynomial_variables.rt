@@ -35,7 +35,7 @@ impl Poly {
 }
 
 /// The variables of the monomials. Each link of the store is looked at once.
-fn variables_at(alloc: Global, p: &Shared) -> Result<Vars, NoMemory>
+pub(crate) fn variables_at(alloc: Global, p: &Shared) -> Result<Vars, NoMemory>
     requires { AreParts p.now }
     ensures { IfOk result (λ vs. vs ≡ variables_of (told p.now)) }
 {

@@ -8,7 +8,7 @@ ghost use Rattle.geo_poly.specs.Chained.{IsKey, keyed_terms};
 ghost use Rattle.geo_poly.specs.PolynomialVariables.{AllVariables};
 ghost use Rattle.geo_poly.specs.Polynomials.{IsPolynomial, constant_of, norm_of, term_at};
 ghost use Rattle.geo_poly.specs.Polynomials.{total_degree};
-ghost use Rattle.geo_poly.specs.Shared.{IsShared, terms_of};
+ghost use Rattle.geo_poly.specs.Shared.{AreParts, IsShared, terms_of};
 ghost use Rattle.geo_poly.specs.Variables.{var_cmp};
 ghost use Rattle.mono_store.specs.Stores.{IsStore};
 ghost use Rattle.std.specs.List.Sorted.{IsStrictlySortedBy};
@@ -16,7 +16,7 @@ ghost use Rattle.std.specs.List.Sorted.{IsStrictlySortedBy};
 use crate::interning::{indexed, stored_terms};
 use crate::lists::Vars;
 use crate::monomials::Monomial;
-use crate::polynomial_variables::variables_of_terms;
+use crate::polynomial_variables::{variables_at, variables_of_terms};
 use crate::reading::{count_powers, is_same, norm_at, power_at, terms_at, total_degree_at};
 use crate::shared::{Indexed, Shared};
 use crate::terms::Term;
@@ -143,14 +143,6 @@ impl Poly {
         Poly::over(alloc, &p, list)
     }
 
-    /// The polynomial of a list over these variables and this store.
-    pub(crate) fn from_list(vars: Vars, monos: Monos, list: Vec<Indexed>) -> Poly
-        requires { IsShared vars monos list.items }
-        ensures { result ≡ terms_of vars monos list.items }
-    {
-        Poly { vars, monos, list }
-    }
-
     /// The polynomial of a list, over copies of the variables and of the store.
     pub(crate) fn over(alloc: Global, p: &Shared, list: Vec<Indexed>) -> Result<Poly, NoMemory>
         requires { IsShared p.now.vars.now p.now.monos.now list.items }
@@ -163,7 +155,8 @@ impl Poly {
         Ok(Poly { vars, monos, list })
     }
 
-    /// The polynomial of a list: over a new store where most of the given one is not in use.
+    /// The polynomial of a list: over a new store where most of the given one is not in use, or
+    /// most of the variables are not.
     pub(crate) fn compact(
         alloc: Global,
         vars: Vars,
@@ -173,16 +166,16 @@ impl Poly {
         requires { IsShared vars monos list.items }
         ensures { IfOk result (λ q. q ≡ terms_of vars monos list.items) }
     {
-        if !is_sparse(&monos, list.len()) {
-            return Ok(Poly { vars, monos, list });
-        }
         let part = Shared {
             vars: vars.as_slice(),
             monos: &monos,
             list: list.as_slice(),
         };
-        let terms = terms_at(alloc, &part)?;
-        Poly::from_terms(alloc, &terms)
+        if is_sparse(part.monos, list.len()) || is_stale(alloc, &part)? {
+            let terms = terms_at(alloc, &part)?;
+            return Poly::from_terms(alloc, &terms);
+        }
+        Ok(Poly { vars, monos, list })
     }
 
     /// The polynomial of a list: over a new store where most of the given one is not in use.
@@ -315,4 +308,15 @@ impl Poly {
 /// Whether a store has far more links than that many monomials need. Nothing rests on it but time.
 fn is_sparse(monos: &Monos, monomials: usize) -> bool {
     monos.links() / 4 > (monomials as u64).saturating_add(16)
+}
+
+/// Whether most of the variables occur no more. Nothing rests on it but time.
+fn is_stale(alloc: Global, p: &Shared) -> Result<bool, NoMemory>
+    requires { AreParts p.now }
+{
+    if p.vars.len() <= 16 {
+        return Ok(false);
+    }
+    let used = variables_at(alloc, p)?;
+    Ok(used.items.len() < p.vars.len() / 2)
 }

@@ -64,7 +64,7 @@ impl Poly {
         let vars = union(alloc, self.vars(), other.vars())?;
         let mut monos = Monos::new(alloc);
         let list = sum_list(alloc, &mut monos, vars.as_slice(), &p, &q)?;
-        Ok(Poly::from_list(vars, monos, list))
+        Poly::compact(alloc, vars, monos, list)
     }
 
     /// The difference, which fits, over a new store.
@@ -79,7 +79,7 @@ impl Poly {
         let vars = union(alloc, self.vars(), other.vars())?;
         let mut monos = Monos::new(alloc);
         let list = difference_list(alloc, &mut monos, vars.as_slice(), &p, &q)?;
-        Ok(Poly::from_list(vars, monos, list))
+        Poly::compact(alloc, vars, monos, list)
     }
 }
 

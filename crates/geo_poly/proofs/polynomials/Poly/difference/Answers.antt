@@ -1,4 +1,5 @@
 use Rattle.std.proofs.Common.{◌≡◌, List, sym, ap, ap₂, subst, ◌∙◌, arith}
+use Rattle.std.proofs.lemmas.Result.{IfOk-weaker}
 use Rattle.sparse_lists.specs.SparseLists.{AllKeys}
 use Rattle.geo_poly.specs.declared.variables.Var.{Var}
 use Rattle.geo_poly.specs.Polynomials.{IsPolynomial, difference_of, negated, norm_of}
@@ -19,8 +20,8 @@ difference_list-requires-clause-right_known c =
 pub difference_list-requires-clause-fits : goal.difference_list-requires-clause-fits
 difference_list-requires-clause-fits c = omega (arith, ap norm_of c.shared-p.ensures.terms, ap norm_of c.shared-q.ensures.terms, c.requires)
 
-pub from_list-requires : goal.from_list-requires
-from_list-requires c = record {
+pub compact-requires : goal.compact-requires
+compact-requires c = record {
   rising = c.in_ok-vars.ensures.rising;
   indices = subst (λ (vs : List Var). AllKeys (IsIndex vs c.difference_list.new.store) c.in_ok-list.list.items) c.as_slice.ensures c.in_ok-list.ensures.indices;
   polynomial = subst IsPolynomial (sym (subst (λ (vs : List Var). terms_of vs c.difference_list.new.store c.in_ok-list.list.items ≡ difference_of (told c.shared-p.result) (told c.shared-q.result)) c.as_slice.ensures c.in_ok-list.ensures.difference ∙ ap₂ difference_of c.shared-p.ensures.terms c.shared-q.ensures.terms))
@@ -29,7 +30,7 @@ from_list-requires c = record {
 }
 
 pub returns : goal.returns
-returns c = c.from_list.ensures ∙ (subst (λ (vs : List Var). terms_of vs c.difference_list.new.store c.in_ok-list.list.items ≡ difference_of (told c.shared-p.result) (told c.shared-q.result)) c.as_slice.ensures c.in_ok-list.ensures.difference ∙ ap₂ difference_of c.shared-p.ensures.terms c.shared-q.ensures.terms)
+returns c = IfOk-weaker c.compact.result _ _ (λ s h. h ∙ (subst (λ (vs : List Var). terms_of vs c.difference_list.new.store c.in_ok-list.list.items ≡ difference_of (told c.shared-p.result) (told c.shared-q.result)) c.as_slice.ensures c.in_ok-list.ensures.difference ∙ ap₂ difference_of c.shared-p.ensures.terms c.shared-q.ensures.terms)) c.compact.ensures
 
 pub difference_over-requires-clause-known : goal.difference_over-requires-clause-known
 difference_over-requires-clause-known c =

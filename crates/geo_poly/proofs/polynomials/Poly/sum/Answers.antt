@@ -21,8 +21,8 @@ sum_list-requires-clause-right_known c =
 pub sum_list-requires-clause-fits : goal.sum_list-requires-clause-fits
 sum_list-requires-clause-fits c = omega (arith, ap norm_of c.shared-p.ensures.terms, ap norm_of c.shared-q.ensures.terms, c.requires)
 
-pub from_list-requires : goal.from_list-requires
-from_list-requires c = record {
+pub compact-requires : goal.compact-requires
+compact-requires c = record {
   rising = c.in_ok-vars.ensures.rising;
   indices = subst (λ (vs : List Var). AllKeys (IsIndex vs c.sum_list.new.store) c.in_ok-list.list.items) c.as_slice.ensures c.in_ok-list.ensures.indices;
   polynomial = subst IsPolynomial (sym (subst (λ (vs : List Var). terms_of vs c.sum_list.new.store c.in_ok-list.list.items ≡ sum_of (told c.shared-p.result) (told c.shared-q.result)) c.as_slice.ensures c.in_ok-list.ensures.sum ∙ ap₂ sum_of c.shared-p.ensures.terms c.shared-q.ensures.terms))
@@ -31,7 +31,7 @@ from_list-requires c = record {
 }
 
 pub returns : goal.returns
-returns c = c.from_list.ensures ∙ (subst (λ (vs : List Var). terms_of vs c.sum_list.new.store c.in_ok-list.list.items ≡ sum_of (told c.shared-p.result) (told c.shared-q.result)) c.as_slice.ensures c.in_ok-list.ensures.sum ∙ ap₂ sum_of c.shared-p.ensures.terms c.shared-q.ensures.terms)
+returns c = IfOk-weaker c.compact.result _ _ (λ s h. h ∙ (subst (λ (vs : List Var). terms_of vs c.sum_list.new.store c.in_ok-list.list.items ≡ sum_of (told c.shared-p.result) (told c.shared-q.result)) c.as_slice.ensures c.in_ok-list.ensures.sum ∙ ap₂ sum_of c.shared-p.ensures.terms c.shared-q.ensures.terms)) c.compact.ensures
 
 pub sum_over-requires-clause-known : goal.sum_over-requires-clause-known
 sum_over-requires-clause-known c =
