@@ -15,7 +15,8 @@ use Rattle.geo_poly.specs.Replace.{degree_bound, degree_row, degree_rows, denomi
 use Rattle.geo_poly.specs.Variables.{var_cmp}
 use Rattle.geo_poly.proofs.Capped.{cap_left, cap_right, cap_weights, same_degrees}
 use Rattle.geo_logs.specs.declared.moves.Replacement.{Replacement}
-use Rattle.geo_logs.specs.Moves.{count_row, count_rows, exponent_row, move_charge, replaced_exponents, term_charge}
+use Rattle.geo_logs.specs.Moves.{move_charge, term_charge}
+use Rattle.geo_poly.specs.Counted.{count_row, count_rows, exponent_row, replaced_exponents}
 
 -- a polynomial by its capped numbers
 abbrev pub capped_piece : Piece → Piece

@@ -12,7 +12,7 @@ use Rattle.geo_poly.specs.Polynomials.{Summands, term_at}
 use Rattle.geo_poly.specs.Replace.{AllPowersSmall, degree_rows, denominators, most_denominators, others, power_in, row_of, weight_row, weight_rows}
 use Rattle.geo_poly.proofs.Capped.{cap_right, cap_weights, degree_none, degree_some, denominators-le}
 use Rattle.elim_apply.specs.declared.sizes.Share.{Share}
-use Rattle.geo_logs.specs.Moves.{count_row, count_rows, exponent_row, replaced_exponents}
+use Rattle.geo_poly.specs.Counted.{count_row, count_rows, exponent_row, replaced_exponents}
 use Rattle.elim_apply.proofs.CappedRows.{cap_counts}
 
 exponents-le : (rows : List Row) (m : Powers) → replaced_exponents rows m ≤ degree_of m

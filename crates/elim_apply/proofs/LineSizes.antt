@@ -11,7 +11,8 @@ use Rattle.geo_poly.specs.Replace.{degree_bound, degree_rows, denominators, most
 use Rattle.geo_poly.proofs.Capped.{cap_left, cap_right}
 use Rattle.geo_logs.specs.declared.moves.Replacement.{Replacement}
 use Rattle.elim_apply.specs.declared.sizes.Share.{Share}
-use Rattle.geo_logs.specs.Moves.{count_row, count_rows, move_charge, replaced_exponents, term_charge}
+use Rattle.geo_logs.specs.Moves.{move_charge, term_charge}
+use Rattle.geo_poly.specs.Counted.{count_row, count_rows, replaced_exponents}
 use Rattle.elim_apply.specs.Inner.Sizes.{IsSizeOf as HasSize}
 use Rattle.elim_apply.proofs.LineShares.{IsShare}
 

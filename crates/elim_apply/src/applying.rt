@@ -1,6 +1,6 @@
 //! A move on a polynomial.
 
-ghost use Rattle.std.specs.Prelude.{◌≡◌, ◌≢◌, ◌-◌, ◌^◌, ◌<◌, ◌≤◌, ◌⊎◌, [], IfNone, IfOk, IfSome};
+ghost use Rattle.std.specs.Prelude.{◌≡◌, ◌≢◌, ◌+◌, ◌-◌, ◌^◌, ◌<◌, ◌≤◌, ◌⊎◌, [], IfNone, IfOk, IfSome};
 ghost use Rattle.std.specs.Prelude.{IsErrOf, OnOk, length};
 ghost use Rattle.std.specs.List.{filter_map};
 ghost use Rattle.elim_apply.specs.LemmaTable.{lemma_table};
@@ -12,6 +12,7 @@ ghost use Rattle.elim_apply.specs.Inner.Sizes.{IsSizeOf};
 ghost use Rattle.elim_apply.specs.Inner.Sketches.{numbered_row};
 ghost use Rattle.fraction_poly.specs.TableRows.{HasPointsBelow, HasVariable};
 ghost use Rattle.geo_points.specs.Placements.{Placement};
+ghost use Rattle.geo_poly.specs.Counted.{replacement_products};
 ghost use Rattle.geo_poly.specs.declared.limits.Which.{Which};
 ghost use Rattle.geo_poly.specs.PolynomialVariables.{AllVariables, variables_of};
 ghost use Rattle.geo_poly.specs.Polynomials.{IsPolynomial};
@@ -25,20 +26,22 @@ use crate::variables::variables_of;
 use geo_base::Budget;
 use geo_logs::Move;
 use geo_points::NoMemory;
-use geo_poly::{Poly, PolyError, Which};
+use geo_poly::{Poly, PolyError, Ticks, Which};
 use geo_terms::Steps;
 use std::alloc::Global;
+use std::sync::ledger::Ledger;
 
 /// The polynomial after a move: the variables that have a row are replaced at once, and the whole
 /// is multiplied by the denominator as often as the monomial that needs it most. The charge of the
 /// line, its weight and its degree are tested in this order, before anything is multiplied out. The
-/// charge is spent as soon as it is within the budget.
-pub fn apply(
+/// charge is spent as soon as it is within the budget. Each product of monomials ticks.
+pub fn apply<L: Ledger>(
     alloc: Global,
     steps: &Steps,
     p: &Poly,
     mv: &Move,
     budget: &mut Budget,
+    ticks: &mut Ticks<L>,
 ) -> Result<Poly, ApplyError>
     requires points { AllVariables (HasPointsBelow (length steps.now.steps)) p.now }
     requires place { IsPlaceBelow (length steps.now.steps) (place_of mv.now) }
@@ -61,6 +64,10 @@ pub fn apply(
     ensures memory { let made = replacement lemma_table steps.now mv.now p.now in
         IsErrOf result ApplyError.NoMemory → (budget.new ≡ budget.old)
         ⊎ (budget.new.left ≡ budget.old.left - move_charge made p.now) }
+    ensures ticks { let made = replacement lemma_table steps.now mv.now p.now in
+        ticks.new ≤ ticks.old + replacement_products made.rows made.den p.now }
+    ensures counted { OnOk result
+        (ticks.new + budget.new.left ≤ ticks.old + budget.old.left) }
 {
     // From here on it is known that the steps are a construction.
     prove!(steps.count() <= 512);
@@ -68,7 +75,7 @@ pub fn apply(
         return Err(ApplyError::NoRow);
     };
     size.spend(budget)?;
-    Ok(moved(alloc, steps, p, mv, &rows)?)
+    Ok(moved(alloc, steps, p, mv, &rows, ticks)?)
 }
 
 /// The rows that a move has for the polynomial, by their numbers, and the size of its line; `None`
@@ -104,12 +111,13 @@ fn measured(
 }
 
 /// The polynomial after a move whose line is within its limits.
-fn moved(
+fn moved<L: Ledger>(
     alloc: Global,
     steps: &Steps,
     p: &Poly,
     mv: &Move,
     rows: &[NumberedRow],
+    ticks: &mut Ticks<L>,
 ) -> Result<Poly, NoMemory>
     requires points { AllVariables (HasPointsBelow (length steps.now.steps)) p.now }
     requires place { IsPlaceBelow (length steps.now.steps) (place_of mv.now) }
@@ -119,13 +127,15 @@ fn moved(
         replaced_weight made.rows made.den p.now < 2 ^ 127 }
     requires degree { let made = replacement lemma_table steps.now mv.now p.now in
         replaced_degree made.rows made.den p.now ≤ 65535 }
-    ensures { let made = replacement lemma_table steps.now mv.now p.now in
+    ensures moved { let made = replacement lemma_table steps.now mv.now p.now in
         IfOk result (λ q. q ≡ replaced_by made.rows made.den.poly p.now) }
+    ensures ticks { let made = replacement lemma_table steps.now mv.now p.now in
+        ticks.new ≤ ticks.old + replacement_products made.rows made.den p.now }
 {
     // From here on it is known that the polynomial is in order and within its bounds.
     prove!(p.norm() >= 0);
     let (rows, den) = made_rows(alloc, steps, mv, rows)?;
-    within_bounds(p.replace(alloc, &rows.items, &den))
+    within_bounds(p.replace(alloc, &rows.items, &den, ticks))
 }
 
 /// The polynomial of a call that passes no bound.

@@ -1,13 +1,13 @@
 //! The charge, the weight and the degree of the line of a move, before anything is multiplied out.
-//! A
-//! number past `2^128 - 1` is given as `2^128 - 1`.
+//! A number past `2^128 - 1` is given as `2^128 - 1`.
 
 ghost use Rattle.std.specs.Prelude.{◌≡◌, ◌+◌, ◌-◌, ◌*◌, ◌^◌, ◌<◌, ◌≤◌, length, min, sum_by};
 ghost use Rattle.std.specs.Prelude.{unsigned_abs};
 ghost use Rattle.std.specs.Option.{option_map};
-ghost use Rattle.geo_logs.specs.Moves.{count_rows, move_charge, replaced_exponents};
+ghost use Rattle.geo_logs.specs.Moves.{move_charge};
 ghost use Rattle.elim_apply.specs.Inner.Sketches.{sketch, sketched, sketched_denominator, sketches};
 ghost use Rattle.elim_apply.specs.Inner.Sizes.{IsSizeOf};
+ghost use Rattle.geo_poly.specs.Counted.{count_rows, replaced_exponents};
 ghost use Rattle.geo_poly.specs.Monomials.{degree_of};
 ghost use Rattle.geo_poly.specs.Polynomials.{IsPolynomial, term_at};
 ghost use Rattle.geo_poly.specs.Replace.{AllPowersSmall, degree_rows, denominators};

@@ -1,14 +1,47 @@
 //! Worked moves. What is expected was worked out by hand.
 
-ghost use Rattle.std.specs.Prelude.{◌≡◌, IfOk, length};
+ghost use Rattle.std.specs.Prelude.{◌≡◌, ◌<◌, IfOk, length};
+ghost use Rattle.fraction_poly.specs.TableRows.{HasPointsBelow};
+ghost use Rattle.geo_logs.specs.Moves.{place_of};
+ghost use Rattle.geo_logs.specs.Naming.{IsPlaceBelow};
+ghost use Rattle.geo_poly.specs.PolynomialVariables.{AllVariables};
 
 use crate::{ApplyError, Move, apply};
 use geo_base::Budget;
 use geo_points::{NoMemory, PointId};
-use geo_poly::{Poly, Var};
+use geo_poly::{Poly, Ticks, Var};
 use geo_terms::{Node, Step, Steps};
 use std::alloc::Global;
+use std::marker::Brand;
+use std::sync::ledger::{Blank, Ledger};
 use std::test::Fail;
+
+/// The polynomial after a move, with so many charges and a counter.
+fn applied_in<L: Ledger>(
+    alloc: Global,
+    steps: &Steps,
+    p: &Poly,
+    mv: &Move,
+    left: u64,
+    blank: Blank,
+) -> Result<Poly, ApplyError>
+    requires points { AllVariables (HasPointsBelow (length steps.now.steps)) p.now }
+    requires place { IsPlaceBelow (length steps.now.steps) (place_of mv.now) }
+    requires name { blank.name ≡ L.name }
+    requires parts { blank.parts ≡ L.parts }
+    requires some { 0 < blank.parts }
+{
+    let mut ticks = Ticks::<L>::new(blank);
+    apply(alloc, steps, p, mv, &mut Budget { left }, &mut ticks)
+}
+
+/// The polynomial after a move, with so many charges.
+fn applied(alloc: Global, steps: &Steps, p: &Poly, mv: &Move, left: u64) -> Result<Poly, ApplyError>
+    requires points { AllVariables (HasPointsBelow (length steps.now.steps)) p.now }
+    requires place { IsPlaceBelow (length steps.now.steps) (place_of mv.now) }
+{
+    applied_in::<Brand>(alloc, steps, p, mv, left, Blank::new(1))
+}
 
 /// Two free points and the middle between them.
 fn with_middle(alloc: Global) -> Result<Steps, NoMemory>
@@ -34,7 +67,7 @@ fn without_middle(alloc: Global, left: u64) -> Result<Poly, ApplyError> {
     let steps = with_middle(alloc)?;
     let [a, b, y] = [PointId(0), PointId(1), PointId(2)];
     let area = Poly::var(alloc, Var::S(a, b, y))?;
-    apply(alloc, &steps, &area, &Move::Point(y), &mut Budget { left })
+    applied(alloc, &steps, &area, &Move::Point(y), left)
 }
 
 #[test]
@@ -62,13 +95,7 @@ fn square(alloc: Global) -> Result<Poly, ApplyError> {
     let steps = with_four(alloc)?;
     let [c, d] = [PointId(2), PointId(3)];
     let square = Poly::var(alloc, Var::P(c, d, c))?;
-    apply(
-        alloc,
-        &steps,
-        &square,
-        &Move::Coords,
-        &mut Budget { left: 52 },
-    )
+    applied(alloc, &steps, &square, &Move::Coords, 52)
 }
 
 #[test]
@@ -94,7 +121,7 @@ fn ratio_gone(alloc: Global, left: u64) -> Result<Poly, ApplyError> {
         lemma: 21,
         at: f,
     };
-    apply(alloc, &steps, &ratio, &mv, &mut Budget { left })
+    applied(alloc, &steps, &ratio, &mv, left)
 }
 
 #[test]

@@ -1,6 +1,6 @@
 //! The next line.
 
-ghost use Rattle.std.specs.Prelude.{◌≡◌, ◌≢◌, ◌⊎◌, IfOk, IsErrOf, length};
+ghost use Rattle.std.specs.Prelude.{◌≡◌, ◌≢◌, ◌<◌, ◌⊎◌, IfOk, IsErrOf, length};
 ghost use Rattle.geo_logs.specs.Moves.{IsMoveStopped, place_of_lemma, replacement, spent};
 ghost use Rattle.geo_logs.specs.Moves.{too_large};
 ghost use Rattle.elim_apply.specs.LemmaTable.{lemma_table};
@@ -16,11 +16,13 @@ use crate::cutting::cut_line;
 use elim_apply::{ApplyError, Move, apply};
 use geo_base::Budget;
 use geo_points::PointId;
-use geo_poly::Poly;
 use geo_poly::lists::Vars;
+use geo_poly::{Poly, Ticks};
 use geo_terms::Steps;
 use proof_log::Line;
 use std::alloc::Global;
+use std::marker::Brand;
+use std::sync::ledger::{Blank, Ledger};
 
 /// The line that the prover writes after the polynomial, with these known variables: the cut, where
 /// one is due; else the next move with the polynomial after it; else the end. A move takes its
@@ -50,6 +52,39 @@ pub fn next_line(
         ⊎ ((mv : Move) × IsMoveDue steps.now known.now p.now mv
         × (budget.new.left ≡ left_after steps.now mv p.now budget.old.left)) }
 {
+    next_line_in::<Brand>(alloc, steps, p, known, budget, Blank::new(1))
+}
+
+/// The line, by a move with a counter of its own.
+fn next_line_in<L: Ledger>(
+    alloc: Global,
+    steps: &Steps,
+    p: &Poly,
+    known: &Vars,
+    budget: &mut Budget,
+    blank: Blank,
+) -> Result<Line, ApplyError>
+    requires name { blank.name ≡ L.name }
+    requires parts { blank.parts ≡ L.parts }
+    requires some { 0 < blank.parts }
+    requires points { AllVariables (HasPointsBelow (length steps.now.steps)) p.now }
+    ensures line { IfOk result (λ line.
+        IsNextLine steps.now known.now budget.old.left p.now line budget.new.left) }
+    ensures points { IfOk result (HasLinePointsBelow (length steps.now.steps)) }
+    ensures row { result ≢ Err ApplyError.NoRow }
+    ensures spent { IsErrOf result ApplyError.Spent → (mv : Move)
+        × IsMoveDue steps.now known.now p.now mv
+        × IsMoveStopped (replacement lemma_table steps.now mv p.now) budget.old.left p.now spent
+        × (budget.new ≡ budget.old) }
+    ensures too_large { (which : Which) → IsErrOf result (ApplyError.TooLarge which) → (mv : Move)
+        × IsMoveDue steps.now known.now p.now mv
+        × IsMoveStopped (replacement lemma_table steps.now mv p.now) budget.old.left p.now
+        (too_large which)
+        × (budget.new.left ≡ left_after steps.now mv p.now budget.old.left) }
+    ensures memory { IsErrOf result ApplyError.NoMemory → (budget.new ≡ budget.old)
+        ⊎ ((mv : Move) × IsMoveDue steps.now known.now p.now mv
+        × (budget.new.left ≡ left_after steps.now mv p.now budget.old.left)) }
+{
     // From here on it is known that the steps are a construction.
     prove!(steps.count() <= 512);
     if let Some(line) = cut_line(alloc, p, &known.items)? {
@@ -58,7 +93,8 @@ pub fn next_line(
     let Some(mv) = next_move(steps, p) else {
         return Ok(Line::End);
     };
-    let poly = apply(alloc, steps, p, &mv, budget)?;
+    let mut ticks = Ticks::<L>::new(blank);
+    let poly = apply(alloc, steps, p, &mv, budget, &mut ticks)?;
     Ok(move_line(mv, poly))
 }
 

@@ -17,7 +17,6 @@ use std::alloc::Global;
 
 /// A lowered program with its conditions and its goals, whose terms stand in the store of the
 /// steps.
-#[derive(Drop)]
 pub struct Problem {
     /// The steps, hidden points among them.
     pub steps: Steps,
@@ -33,6 +32,21 @@ pub struct Problem {
     pub conditions: Conditions,
     /// The goals: those of the statement's ratios, and then the statement.
     pub goals: Goals,
+}
+
+/// By hand, so that a caller's proof sees one call where a problem is let go.
+impl Drop for Problem {
+    fn drop(self) {
+        let Problem {
+            steps: _,
+            points: _,
+            lines: _,
+            params: _,
+            after: _,
+            conditions: _,
+            goals: _,
+        } = self;
+    }
 }
 
 /// The conditions and goals of a program beside its lowered form, which is taken over. After want

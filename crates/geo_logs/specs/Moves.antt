@@ -1,7 +1,8 @@
 -- Moves on a polynomial: what a move replaces, what it costs, where it is within its limits, and its exact result.
-use Rattle.std.specs.Prelude.{◌≡◌, ◌≢◌, ℕ, zero, suc, ◌+◌, ◌-◌, ◌*◌, ◌^◌, ◌<◌, ◌≤◌, Option, Some, None, List, [], ◌∷◌, sum_by}
+use Rattle.std.specs.Prelude.{◌≡◌, ◌≢◌, ℕ, zero, suc, ◌+◌, ◌*◌, ◌^◌, ◌<◌, ◌≤◌, Option, Some, None, [], sum_by}
 use Rattle.std.specs.List.{filter_map}
 use Rattle.geo_points.specs.declared.ids.PointId.{PointId}
+use Rattle.geo_poly.specs.Counted.{term_products}
 use Rattle.geo_poly.specs.declared.limits.Which.{Which}
 use Rattle.geo_poly.specs.declared.limits.Which.TheVariants.{Norm, Degree}
 use Rattle.geo_poly.specs.declared.replacement.Piece.{Piece}
@@ -9,7 +10,7 @@ use Rattle.geo_poly.specs.declared.replacement.Row.{Row}
 use Rattle.geo_poly.specs.declared.variables.Var.{Var}
 use Rattle.geo_poly.specs.Monomials.{Powers}
 use Rattle.geo_poly.specs.Polynomials.{Summands}
-use Rattle.geo_poly.specs.Replace.{row_of, denominators, most_denominators, replaced_by, replaced_weight, replaced_degree}
+use Rattle.geo_poly.specs.Replace.{most_denominators, replaced_by, replaced_weight, replaced_degree}
 use Rattle.geo_terms.specs.Constructions.{Construction}
 use Rattle.geo_logs.specs.declared.moves.Move.{Move}
 use Rattle.geo_logs.specs.declared.moves.Move.TheVariants.{Ratio, Point, Coords}
@@ -57,31 +58,9 @@ replacement table c move q = record {
 }
 
 -- THE CHARGE OF A MOVE
--- k times the count of the numerator to the power e, where there is a row
-abbrev pub count_row : Option Row → ℕ → ℕ → ℕ
-count_row None e k = k
-count_row (Some r) e k = k * r.num.count ^ e
-
--- k times the counts of the numerators, each to its exponent
-abbrev pub count_rows : List Row → Powers → ℕ → ℕ
-count_rows rows [] k = k
-count_rows rows (v ∷ m) k = count_rows rows m (count_row (row_of rows v.0) v.1 k)
-
--- the exponent, where there is a row
-abbrev pub exponent_row : Option Row → ℕ → ℕ
-exponent_row None e = 0
-exponent_row (Some r) e = e
-
--- the sum of the exponents of the replaced variables
-abbrev pub replaced_exponents : List Row → Powers → ℕ
-replaced_exponents rows [] = 0
-replaced_exponents rows (v ∷ m) = exponent_row (row_of rows v.0) v.1 + replaced_exponents rows m
-
--- one more than the number of factors, times the counts of the factors
+-- one more than the number of factors, times the counts of the factors: so many products of monomials it may take
 abbrev pub term_charge : Replacement → ℕ → Powers → ℕ
-term_charge made top m =
-    let lacking = top - denominators made.rows m in
-    (replaced_exponents made.rows m + lacking + 1) * count_rows made.rows m (made.den.count ^ lacking)
+term_charge made top m = term_products made.rows made.den top m
 
 -- the charge of the step's number, 4 times the counts of the numerators and of the denominator, and the charges of the terms
 abbrev pub move_charge : Replacement → Summands → ℕ

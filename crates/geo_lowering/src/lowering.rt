@@ -83,6 +83,8 @@ pub fn lower(alloc: Global, program: &Program) -> Result<Lowered, NoMemory>
     let terms = rename_terms(alloc, &mut steps, &program.terms, &places)?;
     let fractions = intern_fractions(&mut steps)?;
     push_commands(alloc, &mut steps, program, &places, &terms, fractions)?;
+    // From here on it is known that the steps are a construction.
+    prove!(steps.count() <= 512);
     let Places {
         points,
         lines,

@@ -184,7 +184,7 @@ module _ (Holds : Var → Type 0) where
   each-fold us [] h g = h
   each-fold us (v ∷ vs) h g = each-fold (insert_key var_cmp us v) vs (each-insert_key us v h g.0) g.1
 
-  of-fold : (us vs : List Var) → EachIn (fold (insert_key var_cmp) us vs) → EachIn us × EachIn vs
+  pub of-fold : (us vs : List Var) → EachIn (fold (insert_key var_cmp) us vs) → EachIn us × EachIn vs
   of-fold us [] h = (h, tt)
   of-fold us (v ∷ vs) h =
       let both = of-fold (insert_key var_cmp us v) vs h in
@@ -212,7 +212,7 @@ module _ (Holds : Var → Type 0) where
       let here = map (λ p. p.0) t.0 in let rest = flat_map (λ (u : Powers × ℤ). map (λ p. p.0) u.0) ts in
       (of_powers t.0 (front_in here rest h), of_terms ts (back_in here rest h))
 
-  each_of : (vs : List Var) → ((v : Var) → Contains vs v → Holds v) → EachIn vs
+  pub each_of : (vs : List Var) → ((v : Var) → Contains vs v → Holds v) → EachIn vs
   each_of [] h = tt
   each_of (v ∷ vs) h = (h v (0, omega arith, refl), each_of vs (λ w c. h w (suc c.0, (let l = c.1 in omega (arith, l)), c.2)))
 

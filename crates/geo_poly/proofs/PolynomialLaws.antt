@@ -62,7 +62,7 @@ fits_at p q i j t u left_in right_in t-is u-is fits =
 abbrev pub coded_sum : ℤ → ℤ → ℤ
 coded_sum a b = to_z w128 (of_z w128 a) +ℤ to_z w128 (of_z w128 b)
 
-coded_sum_is : (a b : ℤ) → FitsSum a b → coded_sum a b ≡ a +ℤ b
+pub coded_sum_is : (a b : ℤ) → FitsSum a b → coded_sum a b ≡ a +ℤ b
 coded_sum_is a b h = ap₂ ◌+ℤ◌ (to_z-of_z w128 a h.left) (to_z-of_z w128 b h.right)
 
 pub sum_is : (a b : ℤ) → FitsSum a b → to_z w128 (of_z w128 (coded_sum a b)) ≡ a +ℤ b

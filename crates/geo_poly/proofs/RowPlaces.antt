@@ -25,3 +25,11 @@ front_row rows n k d old new inside next update so_far v =
     go : (b : Bool) → option_and_then (slice_get rows) (cond b (Some k) (get var_cmp old v)) ≡ cond b (Some (get_or rows k d)) (row_of (drop (k + 1) rows) v)
     go true = slice_get-get_or rows k d inside
     go false = so_far v ∙ ap (λ (i : ℕ). row_of (drop i rows) v) next
+
+-- the row at a place is the first of a variable where none before it is
+pub first_at : (rows : List Row) (i : ℕ) (d : Row) (v : Var) → i < length rows → is_eq (var_cmp (get_or rows i d).var v) ≡ true → row_of (drop i rows) v ≡ row_of rows v → slice_get rows i ≡ row_of rows v
+first_at rows i d v inside same so_far =
+    slice_get-get_or rows i d inside
+    ∙ sym (ap (λ (b : Bool). cond b (Some (get_or rows i d)) (row_of (drop (i + 1) rows) v)) same)
+    ∙ sym (ap (λ (rs : List Row). row_of rs v) (drop_at rows i (get_or rows i d) inside (get_or_any rows i d (get_or rows i d) inside)))
+    ∙ so_far

@@ -18,7 +18,7 @@ use Rattle.geo_poly.proofs.Orders.{var_order}
 
 -- ORDER
 -- u is below each of the variables
-abbrev IsBelow : Var → List Var → Type 0
+abbrev pub IsBelow : Var → List Var → Type 0
 IsBelow u vs = AllByRecursion (λ w. var_cmp u w ≡ Less) vs
 
 below_trans : (u v : Var) (ws : List Var) → var_cmp u v ≡ Less → IsBelow v ws → IsBelow u ws
@@ -34,7 +34,7 @@ below-insert_key u (w ∷ ws) v e h = go (var_cmp v w) (below-insert_key u ws v 
     go Equal rest = h
     go Greater rest = (h.0, rest)
 
-sorted-insert_key : (ws : List Var) (v : Var) → IsStrictlySortedBy var_cmp ws → IsStrictlySortedBy var_cmp (insert_key var_cmp ws v)
+pub sorted-insert_key : (ws : List Var) (v : Var) → IsStrictlySortedBy var_cmp ws → IsStrictlySortedBy var_cmp (insert_key var_cmp ws v)
 unfolding IsStrictlySortedBy
 sorted-insert_key [] v s = (tt, tt)
 sorted-insert_key (w ∷ ws) v s = go (var_cmp v w) refl (sorted-insert_key ws v s.1)

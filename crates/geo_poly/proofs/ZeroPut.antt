@@ -1,20 +1,22 @@
 -- With 0 for a variable, what is left of a polynomial is its terms that lack the variable.
-use Rattle.std.proofs.Common.{◌≡◌, ℕ, zero, suc, ◌*◌ as ◌*ₙ◌, ◌^◌, eqb, Bool, true, false, cond, ℤ, pos, ◌+ℤ◌, ◌*ℤ◌, [], ◌∷◌, filter, refl, ap, ap₂, ◌∙◌, unsigned_abs, arith}
+use Rattle.std.proofs.Common.{◌≡◌, ℕ, zero, suc, ◌+◌, ◌*◌ as ◌*ₙ◌, ◌^◌, ◌<◌, eqb, Bool, true, false, cond, ℤ, pos, ◌+ℤ◌, ◌*ℤ◌, [], ◌∷◌, ◌++◌, filter, take, length, get_or, refl, ap, ap₂, ◌∙◌, unsigned_abs, arith}
 use Rattle.std.specs.Int.{int_pow}
 use Rattle.std.specs.Ordering.{is_eq}
 use Rattle.std.proofs.lemmas.Bool.Decides.{nat_tests}
 use Rattle.std.proofs.lemmas.Int.{unsigned_abs-mul}
 use Rattle.std.proofs.Math.Nat.{pow-suc}
+use Rattle.std.proofs.lemmas.List.Elements.{filter-append}
 use Rattle.sparse_lists.specs.SparseLists.{AllKeys, IsBefore, IsCanonical, insert}
 use Rattle.sparse_lists.proofs.Canonical.{IsCanonical-insert, amount-insert, insert_before, same_list}
 use Rattle.geo_poly.specs.declared.variables.Var.{Var}
 use Rattle.geo_poly.specs.Monomials.{Powers, IsMonomial, exponent}
 use Rattle.geo_poly.specs.Polynomials.{Summands, coefficient, coefficients, term_cmp}
-use Rattle.geo_poly.specs.Inner.Lacking.{lacks}
+use Rattle.geo_poly.specs.Inner.Parts.{lacks}
 use Rattle.geo_poly.specs.Specialise.{specialised, without}
 use Rattle.geo_poly.proofs.Orders.{term_order}
 use Rattle.geo_poly.proofs.PolynomialLaws.{coefficients_add}
 use Rattle.geo_poly.proofs.SpecialisedLaws.{times_power_zero, without-lacking}
+use Rattle.geo_poly.proofs.Told.{take_more}
 use Rattle.geo_poly.proofs.WholePowers.{unsigned_abs-int_pow}
 
 IsBefore-filter : (f : Powers × ℤ → Bool) (m : Powers) (p : Summands) → IsBefore term_cmp m p → IsBefore term_cmp m (filter f p)
@@ -37,7 +39,7 @@ no_term c e h =
     unsigned_abs-mul c (int_pow (pos 0) e) ∙ ap (λ k. unsigned_abs c *ₙ k) (unsigned_abs-int_pow (pos 0) e ∙ zero_power e some) ∙ omega arith in
     grind (arith, nat_tests)
 
-IsCanonical-filter : (f : Powers × ℤ → Bool) (p : Summands) → IsCanonical term_cmp coefficients p → IsCanonical term_cmp coefficients (filter f p)
+pub IsCanonical-filter : (f : Powers × ℤ → Bool) (p : Summands) → IsCanonical term_cmp coefficients p → IsCanonical term_cmp coefficients (filter f p)
 IsCanonical-filter f [] h = tt
 IsCanonical-filter f (t ∷ ts) h = by (f t) (IsCanonical-filter f ts h.2)
   where
@@ -72,3 +74,11 @@ specialised-zero v (t ∷ ts) c h =
         ∙ ap (λ (b : Bool). cond b (filter (lacks v) ts) (t ∷ filter (lacks v) ts)) c.0
     by false e =
         insert_nothing (without v t.0) (t.1 *ℤ int_pow (pos 0) (exponent v t.0)) (filter (lacks v) ts) (no_term t.1 (exponent v t.0) e) (IsCanonical-filter (lacks v) ts c.2)
+
+-- one more term
+pub lacking-more : (v : Var) (p : Summands) (i : ℕ) (t : Powers × ℤ) → i < length p → t ≡ get_or p i t
+    → filter (lacks v) (take (i + 1) p) ≡ filter (lacks v) (take i p) ++ cond (lacks v t) (t ∷ []) []
+lacking-more v p i t within e = ap (filter (lacks v)) (take_more p i t within e) ∙ filter-append (lacks v) (take i p) (t ∷ [])
+
+pub filter-more : (f : Powers × ℤ → Bool) (p : Summands) (i : ℕ) (t : Powers × ℤ) → i < length p → t ≡ get_or p i t → filter f (take (i + 1) p) ≡ filter f (take i p) ++ cond (f t) (t ∷ []) []
+filter-more f p i t within e = ap (filter f) (take_more p i t within e) ∙ filter-append f (take i p) (t ∷ [])

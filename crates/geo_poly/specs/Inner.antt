@@ -1,5 +1,8 @@
--- What private functions and proofs speak of: how rows are looked up, how lists are merged, and what 0 leaves of a polynomial. No public
--- contract cites it.
+-- What private functions and proofs speak of: how rows are looked up, and how a replacement is made by chains. No public contract
+-- cites it.
 pub mod RowTables
-pub mod Merges
-pub mod Lacking
+pub mod Settings
+pub mod TermFactors
+pub mod Visits
+pub mod Moved
+pub mod Parts

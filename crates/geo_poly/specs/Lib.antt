@@ -3,6 +3,7 @@ pub mod Monomials
 pub mod Polynomials
 pub mod Values
 pub mod Replace
+pub mod Counted
 pub mod Laws
 pub mod Division
 pub mod Factors
@@ -13,4 +14,7 @@ pub mod Cuts
 pub mod SortedVariables
 pub mod KeptVariables
 pub mod ReplacementLaws
+pub mod Shared
+pub mod StoreOrder
+pub mod Chained
 pub mod Inner

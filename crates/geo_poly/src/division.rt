@@ -8,10 +8,13 @@ ghost use Rattle.geo_poly.specs.Monomials.{Powers, IsMonomial, exponent};
 ghost use Rattle.geo_poly.specs.Polynomials.{Summands, IsPolynomial, multiples, norm_of};
 ghost use Rattle.geo_poly.specs.Polynomials.{product_of};
 ghost use Rattle.geo_poly.specs.Factors.{DividesAll, IsFactorOf, IsLeastExponent};
+ghost use Rattle.geo_poly.specs.Shared.{AreParts, IsIndexOf, terms_of, told};
 
 use crate::factors::Factor;
 use crate::monomials::Monomial;
 use crate::polynomials::Poly;
+use crate::reading::{exponent_at, monomial_at};
+use crate::shared::{Indexed, Shared};
 use crate::terms::Term;
 use crate::variables::Var;
 use frac_laws::gcd;
@@ -25,14 +28,7 @@ impl Poly {
         requires { self.now ≢ [] }
         ensures { IfOk result (λ f. IsFactorOf known.now self.now f) }
     {
-        let terms = self.terms.as_slice();
-        let divisor = content(terms);
-        let coefficient = if terms[0].1 < 0 { -divisor } else { divisor };
-        let monomial = common_monomial(alloc, terms, known)?;
-        Ok(Factor {
-            coefficient,
-            monomial,
-        })
+        factor_of(alloc, &self.shared(), known)
     }
 
     /// The polynomial that gives this one when multiplied by the factor, where there is such a one.
@@ -47,41 +43,107 @@ impl Poly {
         ensures no_multiples { IfOk result
             (λ o. IfNone o ((q : Summands) → multiples by.now q ≡ self.now → ⊥)) }
     {
-        match quotients(alloc, &self.terms, &by.monomial, by.coefficient)? {
-            Some(terms) => Ok(Some(Poly { terms })),
+        if by.monomial.powers().is_empty() {
+            return self.over_number(alloc, by);
+        }
+        let terms = self.to_terms(alloc)?;
+        match quotients(alloc, &terms, &by.monomial, by.coefficient)? {
+            Some(quotient) => Ok(Some(Poly::from_terms(alloc, &quotient)?)),
+            None => Ok(None),
+        }
+    }
+
+    /// The same for a factor that has no variable: the monomials stay.
+    fn over_number(&self, alloc: Global, by: &Factor) -> Result<Option<Poly>, NoMemory>
+        requires { by.now.0 ≡ [] }
+        ensures some { IfOk result (λ o. IfSome o (λ q. product_of (by.now ∷ []) q ≡ self.now)) }
+        ensures polynomial { IfOk result (λ o. IfSome o IsPolynomial) }
+        ensures none { IfOk result (λ o. IfNone o
+            ((q : Summands) → IsPolynomial q → product_of (by.now ∷ []) q ≡ self.now → ⊥)) }
+        ensures multiples { IfOk result (λ o. IfSome o (λ q. multiples by.now q ≡ self.now)) }
+        ensures no_multiples { IfOk result
+            (λ o. IfNone o ((q : Summands) → multiples by.now q ≡ self.now → ⊥)) }
+    {
+        let p = self.shared();
+        match number_quotients(alloc, &p, by.coefficient)? {
+            Some(list) => Ok(Some(Poly::over(alloc, &p, list)?)),
             None => Ok(None),
         }
     }
 }
 
+/// The list that gives the terms when each coefficient is multiplied, where there is such a one.
+fn number_quotients(
+    alloc: Global,
+    p: &Shared,
+    number: i128,
+) -> Result<Option<Vec<Indexed>>, NoMemory>
+    requires nonzero { unsigned_abs number ≢ 0 }
+    requires parts { AreParts p.now }
+    ensures some { IfOk result (λ o. IfSome o (λ list. multiples ([], number)
+        (terms_of p.now.vars.now p.now.monos.now list.items) ≡ told p.now)) }
+    ensures indices { IfOk result
+        (λ o. IfSome o (λ list. AllKeys (IsIndexOf p.now) list.items)) }
+    ensures monomials { IfOk result (λ o. IfSome o (λ list.
+        AllKeys IsMonomial (terms_of p.now.vars.now p.now.monos.now list.items))) }
+    ensures none { IfOk result
+        (λ o. IfNone o ((q : Summands) → multiples ([], number) q ≡ told p.now → ⊥)) }
+{
+    let mut list = Vec::with_capacity(alloc, p.list.len())?;
+    for (id, coefficient) in p.list {
+        match exact_quotient(*coefficient, number) {
+            Some(quotient) => list.push((*id, quotient))?,
+            None => return Ok(None),
+        }
+    }
+    Ok(Some(list))
+}
+
+/// The greatest common divisor of the coefficients, with the sign of the first, times each known
+/// variable to its least exponent.
+fn factor_of(alloc: Global, p: &Shared, known: &[Var]) -> Result<Factor, NoMemory>
+    requires some { told p.now ≢ [] }
+    requires parts { AreParts p.now }
+    ensures { IfOk result (λ f. IsFactorOf known.now (told p.now) f) }
+{
+    let divisor = content(p);
+    let coefficient = if p.list[0].1 < 0 { -divisor } else { divisor };
+    let monomial = common_monomial(alloc, p, known)?;
+    Ok(Factor {
+        coefficient,
+        monomial,
+    })
+}
+
 /// The greatest common divisor of the coefficients.
-fn content(terms: &[Term]) -> i128
-    requires { norm_of terms.now < 2 ^ 127 }
+fn content(p: &Shared) -> i128
+    requires { norm_of (told p.now) < 2 ^ 127 }
     ensures positive { result ≡ pos (unsigned_abs result) }
-    ensures divides { DividesAll (unsigned_abs result) terms.now }
-    ensures greatest { (d : ℕ) → DividesAll d terms.now → d ∣ unsigned_abs result }
+    ensures divides { DividesAll (unsigned_abs result) (told p.now) }
+    ensures greatest { (d : ℕ) → DividesAll d (told p.now) → d ∣ unsigned_abs result }
 {
     let mut divisor = 0;
-    for (_, coefficient) in terms {
+    for (_, coefficient) in p.list {
         divisor = gcd(divisor, *coefficient);
     }
     divisor
 }
 
 /// The known variables, each to its least exponent.
-fn common_monomial(alloc: Global, terms: &[Term], known: &[Var]) -> Result<Monomial, NoMemory>
-    requires some { 0 < length terms.now }
-    requires monomials { AllKeys IsMonomial terms.now }
+fn common_monomial(alloc: Global, p: &Shared, known: &[Var]) -> Result<Monomial, NoMemory>
+    requires some { 0 < length p.now.list.now }
+    requires parts { AreParts p.now }
     ensures monomial { IfOk result IsMonomial }
-    ensures known { IfOk result
-        (λ m. (v : Var) → Contains known.now v → IsLeastExponent v terms.now (exponent v m)) }
+    ensures known { IfOk result (λ m. (v : Var) → Contains known.now v
+        → IsLeastExponent v (told p.now) (exponent v m)) }
     ensures others { IfOk result
         (λ m. (v : Var) → (Contains known.now v → ⊥) → exponent v m ≡ 0) }
 {
+    let first = monomial_at(alloc, p, p.list[0].0)?;
     let mut common = Monomial::one(alloc);
-    for (v, _) in terms[0].0.powers() {
+    for (v, _) in first.powers() {
         if is_known(known, *v) {
-            let least = least_exponent(terms, *v);
+            let least = least_exponent(p, *v);
             if least > 0 {
                 common.push(*v, least)?;
             }
@@ -97,13 +159,14 @@ fn is_known(known: &[Var], v: Var) -> bool
 }
 
 /// The least exponent of a variable over the monomials.
-fn least_exponent(terms: &[Term], v: Var) -> u32
-    requires { 0 < length terms.now }
-    ensures { IsLeastExponent v terms.now result }
+fn least_exponent(p: &Shared, v: Var) -> u32
+    requires some { 0 < length p.now.list.now }
+    requires parts { AreParts p.now }
+    ensures { IsLeastExponent v (told p.now) result }
 {
-    let mut least = terms[0].0.exponent(v);
-    for (monomial, _) in terms {
-        least = least.min(monomial.exponent(v));
+    let mut least = exponent_at(p, p.list[0].0, v);
+    for (id, _) in p.list {
+        least = least.min(exponent_at(p, *id, v));
     }
     least
 }

@@ -41,6 +41,14 @@ impl Monomial {
         }
     }
 
+    /// The monomial with these powers.
+    pub(crate) fn from_powers(powers: Vec<(Var, u32)>) -> Monomial
+        requires { IsMonomial powers.items }
+        ensures { result ≡ powers.items }
+    {
+        Monomial { powers }
+    }
+
     /// The variable to the power 1.
     pub fn var(alloc: Global, v: Var) -> Result<Monomial, NoMemory>
         ensures { IfOk result (λ m. m ≡ (v, 1) ∷ []) }

@@ -1,17 +1,25 @@
 //! The variables of a polynomial.
 
-ghost use Rattle.std.specs.Prelude.{◌≡◌, ◌↔◌, ◌++◌, map, Contains, IfOk, OnOk};
+ghost use Rattle.std.specs.Prelude.{◌≡◌, ◌↔◌, ◌++◌, map, Contains, IfOk, IsTrue, OnOk};
+ghost use Rattle.std.specs.Prelude.{◌≢◌, ℕ, false, slice_index_or};
 ghost use Rattle.std.specs.List.{fold};
 ghost use Rattle.std.specs.List.Sorted.{IsStrictlySortedBy};
 ghost use Rattle.std.specs.BTreeSet.{insert_key};
 ghost use Rattle.geo_poly.specs.declared.variables.Var.{Var};
+ghost use Rattle.geo_poly.specs.Inner.Visits.{AreVisited};
 ghost use Rattle.geo_poly.specs.Variables.{var_cmp};
 ghost use Rattle.geo_poly.specs.PolynomialVariables.{HasVariable, variables_of};
+ghost use Rattle.geo_poly.specs.Shared.{AreParts, IsIndexOf, told, told_powers};
 
 use crate::lists::Vars;
+use crate::moving::find_place;
 use crate::polynomials::Poly;
+use crate::reading::first_power;
+use crate::shared::Shared;
+use crate::terms::Term;
 use crate::variables::Var;
 use geo_points::NoMemory;
+use mono_store::MonoId;
 use std::alloc::Global;
 use std::collections::BTreeSet;
 
@@ -22,13 +30,76 @@ impl Poly {
         ensures in_order { IsStrictlySortedBy var_cmp (variables_of self.now) }
         ensures exact { (v : Var) → Contains (variables_of self.now) v ↔ HasVariable v self.now }
     {
-        let mut variables = BTreeSet::new(alloc);
-        for (monomial, _) in &self.terms {
-            insert_variables(&mut variables, monomial.powers())?;
-        }
-        let items = variables.into_iter().collect(alloc)?;
-        Ok(Vars { items })
+        variables_at(alloc, &self.shared())
     }
+}
+
+/// The variables of the monomials. Each link of the store is looked at once.
+pub(crate) fn variables_at(alloc: Global, p: &Shared) -> Result<Vars, NoMemory>
+    requires { AreParts p.now }
+    ensures { IfOk result (λ vs. vs ≡ variables_of (told p.now)) }
+{
+    let mut variables = BTreeSet::new(alloc);
+    let mut visited = Vec::new(alloc);
+    visited.resize((p.monos.links() as usize).saturating_add(1), false)?;
+    for (id, _) in p.list {
+        insert_powers(&mut variables, &mut visited, p, *id)?;
+    }
+    let items = variables.into_iter().collect(alloc)?;
+    Ok(Vars { items })
+}
+
+/// Inserts the variables of the monomial at an index, up to a part whose variables stand there.
+fn insert_powers(
+    variables: &mut BTreeSet<Var>,
+    visited: &mut Vec<bool>,
+    p: &Shared,
+    id: MonoId,
+) -> Result<(), NoMemory>
+    requires index { IsIndexOf p.now id }
+    requires rising { IsStrictlySortedBy var_cmp variables.old.keys }
+    requires visited { AreVisited p.now visited.old.items variables.old.keys }
+    ensures keys { OnOk result (variables.new.keys
+        ≡ fold (insert_key var_cmp) variables.old.keys (map (λ p. p.0) (told_powers p.now id))) }
+    ensures visited { OnOk result (AreVisited p.now visited.new.items variables.new.keys) }
+{
+    let mut rest = id;
+    while let Some((v, _, next)) = first_power(p, rest) {
+        if mark(visited, rest.0 as usize) {
+            return Ok(());
+        }
+        variables.insert(v)?;
+        rest = next;
+    }
+    Ok(())
+}
+
+/// Marks a place. Whether it was marked before.
+fn mark(visited: &mut Vec<bool>, place: usize) -> bool
+    ensures before { result ≡ slice_index_or visited.old.items place false }
+    ensures others { (k : ℕ) → k ≢ place
+        → slice_index_or visited.new.items k false ≡ slice_index_or visited.old.items k false }
+{
+    match visited.get(place) {
+        Some(true) => true,
+        Some(false) => {
+            visited[place] = true;
+            false
+        }
+        None => false,
+    }
+}
+
+/// The variables of the monomials, in order and each once.
+pub(crate) fn variables_of_terms(alloc: Global, terms: &[Term]) -> Result<Vars, NoMemory>
+    ensures { IfOk result (λ vs. vs ≡ variables_of terms.now) }
+{
+    let mut variables = BTreeSet::new(alloc);
+    for (monomial, _) in terms {
+        insert_variables(&mut variables, monomial.powers())?;
+    }
+    let items = variables.into_iter().collect(alloc)?;
+    Ok(Vars { items })
 }
 
 /// Inserts the variables of a monomial.
@@ -37,6 +108,61 @@ fn insert_variables(variables: &mut BTreeSet<Var>, powers: &[(Var, u32)]) -> Res
         ≡ fold (insert_key var_cmp) variables.old.keys (map (λ p. p.0) powers.now)) }
 {
     for (v, _) in powers {
+        variables.insert(*v)?;
+    }
+    Ok(())
+}
+
+/// The variables of both lists, in order and each once.
+pub(crate) fn union(alloc: Global, left: &Vars, right: &Vars) -> Result<Vars, NoMemory>
+    requires left { IsStrictlySortedBy var_cmp left.now }
+    requires right { IsStrictlySortedBy var_cmp right.now }
+    ensures rising { IfOk result (IsStrictlySortedBy var_cmp) }
+    ensures left { IfOk result (λ vs. (v : Var) → Contains left.now v → Contains vs v) }
+    ensures right { IfOk result (λ vs. (v : Var) → Contains right.now v → Contains vs v) }
+{
+    if has_all(left.as_slice(), right.as_slice()) {
+        return left.copy(alloc);
+    }
+    if has_all(right.as_slice(), left.as_slice()) {
+        return right.copy(alloc);
+    }
+    collected(alloc, left, right)
+}
+
+/// Whether the first list has each variable of the second.
+pub(crate) fn has_all(list: &[Var], others: &[Var]) -> bool
+    requires { IsStrictlySortedBy var_cmp list.now }
+    ensures { IsTrue result → (v : Var) → Contains others.now v → Contains list.now v }
+{
+    for v in others {
+        match find_place(list, *v) {
+            Some(_) => {}
+            None => return false,
+        }
+    }
+    true
+}
+
+/// The variables of both lists, sorted by a set.
+fn collected(alloc: Global, left: &Vars, right: &Vars) -> Result<Vars, NoMemory>
+    ensures rising { IfOk result (IsStrictlySortedBy var_cmp) }
+    ensures left { IfOk result (λ vs. (v : Var) → Contains left.now v → Contains vs v) }
+    ensures right { IfOk result (λ vs. (v : Var) → Contains right.now v → Contains vs v) }
+{
+    let mut variables = BTreeSet::new(alloc);
+    insert_all(&mut variables, left.as_slice())?;
+    insert_all(&mut variables, right.as_slice())?;
+    let items = variables.into_iter().collect(alloc)?;
+    Ok(Vars { items })
+}
+
+/// Inserts variables.
+pub(crate) fn insert_all(variables: &mut BTreeSet<Var>, more: &[Var]) -> Result<(), NoMemory>
+    ensures { OnOk result
+        (variables.new.keys ≡ fold (insert_key var_cmp) variables.old.keys more.now) }
+{
+    for v in more {
         variables.insert(*v)?;
     }
     Ok(())

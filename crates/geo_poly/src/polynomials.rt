@@ -1,43 +1,115 @@
 //! Polynomials with whole coefficients: how they are made and read.
 
-ghost use Rattle.std.specs.Prelude.{◌≡◌, ◌≢◌, ◌↔◌, ◌^◌, ◌<◌, [], ◌∷◌, pos, length, unsigned_abs};
-ghost use Rattle.std.specs.Prelude.{slice_get, IfOk, IfSome, IfNone, IsTrue, List, ℤ, ◌*ℤ◌};
+ghost use Rattle.std.specs.Prelude.{◌≡◌, ◌≢◌, ◌↔◌, ◌^◌, ◌<◌, [], ◌∷◌, pos, length};
+ghost use Rattle.std.specs.Prelude.{unsigned_abs, slice_get, Contains, IfOk, IsTrue};
 ghost use Rattle.sparse_lists.specs.SparseLists.{AllKeys};
-ghost use Rattle.geo_poly.specs.Monomials.{Powers, IsMonomial};
-ghost use Rattle.geo_poly.specs.Polynomials.{IsPolynomial, constant_of, multiples, norm_of};
-ghost use Rattle.geo_poly.specs.Polynomials.{term_at, total_degree};
+ghost use Rattle.poly_arena.specs.Chains.{IsLive, pairs_of};
+ghost use Rattle.geo_poly.specs.Chained.{IsKey, keyed_terms};
+ghost use Rattle.geo_poly.specs.PolynomialVariables.{AllVariables};
+ghost use Rattle.geo_poly.specs.Polynomials.{IsPolynomial, constant_of, norm_of, term_at};
+ghost use Rattle.geo_poly.specs.Polynomials.{total_degree};
+ghost use Rattle.geo_poly.specs.Shared.{AreParts, IsShared, terms_of};
+ghost use Rattle.geo_poly.specs.Variables.{var_cmp};
+ghost use Rattle.mono_store.specs.Stores.{IsStore};
+ghost use Rattle.std.specs.List.Sorted.{IsStrictlySortedBy};
 
+use crate::interning::{indexed, stored_terms};
+use crate::lists::Vars;
 use crate::monomials::Monomial;
-use crate::terms::{Term, copies, is_same_term, norm_of_terms};
+use crate::polynomial_variables::{variables_at, variables_of_terms};
+use crate::reading::{count_powers, is_same, norm_at, power_at, terms_at, total_degree_at};
+use crate::shared::{Indexed, Shared};
+use crate::terms::Term;
 use crate::variables::Var;
 use geo_points::NoMemory;
+use mono_store::{MonoId, Monos};
+use poly_arena::{Arena, Chain};
 use std::alloc::Global;
 use std::marker::Model;
 
 /// A polynomial over whole numbers: monomials with nonzero coefficients, the greatest monomial
-/// first.
-#[derive(Drop)]
+/// first. The monomials stand in a store of its own, where a variable has the number of its place
+/// in a list.
 pub struct Poly {
-    pub(crate) terms: Vec<Term>,
+    vars: Vars,
+    monos: Monos,
+    list: Vec<Indexed>,
+}
+
+/// By hand, so that a caller's proof sees one call where a polynomial is let go.
+impl Drop for Poly {
+    fn drop(self) {
+        let Poly {
+            vars: _,
+            monos: _,
+            list: _,
+        } = self;
+    }
 }
 
 impl Model for Poly {
-    ghost use Rattle.geo_poly.specs.Polynomials.{Summands, IsPolynomial};
+    ghost use Rattle.geo_poly.specs.Polynomials.{Summands};
+    ghost use Rattle.geo_poly.specs.Shared.{IsShared, terms_of};
 
     ghost Value = { Summands };
 
-    ghost view = { λ p. p.terms.items };
+    ghost view = { λ p. terms_of p.vars p.monos p.list.items };
 
-    ghost invariant = { λ p. IsPolynomial p.terms.items };
+    ghost invariant = { λ p. IsShared p.vars p.monos p.list.items };
 }
 
 impl Poly {
+    /// The variables, the store and the list of the polynomial.
+    pub fn shared(&self) -> Shared<'_>
+        ensures terms { terms_of result.vars.now result.monos.now result.list.now ≡ self.now }
+        ensures valid { IsShared result.vars.now result.monos.now result.list.now }
+    {
+        Shared {
+            vars: self.vars.as_slice(),
+            monos: &self.monos,
+            list: self.list.as_slice(),
+        }
+    }
+
+    /// The variables in order, in which every variable that occurs stands: those that `shared`
+    /// tells.
+    pub fn vars(&self) -> &Vars
+        ensures rising { IsStrictlySortedBy var_cmp result.now }
+        ensures known { AllVariables (Contains result.now) self.now }
+    {
+        &self.vars
+    }
+
+    /// The store of the monomials: that which `shared` tells.
+    pub fn monos(&self) -> &Monos
+        ensures { IsStore result.now }
+    {
+        let _one = self.monos.one();
+        &self.monos
+    }
+
+    /// The index of the monomial at place i, from 0, in the store `monos`: that which `shared`
+    /// tells. It is 0 at the monomial with no variable.
+    pub fn mono_at(&self, i: u64) -> MonoId
+        requires { i < length self.now }
+        ensures { (result.0 ≡ 0) ↔ ((term_at self.now i).0 ≡ []) }
+    {
+        let p = self.shared();
+        let _one = p.monos.one();
+        let (id, _) = p.list[i as usize];
+        id
+    }
+
     /// The zero polynomial.
     pub fn zero(alloc: Global) -> Poly
         ensures { result ≡ [] }
     {
         Poly {
-            terms: Vec::new(alloc),
+            vars: Vars {
+                items: Vec::new(alloc),
+            },
+            monos: Monos::new(alloc),
+            list: Vec::new(alloc),
         }
     }
 
@@ -50,7 +122,7 @@ impl Poly {
         if n != 0 {
             terms.push((Monomial::one(alloc), n))?;
         }
-        Ok(Poly { terms })
+        Poly::from_terms(alloc, &terms)
     }
 
     /// The polynomial that is the one variable.
@@ -59,15 +131,106 @@ impl Poly {
     {
         let mut terms = Vec::new(alloc);
         terms.push((Monomial::var(alloc, v)?, 1))?;
-        Ok(Poly { terms })
+        Poly::from_terms(alloc, &terms)
     }
 
     /// A polynomial with the same terms.
     pub fn copy(&self, alloc: Global) -> Result<Poly, NoMemory>
         ensures { IfOk result (λ p. p ≡ self.now) }
     {
-        let terms = copies(alloc, &self.terms)?;
-        Ok(Poly { terms })
+        let p = self.shared();
+        let list = Vec::from_slice(alloc, p.list)?;
+        Poly::over(alloc, &p, list)
+    }
+
+    /// The polynomial of a list, over copies of the variables and of the store.
+    pub(crate) fn over(alloc: Global, p: &Shared, list: Vec<Indexed>) -> Result<Poly, NoMemory>
+        requires { IsShared p.now.vars.now p.now.monos.now list.items }
+        ensures { IfOk result (λ q. q ≡ terms_of p.now.vars.now p.now.monos.now list.items) }
+    {
+        let vars = Vars {
+            items: Vec::from_slice(alloc, p.vars)?,
+        };
+        let monos = p.monos.copy(alloc)?;
+        Ok(Poly { vars, monos, list })
+    }
+
+    /// The polynomial of a list: over a new store where most of the given one is not in use, or
+    /// most of the variables are not.
+    pub(crate) fn compact(
+        alloc: Global,
+        vars: Vars,
+        monos: Monos,
+        list: Vec<Indexed>,
+    ) -> Result<Poly, NoMemory>
+        requires { IsShared vars monos list.items }
+        ensures { IfOk result (λ q. q ≡ terms_of vars monos list.items) }
+    {
+        let part = Shared {
+            vars: vars.as_slice(),
+            monos: &monos,
+            list: list.as_slice(),
+        };
+        if is_sparse(part.monos, list.len()) || is_stale(alloc, &part)? {
+            let terms = terms_at(alloc, &part)?;
+            return Poly::from_terms(alloc, &terms);
+        }
+        Ok(Poly { vars, monos, list })
+    }
+
+    /// The polynomial of a list: over a new store where most of the given one is not in use.
+    pub(crate) fn of_part(alloc: Global, p: &Shared, list: Vec<Indexed>) -> Result<Poly, NoMemory>
+        requires { IsShared p.now.vars.now p.now.monos.now list.items }
+        ensures { IfOk result (λ q. q ≡ terms_of p.now.vars.now p.now.monos.now list.items) }
+    {
+        if !is_sparse(p.monos, list.len()) {
+            return Poly::over(alloc, p, list);
+        }
+        let part = Shared {
+            vars: p.vars,
+            monos: p.monos,
+            list: list.as_slice(),
+        };
+        Poly::from_terms(alloc, &terms_at(alloc, &part)?)
+    }
+
+    /// The polynomial of these terms.
+    pub(crate) fn from_terms(alloc: Global, terms: &[Term]) -> Result<Poly, NoMemory>
+        requires { IsPolynomial terms.now }
+        ensures { IfOk result (λ p. p ≡ terms.now) }
+    {
+        let vars = variables_of_terms(alloc, terms)?;
+        let mut monos = Monos::new(alloc);
+        let list = stored_terms(alloc, &mut monos, vars.as_slice(), terms)?;
+        Ok(Poly { vars, monos, list })
+    }
+
+    /// The polynomial that a chain stands for. The chain and its arena are spent.
+    pub(crate) fn from_chain(
+        alloc: Global,
+        vars: Vars,
+        monos: Monos,
+        mut arena: Arena,
+        chain: Chain,
+    ) -> Result<Poly, NoMemory>
+        requires rising { IsStrictlySortedBy var_cmp vars }
+        requires live { IsLive arena chain }
+        requires keys { AllKeys (IsKey vars monos) (pairs_of arena chain) }
+        requires polynomial { IsPolynomial (keyed_terms vars monos (pairs_of arena chain)) }
+        ensures { IfOk result (λ p. p ≡ keyed_terms vars monos (pairs_of arena chain)) }
+    {
+        let pairs = arena.to_list(alloc, &chain);
+        arena.give_back(chain);
+        let list = indexed(alloc, &pairs?)?;
+        Poly::compact(alloc, vars, monos, list)
+    }
+
+    /// The terms, with monomials of their own.
+    pub(crate) fn to_terms(&self, alloc: Global) -> Result<Vec<Term>, NoMemory>
+        ensures terms { IfOk result (λ terms. terms.items ≡ self.now) }
+        ensures valid { IsPolynomial self.now }
+    {
+        terms_at(alloc, &self.shared())
     }
 
     /// The sum of the absolute coefficients. Every polynomial meets the clause `valid`.
@@ -75,25 +238,29 @@ impl Poly {
         ensures norm { result ≡ pos (norm_of self.now) }
         ensures valid { IsPolynomial self.now }
     {
-        norm_of_terms(&self.terms) as i128
+        self.unsigned_norm() as i128
+    }
+
+    /// The sum of the absolute coefficients, without a sign.
+    pub(crate) fn unsigned_norm(&self) -> u128
+        ensures norm { result ≡ norm_of self.now }
+        ensures valid { IsPolynomial self.now }
+    {
+        norm_at(&self.shared())
     }
 
     /// The greatest degree of a monomial, and 0 for the zero polynomial.
     pub fn degree(&self) -> u32
         ensures { result ≡ total_degree self.now }
     {
-        let mut degree = 0;
-        for (monomial, _) in &self.terms {
-            degree = degree.max(monomial.degree());
-        }
-        degree
+        total_degree_at(&self.shared())
     }
 
     /// The number of monomials.
     pub fn terms(&self) -> u64
         ensures { result ≡ length self.now }
     {
-        self.terms.len() as u64
+        self.list.len() as u64
     }
 
     /// The coefficient of the monomial at place i, from 0.
@@ -101,7 +268,7 @@ impl Poly {
         requires { i < length self.now }
         ensures { result ≡ (term_at self.now i).1 }
     {
-        self.terms[i as usize].1
+        self.list[i as usize].1
     }
 
     /// The number of variables of the monomial at place i, from 0.
@@ -109,7 +276,8 @@ impl Poly {
         requires { i < length self.now }
         ensures { result ≡ length (term_at self.now i).0 }
     {
-        self.terms[i as usize].0.powers().len() as u64
+        let p = self.shared();
+        count_powers(&p, p.list[i as usize].0)
     }
 
     /// The variable at place j of the monomial at place i, both from 0, with its exponent.
@@ -118,30 +286,37 @@ impl Poly {
         requires variable { j < length (term_at self.now i).0 }
         ensures { slice_get (term_at self.now i).0 j ≡ Some result }
     {
-        self.terms[i as usize].0.powers()[j as usize]
+        let p = self.shared();
+        power_at(&p, p.list[i as usize].0, j)
     }
 
     /// Whether this is the zero polynomial, which has no monomial.
     pub fn is_zero(&self) -> bool
         ensures { IsTrue result ↔ (self.now ≡ []) }
     {
-        self.terms.is_empty()
+        self.list.is_empty()
     }
 
     /// Whether both have the same monomials with the same coefficients.
     pub fn same(&self, other: &Poly) -> bool
         ensures { IsTrue result ↔ (self.now ≡ other.now) }
     {
-        let left = self.terms.as_slice();
-        let right = other.terms.as_slice();
-        if left.len() != right.len() {
-            return false;
-        }
-        for i in 0..left.len() {
-            if !is_same_term(&left[i], &right[i]) {
-                return false;
-            }
-        }
-        true
+        is_same(&self.shared(), &other.shared())
     }
+}
+
+/// Whether a store has far more links than that many monomials need. Nothing rests on it but time.
+fn is_sparse(monos: &Monos, monomials: usize) -> bool {
+    monos.links() / 4 > (monomials as u64).saturating_add(16)
+}
+
+/// Whether most of the variables occur no more. Nothing rests on it but time.
+fn is_stale(alloc: Global, p: &Shared) -> Result<bool, NoMemory>
+    requires { AreParts p.now }
+{
+    if p.vars.len() <= 16 {
+        return Ok(false);
+    }
+    let used = variables_at(alloc, p)?;
+    Ok(used.items.len() < p.vars.len() / 2)
 }

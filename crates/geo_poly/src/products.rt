@@ -1,16 +1,28 @@
 //! Products of polynomials.
 
-ghost use Rattle.std.specs.Prelude.{◌≡◌, ◌↔◌, ◌+◌, ◌*◌, ◌^◌, ◌<◌, ◌≤◌, unsigned_abs, IfOk};
-ghost use Rattle.geo_poly.specs.Monomials.{degree_of};
-ghost use Rattle.geo_poly.specs.Polynomials.{CanMultiply, multiples, norm_of, product_of};
-ghost use Rattle.geo_poly.specs.Polynomials.{total_degree};
+ghost use Rattle.std.specs.Prelude.{◌≡◌, ◌≢◌, ◌↔◌, ◌+◌, ◌*◌, ◌^◌, ◌<◌, ◌≤◌};
+ghost use Rattle.std.specs.Prelude.{Contains, IfOk, OnErr, OnOk};
+ghost use Rattle.std.specs.List.Sorted.{IsStrictlySortedBy};
+ghost use Rattle.mono_store.specs.Stores.{Keeps};
+ghost use Rattle.geo_poly.specs.declared.limits.Which.{Which};
+ghost use Rattle.geo_poly.specs.Chained.{AddsChain, SameChains, StandsFor};
+ghost use Rattle.geo_poly.specs.Polynomials.{CanMultiply, norm_of, product_of, total_degree};
+ghost use Rattle.geo_poly.specs.PolynomialVariables.{AllVariables};
+ghost use Rattle.geo_poly.specs.Variables.{var_cmp};
 
+use crate::chained::product_chain;
 use crate::limits::{MAX, MAX_DEGREE, PolyError, Which};
+use crate::lists::Vars;
+use crate::moving::moved;
+use crate::polynomial_variables::union;
 use crate::polynomials::Poly;
-use crate::sums::merged;
-use crate::terms::{Term, norm_of_terms};
+use crate::ticks::Ticks;
 use geo_points::NoMemory;
+use mono_store::Monos;
+use poly_arena::{Arena, Chain};
 use std::alloc::Global;
+use std::marker::Brand;
+use std::sync::ledger::{Blank, Ledger};
 
 impl Poly {
     /// The product. It is refused by the norms and the degrees of the factors; a product with zero
@@ -23,60 +35,103 @@ impl Poly {
             ↔ ((norm_of self.now * norm_of other.now < 2 ^ 127)
             × (65535 < total_degree self.now + total_degree other.now)) }
     {
-        match norm_of_terms(&self.terms).checked_mul(norm_of_terms(&other.terms)) {
+        self.test_product(other)?;
+        Ok(self.product(alloc, other)?)
+    }
+
+    /// The chain of the product, in an arena and over a store that are given; the variables have
+    /// the places in `vars` as their numbers. It is refused as `mul` is.
+    pub fn mul_chain(
+        &self,
+        alloc: Global,
+        other: &Poly,
+        vars: &Vars,
+        store: &mut Monos,
+        arena: &mut Arena,
+    ) -> Result<Chain, PolyError>
+        requires rising { IsStrictlySortedBy var_cmp vars.now }
+        requires left { AllVariables (Contains vars.now) self.now }
+        requires right { AllVariables (Contains vars.now) other.now }
+        ensures chain { IfOk result (λ c. StandsFor vars.now store.new arena.new c
+            (product_of self.now other.now)) }
+        ensures adds { IfOk result (AddsChain arena.old arena.new) }
+        ensures norm { (result ≡ Err (PolyError.TooLarge Which.Norm))
+            ↔ (2 ^ 127 ≤ norm_of self.now * norm_of other.now) }
+        ensures degree { (result ≡ Err (PolyError.TooLarge Which.Degree))
+            ↔ ((norm_of self.now * norm_of other.now < 2 ^ 127)
+            × (65535 < total_degree self.now + total_degree other.now)) }
+        ensures refused { (which : Which) → result ≡ Err (PolyError.TooLarge which)
+            → (arena.new ≡ arena.old) × (store.new ≡ store.old) }
+        ensures err { OnErr result (SameChains arena.old arena.new) }
+        ensures kept { Keeps store.old store.new }
+    {
+        self.test_product(other)?;
+        let blank = Blank::new(1);
+        Ok(self.chained_product::<Brand>(alloc, other, vars, store, arena, blank)?)
+    }
+
+    /// Whether the product fits.
+    fn test_product(&self, other: &Poly) -> Result<(), PolyError>
+        ensures ok { OnOk result (CanMultiply self.now other.now) }
+        ensures norm { (result ≡ Err (PolyError.TooLarge Which.Norm))
+            ↔ (2 ^ 127 ≤ norm_of self.now * norm_of other.now) }
+        ensures degree { (result ≡ Err (PolyError.TooLarge Which.Degree))
+            ↔ ((norm_of self.now * norm_of other.now < 2 ^ 127)
+            × (65535 < total_degree self.now + total_degree other.now)) }
+        ensures memory { result ≢ Err PolyError.NoMemory }
+    {
+        match self.unsigned_norm().checked_mul(other.unsigned_norm()) {
             Some(norm) if norm <= MAX as u128 => {}
             _ => return Err(PolyError::TooLarge(Which::Norm)),
         }
         if self.degree() + other.degree() > MAX_DEGREE {
             return Err(PolyError::TooLarge(Which::Degree));
         }
-        let terms = product_of_terms(alloc, &self.terms, &other.terms)?;
-        Ok(Poly { terms })
+        Ok(())
     }
-}
 
-/// Each of the terms times the one.
-fn multiples_of(alloc: Global, term: &Term, terms: &[Term]) -> Result<Vec<Term>, NoMemory>
-    requires norm { unsigned_abs term.now.1 * norm_of terms.now < 2 ^ 127 }
-    requires degree { degree_of term.now.0 + total_degree terms.now ≤ 65535 }
-    ensures { IfOk result (λ v. v.items ≡ multiples term.now terms.now) }
-{
-    let mut row = Vec::with_capacity(alloc, terms.len())?;
-    for other in terms {
-        row.push((term.0.times(alloc, &other.0)?, term.1 * other.1))?;
+    /// The product, which fits, with a store and an arena of its own.
+    fn product(&self, alloc: Global, other: &Poly) -> Result<Poly, NoMemory>
+        requires { CanMultiply self.now other.now }
+        ensures { IfOk result (λ p. p ≡ product_of self.now other.now) }
+    {
+        let vars = union(alloc, self.vars(), other.vars())?;
+        let mut store = Monos::new(alloc);
+        let mut arena = Arena::new(alloc)?;
+        let blank = Blank::new(1);
+        let chain = self.chained_product::<Brand>(
+            alloc, other, &vars, &mut store, &mut arena, blank,
+        )?;
+        Poly::from_chain(alloc, vars, store, arena, chain)
     }
-    Ok(row)
-}
 
-/// The product, by halves of the shorter list, so that few terms are merged often.
-pub(crate) fn product_of_terms(
-    alloc: Global,
-    left: &[Term],
-    right: &[Term],
-) -> Result<Vec<Term>, NoMemory>
-    requires { CanMultiply left.now right.now }
-    ensures { IfOk result (λ v. v.items ≡ product_of left.now right.now) }
-{
-    if left.len() <= right.len() {
-        product_by_halves(alloc, left, right)
-    } else {
-        product_by_halves(alloc, right, left)
-    }
-}
-
-/// The product, by halves of the left list.
-fn product_by_halves(alloc: Global, left: &[Term], right: &[Term]) -> Result<Vec<Term>, NoMemory>
-    requires { CanMultiply left.now right.now }
-    ensures { IfOk result (λ v. v.items ≡ product_of left.now right.now) }
-{
-    match left {
-        [] => Ok(Vec::new(alloc)),
-        [term] => multiples_of(alloc, term, right),
-        _ => {
-            let (front, back) = left.split_at(left.len() / 2);
-            let front = product_by_halves(alloc, front, right)?;
-            let back = product_by_halves(alloc, back, right)?;
-            merged(alloc, front, back)
-        }
+    /// The chain of the product, which fits; its products of monomials are counted for nobody.
+    fn chained_product<L: Ledger>(
+        &self,
+        alloc: Global,
+        other: &Poly,
+        vars: &Vars,
+        store: &mut Monos,
+        arena: &mut Arena,
+        blank: Blank,
+    ) -> Result<Chain, NoMemory>
+        requires name { blank.name ≡ L.name }
+        requires parts { blank.parts ≡ L.parts }
+        requires some { 0 < blank.parts }
+        requires rising { IsStrictlySortedBy var_cmp vars.now }
+        requires left { AllVariables (Contains vars.now) self.now }
+        requires right { AllVariables (Contains vars.now) other.now }
+        requires fits { CanMultiply self.now other.now }
+        ensures chain { IfOk result (λ c. StandsFor vars.now store.new arena.new c
+            (product_of self.now other.now)) }
+        ensures adds { IfOk result (AddsChain arena.old arena.new) }
+        ensures err { OnErr result (SameChains arena.old arena.new) }
+        ensures kept { Keeps store.old store.new }
+    {
+        let vars = vars.as_slice();
+        let left = moved(alloc, store, vars, &self.shared())?;
+        let right = moved(alloc, store, vars, &other.shared())?;
+        let mut ticks = Ticks::<L>::new(blank);
+        product_chain(store, arena, vars, &left, &right, &mut ticks)
     }
 }

@@ -1,28 +1,36 @@
-//! Replacing variables of a polynomial at once, each by a numerator over a power of one
-//! denominator.
+//! Replacing variables of a polynomial at once, each by a numerator over a power of a denominator.
 
-ghost use Rattle.std.specs.Prelude.{min, ◌-◌, ◌≡◌, ◌≢◌, ◌↔◌, ◌+◌, ◌*◌, ◌^◌, ◌<◌, ◌≤◌, pos};
-ghost use Rattle.std.specs.Prelude.{unsigned_abs, IfOk};
-ghost use Rattle.sparse_lists.specs.SparseLists.{AllKeys, IsCanonical};
-ghost use Rattle.geo_poly.specs.Monomials.{IsMonomial};
-ghost use Rattle.geo_poly.specs.Polynomials.{coefficients, norm_of, polynomial_of, term_cmp};
-ghost use Rattle.geo_poly.specs.Polynomials.{total_degree};
+ghost use Rattle.std.specs.Prelude.{◌≡◌, ◌≢◌, ◌↔◌, ◌+◌, ◌^◌, ◌<◌, ◌≤◌, Contains, IfOk, OnErr};
+ghost use Rattle.std.specs.List.Sorted.{IsStrictlySortedBy};
+ghost use Rattle.mono_store.specs.Stores.{Keeps};
+ghost use Rattle.geo_poly.specs.declared.limits.Which.{Which};
+ghost use Rattle.geo_poly.specs.declared.variables.Var.{Var};
+ghost use Rattle.geo_poly.specs.Chained.{AddsChain, SameChains, StandsFor};
+ghost use Rattle.geo_poly.specs.Counted.{replacement_products};
+ghost use Rattle.geo_poly.specs.KeptVariables.{AllNumerators};
+ghost use Rattle.geo_poly.specs.PolynomialVariables.{AllVariables};
 ghost use Rattle.geo_poly.specs.Replace.{AllBounded, AllPowersSmall, CanReplace, IsBounded};
-ghost use Rattle.geo_poly.specs.Replace.{degree_bound, denominators, most_denominators, others};
-ghost use Rattle.geo_poly.specs.Replace.{replaced_by, replaced_degree, replaced_term};
-ghost use Rattle.geo_poly.specs.Replace.{replaced_terms, replaced_weight, term_degree, term_weight};
-ghost use Rattle.geo_poly.specs.Replace.{times_power, weight_of};
+ghost use Rattle.geo_poly.specs.Replace.{most_denominators, replaced_by};
+ghost use Rattle.geo_poly.specs.Replace.{replaced_degree, replaced_weight};
+ghost use Rattle.geo_poly.specs.Variables.{var_cmp};
 
+use crate::chained_replacement::{replaced_chain, stored_rows};
+use crate::interning::stored_terms;
 use crate::limits::{MAX, MAX_DEGREE, PolyError, Which};
-use crate::monomials::Monomial;
+use crate::lists::Vars;
+use crate::polynomial_variables::{insert_all, union};
 use crate::polynomials::Poly;
-use crate::products::product_of_terms;
+use crate::replacement_bounds::{degree_of_terms, most_denominators_of, weight_of_terms};
 use crate::row_table::RowTable;
-use crate::sums::merged;
-use crate::terms::Term;
+use crate::settings::{Setting, StoredPiece};
+use crate::ticks::Ticks;
 use crate::variables::Var;
 use geo_points::NoMemory;
+use mono_store::Monos;
+use poly_arena::{Arena, Chain};
 use std::alloc::Global;
+use std::collections::BTreeSet;
+use std::sync::ledger::Ledger;
 
 /// A polynomial with numbers that bound its size, which are known before it is multiplied out. They
 /// are promised only where a contract says `IsBounded`.
@@ -53,8 +61,15 @@ pub struct Row {
 impl Poly {
     /// Replaces the variables of the rows at once, and multiplies by the denominator as often as
     /// the monomial that needs it most, so that no fraction is left. The norm is tested first, by
-    /// the weights of the pieces, and then the degree, by their degrees.
-    pub fn replace(&self, alloc: Global, rows: &[Row], den: &Piece) -> Result<Poly, PolyError>
+    /// the weights of the pieces, and then the degree, by their degrees. Each product of monomials
+    /// ticks, also in a call that then finds no memory.
+    pub fn replace<L: Ledger>(
+        &self,
+        alloc: Global,
+        rows: &[Row],
+        den: &Piece,
+        ticks: &mut Ticks<L>,
+    ) -> Result<Poly, PolyError>
         requires rows { AllBounded rows.now }
         requires powers { AllPowersSmall rows.now }
         requires den { IsBounded den.now }
@@ -64,223 +79,181 @@ impl Poly {
         ensures degree { (result ≡ Err (PolyError.TooLarge Which.Degree))
             ↔ ((replaced_weight rows.now den.now self.now < 2 ^ 127)
             × (65535 < replaced_degree rows.now den.now self.now)) }
+        ensures refused { (which : Which) → result ≡ Err (PolyError.TooLarge which)
+            → ticks.new ≡ ticks.old }
+        ensures ticks { ticks.new ≤ ticks.old
+            + replacement_products rows.now den.now self.now }
     {
-        let terms = self.terms.as_slice();
-        let rows = &RowTable::new(alloc, rows);
-        let top = most_denominators_of(terms, rows);
-        if weight_of_terms(terms, rows, den, top) > MAX as u128 {
+        let (table, top) = self.test_replacement(alloc, rows, den)?;
+        Ok(self.replacement(alloc, &table, den, top, ticks)?)
+    }
+
+    /// The chain of the replacement, in an arena and over a store that are given; variables have
+    /// the places in `vars` as their numbers. It is refused as `replace` is.
+    pub fn replace_chain<L: Ledger>(
+        &self,
+        alloc: Global,
+        rows: &[Row],
+        den: &Piece,
+        vars: &Vars,
+        store: &mut Monos,
+        arena: &mut Arena,
+        ticks: &mut Ticks<L>,
+    ) -> Result<Chain, PolyError>
+        requires rows { AllBounded rows.now }
+        requires powers { AllPowersSmall rows.now }
+        requires den { IsBounded den.now }
+        requires rising { IsStrictlySortedBy var_cmp vars.now }
+        requires known { AllVariables (Contains vars.now) self.now }
+        requires rows_known { AllNumerators (Contains vars.now) rows.now }
+        requires den_known { AllVariables (Contains vars.now) den.now.poly }
+        ensures chain { IfOk result (λ c. StandsFor vars.now store.new arena.new c
+            (replaced_by rows.now den.now.poly self.now)) }
+        ensures adds { IfOk result (AddsChain arena.old arena.new) }
+        ensures norm { (result ≡ Err (PolyError.TooLarge Which.Norm))
+            ↔ (2 ^ 127 ≤ replaced_weight rows.now den.now self.now) }
+        ensures degree { (result ≡ Err (PolyError.TooLarge Which.Degree))
+            ↔ ((replaced_weight rows.now den.now self.now < 2 ^ 127)
+            × (65535 < replaced_degree rows.now den.now self.now)) }
+        ensures refused { (which : Which) → result ≡ Err (PolyError.TooLarge which)
+            → (arena.new ≡ arena.old) × (store.new ≡ store.old) × (ticks.new ≡ ticks.old) }
+        ensures err { OnErr result (SameChains arena.old arena.new) }
+        ensures kept { Keeps store.old store.new }
+        ensures ticks { ticks.new ≤ ticks.old
+            + replacement_products rows.now den.now self.now }
+    {
+        let (table, top) = self.test_replacement(alloc, rows, den)?;
+        Ok(self.chained_replacement(alloc, &table, den, top, vars, store, arena, ticks)?)
+    }
+
+    /// Whether the replacement fits; if so, the rows, and how many denominators a term is to get.
+    fn test_replacement<'a>(
+        &self,
+        alloc: Global,
+        rows: &'a [Row],
+        den: &Piece,
+    ) -> Result<(RowTable<'a>, u32), PolyError>
+        requires rows { AllBounded rows.now }
+        requires powers { AllPowersSmall rows.now }
+        requires den { IsBounded den.now }
+        ensures rows { IfOk result (λ t. t.0 ≡ rows.now) }
+        ensures top { IfOk result (λ t. t.1 ≡ most_denominators rows.now self.now) }
+        ensures can { IfOk result (λ t. CanReplace rows.now den.now t.1 self.now) }
+        ensures norm { (result ≡ Err (PolyError.TooLarge Which.Norm))
+            ↔ (2 ^ 127 ≤ replaced_weight rows.now den.now self.now) }
+        ensures degree { (result ≡ Err (PolyError.TooLarge Which.Degree))
+            ↔ ((replaced_weight rows.now den.now self.now < 2 ^ 127)
+            × (65535 < replaced_degree rows.now den.now self.now)) }
+        ensures memory { result ≢ Err PolyError.NoMemory }
+    {
+        let p = &self.shared();
+        let table = RowTable::new(alloc, rows);
+        let top = most_denominators_of(p, &table);
+        if weight_of_terms(p, &table, den, top) > MAX as u128 {
             return Err(PolyError::TooLarge(Which::Norm));
         }
-        if degree_of_terms(terms, rows, den, top) > MAX_DEGREE as u128 {
+        if degree_of_terms(p, &table, den, top) > MAX_DEGREE as u128 {
             return Err(PolyError::TooLarge(Which::Degree));
         }
-        let terms = replaced_terms(alloc, terms, rows, den, top)?;
-        Ok(Poly { terms })
+        Ok((table, top))
+    }
+
+    /// The replacement, which fits, with a store and an arena of its own.
+    fn replacement<L: Ledger>(
+        &self,
+        alloc: Global,
+        rows: &RowTable,
+        den: &Piece,
+        top: u32,
+        ticks: &mut Ticks<L>,
+    ) -> Result<Poly, NoMemory>
+        requires top { top ≡ most_denominators rows.now self.now }
+        requires can { CanReplace rows.now den.now top self.now }
+        ensures replaced { IfOk result (λ p. p ≡ replaced_by rows.now den.now.poly self.now) }
+        ensures ticks { ticks.new ≤ ticks.old
+            + replacement_products rows.now den.now self.now }
+    {
+        let vars = self.replacement_vars(alloc, rows.rows(), den)?;
+        let mut store = Monos::new(alloc);
+        let mut arena = Arena::new(alloc)?;
+        let chain = self.chained_replacement(
+            alloc, rows, den, top, &vars, &mut store, &mut arena, ticks,
+        )?;
+        Poly::from_chain(alloc, vars, store, arena, chain)
+    }
+
+    /// The variables of all that the replacement is made of.
+    pub(crate) fn replacement_vars(
+        &self,
+        alloc: Global,
+        rows: &[Row],
+        den: &Piece,
+    ) -> Result<Vars, NoMemory>
+        ensures rising { IfOk result (IsStrictlySortedBy var_cmp) }
+        ensures known { IfOk result (λ vs. AllVariables (Contains vs) self.now) }
+        ensures rows_known { IfOk result (λ vs. AllNumerators (Contains vs) rows.now) }
+        ensures den_known { IfOk result (λ vs. AllVariables (Contains vs) den.now.poly) }
+    {
+        let own = union(alloc, self.vars(), den.poly.vars())?;
+        with_rows(alloc, &own, rows)
+    }
+
+    /// The chain of the replacement, which fits.
+    fn chained_replacement<L: Ledger>(
+        &self,
+        alloc: Global,
+        rows: &RowTable,
+        den: &Piece,
+        top: u32,
+        vars: &Vars,
+        store: &mut Monos,
+        arena: &mut Arena,
+        ticks: &mut Ticks<L>,
+    ) -> Result<Chain, NoMemory>
+        requires top { top ≡ most_denominators rows.now self.now }
+        requires can { CanReplace rows.now den.now top self.now }
+        requires rising { IsStrictlySortedBy var_cmp vars.now }
+        requires known { AllVariables (Contains vars.now) self.now }
+        requires rows_known { AllNumerators (Contains vars.now) rows.now }
+        requires den_known { AllVariables (Contains vars.now) den.now.poly }
+        ensures chain { IfOk result (λ c. StandsFor vars.now store.new arena.new c
+            (replaced_by rows.now den.now.poly self.now)) }
+        ensures adds { IfOk result (AddsChain arena.old arena.new) }
+        ensures err { OnErr result (SameChains arena.old arena.new) }
+        ensures kept { Keeps store.old store.new }
+        ensures ticks { ticks.new ≤ ticks.old
+            + replacement_products rows.now den.now self.now }
+    {
+        let vars = vars.as_slice();
+        let nums = stored_rows(alloc, store, vars, rows.rows())?;
+        let list = stored_terms(alloc, store, vars, &den.poly.to_terms(alloc)?)?;
+        let p = &self.shared();
+        let mut powers = Vec::new(alloc);
+        let setting = Setting {
+            vars,
+            rows,
+            nums: &nums,
+            den: StoredPiece {
+                piece: den,
+                list: &list,
+            },
+            top,
+        };
+        replaced_chain(alloc, &setting, store, arena, p, p.list, &mut powers, ticks)
     }
 }
 
-/// The powers of the denominator that a monomial calls for.
-fn denominators_of(powers: &[(Var, u32)], rows: &RowTable) -> u32
-    requires powers { AllPowersSmall rows.now }
-    requires monomial { IsMonomial powers.now }
-    ensures { result ≡ denominators rows.now powers.now }
+/// The variables of the list and those of the numerators, in order and each once.
+fn with_rows(alloc: Global, own: &Vars, rows: &[Row]) -> Result<Vars, NoMemory>
+    ensures rising { IfOk result (IsStrictlySortedBy var_cmp) }
+    ensures own { IfOk result (λ vs. (v : Var) → Contains own.now v → Contains vs v) }
+    ensures rows { IfOk result (λ vs. AllNumerators (Contains vs) rows.now) }
 {
-    let mut denominators = 0;
-    for (v, e) in powers {
-        if let Some(row) = rows.find_row(*v) {
-            denominators += row.power * *e;
-        }
+    let mut variables = BTreeSet::new(alloc);
+    insert_all(&mut variables, own.as_slice())?;
+    for row in rows {
+        insert_all(&mut variables, row.num.poly.vars().as_slice())?;
     }
-    denominators
-}
-
-/// The greatest power of the denominator that a monomial calls for.
-fn most_denominators_of(terms: &[Term], rows: &RowTable) -> u32
-    requires powers { AllPowersSmall rows.now }
-    requires monomials { AllKeys IsMonomial terms.now }
-    ensures { result ≡ most_denominators rows.now terms.now }
-{
-    let mut most = 0;
-    for term in terms {
-        let denominators = denominators_of(term.0.powers(), rows);
-        if denominators > most {
-            most = denominators;
-        }
-    }
-    most
-}
-
-/// The weight of what becomes of a term, or the greatest number where it passes that.
-fn weight_of_term(
-    powers: &[(Var, u32)],
-    coefficient: i128,
-    rows: &RowTable,
-    den: &Piece,
-    top: u32,
-) -> u128
-    requires rows { AllBounded rows.now }
-    requires den { IsBounded den.now }
-    requires top { denominators rows.now powers.now ≤ top }
-    ensures { result
-        ≡ min (term_weight rows.now den.now top (powers.now, coefficient)) (2 ^ 128 - 1) }
-{
-    let mut weight = coefficient.unsigned_abs();
-    let mut missing = top;
-    for (v, e) in powers {
-        if let Some(row) = rows.find_row(*v) {
-            missing -= row.power * *e;
-            weight = weight.saturating_mul(row.num.weight.saturating_pow(*e));
-        }
-    }
-    weight.saturating_mul(den.weight.saturating_pow(missing))
-}
-
-/// The sum of the weights of what becomes of the terms, or the greatest number where it passes
-/// that.
-fn weight_of_terms(terms: &[Term], rows: &RowTable, den: &Piece, top: u32) -> u128
-    requires rows { AllBounded rows.now }
-    requires den { IsBounded den.now }
-    requires top { most_denominators rows.now terms.now ≤ top }
-    ensures { result ≡ min (weight_of rows.now den.now top terms.now) (2 ^ 128 - 1) }
-{
-    let mut weight = 0u128;
-    for term in terms {
-        weight = weight.saturating_add(weight_of_term(term.0.powers(), term.1, rows, den, top));
-    }
-    weight
-}
-
-/// The degree of what becomes of a term, or the greatest number where it passes that.
-fn degree_of_term(powers: &[(Var, u32)], rows: &RowTable, den: &Piece, top: u32) -> u128
-    requires top { denominators rows.now powers.now ≤ top }
-    requires monomial { IsMonomial powers.now }
-    ensures { result ≡ min (term_degree rows.now den.now top (powers.now, pos 1)) (2 ^ 128 - 1) }
-{
-    let mut degree = 0u128;
-    let mut missing = top;
-    for (v, e) in powers {
-        match rows.find_row(*v) {
-            Some(row) => {
-                missing -= row.power * *e;
-                degree = degree.saturating_add(row.num.degree.saturating_mul(*e as u128));
-            }
-            None => degree = degree.saturating_add(*e as u128),
-        }
-    }
-    degree.saturating_add(den.degree.saturating_mul(missing as u128))
-}
-
-/// The greatest degree of what becomes of a term, or the greatest number where it passes that.
-fn degree_of_terms(terms: &[Term], rows: &RowTable, den: &Piece, top: u32) -> u128
-    requires top { most_denominators rows.now terms.now ≤ top }
-    requires monomials { AllKeys IsMonomial terms.now }
-    ensures { result ≡ min (degree_bound rows.now den.now top terms.now) (2 ^ 128 - 1) }
-{
-    let mut degree = 0u128;
-    for term in terms {
-        let of_term = degree_of_term(term.0.powers(), rows, den, top);
-        if of_term > degree {
-            degree = of_term;
-        }
-    }
-    degree
-}
-
-/// The terms times the piece, as often as is said.
-fn times_power(
-    alloc: Global,
-    terms: Vec<Term>,
-    piece: &Piece,
-    count: u32,
-) -> Result<Vec<Term>, NoMemory>
-    requires piece { IsBounded piece.now }
-    requires in_order { IsCanonical term_cmp coefficients terms.items }
-    requires monomials { AllKeys IsMonomial terms.items }
-    requires norm { norm_of terms.items * piece.now.weight ^ count < 2 ^ 127 }
-    requires degree { total_degree terms.items + piece.now.degree * count ≤ 65535 }
-    ensures { IfOk result (λ v. v.items ≡ times_power terms.items piece.now.poly count) }
-{
-    let factor = &piece.poly;
-    let mut product = terms;
-    for _k in 0..count {
-        product = product_of_terms(alloc, &product, &factor.terms)?;
-    }
-    Ok(product)
-}
-
-/// The variables with no row.
-fn others_of(alloc: Global, powers: &[(Var, u32)], rows: &RowTable) -> Result<Monomial, NoMemory>
-    requires { IsMonomial powers.now }
-    ensures { IfOk result (λ m. m ≡ others rows.now powers.now) }
-{
-    let mut kept = Monomial::one(alloc);
-    for (v, e) in powers {
-        match rows.find_row(*v) {
-            Some(_) => {}
-            None => kept.push(*v, *e)?,
-        }
-    }
-    Ok(kept)
-}
-
-/// The term with its numerators, and the denominators that it lacks; `rest` has its other
-/// variables.
-fn replaced_term(
-    alloc: Global,
-    rest: Monomial,
-    powers: &[(Var, u32)],
-    coefficient: i128,
-    rows: &RowTable,
-    den: &Piece,
-    top: u32,
-) -> Result<Vec<Term>, NoMemory>
-    requires rest { rest ≡ others rows.now powers.now }
-    requires monomial { IsMonomial rest }
-    requires nonzero { unsigned_abs coefficient ≢ 0 }
-    requires rows { AllBounded rows.now }
-    requires den { IsBounded den.now }
-    requires top { denominators rows.now powers.now ≤ top }
-    requires norm { term_weight rows.now den.now top (powers.now, coefficient) < 2 ^ 127 }
-    requires degree { term_degree rows.now den.now top (powers.now, coefficient) ≤ 65535 }
-    ensures { IfOk result
-        (λ v. v.items ≡ replaced_term rows.now den.now.poly top (powers.now, coefficient)) }
-{
-    let mut product = Vec::new(alloc);
-    product.push((rest, coefficient))?;
-    let mut missing = top;
-    for (v, e) in powers {
-        if let Some(row) = rows.find_row(*v) {
-            missing -= row.power * *e;
-            product = times_power(alloc, product, &row.num, *e)?;
-        }
-    }
-    times_power(alloc, product, den, missing)
-}
-
-/// The sum of what becomes of the terms, by halves.
-fn replaced_terms(
-    alloc: Global,
-    terms: &[Term],
-    rows: &RowTable,
-    den: &Piece,
-    top: u32,
-) -> Result<Vec<Term>, NoMemory>
-    requires { CanReplace rows.now den.now top terms.now }
-    ensures { IfOk result
-        (λ v. v.items ≡ polynomial_of (replaced_terms rows.now den.now.poly top terms.now)) }
-{
-    match terms {
-        [] => Ok(Vec::new(alloc)),
-        [term] => {
-            let powers = term.0.powers();
-            let rest = others_of(alloc, powers, rows)?;
-            replaced_term(alloc, rest, powers, term.1, rows, den, top)
-        }
-        _ => {
-            let (front, back) = terms.split_at(terms.len() / 2);
-            let front = replaced_terms(alloc, front, rows, den, top)?;
-            let back = replaced_terms(alloc, back, rows, den, top)?;
-            merged(alloc, front, back)
-        }
-    }
+    let items = variables.into_iter().collect(alloc)?;
+    Ok(Vars { items })
 }

@@ -1,19 +1,26 @@
 //! Sums and differences of polynomials.
 
-ghost use Rattle.std.specs.Prelude.{◌≡◌, ◌≢◌, ◌↔◌, ◌+◌, ◌++◌, ◌^◌, ◌<◌, ◌≤◌, IfOk, OnOk, Some};
-ghost use Rattle.std.specs.declared.cmp.Ordering.TheVariants.{Equal};
-ghost use Rattle.sparse_lists.specs.SparseLists.{IsCanonical};
+ghost use Rattle.std.specs.Prelude.{◌≡◌, ◌≢◌, ◌↔◌, ◌+◌, ◌^◌, ◌<◌, ◌≤◌, Contains, IfOk};
+ghost use Rattle.std.specs.List.Sorted.{IsStrictlySortedBy};
+ghost use Rattle.sparse_lists.specs.SparseLists.{AllKeys, IsCanonical};
 ghost use Rattle.geo_poly.specs.Polynomials.{coefficients, difference_of, negated, norm_of, sum_of};
 ghost use Rattle.geo_poly.specs.Polynomials.{term_cmp};
-ghost use Rattle.geo_poly.specs.Inner.Merges.{AddsFirsts, IsOrderOfFirsts, MovesFirst};
+ghost use Rattle.geo_poly.specs.PolynomialVariables.{AllVariables};
+ghost use Rattle.geo_poly.specs.Shared.{AreParts, IsIndex, terms_of, told};
+ghost use Rattle.geo_poly.specs.Variables.{var_cmp};
 
 use crate::limits::{MAX, PolyError, Which};
+use crate::lists::Vars;
+use crate::moving::moved;
+use crate::polynomial_variables::{has_all, union};
 use crate::polynomials::Poly;
-use crate::terms::{Term, copies, norm_of_terms};
+use crate::shared::{Indexed, Shared};
+use crate::terms::{Term, append_copies, copy_term};
+use crate::variables::Var;
 use geo_points::NoMemory;
+use mono_store::Monos;
 use std::alloc::Global;
 use std::cmp::Ordering;
-use std::collections::VecDeque;
 
 impl Poly {
     /// The sum. It is refused by the norms of the summands, not by that of the sum.
@@ -23,13 +30,10 @@ impl Poly {
             ↔ (2 ^ 127 ≤ norm_of self.now + norm_of other.now) }
         ensures degree { result ≢ Err (PolyError.TooLarge Which.Degree) }
     {
-        if norm_of_terms(&self.terms) + norm_of_terms(&other.terms) > MAX as u128 {
+        if self.unsigned_norm() + other.unsigned_norm() > MAX as u128 {
             return Err(PolyError::TooLarge(Which::Norm));
         }
-        let left = copies(alloc, &self.terms)?;
-        let right = copies(alloc, &other.terms)?;
-        let terms = merged(alloc, left, right)?;
-        Ok(Poly { terms })
+        Ok(self.sum(alloc, other)?)
     }
 
     /// The difference. It is refused by the norms of both, not by that of the difference.
@@ -39,103 +43,230 @@ impl Poly {
             ↔ (2 ^ 127 ≤ norm_of self.now + norm_of other.now) }
         ensures degree { result ≢ Err (PolyError.TooLarge Which.Degree) }
     {
-        if norm_of_terms(&self.terms) + norm_of_terms(&other.terms) > MAX as u128 {
+        if self.unsigned_norm() + other.unsigned_norm() > MAX as u128 {
             return Err(PolyError::TooLarge(Which::Norm));
         }
-        let left = copies(alloc, &self.terms)?;
-        let right = negated_terms(alloc, &other.terms)?;
-        let terms = merged(alloc, left, right)?;
-        Ok(Poly { terms })
+        Ok(self.difference(alloc, other)?)
+    }
+
+    /// The sum, which fits, over a new store.
+    fn sum(&self, alloc: Global, other: &Poly) -> Result<Poly, NoMemory>
+        requires { norm_of self.now + norm_of other.now < 2 ^ 127 }
+        ensures { IfOk result (λ p. p ≡ sum_of self.now other.now) }
+    {
+        let (p, q) = (self.shared(), other.shared());
+        if has_all(p.vars, q.vars) {
+            return sum_over(alloc, &p, &q);
+        }
+        if has_all(q.vars, p.vars) {
+            return sum_over(alloc, &q, &p);
+        }
+        let vars = union(alloc, self.vars(), other.vars())?;
+        let mut monos = Monos::new(alloc);
+        let list = sum_list(alloc, &mut monos, vars.as_slice(), &p, &q)?;
+        Poly::compact(alloc, vars, monos, list)
+    }
+
+    /// The difference, which fits, over a new store.
+    fn difference(&self, alloc: Global, other: &Poly) -> Result<Poly, NoMemory>
+        requires { norm_of self.now + norm_of other.now < 2 ^ 127 }
+        ensures { IfOk result (λ p. p ≡ difference_of self.now other.now) }
+    {
+        let (p, q) = (self.shared(), other.shared());
+        if has_all(p.vars, q.vars) {
+            return difference_over(alloc, &p, &q);
+        }
+        let vars = union(alloc, self.vars(), other.vars())?;
+        let mut monos = Monos::new(alloc);
+        let list = difference_list(alloc, &mut monos, vars.as_slice(), &p, &q)?;
+        Poly::compact(alloc, vars, monos, list)
     }
 }
 
-/// Copies of the terms with the other sign.
-fn negated_terms(alloc: Global, terms: &[Term]) -> Result<Vec<Term>, NoMemory>
-    requires { norm_of terms.now < 2 ^ 127 }
-    ensures { IfOk result (λ v. v.items ≡ negated terms.now) }
+/// The sum, over a copy of the store of the first, which has the variables of both.
+fn sum_over(alloc: Global, p: &Shared, q: &Shared) -> Result<Poly, NoMemory>
+    requires left { AreParts p.now }
+    requires right { AreParts q.now }
+    requires known { AllVariables (Contains p.now.vars.now) (told q.now) }
+    requires fits { norm_of (told p.now) + norm_of (told q.now) < 2 ^ 127 }
+    ensures { IfOk result (λ s. s ≡ sum_of (told p.now) (told q.now)) }
 {
-    let mut opposite = Vec::with_capacity(alloc, terms.len())?;
-    for term in terms {
-        opposite.push((term.0.copy(alloc)?, -term.1))?;
+    let mut monos = p.monos.copy(alloc)?;
+    let right = moved(alloc, &mut monos, p.vars, q)?;
+    let list = merged_lists(alloc, &monos, p.vars, p.list, &right)?;
+    let items = Vec::from_slice(alloc, p.vars)?;
+    Poly::compact(alloc, Vars { items }, monos, list)
+}
+
+/// The difference, over a copy of the store of the first, which has the variables of both.
+fn difference_over(alloc: Global, p: &Shared, q: &Shared) -> Result<Poly, NoMemory>
+    requires left { AreParts p.now }
+    requires right { AreParts q.now }
+    requires known { AllVariables (Contains p.now.vars.now) (told q.now) }
+    requires fits { norm_of (told p.now) + norm_of (told q.now) < 2 ^ 127 }
+    ensures { IfOk result (λ s. s ≡ difference_of (told p.now) (told q.now)) }
+{
+    let mut monos = p.monos.copy(alloc)?;
+    let right = moved(alloc, &mut monos, p.vars, q)?;
+    let opposite = negated_list(alloc, &monos, p.vars, &right)?;
+    let list = merged_lists(alloc, &monos, p.vars, p.list, &opposite)?;
+    let items = Vec::from_slice(alloc, p.vars)?;
+    Poly::compact(alloc, Vars { items }, monos, list)
+}
+
+/// The list of the sum, in a store.
+fn sum_list(
+    alloc: Global,
+    store: &mut Monos,
+    vars: &[Var],
+    p: &Shared,
+    q: &Shared,
+) -> Result<Vec<Indexed>, NoMemory>
+    requires rising { IsStrictlySortedBy var_cmp vars.now }
+    requires left { AreParts p.now }
+    requires right { AreParts q.now }
+    requires left_known { AllVariables (Contains vars.now) (told p.now) }
+    requires right_known { AllVariables (Contains vars.now) (told q.now) }
+    requires fits { norm_of (told p.now) + norm_of (told q.now) < 2 ^ 127 }
+    ensures indices { IfOk result (λ list. AllKeys (IsIndex vars.now store.new) list.items) }
+    ensures sum { IfOk result
+        (λ list. terms_of vars.now store.new list.items ≡ sum_of (told p.now) (told q.now)) }
+{
+    let left = moved(alloc, store, vars, p)?;
+    let right = moved(alloc, store, vars, q)?;
+    merged_lists(alloc, store, vars, &left, &right)
+}
+
+/// The list of the difference, in a store.
+fn difference_list(
+    alloc: Global,
+    store: &mut Monos,
+    vars: &[Var],
+    p: &Shared,
+    q: &Shared,
+) -> Result<Vec<Indexed>, NoMemory>
+    requires rising { IsStrictlySortedBy var_cmp vars.now }
+    requires left { AreParts p.now }
+    requires right { AreParts q.now }
+    requires left_known { AllVariables (Contains vars.now) (told p.now) }
+    requires right_known { AllVariables (Contains vars.now) (told q.now) }
+    requires fits { norm_of (told p.now) + norm_of (told q.now) < 2 ^ 127 }
+    ensures indices { IfOk result (λ list. AllKeys (IsIndex vars.now store.new) list.items) }
+    ensures difference { IfOk result
+        (λ list. terms_of vars.now store.new list.items
+        ≡ difference_of (told p.now) (told q.now)) }
+{
+    let left = moved(alloc, store, vars, p)?;
+    let right = moved(alloc, store, vars, q)?;
+    let opposite = negated_list(alloc, store, vars, &right)?;
+    merged_lists(alloc, store, vars, &left, &opposite)
+}
+
+/// Both lists in one, in order; where a monomial stands in both, the coefficients add up.
+pub(crate) fn merged_lists(
+    alloc: Global,
+    store: &Monos,
+    vars: &[Var],
+    left: &[Indexed],
+    right: &[Indexed],
+) -> Result<Vec<Indexed>, NoMemory>
+    requires rising { IsStrictlySortedBy var_cmp vars.now }
+    requires left_indices { AllKeys (IsIndex vars.now store.now) left.now }
+    requires right_indices { AllKeys (IsIndex vars.now store.now) right.now }
+    requires left { IsCanonical term_cmp coefficients (terms_of vars.now store.now left.now) }
+    requires right { IsCanonical term_cmp coefficients (terms_of vars.now store.now right.now) }
+    requires fits { norm_of (terms_of vars.now store.now left.now)
+        + norm_of (terms_of vars.now store.now right.now) < 2 ^ 127 }
+    ensures indices { IfOk result (λ list. AllKeys (IsIndex vars.now store.now) list.items) }
+    ensures sum { IfOk result (λ list. terms_of vars.now store.now list.items
+        ≡ sum_of (terms_of vars.now store.now left.now) (terms_of vars.now store.now right.now)) }
+{
+    let _ = vars;
+    let mut list = Vec::new(alloc);
+    let mut i = 0;
+    let mut j = 0;
+    while i < left.len() && j < right.len() {
+        let t = left[i];
+        let u = right[j];
+        match store.compare(u.0, t.0) {
+            Ordering::Less => {
+                list.push(t)?;
+                i += 1;
+            }
+            Ordering::Greater => {
+                list.push(u)?;
+                j += 1;
+            }
+            Ordering::Equal => {
+                let sum = t.1 + u.1;
+                if sum != 0 {
+                    list.push((t.0, sum))?;
+                }
+                i += 1;
+                j += 1;
+            }
+        }
+    }
+    list.extend_from_slice(&left[i..])?;
+    list.extend_from_slice(&right[j..])?;
+    Ok(list)
+}
+
+/// The list with the other sign of each coefficient.
+fn negated_list(
+    alloc: Global,
+    store: &Monos,
+    vars: &[Var],
+    list: &[Indexed],
+) -> Result<Vec<Indexed>, NoMemory>
+    requires indices { AllKeys (IsIndex vars.now store.now) list.now }
+    requires fits { norm_of (terms_of vars.now store.now list.now) < 2 ^ 127 }
+    ensures indices { IfOk result (λ v. AllKeys (IsIndex vars.now store.now) v.items) }
+    ensures negated { IfOk result (λ v. terms_of vars.now store.now v.items
+        ≡ negated (terms_of vars.now store.now list.now)) }
+{
+    let _ = vars;
+    let _ = store;
+    let mut opposite = Vec::with_capacity(alloc, list.len())?;
+    for (id, coefficient) in list {
+        opposite.push((*id, -*coefficient))?;
     }
     Ok(opposite)
 }
 
-/// Both lists in one, in order; where a monomial stands in both, the coefficients add up. The terms
-/// are moved.
-pub(crate) fn merged(
-    alloc: Global,
-    left: Vec<Term>,
-    right: Vec<Term>,
-) -> Result<Vec<Term>, NoMemory>
-    requires left { IsCanonical term_cmp coefficients left.items }
-    requires right { IsCanonical term_cmp coefficients right.items }
-    requires fits { norm_of left.items + norm_of right.items < 2 ^ 127 }
-    ensures { IfOk result (λ v. v.items ≡ sum_of left.items right.items) }
+/// Both lists in one, in order; where a monomial stands in both, the coefficients add up.
+pub(crate) fn merged(alloc: Global, left: &[Term], right: &[Term]) -> Result<Vec<Term>, NoMemory>
+    requires left { IsCanonical term_cmp coefficients left.now }
+    requires right { IsCanonical term_cmp coefficients right.now }
+    requires fits { norm_of left.now + norm_of right.now < 2 ^ 127 }
+    ensures { IfOk result (λ v. v.items ≡ sum_of left.now right.now) }
 {
-    let mut terms = Vec::with_capacity(alloc, left.len().saturating_add(right.len()))?;
-    let mut left = VecDeque::from(left);
-    let mut right = VecDeque::from(right);
-    while let Some(order) = order_of_firsts(&left, &right) {
-        match order {
-            Ordering::Less => move_first(&mut terms, &mut left)?,
-            Ordering::Equal => add_firsts(&mut terms, &mut left, &mut right)?,
-            Ordering::Greater => move_first(&mut terms, &mut right)?,
+    let mut terms = Vec::new(alloc);
+    let mut i = 0;
+    let mut j = 0;
+    while i < left.len() && j < right.len() {
+        let t = &left[i];
+        let u = &right[j];
+        match u.0.compare(&t.0) {
+            Ordering::Less => {
+                terms.push(copy_term(alloc, t)?)?;
+                i += 1;
+            }
+            Ordering::Greater => {
+                terms.push(copy_term(alloc, u)?)?;
+                j += 1;
+            }
+            Ordering::Equal => {
+                let sum = t.1 + u.1;
+                if sum != 0 {
+                    terms.push((t.0.copy(alloc)?, sum))?;
+                }
+                i += 1;
+                j += 1;
+            }
         }
     }
-    move_all(&mut terms, left)?;
-    move_all(&mut terms, right)?;
+    append_copies(alloc, &mut terms, &left[i..])?;
+    append_copies(alloc, &mut terms, &right[j..])?;
     Ok(terms)
-}
-
-/// The order of the first monomials, where both lists have one: `Less` where that of the left list
-/// stands first.
-fn order_of_firsts(left: &VecDeque<Term>, right: &VecDeque<Term>) -> Option<Ordering>
-    ensures { IsOrderOfFirsts left.now.items right.now.items result }
-{
-    let t = left.front()?;
-    let u = right.front()?;
-    Some(u.0.compare(&t.0))
-}
-
-/// Moves the first term to the end of the others.
-fn move_first(to: &mut Vec<Term>, from: &mut VecDeque<Term>) -> Result<(), NoMemory>
-    ensures { OnOk result (MovesFirst to.old.items from.old.items to.new.items from.new.items) }
-{
-    if let Some(term) = from.pop_front() {
-        to.push(term)?;
-    }
-    Ok(())
-}
-
-/// Moves the sum of the first terms, which have the same monomial, to the end of the others, unless
-/// it is 0.
-fn add_firsts(
-    to: &mut Vec<Term>,
-    left: &mut VecDeque<Term>,
-    right: &mut VecDeque<Term>,
-) -> Result<(), NoMemory>
-    requires firsts { IsOrderOfFirsts left.old.items right.old.items (Some Equal) }
-    requires fits { norm_of left.old.items + norm_of right.old.items < 2 ^ 127 }
-    ensures { OnOk result (AddsFirsts to.old.items left.old.items right.old.items to.new.items
-        left.new.items right.new.items) }
-{
-    if let (Some(t), Some(u)) = (left.pop_front(), right.pop_front()) {
-        let sum = t.1 + u.1;
-        if sum != 0 {
-            to.push((t.0, sum))?;
-        }
-    }
-    Ok(())
-}
-
-/// Moves all terms to the end of the others.
-fn move_all(to: &mut Vec<Term>, from: VecDeque<Term>) -> Result<(), NoMemory>
-    ensures { OnOk result (to.new.items ≡ to.old.items ++ from.items) }
-{
-    let mut from = from;
-    while let Some(term) = from.pop_front() {
-        to.push(term)?;
-    }
-    Ok(())
 }

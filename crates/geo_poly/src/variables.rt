@@ -55,7 +55,15 @@ impl PartialEq for Var {
     ghost laws = { Prim.search (comparing, rules) };
 
     fn eq(&self, other: &Var) -> bool {
-        self.cmp(other) == Ordering::Equal
+        match (*self, *other) {
+            (Var::R(a, b, c, d), Var::R(e, f, g, h)) => a == e && b == f && c == g && d == h,
+            (Var::S(a, b, c), Var::S(d, e, f)) => a == d && b == e && c == f,
+            (Var::P(a, b, c), Var::P(d, e, f)) => a == d && b == e && c == f,
+            (Var::X(a), Var::X(b)) => a == b,
+            (Var::Y(a), Var::Y(b)) => a == b,
+            (Var::T(s), Var::T(t)) => s == t,
+            (v, w) => v.rank() == w.rank(),
+        }
     }
 }
 

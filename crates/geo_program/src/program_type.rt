@@ -11,7 +11,6 @@ use geo_terms::Terms;
 
 /// A program: the names that it declares, its commands, one for each name, and its statement. The
 /// two numbers that may follow a point's name mean nothing and are not kept.
-#[derive(Drop)]
 pub struct Program {
     /// The names, in order of declaration.
     pub names: Names,
@@ -29,4 +28,16 @@ pub struct Program {
     ghost short: { length (canonical_text
         (record { names = names; nodes = terms; commands = commands; statement = statement }))
         ≤ 268435456 },
+}
+
+/// By hand, so that a caller's proof sees one call where a program is let go.
+impl Drop for Program {
+    fn drop(self) {
+        let Program {
+            names: _,
+            terms: _,
+            commands: _,
+            statement: _,
+        } = self;
+    }
 }

@@ -14,9 +14,15 @@ use std::marker::Model;
 
 /// Terms by index: a list of nodes, each once, whose children stand at lower indices. So each index
 /// stands for a finite tree, and equal terms have equal indices.
-#[derive(Drop)]
 pub struct Terms {
     nodes: IndexSet<Node>,
+}
+
+/// By hand, so that a caller's proof sees one call where a store is let go.
+impl Drop for Terms {
+    fn drop(self) {
+        let Terms { nodes: _ } = self;
+    }
 }
 
 impl Model for Terms {

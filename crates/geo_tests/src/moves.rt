@@ -1,8 +1,7 @@
 //! Starts and moves on small figures: what each line of a chain has, which rows of the lemma table
-//! are in use, and what is
-//! charged, beside the tables of the reference.
+//! are in use, and what is charged, beside the tables of the reference.
 
-ghost use Rattle.std.specs.Prelude.{◌<◌, length};
+ghost use Rattle.std.specs.Prelude.{◌≡◌, ◌<◌, length};
 ghost use Rattle.geo_logs.specs.Moves.{place_of};
 ghost use Rattle.geo_logs.specs.Naming.{IsPlaceBelow};
 ghost use Rattle.fraction_poly.specs.TableRows.{HasPointsBelow};
@@ -24,9 +23,11 @@ use geo_conditions::{Problem, list};
 use geo_lowering::lower;
 use geo_parser::{ParseError, parse};
 use geo_points::{NoMemory, PointId, TermId};
-use geo_poly::{Poly, Var};
+use geo_poly::{Poly, Ticks, Var};
 use geo_terms::Steps;
 use std::alloc::Global;
+use std::marker::Brand;
+use std::sync::ledger::{Blank, Ledger};
 use std::test::Fail;
 
 // What no line of the table comes near.
@@ -142,8 +143,27 @@ fn moved(alloc: Global, steps: &Steps, poly: &Poly, mv: Move, left: u64) -> Answ
     requires points { AllVariables (HasPointsBelow (length steps.now.steps)) poly.now }
     requires place { IsPlaceBelow (length steps.now.steps) (place_of mv) }
 {
+    moved_in::<Brand>(alloc, steps, poly, mv, left, Blank::new(1))
+}
+
+// The same with a counter.
+fn moved_in<L: Ledger>(
+    alloc: Global,
+    steps: &Steps,
+    poly: &Poly,
+    mv: Move,
+    left: u64,
+    blank: Blank,
+) -> Answer
+    requires points { AllVariables (HasPointsBelow (length steps.now.steps)) poly.now }
+    requires place { IsPlaceBelow (length steps.now.steps) (place_of mv) }
+    requires name { blank.name ≡ L.name }
+    requires parts { blank.parts ≡ L.parts }
+    requires some { 0 < blank.parts }
+{
     let mut budget = Budget { left };
-    let poly = apply(alloc, steps, poly, &mv, &mut budget);
+    let mut ticks = Ticks::<L>::new(blank);
+    let poly = apply(alloc, steps, poly, &mv, &mut budget, &mut ticks);
     Answer {
         poly,
         left: budget.left,

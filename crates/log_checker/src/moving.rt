@@ -1,6 +1,6 @@
 //! The moves of a chain.
 
-ghost use Rattle.std.specs.Prelude.{◌≡◌, ◌-◌, ◌↔◌, IfErr, IfOk, IsNone, IsTrue, OnOk, length};
+ghost use Rattle.std.specs.Prelude.{◌≡◌, ◌-◌, ◌<◌, ◌↔◌, IfErr, IfOk, IsNone, IsTrue, OnOk, length};
 ghost use Rattle.elim_apply.specs.LemmaTable.{lemma_table};
 ghost use Rattle.geo_logs.specs.Judging.{IsMoveRefused};
 ghost use Rattle.geo_logs.specs.Moves.{IsMoved, move_charge, place_of, place_of_lemma, replacement};
@@ -14,9 +14,11 @@ use crate::stops::Stop;
 use elim_apply::{Move, apply};
 use geo_base::Budget;
 use geo_points::PointId;
-use geo_poly::{Poly, Var};
+use geo_poly::{Poly, Ticks, Var};
 use geo_terms::Steps;
 use std::alloc::Global;
+use std::marker::Brand;
+use std::sync::ledger::{Blank, Ledger};
 
 /// The polynomial after a move line with this polynomial.
 pub(crate) fn after_move(
@@ -36,12 +38,38 @@ pub(crate) fn after_move(
     ensures refused { IfErr result (Tells (IsMoveRefused lemma_table steps.now budget.old.left
         before.now mv.now poly.now)) }
 {
+    after_move_in::<Brand>(alloc, steps, before, mv, poly, budget, Blank::new(1))
+}
+
+/// The polynomial, by a move with a counter of its own.
+fn after_move_in<L: Ledger>(
+    alloc: Global,
+    steps: &Steps,
+    before: &Poly,
+    mv: &Move,
+    poly: &Poly,
+    budget: &mut Budget,
+    blank: Blank,
+) -> Result<Poly, Stop>
+    requires name { blank.name ≡ L.name }
+    requires parts { blank.parts ≡ L.parts }
+    requires some { 0 < blank.parts }
+    requires named { IsNamedBy steps.now before.now }
+    ensures result { IfOk result (λ q. q ≡ poly.now) }
+    ensures moved { let made = replacement lemma_table steps.now mv.now before.now in
+        IfOk result (IsMoved made budget.old.left before.now) }
+    ensures paid { let made = replacement lemma_table steps.now mv.now before.now in
+        OnOk result (budget.new.left ≡ budget.old.left - move_charge made before.now) }
+    ensures refused { IfErr result (Tells (IsMoveRefused lemma_table steps.now budget.old.left
+        before.now mv.now poly.now)) }
+{
     // From here on it is known that the steps are a construction.
     prove!(steps.count() <= 512);
     if !has_place(steps, mv) {
         return Err(Stop::Rejected(Reason::NoRow));
     }
-    let moved = apply(alloc, steps, before, mv, budget)?;
+    let mut ticks = Ticks::<L>::new(blank);
+    let moved = apply(alloc, steps, before, mv, budget, &mut ticks)?;
     if !moved.same(poly) {
         return Err(Stop::Rejected(Reason::WrongPoly));
     }

@@ -162,13 +162,11 @@ fn after_verdict(due: Verdict, line: Line) -> Result<Due, Stop>
     ensures refused { (q : Problem) (e : Evidence)
         → IfErr result (RefusesWhere q e (Due.Verdict due) line) }
 {
-    match line {
-        Line::Verdict(verdict) => {
-            if verdict != due {
-                return Err(Stop::Rejected(Reason::WrongVerdict));
-            }
-            Ok(Due::Nothing(due))
-        }
-        _ => Err(Stop::Rejected(Reason::WrongLine)),
+    let Line::Verdict(verdict) = line else {
+        return Err(Stop::Rejected(Reason::WrongLine));
+    };
+    if verdict != due {
+        return Err(Stop::Rejected(Reason::WrongVerdict));
     }
+    Ok(Due::Nothing(due))
 }

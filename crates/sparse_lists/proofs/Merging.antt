@@ -1,5 +1,5 @@
 -- The steps of a loop that merges two canonical lists by their indices.
-use Rattle.std.proofs.Common.{◌≡◌, ℕ, zero, suc, ◌+◌, ◌<◌, ◌≤◌, Bool, false, cond, List, [], ◌∷◌, ◌++◌, length, get_or, take, drop, ◌-◌, length-drop, refl, sym, ap, ap₂, subst, ◌∙◌, append_assoc, add-one, drop-cons, arith}
+use Rattle.std.proofs.Common.{◌≡◌, ℕ, zero, suc, ◌+◌, ◌<◌, ◌≤◌, Bool, true, false, cond, List, [], ◌∷◌, ◌++◌, length, get_or, take, drop, ◌-◌, length-drop, refl, sym, ap, ap₂, subst, ◌∙◌, append_assoc, add-one, drop-cons, arith}
 use Rattle.std.specs.declared.cmp.Ordering.{Ordering}
 use Rattle.std.specs.declared.cmp.Ordering.TheVariants.{Less, Equal, Greater}
 use Rattle.std.proofs.lemmas.List.{take_all}
@@ -69,6 +69,11 @@ module _ {K V : Type 0} (cmp : K → K → Ordering) (A : Amounts V) (order : Is
         let rest = canonical cmp A (drop (i + 1) ls ++ drop (j + 1) rs) in
         append_assoc out ((t.0, A.add t.1 u.1) ∷ []) rest
         ∙ ap (λ xs. out ++ xs) (ap (λ (b : Bool). cond b rest ((t.0, A.add t.1 u.1) ∷ rest)) (sym nonzero) ∙ sym (step_equal e)) ∙ kept
+
+    pub kept_cancel : (out goal : List (K × V)) → cmp t.0 u.0 ≡ Equal → A.is_zero (A.add t.1 u.1) ≡ true → out ++ canonical cmp A (drop i ls ++ drop j rs) ≡ goal → out ++ canonical cmp A (drop (i + 1) ls ++ drop (j + 1) rs) ≡ goal
+    kept_cancel out goal e is_zero kept =
+        let rest = canonical cmp A (drop (i + 1) ls ++ drop (j + 1) rs) in
+        ap (λ xs. out ++ xs) (ap (λ (b : Bool). cond b rest ((t.0, A.add t.1 u.1) ∷ rest)) (sym is_zero) ∙ sym (step_equal e)) ∙ kept
 
   -- where one list has run out, the other is what is left
   pub rest_left : (ls rs : List (K × V)) (i j : ℕ) → IsCanonical cmp A ls → length rs ≤ j → canonical cmp A (drop i ls ++ drop j rs) ≡ drop i ls ++ drop j rs

@@ -1,6 +1,7 @@
 use Rattle.std.proofs.Common.{◌≡◌, List, map, sym, ap, ap₂, subst, ◌∙◌, arith, rules}
 use Rattle.std.specs.Prelude.{All, IfOk}
 use Rattle.std.specs.List.{filter_map}
+use Rattle.geo_poly.specs.Counted.{replacement_products}
 use Rattle.geo_poly.specs.declared.replacement.Piece.{Piece}
 use Rattle.geo_poly.specs.declared.replacement.Row.{Row}
 use Rattle.geo_poly.specs.Polynomials.{Summands}
@@ -16,12 +17,12 @@ use Rattle.elim_apply.proofs.NumberedRows.{denominator_bounded, names_are, rows_
 use Rattle.elim_apply.proofs.applying.moved.Goals as goal
 
 pub made_rows-requires-clause-rows : goal.made_rows-requires-clause-rows
-made_rows-requires-clause-rows c =
+made_rows-requires-clause-rows g c =
     subst (λ (rs : List NumberedRow). All (CanMakeRow c.args.steps.now c.args.mv.now) rs) (sym c.requires.rows)
     (line_rows c.args.steps.now c.args.mv.now c.args.p.now c.norm.ensures.valid c.requires.points c.requires.weight c.requires.degree)
 
 pub replace-requires-clause-rows : goal.replace-requires-clause-rows
-replace-requires-clause-rows c =
+replace-requires-clause-rows g c =
     let steps = c.args.steps.now in
     let mv = c.args.mv.now in
     let vs = variables_of c.args.p.now in
@@ -31,7 +32,7 @@ replace-requires-clause-rows c =
     subst AllBounded (sym rows) (rows_bounded steps mv vs)
 
 pub replace-requires-clause-powers : goal.replace-requires-clause-powers
-replace-requires-clause-powers c =
+replace-requires-clause-powers g c =
     let steps = c.args.steps.now in
     let mv = c.args.mv.now in
     let vs = variables_of c.args.p.now in
@@ -41,10 +42,10 @@ replace-requires-clause-powers c =
     subst AllPowersSmall (sym rows) (rows_small steps mv vs)
 
 pub replace-requires-clause-den : goal.replace-requires-clause-den
-replace-requires-clause-den c = subst IsBounded (sym c.in_ok-rows.ensures.den) (denominator_bounded c.args.steps.now c.args.mv.now)
+replace-requires-clause-den g c = subst IsBounded (sym c.in_ok-rows.ensures.den) (denominator_bounded c.args.steps.now c.args.mv.now)
 
 pub within_bounds-requires-clause-norm : goal.within_bounds-requires-clause-norm
-within_bounds-requires-clause-norm c = λ e.
+within_bounds-requires-clause-norm g c = λ e.
     let steps = c.args.steps.now in
     let mv = c.args.mv.now in
     let q = c.args.p.now in
@@ -57,7 +58,7 @@ within_bounds-requires-clause-norm c = λ e.
     omega (arith, c.replace.ensures.norm.0 e, weight, c.requires.weight)
 
 pub within_bounds-requires-clause-degree : goal.within_bounds-requires-clause-degree
-within_bounds-requires-clause-degree c = λ e.
+within_bounds-requires-clause-degree g c = λ e.
     let steps = c.args.steps.now in
     let mv = c.args.mv.now in
     let q = c.args.p.now in
@@ -69,8 +70,8 @@ within_bounds-requires-clause-degree c = λ e.
     ap₂ (λ (rs : List Row) (d : Piece). replaced_degree rs d q) rows c.in_ok-rows.ensures.den in
     omega (arith, (c.replace.ensures.degree.0 e).1, degree, c.requires.degree)
 
-pub returns : goal.returns
-returns c =
+pub returns-clause-moved : goal.returns-clause-moved
+returns-clause-moved g c =
     let steps = c.args.steps.now in
     let mv = c.args.mv.now in
     let q = c.args.p.now in
@@ -83,3 +84,16 @@ returns c =
     let told : IfOk c.replace.result (λ p. p ≡ replaced_by made.rows made.den.poly q) =
     subst (λ (r : Summands). IfOk c.replace.result (λ p. p ≡ r)) result c.replace.ensures.replaced in
     handed_answer c.within_bounds.result c.replace.result (λ p. p ≡ replaced_by made.rows made.den.poly q) c.within_bounds.ensures told
+
+pub returns-clause-ticks : goal.returns-clause-ticks
+returns-clause-ticks g c =
+    let steps = c.args.steps.now in
+    let mv = c.args.mv.now in
+    let q = c.args.p.now in
+    let made = replacement lemma_table steps mv q in
+    let listed : c.deref.result.now ≡ c.in_ok-rows.rows = search rules in
+    let rows : c.deref.result.now ≡ made.rows =
+    listed ∙ c.in_ok-rows.ensures.rows ∙ ap (λ (rs : List NumberedRow). filter_map (lemma_table.row steps mv) (map (λ (n : NumberedRow). n.var) rs)) c.requires.rows ∙ names_are steps mv (variables_of q) in
+    let products : replacement_products c.deref.result.now c.in_ok-rows.den q ≡ replacement_products made.rows made.den q =
+    ap₂ (λ (rs : List Row) (d : Piece). replacement_products rs d q) rows c.in_ok-rows.ensures.den in
+    omega (arith, c.replace.ensures.ticks, products)

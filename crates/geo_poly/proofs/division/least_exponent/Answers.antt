@@ -1,24 +1,50 @@
-use Rattle.std.proofs.Common.{◌≡◌, ◌≤◌, min, All, ℤ, ap, subst, ◌∙◌}
+use Rattle.std.proofs.Common.{◌≡◌, ◌≤◌, min, All, ℤ, ap, sym, subst, ◌∙◌, arith}
 use Rattle.std.proofs.lemmas.List.{take_all}
 use Rattle.geo_poly.specs.Polynomials.{Summands}
 use Rattle.geo_poly.specs.Monomials.{Powers, exponent}
+use Rattle.geo_poly.specs.Shared.{told, told_powers, told_term}
+use Rattle.geo_poly.proofs.Told.{index_at, item, length-terms_of, monomial_at, told-is, told-within}
 use Rattle.geo_poly.proofs.Cuts.{more_at_most, more_reached}
 use Rattle.geo_poly.proofs.division.least_exponent.Goals as goal
 
-pub loop-monomial-preserved : goal.loop-monomial-preserved
-loop-monomial-preserved c =
-    let t = c.loop-monomial-item.result in
-    let least : c.min-least.result ≡ min c.loop-monomial.least (exponent c.args.v c.loop-monomial-item.result.0) =
-    c.min-least.ensures ∙ ap (λ n. min c.loop-monomial.least n) c.exponent.ensures in
+pub exponent_at-least-requires-clause-index : goal.exponent_at-least-requires-clause-index
+exponent_at-least-requires-clause-index c = index_at c.args.p.now 0 c.requires.some c.requires.parts
+
+pub exponent_at-least-requires-clause-monomial : goal.exponent_at-least-requires-clause-monomial
+exponent_at-least-requires-clause-monomial c = monomial_at c.args.p.now 0 c.requires.some c.requires.parts
+
+pub exponent_at-requires-clause-index : goal.exponent_at-requires-clause-index
+exponent_at-requires-clause-index c = index_at c.args.p.now c.loop-id.id-index c.loop-id-test.true c.requires.parts
+
+pub exponent_at-requires-clause-monomial : goal.exponent_at-requires-clause-monomial
+exponent_at-requires-clause-monomial c = monomial_at c.args.p.now c.loop-id.id-index c.loop-id-test.true c.requires.parts
+
+pub loop-id-init : goal.loop-id-init
+loop-id-init c =
+    let p = c.args.p.now in
     record {
-      at_most = more_at_most c.args.v c.args.terms.now c.loop-monomial.monomial-index t c.loop-monomial.least c.min-least.result c.loop-monomial-test.true c.loop-monomial-item.is least c.loop-monomial.invariant.at_most;
-      reached = more_reached c.args.v c.args.terms.now c.loop-monomial.monomial-index t c.loop-monomial.least c.min-least.result c.loop-monomial-test.true c.loop-monomial-item.is least c.loop-monomial.invariant.reached;
+      at_most = λ k d none. absurd (omega (arith, none));
+      reached = (0, told_term p (item p.list.now 0), told-within p 0 c.requires.some, sym (told-is p 0 c.requires.some), sym c.exponent_at-least.ensures);
+    }
+
+pub loop-id-preserved : goal.loop-id-preserved
+loop-id-preserved c =
+    let p = c.args.p.now in
+    let i = c.loop-id.id-index in
+    let t = told_term p (item p.list.now i) in
+    let least : c.min-least.result ≡ min c.loop-id.least (exponent c.args.v (told_powers c.args.p.now (item c.args.p.now.list.now c.loop-id.id-index).0)) =
+    c.min-least.ensures ∙ ap (λ n. min c.loop-id.least n) c.exponent_at.ensures in
+    record {
+      at_most = more_at_most c.args.v (told p) i t c.loop-id.least c.min-least.result (told-within p i c.loop-id-test.true) (told-is p i c.loop-id-test.true) least c.loop-id.invariant.at_most;
+      reached = more_reached c.args.v (told p) i t c.loop-id.least c.min-least.result (told-within p i c.loop-id-test.true) (told-is p i c.loop-id-test.true) least c.loop-id.invariant.reached;
     }
 
 pub returns : goal.returns
-returns c = record {
-  at_most =
-      subst (λ (q : Summands). All (λ (t : Powers × ℤ). c.loop-monomial.least ≤ exponent c.args.v t.0) q)
-      (take_all c.loop-monomial.monomial-index c.args.terms.now c.loop-monomial-test.false) c.loop-monomial.invariant.at_most;
-  reached = c.loop-monomial.invariant.reached;
-}
+returns c =
+    let p = c.args.p.now in
+    record {
+      at_most =
+          subst (λ (q : Summands). All (λ (t : Powers × ℤ). c.loop-id.least ≤ exponent c.args.v t.0) q)
+          (take_all c.loop-id.id-index (told p) (omega (arith, length-terms_of p.vars.now p.monos.now p.list.now, c.loop-id-test.false))) c.loop-id.invariant.at_most;
+      reached = c.loop-id.invariant.reached;
+    }

@@ -1,38 +1,71 @@
-use Rattle.std.proofs.Common.{None, Some, refl, ap, subst, ◌∙◌}
-use Rattle.std.specs.declared.cmp.Ordering.TheVariants.{Less, Equal, Greater}
-use Rattle.geo_poly.specs.Inner.Merges.{IsOrderOfFirsts}
-use Rattle.geo_poly.proofs.Merges.{both_added, finished, left_moved, right_moved}
+use Rattle.std.proofs.Common.{◌≡◌, ◌++◌, drop, sym, ◌∙◌, append_assoc, arith}
+use Rattle.sparse_lists.specs.SparseLists.{canonical}
+use Rattle.geo_poly.specs.Polynomials.{term_cmp, coefficients, sum_of}
+use Rattle.geo_poly.proofs.Orders.{term_order}
+use Rattle.geo_poly.proofs.PolynomialLaws.{coefficients_add, FitsSum, fits_at, sum_is, sum_nonzero, sum_zero}
+use Rattle.sparse_lists.proofs.Merging.{take_rest, kept_less, kept_greater, kept_equal, kept_cancel, rest_left, rest_right}
 use Rattle.geo_poly.proofs.sums.merged.Goals as goal
+use Rattle.geo_poly.proofs.sums.merged.Goals.{then-loop-i-test+else-j-right, else-loop-i-test, then-sum-ne0+in_ok-copy-in-Equal+in_ok-push-in-Equal, else-sum-ne0}
 
-pub loop-order-preserved-in-Continue-branch-2 : goal.loop-order-preserved-in-Continue-branch-2
-loop-order-preserved-in-Continue-branch-2 c =
-    let p = c.loop-order.left.items in
-    let q = c.loop-order.right.items in
-    let less : IsOrderOfFirsts p q (Some Less) = subst (IsOrderOfFirsts p q) (c.in-Some.is ∙ ap Some c.in-Less.is) c.order_of_firsts.ensures in
-    left_moved c.loop-order.terms.items p q _ _ _ less c.in_ok-move_first-in-Less.ensures c.loop-order.invariant
+pub loop-i-preserved-in-Less : goal.loop-i-preserved-in-Less
+loop-i-preserved-in-Less c =
+    let p = c.args.left.now in
+    let q = c.args.right.now in
+    record {
+      left_in = omega arith;
+      right_in = omega arith;
+      kept = rw (c.in_ok-push-in-Less.ensures.items, c.in_ok-copy_term-in-Less.ensures)
+          (kept_less term_cmp coefficients term_order coefficients_add p q c.loop-i.i c.loop-i.j c.index-left-i.result c.index-right-j.result c.loop-i-test.true c.if-j-right.true
+          c.index-left-i.is c.index-right-j.is c.requires.left c.requires.right
+          c.loop-i.terms.items (sum_of p q) (sym c.compare.ensures ∙ c.in-Less.is) c.loop-i.invariant.kept);
+    }
 
-pub add_firsts-requires-clause-firsts : goal.add_firsts-requires-clause-firsts
-add_firsts-requires-clause-firsts c =
-    subst (IsOrderOfFirsts c.loop-order.left.items c.loop-order.right.items) (c.in-Some.is ∙ ap Some c.in-Equal.is) c.order_of_firsts.ensures
+pub loop-i-preserved-in-Greater : goal.loop-i-preserved-in-Greater
+loop-i-preserved-in-Greater c =
+    let p = c.args.left.now in
+    let q = c.args.right.now in
+    record {
+      left_in = omega arith;
+      right_in = omega arith;
+      kept = rw (c.in_ok-push-in-Greater.ensures.items, c.in_ok-copy_term-in-Greater.ensures)
+          (kept_greater term_cmp coefficients term_order coefficients_add p q c.loop-i.i c.loop-i.j c.index-left-i.result c.index-right-j.result c.loop-i-test.true c.if-j-right.true
+          c.index-left-i.is c.index-right-j.is c.requires.left c.requires.right
+          c.loop-i.terms.items (sum_of p q) (sym c.compare.ensures ∙ c.in-Greater.is) c.loop-i.invariant.kept);
+    }
 
-pub loop-order-preserved-in-Continue-branch-3 : goal.loop-order-preserved-in-Continue-branch-3
-loop-order-preserved-in-Continue-branch-3 c =
-    let p = c.loop-order.left.items in
-    let q = c.loop-order.right.items in
-    let equal : IsOrderOfFirsts p q (Some Equal) = subst (IsOrderOfFirsts p q) (c.in-Some.is ∙ ap Some c.in-Equal.is) c.order_of_firsts.ensures in
-    both_added c.loop-order.terms.items p q _ _ _ _ equal c.in_ok-add_firsts-in-Equal.ensures c.loop-order.invariant
-
-pub loop-order-preserved : goal.loop-order-preserved
-loop-order-preserved c =
-    let p = c.loop-order.left.items in
-    let q = c.loop-order.right.items in
-    let greater : IsOrderOfFirsts p q (Some Greater) = subst (IsOrderOfFirsts p q) (c.in-Some.is ∙ ap Some c.in-Greater.is) c.order_of_firsts.ensures in
-    right_moved c.loop-order.terms.items p q _ _ _ greater c.in_ok-move_first-in-Greater.ensures c.loop-order.invariant
+pub loop-i-preserved : goal.loop-i-preserved
+loop-i-preserved c =
+    let p = c.args.left.now in
+    let q = c.args.right.now in
+    let t = c.index-left-i.result in
+    let u = c.index-right-j.result in
+    let sums : FitsSum t.1 u.1 = fits_at p q c.loop-i.i c.loop-i.j t u c.loop-i-test.true c.if-j-right.true c.index-left-i.is c.index-right-j.is c.requires.fits in
+    record {
+      left_in = omega arith;
+      right_in = omega arith;
+      kept = elim c.if-sum-ne0.branch [
+        | then-sum-ne0+in_ok-copy-in-Equal+in_ok-push-in-Equal w ↦
+            rw (w.terms-is, w.in_ok-push-in-Equal.ensures.items, w.in_ok-copy-in-Equal.ensures, sum_is t.1 u.1 sums)
+            (kept_equal term_cmp coefficients term_order coefficients_add p q c.loop-i.i c.loop-i.j t u c.loop-i-test.true c.if-j-right.true
+            c.index-left-i.is c.index-right-j.is c.requires.left c.requires.right
+            c.loop-i.terms.items (sum_of p q) (sym c.compare.ensures ∙ c.in-Equal.is) (sum_nonzero t.1 u.1 sums w.if-sum-ne0.true) c.loop-i.invariant.kept)
+        | else-sum-ne0 w ↦
+            rw w.terms-is
+            (kept_cancel term_cmp coefficients term_order coefficients_add p q c.loop-i.i c.loop-i.j t u c.loop-i-test.true c.if-j-right.true
+            c.index-left-i.is c.index-right-j.is c.requires.left c.requires.right
+            c.loop-i.terms.items (sum_of p q) (sym c.compare.ensures ∙ c.in-Equal.is) (sum_zero t.1 u.1 sums w.if-sum-ne0.false) c.loop-i.invariant.kept)
+      ];
+    }
 
 pub returns : goal.returns
 returns c =
-    let p = c.loop-order.left.items in
-    let q = c.loop-order.right.items in
-    let none : IsOrderOfFirsts p q None = subst (IsOrderOfFirsts p q) c.in_default.is c.order_of_firsts.ensures in
-    rw (c.in_ok-move_all-2.ensures, c.in_ok-move_all.ensures)
-    (finished c.loop-order.terms.items p q _ none c.loop-order.invariant ∙ rw (c.from-left.ensures.0, c.from-right.ensures.0) refl)
+    let p = c.args.left.now in
+    let q = c.args.right.now in
+    let i = c.loop-i.i in
+    let j = c.loop-i.j in
+    let rest : canonical term_cmp coefficients (drop i p ++ drop j q) ≡ drop i p ++ drop j q =
+    elim c.loop-i-test.branch [
+      | then-loop-i-test+else-j-right w ↦ rest_left term_cmp coefficients term_order coefficients_add p q i j c.requires.left w.if-j-right.false
+      | else-loop-i-test w ↦ rest_right term_cmp coefficients term_order coefficients_add p q i j c.requires.right w.loop-i-test.false
+    ] in
+    rw (c.in_ok-append_copies-2.ensures, c.in_ok-append_copies.ensures, take_rest p i, take_rest q j, append_assoc, ← rest) c.loop-i.invariant.kept

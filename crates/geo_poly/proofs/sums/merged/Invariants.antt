@@ -1,10 +1,14 @@
-use Rattle.std.proofs.Common.{◌+◌, length}
-use Rattle.geo_poly.specs.Polynomials.{sum_of}
-use Rattle.geo_poly.proofs.Merges.{Merging}
+use Rattle.std.proofs.Common.{◌≡◌, ◌+◌, ◌-◌, ◌≤◌, ◌++◌, drop, length}
+use Rattle.sparse_lists.specs.SparseLists.{canonical}
+use Rattle.geo_poly.specs.Polynomials.{term_cmp, coefficients, sum_of}
 use Rattle.geo_poly.proofs.sums.merged.Given as goal
 
-abbrev pub invariant-loop-order : goal.invariant-loop-order
-invariant-loop-order l = Merging l.terms.items l.left.items l.right.items (sum_of l.initial.left.items l.initial.right.items)
+abbrev pub invariant-loop-i : goal.invariant-loop-i
+invariant-loop-i l = record {
+  left_in : l.i ≤ length l.left;
+  right_in : l.j ≤ length l.right;
+  kept : l.terms.items ++ canonical term_cmp coefficients (drop l.i l.left ++ drop l.j l.right) ≡ sum_of l.left l.right;
+}
 
-abbrev pub decreases-loop-order : goal.decreases-loop-order
-decreases-loop-order l = length l.left.items + length l.right.items
+abbrev pub decreases-loop-i : goal.decreases-loop-i
+decreases-loop-i l = (length l.left - l.i) + (length l.right - l.j)

@@ -2,7 +2,7 @@ use Rattle.std.proofs.Common.{sym, subst}
 use Rattle.geo_logs.specs.Places.{in_chain}
 use Rattle.geo_prover.specs.Inner.Parts.{here_part, steps_part}
 use Rattle.geo_prover.specs.Inner.Written.{state}
-use Rattle.geo_prover.proofs.Chaining.{IsUnderWay, goes_on, line_comes, line_points, stands_at}
+use Rattle.geo_prover.proofs.Chaining.{IsUnderWay, ends, goes_on, line_comes, line_points, stands_at}
 use Rattle.geo_prover.proofs.Handing.{if_err}
 use Rattle.geo_prover.proofs.Passing.{halts_on, unwritten_here, write_here}
 use Rattle.geo_prover.proofs.chains.work_steps.Goals as goal
@@ -43,3 +43,11 @@ loop-last-preserved g c =
           c.in_ok-line.ensures.line (sym c.in-Some.ensures) c.in_ok-write.ensures.ok;
       points = line_points _ c.in_ok-line.line c.in-Some.poly (sym c.in-Some.ensures) c.in_ok-line.ensures.points;
     }
+
+pub returns-in-None-clause-ok : goal.returns-in-None-clause-ok
+returns-in-None-clause-ok g c =
+    let s = state c.args.log.now (g.K.Sink.held c.args.sink.now) (g.K.Sink.faults c.args.sink.now) in
+    let way = subst (λ k. IsUnderWay c.args.steps.now c.args.known.now c.args.budget.now.left c.args.first c.loop-last.budget.left c.loop-last.last s (state c.loop-last.log (g.K.Sink.held k) (g.K.Sink.faults k)))
+    (sym c.in_ok-line.ensures.kept) c.loop-last.invariant.way in
+    ends c.args.steps.now c.args.known.now c.args.budget.now.left c.args.first c.loop-last.budget.left c.loop-last.last c.in_ok-line.line c.line_after.new.budget.left s _ _ way
+    c.in_ok-line.ensures.line (sym c.in-None.ensures) c.in_ok-write.ensures.ok

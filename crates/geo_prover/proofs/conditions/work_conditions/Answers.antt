@@ -6,7 +6,7 @@ use Rattle.geo_prover.specs.Inner.Halting.{Passes}
 use Rattle.geo_prover.specs.Inner.Tasks.{conditions_from}
 use Rattle.geo_prover.specs.Inner.Written.{state}
 use Rattle.geo_prover.proofs.Handing.{if_err}
-use Rattle.geo_prover.proofs.Listing.{conditions_halt, nonzero_more}
+use Rattle.geo_prover.proofs.Listing.{conditions_halt, impossible_on, nonzero_more}
 use Rattle.geo_prover.proofs.Passing.{halts_on, passes_on}
 use Rattle.geo_prover.proofs.conditions.work_conditions.Goals as goal
 
@@ -50,3 +50,12 @@ loop-i-preserved g c =
           (subst (λ qs. Passes first (conditions_from c.args.problem.now (c.loop-i.i + 1) known qs left) s u) (sym c.in_ok-add.ensures.ends) passed);
       nonzero = nonzero_more c.loop-i.findings.ends c.add.new.self.ends c.in_ok-chain.chain.end c.loop-i.invariant.nonzero (iff_false c.is_zero.ensures c.if-is_zero.false) c.in_ok-add.ensures.ends;
     }
+
+pub returns-then-is_zero-clause-impossible : goal.returns-then-is_zero-clause-impossible
+returns-then-is_zero-clause-impossible g c =
+    let s = state c.args.log.now (g.K.Sink.held c.args.sink.now) (g.K.Sink.faults c.args.sink.now) in
+    let t = state c.loop-i.log (g.K.Sink.held c.loop-i.sink) (g.K.Sink.faults c.loop-i.sink) in
+    let u = state c.work_condition.new.log (g.K.Sink.held c.work_condition.new.sink) (g.K.Sink.faults c.work_condition.new.sink) in
+    impossible_on (conditions_from c.args.problem.now 0 c.args.findings.now.known c.args.findings.now.ends c.args.budget.now.left)
+    (conditions_from c.args.problem.now c.loop-i.i c.loop-i.findings.known c.loop-i.findings.ends c.loop-i.budget.left) s t u c.work_condition.new.budget.left (c.loop-i.i + 1) c.loop-i.invariant.passes
+    (c.in_ok-chain.ensures.impossible (c.is_zero.ensures.0 c.if-is_zero.true))

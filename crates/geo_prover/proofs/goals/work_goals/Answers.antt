@@ -7,6 +7,7 @@ use Rattle.geo_prover.specs.Inner.Parts.{end_part}
 use Rattle.geo_prover.specs.Inner.Tasks.{goals_from}
 use Rattle.geo_prover.specs.Inner.Written.{state}
 use Rattle.geo_prover.proofs.Handing.{if_err}
+use Rattle.geo_prover.proofs.Listing.{nonzero_more}
 use Rattle.geo_prover.proofs.Passing.{halts_on, memory_in, passes_on}
 use Rattle.geo_prover.proofs.goals.work_goals.Goals as goal
 
@@ -72,3 +73,9 @@ loop-i-preserved g c =
           (goals_from c.args.problem.now c.loop-i.i c.args.findings.now.known c.args.findings.now.ends c.loop-i.budget.left) (goals_from p (c.loop-i.i + 1) c.args.findings.now.known c.args.findings.now.ends left) s t u c.loop-i.invariant.passes went;
       kept = c.loop-i.invariant.kept;
     }
+
+pub returns-then-not-is_zero-clause-nonzero : goal.returns-then-not-is_zero-clause-nonzero
+returns-then-not-is_zero-clause-nonzero g c =
+    let nonzero : c.in_ok-chain.chain.end ≡ [] → ⊥ = search rules in
+    nonzero_more c.args.findings.now.ends c.add_end.new.self.ends c.in_ok-chain.chain.end c.requires.nonzero nonzero
+    (c.in_ok-add_end.ensures.ends ∙ ap (λ f. f.ends ++ c.in_ok-chain.chain.end ∷ []) c.loop-i.invariant.kept)

@@ -1,0 +1,146 @@
+-- Monomials of one store put into another, link by link.
+use Rattle.std.proofs.Common.{◌≡◌, ℕ, zero, suc, ◌<◌, List, [], ◌∷◌, ◌++◌, get_or, length, Option, None, Some, refl, sym, ap, ap₂, subst, ◌∙◌, arith}
+use Rattle.std.specs.Prelude.{Contains}
+use Rattle.std.specs.List.Sorted.{IsStrictlySortedBy}
+use Rattle.std.specs.Ordering.{nat_cmp}
+use Rattle.sparse_lists.specs.SparseLists.{AllKeys, IsCanonical}
+use Rattle.sparse_lists.proofs.Canonical.{IsCanonical-canonical, canonical_self}
+use Rattle.sparse_lists.proofs.Sums.{AllKeys-at}
+use Rattle.sparse_lists.proofs.NaturalAmounts.{natural_order}
+use Rattle.mono_store.specs.declared.links.MonoId.{MonoId}
+use Rattle.mono_store.specs.Monomials.{Powers as NumberedPowers, IsMonomial as IsNumberedMonomial, exponents as numbered_exponents}
+use Rattle.mono_store.specs.Stores.{IsStore, Keeps, Links, count, monomial_of}
+use Rattle.mono_store.proofs.Numbers.{exponents_add as numbered_add}
+use Rattle.mono_store.proofs.Products.{IsPowerBefore}
+use Rattle.mono_store.proofs.Unfolding.{monomial_of-one}
+use Rattle.geo_poly.specs.declared.shared.Shared.{Shared}
+use Rattle.geo_poly.specs.declared.variables.Var.{Var}
+use Rattle.geo_poly.specs.Monomials.{Powers, IsMonomial, exponents}
+use Rattle.geo_poly.specs.PolynomialVariables.{AllVariables}
+use Rattle.geo_poly.specs.Shared.{AllPlaces, AreParts, IsIndexOf, named, powers_at, told, told_powers, told_term, var_at}
+use Rattle.geo_poly.specs.Variables.{var_cmp}
+use Rattle.geo_poly.specs.Inner.Moved.{AreMoved, ArePlaces, IsMovedTo, IsPlaceOf, IsSame}
+use Rattle.geo_poly.proofs.Naming.{IsPowerBefore-named, canonical-rename, degree_of-named, var_at-keeps}
+use Rattle.geo_poly.proofs.Orders.{exponents_add, var_order}
+use Rattle.geo_poly.proofs.Told.{IsIndex-kept, index_at, item, powers_at-kept, told-is, told-within}
+
+-- what holds of each entry, and of one more
+pub each_push : {X : Type 0} (P : ℕ → X → Type 0) (xs : List X) (x d : X) → ((k : ℕ) → k < length xs → P k (get_or xs k d)) → P (length xs) x
+    → (k : ℕ) → k < length (xs ++ x ∷ []) → P k (get_or (xs ++ x ∷ []) k d)
+each_push P [] x d h g zero within = g
+each_push P [] x d h g (suc k) within = absurd (omega (arith, within))
+each_push P (y ∷ ys) x d h g zero within = h 0 (omega arith)
+each_push P (y ∷ ys) x d h g (suc k) within = each_push (λ n z. P (suc n) z) ys x d (λ n in_ys. h (suc n) (omega (arith, in_ys))) g k (omega (arith, within))
+
+some_within : {X : Type 0} (xs : List (Option X)) (i : ℕ) (x : X) → get_or xs i None ≡ Some x → i < length xs
+some_within [] i x e = absurd (cc)
+some_within (y ∷ ys) zero x e = omega arith
+some_within (y ∷ ys) (suc i) x e = let rest = some_within ys i x e in omega (arith, rest)
+
+-- a monomial in numbered variables is one in the variables
+IsMonomial-named : (vars : List Var) (m : NumberedPowers) → IsStrictlySortedBy var_cmp vars → AllPlaces (length vars) m → IsNumberedMonomial m → IsMonomial (named vars m)
+IsMonomial-named vars m rising places h = record {
+  in_order =
+      subst (IsCanonical var_cmp exponents)
+      (canonical-rename nat_cmp var_cmp exponents (var_at vars) (λ k. k < length vars) (var_at-keeps vars rising) m places
+      ∙ ap (named vars) (canonical_self nat_cmp numbered_exponents natural_order numbered_add m h.in_order))
+      (IsCanonical-canonical var_cmp exponents var_order exponents_add (named vars m));
+  degree_fits = omega (arith, degree_of-named vars m, h.degree_fits);
+}
+
+-- THE MONOMIAL WITH NO VARIABLE
+pub one_is_moved : (p : Shared) (vars : List Var) (links : Links) (id new : MonoId) → id.0 ≡ 0 → new.0 ≡ 0 → IsSame p vars links id new
+one_is_moved p vars links id new e f =
+    let old_is = monomial_of-one p.monos.now id e in
+    let new_is = monomial_of-one links new f in
+    record {
+      old_index = record { within = omega (arith, e); places = subst (AllPlaces (length p.vars.now)) (sym old_is) tt };
+      new_index = record { within = omega (arith, f); places = subst (AllPlaces (length vars)) (sym new_is) tt };
+      powers = ap (named vars) new_is ∙ ap (named p.vars.now) (sym old_is);
+    }
+
+-- A MONOMIAL WITH A FIRST POWER
+module _ (p : Shared) (vars : List Var) (id next : MonoId) (var exp : ℕ) (unfolds : monomial_of p.monos.now id ≡ (var, exp) ∷ monomial_of p.monos.now next)
+    (earlier : next.0 < id.0) (within : id.0 < count p.monos.now) where
+  powers_are : told_powers p id ≡ (var_at p.vars.now var, exp) ∷ told_powers p next
+  powers_are = ap (named p.vars.now) unfolds
+
+  next_index : IsIndexOf p id → IsIndexOf p next
+  next_index h = record { within = omega (arith, earlier, within); places = (subst (AllPlaces (length p.vars.now)) unfolds h.places).1 }
+
+  pub no_place : (links : Links) (places : List (Option ℕ)) → ArePlaces p.vars.now vars places → get_or places var None ≡ None → IsMovedTo p vars links id None
+  no_place links places h e = λ index known.
+      let var_in : var < length p.vars.now = (subst (AllPlaces (length p.vars.now)) unfolds index.places).0 in
+      let none : IsPlaceOf vars (var_at p.vars.now var) None = subst (IsPlaceOf vars (var_at p.vars.now var)) e (h.each var (omega (arith, var_in, h.whole))) in
+      none (subst (AllKeys (Contains vars)) powers_are known).0
+
+  pub no_next : (links : Links) (table : List (Option MonoId)) → AreMoved p vars links table → next.0 < length table → get_or table next.0 None ≡ None → IsMovedTo p vars links id None
+  no_next links table h reached e = λ index known.
+      let none : IsMovedTo p vars links next None = subst (IsMovedTo p vars links next) e (h next.0 reached) in
+      none (next_index index) (subst (AllKeys (Contains vars)) powers_are known).1
+
+  pub next_is : (links : Links) (table : List (Option MonoId)) (new : MonoId) → AreMoved p vars links table → next.0 < length table → get_or table next.0 None ≡ Some new → IsSame p vars links next new
+  next_is links table new h reached e = subst (IsMovedTo p vars links next) e (h next.0 reached)
+
+  module _ (links : Links) (places : List (Option ℕ)) (k : ℕ) (new : MonoId) (are : ArePlaces p.vars.now vars places) (at : get_or places var None ≡ Some k) (same : IsSame p vars links next new) where
+    var_in : var < length p.vars.now
+    var_in = omega (arith, some_within places var k at, are.whole)
+
+    place_is : IsPlaceOf vars (var_at p.vars.now var) (Some k)
+    place_is = subst (IsPlaceOf vars (var_at p.vars.now var)) at (are.each var (some_within places var k at))
+
+    places_of : AllPlaces (length p.vars.now) (monomial_of p.monos.now id)
+    places_of = subst (AllPlaces (length p.vars.now)) (sym unfolds) (var_in, same.old_index.places)
+
+    pub power_before : IsStrictlySortedBy var_cmp vars → IsStrictlySortedBy var_cmp p.vars.now → IsStore p.monos.now → IsPowerBefore k exp (monomial_of links new)
+    power_before rising old_rising store =
+        let whole : told_powers p id ≡ (var_at vars k, exp) ∷ powers_at vars links new =
+        powers_are ∙ ap₂ (λ (v : Var) (rest : Powers). (v, exp) ∷ rest) (sym place_is.1) (sym same.powers) in
+        IsPowerBefore-named vars rising k exp (monomial_of links new) place_is.0 same.new_index.places
+        (subst IsMonomial whole (IsMonomial-named p.vars.now (monomial_of p.monos.now id) old_rising places_of (store.monomials id)))
+
+    pub is_moved : (longer : Links) (there : MonoId) → there.0 < count longer → monomial_of longer there ≡ (k, exp) ∷ monomial_of links new → IsSame p vars longer id there
+    is_moved longer there there_in is = record {
+      old_index = record { within = within; places = places_of };
+      new_index = record { within = there_in; places = subst (AllPlaces (length vars)) (sym is) (place_is.0, same.new_index.places) };
+      powers = ap (named vars) is ∙ ap₂ (λ (v : Var) (rest : Powers). (v, exp) ∷ rest) place_is.1 same.powers ∙ sym powers_are;
+    }
+
+-- WHERE THE STORE GROWS
+pub IsMovedTo-kept : (p : Shared) (vars : List Var) (old new : Links) (id : MonoId) (o : Option MonoId) → Keeps old new → IsMovedTo p vars old id o → IsMovedTo p vars new id o
+IsMovedTo-kept p vars old new id None h is = is
+IsMovedTo-kept p vars old new id (Some there) h is = record {
+  old_index = is.old_index;
+  new_index = IsIndex-kept vars old new there h is.new_index;
+  powers = powers_at-kept vars old new there h is.new_index ∙ is.powers;
+}
+
+pub AreMoved-kept : (p : Shared) (vars : List Var) (old new : Links) (table : List (Option MonoId)) → Keeps old new → AreMoved p vars old table → AreMoved p vars new table
+AreMoved-kept p vars old new table h are = λ k within. IsMovedTo-kept p vars old new (record { 0 = k }) (get_or table k None) h (are k within)
+
+pub AreMoved-push : (p : Shared) (vars : List Var) (old new : Links) (table : List (Option MonoId)) (o : Option MonoId) (id : MonoId) → Keeps old new → AreMoved p vars old table
+    → id.0 ≡ length table → IsMovedTo p vars new id o → AreMoved p vars new (table ++ o ∷ [])
+AreMoved-push p vars old new table o id h are e is =
+    each_push (λ k x. IsMovedTo p vars new (record { 0 = k }) x) table o None (AreMoved-kept p vars old new table h are) (subst (λ (k : ℕ). IsMovedTo p vars new (record { 0 = k }) o) e is)
+
+-- what the table tells of a term
+module _ (p : Shared) (vars : List Var) (links : Links) (table : List (Option MonoId)) (i : ℕ) (within : i < length p.list.now) (parts : AreParts p)
+    (are : AreMoved p vars links table) (whole : length table ≡ count p.monos.now) where
+  entry_is : (o : Option MonoId) → get_or table (item p.list.now i).0.0 None ≡ o → IsMovedTo p vars links (item p.list.now i).0 o
+  entry_is o e =
+      let index = index_at p i within parts in
+      subst (IsMovedTo p vars links (item p.list.now i).0) e (are (item p.list.now i).0.0 (omega (arith, index.within, whole)))
+
+  pub entry_same : (new : MonoId) → get_or table (item p.list.now i).0.0 None ≡ Some new → IsSame p vars links (item p.list.now i).0 new
+  entry_same new e = entry_is (Some new) e
+
+  pub entry_there : AllVariables (Contains vars) (told p) → get_or table (item p.list.now i).0.0 None ≡ None → ⊥
+  entry_there known e =
+      entry_is None e (index_at p i within parts)
+      (AllKeys-at (λ (m : Powers). AllKeys (Contains vars) m) (told p) i (told_term p (item p.list.now i)) (told-within p i within) (told-is p i within) known)
+
+-- the table of the monomial with no variable
+pub first_moved : (p : Shared) (vars : List Var) (links : Links) (table : List (Option MonoId)) (new : MonoId) → table ≡ [] → new.0 ≡ 0 → AreMoved p vars links (table ++ Some new ∷ [])
+first_moved p vars links table new e f =
+    subst (λ (xs : List (Option MonoId)). AreMoved p vars links (xs ++ Some new ∷ [])) (sym e)
+    (each_push (λ k x. IsMovedTo p vars links (record { 0 = k }) x) [] (Some new) None (λ k none. absurd (omega (arith, none))) (one_is_moved p vars links (record { 0 = 0 }) new refl f))

@@ -1,0 +1,84 @@
+use Rattle.std.proofs.Common.{◌≡◌, ℕ, ◌+◌, ◌-◌, ◌<◌, ◌≤◌, None, List, ◌∷◌, ◌∙◌, drop, length, slice_index_or, sym, ap, ap₂, subst, arith}
+use Rattle.std.specs.Prelude.{Contains}
+use Rattle.std.specs.List.Sorted.{IsStrictlySortedBy}
+use Rattle.sparse_lists.proofs.Sums.{AllKeys-at}
+use Rattle.sparse_lists.proofs.Merging.{drop_at, get_or_any}
+use Rattle.mono_store.specs.Monomials.{Powers as NumberedPowers}
+use Rattle.mono_store.specs.Stores.{monomial_of}
+use Rattle.mono_store.proofs.Interning.{Keeps_trans}
+use Rattle.mono_store.proofs.Products.{IsPowerBefore}
+use Rattle.geo_poly.specs.declared.replacement.Row.{Row}
+use Rattle.geo_poly.specs.declared.variables.Var.{Var}
+use Rattle.geo_poly.specs.declared.variables.Var.TheVariants.{R}
+use Rattle.geo_poly.specs.Monomials.{Powers, IsMonomial}
+use Rattle.geo_poly.specs.Replace.{others, row_of}
+use Rattle.geo_poly.specs.Shared.{AllPlaces, named, var_at}
+use Rattle.geo_poly.specs.Variables.{var_cmp}
+use Rattle.geo_poly.proofs.Naming.{IsMonomial-drop, IsPowerBefore-named}
+use Rattle.geo_poly.proofs.ReplaceTerms.{IsMonomial-others, others-none}
+use Rattle.geo_poly.proofs.chained_replacement.stored_others.Goals as goal
+
+abbrev none : Var × ℕ
+none = (R (record { 0 = 0 }) (record { 0 = 0 }) (record { 0 = 0 }) (record { 0 = 0 }), 0)
+
+next : (powers : Powers) (i : ℕ) → 0 < i → i ≤ length powers → drop (i - 1) powers ≡ slice_index_or powers (i - 1) none ∷ drop i powers
+next powers i positive within =
+    let x = slice_index_or powers (i - 1) none in
+    let below : i - 1 < length powers = omega arith in
+    let one_more : i - 1 + 1 ≡ i = omega arith in
+    drop_at powers (i - 1) x below (get_or_any powers (i - 1) none x below) ∙ ap (λ k. x ∷ drop k powers) one_more
+
+stays : (rows : List Row) (powers : Powers) (i : ℕ) → 0 < i → i ≤ length powers → row_of rows (slice_index_or powers (i - 1) none).0 ≡ None
+    → others rows (drop (i - 1) powers) ≡ slice_index_or powers (i - 1) none ∷ others rows (drop i powers)
+stays rows powers i positive within e =
+    ap (others rows) (next powers i positive within) ∙ others-none rows (slice_index_or powers (i - 1) none) (drop i powers) e
+
+fits : (vars : List Var) (rows : List Row) (powers : Powers) (m : NumberedPowers) (i k : ℕ) → IsStrictlySortedBy var_cmp vars → 0 < i → i ≤ length powers → IsMonomial powers
+    → row_of rows (slice_index_or powers (i - 1) none).0 ≡ None → named vars m ≡ others rows (drop i powers) → AllPlaces (length vars) m → k < length vars
+    → var_at vars k ≡ (slice_index_or powers (i - 1) none).0 → IsPowerBefore k (slice_index_or powers (i - 1) none).1 m
+fits vars rows powers m i k rising positive within h e is places k_in k_is =
+    let x = slice_index_or powers (i - 1) none in
+    let whole : others rows (drop (i - 1) powers) ≡ (var_at vars k, x.1) ∷ named vars m =
+    stays rows powers i positive within e ∙ ap₂ (λ (v : Var) (rest : Powers). (v, x.1) ∷ rest) (sym k_is) (sym is) in
+    IsPowerBefore-named vars rising k x.1 m k_in places (subst IsMonomial whole (IsMonomial-others rows (drop (i - 1) powers) (IsMonomial-drop (i - 1) powers h)))
+
+pub place_of-requires-clause-known : goal.place_of-requires-clause-known
+place_of-requires-clause-known c =
+    let powers = c.args.powers.now in
+    let i = c.loop-i.i - 1 in
+    let below : c.loop-i.i - 1 < length c.args.powers.now = omega (arith, c.loop-i.invariant.left, c.loop-i-test.true) in
+    AllKeys-at (Contains c.args.vars.now) powers i (slice_index_or powers i none) below (get_or_any powers i none (slice_index_or powers i none) below) c.requires.known
+
+before : (c : goal.After-place_of) → IsPowerBefore c.place_of.result (slice_index_or c.args.powers.now (c.loop-i.i - 1) none).1 (monomial_of c.loop-i.store c.loop-i.id)
+before c =
+    fits c.args.vars.now c.args.rows.now c.args.powers.now (monomial_of c.loop-i.store c.loop-i.id) c.loop-i.i c.place_of.result c.requires.rising c.loop-i-test.true c.loop-i.invariant.left c.requires.monomial
+    (sym c.in-None.ensures) c.loop-i.invariant.powers c.loop-i.invariant.index.places c.place_of.ensures.within c.place_of.ensures.variable
+
+pub mono-requires-clause-exponent : goal.mono-requires-clause-exponent
+mono-requires-clause-exponent c = (before c).exponent
+
+pub mono-requires-clause-first : goal.mono-requires-clause-first
+mono-requires-clause-first c = (before c).first
+
+pub mono-requires-clause-degree : goal.mono-requires-clause-degree
+mono-requires-clause-degree c = (before c).degree
+
+pub loop-i-preserved : goal.loop-i-preserved
+loop-i-preserved c =
+    let vars = c.args.vars.now in
+    let rows = c.args.rows.now in
+    let powers = c.args.powers.now in
+    let x = slice_index_or powers (c.loop-i.i - 1) none in
+    let made = c.in_ok-id-in-None.ensures in
+    record {
+      kept = Keeps_trans c.loop-i.invariant.kept made.kept;
+      index = record {
+        within = made.index;
+        places = subst (AllPlaces (length vars)) (sym made.monomial) (c.place_of.ensures.within, c.loop-i.invariant.index.places);
+      };
+      left = omega (arith, c.loop-i.invariant.left);
+      powers =
+          ap (named vars) made.monomial
+          ∙ ap₂ (λ (v : Var) (rest : Powers). (v, x.1) ∷ rest) c.place_of.ensures.variable c.loop-i.invariant.powers
+          ∙ sym (stays rows powers c.loop-i.i c.loop-i-test.true c.loop-i.invariant.left (sym c.in-None.ensures));
+    }

@@ -1,0 +1,10 @@
+use Rattle.std.proofs.Common.{◌≡◌, take}
+use Rattle.sparse_lists.specs.SparseLists.{AllKeys}
+use Rattle.geo_poly.specs.Shared.{IsIndex, terms_of, told}
+use Rattle.geo_poly.proofs.moving.looked_up.Given as goal
+
+abbrev pub invariant-loop-id : goal.invariant-loop-id
+invariant-loop-id l = record {
+  indices : AllKeys (IsIndex l.vars l.store) l.list.items;
+  terms : terms_of l.vars l.store l.list.items ≡ take l.id-index (told l.p);
+}

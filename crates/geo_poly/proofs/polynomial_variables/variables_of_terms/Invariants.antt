@@ -1,0 +1,6 @@
+use Rattle.std.proofs.Common.{◌≡◌, take}
+use Rattle.geo_poly.specs.PolynomialVariables.{variables_of}
+use Rattle.geo_poly.proofs.polynomial_variables.variables_of_terms.Given as goal
+
+abbrev pub invariant-loop-monomial : goal.invariant-loop-monomial
+invariant-loop-monomial l = l.variables.keys ≡ variables_of (take l.monomial-index l.terms)

@@ -1,0 +1,17 @@
+use Rattle.std.proofs.Common.{sym, subst}
+use Rattle.geo_poly.specs.Polynomials.{IsPolynomial}
+use Rattle.geo_poly.proofs.ProductLaws.{IsPolynomial-product_of}
+use Rattle.geo_poly.proofs.Unions.{AllVariables-longer}
+use Rattle.geo_poly.proofs.polynomials.Poly.product.Goals as goal
+
+pub chained_product-requires-clause-left : goal.chained_product-requires-clause-left
+chained_product-requires-clause-left c =
+    AllVariables-longer c.vars.result.now c.in_ok-vars.vars c.args.self.now c.in_ok-vars.ensures.left c.vars.ensures.known
+
+pub chained_product-requires-clause-right : goal.chained_product-requires-clause-right
+chained_product-requires-clause-right c =
+    AllVariables-longer c.vars-2.result.now c.in_ok-vars.vars c.args.other.now c.in_ok-vars.ensures.right c.vars-2.ensures.known
+
+pub from_chain-requires-clause-polynomial : goal.from_chain-requires-clause-polynomial
+from_chain-requires-clause-polynomial c =
+    subst IsPolynomial (sym c.in_ok-chain.ensures.chain.terms) (IsPolynomial-product_of c.args.self.now c.args.other.now c.requires.norm_fits c.requires.degree_fits)

@@ -1,5 +1,0 @@
-use Rattle.std.proofs.Common.{length}
-use Rattle.geo_poly.proofs.products.+product_by_halves.Given as goal
-
-abbrev pub decreases-product_by_halves : goal.decreases-product_by_halves
-decreases-product_by_halves l = length l.left.now

@@ -1,0 +1,14 @@
+use Rattle.std.proofs.Common.{◌≡◌, ◌+◌, ◌≤◌}
+use Rattle.geo_poly.specs.Replace.{denominators}
+use Rattle.geo_poly.specs.Shared.{IsIndexOf, told_powers}
+use Rattle.geo_poly.proofs.replacement_bounds.denominators_at.Given as goal
+
+abbrev pub invariant-loop-v : goal.invariant-loop-v
+invariant-loop-v l = record {
+  index : IsIndexOf l.p l.rest;
+  so_far : l.denominators + denominators l.rows (told_powers l.p l.rest) ≡ denominators l.rows (told_powers l.p l.fn.id);
+  small : denominators l.rows (told_powers l.p l.fn.id) ≤ 131070;
+}
+
+abbrev pub decreases-loop-v : goal.decreases-loop-v
+decreases-loop-v l = l.rest.0

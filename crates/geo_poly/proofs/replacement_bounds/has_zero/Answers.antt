@@ -1,0 +1,20 @@
+use Rattle.std.proofs.Common.{◌≡◌, [], sym, subst}
+use Rattle.geo_poly.specs.Monomials.{Powers}
+use Rattle.geo_poly.specs.Shared.{told_powers}
+use Rattle.geo_poly.proofs.ZeroFactors.{Seen, zero_denominator, zero_numerator}
+use Rattle.geo_poly.proofs.replacement_bounds.has_zero.Goals as goal
+
+pub returns-then-is_zero-clause-zero : goal.returns-then-is_zero-clause-zero
+returns-then-is_zero-clause-zero c =
+    let rows = c.args.rows.now in
+    let m = told_powers c.args.p.now c.args.id in
+    let left = told_powers c.args.p.now c.in-Some.next in
+    let none : c.in-Some-find_row.row.now.num.poly ≡ [] = c.is_zero.ensures.0 c.if-is_zero.true in
+    let seen = subst (λ (left : Powers). Seen rows c.args.top m left c.loop-v.missing) c.in-Some.ensures.power c.loop-v.invariant.seen in
+    λ _. zero_numerator rows c.args.den.now.poly c.args.top m (c.in-Some.v, c.in-Some.e) left c.loop-v.missing c.in-Some-find_row.row.now (sym c.in-Some-find_row.ensures) none seen
+
+pub returns-then-missing-gt0-clause-zero : goal.returns-then-missing-gt0-clause-zero
+returns-then-missing-gt0-clause-zero c =
+    let m = told_powers c.args.p.now c.args.id in
+    let left = told_powers c.args.p.now c.loop-v.rest in
+    λ is. zero_denominator c.args.rows.now c.args.den.now.poly c.args.top m left c.loop-v.missing c.in_default.ensures.none (c.is_zero-then-missing-gt0.ensures.0 is) c.if-missing-gt0.true c.loop-v.invariant.seen

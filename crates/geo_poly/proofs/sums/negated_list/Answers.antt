@@ -1,0 +1,33 @@
+use Rattle.std.proofs.Common.{ℤ, [], ◌∷◌, ◌++◌, refl, sym, ap, ap₂, ◌∙◌}
+use Rattle.sparse_lists.proofs.Sums.{AllKeys-append}
+use Rattle.geo_poly.specs.Polynomials.{Summands}
+use Rattle.geo_poly.specs.Shared.{IsIndex, powers_at, term_of, terms_of}
+use Rattle.geo_poly.proofs.IndexSums.{list_fits, list_index, list_is, list_small, list_within, negated-more, negation_fits, terms-append}
+use Rattle.geo_poly.proofs.SignedContent.{negated_number}
+use Rattle.geo_poly.proofs.Told.{item}
+use Rattle.geo_poly.proofs.sums.negated_list.Goals as goal
+
+pub overflow_sub-coefficient : goal.overflow_sub-coefficient
+overflow_sub-coefficient c =
+    let vars = c.args.vars.now in
+    let links = c.args.store.now in
+    let list = c.args.list.now in
+    let i = c.loop-id.id-index in
+    negation_fits (item list i).1 (list_fits vars links list i c.loop-id-test.true c.requires.fits) (list_small vars links list i c.loop-id-test.true c.requires.fits)
+
+pub loop-id-preserved : goal.loop-id-preserved
+loop-id-preserved c =
+    let vars = c.args.vars.now in
+    let links = c.args.store.now in
+    let list = c.args.list.now in
+    let i = c.loop-id.id-index in
+    let done = c.loop-id.opposite.items in
+    let id = (item list i).0 in
+    let opposite = negated_number (item list i).1 _ (list_fits vars links list i c.loop-id-test.true c.requires.fits) (list_small vars links list i c.loop-id-test.true c.requires.fits) refl in
+    record {
+      indices = rw c.in_ok-push.ensures.items (AllKeys-append (IsIndex vars links) done _ c.loop-id.invariant.indices (list_index vars links list i c.loop-id-test.true c.requires.indices, tt));
+      terms = ap (terms_of vars links) c.in_ok-push.ensures.items
+          ∙ terms-append vars links done _
+          ∙ ap₂ (λ (ts : Summands) (z : ℤ). ts ++ (powers_at vars links id, z) ∷ []) c.loop-id.invariant.terms opposite
+          ∙ sym (negated-more (terms_of vars links list) i (term_of vars links (item list i)) (list_within vars links list i c.loop-id-test.true) (list_is vars links list i c.loop-id-test.true));
+    }

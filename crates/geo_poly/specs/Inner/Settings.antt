@@ -1,0 +1,45 @@
+-- What a replacement by chains is made with, and what its steps do to the chains.
+use Rattle.std.specs.Prelude.{◌≡◌, ◌≢◌, ℕ, None, List, [], ◌∷◌}
+use Rattle.std.specs.List.Sorted.{IsStrictlySortedBy}
+use Rattle.sparse_lists.specs.SparseLists.{AllKeys}
+use Rattle.mono_store.specs.Stores.{Links}
+use Rattle.poly_arena.specs.Chains.{Chains, list_of}
+use Rattle.geo_poly.specs.declared.replacement.Row.{Row}
+use Rattle.geo_poly.specs.declared.settings.Setting.{Setting}
+use Rattle.geo_poly.specs.declared.shared.Shared.{Shared}
+use Rattle.geo_poly.specs.declared.variables.Var.{Var}
+use Rattle.geo_poly.specs.Polynomials.{IsPolynomial, Summands}
+use Rattle.geo_poly.specs.Replace.{AllBounded, IsBounded}
+use Rattle.geo_poly.specs.Shared.{Indices, IsIndex, terms_of}
+use Rattle.geo_poly.specs.Variables.{var_cmp}
+
+-- the terms that some indices of a polynomial's store stand for
+abbrev pub told_list : Shared → Indices → Summands
+told_list p list = terms_of p.vars.now p.monos.now list
+
+-- the list of indices stands for the polynomial
+pub record IsStoredAs (vars : List Var) (links : Links) (list : Indices) (p : Summands) : Type 0 where
+  pub indices : AllKeys (IsIndex vars links) list
+  pub terms : terms_of vars links list ≡ p
+  pub polynomial : IsPolynomial p
+
+-- each list stands for the numerator of its row
+abbrev pub AreStored : List Var → Links → List Row → List Indices → Type 0
+AreStored vars links [] [] = Unit {0}
+AreStored vars links [] (list ∷ lists) = ⊥
+AreStored vars links (row ∷ rows) [] = ⊥
+AreStored vars links (row ∷ rows) (list ∷ lists) = IsStoredAs vars links list row.num.poly × AreStored vars links rows lists
+
+-- the pieces keep their bounds, and their lists stand for them
+pub record IsSet (setting : Setting) (links : Links) : Type 0 where
+  pub rising : IsStrictlySortedBy var_cmp setting.vars.now
+  pub rows_bounded : AllBounded setting.rows.now
+  pub den_bounded : IsBounded setting.den.piece.now
+  pub rows_stored : AreStored setting.vars.now links setting.rows.now setting.nums.now
+  pub den_stored : IsStoredAs setting.vars.now links setting.den.list.now setting.den.piece.now.poly
+
+-- one chain is spent and another one made, which may have its number; all others have what they had
+pub record Swaps (old new : Chains) (gone made : ℕ) : Type 0 where
+  pub others : (n : ℕ) → n ≢ gone → n ≢ made → list_of new n ≡ list_of old n
+  pub spent : gone ≢ made → list_of new gone ≡ None
+  pub unused : made ≢ gone → list_of old made ≡ None

@@ -1,0 +1,10 @@
+-- Monomials of a store that were visited.
+use Rattle.std.specs.Prelude.{◌≡◌, ℕ, Bool, true, false, List, Contains, slice_index_or}
+use Rattle.sparse_lists.specs.SparseLists.{AllKeys}
+use Rattle.geo_poly.specs.declared.shared.Shared.{Shared}
+use Rattle.geo_poly.specs.declared.variables.Var.{Var}
+use Rattle.geo_poly.specs.Shared.{told_powers}
+
+-- the variables of each monomial that is marked are among these
+abbrev pub AreVisited : Shared → List Bool → List Var → Type 0
+AreVisited p visited keys = (k : ℕ) → slice_index_or visited k false ≡ true → AllKeys (Contains keys) (told_powers p (record { 0 = k }))

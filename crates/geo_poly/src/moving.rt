@@ -1,0 +1,164 @@
+//! The monomials of a polynomial put into another store, whose variables have other numbers.
+
+ghost use Rattle.std.specs.Prelude.{◌≡◌, ◌<◌, ◌≤◌, Contains, None, IfOk, length, slice_index_or};
+ghost use Rattle.std.specs.List.Sorted.{IsStrictlySortedBy};
+ghost use Rattle.sparse_lists.specs.SparseLists.{AllKeys};
+ghost use Rattle.mono_store.specs.Stores.{Keeps, count};
+ghost use Rattle.geo_poly.specs.PolynomialVariables.{AllVariables};
+ghost use Rattle.geo_poly.specs.Shared.{AreParts, IsIndex, terms_of, told};
+ghost use Rattle.geo_poly.specs.Variables.{var_cmp};
+ghost use Rattle.geo_poly.specs.Inner.Moved.{AreMoved, ArePlaces, IsMovedTo, IsPlaceOf};
+
+use crate::shared::{Indexed, Shared};
+use crate::variables::Var;
+use geo_points::NoMemory;
+use mono_store::{MonoId, Monos};
+use std::alloc::Global;
+
+/// The indices of the monomials in another store, with their coefficients. Each link is looked at
+/// once.
+pub(crate) fn moved(
+    alloc: Global,
+    store: &mut Monos,
+    vars: &[Var],
+    p: &Shared,
+) -> Result<Vec<Indexed>, NoMemory>
+    requires rising { IsStrictlySortedBy var_cmp vars.now }
+    requires parts { AreParts p.now }
+    requires known { AllVariables (Contains vars.now) (told p.now) }
+    ensures indices { IfOk result (λ list. AllKeys (IsIndex vars.now store.new) list.items) }
+    ensures terms { IfOk result (λ list. terms_of vars.now store.new list.items ≡ told p.now) }
+    ensures kept { Keeps store.old store.new }
+{
+    let table = moved_monomials(alloc, store, vars, p)?;
+    looked_up(alloc, vars, store, p, &table)
+}
+
+/// The list with the indices that the table tells.
+fn looked_up(
+    alloc: Global,
+    vars: &[Var],
+    store: &Monos,
+    p: &Shared,
+    table: &[Option<MonoId>],
+) -> Result<Vec<Indexed>, NoMemory>
+    requires parts { AreParts p.now }
+    requires known { AllVariables (Contains vars.now) (told p.now) }
+    requires table { AreMoved p.now vars.now store.now table.now }
+    requires whole { length table.now ≡ count p.now.monos.now }
+    ensures indices { IfOk result (λ list. AllKeys (IsIndex vars.now store.now) list.items) }
+    ensures terms { IfOk result (λ list. terms_of vars.now store.now list.items ≡ told p.now) }
+{
+    let _ = vars;
+    let _ = store;
+    let mut list = Vec::with_capacity(alloc, p.list.len())?;
+    for (id, coefficient) in p.list {
+        match new_index(table, *id) {
+            Some(new) => list.push((new, *coefficient))?,
+            None => unreachable!(),
+        }
+    }
+    Ok(list)
+}
+
+/// The index in another store of each monomial, in the order of the indices, where its variables
+/// stand in the list.
+fn moved_monomials(
+    alloc: Global,
+    store: &mut Monos,
+    vars: &[Var],
+    p: &Shared,
+) -> Result<Vec<Option<MonoId>>, NoMemory>
+    requires rising { IsStrictlySortedBy var_cmp vars.now }
+    requires parts { AreParts p.now }
+    ensures moved { IfOk result (λ table. AreMoved p.now vars.now store.new table.items) }
+    ensures whole { IfOk result (λ table. length table.items ≡ count p.now.monos.now) }
+    ensures kept { Keeps store.old store.new }
+{
+    let places = places_in(alloc, p.vars, vars)?;
+    let n = p.monos.links();
+    let mut table = Vec::new(alloc);
+    table.push(Some(store.one()))?;
+    for k in 0..n {
+        let new = moved_monomial(store, vars, p, &places, &table, MonoId(k + 1))?;
+        table.push(new)?;
+    }
+    Ok(table)
+}
+
+/// The index in another store of a monomial, where those before it have theirs.
+fn moved_monomial(
+    store: &mut Monos,
+    vars: &[Var],
+    p: &Shared,
+    places: &[Option<u64>],
+    table: &[Option<MonoId>],
+    id: MonoId,
+) -> Result<Option<MonoId>, NoMemory>
+    requires rising { IsStrictlySortedBy var_cmp vars.now }
+    requires parts { AreParts p.now }
+    requires places { ArePlaces p.now.vars.now vars.now places.now }
+    requires table { AreMoved p.now vars.now store.old table.now }
+    requires index { id.0 < count p.now.monos.now }
+    requires reached { id.0 ≤ length table.now }
+    ensures moved { IfOk result (IsMovedTo p.now vars.now store.new id) }
+    ensures kept { Keeps store.old store.new }
+{
+    // every store says of itself that it is one
+    let _one = p.monos.one();
+    let link = match p.monos.link(id) {
+        Some(link) => link,
+        None => return Ok(Some(store.one())),
+    };
+    let place = match place_at(places, link.var) {
+        Some(place) => place,
+        None => return Ok(None),
+    };
+    match new_index(table, link.next) {
+        Some(next) => Ok(Some(store.mono(place, link.exp, next)?)),
+        None => Ok(None),
+    }
+}
+
+/// The new index of a monomial, where it has one.
+fn new_index(table: &[Option<MonoId>], id: MonoId) -> Option<MonoId>
+    ensures { result ≡ slice_index_or table.now id.0 None }
+{
+    match table.get(id.0 as usize) {
+        Some(new) => *new,
+        None => None,
+    }
+}
+
+/// The place that a number has, where it has one.
+fn place_at(places: &[Option<u64>], number: u64) -> Option<u64>
+    ensures { result ≡ slice_index_or places.now number None }
+{
+    match places.get(number as usize) {
+        Some(place) => *place,
+        None => None,
+    }
+}
+
+/// The place of each of the old variables among the others, where it stands there.
+fn places_in(alloc: Global, former: &[Var], vars: &[Var]) -> Result<Vec<Option<u64>>, NoMemory>
+    requires { IsStrictlySortedBy var_cmp vars.now }
+    ensures { IfOk result (λ places. ArePlaces former.now vars.now places.items) }
+{
+    let mut places = Vec::with_capacity(alloc, former.len())?;
+    for v in former {
+        places.push(find_place(vars, *v))?;
+    }
+    Ok(places)
+}
+
+/// The place of a variable in the list, where it stands there.
+pub(crate) fn find_place(vars: &[Var], v: Var) -> Option<u64>
+    requires { IsStrictlySortedBy var_cmp vars.now }
+    ensures { IsPlaceOf vars.now v result }
+{
+    match vars.binary_search(&v) {
+        Ok(place) => Some(place as u64),
+        Err(_) => None,
+    }
+}

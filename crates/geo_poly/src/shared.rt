@@ -1,0 +1,20 @@
+//! What a polynomial is made of.
+
+use crate::variables::Var;
+use mono_store::{MonoId, Monos};
+
+/// The index of a monomial in a store, and its coefficient.
+pub(crate) type Indexed = (MonoId, i128);
+
+/// What a polynomial is made of. One call tells all of it, since contracts see a polynomial as its
+/// terms alone.
+#[derive(Clone, Copy)]
+pub struct Shared<'a> {
+    /// The variables in order, in which every variable that occurs stands. The number of a variable
+    /// is its place.
+    pub vars: &'a [Var],
+    /// The store of the monomials.
+    pub monos: &'a Monos,
+    /// The index of each monomial with its coefficient, in the order of the polynomial.
+    pub list: &'a [(MonoId, i128)],
+}
