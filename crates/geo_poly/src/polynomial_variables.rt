@@ -77,7 +77,7 @@ fn insert_powers(
 }
 
 /// Marks a place. Whether it was marked before.
-fn mark(visited: &mut Vec<bool>, place: usize) -> bool
+pub(crate) fn mark(visited: &mut Vec<bool>, place: usize) -> bool
     ensures before { result ≡ slice_index_or visited.old.items place false }
     ensures others { (k : ℕ) → k ≢ place
         → slice_index_or visited.new.items k false ≡ slice_index_or visited.old.items k false }

@@ -174,7 +174,7 @@ impl Poly {
             + replacement_products rows.now den.now self.now }
     {
         let vars = self.replacement_vars(alloc, rows.rows(), den)?;
-        let mut store = Monos::new(alloc);
+        let mut store = Monos::with_capacity(alloc, self.monos().links())?;
         let mut arena = Arena::new(alloc)?;
         let chain = self.chained_replacement(
             alloc, rows, den, top, &vars, &mut store, &mut arena, ticks,
