@@ -1,9 +1,7 @@
 -- What a loop over the variables of a term knows of the term's share in a line.
 use Rattle.std.proofs.Common.{◌≡◌, ℕ, zero, suc, ◌+◌, ◌*◌, ◌-◌, ◌^◌, ◌<◌, ◌≤◌, min, pos, length, drop, Option, Some, None, List, [], ◌∷◌, refl, sym, ap, ◌∙◌, arith}
-use Rattle.std.specs.Prelude.{slice_get}
 use Rattle.std.proofs.lemmas.List.{drop_more}
 use Rattle.std.proofs.lemmas.List.Sums.{sum_by-cons}
-use Rattle.std.proofs.lemmas.Option.{slice_get_within, get_or_from_slice_get}
 use Rattle.sparse_lists.specs.SparseLists.{AllKeys}
 use Rattle.geo_poly.specs.declared.replacement.Row.{Row}
 use Rattle.geo_poly.specs.declared.variables.Var.{Var}
@@ -151,9 +149,6 @@ monomial_at (t ∷ ts) (suc i) h lt = monomial_at ts i h.1 (omega arith)
 
 pub term_shown : (q : Summands) (i : ℕ) → i < length q → drop i q ≡ term_at q i ∷ drop (i + 1) q
 term_shown q i lt = drop_more q i ([], pos 0) lt
-
-pub power_shown : {A : Type 0} (m : List A) (j : ℕ) (p : A) → slice_get m j ≡ Some p → drop j m ≡ p ∷ drop (j + 1) m
-power_shown m j p e = drop_more m j p (slice_get_within m j p e) ∙ ap (λ x. x ∷ drop (j + 1) m) (get_or_from_slice_get m j p p e)
 
 pub denominators_at : (rows : List Row) (q : Summands) (i : ℕ) → i < length q → denominators rows (term_at q i).0 ≤ most_denominators rows q
 denominators_at rows [] i lt = absurd (omega arith)

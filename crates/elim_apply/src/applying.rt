@@ -106,7 +106,7 @@ fn measured(
         return Ok(None);
     }
     // All rows of a move have one denominator and one charge.
-    let size = size_of_line(&rows, rows[0].numbers, p);
+    let size = size_of_line(alloc, &rows, rows[0].numbers, p)?;
     Ok(Some((rows, size)))
 }
 

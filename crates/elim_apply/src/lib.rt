@@ -3,6 +3,7 @@
 
 mod applying;
 mod errors;
+mod known_rows;
 pub mod laws;
 mod limits;
 mod numbered;

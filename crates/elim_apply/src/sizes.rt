@@ -1,39 +1,59 @@
 //! The charge, the weight and the degree of the line of a move, before anything is multiplied out.
 //! A number past `2^128 - 1` is given as `2^128 - 1`.
 
-ghost use Rattle.std.specs.Prelude.{◌≡◌, ◌+◌, ◌-◌, ◌*◌, ◌^◌, ◌<◌, ◌≤◌, length, min, sum_by};
-ghost use Rattle.std.specs.Prelude.{unsigned_abs};
-ghost use Rattle.std.specs.Option.{option_map};
+ghost use Rattle.std.specs.Prelude.{◌≡◌, ◌+◌, ◌-◌, ◌*◌, ◌^◌, ◌<◌, ◌≤◌, All, IfOk, length, min};
+ghost use Rattle.std.specs.Prelude.{sum_by, unsigned_abs};
 ghost use Rattle.geo_logs.specs.Moves.{move_charge};
-ghost use Rattle.elim_apply.specs.Inner.Sketches.{sketch, sketched, sketched_denominator, sketches};
+ghost use Rattle.elim_apply.specs.Inner.Sketches.{IsKnown, sketch, sketched_denominator, sketches};
 ghost use Rattle.elim_apply.specs.Inner.Sizes.{IsSizeOf};
 ghost use Rattle.geo_poly.specs.Counted.{count_rows, replaced_exponents};
 ghost use Rattle.geo_poly.specs.Monomials.{degree_of};
 ghost use Rattle.geo_poly.specs.Polynomials.{IsPolynomial, term_at};
 ghost use Rattle.geo_poly.specs.Replace.{AllPowersSmall, degree_rows, denominators};
 ghost use Rattle.geo_poly.specs.Replace.{most_denominators, others, replaced_degree};
-ghost use Rattle.geo_poly.specs.Replace.{replaced_weight, row_of, weight_rows};
+ghost use Rattle.geo_poly.specs.Replace.{replaced_weight, weight_rows};
 
+use crate::known_rows::{KnownRow, find_row, known_rows};
 use crate::limits::LineSize;
 use crate::numbered::NumberedRow;
 use fraction_poly::RowNumbers;
-use geo_poly::{Poly, Var};
+use geo_points::NoMemory;
+use geo_poly::Poly;
+use std::alloc::Global;
 
 /// The size of the line, where the rows replace their variables and the denominator has the numbers
 /// `den`.
-pub(crate) fn size_of_line(rows: &[NumberedRow], den: RowNumbers, poly: &Poly) -> LineSize
+pub(crate) fn size_of_line(
+    alloc: Global,
+    rows: &[NumberedRow],
+    den: RowNumbers,
+    poly: &Poly,
+) -> Result<LineSize, NoMemory>
     requires powers { AllPowersSmall (sketches rows.now) }
+    requires valid { IsPolynomial poly.now }
+    ensures { IfOk result (λ size. IsSizeOf size (move_charge (sketch rows.now den) poly.now)
+        (replaced_weight (sketches rows.now) (sketched_denominator den) poly.now)
+        (replaced_degree (sketches rows.now) (sketched_denominator den) poly.now)) }
+{
+    let known = known_rows(alloc, rows, poly.shared().vars)?;
+    Ok(size_by_terms(rows, &known, den, poly))
+}
+
+/// The size of the line, term by term.
+fn size_by_terms(rows: &[NumberedRow], known: &[KnownRow], den: RowNumbers, poly: &Poly) -> LineSize
+    requires powers { AllPowersSmall (sketches rows.now) }
+    requires known { All (IsKnown rows.now) known.now }
     requires valid { IsPolynomial poly.now }
     ensures { IsSizeOf result (move_charge (sketch rows.now den) poly.now)
         (replaced_weight (sketches rows.now) (sketched_denominator den) poly.now)
         (replaced_degree (sketches rows.now) (sketched_denominator den) poly.now) }
 {
-    let top = most_denominators(rows, poly);
+    let top = most_denominators(rows, known, poly);
     let mut charge = charge_of_rows(rows, den);
     let mut weight = 0u128;
     let mut degree = 0u128;
     for i in 0..poly.terms() {
-        let share = share_of(rows, poly, i);
+        let share = share_of(rows, known, poly, i);
         charge = charge.saturating_add(share.charge(den.kb, top));
         weight = weight.saturating_add(share.weight_over(den.wb, top));
         degree = degree.max(share.degree_over(den.gb, top));
@@ -59,14 +79,15 @@ fn charge_of_rows(rows: &[NumberedRow], den: RowNumbers) -> u128
 }
 
 /// The greatest number of denominators that a monomial calls for.
-fn most_denominators(rows: &[NumberedRow], poly: &Poly) -> u32
+fn most_denominators(rows: &[NumberedRow], known: &[KnownRow], poly: &Poly) -> u32
     requires powers { AllPowersSmall (sketches rows.now) }
+    requires known { All (IsKnown rows.now) known.now }
     requires valid { IsPolynomial poly.now }
     ensures { result ≡ most_denominators (sketches rows.now) poly.now }
 {
     let mut most = 0;
     for i in 0..poly.terms() {
-        most = most.max(share_of(rows, poly, i).denominators);
+        most = most.max(share_of(rows, known, poly, i).denominators);
     }
     most
 }
@@ -159,9 +180,10 @@ impl Share {
 }
 
 /// The share of the term at place i.
-fn share_of(rows: &[NumberedRow], poly: &Poly, i: u64) -> Share
+fn share_of(rows: &[NumberedRow], known: &[KnownRow], poly: &Poly, i: u64) -> Share
     requires term { i < length poly.now }
     requires powers { AllPowersSmall (sketches rows.now) }
+    requires known { All (IsKnown rows.now) known.now }
     requires valid { IsPolynomial poly.now }
     ensures exponents { result.exponents
         ≡ replaced_exponents (sketches rows.now) (term_at poly.now i).0 }
@@ -174,31 +196,22 @@ fn share_of(rows: &[NumberedRow], poly: &Poly, i: u64) -> Share
     ensures degree { result.degree ≡ min (degree_rows (sketches rows.now) (term_at poly.now i).0
         (degree_of (others (sketches rows.now) (term_at poly.now i).0))) (2 ^ 128 - 1) }
 {
+    let p = poly.shared();
+    let (id, coefficient) = p.term(i);
     let mut share = Share {
         exponents: 0,
         denominators: 0,
         count: 1,
-        weight: poly.coefficient(i).unsigned_abs(),
+        weight: coefficient.unsigned_abs(),
         degree: 0,
     };
-    for j in 0..poly.powers(i) {
-        let (v, e) = poly.power(i, j);
-        share = match find_row(rows, v) {
+    let mut rest = id;
+    while let Some((v, e, next, number)) = p.first_power(rest) {
+        share = match find_row(rows, known, v, number) {
             Some(row) => share.replacing(row.numbers, e),
             None => share.keeping(e),
         };
+        rest = next;
     }
     share
-}
-
-/// The first row of the variable.
-fn find_row(rows: &[NumberedRow], v: Var) -> Option<NumberedRow>
-    ensures { option_map sketched result ≡ row_of (sketches rows.now) v }
-{
-    for row in rows {
-        if row.var == v {
-            return Some(*row);
-        }
-    }
-    None
 }

@@ -1,6 +1,7 @@
 -- Variables that are inserted where they stand already, and a walk over a monomial that marks what it visits.
 use Rattle.std.proofs.Common.{◌≡◌, ℕ, zero, suc, ◌<◌, ◌≤◌, Bool, true, false, List, [], ◌∷◌, map, inl, inr, length, slice_index_or, refl, sym, ap, subst, ◌∙◌, arith}
-use Rattle.std.specs.Prelude.{◌≢◌, ◌⊎◌, Contains}
+use Rattle.std.specs.Prelude.{◌≢◌, ◌⊎◌, Contains, Some, slice_get}
+use Rattle.std.specs.Option.{option_map}
 use Rattle.std.specs.BTreeSet.{insert_key}
 use Rattle.std.specs.List.{fold}
 use Rattle.std.specs.List.Sorted.{IsStrictlySortedBy}
@@ -42,7 +43,7 @@ below_known x (y ∷ ys) v b c = elim (head_or y ys v c) [
 ]
 
 -- INSERTING WHAT IS THERE
-insert_known : (ks : List Var) (v : Var) → IsStrictlySortedBy var_cmp ks → Contains ks v → insert_key var_cmp ks v ≡ ks
+pub insert_known : (ks : List Var) (v : Var) → IsStrictlySortedBy var_cmp ks → Contains ks v → insert_key var_cmp ks v ≡ ks
 unfolding IsStrictlySortedBy
 insert_known [] v s c = absurd (omega (arith, c.1))
 insert_known (x ∷ xs) v s c = go (var_cmp v x) refl (λ d. insert_known xs v s.1 d)
@@ -62,12 +63,18 @@ pub fold_known : (ks : List Var) (m : Powers) → IsStrictlySortedBy var_cmp ks 
 fold_known ks [] s h = refl
 fold_known ks (p ∷ m) s h = ap (λ (js : List Var). with_names js m) (insert_known ks p.0 s h.0) ∙ fold_known ks m s h.1
 
+-- the variable at a place of a monomial whose variables stand there
+pub known_at : (ks : List Var) (m : Powers) (i : ℕ) (v : Var) → AllKeys (Contains ks) m → option_map (λ (p : Var × ℕ). p.0) (slice_get m i) ≡ Some v → Contains ks v
+known_at ks [] i v h e = absurd (cc)
+known_at ks (p ∷ m) zero v h e = let same : p.0 ≡ v = cc in subst (λ (w : Var). Contains ks w) same h.0
+known_at ks (p ∷ m) (suc i) v h e = known_at ks m i v h.1 e
+
 -- A WALK
-longer : (ks js : List Var) (m : Powers) → ((v : Var) → Contains ks v → Contains js v) → AllKeys (Contains ks) m → AllKeys (Contains js) m
+pub longer : (ks js : List Var) (m : Powers) → ((v : Var) → Contains ks v → Contains js v) → AllKeys (Contains ks) m → AllKeys (Contains js) m
 longer ks js [] more h = tt
 longer ks js (p ∷ m) more h = (more p.0 h.0, longer ks js m more h.1)
 
-all_names : (ws : List Var) (m : Powers) → ((v : Var) → Contains (names m) v → Contains ws v) → AllKeys (Contains ws) m
+pub all_names : (ws : List Var) (m : Powers) → ((v : Var) → Contains (names m) v → Contains ws v) → AllKeys (Contains ws) m
 all_names ws [] each = tt
 all_names ws (p ∷ m) each = (each p.0 (0, omega arith, refl), all_names ws m (λ v c. each v (suc c.0, omega (arith, c.1), c.2)))
 

@@ -45,7 +45,7 @@ sorted-insert_key (w ∷ ws) v s = go (var_cmp v w) refl (sorted-insert_key ws v
     go Equal e rest = s
     go Greater e rest = (below-insert_key w ws v (var_order.flip_back v w e) s.0, rest)
 
-sorted-fold : (us vs : List Var) → IsStrictlySortedBy var_cmp us → IsStrictlySortedBy var_cmp (fold (insert_key var_cmp) us vs)
+pub sorted-fold : (us vs : List Var) → IsStrictlySortedBy var_cmp us → IsStrictlySortedBy var_cmp (fold (insert_key var_cmp) us vs)
 sorted-fold us [] s = s
 sorted-fold us (v ∷ vs) s = sorted-fold (insert_key var_cmp us v) vs (sorted-insert_key us v s)
 

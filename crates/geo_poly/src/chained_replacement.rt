@@ -23,7 +23,7 @@ ghost use Rattle.geo_poly.specs.Shared.{IsIndex, IsIndexOf, powers_at, terms_of}
 ghost use Rattle.geo_poly.specs.Variables.{var_cmp};
 
 use crate::chained::{product_chain, summed};
-use crate::interning::{indexed, place_of};
+use crate::interning::{indexed, number_at, place_near};
 use crate::moving::moved;
 use crate::polynomials::Poly;
 use crate::reading::read_powers;
@@ -181,12 +181,13 @@ fn list_at(lists: &[IndexList], i: usize) -> &[Indexed]
     lists[i].as_slice()
 }
 
-/// The index of the monomial of the variables with no row.
+/// The index of the monomial of the variables with no row. The numbers tell where to look first.
 fn stored_others(
     store: &mut Monos,
     vars: &[Var],
     rows: &RowTable,
     powers: &[(Var, u32)],
+    numbers: &[u64],
 ) -> Result<MonoId, NoMemory>
     requires rising { IsStrictlySortedBy var_cmp vars.now }
     requires monomial { IsMonomial powers.now }
@@ -201,9 +202,10 @@ fn stored_others(
     while i > 0 {
         i -= 1;
         let (v, exponent) = powers[i];
-        match rows.find_row(v) {
+        let number = number_at(numbers, i);
+        match rows.find_row(v, number) {
             Some(_) => {}
-            None => id = store.mono(place_of(vars, v), exponent, id)?,
+            None => id = store.mono(place_near(vars, v, number), exponent, id)?,
         }
     }
     Ok(id)
@@ -218,6 +220,7 @@ fn replaced_term_chain<L: Ledger>(
     arena: &mut Arena,
     rest: MonoId,
     powers: &[(Var, u32)],
+    numbers: &[u64],
     coefficient: i128,
     ticks: &mut Ticks<L>,
 ) -> Result<Chain, NoMemory>
@@ -246,15 +249,16 @@ fn replaced_term_chain<L: Ledger>(
     let vars = setting.vars;
     let mut product = one_term_chain(arena, rest.0, coefficient)?;
     let mut missing = setting.top;
-    for (v, e) in powers {
-        if let Some(i) = setting.rows.find_place(*v) {
+    for k in 0..powers.len() {
+        let (v, e) = powers[k];
+        if let Some(i) = setting.rows.find_place(v, number_at(numbers, k)) {
             let row = setting.rows.row(i);
-            missing -= row.power * *e;
+            missing -= row.power * e;
             let factor = StoredPiece {
                 piece: &row.num,
                 list: list_at(setting.nums, i),
             };
-            product = times_power_chain(alloc, store, arena, vars, product, &factor, *e, ticks)?;
+            product = times_power_chain(alloc, store, arena, vars, product, &factor, e, ticks)?;
         }
     }
     times_power_chain(
@@ -269,8 +273,8 @@ fn replaced_term_chain<L: Ledger>(
     )
 }
 
-/// The chain of the sum of what becomes of the terms, by halves. The list of powers is for reading
-/// one monomial after the other.
+/// The chain of the sum of what becomes of the terms, by halves. The lists of powers and of numbers
+/// are for reading one monomial after the other.
 pub(crate) fn replaced_chain<L: Ledger>(
     alloc: Global,
     setting: &Setting,
@@ -279,6 +283,7 @@ pub(crate) fn replaced_chain<L: Ledger>(
     p: &Shared,
     list: &[Indexed],
     powers: &mut Vec<(Var, u32)>,
+    numbers: &mut Vec<u64>,
     ticks: &mut Ticks<L>,
 ) -> Result<Chain, NoMemory>
     requires set { IsSet setting.now store.old }
@@ -301,15 +306,22 @@ pub(crate) fn replaced_chain<L: Ledger>(
             if has_zero(p, term.0, setting.rows, setting.den.piece, setting.top) {
                 return Ok(arena.chain()?);
             }
-            read_powers(p, term.0, powers)?;
+            read_powers(p, term.0, powers, numbers)?;
             let powers = powers.as_slice();
-            let rest = stored_others(store, setting.vars, setting.rows, powers)?;
-            replaced_term_chain(alloc, setting, store, arena, rest, powers, term.1, ticks)
+            let numbers = numbers.as_slice();
+            let rest = stored_others(store, setting.vars, setting.rows, powers, numbers)?;
+            replaced_term_chain(
+                alloc, setting, store, arena, rest, powers, numbers, term.1, ticks,
+            )
         }
         _ => {
             let (front, back) = list.split_at(list.len() / 2);
-            let sum = replaced_chain(alloc, setting, store, arena, p, front, powers, ticks)?;
-            match replaced_chain(alloc, setting, store, arena, p, back, powers, ticks) {
+            let sum = replaced_chain(
+                alloc, setting, store, arena, p, front, powers, numbers, ticks,
+            )?;
+            match replaced_chain(
+                alloc, setting, store, arena, p, back, powers, numbers, ticks,
+            ) {
                 Ok(rest) => Ok(summed(store, arena, setting.vars, sum, rest)),
                 Err(error) => {
                     arena.give_back(sum);

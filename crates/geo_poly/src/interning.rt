@@ -31,7 +31,7 @@ pub(crate) fn place_of(vars: &[Var], v: Var) -> u64
 }
 
 /// The place of a variable in the list. It is looked for first where it is supposed to stand.
-fn place_near(vars: &[Var], v: Var, guess: u64) -> u64
+pub(crate) fn place_near(vars: &[Var], v: Var, guess: u64) -> u64
     requires rising { IsStrictlySortedBy var_cmp vars.now }
     requires known { Contains vars.now v }
     ensures within { result < length vars.now }
@@ -44,7 +44,7 @@ fn place_near(vars: &[Var], v: Var, guess: u64) -> u64
 }
 
 /// The number at a place, and 0 past the end.
-fn number_at(numbers: &[u64], i: usize) -> u64 {
+pub(crate) fn number_at(numbers: &[u64], i: usize) -> u64 {
     match numbers.get(i) {
         Some(number) => *number,
         None => 0,

@@ -77,7 +77,7 @@ fn moved_monomials(
 {
     let places = places_in(alloc, p.vars, vars)?;
     let n = p.monos.links();
-    let mut table = Vec::new(alloc);
+    let mut table = Vec::with_capacity(alloc, (n as usize).saturating_add(1))?;
     table.push(Some(store.one()))?;
     for k in 0..n {
         let new = moved_monomial(store, vars, p, &places, &table, MonoId(k + 1))?;

@@ -1,10 +1,12 @@
 //! The variables of a polynomial.
 
 ghost use Rattle.std.specs.Prelude.{◌≡◌, ◌↔◌, ◌++◌, map, Contains, IfOk, IsTrue, OnOk};
-ghost use Rattle.std.specs.Prelude.{◌≢◌, ℕ, false, slice_index_or};
+ghost use Rattle.std.specs.Prelude.{◌≢◌, ℕ, Some, false, slice_get, slice_index_or};
+ghost use Rattle.std.specs.Option.{option_map};
 ghost use Rattle.std.specs.List.{fold};
 ghost use Rattle.std.specs.List.Sorted.{IsStrictlySortedBy};
 ghost use Rattle.std.specs.BTreeSet.{insert_key};
+ghost use Rattle.sparse_lists.specs.SparseLists.{AllKeys};
 ghost use Rattle.geo_poly.specs.declared.variables.Var.{Var};
 ghost use Rattle.geo_poly.specs.Inner.Visits.{AreVisited};
 ghost use Rattle.geo_poly.specs.Variables.{var_cmp};
@@ -75,7 +77,7 @@ fn insert_powers(
 }
 
 /// Marks a place. Whether it was marked before.
-fn mark(visited: &mut Vec<bool>, place: usize) -> bool
+pub(crate) fn mark(visited: &mut Vec<bool>, place: usize) -> bool
     ensures before { result ≡ slice_index_or visited.old.items place false }
     ensures others { (k : ℕ) → k ≢ place
         → slice_index_or visited.new.items k false ≡ slice_index_or visited.old.items k false }
@@ -95,22 +97,60 @@ pub(crate) fn variables_of_terms(alloc: Global, terms: &[Term]) -> Result<Vars, 
     ensures { IfOk result (λ vs. vs ≡ variables_of terms.now) }
 {
     let mut variables = BTreeSet::new(alloc);
+    let mut former: &[(Var, u32)] = &[];
     for (monomial, _) in terms {
-        insert_variables(&mut variables, monomial.powers())?;
+        let powers = monomial.powers();
+        insert_variables(&mut variables, former, powers)?;
+        former = powers;
     }
     let items = variables.into_iter().collect(alloc)?;
     Ok(Vars { items })
 }
 
-/// Inserts the variables of a monomial.
-fn insert_variables(variables: &mut BTreeSet<Var>, powers: &[(Var, u32)]) -> Result<(), NoMemory>
-    ensures { OnOk result (variables.new.keys
+/// Inserts the variables of a monomial, where those of the former monomial stand already.
+fn insert_variables(
+    variables: &mut BTreeSet<Var>,
+    former: &[(Var, u32)],
+    powers: &[(Var, u32)],
+) -> Result<(), NoMemory>
+    requires rising { IsStrictlySortedBy var_cmp variables.old.keys }
+    requires former { AllKeys (Contains variables.old.keys) former.now }
+    ensures keys { OnOk result (variables.new.keys
         ≡ fold (insert_key var_cmp) variables.old.keys (map (λ p. p.0) powers.now)) }
+    ensures known { OnOk result (AllKeys (Contains variables.new.keys) powers.now) }
 {
-    for (v, _) in powers {
-        variables.insert(*v)?;
+    for i in 0..powers.len() {
+        insert_unless(variables, former, i, powers[i].0)?;
     }
     Ok(())
+}
+
+/// Inserts a variable, unless the former monomial has it at the same place.
+fn insert_unless(
+    variables: &mut BTreeSet<Var>,
+    former: &[(Var, u32)],
+    i: usize,
+    v: Var,
+) -> Result<(), NoMemory>
+    requires rising { IsStrictlySortedBy var_cmp variables.old.keys }
+    requires former { AllKeys (Contains variables.old.keys) former.now }
+    ensures { OnOk result (variables.new.keys ≡ insert_key var_cmp variables.old.keys v) }
+{
+    if has_at(former, i, v) {
+        return Ok(());
+    }
+    variables.insert(v)?;
+    Ok(())
+}
+
+/// Whether the monomial has the variable at a place.
+fn has_at(powers: &[(Var, u32)], i: usize, v: Var) -> bool
+    ensures { IsTrue result → option_map (λ p. p.0) (slice_get powers.now i) ≡ Some v }
+{
+    match powers.get(i) {
+        Some((w, _)) => *w == v,
+        None => false,
+    }
 }
 
 /// The variables of both lists, in order and each once.

@@ -16,7 +16,7 @@ ghost use Rattle.std.specs.List.Sorted.{IsStrictlySortedBy};
 use crate::interning::{indexed, stored_terms};
 use crate::lists::Vars;
 use crate::monomials::Monomial;
-use crate::polynomial_variables::{variables_at, variables_of_terms};
+use crate::polynomial_variables::{mark, variables_of_terms};
 use crate::reading::{count_powers, is_same, norm_at, power_at, terms_at, total_degree_at};
 use crate::shared::{Indexed, Shared};
 use crate::terms::Term;
@@ -200,7 +200,7 @@ impl Poly {
         ensures { IfOk result (λ p. p ≡ terms.now) }
     {
         let vars = variables_of_terms(alloc, terms)?;
-        let mut monos = Monos::new(alloc);
+        let mut monos = Monos::with_capacity(alloc, terms.len() as u64)?;
         let list = stored_terms(alloc, &mut monos, vars.as_slice(), terms)?;
         Ok(Poly { vars, monos, list })
     }
@@ -311,12 +311,26 @@ fn is_sparse(monos: &Monos, monomials: usize) -> bool {
 }
 
 /// Whether most of the variables occur no more. Nothing rests on it but time.
-fn is_stale(alloc: Global, p: &Shared) -> Result<bool, NoMemory>
-    requires { AreParts p.now }
-{
+fn is_stale(alloc: Global, p: &Shared) -> Result<bool, NoMemory> {
     if p.vars.len() <= 16 {
         return Ok(false);
     }
-    let used = variables_at(alloc, p)?;
-    Ok(used.items.len() < p.vars.len() / 2)
+    Ok(used_numbers(alloc, p)? < p.vars.len() / 2)
+}
+
+/// How many of the variables some link of the store has.
+fn used_numbers(alloc: Global, p: &Shared) -> Result<usize, NoMemory> {
+    let mut used = Vec::new(alloc);
+    used.resize(p.vars.len(), false)?;
+    let mut count = 0usize;
+    // every store says of itself that it is one
+    let _one = p.monos.one();
+    for k in 0..p.monos.links() {
+        if let Some(link) = p.monos.link(MonoId(k + 1)) {
+            if !mark(&mut used, link.var as usize) {
+                count = count.saturating_add(1);
+            }
+        }
+    }
+    Ok(count)
 }

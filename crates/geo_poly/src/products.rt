@@ -96,7 +96,7 @@ impl Poly {
         ensures { IfOk result (λ p. p ≡ product_of self.now other.now) }
     {
         let vars = union(alloc, self.vars(), other.vars())?;
-        let mut store = Monos::new(alloc);
+        let mut store = Monos::with_capacity(alloc, product_room(self, other))?;
         let mut arena = Arena::new(alloc)?;
         let blank = Blank::new(1);
         let chain = self.chained_product::<Brand>(
@@ -134,4 +134,9 @@ impl Poly {
         let mut ticks = Ticks::<L>::new(blank);
         product_chain(store, arena, vars, &left, &right, &mut ticks)
     }
+}
+
+/// Room for the links of a product. Nothing rests on it but time.
+fn product_room(p: &Poly, q: &Poly) -> u64 {
+    p.terms().saturating_mul(q.terms()).min(65_536)
 }

@@ -3,7 +3,7 @@
 ghost use Rattle.std.specs.Prelude.{◌≡◌, ◌↔◌, ◌<◌, ◌≤◌, ◌^◌, ◌∷◌, [], length, slice_get};
 ghost use Rattle.std.specs.Prelude.{IfOk, IfSome, IfNone, IsTrue, OnOk};
 ghost use Rattle.geo_poly.specs.Monomials.{IsMonomial, degree_of, exponent};
-ghost use Rattle.geo_poly.specs.Polynomials.{norm_of, total_degree};
+ghost use Rattle.geo_poly.specs.Polynomials.{norm_of, term_at, total_degree};
 ghost use Rattle.geo_poly.specs.Shared.{AreParts, IsIndexOf, told, told_powers, told_term};
 
 use crate::monomials::Monomial;
@@ -14,6 +14,47 @@ use geo_points::NoMemory;
 use mono_store::MonoId;
 use std::alloc::Global;
 
+impl<'a> Shared<'a> {
+    /// The index of the monomial at place i, from 0, and its coefficient.
+    pub fn term(&self, i: u64) -> (MonoId, i128)
+        requires parts { AreParts self.now }
+        requires place { i < length (told self.now) }
+        ensures index { IsIndexOf self.now result.0 }
+        ensures term { told_term self.now result ≡ term_at (told self.now) i }
+    {
+        self.list[i as usize]
+    }
+
+    /// The first power of a monomial, the index of the rest, and the number of the variable, of
+    /// which nothing is promised.
+    pub fn first_power(&self, id: MonoId) -> Option<(Var, u32, MonoId, u64)>
+        requires { IsIndexOf self.now id }
+        ensures none { IfNone result (told_powers self.now id ≡ []) }
+        ensures power { IfSome result
+            (λ r. told_powers self.now id ≡ (r.0, r.1) ∷ told_powers self.now r.2) }
+        ensures index { IfSome result (λ r. IsIndexOf self.now r.2) }
+        ensures earlier { IfSome result (λ r. r.2.0 < id.0) }
+    {
+        numbered_power(self, id)
+    }
+}
+
+/// The first power of a monomial, the index of the rest, and the number of the variable, on which
+/// nothing rests but time.
+pub(crate) fn numbered_power(p: &Shared, id: MonoId) -> Option<(Var, u32, MonoId, u64)>
+    requires { IsIndexOf p.now id }
+    ensures none { IfNone result (told_powers p.now id ≡ []) }
+    ensures power { IfSome result
+        (λ r. told_powers p.now id ≡ (r.0, r.1) ∷ told_powers p.now r.2) }
+    ensures index { IfSome result (λ r. IsIndexOf p.now r.2) }
+    ensures earlier { IfSome result (λ r. r.2.0 < id.0) }
+{
+    match p.monos.link(id) {
+        Some(link) => Some((p.vars[link.var as usize], link.exp, link.next, link.var)),
+        None => None,
+    }
+}
+
 /// The first power of a monomial, and the index of the rest.
 pub(crate) fn first_power(p: &Shared, id: MonoId) -> Option<(Var, u32, MonoId)>
     requires { IsIndexOf p.now id }
@@ -23,8 +64,8 @@ pub(crate) fn first_power(p: &Shared, id: MonoId) -> Option<(Var, u32, MonoId)>
     ensures index { IfSome result (λ r. IsIndexOf p.now r.2) }
     ensures earlier { IfSome result (λ r. r.2.0 < id.0) }
 {
-    match p.monos.link(id) {
-        Some(link) => Some((p.vars[link.var as usize], link.exp, link.next)),
+    match numbered_power(p, id) {
+        Some((v, e, next, _)) => Some((v, e, next)),
         None => None,
     }
 }
@@ -44,19 +85,22 @@ pub(crate) fn monomial_at(alloc: Global, p: &Shared, id: MonoId) -> Result<Monom
     Ok(Monomial::from_powers(powers))
 }
 
-/// The powers of a monomial, in place of what the list had.
+/// The powers of a monomial, in place of what the list had, and the numbers of their variables.
 pub(crate) fn read_powers(
     p: &Shared,
     id: MonoId,
     powers: &mut Vec<(Var, u32)>,
+    numbers: &mut Vec<u64>,
 ) -> Result<(), NoMemory>
     requires { IsIndexOf p.now id }
     ensures { OnOk result (powers.new.items ≡ told_powers p.now id) }
 {
     powers.clear();
+    numbers.clear();
     let mut rest = id;
-    while let Some((v, e, next)) = first_power(p, rest) {
+    while let Some((v, e, next, number)) = numbered_power(p, rest) {
         powers.push((v, e))?;
+        numbers.push(number)?;
         rest = next;
     }
     Ok(())

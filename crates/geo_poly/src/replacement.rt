@@ -147,7 +147,7 @@ impl Poly {
         ensures memory { result ≢ Err PolyError.NoMemory }
     {
         let p = &self.shared();
-        let table = RowTable::new(alloc, rows);
+        let table = RowTable::new(alloc, rows, p.vars);
         let top = most_denominators_of(p, &table);
         if weight_of_terms(p, &table, den, top) > MAX as u128 {
             return Err(PolyError::TooLarge(Which::Norm));
@@ -174,7 +174,7 @@ impl Poly {
             + replacement_products rows.now den.now self.now }
     {
         let vars = self.replacement_vars(alloc, rows.rows(), den)?;
-        let mut store = Monos::new(alloc);
+        let mut store = Monos::with_capacity(alloc, self.monos().links())?;
         let mut arena = Arena::new(alloc)?;
         let chain = self.chained_replacement(
             alloc, rows, den, top, &vars, &mut store, &mut arena, ticks,
@@ -229,6 +229,7 @@ impl Poly {
         let list = stored_terms(alloc, store, vars, &den.poly.to_terms(alloc)?)?;
         let p = &self.shared();
         let mut powers = Vec::new(alloc);
+        let mut numbers = Vec::new(alloc);
         let setting = Setting {
             vars,
             rows,
@@ -239,7 +240,17 @@ impl Poly {
             },
             top,
         };
-        replaced_chain(alloc, &setting, store, arena, p, p.list, &mut powers, ticks)
+        replaced_chain(
+            alloc,
+            &setting,
+            store,
+            arena,
+            p,
+            p.list,
+            &mut powers,
+            &mut numbers,
+            ticks,
+        )
     }
 }
 

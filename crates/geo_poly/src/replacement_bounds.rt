@@ -8,7 +8,7 @@ ghost use Rattle.geo_poly.specs.Inner.TermFactors.{HasNoZero};
 ghost use Rattle.geo_poly.specs.Replace.{replaced_term, term_degree, term_weight, weight_of};
 ghost use Rattle.geo_poly.specs.Shared.{AreParts, IsIndexOf, told, told_powers};
 
-use crate::reading::first_power;
+use crate::reading::numbered_power;
 use crate::replacement::Piece;
 use crate::row_table::RowTable;
 use crate::shared::{Indexed, Shared};
@@ -23,8 +23,8 @@ fn denominators_at(p: &Shared, id: MonoId, rows: &RowTable) -> u32
 {
     let mut denominators = 0;
     let mut rest = id;
-    while let Some((v, e, next)) = first_power(p, rest) {
-        if let Some(row) = rows.find_row(v) {
+    while let Some((v, e, next, number)) = numbered_power(p, rest) {
+        if let Some(row) = rows.find_row(v, number) {
             denominators += row.power * e;
         }
         rest = next;
@@ -60,8 +60,8 @@ fn weight_at(p: &Shared, t: Indexed, rows: &RowTable, den: &Piece, top: u32) -> 
     let mut weight = t.1.unsigned_abs();
     let mut missing = top;
     let mut rest = t.0;
-    while let Some((v, e, next)) = first_power(p, rest) {
-        if let Some(row) = rows.find_row(v) {
+    while let Some((v, e, next, number)) = numbered_power(p, rest) {
+        if let Some(row) = rows.find_row(v, number) {
             missing -= row.power * e;
             weight = weight.saturating_mul(row.num.weight.saturating_pow(e));
         }
@@ -96,8 +96,8 @@ fn degree_at(p: &Shared, id: MonoId, rows: &RowTable, den: &Piece, top: u32) -> 
     let mut degree = 0u128;
     let mut missing = top;
     let mut rest = id;
-    while let Some((v, e, next)) = first_power(p, rest) {
-        match rows.find_row(v) {
+    while let Some((v, e, next, number)) = numbered_power(p, rest) {
+        match rows.find_row(v, number) {
             Some(row) => {
                 missing -= row.power * e;
                 degree = degree.saturating_add(row.num.degree.saturating_mul(e as u128));
@@ -138,8 +138,8 @@ pub(crate) fn has_zero(p: &Shared, id: MonoId, rows: &RowTable, den: &Piece, top
 {
     let mut missing = top;
     let mut rest = id;
-    while let Some((v, e, next)) = first_power(p, rest) {
-        if let Some(row) = rows.find_row(v) {
+    while let Some((v, e, next, number)) = numbered_power(p, rest) {
+        if let Some(row) = rows.find_row(v, number) {
             if row.num.poly.is_zero() {
                 return true;
             }

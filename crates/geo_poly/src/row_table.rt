@@ -1,9 +1,10 @@
 //! The rows of a replacement, looked up by their variables.
 
-ghost use Rattle.std.specs.Prelude.{◌≡◌, ◌<◌, IfNone, IfOk, IfSome, None, Some, length, slice_get};
-ghost use Rattle.std.specs.Option.{option_copied};
+ghost use Rattle.std.specs.Prelude.{◌≡◌, ◌<◌, All, IfNone, IfOk, IfSome, None, Some};
+ghost use Rattle.std.specs.Prelude.{length, slice_get};
+ghost use Rattle.std.specs.Option.{option_and_then, option_copied};
 ghost use Rattle.geo_poly.specs.Replace.{row_of};
-ghost use Rattle.geo_poly.specs.Inner.RowTables.{AreFirstPlaces};
+ghost use Rattle.geo_poly.specs.Inner.RowTables.{AreFirstPlaces, IsKnown};
 
 use crate::replacement::Row;
 use crate::variables::Var;
@@ -12,42 +13,92 @@ use std::alloc::Global;
 use std::collections::BTreeMap;
 use std::marker::Model;
 
+/// A variable, and the place of its first row, where it has one.
+#[derive(Clone, Copy)]
+pub(crate) struct KnownPlace {
+    /// The variable.
+    pub var: Var,
+    /// The place.
+    pub place: Option<usize>,
+}
+
+impl KnownPlace {
+    /// The row at the place.
+    fn row(self, rows: &[Row]) -> Option<&Row>
+        ensures { option_copied result ≡ option_and_then (slice_get rows.now) self.place }
+    {
+        match self.place {
+            Some(i) => rows.get(i),
+            None => None,
+        }
+    }
+
+    /// The place, where it is one of the rows.
+    fn place_in(self, rows: &[Row]) -> Option<usize>
+        ensures within { IfSome result (λ i. i < length rows.now) }
+        ensures row { IfSome result (λ i. slice_get rows.now i
+            ≡ option_and_then (slice_get rows.now) self.place) }
+        ensures none { IfNone result
+            (option_and_then (slice_get rows.now) self.place ≡ None) }
+    {
+        match self.place {
+            Some(i) if i < rows.len() => Some(i),
+            _ => None,
+        }
+    }
+}
+
 /// Rows, and the place of the first row of each variable. There are no places where the memory for
 /// them was lacking: a replacement that is too large is refused as such also then.
 pub(crate) struct RowTable<'a> {
     rows: &'a [Row],
     places: Option<BTreeMap<Var, usize>>,
+    /// The variables of a polynomial by their numbers, so that most of them are found at once.
+    known: Vec<KnownPlace>,
 }
 
 /// By hand, so that a caller's proof sees one call where a table is let go.
 impl<'a> Drop for RowTable<'a> {
     fn drop(self) {
-        let RowTable { rows: _, places: _ } = self;
+        let RowTable {
+            rows: _,
+            places: _,
+            known: _,
+        } = self;
     }
 }
 
 impl<'a> Model for RowTable<'a> {
-    ghost use Rattle.std.specs.Prelude.{List, IfSome};
+    ghost use Rattle.std.specs.Prelude.{All, List, IfSome};
     ghost use Rattle.geo_poly.specs.declared.replacement.Row.{Row};
-    ghost use Rattle.geo_poly.specs.Inner.RowTables.{AreFirstPlaces};
+    ghost use Rattle.geo_poly.specs.Inner.RowTables.{AreFirstPlaces, IsKnown};
 
     ghost Value = { List Row };
 
     ghost view = { λ table. table.rows.now };
 
-    ghost invariant = { λ table. IfSome table.places (AreFirstPlaces table.rows.now) };
+    ghost invariant = { λ table. IfSome table.places (AreFirstPlaces table.rows.now)
+        × All (IsKnown table.rows.now) table.known.items };
 }
 
 impl<'a> RowTable<'a> {
-    /// The table of the rows.
-    pub(crate) fn new(alloc: Global, rows: &'a [Row]) -> RowTable<'a>
+    /// The table of the rows, for a polynomial with these variables.
+    pub(crate) fn new(alloc: Global, rows: &'a [Row], vars: &[Var]) -> RowTable<'a>
         ensures { result ≡ rows.now }
     {
         let places = match first_places(alloc, rows) {
             Ok(places) => Some(places),
             Err(_) => None,
         };
-        RowTable { rows, places }
+        let known = match known_places(alloc, rows, vars, &places) {
+            Ok(known) => known,
+            Err(_) => Vec::new(alloc),
+        };
+        RowTable {
+            rows,
+            places,
+            known,
+        }
     }
 
     /// The rows.
@@ -57,25 +108,25 @@ impl<'a> RowTable<'a> {
         self.rows
     }
 
-    /// The first row of the variable.
-    pub(crate) fn find_row(&self, v: Var) -> Option<&Row>
+    /// The first row of the variable, which is mostly the one of that number.
+    pub(crate) fn find_row(&self, v: Var, number: u64) -> Option<&Row>
         ensures { option_copied result ≡ row_of self.now v }
     {
-        match &self.places {
-            Some(places) => row_by_place(self.rows, places, v),
-            None => first_row(self.rows, v),
+        match self.known.get(number as usize) {
+            Some(known) if known.var == v => known.row(self.rows),
+            _ => found_row(self.rows, &self.places, v),
         }
     }
 
-    /// The place of the first row of the variable.
-    pub(crate) fn find_place(&self, v: Var) -> Option<usize>
+    /// The place of the first row of the variable, which is mostly the one of that number.
+    pub(crate) fn find_place(&self, v: Var, number: u64) -> Option<usize>
         ensures within { IfSome result (λ i. i < length self.now) }
         ensures row { IfSome result (λ i. slice_get self.now i ≡ row_of self.now v) }
         ensures none { IfNone result (row_of self.now v ≡ None) }
     {
-        match &self.places {
-            Some(places) => place_in(self.rows, places, v),
-            None => first_place(self.rows, v),
+        match self.known.get(number as usize) {
+            Some(known) if known.var == v => known.place_in(self.rows),
+            _ => found_place(self.rows, &self.places, v),
         }
     }
 
@@ -105,6 +156,56 @@ fn first_places(alloc: Global, rows: &[Row]) -> Result<BTreeMap<Var, usize>, NoM
         places.insert(rows[i].var, i)?;
     }
     Ok(places)
+}
+
+/// The places of the first rows of these variables.
+fn known_places(
+    alloc: Global,
+    rows: &[Row],
+    vars: &[Var],
+    places: &Option<BTreeMap<Var, usize>>,
+) -> Result<Vec<KnownPlace>, NoMemory>
+    requires { IfSome places.now (AreFirstPlaces rows.now) }
+    ensures { IfOk result (λ known. All (IsKnown rows.now) known.items) }
+{
+    let mut known = Vec::with_capacity(alloc, vars.len())?;
+    for v in vars {
+        known.push(known_place(rows, places, *v))?;
+    }
+    Ok(known)
+}
+
+/// The variable with the place of its first row.
+fn known_place(rows: &[Row], places: &Option<BTreeMap<Var, usize>>, v: Var) -> KnownPlace
+    requires { IfSome places.now (AreFirstPlaces rows.now) }
+    ensures { IsKnown rows.now result }
+{
+    let place = found_place(rows, places, v);
+    KnownPlace { var: v, place }
+}
+
+/// The first row of the variable, by its place or else by a search.
+fn found_row<'a>(rows: &'a [Row], places: &Option<BTreeMap<Var, usize>>, v: Var) -> Option<&'a Row>
+    requires { IfSome places.now (AreFirstPlaces rows.now) }
+    ensures { option_copied result ≡ row_of rows.now v }
+{
+    match places {
+        Some(places) => row_by_place(rows, places, v),
+        None => first_row(rows, v),
+    }
+}
+
+/// The place of the first row of the variable, where it has one.
+fn found_place(rows: &[Row], places: &Option<BTreeMap<Var, usize>>, v: Var) -> Option<usize>
+    requires { IfSome places.now (AreFirstPlaces rows.now) }
+    ensures within { IfSome result (λ i. i < length rows.now) }
+    ensures row { IfSome result (λ i. slice_get rows.now i ≡ row_of rows.now v) }
+    ensures none { IfNone result (row_of rows.now v ≡ None) }
+{
+    match places {
+        Some(places) => place_in(rows, places, v),
+        None => first_place(rows, v),
+    }
 }
 
 /// The row at the place of the variable.

@@ -62,7 +62,7 @@ impl Poly {
             return sum_over(alloc, &q, &p);
         }
         let vars = union(alloc, self.vars(), other.vars())?;
-        let mut monos = Monos::new(alloc);
+        let mut monos = Monos::with_capacity(alloc, links_of_both(&p, &q))?;
         let list = sum_list(alloc, &mut monos, vars.as_slice(), &p, &q)?;
         Poly::compact(alloc, vars, monos, list)
     }
@@ -77,10 +77,15 @@ impl Poly {
             return difference_over(alloc, &p, &q);
         }
         let vars = union(alloc, self.vars(), other.vars())?;
-        let mut monos = Monos::new(alloc);
+        let mut monos = Monos::with_capacity(alloc, links_of_both(&p, &q))?;
         let list = difference_list(alloc, &mut monos, vars.as_slice(), &p, &q)?;
         Poly::compact(alloc, vars, monos, list)
     }
+}
+
+/// Room for the links of both. Nothing rests on it but time.
+fn links_of_both(p: &Shared, q: &Shared) -> u64 {
+    p.monos.links().saturating_add(q.monos.links())
 }
 
 /// The sum, over a copy of the store of the first, which has the variables of both.

@@ -62,7 +62,7 @@ fn pair_of(alloc: Global, left: &[(u64, u32)], right: &[(u64, u32)]) -> Result<P
     requires right { IsMonomial right.now }
     requires degree { degree_of left.now + degree_of right.now ≤ 65535 }
 {
-    let mut store = Monos::new(alloc);
+    let mut store = Monos::with_capacity(alloc, 4)?;
     let a = stored(&mut store, left)?;
     let b = stored(&mut store, right)?;
     let order = store.compare(a, b);

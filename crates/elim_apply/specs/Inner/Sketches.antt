@@ -1,14 +1,16 @@
 -- The rows of a move by their numbers alone, before anything is multiplied out.
-use Rattle.std.specs.Prelude.{Option, List, [], map, length, IsSomeAnd}
+use Rattle.std.specs.Prelude.{◌≡◌, Option, List, [], map, length, IsSomeAnd}
 use Rattle.std.specs.Option.{option_map}
 use Rattle.fraction_poly.specs.declared.table.RowNumbers.{RowNumbers}
 use Rattle.fraction_poly.specs.TableRows.{HasPointsBelow, RowFits, row_numbers}
 use Rattle.geo_poly.specs.declared.replacement.Piece.{Piece}
 use Rattle.geo_poly.specs.declared.replacement.Row.{Row}
+use Rattle.geo_poly.specs.Replace.{row_of}
 use Rattle.geo_poly.specs.declared.variables.Var.{Var}
 use Rattle.geo_terms.specs.Constructions.{Construction}
 use Rattle.geo_logs.specs.declared.moves.Move.{Move}
 use Rattle.geo_logs.specs.declared.moves.Replacement.{Replacement}
+use Rattle.elim_apply.specs.declared.known_rows.KnownRow.{KnownRow}
 use Rattle.elim_apply.specs.declared.numbered.NumberedRow.{NumberedRow}
 use Rattle.elim_apply.specs.LemmaTable.{row_of_move}
 
@@ -39,3 +41,7 @@ sketch rows den = record { rows = sketches rows; den = sketched_denominator den;
 -- the row may be multiplied out: its points are there, and it is within the bounds of a polynomial
 abbrev pub CanMakeRow : Construction → Move → NumberedRow → Type 0
 CanMakeRow c move n = HasPointsBelow (length c.steps) n.var × IsSomeAnd (row_of_move c move n.var) RowFits
+
+-- the row is the first of the variable, where it has one
+abbrev pub IsKnown : List NumberedRow → KnownRow → Type 0
+IsKnown rows known = option_map sketched known.row ≡ row_of (sketches rows) known.var

@@ -27,8 +27,8 @@ returns-then-is_empty-clause-none c =
     let none : length c.in_ok-rows.rows.items ≡ 0 = search rules in
     none_made c.args.steps.now c.args.mv.now (variables_of c.args.p.now) (sym rows ∙ no_length c.in_ok-rows.rows.items none)
 
-pub size_of_line-size-requires-clause-powers : goal.size_of_line-size-requires-clause-powers
-size_of_line-size-requires-clause-powers c =
+pub size_of_line-requires-clause-powers : goal.size_of_line-requires-clause-powers
+size_of_line-requires-clause-powers c =
     let f = numbered_row c.args.steps.now c.args.mv.now in
     let vs : c.deref.result.now ≡ variables_of c.args.p.now = c.deref.ensures.value ∙ c.in_ok-variables.ensures in
     let rows : c.in_ok-rows.rows.items ≡ filter_map f (variables_of c.args.p.now) = c.in_ok-rows.ensures ∙ ap (filter_map f) vs in
@@ -54,4 +54,4 @@ returns-clause-size c =
     let all : All (HasDenominator steps mv) c.deref-2.result.now = subst (All (HasDenominator steps mv)) (sym rows) (all_over_one steps mv (variables_of q)) in
     let first : HasDenominator steps mv c.index.result.now =
     subst (HasDenominator steps mv) (let e : get_or c.deref-2.result.now 0 c.index.result.now ≡ c.index.result.now = search rules in e) (all 0 c.index.result.now (some_length c.deref-2.result.now some)) in
-    sketched_line steps mv q c.deref-2.result.now c.index.result.now c.size_of_line-size.result rows first c.size_of_line-size.ensures
+    sketched_line steps mv q c.deref-2.result.now c.index.result.now c.in_ok-size.size rows first c.in_ok-size.ensures

@@ -1,8 +1,15 @@
-use Rattle.std.proofs.Common.{drop, unsigned_abs}
+use Rattle.std.proofs.Common.{unsigned_abs}
 use Rattle.elim_apply.specs.Inner.Sketches.{sketches}
 use Rattle.geo_poly.specs.Polynomials.{term_at}
+use Rattle.geo_poly.specs.Shared.{IsIndexOf, told_powers}
 use Rattle.elim_apply.proofs.LineShares.{IsShareSoFar}
 use Rattle.elim_apply.proofs.sizes.share_of.Given as goal
 
-abbrev pub invariant-loop-j : goal.invariant-loop-j
-invariant-loop-j l = IsShareSoFar (sketches l.rows) (term_at l.poly l.i).0 (unsigned_abs (term_at l.poly l.i).1) (drop l.j (term_at l.poly l.i).0) l.share
+abbrev pub invariant-loop-v : goal.invariant-loop-v
+invariant-loop-v l = record {
+  index : IsIndexOf l.p l.rest;
+  share : IsShareSoFar (sketches l.rows) (term_at l.poly l.i).0 (unsigned_abs (term_at l.poly l.i).1) (told_powers l.p l.rest) l.share;
+}
+
+abbrev pub decreases-loop-v : goal.decreases-loop-v
+decreases-loop-v l = l.rest.0

@@ -43,14 +43,14 @@ list_at-requires g c =
 
 pub times_power_chain-requires-clause-piece : goal.times_power_chain-requires-clause-piece
 times_power_chain-requires-clause-piece g c =
-    bounded_row c.args.setting.now.rows.now (at c.args.powers.now c.loop-v.v-index).0 c.row-row.result.now c.requires.set.rows_bounded (sym c.in-Some.ensures.row ∙ c.row-row.ensures)
+    bounded_row c.args.setting.now.rows.now (at c.args.powers.now c.loop-k.k).0 c.row-row.result.now c.requires.set.rows_bounded (sym c.in-Some.ensures.row ∙ c.row-row.ensures)
 
 pub times_power_chain-requires-clause-stored : goal.times_power_chain-requires-clause-stored
 times_power_chain-requires-clause-stored g c =
     let setting = c.args.setting.now in
     let row = c.row-row.result.now in
     let list = c.list_at.result.now in
-    IsStoredAs-kept setting.vars.now c.args.store.now c.loop-v.store list row.num.poly c.loop-v.invariant.kept
+    IsStoredAs-kept setting.vars.now c.args.store.now c.loop-k.store list row.num.poly c.loop-k.invariant.kept
     (AreStored-at setting.vars.now c.args.store.now setting.rows.now setting.nums.now c.in-Some.i row list c.requires.set.rows_stored c.row-row.ensures c.list_at.ensures)
 
 pub times_power_chain-requires-clause-norm : goal.times_power_chain-requires-clause-norm
@@ -60,10 +60,10 @@ times_power_chain-requires-clause-norm g c =
     let m = c.args.powers.now in
     let top = setting.top in
     let k = to_z w128 (of_z w128 c.args.coefficient) in
-    let i = c.loop-v.v-index in
-    let p = keyed_terms setting.vars.now c.loop-v.store (pairs_of c.loop-v.arena c.loop-v.product) in
-    let fits = row_fits rows top m k (at m i) (drop (i + 1) m) p c.loop-v.missing c.row-row.result.now _ _ (sym c.in-Some.ensures.row ∙ c.row-row.ensures) c.requires.set.rows_bounded
-    (shown rows top m k i p c.loop-v.missing c.loop-v-test.true c.loop-v.invariant.progress) (le_refl (weight_rows rows m (unsigned_abs k))) (le_refl (degree_rows rows m (degree_of (others rows m)))) in
+    let i = c.loop-k.k in
+    let p = keyed_terms setting.vars.now c.loop-k.store (pairs_of c.loop-k.arena c.loop-k.product) in
+    let fits = row_fits rows top m k (at m i) (drop (i + 1) m) p c.loop-k.missing c.row-row.result.now _ _ (sym c.in-Some.ensures.row ∙ c.row-row.ensures) c.requires.set.rows_bounded
+    (shown rows top m k i p c.loop-k.missing c.loop-k-test.true c.loop-k.invariant.progress) (le_refl (weight_rows rows m (unsigned_abs k))) (le_refl (degree_rows rows m (degree_of (others rows m)))) in
     omega (arith, fits.0, rows_weight_fits rows setting.den.piece.now top m k c.args.coefficient (to_z-of_z w128 c.args.coefficient (search rules)) c.requires.set.den_bounded c.requires.norm)
 
 pub times_power_chain-requires-clause-degree : goal.times_power_chain-requires-clause-degree
@@ -73,47 +73,47 @@ times_power_chain-requires-clause-degree g c =
     let m = c.args.powers.now in
     let top = setting.top in
     let k = to_z w128 (of_z w128 c.args.coefficient) in
-    let i = c.loop-v.v-index in
-    let p = keyed_terms setting.vars.now c.loop-v.store (pairs_of c.loop-v.arena c.loop-v.product) in
-    let fits = row_fits rows top m k (at m i) (drop (i + 1) m) p c.loop-v.missing c.row-row.result.now _ _ (sym c.in-Some.ensures.row ∙ c.row-row.ensures) c.requires.set.rows_bounded
-    (shown rows top m k i p c.loop-v.missing c.loop-v-test.true c.loop-v.invariant.progress) (le_refl (weight_rows rows m (unsigned_abs k))) (le_refl (degree_rows rows m (degree_of (others rows m)))) in
+    let i = c.loop-k.k in
+    let p = keyed_terms setting.vars.now c.loop-k.store (pairs_of c.loop-k.arena c.loop-k.product) in
+    let fits = row_fits rows top m k (at m i) (drop (i + 1) m) p c.loop-k.missing c.row-row.result.now _ _ (sym c.in-Some.ensures.row ∙ c.row-row.ensures) c.requires.set.rows_bounded
+    (shown rows top m k i p c.loop-k.missing c.loop-k-test.true c.loop-k.invariant.progress) (le_refl (weight_rows rows m (unsigned_abs k))) (le_refl (degree_rows rows m (degree_of (others rows m)))) in
     omega (arith, fits.1, c.requires.degree)
 
 pub times_power_chain-requires-2-clause-stored : goal.times_power_chain-requires-2-clause-stored
 times_power_chain-requires-2-clause-stored g c =
     let setting = c.args.setting.now in
-    IsStoredAs-kept setting.vars.now c.args.store.now c.loop-v.store setting.den.list.now setting.den.piece.now.poly c.loop-v.invariant.kept c.requires.set.den_stored
+    IsStoredAs-kept setting.vars.now c.args.store.now c.loop-k.store setting.den.list.now setting.den.piece.now.poly c.loop-k.invariant.kept c.requires.set.den_stored
 
-pub loop-v-preserved : goal.loop-v-preserved
-loop-v-preserved g c =
+pub loop-k-preserved : goal.loop-k-preserved
+loop-k-preserved g c =
     let setting = c.args.setting.now in
     let rows = setting.rows.now in
     let m = c.args.powers.now in
     let top = setting.top in
     let k = to_z w128 (of_z w128 c.args.coefficient) in
-    let i = c.loop-v.v-index in
-    let p = keyed_terms setting.vars.now c.loop-v.store (pairs_of c.loop-v.arena c.loop-v.product) in
-    let before = c.loop-v.invariant in
-    let progress = shown rows top m k i p c.loop-v.missing c.loop-v-test.true before.progress in
-    let size = length (pairs_of c.loop-v.arena c.loop-v.product) in
-    let counting = counted rows m i size c.args.ticks.now c.loop-v.ticks c.loop-v-test.true before.counting in
+    let i = c.loop-k.k in
+    let p = keyed_terms setting.vars.now c.loop-k.store (pairs_of c.loop-k.arena c.loop-k.product) in
+    let before = c.loop-k.invariant in
+    let progress = shown rows top m k i p c.loop-k.missing c.loop-k-test.true before.progress in
+    let size = length (pairs_of c.loop-k.arena c.loop-k.product) in
+    let counting = counted rows m i size c.args.ticks.now c.loop-k.ticks c.loop-k-test.true before.counting in
     elim c.match-find_place.branch [
       | in-Some+in_ok-product-2 w ↦
           let row : row_of rows (at m i).0 ≡ Some w.row-row.result.now = sym w.in-Some.ensures.row ∙ w.row-row.ensures in
-          let fits = row_fits rows top m k (at m i) (drop (i + 1) m) p c.loop-v.missing w.row-row.result.now _ _ row c.requires.set.rows_bounded progress
+          let fits = row_fits rows top m k (at m i) (drop (i + 1) m) p c.loop-k.missing w.row-row.result.now _ _ row c.requires.set.rows_bounded progress
           (le_refl (weight_rows rows m (unsigned_abs k))) (le_refl (degree_rows rows m (degree_of (others rows m)))) in
           let made = w.in_ok-product-2 in
           rw (w.store-is, w.arena-is, w.product-is, w.missing-is, w.ticks-is)
           (record {
             kept = Keeps_trans before.kept made.ensures.kept;
-            adds = AddsChain-swaps c.args.arena.now c.loop-v.arena w.times_power_chain.new.arena c.loop-v.product made.product before.adds made.ensures.swaps;
+            adds = AddsChain-swaps c.args.arena.now c.loop-k.arena w.times_power_chain.new.arena c.loop-k.product made.product before.adds made.ensures.swaps;
             live = made.ensures.chain.live;
             keys = made.ensures.chain.keys;
             progress = rw made.ensures.chain.terms
-                (Progress-some rows top m k (at m i) (drop (i + 1) m) p c.loop-v.missing w.row-row.result.now row c.requires.set.rows_bounded progress (omega (arith, fits.1, c.requires.degree)));
+                (Progress-some rows top m k (at m i) (drop (i + 1) m) p c.loop-k.missing w.row-row.result.now row c.requires.set.rows_bounded progress (omega (arith, fits.1, c.requires.degree)));
             counting =
-                Counting-some rows m (at m i) (drop (i + 1) m) size (length (pairs_of w.times_power_chain.new.arena made.product)) c.args.ticks.now c.loop-v.ticks w.times_power_chain.new.ticks w.row-row.result.now row c.requires.set.rows_bounded counting
-                (power_size setting.vars.now c.loop-v.store w.times_power_chain.new.store c.loop-v.arena w.times_power_chain.new.arena c.loop-v.product made.product w.row-row.result.now.num (at m i).1
+                Counting-some rows m (at m i) (drop (i + 1) m) size (length (pairs_of w.times_power_chain.new.arena made.product)) c.args.ticks.now c.loop-k.ticks w.times_power_chain.new.ticks w.row-row.result.now row c.requires.set.rows_bounded counting
+                (power_size setting.vars.now c.loop-k.store w.times_power_chain.new.store c.loop-k.arena w.times_power_chain.new.arena c.loop-k.product made.product w.row-row.result.now.num (at m i).1
                 (bounded_row rows (at m i).0 w.row-row.result.now c.requires.set.rows_bounded row) made.ensures.chain)
                 made.ensures.ticks;
           })
@@ -123,8 +123,8 @@ loop-v-preserved g c =
             adds = before.adds;
             live = before.live;
             keys = before.keys;
-            progress = Progress-none rows top m k (at m i) (drop (i + 1) m) p c.loop-v.missing w.in_default.ensures.none progress;
-            counting = Counting-none rows m (at m i) (drop (i + 1) m) size c.args.ticks.now c.loop-v.ticks w.in_default.ensures.none counting;
+            progress = Progress-none rows top m k (at m i) (drop (i + 1) m) p c.loop-k.missing w.in_default.ensures.none progress;
+            counting = Counting-none rows m (at m i) (drop (i + 1) m) size c.args.ticks.now c.loop-k.ticks w.in_default.ensures.none counting;
           })
     ]
 
@@ -133,12 +133,12 @@ returns-in_err-product-2-clause-ticks g c =
     let setting = c.args.setting.now in
     let rows = setting.rows.now in
     let m = c.args.powers.now in
-    let i = c.loop-v.v-index in
+    let i = c.loop-k.k in
     let start = c.args.ticks.now in
     let now = c.times_power_chain.new.ticks in
     let row : row_of rows (at m i).0 ≡ Some c.row-row.result.now = sym c.in-Some.ensures.row ∙ c.row-row.ensures in
-    let counting = counted rows m i (length (pairs_of c.loop-v.arena c.loop-v.product)) start c.loop-v.ticks c.loop-v-test.true c.loop-v.invariant.counting in
-    let after = Counting-some rows m (at m i) (drop (i + 1) m) (length (pairs_of c.loop-v.arena c.loop-v.product)) 0 start c.loop-v.ticks now c.row-row.result.now row c.requires.set.rows_bounded counting
+    let counting = counted rows m i (length (pairs_of c.loop-k.arena c.loop-k.product)) start c.loop-k.ticks c.loop-k-test.true c.loop-k.invariant.counting in
+    let after = Counting-some rows m (at m i) (drop (i + 1) m) (length (pairs_of c.loop-k.arena c.loop-k.product)) 0 start c.loop-k.ticks now c.row-row.result.now row c.requires.set.rows_bounded counting
     (omega arith) c.in_err-product-2.ensures.ticks in
     counted_term rows setting.den.piece.now setting.top m (drop (i + 1) m) 0 start now now (setting.top - denominators rows m) c.requires.set.rows_bounded c.requires.set.den_bounded c.requires.no_zero after refl
     (omega arith)
@@ -146,13 +146,13 @@ returns-in_err-product-2-clause-ticks g c =
 pub returns-clause-adds : goal.returns-clause-adds
 returns-clause-adds g c =
     IfOk-weaker c.times_power_chain-2.result _ _
-    (λ v h. AddsChain-swaps c.args.arena.now c.loop-v.arena c.times_power_chain-2.new.arena c.loop-v.product v c.loop-v.invariant.adds h)
+    (λ v h. AddsChain-swaps c.args.arena.now c.loop-k.arena c.times_power_chain-2.new.arena c.loop-k.product v c.loop-k.invariant.adds h)
     c.times_power_chain-2.ensures.swaps
 
 pub returns-clause-err : goal.returns-clause-err
 returns-clause-err g c =
     on_err_weaker c.times_power_chain-2.result
-    (gave_back c.args.arena.now c.loop-v.arena c.times_power_chain-2.new.arena c.loop-v.product c.loop-v.invariant.adds)
+    (gave_back c.args.arena.now c.loop-k.arena c.times_power_chain-2.new.arena c.loop-k.product c.loop-k.invariant.adds)
     c.times_power_chain-2.ensures.err
 
 pub returns-clause-ticks : goal.returns-clause-ticks
@@ -160,9 +160,9 @@ returns-clause-ticks g c =
     let setting = c.args.setting.now in
     let rows = setting.rows.now in
     let m = c.args.powers.now in
-    let left = drop c.loop-v.v-index m in
-    let over : length m ≤ c.loop-v.v-index = omega (arith, c.loop-v-test.false) in
-    let none : drop c.loop-v.v-index m ≡ [] = drop_past m c.loop-v.v-index over in
-    let lacking : c.loop-v.missing ≡ setting.top - denominators rows m = omega (arith, c.loop-v.invariant.progress.missing-is, ap (denominators rows) none) in
-    counted_term rows setting.den.piece.now setting.top m left (length (pairs_of c.loop-v.arena c.loop-v.product)) c.args.ticks.now c.loop-v.ticks c.times_power_chain-2.new.ticks c.loop-v.missing
-    c.requires.set.rows_bounded c.requires.set.den_bounded c.requires.no_zero c.loop-v.invariant.counting lacking c.times_power_chain-2.ensures.ticks
+    let left = drop c.loop-k.k m in
+    let over : length m ≤ c.loop-k.k = omega (arith, c.loop-k-test.false) in
+    let none : drop c.loop-k.k m ≡ [] = drop_past m c.loop-k.k over in
+    let lacking : c.loop-k.missing ≡ setting.top - denominators rows m = omega (arith, c.loop-k.invariant.progress.missing-is, ap (denominators rows) none) in
+    counted_term rows setting.den.piece.now setting.top m left (length (pairs_of c.loop-k.arena c.loop-k.product)) c.args.ticks.now c.loop-k.ticks c.times_power_chain-2.new.ticks c.loop-k.missing
+    c.requires.set.rows_bounded c.requires.set.den_bounded c.requires.no_zero c.loop-k.invariant.counting lacking c.times_power_chain-2.ensures.ticks

@@ -7,12 +7,12 @@ use Rattle.geo_poly.proofs.ReplaceLoop.{Progress}
 use Rattle.geo_poly.proofs.TickBounds.{Counting}
 use Rattle.geo_poly.proofs.chained_replacement.replaced_term_chain.Given as goal
 
-abbrev pub invariant-loop-v : goal.invariant-loop-v
-invariant-loop-v g l = record {
+abbrev pub invariant-loop-k : goal.invariant-loop-k
+invariant-loop-k g l = record {
   kept : Keeps l.fn.store l.store;
   adds : AddsChain l.fn.arena l.arena l.product;
   live : IsLive l.arena l.product;
   keys : AllKeys (IsKey l.setting.vars.now l.store) (pairs_of l.arena l.product);
-  progress : Progress l.setting.rows.now l.setting.top l.powers l.fn.coefficient (drop l.v-index l.powers) (keyed_terms l.setting.vars.now l.store (pairs_of l.arena l.product)) l.missing;
-  counting : Counting l.setting.rows.now l.powers (drop l.v-index l.powers) (length (pairs_of l.arena l.product)) l.fn.ticks l.ticks;
+  progress : Progress l.setting.rows.now l.setting.top l.powers l.fn.coefficient (drop l.k l.powers) (keyed_terms l.setting.vars.now l.store (pairs_of l.arena l.product)) l.missing;
+  counting : Counting l.setting.rows.now l.powers (drop l.k l.powers) (length (pairs_of l.arena l.product)) l.fn.ticks l.ticks;
 }

@@ -42,17 +42,17 @@ fits vars rows powers m i k rising positive within h e is places k_in k_is =
     stays rows powers i positive within e ∙ ap₂ (λ (v : Var) (rest : Powers). (v, x.1) ∷ rest) (sym k_is) (sym is) in
     IsPowerBefore-named vars rising k x.1 m k_in places (subst IsMonomial whole (IsMonomial-others rows (drop (i - 1) powers) (IsMonomial-drop (i - 1) powers h)))
 
-pub place_of-requires-clause-known : goal.place_of-requires-clause-known
-place_of-requires-clause-known c =
+pub place_near-requires-clause-known : goal.place_near-requires-clause-known
+place_near-requires-clause-known c =
     let powers = c.args.powers.now in
     let i = c.loop-i.i - 1 in
     let below : c.loop-i.i - 1 < length c.args.powers.now = omega (arith, c.loop-i.invariant.left, c.loop-i-test.true) in
     AllKeys-at (Contains c.args.vars.now) powers i (slice_index_or powers i none) below (get_or_any powers i none (slice_index_or powers i none) below) c.requires.known
 
-before : (c : goal.After-place_of) → IsPowerBefore c.place_of.result (slice_index_or c.args.powers.now (c.loop-i.i - 1) none).1 (monomial_of c.loop-i.store c.loop-i.id)
+before : (c : goal.After-place_near) → IsPowerBefore c.place_near.result (slice_index_or c.args.powers.now (c.loop-i.i - 1) none).1 (monomial_of c.loop-i.store c.loop-i.id)
 before c =
-    fits c.args.vars.now c.args.rows.now c.args.powers.now (monomial_of c.loop-i.store c.loop-i.id) c.loop-i.i c.place_of.result c.requires.rising c.loop-i-test.true c.loop-i.invariant.left c.requires.monomial
-    (sym c.in-None.ensures) c.loop-i.invariant.powers c.loop-i.invariant.index.places c.place_of.ensures.within c.place_of.ensures.variable
+    fits c.args.vars.now c.args.rows.now c.args.powers.now (monomial_of c.loop-i.store c.loop-i.id) c.loop-i.i c.place_near.result c.requires.rising c.loop-i-test.true c.loop-i.invariant.left c.requires.monomial
+    (sym c.in-None.ensures) c.loop-i.invariant.powers c.loop-i.invariant.index.places c.place_near.ensures.within c.place_near.ensures.variable
 
 pub mono-requires-clause-exponent : goal.mono-requires-clause-exponent
 mono-requires-clause-exponent c = (before c).exponent
@@ -74,11 +74,11 @@ loop-i-preserved c =
       kept = Keeps_trans c.loop-i.invariant.kept made.kept;
       index = record {
         within = made.index;
-        places = subst (AllPlaces (length vars)) (sym made.monomial) (c.place_of.ensures.within, c.loop-i.invariant.index.places);
+        places = subst (AllPlaces (length vars)) (sym made.monomial) (c.place_near.ensures.within, c.loop-i.invariant.index.places);
       };
       left = omega (arith, c.loop-i.invariant.left);
       powers =
           ap (named vars) made.monomial
-          ∙ ap₂ (λ (v : Var) (rest : Powers). (v, x.1) ∷ rest) c.place_of.ensures.variable c.loop-i.invariant.powers
+          ∙ ap₂ (λ (v : Var) (rest : Powers). (v, x.1) ∷ rest) c.place_near.ensures.variable c.loop-i.invariant.powers
           ∙ sym (stays rows powers c.loop-i.i c.loop-i-test.true c.loop-i.invariant.left (sym c.in-None.ensures));
     }

@@ -4,5 +4,5 @@ use Rattle.std.specs.List.{fold}
 use Rattle.geo_poly.specs.Variables.{var_cmp}
 use Rattle.geo_poly.proofs.polynomial_variables.insert_variables.Given as goal
 
-abbrev pub invariant-loop-v : goal.invariant-loop-v
-invariant-loop-v l = l.variables.keys ≡ fold (insert_key var_cmp) l.initial.variables.keys (map (λ p. p.0) (take l.v-index l.powers))
+abbrev pub invariant-loop-i : goal.invariant-loop-i
+invariant-loop-i l = l.variables.keys ≡ fold (insert_key var_cmp) l.initial.variables.keys (map (λ p. p.0) (take l.i l.powers))

@@ -2,7 +2,7 @@ use Rattle.std.proofs.Common.{◌+◌, ◌*◌, drop}
 use Rattle.std.specs.Prelude.{sum_by}
 use Rattle.elim_apply.specs.Inner.Sketches.{sketch, sketches}
 use Rattle.elim_apply.proofs.LineSizes.{IsSizeSoFar}
-use Rattle.elim_apply.proofs.sizes.size_of_line.Given as goal
+use Rattle.elim_apply.proofs.sizes.size_by_terms.Given as goal
 
 abbrev pub invariant-loop-i : goal.invariant-loop-i
 invariant-loop-i l =

@@ -5,7 +5,7 @@ use Rattle.elim_apply.specs.Inner.Sketches.{sketch, sketches}
 use Rattle.geo_poly.specs.Polynomials.{Summands, term_at}
 use Rattle.elim_apply.proofs.LineShares.{denominators_at, term_shown}
 use Rattle.elim_apply.proofs.LineSizes.{IsSizeSoFar, line_size, no_size, size_more, whole_size}
-use Rattle.elim_apply.proofs.sizes.size_of_line.Goals as goal
+use Rattle.elim_apply.proofs.sizes.size_by_terms.Goals as goal
 
 pub charge-requires : goal.charge-requires
 charge-requires c =
