@@ -206,12 +206,12 @@ fn share_of(rows: &[NumberedRow], known: &[KnownRow], poly: &Poly, i: u64) -> Sh
         degree: 0,
     };
     let mut rest = id;
-    while let Some((v, e, next, number)) = p.first_power(rest) {
-        share = match find_row(rows, known, v, number) {
-            Some(row) => share.replacing(row.numbers, e),
-            None => share.keeping(e),
+    while let Some(first) = p.first_power(rest) {
+        share = match find_row(rows, known, first.var, first.number) {
+            Some(row) => share.replacing(row.numbers, first.exponent),
+            None => share.keeping(first.exponent),
         };
-        rest = next;
+        rest = first.rest;
     }
     share
 }

@@ -42,6 +42,7 @@ pub mod ChainHalves
 pub mod ChainMultiples
 pub mod ChainPowers
 pub mod Unions
+pub mod MergedVariables
 pub mod ChainSwaps
 pub mod ChainSums
 pub mod ReplacedHalves

@@ -21,19 +21,6 @@ use Rattle.geo_poly.proofs.ChainSteps.{same_or}
 use Rattle.geo_poly.proofs.EachVariable.{each-contained, each_of, of-both, of-fold}
 use Rattle.geo_poly.proofs.Told.{indices-kept, terms_of-kept}
 
--- what two lists were inserted into has both
-pub union_left : (us ws : List Var) (v : Var) → Contains us v → Contains (fold (insert_key var_cmp) (fold (insert_key var_cmp) [] us) ws) v
-union_left us ws v stands =
-    let whole = fold (insert_key var_cmp) (fold (insert_key var_cmp) [] us) ws in
-    let each = of-fold (Contains whole) (fold (insert_key var_cmp) [] us) ws (each_of (Contains whole) whole (λ w c. c)) in
-    each-contained (Contains whole) us v (of-fold (Contains whole) [] us each.0).1 stands
-
-pub union_right : (us ws : List Var) (v : Var) → Contains ws v → Contains (fold (insert_key var_cmp) (fold (insert_key var_cmp) [] us) ws) v
-union_right us ws v stands =
-    let whole = fold (insert_key var_cmp) (fold (insert_key var_cmp) [] us) ws in
-    let each = of-fold (Contains whole) (fold (insert_key var_cmp) [] us) ws (each_of (Contains whole) whole (λ w c. c)) in
-    each-contained (Contains whole) ws v each.1 stands
-
 -- inserting more keeps what stands there, and has what is inserted
 pub fold_keeps : (us ws : List Var) (v : Var) → Contains us v → Contains (fold (insert_key var_cmp) us ws) v
 fold_keeps us ws v stands =
@@ -54,6 +41,10 @@ known_powers vars (p ∷ m) h =
 pub known_variables : (vars : List Var) (links : Links) (list : Indices) → AllKeys (IsIndex vars links) list → AllVariables (Contains vars) (terms_of vars links list)
 known_variables vars links [] h = tt
 known_variables vars links (t ∷ list) h = (known_powers vars (monomial_of links t.0) h.0.places, known_variables vars links list h.1)
+
+-- the variables of a polynomial are in its list
+pub parts_known : (p : Shared) → AreParts p → AllVariables (Contains p.vars.now) (told p)
+parts_known p parts = known_variables p.vars.now p.monos.now p.list.now parts.indices
 
 -- a variable with a place stands in the list
 pub placed : (list : List Var) (v : Var) (k : ℕ) → IsPlaceOf list v (Some k) → Contains list v

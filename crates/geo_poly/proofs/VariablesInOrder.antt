@@ -21,7 +21,7 @@ use Rattle.geo_poly.proofs.Orders.{var_order}
 abbrev pub IsBelow : Var → List Var → Type 0
 IsBelow u vs = AllByRecursion (λ w. var_cmp u w ≡ Less) vs
 
-below_trans : (u v : Var) (ws : List Var) → var_cmp u v ≡ Less → IsBelow v ws → IsBelow u ws
+pub below_trans : (u v : Var) (ws : List Var) → var_cmp u v ≡ Less → IsBelow v ws → IsBelow u ws
 below_trans u v [] e h = tt
 below_trans u v (w ∷ ws) e h = (var_order.trans u v w e h.0, below_trans u v ws e h.1)
 

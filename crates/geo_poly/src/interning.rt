@@ -10,6 +10,7 @@ ghost use Rattle.geo_poly.specs.PolynomialVariables.{AllVariables};
 ghost use Rattle.geo_poly.specs.Shared.{IsIndex, powers_at, terms_of, var_at};
 ghost use Rattle.geo_poly.specs.Variables.{var_cmp};
 
+use crate::moving::find_place;
 use crate::shared::Indexed;
 use crate::terms::Term;
 use crate::variables::Var;
@@ -17,29 +18,16 @@ use geo_points::NoMemory;
 use mono_store::{MonoId, Monos};
 use std::alloc::Global;
 
-/// The place of a variable in the list.
-pub(crate) fn place_of(vars: &[Var], v: Var) -> u64
-    requires rising { IsStrictlySortedBy var_cmp vars.now }
-    requires known { Contains vars.now v }
-    ensures within { result < length vars.now }
-    ensures variable { var_at vars.now result ≡ v }
-{
-    match vars.binary_search(&v) {
-        Ok(place) => place as u64,
-        Err(_) => unreachable!(),
-    }
-}
-
-/// The place of a variable in the list. It is looked for first where it is supposed to stand.
+/// The place of a variable that the list has. It is looked for first where it is supposed to stand.
 pub(crate) fn place_near(vars: &[Var], v: Var, guess: u64) -> u64
     requires rising { IsStrictlySortedBy var_cmp vars.now }
     requires known { Contains vars.now v }
     ensures within { result < length vars.now }
     ensures variable { var_at vars.now result ≡ v }
 {
-    match vars.get(guess as usize) {
-        Some(w) if *w == v => guess,
-        _ => place_of(vars, v),
+    match find_place(vars, v, guess) {
+        Some(place) => place,
+        None => unreachable!(),
     }
 }
 

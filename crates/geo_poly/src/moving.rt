@@ -146,14 +146,29 @@ fn places_in(alloc: Global, former: &[Var], vars: &[Var]) -> Result<Vec<Option<u
     ensures { IfOk result (λ places. ArePlaces former.now vars.now places.items) }
 {
     let mut places = Vec::with_capacity(alloc, former.len())?;
+    let mut guess = 0u64;
     for v in former {
-        places.push(find_place(vars, *v))?;
+        let place = find_place(vars, *v, guess);
+        guess = place.unwrap_or(guess).saturating_add(1);
+        places.push(place)?;
     }
     Ok(places)
 }
 
-/// The place of a variable in the list, where it stands there.
-pub(crate) fn find_place(vars: &[Var], v: Var) -> Option<u64>
+/// The place of a variable in the list, where it stands there. It is looked for first where it is
+/// supposed to stand.
+pub(crate) fn find_place(vars: &[Var], v: Var, guess: u64) -> Option<u64>
+    requires { IsStrictlySortedBy var_cmp vars.now }
+    ensures { IsPlaceOf vars.now v result }
+{
+    match vars.get(guess as usize) {
+        Some(w) if *w == v => Some(guess),
+        _ => searched_place(vars, v),
+    }
+}
+
+/// The place of a variable in the list, where it stands there, by a search.
+fn searched_place(vars: &[Var], v: Var) -> Option<u64>
     requires { IsStrictlySortedBy var_cmp vars.now }
     ensures { IsPlaceOf vars.now v result }
 {

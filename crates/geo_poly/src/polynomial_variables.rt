@@ -16,13 +16,13 @@ ghost use Rattle.geo_poly.specs.Shared.{AreParts, IsIndexOf, told, told_powers};
 use crate::lists::Vars;
 use crate::moving::find_place;
 use crate::polynomials::Poly;
-use crate::reading::first_power;
 use crate::shared::Shared;
 use crate::terms::Term;
 use crate::variables::Var;
 use geo_points::NoMemory;
 use mono_store::MonoId;
 use std::alloc::Global;
+use std::cmp::Ordering;
 use std::collections::BTreeSet;
 
 impl Poly {
@@ -66,12 +66,12 @@ fn insert_powers(
     ensures visited { OnOk result (AreVisited p.now visited.new.items variables.new.keys) }
 {
     let mut rest = id;
-    while let Some((v, _, next)) = first_power(p, rest) {
+    while let Some(first) = p.first_power(rest) {
         if mark(visited, rest.0 as usize) {
             return Ok(());
         }
-        variables.insert(v)?;
-        rest = next;
+        variables.insert(first.var)?;
+        rest = first.rest;
     }
     Ok(())
 }
@@ -154,20 +154,36 @@ fn has_at(powers: &[(Var, u32)], i: usize, v: Var) -> bool
 }
 
 /// The variables of both lists, in order and each once.
-pub(crate) fn union(alloc: Global, left: &Vars, right: &Vars) -> Result<Vars, NoMemory>
+pub(crate) fn union(alloc: Global, left: &[Var], right: &[Var]) -> Result<Vars, NoMemory>
     requires left { IsStrictlySortedBy var_cmp left.now }
     requires right { IsStrictlySortedBy var_cmp right.now }
     ensures rising { IfOk result (IsStrictlySortedBy var_cmp) }
     ensures left { IfOk result (λ vs. (v : Var) → Contains left.now v → Contains vs v) }
     ensures right { IfOk result (λ vs. (v : Var) → Contains right.now v → Contains vs v) }
 {
-    if has_all(left.as_slice(), right.as_slice()) {
-        return left.copy(alloc);
+    let mut items = Vec::with_capacity(alloc, left.len().max(right.len()))?;
+    let mut i = 0;
+    let mut j = 0;
+    while i < left.len() && j < right.len() {
+        match left[i].cmp(&right[j]) {
+            Ordering::Less => {
+                items.push(left[i])?;
+                i += 1;
+            }
+            Ordering::Greater => {
+                items.push(right[j])?;
+                j += 1;
+            }
+            Ordering::Equal => {
+                items.push(left[i])?;
+                i += 1;
+                j += 1;
+            }
+        }
     }
-    if has_all(right.as_slice(), left.as_slice()) {
-        return right.copy(alloc);
-    }
-    collected(alloc, left, right)
+    items.extend_from_slice(&left[i..])?;
+    items.extend_from_slice(&right[j..])?;
+    Ok(Vars { items })
 }
 
 /// Whether the first list has each variable of the second.
@@ -175,26 +191,14 @@ pub(crate) fn has_all(list: &[Var], others: &[Var]) -> bool
     requires { IsStrictlySortedBy var_cmp list.now }
     ensures { IsTrue result → (v : Var) → Contains others.now v → Contains list.now v }
 {
+    let mut guess = 0u64;
     for v in others {
-        match find_place(list, *v) {
-            Some(_) => {}
+        match find_place(list, *v, guess) {
+            Some(place) => guess = place.saturating_add(1),
             None => return false,
         }
     }
     true
-}
-
-/// The variables of both lists, sorted by a set.
-fn collected(alloc: Global, left: &Vars, right: &Vars) -> Result<Vars, NoMemory>
-    ensures rising { IfOk result (IsStrictlySortedBy var_cmp) }
-    ensures left { IfOk result (λ vs. (v : Var) → Contains left.now v → Contains vs v) }
-    ensures right { IfOk result (λ vs. (v : Var) → Contains right.now v → Contains vs v) }
-{
-    let mut variables = BTreeSet::new(alloc);
-    insert_all(&mut variables, left.as_slice())?;
-    insert_all(&mut variables, right.as_slice())?;
-    let items = variables.into_iter().collect(alloc)?;
-    Ok(Vars { items })
 }
 
 /// Inserts variables.

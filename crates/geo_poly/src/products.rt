@@ -95,7 +95,7 @@ impl Poly {
         requires { CanMultiply self.now other.now }
         ensures { IfOk result (λ p. p ≡ product_of self.now other.now) }
     {
-        let vars = union(alloc, self.vars(), other.vars())?;
+        let vars = union(alloc, self.vars().as_slice(), other.vars().as_slice())?;
         let mut store = Monos::with_capacity(alloc, product_room(self, other))?;
         let mut arena = Arena::new(alloc)?;
         let blank = Blank::new(1);

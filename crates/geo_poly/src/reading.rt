@@ -7,7 +7,7 @@ ghost use Rattle.geo_poly.specs.Polynomials.{norm_of, term_at, total_degree};
 ghost use Rattle.geo_poly.specs.Shared.{AreParts, IsIndexOf, told, told_powers, told_term};
 
 use crate::monomials::Monomial;
-use crate::shared::{Indexed, Shared};
+use crate::shared::{FirstPower, Indexed, Shared};
 use crate::terms::Term;
 use crate::variables::Var;
 use geo_points::NoMemory;
@@ -25,48 +25,24 @@ impl<'a> Shared<'a> {
         self.list[i as usize]
     }
 
-    /// The first power of a monomial, the index of the rest, and the number of the variable, of
-    /// which nothing is promised.
-    pub fn first_power(&self, id: MonoId) -> Option<(Var, u32, MonoId, u64)>
+    /// The first power of a monomial, where it has one.
+    pub fn first_power(&self, id: MonoId) -> Option<FirstPower>
         requires { IsIndexOf self.now id }
         ensures none { IfNone result (told_powers self.now id ≡ []) }
         ensures power { IfSome result
-            (λ r. told_powers self.now id ≡ (r.0, r.1) ∷ told_powers self.now r.2) }
-        ensures index { IfSome result (λ r. IsIndexOf self.now r.2) }
-        ensures earlier { IfSome result (λ r. r.2.0 < id.0) }
+            (λ f. told_powers self.now id ≡ (f.var, f.exponent) ∷ told_powers self.now f.rest) }
+        ensures index { IfSome result (λ f. IsIndexOf self.now f.rest) }
+        ensures earlier { IfSome result (λ f. f.rest.0 < id.0) }
     {
-        numbered_power(self, id)
-    }
-}
-
-/// The first power of a monomial, the index of the rest, and the number of the variable, on which
-/// nothing rests but time.
-pub(crate) fn numbered_power(p: &Shared, id: MonoId) -> Option<(Var, u32, MonoId, u64)>
-    requires { IsIndexOf p.now id }
-    ensures none { IfNone result (told_powers p.now id ≡ []) }
-    ensures power { IfSome result
-        (λ r. told_powers p.now id ≡ (r.0, r.1) ∷ told_powers p.now r.2) }
-    ensures index { IfSome result (λ r. IsIndexOf p.now r.2) }
-    ensures earlier { IfSome result (λ r. r.2.0 < id.0) }
-{
-    match p.monos.link(id) {
-        Some(link) => Some((p.vars[link.var as usize], link.exp, link.next, link.var)),
-        None => None,
-    }
-}
-
-/// The first power of a monomial, and the index of the rest.
-pub(crate) fn first_power(p: &Shared, id: MonoId) -> Option<(Var, u32, MonoId)>
-    requires { IsIndexOf p.now id }
-    ensures none { IfNone result (told_powers p.now id ≡ []) }
-    ensures power { IfSome result
-        (λ r. told_powers p.now id ≡ (r.0, r.1) ∷ told_powers p.now r.2) }
-    ensures index { IfSome result (λ r. IsIndexOf p.now r.2) }
-    ensures earlier { IfSome result (λ r. r.2.0 < id.0) }
-{
-    match numbered_power(p, id) {
-        Some((v, e, next, _)) => Some((v, e, next)),
-        None => None,
+        match self.monos.link(id) {
+            Some(link) => Some(FirstPower {
+                var: self.vars[link.var as usize],
+                exponent: link.exp,
+                rest: link.next,
+                number: link.var,
+            }),
+            None => None,
+        }
     }
 }
 
@@ -78,9 +54,9 @@ pub(crate) fn monomial_at(alloc: Global, p: &Shared, id: MonoId) -> Result<Monom
 {
     let mut powers = Vec::new(alloc);
     let mut rest = id;
-    while let Some((v, e, next)) = first_power(p, rest) {
-        powers.push((v, e))?;
-        rest = next;
+    while let Some(first) = p.first_power(rest) {
+        powers.push((first.var, first.exponent))?;
+        rest = first.rest;
     }
     Ok(Monomial::from_powers(powers))
 }
@@ -98,10 +74,10 @@ pub(crate) fn read_powers(
     powers.clear();
     numbers.clear();
     let mut rest = id;
-    while let Some((v, e, next, number)) = numbered_power(p, rest) {
-        powers.push((v, e))?;
-        numbers.push(number)?;
-        rest = next;
+    while let Some(first) = p.first_power(rest) {
+        powers.push((first.var, first.exponent))?;
+        numbers.push(first.number)?;
+        rest = first.rest;
     }
     Ok(())
 }
@@ -114,9 +90,9 @@ fn degree_at(p: &Shared, id: MonoId) -> u32
 {
     let mut degree = 0;
     let mut rest = id;
-    while let Some((_, e, next)) = first_power(p, rest) {
-        degree += e;
-        rest = next;
+    while let Some(first) = p.first_power(rest) {
+        degree += first.exponent;
+        rest = first.rest;
     }
     degree
 }
@@ -129,11 +105,11 @@ pub(crate) fn exponent_at(p: &Shared, id: MonoId, v: Var) -> u32
 {
     let mut total = 0;
     let mut rest = id;
-    while let Some((w, e, next)) = first_power(p, rest) {
-        if v == w {
-            total += e;
+    while let Some(first) = p.first_power(rest) {
+        if v == first.var {
+            total += first.exponent;
         }
-        rest = next;
+        rest = first.rest;
     }
     total
 }
@@ -145,9 +121,9 @@ pub(crate) fn count_powers(p: &Shared, id: MonoId) -> u64
 {
     let mut count = 0;
     let mut rest = id;
-    while let Some((_, _, next)) = first_power(p, rest) {
+    while let Some(first) = p.first_power(rest) {
         count += 1;
-        rest = next;
+        rest = first.rest;
     }
     count
 }
@@ -160,13 +136,13 @@ pub(crate) fn power_at(p: &Shared, id: MonoId, j: u64) -> (Var, u32)
 {
     let mut rest = id;
     for _k in 0..j {
-        match first_power(p, rest) {
-            Some((_, _, next)) => rest = next,
+        match p.first_power(rest) {
+            Some(first) => rest = first.rest,
             None => unreachable!(),
         }
     }
-    match first_power(p, rest) {
-        Some((v, e, _)) => (v, e),
+    match p.first_power(rest) {
+        Some(first) => (first.var, first.exponent),
         None => unreachable!(),
     }
 }
@@ -216,13 +192,13 @@ fn is_same_monomial(p: &Shared, id: MonoId, q: &Shared, other: MonoId) -> bool
     let mut left = id;
     let mut right = other;
     loop {
-        match (first_power(p, left), first_power(q, right)) {
-            (Some((v, e, next)), Some((w, f, following))) => {
-                if v != w || e != f {
+        match (p.first_power(left), q.first_power(right)) {
+            (Some(first), Some(second)) => {
+                if first.var != second.var || first.exponent != second.exponent {
                     return false;
                 }
-                left = next;
-                right = following;
+                left = first.rest;
+                right = second.rest;
             }
             (None, None) => return true,
             _ => return false,

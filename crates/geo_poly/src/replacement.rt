@@ -194,7 +194,7 @@ impl Poly {
         ensures rows_known { IfOk result (λ vs. AllNumerators (Contains vs) rows.now) }
         ensures den_known { IfOk result (λ vs. AllVariables (Contains vs) den.now.poly) }
     {
-        let own = union(alloc, self.vars(), den.poly.vars())?;
+        let own = union(alloc, self.vars().as_slice(), den.poly.vars().as_slice())?;
         with_rows(alloc, &own, rows)
     }
 

@@ -8,7 +8,6 @@ ghost use Rattle.geo_poly.specs.Inner.TermFactors.{HasNoZero};
 ghost use Rattle.geo_poly.specs.Replace.{replaced_term, term_degree, term_weight, weight_of};
 ghost use Rattle.geo_poly.specs.Shared.{AreParts, IsIndexOf, told, told_powers};
 
-use crate::reading::numbered_power;
 use crate::replacement::Piece;
 use crate::row_table::RowTable;
 use crate::shared::{Indexed, Shared};
@@ -23,11 +22,11 @@ fn denominators_at(p: &Shared, id: MonoId, rows: &RowTable) -> u32
 {
     let mut denominators = 0;
     let mut rest = id;
-    while let Some((v, e, next, number)) = numbered_power(p, rest) {
-        if let Some(row) = rows.find_row(v, number) {
-            denominators += row.power * e;
+    while let Some(first) = p.first_power(rest) {
+        if let Some(row) = rows.find_row(first.var, first.number) {
+            denominators += row.power * first.exponent;
         }
-        rest = next;
+        rest = first.rest;
     }
     denominators
 }
@@ -60,12 +59,12 @@ fn weight_at(p: &Shared, t: Indexed, rows: &RowTable, den: &Piece, top: u32) -> 
     let mut weight = t.1.unsigned_abs();
     let mut missing = top;
     let mut rest = t.0;
-    while let Some((v, e, next, number)) = numbered_power(p, rest) {
-        if let Some(row) = rows.find_row(v, number) {
-            missing -= row.power * e;
-            weight = weight.saturating_mul(row.num.weight.saturating_pow(e));
+    while let Some(first) = p.first_power(rest) {
+        if let Some(row) = rows.find_row(first.var, first.number) {
+            missing -= row.power * first.exponent;
+            weight = weight.saturating_mul(row.num.weight.saturating_pow(first.exponent));
         }
-        rest = next;
+        rest = first.rest;
     }
     weight.saturating_mul(den.weight.saturating_pow(missing))
 }
@@ -96,15 +95,15 @@ fn degree_at(p: &Shared, id: MonoId, rows: &RowTable, den: &Piece, top: u32) -> 
     let mut degree = 0u128;
     let mut missing = top;
     let mut rest = id;
-    while let Some((v, e, next, number)) = numbered_power(p, rest) {
-        match rows.find_row(v, number) {
+    while let Some(first) = p.first_power(rest) {
+        match rows.find_row(first.var, first.number) {
             Some(row) => {
-                missing -= row.power * e;
-                degree = degree.saturating_add(row.num.degree.saturating_mul(e as u128));
+                missing -= row.power * first.exponent;
+                degree = degree.saturating_add(row.num.degree.saturating_mul(first.exponent as u128));
             }
-            None => degree = degree.saturating_add(e as u128),
+            None => degree = degree.saturating_add(first.exponent as u128),
         }
-        rest = next;
+        rest = first.rest;
     }
     degree.saturating_add(den.degree.saturating_mul(missing as u128))
 }
@@ -138,14 +137,14 @@ pub(crate) fn has_zero(p: &Shared, id: MonoId, rows: &RowTable, den: &Piece, top
 {
     let mut missing = top;
     let mut rest = id;
-    while let Some((v, e, next, number)) = numbered_power(p, rest) {
-        if let Some(row) = rows.find_row(v, number) {
+    while let Some(first) = p.first_power(rest) {
+        if let Some(row) = rows.find_row(first.var, first.number) {
             if row.num.poly.is_zero() {
                 return true;
             }
-            missing -= row.power * e;
+            missing -= row.power * first.exponent;
         }
-        rest = next;
+        rest = first.rest;
     }
     missing > 0 && den.poly.is_zero()
 }

@@ -23,16 +23,6 @@ pub(crate) struct KnownPlace {
 }
 
 impl KnownPlace {
-    /// The row at the place.
-    fn row(self, rows: &[Row]) -> Option<&Row>
-        ensures { option_copied result ≡ option_and_then (slice_get rows.now) self.place }
-    {
-        match self.place {
-            Some(i) => rows.get(i),
-            None => None,
-        }
-    }
-
     /// The place, where it is one of the rows.
     fn place_in(self, rows: &[Row]) -> Option<usize>
         ensures within { IfSome result (λ i. i < length rows.now) }
@@ -112,9 +102,9 @@ impl<'a> RowTable<'a> {
     pub(crate) fn find_row(&self, v: Var, number: u64) -> Option<&Row>
         ensures { option_copied result ≡ row_of self.now v }
     {
-        match self.known.get(number as usize) {
-            Some(known) if known.var == v => known.row(self.rows),
-            _ => found_row(self.rows, &self.places, v),
+        match self.find_place(v, number) {
+            Some(i) => Some(self.row(i)),
+            None => None,
         }
     }
 
@@ -184,17 +174,6 @@ fn known_place(rows: &[Row], places: &Option<BTreeMap<Var, usize>>, v: Var) -> K
     KnownPlace { var: v, place }
 }
 
-/// The first row of the variable, by its place or else by a search.
-fn found_row<'a>(rows: &'a [Row], places: &Option<BTreeMap<Var, usize>>, v: Var) -> Option<&'a Row>
-    requires { IfSome places.now (AreFirstPlaces rows.now) }
-    ensures { option_copied result ≡ row_of rows.now v }
-{
-    match places {
-        Some(places) => row_by_place(rows, places, v),
-        None => first_row(rows, v),
-    }
-}
-
 /// The place of the first row of the variable, where it has one.
 fn found_place(rows: &[Row], places: &Option<BTreeMap<Var, usize>>, v: Var) -> Option<usize>
     requires { IfSome places.now (AreFirstPlaces rows.now) }
@@ -206,29 +185,6 @@ fn found_place(rows: &[Row], places: &Option<BTreeMap<Var, usize>>, v: Var) -> O
         Some(places) => place_in(rows, places, v),
         None => first_place(rows, v),
     }
-}
-
-/// The row at the place of the variable.
-fn row_by_place<'a>(rows: &'a [Row], places: &BTreeMap<Var, usize>, v: Var) -> Option<&'a Row>
-    requires { AreFirstPlaces rows.now places.now }
-    ensures { option_copied result ≡ row_of rows.now v }
-{
-    match places.get(&v) {
-        Some(place) => rows.get(*place),
-        None => None,
-    }
-}
-
-/// The first row of the variable, by a search.
-fn first_row(rows: &[Row], v: Var) -> Option<&Row>
-    ensures { option_copied result ≡ row_of rows.now v }
-{
-    for row in rows {
-        if row.var == v {
-            return Some(row);
-        }
-    }
-    None
 }
 
 /// The place of the variable, where it is one of a row.

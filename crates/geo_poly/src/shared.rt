@@ -6,6 +6,19 @@ use mono_store::{MonoId, Monos};
 /// The index of a monomial in a store, and its coefficient.
 pub(crate) type Indexed = (MonoId, i128);
 
+/// The first power of a monomial, and what is behind it.
+#[derive(Clone, Copy)]
+pub struct FirstPower {
+    /// The variable.
+    pub var: Var,
+    /// Its exponent.
+    pub exponent: u32,
+    /// The index of the rest of the monomial.
+    pub rest: MonoId,
+    /// The number of the variable. Nothing rests on it but time.
+    pub number: u64,
+}
+
 /// What a polynomial is made of. One call tells all of it, since contracts see a polynomial as its
 /// terms alone.
 #[derive(Clone, Copy)]

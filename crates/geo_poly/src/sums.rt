@@ -33,7 +33,7 @@ impl Poly {
         if self.unsigned_norm() + other.unsigned_norm() > MAX as u128 {
             return Err(PolyError::TooLarge(Which::Norm));
         }
-        Ok(self.sum(alloc, other)?)
+        Ok(sum(alloc, &self.shared(), &other.shared())?)
     }
 
     /// The difference. It is refused by the norms of both, not by that of the difference.
@@ -46,41 +46,44 @@ impl Poly {
         if self.unsigned_norm() + other.unsigned_norm() > MAX as u128 {
             return Err(PolyError::TooLarge(Which::Norm));
         }
-        Ok(self.difference(alloc, other)?)
+        Ok(difference(alloc, &self.shared(), &other.shared())?)
     }
+}
 
-    /// The sum, which fits, over a new store.
-    fn sum(&self, alloc: Global, other: &Poly) -> Result<Poly, NoMemory>
-        requires { norm_of self.now + norm_of other.now < 2 ^ 127 }
-        ensures { IfOk result (λ p. p ≡ sum_of self.now other.now) }
-    {
-        let (p, q) = (self.shared(), other.shared());
-        if has_all(p.vars, q.vars) {
-            return sum_over(alloc, &p, &q);
-        }
-        if has_all(q.vars, p.vars) {
-            return sum_over(alloc, &q, &p);
-        }
-        let vars = union(alloc, self.vars(), other.vars())?;
-        let mut monos = Monos::with_capacity(alloc, links_of_both(&p, &q))?;
-        let list = sum_list(alloc, &mut monos, vars.as_slice(), &p, &q)?;
-        Poly::compact(alloc, vars, monos, list)
+/// The sum, which fits: over the store of the summand that has the variables of both, or else over
+/// a new one.
+fn sum(alloc: Global, p: &Shared, q: &Shared) -> Result<Poly, NoMemory>
+    requires left { AreParts p.now }
+    requires right { AreParts q.now }
+    requires fits { norm_of (told p.now) + norm_of (told q.now) < 2 ^ 127 }
+    ensures { IfOk result (λ s. s ≡ sum_of (told p.now) (told q.now)) }
+{
+    if has_all(p.vars, q.vars) {
+        return sum_over(alloc, p, q);
     }
+    if has_all(q.vars, p.vars) {
+        return sum_over(alloc, q, p);
+    }
+    let vars = union(alloc, p.vars, q.vars)?;
+    let mut monos = Monos::with_capacity(alloc, links_of_both(p, q))?;
+    let list = sum_list(alloc, &mut monos, vars.as_slice(), p, q)?;
+    Poly::compact(alloc, vars, monos, list)
+}
 
-    /// The difference, which fits, over a new store.
-    fn difference(&self, alloc: Global, other: &Poly) -> Result<Poly, NoMemory>
-        requires { norm_of self.now + norm_of other.now < 2 ^ 127 }
-        ensures { IfOk result (λ p. p ≡ difference_of self.now other.now) }
-    {
-        let (p, q) = (self.shared(), other.shared());
-        if has_all(p.vars, q.vars) {
-            return difference_over(alloc, &p, &q);
-        }
-        let vars = union(alloc, self.vars(), other.vars())?;
-        let mut monos = Monos::with_capacity(alloc, links_of_both(&p, &q))?;
-        let list = difference_list(alloc, &mut monos, vars.as_slice(), &p, &q)?;
-        Poly::compact(alloc, vars, monos, list)
-    }
+/// The difference, which fits: the sum with the opposite of the second.
+fn difference(alloc: Global, p: &Shared, q: &Shared) -> Result<Poly, NoMemory>
+    requires left { AreParts p.now }
+    requires right { AreParts q.now }
+    requires fits { norm_of (told p.now) + norm_of (told q.now) < 2 ^ 127 }
+    ensures { IfOk result (λ s. s ≡ difference_of (told p.now) (told q.now)) }
+{
+    let opposite = negated_list(alloc, q)?;
+    let negated = Shared {
+        vars: q.vars,
+        monos: q.monos,
+        list: opposite.as_slice(),
+    };
+    sum(alloc, p, &negated)
 }
 
 /// Room for the links of both. Nothing rests on it but time.
@@ -99,22 +102,6 @@ fn sum_over(alloc: Global, p: &Shared, q: &Shared) -> Result<Poly, NoMemory>
     let mut monos = p.monos.copy(alloc)?;
     let right = moved(alloc, &mut monos, p.vars, q)?;
     let list = merged_lists(alloc, &monos, p.vars, p.list, &right)?;
-    let items = Vec::from_slice(alloc, p.vars)?;
-    Poly::compact(alloc, Vars { items }, monos, list)
-}
-
-/// The difference, over a copy of the store of the first, which has the variables of both.
-fn difference_over(alloc: Global, p: &Shared, q: &Shared) -> Result<Poly, NoMemory>
-    requires left { AreParts p.now }
-    requires right { AreParts q.now }
-    requires known { AllVariables (Contains p.now.vars.now) (told q.now) }
-    requires fits { norm_of (told p.now) + norm_of (told q.now) < 2 ^ 127 }
-    ensures { IfOk result (λ s. s ≡ difference_of (told p.now) (told q.now)) }
-{
-    let mut monos = p.monos.copy(alloc)?;
-    let right = moved(alloc, &mut monos, p.vars, q)?;
-    let opposite = negated_list(alloc, &monos, p.vars, &right)?;
-    let list = merged_lists(alloc, &monos, p.vars, p.list, &opposite)?;
     let items = Vec::from_slice(alloc, p.vars)?;
     Poly::compact(alloc, Vars { items }, monos, list)
 }
@@ -140,31 +127,6 @@ fn sum_list(
     let left = moved(alloc, store, vars, p)?;
     let right = moved(alloc, store, vars, q)?;
     merged_lists(alloc, store, vars, &left, &right)
-}
-
-/// The list of the difference, in a store.
-fn difference_list(
-    alloc: Global,
-    store: &mut Monos,
-    vars: &[Var],
-    p: &Shared,
-    q: &Shared,
-) -> Result<Vec<Indexed>, NoMemory>
-    requires rising { IsStrictlySortedBy var_cmp vars.now }
-    requires left { AreParts p.now }
-    requires right { AreParts q.now }
-    requires left_known { AllVariables (Contains vars.now) (told p.now) }
-    requires right_known { AllVariables (Contains vars.now) (told q.now) }
-    requires fits { norm_of (told p.now) + norm_of (told q.now) < 2 ^ 127 }
-    ensures indices { IfOk result (λ list. AllKeys (IsIndex vars.now store.new) list.items) }
-    ensures difference { IfOk result
-        (λ list. terms_of vars.now store.new list.items
-        ≡ difference_of (told p.now) (told q.now)) }
-{
-    let left = moved(alloc, store, vars, p)?;
-    let right = moved(alloc, store, vars, q)?;
-    let opposite = negated_list(alloc, store, vars, &right)?;
-    merged_lists(alloc, store, vars, &left, &opposite)
 }
 
 /// Both lists in one, in order; where a monomial stands in both, the coefficients add up.
@@ -217,23 +179,16 @@ pub(crate) fn merged_lists(
     Ok(list)
 }
 
-/// The list with the other sign of each coefficient.
-fn negated_list(
-    alloc: Global,
-    store: &Monos,
-    vars: &[Var],
-    list: &[Indexed],
-) -> Result<Vec<Indexed>, NoMemory>
-    requires indices { AllKeys (IsIndex vars.now store.now) list.now }
-    requires fits { norm_of (terms_of vars.now store.now list.now) < 2 ^ 127 }
-    ensures indices { IfOk result (λ v. AllKeys (IsIndex vars.now store.now) v.items) }
-    ensures negated { IfOk result (λ v. terms_of vars.now store.now v.items
-        ≡ negated (terms_of vars.now store.now list.now)) }
+/// The list of the opposite polynomial.
+fn negated_list(alloc: Global, p: &Shared) -> Result<Vec<Indexed>, NoMemory>
+    requires { AreParts p.now }
+    ensures indices { IfOk result
+        (λ v. AllKeys (IsIndex p.now.vars.now p.now.monos.now) v.items) }
+    ensures negated { IfOk result
+        (λ v. terms_of p.now.vars.now p.now.monos.now v.items ≡ negated (told p.now)) }
 {
-    let _ = vars;
-    let _ = store;
-    let mut opposite = Vec::with_capacity(alloc, list.len())?;
-    for (id, coefficient) in list {
+    let mut opposite = Vec::with_capacity(alloc, p.list.len())?;
+    for (id, coefficient) in p.list {
         opposite.push((*id, -*coefficient))?;
     }
     Ok(opposite)

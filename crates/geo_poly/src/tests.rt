@@ -342,7 +342,7 @@ fn spelled_chain(alloc: Global, arena: &mut Arena, chain: Chain) -> Result<Strin
 
 /// The chain of a product in a new arena, and the indices of both squares in its store.
 fn product_in_arena(alloc: Global, left: &Poly, right: &Poly) -> Result<(String, String), Fail> {
-    let vars = union(alloc, left.vars(), right.vars())?;
+    let vars = union(alloc, left.vars().as_slice(), right.vars().as_slice())?;
     let mut store = Monos::new(alloc);
     let one = store.one();
     let first = store.mono(0, 2, one)?;

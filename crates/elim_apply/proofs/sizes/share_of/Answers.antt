@@ -7,8 +7,8 @@ use Rattle.geo_poly.specs.Shared.{told_powers, told_term}
 use Rattle.elim_apply.proofs.LineShares.{IsShareSoFar, monomial_at, no_share, share_fits, share_keeping, share_replacing}
 use Rattle.elim_apply.proofs.sizes.share_of.Goals as goal
 
-pub loop-v-init : goal.loop-v-init
-loop-v-init c =
+pub loop-first-init : goal.loop-first-init
+loop-first-init c =
     let rows = sketches c.args.rows.now in
     let p = c.shared-p.result in
     let t = term_at c.args.poly.now c.args.i in
@@ -27,28 +27,28 @@ pub replacing-share-requires-clause-exponents : goal.replacing-share-requires-cl
 replacing-share-requires-clause-exponents c =
     let rows = sketches c.args.rows.now in
     let t = term_at c.args.poly.now c.args.i in
-    let left = told_powers c.shared-p.result c.in-Some.next in
-    let here = subst (λ (left : Powers). IsShareSoFar rows t.0 (unsigned_abs t.1) left c.loop-v.share) c.in-Some.ensures.power c.loop-v.invariant.share in
-    (share_fits rows t.0 (unsigned_abs t.1) (c.in-Some.v, c.in-Some.e) left c.loop-v.share (sketched c.in-Some-find_row.row) (sym c.in-Some-find_row.ensures) here).exponents
+    let left = told_powers c.shared-p.result c.in-Some.first.rest in
+    let here = subst (λ (left : Powers). IsShareSoFar rows t.0 (unsigned_abs t.1) left c.loop-first.share) c.in-Some.ensures.power c.loop-first.invariant.share in
+    (share_fits rows t.0 (unsigned_abs t.1) (c.in-Some.first.var, c.in-Some.first.exponent) left c.loop-first.share (sketched c.in-Some-find_row.row) (sym c.in-Some-find_row.ensures) here).exponents
 
 pub replacing-share-requires-clause-denominators : goal.replacing-share-requires-clause-denominators
 replacing-share-requires-clause-denominators c =
     let rows = sketches c.args.rows.now in
     let t = term_at c.args.poly.now c.args.i in
-    let left = told_powers c.shared-p.result c.in-Some.next in
-    let here = subst (λ (left : Powers). IsShareSoFar rows t.0 (unsigned_abs t.1) left c.loop-v.share) c.in-Some.ensures.power c.loop-v.invariant.share in
-    (share_fits rows t.0 (unsigned_abs t.1) (c.in-Some.v, c.in-Some.e) left c.loop-v.share (sketched c.in-Some-find_row.row) (sym c.in-Some-find_row.ensures) here).denominators-are
+    let left = told_powers c.shared-p.result c.in-Some.first.rest in
+    let here = subst (λ (left : Powers). IsShareSoFar rows t.0 (unsigned_abs t.1) left c.loop-first.share) c.in-Some.ensures.power c.loop-first.invariant.share in
+    (share_fits rows t.0 (unsigned_abs t.1) (c.in-Some.first.var, c.in-Some.first.exponent) left c.loop-first.share (sketched c.in-Some-find_row.row) (sym c.in-Some-find_row.ensures) here).denominators-are
 
-pub loop-v-preserved-in-Some-find_row : goal.loop-v-preserved-in-Some-find_row
-loop-v-preserved-in-Some-find_row c =
+pub loop-first-preserved-in-Some-find_row : goal.loop-first-preserved-in-Some-find_row
+loop-first-preserved-in-Some-find_row c =
     let rows = sketches c.args.rows.now in
     let t = term_at c.args.poly.now c.args.i in
-    let left = told_powers c.shared-p.result c.in-Some.next in
-    let here = subst (λ (left : Powers). IsShareSoFar rows t.0 (unsigned_abs t.1) left c.loop-v.share) c.in-Some.ensures.power c.loop-v.invariant.share in
+    let left = told_powers c.shared-p.result c.in-Some.first.rest in
+    let here = subst (λ (left : Powers). IsShareSoFar rows t.0 (unsigned_abs t.1) left c.loop-first.share) c.in-Some.ensures.power c.loop-first.invariant.share in
     record {
       index = c.in-Some.ensures.index;
       share =
-          share_replacing rows t.0 (unsigned_abs t.1) (c.in-Some.v, c.in-Some.e) left c.loop-v.share c.replacing-share.result (sketched c.in-Some-find_row.row) (sym c.in-Some-find_row.ensures)
+          share_replacing rows t.0 (unsigned_abs t.1) (c.in-Some.first.var, c.in-Some.first.exponent) left c.loop-first.share c.replacing-share.result (sketched c.in-Some-find_row.row) (sym c.in-Some-find_row.ensures)
           (record {
             exponents = c.replacing-share.ensures.exponents;
             denominators-are = c.replacing-share.ensures.denominators;
@@ -59,16 +59,16 @@ loop-v-preserved-in-Some-find_row c =
           here;
     }
 
-pub loop-v-preserved : goal.loop-v-preserved
-loop-v-preserved c =
+pub loop-first-preserved : goal.loop-first-preserved
+loop-first-preserved c =
     let rows = sketches c.args.rows.now in
     let t = term_at c.args.poly.now c.args.i in
-    let left = told_powers c.shared-p.result c.in-Some.next in
-    let here = subst (λ (left : Powers). IsShareSoFar rows t.0 (unsigned_abs t.1) left c.loop-v.share) c.in-Some.ensures.power c.loop-v.invariant.share in
+    let left = told_powers c.shared-p.result c.in-Some.first.rest in
+    let here = subst (λ (left : Powers). IsShareSoFar rows t.0 (unsigned_abs t.1) left c.loop-first.share) c.in-Some.ensures.power c.loop-first.invariant.share in
     record {
       index = c.in-Some.ensures.index;
       share =
-          share_keeping rows t.0 (unsigned_abs t.1) (c.in-Some.v, c.in-Some.e) left c.loop-v.share c.keeping-share.result (sym c.in-None.ensures)
+          share_keeping rows t.0 (unsigned_abs t.1) (c.in-Some.first.var, c.in-Some.first.exponent) left c.loop-first.share c.keeping-share.result (sym c.in-None.ensures)
           (record {
             exponents = c.keeping-share.ensures.exponents;
             denominators-are = c.keeping-share.ensures.denominators;

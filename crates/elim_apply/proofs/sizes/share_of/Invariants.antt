@@ -5,11 +5,11 @@ use Rattle.geo_poly.specs.Shared.{IsIndexOf, told_powers}
 use Rattle.elim_apply.proofs.LineShares.{IsShareSoFar}
 use Rattle.elim_apply.proofs.sizes.share_of.Given as goal
 
-abbrev pub invariant-loop-v : goal.invariant-loop-v
-invariant-loop-v l = record {
+abbrev pub invariant-loop-first : goal.invariant-loop-first
+invariant-loop-first l = record {
   index : IsIndexOf l.p l.rest;
   share : IsShareSoFar (sketches l.rows) (term_at l.poly l.i).0 (unsigned_abs (term_at l.poly l.i).1) (told_powers l.p l.rest) l.share;
 }
 
-abbrev pub decreases-loop-v : goal.decreases-loop-v
-decreases-loop-v l = l.rest.0
+abbrev pub decreases-loop-first : goal.decreases-loop-first
+decreases-loop-first l = l.rest.0

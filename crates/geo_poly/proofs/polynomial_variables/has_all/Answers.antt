@@ -15,7 +15,7 @@ loop-v-preserved c =
     let others = c.args.others.now in
     let i = c.loop-v.v-index in
     let x = slice_index_or others i none in
-    known_more list others i x c.loop-v-test.true (get_or_any others i none x c.loop-v-test.true) (placed list x c.in-Some.field-0 c.in-Some.ensures) c.loop-v.invariant
+    known_more list others i x c.loop-v-test.true (get_or_any others i none x c.loop-v-test.true) (placed list x c.in-Some.place c.in-Some.ensures) c.loop-v.invariant
 
 pub returns : goal.returns
 returns c = λ _ v stands. subst (Contains c.args.list.now) stands.2 (c.loop-v.invariant stands.0 v (omega (arith, stands.1, c.loop-v-test.false)))

@@ -8,8 +8,8 @@ use Rattle.geo_poly.proofs.KnownVariables.{Walking-end, Walking-known, Walking-n
 use Rattle.geo_poly.proofs.VariablesInOrder.{sorted-insert_key}
 use Rattle.geo_poly.proofs.polynomial_variables.insert_powers.Goals as goal
 
-pub loop-v-init : goal.loop-v-init
-loop-v-init c = record {
+pub loop-first-init : goal.loop-first-init
+loop-first-init c = record {
   index = c.requires.index;
   rising = c.requires.rising;
   whole = refl;
@@ -18,28 +18,28 @@ loop-v-init c = record {
 
 pub returns-then-mark-clause-keys : goal.returns-then-mark-clause-keys
 returns-then-mark-clause-keys c =
-    let marked : slice_index_or c.loop-v.visited.items c.loop-v.rest.0 false ≡ true = search rules in
-    Walking-known c.args.p.now c.loop-v.visited.items c.loop-v.variables.keys c.loop-v.rest.0 (with_names c.args.variables.now.keys (told_powers c.args.p.now c.args.id)) c.loop-v.invariant.rising marked
-    c.loop-v.invariant.whole c.loop-v.invariant.walking
+    let marked : slice_index_or c.loop-first.visited.items c.loop-first.rest.0 false ≡ true = search rules in
+    Walking-known c.args.p.now c.loop-first.visited.items c.loop-first.variables.keys c.loop-first.rest.0 (with_names c.args.variables.now.keys (told_powers c.args.p.now c.args.id)) c.loop-first.invariant.rising marked
+    c.loop-first.invariant.whole c.loop-first.invariant.walking
 
 pub returns-then-mark-clause-visited : goal.returns-then-mark-clause-visited
 returns-then-mark-clause-visited c =
-    let marked : slice_index_or c.loop-v.visited.items c.loop-v.rest.0 false ≡ true = search rules in
+    let marked : slice_index_or c.loop-first.visited.items c.loop-first.rest.0 false ≡ true = search rules in
     let whole = with_names c.args.variables.now.keys (told_powers c.args.p.now c.args.id) in
-    let is = Walking-known c.args.p.now c.loop-v.visited.items c.loop-v.variables.keys c.loop-v.rest.0 whole c.loop-v.invariant.rising marked c.loop-v.invariant.whole c.loop-v.invariant.walking in
-    Walking-end c.args.p.now c.loop-v.visited.items c.mark.new.visited.items c.loop-v.variables.keys c.loop-v.rest.0 whole is marked c.mark.ensures.others c.loop-v.invariant.walking
+    let is = Walking-known c.args.p.now c.loop-first.visited.items c.loop-first.variables.keys c.loop-first.rest.0 whole c.loop-first.invariant.rising marked c.loop-first.invariant.whole c.loop-first.invariant.walking in
+    Walking-end c.args.p.now c.loop-first.visited.items c.mark.new.visited.items c.loop-first.variables.keys c.loop-first.rest.0 whole is marked c.mark.ensures.others c.loop-first.invariant.walking
 
-pub loop-v-preserved : goal.loop-v-preserved
-loop-v-preserved c =
+pub loop-first-preserved : goal.loop-first-preserved
+loop-first-preserved c =
     let p = c.args.p.now in
-    let keys = c.loop-v.variables.keys in
-    let next = told_powers c.args.p.now c.in-Some.next in
+    let keys = c.loop-first.variables.keys in
+    let next = told_powers c.args.p.now c.in-Some.first.rest in
     let whole = with_names c.args.variables.now.keys (told_powers c.args.p.now c.args.id) in
     let grown = c.in_ok-insert.ensures.keys in
     record {
       index = c.in-Some.ensures.index;
-      rising = subst (λ (ks : List Var). IsStrictlySortedBy var_cmp ks) (sym grown) (sorted-insert_key keys c.in-Some.v c.loop-v.invariant.rising);
-      whole = ap (λ (ks : List Var). with_names ks next) grown ∙ ap (λ (m : Powers). with_names keys m) (sym c.in-Some.ensures.power) ∙ c.loop-v.invariant.whole;
-      walking = Walking-next p c.loop-v.visited.items c.mark.new.visited.items keys c.insert.new.self.keys c.loop-v.rest.0 c.in-Some.next.0 c.in-Some.v whole c.in-Some.ensures.earlier c.mark.ensures.others grown
-          c.loop-v.invariant.whole c.loop-v.invariant.walking;
+      rising = subst (λ (ks : List Var). IsStrictlySortedBy var_cmp ks) (sym grown) (sorted-insert_key keys c.in-Some.first.var c.loop-first.invariant.rising);
+      whole = ap (λ (ks : List Var). with_names ks next) grown ∙ ap (λ (m : Powers). with_names keys m) (sym c.in-Some.ensures.power) ∙ c.loop-first.invariant.whole;
+      walking = Walking-next p c.loop-first.visited.items c.mark.new.visited.items keys c.insert.new.self.keys c.loop-first.rest.0 c.in-Some.first.rest.0 c.in-Some.first.var whole c.in-Some.ensures.earlier c.mark.ensures.others grown
+          c.loop-first.invariant.whole c.loop-first.invariant.walking;
     }

@@ -5,13 +5,13 @@ use Rattle.geo_poly.specs.Variables.{var_cmp}
 use Rattle.geo_poly.proofs.KnownVariables.{Walking, with_names}
 use Rattle.geo_poly.proofs.polynomial_variables.insert_powers.Given as goal
 
-abbrev pub invariant-loop-v : goal.invariant-loop-v
-invariant-loop-v l = record {
+abbrev pub invariant-loop-first : goal.invariant-loop-first
+invariant-loop-first l = record {
   index : IsIndexOf l.p l.rest;
   rising : IsStrictlySortedBy var_cmp l.variables.keys;
   whole : with_names l.variables.keys (told_powers l.p l.rest) ≡ with_names l.fn.variables.keys (told_powers l.p l.fn.id);
   walking : Walking l.p l.visited.items l.variables.keys l.rest.0 (with_names l.fn.variables.keys (told_powers l.p l.fn.id));
 }
 
-abbrev pub decreases-loop-v : goal.decreases-loop-v
-decreases-loop-v l = l.rest.0
+abbrev pub decreases-loop-first : goal.decreases-loop-first
+decreases-loop-first l = l.rest.0

@@ -3,12 +3,12 @@ use Rattle.geo_poly.specs.Monomials.{exponent}
 use Rattle.geo_poly.specs.Shared.{IsIndexOf, told_powers}
 use Rattle.geo_poly.proofs.reading.exponent_at.Given as goal
 
-abbrev pub invariant-loop-w : goal.invariant-loop-w
-invariant-loop-w l = record {
+abbrev pub invariant-loop-first : goal.invariant-loop-first
+invariant-loop-first l = record {
   index : IsIndexOf l.p l.rest;
   whole : l.total + exponent l.v (told_powers l.p l.rest) ≡ exponent l.v (told_powers l.p l.fn.id);
   small : exponent l.v (told_powers l.p l.fn.id) ≤ 65535;
 }
 
-abbrev pub decreases-loop-w : goal.decreases-loop-w
-decreases-loop-w l = l.rest.0
+abbrev pub decreases-loop-first : goal.decreases-loop-first
+decreases-loop-first l = l.rest.0

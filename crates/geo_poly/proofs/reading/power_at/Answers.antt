@@ -11,7 +11,7 @@ unreachable-requires c =
 pub loop-k-preserved : goal.loop-k-preserved
 loop-k-preserved c = record {
   index = c.in-Some.ensures.index;
-  whole = drop_next (told_powers c.args.p.now c.args.id) c.loop-k._k _ (told_powers c.args.p.now c.in-Some.next) (c.loop-k.invariant.whole ∙ c.in-Some.ensures.power);
+  whole = drop_next (told_powers c.args.p.now c.args.id) c.loop-k._k _ (told_powers c.args.p.now c.in-Some.first.rest) (c.loop-k.invariant.whole ∙ c.in-Some.ensures.power);
 }
 
 pub unreachable-requires-in-None-first_power : goal.unreachable-requires-in-None-first_power
@@ -21,5 +21,5 @@ unreachable-requires-in-None-first_power c =
 pub returns : goal.returns
 returns c =
     let last : c.loop-k._k ≡ c.args.j = omega arith in
-    subst (λ (k : ℕ). slice_get (told_powers c.args.p.now c.args.id) k ≡ Some (c.in-Some-first_power.v, c.in-Some-first_power.e)) last
+    subst (λ (k : ℕ). slice_get (told_powers c.args.p.now c.args.id) k ≡ Some (c.in-Some-first_power.first.var, c.in-Some-first_power.first.exponent)) last
     (dropped_get (told_powers c.args.p.now c.args.id) c.loop-k._k _ _ (c.loop-k.invariant.whole ∙ c.in-Some-first_power.ensures.power))

@@ -3,12 +3,12 @@ use Rattle.geo_poly.specs.Replace.{denominators}
 use Rattle.geo_poly.specs.Shared.{IsIndexOf, told_powers}
 use Rattle.geo_poly.proofs.replacement_bounds.denominators_at.Given as goal
 
-abbrev pub invariant-loop-v : goal.invariant-loop-v
-invariant-loop-v l = record {
+abbrev pub invariant-loop-first : goal.invariant-loop-first
+invariant-loop-first l = record {
   index : IsIndexOf l.p l.rest;
   so_far : l.denominators + denominators l.rows (told_powers l.p l.rest) ≡ denominators l.rows (told_powers l.p l.fn.id);
   small : denominators l.rows (told_powers l.p l.fn.id) ≤ 131070;
 }
 
-abbrev pub decreases-loop-v : goal.decreases-loop-v
-decreases-loop-v l = l.rest.0
+abbrev pub decreases-loop-first : goal.decreases-loop-first
+decreases-loop-first l = l.rest.0

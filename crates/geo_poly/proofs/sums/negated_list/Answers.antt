@@ -9,21 +9,21 @@ use Rattle.geo_poly.proofs.sums.negated_list.Goals as goal
 
 pub overflow_sub-coefficient : goal.overflow_sub-coefficient
 overflow_sub-coefficient c =
-    let vars = c.args.vars.now in
-    let links = c.args.store.now in
-    let list = c.args.list.now in
+    let vars = c.args.p.now.vars.now in
+    let links = c.args.p.now.monos.now in
+    let list = c.args.p.now.list.now in
     let i = c.loop-id.id-index in
-    negation_fits (item list i).1 (list_fits vars links list i c.loop-id-test.true c.requires.fits) (list_small vars links list i c.loop-id-test.true c.requires.fits)
+    negation_fits (item list i).1 (list_fits vars links list i c.loop-id-test.true c.requires.polynomial.norm_fits) (list_small vars links list i c.loop-id-test.true c.requires.polynomial.norm_fits)
 
 pub loop-id-preserved : goal.loop-id-preserved
 loop-id-preserved c =
-    let vars = c.args.vars.now in
-    let links = c.args.store.now in
-    let list = c.args.list.now in
+    let vars = c.args.p.now.vars.now in
+    let links = c.args.p.now.monos.now in
+    let list = c.args.p.now.list.now in
     let i = c.loop-id.id-index in
     let done = c.loop-id.opposite.items in
     let id = (item list i).0 in
-    let opposite = negated_number (item list i).1 _ (list_fits vars links list i c.loop-id-test.true c.requires.fits) (list_small vars links list i c.loop-id-test.true c.requires.fits) refl in
+    let opposite = negated_number (item list i).1 _ (list_fits vars links list i c.loop-id-test.true c.requires.polynomial.norm_fits) (list_small vars links list i c.loop-id-test.true c.requires.polynomial.norm_fits) refl in
     record {
       indices = rw c.in_ok-push.ensures.items (AllKeys-append (IsIndex vars links) done _ c.loop-id.invariant.indices (list_index vars links list i c.loop-id-test.true c.requires.indices, tt));
       terms = ap (terms_of vars links) c.in_ok-push.ensures.items

@@ -6,6 +6,6 @@ use Rattle.geo_poly.proofs.sums.negated_list.Given as goal
 
 abbrev pub invariant-loop-id : goal.invariant-loop-id
 invariant-loop-id l = record {
-  indices : AllKeys (IsIndex l.vars l.store) l.opposite.items;
-  terms : terms_of l.vars l.store l.opposite.items ≡ negated (take l.id-index (terms_of l.vars l.store l.list));
+  indices : AllKeys (IsIndex l.p.vars.now l.p.monos.now) l.opposite.items;
+  terms : terms_of l.p.vars.now l.p.monos.now l.opposite.items ≡ negated (take l.id-index (terms_of l.p.vars.now l.p.monos.now l.p.list.now));
 }

@@ -6,11 +6,11 @@ use Rattle.geo_poly.proofs.polynomials.Poly.product.Goals as goal
 
 pub chained_product-requires-clause-left : goal.chained_product-requires-clause-left
 chained_product-requires-clause-left c =
-    AllVariables-longer c.vars.result.now c.in_ok-vars.vars c.args.self.now c.in_ok-vars.ensures.left c.vars.ensures.known
+    AllVariables-longer c.vars.result.now c.in_ok-vars.vars c.args.self.now (rw c.as_slice.ensures at c.in_ok-vars.ensures.left) c.vars.ensures.known
 
 pub chained_product-requires-clause-right : goal.chained_product-requires-clause-right
 chained_product-requires-clause-right c =
-    AllVariables-longer c.vars-2.result.now c.in_ok-vars.vars c.args.other.now c.in_ok-vars.ensures.right c.vars-2.ensures.known
+    AllVariables-longer c.vars-2.result.now c.in_ok-vars.vars c.args.other.now (rw c.as_slice-2.ensures at c.in_ok-vars.ensures.right) c.vars-2.ensures.known
 
 pub from_chain-requires-clause-polynomial : goal.from_chain-requires-clause-polynomial
 from_chain-requires-clause-polynomial c =

@@ -1,7 +1,0 @@
-use Rattle.std.proofs.Common.{ap}
-use Rattle.mono_store.proofs.Unfolding.{monomial_of-one}
-use Rattle.geo_poly.specs.Shared.{named}
-use Rattle.geo_poly.proofs.reading.numbered_power.Goals as goal
-
-pub returns-in-None-clause-none : goal.returns-in-None-clause-none
-returns-in-None-clause-none c = ap (named c.args.p.now.vars.now) (monomial_of-one c.args.p.now.monos.now c.args.id c.in-None.ensures.none)
