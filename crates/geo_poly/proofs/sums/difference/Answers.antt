@@ -1,7 +1,7 @@
-use Rattle.std.proofs.Common.{◌≡◌, sym, ap, subst, ◌∙◌, arith}
+use Rattle.std.proofs.Common.{sym, ap, subst, ◌∙◌, arith}
 use Rattle.std.proofs.lemmas.Result.{IfOk-weaker}
 use Rattle.sparse_lists.specs.SparseLists.{AllKeys}
-use Rattle.geo_poly.specs.Polynomials.{IsPolynomial, negated, norm_of, sum_of}
+use Rattle.geo_poly.specs.Polynomials.{IsPolynomial, norm_of, sum_of}
 use Rattle.geo_poly.specs.Shared.{Indices, IsIndex, told, terms_of}
 use Rattle.geo_poly.proofs.Negated.{IsPolynomial-negated, norm_of-negated}
 use Rattle.geo_poly.proofs.sums.difference.Goals as goal
