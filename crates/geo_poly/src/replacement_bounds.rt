@@ -99,7 +99,9 @@ fn degree_at(p: &Shared, id: MonoId, rows: &RowTable, den: &Piece, top: u32) -> 
         match rows.find_row(first.var, first.number) {
             Some(row) => {
                 missing -= row.power * first.exponent;
-                degree = degree.saturating_add(row.num.degree.saturating_mul(first.exponent as u128));
+                degree = degree.saturating_add(
+                    row.num.degree.saturating_mul(first.exponent as u128),
+                );
             }
             None => degree = degree.saturating_add(first.exponent as u128),
         }

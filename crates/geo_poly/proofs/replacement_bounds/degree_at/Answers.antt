@@ -20,13 +20,13 @@ loop-first-preserved c =
     let missing = subst (λ (left : Powers). c.loop-first.missing ≡ denominators rows left + lacking) c.in-Some.ensures.power c.loop-first.invariant.missing-is in
     elim c.match-find_row.branch [
       | in-Some-find_row w ↦ record {
-          index = c.in-Some.ensures.index;
-          so_far = rw (w.degree-is, w.saturating_add-degree.ensures, w.saturating_mul.ensures) (degree_some rows first rest w.in-Some-find_row.row.now d x (sym w.in-Some-find_row.ensures) so_far);
-          missing-is = rw w.missing-is (missing_some rows first rest w.in-Some-find_row.row.now c.loop-first.missing lacking (sym w.in-Some-find_row.ensures) missing);
-        }
+        index = c.in-Some.ensures.index;
+        so_far = rw (w.degree-is, w.saturating_add-degree.ensures, w.saturating_mul.ensures) (degree_some rows first rest w.in-Some-find_row.row.now d x (sym w.in-Some-find_row.ensures) so_far);
+        missing-is = rw w.missing-is (missing_some rows first rest w.in-Some-find_row.row.now c.loop-first.missing lacking (sym w.in-Some-find_row.ensures) missing);
+      }
       | in-None w ↦ record {
-          index = c.in-Some.ensures.index;
-          so_far = rw (w.degree-is, w.saturating_add-degree-in-None.ensures) (degree_none rows first rest d x (sym w.in-None.ensures) so_far);
-          missing-is = rw w.missing-is (missing_none rows first rest c.loop-first.missing lacking (sym w.in-None.ensures) missing);
-        }
+        index = c.in-Some.ensures.index;
+        so_far = rw (w.degree-is, w.saturating_add-degree-in-None.ensures) (degree_none rows first rest d x (sym w.in-None.ensures) so_far);
+        missing-is = rw w.missing-is (missing_none rows first rest c.loop-first.missing lacking (sym w.in-None.ensures) missing);
+      }
     ]

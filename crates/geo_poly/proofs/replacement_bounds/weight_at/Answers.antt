@@ -16,14 +16,14 @@ loop-first-preserved c =
     let progress = subst (λ (left : Powers). WeightProgress rows c.args.top m c.args.t.1 left c.loop-first.weight c.loop-first.missing) c.in-Some.ensures.power c.loop-first.invariant.progress in
     elim c.match-find_row.branch [
       | in-Some-find_row w ↦ record {
-          index = c.in-Some.ensures.index;
-          progress = rw (w.weight-is, w.missing-is, w.saturating_mul-weight.ensures, w.saturating_pow.ensures)
-              (WeightProgress-some rows c.args.top m c.args.t.1 first rest c.loop-first.weight c.loop-first.missing w.in-Some-find_row.row.now (sym w.in-Some-find_row.ensures) progress);
-        }
+        index = c.in-Some.ensures.index;
+        progress = rw (w.weight-is, w.missing-is, w.saturating_mul-weight.ensures, w.saturating_pow.ensures)
+            (WeightProgress-some rows c.args.top m c.args.t.1 first rest c.loop-first.weight c.loop-first.missing w.in-Some-find_row.row.now (sym w.in-Some-find_row.ensures) progress);
+      }
       | in_default-find_row w ↦ record {
-          index = c.in-Some.ensures.index;
-          progress = rw (w.weight-is, w.missing-is) (WeightProgress-none rows c.args.top m c.args.t.1 first rest c.loop-first.weight c.loop-first.missing (sym w.in_default-find_row.ensures) progress);
-        }
+        index = c.in-Some.ensures.index;
+        progress = rw (w.weight-is, w.missing-is) (WeightProgress-none rows c.args.top m c.args.t.1 first rest c.loop-first.weight c.loop-first.missing (sym w.in_default-find_row.ensures) progress);
+      }
     ]
 
 pub returns : goal.returns
