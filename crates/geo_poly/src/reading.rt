@@ -1,7 +1,7 @@
 //! The monomials of a polynomial, read link by link.
 
 ghost use Rattle.std.specs.Prelude.{◌≡◌, ◌↔◌, ◌<◌, ◌≤◌, ◌^◌, ◌∷◌, [], length, slice_get};
-ghost use Rattle.std.specs.Prelude.{IfOk, IfSome, IfNone, IsTrue, OnOk};
+ghost use Rattle.std.specs.Prelude.{IfOk, IfSome, IfNone, IsTrue, OnOk, Some};
 ghost use Rattle.geo_poly.specs.Monomials.{IsMonomial, degree_of, exponent};
 ghost use Rattle.geo_poly.specs.Polynomials.{norm_of, term_at, total_degree};
 ghost use Rattle.geo_poly.specs.Shared.{AreParts, IsIndexOf, told, told_powers, told_term};
@@ -33,6 +33,7 @@ impl<'a> Shared<'a> {
             (λ f. told_powers self.now id ≡ (f.var, f.exponent) ∷ told_powers self.now f.rest) }
         ensures index { IfSome result (λ f. IsIndexOf self.now f.rest) }
         ensures earlier { IfSome result (λ f. f.rest.0 < id.0) }
+        ensures number { IfSome result (λ f. slice_get self.now.vars.now f.number ≡ Some f.var) }
     {
         match self.monos.link(id) {
             Some(link) => Some(FirstPower {

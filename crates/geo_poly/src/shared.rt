@@ -15,7 +15,7 @@ pub struct FirstPower {
     pub exponent: u32,
     /// The index of the rest of the monomial.
     pub rest: MonoId,
-    /// The number of the variable. Nothing rests on it but time.
+    /// The number of the variable.
     pub number: u64,
 }
 
