@@ -1,11 +1,13 @@
-use Rattle.std.proofs.Common.{◌≡◌, ◌∙◌, sym, ap, subst, unsigned_abs, arith, rules}
+use Rattle.std.proofs.Common.{◌≡◌, ℕ, ◌∙◌, sym, ap, subst, unsigned_abs, arith, rules}
 use Rattle.std.specs.Prelude.{ℤ}
 use Rattle.elim_apply.specs.Inner.Sketches.{sketched, sketches}
+use Rattle.geo_poly.specs.declared.variables.Var.{Var}
 use Rattle.geo_poly.specs.Monomials.{Powers}
 use Rattle.geo_poly.specs.Polynomials.{Summands, term_at}
 use Rattle.geo_poly.specs.Shared.{told_powers, told_term}
 use Rattle.elim_apply.proofs.LineShares.{IsShareSoFar, monomial_at, no_share, share_fits, share_keeping, share_replacing}
 use Rattle.elim_apply.proofs.sizes.share_of.Goals as goal
+use Rattle.elim_apply.proofs.sizes.share_of.Goals.{in-Some-find_row, in-None}
 
 pub loop-first-init : goal.loop-first-init
 loop-first-init c =
@@ -39,42 +41,38 @@ replacing-share-requires-clause-denominators c =
     let here = subst (λ (left : Powers). IsShareSoFar rows t.0 (unsigned_abs t.1) left c.loop-first.share) c.in-Some.ensures.power c.loop-first.invariant.share in
     (share_fits rows t.0 (unsigned_abs t.1) (c.in-Some.first.var, c.in-Some.first.exponent) left c.loop-first.share (sketched c.in-Some-find_row.row) (sym c.in-Some-find_row.ensures) here).denominators-are
 
-pub loop-first-preserved-in-Some-find_row : goal.loop-first-preserved-in-Some-find_row
-loop-first-preserved-in-Some-find_row c =
-    let rows = sketches c.args.rows.now in
-    let t = term_at c.args.poly.now c.args.i in
-    let left = told_powers c.shared-p.result c.in-Some.first.rest in
-    let here = subst (λ (left : Powers). IsShareSoFar rows t.0 (unsigned_abs t.1) left c.loop-first.share) c.in-Some.ensures.power c.loop-first.invariant.share in
-    record {
-      index = c.in-Some.ensures.index;
-      share =
-          share_replacing rows t.0 (unsigned_abs t.1) (c.in-Some.first.var, c.in-Some.first.exponent) left c.loop-first.share c.replacing-share.result (sketched c.in-Some-find_row.row) (sym c.in-Some-find_row.ensures)
-          (record {
-            exponents = c.replacing-share.ensures.exponents;
-            denominators-are = c.replacing-share.ensures.denominators;
-            count = c.replacing-share.ensures.count;
-            weight = c.replacing-share.ensures.weight;
-            degree = c.replacing-share.ensures.degree;
-          })
-          here;
-    }
-
 pub loop-first-preserved : goal.loop-first-preserved
 loop-first-preserved c =
     let rows = sketches c.args.rows.now in
     let t = term_at c.args.poly.now c.args.i in
+    let first : Var × ℕ = (c.in-Some.first.var, c.in-Some.first.exponent) in
     let left = told_powers c.shared-p.result c.in-Some.first.rest in
     let here = subst (λ (left : Powers). IsShareSoFar rows t.0 (unsigned_abs t.1) left c.loop-first.share) c.in-Some.ensures.power c.loop-first.invariant.share in
-    record {
-      index = c.in-Some.ensures.index;
-      share =
-          share_keeping rows t.0 (unsigned_abs t.1) (c.in-Some.first.var, c.in-Some.first.exponent) left c.loop-first.share c.keeping-share.result (sym c.in-None.ensures)
-          (record {
-            exponents = c.keeping-share.ensures.exponents;
-            denominators-are = c.keeping-share.ensures.denominators;
-            count = c.keeping-share.ensures.count;
-            weight = c.keeping-share.ensures.weight;
-            degree = c.keeping-share.ensures.degree;
-          })
-          here;
-    }
+    elim c.match-find_row.branch [
+      | in-Some-find_row w ↦ record {
+        index = c.in-Some.ensures.index;
+        share = rw w.share-is
+            (share_replacing rows t.0 (unsigned_abs t.1) first left c.loop-first.share w.replacing-share.result (sketched w.in-Some-find_row.row) (sym w.in-Some-find_row.ensures)
+            (record {
+              exponents = w.replacing-share.ensures.exponents;
+              denominators-are = w.replacing-share.ensures.denominators;
+              count = w.replacing-share.ensures.count;
+              weight = w.replacing-share.ensures.weight;
+              degree = w.replacing-share.ensures.degree;
+            })
+            here);
+      }
+      | in-None w ↦ record {
+        index = c.in-Some.ensures.index;
+        share = rw w.share-is
+            (share_keeping rows t.0 (unsigned_abs t.1) first left c.loop-first.share w.keeping-share.result (sym w.in-None.ensures)
+            (record {
+              exponents = w.keeping-share.ensures.exponents;
+              denominators-are = w.keeping-share.ensures.denominators;
+              count = w.keeping-share.ensures.count;
+              weight = w.keeping-share.ensures.weight;
+              degree = w.keeping-share.ensures.degree;
+            })
+            here);
+      }
+    ]
