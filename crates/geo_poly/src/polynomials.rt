@@ -5,17 +5,17 @@ ghost use Rattle.std.specs.Prelude.{unsigned_abs, slice_get, Contains, IfOk, IsT
 ghost use Rattle.sparse_lists.specs.SparseLists.{AllKeys};
 ghost use Rattle.poly_arena.specs.Chains.{IsLive, pairs_of};
 ghost use Rattle.geo_poly.specs.Chained.{IsKey, keyed_terms};
+ghost use Rattle.geo_poly.specs.Monomials.{IsMonomial};
 ghost use Rattle.geo_poly.specs.PolynomialVariables.{AllVariables};
 ghost use Rattle.geo_poly.specs.Polynomials.{IsPolynomial, constant_of, norm_of, term_at};
 ghost use Rattle.geo_poly.specs.Polynomials.{total_degree};
-ghost use Rattle.geo_poly.specs.Shared.{AreParts, IsShared, terms_of};
+ghost use Rattle.geo_poly.specs.Shared.{AreParts, IsIndex, IsShared, powers_at, terms_of};
 ghost use Rattle.geo_poly.specs.Variables.{var_cmp};
 ghost use Rattle.mono_store.specs.Stores.{IsStore};
 ghost use Rattle.std.specs.List.Sorted.{IsStrictlySortedBy};
 
 use crate::interning::{indexed, stored_terms};
 use crate::lists::Vars;
-use crate::monomials::Monomial;
 use crate::polynomial_variables::{mark, variables_of_terms};
 use crate::reading::{count_powers, is_same, norm_at, power_at, terms_at, total_degree_at};
 use crate::shared::{Indexed, Shared};
@@ -118,20 +118,45 @@ impl Poly {
         requires { unsigned_abs n < 2 ^ 127 }
         ensures { IfOk result (λ p. p ≡ constant_of n) }
     {
-        let mut terms = Vec::new(alloc);
-        if n != 0 {
-            terms.push((Monomial::one(alloc), n))?;
+        if n == 0 {
+            return Ok(Poly::zero(alloc));
         }
-        Poly::from_terms(alloc, &terms)
+        let monos = Monos::new(alloc);
+        let one = monos.one();
+        Poly::monomial(alloc, Vec::new(alloc), monos, one, n)
     }
 
     /// The polynomial that is the one variable.
     pub fn var(alloc: Global, v: Var) -> Result<Poly, NoMemory>
         ensures { IfOk result (λ p. p ≡ ((v, 1) ∷ [], pos 1) ∷ []) }
     {
-        let mut terms = Vec::new(alloc);
-        terms.push((Monomial::var(alloc, v)?, 1))?;
-        Poly::from_terms(alloc, &terms)
+        let mut vars = Vec::new(alloc);
+        vars.push(v)?;
+        let mut monos = Monos::new(alloc);
+        let one = monos.one();
+        let id = monos.mono(0, 1, one)?;
+        Poly::monomial(alloc, vars, monos, id, 1)
+    }
+
+    /// The polynomial of a monomial with a coefficient.
+    fn monomial(
+        alloc: Global,
+        vars: Vec<Var>,
+        monos: Monos,
+        id: MonoId,
+        coefficient: i128,
+    ) -> Result<Poly, NoMemory>
+        requires rising { IsStrictlySortedBy var_cmp vars.items }
+        requires index { IsIndex vars.items monos id }
+        requires monomial { IsMonomial (powers_at vars.items monos id) }
+        requires nonzero { unsigned_abs coefficient ≢ 0 }
+        requires fits { unsigned_abs coefficient < 2 ^ 127 }
+        ensures { IfOk result (λ p. p ≡ (powers_at vars.items monos id, coefficient) ∷ []) }
+    {
+        let mut list = Vec::new(alloc);
+        list.push((id, coefficient))?;
+        let vars = Vars { items: vars };
+        Ok(Poly { vars, monos, list })
     }
 
     /// A polynomial with the same terms.
