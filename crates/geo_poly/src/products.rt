@@ -14,6 +14,7 @@ use crate::chained::product_chain;
 use crate::limits::{MAX, MAX_DEGREE, PolyError, Which};
 use crate::lists::Vars;
 use crate::moving::moved;
+use crate::multiples::term_product;
 use crate::polynomial_variables::union;
 use crate::polynomials::Poly;
 use crate::ticks::Ticks;
@@ -90,11 +91,17 @@ impl Poly {
         Ok(())
     }
 
-    /// The product, which fits, with a store and an arena of its own.
+    /// The product, which fits, with a store of its own, and an arena where there are sums.
     fn product(&self, alloc: Global, other: &Poly) -> Result<Poly, NoMemory>
         requires { CanMultiply self.now other.now }
         ensures { IfOk result (λ p. p ≡ product_of self.now other.now) }
     {
+        if self.terms() == 1 {
+            return term_product(alloc, &self.shared(), &other.shared());
+        }
+        if other.terms() == 1 {
+            return term_product(alloc, &other.shared(), &self.shared());
+        }
         let vars = union(alloc, self.vars().as_slice(), other.vars().as_slice())?;
         let mut store = Monos::with_capacity(alloc, product_room(self, other))?;
         let mut arena = Arena::new(alloc)?;

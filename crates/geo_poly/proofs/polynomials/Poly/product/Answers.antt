@@ -1,6 +1,8 @@
-use Rattle.std.proofs.Common.{sym, subst}
-use Rattle.geo_poly.specs.Polynomials.{IsPolynomial}
+use Rattle.std.proofs.Common.{sym, ap₂, subst, ◌∙◌}
+use Rattle.std.proofs.lemmas.Result.{IfOk-weaker}
+use Rattle.geo_poly.specs.Polynomials.{IsPolynomial, product_of}
 use Rattle.geo_poly.proofs.ProductLaws.{IsPolynomial-product_of}
+use Rattle.geo_poly.proofs.ProductOrder.{product_of_comm}
 use Rattle.geo_poly.proofs.Unions.{AllVariables-longer}
 use Rattle.geo_poly.proofs.polynomials.Poly.product.Goals as goal
 
@@ -15,3 +17,9 @@ chained_product-requires-clause-right c =
 pub from_chain-requires-clause-polynomial : goal.from_chain-requires-clause-polynomial
 from_chain-requires-clause-polynomial c =
     subst IsPolynomial (sym c.in_ok-chain.ensures.chain.terms) (IsPolynomial-product_of c.args.self.now c.args.other.now c.requires.norm_fits c.requires.degree_fits)
+
+pub returns-then-terms-eq1-2 : goal.returns-then-terms-eq1-2
+returns-then-terms-eq1-2 c =
+    IfOk-weaker c.term_product-then-terms-eq1-2.result _ _
+    (λ p h. h ∙ ap₂ product_of c.shared-then-terms-eq1-2.ensures.terms c.shared-then-terms-eq1-2-2.ensures.terms ∙ product_of_comm c.args.other.now c.args.self.now)
+    c.term_product-then-terms-eq1-2.ensures
