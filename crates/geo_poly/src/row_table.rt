@@ -38,8 +38,11 @@ impl KnownPlace {
     }
 }
 
-/// Rows, and the place of the first row of each variable. There are no places where the memory for
-/// them was lacking: a replacement that is too large is refused as such also then.
+/// So many rows are searched one by one.
+const FEW_ROWS: usize = 4;
+
+/// Rows, and the place of the first row of each variable. There are no places where the rows are few,
+/// or the memory was lacking: a replacement that is too large is refused as such also then.
 pub(crate) struct RowTable<'a> {
     rows: &'a [Row],
     places: Option<BTreeMap<Var, usize>>,
@@ -76,10 +79,7 @@ impl<'a> RowTable<'a> {
     pub(crate) fn new(alloc: Global, rows: &'a [Row], vars: &[Var]) -> RowTable<'a>
         ensures { result ≡ rows.now }
     {
-        let places = match first_places(alloc, rows) {
-            Ok(places) => Some(places),
-            Err(_) => None,
-        };
+        let places = known_first_places(alloc, rows);
         let known = match known_places(alloc, rows, vars, &places) {
             Ok(known) => known,
             Err(_) => Vec::new(alloc),
@@ -135,6 +135,17 @@ fn row_at(rows: &[Row], i: usize) -> &Row
     ensures { slice_get rows.now i ≡ Some result.now }
 {
     &rows[i]
+}
+
+/// The place of the first row of each variable; none where there are few rows, which are searched one
+/// by one, and where the memory is lacking.
+fn known_first_places(alloc: Global, rows: &[Row]) -> Option<BTreeMap<Var, usize>>
+    ensures { IfSome result (AreFirstPlaces rows.now) }
+{
+    if rows.len() <= FEW_ROWS {
+        return None;
+    }
+    first_places(alloc, rows).ok()
 }
 
 /// The place of the first row of each variable.

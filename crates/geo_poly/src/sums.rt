@@ -50,8 +50,8 @@ impl Poly {
     }
 }
 
-/// The sum, which fits: over the store of the summand that has the variables of both, or else over
-/// a new one.
+/// The sum, which fits: over a copy of the store of the summand that has the variables of both, or
+/// else over a new one.
 fn sum(alloc: Global, p: &Shared, q: &Shared) -> Result<Poly, NoMemory>
     requires left { AreParts p.now }
     requires right { AreParts q.now }
@@ -149,7 +149,7 @@ pub(crate) fn merged_lists(
         ≡ sum_of (terms_of vars.now store.now left.now) (terms_of vars.now store.now right.now)) }
 {
     let _ = vars;
-    let mut list = Vec::new(alloc);
+    let mut list = Vec::with_capacity(alloc, left.len().saturating_add(right.len()))?;
     let mut i = 0;
     let mut j = 0;
     while i < left.len() && j < right.len() {
