@@ -68,10 +68,6 @@ pub AllNumerators-longer : (old new : List Var) (rows : List Row) → ((v : Var)
 AllNumerators-longer old new [] more h = tt
 AllNumerators-longer old new (r ∷ rows) more h = (AllVariables-longer old new r.num.poly more h.0, AllNumerators-longer old new rows more h.1)
 
-pub AllNumerators-push : (Holds : Var → Type 0) (rows : List Row) (row : Row) → AllNumerators Holds rows → AllVariables Holds row.num.poly → AllNumerators Holds (rows ++ row ∷ [])
-AllNumerators-push Holds [] row h g = (g, tt)
-AllNumerators-push Holds (r ∷ rows) row h g = (h.0, AllNumerators-push Holds rows row h.1 g)
-
 -- the list of a polynomial, over a copy of its store that has grown
 module _ (p : Shared) (parts : AreParts p) (copy grown : Links) (same : copy ≡ p.monos.now) (kept : Keeps copy grown) where
   own_kept : Keeps p.monos.now grown

@@ -200,14 +200,3 @@ pub(crate) fn has_all(list: &[Var], others: &[Var]) -> bool
     }
     true
 }
-
-/// Inserts variables.
-pub(crate) fn insert_all(variables: &mut BTreeSet<Var>, more: &[Var]) -> Result<(), NoMemory>
-    ensures { OnOk result
-        (variables.new.keys ≡ fold (insert_key var_cmp) variables.old.keys more.now) }
-{
-    for v in more {
-        variables.insert(*v)?;
-    }
-    Ok(())
-}

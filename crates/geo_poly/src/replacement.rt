@@ -18,7 +18,7 @@ use crate::chained_replacement::{replaced_chain, stored_rows};
 use crate::interning::stored_terms;
 use crate::limits::{MAX, MAX_DEGREE, PolyError, Which};
 use crate::lists::Vars;
-use crate::polynomial_variables::{insert_all, union};
+use crate::polynomial_variables::union;
 use crate::polynomials::Poly;
 use crate::replacement_bounds::{degree_of_terms, most_denominators_of, weight_of_terms};
 use crate::row_table::RowTable;
@@ -29,7 +29,6 @@ use geo_points::NoMemory;
 use mono_store::Monos;
 use poly_arena::{Arena, Chain};
 use std::alloc::Global;
-use std::collections::BTreeSet;
 use std::sync::ledger::Ledger;
 
 /// A polynomial with numbers that bound its size, which are known before it is multiplied out. They
@@ -256,15 +255,32 @@ impl Poly {
 
 /// The variables of the list and those of the numerators, in order and each once.
 fn with_rows(alloc: Global, own: &Vars, rows: &[Row]) -> Result<Vars, NoMemory>
+    requires { IsStrictlySortedBy var_cmp own.now }
     ensures rising { IfOk result (IsStrictlySortedBy var_cmp) }
     ensures own { IfOk result (λ vs. (v : Var) → Contains own.now v → Contains vs v) }
     ensures rows { IfOk result (λ vs. AllNumerators (Contains vs) rows.now) }
 {
-    let mut variables = BTreeSet::new(alloc);
-    insert_all(&mut variables, own.as_slice())?;
-    for row in rows {
-        insert_all(&mut variables, row.num.poly.vars().as_slice())?;
+    let more = numerator_vars(alloc, rows)?;
+    union(alloc, own.as_slice(), more.as_slice())
+}
+
+/// The variables of the numerators, in order and each once, by halves of the rows.
+fn numerator_vars(alloc: Global, rows: &[Row]) -> Result<Vars, NoMemory>
+    ensures rising { IfOk result (IsStrictlySortedBy var_cmp) }
+    ensures rows { IfOk result (λ vs. AllNumerators (Contains vs) rows.now) }
+{
+    match rows {
+        [] => Ok(Vars {
+            items: Vec::new(alloc),
+        }),
+        [row] => Ok(Vars {
+            items: Vec::from_slice(alloc, row.num.poly.vars().as_slice())?,
+        }),
+        _ => {
+            let (front, back) = rows.split_at(rows.len() / 2);
+            let left = numerator_vars(alloc, front)?;
+            let right = numerator_vars(alloc, back)?;
+            union(alloc, left.as_slice(), right.as_slice())
+        }
     }
-    let items = variables.into_iter().collect(alloc)?;
-    Ok(Vars { items })
 }
