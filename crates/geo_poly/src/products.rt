@@ -145,5 +145,5 @@ impl Poly {
 
 /// Room for the links of a product. Nothing rests on it but time.
 fn product_room(p: &Poly, q: &Poly) -> u64 {
-    p.terms().saturating_mul(q.terms()).min(65_536)
+    p.terms().saturating_mul(q.terms()).min(1 << 20)
 }
