@@ -17,7 +17,7 @@ use smallvec::SmallVec;
 use std::alloc::Global;
 
 /// A table that takes no memory for a small polynomial.
-type Table<T> = SmallVec<Option<T>, 16>;
+type Table<T> = SmallVec<Option<T>, 6>;
 
 /// The indices of the monomials in another store, with their coefficients. Each link is looked at
 /// once.

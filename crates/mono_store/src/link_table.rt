@@ -13,10 +13,10 @@ use std::marker::Model;
 
 /// How many links stand in the value itself. Most stores have no more, and it is quicker to compare
 /// so few than to hash one.
-const FEW: usize = 8;
+const FEW: usize = 4;
 
 /// How many links there is room for where they are first hashed.
-const MANY: usize = 4 * FEW;
+const MANY: usize = 8 * FEW;
 
 /// The links of a store, each once. A few stand in the value itself and are compared one by one;
 /// many are found by their hashes.

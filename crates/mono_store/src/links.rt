@@ -27,7 +27,7 @@ pub struct Link {
 }
 
 /// The first powers of a product, of which a few take no memory.
-pub type FirstPowers = SmallVec<(u64, u32), 4>;
+pub type FirstPowers = SmallVec<(u64, u32), 2>;
 
 /// The link at an index, which all but that of the monomial with no variable have.
 pub fn link_at(links: &[Link], id: MonoId) -> Option<Link>

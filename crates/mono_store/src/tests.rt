@@ -105,7 +105,7 @@ fn monomials_in_one_store(rt: HostRuntime) -> Result<(), Fail> {
     Ok(())
 }
 
-/// Nine links and more are hashed, and a product of nine powers needs more room.
+/// Nine links are hashed, and a product of nine powers needs more room.
 #[test]
 fn more_than_a_few_links(rt: HostRuntime) -> Result<(), Fail> {
     let powers = [
