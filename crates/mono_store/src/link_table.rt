@@ -16,7 +16,7 @@ use std::marker::Model;
 const FEW: usize = 4;
 
 /// How many links there is room for where they are first hashed.
-const MANY: usize = 8 * FEW;
+const MANY: usize = 4 * FEW;
 
 /// The links of a store, each once. A few stand in the value itself and are compared one by one;
 /// many are found by their hashes.
