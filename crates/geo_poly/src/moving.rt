@@ -13,11 +13,7 @@ use crate::shared::{Indexed, Shared};
 use crate::variables::Var;
 use geo_points::NoMemory;
 use mono_store::{MonoId, Monos};
-use smallvec::SmallVec;
 use std::alloc::Global;
-
-/// A table that takes no memory for a small polynomial.
-type Table<T> = SmallVec<Option<T>, 6>;
 
 /// The indices of the monomials in another store, with their coefficients. Each link is looked at
 /// once.
@@ -35,7 +31,7 @@ pub(crate) fn moved(
     ensures kept { Keeps store.old store.new }
 {
     let table = moved_monomials(alloc, store, vars, p)?;
-    looked_up(alloc, vars, store, p, table.as_slice())
+    looked_up(alloc, vars, store, p, &table)
 }
 
 /// The list with the indices that the table tells.
@@ -72,7 +68,7 @@ fn moved_monomials(
     store: &mut Monos,
     vars: &[Var],
     p: &Shared,
-) -> Result<Table<MonoId>, NoMemory>
+) -> Result<Vec<Option<MonoId>>, NoMemory>
     requires rising { IsStrictlySortedBy var_cmp vars.now }
     requires parts { AreParts p.now }
     ensures moved { IfOk result (λ table. AreMoved p.now vars.now store.new table.items) }
@@ -81,17 +77,10 @@ fn moved_monomials(
 {
     let places = places_in(alloc, p.vars, vars)?;
     let n = p.monos.links();
-    let mut table = SmallVec::with_capacity(alloc, (n as usize).saturating_add(1))?;
+    let mut table = Vec::with_capacity(alloc, (n as usize).saturating_add(1))?;
     table.push(Some(store.one()))?;
     for k in 0..n {
-        let new = moved_monomial(
-            store,
-            vars,
-            p,
-            places.as_slice(),
-            table.as_slice(),
-            MonoId(k + 1),
-        )?;
+        let new = moved_monomial(store, vars, p, &places, &table, MonoId(k + 1))?;
         table.push(new)?;
     }
     Ok(table)
@@ -152,11 +141,11 @@ fn place_at(places: &[Option<u64>], number: u64) -> Option<u64>
 }
 
 /// The place of each of the old variables among the others, where it stands there.
-fn places_in(alloc: Global, former: &[Var], vars: &[Var]) -> Result<Table<u64>, NoMemory>
+fn places_in(alloc: Global, former: &[Var], vars: &[Var]) -> Result<Vec<Option<u64>>, NoMemory>
     requires { IsStrictlySortedBy var_cmp vars.now }
     ensures { IfOk result (λ places. ArePlaces former.now vars.now places.items) }
 {
-    let mut places = SmallVec::with_capacity(alloc, former.len())?;
+    let mut places = Vec::with_capacity(alloc, former.len())?;
     let mut guess = 0u64;
     for v in former {
         let place = find_place(vars, *v, guess);

@@ -132,7 +132,7 @@ impl Poly {
     {
         let mut vars = Vec::new(alloc);
         vars.push(v)?;
-        let mut monos = Monos::new(alloc);
+        let mut monos = Monos::with_capacity(alloc, 1)?;
         let one = monos.one();
         let id = monos.mono(0, 1, one)?;
         Poly::monomial(alloc, vars, monos, id, 1)

@@ -6,17 +6,16 @@ ghost use Rattle.mono_store.specs.Monomials.{ComesFirst, IsMonomial, degree_of};
 ghost use Rattle.mono_store.specs.Monomials.{monomial_cmp, product};
 ghost use Rattle.mono_store.specs.Stores.{IsStore, Keeps, count, monomial_of};
 
-use crate::link_table::LinkTable;
 use crate::memory::NoMemory;
-use smallvec::SmallVec;
+use indexmap::IndexSet;
 use std::cmp::Ordering;
 
 /// The index of a monomial in its store.
-#[derive(Clone, Copy, Debug, Default, PartialEq, Eq, Hash)]
+#[derive(Clone, Copy, Debug, PartialEq, Eq, Hash)]
 pub struct MonoId(pub u64);
 
 /// A power before the rest of a monomial.
-#[derive(Clone, Copy, Debug, Default, PartialEq, Eq, Hash)]
+#[derive(Clone, Copy, Debug, PartialEq, Eq, Hash)]
 pub struct Link {
     /// The number of the variable.
     pub var: u64,
@@ -25,9 +24,6 @@ pub struct Link {
     /// The index of the monomial in the later variables.
     pub next: MonoId,
 }
-
-/// The first powers of a product, of which a few take no memory.
-pub type FirstPowers = SmallVec<(u64, u32), 2>;
 
 /// The link at an index, which all but that of the monomial with no variable have.
 pub fn link_at(links: &[Link], id: MonoId) -> Option<Link>
@@ -46,21 +42,26 @@ pub fn link_at(links: &[Link], id: MonoId) -> Option<Link>
 }
 
 /// The index of the monomial that has the power before those of `next`.
-pub fn interned(links: &mut LinkTable, var: u64, exp: u32, next: MonoId) -> Result<MonoId, NoMemory>
-    requires store { IsStore links.old }
-    requires next { next.0 < count links.old }
+pub fn interned(
+    links: &mut IndexSet<Link>,
+    var: u64,
+    exp: u32,
+    next: MonoId,
+) -> Result<MonoId, NoMemory>
+    requires store { IsStore links.old.keys }
+    requires next { next.0 < count links.old.keys }
     requires exponent { 1 ≤ exp }
-    requires first { ComesFirst var (monomial_of links.old next) }
-    requires degree { exp + degree_of (monomial_of links.old next) ≤ 65535 }
-    ensures index { IfOk result (λ id. id.0 < count links.new) }
+    requires first { ComesFirst var (monomial_of links.old.keys next) }
+    requires degree { exp + degree_of (monomial_of links.old.keys next) ≤ 65535 }
+    ensures index { IfOk result (λ id. id.0 < count links.new.keys) }
     ensures monomial { IfOk result
-        (λ id. monomial_of links.new id ≡ (var, exp) ∷ monomial_of links.old next) }
-    ensures kept { Keeps links.old links.new }
-    ensures valid { IsStore links.new }
-    ensures err { OnErr result (links.new ≡ links.old) }
+        (λ id. monomial_of links.new.keys id ≡ (var, exp) ∷ monomial_of links.old.keys next) }
+    ensures kept { Keeps links.old.keys links.new.keys }
+    ensures valid { IsStore links.new.keys }
+    ensures err { OnErr result (links.new.keys ≡ links.old.keys) }
 {
-    let index = links.insert(Link { var, exp, next })?;
-    prove!(index < links.len());
+    let (index, _) = links.insert_full(Link { var, exp, next })?;
+    prove!(links.len() < usize::MAX);
     Ok(MonoId(index as u64 + 1))
 }
 
@@ -68,7 +69,7 @@ pub fn interned(links: &mut LinkTable, var: u64, exp: u32, next: MonoId) -> Resu
 /// the rest. Where one of both is used up, the rest is that of the other.
 pub fn first_powers(
     links: &[Link],
-    powers: &mut FirstPowers,
+    powers: &mut Vec<(u64, u32)>,
     a: MonoId,
     b: MonoId,
 ) -> Result<MonoId, NoMemory>
@@ -110,18 +111,18 @@ pub fn first_powers(
 
 /// The index of the monomial that has these powers before those of `rest`.
 pub fn before(
-    links: &mut LinkTable,
+    links: &mut IndexSet<Link>,
     powers: &[(u64, u32)],
     rest: MonoId,
 ) -> Result<MonoId, NoMemory>
-    requires store { IsStore links.old }
-    requires rest { rest.0 < count links.old }
-    requires monomial { IsMonomial (powers.now ++ monomial_of links.old rest) }
-    ensures index { IfOk result (λ id. id.0 < count links.new) }
+    requires store { IsStore links.old.keys }
+    requires rest { rest.0 < count links.old.keys }
+    requires monomial { IsMonomial (powers.now ++ monomial_of links.old.keys rest) }
+    ensures index { IfOk result (λ id. id.0 < count links.new.keys) }
     ensures monomial { IfOk result
-        (λ id. monomial_of links.new id ≡ powers.now ++ monomial_of links.old rest) }
-    ensures kept { Keeps links.old links.new }
-    ensures valid { IsStore links.new }
+        (λ id. monomial_of links.new.keys id ≡ powers.now ++ monomial_of links.old.keys rest) }
+    ensures kept { Keeps links.old.keys links.new.keys }
+    ensures valid { IsStore links.new.keys }
 {
     let mut id = rest;
     let mut i = powers.len();

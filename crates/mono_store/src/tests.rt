@@ -104,38 +104,3 @@ fn monomials_in_one_store(rt: HostRuntime) -> Result<(), Fail> {
     assert!(rt; twice.commutes && twice.same);
     Ok(())
 }
-
-/// Nine links are hashed, and a product of nine powers needs more room.
-#[test]
-fn more_than_a_few_links(rt: HostRuntime) -> Result<(), Fail> {
-    let powers = [
-        (0, 1),
-        (1, 1),
-        (2, 1),
-        (3, 1),
-        (4, 1),
-        (5, 1),
-        (6, 1),
-        (7, 1),
-        (8, 1),
-    ];
-    let long = pair_of(rt.alloc(), &powers, &powers)?;
-    assert_eq!(rt; long.order, Ordering::Equal);
-    assert_eq!(rt;
-        long.product.as_slice(),
-        [
-            (0, 2),
-            (1, 2),
-            (2, 2),
-            (3, 2),
-            (4, 2),
-            (5, 2),
-            (6, 2),
-            (7, 2),
-            (8, 2)
-        ]
-        .as_slice()
-    );
-    assert!(rt; long.commutes && long.same);
-    Ok(())
-}
