@@ -40,6 +40,7 @@ pub mod KeyedChains
 pub mod ChainSteps
 pub mod ChainHalves
 pub mod ChainMultiples
+pub mod LoneTerms
 pub mod ChainPowers
 pub mod Unions
 pub mod MergedVariables
