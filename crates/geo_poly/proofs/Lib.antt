@@ -41,6 +41,7 @@ pub mod ChainSteps
 pub mod ChainHalves
 pub mod ChainMultiples
 pub mod LoneTerms
+pub mod Elements
 pub mod ChainPowers
 pub mod Unions
 pub mod MergedVariables
