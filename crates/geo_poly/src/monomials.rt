@@ -1,6 +1,6 @@
 //! Monomials: products of powers of variables.
 
-ghost use Rattle.std.specs.Prelude.{◌≡◌, ◌+◌, ◌≤◌, [], ◌∷◌, ◌++◌, IfOk, IfSome, IfNone, OnOk};
+ghost use Rattle.std.specs.Prelude.{◌≡◌, ◌+◌, ◌≤◌, [], ◌++◌, IfOk, IfSome, IfNone, OnOk};
 ghost use Rattle.std.specs.Prelude.{OnErr};
 ghost use Rattle.geo_poly.specs.Variables.{var_cmp};
 ghost use Rattle.sparse_lists.specs.SparseLists.{IsCanonical};
@@ -47,15 +47,6 @@ impl Monomial {
         ensures { result ≡ powers.items }
     {
         Monomial { powers }
-    }
-
-    /// The variable to the power 1.
-    pub fn var(alloc: Global, v: Var) -> Result<Monomial, NoMemory>
-        ensures { IfOk result (λ m. m ≡ (v, 1) ∷ []) }
-    {
-        let mut powers = Vec::new(alloc);
-        powers.push((v, 1))?;
-        Ok(Monomial { powers })
     }
 
     /// A monomial with the same powers.
