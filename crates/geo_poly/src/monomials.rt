@@ -1,6 +1,6 @@
 //! Monomials: products of powers of variables.
 
-ghost use Rattle.std.specs.Prelude.{◌≡◌, ◌+◌, ◌≤◌, [], ◌++◌, IfOk, IfSome, IfNone, OnOk};
+ghost use Rattle.std.specs.Prelude.{◌≡◌, ◌+◌, ◌≤◌, [], ◌∷◌, ◌++◌, IfOk, IfSome, IfNone, OnOk};
 ghost use Rattle.std.specs.Prelude.{OnErr};
 ghost use Rattle.geo_poly.specs.Variables.{var_cmp};
 ghost use Rattle.sparse_lists.specs.SparseLists.{IsCanonical};
