@@ -1,7 +1,9 @@
 //! Rows as they are written, before they are multiplied out.
 
-ghost use Rattle.std.specs.Prelude.{◌≡◌, ◌≤◌, ◌+◌, ◌*◌, ◌^◌, ◌<◌, ℕ, max, IfOk};
-ghost use Rattle.fraction_poly.specs.Inner.Drafts.{AllFit, IsBoundedNumber, drafted_piece, form_of};
+ghost use Rattle.std.specs.Prelude.{◌≡◌, ◌≤◌, ◌+◌, ◌*◌, ◌^◌, ◌<◌, ℕ, max, Contains, IfOk};
+ghost use Rattle.fraction_poly.specs.Inner.Drafts.{AllFit, AllLeaves, IsBoundedNumber, IsPartFor};
+ghost use Rattle.fraction_poly.specs.Inner.Drafts.{drafted_piece, form_of};
+ghost use Rattle.geo_poly.specs.Rings.{Grows};
 ghost use Rattle.fraction_poly.specs.Inner.Drafts.{numbers_in, piece_bounds};
 ghost use Rattle.fraction_poly.specs.Forms.{◌⊞◌, ◌⊟◌, ◌⊠◌, opposite};
 ghost use Rattle.fraction_poly.specs.Measures.{capped, capped_number};
@@ -10,10 +12,10 @@ ghost use Rattle.geo_terms.specs.Trees.{Tree};
 
 use crate::fractions::{area, pythagoras, ratio};
 use crate::measures::Numbers;
-use crate::pieces::{copied, difference, integer, opposite, product, sum, variable};
+use crate::parts::{Part, copied, difference, integer, opposite, product, quantity, sum, variable};
 use crate::step_numbers::StepNumber;
 use geo_points::{NoMemory, PointId, TermId};
-use geo_poly::{Piece, Poly, Var};
+use geo_poly::{Piece, Ring, Var};
 use std::alloc::Global;
 
 /// A polynomial as a row writes it. It is not multiplied out yet.
@@ -134,28 +136,47 @@ impl Draft {
         requires fits { AllFit number.now self.now }
         ensures { IfOk result (λ f. f ≡ drafted_piece number.now self.now) }
     {
+        let mut ring = Ring::new(alloc, self.variables(alloc, number)?);
+        let part = self.part(alloc, &mut ring, number)?;
+        part.into_piece(alloc, ring)
+    }
+
+    /// What the draft multiplies out to, in a ring that has its variables.
+    fn part(&self, alloc: Global, ring: &mut Ring, number: &StepNumber) -> Result<Part, NoMemory>
+        requires number { IsBoundedNumber number.now }
+        requires fits { AllFit number.now self.now }
+        requires known { AllLeaves (Contains ring.old.vars) number.now self.now }
+        ensures part { IfOk result (IsPartFor ring.new (drafted_piece number.now self.now)) }
+        ensures grows { Grows ring.old ring.new }
+    {
         match self {
-            Draft::Integer(n) => integer(alloc, *n),
-            Draft::Area(a, b, c) => Ok(variable(area(alloc, *a, *b, *c)?)),
-            Draft::Pythagoras(a, b, c) => Ok(variable(pythagoras(alloc, *a, *b, *c)?)),
-            Draft::Ratio(a, b, c, d) => Ok(variable(ratio(alloc, *a, *b, *c, *d)?)),
-            Draft::Abscissa(a) => Ok(variable(Poly::var(alloc, Var::X(*a))?)),
-            Draft::Ordinate(a) => Ok(variable(Poly::var(alloc, Var::Y(*a))?)),
-            Draft::Numerator => copied(alloc, &number.num),
-            Draft::Denominator => copied(alloc, &number.den),
+            Draft::Integer(n) => integer(alloc, ring, *n),
+            Draft::Area(a, b, c) => quantity(alloc, ring, &area(alloc, *a, *b, *c)?),
+            Draft::Pythagoras(a, b, c) => quantity(alloc, ring, &pythagoras(alloc, *a, *b, *c)?),
+            Draft::Ratio(a, b, c, d) => quantity(alloc, ring, &ratio(alloc, *a, *b, *c, *d)?),
+            Draft::Abscissa(a) => variable(alloc, ring, Var::X(*a)),
+            Draft::Ordinate(a) => variable(alloc, ring, Var::Y(*a)),
+            Draft::Numerator => copied(alloc, ring, &number.num),
+            Draft::Denominator => copied(alloc, ring, &number.den),
             Draft::Sum(left, right) => {
-                let left = left.piece(alloc, number)?;
-                sum(alloc, &left, &right.piece(alloc, number)?)
+                let left = left.part(alloc, ring, number)?;
+                let right = right.part(alloc, ring, number)?;
+                sum(alloc, ring, &left, &right)
             }
             Draft::Difference(left, right) => {
-                let left = left.piece(alloc, number)?;
-                difference(alloc, &left, &right.piece(alloc, number)?)
+                let left = left.part(alloc, ring, number)?;
+                let right = right.part(alloc, ring, number)?;
+                difference(alloc, ring, &left, &right)
             }
             Draft::Product(left, right) => {
-                let left = left.piece(alloc, number)?;
-                product(alloc, &left, &right.piece(alloc, number)?)
+                let left = left.part(alloc, ring, number)?;
+                let right = right.part(alloc, ring, number)?;
+                product(alloc, ring, &left, &right)
             }
-            Draft::Opposite(draft) => opposite(alloc, &draft.piece(alloc, number)?),
+            Draft::Opposite(draft) => {
+                let part = draft.part(alloc, ring, number)?;
+                opposite(alloc, ring, &part)
+            }
         }
     }
 }

@@ -3,13 +3,14 @@
 #![tactic(auto)]
 
 mod cutting;
+mod draft_variables;
 mod drafts;
 mod fractions;
 pub mod laws;
 mod linear;
 mod measures;
 mod multiplying;
-mod pieces;
+mod parts;
 mod reaching;
 mod step_numbers;
 mod store_numbers;

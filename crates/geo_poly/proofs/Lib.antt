@@ -40,6 +40,8 @@ pub mod KeyedChains
 pub mod ChainSteps
 pub mod ChainHalves
 pub mod ChainMultiples
+pub mod LoneTerms
+pub mod Elements
 pub mod ChainPowers
 pub mod Unions
 pub mod MergedVariables

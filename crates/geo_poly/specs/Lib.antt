@@ -17,4 +17,5 @@ pub mod ReplacementLaws
 pub mod Shared
 pub mod StoreOrder
 pub mod Chained
+pub mod Rings
 pub mod Inner

@@ -49,15 +49,6 @@ impl Monomial {
         Monomial { powers }
     }
 
-    /// The variable to the power 1.
-    pub fn var(alloc: Global, v: Var) -> Result<Monomial, NoMemory>
-        ensures { IfOk result (λ m. m ≡ (v, 1) ∷ []) }
-    {
-        let mut powers = Vec::new(alloc);
-        powers.push((v, 1))?;
-        Ok(Monomial { powers })
-    }
-
     /// A monomial with the same powers.
     pub fn copy(&self, alloc: Global) -> Result<Monomial, NoMemory>
         ensures { IfOk result (λ m. m ≡ self.now) }

@@ -77,7 +77,7 @@ fn multiplied(
 }
 
 /// The entry of a list that has one.
-fn only(list: &[Indexed]) -> &Indexed
+pub(crate) fn only(list: &[Indexed]) -> &Indexed
     requires { length list.now ≡ 1 }
     ensures { list.now ≡ result.now ∷ [] }
 {
@@ -85,7 +85,7 @@ fn only(list: &[Indexed]) -> &Indexed
 }
 
 /// The list times the one term. Its order stays.
-fn multiples_list(
+pub(crate) fn multiples_list(
     alloc: Global,
     store: &mut Monos,
     vars: &[Var],

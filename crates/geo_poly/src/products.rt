@@ -8,16 +8,21 @@ ghost use Rattle.geo_poly.specs.declared.limits.Which.{Which};
 ghost use Rattle.geo_poly.specs.Chained.{AddsChain, SameChains, StandsFor};
 ghost use Rattle.geo_poly.specs.Polynomials.{CanMultiply, norm_of, product_of, total_degree};
 ghost use Rattle.geo_poly.specs.PolynomialVariables.{AllVariables};
+ghost use Rattle.geo_poly.specs.Shared.{IsIndex, terms_of};
+ghost use Rattle.sparse_lists.specs.SparseLists.{AllKeys};
 ghost use Rattle.geo_poly.specs.Variables.{var_cmp};
 
 use crate::chained::product_chain;
+use crate::interning::indexed;
 use crate::limits::{MAX, MAX_DEGREE, PolyError, Which};
 use crate::lists::Vars;
 use crate::moving::moved;
-use crate::multiples::term_product;
+use crate::multiples::{multiples_list, term_product};
 use crate::polynomial_variables::union;
 use crate::polynomials::Poly;
+use crate::shared::Indexed;
 use crate::ticks::Ticks;
+use crate::variables::Var;
 use geo_points::NoMemory;
 use mono_store::Monos;
 use poly_arena::{Arena, Chain};
@@ -146,4 +151,61 @@ impl Poly {
 /// Room for the links of a product. Nothing rests on it but time.
 fn product_room(p: &Poly, q: &Poly) -> u64 {
     p.terms().saturating_mul(q.terms()).min(1 << 20)
+}
+
+/// The list of the product, in a store: over an arena where there are sums.
+pub(crate) fn product_list<L: Ledger>(
+    alloc: Global,
+    store: &mut Monos,
+    vars: &[Var],
+    left: &[Indexed],
+    right: &[Indexed],
+    blank: Blank,
+) -> Result<Vec<Indexed>, NoMemory>
+    requires name { blank.name ≡ L.name }
+    requires parts { blank.parts ≡ L.parts }
+    requires some { 0 < blank.parts }
+    requires rising { IsStrictlySortedBy var_cmp vars.now }
+    requires left { AllKeys (IsIndex vars.now store.old) left.now }
+    requires right { AllKeys (IsIndex vars.now store.old) right.now }
+    requires fits { CanMultiply (terms_of vars.now store.old left.now)
+        (terms_of vars.now store.old right.now) }
+    ensures indices { IfOk result (λ list. AllKeys (IsIndex vars.now store.new) list.items) }
+    ensures product { IfOk result (λ list. terms_of vars.now store.new list.items
+        ≡ product_of (terms_of vars.now store.old left.now)
+        (terms_of vars.now store.old right.now)) }
+    ensures kept { Keeps store.old store.new }
+{
+    match (left, right) {
+        ([t], _) => multiples_list(alloc, store, vars, *t, right),
+        (_, [t]) => multiples_list(alloc, store, vars, *t, left),
+        _ => merged_product(alloc, store, vars, left, right, &mut Ticks::<L>::new(blank)),
+    }
+}
+
+/// The list of the product, by chains of an arena.
+fn merged_product<L: Ledger>(
+    alloc: Global,
+    store: &mut Monos,
+    vars: &[Var],
+    left: &[Indexed],
+    right: &[Indexed],
+    ticks: &mut Ticks<L>,
+) -> Result<Vec<Indexed>, NoMemory>
+    requires rising { IsStrictlySortedBy var_cmp vars.now }
+    requires left { AllKeys (IsIndex vars.now store.old) left.now }
+    requires right { AllKeys (IsIndex vars.now store.old) right.now }
+    requires fits { CanMultiply (terms_of vars.now store.old left.now)
+        (terms_of vars.now store.old right.now) }
+    ensures indices { IfOk result (λ list. AllKeys (IsIndex vars.now store.new) list.items) }
+    ensures product { IfOk result (λ list. terms_of vars.now store.new list.items
+        ≡ product_of (terms_of vars.now store.old left.now)
+        (terms_of vars.now store.old right.now)) }
+    ensures kept { Keeps store.old store.new }
+{
+    let mut arena = Arena::new(alloc)?;
+    let chain = product_chain(store, &mut arena, vars, left, right, ticks)?;
+    let pairs = arena.to_list(alloc, &chain);
+    arena.give_back(chain);
+    indexed(alloc, &pairs?)
 }

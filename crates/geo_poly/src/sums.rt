@@ -180,7 +180,7 @@ pub(crate) fn merged_lists(
 }
 
 /// The list of the opposite polynomial.
-fn negated_list(alloc: Global, p: &Shared) -> Result<Vec<Indexed>, NoMemory>
+pub(crate) fn negated_list(alloc: Global, p: &Shared) -> Result<Vec<Indexed>, NoMemory>
     requires { AreParts p.now }
     ensures indices { IfOk result
         (λ v. AllKeys (IsIndex p.now.vars.now p.now.monos.now) v.items) }

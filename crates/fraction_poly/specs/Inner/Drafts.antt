@@ -1,5 +1,5 @@
 -- Forms as the code writes them, over the number of a step.
-use Rattle.std.specs.Prelude.{ℕ, pos, Option, Some, None}
+use Rattle.std.specs.Prelude.{◌≡◌, ℕ, pos, Option, Some, None}
 use Rattle.fraction_poly.specs.declared.drafts.Bounds.{Bounds}
 use Rattle.fraction_poly.specs.declared.drafts.Draft.{Draft}
 use Rattle.fraction_poly.specs.declared.drafts.Draft.TheVariants.{Integer, Area, Pythagoras, Ratio, Abscissa, Ordinate, Numerator, Denominator, Sum', Difference', Product', Opposite'}
@@ -7,6 +7,7 @@ use Rattle.fraction_poly.specs.declared.drafts.RowDraft.{RowDraft}
 use Rattle.fraction_poly.specs.declared.linear.Linear.{Linear}
 use Rattle.fraction_poly.specs.declared.linear.Linear.TheVariants.{Area as LinearArea, Pythagoras as LinearPythagoras}
 use Rattle.fraction_poly.specs.declared.measures.Numbers.{Numbers}
+use Rattle.fraction_poly.specs.declared.parts.Part.{Part}
 use Rattle.fraction_poly.specs.declared.step_numbers.StepNumber.{StepNumber}
 use Rattle.fraction_poly.specs.Forms.{Form, integer, area, pythagoras, ratio, abscissa, ordinate, numerator, denominator, ◌⊞◌, ◌⊟◌, ◌⊠◌, opposite, PieceFits, integer_piece, variable_piece, piece_sum, piece_difference, piece_product, piece_opposite}
 use Rattle.fraction_poly.specs.Measures.{capped_number, numbers_of}
@@ -15,9 +16,12 @@ use Rattle.fraction_poly.specs.TableRows.{TableRow}
 use Rattle.geo_points.specs.declared.ids.PointId.{PointId}
 use Rattle.geo_points.specs.declared.ids.TermId.{TermId}
 use Rattle.geo_poly.specs.declared.replacement.Piece.{Piece}
+use Rattle.geo_poly.specs.declared.variables.Var.{Var}
 use Rattle.geo_poly.specs.declared.variables.Var.TheVariants.{X, Y}
 use Rattle.geo_poly.specs.Canonical.{canonical_area, canonical_difference, canonical_ratio}
+use Rattle.geo_poly.specs.PolynomialVariables.{AllVariables}
 use Rattle.geo_poly.specs.Replace.{IsBounded}
+use Rattle.geo_poly.specs.Rings.{IsElement, RingValue, polynomial_in}
 use Rattle.geo_terms.specs.declared.steps.Step.{Step}
 use Rattle.geo_terms.specs.declared.steps.Step.TheVariants.{Pratio, Tratio}
 use Rattle.geo_terms.specs.Stores.{Store, tree_of}
@@ -78,6 +82,30 @@ AllFit n (Difference' p f q g) = PieceFits (piece_difference (drafted_piece n f)
 AllFit n (Product' p f q g) = PieceFits (piece_product (drafted_piece n f) (drafted_piece n g)) × AllFit n f × AllFit n g
 AllFit n (Opposite' p f) = AllFit n f
 AllFit n _ = Unit {0}
+
+-- the piece that a part of a ring is
+abbrev pub piece_in : RingValue → Part → Piece
+piece_in r part = record { poly = polynomial_in r part.element; weight = part.weight; count = part.count; degree = part.degree }
+
+-- a part of the ring that is this piece
+pub record IsPartFor (r : RingValue) (piece : Piece) (part : Part) : Type 0 where
+  pub element_of : IsElement r part.element
+  pub piece_is : piece_in r part ≡ piece
+
+-- each variable of each leaf of the draft has the property
+abbrev pub AllLeaves : (Var → Type 0) → StepNumber → Draft → Type 0
+AllLeaves Holds n (Integer k) = Unit {0}
+AllLeaves Holds n (Area a b c) = AllVariables Holds (canon_polynomial (canonical_area a b c))
+AllLeaves Holds n (Pythagoras a b c) = AllVariables Holds (canon_polynomial (canonical_difference a b c))
+AllLeaves Holds n (Ratio a b c d) = AllVariables Holds (canon_polynomial (canonical_ratio a b c d))
+AllLeaves Holds n (Abscissa a) = Holds (X a)
+AllLeaves Holds n (Ordinate a) = Holds (Y a)
+AllLeaves Holds n Numerator = AllVariables Holds n.num.poly
+AllLeaves Holds n Denominator = AllVariables Holds n.den.poly
+AllLeaves Holds n (Sum' p f q g) = AllLeaves Holds n f × AllLeaves Holds n g
+AllLeaves Holds n (Difference' p f q g) = AllLeaves Holds n f × AllLeaves Holds n g
+AllLeaves Holds n (Product' p f q g) = AllLeaves Holds n f × AllLeaves Holds n g
+AllLeaves Holds n (Opposite' p f) = AllLeaves Holds n f
 
 -- the numbers of both parts, with a charge
 abbrev pub numbers_in : StepNumber → ℕ → Numbers

@@ -1,0 +1,97 @@
+//! The variables of a draft.
+
+ghost use Rattle.std.specs.Prelude.{Contains, IfOk, IfSome, OnOk, Some, ◌≡◌};
+ghost use Rattle.std.specs.List.Sorted.{IsStrictlySortedBy};
+ghost use Rattle.fraction_poly.specs.Inner.Drafts.{AllLeaves};
+ghost use Rattle.geo_poly.specs.declared.variables.Var.{Var};
+ghost use Rattle.geo_poly.specs.Variables.{var_cmp};
+
+use crate::drafts::Draft;
+use crate::step_numbers::StepNumber;
+use geo_points::NoMemory;
+use geo_poly::lists::Vars;
+use geo_poly::{Canon, Var, canon_p, canon_r, canon_s};
+use std::alloc::Global;
+use std::collections::BTreeSet;
+
+impl Draft {
+    /// The variables of its leaves, in order and each once.
+    pub(crate) fn variables(&self, alloc: Global, number: &StepNumber) -> Result<Vars, NoMemory>
+        ensures rising { IfOk result (IsStrictlySortedBy var_cmp) }
+        ensures known { IfOk result (λ vs. AllLeaves (Contains vs) number.now self.now) }
+    {
+        let mut variables = BTreeSet::new(alloc);
+        self.insert_variables(&mut variables, number)?;
+        let items = variables.into_iter().collect(alloc)?;
+        Ok(Vars { items })
+    }
+
+    /// Inserts the variables of its leaves.
+    fn insert_variables(
+        &self,
+        variables: &mut BTreeSet<Var>,
+        number: &StepNumber,
+    ) -> Result<(), NoMemory>
+        ensures known { OnOk result (AllLeaves (Contains variables.new.keys) number.now self.now) }
+        ensures kept { OnOk result
+            ((v : Var) → Contains variables.old.keys v → Contains variables.new.keys v) }
+    {
+        match self {
+            Draft::Integer(_) => Ok(()),
+            Draft::Area(a, b, c) => insert_canon(variables, canon_s(*a, *b, *c)),
+            Draft::Pythagoras(a, b, c) => insert_canon(variables, canon_p(*a, *b, *c)),
+            Draft::Ratio(a, b, c, d) => insert_canon(variables, canon_r(*a, *b, *c, *d)),
+            Draft::Abscissa(a) => insert(variables, Var::X(*a)),
+            Draft::Ordinate(a) => insert(variables, Var::Y(*a)),
+            Draft::Numerator => insert_all(variables, number.num.poly.vars().as_slice()),
+            Draft::Denominator => insert_all(variables, number.den.poly.vars().as_slice()),
+            Draft::Sum(left, right) => {
+                left.insert_variables(variables, number)?;
+                right.insert_variables(variables, number)
+            }
+            Draft::Difference(left, right) => {
+                left.insert_variables(variables, number)?;
+                right.insert_variables(variables, number)
+            }
+            Draft::Product(left, right) => {
+                left.insert_variables(variables, number)?;
+                right.insert_variables(variables, number)
+            }
+            Draft::Opposite(draft) => draft.insert_variables(variables, number),
+        }
+    }
+}
+
+/// Inserts the variable of a sorted form, where it has one.
+fn insert_canon(variables: &mut BTreeSet<Var>, canon: Canon) -> Result<(), NoMemory>
+    ensures known { OnOk result (IfSome canon.var (Contains variables.new.keys)) }
+    ensures kept { OnOk result
+        ((v : Var) → Contains variables.old.keys v → Contains variables.new.keys v) }
+{
+    match canon.var {
+        None => Ok(()),
+        Some(v) => insert(variables, v),
+    }
+}
+
+/// Inserts a variable.
+fn insert(variables: &mut BTreeSet<Var>, v: Var) -> Result<(), NoMemory>
+    ensures known { OnOk result (Contains variables.new.keys v) }
+    ensures kept { OnOk result
+        ((w : Var) → Contains variables.old.keys w → Contains variables.new.keys w) }
+{
+    variables.insert(v)?;
+    Ok(())
+}
+
+/// Inserts variables.
+fn insert_all(variables: &mut BTreeSet<Var>, more: &[Var]) -> Result<(), NoMemory>
+    ensures known { OnOk result ((v : Var) → Contains more.now v → Contains variables.new.keys v) }
+    ensures kept { OnOk result
+        ((v : Var) → Contains variables.old.keys v → Contains variables.new.keys v) }
+{
+    for v in more {
+        variables.insert(*v)?;
+    }
+    Ok(())
+}
