@@ -2,13 +2,12 @@
 use Rattle.std.proofs.Common.{◌≡◌, ℕ, ◌+◌, ◌*◌, ◌≤◌, max, Bool, true, false, cond, eqb, ◌||◌, ℤ, pos, ◌*ℤ◌, Some, None, [], ◌∷◌, ◌++◌, refl, ap, unsigned_abs, length, arith}
 use Rattle.std.proofs.Math.Nat.{mul-le-mul}
 use Rattle.std.proofs.lemmas.List.Sums.{sum_by-cons}
-use Rattle.std.specs.Ordering.{nat_cmp}
 use Rattle.geo_points.specs.declared.ids.PointId.{PointId}
 use Rattle.sparse_lists.specs.SparseLists.{AllKeys}
 use Rattle.sparse_lists.proofs.Sums.{AllKeys-canonical, AllKeys-append}
+use Rattle.geo_poly.specs.declared.canonical.Canon.{Canon}
 use Rattle.geo_poly.specs.declared.variables.Var.{Var}
-use Rattle.geo_poly.specs.declared.variables.Var.TheVariants.{R}
-use Rattle.geo_poly.specs.Canonical.{pair_sign, permutation_sign, sorted_area, signed_variable, canonical_area, is_point, sorted_difference, canonical_difference, lower, higher, is_same_pair, canonical_ratio}
+use Rattle.geo_poly.specs.Canonical.{canonical_area, canonical_difference, canonical_ratio}
 use Rattle.geo_poly.specs.Monomials.{Powers, degree_of}
 use Rattle.geo_poly.specs.Polynomials.{Summands, coefficients, term_cmp, norm_of, total_degree, constant_of, sum_of, negated, difference_of, products, product_of}
 use Rattle.geo_poly.proofs.Lengths.{length-negated, length-product_of-le, length-sum_of-le}
@@ -16,8 +15,9 @@ use Rattle.geo_poly.proofs.Negated.{norm_of-negated}
 use Rattle.geo_poly.proofs.PolynomialLaws.{norm_of-sum_of-le}
 use Rattle.geo_poly.proofs.ProductLaws.{norm_of-product_of-le}
 use Rattle.geo_poly.proofs.ReplaceBounds.{total_degree-product_of-le}
-use Rattle.geo_poly.proofs.SortedForms.{small_product, small_sign}
+use Rattle.fraction_poly.specs.Inner.Drafts.{HasSign}
 use Rattle.fraction_poly.specs.MultipliedOut.{variable_polynomial, canon_polynomial}
+use Rattle.fraction_poly.proofs.Signs.{HasSign-area, HasSign-difference, HasSign-ratio}
 
 -- w, k and g bound the norm, the number of monomials and the degree
 pub record IsWithin (p : Summands) (w k g : ℕ) : Type 0 where
@@ -89,39 +89,20 @@ IsWithin-variable sign v h = record {
   degree = omega (arith, sum_by-cons (λ (p : Var × ℕ). p.1) (v, 1) []);
 }
 
-small_permutation : (a b c : PointId) → unsigned_abs (permutation_sign a b c) ≤ 1
-small_permutation a b c =
-    small_product (pair_sign a b *ℤ pair_sign b c) (pair_sign a c) (small_product (pair_sign a b) (pair_sign b c) (small_sign (nat_cmp a.0 b.0)) (small_sign (nat_cmp b.0 c.0))) (small_sign (nat_cmp a.0 c.0))
-
 -- a sign times a variable, or a number that is a sign
-IsWithin-number : (z : ℤ) → unsigned_abs z ≤ 1 → IsWithin (canon_polynomial (record { sign = z; var = None })) 1 1 1
-IsWithin-number z h =
-    let w = IsWithin-constant z in
-    record { norm = omega (arith, w.norm); count = omega (arith, w.count); degree = omega (arith, w.degree) }
-
-IsWithin-signed : (sign : ℤ) (v : Var) → unsigned_abs sign ≤ 1 → IsWithin (canon_polynomial (signed_variable sign v)) 1 1 1
-IsWithin-signed sign v h =
-    elim (eqb (unsigned_abs sign) 0) as (λ b. IsWithin (canon_polynomial (cond b (record { sign = pos 0; var = None }) (record { sign = sign; var = Some v }))) 1 1 1) [
-      | true ↦ record { norm = omega arith; count = omega arith; degree = omega arith }
-      | false ↦ IsWithin-variable sign v h
-    ]
+IsWithin-canon : (c : Canon) → HasSign c → IsWithin (canon_polynomial c) 1 1 1
+IsWithin-canon c h = elim c.var as (λ v. IsWithin (canon_polynomial (record { sign = c.sign; var = v })) 1 1 1) [
+  | None ↦
+      let w = IsWithin-constant c.sign in
+      record { norm = omega (arith, w.norm, h.0); count = omega (arith, w.count); degree = omega (arith, w.degree) }
+  | Some v ↦ IsWithin-variable c.sign v h.0
+]
 
 pub IsWithin-area : (a b c : PointId) → IsWithin (canon_polynomial (canonical_area a b c)) 1 1 1
-IsWithin-area a b c = IsWithin-signed (permutation_sign a b c) (sorted_area a b c) (small_permutation a b c)
+IsWithin-area a b c = IsWithin-canon (canonical_area a b c) (HasSign-area a b c)
 
 pub IsWithin-pythagoras : (a b c : PointId) → IsWithin (canon_polynomial (canonical_difference a b c)) 1 1 1
-IsWithin-pythagoras a b c =
-    elim (is_point a b || is_point b c) as (λ p. IsWithin (canon_polynomial (cond p (record { sign = pos 0; var = None }) (record { sign = pos 1; var = Some (sorted_difference a b c) }))) 1 1 1) [
-      | true ↦ record { norm = omega arith; count = omega arith; degree = omega arith }
-      | false ↦ IsWithin-variable (pos 1) (sorted_difference a b c) (omega arith)
-    ]
+IsWithin-pythagoras a b c = IsWithin-canon (canonical_difference a b c) (HasSign-difference a b c)
 
 pub IsWithin-ratio : (a b c d : PointId) → IsWithin (canon_polynomial (canonical_ratio a b c d)) 1 1 1
-IsWithin-ratio a b c d =
-    let sign = pair_sign a b *ℤ pair_sign c d in
-    let small = small_product (pair_sign a b) (pair_sign c d) (small_sign (nat_cmp a.0 b.0)) (small_sign (nat_cmp c.0 d.0)) in
-    let v = R (lower a b) (higher a b) (lower c d) (higher c d) in
-    elim (is_same_pair a b c d) as (λ p. IsWithin (canon_polynomial (cond p (record { sign = sign; var = None }) (signed_variable sign v))) 1 1 1) [
-      | true ↦ IsWithin-number sign small
-      | false ↦ IsWithin-signed sign v small
-    ]
+IsWithin-ratio a b c d = IsWithin-canon (canonical_ratio a b c d) (HasSign-ratio a b c d)

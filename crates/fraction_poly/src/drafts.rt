@@ -10,12 +10,11 @@ ghost use Rattle.fraction_poly.specs.Measures.{capped, capped_number};
 ghost use Rattle.fraction_poly.specs.declared.step_numbers.StepNumber.{StepNumber};
 ghost use Rattle.geo_terms.specs.Trees.{Tree};
 
-use crate::fractions::{area, pythagoras, ratio};
 use crate::measures::Numbers;
 use crate::parts::{Part, copied, difference, integer, opposite, product, quantity, sum, variable};
 use crate::step_numbers::StepNumber;
 use geo_points::{NoMemory, PointId, TermId};
-use geo_poly::{Piece, Ring, Var};
+use geo_poly::{Piece, Ring, Var, canon_p, canon_r, canon_s};
 use std::alloc::Global;
 
 /// A polynomial as a row writes it. It is not multiplied out yet.
@@ -151,9 +150,9 @@ impl Draft {
     {
         match self {
             Draft::Integer(n) => integer(alloc, ring, *n),
-            Draft::Area(a, b, c) => quantity(alloc, ring, &area(alloc, *a, *b, *c)?),
-            Draft::Pythagoras(a, b, c) => quantity(alloc, ring, &pythagoras(alloc, *a, *b, *c)?),
-            Draft::Ratio(a, b, c, d) => quantity(alloc, ring, &ratio(alloc, *a, *b, *c, *d)?),
+            Draft::Area(a, b, c) => quantity(alloc, ring, canon_s(*a, *b, *c)),
+            Draft::Pythagoras(a, b, c) => quantity(alloc, ring, canon_p(*a, *b, *c)),
+            Draft::Ratio(a, b, c, d) => quantity(alloc, ring, canon_r(*a, *b, *c, *d)),
             Draft::Abscissa(a) => variable(alloc, ring, Var::X(*a)),
             Draft::Ordinate(a) => variable(alloc, ring, Var::Y(*a)),
             Draft::Numerator => copied(alloc, ring, &number.num),

@@ -4,14 +4,14 @@ ghost use Rattle.std.specs.Prelude.{◌≡◌, ◌+◌, ◌*◌, ◌^◌, ◌<�
 ghost use Rattle.fraction_poly.specs.Forms.{PieceFits, integer_piece, piece_difference};
 ghost use Rattle.fraction_poly.specs.Forms.{piece_opposite, piece_product, piece_sum};
 ghost use Rattle.fraction_poly.specs.Forms.{variable_piece};
-ghost use Rattle.fraction_poly.specs.Inner.Drafts.{IsPartFor, piece_in};
-ghost use Rattle.fraction_poly.specs.MultipliedOut.{variable_polynomial};
+ghost use Rattle.fraction_poly.specs.Inner.Drafts.{HasSign, IsPartFor, piece_in};
+ghost use Rattle.fraction_poly.specs.MultipliedOut.{canon_polynomial, variable_polynomial};
 ghost use Rattle.geo_poly.specs.PolynomialVariables.{AllVariables};
 ghost use Rattle.geo_poly.specs.Replace.{IsBounded};
 ghost use Rattle.geo_poly.specs.Rings.{Grows, IsElement};
 
 use geo_points::NoMemory;
-use geo_poly::{Element, Piece, Poly, Ring, Var};
+use geo_poly::{Canon, Element, Piece, Ring, Var};
 use std::alloc::Global;
 
 /// A polynomial of a ring, with the numbers of a piece.
@@ -47,21 +47,26 @@ pub(crate) fn variable(alloc: Global, ring: &mut Ring, v: Var) -> Result<Part, N
     ensures grows { Grows ring.old ring.new }
 {
     Ok(Part {
-        element: ring.variable(alloc, v)?,
+        element: ring.multiple(alloc, 1, v)?,
         weight: 1,
         count: 1,
         degree: 1,
     })
 }
 
-/// A quantity of points.
-pub(crate) fn quantity(alloc: Global, ring: &mut Ring, poly: &Poly) -> Result<Part, NoMemory>
-    requires known { AllVariables (Contains ring.old.vars) poly.now }
-    ensures part { IfOk result (IsPartFor ring.new (variable_piece poly.now)) }
+/// A quantity of points in its sorted form.
+pub(crate) fn quantity(alloc: Global, ring: &mut Ring, canon: Canon) -> Result<Part, NoMemory>
+    requires sign { HasSign canon }
+    requires known { AllVariables (Contains ring.old.vars) (canon_polynomial canon) }
+    ensures part { IfOk result (IsPartFor ring.new (variable_piece (canon_polynomial canon))) }
     ensures grows { Grows ring.old ring.new }
 {
+    let element = match canon.var {
+        None => ring.constant(alloc, canon.sign)?,
+        Some(v) => ring.multiple(alloc, canon.sign, v)?,
+    };
     Ok(Part {
-        element: ring.element(alloc, poly)?,
+        element,
         weight: 1,
         count: 1,
         degree: 1,

@@ -17,6 +17,14 @@ use Rattle.geo_poly.proofs.EachVariable.{all_variables, each-contained, each-var
 use Rattle.geo_poly.proofs.Orders.{var_order}
 
 -- ORDER
+pub none_rise : IsStrictlySortedBy var_cmp []
+unfolding IsStrictlySortedBy
+none_rise = tt
+
+pub one_rises : (v : Var) → IsStrictlySortedBy var_cmp (v ∷ [])
+unfolding IsStrictlySortedBy
+one_rises v = (tt, tt)
+
 -- u is below each of the variables
 abbrev pub IsBelow : Var → List Var → Type 0
 IsBelow u vs = AllByRecursion (λ w. var_cmp u w ≡ Less) vs

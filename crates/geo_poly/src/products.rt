@@ -8,7 +8,7 @@ ghost use Rattle.geo_poly.specs.declared.limits.Which.{Which};
 ghost use Rattle.geo_poly.specs.Chained.{AddsChain, SameChains, StandsFor};
 ghost use Rattle.geo_poly.specs.Polynomials.{CanMultiply, norm_of, product_of, total_degree};
 ghost use Rattle.geo_poly.specs.PolynomialVariables.{AllVariables};
-ghost use Rattle.geo_poly.specs.Shared.{IsIndex, terms_of};
+ghost use Rattle.geo_poly.specs.Shared.{AreParts, IsIndex, terms_of, told};
 ghost use Rattle.sparse_lists.specs.SparseLists.{AllKeys};
 ghost use Rattle.geo_poly.specs.Variables.{var_cmp};
 
@@ -17,10 +17,10 @@ use crate::interning::indexed;
 use crate::limits::{MAX, MAX_DEGREE, PolyError, Which};
 use crate::lists::Vars;
 use crate::moving::moved;
-use crate::multiples::{multiples_list, term_product};
-use crate::polynomial_variables::union;
+use crate::multiples::multiples_list;
+use crate::polynomial_variables::{has_all, union};
 use crate::polynomials::Poly;
-use crate::shared::Indexed;
+use crate::shared::{Indexed, Shared};
 use crate::ticks::Ticks;
 use crate::variables::Var;
 use geo_points::NoMemory;
@@ -42,7 +42,7 @@ impl Poly {
             × (65535 < total_degree self.now + total_degree other.now)) }
     {
         self.test_product(other)?;
-        Ok(self.product(alloc, other)?)
+        Ok(product(alloc, &self.shared(), &other.shared())?)
     }
 
     /// The chain of the product, in an arena and over a store that are given; the variables have
@@ -96,27 +96,6 @@ impl Poly {
         Ok(())
     }
 
-    /// The product, which fits, with a store of its own, and an arena where there are sums.
-    fn product(&self, alloc: Global, other: &Poly) -> Result<Poly, NoMemory>
-        requires { CanMultiply self.now other.now }
-        ensures { IfOk result (λ p. p ≡ product_of self.now other.now) }
-    {
-        if self.terms() == 1 {
-            return term_product(alloc, &self.shared(), &other.shared());
-        }
-        if other.terms() == 1 {
-            return term_product(alloc, &other.shared(), &self.shared());
-        }
-        let vars = union(alloc, self.vars().as_slice(), other.vars().as_slice())?;
-        let mut store = Monos::with_capacity(alloc, product_room(self, other))?;
-        let mut arena = Arena::new(alloc)?;
-        let blank = Blank::new(1);
-        let chain = self.chained_product::<Brand>(
-            alloc, other, &vars, &mut store, &mut arena, blank,
-        )?;
-        Poly::from_chain(alloc, vars, store, arena, chain)
-    }
-
     /// The chain of the product, which fits; its products of monomials are counted for nobody.
     fn chained_product<L: Ledger>(
         &self,
@@ -148,9 +127,68 @@ impl Poly {
     }
 }
 
+/// The product, which fits: over a copy of the store of one factor, where that has all variables
+/// and the other factor has one monomial, or else over a new one.
+fn product(alloc: Global, p: &Shared, q: &Shared) -> Result<Poly, NoMemory>
+    requires left { AreParts p.now }
+    requires right { AreParts q.now }
+    requires fits { CanMultiply (told p.now) (told q.now) }
+    ensures { IfOk result (λ s. s ≡ product_of (told p.now) (told q.now)) }
+{
+    if q.list.len() == 1 && has_all(p.vars, q.vars) {
+        return product_over(alloc, p, q);
+    }
+    if p.list.len() == 1 && has_all(q.vars, p.vars) {
+        return product_over(alloc, q, p);
+    }
+    let vars = union(alloc, p.vars, q.vars)?;
+    let mut monos = Monos::with_capacity(alloc, product_room(p, q))?;
+    let list = product_of_moved(alloc, &mut monos, vars.as_slice(), p, q)?;
+    Poly::compact(alloc, vars, monos, list)
+}
+
 /// Room for the links of a product. Nothing rests on it but time.
-fn product_room(p: &Poly, q: &Poly) -> u64 {
-    p.terms().saturating_mul(q.terms()).min(1 << 20)
+fn product_room(p: &Shared, q: &Shared) -> u64 {
+    let products = p.list.len().saturating_mul(q.list.len());
+    (products as u64).min(1 << 20)
+}
+
+/// The product, over a copy of the store of the first, which has the variables of both.
+fn product_over(alloc: Global, p: &Shared, q: &Shared) -> Result<Poly, NoMemory>
+    requires left { AreParts p.now }
+    requires right { AreParts q.now }
+    requires known { AllVariables (Contains p.now.vars.now) (told q.now) }
+    requires fits { CanMultiply (told p.now) (told q.now) }
+    ensures { IfOk result (λ s. s ≡ product_of (told p.now) (told q.now)) }
+{
+    let mut monos = p.monos.copy(alloc)?;
+    let right = moved(alloc, &mut monos, p.vars, q)?;
+    let list = product_list::<Brand>(alloc, &mut monos, p.vars, p.list, &right, Blank::new(1))?;
+    let items = Vec::from_slice(alloc, p.vars)?;
+    Poly::compact(alloc, Vars { items }, monos, list)
+}
+
+/// The list of the product, in a store.
+fn product_of_moved(
+    alloc: Global,
+    store: &mut Monos,
+    vars: &[Var],
+    p: &Shared,
+    q: &Shared,
+) -> Result<Vec<Indexed>, NoMemory>
+    requires rising { IsStrictlySortedBy var_cmp vars.now }
+    requires left { AreParts p.now }
+    requires right { AreParts q.now }
+    requires left_known { AllVariables (Contains vars.now) (told p.now) }
+    requires right_known { AllVariables (Contains vars.now) (told q.now) }
+    requires fits { CanMultiply (told p.now) (told q.now) }
+    ensures indices { IfOk result (λ list. AllKeys (IsIndex vars.now store.new) list.items) }
+    ensures product { IfOk result
+        (λ list. terms_of vars.now store.new list.items ≡ product_of (told p.now) (told q.now)) }
+{
+    let left = moved(alloc, store, vars, p)?;
+    let right = moved(alloc, store, vars, q)?;
+    product_list::<Brand>(alloc, store, vars, &left, &right, Blank::new(1))
 }
 
 /// The list of the product, in a store: over an arena where there are sums.

@@ -1,6 +1,6 @@
 //! Polynomials over one store, while one is made of many.
 
-ghost use Rattle.std.specs.Prelude.{◌≡◌, ◌+◌, ◌^◌, ◌<◌, ◌∷◌, [], pos, Contains, IfOk, unsigned_abs};
+ghost use Rattle.std.specs.Prelude.{◌≡◌, ◌≢◌, ◌+◌, ◌^◌, ◌<◌, ◌∷◌, [], Contains, IfOk, unsigned_abs};
 ghost use Rattle.std.specs.List.Sorted.{IsStrictlySortedBy};
 ghost use Rattle.geo_poly.specs.Polynomials.{CanMultiply, constant_of, difference_of, negated};
 ghost use Rattle.geo_poly.specs.Polynomials.{norm_of, product_of, sum_of};
@@ -74,17 +74,19 @@ impl Ring {
         }
     }
 
-    /// The element that is the one variable.
-    pub fn variable(&mut self, alloc: Global, v: Var) -> Result<Element, NoMemory>
+    /// The element that is `n` times the variable, where `n` is not 0.
+    pub fn multiple(&mut self, alloc: Global, n: i128, v: Var) -> Result<Element, NoMemory>
         requires known { Contains self.old.vars v }
-        ensures element { IfOk result (IsElementFor self.new (((v, 1) ∷ [], pos 1) ∷ [])) }
+        requires nonzero { unsigned_abs n ≢ 0 }
+        requires fits { unsigned_abs n < 2 ^ 127 }
+        ensures element { IfOk result (IsElementFor self.new (((v, 1) ∷ [], n) ∷ [])) }
         ensures grows { Grows self.old self.new }
     {
         let place = place_near(self.vars.as_slice(), v, 0);
         let one = self.monos.one();
         let id = self.monos.mono(place, 1, one)?;
         let mut list = Vec::new(alloc);
-        list.push((id, 1))?;
+        list.push((id, n))?;
         Ok(Element { list })
     }
 

@@ -1,5 +1,5 @@
 -- Forms as the code writes them, over the number of a step.
-use Rattle.std.specs.Prelude.{◌≡◌, ℕ, pos, Option, Some, None}
+use Rattle.std.specs.Prelude.{◌≡◌, ◌≢◌, ◌≤◌, ℕ, pos, Option, Some, None, IfSome, unsigned_abs}
 use Rattle.fraction_poly.specs.declared.drafts.Bounds.{Bounds}
 use Rattle.fraction_poly.specs.declared.drafts.Draft.{Draft}
 use Rattle.fraction_poly.specs.declared.drafts.Draft.TheVariants.{Integer, Area, Pythagoras, Ratio, Abscissa, Ordinate, Numerator, Denominator, Sum', Difference', Product', Opposite'}
@@ -15,6 +15,7 @@ use Rattle.fraction_poly.specs.MultipliedOut.{canon_polynomial, variable_polynom
 use Rattle.fraction_poly.specs.TableRows.{TableRow}
 use Rattle.geo_points.specs.declared.ids.PointId.{PointId}
 use Rattle.geo_points.specs.declared.ids.TermId.{TermId}
+use Rattle.geo_poly.specs.declared.canonical.Canon.{Canon}
 use Rattle.geo_poly.specs.declared.replacement.Piece.{Piece}
 use Rattle.geo_poly.specs.declared.variables.Var.{Var}
 use Rattle.geo_poly.specs.declared.variables.Var.TheVariants.{X, Y}
@@ -82,6 +83,10 @@ AllFit n (Difference' p f q g) = PieceFits (piece_difference (drafted_piece n f)
 AllFit n (Product' p f q g) = PieceFits (piece_product (drafted_piece n f) (drafted_piece n g)) × AllFit n f × AllFit n g
 AllFit n (Opposite' p f) = AllFit n f
 AllFit n _ = Unit {0}
+
+-- the sign is 1 or -1, or also 0 where there is no variable
+abbrev pub HasSign : Canon → Type 0
+HasSign c = (unsigned_abs c.sign ≤ 1) × IfSome c.var (λ v. unsigned_abs c.sign ≢ 0)
 
 -- the piece that a part of a ring is
 abbrev pub piece_in : RingValue → Part → Piece

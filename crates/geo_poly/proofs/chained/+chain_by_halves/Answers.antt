@@ -1,14 +1,11 @@
-use Rattle.sparse_lists.proofs.Merging.{get_or_any}
-use Rattle.std.proofs.Common.{◌≡◌, ℕ, ◌<◌, get_or, ◌/◌, length, sym, ap, subst, ◌∙◌, rules, arith}
-use Rattle.std.proofs.lemmas.List.{get_or-map}
+use Rattle.std.proofs.Common.{ℕ, ◌/◌, length, sym, subst, rules, arith}
 use Rattle.std.proofs.lemmas.Result.{IfOk-weaker}
 use Rattle.geo_poly.specs.Chained.{StandsFor}
-use Rattle.geo_poly.specs.Polynomials.{CanMultiply, Summands, product_of}
-use Rattle.geo_poly.specs.Shared.{term_of, terms_of}
+use Rattle.geo_poly.specs.Polynomials.{Summands, product_of}
+use Rattle.geo_poly.specs.Shared.{terms_of}
 use Rattle.geo_poly.proofs.ChainHalves.{back_fits, back_later, first_order, front_fits, front_in, norms_fit, right_later, second_order, stands_first, whole}
-use Rattle.geo_poly.proofs.ProductLaws.{product_of_one, single}
+use Rattle.geo_poly.proofs.LoneTerms.{multiples_of_lone}
 use Rattle.geo_poly.proofs.TickBounds.{halves_products}
-use Rattle.geo_poly.proofs.Told.{item, length-terms_of}
 use Rattle.geo_poly.proofs.chained.+chain_by_halves.Goals as goal
 
 pub chain_by_halves-requires : goal.chain_by_halves-requires
@@ -33,16 +30,8 @@ pub returns-in-len1-clause-chain : goal.returns-in-len1-clause-chain
 returns-in-len1-clause-chain g t c =
     let vars = c.args.vars.now in
     let s = c.args.store.now in
-    let left = c.args.left.now in
-    let q = terms_of vars s c.args.right.now in
-    let term = term_of vars s (item left 0) in
-    let some : 0 < length c.args.left.now = omega arith in
-    let is : term_of c.args.vars.now c.args.store.now (item c.args.left.now 0) ≡ get_or (terms_of c.args.vars.now c.args.store.now c.args.left.now) 0 (term_of c.args.vars.now c.args.store.now (item c.args.left.now 0)) =
-    ap (term_of vars s) (get_or_any left 0 _ (item left 0) some) ∙ sym (get_or-map (term_of vars s) left 0 (item left 0) term some) in
-    let one = single (terms_of vars s left) term (omega (arith, length-terms_of vars s left)) (omega (arith, length-terms_of vars s left, c.in-len1.len_below)) is in
-    let can = subst (λ (x : Summands). CanMultiply x q) (sym one) c.requires.fits in
     IfOk-weaker c.multiples_chain.result _ _
-    (λ v h. subst (λ (x : Summands). StandsFor vars c.multiples_chain.new.store c.multiples_chain.new.arena v x) (product_of_one term q can ∙ ap (λ (x : Summands). product_of x q) one) h)
+    (λ v h. subst (λ (x : Summands). StandsFor vars c.multiples_chain.new.store c.multiples_chain.new.arena v x) (multiples_of_lone vars s c.args.left.now (omega arith) c.in-len1.len_below (terms_of vars s c.args.right.now) c.requires.fits) h)
     c.multiples_chain.ensures.chain
 
 pub returns-in-Ok-clause-chain : goal.returns-in-Ok-clause-chain

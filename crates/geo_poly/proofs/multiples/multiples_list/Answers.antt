@@ -1,9 +1,6 @@
-use Rattle.std.proofs.Common.{◌≡◌, subst, sym, ◌∙◌, FitsSigned, rules}
+use Rattle.std.proofs.Common.{subst, sym, FitsSigned, rules}
 use Rattle.std.specs.Int.{w128}
 use Rattle.mono_store.proofs.Interning.{Keeps_trans}
-use Rattle.sparse_lists.specs.SparseLists.{AllKeys}
-use Rattle.geo_poly.specs.Polynomials.{multiples}
-use Rattle.geo_poly.specs.Shared.{IsIndex, term_of, terms_of}
 use Rattle.geo_poly.proofs.ChainMultiples.{degrees_fit, more_indices, more_terms, product_fits, u_now}
 use Rattle.geo_poly.proofs.ProductLaws.{coded_product_is, product_is_kept}
 use Rattle.geo_poly.proofs.Told.{item}

@@ -1,4 +1,4 @@
-use Rattle.std.proofs.Common.{◌≡◌, map, ap, ◌∙◌}
+use Rattle.std.proofs.Common.{map, ap, ◌∙◌}
 use Rattle.std.proofs.lemmas.Result.{IfOk-weaker}
 use Rattle.poly_arena.specs.Chains.{Pairs, pairs_of}
 use Rattle.geo_poly.specs.Chained.{indexed_pair}

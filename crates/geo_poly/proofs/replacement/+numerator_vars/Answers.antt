@@ -1,17 +1,12 @@
 use Rattle.std.proofs.Common.{ℕ, zero, suc, List, [], ◌∷◌, ◌/◌, length, take, drop, subst}
-use Rattle.std.specs.List.Sorted.{IsStrictlySortedBy}
 use Rattle.std.specs.Prelude.{Contains}
 use Rattle.geo_poly.specs.declared.replacement.Row.{Row}
 use Rattle.geo_poly.specs.declared.variables.Var.{Var}
 use Rattle.geo_poly.specs.KeptVariables.{AllNumerators}
-use Rattle.geo_poly.specs.Variables.{var_cmp}
 use Rattle.geo_poly.proofs.ChainSwaps.{both_ok}
 use Rattle.geo_poly.proofs.Unions.{AllNumerators-longer}
+use Rattle.geo_poly.proofs.VariablesInOrder.{none_rise}
 use Rattle.geo_poly.proofs.replacement.+numerator_vars.Goals as goal
-
-none_rise : IsStrictlySortedBy var_cmp []
-unfolding IsStrictlySortedBy
-none_rise = tt
 
 -- what holds of both halves of the rows holds of all
 joined : (Holds : Var → Type 0) (rows : List Row) (k : ℕ) → AllNumerators Holds (take k rows) → AllNumerators Holds (drop k rows) → AllNumerators Holds rows

@@ -29,9 +29,10 @@ returns-in_ok-insert_variables-in-Sum-clause-known t c =
     let middle = c.insert_variables.new.variables.keys in
     let new = c.insert_variables-in-Sum.new.variables.keys in
     rw c.in-Sum.is (on_ok_weaker c.insert_variables-in-Sum.result
-    (λ both.
-      (subst (λ (d : Draft). AllLeaves (Contains new) n d) c.deref.ensures (leaves_longer middle new n both.1 c.deref.result.now c.in_ok-insert_variables-in-Sum.ensures.known),
-      subst (λ (d : Draft). AllLeaves (Contains new) n d) c.deref-in-Sum.ensures both.0))
+    (λ both. (
+      subst (λ (d : Draft). AllLeaves (Contains new) n d) c.deref.ensures (leaves_longer middle new n both.1 c.deref.result.now c.in_ok-insert_variables-in-Sum.ensures.known),
+      subst (λ (d : Draft). AllLeaves (Contains new) n d) c.deref-in-Sum.ensures both.0,
+    ))
     (pair c.insert_variables-in-Sum.result _ _ c.insert_variables-in-Sum.ensures.known c.insert_variables-in-Sum.ensures.kept))
 
 pub returns-in_ok-insert_variables-in-Sum-clause-kept : goal.returns-in_ok-insert_variables-in-Sum-clause-kept
@@ -44,9 +45,10 @@ returns-in_ok-insert_variables-in-Difference-clause-known t c =
     let middle = c.insert_variables-in-Difference.new.variables.keys in
     let new = c.insert_variables-in-Difference-2.new.variables.keys in
     rw c.in-Difference.is (on_ok_weaker c.insert_variables-in-Difference-2.result
-    (λ both.
-      (subst (λ (d : Draft). AllLeaves (Contains new) n d) c.deref-in-Difference.ensures (leaves_longer middle new n both.1 c.deref-in-Difference.result.now c.in_ok-insert_variables-in-Difference.ensures.known),
-      subst (λ (d : Draft). AllLeaves (Contains new) n d) c.deref-in-Difference-2.ensures both.0))
+    (λ both. (
+      subst (λ (d : Draft). AllLeaves (Contains new) n d) c.deref-in-Difference.ensures (leaves_longer middle new n both.1 c.deref-in-Difference.result.now c.in_ok-insert_variables-in-Difference.ensures.known),
+      subst (λ (d : Draft). AllLeaves (Contains new) n d) c.deref-in-Difference-2.ensures both.0,
+    ))
     (pair c.insert_variables-in-Difference-2.result _ _ c.insert_variables-in-Difference-2.ensures.known c.insert_variables-in-Difference-2.ensures.kept))
 
 pub returns-in_ok-insert_variables-in-Difference-clause-kept : goal.returns-in_ok-insert_variables-in-Difference-clause-kept
@@ -59,9 +61,10 @@ returns-in_ok-insert_variables-in-Product-clause-known t c =
     let middle = c.insert_variables-in-Product.new.variables.keys in
     let new = c.insert_variables-in-Product-2.new.variables.keys in
     rw c.in-Product.is (on_ok_weaker c.insert_variables-in-Product-2.result
-    (λ both.
-      (subst (λ (d : Draft). AllLeaves (Contains new) n d) c.deref-in-Product.ensures (leaves_longer middle new n both.1 c.deref-in-Product.result.now c.in_ok-insert_variables-in-Product.ensures.known),
-      subst (λ (d : Draft). AllLeaves (Contains new) n d) c.deref-in-Product-2.ensures both.0))
+    (λ both. (
+      subst (λ (d : Draft). AllLeaves (Contains new) n d) c.deref-in-Product.ensures (leaves_longer middle new n both.1 c.deref-in-Product.result.now c.in_ok-insert_variables-in-Product.ensures.known),
+      subst (λ (d : Draft). AllLeaves (Contains new) n d) c.deref-in-Product-2.ensures both.0,
+    ))
     (pair c.insert_variables-in-Product-2.result _ _ c.insert_variables-in-Product-2.ensures.known c.insert_variables-in-Product-2.ensures.kept))
 
 pub returns-in_ok-insert_variables-in-Product-clause-kept : goal.returns-in_ok-insert_variables-in-Product-clause-kept
