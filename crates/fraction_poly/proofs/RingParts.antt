@@ -1,5 +1,5 @@
 -- Parts of a ring: they stay where it grows, and those of drafts are bounded.
-use Rattle.std.proofs.Common.{◌≡◌, sym, ap, subst, ◌∙◌}
+use Rattle.std.proofs.Common.{sym, ap, subst, ◌∙◌}
 use Rattle.fraction_poly.specs.declared.drafts.Draft.{Draft}
 use Rattle.fraction_poly.specs.declared.parts.Part.{Part}
 use Rattle.fraction_poly.specs.declared.step_numbers.StepNumber.{StepNumber}

@@ -1,5 +1,5 @@
 -- The norm, the number of monomials and the degree of sums, products, constants and variables.
-use Rattle.std.proofs.Common.{◌≡◌, ℕ, ◌+◌, ◌*◌, ◌≤◌, max, Bool, true, false, cond, eqb, ◌||◌, ℤ, pos, ◌*ℤ◌, Some, None, [], ◌∷◌, ◌++◌, refl, ap, unsigned_abs, length, arith}
+use Rattle.std.proofs.Common.{◌≡◌, ℕ, ◌+◌, ◌*◌, ◌≤◌, max, Bool, true, false, cond, eqb, ℤ, Some, None, [], ◌∷◌, ◌++◌, refl, ap, unsigned_abs, length, arith}
 use Rattle.std.proofs.Math.Nat.{mul-le-mul}
 use Rattle.std.proofs.lemmas.List.Sums.{sum_by-cons}
 use Rattle.geo_points.specs.declared.ids.PointId.{PointId}
@@ -9,7 +9,7 @@ use Rattle.geo_poly.specs.declared.canonical.Canon.{Canon}
 use Rattle.geo_poly.specs.declared.variables.Var.{Var}
 use Rattle.geo_poly.specs.Canonical.{canonical_area, canonical_difference, canonical_ratio}
 use Rattle.geo_poly.specs.Monomials.{Powers, degree_of}
-use Rattle.geo_poly.specs.Polynomials.{Summands, coefficients, term_cmp, norm_of, total_degree, constant_of, sum_of, negated, difference_of, products, product_of}
+use Rattle.geo_poly.specs.Polynomials.{Summands, coefficients, term_cmp, norm_of, total_degree, constant_of, sum_of, negated, difference_of, product_of}
 use Rattle.geo_poly.proofs.Lengths.{length-negated, length-product_of-le, length-sum_of-le}
 use Rattle.geo_poly.proofs.Negated.{norm_of-negated}
 use Rattle.geo_poly.proofs.PolynomialLaws.{norm_of-sum_of-le}

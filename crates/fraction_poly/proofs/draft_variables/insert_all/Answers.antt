@@ -1,4 +1,4 @@
-use Rattle.std.proofs.Common.{◌≡◌, List, take, get_or, sym, ap, subst, ◌∙◌, arith}
+use Rattle.std.proofs.Common.{List, take, get_or, sym, ap, subst, ◌∙◌, arith}
 use Rattle.std.specs.Prelude.{Contains}
 use Rattle.std.specs.BTreeSet.{insert_key}
 use Rattle.std.specs.List.{fold}

@@ -1,4 +1,4 @@
-use Rattle.std.proofs.Common.{◌≡◌, List, subst, rules}
+use Rattle.std.proofs.Common.{subst}
 use Rattle.std.specs.Prelude.{Contains, Err, Ok, OnOk, Result}
 use Rattle.std.proofs.lemmas.Result.{on_ok_weaker}
 use Rattle.fraction_poly.specs.declared.drafts.Draft.{Draft}
