@@ -135,7 +135,7 @@ impl Draft {
         requires fits { AllFit number.now self.now }
         ensures { IfOk result (λ f. f ≡ drafted_piece number.now self.now) }
     {
-        let mut ring = Ring::new(alloc, self.variables(alloc, number)?);
+        let mut ring = Ring::new(alloc, self.variables(alloc, number)?)?;
         let part = self.part(alloc, &mut ring, number)?;
         part.into_piece(alloc, ring)
     }

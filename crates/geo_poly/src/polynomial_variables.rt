@@ -8,7 +8,7 @@ ghost use Rattle.std.specs.List.Sorted.{IsStrictlySortedBy};
 ghost use Rattle.std.specs.BTreeSet.{insert_key};
 ghost use Rattle.sparse_lists.specs.SparseLists.{AllKeys};
 ghost use Rattle.geo_poly.specs.declared.variables.Var.{Var};
-ghost use Rattle.geo_poly.specs.Inner.Visits.{AreVisited};
+ghost use Rattle.geo_poly.specs.Inner.Visits.{AreKnown, AreVisited};
 ghost use Rattle.geo_poly.specs.Variables.{var_cmp};
 ghost use Rattle.geo_poly.specs.PolynomialVariables.{HasVariable, variables_of};
 ghost use Rattle.geo_poly.specs.Shared.{AreParts, IsIndexOf, told, told_powers};
@@ -16,7 +16,7 @@ ghost use Rattle.geo_poly.specs.Shared.{AreParts, IsIndexOf, told, told_powers};
 use crate::lists::Vars;
 use crate::moving::find_place;
 use crate::polynomials::Poly;
-use crate::shared::Shared;
+use crate::shared::{FirstPower, Shared};
 use crate::terms::Term;
 use crate::variables::Var;
 use geo_points::NoMemory;
@@ -44,8 +44,10 @@ pub(crate) fn variables_at(alloc: Global, p: &Shared) -> Result<Vars, NoMemory>
     let mut variables = BTreeSet::new(alloc);
     let mut visited = Vec::new(alloc);
     visited.resize((p.monos.links() as usize).saturating_add(1), false)?;
+    let mut known = Vec::new(alloc);
+    known.resize(p.vars.len(), false)?;
     for (id, _) in p.list {
-        insert_powers(&mut variables, &mut visited, p, *id)?;
+        insert_powers(&mut variables, &mut visited, &mut known, p, *id)?;
     }
     let items = variables.into_iter().collect(alloc)?;
     Ok(Vars { items })
@@ -55,24 +57,49 @@ pub(crate) fn variables_at(alloc: Global, p: &Shared) -> Result<Vars, NoMemory>
 fn insert_powers(
     variables: &mut BTreeSet<Var>,
     visited: &mut Vec<bool>,
+    known: &mut Vec<bool>,
     p: &Shared,
     id: MonoId,
 ) -> Result<(), NoMemory>
     requires index { IsIndexOf p.now id }
     requires rising { IsStrictlySortedBy var_cmp variables.old.keys }
     requires visited { AreVisited p.now visited.old.items variables.old.keys }
+    requires known { AreKnown p.now known.old.items variables.old.keys }
     ensures keys { OnOk result (variables.new.keys
         ≡ fold (insert_key var_cmp) variables.old.keys (map (λ p. p.0) (told_powers p.now id))) }
     ensures visited { OnOk result (AreVisited p.now visited.new.items variables.new.keys) }
+    ensures known { OnOk result (AreKnown p.now known.new.items variables.new.keys) }
 {
     let mut rest = id;
     while let Some(first) = p.first_power(rest) {
         if mark(visited, rest.0 as usize) {
             return Ok(());
         }
-        variables.insert(first.var)?;
+        insert_first(variables, known, p, &first)?;
         rest = first.rest;
     }
+    Ok(())
+}
+
+/// Inserts the variable of a power, unless its number tells that it stands there.
+fn insert_first(
+    variables: &mut BTreeSet<Var>,
+    known: &mut Vec<bool>,
+    p: &Shared,
+    first: &FirstPower,
+) -> Result<(), NoMemory>
+    requires rising { IsStrictlySortedBy var_cmp variables.old.keys }
+    requires number { slice_get p.now.vars.now first.now.number ≡ Some first.now.var }
+    requires known { AreKnown p.now known.old.items variables.old.keys }
+    ensures keys { OnOk result
+        (variables.new.keys ≡ insert_key var_cmp variables.old.keys first.now.var) }
+    ensures known { OnOk result (AreKnown p.now known.new.items variables.new.keys) }
+{
+    let _ = p;
+    if mark(known, first.number as usize) {
+        return Ok(());
+    }
+    variables.insert(first.var)?;
     Ok(())
 }
 

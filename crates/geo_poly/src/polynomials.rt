@@ -235,7 +235,7 @@ impl Poly {
         alloc: Global,
         vars: Vars,
         monos: Monos,
-        mut arena: Arena,
+        arena: Arena,
         chain: Chain,
     ) -> Result<Poly, NoMemory>
         requires rising { IsStrictlySortedBy var_cmp vars }
@@ -244,9 +244,8 @@ impl Poly {
         requires polynomial { IsPolynomial (keyed_terms vars monos (pairs_of arena chain)) }
         ensures { IfOk result (λ p. p ≡ keyed_terms vars monos (pairs_of arena chain)) }
     {
-        let pairs = arena.to_list(alloc, &chain);
-        arena.give_back(chain);
-        let list = indexed(alloc, &pairs?)?;
+        let pairs = arena.into_list(alloc, chain)?;
+        let list = indexed(alloc, &pairs)?;
         Poly::compact(alloc, vars, monos, list)
     }
 

@@ -243,7 +243,6 @@ fn merged_product<L: Ledger>(
 {
     let mut arena = Arena::new(alloc)?;
     let chain = product_chain(store, &mut arena, vars, left, right, ticks)?;
-    let pairs = arena.to_list(alloc, &chain);
-    arena.give_back(chain);
-    indexed(alloc, &pairs?)
+    let pairs = arena.into_list(alloc, chain)?;
+    indexed(alloc, &pairs)
 }

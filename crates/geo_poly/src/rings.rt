@@ -64,14 +64,12 @@ impl Model for Element {
 
 impl Ring {
     /// The ring in these variables.
-    pub fn new(alloc: Global, vars: Vars) -> Ring
+    pub fn new(alloc: Global, vars: Vars) -> Result<Ring, NoMemory>
         requires { IsStrictlySortedBy var_cmp vars }
-        ensures { result.vars ≡ vars }
+        ensures { IfOk result (λ ring. ring.vars ≡ vars) }
     {
-        Ring {
-            vars,
-            monos: Monos::new(alloc),
-        }
+        let monos = Monos::with_capacity(alloc, likely_links(&vars))?;
+        Ok(Ring { vars, monos })
     }
 
     /// The element that is `n` times the variable, where `n` is not 0.
@@ -198,4 +196,9 @@ impl Ring {
         let Element { list } = element;
         Poly::compact(alloc, vars, monos, list)
     }
+}
+
+/// Room for the links of a ring: what rows mostly need. Nothing rests on it but time.
+fn likely_links(vars: &Vars) -> u64 {
+    (vars.as_slice().len() as u64).saturating_mul(2)
 }

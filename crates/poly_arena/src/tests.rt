@@ -71,8 +71,7 @@ fn merged(alloc: Global) -> Result<(Vec<(u64, i128)>, Vec<(u64, i128)>), NoMemor
     arena.push_front(&mut left, 12, 1);
     arena.push_front(&mut left, 11, 1);
     arena.push_front(&mut left, 10, 1);
-    let longer = arena.to_list(alloc, &left);
-    arena.give_back(left);
+    let longer = arena.into_list(alloc, left);
     Ok((sum?, longer?))
 }
 

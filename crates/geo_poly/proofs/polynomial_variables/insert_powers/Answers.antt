@@ -13,6 +13,7 @@ loop-first-init c = record {
   index = c.requires.index;
   rising = c.requires.rising;
   whole = refl;
+  known = c.requires.known;
   walking = Walking-start c.args.p.now c.args.visited.now.items c.args.variables.now.keys c.args.id.0 (told_powers c.args.p.now c.args.id) c.requires.visited;
 }
 
@@ -35,11 +36,12 @@ loop-first-preserved c =
     let keys = c.loop-first.variables.keys in
     let next = told_powers c.args.p.now c.in-Some.first.rest in
     let whole = with_names c.args.variables.now.keys (told_powers c.args.p.now c.args.id) in
-    let grown = c.in_ok-insert.ensures.keys in
+    let grown = c.in_ok-insert_first.ensures.keys in
     record {
       index = c.in-Some.ensures.index;
       rising = subst (λ (ks : List Var). IsStrictlySortedBy var_cmp ks) (sym grown) (sorted-insert_key keys c.in-Some.first.var c.loop-first.invariant.rising);
       whole = ap (λ (ks : List Var). with_names ks next) grown ∙ ap (λ (m : Powers). with_names keys m) (sym c.in-Some.ensures.power) ∙ c.loop-first.invariant.whole;
-      walking = Walking-next p c.loop-first.visited.items c.mark.new.visited.items keys c.insert.new.self.keys c.loop-first.rest.0 c.in-Some.first.rest.0 c.in-Some.first.var whole c.in-Some.ensures.earlier c.mark.ensures.others grown
+      known = c.in_ok-insert_first.ensures.known;
+      walking = Walking-next p c.loop-first.visited.items c.mark.new.visited.items keys c.insert_first.new.variables.keys c.loop-first.rest.0 c.in-Some.first.rest.0 c.in-Some.first.var whole c.in-Some.ensures.earlier c.mark.ensures.others grown
           c.loop-first.invariant.whole c.loop-first.invariant.walking;
     }

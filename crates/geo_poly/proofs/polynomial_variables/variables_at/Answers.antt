@@ -37,6 +37,7 @@ loop-id-preserved c =
           ∙ sym (variables-more (take i (told p)) t)
           ∙ sym (ap variables_of (told-take p i c.loop-id-test.true));
       visited = c.in_ok-insert_powers.ensures.visited;
+      known = c.in_ok-insert_powers.ensures.known;
     }
 
 pub insert_powers-requires-clause-rising : goal.insert_powers-requires-clause-rising
