@@ -22,7 +22,7 @@ ghost use Rattle.geo_poly.specs.Replace.{times_power};
 ghost use Rattle.geo_poly.specs.Shared.{IsIndex, IsIndexOf, powers_at, terms_of};
 ghost use Rattle.geo_poly.specs.Variables.{var_cmp};
 
-use crate::chained::{product_chain, summed};
+use crate::chained::{multiples_chain, product_chain, summed};
 use crate::interning::{indexed, number_at, place_near};
 use crate::moving::moved;
 use crate::polynomials::Poly;
@@ -90,6 +90,42 @@ fn one_term_chain(arena: &mut Arena, key: u64, coefficient: i128) -> Result<Chai
 
 /// The chain times the list. The chain is spent, also where there is no memory.
 fn times_list<L: Ledger>(
+    alloc: Global,
+    store: &mut Monos,
+    arena: &mut Arena,
+    vars: &[Var],
+    chain: Chain,
+    list: &[Indexed],
+    ticks: &mut Ticks<L>,
+) -> Result<Chain, NoMemory>
+    requires rising { IsStrictlySortedBy var_cmp vars.now }
+    requires live { IsLive arena.old chain }
+    requires keys { AllKeys (IsKey vars.now store.old) (pairs_of arena.old chain) }
+    requires indices { AllKeys (IsIndex vars.now store.old) list.now }
+    requires fits { CanMultiply (keyed_terms vars.now store.old (pairs_of arena.old chain))
+        (terms_of vars.now store.old list.now) }
+    ensures chain { IfOk result (λ c. StandsFor vars.now store.new arena.new c
+        (product_of (keyed_terms vars.now store.old (pairs_of arena.old chain))
+        (terms_of vars.now store.old list.now))) }
+    ensures swaps { IfOk result (Swaps arena.old arena.new chain) }
+    ensures err { OnErr result (Updates arena.old arena.new chain None) }
+    ensures kept { Keeps store.old store.new }
+    ensures ticks { ticks.new
+        ≤ ticks.old + length (pairs_of arena.old chain) * length list.now }
+{
+    match arena.only_pair(&chain) {
+        Some((key, coefficient)) => {
+            arena.give_back(chain);
+            let term = (MonoId(key), coefficient);
+            multiples_chain(store, arena, vars, term, list, ticks)
+        }
+        None => times_list_by_halves(alloc, store, arena, vars, chain, list, ticks),
+    }
+}
+
+/// The chain times the list, by halves of the shorter. The chain is spent, also where there is no
+/// memory.
+fn times_list_by_halves<L: Ledger>(
     alloc: Global,
     store: &mut Monos,
     arena: &mut Arena,
