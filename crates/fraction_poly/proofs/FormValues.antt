@@ -1,9 +1,8 @@
 -- The values of forms at a placement, and rows that hold because of an identity between such values.
-use Rattle.std.proofs.Common.{◌≡◌, ℕ, Bool, true, false, ◌&&◌, pos, negsuc, Option, Some, refl, subst, ap, sym, IfSome}
-use Rattle.ring_laws.specs.Powers.{power}
+use Rattle.std.proofs.Common.{◌≡◌, ℕ, Bool, true, false, ◌&&◌, pos, Option, Some, refl, subst, IfSome}
 use Rattle.fraction_poly.specs.Forms.{Form, integer, area, pythagoras, ratio, abscissa, ordinate, numerator, denominator, ◌⊞◌, ◌⊟◌, ◌⊠◌, opposite, piece_of}
 use Rattle.fraction_poly.specs.Laws.{polynomial_value}
-use Rattle.fraction_poly.specs.MultipliedOut.{multiplied_out, variable_polynomial}
+use Rattle.fraction_poly.specs.MultipliedOut.{multiplied_out}
 use Rattle.fraction_poly.specs.TableRows.{TableRow, RowHolds, made_row}
 use Rattle.fraction_poly.proofs.PolynomialValues.{◌∘◌, flip, self, sums, products, opposites, one_times, minus_is, constant_is, variable_is, area_is, pythagoras_is, ratio_is, negated_is, sum_is, difference_is, product_is}
 use Rattle.fraction_poly.proofs.TermValues.{nonzero_same}
@@ -13,7 +12,6 @@ use Rattle.geo_points.specs.Placements.{Placement}
 use Rattle.geo_points.specs.Points.{signed_area, pythagoras_difference, ratio as point_ratio, HasRatio, x_coordinate, y_coordinate}
 use Rattle.geo_poly.specs.declared.variables.Var.{Var}
 use Rattle.geo_poly.specs.declared.variables.Var.TheVariants.{X, Y}
-use Rattle.geo_poly.specs.Polynomials.{Summands}
 use Rattle.geo_poly.specs.Values.{variable_value}
 
 -- the form has no ratio

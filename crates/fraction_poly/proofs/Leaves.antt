@@ -2,7 +2,7 @@
 use Rattle.std.proofs.Common.{List}
 use Rattle.std.specs.Prelude.{Contains}
 use Rattle.fraction_poly.specs.declared.drafts.Draft.{Draft}
-use Rattle.fraction_poly.specs.declared.drafts.Draft.TheVariants.{Integer, Area, Pythagoras, Ratio, Abscissa, Ordinate, Numerator, Denominator, Sum', Difference', Product', Opposite'}
+use Rattle.fraction_poly.specs.declared.drafts.Draft.TheVariants.{Integer, Area, Pythagoras, Ratio, Abscissa, Ordinate, Numerator, Denominator, Combined', Opposite'}
 use Rattle.fraction_poly.specs.declared.step_numbers.StepNumber.{StepNumber}
 use Rattle.fraction_poly.specs.Inner.Drafts.{AllLeaves}
 use Rattle.geo_poly.specs.declared.variables.Var.{Var}
@@ -18,7 +18,5 @@ leaves_longer old new n more (Abscissa a) h = more (X a) h
 leaves_longer old new n more (Ordinate a) h = more (Y a) h
 leaves_longer old new n more Numerator h = AllVariables-longer old new _ more h
 leaves_longer old new n more Denominator h = AllVariables-longer old new _ more h
-leaves_longer old new n more (Sum' p f q g) h = (leaves_longer old new n more f h.0, leaves_longer old new n more g h.1)
-leaves_longer old new n more (Difference' p f q g) h = (leaves_longer old new n more f h.0, leaves_longer old new n more g h.1)
-leaves_longer old new n more (Product' p f q g) h = (leaves_longer old new n more f h.0, leaves_longer old new n more g h.1)
+leaves_longer old new n more (Combined' p o f g) h = (leaves_longer old new n more f h.0, leaves_longer old new n more g h.1)
 leaves_longer old new n more (Opposite' p f) h = leaves_longer old new n more f h

@@ -1,11 +1,13 @@
 -- The numbers that a form tells bound what it multiplies out to; and what fits has parts that fit.
-use Rattle.std.proofs.Common.{◌≡◌, ℕ, ◌*◌, ◌≤◌, pos, refl, ap, ap₂, arith}
+use Rattle.std.proofs.Common.{◌≡◌, ℕ, ◌*◌, ◌≤◌, pos, refl, ap, ap₂, ◌∙◌, arith}
 use Rattle.std.proofs.Math.Nat.{mul-le-mul, mul-le-mul_left}
 use Rattle.fraction_poly.specs.declared.drafts.Draft.{Draft}
-use Rattle.fraction_poly.specs.declared.drafts.Draft.TheVariants.{Integer, Area, Pythagoras, Ratio, Abscissa, Ordinate, Numerator, Denominator, Sum', Difference', Product', Opposite'}
+use Rattle.fraction_poly.specs.declared.drafts.Draft.TheVariants.{Integer, Area, Pythagoras, Ratio, Abscissa, Ordinate, Numerator, Denominator, Combined', Opposite'}
+use Rattle.fraction_poly.specs.declared.drafts.Operation.{Operation}
+use Rattle.fraction_poly.specs.declared.drafts.Operation.TheVariants.{Sum, Difference, Product}
 use Rattle.fraction_poly.specs.declared.measures.Numbers.{Numbers}
 use Rattle.fraction_poly.specs.declared.step_numbers.StepNumber.{StepNumber}
-use Rattle.fraction_poly.specs.Inner.Drafts.{AllFit, IsBoundedNumber, drafted_piece, form_of}
+use Rattle.fraction_poly.specs.Inner.Drafts.{AllFit, IsBoundedNumber, combined_form, combined_piece, drafted_piece, form_of}
 use Rattle.fraction_poly.specs.Forms.{Form, integer, area, pythagoras, ratio, abscissa, ordinate, numerator, denominator, ◌⊞◌, ◌⊟◌, ◌⊠◌, opposite, PieceFits, step_number, integer_piece, variable_piece, piece_sum, piece_difference, piece_product, piece_opposite, piece_of}
 use Rattle.fraction_poly.specs.Measures.{numbers_of, sum_numbers, product_numbers, turned_numbers}
 use Rattle.fraction_poly.proofs.Sizes.{IsWithin, IsWithin-sum, IsWithin-difference, IsWithin-product, IsWithin-negated, IsWithin-constant, IsWithin-variable, IsWithin-area, IsWithin-pythagoras, IsWithin-ratio}
@@ -35,6 +37,11 @@ bounded_product f g h k =
     let both = IsWithin-product f.poly g.poly _ _ _ _ _ _ (within f h) (within g k) in
     let weights : 1 * 1 ≤ f.weight * g.weight = mul-le-mul h.weight k.weight in
     record { norm = both.norm; count = both.count; degree = both.degree; light = mul-le-mul h.light k.light; weight = omega (arith, weights) }
+
+pub bounded_combined : (o : Operation) (f g : Piece) → IsBounded f → IsBounded g → IsBounded (combined_piece o f g)
+bounded_combined Sum f g h k = bounded_sum f g h k
+bounded_combined Difference f g h k = bounded_difference f g h k
+bounded_combined Product f g h k = bounded_product f g h k
 
 pub bounded_opposite : (f : Piece) → IsBounded f → IsBounded (piece_opposite f)
 bounded_opposite f h =
@@ -113,10 +120,14 @@ bounded_draft n h (Abscissa a) = bounded_variable _ (IsWithin-variable (pos 1) (
 bounded_draft n h (Ordinate a) = bounded_variable _ (IsWithin-variable (pos 1) (Y a) (omega arith))
 bounded_draft n h Numerator = h.num
 bounded_draft n h Denominator = h.den
-bounded_draft n h (Sum' p f q g) = bounded_sum (drafted_piece n f) (drafted_piece n g) (bounded_draft n h f) (bounded_draft n h g)
-bounded_draft n h (Difference' p f q g) = bounded_difference (drafted_piece n f) (drafted_piece n g) (bounded_draft n h f) (bounded_draft n h g)
-bounded_draft n h (Product' p f q g) = bounded_product (drafted_piece n f) (drafted_piece n g) (bounded_draft n h f) (bounded_draft n h g)
+bounded_draft n h (Combined' p o f g) =
+    bounded_combined o (drafted_piece n f) (drafted_piece n g) (bounded_draft n h f) (bounded_draft n h g)
 bounded_draft n h (Opposite' p f) = bounded_opposite (drafted_piece n f) (bounded_draft n h f)
+
+combined-is : (o : Operation) (f g : Form) → combined_piece o (piece_of f) (piece_of g) ≡ piece_of (combined_form o f g)
+combined-is Sum f g = refl
+combined-is Difference f g = refl
+combined-is Product f g = refl
 
 -- a draft multiplies out to what its form does
 pub drafted-is : (e : Tree) (d : Draft) → drafted_piece (step_number e) d ≡ piece_of (form_of e d)
@@ -128,9 +139,8 @@ drafted-is e (Abscissa a) = refl
 drafted-is e (Ordinate a) = refl
 drafted-is e Numerator = refl
 drafted-is e Denominator = refl
-drafted-is e (Sum' p f q g) = ap₂ piece_sum (drafted-is e f) (drafted-is e g)
-drafted-is e (Difference' p f q g) = ap₂ piece_difference (drafted-is e f) (drafted-is e g)
-drafted-is e (Product' p f q g) = ap₂ piece_product (drafted-is e f) (drafted-is e g)
+drafted-is e (Combined' p o f g) =
+    ap₂ (combined_piece o) (drafted-is e f) (drafted-is e g) ∙ combined-is o (form_of e f) (form_of e g)
 drafted-is e (Opposite' p f) = ap piece_opposite (drafted-is e f)
 
 -- WHAT FITS HAS PARTS THAT FIT
@@ -161,6 +171,11 @@ product_parts f g bounded_f bounded_g h = record {
   right = record { weight = omega (arith, factor-le g.weight f.weight bounded_f.weight, h.weight); degree = omega (arith, h.degree) };
 }
 
+pub combined_parts : (o : Operation) (f g : Piece) → IsBounded f → IsBounded g → PieceFits (combined_piece o f g) → BothFit f g
+combined_parts Sum f g bounded_f bounded_g h = sum_parts f g h
+combined_parts Difference f g bounded_f bounded_g h = difference_parts f g h
+combined_parts Product f g bounded_f bounded_g h = product_parts f g bounded_f bounded_g h
+
 -- so each part of a draft that fits does
 pub all_fit : (n : StepNumber) → IsBoundedNumber n → (d : Draft) → PieceFits (drafted_piece n d) → AllFit n d
 all_fit n h (Integer k) fits = tt
@@ -171,13 +186,7 @@ all_fit n h (Abscissa a) fits = tt
 all_fit n h (Ordinate a) fits = tt
 all_fit n h Numerator fits = tt
 all_fit n h Denominator fits = tt
-all_fit n h (Sum' p f q g) fits =
-    let both = sum_parts (drafted_piece n f) (drafted_piece n g) fits in
-    (fits, all_fit n h f both.left, all_fit n h g both.right)
-all_fit n h (Difference' p f q g) fits =
-    let both = difference_parts (drafted_piece n f) (drafted_piece n g) fits in
-    (fits, all_fit n h f both.left, all_fit n h g both.right)
-all_fit n h (Product' p f q g) fits =
-    let both = product_parts (drafted_piece n f) (drafted_piece n g) (bounded_draft n h f) (bounded_draft n h g) fits in
-    (fits, all_fit n h f both.left, all_fit n h g both.right)
+all_fit n h (Combined' p o f g) fits =
+    let parts = combined_parts o (drafted_piece n f) (drafted_piece n g) (bounded_draft n h f) (bounded_draft n h g) fits in
+    (fits, all_fit n h f parts.left, all_fit n h g parts.right)
 all_fit n h (Opposite' p f) fits = all_fit n h f (record { weight = fits.weight; degree = fits.degree })

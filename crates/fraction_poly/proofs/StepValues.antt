@@ -1,5 +1,5 @@
 -- The denominators of the rows of a step that is met are not 0, and its number is numerator over denominator.
-use Rattle.std.proofs.Common.{◌≡◌, ℕ, suc, pos, ℤ, refl, arith}
+use Rattle.std.proofs.Common.{ℕ, pos, arith}
 use Rattle.std.proofs.lemmas.Int.{ints}
 use Rattle.fraction_poly.specs.Laws.{polynomial_value}
 use Rattle.fraction_poly.specs.MultipliedOut.{multiplied_out}

@@ -45,17 +45,9 @@ impl Draft {
             Draft::Ordinate(a) => insert(variables, Var::Y(*a)),
             Draft::Numerator => insert_all(variables, number.num.poly.vars().as_slice()),
             Draft::Denominator => insert_all(variables, number.den.poly.vars().as_slice()),
-            Draft::Sum(left, right) => {
-                left.insert_variables(variables, number)?;
-                right.insert_variables(variables, number)
-            }
-            Draft::Difference(left, right) => {
-                left.insert_variables(variables, number)?;
-                right.insert_variables(variables, number)
-            }
-            Draft::Product(left, right) => {
-                left.insert_variables(variables, number)?;
-                right.insert_variables(variables, number)
+            Draft::Combined(both) => {
+                both.left.insert_variables(variables, number)?;
+                both.right.insert_variables(variables, number)
             }
             Draft::Opposite(draft) => draft.insert_variables(variables, number),
         }

@@ -2,7 +2,9 @@
 
 ghost use Rattle.std.specs.Prelude.{◌≡◌, ◌≤◌, ◌+◌, ◌*◌, ◌^◌, ◌<◌, ℕ, max, Contains, IfOk};
 ghost use Rattle.fraction_poly.specs.Inner.Drafts.{AllFit, AllLeaves, IsBoundedNumber, IsPartFor};
+ghost use Rattle.fraction_poly.specs.Inner.Drafts.{combined_form, combined_piece};
 ghost use Rattle.fraction_poly.specs.Inner.Drafts.{drafted_piece, form_of};
+ghost use Rattle.geo_poly.specs.declared.replacement.Piece.{Piece};
 ghost use Rattle.geo_poly.specs.Rings.{Grows};
 ghost use Rattle.fraction_poly.specs.Inner.Drafts.{numbers_in, piece_bounds};
 ghost use Rattle.fraction_poly.specs.Forms.{◌⊞◌, ◌⊟◌, ◌⊠◌, opposite};
@@ -11,7 +13,7 @@ ghost use Rattle.fraction_poly.specs.declared.step_numbers.StepNumber.{StepNumbe
 ghost use Rattle.geo_terms.specs.Trees.{Tree};
 
 use crate::measures::Numbers;
-use crate::parts::{Part, copied, difference, integer, opposite, product, quantity, sum, variable};
+use crate::parts::{Part, combined, copied, integer, opposite, quantity, variable};
 use crate::step_numbers::StepNumber;
 use geo_points::{NoMemory, PointId, TermId};
 use geo_poly::{Piece, Ring, Var, canon_p, canon_r, canon_s};
@@ -19,6 +21,7 @@ use std::alloc::Global;
 
 /// A polynomial as a row writes it. It is not multiplied out yet.
 #[derive(Drop)]
+#[cycle(draft)]
 pub enum Draft {
     /// A whole number.
     Integer(u32),
@@ -36,14 +39,33 @@ pub enum Draft {
     Numerator,
     /// The denominator of the step's number.
     Denominator,
-    /// The sum of both.
-    Sum(Box<Draft>, Box<Draft>),
-    /// The first less the second.
-    Difference(Box<Draft>, Box<Draft>),
-    /// The product of both.
-    Product(Box<Draft>, Box<Draft>),
+    /// Two drafts put together.
+    Combined(Box<Combination>),
     /// The other sign.
     Opposite(Box<Draft>),
+}
+
+/// Two drafts, and how they are put together.
+#[derive(Drop)]
+#[cycle(draft)]
+pub struct Combination {
+    /// What is made of both.
+    pub operation: Operation,
+    /// The first.
+    pub left: Draft,
+    /// The second.
+    pub right: Draft,
+}
+
+/// What is made of two drafts.
+#[derive(Clone, Copy, Debug, PartialEq, Eq)]
+pub enum Operation {
+    /// The sum of both.
+    Sum,
+    /// The first less the second.
+    Difference,
+    /// The product of both.
+    Product,
 }
 
 /// What a draft multiplies out to is bounded so. A number past `2^128 - 1` is given as `2^128 - 1`.
@@ -75,24 +97,34 @@ impl Draft {
     pub fn plus(self, alloc: Global, other: Draft) -> Result<Draft, NoMemory>
         ensures { IfOk result (λ d. (e : Tree) → form_of e d ≡ form_of e self ⊞ form_of e other) }
     {
-        let left = Box::new(alloc, self)?;
-        Ok(Draft::Sum(left, Box::new(alloc, other)?))
+        self.combined(alloc, Operation::Sum, other)
     }
 
     /// The difference.
     pub fn minus(self, alloc: Global, other: Draft) -> Result<Draft, NoMemory>
         ensures { IfOk result (λ d. (e : Tree) → form_of e d ≡ form_of e self ⊟ form_of e other) }
     {
-        let left = Box::new(alloc, self)?;
-        Ok(Draft::Difference(left, Box::new(alloc, other)?))
+        self.combined(alloc, Operation::Difference, other)
     }
 
     /// The product.
     pub fn times(self, alloc: Global, other: Draft) -> Result<Draft, NoMemory>
         ensures { IfOk result (λ d. (e : Tree) → form_of e d ≡ form_of e self ⊠ form_of e other) }
     {
-        let left = Box::new(alloc, self)?;
-        Ok(Draft::Product(left, Box::new(alloc, other)?))
+        self.combined(alloc, Operation::Product, other)
+    }
+
+    /// Both, put together.
+    fn combined(self, alloc: Global, operation: Operation, right: Draft) -> Result<Draft, NoMemory>
+        ensures { IfOk result (λ d. (e : Tree)
+            → form_of e d ≡ combined_form operation (form_of e self) (form_of e right)) }
+    {
+        let both = Combination {
+            operation,
+            left: self,
+            right,
+        };
+        Ok(Draft::Combined(Box::new(alloc, both)?))
     }
 
     /// The other sign.
@@ -113,17 +145,10 @@ impl Draft {
             Draft::Abscissa(_) | Draft::Ordinate(_) => Bounds::new(1, 1, 1),
             Draft::Numerator => Bounds::new(number.wn, number.kn, number.gn),
             Draft::Denominator => Bounds::new(number.wd, number.kd, number.gd),
-            Draft::Sum(left, right) => {
-                let left = left.bounds(number);
-                left.plus(right.bounds(number))
-            }
-            Draft::Difference(left, right) => {
-                let left = left.bounds(number);
-                left.plus(right.bounds(number))
-            }
-            Draft::Product(left, right) => {
-                let left = left.bounds(number);
-                left.times(right.bounds(number))
+            Draft::Combined(both) => {
+                let left = both.left.bounds(number);
+                let right = both.right.bounds(number);
+                left.combined(both.operation, right)
             }
             Draft::Opposite(draft) => draft.bounds(number),
         }
@@ -138,6 +163,19 @@ impl Draft {
         let mut ring = Ring::new(alloc, self.variables(alloc, number)?)?;
         let part = self.part(alloc, &mut ring, number)?;
         part.into_piece(alloc, ring)
+    }
+
+    /// What the draft multiplies out to, where the step's number is this. The number is spent.
+    pub(crate) fn last_piece(&self, alloc: Global, number: StepNumber) -> Result<Piece, NoMemory>
+        requires number { IsBoundedNumber number }
+        requires fits { AllFit number self.now }
+        ensures { IfOk result (λ f. f ≡ drafted_piece number self.now) }
+    {
+        match self {
+            Draft::Numerator => Ok(number.num),
+            Draft::Denominator => Ok(number.den),
+            _ => self.piece(alloc, &number),
+        }
     }
 
     /// What the draft multiplies out to, in a ring that has its variables.
@@ -157,20 +195,10 @@ impl Draft {
             Draft::Ordinate(a) => variable(alloc, ring, Var::Y(*a)),
             Draft::Numerator => copied(alloc, ring, &number.num),
             Draft::Denominator => copied(alloc, ring, &number.den),
-            Draft::Sum(left, right) => {
-                let left = left.part(alloc, ring, number)?;
-                let right = right.part(alloc, ring, number)?;
-                sum(alloc, ring, &left, &right)
-            }
-            Draft::Difference(left, right) => {
-                let left = left.part(alloc, ring, number)?;
-                let right = right.part(alloc, ring, number)?;
-                difference(alloc, ring, &left, &right)
-            }
-            Draft::Product(left, right) => {
-                let left = left.part(alloc, ring, number)?;
-                let right = right.part(alloc, ring, number)?;
-                product(alloc, ring, &left, &right)
+            Draft::Combined(both) => {
+                let left = both.left.part(alloc, ring, number)?;
+                let right = both.right.part(alloc, ring, number)?;
+                combined(alloc, ring, both.operation, &left, &right)
             }
             Draft::Opposite(draft) => {
                 let part = draft.part(alloc, ring, number)?;
@@ -191,6 +219,17 @@ impl Bounds {
             weight,
             count,
             degree,
+        }
+    }
+
+    /// Those of what is made of both.
+    fn combined(self, operation: Operation, other: Bounds) -> Bounds
+        ensures { (f g : Piece) → self ≡ piece_bounds f → other ≡ piece_bounds g
+            → result ≡ piece_bounds (combined_piece operation f g) }
+    {
+        match operation {
+            Operation::Sum | Operation::Difference => self.plus(other),
+            Operation::Product => self.times(other),
         }
     }
 

@@ -4,12 +4,13 @@ ghost use Rattle.std.specs.Prelude.{◌≡◌, ◌+◌, ◌*◌, ◌^◌, ◌<�
 ghost use Rattle.fraction_poly.specs.Forms.{PieceFits, integer_piece, piece_difference};
 ghost use Rattle.fraction_poly.specs.Forms.{piece_opposite, piece_product, piece_sum};
 ghost use Rattle.fraction_poly.specs.Forms.{variable_piece};
-ghost use Rattle.fraction_poly.specs.Inner.Drafts.{HasSign, IsPartFor, piece_in};
+ghost use Rattle.fraction_poly.specs.Inner.Drafts.{HasSign, IsPartFor, combined_piece, piece_in};
 ghost use Rattle.fraction_poly.specs.MultipliedOut.{canon_polynomial, variable_polynomial};
 ghost use Rattle.geo_poly.specs.PolynomialVariables.{AllVariables};
 ghost use Rattle.geo_poly.specs.Replace.{IsBounded};
 ghost use Rattle.geo_poly.specs.Rings.{Grows, IsElement};
 
+use crate::drafts::Operation;
 use geo_points::NoMemory;
 use geo_poly::{Canon, Element, Piece, Ring, Var};
 use std::alloc::Global;
@@ -87,8 +88,33 @@ pub(crate) fn copied(alloc: Global, ring: &mut Ring, piece: &Piece) -> Result<Pa
     })
 }
 
+/// Both, put together.
+pub(crate) fn combined(
+    alloc: Global,
+    ring: &mut Ring,
+    operation: Operation,
+    left: &Part,
+    right: &Part,
+) -> Result<Part, NoMemory>
+    requires left_element { IsElement ring.old left.now.element }
+    requires right_element { IsElement ring.old right.now.element }
+    requires left { IsBounded (piece_in ring.old left.now) }
+    requires right { IsBounded (piece_in ring.old right.now) }
+    requires fits { PieceFits (combined_piece operation (piece_in ring.old left.now)
+        (piece_in ring.old right.now)) }
+    ensures part { IfOk result (IsPartFor ring.new (combined_piece operation
+        (piece_in ring.old left.now) (piece_in ring.old right.now))) }
+    ensures grows { Grows ring.old ring.new }
+{
+    match operation {
+        Operation::Sum => sum(alloc, ring, left, right),
+        Operation::Difference => difference(alloc, ring, left, right),
+        Operation::Product => product(alloc, ring, left, right),
+    }
+}
+
 /// The sum.
-pub(crate) fn sum(alloc: Global, ring: &Ring, left: &Part, right: &Part) -> Result<Part, NoMemory>
+fn sum(alloc: Global, ring: &Ring, left: &Part, right: &Part) -> Result<Part, NoMemory>
     requires left_element { IsElement ring.now left.now.element }
     requires right_element { IsElement ring.now right.now.element }
     requires left { IsBounded (piece_in ring.now left.now) }
@@ -107,12 +133,7 @@ pub(crate) fn sum(alloc: Global, ring: &Ring, left: &Part, right: &Part) -> Resu
 }
 
 /// The difference.
-pub(crate) fn difference(
-    alloc: Global,
-    ring: &Ring,
-    left: &Part,
-    right: &Part,
-) -> Result<Part, NoMemory>
+fn difference(alloc: Global, ring: &Ring, left: &Part, right: &Part) -> Result<Part, NoMemory>
     requires left_element { IsElement ring.now left.now.element }
     requires right_element { IsElement ring.now right.now.element }
     requires left { IsBounded (piece_in ring.now left.now) }
@@ -131,12 +152,7 @@ pub(crate) fn difference(
 }
 
 /// The product.
-pub(crate) fn product(
-    alloc: Global,
-    ring: &mut Ring,
-    left: &Part,
-    right: &Part,
-) -> Result<Part, NoMemory>
+fn product(alloc: Global, ring: &mut Ring, left: &Part, right: &Part) -> Result<Part, NoMemory>
     requires left_element { IsElement ring.old left.now.element }
     requires right_element { IsElement ring.old right.now.element }
     requires left { IsBounded (piece_in ring.old left.now) }

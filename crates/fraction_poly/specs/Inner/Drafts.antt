@@ -2,7 +2,9 @@
 use Rattle.std.specs.Prelude.{◌≡◌, ◌≢◌, ◌≤◌, ℕ, pos, Option, Some, None, IfSome, unsigned_abs}
 use Rattle.fraction_poly.specs.declared.drafts.Bounds.{Bounds}
 use Rattle.fraction_poly.specs.declared.drafts.Draft.{Draft}
-use Rattle.fraction_poly.specs.declared.drafts.Draft.TheVariants.{Integer, Area, Pythagoras, Ratio, Abscissa, Ordinate, Numerator, Denominator, Sum', Difference', Product', Opposite'}
+use Rattle.fraction_poly.specs.declared.drafts.Draft.TheVariants.{Integer, Area, Pythagoras, Ratio, Abscissa, Ordinate, Numerator, Denominator, Combined', Opposite'}
+use Rattle.fraction_poly.specs.declared.drafts.Operation.{Operation}
+use Rattle.fraction_poly.specs.declared.drafts.Operation.TheVariants.{Sum, Difference, Product}
 use Rattle.fraction_poly.specs.declared.drafts.RowDraft.{RowDraft}
 use Rattle.fraction_poly.specs.declared.linear.Linear.{Linear}
 use Rattle.fraction_poly.specs.declared.linear.Linear.TheVariants.{Area as LinearArea, Pythagoras as LinearPythagoras}
@@ -28,6 +30,12 @@ use Rattle.geo_terms.specs.declared.steps.Step.TheVariants.{Pratio, Tratio}
 use Rattle.geo_terms.specs.Stores.{Store, tree_of}
 use Rattle.geo_terms.specs.Trees.{Tree, integer_leaf}
 
+-- what is made of two forms
+abbrev pub combined_form : Operation → Form → Form → Form
+combined_form Sum f g = f ⊞ g
+combined_form Difference f g = f ⊟ g
+combined_form Product f g = f ⊠ g
+
 -- the form that a draft is, where the step's number is e
 abbrev pub form_of : Tree → Draft → Form
 form_of e (Integer n) = integer n
@@ -38,9 +46,7 @@ form_of e (Abscissa a) = abscissa a
 form_of e (Ordinate a) = ordinate a
 form_of e Numerator = numerator e
 form_of e Denominator = denominator e
-form_of e (Sum' p f q g) = form_of e f ⊞ form_of e g
-form_of e (Difference' p f q g) = form_of e f ⊟ form_of e g
-form_of e (Product' p f q g) = form_of e f ⊠ form_of e g
+form_of e (Combined' p o f g) = combined_form o (form_of e f) (form_of e g)
 form_of e (Opposite' p f) = opposite (form_of e f)
 
 -- the number that a row uses, and 1 where it uses none
@@ -56,6 +62,12 @@ row_of_draft nodes r =
 
 -- MULTIPLYING OUT
 
+-- what two pieces are put together to
+abbrev pub combined_piece : Operation → Piece → Piece → Piece
+combined_piece Sum f g = piece_sum f g
+combined_piece Difference f g = piece_difference f g
+combined_piece Product f g = piece_product f g
+
 -- what a draft multiplies out to, where the step's number is this
 abbrev pub drafted_piece : StepNumber → Draft → Piece
 drafted_piece n (Integer k) = integer_piece k
@@ -66,9 +78,7 @@ drafted_piece n (Abscissa a) = variable_piece (variable_polynomial (pos 1) (X a)
 drafted_piece n (Ordinate a) = variable_piece (variable_polynomial (pos 1) (Y a))
 drafted_piece n Numerator = n.num
 drafted_piece n Denominator = n.den
-drafted_piece n (Sum' p f q g) = piece_sum (drafted_piece n f) (drafted_piece n g)
-drafted_piece n (Difference' p f q g) = piece_difference (drafted_piece n f) (drafted_piece n g)
-drafted_piece n (Product' p f q g) = piece_product (drafted_piece n f) (drafted_piece n g)
+drafted_piece n (Combined' p o f g) = combined_piece o (drafted_piece n f) (drafted_piece n g)
 drafted_piece n (Opposite' p f) = piece_opposite (drafted_piece n f)
 
 -- the bounds that both parts of a number tell are such
@@ -78,9 +88,8 @@ pub record IsBoundedNumber (n : StepNumber) : Type 0 where
 
 -- each sum, difference and product in the draft is within the bounds of a polynomial
 abbrev pub AllFit : StepNumber → Draft → Type 0
-AllFit n (Sum' p f q g) = PieceFits (piece_sum (drafted_piece n f) (drafted_piece n g)) × AllFit n f × AllFit n g
-AllFit n (Difference' p f q g) = PieceFits (piece_difference (drafted_piece n f) (drafted_piece n g)) × AllFit n f × AllFit n g
-AllFit n (Product' p f q g) = PieceFits (piece_product (drafted_piece n f) (drafted_piece n g)) × AllFit n f × AllFit n g
+AllFit n (Combined' p o f g) =
+    PieceFits (combined_piece o (drafted_piece n f) (drafted_piece n g)) × AllFit n f × AllFit n g
 AllFit n (Opposite' p f) = AllFit n f
 AllFit n _ = Unit {0}
 
@@ -107,9 +116,7 @@ AllLeaves Holds n (Abscissa a) = Holds (X a)
 AllLeaves Holds n (Ordinate a) = Holds (Y a)
 AllLeaves Holds n Numerator = AllVariables Holds n.num.poly
 AllLeaves Holds n Denominator = AllVariables Holds n.den.poly
-AllLeaves Holds n (Sum' p f q g) = AllLeaves Holds n f × AllLeaves Holds n g
-AllLeaves Holds n (Difference' p f q g) = AllLeaves Holds n f × AllLeaves Holds n g
-AllLeaves Holds n (Product' p f q g) = AllLeaves Holds n f × AllLeaves Holds n g
+AllLeaves Holds n (Combined' p o f g) = AllLeaves Holds n f × AllLeaves Holds n g
 AllLeaves Holds n (Opposite' p f) = AllLeaves Holds n f
 
 -- the numbers of both parts, with a charge

@@ -3,14 +3,13 @@ use Rattle.fraction_poly.specs.declared.step_numbers.StepNumber.{StepNumber}
 use Rattle.fraction_poly.specs.Inner.Drafts.{AllFit, IsBoundedNumber, drafted_piece, form_of, number_tree}
 use Rattle.fraction_poly.specs.Forms.{PieceFits, piece_of, step_number}
 use Rattle.fraction_poly.proofs.PieceBounds.{all_fit, drafted-is, bounded_number}
-use Rattle.geo_poly.specs.declared.replacement.Piece.{Piece}
 use Rattle.fraction_poly.proofs.table.made_row.Goals as goal
 
 pub piece-requires-clause-number : goal.piece-requires-clause-number
 piece-requires-clause-number c = subst IsBoundedNumber (sym c.in_ok-number.ensures) (bounded_number (number_tree c.args.terms.now c.args.row.now.number))
 
-pub piece-requires-2-clause-number : goal.piece-requires-2-clause-number
-piece-requires-2-clause-number c = subst IsBoundedNumber (sym c.in_ok-number.ensures) (bounded_number (number_tree c.args.terms.now c.args.row.now.number))
+pub last_piece-requires-clause-number : goal.last_piece-requires-clause-number
+last_piece-requires-clause-number c = subst IsBoundedNumber (sym c.in_ok-number.ensures) (bounded_number (number_tree c.args.terms.now c.args.row.now.number))
 
 pub piece-requires-clause-fits : goal.piece-requires-clause-fits
 piece-requires-clause-fits c =
@@ -18,8 +17,8 @@ piece-requires-clause-fits c =
     subst (λ (n : StepNumber). AllFit n c.args.row.now.num) (sym c.in_ok-number.ensures)
     (all_fit (step_number e) (bounded_number e) c.args.row.now.num (subst PieceFits (sym (drafted-is e c.args.row.now.num)) c.requires.fits.num))
 
-pub piece-requires-2-clause-fits : goal.piece-requires-2-clause-fits
-piece-requires-2-clause-fits c =
+pub last_piece-requires-clause-fits : goal.last_piece-requires-clause-fits
+last_piece-requires-clause-fits c =
     let e = number_tree c.args.terms.now c.args.row.now.number in
     subst (λ (n : StepNumber). AllFit n c.args.row.now.den) (sym c.in_ok-number.ensures)
     (all_fit (step_number e) (bounded_number e) c.args.row.now.den (subst PieceFits (sym (drafted-is e c.args.row.now.den)) c.requires.fits.den))
