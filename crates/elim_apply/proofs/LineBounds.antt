@@ -149,7 +149,7 @@ module _ (row : Var → Option Row) (own : (v : Var) (r : Row) → row v ≡ Som
   each_map First Second f [] h = tt
   each_map First Second f (v ∷ vs) h = (f v h.0, each_map First Second f vs h.1)
 
-  each_found : (vs : List Var) → EachIn (IsFound (filter_map row vs)) vs
+  pub each_found : (vs : List Var) → EachIn (IsFound (filter_map row vs)) vs
   each_found [] = tt
   each_found (v ∷ vs) =
       (found_first v vs, each_map (IsFound (filter_map row vs)) (IsFound (filter_map row (v ∷ vs))) (λ w. found_later v vs w) vs (each_found vs))

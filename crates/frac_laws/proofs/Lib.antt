@@ -1,3 +1,4 @@
 pub mod Coprime
 pub mod LowestTerms
 pub mod Sums
+pub mod Turned

@@ -5,6 +5,7 @@
 mod arithmetic;
 mod divisors;
 mod frac;
+mod inverses;
 pub mod laws;
 #[cfg(test)]
 mod tests;

@@ -52,7 +52,7 @@ module _ (p : Source) (w : IsWellFormed p) where
       (IsWord-tested (codes "nonzero") refl, MayAllStand-append (braced inner) [] braces tt)
 
   -- one text has one list of lexemes
-  same_lexemes : (c d : Condition) → IsOverNames c → IsOverNames d → form_text p.names (condition_form c) ≡ form_text p.names (condition_form d) → lexemes c ≡ lexemes d
+  pub same_lexemes : (c d : Condition) → IsOverNames c → IsOverNames d → form_text p.names (condition_form c) ≡ form_text p.names (condition_form d) → lexemes c ≡ lexemes d
   same_lexemes c d oc od e =
       one_meaning (line_text (lexemes c)) (lexemes c) (lexemes d) (line_spelt (lexemes c) (stands c oc)).has
       (subst (λ text. HasLexemes text (lexemes d)) (sym e) (line_spelt (lexemes d) (stands d od)).has)
@@ -63,7 +63,7 @@ module _ (p : Source) (w : IsWellFormed p) where
   all_named : (xs : List Argument) → Named xs → All (IsArgument S) xs
   all_named xs h = All-from_recursion (IsArgument S) xs h
 
-  same : (c d : Condition) → IsOverNames c → IsOverNames d → lexemes c ≡ lexemes d → c ≡ d
+  pub same : (c d : Condition) → IsOverNames c → IsOverNames d → lexemes c ≡ lexemes d → c ≡ d
   same (different a b) (different c d) o u h =
       let tails : spelling (point_argument a ∷ point_argument b ∷ []) ≡ spelling (point_argument c ∷ point_argument d ∷ []) = cc in
       let xs = point_argument a ∷ point_argument b ∷ [] in let ys = point_argument c ∷ point_argument d ∷ [] in

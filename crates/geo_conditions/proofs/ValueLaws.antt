@@ -36,7 +36,7 @@ use Rattle.geo_conditions.proofs.Extensions.{met_program}
 abbrev AreSameAt : Placement → Placement → List ℕ → Type 0
 AreSameAt one other xs = (k : ℕ) → k < length xs → SamePoint (one.point (slice_index_or xs k 0)) (other.point (slice_index_or xs k 0))
 
-frees_same : (one other : Placement) (cs : List Command) (x : ℕ) → AreSameAt one other (free_points x cs) → AreFreesSame one other x cs
+pub frees_same : (one other : Placement) (cs : List Command) (x : ℕ) → AreSameAt one other (free_points x cs) → AreFreesSame one other x cs
 frees_same one other [] x h = tt
 frees_same one other (c ∷ cs) x h = next (is_free c) refl h (frees_same one other cs (counted kind.Point (named c) x))
   where

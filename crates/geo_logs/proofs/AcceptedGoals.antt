@@ -70,7 +70,7 @@ module _ (Works : Chains) (IsChosen : Samples) where
   goals_possible known listed k left (item ∷ items) lines j left' (first, inl ended) = goals_possible known listed (suc k) first.after items first.rest j left' ended.1
   goals_possible known listed k left (item ∷ items) lines j left' (first, inr failed) = let e : Impossible j ≡ False k = failed.1 in cc
 
-  conditions_zero : (goals : List Item) (known : List Var) (listed : List Summands) (k left : ℕ) (items : List Item) (lines : List Line) (verdict : Verdict) (left' : ℕ)
+  pub conditions_zero : (goals : List Item) (known : List Var) (listed : List Summands) (k left : ℕ) (items : List Item) (lines : List Line) (verdict : Verdict) (left' : ℕ)
       → AreConditionsWorked Works IsChosen goals known listed k left items lines verdict left'
       → (i : ℕ) (goal : Item) → slice_get goals i ≡ Some goal → SaysZero verdict i → EndsInZero goal.term
   conditions_zero goals known listed k left [] lines verdict left' h i goal at says =
@@ -91,7 +91,7 @@ module _ (Works : Chains) (IsChosen : Samples) where
   same_number : (j k : ℕ) → Impossible j ≡ Impossible k → j ≡ k
   same_number j k e = cc
 
-  conditions_impossible : (goals : List Item) (known : List Var) (listed : List Summands) (k left : ℕ) (items : List Item) (lines : List Line) (j : ℕ) (left' : ℕ)
+  pub conditions_impossible : (goals : List Item) (known : List Var) (listed : List Summands) (k left : ℕ) (items : List Item) (lines : List Line) (j : ℕ) (left' : ℕ)
       → AreConditionsWorked Works IsChosen goals known listed k left items lines (Impossible j) left' → IsImpossibleAt k j items
   conditions_impossible goals known listed k left [] lines j left' h = absurd (goals_possible known listed 1 left goals lines j left' h)
   conditions_impossible goals known listed k left (item ∷ items) lines j left' (first, inl ended) =

@@ -83,7 +83,7 @@ multiples-total : (t : Powers × ℤ) (r : Summands) → total lists (multiple t
 multiples-total t [] = refl
 multiples-total t (u ∷ us) = ap (λ x. (product t.0 u.0, t.1 *ℤ u.1) ∷ x) (multiples-total t us)
 
-multiples-right : (t : Powers × ℤ) (r : Summands) → Alike (multiples t (polynomial_of r)) (multiples t r)
+pub multiples-right : (t : Powers × ℤ) (r : Summands) → Alike (multiples t (polynomial_of r)) (multiples t r)
 multiples-right t r =
     ap polynomial_of (sym (multiples-total t (polynomial_of r)))
     ∙ total-canonical lists term_cmp coefficients term_order coefficients_add (multiple t) (multiple-add t) (multiple-zero t) r

@@ -99,7 +99,7 @@ norm_of-replaced_term-le rows den top t h b =
     mul-le-mul_right (den.weight ^ (top - denominators rows t.0)) (omega (arith, rowed, weights)) in
     omega (arith, norm_of-times_power-le (times_rows rows t.0 ((m, t.1) ∷ [])) den.poly den.weight (top - denominators rows t.0) b.norm, whole)
 
-norm_of-replaced_terms-le : (rows : List Row) (den : Piece) (top : ℕ) (p : Summands) → AllBounded rows → IsBounded den → norm_of (replaced_terms rows den.poly top p) ≤ weight_of rows den top p
+pub norm_of-replaced_terms-le : (rows : List Row) (den : Piece) (top : ℕ) (p : Summands) → AllBounded rows → IsBounded den → norm_of (replaced_terms rows den.poly top p) ≤ weight_of rows den top p
 norm_of-replaced_terms-le rows den top [] h b = omega arith
 norm_of-replaced_terms-le rows den top (t ∷ ts) h b =
     omega (arith, sum_by-append (λ (t : Powers × ℤ). unsigned_abs t.1) (replaced_term rows den.poly top t) (replaced_terms rows den.poly top ts), sum_by-cons (term_weight rows den top) t ts, norm_of-replaced_term-le rows den top t h b, norm_of-replaced_terms-le rows den top ts h b)

@@ -1,13 +1,16 @@
 -- How long texts are, by the lengths of their lexemes.
-use Rattle.std.proofs.Common.{◌≡◌, ℕ, ◌+◌, ◌≤◌, List, [], ◌∷◌, ◌++◌, length, refl, arith, length-append}
-use Rattle.std.specs.Prelude.{sum_by}
-use Rattle.std.specs.List.{AllByRecursion, flat_map}
+use Rattle.std.proofs.Common.{◌≡◌, ℕ, zero, suc, ◌+◌, ◌*◌, ◌≤◌, Bool, true, false, if◌then◌else◌, List, [], ◌∷◌, ◌++◌, length, get_or, Some, None, refl, arith, length-append}
+use Rattle.std.specs.Prelude.{All, sum_by}
+use Rattle.std.specs.List.{AllByRecursion, cons_option, flat_map}
 use Rattle.std.proofs.lemmas.List.Sums.{sum_by-append, sum_by-cons}
 use Rattle.geo_lexer.specs.Lexemes.{Lexeme}
 use Rattle.geo_program.specs.declared.commands.Command.{Command}
 use Rattle.geo_program.specs.declared.names.Name.{Name}
+use Rattle.geo_program.specs.declared.names.NameKind.TheVariants as kind
 use Rattle.geo_program.specs.CanonicalText.{Sketch, canonical_text, command_lexemes, commands_lexemes, lexeme_text, line_lexemes, line_text, no_sketches, sketch_lexemes, statement_lexemes}
+use Rattle.geo_program.specs.Names.{is_kind, name_text, names_of}
 use Rattle.geo_program.specs.WellFormed.{Source}
+use Rattle.geo_program.specs.Words.{IsNameText}
 use Rattle.geo_terms.specs.Stores.{Store}
 
 -- the bytes of a lexeme, and the space or the line feed after it
@@ -78,3 +81,28 @@ pub canonical_text_short : (p : Source) (sketches : List Sketch) → length p.co
 unfolding lines_size
 canonical_text_short p sketches h =
     omega (arith, length-canonical_text p, sketches_lengthen p.names p.nodes p.names p.commands sketches (statement_lexemes p.names p.nodes p.statement) h)
+
+-- lexemes of at most m bytes
+pub sizes_small : (m : ℕ) (lexemes : List Lexeme) → AllByRecursion (λ l. lexeme_size l ≤ m) lexemes → sum_by lexeme_size lexemes ≤ m * length lexemes
+sizes_small m [] h = omega arith
+sizes_small m (l ∷ lexemes) h = omega (arith, h.0, sum_by-cons lexeme_size l lexemes, sizes_small m lexemes h.1)
+
+-- names have at most 64 bytes
+pub texts_short : (names : List Name) → All (λ n. IsNameText n.text) names → AllByRecursion (λ n. length n.text ≤ 64) names
+texts_short [] h = tt
+texts_short (n ∷ names) h = ((h 0 n (omega arith)).short, texts_short names (λ k d lt. h (suc k) d (omega (arith, lt))))
+
+-- the name of each point has at most 64 bytes
+pub short_points : (names : List Name) → AllByRecursion (λ n. length n.text ≤ 64) names → (k : ℕ) → length (name_text kind.Point names k) ≤ 64
+short_points [] h k = empty k
+  where
+    empty : (k : ℕ) → length (get_or {A = List ℕ} [] k []) ≤ 64
+    empty zero = omega arith
+    empty (suc k) = omega arith
+short_points (n ∷ names) h k = by_test (short_points names h.1) (is_kind n.kind kind.Point) k
+  where
+    by_test : ((k : ℕ) → length (name_text kind.Point names k) ≤ 64) → (b : Bool) (k : ℕ)
+        → length (get_or (cons_option (if b then Some n.text else None) (names_of kind.Point names)) k []) ≤ 64
+    by_test later true zero = h.0
+    by_test later true (suc k) = later k
+    by_test later false k = later k

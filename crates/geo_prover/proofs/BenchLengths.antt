@@ -14,35 +14,15 @@ use Rattle.geo_program.specs.Expressions.{braced}
 use Rattle.geo_program.specs.Forms.{StatementForm}
 use Rattle.geo_program.specs.Names.{is_kind, name_text, names_of}
 use Rattle.geo_program.specs.Words.{IsNameText}
-use Rattle.geo_program.proofs.Lengths.{lexeme_size}
+use Rattle.geo_program.proofs.Lengths.{lexeme_size, sizes_small}
 use Rattle.geo_terms.specs.Stores.{Store}
 use Rattle.geo_prover.specs.Bench.{bench_commands, bench_statement, corner, middles, quadrangle_commands}
-
--- the name of each point has at most 64 bytes
-pub short_points : (names : List Name) → AllByRecursion (λ n. length n.text ≤ 64) names → (k : ℕ) → length (name_text kind.Point names k) ≤ 64
-short_points [] h k = empty k
-  where
-    empty : (k : ℕ) → length (get_or {A = List ℕ} [] k []) ≤ 64
-    empty zero = omega arith
-    empty (suc k) = omega arith
-short_points (n ∷ names) h k = by_test (short_points names h.1) (is_kind n.kind kind.Point) k
-  where
-    by_test : ((k : ℕ) → length (name_text kind.Point names k) ≤ 64) → (b : Bool) (k : ℕ)
-        → length (get_or (cons_option (if b then Some n.text else None) (names_of kind.Point names)) k []) ≤ 64
-    by_test later true zero = h.0
-    by_test later true (suc k) = later k
-    by_test later false k = later k
 
 -- a free point or a middle
 abbrev pub IsSimple : Command → Type 0
 IsSimple Point = Unit {0}
 IsSimple (Midpoint a b) = Unit {0}
 IsSimple _ = ⊥
-
--- lexemes of at most m bytes
-pub sizes_small : (m : ℕ) (lexemes : List Lexeme) → AllByRecursion (λ l. lexeme_size l ≤ m) lexemes → sum_by lexeme_size lexemes ≤ m * length lexemes
-sizes_small m [] h = omega arith
-sizes_small m (l ∷ lexemes) h = omega (arith, h.0, sum_by-cons lexeme_size l lexemes, sizes_small m lexemes h.1)
 
 module _ (all : List Name) (nodes : Store) (short : (k : ℕ) → length (name_text kind.Point all k) ≤ 64) where
   -- the lexemes of a command, with a byte after each
@@ -86,11 +66,6 @@ quadrangles_count (suc n) = omega (arith, quadrangles_count n, length-append (qu
 
 pub bench_count : (n : ℕ) → length (bench_commands n) ≡ 4 * n + 6
 bench_count n = omega (arith, quadrangles_count n, length-append (quadrangle_commands n) (Midpoint (corner 0 n) (corner 2 n) ∷ Midpoint (corner 0 1) (corner 2 1) ∷ []))
-
--- names have at most 64 bytes
-pub texts_short : (names : List Name) → All (λ n. IsNameText n.text) names → AllByRecursion (λ n. length n.text ≤ 64) names
-texts_short [] h = tt
-texts_short (n ∷ names) h = ((h 0 n (omega arith)).short, texts_short names (λ k d lt. h (suc k) d (omega (arith, lt))))
 
 -- THE STATEMENT
 -- the lexemes of a statement of this form

@@ -13,11 +13,11 @@ use Rattle.geo_program.specs.CanonicalText.{canonical_text, commands_lexemes, no
 use Rattle.geo_program.specs.Forms.{AreSidesStored, StatementForm, side_argument, statement_form}
 use Rattle.geo_program.specs.Spelling.{SpellsSource}
 use Rattle.geo_program.specs.WellFormed.{IsArgument, IsWellFormed, Scope, Source, empty_scope, scope_of}
-use Rattle.geo_program.proofs.Lengths.{length-canonical_text, lexeme_size}
+use Rattle.geo_program.proofs.Lengths.{length-canonical_text, lexeme_size, short_points, texts_short}
 use Rattle.geo_program.proofs.LinesSpelt.{well_formed_is_spelt}
 use Rattle.geo_terms.specs.Stores.{Store}
 use Rattle.geo_prover.specs.Bench.{bench_commands, bench_names, bench_statement, x_area, y_area}
-use Rattle.geo_prover.proofs.BenchLengths.{bench_count, bench_simple, commands_short, form_lexemes, short_points, statement_short, texts_short}
+use Rattle.geo_prover.proofs.BenchLengths.{bench_count, bench_simple, commands_short, form_lexemes, statement_short}
 use Rattle.geo_prover.proofs.BenchNames.{bench_differ, bench_texts}
 use Rattle.geo_prover.proofs.BenchPrograms.{bench_few, bench_made, bench_scope, points_scope}
 

@@ -32,7 +32,7 @@ means p steps lines (False g) a =
 means p steps lines (Impossible k) a = impossible_is_never_met p steps k lines a
 
 -- and then no other does
-decided : (p : Source) (verdict : Verdict) → Means p verdict → IsDecided p verdict
+pub decided : (p : Source) (verdict : Verdict) → Means p verdict → IsDecided p verdict
 decided p Proved m = record {
   proved = (λ e. m, λ t. refl);
   refuted = (λ e. absurd (let q : Proved ≡ False e.0 = e.1 in cc), λ r. absurd (meanings_exclude.true_or_refuted p m r));

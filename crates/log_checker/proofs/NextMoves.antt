@@ -139,14 +139,14 @@ found_fits p (z ∷ xs) x e = go (p z) refl (found_fits p xs x) e
     go false t rest e = rest e
 
 -- the points of a quantity stand in it
-first_of : (a b d : PointId) → IsTrue (is_point a a || is_point b a || is_point d a)
+pub first_of : (a b d : PointId) → IsTrue (is_point a a || is_point b a || is_point d a)
 first_of a b d = go (is_point a a) (is_point b a) (is_point d a) (eq-eqb a.0 a.0 refl)
   where
     go : (i j k : Bool) → IsTrue i → IsTrue (i || j || k)
     go true j k h = refl
     go false j k h = let q : false ≡ true = h in absurd (cc)
 
-second_of : (a b d : PointId) → IsTrue (is_point a b || is_point b b || is_point d b)
+pub second_of : (a b d : PointId) → IsTrue (is_point a b || is_point b b || is_point d b)
 second_of a b d = go (is_point a b) (is_point b b) (is_point d b) (eq-eqb b.0 b.0 refl)
   where
     go : (i j k : Bool) → IsTrue j → IsTrue (i || j || k)
@@ -154,7 +154,7 @@ second_of a b d = go (is_point a b) (is_point b b) (is_point d b) (eq-eqb b.0 b.
     go false true k h = refl
     go i false k h = let q : false ≡ true = h in absurd (cc)
 
-third_of : (a b d : PointId) → IsTrue (is_point a d || is_point b d || is_point d d)
+pub third_of : (a b d : PointId) → IsTrue (is_point a d || is_point b d || is_point d d)
 third_of a b d = go (is_point a d) (is_point b d) (is_point d d) (eq-eqb d.0 d.0 refl)
   where
     go : (i j k : Bool) → IsTrue k → IsTrue (i || j || k)
@@ -164,7 +164,7 @@ third_of a b d = go (is_point a d) (is_point b d) (is_point d d) (eq-eqb d.0 d.0
     go false false true h = refl
     go i j false h = let q : false ≡ true = h in absurd (cc)
 
-past_end : {A : Type 0} (xs : List A) (i : ℕ) → i < length xs → slice_get xs i ≡ None → ⊥
+pub past_end : {A : Type 0} (xs : List A) (i : ℕ) → i < length xs → slice_get xs i ≡ None → ⊥
 past_end [] i lt e = omega (arith, lt)
 past_end {A} (x ∷ xs) zero lt e = let q : ◌≡◌ {A = Option A} (Some x) None = e in cc
 past_end (x ∷ xs) (suc i) lt e = past_end xs i (omega (arith, lt)) e
@@ -247,7 +247,7 @@ module _ (c : Construction) where
   difference_some (Pratio w u v r) n (Some (Quadratic a b)) h = refl
   difference_some (Tratio u v r) n (Some (Quadratic a b)) h = refl
 
-  point_row : (y : PointId) → IsConstructed c y → (v : Var) → IsTrue (has_point y v) → (IsRatio v → ⊥) → IsTrue (is_some (Row_of (Point y) v))
+  pub point_row : (y : PointId) → IsConstructed c y → (v : Var) → IsTrue (has_point y v) → (IsRatio v → ⊥) → IsTrue (is_some (Row_of (Point y) v))
   point_row y made (R a b d e) h n = absurd (n tt)
   point_row y made (S a b d) h n =
       mapped_some (λ r. (made_row (S a b d) r).0) (area_table c y (S a b d))
@@ -387,7 +387,7 @@ module _ (c : Construction) where
           go true false k x y z = let q : false ≡ true = y in absurd (cc)
           go true true false x y z = let q : false ≡ true = z in absurd (cc)
 
-      coords_row : (v : Var) → Contains (variables_of q) v → IsQuantity v → (IsRatio v → ⊥) → IsTrue (is_some (Row_of Coords v))
+      pub coords_row : (v : Var) → Contains (variables_of q) v → IsQuantity v → (IsRatio v → ⊥) → IsTrue (is_some (Row_of Coords v))
       coords_row (R a b d e) st h n = absurd (n tt)
       coords_row (S a b d) st h n = mapped_some (λ r. (made_row (S a b d) r).0) (free_table c (pt 0) (S a b d)) (area_free a b d st)
       coords_row (P a b d) st h n = mapped_some (λ r. (made_row (P a b d) r).0) (free_table c (pt 0) (P a b d)) (difference_free a b d st)
