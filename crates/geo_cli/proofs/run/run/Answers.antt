@@ -34,7 +34,7 @@ pub returns-in-None-clause-ends : goal.returns-in-None-clause-ends
 returns-in-None-clause-ends g c = misused _ _ _ _ _ _ _ _ (no_order _ _ c.order_of.ensures.complete c.in-None.is) c.answer.ensures.answered
 
 pub returns-in-None-clause-enough : goal.returns-in-None-clause-enough
-returns-in-None-clause-enough g c = λ asks calm calm'. absurd (no_order _ _ c.order_of.ensures.complete c.in-None.is asks.order asks.given)
+returns-in-None-clause-enough g c = λ asks calm calm'. absurd (no_order _ _ c.order_of.ensures.complete c.in-None.is _ asks.command)
 
 pub returns-in-None-clause-complete : goal.returns-in-None-clause-complete
 returns-in-None-clause-complete g c = λ due called calm calm'. absurd (no_order _ _ c.order_of.ensures.complete c.in-None.is called.0 called.1)
