@@ -3,6 +3,7 @@ ghost use Rattle.std.specs.Prelude.{◌≡◌, ◌≤◌, ◌⊎◌, ℕ};
 ghost use Rattle.geo_base.specs.Devices.{Grows, HasRisen};
 ghost use Rattle.geo_cli.specs.Due.{Due, IsCalledFor};
 ghost use Rattle.geo_cli.specs.Inner.Answering.{AnswersCommand, HasNumber};
+ghost use Rattle.geo_cli.specs.Enough.{AsksForFirstForm, IsDecisive};
 ghost use Rattle.geo_cli.specs.Input.{Takes, log_limit};
 ghost use Rattle.geo_cli.specs.declared.order.Command.TheVariants.{Bench};
 ghost use Rattle.geo_cli.specs.Run.{Ends, Prints, VerdictTells};
@@ -46,6 +47,10 @@ pub fn run<S: Source, K: Sink>(
         → ¬ (HasRisen (K.faults sink.old) (K.faults sink.new))
         → (result ≡ Status.NoMemory)
         ⊎ ((result ≡ due.status) × Grows (K.held sink.old) due.text (K.held sink.new)) }
+    ensures enough { AsksForFirstForm (bytes_of_words words.now.items) (S.left source.old)
+        → ¬ (HasRisen (S.faults source.old) (S.faults source.new))
+        → ¬ (HasRisen (K.faults sink.old) (K.faults sink.new))
+        → IsDecisive result }
     ensures unwritten { result ≡ Status.ReadFault → sink.new ≡ sink.old }
     ensures taken { Takes log_limit (S.left source.old) (S.left source.new) }
     ensures unread { ReadsNothing (bytes_of_words words.now.items) → source.new ≡ source.old }

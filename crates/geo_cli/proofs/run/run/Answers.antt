@@ -1,3 +1,4 @@
+use Rattle.geo_cli.proofs.Decisive.{decisive}
 use Rattle.geo_cli.proofs.Ended.{completes, decides, ends_in, has_number, misused, no_order, prints, reads_nothing}
 use Rattle.geo_cli.proofs.run.run.Goals as goal
 
@@ -20,11 +21,20 @@ returns-in-Some-clause-complete g c =
     completes _ c.order_of.ensures.one _ _ _ _ _ _ _ _ _
     (ends_in _ c.order_of.ensures.one _ c.in-Some.ensures.given _ _ _ _ _ _ _ _ _ c.carry_out.ensures.answers)
 
+pub returns-in-Some-clause-enough : goal.returns-in-Some-clause-enough
+returns-in-Some-clause-enough g c =
+    decisive _ _ _ _ _ _ _ _ _
+    (completes _ c.order_of.ensures.one _ _ _ _ _ _ _ _ _
+    (ends_in _ c.order_of.ensures.one _ c.in-Some.ensures.given _ _ _ _ _ _ _ _ _ c.carry_out.ensures.answers))
+
 pub returns-in-Some-clause-unread : goal.returns-in-Some-clause-unread
 returns-in-Some-clause-unread g c = reads_nothing _ c.order_of.ensures.one _ c.in-Some.ensures.given _ c.carry_out.ensures.unread
 
 pub returns-in-None-clause-ends : goal.returns-in-None-clause-ends
 returns-in-None-clause-ends g c = misused _ _ _ _ _ _ _ _ (no_order _ _ c.order_of.ensures.complete c.in-None.is) c.answer.ensures.answered
+
+pub returns-in-None-clause-enough : goal.returns-in-None-clause-enough
+returns-in-None-clause-enough g c = λ asks calm calm'. absurd (no_order _ _ c.order_of.ensures.complete c.in-None.is _ asks.command)
 
 pub returns-in-None-clause-complete : goal.returns-in-None-clause-complete
 returns-in-None-clause-complete g c = λ due called calm calm'. absurd (no_order _ _ c.order_of.ensures.complete c.in-None.is called.0 called.1)
