@@ -7,6 +7,7 @@ use std::process::Abort;
 use std::test::Fail;
 
 mod checking;
+mod first_form;
 mod printing;
 
 const USAGE: &[u8] = b"usage: geo_cli COMMAND [NUMBER] [--steps N]\n";
