@@ -8,7 +8,8 @@ import random
 from polynomials import TooMuch, integer, Polynomial
 from rows import free_row, point_row, ratio_rows
 
-MOST_PRODUCTS = 20_000
+# What the writer makes in one move at most, and the most that a log may have.
+MOST_PRODUCTS = 3_000
 MOST_NORM = 2**127 - 1
 
 

@@ -13,6 +13,7 @@ class TooMuch(Exception):
     """This writer does not go on: a polynomial gets too large for it."""
 
 
+@functools.cache
 def place(variable):
     """The key by which variables are ordered: R, S, P, then x0, y0, x1, y1 and so on, then t0, t1 and so on."""
     kind, *numbers = variable
