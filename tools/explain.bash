@@ -61,7 +61,7 @@ explain_rejection() {
     hint "a log begins with a line 'geolog'; geo prove writes the log of a program"
   elif [ "$4" = 21 ] && sed -n "$3{p;q}" -- "$2" | grep -q $'\r$'; then
     hint "the line ends with a carriage return, as on Windows: a log has line feeds alone"
-  elif [ "$4" = 21 ] && [ -n "$(sed -n "$3{p;q}" -- "$2" | tail -c 1 | tr -d '\n')" ]; then
+  elif [ "$4" = 21 ] && [ "$(wc -l <"$2")" -lt "$3" ]; then
     hint "this last line has no line feed"
   elif [ "$3:$4" = 1:21 ]; then
     hint "this header is not the one that the program writes: of another version, or with a blank too many"
