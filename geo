@@ -144,6 +144,12 @@ case $word in
     exit
     ;;
   decide) words=(prove) ;;
+  page)
+    [ ${#names[@]} -eq 1 ] || refuse "behind 'page' one file is due"
+    words=(prove)
+    make_room
+    . "$home/tools/page.bash"
+    ;;
   bench)
     words=(bench "${names[@]}")
     word="${words[*]}"
@@ -166,7 +172,7 @@ if [ ${#readable[@]} -gt 0 ] && ! is_fresh; then
 fi
 for k in "${readable[@]}"; do
   taken=("${steps[@]}")
-  if [ "$word" = decide ]; then decide "$k"; else answer "$k"; fi
+  case $word in decide) decide "$k" ;; page) make_page "$k" ;; *) answer "$k" ;; esac
   status=$?
   [ "$status" -lt 128 ] || status=70
   [ "$status" -ne 13 ] || status=0
