@@ -1,5 +1,5 @@
 % The bisector of an angle (Euclid, Elements VI.3) divides the opposite side in the ratio of the other two. V and W
-% are at equal distances from A on the two sides; AB is p times AV and AC is q times AW.
+% are at equal distances from A on the two sides; AB is p times AV and AC is k times AW.
 point A
 point U
 param r

@@ -1,5 +1,5 @@
 % The lines from the corners of a pentagon through a point P meet the opposite sides; the five ratios have the product
-% 1 (Poncelet, 1822).
+% 1 (Jean-Victor Poncelet, 1822).
 point A
 point B
 point C

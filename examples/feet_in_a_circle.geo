@@ -1,5 +1,5 @@
-% P is a point of the circumcircle of a triangle with the centre O; the segment between its feet on the sides CA and
-% CB is PC AB / 2R long (from which Ptolemy's theorem follows by the Simson line).
+% X is a point of the circumcircle of a triangle with the centre O and the radius R. The segment between its feet on
+% the sides CA and CB has the length XC AB / 2R (classical; Ptolemy's theorem follows by the Simson line).
 point O
 point A
 oncircle B O A

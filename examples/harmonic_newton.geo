@@ -1,5 +1,5 @@
-% Where M is the midpoint of AB, and C and D are on the line with MC MD = MA^2, the four points are harmonic (Pappus
-% of Alexandria; Isaac Newton). Here MC is r times MA.
+% Where M is the midpoint of AB, and C and D are on the line with MC MD = MA^2, the four points are harmonic (Newton's
+% relation; classical). Here MC is r times MA.
 point M
 point A
 symmetric B A M

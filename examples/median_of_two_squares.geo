@@ -1,6 +1,6 @@
-% Squares stand outside on the sides AB and AC of a triangle. The median from A is perpendicular to the segment
-% between their corners next to A, and half as long (classical; Vecten, 1817): a quarter-turn of the segment, laid off
-% at A, has the midpoint of its end and A on the midpoint of BC.
+% Squares stand outside on the sides AB and AC of a triangle, with the corners P and Q next to A. The median from A is
+% perpendicular to PQ and half as long (classical; Vecten, 1817): AE is equal and parallel to PQ, and a quarter-turn
+% takes it to AF, of which the midpoint of BC is the midpoint.
 point A
 point B
 point C

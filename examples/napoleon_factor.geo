@@ -1,6 +1,6 @@
 % Similar isosceles triangles stand on the sides of a triangle, with the height r times the side. Their tops P, Q, R
-% make an equilateral triangle where 12 r^2 = 1 (Napoleon's theorem; Rutherford, 1825), which no rational number does:
-% the difference of the squares of two sides is 12 r^2 - 1 times that of two sides of ABC, up to a factor.
+% make an equilateral triangle where 12 r^2 = 1 (Napoleon's theorem; Rutherford, 1825), which no rational number does.
+% Here for any r: 4 (PQ^2 - PR^2) = (1 - 12 r^2) (AB^2 - AC^2).
 point A
 point B
 point C

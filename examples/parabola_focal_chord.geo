@@ -1,6 +1,6 @@
-% The points of contact of two perpendicular tangents of a parabola are on one line with the focus (Philippe de La
-% Hire, 1685). X and Y on the directrix are seen from the focus F under a right angle; the tangents are the
-% perpendicular bisectors of FX and FY, the points of contact are above X and Y.
+% The points of contact of two perpendicular tangents of a parabola are on one line with the focus (classical). X and
+% Y on the directrix are seen from the focus F under a right angle; the tangents are the perpendicular bisectors of FX
+% and FY, the points of contact are on the perpendiculars to the directrix at X and Y.
 point F
 point X
 point Y0

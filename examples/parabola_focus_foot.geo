@@ -1,6 +1,6 @@
-% The foot of the perpendicular from the focus of a parabola to a tangent is on the tangent at the vertex (Apollonius
-% of Perga; Isaac Newton, Principia I, lemma 14). The tangent is the perpendicular bisector between the focus F and X
-% of the directrix DE, the vertex V is half-way from F to the directrix.
+% The foot Y of the perpendicular from the focus of a parabola to a tangent is on the tangent at the vertex
+% (classical). The tangent is the perpendicular bisector between the focus F and X of the directrix DE; the vertex V
+% is half-way from F to the directrix.
 point F
 point D
 point E

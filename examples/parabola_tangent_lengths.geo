@@ -1,6 +1,6 @@
 % R is where two tangents of a parabola meet, with the points of contact P and Q. For the focus F the square of FR is
-% FP FQ (Philippe de La Hire, 1685): here in squares. O is the vertex, OE the tangent there, and OF is k times as
-% long; the point with the number t is 2 k t OE + t^2 OF.
+% FP FQ (classical): here in squares. O is the vertex, OE the tangent there, and OF is k times as long; the point with
+% the number t is 2 k t OE + t^2 OF.
 point O
 point E
 param k

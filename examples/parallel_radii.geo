@@ -1,5 +1,5 @@
 % The lines through the ends of parallel radii of two circles meet on the line of the centres (classical). The radii
-% OA and PC are parallel to OB and PD...
+% PB and PD are r times OA and OC.
 point O
 point P
 point A

@@ -1,5 +1,5 @@
 % A spiral similarity about O takes A to C and B to D. Where AB meets CD, at X, there is a circle through O, A, C and
-% X (classical; Jakob Steiner). It multiplies by the length and angle of r + s J.
+% X (classical). OC is r times OA and s times OA turned by a quarter.
 point O
 point A
 point B

@@ -1,5 +1,5 @@
-% Squares stand outside on the sides AB and AC of a triangle. The segments from B and C to the far corner next to A of
-% the other square are equal and perpendicular (classical; a quarter-turn about A). Here perpendicular.
+% Squares stand outside on the sides AB and AC of a triangle, with the corners P and Q next to A. The segments BQ and
+% CP are equal and perpendicular, for a quarter-turn about A takes one to the other (classical). Here perpendicular.
 point A
 point B
 point C

@@ -1,5 +1,5 @@
-% Reflections in three lines through one point O make a reflection in a line through O (classical; Hjelmslev, 1907):
-% the midpoints of two points and their images are on one line with O.
+% Reflections in three lines through one point O make a reflection in a line through O (classical): the midpoints of
+% two points and their images are on one line with O.
 point O
 point A
 point B

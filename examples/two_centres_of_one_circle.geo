@@ -1,12 +1,11 @@
-% The circle through the point A1 opposite to A that has its centre at the intersection of two perpendicular bisectors
-% is the circumcircle itself, so the two circles around O and P have no second common point. Impossible.
+% The perpendicular bisectors of two sides of a triangle meet at P, which is the circumcenter O again; so the circles
+% around O and P through A have no second common point. Impossible.
 point O
 point A
 oncircle B O A
 oncircle C O A
-symmetric A1 A O
 med m A B
 med n B C
 intersec P m n
 cc X P O A
-prove { same_length X A1 O A }
+prove { same_length X B O A }
