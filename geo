@@ -145,7 +145,8 @@ case $word in
     ;;
   decide) words=(prove) ;;
   page)
-    [ ${#names[@]} -eq 1 ] || refuse "behind 'page' one file is due"
+    [ ${#names[@]} -eq 1 ] || refuse "behind 'page' the name of one file is due"
+    command -v python3 >/dev/null || refuse "'page' needs python3, which is not found"
     words=(prove)
     make_room
     . "$home/tools/page.bash"

@@ -27,6 +27,6 @@ make_page() {
     *) return "$ended" ;;
   esac
   words=(prove)
-  python3 -B "$home/tools/page/page.py" "${names[$1]}" "${inputs[$1]}" "$log" "$text" "$([ "$fresh" = no ] || echo "$program")" || return 9
-  return "$ended"
+  python3 -B "$home/tools/page/page.py" "${names[$1]}" "${inputs[$1]}" "$log" "$text" "$([ "$fresh" = no ] || echo "$program")"
+  case $? in 0) return "$ended" ;; 9) return 9 ;; *) return 70 ;; esac
 }

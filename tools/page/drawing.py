@@ -6,7 +6,7 @@ import re
 
 from figure import cross, dot, minus, turned
 
-WIDTH, MARGIN = 640.0, 46.0
+WIDTH, MOST_HEIGHT, MARGIN = 640.0, 520.0, 50.0
 
 
 class Drawing:
@@ -174,8 +174,9 @@ def split_name(name):
 
 def picture(drawing):
     left, low, right, high = drawing.box()
-    size = max(right - left, high - low) or 1.0
-    scale = (WIDTH - 2 * MARGIN) / max(right - left, 0.5 * size)
+    scales = [(WIDTH - 2 * MARGIN) / (right - left)] if right > left else []
+    scales += [(MOST_HEIGHT - 2 * MARGIN) / (high - low)] if high > low else []
+    scale = min(scales, default=1.0)
     height = max((high - low) * scale, 60.0) + 2 * MARGIN
     middle_x, middle_y = (left + right) / 2, (low + high) / 2
 
@@ -215,19 +216,45 @@ def segments(drawing, seat):
 
 
 def dots(drawing, seat):
-    """The points; those in one place share a label, which stands away from the middle of the others."""
+    """The points; those in one place share a label, which stands where no line goes."""
     groups = {}
     for name, p in drawing.places.items():
         x, y = seat(p)
         groups.setdefault((round(x, 1), round(y, 1)), []).append(name)
     count = max(len(groups), 1)
-    middle_x = sum(x for x, _ in groups) / count
-    middle_y = sum(y for _, y in groups) / count
+    middle = (sum(x for x, _ in groups) / count, sum(y for _, y in groups) / count)
+    spans = [tuple(seat(drawing.places[name]) for name in key) for key in drawing.segments]
+    labels, marks = [], []
     for (x, y), names in groups.items():
-        v = (x - middle_x, y - middle_y)
-        length = math.hypot(*v)
-        u = (v[0] / length, v[1] / length) if length > 1 else (0.0, -1.0)
+        u = free_direction((x, y), spans, middle)
         text = " = ".join(label(name) for name in names)
-        yield f'<circle class="dot" cx="{x:.1f}" cy="{y:.1f}" r="3.5"/>'
-        anchor = "start" if u[0] > 0.5 else "end" if u[0] < -0.5 else "middle"
-        yield f'<text x="{x + 13 * u[0]:.1f}" y="{y + 15 * u[1] + 5:.1f}" text-anchor="{anchor}">{text}</text>'
+        anchor = "start" if u[0] > 0.4 else "end" if u[0] < -0.4 else "middle"
+        labels.append(f'<text x="{x + 12 * u[0]:.1f}" y="{y + 17 * u[1] + 6:.1f}" text-anchor="{anchor}">{text}</text>')
+        marks.append(f'<circle class="dot" cx="{x:.1f}" cy="{y:.1f}" r="3.5"/>')
+    return labels + marks
+
+
+def free_direction(p, spans, middle):
+    """The direction from a point, of sixteen, that is farthest from the lines there; else away from the middle of the picture."""
+    taken = []
+    for a, b in spans:
+        for q in (a, b):
+            if math.dist(p, q) > 1 and is_near(p, a, b):
+                taken.append(math.atan2(q[1] - p[1], q[0] - p[0]))
+    away = math.atan2(p[1] - middle[1], p[0] - middle[0]) if math.dist(p, middle) > 1 else -math.pi / 2
+
+    def gap(angle, other):
+        return abs(math.remainder(angle - other, 2 * math.pi))
+
+    angles = [k * math.pi / 8 for k in range(16)]
+    best = max(angles, key=lambda angle: min([gap(angle, t) for t in taken], default=math.pi) - 0.25 * gap(angle, away))
+    return math.cos(best), math.sin(best)
+
+
+def is_near(p, a, b):
+    """Whether a point is on a segment, as far as one sees."""
+    v, length = (b[0] - a[0], b[1] - a[1]), math.dist(a, b)
+    if length == 0:
+        return False
+    t = ((p[0] - a[0]) * v[0] + (p[1] - a[1]) * v[1]) / length**2
+    return -0.01 <= t <= 1.01 and abs((p[0] - a[0]) * v[1] - (p[1] - a[1]) * v[0]) / length < 3

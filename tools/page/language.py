@@ -1,5 +1,6 @@
 """Programs of the construction language: commands, statements and expressions as docs/LANGUAGE.md has them."""
 # SPDX-License-Identifier: Apache-2.0
+import itertools
 import re
 from dataclasses import dataclass, field
 from pathlib import Path
@@ -37,7 +38,7 @@ class Statement:
 
 @dataclass
 class Program:
-    """A program that the prover has read without a fault."""
+    """A program that the prover has read without a fault; `comments` are those before its first command."""
 
     commands: list
     statement: Statement
@@ -84,7 +85,8 @@ class Reader:
 
     def __init__(self, text):
         tokens = TOKEN.findall(text)
-        self.comments = [token[1:].strip() for token in tokens if token.startswith("%")]
+        leading = itertools.takewhile(lambda token: token.startswith("%"), tokens)
+        self.comments = [token[1:].strip() for token in leading]
         self.tokens = [token for token in tokens if not token.startswith("%")]
         self.at = 0
 

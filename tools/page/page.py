@@ -7,6 +7,8 @@ The verdict and the proof are that program's. The picture and the words are this
 """
 # SPDX-License-Identifier: Apache-2.0
 import html
+import os
+import re
 import sys
 from fractions import Fraction
 from pathlib import Path
@@ -40,8 +42,10 @@ class Page:
         self.verdict = self.end[1] if self.end[0] == "verdict" else "undecided"
 
     def title(self):
+        """What the first comment begins with, where that is short and a parenthesis follows; else the name of the file."""
+        head = re.match(r"([^(.:]{1,40}) \(", " ".join(self.sketch.comments))
         stem = Path(self.name).stem.replace("_", " ")
-        return stem[:1].upper() + stem[1:] if self.name != "<stdin>" else "A program"
+        return head[1] if head else stem[:1].upper() + stem[1:] if self.name != "<stdin>" else "A program"
 
     def html(self):
         style = (HERE / "style.css").read_text()
@@ -61,12 +65,12 @@ class Page:
     def box(self):
         statement = statement_html(self.program.statement)
         listed = "".join(f"<li>{condition_html(c)}</li>" for c in self.conditions)
-        wherever = f"<p>wherever</p><ul>{listed}</ul>" if listed and self.verdict in ("proved", "false") else ""
         if self.verdict == "proved":
-            words = f"<p><b>Proved.</b> {statement}{',' if wherever else '.'}</p>{wherever}"
+            words = f"<p><b>Proved.</b> {statement}{' wherever' if listed else '.'}</p>"
+            words += f"<ul>{listed}</ul>" if listed else ""
         elif self.verdict == "false":
             goal = self.goals[int(self.end[2]) - 1]
-            words = f"<p><b>False.</b> It is not always so that {statement_html(goal)}{', though' if listed else '.'}</p>"
+            words = f"<p><b>False.</b> It is not always so that {statement_html(goal)}{' where' if listed else '.'}</p>"
             words += f"<ul>{listed}</ul>" if listed else ""
         elif self.verdict == "impossible":
             condition = self.conditions[int(self.end[2]) - 1]
@@ -111,7 +115,7 @@ class Page:
             if figure and is_clear(figure, free):
                 return sample, "The figure of the log's sample."
         values = chosen(self.program, self.conditions, None, fails)
-        more = "Here the statement fails too." if fails else "Free points and numbers are chosen for a clear picture."
+        more = "A figure in which the statement fails, chosen for a clear picture." if fails else "Free points and numbers are chosen for a clear picture."
         return (values, more) if values else (sample, "The figure of the log's sample.")
 
     def counterexample(self):
@@ -155,12 +159,19 @@ class Page:
         )
 
 
+def read(path):
+    return Path(path).read_text(encoding="utf-8", errors="replace")
+
+
 def main():
     name, source, log, text, binary = sys.argv[1:]
-    read = lambda path: Path(path).read_text(encoding="utf-8", errors="replace")
     page = Page(name, read(source), read(log).splitlines(), read(text).splitlines(), binary)
-    sys.stdout.reconfigure(encoding="utf-8")
-    sys.stdout.write(page.html())
+    text = page.html().encode()
+    try:
+        sys.stdout.buffer.write(text)
+        sys.stdout.buffer.flush()
+    except OSError:
+        os._exit(9)
 
 
 if __name__ == "__main__":

@@ -43,7 +43,9 @@ def steps_of(program):
 
 
 def letters(names):
-    return "".join(name_html(name) for name in names.split(","))
+    """Names side by side, with thin blanks where one is longer than a letter."""
+    names = names.split(",")
+    return ("" if all(len(name) == 1 for name in names) else "&#8239;").join(name_html(name) for name in names)
 
 
 def quantity_html(match):
@@ -201,11 +203,11 @@ class Proof:
         key = row_key(name, self.move, self.steps)
         above, _, below = rest.partition(" / ")
         value = polynomial_html(above[1:-1])
-        if below:
-            inside, _, power = below[1:].partition(")")
-            lower = polynomial_html(inside)
-            if power:
-                lower = f"({lower})<sup>{power[1:]}</sup>"
+        if below and not below.startswith("(+1)"):
+            close = below.rindex(")")
+            lower = polynomial_html(below[1:close])
+            if below[close + 1 :]:
+                lower = f"({lower})<sup>{below[close + 2 :]}</sup>"
             value = fraction(value, lower)
         link = ""
         if key in self.rows:

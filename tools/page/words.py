@@ -94,8 +94,9 @@ def command_html(command):
     """What a command makes, in words."""
     x = name_html(command.name)
     n = [name_html(a) for a in command.args if isinstance(a, str)]
-    r = [term(a).text for a in command.args if not isinstance(a, str) and command.word != "assume"]
+    r = [term(a).at_least(1) for a in command.args if not isinstance(a, str) and command.word != "assume"]
     pairs = ["".join(n[k : k + 2]) for k in range(0, len(n), 2)]
+    times = "" if r[:1] == ["1"] else f"{r[0]}&#8239;" if r else ""
     words = {
         "point": lambda: f"{x} is any point",
         "param": lambda: f"{x} is any number",
@@ -106,12 +107,12 @@ def command_html(command):
         "intersec": lambda: f"{x} is on the lines {n[0]} and {n[1]}",
         "inter": lambda: f"{x} is on the lines {pairs[0]} and {pairs[1]}",
         "foot": lambda: f"{x} is the foot of the perpendicular from {n[0]} to the line {n[1]}{n[2]}",
-        "pratio": lambda: f"{x} is where one comes from {n[0]} along {n[1]}{n[2]}, {r[0]} times as far",
-        "tratio": lambda: f"{x} is where one comes from {n[0]} at a right angle to {pairs[0]}, to the left, {r[0]} times as far",
+        "pratio": lambda: f"{x} is the point with {n[0]}{x} = {times}{n[1]}{n[2]}, as vectors",
+        "tratio": lambda: f"{x} is the point with {n[0]}{x} = {times}{pairs[0]}, as vectors, that one turned a quarter to the left",
         "online": lambda: f"{x} is any point of the line {pairs[0]}",
-        "lratio": lambda: f"{x} is where one comes from {n[0]} towards {n[1]}, {r[0]} times as far",
+        "lratio": lambda: f"{x} is the point with {n[0]}{x} = {times}{pairs[0]}, as vectors",
         "midpoint": lambda: f"{x} is the midpoint of {pairs[0]}",
-        "translate": lambda: f"{x} is as far from {n[2]}, and in the same direction, as {n[1]} from {n[0]}",
+        "translate": lambda: f"{x} is the point with {n[2]}{x} = {pairs[0]}, as vectors",
         "symmetric": lambda: f"{x} is the image of {n[0]} in the point {n[1]}",
         "reflect": lambda: f"{x} is the image of {n[0]} in the line {n[1]}{n[2]}",
         "circumcenter": lambda: f"{x} is the circumcenter of {n[0]}{n[1]}{n[2]}",
