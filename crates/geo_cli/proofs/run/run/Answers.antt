@@ -1,5 +1,6 @@
 use Rattle.geo_cli.proofs.Decisive.{decisive}
-use Rattle.geo_cli.proofs.Ended.{completes, decides, ends_in, has_number, misused, no_order, prints, reads_nothing}
+use Rattle.geo_cli.proofs.Ended.{completes, decides, ends_in, has_number, misused, no_order, prints, reads_nothing, takes_order}
+use Rattle.geo_cli.proofs.OneDue.{one_is_called}
 use Rattle.geo_cli.proofs.run.run.Goals as goal
 
 pub carry_out-requires : goal.carry_out-requires
@@ -38,3 +39,13 @@ returns-in-None-clause-enough g c = λ asks calm calm'. absurd (no_order _ _ c.o
 
 pub returns-in-None-clause-complete : goal.returns-in-None-clause-complete
 returns-in-None-clause-complete g c = λ due called calm calm'. absurd (no_order _ _ c.order_of.ensures.complete c.in-None.is called.0 called.1)
+
+pub returns-in-Some-clause-one : goal.returns-in-Some-clause-one
+returns-in-Some-clause-one g c = λ due other. one_is_called _ c.order_of.ensures.one _ due other
+
+pub returns-in-Some-clause-taken : goal.returns-in-Some-clause-taken
+returns-in-Some-clause-taken g c = λ order given.
+    takes_order _ c.order_of.ensures.one c.in-Some.order order c.in-Some.ensures.given given _ _ c.carry_out.ensures.taken
+
+pub returns-in-None-clause-one : goal.returns-in-None-clause-one
+returns-in-None-clause-one g c = λ due other called called'. absurd (no_order _ _ c.order_of.ensures.complete c.in-None.is called.0 called.1)
