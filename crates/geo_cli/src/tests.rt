@@ -7,8 +7,8 @@ use std::process::Abort;
 use std::test::Fail;
 
 mod checking;
-mod first_form;
 mod printing;
+mod stated_budget;
 
 const USAGE: &[u8] = b"usage: geo_cli COMMAND [NUMBER] [--steps N]\n";
 
