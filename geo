@@ -110,11 +110,12 @@ decide() {
   return "$ended"
 }
 
-# explain_answer NUMBER STATUS: says on standard error what an answer without a verdict means; the program is asked again for its last line
+# explain_answer NUMBER STATUS: says on standard error what an answer without a verdict means. Where the answer's line has a place, the
+# program is asked for it again, which is soon done: it stops there
 explain_answer() {
   local line=''
   . "$home/tools/explain.bash"
-  [ "$2" -ge 70 ] || line=$(answer "$1" 2>/dev/null | tail -n 1 | head -c 200 | tr -d '\000')
+  case $2 in 4 | 11 | 15 | 16) line=$(answer "$1" 2>/dev/null | tail -n 1 | head -c 200 | tr -d '\000') ;; esac
   explain "${names[$1]}" "${inputs[$1]}" "$word" "$2" "$line" >&2
 }
 
@@ -143,6 +144,13 @@ case $word in
     exit
     ;;
   decide) words=(prove) ;;
+  page)
+    [ ${#names[@]} -eq 1 ] || refuse "behind 'page' the name of one file is due"
+    command -v python3 >/dev/null || refuse "'page' needs python3, which is not found"
+    words=(prove)
+    make_room
+    . "$home/tools/page.bash"
+    ;;
   bench)
     words=(bench "${names[@]}")
     word="${words[*]}"
@@ -161,10 +169,11 @@ if [ ${#readable[@]} -gt 0 ] && ! is_fresh; then
   make_room
   . "$home/tools/build.bash"
   build "${readable[@]}"
+  [ "$word" != decide ] || [ ${#steps[@]} -gt 0 ] || build_spent "${readable[@]}"
 fi
 for k in "${readable[@]}"; do
   taken=("${steps[@]}")
-  if [ "$word" = decide ]; then decide "$k"; else answer "$k"; fi
+  case $word in decide) decide "$k" ;; page) make_page "$k" ;; *) answer "$k" ;; esac
   status=$?
   [ "$status" -lt 128 ] || status=70
   [ "$status" -ne 13 ] || status=0

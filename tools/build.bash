@@ -24,3 +24,14 @@ build() {
   awk -v folder="$folder" 'match($0, /^case=[0-9]+ run=ended status=[0-9]+ /) {
     split($1, name, "="); split($3, status, "="); print status[2] >(folder "/" name[2] ".status") }' "$room/report"
 }
+
+# build_spent NUMBER..: builds once more, with the most steps, for those of these inputs that were out of steps
+build_spent() {
+  local k spent=()
+  for k in "$@"; do
+    [ "$(cat "$room/built/default/$k.status")" -ne 7 ] || spent+=("$k")
+  done
+  [ ${#spent[@]} -gt 0 ] || return 0
+  taken=(--steps "$most")
+  build "${spent[@]}"
+}

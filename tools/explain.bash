@@ -70,47 +70,43 @@ explain_rejection() {
   fi
 }
 
-# explain_stop NAME WORD: of an answer in `words`
-explain_stop() {
-  local limit=number
-  if [ "$2" = decide ]; then
-    echo "$1: more steps do not help: say it in another way (docs/GUIDE.md)"
-    return
+# explain_spent NAME WORD: the steps are spent
+explain_spent() {
+  local limit=${taken[1]-100000000} remedy
+  if [ "$limit" = "$most" ]; then
+    remedy="there are no more steps than these: say it in another way (docs/GUIDE.md)"
+  elif [ "$2" = check ] || [ "$2" = text ]; then
+    remedy="a log that was made with more steps needs as many here: give --steps $most, the most"
+  else
+    remedy="try --steps $most, the most: it bounds the work, and is mostly far above it; else say it in another way (docs/GUIDE.md)"
   fi
-  case ${words[1]}:$2 in
-    spent:check | spent:text)
-      echo "$1:${words[2]}: this line needs more steps than are left of $limited"
-      [ "$limited" = "$most" ] || hint "a log that was made with more steps needs as many here: give --steps $most, the most"
-      ;;
-    spent:*)
-      echo "$1: undecided: line ${words[2]} of its log needs more steps than are left of $limited"
-      if [ "$limited" = "$most" ]; then
-        hint "there are no more steps than these: say it in another way (docs/GUIDE.md)"
-      else
-        hint "try --steps $most, the most: it is a bound on the work, mostly far above it; else say it in another way (docs/GUIDE.md)"
-      fi
-      ;;
-    too_large:*)
-      [ "${words[3]-}" = degree ] && limit=degree
-      echo "$1: undecided: line ${words[2]} would have a $limit past the limit"
-      hint "more steps do not help: say it in another way (docs/GUIDE.md)"
-      ;;
+  case $2 in
+    decide) echo "$1: $remedy" ;;
+    check | text) echo "$1: the log needs more steps than $limit"; hint "$remedy" ;;
+    *) echo "$1: undecided: its log needs more steps than $limit"; hint "$remedy" ;;
   esac
 }
 
 # explain NAME FILE WORD STATUS LAST-LINE
 explain() {
-  local words told limited=${taken[1]-100000000}
+  local words told
   read -r -a words <<<"$5"
   case $4:${words[0]-} in
     4:syntax) explain_refusal "$1" "$2" "${words[1]}" "${words[3]}" ;;
-    6:stop | 7:stop) explain_stop "$1" "$3" ;;
     11:rejected) explain_rejection "$1" "$2" "${words[1]}" "${words[2]}" ;;
     3:*) echo "geo: the program has no such words: $3 (geo --help)" ;;
-    12:too) echo "$1: too long: a program has at most 1,048,576 bytes, a log at most 67,108,864" ;;
-    12:*)
-      echo "$1: undecided: its log would be longer than 67,108,864 bytes"
+    6:*)
+      echo "$1: undecided: a number or a degree would pass the limit"
       hint "more steps do not help: say it in another way (docs/GUIDE.md)"
+      ;;
+    7:*) explain_spent "$1" "$3" ;;
+    12:*)
+      if [ "$3" = check ] || [ "$3" = text ] || [ "$(wc -c <"$2")" -gt 1048576 ]; then
+        echo "$1: too long: a program has at most 1,048,576 bytes, a log at most 67,108,864"
+      else
+        echo "$1: undecided: its log would be longer than 67,108,864 bytes"
+        hint "more steps do not help: say it in another way (docs/GUIDE.md)"
+      fi
       ;;
     *)
       told=$(meaning status "$4")

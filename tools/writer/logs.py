@@ -5,11 +5,13 @@ divisor, and the sample is a figure by chance."""
 import math
 import random
 
-from polynomials import TooMuch, integer, Polynomial
+from polynomials import Polynomial, TooMuch
 from rows import free_row, point_row, ratio_rows
 
-# What the writer makes in one move at most, and the most that a log may have.
+HEADER = "geolog 1"
+# How many monomials this writer makes in one move.
 MOST_PRODUCTS = 3_000
+# The most that the absolute coefficients of a line may add up to.
 MOST_NORM = 2**127 - 1
 
 
@@ -102,7 +104,7 @@ def sample_line(program, ends):
 
 def log_of(program):
     """The lines of a log of the program."""
-    lines = ["geolog 1", *(f"| {line}" for line in program.lines)]
+    lines = [HEADER, *(f"| {line}" for line in program.lines)]
     ends = []
     for number, (text, term) in enumerate(program.conditions.items(), 1):
         lines.append(f"condition {number} {text}")
