@@ -1,6 +1,6 @@
 % The corners of a triangle and the poles of the opposite sides in a circle are joined by three lines through one
-% point (Michel Chasles, 1829). The pole X of BC is at the distance r^2 BC / 2 OBC from the centre O, in the direction
-% perpendicular to BC, where OBC is the area and r the radius OR.
+% point (Michel Chasles, 19th century). The pole X of BC is at the distance r^2 BC / 2 OBC from the centre O, in the
+% direction perpendicular to BC, where OBC is the area and r the radius OR.
 point O
 point R
 point A
