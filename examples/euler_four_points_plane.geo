@@ -1,5 +1,5 @@
-% For any four points the products AB CD, AC DB and AD BC of vectors add up to 0 (Lazare Carnot, 1803; that the
-% altitudes of a triangle meet follows). The vectors CD, DB and BC are laid off at A.
+% For any four points the products AB CD, AC DB and AD BC of vectors add up to 0 (classical; that the altitudes of a
+% triangle meet follows). The vectors CD, DB and BC are laid off at A.
 point A
 point B
 point C

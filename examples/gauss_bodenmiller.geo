@@ -1,7 +1,7 @@
 % The line of the orthocenters of the triangles of four lines is perpendicular to the line of the midpoints of the
-% diagonals (Carl Friedrich Gauss; Carl Anton Bodenmiller, 1830). One line has the points D, E, F; the others pass
-% through these, with the slopes a, b, c against DE, and make the triangle ABC. K and M are two of the orthocenters,
-% as intersections of two altitudes from points of DE.
+% diagonals (the Gauss-Bodenmiller theorem; 19th century). One line has the points D, E, F; the others pass through
+% these, with the slopes a, b, c against DE, and make the triangle ABC. K and M are two of the orthocenters, as
+% intersections of two altitudes from points of DE.
 point D
 point E
 online F D E

@@ -5,7 +5,6 @@ point A
 param r
 lratio B O A r
 midpoint M A B
-lratio R O A 1
-inverse B1 B O R
-inverse M1 M O R
+inverse B1 B O A
+inverse M1 M O A
 prove { midpoint M1 A B1 }

@@ -1,10 +1,10 @@
 % The feet of a point P on the sides of a triangle make a triangle whose area is (R^2 - OP^2) / 4 R^2 of the whole
 % (19th century): O is the circumcenter, R the radius.
+point O
 point A
-point B
-point C
+oncircle B O A
+oncircle C O A
 point P
-circumcenter O A B C
 foot X P B C
 foot Y P C A
 foot Z P A B

@@ -7,5 +7,5 @@ point U
 second B A U O
 second C A U P
 midpoint M B C
-midpoint N O P
-prove { same_length N M N A }
+translate A1 A O P
+prove { perpendicular A M M A1 }

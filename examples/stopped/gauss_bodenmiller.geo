@@ -1,5 +1,5 @@
-% The line of the orthocenters of four lines is perpendicular to the line of the midpoints of the diagonals (Carl
-% Anton Bodenmiller, 1830).
+% The line of the orthocenters of four lines is perpendicular to the line of the midpoints of the diagonals (the
+% Gauss-Bodenmiller theorem; 19th century).
 point A
 point B
 point C

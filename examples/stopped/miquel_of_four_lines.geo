@@ -1,5 +1,4 @@
-% The circumcircles of the four triangles of four lines meet in one point (William Wallace, 1804; Jakob Steiner, 1828;
-% Auguste Miquel, 1838).
+% The circumcircles of the four triangles of four lines meet in one point (Jakob Steiner, 1828; Auguste Miquel, 1838).
 point A
 point B
 point C

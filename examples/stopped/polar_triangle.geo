@@ -1,5 +1,6 @@
 % The corners of a triangle and the poles of the opposite sides in a circle are joined by three lines through one
-% point (Michel Chasles, 1829). The pole of a side is the inverse of the foot of the perpendicular from the centre.
+% point (Michel Chasles, 19th century). The pole of a side is the inverse of the foot of the perpendicular from the
+% centre.
 point O
 point R
 point A

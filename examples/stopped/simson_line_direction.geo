@@ -6,6 +6,6 @@ oncircle B O A
 oncircle C O A
 oncircle P O A
 foot X P B C
-foot Y P C A
+foot Y P A B
 second U P X O
 prove { parallel A U X Y }
