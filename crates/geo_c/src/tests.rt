@@ -41,6 +41,7 @@ const TOO_LARGE_LOG: &[u8] = b"geolog 1\n| param r\n\
     | prove { equal { r } { 170141183460469231731687303715884105727 } }\n\
     goal 1 equal { r } { 170141183460469231731687303715884105727 }\nstop too_large 5 norm\n";
 
+#[derive(Clone, Copy)]
 enum Call {
     Prove,
     Check,
@@ -48,6 +49,7 @@ enum Call {
 }
 
 /// A call with so many steps, the numbers that it answers, and all bytes of the buffer at its end.
+#[derive(Clone, Copy)]
 struct Case {
     call: Call,
     input: &'static [u8],
