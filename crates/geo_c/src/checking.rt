@@ -1,13 +1,18 @@
 //! The call that checks a log.
+ghost use Rattle.std.specs.Prelude.{ℕ, List};
 ghost use Rattle.geo_c.specs.Answers.{Answers, TellsVerdict};
 ghost use Rattle.geo_c.specs.Due.{IsCheckDue};
 ghost use Rattle.geo_c.specs.Calls.{Checks};
+ghost use Rattle.geo_program.specs.Programs.{source_of};
+ghost use Rattle.log_checker.specs.Accepted.{Accepts};
 ghost use Rattle.proof_log.specs.declared.log.Verdict.{Verdict};
 
 use crate::acceptance::accepted_text;
 use crate::answers::{Answer, tell};
 use crate::status::Status;
+use geo_program::Program;
 use log_checker::check;
+use proof_log::Verdict;
 use std::alloc::Global;
 
 /// The most bytes of a log.
@@ -31,19 +36,35 @@ pub extern "C" fn geo_check(
         → Checks log.now steps told.old told.new answer.new verdict }
     ensures answers { Answers (IsCheckDue log.now steps) told.old told.new answer.new result }
 {
+    check_log(alloc, log, steps, told, answer)
+}
+
+/// Checks a log, and tells what became of it.
+fn check_log(alloc: Global, log: &[u8], steps: u64, told: &mut [u8], answer: &mut Answer) -> u32
+    ensures { Answers (IsCheckDue log.now steps) told.old told.new answer.new result }
+{
     if log.len() > LOG_LIMIT {
         return tell(&[], Status::TooLong, told, answer);
     }
     match check(alloc, log, steps) {
-        Ok(accepted) => match accepted_text(alloc, &accepted.program, accepted.verdict) {
-            Ok(text) => tell(
-                &text.bytes,
-                Status::of_verdict(accepted.verdict),
-                told,
-                answer,
-            ),
-            Err(_) => tell(&[], Status::NoMemory, told, answer),
-        },
+        Ok(accepted) => accept(alloc, &accepted.program, accepted.verdict, told, answer),
         Err(error) => tell(&[], Status::of_error(error), told, answer),
+    }
+}
+
+/// Tells an accepted log.
+fn accept(
+    alloc: Global,
+    program: &Program,
+    verdict: Verdict,
+    told: &mut [u8],
+    answer: &mut Answer,
+) -> u32
+    ensures { (bytes : List ℕ) (steps : ℕ) → Accepts bytes steps (source_of program.now) verdict
+        → Answers (IsCheckDue bytes steps) told.old told.new answer.new result }
+{
+    match accepted_text(alloc, program, verdict) {
+        Ok(text) => tell(&text.bytes, Status::of_verdict(verdict), told, answer),
+        Err(_) => tell(&[], Status::NoMemory, told, answer),
     }
 }

@@ -27,6 +27,13 @@ pub extern "C" fn geo_text(
     ensures prints { result ≡ 13 → Prints log.now steps proof.old proof.new answer.new }
     ensures answers { Answers (IsTextDue log.now steps) proof.old proof.new answer.new result }
 {
+    print_log(alloc, log, steps, proof, answer)
+}
+
+/// Writes the readable proof of a log, or tells why there is none.
+fn print_log(alloc: Global, log: &[u8], steps: u64, proof: &mut [u8], answer: &mut Answer) -> u32
+    ensures { Answers (IsTextDue log.now steps) proof.old proof.new answer.new result }
+{
     if log.len() > LOG_LIMIT {
         return tell(&[], Status::TooLong, proof, answer);
     }

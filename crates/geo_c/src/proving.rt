@@ -34,15 +34,22 @@ pub extern "C" fn geo_prove(
         → Proves text.now steps log.old log.new answer.new verdict }
     ensures answers { Answers (IsProofDue text.now steps) log.old log.new answer.new result }
 {
+    prove_text(alloc, text, steps, log, answer)
+}
+
+/// Proves the program that a text spells, and tells what became of it.
+fn prove_text(alloc: Global, text: &[u8], steps: u64, log: &mut [u8], answer: &mut Answer) -> u32
+    ensures { Answers (IsProofDue text.now steps) log.old log.new answer.new result }
+{
     let mut sink = SureSink::new(alloc);
-    match prove_text(alloc, text, steps, &mut sink) {
+    match write_log(alloc, text, steps, &mut sink) {
         Status::NoMemory => tell(&[], Status::NoMemory, log, answer),
         status => tell(sink.bytes(), status, log, answer),
     }
 }
 
-/// Proves the program that a text spells, and writes its log.
-fn prove_text(alloc: Global, text: &[u8], steps: u64, sink: &mut SureSink) -> Status
+/// Writes the log of the program that a text spells.
+fn write_log(alloc: Global, text: &[u8], steps: u64, sink: &mut SureSink) -> Status
     requires { sink.old ≡ [] }
     ensures { result ≢ Status.NoMemory
         → IsProofDue text.now steps (record { text = sink.new; status = result }) }
