@@ -2,4 +2,3 @@ pub mod Decided
 pub mod Logs
 pub mod Refused
 pub mod Listed
-pub mod Filled

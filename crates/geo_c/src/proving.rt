@@ -59,10 +59,7 @@ fn write_log(alloc: Global, text: &[u8], steps: u64, sink: &mut SureSink) -> Sta
     }
     match parse(alloc, text) {
         Ok(program) => prove_program(alloc, &program, steps, sink),
-        Err(ParseError::Syntax(fault)) => Status::Syntax {
-            refusal: fault.refusal,
-            place: fault.place,
-        },
+        Err(ParseError::Syntax(fault)) => Status::of_fault(fault),
         Err(ParseError::NoMemory) => Status::NoMemory,
     }
 }

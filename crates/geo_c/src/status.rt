@@ -4,6 +4,7 @@ ghost use Rattle.geo_c.specs.Inner.Errors.{error_status};
 ghost use Rattle.geo_c.specs.Status.{limit_number, status_at, status_number, status_reason};
 ghost use Rattle.geo_c.specs.Status.{verdict_status};
 
+use geo_lexer::Fault;
 use geo_poly::Which;
 use log_checker::CheckError;
 use proof_log::Verdict;
@@ -105,6 +106,16 @@ impl Status {
             Verdict::Proved => Status::Proved,
             Verdict::False(goal) => Status::False(goal),
             Verdict::Impossible(condition) => Status::Impossible(condition),
+        }
+    }
+
+    /// The status that tells why a text spells no program.
+    pub fn of_fault(fault: Fault) -> Status
+        ensures { result ≡ Status.Syntax fault.refusal fault.place }
+    {
+        Status::Syntax {
+            refusal: fault.refusal,
+            place: fault.place,
         }
     }
 
