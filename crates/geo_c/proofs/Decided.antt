@@ -1,9 +1,8 @@
 -- What follows from a verdict that is told, and from a proof that is written.
-use Rattle.std.proofs.Common.{◌≡◌, inl, inr, ℕ, ◌<◌, ◌≤◌, ◌^◌, List, [], refl, sym, ◌∙◌, ap, subst, arith}
+use Rattle.std.proofs.Common.{◌≡◌, inl, inr, ℕ, ◌<◌, ◌≤◌, ◌^◌, List, refl, sym, ◌∙◌, ap, subst, arith}
 use Rattle.geo_c.specs.Answers.{Answers, Due, Holds, Tells, TellsVerdict}
 use Rattle.geo_c.specs.Calls.{Checks, Prints, Proves}
 use Rattle.geo_c.specs.declared.answers.Answer.{Answer}
-use Rattle.geo_c.specs.declared.status.Status.TheVariants as status
 use Rattle.geo_c.specs.Due.{IsAcceptedDue, IsCheckDue, IsLogDue, IsProofDue, IsReadableDue, IsTextDue, accepted_text}
 use Rattle.geo_c.specs.Status.{ending_status, refusal_status, status_at, status_number, verdict_status}
 use Rattle.geo_logs.specs.Ends.{Ending, ends_by, ends_with, too_long}

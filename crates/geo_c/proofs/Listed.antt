@@ -1,12 +1,11 @@
 -- The text of an accepted log.
-use Rattle.std.proofs.Common.{◌≡◌, ℕ, suc, ◌+◌, ◌<◌, ◌≤◌, inl, inr, List, [], ◌∷◌, ◌++◌, length, get_or, drop, map, codes, sym, ap, subst, refl, ◌∙◌, append_assoc, append-nil, arith}
+use Rattle.std.proofs.Common.{◌≡◌, ℕ, suc, ◌+◌, ◌<◌, ◌≤◌, inl, inr, List, [], ◌∷◌, ◌++◌, length, get_or, drop, map, codes, sym, ap, refl, ◌∙◌, append_assoc, append-nil, arith}
 use Rattle.std.proofs.lemmas.List.{drop_all, drop_more}
 use Rattle.std.specs.Fmt.{decimal}
 use Rattle.geo_c.specs.Answers.{Answers, Tells}
 use Rattle.geo_c.specs.declared.answers.Answer.{Answer}
 use Rattle.geo_c.specs.declared.status.Status.{Status}
-use Rattle.geo_c.specs.declared.status.Status.TheVariants.{Done}
-use Rattle.geo_c.specs.Due.{IsCheckDue, IsTextDue, conditions_text}
+use Rattle.geo_c.specs.Due.{IsCheckDue, conditions_text}
 use Rattle.geo_c.specs.Inner.Acceptance.{IsAcceptedText, condition_line, condition_lines}
 use Rattle.geo_c.specs.Status.{verdict_status}
 use Rattle.geo_conditions.specs.declared.items.Item.{Item}
@@ -17,7 +16,6 @@ use Rattle.geo_terms.specs.Stores.{Store}
 use Rattle.log_checker.specs.Accepted.{Accepts}
 use Rattle.proof_log.specs.declared.log.Verdict.{Verdict}
 use Rattle.proof_log.specs.Lines.{verdict_text}
-use Rattle.proof_printer.specs.Proofs.{IsReadableProof}
 
 -- the lines of the items
 same_lines : (nodes : Store) (k : ℕ) (items : List Item) → condition_lines k items ≡ conditions_text k (map (item_form nodes) items)
@@ -71,9 +69,3 @@ module _ (bytes : List ℕ) (steps : ℕ) (before after : List ℕ) (answer : An
         })),
         answered,
       )
-
-  -- a readable proof was written
-  pub proof_told : (text : List ℕ) → IsReadableProof bytes steps text → Tells (record { text = text; status = Done }) before after answer number
-      → Answers (IsTextDue bytes steps) before after answer number
-  proof_told text readable answered =
-      inl (record { text = text; status = Done }, inr (inl (record { text = text; readable = readable; is = refl })), answered)

@@ -1,10 +1,10 @@
 -- The log of a program that was written into memory.
-use Rattle.std.proofs.Common.{◌≡◌, ℕ, List, [], ◌++◌, length, Some, refl, sym, ap, ◌∙◌}
+use Rattle.std.proofs.Common.{◌≡◌, ℕ, List, [], ◌++◌, Some, ap, ◌∙◌}
 use Rattle.geo_base.specs.Devices.{Grows}
 use Rattle.geo_c.specs.declared.status.Status.{Status}
 use Rattle.geo_c.specs.declared.status.Status.TheVariants.{Spent, TooLarge, TooLong}
 use Rattle.geo_c.specs.Due.{IsLogDue}
-use Rattle.geo_c.specs.Status.{ending_status, verdict_status}
+use Rattle.geo_c.specs.Status.{verdict_status}
 use Rattle.geo_logs.specs.Ends.{ends_by, ends_with, too_long}
 use Rattle.geo_logs.specs.Moves.{spent, too_large}
 use Rattle.geo_poly.specs.declared.limits.Which.{Which}

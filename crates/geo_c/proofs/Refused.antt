@@ -3,7 +3,7 @@ use Rattle.std.proofs.Common.{◌≡◌, ℕ, inl, inr, List, [], refl, subst}
 use Rattle.geo_c.specs.Answers.{Answers, Due, Tells}
 use Rattle.geo_c.specs.declared.answers.Answer.{Answer}
 use Rattle.geo_c.specs.declared.status.Status.{Status}
-use Rattle.geo_c.specs.declared.status.Status.TheVariants.{NoMemory, Rejected, Spent, Syntax, TooLarge}
+use Rattle.geo_c.specs.declared.status.Status.TheVariants.{Rejected, Spent, Syntax, TooLarge}
 use Rattle.geo_c.specs.Due.{IsProofDue, IsRejectionDue}
 use Rattle.geo_c.specs.Inner.Errors.{error_status}
 use Rattle.geo_lexer.specs.declared.token_types.Fault.{Fault}

@@ -1,5 +1,5 @@
 -- What a verdict means of the bytes that were given. A buffer was `before` when the call began, and is `after` at its end.
-use Rattle.std.specs.Prelude.{◌≡◌, ℕ, List}
+use Rattle.std.specs.Prelude.{ℕ, List}
 use Rattle.geo_c.specs.Answers.{Holds}
 use Rattle.geo_c.specs.declared.answers.Answer.{Answer}
 use Rattle.geo_c.specs.Due.{accepted_text}

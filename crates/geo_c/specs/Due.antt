@@ -1,5 +1,5 @@
 -- What each call is to hand back, and the cause of it.
-use Rattle.std.specs.Prelude.{◌≡◌, ◌⊎◌, ℕ, suc, ◌<◌, ◌≤◌, List, [], ◌∷◌, ◌++◌, length, codes}
+use Rattle.std.specs.Prelude.{◌≡◌, ◌⊎◌, ℕ, suc, ◌<◌, List, [], ◌∷◌, ◌++◌, length, codes}
 use Rattle.std.specs.Fmt.{decimal}
 use Rattle.geo_c.specs.Answers.{Due}
 use Rattle.geo_c.specs.declared.status.Status.TheVariants.{Done, Syntax, TooLong}
