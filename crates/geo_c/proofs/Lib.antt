@@ -1,0 +1,4 @@
+pub mod Decided
+pub mod Logs
+pub mod Refused
+pub mod Listed
