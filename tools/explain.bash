@@ -110,7 +110,7 @@ explain() {
       ;;
     *)
       told=$(meaning status "$4")
-      echo "$1: ${told:-ended with status $4}"
+      echo "$1: ${5:+$5: }${told:-ended with status $4}"
       ;;
   esac
 }

@@ -40,12 +40,16 @@ class Drawing:
 
     def command(self, command):
         """The lines and circles that a command speaks of."""
-        word, x = command.word, command.name
         names = [a for a in command.args if isinstance(a, str)]
         if command.is_line:
-            self.endless[x] = "fine"
-            return
-        if word in ("inter",):
+            self.endless[command.name] = "fine"
+        elif command.word in ("circumcenter", "oncircle", "second", "cc", "inverse"):
+            self.round(command.word, command.name, names)
+        else:
+            self.straight(command.word, command.name, names)
+
+    def straight(self, word, x, names):
+        if word == "inter":
             self.through(*names[:2], x)
             self.through(*names[2:], x)
         elif word in ("online", "lratio", "midpoint"):
@@ -53,25 +57,25 @@ class Drawing:
         elif word == "foot":
             self.through(*names[1:], x)
             self.segment(names[0], x)
-        elif word in ("reflect", "symmetric"):
+        elif word == "symmetric":
             self.segment(names[0], x)
-            if word == "reflect":
-                self.through(*names[1:])
-        elif word == "tratio":
-            self.segment(*names)
+        elif word == "reflect":
             self.segment(names[0], x)
-        elif word in ("pratio", "translate"):
-            base = names[0] if word == "pratio" else names[2]
-            others = names[1:] if word == "pratio" else names[:2]
-            self.segment(*others)
-            self.segment(base, x)
-        elif word in ("orthocenter", "centroid", "circumcenter", "weights"):
+            self.through(*names[1:])
+        elif word in ("pratio", "tratio", "translate"):
+            base, vector = {"pratio": (0, names[1:]), "tratio": (0, names), "translate": (2, names[:2])}[word]
+            self.segment(*vector)
+            self.segment(names[base], x)
+        elif word in ("orthocenter", "centroid", "weights"):
             self.triangle(names[:3])
-            if word == "circumcenter":
-                self.circle(x, names[0])
-            elif word == "orthocenter":
+            if word == "orthocenter":
                 for name in names:
                     self.segment(name, x)
+
+    def round(self, word, x, names):
+        if word == "circumcenter":
+            self.triangle(names)
+            self.circle(x, names[0])
         elif word == "oncircle":
             self.circle(*names)
         elif word == "second":
@@ -80,7 +84,7 @@ class Drawing:
         elif word == "cc":
             self.circle(names[0], names[2])
             self.circle(names[1], names[2])
-        elif word == "inverse":
+        else:
             self.circle(*names[1:])
             self.through(names[1], names[0], x)
 

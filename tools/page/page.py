@@ -105,14 +105,13 @@ class Page:
         """The values of the picture, and where they come from."""
         places, sample = sketched(self.program), sampled(self.log)
         fails = self.verdict == "false"
-        free = [command.name for command in self.program.free()]
         if places:
             values = chosen(self.program, self.conditions, places, False)
             if values:
                 return values, "The free points are where the program's numbers put them."
         if sample:
             figure = meets(self.program, self.conditions, sample)
-            if figure and is_clear(figure, free):
+            if figure and is_clear(figure):
                 return sample, "The figure of the log's sample."
         values = chosen(self.program, self.conditions, None, fails)
         more = "A figure in which the statement fails, chosen for a clear picture." if fails else "Free points and numbers are chosen for a clear picture."
