@@ -19,7 +19,7 @@ install: $(program)
 	install $(program) geo prove $(home)
 	cp -R $(filter-out tools/writer,$(wildcard tools/*)) $(home)/tools
 	install -m 644 docs/*.md $(home)/docs
-	install -m 644 $(wildcard VERSION) README.md $(home)
+	install -m 644 LICENSE NOTICE VERSION README.md $(home)
 	rt version >$(home)/KIT || rm -f $(home)/KIT
 	ln -sf ../lib/jarduzki/geo ../lib/jarduzki/prove $(DESTDIR)$(PREFIX)/bin
 	install -m 644 man/geo.1 $(DESTDIR)$(PREFIX)/share/man/man1
