@@ -85,9 +85,9 @@ module _ (bytes : List ℕ) (steps : ℕ) (before after : List ℕ) (answer : An
 
     -- the verdict of a program
     pub proves : steps < 2 ^ 127 → Answers (IsProofDue bytes steps) before after answer number → Proves bytes steps before after answer verdict
-    proves small (inl (due, inl long, told)) = no_verdict verdict 12 _ (told_number due _ long.is told ∙ says.0) (omega arith)
-    proves small (inl (due, inr (inl log), told)) = log_proves due log small told
-    proves small (inl (due, inr (inr refusal), told)) = no_verdict verdict 4 _ (told_number due _ refusal.is told ∙ says.0) (omega arith)
+    proves small (inl (due, inl long, told)) = no_verdict verdict 12 _ (told_number due _ long.1 told ∙ says.0) (omega arith)
+    proves small (inl (due, inr (short, inl log), told)) = log_proves due log small told
+    proves small (inl (due, inr (short, inr refusal), told)) = no_verdict verdict 4 _ (told_number due _ refusal.is told ∙ says.0) (omega arith)
     proves small (inr told) = no_verdict verdict 10 _ (sym told.status ∙ says.0) (omega arith)
 
     -- a log that is accepted
@@ -107,9 +107,9 @@ module _ (bytes : List ℕ) (steps : ℕ) (before after : List ℕ) (answer : An
 
     -- the verdict of a log
     pub checks : Answers (IsCheckDue bytes steps) before after answer number → Checks bytes steps before after answer verdict
-    checks (inl (due, inl long, told)) = no_verdict verdict 12 _ (told_number due _ long.is told ∙ says.0) (omega arith)
-    checks (inl (due, inr (inl h), told)) = accepted_checks due h told
-    checks (inl (due, inr (inr h), told)) =
+    checks (inl (due, inl long, told)) = no_verdict verdict 12 _ (told_number due _ long.1 told ∙ says.0) (omega arith)
+    checks (inl (due, inr (short, inl h), told)) = accepted_checks due h told
+    checks (inl (due, inr (short, inr h), told)) =
         no_verdict verdict (status_number (refusal_status h.number h.refusal)) _ (told_number due _ h.is told ∙ says.0)
         (refusal_number h.number h.refusal).0
     checks (inr told) = no_verdict verdict 10 _ (sym told.status ∙ says.0) (omega arith)
@@ -123,8 +123,8 @@ module _ (bytes : List ℕ) (steps : ℕ) (before after : List ℕ) (answer : An
 
   -- the readable proof of a log
   pub prints : Answers (IsTextDue bytes steps) before after answer number → number ≡ 13 → Prints bytes steps before after answer
-  prints (inl (due, inl long, told)) says = other_number 12 _ (told_number due _ long.is told) says (omega arith)
-  prints (inl (due, inr (inl h), told)) says = readable_prints due h told
-  prints (inl (due, inr (inr h), told)) says =
+  prints (inl (due, inl long, told)) says = other_number 12 _ (told_number due _ long.1 told) says (omega arith)
+  prints (inl (due, inr (short, inl h), told)) says = readable_prints due h told
+  prints (inl (due, inr (short, inr h), told)) says =
       other_number (status_number (refusal_status h.number h.refusal)) _ (told_number due _ h.is told) says (refusal_number h.number h.refusal).1
   prints (inr told) says = other_number 10 _ (sym told.status) says (omega arith)

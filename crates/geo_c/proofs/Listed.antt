@@ -53,19 +53,22 @@ lines_all items i out whole done is =
 
 module _ (bytes : List ℕ) (steps : ℕ) (before after : List ℕ) (answer : Answer) (number : ℕ) where
   -- an accepted log was told
-  pub acceptance_told : (p : Source) (verdict : Verdict) (text : List ℕ) (status : Status) → Accepts bytes steps p verdict → IsAcceptedText p verdict text
+  pub acceptance_told : (p : Source) (verdict : Verdict) (text : List ℕ) (status : Status) → length bytes ≤ 67108864 → Accepts bytes steps p verdict → IsAcceptedText p verdict text
       → status ≡ verdict_status verdict → Tells (record { text = text; status = status }) before after answer number
       → Answers (IsCheckDue bytes steps) before after answer number
-  acceptance_told p verdict text status accepted told same answered =
+  acceptance_told p verdict text status short accepted told same answered =
       inl (
         record { text = text; status = status },
-        inr (inl (record {
-          program = p;
-          verdict = verdict;
-          accepted = accepted;
-          conditions = told.conditions;
-          listed = told.listed;
-          is = λ i. record { text = told.is i; status = same i };
-        })),
+        inr (
+          short,
+          inl (record {
+            program = p;
+            verdict = verdict;
+            accepted = accepted;
+            conditions = told.conditions;
+            listed = told.listed;
+            is = λ i. record { text = told.is i; status = same i };
+          }),
+        ),
         answered,
       )

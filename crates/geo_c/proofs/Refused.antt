@@ -1,5 +1,5 @@
 -- Logs and programs that are refused.
-use Rattle.std.proofs.Common.{◌≡◌, ℕ, inl, inr, List, [], refl, subst}
+use Rattle.std.proofs.Common.{◌≡◌, ℕ, ◌≤◌, length, inl, inr, List, [], refl, subst}
 use Rattle.geo_c.specs.Answers.{Answers, Due, Tells}
 use Rattle.geo_c.specs.declared.answers.Answer.{Answer}
 use Rattle.geo_c.specs.declared.status.Status.{Status}
@@ -52,11 +52,14 @@ module _ (Of : Due → Type 0) (bytes : List ℕ) (before after : List ℕ) (ans
 -- the bytes spell no program, and nothing was written
 pub refusal_due : (bytes : List ℕ) (steps : ℕ) (fault : Fault) (text : List ℕ) (status : Status) → text ≡ []
     → status ≡ Syntax fault.refusal fault.place → IsRefused bytes fault → ((program : Program) → Spells bytes program → ⊥)
-    → IsProofDue bytes steps (record { text = text; status = status })
-refusal_due bytes steps fault text status none same refused spells_none =
-    inr (inr (record {
-      fault = fault;
-      refused = refused;
-      spells_none = spells_none;
-      is = λ i. record { text = none i; status = same i };
-    }))
+    → length bytes ≤ 1048576 → IsProofDue bytes steps (record { text = text; status = status })
+refusal_due bytes steps fault text status none same refused spells_none short =
+    inr (
+      short,
+      inr (record {
+        fault = fault;
+        refused = refused;
+        spells_none = spells_none;
+        is = λ i. record { text = none i; status = same i };
+      }),
+    )

@@ -1,5 +1,5 @@
 -- What each call is to hand back, and the cause of it.
-use Rattle.std.specs.Prelude.{◌≡◌, ◌⊎◌, ℕ, suc, ◌<◌, List, [], ◌∷◌, ◌++◌, length, codes}
+use Rattle.std.specs.Prelude.{◌≡◌, ◌⊎◌, ℕ, suc, ◌<◌, ◌≤◌, List, [], ◌∷◌, ◌++◌, length, codes}
 use Rattle.std.specs.Fmt.{decimal}
 use Rattle.geo_c.specs.Answers.{Due}
 use Rattle.geo_c.specs.declared.status.Status.TheVariants.{Done, Syntax, TooLong}
@@ -21,10 +21,10 @@ use Rattle.proof_log.specs.declared.log.Verdict.{Verdict}
 use Rattle.proof_log.specs.Lines.{log_text, verdict_text}
 use Rattle.proof_printer.specs.Proofs.{IsReadableProof}
 
--- the bytes that were given are more than the limit
-pub record IsTooLongDue (limit : ℕ) (bytes : List ℕ) (due : Due) : Type 0 where
-  pub longer : limit < length bytes
-  pub is : due ≡ record { text = []; status = TooLong }
+-- what a call with this limit is to hand back: bytes past the limit are too long, whatever they are
+abbrev pub IsDueWithin : ℕ → (List ℕ → ℕ → Due → Type 0) → List ℕ → ℕ → Due → Type 0
+IsDueWithin limit For bytes steps due =
+    ((limit < length bytes) × (due ≡ record { text = []; status = TooLong })) ⊎ ((length bytes ≤ limit) × For bytes steps due)
 
 -- WHAT A PROGRAM CALLS FOR
 -- the bytes spell a program: its log, with so many steps, up to its end
@@ -45,7 +45,7 @@ pub record IsRefusalDue (bytes : List ℕ) (due : Due) : Type 0 where
 
 -- what `geo_prove` is to hand back
 abbrev pub IsProofDue : List ℕ → ℕ → Due → Type 0
-IsProofDue bytes steps due = IsTooLongDue 1048576 bytes due ⊎ (IsLogDue bytes steps due ⊎ IsRefusalDue bytes due)
+IsProofDue = IsDueWithin 1048576 (λ bytes steps due. IsLogDue bytes steps due ⊎ IsRefusalDue bytes due)
 
 -- WHAT A LOG CALLS FOR
 -- `condition 1 TEXT` for each of the conditions, numbered from k on
@@ -77,7 +77,7 @@ pub record IsRejectionDue (bytes : List ℕ) (steps : ℕ) (due : Due) : Type 0 
 
 -- what `geo_check` is to hand back
 abbrev pub IsCheckDue : List ℕ → ℕ → Due → Type 0
-IsCheckDue bytes steps due = IsTooLongDue 67108864 bytes due ⊎ (IsAcceptedDue bytes steps due ⊎ IsRejectionDue bytes steps due)
+IsCheckDue = IsDueWithin 67108864 (λ bytes steps due. IsAcceptedDue bytes steps due ⊎ IsRejectionDue bytes steps due)
 
 -- the bytes are an accepted log: its readable proof
 pub record IsReadableDue (bytes : List ℕ) (steps : ℕ) (due : Due) : Type 0 where
@@ -87,4 +87,4 @@ pub record IsReadableDue (bytes : List ℕ) (steps : ℕ) (due : Due) : Type 0 w
 
 -- what `geo_text` is to hand back
 abbrev pub IsTextDue : List ℕ → ℕ → Due → Type 0
-IsTextDue bytes steps due = IsTooLongDue 67108864 bytes due ⊎ (IsReadableDue bytes steps due ⊎ IsRejectionDue bytes steps due)
+IsTextDue = IsDueWithin 67108864 (λ bytes steps due. IsReadableDue bytes steps due ⊎ IsRejectionDue bytes steps due)

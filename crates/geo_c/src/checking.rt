@@ -1,6 +1,6 @@
 //! The call that checks a log.
-ghost use Rattle.std.specs.Prelude.{ℕ, List};
-ghost use Rattle.geo_c.specs.Answers.{Answers, TellsVerdict};
+ghost use Rattle.std.specs.Prelude.{◌≡◌, ◌≤◌, ◌⊎◌, ℕ, List, length};
+ghost use Rattle.geo_c.specs.Answers.{Answers, Due, Tells, TellsVerdict};
 ghost use Rattle.geo_c.specs.Due.{IsCheckDue};
 ghost use Rattle.geo_c.specs.Calls.{Checks};
 ghost use Rattle.geo_program.specs.Programs.{source_of};
@@ -34,6 +34,8 @@ pub extern "C" fn geo_check(
 ) -> u32
     ensures decides { (verdict : Verdict) → TellsVerdict verdict answer.new result
         → Checks log.now steps told.old told.new answer.new verdict }
+    ensures complete { (due : Due) → IsCheckDue log.now steps due
+        → (result ≡ 10) ⊎ Tells due told.old told.new answer.new result }
     ensures answers { Answers (IsCheckDue log.now steps) told.old told.new answer.new result }
 {
     check_log(alloc, log, steps, told, answer)
@@ -60,7 +62,8 @@ fn accept(
     told: &mut [u8],
     answer: &mut Answer,
 ) -> u32
-    ensures { (bytes : List ℕ) (steps : ℕ) → Accepts bytes steps (source_of program.now) verdict
+    ensures { (bytes : List ℕ) (steps : ℕ) → length bytes ≤ 67108864
+        → Accepts bytes steps (source_of program.now) verdict
         → Answers (IsCheckDue bytes steps) told.old told.new answer.new result }
 {
     match accepted_text(alloc, program, verdict) {

@@ -158,22 +158,31 @@ fn logs_are_printed(rt: HostRuntime) -> Result<(), Fail> {
     Ok(())
 }
 
-#[test]
-fn a_program_is_too_long(rt: HostRuntime) -> Result<(), Fail> {
-    let alloc = rt.alloc();
-    let spaces = vec![in alloc; b' '; 1_048_577]?;
+/// The status and the answer of a program of so many spaces.
+fn of_spaces(alloc: Global, count: usize) -> Result<(u32, Answer), AllocError> {
+    let spaces = vec![in alloc; b' '; count]?;
     let mut answer = Answer {
         length: 7,
         at: 7,
         reason: 7,
     };
-    assert_eq!(rt; geo_prove(alloc, &spaces, 9, &mut [], &mut answer), 12);
-    assert_eq!(rt; answer.length, 0);
-    let most = &spaces[..1_048_576];
-    assert_eq!(rt; geo_prove(alloc, most, 9, &mut [], &mut answer), 4);
-    assert_eq!(rt;
-        (answer.length, answer.at, answer.reason),
-        (0, 1_048_576, 11)
-    );
+    let status = geo_prove(alloc, &spaces, 9, &mut [], &mut answer);
+    Ok((status, answer))
+}
+
+#[test]
+fn programs_have_a_limit(rt: HostRuntime) -> Result<(), Fail> {
+    let nothing = Answer {
+        length: 0,
+        at: 0,
+        reason: 0,
+    };
+    let end = Answer {
+        length: 0,
+        at: 1_048_576,
+        reason: 11,
+    };
+    assert!(rt; of_spaces(rt.alloc(), 1_048_577)? == (12, nothing));
+    assert!(rt; of_spaces(rt.alloc(), 1_048_576)? == (4, end));
     Ok(())
 }

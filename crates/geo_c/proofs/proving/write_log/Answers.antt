@@ -9,4 +9,4 @@ returns-in-Err-Syntax c = λ told.
     let is = c.in-Err-Syntax.is ∙ ap Err c.in-Err-Syntax.field-0-is in
     let same = c.of_fault.ensures ∙ ap (λ (f : Fault). Syntax f.refusal f.place) c.in-Err-Syntax.fault-is in
     refusal_due c.args.text.now c.args.steps c.in-Err-Syntax.fault _ _ c.requires same (c.parse.ensures.refused _ is)
-    (c.parse.ensures.spells_none _ is)
+    (c.parse.ensures.spells_none _ is) c.if-text-gt-PROGRAM_LIMIT.false
