@@ -1,15 +1,15 @@
 #!/usr/bin/env python3
-"""How many times a second Ceva's theorem is proved, checked and printed: bench/bindings/rates.py BINARY CALLS
+"""How often Ceva's theorem is proved, checked and printed in a second of processor time: bench/bindings/rates.py BINARY CALLS
 
 By calls in one process from C (CALLS is calls.c built with the library) and from Python, and by one process each (BINARY is the
-program). Ten rounds; the best of them is told, by the clock: run it on a machine that is free.
+program). The best of five tries is told.
 """
 
 import pathlib
+import resource
 import struct
 import subprocess
 import sys
-import time
 
 HERE = pathlib.Path(__file__).resolve().parents[2]
 sys.path.insert(0, str(HERE / "bindings" / "python"))
@@ -21,13 +21,14 @@ log = jarduzki.prove(program).log
 given = {"prove": program, "check": log, "text": log}
 
 
-def best(count, work):
-    """The most rounds of work a second, of ten tries, where each does `count`."""
+def best(count, who, work):
+    """The most rounds of work for a second of processor time, of five tries, where each does `count`."""
     seconds = []
-    for _ in range(10):
-        began = time.perf_counter()
+    for _ in range(5):
+        before = resource.getrusage(who)
         work()
-        seconds.append(time.perf_counter() - began)
+        after = resource.getrusage(who)
+        seconds.append(after.ru_utime + after.ru_stime - before.ru_utime - before.ru_stime)
     return count / min(seconds)
 
 
@@ -47,7 +48,8 @@ def by_processes(word, count):
         subprocess.run([binary, word], input=given[word], stdout=subprocess.DEVNULL)
 
 
-print("calls a second:  C  Python  one process each")
+ways = ((by_c, 1000, resource.RUSAGE_CHILDREN), (by_python, 300, resource.RUSAGE_SELF), (by_processes, 100, resource.RUSAGE_CHILDREN))
+print("calls for a second of processor time:  C  Python  one process each")
 for word in given:
-    found = [best(count, lambda: way(word, count)) for way, count in ((by_c, 2000), (by_python, 500), (by_processes, 100))]
+    found = [best(count, who, lambda: way(word, count)) for way, count, who in ways]
     print(f"{word}: " + "  ".join(f"{rate:,.0f}" for rate in found))

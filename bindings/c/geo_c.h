@@ -1,11 +1,12 @@
 /*
  * The prover of plane geometry, the checker of its logs and the printer of readable proofs, as three calls over bytes.
  *
- * Link with libgeo_c.a and with memory.c, or with another file that defines what memory.c defines.
+ * Link with libgeo_c.a, and with the toolchain's liblibc_c.a, which joins it to `malloc`, `realloc` and `free`; or load the shared
+ * object that bindings/build makes of both.
  *
  * Each call reads the bytes that it is given, writes a text into a buffer of the caller's, and answers a status. It keeps no
  * pointer, and hands out no memory: what it takes from `malloc` it has given back when it returns. Calls share nothing, so
- * several threads may make calls at once.
+ * several threads may make calls at once, where `malloc` allows it.
  *
  * What the caller owes to each call, which nothing checks:
  *   - `text` or `log` points to as many readable bytes as its length says, and the buffer to as many writable ones as `room`
