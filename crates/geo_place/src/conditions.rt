@@ -1,15 +1,20 @@
 //! The conditions and the goals of a program, tested at the points that are placed so far.
 
-ghost use Rattle.std.specs.Prelude.{◌<◌, ◌≤◌, length};
+ghost use Rattle.std.specs.Prelude.{◌≡◌, ◌≢◌, ◌<◌, ◌≤◌, ◌+◌, ◌-◌, ℕ, All, IfErr, IfOk, OnOk};
+ghost use Rattle.std.specs.Prelude.{Some, length, slice_get, suc, take, drop};
+ghost use Rattle.std.specs.List.{AllByRecursion};
+ghost use Rattle.geo_place.specs.Inner.{FailsItem, FirstFails, GoalsCome, IsItemMet};
 
 use crate::errors::PlaceError;
 use crate::sketch::Sketch;
-use geo_conditions::{Item, Problem};
+use geo_conditions::Item;
 use geo_terms::Terms;
 
 /// The error of a condition, by its number, counted from 0. A number that does not fit is answered
 /// by NoMemory.
-fn unmet(number: usize) -> PlaceError {
+fn unmet(number: usize) -> PlaceError
+    ensures { result ≡ PlaceError.NoMemory ⊎ (result ≡ PlaceError.Unmet (number + 1)) }
+{
     if number < u32::MAX as usize {
         PlaceError::Unmet(number as u32 + 1)
     } else {
@@ -25,6 +30,8 @@ fn test_condition(
     number: usize,
 ) -> Result<(), PlaceError>
     requires { item.now.term.0 < length terms.now }
+    ensures met { OnOk result (IsItemMet sketch.now terms.now item.now) }
+    ensures fails { IfErr result (FailsItem sketch.now terms.now item.now (number + 1)) }
 {
     match sketch.term(terms, item.term) {
         Err(_) => Err(PlaceError::TooLarge { line: item.line }),
@@ -33,25 +40,33 @@ fn test_condition(
     }
 }
 
-/// Tests the conditions from one number up to another, in order.
+/// Tests conditions in order, where so many stand before them.
 pub fn test_conditions(
     sketch: &Sketch,
-    problem: &Problem,
-    from: usize,
-    to: usize,
+    terms: &Terms,
+    items: &[Item],
+    earlier: usize,
 ) -> Result<(), PlaceError>
-    requires { to ≤ length problem.now.conditions }
+    requires stored { All (λ i. i.term.0 < length terms.now) items.now }
+    requires few { earlier + length items.now < 2 ^ 63 }
+    ensures met { OnOk result (AllByRecursion (IsItemMet sketch.now terms.now) items.now) }
+    ensures fails { IfErr result (FirstFails sketch.now terms.now items.now earlier) }
 {
-    for number in from..to {
-        let item = &problem.conditions.items[number];
-        test_condition(sketch, problem.steps.look(), item, number)?;
+    for (k, item) in items.iter().enumerate() {
+        test_condition(sketch, terms, item, earlier + k)?;
     }
     Ok(())
 }
 
-/// How many of the listed conditions are those of the lines up to this one, where so many are of
-/// the lines before it.
-pub fn conditions_through(conditions: &[Item], before: usize, line: u64) -> usize {
+/// How many of the conditions are those of the lines up to this one, where so many are of the lines
+/// before it.
+pub fn conditions_through(conditions: &[Item], before: usize, line: u64) -> usize
+    requires { before ≤ length conditions.now }
+    ensures low { before ≤ result }
+    ensures high { result ≤ length conditions.now }
+    ensures these { (k : ℕ) (item : Item) → slice_get conditions.now k ≡ Some item → before ≤ k → k < result → item.line ≡ line }
+    ensures next { (item : Item) → slice_get conditions.now result ≡ Some item → item.line ≢ line }
+{
     let mut end = before;
     while end < conditions.len() && conditions[end].line == line {
         end += 1;
@@ -60,9 +75,12 @@ pub fn conditions_through(conditions: &[Item], before: usize, line: u64) -> usiz
 }
 
 /// Whether all goals are 0. They are reckoned in order, up to the first that is not.
-pub fn all_hold(sketch: &Sketch, problem: &Problem) -> Result<bool, PlaceError> {
-    for item in problem.goals.items.iter() {
-        match sketch.term(problem.steps.look(), item.term) {
+pub fn all_hold(sketch: &Sketch, terms: &Terms, goals: &[Item]) -> Result<bool, PlaceError>
+    requires stored { All (λ i. i.term.0 < length terms.now) goals.now }
+    ensures { GoalsCome sketch.now terms.now goals.now result }
+{
+    for item in goals {
+        match sketch.term(terms, item.term) {
             Err(_) => return Err(PlaceError::TooLarge { line: item.line }),
             Ok(value) if value.num != 0 => return Ok(false),
             Ok(_) => {}

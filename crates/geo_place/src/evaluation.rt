@@ -1,17 +1,26 @@
 //! The evaluation of a program, command by command.
 
-ghost use Rattle.std.specs.Prelude.{◌≡◌, ◌<◌, ◌≤◌, length};
+ghost use Rattle.std.specs.Prelude.{◌≡◌, ◌<◌, ◌≤◌, ◌+◌, ℕ, IfErr, IfOk, OnOk, Some, length};
+ghost use Rattle.std.specs.Prelude.{slice_get};
+ghost use Rattle.geo_program.specs.Names.{is_kind};
+ghost use Rattle.geo_program.specs.declared.names.NameKind.TheVariants as kind;
+ghost use Rattle.geo_points.specs.declared.ids.PointId.{PointId};
+ghost use Rattle.geo_lowering.specs.Conditions.{late_conditions};
+ghost use Rattle.geo_lowering.specs.Counting.{named, points_named};
+ghost use Rattle.geo_lowering.specs.Lowering.{point_place};
+ghost use Rattle.geo_conditions.specs.Lists.{AreStoredGoals};
+ghost use Rattle.geo_place.specs.Evaluation.{EndsAs, placed_all, turns_of};
+ghost use Rattle.geo_place.specs.Inner.{EndsWith, IsRun, IsTaken, IsTripleOf, Run, Stops};
 
 use crate::conditions::{all_hold, conditions_through, test_conditions};
 use crate::errors::PlaceError;
-use crate::positions::{Position, Reckoned};
-use crate::sketch::{Sketch, whole_number};
+use crate::positions::whole_number;
+use crate::sketch::Sketch;
 use crate::triples::{Triple, triple_of};
 use frac_laws::Frac;
 use geo_conditions::Problem;
-use geo_points::{NoMemory, PointId};
+use geo_points::NoMemory;
 use geo_program::Command;
-use geo_terms::Step;
 use std::alloc::Global;
 
 /// What comes of an evaluation that ends with all points placed.
@@ -25,19 +34,19 @@ pub struct Evaluated {
 
 /// How far a program is evaluated.
 #[derive(Drop)]
-struct Progress {
+pub struct Progress {
     /// The points that are placed so far.
-    sketch: Sketch,
-    /// How many of them are free.
-    free: usize,
+    pub sketch: Sketch,
     /// How many of the listed conditions are tested.
-    tested: usize,
+    pub tested: usize,
     /// The triples of the named points so far.
-    triples: Vec<Triple>,
+    pub triples: Vec<Triple>,
 }
 
 /// Whether the command names a point.
-fn names_point(command: &Command) -> bool {
+fn names_point(command: &Command) -> bool
+    ensures { result ≡ is_kind (named command.now) kind.Point }
+{
     !matches!(
         command,
         Command::Param
@@ -49,14 +58,16 @@ fn names_point(command: &Command) -> bool {
 }
 
 /// How many conditions of the command name its point.
-fn late_count(command: &Command) -> usize {
+fn late_count(command: &Command) -> usize
+    ensures { (x : PointId) → result ≡ length (late_conditions x command.now) }
+{
     match command {
         Command::Oncircle { .. } | Command::Second { .. } | Command::Cc { .. } => 1,
         _ => 0,
     }
 }
 
-/// The numbers of a program.
+/// Whole numbers as fractions.
 fn numbers_of(alloc: Global, values: &[i128]) -> Result<Vec<Frac>, NoMemory> {
     let mut numbers = Vec::new(alloc);
     for value in values {
@@ -65,46 +76,23 @@ fn numbers_of(alloc: Global, values: &[i128]) -> Result<Vec<Frac>, NoMemory> {
     Ok(numbers)
 }
 
-/// The free point of this number.
-fn free_position(values: &[i128], free: usize) -> Position {
-    Position {
-        x: whole_number(values[2 * free]),
-        y: whole_number(values[2 * free + 1]),
-    }
-}
-
-/// The position that is reckoned, on this line.
-fn position_of(reckoned: Reckoned, line: u64) -> Result<Position, PlaceError> {
-    match (reckoned.x, reckoned.y) {
-        (Ok(x), Ok(y)) => Ok(Position { x, y }),
-        _ => Err(PlaceError::TooLarge { line }),
-    }
-}
-
 impl Progress {
-    /// Places the points up to this number.
-    fn make_points(
-        &mut self,
-        problem: &Problem,
-        values: &[i128],
-        to: u32,
-        line: u64,
-    ) -> Result<(), PlaceError> {
-        for n in self.sketch.points.len() as u32..to {
-            let step = problem.steps.step(PointId(n));
-            let position = if step == Step::Point {
-                self.free += 1;
-                free_position(values, self.free - 1)
-            } else {
-                let reckoned = self.sketch.step(problem.steps.look(), step);
-                position_of(reckoned, line)?
-            };
-            self.sketch.points.push(position)?;
-        }
-        Ok(())
+    /// Nothing is evaluated.
+    fn new(alloc: Global, values: &[i128], free: usize) -> Result<Progress, NoMemory> {
+        let numbers = numbers_of(alloc, &values[2 * free..])?;
+        let sketch = Sketch {
+            points: Vec::new(alloc),
+            free: 0,
+            numbers,
+        };
+        Ok(Progress {
+            sketch,
+            tested: 0,
+            triples: Vec::new(alloc),
+        })
     }
 
-    /// Makes the triple of the last point.
+    /// Tells the triple of the last point.
     fn tell(&mut self, line: u64) -> Result<(), PlaceError> {
         match triple_of(&self.sketch.points[self.sketch.points.len() - 1]) {
             Ok(triple) => {
@@ -115,24 +103,33 @@ impl Progress {
         }
     }
 
-    /// Evaluates a command: its conditions that do not name its point, its steps, the triple of its
-    /// point, and its other conditions.
+    /// Evaluates the command of this number, counted from 0: its conditions that do not name its
+    /// point, its steps, the triple of its point, and its other conditions.
     fn take_command(
         &mut self,
         problem: &Problem,
         values: &[i128],
+        k: usize,
         command: &Command,
-        after: u32,
-        line: u64,
-    ) -> Result<(), PlaceError> {
-        let end = conditions_through(&problem.conditions.items, self.tested, line);
+    ) -> Result<(), PlaceError>
+        ghost run: { Run }
+        requires run { IsRun run problem.now values.now }
+        requires taken { IsTaken run k self.old }
+        requires command { slice_get run.program.commands k ≡ Some command.now }
+        ensures taken { OnOk result (IsTaken run (k + 1) self.new) }
+        ensures stops { IfErr result (Stops run (turns_of run.program)) }
+    {
+        let line = k as u64 + 1;
+        let items = problem.conditions.items.as_slice();
+        let end = conditions_through(items, self.tested, line);
         let middle = end - late_count(command);
-        test_conditions(&self.sketch, problem, self.tested, middle)?;
-        self.make_points(problem, values, after, line)?;
+        let terms = problem.steps.look();
+        test_conditions(&self.sketch, terms, &items[self.tested..middle], self.tested)?;
+        self.sketch.make_points(problem, values, problem.after.items[k], line)?;
         if names_point(command) {
             self.tell(line)?;
         }
-        test_conditions(&self.sketch, problem, middle, end)?;
+        test_conditions(&self.sketch, terms, &items[middle..end], middle)?;
         self.tested = end;
         Ok(())
     }
@@ -145,28 +142,32 @@ pub fn evaluate(
     commands: &[Command],
     values: &[i128],
     free: usize,
-) -> Result<Evaluated, PlaceError> {
-    let sketch = Sketch {
-        points: Vec::new(alloc),
-        numbers: numbers_of(alloc, &values[2 * free..])?,
-    };
-    let mut progress = Progress {
-        sketch,
-        free: 0,
-        tested: 0,
-        triples: Vec::new(alloc),
-    };
+) -> Result<Evaluated, PlaceError>
+    ghost run: { Run }
+    requires run { IsRun run problem.now values.now }
+    requires goals { AreStoredGoals run.program problem.now.steps.nodes problem.now.goals }
+    requires commands { commands.now ≡ run.program.commands }
+    requires free { free ≡ length run.values.coordinates }
+    ensures placed { IfOk result (λ e. EndsAs run.program run.placed (placed_all e.holds)) }
+    ensures told { IfOk result (λ e.
+        length e.triples.items ≡ points_named run.program.commands) }
+    ensures triples { IfOk result (λ e. (a : ℕ) (t : Triple)
+        → slice_get e.triples.items a ≡ Some t
+        → IsTripleOf t (run.placed.point (point_place run.program.commands a))) }
+    ensures stopped { IfErr result (EndsWith run) }
+{
+    let mut progress = Progress::new(alloc, values, free)?;
     for (k, command) in commands.iter().enumerate() {
-        let after = problem.after.items[k];
-        progress.take_command(problem, values, command, after, k as u64 + 1)?;
+        progress.take_command(problem, values, k, command)?;
     }
     let Progress {
         sketch,
         tested,
         triples,
-        ..
     } = progress;
-    test_conditions(&sketch, problem, tested, problem.conditions.items.len())?;
-    let holds = all_hold(&sketch, problem)?;
+    let terms = problem.steps.look();
+    let items = problem.conditions.items.as_slice();
+    test_conditions(&sketch, terms, &items[tested..], tested)?;
+    let holds = all_hold(&sketch, terms, &problem.goals.items)?;
     Ok(Evaluated { triples, holds })
 }

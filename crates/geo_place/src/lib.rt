@@ -6,6 +6,7 @@ mod conditions;
 mod errors;
 mod evaluation;
 pub mod laws;
+mod making;
 mod naming;
 mod placed;
 mod placing;

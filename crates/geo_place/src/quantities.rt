@@ -9,7 +9,7 @@ ghost use Rattle.geo_place.specs.Formulas.{ratio_reckoned, rise_of, run_of};
 ghost use Rattle.geo_place.specs.Inner.{IsPosition};
 ghost use Rattle.geo_place.specs.Reckonings.{HasResult, known, ◌⊗◌};
 
-use crate::positions::Position;
+use crate::positions::{Position, whole_number};
 use crate::results::{difference_of, product_of, quotient_of, sum_of};
 use frac_laws::{Frac, FracTooLarge};
 
@@ -54,13 +54,6 @@ fn half() -> Frac
     Frac::new(1, 2)
 }
 
-/// Two.
-fn two() -> Frac
-    ensures { IsNumber result (whole (pos 2)) }
-{
-    Frac::new(2, 1)
-}
-
 /// The signed area of ABC, half of `(B - A) × (C - A)`.
 pub fn area(a: &Position, b: &Position, c: &Position) -> Result<Frac, FracTooLarge>
     ensures { (A B C : Point) → IsPosition a.now A → IsPosition b.now B → IsPosition c.now C
@@ -74,7 +67,7 @@ pub fn pythagoras(a: &Position, b: &Position, c: &Position) -> Result<Frac, Frac
     ensures { (A B C : Point) → IsPosition a.now A → IsPosition b.now B → IsPosition c.now C
         → HasResult (known (whole (pos 2)) ⊗ dot_reckoned B A B C) result }
 {
-    product_of(Ok(two()), dot(b, a, b, c))
+    product_of(Ok(whole_number(2)), dot(b, a, b, c))
 }
 
 /// The ratio AB / CD, by the first coordinate in which C and D differ.

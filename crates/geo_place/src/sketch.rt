@@ -1,17 +1,16 @@
 //! The points that are placed so far, and what is reckoned of them.
 
-ghost use Rattle.std.specs.Prelude.{◌≡◌, ◌<◌, pos, true, length, slice_index_or};
+ghost use Rattle.std.specs.Prelude.{◌≡◌, ◌<◌, ◌^◌, pos, ℕ, length, unsigned_abs};
 ghost use Rattle.ring_laws.specs.Fraction.{whole};
 ghost use Rattle.frac_laws.specs.Numbers.{IsNumber};
-ghost use Rattle.geo_points.specs.Placements.{Placement};
-ghost use Rattle.geo_program.specs.Expressions.{IsExpression};
+ghost use Rattle.geo_points.specs.Points.{Point as Triple, x_coordinate};
 ghost use Rattle.geo_terms.specs.Stores.{tree_of};
-ghost use Rattle.geo_lowering.specs.StepForms.{step_form};
+ghost use Rattle.geo_lowering.specs.StepForms.{step_form, free};
 ghost use Rattle.geo_place.specs.Formulas.{reckoned, step_spot};
-ghost use Rattle.geo_place.specs.Inner.{AreResults, IsPosition, IsSketchOf};
+ghost use Rattle.geo_place.specs.Inner.{AreResults, HasNumber, IsPosition, placement_of};
 ghost use Rattle.geo_place.specs.Reckonings.{HasResult};
 
-use crate::positions::{Position, Reckoned};
+use crate::positions::{Position, Reckoned, whole_number};
 use crate::quantities::{area, pythagoras, ratio};
 use crate::results::{difference_of, opposite_of, product_of, quotient_of, sum_of};
 use crate::spots::{aside, crossing, foot, onwards, there};
@@ -24,20 +23,17 @@ use geo_terms::{Node, Step, Terms};
 pub struct Sketch {
     /// The points.
     pub points: Vec<Position>,
+    /// How many of them are free.
+    pub free: usize,
     /// The numbers.
     pub numbers: Vec<Frac>,
 }
 
-/// A whole number.
-pub fn whole_number(n: i128) -> Frac
-    requires { unsigned_abs n < 2 ^ 127 }
-    ensures { IsNumber result (whole n) }
-{
-    Frac::new(n, 1)
-}
-
 /// The point (0, 0).
-fn origin() -> Position {
+fn origin() -> Position
+    ensures x { IsNumber result.x (whole (pos 0)) }
+    ensures y { IsNumber result.y (whole (pos 0)) }
+{
     Position {
         x: whole_number(0),
         y: whole_number(0),
@@ -46,7 +42,9 @@ fn origin() -> Position {
 
 impl Sketch {
     /// A point; past the end the point (0, 0).
-    fn point(&self, a: PointId) -> Position {
+    fn point(&self, a: PointId) -> Position
+        ensures { IsPosition result ((placement_of self.now).point a.0) }
+    {
         match self.points.get(a.0 as usize) {
             Some(position) => *position,
             None => origin(),
@@ -54,7 +52,9 @@ impl Sketch {
     }
 
     /// A number; past the end 0.
-    fn number(&self, t: ParamId) -> Frac {
+    fn number(&self, t: ParamId) -> Frac
+        ensures { IsNumber result ((placement_of self.now).number t.0) }
+    {
         match self.numbers.get(t.0 as usize) {
             Some(number) => *number,
             None => whole_number(0),
@@ -62,10 +62,12 @@ impl Sketch {
     }
 
     /// What is reckoned of a term. The calls stand at most as deep as braces do.
-    #[cycle(terms)]
     pub fn term(&self, terms: &Terms, e: TermId) -> Result<Frac, FracTooLarge>
         requires { e.0 < length terms.now }
+        ensures { HasResult (reckoned (placement_of self.now) (tree_of terms.now e)) result }
     {
+        // The parts of a node stand below it.
+        prove!(e.0 < terms.len());
         match terms.node(e) {
             Node::Int(n) => Ok(whole_number(n)),
             Node::Param(t) => Ok(self.number(t)),
@@ -83,10 +85,14 @@ impl Sketch {
         }
     }
 
-    /// What is reckoned of the point that a step makes. A free point is not reckoned.
-    pub fn step(&self, terms: &Terms, step: Step) -> Reckoned {
+    /// What is reckoned of the point that a step makes. A free point is where it is.
+    pub fn step(&self, terms: &Terms, step: Step, y: PointId) -> Reckoned
+        requires { HasNumber terms.now step }
+        ensures { AreResults result
+            (step_spot (placement_of self.now) y.0 (step_form terms.now step)) }
+    {
         match step {
-            Step::Point => there(&origin()),
+            Step::Point => there(&self.point(y)),
             Step::Inter { u, v, p, q } => {
                 let (u, v, p, q) = (self.point(u), self.point(v), self.point(p), self.point(q));
                 crossing(&u, &v, &p, &q)
@@ -94,8 +100,7 @@ impl Sketch {
             Step::Foot { p, u, v } => foot(&self.point(p), &self.point(u), &self.point(v)),
             Step::Pratio { w, u, v, r } => {
                 let number = self.term(terms, r);
-                let start = there(&self.point(w));
-                onwards(start, number, &self.point(u), &self.point(v))
+                onwards(there(&self.point(w)), number, &self.point(u), &self.point(v))
             }
             Step::Tratio { u, v, r } => {
                 let number = self.term(terms, r);

@@ -1,9 +1,10 @@
 //! Points as triples of whole numbers.
 
-ghost use Rattle.std.specs.Prelude.{IfOk, IsErr, ◌↔◌};
+ghost use Rattle.std.specs.Prelude.{◌≡◌, ◌<◌, ◌≤◌, ◌^◌, ◌/◌, ◌*ℤ◌, IfOk, IsErr, pos, unsigned_abs};
+ghost use Rattle.frac_laws.specs.Lowest.{IsPast};
 ghost use Rattle.geo_points.specs.Points.{Point};
 ghost use Rattle.geo_place.specs.Evaluation.{IsTriplePast};
-ghost use Rattle.geo_place.specs.Inner.{IsPosition, IsTripleOf};
+ghost use Rattle.geo_place.specs.Inner.{IsTripleOf, point_at};
 
 use crate::positions::Position;
 use frac_laws::{FracTooLarge, gcd};
@@ -20,18 +21,34 @@ pub struct Triple {
 }
 
 /// The product of two numbers.
-fn product(a: i128, b: i128) -> Result<i128, FracTooLarge> {
+fn product(a: i128, b: i128) -> Result<i128, FracTooLarge>
+    ensures product { IfOk result (λ n. n ≡ a *ℤ b) }
+    ensures fits { IfOk result (λ n. unsigned_abs (a *ℤ b) < 2 ^ 127) }
+    ensures past { IsErr result → IsPast (a *ℤ b) }
+{
     match a.checked_mul(b) {
         Some(n) if n != i128::MIN => Ok(n),
         _ => Err(FracTooLarge),
     }
 }
 
-/// The triple of a position, over the least common multiple of the two denominators.
+/// The quotient of two numbers that are not negative.
+fn quotient(e: i128, g: i128) -> i128
+    requires some { 1 ≤ unsigned_abs g }
+    requires fits { unsigned_abs e < 2 ^ 127 }
+    ensures { result ≡ pos (unsigned_abs e / unsigned_abs g) }
+{
+    (e.unsigned_abs() / g.unsigned_abs()) as i128
+}
+
+/// The triple of a position, over the least common multiple of its two denominators.
 pub fn triple_of(at: &Position) -> Result<Triple, FracTooLarge>
+    ensures triple { IfOk result (λ t. IsTripleOf t (point_at at.now)) }
+    ensures fits { IfOk result (λ t. IsTriplePast (point_at at.now) → ⊥) }
+    ensures past { IsErr result → IsTriplePast (point_at at.now) }
 {
     let common = gcd(at.x.den, at.y.den);
-    let (left, right) = (at.y.den / common, at.x.den / common);
+    let (left, right) = (quotient(at.y.den, common), quotient(at.x.den, common));
     let x = product(at.x.num, left)?;
     let y = product(at.y.num, right)?;
     let w = product(at.x.den, left)?;
