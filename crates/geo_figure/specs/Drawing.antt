@@ -69,12 +69,17 @@ abbrev pub differences : List Fraction → Fraction → List Reckoning
 differences [] x = []
 differences (y ∷ ys) x = (known x ⊖ known (least (y ∷ ys))) ∷ (known x ⊖ known (greatest (y ∷ ys))) ∷ []
 
+-- a point beside those before it
+abbrev pub bound_turn : List At → At → DrawTurn
+bound_turn before a = record {
+  line = a.line;
+  reckonings = differences (map x_of before) (x_of a) ++ differences (map y_of before) (y_of a);
+}
+
 -- the bounds are found point by point
 abbrev pub bound_turns : List At → List At → List DrawTurn
 bound_turns before [] = []
-bound_turns before (a ∷ more) =
-    record { line = a.line; reckonings = differences (map x_of before) (x_of a) ++ differences (map y_of before) (y_of a) }
-    ∷ bound_turns (before ++ a ∷ []) more
+bound_turns before (a ∷ more) = bound_turn before a ∷ bound_turns (before ++ a ∷ []) more
 
 -- the share of a coordinate is reckoned where not all are the same
 abbrev pub shares : ℕ → List Fraction → Fraction → List Reckoning

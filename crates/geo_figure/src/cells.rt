@@ -1,5 +1,15 @@
 //! The cells of the picture in which points stand.
 
+ghost use Rattle.std.specs.Prelude.{◌≡◌, ◌∷◌, ◌<◌, ◌^◌, ◌/◌, [], ℕ, All, IfErr, IfOk, IsErr};
+ghost use Rattle.std.specs.Prelude.{List, OnOk, map, pos, unsigned_abs};
+ghost use Rattle.ring_laws.specs.Fraction.{Fraction};
+ghost use Rattle.frac_laws.specs.Numbers.{IsNumber};
+ghost use Rattle.geo_place.specs.Reckonings.{IsRefused};
+ghost use Rattle.geo_place.specs.declared.placed.At.{At};
+ghost use Rattle.geo_figure.specs.Drawing.{IsDrawable, IsPassed, draw_turns, share_turn, shares};
+ghost use Rattle.geo_figure.specs.Drawing.{step_of as step_in};
+ghost use Rattle.geo_figure.specs.Inner.{AreBounds, IsFrame, Stops, cell_at};
+
 use crate::bounds::{Bounds, Frame, frame_of, x_of, y_of};
 use crate::errors::DrawError;
 use frac_laws::{Frac, FracTooLarge};
@@ -17,8 +27,24 @@ pub struct Cell {
     pub letter: u8,
 }
 
+/// A number without its fractional part, and without its sign.
+fn floor(share: Frac) -> u128
+    ensures { (a : Fraction) → IsNumber share a
+        → result ≡ unsigned_abs a.numerator / a.denominator }
+{
+    share.num.unsigned_abs() / share.den.unsigned_abs()
+}
+
 /// The step in which a number lies, where the greatest lies this many steps from the least.
-fn step_of(last: i128, bounds: Bounds, x: Frac) -> Result<u128, FracTooLarge> {
+fn step_of(last: i128, bounds: Bounds, x: Frac) -> Result<u128, FracTooLarge>
+    requires { unsigned_abs last < 2 ^ 127 }
+    ensures step { IfOk result (λ k. (n : ℕ) (xs : List Fraction) (a : Fraction) → last ≡ pos n
+        → AreBounds bounds xs → IsNumber x a → k ≡ step_in n xs a) }
+    ensures passed { OnOk result ((n : ℕ) (xs : List Fraction) (a : Fraction) → last ≡ pos n
+        → AreBounds bounds xs → IsNumber x a → All (λ e. IsRefused e → ⊥) (shares n xs a)) }
+    ensures refused { IsErr result → (n : ℕ) (xs : List Fraction) (a : Fraction) → last ≡ pos n
+        → AreBounds bounds xs → IsNumber x a → All (λ e. IsRefused e → ⊥) (shares n xs a) → ⊥ }
+{
     if bounds.least.same(&bounds.greatest) {
         return Ok(0);
     }
@@ -26,30 +52,57 @@ fn step_of(last: i128, bounds: Bounds, x: Frac) -> Result<u128, FracTooLarge> {
     let span = difference_of(Ok(bounds.greatest), Ok(bounds.least));
     let scaled = product_of(offset, Ok(Frac::new(last, 1)));
     match quotient_of(scaled, span) {
-        Ok(share) => Ok(share.num.unsigned_abs() / share.den.unsigned_abs()),
+        Ok(share) => Ok(floor(share)),
         Err(refusal) => Err(refusal),
     }
 }
 
 /// The cell of a point.
-fn cell_of(frame: &Frame, at: &At) -> Result<Cell, DrawError> {
+fn cell_of(frame: &Frame, at: &At) -> Result<Cell, DrawError>
+    requires { IsDrawable at.now }
+    ensures cell { IfOk result (λ c. (points : List At) → IsFrame frame.now points
+        → c ≡ cell_at points at.now) }
+    ensures passed { OnOk result ((points : List At) → IsFrame frame.now points
+        → IsPassed (share_turn points at.now)) }
+    ensures stops { IfErr result (λ e. (points : List At) → IsFrame frame.now points
+        → Stops (share_turn points at.now ∷ []) e) }
+{
     match (step_of(40, frame.x, x_of(at)), step_of(20, frame.y, y_of(at))) {
         (Ok(column), Ok(height)) => Ok(Cell {
             column,
-            line: 20 - height,
+            line: 20u128.saturating_sub(height),
             letter: at.name.bytes[0],
         }),
         _ => Err(DrawError::TooLarge { line: at.line }),
     }
 }
 
-/// The cells of points, in order.
-pub fn cells_of(alloc: Global, points: &[At]) -> Result<Vec<Cell>, DrawError> {
+/// The cells of points in this frame, in order.
+fn cells_in(alloc: Global, frame: &Frame, points: &[At]) -> Result<Vec<Cell>, DrawError>
+    requires { All IsDrawable points.now }
+    ensures cells { IfOk result (λ cells. (all : List At) → IsFrame frame.now all
+        → cells.items ≡ map (cell_at all) points.now) }
+    ensures passed { OnOk result ((all : List At) → IsFrame frame.now all
+        → All IsPassed (map (share_turn all) points.now)) }
+    ensures stops { IfErr result (λ e. (all : List At) → IsFrame frame.now all
+        → Stops (map (share_turn all) points.now) e) }
+{
     let mut cells = Vec::new(alloc);
-    if let Some(frame) = frame_of(points)? {
-        for at in points {
-            cells.push(cell_of(&frame, at)?)?;
-        }
+    for at in points {
+        cells.push(cell_of(frame, at)?)?;
     }
     Ok(cells)
+}
+
+/// The cells of points, in order.
+pub fn cells_of(alloc: Global, points: &[At]) -> Result<Vec<Cell>, DrawError>
+    requires { All IsDrawable points.now }
+    ensures cells { IfOk result (λ cells. cells.items ≡ map (cell_at points.now) points.now) }
+    ensures passed { OnOk result (All IsPassed (draw_turns points.now)) }
+    ensures stops { IfErr result (Stops (draw_turns points.now)) }
+{
+    match frame_of(points)? {
+        None => Ok(Vec::new(alloc)),
+        Some(frame) => cells_in(alloc, &frame, points),
+    }
 }

@@ -17,7 +17,7 @@ use Rattle.geo_lowering.specs.Lowering.{Layout, command_steps, layout_of, points
 use Rattle.geo_lowering.specs.StepForms.{StepForm}
 use Rattle.geo_lowering.proofs.Bounds.{Bounds, bounds_next, no_bounds, numbers_from-up, next_number-up, past_steps}
 use Rattle.geo_lowering.proofs.ConditionValues.{each_append, each_back, each_front}
-use Rattle.geo_lowering.proofs.Exists.{behind, lines_past, params_past}
+use Rattle.geo_lowering.proofs.Exists.{Behind, behind, lines_past, params_past}
 use Rattle.geo_lowering.proofs.Fixed.{past_all}
 use Rattle.geo_lowering.proofs.FormLaws.{past}
 use Rattle.geo_lowering.proofs.Laying.{AreLaid, AreNamed, IsLaid, IsNamed, laid_program, named_program}
@@ -301,8 +301,8 @@ module _ (p : Source) (w : IsWellFormed p) (k : ℕ) (c : Command) (at : slice_g
         (each_append P done (E ++ K ++ W ++ L) d (each_append P (E ++ K ++ W) L (each_append P (E ++ K) W (each_append P E K a b) f) g))
 
   -- SCOPES
-  scopes : _
-  scopes = λ (placed : Placement). behind p placed before rest c 0 0 0 0 0 (no_bounds l) (subst (λ cs. AreNamed p.nodes 0 0 0 cs) commands_are (named_program p w)) (subst (λ cs. AreLaid l 0 0 0 0 0 cs) commands_are (laid_program p.commands))
+  scopes : (placed : Placement) → Behind p placed 0 0 0 0 0 before c
+  scopes placed = behind p placed before rest c 0 0 0 0 0 (no_bounds l) (subst (λ cs. AreNamed p.nodes 0 0 0 cs) commands_are (named_program p w)) (subst (λ cs. AreLaid l 0 0 0 0 0 cs) commands_are (laid_program p.commands))
 
   pub laid : IsLaid l x y j n m c
   laid = laid_here l before rest c 0 0 0 0 0 (subst (λ cs. AreLaid l 0 0 0 0 0 cs) commands_are (laid_program p.commands))

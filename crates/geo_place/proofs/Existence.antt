@@ -1,5 +1,5 @@
 -- Values have a reckoned placement: each point is put where its step's reckonings come to.
-use Rattle.std.proofs.Common.{◌≡◌, ℕ, zero, suc, ◌+◌, ◌<◌, ◌≤◌, Bool, true, false, ℤ, pos, List, [], ◌∷◌, ◌++◌, length, map, refl, sym, ◌∙◌, ap, subst, arith}
+use Rattle.std.proofs.Common.{◌≡◌, ◌⊎◌, inl, inr, ⊎_elim, ℕ, zero, suc, ◌+◌, ◌<◌, ◌≤◌, Bool, true, false, ℤ, pos, List, [], ◌∷◌, ◌++◌, length, map, refl, sym, ◌∙◌, ap, subst, arith}
 use Rattle.std.specs.Prelude.{slice_index_or}
 use Rattle.std.proofs.lemmas.List.{length-map, get_or-map}
 use Rattle.ring_laws.specs.Fraction.{Fraction, Same, whole}
@@ -22,11 +22,12 @@ use Rattle.geo_lowering.proofs.Laying.{AreLaid, laid_program}
 use Rattle.geo_lowering.proofs.Puts.{of_path, put, put_here, put_other}
 use Rattle.geo_lowering.proofs.Values.{AgreeBelow}
 use Rattle.geo_conditions.specs.Truth.{HasValues, ProgramValues, free_points, is_free, whole_point}
-use Rattle.geo_place.specs.Evaluation.{AreAt, IsReckoned}
+use Rattle.geo_place.specs.Evaluation.{AreAt, IsLeast, IsReckoned}
 use Rattle.geo_place.specs.Formulas.{IsAt, Spot, step_spot}
 use Rattle.geo_place.specs.Inner.{free_places}
 use Rattle.geo_place.specs.Reckonings.{number}
 use Rattle.geo_place.proofs.Alike.{alike_number, step_alike}
+use Rattle.geo_place.proofs.LeastTriples.{least_exists}
 
 -- THE FREE POINTS AMONG THOSE OF STEPS
 pub places_append : (n : ℕ) (fs gs : List StepForm) → free_places n (fs ++ gs) ≡ free_places n fs ++ free_places (past n fs) gs
@@ -118,13 +119,31 @@ pub program_places : (p : Source) → free_places 0 (steps_of p) ≡ map (point_
 program_places p = commands_places (layout_of p.commands) p.nodes p.commands 0 0 0 0 0 (laid_program p.commands)
 
 -- POINTS THAT ARE LAID OUT
+same_or_not : (i n : ℕ) → (i ≡ n) ⊎ (i ≡ n → ⊥)
+same_or_not zero zero = inl refl
+same_or_not zero (suc n) = inr (λ e. omega arith)
+same_or_not (suc i) zero = inr (λ e. omega arith)
+same_or_not (suc i) (suc n) = ⊎_elim (λ (e : i ≡ n). inl (ap suc e)) (λ (d : i ≡ n → ⊥). inr (λ e. d (omega arith))) (same_or_not i n)
+
 -- the point of these reckonings
 spot_point : Spot → Point
-spot_point s = (point_exists (number s.x) (number s.y)).0
+spot_point s = (least_exists (point_exists (number s.x) (number s.y)).0).0
+
+spot_least : (s : Spot) → IsLeast (spot_point s)
+spot_least s = (least_exists (point_exists (number s.x) (number s.y)).0).2
+
+spot_is : (s : Spot) → IsAt (spot_point s) s
+spot_is s =
+    let made = point_exists (number s.x) (number s.y) in
+    let same = (least_exists made.0).1 in
+    record { by_x = fractions.same_trans _ _ _ same.by_x made.1; by_y = fractions.same_trans _ _ _ same.by_y made.2 }
+
+whole_least : (xy : ℤ × ℤ) → IsLeast (whole_point xy)
+whole_least xy = record { least = λ A s. A.positive }
 
 -- the point that a step makes; a free point is the first of the values that are left
 made_at : Placement → ℕ → StepForm → List (ℤ × ℤ) → Point
-made_at placed n free [] = placed.point n
+made_at placed n free [] = whole_point (pos 0, pos 0)
 made_at placed n free (xy ∷ xys) = whole_point xy
 made_at placed n (crossing_of u v p q) xys = spot_point (step_spot placed n (crossing_of u v p q))
 made_at placed n (foot_of p u v) xys = spot_point (step_spot placed n (foot_of p u v))
@@ -165,12 +184,12 @@ module _ (numbers : ℕ → Fraction) where
   spot_at : (n m : ℕ) (p p' : Placement) → AgreeBelow n m p p' → (s : StepForm) → (s ≡ free → ⊥)
       → AreFormsOver n m (s ∷ []) → p'.point n ≡ spot_point (step_spot p n s) → IsAt (p'.point n) (step_spot p' n s)
   spot_at n m p p' g s d o e =
-      let made = point_exists (number (step_spot p n s).x) (number (step_spot p n s).y) in
+      let made = spot_is (step_spot p n s) in
       let a = step_alike n m p p' g n s (λ q. absurd (d q)) o.0 in
       subst (λ A. IsAt A (step_spot p' n s)) (sym e)
       (record {
-        by_x = fractions.same_trans _ _ _ made.1 (alike_number (step_spot p n s).x (step_spot p' n s).x a.0);
-        by_y = fractions.same_trans _ _ _ made.2 (alike_number (step_spot p n s).y (step_spot p' n s).y a.1);
+        by_x = fractions.same_trans _ _ _ made.by_x (alike_number (step_spot p n s).x (step_spot p' n s).x a.0);
+        by_y = fractions.same_trans _ _ _ made.by_y (alike_number (step_spot p n s).y (step_spot p' n s).y a.1);
       })
 
   one_at : (m : ℕ) (fs : List StepForm) (s : StepForm) (f : ℕ → Point) (n : ℕ) (xys : List (ℤ × ℤ)) → AreFormsOver n m (s ∷ [])
@@ -202,6 +221,24 @@ module _ (numbers : ℕ → Fraction) where
   frees_laid (along w u v r ∷ fs) f n xys k lt l = frees_laid fs (put f n (made_at (with_points f) n (along w u v r) xys)) (suc n) xys k lt l
   frees_laid (turned_along u v r ∷ fs) f n xys k lt l = frees_laid fs (put f n (made_at (with_points f) n (turned_along u v r) xys)) (suc n) xys k lt l
 
+  -- all triples are least
+  made_least : (placed : Placement) (n : ℕ) (s : StepForm) (xys : List (ℤ × ℤ)) → IsLeast (made_at placed n s xys)
+  made_least placed n free [] = whole_least (pos 0, pos 0)
+  made_least placed n free (xy ∷ xys) = whole_least xy
+  made_least placed n (crossing_of u v p q) xys = spot_least (step_spot placed n (crossing_of u v p q))
+  made_least placed n (foot_of p u v) xys = spot_least (step_spot placed n (foot_of p u v))
+  made_least placed n (along w u v r) xys = spot_least (step_spot placed n (along w u v r))
+  made_least placed n (turned_along u v r) xys = spot_least (step_spot placed n (turned_along u v r))
+
+  laid_least : (fs : List StepForm) (f : ℕ → Point) (n : ℕ) (xys : List (ℤ × ℤ)) → ((k : ℕ) → IsLeast (f k)) → (k : ℕ) → IsLeast (laid_out f n fs xys k)
+  laid_least [] f n xys h k = h k
+  laid_least (s ∷ fs) f n xys h k = laid_least fs (put f n (made_at (with_points f) n s xys)) (suc n) (left_over s xys) next k
+    where
+      next : (i : ℕ) → IsLeast (put f n (made_at (with_points f) n s xys) i)
+      next i =
+          ⊎_elim (λ (e : i ≡ n). subst (λ A. IsLeast A) (sym (ap (put f n (made_at (with_points f) n s xys)) e ∙ put_here f n (made_at (with_points f) n s xys))) (made_least (with_points f) n s xys))
+          (λ (d : i ≡ n → ⊥). subst (λ A. IsLeast A) (sym (put_other f n (made_at (with_points f) n s xys) i d)) (h i)) (same_or_not i n)
+
 -- THE PLACEMENT
 -- the points that the values give, and their numbers
 pub reckoned_placement : Source → ProgramValues → Placement
@@ -231,3 +268,8 @@ placement_reckoned p w v a b =
       };
       points = all_at numbers (numbers_had p.commands) (steps_of p) start 0 v.coordinates (program_over p w);
     }
+
+pub placement_least : (p : Source) (v : ProgramValues) (k : ℕ) → IsLeast ((reckoned_placement p v).point k)
+placement_least p v k =
+    let numbers : ℕ → Fraction = λ k. whole (slice_index_or v.numbers k (pos 0)) in
+    laid_least numbers (steps_of p) (λ k. whole_point (pos 0, pos 0)) 0 v.coordinates (λ i. whole_least (pos 0, pos 0)) k

@@ -1,21 +1,19 @@
 -- The triple of a position with the least denominator: the least common multiple of the denominators of its coordinates.
-use Rattle.std.proofs.Common.{◌≡◌, ℕ, ◌*◌, ◌<◌, ◌≤◌, ℤ, pos, ◌*ℤ◌, neg_ℤ, unsigned_abs, ◌⊎◌, inl, inr, ⊎_elim, [], ◌∷◌, refl, sym, ◌∙◌, ap, subst, mul-pos, arith}
-use Rattle.std.specs.Prelude.{◌/◌, ◌^◌}
+use Rattle.std.proofs.Common.{◌≡◌, ℕ, zero, suc, ◌+◌, ◌*◌, ◌<◌, ◌≤◌, Bool, true, false, ℤ, pos, negsuc, ◌*ℤ◌, unsigned_abs, ◌⊎◌, inl, inr, ⊎_elim, [], ◌∷◌, refl, sym, ◌∙◌, ap, subst, mul-pos, arith}
+use Rattle.std.specs.Prelude.{◌/◌}
 use Rattle.std.specs.Int.{◌∣◌, IsGcd}
 use Rattle.std.proofs.lemmas.Nat.Gcd.{IsGcd-swap, le_of_dvd}
 use Rattle.std.proofs.Math.Nat.{div-mul_cancel, dvd-mul_left, eq_of_mul-eq-mul_right, mul_comm, mul_assoc, le_antisymm}
-use Rattle.ring_laws.specs.Solver.{variable, ◌⊠◌, entry_at, given, numeral}
-use Rattle.ring_laws.specs.Fraction.{Fraction, Same}
+use Rattle.ring_laws.specs.Solver.{variable, ◌⊠◌, opposite, entry_at, given}
 use Rattle.ring_laws.proofs.Combination.{by_combination}
-use Rattle.ring_laws.proofs.Fractions.{fractions, cancel}
+use Rattle.ring_laws.proofs.Fractions.{cancel}
 use Rattle.ring_laws.proofs.Integers.{integers}
 use Rattle.ring_laws.proofs.Sound.{agree}
-use Rattle.frac_laws.specs.declared.frac.Frac.{Frac}
-use Rattle.frac_laws.specs.Lowest.{IsPast}
-use Rattle.frac_laws.proofs.Coprime.{divided, divisor_some, euclid, quotient_some}
+use Rattle.frac_laws.specs.Lowest.{IsLowest, IsPast, signed_by}
+use Rattle.frac_laws.proofs.Coprime.{divided, divisor_some, euclid, quotient_some, scaled}
 use Rattle.frac_laws.proofs.LowestTerms.{denominator_divides}
 use Rattle.geo_points.specs.Placements.{SamePoint}
-use Rattle.geo_points.specs.Points.{Point, x_coordinate, y_coordinate}
+use Rattle.geo_points.specs.Points.{Point}
 use Rattle.geo_points.proofs.Same.{flip_point, point_trans}
 use Rattle.geo_place.specs.declared.positions.Position.{Position}
 use Rattle.geo_place.specs.declared.triples.Triple.{Triple}
@@ -39,89 +37,170 @@ common_multiple b d g n some h p q =
     let all : s / u * (b * u) ≡ n = ap (λ (i : ℕ). s / u * i) (mul_comm b u) ∙ sym (mul_assoc (s / u) u b) ∙ ap (λ (i : ℕ). i * b) w ∙ bs in
     subst (λ (i : ℕ). b * u ∣ i) all (dvd-mul_left (b * u) (s / u))
 
-module _ (at : Position) (g : ℕ) (h : IsGcd (unsigned_abs at.x.den) (unsigned_abs at.y.den) g) where
-  abbrev B : ℕ
-  B = unsigned_abs at.x.den
+-- LOWEST TERMS
+-- some lowest terms of x / w
+pub record LowestTerms (x : ℤ) (w : ℕ) : Type 0 where
+  pub top : ℤ
+  pub bottom : ℕ
+  pub positive : 0 < bottom
+  pub lowest : IsLowest top bottom
+  pub same : top *ℤ pos w ≡ x *ℤ pos bottom
 
-  abbrev D : ℕ
-  D = unsigned_abs at.y.den
+-- there is a greatest common divisor
+divisor_exists : (a b : ℕ) → (g : ℕ) × IsGcd a b g
+divisor_exists a b = let s = scaled (a + b) a b 1 (omega arith) in (s.divisor, s.greatest)
 
+signed_times : (b : Bool) (n g : ℕ) → signed_by b n *ℤ pos g ≡ signed_by b (n * g)
+signed_times true n g = agree integers (entry_at integers (pos n ∷ pos g ∷ [])) (opposite (variable 0) ⊠ variable 1) (opposite (variable 0 ⊠ variable 1)) tt
+signed_times false n g = refl
+
+size_of : (b : Bool) (n : ℕ) → unsigned_abs (signed_by b n) ≡ n
+size_of true zero = refl
+size_of true (suc n) = refl
+size_of false n = refl
+
+lowest_of : (b : Bool) (n w : ℕ) → 0 < w → LowestTerms (signed_by b n) w
+lowest_of b n w some =
+    let d = divisor_exists n w in
+    let g = d.0 in
+    let gs : 0 < g = divisor_some g w some d.1.1 in
+    let ng : n / g * g ≡ n = div-mul_cancel g d.1.0 in
+    let wg : w / g * g ≡ w = div-mul_cancel g d.1.1 in
+    let a = signed_by b (n / g) in
+    let back : a *ℤ pos g ≡ signed_by b n = signed_times b (n / g) g ∙ ap (λ (i : ℕ). signed_by b i) ng in
+    record {
+      top = a;
+      bottom = w / g;
+      positive = quotient_some g w some d.1.1;
+      lowest = subst (λ (i : ℕ). IsGcd i (w / g) 1) (sym (size_of b (n / g))) (divided n w g gs d.1);
+      same = ap (λ (i : ℕ). a *ℤ pos i) (sym wg)
+          ∙ agree integers (entry_at integers (a ∷ pos (w / g) ∷ pos g ∷ [])) (variable 0 ⊠ (variable 1 ⊠ variable 2)) (variable 0 ⊠ variable 2 ⊠ variable 1) tt
+          ∙ ap (λ (z : ℤ). z *ℤ pos (w / g)) back;
+    }
+
+pub lowest_terms : (x : ℤ) (w : ℕ) → 0 < w → LowestTerms x w
+lowest_terms (pos n) w some = lowest_of false n w some
+lowest_terms (negsuc n) w some = lowest_of true (suc n) w some
+
+-- LEAST TRIPLES
+-- of the point (a / B, c / D), both in lowest terms
+module _ (a c : ℤ) (B D g : ℕ) (pB : 0 < B) (pD : 0 < D) (low_a : IsLowest a B) (low_c : IsLowest c D) (h : IsGcd B D g) where
   abbrev U : ℕ
   U = D / g
 
   abbrev V : ℕ
   V = B / g
 
-  some : 0 < g
-  some = divisor_some g B at.x.nonzero h.0
+  abbrev pub over_product : Point
+  over_product = record { x = a *ℤ pos D; y = c *ℤ pos B; w = B * D; positive = mul-pos pB pD }
 
-  pub told : Point
-  told = record { x = at.x.num *ℤ pos U; y = at.y.num *ℤ pos V; w = B * U; positive = mul-pos at.x.nonzero (quotient_some g D at.y.nonzero h.1) }
+  some : 0 < g
+  some = divisor_some g B pB h.0
+
+  abbrev pub told : Point
+  told = record { x = a *ℤ pos U; y = c *ℤ pos V; w = B * U; positive = mul-pos pB (quotient_some g D pD h.1) }
 
   cross : V * D ≡ B * U
   cross =
       let vg : V * g ≡ B = div-mul_cancel g h.0 in let ug : U * g ≡ D = div-mul_cancel g h.1 in
       ap (λ (i : ℕ). V * i) (sym ug ∙ mul_comm U g) ∙ sym (mul_assoc V g U) ∙ ap (λ (i : ℕ). i * U) vg
 
-  same_x : Same (x_coordinate told) (x_coordinate (point_at at))
-  unfolding told
-  same_x =
+  pub told_same : SamePoint told over_product
+  told_same =
       let v = variable in
-      let e : at.x.num *ℤ pos U *ℤ (pos B *ℤ pos D) ≡ at.x.num *ℤ pos D *ℤ (pos B *ℤ pos U) =
-      agree integers (entry_at integers (at.x.num ∷ pos U ∷ pos B ∷ pos D ∷ [])) (v 0 ⊠ v 1 ⊠ (v 2 ⊠ v 3)) (v 0 ⊠ v 3 ⊠ (v 2 ⊠ v 1)) tt in
-      record { crossed = subst (λ z. at.x.num *ℤ pos U *ℤ (pos B *ℤ pos D) ≡ at.x.num *ℤ z *ℤ (pos B *ℤ pos U)) (sym at.y.positive) e }
-
-  same_y : Same (y_coordinate told) (y_coordinate (point_at at))
-  unfolding told
-  same_y =
-      let v = variable in
-      let c : pos V *ℤ pos D ≡ pos B *ℤ pos U = ap pos cross in
-      let e : at.y.num *ℤ pos V *ℤ (pos B *ℤ pos D) ≡ at.y.num *ℤ pos B *ℤ (pos B *ℤ pos U) =
-      by_combination integers (entry_at integers (at.y.num ∷ pos U ∷ pos B ∷ pos D ∷ pos V ∷ [])) (given (v 0 ⊠ v 2) (v 4 ⊠ v 3) (v 2 ⊠ v 1) ∷ [])
-      (v 0 ⊠ v 4 ⊠ (v 2 ⊠ v 3)) (v 0 ⊠ v 2 ⊠ (v 2 ⊠ v 1)) (c, tt) tt in
-      record { crossed = subst (λ z. at.y.num *ℤ pos V *ℤ (pos B *ℤ pos D) ≡ at.y.num *ℤ z *ℤ (pos B *ℤ pos U)) (sym at.x.positive) e }
-
-  pub told_same : SamePoint told (point_at at)
-  told_same = record { by_x = same_x; by_y = same_y }
-
-  -- the coordinate in lowest terms, against another point
-  divides : (r : Frac) (a : Fraction) → (r.num *ℤ pos a.denominator ≡ a.numerator *ℤ pos (unsigned_abs r.den)) → unsigned_abs r.den ∣ a.denominator
-  divides r a e = denominator_divides r.num a.numerator (unsigned_abs r.den) a.denominator r.lowest e
+      record {
+        by_x = record { crossed = agree integers (entry_at integers (a ∷ pos U ∷ pos B ∷ pos D ∷ [])) (v 0 ⊠ v 1 ⊠ (v 2 ⊠ v 3)) (v 0 ⊠ v 3 ⊠ (v 2 ⊠ v 1)) tt };
+        by_y = record {
+          crossed = by_combination integers (entry_at integers (c ∷ pos U ∷ pos B ∷ pos D ∷ pos V ∷ [])) (given (v 0 ⊠ v 2) (v 4 ⊠ v 3) (v 2 ⊠ v 1) ∷ [])
+              (v 0 ⊠ v 4 ⊠ (v 2 ⊠ v 3)) (v 0 ⊠ v 2 ⊠ (v 2 ⊠ v 1)) (ap pos cross, tt) tt;
+        };
+      }
 
   pub told_least : IsLeast told
-  unfolding told
   told_least = record {
     least = λ A s.
-        let q = point_trans A told (point_at at) s told_same in
+        let q = point_trans A told over_product s told_same in
         let v = variable in
-        let x : at.x.num *ℤ pos A.w ≡ A.x *ℤ pos B = cancel (at.x.num *ℤ pos A.w) (A.x *ℤ pos B) D at.y.nonzero
-        (agree integers (entry_at integers (at.x.num ∷ pos A.w ∷ pos D ∷ [])) (v 0 ⊠ v 1 ⊠ v 2) (v 0 ⊠ v 2 ⊠ v 1) tt
-        ∙ sym (subst (λ z. A.x *ℤ (pos B *ℤ pos D) ≡ at.x.num *ℤ z *ℤ pos A.w) at.y.positive q.by_x.crossed)
+        let x : a *ℤ pos A.w ≡ A.x *ℤ pos B = cancel (a *ℤ pos A.w) (A.x *ℤ pos B) D pD
+        (agree integers (entry_at integers (a ∷ pos A.w ∷ pos D ∷ [])) (v 0 ⊠ v 1 ⊠ v 2) (v 0 ⊠ v 2 ⊠ v 1) tt ∙ sym q.by_x.crossed
         ∙ agree integers (entry_at integers (A.x ∷ pos B ∷ pos D ∷ [])) (v 0 ⊠ (v 1 ⊠ v 2)) (v 0 ⊠ v 1 ⊠ v 2) tt) in
-        let y : at.y.num *ℤ pos A.w ≡ A.y *ℤ pos D = cancel (at.y.num *ℤ pos A.w) (A.y *ℤ pos D) B at.x.nonzero
-        (agree integers (entry_at integers (at.y.num ∷ pos A.w ∷ pos B ∷ [])) (v 0 ⊠ v 1 ⊠ v 2) (v 0 ⊠ v 2 ⊠ v 1) tt
-        ∙ sym (subst (λ z. A.y *ℤ (pos B *ℤ pos D) ≡ at.y.num *ℤ z *ℤ pos A.w) at.x.positive q.by_y.crossed)
+        let y : c *ℤ pos A.w ≡ A.y *ℤ pos D = cancel (c *ℤ pos A.w) (A.y *ℤ pos D) B pB
+        (agree integers (entry_at integers (c ∷ pos A.w ∷ pos B ∷ [])) (v 0 ⊠ v 1 ⊠ v 2) (v 0 ⊠ v 2 ⊠ v 1) tt ∙ sym q.by_y.crossed
         ∙ agree integers (entry_at integers (A.y ∷ pos B ∷ pos D ∷ [])) (v 0 ⊠ (v 1 ⊠ v 2)) (v 0 ⊠ v 2 ⊠ v 1) tt) in
-        le_of_dvd A.positive (common_multiple B D g A.w some h (denominator_divides at.x.num A.x B A.w at.x.lowest x) (denominator_divides at.y.num A.y D A.w at.y.lowest y));
+        le_of_dvd A.positive (common_multiple B D g A.w some h (denominator_divides a A.x B A.w low_a x) (denominator_divides c A.y D A.w low_c y));
   }
 
+-- each point has a least triple
+pub least_exists : (A : Point) → (T : Point) × SamePoint T A × IsLeast T
+least_exists A =
+    let p = lowest_terms A.x A.w A.positive in
+    let q = lowest_terms A.y A.w A.positive in
+    let d = divisor_exists p.bottom q.bottom in
+    let v = variable in
+    let T = told p.top q.top p.bottom q.bottom d.0 p.positive q.positive p.lowest q.lowest d.1 in
+    let O = over_product p.top q.top p.bottom q.bottom d.0 p.positive q.positive p.lowest q.lowest d.1 in
+    let same : SamePoint O A = record {
+      by_x = record {
+        crossed = by_combination integers (entry_at integers (p.top ∷ pos p.bottom ∷ pos q.bottom ∷ pos A.w ∷ A.x ∷ [])) (given (v 2) (v 0 ⊠ v 3) (v 4 ⊠ v 1) ∷ [])
+            (v 0 ⊠ v 2 ⊠ v 3) (v 4 ⊠ (v 1 ⊠ v 2)) (p.same, tt) tt;
+      };
+      by_y = record {
+        crossed = by_combination integers (entry_at integers (q.top ∷ pos p.bottom ∷ pos q.bottom ∷ pos A.w ∷ A.y ∷ [])) (given (v 1) (v 0 ⊠ v 3) (v 4 ⊠ v 2) ∷ [])
+            (v 0 ⊠ v 1 ⊠ v 3) (v 4 ⊠ (v 1 ⊠ v 2)) (q.same, tt) tt;
+      };
+    } in (
+      T,
+      point_trans T O A (told_same p.top q.top p.bottom q.bottom d.0 p.positive q.positive p.lowest q.lowest d.1) same,
+      told_least p.top q.top p.bottom q.bottom d.0 p.positive q.positive p.lowest q.lowest d.1,
+    )
+
+-- and one alone
+pub record SameTriple (S T : Point) : Type 0 where
+  pub x : S.x ≡ T.x
+  pub y : S.y ≡ T.y
+  pub w : S.w ≡ T.w
+
+pub least_once : (S T : Point) → IsLeast S → IsLeast T → SamePoint S T → SameTriple S T
+least_once S T h k same =
+    let w : S.w ≡ T.w = le_antisymm (h.least T (flip_point _ _ same)) (k.least S same) in
+    record {
+      x = cancel S.x T.x T.w T.positive (subst (λ (i : ℕ). S.x *ℤ pos T.w ≡ T.x *ℤ pos i) w same.by_x.crossed);
+      y = cancel S.y T.y T.w T.positive (subst (λ (i : ℕ). S.y *ℤ pos T.w ≡ T.y *ℤ pos i) w same.by_y.crossed);
+      w = w;
+    }
+
+-- POSITIONS
+module _ (at : Position) (g : ℕ) (h : IsGcd (unsigned_abs at.x.den) (unsigned_abs at.y.den) g) where
+  abbrev B' : ℕ
+  B' = unsigned_abs at.x.den
+
+  abbrev D' : ℕ
+  D' = unsigned_abs at.y.den
+
+  abbrev pub least_at : Point
+  least_at = told at.x.num at.y.num B' D' g at.x.nonzero at.y.nonzero at.x.lowest at.y.lowest h
+
+  least_at_least : IsLeast least_at
+  least_at_least = told_least at.x.num at.y.num B' D' g at.x.nonzero at.y.nonzero at.x.lowest at.y.lowest h
+
+  least_at_same : SamePoint least_at (point_at at)
+  least_at_same =
+      let s = told_same at.x.num at.y.num B' D' g at.x.nonzero at.y.nonzero at.x.lowest at.y.lowest h in
+      record {
+        by_x = record { crossed = subst (λ z. at.x.num *ℤ pos (D' / g) *ℤ pos (B' * D') ≡ at.x.num *ℤ z *ℤ pos (B' * (D' / g))) (sym at.y.positive) s.by_x.crossed };
+        by_y = record { crossed = subst (λ z. at.y.num *ℤ pos (B' / g) *ℤ pos (B' * D') ≡ at.y.num *ℤ z *ℤ pos (B' * (D' / g))) (sym at.x.positive) s.by_y.crossed };
+      }
+
   -- the triple that is made of the three products
-  pub is_triple : (t : Triple) → t.x ≡ at.x.num *ℤ pos U → t.y ≡ at.y.num *ℤ pos V → t.w ≡ pos B *ℤ pos U → IsTripleOf t (point_at at)
-  unfolding told
-  is_triple t a b c = record { told = told; x = a; y = b; w = c; least = told_least; same = told_same }
+  pub is_triple : (t : Triple) → t.x ≡ at.x.num *ℤ pos (D' / g) → t.y ≡ at.y.num *ℤ pos (B' / g) → t.w ≡ pos B' *ℤ pos (D' / g) → IsTripleOf t (point_at at)
+  is_triple t a b c = record { told = least_at; x = a; y = b; w = c; least = least_at_least; same = least_at_same }
 
-  pub is_past : IsPast (at.x.num *ℤ pos U) ⊎ (IsPast (at.y.num *ℤ pos V) ⊎ IsPast (pos B *ℤ pos U)) → IsTriplePast (point_at at)
-  unfolding told
-  is_past p = (told, told_least, told_same, p)
+  pub is_past : IsPast (at.x.num *ℤ pos (D' / g)) ⊎ (IsPast (at.y.num *ℤ pos (B' / g)) ⊎ IsPast (pos B' *ℤ pos (D' / g))) → IsTriplePast (point_at at)
+  is_past p = (least_at, least_at_least, least_at_same, p)
 
-  -- two least triples of a point have the same numbers
-  pub not_past : (IsPast (at.x.num *ℤ pos U) → ⊥) → (IsPast (at.y.num *ℤ pos V) → ⊥) → (IsPast (pos B *ℤ pos U) → ⊥) → IsTriplePast (point_at at) → ⊥
-  unfolding told
+  pub not_past : (IsPast (at.x.num *ℤ pos (D' / g)) → ⊥) → (IsPast (at.y.num *ℤ pos (B' / g)) → ⊥) → (IsPast (pos B' *ℤ pos (D' / g)) → ⊥) → IsTriplePast (point_at at) → ⊥
   not_past a b c p =
       let T = p.0 in
-      let same = point_trans T (point_at at) told p.2 (flip_point _ _ told_same) in
-      let w : T.w ≡ B * U = le_antisymm (p.1.least told (flip_point _ _ same)) (told_least.least T same) in
-      let x : T.x ≡ at.x.num *ℤ pos U = cancel T.x (at.x.num *ℤ pos U) (B * U) told.positive (subst (λ (i : ℕ). T.x *ℤ pos (B * U) ≡ at.x.num *ℤ pos U *ℤ pos i) w same.by_x.crossed) in
-      let y : T.y ≡ at.y.num *ℤ pos V = cancel T.y (at.y.num *ℤ pos V) (B * U) told.positive (subst (λ (i : ℕ). T.y *ℤ pos (B * U) ≡ at.y.num *ℤ pos V *ℤ pos i) w same.by_y.crossed) in
-      ⊎_elim (λ q. a (subst IsPast x q))
-      (λ (r : IsPast T.y ⊎ IsPast (pos T.w)). ⊎_elim (λ q. b (subst IsPast y q)) (λ q. c (subst (λ (i : ℕ). IsPast (pos i)) w q)) r) p.3
+      let s = least_once T least_at p.1 least_at_least (point_trans T (point_at at) least_at p.2 (flip_point _ _ least_at_same)) in
+      ⊎_elim (λ q. a (subst IsPast s.x q))
+      (λ (r : IsPast T.y ⊎ IsPast (pos T.w)). ⊎_elim (λ q. b (subst IsPast s.y q)) (λ q. c (subst (λ (i : ℕ). IsPast (pos i)) s.w q)) r) p.3

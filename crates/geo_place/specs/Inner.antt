@@ -32,7 +32,7 @@ use Rattle.geo_place.specs.declared.positions.Position.{Position}
 use Rattle.geo_place.specs.declared.positions.Reckoned.{Reckoned}
 use Rattle.geo_place.specs.declared.sketch.Sketch.{Sketch}
 use Rattle.geo_place.specs.declared.triples.Triple.{Triple}
-use Rattle.geo_place.specs.Evaluation.{EndsAs, IsLeast, IsListedAt, IsReckoned, IsRight, IsTooLarge, LineTurn, Passes, placed_all, test, too_large, turns_from, unmet}
+use Rattle.geo_place.specs.Evaluation.{EndsAs, IsLeast, IsListedAt, IsReckoned, IsRight, IsTooLarge, IsTriplePast, LineTurn, Passes, placed_all, test, too_large, turns_from, unmet}
 use Rattle.geo_place.specs.Formulas.{Spot, reckoned}
 use Rattle.geo_place.specs.Placing.{integers_of}
 use Rattle.geo_place.specs.Reckonings.{HasResult, IsRefused, Reckoning, number}
@@ -177,12 +177,6 @@ abbrev pub Stops : Run → List LineTurn → PlaceError → Type 0
 Stops run turns NoMemory = Unit {0}
 Stops run turns error = Stop run turns error
 
--- the conditions that the commands from the k-th on and the statement give
-abbrev pub found_behind : Source → ℕ → List Found
-found_behind p k =
-    found_from p.nodes (points_from 0 (take k p.commands)) (suc k) (drop k p.commands)
-    ++ found_at (suc (length p.commands)) (statement_conditions p.nodes p.statement)
-
 -- the condition passes its test
 abbrev pub IsPassed : Run → Condition → Type 0
 IsPassed run c = (IsTooLarge run.program run.placed (test c) → ⊥) × IsRight run.program run.placed (test c)
@@ -192,7 +186,8 @@ pub record IsTaken (run : Run) (k : ℕ) (progress : Progress) : Type 0 where
   pub sketch : IsSketchOf run progress.sketch
   pub points : length progress.sketch.points.items ≡ points_past 0 (take k run.program.commands)
   pub tested : progress.tested ≤ length run.conditions
-  pub listed : IsListed (λ f. f.condition) (take progress.tested run.conditions) (found_behind run.program k) run.conditions
+  pub listed : IsListed (λ f. f.condition) [] (found_from run.program.nodes 0 1 (take k run.program.commands))
+      (take progress.tested run.conditions)
   pub held : AllByRecursion (λ f. IsPassed run f.condition) (take progress.tested run.conditions)
   pub told : length progress.triples.items ≡ points_from 0 (take k run.program.commands)
   pub triples : (a : ℕ) (t : Triple) → slice_get progress.triples.items a ≡ Some t
@@ -220,3 +215,16 @@ abbrev pub HasNumber : Store → Step → Type 0
 HasNumber nodes (step.Pratio w u v r) = r.0 < length nodes
 HasNumber nodes (step.Tratio u v r) = r.0 < length nodes
 HasNumber nodes _ = Unit {0}
+
+-- the triple of the position stands behind those before it, and is not too large
+pub record TellsTriple (old new : List Triple) (s : Position) : Type 0 where
+  pub triple : Triple
+  pub pushed : new ≡ old ++ triple ∷ []
+  pub is : IsTripleOf triple (point_at s)
+  pub fits : IsTriplePast (point_at s) → ⊥
+
+-- the triple of the position is too large, at the line, unless memory is wanting
+abbrev pub IsTripleStop : Position → ℕ → PlaceError → Type 0
+IsTripleStop s line (TooLarge l) = (l ≡ line) × IsTriplePast (point_at s)
+IsTripleStop s line NoMemory = Unit {0}
+IsTripleStop s line (Unmet k) = ⊥

@@ -1,7 +1,7 @@
 //! The conditions and the goals of a program, tested at the points that are placed so far.
 
-ghost use Rattle.std.specs.Prelude.{◌≡◌, ◌≢◌, ◌<◌, ◌≤◌, ◌+◌, ◌-◌, ℕ, All, IfErr, IfOk, OnOk};
-ghost use Rattle.std.specs.Prelude.{Some, length, slice_get, suc, take, drop};
+ghost use Rattle.std.specs.Prelude.{◌≡◌, ◌≢◌, ◌<◌, ◌≤◌, ◌+◌, ◌^◌, ◌⊎◌, ℕ, All, IfErr, OnOk};
+ghost use Rattle.std.specs.Prelude.{Some, length, slice_get};
 ghost use Rattle.std.specs.List.{AllByRecursion};
 ghost use Rattle.geo_place.specs.Inner.{FailsItem, FirstFails, GoalsCome, IsItemMet};
 

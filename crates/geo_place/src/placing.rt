@@ -9,7 +9,6 @@ use crate::errors::PlaceError;
 use crate::evaluation::evaluate;
 use crate::naming::named_points;
 use crate::placed::{Ints, Placed};
-use crate::values::free_points;
 use geo_conditions::list;
 use geo_lowering::lower;
 use geo_program::Program;
@@ -25,10 +24,9 @@ pub fn place(alloc: Global, program: &Program, values: &Ints) -> Result<Placed, 
         → length v.coordinates ≡ length (numbers_of_free_points 0 program.now.commands)
         → integers_of v ≡ values.now → IsAnswer (source_of program.now) v result }
 {
-    let commands = program.commands.as_slice();
     let lowered = lower(alloc, program)?;
     let problem = list(alloc, program, lowered)?;
-    let evaluated = evaluate(alloc, &problem, commands, &values.items, free_points(commands))?;
+    let evaluated = evaluate(alloc, program, &problem, &values.items)?;
     let points = named_points(alloc, program.names.as_slice(), &evaluated.triples)?;
     Ok(Placed {
         points,

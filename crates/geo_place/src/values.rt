@@ -2,15 +2,16 @@
 
 ghost use Rattle.std.specs.Prelude.{◌≡◌, length};
 ghost use Rattle.geo_program.specs.Programs.{source_of};
-ghost use Rattle.geo_lowering.specs.Counting.{numbers_had};
-ghost use Rattle.geo_conditions.specs.Truth.{free_points as numbers_of_free_points};
+ghost use Rattle.std.specs.List.{filter};
+ghost use Rattle.geo_lowering.specs.Counting.{has_number};
+ghost use Rattle.geo_conditions.specs.Truth.{is_free};
 ghost use Rattle.geo_place.specs.Placing.{values_wanted};
 
 use geo_program::{Command, Program};
 
 /// How many free points the commands make.
 pub fn free_points(commands: &[Command]) -> usize
-    ensures { result ≡ length (numbers_of_free_points 0 commands.now) }
+    ensures { result ≡ length (filter is_free commands.now) }
 {
     commands
         .iter()
@@ -20,7 +21,7 @@ pub fn free_points(commands: &[Command]) -> usize
 
 /// How many of the commands have a number.
 fn numbers(commands: &[Command]) -> usize
-    ensures { result ≡ numbers_had commands.now }
+    ensures { result ≡ length (filter has_number commands.now) }
 {
     commands
         .iter()

@@ -1,0 +1,116 @@
+-- The next point of a sketch, against the run's placement.
+use Rattle.std.proofs.Common.{◌≡◌, ◌⊎◌, ⊎_elim, ℕ, zero, suc, ◌+◌, ◌*◌, ◌<◌, ◌≤◌, ℤ, pos, List, [], ◌∷◌, ◌++◌, length, map, refl, sym, ◌∙◌, ap, subst, arith}
+use Rattle.std.specs.Prelude.{Option, Some, None, slice_get, slice_index_or, take}
+use Rattle.std.proofs.lemmas.List.{length-append, length-map, get_or-map}
+use Rattle.ring_laws.specs.Fraction.{whole}
+use Rattle.frac_laws.specs.Numbers.{IsNumber}
+use Rattle.geo_points.specs.Placements.{Placement, SamePoint}
+use Rattle.geo_points.proofs.Same.{flip_point, point_trans}
+use Rattle.geo_terms.specs.declared.steps.Step.{Step}
+use Rattle.geo_terms.specs.declared.steps.Step.TheVariants as step
+use Rattle.geo_terms.specs.Constructions.{IsStep}
+use Rattle.geo_terms.specs.Stores.{Store}
+use Rattle.geo_lowering.specs.Counting.{numbers_had}
+use Rattle.geo_lowering.specs.Lowering.{point_place, steps_of}
+use Rattle.geo_lowering.specs.StepForms.{StepForm, free, step_form}
+use Rattle.geo_lowering.proofs.Bounds.{program_over}
+use Rattle.geo_lowering.proofs.FormLaws.{IsFormOver}
+use Rattle.geo_conditions.specs.declared.problem.Problem.{Problem}
+use Rattle.geo_conditions.specs.Truth.{free_points, whole_point}
+use Rattle.geo_place.specs.declared.positions.Position.{Position}
+use Rattle.geo_place.specs.declared.sketch.Sketch.{Sketch}
+use Rattle.geo_place.specs.Formulas.{IsAt, step_spot}
+use Rattle.geo_place.specs.Inner.{HasNumber, IsPosition, IsRun, IsSketchOf, Run, free_places, placement_of, point_at}
+use Rattle.geo_place.proofs.Existence.{program_places}
+use Rattle.geo_place.proofs.MakeTurns.{at_place, over_place, place_at}
+use Rattle.geo_place.proofs.Sketches.{own_position, position_same}
+use Rattle.geo_place.proofs.ValueLists.{abscissa_at, ordinate_at, pairs, pairs_length}
+
+get_map : {A B : Type 0} (f : A → B) (xs : List A) (k : ℕ) (x : A) → slice_get xs k ≡ Some x → slice_get (map f xs) k ≡ Some (f x)
+get_map f [] k x e = cc
+get_map f (y ∷ ys) zero x e = ap (λ (o : Option _). elim o [ None ↦ Some (f y) | Some z ↦ Some (f z) ]) e
+get_map f (y ∷ ys) (suc k) x e = get_map f ys k x e
+
+-- the number of a step of a construction stands in the store
+pub has_number : (nodes : Store) (points params : ℕ) (s : Step) → IsStep nodes points params s → HasNumber nodes s
+has_number nodes points params step.Point h = tt
+has_number nodes points params (step.Inter u v p q) h = tt
+has_number nodes points params (step.Foot p u v) h = tt
+has_number nodes points params (step.Pratio w u v r) h = h.3.stored
+has_number nodes points params (step.Tratio u v r) h = h.2.stored
+
+module _ (run : Run) (problem : Problem) (ints : List ℤ) (h : IsRun run problem ints) (sketch : Sketch) (s : IsSketchOf run sketch) (here : Step)
+    (at : slice_get problem.steps.steps (length sketch.points.items) ≡ Some here) where
+  abbrev pub n : ℕ
+  n = length sketch.points.items
+
+  abbrev pub form : StepForm
+  form = step_form problem.steps.nodes here
+
+  pub at_form : slice_get (steps_of run.program) n ≡ Some form
+  at_form = subst (λ (fs : List StepForm). slice_get fs n ≡ Some form) h.lowered.steps (get_map (step_form problem.steps.nodes) problem.steps.steps n here at)
+
+  zero_plus : 0 + n ≡ n
+  zero_plus = omega arith
+
+  pub over : IsFormOver n (length sketch.numbers.items) form
+  over =
+      subst (λ (m : ℕ). IsFormOver n m form) (sym s.numbers)
+      (subst (λ (k : ℕ). IsFormOver k (numbers_had run.program.commands) form) zero_plus
+      (over_place 0 (numbers_had run.program.commands) (steps_of run.program) n form (program_over run.program h.formed) at_form))
+
+  pub is_at : IsAt (run.placed.point n) (step_spot run.placed n form)
+  is_at = subst (λ (k : ℕ). IsAt (run.placed.point k) (step_spot run.placed k form)) zero_plus (at_place run.placed 0 (steps_of run.program) n form h.reckoned.points at_form)
+
+  pub in_store : HasNumber problem.steps.nodes here
+  in_store = has_number problem.steps.nodes n problem.steps.params here (h.lowered.valid.steps n here at)
+
+  -- A FREE POINT
+  module _ (e : form ≡ free) where
+    place : (slice_index_or (free_places 0 (steps_of run.program)) (length (free_places 0 (take n (steps_of run.program)))) 0 ≡ 0 + n)
+        × (length (free_places 0 (take n (steps_of run.program))) < length (free_places 0 (steps_of run.program)))
+    place = place_at 0 (steps_of run.program) n (at_form ∙ ap (λ (f : StepForm). Some f) e)
+
+    abbrev frees : List ℕ
+    frees = free_points 0 run.program.commands
+
+    wide : length (free_places 0 (steps_of run.program)) ≡ length run.values.coordinates
+    wide = ap (λ (xs : List ℕ). length xs) (program_places run.program) ∙ length-map frees (point_place run.program.commands) ∙ sym h.reckoned.values.points
+
+    pub below_all : sketch.free < length run.values.coordinates
+    below_all = let a = place.1 in let b = s.free in let c = wide in omega (arith, a, b, c)
+
+    ints_parts : ints ≡ pairs run.values.coordinates ++ run.values.numbers
+    ints_parts = h.ints_are
+
+    pub inside : 2 * sketch.free + 1 < length ints
+    inside =
+        let a = below_all in
+        let b : length ints ≡ 2 * length run.values.coordinates + length run.values.numbers =
+        ap (λ (zs : List ℤ). length zs) ints_parts ∙ length-append (pairs run.values.coordinates) run.values.numbers ∙ ap (λ (k : ℕ). k + length run.values.numbers) (pairs_length run.values.coordinates) in
+        omega (arith, a, b)
+
+    at_free : point_place run.program.commands (slice_index_or frees sketch.free 0) ≡ n
+    at_free =
+        let l : sketch.free < length frees = let a = below_all in let b = h.reckoned.values.points in omega (arith, a, b) in
+        sym (get_or-map (point_place run.program.commands) frees sketch.free 0 0 l)
+        ∙ ap (λ (xs : List ℕ). slice_index_or xs sketch.free 0) (sym (program_places run.program))
+        ∙ ap (λ (k : ℕ). slice_index_or (free_places 0 (steps_of run.program)) k 0) s.free ∙ place.0 ∙ zero_plus
+
+    abbrev xy : ℤ × ℤ
+    xy = slice_index_or run.values.coordinates sketch.free (pos 0, pos 0)
+
+    pub free_there : (q : Position) → IsNumber q.x (whole (slice_index_or ints (2 * sketch.free) (pos 0))) → IsNumber q.y (whole (slice_index_or ints (2 * sketch.free + 1) (pos 0)))
+        → SamePoint (point_at q) (run.placed.point n)
+    unfolding whole
+    free_there q x y =
+        let ex : slice_index_or ints (2 * sketch.free) (pos 0) ≡ xy.0 =
+        ap (λ (zs : List ℤ). slice_index_or zs (2 * sketch.free) (pos 0)) ints_parts ∙ abscissa_at run.values.coordinates run.values.numbers sketch.free below_all in
+        let ey : slice_index_or ints (2 * sketch.free + 1) (pos 0) ≡ xy.1 =
+        ap (λ (zs : List ℤ). slice_index_or zs (2 * sketch.free + 1) (pos 0)) ints_parts ∙ ordinate_at run.values.coordinates run.values.numbers sketch.free below_all in
+        let there : IsPosition q (whole_point xy) = record {
+          x = record { crossed = (subst (λ z. IsNumber q.x (whole z)) ex x).crossed };
+          y = record { crossed = (subst (λ z. IsNumber q.y (whole z)) ey y).crossed };
+        } in
+        let value = subst (λ (k : ℕ). SamePoint (run.placed.point k) (whole_point xy)) at_free (h.reckoned.values.same_points sketch.free below_all) in
+        point_trans _ _ _ (position_same q (point_at q) (whole_point xy) (own_position q) there) (flip_point _ _ value)
