@@ -1,13 +1,13 @@
 -- The points that steps make, one after another, are those of the run's placement.
-use Rattle.std.proofs.Common.{◌≡◌, ℕ, zero, suc, ◌+◌, ◌-◌, ◌<◌, ◌≤◌, Bool, true, false, ◌⊎◌, inl, inr, ⊎_elim, List, [], ◌∷◌, ◌++◌, length, map, refl, sym, ◌∙◌, ap, subst, append_assoc, append-nil, arith}
+use Rattle.std.proofs.Common.{◌≡◌, ℕ, zero, suc, ◌+◌, ◌-◌, ◌<◌, ◌≤◌, Bool, true, false, ◌⊎◌, inl, inr, ⊎_elim, List, [], ◌∷◌, ◌++◌, length, map, refl, sym, ◌∙◌, ap, subst, append_assoc, append-nil, pos, lit<, arith}
 use Rattle.std.specs.Prelude.{Option, Some, None, Result, Ok, Err, slice_get, slice_index_or, take, drop}
 use Rattle.std.specs.List.{AllByRecursion}
 use Rattle.std.proofs.Math.Nat.{eq-or-lt_of_le}
-use Rattle.std.proofs.lemmas.List.{length-append, map-append}
-use Rattle.ring_laws.specs.Fraction.{Fraction, Same}
+use Rattle.std.proofs.lemmas.List.{length-append, length-take-le, map-append, take-append-drop}
+use Rattle.ring_laws.specs.Fraction.{Fraction, Same, whole}
 use Rattle.ring_laws.proofs.Fractions.{fractions}
 use Rattle.frac_laws.specs.declared.frac.Frac.{Frac}
-use Rattle.frac_laws.specs.Numbers.{IsNumber}
+use Rattle.frac_laws.specs.Numbers.{IsNumber, fraction_of}
 use Rattle.geo_points.specs.Placements.{Placement, SamePoint, SamePlacement}
 use Rattle.geo_points.proofs.Same.{point_trans, flip_point}
 use Rattle.geo_lowering.specs.Lowering.{steps_of}
@@ -144,11 +144,11 @@ get_front (x ∷ xs) ys (suc i) l = get_front xs ys i (omega arith)
 
 point_same : (a b : Sketch) (k : ℕ) → slice_get a.points.items k ≡ slice_get b.points.items k → (placement_of a).point k ≡ (placement_of b).point k
 unfolding placement_of
-point_same a b k e = ap (λ (o : Option Position). elim o [ None ↦ record { x = _; y = _; w = _; positive = _ } | Some s ↦ point_at s ]) e
+point_same a b k e = ap (λ (o : Option Position). elim o [ None ↦ record { x = pos 0; y = pos 0; w = 1; positive = lit< tt } | Some s ↦ point_at s ]) e
 
 numbers_same : (a b : Sketch) → a.numbers.items ≡ b.numbers.items → (placement_of a).number ≡ (placement_of b).number
 unfolding placement_of
-numbers_same a b e = ap (λ (rs : List Frac). λ (k : ℕ). elim (slice_get rs k) [ None ↦ _ | Some r ↦ _ ]) e
+numbers_same a b e = ap (λ (rs : List Frac). λ (k : ℕ). elim (slice_get rs k) [ None ↦ whole (pos 0) | Some r ↦ fraction_of r ]) e
 
 module _ (run : Run) (old new : Sketch) (s : Position) (f : StepForm) (points : new.points.items ≡ old.points.items ++ s ∷ []) (numbers : new.numbers.items ≡ old.numbers.items)
     (frees : new.free ≡ old.free + length (free_places 0 (f ∷ []))) (at : slice_get (steps_of run.program) (length old.points.items) ≡ Some f) (h : IsSketchOf run old)
@@ -227,3 +227,34 @@ module _ (n m : ℕ) (p p' : Placement) (g : SamePlacement n m p p') (f : StepFo
   large_there h =
       let a = step_alike n m p p' (agree_of n m p p' g) n f (λ e. absurd (d e)) o in
       ⊎_elim (λ r. inl (alike_refused S.x T.x a.0 r)) (λ r. inr (alike_refused S.y T.y a.1 r)) h
+
+-- ONE POINT AFTER ANOTHER
+-- the first i of these steps
+module _ (run : Run) (line n : ℕ) (fs : List StepForm) where
+  abbrev Pass : LineTurn → Type 0
+  Pass t = Passes run.program run.placed t
+
+  abbrev pub made : ℕ → List LineTurn
+  made i = at_line line (makes n (take i fs))
+
+  made_next : (i : ℕ) (f : StepForm) → slice_get fs i ≡ Some f → made (suc i) ≡ made i ++ record { line = line; turn = make (n + i) f } ∷ []
+  made_next i f e =
+      let l : i < length fs = get_below fs i f e in
+      let long : length (take i fs) ≡ i = length-take-le i fs (omega arith) in
+      ap (λ (gs : List StepForm). at_line line (makes n gs)) (take_next i fs f e) ∙ ap (λ (ts : List Turn). at_line line ts) (makes_append n (take i fs) (f ∷ []))
+      ∙ line_append line (makes n (take i fs)) (make (n + length (take i fs)) f ∷ []) ∙ ap (λ (k : ℕ). made i ++ record { line = line; turn = make (n + k) f } ∷ []) long
+
+  pub pass_next : (i : ℕ) (f : StepForm) → slice_get fs i ≡ Some f → AllByRecursion Pass (made i) → (IsTooLarge run.program run.placed (make (n + i) f) → ⊥) → AllByRecursion Pass (made (suc i))
+  pass_next i f e h p = subst (λ ts. AllByRecursion Pass ts) (sym (made_next i f e)) (each_append Pass (made i) (record { line = line; turn = make (n + i) f } ∷ []) h ((p, tt), tt))
+
+  pub stop_next : (i : ℕ) (f : StepForm) (e : PlaceError) → slice_get fs i ≡ Some f → AllByRecursion Pass (made i) → Stops run (record { line = line; turn = make (n + i) f } ∷ []) e → Stops run (at_line line (makes n fs)) e
+  stop_next i f e at h s =
+      let l : i < length fs = get_below fs i f at in
+      let long : length (take i fs) ≡ i = length-take-le i fs (omega arith) in
+      let rest = drop (suc i) fs in
+      let parts : fs ≡ take i fs ++ (f ∷ rest) = sym (take-append-drop i fs) ∙ ap (λ (gs : List StepForm). take i fs ++ gs) (drop_next i fs f at) in
+      let all : at_line line (makes n fs) ≡ made i ++ (record { line = line; turn = make (n + i) f } ∷ []) ++ at_line line (makes (suc (n + i)) rest) =
+      ap (λ (gs : List StepForm). at_line line (makes n gs)) parts ∙ ap (λ (ts : List Turn). at_line line ts) (makes_append n (take i fs) (f ∷ rest))
+      ∙ line_append line (makes n (take i fs)) (makes (n + length (take i fs)) (f ∷ rest)) ∙ ap (λ (k : ℕ). made i ++ at_line line (makes (n + k) (f ∷ rest))) long
+      ∙ sym (append_assoc (made i) (record { line = line; turn = make (n + i) f } ∷ []) (at_line line (makes (suc (n + i)) rest))) in
+      stops_in run (at_line line (makes n fs)) (made i) (record { line = line; turn = make (n + i) f } ∷ []) (at_line line (makes (suc (n + i)) rest)) e all h s

@@ -1,6 +1,6 @@
 -- The next point of a sketch, against the run's placement.
 use Rattle.std.proofs.Common.{◌≡◌, ◌⊎◌, ⊎_elim, ℕ, zero, suc, ◌+◌, ◌*◌, ◌<◌, ◌≤◌, ℤ, pos, List, [], ◌∷◌, ◌++◌, length, map, refl, sym, ◌∙◌, ap, subst, arith}
-use Rattle.std.specs.Prelude.{Option, Some, None, slice_get, slice_index_or, take}
+use Rattle.std.specs.Prelude.{IfErr, IfOk, OnOk, Option, Some, None, Result, Ok, Err, slice_get, slice_index_or, take}
 use Rattle.std.proofs.lemmas.List.{length-append, length-map, get_or-map}
 use Rattle.ring_laws.specs.Fraction.{whole}
 use Rattle.frac_laws.specs.Numbers.{IsNumber}
@@ -17,12 +17,17 @@ use Rattle.geo_lowering.proofs.Bounds.{program_over}
 use Rattle.geo_lowering.proofs.FormLaws.{IsFormOver}
 use Rattle.geo_conditions.specs.declared.problem.Problem.{Problem}
 use Rattle.geo_conditions.specs.Truth.{free_points, whole_point}
+use Rattle.geo_place.specs.declared.errors.PlaceError.{PlaceError}
+use Rattle.geo_place.specs.declared.errors.PlaceError.TheVariants.{TooLarge}
 use Rattle.geo_place.specs.declared.positions.Position.{Position}
+use Rattle.geo_place.specs.declared.positions.Reckoned.{Reckoned}
 use Rattle.geo_place.specs.declared.sketch.Sketch.{Sketch}
-use Rattle.geo_place.specs.Formulas.{IsAt, step_spot}
-use Rattle.geo_place.specs.Inner.{HasNumber, IsPosition, IsRun, IsSketchOf, Run, free_places, placement_of, point_at}
+use Rattle.geo_place.specs.Formulas.{IsAt, Spot, step_spot}
+use Rattle.geo_place.specs.Evaluation.{IsTooLarge, at_line, make}
+use Rattle.geo_place.specs.Reckonings.{IsRefused, IsResult}
+use Rattle.geo_place.specs.Inner.{AreResults, HasNumber, IsPosition, IsRun, IsSketchOf, Run, Stops, free_places, placement_of, point_at}
 use Rattle.geo_place.proofs.Existence.{program_places}
-use Rattle.geo_place.proofs.MakeTurns.{at_place, over_place, place_at}
+use Rattle.geo_place.proofs.MakeTurns.{at_place, large_there, made_there, not_large, over_place, place_at}
 use Rattle.geo_place.proofs.Sketches.{own_position, position_same}
 use Rattle.geo_place.proofs.ValueLists.{abscissa_at, ordinate_at, pairs, pairs_length}
 
@@ -114,3 +119,52 @@ module _ (run : Run) (problem : Problem) (ints : List ℤ) (h : IsRun run proble
         } in
         let value = subst (λ (k : ℕ). SamePoint (run.placed.point k) (whole_point xy)) at_free (h.reckoned.values.same_points sketch.free below_all) in
         point_trans _ _ _ (position_same q (point_at q) (whole_point xy) (own_position q) there) (flip_point _ _ value)
+
+  -- A POINT THAT IS RECKONED
+  -- what a step that is no free point answers, on this line
+  pub record NextIs (line : ℕ) (r : Result Position PlaceError) : Type 0 where
+    pub position : IfOk r (λ q. SamePoint (point_at q) (run.placed.point n))
+    pub passed : OnOk r (IsTooLarge run.program run.placed (make n form) → ⊥)
+    pub stops : IfErr r (Stops run (at_line line (make n form ∷ [])))
+
+  pub next_reckoned : (form ≡ free → ⊥) → (line : ℕ) (k : ℕ) → k ≡ n → (reckoned : Reckoned) → AreResults reckoned (step_spot (placement_of sketch) k form) → (r : Result Position PlaceError)
+      → IfOk r (λ q. (spot : Spot) → AreResults reckoned spot → IsResult q.x spot.x × IsResult q.y spot.y)
+      → IfErr r (λ e. (spot : Spot) → AreResults reckoned spot → (e ≡ TooLarge line) × (IsRefused spot.x ⊎ IsRefused spot.y)) → NextIs line r
+  next_reckoned d line k kn reckoned a r ok err =
+      let b : AreResults reckoned (step_spot (placement_of sketch) n form) = subst (λ (i : ℕ). AreResults reckoned (step_spot (placement_of sketch) i form)) kn a in
+      go r ok err b
+    where
+      spot : Spot
+      spot = step_spot (placement_of sketch) n form
+
+      go : (r : Result Position PlaceError) → IfOk r (λ q. (spot : Spot) → AreResults reckoned spot → IsResult q.x spot.x × IsResult q.y spot.y)
+          → IfErr r (λ e. (spot : Spot) → AreResults reckoned spot → (e ≡ TooLarge line) × (IsRefused spot.x ⊎ IsRefused spot.y))
+          → AreResults reckoned (step_spot (placement_of sketch) n form) → NextIs line r
+      go (Ok q) ok err b =
+          let h = ok spot b in
+          record {
+            position = made_there n (length sketch.numbers.items) (placement_of sketch) run.placed s.same form over d is_at q h.0 h.1;
+            passed = not_large n (length sketch.numbers.items) (placement_of sketch) run.placed s.same form over d is_at q h.0 h.1;
+            stops = tt;
+          }
+      go (Err e) ok err b =
+          let h = err spot b in
+          record {
+            position = tt;
+            passed = tt;
+            stops = subst (λ (f : PlaceError). Stops run (at_line line (make n form ∷ [])) f) (sym h.0)
+                (record {
+                  before = [];
+                  turn = record { line = line; turn = make n form };
+                  after = [];
+                  parts = refl;
+                  passed = tt;
+                  stops = (refl, large_there n (length sketch.numbers.items) (placement_of sketch) run.placed s.same form over d is_at h.1);
+                });
+          }
+
+  -- a free point is never too large
+  pub free_passes : form ≡ free → IsTooLarge run.program run.placed (make n form) → ⊥
+  free_passes e h =
+      let k : IsTooLarge run.program run.placed (make n free) = subst (λ (f : StepForm). IsTooLarge run.program run.placed (make n f)) e h in
+      ⊎_elim (λ x. x) (λ x. x) k

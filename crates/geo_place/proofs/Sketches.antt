@@ -1,5 +1,5 @@
 -- The placement of a sketch: its points and numbers, and what a further point adds.
-use Rattle.std.proofs.Common.{◌≡◌, ℕ, suc, ◌<◌, ◌≤◌, ◌+◌, ◌*◌, ℤ, pos, ◌*ℤ◌, unsigned_abs, ◌⊎◌, ⊎_elim, List, [], ◌∷◌, ◌++◌, length, refl, sym, ◌∙◌, ap, subst, arith}
+use Rattle.std.proofs.Common.{◌≡◌, ℕ, suc, ◌<◌, ◌≤◌, ◌+◌, ◌*◌, ℤ, pos, ◌*ℤ◌, unsigned_abs, ◌⊎◌, ⊎_elim, List, [], ◌∷◌, ◌++◌, length, refl, sym, ◌∙◌, ap, subst, lit<, arith}
 use Rattle.std.specs.Prelude.{Option, Some, None, slice_get}
 use Rattle.std.proofs.Math.Nat.{eq-or-lt_of_le}
 use Rattle.ring_laws.specs.Solver.{variable, ◌⊠◌, entry_at}
@@ -50,7 +50,11 @@ own_number r = of_same r (fraction_of r) (fractions.same_refl (fraction_of r))
 -- POINTS AND NUMBERS OF A SKETCH
 pub point_found : (sketch : Sketch) (k : ℕ) (s : Position) → slice_get sketch.points.items k ≡ Some s → (placement_of sketch).point k ≡ point_at s
 unfolding placement_of
-point_found sketch k s e = ap (λ (o : Option Position). elim o [ None ↦ record { x = pos 0; y = pos 0; w = 1; positive = _ } | Some t ↦ point_at t ]) e
+point_found sketch k s e = go (slice_get sketch.points.items k) e
+  where
+    go : (o : Option Position) → o ≡ Some s → elim o [ None ↦ record { x = pos 0; y = pos 0; w = 1; positive = lit< tt } | Some t ↦ point_at t ] ≡ point_at s
+    go None q = cc
+    go (Some t) q = ap (λ (u : Option Position). elim u [ None ↦ point_at t | Some v ↦ point_at v ]) q
 
 pub position_found : (sketch : Sketch) (k : ℕ) (s : Position) → slice_get sketch.points.items k ≡ Some s → IsPosition s ((placement_of sketch).point k)
 position_found sketch k s e = subst (λ A. IsPosition s A) (sym (point_found sketch k s e)) (own_position s)
@@ -60,7 +64,7 @@ pub position_past : (sketch : Sketch) (k : ℕ) (s : Position) → slice_get ske
 unfolding placement_of whole
 position_past sketch k s e h v = go (slice_get sketch.points.items k) e
   where
-    go : (o : Option Position) → o ≡ None → IsPosition s (elim o [ None ↦ record { x = pos 0; y = pos 0; w = 1; positive = _ } | Some t ↦ point_at t ])
+    go : (o : Option Position) → o ≡ None → IsPosition s (elim o [ None ↦ record { x = pos 0; y = pos 0; w = 1; positive = lit< tt } | Some t ↦ point_at t ])
     go None q = record { x = record { crossed = h.crossed }; y = record { crossed = v.crossed } }
     go (Some t) q = cc
 
