@@ -1,6 +1,7 @@
 -- The triple of a position with the least denominator: the least common multiple of the denominators of its coordinates.
 use Rattle.std.proofs.Common.{◌≡◌, ℕ, zero, suc, ◌+◌, ◌*◌, ◌<◌, ◌≤◌, Bool, true, false, ℤ, pos, negsuc, ◌*ℤ◌, unsigned_abs, ◌⊎◌, inl, inr, ⊎_elim, [], ◌∷◌, refl, sym, ◌∙◌, ap, subst, mul-pos, arith}
-use Rattle.std.specs.Prelude.{◌/◌}
+use Rattle.std.specs.Prelude.{◌/◌, IfOk, IsErr, Result, Ok, Err}
+use Rattle.frac_laws.specs.declared.frac.FracTooLarge.{FracTooLarge}
 use Rattle.std.specs.Int.{◌∣◌, IsGcd}
 use Rattle.std.proofs.lemmas.Nat.Gcd.{IsGcd-swap, le_of_dvd}
 use Rattle.std.proofs.Math.Nat.{div-mul_cancel, dvd-mul_left, eq_of_mul-eq-mul_right, mul_comm, mul_assoc, le_antisymm}
@@ -204,3 +205,36 @@ module _ (at : Position) (g : ℕ) (h : IsGcd (unsigned_abs at.x.den) (unsigned_
       let s = least_once T least_at p.1 least_at_least (point_trans T (point_at at) least_at p.2 (flip_point _ _ least_at_same)) in
       ⊎_elim (λ q. a (subst IsPast s.x q))
       (λ (r : IsPast T.y ⊎ IsPast (pos T.w)). ⊎_elim (λ q. b (subst IsPast s.y q)) (λ q. c (subst (λ (i : ℕ). IsPast (pos i)) s.w q)) r) p.3
+
+  pub record Answers (r : Result Triple FracTooLarge) : Type 0 where
+    pub triple : IfOk r (λ t. IsTripleOf t (point_at at))
+    pub fits : IfOk r (λ t. IsTriplePast (point_at at) → ⊥)
+    pub past : IsErr r → IsTriplePast (point_at at)
+
+  -- what comes of the three products
+  pub triple_result : (r : Result Triple FracTooLarge) (left right : ℤ) → left ≡ pos (D' / g) → right ≡ pos (B' / g)
+      → IfOk r (λ t. (t.x ≡ at.x.num *ℤ left) × (t.y ≡ at.y.num *ℤ right) × (t.w ≡ at.x.den *ℤ left))
+      → IfOk r (λ t. IsPast (at.x.num *ℤ left) ⊎ (IsPast (at.y.num *ℤ right) ⊎ IsPast (at.x.den *ℤ left)) → ⊥)
+      → (IsErr r → IsPast (at.x.num *ℤ left) ⊎ (IsPast (at.y.num *ℤ right) ⊎ IsPast (at.x.den *ℤ left))) → Answers r
+  triple_result r left right a b made fits past =
+      let wide : at.x.den *ℤ left ≡ pos B' *ℤ pos (D' / g) = ap (λ (z : ℤ). z *ℤ left) at.x.positive ∙ ap (λ (z : ℤ). pos B' *ℤ z) a in
+      let X : at.x.num *ℤ left ≡ at.x.num *ℤ pos (D' / g) = ap (λ (z : ℤ). at.x.num *ℤ z) a in
+      let Y : at.y.num *ℤ right ≡ at.y.num *ℤ pos (B' / g) = ap (λ (z : ℤ). at.y.num *ℤ z) b in
+      go r made fits past wide X Y
+    where
+      abbrev Past : ℤ → ℤ → ℤ → Type 0
+      Past x y w = IsPast x ⊎ (IsPast y ⊎ IsPast w)
+
+      go : (r : Result Triple FracTooLarge) → IfOk r (λ t. (t.x ≡ at.x.num *ℤ left) × (t.y ≡ at.y.num *ℤ right) × (t.w ≡ at.x.den *ℤ left))
+          → IfOk r (λ t. Past (at.x.num *ℤ left) (at.y.num *ℤ right) (at.x.den *ℤ left) → ⊥) → (IsErr r → Past (at.x.num *ℤ left) (at.y.num *ℤ right) (at.x.den *ℤ left))
+          → at.x.den *ℤ left ≡ pos B' *ℤ pos (D' / g) → at.x.num *ℤ left ≡ at.x.num *ℤ pos (D' / g) → at.y.num *ℤ right ≡ at.y.num *ℤ pos (B' / g) → Answers r
+      go (Ok t) made fits past wide X Y = record {
+        triple = is_triple t (made.0 ∙ X) (made.1 ∙ Y) (made.2 ∙ wide);
+        fits = not_past (λ q. fits (inl (subst IsPast (sym X) q))) (λ q. fits (inr (inl (subst IsPast (sym Y) q)))) (λ q. fits (inr (inr (subst IsPast (sym wide) q))));
+        past = λ q. let z : false ≡ true = q in cc;
+      }
+      go (Err e) made fits past wide X Y = record {
+        triple = tt;
+        fits = tt;
+        past = λ q. is_past (⊎_elim (λ z. inl (subst IsPast X z)) (λ (z : IsPast (at.y.num *ℤ right) ⊎ IsPast (at.x.den *ℤ left)). inr (⊎_elim (λ y. inl (subst IsPast Y y)) (λ y. inr (subst IsPast wide y)) z)) (past q));
+      }

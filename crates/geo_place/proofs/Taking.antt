@@ -4,11 +4,12 @@ use Rattle.std.specs.Prelude.{◌≢◌, Option, Some, None, slice_get, take, dr
 use Rattle.std.specs.List.{AllByRecursion}
 use Rattle.std.proofs.Math.Nat.{eq-or-lt_of_le}
 use Rattle.std.proofs.lemmas.Bool.{cases_lt}
-use Rattle.std.proofs.lemmas.List.{drop-map, drop_at, length-append, length-take-le, take-map, take_at}
+use Rattle.std.proofs.lemmas.List.{drop-map, drop_at, length-append, length-map, length-take-le, take-map, take_at}
 use Rattle.geo_points.specs.Placements.{Placement, SamePlacement, SamePoint}
 use Rattle.geo_points.proofs.Same.{flip_point, point_trans}
 use Rattle.geo_terms.specs.Stores.{Store}
 use Rattle.geo_program.specs.declared.commands.Command.{Command}
+use Rattle.geo_program.specs.declared.names.NameKind.{NameKind}
 use Rattle.geo_program.specs.declared.names.NameKind.TheVariants as kind
 use Rattle.geo_program.specs.Names.{is_kind}
 use Rattle.geo_program.specs.WellFormed.{IsWellFormed, Source}
@@ -16,10 +17,11 @@ use Rattle.geo_lowering.specs.Counting.{counted, further, gathered, hidden, name
 use Rattle.geo_lowering.proofs.Values.{IsOver}
 use Rattle.geo_conditions.specs.Terms.{condition_term}
 use Rattle.geo_lowering.specs.Lowering.{layout_of, point_place, points_after, steps_of}
+use Rattle.geo_lowering.specs.StepForms.{StepForm, step_form}
 use Rattle.geo_lowering.proofs.ConditionValues.{each_append, each_back, each_front}
 use Rattle.geo_conditions.specs.declared.items.Item.{Item}
 use Rattle.geo_conditions.specs.declared.problem.Problem.{Problem}
-use Rattle.geo_conditions.specs.Lists.{Found, ItemForm, condition_item, item_form}
+use Rattle.geo_conditions.specs.Lists.{Found, IsListed, ItemForm, found_from, condition_item, item_form}
 use Rattle.geo_place.specs.declared.errors.PlaceError.{PlaceError}
 use Rattle.geo_place.specs.declared.errors.PlaceError.TheVariants.{NoMemory, TooLarge, Unmet}
 use Rattle.geo_place.specs.declared.evaluation.Progress.{Progress}
@@ -28,7 +30,7 @@ use Rattle.geo_place.specs.declared.sketch.Sketch.{Sketch}
 use Rattle.geo_place.specs.declared.triples.Triple.{Triple}
 use Rattle.geo_place.specs.Evaluation.{IsTooLarge, IsTriplePast, LineTurn, Passes, Turn, at_line, makes, turns_of, write}
 use Rattle.geo_place.specs.Inner.{FirstFails, IsItemMet, IsPassed, IsRun, IsSketchOf, IsTaken, IsTripleOf, IsTripleStop, Run, Stops, TellsTriple, placement_of, point_at}
-use Rattle.geo_place.proofs.CommandTurns.{E, K, L, Listed, W, after_at, all_pass, commands_are, early, early_stop, early_terms, laid, late, late_stop, late_terms, listed_here, long, make_stop, n, named_next, past_next, points_few, points_up, steps_here, write_stop, x}
+use Rattle.geo_place.proofs.CommandTurns.{E, K, L, Listed, W, after_at, all_pass, commands_are, early, early_stop, early_terms, laid, late, late_stop, late_terms, listed_here, long, make_stop, n, named_next, past_next, points_few, points_up, steps, steps_here, write_stop, x}
 use Rattle.geo_place.proofs.ListParts.{head_of, none_before, same_length, tail_of}
 use Rattle.geo_place.proofs.Sketches.{point_found}
 use Rattle.geo_lowering.proofs.Puts.{of_path}
@@ -62,6 +64,22 @@ part_holds P [] (y ∷ ys) zs zero a h l u e = subst P (ap (λ (o : Option _). e
 part_holds P [] (y ∷ ys) zs (suc i) a h l u e = part_holds P [] ys zs i a h.1 (omega arith) (omega arith) e
 part_holds P (x ∷ xs) ys zs zero a h l u e = absurd (omega arith)
 part_holds P (x ∷ xs) ys zs (suc i) a h l u e = part_holds P xs ys zs i a h (omega arith) (omega arith) e
+
+get_before : {A : Type 0} (xs ys : List A) (i : ℕ) → i < length xs → slice_get (xs ++ ys) i ≡ slice_get xs i
+get_before [] ys i l = absurd (omega arith)
+get_before (x ∷ xs) ys zero l = refl
+get_before (x ∷ xs) ys (suc i) l = get_before xs ys i (omega arith)
+
+get_behind : {A : Type 0} (xs : List A) (y : A) (i : ℕ) (a : A) → length xs ≤ i → slice_get (xs ++ y ∷ []) i ≡ Some a → (i ≡ length xs) × (y ≡ a)
+get_behind [] y zero a l e = (refl, ap (λ (o : Option _). elim o [ None ↦ y | Some z ↦ z ]) e)
+get_behind [] y (suc i) a l e = cc
+get_behind (x ∷ xs) y zero a l e = absurd (omega arith)
+get_behind (x ∷ xs) y (suc i) a l e = let r = get_behind xs y i a (omega arith) e in (ap suc r.0, r.1)
+
+kind_is : (g : NameKind) → is_kind g kind.Point ≡ true → g ≡ kind.Point
+kind_is kind.Point e = refl
+kind_is kind.Param e = cc
+kind_is kind.Line e = cc
 
 module _ (run : Run) (problem : Problem) (ints : List ℤ) (h : IsRun run problem ints) (k : ℕ) (c : Command) (at : slice_get run.program.commands k ≡ Some c)
     (old : Progress) (t : IsTaken run k old) where
@@ -208,3 +226,168 @@ module _ (run : Run) (problem : Problem) (ints : List ℤ) (h : IsRun run proble
         (tests_stop run old.sketch nodes N (length old.sketch.numbers.items) t.sketch.same (suc k) (early p w k c at) before_list first parts.early_listed t.held early_over items e
         (second ++ later) (parts.whole ∙ append_assoc (before_list ++ first) second later) h.listed error
         (subst (λ (i : ℕ). FirstFails old.sketch nodes items i error) (sym before_long) f))
+
+  -- THE STEPS
+  pub from_here : length old.sketch.points.items ≡ n p w k c at
+  from_here = t.points
+
+  pub step_turns : take (next_point (n p w k c at) c - length old.sketch.points.items) (drop (length old.sketch.points.items) (steps_of p)) ≡ steps p w k c at
+  step_turns = ap (λ (i : ℕ). take (next_point (n p w k c at) c - i) (drop i (steps_of p))) t.points ∙ steps_here p w k c at
+
+  make_line : at_line (suc k) (makes (length old.sketch.points.items) (take (next_point (n p w k c at) c - length old.sketch.points.items) (drop (length old.sketch.points.items) (steps_of p)))) ≡ K p w k c at
+  make_line =
+      ap (λ (fs : List StepForm). at_line (suc k) (makes (length old.sketch.points.items) fs)) step_turns ∙ ap (λ (i : ℕ). at_line (suc k) (makes i (steps p w k c at))) t.points
+
+  pub make_pass : AllByRecursion (Passes p run.placed) (at_line (suc k) (makes (length old.sketch.points.items) (take (next_point (n p w k c at) c - length old.sketch.points.items) (drop (length old.sketch.points.items) (steps_of p)))))
+      → AllByRecursion (Passes p run.placed) (K p w k c at)
+  make_pass h = subst (λ ts. AllByRecursion (Passes p run.placed) ts) make_line h
+
+  pub make_fail : (error : PlaceError) → AllByRecursion (Passes p run.placed) (E p w k c at)
+      → Stops run (at_line (suc k) (makes (length old.sketch.points.items) (take (next_point (n p w k c at) c - length old.sketch.points.items) (drop (length old.sketch.points.items) (steps_of p))))) error
+      → Stops run (turns_of p) error
+  make_fail error a s = make_stop p w k c at run.values run.placed run.conditions error t.passed a (subst (λ ts. Stops run ts error) make_line s)
+
+  -- how many points there are then
+  pub after_is : (a : ℕ) → slice_get problem.after k ≡ Some a → a ≡ next_point (n p w k c at) c
+  after_is a e =
+      let q : slice_get problem.after k ≡ Some (next_point (n p w k c at) c) = ap (λ (as : List ℕ). slice_get as k) h.lowered.after ∙ after_at 0 p.commands k c at in
+      ap (λ (o : Option ℕ). elim o [ None ↦ a | Some z ↦ z ]) (sym e ∙ q)
+
+  pub after_long : k < length problem.after
+  after_long = go problem.after k (ap (λ (as : List ℕ). slice_get as k) h.lowered.after ∙ after_at 0 p.commands k c at)
+    where
+      go : (xs : List ℕ) (i : ℕ) {a : ℕ} → slice_get xs i ≡ Some a → i < length xs
+      go [] i e = cc
+      go (y ∷ ys) zero e = omega arith
+      go (y ∷ ys) (suc i) e = let q : i < length ys = go ys i e in omega arith
+
+  steps_long : length problem.steps.steps ≡ length (steps_of p)
+  steps_long = sym (length-map problem.steps.steps (step_form nodes)) ∙ ap (λ (fs : List StepForm). length fs) h.lowered.steps
+
+  pub next_few : next_point (n p w k c at) c ≤ length problem.steps.steps
+  next_few = let a = points_few p w k c at in let b = steps_long in omega (arith, a, b)
+
+  pub next_up : length old.sketch.points.items ≤ next_point (n p w k c at) c
+  next_up = let a = points_up p w k c at in let b = t.points in omega (arith, a, b)
+
+  -- BEHIND THE STEPS
+  module _ (new : Sketch) (s : IsSketchOf run new) (made : length new.points.items ≡ next_point (n p w k c at) c) where
+    -- the point that the command names is the last
+    module _ (b : is_kind (named c) kind.Point ≡ true) where
+      next_is : next_point (n p w k c at) c ≡ suc (further (n p w k c at) (hidden c))
+      next_is = ap (λ (z : Bool). elim z [ true ↦ suc (further (n p w k c at) (hidden c)) | false ↦ further (n p w k c at) (hidden c) ]) b
+
+      pub last_is : length new.points.items - 1 ≡ further (n p w k c at) (hidden c)
+      last_is = let a = next_is in omega (arith, a, made)
+
+      pub some_point : 1 ≤ length new.points.items
+      some_point = let a = next_is in omega (arith, a, made)
+
+      point_is : point_place p.commands (x p w k c at) ≡ further (n p w k c at) (hidden c)
+      point_is = (laid p w k c at).point (kind_is (named c) b)
+
+      write_line : W p w k c at ≡ record { line = suc k; turn = write (further (n p w k c at) (hidden c)) } ∷ []
+      write_line = ap (λ (z : Bool). at_line (suc k) (elim z [ true ↦ write (further (n p w k c at) (hidden c)) ∷ [] | false ↦ [] ])) b
+
+      module _ (q : Position) (e : slice_get new.points.items (length new.points.items - 1) ≡ Some q) where
+        there : SamePoint (point_at q) (run.placed.point (further (n p w k c at) (hidden c)))
+        there =
+            let f : slice_get new.points.items (further (n p w k c at) (hidden c)) ≡ Some q = subst (λ (i : ℕ). slice_get new.points.items i ≡ Some q) last_is e in
+            point_trans _ _ _ (of_path (sym (point_found new (further (n p w k c at) (hidden c)) q f)))
+            (s.same.same_points (further (n p w k c at) (hidden c)) (let a = next_is in omega (arith, a, made)))
+
+        pub write_pass : (IsTriplePast (point_at q) → ⊥) → AllByRecursion (Passes p run.placed) (W p w k c at)
+        write_pass f =
+            subst (λ ts. AllByRecursion (Passes p run.placed) ts) (sym write_line)
+            ((λ (z : IsTriplePast (run.placed.point (further (n p w k c at) (hidden c)))). f (z.0, z.1, point_trans _ _ _ z.2 (flip_point _ _ there), z.3), tt), tt)
+
+        pub triple_is : (u : Triple) → IsTripleOf u (point_at q) → IsTripleOf u (run.placed.point (point_place p.commands (x p w k c at)))
+        triple_is u z =
+            subst (λ (i : ℕ). IsTripleOf u (run.placed.point i)) (sym point_is) (record { told = z.told; x = z.x; y = z.y; w = z.w; least = z.least; same = point_trans _ _ _ z.same there })
+
+        pub write_fail : (error : PlaceError) → AllByRecursion (Passes p run.placed) (E p w k c at) → AllByRecursion (Passes p run.placed) (K p w k c at) → IsTripleStop q (suc k) error → Stops run (turns_of p) error
+        write_fail (Unmet j) a b' z = absurd z
+        write_fail NoMemory a b' z = tt
+        write_fail (TooLarge l) a b' z =
+            write_stop p w k c at run.values run.placed run.conditions (TooLarge l) t.passed a b'
+            (subst (λ ts. Stops run ts (TooLarge l)) (sym write_line)
+            (record {
+              before = [];
+              turn = record { line = suc k; turn = write (further (n p w k c at) (hidden c)) };
+              after = [];
+              parts = refl;
+              passed = tt;
+              stops = (sym z.0, (z.1.0, z.1.1, point_trans _ _ _ z.1.2 there, z.1.3));
+            }))
+
+    no_write : is_kind (named c) kind.Point ≡ false → AllByRecursion (Passes p run.placed) (W p w k c at)
+    no_write b = subst (λ ts. AllByRecursion (Passes p run.placed) ts) (sym (ap (λ (z : Bool). at_line (suc k) (elim z [ true ↦ write (further (n p w k c at) (hidden c)) ∷ [] | false ↦ [] ])) b)) tt
+
+    -- what is told of the command: the triple of its point, where it names one
+    pub record IsTold (told : List Triple) : Type 0 where
+      pub written : AllByRecursion (Passes p run.placed) (W p w k c at)
+      pub long : length told ≡ counted kind.Point (named c) (x p w k c at)
+      pub triples : (a : ℕ) (u : Triple) → slice_get told a ≡ Some u → IsTripleOf u (run.placed.point (point_place p.commands a))
+
+    pub told_none : is_kind (named c) kind.Point ≡ false → IsTold old.triples.items
+    told_none b = record {
+      written = no_write b;
+      long = t.told ∙ sym (ap (λ (z : Bool). elim z [ true ↦ suc (x p w k c at) | false ↦ x p w k c at ]) b);
+      triples = t.triples;
+    }
+
+    pub told_one : (b : is_kind (named c) kind.Point ≡ true) (q : Position) → slice_get new.points.items (length new.points.items - 1) ≡ Some q
+        → (told : List Triple) → TellsTriple old.triples.items told q → IsTold told
+    told_one b q e told z = record {
+      written = write_pass b q e z.fits;
+      long = ap (λ (us : List Triple). length us) z.pushed ∙ length-append old.triples.items (z.triple ∷ []) ∙ (let r : length old.triples.items + 1 ≡ suc (x p w k c at) = let v = t.told in omega (arith, v) in r)
+          ∙ sym (ap (λ (y : Bool). elim y [ true ↦ suc (x p w k c at) | false ↦ x p w k c at ]) b);
+      triples = λ a u f. pushed_triple a u (subst (λ (us : List Triple). slice_get us a ≡ Some u) z.pushed f);
+    }
+      where
+        pushed_triple : (a : ℕ) (u : Triple) → slice_get (old.triples.items ++ z.triple ∷ []) a ≡ Some u → IsTripleOf u (run.placed.point (point_place p.commands a))
+        pushed_triple a u f =
+            ⊎_elim (λ (l : a < length old.triples.items). t.triples a u (sym (get_before old.triples.items (z.triple ∷ []) a l) ∙ f))
+            (λ (l : length old.triples.items ≤ a).
+            let r = get_behind old.triples.items z.triple a u l f in
+            subst (λ (i : ℕ). IsTripleOf u (run.placed.point (point_place p.commands i))) (sym (r.0 ∙ t.told)) (triple_is b q e u (subst (λ (v : Triple). IsTripleOf v (point_at q)) r.1 z.is)))
+            (cases_lt a (length old.triples.items))
+
+    -- TESTS BEHIND THE STEPS
+    late_over : AllByRecursion (λ d. IsOver (length new.points.items) (length new.numbers.items) (condition_term (layout_of p.commands) d)) (late p w k c at)
+    late_over =
+        subst (λ (i : ℕ). AllByRecursion (λ d. IsOver i (length new.numbers.items) (condition_term (layout_of p.commands) d)) (late p w k c at)) (sym made)
+        (subst (λ (j : ℕ). AllByRecursion (λ d. IsOver (next_point (n p w k c at) c) j (condition_term (layout_of p.commands) d)) (late p w k c at)) (sym s.numbers) (late_terms p w k c at run.placed))
+
+    module _ (items : List Item) (e : map (item_form nodes) items ≡ map (condition_item p) second) (held : AllByRecursion (λ f. IsPassed run f.condition) (before_list ++ first)) where
+      late_held : AllByRecursion (IsItemMet new nodes) items → AllByRecursion (λ f. IsPassed run f.condition) ((before_list ++ first) ++ second)
+      late_held m = tests_held run new nodes (length new.points.items) (length new.numbers.items) s.same (suc k) (late p w k c at) (before_list ++ first) second parts.late_listed held late_over items e m
+
+      late_pass : AllByRecursion (IsItemMet new nodes) items → AllByRecursion (Passes p run.placed) (L p w k c at)
+      late_pass m = tests_pass run new nodes (length new.points.items) (length new.numbers.items) s.same (suc k) (late p w k c at) (before_list ++ first) second parts.late_listed held late_over items e m
+
+      pub late_fail : (error : PlaceError) → AllByRecursion (Passes p run.placed) (E p w k c at) → AllByRecursion (Passes p run.placed) (K p w k c at) → AllByRecursion (Passes p run.placed) (W p w k c at)
+          → FirstFails new nodes items middle error → Stops run (turns_of p) error
+      late_fail error a b d f =
+          late_stop p w k c at run.values run.placed run.conditions error t.passed a b d
+          (tests_stop run new nodes (length new.points.items) (length new.numbers.items) s.same (suc k) (late p w k c at) (before_list ++ first) second parts.late_listed held late_over items e
+          later parts.whole h.listed error
+          (subst (λ (i : ℕ). FirstFails new nodes items i error) (let q = before_long in let r = length-append before_list first in let v : middle ≡ length (before_list ++ first) = omega (arith, q, r) in v) f))
+
+      -- all is done for the command
+      pub taken_next : (told : List Triple) → IsTold told → AllByRecursion (Passes p run.placed) (E p w k c at) → AllByRecursion (Passes p run.placed) (K p w k c at)
+          → AllByRecursion (IsItemMet new nodes) items → (progress : Progress) → progress.sketch ≡ new → progress.tested ≡ count → progress.triples.items ≡ told → IsTaken run (suc k) progress
+      taken_next told v a b m progress ps pt pu =
+          let lists : take progress.tested run.conditions ≡ (before_list ++ first) ++ second =
+          ap (λ (i : ℕ). take i run.conditions) pt ∙ ap (λ (fs : List Found). take count fs) parts.whole
+          ∙ take_at ((before_list ++ first) ++ second) later count (let q = before_long in let r = length-append before_list first in let u = length-append (before_list ++ first) second in omega (arith, q, r, u)) in
+          record {
+            sketch = subst (λ (z : Sketch). IsSketchOf run z) (sym ps) s;
+            points = ap (λ (z : Sketch). length z.points.items) ps ∙ made ∙ sym (past_next p w k c at);
+            tested = let q = count_few in omega (arith, pt, q);
+            listed = subst (λ (fs : List Found). IsListed (λ f. f.condition) [] (found_from p.nodes 0 1 (take (suc k) p.commands)) fs) (sym lists) parts.next;
+            held = subst (λ (fs : List Found). AllByRecursion (λ f. IsPassed run f.condition) fs) (sym lists) (late_held m);
+            told = ap (λ (us : List Triple). length us) pu ∙ v.long ∙ sym (named_next p w k c at);
+            triples = λ i u f. v.triples i u (subst (λ (us : List Triple). slice_get us i ≡ Some u) pu f);
+            passed = all_pass p w k c at run.values run.placed run.conditions t.passed a b v.written (late_pass m);
+          }

@@ -1,9 +1,12 @@
 //! The conditions and the goals of a program, tested at the points that are placed so far.
 
-ghost use Rattle.std.specs.Prelude.{◌≡◌, ◌≢◌, ◌<◌, ◌≤◌, ◌+◌, ◌^◌, ◌⊎◌, ℕ, All, IfErr, OnOk};
+ghost use Rattle.std.specs.Prelude.{◌≡◌, ◌≢◌, ◌<◌, ◌≤◌, ◌+◌, ◌^◌, ◌⊎◌, ℕ, All, IfErr, IfOk, OnOk};
 ghost use Rattle.std.specs.Prelude.{Some, length, slice_get};
 ghost use Rattle.std.specs.List.{AllByRecursion};
-ghost use Rattle.geo_place.specs.Inner.{FailsItem, FirstFails, GoalsCome, IsItemMet};
+ghost use Rattle.std.specs.Bool.{MatchBool};
+ghost use Rattle.geo_place.specs.Inner.{FailsItem, FirstFails, GoalsCome, IsItemMet, IsItemNull};
+ghost use Rattle.geo_place.specs.Inner.{item_reckoned};
+ghost use Rattle.geo_place.specs.Reckonings.{IsRefused};
 
 use crate::errors::PlaceError;
 use crate::sketch::Sketch;
@@ -34,9 +37,14 @@ fn test_condition(
     ensures fails { IfErr result (FailsItem sketch.now terms.now item.now (number + 1)) }
 {
     match sketch.term(terms, item.term) {
+        Ok(value) => {
+            if value.num == 0 {
+                Err(unmet(number))
+            } else {
+                Ok(())
+            }
+        }
         Err(_) => Err(PlaceError::TooLarge { line: item.line }),
-        Ok(value) if value.num != 0 => Ok(()),
-        Ok(_) => Err(unmet(number)),
     }
 }
 
@@ -74,16 +82,28 @@ pub fn conditions_through(conditions: &[Item], before: usize, line: u64) -> usiz
     end
 }
 
+/// Whether the goal is 0.
+fn is_null(sketch: &Sketch, terms: &Terms, goal: &Item) -> Result<bool, PlaceError>
+    requires { goal.now.term.0 < length terms.now }
+    ensures null { IfOk result (λ b. MatchBool b (IsItemNull sketch.now terms.now goal.now)
+        (IsItemMet sketch.now terms.now goal.now)) }
+    ensures refused { IfErr result (λ e. (e ≡ PlaceError.TooLarge goal.now.line)
+        × IsRefused (item_reckoned sketch.now terms.now goal.now)) }
+{
+    match sketch.term(terms, goal.term) {
+        Ok(value) => Ok(value.num == 0),
+        Err(_) => Err(PlaceError::TooLarge { line: goal.line }),
+    }
+}
+
 /// Whether all goals are 0. They are reckoned in order, up to the first that is not.
 pub fn all_hold(sketch: &Sketch, terms: &Terms, goals: &[Item]) -> Result<bool, PlaceError>
     requires stored { All (λ i. i.term.0 < length terms.now) goals.now }
     ensures { GoalsCome sketch.now terms.now goals.now result }
 {
     for item in goals {
-        match sketch.term(terms, item.term) {
-            Err(_) => return Err(PlaceError::TooLarge { line: item.line }),
-            Ok(value) if value.num != 0 => return Ok(false),
-            Ok(_) => {}
+        if !is_null(sketch, terms, item)? {
+            return Ok(false);
         }
     }
     Ok(true)

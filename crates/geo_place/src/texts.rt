@@ -1,6 +1,7 @@
 //! Placed points as text.
 
-ghost use Rattle.std.specs.Prelude.{◌≡◌, ◌++◌, IfOk, OnOk};
+ghost use Rattle.std.specs.Prelude.{◌≡◌, ◌∷◌, ◌++◌, IfOk, OnOk};
+ghost use Rattle.std.specs.Fmt.{signed_decimal};
 ghost use Rattle.geo_place.specs.Placing.{at_text, text_of};
 
 use crate::placed::{At, Placed};
@@ -9,12 +10,11 @@ use geo_points::NoMemory;
 use std::alloc::Global;
 
 /// Appends a blank and a number.
-fn push_number(alloc: Global, out: &mut Vec<u8>, n: i128) -> Result<(), NoMemory> {
+fn push_number(alloc: Global, out: &mut Vec<u8>, n: i128) -> Result<(), NoMemory>
+    ensures { OnOk result (out.new.items ≡ out.old.items ++ 32 ∷ signed_decimal n) }
+{
     out.push(b' ')?;
-    match push_decimal(alloc, out, n) {
-        Ok(()) => Ok(()),
-        Err(_) => Err(NoMemory),
-    }
+    push_decimal(alloc, out, n).map_err(|_| NoMemory)
 }
 
 /// Appends the line of a point.

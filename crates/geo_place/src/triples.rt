@@ -1,6 +1,6 @@
 //! Points as triples of whole numbers.
 
-ghost use Rattle.std.specs.Prelude.{◌≡◌, ◌<◌, ◌≤◌, ◌^◌, ◌/◌, ◌*ℤ◌, IfOk, IsErr, pos, unsigned_abs};
+ghost use Rattle.std.specs.Prelude.{◌≡◌, ◌<◌, ◌≤◌, ◌^◌, ◌/◌, ◌*ℤ◌, ◌⊎◌, IfOk, IsErr, pos, unsigned_abs};
 ghost use Rattle.frac_laws.specs.Lowest.{IsPast};
 ghost use Rattle.geo_points.specs.Points.{Point};
 ghost use Rattle.geo_place.specs.Evaluation.{IsTriplePast};
@@ -41,6 +41,22 @@ fn quotient(e: i128, g: i128) -> i128
     (e.unsigned_abs() / g.unsigned_abs()) as i128
 }
 
+/// The triple `(x left, y right, w left)`.
+fn times(x: i128, y: i128, w: i128, left: i128, right: i128) -> Result<Triple, FracTooLarge>
+    ensures triple { IfOk result (λ t.
+        (t.x ≡ x *ℤ left) × (t.y ≡ y *ℤ right) × (t.w ≡ w *ℤ left)) }
+    ensures fits { IfOk result (λ t.
+        IsPast (x *ℤ left) ⊎ (IsPast (y *ℤ right) ⊎ IsPast (w *ℤ left)) → ⊥) }
+    ensures past { IsErr result →
+        IsPast (x *ℤ left) ⊎ (IsPast (y *ℤ right) ⊎ IsPast (w *ℤ left)) }
+{
+    Ok(Triple {
+        x: product(x, left)?,
+        y: product(y, right)?,
+        w: product(w, left)?,
+    })
+}
+
 /// The triple of a position, over the least common multiple of its two denominators.
 pub fn triple_of(at: &Position) -> Result<Triple, FracTooLarge>
     ensures triple { IfOk result (λ t. IsTripleOf t (point_at at.now)) }
@@ -48,9 +64,7 @@ pub fn triple_of(at: &Position) -> Result<Triple, FracTooLarge>
     ensures past { IsErr result → IsTriplePast (point_at at.now) }
 {
     let common = gcd(at.x.den, at.y.den);
-    let (left, right) = (quotient(at.y.den, common), quotient(at.x.den, common));
-    let x = product(at.x.num, left)?;
-    let y = product(at.y.num, right)?;
-    let w = product(at.x.den, left)?;
-    Ok(Triple { x, y, w })
+    let left = quotient(at.y.den, common);
+    let right = quotient(at.x.den, common);
+    times(at.x.num, at.y.num, at.x.den, left, right)
 }
