@@ -73,8 +73,8 @@ found_append nodes (b ∷ bs) cs x line =
     ∙ sym (append_assoc here (found_from nodes x' (suc line) bs) (last (suc line + length bs)))
     ∙ ap (λ (l : ℕ). here ++ found_from nodes x' (suc line) bs ++ last l) q
 
-found_line_append : (line : ℕ) (as bs : List Condition) → found_at line (as ++ bs) ≡ found_at line as ++ found_at line bs
-found_line_append line as bs = map-append (λ (c : Condition). record { condition = c; line = line }) as bs
+found_line_append : (line : ℕ) (cs ds : List Condition) → found_at line (cs ++ ds) ≡ found_at line cs ++ found_at line ds
+found_line_append line cs ds = map-append (λ (c : Condition). record { condition = c; line = line }) cs ds
 
 named_front : (nodes : Store) (bs cs : List Command) (x y j : ℕ) → AreNamed nodes x y j (bs ++ cs) → AreNamed nodes x y j bs
 named_front nodes [] cs x y j h = tt
@@ -244,13 +244,13 @@ module _ (p : Source) (w : IsWellFormed p) (k : ℕ) (c : Command) (at : slice_g
   last_line : ℕ
   last_line = suc (length p.commands)
 
-  others : List LineTurn
+  abbrev others : List LineTurn
   others = turns_from p (suc line) (counted kind.Point (named c) x) (next_point n c) (next_number m c) rest
 
-  statement_turns : List LineTurn
+  abbrev statement_turns : List LineTurn
   statement_turns = at_line (suc (length p.commands)) (map test (statement_conditions p.nodes p.statement))
 
-  goal_turns : List LineTurn
+  abbrev goal_turns : List LineTurn
   goal_turns = at_line (suc (length p.commands)) (map judge (statement_goals p.nodes p.statement))
 
   commands_turns : turns_from p 1 0 0 0 p.commands ≡ done ++ ((E ++ K ++ W ++ L) ++ others)
@@ -338,7 +338,7 @@ module _ (p : Source) (w : IsWellFormed p) (k : ℕ) (c : Command) (at : slice_g
         (each_back (IsConditionOver X Y J) early late (command_over p.nodes x y j c names))
 
   -- STEPS
-  steps_before : List StepForm
+  abbrev steps_before : List StepForm
   steps_before = steps_from l p.nodes 0 0 before
 
   steps_are : steps_of p ≡ steps_before ++ (steps ++ steps_from l p.nodes (next_point n c) (next_number m c) rest)
@@ -374,10 +374,10 @@ module _ (p : Source) (w : IsWellFormed p) (k : ℕ) (c : Command) (at : slice_g
   named_next = ap (λ (cs : List Command). points_from 0 cs) before_next ∙ points_append 0 before (c ∷ [])
 
   -- CONDITIONS
-  found_before : List Found
+  abbrev found_before : List Found
   found_before = found_from p.nodes 0 1 before
 
-  found_later : List Found
+  abbrev found_later : List Found
   found_later = found_from p.nodes (counted kind.Point (named c) x) (suc line) rest ++ found_at (suc (length p.commands)) (statement_conditions p.nodes p.statement)
 
   found_parts : all_found p ≡ found_before ++ (found_at line early ++ (found_at line late ++ found_later))

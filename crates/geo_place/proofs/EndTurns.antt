@@ -171,10 +171,10 @@ module _ (p : Source) (w : IsWellFormed p) (v : ProgramValues) (placed : Placeme
 
       -- the first goal that is not 0
       module _ (Q : Item → Type 0) (h : StopsGoals sketch nodes items Q) where
-        at : Beside (item_form nodes) (goal_item p) h.before h.item goals
+        abbrev at : Beside (item_form nodes) (goal_item p) h.before h.item goals
         at = beside (item_form nodes) (goal_item p) h.before h.item h.after goals (subst (λ is. map (item_form nodes) is ≡ map (goal_item p) goals) h.parts e)
 
-        pub goal : Statement
+        abbrev pub goal : Statement
         goal = at.item
 
         pub goal_item_is : item_form nodes h.item ≡ goal_item p goal
@@ -189,7 +189,7 @@ module _ (p : Source) (w : IsWellFormed p) (v : ProgramValues) (placed : Placeme
             (subst (λ ss. IsListed (λ (s : Statement). s) [] (statement_goals p.nodes p.statement) ss) at.parts listed) tt
             (nulls_there h.before at.before at.same_before (each_front GoalOver at.before (at.item ∷ at.after) (subst (λ ss. AllByRecursion GoalOver ss) at.parts over)) h.null)
 
-        turn : LineTurn
+        abbrev turn : LineTurn
         turn = record { line = last; turn = judge goal }
 
         parts : turns_of p ≡ (command_part ++ test_part ++ at_line last (map judge first.before)) ++ turn ∷ at_line last (map judge first.after)

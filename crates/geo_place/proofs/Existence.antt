@@ -126,7 +126,7 @@ same_or_not (suc i) zero = inr (λ e. omega arith)
 same_or_not (suc i) (suc n) = ⊎_elim (λ (e : i ≡ n). inl (ap suc e)) (λ (d : i ≡ n → ⊥). inr (λ e. d (omega arith))) (same_or_not i n)
 
 -- the point of these reckonings
-spot_point : Spot → Point
+abbrev spot_point : Spot → Point
 spot_point s = (least_exists (point_exists (number s.x) (number s.y)).0).0
 
 spot_least : (s : Spot) → IsLeast (spot_point s)
@@ -142,7 +142,7 @@ whole_least : (xy : ℤ × ℤ) → IsLeast (whole_point xy)
 whole_least xy = record { least = λ A s. A.positive }
 
 -- the point that a step makes; a free point is the first of the values that are left
-made_at : Placement → ℕ → StepForm → List (ℤ × ℤ) → Point
+abbrev made_at : Placement → ℕ → StepForm → List (ℤ × ℤ) → Point
 made_at placed n free [] = whole_point (pos 0, pos 0)
 made_at placed n free (xy ∷ xys) = whole_point xy
 made_at placed n (crossing_of u v p q) xys = spot_point (step_spot placed n (crossing_of u v p q))
@@ -151,7 +151,7 @@ made_at placed n (along w u v r) xys = spot_point (step_spot placed n (along w u
 made_at placed n (turned_along u v r) xys = spot_point (step_spot placed n (turned_along u v r))
 
 -- the values that are left then
-left_over : StepForm → List (ℤ × ℤ) → List (ℤ × ℤ)
+abbrev left_over : StepForm → List (ℤ × ℤ) → List (ℤ × ℤ)
 left_over free [] = []
 left_over free (xy ∷ xys) = xys
 left_over (crossing_of u v p q) xys = xys
@@ -164,7 +164,7 @@ module _ (numbers : ℕ → Fraction) where
   with_points f = record { point = f; number = numbers }
 
   -- f, and the points of the steps from n on
-  laid_out : (ℕ → Point) → ℕ → List StepForm → List (ℤ × ℤ) → ℕ → Point
+  abbrev laid_out : (ℕ → Point) → ℕ → List StepForm → List (ℤ × ℤ) → ℕ → Point
   laid_out f n [] xys = f
   laid_out f n (s ∷ fs) xys = laid_out (put f n (made_at (with_points f) n s xys)) (suc n) fs (left_over s xys)
 
@@ -241,7 +241,7 @@ module _ (numbers : ℕ → Fraction) where
 
 -- THE PLACEMENT
 -- the points that the values give, and their numbers
-pub reckoned_placement : Source → ProgramValues → Placement
+abbrev pub reckoned_placement : Source → ProgramValues → Placement
 reckoned_placement p v =
     let numbers : ℕ → Fraction = λ k. whole (slice_index_or v.numbers k (pos 0)) in
     record { point = laid_out numbers (λ k. whole_point (pos 0, pos 0)) 0 (steps_of p) v.coordinates; number = numbers }
@@ -264,7 +264,7 @@ placement_reckoned p w v a b =
             ap (λ (xs : List ℕ). slice_index_or xs k 0) places ∙ get_or-map (point_place p.commands) frees k 0 0 c in
             of_path (subst (λ i. laid_out numbers start 0 (steps_of p) v.coordinates i ≡ whole_point (slice_index_or v.coordinates k (pos 0, pos 0))) at
             (frees_laid numbers (steps_of p) start 0 v.coordinates k (omega (arith, c, wide)) lt));
-        same_numbers = λ k lt. fractions.same_refl _;
+        same_numbers = λ k lt. fractions.same_refl (numbers k);
       };
       points = all_at numbers (numbers_had p.commands) (steps_of p) start 0 v.coordinates (program_over p w);
     }

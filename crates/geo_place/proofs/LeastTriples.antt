@@ -206,6 +206,9 @@ module _ (at : Position) (g : ℕ) (h : IsGcd (unsigned_abs at.x.den) (unsigned_
       ⊎_elim (λ q. a (subst IsPast s.x q))
       (λ (r : IsPast T.y ⊎ IsPast (pos T.w)). ⊎_elim (λ q. b (subst IsPast s.y q)) (λ q. c (subst (λ (i : ℕ). IsPast (pos i)) s.w q)) r) p.3
 
+  abbrev Past : ℤ → ℤ → ℤ → Type 0
+  Past x y w = IsPast x ⊎ (IsPast y ⊎ IsPast w)
+
   pub record Answers (r : Result Triple FracTooLarge) : Type 0 where
     pub triple : IfOk r (λ t. IsTripleOf t (point_at at))
     pub fits : IfOk r (λ t. IsTriplePast (point_at at) → ⊥)
@@ -222,9 +225,6 @@ module _ (at : Position) (g : ℕ) (h : IsGcd (unsigned_abs at.x.den) (unsigned_
       let Y : at.y.num *ℤ right ≡ at.y.num *ℤ pos (B' / g) = ap (λ (z : ℤ). at.y.num *ℤ z) b in
       go r made fits past wide X Y
     where
-      abbrev Past : ℤ → ℤ → ℤ → Type 0
-      Past x y w = IsPast x ⊎ (IsPast y ⊎ IsPast w)
-
       go : (r : Result Triple FracTooLarge) → IfOk r (λ t. (t.x ≡ at.x.num *ℤ left) × (t.y ≡ at.y.num *ℤ right) × (t.w ≡ at.x.den *ℤ left))
           → IfOk r (λ t. Past (at.x.num *ℤ left) (at.y.num *ℤ right) (at.x.den *ℤ left) → ⊥) → (IsErr r → Past (at.x.num *ℤ left) (at.y.num *ℤ right) (at.x.den *ℤ left))
           → at.x.den *ℤ left ≡ pos B' *ℤ pos (D' / g) → at.x.num *ℤ left ≡ at.x.num *ℤ pos (D' / g) → at.y.num *ℤ right ≡ at.y.num *ℤ pos (B' / g) → Answers r

@@ -91,7 +91,7 @@ over_place n m (g ∷ fs) (suc i) f h e =
 
 -- FREE POINTS
 -- whether the step leaves its point free
-pub is_free_step : StepForm → Bool
+abbrev pub is_free_step : StepForm → Bool
 is_free_step free = true
 is_free_step (crossing_of u v p q) = false
 is_free_step (foot_of p u v) = false
@@ -169,7 +169,7 @@ module _ (run : Run) (old new : Sketch) (s : Position) (f : StepForm) (points : 
       go (along w u v r) = refl
       go (turned_along u v r) = refl
 
-  front : List StepForm
+  abbrev front : List StepForm
   front = take n (steps_of run.program)
 
   free_now : new.free ≡ length (free_places 0 (take (length new.points.items) (steps_of run.program)))

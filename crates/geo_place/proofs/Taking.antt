@@ -250,11 +250,11 @@ module _ (run : Run) (problem : Problem) (ints : List ℤ) (h : IsRun run proble
   -- how many points there are then
   pub after_is : (a : ℕ) → slice_get problem.after k ≡ Some a → a ≡ next_point (n p w k c at) c
   after_is a e =
-      let q : slice_get problem.after k ≡ Some (next_point (n p w k c at) c) = ap (λ (as : List ℕ). slice_get as k) h.lowered.after ∙ after_at 0 p.commands k c at in
+      let q : slice_get problem.after k ≡ Some (next_point (n p w k c at) c) = ap (λ (ns : List ℕ). slice_get ns k) h.lowered.after ∙ after_at 0 p.commands k c at in
       ap (λ (o : Option ℕ). elim o [ None ↦ a | Some z ↦ z ]) (sym e ∙ q)
 
   pub after_long : k < length problem.after
-  after_long = go problem.after k (ap (λ (as : List ℕ). slice_get as k) h.lowered.after ∙ after_at 0 p.commands k c at)
+  after_long = go problem.after k (ap (λ (ns : List ℕ). slice_get ns k) h.lowered.after ∙ after_at 0 p.commands k c at)
     where
       go : (xs : List ℕ) (i : ℕ) {a : ℕ} → slice_get xs i ≡ Some a → i < length xs
       go [] i e = cc

@@ -112,7 +112,7 @@ module _ (run : Run) where
       module _ (later : List Found) (all : run.conditions ≡ (old ++ more) ++ later) (listed : AreConditions run.program run.conditions) where
         stop_at : (item : Item) (b : List Found) (f : Found) (a : List Found) (k : ℕ) → more ≡ b ++ f ∷ a → item_form nodes item ≡ condition_item run.program f → FoundOver f
             → k ≡ suc (length (old ++ b)) → (error : PlaceError) → FailsItem sketch nodes item k error → (error ≡ NoMemory → ⊥) → StopsAt run (found_turn f) error
-        stop_at item b f a k parts same o place (Unmet j) h n =
+        stop_at item b f a k parts same o place (Unmet j) h d =
             let t = condition_term (layout_of run.program.commands) f.condition in
             let q = subst (λ u. (IsRefused (reckoned (placement_of sketch) u) → ⊥) × Same (number (reckoned (placement_of sketch) u)) (whole (pos 0))) (term_is item f same) h.1 in
             let split : run.conditions ≡ (old ++ b) ++ f ∷ (a ++ later) =
@@ -123,15 +123,15 @@ module _ (run : Run) where
               λ x. q.0 (refused_here n m (placement_of sketch) run.placed g t o x),
               λ x. not_same _ x (fractions.same_trans _ _ _ (fractions.same_sym _ _ (same_there n m (placement_of sketch) run.placed g t o)) q.1),
             )
-        stop_at item b f a k parts same o place (TooLarge line') h n =
+        stop_at item b f a k parts same o place (TooLarge line') h d =
             let t = condition_term (layout_of run.program.commands) f.condition in (
               ap (λ (i : ItemForm). i.line) (sym same) ∙ sym h.0,
               refused_there n m (placement_of sketch) run.placed g t o (subst (λ u. IsRefused (reckoned (placement_of sketch) u)) (term_is item f same) h.1),
             )
-        stop_at item b f a k parts same o place NoMemory h n = absurd (n refl)
+        stop_at item b f a k parts same o place NoMemory h d = absurd (d refl)
 
         stop_found : (error : PlaceError) → FirstFails sketch nodes items (length old) error → (error ≡ NoMemory → ⊥) → Stop run (at_line line (map test cs)) error
-        stop_found error h n =
+        stop_found error h d =
             let s = beside (item_form nodes) (condition_item run.program) h.before h.item h.after more (subst (λ is. map (item_form nodes) is ≡ map (condition_item run.program) more) h.parts e) in
             let over = subst (λ fs. AllByRecursion FoundOver fs) s.parts more_over in
             let b = items_pass h.before s.before s.same_before (each_front FoundOver s.before (s.item ∷ s.after) over) h.met in
@@ -144,7 +144,7 @@ module _ (run : Run) where
               after = map found_turn first.after;
               parts = tests_found line cs ∙ ap (λ (fs : List Found). map found_turn fs) first.parts ∙ map-append found_turn first.before (s.item ∷ first.after);
               passed = found_pass first.before first.good;
-              stops = stop_at h.item s.before s.item s.after (suc (length old + length h.before)) s.parts s.same (each_back FoundOver s.before (s.item ∷ s.after) over).0 long error h.fails n;
+              stops = stop_at h.item s.before s.item s.after (suc (length old + length h.before)) s.parts s.same (each_back FoundOver s.before (s.item ∷ s.after) over).0 long error h.fails d;
             }
 
         pub tests_stop : (error : PlaceError) → FirstFails sketch nodes items (length old) error → Stops run (at_line line (map test cs)) error

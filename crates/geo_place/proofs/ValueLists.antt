@@ -16,8 +16,8 @@ frees_counted x [] = refl
 frees_counted x (c ∷ cs) = go (is_free c) (frees_counted (counted kind.Point (named c) x) cs)
   where
     go : (b : Bool) → length (free_points (counted kind.Point (named c) x) cs) ≡ length (filter is_free cs)
-        → length (elim b [ true ↦ x ∷ free_points (counted kind.Point (named c) x) cs | false ↦ free_points (counted kind.Point (named c) x) cs ])
-        ≡ length (if b then c ∷ filter is_free cs else filter is_free cs)
+        → length {A = ℕ} (elim b [ true ↦ x ∷ free_points (counted kind.Point (named c) x) cs | false ↦ free_points (counted kind.Point (named c) x) cs ])
+        ≡ length {A = Command} (if b then c ∷ filter is_free cs else filter is_free cs)
     go true e = ap suc e
     go false e = e
 
@@ -25,9 +25,17 @@ pub numbers_counted : (m : ℕ) (cs : List Command) → numbers_from m cs ≡ m 
 numbers_counted m [] = omega arith
 numbers_counted m (c ∷ cs) = numbers_counted (next_number m c) cs ∙ go (has_number c)
   where
-    go : (b : Bool) → elim b [ true ↦ suc m | false ↦ m ] + length (filter has_number cs) ≡ m + length (if b then c ∷ filter has_number cs else filter has_number cs)
+    go : (b : Bool) → elim b [ true ↦ suc m | false ↦ m ] + length (filter has_number cs) ≡ m + length {A = Command} (if b then c ∷ filter has_number cs else filter has_number cs)
     go true = omega arith
     go false = refl
+
+pub filter_few : {A : Type 0} (test : A → Bool) (xs : List A) → length (filter test xs) ≤ length xs
+filter_few test [] = omega arith
+filter_few {A} test (x ∷ xs) = go (test x) (filter_few test xs)
+  where
+    go : (b : Bool) → length (filter test xs) ≤ length xs → length {A = A} (if b then x ∷ filter test xs else filter test xs) ≤ suc (length xs)
+    go true h = omega arith
+    go false h = omega arith
 
 -- PLACES
 abbrev pub pairs : List (ℤ × ℤ) → List ℤ
@@ -59,7 +67,7 @@ numbers_behind (xy ∷ xys) more =
 
 -- TAKEN APART
 -- the first pairs of whole numbers
-pub pairs_of : ℕ → List ℤ → List (ℤ × ℤ)
+abbrev pub pairs_of : ℕ → List ℤ → List (ℤ × ℤ)
 pairs_of zero zs = []
 pairs_of (suc n) [] = []
 pairs_of (suc n) (a ∷ []) = []
@@ -79,7 +87,7 @@ pairs_parted [] more = refl
 pairs_parted (xy ∷ xys) more = ap (λ (ys : List (ℤ × ℤ)). (xy.0, xy.1) ∷ ys) (pairs_parted xys more)
 
 -- the values that whole numbers are to a program
-pub values_of : Source → List ℤ → ProgramValues
+abbrev pub values_of : Source → List ℤ → ProgramValues
 values_of p zs =
     let n = length (free_points 0 p.commands) in
     record { coordinates = pairs_of n zs; numbers = drop (2 * n) zs }

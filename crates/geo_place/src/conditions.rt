@@ -1,7 +1,7 @@
 //! The conditions and the goals of a program, tested at the points that are placed so far.
 
 ghost use Rattle.std.specs.Prelude.{◌≡◌, ◌≢◌, ◌<◌, ◌≤◌, ◌+◌, ◌^◌, ◌⊎◌, ℕ, All, IfErr, IfOk, OnOk};
-ghost use Rattle.std.specs.Prelude.{Some, length, slice_get};
+ghost use Rattle.std.specs.Prelude.{Some, length, pos, slice_get};
 ghost use Rattle.std.specs.List.{AllByRecursion};
 ghost use Rattle.std.specs.Bool.{MatchBool};
 ghost use Rattle.geo_place.specs.Inner.{FailsItem, FirstFails, GoalsCome, IsItemMet, IsItemNull};
@@ -10,6 +10,7 @@ ghost use Rattle.geo_place.specs.Reckonings.{IsRefused};
 
 use crate::errors::PlaceError;
 use crate::sketch::Sketch;
+use frac_laws::Frac;
 use geo_conditions::Item;
 use geo_terms::Terms;
 
@@ -25,6 +26,13 @@ fn unmet(number: usize) -> PlaceError
     }
 }
 
+/// Whether the number is 0.
+fn is_zero(value: &Frac) -> bool
+    ensures { MatchBool result (value.now.num ≡ pos 0) (value.now.num ≢ pos 0) }
+{
+    value.num == 0
+}
+
 /// Tests the condition of this number, counted from 0.
 fn test_condition(
     sketch: &Sketch,
@@ -38,11 +46,10 @@ fn test_condition(
 {
     match sketch.term(terms, item.term) {
         Ok(value) => {
-            if value.num == 0 {
-                Err(unmet(number))
-            } else {
-                Ok(())
+            if is_zero(&value) {
+                return Err(unmet(number));
             }
+            Ok(())
         }
         Err(_) => Err(PlaceError::TooLarge { line: item.line }),
     }
@@ -91,7 +98,7 @@ fn is_null(sketch: &Sketch, terms: &Terms, goal: &Item) -> Result<bool, PlaceErr
         × IsRefused (item_reckoned sketch.now terms.now goal.now)) }
 {
     match sketch.term(terms, goal.term) {
-        Ok(value) => Ok(value.num == 0),
+        Ok(value) => Ok(is_zero(&value)),
         Err(_) => Err(PlaceError::TooLarge { line: goal.line }),
     }
 }
