@@ -238,3 +238,15 @@ module _ (at : Position) (g : ℕ) (h : IsGcd (unsigned_abs at.x.den) (unsigned_
         fits = tt;
         past = λ q. is_past (⊎_elim (λ z. inl (subst IsPast X z)) (λ (z : IsPast (at.y.num *ℤ right) ⊎ IsPast (at.x.den *ℤ left)). inr (⊎_elim (λ y. inl (subst IsPast Y y)) (λ y. inr (subst IsPast wide y)) z)) (past q));
       }
+
+-- what comes of the products, at other numbers that are the same
+abbrev pub Times : Result Triple FracTooLarge → ℤ → ℤ → ℤ → ℤ → ℤ → Type 0
+Times r x y w left right =
+    IfOk r (λ t. (t.x ≡ x *ℤ left) × (t.y ≡ y *ℤ right) × (t.w ≡ w *ℤ left))
+    × IfOk r (λ t. IsPast (x *ℤ left) ⊎ (IsPast (y *ℤ right) ⊎ IsPast (w *ℤ left)) → ⊥)
+    × (IsErr r → IsPast (x *ℤ left) ⊎ (IsPast (y *ℤ right) ⊎ IsPast (w *ℤ left)))
+
+pub times_moved : (r : Result Triple FracTooLarge) (x x' y y' w w' l l' k k' : ℤ) → x ≡ x' → y ≡ y' → w ≡ w' → l ≡ l' → k ≡ k' → Times r x y w l k → Times r x' y' w' l' k'
+times_moved r x x' y y' w w' l l' k k' a b c d e h =
+    subst (λ (z : ℤ). Times r x' y' w' l' z) e
+    (subst (λ (z : ℤ). Times r x' y' w' z k) d (subst (λ (z : ℤ). Times r x' y' z l k) c (subst (λ (z : ℤ). Times r x' z w l k) b (subst (λ (z : ℤ). Times r z y w l k) a h))))

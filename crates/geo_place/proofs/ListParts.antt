@@ -1,5 +1,6 @@
 -- Lists without repeats, part by part.
-use Rattle.std.proofs.Common.{◌≡◌, ℕ, zero, suc, ◌+◌, ◌<◌, ◌≤◌, ◌⊎◌, inl, inr, ⊎_elim, Contains, List, [], ◌∷◌, ◌++◌, length, map, refl, sym, ◌∙◌, ap, subst, append_assoc, append-nil, arith}
+use Rattle.std.proofs.Common.{◌≡◌, ℕ, zero, suc, ◌+◌, ◌<◌, ◌≤◌, ◌⊎◌, inl, inr, ⊎_elim, Contains, List, [], ◌∷◌, ◌++◌, length, get_or, map, refl, sym, ◌∙◌, ap, subst, append_assoc, append-nil, arith}
+use Rattle.std.specs.Prelude.{Option, Some, None, slice_get, slice_index_or, take, drop}
 use Rattle.std.specs.List.{AllByRecursion}
 use Rattle.std.proofs.lemmas.List.{append_cancel_left, length-append}
 use Rattle.geo_lowering.proofs.ConditionValues.{each_append, each_front}
@@ -115,3 +116,46 @@ same_length g h [] [] e = refl
 same_length g h [] (y ∷ ys) e = absurd (none_before [] (h y) (map h ys) (sym e))
 same_length g h (x ∷ xs) [] e = absurd (none_before [] (g x) (map g xs) e)
 same_length g h (x ∷ xs) (y ∷ ys) e = ap suc (same_length g h xs ys (tail_of e))
+
+-- PLACES
+pub got : {A : Type 0} (xs : List A) (k : ℕ) (x y : A) → x ≡ get_or xs k x → slice_get xs k ≡ Some y → x ≡ y
+got [] k x y e q = cc
+got (z ∷ zs) zero x y e q = e ∙ ap (λ (o : Option _). elim o [ None ↦ z | Some w ↦ w ]) q
+got (z ∷ zs) (suc k) x y e q = got zs k x y e q
+
+pub some_at : {A : Type 0} (xs : List A) (k : ℕ) (d : A) → k < length xs → slice_get xs k ≡ Some (slice_index_or xs k d)
+some_at [] k d l = absurd (omega arith)
+some_at (x ∷ xs) zero d l = refl
+some_at (x ∷ xs) (suc k) d l = some_at xs k d (omega arith)
+
+pub index_at : {A : Type 0} (xs : List A) (k : ℕ) (d x : A) → slice_get xs k ≡ Some x → slice_index_or xs k d ≡ x
+index_at [] k d x e = cc
+index_at (y ∷ ys) zero d x e = ap (λ (o : Option _). elim o [ None ↦ y | Some w ↦ w ]) e
+index_at (y ∷ ys) (suc k) d x e = index_at ys k d x e
+
+pub get_before : {A : Type 0} (xs ys : List A) (i : ℕ) → i < length xs → slice_get (xs ++ ys) i ≡ slice_get xs i
+get_before [] ys i l = absurd (omega arith)
+get_before (x ∷ xs) ys zero l = refl
+get_before (x ∷ xs) ys (suc i) l = get_before xs ys i (omega arith)
+
+pub get_behind : {A : Type 0} (xs : List A) (y : A) (i : ℕ) (a : A) → length xs ≤ i → slice_get (xs ++ y ∷ []) i ≡ Some a → (i ≡ length xs) × (y ≡ a)
+get_behind [] y zero a l e = (refl, ap (λ (o : Option _). elim o [ None ↦ y | Some z ↦ z ]) e)
+get_behind [] y (suc i) a l e = cc
+get_behind (x ∷ xs) y zero a l e = absurd (omega arith)
+get_behind (x ∷ xs) y (suc i) a l e = let r = get_behind xs y i a (omega arith) e in (ap suc r.0, r.1)
+
+pub taken_at : {A : Type 0} (xs : List A) (n m i : ℕ) → i < m → slice_get (take m (drop n xs)) i ≡ slice_get xs (n + i)
+taken_at xs n zero i l = absurd (omega arith)
+taken_at [] zero (suc m) i l = refl
+taken_at [] (suc n) (suc m) i l = refl
+taken_at (x ∷ xs) zero (suc m) zero l = refl
+taken_at (x ∷ xs) zero (suc m) (suc i) l =
+    let q : suc (0 + i) ≡ 0 + suc i = omega arith in
+    taken_at xs zero m i (omega arith) ∙ ap (λ (k : ℕ). slice_get (x ∷ xs) k) q
+taken_at (x ∷ xs) (suc n) (suc m) i l =
+    let q : suc (n + i) ≡ suc n + i = omega arith in
+    taken_at xs n (suc m) i l ∙ ap (λ (k : ℕ). slice_get (x ∷ xs) k) q
+
+pub take_zero : {A : Type 0} (xs : List A) → take 0 xs ≡ []
+take_zero [] = refl
+take_zero (x ∷ xs) = refl

@@ -1,7 +1,7 @@
 -- The next point of a sketch, against the run's placement.
 use Rattle.std.proofs.Common.{◌≡◌, ◌⊎◌, ⊎_elim, ℕ, zero, suc, ◌+◌, ◌*◌, ◌<◌, ◌≤◌, ℤ, pos, List, [], ◌∷◌, ◌++◌, length, map, refl, sym, ◌∙◌, ap, subst, arith}
 use Rattle.std.specs.Prelude.{IfErr, IfOk, OnOk, Option, Some, None, Result, Ok, Err, slice_get, slice_index_or, take}
-use Rattle.std.proofs.lemmas.List.{length-append, length-map, get_or-map}
+use Rattle.std.proofs.lemmas.List.{length-append, length-take-le, length-map, get_or-map}
 use Rattle.ring_laws.specs.Fraction.{whole}
 use Rattle.frac_laws.specs.Numbers.{IsNumber}
 use Rattle.geo_points.specs.Placements.{Placement, SamePoint}
@@ -12,7 +12,7 @@ use Rattle.geo_terms.specs.Constructions.{IsStep}
 use Rattle.geo_terms.specs.Stores.{Store}
 use Rattle.geo_lowering.specs.Counting.{numbers_had}
 use Rattle.geo_lowering.specs.Lowering.{point_place, steps_of}
-use Rattle.geo_lowering.specs.StepForms.{StepForm, free, step_form}
+use Rattle.geo_lowering.specs.StepForms.{StepForm, crossing_of, foot_of, along, turned_along, free, step_form}
 use Rattle.geo_lowering.proofs.Bounds.{program_over}
 use Rattle.geo_lowering.proofs.FormLaws.{IsFormOver}
 use Rattle.geo_conditions.specs.declared.problem.Problem.{Problem}
@@ -44,6 +44,33 @@ has_number nodes points params (step.Foot p u v) h = tt
 has_number nodes points params (step.Pratio w u v r) h = h.3.stored
 has_number nodes points params (step.Tratio u v r) h = h.2.stored
 
+-- a step makes at most one free point
+one_few : (n : ℕ) (f : StepForm) → length (free_places n (f ∷ [])) ≤ 1
+one_few n free = omega arith
+one_few n (crossing_of u v p q) = omega arith
+one_few n (foot_of p u v) = omega arith
+one_few n (along w u v r) = omega arith
+one_few n (turned_along u v r) = omega arith
+
+places_few : (n : ℕ) (fs : List StepForm) → length (free_places n fs) ≤ length fs
+places_few n [] = omega arith
+places_few n (free ∷ fs) = let h = places_few (suc n) fs in omega (arith, h)
+places_few n (crossing_of u v p q ∷ fs) = let h = places_few (suc n) fs in omega (arith, h)
+places_few n (foot_of p u v ∷ fs) = let h = places_few (suc n) fs in omega (arith, h)
+places_few n (along w u v r ∷ fs) = let h = places_few (suc n) fs in omega (arith, h)
+places_few n (turned_along u v r ∷ fs) = let h = places_few (suc n) fs in omega (arith, h)
+
+-- the step of a free point alone has its form
+pub form_free : (nodes : Store) (s : Step) → step_form nodes s ≡ free → s ≡ step.Point
+form_free nodes step.Point e = refl
+form_free nodes (step.Inter u v p q) e = cc
+form_free nodes (step.Foot p u v) e = cc
+form_free nodes (step.Pratio w u v r) e = cc
+form_free nodes (step.Tratio u v r) e = cc
+
+pub all_steps : (run : Run) (problem : Problem) (ints : List ℤ) → IsRun run problem ints → length problem.steps.steps ≡ length (steps_of run.program)
+all_steps run problem ints h = sym (length-map problem.steps.steps (step_form problem.steps.nodes)) ∙ ap (λ (fs : List StepForm). length fs) h.lowered.steps
+
 module _ (run : Run) (problem : Problem) (ints : List ℤ) (h : IsRun run problem ints) (sketch : Sketch) (s : IsSketchOf run sketch) (here : Step)
     (at : slice_get problem.steps.steps (length sketch.points.items) ≡ Some here) where
   abbrev pub n : ℕ
@@ -54,6 +81,13 @@ module _ (run : Run) (problem : Problem) (ints : List ℤ) (h : IsRun run proble
 
   pub at_form : slice_get (steps_of run.program) n ≡ Some form
   at_form = subst (λ (fs : List StepForm). slice_get fs n ≡ Some form) h.lowered.steps (get_map (step_form problem.steps.nodes) problem.steps.steps n here at)
+
+  pub free_few : sketch.free + length (free_places 0 (form ∷ [])) ≤ 513
+  free_few =
+      let a = s.free in
+      let b = places_few 0 (take n (steps_of run.program)) in
+      let c : length (take n (steps_of run.program)) ≡ n = length-take-le n (steps_of run.program) s.few in
+      let d = s.few in let e = all_steps run problem ints h in let f = h.lowered.valid.few in let g = one_few 0 form in omega (arith, a, b, c, d, e, f, g)
 
   zero_plus : 0 + n ≡ n
   zero_plus = omega arith

@@ -34,7 +34,7 @@ own_position s = record {
   y = record { crossed = coordinate' s.y.num (pos (unsigned_abs s.x.den)) (pos (unsigned_abs s.y.den)) s.x.den s.y.den (sym s.x.positive) (sym s.y.positive) };
 }
 
-number_same : (r : Frac) (a b : Fraction) → IsNumber r a → IsNumber r b → Same a b
+pub number_same : (r : Frac) (a b : Fraction) → IsNumber r a → IsNumber r b → Same a b
 number_same r a b h k = fractions.same_trans _ _ _ (fractions.same_sym _ _ (same_of r a h)) (same_of r b k)
 
 -- two points at one position are the same

@@ -13,6 +13,8 @@ use Rattle.geo_program.specs.declared.names.NameKind.{NameKind}
 use Rattle.geo_program.specs.declared.names.NameKind.TheVariants as kind
 use Rattle.geo_program.specs.Names.{is_kind}
 use Rattle.geo_program.specs.WellFormed.{IsWellFormed, Source}
+use Rattle.geo_points.specs.declared.ids.PointId.{PointId}
+use Rattle.geo_lowering.specs.Conditions.{late_conditions}
 use Rattle.geo_lowering.specs.Counting.{counted, further, gathered, hidden, named, next_point, numbers_had, points_from, points_past}
 use Rattle.geo_lowering.proofs.Values.{IsOver}
 use Rattle.geo_conditions.specs.Terms.{condition_term}
@@ -31,7 +33,7 @@ use Rattle.geo_place.specs.declared.triples.Triple.{Triple}
 use Rattle.geo_place.specs.Evaluation.{IsTooLarge, IsTriplePast, LineTurn, Passes, Turn, at_line, makes, turns_of, write}
 use Rattle.geo_place.specs.Inner.{FirstFails, IsItemMet, IsPassed, IsRun, IsSketchOf, IsTaken, IsTripleOf, IsTripleStop, Run, Stops, TellsTriple, placement_of, point_at}
 use Rattle.geo_place.proofs.CommandTurns.{E, K, L, Listed, W, after_at, all_pass, commands_are, early, early_stop, early_terms, laid, late, late_stop, late_terms, listed_here, long, make_stop, n, named_next, past_next, points_few, points_up, steps, steps_here, write_stop, x}
-use Rattle.geo_place.proofs.ListParts.{head_of, none_before, same_length, tail_of}
+use Rattle.geo_place.proofs.ListParts.{get_before, get_behind, head_of, none_before, same_length, tail_of}
 use Rattle.geo_place.proofs.Sketches.{point_found}
 use Rattle.geo_lowering.proofs.Puts.{of_path}
 use Rattle.geo_place.proofs.TestTurns.{tests_held, tests_pass, tests_stop}
@@ -65,17 +67,6 @@ part_holds P [] (y ∷ ys) zs (suc i) a h l u e = part_holds P [] ys zs i a h.1 
 part_holds P (x ∷ xs) ys zs zero a h l u e = absurd (omega arith)
 part_holds P (x ∷ xs) ys zs (suc i) a h l u e = part_holds P xs ys zs i a h (omega arith) (omega arith) e
 
-get_before : {A : Type 0} (xs ys : List A) (i : ℕ) → i < length xs → slice_get (xs ++ ys) i ≡ slice_get xs i
-get_before [] ys i l = absurd (omega arith)
-get_before (x ∷ xs) ys zero l = refl
-get_before (x ∷ xs) ys (suc i) l = get_before xs ys i (omega arith)
-
-get_behind : {A : Type 0} (xs : List A) (y : A) (i : ℕ) (a : A) → length xs ≤ i → slice_get (xs ++ y ∷ []) i ≡ Some a → (i ≡ length xs) × (y ≡ a)
-get_behind [] y zero a l e = (refl, ap (λ (o : Option _). elim o [ None ↦ y | Some z ↦ z ]) e)
-get_behind [] y (suc i) a l e = cc
-get_behind (x ∷ xs) y zero a l e = absurd (omega arith)
-get_behind (x ∷ xs) y (suc i) a l e = let r = get_behind xs y i a (omega arith) e in (ap suc r.0, r.1)
-
 kind_is : (g : NameKind) → is_kind g kind.Point ≡ true → g ≡ kind.Point
 kind_is kind.Point e = refl
 kind_is kind.Param e = cc
@@ -83,28 +74,28 @@ kind_is kind.Line e = cc
 
 module _ (run : Run) (problem : Problem) (ints : List ℤ) (h : IsRun run problem ints) (k : ℕ) (c : Command) (at : slice_get run.program.commands k ≡ Some c)
     (old : Progress) (t : IsTaken run k old) where
-  abbrev p : Source
+  abbrev pub p : Source
   p = run.program
 
-  abbrev w : IsWellFormed run.program
+  abbrev pub w : IsWellFormed run.program
   w = h.formed
 
-  abbrev nodes : Store
+  abbrev pub nodes : Store
   nodes = problem.steps.nodes
 
-  abbrev before_list : List Found
+  abbrev pub before_list : List Found
   before_list = take old.tested run.conditions
 
-  parts : Listed p w k c at before_list run.conditions
+  pub parts : Listed p w k c at before_list run.conditions
   parts = listed_here p w k c at run.placed before_list run.conditions h.listed t.listed
 
-  abbrev first : List Found
+  abbrev pub first : List Found
   first = parts.first
 
-  abbrev second : List Found
+  abbrev pub second : List Found
   second = parts.second
 
-  abbrev later : List Found
+  abbrev pub later : List Found
   later = parts.later
 
   pub items_long : length problem.conditions ≡ length run.conditions
@@ -117,7 +108,7 @@ module _ (run : Run) (problem : Problem) (ints : List ℤ) (h : IsRun run proble
   whole = parts.whole ∙ append_assoc (before_list ++ first) second later ∙ append_assoc before_list first (second ++ later)
 
   -- THE ITEMS OF THE LINE
-  abbrev count : ℕ
+  abbrev pub count : ℕ
   count = old.tested + (length first + length second)
 
   count_few : count + length later ≡ length run.conditions
@@ -178,6 +169,23 @@ module _ (run : Run) (problem : Problem) (ints : List ℤ) (h : IsRun run proble
       let a = line_past s.0 s.1 in let b = these count s.0 s.1 (omega arith) u in absurd (omega (arith, a, b))) (eq-or-lt_of_le l))
       (cases_lt e count)
 
+  -- the items of the line end, and the late ones begin, at these places
+  pub record Ends (items : List Item) (end late : ℕ) : Type 0 where
+    pub same : items ≡ problem.conditions
+    pub end : end ≡ count
+    pub late : late ≡ length second
+
+  pub ends_are : (items : List Item) → items ≡ problem.conditions → (line : ℕ) → line ≡ suc k → (e : ℕ) → old.tested ≤ e → e ≤ length items
+      → ((i : ℕ) (item : Item) → slice_get items i ≡ Some item → old.tested ≤ i → i < e → item.line ≡ line)
+      → ((item : Item) → slice_get items e ≡ Some item → item.line ≢ line) → (l : ℕ) → ((x : PointId) → l ≡ length (late_conditions x c)) → Ends items e l
+  ends_are items q line s e low high these next l late_is = record {
+    same = q;
+    end = end_is e low (subst (λ (is : List Item). e ≤ length is) q high)
+        (λ i item f a b. these i item (subst (λ (is : List Item). slice_get is i ≡ Some item) (sym q) f) a b ∙ s)
+        (λ item f z. next item (subst (λ (is : List Item). slice_get is e ≡ Some item) (sym q) f) (z ∙ sym s));
+    late = late_is (record { 0 = x p w k c at }) ∙ sym parts.late_long;
+  }
+
   pub late_long : length second ≡ length (late p w k c at)
   late_long = parts.late_long
 
@@ -193,10 +201,10 @@ module _ (run : Run) (problem : Problem) (ints : List ℤ) (h : IsRun run proble
       ∙ ap (λ (fs : List Found). map (condition_item p) (take j fs)) (ap (λ (fs : List Found). drop i fs) e ∙ drop_at xs (ys ++ zs) i a)
       ∙ ap (λ (fs : List Found). map (condition_item p) fs) (take_at ys zs j b)
 
-  first_items : map (item_form nodes) (take (middle - old.tested) (drop old.tested problem.conditions)) ≡ map (condition_item p) first
+  pub first_items : map (item_form nodes) (take (middle - old.tested) (drop old.tested problem.conditions)) ≡ map (condition_item p) first
   first_items = slices old.tested (middle - old.tested) before_list first (second ++ later) whole before_long (omega arith)
 
-  second_items : map (item_form nodes) (take (count - middle) (drop middle problem.conditions)) ≡ map (condition_item p) second
+  pub second_items : map (item_form nodes) (take (count - middle) (drop middle problem.conditions)) ≡ map (condition_item p) second
   second_items =
       slices middle (count - middle) (before_list ++ first) second later (parts.whole ∙ append_assoc (before_list ++ first) second later)
       (let a = before_long in let b = length-append before_list first in omega (arith, a, b)) (omega arith)
