@@ -1,7 +1,8 @@
 -- Signs of numbers in lowest terms, and how bounds grow.
 use Rattle.std.proofs.Common.{◌≡◌, ◌≢◌, ℕ, zero, suc, ◌+◌, ◌*◌, ◌<◌, ◌≤◌, Bool, true, false, ℤ, pos, negsuc, ◌*ℤ◌, ◌+ℤ◌, unsigned_abs, List, [], ◌∷◌, ◌++◌, map, fold, All, neg_ℤ, refl, sym, ◌∙◌, ap, subst, mul-pos, arith}
 use Rattle.std.specs.List.{AllByRecursion}
-use Rattle.std.specs.Prelude.{◌≤ℤ◌, Result, Ok, Err}
+use Rattle.std.specs.Prelude.{◌≤ℤ◌, ◌<ℤ◌, Result, Ok, Err}
+use Rattle.std.proofs.lemmas.Int.{ints}
 use Rattle.std.proofs.lemmas.List.Elements.{All-from_recursion, recursion_from_All}
 use Rattle.ring_laws.specs.Solver.{variable, numeral, ◌⊠◌, ◌⊞◌, opposite, entry_at, given}
 use Rattle.ring_laws.specs.Fraction.{Fraction, Same, minus, negated, plus, quotient, quotient_at, whole}
@@ -16,7 +17,7 @@ use Rattle.geo_place.proofs.ResultLaws.{known_result}
 use Rattle.geo_figure.specs.declared.bounds.Bounds.{Bounds}
 use Rattle.geo_figure.specs.Bounds.{greater, greatest, is_negative, least, lesser}
 use Rattle.geo_figure.specs.Drawing.{differences}
-use Rattle.geo_figure.specs.Inner.{AreBounds}
+use Rattle.geo_figure.specs.Inner.{AreBounds, IsGreater, IsLesser}
 
 -- SIGNS
 -- n a and -m d are not the same, where m and d are not 0
@@ -64,17 +65,29 @@ pub greatest_next : (xs : List Fraction) (a : Fraction) → (xs ≡ [] → ⊥) 
 greatest_next [] a n = absurd (n refl)
 greatest_next (y ∷ ys) a n = fold_last greater y ys a
 
--- what comes of the difference with the least
-pub least_moved : (b : Frac) (r : Frac) (below : Frac) (xs : List Fraction) (a : Fraction) → (xs ≡ [] → ⊥) → IsNumber b (least xs) → IsNumber r a
-    → IsNumber below (plus a (negated (least xs))) → (s : Frac) → (is_negative below.num ≡ true → s ≡ r) → (is_negative below.num ≡ false → s ≡ b) → IsNumber s (least (xs ++ a ∷ []))
-unfolding minus
-least_moved b r below xs a n hb hr hd s yes no =
-    let e = sign_same below (minus a (least xs)) hd in
-    subst (λ f. IsNumber s f) (sym (least_next xs a n)) (go (is_negative (minus a (least xs)).numerator) refl e)
-  where
-    go : (z : Bool) → is_negative (minus a (least xs)).numerator ≡ z → is_negative below.num ≡ is_negative (minus a (least xs)).numerator → IsNumber s (elim z [ true ↦ a | false ↦ least xs ])
-    go true q e = subst (λ f. IsNumber f a) (sym (yes (e ∙ q))) hr
-    go false q e = subst (λ f. IsNumber f (least xs)) (sym (no (e ∙ q))) hb
+-- the number that is lesser, by the sign of the difference
+module _ (least x below : Frac) (a b : Fraction) (ha : IsNumber least a) (hb : IsNumber x b) (d : IsResult below (known b ⊖ known a)) where
+  minus_is : IsNumber below (minus b a)
+  unfolding minus
+  minus_is = d.is
+
+  pub lesser_first : below.num <ℤ pos 0 → IsLesser a b (Ok x)
+  lesser_first l =
+      let e : is_negative (minus b a).numerator ≡ true = sym (sign_same below (minus b a) minus_is) ∙ negative below.num l in
+      (subst (λ (z : Bool). IsNumber x (elim z [ true ↦ b | false ↦ a ])) (sym e) hb, d.kept)
+    where
+      negative : (z : ℤ) → z <ℤ pos 0 → is_negative z ≡ true
+      negative (pos n) l = absurd (omega (arith, ints, l))
+      negative (negsuc n) l = refl
+
+  pub lesser_second : pos 0 ≤ℤ below.num → IsLesser a b (Ok least)
+  lesser_second l =
+      let e : is_negative (minus b a).numerator ≡ false = sym (sign_same below (minus b a) minus_is) ∙ not_negative below.num l in
+      (subst (λ (z : Bool). IsNumber least (elim z [ true ↦ b | false ↦ a ])) (sym e) ha, d.kept)
+    where
+      not_negative : (z : ℤ) → pos 0 ≤ℤ z → is_negative z ≡ false
+      not_negative (pos n) l = refl
+      not_negative (negsuc n) l = absurd (omega (arith, ints, l))
 
 -- the greatest less a number is negative exactly where the number less the greatest is above 0
 turned : (a b : Fraction) → is_negative (minus a b).numerator ≡ is_negative (negated (minus b a)).numerator
@@ -115,62 +128,24 @@ above_same r a h = go r.num a.numerator (subst (λ z. r.num *ℤ pos a.denominat
     go (pos (suc n)) (negsuc m) e = absurd (apart (suc n) a.denominator m (unsigned_abs r.den) r.nonzero e)
     go (negsuc n) (pos (suc m)) e = absurd (apart (suc m) (unsigned_abs r.den) n a.denominator a.positive (sym e))
 
-pub greatest_moved : (b : Frac) (r : Frac) (above : Frac) (xs : List Fraction) (a : Fraction) → (xs ≡ [] → ⊥) → IsNumber b (greatest xs) → IsNumber r a
-    → IsNumber above (plus a (negated (greatest xs))) → (s : Frac) → (is_above above.num ≡ true → s ≡ r) → (is_above above.num ≡ false → s ≡ b) → IsNumber s (greatest (xs ++ a ∷ []))
-unfolding minus negated
-greatest_moved b r above xs a n hb hr hd s yes no =
-    let e : is_negative (minus (greatest xs) a).numerator ≡ is_above above.num =
-    turned (greatest xs) a ∙ above_negated (minus a (greatest xs)).numerator ∙ sym (above_same above (minus a (greatest xs)) hd) in
-    subst (λ f. IsNumber s f) (sym (greatest_next xs a n)) (go (is_negative (minus (greatest xs) a).numerator) refl e)
-  where
-    go : (z : Bool) → is_negative (minus (greatest xs) a).numerator ≡ z → is_negative (minus (greatest xs) a).numerator ≡ is_above above.num → IsNumber s (elim z [ true ↦ a | false ↦ greatest xs ])
-    go true q e = subst (λ f. IsNumber f a) (sym (yes (sym e ∙ q))) hr
-    go false q e = subst (λ f. IsNumber f (greatest xs)) (sym (no (sym e ∙ q))) hb
+-- the number that is greater, by the sign of the difference
+module _ (greatest x above : Frac) (a b : Fraction) (ha : IsNumber greatest a) (hb : IsNumber x b) (d : IsResult above (known b ⊖ known a)) where
+  above_is : is_negative (minus a b).numerator ≡ is_above above.num
+  unfolding minus negated
+  above_is = turned a b ∙ above_negated (minus b a).numerator ∙ sym (above_same above (minus b a) d.is)
 
--- DIFFERENCES
-abbrev pub Kept : Reckoning → Type 0
-Kept e = IsRefused e → ⊥
-
--- the differences of a number with the bounds
-module _ (b : Bounds) (x : Frac) (below above : Result Frac FracTooLarge)
-    (lower : (e f : Reckoning) → HasResult e (Ok x) → HasResult f (Ok b.least) → HasResult (e ⊖ f) below)
-    (upper : (e f : Reckoning) → HasResult e (Ok x) → HasResult f (Ok b.greatest) → HasResult (e ⊖ f) above)
-    (xs : List Fraction) (a : Fraction) (hb : AreBounds b xs) (hx : IsNumber x a) where
-  low : HasResult (known a ⊖ known (least xs)) below
-  low = lower (known a) (known (least xs)) (known_result x a hx) (known_result b.least (least xs) hb.least)
-
-  high : HasResult (known a ⊖ known (greatest xs)) above
-  high = upper (known a) (known (greatest xs)) (known_result x a hx) (known_result b.greatest (greatest xs) hb.greatest)
-
-  kept_of : (e : Reckoning) (r : Frac) (q : Result Frac FracTooLarge) → q ≡ Ok r → HasResult e q → IsResult r e
-  kept_of e r q h k = subst (λ z. HasResult e z) h k
-
-  refused_of : (e : Reckoning) (r : FracTooLarge) (q : Result Frac FracTooLarge) → q ≡ Err r → HasResult e q → IsRefused e
-  refused_of e r q h k = subst (λ z. HasResult e z) h k
-
-  pub least_result : (r : Frac) → below ≡ Ok r → IsResult r (known a ⊖ known (least xs))
-  least_result r h = kept_of (known a ⊖ known (least xs)) r below h low
-
-  pub greatest_result : (r : Frac) → above ≡ Ok r → IsResult r (known a ⊖ known (greatest xs))
-  greatest_result r h = kept_of (known a ⊖ known (greatest xs)) r above h high
-
-  pub differences_kept : (l g : Frac) → below ≡ Ok l → above ≡ Ok g → All Kept (differences xs a)
-  differences_kept l g h k = All-from_recursion Kept (differences xs a) (go xs (least_result l h).kept (greatest_result g k).kept)
+  pub greater_first : pos 0 <ℤ above.num → IsGreater a b (Ok x)
+  greater_first l = (subst (λ (z : Bool). IsNumber x (elim z [ true ↦ b | false ↦ a ])) (sym (above_is ∙ positive above.num l)) hb, d.kept)
     where
-      go : (ys : List Fraction) → Kept (known a ⊖ known (least ys)) → Kept (known a ⊖ known (greatest ys)) → AllByRecursion Kept (differences ys a)
-      go [] p q = tt
-      go (y ∷ ys) p q = (p, (q, tt))
+      positive : (z : ℤ) → pos 0 <ℤ z → is_above z ≡ true
+      positive (pos zero) l = absurd (omega (arith, ints, l))
+      positive (pos (suc n)) l = refl
+      positive (negsuc n) l = absurd (omega (arith, ints, l))
 
-  pub least_refused : (e : FracTooLarge) → below ≡ Err e → (xs ≡ [] → ⊥) → All Kept (differences xs a) → ⊥
-  least_refused e h n k = go xs n (recursion_from_All Kept (differences xs a) k) (refused_of (known a ⊖ known (least xs)) e below h low)
+  pub greater_second : above.num ≤ℤ pos 0 → IsGreater a b (Ok greatest)
+  greater_second l = (subst (λ (z : Bool). IsNumber greatest (elim z [ true ↦ b | false ↦ a ])) (sym (above_is ∙ not_positive above.num l)) ha, d.kept)
     where
-      go : (ys : List Fraction) → (ys ≡ [] → ⊥) → AllByRecursion Kept (differences ys a) → IsRefused (known a ⊖ known (least ys)) → ⊥
-      go [] n k r = n refl
-      go (y ∷ ys) n k r = k.0 r
-
-  pub greatest_refused : (e : FracTooLarge) → above ≡ Err e → (xs ≡ [] → ⊥) → All Kept (differences xs a) → ⊥
-  greatest_refused e h n k = go xs n (recursion_from_All Kept (differences xs a) k) (refused_of (known a ⊖ known (greatest xs)) e above h high)
-    where
-      go : (ys : List Fraction) → (ys ≡ [] → ⊥) → AllByRecursion Kept (differences ys a) → IsRefused (known a ⊖ known (greatest ys)) → ⊥
-      go [] n k r = n refl
-      go (y ∷ ys) n k r = k.1.0 r
+      not_positive : (z : ℤ) → z ≤ℤ pos 0 → is_above z ≡ false
+      not_positive (pos zero) l = refl
+      not_positive (pos (suc n)) l = absurd (omega (arith, ints, l))
+      not_positive (negsuc n) l = refl

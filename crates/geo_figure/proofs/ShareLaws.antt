@@ -21,8 +21,8 @@ use Rattle.geo_place.proofs.ResultLaws.{known_result, same_of}
 use Rattle.geo_figure.specs.declared.bounds.Bounds.{Bounds}
 use Rattle.geo_figure.specs.Bounds.{greatest, least}
 use Rattle.geo_figure.specs.Drawing.{are_level, share, shares, step_of}
-use Rattle.geo_figure.specs.Inner.{AreBounds}
-use Rattle.geo_figure.proofs.BoundLaws.{Kept}
+use Rattle.geo_figure.specs.Inner.{AreBounds, AreKept}
+use Rattle.geo_figure.specs.Inner.{IsStep}
 
 -- WITHOUT THE FRACTIONAL PART
 -- where p d is n q, p / q and n / d have the same whole part
@@ -82,3 +82,26 @@ module _ (b : Bounds) (xs : List Fraction) (h : AreBounds b xs) where
       go : (z : Bool) → are_level xs ≡ z → z ≡ false
       go false e = refl
       go true e = absurd (n (bounds_same (same_of_minus (greatest xs) (least xs) (same_of_zero (minus (greatest xs) (least xs)) (null-true (minus (greatest xs) (least xs)).numerator e)))))
+
+-- STEPS
+module _ (last : ℕ) (xs : List Fraction) (a : Fraction) where
+  -- where all coordinates are the same
+  pub level_step : are_level xs ≡ true → IsStep last xs a (Ok 0)
+  level_step e = (
+    sym (ap (λ (z : Bool). elim z [ true ↦ 0 | false ↦ unsigned_abs (number (share last xs a)).numerator / (number (share last xs a)).denominator ]) e),
+    subst (λ (es : List Reckoning). AreKept es) (sym (ap (λ (z : Bool). elim z [ true ↦ [] | false ↦ share last xs a ∷ [] ]) e)) (All-from_recursion _ [] tt),
+  )
+
+  -- and where they are not
+  module _ (e : are_level xs ≡ false) where
+    shares_are : shares last xs a ≡ share last xs a ∷ []
+    shares_are = ap (λ (z : Bool). elim z [ true ↦ [] | false ↦ share last xs a ∷ [] ]) e
+
+    pub share_step : (r : Frac) → IsResult r (share last xs a) → (k : ℕ) → k ≡ unsigned_abs (number (share last xs a)).numerator / (number (share last xs a)).denominator → IsStep last xs a (Ok k)
+    share_step r h k q = (
+      q ∙ sym (ap (λ (z : Bool). elim z [ true ↦ 0 | false ↦ unsigned_abs (number (share last xs a)).numerator / (number (share last xs a)).denominator ]) e),
+      subst (λ (es : List Reckoning). AreKept es) (sym shares_are) (All-from_recursion _ (share last xs a ∷ []) (h.kept, tt)),
+    )
+
+    pub share_refused : (refusal : FracTooLarge) → IsRefused (share last xs a) → IsStep last xs a (Err refusal)
+    share_refused refusal r = λ k. (recursion_from_All _ (share last xs a ∷ []) (subst (λ (es : List Reckoning). AreKept es) shares_are k)).0 r

@@ -1,5 +1,5 @@
 -- The drawing of placed points: 21 lines of 41 bytes, with the least coordinates at the left and at the bottom.
-use Rattle.std.specs.Prelude.{◌≡◌, ℕ, zero, suc, ◌-◌, ◌/◌, ◌^◌, ◌<◌, ◌≤◌, Bool, true, false, ◌&&◌, eqb, pos, ◌≤ℤ◌, unsigned_abs, All, Result, Ok, Err, List, [], ◌∷◌, ◌++◌, length, map, slice_index}
+use Rattle.std.specs.Prelude.{◌≡◌, ℕ, zero, suc, ◌-◌, ◌/◌, Bool, true, false, ◌&&◌, eqb, pos, unsigned_abs, All, Result, Ok, Err, List, [], ◌∷◌, ◌++◌, length, map, slice_index}
 use Rattle.std.specs.List.{filter, flat_map}
 use Rattle.ring_laws.specs.Fraction.{Fraction, minus, quotient, whole}
 use Rattle.geo_points.specs.Points.{is_null}
@@ -111,13 +111,6 @@ pub record IsTooLargeAt (points : List At) (line : ℕ) : Type 0 where
   pub same_line : turn.line ≡ line
 
 -- ANSWERS
--- the point can be drawn: w is at least 1, no number is the least of 128 bits, and the name is not empty
-pub record IsDrawable (a : At) : Type 0 where
-  pub w : pos 1 ≤ℤ a.w
-  pub short_x : unsigned_abs a.x < 2 ^ 127
-  pub short_y : unsigned_abs a.y < 2 ^ 127
-  pub named : 1 ≤ length a.name
-
 -- what is answered: the drawing, where no number is too large; or the line of the first that is
 abbrev pub IsDrawn : Placed → Result Text DrawError → Type 0
 IsDrawn placed (Ok text) = (text ≡ drawing placed) × ((line : ℕ) → IsTooLargeAt placed.points line → ⊥)

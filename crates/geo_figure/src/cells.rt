@@ -1,14 +1,14 @@
 //! The cells of the picture in which points stand.
 
-ghost use Rattle.std.specs.Prelude.{◌≡◌, ◌∷◌, ◌<◌, ◌^◌, ◌/◌, [], ℕ, All, IfErr, IfOk, IsErr};
-ghost use Rattle.std.specs.Prelude.{List, OnOk, map, pos, unsigned_abs};
+ghost use Rattle.std.specs.Prelude.{◌≡◌, ◌<◌, ◌-◌, ◌^◌, ◌/◌, ◌⊎◌, ℕ, All, IfErr, IfOk, IsErr, List, Ok};
+ghost use Rattle.std.specs.Prelude.{OnOk, map, pos, unsigned_abs};
+ghost use Rattle.std.specs.List.{AllByRecursion};
 ghost use Rattle.ring_laws.specs.Fraction.{Fraction};
 ghost use Rattle.frac_laws.specs.Numbers.{IsNumber};
-ghost use Rattle.geo_place.specs.Reckonings.{IsRefused};
+ghost use Rattle.geo_place.specs.Placing.{IsDrawable};
 ghost use Rattle.geo_place.specs.declared.placed.At.{At};
-ghost use Rattle.geo_figure.specs.Drawing.{IsDrawable, IsPassed, draw_turns, share_turn, shares};
-ghost use Rattle.geo_figure.specs.Drawing.{step_of as step_in};
-ghost use Rattle.geo_figure.specs.Inner.{AreBounds, IsFrame, Stops, cell_at};
+ghost use Rattle.geo_figure.specs.Drawing.{IsPassed, draw_turns, share_turn};
+ghost use Rattle.geo_figure.specs.Inner.{AreBounds, IsCellOf, IsFrame, IsStep, Stops, cell_at};
 
 use crate::bounds::{Bounds, Frame, frame_of, x_of, y_of};
 use crate::errors::DrawError;
@@ -38,12 +38,8 @@ fn floor(share: Frac) -> u128
 /// The step in which a number lies, where the greatest lies this many steps from the least.
 fn step_of(last: i128, bounds: Bounds, x: Frac) -> Result<u128, FracTooLarge>
     requires { unsigned_abs last < 2 ^ 127 }
-    ensures step { IfOk result (λ k. (n : ℕ) (xs : List Fraction) (a : Fraction) → last ≡ pos n
-        → AreBounds bounds xs → IsNumber x a → k ≡ step_in n xs a) }
-    ensures passed { OnOk result ((n : ℕ) (xs : List Fraction) (a : Fraction) → last ≡ pos n
-        → AreBounds bounds xs → IsNumber x a → All (λ e. IsRefused e → ⊥) (shares n xs a)) }
-    ensures refused { IsErr result → (n : ℕ) (xs : List Fraction) (a : Fraction) → last ≡ pos n
-        → AreBounds bounds xs → IsNumber x a → All (λ e. IsRefused e → ⊥) (shares n xs a) → ⊥ }
+    ensures { (n : ℕ) (xs : List Fraction) (a : Fraction) → last ≡ pos n → AreBounds bounds xs
+        → IsNumber x a → IsStep n xs a result }
 {
     if bounds.least.same(&bounds.greatest) {
         return Ok(0);
@@ -57,24 +53,36 @@ fn step_of(last: i128, bounds: Bounds, x: Frac) -> Result<u128, FracTooLarge>
     }
 }
 
-/// The cell of a point.
-fn cell_of(frame: &Frame, at: &At) -> Result<Cell, DrawError>
-    requires { IsDrawable at.now }
-    ensures cell { IfOk result (λ c. (points : List At) → IsFrame frame.now points
-        → c ≡ cell_at points at.now) }
-    ensures passed { OnOk result ((points : List At) → IsFrame frame.now points
-        → IsPassed (share_turn points at.now)) }
-    ensures stops { IfErr result (λ e. (points : List At) → IsFrame frame.now points
-        → Stops (share_turn points at.now ∷ []) e) }
+/// The cell of a letter, at this column and this height. A refusal is told with the line.
+fn cell_from(
+    column: Result<u128, FracTooLarge>,
+    height: Result<u128, FracTooLarge>,
+    letter: u8,
+    line: u64,
+) -> Result<Cell, DrawError>
+    ensures cell { IfOk result (λ c. (column ≡ Ok c.column) × (c.letter ≡ letter)
+        × IfOk height (λ k. c.line ≡ 20 - k) × (IsErr height → ⊥)) }
+    ensures refused { IfErr result (λ e.
+        (e ≡ DrawError.TooLarge line) × (IsErr column ⊎ IsErr height)) }
 {
-    match (step_of(40, frame.x, x_of(at)), step_of(20, frame.y, y_of(at))) {
+    match (column, height) {
         (Ok(column), Ok(height)) => Ok(Cell {
             column,
             line: 20u128.saturating_sub(height),
-            letter: at.name.bytes[0],
+            letter,
         }),
-        _ => Err(DrawError::TooLarge { line: at.line }),
+        _ => Err(DrawError::TooLarge { line }),
     }
+}
+
+/// The cell of a point.
+fn cell_of(frame: &Frame, at: &At) -> Result<Cell, DrawError>
+    requires { IsDrawable at.now }
+    ensures { (points : List At) → IsFrame frame.now points → IsCellOf points at.now result }
+{
+    let column = step_of(40, frame.x, x_of(at));
+    let height = step_of(20, frame.y, y_of(at));
+    cell_from(column, height, at.name.bytes[0], at.line)
 }
 
 /// The cells of points in this frame, in order.
@@ -83,7 +91,7 @@ fn cells_in(alloc: Global, frame: &Frame, points: &[At]) -> Result<Vec<Cell>, Dr
     ensures cells { IfOk result (λ cells. (all : List At) → IsFrame frame.now all
         → cells.items ≡ map (cell_at all) points.now) }
     ensures passed { OnOk result ((all : List At) → IsFrame frame.now all
-        → All IsPassed (map (share_turn all) points.now)) }
+        → AllByRecursion IsPassed (map (share_turn all) points.now)) }
     ensures stops { IfErr result (λ e. (all : List At) → IsFrame frame.now all
         → Stops (map (share_turn all) points.now) e) }
 {
@@ -98,7 +106,7 @@ fn cells_in(alloc: Global, frame: &Frame, points: &[At]) -> Result<Vec<Cell>, Dr
 pub fn cells_of(alloc: Global, points: &[At]) -> Result<Vec<Cell>, DrawError>
     requires { All IsDrawable points.now }
     ensures cells { IfOk result (λ cells. cells.items ≡ map (cell_at points.now) points.now) }
-    ensures passed { OnOk result (All IsPassed (draw_turns points.now)) }
+    ensures passed { OnOk result (AllByRecursion IsPassed (draw_turns points.now)) }
     ensures stops { IfErr result (Stops (draw_turns points.now)) }
 {
     match frame_of(points)? {

@@ -1,7 +1,8 @@
 //! Placed points as a drawing.
 
 ghost use Rattle.std.specs.Prelude.{All};
-ghost use Rattle.geo_figure.specs.Drawing.{IsDrawable, IsDrawn};
+ghost use Rattle.geo_place.specs.Placing.{IsDrawable};
+ghost use Rattle.geo_figure.specs.Drawing.{IsDrawn};
 
 use crate::cells::cells_of;
 use crate::errors::DrawError;

@@ -1,5 +1,6 @@
 -- The triple of a position with the least denominator: the least common multiple of the denominators of its coordinates.
-use Rattle.std.proofs.Common.{◌≡◌, ℕ, zero, suc, ◌+◌, ◌*◌, ◌<◌, ◌≤◌, Bool, true, false, ℤ, pos, negsuc, ◌*ℤ◌, unsigned_abs, ◌⊎◌, inl, inr, ⊎_elim, [], ◌∷◌, refl, sym, ◌∙◌, ap, subst, mul-pos, arith}
+use Rattle.std.proofs.lemmas.Bool.{cases_lt}
+use Rattle.std.proofs.Common.{◌≡◌, ℕ, zero, suc, ◌+◌, ◌*◌, ◌^◌, ◌<◌, ◌≤◌, Bool, true, false, ℤ, pos, negsuc, ◌*ℤ◌, unsigned_abs, ◌⊎◌, inl, inr, ⊎_elim, [], ◌∷◌, refl, sym, ◌∙◌, ap, subst, mul-pos, arith}
 use Rattle.std.specs.Prelude.{◌/◌, IfOk, IsErr, Result, Ok, Err}
 use Rattle.frac_laws.specs.declared.frac.FracTooLarge.{FracTooLarge}
 use Rattle.std.specs.Int.{◌∣◌, IsGcd}
@@ -193,8 +194,11 @@ module _ (at : Position) (g : ℕ) (h : IsGcd (unsigned_abs at.x.den) (unsigned_
       }
 
   -- the triple that is made of the three products
-  pub is_triple : (t : Triple) → t.x ≡ at.x.num *ℤ pos (D' / g) → t.y ≡ at.y.num *ℤ pos (B' / g) → t.w ≡ pos B' *ℤ pos (D' / g) → IsTripleOf t (point_at at)
-  is_triple t a b c = record { told = least_at; x = a; y = b; w = c; least = least_at_least; same = least_at_same }
+  pub is_triple : (t : Triple) → t.x ≡ at.x.num *ℤ pos (D' / g) → t.y ≡ at.y.num *ℤ pos (B' / g) → t.w ≡ pos B' *ℤ pos (D' / g) → (IsPast t.x → ⊥) → (IsPast t.y → ⊥) → IsTripleOf t (point_at at)
+  is_triple t a b c d e = record { told = least_at; x = a; y = b; w = c; least = least_at_least; same = least_at_same; short_x = not_past_fits t.x d; short_y = not_past_fits t.y e }
+    where
+      not_past_fits : (z : ℤ) → (IsPast z → ⊥) → unsigned_abs z < 2 ^ 127
+      not_past_fits z h = ⊎_elim (λ (l : unsigned_abs z < 2 ^ 127). l) (λ (l : 2 ^ 127 ≤ unsigned_abs z). absurd (h l)) (cases_lt (unsigned_abs z) (2 ^ 127))
 
   pub is_past : IsPast (at.x.num *ℤ pos (D' / g)) ⊎ (IsPast (at.y.num *ℤ pos (B' / g)) ⊎ IsPast (pos B' *ℤ pos (D' / g))) → IsTriplePast (point_at at)
   is_past p = (least_at, least_at_least, least_at_same, p)
@@ -229,7 +233,7 @@ module _ (at : Position) (g : ℕ) (h : IsGcd (unsigned_abs at.x.den) (unsigned_
           → IfOk r (λ t. Past (at.x.num *ℤ left) (at.y.num *ℤ right) (at.x.den *ℤ left) → ⊥) → (IsErr r → Past (at.x.num *ℤ left) (at.y.num *ℤ right) (at.x.den *ℤ left))
           → at.x.den *ℤ left ≡ pos B' *ℤ pos (D' / g) → at.x.num *ℤ left ≡ at.x.num *ℤ pos (D' / g) → at.y.num *ℤ right ≡ at.y.num *ℤ pos (B' / g) → Answers r
       go (Ok t) made fits past wide X Y = record {
-        triple = is_triple t (made.0 ∙ X) (made.1 ∙ Y) (made.2 ∙ wide);
+        triple = is_triple t (made.0 ∙ X) (made.1 ∙ Y) (made.2 ∙ wide) (λ q. fits (inl (subst IsPast made.0 q))) (λ q. fits (inr (inl (subst IsPast made.1 q))));
         fits = not_past (λ q. fits (inl (subst IsPast (sym X) q))) (λ q. fits (inr (inl (subst IsPast (sym Y) q)))) (λ q. fits (inr (inr (subst IsPast (sym wide) q))));
         past = λ q. let z : false ≡ true = q in cc;
       }

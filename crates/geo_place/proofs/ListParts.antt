@@ -159,3 +159,8 @@ taken_at (x ∷ xs) (suc n) (suc m) i l =
 pub take_zero : {A : Type 0} (xs : List A) → take 0 xs ≡ []
 take_zero [] = refl
 take_zero (x ∷ xs) = refl
+
+pub some_below : {A : Type 0} (xs : List A) (k : ℕ) (x : A) → slice_get xs k ≡ Some x → k < length xs
+some_below [] k x e = cc
+some_below (y ∷ ys) zero x e = omega arith
+some_below (y ∷ ys) (suc k) x e = let h : k < length ys = some_below ys k x e in omega arith

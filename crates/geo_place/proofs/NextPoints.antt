@@ -27,6 +27,8 @@ use Rattle.geo_place.specs.Evaluation.{IsTooLarge, at_line, make}
 use Rattle.geo_place.specs.Reckonings.{IsRefused, IsResult}
 use Rattle.geo_place.specs.Inner.{AreResults, HasNumber, IsPosition, IsRun, IsSketchOf, Run, Stops, free_places, placement_of, point_at}
 use Rattle.geo_place.proofs.Existence.{program_places}
+use Rattle.geo_conditions.specs.Lists.{condition_item, item_form}
+use Rattle.geo_place.proofs.ListParts.{same_length}
 use Rattle.geo_place.proofs.MakeTurns.{at_place, large_there, made_there, not_large, over_place, place_at}
 use Rattle.geo_place.proofs.Sketches.{own_position, position_same}
 use Rattle.geo_place.proofs.ValueLists.{abscissa_at, ordinate_at, pairs, pairs_length}
@@ -70,6 +72,9 @@ form_free nodes (step.Tratio u v r) e = cc
 
 pub all_steps : (run : Run) (problem : Problem) (ints : List ℤ) → IsRun run problem ints → length problem.steps.steps ≡ length (steps_of run.program)
 all_steps run problem ints h = sym (length-map problem.steps.steps (step_form problem.steps.nodes)) ∙ ap (λ (fs : List StepForm). length fs) h.lowered.steps
+
+pub all_items : (run : Run) (problem : Problem) (ints : List ℤ) → IsRun run problem ints → length problem.conditions ≡ length run.conditions
+all_items run problem ints h = same_length (item_form problem.steps.nodes) (condition_item run.program) problem.conditions run.conditions h.written
 
 module _ (run : Run) (problem : Problem) (ints : List ℤ) (h : IsRun run problem ints) (sketch : Sketch) (s : IsSketchOf run sketch) (here : Step)
     (at : slice_get problem.steps.steps (length sketch.points.items) ≡ Some here) where

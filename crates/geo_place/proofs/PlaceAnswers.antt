@@ -1,7 +1,11 @@
 -- What `place` answers, from the end of the evaluation.
-use Rattle.std.proofs.Common.{◌≡◌, ℕ, zero, suc, ◌+◌, ◌<◌, Bool, true, false, ℤ, pos, List, [], ◌∷◌, length, map, refl, sym, ◌∙◌, ap, subst, arith}
-use Rattle.std.specs.Prelude.{Option, Some, None, Result, Ok, Err, slice_get, if◌then◌else◌}
-use Rattle.std.specs.List.{filter_map}
+use Rattle.std.proofs.Common.{◌≡◌, ℕ, zero, suc, ◌+◌, ◌<◌, ◌≤◌, Bool, true, false, ℤ, pos, List, [], ◌∷◌, length, map, refl, sym, ◌∙◌, ap, subst, arith}
+use Rattle.std.specs.Prelude.{◌≤ℤ◌, All, IsErrAnd, Option, Some, None, Result, Ok, Err, slice_get, if◌then◌else◌}
+use Rattle.std.specs.List.{AllByRecursion, filter_map}
+use Rattle.std.proofs.lemmas.Int.{ints}
+use Rattle.std.proofs.lemmas.List.Elements.{All-from_recursion, recursion_from_All}
+use Rattle.geo_program.specs.Words.{IsNameText}
+use Rattle.geo_place.proofs.ListParts.{head_of, none_before, tail_of}
 use Rattle.geo_points.specs.Placements.{Placement}
 use Rattle.geo_points.specs.Points.{Point as Triplet}
 use Rattle.geo_terms.specs.Stores.{Store}
@@ -24,7 +28,7 @@ use Rattle.geo_place.specs.declared.placed.Placed.{Placed}
 use Rattle.geo_place.specs.declared.triples.Triple.{Triple}
 use Rattle.geo_place.specs.Evaluation.{EndsAs, IsLeast, IsReckoned, placed_all}
 use Rattle.geo_place.specs.Inner.{EndsWith, IsTripleOf, Run, name_lines, triple_at}
-use Rattle.geo_place.specs.Placing.{AreTold, IsAnswer, IsTold, Places, point_lines}
+use Rattle.geo_place.specs.Placing.{AreTold, IsAnswer, IsDrawable, IsTold, Places, point_lines}
 use Rattle.geo_place.proofs.LawProofs.{evaluation_places, unmet_values_place_nothing}
 use Rattle.geo_place.proofs.LeastTriples.{least_once}
 
@@ -81,3 +85,44 @@ module _ (p : Source) (w : IsWellFormed p) (l : LoweredForm) (i : IsLowered p l)
   answer_stopped conditions (Unmet k) h = record { reckoned = placed; is_reckoned = r; ends = h; none = λ q a b. unmet_values_place_nothing p l v placed k w i r h q a b }
   answer_stopped conditions (TooLarge line) h = record { reckoned = placed; is_reckoned = r; ends = h }
   answer_stopped conditions NoMemory h = tt
+
+-- an error that is passed on
+pub refused_answer : (p : Source) (v : ProgramValues) (r : Result Placed PlaceError) (x : PlaceError) → IsErrAnd r (λ e. e ≡ x) → IsAnswer p v (Err x) → IsAnswer p v r
+refused_answer p v (Ok t) x h a = absurd h
+refused_answer p v (Err e) x h a = subst (λ (f : PlaceError). IsAnswer p v (Err f)) (sym h) a
+
+-- POINTS THAT CAN BE DRAWN
+name_some : (text : List ℕ) → IsNameText text → 1 ≤ length text
+name_some [] h = let z : false ≡ true = h.first in cc
+name_some (c ∷ cs) h = omega arith
+
+names_some : (names : List Name) → AllByRecursion (λ n. IsNameText n.text) names → AllByRecursion (λ t. 1 ≤ length t) (names_of kind.Point names)
+names_some [] h = tt
+names_some (n ∷ ns) h = go n.kind
+  where
+    go : (k : NameKind) → AllByRecursion (λ t. 1 ≤ length t) (names_of kind.Point (record { text = n.text; kind = k } ∷ ns))
+    go kind.Point = (name_some n.text h.0, names_some ns h.1)
+    go kind.Param = names_some ns h.1
+    go kind.Line = names_some ns h.1
+
+each_drawable : (points : List At) (texts : List (List ℕ)) → map (λ a. a.name) points ≡ texts → AllByRecursion (λ t. 1 ≤ length t) texts
+    → ((k : ℕ) (a : At) → slice_get points k ≡ Some a → 1 ≤ length a.name → IsDrawable a) → AllByRecursion IsDrawable points
+each_drawable [] texts e h f = tt
+each_drawable (p ∷ ps) [] e h f = absurd (none_before [] p.name (map (λ a. a.name) ps) e)
+each_drawable (p ∷ ps) (t ∷ ts) e h f =
+    (f 0 p refl (subst (λ (n : List ℕ). 1 ≤ length n) (sym (head_of e)) h.0), each_drawable ps ts (tail_of e) h.1 (λ k a g. f (suc k) a g))
+
+pub all_drawable : (p : Source) → IsWellFormed p → (placed : Placement) (points : List At) (triples : List Triple)
+    → map (λ a. a.name) points ≡ names_of kind.Point p.names → map triple_at points ≡ triples
+    → ((a : ℕ) (t : Triple) → slice_get triples a ≡ Some t → IsTripleOf t (placed.point (point_place p.commands a))) → All IsDrawable points
+all_drawable p w placed points triples a c h =
+    All-from_recursion IsDrawable points
+    (each_drawable points (names_of kind.Point p.names) a (names_some p.names (recursion_from_All (λ n. IsNameText n.text) p.names w.names))
+    (λ k q e n.
+    let t = h k (triple_at q) (subst (λ (ts : List Triple). slice_get ts k ≡ Some (triple_at q)) c (get_map triple_at points k q e)) in
+    record {
+      w = subst (λ z. pos 1 ≤ℤ z) (sym t.w) (let l : 0 < t.told.w = t.told.positive in omega (arith, ints, l));
+      short_x = t.short_x;
+      short_y = t.short_y;
+      named = n;
+    }))

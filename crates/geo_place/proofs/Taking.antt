@@ -1,5 +1,5 @@
 -- How an evaluation goes on by one command.
-use Rattle.std.proofs.Common.{◌≡◌, ◌⊎◌, inl, inr, ⊎_elim, ℕ, zero, suc, ◌+◌, ◌-◌, ◌<◌, ◌≤◌, Bool, true, false, ℤ, List, [], ◌∷◌, ◌++◌, length, map, refl, sym, ◌∙◌, ap, subst, append_assoc, append-nil, arith}
+use Rattle.std.proofs.Common.{◌≡◌, ◌⊎◌, inl, inr, ⊎_elim, ℕ, zero, suc, ◌+◌, ◌-◌, ◌<◌, ◌≤◌, Bool, true, false, ℤ, List, [], ◌∷◌, ◌++◌, length, get_or, map, refl, sym, ◌∙◌, ap, subst, append_assoc, append-nil, arith}
 use Rattle.std.specs.Prelude.{◌≢◌, Option, Some, None, slice_get, take, drop}
 use Rattle.std.specs.List.{AllByRecursion}
 use Rattle.std.proofs.Math.Nat.{eq-or-lt_of_le}
@@ -33,7 +33,7 @@ use Rattle.geo_place.specs.declared.triples.Triple.{Triple}
 use Rattle.geo_place.specs.Evaluation.{IsTooLarge, IsTriplePast, LineTurn, Passes, Turn, at_line, makes, turns_of, write}
 use Rattle.geo_place.specs.Inner.{FirstFails, IsItemMet, IsPassed, IsRun, IsSketchOf, IsTaken, IsTripleOf, IsTripleStop, Run, Stops, TellsTriple, placement_of, point_at}
 use Rattle.geo_place.proofs.CommandTurns.{E, K, L, Listed, W, after_at, all_pass, commands_are, early, early_stop, early_terms, laid, late, late_stop, late_terms, listed_here, long, make_stop, n, named_next, past_next, points_few, points_up, steps, steps_here, write_stop, x}
-use Rattle.geo_place.proofs.ListParts.{get_before, get_behind, head_of, none_before, same_length, tail_of}
+use Rattle.geo_place.proofs.ListParts.{get_before, get_behind, got, head_of, none_before, same_length, tail_of}
 use Rattle.geo_place.proofs.Sketches.{point_found}
 use Rattle.geo_lowering.proofs.Puts.{of_path}
 use Rattle.geo_place.proofs.TestTurns.{tests_held, tests_pass, tests_stop}
@@ -172,18 +172,18 @@ module _ (run : Run) (problem : Problem) (ints : List ℤ) (h : IsRun run proble
   -- the items of the line end, and the late ones begin, at these places
   pub record Ends (items : List Item) (end late : ℕ) : Type 0 where
     pub same : items ≡ problem.conditions
-    pub end : end ≡ count
-    pub late : late ≡ length second
+    pub end_same : end ≡ count
+    pub late_same : late ≡ length second
 
   pub ends_are : (items : List Item) → items ≡ problem.conditions → (line : ℕ) → line ≡ suc k → (e : ℕ) → old.tested ≤ e → e ≤ length items
       → ((i : ℕ) (item : Item) → slice_get items i ≡ Some item → old.tested ≤ i → i < e → item.line ≡ line)
       → ((item : Item) → slice_get items e ≡ Some item → item.line ≢ line) → (l : ℕ) → ((x : PointId) → l ≡ length (late_conditions x c)) → Ends items e l
   ends_are items q line s e low high these next l late_is = record {
     same = q;
-    end = end_is e low (subst (λ (is : List Item). e ≤ length is) q high)
+    end_same = end_is e low (subst (λ (is : List Item). e ≤ length is) q high)
         (λ i item f a b. these i item (subst (λ (is : List Item). slice_get is i ≡ Some item) (sym q) f) a b ∙ s)
         (λ item f z. next item (subst (λ (is : List Item). slice_get is e ≡ Some item) (sym q) f) (z ∙ sym s));
-    late = late_is (record { 0 = x p w k c at }) ∙ sym parts.late_long;
+    late_same = late_is (record { 0 = x p w k c at }) ∙ sym parts.late_long;
   }
 
   pub late_long : length second ≡ length (late p w k c at)
@@ -256,10 +256,8 @@ module _ (run : Run) (problem : Problem) (ints : List ℤ) (h : IsRun run proble
   make_fail error a s = make_stop p w k c at run.values run.placed run.conditions error t.passed a (subst (λ ts. Stops run ts error) make_line s)
 
   -- how many points there are then
-  pub after_is : (a : ℕ) → slice_get problem.after k ≡ Some a → a ≡ next_point (n p w k c at) c
-  after_is a e =
-      let q : slice_get problem.after k ≡ Some (next_point (n p w k c at) c) = ap (λ (ns : List ℕ). slice_get ns k) h.lowered.after ∙ after_at 0 p.commands k c at in
-      ap (λ (o : Option ℕ). elim o [ None ↦ a | Some z ↦ z ]) (sym e ∙ q)
+  pub after_got : (a : ℕ) → a ≡ get_or problem.after k a → a ≡ next_point (n p w k c at) c
+  after_got a e = got problem.after k a (next_point (n p w k c at) c) e (ap (λ (ns : List ℕ). slice_get ns k) h.lowered.after ∙ after_at 0 p.commands k c at)
 
   pub after_long : k < length problem.after
   after_long = go problem.after k (ap (λ (ns : List ℕ). slice_get ns k) h.lowered.after ∙ after_at 0 p.commands k c at)
@@ -311,7 +309,7 @@ module _ (run : Run) (problem : Problem) (ints : List ℤ) (h : IsRun run proble
 
         pub triple_is : (u : Triple) → IsTripleOf u (point_at q) → IsTripleOf u (run.placed.point (point_place p.commands (x p w k c at)))
         triple_is u z =
-            subst (λ (i : ℕ). IsTripleOf u (run.placed.point i)) (sym point_is) (record { told = z.told; x = z.x; y = z.y; w = z.w; least = z.least; same = point_trans _ _ _ z.same there })
+            subst (λ (i : ℕ). IsTripleOf u (run.placed.point i)) (sym point_is) (record { told = z.told; x = z.x; y = z.y; w = z.w; least = z.least; same = point_trans _ _ _ z.same there; short_x = z.short_x; short_y = z.short_y })
 
         pub write_fail : (error : PlaceError) → AllByRecursion (Passes p run.placed) (E p w k c at) → AllByRecursion (Passes p run.placed) (K p w k c at) → IsTripleStop q (suc k) error → Stops run (turns_of p) error
         write_fail (Unmet j) a b' z = absurd z

@@ -57,7 +57,7 @@ point_at s = record {
   positive = mul-pos s.x.nonzero s.y.nonzero;
 }
 
--- the triple is the point's, with the least w
+-- the triple is the point's, with the least w, and its coordinates fit
 pub record IsTripleOf (t : Triple) (A : Point) : Type 0 where
   pub told : Point
   pub x : t.x ≡ told.x
@@ -65,6 +65,8 @@ pub record IsTripleOf (t : Triple) (A : Point) : Type 0 where
   pub w : t.w ≡ pos told.w
   pub least : IsLeast told
   pub same : SamePoint told A
+  pub short_x : unsigned_abs t.x < 2 ^ 127
+  pub short_y : unsigned_abs t.y < 2 ^ 127
 
 -- SKETCHES
 -- the placement of a sketch; past the ends it has zeros

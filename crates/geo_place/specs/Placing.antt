@@ -1,5 +1,5 @@
 -- What a call of `place` answers, and the text of its answer.
-use Rattle.std.specs.Prelude.{◌≡◌, ◌↔◌, ℕ, suc, ◌+◌, ◌*◌, ◌<◌, true, false, IsTrue, Some, Result, Ok, Err, ℤ, pos, codes, List, [], ◌∷◌, ◌++◌, length, map, slice_get, if◌then◌else◌}
+use Rattle.std.specs.Prelude.{◌≡◌, ◌↔◌, ℕ, suc, ◌+◌, ◌*◌, ◌<◌, ◌≤◌, ◌^◌, ◌≤ℤ◌, unsigned_abs, true, false, IsTrue, Some, Result, Ok, Err, ℤ, pos, codes, List, [], ◌∷◌, ◌++◌, length, map, slice_get, if◌then◌else◌}
 use Rattle.std.specs.Fmt.{signed_decimal}
 use Rattle.std.specs.List.{flat_map, join_with_byte}
 use Rattle.geo_points.specs.Placements.{Placement, SamePlacement}
@@ -82,6 +82,13 @@ IsAnswer p v (Ok answer) = Places p v answer
 IsAnswer p v (Err (Unmet k)) = PlacesNothing p v k
 IsAnswer p v (Err (TooLarge line)) = IsStopped p v line
 IsAnswer p v (Err NoMemory) = Unit {0}
+
+-- the point can be drawn: w is at least 1, no number is the least of 128 bits, and the name is not empty
+pub record IsDrawable (a : At) : Type 0 where
+  pub w : pos 1 ≤ℤ a.w
+  pub short_x : unsigned_abs a.x < 2 ^ 127
+  pub short_y : unsigned_abs a.y < 2 ^ 127
+  pub named : 1 ≤ length a.name
 
 -- TEXTS
 -- `NAME x y w`

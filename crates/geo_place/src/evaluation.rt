@@ -159,13 +159,15 @@ impl Progress {
         ensures taken { OnOk result (IsTaken run (k + 1) self.new) }
         ensures stops { IfErr result (Stops run (turns_of run.program)) }
     {
+        let after = problem.after.items.as_slice();
+        let to = after[k];
         let line = k as u64 + 1;
         let items = problem.conditions.items.as_slice();
         let end = conditions_through(items, self.tested, line);
         let middle = end - late_count(command);
         let terms = problem.steps.look();
         test_conditions(&self.sketch, terms, &items[self.tested..middle], self.tested)?;
-        self.sketch.make_points(problem, values, problem.after.items[k], line)?;
+        self.sketch.make_points(problem, values, to, line)?;
         if names_point(command) {
             self.tell(line)?;
         }

@@ -1,9 +1,10 @@
 //! A program at values.
 
-ghost use Rattle.std.specs.Prelude.{◌≡◌, ◌<◌, ◌^◌, All, length, unsigned_abs};
+ghost use Rattle.std.specs.Prelude.{◌≡◌, ◌<◌, ◌^◌, All, IfOk, length, unsigned_abs};
 ghost use Rattle.geo_program.specs.Programs.{source_of};
 ghost use Rattle.geo_conditions.specs.Truth.{ProgramValues, free_points as numbers_of_free_points};
-ghost use Rattle.geo_place.specs.Placing.{IsAnswer, integers_of, values_wanted};
+ghost use Rattle.geo_place.specs.Placing.{IsAnswer, IsDrawable, integers_of};
+ghost use Rattle.geo_place.specs.Placing.{values_wanted};
 
 use crate::errors::PlaceError;
 use crate::evaluation::evaluate;
@@ -20,9 +21,10 @@ use std::alloc::Global;
 pub fn place(alloc: Global, program: &Program, values: &Ints) -> Result<Placed, PlaceError>
     requires wanted { length values.now ≡ values_wanted (source_of program.now) }
     requires short { All (λ z. unsigned_abs z < 2 ^ 127) values.now }
-    ensures { (v : ProgramValues)
+    ensures answer { (v : ProgramValues)
         → length v.coordinates ≡ length (numbers_of_free_points 0 program.now.commands)
         → integers_of v ≡ values.now → IsAnswer (source_of program.now) v result }
+    ensures drawable { IfOk result (λ answer. All IsDrawable answer.points) }
 {
     let lowered = lower(alloc, program)?;
     let problem = list(alloc, program, lowered)?;

@@ -49,6 +49,6 @@ returns c =
     let right : r ≡ pos (unsigned_abs f.x.den / unsigned_abs common) =
     c.quotient-right.ensures ∙ ap (λ (z : ℤ). pos (unsigned_abs z / unsigned_abs (to_z w128 (of_z w128 common)))) X ∙ ap (λ (z : ℤ). pos (unsigned_abs f.x.den / unsigned_abs z)) D in
     let t = times_moved c.times.result (to_z w128 (of_z w128 f.x.num)) f.x.num (to_z w128 (of_z w128 f.y.num)) f.y.num (to_z w128 (of_z w128 f.x.den)) f.x.den (to_z w128 (of_z w128 l)) l (to_z w128 (of_z w128 r)) r
-    (to_z-of_z w128 f.x.num u) (to_z-of_z w128 f.y.num v) X (to_z-of_z w128 l a) (to_z-of_z w128 r b) (c.times.ensures.triple, (c.times.ensures.fits, c.times.ensures.past)) in
+    (to_z-of_z w128 f.x.num u) (to_z-of_z w128 f.y.num v) X (to_z-of_z w128 l a) (to_z-of_z w128 r b) (c.times.ensures.triple, c.times.ensures.fits, c.times.ensures.past) in
     let k = triple_result f (unsigned_abs common) g c.times.result l r left right t.0 t.1 t.2 in
     record { triple = k.triple; fits = k.fits; past = k.past }
