@@ -70,7 +70,7 @@ module _ (bounds : Bounds) (xs : List Fraction) (a : Fraction) (n : xs ≢ []) w
   wider_found (Ok l') (Err e') l g (Err e) ok err = λ k. second_refused xs n g k
 
 -- FRAMES
-no_points : (points : List At) (f : At → Fraction) → points ≢ [] → map f points ≢ []
+pub no_points : (points : List At) (f : At → Fraction) → points ≢ [] → map f points ≢ []
 no_points [] f n e = n refl
 no_points (p ∷ ps) f n e = cc
 

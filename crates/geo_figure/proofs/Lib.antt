@@ -1,3 +1,4 @@
 pub mod BoundLaws
 pub mod ShareLaws
 pub mod FrameTurns
+pub mod PictureLaws

@@ -97,6 +97,11 @@ cell_mark [] = 46
 cell_mark (c ∷ []) = c.letter
 cell_mark (c ∷ d ∷ more) = 42
 
+-- what is known of the byte of a place where these points stand: nothing, where there are none
+abbrev pub IsMark : Option ℕ → List Cell → Type 0
+IsMark None cells = cells ≡ []
+IsMark (Some byte) cells = (cells ≢ []) × (byte ≡ cell_mark cells)
+
 -- a line of the picture of these cells
 abbrev pub cell_line : List Cell → ℕ → List ℕ
 cell_line cells line = map (λ column. cell_mark (filter (is_cell column line) cells)) (first_numbers 41) ++ 10 ∷ []

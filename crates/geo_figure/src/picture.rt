@@ -1,28 +1,36 @@
 //! The picture: 21 lines of 41 bytes.
 
-ghost use Rattle.std.specs.Prelude.{◌≡◌, ◌∷◌, ◌++◌, [], OnOk, map};
+ghost use Rattle.std.specs.Prelude.{◌≡◌, ◌∷◌, ◌++◌, [], List, OnOk};
 ghost use Rattle.std.specs.List.{filter, flat_map};
 ghost use Rattle.geo_figure.specs.Drawing.{first_numbers};
-ghost use Rattle.geo_figure.specs.Inner.{cell_line, cell_mark, is_cell};
+ghost use Rattle.geo_figure.specs.Inner.{IsMark, cell_line, cell_mark, is_cell};
 
 use crate::cells::Cell;
 use geo_points::NoMemory;
+
+/// The byte of a place, where one more point stands.
+fn one_more(mark: Option<u8>, letter: u8) -> u8
+    ensures { (cells : List Cell) (c : Cell) → IsMark mark cells → c.letter ≡ letter
+        → result ≡ cell_mark (cells ++ c ∷ []) }
+{
+    match mark {
+        None => letter,
+        Some(_) => b'*',
+    }
+}
 
 /// The byte of a place in the picture: `.` where no point stands, the letter where one does, and
 /// `*` where several do.
 fn mark(cells: &[Cell], column: u128, line: u128) -> u8
     ensures { result ≡ cell_mark (filter (is_cell column line) cells.now) }
 {
-    let mut letter = None;
+    let mut found = None;
     for cell in cells {
         if cell.column == column && cell.line == line {
-            letter = Some(if letter.is_some() { b'*' } else { cell.letter });
+            found = Some(one_more(found, cell.letter));
         }
     }
-    match letter {
-        Some(byte) => byte,
-        None => b'.',
-    }
+    found.unwrap_or(b'.')
 }
 
 /// Appends a line of the picture.

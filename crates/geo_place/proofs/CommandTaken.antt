@@ -81,7 +81,7 @@ module _ (run : Run) (problem : Problem) (ints : List ℤ) (h : IsRun run proble
     steps_fail error s = make_fail run problem ints h k c at old t error early_passed (subst (λ (ts : List LineTurn). Stops run ts error) steps_are s)
 
     module _ (passed : Passed (steps after)) (new : Sketch) (s : IsSketchOf run new) (long : length new.points.items ≡ after) where
-      made : length new.points.items ≡ past
+      pub made : length new.points.items ≡ past
       made = long ∙ behind
 
       steps_passed : Passed (K p h.formed k c at)

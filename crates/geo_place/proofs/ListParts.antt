@@ -2,7 +2,9 @@
 use Rattle.std.proofs.Common.{◌≡◌, ℕ, zero, suc, ◌+◌, ◌<◌, ◌≤◌, ◌⊎◌, inl, inr, ⊎_elim, Contains, List, [], ◌∷◌, ◌++◌, length, get_or, map, refl, sym, ◌∙◌, ap, subst, append_assoc, append-nil, arith}
 use Rattle.std.specs.Prelude.{Option, Some, None, slice_get, slice_index_or, take, drop}
 use Rattle.std.specs.List.{AllByRecursion}
-use Rattle.std.proofs.lemmas.List.{append_cancel_left, length-append}
+use Rattle.std.specs.Prelude.{◌-◌, All}
+use Rattle.std.proofs.lemmas.List.{append_cancel_left, length-append, length-drop, take_all}
+use Rattle.std.proofs.lemmas.List.Elements.{All-from_recursion, recursion_from_All}
 use Rattle.geo_lowering.proofs.ConditionValues.{each_append, each_front}
 use Rattle.geo_conditions.specs.Lists.{IsListed}
 use Rattle.geo_conditions.proofs.Listings.{held}
@@ -164,3 +166,16 @@ pub some_below : {A : Type 0} (xs : List A) (k : ℕ) (x : A) → slice_get xs k
 some_below [] k x e = cc
 some_below (y ∷ ys) zero x e = omega arith
 some_below (y ∷ ys) (suc k) x e = let h : k < length ys = some_below ys k x e in omega arith
+
+-- WHAT IS LEFT
+pub left_all : {A : Type 0} (xs : List A) (k : ℕ) → take (length xs - k) (drop k xs) ≡ drop k xs
+left_all xs k = take_all (length xs - k) (drop k xs) (let q = length-drop k xs in omega (arith, q))
+
+pub all_left : {A : Type 0} (P : A → Type 0) (xs : List A) (k : ℕ) → All P xs → All P (drop k xs)
+all_left {A} P xs k h = All-from_recursion P (drop k xs) (go xs k (recursion_from_All P xs h))
+  where
+    go : (ys : List A) (i : ℕ) → AllByRecursion P ys → AllByRecursion P (drop i ys)
+    go [] zero h = tt
+    go [] (suc i) h = tt
+    go (y ∷ ys) zero h = h
+    go (y ∷ ys) (suc i) h = go ys i h.1

@@ -98,12 +98,12 @@ name_some (c ∷ cs) h = omega arith
 
 names_some : (names : List Name) → AllByRecursion (λ n. IsNameText n.text) names → AllByRecursion (λ t. 1 ≤ length t) (names_of kind.Point names)
 names_some [] h = tt
-names_some (n ∷ ns) h = go n.kind
+names_some (n ∷ ns) h = go n.kind (names_some ns h.1)
   where
-    go : (k : NameKind) → AllByRecursion (λ t. 1 ≤ length t) (names_of kind.Point (record { text = n.text; kind = k } ∷ ns))
-    go kind.Point = (name_some n.text h.0, names_some ns h.1)
-    go kind.Param = names_some ns h.1
-    go kind.Line = names_some ns h.1
+    go : (k : NameKind) → AllByRecursion (λ t. 1 ≤ length t) (names_of kind.Point ns) → AllByRecursion (λ t. 1 ≤ length t) (names_of kind.Point (record { text = n.text; kind = k } ∷ ns))
+    go kind.Point r = (name_some n.text h.0, r)
+    go kind.Param r = r
+    go kind.Line r = r
 
 each_drawable : (points : List At) (texts : List (List ℕ)) → map (λ a. a.name) points ≡ texts → AllByRecursion (λ t. 1 ≤ length t) texts
     → ((k : ℕ) (a : At) → slice_get points k ≡ Some a → 1 ≤ length a.name → IsDrawable a) → AllByRecursion IsDrawable points

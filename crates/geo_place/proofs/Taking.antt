@@ -1,6 +1,6 @@
 -- How an evaluation goes on by one command.
-use Rattle.std.proofs.Common.{◌≡◌, ◌⊎◌, inl, inr, ⊎_elim, ℕ, zero, suc, ◌+◌, ◌-◌, ◌<◌, ◌≤◌, Bool, true, false, ℤ, List, [], ◌∷◌, ◌++◌, length, get_or, map, refl, sym, ◌∙◌, ap, subst, append_assoc, append-nil, arith}
-use Rattle.std.specs.Prelude.{◌≢◌, Option, Some, None, slice_get, take, drop}
+use Rattle.std.proofs.Common.{◌≡◌, ◌⊎◌, inl, inr, ⊎_elim, ℕ, zero, suc, ◌+◌, ◌-◌, ◌<◌, ◌≤◌, Bool, true, false, ℤ, List, [], ◌∷◌, ◌++◌, length, map, refl, sym, ◌∙◌, ap, subst, append_assoc, append-nil, arith}
+use Rattle.std.specs.Prelude.{◌≢◌, Option, Some, None, slice_get, slice_index_or, take, drop}
 use Rattle.std.specs.List.{AllByRecursion}
 use Rattle.std.proofs.Math.Nat.{eq-or-lt_of_le}
 use Rattle.std.proofs.lemmas.Bool.{cases_lt}
@@ -33,7 +33,7 @@ use Rattle.geo_place.specs.declared.triples.Triple.{Triple}
 use Rattle.geo_place.specs.Evaluation.{IsTooLarge, IsTriplePast, LineTurn, Passes, Turn, at_line, makes, turns_of, write}
 use Rattle.geo_place.specs.Inner.{FirstFails, IsItemMet, IsPassed, IsRun, IsSketchOf, IsTaken, IsTripleOf, IsTripleStop, Run, Stops, TellsTriple, placement_of, point_at}
 use Rattle.geo_place.proofs.CommandTurns.{E, K, L, Listed, W, after_at, all_pass, commands_are, early, early_stop, early_terms, laid, late, late_stop, late_terms, listed_here, long, make_stop, n, named_next, past_next, points_few, points_up, steps, steps_here, write_stop, x}
-use Rattle.geo_place.proofs.ListParts.{get_before, get_behind, got, head_of, none_before, same_length, tail_of}
+use Rattle.geo_place.proofs.ListParts.{get_before, get_behind, head_of, index_at, none_before, same_length, tail_of}
 use Rattle.geo_place.proofs.Sketches.{point_found}
 use Rattle.geo_lowering.proofs.Puts.{of_path}
 use Rattle.geo_place.proofs.TestTurns.{tests_held, tests_pass, tests_stop}
@@ -256,8 +256,8 @@ module _ (run : Run) (problem : Problem) (ints : List ℤ) (h : IsRun run proble
   make_fail error a s = make_stop p w k c at run.values run.placed run.conditions error t.passed a (subst (λ ts. Stops run ts error) make_line s)
 
   -- how many points there are then
-  pub after_got : (a : ℕ) → a ≡ get_or problem.after k a → a ≡ next_point (n p w k c at) c
-  after_got a e = got problem.after k a (next_point (n p w k c at) c) e (ap (λ (ns : List ℕ). slice_get ns k) h.lowered.after ∙ after_at 0 p.commands k c at)
+  pub after_is : slice_index_or problem.after k 0 ≡ next_point (n p w k c at) c
+  after_is = index_at problem.after k 0 (next_point (n p w k c at) c) (ap (λ (ns : List ℕ). slice_get ns k) h.lowered.after ∙ after_at 0 p.commands k c at)
 
   pub after_long : k < length problem.after
   after_long = go problem.after k (ap (λ (ns : List ℕ). slice_get ns k) h.lowered.after ∙ after_at 0 p.commands k c at)

@@ -1,5 +1,5 @@
-use Rattle.std.proofs.Common.{rules, ◌≡◌, ◌+◌, ◌*◌, ◌<◌, ◌≤◌, ◌^◌, ℕ, List, All, Fits, w64, pos, length, arith, refl, sym, ◌∙◌, ap, subst}
-use Rattle.std.specs.Prelude.{Ok, Err, Some, slice_get, slice_index_or, drop}
+use Rattle.std.proofs.Common.{rules, ◌≡◌, ◌+◌, ◌-◌, ◌*◌, ◌<◌, ◌≤◌, ◌^◌, ℕ, List, All, Fits, w64, pos, length, arith, refl, sym, ◌∙◌, ap, subst}
+use Rattle.std.specs.Prelude.{Ok, Err, Some, slice_get, slice_index_or, take, drop}
 use Rattle.std.specs.List.{AllByRecursion, filter}
 use Rattle.ring_laws.specs.Fraction.{whole}
 use Rattle.frac_laws.specs.declared.frac.Frac.{Frac}
@@ -15,7 +15,8 @@ use Rattle.geo_place.specs.Inner.{EndsWith, FirstFails, GoalsCome, IsItemMet, Is
 use Rattle.geo_place.proofs.EndTurns.{ends_with}
 use Rattle.geo_place.proofs.Finishing.{all_end, stated_fail, told_all}
 use Rattle.geo_place.proofs.ItemTests.{passed_on}
-use Rattle.geo_place.proofs.ListParts.{some_at}
+use Rattle.std.proofs.lemmas.List.{length-drop}
+use Rattle.geo_place.proofs.ListParts.{all_left, left_all, some_at}
 use Rattle.geo_place.proofs.NextPoints.{all_items}
 use Rattle.geo_place.proofs.Starting.{first_taken, frees_fit}
 use Rattle.geo_place.proofs.evaluation.evaluate.Goals as goal
@@ -30,8 +31,8 @@ new-requires-clause-free g c =
     let fit = frees_fit g.run Q V h in
     omega (arith, frees, fit)
 
-pub loop-k-initial : goal.loop-k-initial
-loop-k-initial g c =
+pub loop-k-init : goal.loop-k-init
+loop-k-init g c =
     let Q = c.args.problem.now in
     let V = c.args.values.now in
     let h = c.requires.0 in
@@ -103,10 +104,46 @@ slice_bounds-test_conditions-start g c =
     few
 
 pub test_conditions-requires-clause-stored : goal.test_conditions-requires-clause-stored
-test_conditions-requires-clause-stored g c = ?
+test_conditions-requires-clause-stored g c =
+    let Q = c.args.problem.now in
+    let V = c.args.values.now in
+    let h = c.requires.0 in
+    let commands_are : c.as_slice-commands.result.now ≡ g.run.program.commands = c.as_slice-commands.ensures ∙ ap (λ (p : Source). p.commands) c.requires.1.1 in
+    let long = ap (λ (cs : List Command). length cs) commands_are in
+    let last : c.loop-k.k ≡ length g.run.program.commands = omega (arith, c.loop-k-test.false, c.loop-k.auto.k-end, long) in
+    let t = subst (λ (i : ℕ). IsTaken g.run i c.loop-k.progress) last c.loop-k.invariant in
+    let items = c.as_slice-items.result.now in
+    let same : items ≡ Q.conditions = c.as_slice-items.ensures.value ∙ ap (λ (q : Problem). q.conditions) c.problem.view_is in
+    let few : c.loop-k.progress.tested ≤ length items =
+    let a = t.tested in let b = all_items g.run Q V h in let d = ap (λ (is : List Item). length is) same in omega (arith, a, b, d) in
+    let nodes = c.look-terms.result.now in
+    let stored = c.look-terms.ensures ∙ ap (λ (q : Problem). q.steps.nodes) c.problem.view_is in
+    let progress = c.loop-k.progress in
+    let left = take (length items - progress.tested) (drop progress.tested items) in
+    let left_is = left_all items progress.tested ∙ ap (λ (is : List Item). drop progress.tested is) same in
+    subst (λ (is : List Item). All (λ i. i.term.0 < length nodes) is) (sym left_is)
+    (all_left (λ (i : Item). i.term.0 < length nodes) Q.conditions progress.tested (subst (λ (ns : Store). All (λ i. i.term.0 < length ns) Q.conditions) (sym stored) h.stored))
 
 pub test_conditions-requires-clause-few : goal.test_conditions-requires-clause-few
-test_conditions-requires-clause-few g c = ?
+test_conditions-requires-clause-few g c =
+    let Q = c.args.problem.now in
+    let V = c.args.values.now in
+    let h = c.requires.0 in
+    let commands_are : c.as_slice-commands.result.now ≡ g.run.program.commands = c.as_slice-commands.ensures ∙ ap (λ (p : Source). p.commands) c.requires.1.1 in
+    let long = ap (λ (cs : List Command). length cs) commands_are in
+    let last : c.loop-k.k ≡ length g.run.program.commands = omega (arith, c.loop-k-test.false, c.loop-k.auto.k-end, long) in
+    let t = subst (λ (i : ℕ). IsTaken g.run i c.loop-k.progress) last c.loop-k.invariant in
+    let items = c.as_slice-items.result.now in
+    let same : items ≡ Q.conditions = c.as_slice-items.ensures.value ∙ ap (λ (q : Problem). q.conditions) c.problem.view_is in
+    let few : c.loop-k.progress.tested ≤ length items =
+    let a = t.tested in let b = all_items g.run Q V h in let d = ap (λ (is : List Item). length is) same in omega (arith, a, b, d) in
+    let nodes = c.look-terms.result.now in
+    let stored = c.look-terms.ensures ∙ ap (λ (q : Problem). q.steps.nodes) c.problem.view_is in
+    let progress = c.loop-k.progress in
+    let left = take (length items - progress.tested) (drop progress.tested items) in
+    let left_is = left_all items progress.tested ∙ ap (λ (is : List Item). drop progress.tested is) same in
+    let short = ap (λ (is : List Item). length is) (left_all items progress.tested) ∙ length-drop progress.tested items in
+    omega (arith, few, short, c.as_slice-items.type_inv.1)
 
 pub returns-in_err-test_conditions-clause-stopped : goal.returns-in_err-test_conditions-clause-stopped
 returns-in_err-test_conditions-clause-stopped g c =
@@ -124,8 +161,8 @@ returns-in_err-test_conditions-clause-stopped g c =
     let nodes = c.look-terms.result.now in
     let stored = c.look-terms.ensures ∙ ap (λ (q : Problem). q.steps.nodes) c.problem.view_is in
     let progress = c.loop-k.progress in
-    let left = drop progress.tested items in
-    let left_is = ap (λ (is : List Item). drop progress.tested is) same in
+    let left = take (length items - progress.tested) (drop progress.tested items) in
+    let left_is = left_all items progress.tested ∙ ap (λ (is : List Item). drop progress.tested is) same in
     let e = c.in_err-test_conditions.field-0.0 in
     passed_on c.from_residual-in_err-test_conditions.result e (EndsWith g.run) c.from_residual-in_err-test_conditions.ensures.1
     (stated_fail g.run Q V h progress t left left_is e (subst (λ (ns : Store). FirstFails progress.sketch ns left progress.tested e) stored c.in_err-test_conditions.ensures.fails))
@@ -146,8 +183,8 @@ returns-in_err-holds-clause-stopped g c =
     let nodes = c.look-terms.result.now in
     let stored = c.look-terms.ensures ∙ ap (λ (q : Problem). q.steps.nodes) c.problem.view_is in
     let progress = c.loop-k.progress in
-    let left = drop progress.tested items in
-    let left_is = ap (λ (is : List Item). drop progress.tested is) same in
+    let left = take (length items - progress.tested) (drop progress.tested items) in
+    let left_is = left_all items progress.tested ∙ ap (λ (is : List Item). drop progress.tested is) same in
     let goals = c.deref.result.now in
     let goals_are : goals ≡ Q.goals = c.deref.ensures.value ∙ ap (λ (q : Problem). q.goals) c.problem.view_is in
     let met = subst (λ (ns : Store). AllByRecursion (IsItemMet progress.sketch ns) left) stored c.in_ok-test_conditions.ensures.met in
@@ -172,8 +209,8 @@ returns-clause-placed g c =
     let nodes = c.look-terms.result.now in
     let stored = c.look-terms.ensures ∙ ap (λ (q : Problem). q.steps.nodes) c.problem.view_is in
     let progress = c.loop-k.progress in
-    let left = drop progress.tested items in
-    let left_is = ap (λ (is : List Item). drop progress.tested is) same in
+    let left = take (length items - progress.tested) (drop progress.tested items) in
+    let left_is = left_all items progress.tested ∙ ap (λ (is : List Item). drop progress.tested is) same in
     let goals = c.deref.result.now in
     let goals_are : goals ≡ Q.goals = c.deref.ensures.value ∙ ap (λ (q : Problem). q.goals) c.problem.view_is in
     let met = subst (λ (ns : Store). AllByRecursion (IsItemMet progress.sketch ns) left) stored c.in_ok-test_conditions.ensures.met in

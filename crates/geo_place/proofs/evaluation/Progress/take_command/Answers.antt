@@ -8,7 +8,7 @@ use Rattle.geo_place.specs.Evaluation.{turns_of}
 use Rattle.geo_place.specs.Inner.{Stops}
 use Rattle.geo_place.proofs.CommandTaken.{TellsAll, back_fails, command_taken, front_fails, last_there, none_told, one_told, steps_fail, tell_fails}
 use Rattle.geo_place.proofs.ItemTests.{passed_on}
-use Rattle.geo_place.proofs.Taking.{after_got, after_long, ends_are, next_few, next_up}
+use Rattle.geo_place.proofs.Taking.{after_is, after_long, ends_are, next_few, next_up}
 use Rattle.geo_place.proofs.evaluation.Progress.take_command.Goals as goal
 use Rattle.geo_place.proofs.evaluation.Progress.take_command.Goals.{then-names_point+in_ok-tell, else-names_point}
 
@@ -95,8 +95,8 @@ returns-in_err-test_conditions-clause-stops g c =
     passed_on c.from_residual.result e (Stops g.run (turns_of g.run.program)) c.from_residual.ensures.1
     (front_fails g.run Q V h k C at old t items through.result late ends nodes stored (k + 1) next e c.in_err-test_conditions.ensures.fails)
 
-pub index_bounds-to : goal.index_bounds-to
-index_bounds-to g c =
+pub bounds-after-k : goal.bounds-after-k
+bounds-after-k g c =
     let Q = c.args.problem.now in
     let V = c.args.values.now in
     let C = c.args.command.now in
@@ -105,7 +105,36 @@ index_bounds-to g c =
     let h = c.requires.0 in
     let t = c.requires.1.0 in
     let at = c.requires.1.1 in
-    subst (λ (ns : List ℕ). k < length ns) (sym (c.as_slice-after.ensures.value ∙ ap (λ (q : Problem). q.after) c.problem.view_is)) (after_long g.run Q V h k C at old t)
+    let l = subst (λ (ns : List ℕ). k < length ns) (sym (c.as_slice-after.ensures.value ∙ ap (λ (q : Problem). q.after) c.problem.view_is)) (after_long g.run Q V h k C at old t) in
+    l
+
+pub offset_bounds-after-k : goal.offset_bounds-after-k
+offset_bounds-after-k g c =
+    let Q = c.args.problem.now in
+    let V = c.args.values.now in
+    let C = c.args.command.now in
+    let k = c.args.k in
+    let old = c.args.self.now in
+    let h = c.requires.0 in
+    let t = c.requires.1.0 in
+    let at = c.requires.1.1 in
+    let l = subst (λ (ns : List ℕ). k < length ns) (sym (c.as_slice-after.ensures.value ∙ ap (λ (q : Problem). q.after) c.problem.view_is)) (after_long g.run Q V h k C at old t) in
+    let few = c.as_slice-after.type_inv.1 in
+    omega (arith, l, few)
+
+pub overflow_add-line : goal.overflow_add-line
+overflow_add-line g c =
+    let Q = c.args.problem.now in
+    let V = c.args.values.now in
+    let C = c.args.command.now in
+    let k = c.args.k in
+    let old = c.args.self.now in
+    let h = c.requires.0 in
+    let t = c.requires.1.0 in
+    let at = c.requires.1.1 in
+    let l = subst (λ (ns : List ℕ). k < length ns) (sym (c.as_slice-after.ensures.value ∙ ap (λ (q : Problem). q.after) c.problem.view_is)) (after_long g.run Q V h k C at old t) in
+    let few = c.as_slice-after.type_inv.0 in
+    omega (arith, l, few)
 
 pub make_points-requires : goal.make_points-requires
 make_points-requires g c =
@@ -117,8 +146,8 @@ make_points-requires g c =
     let h = c.requires.0 in
     let t = c.requires.1.0 in
     let at = c.requires.1.1 in
-    let after = c.index-to.result in
-    let behind = after_got g.run Q V h k C at old t after (c.index-to.is ∙ ap (λ (ns : List ℕ). slice_index_or ns k after) (c.as_slice-after.ensures.value ∙ ap (λ (q : Problem). q.after) c.problem.view_is)) in
+    let after = slice_index_or c.as_slice-after.result.now k 0 in
+    let behind = ap (λ (ns : List ℕ). slice_index_or ns k 0) (c.as_slice-after.ensures.value ∙ ap (λ (q : Problem). q.after) c.problem.view_is) ∙ after_is g.run Q V h k C at old t in
     let up = next_up g.run Q V h k C at old t in
     let few = next_few g.run Q V h k C at old t in
     (h, (t.sketch, (omega (arith, behind, up), omega (arith, behind, few))))
@@ -142,8 +171,8 @@ returns-in_err-make_points-clause-stops g c =
     let nodes = c.look-terms.result.now in
     let stored = c.look-terms.ensures ∙ ap (λ (q : Problem). q.steps.nodes) c.problem.view_is in
     let met = c.in_ok-test_conditions.ensures.met in
-    let after = c.index-to.result in
-    let behind = after_got g.run Q V h k C at old t after (c.index-to.is ∙ ap (λ (ns : List ℕ). slice_index_or ns k after) (c.as_slice-after.ensures.value ∙ ap (λ (q : Problem). q.after) c.problem.view_is)) in
+    let after = slice_index_or c.as_slice-after.result.now k 0 in
+    let behind = ap (λ (ns : List ℕ). slice_index_or ns k 0) (c.as_slice-after.ensures.value ∙ ap (λ (q : Problem). q.after) c.problem.view_is) ∙ after_is g.run Q V h k C at old t in
     let e = c.in_err-make_points.field-0.0 in
     passed_on c.from_residual-in_err-make_points.result e (Stops g.run (turns_of g.run.program)) c.from_residual-in_err-make_points.ensures.1
     (steps_fail g.run Q V h k C at old t items through.result late ends nodes stored (k + 1) next met after behind e c.in_err-make_points.ensures.stops)
@@ -167,8 +196,8 @@ tell-requires g c =
     let nodes = c.look-terms.result.now in
     let stored = c.look-terms.ensures ∙ ap (λ (q : Problem). q.steps.nodes) c.problem.view_is in
     let met = c.in_ok-test_conditions.ensures.met in
-    let after = c.index-to.result in
-    let behind = after_got g.run Q V h k C at old t after (c.index-to.is ∙ ap (λ (ns : List ℕ). slice_index_or ns k after) (c.as_slice-after.ensures.value ∙ ap (λ (q : Problem). q.after) c.problem.view_is)) in
+    let after = slice_index_or c.as_slice-after.result.now k 0 in
+    let behind = ap (λ (ns : List ℕ). slice_index_or ns k 0) (c.as_slice-after.ensures.value ∙ ap (λ (q : Problem). q.after) c.problem.view_is) ∙ after_is g.run Q V h k C at old t in
     let made = c.in_ok-make_points.ensures in
     last_there g.run Q V h k C at old t items through.result late ends nodes stored (k + 1) next met after behind made.passed c.make_points.new.self made.sketch made.points (sym c.names_point.ensures ∙ c.if-names_point.true)
 
@@ -191,8 +220,8 @@ returns-in_err-tell-clause-stops g c =
     let nodes = c.look-terms.result.now in
     let stored = c.look-terms.ensures ∙ ap (λ (q : Problem). q.steps.nodes) c.problem.view_is in
     let met = c.in_ok-test_conditions.ensures.met in
-    let after = c.index-to.result in
-    let behind = after_got g.run Q V h k C at old t after (c.index-to.is ∙ ap (λ (ns : List ℕ). slice_index_or ns k after) (c.as_slice-after.ensures.value ∙ ap (λ (q : Problem). q.after) c.problem.view_is)) in
+    let after = slice_index_or c.as_slice-after.result.now k 0 in
+    let behind = ap (λ (ns : List ℕ). slice_index_or ns k 0) (c.as_slice-after.ensures.value ∙ ap (λ (q : Problem). q.after) c.problem.view_is) ∙ after_is g.run Q V h k C at old t in
     let made = c.in_ok-make_points.ensures in
     let e = c.in_err-tell.field-0.0 in
     passed_on c.from_residual-in_err-tell.result e (Stops g.run (turns_of g.run.program)) c.from_residual-in_err-tell.ensures.1
@@ -217,8 +246,8 @@ returns-in_err-test_conditions-2-clause-stops g c =
     let nodes = c.look-terms.result.now in
     let stored = c.look-terms.ensures ∙ ap (λ (q : Problem). q.steps.nodes) c.problem.view_is in
     let met = c.in_ok-test_conditions.ensures.met in
-    let after = c.index-to.result in
-    let behind = after_got g.run Q V h k C at old t after (c.index-to.is ∙ ap (λ (ns : List ℕ). slice_index_or ns k after) (c.as_slice-after.ensures.value ∙ ap (λ (q : Problem). q.after) c.problem.view_is)) in
+    let after = slice_index_or c.as_slice-after.result.now k 0 in
+    let behind = ap (λ (ns : List ℕ). slice_index_or ns k 0) (c.as_slice-after.ensures.value ∙ ap (λ (q : Problem). q.after) c.problem.view_is) ∙ after_is g.run Q V h k C at old t in
     let made = c.in_ok-make_points.ensures in
     let told : TellsAll g.run Q V h k C at old t items through.result late ends nodes stored (k + 1) next met after behind made.passed c.make_points.new.self made.sketch made.points c.if-names_point.self.sketch c.if-names_point.self.triples.items = elim c.if-names_point.branch [
         then-names_point+in_ok-tell w ↦
@@ -251,8 +280,8 @@ returns-clause-taken g c =
     let nodes = c.look-terms.result.now in
     let stored = c.look-terms.ensures ∙ ap (λ (q : Problem). q.steps.nodes) c.problem.view_is in
     let met = c.in_ok-test_conditions.ensures.met in
-    let after = c.index-to.result in
-    let behind = after_got g.run Q V h k C at old t after (c.index-to.is ∙ ap (λ (ns : List ℕ). slice_index_or ns k after) (c.as_slice-after.ensures.value ∙ ap (λ (q : Problem). q.after) c.problem.view_is)) in
+    let after = slice_index_or c.as_slice-after.result.now k 0 in
+    let behind = ap (λ (ns : List ℕ). slice_index_or ns k 0) (c.as_slice-after.ensures.value ∙ ap (λ (q : Problem). q.after) c.problem.view_is) ∙ after_is g.run Q V h k C at old t in
     let made = c.in_ok-make_points.ensures in
     let told : TellsAll g.run Q V h k C at old t items through.result late ends nodes stored (k + 1) next met after behind made.passed c.make_points.new.self made.sketch made.points c.if-names_point.self.sketch c.if-names_point.self.triples.items = elim c.if-names_point.branch [
         then-names_point+in_ok-tell w ↦
