@@ -1,3 +1,4 @@
+# SPDX-License-Identifier: Apache-2.0
 """Crates copied to a folder of their own, beside a program that times them."""
 import pathlib
 import shutil

@@ -1,4 +1,6 @@
-% The butterfly theorem where M is not the midpoint of the first chord: T is any point. False.
+% The butterfly theorem where M is not the midpoint of the first chord: T is any point. False. Counterexample: M = (0,
+% 0), A = (1, 0), B = (-2, 0), C = (0, 1), D = (0, -2), T = (1, 1): AD and BC both meet MT at (2, 2), on one side of
+% M.
 point M
 point A
 point C

@@ -1,4 +1,5 @@
-% The centroid lies at two thirds of each median, and not half-way. False.
+% The centroid lies at two thirds of each median, and not half-way. False. Counterexample: A = (0, 0), B = (3, 0), C =
+% (0, 3): the centroid is (1, 1), and the midpoint of AD is (3/4, 3/4).
 point A
 point B
 point C

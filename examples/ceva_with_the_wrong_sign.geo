@@ -1,4 +1,5 @@
-% Ceva's theorem with the sign of Menelaus' theorem: false.
+% Ceva's theorem with the sign of Menelaus' theorem: false. Counterexample: the medians, for which each of the three
+% ratios is 1.
 point A
 point B
 point C

@@ -1,4 +1,5 @@
-% The one-seventh triangle with the third point counted from the wrong end of its side. False.
+% The one-seventh triangle with the third point counted from the wrong end of its side. False. Counterexample: any
+% triangle; the triangle in the middle has a seventieth of the area.
 point A
 point B
 point C

@@ -1,4 +1,6 @@
-% Pascal's theorem with sides that are not opposite: AB and EF in place of AB and DE. False.
+% Pascal's theorem with sides that are not opposite: AB and EF in place of AB and DE. False. Counterexample: A = (5,
+% 0), B = (4, 3), C = (0, 5), D = (-3, 4), E = (3, -4), F = (4, -3) on a circle around (0, 0): X = (11/2, -3/2), Y =
+% (-6, 8) and Z = (15/2, 15/2).
 point O
 point A
 oncircle B O A

@@ -1,4 +1,5 @@
-% The Simson line with its condition forgotten: here P need not be on the circumcircle. False.
+% The Simson line with its condition forgotten: here P need not be on the circumcircle. False. Counterexample: A = (0,
+% 0), B = (3, 0), C = (0, 3), P = (1, 1): the feet are (3/2, 3/2), (0, 1) and (1, 0).
 point A
 point B
 point C

@@ -8,7 +8,7 @@ use Rattle.geo_cli.specs.declared.status.Status.{Status}
 use Rattle.geo_cli.specs.declared.status.Status.TheVariants as status
 use Rattle.geo_cli.specs.Due.{Due, IsAcceptedDue, IsBenchDue, IsCalledFor, IsCommandDue, IsDue, IsLogDue, bench_text, usage_line}
 use Rattle.geo_cli.specs.Inner.Answering.{AnswersCommand, HasNumber}
-use Rattle.geo_cli.specs.Input.{IsInput, Takes, log_limit, program_limit}
+use Rattle.geo_cli.specs.Input.{IsInput, Takes, limit_of, log_limit, program_limit}
 use Rattle.geo_cli.specs.Orders.{IsOrder, IsRow, TellsSteps}
 use Rattle.geo_cli.specs.Run.{Benches, Checks, Ends, IsAnswered, IsCutShort, Prints, Proves, VerdictTells}
 use Rattle.geo_cli.specs.Status.{ending_status, refusal_status, status_number, stop_status, verdict_status}
@@ -333,6 +333,8 @@ module _ (words : List (List ℕ)) (one : GivesOne words) (order : Order) (given
   reads_nothing P unread (inl none) = absurd (none order given)
   reads_nothing P unread (inr (number, steps, bench)) = unread number (same_command number steps bench)
 
--- what is within the limit of a program is within that of a log
-pub takes_more : (left left' : Option (List ℕ)) → Takes program_limit left left' → Takes log_limit left left'
-takes_more left left' h = let few = h.few in record { taken = h.taken; lost = h.lost; few = omega (arith, few) }
+-- what the command of an order takes, whichever order the words are said to give
+pub takes_order : (words : List (List ℕ)) → GivesOne words → (order other : Order) → IsOrder words order → IsOrder words other
+    → (left left' : Option (List ℕ)) → Takes (limit_of order.command) left left' → Takes (limit_of other.command) left left'
+takes_order words one order other given given' left left' h =
+    subst (λ (o : Order). Takes (limit_of o.command) left left') (one order other given given') h

@@ -5,3 +5,4 @@ pub mod ReadLogs
 pub mod Reported
 pub mod Benched
 pub mod Ended
+pub mod Decisive

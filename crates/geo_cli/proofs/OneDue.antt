@@ -213,6 +213,29 @@ one_command Check steps left left' due other h g = one_read log_limit (IsDueForL
 one_command Text steps left left' due other h g = one_read log_limit (IsDueForText steps) (one_due_for_text steps) left left' due other h g
 one_command (Bench number) steps left left' due other h g = one_bench_due number steps due other h g.1
 
+-- two things that a command calls for are one
+one_call : (limit : ℕ) (For : List ℕ → Due → Type 0) → ((bytes : List ℕ) (due other : Due) → For bytes due → For bytes other → due ≡ other)
+    → (left : Option (List ℕ)) (due other : Due) → IsReadCall limit For left due → IsReadCall limit For left other → due ≡ other
+one_call limit For one None due other h g = absurd h
+one_call limit For one (Some bytes) due other (inl h) (inl g) = h.1 ∙ sym g.1
+one_call limit For one (Some bytes) due other (inl h) (inr g) = absurd (let no : ⊥ = omega (arith, h.0, g.0) in no)
+one_call limit For one (Some bytes) due other (inr h) (inl g) = absurd (let no : ⊥ = omega (arith, h.0, g.0) in no)
+one_call limit For one (Some bytes) due other (inr h) (inr g) = one bytes due other h.1 g.1
+
+calls_one : (command : Command) (steps : ℕ) (left : Option (List ℕ)) (due other : Due) → IsCommandCall command steps left due
+    → IsCommandCall command steps left other → due ≡ other
+calls_one Prove steps left due other h g = one_call program_limit (IsDueFor steps) (one_due_for steps) left due other h g
+calls_one Check steps left due other h g = one_call log_limit (IsDueForLog steps) (one_due_for_log steps) left due other h g
+calls_one Text steps left due other h g = one_call log_limit (IsDueForText steps) (one_due_for_text steps) left due other h g
+calls_one (Bench number) steps left due other h g = one_bench_due number steps due other h g
+
+-- two things that are called for are one
+pub one_is_called : (words : List (List ℕ)) → GivesOne words → (left : Option (List ℕ)) (due other : Due) → IsCalledFor words left due
+    → IsCalledFor words left other → due ≡ other
+one_is_called words one left due other (order, given, call) (order', given', call') =
+    let same : order' ≡ order = one order' order given' given in
+    calls_one order.command order.steps left due other call (subst (λ (o : Order). IsCommandCall o.command o.steps left other) same call')
+
 -- what is called for is what is due
 pub called_is_due : (words : List (List ℕ)) → GivesOne words → (left left' : Option (List ℕ)) (due other : Due) → IsCalledFor words left due
     → IsDue words left left' other → due ≡ other

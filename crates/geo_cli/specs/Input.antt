@@ -1,6 +1,8 @@
 -- What a run reads.
 use Rattle.std.specs.Prelude.{◌≡◌, ℕ, ◌+◌, ◌≤◌, List, length, Option}
 use Rattle.geo_base.specs.Devices.{HasEnded, Loses}
+use Rattle.geo_cli.specs.declared.order.Command.{Command}
+use Rattle.geo_cli.specs.declared.order.Command.TheVariants.{Bench, Check, Prove, Text}
 
 -- the most bytes of a program
 abbrev pub program_limit : ℕ
@@ -9,6 +11,13 @@ program_limit = 1048576
 -- the most bytes of a log
 abbrev pub log_limit : ℕ
 log_limit = 67108864
+
+-- the most bytes of what a command reads; `bench` reads nothing
+abbrev pub limit_of : Command → ℕ
+limit_of Prove = program_limit
+limit_of Check = log_limit
+limit_of Text = log_limit
+limit_of (Bench number) = 0
 
 -- all bytes of the source were read, and they are within the limit
 pub record IsInput (limit : ℕ) (left : Option (List ℕ)) (bytes : List ℕ) (left' : Option (List ℕ)) : Type 0 where

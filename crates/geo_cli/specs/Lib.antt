@@ -6,3 +6,4 @@ pub mod Input
 pub mod Due
 pub mod Run
 pub mod Inner
+pub mod Enough

@@ -3,8 +3,11 @@ ghost use Rattle.std.specs.Prelude.{◌≡◌, ◌≤◌, ◌⊎◌, ℕ};
 ghost use Rattle.geo_base.specs.Devices.{Grows, HasRisen};
 ghost use Rattle.geo_cli.specs.Due.{Due, IsCalledFor};
 ghost use Rattle.geo_cli.specs.Inner.Answering.{AnswersCommand, HasNumber};
-ghost use Rattle.geo_cli.specs.Input.{Takes, log_limit};
+ghost use Rattle.geo_cli.specs.Enough.{AsksForFirstForm, IsDecisive};
+ghost use Rattle.geo_cli.specs.Input.{Takes, limit_of};
+ghost use Rattle.geo_cli.specs.Orders.{IsOrder};
 ghost use Rattle.geo_cli.specs.declared.order.Command.TheVariants.{Bench};
+ghost use Rattle.geo_cli.specs.declared.order.Order.{Order};
 ghost use Rattle.geo_cli.specs.Run.{Ends, Prints, VerdictTells};
 ghost use Rattle.geo_cli.specs.Status.{verdict_status};
 ghost use Rattle.geo_cli.specs.Words.{ReadsNothing, bytes_of_words};
@@ -46,8 +49,17 @@ pub fn run<S: Source, K: Sink>(
         → ¬ (HasRisen (K.faults sink.old) (K.faults sink.new))
         → (result ≡ Status.NoMemory)
         ⊎ ((result ≡ due.status) × Grows (K.held sink.old) due.text (K.held sink.new)) }
+    ensures enough { AsksForFirstForm (bytes_of_words words.now.items) (S.left source.old)
+        → ¬ (HasRisen (S.faults source.old) (S.faults source.new))
+        → ¬ (HasRisen (K.faults sink.old) (K.faults sink.new))
+        → IsDecisive result }
     ensures unwritten { result ≡ Status.ReadFault → sink.new ≡ sink.old }
-    ensures taken { Takes log_limit (S.left source.old) (S.left source.new) }
+    ensures one { (due other : Due)
+        → IsCalledFor (bytes_of_words words.now.items) (S.left source.old) due
+        → IsCalledFor (bytes_of_words words.now.items) (S.left source.old) other
+        → due ≡ other }
+    ensures taken { (order : Order) → IsOrder (bytes_of_words words.now.items) order
+        → Takes (limit_of order.command) (S.left source.old) (S.left source.new) }
     ensures unread { ReadsNothing (bytes_of_words words.now.items) → source.new ≡ source.old }
     ensures source_faults { S.faults source.old ≤ S.faults source.new }
     ensures sink_faults { K.faults sink.old ≤ K.faults sink.new }
@@ -70,7 +82,7 @@ fn carry_out<S: Source, K: Sink>(
         (S.left source.old) (S.left source.new) (S.faults source.old) (S.faults source.new)
         (K.faults sink.old) (K.faults sink.new) (K.held sink.old) (K.held sink.new) result }
     ensures unwritten { result ≡ Status.ReadFault → sink.new ≡ sink.old }
-    ensures taken { Takes log_limit (S.left source.old) (S.left source.new) }
+    ensures taken { Takes (limit_of order.command) (S.left source.old) (S.left source.new) }
     ensures unread { (number : ℕ) → order.command ≡ Bench number → source.new ≡ source.old }
     ensures source_faults { S.faults source.old ≤ S.faults source.new }
     ensures sink_faults { K.faults sink.old ≤ K.faults sink.new }

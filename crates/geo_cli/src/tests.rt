@@ -8,6 +8,7 @@ use std::test::Fail;
 
 mod checking;
 mod printing;
+mod stated_budget;
 
 const USAGE: &[u8] = b"usage: geo_cli COMMAND [NUMBER] [--steps N]\n";
 

@@ -1,13 +1,12 @@
 use Rattle.std.proofs.Common.{refl}
 use Rattle.geo_cli.proofs.Answered.{by_bench, by_check, by_prove, by_text}
-use Rattle.geo_cli.proofs.Ended.{takes_more}
 use Rattle.geo_cli.proofs.run.carry_out.Goals as goal
 
 pub returns-in-Prove-clause-answers : goal.returns-in-Prove-clause-answers
 returns-in-Prove-clause-answers g c = by_prove _ _ _ _ _ _ _ _ _ _ _ c.in-Prove.is c.run_prove.ensures.answers
 
 pub returns-in-Prove-clause-taken : goal.returns-in-Prove-clause-taken
-returns-in-Prove-clause-taken g c = takes_more _ _ c.run_prove.ensures.taken
+returns-in-Prove-clause-taken g c = rw c.in-Prove.is c.run_prove.ensures.taken
 
 pub returns-in-Check-clause-answers : goal.returns-in-Check-clause-answers
 returns-in-Check-clause-answers g c = by_check _ _ _ _ _ _ _ _ _ _ _ c.in-Check.is c.run_check.ensures.answers

@@ -1,4 +1,6 @@
-use Rattle.geo_cli.proofs.Ended.{completes, decides, ends_in, has_number, misused, no_order, prints, reads_nothing}
+use Rattle.geo_cli.proofs.Decisive.{decisive}
+use Rattle.geo_cli.proofs.Ended.{completes, decides, ends_in, has_number, misused, no_order, prints, reads_nothing, takes_order}
+use Rattle.geo_cli.proofs.OneDue.{one_is_called}
 use Rattle.geo_cli.proofs.run.run.Goals as goal
 
 pub carry_out-requires : goal.carry_out-requires
@@ -20,11 +22,30 @@ returns-in-Some-clause-complete g c =
     completes _ c.order_of.ensures.one _ _ _ _ _ _ _ _ _
     (ends_in _ c.order_of.ensures.one _ c.in-Some.ensures.given _ _ _ _ _ _ _ _ _ c.carry_out.ensures.answers)
 
+pub returns-in-Some-clause-enough : goal.returns-in-Some-clause-enough
+returns-in-Some-clause-enough g c =
+    decisive _ _ _ _ _ _ _ _ _
+    (completes _ c.order_of.ensures.one _ _ _ _ _ _ _ _ _
+    (ends_in _ c.order_of.ensures.one _ c.in-Some.ensures.given _ _ _ _ _ _ _ _ _ c.carry_out.ensures.answers))
+
 pub returns-in-Some-clause-unread : goal.returns-in-Some-clause-unread
 returns-in-Some-clause-unread g c = reads_nothing _ c.order_of.ensures.one _ c.in-Some.ensures.given _ c.carry_out.ensures.unread
 
 pub returns-in-None-clause-ends : goal.returns-in-None-clause-ends
 returns-in-None-clause-ends g c = misused _ _ _ _ _ _ _ _ (no_order _ _ c.order_of.ensures.complete c.in-None.is) c.answer.ensures.answered
 
+pub returns-in-None-clause-enough : goal.returns-in-None-clause-enough
+returns-in-None-clause-enough g c = λ asks calm calm'. absurd (no_order _ _ c.order_of.ensures.complete c.in-None.is _ asks.command)
+
 pub returns-in-None-clause-complete : goal.returns-in-None-clause-complete
 returns-in-None-clause-complete g c = λ due called calm calm'. absurd (no_order _ _ c.order_of.ensures.complete c.in-None.is called.0 called.1)
+
+pub returns-in-Some-clause-one : goal.returns-in-Some-clause-one
+returns-in-Some-clause-one g c = λ due other. one_is_called _ c.order_of.ensures.one _ due other
+
+pub returns-in-Some-clause-taken : goal.returns-in-Some-clause-taken
+returns-in-Some-clause-taken g c = λ order given.
+    takes_order _ c.order_of.ensures.one c.in-Some.order order c.in-Some.ensures.given given _ _ c.carry_out.ensures.taken
+
+pub returns-in-None-clause-one : goal.returns-in-None-clause-one
+returns-in-None-clause-one g c = λ due other called called'. absurd (no_order _ _ c.order_of.ensures.complete c.in-None.is called.0 called.1)

@@ -1,0 +1,5 @@
+pub mod Decided
+pub mod Logs
+pub mod Refused
+pub mod Listed
+pub mod OneDue

@@ -1,0 +1,5 @@
+pub mod Status
+pub mod Answers
+pub mod Due
+pub mod Calls
+pub mod Inner

@@ -1,0 +1,82 @@
+//! The text that tells an accepted log: its program, its conditions, and its verdict.
+ghost use Rattle.std.specs.Prelude.{◌≡◌, ◌∷◌, ◌++◌, [], IfOk, OnOk};
+ghost use Rattle.std.specs.Fmt.{decimal};
+ghost use Rattle.geo_c.specs.Inner.Acceptance.{IsAcceptedText, condition_line, condition_lines};
+ghost use Rattle.geo_program.specs.Programs.{source_of};
+ghost use Rattle.proof_log.specs.Lines.{verdict_text};
+
+use geo_base::{Text, push_decimal};
+use geo_conditions::{Item, list};
+use geo_lowering::lower;
+use geo_points::NoMemory;
+use geo_program::{Program, print};
+use proof_log::Verdict;
+use std::alloc::Global;
+
+/// The canonical text of the program, a line for each of its conditions, and a line with the
+/// verdict.
+pub fn accepted_text(alloc: Global, program: &Program, verdict: Verdict) -> Result<Text, NoMemory>
+    ensures { IfOk result (IsAcceptedText (source_of program.now) verdict) }
+{
+    let lowered = lower(alloc, program)?;
+    let problem = list(alloc, program, lowered)?;
+    let Text { mut bytes } = print(alloc, program)?;
+    push_conditions(alloc, &mut bytes, &problem.conditions.items)?;
+    bytes.extend_from_slice(b"accepted ")?;
+    push_verdict(alloc, &mut bytes, verdict)?;
+    Ok(Text { bytes })
+}
+
+/// Appends a line for each of the conditions, numbered from 1.
+fn push_conditions(alloc: Global, out: &mut Vec<u8>, items: &[Item]) -> Result<(), NoMemory>
+    ensures { OnOk result (out.new.items ≡ out.old.items ++ condition_lines 1 items.now) }
+{
+    for (i, item) in items.iter().enumerate() {
+        push_condition(alloc, out, i as u64 + 1, &item.text.bytes)?;
+    }
+    Ok(())
+}
+
+/// Appends the line of the condition of this number.
+fn push_condition(
+    alloc: Global,
+    out: &mut Vec<u8>,
+    number: u64,
+    text: &[u8],
+) -> Result<(), NoMemory>
+    ensures { OnOk result (out.new.items ≡ out.old.items ++ condition_line number text.now) }
+{
+    push_numbered(alloc, out, b"condition ", number)?;
+    out.push(b' ')?;
+    out.extend_from_slice(text)?;
+    out.push(b'\n')?;
+    Ok(())
+}
+
+/// Appends the words of a verdict, and a line feed.
+fn push_verdict(alloc: Global, out: &mut Vec<u8>, verdict: Verdict) -> Result<(), NoMemory>
+    ensures { OnOk result (out.new.items ≡ out.old.items ++ verdict_text verdict ++ 10 ∷ []) }
+{
+    match verdict {
+        Verdict::Proved => out.extend_from_slice(b"proved")?,
+        Verdict::False(goal) => push_numbered(alloc, out, b"false ", goal as u64)?,
+        Verdict::Impossible(condition) => {
+            push_numbered(alloc, out, b"impossible ", condition as u64)?
+        }
+    }
+    out.push(b'\n')?;
+    Ok(())
+}
+
+/// Appends words and a number.
+fn push_numbered(
+    alloc: Global,
+    out: &mut Vec<u8>,
+    words: &[u8],
+    number: u64,
+) -> Result<(), NoMemory>
+    ensures { OnOk result (out.new.items ≡ out.old.items ++ words.now ++ decimal number) }
+{
+    out.extend_from_slice(words)?;
+    push_decimal(alloc, out, number as i128).map_err(|_| NoMemory)
+}

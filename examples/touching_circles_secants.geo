@@ -1,0 +1,11 @@
+% Two circles touch at T. Two lines through T meet them at A, B and at C, D: the chords AC and BD are parallel
+% (classical).
+point O
+point T
+param r
+lratio P O T r
+oncircle A O T
+oncircle C O T
+second B T A P
+second D T C P
+prove { parallel A C B D }

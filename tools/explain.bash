@@ -1,0 +1,165 @@
+# Says in words what an answer means. Sourced by geo where there is something to say.
+# SPDX-License-Identifier: Apache-2.0
+# shellcheck shell=bash disable=SC2154
+
+# meaning KIND NUMBER: the words of a refusal, a reason or a status, or nothing
+meaning() {
+  local kind number words
+  while IFS=$'\t' read -r kind number words; do
+    if [ "$kind" = "$1" ] && [ "$number" = "$2" ]; then
+      printf '%s\n' "$words"
+      return
+    fi
+  done <"$home/tools/answers"
+}
+
+# hint WORDS: a further line
+hint() {
+  printf '  %s\n' "$1"
+}
+
+# begins FILE TEXT: whether the file begins with the text
+begins() {
+  [ "$(head -c ${#2} -- "$1" | tr -d '\000')" = "$2" ]
+}
+
+# explain_refusal NAME FILE NUMBER PLACE [LINES]: in a log the program stands so many lines further down, behind '| '
+explain_refusal() {
+  tr '\000' '?' <"$2" | LC_ALL=C awk -v name="$1" -v refusal="$3" -v place="$4" -v meaning="$(meaning syntax "$3")" -v down="${5-0}" \
+    -f "$home/tools/refusal.awk" "$home/tools/forms" -
+  if [ "$4" = 0 ] && begins "$2" 'geolog '; then
+    hint "this file is a log: geo check takes it"
+  fi
+}
+
+# explain_program NAME FILE: why the program lines of a log are no canonical text of a program
+explain_program() {
+  local answer
+  [ "$fresh" = yes ] || return 0
+  make_room
+  sed -n '2,${/^| /!q;s/^| //p}' -- "$2" >"$room/program"
+  "$program" prove --steps 1 <"$room/program" >"$room/canonical"
+  read -r -a answer < <(tail -n 1 -- "$room/canonical")
+  if [ "${answer[0]-}" = syntax ]; then
+    explain_refusal "$1" "$room/program" "${answer[1]}" "${answer[3]}" 1
+    return
+  fi
+  sed -n 's/^| //p' -- "$room/canonical" | awk -v other="$room/program" '
+    { wanted = $0; line++ }
+    (getline written <other) <= 0 || written != wanted { print "  line " line + 1 " is written so: | " wanted; exit }'
+}
+
+# explain_rejection NAME FILE LINE REASON
+explain_rejection() {
+  local words
+  words=$(meaning rejected "$4")
+  printf '%s\n' "$1:$3: reason $4${words:+: $words}"
+  sed -n "$3{p;q}" -- "$2" | tr '\000-\010\013-\037\177' '?' | cut -c1-160 | sed 's/^/  /'
+  if [ "$4" = 23 ]; then
+    explain_program "$1" "$2"
+  elif [ "$3" = 1 ] && ! begins "$2" 'geolog '; then
+    hint "a log begins with a line 'geolog'; geo prove writes the log of a program"
+  elif [ "$4" = 21 ] && sed -n "$3{p;q}" -- "$2" | grep -q $'\r$'; then
+    hint "the line ends with a carriage return, as on Windows: a log has line feeds alone"
+  elif [ "$4" = 21 ] && [ "$(wc -l <"$2")" -lt "$3" ]; then
+    hint "this last line has no line feed"
+  elif [ "$3:$4" = 1:21 ]; then
+    hint "this header is not the one that the program writes: of another version, or with a blank too many"
+  elif [[ $(tail -n 1 -- "$2" | head -c 100 | tr -d '\000') == 'stop '* ]]; then
+    hint "this log ends with a stop: its program was not decided, so there is nothing to accept"
+  fi
+}
+
+# explain_spent NAME WORD: the steps are spent
+explain_spent() {
+  local limit=${taken[1]-100000000} remedy
+  if [ "$limit" = "$most" ]; then
+    remedy="there are no more steps than these: say it in another way (docs/GUIDE.md)"
+  elif [ "$2" = check ] || [ "$2" = text ]; then
+    remedy="a log that was made with more steps needs as many here: give --steps $most, the most"
+  else
+    remedy="try --steps $most, the most: it bounds the work, and is mostly far above it; else say it in another way (docs/GUIDE.md)"
+  fi
+  case $2 in
+    decide) echo "$1: $remedy" ;;
+    check | text) echo "$1: the log needs more steps than $limit"; hint "$remedy" ;;
+    *) echo "$1: undecided: its log needs more steps than $limit"; hint "$remedy" ;;
+  esac
+}
+
+# explain NAME FILE WORD STATUS LAST-LINE
+explain() {
+  local words told
+  read -r -a words <<<"$5"
+  case $4:${words[0]-} in
+    4:syntax) explain_refusal "$1" "$2" "${words[1]}" "${words[3]}" ;;
+    11:rejected) explain_rejection "$1" "$2" "${words[1]}" "${words[2]}" ;;
+    3:*) echo "geo: the program has no such words: $3 (geo --help)" ;;
+    6:*)
+      echo "$1: undecided: a number or a degree would pass the limit"
+      hint "more steps do not help: say it in another way (docs/GUIDE.md)"
+      ;;
+    7:*) explain_spent "$1" "$3" ;;
+    12:*)
+      if [ "$3" = check ] || [ "$3" = text ] || [ "$(wc -c <"$2")" -gt 1048576 ]; then
+        echo "$1: too long: a program has at most 1,048,576 bytes, a log at most 67,108,864"
+      else
+        echo "$1: undecided: its log would be longer than 67,108,864 bytes"
+        hint "more steps do not help: say it in another way (docs/GUIDE.md)"
+      fi
+      ;;
+    *)
+      told=$(meaning status "$4")
+      echo "$1: ${5:+$5: }${told:-ended with status $4}"
+      ;;
+  esac
+}
+
+# tell_explain WORD..: the command `geo explain`
+tell_explain() {
+  local told='' asked
+  read -r -a asked <<<"$*"
+  set -- "${asked[@]}"
+  case ${1-}:${2-} in
+    syntax:?*) told=$(meaning syntax "$2") ;;
+    rejected:?*) told=$(meaning rejected "${3-$2}") ;;
+    status:?*) told=$(meaning status "$2") ;;
+    stop:spent) told=$(meaning status 7) ;;
+    stop:too_large) told=$(meaning status 6) ;;
+    unmet:*) told=$(meaning status 15) ;;
+    no:instance) told=$(meaning status 16) ;;
+    too:long) told=$(meaning status 12) ;;
+  esac
+  if [ -z "$told" ]; then
+    echo "geo: no such answer: '$*'; as: geo explain syntax 5, geo explain rejected 27, geo explain status 7" >&2
+    return 3
+  fi
+  printf '%s\n' "$told"
+}
+
+# tell_version: the version, the toolchain, and which program runs
+tell_version() {
+  local kit=unknown
+  echo "geo $(cat "$home/VERSION" 2>/dev/null || echo without a version)"
+  if [ -f "$home/KIT" ]; then
+    kit=$(cat "$home/KIT")
+  elif command -v rt >/dev/null; then
+    kit=$(rt version)
+  fi
+  echo "toolchain $kit"
+  if ! is_fresh; then
+    if [ -x "$program" ]; then
+      echo "program none: sources are newer than $program; each call builds one without proving it"
+    else
+      echo "program none: each call builds one without proving it; 'rt ci' proves it and keeps it"
+    fi
+  elif [ -n "${GEO_PROGRAM-}" ]; then
+    echo "program $program, as GEO_PROGRAM names it"
+  elif [ "$program" = "$home/geo_cli" ]; then
+    echo "program $program, as it was installed"
+  elif [ -n "$(find "$home"/crates/*/{specs,proofs} -type f -newer "$program" -print -quit 2>/dev/null)" ]; then
+    echo "program $program, as the toolchain left it; definitions or proofs are newer, and 'rt ci' tells whether they hold"
+  else
+    echo "program $program, as the toolchain left it over its proofs; nothing is newer"
+  fi
+}

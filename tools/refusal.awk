@@ -1,0 +1,176 @@
+# Points at the token for which a program is refused, and says what is due there:
+#   awk -v name=NAME -v refusal=NUMBER -v place=BYTES -v meaning=TEXT -v down=LINES -f refusal.awk forms PROGRAM
+# `down` is 1 where the program comes from a log: there it stands one line further down, each line behind '| '.
+# It follows the commands up to that token, as docs/LANGUAGE.md has them. Columns are bytes, from 1.
+# SPDX-License-Identifier: Apache-2.0
+
+# The kinds of token: N a new name, P a point, L a line, E an expression, n a number that may be left out, S a statement,
+# C a condition's word, and each brace for itself.
+function kind_of(letter) {
+  if (letter ~ /^[A-Z]$/) return "P"
+  if (letter ~ /^[ab]$/) return "L"
+  if (letter ~ /^[ers]$/ || letter == "f") return "E"
+  if (letter ~ /^[mn]$/) return "n"
+  return letter
+}
+
+function kinds_of(form, from, first,   parts, count, k, kinds) {
+  count = split(form, parts, " ")
+  kinds = first
+  for (k = from; k <= count; k++) kinds = kinds " " kind_of(parts[k])
+  return kinds
+}
+
+# the kinds that are due, the next one first
+function push(kinds) {
+  need = kinds (need == "" ? "" : " " need)
+  sub(/^ /, "", need)
+}
+
+function pop() {
+  if (!sub(/^[^ ]+ /, "", need)) need = ""
+}
+
+function declared_kind(word) {
+  if (word == "param") return "a parameter"
+  return word ~ /^(line|parallel|perp|med)$/ ? "a line" : "a point"
+}
+
+function take_expression(token) {
+  if (token == "neg") push("{ E }")
+  else if (token ~ /^(sum|sub|mult|div)$/) push("{ E } { E }")
+  else if (token ~ /^(signed_area3|pythagoras_difference3)$/) push("P P P")
+  else if (token == "sratio") push("P P P P")
+}
+
+function begin(token) {
+  command = token
+  begun = lines
+  shown = form[token]
+  if (token == "prove") push("{ S }")
+  else if (token == "assume") push("C")
+  else push(kinds_of(form[token], 3, "N"))
+}
+
+function take(token,   due) {
+  if (need == "") {
+    if (token in form) begin(token)
+    return
+  }
+  due = substr(need, 1, 1)
+  if (due == "n" && token !~ /^-?[0-9]/) {
+    need = ""
+    take(token)
+    return
+  }
+  pop()
+  if (due == "N") {
+    kind[token] = declared_kind(command)
+    line_of[token] = lines
+  } else if (due == "E") take_expression(token)
+  else if (due == "S" || due == "C") {
+    shown = form[command " " token]
+    push(kinds_of(shown, 3, ""))
+  }
+}
+
+# the token at the beginning of a text, or nothing
+function token_of(text) {
+  if (match(text, /^[A-Za-z][A-Za-z0-9_]*/) || match(text, /^-?[0-9]+/) || match(text, /^[{}]/)) return substr(text, 1, RLENGTH)
+  return ""
+}
+
+function follow(text,   token) {
+  sub(/%.*/, "", text)
+  for (;;) {
+    sub(/^[ \t\r]+/, "", text)
+    token = token_of(text)
+    if (token == "") return
+    take(token)
+    text = substr(text, length(token) + 1)
+  }
+}
+
+function due_words(   due) {
+  due = substr(need, 1, 1)
+  if (due == "n" || due == "") return "a command or 'prove' is due"
+  if (due == "N") return "a new name is due"
+  if (due == "P") return "a point is due"
+  if (due == "L") return "a line is due"
+  if (due == "E") return "an expression is due"
+  if (due == "S") return "a statement is due"
+  if (due == "C") return "a condition is due"
+  return "the brace " due " is due"
+}
+
+function due_here(   words) {
+  words = "here " due_words()
+  if (need != "" && need !~ /^n/ && shown != "" && shown != "prove" && shown != "assume")
+    words = words ": " shown (begun == lines ? "" : ", begun in line " begun + down)
+  return words
+}
+
+function almost(token,   other) {
+  for (other in kind) if (tolower(other) == tolower(token)) return other
+  return ""
+}
+
+# one more line about the refusal, or nothing
+function advice(rest,   token) {
+  token = token_of(rest)
+  if (refusal == 1 && substr(rest, 1, 3) == "\357\273\277") return "the file begins with a byte order mark: save it as UTF-8 without one"
+  if (refusal == 1) return "a name has the letters A to Z and a to z, digits and _; a number is whole; blanks part them"
+  if (refusal == 4 && need ~ /^N/ && token ~ /^[A-Za-z]/) return token " is a word of the language, so it is no name"
+  if (refusal == 4 && need ~ /^(n|$)/ && tolower(token) in form) return "commands have small letters: " tolower(token)
+  if (refusal == 4 && need ~ /^(n|$)/ && token ~ /^[A-Za-z]/) return token " is no command"
+  if (refusal == 4 && need ~ /^S/ && token ~ /^[A-Za-z]/) return token " is no statement"
+  if (refusal == 4) return due_here()
+  if (refusal == 5 && almost(token) != "") return "declared is " almost(token)
+  if (refusal == 5) return due_here()
+  if (refusal == 6) return token " is declared in line " line_of[token] + down
+  if (refusal == 7) return token " is " kind[token] " (line " line_of[token] + down "); " due_here()
+  if (refusal == 11 && carriage && lines == 1) return "the lines end with carriage returns alone, so a comment takes all that follows: save the file with line feeds"
+  return ""
+}
+
+function report(line, column, text,   before, from, rest) {
+  print name ":" line + down ":" column + 2 * down ": refusal " refusal (meaning == "" ? "" : ": " meaning)
+  rest = substr(text, column)
+  sub(/\r$/, "", text)
+  from = column > 100 ? column - 80 : 1
+  before = substr(text, from, column - from)
+  if (text != "") {
+    shown_line = substr(text, from, 160)
+    gsub(/[\001-\010\013-\037\177]/, "?", shown_line)
+    gsub(/[^\t]/, " ", before)
+    print "  " shown_line
+    print "  " before "^"
+  }
+  rest = advice(rest)
+  if (rest != "") print "  " rest
+}
+
+FNR == NR {
+  if (/^#/ || NF == 0) next
+  if ($1 == "prove" || $1 == "assume") {
+    form[$1] = $1
+    form[$1 " " $2] = $0
+  } else form[$1] = $0
+  next
+}
+
+{
+  lines++
+  if (/\r/) carriage = 1
+}
+seen + length($0) + 1 > place {
+  follow(substr($0, 1, place - seen))
+  report(lines, place - seen + 1, $0)
+  found = 1
+  exit
+}
+{
+  follow($0)
+  seen += length($0) + 1
+}
+END { if (!found) report(lines + 1, 1, "") }
