@@ -2,3 +2,4 @@ pub mod BoundLaws
 pub mod ShareLaws
 pub mod FrameTurns
 pub mod PictureLaws
+pub mod OneDrawing

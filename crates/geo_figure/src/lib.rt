@@ -5,6 +5,7 @@ mod bounds;
 mod cells;
 mod drawing;
 mod errors;
+pub mod laws;
 mod picture;
 
 pub use drawing::draw;
