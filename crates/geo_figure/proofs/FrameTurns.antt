@@ -1,8 +1,9 @@
 -- What comes of frames and cells, point by point.
-use Rattle.std.proofs.Common.{◌≡◌, ◌≢◌, ◌⊎◌, ⊎_elim, ℕ, suc, ◌+◌, ◌-◌, ◌<◌, ◌≤◌, Bool, true, false, List, [], ◌∷◌, ◌++◌, map, All, refl, sym, ◌∙◌, ap, subst, append_assoc, arith}
+use Rattle.std.proofs.Common.{◌≡◌, ◌≢◌, ◌⊎◌, ⊎_elim, ℕ, suc, ◌+◌, ◌-◌, ◌<◌, ◌≤◌, Bool, true, false, List, [], ◌∷◌, ◌++◌, length, get_or, map, All, refl, sym, ◌∙◌, ap, subst, append_assoc, arith}
 use Rattle.std.specs.Prelude.{IfErr, IfOk, IsErr, Option, Some, None, Result, Ok, Err, slice_get, slice_index, take, drop}
 use Rattle.std.specs.List.{AllByRecursion}
-use Rattle.std.proofs.lemmas.List.{map-append, take-append-drop}
+use Rattle.std.proofs.lemmas.List.{map-append, take_more}
+use Rattle.geo_place.proofs.ItemTests.{parted}
 use Rattle.std.proofs.lemmas.List.Elements.{All-from_recursion, recursion_from_All}
 use Rattle.ring_laws.specs.Fraction.{Fraction}
 use Rattle.frac_laws.specs.declared.frac.Frac.{Frac}
@@ -78,7 +79,7 @@ module _ (at : At) (points : List At) where
   pub joined : (f : At → Fraction) → map f (points ++ at ∷ []) ≡ map f points ++ f at ∷ []
   joined f = map-append f points (at ∷ [])
 
-  turn : DrawTurn
+  abbrev turn : DrawTurn
   turn = bound_turn points at
 
   alone : (t : DrawTurn) → (IsPassed t → ⊥) → t.line ≡ at.line → Stop (t ∷ []) at.line
@@ -156,3 +157,59 @@ bounds_append before [] ys = ap (λ (zs : List At). bound_turns zs ys) (sym (app
 bounds_append before (x ∷ xs) ys =
     ap (λ (ts : List DrawTurn). bound_turn before x ∷ ts)
     (bounds_append (before ++ x ∷ []) xs ys ∙ ap (λ (zs : List At). bound_turns (before ++ x ∷ []) xs ++ bound_turns zs ys) (append_assoc before (x ∷ []) xs))
+
+pub no_more : (xs ys : List DrawTurn) → xs ++ ys ≡ xs ++ ys ++ []
+no_more xs ys = ap (λ (ts : List DrawTurn). xs ++ ts) (sym (nil ys))
+  where
+    nil : (ts : List DrawTurn) → ts ++ [] ≡ ts
+    nil [] = refl
+    nil (t ∷ ts) = ap (λ (us : List DrawTurn). t ∷ us) (nil ts)
+
+pub if_err : {T E : Type 0} (r : Result T E) (P Q : E → Type 0) → ((e : E) → P e → Q e) → IfErr r P → IfErr r Q
+if_err (Ok t) P Q f h = tt
+if_err (Err e) P Q f h = f e h
+
+pub first_byte : (text : List ℕ) (x : ℕ) → 1 ≤ length text → x ≡ get_or text 0 x → x ≡ slice_index text 0
+first_byte [] x l e = absurd (omega (arith, l))
+first_byte (b ∷ bs) x l e = e
+
+-- POINT BY POINT
+module _ (points : List At) (k : ℕ) (at : At) (l : k < length points) (e : at ≡ get_or points k at) where
+  abbrev before : List At
+  before = take k points
+
+  whole : points ≡ before ++ at ∷ drop (suc k) points
+  whole = parted points k at l e
+
+  more : take (k + 1) points ≡ before ++ at ∷ []
+  more = take_more points k at l ∙ ap (λ (a : At). before ++ a ∷ []) (sym e)
+
+  some : (xs : List At) → xs ++ at ∷ [] ≢ []
+  some [] q = cc
+  some (x ∷ xs) q = cc
+
+  turns_more : bound_turns [] (before ++ at ∷ []) ≡ bound_turns [] before ++ bound_turn before at ∷ []
+  turns_more = bounds_append [] before (at ∷ [])
+
+  -- the frame of one point more
+  pub record NextFrame (f : Frame) : Type 0 where
+    pub frame : (take (k + 1) points ≢ []) × IsFrame f (take (k + 1) points)
+    pub passed : AllByRecursion IsPassed (bound_turns [] (take (k + 1) points))
+
+  pub frame_next : (f : Frame) → IsWiderFrame before at (Ok f) → AllByRecursion IsPassed (bound_turns [] before) → NextFrame f
+  frame_next f h p = record {
+    frame = subst (λ (ps : List At). (ps ≢ []) × IsFrame f ps) (sym more) (some before, h.0);
+    passed =
+        subst (λ (ps : List At). AllByRecursion IsPassed (bound_turns [] ps)) (sym more)
+        (subst (λ (ts : List DrawTurn). AllByRecursion IsPassed ts) (sym turns_more) (each_append IsPassed (bound_turns [] before) (bound_turn before at ∷ []) p (h.1, tt)));
+  }
+
+  pub frame_stops : (x : DrawError) → IsWiderFrame before at (Err x) → AllByRecursion IsPassed (bound_turns [] before) → Stops (bound_turns [] points) x
+  frame_stops x h p =
+      stop_in (bound_turns [] points) (bound_turns [] before) (bound_turn before at ∷ []) (bound_turns (before ++ at ∷ []) (drop (suc k) points)) x
+      (ap (λ (ps : List At). bound_turns [] ps) whole ∙ bounds_append [] before (at ∷ drop (suc k) points)) p h
+
+  pub cells_stop : (all : List At) (x : DrawError) → IsCellOf all at (Err x) → AllByRecursion IsPassed (map (share_turn all) before) → Stops (map (share_turn all) points) x
+  cells_stop all x h p =
+      stop_in (map (share_turn all) points) (map (share_turn all) before) (share_turn all at ∷ []) (map (share_turn all) (drop (suc k) points)) x
+      (ap (λ (ps : List At). map (share_turn all) ps) whole ∙ map-append (share_turn all) before (at ∷ drop (suc k) points)) p h

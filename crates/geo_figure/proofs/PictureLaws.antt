@@ -74,11 +74,11 @@ mark_cells all (p ∷ q ∷ more) = refl
 
 map_same : {A B : Type 0} (f g : A → B) (xs : List A) → ((x : A) → f x ≡ g x) → map f xs ≡ map g xs
 map_same f g [] h = refl
-map_same f g (x ∷ xs) h i = h x i ∷ map_same f g xs h i
+map_same f g (x ∷ xs) h = λ i. h x i ∷ map_same f g xs h i
 
 flat_map_same : {A B : Type 0} (f g : A → List B) (xs : List A) → ((x : A) → f x ≡ g x) → flat_map f xs ≡ flat_map g xs
 flat_map_same f g [] h = refl
-flat_map_same f g (x ∷ xs) h i = h x i ++ flat_map_same f g xs h i
+flat_map_same f g (x ∷ xs) h = λ i. h x i ++ flat_map_same f g xs h i
 
 line_same : (points : List At) (line : ℕ) → cell_line (map (cell_at points) points) line ≡ picture_line points line
 line_same points line =

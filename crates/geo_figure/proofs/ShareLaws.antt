@@ -1,5 +1,5 @@
 -- Shares of coordinates: whether all coordinates are the same, and a share without its fractional part.
-use Rattle.std.proofs.Common.{◌≡◌, ℕ, suc, ◌+◌, ◌*◌, ◌<◌, ◌≤◌, Bool, true, false, pos, ◌*ℤ◌, unsigned_abs, ⊎_elim, List, [], ◌∷◌, All, refl, sym, ◌∙◌, ap, subst, arith}
+use Rattle.std.proofs.Common.{◌≡◌, ℕ, suc, ◌+◌, ◌*◌, ◌<◌, ◌≤◌, Bool, true, false, ℤ, pos, ◌*ℤ◌, unsigned_abs, ⊎_elim, List, [], ◌∷◌, All, refl, sym, ◌∙◌, ap, subst, arith}
 use Rattle.std.specs.Prelude.{◌/◌, IfOk, IsErr, OnOk, Result, Ok, Err}
 use Rattle.std.specs.List.{AllByRecursion}
 use Rattle.std.proofs.lemmas.Bool.{cases_lt}
@@ -84,12 +84,15 @@ module _ (b : Bounds) (xs : List Fraction) (h : AreBounds b xs) where
       go true e = absurd (n (bounds_same (same_of_minus (greatest xs) (least xs) (same_of_zero (minus (greatest xs) (least xs)) (null-true (minus (greatest xs) (least xs)).numerator e)))))
 
 -- STEPS
+abbrev Kept : Reckoning → Type 0
+Kept e = IsRefused e → ⊥
+
 module _ (last : ℕ) (xs : List Fraction) (a : Fraction) where
   -- where all coordinates are the same
   pub level_step : are_level xs ≡ true → IsStep last xs a (Ok 0)
   level_step e = (
     sym (ap (λ (z : Bool). elim z [ true ↦ 0 | false ↦ unsigned_abs (number (share last xs a)).numerator / (number (share last xs a)).denominator ]) e),
-    subst (λ (es : List Reckoning). AreKept es) (sym (ap (λ (z : Bool). elim z [ true ↦ [] | false ↦ share last xs a ∷ [] ]) e)) (All-from_recursion _ [] tt),
+    subst (λ (es : List Reckoning). AreKept es) (sym (ap (λ (z : Bool). elim z [ true ↦ [] | false ↦ share last xs a ∷ [] ]) e)) (All-from_recursion Kept [] tt),
   )
 
   -- and where they are not
@@ -100,8 +103,16 @@ module _ (last : ℕ) (xs : List Fraction) (a : Fraction) where
     pub share_step : (r : Frac) → IsResult r (share last xs a) → (k : ℕ) → k ≡ unsigned_abs (number (share last xs a)).numerator / (number (share last xs a)).denominator → IsStep last xs a (Ok k)
     share_step r h k q = (
       q ∙ sym (ap (λ (z : Bool). elim z [ true ↦ 0 | false ↦ unsigned_abs (number (share last xs a)).numerator / (number (share last xs a)).denominator ]) e),
-      subst (λ (es : List Reckoning). AreKept es) (sym shares_are) (All-from_recursion _ (share last xs a ∷ []) (h.kept, tt)),
+      subst (λ (es : List Reckoning). AreKept es) (sym shares_are) (All-from_recursion Kept (share last xs a ∷ []) (h.kept, tt)),
     )
 
     pub share_refused : (refusal : FracTooLarge) → IsRefused (share last xs a) → IsStep last xs a (Err refusal)
-    share_refused refusal r = λ k. (recursion_from_All _ (share last xs a ∷ []) (subst (λ (es : List Reckoning). AreKept es) shares_are k)).0 r
+    share_refused refusal r = λ k. (recursion_from_All Kept (share last xs a ∷ []) (subst (λ (es : List Reckoning). AreKept es) shares_are k)).0 r
+
+-- the number of steps as a fraction
+pub last_number : (r : Frac) (last : ℤ) (n : ℕ) → r.num *ℤ pos 1 ≡ last *ℤ r.den → last ≡ pos n → IsNumber r (whole (pos n))
+unfolding whole
+last_number r last n e q = record { crossed = e ∙ ap (λ (z : ℤ). z *ℤ r.den) q }
+
+pub differs : (b : Bool) → b ≡ true → b ≡ false → ⊥
+differs b t f = let q : true ≡ false = sym t ∙ f in cc

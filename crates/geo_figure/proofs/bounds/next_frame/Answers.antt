@@ -1,0 +1,8 @@
+use Rattle.geo_figure.proofs.FrameTurns.{first_frame}
+use Rattle.geo_figure.proofs.bounds.next_frame.Goals as goal
+
+pub returns-in-None : goal.returns-in-None
+returns-in-None c = λ points h. first_frame c.args.at.now c.frame_of_one.result c.frame_of_one.ensures points h
+
+pub returns-in-Some : goal.returns-in-Some
+returns-in-Some c = λ points h. c.wider_frame.ensures points h.0 h.1
