@@ -159,7 +159,7 @@ bounds_append before (x ∷ xs) ys =
     (bounds_append (before ++ x ∷ []) xs ys ∙ ap (λ (zs : List At). bound_turns (before ++ x ∷ []) xs ++ bound_turns zs ys) (append_assoc before (x ∷ []) xs))
 
 pub no_more : (xs ys : List DrawTurn) → xs ++ ys ≡ xs ++ ys ++ []
-no_more xs ys = ap (λ (ts : List DrawTurn). xs ++ ts) (sym (nil ys))
+no_more xs ys = sym (nil (xs ++ ys))
   where
     nil : (ts : List DrawTurn) → ts ++ [] ≡ ts
     nil [] = refl
@@ -207,9 +207,11 @@ module _ (points : List At) (k : ℕ) (at : At) (l : k < length points) (e : at 
   pub frame_stops : (x : DrawError) → IsWiderFrame before at (Err x) → AllByRecursion IsPassed (bound_turns [] before) → Stops (bound_turns [] points) x
   frame_stops x h p =
       stop_in (bound_turns [] points) (bound_turns [] before) (bound_turn before at ∷ []) (bound_turns (before ++ at ∷ []) (drop (suc k) points)) x
-      (ap (λ (ps : List At). bound_turns [] ps) whole ∙ bounds_append [] before (at ∷ drop (suc k) points)) p h
+      (ap (λ (ps : List At). bound_turns [] ps) whole ∙ bounds_append [] before (at ∷ drop (suc k) points)
+      ∙ sym (append_assoc (bound_turns [] before) (bound_turn before at ∷ []) (bound_turns (before ++ at ∷ []) (drop (suc k) points)))) p h
 
   pub cells_stop : (all : List At) (x : DrawError) → IsCellOf all at (Err x) → AllByRecursion IsPassed (map (share_turn all) before) → Stops (map (share_turn all) points) x
   cells_stop all x h p =
       stop_in (map (share_turn all) points) (map (share_turn all) before) (share_turn all at ∷ []) (map (share_turn all) (drop (suc k) points)) x
-      (ap (λ (ps : List At). map (share_turn all) ps) whole ∙ map-append (share_turn all) before (at ∷ drop (suc k) points)) p h
+      (ap (λ (ps : List At). map (share_turn all) ps) whole ∙ map-append (share_turn all) before (at ∷ drop (suc k) points)
+      ∙ sym (append_assoc (map (share_turn all) before) (share_turn all at ∷ []) (map (share_turn all) (drop (suc k) points)))) p h

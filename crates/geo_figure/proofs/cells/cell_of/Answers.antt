@@ -1,5 +1,6 @@
-use Rattle.std.proofs.Common.{refl, ◌∙◌, ap, map}
-use Rattle.std.specs.Prelude.{slice_index_or}
+use Rattle.std.proofs.Common.{◌≡◌, ◌⊎◌, ℕ, refl, ◌∙◌, ap, subst, map}
+use Rattle.std.specs.Prelude.{IfErr, IsErr, slice_index_or}
+use Rattle.geo_figure.specs.declared.errors.DrawError.TheVariants.{TooLarge}
 use Rattle.geo_place.specs.declared.placed.At.{At}
 use Rattle.geo_figure.specs.Drawing.{x_of, y_of}
 use Rattle.geo_figure.proofs.FrameTurns.{cell_found, first_byte}
@@ -11,4 +12,5 @@ returns c = λ points h.
     let letter = c.index.result.now in
     let first = first_byte at.name letter c.requires.named (c.index.ensures ∙ ap (λ (a : At). slice_index_or a.name 0 letter) c.at.view_is) in
     cell_found points at c.step_of-column.result c.step_of-height.result (c.step_of-column.ensures 40 (map x_of points) (x_of at) refl h.x c.x_of.ensures)
-    (c.step_of-height.ensures 20 (map y_of points) (y_of at) refl h.y c.y_of.ensures) letter first c.cell_from.result c.cell_from.ensures.cell c.cell_from.ensures.refused
+    (c.step_of-height.ensures 20 (map y_of points) (y_of at) refl h.y c.y_of.ensures) letter first c.cell_from.result c.cell_from.ensures.cell
+    (subst (λ (line : ℕ). IfErr c.cell_from.result (λ e. (e ≡ TooLarge line) × (IsErr c.step_of-column.result ⊎ IsErr c.step_of-height.result))) (ap (λ (a : At). a.line) c.at.view_is) c.cell_from.ensures.refused)

@@ -1,0 +1,19 @@
+use Rattle.std.proofs.Common.{rules, ◌≡◌, List, ◌++◌, map, ◌∙◌, ap, subst}
+use Rattle.std.specs.List.{AllByRecursion, flat_map}
+use Rattle.geo_place.specs.Placing.{text_of}
+use Rattle.geo_place.specs.declared.placed.At.{At}
+use Rattle.geo_place.specs.declared.placed.Placed.{Placed}
+use Rattle.geo_figure.specs.Drawing.{IsPassed, draw_turns, first_numbers}
+use Rattle.geo_figure.specs.Inner.{cell_at, cell_line}
+use Rattle.geo_figure.proofs.PictureLaws.{all_drawn}
+use Rattle.geo_figure.proofs.drawing.draw.Goals as goal
+
+pub returns : goal.returns
+returns c =
+    let placed = c.args.placed.now in
+    let cells = c.in_ok-cells.cells.items in
+    let points : c.deref.result.now ≡ placed.points = c.deref.ensures.value ∙ ap (λ (p : Placed). p.points) c.placed.view_is in
+    let same = subst (λ (ps : List At). cells ≡ map (cell_at ps) ps) points c.in_ok-cells.ensures.cells in
+    let passed = subst (λ (ps : List At). AllByRecursion IsPassed (draw_turns ps)) points c.in_ok-cells.ensures.passed in
+    let text : c.extend_from_slice.new.self.items ≡ flat_map (cell_line cells) (first_numbers 21) ++ text_of placed = search rules in
+    all_drawn placed cells same passed c.extend_from_slice.new.self.items text
