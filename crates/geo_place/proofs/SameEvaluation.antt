@@ -87,8 +87,9 @@ condition_of d (writes n) = d
 condition_of d (judges t) = d
 
 -- a turn with the task of a test is this test
-is_test : (l : Layout) (nodes : Store) (line : ℕ) (c : Condition) (k : ℕ) (u : Turn) → record { line = line; task = tests c } ≡ line_task l nodes (record { line = k; turn = u })
-    → record { line = k; turn = u } ≡ record { line = line; turn = test c }
+is_test : (l : Layout) (nodes : Store) (line : ℕ) (c : Condition) (k : ℕ) (u : Turn)
+    → ◌≡◌ {A = LineTask} (record { line = line; task = tests c }) (line_task l nodes (record { line = k; turn = u }))
+    → ◌≡◌ {A = LineTurn} (record { line = k; turn = u }) (record { line = line; turn = test c })
 is_test l nodes line c k (test d) e = λ i. record { line = sym (ap (λ (t : LineTask). t.line) e) i; turn = test (sym (ap (λ (t : LineTask). condition_of c t.task) e) i) }
 is_test l nodes line c k (make n f) e = let q : tests c ≡ makes_point n f = ap (λ (t : LineTask). t.task) e in cc
 is_test l nodes line c k (write n) e = let q : tests c ≡ writes n = ap (λ (t : LineTask). t.task) e in cc
@@ -97,7 +98,7 @@ is_test l nodes line c k (judge g) e = let q : tests c ≡ judges (goal_term l n
 -- a turn with the task of a goal is a goal
 record IsJudge (line k : ℕ) (u : Turn) : Type 0 where
   goal : Statement
-  same : record { line = k; turn = u } ≡ record { line = line; turn = judge goal }
+  same : ◌≡◌ {A = LineTurn} (record { line = k; turn = u }) (record { line = line; turn = judge goal })
 
 is_judge : (l m : Layout) (one other : Store) (line : ℕ) (g : Statement) (k : ℕ) (u : Turn)
     → line_task l one (record { line = line; turn = judge g }) ≡ line_task m other (record { line = k; turn = u }) → IsJudge line k u

@@ -166,7 +166,7 @@ makes' n (f ∷ fs) = makes_point n f ∷ makes' (suc n) fs
 
 abbrev command_tasks : Layout → ℕ → ℕ → ℕ → Sight → List Task
 command_tasks l x n m s =
-    map tests s.early ++ (makes' n (s.steps l n m) ++ (gathered kind.Point s.kind (writes (further n s.hidden)) [] ++ map tests (s.late (record { 0 = x }))))
+    map tests s.early ++ makes' n (s.steps l n m) ++ gathered kind.Point s.kind (writes (further n s.hidden)) [] ++ map tests (s.late (record { 0 = x }))
 
 abbrev tasks_from' : Layout → ℕ → ℕ → ℕ → ℕ → List Sight → List LineTask
 tasks_from' l line x n m [] = []
@@ -192,9 +192,8 @@ module _ (l : Layout) (nodes : Store) where
 
   command-is : (x n m : ℕ) (c : Command)
       → map (task_of l nodes)
-      (map test (early_conditions nodes c)
-      ++ (makes n (command_steps l nodes n m c)
-      ++ (gathered kind.Point (named c) (write (further n (hidden c))) [] ++ map test (late_conditions (record { 0 = x }) c))))
+      (map test (early_conditions nodes c) ++ makes n (command_steps l nodes n m c) ++ gathered kind.Point (named c) (write (further n (hidden c))) []
+      ++ map test (late_conditions (record { 0 = x }) c))
       ≡ command_tasks l x n m (sight nodes c)
   command-is x n m c =
       let T = task_of l nodes in
@@ -202,11 +201,9 @@ module _ (l : Layout) (nodes : Store) where
       let f = makes n (command_steps l nodes n m c) in
       let g : List Turn = gathered kind.Point (named c) (write (further n (hidden c))) [] in
       let h = map test (late_conditions (record { 0 = x }) c) in
-      map-append T e (f ++ (g ++ h))
-      ∙ (λ i. tests-is (early_conditions nodes c) i
-          ++ ((map-append T f (g ++ h)
-              ∙ (λ j. makes-is n (command_steps l nodes n m c) j
-                  ++ ((map-append T g h ∙ (λ k. writes-is (is_kind (named c) kind.Point) (further n (hidden c)) k ++ tests-is (late_conditions (record { 0 = x }) c) k)) j))) i))
+      map-append T (e ++ f ++ g) h ∙ ap (λ (ts : List Task). ts ++ map T h) (map-append T (e ++ f) g ∙ ap (λ (ts : List Task). ts ++ map T g) (map-append T e f))
+      ∙ (λ i. tests-is (early_conditions nodes c) i ++ makes-is n (command_steps l nodes n m c) i ++ writes-is (is_kind (named c) kind.Point) (further n (hidden c)) i
+          ++ tests-is (late_conditions (record { 0 = x }) c) i)
 
   steps_from-is : (n m : ℕ) (cs : List Command) → steps_from l nodes n m cs ≡ steps_from' l n m (map (sight nodes) cs)
   steps_from-is n m [] = refl
@@ -300,8 +297,7 @@ module _ (p q : Source) (s : SameSource p q) where
       let pg = at_line (suc (length p.commands)) (map judge (statement_goals p.nodes p.statement)) in
       let qc = at_line (suc (length q.commands)) (map test (statement_conditions q.nodes q.statement)) in
       let qg = at_line (suc (length q.commands)) (map judge (statement_goals q.nodes q.statement)) in
-      map-append P (turns_from p 1 0 0 0 p.commands) (pc ++ pg)
-      ∙ ap (λ (ts : List LineTask). map P (turns_from p 1 0 0 0 p.commands) ++ ts) (map-append P pc pg)
-      ∙ (λ i. command_tasks_same i ++ (conditions_same i ++ goals_same i))
-      ∙ sym (ap (λ (ts : List LineTask). map Q (turns_from q 1 0 0 0 q.commands) ++ ts) (map-append Q qc qg))
-      ∙ sym (map-append Q (turns_from q 1 0 0 0 q.commands) (qc ++ qg))
+      let pt = turns_from p 1 0 0 0 p.commands in
+      let qt = turns_from q 1 0 0 0 q.commands in
+      map-append P (pt ++ pc) pg ∙ ap (λ (ts : List LineTask). ts ++ map P pg) (map-append P pt pc) ∙ (λ i. command_tasks_same i ++ conditions_same i ++ goals_same i)
+      ∙ sym (map-append Q (qt ++ qc) qg ∙ ap (λ (ts : List LineTask). ts ++ map Q qg) (map-append Q qt qc))
