@@ -80,7 +80,7 @@ module _ (placed : Placement) (p : Source) where
   right_of (judge g) h = h
 
 -- TURNS OF ONE LINE AND TASK
-condition_of : Condition → Task → Condition
+abbrev condition_of : Condition → Task → Condition
 condition_of d (tests c) = c
 condition_of d (makes_point n f) = d
 condition_of d (writes n) = d
