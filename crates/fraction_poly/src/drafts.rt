@@ -124,7 +124,7 @@ impl StepTerms {
 
 impl Number {
     /// What belongs to the number, where something belongs to each.
-    fn of<'a, T>(self, first: &'a T, second: &'a T) -> &'a T
+    pub(crate) fn of<'a, T>(self, first: &'a T, second: &'a T) -> &'a T
         ensures { result.now ≡ by_number first.now second.now self }
     {
         match self {
