@@ -209,6 +209,25 @@ impl Draft {
         requires fits { AllFit (by_number first.now second.now) self.now }
         ensures { IfOk result (λ f. f ≡ drafted_piece (by_number first.now second.now) self.now) }
     {
+        match self {
+            Draft::Numerator(k) => same_piece(alloc, &k.of(first, second).num),
+            Draft::Denominator(k) => same_piece(alloc, &k.of(first, second).den),
+            _ => self.made_piece(alloc, first, second),
+        }
+    }
+
+    /// What the draft multiplies out to, made in a ring.
+    fn made_piece(
+        &self,
+        alloc: Global,
+        first: &StepNumber,
+        second: &StepNumber,
+    ) -> Result<Piece, NoMemory>
+        requires first { IsBoundedNumber first.now }
+        requires second { IsBoundedNumber second.now }
+        requires fits { AllFit (by_number first.now second.now) self.now }
+        ensures { IfOk result (λ f. f ≡ drafted_piece (by_number first.now second.now) self.now) }
+    {
         let variables = self.variables(alloc, first, second)?;
         let mut ring = Ring::new(alloc, variables)?;
         let part = self.part(alloc, &mut ring, first, second)?;
@@ -252,6 +271,18 @@ impl Draft {
             }
         }
     }
+}
+
+/// The same piece once more.
+fn same_piece(alloc: Global, piece: &Piece) -> Result<Piece, NoMemory>
+    ensures { IfOk result (λ f. f ≡ piece.now) }
+{
+    Ok(Piece {
+        poly: piece.poly.copy(alloc)?,
+        weight: piece.weight,
+        count: piece.count,
+        degree: piece.degree,
+    })
 }
 
 impl Numbers {
