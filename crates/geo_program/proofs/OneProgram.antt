@@ -124,7 +124,7 @@ record SameCommands (np nq : Store) (ns ms : List Name) (c d : Command) (r s : L
   pub rest : r ≡ s
 
 -- the lexemes of a command in groups
-grouped : (all own : List Name) (nodes : Store) (c : Command) (k : Sketch) (r : List Lexeme) → let f = command_form nodes c in
+pub grouped : (all own : List Name) (nodes : Store) (c : Command) (k : Sketch) (r : List Lexeme) → let f = command_form nodes c in
     (command_lexemes all nodes own c ++ sketch_lexemes k) ++ r
     ≡ word_lexeme f.word ∷ condition_lexemes f.condition ++ (map (λ (name : Name). word_lexeme name.text) own ++ (flat_map (argument_lexemes all) f.arguments ++ (sketch_lexemes k ++ r)))
 grouped all own nodes c k r =

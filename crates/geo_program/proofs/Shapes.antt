@@ -1,5 +1,5 @@
 -- The words of a command or a statement tell all of its form but the arguments, of which they tell the kinds.
-use Rattle.std.proofs.Common.{◌≡◌, ℕ, zero, suc, Bool, true, false, not, List, [], ◌∷◌, ◌++◌, map, get_or, take, Option, Some, None, is_some, refl, sym, ap, ap₂, subst, ◌∙◌}
+use Rattle.std.proofs.Common.{◌≡◌, ℕ, zero, suc, Bool, true, false, not, List, [], ◌∷◌, ◌++◌, map, get_or, drop, Option, Some, None, is_some, refl, sym, ap, ap₂, subst, ◌∙◌}
 use Rattle.std.specs.Prelude.{codes}
 use Rattle.std.specs.List.{list_all}
 use Rattle.std.proofs.lemmas.Bool.{false≢true}
@@ -47,7 +47,7 @@ key word (Some condition) = condition
 -- the words of commands that have a new name, and those of conditions
 abbrev keys : List (List ℕ)
 keys =
-    take 25 command_words ++ codes "different" ∷ codes "not_collinear" ∷ codes "not_parallel" ∷ []
+    drop 1 command_words ++ codes "different" ∷ codes "not_collinear" ∷ codes "not_parallel" ∷ []
 
 -- the word is `assume` just where there is a condition
 abbrev tells : List ℕ → Option (List ℕ) → Bool

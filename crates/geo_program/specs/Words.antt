@@ -6,10 +6,10 @@ use Rattle.geo_lexer.specs.Bytes.{is_letter, is_word_byte}
 -- the words that begin a command
 abbrev pub command_words : List (List ℕ)
 command_words =
-    codes "point" ∷ codes "param" ∷ codes "line" ∷ codes "parallel" ∷ codes "perp" ∷ codes "med" ∷ codes "intersec"
-    ∷ codes "inter" ∷ codes "foot" ∷ codes "pratio" ∷ codes "tratio" ∷ codes "online" ∷ codes "lratio" ∷ codes "midpoint"
+    codes "assume" ∷ codes "point" ∷ codes "param" ∷ codes "line" ∷ codes "parallel" ∷ codes "perp" ∷ codes "med"
+    ∷ codes "intersec" ∷ codes "inter" ∷ codes "foot" ∷ codes "pratio" ∷ codes "tratio" ∷ codes "online" ∷ codes "lratio" ∷ codes "midpoint"
     ∷ codes "translate" ∷ codes "symmetric" ∷ codes "reflect" ∷ codes "circumcenter" ∷ codes "orthocenter"
-    ∷ codes "centroid" ∷ codes "oncircle" ∷ codes "second" ∷ codes "cc" ∷ codes "inverse" ∷ codes "weights" ∷ codes "assume" ∷ []
+    ∷ codes "centroid" ∷ codes "oncircle" ∷ codes "second" ∷ codes "cc" ∷ codes "inverse" ∷ codes "weights" ∷ []
 
 -- the words that begin a statement
 abbrev pub statement_words : List (List ℕ)

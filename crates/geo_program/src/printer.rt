@@ -49,7 +49,7 @@ fn push_number(alloc: Global, out: &mut Vec<u8>, n: i128) -> Result<(), NoMemory
 /// Appends the word of a condition that is assumed.
 fn push_condition(out: &mut Vec<u8>, condition: Option<&[u8]>) -> Result<(), NoMemory>
     ensures { OnOk result (out.new.items ≡ out.old.items
-        ++ spaced_text (condition_lexemes (option_map (λ word. word.now) condition))) }
+        ++ spaced_text (condition_lexemes (option_map (λ word. word.now) condition.entry))) }
 {
     match condition {
         Some(word) => push_token(out, word),
