@@ -7,6 +7,7 @@ use Rattle.geo_program.specs.declared.names.NameKind.{NameKind}
 use Rattle.geo_program.specs.declared.names.NameKind.TheVariants as kind
 use Rattle.geo_program.specs.WellFormed.{IsWellFormed, Source}
 use Rattle.geo_terms.specs.Stores.{Store, tree_of}
+use Rattle.geo_lowering.specs.declared.version.Version.{Version}
 use Rattle.geo_lowering.specs.Counting.{named, hidden, further, counted, next_point, next_number, numbers_from, numbers_had}
 use Rattle.geo_lowering.specs.Lowering.{Layout, Pair, layout_of, pair_of, command_steps, steps_from, steps_of}
 use Rattle.geo_lowering.proofs.FormLaws.{AreFormsOver, past, over_append}
@@ -34,10 +35,10 @@ counted-up kind.Param kind.Line n = omega arith
 counted-up kind.Line kind.Point n = omega arith
 counted-up kind.Line kind.Param n = omega arith
 
-pub next_point-up : (n : ℕ) (c : Command) → n ≤ next_point n c
-next_point-up n c =
-    let h : n ≤ further n (hidden c) = further-up n (hidden c) in
-    let k : further n (hidden c) ≤ next_point n c = counted-up kind.Point (named c) (further n (hidden c)) in omega arith
+pub next_point-up : (version : Version) → (n : ℕ) (c : Command) → n ≤ next_point version n c
+next_point-up version n c =
+    let h : n ≤ further n (hidden version c) = further-up n (hidden version c) in
+    let k : further n (hidden version c) ≤ next_point version n c = counted-up kind.Point (named c) (further n (hidden version c)) in omega arith
 
 pub next_number-up : (m : ℕ) (c : Command) → m ≤ next_number m c
 next_number-up m Point = omega arith
@@ -98,10 +99,10 @@ numbers_from-up m (c ∷ cs) =
     let h : m ≤ next_number m c = next_number-up m c in
     let k : next_number m c ≤ numbers_from (next_number m c) cs = numbers_from-up (next_number m c) cs in omega arith
 
-module _ (l : Layout) (nodes : Store) where
+module _ (version : Version) (l : Layout) (nodes : Store) where
   -- the pair of a new line stands below the next point
   pair_below : (x q j n m : ℕ) (c : Command) → Bounds l x q j n m → IsNamed nodes x q j c → named c ≡ kind.Line
-      → ((pair_of l.point n c).left < next_point n c) × ((pair_of l.point n c).right < next_point n c)
+      → ((pair_of l.point n c).left < next_point version n c) × ((pair_of l.point n c).right < next_point version n c)
   pair_below x y j n m Point b h e = cc
   pair_below x y j n m Param b h e = cc
   pair_below x y j n m (Line a b') b h e = (b.points a.0 h.0, b.points b'.0 h.1.0)
@@ -150,18 +151,18 @@ module _ (l : Layout) (nodes : Store) where
   next_params q m f kind.Line u e b t h = let w : l.param t < m = b t h in omega arith
 
   -- one command later
-  pub bounds_next : (x q j n m : ℕ) (c : Command) → Bounds l x q j n m → IsNamed nodes x q j c → IsLaid l x q j n m c
-      → Bounds l (counted kind.Point (named c) x) (counted kind.Param (named c) q) (counted kind.Line (named c) j) (next_point n c) (next_number m c)
+  pub bounds_next : (x q j n m : ℕ) (c : Command) → Bounds l x q j n m → IsNamed nodes x q j c → IsLaid version l x q j n m c
+      → Bounds l (counted kind.Point (named c) x) (counted kind.Param (named c) q) (counted kind.Line (named c) j) (next_point version n c) (next_number m c)
   bounds_next x q j n m c b h d = record {
-    points = next_points x n (further n (hidden c)) (named c) (further-up n (hidden c)) d.point b.points;
-    lines = next_lines j n (next_point n c) (named c) (next_point-up n c)
-        (λ e. subst (λ (p : Pair). (p.left < next_point n c) × (p.right < next_point n c)) (sym (d.line e)) (pair_below x q j n m c b h e)) b.lines;
+    points = next_points x n (further n (hidden version c)) (named c) (further-up n (hidden version c)) d.point b.points;
+    lines = next_lines j n (next_point version n c) (named c) (next_point-up version n c)
+        (λ e. subst (λ (p : Pair). (p.left < next_point version n c) × (p.right < next_point version n c)) (sym (d.line e)) (pair_below x q j n m c b h e)) b.lines;
     params = next_params q m (next_number m c) (named c) (next_number-up m c)
         (λ e. let p : l.param q ≡ m = d.param e in let s : next_number m c ≡ suc m = param_next m c e in omega arith) b.params;
   }
 
   -- the steps of a command stand past its points
-  pub past_steps : (n m : ℕ) (c : Command) → past n (command_steps l nodes n m c) ≡ next_point n c
+  pub past_steps : (n m : ℕ) (c : Command) → past n (command_steps version l nodes n m c) ≡ next_point version n c
   past_steps n m Point = refl
   past_steps n m Param = refl
   past_steps n m (Line a b) = refl
@@ -188,7 +189,7 @@ module _ (l : Layout) (nodes : Store) where
   past_steps n m (Inverse p o a) = refl
 
   -- the steps of a command name what stands before them
-  pub command_over : (x q j n m M : ℕ) (c : Command) → Bounds l x q j n m → next_number m c ≤ M → IsNamed nodes x q j c → AreFormsOver n M (command_steps l nodes n m c)
+  pub command_over : (x q j n m M : ℕ) (c : Command) → Bounds l x q j n m → next_number m c ≤ M → IsNamed nodes x q j c → AreFormsOver n M (command_steps version l nodes n m c)
   command_over x y j n m M Point B f h = (tt, tt)
   command_over x y j n m M Param B f h = tt
   command_over x y j n m M (Line a b) B f h = tt
@@ -215,20 +216,20 @@ module _ (l : Layout) (nodes : Store) where
   command_over x y j n m M (Inverse p o a) B f h = let p' : l.point p.0 < n = B.points p.0 h.0 in let o' : l.point o.0 < n = B.points o.0 h.1.0 in let a' : l.point a.0 < n = B.points a.0 h.1.1.0 in ((o', o', p', ((o', a', o'), (o', p', o'))), tt)
 
   -- those of all commands do
-  pub steps_over : (cs : List Command) (x q j n m M : ℕ) → Bounds l x q j n m → numbers_from m cs ≤ M → AreNamed nodes x q j cs → AreLaid l x q j n m cs
-      → AreFormsOver n M (steps_from l nodes n m cs)
+  pub steps_over : (cs : List Command) (x q j n m M : ℕ) → Bounds l x q j n m → numbers_from m cs ≤ M → AreNamed nodes x q j cs → AreLaid version l x q j n m cs
+      → AreFormsOver n M (steps_from version l nodes n m cs)
   steps_over [] x q j n m M b u h d = tt
   steps_over (c ∷ cs) x q j n m M b u h d =
       let v : next_number m c ≤ numbers_from (next_number m c) cs = numbers_from-up (next_number m c) cs in
-      over_append n M (command_steps l nodes n m c) (steps_from l nodes (next_point n c) (next_number m c) cs)
+      over_append n M (command_steps version l nodes n m c) (steps_from version l nodes (next_point version n c) (next_number m c) cs)
       (command_over x q j n m M c b (omega arith) h.0)
-      (subst (λ i. AreFormsOver i M (steps_from l nodes (next_point n c) (next_number m c) cs)) (sym (past_steps n m c))
-      (steps_over cs _ _ _ (next_point n c) (next_number m c) M (bounds_next x q j n m c b h.0 d.0) u h.1 d.1))
+      (subst (λ i. AreFormsOver i M (steps_from version l nodes (next_point version n c) (next_number m c) cs)) (sym (past_steps n m c))
+      (steps_over cs _ _ _ (next_point version n c) (next_number m c) M (bounds_next x q j n m c b h.0 d.0) u h.1 d.1))
 
 pub no_bounds : (l : Layout) → Bounds l 0 0 0 0 0
 no_bounds l = record { points = λ a h. absurd (omega arith); lines = λ i h. absurd (omega arith); params = λ t h. absurd (omega arith) }
 
-pub program_over : (p : Source) → IsWellFormed p → AreFormsOver 0 (numbers_had p.commands) (steps_of p)
-program_over p w =
-    steps_over (layout_of p.commands) p.nodes p.commands 0 0 0 0 0 (numbers_had p.commands) (no_bounds (layout_of p.commands))
-    (omega arith) (named_program p w) (laid_program p.commands)
+pub program_over : (version : Version) → (p : Source) → IsWellFormed p → AreFormsOver 0 (numbers_had p.commands) (steps_of version p)
+program_over version p w =
+    steps_over version (layout_of version p.commands) p.nodes p.commands 0 0 0 0 0 (numbers_had p.commands) (no_bounds (layout_of version p.commands))
+    (omega arith) (named_program p w) (laid_program version p.commands)

@@ -13,6 +13,7 @@ use Rattle.geo_program.specs.declared.commands.Command.{Command}
 use Rattle.geo_program.specs.declared.commands.Command.TheVariants.{Point, Param, Line, Parallel, Perp, Med, Intersec, Inter, Foot, Pratio, Tratio, Online, Lratio, Midpoint, Translate, Symmetric, Reflect, Circumcenter, Orthocenter, Centroid, Oncircle, Second, Cc, Inverse}
 use Rattle.geo_program.specs.declared.names.NameKind.TheVariants as kind
 use Rattle.geo_program.specs.WellFormed.{Source}
+use Rattle.geo_lowering.specs.declared.version.Version.{Version}
 use Rattle.geo_lowering.specs.Counting.{named, hidden, further}
 use Rattle.geo_lowering.specs.CommandsMet.{reading, lines_of, IsCommandMet}
 use Rattle.geo_lowering.specs.Lowering.{Layout, layout_of, renamed, command_steps, one_tree, half_tree, square_tree}
@@ -36,25 +37,25 @@ use Rattle.geo_lowering.proofs.ConditionValues.{Hold, step_value}
 use Rattle.geo_lowering.proofs.Up.{AllStand, AllSame}
 
 -- the points that a command makes, put in at n and so on; X is the one that it names
-pub record Placed (l : Layout) (nodes : Store) (n m : ℕ) (at : ℕ → Triple) (number : ℕ → Fraction) (c : Command) (X : Triple) : Type 0 where
+pub record Placed (version : Version) (l : Layout) (nodes : Store) (n m : ℕ) (at : ℕ → Triple) (number : ℕ → Fraction) (c : Command) (X : Triple) : Type 0 where
   pub points : List Triple
-  pub met : AreFormsMet (made n at number points) n (command_steps l nodes n m c)
-  pub new : named c ≡ kind.Point → puts at n points (further n (hidden c)) ≡ X
+  pub met : AreFormsMet (made n at number points) n (command_steps version l nodes n m c)
+  pub new : named c ≡ kind.Point → puts at n points (further n (hidden version c)) ≡ X
 
 -- the same, where X may be any point, but for a free point
-pub record Built (l : Layout) (nodes : Store) (n m : ℕ) (at : ℕ → Triple) (number : ℕ → Fraction) (c : Command) (F : Triple) : Type 0 where
+pub record Built (version : Version) (l : Layout) (nodes : Store) (n m : ℕ) (at : ℕ → Triple) (number : ℕ → Fraction) (c : Command) (F : Triple) : Type 0 where
   pub points : List Triple
-  pub met : AreFormsMet (made n at number points) n (command_steps l nodes n m c)
+  pub met : AreFormsMet (made n at number points) n (command_steps version l nodes n m c)
   pub free : c ≡ Point → puts at n points n ≡ F
 
-module _ (s : Source) (V : Placement) (at : ℕ → Triple) (x y j n m : ℕ) where
+module _ (version : Version) (s : Source) (V : Placement) (at : ℕ → Triple) (x y j n m : ℕ) where
   abbrev l : Layout
-  l = layout_of s.commands
+  l = layout_of version s.commands
 
   abbrev pub so_far : Placement
   so_far = record { point = at; number = V.number }
 
-  module _ (B : Bounds l x y j n m) (g : AllSame l s.nodes V so_far (lines_of V s.commands) x) (st : AllStand l s.nodes V so_far (lines_of V s.commands) j) where
+  module _ (B : Bounds l x y j n m) (g : AllSame version l s.nodes V so_far (lines_of V s.commands) x) (st : AllStand version l s.nodes V so_far (lines_of V s.commands) j) where
     abbrev NearHere : ℕ → Triple → Type 0
     NearHere k A = Near n at V.number k A
 
@@ -85,7 +86,7 @@ module _ (s : Source) (V : Placement) (at : ℕ → Triple) (x y j n m : ℕ) wh
 
     -- the command is met: its hidden points are there
     pub command_down : (c : Command) → IsNamed s.nodes x y j c → IsCommandMet s V (V.point x) (V.number m) c → Hold s V (command_conditions s.nodes (record { 0 = x }) c)
-        → Placed l s.nodes n m at V.number c (V.point x)
+        → Placed version l s.nodes n m at V.number c (V.point x)
     command_down Point k h z = record { points = (V.point x) ∷ []; met = (tt, tt); new = λ e. puts_here at n (V.point x) [] }
     command_down Param k h z = record { points = []; met = tt; new = λ e. cc }
     command_down (Line a b) k h z = record { points = []; met = tt; new = λ e. cc }
@@ -134,7 +135,7 @@ module _ (s : Source) (V : Placement) (at : ℕ → Triple) (x y j n m : ℕ) wh
     command_down (Inverse p o a) k h z = record { points = (V.point x) ∷ []; met = place_along n at V.number (l.point o.0) (l.point o.0) (l.point p.0) (division (square_tree (l.point o.0) (l.point a.0)) (square_tree (l.point o.0) (l.point p.0))) (V.point o.0) (V.point o.0) (V.point p.0) (quotient (pythagoras_difference (V.point o.0) (V.point a.0) (V.point o.0)) (pythagoras_difference (V.point o.0) (V.point p.0) (V.point o.0))) (V.point x) (N o.0 k.1.0) (N o.0 k.1.0) (N p.0 k.0) (squares (l.point o.0) (l.point a.0) (l.point p.0) (V.point o.0) (V.point a.0) (V.point p.0) (N o.0 k.1.0) (N a.0 k.1.1.0) (N p.0 k.0) (far (V.point o.0) (V.point p.0) z.0)) (inverse_down (V.point x) (V.point p.0) (V.point o.0) (V.point a.0) h z.0); new = λ e. puts_here at n (V.point x) [] }
 
     -- the conditions that do not name the point hold: there is a point that meets the command
-    pub command_built : (c : Command) (F : Triple) → IsNamed s.nodes x y j c → Hold s V (early_conditions s.nodes c) → Built l s.nodes n m at V.number c F
+    pub command_built : (c : Command) (F : Triple) → IsNamed s.nodes x y j c → Hold s V (early_conditions s.nodes c) → Built version l s.nodes n m at V.number c F
     command_built Point F k z = record { points = F ∷ []; met = (tt, tt); free = λ e. puts_here at n F [] }
     command_built Param F k z = record { points = []; met = tt; free = λ e. cc }
     command_built (Line a b) F k z = record { points = []; met = tt; free = λ e. cc }

@@ -7,6 +7,7 @@ use Rattle.geo_program.specs.declared.commands.Command.TheVariants.{Point, Param
 use Rattle.geo_program.specs.declared.names.NameKind.{NameKind}
 use Rattle.geo_program.specs.declared.names.NameKind.TheVariants as kind
 use Rattle.geo_program.specs.WellFormed.{IsWellFormed, Source}
+use Rattle.geo_lowering.specs.declared.version.Version.{Version}
 use Rattle.geo_lowering.specs.Counting.{points_past, named, hidden, further, counted, next_point, next_number, numbers_from, numbers_had, points_from, points_named}
 use Rattle.geo_lowering.specs.CommandsMet.{MeetsCommands}
 use Rattle.geo_lowering.specs.Lowering.{Layout, layout_of, point_place, command_steps, steps_from, steps_of}
@@ -25,27 +26,27 @@ pub frees_append : (p q : Placement) (n : ℕ) (fs gs : List StepForm) → Frees
 frees_append p q n [] gs h k = k
 frees_append p q n (f ∷ fs) gs h k = (h.0, frees_append p q (suc n) fs gs h.1 k)
 
-module _ (s : Source) where
+module _ (version : Version) (s : Source) where
   abbrev l : Layout
-  l = layout_of s.commands
+  l = layout_of version s.commands
 
   -- the number past the steps is that past the points
-  pub past_all : (cs : List Command) (n m : ℕ) → past n (steps_from l s.nodes n m cs) ≡ points_past n cs
+  pub past_all : (cs : List Command) (n m : ℕ) → past n (steps_from version l s.nodes n m cs) ≡ points_past version n cs
   past_all [] n m = refl
   past_all (c ∷ cs) n m =
-      past-append n (command_steps l s.nodes n m c) (steps_from l s.nodes (next_point n c) (next_number m c) cs)
-      ∙ ap (λ i. past i (steps_from l s.nodes (next_point n c) (next_number m c) cs)) (past_steps l s.nodes n m c)
-      ∙ past_all cs (next_point n c) (next_number m c)
+      past-append n (command_steps version l s.nodes n m c) (steps_from version l s.nodes (next_point version n c) (next_number m c) cs)
+      ∙ ap (λ i. past i (steps_from version l s.nodes (next_point version n c) (next_number m c) cs)) (past_steps version l s.nodes n m c)
+      ∙ past_all cs (next_point version n c) (next_number m c)
 
   -- each name of the program stands among its points
-  pub bounds_all : (cs : List Command) (x y j n m : ℕ) → Bounds l x y j n m → AreNamed s.nodes x y j cs → AreLaid l x y j n m cs
-      → Bounds l (points_from x cs) (params_past y cs) (lines_past j cs) (points_past n cs) (numbers_from m cs)
+  pub bounds_all : (cs : List Command) (x y j n m : ℕ) → Bounds l x y j n m → AreNamed s.nodes x y j cs → AreLaid version l x y j n m cs
+      → Bounds l (points_from x cs) (params_past y cs) (lines_past j cs) (points_past version n cs) (numbers_from m cs)
   bounds_all [] x y j n m B k d = B
-  bounds_all (c ∷ cs) x y j n m B k d = bounds_all cs _ _ _ (next_point n c) (next_number m c) (bounds_next l s.nodes x y j n m c B k.0 d.0) k.1 d.1
+  bounds_all (c ∷ cs) x y j n m B k d = bounds_all cs _ _ _ (next_point version n c) (next_number m c) (bounds_next version l s.nodes x y j n m c B k.0 d.0) k.1 d.1
 
   module _ (p q : Placement) where
     -- of the steps of a command only that of `point` leaves its point free
-    pub command_frees : (n m : ℕ) (c : Command) → (c ≡ Point → SamePoint (p.point n) (q.point n)) → FreesAgree p q n (command_steps l s.nodes n m c)
+    pub command_frees : (n m : ℕ) (c : Command) → (c ≡ Point → SamePoint (p.point n) (q.point n)) → FreesAgree p q n (command_steps version l s.nodes n m c)
     command_frees n m Point f = (λ e. f refl, tt)
     command_frees n m Param f = tt
     command_frees n m (Line a b) f = tt
@@ -71,18 +72,18 @@ module _ (s : Source) where
     command_frees n m (Cc o p a) f = (λ e. cc, (λ e. cc, tt))
     command_frees n m (Inverse p o a) f = (λ e. cc, tt)
 
-    pub frees : (V V' : Placement) (cs : List Command) (x y j n m : ℕ) → AreLaid l x y j n m cs → AreFreesSame V V' x cs
+    pub frees : (V V' : Placement) (cs : List Command) (x y j n m : ℕ) → AreLaid version l x y j n m cs → AreFreesSame V V' x cs
         → ((a : ℕ) → a < points_from x cs → p.point (l.point a) ≡ V.point a) → ((a : ℕ) → a < points_from x cs → q.point (l.point a) ≡ V'.point a)
-        → FreesAgree p q n (steps_from l s.nodes n m cs)
+        → FreesAgree p q n (steps_from version l s.nodes n m cs)
     frees V V' [] x y j n m d f g h = tt
     frees V V' (c ∷ cs) x y j n m d f g h =
-        frees_append p q n (command_steps l s.nodes n m c) (steps_from l s.nodes (next_point n c) (next_number m c) cs)
+        frees_append p q n (command_steps version l s.nodes n m c) (steps_from version l s.nodes (next_point version n c) (next_number m c) cs)
         (command_frees n m c
-        (λ e. let here : l.point x ≡ n = d.0.point (ap named e) ∙ ap (λ i. further n (hidden i)) e in
+        (λ e. let here : l.point x ≡ n = d.0.point (ap named e) ∙ ap (λ i. further n (hidden version i)) e in
         let first : x < points_from x (c ∷ cs) = free_below x c cs e in
         subst (λ i. SamePoint (p.point i) (q.point i)) here (point_trans _ _ _ (of_path (g x first)) (point_trans _ _ _ (f.0 e) (of_path (sym (h x first)))))))
-        (subst (λ i. FreesAgree p q i (steps_from l s.nodes (next_point n c) (next_number m c) cs)) (sym (past_steps l s.nodes n m c))
-        (frees V V' cs _ _ _ (next_point n c) (next_number m c) d.1 f.1 g h))
+        (subst (λ i. FreesAgree p q i (steps_from version l s.nodes (next_point version n c) (next_number m c) cs)) (sym (past_steps version l s.nodes n m c))
+        (frees V V' cs _ _ _ (next_point version n c) (next_number m c) d.1 f.1 g h))
       where
         points_up : (x : ℕ) (cs : List Command) → x ≤ points_from x cs
         points_up x [] = omega arith
@@ -98,22 +99,22 @@ module _ (s : Source) where
         free_below x c cs e = subst (λ d. x < points_from x (d ∷ cs)) (sym e) (let u : suc x ≤ points_from (suc x) cs = points_up (suc x) cs in omega arith)
 
 -- the placement of a program is fixed by its free points and its numbers
-pub fixed : (s : Source) (V V' : Placement) → IsWellFormed s → MeetsCommands s V → AreConditionsMet s V 0 s.commands → MeetsCommands s V' → AreConditionsMet s V' 0 s.commands
+pub fixed : (version : Version) → (s : Source) (V V' : Placement) → IsWellFormed s → MeetsCommands s V → AreConditionsMet s V 0 s.commands → MeetsCommands s V' → AreConditionsMet s V' 0 s.commands
     → AreFreesSame V V' 0 s.commands → ((k : ℕ) → k < numbers_had s.commands → Same (V.number k) (V'.number k))
     → SamePlacement (points_named s.commands) (numbers_had s.commands) V V'
-fixed s V V' w h z h' z' f g =
-    let d = extension s V w h z in
-    let d' = extension s V' w h' z' in
-    let laid = laid_program s.commands in
+fixed version s V V' w h z h' z' f g =
+    let d = extension version s V w h z in
+    let d' = extension version s V' w h' z' in
+    let laid = laid_program version s.commands in
     let names = named_program s w in
-    let B = bounds_all s s.commands 0 0 0 0 0 (no_bounds (layout_of s.commands)) names laid in
-    let same = forms_unique 0 (numbers_had s.commands) d.0 d'.0 (steps_of s)
+    let B = bounds_all version s s.commands 0 0 0 0 0 (no_bounds (layout_of version s.commands)) names laid in
+    let same = forms_unique 0 (numbers_had s.commands) d.0 d'.0 (steps_of version s)
     (record { points = λ k b. absurd (omega arith); numbers = λ k b. moved (sym (d.1.numbers k b)) (sym (d'.1.numbers k b)) (g k b) })
-    (program_over s w) (frees s d.0 d'.0 V V' s.commands 0 0 0 0 0 laid f d.1.points d'.1.points) d.2 d'.2 in
-    let e = past_all s s.commands 0 0 in
+    (program_over version s w) (frees version s d.0 d'.0 V V' s.commands 0 0 0 0 0 laid f d.1.points d'.1.points) d.2 d'.2 in
+    let e = past_all version s s.commands 0 0 in
     record {
-      same_points = λ a b. let low : point_place s.commands a < points_past 0 s.commands = B.points a b in
-          point_trans _ _ _ (of_path (sym (d.1.points a b))) (point_trans _ _ _ (same.points (point_place s.commands a) (omega arith)) (of_path (d'.1.points a b)));
+      same_points = λ a b. let low : point_place version s.commands a < points_past version 0 s.commands = B.points a b in
+          point_trans _ _ _ (of_path (sym (d.1.points a b))) (point_trans _ _ _ (same.points (point_place version s.commands a) (omega arith)) (of_path (d'.1.points a b)));
       same_numbers = g;
     }
   where

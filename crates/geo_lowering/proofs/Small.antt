@@ -14,20 +14,21 @@ use Rattle.geo_program.specs.WellFormed.{AreCommands, IsWellFormed, Scope, Sourc
 use Rattle.geo_program.proofs.Lengths.{length-canonical_text, lexeme_size}
 use Rattle.geo_program.proofs.Propositions.{program_well_formed}
 use Rattle.geo_terms.specs.Stores.{Store}
+use Rattle.geo_lowering.specs.declared.version.Version.{Version}
 use Rattle.geo_lowering.specs.Counting.{has_number, next_number, next_point, numbers_from, numbers_had, points_past}
 use Rattle.geo_lowering.proofs.LawProofs.{points_are_counted}
 
 -- the points of commands are those that their forms count
-points_sum : (nodes : Store) (n : ℕ) (cs : List Command) → points_past n cs ≡ n + sum_by (λ c. (command_form nodes c).points) cs
-points_sum nodes n [] = omega arith
-points_sum nodes n (c ∷ cs) =
+points_sum : (version : Version) → (nodes : Store) (n : ℕ) (cs : List Command) → points_past version n cs ≡ n + sum_by (λ c. (command_form nodes c).points) cs
+points_sum version nodes n [] = omega arith
+points_sum version nodes n (c ∷ cs) =
     let counts : Command → ℕ = λ c. (command_form nodes c).points in
-    let here : next_point n c ≡ n + counts c = points_are_counted nodes n c in
-    let rest : points_past (next_point n c) cs ≡ next_point n c + sum_by counts cs = points_sum nodes (next_point n c) cs in
+    let here : next_point version n c ≡ n + counts c = points_are_counted nodes n c in
+    let rest : points_past version (next_point version n c) cs ≡ next_point version n c + sum_by counts cs = points_sum version nodes (next_point version n c) cs in
     let all : sum_by counts (c ∷ cs) ≡ counts c + sum_by counts cs = sum_by-cons counts c cs in omega arith
 
-pub points_within : (p : Source) → IsWellFormed p → points_past 0 p.commands ≤ 512
-points_within p w = let e : points_past 0 p.commands ≡ 0 + sum_by (λ c. (command_form p.nodes c).points) p.commands = points_sum p.nodes 0 p.commands in let few = w.few in omega arith
+pub points_within : (version : Version) → (p : Source) → IsWellFormed p → points_past version 0 p.commands ≤ 512
+points_within version p w = let e : points_past version 0 p.commands ≡ 0 + sum_by (λ c. (command_form p.nodes c).points) p.commands = points_sum version p.nodes 0 p.commands in let few = w.few in omega arith
 
 -- at most one number for each command
 next_number-few : (m : ℕ) (c : Command) → next_number m c ≤ suc m
@@ -88,8 +89,8 @@ program_commands p =
     let few : length p.commands ≤ length (canonical_text (source_of p)) = commands_within (source_of p) (program_well_formed p) in
     let short : length (canonical_text (source_of p)) ≤ 268435456 = p.short in omega arith
 
-pub program_points : (p : Program) → points_past 0 p.commands ≤ 512
-program_points p = points_within (source_of p) (program_well_formed p)
+pub program_points : (version : Version) → (p : Program) → points_past version 0 p.commands ≤ 512
+program_points version p = points_within version (source_of p) (program_well_formed p)
 
 pub program_numbers : (p : Program) → numbers_had p.commands < 4294967295
 program_numbers p = let e : numbers_from 0 p.commands ≤ 0 + length p.commands = numbers_few 0 p.commands in let few : length p.commands < 4294967295 = program_commands p in omega arith

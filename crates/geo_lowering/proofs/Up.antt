@@ -14,6 +14,7 @@ use Rattle.geo_program.specs.declared.commands.Command.TheVariants.{Point, Param
 use Rattle.geo_program.specs.declared.names.NameKind.{NameKind}
 use Rattle.geo_program.specs.declared.names.NameKind.TheVariants as kind
 use Rattle.geo_program.specs.WellFormed.{IsWellFormed, Source}
+use Rattle.geo_lowering.specs.declared.version.Version.{Version}
 use Rattle.geo_lowering.specs.Counting.{named, hidden, further, counted, next_point, next_number}
 use Rattle.geo_lowering.specs.CommandsMet.{reading, drawn, lines_of, IsCommandMet, AreCommandsMet, MeetsCommands}
 use Rattle.geo_lowering.specs.Lines.{DrawnLine, line_at}
@@ -46,7 +47,7 @@ stands-same l C D E F c d s =
       up = λ Z h. s.up Z (cross_product-same E F E Z C D C Z (flip_point C E c) (flip_point D F d) (flip_point C E c) (self_point Z) h);
     }
 
-module _ (l : Layout) (nodes : Store) (placed lowered : Placement) (lines : List DrawnLine) where
+module _ (version : Version) (l : Layout) (nodes : Store) (placed lowered : Placement) (lines : List DrawnLine) where
   -- each line before j stands on its pair of points
   abbrev pub AllStand : ℕ → Type 0
   AllStand j = (i : ℕ) → i < j → Stands (line_at lines i) (lowered.point (l.line i).left) (lowered.point (l.line i).right)
@@ -56,7 +57,7 @@ module _ (l : Layout) (nodes : Store) (placed lowered : Placement) (lines : List
   AllSame x = (a : ℕ) → a < x → SamePoint (placed.point a) (lowered.point (l.point a))
 
   -- a new line stands on its pair
-  pub drawn_stands : (x q j n m : ℕ) (c : Command) → AllSame x → AllStand j → IsNamed nodes x q j c → AreFormsMet lowered n (command_steps l nodes n m c) → named c ≡ kind.Line
+  pub drawn_stands : (x q j n m : ℕ) (c : Command) → AllSame x → AllStand j → IsNamed nodes x q j c → AreFormsMet lowered n (command_steps version l nodes n m c) → named c ≡ kind.Line
       → Stands (line_at (drawn placed lines c) 0) (lowered.point (pair_of l.point n c).left) (lowered.point (pair_of l.point n c).right)
   drawn_stands x y j n m Point g s n' h e = cc
   drawn_stands x y j n m Param g s n' h e = cc
@@ -102,8 +103,8 @@ module _ (l : Layout) (nodes : Store) (placed lowered : Placement) (lines : List
   next_stands j n kind.Param c e s d i b = s i b
 
   -- one command later
-  pub stands_next : (x q j n m : ℕ) (c : Command) → AllSame x → AllStand j → IsNamed nodes x q j c → IsLaid l x q j n m c → IsDrawn placed lines j c
-      → AreFormsMet lowered n (command_steps l nodes n m c) → AllStand (counted kind.Line (named c) j)
+  pub stands_next : (x q j n m : ℕ) (c : Command) → AllSame x → AllStand j → IsNamed nodes x q j c → IsLaid version l x q j n m c → IsDrawn placed lines j c
+      → AreFormsMet lowered n (command_steps version l nodes n m c) → AllStand (counted kind.Line (named c) j)
   stands_next x q j n m c g s h d r k =
       next_stands j n (named c) c refl s
       (λ e. subst (λ (y : DrawnLine). Stands y (lowered.point (l.line j).left) (lowered.point (l.line j).right)) (sym (r e))
@@ -137,12 +138,12 @@ met_at s placed X Y t (Second a b o) e h = subst (λ Z. IsCommandMet s placed Z 
 met_at s placed X Y t (Cc o p a) e h = subst (λ Z. IsCommandMet s placed Z t (Cc o p a)) (e refl) h
 met_at s placed X Y t (Inverse p o a) e h = subst (λ Z. IsCommandMet s placed Z t (Inverse p o a)) (e refl) h
 
-module _ (s : Source) (lowered : Placement) where
+module _ (version : Version) (s : Source) (lowered : Placement) where
   abbrev l : Layout
-  l = layout_of s.commands
+  l = layout_of version s.commands
 
   abbrev V : Placement
-  V = forgotten s lowered
+  V = forgotten version s lowered
 
   along_read : (e : Tree) (W U Z Y : Triple) → HasTreeValue lowered (renamed l e) × IsAlong W U Z (tree_value lowered (renamed l e)) Y
       → HasTreeValue (reading s V) e × IsAlong W U Z (tree_value (reading s V) e) Y
@@ -153,8 +154,8 @@ module _ (s : Source) (lowered : Placement) where
   turned_read e U Z Y h = (subst (λ (A : Type 0). A) (renamed-has l lowered e) h.0, subst (λ r. IsTurned U Z r Y) (renamed-value l lowered e) h.1)
 
   -- where the steps of a command are met, it is met
-  pub command_up : (x q j n m : ℕ) (c : Command) → IsNamed s.nodes x q j c → AllStand l s.nodes V lowered (lines_of V s.commands) j
-      → AreFormsMet lowered n (command_steps l s.nodes n m c) → IsCommandMet s V (lowered.point (further n (hidden c))) (lowered.number m) c
+  pub command_up : (x q j n m : ℕ) (c : Command) → IsNamed s.nodes x q j c → AllStand version l s.nodes V lowered (lines_of V s.commands) j
+      → AreFormsMet lowered n (command_steps version l s.nodes n m c) → IsCommandMet s V (lowered.point (further n (hidden version c))) (lowered.number m) c
   command_up x y j n m Point k e h = tt
   command_up x y j n m Param k e h = tt
   command_up x y j n m (Line a b) k e h = tt
@@ -181,24 +182,24 @@ module _ (s : Source) (lowered : Placement) where
   command_up x y j n m (Inverse p o a) k e h = inverse_up (lowered.point n) (V.point p.0) (V.point o.0) (V.point a.0) ((different-is (V.point o.0) (V.point p.0)).1 h.0.0.2) h.0.1
 
   -- so are all commands, one after another
-  pub commands_up : (cs : List Command) (x q j n m : ℕ) → AreNamed s.nodes x q j cs → AreLaid l x q j n m cs → AreDrawn V (lines_of V s.commands) j cs
-      → AllStand l s.nodes V lowered (lines_of V s.commands) j → AreFormsMet lowered n (steps_from l s.nodes n m cs) → AreCommandsMet s V x m cs
+  pub commands_up : (cs : List Command) (x q j n m : ℕ) → AreNamed s.nodes x q j cs → AreLaid version l x q j n m cs → AreDrawn V (lines_of V s.commands) j cs
+      → AllStand version l s.nodes V lowered (lines_of V s.commands) j → AreFormsMet lowered n (steps_from version l s.nodes n m cs) → AreCommandsMet s V x m cs
   commands_up [] x q j n m k d r w h = tt
   commands_up (c ∷ cs) x q j n m k d r w h =
-      let steps = command_steps l s.nodes n m c in
-      let rest = steps_from l s.nodes (next_point n c) (next_number m c) cs in
+      let steps = command_steps version l s.nodes n m c in
+      let rest = steps_from version l s.nodes (next_point version n c) (next_number m c) cs in
       let first = met_front lowered n steps rest h in (
-        met_at s V (lowered.point (further n (hidden c))) (V.point x) (lowered.number m) c (λ e. ap (λ i. lowered.point i) (sym (d.0.point e)))
+        met_at s V (lowered.point (further n (hidden version c))) (V.point x) (lowered.number m) c (λ e. ap (λ i. lowered.point i) (sym (d.0.point e)))
             (command_up x q j n m c k.0 w first),
-        commands_up cs _ _ _ (next_point n c) (next_number m c) k.1 d.1 r.1
-            (stands_next l s.nodes V lowered (lines_of V s.commands) x q j n m c (λ a b. self_point _) w k.0 d.0 r.0 first)
-            (subst (λ i. AreFormsMet lowered i rest) (past_steps l s.nodes n m c) (met_back lowered n steps rest h)),
+        commands_up cs _ _ _ (next_point version n c) (next_number m c) k.1 d.1 r.1
+            (stands_next version l s.nodes V lowered (lines_of V s.commands) x q j n m c (λ a b. self_point _) w k.0 d.0 r.0 first)
+            (subst (λ i. AreFormsMet lowered i rest) (past_steps version l s.nodes n m c) (met_back lowered n steps rest h)),
       )
 
 -- a lowered placement that meets the steps extends a placement that meets the commands
-pub up : (s : Source) (lowered : Placement) → IsWellFormed s → AreFormsMet lowered 0 (steps_of s) → MeetsCommands s (forgotten s lowered)
-up s lowered w h =
-    commands_up s lowered s.commands 0 0 0 0 0 (named_program s w) (laid_program s.commands) (drawn_program s (forgotten s lowered) w) (λ i b. absurd (omega arith)) h
+pub up : (version : Version) → (s : Source) (lowered : Placement) → IsWellFormed s → AreFormsMet lowered 0 (steps_of version s) → MeetsCommands s (forgotten version s lowered)
+up version s lowered w h =
+    commands_up version s lowered s.commands 0 0 0 0 0 (named_program s w) (laid_program version s.commands) (drawn_program s (forgotten version s lowered) w) (λ i b. absurd (omega arith)) h
 
-pub forgotten-extends : (s : Source) (lowered : Placement) → Extends s (forgotten s lowered) lowered
-forgotten-extends s lowered = record { points = λ a b. refl; numbers = λ k b. refl }
+pub forgotten-extends : (version : Version) → (s : Source) (lowered : Placement) → Extends version s (forgotten version s lowered) lowered
+forgotten-extends version s lowered = record { points = λ a b. refl; numbers = λ k b. refl }
