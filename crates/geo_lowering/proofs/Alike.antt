@@ -1,26 +1,26 @@
 -- Programs that are the same are lowered alike: what lowering sees of a command can be read off its form.
-use Rattle.std.proofs.Common.{◌≡◌, ℕ, zero, suc, Bool, true, false, List, [], ◌∷◌, ◌++◌, map, refl, sym, ◌∙◌, ap, ap₂, eqb, if◌then◌else◌}
+use Rattle.std.proofs.Common.{◌≡◌, ℕ, zero, suc, Bool, true, false, List, [], ◌∷◌, ◌++◌, map, refl, sym, ◌∙◌, ap, ap₂, eqb, if◌then◌else◌, ◌-◌, Option, Some}
 use Rattle.std.specs.Prelude.{slice_index, slice_index_or}
 use Rattle.geo_points.specs.declared.ids.ParamId.{ParamId}
 use Rattle.geo_points.specs.declared.ids.PointId.{PointId}
 use Rattle.geo_terms.specs.Stores.{Store}
 use Rattle.geo_terms.specs.Trees.{Tree}
 use Rattle.geo_program.specs.declared.commands.Command.{Command}
-use Rattle.geo_program.specs.declared.commands.Command.TheVariants.{Point, Param, Line, Parallel, Perp, Med, Intersec, Inter, Foot, Pratio, Tratio, Online, Lratio, Midpoint, Translate, Symmetric, Reflect, Circumcenter, Orthocenter, Centroid, Oncircle, Second, Cc, Inverse}
+use Rattle.geo_program.specs.declared.commands.Command.TheVariants.{Point, Param, Line, Parallel, Perp, Med, Intersec, Inter, Foot, Pratio, Tratio, Online, Lratio, Midpoint, Translate, Symmetric, Reflect, Circumcenter, Orthocenter, Centroid, Oncircle, Second, Cc, Inverse, Weights, AssumeDifferent, AssumeNotCollinear, AssumeNotParallel}
 use Rattle.geo_program.specs.declared.names.NameKind.{NameKind}
 use Rattle.geo_program.specs.declared.names.NameKind.TheVariants as kind
 use Rattle.geo_program.specs.Forms.{Argument, CommandForm, point_argument, line_argument, number_argument, command_form}
 use Rattle.geo_program.specs.Spelling.{SameSource}
 use Rattle.geo_program.specs.WellFormed.{Source}
 use Rattle.geo_lowering.specs.declared.version.Version.{Version}
-use Rattle.geo_lowering.specs.Counting.{named, hidden, has_number, further, counted, gathered, next_point, next_number, numbers_from, param_places}
+use Rattle.geo_lowering.specs.Counting.{named, hidden, has_number, further, counted, gathered, next_point, next_number, numbers_from, param_places, weights_points}
 use Rattle.geo_lowering.specs.Laws.{LoweredFormsAgree, SameProgramsLowerAlike}
-use Rattle.geo_lowering.specs.Lowering.{Layout, Pair, command_steps, layout_of, line_places, pair_numbers, pair_of, point_place, point_places, points_after, renamed, steps_from, steps_of}
+use Rattle.geo_lowering.specs.Lowering.{Layout, Pair, command_steps, layout_of, line_places, pair_numbers, pair_of, point_place, point_places, points_after, renamed, steps_from, steps_of, weights_steps}
 use Rattle.geo_lowering.specs.StepForms.{StepForm, along, turned_along}
 
 -- what lowering sees of a command
 record Sight : Type 0 where
-  kind : NameKind
+  kind : Option NameKind
   hidden : ℕ
   number : Bool
   pair : (ℕ → ℕ) → ℕ → Pair
@@ -38,11 +38,21 @@ sight version nodes c = record {
 -- of a command whose number is this tree
 abbrev numbered : (Layout → Tree → StepForm) → Tree → Sight
 numbered step e = record {
-  kind = kind.Point;
+  kind = Some kind.Point;
   hidden = 0;
   number = false;
   pair = λ point n. pair_of point n Point;
   steps = λ l n m. step l (renamed l e) ∷ [];
+}
+
+-- of `weights` with these numbers
+abbrev by_weights : Version → PointId → PointId → PointId → Tree → Tree → Sight
+by_weights version a b c e f = record {
+  kind = Some kind.Point;
+  hidden = weights_points version - 1;
+  number = false;
+  pair = λ point n. pair_of point n Point;
+  steps = λ l n m. weights_steps version n (l.point a.0) (l.point b.0) (l.point c.0) (renamed l e) (renamed l f);
 }
 
 -- the command whose word begins with these letters
@@ -52,7 +62,9 @@ by_letter word letter c d = if eqb (slice_index word 0) letter then c else d
 -- what lowering sees of a command with this word, so many points and these arguments
 abbrev seen_by : (version : Version) → List ℕ → ℕ → List Argument → Sight
 seen_by version word zero [] = sight version [] Param
-seen_by version word zero (point_argument a ∷ point_argument b ∷ []) = sight version [] (Line a b)
+seen_by version word zero (point_argument a ∷ point_argument b ∷ []) = sight version [] (by_letter word 97 (AssumeDifferent a b) (Line a b))
+seen_by version word zero (point_argument a ∷ point_argument b ∷ point_argument c ∷ []) = sight version [] (AssumeNotCollinear a b c)
+seen_by version word zero (point_argument a ∷ point_argument b ∷ point_argument c ∷ point_argument d ∷ []) = sight version [] (AssumeNotParallel a b c d)
 seen_by version word (suc zero) (point_argument p ∷ line_argument b ∷ []) = sight version [] (Parallel p b)
 seen_by version word (suc (suc zero)) (point_argument p ∷ line_argument b ∷ []) = sight version [] (Perp p b)
 seen_by version word (suc (suc zero)) (point_argument a ∷ point_argument b ∷ []) = sight version [] (Med a b)
@@ -73,38 +85,17 @@ seen_by version word (suc (suc zero)) (point_argument a ∷ point_argument b ∷
     (by_letter word 115 (Second a b c) (if eqb (slice_index word 1) 101 then Centroid a b c else Cc a b c)))
 seen_by version word (suc (suc (suc zero))) (point_argument a ∷ point_argument b ∷ point_argument c ∷ []) = sight version [] (Orthocenter a b c)
 seen_by version word (suc (suc (suc (suc (suc zero))))) (point_argument a ∷ point_argument b ∷ point_argument c ∷ []) = sight version [] (Circumcenter a b c)
+seen_by version word (suc (suc zero)) (point_argument a ∷ point_argument b ∷ point_argument c ∷ number_argument e ∷ number_argument f ∷ []) = by_weights version a b c e f
 seen_by version word _ _ = sight version [] Point
 
 abbrev seen : (version : Version) → CommandForm → Sight
 seen version f = seen_by version f.word f.points f.arguments
 
-seen-is : (version : Version) → (nodes : Store) (c : Command) → seen version (command_form nodes c) ≡ sight version nodes c
+seen-is : (version : Version) (nodes : Store) (c : Command) → seen version (command_form nodes c) ≡ sight version nodes c
 seen-is version nodes Point = refl
-seen-is version nodes Param = refl
-seen-is version nodes (Line a b) = refl
-seen-is version nodes (Parallel p b) = refl
-seen-is version nodes (Perp p b) = refl
-seen-is version nodes (Med a b) = refl
-seen-is version nodes (Intersec a b) = refl
-seen-is version nodes (Inter a b c d) = refl
-seen-is version nodes (Foot p a b) = refl
-seen-is version nodes (Pratio w u v r) = refl
-seen-is version nodes (Tratio u v r) = refl
-seen-is version nodes (Online a b) = refl
-seen-is version nodes (Lratio a b r) = refl
-seen-is version nodes (Midpoint a b) = refl
-seen-is version nodes (Translate a b c) = refl
-seen-is version nodes (Symmetric a o) = refl
-seen-is version nodes (Reflect a p q) = refl
-seen-is version nodes (Circumcenter a b c) = refl
-seen-is version nodes (Orthocenter a b c) = refl
-seen-is version nodes (Centroid a b c) = refl
-seen-is version nodes (Oncircle o a) = refl
-seen-is version nodes (Second a b o) = refl
-seen-is version nodes (Cc o p a) = refl
-seen-is version nodes (Inverse p o a) = refl
+seen-is version nodes _ = refl
 
-sights : (version : Version) → (nodes : Store) (cs : List Command) → map (seen version) (map (command_form nodes) cs) ≡ map (sight version nodes) cs
+sights : (version : Version) (nodes : Store) (cs : List Command) → map (seen version) (map (command_form nodes) cs) ≡ map (sight version nodes) cs
 sights version nodes [] = refl
 sights version nodes (c ∷ cs) = ap₂ (λ (x : Sight) (xs : List Sight). x ∷ xs) (seen-is version nodes c) (sights version nodes cs)
 
@@ -196,7 +187,7 @@ module _ (version : Version) (p q : Source) (s : SameSource p q) where
       ∙ ap₂ (λ (l : Layout) (ss : List Sight). steps_from' l 0 0 ss) same_layout same_sights
       ∙ sym (steps_from-is version q.nodes (layout_of version q.commands) 0 0 q.commands)
 
-pub same_programs_lower_alike : (version : Version) → SameProgramsLowerAlike
+pub same_programs_lower_alike : SameProgramsLowerAlike
 same_programs_lower_alike version p q l s h = record {
   valid = h.valid;
   steps = h.steps ∙ same_steps version p q s;
@@ -224,7 +215,7 @@ same_lists : {A B : Type 0} (f : A → B) (g : B → A) → ((a : A) → g (f a)
 same_lists f g h xs ys e = sym (back f g h xs) ∙ ap (map g) e ∙ back f g h ys
 
 pub lowered_forms_agree : LoweredFormsAgree
-lowered_forms_agree p l m i j = record {
+lowered_forms_agree version p l m i j = record {
   steps = i.steps ∙ sym j.steps;
   numbers = i.numbers ∙ sym j.numbers;
   points = same_lists (λ (a : PointId). a.0) (λ k. record { 0 = k }) (λ a. refl) l.points m.points (i.points ∙ sym j.points);

@@ -11,15 +11,15 @@ use Rattle.geo_terms.specs.Stores.{Store, tree_of}
 use Rattle.geo_program.specs.declared.commands.Command.{Command}
 use Rattle.geo_program.specs.declared.names.Name.{Name}
 use Rattle.geo_program.specs.declared.names.NameKind.TheVariants as kind
-use Rattle.geo_program.specs.Forms.{IsStored}
-use Rattle.geo_program.specs.WellFormed.{AreCommands, IsWellFormed, Scope, Source, declare, empty_scope}
+use Rattle.geo_program.specs.Forms.{IsStored, command_form}
+use Rattle.geo_program.specs.WellFormed.{AreCommands, IsWellFormed, Scope, Source, empty_scope, later_names, own_names, scope_of}
 use Rattle.geo_lowering.specs.declared.version.Version.{Version}
 use Rattle.geo_lowering.specs.declared.step_numbers.Fractions.{Fractions}
 use Rattle.geo_lowering.specs.Counting.{counted, named, next_point, next_number, numbers_from, numbers_had, points_past}
 use Rattle.geo_lowering.specs.Inner.Growing.{HasMore, KeepsTerms}
 use Rattle.geo_lowering.specs.Lowering.{Layout, command_steps, layout_of, steps_from}
 use Rattle.geo_lowering.specs.Inner.Renaming.{AreRenamed, item_at}
-use Rattle.geo_lowering.specs.StepForms.{StepForm, along, turned_along, step_form}
+use Rattle.geo_lowering.specs.StepForms.{StepForm, along, turned_along, weighted, step_form}
 use Rattle.geo_lowering.specs.Inner.StepLists.{AreStepsFrom, HasStoredNumber, HaveForms}
 use Rattle.geo_lowering.specs.Inner.StepNumbers.{AreFractions, IsTerm}
 use Rattle.geo_lowering.proofs.Bounds.{Bounds, bounds_next, command_over, numbers_from-up, past_steps}
@@ -64,6 +64,7 @@ form_kept a b h (step.Inter u v p q) w = refl
 form_kept a b h (step.Foot p u v) w = refl
 form_kept a b h (step.Pratio p u v r) w = ap (along p.0 u.0 v.0) (h.trees r w)
 form_kept a b h (step.Tratio u v r) w = ap (turned_along u.0 v.0) (h.trees r w)
+form_kept a b h (step.Weights o u v r s) w = ap₂ (weighted o.0 u.0 v.0) (h.trees r w.0) (h.trees s w.1)
 
 forms_kept : (a b : Construction) → KeepsTerms a b → (steps : List Step) → AllByRecursion (HasStoredNumber a.nodes) steps → map (step_form b.nodes) steps ≡ map (step_form a.nodes) steps
 forms_kept a b h [] w = refl
@@ -75,6 +76,7 @@ stored_step nodes n m (step.Inter u v p q) h = tt
 stored_step nodes n m (step.Foot p u v) h = tt
 stored_step nodes n m (step.Pratio p u v r) h = h.3.stored
 stored_step nodes n m (step.Tratio u v r) h = h.2.stored
+stored_step nodes n m (step.Weights o u v r s) h = (h.3.stored, h.4.stored)
 
 stored_steps : (nodes : Store) (m n : ℕ) (steps : List Step) → ((k : ℕ) (s : Step) → slice_get steps k ≡ Some s → IsStep nodes (n + k) m s) → AllByRecursion (HasStoredNumber nodes) steps
 stored_steps nodes m n [] h = tt
@@ -97,6 +99,8 @@ are_steps nodes n m (step.Inter u v p q ∷ steps) h w = (h.0, are_steps nodes (
 are_steps nodes n m (step.Foot p u v ∷ steps) h w = (h.0, are_steps nodes (suc n) m steps h.1 w.1)
 are_steps nodes n m (step.Pratio p u v r ∷ steps) h w = ((h.0.0, h.0.1, h.0.2, record { stored = w.0; number = h.0.3 }), are_steps nodes (suc n) m steps h.1 w.1)
 are_steps nodes n m (step.Tratio u v r ∷ steps) h w = ((h.0.0, h.0.1, record { stored = w.0; number = h.0.2 }), are_steps nodes (suc n) m steps h.1 w.1)
+are_steps nodes n m (step.Weights o u v r s ∷ steps) h w =
+    ((h.0.0, h.0.1, h.0.2, record { stored = w.0.0; number = h.0.3 }, record { stored = w.0.1; number = h.0.4 }), are_steps nodes (suc n) m steps h.1 w.1)
 
 pub past-length : (n : ℕ) (fs : List StepForm) → past n fs ≡ n + length fs
 past-length n [] = omega arith
@@ -105,10 +109,9 @@ past-length n (f ∷ fs) = let h : past (suc n) fs ≡ suc n + length fs = past-
 -- PROGRAMS
 
 stored_commands : (nodes : Store) (s : Scope) (names : List Name) (cs : List Command) → AreCommands nodes s names cs → AllByRecursion (IsStored nodes) cs
-stored_commands nodes s [] [] h = tt
-stored_commands nodes s (n ∷ ns) (c ∷ cs) h = (h.0.stored, stored_commands nodes (declare n.kind s) ns cs h.1)
-stored_commands nodes s [] (c ∷ cs) h = absurd h
-stored_commands nodes s (n ∷ ns) [] h = absurd h
+stored_commands nodes s names [] h = tt
+stored_commands nodes s names (c ∷ cs) h =
+    (h.0.stored, stored_commands nodes (scope_of s (own_names (command_form nodes c) names)) (later_names (command_form nodes c) names) cs h.1)
 
 pub stored_program : (p : Source) → IsWellFormed p → AllByRecursion (IsStored p.nodes) p.commands
 stored_program p w = stored_commands p.nodes empty_scope p.names p.commands w.commands
@@ -129,7 +132,7 @@ pub record IsBegun (version : Version) (p : Source) (l : Layout) (c : Constructi
   pub fractions : AreFractions c.nodes f
 
 -- nothing is pushed yet
-pub begun_first : (version : Version) → (p : Source) (l : Layout) (c : Construction) (terms : List TermId) (f : Fractions) → IsWellFormed p → points_past version 0 p.commands ≤ 512
+pub begun_first : (version : Version) (p : Source) (l : Layout) (c : Construction) (terms : List TermId) (f : Fractions) → IsWellFormed p → points_past version 0 p.commands ≤ 512
     → l ≡ layout_of version p.commands → c.steps ≡ [] → c.params ≡ 0 → AreRenamed l p.nodes c.nodes terms → AreFractions c.nodes f → IsBegun version p l c terms f p.commands
 begun_first version p l c terms f w few same empty nothing renamed fractions =
     let none : length c.steps ≡ 0 = ap length empty in
@@ -152,7 +155,7 @@ begun_first version p l c terms f w few same empty nothing renamed fractions =
     no_bounds_at l n m = record { points = λ a h. absurd (omega arith); lines = λ i h. absurd (omega arith); params = λ t h. absurd (omega arith) }
 
 -- the parameters so far are among those of the program
-pub number_below : (version : Version) → (p : Source) (l : Layout) (c : Construction) (terms : List TermId) (f : Fractions) (rest : List Command) → IsBegun version p l c terms f rest
+pub number_below : (version : Version) (p : Source) (l : Layout) (c : Construction) (terms : List TermId) (f : Fractions) (rest : List Command) → IsBegun version p l c terms f rest
     → numbers_had p.commands < 4294967295 → c.params < 4294967295
 number_below version p l c terms f rest h few =
     let up : c.params ≤ numbers_from c.params rest = numbers_from-up c.params rest in

@@ -1,5 +1,5 @@
 -- Down: a placement that meets the commands and their conditions extends to one that meets the steps.
-use Rattle.std.proofs.Common.{◌≡◌, ℕ, ◌<◌, ◌≤◌, ⊎_elim, List, [], ◌∷◌, refl, sym, ◌∙◌, ap, subst, arith}
+use Rattle.std.proofs.Common.{◌≡◌, ℕ, ◌<◌, ◌≤◌, ⊎_elim, Option, Some, None, List, [], ◌∷◌, refl, sym, ◌∙◌, ap, subst, arith}
 use Rattle.std.proofs.Math.Nat.{eq-or-lt_of_le}
 use Rattle.geo_points.specs.Placements.{Placement}
 use Rattle.geo_points.specs.Points.{Point as Triple}
@@ -24,10 +24,11 @@ use Rattle.geo_lowering.proofs.Puts.{puts, puts_below, of_path}
 use Rattle.geo_lowering.proofs.Up.{AllStand, stands-same, stands_next}
 
 -- what holds below x, and of x where the kind is that of points, holds below what x is counted up to
-pub extend : (P : ℕ → Type 0) (x : ℕ) (k : NameKind) → ((a : ℕ) → a < x → P a) → (k ≡ kind.Point → P x) → (a : ℕ) → a < counted kind.Point k x → P a
-extend P x kind.Point h e a b = ⊎_elim (λ (i : a ≡ x). subst P (sym i) (e refl)) (λ (c : a < x). h a c) (eq-or-lt_of_le (omega arith))
-extend P x kind.Param h e a b = h a b
-extend P x kind.Line h e a b = h a b
+pub extend : (P : ℕ → Type 0) (x : ℕ) (k : Option NameKind) → ((a : ℕ) → a < x → P a) → (k ≡ Some kind.Point → P x) → (a : ℕ) → a < counted kind.Point k x → P a
+extend P x (Some kind.Point) h e a b = ⊎_elim (λ (i : a ≡ x). subst P (sym i) (e refl)) (λ (c : a < x). h a c) (eq-or-lt_of_le (omega arith))
+extend P x (Some kind.Param) h e a b = h a b
+extend P x (Some kind.Line) h e a b = h a b
+extend P x None h e a b = h a b
 
 module _ (version : Version) (s : Source) (V : Placement) where
   abbrev l : Layout
@@ -79,7 +80,7 @@ module _ (version : Version) (s : Source) (V : Placement) where
       }
 
 -- the extension of a whole program
-pub extension : (version : Version) → (s : Source) (V : Placement) → IsWellFormed s → MeetsCommands s V → AreConditionsMet s V 0 s.commands → (lowered : Placement) × Extends version s V lowered × AreFormsMet lowered 0 (steps_of version s)
+pub extension : (version : Version) (s : Source) (V : Placement) → IsWellFormed s → MeetsCommands s V → AreConditionsMet s V 0 s.commands → (lowered : Placement) × Extends version s V lowered × AreFormsMet lowered 0 (steps_of version s)
 extension version s V w h z =
     let d = down version s V s.commands 0 0 0 0 0 V.point (named_program s w) (laid_program version s.commands) (drawn_program s V w) (no_bounds (layout_of version s.commands))
     (λ a b. absurd (omega arith)) (λ i b. absurd (omega arith)) h z in (

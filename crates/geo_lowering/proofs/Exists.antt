@@ -25,7 +25,7 @@ use Rattle.geo_points.proofs.Same.{self_point, flip_point, point_trans}
 use Rattle.geo_lowering.proofs.Up.{AllStand, stands_next}
 use Rattle.geo_lowering.proofs.Values.{AgreeBelow}
 
-pub points_past-up : (version : Version) → (n : ℕ) (cs : List Command) → n ≤ points_past version n cs
+pub points_past-up : (version : Version) (n : ℕ) (cs : List Command) → n ≤ points_past version n cs
 points_past-up version n [] = omega arith
 points_past-up version n (c ∷ cs) =
     let h : n ≤ next_point version n c = next_point-up version n c in let k : next_point version n c ≤ points_past version (next_point version n c) cs = points_past-up version (next_point version n c) cs in omega arith
