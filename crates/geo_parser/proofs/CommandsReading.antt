@@ -100,7 +100,7 @@ module _ (a b c d : Reader) (commands : List Command) (word : CommandWord) (comm
 
   -- what stands behind the words
   abbrev behind : List Name → List Lexeme
-  behind ns = texts ++ flat_map (argument_lexemes ns) (command_form d.terms command).arguments ++ sketch_lexemes k.sketch
+  behind ns = texts ++ (flat_map (argument_lexemes ns) (command_form d.terms command).arguments ++ sketch_lexemes k.sketch)
 
   own_is : (word_lexeme (command_text word) ∷ condition_lexemes (command_condition word)) ++ behind c.names ≡ own
   own_is =

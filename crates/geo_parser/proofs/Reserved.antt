@@ -1,5 +1,5 @@
 -- Which words are reserved.
-use Rattle.std.proofs.Common.{◌≡◌, ℕ, zero, suc, ◌<◌, length, get_or, true≢false, arith, Bool, true, false, ◌||◌, List, [], ◌∷◌, ◌++◌, is_some, map, refl, sym, ap, ap₂, ◌∙◌, codes, None, Some}
+use Rattle.std.proofs.Common.{◌≡◌, ℕ, zero, suc, ◌<◌, length, get_or, true≢false, arith, Bool, true, false, ◌||◌, List, [], ◌∷◌, ◌++◌, is_some, map, refl, sym, ap, ◌∙◌, codes, None, Some}
 use Rattle.std.specs.List.{list_any}
 use Rattle.std.specs.Prelude.{Contains, Option, option_map}
 use Rattle.geo_program.specs.Words.{command_words, expression_words, reserved_words, statement_words}
@@ -38,9 +38,9 @@ is_reserved-others word no_command no_statement no_expression =
     let e : list_any p expression_words ≡ false = sym (is_some-due_behind (expressions 0 true) word) ∙ no_expression in
     let last : List (List ℕ) = codes "prove" ∷ [] in
     let behind : list_any p (naming_words ++ statement_words ++ expression_words ++ last) ≡ list_any p last =
-    list_any-append p naming_words (statement_words ++ expression_words ++ last)
-    ∙ ap₂ (λ a b. a || b) c (list_any-append p statement_words (expression_words ++ last)
-    ∙ ap₂ (λ a b. a || b) s (list_any-append p expression_words last ∙ ap (λ a. a || list_any p last) e)) in
+    list_any-append p (naming_words ++ statement_words ++ expression_words) last
+    ∙ ap (λ r. r || list_any p last) (list_any-append p (naming_words ++ statement_words) expression_words
+    ∙ ap (λ r. r || list_any p expression_words) (list_any-append p naming_words statement_words ∙ ap (λ r. r || list_any p statement_words) c ∙ s) ∙ e) in
     ap (λ b. p (codes "assume") || b) behind
     ∙ sym (is_some-found other_words word)
 
@@ -75,7 +75,6 @@ pub free_of_expressions : (level : ℕ) (ratios : Bool) (word : List ℕ) → is
 free_of_expressions level ratios word free =
     let p = is_text word in
     let last : List (List ℕ) = codes "prove" ∷ [] in
-    let first = or_false _ _ (sym (list_any-append p command_words (statement_words ++ expression_words ++ last)) ∙ free) in
-    let second = or_false _ _ (sym (list_any-append p statement_words (expression_words ++ last)) ∙ first.1) in
-    let third = or_false _ _ (sym (list_any-append p expression_words last) ∙ second.1) in
-    none_of _ (is_some-due_behind (expressions level ratios) word ∙ third.0)
+    let first = or_false _ _ (sym (list_any-append p (command_words ++ statement_words ++ expression_words) last) ∙ free) in
+    let second = or_false _ _ (sym (list_any-append p (command_words ++ statement_words) expression_words) ∙ first.0) in
+    none_of _ (is_some-due_behind (expressions level ratios) word ∙ second.1)

@@ -15,7 +15,7 @@ use Rattle.geo_terms.specs.Stores.{Store}
 -- the spelling of a form with its own name among these
 form_lexemes : List Name → List Name → CommandForm → List Lexeme
 form_lexemes all names form =
-    (word_lexeme form.word ∷ condition_lexemes form.condition ++ map (λ name. word_lexeme name.text) (own_names form names) ++ flat_map (argument_lexemes all) form.arguments) ++ []
+    (word_lexeme form.word ∷ condition_lexemes form.condition ++ (map (λ name. word_lexeme name.text) (own_names form names) ++ flat_map (argument_lexemes all) form.arguments)) ++ []
 
 -- the spelling of a statement's form
 sentence_lexemes : List Name → StatementForm → List Lexeme

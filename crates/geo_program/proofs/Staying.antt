@@ -74,7 +74,7 @@ module _ (names more : List Name) where
 -- a command whose arguments are over these names is spelt the same with more names
 pub command_lexemes-append : (names more : List Name) (nodes : Store) (own : List Name) (command : Command) → IsCommand nodes (scope_of empty_scope names) own command → command_lexemes (names ++ more) nodes own command ≡ command_lexemes names nodes own command
 command_lexemes-append names more nodes own command h =
-    ap (λ l. word_lexeme (command_form nodes command).word ∷ condition_lexemes (command_form nodes command).condition ++ map (λ (name : Name). word_lexeme name.text) own ++ l)
+    ap (λ l. word_lexeme (command_form nodes command).word ∷ condition_lexemes (command_form nodes command).condition ++ (map (λ (name : Name). word_lexeme name.text) own ++ l))
     (arguments_lexemes-append names more (command_form nodes command).arguments h.arguments)
 
 -- the same of a statement
@@ -146,7 +146,7 @@ module _ (nodes wider : Store) (kept : KeepsTrees nodes wider) where
 
   pub command_lexemes-kept : (names own : List Name) (command : Command) → IsStored nodes command → command_lexemes names wider own command ≡ command_lexemes names nodes own command
   command_lexemes-kept names own command h =
-      ap (λ f. word_lexeme f.word ∷ condition_lexemes f.condition ++ map (λ (name : Name). word_lexeme name.text) own ++ flat_map (argument_lexemes names) f.arguments) (command_form-kept command h)
+      ap (λ f. word_lexeme f.word ∷ condition_lexemes f.condition ++ (map (λ (name : Name). word_lexeme name.text) own ++ flat_map (argument_lexemes names) f.arguments)) (command_form-kept command h)
 
   pub statement_lexemes-kept : (names : List Name) (s : Statement) → AreSidesStored nodes s → statement_lexemes names wider s ≡ statement_lexemes names nodes s
   statement_lexemes-kept names s h =

@@ -38,7 +38,7 @@ condition_lexemes (Some word) = word_lexeme word ∷ []
 abbrev pub command_lexemes : List Name → Store → List Name → Command → List Lexeme
 command_lexemes names nodes own command =
     word_lexeme (command_form nodes command).word ∷ condition_lexemes (command_form nodes command).condition
-    ++ map (λ name. word_lexeme name.text) own ++ flat_map (argument_lexemes names) (command_form nodes command).arguments
+    ++ (map (λ name. word_lexeme name.text) own ++ flat_map (argument_lexemes names) (command_form nodes command).arguments)
 
 -- the commands, each with the numbers that follow it
 abbrev pub commands_lexemes : List Name → Store → List Name → List Command → List Sketch → List (List Lexeme)

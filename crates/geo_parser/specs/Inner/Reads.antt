@@ -226,7 +226,7 @@ pub record ReadsCommand (word : CommandWord) (old new : Reader) (command : Comma
   pub named : HasWord word new.terms command
   pub passes : Passes old new
       (map (λ name. word_lexeme name.text) own
-      ++ flat_map (argument_lexemes old.names) (command_form new.terms command).arguments ++ sketch_lexemes sketch)
+      ++ (flat_map (argument_lexemes old.names) (command_form new.terms command).arguments ++ sketch_lexemes sketch))
   pub names : new.names ≡ old.names ++ own
   pub kinds : map (λ name. name.kind) own ≡ kinds_made (command_form new.terms command)
   pub texts : All (λ name. IsNameText name.text) own

@@ -15,4 +15,5 @@ loop-name-preserved c =
     let one : Appends c.loop-name.out.items c.push_token.new.out.items (word_lexeme c.bytes.result.now ∷ []) = appends_lexeme _ _ (word_lexeme c.bytes.result.now) c.in_ok-push_token.ensures in
     appends_same _ (c.loop-name.invariant ⟫ one)
     (ap (λ text. before ++ word_lexeme text ∷ []) c.bytes.ensures
-    ∙ sym (map_more spell c.args.names.now c.loop-name.name-index _ c.loop-name-test.true))
+    ∙ ap (λ (name : Name). before ++ spell name ∷ []) c.name-item.is
+    ∙ sym (map_more spell c.args.names.now c.loop-name.name-index c.name-item.result c.loop-name-test.true))
