@@ -26,7 +26,7 @@ pub further-up : (n h : ℕ) → n ≤ further n h
 further-up n zero = omega arith
 further-up n (suc h) = let k : suc n ≤ further (suc n) h = further-up (suc n) h in omega arith
 
-counted-up : (g : NameKind) (k : Option NameKind) (n : ℕ) → n ≤ counted g k n
+pub counted-up : (g : NameKind) (k : Option NameKind) (n : ℕ) → n ≤ counted g k n
 counted-up kind.Point (Some kind.Point) n = omega arith
 counted-up kind.Param (Some kind.Param) n = omega arith
 counted-up kind.Line (Some kind.Line) n = omega arith
