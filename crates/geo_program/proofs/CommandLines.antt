@@ -69,11 +69,12 @@ module _ (all : List Name) (nodes : Store) (names : List Name) (commands : List 
       ∙ ap (λ l. (line_text l ++ 10 ∷ []) ++ lines_left all nodes (later_names form names) (drop (k + 1) commands)) (append-nil (command_lexemes all nodes (own_names form names) command))
 
   -- what is written, and then what is left, is the whole
-  pub written_next : (whole before with_line after : List ℕ) → before ++ lines_left all nodes names (drop k commands) ≡ whole → with_line ≡ before ++ line → after ≡ with_line ++ 10 ∷ []
-      → after ++ lines_left all nodes (later_names form names) (drop (k + 1) commands) ≡ whole
-  written_next whole before with_line after is line_is feed =
+  pub written_next : (whole before with_line after : List ℕ) (later : List Name) → later ≡ later_names form names → before ++ lines_left all nodes names (drop k commands) ≡ whole → with_line ≡ before ++ line → after ≡ with_line ++ 10 ∷ []
+      → after ++ lines_left all nodes later (drop (k + 1) commands) ≡ whole
+  written_next whole before with_line after later later_is is line_is feed =
       let rest = lines_left all nodes (later_names form names) (drop (k + 1) commands) in
-      ap (λ t. t ++ rest) (feed ∙ ap (λ t. t ++ 10 ∷ []) line_is ∙ append_assoc before line (10 ∷ []))
+      ap (λ ns. after ++ lines_left all nodes ns (drop (k + 1) commands)) later_is
+      ∙ ap (λ t. t ++ rest) (feed ∙ ap (λ t. t ++ 10 ∷ []) line_is ∙ append_assoc before line (10 ∷ []))
       ∙ append_assoc before (line ++ 10 ∷ []) rest
       ∙ ap (λ t. before ++ t) (sym lines_next)
       ∙ is
