@@ -1,12 +1,12 @@
 -- A lowered form stays one where its store gets more terms.
 use Rattle.std.proofs.Common.{◌≡◌, ℕ, suc, Some, List, [], ◌∷◌, map, slice_get, refl, ◌∙◌, ap}
 use Rattle.geo_terms.specs.declared.steps.Step.{Step}
-use Rattle.geo_terms.specs.declared.steps.Step.TheVariants.{Point, Inter, Foot, Pratio, Tratio}
+use Rattle.geo_terms.specs.declared.steps.Step.TheVariants.{Point, Inter, Foot, Pratio, Tratio, Weights}
 use Rattle.geo_terms.specs.Constructions.{Construction, IsConstruction, IsStep}
 use Rattle.geo_program.specs.WellFormed.{Source}
 use Rattle.geo_lowering.specs.declared.version.Version.{Version}
 use Rattle.geo_lowering.specs.Lowering.{IsLowered, LoweredForm}
-use Rattle.geo_lowering.specs.StepForms.{along, step_form, turned_along}
+use Rattle.geo_lowering.specs.StepForms.{along, step_form, turned_along, weighted}
 use Rattle.geo_conditions.specs.Inner.ItemTerms.{Keeps}
 
 module _ (old new : Construction) (keeps : Keeps old new) where
@@ -17,6 +17,7 @@ module _ (old new : Construction) (keeps : Keeps old new) where
   same_step k m (Foot p u v) h = refl
   same_step k m (Pratio w u v r) h = λ i. along w.0 u.0 v.0 (keeps.trees r h.3.stored i)
   same_step k m (Tratio u v r) h = λ i. turned_along u.0 v.0 (keeps.trees r h.2.stored i)
+  same_step k m (Weights o u v r t) h = λ i. weighted o.0 u.0 v.0 (keeps.trees r h.3.stored i) (keeps.trees t h.4.stored i)
 
   same_steps : (m : ℕ) (steps : List Step) → ((k : ℕ) (s : Step) → slice_get steps k ≡ Some s → (n : ℕ) × IsStep old.nodes n m s) → map (step_form new.nodes) steps ≡ map (step_form old.nodes) steps
   same_steps m [] h = refl
