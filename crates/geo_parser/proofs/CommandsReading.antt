@@ -1,5 +1,5 @@
 -- Reading the commands one after another.
-use Rattle.std.proofs.Common.{◌≡◌, ℕ, ◌+◌, ◌≤◌, List, [], ◌∷◌, ◌++◌, length, map, Some, None, refl, sym, ap, ap₂, ◌∙◌, subst, arith, append_assoc, length-append}
+use Rattle.std.proofs.Common.{◌≡◌, ◌+◌, ◌≤◌, List, [], ◌∷◌, ◌++◌, length, map, Some, None, refl, sym, ap, ap₂, ◌∙◌, subst, arith, append_assoc, length-append}
 use Rattle.std.specs.Prelude.{All, IfNone, IfSome, Option, sum_by}
 use Rattle.std.specs.List.{flat_map}
 use Rattle.std.proofs.lemmas.Grind.{flat_map-append}
@@ -110,8 +110,8 @@ module _ (a b c d : Reader) (commands : List Command) (word : CommandWord) (comm
       ap (λ ns. (word_lexeme (command_text word) ∷ condition_lexemes (command_condition word)) ++ behind ns) w.names
       ∙ ap₂ (λ t o. (word_lexeme t ∷ condition_lexemes o) ++ behind b.names) (sym k.named.text) (sym k.named.condition)
       ∙ ap (λ ls. word_lexeme f.word ∷ ls) (
-        ap (λ ls. condition ++ ls) (sym (append_assoc texts spelling (sketch_lexemes k.sketch)))
-        ∙ sym (append_assoc condition (texts ++ spelling) (sketch_lexemes k.sketch)))
+      ap (λ ls. condition ++ ls) (sym (append_assoc texts spelling (sketch_lexemes k.sketch)))
+      ∙ sym (append_assoc condition (texts ++ spelling) (sketch_lexemes k.sketch)))
 
   passes_all : Passes a d (flat_map (λ line. line) (commands_lexemes longer d.terms longer (commands ++ command ∷ []) (h.sketches ++ k.sketch ∷ [])))
   passes_all =

@@ -108,7 +108,7 @@ module _ (before : List Name) (texts : All (λ n. IsNameText n.text) before) (di
       let same : points ≡ points + k = omega (arith, behind.2) in
       word_goes word (condition_slot ∷ []) rest (word_lexeme condition ∷ (flat_map (argument_lexemes before) arguments ++ more)) no_prove due
       ∙ walk_taken (reading before [] points) (reading before [] points) (condition_slot ∷ command_slot ∷ rest) (slots ++ command_slot ∷ rest) (word_lexeme condition) (flat_map (argument_lexemes before) arguments ++ more)
-          (ap (λ o. follow (reading before [] points) o (command_slot ∷ rest)) (sym behind.0))
+      (ap (λ o. follow (reading before [] points) o (command_slot ∷ rest)) (sym behind.0))
       ∙ ap (λ n. walk (reading before [] n) (slots ++ command_slot ∷ rest) (flat_map (argument_lexemes before) arguments ++ more)) same
       ∙ arguments_go [] (points + k) arguments last rest more valid
   form_goes word None (Some kind) k arguments [] after last rest more no_prove due behind named valid few right others = absurd (cc)
@@ -126,7 +126,7 @@ module _ (before : List Name) (texts : All (λ n. IsNameText n.text) before) (di
       let f = command_form nodes command in
       ap (walk (reading names begun points) (command_slot ∷ rest)) (grouped before own nodes command sketch more)
       ∙ form_goes f.word f.condition f.made f.points f.arguments own after (last_slots command) rest (sketch_lexemes sketch ++ more) (command_is_no_prove nodes command) (command_due_behind nodes command)
-          (condition_due_behind nodes command) is.named is.arguments few right others
+      (condition_due_behind nodes command) is.named is.arguments few right others
       ∙ last_goes command (reading before own (points + f.points)) (command_slot ∷ rest) sketch more only none
 
 -- behind the commands all names are declared or begun

@@ -3,7 +3,7 @@ use Rattle.std.proofs.Common.{◌≡◌, ℕ, zero, suc, ◌<◌, length, get_or
 use Rattle.std.specs.List.{list_any}
 use Rattle.std.specs.Prelude.{Contains, Option, option_map}
 use Rattle.geo_program.specs.Words.{command_words, expression_words, reserved_words, statement_words}
-use Rattle.geo_parser.specs.Forms.{Due, due_behind, expressions, naming_commands, statements}
+use Rattle.geo_parser.specs.Forms.{due_behind, expressions, naming_commands, statements}
 use Rattle.geo_parser.specs.Slots.{is_reserved}
 use Rattle.geo_parser.specs.Texts.{found, is_text}
 use Rattle.geo_parser.proofs.Finding.{is_text_self, is_some-due_behind, is_some-found}

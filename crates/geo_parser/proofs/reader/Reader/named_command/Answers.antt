@@ -1,4 +1,4 @@
-use Rattle.std.proofs.Common.{◌≡◌, [], ◌∷◌, ◌++◌, List, sym, ap, ◌∙◌, subst, arith}
+use Rattle.std.proofs.Common.{◌≡◌, [], ◌∷◌, ◌++◌, List, sym, subst, arith}
 use Rattle.geo_program.specs.declared.names.Name.{Name}
 use Rattle.geo_parser.specs.Inner.Reads.{ReadsCommand, a_name}
 use Rattle.geo_parser.proofs.CommandReading.{ReadsCommand-made, Refuses-form, Refuses-name, extent-name}
