@@ -9,7 +9,7 @@ use Rattle.proof_log.proofs.reader.Reader.body.Goals as goal
 
 pub returns-in_err-version-in-Header-clause-bad : goal.returns-in_err-version-in-Header-clause-bad
 returns-in_err-version-in-Header-clause-bad c = λ is l h.
-    header_refused c.args.self.now (c.in_err-version-in-Header.ensures.bad (ap Err (bad_error c.from_residual-in_err-version-in-Header.result c.in_err-version-in-Header.field-0.0 BadLine c.from_residual-in_err-version-in-Header.ensures.1 is)))
+    header_refused c.args.self.now (c.in_err-version-in-Header.ensures.bad (ap Err (bad_error c.from_residual.result c.in_err-version-in-Header.field-0.0 BadLine c.from_residual.ensures.1 is)))
     l (subst (λ (k : Lead). IsBody k c.args.self.now l) c.in-Header.is h)
 
 pub returns-in_err-text-in-Program-clause-bad : goal.returns-in_err-text-in-Program-clause-bad
