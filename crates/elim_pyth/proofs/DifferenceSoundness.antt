@@ -1,11 +1,11 @@
 -- The rows of Pythagoras differences hold, and their denominators are light.
 use Rattle.std.proofs.Common.{◌≡◌, ℕ, ◌*◌, ◌≤◌, Bool, true, false, cond, eqb, Option, Some, None, slice_get, refl, subst, IfSome, arith}
-use Rattle.std.proofs.Math.Nat.{mul-le-mul_left}
+use Rattle.std.proofs.Math.Nat.{mul-le-mul, mul-le-mul_left}
 use Rattle.std.specs.Option.{option_and_then, option_map}
 use Rattle.std.proofs.lemmas.Bool.{eqb-true}
 use Rattle.elim_pyth.specs.declared.pyth_rows.Reading.{Reading}
 use Rattle.elim_pyth.specs.declared.pyth_rows.Reading.TheVariants.{Linear, Quadratic}
-use Rattle.elim_pyth.specs.DifferenceTable.{reading, linear_numerator, quadratic_numerator, quadratic_power, difference_row, difference_table, crossing_square, foot_square, along_square, turned_square}
+use Rattle.elim_pyth.specs.DifferenceTable.{reading, linear_numerator, quadratic_numerator, quadratic_power, difference_row, difference_table, crossing_square, foot_square, along_square, turned_square, weights_square}
 use Rattle.fraction_poly.specs.Forms.{Form}
 use Rattle.fraction_poly.specs.Laws.{polynomial_value}
 use Rattle.fraction_poly.specs.Measures.{numbers_of}
@@ -19,13 +19,14 @@ use Rattle.fraction_poly.proofs.TermBounds.{positive}
 use Rattle.geo_points.proofs.LinearRows.{inter-pythagoras_difference, foot-pythagoras_difference, pratio-pythagoras_difference, tratio-pythagoras_difference}
 use Rattle.geo_points.proofs.QuadraticRows.{inter-quadratic, foot-quadratic, pratio-quadratic, tratio-quadratic}
 use Rattle.geo_points.proofs.Signs.{pythagoras_difference-swap, pythagoras_difference-length}
+use Rattle.geo_points.proofs.WeightedRows.{weights-pythagoras_difference, weights-quadratic}
 use Rattle.geo_points.specs.declared.ids.PointId.{PointId}
 use Rattle.ring_laws.specs.Fraction.{Fraction, Same, times}
 use Rattle.geo_points.specs.Placements.{Placement}
 use Rattle.geo_points.specs.Points.{Point as Triple, pythagoras_difference}
 use Rattle.geo_poly.specs.declared.variables.Var.TheVariants.{R, S, P, X, Y, T}
 use Rattle.geo_terms.specs.declared.steps.Step.{Step}
-use Rattle.geo_terms.specs.declared.steps.Step.TheVariants.{Point, Inter, Foot, Pratio, Tratio}
+use Rattle.geo_terms.specs.declared.steps.Step.TheVariants.{Point, Inter, Foot, Pratio, Tratio, Weights}
 use Rattle.geo_terms.specs.Constructions.{Construction, IsStepMet}
 use Rattle.geo_terms.specs.Stores.{Store, tree_of}
 use Rattle.geo_terms.specs.Values.{tree_value}
@@ -47,6 +48,11 @@ module _ (placed : Placement) (nodes : Store) (y : PointId) where
   numerator_is (Tratio u v r) met a b =
       let e = tree_of nodes r in
       (refl, tratio-pythagoras_difference (at a.0) (at b.0) (at u.0) (at v.0) (at y.0) (tree_value placed e) (polynomial_value placed (multiplied_out e).0) (polynomial_value placed (multiplied_out e).1) met.1 (number_over placed nodes r met.0).same)
+
+  numerator_is (Weights o u v r s) met a b =
+      let e = tree_of nodes r in
+      let f = tree_of nodes s in
+      (refl, weights-pythagoras_difference (at a.0) (at b.0) (at o.0) (at u.0) (at v.0) (at y.0) (tree_value placed e) (tree_value placed f) (polynomial_value placed (multiplied_out e).0) (polynomial_value placed (multiplied_out e).1) (polynomial_value placed (multiplied_out f).0) (polynomial_value placed (multiplied_out f).1) met.2 (number_over placed nodes r met.0).same (number_over placed nodes s met.1).same)
 
   module _ (i j k : PointId) where
     abbrev difference : Fraction
@@ -90,6 +96,15 @@ module _ (placed : Placement) (nodes : Store) (y : PointId) where
         holds_two placed (P i j k) num (step_denominator nodes step) (step_charge nodes step) (no_ratios placed num refl) (denominator_defined placed nodes step) (denominator_nonzero placed nodes y.0 step met)
         (products turned self
         ∘ tratio-quadratic (at a.0) (at b.0) (at u.0) (at v.0) (at y.0) (tree_value placed e) (polynomial_value placed (multiplied_out e).0) (polynomial_value placed (multiplied_out e).1) met.1 (number_over placed nodes r met.0).same)
+
+    quadratic_holds (Weights o u v r s) met a b turned =
+        let step = Weights o u v r s in
+        let e = tree_of nodes r in
+        let f = tree_of nodes s in
+        let num = weights_square o u v (numerator_at nodes r) (denominator_at nodes r) (numerator_at nodes s) (denominator_at nodes s) a b in
+        holds_two placed (P i j k) num (step_denominator nodes step) (step_charge nodes step) (no_ratios placed num refl) (denominator_defined placed nodes step) (denominator_nonzero placed nodes y.0 step met)
+        (products turned self
+        ∘ weights-quadratic (at a.0) (at b.0) (at o.0) (at u.0) (at v.0) (at y.0) (tree_value placed e) (tree_value placed f) (polynomial_value placed (multiplied_out e).0) (polynomial_value placed (multiplied_out e).1) (polynomial_value placed (multiplied_out f).0) (polynomial_value placed (multiplied_out f).1) met.2 (number_over placed nodes r met.0).same (number_over placed nodes s met.1).same)
 
     -- by the place of y
     reading_holds : (step : Step) → IsStepMet placed nodes y.0 step → IfSome (option_and_then (difference_row nodes step) (reading y i j k)) (Holds placed (P i j k))
@@ -136,6 +151,7 @@ linear_light nodes (Inter u v p q) a b = record { power = omega arith; weight = 
 linear_light nodes (Foot p u v) a b = record { power = omega arith; weight = omega arith; degree = omega arith }
 linear_light nodes (Pratio w u v r) a b = record { power = omega arith; weight = omega arith; degree = omega arith }
 linear_light nodes (Tratio u v r) a b = record { power = omega arith; weight = omega arith; degree = omega arith }
+linear_light nodes (Weights o u v r s) a b = record { power = omega arith; weight = omega arith; degree = omega arith }
 
 -- a number of at least 1 is at most its square
 square-le : (x : ℕ) → 1 ≤ x → x ≤ x * x
@@ -150,6 +166,13 @@ quadratic_light nodes (Pratio w u v r) a b =
     record { power = omega arith; weight = omega (arith, square); degree = omega arith }
 quadratic_light nodes (Tratio u v r) a b =
     let square = square-le (numbers_of (tree_of nodes r)).wd (positive (tree_of nodes r)).wd in
+    record { power = omega arith; weight = omega (arith, square); degree = omega arith }
+
+quadratic_light nodes (Weights o u v r s) a b =
+    let d = (numbers_of (tree_of nodes r)).wd in
+    let e = (numbers_of (tree_of nodes s)).wd in
+    let least : 1 * 1 ≤ d * e = mul-le-mul (positive (tree_of nodes r)).wd (positive (tree_of nodes s)).wd in
+    let square = square-le (d * e) (omega (arith, least)) in
     record { power = omega arith; weight = omega (arith, square); degree = omega arith }
 
 difference_row-light : (c : Construction) (y i j k : PointId) → IfSome (difference_table c y (P i j k)) (λ r. AreLight (row_numbers r))

@@ -131,6 +131,7 @@ of_steps nodes (step.Inter u v p q ∷ ss) k = of_steps nodes ss (suc k)
 of_steps nodes (step.Foot p u v ∷ ss) k = of_steps nodes ss (suc k)
 of_steps nodes (step.Pratio w u v r ∷ ss) k = of_steps nodes ss (suc k)
 of_steps nodes (step.Tratio u v r ∷ ss) k = of_steps nodes ss (suc k)
+of_steps nodes (step.Weights o u v r s ∷ ss) k = of_steps nodes ss (suc k)
 
 module _ (l : Layout) (nodes : Store) where
   abbrev With : Bool → ℕ → List Var → List Var

@@ -15,7 +15,7 @@ use Rattle.geo_poly.proofs.EachVariable.{each-contained, each-variables}
 use Rattle.geo_sample.proofs.LeastSamples.{collected_polynomials, sample_keeps}
 use Rattle.geo_terms.specs.Constructions.{Construction, IsConstruction}
 use Rattle.geo_terms.specs.declared.steps.Step.{Step}
-use Rattle.geo_terms.specs.declared.steps.Step.TheVariants.{Point as FreeStep, Inter, Foot, Pratio, Tratio}
+use Rattle.geo_terms.specs.declared.steps.Step.TheVariants.{Point as FreeStep, Inter, Foot, Pratio, Tratio, Weights}
 use Rattle.geo_lowering.proofs.ConditionValues.{each_append}
 use Rattle.elim_apply.specs.FirstLemmas.{lemmas}
 use Rattle.elim_apply.specs.LemmaTable.{lemma_table}
@@ -109,6 +109,7 @@ module _ (c : Construction) (construction : IsConstruction c) where
   coordinates_small k n (Foot p u v ∷ steps) h f = coordinates_small (suc k) n steps (omega (arith, h)) f
   coordinates_small k n (Pratio w u v r ∷ steps) h f = coordinates_small (suc k) n steps (omega (arith, h)) f
   coordinates_small k n (Tratio u v r ∷ steps) h f = coordinates_small (suc k) n steps (omega (arith, h)) f
+  coordinates_small k n (Weights o u v r s ∷ steps) h f = coordinates_small (suc k) n steps (omega (arith, h)) f
 
   parameters_small : (k count n : ℕ) → k + count ≤ n → n < 2 ^ 32 → AllByRecursion IsVariable (parameters_from k count)
   parameters_small k zero n h f = tt
