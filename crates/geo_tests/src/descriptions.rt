@@ -52,7 +52,7 @@ fn step_text(alloc: Global, texts: &[String], step: Step) -> Result<String, NoMe
             format!(in alloc; "tratio {} {} {}", u.0, v.0, term_text(texts, r))?
         }
         Step::Weights { o, u, v, r, s } => {
-            let [r, s] = [term_text(texts, r), term_text(texts, s)];
+            let (r, s) = (term_text(texts, r), term_text(texts, s));
             format!(in alloc; "weights {} {} {} {r} {s}", o.0, u.0, v.0)?
         }
     };

@@ -32,7 +32,7 @@ fn push_line(alloc: Global, out: &mut Vec<u8>, line: &Line) -> Result<(), NoMemo
     ensures { OnOk result (out.new.items ≡ out.old.items ++ line_text line.now) }
 {
     match line {
-        Line::Header => out.extend_from_slice(b"geolog 1")?,
+        Line::Header { version } => push_labelled(alloc, out, b"geolog ", *version)?,
         Line::Program(text) => push_program(out, text)?,
         Line::Condition { k, text } => push_condition(alloc, out, *k, text)?,
         Line::Goal { k, text } => push_goal(alloc, out, *k, text)?,

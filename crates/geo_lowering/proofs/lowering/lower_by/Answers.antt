@@ -3,11 +3,11 @@ use Rattle.geo_program.specs.declared.commands.Command.{Command}
 use Rattle.geo_lowering.specs.Counting.{param_places, points_past}
 use Rattle.geo_lowering.specs.Lowering.{line_places, point_place, point_places, points_after}
 use Rattle.geo_lowering.proofs.Small.{program_commands, program_points}
-use Rattle.geo_lowering.proofs.lowering.lower.Goals as goal
+use Rattle.geo_lowering.proofs.lowering.lower_by.Goals as goal
 
 pub new-requires-clause-points : goal.new-requires-clause-points
 new-requires-clause-points c =
-    subst (λ (cs : List Command). points_past 0 cs ≤ 512) (sym c.as_slice-commands.ensures) (program_points c.args.program.now)
+    subst (λ (cs : List Command). points_past c.args.version 0 cs ≤ 512) (sym c.as_slice-commands.ensures) (program_points c.args.version c.args.program.now)
 
 pub new-requires-clause-commands : goal.new-requires-clause-commands
 new-requires-clause-commands c =
@@ -15,7 +15,7 @@ new-requires-clause-commands c =
 
 pub count_points-requires : goal.count_points-requires
 count_points-requires c =
-    subst (λ (cs : List Command). points_past 0 cs ≤ 512) (sym c.as_slice-commands.ensures) (program_points c.args.program.now)
+    subst (λ (cs : List Command). points_past c.args.version 0 cs ≤ 512) (sym c.as_slice-commands.ensures) (program_points c.args.version c.args.program.now)
 
 pub returns : goal.returns
 returns c =
@@ -24,8 +24,8 @@ returns c =
       valid = search rules;
       steps = c.in_ok-push_commands.ensures.steps;
       numbers = c.in_ok-push_commands.ensures.params;
-      points = c.in_ok-places.ensures.points ∙ ap (point_places 0) same;
-      lines = c.in_ok-places.ensures.lines ∙ ap (λ (cs : List Command). line_places (point_place cs) 0 cs) same;
+      points = c.in_ok-places.ensures.points ∙ ap (point_places c.args.version 0) same;
+      lines = c.in_ok-places.ensures.lines ∙ ap (λ (cs : List Command). line_places c.args.version (point_place c.args.version cs) 0 cs) same;
       params = c.in_ok-places.ensures.params ∙ ap (param_places 0) same;
-      after = c.in_ok-after.ensures ∙ ap (points_after 0) same;
+      after = c.in_ok-after.ensures ∙ ap (points_after c.args.version 0) same;
     }
