@@ -11,6 +11,7 @@ ghost use Rattle.geo_prover.specs.Inner.Parts.{CanWrite};
 ghost use Rattle.geo_prover.specs.Inner.Tasks.{IsReady, conditions_from};
 ghost use Rattle.geo_prover.specs.Inner.Written.{first_state, state};
 ghost use Rattle.geo_conditions.specs.Lists.{IsProblem};
+ghost use Rattle.geo_lowering.specs.declared.version.Version.TheVariants.{Two};
 ghost use Rattle.geo_conditions.specs.Problems.{form_of_problem};
 ghost use Rattle.geo_prover.specs.Inner.Answers.{IsAnswerOf};
 ghost use Rattle.geo_prover.specs.Proving.{Concludes, StopsAt, WritesLog, WritesPart};
@@ -93,7 +94,7 @@ fn prove_all<K: Sink>(
 /// The conditions and goals of the program over its lowered form.
 fn problem_of(alloc: Global, program: &Program) -> Result<Problem, NoMemory>
     ensures { IfOk result (λ q.
-        IsProblem (source_of program.now) (form_of_problem q) q.conditions q.goals) }
+        IsProblem Two (source_of program.now) (form_of_problem q) q.conditions q.goals) }
 {
     let lowered = lower(alloc, program)?;
     list(alloc, program, lowered)
