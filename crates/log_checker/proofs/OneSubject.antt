@@ -1,5 +1,5 @@
 -- Subjects of one version, of programs with the same lines, have the same logs.
-use Rattle.std.proofs.Common.{◌≡◌, ℕ, List, [], map, refl, sym, ◌∙◌, ap, subst, arith}
+use Rattle.std.proofs.Common.{◌≡◌, List, [], map, sym, ◌∙◌, ap, subst}
 use Rattle.geo_program.specs.declared.statements.Statement.{Statement}
 use Rattle.geo_program.specs.Spelling.{SameSource}
 use Rattle.geo_program.specs.WellFormed.{IsWellFormed, Source}
@@ -7,7 +7,6 @@ use Rattle.geo_terms.specs.Constructions.{Construction}
 use Rattle.geo_lowering.specs.Lowering.{IsLowered}
 use Rattle.geo_lowering.specs.StepForms.{step_form}
 use Rattle.geo_lowering.specs.declared.version.Version.{Version}
-use Rattle.geo_lowering.specs.declared.version.Version.TheVariants.{One, Two}
 use Rattle.geo_lowering.proofs.Alike.{lowered_forms_agree, same_programs_lower_alike}
 use Rattle.geo_conditions.specs.Lists.{AreConditionItems, AreGoalItems, Found, ItemForm, all_found, condition_item, goal_item}
 use Rattle.geo_conditions.specs.Statements.{statement_goals}
@@ -15,22 +14,16 @@ use Rattle.geo_conditions.proofs.SamePrograms.{same_programs_mean_the_same}
 use Rattle.geo_conditions.proofs.Listings.{listed_once}
 use Rattle.geo_logs.specs.Logs.{Subject}
 use Rattle.log_checker.specs.Accepted.{SubjectsAgree}
-use Rattle.log_checker.specs.Subjects.{IsSubjectOf, log_item, source_lines, version_number}
+use Rattle.log_checker.specs.Subjects.{IsSubjectOf, log_item, source_lines}
 use Rattle.log_checker.proofs.AcceptedBytes.{same_lines_same_program}
 use Rattle.log_checker.proofs.AlikeLogs.{AlikeSubjects, accepted_alike, defined_log_alike}
+use Rattle.log_checker.proofs.Versions.{one_version}
 
 one_conditions : (version : Version) (p : Source) (one other : List ItemForm) → AreConditionItems version p one → AreConditionItems version p other → one ≡ other
 one_conditions version p one other h g = h.written ∙ ap (map (condition_item version p)) (listed_once (λ (f : Found). f.condition) (all_found p) [] h.conditions g.conditions h.listed g.listed) ∙ sym g.written
 
 one_goals : (version : Version) (p : Source) (one other : List ItemForm) → AreGoalItems version p one → AreGoalItems version p other → one ≡ other
 one_goals version p one other h g = h.written ∙ ap (map (goal_item version p)) (listed_once (λ (s : Statement). s) (statement_goals p.nodes p.statement) [] h.goals g.goals h.listed g.listed) ∙ sym g.written
-
--- a number is that of one version
-pub one_version : (v w : Version) → version_number v ≡ version_number w → v ≡ w
-one_version One One e = refl
-one_version One Two e = let n : ◌≡◌ {A = ℕ} 1 2 = e in omega (arith, n)
-one_version Two One e = let n : ◌≡◌ {A = ℕ} 2 1 = e in omega (arith, n)
-one_version Two Two e = refl
 
 pub alike_subjects : (p q : Source) (one other : Subject) → IsWellFormed p → IsWellFormed q → source_lines p ≡ source_lines q → IsSubjectOf p one → IsSubjectOf q other
     → one.version ≡ other.version → AlikeSubjects one other
