@@ -121,12 +121,15 @@ accepted_bytes_tell_programs bytes steps steps' p q verdict verdict' a b =
     let second = conditions_first _ _ b.accepted.subject.goals [] [] 1 steps' b.accepted.subject.conditions other.rest verdict' b.accepted.left other.worked in
     let whole : ◌≡◌ {A = List Line} (Header a.accepted.subject.version ∷ (map ProgramLine a.accepted.subject.program ++ log.rest)) (Header b.accepted.subject.version ∷ (map ProgramLine b.accepted.subject.program ++ other.rest)) =
     sym log.split ∙ same ∙ other.split in
+    let header : Header a.accepted.subject.version ≡ Header b.accepted.subject.version = cc in
+    let version : a.accepted.subject.version ≡ b.accepted.subject.version = cc in
     let tail : map ProgramLine a.accepted.subject.program ++ log.rest ≡ map ProgramLine b.accepted.subject.program ++ other.rest = cc in
     let parts = same_beginning a.accepted.subject.program b.accepted.subject.program log.rest other.rest tail first.0 second.0 in
     let lines = sym a.accepted.about.same_program ∙ parts.0 ∙ b.accepted.about.same_program in
     let last : VerdictLine verdict ≡ VerdictLine verdict' = one_end other.rest (VerdictLine verdict) (VerdictLine verdict') (subst (λ ls. EndsIn ls (VerdictLine verdict)) parts.1 first.1) second.1 in (
       same_lines_same_program p q a.accepted.well_formed b.accepted.well_formed lines,
       (let verdicts : verdict ≡ verdict' = cc in verdicts),
+      version,
     )
 
 -- WHAT EACH PROGRAM HAS

@@ -46,12 +46,12 @@ abbrev pub AcceptedBytesMean : Type 0
 AcceptedBytesMean =
     (bytes : List ℕ) (steps : ℕ) (p : Source) (verdict : Verdict) → Accepts bytes steps p verdict → BytesMean bytes p verdict
 
--- accepted bytes are a log of one program, with one verdict, whatever the steps
+-- accepted bytes are a log of one program, with one verdict and by one version, whatever the steps
 abbrev pub AcceptedBytesTellPrograms : Type 0
 AcceptedBytesTellPrograms =
-    (bytes : List ℕ) (steps steps' : ℕ) (p q : Source) (verdict verdict' : Verdict) → Accepts bytes steps p verdict
-    → Accepts bytes steps' q verdict'
-    → SameSource p q × (verdict ≡ verdict')
+    (bytes : List ℕ) (steps steps' : ℕ) (p q : Source) (verdict verdict' : Verdict) (one : Accepts bytes steps p verdict)
+    (other : Accepts bytes steps' q verdict')
+    → SameSource p q × (verdict ≡ verdict') × (one.accepted.subject.version ≡ other.accepted.subject.version)
 
 -- WHAT EACH PROGRAM HAS
 -- the program is well-formed, and its canonical text has at most 268,435,456 bytes
