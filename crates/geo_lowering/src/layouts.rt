@@ -26,11 +26,7 @@ pub struct Places {
 
 impl Places {
     /// The places that the commands give.
-    pub fn new(
-        alloc: Global,
-        version: Version,
-        commands: &[Command],
-    ) -> Result<Places, NoMemory>
+    pub fn new(alloc: Global, version: Version, commands: &[Command]) -> Result<Places, NoMemory>
         requires points { points_past version 0 commands.now ≤ 512 }
         requires commands { length commands.now < 4294967295 }
         ensures points { IfOk result (λ places. map (λ a. a.0) places.points

@@ -101,7 +101,9 @@ fn lower_by(alloc: Global, version: Version, program: &Program) -> Result<Lowere
     let mut steps = Steps::new(alloc)?;
     let terms = rename_terms(alloc, &mut steps, &program.terms, &places)?;
     let fractions = intern_fractions(&mut steps)?;
-    push_commands(alloc, version, &mut steps, program, &places, &terms, fractions)?;
+    push_commands(
+        alloc, version, &mut steps, program, &places, &terms, fractions,
+    )?;
     // From here on it is known that the steps are a construction.
     prove!(steps.count() <= 512);
     let Places {

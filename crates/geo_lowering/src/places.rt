@@ -10,8 +10,8 @@ ghost use Rattle.geo_lowering.specs.Lowering.{line_places, pair_numbers, pair_of
 ghost use Rattle.geo_lowering.specs.Lowering.{points_after};
 
 use crate::lists::{After, Lines, Params, Points};
-use geo_points::{NoMemory, ParamId, PointId};
 use crate::version::Version;
+use geo_points::{NoMemory, ParamId, PointId};
 use geo_program::{Command, NameKind};
 use std::alloc::Global;
 

@@ -134,8 +134,8 @@ grouped all own nodes c k r =
     let spelling = flat_map (argument_lexemes all) f.arguments in
     append_assoc (word_lexeme f.word ∷ condition ++ (texts ++ spelling)) (sketch_lexemes k) r
     ∙ ap (λ l. word_lexeme f.word ∷ l) (
-      append_assoc condition (texts ++ spelling) (sketch_lexemes k ++ r)
-      ∙ ap (λ l. condition ++ l) (append_assoc texts spelling (sketch_lexemes k ++ r)))
+    append_assoc condition (texts ++ spelling) (sketch_lexemes k ++ r)
+    ∙ ap (λ l. condition ++ l) (append_assoc texts spelling (sketch_lexemes k ++ r)))
 
 command_read : (before more others : List Name) (np nq : Store) (ns ms : List Name) (c d : Command) (k l : Sketch) (r s : List Lexeme)
     → All (λ n. IsNameText n.text) before → AllDiffer before
@@ -150,7 +150,7 @@ command_read before more others np nq ns ms c d k l r s valid differ hc hd hr hs
     let apart = sym (grouped (before ++ more) ns np c k r) ∙ h ∙ grouped (before ++ others) ms nq d l s in
     let words : f.word ≡ g.word = cc in
     let behind : condition_lexemes f.condition ++ (map (λ (name : Name). word_lexeme name.text) ns ++ (flat_map (argument_lexemes (before ++ more)) f.arguments ++ (sketch_lexemes k ++ r)))
-        ≡ condition_lexemes g.condition ++ (map (λ (name : Name). word_lexeme name.text) ms ++ (flat_map (argument_lexemes (before ++ others)) g.arguments ++ (sketch_lexemes l ++ s))) = cc in
+    ≡ condition_lexemes g.condition ++ (map (λ (name : Name). word_lexeme name.text) ms ++ (flat_map (argument_lexemes (before ++ others)) g.arguments ++ (sketch_lexemes l ++ s))) = cc in
     let conditions = condition_read f.condition g.condition _ _ (same_kind_of_condition np nq c d words) behind in
     let shapes : shape_of f ≡ shape_of g = same_shape np nq c d words conditions.same in
     let kinds : kinds_made f ≡ kinds_made g = ap (λ s. elim s.made [ None ↦ [] | Some kind ↦ kind ∷ [] ]) shapes in

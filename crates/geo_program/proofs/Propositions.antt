@@ -2,8 +2,10 @@
 use Rattle.std.proofs.Common.{ℕ, Bool, true, false, List, [], ◌∷◌}
 use Rattle.std.specs.Prelude.{All}
 use Rattle.std.proofs.Math.Bool.{Bool-set}
+use Rattle.std.proofs.Math.Nat.{ℕ_set}
 use Rattle.std.proofs.Math.Bridge.{le_prop}
 use Rattle.std.proofs.Math.Logic.{∥∥₁_elim}
+use mathlib.Core.List.{is_set as List-set}
 use mathlib.Core.Sum.{⊎_set}
 use Rattle.geo_program.specs.declared.commands.Command.{Command}
 use Rattle.geo_program.specs.declared.commands.Command.TheVariants.{Pratio, Tratio, Lratio, Weights}
@@ -55,10 +57,13 @@ NameKind-set : IsSet NameKind
 NameKind-set = hlevel ⊎_set
 
 kinds_set : IsSet (List NameKind)
-kinds_set = hlevel NameKind-set
+kinds_set = List-set NameKind-set
+
+Name-set : IsSet Name
+Name-set = hlevel (List-set, ℕ_set, NameKind-set)
 
 names_set : IsSet (List Name)
-names_set = hlevel NameKind-set
+names_set = List-set Name-set
 
 pub IsCommand-prop : (nodes : Store) (s : Scope) (own : List Name) (command : Command) → IsProp (IsCommand nodes s own command)
 IsCommand-prop nodes s own command = hlevel (kinds_set, arguments_prop s (command_form nodes command).arguments, IsStored-prop nodes command)

@@ -103,6 +103,6 @@ commands_lexemes-push all nodes s names (c ∷ commands) (k ∷ sketches) own co
     let f = command_form nodes c in
     ap₂ (λ ns ms. (command_lexemes all nodes ns c ++ sketch_lexemes k) ∷ commands_lexemes all nodes ms (commands ++ command ∷ []) (sketches ++ sketch ∷ [])) (own-append f names own h.0.named) (later-append f names own h.0.named)
     ∙ ap (λ lines. (command_lexemes all nodes (own_names f names) c ++ sketch_lexemes k) ∷ lines)
-        (commands_lexemes-push all nodes (scope_of s (own_names f names)) (later_names f names) commands sketches own command sketch h.1 (omega arith) named)
+    (commands_lexemes-push all nodes (scope_of s (own_names f names)) (later_names f names) commands sketches own command sketch h.1 (omega arith) named)
 commands_lexemes-push all nodes s names [] (k ∷ sketches) own command sketch h lengths named = absurd (omega arith)
 commands_lexemes-push all nodes s names (c ∷ commands) [] own command sketch h lengths named = absurd (omega arith)

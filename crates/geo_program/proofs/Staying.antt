@@ -142,7 +142,7 @@ module _ (nodes wider : Store) (kept : KeepsTrees nodes wider) where
       let rest : AreCommands wider (scope_of s (own_names f names)) (later_names f names) commands =
       AreCommands-kept (scope_of s (own_names f names)) (later_names f names) commands h.1 in
       subst (λ (g : CommandForm). IsCommand wider s (own_names g names) command × AreCommands wider (scope_of s (own_names g names)) (later_names g names) commands)
-          (sym (command_form-kept command h.0.stored)) (IsCommand-kept s (own_names f names) command h.0, rest)
+      (sym (command_form-kept command h.0.stored)) (IsCommand-kept s (own_names f names) command h.0, rest)
 
   pub command_lexemes-kept : (names own : List Name) (command : Command) → IsStored nodes command → command_lexemes names wider own command ≡ command_lexemes names nodes own command
   command_lexemes-kept names own command h =

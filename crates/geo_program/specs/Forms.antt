@@ -29,7 +29,7 @@ pub record CommandForm : Type 0 where
 
 -- the form of a command with a new name, by its parts
 abbrev pub form : List ℕ → NameKind → ℕ → List Argument → CommandForm
-form word named points arguments = 
+form word named points arguments =
     record { word = word; condition = None; made = Some named; points = points; arguments = arguments }
 
 -- the form of the assumption that the condition with this word holds, which makes nothing
