@@ -7,6 +7,7 @@ use Rattle.geo_poly.specs.Polynomials.{IsPolynomial, Summands, multiples, produc
 use Rattle.geo_poly.proofs.FactorLaws.{multiples-product}
 use Rattle.geo_terms.specs.Stores.{Store}
 use Rattle.geo_terms.specs.Trees.{area_leaf}
+use Rattle.geo_lexer.specs.Lexemes.{Lexeme, word_lexeme}
 use Rattle.geo_program.specs.declared.commands.Command.{Command}
 use Rattle.geo_program.specs.declared.commands.Command.TheVariants as command
 use Rattle.geo_program.specs.declared.names.Name.{Name}
@@ -189,6 +190,11 @@ unfolding first_word
 in_word [] r e = let q : false ≡ true = e in absurd (cc)
 in_word (b ∷ w) r e = e
 
+-- a line that begins with such a word
+word_begins : (w : List ℕ) (rest : List Lexeme) → first_word w ≡ true → first_word (line_text (word_lexeme w ∷ rest)) ≡ true
+word_begins w [] e = e
+word_begins w (x ∷ rest) e = in_word w (32 ∷ line_text (x ∷ rest)) e
+
 word_first : (nodes : Store) (c : Command) → first_word (command_form nodes c).word ≡ true
 unfolding first_word
 word_first nodes command.Point = refl
@@ -228,7 +234,7 @@ begins_with_word p = go p.names p.commands
     go : (names : List Name) (commands : List Command)
         → first_word_of (map line_text (commands_lexemes p.names p.nodes names commands (no_sketches commands) ++ statement_lexemes p.names p.nodes p.statement ∷ [])) ≡ true
     go names [] = refl
-    go names (c ∷ cs) = in_word (command_form p.nodes c).word _ (word_first p.nodes c)
+    go names (c ∷ cs) = word_begins (command_form p.nodes c).word _ (word_first p.nodes c)
 
 no_program : (texts : List (List ℕ)) → first_word_of texts ≡ false → (p : Source) → IsWellFormed p → source_lines p ≢ texts
 no_program texts e p w same = let q : true ≡ false = sym (begins_with_word p) ∙ ap first_word_of same ∙ e in cc
