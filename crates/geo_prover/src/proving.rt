@@ -10,9 +10,6 @@ ghost use Rattle.geo_prover.specs.Inner.Halting.{Finishes, Halts};
 ghost use Rattle.geo_prover.specs.Inner.Parts.{CanWrite};
 ghost use Rattle.geo_prover.specs.Inner.Tasks.{IsReady, conditions_from};
 ghost use Rattle.geo_prover.specs.Inner.Written.{first_state, state};
-ghost use Rattle.geo_conditions.specs.Lists.{IsProblem};
-ghost use Rattle.geo_lowering.specs.declared.version.Version.TheVariants.{Two};
-ghost use Rattle.geo_conditions.specs.Problems.{form_of_problem};
 ghost use Rattle.geo_prover.specs.Inner.Answers.{IsAnswerOf};
 ghost use Rattle.geo_prover.specs.Proving.{Concludes, StopsAt, WritesLog, WritesPart};
 
@@ -25,10 +22,10 @@ use crate::log_writer::LogWriter;
 use crate::program_lines::write_first_lines;
 use crate::summary::Summary;
 use geo_base::{Budget, Sink};
-use geo_conditions::{Problem, list};
-use geo_lowering::lower;
-use geo_points::NoMemory;
+use geo_conditions::Problem;
+use geo_lowering::Version;
 use geo_program::Program;
+use log_checker::versions::problem_by;
 use proof_log::{Line, Verdict};
 use std::alloc::Global;
 
@@ -79,7 +76,7 @@ fn prove_all<K: Sink>(
         (first_state (K.held sink.new) (K.faults sink.new))) }
     ensures faults { OnOk result (K.faults sink.old ≤ K.faults sink.new) }
 {
-    let problem = problem_of(alloc, program)?;
+    let problem = problem_by(alloc, Version::Two, program)?;
     let mut budget = Budget { left: steps };
     let mut log = LogWriter::new();
     write_first_lines(alloc, program, &mut log, sink)?;
@@ -89,15 +86,6 @@ fn prove_all<K: Sink>(
         lines: log.lines,
         charge: steps - budget.left,
     })
-}
-
-/// The conditions and goals of the program over its lowered form.
-fn problem_of(alloc: Global, program: &Program) -> Result<Problem, NoMemory>
-    ensures { IfOk result (λ q.
-        IsProblem Two (source_of program.now) (form_of_problem q) q.conditions q.goals) }
-{
-    let lowered = lower(alloc, program)?;
-    list(alloc, program, lowered)
 }
 
 /// Writes the chains, and what follows them.

@@ -19,8 +19,8 @@ use crate::reasons::Reason;
 use crate::sampling::test_sample;
 use crate::starting::after_start_line;
 use crate::stops::Stop;
-use crate::versions::lower_by;
-use geo_conditions::{Problem, list};
+use crate::versions::problem_by;
+use geo_conditions::Problem;
 use geo_lowering::Version;
 use geo_parser::{ParseError, parse};
 use geo_program::{Program, print};
@@ -56,8 +56,7 @@ pub(crate) fn begun_work(
     ensures refused { IfErr result (TellsNoProgram bytes.now) }
 {
     let program = canonical_program(alloc, bytes)?;
-    let lowered = lower_by(alloc, version, &program)?;
-    let problem = list(alloc, &program, lowered)?;
+    let problem = problem_by(alloc, version, &program)?;
     let evidence = Evidence::new(alloc, steps);
     let due = condition_due(&problem, 0);
     Ok(Work {
