@@ -20,7 +20,7 @@ use Rattle.log_checker.specs.Accepted.{Accepts, IsShortProgram}
 use Rattle.log_checker.specs.Judged.{AcceptedWhereNotRefused, AreRead, BeginsWithProgram, BytesAreJudged, GoesOnWith, IsFirstStop, IsJudged, IsOfProgramOrNone, IsProgramOver, IsReadable, Refuses, RestsAreJudged}
 use Rattle.log_checker.specs.Subjects.{IsSubjectOf, source_lines}
 use Rattle.log_checker.proofs.AcceptedBytes.{programs_have_subjects, text_of_lines}
-use Rattle.log_checker.proofs.Versions.{version_told}
+use Rattle.log_checker.proofs.VersionNumbers.{version_told}
 use Rattle.log_checker.proofs.Judged.{accepted_bytes_are_not_refused}
 use Rattle.log_checker.proofs.ReadLines.{bytes_are_read}
 use Rattle.log_checker.proofs.Onwards.{conditions_start}

@@ -17,7 +17,7 @@ use Rattle.log_checker.specs.Accepted.{SubjectsAgree}
 use Rattle.log_checker.specs.Subjects.{IsSubjectOf, log_item, source_lines}
 use Rattle.log_checker.proofs.AcceptedBytes.{same_lines_same_program}
 use Rattle.log_checker.proofs.AlikeLogs.{AlikeSubjects, accepted_alike, defined_log_alike}
-use Rattle.log_checker.proofs.Versions.{one_version}
+use Rattle.log_checker.proofs.VersionNumbers.{one_version}
 
 one_conditions : (version : Version) (p : Source) (one other : List ItemForm) → AreConditionItems version p one → AreConditionItems version p other → one ≡ other
 one_conditions version p one other h g = h.written ∙ ap (map (condition_item version p)) (listed_once (λ (f : Found). f.condition) (all_found p) [] h.conditions g.conditions h.listed g.listed) ∙ sym g.written

@@ -44,7 +44,7 @@ use Rattle.log_checker.proofs.Places.{At, below, first, of_map}
 use Rattle.log_checker.proofs.Reached.{goes_on_everywhere}
 use Rattle.log_checker.proofs.Standing.{IsGood, construction_of, place_good, prover_accepted}
 use Rattle.log_checker.proofs.Writing.{IsOwn, cut_own, moved_own, small, start_own, written}
-use Rattle.log_checker.proofs.Versions.{version_is}
+use Rattle.log_checker.proofs.VersionNumbers.{version_is}
 
 -- the number of the first lemma of a ratio is small
 found_small : (p : ℕ → Bool) (xs : List ℕ) (x : ℕ) → AllByRecursion (λ (n : ℕ). n < 2 ^ 32) xs → find p xs ≡ Some x → x < 2 ^ 32

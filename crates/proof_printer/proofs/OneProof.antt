@@ -17,7 +17,7 @@ use Rattle.geo_logs.specs.declared.moves.Move.{Move}
 use Rattle.geo_logs.specs.declared.moves.Move.TheVariants as move
 use Rattle.log_checker.proofs.AcceptedBytes.{accepted_bytes_tell_programs}
 use Rattle.log_checker.proofs.AlikeSteps.{AlikeConstructions, replacement_same}
-use Rattle.log_checker.proofs.Versions.{one_version}
+use Rattle.log_checker.proofs.VersionNumbers.{one_version}
 use Rattle.proof_printer.specs.Naming.{Naming, name_or_number, naming_of}
 use Rattle.proof_printer.specs.Proofs.{ReadableProofIsUnique}
 use Rattle.proof_printer.specs.Readable.{lines_of, move_lines, polynomial_after, ratio_move, readable, replacement_lines}

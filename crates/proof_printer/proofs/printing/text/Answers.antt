@@ -2,7 +2,7 @@ use Rattle.std.proofs.Common.{◌≡◌, ◌<◌, ◌^◌, ◌∙◌, sym, subst
 use Rattle.geo_lowering.specs.declared.version.Version.{Version}
 use Rattle.geo_program.specs.Programs.{source_of}
 use Rattle.proof_log.specs.Writable.{IsVersion}
-use Rattle.log_checker.proofs.Versions.{one_version, version_is}
+use Rattle.log_checker.proofs.VersionNumbers.{one_version, version_is}
 use Rattle.proof_printer.specs.Inner.Names.{naming_in}
 use Rattle.proof_printer.specs.Inner.Printing.{IsConstructionOf}
 use Rattle.proof_printer.specs.Naming.{naming_of}
