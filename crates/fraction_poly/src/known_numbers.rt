@@ -16,7 +16,7 @@ use std::alloc::Global;
 use std::collections::HashMap;
 
 /// Numbers of a store's terms. Each is measured when it is asked for first, and multiplied out when
-/// a row first needs it; then both are kept. Terms may be added to the store meanwhile.
+/// a row first needs it; then both are kept.
 #[derive(Drop)]
 pub struct KnownNumbers {
     measured: HashMap<u32, Numbers>,
