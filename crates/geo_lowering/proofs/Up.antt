@@ -62,7 +62,6 @@ module _ (version : Version) (l : Layout) (nodes : Store) (placed lowered : Plac
       → Stands (line_at (drawn placed lines c) 0) (lowered.point (pair_of l.point n c).left) (lowered.point (pair_of l.point n c).right)
   drawn_stands x y j n m Point g s n' h e = cc
   drawn_stands x y j n m (Line a b) g s n' h e = stands-same _ _ _ _ _ (g a.0 n'.0) (g b.0 n'.1.0) (line_stands (placed.point a.0) (placed.point b.0))
-  drawn_stands x y j n m _ g s n' h e = cc
   drawn_stands x y j n m (Parallel p b) g s n' h e =
       stands-same _ _ _ _ _ (g p.0 n'.0) (self_point (lowered.point n))
       (parallel_stands (placed.point p.0) (line_at lines b.0) _ _ (lowered.point n) (s b.0 n'.1.0)
@@ -78,6 +77,7 @@ module _ (version : Version) (l : Layout) (nodes : Store) (placed lowered : Plac
       med_stands (placed.point a.0) (placed.point b.0) (lowered.point n) (lowered.point (suc n))
       (along-same _ _ _ _ _ _ _ _ _ _ A A B (fractions.same_refl _) (self_point _) (from_half _ _ _ _ h.0.1))
       (turned-same _ _ _ _ _ _ _ _ (self_point _) B (fractions.same_refl _) (self_point _) h.1.0.1)
+  drawn_stands x y j n m _ g s n' h e = cc
 
   next_stands : (j n : ℕ) (k : Option NameKind) (c : Command) → named c ≡ k → AllStand j → (named c ≡ Some kind.Line → Stands (line_at lines j) (lowered.point (l.line j).left) (lowered.point (l.line j).right)) → AllStand (counted kind.Line k j)
   next_stands j n (Some kind.Line) c e s d i b =

@@ -47,9 +47,9 @@ IsDueBehind None made points slots = is_some made ≡ true
 IsDueBehind (Some word) made points slots = (Some slots ≡ due_behind word conditions) × (made ≡ None) × (points ≡ 0)
 
 pub condition_due_behind : (nodes : Store) (c : Command) → IsDueBehind (command_form nodes c).condition (command_form nodes c).made (command_form nodes c).points (slots_of nodes c)
-condition_due_behind nodes (AssumeDifferent a b) = (refl, (refl, refl))
-condition_due_behind nodes (AssumeNotCollinear a b c) = (refl, (refl, refl))
-condition_due_behind nodes (AssumeNotParallel a b c d) = (refl, (refl, refl))
+condition_due_behind nodes (AssumeDifferent a b) = (refl, refl, refl)
+condition_due_behind nodes (AssumeNotCollinear a b c) = (refl, refl, refl)
+condition_due_behind nodes (AssumeNotParallel a b c d) = (refl, refl, refl)
 condition_due_behind nodes _ = refl
 
 -- no command has the word `prove`

@@ -142,9 +142,9 @@ abbrev pub then_prove : List (List Lexeme) → List Lexeme → List Lexeme
 then_prove lines more = flat_map (λ line. line) lines ++ word_lexeme (codes "prove") ∷ more
 
 no_number : (all : List Name) (nodes : Store) (names : List Name) (commands : List Command) (sketches : List Sketch) (more : List Lexeme) → NoNumber (then_prove (commands_lexemes all nodes names commands sketches) more)
-no_number all nodes names (command ∷ commands) (sketch ∷ sketches) more r rest = refl
+no_number all nodes names (command ∷ _) (sketch ∷ sketches) more r rest = refl
 no_number all nodes names [] sketches more r rest = refl
-no_number all nodes names (command ∷ commands) [] more r rest = refl
+no_number all nodes names (command ∷ _) [] more r rest = refl
 
 -- the commands one after another
 pub commands_go : (before names all : List Name) (nodes : Store) (commands : List Command) (sketches : List Sketch) (declared begun : List Name) (points : ℕ) (rest : List Slot) (more : List Lexeme)

@@ -17,7 +17,7 @@ use Rattle.geo_lowering.proofs.lowering.push_commands.Goals as goal
 pub loop-command-init : goal.loop-command-init
 loop-command-init c =
     begun_first c.args.version (source_of c.args.program.now) (layout_at c.args.places.now) c.args.steps.now c.args.terms.now c.args.fractions
-    (program_well_formed c.args.program.now) (program_points c.args.program.now) c.requires.places c.requires.empty c.requires.params c.requires.terms c.requires.fractions
+    (program_well_formed c.args.program.now) (program_points c.args.version c.args.program.now) c.requires.places c.requires.empty c.requires.params c.requires.terms c.requires.fractions
 
 pub number_of-requires : goal.number_of-requires
 number_of-requires c =
@@ -42,7 +42,7 @@ push_steps-requires-clause-steps c =
     let mid = c.number_of.new.steps in
     let kept = c.in_ok-number.ensures.keeps in
     let number = c.in_ok-number.ensures.term p.nodes begun.renamed c.requires.count begun.stored.0 begun.fractions.one in
-    let second = c.second_number.ensures l p.nodes mid.nodes (kept_renamed old mid kept l p.nodes terms begun.renamed) c.requires.count begun.stored.0 (kept_fractions old mid kept c.args.fractions begun.fractions).one in
+    let second = c.second_number-second.ensures l p.nodes mid.nodes (kept_renamed old mid kept l p.nodes terms begun.renamed) c.requires.count begun.stored.0 (kept_fractions old mid kept c.args.fractions begun.fractions).one in
     let list = c.in_ok-list.list.items in
     let forms : HaveForms mid.nodes (command_steps c.args.version l p.nodes (length old.steps) old.params k) list =
     subst (λ (n : ℕ). HaveForms mid.nodes (command_steps c.args.version l p.nodes n old.params k) list) c.count-next.ensures.count
@@ -67,7 +67,7 @@ push_steps-requires-clause-room c =
     let mid = c.number_of.new.steps in
     let kept = c.in_ok-number.ensures.keeps in
     let number = c.in_ok-number.ensures.term p.nodes begun.renamed c.requires.count begun.stored.0 begun.fractions.one in
-    let second = c.second_number.ensures l p.nodes mid.nodes (kept_renamed old mid kept l p.nodes terms begun.renamed) c.requires.count begun.stored.0 (kept_fractions old mid kept c.args.fractions begun.fractions).one in
+    let second = c.second_number-second.ensures l p.nodes mid.nodes (kept_renamed old mid kept l p.nodes terms begun.renamed) c.requires.count begun.stored.0 (kept_fractions old mid kept c.args.fractions begun.fractions).one in
     let list = c.in_ok-list.list.items in
     let forms : HaveForms mid.nodes (command_steps c.args.version l p.nodes (length old.steps) old.params k) list =
     subst (λ (n : ℕ). HaveForms mid.nodes (command_steps c.args.version l p.nodes n old.params k) list) c.count-next.ensures.count
@@ -92,7 +92,7 @@ loop-command-preserved c =
     let mid = c.number_of.new.steps in
     let kept = c.in_ok-number.ensures.keeps in
     let number = c.in_ok-number.ensures.term p.nodes begun.renamed c.requires.count begun.stored.0 begun.fractions.one in
-    let second = c.second_number.ensures l p.nodes mid.nodes (kept_renamed old mid kept l p.nodes terms begun.renamed) c.requires.count begun.stored.0 (kept_fractions old mid kept c.args.fractions begun.fractions).one in
+    let second = c.second_number-second.ensures l p.nodes mid.nodes (kept_renamed old mid kept l p.nodes terms begun.renamed) c.requires.count begun.stored.0 (kept_fractions old mid kept c.args.fractions begun.fractions).one in
     let list = c.in_ok-list.list.items in
     let forms : HaveForms mid.nodes (command_steps c.args.version l p.nodes (length old.steps) old.params k) list =
     subst (λ (n : ℕ). HaveForms mid.nodes (command_steps c.args.version l p.nodes n old.params k) list) c.count-next.ensures.count
