@@ -13,7 +13,9 @@ use Rattle.geo_poly.specs.Inner.TermFactors.{AreNonzeroRows, HasNoZero, IsNonzer
 use Rattle.geo_poly.specs.Monomials.{Powers}
 use Rattle.geo_poly.specs.Polynomials.{Summands, product_of}
 use Rattle.geo_poly.specs.Replace.{AllBounded, IsBounded, degree_row, degree_rows, denominators, row_of, times_power, times_row, times_rows, weight_row, weight_rows}
-use Rattle.geo_poly.proofs.FactoredTerms.{count_with-append, degree_with-append, times_pieces-append, weight_with-append}
+use Rattle.geo_poly.proofs.FactoredTerms.{count_with-append, degree_with-append, degree_with-is, times_pieces-append, weight_with-append}
+use Rattle.geo_poly.proofs.PolynomialRing.{product_of-assoc}
+use Rattle.geo_poly.proofs.ProductOrder.{product_of_comm}
 use Rattle.geo_poly.proofs.TickBounds.{count_rows-scale, counted, counted_row}
 
 -- ONE PIECE, AS OFTEN AS IS SAID
@@ -60,14 +62,14 @@ products_bounded (q ∷ qs) n h =
     omega (arith, products_bounded qs n h.1, all)
 
 -- A TERM
--- the factors of the variables in `left`, and so many denominators
-pub record Path (rows : List Row) (den : Piece) (left : Powers) (lacking : ℕ) (ks : List ℕ) : Type 0 where
-  pub terms : (p : Summands) → times_pieces (pieces_of rows den ks) p ≡ times_power (times_rows rows left p) den.poly lacking
-  pub weight : (w : ℕ) → weight_with (pieces_of rows den ks) w ≡ weight_rows rows left w * den.weight ^ lacking
-  pub degree : (d : ℕ) → degree_with (pieces_of rows den ks) d ≡ degree_rows rows left d + den.degree * lacking
-  pub counts : (n : ℕ) → count_with (pieces_of rows den ks) n ≡ count_rows rows left n * den.count ^ lacking
+-- the factors of the variables in `done`, and so many denominators
+pub record Path (rows : List Row) (den : Piece) (done : Powers) (lacking : ℕ) (ks : List ℕ) : Type 0 where
+  pub terms : (p : Summands) → times_pieces (pieces_of rows den ks) p ≡ times_power (times_rows rows done p) den.poly lacking
+  pub weight : (w : ℕ) → weight_with (pieces_of rows den ks) w ≡ weight_rows rows done w * den.weight ^ lacking
+  pub degree : (d : ℕ) → degree_with (pieces_of rows den ks) d ≡ degree_rows rows done d + den.degree * lacking
+  pub counts : (n : ℕ) → count_with (pieces_of rows den ks) n ≡ count_rows rows done n * den.count ^ lacking
   pub some : AllSome (pieces_of rows den ks)
-  pub long : length ks ≡ replaced_exponents rows left + lacking
+  pub long : length ks ≡ replaced_exponents rows done + lacking
 
 pub Path-start : (rows : List Row) (den : Piece) (lacking : ℕ) → (0 < lacking → 1 ≤ den.count) → Path rows den [] lacking (replicate lacking 0)
 Path-start rows den lacking h =
@@ -81,14 +83,59 @@ Path-start rows den lacking h =
       long = omega (arith, length-replicate lacking 0);
     }
 
-pub Path-none : (rows : List Row) (den : Piece) (v : Var × ℕ) (left : Powers) (lacking : ℕ) (ks : List ℕ) → row_of rows v.0 ≡ None → Path rows den left lacking ks → Path rows den (v ∷ left) lacking ks
-Path-none rows den v left lacking ks e h = record {
-  terms = λ p. h.terms p ∙ ap (λ (o : Option Row). times_power (times_rows rows left (times_row o v.1 p)) den.poly lacking) (sym e);
-  weight = λ w. h.weight w ∙ ap (λ (o : Option Row). weight_rows rows left (weight_row o v.1 w) * den.weight ^ lacking) (sym e);
-  degree = λ d. h.degree d ∙ ap (λ (o : Option Row). degree_rows rows left (degree_row o v.1 d) + den.degree * lacking) (sym e);
-  counts = λ n. h.counts n ∙ ap (λ (o : Option Row). count_rows rows left (count_row o v.1 n) * den.count ^ lacking) (sym e);
+-- THE ORDER OF THE FACTORS DOES NOT MATTER
+swap : (p q r : Summands) → product_of (product_of p q) r ≡ product_of (product_of p r) q
+swap p q r = product_of-assoc p q r ∙ ap (product_of p) (product_of_comm q r) ∙ sym (product_of-assoc p r q)
+
+power_swap : (p q r : Summands) (n : ℕ) → times_power (product_of p q) r n ≡ product_of (times_power p r n) q
+power_swap p q r zero = refl
+power_swap p q r (suc n) = ap (λ (x : Summands). product_of x r) (power_swap p q r n) ∙ swap (times_power p r n) q r
+
+powers_swap : (p q r : Summands) (e n : ℕ) → times_power (times_power p q e) r n ≡ times_power (times_power p r n) q e
+powers_swap p q r zero n = refl
+powers_swap p q r (suc e) n = power_swap (times_power p q e) q r n ∙ ap (λ (x : Summands). product_of x q) (powers_swap p q r e n)
+
+pieces_swap : (qs : List Piece) (p q : Summands) (e : ℕ) → times_pieces qs (times_power p q e) ≡ times_power (times_pieces qs p) q e
+pieces_swap [] p q e = refl
+pieces_swap (x ∷ qs) p q e = ap (λ (y : Summands). product_of y x.poly) (pieces_swap qs p q e) ∙ sym (power_swap (times_pieces qs p) x.poly q e)
+
+weight_scale : (qs : List Piece) (w x : ℕ) → weight_with qs (w * x) ≡ weight_with qs w * x
+weight_scale [] w x = refl
+weight_scale (q ∷ qs) w x = omega (arith, ap (λ y. y * q.weight) (weight_scale qs w x))
+
+count_scale : (qs : List Piece) (n x : ℕ) → count_with qs (n * x) ≡ count_with qs n * x
+count_scale [] n x = refl
+count_scale (q ∷ qs) n x = omega (arith, ap (λ y. y * q.count) (count_scale qs n x))
+
+-- one more variable
+rows_push : (rows : List Row) (done : Powers) (v : Var × ℕ) (p : Summands) → times_rows rows (done ++ v ∷ []) p ≡ times_row (row_of rows v.0) v.1 (times_rows rows done p)
+rows_push rows [] v p = refl
+rows_push rows (u ∷ done) v p = rows_push rows done v (times_row (row_of rows u.0) u.1 p)
+
+weights_push : (rows : List Row) (done : Powers) (v : Var × ℕ) (w : ℕ) → weight_rows rows (done ++ v ∷ []) w ≡ weight_row (row_of rows v.0) v.1 (weight_rows rows done w)
+weights_push rows [] v w = refl
+weights_push rows (u ∷ done) v w = weights_push rows done v (weight_row (row_of rows u.0) u.1 w)
+
+degrees_push : (rows : List Row) (done : Powers) (v : Var × ℕ) (d : ℕ) → degree_rows rows (done ++ v ∷ []) d ≡ degree_row (row_of rows v.0) v.1 (degree_rows rows done d)
+degrees_push rows [] v d = refl
+degrees_push rows (u ∷ done) v d = degrees_push rows done v (degree_row (row_of rows u.0) u.1 d)
+
+counts_push : (rows : List Row) (done : Powers) (v : Var × ℕ) (n : ℕ) → count_rows rows (done ++ v ∷ []) n ≡ count_row (row_of rows v.0) v.1 (count_rows rows done n)
+counts_push rows [] v n = refl
+counts_push rows (u ∷ done) v n = counts_push rows done v (count_row (row_of rows u.0) u.1 n)
+
+exponents_push : (rows : List Row) (done : Powers) (v : Var × ℕ) → replaced_exponents rows (done ++ v ∷ []) ≡ replaced_exponents rows done + exponent_row (row_of rows v.0) v.1
+exponents_push rows [] v = omega arith
+exponents_push rows (u ∷ done) v = omega (arith, exponents_push rows done v)
+
+pub Path-none : (rows : List Row) (den : Piece) (v : Var × ℕ) (done : Powers) (lacking : ℕ) (ks : List ℕ) → row_of rows v.0 ≡ None → Path rows den done lacking ks → Path rows den (done ++ v ∷ []) lacking ks
+Path-none rows den v done lacking ks e h = record {
+  terms = λ p. h.terms p ∙ ap (λ (x : Summands). times_power x den.poly lacking) (sym (rows_push rows done v p ∙ ap (λ (o : Option Row). times_row o v.1 (times_rows rows done p)) e));
+  weight = λ w. h.weight w ∙ ap (λ x. x * den.weight ^ lacking) (sym (weights_push rows done v w ∙ ap (λ (o : Option Row). weight_row o v.1 (weight_rows rows done w)) e));
+  degree = λ d. h.degree d ∙ ap (λ x. x + den.degree * lacking) (sym (degrees_push rows done v d ∙ ap (λ (o : Option Row). degree_row o v.1 (degree_rows rows done d)) e));
+  counts = λ n. h.counts n ∙ ap (λ x. x * den.count ^ lacking) (sym (counts_push rows done v n ∙ ap (λ (o : Option Row). count_row o v.1 (count_rows rows done n)) e));
   some = h.some;
-  long = let exponents : exponent_row (row_of rows v.0) v.1 ≡ 0 = ap (λ (o : Option Row). exponent_row o v.1) e in omega (arith, exponents, h.long);
+  long = let exponents : exponent_row (row_of rows v.0) v.1 ≡ 0 = ap (λ (o : Option Row). exponent_row o v.1) e in omega (arith, exponents, exponents_push rows done v, h.long);
 }
 
 numerator_there : (rows : List Row) (den : Piece) (i : ℕ) (r : Row) → slice_get rows i ≡ Some r → numerator_at rows den i ≡ r.num
@@ -97,9 +144,9 @@ numerator_there [] den (suc i) r e = absurd (cc)
 numerator_there (s ∷ rows) den zero r e = let same : s ≡ r = cc in ap (λ (x : Row). x.num) same
 numerator_there (s ∷ rows) den (suc i) r e = numerator_there rows den i r e
 
-pub Path-some : (rows : List Row) (den : Piece) (v : Var × ℕ) (left : Powers) (lacking : ℕ) (ks : List ℕ) (i : ℕ) (r : Row) → slice_get rows i ≡ Some r → row_of rows v.0 ≡ Some r → 1 ≤ r.num.count
-    → Path rows den left lacking ks → Path rows den (v ∷ left) lacking (ks ++ replicate v.1 (i + 1))
-Path-some rows den v left lacking ks i r at e counted h =
+pub Path-some : (rows : List Row) (den : Piece) (v : Var × ℕ) (done : Powers) (lacking : ℕ) (ks : List ℕ) (i : ℕ) (r : Row) → slice_get rows i ≡ Some r → row_of rows v.0 ≡ Some r → 1 ≤ r.num.count
+    → Path rows den done lacking ks → Path rows den (done ++ v ∷ []) lacking (ks ++ replicate v.1 (i + 1))
+Path-some rows den v done lacking ks i r at e counted h =
     let here : piece_of rows den (i + 1) ≡ r.num = ap (piece_of rows den) (add-one i) ∙ numerator_there rows den i r at in
     let qs = pieces_of rows den ks in
     let more = replicate v.1 r.num in
@@ -107,21 +154,25 @@ Path-some rows den v left lacking ks i r at e counted h =
     map-append (piece_of rows den) ks (replicate v.1 (i + 1)) ∙ ap (λ (x : List Piece). qs ++ x) (pieces_replicate rows den v.1 (i + 1) ∙ ap (replicate v.1) here) in
     record {
       terms = λ p.
-          ap (λ (x : List Piece). times_pieces x p) same ∙ times_pieces-append qs more p ∙ ap (times_pieces qs) (times_same r.num v.1 p) ∙ h.terms (times_power p r.num.poly v.1)
-          ∙ ap (λ (o : Option Row). times_power (times_rows rows left (times_row o v.1 p)) den.poly lacking) (sym e);
+          ap (λ (x : List Piece). times_pieces x p) same ∙ times_pieces-append qs more p ∙ ap (times_pieces qs) (times_same r.num v.1 p) ∙ pieces_swap qs p r.num.poly v.1
+          ∙ ap (λ (x : Summands). times_power x r.num.poly v.1) (h.terms p) ∙ powers_swap (times_rows rows done p) den.poly r.num.poly lacking v.1
+          ∙ ap (λ (x : Summands). times_power x den.poly lacking) (sym (rows_push rows done v p ∙ ap (λ (o : Option Row). times_row o v.1 (times_rows rows done p)) e));
       weight = λ w.
-          ap (λ (x : List Piece). weight_with x w) same ∙ weight_with-append qs more w ∙ ap (weight_with qs) (weight_same r.num v.1 w) ∙ h.weight (w * r.num.weight ^ v.1)
-          ∙ ap (λ (o : Option Row). weight_rows rows left (weight_row o v.1 w) * den.weight ^ lacking) (sym e);
+          let whole = ap (λ (x : List Piece). weight_with x w) same ∙ weight_with-append qs more w ∙ ap (weight_with qs) (weight_same r.num v.1 w) ∙ weight_scale qs w (r.num.weight ^ v.1) ∙ ap (λ x. x * r.num.weight ^ v.1) (h.weight w) in
+          let pushed = ap (λ x. x * den.weight ^ lacking) (weights_push rows done v w ∙ ap (λ (o : Option Row). weight_row o v.1 (weight_rows rows done w)) e) in
+          omega (arith, whole, pushed);
       degree = λ d.
-          ap (λ (x : List Piece). degree_with x d) same ∙ degree_with-append qs more d ∙ ap (degree_with qs) (degree_same r.num v.1 d) ∙ h.degree (d + r.num.degree * v.1)
-          ∙ ap (λ (o : Option Row). degree_rows rows left (degree_row o v.1 d) + den.degree * lacking) (sym e);
+          let whole = ap (λ (x : List Piece). degree_with x d) same ∙ degree_with-append qs more d ∙ ap (degree_with qs) (degree_same r.num v.1 d) in
+          let pushed = degrees_push rows done v d ∙ ap (λ (o : Option Row). degree_row o v.1 (degree_rows rows done d)) e in
+          omega (arith, whole, pushed, h.degree d, degree_with-is qs d, degree_with-is qs (d + r.num.degree * v.1));
       counts = λ n.
-          ap (λ (x : List Piece). count_with x n) same ∙ count_with-append qs more n ∙ ap (count_with qs) (count_same r.num v.1 n) ∙ h.counts (n * r.num.count ^ v.1)
-          ∙ ap (λ (o : Option Row). count_rows rows left (count_row o v.1 n) * den.count ^ lacking) (sym e);
+          let whole = ap (λ (x : List Piece). count_with x n) same ∙ count_with-append qs more n ∙ ap (count_with qs) (count_same r.num v.1 n) ∙ count_scale qs n (r.num.count ^ v.1) ∙ ap (λ x. x * r.num.count ^ v.1) (h.counts n) in
+          let pushed = ap (λ x. x * den.count ^ lacking) (counts_push rows done v n ∙ ap (λ (o : Option Row). count_row o v.1 (count_rows rows done n)) e) in
+          omega (arith, whole, pushed);
       some = subst AllSome (sym same) (some_append qs more h.some (some_same r.num v.1 (λ _. counted)));
       long =
           let exponents : exponent_row (row_of rows v.0) v.1 ≡ v.1 = ap (λ (o : Option Row). exponent_row o v.1) e in
-          omega (arith, exponents, h.long, length-append ks (replicate v.1 (i + 1)), length-replicate v.1 (i + 1));
+          omega (arith, exponents, exponents_push rows done v, h.long, length-append ks (replicate v.1 (i + 1)), length-replicate v.1 (i + 1));
     }
 
 -- with all variables

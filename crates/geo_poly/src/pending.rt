@@ -77,7 +77,7 @@ fn push_factor(factors: &mut Vec<usize>, factor: usize, count: u32) -> Result<()
     Ok(())
 }
 
-/// The factors of a term: the denominators that it lacks, and the numerators, the last one first.
+/// The factors of a term: the denominators that it lacks, and then its numerators in order.
 fn factors_of(
     alloc: Global,
     setting: &Setting,
@@ -94,9 +94,7 @@ fn factors_of(
 {
     let mut factors = Vec::new(alloc);
     push_factor(&mut factors, 0, lacking)?;
-    let mut k = powers.len();
-    while k > 0 {
-        k -= 1;
+    for k in 0..powers.len() {
         let (v, e) = powers[k];
         if let Some(i) = setting.rows.find_place(v, number_at(numbers, k)) {
             push_factor(&mut factors, i + 1, e)?;

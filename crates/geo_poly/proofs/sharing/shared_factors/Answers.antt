@@ -18,16 +18,16 @@ pub loop-term-preserved : goal.loop-term-preserved
 loop-term-preserved c =
     let first = c.args.first.now in
     let depth = c.args.depth in
-    let r = c.common_factors.result in
+    let r = c.common_factors-shared.result in
     let e = c.term-item.result in
     let i = c.loop-term.term-index in
     record {
-      bound = omega (arith, c.loop-term.invariant.bound, c.common_factors.ensures.most);
+      bound = omega (arith, c.loop-term.invariant.bound, c.common_factors-shared.ensures.most);
       shared =
           subst (λ (es : List Pending). All (λ (e : Pending). take r (drop depth e.factors.items) ≡ take r first) es) (sym (take_more c.args.pending.now i e c.loop-term-test.true c.term-item.is))
           (All-push (λ (e : Pending). take r (drop depth e.factors.items) ≡ take r first) (take i c.args.pending.now) e
-          (fewer first depth c.loop-term.shared r (take i c.args.pending.now) c.common_factors.ensures.most c.loop-term.invariant.shared)
-          (ap (take r) (sym c.factors_from.ensures) ∙ c.common_factors.ensures.common));
+          (fewer first depth c.loop-term.shared r (take i c.args.pending.now) c.common_factors-shared.ensures.most c.loop-term.invariant.shared)
+          (ap (take r) (sym c.factors_from.ensures) ∙ c.common_factors-shared.ensures.common));
     }
 
 pub returns-clause-shared : goal.returns-clause-shared
