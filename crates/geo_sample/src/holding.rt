@@ -6,7 +6,7 @@ ghost use Rattle.geo_sample.specs.Tries.{AreMade, EndIn, single_tries};
 ghost use Rattle.geo_sample.specs.Samples.{specialised_by};
 
 use crate::errors::SampleError;
-use crate::trying::{are_valid, copies, none_zero, put_together, try_value};
+use crate::trying::{are_valid, copies, none_zero, put_value};
 use geo_base::Budget;
 use geo_poly::lists::{Polys, Values};
 use geo_poly::{Poly, Var};
@@ -45,8 +45,7 @@ fn numbers_hold(
     prove!(are_valid(polys));
     let mut current = copies(alloc, polys)?;
     for value in values {
-        let changes = try_value(alloc, &current, value, budget)?;
-        current = put_together(current, changes);
+        put_value(alloc, &mut current, value, budget)?;
     }
     Ok(none_zero(&current))
 }

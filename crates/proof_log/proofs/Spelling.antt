@@ -1,6 +1,6 @@
 -- The one spelling of a number: no zero in front of other digits, and no `-` before 0.
-use Rattle.std.proofs.Common.{◌≡◌, ℕ, zero, suc, ◌+◌, ◌*◌, ◌/◌, ◌%◌, ◌^◌, ◌<◌, ◌≤◌, Bool, true, false, eqb, if◌then◌else◌, List, [], ◌∷◌, ◌++◌, length, drop, get_or, refl, sym, ap, subst, ◌∙◌, append_assoc, arith, lit≤, inl, inr}
-use Rattle.std.specs.Prelude.{ℤ, pos, negsuc, neg_ℤ}
+use Rattle.std.proofs.Common.{◌≡◌, ℕ, zero, suc, ◌+◌, ◌*◌, ◌/◌, ◌%◌, ◌^◌, ◌<◌, ◌≤◌, Bool, true, false, not, eqb, if◌then◌else◌, List, [], ◌∷◌, ◌++◌, length, drop, get_or, refl, sym, ap, subst, ◌∙◌, append-nil, append_assoc, length-append, arith, lit≤, inl, inr}
+use Rattle.std.specs.Prelude.{◌↔◌, IsTrue, ℤ, pos, negsuc, neg_ℤ}
 use Rattle.std.specs.Char.{digit_value}
 use Rattle.std.specs.Fmt.{decimal, signed_decimal}
 use Rattle.std.specs.Str.Parse.{AllDigits, IsNumeral, digits_value, digits_value_after, starts_with_minus}
@@ -82,11 +82,11 @@ positive ds d lead is =
 
 -- text of digits, with no `-` before them
 digits_canonical : (text : List ℕ) → starts_with_minus text ≡ false → IsDecimal text → decimal_size text < 2 ^ 127 → (2 ≤ length text → get_or text 0 0 ≡ 48 → ⊥) → signed_decimal (decimal_value text) ≡ text
-digits_canonical text e d small zero =
+digits_canonical text e d small lone =
     let room : 2 ^ 127 ≤ 10 ^ 64 = lit≤ tt in
     let numeral = plain_numeral text e d in
     let lead : get_or text 0 0 ≡ 48 → length text ≡ 1 = λ z. elim (cases_lt 1 (length text)) [
-      | inl more ↦ absurd (zero more z)
+      | inl more ↦ absurd (lone more z)
       | inr one ↦ let some : 0 < length text = numeral.0 in omega arith
     ] in
     ap signed_decimal (plain_value text e) ∙ digits_spelt text numeral lead (omega (arith, plain_size text e))
@@ -105,11 +105,11 @@ minus_canonical c ds e d small minus =
 -- text that has no zero in front of other digits, and no `-` before 0, is the spelling of its number
 pub canonical : (text : List ℕ) → IsDecimal text → decimal_size text < 2 ^ 127 → (2 ≤ length text → get_or text 0 0 ≡ 45 → get_or text 1 0 ≡ 48 → ⊥) → (2 ≤ length text → get_or text 0 0 ≡ 48 → ⊥)
     → signed_decimal (decimal_value text) ≡ text
-canonical [] d small minus zero = absurd (omega (arith, d.0))
-canonical (c ∷ cs) d small minus zero =
+canonical [] d small minus lone = absurd (omega (arith, d.0))
+canonical (c ∷ cs) d small minus lone =
     elim (eqb c 45) as (λ b. eqb c 45 ≡ b → signed_decimal (decimal_value (c ∷ cs)) ≡ c ∷ cs) [
       | true ↦ λ e. minus_canonical c cs e d small minus
-      | false ↦ λ e. digits_canonical (c ∷ cs) e d small zero
+      | false ↦ λ e. digits_canonical (c ∷ cs) e d small lone
     ] refl
 
 no_minus_zero : (n c : ℕ) (ds : List ℕ) → n < 10 ^ 64 → c ≡ 45 → get_or ds 0 0 ≡ 48 → signed_decimal (neg_ℤ (pos n)) ≡ c ∷ ds → ⊥
@@ -137,3 +137,27 @@ zero_first (c ∷ cs) small len z e =
     let room : 2 ^ 127 ≤ 10 ^ 64 = lit≤ tt in
     let plain : eqb c 45 ≡ false = grind (arith, nat_tests, z) in
     no_zero_first (digits_value 10 (c ∷ cs)) (c ∷ cs) (omega (arith, plain_size (c ∷ cs) plain)) len z (ap signed_decimal (sym (plain_value (c ∷ cs) plain)) ∙ e)
+
+-- THE TEST
+tested : (b : ℕ) (P : Type 0) → (b ≡ 48 → P → ⊥) → ((b ≡ 48 → ⊥) → P) → IsTrue (not (eqb b 48)) ↔ P
+tested b P out into =
+    elim (eqb b 48) as (λ t. eqb b 48 ≡ t → IsTrue (not t) ↔ P) [
+      | true ↦ λ e. let is : b ≡ 48 = grind (arith, nat_tests, e) in (λ f. absurd (let t : false ≡ true = f in cc), λ p. absurd (out is p))
+      | false ↦ λ e. let other : b ≡ 48 → ⊥ = grind (arith, nat_tests, e) in (λ f. into other, λ p. refl)
+    ] refl
+
+-- text of one byte
+pub is_short : (text : List ℕ) → IsDecimal text → decimal_size text < 2 ^ 127 → length text < 2 → IsTrue true ↔ (signed_decimal (decimal_value text) ≡ text)
+is_short text d small len = (λ t. canonical text d small (λ more is z. omega (arith, more, len)) (λ more z. omega (arith, more, len)), λ e. refl)
+
+-- text that begins with `-`
+pub is_negative : (text : List ℕ) → IsDecimal text → decimal_size text < 2 ^ 127 → 2 ≤ length text → get_or text 0 0 ≡ 45 → IsTrue (not (eqb (get_or text 1 0) 48)) ↔ (signed_decimal (decimal_value text) ≡ text)
+is_negative text d small len minus =
+    tested (get_or text 1 0) (signed_decimal (decimal_value text) ≡ text) (λ z e. minus_zero text small len minus z e)
+    (λ other. canonical text d small (λ more is z. other z) (λ more z. omega (arith, minus, z)))
+
+-- text that does not
+pub is_plain : (text : List ℕ) → IsDecimal text → decimal_size text < 2 ^ 127 → 2 ≤ length text → (get_or text 0 0 ≡ 45 → ⊥) → IsTrue (not (eqb (get_or text 0 0) 48)) ↔ (signed_decimal (decimal_value text) ≡ text)
+is_plain text d small len plain =
+    tested (get_or text 0 0) (signed_decimal (decimal_value text) ≡ text) (λ z e. zero_first text small len z e)
+    (λ other. canonical text d small (λ more is z. absurd (plain is)) (λ more z. other z))

@@ -295,16 +295,19 @@ fn run_length(bytes: &[u8]) -> usize
 
 // Whether decimal text is the one spelling of its number: no zero in front of other digits, and no
 // `-` before 0.
+#[tactic(auto, using(crate::proofs::Spelling::is_short, crate::proofs::Spelling::is_negative, crate::proofs::Spelling::is_plain))]
 fn is_canonical(text: &[u8]) -> bool
     requires decimal { IsDecimal text.now }
     requires fits { decimal_size text.now < 2 ^ 127 }
     ensures { IsTrue result ↔ (integers.text (decimal_value text.now) ≡ text.now) }
 {
-    match text {
-        [b'-', b'0', ..] => false,
-        [b'0', _, ..] => false,
-        _ => true,
+    if text.len() < 2 {
+        return true;
     }
+    if text[0] == b'-' {
+        return text[1] != b'0';
+    }
+    text[0] != b'0'
 }
 
 // Whether the points stand in their sorted order.

@@ -3,8 +3,8 @@ use Rattle.std.proofs.lemmas.List.{drop-set-lt, length-set}
 use Rattle.geo_poly.specs.Polynomials.{Summands}
 use Rattle.geo_sample.specs.Inner.{changed}
 use Rattle.geo_sample.proofs.Changes.{becomes-more, same_left, stays-more}
-use Rattle.geo_sample.proofs.trying.put_together.Goals.{in-Some, in_default}
-use Rattle.geo_sample.proofs.trying.put_together.Goals as goal
+use Rattle.geo_sample.proofs.numbers.put_together.Goals.{in-Some, in_default}
+use Rattle.geo_sample.proofs.numbers.put_together.Goals as goal
 
 pub loop-place-preserved : goal.loop-place-preserved
 loop-place-preserved c =

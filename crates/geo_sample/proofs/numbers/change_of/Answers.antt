@@ -1,7 +1,7 @@
 use Rattle.std.proofs.Common.{◌≡◌, arith}
 use Rattle.geo_poly.specs.Specialise.{degree_in}
 use Rattle.geo_poly.proofs.SpecialisedLaws.{weight-lacking}
-use Rattle.geo_sample.proofs.trying.change_of.Goals as goal
+use Rattle.geo_sample.proofs.numbers.change_of.Goals as goal
 
 pub returns-then-degree_in-eq0-clause-norm : goal.returns-then-degree_in-eq0-clause-norm
 returns-then-degree_in-eq0-clause-norm c =

@@ -1,7 +1,7 @@
 use Rattle.std.proofs.Common.{◌≡◌, ◌^◌, ◌<◌, All, take}
 use Rattle.geo_poly.specs.Specialise.{specialised_weight}
 use Rattle.geo_sample.specs.Inner.{changes}
-use Rattle.geo_sample.proofs.trying.changes_of.Given as goal
+use Rattle.geo_sample.proofs.numbers.changes_of.Given as goal
 
 abbrev pub invariant-loop-poly : goal.invariant-loop-poly
 invariant-loop-poly l = record {

@@ -6,7 +6,7 @@ use Rattle.geo_poly.specs.declared.variables.Var.{Var}
 use Rattle.geo_poly.specs.Polynomials.{Summands}
 use Rattle.geo_poly.specs.Specialise.{specialised_weight}
 use Rattle.geo_sample.specs.Inner.{change, changes}
-use Rattle.geo_sample.proofs.trying.changes_of.Goals as goal
+use Rattle.geo_sample.proofs.numbers.changes_of.Goals as goal
 
 one_more : (v : Var) (z : ℤ) (ps : List Summands) (i : ℕ) (p : Summands) → i < length ps → p ≡ get_or ps i p → changes v z (take (i + 1) ps) ≡ changes v z (take i ps) ++ change v z p ∷ []
 one_more v z ps i p lt is =

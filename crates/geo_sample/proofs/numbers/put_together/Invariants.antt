@@ -1,6 +1,6 @@
 use Rattle.std.proofs.Common.{◌≡◌, length, take, drop}
 use Rattle.geo_sample.specs.Inner.{changed}
-use Rattle.geo_sample.proofs.trying.put_together.Given as goal
+use Rattle.geo_sample.proofs.numbers.put_together.Given as goal
 
 abbrev pub invariant-loop-place : goal.invariant-loop-place
 invariant-loop-place l = record {
