@@ -8,7 +8,8 @@ ghost use Rattle.geo_sample.specs.Tries.{tries_below};
 ghost use Rattle.geo_sample.specs.Samples.{IsLeastSample, IsLeastValue, SearchEndsIn};
 
 use crate::errors::SampleError;
-use crate::trying::{are_valid, copies, try_natural};
+use crate::lists::{are_valid, copies};
+use crate::trying::try_natural;
 use geo_base::Budget;
 use geo_poly::lists::{Polys, Values, Vars};
 use geo_poly::{Poly, Var};
