@@ -1,6 +1,6 @@
 -- The number 0 put for a variable: walks over a monomial by the numbers of its variables, and lists of terms that lack the variable.
-use Rattle.std.proofs.Common.{◌≡◌, ℕ, zero, suc, ◌+◌, ◌<◌, max, eqb, Bool, true, false, cond, ℤ, List, [], ◌∷◌, ◌++◌, Some, filter, length, take, drop, get_or, slice_get, refl, sym, ap, subst, ◌∙◌, arith}
-use Rattle.std.specs.Prelude.{Contains}
+use Rattle.std.proofs.Common.{◌≡◌, ℕ, zero, suc, ◌+◌, ◌<◌, ◌≤◌, max, eqb, Bool, true, false, cond, ℤ, List, [], ◌∷◌, ◌++◌, Some, filter, length, take, drop, get_or, slice_get, refl, sym, ap, subst, ◌∙◌, arith}
+use Rattle.std.specs.Prelude.{◌↔◌, Contains, IsTrue}
 use Rattle.std.specs.List.Sorted.{IsStrictlySortedBy}
 use Rattle.std.specs.Ordering.{is_eq}
 use Rattle.std.specs.declared.cmp.Ordering.{Ordering}
@@ -56,6 +56,17 @@ module _ (vars : List Var) (rising : IsStrictlySortedBy var_cmp vars) (j k e : �
       let nothing : e ≡ 0 = sym head ∙ ap (λ (w : Var). exponent w ((v, e) ∷ rest)) name ∙ gone in
       let passed : eqb e 0 ≡ true = grind (arith, nat_tests, nothing) in
       let both : true ≡ false = sym passed ∙ h.0 in cc
+
+  -- what the test there tells of the whole monomial, which has the same exponent
+  pub tells : k ≤ j → IsCanonical var_cmp exponents ((v, e) ∷ rest) → (n : ℕ) → exponent (var_at vars k) ((v, e) ∷ rest) ≡ n → IsTrue (eqb j k) ↔ (n ≡ 0 → ⊥)
+  tells le h n whole =
+      elim (eqb j k) as (λ b. eqb j k ≡ b → IsTrue b ↔ (n ≡ 0 → ⊥)) [
+        | true ↦ λ t. let same : j ≡ k = grind (arith, nat_tests, t) in (λ _. λ z. found same h (whole ∙ z), λ _. refl)
+        | false ↦ λ t.
+            let other : j ≡ k → ⊥ = grind (arith, nat_tests, t) in
+            let later : k < j = omega (arith, le, other) in
+            (λ f. absurd (let both : false ≡ true = f in cc), λ some. absurd (some (sym whole ∙ past later h)))
+      ] refl
 
 -- TERMS
 module _ (f : Powers × ℤ → Bool) (p : Summands) (i : ℕ) (t : Powers × ℤ) (at : drop i p ≡ t ∷ drop (i + 1) p) where

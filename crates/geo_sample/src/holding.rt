@@ -47,7 +47,11 @@ fn numbers_hold(
         (λ e. EndIn e budget.old.left (single_tries values.now polys.now) budget.new.left) }
 {
     prove!(are_valid(polys));
-    let mut current = copies(alloc, polys)?;
+    if values.is_empty() {
+        return Ok(none_zero(polys));
+    }
+    affordable(polys, budget)?;
+    let mut current = copies(alloc, polys, budget)?;
     for value in values {
         put_value(alloc, &mut current, value, budget)?;
     }

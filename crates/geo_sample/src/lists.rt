@@ -1,9 +1,10 @@
 //! Lists of polynomials.
 
-ghost use Rattle.std.specs.Prelude.{◌≡◌, ◌↔◌, All, IfOk, IsTrue};
+ghost use Rattle.std.specs.Prelude.{◌≡◌, ◌↔◌, ◌≤◌, length, sum_by, All, IfOk, IsTrue};
 ghost use Rattle.geo_poly.specs.Polynomials.{IsPolynomial};
 ghost use Rattle.geo_poly.specs.Specialise.{NoneZero};
 
+use geo_base::Budget;
 use geo_points::NoMemory;
 use geo_poly::Poly;
 use std::alloc::Global;
@@ -20,10 +21,12 @@ pub fn none_zero(polys: &[Poly]) -> bool
     true
 }
 
-/// Copies of the polynomials.
-pub fn copies(alloc: Global, polys: &[Poly]) -> Result<Vec<Poly>, NoMemory>
+/// Copies of the polynomials, for the first try of them. The budget has its charge.
+pub fn copies(alloc: Global, polys: &[Poly], budget: &Budget) -> Result<Vec<Poly>, NoMemory>
+    requires paid { sum_by length polys.now ≤ budget.now.left }
     ensures { IfOk result (λ qs. qs.items ≡ polys.now) }
 {
+    let _ = budget;
     let mut copied = Vec::with_capacity(alloc, polys.len())?;
     for poly in polys {
         copied.push(poly.copy(alloc)?)?;

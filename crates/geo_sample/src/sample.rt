@@ -7,6 +7,7 @@ ghost use Rattle.geo_sample.specs.Tries.{AreMade, EndIn, all_specialised, search
 ghost use Rattle.geo_sample.specs.Tries.{tries_below};
 ghost use Rattle.geo_sample.specs.Samples.{IsLeastSample, IsLeastValue, SearchEndsIn};
 
+use crate::charges::affordable;
 use crate::errors::SampleError;
 use crate::lists::{are_valid, copies};
 use crate::trying::try_natural;
@@ -51,8 +52,12 @@ fn least_values(
         (λ e. SearchEndsIn e vars.now polys.now budget.old.left budget.new.left) }
 {
     prove!(are_valid(polys));
-    let mut current = copies(alloc, polys)?;
     let mut values = Vec::new(alloc);
+    if vars.is_empty() {
+        return Ok(values);
+    }
+    affordable(polys, budget)?;
+    let mut current = copies(alloc, polys, budget)?;
     for v in vars {
         let value = put_least_value(alloc, &mut current, *v, budget)?;
         values.push(pair(*v, value))?;

@@ -1,14 +1,17 @@
-use Rattle.std.proofs.Common.{◌≡◌, ℕ, ◌+◌, ◌∷◌, ◌++◌, [], ℤ, pos, List, length, ◌<◌, get_or, take, drop, sym, ap, subst, ◌∙◌}
+use Rattle.std.proofs.Common.{◌≡◌, ℕ, ◌+◌, ◌∷◌, ◌++◌, [], ℤ, pos, List, length, ◌<◌, get_or, take, drop, sym, ap, subst, ◌∙◌, arith}
+use Rattle.std.specs.Prelude.{◌↔◌, IsTrue}
 use Rattle.std.proofs.lemmas.Result.{err_from_is_err_and}
-use Rattle.std.proofs.lemmas.List.{length-map, take_more, take-append-drop}
+use Rattle.std.proofs.lemmas.List.{take_more, take-append-drop}
 use Rattle.sparse_lists.proofs.Merging.{drop_at, get_or_any}
 use Rattle.geo_poly.specs.declared.variables.Var.{Var}
 use Rattle.geo_poly.specs.declared.variables.Var.TheVariants.{R}
 use Rattle.geo_poly.specs.Polynomials.{Summands}
+use Rattle.geo_poly.specs.Specialise.{NoneZero}
+use Rattle.geo_sample.specs.declared.errors.SampleError.{SampleError}
 use Rattle.geo_sample.specs.Tries.{AreMade, EndIn, all_specialised, single_tries}
 use Rattle.geo_sample.specs.Samples.{specialised_by}
-use Rattle.geo_sample.proofs.TryEnds.{if_err}
-use Rattle.geo_sample.proofs.LeastSamples.{collected_by, collected_polynomials, single_try, more_single, stopped_single, specialised_by-append}
+use Rattle.geo_sample.proofs.TryEnds.{AreMade-nil, if_err}
+use Rattle.geo_sample.proofs.LeastSamples.{no_value, short_values, single_try, more_single, stopped_single, specialised_by-append}
 use Rattle.geo_sample.proofs.holding.numbers_hold.Goals as goal
 
 abbrev none : Var × ℤ
@@ -16,6 +19,28 @@ none = (R (record { 0 = 0 }) (record { 0 = 0 }) (record { 0 = 0 }) (record { 0 =
 
 parts : (xs : List (Var × ℤ)) (i : ℕ) → i < length xs → take i xs ++ get_or xs i none ∷ drop (i + 1) xs ≡ xs
 parts xs i lt = ap (λ (ys : List (Var × ℤ)). take i xs ++ ys) (sym (drop_at xs i (get_or xs i none) lt (get_or_any xs i none (get_or xs i none) lt))) ∙ take-append-drop i xs
+
+pub returns-then-is_empty-clause-hold : goal.returns-then-is_empty-clause-hold
+returns-then-is_empty-clause-hold c =
+    let none = no_value c.args.values.now (omega (arith, c.if-is_empty.true)) in
+    subst (λ (xs : List (Var × ℤ)). IsTrue c.none_zero.result ↔ NoneZero (specialised_by xs c.args.polys.now)) (sym none) c.none_zero.ensures
+
+pub returns-then-is_empty-clause-made : goal.returns-then-is_empty-clause-made
+returns-then-is_empty-clause-made c =
+    let left = c.args.budget.now.left in
+    let none = no_value c.args.values.now (omega (arith, c.if-is_empty.true)) in
+    subst (λ (xs : List (Var × ℤ)). AreMade left (single_tries xs c.args.polys.now) left) (sym none) (AreMade-nil left)
+
+pub returns-in_err-affordable-clause-stopped : goal.returns-in_err-affordable-clause-stopped
+returns-in_err-affordable-clause-stopped c =
+    let xs = c.args.values.now in
+    let ps = c.args.polys.now in
+    let left = c.args.budget.now.left in
+    let p = err_from_is_err_and c.from_residual.result c.from_residual.ensures.1 in
+    let spent = c.in_err-affordable.ensures.spent in
+    let some : 0 < length c.args.values.now = omega (arith, c.if-is_empty.false) in
+    if_err _ c.from_residual.result c.in_err-affordable.field-0.0 p.0 p.1 p.2
+    (subst (λ (e : SampleError). EndIn e left (single_tries xs ps) left) (sym spent.0) (short_values xs ps left some spent.1))
 
 pub returns-in_err-put_value-clause-stopped : goal.returns-in_err-put_value-clause-stopped
 returns-in_err-put_value-clause-stopped c =

@@ -1,17 +1,18 @@
-use Rattle.std.proofs.Common.{◌≡◌, ℕ, ◌+◌, ◌<◌, ◌^◌, ◌∷◌, ◌++◌, [], ℤ, pos, List, suc, All, unsigned_abs, length, get_or, take, drop, sym, ap, subst, ◌∙◌}
+use Rattle.std.proofs.Common.{◌≡◌, ℕ, ◌+◌, ◌<◌, ◌^◌, ◌∷◌, ◌++◌, [], ℤ, pos, List, suc, All, unsigned_abs, length, get_or, take, drop, sym, ap, subst, ◌∙◌, arith}
 use Rattle.std.proofs.lemmas.Result.{err_from_is_err_and}
-use Rattle.std.proofs.lemmas.List.{length-map, take_more, take-append-drop}
+use Rattle.std.proofs.lemmas.List.{take_more, take-append-drop}
 use Rattle.std.proofs.lemmas.List.Elements.{All-push}
 use Rattle.sparse_lists.proofs.Merging.{drop_at, get_or_any}
 use Rattle.geo_poly.specs.declared.variables.Var.{Var}
 use Rattle.geo_poly.specs.declared.variables.Var.TheVariants.{R}
 use Rattle.geo_poly.specs.Polynomials.{Summands}
 use Rattle.geo_poly.specs.Specialise.{IsCollected, NoneZero}
+use Rattle.geo_sample.specs.declared.errors.SampleError.{SampleError}
 use Rattle.geo_sample.specs.declared.errors.SampleError.TheVariants.{NoMemory}
 use Rattle.geo_sample.specs.Tries.{AreMade, EndIn, all_specialised, search_tries, tries_below}
 use Rattle.geo_sample.specs.Samples.{IsLeastValue, IsLeastSample, specialised_by, SearchEndsIn}
-use Rattle.geo_sample.proofs.TryEnds.{if_err}
-use Rattle.geo_sample.proofs.LeastSamples.{nothing_searched, collected_polynomials, collected_by, stopped_search, value_lost, more_sample, more_tries, specialised_by-append}
+use Rattle.geo_sample.proofs.TryEnds.{AreMade-nil, if_err}
+use Rattle.geo_sample.proofs.LeastSamples.{empty_sample, nothing_searched, short_search, collected_polynomials, collected_by, stopped_search, value_lost, more_sample, more_tries, specialised_by-append}
 use Rattle.geo_sample.proofs.sample.least_values.Goals as goal
 
 abbrev none : Var
@@ -20,10 +21,27 @@ none = R (record { 0 = 0 }) (record { 0 = 0 }) (record { 0 = 0 }) (record { 0 = 
 parts : (vs : List Var) (i : ℕ) → i < length vs → take i vs ++ get_or vs i none ∷ drop (i + 1) vs ≡ vs
 parts vs i lt = ap (λ (ws : List Var). take i vs ++ ws) (sym (drop_at vs i (get_or vs i none) lt (get_or_any vs i none (get_or vs i none) lt))) ∙ take-append-drop i vs
 
+pub returns-then-is_empty-clause-least : goal.returns-then-is_empty-clause-least
+returns-then-is_empty-clause-least c = empty_sample c.args.vars.now c.args.polys.now (omega (arith, c.if-is_empty.true))
+
+pub returns-then-is_empty-clause-made : goal.returns-then-is_empty-clause-made
+returns-then-is_empty-clause-made c = AreMade-nil c.args.budget.now.left
+
+pub returns-in_err-affordable-clause-stopped : goal.returns-in_err-affordable-clause-stopped
+returns-in_err-affordable-clause-stopped c =
+    let vs = c.args.vars.now in
+    let ps = c.args.polys.now in
+    let left = c.args.budget.now.left in
+    let p = err_from_is_err_and c.from_residual.result c.from_residual.ensures.1 in
+    let spent = c.in_err-affordable.ensures.spent in
+    let some : 0 < length c.args.vars.now = omega (arith, c.if-is_empty.false) in
+    if_err _ c.from_residual.result c.in_err-affordable.field-0.0 p.0 p.1 p.2
+    (subst (λ (e : SampleError). SearchEndsIn e vs ps left left) (sym spent.0) (short_search vs ps left (collected_polynomials ps c.are_valid.ensures.valid) c.requires some spent.1))
+
 pub returns-in_err-current-clause-stopped : goal.returns-in_err-current-clause-stopped
 returns-in_err-current-clause-stopped c =
-    let p = err_from_is_err_and c.from_residual.result c.from_residual.ensures.1 in
-    if_err _ c.from_residual.result _ p.0 p.1 p.2 (nothing_searched c.args.vars.now c.args.polys.now c.args.budget.now.left (collected_polynomials c.args.polys.now c.are_valid.ensures.valid) c.requires)
+    let p = err_from_is_err_and c.from_residual-in_err-current.result c.from_residual-in_err-current.ensures.1 in
+    if_err _ c.from_residual-in_err-current.result _ p.0 p.1 p.2 (nothing_searched c.args.vars.now c.args.polys.now c.args.budget.now.left (collected_polynomials c.args.polys.now c.are_valid.ensures.valid) c.requires)
 
 pub put_least_value-requires-clause-collected : goal.put_least_value-requires-clause-collected
 put_least_value-requires-clause-collected c =

@@ -11,9 +11,9 @@ pub returns-in_err-charge-clause-stopped : goal.returns-in_err-charge-clause-sto
 returns-in_err-charge-clause-stopped c =
     let left = c.args.budget.now.left in
     let t : Try = record { variable = c.args.v; number = c.args.number; polys = c.args.polys.now.items } in
-    let p = err_from_is_err_and c.from_residual-in_err-charge.result c.from_residual-in_err-charge.ensures.1 in
+    let p = err_from_is_err_and c.from_residual.result c.from_residual.ensures.1 in
     let spent = c.in_err-charge.ensures.spent in
-    if_err _ c.from_residual-in_err-charge.result c.in_err-charge.field-0.0 p.0 p.1 p.2
+    if_err _ c.from_residual.result c.in_err-charge.field-0.0 p.0 p.1 p.2
     (subst (λ (e : SampleError). EndIn e left (t ∷ []) left) (sym spent.0) (one_spent left t spent.1))
 
 pub returns-in_err-keeps-clause-stopped : goal.returns-in_err-keeps-clause-stopped
