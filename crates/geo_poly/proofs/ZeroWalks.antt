@@ -1,30 +1,36 @@
 -- The number 0 put for a variable: walks over a monomial by the numbers of its variables, and lists of terms that lack the variable.
-use Rattle.std.proofs.Common.{◌≡◌, ℕ, zero, suc, ◌+◌, ◌<◌, ◌≤◌, max, eqb, Bool, true, false, cond, ℤ, List, [], ◌∷◌, ◌++◌, Some, filter, length, take, drop, get_or, slice_get, refl, sym, ap, subst, ◌∙◌, arith}
+use Rattle.std.proofs.Common.{◌≡◌, ℕ, zero, suc, ◌+◌, ◌^◌, ◌<◌, ◌≤◌, pos, unsigned_abs, max, eqb, Bool, true, false, cond, ℤ, List, [], ◌∷◌, ◌++◌, Some, filter, length, take, drop, get_or, slice_get, refl, sym, ap, subst, ◌∙◌, arith}
 use Rattle.std.specs.Prelude.{◌↔◌, Contains, IsTrue}
 use Rattle.std.specs.List.Sorted.{IsStrictlySortedBy}
 use Rattle.std.specs.Ordering.{is_eq}
 use Rattle.std.specs.declared.cmp.Ordering.{Ordering}
 use Rattle.std.specs.declared.cmp.Ordering.TheVariants.{Less, Greater}
+use Rattle.std.proofs.lemmas.Bool.{false≢true}
 use Rattle.std.proofs.lemmas.Bool.Decides.{nat_tests}
-use Rattle.std.proofs.lemmas.List.{length-append, take-append-drop}
+use Rattle.std.proofs.lemmas.List.{get_or-drop, get_or-map, length-append, take-append-drop}
 use Rattle.std.proofs.lemmas.List.Elements.{filter-append}
 use Rattle.std.proofs.lemmas.Option.{get_or_from_slice_get, slice_get_within}
 use Rattle.sparse_lists.specs.SparseLists.{AllKeys, IsCanonical}
 use Rattle.sparse_lists.proofs.Canonical.{IsBefore_trans, amount-before, amount-head}
+use Rattle.sparse_lists.proofs.Sums.{AllKeys-at}
 use Rattle.mono_store.specs.declared.links.MonoId.{MonoId}
 use Rattle.mono_store.specs.Stores.{Links}
 use Rattle.geo_poly.specs.declared.variables.Var.{Var}
 use Rattle.geo_poly.specs.declared.variables.Var.TheVariants.{R}
 use Rattle.geo_poly.specs.Variables.{var_cmp}
-use Rattle.geo_poly.specs.Monomials.{Powers, exponent, exponents}
+use Rattle.geo_poly.specs.Inner.Parts.{lacks}
+use Rattle.geo_poly.specs.Monomials.{IsMonomial, Powers, exponent, exponents}
 use Rattle.geo_poly.specs.PolynomialVariables.{AllVariables}
-use Rattle.geo_poly.specs.Polynomials.{Summands}
-use Rattle.geo_poly.specs.Shared.{Indices, IsIndex, term_of, terms_of, var_at}
-use Rattle.geo_poly.specs.Specialise.{degree_in}
+use Rattle.geo_poly.specs.Polynomials.{IsPolynomial, Summands}
+use Rattle.geo_poly.specs.Shared.{Indices, IsIndex, IsShared, powers_at, term_of, terms_of, var_at}
+use Rattle.geo_poly.specs.Specialise.{degree_in, specialised, specialised_weight}
 use Rattle.geo_poly.proofs.EachVariable.{of-exponent}
 use Rattle.geo_poly.proofs.Naming.{rising_at}
 use Rattle.geo_poly.proofs.Orders.{exponents_add, var_order}
+use Rattle.geo_poly.proofs.SpecialisedLaws.{IsPolynomial-specialised, small_weight, specialised-lacking}
+use Rattle.geo_poly.proofs.Told.{length-terms_of}
 use Rattle.geo_poly.proofs.Unions.{known_variables}
+use Rattle.geo_poly.proofs.ZeroPut.{specialised-zero}
 
 abbrev none : Var
 none = R (record { 0 = 0 }) (record { 0 = 0 }) (record { 0 = 0 }) (record { 0 = 0 })
@@ -68,6 +74,21 @@ module _ (vars : List Var) (rising : IsStrictlySortedBy var_cmp vars) (j k e : �
             (λ f. absurd (let both : false ≡ true = f in cc), λ some. absurd (some (sym whole ∙ past later h)))
       ] refl
 
+-- the test of a term
+pub lacks_it : (v : Var) (t : Powers × ℤ) (r : Bool) → IsTrue r ↔ (exponent v t.0 ≡ 0 → ⊥) → r ≡ false → lacks v t ≡ true
+lacks_it v t r told f =
+    elim (eqb (exponent v t.0) 0) as (λ b. eqb (exponent v t.0) 0 ≡ b → b ≡ true) [
+      | true ↦ λ e. refl
+      | false ↦ λ e. let some : exponent v t.0 ≡ 0 → ⊥ = grind (arith, nat_tests, e) in absurd (false≢true (sym f ∙ told.1 some))
+    ] refl
+
+pub has_it : (v : Var) (t : Powers × ℤ) (r : Bool) → IsTrue r ↔ (exponent v t.0 ≡ 0 → ⊥) → r ≡ true → lacks v t ≡ false
+has_it v t r told f =
+    elim (eqb (exponent v t.0) 0) as (λ b. eqb (exponent v t.0) 0 ≡ b → b ≡ false) [
+      | true ↦ λ e. let nothing : exponent v t.0 ≡ 0 = grind (arith, nat_tests, e) in absurd (told.0 f nothing)
+      | false ↦ λ e. refl
+    ] refl
+
 -- TERMS
 module _ (f : Powers × ℤ → Bool) (p : Summands) (i : ℕ) (t : Powers × ℤ) (at : drop i p ≡ t ∷ drop (i + 1) p) where
   -- a term that passes is kept
@@ -100,6 +121,32 @@ AllKeys-filter P f (t ∷ ts) h =
       | false ↦ AllKeys-filter P f ts h.1
     ]
 
+-- an entry of a list of which the rest is as it was
+pub same_behind : (xs ys : Indices) (i : ℕ) (t : MonoId × ℤ) → drop i ys ≡ drop i xs → t ≡ get_or ys i t → t ≡ get_or xs i t
+same_behind xs ys i t e at = at ∙ sym (get_or-drop ys i 0 t) ∙ ap (λ (l : Indices). get_or l 0 t) e ∙ get_or-drop xs i 0 t
+
+pub index_in : (vars : List Var) (links : Links) (list : Indices) (i : ℕ) (t : MonoId × ℤ) → i < length list → t ≡ get_or list i t → IsShared vars links list → IsIndex vars links t.0
+index_in vars links list i t within at h = AllKeys-at (IsIndex vars links) list i t within at h.indices
+
+pub monomial_in : (vars : List Var) (links : Links) (list : Indices) (i : ℕ) (t : MonoId × ℤ) → i < length list → t ≡ get_or list i t → IsShared vars links list → IsMonomial (powers_at vars links t.0)
+monomial_in vars links list i t within at h =
+    AllKeys-at IsMonomial (terms_of vars links list) i (term_of vars links t) (omega (arith, within, length-terms_of vars links list))
+    (ap (term_of vars links) at ∙ sym (get_or-map (term_of vars links) list i t (term_of vars links t) within)) h.polynomial.monomials
+
+-- the terms that are kept
+pub kept_terms : (vars : List Var) (links : Links) (list : Indices) (v : Var) → IsShared vars links list → terms_of vars links (filter (λ t. lacks v (term_of vars links t)) list) ≡ specialised v (pos 0) (terms_of vars links list)
+kept_terms vars links list v h = terms_of-filter vars links (lacks v) list ∙ sym (specialised-zero v (terms_of vars links list) h.polynomial.in_order h.polynomial.monomials)
+
+pub kept_shared : (vars : List Var) (links : Links) (list : Indices) (v : Var) → IsShared vars links list → IsShared vars links (filter (λ t. lacks v (term_of vars links t)) list)
+kept_shared vars links list v h =
+    let small : unsigned_abs (pos 0) ≤ 1 = omega arith in
+    let light : specialised_weight v (pos 0) (terms_of vars links list) < 2 ^ 127 = omega (arith, small_weight v (pos 0) (terms_of vars links list) small, h.polynomial.norm_fits) in
+    record {
+      rising = h.rising;
+      indices = AllKeys-filter (IsIndex vars links) (λ t. lacks v (term_of vars links t)) list h.indices;
+      polynomial = subst IsPolynomial (sym (kept_terms vars links list v h)) (IsPolynomial-specialised v (pos 0) (terms_of vars links list) h.polynomial.monomials light);
+    }
+
 -- A VARIABLE THAT DOES NOT STAND IN THE LIST
 zero_or : (n : ℕ) → ((n ≡ 0 → ⊥) → ⊥) → n ≡ 0
 zero_or zero h = refl
@@ -114,3 +161,8 @@ no_degree vars v (t ∷ ts) out h =
 -- stands in no monomial
 pub absent : (vars : List Var) (links : Links) (list : Indices) (v : Var) → (Contains vars v → ⊥) → AllKeys (IsIndex vars links) list → degree_in v (terms_of vars links list) ≡ 0
 absent vars links list v out h = no_degree vars v (terms_of vars links list) out (known_variables vars links list h)
+
+-- so 0 for it changes nothing
+pub absent_zero : (vars : List Var) (links : Links) (list : Indices) (v : Var) → (Contains vars v → ⊥) → IsShared vars links list → specialised v (pos 0) (terms_of vars links list) ≡ terms_of vars links list
+absent_zero vars links list v out h =
+    specialised-lacking v (pos 0) (terms_of vars links list) (record { in_order = h.polynomial.in_order; monomials = h.polynomial.monomials }) (absent vars links list v out h.indices)

@@ -23,7 +23,7 @@ impl Poly {
         let p = &self.shared();
         match find_place(p.vars, v, 0) {
             Some(number) => all_have(p, number),
-            None => p.list.is_empty(),
+            None => self.is_zero(),
         }
     }
 }
