@@ -123,7 +123,9 @@ AllKeys-filter P f (t ∷ ts) h =
 
 -- an entry of a list of which the rest is as it was
 pub same_behind : (xs ys : Indices) (i : ℕ) (t : MonoId × ℤ) → drop i ys ≡ drop i xs → t ≡ get_or ys i t → t ≡ get_or xs i t
-same_behind xs ys i t e at = at ∙ sym (get_or-drop ys i 0 t) ∙ ap (λ (l : Indices). get_or l 0 t) e ∙ get_or-drop xs i 0 t
+same_behind xs ys i t e at =
+    let here : i + 0 ≡ i = omega arith in
+    at ∙ ap (λ n. get_or ys n t) (sym here) ∙ sym (get_or-drop i ys 0 t) ∙ ap (λ (l : Indices). get_or l 0 t) e ∙ get_or-drop i xs 0 t ∙ ap (λ n. get_or xs n t) here
 
 pub index_in : (vars : List Var) (links : Links) (list : Indices) (i : ℕ) (t : MonoId × ℤ) → i < length list → t ≡ get_or list i t → IsShared vars links list → IsIndex vars links t.0
 index_in vars links list i t within at h = AllKeys-at (IsIndex vars links) list i t within at h.indices

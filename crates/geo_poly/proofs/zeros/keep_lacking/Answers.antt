@@ -1,7 +1,7 @@
-use Rattle.std.proofs.Common.{◌≡◌, ◌<◌, false, true, length, arith}
-use Rattle.std.proofs.lemmas.List.Filters.{FiltersInPlace-more_no, FiltersInPlace-more_swap}
-use Rattle.geo_poly.specs.Shared.{term_of, var_at}
-use Rattle.geo_poly.proofs.ZeroWalks.{has_it, index_in, lacks_it, monomial_in, same_behind}
+use Rattle.std.proofs.Common.{◌≡◌, ◌<◌, false, true, length, sym, ap, subst, ◌∙◌, arith}
+use Rattle.std.proofs.lemmas.List.Filters.{FiltersInPlace-all, FiltersInPlace-more_no, FiltersInPlace-more_swap}
+use Rattle.geo_poly.specs.Shared.{IsShared, term_of, terms_of, var_at}
+use Rattle.geo_poly.proofs.ZeroWalks.{has_it, index_in, kept_shared, kept_terms, lacks_it, monomial_in, same_behind}
 use Rattle.geo_poly.proofs.zeros.keep_lacking.Goals.{then-not-has_number, else-not-has_number}
 use Rattle.geo_poly.proofs.zeros.keep_lacking.Goals as goal
 
@@ -32,3 +32,17 @@ loop-i-preserved c =
           let stands : c.has_number.result ≡ true = grind (arith, w.if-not-has_number.false) in
           rw (w.list-is, w.kept-is) (FiltersInPlace-more_no c.loop-i.invariant within (has_it v t c.has_number.result c.has_number.ensures stands) c.index.ensures)
     ]
+
+pub returns-clause-shared : goal.returns-clause-shared
+returns-clause-shared c =
+    let vars = c.args.vars.now in
+    let monos = c.args.monos.now in
+    let kept = c.truncate.ensures.items ∙ FiltersInPlace-all c.loop-i.invariant (omega (arith, c.loop-i-test.false, c.len-i-end.ensures)) in
+    subst (IsShared vars monos) (sym kept) (kept_shared vars monos c.args.list.now.items (var_at vars c.args.number) c.requires.shared)
+
+pub returns-clause-terms : goal.returns-clause-terms
+returns-clause-terms c =
+    let vars = c.args.vars.now in
+    let monos = c.args.monos.now in
+    let kept = c.truncate.ensures.items ∙ FiltersInPlace-all c.loop-i.invariant (omega (arith, c.loop-i-test.false, c.len-i-end.ensures)) in
+    ap (terms_of vars monos) kept ∙ kept_terms vars monos c.args.list.now.items (var_at vars c.args.number) c.requires.shared
