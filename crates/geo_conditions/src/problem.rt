@@ -53,7 +53,7 @@ impl Drop for Problem {
 /// over. After want of memory the lowered form is gone.
 pub fn list(alloc: Global, program: &Program, lowered: Lowered) -> Result<Problem, NoMemory>
     ensures { (version : Version)
-        → IsLowered version (source_of program.now) (form_of lowered.entry)
+        → IsLowered version (source_of program.now) (form_of lowered)
         → IfOk result (λ q.
         IsProblem version (source_of program.now) (form_of_problem q) q.conditions q.goals) }
 {
