@@ -1,6 +1,6 @@
 //! The numbers of steps that are known already.
 
-ghost use Rattle.std.specs.Prelude.{◌≡◌, ◌<◌, IfOk, OnOk, Some, length};
+ghost use Rattle.std.specs.Prelude.{◌≡◌, ◌<◌, IfOk, OnOk, Option, Some, length};
 ghost use Rattle.fraction_poly.specs.Forms.{step_number};
 ghost use Rattle.fraction_poly.specs.Inner.Drafts.{number_tree};
 ghost use Rattle.fraction_poly.specs.Inner.Known.{IsKnownOf, IsMade};
