@@ -81,7 +81,7 @@ def errors():
     expect("its words", str(error), "line 3, column 7: a word that is declared already")
     error = refused(jarduzki.SyntaxRefused, jarduzki.prove, b"% \xc3\xa9 point B" + b"\npoint")
     expect("the end of the text", (error.refusal, error.line, error.column), (4, 2, 6))
-    error = refused(jarduzki.Rejected, jarduzki.check, "geolog 1\n| point A\n")
+    error = refused(jarduzki.Rejected, jarduzki.check, "geolog 2\n| point A\n")
     expect("a log without a program", (error.line, error.reason), (3, 32))
     error = refused(jarduzki.Spent, jarduzki.prove, "point A point B midpoint M A B prove { collinear A M B }", steps=23)
     expect("steps that are spent", (error.line, error.log.splitlines()[-1]), (9, b"stop spent 9"))

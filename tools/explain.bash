@@ -64,7 +64,7 @@ explain_rejection() {
   elif [ "$4" = 21 ] && [ "$(wc -l <"$2")" -lt "$3" ]; then
     hint "this last line has no line feed"
   elif [ "$3:$4" = 1:21 ]; then
-    hint "this header is not the one that the program writes: of another version, or with a blank too many"
+    hint "this header is neither 'geolog 1' nor 'geolog 2': of a later version, or with a blank too many"
   elif [[ $(tail -n 1 -- "$2" | head -c 100 | tr -d '\000') == 'stop '* ]]; then
     hint "this log ends with a stop: its program was not decided, so there is nothing to accept"
   fi

@@ -1,6 +1,6 @@
-% false 1: not every triangle is isosceles; the circumcenter asks for one that is not flat
+% false 1: not every triangle is isosceles; the assumption asks for one that is not flat
 point A
 point B
 point C
-circumcenter Z A B C
+assume not_collinear A B C
 prove { same_length A B A C }

@@ -26,7 +26,7 @@ STEPS = {
     "oncircle": ["TRATIO", "FOOT", "PRATIO"],
     "second": ["FOOT", "PRATIO"],
     "cc": ["FOOT", "PRATIO"],
-    "weights": ["PRATIO", "PRATIO"],
+    "weights": ["WEIGHTS"],
 }
 QUANTITY = re.compile(r"([SPRxy])\(([^)]*)\)")
 

@@ -5,7 +5,7 @@ from quantities import area, difference, ratio
 
 
 class Command:
-    """How a command is read, and what it stands for. Capital letters are points, small ones lines, r is an expression."""
+    """How a command is read, and what it stands for. Capital letters are points, small ones lines, r and s are expressions."""
 
     def __init__(self, form, points="", conditions="", pair=""):
         self.form = form.split()
@@ -47,6 +47,10 @@ COMMANDS = {
     "second": Command("X A B O", "1 = FOOT(O,A,B); X = PRATIO(1,A,1,1)", "different A B, then different A X"),
     "cc": Command("X O P A", "1 = FOOT(A,O,P); X = PRATIO(1,A,1,1)", "different O P, then different A X"),
     "inverse": Command("X P O A", "X = PRATIO(O,O,P,P_OAO / P_OPO)", "different O P"),
+    "weights": Command("X A B C r s", "X = WEIGHTS(A,B,C,r,s)"),
+    "assume different": Command("A B", "", "different A B"),
+    "assume not_collinear": Command("A B C", "", "not_collinear A B C"),
+    "assume not_parallel": Command("A B C D", "", "not_parallel A B C D"),
 }
 
 # The commands that take a number of their own, t.

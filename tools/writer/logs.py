@@ -8,7 +8,7 @@ import random
 from polynomials import Polynomial, TooMuch
 from rows import free_row, point_row, ratio_rows
 
-HEADER = "geolog 1"
+HEADER = "geolog 2"
 # How many monomials this writer makes in one move.
 MOST_PRODUCTS = 3_000
 # The most that the absolute coefficients of a line may add up to.

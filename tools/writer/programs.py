@@ -7,10 +7,14 @@ from commands import COMMANDS, CONDITION_TERMS, GOAL_TERMS, HAVE_NUMBERS
 from polynomials import integer, variable_of
 from quantities import Fraction, area, difference, ratio
 
+# How many points each step names; its numbers stand behind them.
+STEP_POINTS = {"INTER": 4, "FOOT": 3, "PRATIO": 3, "TRATIO": 2, "WEIGHTS": 3}
+
 
 class Program:
-    """A program. A step is a tuple: ("free",), ("INTER", U, V, P, Q), ("FOOT", P, U, V), ("PRATIO", W, U, V, r) or ("TRATIO", U, V, r),
-    with the numbers of points and with a fraction r. A condition or goal is its text and the numerator of its term, each text once."""
+    """A program. A step is a tuple: ("free",), ("INTER", U, V, P, Q), ("FOOT", P, U, V), ("PRATIO", W, U, V, r), ("TRATIO", U, V, r) or
+    ("WEIGHTS", O, U, V, r, s), with the numbers of points and with fractions r and s. A condition or goal is its text and the numerator
+    of its term, each text once."""
 
     def __init__(self, text):
         self.lines = []
@@ -45,27 +49,32 @@ class Program:
     def read_command(self):
         start = self.next
         word = self.take()
+        if word == "assume":
+            word += f" {self.take()}"
         command = COMMANDS[word]
-        new = self.take()
-        known = {}
-        names = {command.form[0]: new}
-        for letter in command.form[1:]:
+        names, known = {}, {}
+        letters = iter(command.form)
+        new = None if word.startswith("assume ") else self.take()
+        if new is not None:
+            names[next(letters)] = new
+        for letter in letters:
             self.read_argument(letter, names, known)
         self.lines.append(self.since(start))
         if word == "point" and is_number(self.peek()):
             self.take(), self.take()
-        self.add_conditions(command.conditions[:1], names, known, new)
+        self.add_conditions(command.conditions[:1], names, known)
         if word in HAVE_NUMBERS:
             known["t"] = Fraction(variable_of("t", self.numbers))
             self.numbers += 1
         self.add_points(command, known)
-        self.declare(word, command, new, known)
-        self.add_conditions(command.conditions[1:], names, known, new)
+        if new is not None:
+            self.declare(word, command, new, known)
+        self.add_conditions(command.conditions[1:], names, known)
 
     def read_argument(self, letter, names, known):
         """Reads one argument: a point, a line, of which the letters of its pair become known, or an expression."""
-        if letter == "r":
-            known["r"] = self.expression()
+        if letter in "rs":
+            known[letter] = self.expression()
             return
         letter, _, pair = letter.partition(":")
         names[letter] = self.take()
@@ -82,8 +91,8 @@ class Program:
         for point in command.points:
             letter, kind, arguments = re.fullmatch(r"(\w) = (\w+)\((.*)\)", point).groups()
             arguments = arguments.split(",")
-            number = [number_of(arguments.pop(), known)] if kind in ("PRATIO", "TRATIO") else []
-            self.steps.append((kind, *(known[a] for a in arguments), *number))
+            points, numbers = arguments[: STEP_POINTS[kind]], arguments[STEP_POINTS[kind] :]
+            self.steps.append((kind, *(known[a] for a in points), *(number_of(a, known) for a in numbers)))
             known[letter] = len(self.steps) - 1
 
     def declare(self, word, command, new, known):
@@ -94,7 +103,7 @@ class Program:
         else:
             self.points[new] = known["X"]
 
-    def add_conditions(self, conditions, names, known, new):
+    def add_conditions(self, conditions, names, known):
         for condition in conditions:
             word, *letters = condition.split()
             text = " ".join([word, *(names[letter] for letter in letters)])
@@ -179,8 +188,8 @@ def is_number(token):
 
 
 def number_of(text, known):
-    """The number of a step: r, t, a whole number, a quotient of two, or a quotient of squares P_ABA / P_CDC."""
-    if text in ("r", "t"):
+    """A number of a step: r, s, t, a whole number, a quotient of two, or a quotient of squares P_ABA / P_CDC."""
+    if text in ("r", "s", "t"):
         return known[text]
     parts = []
     for part in re.split(" ?/ ?", text):

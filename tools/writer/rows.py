@@ -37,6 +37,10 @@ def linear_row(step, quantity, g, others):
         _, w, u, v, r = step
         n, d = r.numerator, r.denominator
         return d * g(w) + n * g(v) - n * g(u), d, 1
+    if step[0] == "WEIGHTS":
+        _, o, u, v, *_ = step
+        at_o, at_u, at_v, whole = weights_of(step)
+        return at_o * g(o) + at_u * g(u) + at_v * g(v), whole, 1
     _, u, v, r = step
     n, d = r.numerator, r.denominator
     if quantity == "area":
@@ -60,6 +64,11 @@ def quadratic_row(step, g, ends):
         n, d = r.numerator, r.denominator
         turned = g(v) - g(u) + 2 * difference(w, u, v)
         return d * d * g(w) + n * d * turned - n * (d - n) * difference(u, v, u), d, 2
+    if step[0] == "WEIGHTS":
+        _, o, u, v, *_ = step
+        at_o, at_u, at_v, whole = weights_of(step)
+        pairs = at_o * at_u * difference(o, u, o) + at_o * at_v * difference(o, v, o) + at_u * at_v * difference(u, v, u)
+        return whole * (at_o * g(o) + at_u * g(u) + at_v * g(v)) - pairs, whole, 2
     _, u, v, r = step
     n, d = r.numerator, r.denominator
     return (
@@ -67,6 +76,14 @@ def quadratic_row(step, g, ends):
         4 * d,
         2,
     )
+
+
+def weights_of(step):
+    """The weights of O, U and V in a WEIGHTS step, and what they add up to: its numbers r and s with one denominator."""
+    r, s = step[4:]
+    at_u, at_v = r.numerator * s.denominator, s.numerator * r.denominator
+    whole = r.denominator * s.denominator
+    return whole - at_u - at_v, at_u, at_v, whole
 
 
 def ratio_rows(variable, steps):

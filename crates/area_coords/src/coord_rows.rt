@@ -4,14 +4,15 @@ ghost use Rattle.std.specs.Prelude.{◌≡◌, ◌<◌, ◌&&◌, IfOk, length, 
 ghost use Rattle.std.specs.Option.{ForSome};
 ghost use Rattle.area_coords.specs.FreeTable.{area_in_coordinates, difference_in_coordinates};
 ghost use Rattle.area_coords.specs.FreeTable.{free_table, is_free};
-ghost use Rattle.fraction_poly.specs.Inner.Drafts.{form_of, row_of_draft};
+ghost use Rattle.fraction_poly.specs.declared.drafts.Number.{Number};
+ghost use Rattle.fraction_poly.specs.Inner.Drafts.{HasItsNumbers, form_of, row_of_draft};
 ghost use Rattle.fraction_poly.specs.Forms.{abscissa, ordinate, ◌⊞◌, ◌⊟◌, ◌⊠◌};
 ghost use Rattle.geo_terms.specs.Trees.{Tree};
 ghost use Rattle.fraction_poly.specs.TableRows.{HasPointsBelow};
 
-use fraction_poly::{Draft, RowDraft, RowNumbers, Rows, draft_numbers, draft_row};
+use fraction_poly::{Draft, RowDraft, Rows, StepTerms};
 use geo_points::{NoMemory, PointId};
-use geo_poly::{Piece, Row, Var};
+use geo_poly::Var;
 use geo_terms::{Step, Steps};
 use std::alloc::Global;
 
@@ -28,26 +29,14 @@ impl Rows for CoordRows {
 
     ghost looks = { λ _. false };
 
-    fn numbers(
+    fn draft(
         &self,
         alloc: Global,
         steps: &Steps,
         at: PointId,
         var: Var,
-    ) -> Result<Option<RowNumbers>, NoMemory> {
-        let row = free_row(alloc, steps, at, var)?;
-        draft_numbers(alloc, steps, row)
-    }
-
-    fn row(
-        &self,
-        alloc: Global,
-        steps: &Steps,
-        at: PointId,
-        var: Var,
-    ) -> Result<(Row, Piece), NoMemory> {
-        let row = free_row(alloc, steps, at, var)?;
-        draft_row(alloc, steps, var, row)
+    ) -> Result<Option<RowDraft>, NoMemory> {
+        free_row(alloc, steps, at, var)
     }
 }
 
@@ -62,7 +51,7 @@ fn free_row(
     requires { HasPointsBelow (length steps.now.steps) var }
     ensures row { IfOk result (λ o. option_map (row_of_draft steps.now.nodes) o
         ≡ free_table steps.now _at var) }
-    ensures number { IfOk result (λ o. ForSome o (λ d. d.number ≡ None)) }
+    ensures numbers { IfOk result (λ o. ForSome o (HasItsNumbers steps.now.nodes)) }
 {
     let (power, num) = match var {
         Var::S(a, b, c) if are_free(steps, a, b, c) => (1, area_in_coordinates(alloc, a, b, c)?),
@@ -75,7 +64,7 @@ fn free_row(
         power,
         num,
         den: Draft::Integer(2),
-        number: None,
+        terms: StepTerms::none(),
     }))
 }
 
@@ -98,7 +87,7 @@ fn is_free(steps: &Steps, a: PointId) -> bool
 
 /// `x_A y_B - x_A y_C - y_A x_B + y_A x_C + x_B y_C - y_B x_C`.
 fn area_in_coordinates(alloc: Global, a: PointId, b: PointId, c: PointId) -> Result<Draft, NoMemory>
-    ensures { IfOk result (λ d. (e : Tree) → form_of e d ≡ area_in_coordinates a b c) }
+    ensures { IfOk result (λ d. (e : Number → Tree) → form_of e d ≡ area_in_coordinates a b c) }
 {
     let front = products_from(alloc, a, b, c)?;
     let bc = Draft::Abscissa(b).times(alloc, Draft::Ordinate(c))?;
@@ -108,7 +97,7 @@ fn area_in_coordinates(alloc: Global, a: PointId, b: PointId, c: PointId) -> Res
 
 /// `x_A y_B - x_A y_C - y_A x_B + y_A x_C`.
 fn products_from(alloc: Global, a: PointId, b: PointId, c: PointId) -> Result<Draft, NoMemory>
-    ensures { IfOk result (λ d. (e : Tree) → form_of e d
+    ensures { IfOk result (λ d. (e : Number → Tree) → form_of e d
         ≡ abscissa a ⊠ ordinate b ⊟ abscissa a ⊠ ordinate c
         ⊟ ordinate a ⊠ abscissa b ⊞ ordinate a ⊠ abscissa c) }
 {
@@ -126,7 +115,7 @@ fn difference_in_coordinates(
     b: PointId,
     c: PointId,
 ) -> Result<Draft, NoMemory>
-    ensures { IfOk result (λ d. (e : Tree) → form_of e d ≡ difference_in_coordinates a b c) }
+    ensures { IfOk result (λ d. (e : Number → Tree) → form_of e d ≡ difference_in_coordinates a b c) }
 {
     let across = products_across(alloc, a, b, c)?;
     let all = with_products_upward(alloc, across, a, b, c)?;
@@ -141,7 +130,7 @@ fn with_products_upward(
     b: PointId,
     c: PointId,
 ) -> Result<Draft, NoMemory>
-    ensures { IfOk result (λ d. (e : Tree) → form_of e d ≡ form_of e front
+    ensures { IfOk result (λ d. (e : Number → Tree) → form_of e d ≡ form_of e front
         ⊞ ordinate a ⊠ ordinate c ⊟ ordinate a ⊠ ordinate b
         ⊟ ordinate b ⊠ ordinate c ⊞ ordinate b ⊠ ordinate b) }
 {
@@ -155,7 +144,7 @@ fn with_products_upward(
 
 /// `x_A x_C - x_A x_B - x_B x_C + x_B x_B`.
 fn products_across(alloc: Global, a: PointId, b: PointId, c: PointId) -> Result<Draft, NoMemory>
-    ensures { IfOk result (λ d. (e : Tree) → form_of e d
+    ensures { IfOk result (λ d. (e : Number → Tree) → form_of e d
         ≡ abscissa a ⊠ abscissa c ⊟ abscissa a ⊠ abscissa b
         ⊟ abscissa b ⊠ abscissa c ⊞ abscissa b ⊠ abscissa b) }
 {

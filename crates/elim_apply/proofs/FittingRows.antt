@@ -1,21 +1,20 @@
 -- The rows of a move whose line is within its limits.
-use Rattle.std.proofs.Common.{◌≡◌, ℕ, ◌^◌, ◌<◌, ◌≤◌, Option, Some, None, List, [], ◌∷◌, sym, ap, length, arith}
-use Rattle.std.specs.Prelude.{All, IfSome}
+use Rattle.std.proofs.Common.{◌≡◌, ℕ, ◌^◌, ◌<◌, ◌≤◌, Option, Some, None, List, [], ◌∷◌, sym, ap, arith}
+use Rattle.std.specs.Prelude.{IfSome}
 use Rattle.std.specs.List.{filter_map}
 use Rattle.std.specs.Option.{option_map}
-use Rattle.fraction_poly.specs.TableRows.{HasPointsBelow, TableRow, made_row}
+use Rattle.fraction_poly.specs.TableRows.{TableRow, made_row}
 use Rattle.geo_poly.specs.declared.replacement.Row.{Row}
 use Rattle.geo_poly.specs.declared.variables.Var.{Var}
 use Rattle.geo_poly.specs.Polynomials.{Summands, IsPolynomial}
-use Rattle.geo_poly.specs.PolynomialVariables.{AllVariables, variables_of}
+use Rattle.geo_poly.specs.PolynomialVariables.{variables_of}
 use Rattle.geo_poly.specs.Replace.{replaced_degree, replaced_weight, row_of}
 use Rattle.geo_poly.proofs.EachVariable.{EachIn, each-variables}
 use Rattle.geo_terms.specs.Constructions.{Construction}
 use Rattle.geo_logs.specs.declared.moves.Move.{Move}
 use Rattle.elim_apply.specs.LemmaTable.{lemma_table, row_of_move}
-use Rattle.elim_apply.specs.Inner.Sketches.{CanMakeRow, numbered_row}
 use Rattle.elim_apply.proofs.LineBounds.{RowWithin, Within, line_within, rows_each}
-use Rattle.elim_apply.proofs.NumberedRows.{HasFittingRow, NumeratorFits, can_make, denominator_bounded, rows_bounded}
+use Rattle.elim_apply.proofs.NumberedRows.{HasFittingRow, NumeratorFits, denominator_bounded, rows_bounded}
 
 module _ (c : Construction) (move : Move) where
   abbrev row : Var → Option Row
@@ -42,16 +41,11 @@ module _ (c : Construction) (move : Move) where
     each_fits most top h g [] w = tt
     each_fits most top h g (v ∷ vs) w = (some_fits most top (row_of rows v) h g w.0, each_fits most top h g vs w.1)
 
-    fitting : replaced_weight rows (lemma_table.denominator c move) q < 2 ^ 127 → replaced_degree rows (lemma_table.denominator c move) q ≤ 65535 → EachIn (HasFittingRow c move) (variables_of q)
+    -- each row of the line is within the bounds of a polynomial
+    pub fitting : replaced_weight rows (lemma_table.denominator c move) q < 2 ^ 127 → replaced_degree rows (lemma_table.denominator c move) q ≤ 65535 → EachIn (HasFittingRow c move) (variables_of q)
     fitting weight degree =
         let bounded = rows_bounded c move (variables_of q) in
         let most = replaced_weight rows (lemma_table.denominator c move) q in
         let top = replaced_degree rows (lemma_table.denominator c move) q in
         rows_each row own (NumeratorFits c move) (variables_of q)
         (each_fits most top weight degree (variables_of q) (each-variables (Within rows bounded most top) q (line_within rows bounded (lemma_table.denominator c move) (denominator_bounded c move) q valid)))
-
-    -- each row of the line may be multiplied out
-    pub line_rows : AllVariables (HasPointsBelow (length c.steps)) q → replaced_weight rows (lemma_table.denominator c move) q < 2 ^ 127 → replaced_degree rows (lemma_table.denominator c move) q ≤ 65535
-        → All (CanMakeRow c move) (filter_map (numbered_row c move) (variables_of q))
-    line_rows points weight degree =
-        can_make c move (variables_of q) (each-variables (HasPointsBelow (length c.steps)) q points) (fitting weight degree)

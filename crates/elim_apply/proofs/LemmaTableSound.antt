@@ -19,7 +19,7 @@ use Rattle.geo_poly.specs.declared.variables.Var.TheVariants.{R, S, P, X, Y, T}
 use Rattle.geo_poly.specs.Variables.{var_cmp}
 use Rattle.geo_poly.proofs.CanonicalRatios.{canonical_ratio-defined}
 use Rattle.geo_terms.specs.declared.steps.Step.{Step}
-use Rattle.geo_terms.specs.declared.steps.Step.TheVariants.{Pratio, Point as FreeStep, Inter, Foot, Tratio}
+use Rattle.geo_terms.specs.declared.steps.Step.TheVariants.{Pratio, Point as FreeStep, Inter, Foot, Tratio, Weights}
 use Rattle.geo_terms.specs.Constructions.{Construction, IsStepMet}
 use Rattle.geo_terms.specs.Stores.{tree_of}
 use Rattle.geo_terms.specs.Trees.{Tree, IsStepNumber, integer_leaf, parameter_leaf, area_leaf, pythagoras_leaf, ratio_leaf, negation, addition, subtraction, multiplication, division}
@@ -186,6 +186,7 @@ module _ (c : Construction) where
   quadratic_den (Foot p u v) a b = refl
   quadratic_den (Pratio w u v r) a b = refl
   quadratic_den (Tratio u v r) a b = refl
+  quadratic_den (Weights o u v r s) a b = refl
 
   difference_den : (y i j k : PointId) → IfSome (difference_table c y (P i j k)) (λ t. t.den ≡ point_denominator c (slice_get c.steps y.0))
   difference_den y i j k = go (slice_get c.steps y.0)

@@ -14,3 +14,4 @@ pub mod FirstRows
 pub mod HandedOn
 pub mod SketchedLines
 pub mod AppliedMoves
+pub mod DraftedLines

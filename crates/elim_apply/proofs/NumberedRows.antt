@@ -1,17 +1,17 @@
 -- The rows that a move has for a list of variables, and their numbers.
-use Rattle.std.proofs.Common.{◌≡◌, ℕ, ◌+◌, ◌^◌, ◌<◌, ◌≤◌, Option, Some, None, List, [], ◌∷◌, ◌++◌, length, get_or, take, map, refl, sym, ap, subst, ◌∙◌, arith}
+use Rattle.std.proofs.Common.{◌≡◌, ℕ, ◌+◌, ◌^◌, ◌<◌, ◌≤◌, Option, Some, None, List, [], ◌∷◌, ◌++◌, length, get_or, take, map, refl, sym, ap, ap₂, subst, ◌∙◌, arith}
 use Rattle.std.specs.Prelude.{All, IfSome, IsSomeAnd}
 use Rattle.std.specs.List.{cons_option, filter_map}
 use Rattle.std.specs.Option.{option_map}
-use Rattle.std.proofs.lemmas.List.{append-nil, map_more, take_more}
-use Rattle.std.proofs.lemmas.List.Elements.{All-cons, All-nil, filter_map-append}
-use Rattle.fraction_poly.specs.declared.table.RowNumbers.{RowNumbers}
+use Rattle.std.proofs.lemmas.List.{append-nil, map-append, take_more}
+use Rattle.std.proofs.lemmas.List.Elements.{All-cons, All-head, All-nil, All-tail, filter_map-append}
+use Rattle.fraction_poly.specs.declared.drafts.RowDraft.{RowDraft}
+use Rattle.fraction_poly.specs.Inner.Drafts.{row_of_draft}
 use Rattle.fraction_poly.specs.Forms.{Form, piece_of}
 use Rattle.fraction_poly.specs.Measures.{capped_number}
-use Rattle.fraction_poly.specs.TableRows.{AreLight, HasPointsBelow, RowFits, TableRow, made_row, row_numbers}
+use Rattle.fraction_poly.specs.TableRows.{AreLight, RowFits, TableRow, made_row, row_numbers}
 use Rattle.fraction_poly.proofs.PieceBounds.{bounded_form}
 use Rattle.fraction_poly.proofs.TableLemmas.{fits_of_numbers}
-use Rattle.geo_poly.specs.declared.replacement.Piece.{Piece}
 use Rattle.geo_poly.specs.declared.replacement.Row.{Row}
 use Rattle.geo_poly.specs.declared.variables.Var.{Var}
 use Rattle.geo_poly.specs.declared.variables.Var.TheVariants.{R, S, P, X, Y, T}
@@ -28,9 +28,10 @@ use Rattle.elim_ratio.proofs.RatioSoundness.{ratio_rows_light}
 use Rattle.elim_ratio.specs.RatioTable.{ratio_table}
 use Rattle.geo_logs.specs.declared.moves.Move.{Move}
 use Rattle.geo_logs.specs.declared.moves.Move.TheVariants.{Ratio, Point, Coords}
+use Rattle.elim_apply.specs.declared.drafted.DraftedRow.{DraftedRow}
 use Rattle.elim_apply.specs.declared.numbered.NumberedRow.{NumberedRow}
 use Rattle.elim_apply.specs.LemmaTable.{lemma_table, move_denominator, row_of_move}
-use Rattle.elim_apply.specs.Inner.Sketches.{CanMakeRow, numbered_row, sketched_denominator, sketches}
+use Rattle.elim_apply.specs.Inner.Sketches.{CanMakeRow, HasNumbers, made_draft, named_draft, named_row, numbered_draft, numbered_row, sketched_denominator, sketches}
 use Rattle.elim_apply.proofs.CappedRows.{capped_piece, capped_row, capped_rows}
 use Rattle.elim_apply.proofs.LemmaTableSound.{by_own, some_of}
 use Rattle.elim_apply.proofs.TableCharges.{denominators_agree}
@@ -38,6 +39,20 @@ use Rattle.elim_apply.proofs.TableCharges.{denominators_agree}
 each_row : (o : Option TableRow) (Q : TableRow → Type 0) → ((t : TableRow) → o ≡ Some t → Q t) → IfSome o Q
 each_row None Q h = tt
 each_row (Some t) Q h = h t refl
+
+map_map : {A B C : Type 0} (g : B → C) (f : A → B) (xs : List A) → map g (map f xs) ≡ map (λ x. g (f x)) xs
+map_map g f [] = refl
+map_map g f (x ∷ xs) = ap (λ ys. g (f x) ∷ ys) (map_map g f xs)
+
+-- what holds of each image holds of the things
+pub unmapped : {A B : Type 0} (f : A → B) (Holds : B → Type 0) (xs : List A) → All Holds (map f xs) → All (λ x. Holds (f x)) xs
+unmapped f Holds [] h = All-nil (λ x. Holds (f x))
+unmapped f Holds (x ∷ xs) h = All-cons (λ x. Holds (f x)) x xs (All-head Holds (f x) (map f xs) h) (unmapped f Holds xs (All-tail Holds (f x) (map f xs) h))
+
+both_all : {A : Type 0} (Holds Also : A → Type 0) (xs : List A) → All Holds xs → All Also xs → All (λ x. Holds x × Also x) xs
+both_all Holds Also [] h g = All-nil (λ x. Holds x × Also x)
+both_all Holds Also (x ∷ xs) h g =
+    All-cons (λ x. Holds x × Also x) x xs (All-head Holds x xs h, All-head Also x xs g) (both_all Holds Also xs (All-tail Holds x xs h) (All-tail Also x xs g))
 
 module _ (c : Construction) (move : Move) where
   abbrev row : Var → Option Row
@@ -69,36 +84,36 @@ module _ (c : Construction) (move : Move) where
       go None h = h
       go (Some t) h = ap (λ (rs : List Row). capped_row (made_row v t).0 ∷ rs) h
 
-  -- and their variables have these rows
-  pub names_are : (vs : List Var) → filter_map row (map (λ (n : NumberedRow). n.var) (filter_map (numbered_row c move) vs)) ≡ filter_map row vs
-  names_are [] = refl
-  names_are (v ∷ vs) = go (row_of_move c move v) refl (names_are vs)
+  -- the rows with their variables tell the numbers, and the rows
+  pub numbers_named : (vs : List Var)
+      → map {B = NumberedRow} (λ (p : Var × TableRow). record { var = p.0; numbers = row_numbers p.1 }) (filter_map (named_row c move) vs) ≡ filter_map (numbered_row c move) vs
+  numbers_named [] = refl
+  numbers_named (v ∷ vs) = go (row_of_move c move v) (numbers_named vs)
     where
-      go : (o : Option TableRow) → row_of_move c move v ≡ o
-          → filter_map row (map (λ (n : NumberedRow). n.var) (filter_map (numbered_row c move) vs)) ≡ filter_map row vs
-          → filter_map row (map (λ (n : NumberedRow). n.var) (cons_option (option_map (λ t. record { var = v; numbers = row_numbers t }) o) (filter_map (numbered_row c move) vs)))
+      go : (o : Option TableRow)
+          → map {B = NumberedRow} (λ (p : Var × TableRow). record { var = p.0; numbers = row_numbers p.1 }) (filter_map (named_row c move) vs) ≡ filter_map (numbered_row c move) vs
+          → map {B = NumberedRow} (λ (p : Var × TableRow). record { var = p.0; numbers = row_numbers p.1 }) (cons_option (option_map (λ t. (v, t)) o) (filter_map (named_row c move) vs))
+          ≡ cons_option (option_map (λ t. record { var = v; numbers = row_numbers t }) o) (filter_map (numbered_row c move) vs)
+      go None h = h
+      go (Some t) h = ap (λ (ns : List NumberedRow). record { var = v; numbers = row_numbers t } ∷ ns) h
+
+  pub rows_named : (vs : List Var) → map (λ (p : Var × TableRow). (made_row p.0 p.1).0) (filter_map (named_row c move) vs) ≡ filter_map row vs
+  rows_named [] = refl
+  rows_named (v ∷ vs) = go (row_of_move c move v) (rows_named vs)
+    where
+      go : (o : Option TableRow) → map (λ (p : Var × TableRow). (made_row p.0 p.1).0) (filter_map (named_row c move) vs) ≡ filter_map row vs
+          → map (λ (p : Var × TableRow). (made_row p.0 p.1).0) (cons_option (option_map (λ t. (v, t)) o) (filter_map (named_row c move) vs))
           ≡ cons_option (option_map (λ t. (made_row v t).0) o) (filter_map row vs)
-      go None e h = h
-      go (Some t) e h =
-          ap (λ (o : Option TableRow). cons_option (option_map (λ t. (made_row v t).0) o) (filter_map row (map (λ (n : NumberedRow). n.var) (filter_map (numbered_row c move) vs)))) e
-          ∙ ap (λ (rs : List Row). (made_row v t).0 ∷ rs) h
+      go None h = h
+      go (Some t) h = ap (λ (rs : List Row). (made_row v t).0 ∷ rs) h
 
-  -- the numbers of one variable
-  pub numbered_some : (v : Var) (o : Option RowNumbers) (n : RowNumbers) → o ≡ option_map row_numbers (row_of_move c move v) → o ≡ Some n
-      → numbered_row c move v ≡ Some (record { var = v; numbers = n })
-  numbered_some v o n is some = go (row_of_move c move v) (sym some ∙ is)
-    where
-      go : (q : Option TableRow) → Some n ≡ option_map row_numbers q
-          → option_map {U = NumberedRow} (λ t. record { var = v; numbers = row_numbers t }) q ≡ Some (record { var = v; numbers = n })
-      go None e = absurd (cc)
-      go (Some t) e = let same : row_numbers t ≡ n = cc in ap (λ (m : RowNumbers). let n : NumberedRow = record { var = v; numbers = m } in Some n) same
+  -- the row of one variable
+  pub named_some : (v : Var) (o : Option RowDraft) (d : RowDraft) → option_map (row_of_draft c.nodes) o ≡ row_of_move c move v → o ≡ Some d
+      → named_row c move v ≡ Some (v, row_of_draft c.nodes d)
+  named_some v o d is some = ap (option_map (λ t. (v, t))) (sym is ∙ ap (option_map (row_of_draft c.nodes)) some)
 
-  pub numbered_none : (v : Var) (o : Option RowNumbers) → o ≡ option_map row_numbers (row_of_move c move v) → o ≡ None → numbered_row c move v ≡ None
-  numbered_none v o is none = go (row_of_move c move v) (sym none ∙ is)
-    where
-      go : (q : Option TableRow) → None ≡ option_map row_numbers q → option_map {U = NumberedRow} (λ t. record { var = v; numbers = row_numbers t }) q ≡ None
-      go None e = refl
-      go (Some t) e = absurd (cc)
+  pub named_none : (v : Var) (o : Option RowDraft) → option_map (row_of_draft c.nodes) o ≡ row_of_move c move v → o ≡ None → named_row c move v ≡ None
+  named_none v o is none = ap (option_map (λ t. (v, t))) (sym is ∙ ap (option_map (row_of_draft c.nodes)) none)
 
   -- where there are no numbers there are no rows
   no_rows : (rows : List Row) → capped_rows rows ≡ [] → rows ≡ []
@@ -143,25 +158,6 @@ module _ (c : Construction) (move : Move) where
   pub sketches_small : (vs : List Var) → AllPowersSmall (sketches (filter_map (numbered_row c move) vs))
   sketches_small vs = subst AllPowersSmall (sym (sketches_are vs)) (capped_small (filter_map row vs) (rows_small vs))
 
-  -- a row that was made
-  pub made_is : (v : Var) (r : Row × Piece) → IsSomeAnd (row_of_move c move v) RowFits → IfSome (row_of_move c move v) (λ t. r ≡ made_row v t)
-      → (row v ≡ Some r.0) × (r.1 ≡ lemma_table.denominator c move)
-  made_is v r = go (row_of_move c move v) refl
-    where
-      go : (o : Option TableRow) → row_of_move c move v ≡ o → IsSomeAnd o RowFits → IfSome o (λ t. r ≡ made_row v t) → (row v ≡ Some r.0) × (r.1 ≡ lemma_table.denominator c move)
-      go None e fits is = absurd fits
-      go (Some t) e fits is = (
-        ap (option_map (λ t. (made_row v t).0)) e ∙ ap (λ (x : Row × Piece). Some x.0) (sym is),
-        ap (λ (x : Row × Piece). x.1) is ∙ ap piece_of (denominators_agree c move v t e).0,
-      )
-
-  -- the rows of one more variable of a list of numbers
-  pub names_more : (rows : List NumberedRow) (i : ℕ) (d : NumberedRow) (r : Row) → i < length rows → row (get_or rows i d).var ≡ Some r
-      → filter_map row (map (λ (n : NumberedRow). n.var) (take (i + 1) rows)) ≡ filter_map row (map (λ (n : NumberedRow). n.var) (take i rows)) ++ r ∷ []
-  names_more rows i d r lt is =
-      ap (filter_map row) (map_more (λ (n : NumberedRow). n.var) rows i d lt) ∙ filter_map-append row (map (λ (n : NumberedRow). n.var) (take i rows)) ((get_or rows i d).var ∷ [])
-      ∙ ap (λ (o : Option Row). filter_map row (map (λ (n : NumberedRow). n.var) (take i rows)) ++ cons_option o []) is
-
   -- the numbers of the denominator, and the charge
   pub record HasDenominator (n : NumberedRow) : Type 0 where
     pub den : sketched_denominator n.numbers ≡ capped_piece (lemma_table.denominator c move)
@@ -189,19 +185,61 @@ module _ (c : Construction) (move : Move) where
   abbrev pub HasFittingRow : Var → Type 0
   HasFittingRow v = (r : Row) → row v ≡ Some r → NumeratorFits r
 
-  pub can_make : (vs : List Var) → EachIn (HasPointsBelow (length c.steps)) vs → EachIn HasFittingRow vs → All (CanMakeRow c move) (filter_map (numbered_row c move) vs)
-  can_make [] points fits = All-nil (CanMakeRow c move)
-  can_make (v ∷ vs) points fits = go (row_of_move c move v) refl (can_make vs points.1 fits.1)
+  pub named_fit : (vs : List Var) → EachIn HasFittingRow vs → All (λ (p : Var × TableRow). RowFits p.1) (filter_map (named_row c move) vs)
+  named_fit [] fits = All-nil (λ (p : Var × TableRow). RowFits p.1)
+  named_fit (v ∷ vs) fits = go (row_of_move c move v) refl (named_fit vs fits.1)
     where
-      go : (o : Option TableRow) → row_of_move c move v ≡ o → All (CanMakeRow c move) (filter_map (numbered_row c move) vs)
-          → All (CanMakeRow c move) (cons_option (option_map (λ t. record { var = v; numbers = row_numbers t }) o) (filter_map (numbered_row c move) vs))
+      go : (o : Option TableRow) → row_of_move c move v ≡ o → All (λ (p : Var × TableRow). RowFits p.1) (filter_map (named_row c move) vs)
+          → All (λ (p : Var × TableRow). RowFits p.1) (cons_option (option_map (λ t. (v, t)) o) (filter_map (named_row c move) vs))
       go None e h = h
       go (Some t) e h =
           let light : AreLight (row_numbers t) = some_of (row_of_move c move v) t (λ t. AreLight (row_numbers t)) e (light_rows v) in
           let fit : NumeratorFits (made_row v t).0 = fits.0 (made_row v t).0 (ap (option_map (λ t. (made_row v t).0)) e) in
           let row : IsSomeAnd (Some t) RowFits = fits_of_numbers (Some t) (row_numbers t) refl (omega (arith, fit.weight)) (omega (arith, fit.degree)) light in
-          All-cons (CanMakeRow c move) (record { var = v; numbers = row_numbers t }) (filter_map (numbered_row c move) vs)
-          (points.0, subst (λ (o : Option TableRow). IsSomeAnd o RowFits) (sym e) row) h
+          All-cons (λ (p : Var × TableRow). RowFits p.1) (v, t) (filter_map (named_row c move) vs) row h
+
+  -- all over one denominator
+  pub named_over_one : (vs : List Var) → All (λ (p : Var × TableRow). p.1.den ≡ move_denominator c move) (filter_map (named_row c move) vs)
+  named_over_one [] = All-nil (λ (p : Var × TableRow). p.1.den ≡ move_denominator c move)
+  named_over_one (v ∷ vs) = go (row_of_move c move v) refl (named_over_one vs)
+    where
+      go : (o : Option TableRow) → row_of_move c move v ≡ o → All (λ (p : Var × TableRow). p.1.den ≡ move_denominator c move) (filter_map (named_row c move) vs)
+          → All (λ (p : Var × TableRow). p.1.den ≡ move_denominator c move) (cons_option (option_map (λ t. (v, t)) o) (filter_map (named_row c move) vs))
+      go None e h = h
+      go (Some t) e h = All-cons (λ (p : Var × TableRow). p.1.den ≡ move_denominator c move) (v, t) (filter_map (named_row c move) vs) (denominators_agree c move v t e).0 h
+
+  -- THE DRAFTS OF A LINE, which are the rows of its variables
+  module _ (vs : List Var) (drafts : List DraftedRow) (are : map (named_draft c.nodes) drafts ≡ filter_map (named_row c move) vs) where
+    pub drafts_numbered : map (numbered_draft c.nodes) drafts ≡ filter_map (numbered_row c move) vs
+    drafts_numbered =
+        sym (map_map (λ (p : Var × TableRow). let n : NumberedRow = record { var = p.0; numbers = row_numbers p.1 } in n) (named_draft c.nodes) drafts)
+        ∙ ap (map (λ (p : Var × TableRow). let n : NumberedRow = record { var = p.0; numbers = row_numbers p.1 } in n)) are ∙ numbers_named vs
+
+    pub drafts_made : map (made_draft c.nodes) drafts ≡ filter_map row vs
+    drafts_made =
+        sym (map_map (λ (p : Var × TableRow). (made_row p.0 p.1).0) (named_draft c.nodes) drafts)
+        ∙ ap (map (λ (p : Var × TableRow). (made_row p.0 p.1).0)) are ∙ rows_named vs
+
+    pub no_drafts : drafts ≡ [] → filter_map row vs ≡ []
+    no_drafts e = sym drafts_made ∙ ap (map (made_draft c.nodes)) e
+
+    pub some_drafts : filter_map row vs ≡ [] → drafts ≡ []
+    some_drafts e = go drafts (drafts_made ∙ e)
+      where
+        go : (ds : List DraftedRow) → map (made_draft c.nodes) ds ≡ [] → ds ≡ []
+        go [] h = refl
+        go (d ∷ ds) h = absurd (let z : ◌≡◌ {A = List Row} (made_draft c.nodes d ∷ map (made_draft c.nodes) ds) [] = h in cc)
+
+    pub drafts_fit : EachIn HasFittingRow vs → All (HasNumbers c.nodes) drafts → All (CanMakeRow c.nodes) drafts
+    drafts_fit fits numbers =
+        both_all (HasNumbers c.nodes) (λ d. RowFits (row_of_draft c.nodes d.row)) drafts numbers
+        (unmapped (named_draft c.nodes) (λ (p : Var × TableRow). RowFits p.1) drafts
+        (subst (All (λ (p : Var × TableRow). RowFits p.1)) (sym are) (named_fit vs fits)))
+
+    pub drafts_over_one : All (λ (d : DraftedRow). (row_of_draft c.nodes d.row).den ≡ move_denominator c move) drafts
+    drafts_over_one =
+        unmapped (named_draft c.nodes) (λ (p : Var × TableRow). p.1.den ≡ move_denominator c move) drafts
+        (subst (All (λ (p : Var × TableRow). p.1.den ≡ move_denominator c move)) (sym are) (named_over_one vs))
 
 -- LISTS
 -- what holds of each variable of a list holds at each place
@@ -219,6 +257,20 @@ module _ {B : Type 0} (f : Var → Option B) (vs : List Var) (i : ℕ) (d : Var)
 
   pub rows_none : f (get_or vs i d) ≡ None → filter_map f (take (i + 1) vs) ≡ filter_map f (take i vs)
   rows_none e = rows_more ∙ ap (λ (o : Option B). filter_map f (take i vs) ++ cons_option o []) e ∙ append-nil (filter_map f (take i vs))
+
+-- one more element's image
+mapped_more : {A B : Type 0} (f : A → B) (xs : List A) (i : ℕ) (x : A) → i < length xs → x ≡ get_or xs i x → map f (take (i + 1) xs) ≡ map f (take i xs) ++ f x ∷ []
+mapped_more {A} {B} f xs i x lt is =
+    ap (map f) (take_more xs i x lt) ∙ map-append f (take i xs) (get_or xs i x ∷ []) ∙ ap (λ (y : A). map f (take i xs) ++ f y ∷ []) (sym is)
+
+-- and where it is pushed
+pub mapped_push : {A B : Type 0} (f : A → B) (xs : List A) (i : ℕ) (x : A) → i < length xs → x ≡ get_or xs i x
+    → (before after : List B) (y : B) → after ≡ before ++ y ∷ [] → before ≡ map f (take i xs) → y ≡ f x → after ≡ map f (take (i + 1) xs)
+mapped_push {A} {B} f xs i x lt is before after y pushed images image = pushed ∙ ap₂ (λ (ys : List B) (z : B). ys ++ z ∷ []) images image ∙ sym (mapped_more f xs i x lt is)
+
+-- what holds of each element holds of one that is read
+pub read_at : {A : Type 0} (Holds : A → Type 0) (xs : List A) (i : ℕ) (x : A) → i < length xs → x ≡ get_or xs i x → All Holds xs → Holds x
+read_at Holds xs i x lt is all = subst Holds (sym is) (all i x lt)
 
 -- a list with elements
 pub some_length : {A : Type 0} (xs : List A) → (xs ≡ [] → ⊥) → 0 < length xs

@@ -4,7 +4,7 @@ use Rattle.std.specs.Option.{option_and_then, option_map}
 use Rattle.std.proofs.Common.{◌≡◌, ℕ, ◌<◌, ◌&&◌, ◌||◌, Bool, true, false, cond, eqb, Option, Some, None, refl, sym, ap, ◌∙◌, subst}
 use Rattle.std.proofs.lemmas.Bool.{eqb-true}
 use Rattle.fraction_poly.specs.Forms.{Form, integer, area, pythagoras, ratio, ◌⊞◌, ◌⊟◌, ◌⊠◌}
-use Rattle.fraction_poly.specs.StepForms.{along_numerator, crossing_numerator, denominator_at, foot_numerator, numerator_at, step_denominator, step_row}
+use Rattle.fraction_poly.specs.StepForms.{along_numerator, crossing_numerator, denominator_at, foot_numerator, numerator_at, origin_weight, step_denominator, step_row, weights_numerator}
 use Rattle.fraction_poly.specs.Measures.{numbers_of}
 use Rattle.fraction_poly.specs.TableRows.{TableRow}
 use Rattle.geo_points.specs.declared.ids.PointId.{PointId}
@@ -13,14 +13,14 @@ use Rattle.geo_poly.specs.declared.variables.Var.{Var}
 use Rattle.geo_poly.specs.declared.variables.Var.TheVariants.{R, S, P, X, Y}
 use Rattle.geo_poly.specs.Canonical.{is_point, sorted_area, sorted_difference}
 use Rattle.geo_terms.specs.declared.steps.Step.{Step}
-use Rattle.geo_terms.specs.declared.steps.Step.TheVariants.{Point, Inter, Foot, Pratio, Tratio}
+use Rattle.geo_terms.specs.declared.steps.Step.TheVariants.{Point, Inter, Foot, Pratio, Tratio, Weights}
 use Rattle.geo_terms.specs.Stores.{Store, tree_of}
 use Rattle.geo_terms.specs.Constructions.{Construction, IsStep}
 use Rattle.geo_terms.specs.Trees.{Tree, IsStepNumber}
 use Rattle.elim_area.specs.AreaTable.{area_numerator, area_table, points_after}
 use Rattle.elim_pyth.specs.declared.pyth_rows.Reading.{Reading}
 use Rattle.elim_pyth.specs.declared.pyth_rows.Reading.TheVariants.{Linear, Quadratic}
-use Rattle.elim_pyth.specs.DifferenceTable.{along_square, crossing_square, difference_row, difference_table, foot_square, linear_numerator, reading, turned_square, quadratic_numerator, quadratic_power}
+use Rattle.elim_pyth.specs.DifferenceTable.{along_square, crossing_square, difference_row, difference_table, foot_square, linear_numerator, reading, turned_square, quadratic_numerator, quadratic_power, weights_square}
 use Rattle.area_coords.specs.FreeTable.{area_in_coordinates, difference_in_coordinates, free_table, is_free, is_free_step}
 use Rattle.geo_logs.specs.Naming.{IsFree}
 use Rattle.elim_ratio.specs.RatioTable.{along_row, crossing_row, end_at, first_line, foot_row, lemma_row, plain_row, pythagoras_row, ratio_table, same_line, second_line, shared_row, with_sign}
@@ -69,6 +69,7 @@ module _ (c : Construction) (Good : PointId → Type 0) (Holds : Var → Type 0)
     den_fits (Foot p u v) h = let U = E u h.1 in let V = E v h.2 in D u v u U V U
     den_fits (Pratio w u v r) h = N r h.3.number
     den_fits (Tratio u v r) h = (tt, N r h.2.number)
+    den_fits (Weights o u v r s) h = (N r h.3.number, N s h.4.number)
 
     crossing_fits : (u v p q : PointId) (G : PointId → Form) → Good u → Good v → Good p → Good q → ((x : PointId) → Good x → Fits (G x)) → Fits (crossing_numerator u v p q G)
     crossing_fits u v p q G U V P' Q g = ((A u p q U P' Q, g v V), (A v p q V P' Q, g u U))
@@ -80,6 +81,11 @@ module _ (c : Construction) (Good : PointId → Type 0) (Holds : Var → Type 0)
         → Fits (along_numerator w u v (numerator_at c.nodes r) (denominator_at c.nodes r) G)
     along_fits w u v r G n W U V g = (((n, g w W), (n, g v V)), (n, g u U))
 
+    weights_fits : (o u v : PointId) (r s : TermId) (G : PointId → Form) → OfLeaves Holds (tree_of c.nodes r) → OfLeaves Holds (tree_of c.nodes s)
+        → Good o → Good u → Good v → ((x : PointId) → Good x → Fits (G x))
+        → Fits (weights_numerator o u v (numerator_at c.nodes r) (denominator_at c.nodes r) (numerator_at c.nodes s) (denominator_at c.nodes s) G)
+    weights_fits o u v r s G n m O U V g = ((((((n, m), (n, m)), (m, n)), g o O), ((n, m), g u U)), ((m, n), g v V))
+
     area_fits : (step : Step) (a b : PointId) → IsStep c.nodes y.0 c.params step → Good a → Good b → IfSome (area_numerator c.nodes step a b) Fits
     area_fits Point a b h A' B = tt
     area_fits (Inter u v p q) a b h A' B = crossing_fits u v p q (area a b) (E u h.0) (E v h.1) (E p h.2) (E q h.3) (λ x X'. A a b x A' B X')
@@ -88,6 +94,8 @@ module _ (c : Construction) (Good : PointId → Type 0) (Holds : Var → Type 0)
     area_fits (Tratio u v r) a b h A' B =
         let U = E u h.0 in let V = E v h.1 in let n = N r h.2.number in
         (((tt, n), A a b u A' B U), (n, (D u a b U A' B, D v a b V A' B)))
+    area_fits (Weights o u v r s) a b h A' B =
+        weights_fits o u v r s (area a b) (N r h.3.number) (N s h.4.number) (E o h.0) (E u h.1) (E v h.2) (λ x X'. A a b x A' B X')
 
     linear_fits : (step : Step) (a b : PointId) → IsStep c.nodes y.0 c.params step → Good a → Good b → IfSome (linear_numerator c.nodes step a b) Fits
     linear_fits Point a b h A' B = tt
@@ -97,6 +105,8 @@ module _ (c : Construction) (Good : PointId → Type 0) (Holds : Var → Type 0)
     linear_fits (Tratio u v r) a b h A' B =
         let U = E u h.0 in let V = E v h.1 in let n = N r h.2.number in
         (((tt, n), D a b u A' B U), ((tt, n), (A u a b U A' B, A v a b V A' B)))
+    linear_fits (Weights o u v r s) a b h A' B =
+        weights_fits o u v r s (pythagoras a b) (N r h.3.number) (N s h.4.number) (E o h.0) (E u h.1) (E v h.2) (λ x X'. D a b x A' B X')
 
     -- a row of a step
     step_fits : (step : Step) (power : ℕ) (num : Form) → IsStep c.nodes y.0 c.params step → Fits num → FitsRow (step_row c.nodes step power num)
@@ -120,6 +130,19 @@ module _ (c : Construction) (Good : PointId → Type 0) (Holds : Var → Type 0)
         let U = E u h.0 in let V = E v h.1 in let n = N r h.2.number in
         step_fits (Tratio u v r) 2 (turned_square u v (numerator_at c.nodes r) (denominator_at c.nodes r) a b) h
         (((((tt, n), n), D a u b A' U B), (((tt, n), n), D u v u U V U)), (((tt, n), n), (A a u v A' U V, A b u v B U V)))
+    quadratic_fits (Weights o u v r s) a b h A' B =
+        let O = E o h.0 in let U = E u h.1 in let V = E v h.2 in let n = N r h.3.number in let m = N s h.4.number in let first : Fits (origin_weight (numerator_at c.nodes r) (denominator_at c.nodes r) (numerator_at c.nodes s) (denominator_at c.nodes s)) = (((n, m), (n, m)), (m, n)) in
+        step_fits (Weights o u v r s) 2 (weights_square o u v (numerator_at c.nodes r) (denominator_at c.nodes r) (numerator_at c.nodes s) (denominator_at c.nodes s) a b) h
+        ((
+          (
+            (
+              ((n, m), (((first, D a o b A' O B), ((n, m), D a u b A' U B)), ((m, n), D a v b A' V B))),
+              ((first, (n, m)), D o u o O U O),
+            ),
+            ((first, (m, n)), D o v o O V O),
+          ),
+          (((n, m), (m, n)), D u v u U V U),
+        ))
 
     mapped_fits : (step : Step) (o : Option Form) → IsStep c.nodes y.0 c.params step → IfSome o Fits → IfSome (option_map (step_row c.nodes step 1) o) FitsRow
     mapped_fits step None h f = tt
@@ -195,6 +218,7 @@ module _ (c : Construction) (Good : PointId → Type 0) (Holds : Var → Type 0)
       go (Some (Foot p u v)) e = absurd (let q : ◌≡◌ {A = Bool} false true = e in cc)
       go (Some (Pratio w u v r)) e = absurd (let q : ◌≡◌ {A = Bool} false true = e in cc)
       go (Some (Tratio u v r)) e = absurd (let q : ◌≡◌ {A = Bool} false true = e in cc)
+      go (Some (Weights o u v r s)) e = absurd (let q : ◌≡◌ {A = Bool} false true = e in cc)
 
   module _ (i j k : PointId) (I : Good i) (J : Good j) (K : Good k) where
     three_fit : (row : TableRow) → (IsFree c i → IsFree c j → IsFree c k → FitsRow row) → IfSome (if is_free c i && is_free c j && is_free c k then Some row else None) FitsRow
@@ -262,6 +286,7 @@ module _ (c : Construction) (Good : PointId → Type 0) (Holds : Var → Type 0)
   foot_row_fits (Inter u v p q) a turned d e y good h A' = tt
   foot_row_fits (Pratio w u v r) a turned d e y good h A' = tt
   foot_row_fits (Tratio u v r) a turned d e y good h A' = tt
+  foot_row_fits (Weights o u v r s) a turned d e y good h A' = tt
   foot_row_fits (Foot p u v) a turned d e y good h A' =
       let P' = follows.earlier y p good h.0 in let U = follows.earlier y u good h.1 in let V = follows.earlier y v good h.2 in
       go (same_line u v d e) (follows.differences p u v P' U V, follows.differences a u v A' U V) (follows.differences u v u U V U)
@@ -278,6 +303,7 @@ module _ (c : Construction) (Good : PointId → Type 0) (Holds : Var → Type 0)
   along_row_fits (Inter u v p q) a turned d e y good h chained = tt
   along_row_fits (Foot p u v) a turned d e y good h chained = tt
   along_row_fits (Tratio u v r) a turned d e y good h chained = tt
+  along_row_fits (Weights o u v r s) a turned d e y good h chained = tt
   along_row_fits (Pratio w u v r) a turned d e y good h chained = go (same_line u v d e) (chained w u v r refl) (follows.numbers y (tree_of c.nodes r) good h.3.number)
     where
       go : (o : Option Bool) → IfSome o (λ other. Holds (sorted_ratio Holds a w u v)) → OfLeaves Holds (tree_of c.nodes r)
@@ -298,6 +324,7 @@ module _ (c : Construction) (Good : PointId → Type 0) (Holds : Var → Type 0)
     first_crossing (Foot p u v) k = tt
     first_crossing (Pratio w u v r) k = tt
     first_crossing (Tratio u v r) k = tt
+    first_crossing (Weights o u v r s) k = tt
     first_crossing (Inter u v p q) k =
         crossing_row_fits u v p q a turned d e (follows.earlier y u good k.0) (follows.earlier y v good k.1) (follows.earlier y p good k.2) (follows.earlier y q good k.3) A'
 
@@ -306,6 +333,7 @@ module _ (c : Construction) (Good : PointId → Type 0) (Holds : Var → Type 0)
     second_crossing (Foot p u v) k = tt
     second_crossing (Pratio w u v r) k = tt
     second_crossing (Tratio u v r) k = tt
+    second_crossing (Weights o u v r s) k = tt
     second_crossing (Inter u v p q) k =
         crossing_row_fits p q u v a turned d e (follows.earlier y p good k.2) (follows.earlier y q good k.3) (follows.earlier y u good k.0) (follows.earlier y v good k.1) A'
 
@@ -314,6 +342,7 @@ module _ (c : Construction) (Good : PointId → Type 0) (Holds : Var → Type 0)
     first_shared (Foot p u v) k = tt
     first_shared (Pratio w u v r) k = tt
     first_shared (Tratio u v r) k = tt
+    first_shared (Weights o u v r s) k = tt
     first_shared (Inter u v p q) k = shared_row_fits y u v p q a turned d e (follows.earlier y p good k.2) (follows.earlier y q good k.3) A' D' E'
 
     second_shared : (s : Step) → IsStep c.nodes y.0 c.params s → IfSome (second_line s (λ u v p q. shared_row y u v p q a turned d e)) FitsRow
@@ -321,6 +350,7 @@ module _ (c : Construction) (Good : PointId → Type 0) (Holds : Var → Type 0)
     second_shared (Foot p u v) k = tt
     second_shared (Pratio w u v r) k = tt
     second_shared (Tratio u v r) k = tt
+    second_shared (Weights o u v r s) k = tt
     second_shared (Inter u v p q) k = shared_row_fits y p q u v a turned d e (follows.earlier y u good k.0) (follows.earlier y v good k.1) A' D' E'
 
     lemma_row_fits : (lemma : ℕ) → IfSome (lemma_row lemma c.nodes y step a turned d e) FitsRow

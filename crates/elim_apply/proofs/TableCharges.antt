@@ -9,7 +9,7 @@ use Rattle.geo_points.specs.declared.ids.PointId.{PointId}
 use Rattle.geo_poly.specs.declared.variables.Var.{Var}
 use Rattle.geo_poly.specs.declared.variables.Var.TheVariants.{R, S, P, X, Y, T}
 use Rattle.geo_terms.specs.declared.steps.Step.{Step}
-use Rattle.geo_terms.specs.declared.steps.Step.TheVariants.{Pratio, Point as FreeStep, Inter, Foot, Tratio}
+use Rattle.geo_terms.specs.declared.steps.Step.TheVariants.{Pratio, Point as FreeStep, Inter, Foot, Tratio, Weights}
 use Rattle.geo_terms.specs.Constructions.{Construction}
 use Rattle.area_coords.specs.FreeTable.{area_in_coordinates, difference_in_coordinates, free_table, is_free}
 use Rattle.elim_area.specs.AreaTable.{area_numerator, area_table, points_after}
@@ -52,6 +52,7 @@ module _ (c : Construction) where
   quadratic_charge (Foot p u v) a b = refl
   quadratic_charge (Pratio w u v r) a b = refl
   quadratic_charge (Tratio u v r) a b = refl
+  quadratic_charge (Weights o u v r s) a b = refl
 
   difference_charge : (y i j k : PointId) → IfSome (difference_table c y (P i j k)) (λ t. t.charge ≡ point_charge c (slice_get c.steps y.0))
   difference_charge y i j k = go (slice_get c.steps y.0)

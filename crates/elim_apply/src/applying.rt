@@ -1,7 +1,7 @@
 //! A move on a polynomial.
 
 ghost use Rattle.std.specs.Prelude.{◌≡◌, ◌≢◌, ◌+◌, ◌-◌, ◌^◌, ◌<◌, ◌≤◌, ◌⊎◌, [], IfNone, IfOk, IfSome};
-ghost use Rattle.std.specs.Prelude.{IsErrOf, OnOk, length};
+ghost use Rattle.std.specs.Prelude.{All, IsErrOf, OnOk, length, map};
 ghost use Rattle.std.specs.List.{filter_map};
 ghost use Rattle.elim_apply.specs.LemmaTable.{lemma_table};
 ghost use Rattle.geo_logs.specs.Moves.{IsMoved, IsMoveStopped, move_charge, place_of, replacement};
@@ -9,7 +9,8 @@ ghost use Rattle.geo_logs.specs.Moves.{spent, too_large};
 ghost use Rattle.elim_apply.specs.Multiples.{IsMultiple};
 ghost use Rattle.geo_logs.specs.Naming.{IsPlaceBelow, IsPlaceMet};
 ghost use Rattle.elim_apply.specs.Inner.Sizes.{IsSizeOf};
-ghost use Rattle.elim_apply.specs.Inner.Sketches.{numbered_row};
+ghost use Rattle.elim_apply.specs.Inner.Sketches.{HasNumbers, named_draft, named_row};
+ghost use Rattle.fraction_poly.specs.Inner.Known.{IsKnownOf};
 ghost use Rattle.fraction_poly.specs.TableRows.{HasPointsBelow, HasVariable};
 ghost use Rattle.geo_points.specs.Placements.{Placement};
 ghost use Rattle.geo_poly.specs.Counted.{replacement_products};
@@ -18,11 +19,13 @@ ghost use Rattle.geo_poly.specs.PolynomialVariables.{AllVariables, variables_of}
 ghost use Rattle.geo_poly.specs.Polynomials.{IsPolynomial};
 ghost use Rattle.geo_poly.specs.Replace.{replaced_by, replaced_degree, replaced_weight};
 
+use crate::drafted::{DraftedRow, drafted_rows, made_rows};
 use crate::errors::ApplyError;
 use crate::limits::LineSize;
-use crate::numbered::{NumberedRow, made_rows, numbered_rows};
+use crate::numbered::numbered_rows;
 use crate::sizes::size_of_line;
 use crate::variables::variables_of;
+use fraction_poly::KnownNumbers;
 use geo_base::Budget;
 use geo_logs::Move;
 use geo_points::NoMemory;
@@ -68,45 +71,98 @@ pub fn apply<L: Ledger>(
         ticks.new ≤ ticks.old + replacement_products made.rows made.den p.now }
     ensures counted { OnOk result
         (ticks.new + budget.new.left ≤ ticks.old + budget.old.left) }
+    ensures unworked { (e : ApplyError) → IsErrOf result e → e ≢ ApplyError.NoMemory
+        → ticks.new ≡ ticks.old }
+{
+    let mut known = KnownNumbers::new(alloc)?;
+    apply_known(alloc, steps, &mut known, p, mv, budget, ticks)
+}
+
+/// What `apply` does, where the numbers of the steps are kept from line to line: each is measured
+/// once and multiplied out once for as long as they are.
+pub fn apply_known<L: Ledger>(
+    alloc: Global,
+    steps: &Steps,
+    known: &mut KnownNumbers,
+    p: &Poly,
+    mv: &Move,
+    budget: &mut Budget,
+    ticks: &mut Ticks<L>,
+) -> Result<Poly, ApplyError>
+    requires known { IsKnownOf steps.now.nodes known.old }
+    requires points { AllVariables (HasPointsBelow (length steps.now.steps)) p.now }
+    requires place { IsPlaceBelow (length steps.now.steps) (place_of mv.now) }
+    ensures moved { let made = replacement lemma_table steps.now mv.now p.now in
+        IfOk result (λ q. IsMoved made budget.old.left p.now q) }
+    ensures paid { let made = replacement lemma_table steps.now mv.now p.now in
+        OnOk result (budget.new.left ≡ budget.old.left - move_charge made p.now) }
+    ensures value { IfOk result (λ q. (placed : Placement)
+        → IsPlaceMet placed steps.now (place_of mv.now)
+        → AllVariables (HasVariable placed) p.now → IsMultiple placed q p.now) }
+    ensures no_row { let made = replacement lemma_table steps.now mv.now p.now in
+        IsErrOf result ApplyError.NoRow → (made.rows ≡ []) × (budget.new ≡ budget.old) }
+    ensures spent { let made = replacement lemma_table steps.now mv.now p.now in
+        IsErrOf result ApplyError.Spent → (made.rows ≢ [])
+        × IsMoveStopped made budget.old.left p.now spent × (budget.new ≡ budget.old) }
+    ensures too_large { let made = replacement lemma_table steps.now mv.now p.now in
+        (which : Which) → IsErrOf result (ApplyError.TooLarge which) → (made.rows ≢ [])
+        × IsMoveStopped made budget.old.left p.now (too_large which)
+        × (budget.new.left ≡ budget.old.left - move_charge made p.now) }
+    ensures memory { let made = replacement lemma_table steps.now mv.now p.now in
+        IsErrOf result ApplyError.NoMemory → (budget.new ≡ budget.old)
+        ⊎ (budget.new.left ≡ budget.old.left - move_charge made p.now) }
+    ensures ticks { let made = replacement lemma_table steps.now mv.now p.now in
+        ticks.new ≤ ticks.old + replacement_products made.rows made.den p.now }
+    ensures counted { OnOk result
+        (ticks.new + budget.new.left ≤ ticks.old + budget.old.left) }
+    ensures unworked { (e : ApplyError) → IsErrOf result e → e ≢ ApplyError.NoMemory
+        → ticks.new ≡ ticks.old }
+    ensures known { IsKnownOf steps.now.nodes known.new }
 {
     // From here on it is known that the steps are a construction.
     prove!(steps.count() <= 512);
-    let Some((rows, size)) = measured(alloc, steps, p, mv)? else {
+    let Some((rows, size)) = measured(alloc, steps, known, p, mv)? else {
         return Err(ApplyError::NoRow);
     };
     size.spend(budget)?;
-    Ok(moved(alloc, steps, p, mv, &rows, ticks)?)
+    Ok(moved(alloc, steps, known, p, mv, &rows, ticks)?)
 }
 
-/// The rows that a move has for the polynomial, by their numbers, and the size of its line; `None`
-/// where it has no row.
+/// The rows that a move has for the polynomial, as they are written, and the size of its line;
+/// `None` where it has no row.
 fn measured(
     alloc: Global,
     steps: &Steps,
+    known: &mut KnownNumbers,
     p: &Poly,
     mv: &Move,
-) -> Result<Option<(Vec<NumberedRow>, LineSize)>, NoMemory>
+) -> Result<Option<(Vec<DraftedRow>, LineSize)>, NoMemory>
     requires points { AllVariables (HasPointsBelow (length steps.now.steps)) p.now }
     requires place { IsPlaceBelow (length steps.now.steps) (place_of mv.now) }
+    requires known { IsKnownOf steps.now.nodes known.old }
     ensures none { let made = replacement lemma_table steps.now mv.now p.now in
         IfOk result (λ o. IfNone o (made.rows ≡ [])) }
     ensures some { let made = replacement lemma_table steps.now mv.now p.now in
         IfOk result (λ o. IfSome o (λ _. made.rows ≢ [])) }
-    ensures rows { IfOk result (λ o. IfSome o (λ m. m.0.items
-        ≡ filter_map (numbered_row steps.now mv.now) (variables_of p.now))) }
+    ensures rows { IfOk result (λ o. IfSome o (λ m. map (named_draft steps.now.nodes) m.0.items
+        ≡ filter_map (named_row steps.now mv.now) (variables_of p.now))) }
+    ensures numbers { IfOk result
+        (λ o. IfSome o (λ m. All (HasNumbers steps.now.nodes) m.0.items)) }
     ensures size { let made = replacement lemma_table steps.now mv.now p.now in
         IfOk result (λ o. IfSome o (λ m. IsSizeOf m.1 (move_charge made p.now)
         (replaced_weight made.rows made.den p.now) (replaced_degree made.rows made.den p.now))) }
+    ensures known { IsKnownOf steps.now.nodes known.new }
 {
     // From here on it is known that the polynomial is in order and within its bounds.
     prove!(p.norm() >= 0);
     let variables = variables_of(alloc, p)?;
-    let rows = numbered_rows(alloc, steps, mv, &variables)?;
+    let rows = drafted_rows(alloc, steps, mv, &variables)?;
     if rows.is_empty() {
         return Ok(None);
     }
+    let numbered = numbered_rows(alloc, steps.look(), known, &rows)?;
     // All rows of a move have one denominator and one charge.
-    let size = size_of_line(alloc, &rows, rows[0].numbers, p)?;
+    let size = size_of_line(alloc, &numbered, numbered[0].numbers, p)?;
     Ok(Some((rows, size)))
 }
 
@@ -114,14 +170,17 @@ fn measured(
 fn moved<L: Ledger>(
     alloc: Global,
     steps: &Steps,
+    known: &mut KnownNumbers,
     p: &Poly,
     mv: &Move,
-    rows: &[NumberedRow],
+    rows: &[DraftedRow],
     ticks: &mut Ticks<L>,
 ) -> Result<Poly, NoMemory>
     requires points { AllVariables (HasPointsBelow (length steps.now.steps)) p.now }
-    requires place { IsPlaceBelow (length steps.now.steps) (place_of mv.now) }
-    requires rows { rows.now ≡ filter_map (numbered_row steps.now mv.now) (variables_of p.now) }
+    requires known { IsKnownOf steps.now.nodes known.old }
+    requires rows { map (named_draft steps.now.nodes) rows.now
+        ≡ filter_map (named_row steps.now mv.now) (variables_of p.now) }
+    requires numbers { All (HasNumbers steps.now.nodes) rows.now }
     requires some { rows.now ≢ [] }
     requires weight { let made = replacement lemma_table steps.now mv.now p.now in
         replaced_weight made.rows made.den p.now < 2 ^ 127 }
@@ -131,10 +190,11 @@ fn moved<L: Ledger>(
         IfOk result (λ q. q ≡ replaced_by made.rows made.den.poly p.now) }
     ensures ticks { let made = replacement lemma_table steps.now mv.now p.now in
         ticks.new ≤ ticks.old + replacement_products made.rows made.den p.now }
+    ensures known { IsKnownOf steps.now.nodes known.new }
 {
     // From here on it is known that the polynomial is in order and within its bounds.
     prove!(p.norm() >= 0);
-    let (rows, den) = made_rows(alloc, steps, mv, rows)?;
+    let (rows, den) = made_rows(alloc, steps.look(), known, rows)?;
     within_bounds(p.replace(alloc, &rows.items, &den, ticks))
 }
 

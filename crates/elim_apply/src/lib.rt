@@ -2,6 +2,7 @@
 #![tactic(auto)]
 
 mod applying;
+mod drafted;
 mod errors;
 mod known_rows;
 pub mod laws;
@@ -14,8 +15,9 @@ mod starting;
 mod tests;
 mod variables;
 
-pub use applying::apply;
+pub use applying::{apply, apply_known};
 pub use errors::ApplyError;
+pub use fraction_poly::KnownNumbers;
 pub use geo_logs::{Move, Replacement, RowList};
 pub use replacing::replacement_of;
 pub use starting::start;

@@ -8,8 +8,9 @@ ghost use Rattle.geo_logs.specs.Naming.{IsPlaceBelow};
 ghost use Rattle.geo_poly.specs.PolynomialVariables.{AllVariables};
 ghost use Rattle.geo_poly.specs.Replace.{replaced_degree, replaced_weight};
 
-use crate::numbered::{made_rows, numbered_rows};
+use crate::drafted::{drafted_rows, made_rows};
 use crate::variables::variables_of;
+use fraction_poly::KnownNumbers;
 use geo_logs::{Move, Replacement};
 use geo_points::NoMemory;
 use geo_poly::Poly;
@@ -37,9 +38,11 @@ pub fn replacement_of(
     // From here on it is known that the polynomial is in order and within its bounds.
     prove!(p.norm() >= 0);
     let variables = variables_of(alloc, p)?;
-    let numbered = numbered_rows(alloc, steps, mv, &variables)?;
+    let drafted = drafted_rows(alloc, steps, mv, &variables)?;
+    let mut known = KnownNumbers::new(alloc)?;
+    let first = drafted[0].row.numbers(alloc, steps.look(), &mut known)?;
+    let (rows, den) = made_rows(alloc, steps.look(), &mut known, &drafted)?;
     // All rows of a move have one charge.
-    let charge = numbered[0].numbers.charge;
-    let (rows, den) = made_rows(alloc, steps, mv, &numbered)?;
+    let charge = first.charge;
     Ok(Replacement { rows, den, charge })
 }

@@ -20,9 +20,8 @@ use geo_terms::Steps;
 use std::alloc::Global;
 
 /// The numerator of the term at an index. The charge of the line, its weight and its degree are
-/// those
-/// of both sides of the fraction; they are tested in this order, before anything is multiplied out.
-/// The charge is spent as soon as it is within the budget.
+/// those of both sides of the fraction; they are tested in this order, before anything is
+/// multiplied out. The charge is spent as soon as it is within the budget.
 pub fn start(
     alloc: Global,
     steps: &Steps,

@@ -131,3 +131,42 @@ fn a_ratio_becomes_an_area(rt: HostRuntime) -> Result<(), Fail> {
     assert!(rt; ratio_gone(rt.alloc(), 10).is_ok_and(|q| q.same(&area)));
     Ok(())
 }
+
+/// Three free points, and the point with the weight 1/3 at each of them.
+fn with_centroid(alloc: Global) -> Result<Steps, NoMemory>
+    ensures { IfOk result (λ s. length s.steps ≡ 4) }
+{
+    let mut steps = Steps::new(alloc)?;
+    let a = steps.push(Step::Point)?;
+    let b = steps.push(Step::Point)?;
+    let c = steps.push(Step::Point)?;
+    let one = steps.intern(Node::Int(1))?;
+    let three = steps.intern(Node::Int(3))?;
+    let r = steps.intern(Node::Div(one, three))?;
+    steps.push(Step::Weights {
+        o: a,
+        u: b,
+        v: c,
+        r,
+        s: r,
+    })?;
+    Ok(steps)
+}
+
+/// What the point by weights leaves of its area with two of the three points.
+fn without_centroid(alloc: Global, left: u64) -> Result<Poly, ApplyError> {
+    let steps = with_centroid(alloc)?;
+    let [b, c, x] = [PointId(1), PointId(2), PointId(3)];
+    let area = Poly::var(alloc, Var::S(b, c, x))?;
+    applied(alloc, &steps, &area, &Move::Point(x), left)
+}
+
+#[test]
+fn a_centroid_has_a_third_of_the_area(rt: HostRuntime) -> Result<(), Fail> {
+    let alloc = rt.alloc();
+    // 2 and 2 for both numbers, 4 (5 + 1) for the row, and 2 times 5 for the term; and what is left
+    // is (9 - 3 - 3) S_BCA.
+    assert!(rt; without_centroid(alloc, 38).is_ok_and(|q| q.terms() == 1 && q.norm() == 3));
+    assert!(rt; matches!(without_centroid(alloc, 37), Err(ApplyError::Spent)));
+    Ok(())
+}

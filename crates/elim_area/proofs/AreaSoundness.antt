@@ -1,27 +1,27 @@
 -- The rows of signed areas hold, and their denominators are light.
-use Rattle.std.proofs.Common.{◌≡◌, ℕ, Bool, true, false, cond, eqb, pos, Option, Some, None, slice_get, refl, subst, IfSome, arith}
+use Rattle.std.proofs.Common.{◌≡◌, ℕ, Bool, true, false, cond, eqb, Option, Some, None, slice_get, refl, subst, IfSome, arith}
 use Rattle.std.specs.Option.{option_and_then, option_map}
 use Rattle.std.proofs.lemmas.Bool.{eqb-true}
 use Rattle.elim_area.specs.AreaTable.{area_numerator, area_table, points_after}
-use Rattle.fraction_poly.specs.Forms.{Form, integer, area, pythagoras, ◌⊟◌, ◌⊠◌, piece_of}
+use Rattle.fraction_poly.specs.Forms.{Form}
 use Rattle.fraction_poly.specs.Laws.{polynomial_value}
 use Rattle.fraction_poly.specs.MultipliedOut.{multiplied_out}
-use Rattle.fraction_poly.specs.StepForms.{numerator_at, denominator_at, crossing_numerator, foot_numerator, along_numerator, step_charge, step_denominator, step_row}
-use Rattle.fraction_poly.specs.TableRows.{TableRow, AreLight, IsLight, IsPointMet, IsSound, row_numbers}
+use Rattle.fraction_poly.specs.StepForms.{step_charge, step_denominator, step_row}
+use Rattle.fraction_poly.specs.TableRows.{AreLight, IsLight, IsPointMet, IsSound, row_numbers}
 use Rattle.fraction_poly.proofs.FormValues.{Holds, form_value, holds_one, no_ratios, of_some, has_no_ratio}
 use Rattle.fraction_poly.proofs.PolynomialValues.{◌∘◌, flip, self, products}
 use Rattle.fraction_poly.proofs.StepValues.{denominator_defined, denominator_nonzero, number_over}
 use Rattle.geo_points.proofs.AreaRows.{pratio-signed_area}
 use Rattle.geo_points.proofs.LinearRows.{inter-signed_area, foot-signed_area, tratio-signed_area}
 use Rattle.geo_points.proofs.Signs.{signed_area-turn}
+use Rattle.geo_points.proofs.WeightedRows.{weights-signed_area}
 use Rattle.geo_points.specs.declared.ids.PointId.{PointId}
-use Rattle.ring_laws.specs.Fraction.{Fraction, Same, times}
+use Rattle.ring_laws.specs.Fraction.{Same, times}
 use Rattle.geo_points.specs.Placements.{Placement}
 use Rattle.geo_points.specs.Points.{Point as Triple, signed_area}
-use Rattle.geo_poly.specs.declared.variables.Var.{Var}
 use Rattle.geo_poly.specs.declared.variables.Var.TheVariants.{R, S, P, X, Y, T}
 use Rattle.geo_terms.specs.declared.steps.Step.{Step}
-use Rattle.geo_terms.specs.declared.steps.Step.TheVariants.{Point, Inter, Foot, Pratio, Tratio}
+use Rattle.geo_terms.specs.declared.steps.Step.TheVariants.{Point, Inter, Foot, Pratio, Tratio, Weights}
 use Rattle.geo_terms.specs.Constructions.{Construction, IsStepMet}
 use Rattle.geo_terms.specs.Stores.{Store, tree_of}
 use Rattle.geo_terms.specs.Values.{tree_value}
@@ -43,6 +43,10 @@ module _ (placed : Placement) (nodes : Store) (y : PointId) where
   numerator_is (Tratio u v r) met a b =
       let e = tree_of nodes r in
       (refl, tratio-signed_area (at a.0) (at b.0) (at u.0) (at v.0) (at y.0) (tree_value placed e) (polynomial_value placed (multiplied_out e).0) (polynomial_value placed (multiplied_out e).1) met.1 (number_over placed nodes r met.0).same)
+  numerator_is (Weights o u v r s) met a b =
+      let e = tree_of nodes r in
+      let f = tree_of nodes s in
+      (refl, weights-signed_area (at a.0) (at b.0) (at o.0) (at u.0) (at v.0) (at y.0) (tree_value placed e) (tree_value placed f) (polynomial_value placed (multiplied_out e).0) (polynomial_value placed (multiplied_out e).1) (polynomial_value placed (multiplied_out f).0) (polynomial_value placed (multiplied_out f).1) met.2 (number_over placed nodes r met.0).same (number_over placed nodes s met.1).same)
 
   -- the row of an area whose corners are a, b and y in a cyclic order
   row_holds : (i j k : PointId) (step : Step) → IsStepMet placed nodes y.0 step → (a b : PointId)
@@ -98,6 +102,7 @@ numerator_light nodes (Inter u v p q) a b = record { power = omega arith; weight
 numerator_light nodes (Foot p u v) a b = record { power = omega arith; weight = omega arith; degree = omega arith }
 numerator_light nodes (Pratio w u v r) a b = record { power = omega arith; weight = omega arith; degree = omega arith }
 numerator_light nodes (Tratio u v r) a b = record { power = omega arith; weight = omega arith; degree = omega arith }
+numerator_light nodes (Weights o u v r s) a b = record { power = omega arith; weight = omega arith; degree = omega arith }
 
 area_row-light : (c : Construction) (y i j k : PointId) → IfSome (area_table c y (S i j k)) (λ r. AreLight (row_numbers r))
 area_row-light c y i j k = go (slice_get c.steps y.0)

@@ -1,26 +1,26 @@
 //! The rows of Pythagoras differences.
 
-ghost use Rattle.std.specs.Prelude.{◌≡◌, ◌<◌, IfOk, Some, length, option_map};
+ghost use Rattle.std.specs.Prelude.{◌≡◌, ◌<◌, IfOk, length, option_map};
 ghost use Rattle.std.specs.Option.{ForSome};
 ghost use Rattle.elim_pyth.specs.DifferenceTable.{difference_row, difference_table};
 ghost use Rattle.elim_pyth.specs.DifferenceTable.{linear_numerator, quadratic_numerator};
 ghost use Rattle.elim_pyth.specs.DifferenceTable.{quadratic_power, reading};
-ghost use Rattle.fraction_poly.specs.Inner.Drafts.{form_of, number_tree, row_of_draft, step_term};
+ghost use Rattle.fraction_poly.specs.declared.drafts.Number.{Number};
+ghost use Rattle.fraction_poly.specs.declared.drafts.Number.TheVariants.{First};
+ghost use Rattle.fraction_poly.specs.Inner.Drafts.{HasItsNumbers, form_of, number_trees};
+ghost use Rattle.fraction_poly.specs.Inner.Drafts.{row_of_draft, step_terms};
 ghost use Rattle.fraction_poly.specs.Forms.{area, denominator, integer, numerator, pythagoras, ◌⊟◌};
 ghost use Rattle.fraction_poly.specs.Forms.{◌⊠◌};
-ghost use Rattle.fraction_poly.specs.Measures.{HasRoom};
-ghost use Rattle.fraction_poly.specs.TableRows.{RowFits};
-ghost use Rattle.geo_points.specs.declared.ids.TermId.{TermId};
 ghost use Rattle.geo_terms.specs.Stores.{Store};
 ghost use Rattle.geo_terms.specs.Trees.{Tree};
 
-use crate::squares::{along_square, crossing_square, foot_square, turned_square};
+use crate::squares::{along_square, crossing_square, foot_square, turned_square, weights_square};
 use fraction_poly::{
-    Draft, Linear, RowDraft, RowNumbers, Rows, along_numerator, crossing_numerator, draft_numbers,
-    draft_row, foot_numerator, step_draft,
+    Draft, Linear, Number, RowDraft, Rows, along_numerator, crossing_numerator, foot_numerator,
+    step_draft, weights_numerator,
 };
 use geo_points::{NoMemory, PointId};
-use geo_poly::{Piece, Row, Var};
+use geo_poly::Var;
 use geo_terms::{Step, Steps};
 use std::alloc::Global;
 
@@ -36,26 +36,14 @@ impl Rows for PythRows {
 
     ghost looks = { λ _. true };
 
-    fn numbers(
+    fn draft(
         &self,
         alloc: Global,
         steps: &Steps,
         at: PointId,
         var: Var,
-    ) -> Result<Option<RowNumbers>, NoMemory> {
-        let row = difference_row(alloc, steps, at, var)?;
-        draft_numbers(alloc, steps, row)
-    }
-
-    fn row(
-        &self,
-        alloc: Global,
-        steps: &Steps,
-        at: PointId,
-        var: Var,
-    ) -> Result<(Row, Piece), NoMemory> {
-        let row = difference_row(alloc, steps, at, var)?;
-        draft_row(alloc, steps, var, row)
+    ) -> Result<Option<RowDraft>, NoMemory> {
+        difference_row(alloc, steps, at, var)
     }
 }
 
@@ -78,11 +66,7 @@ fn difference_row(
     requires { at.0 < length steps.now.steps }
     ensures row { IfOk result (λ o. option_map (row_of_draft steps.now.nodes) o
         ≡ difference_table steps.now at var) }
-    ensures stored { IfOk result (λ o. ForSome o (λ d.
-        (r : TermId) → d.number ≡ Some r → r.0 < length steps.now.nodes)) }
-    ensures room { IfOk result (λ o. ForSome o (λ d.
-        RowFits (row_of_draft steps.now.nodes d)
-        → HasRoom (number_tree steps.now.nodes d.number))) }
+    ensures numbers { IfOk result (λ o. ForSome o (HasItsNumbers steps.now.nodes)) }
 {
     // From here on it is known that the steps' numbers stand in the store.
     prove!(at.0 < steps.count());
@@ -118,7 +102,7 @@ fn read_at(y: PointId, a: PointId, b: PointId, c: PointId) -> Option<Reading>
 fn row_of_reading(alloc: Global, step: Step, reading: Reading) -> Result<Option<RowDraft>, NoMemory>
     ensures row { IfOk result (λ o. (nodes : Store)
         → option_map (row_of_draft nodes) o ≡ difference_row nodes step reading) }
-    ensures number { IfOk result (λ o. ForSome o (λ d. d.number ≡ step_term step)) }
+    ensures terms { IfOk result (λ o. ForSome o (λ d. d.terms ≡ step_terms step)) }
 {
     let (power, num) = match reading {
         Reading::Linear(a, b) => (1, linear_numerator(alloc, step, a, b)?),
@@ -141,7 +125,7 @@ fn linear_numerator(
     b: PointId,
 ) -> Result<Option<Draft>, NoMemory>
     ensures { IfOk result (λ o. (nodes : Store)
-        → option_map (form_of (number_tree nodes (step_term step))) o
+        → option_map (form_of (number_trees nodes (step_terms step))) o
         ≡ linear_numerator nodes step a b) }
 {
     let difference = Linear::Pythagoras(a, b);
@@ -151,6 +135,7 @@ fn linear_numerator(
         Step::Foot { p, u, v } => foot_numerator(alloc, p, u, v, difference)?,
         Step::Pratio { w, u, v, r: _ } => along_numerator(alloc, w, u, v, difference)?,
         Step::Tratio { u, v, r: _ } => turned_numerator(alloc, u, v, a, b)?,
+        Step::Weights { o, u, v, .. } => weights_numerator(alloc, o, u, v, difference)?,
     };
     Ok(Some(numerator))
 }
@@ -163,16 +148,16 @@ fn turned_numerator(
     a: PointId,
     b: PointId,
 ) -> Result<Draft, NoMemory>
-    ensures { IfOk result (λ d. (e : Tree) → form_of e d
-        ≡ integer 4 ⊠ denominator e ⊠ pythagoras a b u
-        ⊟ integer 16 ⊠ numerator e ⊠ (area u a b ⊟ area v a b)) }
+    ensures { IfOk result (λ d. (e : Number → Tree) → form_of e d
+        ≡ integer 4 ⊠ denominator (e First) ⊠ pythagoras a b u
+        ⊟ integer 16 ⊠ numerator (e First) ⊠ (area u a b ⊟ area v a b)) }
 {
     let front = Draft::Integer(4)
-        .times(alloc, Draft::Denominator)?
+        .times(alloc, Draft::Denominator(Number::First))?
         .times(alloc, Draft::Pythagoras(a, b, u))?;
     let turned = Draft::Area(u, a, b).minus(alloc, Draft::Area(v, a, b))?;
     let back = Draft::Integer(16)
-        .times(alloc, Draft::Numerator)?
+        .times(alloc, Draft::Numerator(Number::First))?
         .times(alloc, turned)?;
     front.minus(alloc, back)
 }
@@ -185,7 +170,7 @@ fn quadratic_numerator(
     b: PointId,
 ) -> Result<Option<Draft>, NoMemory>
     ensures { IfOk result (λ o. (nodes : Store)
-        → option_map (form_of (number_tree nodes (step_term step))) o
+        → option_map (form_of (number_trees nodes (step_terms step))) o
         ≡ quadratic_numerator nodes step a b) }
 {
     let numerator = match step {
@@ -194,6 +179,7 @@ fn quadratic_numerator(
         Step::Foot { p, u, v } => foot_square(alloc, p, u, v, a, b)?,
         Step::Pratio { w, u, v, r: _ } => along_square(alloc, w, u, v, a, b)?,
         Step::Tratio { u, v, r: _ } => turned_square(alloc, u, v, a, b)?,
+        Step::Weights { o, u, v, .. } => weights_square(alloc, o, u, v, a, b)?,
     };
     Ok(Some(numerator))
 }

@@ -1,10 +1,10 @@
 -- The rows of ratios hold wherever the ratio is defined, and their denominators are light.
-use Rattle.std.proofs.Common.{◌≡◌, ℕ, ◌≤◌, max, Bool, true, false, cond, eqb, ◌&&◌, ◌||◌, Option, Some, None, slice_get, pos, refl, sym, subst, ap, not, IfSome, IsTrue, ◌⊎◌, inl, inr, arith}
+use Rattle.std.proofs.Common.{◌≡◌, ℕ, ◌≤◌, max, Bool, true, false, cond, eqb, ◌&&◌, ◌||◌, Option, Some, None, slice_get, refl, sym, subst, ap, not, IfSome, IsTrue, ◌⊎◌, inl, inr, arith}
 use Rattle.std.specs.Option.{option_and_then, option_map}
 use Rattle.std.proofs.lemmas.Bool.{eqb-true}
 use Rattle.ring_laws.proofs.Laws as Laws
 use Rattle.elim_ratio.specs.RatioTable.{end_at, same_line, with_sign, plain_row, crossing_row, shared_row, along_row, foot_row, pythagoras_row, first_line, second_line, lemma_row, ratio_table}
-use Rattle.fraction_poly.specs.Forms.{Form, area, pythagoras, ratio, opposite, ◌⊞◌, ◌⊟◌, ◌⊠◌, piece_of}
+use Rattle.fraction_poly.specs.Forms.{Form, area, pythagoras, ratio, ◌⊞◌, ◌⊟◌, ◌⊠◌, piece_of}
 use Rattle.fraction_poly.specs.Laws.{polynomial_value}
 use Rattle.fraction_poly.specs.MultipliedOut.{multiplied_out}
 use Rattle.fraction_poly.specs.Measures.{numbers_of}
@@ -26,7 +26,7 @@ use Rattle.geo_poly.specs.declared.variables.Var.{Var}
 use Rattle.geo_poly.specs.declared.variables.Var.TheVariants.{R, S, P, X as Abscissa, Y as Ordinate, T}
 use Rattle.geo_poly.specs.Canonical.{is_point}
 use Rattle.geo_terms.specs.declared.steps.Step.{Step}
-use Rattle.geo_terms.specs.declared.steps.Step.TheVariants.{Point, Inter, Foot, Pratio, Tratio}
+use Rattle.geo_terms.specs.declared.steps.Step.TheVariants.{Point, Inter, Foot, Pratio, Tratio, Weights}
 use Rattle.geo_terms.specs.Constructions.{Construction, IsStepMet}
 use Rattle.geo_terms.specs.Stores.{Store, tree_of}
 use Rattle.geo_terms.specs.Values.{tree_value}
@@ -206,6 +206,7 @@ module _ (placed : Placement) (nodes : Store) (y i j k l : PointId) (has : HasRa
   along_holds (Inter u v p q) met A s end = tt
   along_holds (Foot p u v) met A s end = tt
   along_holds (Tratio u v r) met A s end = tt
+  along_holds (Weights o u v r t) met A s end = tt
   along_holds (Pratio w u v r) met A s end = go (same_line u v k l) (line_is u v k l)
     where
       go : (o : Option Bool) → IfSome o (λ t. IsLine u v k l t)
@@ -224,6 +225,7 @@ module _ (placed : Placement) (nodes : Store) (y i j k l : PointId) (has : HasRa
   foot_holds (Inter u v p q) met A s end = tt
   foot_holds (Pratio w u v r) met A s end = tt
   foot_holds (Tratio u v r) met A s end = tt
+  foot_holds (Weights o u v r t) met A s end = tt
   foot_holds (Foot p u v) met A s end = go (same_line u v k l) (line_is u v k l)
     where
       go : (o : Option Bool) → IfSome o (λ t. IsLine u v k l t)
@@ -242,6 +244,7 @@ module _ (placed : Placement) (nodes : Store) (y i j k l : PointId) (has : HasRa
   first_holds (Foot p u v) met row h = tt
   first_holds (Pratio w u v r) met row h = tt
   first_holds (Tratio u v r) met row h = tt
+  first_holds (Weights o u v r t) met row h = tt
 
   second_holds : (step : Step) → IsStepMet placed nodes y.0 step → (row : PointId → PointId → PointId → PointId → Option TableRow)
       → ((U V P Q : PointId) → IsCrossing (at U.0) (at V.0) (at P.0) (at Q.0) (at y.0) → IfSome (row U V P Q) (Holds placed (R i j k l)))
@@ -251,6 +254,7 @@ module _ (placed : Placement) (nodes : Store) (y i j k l : PointId) (has : HasRa
   second_holds (Foot p u v) met row h = tt
   second_holds (Pratio w u v r) met row h = tt
   second_holds (Tratio u v r) met row h = tt
+  second_holds (Weights o u v r t) met row h = tt
 
   lemma_holds : (lemma : ℕ) (step : Step) → IsStepMet placed nodes y.0 step → (A : PointId) (s : Bool) → IsEnd y i j A s
       → IfSome (lemma_row lemma nodes y step A s k l) (Holds placed (R i j k l))
@@ -363,6 +367,7 @@ along_light nodes Point a s k l = tt
 along_light nodes (Inter u v p q) a s k l = tt
 along_light nodes (Foot p u v) a s k l = tt
 along_light nodes (Tratio u v r) a s k l = tt
+along_light nodes (Weights o u v r t) a s k l = tt
 along_light nodes (Pratio w u v r) a s k l = go (same_line u v k l)
   where
     go : (o : Option Bool)
@@ -375,6 +380,7 @@ foot_light Point a s k l = tt
 foot_light (Inter u v p q) a s k l = tt
 foot_light (Pratio w u v r) a s k l = tt
 foot_light (Tratio u v r) a s k l = tt
+foot_light (Weights o u v r t) a s k l = tt
 foot_light (Foot p u v) a s k l = go (same_line u v k l)
   where
     go : (o : Option Bool) → IfSome (option_map (λ other. plain_row (with_sign s other (pythagoras p u v ⊟ pythagoras a u v)) (pythagoras u v u)) o) (λ r. AreLight (row_numbers r))
@@ -388,6 +394,7 @@ first_light (Inter u v p q) row h = h u v p q
 first_light (Foot p u v) row h = tt
 first_light (Pratio w u v r) row h = tt
 first_light (Tratio u v r) row h = tt
+first_light (Weights o u v r t) row h = tt
 
 second_light : (step : Step) (row : PointId → PointId → PointId → PointId → Option TableRow) → ((u v p q : PointId) → IfSome (row u v p q) (λ r. AreLight (row_numbers r)))
     → IfSome (second_line step row) (λ r. AreLight (row_numbers r))
@@ -396,6 +403,7 @@ second_light (Inter u v p q) row h = h p q u v
 second_light (Foot p u v) row h = tt
 second_light (Pratio w u v r) row h = tt
 second_light (Tratio u v r) row h = tt
+second_light (Weights o u v r t) row h = tt
 
 lemma_light : (lemma : ℕ) (nodes : Store) (y : PointId) (step : Step) (a : PointId) (s : Bool) (k l : PointId) → IfSome (lemma_row lemma nodes y step a s k l) (λ r. AreLight (row_numbers r))
 lemma_light lemma nodes y step A s k l = go (eqb lemma 11) (eqb lemma 12) (eqb lemma 21) (eqb lemma 22) (eqb lemma 3) (eqb lemma 4)

@@ -1,20 +1,17 @@
 //! The rows of ratios.
 
-ghost use Rattle.std.specs.Prelude.{◌≡◌, ◌<◌, ◌==◌, IfOk, IsTrue, Some, length, not, option_map};
+ghost use Rattle.std.specs.Prelude.{◌≡◌, ◌<◌, ◌==◌, IfOk, IsTrue, length, not, option_map};
 ghost use Rattle.std.specs.Option.{ForSome};
 ghost use Rattle.elim_ratio.specs.RatioTable.{lemma_row, ratio_table};
-ghost use Rattle.fraction_poly.specs.Inner.Drafts.{number_tree, row_of_draft, step_term};
-ghost use Rattle.fraction_poly.specs.Measures.{HasRoom};
-ghost use Rattle.fraction_poly.specs.TableRows.{HasPointsBelow, RowFits};
-ghost use Rattle.geo_points.specs.declared.ids.TermId.{TermId};
+ghost use Rattle.fraction_poly.specs.Inner.Drafts.{HasItsNumbers, row_of_draft, step_terms};
 ghost use Rattle.geo_terms.specs.Stores.{Store};
 
 use crate::lemmas::{
     Segments, along_row, crossing_row, end_at, foot_row, pythagoras_row, shared_row,
 };
-use fraction_poly::{RowDraft, RowNumbers, Rows, draft_numbers, draft_row};
+use fraction_poly::{RowDraft, Rows};
 use geo_points::{NoMemory, PointId};
-use geo_poly::{Piece, Row, Var};
+use geo_poly::Var;
 use geo_terms::{Step, Steps};
 use std::alloc::Global;
 
@@ -33,26 +30,14 @@ impl Rows for RatioRows {
 
     ghost looks = { λ rows. not (rows.lemma == 0) };
 
-    fn numbers(
+    fn draft(
         &self,
         alloc: Global,
         steps: &Steps,
         at: PointId,
         var: Var,
-    ) -> Result<Option<RowNumbers>, NoMemory> {
-        let row = ratio_row(alloc, self.lemma, steps, at, var)?;
-        draft_numbers(alloc, steps, row)
-    }
-
-    fn row(
-        &self,
-        alloc: Global,
-        steps: &Steps,
-        at: PointId,
-        var: Var,
-    ) -> Result<(Row, Piece), NoMemory> {
-        let row = ratio_row(alloc, self.lemma, steps, at, var)?;
-        draft_row(alloc, steps, var, row)
+    ) -> Result<Option<RowDraft>, NoMemory> {
+        ratio_row(alloc, self.lemma, steps, at, var)
     }
 }
 
@@ -67,11 +52,7 @@ fn ratio_row(
     requires { IsTrue (not (lemma == 0)) → at.0 < length steps.now.steps }
     ensures row { IfOk result (λ o. option_map (row_of_draft steps.now.nodes) o
         ≡ ratio_table lemma steps.now at var) }
-    ensures stored { IfOk result (λ o. ForSome o (λ d.
-        (r : TermId) → d.number ≡ Some r → r.0 < length steps.now.nodes)) }
-    ensures room { IfOk result (λ o. ForSome o (λ d.
-        RowFits (row_of_draft steps.now.nodes d)
-        → HasRoom (number_tree steps.now.nodes d.number))) }
+    ensures numbers { IfOk result (λ o. ForSome o (HasItsNumbers steps.now.nodes)) }
 {
     let Var::R(a, b, c, d) = var else {
         return Ok(None);
@@ -103,8 +84,7 @@ fn lemma_row(
 ) -> Result<Option<RowDraft>, NoMemory>
     ensures row { IfOk result (λ o. (nodes : Store) → option_map (row_of_draft nodes) o
         ≡ lemma_row lemma nodes y step ratio.a ratio.turned ratio.c ratio.d) }
-    ensures number { IfOk result
-        (λ o. ForSome o (λ d. (r : TermId) → d.number ≡ Some r → step_term step ≡ Some r)) }
+    ensures terms { IfOk result (λ o. ForSome o (λ d. d.terms ≡ step_terms step)) }
 {
     match step {
         Step::Inter { u, v, p, q } => match lemma {

@@ -3,20 +3,21 @@ use Rattle.std.proofs.Common.{List}
 use Rattle.std.specs.Prelude.{Contains}
 use Rattle.fraction_poly.specs.declared.drafts.Draft.{Draft}
 use Rattle.fraction_poly.specs.declared.drafts.Draft.TheVariants.{Integer, Area, Pythagoras, Ratio, Abscissa, Ordinate, Numerator, Denominator, Combined', Opposite'}
+use Rattle.fraction_poly.specs.declared.drafts.Number.{Number}
 use Rattle.fraction_poly.specs.declared.step_numbers.StepNumber.{StepNumber}
 use Rattle.fraction_poly.specs.Inner.Drafts.{AllLeaves}
 use Rattle.geo_poly.specs.declared.variables.Var.{Var}
 use Rattle.geo_poly.specs.declared.variables.Var.TheVariants.{X, Y}
 use Rattle.geo_poly.proofs.Unions.{AllVariables-longer}
 
-pub leaves_longer : (old new : List Var) (n : StepNumber) → ((v : Var) → Contains old v → Contains new v) → (d : Draft) → AllLeaves (Contains old) n d → AllLeaves (Contains new) n d
+pub leaves_longer : (old new : List Var) (n : Number → StepNumber) → ((v : Var) → Contains old v → Contains new v) → (d : Draft) → AllLeaves (Contains old) n d → AllLeaves (Contains new) n d
 leaves_longer old new n more (Integer k) h = tt
 leaves_longer old new n more (Area a b c) h = AllVariables-longer old new _ more h
 leaves_longer old new n more (Pythagoras a b c) h = AllVariables-longer old new _ more h
 leaves_longer old new n more (Ratio a b c d) h = AllVariables-longer old new _ more h
 leaves_longer old new n more (Abscissa a) h = more (X a) h
 leaves_longer old new n more (Ordinate a) h = more (Y a) h
-leaves_longer old new n more Numerator h = AllVariables-longer old new _ more h
-leaves_longer old new n more Denominator h = AllVariables-longer old new _ more h
+leaves_longer old new n more (Numerator k) h = AllVariables-longer old new _ more h
+leaves_longer old new n more (Denominator k) h = AllVariables-longer old new _ more h
 leaves_longer old new n more (Combined' p o f g) h = (leaves_longer old new n more f h.0, leaves_longer old new n more g h.1)
 leaves_longer old new n more (Opposite' p f) h = leaves_longer old new n more f h

@@ -1,13 +1,15 @@
 -- The numbers that a form tells bound what it multiplies out to; and what fits has parts that fit.
-use Rattle.std.proofs.Common.{◌≡◌, ℕ, ◌*◌, ◌≤◌, pos, refl, ap, ap₂, ◌∙◌, arith}
+use Rattle.std.proofs.Common.{◌≡◌, ℕ, ◌*◌, ◌≤◌, pos, refl, ap, ap₂, ◌∙◌, sym, subst, arith}
 use Rattle.std.proofs.Math.Nat.{mul-le-mul, mul-le-mul_left}
 use Rattle.fraction_poly.specs.declared.drafts.Draft.{Draft}
 use Rattle.fraction_poly.specs.declared.drafts.Draft.TheVariants.{Integer, Area, Pythagoras, Ratio, Abscissa, Ordinate, Numerator, Denominator, Combined', Opposite'}
+use Rattle.fraction_poly.specs.declared.drafts.Number.{Number}
+use Rattle.fraction_poly.specs.declared.drafts.Number.TheVariants.{First, Second}
 use Rattle.fraction_poly.specs.declared.drafts.Operation.{Operation}
 use Rattle.fraction_poly.specs.declared.drafts.Operation.TheVariants.{Sum, Difference, Product}
 use Rattle.fraction_poly.specs.declared.measures.Numbers.{Numbers}
 use Rattle.fraction_poly.specs.declared.step_numbers.StepNumber.{StepNumber}
-use Rattle.fraction_poly.specs.Inner.Drafts.{AllFit, IsBoundedNumber, combined_form, combined_piece, drafted_piece, form_of}
+use Rattle.fraction_poly.specs.Inner.Drafts.{AllFit, IsBoundedNumber, by_number, combined_form, combined_piece, drafted_piece, form_of}
 use Rattle.fraction_poly.specs.Forms.{Form, integer, area, pythagoras, ratio, abscissa, ordinate, numerator, denominator, ◌⊞◌, ◌⊟◌, ◌⊠◌, opposite, PieceFits, step_number, integer_piece, variable_piece, piece_sum, piece_difference, piece_product, piece_opposite, piece_of}
 use Rattle.fraction_poly.specs.Measures.{numbers_of, sum_numbers, product_numbers, turned_numbers}
 use Rattle.fraction_poly.proofs.Sizes.{IsWithin, IsWithin-sum, IsWithin-difference, IsWithin-product, IsWithin-negated, IsWithin-constant, IsWithin-variable, IsWithin-area, IsWithin-pythagoras, IsWithin-ratio}
@@ -111,34 +113,34 @@ bounded_form (f ⊠ g) = bounded_product (piece_of f) (piece_of g) (bounded_form
 bounded_form (opposite f) = bounded_opposite (piece_of f) (bounded_form f)
 
 -- DRAFTS
-pub bounded_draft : (n : StepNumber) → IsBoundedNumber n → (d : Draft) → IsBounded (drafted_piece n d)
+pub bounded_draft : (n : Number → StepNumber) → ((k : Number) → IsBoundedNumber (n k)) → (d : Draft) → IsBounded (drafted_piece n d)
 bounded_draft n h (Integer k) = bounded_integer k
 bounded_draft n h (Area a b c) = bounded_variable _ (IsWithin-area a b c)
 bounded_draft n h (Pythagoras a b c) = bounded_variable _ (IsWithin-pythagoras a b c)
 bounded_draft n h (Ratio a b c d) = bounded_variable _ (IsWithin-ratio a b c d)
 bounded_draft n h (Abscissa a) = bounded_variable _ (IsWithin-variable (pos 1) (X a) (omega arith))
 bounded_draft n h (Ordinate a) = bounded_variable _ (IsWithin-variable (pos 1) (Y a) (omega arith))
-bounded_draft n h Numerator = h.num
-bounded_draft n h Denominator = h.den
+bounded_draft n h (Numerator k) = (h k).num
+bounded_draft n h (Denominator k) = (h k).den
 bounded_draft n h (Combined' p o f g) =
     bounded_combined o (drafted_piece n f) (drafted_piece n g) (bounded_draft n h f) (bounded_draft n h g)
 bounded_draft n h (Opposite' p f) = bounded_opposite (drafted_piece n f) (bounded_draft n h f)
 
-combined-is : (o : Operation) (f g : Form) → combined_piece o (piece_of f) (piece_of g) ≡ piece_of (combined_form o f g)
+pub combined-is : (o : Operation) (f g : Form) → combined_piece o (piece_of f) (piece_of g) ≡ piece_of (combined_form o f g)
 combined-is Sum f g = refl
 combined-is Difference f g = refl
 combined-is Product f g = refl
 
 -- a draft multiplies out to what its form does
-pub drafted-is : (e : Tree) (d : Draft) → drafted_piece (step_number e) d ≡ piece_of (form_of e d)
+pub drafted-is : (e : Number → Tree) (d : Draft) → drafted_piece (λ k. step_number (e k)) d ≡ piece_of (form_of e d)
 drafted-is e (Integer k) = refl
 drafted-is e (Area a b c) = refl
 drafted-is e (Pythagoras a b c) = refl
 drafted-is e (Ratio a b c d) = refl
 drafted-is e (Abscissa a) = refl
 drafted-is e (Ordinate a) = refl
-drafted-is e Numerator = refl
-drafted-is e Denominator = refl
+drafted-is e (Numerator k) = refl
+drafted-is e (Denominator k) = refl
 drafted-is e (Combined' p o f g) =
     ap₂ (combined_piece o) (drafted-is e f) (drafted-is e g) ∙ combined-is o (form_of e f) (form_of e g)
 drafted-is e (Opposite' p f) = ap piece_opposite (drafted-is e f)
@@ -176,17 +178,48 @@ combined_parts Sum f g bounded_f bounded_g h = sum_parts f g h
 combined_parts Difference f g bounded_f bounded_g h = difference_parts f g h
 combined_parts Product f g bounded_f bounded_g h = product_parts f g bounded_f bounded_g h
 
+-- the same of forms
+pub fits_sum : (f g : Form) → PieceFits (piece_of (f ⊞ g)) → BothFit (piece_of f) (piece_of g)
+fits_sum f g h = sum_parts (piece_of f) (piece_of g) h
+
+pub fits_difference : (f g : Form) → PieceFits (piece_of (f ⊟ g)) → BothFit (piece_of f) (piece_of g)
+fits_difference f g h = difference_parts (piece_of f) (piece_of g) h
+
+pub fits_product : (f g : Form) → PieceFits (piece_of (f ⊠ g)) → BothFit (piece_of f) (piece_of g)
+fits_product f g h = product_parts (piece_of f) (piece_of g) (bounded_form f) (bounded_form g) h
+
 -- so each part of a draft that fits does
-pub all_fit : (n : StepNumber) → IsBoundedNumber n → (d : Draft) → PieceFits (drafted_piece n d) → AllFit n d
+pub all_fit : (n : Number → StepNumber) → ((k : Number) → IsBoundedNumber (n k)) → (d : Draft) → PieceFits (drafted_piece n d) → AllFit n d
 all_fit n h (Integer k) fits = tt
 all_fit n h (Area a b c) fits = tt
 all_fit n h (Pythagoras a b c) fits = tt
 all_fit n h (Ratio a b c d) fits = tt
 all_fit n h (Abscissa a) fits = tt
 all_fit n h (Ordinate a) fits = tt
-all_fit n h Numerator fits = tt
-all_fit n h Denominator fits = tt
+all_fit n h (Numerator k) fits = tt
+all_fit n h (Denominator k) fits = tt
 all_fit n h (Combined' p o f g) fits =
     let parts = combined_parts o (drafted_piece n f) (drafted_piece n g) (bounded_draft n h f) (bounded_draft n h g) fits in
     (fits, all_fit n h f parts.left, all_fit n h g parts.right)
 all_fit n h (Opposite' p f) fits = all_fit n h f (record { weight = fits.weight; degree = fits.degree })
+
+-- TWO NUMBERS, as the code hands them over
+pub both_bounded : (a b : StepNumber) → IsBoundedNumber a → IsBoundedNumber b → (k : Number) → IsBoundedNumber (by_number a b k)
+both_bounded a b h g First = h
+both_bounded a b h g Second = g
+
+module _ (a b : StepNumber) (e f : Tree) (is_a : a ≡ step_number e) (is_b : b ≡ step_number f) where
+  each_number : (k : Number) → by_number a b k ≡ step_number (by_number e f k)
+  each_number First = is_a
+  each_number Second = is_b
+
+  both_numbers : by_number a b ≡ (λ k. step_number (by_number e f k))
+  both_numbers = λ i k. each_number k i
+
+  pub draft_made : (d : Draft) → drafted_piece (by_number a b) d ≡ piece_of (form_of (by_number e f) d)
+  draft_made d = ap (λ (n : Number → StepNumber). drafted_piece n d) both_numbers ∙ drafted-is (by_number e f) d
+
+  pub draft_fits : (d : Draft) → PieceFits (piece_of (form_of (by_number e f) d)) → AllFit (by_number a b) d
+  draft_fits d fits =
+      subst (λ (n : Number → StepNumber). AllFit n d) (sym both_numbers)
+      (all_fit (λ k. step_number (by_number e f k)) (λ k. bounded_number (by_number e f k)) d (subst PieceFits (sym (drafted-is (by_number e f) d)) fits))

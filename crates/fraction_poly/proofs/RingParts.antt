@@ -1,6 +1,7 @@
 -- Parts of a ring: they stay where it grows, and those of drafts are bounded.
 use Rattle.std.proofs.Common.{sym, ap, subst, ◌∙◌}
 use Rattle.fraction_poly.specs.declared.drafts.Draft.{Draft}
+use Rattle.fraction_poly.specs.declared.drafts.Number.{Number}
 use Rattle.fraction_poly.specs.declared.parts.Part.{Part}
 use Rattle.fraction_poly.specs.declared.step_numbers.StepNumber.{StepNumber}
 use Rattle.fraction_poly.specs.Inner.Drafts.{IsBoundedNumber, IsPartFor, drafted_piece, piece_in}
@@ -20,5 +21,5 @@ part_kept old new piece part grows h =
       piece_is = ap (λ (q : Summands). record { poly = q; weight = part.weight; count = part.count; degree = part.degree }) (kept.polynomial ∙ sym was) ∙ h.piece_is;
     }
 
-pub bounded_part : (n : StepNumber) → IsBoundedNumber n → (d : Draft) (r : RingValue) (part : Part) → IsPartFor r (drafted_piece n d) part → IsBounded (piece_in r part)
+pub bounded_part : (n : Number → StepNumber) → ((k : Number) → IsBoundedNumber (n k)) → (d : Draft) (r : RingValue) (part : Part) → IsPartFor r (drafted_piece n d) part → IsBounded (piece_in r part)
 bounded_part n bounded d r part h = subst IsBounded (sym h.piece_is) (bounded_draft n bounded d)

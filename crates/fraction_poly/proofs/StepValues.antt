@@ -11,7 +11,7 @@ use Rattle.geo_points.specs.declared.ids.TermId.{TermId}
 use Rattle.ring_laws.specs.Fraction.{IsNonzero, whole}
 use Rattle.geo_points.specs.Placements.{Placement}
 use Rattle.geo_terms.specs.declared.steps.Step.{Step}
-use Rattle.geo_terms.specs.declared.steps.Step.TheVariants.{Point, Inter, Foot, Pratio, Tratio}
+use Rattle.geo_terms.specs.declared.steps.Step.TheVariants.{Point, Inter, Foot, Pratio, Tratio, Weights}
 use Rattle.geo_terms.specs.Constructions.{IsStepMet}
 use Rattle.geo_terms.specs.Stores.{Store, tree_of}
 use Rattle.geo_terms.specs.Values.{HasTreeValue, tree_value}
@@ -39,6 +39,8 @@ module _ (placed : Placement) (nodes : Store) where
   denominator_nonzero k (Foot p u v) met = square_nonzero (placed.point u.0) (placed.point v.0) met.apart
   denominator_nonzero k (Pratio w u v r) met = (number_over r met.0).nonzero
   denominator_nonzero k (Tratio u v r) met = nonzero_times (whole (pos 4)) (polynomial_value placed (multiplied_out (tree_of nodes r)).1) nonzero_four (number_over r met.0).nonzero
+  denominator_nonzero k (Weights o u v r s) met =
+      nonzero_times (polynomial_value placed (multiplied_out (tree_of nodes r)).1) (polynomial_value placed (multiplied_out (tree_of nodes s)).1) (number_over r met.0).nonzero (number_over s met.1).nonzero
 
   -- no denominator has a ratio
   pub denominator_defined : (step : Step) → RatiosDefined placed (step_denominator nodes step)
@@ -47,3 +49,4 @@ module _ (placed : Placement) (nodes : Store) where
   denominator_defined (Foot p u v) = tt
   denominator_defined (Pratio w u v r) = tt
   denominator_defined (Tratio u v r) = (tt, tt)
+  denominator_defined (Weights o u v r s) = (tt, tt)

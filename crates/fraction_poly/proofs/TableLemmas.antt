@@ -14,36 +14,35 @@ use Rattle.geo_poly.specs.declared.variables.Var.{Var}
 use Rattle.geo_poly.specs.Replace.{IsBounded}
 use Rattle.geo_terms.specs.Constructions.{Construction}
 
+-- what holds of each row that a table has, holds of the row where there is one
+pub each_row : (o : Option TableRow) (Q : TableRow → Type 0) → ((t : TableRow) → o ≡ Some t → Q t) → IfSome o Q
+each_row None Q h = tt
+each_row (Some t) Q h = h t refl
+
 module _ (table : RowTable) (c : Construction) (y : PointId) (v : Var) where
-  -- the numbers that are told are light
-  pub light_numbers : IsLight table → (o : Option RowNumbers) → o ≡ option_map row_numbers (table c y v) → IfSome o AreLight
-  light_numbers light o is = subst (λ (p : Option RowNumbers). IfSome p AreLight) (sym is) (go (table c y v) refl)
-    where
-      go : (o : Option TableRow) → table c y v ≡ o → IfSome (option_map row_numbers o) AreLight
-      go None e = tt
-      go (Some t) e = light c y v t e
+  pub light_at : IsLight table → IfSome (table c y v) (λ t. AreLight (row_numbers t))
+  light_at light = each_row (table c y v) (λ t. AreLight (row_numbers t)) (λ t e. light c y v t e)
 
-  -- what is needed of a row that was made
-  module _ (P : Row × Piece → Type 0) (of_row : (t : TableRow) → table c y v ≡ Some t → P (made_row v t)) where
-    pub of_made : (r : Row × Piece) → IsSomeAnd (table c y v) RowFits → IfSome (table c y v) (λ t. r ≡ made_row v t) → P r
-    of_made r = go (table c y v) refl
-      where
-        go : (o : Option TableRow) → table c y v ≡ o → IsSomeAnd o RowFits → IfSome o (λ t. r ≡ made_row v t) → P r
-        go None e fits is = absurd fits
-        go (Some t) e fits is = subst P (sym is) (of_row t e)
+  pub sound_at : IsSound table → (placed : Placement) → IsPointMet placed c y → HasVariable placed v → IfSome (table c y v) (λ t. RowHolds placed (made_row v t).0 (made_row v t).1)
+  sound_at sound placed met has = each_row (table c y v) (λ t. RowHolds placed (made_row v t).0 (made_row v t).1) (λ t e. sound c y v t e placed met has)
 
-  pub bounded_row : IsLight table → (r : Row × Piece) → IsSomeAnd (table c y v) RowFits → IfSome (table c y v) (λ t. r ≡ made_row v t)
-      → IsBounded r.0.num × IsBounded r.1 × (r.0.power ≤ 2)
-  bounded_row light = of_made (λ r. IsBounded r.0.num × IsBounded r.1 × (r.0.power ≤ 2))
-      (λ t e. (bounded_form t.num, bounded_form t.den, (light c y v t e).power))
+  pub sound_anywhere_at : IsSoundAnywhere table → (placed : Placement) → HasVariable placed v → IfSome (table c y v) (λ t. RowHolds placed (made_row v t).0 (made_row v t).1)
+  sound_anywhere_at sound placed has = each_row (table c y v) (λ t. RowHolds placed (made_row v t).0 (made_row v t).1) (λ t e. sound c y v t e placed has)
 
-  pub sound_row : IsSound table → (r : Row × Piece) → IsSomeAnd (table c y v) RowFits → IfSome (table c y v) (λ t. r ≡ made_row v t)
-      → (placed : Placement) → IsPointMet placed c y → HasVariable placed v → RowHolds placed r.0 r.1
-  sound_row sound r fits is placed met has = of_made (λ r. RowHolds placed r.0 r.1) (λ t e. sound c y v t e placed met has) r fits is
+-- what is needed of a row that was made
+pub of_made : (v : Var) (P : Row × Piece → Type 0) (o : Option TableRow) → IfSome o (λ t. P (made_row v t)) → (r : Row × Piece)
+    → IsSomeAnd o RowFits → IfSome o (λ t. r ≡ made_row v t) → P r
+of_made v P None h r fits is = absurd fits
+of_made v P (Some t) h r fits is = subst P (sym is) h
 
-  pub sound_row_anywhere : IsSoundAnywhere table → (r : Row × Piece) → IsSomeAnd (table c y v) RowFits → IfSome (table c y v) (λ t. r ≡ made_row v t)
-      → (placed : Placement) → HasVariable placed v → RowHolds placed r.0 r.1
-  sound_row_anywhere sound r fits is placed has = of_made (λ r. RowHolds placed r.0 r.1) (λ t e. sound c y v t e placed has) r fits is
+pub bounded_row : (v : Var) (o : Option TableRow) → IfSome o (λ t. AreLight (row_numbers t)) → (r : Row × Piece) → IsSomeAnd o RowFits → IfSome o (λ t. r ≡ made_row v t)
+    → IsBounded r.0.num × IsBounded r.1 × (r.0.power ≤ 2)
+bounded_row v o light = of_made v (λ r. IsBounded r.0.num × IsBounded r.1 × (r.0.power ≤ 2)) o (go o light)
+  where
+    go : (o : Option TableRow) → IfSome o (λ t. AreLight (row_numbers t))
+        → IfSome o (λ t. IsBounded (made_row v t).0.num × IsBounded (made_row v t).1 × ((made_row v t).0.power ≤ 2))
+    go None h = tt
+    go (Some t) h = (bounded_form t.num, bounded_form t.den, h.power)
 
 -- numbers within the bounds are those of a row that fits
 pub fits_of_numbers : (o : Option TableRow) (n : RowNumbers) → Some n ≡ option_map row_numbers o → n.wa < 2 ^ 127 → n.ga ≤ 65535 → AreLight n → IsSomeAnd o RowFits

@@ -1,3 +1,4 @@
 -- What private functions and proofs speak of: drafts of rows, and terms multiplied out part by part. No public contract cites it.
 pub mod Parts
 pub mod Drafts
+pub mod Known

@@ -18,7 +18,7 @@ use Rattle.geo_poly.specs.Values.{variable_value}
 use Rattle.geo_terms.specs.declared.steps.Step.{Step}
 use Rattle.geo_terms.specs.Constructions.{Construction, IsStepMet}
 
--- a row says of a variable that the variable times `den` to the power is `num`; `charge` is that of the numbers that it uses
+-- a row says of a variable that the variable times `den` to the power is `num`; `charge` is that of the numbers of the step that it uses
 pub record TableRow : Type 0 where
   pub power : ℕ
   pub num : Form

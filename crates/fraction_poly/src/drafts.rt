@@ -2,14 +2,14 @@
 
 ghost use Rattle.std.specs.Prelude.{◌≡◌, ◌≤◌, ◌+◌, ◌*◌, ◌^◌, ◌<◌, ℕ, max, Contains, IfOk};
 ghost use Rattle.fraction_poly.specs.Inner.Drafts.{AllFit, AllLeaves, IsBoundedNumber, IsPartFor};
-ghost use Rattle.fraction_poly.specs.Inner.Drafts.{combined_form, combined_piece};
-ghost use Rattle.fraction_poly.specs.Inner.Drafts.{drafted_piece, form_of};
+ghost use Rattle.fraction_poly.specs.Inner.Drafts.{by_number, combined_form, combined_piece};
+ghost use Rattle.fraction_poly.specs.Inner.Drafts.{drafted_piece, form_of, no_terms, piece_bounds};
 ghost use Rattle.geo_poly.specs.declared.replacement.Piece.{Piece};
 ghost use Rattle.geo_poly.specs.Rings.{Grows};
-ghost use Rattle.fraction_poly.specs.Inner.Drafts.{numbers_in, piece_bounds};
-ghost use Rattle.fraction_poly.specs.Forms.{◌⊞◌, ◌⊟◌, ◌⊠◌, opposite};
-ghost use Rattle.fraction_poly.specs.Measures.{capped, capped_number};
-ghost use Rattle.fraction_poly.specs.declared.step_numbers.StepNumber.{StepNumber};
+ghost use Rattle.fraction_poly.specs.declared.drafts.Number.{Number};
+ghost use Rattle.fraction_poly.specs.declared.drafts.Number.TheVariants.{First, Second};
+ghost use Rattle.fraction_poly.specs.Forms.{◌⊞◌, ◌⊟◌, ◌⊠◌, opposite, piece_of};
+ghost use Rattle.fraction_poly.specs.Measures.{capped, capped_number, numbers_of};
 ghost use Rattle.geo_terms.specs.Trees.{Tree};
 
 use crate::measures::Numbers;
@@ -35,14 +35,23 @@ pub enum Draft {
     Abscissa(PointId),
     /// The second coordinate of a point.
     Ordinate(PointId),
-    /// The numerator of the step's number.
-    Numerator,
-    /// The denominator of the step's number.
-    Denominator,
+    /// The numerator of a number of the step.
+    Numerator(Number),
+    /// The denominator of a number of the step.
+    Denominator(Number),
     /// Two drafts put together.
     Combined(Box<Combination>),
     /// The other sign.
     Opposite(Box<Draft>),
+}
+
+/// One of the numbers of a step, which has two at most.
+#[derive(Clone, Copy, Debug, PartialEq, Eq)]
+pub enum Number {
+    /// The first, r.
+    First,
+    /// The second, s.
+    Second,
 }
 
 /// Two drafts, and how they are put together.
@@ -88,35 +97,68 @@ pub struct RowDraft {
     pub num: Draft,
     /// The denominator.
     pub den: Draft,
-    /// The term of the step's number, where the row uses one.
-    pub number: Option<TermId>,
+    /// The terms of the step's numbers that the row uses.
+    pub terms: StepTerms,
+}
+
+/// The terms of the numbers of a step.
+#[derive(Clone, Copy, Debug, PartialEq, Eq)]
+pub struct StepTerms {
+    /// The term of the first number, where there is one.
+    pub first: Option<TermId>,
+    /// The term of the second number, where there is one.
+    pub second: Option<TermId>,
+}
+
+impl StepTerms {
+    /// No number.
+    pub fn none() -> StepTerms
+        ensures { result ≡ no_terms }
+    {
+        StepTerms {
+            first: None,
+            second: None,
+        }
+    }
+}
+
+impl Number {
+    /// What belongs to the number, where something belongs to each.
+    pub(crate) fn of<'a, T>(self, first: &'a T, second: &'a T) -> &'a T
+        ensures { result.now ≡ by_number first.now second.now self }
+    {
+        match self {
+            Number::First => first,
+            Number::Second => second,
+        }
+    }
 }
 
 impl Draft {
     /// The sum.
     pub fn plus(self, alloc: Global, other: Draft) -> Result<Draft, NoMemory>
-        ensures { IfOk result (λ d. (e : Tree) → form_of e d ≡ form_of e self ⊞ form_of e other) }
+        ensures { IfOk result (λ d. (e : Number → Tree) → form_of e d ≡ form_of e self ⊞ form_of e other) }
     {
         self.combined(alloc, Operation::Sum, other)
     }
 
     /// The difference.
     pub fn minus(self, alloc: Global, other: Draft) -> Result<Draft, NoMemory>
-        ensures { IfOk result (λ d. (e : Tree) → form_of e d ≡ form_of e self ⊟ form_of e other) }
+        ensures { IfOk result (λ d. (e : Number → Tree) → form_of e d ≡ form_of e self ⊟ form_of e other) }
     {
         self.combined(alloc, Operation::Difference, other)
     }
 
     /// The product.
     pub fn times(self, alloc: Global, other: Draft) -> Result<Draft, NoMemory>
-        ensures { IfOk result (λ d. (e : Tree) → form_of e d ≡ form_of e self ⊠ form_of e other) }
+        ensures { IfOk result (λ d. (e : Number → Tree) → form_of e d ≡ form_of e self ⊠ form_of e other) }
     {
         self.combined(alloc, Operation::Product, other)
     }
 
     /// Both, put together.
     fn combined(self, alloc: Global, operation: Operation, right: Draft) -> Result<Draft, NoMemory>
-        ensures { IfOk result (λ d. (e : Tree)
+        ensures { IfOk result (λ d. (e : Number → Tree)
             → form_of e d ≡ combined_form operation (form_of e self) (form_of e right)) }
     {
         let both = Combination {
@@ -129,61 +171,84 @@ impl Draft {
 
     /// The other sign.
     pub fn opposite(self, alloc: Global) -> Result<Draft, NoMemory>
-        ensures { IfOk result (λ d. (e : Tree) → form_of e d ≡ opposite (form_of e self)) }
+        ensures { IfOk result (λ d. (e : Number → Tree) → form_of e d ≡ opposite (form_of e self)) }
     {
         Ok(Draft::Opposite(Box::new(alloc, self)?))
     }
 
-    /// The numbers of what the draft multiplies out to, where the step's number has these.
-    pub(crate) fn bounds(&self, number: &Numbers) -> Bounds
-        ensures { (n : StepNumber) (charge : ℕ) → number.now ≡ capped (numbers_in n charge)
-            → result ≡ piece_bounds (drafted_piece n self.now) }
+    /// The numbers of what the draft multiplies out to, where the step's numbers have these.
+    pub(crate) fn bounds(&self, first: &Numbers, second: &Numbers) -> Bounds
+        ensures { (e : Number → Tree) → first.now ≡ capped (numbers_of (e First))
+            → second.now ≡ capped (numbers_of (e Second))
+            → result ≡ piece_bounds (piece_of (form_of e self.now)) }
     {
         match self {
             Draft::Integer(n) => Bounds::new(u128::from(*n).max(1), 1, 0),
             Draft::Area(..) | Draft::Pythagoras(..) | Draft::Ratio(..) => Bounds::new(1, 1, 1),
             Draft::Abscissa(_) | Draft::Ordinate(_) => Bounds::new(1, 1, 1),
-            Draft::Numerator => Bounds::new(number.wn, number.kn, number.gn),
-            Draft::Denominator => Bounds::new(number.wd, number.kd, number.gd),
+            Draft::Numerator(k) => k.of(first, second).of_numerator(),
+            Draft::Denominator(k) => k.of(first, second).of_denominator(),
             Draft::Combined(both) => {
-                let left = both.left.bounds(number);
-                let right = both.right.bounds(number);
+                let left = both.left.bounds(first, second);
+                let right = both.right.bounds(first, second);
                 left.combined(both.operation, right)
             }
-            Draft::Opposite(draft) => draft.bounds(number),
+            Draft::Opposite(draft) => draft.bounds(first, second),
         }
     }
 
-    /// What the draft multiplies out to, where the step's number is this.
-    pub(crate) fn piece(&self, alloc: Global, number: &StepNumber) -> Result<Piece, NoMemory>
-        requires number { IsBoundedNumber number.now }
-        requires fits { AllFit number.now self.now }
-        ensures { IfOk result (λ f. f ≡ drafted_piece number.now self.now) }
+    /// What the draft multiplies out to, where the step's numbers are these.
+    pub(crate) fn piece(
+        &self,
+        alloc: Global,
+        first: &StepNumber,
+        second: &StepNumber,
+    ) -> Result<Piece, NoMemory>
+        requires first { IsBoundedNumber first.now }
+        requires second { IsBoundedNumber second.now }
+        requires fits { AllFit (by_number first.now second.now) self.now }
+        ensures { IfOk result (λ f. f ≡ drafted_piece (by_number first.now second.now) self.now) }
     {
-        let mut ring = Ring::new(alloc, self.variables(alloc, number)?)?;
-        let part = self.part(alloc, &mut ring, number)?;
+        match self {
+            Draft::Numerator(k) => same_piece(alloc, &k.of(first, second).num),
+            Draft::Denominator(k) => same_piece(alloc, &k.of(first, second).den),
+            _ => self.made_piece(alloc, first, second),
+        }
+    }
+
+    /// What the draft multiplies out to, made in a ring.
+    fn made_piece(
+        &self,
+        alloc: Global,
+        first: &StepNumber,
+        second: &StepNumber,
+    ) -> Result<Piece, NoMemory>
+        requires first { IsBoundedNumber first.now }
+        requires second { IsBoundedNumber second.now }
+        requires fits { AllFit (by_number first.now second.now) self.now }
+        ensures { IfOk result (λ f. f ≡ drafted_piece (by_number first.now second.now) self.now) }
+    {
+        let variables = self.variables(alloc, first, second)?;
+        let mut ring = Ring::new(alloc, variables)?;
+        let part = self.part(alloc, &mut ring, first, second)?;
         part.into_piece(alloc, ring)
     }
 
-    /// What the draft multiplies out to, where the step's number is this. The number is spent.
-    pub(crate) fn last_piece(&self, alloc: Global, number: StepNumber) -> Result<Piece, NoMemory>
-        requires number { IsBoundedNumber number }
-        requires fits { AllFit number self.now }
-        ensures { IfOk result (λ f. f ≡ drafted_piece number self.now) }
-    {
-        match self {
-            Draft::Numerator => Ok(number.num),
-            Draft::Denominator => Ok(number.den),
-            _ => self.piece(alloc, &number),
-        }
-    }
-
     /// What the draft multiplies out to, in a ring that has its variables.
-    fn part(&self, alloc: Global, ring: &mut Ring, number: &StepNumber) -> Result<Part, NoMemory>
-        requires number { IsBoundedNumber number.now }
-        requires fits { AllFit number.now self.now }
-        requires known { AllLeaves (Contains ring.old.vars) number.now self.now }
-        ensures part { IfOk result (IsPartFor ring.new (drafted_piece number.now self.now)) }
+    fn part(
+        &self,
+        alloc: Global,
+        ring: &mut Ring,
+        first: &StepNumber,
+        second: &StepNumber,
+    ) -> Result<Part, NoMemory>
+        requires first { IsBoundedNumber first.now }
+        requires second { IsBoundedNumber second.now }
+        requires fits { AllFit (by_number first.now second.now) self.now }
+        requires known { AllLeaves (Contains ring.old.vars) (by_number first.now second.now)
+            self.now }
+        ensures part { IfOk result
+            (IsPartFor ring.new (drafted_piece (by_number first.now second.now) self.now)) }
         ensures grows { Grows ring.old ring.new }
     {
         match self {
@@ -193,18 +258,50 @@ impl Draft {
             Draft::Ratio(a, b, c, d) => quantity(alloc, ring, canon_r(*a, *b, *c, *d)),
             Draft::Abscissa(a) => variable(alloc, ring, Var::X(*a)),
             Draft::Ordinate(a) => variable(alloc, ring, Var::Y(*a)),
-            Draft::Numerator => copied(alloc, ring, &number.num),
-            Draft::Denominator => copied(alloc, ring, &number.den),
+            Draft::Numerator(k) => copied(alloc, ring, &k.of(first, second).num),
+            Draft::Denominator(k) => copied(alloc, ring, &k.of(first, second).den),
             Draft::Combined(both) => {
-                let left = both.left.part(alloc, ring, number)?;
-                let right = both.right.part(alloc, ring, number)?;
+                let left = both.left.part(alloc, ring, first, second)?;
+                let right = both.right.part(alloc, ring, first, second)?;
                 combined(alloc, ring, both.operation, &left, &right)
             }
             Draft::Opposite(draft) => {
-                let part = draft.part(alloc, ring, number)?;
+                let part = draft.part(alloc, ring, first, second)?;
                 opposite(alloc, ring, &part)
             }
         }
+    }
+}
+
+/// The same piece once more.
+fn same_piece(alloc: Global, piece: &Piece) -> Result<Piece, NoMemory>
+    ensures { IfOk result (λ f. f ≡ piece.now) }
+{
+    Ok(Piece {
+        poly: piece.poly.copy(alloc)?,
+        weight: piece.weight,
+        count: piece.count,
+        degree: piece.degree,
+    })
+}
+
+impl Numbers {
+    /// The bounds of the numerator.
+    fn of_numerator(&self) -> Bounds
+        ensures weight { result.weight ≡ self.now.wn }
+        ensures count { result.count ≡ self.now.kn }
+        ensures degree { result.degree ≡ self.now.gn }
+    {
+        Bounds::new(self.wn, self.kn, self.gn)
+    }
+
+    /// The bounds of the denominator.
+    fn of_denominator(&self) -> Bounds
+        ensures weight { result.weight ≡ self.now.wd }
+        ensures count { result.count ≡ self.now.kd }
+        ensures degree { result.degree ≡ self.now.gd }
+    {
+        Bounds::new(self.wd, self.kd, self.gd)
     }
 }
 

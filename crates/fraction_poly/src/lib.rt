@@ -6,6 +6,7 @@ mod cutting;
 mod draft_variables;
 mod drafts;
 mod fractions;
+mod known_numbers;
 pub mod laws;
 mod linear;
 mod measures;
@@ -18,9 +19,13 @@ mod table;
 #[cfg(test)]
 mod tests;
 
-pub use drafts::{Draft, RowDraft};
-pub use linear::{Linear, along_numerator, crossing_numerator, foot_numerator, step_draft};
+pub use drafts::{Draft, Number, RowDraft, StepTerms};
+pub use known_numbers::KnownNumbers;
+pub use linear::{
+    Linear, along_numerator, both_denominators, crossing_numerator, first_weight, foot_numerator,
+    origin_weight, second_weight, step_draft, weights_numerator,
+};
 pub use measures::{Numbers, measure};
 pub use multiplying::multiply_out;
 pub use store_numbers::StoreNumbers;
-pub use table::{RowNumbers, Rows, draft_numbers, draft_row};
+pub use table::{RowNumbers, Rows};

@@ -1,7 +1,7 @@
 //! The numerator and the denominator of a term.
 
 ghost use Rattle.std.specs.Prelude.{◌≡◌, ◌<◌, IfOk, Some, length, slice_get};
-ghost use Rattle.fraction_poly.specs.Measures.{HasRoom, capped, numbers_of};
+ghost use Rattle.fraction_poly.specs.Measures.{HasRoom};
 ghost use Rattle.fraction_poly.specs.MultipliedOut.{multiplied_out};
 ghost use Rattle.fraction_poly.specs.Inner.Parts.{CanMultiplyOut, DoAllFit, HasParts};
 ghost use Rattle.geo_terms.specs.Stores.{IsStore, tree_of};
@@ -10,8 +10,6 @@ use crate::cutting::cut_out;
 use crate::fractions::{
     Fraction, area, difference, negation, product, pythagoras, quotient, ratio, sum, whole,
 };
-use crate::measures::Numbers;
-use crate::store_numbers::StoreNumbers;
 use geo_points::{NoMemory, TermId};
 use geo_poly::{Poly, Var};
 use geo_terms::{Node, Terms};
@@ -26,23 +24,6 @@ pub fn multiply_out(alloc: Global, terms: &Terms, id: TermId) -> Result<(Poly, P
 {
     let (cut, place) = cut_out(alloc, terms, id)?;
     fraction_of(alloc, &cut, place)
-}
-
-/// The numbers of the term at an index, and its numerator and denominator: what `measure` and
-/// `multiply_out` tell.
-pub(crate) fn measured_fraction(
-    alloc: Global,
-    terms: &Terms,
-    id: TermId,
-) -> Result<(Numbers, Fraction), NoMemory>
-    requires stored { id.0 < length terms.now }
-    requires room { HasRoom (tree_of terms.now id) }
-    ensures numbers { IfOk result (λ m. m.0 ≡ capped (numbers_of (tree_of terms.now id))) }
-    ensures fraction { IfOk result (λ m. m.1 ≡ multiplied_out (tree_of terms.now id)) }
-{
-    let (cut, place) = cut_out(alloc, terms, id)?;
-    let numbers = StoreNumbers::new(alloc, &cut)?.numbers(place);
-    Ok((numbers, fraction_of(alloc, &cut, place)?))
 }
 
 /// The fraction of the term at an index, in a store whose terms may all be multiplied out: those up

@@ -1,11 +1,12 @@
 -- The digits of a numeral, one after another.
-use Rattle.std.proofs.Common.{◌≡◌, ℕ, ◌+◌, ◌*◌, ◌-◌, ◌≤◌, ◌<◌, Bool, true, false, ◌&&◌, List, [], ◌∷◌, length, take, get_or, refl, sym, arith}
+use Rattle.std.proofs.Common.{◌≡◌, ℕ, ◌+◌, ◌*◌, ◌^◌, ◌-◌, ◌≤◌, ◌<◌, Bool, true, false, ◌&&◌, List, [], ◌∷◌, length, take, get_or, refl, sym, arith, lit≤}
+use Rattle.std.proofs.Math.Nat.{pow-le-pow_right}
 use Rattle.std.specs.Bool.{MatchBool}
 use Rattle.std.specs.Char.{digit_value, is_ascii_digit}
 use Rattle.std.specs.Int.{IsInRange}
 use Rattle.std.specs.List.{list_all}
 use Rattle.std.specs.Str.Parse.{AllDigits, IsNumeral, digits_value}
-use Rattle.std.proofs.lemmas.Int.Digits.{digits_value_more}
+use Rattle.std.proofs.lemmas.Int.Digits.{digits_value-lt, digits_value_more}
 use Rattle.std.proofs.lemmas.Str.{digit_value_digit}
 use Rattle.std.proofs.lemmas.Str.Parse.{digit_at, digit_from_value, digits_value-take-le}
 use Rattle.std.proofs.lemmas.Bool.{and_from}
@@ -57,3 +58,11 @@ list_all-from_AllDigits (b ∷ bs) all =
 pub numeral_test : (bytes : List ℕ) (passed : Bool) → 0 < length bytes → passed ≡ list_all is_ascii_digit bytes → MatchBool passed (IsNumeral 10 bytes) (¬ (IsNumeral 10 bytes))
 numeral_test bytes true some e = (some, AllDigits-from_list_all bytes (sym e))
 numeral_test bytes false some e = λ numeral. let passed : list_all is_ascii_digit bytes ≡ true = list_all-from_AllDigits bytes numeral.1 in cc
+
+-- few digits write a number of 64 bits
+pub few_fit : (digits : List ℕ) → AllDigits 10 digits → length digits ≤ 19 → digits_value 10 digits < 2 ^ 64
+few_fit digits all few =
+    let ten : 0 < 10 = lit≤ tt in
+    let powers : 10 ^ length digits ≤ 10 ^ 19 = pow-le-pow_right ten few in
+    let room : 10 ^ 19 ≤ 2 ^ 64 = lit≤ tt in
+    omega (arith, digits_value-lt 10 digits all)

@@ -1,6 +1,6 @@
 //! The edge to std's readers and writers.
 ghost use Rattle.std.specs.Prelude.{◌≡◌, ◌<◌, ◌≤◌, ℕ, length, take};
-ghost use Rattle.std.specs.Prelude.{Err, IfOk, IfSome, None, OnErr, OnOk};
+ghost use Rattle.std.specs.Prelude.{Err, IfOk, IfSome, IsErrOf, None, OnErr, OnOk};
 ghost use Rattle.std.specs.Io.KnownBytes.{Appends, ReadConsumes};
 ghost use Rattle.geo_base.specs.Devices.{HasRisen, count_up};
 
@@ -103,6 +103,7 @@ impl<W: Write> Sink for WriterSink<W> {
         ensures sound { OnOk result (self.new.faults ≡ self.old.faults) }
         ensures counted { OnErr result (self.new.faults ≡ count_up self.old.faults) }
         ensures failed { OnErr result (result ≡ Err PutError.Failed) }
+        ensures starved { IsErrOf result PutError.NoMemory → self.new.faults ≡ self.old.faults }
     {
         match self.write_through(buf) {
             Some(count) => Ok(count),

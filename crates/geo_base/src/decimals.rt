@@ -1,9 +1,9 @@
 //! Numbers as decimal text.
 ghost use Rattle.std.specs.Prelude.{◌≡◌, ◌++◌, ◌<◌, ◌≤◌, ◌^◌, ◌↔◌, IfOk, OnOk, OnErr, IsErrOf};
-ghost use Rattle.std.specs.Prelude.{SomeIff, pos};
+ghost use Rattle.std.specs.Prelude.{SomeIff, length, pos};
 ghost use Rattle.std.specs.Bool.{MatchBool};
 ghost use Rattle.std.specs.Char.{is_ascii_digit};
-ghost use Rattle.std.specs.Fmt.{signed_decimal};
+ghost use Rattle.std.specs.Fmt.{decimal, signed_decimal};
 ghost use Rattle.std.specs.List.{list_all};
 ghost use Rattle.std.specs.Str.Parse.{AllDigits, IsNumeral, digits_value};
 ghost use Rattle.geo_base.specs.Decimals.{IsDecimal, decimal_size, decimal_value};
@@ -23,6 +23,31 @@ pub enum DecimalError {
 
 /// Appends the decimal text of `n`: no leading zeros, and a `-` where it is negative.
 pub fn push_decimal(_alloc: Global, out: &mut Vec<u8>, n: i128) -> Result<(), NoMemory>
+    ensures ok { OnOk result (out.new.items ≡ out.old.items ++ signed_decimal n) }
+    ensures err { OnErr result (out.new.items ≡ out.old.items) }
+{
+    if 0 <= n && n < 10 {
+        return push_digit(out, n as u8);
+    }
+    if i64::MIN as i128 <= n && n <= i64::MAX as i128 {
+        return push_short(out, n as i64);
+    }
+    out.extend_from_slice(Buffer::new().format(n).as_bytes())?;
+    Ok(())
+}
+
+// Appends the one digit of `n`.
+fn push_digit(out: &mut Vec<u8>, n: u8) -> Result<(), NoMemory>
+    requires { n < 10 }
+    ensures ok { OnOk result (out.new.items ≡ out.old.items ++ decimal n) }
+    ensures err { OnErr result (out.new.items ≡ out.old.items) }
+{
+    out.push(b'0' + n)?;
+    Ok(())
+}
+
+// The same as `push_decimal`, for a number of 64 bits, whose digits take less work to find.
+fn push_short(out: &mut Vec<u8>, n: i64) -> Result<(), NoMemory>
     ensures ok { OnOk result (out.new.items ≡ out.old.items ++ signed_decimal n) }
     ensures err { OnErr result (out.new.items ≡ out.old.items) }
 {
@@ -59,6 +84,9 @@ fn read_digits(digits: &[u8]) -> Result<i128, DecimalError>
     if !is_numeral(digits) {
         return Err(DecimalError::NotDecimal);
     }
+    if digits.len() <= FEW {
+        return Ok(size_of_few(digits) as i128);
+    }
     match size_of_digits(digits) {
         Some(size) => Ok(size as i128),
         None => Err(DecimalError::Wide),
@@ -77,6 +105,23 @@ fn are_digits(bytes: &[u8]) -> bool
     ensures { result ≡ list_all is_ascii_digit bytes.now }
 {
     bytes.iter().all(|byte| byte.is_ascii_digit())
+}
+
+// So many digits always fit 64 bits.
+const FEW: usize = 19;
+
+// The number that few digits write.
+fn size_of_few(digits: &[u8]) -> u64
+    requires digits { AllDigits 10 digits.now }
+    requires few { length digits.now ≤ 19 }
+    ensures value { result ≡ digits_value 10 digits.now }
+    ensures fits { result < 2 ^ 64 }
+{
+    let mut size = 0u64;
+    for byte in digits {
+        size = size * 10 + (*byte - b'0') as u64;
+    }
+    size
 }
 
 // The greatest absolute value that is read.

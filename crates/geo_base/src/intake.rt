@@ -66,6 +66,8 @@ impl Intake {
         ensures too_long { IsErrOf result ReadError.TooLong ↔ (self.new.limit < self.new.taken) }
         ensures fault { IsErrOf result ReadError.ReadFault
             → HasRisen (S.faults source.old) (S.faults source.new) }
+        ensures heard { ¬ IsErrOf result ReadError.ReadFault
+            → S.faults source.new ≡ S.faults source.old }
         ensures faults { S.faults source.old ≤ S.faults source.new }
     {
         while !self.take_line()? {
@@ -121,6 +123,8 @@ impl Intake {
         ensures memory { ¬ IsErrOf result ReadError.NoMemory }
         ensures fault { IsErrOf result ReadError.ReadFault
             → HasRisen (S.faults source.old) (S.faults source.new) }
+        ensures heard { ¬ IsErrOf result ReadError.ReadFault
+            → S.faults source.new ≡ S.faults source.old }
         ensures faults { S.faults source.old ≤ S.faults source.new }
     {
         let room = (self.limit - self.taken + 1) as usize;

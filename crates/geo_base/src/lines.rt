@@ -96,6 +96,8 @@ impl LineReader {
             ↔ ((self.old.taken ≤ self.old.limit) × (self.new.limit < self.new.taken)) }
         ensures fault { IsErrOf result ReadError.ReadFault
             → HasRisen (S.faults source.old) (S.faults source.new) }
+        ensures heard { ¬ IsErrOf result ReadError.ReadFault
+            → S.faults source.new ≡ S.faults source.old }
         ensures faults { S.faults source.old ≤ S.faults source.new }
     {
         let answer = self.intake.next(source);

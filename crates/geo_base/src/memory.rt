@@ -72,6 +72,7 @@ impl Source for MemSource {
         ensures end { 0 < length buf.old → IfOk result (λ n. (n ≡ 0) ↔ (self.old.left ≡ [])) }
         ensures kept { OnErr result (self.new.left ≡ self.old.left) }
         ensures fault { OnErr result (HasRisen self.old.faults self.new.faults) }
+        ensures sound { OnOk result (self.new.faults ≡ self.old.faults) }
         ensures faults { self.old.faults ≤ self.new.faults }
         ensures count { IfOk result (λ n.
             n ≡ min (min (length self.old.left) (length buf.old)) self.old.piece) }
@@ -155,6 +156,9 @@ impl Sink for MemSink {
         ensures kept { OnErr result (self.new.held ≡ self.old.held) }
         ensures fault { IsErrOf result PutError.Failed
             → HasRisen self.old.faults self.new.faults }
+        ensures sound { OnOk result (self.new.faults ≡ self.old.faults) }
+        ensures starved { IsErrOf result PutError.NoMemory
+            → self.new.faults ≡ self.old.faults }
         ensures faults { self.old.faults ≤ self.new.faults }
         ensures listed { IsErrOf result PutError.Failed
             ↔ Contains self.old.fails (count_up self.old.calls) }

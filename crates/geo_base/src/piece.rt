@@ -72,6 +72,7 @@ impl Piece {
         ensures end { IfOk result (λ n. MarksEnd n (S.left source.old)) }
         ensures none { OnErr result (self.new ≡ []) }
         ensures fault { OnErr result (HasRisen (S.faults source.old) (S.faults source.new)) }
+        ensures sound { OnOk result (S.faults source.new ≡ S.faults source.old) }
         ensures faults { S.faults source.old ≤ S.faults source.new }
     {
         self.start = 0;
@@ -92,6 +93,7 @@ fn read_front<S: Source>(source: &mut S, bytes: &mut [u8], most: usize) -> Resul
     ensures end { IfOk result (λ n. MarksEnd n (S.left source.old)) }
     ensures kept { OnErr result (S.left source.new ≡ S.left source.old) }
     ensures fault { OnErr result (HasRisen (S.faults source.old) (S.faults source.new)) }
+    ensures sound { OnOk result (S.faults source.new ≡ S.faults source.old) }
     ensures faults { S.faults source.old ≤ S.faults source.new }
 {
     let wanted = most.min(bytes.len());

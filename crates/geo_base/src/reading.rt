@@ -26,6 +26,7 @@ pub trait Source {
         ensures end { 0 < length buf.old → IfOk result (λ n. MarksEnd n (left self.old)) }
         ensures kept { OnErr result (left self.new ≡ left self.old) }
         ensures fault { OnErr result (HasRisen (faults self.old) (faults self.new)) }
+        ensures sound { OnOk result (faults self.new ≡ faults self.old) }
         ensures faults { faults self.old ≤ faults self.new };
 }
 
@@ -78,6 +79,8 @@ pub fn read_all<S: Source>(alloc: Global, source: &mut S, limit: u64) -> Result<
         × (length taken ≤ limit + 1) × Loses (S.left source.old) taken (S.left source.new)) }
     ensures fault { IsErrOf result ReadError.ReadFault
         → HasRisen (S.faults source.old) (S.faults source.new) }
+    ensures heard { ¬ IsErrOf result ReadError.ReadFault
+        → S.faults source.new ≡ S.faults source.old }
     ensures faults { S.faults source.old ≤ S.faults source.new }
 {
     let most = limit as usize + 1;

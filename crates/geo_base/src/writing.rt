@@ -42,6 +42,9 @@ pub trait Sink {
         ensures kept { OnErr result (held self.new ≡ held self.old) }
         ensures fault { IsErrOf result PutError.Failed
             → HasRisen (faults self.old) (faults self.new) }
+        ensures sound { OnOk result (faults self.new ≡ faults self.old) }
+        ensures starved { IsErrOf result PutError.NoMemory
+            → faults self.new ≡ faults self.old }
         ensures faults { faults self.old ≤ faults self.new };
 }
 
@@ -52,6 +55,8 @@ pub fn write_all<K: Sink>(sink: &mut K, bytes: &[u8]) -> Result<(), PutError>
         × Grows (K.held sink.old) (take n bytes.now) (K.held sink.new)) }
     ensures fault { IsErrOf result PutError.Failed
         → HasRisen (K.faults sink.old) (K.faults sink.new) }
+    ensures heard { ¬ IsErrOf result PutError.Failed
+        → K.faults sink.new ≡ K.faults sink.old }
     ensures faults { K.faults sink.old ≤ K.faults sink.new }
 {
     let mut written = 0;

@@ -8,6 +8,7 @@ use Rattle.geo_c.specs.declared.status.Status.{Status}
 use Rattle.geo_c.specs.Due.{IsCheckDue, conditions_text}
 use Rattle.geo_c.specs.Inner.Acceptance.{IsAcceptedText, condition_line, condition_lines}
 use Rattle.geo_c.specs.Status.{verdict_status}
+use Rattle.geo_lowering.specs.declared.version.Version.TheVariants.{Two}
 use Rattle.geo_conditions.specs.declared.items.Item.{Item}
 use Rattle.geo_conditions.specs.Lists.{AreConditionItems, item_form}
 use Rattle.geo_program.specs.CanonicalText.{canonical_text}
@@ -25,7 +26,7 @@ same_lines nodes k (item ∷ items) =
     ∙ ap (λ (rest : List ℕ). codes "condition " ++ decimal k ++ codes " " ++ item.text ++ 10 ∷ rest) (same_lines nodes (suc k) items)
 
 -- the text of an accepted log
-pub text_of_accepted : (p : Source) (nodes : Store) (items : List Item) (verdict : Verdict) (text : List ℕ) → AreConditionItems p (map (item_form nodes) items)
+pub text_of_accepted : (p : Source) (nodes : Store) (items : List Item) (verdict : Verdict) (text : List ℕ) → AreConditionItems Two p (map (item_form nodes) items)
     → text ≡ canonical_text p ++ condition_lines 1 items ++ codes "accepted " ++ verdict_text verdict ++ 10 ∷ [] → IsAcceptedText p verdict text
 text_of_accepted p nodes items verdict text are is = record {
   conditions = map (item_form nodes) items;

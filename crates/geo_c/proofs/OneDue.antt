@@ -5,6 +5,7 @@ use Rattle.geo_c.specs.declared.answers.Answer.{Answer}
 use Rattle.geo_c.specs.declared.status.Status.TheVariants.{Done, Syntax}
 use Rattle.geo_c.specs.Due.{IsAcceptedDue, IsCheckDue, IsDueWithin, IsLogDue, IsProofDue, IsReadableDue, IsRefusalDue, IsRejectionDue, IsTextDue, conditions_text}
 use Rattle.geo_c.specs.Status.{ending_status, refusal_status, verdict_status}
+use Rattle.geo_lowering.specs.declared.version.Version.TheVariants.{Two}
 use Rattle.geo_conditions.specs.Lists.{AreConditionItems, Found, ItemForm, all_found, condition_item}
 use Rattle.geo_conditions.proofs.Listings.{listed_once}
 use Rattle.geo_conditions.proofs.SamePrograms.{same_programs_mean_the_same}
@@ -34,7 +35,7 @@ one_log : (p q : Source) (steps : ℕ) (lines other : List Line) (ending ending'
     → source_lines p ≡ source_lines q → IsLogOf p steps lines ending → IsLogOf q steps other ending' → (lines ≡ other) × (ending ≡ ending')
 one_log p q steps lines other ending ending' v w e h g =
     defined_log_unique lemma_table g.subject steps lines other ending ending'
-    (subjects_agree.defined p q h.subject g.subject v w e h.about g.about steps lines ending h.defined) g.defined
+    (subjects_agree.defined p q h.subject g.subject v w e h.about g.about (h.version ∙ sym g.version) steps lines ending h.defined) g.defined
 
 -- bytes call for one log at most
 one_log_due : (steps : ℕ) (bytes : List ℕ) (due other : Due) → IsLogDue bytes steps due → IsLogDue bytes steps other → due ≡ other
@@ -62,9 +63,9 @@ one_proof bytes steps due other (inr h) (inr g) = one_refusal_due bytes due othe
 -- WHAT THE BYTES OF A LOG CALL FOR
 
 -- a program has one list of conditions
-one_conditions : (p : Source) (one other : List ItemForm) → AreConditionItems p one → AreConditionItems p other → one ≡ other
+one_conditions : (p : Source) (one other : List ItemForm) → AreConditionItems Two p one → AreConditionItems Two p other → one ≡ other
 one_conditions p one other h g =
-    h.written ∙ ap (map (condition_item p)) (listed_once (λ (f : Found). f.condition) (all_found p) [] h.conditions g.conditions h.listed g.listed)
+    h.written ∙ ap (map (condition_item Two p)) (listed_once (λ (f : Found). f.condition) (all_found p) [] h.conditions g.conditions h.listed g.listed)
     ∙ sym g.written
 
 -- an accepted log calls for one text
@@ -74,7 +75,7 @@ one_accepted_due steps bytes due other h g =
     let text = same_text h.program g.program told.0 in
     let means = same_programs_mean_the_same h.program g.program told.0 in
     let conditions : h.conditions ≡ g.conditions =
-    one_conditions g.program h.conditions g.conditions ((means.conditions h.conditions).0 h.listed) g.listed in
+    one_conditions g.program h.conditions g.conditions ((means.conditions Two h.conditions).0 h.listed) g.listed in
     h.is
     ∙ (λ i. record {
       text = text i ++ conditions_text 1 (conditions i) ++ codes "accepted " ++ verdict_text (told.1 i) ++ 10 ∷ [];

@@ -4,6 +4,7 @@ use Rattle.geo_c.specs.Answers.{Holds}
 use Rattle.geo_c.specs.declared.answers.Answer.{Answer}
 use Rattle.geo_c.specs.Due.{accepted_text}
 use Rattle.geo_conditions.specs.Lists.{AreConditionItems, ItemForm}
+use Rattle.geo_lowering.specs.declared.version.Version.TheVariants.{Two}
 use Rattle.geo_program.specs.declared.program_type.Program.{Program}
 use Rattle.geo_program.specs.Programs.{Spells, source_of}
 use Rattle.geo_program.specs.WellFormed.{Source}
@@ -28,7 +29,7 @@ pub record Checks (bytes : List ℕ) (steps : ℕ) (before after : List ℕ) (an
   pub accepted : Accepts bytes steps program verdict
   pub means : BytesMean bytes program verdict
   pub conditions : List ItemForm
-  pub listed : AreConditionItems program conditions
+  pub listed : AreConditionItems Two program conditions
   pub held : Holds (accepted_text program conditions verdict) before after answer
 
 -- the bytes, whoever wrote them, are an accepted log, and the buffer holds its readable proof

@@ -8,6 +8,7 @@ use Rattle.geo_conditions.specs.Lists.{AreConditionItems, ItemForm}
 use Rattle.geo_lexer.specs.declared.token_types.Fault.{Fault}
 use Rattle.geo_logs.specs.Ends.{Ending}
 use Rattle.geo_logs.specs.Judging.{Refusal}
+use Rattle.geo_lowering.specs.declared.version.Version.TheVariants.{Two}
 use Rattle.geo_parser.specs.Refusals.{IsRefused}
 use Rattle.geo_program.specs.CanonicalText.{canonical_text}
 use Rattle.geo_program.specs.declared.program_type.Program.{Program}
@@ -59,13 +60,13 @@ abbrev pub accepted_text : Source → List ItemForm → Verdict → List ℕ
 accepted_text p conditions verdict =
     canonical_text p ++ conditions_text 1 conditions ++ codes "accepted " ++ verdict_text verdict ++ 10 ∷ []
 
--- the bytes are an accepted log
+-- the bytes are an accepted log. Texts of conditions are the same in both versions
 pub record IsAcceptedDue (bytes : List ℕ) (steps : ℕ) (due : Due) : Type 0 where
   pub program : Source
   pub verdict : Verdict
   pub accepted : Accepts bytes steps program verdict
   pub conditions : List ItemForm
-  pub listed : AreConditionItems program conditions
+  pub listed : AreConditionItems Two program conditions
   pub is : due ≡ record { text = accepted_text program conditions verdict; status = verdict_status verdict }
 
 -- the bytes are refused, at the line of this number

@@ -6,10 +6,11 @@ ghost use Rattle.geo_program.specs.Programs.{source_of};
 ghost use Rattle.proof_log.specs.Lines.{verdict_text};
 
 use geo_base::{Text, push_decimal};
-use geo_conditions::{Item, list};
-use geo_lowering::lower;
+use geo_conditions::Item;
+use geo_lowering::Version;
 use geo_points::NoMemory;
 use geo_program::{Program, print};
+use log_checker::versions::problem_by;
 use proof_log::Verdict;
 use std::alloc::Global;
 
@@ -18,8 +19,7 @@ use std::alloc::Global;
 pub fn accepted_text(alloc: Global, program: &Program, verdict: Verdict) -> Result<Text, NoMemory>
     ensures { IfOk result (IsAcceptedText (source_of program.now) verdict) }
 {
-    let lowered = lower(alloc, program)?;
-    let problem = list(alloc, program, lowered)?;
+    let problem = problem_by(alloc, Version::Two, program)?;
     let Text { mut bytes } = print(alloc, program)?;
     push_conditions(alloc, &mut bytes, &problem.conditions.items)?;
     bytes.extend_from_slice(b"accepted ")?;

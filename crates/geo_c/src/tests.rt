@@ -9,25 +9,26 @@ use std::test::Fail;
 const MIDPOINT: &[u8] = b"point A point B midpoint M A B prove { collinear A M B }";
 
 const MIDPOINT_LOG: &[u8] =
-    b"geolog 1\n| point A\n| point B\n| midpoint M A B\n| prove { collinear A M B }\n\
+    b"geolog 2\n| point A\n| point B\n| midpoint M A B\n| prove { collinear A M B }\n\
     goal 1 collinear A M B\nstart : -1*S0.1.2\ncut -1 : +1*S0.1.2\npoint 2 : 0\nend\n\
     sample x0=0 y0=0 x1=0 y1=0\nverdict proved\n";
 
 // The log up to its last line.
 const UNFINISHED: &[u8] =
-    b"geolog 1\n| point A\n| point B\n| midpoint M A B\n| prove { collinear A M B }\n\
+    b"geolog 2\n| point A\n| point B\n| midpoint M A B\n| prove { collinear A M B }\n\
     goal 1 collinear A M B\nstart : -1*S0.1.2\ncut -1 : +1*S0.1.2\npoint 2 : 0\nend\n\
     sample x0=0 y0=0 x1=0 y1=0\n";
 
 // The log with 23 steps.
 const SPENT_LOG: &[u8] =
-    b"geolog 1\n| point A\n| point B\n| midpoint M A B\n| prove { collinear A M B }\n\
+    b"geolog 2\n| point A\n| point B\n| midpoint M A B\n| prove { collinear A M B }\n\
     goal 1 collinear A M B\nstart : -1*S0.1.2\ncut -1 : +1*S0.1.2\nstop spent 9\n";
 
 const CROSSING_LOG: &[u8] =
-    b"geolog 1\n| point A\n| point B\n| inter X A B A B\n| prove { collinear A B X }\n\
+    b"geolog 2\n| point A\n| point B\n| inter X A B A B\n| prove { collinear A B X }\n\
     condition 1 not_parallel A B A B\nstart : 0\nend\nverdict impossible 1\n";
 
+// A log of version 1.
 const FREE_POINTS_LOG: &[u8] =
     b"geolog 1\n| point A\n| point B\n| point C\n| prove { collinear A B C }\n\
     goal 1 collinear A B C\nstart : +1*S0.1.2\n\
@@ -37,7 +38,7 @@ const FREE_POINTS_LOG: &[u8] =
 const TOO_LARGE: &[u8] =
     b"param r prove { equal { r } { 170141183460469231731687303715884105727 } }";
 
-const TOO_LARGE_LOG: &[u8] = b"geolog 1\n| param r\n\
+const TOO_LARGE_LOG: &[u8] = b"geolog 2\n| param r\n\
     | prove { equal { r } { 170141183460469231731687303715884105727 } }\n\
     goal 1 equal { r } { 170141183460469231731687303715884105727 }\nstop too_large 5 norm\n";
 
@@ -100,7 +101,7 @@ fn is_answered(alloc: Global, case: &Case) -> Result<bool, AllocError> {
 fn programs_are_proved(rt: HostRuntime) -> Result<(), Fail> {
     let cases = [
         Case::new(Call::Prove, MIDPOINT, 0, (192, 0, 0), MIDPOINT_LOG),
-        Case::new(Call::Prove, MIDPOINT, 0, (192, 0, 0), b"geolog 1\n| po"),
+        Case::new(Call::Prove, MIDPOINT, 0, (192, 0, 0), b"geolog 2\n| po"),
         Case::new(Call::Prove, MIDPOINT, 0, (192, 0, 0), b""),
         Case {
             steps: 23,

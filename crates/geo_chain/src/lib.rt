@@ -10,4 +10,4 @@ mod lines;
 mod tests;
 
 pub use choosing::next_move;
-pub use lines::next_line;
+pub use lines::{next_line, next_line_known};

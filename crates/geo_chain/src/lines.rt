@@ -5,6 +5,7 @@ ghost use Rattle.geo_logs.specs.Moves.{IsMoveStopped, place_of_lemma, replacemen
 ghost use Rattle.geo_logs.specs.Moves.{too_large};
 ghost use Rattle.elim_apply.specs.LemmaTable.{lemma_table};
 ghost use Rattle.geo_logs.specs.declared.moves.Move.{Move};
+ghost use Rattle.fraction_poly.specs.Inner.Known.{IsKnownOf};
 ghost use Rattle.fraction_poly.specs.TableRows.{HasPointsBelow};
 ghost use Rattle.geo_chain.specs.NextLines.{HasLinePointsBelow, IsMoveDue, IsNextLine, left_after};
 ghost use Rattle.geo_logs.specs.Chains.{line_of, moves};
@@ -13,7 +14,7 @@ ghost use Rattle.geo_poly.specs.PolynomialVariables.{AllVariables};
 
 use crate::choosing::next_move;
 use crate::cutting::cut_line;
-use elim_apply::{ApplyError, Move, apply};
+use elim_apply::{ApplyError, KnownNumbers, Move, apply_known};
 use geo_base::Budget;
 use geo_points::PointId;
 use geo_poly::lists::Vars;
@@ -52,21 +53,20 @@ pub fn next_line(
         ⊎ ((mv : Move) × IsMoveDue steps.now known.now p.now mv
         × (budget.new.left ≡ left_after steps.now mv p.now budget.old.left)) }
 {
-    next_line_in::<Brand>(alloc, steps, p, known, budget, Blank::new(1))
+    let mut numbers = KnownNumbers::new(alloc)?;
+    next_line_known(alloc, steps, &mut numbers, p, known, budget)
 }
 
-/// The line, by a move with a counter of its own.
-fn next_line_in<L: Ledger>(
+/// What `next_line` answers, where the numbers of the steps are kept from line to line.
+pub fn next_line_known(
     alloc: Global,
     steps: &Steps,
+    numbers: &mut KnownNumbers,
     p: &Poly,
     known: &Vars,
     budget: &mut Budget,
-    blank: Blank,
 ) -> Result<Line, ApplyError>
-    requires name { blank.name ≡ L.name }
-    requires parts { blank.parts ≡ L.parts }
-    requires some { 0 < blank.parts }
+    requires numbers { IsKnownOf steps.now.nodes numbers.old }
     requires points { AllVariables (HasPointsBelow (length steps.now.steps)) p.now }
     ensures line { IfOk result (λ line.
         IsNextLine steps.now known.now budget.old.left p.now line budget.new.left) }
@@ -84,6 +84,43 @@ fn next_line_in<L: Ledger>(
     ensures memory { IsErrOf result ApplyError.NoMemory → (budget.new ≡ budget.old)
         ⊎ ((mv : Move) × IsMoveDue steps.now known.now p.now mv
         × (budget.new.left ≡ left_after steps.now mv p.now budget.old.left)) }
+    ensures numbers { IsKnownOf steps.now.nodes numbers.new }
+{
+    next_line_in::<Brand>(alloc, steps, numbers, p, known, budget, Blank::new(1))
+}
+
+/// The line, by a move with a counter of its own.
+fn next_line_in<L: Ledger>(
+    alloc: Global,
+    steps: &Steps,
+    numbers: &mut KnownNumbers,
+    p: &Poly,
+    known: &Vars,
+    budget: &mut Budget,
+    blank: Blank,
+) -> Result<Line, ApplyError>
+    requires name { blank.name ≡ L.name }
+    requires parts { blank.parts ≡ L.parts }
+    requires some { 0 < blank.parts }
+    requires numbers { IsKnownOf steps.now.nodes numbers.old }
+    requires points { AllVariables (HasPointsBelow (length steps.now.steps)) p.now }
+    ensures line { IfOk result (λ line.
+        IsNextLine steps.now known.now budget.old.left p.now line budget.new.left) }
+    ensures points { IfOk result (HasLinePointsBelow (length steps.now.steps)) }
+    ensures row { result ≢ Err ApplyError.NoRow }
+    ensures spent { IsErrOf result ApplyError.Spent → (mv : Move)
+        × IsMoveDue steps.now known.now p.now mv
+        × IsMoveStopped (replacement lemma_table steps.now mv p.now) budget.old.left p.now spent
+        × (budget.new ≡ budget.old) }
+    ensures too_large { (which : Which) → IsErrOf result (ApplyError.TooLarge which) → (mv : Move)
+        × IsMoveDue steps.now known.now p.now mv
+        × IsMoveStopped (replacement lemma_table steps.now mv p.now) budget.old.left p.now
+        (too_large which)
+        × (budget.new.left ≡ left_after steps.now mv p.now budget.old.left) }
+    ensures memory { IsErrOf result ApplyError.NoMemory → (budget.new ≡ budget.old)
+        ⊎ ((mv : Move) × IsMoveDue steps.now known.now p.now mv
+        × (budget.new.left ≡ left_after steps.now mv p.now budget.old.left)) }
+    ensures numbers { IsKnownOf steps.now.nodes numbers.new }
 {
     // From here on it is known that the steps are a construction.
     prove!(steps.count() <= 512);
@@ -94,7 +131,7 @@ fn next_line_in<L: Ledger>(
         return Ok(Line::End);
     };
     let mut ticks = Ticks::<L>::new(blank);
-    let poly = apply(alloc, steps, p, &mv, budget, &mut ticks)?;
+    let poly = apply_known(alloc, steps, numbers, p, &mv, budget, &mut ticks)?;
     Ok(move_line(mv, poly))
 }
 

@@ -9,6 +9,7 @@ use Rattle.geo_cli.specs.Status.{stop_status}
 use Rattle.geo_logs.specs.Ends.{ends_by, ends_with, stop_line, too_long}
 use Rattle.geo_logs.specs.Moves.{Stop}
 use Rattle.geo_lowering.specs.Lowering.{IsLowered, LoweredForm}
+use Rattle.geo_lowering.specs.declared.version.Version.TheVariants.{Two}
 use Rattle.geo_program.specs.declared.program_type.Program.{Program}
 use Rattle.geo_program.specs.Programs.{source_of}
 use Rattle.geo_program.specs.WellFormed.{Source}
@@ -54,7 +55,7 @@ is_told p steps report (Err e) told is = tt
 
 -- the number, the points and how the log ends
 pub bench_told : (number steps points : ℕ) (program : Program) (form : LoweredForm) (ending : Report) (text : List ℕ) → IsBench number (source_of program)
-    → IsLowered (source_of program) form → points ≡ length form.construction.steps → TellsEnding (source_of program) steps ending
+    → IsLowered Two (source_of program) form → points ≡ length form.construction.steps → TellsEnding (source_of program) steps ending
     → text ≡ count_line (codes "bench") number ++ count_line (codes "points") points ++ ending.text
     → IsBenchDue number steps (record { text = text; status = ending.status })
 bench_told number steps points program form ending text made lowered counted told is = record {

@@ -9,6 +9,7 @@ use Rattle.geo_cli.specs.Due.{Due, IsAcceptedDue, IsBenchDue, IsCalledFor, IsCom
 use Rattle.geo_cli.specs.Input.{IsInput, IsLong, log_limit, program_limit}
 use Rattle.geo_cli.specs.Orders.{IsOrder}
 use Rattle.geo_cli.specs.Status.{ending_status, refusal_status, verdict_status}
+use Rattle.geo_lowering.specs.declared.version.Version.TheVariants.{Two}
 use Rattle.geo_conditions.specs.Lists.{AreConditionItems, Found, ItemForm, all_found, condition_item}
 use Rattle.geo_conditions.proofs.Listings.{listed_once}
 use Rattle.geo_conditions.proofs.SamePrograms.{same_programs_mean_the_same}
@@ -70,7 +71,7 @@ one_log : (p q : Source) (steps : ℕ) (lines other : List Line) (ending ending'
     → source_lines p ≡ source_lines q → IsLogOf p steps lines ending → IsLogOf q steps other ending' → (lines ≡ other) × (ending ≡ ending')
 one_log p q steps lines other ending ending' v w e h g =
     defined_log_unique lemma_table g.subject steps lines other ending ending'
-    (subjects_agree.defined p q h.subject g.subject v w e h.about g.about steps lines ending h.defined) g.defined
+    (subjects_agree.defined p q h.subject g.subject v w e h.about g.about (h.version ∙ sym g.version) steps lines ending h.defined) g.defined
 
 -- bytes call for one log at most
 one_log_due : (steps : ℕ) (bytes : List ℕ) (due other : Due) → IsLogDue steps bytes due → IsLogDue steps bytes other → due ≡ other
@@ -97,9 +98,9 @@ one_due_for steps bytes due other (inr h) (inr g) = one_refusal_due bytes due ot
 -- WHAT THE BYTES OF A LOG CALL FOR
 
 -- a program has one list of conditions
-one_conditions : (p : Source) (one other : List ItemForm) → AreConditionItems p one → AreConditionItems p other → one ≡ other
+one_conditions : (p : Source) (one other : List ItemForm) → AreConditionItems Two p one → AreConditionItems Two p other → one ≡ other
 one_conditions p one other h g =
-    h.written ∙ ap (map (condition_item p)) (listed_once (λ (f : Found). f.condition) (all_found p) [] h.conditions g.conditions h.listed g.listed)
+    h.written ∙ ap (map (condition_item Two p)) (listed_once (λ (f : Found). f.condition) (all_found p) [] h.conditions g.conditions h.listed g.listed)
     ∙ sym g.written
 
 -- an accepted log calls for one text
@@ -109,7 +110,7 @@ one_accepted_due steps bytes due other h g =
     let text = same_text h.program g.program told.0 in
     let means = same_programs_mean_the_same h.program g.program told.0 in
     let conditions : h.conditions ≡ g.conditions =
-    one_conditions g.program h.conditions g.conditions ((means.conditions h.conditions).0 h.listed) g.listed in
+    one_conditions g.program h.conditions g.conditions ((means.conditions Two h.conditions).0 h.listed) g.listed in
     h.is
     ∙ (λ i. record {
       text = text i ++ conditions_text 1 (conditions i) ++ codes "accepted " ++ verdict_text (told.1 i) ++ 10 ∷ [];
@@ -182,7 +183,7 @@ one_bench_due number steps due other h g =
     let one = one_log p q steps h.lines g.lines h.ending g.ending (program_well_formed h.program) (program_well_formed g.program) lines h.log g.log in
     let a = h.form.construction in
     let b = g.form.construction in
-    let forms = lowered_forms_agree q h.form g.form (same_programs_lower_alike p q h.form same h.lowered) g.lowered in
+    let forms = lowered_forms_agree Two q h.form g.form (same_programs_lower_alike Two p q h.form same h.lowered) g.lowered in
     let points : length a.steps ≡ length b.steps =
     sym (length-map a.steps (step_form a.nodes)) ∙ ap length forms.steps ∙ length-map b.steps (step_form b.nodes) in
     h.is

@@ -10,6 +10,7 @@ use Rattle.geo_cli.specs.Inner.Answering.{AnswersLog, AnswersRefusal, AnswersTex
 use Rattle.geo_cli.specs.Inner.Judgements.{IsAcceptedText, IsJudgement, IsRefusal, condition_line, condition_lines, error_line, error_status}
 use Rattle.geo_cli.specs.Run.{IsAnswered}
 use Rattle.geo_cli.specs.Status.{verdict_status}
+use Rattle.geo_lowering.specs.declared.version.Version.TheVariants.{Two}
 use Rattle.geo_conditions.specs.declared.items.Item.{Item}
 use Rattle.geo_conditions.specs.Lists.{AreConditionItems, item_form}
 use Rattle.geo_logs.specs.Judging.{rejected, stopped}
@@ -93,7 +94,7 @@ same_lines nodes k (item ∷ items) =
     ∙ ap (λ (rest : List ℕ). codes "condition " ++ decimal k ++ codes " " ++ item.text ++ 10 ∷ rest) (same_lines nodes (suc k) items)
 
 -- the text of an accepted log
-pub text_of_accepted : (p : Source) (nodes : Store) (items : List Item) (verdict : Verdict) (text : List ℕ) → AreConditionItems p (map (item_form nodes) items)
+pub text_of_accepted : (p : Source) (nodes : Store) (items : List Item) (verdict : Verdict) (text : List ℕ) → AreConditionItems Two p (map (item_form nodes) items)
     → text ≡ canonical_text p ++ condition_lines 1 items ++ codes "accepted " ++ verdict_text verdict ++ 10 ∷ [] → IsAcceptedText p verdict text
 text_of_accepted p nodes items verdict text are is = record {
   conditions = map (item_form nodes) items;

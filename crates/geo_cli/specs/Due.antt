@@ -15,6 +15,7 @@ use Rattle.geo_lexer.specs.declared.token_types.Fault.{Fault}
 use Rattle.geo_logs.specs.Ends.{Ending, ends_by, ends_with, stop_line, too_long}
 use Rattle.geo_logs.specs.Judging.{Refusal, number_of, rejected, stopped}
 use Rattle.geo_lowering.specs.Lowering.{IsLowered, LoweredForm}
+use Rattle.geo_lowering.specs.declared.version.Version.TheVariants.{Two}
 use Rattle.geo_parser.specs.Refusals.{IsRefused}
 use Rattle.geo_program.specs.CanonicalText.{canonical_text}
 use Rattle.geo_program.specs.declared.program_type.Program.{Program}
@@ -87,13 +88,13 @@ abbrev pub accepted_text : Source → List ItemForm → Verdict → List ℕ
 accepted_text p conditions verdict =
     canonical_text p ++ conditions_text 1 conditions ++ codes "accepted " ++ verdict_text verdict ++ 10 ∷ []
 
--- the bytes are an accepted log
+-- the bytes are an accepted log. Texts of conditions are the same in both versions
 pub record IsAcceptedDue (steps : ℕ) (bytes : List ℕ) (due : Due) : Type 0 where
   pub program : Source
   pub verdict : Verdict
   pub accepted : Accepts bytes steps program verdict
   pub conditions : List ItemForm
-  pub listed : AreConditionItems program conditions
+  pub listed : AreConditionItems Two program conditions
   pub is : due ≡ record { text = accepted_text program conditions verdict; status = verdict_status verdict }
 
 -- the line that tells the refusal of a line
@@ -145,7 +146,7 @@ pub record IsBenchDue (number steps : ℕ) (due : Due) : Type 0 where
   pub program : Program
   pub made : IsBench number (source_of program)
   pub form : LoweredForm
-  pub lowered : IsLowered (source_of program) form
+  pub lowered : IsLowered Two (source_of program) form
   pub lines : List Line
   pub ending : Ending
   pub log : IsLogOf (source_of program) steps lines ending

@@ -9,6 +9,7 @@ use Rattle.geo_cli.specs.Input.{IsInput, log_limit, program_limit}
 use Rattle.geo_cli.specs.Words.{IsBenchOf, IsCheck, IsProve, IsText, ReadsNothing}
 use Rattle.geo_logs.specs.Ends.{ends_with}
 use Rattle.geo_lowering.specs.Lowering.{IsLowered, LoweredForm}
+use Rattle.geo_lowering.specs.declared.version.Version.TheVariants.{Two}
 use Rattle.geo_program.specs.declared.program_type.Program.{Program}
 use Rattle.geo_program.specs.Programs.{Spells, source_of}
 use Rattle.geo_program.specs.WellFormed.{Source}
@@ -56,7 +57,7 @@ pub record Benches (words : List (List ℕ)) (held held' : Option (List ℕ)) (v
   pub program : Program
   pub made : IsBench number (source_of program)
   pub form : LoweredForm
-  pub lowered : IsLowered (source_of program) form
+  pub lowered : IsLowered Two (source_of program) form
   pub lines : List Line
   pub left : ℕ
   pub log : IsLogOf (source_of program) steps lines (ends_with verdict left)

@@ -15,12 +15,12 @@ const USAGE: &[u8] = b"usage: geo_cli COMMAND [NUMBER] [--steps N]\n";
 const MIDPOINT: &[u8] = b"point A point B midpoint M A B prove { collinear A M B }";
 
 const MIDPOINT_LOG: &[u8] =
-    b"geolog 1\n| point A\n| point B\n| midpoint M A B\n| prove { collinear A M B }\n\
+    b"geolog 2\n| point A\n| point B\n| midpoint M A B\n| prove { collinear A M B }\n\
     goal 1 collinear A M B\nstart : -1*S0.1.2\ncut -1 : +1*S0.1.2\npoint 2 : 0\nend\n\
     sample x0=0 y0=0 x1=0 y1=0\nverdict proved\n";
 
 const MIDPOINT_STOP: &[u8] =
-    b"geolog 1\n| point A\n| point B\n| midpoint M A B\n| prove { collinear A M B }\n\
+    b"geolog 2\n| point A\n| point B\n| midpoint M A B\n| prove { collinear A M B }\n\
     goal 1 collinear A M B\nstart : -1*S0.1.2\ncut -1 : +1*S0.1.2\nstop spent 9\n";
 
 // The same program with comments and sketch numbers.
@@ -30,13 +30,13 @@ const SKETCHED: &[u8] =
 const CROSSING: &[u8] = b"point A point B inter X A B A B prove { collinear A B X }";
 
 const CROSSING_LOG: &[u8] =
-    b"geolog 1\n| point A\n| point B\n| inter X A B A B\n| prove { collinear A B X }\n\
+    b"geolog 2\n| point A\n| point B\n| inter X A B A B\n| prove { collinear A B X }\n\
     condition 1 not_parallel A B A B\nstart : 0\nend\nverdict impossible 1\n";
 
 const FREE_POINTS: &[u8] = b"point A point B point C prove { collinear A B C }";
 
 const FREE_POINTS_LOG: &[u8] =
-    b"geolog 1\n| point A\n| point B\n| point C\n| prove { collinear A B C }\n\
+    b"geolog 2\n| point A\n| point B\n| point C\n| prove { collinear A B C }\n\
     goal 1 collinear A B C\nstart : +1*S0.1.2\n\
     coords : +1*x0*y1 -1*x0*y2 -1*y0*x1 +1*y0*x2 +1*x1*y2 -1*y1*x2\nend\n\
     sample x0=0 y0=0 x1=0 y1=1 x2=1 y2=0\nverdict false 1\n";
@@ -44,7 +44,7 @@ const FREE_POINTS_LOG: &[u8] =
 const NUMBERS: &[u8] = b"prove { equal { 1 } { 1 } }";
 
 const NUMBERS_LOG: &[u8] =
-    b"geolog 1\n| prove { equal { 1 } { 1 } }\ngoal 1 equal { 1 } { 1 }\nstart : 0\nend\n\
+    b"geolog 2\n| prove { equal { 1 } { 1 } }\ngoal 1 equal { 1 } { 1 }\nstart : 0\nend\n\
     sample\nverdict proved\n";
 
 const QUOTIENTS: &[u8] =
@@ -55,7 +55,7 @@ const LARGEST: &[u8] = b"param r prove { equal { r } { 1701411834604692317316873
 const TOO_LARGE: &[u8] =
     b"param r prove { equal { r } { 170141183460469231731687303715884105727 } }";
 
-const TOO_LARGE_LOG: &[u8] = b"geolog 1\n| param r\n\
+const TOO_LARGE_LOG: &[u8] = b"geolog 2\n| param r\n\
     | prove { equal { r } { 170141183460469231731687303715884105727 } }\n\
     goal 1 equal { r } { 170141183460469231731687303715884105727 }\nstop too_large 5 norm\n";
 
@@ -255,7 +255,7 @@ fn logs(rt: HostRuntime) -> Result<(), Fail> {
         Row::prove(SKETCHED, 4096, Status::Proved, MIDPOINT_LOG),
         Row {
             failing_writes: &[3],
-            ..Row::prove(MIDPOINT, 4096, Status::WriteFault, b"geolog 1\n| point A\n")
+            ..Row::prove(MIDPOINT, 4096, Status::WriteFault, b"geolog 2\n| point A\n")
         },
         Row::prove(CROSSING, 4096, Status::Impossible(1), CROSSING_LOG),
         Row::prove(FREE_POINTS, 4096, Status::False(1), FREE_POINTS_LOG),

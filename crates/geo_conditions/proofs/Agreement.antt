@@ -14,6 +14,7 @@ use Rattle.geo_program.specs.declared.statements.Statement.{Statement}
 use Rattle.geo_program.specs.declared.statements.Statement.TheVariants.{Equal, Collinear, Parallel, Perpendicular, Identical, Midpoint, SameLength, Harmonic, Concyclic}
 use Rattle.geo_program.specs.Expressions.{IsExpression}
 use Rattle.geo_program.specs.WellFormed.{Source}
+use Rattle.geo_lowering.specs.declared.version.Version.{Version}
 use Rattle.geo_lowering.specs.CommandsMet.{reading, lines_of}
 use Rattle.geo_lowering.specs.Conditions.{Condition, different, not_collinear, not_parallel, crossing, nonzero, IsConditionMet}
 use Rattle.geo_lowering.specs.Lowering.{Layout, layout_of, renamed}
@@ -58,15 +59,15 @@ IsStatementOver nodes x y (SameLength a b c d) = (a.0 < x) × (b.0 < x) × (c.0 
 IsStatementOver nodes x y (Harmonic a b c d) = (a.0 < x) × (b.0 < x) × (c.0 < x) × (d.0 < x)
 IsStatementOver nodes x y (Concyclic a b c d) = (a.0 < x) × (b.0 < x) × (c.0 < x) × (d.0 < x)
 
-module _ (p : Source) (V L : Placement) (x y j : ℕ) where
+module _ (version : Version) (p : Source) (V L : Placement) (x y j : ℕ) where
   abbrev l : Layout
-  l = layout_of p.commands
+  l = layout_of version p.commands
 
   -- the lowered placement agrees with the other at what is declared
   pub record Agrees : Type 0 where
-    pub points : AllSame l p.nodes V L (lines_of V p.commands) x
+    pub points : AllSame version l p.nodes V L (lines_of V p.commands) x
     pub numbers : (t : ℕ) → t < y → Same (V.number (l.param t)) (L.number (l.param t))
-    pub lines : AllStand l p.nodes V L (lines_of V p.commands) j
+    pub lines : AllStand version l p.nodes V L (lines_of V p.commands) j
 
   module _ (g : Agrees) where
     down : AgreeBelow x y (reading p V) (seen l L)

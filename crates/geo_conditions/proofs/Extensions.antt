@@ -8,6 +8,7 @@ use Rattle.ring_laws.proofs.Fractions.{fractions}
 use Rattle.geo_program.specs.declared.commands.Command.{Command}
 use Rattle.geo_program.specs.declared.names.NameKind.TheVariants as kind
 use Rattle.geo_program.specs.WellFormed.{Source, IsWellFormed}
+use Rattle.geo_lowering.specs.declared.version.Version.{Version}
 use Rattle.geo_lowering.specs.CommandsMet.{lines_of}
 use Rattle.geo_lowering.specs.Conditions.{Condition, IsConditionMet, command_conditions, AreConditionsMet}
 use Rattle.geo_lowering.specs.Counting.{named, counted, next_point, next_number, points_from}
@@ -27,30 +28,30 @@ use Rattle.geo_conditions.specs.Lists.{Found, found_at, found_from, all_found}
 use Rattle.geo_conditions.specs.Statements.{statement_conditions}
 
 -- all lines stand on their pairs
-stands_all : (s : Source) (V L : Placement) (cs : List Command) (x y j n m : ℕ) → AllSame (layout_of s.commands) s.nodes V L (lines_of V s.commands) (points_from x cs)
-    → AreNamed s.nodes x y j cs → AreLaid (layout_of s.commands) x y j n m cs → AreDrawn V (lines_of V s.commands) j cs
-    → AllStand (layout_of s.commands) s.nodes V L (lines_of V s.commands) j → AreFormsMet L n (steps_from (layout_of s.commands) s.nodes n m cs)
-    → AllStand (layout_of s.commands) s.nodes V L (lines_of V s.commands) (lines_past j cs)
-stands_all s V L [] x y j n m g k d r w h = w
-stands_all s V L (c ∷ cs) x y j n m g k d r w h =
-    let l = layout_of s.commands in
-    let steps = command_steps l s.nodes n m c in
-    let rest = steps_from l s.nodes (next_point n c) (next_number m c) cs in
+stands_all : (version : Version) (s : Source) (V L : Placement) (cs : List Command) (x y j n m : ℕ) → AllSame version (layout_of version s.commands) s.nodes V L (lines_of V s.commands) (points_from x cs)
+    → AreNamed s.nodes x y j cs → AreLaid version (layout_of version s.commands) x y j n m cs → AreDrawn V (lines_of V s.commands) j cs
+    → AllStand version (layout_of version s.commands) s.nodes V L (lines_of V s.commands) j → AreFormsMet L n (steps_from version (layout_of version s.commands) s.nodes n m cs)
+    → AllStand version (layout_of version s.commands) s.nodes V L (lines_of V s.commands) (lines_past j cs)
+stands_all version s V L [] x y j n m g k d r w h = w
+stands_all version s V L (c ∷ cs) x y j n m g k d r w h =
+    let l = layout_of version s.commands in
+    let steps = command_steps version l s.nodes n m c in
+    let rest = steps_from version l s.nodes (next_point version n c) (next_number m c) cs in
     let u : x ≤ points_from x (c ∷ cs) = points-up x (c ∷ cs) in
-    stands_all s V L cs _ _ _ (next_point n c) (next_number m c) g k.1 d.1 r.1
-    (stands_next l s.nodes V L (lines_of V s.commands) x y j n m c (λ a b. g a (omega arith)) w k.0 d.0 r.0 (met_front L n steps rest h))
-    (subst (λ i. AreFormsMet L i rest) (past_steps l s.nodes n m c) (met_back L n steps rest h))
+    stands_all version s V L cs _ _ _ (next_point version n c) (next_number m c) g k.1 d.1 r.1
+    (stands_next version l s.nodes V L (lines_of V s.commands) x y j n m c (λ a b. g a (omega arith)) w k.0 d.0 r.0 (met_front L n steps rest h))
+    (subst (λ i. AreFormsMet L i rest) (past_steps version l s.nodes n m c) (met_back L n steps rest h))
 
-pub extension_agrees : (s : Source) (V L : Placement) → IsWellFormed s → Extends s V L → AreFormsMet L 0 (steps_of s)
-    → Agrees s V L (points_from 0 s.commands) (params_past 0 s.commands) (lines_past 0 s.commands)
-extension_agrees s V L w e h =
-    let k = named_program s w in let d = laid_program s.commands in
-    let same : AllSame (layout_of s.commands) s.nodes V L (lines_of V s.commands) (points_from 0 s.commands) = λ a b. of_path (sym (e.points a b)) in
-    let B = bounds_all s s.commands 0 0 0 0 0 (no_bounds (layout_of s.commands)) k d in
+pub extension_agrees : (version : Version) (s : Source) (V L : Placement) → IsWellFormed s → Extends version s V L → AreFormsMet L 0 (steps_of version s)
+    → Agrees version s V L (points_from 0 s.commands) (params_past 0 s.commands) (lines_past 0 s.commands)
+extension_agrees version s V L w e h =
+    let k = named_program s w in let d = laid_program version s.commands in
+    let same : AllSame version (layout_of version s.commands) s.nodes V L (lines_of V s.commands) (points_from 0 s.commands) = λ a b. of_path (sym (e.points a b)) in
+    let B = bounds_all version s s.commands 0 0 0 0 0 (no_bounds (layout_of version s.commands)) k d in
     record {
       points = same;
-      numbers = λ t b. subst (λ r. Same (V.number ((layout_of s.commands).param t)) r) (sym (e.numbers ((layout_of s.commands).param t) (B.params t b))) (fractions.same_refl _);
-      lines = stands_all s V L s.commands 0 0 0 0 0 same k d (drawn_program s V w) (λ i b. absurd (omega arith)) h;
+      numbers = λ t b. subst (λ r. Same (V.number ((layout_of version s.commands).param t)) r) (sym (e.numbers ((layout_of version s.commands).param t) (B.params t b))) (fractions.same_refl _);
+      lines = stands_all version s V L s.commands 0 0 0 0 0 same k d (drawn_program s V w) (λ i b. absurd (omega arith)) h;
     }
 
 -- CONDITIONS COMMAND BY COMMAND

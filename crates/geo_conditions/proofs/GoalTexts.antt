@@ -13,7 +13,7 @@ use Rattle.geo_program.specs.WellFormed.{IsArgument, IsWellFormed, Source}
 use Rattle.geo_program.specs.Words.{statement_words}
 use Rattle.geo_program.proofs.LinesSpelt.{line_spelt}
 use Rattle.geo_program.proofs.OneProgram.{arguments_read}
-use Rattle.geo_program.proofs.Reading.{place_of}
+use Rattle.geo_program.proofs.WordPlaces.{place_of}
 use Rattle.geo_program.proofs.Standing.{IsWord-tested, MayAllStand, arguments_stand}
 use Rattle.geo_terms.specs.Stores.{Store, tree_of}
 use Rattle.geo_terms.specs.Trees.{Tree, integer_leaf, parameter_leaf, area_leaf, pythagoras_leaf, ratio_leaf, negation, addition, subtraction, multiplication, division}

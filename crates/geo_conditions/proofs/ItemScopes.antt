@@ -5,7 +5,7 @@ use Rattle.std.specs.List.{AllByRecursion}
 use Rattle.std.proofs.lemmas.List.Elements.{recursion_from_All}
 use Rattle.std.proofs.lemmas.List.Sums.{sum_by-cons}
 use Rattle.geo_program.specs.declared.commands.Command.{Command}
-use Rattle.geo_program.specs.declared.commands.Command.TheVariants.{Point, Param, Pratio, Tratio, Lratio}
+use Rattle.geo_program.specs.declared.commands.Command.TheVariants.{Point, Param, Pratio, Tratio, Lratio, Weights}
 use Rattle.geo_program.specs.declared.names.Name.{Name}
 use Rattle.geo_program.specs.declared.names.NameKind.TheVariants as kind
 use Rattle.geo_program.specs.declared.statements.Statement.{Statement}
@@ -13,7 +13,7 @@ use Rattle.geo_program.specs.declared.statements.Statement.TheVariants as statem
 use Rattle.geo_program.specs.Expressions.{IsExpression}
 use Rattle.geo_program.specs.Forms.{AreSidesStored, IsStored, command_form, statement_form}
 use Rattle.geo_program.specs.Inner.Printing.{whole_scope}
-use Rattle.geo_program.specs.WellFormed.{AreCommands, IsArgument, IsWellFormed, Scope, Source, declare}
+use Rattle.geo_program.specs.WellFormed.{AreCommands, IsArgument, IsWellFormed, Scope, Source, later_names, own_names, scope_of}
 use Rattle.geo_program.proofs.ScopeLemmas.{IsExpression-ratios}
 use Rattle.geo_terms.specs.Stores.{Store, IsStore, tree_of}
 use Rattle.geo_terms.specs.Trees.{Tree, integer_leaf, parameter_leaf, area_leaf, pythagoras_leaf, ratio_leaf, negation, addition, subtraction, multiplication, division}
@@ -39,14 +39,15 @@ number_braced : (nodes : Store) (s : Scope) (c : Command) → AllByRecursion (Is
 number_braced nodes s (Pratio w u v r) k i = (i, k.1.1.1.0.1)
 number_braced nodes s (Tratio u v r) k i = (i, k.1.1.0.1)
 number_braced nodes s (Lratio a b r) k i = (i, k.1.1.0.1)
+number_braced nodes s (Weights a b c r t) k i = ((i.0, k.1.1.1.0.1), (i.1, k.1.1.1.1.0.1))
 number_braced nodes s c k i = tt
 
 pub numbers_braced : (nodes : Store) (s : Scope) (names : List Name) (cs : List Command) → AreCommands nodes s names cs → AllByRecursion (IsNumberBraced nodes) cs
-numbers_braced nodes s [] [] h = tt
-numbers_braced nodes s (n ∷ ns) (c ∷ cs) h =
-    (number_braced nodes s c (recursion_from_All (IsArgument s) (command_form nodes c).arguments h.0.arguments) h.0.stored, numbers_braced nodes (declare n.kind s) ns cs h.1)
-numbers_braced nodes s [] (c ∷ cs) h = absurd h
-numbers_braced nodes s (n ∷ ns) [] h = absurd h
+numbers_braced nodes s names [] h = tt
+numbers_braced nodes s names (c ∷ cs) h = (
+  number_braced nodes s c (recursion_from_All (IsArgument s) (command_form nodes c).arguments h.0.arguments) h.0.stored,
+  numbers_braced nodes (scope_of s (own_names (command_form nodes c) names)) (later_names (command_form nodes c) names) cs h.1,
+)
 
 pub sides_braced : (p : Source) → IsWellFormed p → AreSidesBraced p.nodes p.statement
 sides_braced p w =

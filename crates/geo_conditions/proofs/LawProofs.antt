@@ -7,6 +7,7 @@ use Rattle.geo_points.specs.Points.{Point as Triple}
 use Rattle.ring_laws.proofs.Fractions.{fractions}
 use Rattle.geo_program.specs.declared.commands.Command.{Command}
 use Rattle.geo_program.specs.WellFormed.{Source, IsWellFormed}
+use Rattle.geo_lowering.specs.declared.version.Version.{Version}
 use Rattle.geo_lowering.specs.Building.{forgotten, AreMade}
 use Rattle.geo_lowering.specs.CommandsMet.{lines_of}
 use Rattle.geo_lowering.specs.Conditions.{Condition, IsConditionMet, early_conditions}
@@ -29,7 +30,7 @@ use Rattle.geo_conditions.proofs.ConditionScopes.{FoundOver, AreOver, program_ov
 use Rattle.geo_conditions.proofs.Extensions.{extension_agrees, Met, met_program}
 use Rattle.geo_conditions.proofs.Listings.{listed_hold, all_hold}
 
-module _ (p : Source) (V L : Placement) (w : IsWellFormed p) (e : Extends p V L) (h : AreFormsMet L 0 (steps_of p)) where
+module _ (version : Version) (p : Source) (V L : Placement) (w : IsWellFormed p) (e : Extends version p V L) (h : AreFormsMet L 0 (steps_of version p)) where
   abbrev X : ℕ
   X = points_from 0 p.commands
 
@@ -39,23 +40,23 @@ module _ (p : Source) (V L : Placement) (w : IsWellFormed p) (e : Extends p V L)
   abbrev J : ℕ
   J = lines_past 0 p.commands
 
-  agrees : Agrees p V L X Y J
-  agrees = extension_agrees p V L w e h
+  agrees : Agrees version p V L X Y J
+  agrees = extension_agrees version p V L w e h
 
   abbrev Nonzero : List Found → Type 0
-  Nonzero fs = AllByRecursion (λ f. IsNonzeroCondition p L f.condition) fs
+  Nonzero fs = AllByRecursion (λ f. IsNonzeroCondition version p L f.condition) fs
 
   are_nonzero : (fs : List Found) → FoundOver X Y J fs → Met p V fs → Nonzero fs
   are_nonzero [] o m = tt
-  are_nonzero (f ∷ fs) o m = ((condition_is p V L X Y J agrees f.condition o.0).0 m.0, are_nonzero fs o.1 m.1)
+  are_nonzero (f ∷ fs) o m = ((condition_is version p V L X Y J agrees f.condition o.0).0 m.0, are_nonzero fs o.1 m.1)
 
   are_met : (fs : List Found) → FoundOver X Y J fs → Nonzero fs → Met p V fs
   are_met [] o m = tt
-  are_met (f ∷ fs) o m = ((condition_is p V L X Y J agrees f.condition o.0).1 m.0, are_met fs o.1 m.1)
+  are_met (f ∷ fs) o m = ((condition_is version p V L X Y J agrees f.condition o.0).1 m.0, are_met fs o.1 m.1)
 
-  are_both : (fs : List Found) → FoundOver X Y J fs → AllByRecursion (λ f. IsConditionMet p V f.condition ↔ IsNonzeroCondition p L f.condition) fs
+  are_both : (fs : List Found) → FoundOver X Y J fs → AllByRecursion (λ f. IsConditionMet p V f.condition ↔ IsNonzeroCondition version p L f.condition) fs
   are_both [] o = tt
-  are_both (f ∷ fs) o = (condition_is p V L X Y J agrees f.condition o.0, are_both fs o.1)
+  are_both (f ∷ fs) o = (condition_is version p V L X Y J agrees f.condition o.0, are_both fs o.1)
 
   over : FoundOver X Y J (all_found p)
   over = program_over p w (named_program p w)
@@ -63,97 +64,97 @@ module _ (p : Source) (V L : Placement) (w : IsWellFormed p) (e : Extends p V L)
   statement : IsStatementOver p.nodes X Y p.statement
   statement = program_statement_over p w
 
-  goals_are : Holds p V ↔ AllByRecursion (IsZeroGoal p L) (statement_goals p.nodes p.statement)
-  goals_are = statement_is p V L X Y J agrees p.statement statement
+  goals_are : Holds p V ↔ AllByRecursion (IsZeroGoal version p L) (statement_goals p.nodes p.statement)
+  goals_are = statement_is version p V L X Y J agrees p.statement statement
 
 pub conditions_are_terms : ConditionsAreTerms
-conditions_are_terms p l V L conditions i c =
-    let h = to_forms p l L i.form i.steps in
-    All-from_recursion (λ f. IsConditionMet p V f.condition ↔ IsNonzeroCondition p L f.condition) conditions
-    (listed_hold (λ f. f.condition) (λ k. IsConditionMet p V k ↔ IsNonzeroCondition p L k) (all_found p) [] conditions c tt (are_both p V L i.well_formed i.extends h (all_found p) (over p V L i.well_formed i.extends h)))
+conditions_are_terms version p l V L conditions i c =
+    let h = to_forms version p l L i.form i.steps in
+    All-from_recursion (λ f. IsConditionMet p V f.condition ↔ IsNonzeroCondition version p L f.condition) conditions
+    (listed_hold (λ f. f.condition) (λ k. IsConditionMet p V k ↔ IsNonzeroCondition version p L k) (all_found p) [] conditions c tt (are_both version p V L i.well_formed i.extends h (all_found p) (over version p V L i.well_formed i.extends h)))
 
 pub placements_lower : PlacementsLower
-placements_lower p l V conditions w i c m =
+placements_lower version p l V conditions w i c m =
     let met = recursion_from_All (λ f. IsConditionMet p V f.condition) (all_found p) m.conditions in
-    let d = extension p V w m.commands (met_program p V met) in
+    let d = extension version p V w m.commands (met_program p V met) in
     let L = d.0 in (
       L,
       d.1,
-      to_steps p l L i d.2,
-      All-from_recursion (λ f. IsNonzeroCondition p L f.condition) conditions
-          (listed_hold (λ f. f.condition) (IsNonzeroCondition p L) (all_found p) [] conditions c tt (are_nonzero p V L w d.1 d.2 (all_found p) (over p V L w d.1 d.2) met)),
+      to_steps version p l L i d.2,
+      All-from_recursion (λ f. IsNonzeroCondition version p L f.condition) conditions
+          (listed_hold (λ f. f.condition) (IsNonzeroCondition version p L) (all_found p) [] conditions c tt (are_nonzero version p V L w d.1 d.2 (all_found p) (over version p V L w d.1 d.2) met)),
     )
 
 pub lowered_placements_meet : LoweredPlacementsMeet
-lowered_placements_meet p l L conditions w i c h z =
-    let V = forgotten p L in
-    let f = to_forms p l L i h in
-    let e = forgotten-extends p L in
-    let all = (all_hold (λ f. f.condition) (IsNonzeroCondition p L) (all_found p) [] conditions c (recursion_from_All (λ f. IsNonzeroCondition p L f.condition) conditions z)).1 in (
+lowered_placements_meet version p l L conditions w i c h z =
+    let V = forgotten version p L in
+    let f = to_forms version p l L i h in
+    let e = forgotten-extends version p L in
+    let all = (all_hold (λ f. f.condition) (IsNonzeroCondition version p L) (all_found p) [] conditions c (recursion_from_All (λ f. IsNonzeroCondition version p L f.condition) conditions z)).1 in (
       e,
       record {
-        commands = up p L w f;
-        conditions = All-from_recursion (λ f. IsConditionMet p V f.condition) (all_found p) (are_met p V L w e f (all_found p) (over p V L w e f) all);
+        commands = up version p L w f;
+        conditions = All-from_recursion (λ f. IsConditionMet p V f.condition) (all_found p) (are_met version p V L w e f (all_found p) (over version p V L w e f) all);
       },
     )
 
 pub goals_are_terms : GoalsAreTerms
-goals_are_terms p l V L goals i c =
-    let h = to_forms p l L i.form i.steps in
-    let g = goals_are p V L i.well_formed i.extends h in
+goals_are_terms version p l V L goals i c =
+    let h = to_forms version p l L i.form i.steps in
+    let g = goals_are version p V L i.well_formed i.extends h in
     let all = statement_goals p.nodes p.statement in (
-      λ k. All-from_recursion (IsZeroGoal p L) goals (listed_hold (λ s. s) (IsZeroGoal p L) all [] goals c tt (g.0 k)),
-      λ k. g.1 (all_hold (λ s. s) (IsZeroGoal p L) all [] goals c (recursion_from_All (IsZeroGoal p L) goals k)).1,
+      λ k. All-from_recursion (IsZeroGoal version p L) goals (listed_hold (λ s. s) (IsZeroGoal version p L) all [] goals c tt (g.0 k)),
+      λ k. g.1 (all_hold (λ s. s) (IsZeroGoal version p L) all [] goals c (recursion_from_All (IsZeroGoal version p L) goals k)).1,
     )
 
 -- ---- made command by command
-module _ (p : Source) (given : Placement) (w : IsWellFormed p) where
+module _ (version : Version) (p : Source) (given : Placement) (w : IsWellFormed p) where
   abbrev with_points : (ℕ → Triple) → Placement
   with_points at = record { point = at; number = given.number }
 
   -- what is made by the steps of some commands agrees with its own named points
-  made_agrees : (before rest : List Command) (c : Command) → p.commands ≡ before ++ c ∷ rest → (at : ℕ → Triple) → AreMade p given (with_points at) 0 0 0 before
-      → Agrees p (forgotten p (with_points at)) (with_points at) (points_from 0 before) (params_past 0 before) (lines_past 0 before)
+  made_agrees : (before rest : List Command) (c : Command) → p.commands ≡ before ++ c ∷ rest → (at : ℕ → Triple) → AreMade version p given (with_points at) 0 0 0 before
+      → Agrees version p (forgotten version p (with_points at)) (with_points at) (points_from 0 before) (params_past 0 before) (lines_past 0 before)
   made_agrees before rest c e at h =
-      let L = with_points at in let V = forgotten p L in
+      let L = with_points at in let V = forgotten version p L in
       let k = subst (λ bs. AreNamed p.nodes 0 0 0 bs) e (named_program p w) in
-      let d = subst (λ bs. AreLaid (layout_of p.commands) 0 0 0 0 0 bs) e (laid_program p.commands) in
+      let d = subst (λ bs. AreLaid version (layout_of version p.commands) 0 0 0 0 0 bs) e (laid_program version p.commands) in
       let r = subst (λ bs. AreDrawn V (lines_of V p.commands) 0 bs) e (drawn_program p V w) in
       record {
         points = λ a b. self_point _;
         numbers = λ t b. fractions.same_refl _;
-        lines = stands_behind p given L before (c ∷ rest) 0 0 0 0 0 k d r (λ i b. absurd (omega arith)) h;
+        lines = stands_behind version p given L before (c ∷ rest) 0 0 0 0 0 k d r (λ i b. absurd (omega arith)) h;
       }
 
-  early_met : (V L : Placement) (x y j : ℕ) → Agrees p V L x y j → (cs : List Condition) → AreOver x y j cs → AllByRecursion (IsNonzeroCondition p L) cs → AllByRecursion (IsConditionMet p V) cs
+  early_met : (V L : Placement) (x y j : ℕ) → Agrees version p V L x y j → (cs : List Condition) → AreOver x y j cs → AllByRecursion (IsNonzeroCondition version p L) cs → AllByRecursion (IsConditionMet p V) cs
   early_met V L x y j g [] o h = tt
-  early_met V L x y j g (c ∷ cs) o h = ((condition_is p V L x y j g c o.0).1 h.0, early_met V L x y j g cs o.1 h.1)
+  early_met V L x y j g (c ∷ cs) o h = ((condition_is version p V L x y j g c o.0).1 h.0, early_met V L x y j g cs o.1 h.1)
 
-  ready : AreTermsReady p given → IsReady p given
+  ready : AreTermsReady version p given → IsReady version p given
   ready t before rest c e at h =
-      let L = with_points at in let V = forgotten p L in
+      let L = with_points at in let V = forgotten version p L in
       let k = subst (λ bs. AreNamed p.nodes 0 0 0 bs) e (named_program p w) in
-      let d = subst (λ bs. AreLaid (layout_of p.commands) 0 0 0 0 0 bs) e (laid_program p.commands) in
-      let f = behind p given before rest c 0 0 0 0 0 (no_bounds (layout_of p.commands)) k d in
+      let d = subst (λ bs. AreLaid version (layout_of version p.commands) 0 0 0 0 0 bs) e (laid_program version p.commands) in
+      let f = behind version p given before rest c 0 0 0 0 0 (no_bounds (layout_of version p.commands)) k d in
       let early = early_conditions p.nodes c in
       All-from_recursion (IsConditionMet p V) early
       (early_met V L (points_from 0 before) (params_past 0 before) (lines_past 0 before) (made_agrees before rest c e at h) early
-      (early_over p.nodes (points_from 0 before) (params_past 0 before) (lines_past 0 before) c f.names) (recursion_from_All (IsNonzeroCondition p L) early (t before rest c e at h)))
+      (early_over p.nodes (points_from 0 before) (params_past 0 before) (lines_past 0 before) c f.names) (recursion_from_All (IsNonzeroCondition version p L) early (t before rest c e at h)))
 
 pub placements_are_realised : PlacementsAreRealised
-placements_are_realised p l given w i t z =
-    let d = exists p given w (ready p given w t) p.commands [] given.point refl tt in
+placements_are_realised version p l given w i t z =
+    let d = exists version p given w (ready version p given w t) p.commands [] given.point refl tt in
     let L : Placement = record { point = d.0; number = given.number } in
-    let f = made_met p given L p.commands 0 0 0 d.1 in
-    let V = forgotten p L in
-    let e = forgotten-extends p L in (
+    let f = made_met version p given L p.commands 0 0 0 d.1 in
+    let V = forgotten version p L in
+    let e = forgotten-extends version p L in (
       L,
-      to_steps p l L i f,
+      to_steps version p l L i f,
       record {
-        commands = up p L w f;
+        commands = up version p L w f;
         conditions = All-from_recursion (λ k. IsConditionMet p V k.condition) (all_found p)
-            (are_met p V L w e f (all_found p) (over p V L w e f) (recursion_from_All (λ k. IsNonzeroCondition p L k.condition) (all_found p) (z d.0 d.1)));
+            (are_met version p V L w e f (all_found p) (over version p V L w e f) (recursion_from_All (λ k. IsNonzeroCondition version p L k.condition) (all_found p) (z d.0 d.1)));
       },
-      made_frees p given L p.commands 0 0 0 0 0 (laid_program p.commands) d.1,
+      made_frees version p given L p.commands 0 0 0 0 0 (laid_program version p.commands) d.1,
       refl,
     )

@@ -9,6 +9,7 @@ use Rattle.geo_program.specs.Forms.{statement_form}
 use Rattle.geo_program.specs.FormTexts.{form_text}
 use Rattle.geo_program.specs.Spelling.{SameSource}
 use Rattle.geo_program.specs.WellFormed.{Source}
+use Rattle.geo_lowering.specs.declared.version.Version.{Version}
 use Rattle.geo_conditions.specs.Laws.{SameProgramsMeanTheSame}
 use Rattle.geo_conditions.specs.Lists.{AreConditionItems, AreGoalItems, Found, IsListed, ItemForm, condition_form, condition_item, goal_item}
 use Rattle.geo_conditions.specs.Statements.{pair_goals}
@@ -66,10 +67,10 @@ breaks p q s v h =
     }
 
 -- ITEMS
-conditions_too : (p q : Source) → SameSource p q → (items : List ItemForm) → AreConditionItems p items → AreConditionItems q items
-conditions_too p q s items h =
-    let item : condition_item p ≡ condition_item q =
-    λ i f. record { text = form_text (s.names i) (condition_form f.condition); term = condition_term (same_layout p q s i) f.condition; line = f.line } in
+conditions_too : (version : Version) (p q : Source) → SameSource p q → (items : List ItemForm) → AreConditionItems version p items → AreConditionItems version q items
+conditions_too version p q s items h =
+    let item : condition_item version p ≡ condition_item version q =
+    λ i f. record { text = form_text (s.names i) (condition_form f.condition); term = condition_term (same_layout p q s version i) f.condition; line = f.line } in
     record {
       conditions = h.conditions;
       listed = subst (λ (xs : List Found). IsListed (λ f. f.condition) [] xs h.conditions) (same_found p q s) h.listed;
@@ -96,28 +97,28 @@ with_last key (y ∷ ys) x listed most result h k =
     (λ (c : (Contains (map key listed) (key y) → ⊥) × IsListed key (listed ++ y ∷ []) ys most).
     inr (c.0, with_last key ys x (listed ++ y ∷ []) most result c.1 k)) h
 
-module _ (p q : Source) (s : SameSource p q) where
+module _ (version : Version) (p q : Source) (s : SameSource p q) where
   -- a pair's goal has one item in both, and so have the statements
-  pair_item : (g : Statement) → IsPair g → goal_item p g ≡ goal_item q g
+  pair_item : (g : Statement) → IsPair g → goal_item version p g ≡ goal_item version q g
   pair_item (Parallel a b c d) h = λ i. record {
     text = form_text (s.names i) (statement_form p.nodes (Parallel a b c d));
-    term = goal_term (same_layout p q s i) p.nodes (Parallel a b c d);
+    term = goal_term (same_layout p q s version i) p.nodes (Parallel a b c d);
     line = suc (same_length p q s i);
   }
   pair_item g h = absurd h
 
-  statement_item : goal_item p p.statement ≡ goal_item q q.statement
+  statement_item : goal_item version p p.statement ≡ goal_item version q q.statement
   statement_item = λ i. record {
     text = form_text (s.names i) (s.statement i);
-    term = (same_saying p q s i).term (same_layout p q s i);
+    term = (same_saying p q s i).term (same_layout p q s version i);
     line = suc (same_length p q s i);
   }
 
-  pair_items : (gs : List Statement) → AllByRecursion IsPair gs → map (goal_item p) gs ≡ map (goal_item q) gs
+  pair_items : (gs : List Statement) → AllByRecursion IsPair gs → map (goal_item version p) gs ≡ map (goal_item version q) gs
   pair_items [] h = refl
   pair_items (g ∷ gs) h = ap₂ (λ (x : ItemForm) (xs : List ItemForm). x ∷ xs) (pair_item g h.0) (pair_items gs h.1)
 
-  all_items : (gs : List Statement) → AllByRecursion IsPair gs → map (goal_item p) (gs ++ p.statement ∷ []) ≡ map (goal_item q) (gs ++ q.statement ∷ [])
+  all_items : (gs : List Statement) → AllByRecursion IsPair gs → map (goal_item version p) (gs ++ p.statement ∷ []) ≡ map (goal_item version q) (gs ++ q.statement ∷ [])
   all_items [] h = ap (λ (x : ItemForm). x ∷ []) statement_item
   all_items (g ∷ gs) h = ap₂ (λ (x : ItemForm) (xs : List ItemForm). x ∷ xs) (pair_item g h.0) (all_items gs h.1)
 
@@ -128,24 +129,24 @@ module _ (p q : Source) (s : SameSource p q) where
 abbrev itself : Statement → Statement
 itself g = g
 
-goals_too : (p q : Source) → SameSource p q → (items : List ItemForm) → AreGoalItems p items → AreGoalItems q items
-goals_too p q s items h = by (before_last itself (pair_goals p.nodes p.statement) p.statement [] h.goals h.listed)
+goals_too : (version : Version) (p q : Source) → SameSource p q → (items : List ItemForm) → AreGoalItems version p items → AreGoalItems version q items
+goals_too version p q s items h = by (before_last itself (pair_goals p.nodes p.statement) p.statement [] h.goals h.listed)
   where
     pairs : pair_goals p.nodes p.statement ≡ pair_goals q.nodes q.statement
     pairs = λ i. (same_saying p q s i).pairs
 
-    by : ((most : List Statement) × IsListed itself [] (pair_goals p.nodes p.statement) most × IsListed itself most (p.statement ∷ []) h.goals) → AreGoalItems q items
+    by : ((most : List Statement) × IsListed itself [] (pair_goals p.nodes p.statement) most × IsListed itself most (p.statement ∷ []) h.goals) → AreGoalItems version q items
     by r =
         let most = r.0 in
         let paired : AllByRecursion IsPair most = listed_hold itself IsPair (pair_goals p.nodes p.statement) [] most r.1 tt (pairs_paired p.nodes p.statement) in
         let listed : IsListed itself [] (pair_goals q.nodes q.statement) most = subst (λ (xs : List Statement). IsListed itself [] xs most) pairs r.1 in
         ⊎_elim
         (λ (c : Contains (map itself most) p.statement × (h.goals ≡ most)).
-        let same = same_goal p q s (held itself IsPair most p.statement paired c.0) in
+        let same = same_goal version p q s (held itself IsPair most p.statement paired c.0) in
         record {
           goals = most;
           listed = with_last itself (pair_goals q.nodes q.statement) q.statement [] most most listed (inl (subst (Contains (map itself most)) (sym same) c.0, refl));
-          written = h.written ∙ ap (map (goal_item p)) c.1 ∙ pair_items p q s most paired;
+          written = h.written ∙ ap (map (goal_item version p)) c.1 ∙ pair_items version p q s most paired;
         })
         (λ (c : (Contains (map itself most) p.statement → ⊥) × (h.goals ≡ most ++ p.statement ∷ [])).
         record {
@@ -154,11 +155,11 @@ goals_too p q s items h = by (before_last itself (pair_goals p.nodes p.statement
               with_last itself (pair_goals q.nodes q.statement) q.statement [] most (most ++ q.statement ∷ []) listed
               (inr (
                 (λ (d : Contains (map itself most) q.statement).
-                    let same : p.statement ≡ q.statement = same_goal q p (turned p q s) (held itself IsPair most q.statement paired d) in
+                    let same : p.statement ≡ q.statement = same_goal version q p (turned p q s) (held itself IsPair most q.statement paired d) in
                     c.0 (subst (Contains (map itself most)) (sym same) d)),
                 refl,
               ));
-          written = h.written ∙ ap (map (goal_item p)) c.1 ∙ all_items p q s most paired;
+          written = h.written ∙ ap (map (goal_item version p)) c.1 ∙ all_items version p q s most paired;
         }) r.2
 
 pub same_programs_mean_the_same : SameProgramsMeanTheSame
@@ -170,6 +171,6 @@ same_programs_mean_the_same p q s =
       is_true = (true_too p q s, true_too q p t);
       impossible = (impossible p q s, impossible q p t);
       broken = λ v. (breaks p q s v, breaks q p t v);
-      conditions = λ items. (conditions_too p q s items, conditions_too q p t items);
-      goals = λ items. (goals_too p q s items, goals_too q p t items);
+      conditions = λ version items. (conditions_too version p q s items, conditions_too version q p t items);
+      goals = λ version items. (goals_too version p q s items, goals_too version q p t items);
     }

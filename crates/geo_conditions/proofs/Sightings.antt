@@ -9,6 +9,7 @@ use Rattle.geo_program.specs.declared.names.NameKind.TheVariants as kind
 use Rattle.geo_program.specs.Forms.{command_form}
 use Rattle.geo_program.specs.Spelling.{SameSource}
 use Rattle.geo_program.specs.WellFormed.{Source}
+use Rattle.geo_lowering.specs.declared.version.Version.{Version}
 use Rattle.geo_lowering.specs.CommandsMet.{AreCommandsMet, MeetsCommands, drawn, line_of, lines_of, reading}
 use Rattle.geo_lowering.specs.Conditions.{Condition, IsConditionMet, command_conditions}
 use Rattle.geo_lowering.specs.Counting.{named, hidden, further, counted, gathered, next_point, next_number, numbers_from, numbers_had, param_places, points_from, points_named}
@@ -24,19 +25,19 @@ sights nodes (c ∷ cs) = ap₂ (λ (x : Sight) (xs : List Sight). x ∷ xs) (se
 
 -- LISTS
 -- the lists of a program, over what is seen of its commands
-abbrev next_point' : ℕ → Sight → ℕ
-next_point' n s = counted kind.Point s.kind (further n s.hidden)
+abbrev next_point' : Version → ℕ → Sight → ℕ
+next_point' version n s = counted kind.Point s.kind (further n (s.hidden version))
 
 abbrev next_number' : ℕ → Sight → ℕ
 next_number' m s = elim s.number [ true ↦ suc m | false ↦ m ]
 
-abbrev point_places' : ℕ → List Sight → List ℕ
-point_places' n [] = []
-point_places' n (s ∷ ss) = gathered kind.Point s.kind (further n s.hidden) (point_places' (next_point' n s) ss)
+abbrev point_places' : Version → ℕ → List Sight → List ℕ
+point_places' version n [] = []
+point_places' version n (s ∷ ss) = gathered kind.Point s.kind (further n (s.hidden version)) (point_places' version (next_point' version n s) ss)
 
-abbrev line_places' : (ℕ → ℕ) → ℕ → List Sight → List Pair
-line_places' point n [] = []
-line_places' point n (s ∷ ss) = gathered kind.Line s.kind (s.pair point n) (line_places' point (next_point' n s) ss)
+abbrev line_places' : Version → (ℕ → ℕ) → ℕ → List Sight → List Pair
+line_places' version point n [] = []
+line_places' version point n (s ∷ ss) = gathered kind.Line s.kind (s.pair point n) (line_places' version point (next_point' version n s) ss)
 
 abbrev param_places' : ℕ → List Sight → List ℕ
 param_places' m [] = []
@@ -73,13 +74,13 @@ are_met' read line placed x m (s ∷ ss) =
     s.met read line placed (placed.point x) (placed.number m) × are_met' read line placed (counted kind.Point s.kind x) (next_number' m s) ss
 
 module _ (nodes : Store) where
-  point_places-is : (n : ℕ) (cs : List Command) → point_places n cs ≡ point_places' n (map (sight nodes) cs)
-  point_places-is n [] = refl
-  point_places-is n (c ∷ cs) = ap (λ (xs : List ℕ). gathered kind.Point (named c) (further n (hidden c)) xs) (point_places-is (next_point n c) cs)
+  point_places-is : (version : Version) (n : ℕ) (cs : List Command) → point_places version n cs ≡ point_places' version n (map (sight nodes) cs)
+  point_places-is version n [] = refl
+  point_places-is version n (c ∷ cs) = ap (λ (xs : List ℕ). gathered kind.Point (named c) (further n (hidden version c)) xs) (point_places-is version (next_point version n c) cs)
 
-  line_places-is : (point : ℕ → ℕ) (n : ℕ) (cs : List Command) → line_places point n cs ≡ line_places' point n (map (sight nodes) cs)
-  line_places-is point n [] = refl
-  line_places-is point n (c ∷ cs) = ap (λ (xs : List Pair). gathered kind.Line (named c) (pair_of point n c) xs) (line_places-is point (next_point n c) cs)
+  line_places-is : (version : Version) (point : ℕ → ℕ) (n : ℕ) (cs : List Command) → line_places version point n cs ≡ line_places' version point n (map (sight nodes) cs)
+  line_places-is version point n [] = refl
+  line_places-is version point n (c ∷ cs) = ap (λ (xs : List Pair). gathered kind.Line (named c) (pair_of point n c) xs) (line_places-is version point (next_point version n c) cs)
 
   param_places-is : (m : ℕ) (cs : List Command) → param_places m cs ≡ param_places' m (map (sight nodes) cs)
   param_places-is m [] = refl
@@ -139,25 +140,26 @@ module _ (p q : Source) (s : SameSource p q) where
   pub same_frees : free_points 0 p.commands ≡ free_points 0 q.commands
   same_frees = free_points-is p.nodes 0 p.commands ∙ ap (free_points' 0) same_sights ∙ sym (free_points-is q.nodes 0 q.commands)
 
-  same_points : point_places 0 p.commands ≡ point_places 0 q.commands
-  same_points = point_places-is p.nodes 0 p.commands ∙ ap (point_places' 0) same_sights ∙ sym (point_places-is q.nodes 0 q.commands)
+  same_points : (version : Version) → point_places version 0 p.commands ≡ point_places version 0 q.commands
+  same_points version =
+      point_places-is p.nodes version 0 p.commands ∙ ap (point_places' version 0) same_sights ∙ sym (point_places-is q.nodes version 0 q.commands)
 
-  same_places : (a : ℕ) → point_place p.commands a ≡ point_place q.commands a
-  same_places a = ap (λ places. slice_index_or places a 0) same_points
+  same_places : (version : Version) (a : ℕ) → point_place version p.commands a ≡ point_place version q.commands a
+  same_places version a = ap (λ places. slice_index_or places a 0) (same_points version)
 
-  same_pairs : line_places (point_place p.commands) 0 p.commands ≡ line_places (point_place q.commands) 0 q.commands
-  same_pairs =
-      line_places-is p.nodes (point_place p.commands) 0 p.commands
-      ∙ ap₂ (λ (point : ℕ → ℕ) (ss : List Sight). line_places' point 0 ss) (λ i a. same_places a i) same_sights
-      ∙ sym (line_places-is q.nodes (point_place q.commands) 0 q.commands)
+  same_pairs : (version : Version) → line_places version (point_place version p.commands) 0 p.commands ≡ line_places version (point_place version q.commands) 0 q.commands
+  same_pairs version =
+      line_places-is p.nodes version (point_place version p.commands) 0 p.commands
+      ∙ ap₂ (λ (point : ℕ → ℕ) (ss : List Sight). line_places' version point 0 ss) (λ i a. same_places version a i) same_sights
+      ∙ sym (line_places-is q.nodes version (point_place version q.commands) 0 q.commands)
 
   same_params : param_places 0 p.commands ≡ param_places 0 q.commands
   same_params = param_places-is p.nodes 0 p.commands ∙ ap (param_places' 0) same_sights ∙ sym (param_places-is q.nodes 0 q.commands)
 
-  pub same_layout : layout_of p.commands ≡ layout_of q.commands
-  same_layout = λ i. record {
-    point = λ a. slice_index_or (same_points i) a 0;
-    line = λ a. slice_index_or (same_pairs i) a (record { left = 0; right = 0 });
+  pub same_layout : (version : Version) → layout_of version p.commands ≡ layout_of version q.commands
+  same_layout version = λ i. record {
+    point = λ a. slice_index_or (same_points version i) a 0;
+    line = λ a. slice_index_or (same_pairs version i) a (record { left = 0; right = 0 });
     param = λ t. slice_index_or (same_params i) t 0;
   }
 

@@ -1,16 +1,16 @@
 -- What the truth of a program depends on in a command, and in a statement, can be read off its form.
-use Rattle.std.proofs.Common.{◌≡◌, ℕ, zero, suc, Bool, true, false, List, [], ◌∷◌, ◌++◌, refl, eqb, if◌then◌else◌}
+use Rattle.std.proofs.Common.{◌≡◌, ℕ, zero, suc, Bool, true, false, List, [], ◌∷◌, ◌++◌, refl, eqb, if◌then◌else◌, ◌-◌, Option, Some}
 use Rattle.std.specs.Prelude.{slice_index}
 use Rattle.ring_laws.specs.Fraction.{Fraction, IsNonzero}
 use Rattle.geo_points.specs.declared.ids.PointId.{PointId}
 use Rattle.geo_points.specs.Placements.{Placement}
 use Rattle.geo_points.specs.Points.{Point as Triple}
-use Rattle.geo_points.specs.Steps.{IsAlong, IsTurned}
+use Rattle.geo_points.specs.Steps.{IsAlong, IsTurned, IsWeighted}
 use Rattle.geo_terms.specs.Stores.{Store, tree_of}
 use Rattle.geo_terms.specs.Trees.{Tree, subtraction}
 use Rattle.geo_terms.specs.Values.{HasTreeValue, tree_value}
 use Rattle.geo_program.specs.declared.commands.Command.{Command}
-use Rattle.geo_program.specs.declared.commands.Command.TheVariants.{Point, Param, Line, Parallel, Perp, Med, Intersec, Inter, Foot, Pratio, Tratio, Online, Lratio, Midpoint, Translate, Symmetric, Reflect, Circumcenter, Orthocenter, Centroid, Oncircle, Second, Cc, Inverse}
+use Rattle.geo_program.specs.declared.commands.Command.TheVariants.{Point, Param, Line, Parallel, Perp, Med, Intersec, Inter, Foot, Pratio, Tratio, Online, Lratio, Midpoint, Translate, Symmetric, Reflect, Circumcenter, Orthocenter, Centroid, Oncircle, Second, Cc, Inverse, Weights, AssumeDifferent, AssumeNotCollinear, AssumeNotParallel}
 use Rattle.geo_program.specs.declared.commands.LineId.{LineId}
 use Rattle.geo_program.specs.declared.names.NameKind.{NameKind}
 use Rattle.geo_program.specs.declared.names.NameKind.TheVariants as kind
@@ -18,9 +18,10 @@ use Rattle.geo_program.specs.declared.statements.Statement.{Statement}
 use Rattle.geo_program.specs.declared.statements.Statement.TheVariants as statement
 use Rattle.geo_program.specs.Forms.{Argument, CommandForm, StatementForm, point_argument, line_argument, number_argument, side_argument, command_form, statement_form}
 use Rattle.geo_program.specs.WellFormed.{Source}
+use Rattle.geo_lowering.specs.declared.version.Version.{Version}
 use Rattle.geo_lowering.specs.CommandsMet.{IsCommandMet, drawn, line_of, reading}
 use Rattle.geo_lowering.specs.Conditions.{Condition, different, not_collinear, not_parallel, crossing, nonzero, IsConditionMet, command_conditions, expression_conditions}
-use Rattle.geo_lowering.specs.Counting.{named, hidden, has_number}
+use Rattle.geo_lowering.specs.Counting.{named, hidden, has_number, weights_points}
 use Rattle.geo_lowering.specs.Lines.{DrawnLine, AreParallel, IsOn}
 use Rattle.geo_lowering.specs.Lowering.{Layout, Pair, pair_of, renamed}
 use Rattle.geo_conditions.specs.Statements.{HaveSameValue, StatementHolds, pair_goals, ratio_goals, statement_conditions}
@@ -40,45 +41,29 @@ along_by w u v e read placed X = HasTreeValue read e × IsAlong (placed.point w.
 abbrev turned_by : PointId → PointId → Tree → Placement → Placement → Triple → Type 0
 turned_by u v e read placed X = HasTreeValue read e × IsTurned (placed.point u.0) (placed.point v.0) (tree_value read e) X
 
+-- A + e (B - A) + f (C - A)
+abbrev weighted_by : PointId → PointId → PointId → Tree → Tree → Placement → Placement → Triple → Type 0
+weighted_by a b c e f read placed X =
+    HasTreeValue read e × HasTreeValue read f × IsWeighted (placed.point a.0) (placed.point b.0) (placed.point c.0) (tree_value read e) (tree_value read f) X
+
 -- the command is met, where terms read the first placement and these are the lines
 abbrev met_over : Store → Placement → (LineId → DrawnLine) → Placement → Triple → Fraction → Command → Type 0
 met_over nodes read line placed X t (Intersec a b) = IsOn X (line a) × IsOn X (line b)
 met_over nodes read line placed X t (Pratio w u v r) = along_by w u v (tree_of nodes r) read placed X
 met_over nodes read line placed X t (Tratio u v r) = turned_by u v (tree_of nodes r) read placed X
 met_over nodes read line placed X t (Lratio a b r) = along_by a a b (tree_of nodes r) read placed X
+met_over nodes read line placed X t (Weights a b c r q) = weighted_by a b c (tree_of nodes r) (tree_of nodes q) read placed X
 met_over nodes read line placed X t c = IsCommandMet nothing placed X t c
 
 pub met_over-is : (s : Source) (placed : Placement) (X : Triple) (t : Fraction) (c : Command)
     → IsCommandMet s placed X t c ≡ met_over s.nodes (reading s placed) (line_of s placed) placed X t c
 met_over-is s placed X t Point = refl
-met_over-is s placed X t Param = refl
-met_over-is s placed X t (Line a b) = refl
-met_over-is s placed X t (Parallel p b) = refl
-met_over-is s placed X t (Perp p b) = refl
-met_over-is s placed X t (Med a b) = refl
-met_over-is s placed X t (Intersec a b) = refl
-met_over-is s placed X t (Inter a b c d) = refl
-met_over-is s placed X t (Foot p a b) = refl
-met_over-is s placed X t (Pratio w u v r) = refl
-met_over-is s placed X t (Tratio u v r) = refl
-met_over-is s placed X t (Online a b) = refl
-met_over-is s placed X t (Lratio a b r) = refl
-met_over-is s placed X t (Midpoint a b) = refl
-met_over-is s placed X t (Translate a b c) = refl
-met_over-is s placed X t (Symmetric a o) = refl
-met_over-is s placed X t (Reflect a p q) = refl
-met_over-is s placed X t (Circumcenter a b c) = refl
-met_over-is s placed X t (Orthocenter a b c) = refl
-met_over-is s placed X t (Centroid a b c) = refl
-met_over-is s placed X t (Oncircle o a) = refl
-met_over-is s placed X t (Second a b o) = refl
-met_over-is s placed X t (Cc o p a) = refl
-met_over-is s placed X t (Inverse p o a) = refl
+met_over-is s placed X t _ = refl
 
 -- what truth sees of a command
 pub record Sight : Type 1 where
-  pub kind : NameKind
-  pub hidden : ℕ
+  pub kind : Option NameKind
+  pub hidden : Version → ℕ
   pub number : Bool
   pub free : Bool
   pub pair : (ℕ → ℕ) → ℕ → Pair
@@ -89,7 +74,7 @@ pub record Sight : Type 1 where
 abbrev pub sight : Store → Command → Sight
 sight nodes c = record {
   kind = named c;
-  hidden = hidden c;
+  hidden = λ version. hidden version c;
   number = has_number c;
   free = is_free c;
   pair = λ point n. pair_of point n c;
@@ -101,14 +86,27 @@ sight nodes c = record {
 -- of a command whose number is this tree
 abbrev numbered : (Placement → Placement → Triple → Type 0) → Tree → Sight
 numbered met e = record {
-  kind = kind.Point;
-  hidden = 0;
+  kind = Some kind.Point;
+  hidden = λ version. 0;
   number = false;
   free = false;
   pair = λ point n. pair_of point n Point;
   lines = λ placed lines. [];
   conditions = λ x. expression_conditions e ++ [];
   met = λ read line placed X t. met read placed X;
+}
+
+-- of `weights` with these numbers
+abbrev by_weights : PointId → PointId → PointId → Tree → Tree → Sight
+by_weights a b c e f = record {
+  kind = Some kind.Point;
+  hidden = λ version. weights_points version - 1;
+  number = false;
+  free = false;
+  pair = λ point n. pair_of point n Point;
+  lines = λ placed lines. [];
+  conditions = λ x. (expression_conditions e ++ expression_conditions f) ++ [];
+  met = λ read line placed X t. weighted_by a b c e f read placed X;
 }
 
 -- the command whose word begins with this letter, or the other one
@@ -118,7 +116,9 @@ by_letter word letter c d = if eqb (slice_index word 0) letter then c else d
 -- what truth sees of a command with this word, so many points and these arguments
 abbrev seen_by : List ℕ → ℕ → List Argument → Sight
 seen_by word zero [] = sight [] Param
-seen_by word zero (point_argument a ∷ point_argument b ∷ []) = sight [] (Line a b)
+seen_by word zero (point_argument a ∷ point_argument b ∷ []) = sight [] (by_letter word 97 (AssumeDifferent a b) (Line a b))
+seen_by word zero (point_argument a ∷ point_argument b ∷ point_argument c ∷ []) = sight [] (AssumeNotCollinear a b c)
+seen_by word zero (point_argument a ∷ point_argument b ∷ point_argument c ∷ point_argument d ∷ []) = sight [] (AssumeNotParallel a b c d)
 seen_by word (suc zero) (point_argument p ∷ line_argument b ∷ []) = sight [] (Parallel p b)
 seen_by word (suc (suc zero)) (point_argument p ∷ line_argument b ∷ []) = sight [] (Perp p b)
 seen_by word (suc (suc zero)) (point_argument a ∷ point_argument b ∷ []) = sight [] (Med a b)
@@ -136,6 +136,7 @@ seen_by word (suc (suc zero)) (point_argument a ∷ point_argument b ∷ point_a
     (by_letter word 115 (Second a b c) (if eqb (slice_index word 1) 101 then Centroid a b c else Cc a b c)))
 seen_by word (suc (suc (suc zero))) (point_argument a ∷ point_argument b ∷ point_argument c ∷ []) = sight [] (Orthocenter a b c)
 seen_by word (suc (suc (suc (suc (suc zero))))) (point_argument a ∷ point_argument b ∷ point_argument c ∷ []) = sight [] (Circumcenter a b c)
+seen_by word (suc (suc zero)) (point_argument a ∷ point_argument b ∷ point_argument c ∷ number_argument e ∷ number_argument f ∷ []) = by_weights a b c e f
 seen_by word _ _ = sight [] Point
 
 abbrev pub seen : CommandForm → Sight
@@ -143,29 +144,7 @@ seen f = seen_by f.word f.points f.arguments
 
 pub seen-is : (nodes : Store) (c : Command) → seen (command_form nodes c) ≡ sight nodes c
 seen-is nodes Point = refl
-seen-is nodes Param = refl
-seen-is nodes (Line a b) = refl
-seen-is nodes (Parallel p b) = refl
-seen-is nodes (Perp p b) = refl
-seen-is nodes (Med a b) = refl
-seen-is nodes (Intersec a b) = refl
-seen-is nodes (Inter a b c d) = refl
-seen-is nodes (Foot p a b) = refl
-seen-is nodes (Pratio w u v r) = refl
-seen-is nodes (Tratio u v r) = refl
-seen-is nodes (Online a b) = refl
-seen-is nodes (Lratio a b r) = refl
-seen-is nodes (Midpoint a b) = refl
-seen-is nodes (Translate a b c) = refl
-seen-is nodes (Symmetric a o) = refl
-seen-is nodes (Reflect a p q) = refl
-seen-is nodes (Circumcenter a b c) = refl
-seen-is nodes (Orthocenter a b c) = refl
-seen-is nodes (Centroid a b c) = refl
-seen-is nodes (Oncircle o a) = refl
-seen-is nodes (Second a b o) = refl
-seen-is nodes (Cc o p a) = refl
-seen-is nodes (Inverse p o a) = refl
+seen-is nodes _ = refl
 
 -- CONDITIONS
 -- the condition holds, where terms read the first placement and these are the lines

@@ -8,6 +8,7 @@ use Rattle.geo_terms.specs.Trees.{Tree, integer_leaf, parameter_leaf, area_leaf,
 use Rattle.geo_terms.specs.Values.{HasTreeValue, tree_value}
 use Rattle.geo_program.specs.Expressions.{IsExpression}
 use Rattle.geo_program.specs.WellFormed.{Source}
+use Rattle.geo_lowering.specs.declared.version.Version.{Version}
 use Rattle.geo_lowering.specs.Conditions.{Condition, different, not_collinear, not_parallel, crossing, nonzero, divisor_conditions, expression_conditions}
 use Rattle.geo_lowering.specs.Lowering.{layout_of, renamed}
 use Rattle.geo_lowering.proofs.ConditionValues.{each_front, each_back}
@@ -16,15 +17,15 @@ use Rattle.geo_conditions.specs.Lists.{Found, all_found}
 use Rattle.geo_conditions.specs.Terms.{condition_term}
 use Rattle.geo_conditions.proofs.Ordering.{CanAsk, ordered_at, listed_ordered, all_ordered}
 
-module _ (p : Source) (L : Placement) where
+module _ (version : Version) (p : Source) (L : Placement) where
   abbrev Holds : Condition → Type 0
-  Holds c = IsNonzeroCondition p L c
+  Holds c = IsNonzeroCondition version p L c
 
   abbrev HasValue : Tree → Type 0
-  HasValue e = HasTreeValue L (renamed (layout_of p.commands) e)
+  HasValue e = HasTreeValue L (renamed (layout_of version p.commands) e)
 
   -- a divisor's condition says that its term is not 0
-  divisor_apart : (f : Tree) → AllByRecursion Holds (divisor_conditions f) → IsNonzero (tree_value L (renamed (layout_of p.commands) f))
+  divisor_apart : (f : Tree) → AllByRecursion Holds (divisor_conditions f) → IsNonzero (tree_value L (renamed (layout_of version p.commands) f))
   unfolding whole
   divisor_apart (integer_leaf (pos zero)) h = h.0.1
   divisor_apart (integer_leaf (pos (suc n))) h = λ e. cc
@@ -64,7 +65,7 @@ module _ (p : Source) (L : Placement) where
         divisor_apart f (each_back Holds (c ++ d) g h),
       )
 
-  asked_value : (c : Condition) → CanAsk p Holds HasValue renamed_value c → HasTreeValue L (condition_term (layout_of p.commands) c)
+  asked_value : (c : Condition) → CanAsk p Holds HasValue renamed_value c → HasTreeValue L (condition_term (layout_of version p.commands) c)
   asked_value (different a b) h = tt
   asked_value (not_collinear a b c) h = tt
   asked_value (not_parallel a b c d) h = (tt, tt)
@@ -73,8 +74,8 @@ module _ (p : Source) (L : Placement) where
 
 -- THE LAW
 pub terms_in_turn : TermsHaveValuesInTurn
-terms_in_turn p L before after f w c m =
-    let H : Condition → Type 0 = IsNonzeroCondition p L in
-    let V : Tree → Type 0 = λ e. HasTreeValue L (renamed (layout_of p.commands) e) in
-    let ordered = listed_ordered p H V (renamed_value p L) (all_found p) [] [] (before ++ f ∷ after) c (λ h. tt) (all_ordered p H V (renamed_value p L) w) tt in
-    asked_value p L f.condition (ordered_at p H V (renamed_value p L) [] before after f ordered tt (recursion_from_All (λ (g : Found). IsNonzeroCondition p L g.condition) before m))
+terms_in_turn version p L before after f w c m =
+    let H : Condition → Type 0 = IsNonzeroCondition version p L in
+    let V : Tree → Type 0 = λ e. HasTreeValue L (renamed (layout_of version p.commands) e) in
+    let ordered = listed_ordered p H V (renamed_value version p L) (all_found p) [] [] (before ++ f ∷ after) c (λ h. tt) (all_ordered p H V (renamed_value version p L) w) tt in
+    asked_value version p L f.condition (ordered_at p H V (renamed_value version p L) [] before after f ordered tt (recursion_from_All (λ (g : Found). IsNonzeroCondition version p L g.condition) before m))

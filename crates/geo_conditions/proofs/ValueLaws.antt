@@ -12,6 +12,7 @@ use Rattle.geo_program.specs.declared.statements.Statement.TheVariants.{Equal, C
 use Rattle.geo_program.specs.declared.commands.Command.{Command}
 use Rattle.geo_program.specs.declared.names.NameKind.TheVariants as kind
 use Rattle.geo_program.specs.WellFormed.{Source}
+use Rattle.geo_lowering.specs.declared.version.Version.TheVariants.{Two}
 use Rattle.geo_lowering.specs.Building.{AreFreesSame}
 use Rattle.geo_lowering.specs.CommandsMet.{reading}
 use Rattle.geo_lowering.specs.Conditions.{IsConditionMet}
@@ -102,7 +103,7 @@ one_failure_breaks p v placed w h m n = record {
   unique = λ one other a b c d. values_fix_placements p v one other w a b c d;
   fails = λ other a b holds.
       let same = values_fix_placements p v other placed w a b h m in
-      let B = bounds_all p p.commands 0 0 0 0 0 (no_bounds (layout_of p.commands)) (named_program p w) (laid_program p.commands) in
+      let B = bounds_all Two p p.commands 0 0 0 0 0 (no_bounds (layout_of Two p.commands)) (named_program p w) (laid_program Two p.commands) in
       n (statement_moved p other placed (points_from 0 p.commands) (params_past 0 p.commands)
-      (record { points = same.same_points; numbers = λ t l. same.same_numbers ((layout_of p.commands).param t) (B.params t l) }) p.statement (program_statement_over p w) holds);
+      (record { points = same.same_points; numbers = λ t l. same.same_numbers ((layout_of Two p.commands).param t) (B.params t l) }) p.statement (program_statement_over p w) holds);
 }

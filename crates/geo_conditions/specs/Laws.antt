@@ -12,6 +12,7 @@ use Rattle.geo_lowering.specs.Building.{forgotten, AreFreesSame, AreMade}
 use Rattle.geo_lowering.specs.Conditions.{Condition, IsConditionMet, early_conditions}
 use Rattle.geo_lowering.specs.Counting.{numbers_had, points_named}
 use Rattle.geo_lowering.specs.Lowering.{Extends, IsLowered, LoweredForm, layout_of}
+use Rattle.geo_lowering.specs.declared.version.Version.{Version}
 use Rattle.geo_program.specs.Forms.{statement_form}
 use Rattle.geo_program.specs.FormTexts.{form_text}
 use Rattle.geo_conditions.specs.Lists.{condition_form, AreConditionItems, AreConditions, AreGoalItems, AreGoals, Found, ItemForm, all_found}
@@ -20,63 +21,63 @@ use Rattle.geo_conditions.specs.Terms.{HasNonzeroValue, HasZeroValue, condition_
 use Rattle.geo_conditions.specs.Truth.{Breaks, HasValues, Holds, IsImpossible, IsTrueProgram, Meets, ProgramValues}
 
 -- the lowered placement extends the other one, and meets all steps
-pub record IsLoweredTo (p : Source) (l : LoweredForm) (placed lowered : Placement) : Type 0 where
+pub record IsLoweredTo (version : Version) (p : Source) (l : LoweredForm) (placed lowered : Placement) : Type 0 where
   pub well_formed : IsWellFormed p
-  pub form : IsLowered p l
-  pub extends : Extends p placed lowered
+  pub form : IsLowered version p l
+  pub extends : Extends version p placed lowered
   pub steps : MeetsSteps lowered l.construction
 
 -- the condition's term has a value other than 0
-abbrev pub IsNonzeroCondition : Source → Placement → Condition → Type 0
-IsNonzeroCondition p lowered c = HasNonzeroValue lowered (condition_term (layout_of p.commands) c)
+abbrev pub IsNonzeroCondition : Version → Source → Placement → Condition → Type 0
+IsNonzeroCondition version p lowered c = HasNonzeroValue lowered (condition_term (layout_of version p.commands) c)
 
 -- the goal's term has the value 0
-abbrev pub IsZeroGoal : Source → Placement → Statement → Type 0
-IsZeroGoal p lowered g = HasZeroValue lowered (goal_term (layout_of p.commands) p.nodes g)
+abbrev pub IsZeroGoal : Version → Source → Placement → Statement → Type 0
+IsZeroGoal version p lowered g = HasZeroValue lowered (goal_term (layout_of version p.commands) p.nodes g)
 
 -- a listed condition's term has a value other than 0 exactly where the condition holds
 abbrev pub ConditionsAreTerms : Type 0
 ConditionsAreTerms =
-    (p : Source) (l : LoweredForm) (placed lowered : Placement) (conditions : List Found)
-    → IsLoweredTo p l placed lowered → AreConditions p conditions
-    → All (λ f. IsConditionMet p placed f.condition ↔ IsNonzeroCondition p lowered f.condition) conditions
+    (version : Version) (p : Source) (l : LoweredForm) (placed lowered : Placement) (conditions : List Found)
+    → IsLoweredTo version p l placed lowered → AreConditions p conditions
+    → All (λ f. IsConditionMet p placed f.condition ↔ IsNonzeroCondition version p lowered f.condition) conditions
 
 -- every placement that meets a program extends to one that meets all steps, in which no listed condition's term is 0
 abbrev pub PlacementsLower : Type 0
 PlacementsLower =
-    (p : Source) (l : LoweredForm) (placed : Placement) (conditions : List Found)
-    → IsWellFormed p → IsLowered p l → AreConditions p conditions → Meets p placed
-    → (lowered : Placement) × Extends p placed lowered × MeetsSteps lowered l.construction
-    × All (λ f. IsNonzeroCondition p lowered f.condition) conditions
+    (version : Version) (p : Source) (l : LoweredForm) (placed : Placement) (conditions : List Found)
+    → IsWellFormed p → IsLowered version p l → AreConditions p conditions → Meets p placed
+    → (lowered : Placement) × Extends version p placed lowered × MeetsSteps lowered l.construction
+    × All (λ f. IsNonzeroCondition version p lowered f.condition) conditions
 
 -- every lowered placement that meets all steps, in which no listed condition's term is 0, extends one that meets the program
 abbrev pub LoweredPlacementsMeet : Type 0
 LoweredPlacementsMeet =
-    (p : Source) (l : LoweredForm) (lowered : Placement) (conditions : List Found)
-    → IsWellFormed p → IsLowered p l → AreConditions p conditions
-    → MeetsSteps lowered l.construction → All (λ f. IsNonzeroCondition p lowered f.condition) conditions
-    → Extends p (forgotten p lowered) lowered × Meets p (forgotten p lowered)
+    (version : Version) (p : Source) (l : LoweredForm) (lowered : Placement) (conditions : List Found)
+    → IsWellFormed p → IsLowered version p l → AreConditions p conditions
+    → MeetsSteps lowered l.construction → All (λ f. IsNonzeroCondition version p lowered f.condition) conditions
+    → Extends version p (forgotten version p lowered) lowered × Meets p (forgotten version p lowered)
 
 -- the statement holds exactly where every goal's term has the value 0
 abbrev pub GoalsAreTerms : Type 0
 GoalsAreTerms =
-    (p : Source) (l : LoweredForm) (placed lowered : Placement) (goals : List Statement) → IsLoweredTo p l placed lowered → AreGoals p goals
-    → Holds p placed ↔ All (IsZeroGoal p lowered) goals
+    (version : Version) (p : Source) (l : LoweredForm) (placed lowered : Placement) (goals : List Statement) → IsLoweredTo version p l placed lowered → AreGoals p goals
+    → Holds p placed ↔ All (IsZeroGoal version p lowered) goals
 
 -- where the conditions hold and the goals of the ratios are 0, the terms of all goals have values
 abbrev pub GoalsHaveValues : Type 0
 GoalsHaveValues =
-    (p : Source) (l : LoweredForm) (placed lowered : Placement) (goals : List Statement)
-    → IsLoweredTo p l placed lowered → AreGoals p goals → Meets p placed
-    → All (IsZeroGoal p lowered) (pair_goals p.nodes p.statement)
-    → All (λ g. HasTreeValue lowered (goal_term (layout_of p.commands) p.nodes g)) goals
+    (version : Version) (p : Source) (l : LoweredForm) (placed lowered : Placement) (goals : List Statement)
+    → IsLoweredTo version p l placed lowered → AreGoals p goals → Meets p placed
+    → All (IsZeroGoal version p lowered) (pair_goals p.nodes p.statement)
+    → All (λ g. HasTreeValue lowered (goal_term (layout_of version p.commands) p.nodes g)) goals
 
 -- a condition's term has a value where the conditions listed before it hold
 abbrev pub ConditionsHaveValues : Type 0
 ConditionsHaveValues =
-    (p : Source) (l : LoweredForm) (placed lowered : Placement) (before after : List Found) (f : Found)
-    → IsLoweredTo p l placed lowered → AreConditions p (before ++ f ∷ after)
-    → All (λ g. IsConditionMet p placed g.condition) before → HasTreeValue lowered (condition_term (layout_of p.commands) f.condition)
+    (version : Version) (p : Source) (l : LoweredForm) (placed lowered : Placement) (before after : List Found) (f : Found)
+    → IsLoweredTo version p l placed lowered → AreConditions p (before ++ f ∷ after)
+    → All (λ g. IsConditionMet p placed g.condition) before → HasTreeValue lowered (condition_term (layout_of version p.commands) f.condition)
 
 -- a program has one list of conditions and one list of goals at most
 pub record ListsAreUnique : Type 0 where
@@ -85,24 +86,24 @@ pub record ListsAreUnique : Type 0 where
 
 -- in every placement that is made of the given free points and numbers by the steps of the commands before it,
 -- the terms of a command's conditions that do not name its point are not 0
-abbrev pub AreTermsReady : Source → Placement → Type 0
-AreTermsReady p given =
+abbrev pub AreTermsReady : Version → Source → Placement → Type 0
+AreTermsReady version p given =
     (before rest : List Command) (c : Command) → p.commands ≡ before ++ c ∷ rest
     → (point : ℕ → Point) → let lowered : Placement = record { point = point; number = given.number } in
-    AreMade p given lowered 0 0 0 before → All (IsNonzeroCondition p lowered) (early_conditions p.nodes c)
+    AreMade version p given lowered 0 0 0 before → All (IsNonzeroCondition version p lowered) (early_conditions p.nodes c)
 
 -- in every placement that is made of them by the steps of all commands, no condition's term is 0
-abbrev pub AreTermsNonzero : Source → Placement → Type 0
-AreTermsNonzero p given =
+abbrev pub AreTermsNonzero : Version → Source → Placement → Type 0
+AreTermsNonzero version p given =
     (point : ℕ → Point) → let lowered : Placement = record { point = point; number = given.number } in
-    AreMade p given lowered 0 0 0 p.commands → All (λ f. IsNonzeroCondition p lowered f.condition) (all_found p)
+    AreMade version p given lowered 0 0 0 p.commands → All (λ f. IsNonzeroCondition version p lowered f.condition) (all_found p)
 
 -- then the given free points and numbers have a placement that meets the program
 abbrev pub PlacementsAreRealised : Type 0
 PlacementsAreRealised =
-    (p : Source) (l : LoweredForm) (given : Placement) → IsWellFormed p → IsLowered p l → AreTermsReady p given → AreTermsNonzero p given
-    → (lowered : Placement) × MeetsSteps lowered l.construction × Meets p (forgotten p lowered)
-    × AreFreesSame (forgotten p lowered) given 0 p.commands × (lowered.number ≡ given.number)
+    (version : Version) (p : Source) (l : LoweredForm) (given : Placement) → IsWellFormed p → IsLowered version p l → AreTermsReady version p given → AreTermsNonzero version p given
+    → (lowered : Placement) × MeetsSteps lowered l.construction × Meets p (forgotten version p lowered)
+    × AreFreesSame (forgotten version p lowered) given 0 p.commands × (lowered.number ≡ given.number)
 
 -- two placements with the same values that meet a program are the same
 abbrev pub ValuesFixPlacements : Type 0
@@ -127,24 +128,24 @@ TextsTellConditions =
 -- no step is asked for, so this holds while a placement is made
 abbrev pub TermsHaveValuesInTurn : Type 0
 TermsHaveValuesInTurn =
-    (p : Source) (lowered : Placement) (before after : List Found) (f : Found) → IsWellFormed p → AreConditions p (before ++ f ∷ after)
-    → All (λ g. IsNonzeroCondition p lowered g.condition) before → HasTreeValue lowered (condition_term (layout_of p.commands) f.condition)
+    (version : Version) (p : Source) (lowered : Placement) (before after : List Found) (f : Found) → IsWellFormed p → AreConditions p (before ++ f ∷ after)
+    → All (λ g. IsNonzeroCondition version p lowered g.condition) before → HasTreeValue lowered (condition_term (layout_of version p.commands) f.condition)
 
 -- a program that some placement meets is true where, in every lowered placement that meets all steps with no condition's
 -- term 0, every goal's term is 0
 abbrev pub ZeroGoalsMakeTrue : Type 0
 ZeroGoalsMakeTrue =
-    (p : Source) (l : LoweredForm) (conditions : List Found) (goals : List Statement) (placed : Placement) → IsWellFormed p → IsLowered p l
+    (version : Version) (p : Source) (l : LoweredForm) (conditions : List Found) (goals : List Statement) (placed : Placement) → IsWellFormed p → IsLowered version p l
     → AreConditions p conditions → AreGoals p goals → Meets p placed
-    → ((lowered : Placement) → MeetsSteps lowered l.construction → All (λ f. IsNonzeroCondition p lowered f.condition) conditions
-    → All (IsZeroGoal p lowered) goals)
+    → ((lowered : Placement) → MeetsSteps lowered l.construction → All (λ f. IsNonzeroCondition version p lowered f.condition) conditions
+    → All (IsZeroGoal version p lowered) goals)
     → IsTrueProgram p
 
 -- it is impossible where no lowered placement that meets all steps has no condition's term 0
 abbrev pub ZeroConditionsMakeImpossible : Type 0
 ZeroConditionsMakeImpossible =
-    (p : Source) (l : LoweredForm) (conditions : List Found) → IsWellFormed p → IsLowered p l → AreConditions p conditions
-    → ((lowered : Placement) → MeetsSteps lowered l.construction → All (λ f. IsNonzeroCondition p lowered f.condition) conditions → ⊥)
+    (version : Version) (p : Source) (l : LoweredForm) (conditions : List Found) → IsWellFormed p → IsLowered version p l → AreConditions p conditions
+    → ((lowered : Placement) → MeetsSteps lowered l.construction → All (λ f. IsNonzeroCondition version p lowered f.condition) conditions → ⊥)
     → IsImpossible p
 
 -- a program is not true and broken, nor true and impossible, nor broken and impossible
@@ -173,8 +174,8 @@ pub record MeanTheSame (p q : Source) : Type 0 where
   pub is_true : IsTrueProgram p ↔ IsTrueProgram q
   pub impossible : IsImpossible p ↔ IsImpossible q
   pub broken : (v : ProgramValues) → Breaks p v ↔ Breaks q v
-  pub conditions : (items : List ItemForm) → AreConditionItems p items ↔ AreConditionItems q items
-  pub goals : (items : List ItemForm) → AreGoalItems p items ↔ AreGoalItems q items
+  pub conditions : (version : Version) (items : List ItemForm) → AreConditionItems version p items ↔ AreConditionItems version q items
+  pub goals : (version : Version) (items : List ItemForm) → AreGoalItems version p items ↔ AreGoalItems version q items
 
 -- programs that are the same, whatever the order of the terms in their stores, mean the same
 abbrev pub SameProgramsMeanTheSame : Type 0

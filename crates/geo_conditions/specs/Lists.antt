@@ -11,6 +11,7 @@ use Rattle.geo_program.specs.WellFormed.{Source}
 use Rattle.geo_lowering.specs.Conditions.{Condition, different, not_collinear, not_parallel, crossing, nonzero, command_conditions}
 use Rattle.geo_lowering.specs.Counting.{named, counted}
 use Rattle.geo_lowering.specs.Lowering.{IsLowered, LoweredForm, layout_of}
+use Rattle.geo_lowering.specs.declared.version.Version.{Version}
 use Rattle.geo_conditions.specs.declared.items.Item.{Item}
 use Rattle.geo_conditions.specs.Statements.{statement_conditions, statement_goals}
 use Rattle.geo_conditions.specs.Terms.{condition_term, goal_term}
@@ -61,56 +62,56 @@ condition_form (crossing a b) = record { word = codes "crossing"; arguments = li
 condition_form (nonzero e) = record { word = codes "nonzero"; arguments = side_argument e ∷ [] }
 
 -- ITEMS
--- a condition or a goal of a list: its text, its term, and its line in the canonical program
+-- a condition or a goal of a list: its text, its term, over the points and numbers of the lowered form, and its line in the canonical program
 pub record ItemForm : Type 0 where
   pub text : List ℕ
   pub term : Tree
   pub line : ℕ
 
 -- a listed condition
-abbrev pub condition_item : Source → Found → ItemForm
-condition_item p f = record {
+abbrev pub condition_item : Version → Source → Found → ItemForm
+condition_item version p f = record {
   text = form_text p.names (condition_form f.condition);
-  term = condition_term (layout_of p.commands) f.condition;
+  term = condition_term (layout_of version p.commands) f.condition;
   line = f.line;
 }
 
 -- a goal
-abbrev pub goal_item : Source → Statement → ItemForm
-goal_item p g = record {
+abbrev pub goal_item : Version → Source → Statement → ItemForm
+goal_item version p g = record {
   text = form_text p.names (statement_form p.nodes g);
-  term = goal_term (layout_of p.commands) p.nodes g;
+  term = goal_term (layout_of version p.commands) p.nodes g;
   line = suc (length p.commands);
 }
 
 -- these are the items of the program's conditions
-pub record AreConditionItems (p : Source) (items : List ItemForm) : Type 0 where
+pub record AreConditionItems (version : Version) (p : Source) (items : List ItemForm) : Type 0 where
   pub conditions : List Found
   pub listed : AreConditions p conditions
-  pub written : items ≡ map (condition_item p) conditions
+  pub written : items ≡ map (condition_item version p) conditions
 
 -- these are the items of its goals
-pub record AreGoalItems (p : Source) (items : List ItemForm) : Type 0 where
+pub record AreGoalItems (version : Version) (p : Source) (items : List ItemForm) : Type 0 where
   pub goals : List Statement
   pub listed : AreGoals p goals
-  pub written : items ≡ map (goal_item p) goals
+  pub written : items ≡ map (goal_item version p) goals
 
 -- an item, its term unfolded
 abbrev pub item_form : Store → Item → ItemForm
 item_form nodes i = record { text = i.text; term = tree_of nodes i.term; line = i.line }
 
 -- the items stand in the store, and are those of the program's conditions
-pub record AreStoredConditions (p : Source) (nodes : Store) (items : List Item) : Type 0 where
+pub record AreStoredConditions (version : Version) (p : Source) (nodes : Store) (items : List Item) : Type 0 where
   pub stored : All (λ i. i.term.0 < length nodes) items
-  pub are : AreConditionItems p (map (item_form nodes) items)
+  pub are : AreConditionItems version p (map (item_form nodes) items)
 
 -- the items stand in the store, and are those of its goals
-pub record AreStoredGoals (p : Source) (nodes : Store) (items : List Item) : Type 0 where
+pub record AreStoredGoals (version : Version) (p : Source) (nodes : Store) (items : List Item) : Type 0 where
   pub stored : All (λ i. i.term.0 < length nodes) items
-  pub are : AreGoalItems p (map (item_form nodes) items)
+  pub are : AreGoalItems version p (map (item_form nodes) items)
 
--- the lowered form of the program, with the items of its conditions and of its goals
-pub record IsProblem (p : Source) (l : LoweredForm) (cs gs : List Item) : Type 0 where
-  pub lowered : IsLowered p l
-  pub conditions : AreStoredConditions p l.construction.nodes cs
-  pub goals : AreStoredGoals p l.construction.nodes gs
+-- the lowered form of the program by this version, with the items of its conditions and of its goals
+pub record IsProblem (version : Version) (p : Source) (l : LoweredForm) (cs gs : List Item) : Type 0 where
+  pub lowered : IsLowered version p l
+  pub conditions : AreStoredConditions version p l.construction.nodes cs
+  pub goals : AreStoredGoals version p l.construction.nodes gs

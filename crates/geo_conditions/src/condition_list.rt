@@ -118,9 +118,15 @@ impl ConditionList {
         }
     }
 
-    // Lists the conditions of two expressions.
+    /// Lists the conditions of two expressions, one after the other.
     #[cycle(expressions)]
-    fn list_both(&mut self, terms: &Terms, e: TermId, f: TermId, line: u64) -> Result<(), NoMemory>
+    pub fn list_both(
+        &mut self,
+        terms: &Terms,
+        e: TermId,
+        f: TermId,
+        line: u64,
+    ) -> Result<(), NoMemory>
         requires list { IsConditionList terms.now self.old }
         requires first { HasBraces terms.now e }
         requires second { HasBraces terms.now f }

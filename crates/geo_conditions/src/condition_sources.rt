@@ -20,6 +20,8 @@ pub enum ConditionSource {
     One(Condition),
     /// An expression gives those of its ratios and divisors.
     Expression(TermId),
+    /// Two expressions give theirs, one after the other.
+    Expressions(TermId, TermId),
 }
 
 /// What gives the conditions of a command that do not name its point.
@@ -32,9 +34,7 @@ pub fn early_source(command: Command) -> ConditionSource
         Command::Line { a, b } => differ(a, b),
         Command::Med { a, b } => differ(a, b),
         Command::Intersec { a, b } => ConditionSource::One(Condition::Crossing { a, b }),
-        Command::Inter { a, b, c, d } => {
-            ConditionSource::One(Condition::NotParallel { a, b, c, d })
-        }
+        Command::Inter { a, b, c, d } => not_parallel(a, b, c, d),
         Command::Foot { a, b, .. } => differ(a, b),
         Command::Pratio { r, .. } => ConditionSource::Expression(r),
         Command::Tratio { r, .. } => ConditionSource::Expression(r),
@@ -47,6 +47,10 @@ pub fn early_source(command: Command) -> ConditionSource
         Command::Second { a, b, .. } => differ(a, b),
         Command::Cc { o, p, .. } => differ(o, p),
         Command::Inverse { p, o, .. } => differ(o, p),
+        Command::Weights { r, s, .. } => ConditionSource::Expressions(r, s),
+        Command::AssumeDifferent { a, b } => differ(a, b),
+        Command::AssumeNotCollinear { a, b, c } => not_collinear(a, b, c),
+        Command::AssumeNotParallel { a, b, c, d } => not_parallel(a, b, c, d),
         _ => ConditionSource::Nothing,
     }
 }
@@ -98,4 +102,11 @@ fn not_collinear(a: PointId, b: PointId, c: PointId) -> ConditionSource
     ensures { result ≡ ConditionSource.One (Condition.NotCollinear a b c) }
 {
     ConditionSource::One(Condition::NotCollinear { a, b, c })
+}
+
+// That AB and CD are not parallel.
+fn not_parallel(a: PointId, b: PointId, c: PointId, d: PointId) -> ConditionSource
+    ensures { result ≡ ConditionSource.One (Condition.NotParallel a b c d) }
+{
+    ConditionSource::One(Condition::NotParallel { a, b, c, d })
 }

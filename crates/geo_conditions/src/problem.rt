@@ -9,7 +9,7 @@ ghost use Rattle.geo_conditions.specs.Lists.{IsProblem};
 
 use crate::items::{Conditions, Goals};
 use crate::program_items::list_items;
-use geo_lowering::{After, Lines, Lowered, Params, Points};
+use geo_lowering::{After, Lines, Lowered, Params, Points, Version};
 use geo_points::NoMemory;
 use geo_program::Program;
 use geo_terms::Steps;
@@ -49,12 +49,13 @@ impl Drop for Problem {
     }
 }
 
-/// The conditions and goals of a program beside its lowered form, which is taken over. After want
-/// of memory the lowered form is gone.
+/// The conditions and goals of a program beside its lowered form, by either version, which is taken
+/// over. After want of memory the lowered form is gone.
 pub fn list(alloc: Global, program: &Program, lowered: Lowered) -> Result<Problem, NoMemory>
-    requires { IsLowered (source_of program.now) (form_of lowered) }
-    ensures { IfOk result (λ q.
-        IsProblem (source_of program.now) (form_of_problem q) q.conditions q.goals) }
+    ensures { (version : Version)
+        → IsLowered version (source_of program.now) (form_of lowered)
+        → IfOk result (λ q.
+        IsProblem version (source_of program.now) (form_of_problem q) q.conditions q.goals) }
 {
     let Lowered {
         mut steps,

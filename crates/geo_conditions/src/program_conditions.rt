@@ -3,8 +3,7 @@
 
 ghost use Rattle.std.specs.Prelude.{◌≡◌, ◌<◌, ◌≤◌, List, IfOk, OnOk, map};
 ghost use Rattle.std.specs.List.{AllByRecursion};
-ghost use Rattle.geo_lowering.specs.Counting.{counted, named, points_named};
-ghost use Rattle.geo_program.specs.Names.{is_kind};
+ghost use Rattle.geo_lowering.specs.Counting.{counted, is_made, named, points_named};
 ghost use Rattle.geo_program.specs.declared.names.Name.{Name};
 ghost use Rattle.geo_program.specs.declared.names.NameKind.TheVariants as kind;
 ghost use Rattle.geo_terms.specs.Stores.{IsStore};
@@ -17,22 +16,15 @@ ghost use Rattle.geo_conditions.specs.Statements.{statement_conditions};
 use crate::condition_list::ConditionList;
 use crate::condition_sources::{ConditionSource, early_source, late_source, statement_sources};
 use geo_points::{NoMemory, PointId};
-use geo_program::{Command, Statement};
+use geo_program::{Command, NameKind, Statement};
 use geo_terms::Terms;
 use std::alloc::Global;
 
 // Whether the command names a point.
 fn names_point(command: Command) -> bool
-    ensures { result ≡ is_kind (named command) kind.Point }
+    ensures { result ≡ is_made kind.Point (named command) }
 {
-    !matches!(
-        command,
-        Command::Param
-            | Command::Line { .. }
-            | Command::Parallel { .. }
-            | Command::Perp { .. }
-            | Command::Med { .. }
-    )
+    matches!(command.makes(), Some(NameKind::Point))
 }
 
 // The number of the next named point after a command, where it is x before.
@@ -60,6 +52,7 @@ impl ConditionList {
             ConditionSource::Nothing => Ok(()),
             ConditionSource::One(condition) => self.add(terms, condition, line),
             ConditionSource::Expression(e) => self.list_expression(terms, e, line),
+            ConditionSource::Expressions(e, f) => self.list_both(terms, e, f, line),
         }
     }
 

@@ -19,7 +19,7 @@ use crate::item_terms::Places;
 use crate::items::{Conditions, Goals};
 use crate::program_conditions::list_program;
 use crate::renaming::rename_terms;
-use geo_lowering::{Lines, Params, Points};
+use geo_lowering::{Lines, Params, Points, Version};
 use geo_points::NoMemory;
 use geo_program::{Printer, Program, Statement};
 use geo_terms::Steps;
@@ -63,12 +63,15 @@ pub fn list_items(
     lines: &Lines,
     params: &Params,
 ) -> Result<(Conditions, Goals), NoMemory>
-    requires { HasPlaces program.now.commands points.now lines.now params.now }
     ensures keeps { OnOk result (Keeps steps.old steps.new) }
-    ensures conditions { IfOk result (λ both.
-        AreStoredConditions (source_of program.now) steps.new.nodes both.0) }
-    ensures goals { IfOk result (λ both.
-        AreStoredGoals (source_of program.now) steps.new.nodes both.1) }
+    ensures conditions { (version : Version)
+        → HasPlaces version program.now.commands points.now lines.now params.now
+        → IfOk result (λ both.
+        AreStoredConditions version (source_of program.now) steps.new.nodes both.0) }
+    ensures goals { (version : Version)
+        → HasPlaces version program.now.commands points.now lines.now params.now
+        → IfOk result (λ both.
+        AreStoredGoals version (source_of program.now) steps.new.nodes both.1) }
 {
     // `len` also says that the store is valid.
     let _ = program.terms.len();

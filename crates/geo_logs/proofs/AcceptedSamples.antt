@@ -266,7 +266,7 @@ pub sample_realises : AcceptedSampleRealises
 sample_realises table subject steps left lines verdict sound h some =
     let found = conditions_sampled (IsAcceptedChain table subject.construction) (IsAcceptedSample subject.construction) (λ listed left values left' chosen. each_nonzero values listed chosen.nonzero)
     subject.goals [] [] 1 steps subject.conditions h.rest verdict left h.worked some in
-    let head : List Line = Header ∷ map ProgramLine subject.program in (
+    let head : List Line = Header subject.version ∷ map ProgramLine subject.program in (
       head ++ found.before,
       found.values,
       h.split ∙ ap (λ (xs : List Line). head ++ xs) found.split ∙ sym (append_assoc head found.before (Sample found.values ∷ VerdictLine verdict ∷ [])),

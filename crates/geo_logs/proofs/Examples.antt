@@ -23,6 +23,7 @@ at k = record { 0 = k }
 -- TWO LINES THAT NEVER CROSS: `point A point B inter X A B A B prove { collinear A B X }`
 abbrev pub twice : Subject
 twice = record {
+  version = 1;
   program = codes "point A" ∷ codes "point B" ∷ codes "inter X A B A B" ∷ codes "prove { collinear A B X }" ∷ [];
   construction = record { nodes = []; steps = Point ∷ Point ∷ Inter (at 0) (at 1) (at 0) (at 1) ∷ []; params = 0 };
   conditions = record { text = codes "not_parallel A B A B"; term = subtraction (area_leaf (at 0) (at 0) (at 1)) (area_leaf (at 1) (at 0) (at 1)) } ∷ [];
@@ -31,7 +32,7 @@ twice = record {
 
 abbrev pub twice_lines : List Line
 twice_lines =
-    Header ∷ ProgramLine (codes "point A") ∷ ProgramLine (codes "point B") ∷ ProgramLine (codes "inter X A B A B") ∷ ProgramLine (codes "prove { collinear A B X }")
+    Header 1 ∷ ProgramLine (codes "point A") ∷ ProgramLine (codes "point B") ∷ ProgramLine (codes "inter X A B A B") ∷ ProgramLine (codes "prove { collinear A B X }")
     ∷ Condition 1 (codes "not_parallel A B A B") ∷ Start [] ∷ End ∷ VerdictLine (Impossible 1) ∷ []
 
 -- three steps pay for the start, and none is left
@@ -67,6 +68,7 @@ t = T (record { 0 = 0 })
 
 abbrev pub quotients : Subject
 quotients = record {
+  version = 2;
   program = codes "param r" ∷ codes "prove { equal { div { 1 } { r } } { div { 1 } { sub { r } { 1 } } } }" ∷ [];
   construction = record { nodes = []; steps = []; params = 1 };
   conditions = record { text = codes "nonzero { r }"; term = r } ∷ record { text = codes "nonzero { sub { r } { 1 } }"; term = subtraction r one } ∷ [];
@@ -85,7 +87,7 @@ quotients_rest =
 
 abbrev pub quotients_lines : List Line
 quotients_lines =
-    Header ∷ ProgramLine (codes "param r") ∷ ProgramLine (codes "prove { equal { div { 1 } { r } } { div { 1 } { sub { r } { 1 } } } }") ∷ quotients_rest
+    Header 2 ∷ ProgramLine (codes "param r") ∷ ProgramLine (codes "prove { equal { div { 1 } { r } } { div { 1 } { sub { r } { 1 } } } }") ∷ quotients_rest
 
 abbrev IsSmall : Var × ℤ → Type 0
 IsSmall v = unsigned_abs v.1 < 2 ^ 127

@@ -12,6 +12,7 @@ pub mod AcceptedSamples
 pub mod SampleSizes
 pub mod AcceptedProvers
 pub mod OneStep
+pub mod CutOnce
 pub mod OneChain
 pub mod Examples
 pub mod NextLines

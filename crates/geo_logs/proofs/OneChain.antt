@@ -143,5 +143,5 @@ pub provers_log_unique : ProversLogIsUnique
 provers_log_unique table subject steps left left' lines other verdict verdict' h g =
     let c = subject.construction in
     let same = one_conditions table c subject.goals [] [] 1 steps subject.conditions h.rest g.rest verdict verdict' left left' h.worked g.worked in
-    let head : List Line = Header ∷ map ProgramLine subject.program in
+    let head : List Line = Header subject.version ∷ map ProgramLine subject.program in
     (h.split ∙ ap (λ (xs : List Line). head ++ xs) same.0 ∙ sym g.split, same.1, same.2)

@@ -50,12 +50,14 @@ same_terms f (t ∷ ts) (u ∷ us) nonzero g h e =
     let number : t.1 ≡ u.1 = same_quotient f.1 t.1 u.1 nonzero (ap (λ x. x.1) first) in
     ap₂ (λ (x : Powers × ℤ) (xs : Summands). x ∷ xs) (λ i. (monomial i, number i)) (same_terms f ts us nonzero g.1 h.1 rest)
 
+-- what a cut leaves, times the factor, term by term
+pub cut_whole : (known : List Var) (f : Powers × ℤ) (q r : Summands) → IsCut known f q r → multiples f r ≡ q
+cut_whole known f q r h = multiples-product f r h.factor.nonzero h.polynomial.monomials h.polynomial.in_order ∙ h.exact
+
 -- a cut has one result
 pub one_cut : (known : List Var) (f : Powers × ℤ) (q r s : Summands) → IsCut known f q r → IsCut known f q s → r ≡ s
 one_cut known f q r s h k =
-    same_terms f r s h.factor.nonzero h.polynomial.monomials k.polynomial.monomials
-    (multiples-product f r h.factor.nonzero h.polynomial.monomials h.polynomial.in_order ∙ h.exact ∙ sym k.exact
-    ∙ sym (multiples-product f s h.factor.nonzero k.polynomial.monomials k.polynomial.in_order))
+    same_terms f r s h.factor.nonzero h.polynomial.monomials k.polynomial.monomials (cut_whole known f q r h ∙ sym (cut_whole known f q s k))
 
 -- a cut is due, or none
 pub no_cut : (known : List Var) (q : Summands) (f : Powers × ℤ) → NoCutDue known q → IsCutDue known q f → ⊥

@@ -11,7 +11,7 @@ use Rattle.geo_poly.specs.declared.variables.Var.TheVariants.{R, S, P, X, Y, T}
 use Rattle.geo_poly.specs.Variables.{var_cmp}
 use Rattle.geo_poly.proofs.Orders.{var_order}
 use Rattle.geo_terms.specs.declared.steps.Step.{Step}
-use Rattle.geo_terms.specs.declared.steps.Step.TheVariants.{Point, Inter, Foot, Pratio, Tratio}
+use Rattle.geo_terms.specs.declared.steps.Step.TheVariants.{Point, Inter, Foot, Pratio, Tratio, Weights}
 use Rattle.geo_terms.specs.Constructions.{Construction}
 use Rattle.fraction_poly.proofs.PolynomialValues.{self}
 use Rattle.geo_logs.specs.Naming.{IsNamed}
@@ -51,10 +51,12 @@ free_coordinates k (Inter u v p q ∷ steps) zero e = absurd (let q : ◌≡◌ 
 free_coordinates k (Foot p u v ∷ steps) zero e = absurd (let q : ◌≡◌ {A = Option Step} (Some (Foot p u v)) (Some Point) = e in cc)
 free_coordinates k (Pratio w u v r ∷ steps) zero e = absurd (let q : ◌≡◌ {A = Option Step} (Some (Pratio w u v r)) (Some Point) = e in cc)
 free_coordinates k (Tratio u v r ∷ steps) zero e = absurd (let q : ◌≡◌ {A = Option Step} (Some (Tratio u v r)) (Some Point) = e in cc)
+free_coordinates k (Weights o u v r t ∷ steps) zero e = absurd (let q : ◌≡◌ {A = Option Step} (Some (Weights o u v r t)) (Some Point) = e in cc)
 free_coordinates k (Inter u v p q ∷ steps) (suc i) e = let there : suc k + i ≡ k + suc i = omega arith in subst (HasCoordinates (coordinates_from (suc k) steps)) there (free_coordinates (suc k) steps i e)
 free_coordinates k (Foot p u v ∷ steps) (suc i) e = let there : suc k + i ≡ k + suc i = omega arith in subst (HasCoordinates (coordinates_from (suc k) steps)) there (free_coordinates (suc k) steps i e)
 free_coordinates k (Pratio w u v r ∷ steps) (suc i) e = let there : suc k + i ≡ k + suc i = omega arith in subst (HasCoordinates (coordinates_from (suc k) steps)) there (free_coordinates (suc k) steps i e)
 free_coordinates k (Tratio u v r ∷ steps) (suc i) e = let there : suc k + i ≡ k + suc i = omega arith in subst (HasCoordinates (coordinates_from (suc k) steps)) there (free_coordinates (suc k) steps i e)
+free_coordinates k (Weights o u v r t ∷ steps) (suc i) e = let there : suc k + i ≡ k + suc i = omega arith in subst (HasCoordinates (coordinates_from (suc k) steps)) there (free_coordinates (suc k) steps i e)
 
 each_parameter : (k n i : ℕ) → i < n → Contains (parameters_from k n) (T (record { 0 = k + i }))
 each_parameter k zero i lt = absurd (omega arith)
@@ -159,6 +161,7 @@ module _ (parameters : List Var) (only : EachIn (IsParameterPast 0) parameters) 
   coordinates_past k (Foot p u v ∷ steps) = past_later k (coordinates_from (suc k) steps ++ parameters) (coordinates_past (suc k) steps)
   coordinates_past k (Pratio w u v r ∷ steps) = past_later k (coordinates_from (suc k) steps ++ parameters) (coordinates_past (suc k) steps)
   coordinates_past k (Tratio u v r ∷ steps) = past_later k (coordinates_from (suc k) steps ++ parameters) (coordinates_past (suc k) steps)
+  coordinates_past k (Weights o u v r t ∷ steps) = past_later k (coordinates_from (suc k) steps ++ parameters) (coordinates_past (suc k) steps)
 
   coordinates_distinct : IsDistinct parameters → (k : ℕ) (steps : List Step) → IsDistinct (coordinates_from k steps ++ parameters)
   coordinates_distinct apart k [] = apart
@@ -172,6 +175,7 @@ module _ (parameters : List Var) (only : EachIn (IsParameterPast 0) parameters) 
   coordinates_distinct apart k (Foot p u v ∷ steps) = coordinates_distinct apart (suc k) steps
   coordinates_distinct apart k (Pratio w u v r ∷ steps) = coordinates_distinct apart (suc k) steps
   coordinates_distinct apart k (Tratio u v r ∷ steps) = coordinates_distinct apart (suc k) steps
+  coordinates_distinct apart k (Weights o u v r t ∷ steps) = coordinates_distinct apart (suc k) steps
 
 -- no variable of a sample stands twice
 pub sample_distinct : (c : Construction) → IsDistinct (sample_variables c)

@@ -72,7 +72,7 @@ pub data Kind : Type 0 where
   header_kind program_kind chain_kind start_kind inner_kind sample_kind verdict_kind stop_kind : Kind
 
 abbrev pub kind_of : Line → Kind
-kind_of Header = header_kind
+kind_of (Header version) = header_kind
 kind_of (Program text) = program_kind
 kind_of (Condition k text) = chain_kind
 kind_of (Goal k text) = chain_kind

@@ -3,6 +3,8 @@ use Rattle.std.specs.Prelude.{◌≡◌, ℕ, suc, ◌^◌, ◌<◌, ◌≤◌, 
 use Rattle.ring_laws.specs.Fraction.{Same, IsNonzero, whole}
 use Rattle.geo_points.specs.Placements.{Placement}
 use Rattle.geo_poly.specs.declared.variables.Var.{Var}
+use Rattle.geo_poly.specs.Cuts.{IsCut}
+use Rattle.geo_poly.specs.Monomials.{Powers}
 use Rattle.geo_poly.specs.Polynomials.{Summands}
 use Rattle.geo_terms.specs.Constructions.{Construction, MeetsSteps}
 use Rattle.geo_terms.specs.Values.{HasTreeValue, tree_value}
@@ -11,7 +13,7 @@ use Rattle.proof_log.specs.declared.log.Line.TheVariants.{Sample, Verdict as Ver
 use Rattle.proof_log.specs.declared.log.Verdict.{Verdict}
 use Rattle.proof_log.specs.declared.log.Verdict.TheVariants.{Proved, False, Impossible}
 use Rattle.geo_logs.specs.Chains.{ChainStep, moves, cuts, LeadsTo}
-use Rattle.geo_logs.specs.Defined.{IsLogOfProver}
+use Rattle.geo_logs.specs.Defined.{IsCutDue, IsLogOfProver, NoCutDue}
 use Rattle.geo_logs.specs.Ends.{Ending, IsDefinedLog}
 use Rattle.geo_logs.specs.Logs.{IsAccepted, Item, Subject}
 use Rattle.geo_logs.specs.Moves.{Table, place_of}
@@ -147,3 +149,7 @@ abbrev pub DefinedLogIsUnique : Type 0
 DefinedLogIsUnique =
     (table : Table) (subject : Subject) (steps : ℕ) (lines other : List Line) (ending ending' : Ending)
     → IsDefinedLog table subject steps lines ending → IsDefinedLog table subject steps other ending' → (lines ≡ other) × (ending ≡ ending')
+
+-- after a cut by the factor of a polynomial none is due
+abbrev pub NoneIsDueAfterCut : Type 0
+NoneIsDueAfterCut = (known : List Var) (f : Powers × ℤ) (q r : Summands) → IsCutDue known q f → IsCut known f q r → NoCutDue known r

@@ -21,8 +21,9 @@ pub record Item : Type 0 where
   pub text : List ℕ
   pub term : Tree
 
--- a program as a log takes it: its lines, its construction, its conditions and its goals
+-- a program as a log takes it: the version of the log, the lines of the program, its construction, its conditions and its goals
 pub record Subject : Type 0 where
+  pub version : ℕ
   pub program : List (List ℕ)
   pub construction : Construction
   pub conditions : List Item
@@ -91,7 +92,7 @@ module _ (Works : Chains) (IsChosen : Samples) where
   -- the lines are a log of the subject with this verdict: the header, the program, the chains, a sample, the verdict
   pub record IsLog (subject : Subject) (steps : ℕ) (lines : List Line) (verdict : Verdict) (left : ℕ) : Type 0 where
     pub rest : List Line
-    pub split : lines ≡ Header ∷ map ProgramLine subject.program ++ rest
+    pub split : lines ≡ Header subject.version ∷ map ProgramLine subject.program ++ rest
     pub worked : AreConditionsWorked subject.goals [] [] 1 steps subject.conditions rest verdict left
 
 -- ACCEPTED LOGS

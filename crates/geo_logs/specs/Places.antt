@@ -28,7 +28,7 @@ Paths = List Var → ℕ → Summands → List ChainStep → ℕ → Summands �
 
 -- the header and the lines of the program
 abbrev pub first_lines : Subject → List Line
-first_lines subject = Header ∷ map ProgramLine subject.program
+first_lines subject = Header subject.version ∷ map ProgramLine subject.program
 
 -- BEGINNINGS OF LOGS, whichever chains and samples may stand in them
 module _ (Leads : Paths) (Works : Chains) (IsChosen : Samples) where

@@ -2,8 +2,8 @@
 
 ghost use Rattle.geo_logs.specs.Laws.{AcceptedGoalsAreZero, AcceptedSampleRealises};
 ghost use Rattle.geo_logs.specs.Laws.{ChainsNameNoLater, ChargesAreSpent, DefinedLogIsUnique};
-ghost use Rattle.geo_logs.specs.Laws.{ImpossibleIsNeverMet, ProversLogIsAccepted};
-ghost use Rattle.geo_logs.specs.Laws.{ProversLogIsUnique};
+ghost use Rattle.geo_logs.specs.Laws.{ImpossibleIsNeverMet, NoneIsDueAfterCut};
+ghost use Rattle.geo_logs.specs.Laws.{ProversLogIsAccepted, ProversLogIsUnique};
 
 /// Where a log is accepted with Proved, each goal's term is 0 in every placement that meets the
 /// steps, wherever it has a value; with False(g) this holds of the goals before goal g.
@@ -48,4 +48,9 @@ pub fn chains_name_no_later()
 /// An accepted log leaves no more steps than were given.
 pub fn charges_are_spent()
     ensures { ChargesAreSpent }
+{}
+
+/// After a cut by the factor of a polynomial no cut is due.
+pub fn none_is_due_after_cut()
+    ensures { NoneIsDueAfterCut }
 {}

@@ -13,7 +13,7 @@ use Rattle.geo_terms.specs.Constructions.{IsStep}
 use Rattle.geo_terms.specs.Stores.{Store, HasChildrenBelow, HasShortInteger, IsStore, node_tree, tree_of, trees_of}
 use Rattle.geo_terms.specs.Trees.{Tree, integer_leaf, parameter_leaf, area_leaf, pythagoras_leaf, ratio_leaf, negation, addition, subtraction, multiplication, division}
 use Rattle.geo_terms.proofs.Interning.{IsInterned, interned, known, added, IsStore-interned, longer-interned, one_more-interned, others-interned, tree_of-interned}
-use Rattle.geo_lowering.specs.StepForms.{StepForm, free, crossing_of, foot_of, along, turned_along}
+use Rattle.geo_lowering.specs.StepForms.{StepForm, free, crossing_of, foot_of, along, turned_along, weighted}
 use Rattle.geo_lowering.specs.Inner.StepLists.{AreStepsFrom, HaveForms}
 use Rattle.geo_lowering.specs.Inner.StepNumbers.{IsTerm}
 
@@ -157,6 +157,7 @@ with_tree (division e f) h old s room =
 abbrev pub form_size : StepForm → ℕ
 form_size (along w u v e) = size e
 form_size (turned_along u v e) = size e
+form_size (weighted o u v e f) = size e + size f
 form_size _ = 0
 
 abbrev pub forms_size : List StepForm → ℕ
@@ -167,6 +168,7 @@ forms_size (f ∷ fs) = form_size f + forms_size fs
 abbrev pub IsShortForm : StepForm → Type 0
 IsShortForm (along w u v e) = HasShortIntegers e
 IsShortForm (turned_along u v e) = HasShortIntegers e
+IsShortForm (weighted o u v e f) = HasShortIntegers e × HasShortIntegers f
 IsShortForm _ = Unit {0}
 
 -- a store with the numbers of the steps, and the steps
@@ -219,6 +221,22 @@ list_forms (turned_along u v e ∷ fs) h old s room =
       grown = grown_trans old g.nodes r.nodes (size e) (forms_size fs) g.grown r.grown;
       steps = step.Tratio (record { 0 = u }) (record { 0 = v }) g.id ∷ r.steps;
       forms = record { formed = ap₂ (λ (x : Tree) (xs : List StepForm). turned_along u v x ∷ xs) t.tree r.forms.formed; stored = (t.stored, r.forms.stored) };
+    }
+list_forms (weighted o u v e f ∷ fs) h old s room =
+    let g = with_tree e h.0.0 old s (omega arith) in
+    let few : length g.nodes ≤ length old + size e = g.grown.few in
+    let k = with_tree f h.0.1 g.nodes g.grown.store (omega arith) in
+    let more : length k.nodes ≤ length g.nodes + size f = k.grown.few in
+    let r = list_forms fs h.1 k.nodes k.grown.store (omega arith) in
+    let first = grown_term k.nodes r.nodes (forms_size fs) r.grown e g.id (grown_term g.nodes k.nodes (size f) k.grown e g.id g.term) in
+    let second = grown_term k.nodes r.nodes (forms_size fs) r.grown f k.id k.term in record {
+      nodes = r.nodes;
+      grown = grown_trans old k.nodes r.nodes (size e + size f) (forms_size fs) (grown_trans old g.nodes k.nodes (size e) (size f) g.grown k.grown) r.grown;
+      steps = step.Weights (record { 0 = o }) (record { 0 = u }) (record { 0 = v }) g.id k.id ∷ r.steps;
+      forms = record {
+        formed = λ i. weighted o u v (first.tree i) (second.tree i) ∷ r.forms.formed i;
+        stored = ((first.stored, second.stored), r.forms.stored);
+      };
     }
 
 -- steps over the points before them, each

@@ -1,5 +1,5 @@
 -- The points of one command are put in: where the named points meet it, and where its conditions ask for no more than that it can be met.
-use Rattle.std.proofs.Common.{◌≡◌, ℕ, suc, false, ◌<◌, List, [], ◌∷◌, sym, subst}
+use Rattle.std.proofs.Common.{◌≡◌, ℕ, suc, false, ◌<◌, List, [], ◌∷◌, sym, subst, Some}
 use Rattle.ring_laws.specs.Fraction.{Fraction, Same, quotient, IsNonzero}
 use Rattle.geo_points.specs.Placements.{Placement}
 use Rattle.geo_points.specs.Points.{Point as Triple, pythagoras_difference}
@@ -10,9 +10,10 @@ use Rattle.geo_terms.specs.Stores.{Store, tree_of}
 use Rattle.geo_terms.specs.Trees.{Tree, parameter_leaf, division}
 use Rattle.geo_terms.specs.Values.{HasTreeValue, tree_value}
 use Rattle.geo_program.specs.declared.commands.Command.{Command}
-use Rattle.geo_program.specs.declared.commands.Command.TheVariants.{Point, Param, Line, Parallel, Perp, Med, Intersec, Inter, Foot, Pratio, Tratio, Online, Lratio, Midpoint, Translate, Symmetric, Reflect, Circumcenter, Orthocenter, Centroid, Oncircle, Second, Cc, Inverse}
+use Rattle.geo_program.specs.declared.commands.Command.TheVariants.{Point, Param, Line, Parallel, Perp, Med, Intersec, Inter, Foot, Pratio, Tratio, Online, Lratio, Midpoint, Translate, Symmetric, Reflect, Circumcenter, Orthocenter, Centroid, Oncircle, Second, Cc, Inverse, Weights, AssumeDifferent, AssumeNotCollinear, AssumeNotParallel}
 use Rattle.geo_program.specs.declared.names.NameKind.TheVariants as kind
 use Rattle.geo_program.specs.WellFormed.{Source}
+use Rattle.geo_lowering.specs.declared.version.Version.{Version}
 use Rattle.geo_lowering.specs.Counting.{named, hidden, further}
 use Rattle.geo_lowering.specs.CommandsMet.{reading, lines_of, IsCommandMet}
 use Rattle.geo_lowering.specs.Lowering.{Layout, layout_of, renamed, command_steps, one_tree, half_tree, square_tree}
@@ -22,7 +23,7 @@ use Rattle.geo_lowering.proofs.Laying.{IsNamed}
 use Rattle.geo_lowering.proofs.Bounds.{Bounds}
 use Rattle.geo_lowering.proofs.Values.{seen, renamed-value, renamed-has, AgreeBelow, value-same, over_expression}
 use Rattle.geo_points.proofs.Exchange.{pythagoras_difference-same}
-use Rattle.geo_lowering.specs.Conditions.{command_conditions, early_conditions}
+use Rattle.geo_lowering.specs.Conditions.{command_conditions, early_conditions, expression_conditions}
 use Rattle.geo_points.proofs.Same.{self_point}
 use Rattle.geo_lowering.proofs.Puts.{put, puts, puts_here}
 use Rattle.geo_lowering.proofs.Placing.{made, Near, near, StandsFor, one_stands, half_stands, number_stands, place_along, place_turned, place_crossing, place_foot, place_reflection, place_bisector, place_upright, place_centroid, place_orthocenter, place_oncircle, place_circumcenter}
@@ -32,29 +33,31 @@ use Rattle.geo_lowering.proofs.Centers.{circumcenter_down, orthocenter_down, cir
 use Rattle.geo_lowering.proofs.Standing.{intersec_down, directions-are, quotient-same}
 use Rattle.geo_points.proofs.Making.{crossing_exists, foot_exists, turned_exists}
 use Rattle.geo_points.proofs.Zeros.{far}
-use Rattle.geo_lowering.proofs.ConditionValues.{Hold, step_value}
+use Rattle.geo_lowering.proofs.ConditionValues.{Hold, step_value, each_back, each_front}
+use Rattle.geo_points.proofs.Weighted.{weighted_exists}
+use Rattle.geo_lowering.proofs.WeightedCommands.{place_weights}
 use Rattle.geo_lowering.proofs.Up.{AllStand, AllSame}
 
 -- the points that a command makes, put in at n and so on; X is the one that it names
-pub record Placed (l : Layout) (nodes : Store) (n m : ℕ) (at : ℕ → Triple) (number : ℕ → Fraction) (c : Command) (X : Triple) : Type 0 where
+pub record Placed (version : Version) (l : Layout) (nodes : Store) (n m : ℕ) (at : ℕ → Triple) (number : ℕ → Fraction) (c : Command) (X : Triple) : Type 0 where
   pub points : List Triple
-  pub met : AreFormsMet (made n at number points) n (command_steps l nodes n m c)
-  pub new : named c ≡ kind.Point → puts at n points (further n (hidden c)) ≡ X
+  pub met : AreFormsMet (made n at number points) n (command_steps version l nodes n m c)
+  pub new : named c ≡ Some kind.Point → puts at n points (further n (hidden version c)) ≡ X
 
 -- the same, where X may be any point, but for a free point
-pub record Built (l : Layout) (nodes : Store) (n m : ℕ) (at : ℕ → Triple) (number : ℕ → Fraction) (c : Command) (F : Triple) : Type 0 where
+pub record Built (version : Version) (l : Layout) (nodes : Store) (n m : ℕ) (at : ℕ → Triple) (number : ℕ → Fraction) (c : Command) (F : Triple) : Type 0 where
   pub points : List Triple
-  pub met : AreFormsMet (made n at number points) n (command_steps l nodes n m c)
+  pub met : AreFormsMet (made n at number points) n (command_steps version l nodes n m c)
   pub free : c ≡ Point → puts at n points n ≡ F
 
-module _ (s : Source) (V : Placement) (at : ℕ → Triple) (x y j n m : ℕ) where
+module _ (version : Version) (s : Source) (V : Placement) (at : ℕ → Triple) (x y j n m : ℕ) where
   abbrev l : Layout
-  l = layout_of s.commands
+  l = layout_of version s.commands
 
   abbrev pub so_far : Placement
   so_far = record { point = at; number = V.number }
 
-  module _ (B : Bounds l x y j n m) (g : AllSame l s.nodes V so_far (lines_of V s.commands) x) (st : AllStand l s.nodes V so_far (lines_of V s.commands) j) where
+  module _ (B : Bounds l x y j n m) (g : AllSame version l s.nodes V so_far (lines_of V s.commands) x) (st : AllStand version l s.nodes V so_far (lines_of V s.commands) j) where
     abbrev NearHere : ℕ → Triple → Type 0
     NearHere k A = Near n at V.number k A
 
@@ -85,7 +88,7 @@ module _ (s : Source) (V : Placement) (at : ℕ → Triple) (x y j n m : ℕ) wh
 
     -- the command is met: its hidden points are there
     pub command_down : (c : Command) → IsNamed s.nodes x y j c → IsCommandMet s V (V.point x) (V.number m) c → Hold s V (command_conditions s.nodes (record { 0 = x }) c)
-        → Placed l s.nodes n m at V.number c (V.point x)
+        → Placed version l s.nodes n m at V.number c (V.point x)
     command_down Point k h z = record { points = (V.point x) ∷ []; met = (tt, tt); new = λ e. puts_here at n (V.point x) [] }
     command_down Param k h z = record { points = []; met = tt; new = λ e. cc }
     command_down (Line a b) k h z = record { points = []; met = tt; new = λ e. cc }
@@ -132,9 +135,17 @@ module _ (s : Source) (V : Placement) (at : ℕ → Triple) (x y j n m : ℕ) wh
         let d = cc_down (V.point x) (V.point o.0) (V.point p.0) (V.point a.0) h z.0 z.1.0 in
         record { points = d.0 ∷ (V.point x) ∷ []; met = place_reflection n at V.number (l.point a.0) (l.point o.0) (l.point p.0) (l.point a.0) (V.point a.0) (V.point o.0) (V.point p.0) (V.point a.0) d.0 (V.point x) (N a.0 k.1.1.0) (N o.0 k.0) (N p.0 k.1.0) (N a.0 k.1.1.0) d.1 d.2; new = λ e. puts_here (put at n d.0) (suc n) (V.point x) [] }
     command_down (Inverse p o a) k h z = record { points = (V.point x) ∷ []; met = place_along n at V.number (l.point o.0) (l.point o.0) (l.point p.0) (division (square_tree (l.point o.0) (l.point a.0)) (square_tree (l.point o.0) (l.point p.0))) (V.point o.0) (V.point o.0) (V.point p.0) (quotient (pythagoras_difference (V.point o.0) (V.point a.0) (V.point o.0)) (pythagoras_difference (V.point o.0) (V.point p.0) (V.point o.0))) (V.point x) (N o.0 k.1.0) (N o.0 k.1.0) (N p.0 k.0) (squares (l.point o.0) (l.point a.0) (l.point p.0) (V.point o.0) (V.point a.0) (V.point p.0) (N o.0 k.1.0) (N a.0 k.1.1.0) (N p.0 k.0) (far (V.point o.0) (V.point p.0) z.0)) (inverse_down (V.point x) (V.point p.0) (V.point o.0) (V.point a.0) h z.0); new = λ e. puts_here at n (V.point x) [] }
+    command_down (Weights a b c r q) k h z =
+        let placed = place_weights version n at V.number (l.point a.0) (l.point b.0) (l.point c.0) (renamed l (tree_of s.nodes r)) (renamed l (tree_of s.nodes q)) (V.point a.0) (V.point b.0) (V.point c.0) (V.point x)
+        (tree_value (reading s V) (tree_of s.nodes r)) (tree_value (reading s V) (tree_of s.nodes q)) (N a.0 k.0) (N b.0 k.1.0) (N c.0 k.1.1.0)
+        (reads (tree_of s.nodes r) k.1.1.1.0.0 h.0) (reads (tree_of s.nodes q) k.1.1.1.1.0.0 h.1) h.2 in
+        record { points = placed.points; met = placed.met; new = λ e. placed.new }
+    command_down (AssumeDifferent a b) k h z = record { points = []; met = tt; new = λ e. cc }
+    command_down (AssumeNotCollinear a b c) k h z = record { points = []; met = tt; new = λ e. cc }
+    command_down (AssumeNotParallel a b c d) k h z = record { points = []; met = tt; new = λ e. cc }
 
     -- the conditions that do not name the point hold: there is a point that meets the command
-    pub command_built : (c : Command) (F : Triple) → IsNamed s.nodes x y j c → Hold s V (early_conditions s.nodes c) → Built l s.nodes n m at V.number c F
+    pub command_built : (c : Command) (F : Triple) → IsNamed s.nodes x y j c → Hold s V (early_conditions s.nodes c) → Built version l s.nodes n m at V.number c F
     command_built Point F k z = record { points = F ∷ []; met = (tt, tt); free = λ e. puts_here at n F [] }
     command_built Param F k z = record { points = []; met = tt; free = λ e. cc }
     command_built (Line a b) F k z = record { points = []; met = tt; free = λ e. cc }
@@ -215,3 +226,17 @@ module _ (s : Source) (V : Placement) (at : ℕ → Triple) (x y j n m : ℕ) wh
     command_built (Inverse p o a) F k z =
         let Y = along_exists (V.point o.0) (V.point o.0) (V.point p.0) (quotient (pythagoras_difference (V.point o.0) (V.point a.0) (V.point o.0)) (pythagoras_difference (V.point o.0) (V.point p.0) (V.point o.0))) in
         record { points = Y.0 ∷ []; met = place_along n at V.number (l.point o.0) (l.point o.0) (l.point p.0) (division (square_tree (l.point o.0) (l.point a.0)) (square_tree (l.point o.0) (l.point p.0))) (V.point o.0) (V.point o.0) (V.point p.0) (quotient (pythagoras_difference (V.point o.0) (V.point a.0) (V.point o.0)) (pythagoras_difference (V.point o.0) (V.point p.0) (V.point o.0))) Y.0 (N o.0 k.1.0) (N o.0 k.1.0) (N p.0 k.0) (squares (l.point o.0) (l.point a.0) (l.point p.0) (V.point o.0) (V.point a.0) (V.point p.0) (N o.0 k.1.0) (N a.0 k.1.1.0) (N p.0 k.0) (far (V.point o.0) (V.point p.0) z.0)) (Y.1); free = λ e. cc }
+    command_built (Weights a b c r q) F k z =
+        let conditions = expression_conditions (tree_of s.nodes r) in
+        let others = expression_conditions (tree_of s.nodes q) in
+        let first = tree_value (reading s V) (tree_of s.nodes r) in
+        let second = tree_value (reading s V) (tree_of s.nodes q) in
+        let Y = weighted_exists (V.point a.0) (V.point b.0) (V.point c.0) first second in
+        let placed = place_weights version n at V.number (l.point a.0) (l.point b.0) (l.point c.0) (renamed l (tree_of s.nodes r)) (renamed l (tree_of s.nodes q)) (V.point a.0) (V.point b.0) (V.point c.0) Y.0
+        first second (N a.0 k.0) (N b.0 k.1.0) (N c.0 k.1.1.0)
+        (reads (tree_of s.nodes r) k.1.1.1.0.0 (step_value s V x y (tree_of s.nodes r) k.1.1.1.0.0 (each_front _ conditions others z)))
+        (reads (tree_of s.nodes q) k.1.1.1.1.0.0 (step_value s V x y (tree_of s.nodes q) k.1.1.1.1.0.0 (each_back _ conditions others z))) Y.1 in
+        record { points = placed.points; met = placed.met; free = λ e. cc }
+    command_built (AssumeDifferent a b) F k z = record { points = []; met = tt; free = λ e. cc }
+    command_built (AssumeNotCollinear a b c) F k z = record { points = []; met = tt; free = λ e. cc }
+    command_built (AssumeNotParallel a b c d) F k z = record { points = []; met = tt; free = λ e. cc }

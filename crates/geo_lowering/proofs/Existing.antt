@@ -1,7 +1,7 @@
 -- Every well-formed program of a short text has a lowered form.
 use Rattle.std.proofs.Common.{◌≡◌, ℕ, suc, ◌+◌, ◌*◌, ◌≤◌, Bool, false, List, [], ◌∷◌, ◌++◌, length, map, refl, sym, ◌∙◌, ap, ap₂, subst, arith, lit<, length-append}
 use Rattle.std.specs.Prelude.{sum_by}
-use Rattle.std.specs.List.{AllByRecursion}
+use Rattle.std.specs.List.{AllByRecursion, flat_map}
 use Rattle.std.proofs.lemmas.List.{length-map}
 use Rattle.std.proofs.lemmas.List.Sums.{sum_by-cons}
 use Rattle.geo_points.specs.declared.ids.ParamId.{ParamId}
@@ -10,16 +10,20 @@ use Rattle.geo_terms.specs.Constructions.{IsStep}
 use Rattle.geo_terms.specs.Stores.{Store, tree_of}
 use Rattle.geo_terms.specs.Trees.{Tree, integer_leaf, parameter_leaf, area_leaf, pythagoras_leaf, ratio_leaf, negation, addition, subtraction, multiplication, division}
 use Rattle.geo_program.specs.declared.commands.Command.{Command}
-use Rattle.geo_program.specs.declared.commands.Command.TheVariants.{Point, Param, Line, Parallel, Perp, Med, Intersec, Inter, Foot, Pratio, Tratio, Online, Lratio, Midpoint, Translate, Symmetric, Reflect, Circumcenter, Orthocenter, Centroid, Oncircle, Second, Cc, Inverse}
+use Rattle.geo_program.specs.declared.commands.Command.TheVariants.{Point, Param, Line, Parallel, Perp, Med, Intersec, Inter, Foot, Pratio, Tratio, Online, Lratio, Midpoint, Translate, Symmetric, Reflect, Circumcenter, Orthocenter, Centroid, Oncircle, Second, Cc, Inverse, Weights, AssumeDifferent, AssumeNotCollinear, AssumeNotParallel}
 use Rattle.geo_program.specs.declared.names.Name.{Name}
 use Rattle.geo_program.specs.declared.statements.Statement.{Statement}
-use Rattle.geo_program.specs.CanonicalText.{canonical_text, command_lexemes, commands_lexemes, lexeme_text, no_sketches, statement_lexemes}
+use Rattle.geo_program.specs.CanonicalText.{argument_lexemes, canonical_text, command_lexemes, commands_lexemes, condition_lexemes, lexeme_text, no_sketches, statement_lexemes}
+use Rattle.geo_lexer.specs.Lexemes.{word_lexeme}
+use Rattle.geo_program.specs.Forms.{command_form}
 use Rattle.geo_program.specs.Expressions.{IsExpression, braced, expression_lexemes}
-use Rattle.geo_program.specs.WellFormed.{AreCommands, IsWellFormed, Scope, Source, declare, empty_scope}
+use Rattle.geo_program.specs.WellFormed.{AreCommands, IsWellFormed, Scope, Source, empty_scope, later_names, own_names, scope_of}
 use Rattle.geo_program.proofs.Lengths.{length-canonical_text, lexeme_size}
+use Rattle.geo_lowering.specs.declared.version.Version.{Version}
+use Rattle.geo_lowering.specs.declared.version.Version.TheVariants.{One, Two}
 use Rattle.geo_lowering.specs.Counting.{next_number, next_point, numbers_had, param_places, points_past}
 use Rattle.geo_lowering.specs.Laws.{ProgramsHaveLoweredForms}
-use Rattle.geo_lowering.specs.Lowering.{Layout, command_steps, layout_of, line_places, pair_numbers, point_place, point_places, points_after, renamed, steps_from, steps_of}
+use Rattle.geo_lowering.specs.Lowering.{Layout, command_steps, layout_of, line_places, pair_numbers, point_place, point_places, points_after, renamed, steps_from, steps_of, weights_steps}
 use Rattle.geo_lowering.specs.StepForms.{StepForm, step_form}
 use Rattle.geo_lowering.proofs.Begun.{are_steps, past-length}
 use Rattle.geo_lowering.proofs.Bounds.{program_over}
@@ -67,76 +71,79 @@ size_renamed l (subtraction e f) = ap₂ (λ (i j : ℕ). suc (i + j)) (size_ren
 size_renamed l (multiplication e f) = ap₂ (λ (i j : ℕ). suc (i + j)) (size_renamed l e) (size_renamed l f)
 size_renamed l (division e f) = ap₂ (λ (i j : ℕ). suc (i + j)) (size_renamed l e) (size_renamed l f)
 
-short_command : (l : Layout) (nodes : Store) (x q j n m : ℕ) (c : Command) → IsNamed nodes x q j c → AllByRecursion IsShortForm (command_steps l nodes n m c)
-short_command l nodes x q j n m Point h = (tt, tt)
-short_command l nodes x q j n m Param h = tt
-short_command l nodes x q j n m (Line a b) h = tt
-short_command l nodes x q j n m (Parallel p b) h = (lit< tt, tt)
-short_command l nodes x q j n m (Perp p b) h = (lit< tt, (lit< tt, tt))
-short_command l nodes x q j n m (Med a b) h = ((lit< tt, lit< tt), (lit< tt, tt))
-short_command l nodes x q j n m (Intersec a b) h = (tt, tt)
-short_command l nodes x q j n m (Inter a b c d) h = (tt, tt)
-short_command l nodes x q j n m (Foot p a b) h = (tt, tt)
-short_command l nodes x q j n m (Pratio w u v r) h = (short_renamed l (tree_of nodes r) (short_expression x q false (tree_of nodes r) h.1.1.1.0.0), tt)
-short_command l nodes x q j n m (Tratio u v r) h = (short_renamed l (tree_of nodes r) (short_expression x q false (tree_of nodes r) h.1.1.0.0), tt)
-short_command l nodes x q j n m (Online a b) h = (tt, tt)
-short_command l nodes x q j n m (Lratio a b r) h = (short_renamed l (tree_of nodes r) (short_expression x q false (tree_of nodes r) h.1.1.0.0), tt)
-short_command l nodes x q j n m (Midpoint a b) h = ((lit< tt, lit< tt), tt)
-short_command l nodes x q j n m (Translate a b c) h = (lit< tt, tt)
-short_command l nodes x q j n m (Symmetric a o) h = (lit< tt, tt)
-short_command l nodes x q j n m (Reflect a p q') h = (tt, (lit< tt, tt))
-short_command l nodes x q j n m (Circumcenter a b c) h = ((lit< tt, lit< tt), (lit< tt, ((lit< tt, lit< tt), (lit< tt, (tt, tt)))))
-short_command l nodes x q j n m (Orthocenter a b c) h = (tt, (tt, (tt, tt)))
-short_command l nodes x q j n m (Centroid a b c) h = ((lit< tt, lit< tt), ((lit< tt, lit< tt), tt))
-short_command l nodes x q j n m (Oncircle o a) h = (tt, (tt, (lit< tt, tt)))
-short_command l nodes x q j n m (Second a b o) h = (tt, (lit< tt, tt))
-short_command l nodes x q j n m (Cc o p a) h = (tt, (lit< tt, tt))
-short_command l nodes x q j n m (Inverse p o a) h = ((tt, tt), tt)
+short_weights : (version : Version) (n a b c : ℕ) (e f : Tree) → HasShortIntegers e → HasShortIntegers f → AllByRecursion IsShortForm (weights_steps version n a b c e f)
+short_weights One n a b c e f h k = (h, (k, tt))
+short_weights Two n a b c e f h k = ((h, k), tt)
+
+short_command : (version : Version) (l : Layout) (nodes : Store) (x q j n m : ℕ) (c : Command) → IsNamed nodes x q j c → AllByRecursion IsShortForm (command_steps version l nodes n m c)
+short_command version l nodes x q j n m Point h = (tt, tt)
+short_command version l nodes x q j n m Param h = tt
+short_command version l nodes x q j n m (Line a b) h = tt
+short_command version l nodes x q j n m (Parallel p b) h = (lit< tt, tt)
+short_command version l nodes x q j n m (Perp p b) h = (lit< tt, (lit< tt, tt))
+short_command version l nodes x q j n m (Med a b) h = ((lit< tt, lit< tt), (lit< tt, tt))
+short_command version l nodes x q j n m (Intersec a b) h = (tt, tt)
+short_command version l nodes x q j n m (Inter a b c d) h = (tt, tt)
+short_command version l nodes x q j n m (Foot p a b) h = (tt, tt)
+short_command version l nodes x q j n m (Pratio w u v r) h = (short_renamed l (tree_of nodes r) (short_expression x q false (tree_of nodes r) h.1.1.1.0.0), tt)
+short_command version l nodes x q j n m (Tratio u v r) h = (short_renamed l (tree_of nodes r) (short_expression x q false (tree_of nodes r) h.1.1.0.0), tt)
+short_command version l nodes x q j n m (Online a b) h = (tt, tt)
+short_command version l nodes x q j n m (Lratio a b r) h = (short_renamed l (tree_of nodes r) (short_expression x q false (tree_of nodes r) h.1.1.0.0), tt)
+short_command version l nodes x q j n m (Midpoint a b) h = ((lit< tt, lit< tt), tt)
+short_command version l nodes x q j n m (Translate a b c) h = (lit< tt, tt)
+short_command version l nodes x q j n m (Symmetric a o) h = (lit< tt, tt)
+short_command version l nodes x q j n m (Reflect a p q') h = (tt, (lit< tt, tt))
+short_command version l nodes x q j n m (Circumcenter a b c) h = ((lit< tt, lit< tt), (lit< tt, ((lit< tt, lit< tt), (lit< tt, (tt, tt)))))
+short_command version l nodes x q j n m (Orthocenter a b c) h = (tt, (tt, (tt, tt)))
+short_command version l nodes x q j n m (Centroid a b c) h = ((lit< tt, lit< tt), ((lit< tt, lit< tt), tt))
+short_command version l nodes x q j n m (Oncircle o a) h = (tt, (tt, (lit< tt, tt)))
+short_command version l nodes x q j n m (Second a b o) h = (tt, (lit< tt, tt))
+short_command version l nodes x q j n m (Cc o p a) h = (tt, (lit< tt, tt))
+short_command version l nodes x q j n m (Inverse p o a) h = ((tt, tt), tt)
+short_command version l nodes x q j n m (Weights a b c r s) h =
+    short_weights version n (l.point a.0) (l.point b.0) (l.point c.0) (renamed l (tree_of nodes r)) (renamed l (tree_of nodes s))
+    (short_renamed l (tree_of nodes r) (short_expression x q false (tree_of nodes r) h.1.1.1.0.0)) (short_renamed l (tree_of nodes s) (short_expression x q false (tree_of nodes s) h.1.1.1.1.0.0))
+short_command version l nodes x q j n m (AssumeDifferent a b) h = tt
+short_command version l nodes x q j n m (AssumeNotCollinear a b c) h = tt
+short_command version l nodes x q j n m (AssumeNotParallel a b c d) h = tt
 
 all_append : (fs gs : List StepForm) → AllByRecursion IsShortForm fs → AllByRecursion IsShortForm gs → AllByRecursion IsShortForm (fs ++ gs)
 all_append [] gs h k = k
 all_append (f ∷ fs) gs h k = (h.0, all_append fs gs h.1 k)
 
-short_commands : (l : Layout) (nodes : Store) (x q j n m : ℕ) (cs : List Command) → AreNamed nodes x q j cs → AllByRecursion IsShortForm (steps_from l nodes n m cs)
-short_commands l nodes x q j n m [] h = tt
-short_commands l nodes x q j n m (c ∷ cs) h =
-    all_append (command_steps l nodes n m c) (steps_from l nodes (next_point n c) (next_number m c) cs) (short_command l nodes x q j n m c h.0)
-    (short_commands l nodes _ _ _ (next_point n c) (next_number m c) cs h.1)
+short_commands : (version : Version) (l : Layout) (nodes : Store) (x q j n m : ℕ) (cs : List Command) → AreNamed nodes x q j cs → AllByRecursion IsShortForm (steps_from version l nodes n m cs)
+short_commands version l nodes x q j n m [] h = tt
+short_commands version l nodes x q j n m (c ∷ cs) h =
+    all_append (command_steps version l nodes n m c) (steps_from version l nodes (next_point version n c) (next_number m c) cs) (short_command version l nodes x q j n m c h.0)
+    (short_commands version l nodes _ _ _ (next_point version n c) (next_number m c) cs h.1)
 
 -- SIZES
 
--- how many nodes the number of a command has
+-- how many nodes the numbers of a command have
 abbrev number_size : Store → Command → ℕ
 number_size nodes (Pratio w u v r) = size (tree_of nodes r)
 number_size nodes (Tratio u v r) = size (tree_of nodes r)
 number_size nodes (Lratio a b r) = size (tree_of nodes r)
+number_size nodes (Weights a b c r s) = size (tree_of nodes r) + size (tree_of nodes s)
 number_size nodes _ = 0
 
-command_small : (l : Layout) (nodes : Store) (n m : ℕ) (c : Command) → forms_size (command_steps l nodes n m c) ≤ 8 + number_size nodes c
-command_small l nodes n m Point = omega arith
-command_small l nodes n m Param = omega arith
-command_small l nodes n m (Line a b) = omega arith
-command_small l nodes n m (Parallel p b) = omega arith
-command_small l nodes n m (Perp p b) = omega arith
-command_small l nodes n m (Med a b) = omega arith
-command_small l nodes n m (Intersec a b) = omega arith
-command_small l nodes n m (Inter a b c d) = omega arith
-command_small l nodes n m (Foot p a b) = omega arith
-command_small l nodes n m (Pratio w u v r) = let e : size (renamed l (tree_of nodes r)) ≡ size (tree_of nodes r) = size_renamed l (tree_of nodes r) in omega arith
-command_small l nodes n m (Tratio u v r) = let e : size (renamed l (tree_of nodes r)) ≡ size (tree_of nodes r) = size_renamed l (tree_of nodes r) in omega arith
-command_small l nodes n m (Online a b) = omega arith
-command_small l nodes n m (Lratio a b r) = let e : size (renamed l (tree_of nodes r)) ≡ size (tree_of nodes r) = size_renamed l (tree_of nodes r) in omega arith
-command_small l nodes n m (Midpoint a b) = omega arith
-command_small l nodes n m (Translate a b c) = omega arith
-command_small l nodes n m (Symmetric a o) = omega arith
-command_small l nodes n m (Reflect a p q) = omega arith
-command_small l nodes n m (Circumcenter a b c) = omega arith
-command_small l nodes n m (Orthocenter a b c) = omega arith
-command_small l nodes n m (Centroid a b c) = omega arith
-command_small l nodes n m (Oncircle o a) = omega arith
-command_small l nodes n m (Second a b o) = omega arith
-command_small l nodes n m (Cc o p a) = omega arith
-command_small l nodes n m (Inverse p o a) = omega arith
+weights_small : (version : Version) (n a b c : ℕ) (e f : Tree) → forms_size (weights_steps version n a b c e f) ≤ size e + size f
+weights_small One n a b c e f = omega arith
+weights_small Two n a b c e f = omega arith
+
+command_small : (version : Version) (l : Layout) (nodes : Store) (n m : ℕ) (c : Command) → forms_size (command_steps version l nodes n m c) ≤ 8 + number_size nodes c
+command_small version l nodes n m Point = omega arith
+command_small version l nodes n m (Pratio w u v r) = let e : size (renamed l (tree_of nodes r)) ≡ size (tree_of nodes r) = size_renamed l (tree_of nodes r) in omega arith
+command_small version l nodes n m (Tratio u v r) = let e : size (renamed l (tree_of nodes r)) ≡ size (tree_of nodes r) = size_renamed l (tree_of nodes r) in omega arith
+command_small version l nodes n m (Lratio a b r) = let e : size (renamed l (tree_of nodes r)) ≡ size (tree_of nodes r) = size_renamed l (tree_of nodes r) in omega arith
+command_small version l nodes n m (Weights a b c r s) =
+    omega (
+      arith,
+      size_renamed l (tree_of nodes r),
+      size_renamed l (tree_of nodes s),
+      weights_small version n (l.point a.0) (l.point b.0) (l.point c.0) (renamed l (tree_of nodes r)) (renamed l (tree_of nodes s)),
+    )
+command_small version l nodes n m _ = omega arith
 
 -- an expression has a word for each node
 longer : {X : Type 0} (xs ys : List X) → length xs ≤ suc (length (xs ++ ys))
@@ -166,37 +173,23 @@ expression_long names (subtraction e f) = both names e f (expression_long names 
 expression_long names (multiplication e f) = both names e f (expression_long names e) (expression_long names f)
 expression_long names (division e f) = both names e f (expression_long names e) (expression_long names f)
 
-command_long : (names : List Name) (nodes : Store) (name : Name) (c : Command) → number_size nodes c + 1 ≤ length (command_lexemes names nodes name c)
-command_long names nodes name Point = omega arith
-command_long names nodes name Param = omega arith
-command_long names nodes name (Line a b) = omega arith
-command_long names nodes name (Parallel p b) = omega arith
-command_long names nodes name (Perp p b) = omega arith
-command_long names nodes name (Med a b) = omega arith
-command_long names nodes name (Intersec a b) = omega arith
-command_long names nodes name (Inter a b c d) = omega arith
-command_long names nodes name (Foot p a b) = omega arith
-command_long names nodes name (Pratio w u v r) =
-    let h : size (tree_of nodes r) ≤ length (expression_lexemes names (tree_of nodes r)) = expression_long names (tree_of nodes r) in
-    let k : length (expression_lexemes names (tree_of nodes r) ++ []) ≡ length (expression_lexemes names (tree_of nodes r)) + 0 = length-append (expression_lexemes names (tree_of nodes r)) [] in omega arith
-command_long names nodes name (Tratio u v r) =
-    let h : size (tree_of nodes r) ≤ length (expression_lexemes names (tree_of nodes r)) = expression_long names (tree_of nodes r) in
-    let k : length (expression_lexemes names (tree_of nodes r) ++ []) ≡ length (expression_lexemes names (tree_of nodes r)) + 0 = length-append (expression_lexemes names (tree_of nodes r)) [] in omega arith
-command_long names nodes name (Online a b) = omega arith
-command_long names nodes name (Lratio a b r) =
-    let h : size (tree_of nodes r) ≤ length (expression_lexemes names (tree_of nodes r)) = expression_long names (tree_of nodes r) in
-    let k : length (expression_lexemes names (tree_of nodes r) ++ []) ≡ length (expression_lexemes names (tree_of nodes r)) + 0 = length-append (expression_lexemes names (tree_of nodes r)) [] in omega arith
-command_long names nodes name (Midpoint a b) = omega arith
-command_long names nodes name (Translate a b c) = omega arith
-command_long names nodes name (Symmetric a o) = omega arith
-command_long names nodes name (Reflect a p q) = omega arith
-command_long names nodes name (Circumcenter a b c) = omega arith
-command_long names nodes name (Orthocenter a b c) = omega arith
-command_long names nodes name (Centroid a b c) = omega arith
-command_long names nodes name (Oncircle o a) = omega arith
-command_long names nodes name (Second a b o) = omega arith
-command_long names nodes name (Cc o p a) = omega arith
-command_long names nodes name (Inverse p o a) = omega arith
+arguments_long : (names : List Name) (nodes : Store) (c : Command) → number_size nodes c ≤ length (flat_map (argument_lexemes names) (command_form nodes c).arguments)
+arguments_long names nodes Point = omega arith
+arguments_long names nodes (Pratio w u v r) = omega (arith, expression_long names (tree_of nodes r), length-append (expression_lexemes names (tree_of nodes r)) [])
+arguments_long names nodes (Tratio u v r) = omega (arith, expression_long names (tree_of nodes r), length-append (expression_lexemes names (tree_of nodes r)) [])
+arguments_long names nodes (Lratio a b r) = omega (arith, expression_long names (tree_of nodes r), length-append (expression_lexemes names (tree_of nodes r)) [])
+arguments_long names nodes (Weights a b c r s) =
+    let e = expression_lexemes names (tree_of nodes r) in
+    let f = expression_lexemes names (tree_of nodes s) in
+    omega (arith, expression_long names (tree_of nodes r), expression_long names (tree_of nodes s), length-append e (f ++ []), length-append f [])
+arguments_long names nodes _ = omega arith
+
+command_long : (names : List Name) (nodes : Store) (own : List Name) (c : Command) → number_size nodes c + 1 ≤ length (command_lexemes names nodes own c)
+command_long names nodes own c =
+    let f = command_form nodes c in
+    let texts = map (λ (name : Name). word_lexeme name.text) own in
+    let spelling = flat_map (argument_lexemes names) f.arguments in
+    omega (arith, arguments_long names nodes c, length-append (condition_lexemes f.condition) (texts ++ spelling), length-append texts spelling)
 
 -- a byte for each word at least
 bytes_long : {X : Type 0} (text : X → List ℕ) (xs : List X) → length xs ≤ sum_by (λ y. length (text y) + 1) xs
@@ -209,13 +202,15 @@ forms_size-append : (fs gs : List StepForm) → forms_size (fs ++ gs) ≡ forms_
 forms_size-append [] gs = omega arith
 forms_size-append (f ∷ fs) gs = let h : forms_size (fs ++ gs) ≡ forms_size fs + forms_size gs = forms_size-append fs gs in omega arith
 
-steps_small : (l : Layout) (all : List Name) (nodes : Store) (s : Scope) (names : List Name) (n m : ℕ) (cs : List Command) (last : Statement) → AreCommands nodes s names cs
-    → forms_size (steps_from l nodes n m cs) ≤ 8 * total lexeme_size (commands_lexemes all nodes names cs (no_sketches cs) ++ statement_lexemes all nodes last ∷ [])
-steps_small l all nodes s [] n m [] last h = omega arith
-steps_small l all nodes s (name ∷ names) n m (c ∷ cs) last h =
-    let own = command_lexemes all nodes name c in
-    let here : forms_size (command_steps l nodes n m c) ≤ 8 + number_size nodes c = command_small l nodes n m c in
-    let long : number_size nodes c + 1 ≤ length own = command_long all nodes name c in
+steps_small : (version : Version) (l : Layout) (all : List Name) (nodes : Store) (s : Scope) (names : List Name) (n m : ℕ) (cs : List Command) (last : Statement) → AreCommands nodes s names cs
+    → forms_size (steps_from version l nodes n m cs) ≤ 8 * total lexeme_size (commands_lexemes all nodes names cs (no_sketches cs) ++ statement_lexemes all nodes last ∷ [])
+steps_small version l all nodes s names n m [] last h = omega arith
+steps_small version l all nodes s names n m (c ∷ cs) last h =
+    let made = own_names (command_form nodes c) names in
+    let later = later_names (command_form nodes c) names in
+    let own = command_lexemes all nodes made c in
+    let here : forms_size (command_steps version l nodes n m c) ≤ 8 + number_size nodes c = command_small version l nodes n m c in
+    let long : number_size nodes c + 1 ≤ length own = command_long all nodes made c in
     let more : length (own ++ []) ≡ length own + 0 = length-append own [] in
     let bytes : length (own ++ []) ≤ sum_by lexeme_size (own ++ []) = bytes_long lexeme_text (own ++ []) in
     omega (
@@ -224,17 +219,15 @@ steps_small l all nodes s (name ∷ names) n m (c ∷ cs) last h =
       long,
       more,
       bytes,
-      steps_small l all nodes (declare name.kind s) names (next_point n c) (next_number m c) cs last h.1,
-      forms_size-append (command_steps l nodes n m c) (steps_from l nodes (next_point n c) (next_number m c) cs),
-      total-cons lexeme_size (own ++ []) (commands_lexemes all nodes names cs (no_sketches cs) ++ statement_lexemes all nodes last ∷ []),
+      steps_small version l all nodes (scope_of s made) later (next_point version n c) (next_number m c) cs last h.1,
+      forms_size-append (command_steps version l nodes n m c) (steps_from version l nodes (next_point version n c) (next_number m c) cs),
+      total-cons lexeme_size (own ++ []) (commands_lexemes all nodes later cs (no_sketches cs) ++ statement_lexemes all nodes last ∷ []),
     )
-steps_small l all nodes s [] n m (c ∷ cs) last h = absurd h
-steps_small l all nodes s (name ∷ names) n m [] last h = absurd h
 
-program_small : (p : Source) → IsWellFormed p → forms_size (steps_of p) ≤ 8 * length (canonical_text p)
+program_small : (version : Version) (p : Source) → IsWellFormed p → forms_size (steps_of version p) ≤ 8 * length (canonical_text p)
 unfolding total
-program_small p w =
-    omega (arith, length-canonical_text p, steps_small (layout_of p.commands) p.names p.nodes empty_scope p.names 0 0 p.commands p.statement w.commands)
+program_small version p w =
+    omega (arith, length-canonical_text p, steps_small version (layout_of version p.commands) p.names p.nodes empty_scope p.names 0 0 p.commands p.statement w.commands)
 
 -- THE FORM
 
@@ -249,23 +242,23 @@ abbrev param_of : ℕ → ParamId
 param_of k = record { 0 = k }
 
 pub programs_have_lowered_forms : ProgramsHaveLoweredForms
-programs_have_lowered_forms p w short =
-    let fs = steps_of p in
-    let small : forms_size fs ≤ 8 * length (canonical_text p) = program_small p w in
-    let r = list_forms fs (short_commands (layout_of p.commands) p.nodes 0 0 0 0 0 p.commands (named_program p w)) [] empty_store (omega arith) in
+programs_have_lowered_forms version p w short =
+    let fs = steps_of version p in
+    let small : forms_size fs ≤ 8 * length (canonical_text p) = program_small version p w in
+    let r = list_forms fs (short_commands version (layout_of version p.commands) p.nodes 0 0 0 0 0 p.commands (named_program p w)) [] empty_store (omega arith) in
     let many : length p.commands ≤ length (canonical_text p) = commands_within p w in
     let numbers : numbers_had p.commands ≤ 0 + length p.commands = numbers_few 0 p.commands in
     let M = numbers_had p.commands in
-    let over = are_steps r.nodes 0 M r.steps (subst (λ gs. AreFormsOver 0 M gs) (sym r.forms.formed) (program_over p w)) r.forms.stored in
-    let count : length r.steps ≡ points_past 0 p.commands =
-    sym (length-map r.steps (step_form r.nodes)) ∙ ap length r.forms.formed ∙ (let q : length fs ≡ past 0 fs = let e : past 0 fs ≡ 0 + length fs = past-length 0 fs in omega arith in q) ∙ past_all p p.commands 0 0 in
-    let points : points_past 0 p.commands ≤ 512 = points_within p w in (
+    let over = are_steps r.nodes 0 M r.steps (subst (λ gs. AreFormsOver 0 M gs) (sym r.forms.formed) (program_over version p w)) r.forms.stored in
+    let count : length r.steps ≡ points_past version 0 p.commands =
+    sym (length-map r.steps (step_form r.nodes)) ∙ ap length r.forms.formed ∙ (let q : length fs ≡ past 0 fs = let e : past 0 fs ≡ 0 + length fs = past-length 0 fs in omega arith in q) ∙ past_all version p p.commands 0 0 in
+    let points : points_past version 0 p.commands ≤ 512 = points_within version p w in (
       record {
         construction = record { nodes = r.nodes; steps = r.steps; params = M };
-        points = map point_of (point_places 0 p.commands);
-        lines = map (λ q. (point_of q.left, point_of q.right)) (line_places (point_place p.commands) 0 p.commands);
+        points = map point_of (point_places version 0 p.commands);
+        lines = map (λ q. (point_of q.left, point_of q.right)) (line_places version (point_place version p.commands) 0 p.commands);
         params = map param_of (param_places 0 p.commands);
-        after = points_after 0 p.commands;
+        after = points_after version 0 p.commands;
       },
       record {
         valid = record {
@@ -276,8 +269,8 @@ programs_have_lowered_forms p w short =
         };
         steps = r.forms.formed;
         numbers = refl;
-        points = there_and_back (λ (a : PointId). a.0) point_of (λ k. refl) (point_places 0 p.commands);
-        lines = there_and_back pair_numbers (λ q. (point_of q.left, point_of q.right)) (λ q. refl) (line_places (point_place p.commands) 0 p.commands);
+        points = there_and_back (λ (a : PointId). a.0) point_of (λ k. refl) (point_places version 0 p.commands);
+        lines = there_and_back pair_numbers (λ q. (point_of q.left, point_of q.right)) (λ q. refl) (line_places version (point_place version p.commands) 0 p.commands);
         params = there_and_back (λ (t : ParamId). t.0) param_of (λ k. refl) (param_places 0 p.commands);
         after = refl;
       },

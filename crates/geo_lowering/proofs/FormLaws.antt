@@ -3,10 +3,11 @@ use Rattle.std.proofs.Common.{◌≡◌, ℕ, suc, ◌<◌, ◌≤◌, ⊎_elim,
 use Rattle.std.proofs.Math.Nat.{eq-or-lt_of_le}
 use Rattle.geo_points.specs.Placements.{Placement, SamePoint}
 use Rattle.geo_terms.specs.Trees.{IsStepNumber}
-use Rattle.geo_lowering.specs.StepForms.{StepForm, free, crossing_of, foot_of, along, turned_along, IsFormMet, AreFormsMet}
+use Rattle.geo_lowering.specs.StepForms.{StepForm, free, crossing_of, foot_of, along, turned_along, weighted, IsFormMet, AreFormsMet}
 use Rattle.geo_points.proofs.Placed.{along_unique}
 use Rattle.geo_points.proofs.Making.{crossing_unique, foot_unique, turned_unique}
-use Rattle.geo_points.proofs.Same.{self_point, crossing-same, foot-same, along-same, turned-same}
+use Rattle.geo_points.proofs.Same.{self_point, crossing-same, foot-same, along-same, turned-same, weighted-same}
+use Rattle.geo_points.proofs.Weighted.{weighted_unique}
 use Rattle.geo_lowering.proofs.Values.{AgreeBelow, over_number, value-same}
 
 -- the step names points below n and numbers below m alone
@@ -16,6 +17,7 @@ IsFormOver n m (crossing_of u v p q) = (u < n) × (v < n) × (p < n) × (q < n)
 IsFormOver n m (foot_of p u v) = (p < n) × (u < n) × (v < n)
 IsFormOver n m (along w u v r) = (w < n) × (u < n) × (v < n) × IsStepNumber n m r
 IsFormOver n m (turned_along u v r) = (u < n) × (v < n) × IsStepNumber n m r
+IsFormOver n m (weighted o u v r s) = (o < n) × (u < n) × (v < n) × IsStepNumber n m r × IsStepNumber n m s
 
 -- each of the steps of the points n, n + 1 and so on is over the points before it
 abbrev pub AreFormsOver : ℕ → ℕ → List StepForm → Type 0
@@ -60,6 +62,10 @@ form-same n m k p p' g y (along w u v r) b h =
     let e = value-same n m p p' g r (over_number n m r b.3) h.0 in (e.0, along-same _ _ _ _ _ _ _ _ _ _ (g.points w b.0) (g.points u b.1) (g.points v b.2) e.1 y h.1)
 form-same n m k p p' g y (turned_along u v r) b h =
     let e = value-same n m p p' g r (over_number n m r b.2) h.0 in (e.0, turned-same _ _ _ _ _ _ _ _ (g.points u b.0) (g.points v b.1) e.1 y h.1)
+form-same n m k p p' g y (weighted o u v r s) b h =
+    let e = value-same n m p p' g r (over_number n m r b.3) h.0 in
+    let f = value-same n m p p' g s (over_number n m s b.4) h.1 in
+    (e.0, f.0, weighted-same _ _ _ _ _ _ _ _ _ _ _ _ (g.points o b.0) (g.points u b.1) (g.points v b.2) e.1 f.1 y h.2)
 
 fewer : (n n' m : ℕ) (p p' : Placement) → n ≤ n' → AgreeBelow n' m p p' → AgreeBelow n m p p'
 fewer n n' m p p' l g = record { points = λ k c. g.points k (omega arith); numbers = g.numbers }
@@ -87,6 +93,10 @@ form_unique n m p p' g (along w u v r) b e h k =
 form_unique n m p p' g (turned_along u v r) b e h k =
     let d = value-same n m p p' g r (over_number n m r b.2) h.0 in
     turned_unique _ _ _ _ _ (turned-same _ _ _ _ _ _ _ _ (g.points u b.0) (g.points v b.1) d.1 (self_point (p.point n)) h.1) k.1
+form_unique n m p p' g (weighted o u v r s) b e h k =
+    let d = value-same n m p p' g r (over_number n m r b.3) h.0 in
+    let f = value-same n m p p' g s (over_number n m s b.4) h.1 in
+    weighted_unique _ _ _ _ _ _ _ (weighted-same _ _ _ _ _ _ _ _ _ _ _ _ (g.points o b.0) (g.points u b.1) (g.points v b.2) d.1 f.1 (self_point (p.point n)) h.2) k.2
 
 -- the placements agree at the free points among n, n + 1 and so on
 abbrev pub FreesAgree : Placement → Placement → ℕ → List StepForm → Type 0

@@ -22,4 +22,5 @@ pub mod Standing
 pub mod Steps
 pub mod Up
 pub mod Values
+pub mod WeightedCommands
 pub mod ZeroTerms

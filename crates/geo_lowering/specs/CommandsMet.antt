@@ -6,11 +6,11 @@ use Rattle.std.specs.Prelude.{ℕ, List, [], ◌∷◌, ◌++◌, fold}
 use Rattle.ring_laws.specs.Fraction.{Fraction}
 use Rattle.geo_points.specs.Placements.{Placement}
 use Rattle.geo_points.specs.Points.{Point as Triple}
-use Rattle.geo_points.specs.Steps.{IsAlong, IsTurned}
+use Rattle.geo_points.specs.Steps.{IsAlong, IsTurned, IsWeighted}
 use Rattle.geo_terms.specs.Stores.{tree_of}
 use Rattle.geo_terms.specs.Values.{HasTreeValue, tree_value}
 use Rattle.geo_program.specs.declared.commands.Command.{Command}
-use Rattle.geo_program.specs.declared.commands.Command.TheVariants.{Point, Param, Line, Parallel, Perp, Med, Intersec, Inter, Foot, Pratio, Tratio, Online, Lratio, Midpoint, Translate, Symmetric, Reflect, Circumcenter, Orthocenter, Centroid, Oncircle, Second, Cc, Inverse}
+use Rattle.geo_program.specs.declared.commands.Command.TheVariants.{Point, Param, Line, Parallel, Perp, Med, Intersec, Inter, Foot, Pratio, Tratio, Online, Lratio, Midpoint, Translate, Symmetric, Reflect, Circumcenter, Orthocenter, Centroid, Oncircle, Second, Cc, Inverse, Weights, AssumeDifferent, AssumeNotCollinear, AssumeNotParallel}
 use Rattle.geo_program.specs.declared.commands.LineId.{LineId}
 use Rattle.geo_program.specs.declared.names.NameKind.TheVariants as kind
 use Rattle.geo_program.specs.WellFormed.{Source}
@@ -70,6 +70,14 @@ IsCommandMet s placed X t (Oncircle o a) = IsOnCircle X (placed.point o.0) (plac
 IsCommandMet s placed X t (Second a b o) = IsOnLineAndCircle X (placed.point a.0) (placed.point b.0) (placed.point o.0)
 IsCommandMet s placed X t (Cc o p a) = IsOnBothCircles X (placed.point o.0) (placed.point p.0) (placed.point a.0)
 IsCommandMet s placed X t (Inverse p o a) = IsInverse X (placed.point p.0) (placed.point o.0) (placed.point a.0)
+IsCommandMet s placed X t (Weights a b c r q) =
+    HasTreeValue (reading s placed) (tree_of s.nodes r)
+    × HasTreeValue (reading s placed) (tree_of s.nodes q)
+    × IsWeighted (placed.point a.0) (placed.point b.0) (placed.point c.0) (tree_value (reading s placed) (tree_of s.nodes r))
+    (tree_value (reading s placed) (tree_of s.nodes q)) X
+IsCommandMet s placed X t (AssumeDifferent a b) = Unit {0}
+IsCommandMet s placed X t (AssumeNotCollinear a b c) = Unit {0}
+IsCommandMet s placed X t (AssumeNotParallel a b c d) = Unit {0}
 
 -- the commands are met, where their points are those from x on and their numbers those from m on
 abbrev pub AreCommandsMet : Source → Placement → ℕ → ℕ → List Command → Type 0

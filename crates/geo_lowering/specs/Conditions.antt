@@ -8,7 +8,7 @@ use Rattle.geo_terms.specs.Stores.{Store, tree_of}
 use Rattle.geo_terms.specs.Trees.{Tree, integer_leaf, ratio_leaf, negation, addition, subtraction, multiplication, division}
 use Rattle.geo_terms.specs.Values.{HasTreeValue, tree_value}
 use Rattle.geo_program.specs.declared.commands.Command.{Command}
-use Rattle.geo_program.specs.declared.commands.Command.TheVariants.{Line, Med, Intersec, Inter, Foot, Pratio, Tratio, Online, Lratio, Reflect, Circumcenter, Orthocenter, Oncircle, Second, Cc, Inverse}
+use Rattle.geo_program.specs.declared.commands.Command.TheVariants.{Line, Med, Intersec, Inter, Foot, Pratio, Tratio, Online, Lratio, Reflect, Circumcenter, Orthocenter, Oncircle, Second, Cc, Inverse, Weights, AssumeDifferent, AssumeNotCollinear, AssumeNotParallel}
 use Rattle.geo_program.specs.declared.commands.LineId.{LineId}
 use Rattle.geo_program.specs.declared.names.NameKind.TheVariants as kind
 use Rattle.geo_program.specs.WellFormed.{Source}
@@ -70,6 +70,10 @@ early_conditions nodes (Oncircle o a) = different o a ∷ []
 early_conditions nodes (Second a b o) = different a b ∷ []
 early_conditions nodes (Cc o p a) = different o p ∷ []
 early_conditions nodes (Inverse p o a) = different o p ∷ []
+early_conditions nodes (Weights a b c r s) = expression_conditions (tree_of nodes r) ++ expression_conditions (tree_of nodes s)
+early_conditions nodes (AssumeDifferent a b) = different a b ∷ []
+early_conditions nodes (AssumeNotCollinear a b c) = not_collinear a b c ∷ []
+early_conditions nodes (AssumeNotParallel a b c d) = not_parallel a b c d ∷ []
 early_conditions nodes _ = []
 
 -- the conditions of a command that name its point x

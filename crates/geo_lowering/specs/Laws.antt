@@ -18,20 +18,22 @@ use Rattle.geo_lowering.specs.Counting.{next_point, numbers_had, points_named}
 use Rattle.geo_lowering.specs.Lowering.{Extends, IsLowered, LoweredForm}
 use Rattle.geo_lowering.specs.Relations.{IsOnCircle}
 use Rattle.geo_lowering.specs.StepForms.{step_form}
+use Rattle.geo_lowering.specs.declared.version.Version.{Version}
+use Rattle.geo_lowering.specs.declared.version.Version.TheVariants.{One, Two}
 use Rattle.geo_points.specs.Vectors.{Differ}
 
 -- every placement that meets the commands of a program and their conditions extends to one that meets all steps
 abbrev pub PlacementsExtend : Type 0
 PlacementsExtend =
-    (p : Source) (l : LoweredForm) (placed : Placement) → IsWellFormed p → IsLowered p l → MeetsCommands p placed
+    (version : Version) (p : Source) (l : LoweredForm) (placed : Placement) → IsWellFormed p → IsLowered version p l → MeetsCommands p placed
     → AreConditionsMet p placed 0 p.commands
-    → (lowered : Placement) × Extends p placed lowered × MeetsSteps lowered l.construction
+    → (lowered : Placement) × Extends version p placed lowered × MeetsSteps lowered l.construction
 
 -- every lowered placement that meets all steps extends one that meets the commands
 abbrev pub LoweredPlacementsMeetCommands : Type 0
 LoweredPlacementsMeetCommands =
-    (p : Source) (l : LoweredForm) (lowered : Placement) → IsWellFormed p → IsLowered p l → MeetsSteps lowered l.construction
-    → Extends p (forgotten p lowered) lowered × MeetsCommands p (forgotten p lowered)
+    (version : Version) (p : Source) (l : LoweredForm) (lowered : Placement) → IsWellFormed p → IsLowered version p l → MeetsSteps lowered l.construction
+    → Extends version p (forgotten version p lowered) lowered × MeetsCommands p (forgotten version p lowered)
 
 -- two placements that meet the commands and their conditions, with the same free points and the same numbers, are the same
 abbrev pub FreePointsFixPlacements : Type 0
@@ -43,26 +45,27 @@ FreePointsFixPlacements =
 
 -- the conditions of each command that do not name its point hold in every placement that is made of the given free points and numbers by
 -- the steps of the commands before it
-abbrev pub IsReady : Source → Placement → Type 0
-IsReady p given =
+abbrev pub IsReady : Version → Source → Placement → Type 0
+IsReady version p given =
     (before rest : List Command) (c : Command) → p.commands ≡ before ++ c ∷ rest
     → (point : ℕ → Point) → let lowered : Placement = record { point = point; number = given.number } in
-    AreMade p given lowered 0 0 0 before → All (IsConditionMet p (forgotten p lowered)) (early_conditions p.nodes c)
+    AreMade version p given lowered 0 0 0 before → All (IsConditionMet p (forgotten version p lowered)) (early_conditions p.nodes c)
 
 -- then the given free points and numbers have a placement that meets all steps
 abbrev pub PlacementsAreMade : Type 0
 PlacementsAreMade =
-    (p : Source) (l : LoweredForm) (given : Placement) → IsWellFormed p → IsLowered p l → IsReady p given
-    → (lowered : Placement) × MeetsSteps lowered l.construction × AreFreesSame (forgotten p lowered) given 0 p.commands
+    (version : Version) (p : Source) (l : LoweredForm) (given : Placement) → IsWellFormed p → IsLowered version p l → IsReady version p given
+    → (lowered : Placement) × MeetsSteps lowered l.construction × AreFreesSame (forgotten version p lowered) given 0 p.commands
     × (lowered.number ≡ given.number)
 
--- the points that a command adds are those that its form counts
-abbrev pub PointsAreCounted : Type 0
-PointsAreCounted = (nodes : Store) (n : ℕ) (c : Command) → next_point n c ≡ n + (command_form nodes c).points
+-- the points that a command adds are those that its form counts, or in version 2 at most so many
+pub record PointsAreCounted : Type 0 where
+  pub exact : (nodes : Store) (n : ℕ) (c : Command) → next_point One n c ≡ n + (command_form nodes c).points
+  pub most : (nodes : Store) (n : ℕ) (c : Command) → next_point Two n c ≤ n + (command_form nodes c).points
 
 -- a well-formed program whose canonical text has at most 268,435,456 bytes has a lowered form
 abbrev pub ProgramsHaveLoweredForms : Type 0
-ProgramsHaveLoweredForms = (p : Source) → IsWellFormed p → length (canonical_text p) ≤ 268435456 → (l : LoweredForm) × IsLowered p l
+ProgramsHaveLoweredForms = (version : Version) (p : Source) → IsWellFormed p → length (canonical_text p) ≤ 268435456 → (l : LoweredForm) × IsLowered version p l
 
 -- both have the same places and, but for the order of the terms in their stores, the same steps
 pub record SameForm (l m : LoweredForm) : Type 0 where
@@ -73,13 +76,13 @@ pub record SameForm (l m : LoweredForm) : Type 0 where
   pub params : l.params ≡ m.params
   pub after : l.after ≡ m.after
 
--- a program has one lowered form
+-- a program has one lowered form by each version
 abbrev pub LoweredFormsAgree : Type 0
-LoweredFormsAgree = (p : Source) (l m : LoweredForm) → IsLowered p l → IsLowered p m → SameForm l m
+LoweredFormsAgree = (version : Version) (p : Source) (l m : LoweredForm) → IsLowered version p l → IsLowered version p m → SameForm l m
 
 -- programs that are the same, whatever the order of the terms in their stores, have the same lowered forms
 abbrev pub SameProgramsLowerAlike : Type 0
-SameProgramsLowerAlike = (p q : Source) (l : LoweredForm) → SameSource p q → IsLowered p l → IsLowered q l
+SameProgramsLowerAlike = (version : Version) (p q : Source) (l : LoweredForm) → SameSource p q → IsLowered version p l → IsLowered version q l
 
 -- the number of a point on a line, or on a circle, is fixed by the points
 pub record OwnNumbersAreFixed : Type 0 where

@@ -1,5 +1,5 @@
--- What the commands say of the point X that they make, in the points that they name. `pratio`, `tratio`, `lratio` and `online` say what
--- their step does.
+-- What the commands say of the point X that they make, in the points that they name. `pratio`, `tratio`, `lratio`, `online` and
+-- `weights` say what their step does.
 use Rattle.std.specs.Prelude.{◌≡◌, ◌*◌, pos, ◌+ℤ◌, ◌*ℤ◌}
 use Rattle.std.proofs.Common.{mul-pos, lit<}
 use Rattle.ring_laws.specs.Fraction.{Fraction, Same, whole, plus, minus, times}

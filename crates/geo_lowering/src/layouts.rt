@@ -8,6 +8,7 @@ ghost use Rattle.geo_lowering.specs.Parts.{layout_at};
 
 use crate::lists::{Lines, Params, Points};
 use crate::places::{place_lines, place_params, place_points, point_at};
+use crate::version::Version;
 use geo_points::{NoMemory, ParamId, PointId};
 use geo_program::{Command, LineId};
 use std::alloc::Global;
@@ -25,19 +26,20 @@ pub struct Places {
 
 impl Places {
     /// The places that the commands give.
-    pub fn new(alloc: Global, commands: &[Command]) -> Result<Places, NoMemory>
-        requires points { points_past 0 commands.now ≤ 512 }
+    pub fn new(alloc: Global, version: Version, commands: &[Command]) -> Result<Places, NoMemory>
+        requires points { points_past version 0 commands.now ≤ 512 }
         requires commands { length commands.now < 4294967295 }
         ensures points { IfOk result (λ places. map (λ a. a.0) places.points
-            ≡ point_places 0 commands.now) }
+            ≡ point_places version 0 commands.now) }
         ensures lines { IfOk result (λ places.
-            map pair_numbers places.lines ≡ line_places (point_place commands.now) 0 commands.now) }
+            map pair_numbers places.lines ≡ line_places version
+            (point_place version commands.now) 0 commands.now) }
         ensures params { IfOk result (λ places. map (λ t. t.0) places.params
             ≡ param_places 0 commands.now) }
-        ensures layout { IfOk result (λ places. layout_at places ≡ layout_of commands.now) }
+        ensures layout { IfOk result (λ places. layout_at places ≡ layout_of version commands.now) }
     {
-        let points = place_points(alloc, commands)?;
-        let lines = place_lines(alloc, commands, &points.items)?;
+        let points = place_points(alloc, version, commands)?;
+        let lines = place_lines(alloc, version, commands, &points.items)?;
         let params = place_params(alloc, commands)?;
         Ok(Places {
             points,

@@ -12,6 +12,8 @@ mod pushing;
 mod renaming;
 mod step_lists;
 mod step_numbers;
+mod version;
 
 pub use lists::{After, Lines, Params, Points};
-pub use lowering::{Lowered, lower};
+pub use lowering::{Lowered, lower, lower_old};
+pub use version::Version;

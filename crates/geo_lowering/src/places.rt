@@ -1,22 +1,23 @@
 //! Where what has a name stands in the lowered form. The places depend on the commands alone, so
 //! they are known before any step is made.
 
-ghost use Rattle.std.specs.Prelude.{◌≡◌, ◌+◌, ◌<◌, ◌≤◌, length, map, slice_index_or, IfOk};
-ghost use Rattle.geo_program.specs.Names.{is_kind};
+ghost use Rattle.std.specs.Prelude.{◌≡◌, ◌+◌, ◌-◌, ◌<◌, ◌≤◌, length, map, slice_index_or, IfOk};
 ghost use Rattle.geo_program.specs.declared.names.NameKind.TheVariants as kind;
-ghost use Rattle.geo_lowering.specs.Counting.{further, has_number, hidden, named, next_point};
-ghost use Rattle.geo_lowering.specs.Counting.{param_places, points_past};
+ghost use Rattle.geo_lowering.specs.Counting.{further, has_number, hidden, is_made, named};
+ghost use Rattle.geo_lowering.specs.Counting.{next_point, param_places, points_past};
+ghost use Rattle.geo_lowering.specs.Counting.{weights_points};
 ghost use Rattle.geo_lowering.specs.Lowering.{line_places, pair_numbers, pair_of, point_places};
 ghost use Rattle.geo_lowering.specs.Lowering.{points_after};
 
 use crate::lists::{After, Lines, Params, Points};
+use crate::version::Version;
 use geo_points::{NoMemory, ParamId, PointId};
-use geo_program::Command;
+use geo_program::{Command, NameKind};
 use std::alloc::Global;
 
 // How many hidden points a command makes, before the point that it names.
-fn hidden_points(command: &Command) -> u32
-    ensures hidden { result ≡ hidden command.now }
+fn hidden_points(version: Version, command: &Command) -> u32
+    ensures hidden { result ≡ hidden version command.now }
     ensures few { result ≤ 4 }
 {
     match command {
@@ -30,58 +31,72 @@ fn hidden_points(command: &Command) -> u32
         | Command::Orthocenter { .. }
         | Command::Oncircle { .. } => 2,
         Command::Circumcenter { .. } => 4,
+        Command::Weights { .. } => hidden_weights(version),
         _ => 0,
+    }
+}
+
+// How many hidden points `weights` makes.
+fn hidden_weights(version: Version) -> u32
+    ensures hidden { result ≡ weights_points version - 1 }
+    ensures few { result ≤ 4 }
+{
+    match version {
+        Version::One => 1,
+        Version::Two => 0,
     }
 }
 
 // Whether the command names a point.
 fn names_point(command: &Command) -> bool
-    ensures { result ≡ is_kind (named command.now) kind.Point }
+    ensures { result ≡ is_made kind.Point (named command.now) }
 {
-    !matches!(
-        command,
-        Command::Param
-            | Command::Line { .. }
-            | Command::Parallel { .. }
-            | Command::Perp { .. }
-            | Command::Med { .. }
-    )
+    matches!(command.makes(), Some(NameKind::Point))
 }
 
 // The number of points after a command, where there are n before it.
-fn points_after_command(n: u32, command: &Command) -> u32
+fn points_after_command(version: Version, n: u32, command: &Command) -> u32
     requires { n ≤ 4294967000 }
-    ensures { result ≡ next_point n command.now }
+    ensures { result ≡ next_point version n command.now }
 {
-    let last = n + hidden_points(command);
+    let last = n + hidden_points(version, command);
     if names_point(command) { last + 1 } else { last }
 }
 
 /// The numbers of the named points among all points.
-pub fn place_points(alloc: Global, commands: &[Command]) -> Result<Points, NoMemory>
-    requires { points_past 0 commands.now ≤ 512 }
-    ensures { IfOk result (λ points. map (λ a. a.0) points ≡ point_places 0 commands.now) }
+pub fn place_points(
+    alloc: Global,
+    version: Version,
+    commands: &[Command],
+) -> Result<Points, NoMemory>
+    requires { points_past version 0 commands.now ≤ 512 }
+    ensures { IfOk result (λ points.
+        map (λ a. a.0) points ≡ point_places version 0 commands.now) }
 {
     let mut items = Vec::new(alloc);
     let mut n = 0;
     for command in commands {
         if names_point(command) {
-            items.push(PointId(n + hidden_points(command)))?;
+            items.push(PointId(n + hidden_points(version, command)))?;
         }
-        n = points_after_command(n, command);
+        n = points_after_command(version, n, command);
     }
     Ok(Points { items })
 }
 
 /// The number of points after each command.
-pub fn count_points(alloc: Global, commands: &[Command]) -> Result<After, NoMemory>
-    requires { points_past 0 commands.now ≤ 512 }
-    ensures { IfOk result (λ after. after ≡ points_after 0 commands.now) }
+pub fn count_points(
+    alloc: Global,
+    version: Version,
+    commands: &[Command],
+) -> Result<After, NoMemory>
+    requires { points_past version 0 commands.now ≤ 512 }
+    ensures { IfOk result (λ after. after ≡ points_after version 0 commands.now) }
 {
     let mut items = Vec::new(alloc);
     let mut n = 0;
     for command in commands {
-        n = points_after_command(n, command);
+        n = points_after_command(version, n, command);
         items.push(n)?;
     }
     Ok(After { items })
@@ -89,9 +104,9 @@ pub fn count_points(alloc: Global, commands: &[Command]) -> Result<After, NoMemo
 
 // Whether the command names a parameter.
 fn names_param(command: &Command) -> bool
-    ensures { result ≡ is_kind (named command.now) kind.Param }
+    ensures { result ≡ is_made kind.Param (named command.now) }
 {
-    matches!(command, Command::Param)
+    matches!(command.makes(), Some(NameKind::Param))
 }
 
 // Whether the command has a number of its own.
@@ -124,12 +139,9 @@ pub fn place_params(alloc: Global, commands: &[Command]) -> Result<Params, NoMem
 
 // Whether the command names a line.
 fn names_line(command: &Command) -> bool
-    ensures { result ≡ is_kind (named command.now) kind.Line }
+    ensures { result ≡ is_made kind.Line (named command.now) }
 {
-    matches!(
-        command,
-        Command::Line { .. } | Command::Parallel { .. } | Command::Perp { .. } | Command::Med { .. }
-    )
+    matches!(command.makes(), Some(NameKind::Line))
 }
 
 /// The number of a named point among all points; past the end 0.
@@ -159,13 +171,15 @@ fn pair_at(points: &[PointId], n: u32, command: &Command) -> (PointId, PointId)
 /// The two points of each line.
 pub fn place_lines(
     alloc: Global,
+    version: Version,
     commands: &[Command],
     points: &[PointId],
 ) -> Result<Lines, NoMemory>
-    requires { points_past 0 commands.now ≤ 512 }
+    requires { points_past version 0 commands.now ≤ 512 }
     ensures { IfOk result (λ lines.
         map pair_numbers lines
-        ≡ line_places (λ a. slice_index_or (map (λ p. p.0) points.now) a 0) 0 commands.now) }
+        ≡ line_places version (λ a. slice_index_or (map (λ p. p.0) points.now) a 0) 0
+        commands.now) }
 {
     let mut items = Vec::new(alloc);
     let mut n = 0;
@@ -173,7 +187,7 @@ pub fn place_lines(
         if names_line(command) {
             items.push(pair_at(points, n, command))?;
         }
-        n = points_after_command(n, command);
+        n = points_after_command(version, n, command);
     }
     Ok(Lines { items })
 }

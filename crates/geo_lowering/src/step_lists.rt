@@ -4,14 +4,17 @@ ghost use Rattle.std.specs.Prelude.{ℕ, ◌∷◌, [], ◌≤◌, suc, IfOk};
 ghost use Rattle.geo_terms.specs.Stores.{Store};
 ghost use Rattle.geo_terms.specs.Trees.{Tree};
 ghost use Rattle.geo_lowering.specs.Lowering.{command_steps, half_tree, one_tree, two_thirds_tree};
+ghost use Rattle.geo_lowering.specs.Lowering.{weights_steps};
 ghost use Rattle.geo_lowering.specs.Parts.{layout_at};
 ghost use Rattle.geo_lowering.specs.StepForms.{along as along_form, crossing_of, foot_of};
 ghost use Rattle.geo_lowering.specs.StepForms.{turned_along};
 ghost use Rattle.geo_lowering.specs.Inner.StepLists.{HaveForms};
 ghost use Rattle.geo_lowering.specs.Inner.StepNumbers.{AreFractions, IsTerm, own_number};
+ghost use Rattle.geo_lowering.specs.Inner.StepNumbers.{second_number_tree};
 
 use crate::layouts::Places;
 use crate::step_numbers::Fractions;
+use crate::version::Version;
 use geo_points::{NoMemory, PointId, TermId};
 use geo_program::{Command, LineId};
 use geo_terms::Step;
@@ -20,12 +23,16 @@ use std::alloc::Global;
 /// What the steps of one command are made of.
 #[derive(Drop)]
 pub struct StepLists<'a> {
+    /// The version by which it is lowered.
+    pub version: Version,
     /// Where all that has a name stands.
     pub places: &'a Places,
     /// The numbers 1, 1/2 and 2/3.
     pub fractions: Fractions,
     /// The number that depends on the command.
     pub number: TermId,
+    /// The second number of `weights`.
+    pub second: TermId,
     /// The first point that the command makes.
     pub next: u32,
 }
@@ -39,11 +46,17 @@ impl<'a> StepLists<'a> {
             IfOk result (λ list. (nodes source : Store) (m : ℕ)
             → AreFractions nodes self.now.fractions
             → IsTerm nodes (own_number l source m command.now) self.now.number
-            → HaveForms nodes (command_steps l source self.now.next m command.now) list.items) }
+            → IsTerm nodes (second_number_tree l source command.now) self.now.second
+            → HaveForms nodes
+            (command_steps self.now.version l source self.now.next m command.now) list.items) }
     {
         let (one, half, own) = (self.fractions.one, self.fractions.half, self.number);
         match *command {
-            Command::Param | Command::Line { .. } => Ok(Vec::new(alloc)),
+            Command::Param
+            | Command::Line { .. }
+            | Command::AssumeDifferent { .. }
+            | Command::AssumeNotCollinear { .. }
+            | Command::AssumeNotParallel { .. } => Ok(Vec::new(alloc)),
             Command::Point => Ok(vec![in alloc; Step::Point]?),
             Command::Parallel { p, b } => self.parallel(alloc, p, b),
             Command::Perp { p, b } => self.upright(alloc, p, b),
@@ -66,6 +79,7 @@ impl<'a> StepLists<'a> {
             Command::Second { a, b, o } => self.reflection(alloc, o, a, b, a),
             Command::Cc { o, p, a } => self.reflection(alloc, a, o, p, a),
             Command::Inverse { p, o, .. } => self.along(alloc, o, o, p, own),
+            Command::Weights { a, b, c, .. } => self.weights(alloc, a, b, c),
         }
     }
 
@@ -88,6 +102,53 @@ impl<'a> StepLists<'a> {
             self.places.point(v),
         );
         Ok(vec![in alloc; Step::Pratio { w, u, v, r }]?)
+    }
+
+    // The point A + r (B - A) + s (C - A), by a step of its own, or from A first along AB to a
+    // hidden point.
+    fn weights(
+        &self,
+        alloc: Global,
+        a: PointId,
+        b: PointId,
+        c: PointId,
+    ) -> Result<Vec<Step>, NoMemory>
+        ensures { let l = layout_at self.now.places.now in
+            IfOk result (λ list. (nodes : Store) (e f : Tree) → IsTerm nodes e self.now.number
+            → IsTerm nodes f self.now.second → HaveForms nodes (weights_steps self.now.version
+            self.now.next (l.point a.0) (l.point b.0) (l.point c.0) e f) list.items) }
+    {
+        let (a, b, c) = (
+            self.places.point(a),
+            self.places.point(b),
+            self.places.point(c),
+        );
+        let (r, s) = (self.number, self.second);
+        match self.version {
+            Version::One => Ok(vec![in alloc;
+                Step::Pratio {
+                    w: a,
+                    u: a,
+                    v: b,
+                    r
+                },
+                Step::Pratio {
+                    w: PointId(self.next),
+                    u: a,
+                    v: c,
+                    r: s
+                },
+            ]?),
+            Version::Two => Ok(vec![in alloc;
+                Step::Weights {
+                    o: a,
+                    u: b,
+                    v: c,
+                    r,
+                    s
+                },
+            ]?),
+        }
     }
 
     // The point U + r J (V - U).

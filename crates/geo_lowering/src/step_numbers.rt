@@ -6,10 +6,11 @@ ghost use Rattle.geo_terms.specs.Stores.{trees_of};
 ghost use Rattle.geo_program.specs.Forms.{IsStored};
 ghost use Rattle.geo_lowering.specs.Counting.{next_number};
 ghost use Rattle.geo_lowering.specs.Inner.Growing.{KeepsTerms};
-ghost use Rattle.geo_lowering.specs.Lowering.{one_tree};
+ghost use Rattle.geo_lowering.specs.Lowering.{Layout, one_tree};
 ghost use Rattle.geo_lowering.specs.Parts.{layout_at};
 ghost use Rattle.geo_lowering.specs.Inner.Renaming.{AreRenamed, item_at};
 ghost use Rattle.geo_lowering.specs.Inner.StepNumbers.{AreFractions, IsTerm, own_number};
+ghost use Rattle.geo_lowering.specs.Inner.StepNumbers.{second_number_tree};
 ghost use Rattle.geo_terms.specs.Trees.{division};
 
 use crate::layouts::Places;
@@ -113,13 +114,26 @@ pub fn number_of(
             let own = steps.param();
             intern(steps, Node::Param(own))
         }
-        Command::Pratio { r, .. } | Command::Tratio { r, .. } | Command::Lratio { r, .. } => {
-            Ok(term_at(terms, r))
-        }
+        Command::Pratio { r, .. }
+        | Command::Tratio { r, .. }
+        | Command::Lratio { r, .. }
+        | Command::Weights { r, .. } => Ok(term_at(terms, r)),
         Command::Inverse { p, o, a } => {
             let (p, o, a) = (places.point(p), places.point(o), places.point(a));
             intern_quotient(steps, Node::P(o, a, o), Node::P(o, p, o))
         }
         _ => Ok(one),
+    }
+}
+
+/// The second number of `weights`, and else 1.
+pub fn second_number(terms: &[TermId], one: TermId, command: &Command) -> TermId
+    ensures { (l : Layout) (source nodes : Store) → AreRenamed l source nodes terms.now
+        → length terms.now ≡ length source → IsStored source command.now
+        → IsTerm nodes one_tree one → IsTerm nodes (second_number_tree l source command.now) result }
+{
+    match *command {
+        Command::Weights { s, .. } => term_at(terms, s),
+        _ => one,
     }
 }

@@ -1,45 +1,28 @@
 -- Reading the commands one after another.
-use Rattle.std.proofs.Common.{◌≡◌, true≢false, ℕ, zero, suc, ◌<◌, Bool, true, false, cond, List, [], ◌∷◌, ◌++◌, length, get_or, map, Some, None, refl, sym, ap, ◌∙◌, subst, arith}
-use Rattle.std.specs.Prelude.{All, Contains, IfNone, IfSome, Option, sum_by}
+use Rattle.std.proofs.Common.{◌≡◌, ◌+◌, ◌≤◌, List, [], ◌∷◌, ◌++◌, length, map, Some, None, refl, sym, ap, ap₂, ◌∙◌, subst, arith, append_assoc, length-append}
+use Rattle.std.specs.Prelude.{All, IfNone, IfSome, Option, sum_by}
 use Rattle.std.specs.List.{flat_map}
 use Rattle.std.proofs.lemmas.Grind.{flat_map-append}
-use Rattle.std.proofs.lemmas.List.{append-nil, length-map, length_push}
-use Rattle.std.proofs.lemmas.List.Elements.{All-nil, All-push}
+use Rattle.std.proofs.lemmas.List.{append-nil, length-map}
+use Rattle.std.proofs.lemmas.List.Elements.{All-append, All-nil}
 use Rattle.std.proofs.lemmas.List.Sums.{sum_by-cons, sum_by_push}
 use Rattle.geo_lexer.specs.Lexemes.{Lexeme, word_lexeme}
-use Rattle.geo_program.specs.CanonicalText.{argument_lexemes, command_lexemes, commands_lexemes, sketch_lexemes}
+use Rattle.geo_program.specs.CanonicalText.{argument_lexemes, command_lexemes, commands_lexemes, condition_lexemes, sketch_lexemes}
 use Rattle.geo_program.specs.Forms.{command_form}
 use Rattle.geo_program.specs.WellFormed.{AllDiffer, AreCommands, IsArgument, IsCommand, empty_scope, scope_of}
 use Rattle.geo_program.specs.Words.{IsNameText}
 use Rattle.geo_program.specs.declared.commands.Command.{Command}
 use Rattle.geo_program.specs.declared.commands.Command.TheVariants.{Point}
 use Rattle.geo_program.specs.declared.names.Name.{Name}
-use Rattle.geo_program.proofs.Pushing.{AllDiffer-push, AreCommands-length, AreCommands-push, AreSketches-length, AreSketches-push, commands_lexemes-kept, commands_lexemes-push}
+use Rattle.geo_program.proofs.Pushing.{AreCommands-push, AreSketches-length, AreSketches-push, commands_lexemes-kept, commands_lexemes-push}
 use Rattle.geo_program.proofs.Staying.{AreCommands-kept, KeepsTrees, command_lexemes-append}
 use Rattle.geo_terms.specs.Stores.{Store}
 use Rattle.geo_parser.specs.declared.command_words.CommandWord.{CommandWord}
 use Rattle.geo_parser.specs.declared.reader.Reader.{Reader}
-use Rattle.geo_parser.specs.Inner.CommandWords.{command_kind, command_text}
-use Rattle.geo_parser.specs.Inner.Dictionaries.{name_of}
-use Rattle.geo_parser.specs.Inner.Reads.{Extends, Passes, ReadsCommand, ReadsCommands, ReadsWord, a_name}
-use Rattle.geo_parser.specs.Texts.{is_text}
+use Rattle.geo_parser.specs.Inner.CommandWords.{command_condition, command_text}
+use Rattle.geo_parser.specs.Inner.Reads.{Extends, Passes, ReadsCommand, ReadsCommands, ReadsWord}
 use Rattle.geo_parser.proofs.CommandReading.{Passes-length}
-use Rattle.geo_parser.proofs.Finding.{is_text_self}
 use Rattle.geo_parser.proofs.Reading.{Extends-same, Extends-then, Passes-then}
-
--- a word that no name is, is no name's text
-undeclared_at : (names : List Name) (word : List ℕ) → name_of names word ≡ None → (k : ℕ) → k < length names → get_or (map (λ n. n.text) names) k word ≡ word → ⊥
-undeclared_at [] word none k lt is = absurd (omega arith)
-undeclared_at (n ∷ names) word none k lt is = by (is_text n.text word) refl none k lt is (undeclared_at names word)
-  where
-    by : (b : Bool) → is_text n.text word ≡ b → cond b (Some n) (name_of names word) ≡ None → (k' : ℕ) → k' < length (n ∷ names) → get_or (n.text ∷ map (λ m. m.text) names) k' word ≡ word
-        → (name_of names word ≡ None → (j : ℕ) → j < length names → get_or (map (λ m. m.text) names) j word ≡ word → ⊥) → ⊥
-    by true h missing k' lt' is' rest = cc
-    by false h missing zero lt' is' rest = true≢false (sym (sym h ∙ ap (λ t. is_text t word) is' ∙ is_text_self word))
-    by false h missing (suc k') lt' is' rest = rest missing k' (omega arith) is'
-
-pub undeclared : (names : List Name) (word : List ℕ) → name_of names word ≡ None → Contains (map (λ n. n.text) names) word → ⊥
-undeclared names word none there = undeclared_at names word none there.0 (omega (arith, there.1, length-map names (λ (n : Name). n.text))) there.2
 
 -- how many points a command makes does not depend on the store
 points_any : (nodes wider : Store) (command : Command) → (command_form wider command).points ≡ (command_form nodes command).points
@@ -62,7 +45,7 @@ ReadsCommands-none s no_names no_points =
       sketches = [];
       sketched = tt;
       passes = subst P (sym no_names) none;
-      made = subst (λ ns. AreCommands s.terms empty_scope ns []) (sym no_names) tt;
+      made = no_names;
       texts = subst (All (λ n. IsNameText n.text)) (sym no_names) (All-nil (λ n. IsNameText n.text));
       differ = subst AllDiffer (sym no_names) tt;
       counted = no_points;
@@ -73,40 +56,38 @@ ReadsCommands-none s no_names no_points =
     }
 
 module _ (a b c d : Reader) (commands : List Command) (word : CommandWord) (command : Command) (h : ReadsCommands a b commands) (w : ReadsWord word b c) (k : ReadsCommand word c d command) where
-  abbrev new : Name
-  new = a_name k.text (command_kind word)
-
   abbrev longer : List Name
-  longer = b.names ++ new ∷ []
+  longer = b.names ++ k.own
 
   names_are : d.names ≡ longer
-  names_are = k.names ∙ ap (λ ns. ns ++ new ∷ []) w.names
+  names_are = k.names ∙ ap (λ ns. ns ++ k.own) w.names
 
   terms_extend : Extends b.terms d.terms
   terms_extend = Extends-then b.terms c.terms d.terms (Extends-same w.terms) k.terms
 
-  is_command : IsCommand d.terms (scope_of empty_scope b.names) new command
+  is_command : IsCommand d.terms (scope_of empty_scope b.names) k.own command
   is_command = record {
-    named = sym k.named.kind;
+    named = k.kinds;
     arguments = subst (λ ns. All (IsArgument (scope_of empty_scope ns)) (command_form d.terms command).arguments) w.names k.valid;
     stored = k.stored;
   }
 
+  made : AreCommands d.terms empty_scope b.names commands
+  made = AreCommands-kept b.terms d.terms (KeepsTrees-extends b.terms d.terms terms_extend) empty_scope b.names commands h.made
+
   are_commands : AreCommands d.terms empty_scope longer (commands ++ command ∷ [])
-  are_commands =
-      AreCommands-push d.terms empty_scope b.names commands new command
-      (AreCommands-kept b.terms d.terms (KeepsTrees-extends b.terms d.terms terms_extend) empty_scope b.names commands h.made) is_command
+  are_commands = AreCommands-push d.terms empty_scope b.names commands k.own command made is_command
 
   -- the lexemes of the command
   abbrev own : List Lexeme
-  own = command_lexemes b.names d.terms new command ++ sketch_lexemes k.sketch
+  own = command_lexemes b.names d.terms k.own command ++ sketch_lexemes k.sketch
 
   lines_are : commands_lexemes longer d.terms longer (commands ++ command ∷ []) (h.sketches ++ k.sketch ∷ []) ≡ commands_lexemes b.names b.terms b.names commands h.sketches ++ own ∷ []
   lines_are =
-      commands_lexemes-push longer d.terms b.names commands h.sketches new command k.sketch (AreCommands-length b.terms empty_scope b.names commands h.made) (AreSketches-length commands h.sketches h.sketched)
-      ∙ ap (λ lines. lines ++ (command_lexemes longer d.terms new command ++ sketch_lexemes k.sketch) ∷ [])
-      (commands_lexemes-kept [] b.names (new ∷ []) b.names b.terms d.terms commands h.sketches refl (KeepsTrees-extends b.terms d.terms terms_extend) h.made)
-      ∙ ap (λ ls. commands_lexemes b.names b.terms b.names commands h.sketches ++ (ls ++ sketch_lexemes k.sketch) ∷ []) (command_lexemes-append b.names (new ∷ []) d.terms new command is_command)
+      commands_lexemes-push longer d.terms empty_scope b.names commands h.sketches k.own command k.sketch made (AreSketches-length commands h.sketches h.sketched) k.kinds
+      ∙ ap (λ lines. lines ++ (command_lexemes longer d.terms k.own command ++ sketch_lexemes k.sketch) ∷ [])
+      (commands_lexemes-kept [] b.names k.own b.names b.terms d.terms commands h.sketches refl (KeepsTrees-extends b.terms d.terms terms_extend) h.made)
+      ∙ ap (λ ls. commands_lexemes b.names b.terms b.names commands h.sketches ++ (ls ++ sketch_lexemes k.sketch) ∷ []) (command_lexemes-append b.names k.own d.terms k.own command is_command)
 
   lexemes_are : flat_map (λ line. line) (commands_lexemes longer d.terms longer (commands ++ command ∷ []) (h.sketches ++ k.sketch ∷ [])) ≡ flat_map (λ line. line) (commands_lexemes b.names b.terms b.names commands h.sketches) ++ own
   lexemes_are =
@@ -114,17 +95,44 @@ module _ (a b c d : Reader) (commands : List Command) (word : CommandWord) (comm
       ∙ flat_map-append (λ (line : List Lexeme). line) (commands_lexemes b.names b.terms b.names commands h.sketches) (own ∷ [])
       ∙ ap (λ ls. flat_map (λ (line : List Lexeme). line) (commands_lexemes b.names b.terms b.names commands h.sketches) ++ ls) (append-nil own)
 
-  own_is : word_lexeme (command_text word) ∷ (word_lexeme k.text ∷ flat_map (argument_lexemes c.names) (command_form d.terms command).arguments ++ sketch_lexemes k.sketch) ≡ own
+  abbrev texts : List Lexeme
+  texts = map (λ (name : Name). word_lexeme name.text) k.own
+
+  -- what stands behind the words
+  abbrev behind : List Name → List Lexeme
+  behind ns = texts ++ (flat_map (argument_lexemes ns) (command_form d.terms command).arguments ++ sketch_lexemes k.sketch)
+
+  own_is : (word_lexeme (command_text word) ∷ condition_lexemes (command_condition word)) ++ behind c.names ≡ own
   own_is =
-      ap (λ ns. word_lexeme (command_text word) ∷ (word_lexeme k.text ∷ flat_map (argument_lexemes ns) (command_form d.terms command).arguments ++ sketch_lexemes k.sketch)) w.names
-      ∙ ap (λ t. word_lexeme t ∷ (word_lexeme k.text ∷ flat_map (argument_lexemes b.names) (command_form d.terms command).arguments ++ sketch_lexemes k.sketch)) (sym k.named.text)
+      let f = command_form d.terms command in
+      let condition = condition_lexemes f.condition in
+      let spelling = flat_map (argument_lexemes b.names) f.arguments in
+      ap (λ ns. (word_lexeme (command_text word) ∷ condition_lexemes (command_condition word)) ++ behind ns) w.names
+      ∙ ap₂ (λ t o. (word_lexeme t ∷ condition_lexemes o) ++ behind b.names) (sym k.named.text) (sym k.named.condition)
+      ∙ ap (λ ls. word_lexeme f.word ∷ ls) (
+      ap (λ ls. condition ++ ls) (sym (append_assoc texts spelling (sketch_lexemes k.sketch)))
+      ∙ sym (append_assoc condition (texts ++ spelling) (sketch_lexemes k.sketch)))
 
   passes_all : Passes a d (flat_map (λ line. line) (commands_lexemes longer d.terms longer (commands ++ command ∷ []) (h.sketches ++ k.sketch ∷ [])))
   passes_all =
-      let one = Passes-then b c d (word_lexeme (command_text word) ∷ []) _ w.passes k.passes in
+      let one = Passes-then b c d (word_lexeme (command_text word) ∷ condition_lexemes (command_condition word)) _ w.passes k.passes in
       let P : List Lexeme → Type 0 = λ ls. Passes b d ls in
       let Q : List Lexeme → Type 0 = λ ls. Passes a d ls in
       subst Q (sym lexemes_are) (Passes-then a b d _ own h.passes (subst P own_is one))
+
+  -- at most as many names as tokens
+  names_few : length d.names + length d.cursor.tokens ≤ length a.cursor.tokens
+  names_few =
+      omega (
+        arith,
+        ap length names_are,
+        length-append b.names k.own,
+        h.names,
+        Passes-length b c _ w.passes,
+        Passes-length c d _ k.passes,
+        length-append texts (flat_map (argument_lexemes c.names) (command_form d.terms command).arguments ++ sketch_lexemes k.sketch),
+        length-map k.own (λ (name : Name). word_lexeme name.text),
+      )
 
   -- one more command is read
   pub ReadsCommands-more : ReadsCommands a d (commands ++ command ∷ [])
@@ -133,12 +141,12 @@ module _ (a b c d : Reader) (commands : List Command) (word : CommandWord) (comm
     sketched = AreSketches-push commands h.sketches command k.sketch h.sketched k.sketched;
     passes = subst (λ ns. Passes a d (flat_map (λ line. line) (commands_lexemes ns d.terms ns (commands ++ command ∷ []) (h.sketches ++ k.sketch ∷ [])))) (sym names_are) passes_all;
     made = subst (λ ns. AreCommands d.terms empty_scope ns (commands ++ command ∷ [])) (sym names_are) are_commands;
-    texts = subst (All (λ n. IsNameText n.text)) (sym names_are) (All-push (λ n. IsNameText n.text) b.names new h.texts k.valid_name);
-    differ = subst AllDiffer (sym names_are) (AllDiffer-push b.names new h.differ (undeclared b.names k.text (ap (λ ns. name_of ns k.text) (sym w.names) ∙ k.fresh.undeclared)));
+    texts = subst (All (λ n. IsNameText n.text)) (sym names_are) (All-append (λ n. IsNameText n.text) b.names k.own h.texts k.texts);
+    differ = subst AllDiffer (sym names_are) (subst (λ ns. AllDiffer (ns ++ k.own)) w.names (k.differ (subst AllDiffer (sym w.names) h.differ)));
     counted = omega (arith, k.counted, w.points, h.counted, k.named.points, points_kept b.terms d.terms commands, sum_by_push (λ (e : Command). (command_form d.terms e).points) commands command);
     few = k.few;
     room = omega (arith, k.room, h.room, ap length w.terms, Passes-length b c _ w.passes);
-    names = omega (arith, ap length names_are, length_push b.names new, h.names, Passes-length b c _ w.passes, Passes-length c d _ k.passes);
+    names = names_few;
     follows = h.follows ∙ w.follows [] ∙ k.follows [];
   }
 

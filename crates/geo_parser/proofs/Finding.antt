@@ -1,6 +1,6 @@
 -- The first entry of a table, and what texts are the same.
 use Rattle.std.proofs.Common.{◌≡◌, ℕ, Bor, is_some, ◌||◌, ◌+◌, ◌<◌, ◌≤◌, Bool, true, false, cond, eqb, ◌&&◌, List, [], ◌∷◌, length, get_or, drop, map, Some, None, refl, sym, ap, ◌∙◌}
-use Rattle.std.specs.List.{list_any}
+use Rattle.std.specs.List.{AllByRecursion, list_any}
 use Rattle.std.specs.Prelude.{IfSome, find, option_map}
 use Rattle.std.specs.Str.{bytes_eq}
 use Rattle.std.proofs.lemmas.List.{drop_all, drop_more}
@@ -91,6 +91,15 @@ text_found text (e ∷ es) word h = by (is_text e.0 word) refl (text_found text 
         → IfSome (option_map (λ d. d.1) (cond b (Some e) (find (λ d. is_text d.0 word) es))) (λ w. text w ≡ word)
     by true passed rest = let same : text e.1 ≡ e.0 = cc in same ∙ same_text e.0 word passed
     by false failed rest = rest
+
+-- what holds of all that a table has holds of what is found
+pub found_passes : {W : Type 0} (P : W → Type 0) (table : List (List ℕ × W)) (word : List ℕ) → AllByRecursion (λ e. P e.1) table → IfSome (found table word) P
+found_passes P [] word h = tt
+found_passes P (e ∷ es) word h = by (is_text e.0 word) (found_passes P es word h.1)
+  where
+    by : (b : Bool) → IfSome (found es word) P → IfSome (option_map (λ d. d.1) (cond b (Some e) (find (λ d. is_text d.0 word) es))) P
+    by true rest = h.0
+    by false rest = rest
 
 -- whether a table has a word
 pub is_some-found : {W : Type 0} (table : List (List ℕ × W)) (word : List ℕ) → is_some (found table word) ≡ list_any (is_text word) (map (λ e. e.0) table)

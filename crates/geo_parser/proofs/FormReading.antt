@@ -9,7 +9,7 @@ use Rattle.geo_lexer.specs.declared.token_types.Fault.{Fault}
 use Rattle.geo_lexer.specs.Lexemes.{Lexeme, word_lexeme, open_brace, close_brace}
 use Rattle.geo_program.specs.CanonicalText.{argument_lexemes}
 use Rattle.geo_program.specs.Expressions.{braced, expression_lexemes}
-use Rattle.geo_program.specs.Forms.{AreSidesStored, Argument, IsStored, StatementForm, command_form, form, number_argument, side_argument, statement_form}
+use Rattle.geo_program.specs.Forms.{AreSidesStored, Argument, CommandForm, IsStored, StatementForm, command_form, number_argument, side_argument, statement_form}
 use Rattle.geo_program.specs.WellFormed.{IsArgument, empty_scope, scope_of}
 use Rattle.geo_program.specs.declared.commands.Command.{Command}
 use Rattle.geo_program.specs.declared.names.Name.{Name}
@@ -19,7 +19,7 @@ use Rattle.geo_terms.specs.Stores.{tree_of}
 use Rattle.geo_parser.specs.declared.command_words.CommandWord.{CommandWord}
 use Rattle.geo_parser.specs.declared.reader.Reader.{Reader}
 use Rattle.geo_parser.specs.declared.statement_words.StatementWord.{StatementWord}
-use Rattle.geo_parser.specs.Inner.CommandWords.{command_kind, command_points, command_slots, command_text}
+use Rattle.geo_parser.specs.Inner.CommandWords.{command_condition, command_kind, command_points, command_slots, command_text}
 use Rattle.geo_parser.specs.Forms.{Slot, a_number, close_slot, end_slot, open_slot, side, statement_slot}
 use Rattle.geo_parser.specs.Inner.Reads.{Reads, ReadsArguments, ReadsExpression, ReadsForm, ReadsPart, ReadsStated, ReadsStatement, ReadsStatementWord, Refuses, argument_slots, extent, scope, statement_slots}
 use Rattle.geo_parser.specs.Inner.StatementWords.{statement_due, statement_text}
@@ -43,9 +43,19 @@ ReadsArguments-side a b e h =
       valid = All-cons (IsArgument (scope a)) _ [] (h.tree.valid, omega (arith, h.tree.nested)) (All-nil (IsArgument (scope a)));
     }
 
+-- the form of a command with this word and these arguments
+abbrev pub form_of : CommandWord → List Argument → CommandForm
+form_of word arguments = record {
+  word = command_text word;
+  condition = command_condition word;
+  made = command_kind word;
+  points = command_points word;
+  arguments = arguments;
+}
+
 -- a command with these arguments
 pub ReadsForm-made : (word : CommandWord) (arguments : List Argument) (old new : Reader) (command : Command) → ReadsArguments arguments old new → flat_map argument_slots arguments ≡ command_slots word
-    → command_form new.terms command ≡ form (command_text word) (command_kind word) (command_points word) arguments → IsStored new.terms command → ReadsForm word old new command
+    → command_form new.terms command ≡ form_of word arguments → IsStored new.terms command → ReadsForm word old new command
 ReadsForm-made word arguments old new command h slots made stored =
     let same : arguments ≡ (command_form new.terms command).arguments = ap (λ f. f.arguments) (sym made) in
     let P : List Slot → Type 0 = λ F. Reads F old new (flat_map (argument_lexemes old.names) arguments) in
@@ -54,7 +64,7 @@ ReadsForm-made word arguments old new command h slots made stored =
     record {
       sketch = None;
       sketched = inl refl;
-      named = record { text = ap (λ f. f.word) made; kind = ap (λ f. f.kind) made; points = ap (λ f. f.points) made };
+      named = record { text = ap (λ f. f.word) made; condition = ap (λ f. f.condition) made; kind = ap (λ f. f.made) made; points = ap (λ f. f.points) made };
       reads = subst R (sym (append-nil (flat_map (argument_lexemes old.names) (command_form new.terms command).arguments))) (subst Q same (subst P slots h.reads));
       valid = subst (All (IsArgument (scope old))) same h.valid;
       stored = stored;

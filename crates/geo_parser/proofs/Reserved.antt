@@ -1,16 +1,20 @@
 -- Which words are reserved.
-use Rattle.std.proofs.Common.{◌≡◌, ℕ, zero, suc, ◌<◌, length, get_or, true≢false, arith, Bool, true, false, ◌||◌, List, [], ◌∷◌, ◌++◌, is_some, refl, sym, ap, ◌∙◌, codes, None, Some}
+use Rattle.std.proofs.Common.{◌≡◌, ℕ, zero, suc, ◌<◌, length, get_or, true≢false, arith, Bool, true, false, ◌||◌, List, [], ◌∷◌, ◌++◌, is_some, map, refl, sym, ap, ◌∙◌, codes, None, Some}
 use Rattle.std.specs.List.{list_any}
 use Rattle.std.specs.Prelude.{Contains, Option, option_map}
 use Rattle.geo_program.specs.Words.{command_words, expression_words, reserved_words, statement_words}
-use Rattle.geo_parser.specs.Forms.{commands, due_behind, expressions, statements}
+use Rattle.geo_parser.specs.Forms.{due_behind, expressions, naming_commands, statements}
 use Rattle.geo_parser.specs.Slots.{is_reserved}
 use Rattle.geo_parser.specs.Texts.{found, is_text}
 use Rattle.geo_parser.proofs.Finding.{is_text_self, is_some-due_behind, is_some-found}
 
--- the reserved words that begin nothing of a command, a statement or an expression
+-- the reserved words that begin no command with a new name, no statement and no expression
 abbrev pub other_words : List (List ℕ × Unit {0})
-other_words = (codes "prove", tt) ∷ (codes "assume", tt) ∷ (codes "weights", tt) ∷ []
+other_words = (codes "assume", tt) ∷ (codes "prove", tt) ∷ []
+
+-- the words of the commands with a new name
+abbrev naming_words : List (List ℕ)
+naming_words = map (λ d. d.0) naming_commands
 
 or_assoc : (a b c : Bool) → (a || b) || c ≡ (a || (b || c))
 or_assoc true b c = refl
@@ -25,17 +29,19 @@ list_any-append p [] ys = refl
 list_any-append p (x ∷ xs) ys = ap (λ r. p x || r) (list_any-append p xs ys) ∙ sym (or_assoc (p x) (list_any p xs) (list_any p ys))
 
 -- a word that no table has is not reserved, and one that the first three have not is reserved where it is another
-pub is_reserved-others : (word : List ℕ) → is_some (due_behind word commands) ≡ false → is_some (due_behind word statements) ≡ false
+pub is_reserved-others : (word : List ℕ) → is_some (due_behind word naming_commands) ≡ false → is_some (due_behind word statements) ≡ false
     → is_some (due_behind word (expressions 0 true)) ≡ false → is_reserved word ≡ is_some (found other_words word)
 is_reserved-others word no_command no_statement no_expression =
     let p = is_text word in
-    let c : list_any p command_words ≡ false = sym (is_some-due_behind commands word) ∙ no_command in
+    let c : list_any p naming_words ≡ false = sym (is_some-due_behind naming_commands word) ∙ no_command in
     let s : list_any p statement_words ≡ false = sym (is_some-due_behind statements word) ∙ no_statement in
     let e : list_any p expression_words ≡ false = sym (is_some-due_behind (expressions 0 true) word) ∙ no_expression in
-    let others : List (List ℕ) = codes "prove" ∷ codes "assume" ∷ codes "weights" ∷ [] in
-    list_any-append p (command_words ++ statement_words ++ expression_words) others
-    ∙ ap (λ r. r || list_any p others) (list_any-append p (command_words ++ statement_words) expression_words
-    ∙ ap (λ r. r || list_any p expression_words) (list_any-append p command_words statement_words ∙ ap (λ r. r || list_any p statement_words) c ∙ s) ∙ e)
+    let last : List (List ℕ) = codes "prove" ∷ [] in
+    let behind : list_any p (naming_words ++ statement_words ++ expression_words ++ last) ≡ list_any p last =
+    list_any-append p (naming_words ++ statement_words ++ expression_words) last
+    ∙ ap (λ r. r || list_any p last) (list_any-append p (naming_words ++ statement_words) expression_words
+    ∙ ap (λ r. r || list_any p expression_words) (list_any-append p naming_words statement_words ∙ ap (λ r. r || list_any p statement_words) c ∙ s) ∙ e) in
+    ap (λ b. p (codes "assume") || b) behind
     ∙ sym (is_some-found other_words word)
 
 is_some-option_map : {X Y : Type 0} (f : X → Y) (o : Option X) → is_some (option_map f o) ≡ is_some o
@@ -68,7 +74,7 @@ none_of (Some x) h = absurd (true≢false h)
 pub free_of_expressions : (level : ℕ) (ratios : Bool) (word : List ℕ) → is_reserved word ≡ false → due_behind word (expressions level ratios) ≡ None
 free_of_expressions level ratios word free =
     let p = is_text word in
-    let others : List (List ℕ) = codes "prove" ∷ codes "assume" ∷ codes "weights" ∷ [] in
-    let first = or_false _ _ (sym (list_any-append p (command_words ++ statement_words ++ expression_words) others) ∙ free) in
+    let last : List (List ℕ) = codes "prove" ∷ [] in
+    let first = or_false _ _ (sym (list_any-append p (command_words ++ statement_words ++ expression_words) last) ∙ free) in
     let second = or_false _ _ (sym (list_any-append p (command_words ++ statement_words) expression_words) ∙ first.0) in
     none_of _ (is_some-due_behind (expressions level ratios) word ∙ second.1)

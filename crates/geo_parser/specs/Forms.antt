@@ -10,6 +10,8 @@ pub data Slot : Type 0 where
   command_slot : Slot
   -- the new name of a command: what it names, and how many points the command makes
   new_name_slot : NameKind → ℕ → Slot
+  -- the word of a condition that is assumed
+  condition_slot : Slot
   -- the first of two numbers, or what may stand without them
   sketch_slot : Slot
   -- the second of the two numbers
@@ -43,13 +45,13 @@ a_number = expression_slot 0 false
 abbrev pub Due : Type 0
 Due = List ℕ × List Slot
 
--- a command: its new name, and what is due behind the name
+-- a command with a new name: its word, the name, and what is due behind it
 abbrev pub command : List ℕ → NameKind → ℕ → List Slot → Due
 command word kind points slots = (word, new_name_slot kind points ∷ slots)
 
--- the commands
-abbrev pub commands : List Due
-commands =
+-- the commands that have a new name
+abbrev pub naming_commands : List Due
+naming_commands =
     command (codes "point") Point 1 (sketch_slot ∷ [])
     ∷ command (codes "param") Param 0 ([])
     ∷ command (codes "line") Line 0 (a_point ∷ a_point ∷ [])
@@ -74,6 +76,19 @@ commands =
     ∷ command (codes "second") Point 2 (a_point ∷ a_point ∷ a_point ∷ [])
     ∷ command (codes "cc") Point 2 (a_point ∷ a_point ∷ a_point ∷ [])
     ∷ command (codes "inverse") Point 1 (a_point ∷ a_point ∷ a_point ∷ [])
+    ∷ command (codes "weights") Point 2 (a_point ∷ a_point ∷ a_point ∷ a_number ∷ a_number ∷ [])
+    ∷ []
+
+-- the commands
+abbrev pub commands : List Due
+commands = (codes "assume", condition_slot ∷ []) ∷ naming_commands
+
+-- the conditions that may be assumed
+abbrev pub conditions : List Due
+conditions =
+    (codes "different", a_point ∷ a_point ∷ [])
+    ∷ (codes "not_collinear", a_point ∷ a_point ∷ a_point ∷ [])
+    ∷ (codes "not_parallel", a_point ∷ a_point ∷ a_point ∷ a_point ∷ [])
     ∷ []
 
 -- `{ e }`, a side of an equation

@@ -7,7 +7,7 @@ use Rattle.geo_program.specs.declared.names.NameKind.{NameKind}
 use Rattle.geo_program.specs.declared.names.NameKind.TheVariants.{Param}
 use Rattle.geo_program.specs.Names.{is_kind}
 use Rattle.geo_program.specs.Words.{reserved_words}
-use Rattle.geo_parser.specs.Forms.{Slot, command_slot, new_name_slot, sketch_slot, second_number_slot, name_slot, expression_slot, open_slot, close_slot, statement_slot, end_slot, commands, due_behind, expressions, statements}
+use Rattle.geo_parser.specs.Forms.{Slot, command_slot, new_name_slot, condition_slot, sketch_slot, second_number_slot, name_slot, expression_slot, open_slot, close_slot, statement_slot, end_slot, commands, conditions, due_behind, expressions, statements}
 use Rattle.geo_parser.specs.Texts.{is_text}
 
 -- the names that are declared, that of the command which is being read, and how many points the commands make up to it
@@ -85,6 +85,7 @@ next r (sketch_slot ∷ rest) lexeme = next r rest lexeme
 next r (second_number_slot ∷ rest) (number_lexeme n) = taken r rest
 next r (command_slot ∷ rest) (word_lexeme word) = begin_command r word rest
 next r (new_name_slot kind points ∷ rest) (word_lexeme word) = begin_name r kind points word rest
+next r (condition_slot ∷ rest) (word_lexeme word) = follow r (due_behind word conditions) rest
 next r (name_slot kind ∷ rest) (word_lexeme word) = use_name r kind word rest
 next r (expression_slot level ratios ∷ rest) (word_lexeme word) = begin_expression r level ratios word rest
 next r (expression_slot level ratios ∷ rest) (number_lexeme n) = taken r rest

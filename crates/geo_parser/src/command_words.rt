@@ -1,12 +1,14 @@
-//! The words that begin a command, by what stands behind the new name.
+//! The words that begin a command, by what stands behind the new name or the word of a condition.
 
-ghost use Rattle.std.specs.Prelude.{◌≡◌, ◌<◌, ◌∷◌, [], IfSome, length, option_map};
+ghost use Rattle.std.specs.Prelude.{◌≡◌, ◌<◌, ◌∷◌, [], IfSome, None, length, option_map};
 ghost use Rattle.geo_parser.specs.Inner.CommandWords.{command_due, command_kind, command_points};
 ghost use Rattle.geo_parser.specs.Inner.CommandWords.{command_text, direction_points};
 ghost use Rattle.geo_parser.specs.Inner.CommandWords.{direction_text, pair_kind, pair_points};
 ghost use Rattle.geo_parser.specs.Inner.CommandWords.{pair_text, step_text, triple_points};
 ghost use Rattle.geo_parser.specs.Inner.CommandWords.{triple_text};
-ghost use Rattle.geo_parser.specs.Forms.{commands, due_behind};
+ghost use Rattle.geo_parser.specs.Inner.CommandWords.{command_condition, condition_slots};
+ghost use Rattle.geo_parser.specs.Inner.CommandWords.{condition_text};
+ghost use Rattle.geo_parser.specs.Forms.{conditions, due_behind, naming_commands};
 ghost use Rattle.geo_program.specs.Forms.{IsStored, command_form, form, line_argument};
 ghost use Rattle.geo_program.specs.Forms.{number_argument, point_argument};
 ghost use Rattle.geo_program.specs.declared.names.NameKind.TheVariants as kind;
@@ -74,7 +76,18 @@ pub enum StepWord {
     Lratio,
 }
 
-/// A word that begins a command.
+/// The word of a condition that is assumed.
+#[derive(Clone, Copy)]
+pub enum ConditionWord {
+    /// `different`
+    Different,
+    /// `not_collinear`
+    NotCollinear,
+    /// `not_parallel`
+    NotParallel,
+}
+
+/// A word that begins a command. With `assume` goes the word of the condition.
 #[derive(Clone, Copy)]
 pub enum CommandWord {
     /// `point`
@@ -95,9 +108,14 @@ pub enum CommandWord {
     Pratio,
     /// A command on two points and a number.
     Step(StepWord),
+    /// `weights`
+    Weights,
+    /// `assume` with a condition.
+    Assume(ConditionWord),
 }
 
-const COMMANDS: [(&[u8], CommandWord); 24] = [
+// The commands that have a new name.
+const COMMANDS: [(&[u8], CommandWord); 25] = [
     (b"point", CommandWord::Point),
     (b"param", CommandWord::Param),
     (b"line", CommandWord::Pair(PairWord::Line)),
@@ -125,27 +143,46 @@ const COMMANDS: [(&[u8], CommandWord); 24] = [
     (b"second", CommandWord::Triple(TripleWord::Second)),
     (b"cc", CommandWord::Triple(TripleWord::Cc)),
     (b"inverse", CommandWord::Triple(TripleWord::Inverse)),
+    (b"weights", CommandWord::Weights),
 ];
 
+const CONDITIONS: [(&[u8], ConditionWord); 3] = [
+    (b"different", ConditionWord::Different),
+    (b"not_collinear", ConditionWord::NotCollinear),
+    (b"not_parallel", ConditionWord::NotParallel),
+];
+
+impl ConditionWord {
+    /// The condition that has this word.
+    pub fn of(word: &[u8]) -> Option<ConditionWord>
+        ensures due { option_map condition_slots result ≡ due_behind word.now conditions }
+        ensures text { IfSome result (λ w. condition_text w ≡ word.now) }
+    {
+        find(&CONDITIONS, word)
+    }
+}
+
 impl CommandWord {
-    /// The command that the word begins.
+    /// The command with a new name that the word begins.
     pub fn of(word: &[u8]) -> Option<CommandWord>
-        ensures due { option_map command_due result ≡ due_behind word.now commands }
+        ensures due { option_map command_due result ≡ due_behind word.now naming_commands }
         ensures text { IfSome result (λ w. command_text w ≡ word.now) }
+        ensures condition { IfSome result (λ w. command_condition w ≡ None) }
     {
         find(&COMMANDS, word)
     }
 
-    /// What the new name names.
-    pub fn kind(self) -> NameKind
+    /// What the new name names. An assumption has none.
+    pub fn kind(self) -> Option<NameKind>
         ensures { result ≡ command_kind self }
     {
         match self {
-            CommandWord::Param => NameKind::Param,
+            CommandWord::Assume(_) => None,
+            CommandWord::Param => Some(NameKind::Param),
             CommandWord::Pair(PairWord::Line | PairWord::Med) | CommandWord::Direction(_) => {
-                NameKind::Line
+                Some(NameKind::Line)
             }
-            _ => NameKind::Point,
+            _ => Some(NameKind::Point),
         }
     }
 
@@ -154,7 +191,8 @@ impl CommandWord {
         ensures { result ≡ command_points self }
     {
         match self {
-            CommandWord::Param => 0,
+            CommandWord::Param | CommandWord::Assume(_) => 0,
+            CommandWord::Weights => 2,
             CommandWord::Pair(word) => word.points(),
             CommandWord::Triple(word) => word.points(),
             CommandWord::Direction(DirectionWord::Perp) => 2,

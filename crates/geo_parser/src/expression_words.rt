@@ -44,8 +44,8 @@ const EXPRESSIONS: [(&[u8], ExpressionWord); 8] = [
     (b"div", ExpressionWord::Div),
 ];
 
-// The further words that no name may be. The last two begin nothing yet.
-const OTHERS: [(&[u8], ()); 3] = [(b"prove", ()), (b"assume", ()), (b"weights", ())];
+// The further words that no name may be.
+const OTHERS: [(&[u8], ()); 2] = [(b"assume", ()), (b"prove", ())];
 
 impl ExpressionWord {
     /// The expression that the word begins.

@@ -20,3 +20,5 @@ pub mod Coordinates
 pub mod Zeros
 pub mod Making
 pub mod Same
+pub mod Weighted
+pub mod WeightedRows

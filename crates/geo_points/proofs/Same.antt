@@ -3,13 +3,14 @@ use Rattle.std.proofs.Common.{◌≡◌, ℕ, zero, suc, pos, List, [], ◌∷�
 use Rattle.ring_laws.specs.Fraction.{Fraction, Same, minus}
 use Rattle.geo_points.specs.Placements.{SamePoint}
 use Rattle.geo_points.specs.Points.{Point, cross_product, dot_product}
-use Rattle.geo_points.specs.Steps.{IsAlong, IsCrossing, IsFoot, IsTurned}
+use Rattle.geo_points.specs.Steps.{IsAlong, IsCrossing, IsFoot, IsTurned, IsWeighted}
 use Rattle.geo_points.proofs.AreaRows.{cross'}
 use Rattle.geo_points.proofs.Exchange.{signed_area-same, pythagoras_difference-same}
 use Rattle.geo_points.proofs.Expressions.{Quantity, abscissa, ordinate, area, pythagoras, whole_number, one_half, given_number, ◌+'◌, ◌-'◌, ◌*'◌, opposite', half, point_at, number_at, quantity_value}
 use Rattle.ring_laws.proofs.Fractions as F
 use Rattle.ring_laws.proofs.Fractions.{fractions, cancel}
 use Rattle.geo_points.proofs.Steps.{along-x, along-y, along_back}
+use Rattle.geo_points.proofs.Weighted.{weighted-x, weighted-y, weighted_back, combination}
 use Rattle.geo_points.specs.Vectors.{Differ}
 use Rattle.geo_points.proofs.Coordinates.{cross_product-is, dot_product-is, turned-x, turned-y, dot', cross_null, dot_null, turned_back}
 use Rattle.geo_points.proofs.Zeros.{apart, differ}
@@ -116,3 +117,11 @@ pub turned-same : (U V : Point) (r : Fraction) (Y U' V' : Point) (r' : Fraction)
 turned-same U V r C U' V' r' C' u v k c s =
     let moved = geo-moved (U ∷ V ∷ C ∷ []) (U' ∷ V' ∷ C' ∷ []) (r ∷ []) (r' ∷ []) (u, (v, (c, tt))) (k, tt) in
     turned_back U' V' r' C' (moved (abscissa 2 -' abscissa 0) (opposite' (given_number 0 *' (ordinate 1 -' ordinate 0))) (turned-x U V r C s)) (moved (ordinate 2 -' ordinate 0) (given_number 0 *' (abscissa 1 -' abscissa 0)) (turned-y U V r C s))
+
+pub weighted-same : (O U V : Point) (r s : Fraction) (Y O' U' V' : Point) (r' s' : Fraction) (Y' : Point)
+    → SamePoint O O' → SamePoint U U' → SamePoint V V' → Same r r' → Same s s' → SamePoint Y Y' → IsWeighted O U V r s Y → IsWeighted O' U' V' r' s' Y'
+weighted-same O U V r s C O' U' V' r' s' C' o u v k l c w =
+    let moved = geo-moved (O ∷ U ∷ V ∷ C ∷ []) (O' ∷ U' ∷ V' ∷ C' ∷ []) (r ∷ s ∷ []) (r' ∷ s' ∷ []) (o, (u, (v, (c, tt)))) (k, (l, tt)) in
+    weighted_back O' U' V' r' s' C'
+    (moved (abscissa 3 -' abscissa 0) (combination abscissa) (weighted-x O U V r s C w))
+    (moved (ordinate 3 -' ordinate 0) (combination ordinate) (weighted-y O U V r s C w))

@@ -3,8 +3,8 @@ use Rattle.std.specs.Prelude.{◌≡◌, pos, ◌↔◌}
 use Rattle.ring_laws.specs.Fraction.{Fraction, Same, whole, plus, negated, minus, times, IsNonzero, quotient}
 use Rattle.geo_points.specs.Points.{Point, squared_distance, x_coordinate, y_coordinate, cross_product, signed_area, pythagoras_difference, HasRatio, ratio}
 use Rattle.geo_points.specs.Placements.{SamePoint}
-use Rattle.geo_points.specs.Steps.{IsAlong, IsCrossing, IsFoot, IsTurned}
-use Rattle.geo_points.specs.Vectors.{Differ}
+use Rattle.geo_points.specs.Steps.{IsAlong, IsCrossing, IsFoot, IsTurned, IsWeighted}
+use Rattle.geo_points.specs.Vectors.{Differ, run, rise}
 
 -- twice the signed area is the cross product of two sides; a swap of two corners turns its sign, a turn of all three keeps it, and it is 0
 -- just where the corners lie on a line
@@ -62,3 +62,10 @@ pub record FootMakesOnePoint : Type 0 where
 pub record TurnedMakesOnePoint : Type 0 where
   pub exists : (U V : Point) (r : Fraction) → (Y : Point) × IsTurned U V r Y
   pub unique : (U V : Point) (r : Fraction) (Y Z : Point) → IsTurned U V r Y → IsTurned U V r Z → SamePoint Y Z
+
+-- the step Y - O = r (U - O) + s (V - O) holds just where it holds in both coordinates, and some point meets it, and no other does
+pub record WeightsMakeOnePoint : Type 0 where
+  pub coordinates : (O U V : Point) (r s : Fraction) (Y : Point) → IsWeighted O U V r s Y
+      ↔ (Same (run O Y) (plus (times r (run O U)) (times s (run O V))) × Same (rise O Y) (plus (times r (rise O U)) (times s (rise O V))))
+  pub exists : (O U V : Point) (r s : Fraction) → (Y : Point) × IsWeighted O U V r s Y
+  pub unique : (O U V : Point) (r s : Fraction) (Y Z : Point) → IsWeighted O U V r s Y → IsWeighted O U V r s Z → SamePoint Y Z

@@ -1,5 +1,5 @@
 -- The steps that make a point, as equations of whole numbers: all denominators are multiplied out.
-use Rattle.std.specs.Prelude.{◌≡◌, pos, ◌*ℤ◌, neg_ℤ}
+use Rattle.std.specs.Prelude.{◌≡◌, pos, ◌+ℤ◌, ◌*ℤ◌, neg_ℤ}
 use Rattle.ring_laws.specs.Fraction.{Fraction}
 use Rattle.geo_points.specs.Points.{Point, x_difference, y_difference, cross_product, dot_product}
 
@@ -24,3 +24,14 @@ pub record IsFoot (P U V Y : Point) : Type 0 where
 pub record IsTurned (U V : Point) (r : Fraction) (Y : Point) : Type 0 where
   pub by_x : pos r.denominator *ℤ pos U.w *ℤ pos V.w *ℤ x_difference U Y ≡ neg_ℤ (r.numerator *ℤ pos U.w *ℤ pos Y.w *ℤ y_difference U V)
   pub by_y : pos r.denominator *ℤ pos U.w *ℤ pos V.w *ℤ y_difference U Y ≡ r.numerator *ℤ pos U.w *ℤ pos Y.w *ℤ x_difference U V
+
+-- Y - O = r (U - O) + s (V - O): seen from O, Y has the weight r at U and s at V
+pub record IsWeighted (O U V : Point) (r s : Fraction) (Y : Point) : Type 0 where
+  pub by_x :
+      pos r.denominator *ℤ pos s.denominator *ℤ pos U.w *ℤ pos V.w *ℤ x_difference O Y
+      ≡ r.numerator *ℤ pos s.denominator *ℤ pos V.w *ℤ pos Y.w *ℤ x_difference O U
+      +ℤ s.numerator *ℤ pos r.denominator *ℤ pos U.w *ℤ pos Y.w *ℤ x_difference O V
+  pub by_y :
+      pos r.denominator *ℤ pos s.denominator *ℤ pos U.w *ℤ pos V.w *ℤ y_difference O Y
+      ≡ r.numerator *ℤ pos s.denominator *ℤ pos V.w *ℤ pos Y.w *ℤ y_difference O U
+      +ℤ s.numerator *ℤ pos r.denominator *ℤ pos U.w *ℤ pos Y.w *ℤ y_difference O V

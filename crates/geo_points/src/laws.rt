@@ -4,7 +4,7 @@
 ghost use Rattle.geo_points.specs.Laws.{AlongMakesOnePoint, CrossingMakesOnePoint};
 ghost use Rattle.geo_points.specs.Laws.{FootMakesOnePoint, PythagorasDifferenceIsOfSquares};
 ghost use Rattle.geo_points.specs.Laws.{QuantitiesAreOfPoints, RatioScales, SignedAreaTurns};
-ghost use Rattle.geo_points.specs.Laws.{TurnedMakesOnePoint};
+ghost use Rattle.geo_points.specs.Laws.{TurnedMakesOnePoint, WeightsMakeOnePoint};
 
 /// A signed area is half the cross product of two sides. A swap of two corners changes its sign, a
 /// turn of the three keeps it, and it is 0 exactly where the corners lie on a line.
@@ -47,4 +47,10 @@ pub fn foot_makes_one_point()
 /// point for any U, V and r, and only that one.
 pub fn turned_makes_one_point()
     ensures { TurnedMakesOnePoint }
+{}
+
+/// The step `Y - O = r (U - O) + s (V - O)` makes a point for any O, U, V, r and s, and only that
+/// one.
+pub fn weights_make_one_point()
+    ensures { WeightsMakeOnePoint }
 {}

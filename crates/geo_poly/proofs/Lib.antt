@@ -27,6 +27,7 @@ pub mod KeepingNumbers
 pub mod WholeValues
 pub mod GatheredFactors
 pub mod EachVariable
+pub mod EachKey
 pub mod SortedForms
 pub mod KeptVariables
 pub mod PolynomialRing

@@ -15,6 +15,7 @@ pub mod SortedVariables
 pub mod KeptVariables
 pub mod ReplacementLaws
 pub mod Shared
+pub mod Stored
 pub mod StoreOrder
 pub mod Chained
 pub mod Rings

@@ -19,6 +19,7 @@ use crate::lists::Vars;
 use crate::polynomial_variables::{mark, variables_of_terms};
 use crate::reading::{count_powers, is_same, norm_at, power_at, terms_at, total_degree_at};
 use crate::shared::{Indexed, Shared};
+use crate::stored::Stored;
 use crate::terms::Term;
 use crate::variables::Var;
 use geo_points::NoMemory;
@@ -26,24 +27,20 @@ use mono_store::{MonoId, Monos};
 use poly_arena::{Arena, Chain};
 use std::alloc::Global;
 use std::marker::Model;
+use std::ops::Deref;
 
 /// A polynomial over whole numbers: monomials with nonzero coefficients, the greatest monomial
 /// first. The monomials stand in a store of its own, where a variable has the number of its place
-/// in a list.
+/// in a list: a polynomial lends this as `Stored`, whose readers `vars`, `monos` and `mono_at` are
+/// called on it.
 pub struct Poly {
-    vars: Vars,
-    monos: Monos,
-    list: Vec<Indexed>,
+    stored: Stored,
 }
 
 /// By hand, so that a caller's proof sees one call where a polynomial is let go.
 impl Drop for Poly {
     fn drop(self) {
-        let Poly {
-            vars: _,
-            monos: _,
-            list: _,
-        } = self;
+        let Poly { stored: _ } = self;
     }
 }
 
@@ -53,9 +50,21 @@ impl Model for Poly {
 
     ghost Value = { Summands };
 
-    ghost view = { λ p. terms_of p.vars p.monos p.list.items };
+    ghost view = { λ p. terms_of p.stored.vars p.stored.monos p.stored.list.items };
 
-    ghost invariant = { λ p. IsShared p.vars p.monos p.list.items };
+    ghost invariant = { λ p. IsShared p.stored.vars p.stored.monos p.stored.list.items };
+}
+
+impl Deref for Poly {
+    ghost use Rattle.geo_poly.specs.Stored.{IsStoredBy};
+
+    type Target = Stored;
+
+    ghost deref_gives = { IsStoredBy };
+
+    fn deref(&self) -> &Stored {
+        &self.stored
+    }
 }
 
 impl Poly {
@@ -65,52 +74,24 @@ impl Poly {
         ensures valid { IsShared result.vars.now result.monos.now result.list.now }
     {
         Shared {
-            vars: self.vars.as_slice(),
-            monos: &self.monos,
-            list: self.list.as_slice(),
+            vars: self.stored.vars.as_slice(),
+            monos: &self.stored.monos,
+            list: self.stored.list.as_slice(),
         }
-    }
-
-    /// The variables in order, in which every variable that occurs stands: those that `shared`
-    /// tells.
-    pub fn vars(&self) -> &Vars
-        ensures rising { IsStrictlySortedBy var_cmp result.now }
-        ensures known { AllVariables (Contains result.now) self.now }
-    {
-        &self.vars
-    }
-
-    /// The store of the monomials: that which `shared` tells.
-    pub fn monos(&self) -> &Monos
-        ensures { IsStore result.now }
-    {
-        let _one = self.monos.one();
-        &self.monos
-    }
-
-    /// The index of the monomial at place i, from 0, in the store `monos`: that which `shared`
-    /// tells. It is 0 at the monomial with no variable.
-    pub fn mono_at(&self, i: u64) -> MonoId
-        requires { i < length self.now }
-        ensures { (result.0 ≡ 0) ↔ ((term_at self.now i).0 ≡ []) }
-    {
-        let p = self.shared();
-        let _one = p.monos.one();
-        let (id, _) = p.list[i as usize];
-        id
     }
 
     /// The zero polynomial.
     pub fn zero(alloc: Global) -> Poly
         ensures { result ≡ [] }
     {
-        Poly {
+        let stored = Stored {
             vars: Vars {
                 items: Vec::new(alloc),
             },
             monos: Monos::new(alloc),
             list: Vec::new(alloc),
-        }
+        };
+        Poly { stored }
     }
 
     /// The constant polynomial `n`, which is zero where `n` is 0.
@@ -156,7 +137,8 @@ impl Poly {
         let mut list = Vec::new(alloc);
         list.push((id, coefficient))?;
         let vars = Vars { items: vars };
-        Ok(Poly { vars, monos, list })
+        let stored = Stored { vars, monos, list };
+        Ok(Poly { stored })
     }
 
     /// A polynomial with the same terms.
@@ -177,7 +159,8 @@ impl Poly {
             items: Vec::from_slice(alloc, p.vars)?,
         };
         let monos = p.monos.copy(alloc)?;
-        Ok(Poly { vars, monos, list })
+        let stored = Stored { vars, monos, list };
+        Ok(Poly { stored })
     }
 
     /// The polynomial of a list: over a new store where most of the given one is not in use, or
@@ -200,7 +183,8 @@ impl Poly {
             let terms = terms_at(alloc, &part)?;
             return Poly::from_terms(alloc, &terms);
         }
-        Ok(Poly { vars, monos, list })
+        let stored = Stored { vars, monos, list };
+        Ok(Poly { stored })
     }
 
     /// The polynomial of a list: over a new store where most of the given one is not in use.
@@ -227,7 +211,8 @@ impl Poly {
         let vars = variables_of_terms(alloc, terms)?;
         let mut monos = Monos::with_capacity(alloc, terms.len() as u64)?;
         let list = stored_terms(alloc, &mut monos, vars.as_slice(), terms)?;
-        Ok(Poly { vars, monos, list })
+        let stored = Stored { vars, monos, list };
+        Ok(Poly { stored })
     }
 
     /// The polynomial that a chain stands for. The chain and its arena are spent.
@@ -284,7 +269,7 @@ impl Poly {
     pub fn terms(&self) -> u64
         ensures { result ≡ length self.now }
     {
-        self.list.len() as u64
+        self.stored.list.len() as u64
     }
 
     /// The coefficient of the monomial at place i, from 0.
@@ -292,7 +277,7 @@ impl Poly {
         requires { i < length self.now }
         ensures { result ≡ (term_at self.now i).1 }
     {
-        self.list[i as usize].1
+        self.stored.list[i as usize].1
     }
 
     /// The number of variables of the monomial at place i, from 0.
@@ -318,7 +303,7 @@ impl Poly {
     pub fn is_zero(&self) -> bool
         ensures { IsTrue result ↔ (self.now ≡ []) }
     {
-        self.list.is_empty()
+        self.stored.list.is_empty()
     }
 
     /// Whether both have the same monomials with the same coefficients.

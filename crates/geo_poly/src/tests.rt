@@ -414,6 +414,13 @@ fn spelled_parts(alloc: Global, poly: &Poly) -> Result<String, AllocError> {
     Ok(text)
 }
 
+/// The index of the monomial at a place.
+fn index_told(poly: &Poly, i: u64) -> u64
+    requires { i < length poly.now }
+{
+    poly.mono_at(i).0
+}
+
 #[test]
 fn parts_of_a_polynomial_are_told(rt: HostRuntime) -> Result<(), Fail> {
     let alloc = rt.alloc();
@@ -421,7 +428,8 @@ fn parts_of_a_polynomial_are_told(rt: HostRuntime) -> Result<(), Fail> {
     assert_eq!(rt; spelled_parts(alloc, &poly)?.as_str(), "x0y0 1:+2 2:-3");
     assert_eq!(rt; poly.monos().one().0, 0);
     if poly.terms() == 2 {
-        assert_eq!(rt; poly.mono_at(1).0, 2);
+        assert_eq!(rt; index_told(&poly, 0), 1);
+        assert_eq!(rt; index_told(&poly, 1), 2);
     }
     Ok(())
 }

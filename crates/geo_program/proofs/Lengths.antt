@@ -9,7 +9,8 @@ use Rattle.geo_program.specs.declared.names.Name.{Name}
 use Rattle.geo_program.specs.declared.names.NameKind.TheVariants as kind
 use Rattle.geo_program.specs.CanonicalText.{Sketch, canonical_text, command_lexemes, commands_lexemes, lexeme_text, line_lexemes, line_text, no_sketches, sketch_lexemes, statement_lexemes}
 use Rattle.geo_program.specs.Names.{is_kind, name_text, names_of}
-use Rattle.geo_program.specs.WellFormed.{Source}
+use Rattle.geo_program.specs.Forms.{command_form}
+use Rattle.geo_program.specs.WellFormed.{Source, later_names, own_names}
 use Rattle.geo_program.specs.Words.{IsNameText}
 use Rattle.geo_terms.specs.Stores.{Store}
 
@@ -43,8 +44,10 @@ length-lines ((lexeme ∷ lexemes) ∷ lines) h =
 
 -- commands, and one more line
 lines_filled : (all : List Name) (nodes : Store) (names : List Name) (commands : List Command) (sketches : List Sketch) (last : List Lexeme) → IsFilled last → AllByRecursion IsFilled (commands_lexemes all nodes names commands sketches ++ last ∷ [])
-lines_filled all nodes (name ∷ names) (command ∷ commands) (sketch ∷ sketches) last h = (tt, lines_filled all nodes names commands sketches last h)
-lines_filled all nodes _ _ _ last h = (h, tt)
+lines_filled all nodes names (command ∷ commands) (sketch ∷ sketches) last h =
+    (tt, lines_filled all nodes (later_names (command_form nodes command) names) commands sketches last h)
+lines_filled all nodes names [] sketches last h = (h, tt)
+lines_filled all nodes names (command ∷ commands) [] last h = (h, tt)
 
 -- the canonical text is as long as its lexemes with one byte after each
 pub length-canonical_text : (p : Source) → length (canonical_text p) ≡ sum_by lexeme_size (flat_map (λ line. line) (line_lexemes (no_sketches p.commands) p))
@@ -62,16 +65,16 @@ lines_size-cons line lines = sum_by-append lexeme_size line (flat_map (λ (line 
 
 -- without the numbers that may follow points the lines are no longer
 sketches_lengthen : (all : List Name) (nodes : Store) (names : List Name) (commands : List Command) (sketches : List Sketch) (last : List Lexeme) → length commands ≡ length sketches → lines_size (commands_lexemes all nodes names commands (no_sketches commands) ++ last ∷ []) ≤ lines_size (commands_lexemes all nodes names commands sketches ++ last ∷ [])
-sketches_lengthen all nodes [] commands sketches last h = omega arith
-sketches_lengthen all nodes (name ∷ names) [] sketches last h = omega arith
-sketches_lengthen all nodes (name ∷ names) (command ∷ commands) [] last h = absurd (omega arith)
-sketches_lengthen all nodes (name ∷ names) (command ∷ commands) (sketch ∷ sketches) last h =
-    let own = command_lexemes all nodes name command in
+sketches_lengthen all nodes names [] sketches last h = omega arith
+sketches_lengthen all nodes names (command ∷ commands) [] last h = absurd (omega arith)
+sketches_lengthen all nodes names (command ∷ commands) (sketch ∷ sketches) last h =
+    let own = command_lexemes all nodes (own_names (command_form nodes command) names) command in
+    let later = later_names (command_form nodes command) names in
     omega (
       arith,
-      sketches_lengthen all nodes names commands sketches last (omega arith),
-      lines_size-cons (own ++ []) (commands_lexemes all nodes names commands (no_sketches commands) ++ last ∷ []),
-      lines_size-cons (own ++ sketch_lexemes sketch) (commands_lexemes all nodes names commands sketches ++ last ∷ []),
+      sketches_lengthen all nodes later commands sketches last (omega arith),
+      lines_size-cons (own ++ []) (commands_lexemes all nodes later commands (no_sketches commands) ++ last ∷ []),
+      lines_size-cons (own ++ sketch_lexemes sketch) (commands_lexemes all nodes later commands sketches ++ last ∷ []),
       sum_by-append lexeme_size own [],
       sum_by-append lexeme_size own (sketch_lexemes sketch),
     )

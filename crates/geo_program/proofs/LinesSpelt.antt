@@ -1,8 +1,8 @@
 -- The canonical text of a well-formed program has the program's lexemes.
-use Rattle.std.proofs.Common.{List, [], ◌∷◌, ◌++◌, refl, inl, arith}
+use Rattle.std.proofs.Common.{◌≡◌, List, [], ◌∷◌, ◌++◌, refl, sym, ap, subst, ◌∙◌, inl, arith}
 use Rattle.std.specs.Prelude.{All}
 use Rattle.std.specs.List.{AllByRecursion, flat_map}
-use Rattle.std.proofs.lemmas.List.Elements.{All-from_recursion, All-head, All-tail, All-weaker, recursion_from_All}
+use Rattle.std.proofs.lemmas.List.Elements.{All-from_recursion, All-weaker, recursion_from_All}
 use Rattle.geo_lexer.specs.Lexemes.{Lexeme, MayStand, word_lexeme, number_lexeme, open_brace, close_brace}
 use Rattle.geo_lexer.proofs.Phrases.{Spells, Spells-close, Spells-lines, Spells-nil, Spells-number, Spells-open, Spells-space, Spells-word}
 use Rattle.geo_program.specs.declared.commands.Command.{Command}
@@ -11,9 +11,11 @@ use Rattle.geo_program.specs.CanonicalText.{canonical_text, command_lexemes, com
 use Rattle.geo_program.specs.Forms.{Argument, command_form, statement_form}
 use Rattle.geo_program.specs.Inner.Printing.{whole_scope}
 use Rattle.geo_program.specs.Spelling.{AreSketches, SpellsSource}
-use Rattle.geo_program.specs.WellFormed.{AreCommands, IsArgument, IsWellFormed, Scope, Source, declare, empty_scope, scope_of}
+use Rattle.geo_program.specs.WellFormed.{AreCommands, IsArgument, IsWellFormed, Scope, Source, empty_scope, later_names, own_names, scope_of}
 use Rattle.geo_program.specs.Words.{IsNameText}
-use Rattle.geo_program.proofs.ScopeLemmas.{IsWithinScope, IsWithinScope-scope_of, IsWithinScope-trans, arguments_wider}
+use Rattle.geo_program.proofs.OnceNamed.{All-back, All-front}
+use Rattle.geo_program.proofs.OwnNames.{own_and_later}
+use Rattle.geo_program.proofs.ScopeLemmas.{IsWithinScope, IsWithinScope-scope_of, IsWithinScope-trans, arguments_wider, scope_of-append}
 use Rattle.geo_program.proofs.Standing.{MayAllStand, MayAllStand-append, command_stands, statement_stands}
 use Rattle.geo_terms.specs.Stores.{Store}
 
@@ -39,15 +41,19 @@ module _ (all : List Name) (nodes : Store) (valid : All (λ n. IsNameText n.text
   arguments_in s arguments within h = recursion_from_All (IsArgument (whole_scope all)) arguments (arguments_wider s (whole_scope all) arguments within h)
 
   lines_stand : (s : Scope) (names : List Name) (commands : List Command) (last : List Lexeme) → IsWithinScope (scope_of s names) (whole_scope all) → All (λ n. IsNameText n.text) names → AreCommands nodes s names commands → MayAllStand last → LinesStand (commands_lexemes all nodes names commands (no_sketches commands) ++ last ∷ [])
-  lines_stand s [] [] last within named h end = (end, tt)
-  lines_stand s [] (command ∷ commands) last within named h end = absurd h
-  lines_stand s (name ∷ names) [] last within named h end = absurd h
-  lines_stand s (name ∷ names) (command ∷ commands) last within named h end =
-      let next = declare name.kind s in
-      let here = IsWithinScope-trans s (scope_of s (name ∷ names)) (whole_scope all) (IsWithinScope-scope_of s (name ∷ names)) within in
-      let own = command_lexemes all nodes name command in
-      let stands = command_stands all valid nodes name command (All-head (λ n. IsNameText n.text) name names named) (arguments_in s (command_form nodes command).arguments here h.0.arguments) in
-      (MayAllStand-append own [] stands tt, lines_stand next names commands last within (All-tail (λ n. IsNameText n.text) name names named) h.1 end)
+  lines_stand s names [] last within named h end = (end, tt)
+  lines_stand s names (command ∷ commands) last within named h end =
+      let f = command_form nodes command in
+      let own = own_names f names in
+      let later = later_names f names in
+      let scopes : scope_of s names ≡ scope_of (scope_of s own) later = ap (scope_of s) (sym (own_and_later f names)) ∙ scope_of-append s own later in
+      let both : All (λ n. IsNameText n.text) (own ++ later) = subst (All (λ n. IsNameText n.text)) (sym (own_and_later f names)) named in
+      let here = IsWithinScope-trans s (scope_of s names) (whole_scope all) (IsWithinScope-scope_of s names) within in
+      let line = command_lexemes all nodes own command in
+      let stands = command_stands all valid nodes own command (All-front (λ (n : Name). IsNameText n.text) own later both) (arguments_in s f.arguments here h.0.arguments) in (
+        MayAllStand-append line [] stands tt,
+        lines_stand (scope_of s own) later commands last (subst (λ (t : Scope). IsWithinScope t (whole_scope all)) scopes within) (All-back (λ (n : Name). IsNameText n.text) own later both) h.1 end,
+      )
 
 -- no command has numbers behind it
 pub AreSketches-none : (commands : List Command) → AreSketches commands (no_sketches commands)

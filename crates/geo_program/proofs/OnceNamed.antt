@@ -61,3 +61,7 @@ AllDiffer-front (name ∷ names) more h = (
 pub All-front : {A : Type 0} (P : A → Type 0) (xs ys : List A) → All P (xs ++ ys) → All P xs
 All-front P [] ys h = All-nil P
 All-front P (x ∷ xs) ys h = All-cons P x xs (All-head P x (xs ++ ys) h) (All-front P xs ys (All-tail P x (xs ++ ys) h))
+
+pub All-back : {A : Type 0} (P : A → Type 0) (xs ys : List A) → All P (xs ++ ys) → All P ys
+All-back P [] ys h = h
+All-back P (x ∷ xs) ys h = All-back P xs ys (All-tail P x (xs ++ ys) h)

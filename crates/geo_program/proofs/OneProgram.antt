@@ -1,5 +1,5 @@
 -- Lexemes are those of one program at most.
-use Rattle.std.proofs.Common.{◌≡◌, ℕ, Bool, true, false, Some, None, List, [], ◌∷◌, ◌++◌, map, refl, sym, ap, ap₂, subst, ◌∙◌, arith, append_assoc, eq-eqb}
+use Rattle.std.proofs.Common.{◌≡◌, ℕ, Bool, true, false, Option, Some, None, is_some, List, [], ◌∷◌, ◌++◌, map, refl, sym, ap, ap₂, subst, ◌∙◌, arith, append_assoc, eq-eqb}
 use Rattle.std.specs.Prelude.{All, codes}
 use Rattle.std.specs.List.{flat_map}
 use Rattle.std.proofs.lemmas.Bool.{false≢true}
@@ -11,18 +11,20 @@ use Rattle.geo_program.specs.declared.commands.Command.{Command}
 use Rattle.geo_program.specs.declared.names.Name.{Name}
 use Rattle.geo_program.specs.declared.names.NameKind.TheVariants.{Line}
 use Rattle.geo_program.specs.declared.statements.Statement.{Statement}
-use Rattle.geo_program.specs.CanonicalText.{Sketch, argument_lexemes, command_lexemes, commands_lexemes, line_lexemes, sketch_lexemes, statement_lexemes}
+use Rattle.geo_program.specs.CanonicalText.{Sketch, argument_lexemes, command_lexemes, commands_lexemes, condition_lexemes, line_lexemes, sketch_lexemes, statement_lexemes}
 use Rattle.geo_program.specs.Expressions.{expression_lexemes, point_lexeme}
 use Rattle.geo_program.specs.Forms.{Argument, CommandForm, StatementForm, point_argument, line_argument, number_argument, side_argument, command_form, statement_form}
 use Rattle.geo_program.specs.Names.{name_text}
 use Rattle.geo_program.specs.Spelling.{AreSketches, SameSource, SpellsSource}
-use Rattle.geo_program.specs.WellFormed.{AllDiffer, AreCommands, IsArgument, IsCommand, IsWellFormed, Scope, Source, declare, empty_scope, scope_of}
-use Rattle.geo_program.specs.Words.{IsNameText, command_words}
+use Rattle.geo_program.specs.WellFormed.{AllDiffer, AreCommands, IsArgument, IsCommand, IsWellFormed, Scope, Source, empty_scope, kinds_made, later_names, own_names, scope_of}
+use Rattle.geo_program.specs.Words.{IsNameText}
 use Rattle.geo_program.proofs.OnceNamed.{AllDiffer-front, All-front, same_number}
-use Rattle.geo_program.proofs.Reading.{ReadsAlike, braced_read, expression_read, line_same, place_of, point_read}
-use Rattle.geo_program.proofs.ScopeLemmas.{lines_declared, points_declared, scope_of-push}
-use Rattle.geo_program.proofs.Shapes.{argument_kind, command_is_no_prove, same_shape, same_statement_shape, shape_of}
+use Rattle.geo_program.proofs.Reading.{ReadsAlike, braced_read, expression_read, line_same, point_read}
+use Rattle.geo_program.proofs.OwnNames.{own_and_later}
+use Rattle.geo_program.proofs.ScopeLemmas.{lines_declared, points_declared, scope_of-append}
+use Rattle.geo_program.proofs.Shapes.{argument_kind, command_is_no_prove, same_kind_of_condition, same_shape, same_statement_shape, shape_of}
 use Rattle.geo_program.proofs.Staying.{arguments_lexemes-append, over_names}
+use Rattle.geo_program.proofs.WordPlaces.{same_text}
 use Rattle.geo_terms.specs.Stores.{Store}
 
 -- ARGUMENTS
@@ -68,10 +70,9 @@ module _ (names : List Name) (valid : All (λ n. IsNameText n.text) names) (diff
 
 -- COMMANDS
 
-form_same : (f g : CommandForm) → f.word ≡ g.word → f.kind ≡ g.kind → f.points ≡ g.points → f.arguments ≡ g.arguments → f ≡ g
-form_same f g word kind points arguments =
-    ap₂ (λ w k. record { word = w; kind = k; points = f.points; arguments = f.arguments }) word kind
-    ∙ ap₂ (λ p a. record { word = g.word; kind = g.kind; points = p; arguments = a }) points arguments
+form_same : (f g : CommandForm) → shape_of f ≡ shape_of g → f.arguments ≡ g.arguments → f ≡ g
+form_same f g shapes arguments =
+    ap₂ (λ s a. record { word = s.word; condition = s.condition; made = s.made; points = s.points; arguments = a }) shapes arguments
 
 name_same : (n m : Name) → n.text ≡ m.text → n.kind ≡ m.kind → n ≡ m
 name_same n m text kind = ap₂ (λ t k. record { text = t; kind = k }) text kind
@@ -92,39 +93,74 @@ sketch_read (Some k) (Some l) r s hr hs h = cc
 sketch_read None (Some l) r s hr hs h = absurd (false≢true (sym (ap begins_with_word h) ∙ hr))
 sketch_read (Some k) None r s hr hs h = absurd (false≢true (ap begins_with_word h ∙ hs))
 
+-- the word of the condition that is assumed
+condition_read : (a b : Option (List ℕ)) (r s : List Lexeme) → is_some a ≡ is_some b → condition_lexemes a ++ r ≡ condition_lexemes b ++ s → ReadsAlike a b r s
+condition_read None None r s some h = record { same = refl; rest = h }
+condition_read (Some x) (Some y) r s some h =
+    let word : x ≡ y = cc in
+    let rest : r ≡ s = cc in
+    record { same = ap Some word; rest = rest }
+condition_read None (Some y) r s some h = absurd (false≢true some)
+condition_read (Some x) None r s some h = absurd (false≢true (sym some))
+
+-- names of the same kinds
+names_read : (ns ms : List Name) (r s : List Lexeme) → map (λ n. n.kind) ns ≡ map (λ n. n.kind) ms
+    → map (λ name. word_lexeme name.text) ns ++ r ≡ map (λ name. word_lexeme name.text) ms ++ s → ReadsAlike ns ms r s
+names_read [] [] r s kinds h = record { same = refl; rest = h }
+names_read [] (m ∷ ms) r s kinds h = absurd (cc)
+names_read (n ∷ ns) [] r s kinds h = absurd (cc)
+names_read (n ∷ ns) (m ∷ ms) r s kinds h =
+    let text : n.text ≡ m.text = cc in
+    let kind : n.kind ≡ m.kind = cc in
+    let others : map (λ (n : Name). n.kind) ns ≡ map (λ (n : Name). n.kind) ms = cc in
+    let rest : map (λ (name : Name). word_lexeme name.text) ns ++ r ≡ map (λ (name : Name). word_lexeme name.text) ms ++ s = cc in
+    let read = names_read ns ms r s others rest in
+    record { same = ap₂ (λ x xs. x ∷ xs) (name_same n m text kind) read.same; rest = read.rest }
+
 -- a command of each program, and what follows them
-record SameCommands (np nq : Store) (n m : Name) (c d : Command) (r s : List Lexeme) : Type 0 where
-  pub name : n ≡ m
+record SameCommands (np nq : Store) (ns ms : List Name) (c d : Command) (r s : List Lexeme) : Type 0 where
+  pub names : ns ≡ ms
   pub form : command_form np c ≡ command_form nq d
   pub rest : r ≡ s
 
-command_read : (before more others : List Name) (np nq : Store) (n m : Name) (c d : Command) (k l : Sketch) (r s : List Lexeme)
+-- the lexemes of a command in groups
+pub grouped : (all own : List Name) (nodes : Store) (c : Command) (k : Sketch) (r : List Lexeme) → let f = command_form nodes c in
+    (command_lexemes all nodes own c ++ sketch_lexemes k) ++ r
+    ≡ word_lexeme f.word ∷ condition_lexemes f.condition ++ (map (λ (name : Name). word_lexeme name.text) own ++ (flat_map (argument_lexemes all) f.arguments ++ (sketch_lexemes k ++ r)))
+grouped all own nodes c k r =
+    let f = command_form nodes c in
+    let condition = condition_lexemes f.condition in
+    let texts = map (λ (name : Name). word_lexeme name.text) own in
+    let spelling = flat_map (argument_lexemes all) f.arguments in
+    append_assoc (word_lexeme f.word ∷ condition ++ (texts ++ spelling)) (sketch_lexemes k) r
+    ∙ ap (λ l. word_lexeme f.word ∷ l) (
+    append_assoc condition (texts ++ spelling) (sketch_lexemes k ++ r)
+    ∙ ap (λ l. condition ++ l) (append_assoc texts spelling (sketch_lexemes k ++ r)))
+
+command_read : (before more others : List Name) (np nq : Store) (ns ms : List Name) (c d : Command) (k l : Sketch) (r s : List Lexeme)
     → All (λ n. IsNameText n.text) before → AllDiffer before
-    → IsCommand np (scope_of empty_scope before) n c → IsCommand nq (scope_of empty_scope before) m d
+    → IsCommand np (scope_of empty_scope before) ns c → IsCommand nq (scope_of empty_scope before) ms d
     → begins_with_word r ≡ true → begins_with_word s ≡ true
-    → (command_lexemes (before ++ more) np n c ++ sketch_lexemes k) ++ r ≡ (command_lexemes (before ++ others) nq m d ++ sketch_lexemes l) ++ s
-    → SameCommands np nq n m c d r s
-command_read before more others np nq n m c d k l r s valid differ hc hd hr hs h =
+    → (command_lexemes (before ++ more) np ns c ++ sketch_lexemes k) ++ r ≡ (command_lexemes (before ++ others) nq ms d ++ sketch_lexemes l) ++ s
+    → SameCommands np nq ns ms c d r s
+command_read before more others np nq ns ms c d k l r s valid differ hc hd hr hs h =
     let f = command_form np c in
     let g = command_form nq d in
     let spell = argument_lexemes before in
+    let apart = sym (grouped (before ++ more) ns np c k r) ∙ h ∙ grouped (before ++ others) ms nq d l s in
     let words : f.word ≡ g.word = cc in
-    let texts : n.text ≡ m.text = cc in
-    let tails : (flat_map (argument_lexemes (before ++ more)) f.arguments ++ sketch_lexemes k) ++ r ≡ (flat_map (argument_lexemes (before ++ others)) g.arguments ++ sketch_lexemes l) ++ s = cc in
-    let regrouped : flat_map spell f.arguments ++ (sketch_lexemes k ++ r) ≡ flat_map spell g.arguments ++ (sketch_lexemes l ++ s) =
+    let behind : condition_lexemes f.condition ++ (map (λ (name : Name). word_lexeme name.text) ns ++ (flat_map (argument_lexemes (before ++ more)) f.arguments ++ (sketch_lexemes k ++ r)))
+    ≡ condition_lexemes g.condition ++ (map (λ (name : Name). word_lexeme name.text) ms ++ (flat_map (argument_lexemes (before ++ others)) g.arguments ++ (sketch_lexemes l ++ s))) = cc in
+    let conditions = condition_read f.condition g.condition _ _ (same_kind_of_condition np nq c d words) behind in
+    let shapes : shape_of f ≡ shape_of g = same_shape np nq c d words conditions.same in
+    let kinds : kinds_made f ≡ kinds_made g = ap (λ s. elim s.made [ None ↦ [] | Some kind ↦ kind ∷ [] ]) shapes in
+    let names = names_read ns ms _ _ (hc.named ∙ kinds ∙ sym hd.named) conditions.rest in
+    let spelt : flat_map spell f.arguments ++ (sketch_lexemes k ++ r) ≡ flat_map spell g.arguments ++ (sketch_lexemes l ++ s) =
     ap (λ a. a ++ (sketch_lexemes k ++ r)) (sym (arguments_lexemes-append before more f.arguments hc.arguments))
-    ∙ sym (append_assoc (flat_map (argument_lexemes (before ++ more)) f.arguments) (sketch_lexemes k) r)
-    ∙ tails
-    ∙ append_assoc (flat_map (argument_lexemes (before ++ others)) g.arguments) (sketch_lexemes l) s
+    ∙ names.rest
     ∙ ap (λ a. a ++ (sketch_lexemes l ++ s)) (arguments_lexemes-append before others g.arguments hd.arguments) in
-    let shapes : shape_of f ≡ shape_of g = same_shape np nq c d words in
-    let kinds : f.kind ≡ g.kind = ap (λ s. s.named) shapes in
-    let read = arguments_read before valid differ f.arguments g.arguments (sketch_lexemes k ++ r) (sketch_lexemes l ++ s) (ap (λ s. s.arguments) shapes) hc.arguments hd.arguments regrouped in
-    record {
-      name = name_same n m texts (hc.named ∙ kinds ∙ sym hd.named);
-      form = form_same f g words kinds (ap (λ s. s.points) shapes) read.same;
-      rest = sketch_read k l r s hr hs read.rest;
-    }
+    let read = arguments_read before valid differ f.arguments g.arguments (sketch_lexemes k ++ r) (sketch_lexemes l ++ s) (ap (λ s. s.arguments) shapes) hc.arguments hd.arguments spelt in
+    record { names = names.same; form = form_same f g shapes read.same; rest = sketch_read k l r s hr hs read.rest }
 
 -- the statement of each program
 statement_read : (before : List Name) (np nq : Store) (s t : Statement) → All (λ n. IsNameText n.text) before → AllDiffer before
@@ -141,18 +177,16 @@ statement_read before np nq s t valid differ hs ht h =
 
 -- PROGRAMS
 
--- names with their commands and places for numbers, as many of each
-data AreTogether : List Name → List Command → List Sketch → Type 0 where
-  none : AreTogether [] [] []
-  more : {n : Name} {ns : List Name} {c : Command} {cs : List Command} {k : Sketch} {ks : List Sketch} → AreTogether ns cs ks → AreTogether (n ∷ ns) (c ∷ cs) (k ∷ ks)
+-- commands with their places for numbers, as many of each
+data AreTogether : List Command → List Sketch → Type 0 where
+  none : AreTogether [] []
+  more : {c : Command} {cs : List Command} {k : Sketch} {ks : List Sketch} → AreTogether cs ks → AreTogether (c ∷ cs) (k ∷ ks)
 
-together : (nodes : Store) (s : Scope) (ns : List Name) (cs : List Command) (ks : List Sketch) → AreCommands nodes s ns cs → AreSketches cs ks → AreTogether ns cs ks
-together nodes s [] [] [] h g = none
-together nodes s [] [] (k ∷ ks) h g = absurd g
-together nodes s [] (c ∷ cs) ks h g = absurd h
-together nodes s (n ∷ ns) [] ks h g = absurd h
-together nodes s (n ∷ ns) (c ∷ cs) [] h g = absurd g
-together nodes s (n ∷ ns) (c ∷ cs) (k ∷ ks) h g = more (together nodes (declare n.kind s) ns cs ks h.1 g.1)
+together : (cs : List Command) (ks : List Sketch) → AreSketches cs ks → AreTogether cs ks
+together [] [] g = none
+together [] (k ∷ ks) g = absurd g
+together (c ∷ cs) [] g = absurd g
+together (c ∷ cs) (k ∷ ks) g = more (together cs ks g.1)
 
 -- the lexemes of commands and of a statement
 abbrev lines : List Name → Store → List Name → List Command → List Sketch → Statement → List Lexeme
@@ -161,13 +195,14 @@ lines all nodes names commands sketches s =
 
 lines_begin : (all : List Name) (nodes : Store) (names : List Name) (commands : List Command) (sketches : List Sketch) (s : Statement) → begins_with_word (lines all nodes names commands sketches s) ≡ true
 unfolding begins_with_word
-lines_begin all nodes (n ∷ names) (c ∷ commands) (k ∷ sketches) s = refl
-lines_begin all nodes _ _ _ s = refl
+lines_begin all nodes names (c ∷ commands) (k ∷ sketches) s = refl
+lines_begin all nodes names [] sketches s = refl
+lines_begin all nodes names (c ∷ commands) [] s = refl
 
 -- a command's first word is no `prove`
 not_prove : (nodes : Store) (c : Command) → (command_form nodes c).word ≡ codes "prove" → ⊥
 not_prove nodes c h =
-    false≢true (sym (command_is_no_prove nodes c) ∙ eq-eqb (place_of (command_form nodes c).word command_words) (place_of (codes "prove") command_words) (ap (λ w. place_of w command_words) h))
+    false≢true (sym (command_is_no_prove nodes c) ∙ ap (λ w. same_text w (codes "prove")) h)
 
 -- what is left of two programs is the same
 record SameLeft (np nq : Store) (sp sq : Statement) (ns ms : List Name) (cs ds : List Command) : Type 0 where
@@ -180,40 +215,48 @@ module _ (P Q : List Name) (np nq : Store) (sp sq : Statement)
     (statement_p : All (IsArgument (scope_of empty_scope P)) (statement_form np sp).arguments)
     (statement_q : All (IsArgument (scope_of empty_scope Q)) (statement_form nq sq).arguments) where
   -- equal lexemes are those of the same commands and statement
-  lines_read : {ns ms : List Name} {cs ds : List Command} {ks ls : List Sketch} (before : List Name)
-      → AreTogether ns cs ks → AreTogether ms ds ls → P ≡ before ++ ns → Q ≡ before ++ ms
+  lines_read : {cs ds : List Command} {ks ls : List Sketch} (before ns ms : List Name)
+      → AreTogether cs ks → AreTogether ds ls → P ≡ before ++ ns → Q ≡ before ++ ms
       → AreCommands np (scope_of empty_scope before) ns cs → AreCommands nq (scope_of empty_scope before) ms ds
       → lines P np ns cs ks sp ≡ lines Q nq ms ds ls sq → SameLeft np nq sp sq ns ms cs ds
-  lines_read before none none isp isq hp hq h =
+  lines_read before ns ms none none isp isq hp hq h =
       let one : statement_lexemes P np sp ++ [] ≡ statement_lexemes Q nq sq ++ [] = h in
-      let all : P ≡ Q = isp ∙ sym isq in
+      let left : ns ≡ ms = hp ∙ sym hq in
+      let all : P ≡ Q = isp ∙ ap (λ names. before ++ names) left ∙ sym isq in
       let statements : statement_lexemes P np sp ≡ statement_lexemes P nq sq =
       sym (append-nil (statement_lexemes P np sp)) ∙ one ∙ append-nil (statement_lexemes Q nq sq) ∙ ap (λ names. statement_lexemes names nq sq) (sym all) in
       let over_p = subst (λ (names : List Name). All (IsArgument (scope_of empty_scope names)) (statement_form nq sq).arguments) (sym all) statement_q in
-      record { names = refl; commands = refl; statement = statement_read P np nq sp sq valid_p differ_p statement_p over_p statements }
-  lines_read before (more {c = c} tp) none isp isq hp hq h =
+      record { names = left; commands = refl; statement = statement_read P np nq sp sq valid_p differ_p statement_p over_p statements }
+  lines_read before ns ms (more {c = c} tp) none isp isq hp hq h =
       let word : (command_form np c).word ≡ codes "prove" = cc in absurd (not_prove np c word)
-  lines_read before none (more {c = d} tq) isp isq hp hq h =
+  lines_read before ns ms none (more {c = d} tq) isp isq hp hq h =
       let word : codes "prove" ≡ (command_form nq d).word = cc in absurd (not_prove nq d (sym word))
-  lines_read before (more {n = n} {ns = ns} {c = c} {cs = cs} {k = k} {ks = ks} tp) (more {n = m} {ns = ms} {c = d} {cs = ds} {k = l} {ks = ls} tq) isp isq hp hq h =
-      let r = lines P np ns cs ks sp in
-      let s = lines Q nq ms ds ls sq in
+  lines_read before ns ms (more {c = c} {cs = cs} {k = k} {ks = ks} tp) (more {c = d} {cs = ds} {k = l} {ks = ls} tq) isp isq hp hq h =
+      let f = command_form np c in
+      let g = command_form nq d in
+      let own = own_names f ns in
+      let own' = own_names g ms in
+      let later = later_names f ns in
+      let later' = later_names g ms in
+      let r = lines P np later cs ks sp in
+      let s = lines Q nq later' ds ls sq in
       let valid = subst (λ (names : List Name). All (λ x. IsNameText x.text) names) isp valid_p in
       let differ = subst AllDiffer isp differ_p in
-      let apart : (command_lexemes (before ++ n ∷ ns) np n c ++ sketch_lexemes k) ++ r ≡ (command_lexemes (before ++ m ∷ ms) nq m d ++ sketch_lexemes l) ++ s =
-      ap (λ all. (command_lexemes all np n c ++ sketch_lexemes k) ++ r) (sym isp) ∙ h ∙ ap (λ all. (command_lexemes all nq m d ++ sketch_lexemes l) ++ s) isq in
-      let one = command_read before (n ∷ ns) (m ∷ ms) np nq n m c d k l r s
-      (All-front (λ x. IsNameText x.text) before (n ∷ ns) valid) (AllDiffer-front before (n ∷ ns) differ)
-      hp.0 hq.0 (lines_begin P np ns cs ks sp) (lines_begin Q nq ms ds ls sq) apart in
-      let next = before ++ n ∷ [] in
-      let rest = lines_read next tp tq
-      (isp ∙ sym (append_assoc before (n ∷ []) ns))
-      (isq ∙ ap (λ x. before ++ x ∷ ms) (sym one.name) ∙ sym (append_assoc before (n ∷ []) ms))
-      (subst (λ (s : Scope). AreCommands np s ns cs) (sym (scope_of-push empty_scope before n)) hp.1)
-      (subst (λ (s : Scope). AreCommands nq s ms ds) (ap (λ x. declare x.kind (scope_of empty_scope before)) (sym one.name) ∙ sym (scope_of-push empty_scope before n)) hq.1)
+      let apart : (command_lexemes (before ++ ns) np own c ++ sketch_lexemes k) ++ r ≡ (command_lexemes (before ++ ms) nq own' d ++ sketch_lexemes l) ++ s =
+      ap (λ all. (command_lexemes all np own c ++ sketch_lexemes k) ++ r) (sym isp) ∙ h ∙ ap (λ all. (command_lexemes all nq own' d ++ sketch_lexemes l) ++ s) isq in
+      let one = command_read before ns ms np nq own own' c d k l r s
+      (All-front (λ x. IsNameText x.text) before ns valid) (AllDiffer-front before ns differ)
+      hp.0 hq.0 (lines_begin P np later cs ks sp) (lines_begin Q nq later' ds ls sq) apart in
+      let next = before ++ own in
+      let joined = λ (names : List Name). sym (append_assoc before own names) in
+      let rest = lines_read next later later' tp tq
+      (isp ∙ ap (λ names. before ++ names) (sym (own_and_later f ns)) ∙ joined later)
+      (isq ∙ ap (λ names. before ++ names) (sym (own_and_later g ms) ∙ ap (λ x. x ++ later') (sym one.names)) ∙ joined later')
+      (subst (λ (s : Scope). AreCommands np s later cs) (sym (scope_of-append empty_scope before own)) hp.1)
+      (subst (λ (s : Scope). AreCommands nq s later' ds) (ap (scope_of (scope_of empty_scope before)) (sym one.names) ∙ sym (scope_of-append empty_scope before own)) hq.1)
       one.rest in
       record {
-        names = ap₂ (λ x xs. x ∷ xs) one.name rest.names;
+        names = sym (own_and_later f ns) ∙ ap₂ (λ x y. x ++ y) one.names rest.names ∙ own_and_later g ms;
         commands = ap₂ (λ x xs. x ∷ xs) one.form rest.commands;
         statement = rest.statement;
       }
@@ -222,8 +265,8 @@ module _ (P Q : List Name) (np nq : Store) (sp sq : Statement)
 pub same_lexemes : (p q : Source) (ks ls : List Sketch) → IsWellFormed p → IsWellFormed q → AreSketches p.commands ks → AreSketches q.commands ls
     → flat_map (λ line. line) (line_lexemes ks p) ≡ flat_map (λ line. line) (line_lexemes ls q) → SameSource p q
 same_lexemes p q ks ls hp hq kp kq h =
-    let left = lines_read p.names q.names p.nodes q.nodes p.statement q.statement hp.names hp.differ hp.statement hq.statement []
-    (together p.nodes empty_scope p.names p.commands ks hp.commands kp) (together q.nodes empty_scope q.names q.commands ls hq.commands kq)
+    let left = lines_read p.names q.names p.nodes q.nodes p.statement q.statement hp.names hp.differ hp.statement hq.statement [] p.names q.names
+    (together p.commands ks kp) (together q.commands ls kq)
     refl refl hp.commands hq.commands h in
     record { names = left.names; commands = left.commands; statement = left.statement }
 

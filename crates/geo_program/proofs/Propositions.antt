@@ -2,11 +2,13 @@
 use Rattle.std.proofs.Common.{ℕ, Bool, true, false, List, [], ◌∷◌}
 use Rattle.std.specs.Prelude.{All}
 use Rattle.std.proofs.Math.Bool.{Bool-set}
+use Rattle.std.proofs.Math.Nat.{ℕ_set}
 use Rattle.std.proofs.Math.Bridge.{le_prop}
 use Rattle.std.proofs.Math.Logic.{∥∥₁_elim}
+use mathlib.Core.List.{is_set as List-set}
 use mathlib.Core.Sum.{⊎_set}
 use Rattle.geo_program.specs.declared.commands.Command.{Command}
-use Rattle.geo_program.specs.declared.commands.Command.TheVariants.{Pratio, Tratio, Lratio}
+use Rattle.geo_program.specs.declared.commands.Command.TheVariants.{Pratio, Tratio, Lratio, Weights}
 use Rattle.geo_program.specs.declared.names.Name.{Name}
 use Rattle.geo_program.specs.declared.names.NameKind.{NameKind}
 use Rattle.geo_program.specs.declared.program_type.Program.{Program}
@@ -15,7 +17,7 @@ use Rattle.geo_program.specs.declared.statements.Statement.TheVariants as statem
 use Rattle.geo_program.specs.Expressions.{IsExpression}
 use Rattle.geo_program.specs.Forms.{Argument, point_argument, line_argument, number_argument, side_argument, command_form, IsStored, AreSidesStored}
 use Rattle.geo_program.specs.Programs.{source_of}
-use Rattle.geo_program.specs.WellFormed.{AllDiffer, AreCommands, IsArgument, IsCommand, IsWellFormed, Scope, Source, declare, empty_scope}
+use Rattle.geo_program.specs.WellFormed.{AllDiffer, AreCommands, IsArgument, IsCommand, IsWellFormed, Scope, Source, empty_scope, later_names, own_names, scope_of}
 use Rattle.geo_program.specs.Words.{IsNameText}
 use Rattle.geo_terms.specs.Stores.{Store}
 use Rattle.geo_terms.specs.Trees.{Tree, integer_leaf, parameter_leaf, area_leaf, pythagoras_leaf, ratio_leaf, negation, addition, subtraction, multiplication, division}
@@ -48,20 +50,30 @@ IsStored-prop : (nodes : Store) (command : Command) → IsProp (IsStored nodes c
 IsStored-prop nodes (Pratio w u v r) = hlevel le_prop
 IsStored-prop nodes (Tratio u v r) = hlevel le_prop
 IsStored-prop nodes (Lratio a b r) = hlevel le_prop
+IsStored-prop nodes (Weights a b c r s) = hlevel le_prop
 IsStored-prop nodes _ = hlevel
 
 NameKind-set : IsSet NameKind
 NameKind-set = hlevel ⊎_set
 
-pub IsCommand-prop : (nodes : Store) (s : Scope) (name : Name) (command : Command) → IsProp (IsCommand nodes s name command)
-IsCommand-prop nodes s name command = hlevel (NameKind-set, arguments_prop s (command_form nodes command).arguments, IsStored-prop nodes command)
+kinds_set : IsSet (List NameKind)
+kinds_set = List-set NameKind-set
+
+Name-set : IsSet Name
+Name-set = hlevel (List-set, ℕ_set, NameKind-set)
+
+names_set : IsSet (List Name)
+names_set = List-set Name-set
+
+pub IsCommand-prop : (nodes : Store) (s : Scope) (own : List Name) (command : Command) → IsProp (IsCommand nodes s own command)
+IsCommand-prop nodes s own command = hlevel (kinds_set, arguments_prop s (command_form nodes command).arguments, IsStored-prop nodes command)
 
 AreCommands-prop : (nodes : Store) (s : Scope) (names : List Name) (commands : List Command) → IsProp (AreCommands nodes s names commands)
-AreCommands-prop nodes s [] [] = hlevel
-AreCommands-prop nodes s [] (command ∷ commands) = hlevel
-AreCommands-prop nodes s (name ∷ names) [] = hlevel
-AreCommands-prop nodes s (name ∷ names) (command ∷ commands) =
-    hlevel (IsCommand-prop nodes s name command, AreCommands-prop nodes (declare name.kind s) names commands)
+AreCommands-prop nodes s names [] = hlevel names_set
+AreCommands-prop nodes s names (command ∷ commands) =
+    let own = own_names (command_form nodes command) names in
+    let later = later_names (command_form nodes command) names in
+    hlevel (IsCommand-prop nodes s own command, AreCommands-prop nodes (scope_of s own) later commands)
 
 AllDiffer-prop : (names : List Name) → IsProp (AllDiffer names)
 AllDiffer-prop [] = hlevel

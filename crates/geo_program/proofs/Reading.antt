@@ -14,21 +14,11 @@ use Rattle.geo_program.specs.Names.{name_text, names_of}
 use Rattle.geo_program.specs.WellFormed.{AllDiffer}
 use Rattle.geo_program.specs.Words.{IsNameText, command_words, expression_words, reserved_words, statement_words}
 use Rattle.geo_program.proofs.OnceNamed.{same_number}
-use Rattle.geo_program.proofs.Standing.{All-names_of, both}
+use Rattle.geo_program.proofs.Standing.{All-names_of}
+use Rattle.geo_program.proofs.WordPlaces.{both, place_of, same_text}
 use Rattle.geo_terms.specs.Trees.{Tree, integer_leaf, parameter_leaf, area_leaf, pythagoras_leaf, ratio_leaf, negation, addition, subtraction, multiplication, division}
 
 -- WORDS IN A TABLE
-
--- two texts are the same
-abbrev pub same_text : List ℕ → List ℕ → Bool
-same_text [] [] = true
-same_text (x ∷ xs) (y ∷ ys) = eqb x y && same_text xs ys
-same_text _ _ = false
-
--- the place of a word in a table, or the table's length
-abbrev pub place_of : List ℕ → List (List ℕ) → ℕ
-place_of word [] = 0
-place_of word (w ∷ words) = if same_text word w then 0 else suc (place_of word words)
 
 same_text-true : (x y : List ℕ) → same_text x y ≡ true → x ≡ y
 same_text-true [] [] h = refl
@@ -89,7 +79,7 @@ line_same a b h = ap (λ k. record { 0 = k }) h
 -- a word that begins an expression is reserved
 reserved_expression_word : (word : List ℕ) → Contains expression_words word → Contains reserved_words word
 reserved_expression_word word found =
-    Contains-append_left (command_words ++ statement_words ++ expression_words) (codes "prove" ∷ codes "assume" ∷ codes "weights" ∷ []) word
+    Contains-append_left (command_words ++ statement_words ++ expression_words) (codes "prove" ∷ []) word
     (Contains-append_right (command_words ++ statement_words) expression_words word found)
 
 -- a part between braces is read in one way, where the part is

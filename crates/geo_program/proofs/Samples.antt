@@ -14,7 +14,7 @@ use Rattle.geo_program.specs.WellFormed.{AllDiffer, IsArgument, IsCommand, IsWel
 use Rattle.geo_program.specs.Spelling.{SpellsSource}
 use Rattle.geo_program.specs.Words.{IsNameText, reserved_words}
 use Rattle.geo_program.proofs.LinesSpelt.{well_formed_is_spelt}
-use Rattle.geo_program.proofs.Reading.{place_of, same_text}
+use Rattle.geo_program.proofs.WordPlaces.{place_of, same_text}
 use Rattle.geo_program.proofs.Standing.{IsWord-tested, is_word}
 use Rattle.geo_terms.specs.Stores.{Store}
 
@@ -69,10 +69,10 @@ name_text text word free =
     record { first = w.first; rest = w.all; short = w.short; free = absent text reserved_words free }
 
 -- a command without arguments
-plain_command : (s : Scope) (b : ℕ) → IsCommand [] s (point_name b) Point
+plain_command : (s : Scope) (b : ℕ) → IsCommand [] s (point_name b ∷ []) Point
 plain_command s b = record { named = refl; arguments = All-nil (IsArgument s); stored = tt }
 
-midpoint_command : (s : Scope) (b : ℕ) → 1 < s.points → IsCommand [] s (point_name b) (Midpoint (number 0) (number 1))
+midpoint_command : (s : Scope) (b : ℕ) → 1 < s.points → IsCommand [] s (point_name b ∷ []) (Midpoint (number 0) (number 1))
 midpoint_command s b h = record {
   named = refl;
   arguments = All-from_recursion (IsArgument s) (point_argument (number 0) ∷ point_argument (number 1) ∷ []) (omega arith, (h, tt));
@@ -99,7 +99,7 @@ midpoint_well_formed = record {
     plain_command empty_scope 65,
     (
       plain_command (declare kind.Point empty_scope) 66,
-      (midpoint_command (declare kind.Point (declare kind.Point empty_scope)) 77 (lit< tt), tt),
+      (midpoint_command (declare kind.Point (declare kind.Point empty_scope)) 77 (lit< tt), refl),
     ),
   );
   few = lit≤ tt;

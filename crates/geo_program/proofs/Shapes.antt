@@ -1,6 +1,8 @@
--- A command's or a statement's word tells all of its form but the arguments, of which it tells the kinds.
-use Rattle.std.proofs.Common.{◌≡◌, ℕ, false, List, [], ◌∷◌, map, eqb, get_or, refl, sym, ap, ◌∙◌}
+-- The words of a command or a statement tell all of its form but the arguments, of which they tell the kinds.
+use Rattle.std.proofs.Common.{◌≡◌, ℕ, zero, suc, Bool, true, false, not, List, [], ◌∷◌, ◌++◌, map, get_or, drop, Option, Some, None, is_some, refl, sym, ap, ap₂, subst, ◌∙◌}
 use Rattle.std.specs.Prelude.{codes}
+use Rattle.std.specs.List.{list_all}
+use Rattle.std.proofs.lemmas.Bool.{false≢true}
 use Rattle.geo_program.specs.declared.commands.Command.{Command}
 use Rattle.geo_program.specs.declared.commands.Command.TheVariants as command
 use Rattle.geo_program.specs.declared.names.NameKind.{NameKind}
@@ -9,7 +11,7 @@ use Rattle.geo_program.specs.declared.statements.Statement.{Statement}
 use Rattle.geo_program.specs.declared.statements.Statement.TheVariants as statement
 use Rattle.geo_program.specs.Forms.{Argument, CommandForm, point_argument, line_argument, number_argument, side_argument, command_form, statement_form}
 use Rattle.geo_program.specs.Words.{command_words, statement_words}
-use Rattle.geo_program.proofs.Reading.{place_of}
+use Rattle.geo_program.proofs.WordPlaces.{both, place_of, same_text}
 use Rattle.geo_terms.specs.Stores.{Store}
 
 -- the kind of an argument: 0 is a point, 1 a line, 2 a number and 3 a side
@@ -19,48 +21,77 @@ argument_kind (line_argument a) = 1
 argument_kind (number_argument e) = 2
 argument_kind (side_argument e) = 3
 
--- all of a form but the word and the arguments themselves
+-- all of a form but the arguments themselves, of which it has the kinds
 pub record Shape : Type 0 where
-  pub named : NameKind
+  pub word : List ℕ
+  pub condition : Option (List ℕ)
+  pub made : Option NameKind
   pub points : ℕ
   pub arguments : List ℕ
 
-abbrev pub shape : NameKind → ℕ → List ℕ → Shape
-shape named points arguments = record { named = named; points = points; arguments = arguments }
+-- the shape of a command with a new name, and that of an assumption
+abbrev making : List ℕ → NameKind → ℕ → List ℕ → Shape
+making word kind points arguments = record { word = word; condition = None; made = Some kind; points = points; arguments = arguments }
+
+abbrev assuming : List ℕ → List ℕ → Shape
+assuming condition arguments = record { word = codes "assume"; condition = Some condition; made = None; points = 0; arguments = arguments }
 
 abbrev pub shape_of : CommandForm → Shape
-shape_of f = shape f.kind f.points (map argument_kind f.arguments)
+shape_of f = record { word = f.word; condition = f.condition; made = f.made; points = f.points; arguments = map argument_kind f.arguments }
 
--- the shapes of commands, in the order of their words
+-- the word that tells the shape: that of the condition that is assumed, or else the command's
+abbrev pub key : List ℕ → Option (List ℕ) → List ℕ
+key word None = word
+key word (Some condition) = condition
+
+-- the words of commands that have a new name, and those of conditions
+abbrev keys : List (List ℕ)
+keys =
+    drop 1 command_words ++ codes "different" ∷ codes "not_collinear" ∷ codes "not_parallel" ∷ []
+
+-- the word is `assume` just where there is a condition
+abbrev tells : List ℕ → Option (List ℕ) → Bool
+tells word None = not (same_text word (codes "assume"))
+tells word (Some condition) = same_text word (codes "assume")
+
+-- the shapes, in the order of these words
 abbrev pub command_shapes : List Shape
 command_shapes =
-    shape kind.Point 1 ([]) ∷
-    shape kind.Param 0 ([]) ∷
-    shape kind.Line 0 (0 ∷ 0 ∷ []) ∷
-    shape kind.Line 1 (0 ∷ 1 ∷ []) ∷
-    shape kind.Line 2 (0 ∷ 1 ∷ []) ∷
-    shape kind.Line 2 (0 ∷ 0 ∷ []) ∷
-    shape kind.Point 1 (1 ∷ 1 ∷ []) ∷
-    shape kind.Point 1 (0 ∷ 0 ∷ 0 ∷ 0 ∷ []) ∷
-    shape kind.Point 1 (0 ∷ 0 ∷ 0 ∷ []) ∷
-    shape kind.Point 1 (0 ∷ 0 ∷ 0 ∷ 2 ∷ []) ∷
-    shape kind.Point 1 (0 ∷ 0 ∷ 2 ∷ []) ∷
-    shape kind.Point 1 (0 ∷ 0 ∷ []) ∷
-    shape kind.Point 1 (0 ∷ 0 ∷ 2 ∷ []) ∷
-    shape kind.Point 1 (0 ∷ 0 ∷ []) ∷
-    shape kind.Point 1 (0 ∷ 0 ∷ 0 ∷ []) ∷
-    shape kind.Point 1 (0 ∷ 0 ∷ []) ∷
-    shape kind.Point 2 (0 ∷ 0 ∷ 0 ∷ []) ∷
-    shape kind.Point 5 (0 ∷ 0 ∷ 0 ∷ []) ∷
-    shape kind.Point 3 (0 ∷ 0 ∷ 0 ∷ []) ∷
-    shape kind.Point 2 (0 ∷ 0 ∷ 0 ∷ []) ∷
-    shape kind.Point 3 (0 ∷ 0 ∷ []) ∷
-    shape kind.Point 2 (0 ∷ 0 ∷ 0 ∷ []) ∷
-    shape kind.Point 2 (0 ∷ 0 ∷ 0 ∷ []) ∷
-    shape kind.Point 1 (0 ∷ 0 ∷ 0 ∷ []) ∷ []
+    making (codes "point") kind.Point 1 ([]) ∷
+    making (codes "param") kind.Param 0 ([]) ∷
+    making (codes "line") kind.Line 0 (0 ∷ 0 ∷ []) ∷
+    making (codes "parallel") kind.Line 1 (0 ∷ 1 ∷ []) ∷
+    making (codes "perp") kind.Line 2 (0 ∷ 1 ∷ []) ∷
+    making (codes "med") kind.Line 2 (0 ∷ 0 ∷ []) ∷
+    making (codes "intersec") kind.Point 1 (1 ∷ 1 ∷ []) ∷
+    making (codes "inter") kind.Point 1 (0 ∷ 0 ∷ 0 ∷ 0 ∷ []) ∷
+    making (codes "foot") kind.Point 1 (0 ∷ 0 ∷ 0 ∷ []) ∷
+    making (codes "pratio") kind.Point 1 (0 ∷ 0 ∷ 0 ∷ 2 ∷ []) ∷
+    making (codes "tratio") kind.Point 1 (0 ∷ 0 ∷ 2 ∷ []) ∷
+    making (codes "online") kind.Point 1 (0 ∷ 0 ∷ []) ∷
+    making (codes "lratio") kind.Point 1 (0 ∷ 0 ∷ 2 ∷ []) ∷
+    making (codes "midpoint") kind.Point 1 (0 ∷ 0 ∷ []) ∷
+    making (codes "translate") kind.Point 1 (0 ∷ 0 ∷ 0 ∷ []) ∷
+    making (codes "symmetric") kind.Point 1 (0 ∷ 0 ∷ []) ∷
+    making (codes "reflect") kind.Point 2 (0 ∷ 0 ∷ 0 ∷ []) ∷
+    making (codes "circumcenter") kind.Point 5 (0 ∷ 0 ∷ 0 ∷ []) ∷
+    making (codes "orthocenter") kind.Point 3 (0 ∷ 0 ∷ 0 ∷ []) ∷
+    making (codes "centroid") kind.Point 2 (0 ∷ 0 ∷ 0 ∷ []) ∷
+    making (codes "oncircle") kind.Point 3 (0 ∷ 0 ∷ []) ∷
+    making (codes "second") kind.Point 2 (0 ∷ 0 ∷ 0 ∷ []) ∷
+    making (codes "cc") kind.Point 2 (0 ∷ 0 ∷ 0 ∷ []) ∷
+    making (codes "inverse") kind.Point 1 (0 ∷ 0 ∷ 0 ∷ []) ∷
+    making (codes "weights") kind.Point 2 (0 ∷ 0 ∷ 0 ∷ 2 ∷ 2 ∷ []) ∷
+    assuming (codes "different") (0 ∷ 0 ∷ []) ∷
+    assuming (codes "not_collinear") (0 ∷ 0 ∷ 0 ∷ []) ∷
+    assuming (codes "not_parallel") (0 ∷ 0 ∷ 0 ∷ 0 ∷ []) ∷ []
+
+-- the first of them
+abbrev first_shape : Shape
+first_shape = making (codes "point") kind.Point 1 ([])
 
 -- the shape stands at the place of the word
-pub command_shape : (nodes : Store) (c : Command) → shape_of (command_form nodes c) ≡ get_or command_shapes (place_of (command_form nodes c).word command_words) (shape kind.Point 0 ([]))
+command_shape : (nodes : Store) (c : Command) → shape_of (command_form nodes c) ≡ get_or command_shapes (place_of (key (command_form nodes c).word (command_form nodes c).condition) keys) first_shape
 command_shape nodes command.Point = refl
 command_shape nodes command.Param = refl
 command_shape nodes (command.Line a b) = refl
@@ -85,40 +116,51 @@ command_shape nodes (command.Oncircle a b) = refl
 command_shape nodes (command.Second a b c) = refl
 command_shape nodes (command.Cc a b c) = refl
 command_shape nodes (command.Inverse a b c) = refl
+command_shape nodes (command.Weights a b c d e) = refl
+command_shape nodes (command.AssumeDifferent a b) = refl
+command_shape nodes (command.AssumeNotCollinear a b c) = refl
+command_shape nodes (command.AssumeNotParallel a b c d) = refl
 
--- no command begins with `prove`
-pub command_is_no_prove : (nodes : Store) (c : Command) → eqb (place_of (command_form nodes c).word command_words) (place_of (codes "prove") command_words) ≡ false
-command_is_no_prove nodes command.Point = refl
-command_is_no_prove nodes command.Param = refl
-command_is_no_prove nodes (command.Line a b) = refl
-command_is_no_prove nodes (command.Parallel a b) = refl
-command_is_no_prove nodes (command.Perp a b) = refl
-command_is_no_prove nodes (command.Med a b) = refl
-command_is_no_prove nodes (command.Intersec a b) = refl
-command_is_no_prove nodes (command.Inter a b c d) = refl
-command_is_no_prove nodes (command.Foot a b c) = refl
-command_is_no_prove nodes (command.Pratio a b c d) = refl
-command_is_no_prove nodes (command.Tratio a b c) = refl
-command_is_no_prove nodes (command.Online a b) = refl
-command_is_no_prove nodes (command.Lratio a b c) = refl
-command_is_no_prove nodes (command.Midpoint a b) = refl
-command_is_no_prove nodes (command.Translate a b c) = refl
-command_is_no_prove nodes (command.Symmetric a b) = refl
-command_is_no_prove nodes (command.Reflect a b c) = refl
-command_is_no_prove nodes (command.Circumcenter a b c) = refl
-command_is_no_prove nodes (command.Orthocenter a b c) = refl
-command_is_no_prove nodes (command.Centroid a b c) = refl
-command_is_no_prove nodes (command.Oncircle a b) = refl
-command_is_no_prove nodes (command.Second a b c) = refl
-command_is_no_prove nodes (command.Cc a b c) = refl
-command_is_no_prove nodes (command.Inverse a b c) = refl
-
--- so commands of one word have one shape
-pub same_shape : (nodes others : Store) (c d : Command) → (command_form nodes c).word ≡ (command_form others d).word → shape_of (command_form nodes c) ≡ shape_of (command_form others d)
-same_shape nodes others c d same =
+-- so commands of one word, or of one condition's word, have one shape
+pub same_shape : (nodes others : Store) (c d : Command) → (command_form nodes c).word ≡ (command_form others d).word → (command_form nodes c).condition ≡ (command_form others d).condition
+    → shape_of (command_form nodes c) ≡ shape_of (command_form others d)
+same_shape nodes others c d word condition =
     command_shape nodes c
-    ∙ ap (λ word. get_or command_shapes (place_of word command_words) (shape kind.Point 0 ([]))) same
+    ∙ ap₂ (λ w o. get_or command_shapes (place_of (key w o) keys) first_shape) word condition
     ∙ sym (command_shape others d)
+
+-- a test that all shapes pass is passed by the shape of each command
+passed_by : (test : Shape → Bool) (shapes : List Shape) (i : ℕ) (d : Shape) → list_all test shapes ≡ true → test d ≡ true → test (get_or shapes i d) ≡ true
+passed_by test [] zero d h own = own
+passed_by test [] (suc i) d h own = own
+passed_by test (s ∷ shapes) zero d h own = (both (test s) (list_all test shapes) h).0
+passed_by test (s ∷ shapes) (suc i) d h own = passed_by test shapes i d (both (test s) (list_all test shapes) h).1 own
+
+pub shapes_pass : (test : Shape → Bool) → list_all test command_shapes ≡ true → test first_shape ≡ true → (nodes : Store) (c : Command) → test (shape_of (command_form nodes c)) ≡ true
+shapes_pass test h own nodes c =
+    ap test (command_shape nodes c) ∙ passed_by test command_shapes (place_of (key (command_form nodes c).word (command_form nodes c).condition) keys) first_shape h own
+
+-- the word is not `prove`
+pub command_is_no_prove : (nodes : Store) (c : Command) → same_text (command_form nodes c).word (codes "prove") ≡ false
+command_is_no_prove nodes c = not_true _ (shapes_pass (λ s. not (same_text s.word (codes "prove"))) refl refl nodes c)
+  where
+    not_true : (b : Bool) → not b ≡ true → b ≡ false
+    not_true true h = absurd (false≢true h)
+    not_true false h = refl
+
+-- a condition stands behind `assume`, and behind no other word
+tells_condition : (nodes : Store) (c : Command) → tells (command_form nodes c).word (command_form nodes c).condition ≡ true
+tells_condition nodes c = shapes_pass (λ s. tells s.word s.condition) refl refl nodes c
+
+pub same_kind_of_condition : (nodes others : Store) (c d : Command) → (command_form nodes c).word ≡ (command_form others d).word → is_some (command_form nodes c).condition ≡ is_some (command_form others d).condition
+same_kind_of_condition nodes others c d same =
+    by (command_form nodes c).condition (command_form others d).condition (tells_condition nodes c) (subst (λ w. tells w (command_form others d).condition ≡ true) (sym same) (tells_condition others d))
+  where
+    by : (a b : Option (List ℕ)) → tells (command_form nodes c).word a ≡ true → tells (command_form nodes c).word b ≡ true → is_some a ≡ is_some b
+    by None None h k = refl
+    by (Some a) (Some b) h k = refl
+    by None (Some b) h k = absurd (false≢true (sym (ap not k) ∙ h))
+    by (Some a) None h k = absurd (false≢true (sym (ap not h) ∙ k))
 
 -- the kinds of the arguments of statements, in the order of their words
 abbrev pub statement_shapes : List (List ℕ)

@@ -71,6 +71,13 @@ pub flat_map-points : (names : List Name) (points : List PointId) (e : Tree) →
 flat_map-points names [] e = sym (append-nil (expression_lexemes names e))
 flat_map-points names (a ∷ points) e = ap (λ l. point_lexeme names a ∷ l) (flat_map-points names points e)
 
+-- points and the two numbers of a step, as arguments
+pub flat_map-numbers : (names : List Name) (points : List PointId) (r s : Tree)
+    → flat_map (argument_lexemes names) (map point_argument points ++ number_argument r ∷ []) ++ expression_lexemes names s
+    ≡ flat_map (argument_lexemes names) (map point_argument points ++ number_argument r ∷ number_argument s ∷ [])
+flat_map-numbers names [] r s = append_assoc (expression_lexemes names r) [] (expression_lexemes names s) ∙ ap (λ l. expression_lexemes names r ++ l) (sym (append-nil (expression_lexemes names s)))
+flat_map-numbers names (a ∷ points) r s = ap (λ l. point_lexeme names a ∷ l) (flat_map-numbers names points r s)
+
 -- points, as arguments
 pub points_spelt : (names : List Name) (points : List PointId) → map (point_lexeme names) points ≡ flat_map (argument_lexemes names) (map point_argument points)
 points_spelt names [] = refl

@@ -1,5 +1,5 @@
 -- The lexemes of a well-formed program may stand in a text.
-use Rattle.std.proofs.Common.{◌≡◌, ℕ, ◌<◌, Bool, true, false, ◌&&◌, List, [], ◌∷◌, ◌++◌, length, get_or, leb, refl, arith}
+use Rattle.std.proofs.Common.{◌≡◌, ℕ, ◌<◌, Bool, true, false, ◌&&◌, Option, Some, None, List, [], ◌∷◌, ◌++◌, length, map, get_or, leb, refl, arith}
 use Rattle.std.specs.Prelude.{All, codes}
 use Rattle.std.specs.List.{AllByRecursion, flat_map, list_all}
 use Rattle.std.proofs.lemmas.Bool.{leb-true}
@@ -9,13 +9,12 @@ use Rattle.geo_lexer.specs.Bytes.{is_letter, is_word_byte}
 use Rattle.geo_lexer.specs.Lexemes.{IsWord, Lexeme, MayStand, word_lexeme, close_brace}
 use Rattle.geo_points.specs.declared.ids.PointId.{PointId}
 use Rattle.geo_program.specs.declared.commands.Command.{Command}
-use Rattle.geo_program.specs.declared.commands.Command.TheVariants as command
 use Rattle.geo_program.specs.declared.names.Name.{Name}
 use Rattle.geo_program.specs.declared.names.NameKind.{NameKind}
 use Rattle.geo_program.specs.declared.names.NameKind.TheVariants.{Point, Param, Line}
 use Rattle.geo_program.specs.declared.statements.Statement.{Statement}
 use Rattle.geo_program.specs.declared.statements.Statement.TheVariants as statement
-use Rattle.geo_program.specs.CanonicalText.{argument_lexemes, command_lexemes, statement_lexemes}
+use Rattle.geo_program.specs.CanonicalText.{argument_lexemes, command_lexemes, condition_lexemes, statement_lexemes}
 use Rattle.geo_program.specs.Expressions.{IsExpression, braced, expression_lexemes, point_lexeme}
 use Rattle.geo_program.specs.Forms.{Argument, point_argument, line_argument, number_argument, side_argument, command_form, statement_form}
 use Rattle.geo_program.specs.Names.{is_kind, name_text, names_of}
@@ -23,7 +22,9 @@ use Rattle.geo_program.specs.Inner.Printing.{whole_scope}
 use Rattle.geo_program.specs.WellFormed.{IsArgument}
 use Rattle.geo_program.specs.Words.{IsNameText}
 use Rattle.geo_program.proofs.ScopeLemmas.{declared_of}
+use Rattle.geo_program.proofs.Shapes.{shapes_pass}
 use Rattle.geo_program.proofs.TableLemmas.{length-names_of}
+use Rattle.geo_program.proofs.WordPlaces.{both}
 use Rattle.geo_terms.specs.Stores.{Store}
 use Rattle.geo_terms.specs.Trees.{Tree, integer_leaf, parameter_leaf, area_leaf, pythagoras_leaf, ratio_leaf, negation, addition, subtraction, multiplication, division}
 
@@ -35,17 +36,16 @@ pub MayAllStand-append : (xs ys : List Lexeme) → MayAllStand xs → MayAllStan
 MayAllStand-append [] ys h k = k
 MayAllStand-append (x ∷ xs) ys h k = (h.0, MayAllStand-append xs ys h.1 k)
 
--- both parts of a test that passes
-pub both : (x y : Bool) → (x && y) ≡ true → (x ≡ true) × (y ≡ true)
-both true true h = (refl, refl)
-both true false h = absurd (cc)
-both false y h = absurd (cc)
-
 -- WORDS
 
 -- a test for words
 abbrev pub is_word : List ℕ → Bool
 is_word text = is_letter (get_or text 0 0) && list_all is_word_byte text && leb (length text) 64
+
+-- the same of the word of a condition
+abbrev is_word_or_none : Option (List ℕ) → Bool
+is_word_or_none None = true
+is_word_or_none (Some word) = is_word word
 
 pub IsWord-tested : (text : List ℕ) → is_word text ≡ true → IsWord text
 IsWord-tested text h =
@@ -59,30 +59,10 @@ IsWord-name text h = record { first = h.first; all = h.rest; short = h.short }
 
 -- the words of commands and statements
 command_word : (nodes : Store) (c : Command) → is_word (command_form nodes c).word ≡ true
-command_word nodes command.Point = refl
-command_word nodes command.Param = refl
-command_word nodes (command.Line a b) = refl
-command_word nodes (command.Parallel a b) = refl
-command_word nodes (command.Perp a b) = refl
-command_word nodes (command.Med a b) = refl
-command_word nodes (command.Intersec a b) = refl
-command_word nodes (command.Inter a b c d) = refl
-command_word nodes (command.Foot a b c) = refl
-command_word nodes (command.Pratio a b c d) = refl
-command_word nodes (command.Tratio a b c) = refl
-command_word nodes (command.Online a b) = refl
-command_word nodes (command.Lratio a b c) = refl
-command_word nodes (command.Midpoint a b) = refl
-command_word nodes (command.Translate a b c) = refl
-command_word nodes (command.Symmetric a b) = refl
-command_word nodes (command.Reflect a b c) = refl
-command_word nodes (command.Circumcenter a b c) = refl
-command_word nodes (command.Orthocenter a b c) = refl
-command_word nodes (command.Centroid a b c) = refl
-command_word nodes (command.Oncircle a b) = refl
-command_word nodes (command.Second a b c) = refl
-command_word nodes (command.Cc a b c) = refl
-command_word nodes (command.Inverse a b c) = refl
+command_word nodes c = shapes_pass (λ s. is_word s.word) refl refl nodes c
+
+condition_word : (nodes : Store) (c : Command) → is_word_or_none (command_form nodes c).condition ≡ true
+condition_word nodes c = shapes_pass (λ s. is_word_or_none s.condition) refl refl nodes c
 
 pub statement_word : (nodes : Store) (s : Statement) → is_word (statement_form nodes s).word ≡ true
 statement_word nodes (statement.Equal a b) = refl
@@ -150,9 +130,22 @@ module _ (names : List Name) (valid : All (λ n. IsNameText n.text) names) where
   arguments_stand (x ∷ arguments) h =
       MayAllStand-append (argument_lexemes names x) (flat_map (argument_lexemes names) arguments) (argument_stands x h.0) (arguments_stand arguments h.1)
 
-  pub command_stands : (nodes : Store) (name : Name) (c : Command) → IsNameText name.text → AllByRecursion (IsArgument (whole_scope names)) (command_form nodes c).arguments → MayAllStand (command_lexemes names nodes name c)
-  command_stands nodes name c named h =
-      (IsWord-tested (command_form nodes c).word (command_word nodes c), (IsWord-name name.text named, arguments_stand (command_form nodes c).arguments h))
+  condition_stands : (condition : Option (List ℕ)) → is_word_or_none condition ≡ true → MayAllStand (condition_lexemes condition)
+  condition_stands None h = tt
+  condition_stands (Some word) h = (IsWord-tested word h, tt)
+
+  names_stand : (own : List Name) → All (λ n. IsNameText n.text) own → MayAllStand (map (λ name. word_lexeme name.text) own)
+  names_stand [] h = tt
+  names_stand (n ∷ own) h = (IsWord-name n.text (All-head (λ n. IsNameText n.text) n own h), names_stand own (All-tail (λ n. IsNameText n.text) n own h))
+
+  pub command_stands : (nodes : Store) (own : List Name) (c : Command) → All (λ n. IsNameText n.text) own → AllByRecursion (IsArgument (whole_scope names)) (command_form nodes c).arguments → MayAllStand (command_lexemes names nodes own c)
+  command_stands nodes own c named h =
+      let f = command_form nodes c in
+      let texts = map (λ (name : Name). word_lexeme name.text) own in
+      let behind = MayAllStand-append texts (flat_map (argument_lexemes names) f.arguments) (names_stand own named) (arguments_stand f.arguments h) in (
+        IsWord-tested f.word (command_word nodes c),
+        MayAllStand-append (condition_lexemes f.condition) (texts ++ flat_map (argument_lexemes names) f.arguments) (condition_stands f.condition (condition_word nodes c)) behind,
+      )
 
   pub statement_stands : (nodes : Store) (s : Statement) → AllByRecursion (IsArgument (whole_scope names)) (statement_form nodes s).arguments → MayAllStand (statement_lexemes names nodes s)
   statement_stands nodes s h =

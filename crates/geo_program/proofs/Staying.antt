@@ -1,5 +1,5 @@
 -- What stays when names and nodes are added.
-use Rattle.std.proofs.Common.{◌≡◌, ℕ, ◌<◌, ◌≤◌, Bool, true, false, List, [], ◌∷◌, ◌++◌, length, refl, sym, ap, ap₂, subst, ◌∙◌, arith, length-append}
+use Rattle.std.proofs.Common.{◌≡◌, ℕ, ◌<◌, ◌≤◌, Bool, true, false, List, [], ◌∷◌, ◌++◌, length, map, refl, sym, ap, ap₂, subst, ◌∙◌, arith, length-append}
 use Rattle.std.specs.Prelude.{All, codes}
 use Rattle.std.specs.List.{flat_map}
 use Rattle.std.proofs.lemmas.List.Elements.{All-head, All-tail}
@@ -7,16 +7,16 @@ use Rattle.geo_lexer.specs.Lexemes.{Lexeme, word_lexeme}
 use Rattle.geo_points.specs.declared.ids.PointId.{PointId}
 use Rattle.geo_points.specs.declared.ids.TermId.{TermId}
 use Rattle.geo_program.specs.declared.commands.Command.{Command}
-use Rattle.geo_program.specs.declared.commands.Command.TheVariants.{Pratio, Tratio, Lratio}
+use Rattle.geo_program.specs.declared.commands.Command.TheVariants.{Pratio, Tratio, Lratio, Weights}
 use Rattle.geo_program.specs.declared.names.Name.{Name}
 use Rattle.geo_program.specs.declared.names.NameKind.TheVariants.{Point, Param, Line}
 use Rattle.geo_program.specs.declared.statements.Statement.{Statement}
 use Rattle.geo_program.specs.declared.statements.Statement.TheVariants as statement
-use Rattle.geo_program.specs.CanonicalText.{argument_lexemes, command_lexemes, statement_lexemes}
+use Rattle.geo_program.specs.CanonicalText.{argument_lexemes, command_lexemes, condition_lexemes, statement_lexemes}
 use Rattle.geo_program.specs.Expressions.{IsExpression, braced, expression_lexemes, point_lexeme}
 use Rattle.geo_program.specs.Forms.{Argument, point_argument, line_argument, number_argument, side_argument, CommandForm, command_form, form, statement_form, IsStored, AreSidesStored}
 use Rattle.geo_program.specs.Names.{names_of}
-use Rattle.geo_program.specs.WellFormed.{AreCommands, IsArgument, IsCommand, Scope, declare, empty_scope, scope_of}
+use Rattle.geo_program.specs.WellFormed.{AreCommands, IsArgument, IsCommand, Scope, empty_scope, kinds_made, later_names, own_names, scope_of}
 use Rattle.geo_program.proofs.NameLemmas.{name_text-append}
 use Rattle.geo_program.proofs.ScopeLemmas.{points_declared, params_declared, lines_declared}
 use Rattle.geo_terms.specs.Stores.{Store, tree_of}
@@ -72,9 +72,9 @@ module _ (names more : List Name) where
       (arguments_lexemes-append arguments (All-tail (IsArgument (scope_of empty_scope names)) x arguments h))
 
 -- a command whose arguments are over these names is spelt the same with more names
-pub command_lexemes-append : (names more : List Name) (nodes : Store) (name : Name) (command : Command) → IsCommand nodes (scope_of empty_scope names) name command → command_lexemes (names ++ more) nodes name command ≡ command_lexemes names nodes name command
-command_lexemes-append names more nodes name command h =
-    ap (λ l. word_lexeme (command_form nodes command).word ∷ word_lexeme name.text ∷ l)
+pub command_lexemes-append : (names more : List Name) (nodes : Store) (own : List Name) (command : Command) → IsCommand nodes (scope_of empty_scope names) own command → command_lexemes (names ++ more) nodes own command ≡ command_lexemes names nodes own command
+command_lexemes-append names more nodes own command h =
+    ap (λ l. word_lexeme (command_form nodes command).word ∷ condition_lexemes (command_form nodes command).condition ++ (map (λ (name : Name). word_lexeme name.text) own ++ l))
     (arguments_lexemes-append names more (command_form nodes command).arguments h.arguments)
 
 -- the same of a statement
@@ -107,12 +107,15 @@ module _ (nodes wider : Store) (kept : KeepsTrees nodes wider) where
   command_form-kept (Pratio w u v r) h = ap (λ t. form (codes "pratio") Point 1 (point_argument w ∷ point_argument u ∷ point_argument v ∷ number_argument t ∷ [])) (kept.trees r h)
   command_form-kept (Tratio u v r) h = ap (λ t. form (codes "tratio") Point 1 (point_argument u ∷ point_argument v ∷ number_argument t ∷ [])) (kept.trees r h)
   command_form-kept (Lratio a b r) h = ap (λ t. form (codes "lratio") Point 1 (point_argument a ∷ point_argument b ∷ number_argument t ∷ [])) (kept.trees r h)
+  command_form-kept (Weights a b c r s) h =
+      ap₂ (λ t u. form (codes "weights") Point 2 (point_argument a ∷ point_argument b ∷ point_argument c ∷ number_argument t ∷ number_argument u ∷ [])) (kept.trees r h.0) (kept.trees s h.1)
   command_form-kept _ h = refl
 
   pub IsStored-kept : (command : Command) → IsStored nodes command → IsStored wider command
   IsStored-kept (Pratio w u v r) h = omega (arith, kept.longer)
   IsStored-kept (Tratio u v r) h = omega (arith, kept.longer)
   IsStored-kept (Lratio a b r) h = omega (arith, kept.longer)
+  IsStored-kept (Weights a b c r s) h = (omega (arith, kept.longer, h.0), omega (arith, kept.longer, h.1))
   IsStored-kept _ h = tt
 
   pub statement_form-kept : (s : Statement) → AreSidesStored nodes s → statement_form wider s ≡ statement_form nodes s
@@ -124,24 +127,26 @@ module _ (nodes wider : Store) (kept : KeepsTrees nodes wider) where
   AreSidesStored-kept (statement.Equal e f) h = (omega (arith, kept.longer, h.0), omega (arith, kept.longer, h.1))
   AreSidesStored-kept _ h = tt
 
-  pub IsCommand-kept : (s : Scope) (name : Name) (command : Command) → IsCommand nodes s name command → IsCommand wider s name command
-  IsCommand-kept s name command h =
+  pub IsCommand-kept : (s : Scope) (own : List Name) (command : Command) → IsCommand nodes s own command → IsCommand wider s own command
+  IsCommand-kept s own command h =
       let same = command_form-kept command h.stored in record {
-        named = h.named ∙ sym (ap (λ f. f.kind) same);
+        named = h.named ∙ sym (ap kinds_made same);
         arguments = subst (λ (f : CommandForm). All (IsArgument s) f.arguments) (sym same) h.arguments;
         stored = IsStored-kept command h.stored;
       }
 
   pub AreCommands-kept : (s : Scope) (names : List Name) (commands : List Command) → AreCommands nodes s names commands → AreCommands wider s names commands
-  AreCommands-kept s [] [] h = tt
-  AreCommands-kept s [] (command ∷ commands) h = h
-  AreCommands-kept s (name ∷ names) [] h = h
-  AreCommands-kept s (name ∷ names) (command ∷ commands) h =
-      (IsCommand-kept s name command h.0, AreCommands-kept (declare name.kind s) names commands h.1)
+  AreCommands-kept s names [] h = h
+  AreCommands-kept s names (command ∷ commands) h =
+      let f = command_form nodes command in
+      let rest : AreCommands wider (scope_of s (own_names f names)) (later_names f names) commands =
+      AreCommands-kept (scope_of s (own_names f names)) (later_names f names) commands h.1 in
+      subst (λ (g : CommandForm). IsCommand wider s (own_names g names) command × AreCommands wider (scope_of s (own_names g names)) (later_names g names) commands)
+      (sym (command_form-kept command h.0.stored)) (IsCommand-kept s (own_names f names) command h.0, rest)
 
-  pub command_lexemes-kept : (names : List Name) (name : Name) (command : Command) → IsStored nodes command → command_lexemes names wider name command ≡ command_lexemes names nodes name command
-  command_lexemes-kept names name command h =
-      ap (λ f. word_lexeme f.word ∷ word_lexeme name.text ∷ flat_map (argument_lexemes names) f.arguments) (command_form-kept command h)
+  pub command_lexemes-kept : (names own : List Name) (command : Command) → IsStored nodes command → command_lexemes names wider own command ≡ command_lexemes names nodes own command
+  command_lexemes-kept names own command h =
+      ap (λ f. word_lexeme f.word ∷ condition_lexemes f.condition ++ (map (λ (name : Name). word_lexeme name.text) own ++ flat_map (argument_lexemes names) f.arguments)) (command_form-kept command h)
 
   pub statement_lexemes-kept : (names : List Name) (s : Statement) → AreSidesStored nodes s → statement_lexemes names wider s ≡ statement_lexemes names nodes s
   statement_lexemes-kept names s h =

@@ -10,7 +10,7 @@ use Rattle.geo_program.specs.declared.statements.Statement.{Statement}
 use Rattle.geo_program.specs.Expressions.{braced, expression_lexemes}
 use Rattle.geo_program.specs.Forms.{Argument, point_argument, line_argument, number_argument, side_argument, command_form, statement_form}
 use Rattle.geo_program.specs.Names.{name_text}
-use Rattle.geo_program.specs.WellFormed.{Source}
+use Rattle.geo_program.specs.WellFormed.{Source, own_names, later_names}
 use Rattle.geo_terms.specs.Stores.{Store}
 
 -- the spelling of an argument
@@ -29,16 +29,22 @@ abbrev pub sketch_lexemes : Sketch → List Lexeme
 sketch_lexemes None = []
 sketch_lexemes (Some (m, n)) = number_lexeme m ∷ number_lexeme n ∷ []
 
--- a command that makes what has this name
-abbrev pub command_lexemes : List Name → Store → Name → Command → List Lexeme
-command_lexemes names nodes name command =
-    word_lexeme (command_form nodes command).word ∷ word_lexeme name.text
-    ∷ flat_map (argument_lexemes names) (command_form nodes command).arguments
+-- the word of a condition that is assumed
+abbrev pub condition_lexemes : Option (List ℕ) → List Lexeme
+condition_lexemes None = []
+condition_lexemes (Some word) = word_lexeme word ∷ []
+
+-- a command with its own name, if it makes one
+abbrev pub command_lexemes : List Name → Store → List Name → Command → List Lexeme
+command_lexemes names nodes own command =
+    word_lexeme (command_form nodes command).word ∷ condition_lexemes (command_form nodes command).condition
+    ++ (map (λ name. word_lexeme name.text) own ++ flat_map (argument_lexemes names) (command_form nodes command).arguments)
 
 -- the commands, each with the numbers that follow it
 abbrev pub commands_lexemes : List Name → Store → List Name → List Command → List Sketch → List (List Lexeme)
-commands_lexemes all nodes (name ∷ names) (command ∷ commands) (sketch ∷ sketches) =
-    (command_lexemes all nodes name command ++ sketch_lexemes sketch) ∷ commands_lexemes all nodes names commands sketches
+commands_lexemes all nodes names (command ∷ commands) (sketch ∷ sketches) =
+    (command_lexemes all nodes (own_names (command_form nodes command) names) command ++ sketch_lexemes sketch)
+    ∷ commands_lexemes all nodes (later_names (command_form nodes command) names) commands sketches
 commands_lexemes all nodes _ _ _ = []
 
 -- `prove { .. }`

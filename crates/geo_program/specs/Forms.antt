@@ -1,8 +1,8 @@
 -- What stands in a command and in a statement.
-use Rattle.std.specs.Prelude.{ℕ, ◌<◌, codes, List, [], ◌∷◌, length, map}
+use Rattle.std.specs.Prelude.{ℕ, ◌<◌, codes, Option, Some, None, List, [], ◌∷◌, length, map}
 use Rattle.geo_points.specs.declared.ids.PointId.{PointId}
 use Rattle.geo_program.specs.declared.commands.Command.{Command}
-use Rattle.geo_program.specs.declared.commands.Command.TheVariants.{Point, Param, Line, Parallel, Perp, Med, Intersec, Inter, Foot, Pratio, Tratio, Online, Lratio, Midpoint, Translate, Symmetric, Reflect, Circumcenter, Orthocenter, Centroid, Oncircle, Second, Cc, Inverse}
+use Rattle.geo_program.specs.declared.commands.Command.TheVariants.{Point, Param, Line, Parallel, Perp, Med, Intersec, Inter, Foot, Pratio, Tratio, Online, Lratio, Midpoint, Translate, Symmetric, Reflect, Circumcenter, Orthocenter, Centroid, Oncircle, Second, Cc, Inverse, Weights, AssumeDifferent, AssumeNotCollinear, AssumeNotParallel}
 use Rattle.geo_program.specs.declared.commands.LineId.{LineId}
 use Rattle.geo_program.specs.declared.names.NameKind.{NameKind}
 use Rattle.geo_program.specs.declared.names.NameKind.TheVariants as kind
@@ -18,16 +18,24 @@ pub data Argument : Type 0 where
   number_argument : Tree → Argument
   side_argument : Tree → Argument
 
--- a command's word, what its new name names, how many points its construction adds, and what stands behind the name
+-- a command's word, the word of the condition that it assumes, if it does, what its new name names, if it has one, how many points its
+-- construction adds, and what stands behind
 pub record CommandForm : Type 0 where
   pub word : List ℕ
-  pub kind : NameKind
+  pub condition : Option (List ℕ)
+  pub made : Option NameKind
   pub points : ℕ
   pub arguments : List Argument
 
--- a form, by its parts
+-- the form of a command with a new name, by its parts
 abbrev pub form : List ℕ → NameKind → ℕ → List Argument → CommandForm
-form word named points arguments = record { word = word; kind = named; points = points; arguments = arguments }
+form word named points arguments =
+    record { word = word; condition = None; made = Some named; points = points; arguments = arguments }
+
+-- the form of the assumption that the condition with this word holds, which makes nothing
+abbrev pub assumption : List ℕ → List PointId → CommandForm
+assumption condition points =
+    record { word = codes "assume"; condition = Some condition; made = None; points = 0; arguments = map point_argument points }
 
 -- the form of a command, its numbers unfolded to trees
 abbrev pub command_form : Store → Command → CommandForm
@@ -61,6 +69,12 @@ command_form nodes (Oncircle o a) = form (codes "oncircle") kind.Point 3 (point_
 command_form nodes (Second a b o) = form (codes "second") kind.Point 2 (point_argument a ∷ point_argument b ∷ point_argument o ∷ [])
 command_form nodes (Cc o p a) = form (codes "cc") kind.Point 2 (point_argument o ∷ point_argument p ∷ point_argument a ∷ [])
 command_form nodes (Inverse p o a) = form (codes "inverse") kind.Point 1 (point_argument p ∷ point_argument o ∷ point_argument a ∷ [])
+command_form nodes (Weights a b c r s) =
+    form (codes "weights") kind.Point 2
+    (point_argument a ∷ point_argument b ∷ point_argument c ∷ number_argument (tree_of nodes r) ∷ number_argument (tree_of nodes s) ∷ [])
+command_form nodes (AssumeDifferent a b) = assumption (codes "different") (a ∷ b ∷ [])
+command_form nodes (AssumeNotCollinear a b c) = assumption (codes "not_collinear") (a ∷ b ∷ c ∷ [])
+command_form nodes (AssumeNotParallel a b c d) = assumption (codes "not_parallel") (a ∷ b ∷ c ∷ d ∷ [])
 
 -- a statement's word, and what stands behind it
 pub record StatementForm : Type 0 where
@@ -84,11 +98,12 @@ statement_form nodes (statement.SameLength a b c d) = on_points (codes "same_len
 statement_form nodes (statement.Harmonic a b c d) = on_points (codes "harmonic") (a ∷ b ∷ c ∷ d ∷ [])
 statement_form nodes (statement.Concyclic a b c d) = on_points (codes "concyclic") (a ∷ b ∷ c ∷ d ∷ [])
 
--- the command's number stands in the store
+-- the command's numbers stand in the store
 abbrev pub IsStored : Store → Command → Type 0
 IsStored nodes (Pratio w u v r) = r.0 < length nodes
 IsStored nodes (Tratio u v r) = r.0 < length nodes
 IsStored nodes (Lratio a b r) = r.0 < length nodes
+IsStored nodes (Weights a b c r s) = (r.0 < length nodes) × (s.0 < length nodes)
 IsStored nodes _ = Unit {0}
 
 -- the statement's sides stand in the store

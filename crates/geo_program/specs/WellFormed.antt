@@ -1,12 +1,12 @@
 -- Well-formed programs: names are declared once and used only after their command.
-use Rattle.std.specs.Prelude.{◌≡◌, ℕ, suc, ◌<◌, ◌≤◌, true, false, All, Contains, List, [], ◌∷◌, map, sum_by}
+use Rattle.std.specs.Prelude.{◌≡◌, ℕ, suc, ◌<◌, ◌≤◌, true, false, All, Contains, Some, None, List, [], ◌∷◌, drop, length, map, sum_by, take}
 use Rattle.geo_program.specs.declared.commands.Command.{Command}
 use Rattle.geo_program.specs.declared.names.Name.{Name}
 use Rattle.geo_program.specs.declared.names.NameKind.{NameKind}
 use Rattle.geo_program.specs.declared.names.NameKind.TheVariants.{Point, Param, Line}
 use Rattle.geo_program.specs.declared.statements.Statement.{Statement}
 use Rattle.geo_program.specs.Expressions.{IsExpression, nesting}
-use Rattle.geo_program.specs.Forms.{Argument, point_argument, line_argument, number_argument, side_argument, command_form, statement_form, IsStored, AreSidesStored}
+use Rattle.geo_program.specs.Forms.{Argument, point_argument, line_argument, number_argument, side_argument, CommandForm, command_form, statement_form, IsStored, AreSidesStored}
 use Rattle.geo_program.specs.Words.{IsNameText}
 use Rattle.geo_terms.specs.Stores.{Store}
 
@@ -40,23 +40,35 @@ IsArgument s (line_argument a) = a.0 < s.lines
 IsArgument s (number_argument e) = IsExpression s.points s.params false e × (nesting e ≤ 128)
 IsArgument s (side_argument e) = IsExpression s.points s.params true e × (nesting e ≤ 128)
 
--- the command's arguments name what is declared before it
-pub record IsCommand (nodes : Store) (s : Scope) (name : Name) (command : Command) : Type 0 where
-  pub named : name.kind ≡ (command_form nodes command).kind
+-- what the names declare
+abbrev pub scope_of : Scope → List Name → Scope
+scope_of s [] = s
+scope_of s (name ∷ names) = scope_of (declare name.kind s) names
+
+-- the kind of the name that a command makes, if it makes one
+abbrev pub kinds_made : CommandForm → List NameKind
+kinds_made f = elim f.made [ None ↦ [] | Some kind ↦ kind ∷ [] ]
+
+-- the name that a command makes, the first of those that are left, if it makes one
+abbrev pub own_names : CommandForm → List Name → List Name
+own_names f names = take (length (kinds_made f)) names
+
+-- the names behind it
+abbrev pub later_names : CommandForm → List Name → List Name
+later_names f names = drop (length (kinds_made f)) names
+
+-- the command's own name is of the kind that it makes, and its arguments name what is declared before it
+pub record IsCommand (nodes : Store) (s : Scope) (own : List Name) (command : Command) : Type 0 where
+  pub named : map (λ n. n.kind) own ≡ kinds_made (command_form nodes command)
   pub arguments : All (IsArgument s) (command_form nodes command).arguments
   pub stored : IsStored nodes command
 
 -- the commands declare the names one after another
 abbrev pub AreCommands : Store → Scope → List Name → List Command → Type 0
-AreCommands nodes s [] [] = Unit {0}
-AreCommands nodes s (name ∷ names) (command ∷ commands) =
-    IsCommand nodes s name command × AreCommands nodes (declare name.kind s) names commands
-AreCommands nodes s _ _ = ⊥
-
--- what the names declare
-abbrev pub scope_of : Scope → List Name → Scope
-scope_of s [] = s
-scope_of s (name ∷ names) = scope_of (declare name.kind s) names
+AreCommands nodes s names [] = names ≡ []
+AreCommands nodes s names (command ∷ commands) =
+    IsCommand nodes s (own_names (command_form nodes command) names) command
+    × AreCommands nodes (scope_of s (own_names (command_form nodes command) names)) (later_names (command_form nodes command) names) commands
 
 -- no name is equal to one after it
 abbrev pub AllDiffer : List Name → Type 0

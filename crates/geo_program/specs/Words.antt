@@ -6,10 +6,10 @@ use Rattle.geo_lexer.specs.Bytes.{is_letter, is_word_byte}
 -- the words that begin a command
 abbrev pub command_words : List (List ℕ)
 command_words =
-    codes "point" ∷ codes "param" ∷ codes "line" ∷ codes "parallel" ∷ codes "perp" ∷ codes "med" ∷ codes "intersec"
-    ∷ codes "inter" ∷ codes "foot" ∷ codes "pratio" ∷ codes "tratio" ∷ codes "online" ∷ codes "lratio" ∷ codes "midpoint"
+    codes "assume" ∷ codes "point" ∷ codes "param" ∷ codes "line" ∷ codes "parallel" ∷ codes "perp" ∷ codes "med"
+    ∷ codes "intersec" ∷ codes "inter" ∷ codes "foot" ∷ codes "pratio" ∷ codes "tratio" ∷ codes "online" ∷ codes "lratio" ∷ codes "midpoint"
     ∷ codes "translate" ∷ codes "symmetric" ∷ codes "reflect" ∷ codes "circumcenter" ∷ codes "orthocenter"
-    ∷ codes "centroid" ∷ codes "oncircle" ∷ codes "second" ∷ codes "cc" ∷ codes "inverse" ∷ []
+    ∷ codes "centroid" ∷ codes "oncircle" ∷ codes "second" ∷ codes "cc" ∷ codes "inverse" ∷ codes "weights" ∷ []
 
 -- the words that begin a statement
 abbrev pub statement_words : List (List ℕ)
@@ -23,9 +23,9 @@ expression_words =
     codes "signed_area3" ∷ codes "pythagoras_difference3" ∷ codes "sratio" ∷ codes "neg" ∷ codes "sum" ∷ codes "sub"
     ∷ codes "mult" ∷ codes "div" ∷ []
 
--- the words that no name may be; the last two begin nothing yet
+-- the words that no name may be
 abbrev pub reserved_words : List (List ℕ)
-reserved_words = command_words ++ statement_words ++ expression_words ++ (codes "prove" ∷ codes "assume" ∷ codes "weights" ∷ [])
+reserved_words = command_words ++ statement_words ++ expression_words ++ codes "prove" ∷ []
 
 -- a letter and then letters, digits and `_`, at most 64 bytes in all, and no reserved word
 pub record IsNameText (text : List ℕ) : Type 0 where

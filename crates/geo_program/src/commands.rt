@@ -1,9 +1,11 @@
 //! The commands of a program.
 
-ghost use Rattle.std.specs.Prelude.{◌≡◌};
+ghost use Rattle.std.specs.Prelude.{◌≡◌, length, option_map};
 ghost use Rattle.geo_program.specs.Forms.{command_form};
+ghost use Rattle.geo_program.specs.WellFormed.{kinds_made};
 ghost use Rattle.geo_terms.specs.Stores.{Store};
 
+use crate::names::NameKind;
 use geo_points::{PointId, TermId};
 use std::marker::Model;
 
@@ -11,8 +13,9 @@ use std::marker::Model;
 #[derive(Clone, Copy, Debug, PartialEq, Eq, PartialOrd, Ord, Hash)]
 pub struct LineId(pub u32);
 
-/// A command. What it makes has the next name of the program, which is no field. A [`PointId`]
-/// counts the program's points alone, and not those that a construction adds.
+/// A command. What it makes has the next name of the program, which is no field; an assumption
+/// makes nothing. A [`PointId`] counts the program's points alone, and not those that a
+/// construction adds.
 #[derive(Clone, Copy, Debug, PartialEq, Eq)]
 pub enum Command {
     /// A free point.
@@ -203,6 +206,46 @@ pub enum Command {
         /// The point A.
         a: PointId,
     },
+    /// The point X with `X - A = r (B - A) + s (C - A)`.
+    Weights {
+        /// The point A.
+        a: PointId,
+        /// The point B.
+        b: PointId,
+        /// The point C.
+        c: PointId,
+        /// The number r.
+        r: TermId,
+        /// The number s.
+        s: TermId,
+    },
+    /// The assumption that A and B differ. It makes nothing.
+    AssumeDifferent {
+        /// The point A.
+        a: PointId,
+        /// The point B.
+        b: PointId,
+    },
+    /// The assumption that A, B and C are not on one line. It makes nothing.
+    AssumeNotCollinear {
+        /// The point A.
+        a: PointId,
+        /// The point B.
+        b: PointId,
+        /// The point C.
+        c: PointId,
+    },
+    /// The assumption that AB and CD are not parallel. It makes nothing.
+    AssumeNotParallel {
+        /// The point A.
+        a: PointId,
+        /// The point B.
+        b: PointId,
+        /// The point C.
+        c: PointId,
+        /// The point D.
+        d: PointId,
+    },
 }
 
 impl Command {
@@ -235,6 +278,50 @@ impl Command {
             Command::Second { .. } => b"second",
             Command::Cc { .. } => b"cc",
             Command::Inverse { .. } => b"inverse",
+            Command::Weights { .. } => b"weights",
+            Command::AssumeDifferent { .. }
+            | Command::AssumeNotCollinear { .. }
+            | Command::AssumeNotParallel { .. } => b"assume",
+        }
+    }
+
+    /// The word of the condition that it assumes, if it is an assumption.
+    pub fn condition(self) -> Option<&'static [u8]>
+        ensures { (nodes : Store)
+            → option_map (λ word. word.now) result ≡ (command_form nodes self).condition }
+    {
+        match self {
+            Command::AssumeDifferent { .. } => Some(b"different"),
+            Command::AssumeNotCollinear { .. } => Some(b"not_collinear"),
+            Command::AssumeNotParallel { .. } => Some(b"not_parallel"),
+            _ => None,
+        }
+    }
+
+    /// What its new name names. An assumption has no name.
+    pub fn makes(self) -> Option<NameKind>
+        ensures { (nodes : Store) → result ≡ (command_form nodes self).made }
+    {
+        match self {
+            Command::Param => Some(NameKind::Param),
+            Command::Line { .. }
+            | Command::Parallel { .. }
+            | Command::Perp { .. }
+            | Command::Med { .. } => Some(NameKind::Line),
+            Command::AssumeDifferent { .. }
+            | Command::AssumeNotCollinear { .. }
+            | Command::AssumeNotParallel { .. } => None,
+            _ => Some(NameKind::Point),
+        }
+    }
+
+    /// How many new names it has.
+    pub fn name_count(self) -> usize
+        ensures { (nodes : Store) → result ≡ length (kinds_made (command_form nodes self)) }
+    {
+        match self.makes() {
+            Some(_) => 1,
+            None => 0,
         }
     }
 }

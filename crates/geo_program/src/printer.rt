@@ -1,10 +1,11 @@
 //! The lines of the canonical text.
 
-ghost use Rattle.std.specs.Prelude.{◌≡◌, ◌<◌, [], ◌∷◌, ◌++◌, map, IfOk, OnOk};
+ghost use Rattle.std.specs.Prelude.{◌≡◌, ◌<◌, [], ◌∷◌, ◌++◌, map, option_map, IfOk, OnOk};
 ghost use Rattle.std.specs.Fmt.{signed_decimal};
 ghost use Rattle.std.specs.List.{AllByRecursion, flat_map};
 ghost use Rattle.geo_lexer.specs.Lexemes.{word_lexeme};
 ghost use Rattle.geo_program.specs.CanonicalText.{argument_lexemes, command_lexemes};
+ghost use Rattle.geo_program.specs.CanonicalText.{condition_lexemes};
 ghost use Rattle.geo_program.specs.CanonicalText.{commands_lexemes, line_text, no_sketches};
 ghost use Rattle.geo_program.specs.CanonicalText.{statement_lexemes};
 ghost use Rattle.geo_program.specs.Expressions.{braced, expression_lexemes, point_lexeme};
@@ -45,6 +46,28 @@ fn push_number(alloc: Global, out: &mut Vec<u8>, n: i128) -> Result<(), NoMemory
     geo_base::push_decimal(alloc, out, n).map_err(|_| NoMemory)
 }
 
+/// Appends the word of a condition that is assumed.
+fn push_condition(out: &mut Vec<u8>, condition: Option<&[u8]>) -> Result<(), NoMemory>
+    ensures { OnOk result (out.new.items ≡ out.old.items
+        ++ spaced_text (condition_lexemes (option_map (λ word. word.now) condition.entry))) }
+{
+    match condition {
+        Some(word) => push_token(out, word),
+        None => Ok(()),
+    }
+}
+
+/// Appends names.
+fn push_names(out: &mut Vec<u8>, names: &[Name]) -> Result<(), NoMemory>
+    ensures { OnOk result (out.new.items
+        ≡ out.old.items ++ spaced_text (map (λ name. word_lexeme name.text) names.now)) }
+{
+    for name in names {
+        push_token(out, name.bytes())?;
+    }
+    Ok(())
+}
+
 /// The names and the terms of a program, from which its lines are printed.
 #[derive(Drop)]
 pub struct Printer<'a> {
@@ -70,19 +93,22 @@ impl<'a> Printer<'a> {
             (commands_lexemes names.now self.now.terms.now names.now commands.now
             (no_sketches commands.now))) }
     {
-        for (k, command) in commands.iter().enumerate() {
-            self.push_command(alloc, out, &names[k], *command)?;
+        let mut left = names;
+        for command in commands {
+            let (own, later) = left.split_at(command.name_count());
+            self.push_command(alloc, out, own, *command)?;
             out.push(b'\n')?;
+            left = later;
         }
         Ok(())
     }
 
-    /// Appends the line of the command that makes what this name names, without its line feed.
+    /// Appends the line of a command with its own name, if it makes one, without its line feed.
     pub fn push_command(
         &self,
         alloc: Global,
         out: &mut Vec<u8>,
-        name: &Name,
+        own: &[Name],
         command: Command,
     ) -> Result<(), NoMemory>
         requires store { IsStore self.now.terms.now }
@@ -90,14 +116,15 @@ impl<'a> Printer<'a> {
             (command_form self.now.terms.now command).arguments }
         requires stored { IsStored self.now.terms.now command }
         ensures { OnOk result (out.new.items ≡ out.old.items
-            ++ line_text (command_lexemes self.now.names self.now.terms.now name.now command)) }
+            ++ line_text (command_lexemes self.now.names self.now.terms.now own.now command)) }
     {
         out.extend_from_slice(command.word())?;
-        push_token(out, name.bytes())?;
+        push_condition(out, command.condition())?;
+        push_names(out, own)?;
         self.push_arguments(alloc, out, command)
     }
 
-    /// Appends what stands behind a command's new name.
+    /// Appends what stands behind a command's new name or the word of its condition.
     fn push_arguments(
         &self,
         alloc: Global,
@@ -137,6 +164,10 @@ impl<'a> Printer<'a> {
             Command::Second { a, b, o } => self.push_points(out, &[a, b, o]),
             Command::Cc { o, p, a } => self.push_points(out, &[o, p, a]),
             Command::Inverse { p, o, a } => self.push_points(out, &[p, o, a]),
+            Command::Weights { a, b, c, r, s } => self.push_weights(alloc, out, &[a, b, c], r, s),
+            Command::AssumeDifferent { a, b } => self.push_points(out, &[a, b]),
+            Command::AssumeNotCollinear { a, b, c } => self.push_points(out, &[a, b, c]),
+            Command::AssumeNotParallel { a, b, c, d } => self.push_points(out, &[a, b, c, d]),
         }
     }
 
@@ -243,6 +274,28 @@ impl<'a> Printer<'a> {
     {
         self.push_points(out, points)?;
         self.push_expression(alloc, out, r)
+    }
+
+    /// Appends points and the two numbers of a step.
+    fn push_weights(
+        &self,
+        alloc: Global,
+        out: &mut Vec<u8>,
+        points: &[PointId],
+        r: TermId,
+        s: TermId,
+    ) -> Result<(), NoMemory>
+        requires points { AllByRecursion (λ a. a.0 < (whole_scope self.now.names).points)
+            points.now }
+        requires r { IsPrintableTerm self.now.names self.now.terms.now r }
+        requires s { IsPrintableTerm self.now.names self.now.terms.now s }
+        ensures { OnOk result (out.new.items ≡ out.old.items
+            ++ spaced_text (flat_map (argument_lexemes self.now.names)
+            (map point_argument points.now ++ number_argument (tree_of self.now.terms.now r)
+            ∷ number_argument (tree_of self.now.terms.now s) ∷ []))) }
+    {
+        self.push_numbered(alloc, out, points, r)?;
+        self.push_expression(alloc, out, s)
     }
 
     /// Appends the two sides of an equation.

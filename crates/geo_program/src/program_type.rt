@@ -9,14 +9,14 @@ use crate::names::Names;
 use crate::statements::Statement;
 use geo_terms::Terms;
 
-/// A program: the names that it declares, its commands, one for each name, and its statement. The
-/// two numbers that may follow a point's name mean nothing and are not kept.
+/// A program: the names that it declares, its commands, each of which makes one of the names or is an
+/// assumption, and its statement. The two numbers that may follow a point's name mean nothing and are not kept.
 pub struct Program {
     /// The names, in order of declaration.
     pub names: Names,
     /// The store of the terms that commands and the statement name by index.
     pub terms: Terms,
-    /// The commands, each of which makes what the name at its place names.
+    /// The commands. Those that make something make what the names name, in their order.
     pub commands: Commands,
     /// The statement.
     pub statement: Statement,

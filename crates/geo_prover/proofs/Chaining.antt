@@ -58,7 +58,7 @@ line_points n (line.Ratio v lemma at r) q e h = let same : r ≡ q = cc in subst
 line_points n (line.Point at r) q e h = let same : r ≡ q = cc in subst (AllVariables (HasPointsBelow n)) same h
 line_points n (line.Coords r) q e h = let same : r ≡ q = cc in subst (AllVariables (HasPointsBelow n)) same h
 line_points n (line.Cut by r) q e h = let same : r ≡ q = cc in subst (AllVariables (HasPointsBelow n)) same h
-line_points n line.Header q e h = absurd (let f : ⊥ = cc in f)
+line_points n (line.Header v) q e h = absurd (let f : ⊥ = cc in f)
 line_points n (line.Program t) q e h = absurd (let f : ⊥ = cc in f)
 line_points n (line.Condition k t) q e h = absurd (let f : ⊥ = cc in f)
 line_points n (line.Goal k t) q e h = absurd (let f : ⊥ = cc in f)

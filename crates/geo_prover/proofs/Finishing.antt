@@ -5,6 +5,7 @@ use Rattle.std.proofs.lemmas.List.{length-append}
 use Rattle.std.proofs.lemmas.List.Elements.{All-from_recursion, recursion_from_All}
 use Rattle.geo_base.specs.Devices.{Grows}
 use Rattle.geo_base.proofs.DeviceLemmas.{Grows-nothing}
+use Rattle.geo_lowering.specs.declared.version.Version.TheVariants.{Two}
 use Rattle.geo_conditions.specs.declared.items.Item.{Item as ListedItem}
 use Rattle.geo_conditions.specs.declared.problem.Problem.{Problem}
 use Rattle.geo_conditions.specs.Lists.{IsProblem, item_form}
@@ -69,6 +70,7 @@ split xs ys n rest piece e same =
 -- THE SUBJECT
 abbrev pub subject_of : Source → Problem → Subject
 subject_of p problem = record {
+  version = 2;
   program = source_lines p;
   construction = problem.steps;
   conditions = items_of problem.steps.nodes problem.conditions;
@@ -84,7 +86,7 @@ take_length : (before rest : List Line) → before ≡ take (length before) (bef
 take_length [] rest = refl
 take_length (x ∷ xs) rest = ap (λ ys. x ∷ ys) (take_length xs rest)
 
-module _ (p : Source) (problem : Problem) (steps : ℕ) (w : IsWellFormed p) (small : steps < 2 ^ 127) (is : IsProblem p (form_of_problem problem) problem.conditions problem.goals) where
+module _ (p : Source) (problem : Problem) (steps : ℕ) (w : IsWellFormed p) (small : steps < 2 ^ 127) (is : IsProblem Two p (form_of_problem problem) problem.conditions problem.goals) where
   abbrev c : Construction
   c = problem.steps
 
@@ -96,12 +98,14 @@ module _ (p : Source) (problem : Problem) (steps : ℕ) (w : IsWellFormed p) (sm
 
   pub about : IsSubjectOf p subject
   about = record {
+    version = Two;
     form = form_of_problem problem;
     conditions = map (item_form c.nodes) problem.conditions;
     goals = map (item_form c.nodes) problem.goals;
     lowered = is.lowered;
     listed_conditions = is.conditions.are;
     listed_goals = is.goals.are;
+    same_version = refl;
     same_program = refl;
     same_construction = refl;
     same_conditions = refl;
@@ -134,7 +138,7 @@ module _ (p : Source) (problem : Problem) (steps : ℕ) (w : IsWellFormed p) (sm
   can_write bytes none lines place line b n fits = next_lines_are_writable p subject steps lines place line w about small b (omega (arith, none, fits)) n
 
   -- behind the header and the program come the conditions
-  pub past_program : (s t : State) → Writes (Header ∷ map ProgramLine (source_lines p)) s t → Passes whole (conditions_from problem 0 [] [] steps) s t
+  pub past_program : (s t : State) → Writes (Header 2 ∷ map ProgramLine (source_lines p)) s t → Passes whole (conditions_from problem 0 [] [] steps) s t
   past_program s t h = record {
     lines = first_lines subject;
     continues = record {
@@ -146,7 +150,7 @@ module _ (p : Source) (problem : Problem) (steps : ℕ) (w : IsWellFormed p) (sm
 
   -- ANSWERS
   log_of : (lines : List Line) (ending : Ending) → IsDefinedLog lemma_table subject steps lines ending → IsLogOf p steps lines ending
-  log_of lines ending h = record { subject = subject; about = about; defined = h }
+  log_of lines ending h = record { subject = subject; about = about; version = refl; defined = h }
 
   module _ (s t : State) (lines_none : s.lines ≡ 0) (bytes_none : s.bytes ≡ 0) where
     within : (n : ℕ) → s.bytes + n ≤ 67108864 → n ≤ 67108864
@@ -286,11 +290,11 @@ module _ (p : Source) (problem : Problem) (steps : ℕ) (w : IsWellFormed p) (sm
 -- where nothing was written
 pub nothing_written : (p : Source) (steps : ℕ) → IsShortProgram p → (s t : State) → t.held ≡ s.held → s.faults ≤ t.faults → IsAnswerOf p steps s t NoMemory
 nothing_written p steps short s t same faults =
-    let log = programs_have_defined_logs p steps short in (
+    let log = programs_have_defined_logs Two p steps short in (
       record {
-        lines = log.2.0;
-        ending = log.2.1;
-        log = record { subject = log.0; about = log.1; defined = log.2.2 };
+        lines = log.3.0;
+        ending = log.3.1;
+        log = record { subject = log.0; about = log.1; version = log.2; defined = log.3.2 };
         count = 0;
         written = subst (λ held. Grows s.held [] held) (sym same) (Grows-nothing s.held);
       },

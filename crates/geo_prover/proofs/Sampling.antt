@@ -4,7 +4,7 @@ use Rattle.std.specs.Prelude.{slice_get}
 use Rattle.geo_poly.specs.declared.variables.Var.{Var}
 use Rattle.geo_poly.specs.declared.variables.Var.TheVariants.{X, Y, T}
 use Rattle.geo_terms.specs.declared.steps.Step.{Step}
-use Rattle.geo_terms.specs.declared.steps.Step.TheVariants.{Point, Inter, Foot, Pratio, Tratio}
+use Rattle.geo_terms.specs.declared.steps.Step.TheVariants.{Point, Inter, Foot, Pratio, Tratio, Weights}
 use Rattle.geo_logs.specs.Samples.{coordinates_from, parameters_from}
 use Rattle.geo_prover.proofs.Listing.{at_drop}
 
@@ -35,6 +35,7 @@ not_free k (Inter u v p q) steps h = ap (λ n. coordinates_from n steps) (sym (a
 not_free k (Foot p u v) steps h = ap (λ n. coordinates_from n steps) (sym (add-one k))
 not_free k (Pratio w u v r) steps h = ap (λ n. coordinates_from n steps) (sym (add-one k))
 not_free k (Tratio u v r) steps h = ap (λ n. coordinates_from n steps) (sym (add-one k))
+not_free k (Weights o u v r t) steps h = ap (λ n. coordinates_from n steps) (sym (add-one k))
 
 -- another point
 pub at_made : (steps : List Step) (k : ℕ) (step : Step) → slice_get steps k ≡ Some step → (step ≡ Point → ⊥)

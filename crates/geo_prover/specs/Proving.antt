@@ -12,10 +12,11 @@ use Rattle.log_checker.specs.Accepted.{Accepts}
 use Rattle.log_checker.specs.Subjects.{IsSubjectOf}
 use Rattle.geo_prover.specs.declared.summary.Summary.{Summary}
 
--- the lines are the program's defined log with so many steps, and it ends so
+-- the lines are the program's defined log with so many steps, which has version 2, and it ends so
 pub record IsLogOf (p : Source) (steps : ℕ) (lines : List Line) (ending : Ending) : Type 0 where
   pub subject : Subject
   pub about : IsSubjectOf p subject
+  pub version : subject.version ≡ 2
   pub defined : IsDefinedLog lemma_table subject steps lines ending
 
 -- the log was written whole: it ends with the verdict that is told, and it is an accepted log of the program; its lines are counted, and

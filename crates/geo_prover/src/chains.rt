@@ -5,6 +5,7 @@ ghost use Rattle.geo_chain.specs.NextLines.{HasLinePointsBelow, IsNextLine};
 ghost use Rattle.geo_logs.specs.Places.{before_start, in_chain};
 ghost use Rattle.geo_logs.specs.Starts.{IsStarted, start_charge, start_of};
 ghost use Rattle.proof_log.specs.declared.log.Line.TheVariants.{Start};
+ghost use Rattle.fraction_poly.specs.Inner.Known.{IsKnownOf};
 ghost use Rattle.fraction_poly.specs.TableRows.{HasPointsBelow};
 ghost use Rattle.geo_poly.specs.PolynomialVariables.{AllVariables};
 ghost use Rattle.geo_terms.specs.Stores.{tree_of};
@@ -17,9 +18,9 @@ ghost use Rattle.geo_prover.specs.Inner.Written.{IsUnwritten, Writes, state};
 use crate::errors::ProveError;
 use crate::known::sole_variable;
 use crate::log_writer::LogWriter;
-use elim_apply::{ApplyError, start};
+use elim_apply::{ApplyError, KnownNumbers, start};
 use geo_base::{Budget, Sink};
-use geo_chain::next_line;
+use geo_chain::next_line_known;
 use geo_points::TermId;
 use geo_poly::lists::Vars;
 use geo_poly::{Poly, Var};
@@ -46,11 +47,12 @@ pub struct WorkedChain {
 }
 
 /// Writes the chain of a term: the header, the start, a line for each step, and the end. Only the
-/// polynomial of the line before is kept.
+/// polynomial of the line before and the numbers of steps are kept.
 pub fn work_chain<K: Sink>(
     alloc: Global,
     steps: &Steps,
     known: &Vars,
+    numbers: &mut KnownNumbers,
     task: &Task,
     budget: &mut Budget,
     log: &mut LogWriter,
@@ -58,6 +60,7 @@ pub fn work_chain<K: Sink>(
 ) -> Result<WorkedChain, ProveError>
     requires stored { task.now.term.0 < length steps.now.nodes }
     requires inside { IsInside steps.now (tree_of steps.now.nodes task.now.term) }
+    requires numbers { IsKnownOf steps.now.nodes numbers.old }
     requires writable { CanWrite steps.now (chain_part steps.now task.now.header known.now
         budget.old.left (tree_of steps.now.nodes task.now.term)) log.old.bytes }
     ensures ok { IfOk result (λ chain. WorksChain steps.now task.now.header known.now
@@ -68,12 +71,13 @@ pub fn work_chain<K: Sink>(
         budget.old.left (tree_of steps.now.nodes task.now.term))
         (state log.old (K.held sink.old) (K.faults sink.old))
         (state log.new (K.held sink.new) (K.faults sink.new))) }
+    ensures numbers { IsKnownOf steps.now.nodes numbers.new }
 {
     log.write(alloc, sink, &task.header)?;
     let first = first_polynomial(alloc, steps, task.term, budget, log, sink)?;
     let variable = sole_variable(&first);
     let first = write_start(alloc, first, log, sink)?;
-    let end = work_steps(alloc, steps, known, first, budget, log, sink)?;
+    let end = work_steps(alloc, steps, known, numbers, first, budget, log, sink)?;
     Ok(WorkedChain { end, variable })
 }
 
@@ -134,11 +138,13 @@ fn work_steps<K: Sink>(
     alloc: Global,
     steps: &Steps,
     known: &Vars,
+    numbers: &mut KnownNumbers,
     first: Poly,
     budget: &mut Budget,
     log: &mut LogWriter,
     sink: &mut K,
 ) -> Result<Poly, ProveError>
+    requires numbers { IsKnownOf steps.now.nodes numbers.old }
     requires points { AllVariables (HasPointsBelow (length steps.now.steps)) first }
     requires writable { CanWrite steps.now
         (steps_part steps.now known.now budget.old.left first) log.old.bytes }
@@ -149,10 +155,11 @@ fn work_steps<K: Sink>(
         (steps_part steps.now known.now budget.old.left first)
         (state log.old (K.held sink.old) (K.faults sink.old))
         (state log.new (K.held sink.new) (K.faults sink.new))) }
+    ensures numbers { IsKnownOf steps.now.nodes numbers.new }
 {
     let mut last = first;
     loop {
-        let line = line_after(alloc, steps, known, &last, budget, log, sink)?;
+        let line = line_after(alloc, steps, known, numbers, &last, budget, log, sink)?;
         log.write(alloc, sink, &line)?;
         match polynomial_of(line) {
             Some(poly) => last = poly,
@@ -166,12 +173,14 @@ fn line_after<K: Sink>(
     alloc: Global,
     steps: &Steps,
     known: &Vars,
+    numbers: &mut KnownNumbers,
     last: &Poly,
     budget: &mut Budget,
     log: &LogWriter,
     sink: &mut K,
 ) -> Result<Line, ProveError>
-    requires { AllVariables (HasPointsBelow (length steps.now.steps)) last.now }
+    requires numbers { IsKnownOf steps.now.nodes numbers.old }
+    requires points { AllVariables (HasPointsBelow (length steps.now.steps)) last.now }
     ensures line { IfOk result (λ line.
         IsNextLine steps.now known.now budget.old.left last.now line budget.new.left) }
     ensures points { IfOk result (HasLinePointsBelow (length steps.now.steps)) }
@@ -180,8 +189,9 @@ fn line_after<K: Sink>(
         (here_part (in_chain known.now budget.old.left last.now))
         (state log.now (K.held sink.old) (K.faults sink.old))
         (state log.now (K.held sink.new) (K.faults sink.new))) }
+    ensures numbers { IsKnownOf steps.now.nodes numbers.new }
 {
-    match next_line(alloc, steps, last, known, budget) {
+    match next_line_known(alloc, steps, numbers, last, known, budget) {
         Ok(line) => Ok(line),
         Err(error) => Err(stopped(alloc, error, log, sink)),
     }

@@ -3,6 +3,7 @@
 ghost use Rattle.std.specs.Prelude.{◌≡◌, ◌≢◌, ◌+◌, ◌^◌, ◌<◌, ◌∷◌, ◌++◌, [], length};
 ghost use Rattle.std.specs.Prelude.{IfErr, IfNone, IfOk, IfSome, OnOk};
 ghost use Rattle.std.specs.List.{cons_option};
+ghost use Rattle.fraction_poly.specs.Inner.Known.{IsKnownOf};
 ghost use Rattle.geo_poly.specs.Specialise.{NoneZero};
 ghost use Rattle.geo_prover.specs.Inner.Halting.{Halts, IsImpossibleAt, Passes};
 ghost use Rattle.geo_prover.specs.Inner.Parts.{CanWrite};
@@ -14,6 +15,7 @@ use crate::chains::{Task, WorkedChain, work_chain};
 use crate::errors::ProveError;
 use crate::findings::Findings;
 use crate::log_writer::LogWriter;
+use elim_apply::KnownNumbers;
 use geo_base::{Budget, Sink, Text};
 use geo_conditions::Problem;
 use geo_points::NoMemory;
@@ -26,11 +28,13 @@ pub fn work_conditions<K: Sink>(
     alloc: Global,
     problem: &Problem,
     findings: &mut Findings,
+    numbers: &mut KnownNumbers,
     budget: &mut Budget,
     log: &mut LogWriter,
     sink: &mut K,
 ) -> Result<Option<u32>, ProveError>
     requires ready { IsReady problem.now }
+    requires numbers { IsKnownOf problem.now.steps.nodes numbers.old }
     requires nonzero { NoneZero findings.old.ends }
     requires writable { CanWrite problem.now.steps (conditions_from problem.now 0
         findings.old.known findings.old.ends budget.old.left) log.old.bytes }
@@ -48,9 +52,10 @@ pub fn work_conditions<K: Sink>(
         (conditions_from problem.now 0 findings.old.known findings.old.ends budget.old.left)
         (state log.old (K.held sink.old) (K.faults sink.old))
         (state log.new (K.held sink.new) (K.faults sink.new))) }
+    ensures numbers { IsKnownOf problem.now.steps.nodes numbers.new }
 {
     for i in 0..problem.conditions.items.len() {
-        let chain = work_condition(alloc, problem, i, findings, budget, log, sink)?;
+        let chain = work_condition(alloc, problem, i, findings, numbers, budget, log, sink)?;
         if chain.end.is_zero() {
             return Ok(Some(i as u32 + 1));
         }
@@ -65,11 +70,13 @@ fn work_condition<K: Sink>(
     problem: &Problem,
     i: usize,
     findings: &Findings,
+    numbers: &mut KnownNumbers,
     budget: &mut Budget,
     log: &mut LogWriter,
     sink: &mut K,
 ) -> Result<WorkedChain, ProveError>
     requires ready { IsReady problem.now }
+    requires numbers { IsKnownOf problem.now.steps.nodes numbers.old }
     requires place { i < length problem.now.conditions }
     requires writable { CanWrite problem.now.steps (conditions_from problem.now i
         findings.now.known findings.now.ends budget.old.left) log.old.bytes }
@@ -88,12 +95,14 @@ fn work_condition<K: Sink>(
         (conditions_from problem.now i findings.now.known findings.now.ends budget.old.left)
         (state log.old (K.held sink.old) (K.faults sink.old))
         (state log.new (K.held sink.new) (K.faults sink.new))) }
+    ensures numbers { IsKnownOf problem.now.steps.nodes numbers.new }
 {
     let task = condition_task(alloc, problem, i)?;
     work_chain(
         alloc,
         &problem.steps,
         &findings.known,
+        numbers,
         &task,
         budget,
         log,

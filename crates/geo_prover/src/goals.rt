@@ -3,6 +3,7 @@
 ghost use Rattle.std.specs.Prelude.{◌≡◌, ◌≢◌, ◌+◌, ◌^◌, ◌<◌, ◌∷◌, ◌++◌, [], length};
 ghost use Rattle.std.specs.Prelude.{IfErr, IfOk, OnOk};
 ghost use Rattle.proof_log.specs.declared.log.Verdict.TheVariants.{False};
+ghost use Rattle.fraction_poly.specs.Inner.Known.{IsKnownOf};
 ghost use Rattle.geo_poly.specs.Specialise.{NoneZero};
 ghost use Rattle.geo_prover.specs.Inner.Halting.{Halts, Passes};
 ghost use Rattle.geo_prover.specs.Inner.Parts.{CanWrite, end_part};
@@ -14,6 +15,7 @@ use crate::conditions::copied;
 use crate::errors::ProveError;
 use crate::findings::Findings;
 use crate::log_writer::LogWriter;
+use elim_apply::KnownNumbers;
 use geo_base::{Budget, Sink};
 use geo_conditions::Problem;
 use geo_points::NoMemory;
@@ -26,11 +28,13 @@ pub fn work_goals<K: Sink>(
     alloc: Global,
     problem: &Problem,
     findings: &mut Findings,
+    numbers: &mut KnownNumbers,
     budget: &mut Budget,
     log: &mut LogWriter,
     sink: &mut K,
 ) -> Result<Verdict, ProveError>
     requires ready { IsReady problem.now }
+    requires numbers { IsKnownOf problem.now.steps.nodes numbers.old }
     requires nonzero { NoneZero findings.old.ends }
     requires writable { CanWrite problem.now.steps (goals_from problem.now 0
         findings.old.known findings.old.ends budget.old.left) log.old.bytes }
@@ -44,9 +48,10 @@ pub fn work_goals<K: Sink>(
         (goals_from problem.now 0 findings.old.known findings.old.ends budget.old.left)
         (state log.old (K.held sink.old) (K.faults sink.old))
         (state log.new (K.held sink.new) (K.faults sink.new))) }
+    ensures numbers { IsKnownOf problem.now.steps.nodes numbers.new }
 {
     for i in 0..problem.goals.items.len() {
-        let chain = work_goal(alloc, problem, i, findings, budget, log, sink)?;
+        let chain = work_goal(alloc, problem, i, findings, numbers, budget, log, sink)?;
         if !chain.end.is_zero() {
             findings.add_end(chain.end)?;
             return Ok(Verdict::False(i as u32 + 1));
@@ -61,11 +66,13 @@ fn work_goal<K: Sink>(
     problem: &Problem,
     i: usize,
     findings: &Findings,
+    numbers: &mut KnownNumbers,
     budget: &mut Budget,
     log: &mut LogWriter,
     sink: &mut K,
 ) -> Result<WorkedChain, ProveError>
     requires ready { IsReady problem.now }
+    requires numbers { IsKnownOf problem.now.steps.nodes numbers.old }
     requires place { i < length problem.now.goals }
     requires writable { CanWrite problem.now.steps (goals_from problem.now i
         findings.now.known findings.now.ends budget.old.left) log.old.bytes }
@@ -85,12 +92,14 @@ fn work_goal<K: Sink>(
         (goals_from problem.now i findings.now.known findings.now.ends budget.old.left)
         (state log.old (K.held sink.old) (K.faults sink.old))
         (state log.new (K.held sink.new) (K.faults sink.new))) }
+    ensures numbers { IsKnownOf problem.now.steps.nodes numbers.new }
 {
     let task = goal_task(alloc, problem, i)?;
     work_chain(
         alloc,
         &problem.steps,
         &findings.known,
+        numbers,
         &task,
         budget,
         log,

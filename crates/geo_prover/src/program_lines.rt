@@ -16,7 +16,7 @@ use geo_program::{Program, print};
 use proof_log::Line;
 use std::alloc::Global;
 
-/// Writes the header, and the canonical text of the program line by line.
+/// Writes the header of version 2, and the canonical text of the program line by line.
 pub fn write_first_lines<K: Sink>(
     alloc: Global,
     program: &Program,
@@ -24,16 +24,16 @@ pub fn write_first_lines<K: Sink>(
     sink: &mut K,
 ) -> Result<(), ProveError>
     ensures ok { OnOk result
-        (Writes (Header ∷ map ProgramLine (source_lines (source_of program.now)))
+        (Writes (Header 2 ∷ map ProgramLine (source_lines (source_of program.now)))
         (state log.old (K.held sink.old) (K.faults sink.old))
         (state log.new (K.held sink.new) (K.faults sink.new))) }
     ensures err { IfErr result
-        (IsBrokenOffAmong (Header ∷ map ProgramLine (source_lines (source_of program.now)))
+        (IsBrokenOffAmong (Header 2 ∷ map ProgramLine (source_lines (source_of program.now)))
         (state log.old (K.held sink.old) (K.faults sink.old))
         (state log.new (K.held sink.new) (K.faults sink.new))) }
 {
     let text = print(alloc, program)?;
-    log.write(alloc, sink, &Line::Header)?;
+    log.write(alloc, sink, &Line::Header { version: 2 })?;
     write_pieces(alloc, &text.bytes, log, sink)
 }
 

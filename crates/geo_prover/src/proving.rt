@@ -1,6 +1,7 @@
 //! The log of a program.
 
 ghost use Rattle.std.specs.Prelude.{◌≡◌, ◌≤◌, ℕ, [], IfErr, IfOk, IsErrOf, OnOk};
+ghost use Rattle.fraction_poly.specs.Inner.Known.{IsKnownOf};
 ghost use Rattle.geo_base.specs.Devices.{HasRisen};
 ghost use Rattle.geo_logs.specs.Ends.{too_long};
 ghost use Rattle.geo_logs.specs.Moves.{spent, too_large};
@@ -10,8 +11,6 @@ ghost use Rattle.geo_prover.specs.Inner.Halting.{Finishes, Halts};
 ghost use Rattle.geo_prover.specs.Inner.Parts.{CanWrite};
 ghost use Rattle.geo_prover.specs.Inner.Tasks.{IsReady, conditions_from};
 ghost use Rattle.geo_prover.specs.Inner.Written.{first_state, state};
-ghost use Rattle.geo_conditions.specs.Lists.{IsProblem};
-ghost use Rattle.geo_conditions.specs.Problems.{form_of_problem};
 ghost use Rattle.geo_prover.specs.Inner.Answers.{IsAnswerOf};
 ghost use Rattle.geo_prover.specs.Proving.{Concludes, StopsAt, WritesLog, WritesPart};
 
@@ -23,11 +22,12 @@ use crate::goals::work_goals;
 use crate::log_writer::LogWriter;
 use crate::program_lines::write_first_lines;
 use crate::summary::Summary;
+use elim_apply::KnownNumbers;
 use geo_base::{Budget, Sink};
-use geo_conditions::{Problem, list};
-use geo_lowering::lower;
-use geo_points::NoMemory;
+use geo_conditions::Problem;
+use geo_lowering::Version;
 use geo_program::Program;
+use log_checker::versions::problem_by;
 use proof_log::{Line, Verdict};
 use std::alloc::Global;
 
@@ -78,11 +78,12 @@ fn prove_all<K: Sink>(
         (first_state (K.held sink.new) (K.faults sink.new))) }
     ensures faults { OnOk result (K.faults sink.old ≤ K.faults sink.new) }
 {
-    let problem = problem_of(alloc, program)?;
+    let problem = problem_by(alloc, Version::Two, program)?;
+    let mut numbers = KnownNumbers::new(alloc)?;
     let mut budget = Budget { left: steps };
     let mut log = LogWriter::new();
     write_first_lines(alloc, program, &mut log, sink)?;
-    let verdict = work(alloc, &problem, &mut budget, &mut log, sink)?;
+    let verdict = work(alloc, &problem, &mut numbers, &mut budget, &mut log, sink)?;
     Ok(Summary {
         verdict,
         lines: log.lines,
@@ -90,24 +91,17 @@ fn prove_all<K: Sink>(
     })
 }
 
-/// The conditions and goals of the program over its lowered form.
-fn problem_of(alloc: Global, program: &Program) -> Result<Problem, NoMemory>
-    ensures { IfOk result (λ q.
-        IsProblem (source_of program.now) (form_of_problem q) q.conditions q.goals) }
-{
-    let lowered = lower(alloc, program)?;
-    list(alloc, program, lowered)
-}
-
 /// Writes the chains, and what follows them.
 fn work<K: Sink>(
     alloc: Global,
     problem: &Problem,
+    numbers: &mut KnownNumbers,
     budget: &mut Budget,
     log: &mut LogWriter,
     sink: &mut K,
 ) -> Result<Verdict, ProveError>
     requires ready { IsReady problem.now }
+    requires numbers { IsKnownOf problem.now.steps.nodes numbers.old }
     requires writable { CanWrite problem.now.steps
         (conditions_from problem.now 0 [] [] budget.old.left) log.old.bytes }
     ensures ok { IfOk result (λ verdict. Finishes
@@ -120,12 +114,12 @@ fn work<K: Sink>(
         (state log.new (K.held sink.new) (K.faults sink.new))) }
 {
     let mut findings = Findings::new(alloc);
-    if let Some(k) = work_conditions(alloc, problem, &mut findings, budget, log, sink)? {
+    if let Some(k) = work_conditions(alloc, problem, &mut findings, numbers, budget, log, sink)? {
         let verdict = Verdict::Impossible(k);
         log.write(alloc, sink, &Line::Verdict(verdict))?;
         return Ok(verdict);
     }
-    let verdict = work_goals(alloc, problem, &mut findings, budget, log, sink)?;
+    let verdict = work_goals(alloc, problem, &mut findings, numbers, budget, log, sink)?;
     conclude(
         alloc,
         &problem.steps,

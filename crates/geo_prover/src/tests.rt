@@ -42,7 +42,7 @@ const CASES: [Case; 12] = [
         program: MIDDLE,
         steps: 24,
         answer: Answer::Is(Verdict::Proved),
-        part: b"geolog 1\n| point A\n| point B\n| midpoint M A B\n| prove { collinear A M B }\n\
+        part: b"geolog 2\n| point A\n| point B\n| midpoint M A B\n| prove { collinear A M B }\n\
             goal 1 collinear A M B\nstart : -1*S0.1.2\ncut -1 : +1*S0.1.2\npoint 2 : 0\nend\n\
             sample x0=0 y0=0 x1=0 y1=0\nverdict proved\n",
         is_whole: true,
@@ -51,7 +51,7 @@ const CASES: [Case; 12] = [
         program: MIDDLE,
         steps: 23,
         answer: Answer::Stops(ProveError::Spent { line: 9 }),
-        part: b"geolog 1\n| point A\n| point B\n| midpoint M A B\n| prove { collinear A M B }\n\
+        part: b"geolog 2\n| point A\n| point B\n| midpoint M A B\n| prove { collinear A M B }\n\
             goal 1 collinear A M B\nstart : -1*S0.1.2\ncut -1 : +1*S0.1.2\nstop spent 9\n",
         is_whole: true,
     },
@@ -71,7 +71,7 @@ const CASES: [Case; 12] = [
         program: b"point A point B inter X A B A B prove { collinear A B X }",
         steps: 100_000_000,
         answer: Answer::Is(Verdict::Impossible(1)),
-        part: b"geolog 1\n| point A\n| point B\n| inter X A B A B\n| prove { collinear A B X }\n\
+        part: b"geolog 2\n| point A\n| point B\n| inter X A B A B\n| prove { collinear A B X }\n\
             condition 1 not_parallel A B A B\nstart : 0\nend\nverdict impossible 1\n",
         is_whole: true,
     },
@@ -96,7 +96,7 @@ const CASES: [Case; 12] = [
         program: b"point A point B point C prove { collinear A B C }",
         steps: 100_000_000,
         answer: Answer::Is(Verdict::False(1)),
-        part: b"geolog 1\n| point A\n| point B\n| point C\n| prove { collinear A B C }\n\
+        part: b"geolog 2\n| point A\n| point B\n| point C\n| prove { collinear A B C }\n\
             goal 1 collinear A B C\nstart : +1*S0.1.2\n\
             coords : +1*x0*y1 -1*x0*y2 -1*y0*x1 +1*y0*x2 +1*x1*y2 -1*y1*x2\nend\n\
             sample x0=0 y0=0 x1=0 y1=1 x2=1 y2=0\nverdict false 1\n",
@@ -116,7 +116,7 @@ const CASES: [Case; 12] = [
             line: 5,
             which: Which::Norm,
         }),
-        part: b"geolog 1\n| param r\n\
+        part: b"geolog 2\n| param r\n\
             | prove { equal { r } { 170141183460469231731687303715884105727 } }\n\
             goal 1 equal { r } { 170141183460469231731687303715884105727 }\n\
             stop too_large 5 norm\n",
@@ -195,6 +195,6 @@ fn logs_are_written(rt: HostRuntime) -> Result<(), Fail> {
 fn a_write_fails(rt: HostRuntime) -> Result<(), Fail> {
     let (answer, sink) = proved(rt.alloc(), &CASES[0], &[3])?;
     assert_eq!(rt; answer, Answer::Stops(ProveError::WriteFault));
-    assert!(rt; sink.bytes() == b"geolog 1\n| point A\n".as_slice());
+    assert!(rt; sink.bytes() == b"geolog 2\n| point A\n".as_slice());
     Ok(())
 }

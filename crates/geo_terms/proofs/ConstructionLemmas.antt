@@ -2,7 +2,7 @@
 use Rattle.std.proofs.Common.{◌≡◌, ℕ, ◌<◌, ◌≤◌, length, sym, subst, arith}
 use Rattle.geo_points.specs.declared.ids.TermId.{TermId}
 use Rattle.geo_terms.specs.declared.steps.Step.{Step}
-use Rattle.geo_terms.specs.declared.steps.Step.TheVariants.{Point, Inter, Foot, Pratio, Tratio}
+use Rattle.geo_terms.specs.declared.steps.Step.TheVariants.{Point, Inter, Foot, Pratio, Tratio, Weights}
 use Rattle.geo_terms.specs.Constructions.{Construction, IsConstruction, IsStep, IsStepTerm}
 use Rattle.geo_terms.specs.Stores.{Store, IsStore, tree_of}
 use Rattle.geo_terms.specs.Trees.{Tree, IsStepNumber, integer_leaf, parameter_leaf, area_leaf, pythagoras_leaf, ratio_leaf, negation, addition, subtraction, multiplication, division}
@@ -40,6 +40,7 @@ module _ (old new : Store) (terms : HasTermsOf old new) (points more_points para
   IsStep-more (Foot p u v) h = (omega arith, omega arith, omega arith)
   IsStep-more (Pratio w u v r) h = (omega arith, omega arith, omega arith, IsStepTerm-more r h.3)
   IsStep-more (Tratio u v r) h = (omega arith, omega arith, IsStepTerm-more r h.2)
+  IsStep-more (Weights o u v r s) h = (omega arith, omega arith, omega arith, IsStepTerm-more r h.3, IsStepTerm-more s h.4)
 
 -- a construction stays one over a store that has its terms, and over more parameters
 pub IsConstruction-more : (c : Construction) (new : Store) (more_params : ℕ) → IsConstruction c → IsStore new → HasTermsOf c.nodes new

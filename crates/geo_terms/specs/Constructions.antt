@@ -2,9 +2,9 @@
 use Rattle.std.specs.Prelude.{◌≡◌, ℕ, ◌<◌, ◌≤◌, Some, List, length, slice_get}
 use Rattle.geo_points.specs.declared.ids.TermId.{TermId}
 use Rattle.geo_points.specs.Placements.{Placement}
-use Rattle.geo_points.specs.Steps.{IsAlong, IsCrossing, IsFoot, IsTurned}
+use Rattle.geo_points.specs.Steps.{IsAlong, IsCrossing, IsFoot, IsTurned, IsWeighted}
 use Rattle.geo_terms.specs.declared.steps.Step.{Step}
-use Rattle.geo_terms.specs.declared.steps.Step.TheVariants.{Point, Inter, Foot, Pratio, Tratio}
+use Rattle.geo_terms.specs.declared.steps.Step.TheVariants.{Point, Inter, Foot, Pratio, Tratio, Weights}
 use Rattle.geo_terms.specs.Stores.{Store, IsStore, tree_of}
 use Rattle.geo_terms.specs.Trees.{IsStepNumber}
 use Rattle.geo_terms.specs.Values.{HasTreeValue, tree_value}
@@ -20,13 +20,15 @@ pub record IsStepTerm (nodes : Store) (points params : ℕ) (r : TermId) : Type 
   pub stored : r.0 < length nodes
   pub number : IsStepNumber points params (tree_of nodes r)
 
--- the step names points below `points` alone, and its number is one for a step
+-- the step names points below `points` alone, and its numbers are numbers for a step
 abbrev pub IsStep : Store → ℕ → ℕ → Step → Type 0
 IsStep nodes points params Point = Unit {0}
 IsStep nodes points params (Inter u v p q) = (u.0 < points) × (v.0 < points) × (p.0 < points) × (q.0 < points)
 IsStep nodes points params (Foot p u v) = (p.0 < points) × (u.0 < points) × (v.0 < points)
 IsStep nodes points params (Pratio w u v r) = (w.0 < points) × (u.0 < points) × (v.0 < points) × IsStepTerm nodes points params r
 IsStep nodes points params (Tratio u v r) = (u.0 < points) × (v.0 < points) × IsStepTerm nodes points params r
+IsStep nodes points params (Weights o u v r s) =
+    (o.0 < points) × (u.0 < points) × (v.0 < points) × IsStepTerm nodes points params r × IsStepTerm nodes points params s
 
 -- each step is one over the points before it
 pub record IsConstruction (c : Construction) : Type 0 where
@@ -37,7 +39,7 @@ pub record IsConstruction (c : Construction) : Type 0 where
 
 -- MEETING A STEP
 
--- the step that makes the point k is met: its number has a value, and its equation and its condition hold
+-- the step that makes the point k is met: its numbers have values, and its equation and its condition hold
 abbrev pub IsStepMet : Placement → Store → ℕ → Step → Type 0
 IsStepMet placed nodes k Point = Unit {0}
 IsStepMet placed nodes k (Inter u v p q) =
@@ -49,6 +51,11 @@ IsStepMet placed nodes k (Pratio w u v r) =
 IsStepMet placed nodes k (Tratio u v r) =
     HasTreeValue placed (tree_of nodes r)
     × IsTurned (placed.point u.0) (placed.point v.0) (tree_value placed (tree_of nodes r)) (placed.point k)
+IsStepMet placed nodes k (Weights o u v r s) =
+    HasTreeValue placed (tree_of nodes r)
+    × HasTreeValue placed (tree_of nodes s)
+    × IsWeighted (placed.point o.0) (placed.point u.0) (placed.point v.0) (tree_value placed (tree_of nodes r))
+    (tree_value placed (tree_of nodes s)) (placed.point k)
 
 -- all steps are met
 abbrev pub MeetsSteps : Placement → Construction → Type 0

@@ -58,6 +58,20 @@ pub enum Step {
         /// The number r.
         r: TermId,
     },
+    /// The point with `Y - O = r (U - O) + s (V - O)`: seen from O, it has the weight r at U and
+    /// the weight s at V. The points may be equal or on one line.
+    Weights {
+        /// The point O, from which the vectors go.
+        o: PointId,
+        /// The point U.
+        u: PointId,
+        /// The point V.
+        v: PointId,
+        /// The number r, the weight at U.
+        r: TermId,
+        /// The number s, the weight at V.
+        s: TermId,
+    },
 }
 
 /// The steps of a construction, with the store of their terms and the number of its parameters.
@@ -132,7 +146,8 @@ impl Steps {
     }
 
     /// The point that the step makes, which is the next one. The step names earlier points alone;
-    /// its number is a term without ratios over earlier points and the parameters that are there.
+    /// each of its numbers is a term without ratios over earlier points and the parameters that are
+    /// there.
     pub fn push(&mut self, step: Step) -> Result<PointId, NoMemory>
         requires step { IsStep self.old.nodes (length self.old.steps) self.old.params step }
         requires room { length self.old.steps < 512 }

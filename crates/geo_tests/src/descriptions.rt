@@ -37,7 +37,7 @@ fn term_texts(alloc: Global, terms: &Terms) -> Result<Vec<String>, NoMemory> {
     Ok(texts)
 }
 
-// The word of a step, its points and its number.
+// The word of a step, its points and its numbers.
 fn step_text(alloc: Global, texts: &[String], step: Step) -> Result<String, NoMemory> {
     let text = match step {
         Step::Point => format!(in alloc; "point")?,
@@ -50,6 +50,10 @@ fn step_text(alloc: Global, texts: &[String], step: Step) -> Result<String, NoMe
         }
         Step::Tratio { u, v, r } => {
             format!(in alloc; "tratio {} {} {}", u.0, v.0, term_text(texts, r))?
+        }
+        Step::Weights { o, u, v, r, s } => {
+            let (r, s) = (term_text(texts, r), term_text(texts, s));
+            format!(in alloc; "weights {} {} {} {r} {s}", o.0, u.0, v.0)?
         }
     };
     Ok(text)

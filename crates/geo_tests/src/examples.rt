@@ -358,3 +358,37 @@ pub const EXAMPLES: &[(&str, &str)] = &[
          goal 9 midpoint A Y X: sub(add(mul(2,P(9,0,9)),mul(2,P(6,0,6))),P(9,6,9))",
     ),
 ];
+
+// A text that spells a program, its problem, and its problem for logs of version 1. These are worked
+// out by hand.
+pub const WEIGHTED: &[(&str, &str, &str)] = &[
+    // The centroid by its weights.
+    (
+        "point A point B point C weights X A B C div { 1 } { 3 } div { 1 } { 3 } \
+         prove { equal { signed_area3 X B C } { signed_area3 X C A } }",
+        "points 0 1 2 3 lines params after 1 2 3 4 made 4 0 \
+         0: point 1: point 2: point 3: weights 0 1 2 div(1,3) div(1,3) \
+         goal 5 equal { signed_area3 X B C } { signed_area3 X C A }: sub(S(3,1,2),S(3,2,0))",
+        "points 0 1 2 4 lines params after 1 2 3 5 made 5 0 \
+         0: point 1: point 2: point 3: pratio 0 0 1 div(1,3) 4: pratio 3 0 2 div(1,3) \
+         goal 5 equal { signed_area3 X B C } { signed_area3 X C A }: sub(S(4,1,2),S(4,2,0))",
+    ),
+    // Conditions that are assumed, and those of the divisors of both weights.
+    (
+        "point A point B param r param s assume different A B point C assume not_collinear A B C \
+         weights X A B C div { 1 } { r } div { 1 } { s } assume not_parallel A X B C \
+         prove { collinear A X B }",
+        "points 0 1 2 3 lines params 0 1 after 1 2 2 2 2 3 3 4 4 made 4 2 \
+         0: point 1: point 2: point 3: weights 0 1 2 div(1,t0) div(1,t1) \
+         condition 5 different A B: P(0,1,0) condition 7 not_collinear A B C: S(0,1,2) \
+         condition 8 nonzero { r }: t0 condition 8 nonzero { s }: t1 \
+         condition 9 not_parallel A X B C: sub(S(0,1,2),S(3,1,2)) \
+         goal 10 collinear A X B: S(0,3,1)",
+        "points 0 1 2 4 lines params 0 1 after 1 2 2 2 2 3 3 5 5 made 5 2 \
+         0: point 1: point 2: point 3: pratio 0 0 1 div(1,t0) 4: pratio 3 0 2 div(1,t1) \
+         condition 5 different A B: P(0,1,0) condition 7 not_collinear A B C: S(0,1,2) \
+         condition 8 nonzero { r }: t0 condition 8 nonzero { s }: t1 \
+         condition 9 not_parallel A X B C: sub(S(0,1,2),S(4,1,2)) \
+         goal 10 collinear A X B: S(0,4,1)",
+    ),
+];

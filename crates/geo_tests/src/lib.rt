@@ -25,3 +25,5 @@ mod problems;
 mod ratio_moves_table;
 #[cfg(test)]
 mod starts;
+#[cfg(test)]
+mod weight_moves_table;

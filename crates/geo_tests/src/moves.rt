@@ -12,6 +12,7 @@ use crate::move_places::{has_points, is_below, is_placed};
 use crate::move_texts::{error_text, name_of, push_poly};
 use crate::moves_table::{ALONG, FEET, INTERSECTIONS, NUMBERS, TURNED};
 use crate::ratio_moves_table::{LINES, RATIOS, WORKED};
+use crate::weight_moves_table::WEIGHTS;
 use area_coords::CoordRows;
 use elim_apply::{ApplyError, Move, apply, start};
 use elim_area::AreaRows;
@@ -343,6 +344,13 @@ fn moves_along_vectors_are_those_of_the_reference(rt: HostRuntime) -> Result<(),
 #[test]
 fn moves_of_turned_points_are_those_of_the_reference(rt: HostRuntime) -> Result<(), Fail> {
     let odd = odd_chain(rt.alloc(), TURNED)?;
+    assert_eq!(rt; odd.as_str(), "");
+    Ok(())
+}
+
+#[test]
+fn moves_of_weighted_points_are_those_of_the_reference(rt: HostRuntime) -> Result<(), Fail> {
+    let odd = odd_chain(rt.alloc(), WEIGHTS)?;
     assert_eq!(rt; odd.as_str(), "");
     Ok(())
 }

@@ -20,7 +20,7 @@ use Rattle.proof_log.proofs.NoLineFeeds.{logs_told}
 use Rattle.geo_logs.specs.Chains.{chain_lines}
 use Rattle.geo_logs.specs.Logs.{AreConditionsWorked, AreGoalsWorked, Chains, Item, Samples, known_by}
 use Rattle.log_checker.specs.Accepted.{AcceptedBytesMean, AcceptedBytesTellPrograms, ProgramsHaveDefinedLogs, ProgramsHaveSubjects}
-use Rattle.log_checker.specs.Subjects.{log_item, source_lines}
+use Rattle.log_checker.specs.Subjects.{version_number, log_item, source_lines}
 use Rattle.log_checker.proofs.Realised.{accepted_samples_are_met, false_breaks, impossible_is_never_met, proved_is_true}
 use Rattle.log_checker.proofs.Reached.{defined_log_exists}
 
@@ -119,43 +119,50 @@ accepted_bytes_tell_programs bytes steps steps' p q verdict verdict' a b =
     let same : a.lines ≡ b.lines = logs_told a.lines b.lines a.writable b.writable (sym a.written ∙ b.written) in
     let first = conditions_first _ _ a.accepted.subject.goals [] [] 1 steps a.accepted.subject.conditions log.rest verdict a.accepted.left log.worked in
     let second = conditions_first _ _ b.accepted.subject.goals [] [] 1 steps' b.accepted.subject.conditions other.rest verdict' b.accepted.left other.worked in
-    let whole : ◌≡◌ {A = List Line} (Header ∷ (map ProgramLine a.accepted.subject.program ++ log.rest)) (Header ∷ (map ProgramLine b.accepted.subject.program ++ other.rest)) =
+    let whole : ◌≡◌ {A = List Line} (Header a.accepted.subject.version ∷ (map ProgramLine a.accepted.subject.program ++ log.rest)) (Header b.accepted.subject.version ∷ (map ProgramLine b.accepted.subject.program ++ other.rest)) =
     sym log.split ∙ same ∙ other.split in
+    let header : Header a.accepted.subject.version ≡ Header b.accepted.subject.version = cc in
+    let version : a.accepted.subject.version ≡ b.accepted.subject.version = cc in
     let tail : map ProgramLine a.accepted.subject.program ++ log.rest ≡ map ProgramLine b.accepted.subject.program ++ other.rest = cc in
     let parts = same_beginning a.accepted.subject.program b.accepted.subject.program log.rest other.rest tail first.0 second.0 in
     let lines = sym a.accepted.about.same_program ∙ parts.0 ∙ b.accepted.about.same_program in
     let last : VerdictLine verdict ≡ VerdictLine verdict' = one_end other.rest (VerdictLine verdict) (VerdictLine verdict') (subst (λ ls. EndsIn ls (VerdictLine verdict)) parts.1 first.1) second.1 in (
       same_lines_same_program p q a.accepted.well_formed b.accepted.well_formed lines,
       (let verdicts : verdict ≡ verdict' = cc in verdicts),
+      version,
     )
 
 -- WHAT EACH PROGRAM HAS
 pub programs_have_subjects : ProgramsHaveSubjects
-programs_have_subjects p s =
-    let l = programs_have_lowered_forms p s.well_formed s.short in
+programs_have_subjects version p s =
+    let l = programs_have_lowered_forms version p s.well_formed s.short in
     let conditions = lists_exist.conditions p in
     let goals = lists_exist.goals p in (
       record {
+        version = version_number version;
         program = source_lines p;
         construction = l.0.construction;
-        conditions = map log_item (map (condition_item p) conditions.0);
-        goals = map log_item (map (goal_item p) goals.0);
+        conditions = map log_item (map (condition_item version p) conditions.0);
+        goals = map log_item (map (goal_item version p) goals.0);
       },
       record {
+        version = version;
         form = l.0;
-        conditions = map (condition_item p) conditions.0;
-        goals = map (goal_item p) goals.0;
+        conditions = map (condition_item version p) conditions.0;
+        goals = map (goal_item version p) goals.0;
         lowered = l.1;
         listed_conditions = record { conditions = conditions.0; listed = conditions.1; written = refl };
         listed_goals = record { goals = goals.0; listed = goals.1; written = refl };
+        same_version = refl;
         same_program = refl;
         same_construction = refl;
         same_conditions = refl;
         same_goals = refl;
       },
+      refl,
     )
 
 pub programs_have_defined_logs : ProgramsHaveDefinedLogs
-programs_have_defined_logs p steps s =
-    let subject = programs_have_subjects p s in
-    (subject.0, subject.1, defined_log_exists p subject.0 steps s.well_formed subject.1)
+programs_have_defined_logs version p steps s =
+    let found = programs_have_subjects version p s in
+    (found.0, found.1, found.2, defined_log_exists p found.0 steps s.well_formed found.1)

@@ -173,6 +173,7 @@ module _ (W V : Chains) (C D : Samples)
 -- SUBJECTS
 -- both have the same lines and the same items, over constructions with the same steps
 pub record AlikeSubjects (s t : Subject) : Type 0 where
+  pub version : s.version ≡ t.version
   pub program : s.program ≡ t.program
   pub conditions : s.conditions ≡ t.conditions
   pub goals : s.goals ≡ t.goals
@@ -190,7 +191,7 @@ module _ (s t : Subject) (h : AlikeSubjects s t) where
   d = t.construction
 
   pub same_over : over s d ≡ t
-  same_over = λ i. record { program = h.program i; construction = d; conditions = h.conditions i; goals = h.goals i }
+  same_over = λ i. record { version = h.version i; program = h.program i; construction = d; conditions = h.conditions i; goals = h.goals i }
 
   pub accepted_alike : (steps : ℕ) (lines : List Line) (verdict : Verdict) (left : ℕ) → IsAccepted lemma_table s steps lines verdict left → IsAccepted lemma_table t steps lines verdict left
   accepted_alike steps lines verdict left a =

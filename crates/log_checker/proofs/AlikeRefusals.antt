@@ -36,7 +36,7 @@ module _ (c d : Construction) (h : AlikeConstructions c d) where
   inner_alike : (known : List Var) (left : ℕ) (q : Summands) (l : Line) (r : Refusal) → IsInnerRefused lemma_table c known left q l r → IsInnerRefused lemma_table d known left q l r
   inner_alike known left q End r a = a
   inner_alike known left q (Cut f t) r a = a
-  inner_alike known left q Header r a = moves_alike left q Header r a
+  inner_alike known left q (Header version) r a = moves_alike left q (Header version) r a
   inner_alike known left q (Program text) r a = moves_alike left q (Program text) r a
   inner_alike known left q (Condition k text) r a = moves_alike left q (Condition k text) r a
   inner_alike known left q (Goal k text) r a = moves_alike left q (Goal k text) r a

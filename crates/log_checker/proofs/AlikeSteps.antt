@@ -1,5 +1,5 @@
 -- Constructions with the same steps, whatever the order of the terms in their stores, have the same rows.
-use Rattle.std.proofs.Common.{◌≡◌, ◌≢◌, ℕ, suc, Bool, ◌&&◌, ◌==◌, Option, Some, None, List, [], ◌∷◌, ◌++◌, map, refl, sym, ◌∙◌, ap, subst}
+use Rattle.std.proofs.Common.{◌≡◌, ◌≢◌, ℕ, suc, ◌+◌, Bool, ◌&&◌, ◌==◌, Option, Some, None, List, [], ◌∷◌, ◌++◌, map, refl, sym, ◌∙◌, ap, ap₂, subst}
 use Rattle.std.specs.Prelude.{slice_get, if◌then◌else◌}
 use Rattle.std.specs.List.{filter_map}
 use Rattle.std.specs.Option.{is_some, option_and_then, option_map}
@@ -7,7 +7,7 @@ use Rattle.std.specs.Ordering.{is_eq}
 use Rattle.std.proofs.lemmas.Option.{slice_get-map}
 use Rattle.fraction_poly.specs.Forms.{Form, integer, area, pythagoras, ratio, numerator, denominator, piece_of, ◌⊞◌, ◌⊟◌, ◌⊠◌}
 use Rattle.fraction_poly.specs.Measures.{numbers_of}
-use Rattle.fraction_poly.specs.StepForms.{along_numerator, step_charge, step_denominator, step_row}
+use Rattle.fraction_poly.specs.StepForms.{along_numerator, step_charge, step_denominator, step_row, weights_numerator}
 use Rattle.fraction_poly.specs.TableRows.{TableRow, made_row}
 use Rattle.geo_points.specs.declared.ids.PointId.{PointId}
 use Rattle.geo_points.specs.declared.ids.TermId.{TermId}
@@ -17,14 +17,14 @@ use Rattle.geo_poly.specs.PolynomialVariables.{variables_of}
 use Rattle.geo_poly.specs.Polynomials.{Summands}
 use Rattle.geo_poly.specs.Variables.{var_cmp}
 use Rattle.geo_terms.specs.declared.steps.Step.{Step}
-use Rattle.geo_terms.specs.declared.steps.Step.TheVariants.{Point, Inter, Foot, Pratio, Tratio}
+use Rattle.geo_terms.specs.declared.steps.Step.TheVariants.{Point, Inter, Foot, Pratio, Tratio, Weights}
 use Rattle.geo_terms.specs.Constructions.{Construction}
 use Rattle.geo_terms.specs.Stores.{Store, tree_of}
 use Rattle.geo_terms.specs.Trees.{Tree}
-use Rattle.geo_lowering.specs.StepForms.{StepForm, along, crossing_of, foot_of, free, step_form, turned_along}
+use Rattle.geo_lowering.specs.StepForms.{StepForm, along, crossing_of, foot_of, free, step_form, turned_along, weighted}
 use Rattle.area_coords.specs.FreeTable.{area_in_coordinates, difference_in_coordinates, free_table, is_free, is_free_step}
 use Rattle.elim_area.specs.AreaTable.{area_numerator, area_table, points_after}
-use Rattle.elim_pyth.specs.DifferenceTable.{along_square, difference_row, difference_table, linear_numerator, quadratic_numerator, quadratic_power, reading, turned_square}
+use Rattle.elim_pyth.specs.DifferenceTable.{along_square, difference_row, difference_table, linear_numerator, quadratic_numerator, quadratic_power, reading, turned_square, weights_square}
 use Rattle.elim_pyth.specs.declared.pyth_rows.Reading.{Reading}
 use Rattle.elim_pyth.specs.declared.pyth_rows.Reading.TheVariants.{Linear, Quadratic}
 use Rattle.elim_ratio.specs.RatioTable.{along_row, crossing_row, end_at, first_fitting, first_lemma, first_line, foot_row, lemma_row, pythagoras_row, ratio_table, same_line, second_line, shared_row, with_sign}
@@ -43,6 +43,7 @@ pub data Alike (n m : Store) : Step → Step → Type 0 where
   foot_both : (p u v : PointId) → Alike n m (Foot p u v) (Foot p u v)
   along_both : (w u v : PointId) (r s : TermId) → tree_of n r ≡ tree_of m s → Alike n m (Pratio w u v r) (Pratio w u v s)
   turned_both : (u v : PointId) (r s : TermId) → tree_of n r ≡ tree_of m s → Alike n m (Tratio u v r) (Tratio u v s)
+  weighted_both : (o u v : PointId) (r s r' s' : TermId) → tree_of n r ≡ tree_of m r' → tree_of n s ≡ tree_of m s' → Alike n m (Weights o u v r s) (Weights o u v r' s')
 
 same_point : (a b : PointId) → a.0 ≡ b.0 → a ≡ b
 same_point a b e = let point : ℕ → PointId = λ k. record { 0 = k } in ap point e
@@ -69,6 +70,12 @@ alike n m (Tratio u v r) (Tratio u' v' s) e =
     let b : u.0 ≡ u'.0 = cc in let c : v.0 ≡ v'.0 = cc in let t : tree_of n r ≡ tree_of m s = cc in
     let same : Tratio u v s ≡ Tratio u' v' s = λ i. Tratio (same_point u u' b i) (same_point v v' c i) s in
     subst (Alike n m (Tratio u v r)) same (turned_both u v r s t)
+alike n m (Weights o u v r s) (Weights o' u' v' r' s') e =
+    let f : weighted o.0 u.0 v.0 (tree_of n r) (tree_of n s) ≡ weighted o'.0 u'.0 v'.0 (tree_of m r') (tree_of m s') = e in
+    let a : o.0 ≡ o'.0 = cc in let b : u.0 ≡ u'.0 = cc in let c : v.0 ≡ v'.0 = cc in
+    let t : tree_of n r ≡ tree_of m r' = cc in let z : tree_of n s ≡ tree_of m s' = cc in
+    let same : Weights o u v r' s' ≡ Weights o' u' v' r' s' = λ i. Weights (same_point o o' a i) (same_point u u' b i) (same_point v v' c i) r' s' in
+    subst (Alike n m (Weights o u v r s)) same (weighted_both o u v r s r' s' t z)
 alike n m Point (Inter u v p q) e = absurd (let f : free ≡ crossing_of u.0 v.0 p.0 q.0 = e in cc)
 alike n m Point (Foot p u v) e = absurd (let f : free ≡ foot_of p.0 u.0 v.0 = e in cc)
 alike n m Point (Pratio w u v s) e = absurd (let f : free ≡ along w.0 u.0 v.0 (tree_of m s) = e in cc)
@@ -89,6 +96,16 @@ alike n m (Tratio u v r) Point e = absurd (let f : turned_along u.0 v.0 (tree_of
 alike n m (Tratio u v r) (Inter u' v' p' q') e = absurd (let f : turned_along u.0 v.0 (tree_of n r) ≡ crossing_of u'.0 v'.0 p'.0 q'.0 = e in cc)
 alike n m (Tratio u v r) (Foot p' u' v') e = absurd (let f : turned_along u.0 v.0 (tree_of n r) ≡ foot_of p'.0 u'.0 v'.0 = e in cc)
 alike n m (Tratio u v r) (Pratio w u' v' s) e = absurd (let f : turned_along u.0 v.0 (tree_of n r) ≡ along w.0 u'.0 v'.0 (tree_of m s) = e in cc)
+alike n m Point (Weights o' u' v' x y) e = absurd (let f : free ≡ weighted o'.0 u'.0 v'.0 (tree_of m x) (tree_of m y) = e in cc)
+alike n m (Inter u v p q) (Weights o' u' v' x y) e = absurd (let f : crossing_of u.0 v.0 p.0 q.0 ≡ weighted o'.0 u'.0 v'.0 (tree_of m x) (tree_of m y) = e in cc)
+alike n m (Foot p u v) (Weights o' u' v' x y) e = absurd (let f : foot_of p.0 u.0 v.0 ≡ weighted o'.0 u'.0 v'.0 (tree_of m x) (tree_of m y) = e in cc)
+alike n m (Pratio w u v r) (Weights o' u' v' x y) e = absurd (let f : along w.0 u.0 v.0 (tree_of n r) ≡ weighted o'.0 u'.0 v'.0 (tree_of m x) (tree_of m y) = e in cc)
+alike n m (Tratio u v r) (Weights o' u' v' x y) e = absurd (let f : turned_along u.0 v.0 (tree_of n r) ≡ weighted o'.0 u'.0 v'.0 (tree_of m x) (tree_of m y) = e in cc)
+alike n m (Weights o u v r s) Point e = absurd (let f : weighted o.0 u.0 v.0 (tree_of n r) (tree_of n s) ≡ free = e in cc)
+alike n m (Weights o u v r s) (Inter u' v' p' q') e = absurd (let f : weighted o.0 u.0 v.0 (tree_of n r) (tree_of n s) ≡ crossing_of u'.0 v'.0 p'.0 q'.0 = e in cc)
+alike n m (Weights o u v r s) (Foot p' u' v') e = absurd (let f : weighted o.0 u.0 v.0 (tree_of n r) (tree_of n s) ≡ foot_of p'.0 u'.0 v'.0 = e in cc)
+alike n m (Weights o u v r s) (Pratio w' u' v' x) e = absurd (let f : weighted o.0 u.0 v.0 (tree_of n r) (tree_of n s) ≡ along w'.0 u'.0 v'.0 (tree_of m x) = e in cc)
+alike n m (Weights o u v r s) (Tratio u' v' x) e = absurd (let f : weighted o.0 u.0 v.0 (tree_of n r) (tree_of n s) ≡ turned_along u'.0 v'.0 (tree_of m x) = e in cc)
 
 -- ROWS OF A STEP
 module _ (n m : Store) where
@@ -98,6 +115,7 @@ module _ (n m : Store) where
   one_denominator _ _ (foot_both p u v) = refl
   one_denominator _ _ (along_both w u v r s t) = ap denominator t
   one_denominator _ _ (turned_both u v r s t) = ap (λ (e : Tree). integer 4 ⊠ denominator e) t
+  one_denominator _ _ (weighted_both o u v r s r' s' t z) = ap₂ (λ (e f : Tree). denominator e ⊠ denominator f) t z
 
   one_charge : (a b : Step) → Alike n m a b → step_charge n a ≡ step_charge m b
   one_charge _ _ free_both = refl
@@ -105,6 +123,7 @@ module _ (n m : Store) where
   one_charge _ _ (foot_both p u v) = refl
   one_charge _ _ (along_both w u v r s t) = ap (λ (e : Tree). (numbers_of e).charge) t
   one_charge _ _ (turned_both u v r s t) = ap (λ (e : Tree). (numbers_of e).charge) t
+  one_charge _ _ (weighted_both o u v r s r' s' t z) = ap₂ (λ (e f : Tree). (numbers_of e).charge + (numbers_of f).charge) t z
 
   abbrev AreOneRow : Step → Step → ℕ → ℕ → Option Form → Option Form → Type 0
   AreOneRow a b power power' num num' = option_map (step_row n a power) num ≡ option_map (step_row m b power') num'
@@ -118,6 +137,8 @@ module _ (n m : Store) where
   one_area _ _ (foot_both p u v) x y = refl
   one_area _ _ (along_both w u v r s t) x y = ap (λ (e : Tree). Some (along_numerator w u v (numerator e) (denominator e) (area x y))) t
   one_area _ _ (turned_both u v r s t) x y = ap (λ (e : Tree). Some (integer 4 ⊠ denominator e ⊠ area x y u ⊟ numerator e ⊠ (pythagoras u x y ⊟ pythagoras v x y))) t
+  one_area _ _ (weighted_both o u v r s r' s' t z) x y =
+      ap₂ (λ (e f : Tree). Some (weights_numerator o u v (numerator e) (denominator e) (numerator f) (denominator f) (area x y))) t z
 
   one_linear : (a b : Step) → Alike n m a b → (x y : PointId) → linear_numerator n a x y ≡ linear_numerator m b x y
   one_linear _ _ free_both x y = refl
@@ -125,6 +146,8 @@ module _ (n m : Store) where
   one_linear _ _ (foot_both p u v) x y = refl
   one_linear _ _ (along_both w u v r s t) x y = ap (λ (e : Tree). Some (along_numerator w u v (numerator e) (denominator e) (pythagoras x y))) t
   one_linear _ _ (turned_both u v r s t) x y = ap (λ (e : Tree). Some (integer 4 ⊠ denominator e ⊠ pythagoras x y u ⊟ integer 16 ⊠ numerator e ⊠ (area u x y ⊟ area v x y))) t
+  one_linear _ _ (weighted_both o u v r s r' s' t z) x y =
+      ap₂ (λ (e f : Tree). Some (weights_numerator o u v (numerator e) (denominator e) (numerator f) (denominator f) (pythagoras x y))) t z
 
   one_square : (a b : Step) → Alike n m a b → (x y : PointId) → quadratic_numerator n a x y ≡ quadratic_numerator m b x y
   one_square _ _ free_both x y = refl
@@ -132,6 +155,8 @@ module _ (n m : Store) where
   one_square _ _ (foot_both p u v) x y = refl
   one_square _ _ (along_both w u v r s t) x y = ap (λ (e : Tree). Some (along_square w u v (numerator e) (denominator e) x y)) t
   one_square _ _ (turned_both u v r s t) x y = ap (λ (e : Tree). Some (turned_square u v (numerator e) (denominator e) x y)) t
+  one_square _ _ (weighted_both o u v r s r' s' t z) x y =
+      ap₂ (λ (e f : Tree). Some (weights_square o u v (numerator e) (denominator e) (numerator f) (denominator f) x y)) t z
 
   one_power : (a b : Step) → Alike n m a b → quadratic_power a ≡ quadratic_power b
   one_power _ _ free_both = refl
@@ -139,6 +164,7 @@ module _ (n m : Store) where
   one_power _ _ (foot_both p u v) = refl
   one_power _ _ (along_both w u v r s t) = refl
   one_power _ _ (turned_both u v r s t) = refl
+  one_power _ _ (weighted_both o u v r s r' s' t z) = refl
 
   one_reading : (a b : Step) → Alike n m a b → (r : Reading) → difference_row n a r ≡ difference_row m b r
   one_reading a b h (Linear x y) = one_row a b h 1 1 (linear_numerator n a x y) (linear_numerator m b x y) refl (one_linear a b h x y)
@@ -157,6 +183,7 @@ module _ (n m : Store) where
         charge = (numbers_of e).charge;
       }) (same_line u v y z)) t
   one_along _ _ (turned_both u v r s t) x turned y z = refl
+  one_along _ _ (weighted_both o u v r s r' s' t k) x turned y z = refl
 
   one_foot : (a b : Step) → Alike n m a b → (x : PointId) (turned : Bool) (y z : PointId) → foot_row a x turned y z ≡ foot_row b x turned y z
   one_foot _ _ free_both x turned y z = refl
@@ -164,6 +191,7 @@ module _ (n m : Store) where
   one_foot _ _ (foot_both p u v) x turned y z = refl
   one_foot _ _ (along_both w u v r s t) x turned y z = refl
   one_foot _ _ (turned_both u v r s t) x turned y z = refl
+  one_foot _ _ (weighted_both o u v r s r' s' t k) x turned y z = refl
 
   one_first : (a b : Step) → Alike n m a b → (row : PointId → PointId → PointId → PointId → Option TableRow) → first_line a row ≡ first_line b row
   one_first _ _ free_both row = refl
@@ -171,6 +199,7 @@ module _ (n m : Store) where
   one_first _ _ (foot_both p u v) row = refl
   one_first _ _ (along_both w u v r s t) row = refl
   one_first _ _ (turned_both u v r s t) row = refl
+  one_first _ _ (weighted_both o u v r s r' s' t z) row = refl
 
   one_second : (a b : Step) → Alike n m a b → (row : PointId → PointId → PointId → PointId → Option TableRow) → second_line a row ≡ second_line b row
   one_second _ _ free_both row = refl
@@ -178,6 +207,7 @@ module _ (n m : Store) where
   one_second _ _ (foot_both p u v) row = refl
   one_second _ _ (along_both w u v r s t) row = refl
   one_second _ _ (turned_both u v r s t) row = refl
+  one_second _ _ (weighted_both o u v r s r' s' t z) row = refl
 
   one_lemma : (a b : Step) → Alike n m a b → (lemma : ℕ) (y x : PointId) (turned : Bool) (d e : PointId) → lemma_row lemma n y a x turned d e ≡ lemma_row lemma m y b x turned d e
   one_lemma a b h lemma y x turned d e = λ i.
@@ -194,6 +224,7 @@ module _ (n m : Store) where
   one_free _ _ (foot_both p u v) = refl
   one_free _ _ (along_both w u v r s t) = refl
   one_free _ _ (turned_both u v r s t) = refl
+  one_free _ _ (weighted_both o u v r s r' s' t z) = refl
 
   -- STEPS AT A PLACE
   pub data AlikeAt : Option Step → Option Step → Type 0 where
@@ -327,6 +358,7 @@ module _ (c d : Construction) (h : AlikeConstructions c d) where
       kept _ _ (foot_both p u v) not_free = not_free
       kept _ _ (along_both w u v r s t) not_free = λ e. cc
       kept _ _ (turned_both u v r s t) not_free = λ e. cc
+      kept _ _ (weighted_both o u v r s r' s' t z) not_free = λ e. cc
 
       go : (o p : Option Step) → AlikeAt n m o p → o ≡ Some made.step → slice_get d.steps y.0 ≡ p → IsConstructed d y
       go _ _ none_both e f = absurd (let q : ◌≡◌ {A = Option Step} None (Some made.step) = e in cc)
@@ -353,6 +385,7 @@ module _ (c d : Construction) (h : AlikeConstructions c d) where
       go _ _ (foot_both p u v) r = r
       go _ _ (along_both w u v a b t) r = r
       go _ _ (turned_both u v a b t) r = r
+      go _ _ (weighted_both o u v a b a' b' t z) r = r
 
   pub variables_same : sample_variables c ≡ sample_variables d
   variables_same = λ i. coordinates_listed 0 c.steps d.steps h.steps i ++ parameters_from 0 (h.params i)

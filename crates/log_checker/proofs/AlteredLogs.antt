@@ -7,6 +7,7 @@ use Rattle.geo_poly.specs.Polynomials.{IsPolynomial, Summands, multiples, produc
 use Rattle.geo_poly.proofs.FactorLaws.{multiples-product}
 use Rattle.geo_terms.specs.Stores.{Store}
 use Rattle.geo_terms.specs.Trees.{area_leaf}
+use Rattle.geo_lexer.specs.Lexemes.{Lexeme, word_lexeme}
 use Rattle.geo_program.specs.declared.commands.Command.{Command}
 use Rattle.geo_program.specs.declared.commands.Command.TheVariants as command
 use Rattle.geo_program.specs.declared.names.Name.{Name}
@@ -30,7 +31,7 @@ use Rattle.log_checker.proofs.Midpoints.{midpoint, midpoint_about, midpoint_chai
 
 -- what is read: the program, and then this
 abbrev with_rest : List (Option Line) → List (Option Line)
-with_rest rest = Some Header ∷ map (λ text. Some (ProgramLine text)) midpoint.program ++ rest
+with_rest rest = Some (Header 2) ∷ map (λ text. Some (ProgramLine text)) midpoint.program ++ rest
 
 abbrev goal_line : Line
 goal_line = Goal 1 (codes "collinear A M B")
@@ -40,7 +41,7 @@ stop_behind : (read : Option Line) (more : List (Option Line)) (number : ℕ) (r
     → IsFirstStop 100 (with_rest (read ∷ more)) number r
 stop_behind read more number r over refused =
     inr (
-      record { texts = midpoint.program; rest = read ∷ more; split = refl; over = over },
+      record { version = 2; texts = midpoint.program; rest = read ∷ more; split = refl; over = over },
       inr (inr (record {
         something = λ e. let q : ◌≡◌ {A = List (Option Line)} (read ∷ more) [] = e in cc;
         program = midpoint_source;
@@ -48,6 +49,7 @@ stop_behind read more number r over refused =
         written = refl;
         subject = midpoint;
         about = midpoint_about;
+        same_version = refl;
         refused = refused;
       })),
     )
@@ -172,7 +174,7 @@ other_verdict =
 
 -- a header and the program alone: the next line is missing
 pub program_alone : IsFirstStop 100 (with_rest []) 6 (rejected unfinished)
-program_alone = inr (record { texts = midpoint.program; rest = []; split = refl; over = tt }, inl (record { nothing = refl; counted = refl; refused = refl }))
+program_alone = inr (record { version = 2; texts = midpoint.program; rest = []; split = refl; over = tt }, inl (record { nothing = refl; counted = refl; refused = refl }))
 
 -- a header twice: no program has no lines
 first_word : List ℕ → Bool
@@ -187,6 +189,11 @@ in_word : (w r : List ℕ) → first_word w ≡ true → first_word (w ++ r) ≡
 unfolding first_word
 in_word [] r e = let q : false ≡ true = e in absurd (cc)
 in_word (b ∷ w) r e = e
+
+-- a line that begins with such a word
+word_begins : (w : List ℕ) (rest : List Lexeme) → first_word w ≡ true → first_word (line_text (word_lexeme w ∷ rest)) ≡ true
+word_begins w [] e = e
+word_begins w (x ∷ rest) e = in_word w (32 ∷ line_text (x ∷ rest)) e
 
 word_first : (nodes : Store) (c : Command) → first_word (command_form nodes c).word ≡ true
 unfolding first_word
@@ -214,6 +221,10 @@ word_first nodes (command.Oncircle o a) = refl
 word_first nodes (command.Second a b o) = refl
 word_first nodes (command.Cc o p a) = refl
 word_first nodes (command.Inverse p o a) = refl
+word_first nodes (command.Weights a b c r s) = refl
+word_first nodes (command.AssumeDifferent a b) = refl
+word_first nodes (command.AssumeNotCollinear a b c) = refl
+word_first nodes (command.AssumeNotParallel a b c d) = refl
 
 -- the first line of each program begins with a word
 begins_with_word : (p : Source) → first_word_of (source_lines p) ≡ true
@@ -222,23 +233,21 @@ begins_with_word p = go p.names p.commands
   where
     go : (names : List Name) (commands : List Command)
         → first_word_of (map line_text (commands_lexemes p.names p.nodes names commands (no_sketches commands) ++ statement_lexemes p.names p.nodes p.statement ∷ [])) ≡ true
-    go [] [] = refl
-    go [] (c ∷ cs) = refl
-    go (n ∷ ns) [] = refl
-    go (n ∷ ns) (c ∷ cs) = in_word (command_form p.nodes c).word _ (word_first p.nodes c)
+    go names [] = refl
+    go names (c ∷ cs) = word_begins (command_form p.nodes c).word _ (word_first p.nodes c)
 
 no_program : (texts : List (List ℕ)) → first_word_of texts ≡ false → (p : Source) → IsWellFormed p → source_lines p ≢ texts
 no_program texts e p w same = let q : true ≡ false = sym (begins_with_word p) ∙ ap first_word_of same ∙ e in cc
 
 -- line 2 is `|  point A` with two spaces, and something follows the program: its lines are those of none
 pub two_spaces : (read : Option Line) (more : List (Option Line)) → IsProgramOver (read ∷ more)
-    → IsFirstStop 100 (Some Header ∷ map (λ text. Some (ProgramLine text)) (codes " point A" ∷ codes "point B" ∷ codes "midpoint M A B" ∷ codes "prove { collinear A M B }" ∷ []) ++ read ∷ more) 2
+    → IsFirstStop 100 (Some (Header 2) ∷ map (λ text. Some (ProgramLine text)) (codes " point A" ∷ codes "point B" ∷ codes "midpoint M A B" ∷ codes "prove { collinear A M B }" ∷ []) ++ read ∷ more) 2
     (rejected wrong_program)
 unfolding first_word_of first_word
 two_spaces read more over =
     let texts = codes " point A" ∷ codes "point B" ∷ codes "midpoint M A B" ∷ codes "prove { collinear A M B }" ∷ [] in
     inr (
-      record { texts = texts; rest = read ∷ more; split = refl; over = over },
+      record { version = 2; texts = texts; rest = read ∷ more; split = refl; over = over },
       inr (inl (record {
         something = λ e. let q : ◌≡◌ {A = List (Option Line)} (read ∷ more) [] = e in cc;
         wrong = no_program texts refl;
@@ -248,13 +257,13 @@ two_spaces read more over =
     )
 
 -- a second header: the lines of no program stand before it
-pub second_header : (more : List (Option Line)) → IsFirstStop 100 (Some Header ∷ Some Header ∷ more) 2 (rejected wrong_program)
+pub second_header : (more : List (Option Line)) → IsFirstStop 100 (Some (Header 2) ∷ Some (Header 2) ∷ more) 2 (rejected wrong_program)
 unfolding first_word_of first_word
 second_header more =
     inr (
-      record { texts = []; rest = Some Header ∷ more; split = refl; over = tt },
+      record { version = 2; texts = []; rest = Some (Header 2) ∷ more; split = refl; over = tt },
       inr (inl (record {
-        something = λ e. let q : ◌≡◌ {A = List (Option Line)} (Some Header ∷ more) [] = e in cc;
+        something = λ e. let q : ◌≡◌ {A = List (Option Line)} (Some (Header 2) ∷ more) [] = e in cc;
         wrong = no_program [] refl;
         counted = refl;
         refused = refl;

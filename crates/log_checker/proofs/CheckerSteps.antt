@@ -40,7 +40,7 @@ lines_counted c pieces h = h.counted ∙ ap length h.texts ∙ map-length line_t
 reached_by : (steps : ℕ) (lines : List Line) (s : State) → Leaves steps lines s → IsReachedState steps s
 reached_by steps lines (state.Failed e) h = tt
 reached_by steps lines state.Empty h = (lines, h)
-reached_by steps lines (state.Program bytes) h = (lines, h)
+reached_by steps lines (state.Program version text) h = (lines, h)
 reached_by steps lines (state.Work w) h = (lines, h)
 
 pub reached : (c : CheckerValue) → IsSound c → error_of c ≡ None → c.taken ≤ 67108864 → IsReachedState c.steps c.state
@@ -49,7 +49,7 @@ reached c sound none fits = let at = sound.stands none in reached_by c.steps at.
 reached_state : (steps taken lines : ℕ) (s : State) → IsSound (record { steps = steps; taken = taken; lines = lines; state = s }) → taken ≤ 67108864 → IsReachedState steps s
 reached_state steps taken lines (state.Failed e) sound fits = tt
 reached_state steps taken lines state.Empty sound fits = reached (record { steps = steps; taken = taken; lines = lines; state = state.Empty }) sound refl fits
-reached_state steps taken lines (state.Program bytes) sound fits = reached (record { steps = steps; taken = taken; lines = lines; state = state.Program bytes }) sound refl fits
+reached_state steps taken lines (state.Program version text) sound fits = reached (record { steps = steps; taken = taken; lines = lines; state = state.Program version text }) sound refl fits
 reached_state steps taken lines (state.Work w) sound fits = reached (record { steps = steps; taken = taken; lines = lines; state = state.Work w }) sound refl fits
 
 -- whether it has failed or not
@@ -114,6 +114,7 @@ finish_answers c pieces rest a h none answer = record {
     written = ap (λ bs. with_feeds pieces ++ bs) none ∙ append-nil (with_feeds pieces) ∙ text_taken c pieces h;
     accepted = answer.accepted;
   };
+  version = answer.version;
   counted = answer.counted;
   charged = answer.charged;
 }

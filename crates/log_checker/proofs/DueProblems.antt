@@ -6,6 +6,7 @@ use Rattle.geo_poly.specs.Polynomials.{Summands}
 use Rattle.geo_terms.specs.Constructions.{IsConstruction}
 use Rattle.geo_terms.specs.TermBounds.{IsTermBelow}
 use Rattle.geo_program.specs.WellFormed.{Source}
+use Rattle.geo_lowering.specs.declared.version.Version.{Version}
 use Rattle.geo_conditions.specs.declared.items.Item as stored
 use Rattle.geo_conditions.specs.declared.problem.Problem.{Problem}
 use Rattle.geo_conditions.specs.Lists.{IsProblem, item_form}
@@ -18,9 +19,9 @@ use Rattle.geo_logs.specs.Logs.{Item, Subject}
 use Rattle.geo_logs.specs.Starts.{start_charge, start_of}
 use Rattle.geo_logs.proofs.ChainValues.{chain_named}
 use Rattle.geo_logs.proofs.TermVariables.{term_sound}
-use Rattle.log_checker.specs.Checkers.{IsDue, IsTaskDue, header_of, subject_of}
+use Rattle.log_checker.specs.Checkers.{Head, IsDue, IsTaskDue, header_of, subject_of}
 use Rattle.log_checker.specs.Inner.Lines.{IsNamedBy, IsReached, IsReady, LeadsOn}
-use Rattle.log_checker.specs.Subjects.{IsSubjectOf, log_item, source_lines}
+use Rattle.log_checker.specs.Subjects.{IsSubjectOf, log_item, source_lines, version_number}
 use Rattle.log_checker.specs.declared.due.Due.TheVariants as due
 use Rattle.log_checker.specs.declared.due.Task.{Task}
 use Rattle.log_checker.specs.declared.due.Task.TheVariants as task
@@ -35,14 +36,16 @@ map_twice f g [] = refl
 map_twice f g (x ∷ xs) = ap (λ ys. f (g x) ∷ ys) (map_twice f g xs)
 
 -- the problem of a program gives the subject of its logs
-pub about : (p : Source) (q : Problem) → IsProblem p (form_of_problem q) q.conditions q.goals → IsSubjectOf p (subject_of (source_lines p) q)
-about p q h = record {
+pub about : (version : Version) (p : Source) (q : Problem) → IsProblem version p (form_of_problem q) q.conditions q.goals → IsSubjectOf p (subject_of (version_number version, source_lines p) q)
+about version p q h = record {
+  version = version;
   form = form_of_problem q;
   conditions = map (item_form q.steps.nodes) q.conditions;
   goals = map (item_form q.steps.nodes) q.goals;
   lowered = h.lowered;
   listed_conditions = h.conditions.are;
   listed_goals = h.goals.are;
+  same_version = refl;
   same_program = refl;
   same_construction = refl;
   same_conditions = map_twice log_item (item_form q.steps.nodes) q.conditions;
@@ -54,27 +57,27 @@ module _ (q : Problem) (ready : IsReady q) where
   p = ready.program
 
   abbrev subject : Subject
-  subject = subject_of (source_lines p) q
+  subject = subject_of (version_number ready.version, source_lines p) q
 
   parts : Parts p subject
-  parts = parts_of p subject (about p q ready.problem)
+  parts = parts_of p subject (about ready.version p q ready.problem)
 
   pub construction_valid : IsConstruction q.steps
   construction_valid = valid p subject ready.well_formed parts
 
-  task_below : (texts : List (List ℕ)) (steps : ℕ) (good : List Line) (known : List Var) (listed : List Summands) (left : ℕ) (t : Task) (item : Item)
-      → IsTaskDue (subject_of texts q) steps good known listed left t item → IsTermBelow (length q.steps.steps) q.steps.params item.term
-  task_below texts steps good known listed left (task.Condition k) item (index, e, at, d) = (conditions_named p subject ready.well_formed parts index item at).0
-  task_below texts steps good known listed left (task.Goal k) item (index, e, at, d) = (goals_named p subject ready.well_formed parts index item at).0
+  task_below : (head : Head) (steps : ℕ) (good : List Line) (known : List Var) (listed : List Summands) (left : ℕ) (t : Task) (item : Item)
+      → IsTaskDue (subject_of head q) steps good known listed left t item → IsTermBelow (length q.steps.steps) q.steps.params item.term
+  task_below head steps good known listed left (task.Condition k) item (index, e, at, d) = (conditions_named p subject ready.well_formed parts index item at).0
+  task_below head steps good known listed left (task.Goal k) item (index, e, at, d) = (goals_named p subject ready.well_formed parts index item at).0
 
   -- the polynomial of a chain in work
   pub step_named : (e : Evidence) (t : Task) (own : Option Var) (r : Summands) → IsReached q e (due.Step t own r) → IsNamedBy q.steps r
-  step_named e t own r (texts, steps, good, d) =
-      let s = subject_of texts q in
+  step_named e t own r (head, steps, good, d) =
+      let s = subject_of head q in
       let term = d.item.term in
       let w = worked_there s steps (header_of s steps t d.item) e.known d.first term d.lines e.budget.left r d.open_chain in
       chain_named lemma_table q.steps (lemma_table_sound q.steps construction_valid) e.known (length q.steps.steps) (d.first - start_charge term) (start_of term) w.front e.budget.left r
-      ((term_sound q.steps term).named (length q.steps.steps) (task_below texts steps d.before e.known e.ends d.first t d.item d.due)) w.leads
+      ((term_sound q.steps term).named (length q.steps.steps) (task_below head steps d.before e.known e.ends d.first t d.item d.due)) w.leads
 
   condition_stored : (index : ℕ) (item : stored.Item) → At q.conditions index item → item.term.0 < length q.steps.nodes
   condition_stored index item at =
@@ -89,8 +92,8 @@ module _ (q : Problem) (ready : IsReady q) where
   -- a header leads to the start of its chain
   pub condition_goes : (e : Evidence) (index : ℕ) (item : stored.Item) (line : Line) (t : Task) → At q.conditions index item → line ≡ ConditionLine (suc index) item.text
       → t ≡ task.Condition (suc index) → LeadsOn q e (due.Condition index) line e (due.Start t item.term)
-  condition_goes e index item line t at is same texts steps good d =
-      let s = subject_of texts q in
+  condition_goes e index item line t at is same head steps good d =
+      let s = subject_of head q in
       let log : stored.Item → Item = λ i. log_item (item_form q.steps.nodes i) in
       subst (λ u. IsDue s steps e (due.Start u item.term) (good ++ line ∷ [])) (sym same)
       (subst (λ l. IsDue s steps e (due.Start (task.Condition (suc index)) item.term) (good ++ l ∷ [])) (sym is) (
@@ -101,8 +104,8 @@ module _ (q : Problem) (ready : IsReady q) where
 
   pub goal_goes : (e : Evidence) (index : ℕ) (item : stored.Item) (line : Line) (t : Task) → At q.goals index item → line ≡ GoalLine (suc index) item.text
       → t ≡ task.Goal (suc index) → LeadsOn q e (due.Goal index) line e (due.Start t item.term)
-  goal_goes e index item line t at is same texts steps good d =
-      let s = subject_of texts q in
+  goal_goes e index item line t at is same head steps good d =
+      let s = subject_of head q in
       let log : stored.Item → Item = λ i. log_item (item_form q.steps.nodes i) in
       subst (λ u. IsDue s steps e (due.Start u item.term) (good ++ line ∷ [])) (sym same)
       (subst (λ l. IsDue s steps e (due.Start (task.Goal (suc index)) item.term) (good ++ l ∷ [])) (sym is) (

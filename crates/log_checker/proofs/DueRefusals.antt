@@ -19,7 +19,7 @@ use Rattle.elim_apply.specs.LemmaTable.{lemma_table}
 use Rattle.geo_logs.specs.Chains.{IsEnd}
 use Rattle.geo_logs.specs.Judging.{IsGoodSoFar, IsRefused, IsSampleRefused, Kind, Refusal, chain_kind, header_kind, inner_kind, kind_of, program_kind, sample_kind, start_kind, stop_kind, verdict_kind}
 use Rattle.geo_logs.specs.Places.{Place, before_line, before_sample, before_start, in_chain}
-use Rattle.log_checker.specs.Checkers.{subject_of}
+use Rattle.log_checker.specs.Checkers.{Head, subject_of}
 use Rattle.log_checker.specs.Inner.Lines.{IsRefusedAfter, RefusesAt, RefusesWhere, Tells}
 use Rattle.log_checker.specs.declared.due.Due.TheVariants as due
 use Rattle.log_checker.specs.declared.due.Task.{Task}
@@ -81,29 +81,29 @@ head_wrong_chain c due line e f n = inr (f ∙ sym e, (e, n))
 
 -- WHERE THIS IS DUE
 module _ (q : Problem) (e : Evidence) where
-  refused_there : (texts : List (List ℕ)) (steps : ℕ) (good : List Line) (place : Place) → IsGoodSoFar lemma_table (subject_of texts q) steps good place → (line : Line) (stop : Stop)
-      → RefusesAt q.steps place line stop → Tells (IsRefusedAfter (subject_of texts q) steps good (Some line)) stop
-  refused_there texts steps good place stands line stop h =
-      tells_map (IsRefused lemma_table q.steps place (Some line)) (IsRefusedAfter (subject_of texts q) steps good (Some line)) (λ r g. inl (place, stands, g)) stop h
+  refused_there : (head : Head) (steps : ℕ) (good : List Line) (place : Place) → IsGoodSoFar lemma_table (subject_of head q) steps good place → (line : Line) (stop : Stop)
+      → RefusesAt q.steps place line stop → Tells (IsRefusedAfter (subject_of head q) steps good (Some line)) stop
+  refused_there head steps good place stands line stop h =
+      tells_map (IsRefused lemma_table q.steps place (Some line)) (IsRefusedAfter (subject_of head q) steps good (Some line)) (λ r g. inl (place, stands, g)) stop h
 
   pub condition_refused : (index : ℕ) (item : stored.Item) (line : Line) (stop : Stop) → At q.conditions index item
       → RefusesAt q.steps (before_line (ConditionLine (suc index) item.text)) line stop → RefusesWhere q e (due.Condition index) line stop
-  condition_refused index item line stop at h texts steps good d =
+  condition_refused index item line stop at h head steps good d =
       let log : stored.Item → Item = λ i. log_item (item_form q.steps.nodes i) in
-      refused_there texts steps good (before_line (ConditionLine (suc index) item.text))
-      (header_stands (subject_of texts q) steps good e.known e.ends e.budget.left (task.Condition (suc index)) (log item) (index, refl, at_map log q.conditions index item at, d.1)) line stop h
+      refused_there head steps good (before_line (ConditionLine (suc index) item.text))
+      (header_stands (subject_of head q) steps good e.known e.ends e.budget.left (task.Condition (suc index)) (log item) (index, refl, at_map log q.conditions index item at, d.1)) line stop h
 
   pub goal_refused : (index : ℕ) (item : stored.Item) (line : Line) (stop : Stop) → At q.goals index item
       → RefusesAt q.steps (before_line (GoalLine (suc index) item.text)) line stop → RefusesWhere q e (due.Goal index) line stop
-  goal_refused index item line stop at h texts steps good d =
+  goal_refused index item line stop at h head steps good d =
       let log : stored.Item → Item = λ i. log_item (item_form q.steps.nodes i) in
-      refused_there texts steps good (before_line (GoalLine (suc index) item.text))
-      (header_stands (subject_of texts q) steps good e.known e.ends e.budget.left (task.Goal (suc index)) (log item) (index, refl, at_map log q.goals index item at, d.1)) line stop h
+      refused_there head steps good (before_line (GoalLine (suc index) item.text))
+      (header_stands (subject_of head q) steps good e.known e.ends e.budget.left (task.Goal (suc index)) (log item) (index, refl, at_map log q.goals index item at, d.1)) line stop h
 
   pub start_refused : (t : Task) (term : TermId) (line : Line) (stop : Stop) → RefusesAt q.steps (before_start e.budget.left (tree_of q.steps.nodes term)) line stop
       → RefusesWhere q e (due.Start t term) line stop
-  start_refused t term line stop h texts steps good d =
-      refused_there texts steps good (before_start e.budget.left d.0.item.term) (start_stands (subject_of texts q) steps good e.known e.ends e.budget.left t d.0) line stop
+  start_refused t term line stop h head steps good d =
+      refused_there head steps good (before_start e.budget.left d.0.item.term) (start_stands (subject_of head q) steps good e.known e.ends e.budget.left t d.0) line stop
       (subst (λ tree. RefusesAt q.steps (before_start e.budget.left tree) line stop) d.2 h)
 
   pub start_wrong_line : (t : Task) (term : TermId) (line : Line) → kind_of line ≢ start_kind → RefusesWhere q e (due.Start t term) line (Rejected reason.WrongLine)
@@ -111,15 +111,15 @@ module _ (q : Problem) (e : Evidence) where
 
   pub step_refused : (t : Task) (own : Option Var) (r : Summands) (line : Line) (stop : Stop) → RefusesAt q.steps (in_chain e.known e.budget.left r) line stop
       → RefusesWhere q e (due.Step t own r) line stop
-  step_refused t own r line stop h texts steps good d =
-      refused_there texts steps good (in_chain e.known e.budget.left r) (step_stands (subject_of texts q) steps good e.known e.ends e.budget.left t own r d) line stop h
+  step_refused t own r line stop h head steps good d =
+      refused_there head steps good (in_chain e.known e.budget.left r) (step_stands (subject_of head q) steps good e.known e.ends e.budget.left t own r d) line stop h
 
   pub step_not_ended : (t : Task) (own : Option Var) (r : Summands) → (IsEnd r → ⊥) → RefusesWhere q e (due.Step t own r) End (Rejected reason.NotEnded)
   step_not_ended t own r n = step_refused t own r End (Rejected reason.NotEnded) (inr (refl, (refl, n)))
 
   pub sample_refused : (v : Verdict) (line : Line) (stop : Stop) → RefusesAt q.steps (before_sample e.ends e.budget.left) line stop → RefusesWhere q e (due.Sample v) line stop
-  sample_refused v line stop h texts steps good d =
-      refused_there texts steps good (before_sample e.ends e.budget.left) (sample_stands (subject_of texts q) steps good e.ends v e.budget.left d) line stop h
+  sample_refused v line stop h head steps good d =
+      refused_there head steps good (before_sample e.ends e.budget.left) (sample_stands (subject_of head q) steps good e.ends v e.budget.left d) line stop h
 
   pub sample_wrong : (v : Verdict) (values : List (Var × ℤ)) (stop : Stop) → Tells (IsSampleRefused q.steps e.ends e.budget.left values) stop
       → RefusesWhere q e (due.Sample v) (Sample values) stop
@@ -131,11 +131,11 @@ module _ (q : Problem) (e : Evidence) where
   sample_wrong_line v line n = sample_refused v line (Rejected reason.WrongLine) (inl (n, refl))
 
   pub verdict_wrong : (v w : Verdict) → w ≢ v → RefusesWhere q e (due.Verdict v) (VerdictLine w) (Rejected reason.WrongVerdict)
-  verdict_wrong v w n texts steps good d =
+  verdict_wrong v w n head steps good d =
       inl (before_line (VerdictLine v), d.stands, inr (refl, (refl, λ (same : VerdictLine w ≡ VerdictLine v). n (let is : w ≡ v = cc in is))))
 
   pub verdict_wrong_line : (v : Verdict) (line : Line) → kind_of line ≢ verdict_kind → RefusesWhere q e (due.Verdict v) line (Rejected reason.WrongLine)
-  verdict_wrong_line v line n texts steps good d = inl (before_line (VerdictLine v), d.stands, inl (n, refl))
+  verdict_wrong_line v line n head steps good d = inl (before_line (VerdictLine v), d.stands, inl (n, refl))
 
   pub nothing_due : (v : Verdict) (line : Line) → RefusesWhere q e (due.Nothing v) line (Rejected reason.WrongLine)
-  nothing_due v line texts steps good d = inr ((v, e.budget.left, d), refl)
+  nothing_due v line head steps good d = inr ((v, e.budget.left, d), refl)

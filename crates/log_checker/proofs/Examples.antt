@@ -21,6 +21,7 @@ use Rattle.geo_program.specs.Words.{IsNameText, reserved_words}
 use Rattle.geo_program.proofs.Standing.{IsWord-tested, is_word}
 use Rattle.geo_lowering.specs.Conditions.{nonzero}
 use Rattle.geo_lowering.specs.Lowering.{IsLowered, LoweredForm}
+use Rattle.geo_lowering.specs.declared.version.Version.TheVariants.{One, Two}
 use Rattle.geo_conditions.specs.Lists.{all_found, condition_item, goal_item}
 use Rattle.geo_conditions.specs.Statements.{statement_goals}
 use Rattle.geo_conditions.specs.Truth.{Breaks, IsImpossible, ProgramValues}
@@ -100,7 +101,7 @@ twice_well_formed = record {
               (point_argument (at 0) ∷ point_argument (at 1) ∷ point_argument (at 0) ∷ point_argument (at 1) ∷ []) (lit< tt, (lit< tt, (lit< tt, (lit< tt, tt))));
           stored = tt;
         },
-        tt,
+        refl,
       ),
     ),
   );
@@ -126,7 +127,7 @@ twice_steps (suc (suc (suc k))) s e = absurd (let q : ◌≡◌ {A = Option Step
 abbrev twice_form : LoweredForm
 twice_form = record { construction = twice.construction; points = at 0 ∷ at 1 ∷ at 2 ∷ []; lines = []; params = []; after = 1 ∷ 2 ∷ 3 ∷ [] }
 
-twice_lowered : IsLowered twice_source twice_form
+twice_lowered : IsLowered One twice_source twice_form
 twice_lowered = record {
   valid = record { store = empty_store; steps = twice_steps; few = lit≤ tt; params_fit = lit≤ tt };
   steps = refl;
@@ -139,12 +140,14 @@ twice_lowered = record {
 
 twice_about : IsSubjectOf twice_source twice
 twice_about = record {
+  version = One;
   form = twice_form;
-  conditions = map (condition_item twice_source) (all_found twice_source);
-  goals = map (goal_item twice_source) (statement_goals [] twice_source.statement);
+  conditions = map (condition_item One twice_source) (all_found twice_source);
+  goals = map (goal_item One twice_source) (statement_goals [] twice_source.statement);
   lowered = twice_lowered;
   listed_conditions = record { conditions = all_found twice_source; listed = inr (none_in _, refl); written = refl };
   listed_goals = record { goals = statement_goals [] twice_source.statement; listed = inr (none_in _, refl); written = refl };
+  same_version = refl;
   same_program = refl;
   same_construction = refl;
   same_conditions = refl;
@@ -171,7 +174,7 @@ quotients_well_formed : IsWellFormed quotients_source
 quotients_well_formed = record {
   names = All-from_recursion (λ (n : Name). IsNameText n.text) quotients_source.names (letter_name 114 refl, tt);
   differ = (none_in (114 ∷ []), tt);
-  commands = (record { named = refl; arguments = All-nil (IsArgument empty_scope); stored = tt }, tt);
+  commands = (record { named = refl; arguments = All-nil (IsArgument empty_scope); stored = tt }, refl);
   few = lit≤ tt;
   statement = All-from_recursion (IsArgument (scope_of empty_scope quotients_source.names)) (statement_form quotients_source.nodes quotients_source.statement).arguments
       (((lit< tt, lit< tt), lit≤ tt), (((lit< tt, (lit< tt, lit< tt)), lit≤ tt), tt));
@@ -184,7 +187,7 @@ no_step k s e = absurd (let q : ◌≡◌ {A = Option Step} None (Some s) = e in
 abbrev quotients_form : LoweredForm
 quotients_form = record { construction = quotients.construction; points = []; lines = []; params = record { 0 = 0 } ∷ []; after = 0 ∷ [] }
 
-quotients_lowered : IsLowered quotients_source quotients_form
+quotients_lowered : IsLowered Two quotients_source quotients_form
 quotients_lowered = record {
   valid = record { store = empty_store; steps = λ k s e. no_step k s e; few = lit≤ tt; params_fit = lit≤ tt };
   steps = refl;
@@ -201,9 +204,10 @@ conditions_apart e = let q : subtraction (parameter_leaf (record { 0 = 0 })) (in
 quotients_about : IsSubjectOf quotients_source quotients
 unfolding digits
 quotients_about = record {
+  version = Two;
   form = quotients_form;
-  conditions = map (condition_item quotients_source) (all_found quotients_source);
-  goals = map (goal_item quotients_source) (statement_goals quotients_source.nodes quotients_source.statement);
+  conditions = map (condition_item Two quotients_source) (all_found quotients_source);
+  goals = map (goal_item Two quotients_source) (statement_goals quotients_source.nodes quotients_source.statement);
   lowered = quotients_lowered;
   listed_conditions = record {
     conditions = all_found quotients_source;
@@ -211,6 +215,7 @@ quotients_about = record {
     written = refl;
   };
   listed_goals = record { goals = statement_goals quotients_source.nodes quotients_source.statement; listed = inr (none_in _, refl); written = refl };
+  same_version = refl;
   same_program = refl;
   same_construction = refl;
   same_conditions = refl;

@@ -183,8 +183,8 @@ module _ (table : Table) (subject : Subject) (steps : ℕ) where
     continued xs place h fits = continued_from 67108865 xs place h fits (omega arith)
 
   -- the header is due first
-  pub begun_first : Begun [] (before_line Header)
-  begun_first = inl (0, Header, refl, refl, refl)
+  pub begun_first : Begun [] (before_line (Header subject.version))
+  begun_first = inl (0, Header subject.version, refl, refl, refl)
 
   pub none_fits : text_length [] ≤ 67108864
   none_fits = lit≤ tt

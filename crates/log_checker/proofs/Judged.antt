@@ -95,20 +95,24 @@ program_read (x ∷ xs) (y ∷ ys) r s e n m =
     (ap₂ (λ (z : List ℕ) (zs : List (List ℕ)). z ∷ zs) text more.0, more.1)
 
 -- what is read of a log of the subject: its program's lines, and a rest that is not refused
-pub record IsReadBehind (subject : Subject) (steps : ℕ) (texts : List (List ℕ)) (rest : List (Option Line)) : Type 0 where
+pub record IsReadBehind (subject : Subject) (steps version : ℕ) (texts : List (List ℕ)) (rest : List (Option Line)) : Type 0 where
+  pub number : subject.version ≡ version
   pub same : subject.program ≡ texts
   pub some : rest ≢ []
   pub good : (number : ℕ) (refusal : Refusal) → IsFirstRefusal lemma_table subject steps rest number refusal → ⊥
 
-read_behind : (subject : Subject) (steps left : ℕ) (lines : List Line) (verdict : Verdict) (texts : List (List ℕ)) (rest : List (Option Line)) → IsAccepted lemma_table subject steps lines verdict left
-    → map Some lines ≡ Some Header ∷ map (λ text. Some (ProgramLine text)) texts ++ rest → IsProgramOver rest → IsReadBehind subject steps texts rest
-read_behind subject steps left lines verdict texts rest a split over =
+read_behind : (subject : Subject) (steps left : ℕ) (lines : List Line) (verdict : Verdict) (version : ℕ) (texts : List (List ℕ)) (rest : List (Option Line)) → IsAccepted lemma_table subject steps lines verdict left
+    → map Some lines ≡ Some (Header version) ∷ map (λ text. Some (ProgramLine text)) texts ++ rest → IsProgramOver rest → IsReadBehind subject steps version texts rest
+read_behind subject steps left lines verdict version texts rest a split over =
     let first = conditions_first _ _ subject.goals [] [] 1 steps subject.conditions a.rest verdict left a.worked in
-    let whole : ◌≡◌ {A = List (Option Line)} (Some Header ∷ map Some (map ProgramLine subject.program ++ a.rest)) (Some Header ∷ (map (λ text. Some (ProgramLine text)) texts ++ rest)) =
+    let whole : ◌≡◌ {A = List (Option Line)} (Some (Header subject.version) ∷ map Some (map ProgramLine subject.program ++ a.rest)) (Some (Header version) ∷ (map (λ text. Some (ProgramLine text)) texts ++ rest)) =
     ap (λ (ls : List Line). map Some ls) (sym a.split) ∙ split in
+    let read : ◌≡◌ {A = Option Line} (Some (Header subject.version)) (Some (Header version)) = cc in
+    let header : Header subject.version ≡ Header version = cc in
     let tail : map Some (map ProgramLine subject.program ++ a.rest) ≡ map (λ text. Some (ProgramLine text)) texts ++ rest = cc in
     let parts = program_read subject.program texts a.rest rest tail first.0 over in
     record {
+      number = (let e : subject.version ≡ version = cc in e);
       same = parts.0;
       some = λ e. none_left a.rest (VerdictLine verdict) first.1 (parts.1 ∙ e);
       good = λ number refusal h. none_refused subject steps left a.rest verdict a.worked number refusal (subst (λ rs. IsFirstRefusal lemma_table subject steps rs number refusal) (sym parts.1) h);
@@ -119,13 +123,13 @@ pub accepted_logs_do_not_stop : AcceptedLogsDoNotStop
 accepted_logs_do_not_stop p steps number lines verdict refusal a (inl (h, one)) =
     subst (λ ls. IsHeaderRefused (map Some ls) refusal) a.accepted.split h
 accepted_logs_do_not_stop p steps number lines verdict refusal a (inr (first, inl h)) =
-    (read_behind a.subject steps a.left lines verdict first.texts first.rest a.accepted first.split first.over).some h.nothing
+    (read_behind a.subject steps a.left lines verdict first.version first.texts first.rest a.accepted first.split first.over).some h.nothing
 accepted_logs_do_not_stop p steps number lines verdict refusal a (inr (first, inr (inl h))) =
-    h.wrong p a.well_formed (sym a.about.same_program ∙ (read_behind a.subject steps a.left lines verdict first.texts first.rest a.accepted first.split first.over).same)
+    h.wrong p a.well_formed (sym a.about.same_program ∙ (read_behind a.subject steps a.left lines verdict first.version first.texts first.rest a.accepted first.split first.over).same)
 accepted_logs_do_not_stop p steps number lines verdict refusal a (inr (first, inr (inr h))) =
-    let mine = (read_behind a.subject steps a.left lines verdict first.texts first.rest a.accepted first.split first.over).same in
-    let one = alike_subjects p h.program a.subject h.subject a.well_formed h.well_formed (sym a.about.same_program ∙ mine ∙ sym h.written) a.about h.about in
-    (read_behind h.subject steps a.left lines verdict first.texts first.rest (accepted_alike a.subject h.subject one steps lines verdict a.left a.accepted) first.split first.over).good number refusal h.refused
+    let mine = read_behind a.subject steps a.left lines verdict first.version first.texts first.rest a.accepted first.split first.over in
+    let one = alike_subjects p h.program a.subject h.subject a.well_formed h.well_formed (sym a.about.same_program ∙ mine.same ∙ sym h.written) a.about h.about (mine.number ∙ sym h.same_version) in
+    (read_behind h.subject steps a.left lines verdict first.version first.texts first.rest (accepted_alike a.subject h.subject one steps lines verdict a.left a.accepted) first.split first.over).good number refusal h.refused
 
 pub accepted_bytes_are_not_refused : AcceptedBytesAreNotRefused
 accepted_bytes_are_not_refused bytes steps number p verdict refusal a r =

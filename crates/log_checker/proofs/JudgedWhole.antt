@@ -1,5 +1,5 @@
 -- What is read of bytes is an accepted log, or it has a first stop.
-use Rattle.std.proofs.Common.{◌≡◌, ◌≢◌, ℕ, suc, ◌+◌, ◌≤◌, ◌⊎◌, inl, inr, ⊎_elim, Option, Some, None, List, [], ◌∷◌, ◌++◌, map, length, append-nil, refl, sym, ◌∙◌, ap, subst, arith}
+use Rattle.std.proofs.Common.{◌≡◌, ◌≢◌, ℕ, suc, ◌+◌, ◌≤◌, ◌⊎◌, inl, inr, ⊎_elim, Option, Some, None, List, [], ◌∷◌, ◌++◌, map, length, append-nil, refl, sym, ◌∙◌, ap, ap₂, subst, arith}
 use Rattle.std.specs.Prelude.{codes}
 use Rattle.std.specs.List.{AllByRecursion, flat_map}
 use Rattle.std.proofs.lemmas.List.{append_assoc, length-append}
@@ -20,6 +20,7 @@ use Rattle.log_checker.specs.Accepted.{Accepts, IsShortProgram}
 use Rattle.log_checker.specs.Judged.{AcceptedWhereNotRefused, AreRead, BeginsWithProgram, BytesAreJudged, GoesOnWith, IsFirstStop, IsJudged, IsOfProgramOrNone, IsProgramOver, IsReadable, Refuses, RestsAreJudged}
 use Rattle.log_checker.specs.Subjects.{IsSubjectOf, source_lines}
 use Rattle.log_checker.proofs.AcceptedBytes.{programs_have_subjects, text_of_lines}
+use Rattle.log_checker.proofs.VersionNumbers.{version_told}
 use Rattle.log_checker.proofs.Judged.{accepted_bytes_are_not_refused}
 use Rattle.log_checker.proofs.ReadLines.{bytes_are_read}
 use Rattle.log_checker.proofs.Onwards.{conditions_start}
@@ -132,11 +133,11 @@ parted (Some (ProgramLine text) ∷ reads) =
     record { texts = text ∷ h.texts; rest = h.rest; split = ap (λ (rs : List (Option Line)). Some (ProgramLine text) ∷ rs) h.split; over = h.over }
 parted (Some line ∷ reads) = record { texts = []; rest = Some line ∷ reads; split = refl; over = tt }
 
-behind_header : (bytes : List ℕ) (header : Option Line) (reads : List (Option Line)) → AreRead bytes (header ∷ reads) → header ≡ Some Header
+behind_header : (bytes : List ℕ) (line : Line) (header : Option Line) (reads : List (Option Line)) → AreRead bytes (header ∷ reads) → header ≡ Some line
     → (rest : List ℕ) × (length rest ≤ length bytes) × AreRead rest reads
-behind_header bytes header reads (inl (first, h)) e =
+behind_header bytes line header reads (inl (first, h)) e =
     (first.rest, (let whole : length bytes ≡ length (first.piece ++ 10 ∷ first.rest) = ap length first.split in let parts = length-append first.piece (10 ∷ first.rest) in omega (arith, whole, parts)), h)
-behind_header bytes header reads (inr h) e = absurd (let q : ◌≡◌ {A = Option Line} None (Some Header) = sym h.2 ∙ e in cc)
+behind_header bytes line header reads (inr h) e = absurd (let q : ◌≡◌ {A = Option Line} None (Some line) = sym h.2 ∙ e in cc)
 
 -- WHOLE LOGS
 module _ (bytes : List ℕ) (steps : ℕ) where
@@ -150,15 +151,15 @@ module _ (bytes : List ℕ) (steps : ℕ) where
     -- the texts behind the header are short
     short : (p : Source) → IsWellFormed p → source_lines p ≡ first.texts → IsShortProgram p
     short p w e =
-        let behind = behind_header bytes (Some Header) (map (λ text. Some (ProgramLine text)) first.texts ++ first.rest) (subst (AreRead bytes) first.split are) refl in
+        let behind = behind_header bytes (Header first.version) (Some (Header first.version)) (map (λ text. Some (ProgramLine text)) first.texts ++ first.rest) (subst (AreRead bytes) first.split are) refl in
         let fit = texts_fit behind.0 first.texts first.rest behind.2 in
         let text : length (flat_map with_feed first.texts) ≡ length (canonical_text p) = ap length (ap (flat_map with_feed) (sym e) ∙ text_of_lines p) in
         record { well_formed = w; short = let b = behind.1 in omega (arith, b, fit, text, small) }
 
-    accepted : (p : Source) (subject : Subject) (good : List Line) → IsWellFormed p → source_lines p ≡ first.texts → IsSubjectOf p subject → first.rest ≡ map Some good
+    accepted : (p : Source) (subject : Subject) (good : List Line) → IsWellFormed p → source_lines p ≡ first.texts → IsSubjectOf p subject → subject.version ≡ first.version → first.rest ≡ map Some good
         → IsGoodToEnd lemma_table subject steps good → Outcome
-    accepted p subject good w e s same (verdict, left, worked) =
-        let lines = Header ∷ map ProgramLine subject.program ++ good in
+    accepted p subject good w e s number same (verdict, left, worked) =
+        let lines = Header subject.version ∷ map ProgramLine subject.program ++ good in
         let whole : reads ≡ map Some lines = first.split ∙ joined in
         let h : AreRead bytes (map Some lines) = subst (AreRead bytes) whole are in
         inl (
@@ -176,20 +177,22 @@ module _ (bytes : List ℕ) (steps : ℕ) where
         mapped [] = refl
         mapped (t ∷ ts) = ap (λ (rs : List (Option Line)). Some (ProgramLine t) ∷ rs) (mapped ts)
 
-        joined : Some Header ∷ map (λ text. Some (ProgramLine text)) first.texts ++ first.rest ≡ map Some (Header ∷ map ProgramLine subject.program ++ good)
+        joined : Some (Header first.version) ∷ map (λ text. Some (ProgramLine text)) first.texts ++ first.rest ≡ map Some (Header subject.version ∷ map ProgramLine subject.program ++ good)
         joined =
-            ap (λ (rs : List (Option Line)). Some Header ∷ map (λ text. Some (ProgramLine text)) first.texts ++ rs) same
-            ∙ ap (λ (ts : List (List ℕ)). Some Header ∷ map (λ text. Some (ProgramLine text)) ts ++ map Some good) (sym e ∙ sym s.same_program)
-            ∙ ap (λ (rs : List (Option Line)). Some Header ∷ rs) (mapped subject.program)
+            ap (λ (rs : List (Option Line)). Some (Header first.version) ∷ map (λ text. Some (ProgramLine text)) first.texts ++ rs) same
+            ∙ ap₂ (λ (n : ℕ) (ts : List (List ℕ)). Some (Header n) ∷ map (λ text. Some (ProgramLine text)) ts ++ map Some good) (sym number) (sym e ∙ sym s.same_program)
+            ∙ ap (λ (rs : List (Option Line)). Some (Header subject.version) ∷ rs) (mapped subject.program)
 
     of_program : first.rest ≢ [] → (p : Source) → IsWellFormed p → source_lines p ≡ first.texts → AllByRecursion IsReadable first.rest → Outcome
     of_program some p w e r =
-        let found = programs_have_subjects p (short p w e) in
+        let told = version_told first.version (subst (AllByRecursion IsReadable) first.split (readable bytes reads are)).0 in
+        let found = programs_have_subjects told.0 p (short p w e) in
+        let number = found.2 ∙ told.1 in
         ⊎_elim
-        (λ (h : (good : List Line) × (first.rest ≡ map Some good) × IsGoodToEnd lemma_table found.0 steps good). accepted p found.0 h.0 w e found.1 h.1 h.2)
+        (λ (h : (good : List Line) × (first.rest ≡ map Some good) × IsGoodToEnd lemma_table found.0 steps good). accepted p found.0 h.0 w e found.1 number h.1 h.2)
         (λ (h : (number : ℕ) × (refusal : Refusal) × IsFirstRefusal lemma_table found.0 steps first.rest number refusal).
         stop reads h.0 h.1 are
-        (inr (first, inr (inr (record { something = some; program = p; well_formed = w; written = e; subject = found.0; about = found.1; refused = h.2 })))))
+        (inr (first, inr (inr (record { something = some; program = p; well_formed = w; written = e; subject = found.0; about = found.1; same_version = number; refused = h.2 })))))
         (rests_are_judged p found.0 steps first.rest w found.1 r)
 
     of_texts : first.rest ≢ [] → IsOfProgramOrNone first.texts → AllByRecursion IsReadable first.rest → Outcome
@@ -213,12 +216,12 @@ judged_reads bytes steps reads are small decided = go reads are decided
     go : (rs : List (Option Line)) → AreRead bytes rs → ((first : BeginsWithProgram rs) → IsOfProgramOrNone first.texts) → Outcome bytes steps
     go [] h d = stop bytes steps [] 1 (rejected unfinished) h (inl (refl, refl))
     go (None ∷ rs) h d = stop bytes steps (None ∷ rs) 1 (rejected bad_line) h (inl (refl, refl))
-    go (Some Header ∷ rs) h d =
+    go (Some (Header version) ∷ rs) h d =
         let parts = parted rs in
-        let first : BeginsWithProgram (Some Header ∷ rs) =
-        record { texts = parts.texts; rest = parts.rest; split = ap (λ (ys : List (Option Line)). Some Header ∷ ys) parts.split; over = parts.over } in
-        let all = (readable bytes (Some Header ∷ rs) h).1 in
-        behind_program bytes steps (Some Header ∷ rs) h first small parts.rest refl (d first) (rest_readable parts.texts parts.rest (subst (AllByRecursion IsReadable) parts.split all))
+        let first : BeginsWithProgram (Some (Header version) ∷ rs) =
+        record { version = version; texts = parts.texts; rest = parts.rest; split = ap (λ (ys : List (Option Line)). Some (Header version) ∷ ys) parts.split; over = parts.over } in
+        let all = (readable bytes (Some (Header version) ∷ rs) h).1 in
+        behind_program bytes steps (Some (Header version) ∷ rs) h first small parts.rest refl (d first) (rest_readable parts.texts parts.rest (subst (AllByRecursion IsReadable) parts.split all))
     go (Some line ∷ rs) h d = stop bytes steps (Some line ∷ rs) 1 (rejected wrong_line) h (inl (refl, refl))
 
 pub bytes_are_judged : BytesAreJudged

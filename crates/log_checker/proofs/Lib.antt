@@ -36,6 +36,7 @@ pub mod AcceptedBytes
 pub mod Midpoints
 pub mod AlikeSteps
 pub mod AlikeLogs
+pub mod VersionNumbers
 pub mod OneSubject
 pub mod Judged
 pub mod AlikeRefusals

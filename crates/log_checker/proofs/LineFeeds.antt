@@ -98,7 +98,7 @@ module _ (p : Source) (w : IsWellFormed p) where
     condition_texts i item at =
         let parts = parts_of p subject s in
         let X = points_from 0 p.commands in let Y = params_past 0 p.commands in let J = lines_past 0 p.commands in
-        let f = of_map (log_condition p) parts.found i item (subst (λ items. At items i item) parts.conditions at) in
+        let f = of_map (log_condition parts.version p) parts.found i item (subst (λ items. At items i item) parts.conditions at) in
         let over = listed_hold (λ g. g.condition) (IsConditionOver X Y J) (all_found p) [] parts.found parts.listed tt (program_over p w (named_program p w)) in
         let here : IsConditionOver X Y J f.0.condition = each_at (λ g. IsConditionOver X Y J g.condition) parts.found i f.0 over f.1 in
         let named : IsConditionOver S.points S.params S.lines f.0.condition =
@@ -108,7 +108,7 @@ module _ (p : Source) (w : IsWellFormed p) where
     pub goal_texts : (i : ℕ) (item : Item) → At subject.goals i item → HasNoLineFeed item.text
     goal_texts i item at =
         let parts = parts_of p subject s in
-        let g = of_map (log_goal p) parts.goals i item (subst (λ items. At items i item) parts.same_goals at) in
+        let g = of_map (log_goal parts.version p) parts.goals i item (subst (λ items. At items i item) parts.same_goals at) in
         let printable = each_at (λ (h : Statement). IsPrintableGoal p.names p.nodes h) parts.goals i g.0 (goals_printable p w parts.goals parts.listed_goals) g.1 in
         let form = statement_form p.nodes g.0 in
         subst (λ (t : Item). HasNoLineFeed t.text) (sym g.2)

@@ -23,6 +23,7 @@ use Rattle.geo_lowering.proofs.Fixed.{command_frees, frees_append, past_all}
 use Rattle.geo_lowering.proofs.FormLaws.{FreesAgree, past}
 use Rattle.geo_lowering.proofs.Laying.{AreLaid, laid_program}
 use Rattle.geo_lowering.proofs.Steps.{step_of_form}
+use Rattle.geo_lowering.specs.declared.version.Version.{Version}
 use Rattle.geo_conditions.specs.Truth.{whole_point}
 use Rattle.geo_logs.specs.Placements.{HasValuesBelow, MeetsStepsBelow}
 use Rattle.geo_logs.specs.Samples.{value_in}
@@ -37,8 +38,8 @@ abbrev pub sample_placement : List (Var × ℤ) → Placement
 sample_placement values = record { point = sample_point values; number = λ t. whole (value_in values (Number (record { 0 = t }))) }
 
 -- what a program is given
-abbrev pub given_by : Source → List (Var × ℤ) → Placement
-given_by p values = record { point = λ a. sample_point values (point_place p.commands a); number = (sample_placement values).number }
+abbrev pub given_by : Version → Source → List (Var × ℤ) → Placement
+given_by version p values = record { point = λ a. sample_point values (point_place version p.commands a); number = (sample_placement values).number }
 
 -- STEPS IN FRONT
 module _ (nodes : Store) where
@@ -77,67 +78,67 @@ module _ (nodes : Store) where
       subst (λ i. SamePoint (placed.point i) (other.point i)) q (front_free placed other fs more ts (suc n) (same_tail t ts f (fs ++ more) e) h.1 k (omega (arith, lt)) at)
 
 -- the first commands are laid out
-pub laid_front : (l : Layout) (bs cs : List Command) (x q j n m : ℕ) → AreLaid l x q j n m (bs ++ cs) → AreLaid l x q j n m bs
-laid_front l [] cs x q j n m h = tt
-laid_front l (b ∷ bs) cs x q j n m h = (h.0, laid_front l bs cs _ _ _ (next_point n b) (next_number m b) h.1)
+pub laid_front : (version : Version) (l : Layout) (bs cs : List Command) (x q j n m : ℕ) → AreLaid version l x q j n m (bs ++ cs) → AreLaid version l x q j n m bs
+laid_front version l [] cs x q j n m h = tt
+laid_front version l (b ∷ bs) cs x q j n m h = (h.0, laid_front version l bs cs _ _ _ (next_point version n b) (next_number m b) h.1)
 
 -- STEPS OF COMMANDS
-module _ (p : Source) where
+module _ (version : Version) (p : Source) where
   abbrev L : Layout
-  L = layout_of p.commands
+  L = layout_of version p.commands
 
-  pub steps_split : (bs cs : List Command) (n m : ℕ) → (more : List StepForm) × (steps_from L p.nodes n m (bs ++ cs) ≡ steps_from L p.nodes n m bs ++ more)
-  steps_split [] cs n m = (steps_from L p.nodes n m cs, refl)
+  pub steps_split : (bs cs : List Command) (n m : ℕ) → (more : List StepForm) × (steps_from version L p.nodes n m (bs ++ cs) ≡ steps_from version L p.nodes n m bs ++ more)
+  steps_split [] cs n m = (steps_from version L p.nodes n m cs, refl)
   steps_split (b ∷ bs) cs n m =
-      let h = steps_split bs cs (next_point n b) (next_number m b) in
-      let here = command_steps L p.nodes n m b in
-      (h.0, ap (λ fs. here ++ fs) h.1 ∙ sym (append_assoc here (steps_from L p.nodes (next_point n b) (next_number m b) bs) h.0))
+      let h = steps_split bs cs (next_point version n b) (next_number m b) in
+      let here = command_steps version L p.nodes n m b in
+      (h.0, ap (λ fs. here ++ fs) h.1 ∙ sym (append_assoc here (steps_from version L p.nodes (next_point version n b) (next_number m b) bs) h.0))
 
   -- the free points that are made are those of the sample
-  pub made_free : (values : List (Var × ℤ)) (lowered : Placement) (cs : List Command) (x q j n m : ℕ) → AreLaid L x q j n m cs
-      → AreMade p (given_by p values) lowered x n m cs → FreesAgree lowered (sample_placement values) n (steps_from L p.nodes n m cs)
+  pub made_free : (values : List (Var × ℤ)) (lowered : Placement) (cs : List Command) (x q j n m : ℕ) → AreLaid version L x q j n m cs
+      → AreMade version p (given_by version p values) lowered x n m cs → FreesAgree lowered (sample_placement values) n (steps_from version L p.nodes n m cs)
   made_free values lowered [] x q j n m d h = tt
   made_free values lowered (c ∷ cs) x q j n m d h =
-      let here = command_steps L p.nodes n m c in
-      let rest = steps_from L p.nodes (next_point n c) (next_number m c) cs in
+      let here = command_steps version L p.nodes n m c in
+      let rest = steps_from version L p.nodes (next_point version n c) (next_number m c) cs in
       frees_append lowered (sample_placement values) n here rest
-      (command_frees p lowered (sample_placement values) n m c
-      (λ e. let at : point_place p.commands x ≡ n = d.0.point (ap named e) ∙ ap (λ b. further n (hidden b)) e in
+      (command_frees version p lowered (sample_placement values) n m c
+      (λ e. let at : point_place version p.commands x ≡ n = d.0.point (ap named e) ∙ ap (λ b. further n (hidden version b)) e in
       subst (λ i. SamePoint (lowered.point n) (sample_point values i)) at (h.1 e)))
-      (subst (λ i. FreesAgree lowered (sample_placement values) i rest) (sym (past_steps L p.nodes n m c))
-      (made_free values lowered cs _ _ _ (next_point n c) (next_number m c) d.1 h.2))
+      (subst (λ i. FreesAgree lowered (sample_placement values) i rest) (sym (past_steps version L p.nodes n m c))
+      (made_free values lowered cs _ _ _ (next_point version n c) (next_number m c) d.1 h.2))
 
 -- WHAT IS MADE
-module _ (p : Source) (l : LoweredForm) (i : IsLowered p l) (values : List (Var × ℤ)) (before rest : List Command) (e : p.commands ≡ before ++ rest)
-    (at : ℕ → Triple) (h : AreMade p (given_by p values) (record { point = at; number = (given_by p values).number }) 0 0 0 before) where
+module _ (version : Version) (p : Source) (l : LoweredForm) (i : IsLowered version p l) (values : List (Var × ℤ)) (before rest : List Command) (e : p.commands ≡ before ++ rest)
+    (at : ℕ → Triple) (h : AreMade version p (given_by version p values) (record { point = at; number = (given_by version p values).number }) 0 0 0 before) where
   abbrev made : Placement
-  made = record { point = at; number = (given_by p values).number }
+  made = record { point = at; number = (given_by version p values).number }
 
   abbrev in_front : List StepForm
-  in_front = steps_from (layout_of p.commands) p.nodes 0 0 before
+  in_front = steps_from version (layout_of version p.commands) p.nodes 0 0 before
 
   more : (ms : List StepForm) × (map (step_form l.construction.nodes) l.construction.steps ≡ in_front ++ ms)
-  more = let s = steps_split p before rest 0 0 in (s.0, i.steps ∙ ap (λ cs. steps_from (layout_of p.commands) p.nodes 0 0 cs) e ∙ s.1)
+  more = let s = steps_split version p before rest 0 0 in (s.0, i.steps ∙ ap (λ cs. steps_from version (layout_of version p.commands) p.nodes 0 0 cs) e ∙ s.1)
 
-  last : past 0 in_front ≡ points_past 0 before
-  last = past_all p before 0 0
+  last : past 0 in_front ≡ points_past version 0 before
+  last = past_all version p before 0 0
 
-  pub meets_below : MeetsStepsBelow made l.construction (points_past 0 before)
+  pub meets_below : MeetsStepsBelow made l.construction (points_past version 0 before)
   meets_below k s lt at_k =
       let q : 0 + k ≡ k = omega arith in
       let b : 0 + k < past 0 in_front = subst (λ n. 0 + k < n) (sym last) (omega (arith, lt)) in
       subst (λ n. IsStepMet made l.construction.nodes n s) q
-      (front_met l.construction.nodes made in_front more.0 l.construction.steps 0 more.1 (made_met p (given_by p values) made before 0 0 0 h) k s b at_k)
+      (front_met l.construction.nodes made in_front more.0 l.construction.steps 0 more.1 (made_met version p (given_by version p values) made before 0 0 0 h) k s b at_k)
 
-  free_point : (a : PointId) → a.0 < points_past 0 before → At l.construction.steps a.0 step.Point → SamePoint (at a.0) (sample_point values a.0)
+  free_point : (a : PointId) → a.0 < points_past version 0 before → At l.construction.steps a.0 step.Point → SamePoint (at a.0) (sample_point values a.0)
   free_point a lt is_free =
       let q : 0 + a.0 ≡ a.0 = omega arith in
       let b : 0 + a.0 < past 0 in_front = subst (λ n. 0 + a.0 < n) (sym last) (omega (arith, lt)) in
       subst (λ n. SamePoint (at n) (sample_point values n)) q
       (front_free l.construction.nodes made (sample_placement values) in_front more.0 l.construction.steps 0 more.1
-      (made_free p values made before 0 0 0 0 0 (laid_front (layout_of p.commands) before rest 0 0 0 0 0 (subst (λ cs. AreLaid (layout_of p.commands) 0 0 0 0 0 cs) e (laid_program p.commands))) h) a.0 b is_free)
+      (made_free version p values made before 0 0 0 0 0 (laid_front version (layout_of version p.commands) before rest 0 0 0 0 0 (subst (λ cs. AreLaid version (layout_of version p.commands) 0 0 0 0 0 cs) e (laid_program version p.commands))) h) a.0 b is_free)
 
-  pub has_values : HasValuesBelow made l.construction (points_past 0 before) values
+  pub has_values : HasValuesBelow made l.construction (points_past version 0 before) values
   unfolding whole
   has_values = record {
     by_x = λ a lt made_free_there. (free_point a lt made_free_there).by_x;

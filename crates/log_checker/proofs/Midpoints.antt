@@ -28,6 +28,7 @@ use Rattle.geo_program.specs.Forms.{point_argument}
 use Rattle.geo_program.specs.WellFormed.{AllDiffer, IsArgument, IsWellFormed, Source, declare, empty_scope, scope_of}
 use Rattle.geo_program.specs.Words.{IsNameText}
 use Rattle.geo_lowering.specs.Lowering.{IsLowered, LoweredForm}
+use Rattle.geo_lowering.specs.declared.version.Version.TheVariants.{Two}
 use Rattle.geo_conditions.specs.Lists.{goal_item}
 use Rattle.geo_conditions.specs.Truth.{IsTrueProgram}
 use Rattle.geo_sample.specs.Samples.{IsLeastValue}
@@ -84,7 +85,7 @@ midpoint_well_formed = record {
           arguments = All-from_recursion (IsArgument (declare kind.Point (declare kind.Point empty_scope))) (point_argument (at 0) ∷ point_argument (at 1) ∷ []) (lit< tt, (lit< tt, tt));
           stored = tt;
         },
-        tt,
+        refl,
       ),
     ),
   );
@@ -154,7 +155,7 @@ steps (suc (suc (suc k))) x e = absurd (let q : ◌≡◌ {A = Option Step} None
 abbrev pub midpoint_form : LoweredForm
 midpoint_form = record { construction = midpoint_construction; points = at 0 ∷ at 1 ∷ at 2 ∷ []; lines = []; params = []; after = 1 ∷ 2 ∷ 3 ∷ [] }
 
-pub midpoint_lowered : IsLowered midpoint_source midpoint_form
+pub midpoint_lowered : IsLowered Two midpoint_source midpoint_form
 midpoint_lowered = record {
   valid = record { store = record { once = once; children = children; integers = integers; few = lit≤ tt }; steps = steps; few = lit≤ tt; params_fit = lit≤ tt };
   steps = refl;
@@ -168,6 +169,7 @@ midpoint_lowered = record {
 -- ITS SUBJECT: no condition, one goal
 abbrev pub midpoint : Subject
 midpoint = record {
+  version = 2;
   program = codes "point A" ∷ codes "point B" ∷ codes "midpoint M A B" ∷ codes "prove { collinear A M B }" ∷ [];
   construction = midpoint_construction;
   conditions = [];
@@ -176,12 +178,14 @@ midpoint = record {
 
 pub midpoint_about : IsSubjectOf midpoint_source midpoint
 midpoint_about = record {
+  version = Two;
   form = midpoint_form;
   conditions = [];
-  goals = map (goal_item midpoint_source) (midpoint_source.statement ∷ []);
+  goals = map (goal_item Two midpoint_source) (midpoint_source.statement ∷ []);
   lowered = midpoint_lowered;
   listed_conditions = record { conditions = []; listed = refl; written = refl };
   listed_goals = record { goals = midpoint_source.statement ∷ []; listed = inr (none_in _, refl); written = refl };
+  same_version = refl;
   same_program = refl;
   same_construction = refl;
   same_conditions = refl;
@@ -206,7 +210,7 @@ midpoint_rest =
 
 abbrev pub midpoint_lines : List Line
 midpoint_lines =
-    Header ∷ ProgramLine (codes "point A") ∷ ProgramLine (codes "point B") ∷ ProgramLine (codes "midpoint M A B") ∷ ProgramLine (codes "prove { collinear A M B }") ∷ midpoint_rest
+    Header 2 ∷ ProgramLine (codes "point A") ∷ ProgramLine (codes "point B") ∷ ProgramLine (codes "midpoint M A B") ∷ ProgramLine (codes "prove { collinear A M B }") ∷ midpoint_rest
 
 abbrev pub midpoint_chain : Chain
 midpoint_chain = record { steps = cuts ([], negsuc 0) (times (pos 1)) ∷ moves (PointMove (at 2)) [] ∷ []; end = [] }
@@ -338,7 +342,7 @@ cut_due = record { nonzero = some_term (negsuc 0); factor = sole_factor (negsuc 
 
 abbrev pub eight_lines : List Line
 eight_lines =
-    Header ∷ ProgramLine (codes "point A") ∷ ProgramLine (codes "point B") ∷ ProgramLine (codes "midpoint M A B") ∷ ProgramLine (codes "prove { collinear A M B }")
+    Header 2 ∷ ProgramLine (codes "point A") ∷ ProgramLine (codes "point B") ∷ ProgramLine (codes "midpoint M A B") ∷ ProgramLine (codes "prove { collinear A M B }")
     ∷ Goal 1 (codes "collinear A M B") ∷ Start (times (negsuc 0)) ∷ Cut ([], negsuc 0) (times (pos 1)) ∷ []
 
 pub midpoint_stops : IsDefinedLog lemma_table midpoint 23 (eight_lines ++ StopSpent 9 ∷ []) (ends_by spent)
@@ -370,7 +374,7 @@ midpoint_stops = (
 abbrev pub midpoint_text : List ℕ
 midpoint_text =
     flat_map (λ (line : List ℕ). line ++ 10 ∷ []) (
-    codes "geolog 1" ∷ codes "| point A" ∷ codes "| point B" ∷ codes "| midpoint M A B" ∷ codes "| prove { collinear A M B }" ∷ codes "goal 1 collinear A M B"
+    codes "geolog 2" ∷ codes "| point A" ∷ codes "| point B" ∷ codes "| midpoint M A B" ∷ codes "| prove { collinear A M B }" ∷ codes "goal 1 collinear A M B"
     ∷ codes "start : -1*S0.1.2" ∷ codes "cut -1 : +1*S0.1.2" ∷ codes "point 2 : 0" ∷ codes "end" ∷ codes "sample x0=0 y0=0 x1=0 y1=0" ∷ codes "verdict proved" ∷ []
     )
 
@@ -397,7 +401,7 @@ can_write z h = record { polynomial = h; variables = ((area_variable, tt), tt) }
 midpoint_writable : AllWritable midpoint_lines
 unfolding has_feed
 midpoint_writable =
-    (tt, (no_feed (codes "point A") refl, (no_feed (codes "point B") refl, (no_feed (codes "midpoint M A B") refl, (no_feed (codes "prove { collinear A M B }") refl, chain_writable)))))
+    ((lit≤ tt, lit≤ tt), (no_feed (codes "point A") refl, (no_feed (codes "point B") refl, (no_feed (codes "midpoint M A B") refl, (no_feed (codes "prove { collinear A M B }") refl, chain_writable)))))
   where
     coordinate : (v : Var) → IsVariable v → CanWriteValue (v, pos 0)
     coordinate v h = record { variable = h; fits = lit< tt }

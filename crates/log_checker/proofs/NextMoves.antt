@@ -15,7 +15,7 @@ use Rattle.geo_poly.specs.Polynomials.{Summands}
 use Rattle.geo_poly.specs.Variables.{var_cmp}
 use Rattle.geo_poly.proofs.Orders.{var_order}
 use Rattle.geo_terms.specs.declared.steps.Step.{Step}
-use Rattle.geo_terms.specs.declared.steps.Step.TheVariants.{Point as FreeStep, Inter, Foot, Pratio, Tratio}
+use Rattle.geo_terms.specs.declared.steps.Step.TheVariants.{Point as FreeStep, Inter, Foot, Pratio, Tratio, Weights}
 use Rattle.geo_terms.specs.Constructions.{Construction}
 use Rattle.geo_logs.specs.declared.moves.Move.{Move}
 use Rattle.geo_logs.specs.declared.moves.Move.TheVariants.{Ratio, Point, Coords}
@@ -234,6 +234,7 @@ module _ (c : Construction) where
   area_some (Foot p u v) n (Some ab) h = refl
   area_some (Pratio w u v r) n (Some ab) h = refl
   area_some (Tratio u v r) n (Some ab) h = refl
+  area_some (Weights o u v r s) n (Some ab) h = refl
 
   difference_some : (step : Step) → step ≢ FreeStep → (o : Option Reading) → IsTrue (is_some o) → IsTrue (is_some (option_and_then (difference_row c.nodes step) o))
   difference_some step n None h = h
@@ -242,10 +243,12 @@ module _ (c : Construction) where
   difference_some (Foot p u v) n (Some (Linear a b)) h = refl
   difference_some (Pratio w u v r) n (Some (Linear a b)) h = refl
   difference_some (Tratio u v r) n (Some (Linear a b)) h = refl
+  difference_some (Weights o u v r s) n (Some (Linear a b)) h = refl
   difference_some (Inter u v p q) n (Some (Quadratic a b)) h = refl
   difference_some (Foot p u v) n (Some (Quadratic a b)) h = refl
   difference_some (Pratio w u v r) n (Some (Quadratic a b)) h = refl
   difference_some (Tratio u v r) n (Some (Quadratic a b)) h = refl
+  difference_some (Weights o u v r s) n (Some (Quadratic a b)) h = refl
 
   pub point_row : (y : PointId) → IsConstructed c y → (v : Var) → IsTrue (has_point y v) → (IsRatio v → ⊥) → IsTrue (is_some (Row_of (Point y) v))
   point_row y made (R a b d e) h n = absurd (n tt)
@@ -275,6 +278,7 @@ module _ (c : Construction) where
       go (Some (Foot p u v)) e = inl (record { step = Foot p u v; made = e; not_free = λ n. cc })
       go (Some (Pratio w u v r)) e = inl (record { step = Pratio w u v r; made = e; not_free = λ n. cc })
       go (Some (Tratio u v r)) e = inl (record { step = Tratio u v r; made = e; not_free = λ n. cc })
+      go (Some (Weights o u v r s)) e = inl (record { step = Weights o u v r s; made = e; not_free = λ n. cc })
 
   module _ (q : Summands) where
     occurs_or_not : (y : PointId) → Occurs y q ⊎ (Occurs y q → ⊥)
@@ -359,6 +363,7 @@ module _ (c : Construction) where
           go (Some (Foot p u v)) e = absurd (free a (record { step = Foot p u v; made = e; not_free = λ n. cc }) occurs)
           go (Some (Pratio w u v r)) e = absurd (free a (record { step = Pratio w u v r; made = e; not_free = λ n. cc }) occurs)
           go (Some (Tratio u v r)) e = absurd (free a (record { step = Tratio u v r; made = e; not_free = λ n. cc }) occurs)
+          go (Some (Weights o u v r s)) e = absurd (free a (record { step = Weights o u v r s; made = e; not_free = λ n. cc }) occurs)
 
       named_at : (v : Var) → Contains (variables_of q) v → IsNamed c (length c.steps) v
       named_at v stands = each-contained (IsNamed c (length c.steps)) (variables_of q) v (each-variables (IsNamed c (length c.steps)) q named) stands

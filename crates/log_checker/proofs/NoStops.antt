@@ -12,6 +12,7 @@ use Rattle.log_checker.specs.Checked.{AreEachRead, CheckersMeetNoStop, TellsStop
 use Rattle.log_checker.specs.Checkers.{IsLeftBy}
 use Rattle.log_checker.specs.Inner.Judged.{StopsNext, StopsThere}
 use Rattle.log_checker.specs.Judged.{IsFirstStop}
+use Rattle.log_checker.specs.Subjects.{version_number}
 use Rattle.log_checker.specs.declared.due.Due.{Due}
 use Rattle.log_checker.specs.declared.due.Due.TheVariants as due
 use Rattle.log_checker.specs.declared.errors.CheckError.TheVariants as error
@@ -56,15 +57,15 @@ empty_meets steps n lines refusal is s =
     omega (arith, e)
 
 -- a program that goes on stops one line later
-program_meets : (steps n : ℕ) (lines : List Line) (refusal : Refusal) (texts : List (List ℕ)) → lines ≡ Header ∷ map ProgramLine texts → Meets steps lines n refusal → ⊥
-program_meets steps n lines refusal texts is s =
+program_meets : (steps n version : ℕ) (lines : List Line) (refusal : Refusal) (texts : List (List ℕ)) → lines ≡ Header version ∷ map ProgramLine texts → Meets steps lines n refusal → ⊥
+program_meets steps n version lines refusal texts is s =
     let more : List Line = lines ++ ProgramLine [] ∷ [] in
-    let longer : more ≡ Header ∷ map ProgramLine (texts ++ [] ∷ []) = ap (λ (ls : List Line). ls ++ ProgramLine [] ∷ []) is ∙ ap (λ (ls : List Line). Header ∷ ls) (sym (map-append ProgramLine texts ([] ∷ []))) in
+    let longer : more ≡ Header version ∷ map ProgramLine (texts ++ [] ∷ []) = ap (λ (ls : List Line). ls ++ ProgramLine [] ∷ []) is ∙ ap (λ (ls : List Line). Header version ∷ ls) (sym (map-append ProgramLine texts ([] ∷ []))) in
     let one : n ≡ suc (length lines) =
-    (first_stop_is_unique steps n (suc (length lines)) (map Some lines) refusal (rejected unfinished) (meets_there steps n lines refusal s) (unfinished_program steps texts lines (suc (length lines)) is refl)).0 in
+    (first_stop_is_unique steps n (suc (length lines)) (map Some lines) refusal (rejected unfinished) (meets_there steps n lines refusal s) (unfinished_program steps version texts lines (suc (length lines)) is refl)).0 in
     let there : StopsThere steps more n refusal = subst (λ rs. IsFirstStop steps rs n refusal) (sym (map-append (λ (l : Line). Some l) lines (ProgramLine [] ∷ []))) (s (Some (ProgramLine []) ∷ [])) in
     let other : n ≡ suc (length more) =
-    (first_stop_is_unique steps n (suc (length more)) (map Some more) refusal (rejected unfinished) there (unfinished_program steps (texts ++ [] ∷ []) more (suc (length more)) longer refl)).0 in
+    (first_stop_is_unique steps n (suc (length more)) (map Some more) refusal (rejected unfinished) there (unfinished_program steps version (texts ++ [] ∷ []) more (suc (length more)) longer refl)).0 in
     let count : length more ≡ length lines + 1 = length-append lines (ProgramLine [] ∷ []) in
     omega (arith, one, other, count)
 
@@ -89,7 +90,7 @@ work_meets steps n lines refusal w left s = go (whole_or_open w.due)
 
 left_meets : (steps n : ℕ) (lines : List Line) (refusal : Refusal) (s : State) → IsLeftBy steps s lines → Meets steps lines n refusal → ⊥
 left_meets steps n lines refusal state.Empty is m = empty_meets steps n lines refusal is m
-left_meets steps n lines refusal (state.Program bytes) (texts, is, text) m = program_meets steps n lines refusal texts is m
+left_meets steps n lines refusal (state.Program version bytes) (texts, is, text) m = program_meets steps n (version_number version) lines refusal texts is m
 left_meets steps n lines refusal (state.Work w) left m = work_meets steps n lines refusal w left m
 left_meets steps n lines refusal (state.Failed e) left m = left
 

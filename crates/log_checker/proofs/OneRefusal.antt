@@ -104,7 +104,7 @@ module _ (c : Construction) where
       → IsInnerRefused lemma_table c known left q l r → IsInnerRefused lemma_table c known left q l s → r ≡ s
   inner_once known left q End r s h g = h.0 ∙ sym g.0
   inner_once known left q (Cut f t) r s h g = cut_once known q f t r s h g
-  inner_once known left q Header r s h g = moves_once left q Header r s h g
+  inner_once known left q (Header version) r s h g = moves_once left q (Header version) r s h g
   inner_once known left q (Program text) r s h g = moves_once left q (Program text) r s h g
   inner_once known left q (Condition k text) r s h g = moves_once left q (Condition k text) r s h g
   inner_once known left q (Goal k text) r s h g = moves_once left q (Goal k text) r s h g

@@ -13,7 +13,7 @@ use Rattle.log_checker.proofs.OneSubject.{alike_subjects}
 one_header : (reads : List (Option Line)) (r s : Refusal) → IsHeaderRefused reads r → IsHeaderRefused reads s → r ≡ s
 one_header [] r s h g = h ∙ sym g
 one_header (None ∷ reads) r s h g = h ∙ sym g
-one_header (Some Header ∷ reads) r s h g = absurd h
+one_header (Some (Header version) ∷ reads) r s h g = absurd h
 one_header (Some (ProgramLine text) ∷ reads) r s h g = h ∙ sym g
 one_header (Some (Condition k text) ∷ reads) r s h g = h ∙ sym g
 one_header (Some (Goal k text) ∷ reads) r s h g = h ∙ sym g
@@ -48,27 +48,31 @@ one_program (x ∷ xs) (y ∷ ys) r s e n m =
     let more = one_program xs ys r s rest n m in
     (ap₂ (λ (z : List ℕ) (zs : List (List ℕ)). z ∷ zs) text more.0, more.1)
 
-same_parts : (reads : List (Option Line)) (a b : BeginsWithProgram reads) → (a.texts ≡ b.texts) × (a.rest ≡ b.rest)
+same_parts : (reads : List (Option Line)) (a b : BeginsWithProgram reads) → (a.version ≡ b.version) × (a.texts ≡ b.texts) × (a.rest ≡ b.rest)
 same_parts reads a b =
-    let q : ◌≡◌ {A = List (Option Line)} (Some Header ∷ (programs a.texts ++ a.rest)) (Some Header ∷ (programs b.texts ++ b.rest)) = sym a.split ∙ b.split in
+    let q : ◌≡◌ {A = List (Option Line)} (Some (Header a.version) ∷ (programs a.texts ++ a.rest)) (Some (Header b.version) ∷ (programs b.texts ++ b.rest)) = sym a.split ∙ b.split in
+    let read : ◌≡◌ {A = Option Line} (Some (Header a.version)) (Some (Header b.version)) = cc in
+    let header : Header a.version ≡ Header b.version = cc in
+    let version : a.version ≡ b.version = cc in
     let rest : programs a.texts ++ a.rest ≡ programs b.texts ++ b.rest = cc in
-    one_program a.texts b.texts a.rest b.rest rest a.over b.over
+    let more = one_program a.texts b.texts a.rest b.rest rest a.over b.over in
+    (version, more.0, more.1)
 
 module _ (steps : ℕ) where
-  abbrev Behind : List (List ℕ) → List (Option Line) → ℕ → Refusal → Type 0
-  Behind texts rest number r = IsProgramAlone texts rest number r ⊎ (IsProgramRefused texts rest number r ⊎ IsRestRefused steps texts rest number r)
+  abbrev Behind : ℕ → List (List ℕ) → List (Option Line) → ℕ → Refusal → Type 0
+  Behind version texts rest number r = IsProgramAlone texts rest number r ⊎ (IsProgramRefused texts rest number r ⊎ IsRestRefused steps version texts rest number r)
 
-  one_behind : (texts : List (List ℕ)) (rest : List (Option Line)) (i j : ℕ) (r s : Refusal) → Behind texts rest i r → Behind texts rest j s → (i ≡ j) × (r ≡ s)
-  one_behind texts rest i j r s (inl a) (inl b) = (a.counted ∙ sym b.counted, a.refused ∙ sym b.refused)
-  one_behind texts rest i j r s (inl a) (inr (inl b)) = absurd (b.something a.nothing)
-  one_behind texts rest i j r s (inl a) (inr (inr b)) = absurd (b.something a.nothing)
-  one_behind texts rest i j r s (inr (inl a)) (inl b) = absurd (a.something b.nothing)
-  one_behind texts rest i j r s (inr (inr a)) (inl b) = absurd (a.something b.nothing)
-  one_behind texts rest i j r s (inr (inl a)) (inr (inl b)) = (a.counted ∙ sym b.counted, a.refused ∙ sym b.refused)
-  one_behind texts rest i j r s (inr (inl a)) (inr (inr b)) = absurd (a.wrong b.program b.well_formed b.written)
-  one_behind texts rest i j r s (inr (inr a)) (inr (inl b)) = absurd (b.wrong a.program a.well_formed a.written)
-  one_behind texts rest i j r s (inr (inr a)) (inr (inr b)) =
-      let alike = alike_subjects a.program b.program a.subject b.subject a.well_formed b.well_formed (a.written ∙ sym b.written) a.about b.about in
+  one_behind : (version : ℕ) (texts : List (List ℕ)) (rest : List (Option Line)) (i j : ℕ) (r s : Refusal) → Behind version texts rest i r → Behind version texts rest j s → (i ≡ j) × (r ≡ s)
+  one_behind version texts rest i j r s (inl a) (inl b) = (a.counted ∙ sym b.counted, a.refused ∙ sym b.refused)
+  one_behind version texts rest i j r s (inl a) (inr (inl b)) = absurd (b.something a.nothing)
+  one_behind version texts rest i j r s (inl a) (inr (inr b)) = absurd (b.something a.nothing)
+  one_behind version texts rest i j r s (inr (inl a)) (inl b) = absurd (a.something b.nothing)
+  one_behind version texts rest i j r s (inr (inr a)) (inl b) = absurd (a.something b.nothing)
+  one_behind version texts rest i j r s (inr (inl a)) (inr (inl b)) = (a.counted ∙ sym b.counted, a.refused ∙ sym b.refused)
+  one_behind version texts rest i j r s (inr (inl a)) (inr (inr b)) = absurd (a.wrong b.program b.well_formed b.written)
+  one_behind version texts rest i j r s (inr (inr a)) (inr (inl b)) = absurd (b.wrong a.program a.well_formed a.written)
+  one_behind version texts rest i j r s (inr (inr a)) (inr (inr b)) =
+      let alike = alike_subjects a.program b.program a.subject b.subject a.well_formed b.well_formed (a.written ∙ sym b.written) a.about b.about (a.same_version ∙ sym b.same_version) in
       one_first_refusal b.subject steps rest i j r s (first_refusal_alike a.subject b.subject alike steps rest i r a.refused) b.refused
 
 pub first_stop_is_unique : FirstStopIsUnique
@@ -77,8 +81,9 @@ first_stop_is_unique steps i j reads r s (inl a) (inr b) = header_or_program rea
 first_stop_is_unique steps i j reads r s (inr a) (inl b) = header_or_program reads s b.0 a.0
 first_stop_is_unique steps i j reads r s (inr a) (inr b) =
     let parts = same_parts reads a.0 b.0 in
-    one_behind steps b.0.texts b.0.rest i j r s
-    (subst (λ (xs : List (Option Line)). Behind steps b.0.texts xs i r) parts.1 (subst (λ (ts : List (List ℕ)). Behind steps ts a.0.rest i r) parts.0 a.1)) b.1
+    one_behind steps b.0.version b.0.texts b.0.rest i j r s
+    (subst (λ (v : ℕ). Behind steps v b.0.texts b.0.rest i r) parts.0
+    (subst (λ (xs : List (Option Line)). Behind steps a.0.version b.0.texts xs i r) parts.2 (subst (λ (ts : List (List ℕ)). Behind steps a.0.version ts a.0.rest i r) parts.1 a.1))) b.1
 
 pub bytes_are_refused_once : BytesAreRefusedOnce
 bytes_are_refused_once bytes steps i j r s a b =

@@ -81,7 +81,7 @@ AnyLine line = Unit {0}
 
 pub defined_log_exists : DefinedLogExists
 defined_log_exists p subject steps w s =
-    let h = continued lemma_table subject steps AnyLine (goes_on_everywhere p subject steps w s) (λ xs place line b f n. tt) (λ xs stop f. tt) [] (before_line Header)
+    let h = continued lemma_table subject steps AnyLine (goes_on_everywhere p subject steps w s) (λ xs place line b f n. tt) (λ xs stop f. tt) [] (before_line (Header subject.version))
     (begun_first lemma_table subject steps) (none_fits lemma_table subject steps) in
     (h.rest, h.ending, h.defined)
 

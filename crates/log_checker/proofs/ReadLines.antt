@@ -12,11 +12,11 @@ use Rattle.geo_poly.specs.PolynomialVariables.{IsRatio}
 use Rattle.proof_log.specs.declared.log.Line.{Line}
 use Rattle.proof_log.specs.declared.log.Line.TheVariants.{Header, Program, Condition, Goal, Start, Ratio, Point, Coords, Cut, End, Sample, Verdict as VerdictLine, StopTooLarge, StopSpent}
 use Rattle.proof_log.specs.declared.log.Verdict.TheVariants.{Proved, False, Impossible}
-use Rattle.proof_log.specs.Inner.Leads.{IsBody, body_text, heads, last_numbers, lead_of, lead_text, leads, lemmas, results, stops, texts}
+use Rattle.proof_log.specs.Inner.Leads.{IsBody, body_text, heads, last_numbers, lead_of, lead_text, leads, lemmas, results, stops, texts, versions}
 use Rattle.proof_log.specs.Inner.Reading.{Begins, NoneBegins, factors, naturals, polynomials, value_lists, variables}
 use Rattle.proof_log.specs.Lines.{line_text}
-use Rattle.proof_log.specs.Writable.{HasNoLineFeed, IsWritable}
-use Rattle.proof_log.proofs.Bodies.{head_no_space, head_no_text, head_read, head_unread, head_zero, last_not_ended, last_read, last_unread, line_parts, lemma_no_at, lemma_no_point, lemma_read, lemma_unread, lemma_zero, no_which, result_no_colon, result_read, result_unread, stop_other, stop_read, stop_unread, text_is, whole}
+use Rattle.proof_log.specs.Writable.{HasNoLineFeed, IsVersion, IsWritable}
+use Rattle.proof_log.proofs.Bodies.{head_no_space, head_no_text, head_read, head_unread, head_zero, last_not_ended, last_read, last_unread, lemma_no_at, lemma_no_point, lemma_read, lemma_unread, lemma_zero, line_parts, no_which, result_no_colon, result_read, result_unread, stop_other, stop_read, stop_unread, text_is, version_other, version_unread, whole}
 use Rattle.proof_log.proofs.BodyReading.{condition_read, condition_refused, coords_read, coords_refused, cut_no_factor, cut_no_result, cut_read, end_read, end_refused, false_read, false_refused, goal_read, goal_refused, header_read, header_refused, impossible_read, impossible_refused, point_no_number, point_no_result, point_read, program_read, program_refused, proved_read, proved_refused, ratio_no_by, ratio_no_lemma, ratio_no_ratio, ratio_no_result, ratio_no_variable, ratio_read, sample_read, sample_refused, spent_read, spent_refused, start_read, start_refused, too_large_read, too_large_refused}
 use Rattle.proof_log.proofs.LineLeads.{anything_follows, due_body, line_from_body}
 use Rattle.log_checker.specs.Judged.{AreRead, BytesAreRead}
@@ -63,6 +63,17 @@ last_whole bits room bytes = go (natural_decided bits room bytes)
     go : IsFoundOrNone (naturals bits) bytes → IsWholeOrNone (last_numbers bits) bytes
     go (inl h) = ended h.0 h.1 h.2 (none_decided h.1)
     go (inr n) = inr (last_unread bits bytes n)
+
+version_whole : (bytes : List ℕ) → IsWholeOrNone versions bytes
+version_whole bytes = go (last_whole 32 (lit≤ tt) bytes)
+  where
+    ended : (n : ℕ) → Begins (last_numbers 32) bytes n [] → Decided (IsVersion n) → IsWholeOrNone versions bytes
+    ended n h (inl v) = inl (n, record { spelt = h.spelt; fits = v; stops = tt })
+    ended n h (inr v) = inr (version_other bytes n h v)
+
+    go : IsWholeOrNone (last_numbers 32) bytes → IsWholeOrNone versions bytes
+    go (inl h) = ended h.0 h.1 (both_decided (at_most_decided 1 h.0) (at_most_decided h.0 2))
+    go (inr n) = inr (version_unread bytes n)
 
 stop_whole : (bytes : List ℕ) → IsWholeOrNone stops bytes
 stop_whole bytes = go (natural_decided 64 (lit≤ tt) bytes)
@@ -187,7 +198,8 @@ empty_body like bytes line read refuse = go (none_decided bytes)
     go (inr n) = inr (refuse n)
 
 body_decided : (like : Line) (bytes : List ℕ) → IsBodyOrNone like bytes
-body_decided Header bytes = empty_body Header bytes Header (header_read bytes) (header_refused bytes)
+body_decided (Header n) bytes =
+    body_of (Header n) bytes (λ x. Begins versions bytes x []) (λ x. Header x) (header_read bytes) (NoneBegins versions bytes) (header_refused bytes) (version_whole bytes)
 body_decided (Program t) bytes =
     body_of (Program t) bytes (λ x. Begins texts bytes x []) (λ x. Program x) (program_read bytes) (NoneBegins texts bytes) (program_refused bytes) (text_whole bytes)
 body_decided (Condition k t) bytes =
@@ -237,11 +249,11 @@ lead_among bytes (like ∷ items) = go (text_decided (lead_text (lead_of like)) 
 -- one line of each kind
 abbrev kinds : List Line
 kinds =
-    Header ∷ Program [] ∷ Condition 0 [] ∷ Goal 0 [] ∷ Start [] ∷ some_ratio ∷ some_point ∷ Coords [] ∷ some_cut ∷ End ∷ Sample [] ∷ VerdictLine Proved ∷ VerdictLine (False 0)
+    Header 0 ∷ Program [] ∷ Condition 0 [] ∷ Goal 0 [] ∷ Start [] ∷ some_ratio ∷ some_point ∷ Coords [] ∷ some_cut ∷ End ∷ Sample [] ∷ VerdictLine Proved ∷ VerdictLine (False 0)
     ∷ VerdictLine (Impossible 0) ∷ StopTooLarge 0 Norm ∷ StopSpent 0 ∷ []
 
 absent : (bytes : List ℕ) (l : Line) → AllByRecursion (IsLeadAbsent bytes) kinds → IsLeadAbsent bytes l
-absent bytes Header h = h.0
+absent bytes (Header n) h = h.0
 absent bytes (Program t) h = h.1.0
 absent bytes (Condition k t) h = h.1.1.0
 absent bytes (Goal k t) h = h.1.1.1.0

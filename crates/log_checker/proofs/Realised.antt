@@ -23,6 +23,7 @@ use Rattle.geo_lowering.proofs.FormLaws.{FreesAgree, past}
 use Rattle.geo_lowering.proofs.Laying.{named_program, laid_program}
 use Rattle.geo_lowering.proofs.Up.{forgotten-extends}
 use Rattle.geo_points.proofs.Zeros.{not_same}
+use Rattle.geo_lowering.specs.declared.version.Version.{Version}
 use Rattle.geo_conditions.specs.Laws.{IsLoweredTo, IsNonzeroCondition, IsZeroGoal}
 use Rattle.geo_conditions.specs.Lists.{Found, all_found}
 use Rattle.geo_conditions.specs.Statements.{statement_goals}
@@ -52,11 +53,14 @@ past-length n [] = omega arith
 past-length n (f ∷ fs) = past-length (suc n) fs ∙ (let e : suc n + length fs ≡ n + suc (length fs) = omega arith in e)
 
 module _ (p : Source) (subject : Subject) (w : IsWellFormed p) (s : Parts p subject) where
+  abbrev v : Version
+  v = s.version
+
   abbrev l : LoweredForm
   l = s.form
 
   abbrev N : ℕ
-  N = points_past 0 p.commands
+  N = points_past v 0 p.commands
 
   abbrev M : ℕ
   M = numbers_from 0 p.commands
@@ -70,11 +74,11 @@ module _ (p : Source) (subject : Subject) (w : IsWellFormed p) (s : Parts p subj
   abbrev J : ℕ
   J = lines_past 0 p.commands
 
-  bounds : Bounds (layout_of p.commands) X Y J N M
-  bounds = bounds_all p p.commands 0 0 0 0 0 (no_bounds (layout_of p.commands)) (named_program p w) (laid_program p.commands)
+  bounds : Bounds (layout_of v p.commands) X Y J N M
+  bounds = bounds_all v p p.commands 0 0 0 0 0 (no_bounds (layout_of v p.commands)) (named_program p w) (laid_program v p.commands)
 
   steps_past : past 0 (map (step_form l.construction.nodes) l.construction.steps) ≡ N
-  steps_past = ap (λ fs. past 0 fs) s.lowered.steps ∙ past_all p p.commands 0 0
+  steps_past = ap (λ fs. past 0 fs) s.lowered.steps ∙ past_all v p p.commands 0 0
 
   -- the points of the program are those of its steps
   pub steps_are : length subject.construction.steps ≡ N
@@ -91,40 +95,40 @@ module _ (p : Source) (subject : Subject) (w : IsWellFormed p) (s : Parts p subj
   -- NAMES
   pub conditions_named : AreNamed subject.construction subject.conditions
   conditions_named i item at =
-      let f = of_map (log_condition p) s.found i item (subst (λ items. At items i item) s.conditions at) in
+      let f = of_map (log_condition v p) s.found i item (subst (λ items. At items i item) s.conditions at) in
       let over = listed_hold (λ (g : Found). g.condition) (IsConditionOver X Y J) (all_found p) [] s.found s.listed tt (program_over p w (named_program p w)) in
       let o = each_at (λ (g : Found). IsConditionOver X Y J g.condition) s.found i f.0 over f.1 in (
         subst (λ n. IsTermBelow n subject.construction.params item.term) (sym steps_are)
-            (subst (λ (t : Item). IsTermBelow N subject.construction.params t.term) (sym f.2) (condition_below (layout_of p.commands) X Y J N M subject.construction.params bounds few f.0.condition o)),
+            (subst (λ (t : Item). IsTermBelow N subject.construction.params t.term) (sym f.2) (condition_below (layout_of v p.commands) X Y J N M subject.construction.params bounds few f.0.condition o)),
         term_sound subject.construction item.term,
       )
 
   pub goals_named : AreNamed subject.construction subject.goals
   goals_named i item at =
-      let g = of_map (log_goal p) s.goals i item (subst (λ items. At items i item) s.same_goals at) in
+      let g = of_map (log_goal v p) s.goals i item (subst (λ items. At items i item) s.same_goals at) in
       let over = listed_hold (λ (h : Statement). h) (IsStatementOver p.nodes X Y) (statement_goals p.nodes p.statement) [] s.goals s.listed_goals tt
-      (goals_over (layout_of p.commands) X Y J N M subject.construction.params bounds few p.nodes p.statement (program_statement_over p w)) in
+      (goals_over (layout_of v p.commands) X Y J N M subject.construction.params bounds few p.nodes p.statement (program_statement_over p w)) in
       let o = each_at (λ (h : Statement). IsStatementOver p.nodes X Y h) s.goals i g.0 over g.1 in (
         subst (λ n. IsTermBelow n subject.construction.params item.term) (sym steps_are)
-            (subst (λ (t : Item). IsTermBelow N subject.construction.params t.term) (sym g.2) (goal_below (layout_of p.commands) X Y J N M subject.construction.params bounds few p.nodes g.0 o)),
+            (subst (λ (t : Item). IsTermBelow N subject.construction.params t.term) (sym g.2) (goal_below (layout_of v p.commands) X Y J N M subject.construction.params bounds few p.nodes g.0 o)),
         term_sound subject.construction item.term,
       )
 
   -- THE PLACEMENT
   module _ (values : List (Var × ℤ)) where
     -- all points of a placement with the free points of the sample
-    free_points_are : (L : Placement) → AreFreesSame (forgotten p L) (given_by p values) 0 p.commands
+    free_points_are : (L : Placement) → AreFreesSame (forgotten v p L) (given_by v p values) 0 p.commands
         → (a : PointId) → a.0 < length subject.construction.steps → At l.construction.steps a.0 step.Point → SamePoint (L.point a.0) (sample_point values a.0)
     free_points_are L f a lt at =
-        let fs = steps_of p in
+        let fs = steps_of v p in
         let agree : FreesAgree L (sample_placement values) 0 fs =
-        frees p L (sample_placement values) (forgotten p L) (given_by p values) p.commands 0 0 0 0 0 (laid_program p.commands) f (λ k b. refl) (λ k b. refl) in
+        frees v p L (sample_placement values) (forgotten v p L) (given_by v p values) p.commands 0 0 0 0 0 (laid_program v p.commands) f (λ k b. refl) (λ k b. refl) in
         let q : 0 + a.0 ≡ a.0 = omega arith in
-        let b : 0 + a.0 < past 0 fs = let u : past 0 fs ≡ N = past_all p p.commands 0 0 in let v = steps_are in omega (arith, lt, u, v) in
+        let b : 0 + a.0 < past 0 fs = let u : past 0 fs ≡ N = past_all v p p.commands 0 0 in let v = steps_are in omega (arith, lt, u, v) in
         subst (λ n. SamePoint (L.point n) (sample_point values n)) q
         (front_free l.construction.nodes L (sample_placement values) fs [] l.construction.steps 0 (s.lowered.steps ∙ sym (append-nil fs)) agree a.0 b at)
 
-    has_all_values : (L : Placement) → AreFreesSame (forgotten p L) (given_by p values) 0 p.commands → L.number ≡ (given_by p values).number
+    has_all_values : (L : Placement) → AreFreesSame (forgotten v p L) (given_by v p values) 0 p.commands → L.number ≡ (given_by v p values).number
         → HasValuesBelow L subject.construction (length subject.construction.steps) values
     unfolding whole
     has_all_values L f e = record {
@@ -135,43 +139,43 @@ module _ (p : Source) (subject : Subject) (w : IsWellFormed p) (s : Parts p subj
 
     module _ (gives : GivesConditions subject values) where
       -- the placement that the sample has
-      pub made : (L : Placement) × MeetsSteps L l.construction × Meets p (forgotten p L) × AreFreesSame (forgotten p L) (given_by p values) 0 p.commands × (L.number ≡ (given_by p values).number)
+      pub made : (L : Placement) × MeetsSteps L l.construction × Meets p (forgotten v p L) × AreFreesSame (forgotten v p L) (given_by v p values) 0 p.commands × (L.number ≡ (given_by v p values).number)
       made =
-          placements_are_realised p l (given_by p values) w s.lowered
-          (terms_ready p subject s.found l w s.lowered s.listed s.conditions s.built values gives)
-          (terms_nonzero p subject s.found l w s.lowered s.listed s.conditions s.built values gives)
+          placements_are_realised v p l (given_by v p values) w s.lowered
+          (terms_ready v p subject s.found l w s.lowered s.listed s.conditions s.built values gives)
+          (terms_nonzero v p subject s.found l w s.lowered s.listed s.conditions s.built values gives)
 
-      pub realised : IsRealised p (sample_values p values)
+      pub realised : IsRealised p (sample_values v p values)
       realised = record {
-        placed = forgotten p made.0;
-        has = has_sample_values p values (forgotten p made.0) made.3 made.4;
+        placed = forgotten v p made.0;
+        has = has_sample_values v p values (forgotten v p made.0) made.3 made.4;
         meets = made.2;
-        unique = λ one other a b c d. values_fix_placements p (sample_values p values) one other w a b c d;
+        unique = λ one other a b c d. values_fix_placements p (sample_values v p values) one other w a b c d;
       }
 
-      lowered_to : IsLoweredTo p l (forgotten p made.0) made.0
-      lowered_to = record { well_formed = w; form = s.lowered; extends = forgotten-extends p made.0; steps = made.1 }
+      lowered_to : IsLoweredTo v p l (forgotten v p made.0) made.0
+      lowered_to = record { well_formed = w; form = s.lowered; extends = forgotten-extends v p made.0; steps = made.1 }
 
       -- in it all conditions hold
       all_hold_there : HoldBefore made.0 subject (length subject.conditions)
       all_hold_there i item lt at =
-          let f = of_map (log_condition p) s.found i item (subst (λ items. At items i item) s.conditions at) in
-          let L = made.0 in let V = forgotten p L in
+          let f = of_map (log_condition v p) s.found i item (subst (λ items. At items i item) s.conditions at) in
+          let L = made.0 in let V = forgotten v p L in
           let met = listed_hold (λ (g : Found). g.condition) (IsConditionMet p V) (all_found p) [] s.found s.listed tt
           (recursion_from_All (λ (g : Found). IsConditionMet p V g.condition) (all_found p) made.2.conditions) in
-          let terms = recursion_from_All (λ (g : Found). IsConditionMet p V g.condition ↔ IsNonzeroCondition p L g.condition) s.found (conditions_are_terms p l V L s.found lowered_to s.listed) in
-          let z = (each_at (λ (g : Found). IsConditionMet p V g.condition ↔ IsNonzeroCondition p L g.condition) s.found i f.0 terms f.1).0
+          let terms = recursion_from_All (λ (g : Found). IsConditionMet p V g.condition ↔ IsNonzeroCondition v p L g.condition) s.found (conditions_are_terms v p l V L s.found lowered_to s.listed) in
+          let z = (each_at (λ (g : Found). IsConditionMet p V g.condition ↔ IsNonzeroCondition v p L g.condition) s.found i f.0 terms f.1).0
           (each_at (λ (g : Found). IsConditionMet p V g.condition) s.found i f.0 met f.1) in
           subst (λ (t : Item). HoldsAsCondition L t.term) (sym f.2) (record { has_value = z.0; nonzero = z.1 })
 
       -- the statement does not hold there, where a goal fails
-      pub fails : (g : ℕ) → GivesFailure subject values (False g) → Holds p (forgotten p made.0) → ⊥
+      pub fails : (g : ℕ) → GivesFailure subject values (False g) → Holds p (forgotten v p made.0) → ⊥
       fails g h holds =
-          let L = made.0 in let V = forgotten p L in
+          let L = made.0 in let V = forgotten v p L in
           let n = length subject.construction.steps in
-          let goal = of_map (log_goal p) s.goals h.0 h.1 (subst (λ items. At items h.0 h.1) s.same_goals h.3) in
-          let zeros = recursion_from_All (IsZeroGoal p L) s.goals ((goals_are_terms p l V L s.goals lowered_to s.listed_goals).0 holds) in
-          let zero = each_at (IsZeroGoal p L) s.goals h.0 goal.0 zeros goal.1 in
+          let goal = of_map (log_goal v p) s.goals h.0 h.1 (subst (λ items. At items h.0 h.1) s.same_goals h.3) in
+          let zeros = recursion_from_All (IsZeroGoal v p L) s.goals ((goals_are_terms v p l V L s.goals lowered_to s.listed_goals).0 holds) in
+          let zero = each_at (IsZeroGoal v p L) s.goals h.0 goal.0 zeros goal.1 in
           let named = goals_named h.0 h.1 h.3 in
           let has : HasTreeValue L h.1.term = subst (λ (t : Item). HasTreeValue L t.term) (sym goal.2) zero.0 in
           let same : Same (tree_value L h.1.term) (whole (pos 0)) = subst (λ (t : Item). Same (tree_value L t.term) (whole (pos 0))) (sym goal.2) zero.1 in
@@ -179,16 +183,16 @@ module _ (p : Source) (subject : Subject) (w : IsWellFormed p) (s : Parts p subj
           (λ i item lt at. conditions_named i item at) all_hold_there named.0 named.1 has in
           not_same (tree_value L h.1.term) apart same
 
-      pub broken : (g : ℕ) → GivesFailure subject values (False g) → Breaks p (sample_values p values)
-      broken g h = one_failure_breaks p (sample_values p values) (forgotten p made.0) w (has_sample_values p values (forgotten p made.0) made.3 made.4) made.2 (fails g h)
+      pub broken : (g : ℕ) → GivesFailure subject values (False g) → Breaks p (sample_values v p values)
+      broken g h = one_failure_breaks p (sample_values v p values) (forgotten v p made.0) w (has_sample_values v p values (forgotten v p made.0) made.3 made.4) made.2 (fails g h)
 
 -- THE EXISTENCE HALF
 pub accepted_samples_are_met : AcceptedSamplesAreMet
 accepted_samples_are_met p steps lines verdict a some =
     let s = parts_of p a.subject a.about in
     let h = (shown_by p steps lines verdict a).sample some in (
-      sample_values p h.1,
-      record { before = h.0; sample = h.1; split = h.2; printed = values_printed p s.form h.1 s.lowered (h.3 ∙ ap (λ c. sample_variables c) s.built) },
+      sample_values s.version p h.1,
+      record { before = h.0; sample = h.1; split = h.2; printed = values_printed s.version p s.form h.1 s.lowered (h.3 ∙ ap (λ c. sample_variables c) s.built) },
       realised p a.subject a.well_formed s h.1 h.4,
     )
 
@@ -202,8 +206,8 @@ pub false_breaks : FalseBreaks
 false_breaks p steps g lines a =
     let s = parts_of p a.subject a.about in
     let h = (shown_by p steps lines (False g) a).sample tt in (
-      sample_values p h.1,
-      record { before = h.0; sample = h.1; split = h.2; printed = values_printed p s.form h.1 s.lowered (h.3 ∙ ap (λ c. sample_variables c) s.built) },
+      sample_values s.version p h.1,
+      record { before = h.0; sample = h.1; split = h.2; printed = values_printed s.version p s.form h.1 s.lowered (h.3 ∙ ap (λ c. sample_variables c) s.built) },
       broken p a.subject a.well_formed s h.1 h.4 g h.5,
     )
 

@@ -11,6 +11,7 @@ use Rattle.geo_terms.specs.Trees.{Tree, integer_leaf, parameter_leaf, area_leaf,
 use Rattle.geo_terms.specs.Values.{HasTreeValue}
 use Rattle.geo_lowering.specs.Lowering.{Layout, LoweredForm, layout_of}
 use Rattle.geo_lowering.proofs.ConditionValues.{each_append, each_back}
+use Rattle.geo_lowering.specs.declared.version.Version.{Version}
 use Rattle.geo_conditions.specs.Laws.{IsLoweredTo, IsZeroGoal}
 use Rattle.geo_conditions.specs.Lists.{AreGoals}
 use Rattle.geo_conditions.specs.Statements.{pair_goals, ratio_goals}
@@ -65,18 +66,18 @@ module _ {A : Type 0} (H Z : A → Type 0) where
       (λ (h : AllByRecursion Z before → AllByRecursion Z front). inr (λ k. (subst Z (sym same) k.0, h k.1))) (in_first front more before after x rest)
 
 -- a goal's term has a value where the goals listed before it have the value 0
-pub goals_in_turn : (p : Source) (l : LoweredForm) (V L : Placement) (goals : List Statement) → IsLoweredTo p l V L → AreGoals p goals → Meets p V
-    → (before after : List Statement) (g : Statement) → goals ≡ before ++ g ∷ after → AllByRecursion (IsZeroGoal p L) before
-    → HasTreeValue L (goal_term (layout_of p.commands) p.nodes g)
-goals_in_turn p l V L goals i listed m before after g e zeros =
+pub goals_in_turn : (version : Version) (p : Source) (l : LoweredForm) (V L : Placement) (goals : List Statement) → IsLoweredTo version p l V L → AreGoals p goals → Meets p V
+    → (before after : List Statement) (g : Statement) → goals ≡ before ++ g ∷ after → AllByRecursion (IsZeroGoal version p L) before
+    → HasTreeValue L (goal_term (layout_of version p.commands) p.nodes g)
+goals_in_turn version p l V L goals i listed m before after g e zeros =
     let pairs = pair_goals p.nodes p.statement in
-    let H : Statement → Type 0 = HasTerm (layout_of p.commands) p.nodes L in
-    let Z : Statement → Type 0 = IsZeroGoal p L in
+    let H : Statement → Type 0 = HasTerm (layout_of version p.commands) p.nodes L in
+    let Z : Statement → Type 0 = IsZeroGoal version p L in
     let front = fronted (λ (s : Statement). s) pairs (p.statement ∷ []) [] goals listed in
-    let terms : AllByRecursion H front.front = listed_hold (λ (s : Statement). s) H pairs [] front.front front.listing tt (pair_terms (layout_of p.commands) p.nodes L p.statement) in
+    let terms : AllByRecursion H front.front = listed_hold (λ (s : Statement). s) H pairs [] front.front front.listing tt (pair_terms (layout_of version p.commands) p.nodes L p.statement) in
     ⊎_elim (λ (h : AllByRecursion H front.front → H g). h terms)
     (λ (h : AllByRecursion Z before → AllByRecursion Z front.front).
     let zero = (all_hold (λ (s : Statement). s) Z pairs [] front.front front.listing (h zeros)).1 in
-    let all = recursion_from_All H goals (goals_have_values p l V L goals i listed m (All-from_recursion Z pairs zero)) in
+    let all = recursion_from_All H goals (goals_have_values version p l V L goals i listed m (All-from_recursion Z pairs zero)) in
     (each_back H before (g ∷ after) (subst (λ gs. AllByRecursion H gs) e all)).0)
     (in_first H Z front.front front.more before after g (sym front.whole ∙ e))

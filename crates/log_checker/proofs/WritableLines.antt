@@ -15,7 +15,7 @@ use Rattle.geo_poly.proofs.EachVariable.{each-contained, each-variables}
 use Rattle.geo_sample.proofs.LeastSamples.{collected_polynomials, sample_keeps}
 use Rattle.geo_terms.specs.Constructions.{Construction, IsConstruction}
 use Rattle.geo_terms.specs.declared.steps.Step.{Step}
-use Rattle.geo_terms.specs.declared.steps.Step.TheVariants.{Point as FreeStep, Inter, Foot, Pratio, Tratio}
+use Rattle.geo_terms.specs.declared.steps.Step.TheVariants.{Point as FreeStep, Inter, Foot, Pratio, Tratio, Weights}
 use Rattle.geo_lowering.proofs.ConditionValues.{each_append}
 use Rattle.elim_apply.specs.FirstLemmas.{lemmas}
 use Rattle.elim_apply.specs.LemmaTable.{lemma_table}
@@ -25,7 +25,7 @@ use Rattle.proof_log.specs.declared.log.Line.{Line}
 use Rattle.proof_log.specs.declared.log.Line.TheVariants.{Condition, Goal, Header, Program as ProgramLine, Verdict as VerdictLine}
 use Rattle.proof_log.specs.declared.log.Verdict.TheVariants.{Proved, False, Impossible}
 use Rattle.proof_log.specs.Lines.{line_text, log_text}
-use Rattle.proof_log.specs.Writable.{AllWritable, CanWriteLemma, CanWriteValues, HasNoLineFeed, IsVariable, IsWritable}
+use Rattle.proof_log.specs.Writable.{AllWritable, CanWriteLemma, CanWriteValues, HasNoLineFeed, IsVariable, IsVersion, IsWritable}
 use Rattle.geo_logs.specs.declared.moves.Move.{Move}
 use Rattle.geo_logs.specs.declared.moves.Move.TheVariants.{Ratio, Point, Coords}
 use Rattle.geo_logs.specs.Chains.{ChainStep, cuts, line_of, moves}
@@ -44,6 +44,7 @@ use Rattle.log_checker.proofs.Places.{At, below, first, of_map}
 use Rattle.log_checker.proofs.Reached.{goes_on_everywhere}
 use Rattle.log_checker.proofs.Standing.{IsGood, construction_of, place_good, prover_accepted}
 use Rattle.log_checker.proofs.Writing.{IsOwn, cut_own, moved_own, small, start_own, written}
+use Rattle.log_checker.proofs.VersionNumbers.{version_is}
 
 -- the number of the first lemma of a ratio is small
 found_small : (p : ℕ → Bool) (xs : List ℕ) (x : ℕ) → AllByRecursion (λ (n : ℕ). n < 2 ^ 32) xs → find p xs ≡ Some x → x < 2 ^ 32
@@ -109,6 +110,7 @@ module _ (c : Construction) (construction : IsConstruction c) where
   coordinates_small k n (Foot p u v ∷ steps) h f = coordinates_small (suc k) n steps (omega (arith, h)) f
   coordinates_small k n (Pratio w u v r ∷ steps) h f = coordinates_small (suc k) n steps (omega (arith, h)) f
   coordinates_small k n (Tratio u v r ∷ steps) h f = coordinates_small (suc k) n steps (omega (arith, h)) f
+  coordinates_small k n (Weights o u v r s ∷ steps) h f = coordinates_small (suc k) n steps (omega (arith, h)) f
 
   parameters_small : (k count n : ℕ) → k + count ≤ n → n < 2 ^ 32 → AllByRecursion IsVariable (parameters_from k count)
   parameters_small k zero n h f = tt
@@ -147,9 +149,9 @@ module _ (c : Construction) (construction : IsConstruction c) where
       subst IsWritable (sym is) (values_written values (subst (AllByRecursion IsVariable) (sym same) sample_small) fit)
 
 -- THE FIRST LINES
-first_written : (subject : Subject) → ((i : ℕ) (text : List ℕ) → At subject.program i text → HasNoLineFeed text) → (k : ℕ) (line : Line) → At (first_lines subject) k line → IsWritable line
-first_written subject texts zero line at = subst IsWritable (first Header line (map ProgramLine subject.program) at) tt
-first_written subject texts (suc k) line at =
+first_written : (subject : Subject) → IsVersion subject.version → ((i : ℕ) (text : List ℕ) → At subject.program i text → HasNoLineFeed text) → (k : ℕ) (line : Line) → At (first_lines subject) k line → IsWritable line
+first_written subject version texts zero line at = subst IsWritable (first (Header subject.version) line (map ProgramLine subject.program) at) version
+first_written subject version texts (suc k) line at =
     let found = of_map ProgramLine subject.program k line at in subst IsWritable (sym found.2) (texts k found.0 found.1)
 
 -- LENGTHS
@@ -165,7 +167,7 @@ lines_fit (l ∷ ls) =
 pub next_lines_are_writable : NextLinesAreWritable
 next_lines_are_writable p subject steps lines place line w s few (inl (k, due, at, taken, stands)) fits next =
     let is = comes_next lemma_table subject.construction (before_line due) line (subst (λ q. IsNext lemma_table subject.construction q (comes line)) stands next) in
-    subst IsWritable (sym is) (first_written subject (program_texts p w subject s) k due at)
+    subst IsWritable (sym is) (first_written subject (subst IsVersion (sym s.same_version) (version_is s.version)) (program_texts p w subject s) k due at)
 next_lines_are_writable p subject steps lines place line w s few (inr (rest, split, h)) fits next =
     let c = subject.construction in
     let construction = construction_of p subject w s HasNoLineFeed steps in
@@ -187,7 +189,7 @@ all_written (l ∷ ls) h = (h.0, all_written ls h.1)
 pub defined_logs_are_writable : DefinedLogsAreWritable
 defined_logs_are_writable p subject steps lines ending w s few d =
     let found = continued lemma_table subject steps IsWritable (goes_on_everywhere p subject steps w s)
-    (λ xs place line b f n. next_lines_are_writable p subject steps xs place line w s few b f n) (λ xs stop f. stop_written xs stop f) [] (before_line Header)
+    (λ xs place line b f n. next_lines_are_writable p subject steps xs place line w s few b f n) (λ xs stop f. stop_written xs stop f) [] (before_line (Header subject.version))
     (begun_first lemma_table subject steps) (none_fits lemma_table subject steps) in
     let one = defined_log_unique lemma_table subject steps found.rest lines found.ending ending found.defined d in
     subst AllWritable one.0 (all_written found.rest found.hold)

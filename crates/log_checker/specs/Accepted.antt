@@ -4,6 +4,7 @@ use Rattle.std.specs.List.{AllByRecursion}
 use Rattle.geo_program.specs.CanonicalText.{canonical_text}
 use Rattle.geo_program.specs.Spelling.{SameSource}
 use Rattle.geo_program.specs.WellFormed.{IsWellFormed, Source}
+use Rattle.geo_lowering.specs.declared.version.Version.{Version}
 use Rattle.geo_conditions.specs.Truth.{Breaks, IsImpossible, IsTrueProgram, ProgramValues}
 use Rattle.proof_log.specs.declared.log.Line.{Line}
 use Rattle.proof_log.specs.declared.log.Line.TheVariants.{Start, Ratio, Point, Coords, Cut}
@@ -15,7 +16,7 @@ use Rattle.elim_apply.specs.LemmaTable.{lemma_table}
 use Rattle.geo_logs.specs.Ends.{Ending, IsDefinedLog}
 use Rattle.geo_logs.specs.Logs.{IsAccepted, Subject}
 use Rattle.log_checker.specs.Laws.{EndsWithValues, IsAcceptedLog, IsRealised}
-use Rattle.log_checker.specs.Subjects.{IsSubjectOf, source_lines}
+use Rattle.log_checker.specs.Subjects.{IsSubjectOf, source_lines, version_number}
 
 -- BYTES
 -- the bytes are a log of the well-formed program that is accepted with this verdict, within so many steps: the text of lines that may be
@@ -45,12 +46,12 @@ abbrev pub AcceptedBytesMean : Type 0
 AcceptedBytesMean =
     (bytes : List ℕ) (steps : ℕ) (p : Source) (verdict : Verdict) → Accepts bytes steps p verdict → BytesMean bytes p verdict
 
--- accepted bytes are a log of one program, with one verdict, whatever the steps
+-- accepted bytes are a log of one program, with one verdict and by one version, whatever the steps
 abbrev pub AcceptedBytesTellPrograms : Type 0
 AcceptedBytesTellPrograms =
-    (bytes : List ℕ) (steps steps' : ℕ) (p q : Source) (verdict verdict' : Verdict) → Accepts bytes steps p verdict
-    → Accepts bytes steps' q verdict'
-    → SameSource p q × (verdict ≡ verdict')
+    (bytes : List ℕ) (steps steps' : ℕ) (p q : Source) (verdict verdict' : Verdict) (one : Accepts bytes steps p verdict)
+    (other : Accepts bytes steps' q verdict')
+    → SameSource p q × (verdict ≡ verdict') × (one.accepted.subject.version ≡ other.accepted.subject.version)
 
 -- WHAT EACH PROGRAM HAS
 -- the program is well-formed, and its canonical text has at most 268,435,456 bytes
@@ -58,26 +59,29 @@ pub record IsShortProgram (p : Source) : Type 0 where
   pub well_formed : IsWellFormed p
   pub short : length (canonical_text p) ≤ 268435456
 
--- each such program has a subject
+-- each such program has a subject for logs of each version
 abbrev pub ProgramsHaveSubjects : Type 0
-ProgramsHaveSubjects = (p : Source) → IsShortProgram p → (subject : Subject) × IsSubjectOf p subject
+ProgramsHaveSubjects =
+    (version : Version) (p : Source) → IsShortProgram p
+    → (subject : Subject) × IsSubjectOf p subject × (subject.version ≡ version_number version)
 
--- and a defined log, for each number of steps
+-- and a defined log of each version, for each number of steps
 abbrev pub ProgramsHaveDefinedLogs : Type 0
 ProgramsHaveDefinedLogs =
-    (p : Source) (steps : ℕ) → IsShortProgram p
-    → (subject : Subject) × IsSubjectOf p subject × ((lines : List Line) × (ending : Ending)
-    × IsDefinedLog lemma_table subject steps lines ending)
+    (version : Version) (p : Source) (steps : ℕ) → IsShortProgram p
+    → (subject : Subject) × IsSubjectOf p subject × (subject.version ≡ version_number version)
+    × ((lines : List Line) × (ending : Ending) × IsDefinedLog lemma_table subject steps lines ending)
 
 -- ONE SUBJECT FOR ALL
--- subjects of programs with the same lines have the same accepted logs and the same defined logs; so have two subjects of one program
+-- subjects of one version, of programs with the same lines, have the same accepted logs and the same defined logs; so have two subjects of
+-- one version of one program
 pub record SubjectsAgree : Type 0 where
   pub accepted : (p q : Source) (one other : Subject) → IsWellFormed p → IsWellFormed q → source_lines p ≡ source_lines q
-      → IsSubjectOf p one → IsSubjectOf q other
+      → IsSubjectOf p one → IsSubjectOf q other → one.version ≡ other.version
       → (steps left : ℕ) (lines : List Line) (verdict : Verdict) → IsAccepted lemma_table one steps lines verdict left
       → IsAccepted lemma_table other steps lines verdict left
   pub defined : (p q : Source) (one other : Subject) → IsWellFormed p → IsWellFormed q → source_lines p ≡ source_lines q → IsSubjectOf p one
-      → IsSubjectOf q other
+      → IsSubjectOf q other → one.version ≡ other.version
       → (steps : ℕ) (lines : List Line) (ending : Ending) → IsDefinedLog lemma_table one steps lines ending
       → IsDefinedLog lemma_table other steps lines ending
 

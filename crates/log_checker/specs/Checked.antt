@@ -13,9 +13,10 @@ use Rattle.log_checker.specs.declared.errors.CheckError.{CheckError}
 use Rattle.log_checker.specs.declared.errors.CheckError.TheVariants as error
 
 -- ACCEPTED LOGS
--- the answer tells the program, the verdict, the number of lines and the summed charges of the accepted log
+-- the answer tells the program, the verdict, the version, the number of lines and the summed charges of the accepted log
 pub record IsAnswer (bytes : List ℕ) (steps : ℕ) (answer : Accepted) : Type 0 where
   pub accepts : Accepts bytes steps (source_of answer.program) answer.verdict
+  pub version : answer.version ≡ accepts.accepted.subject.version
   pub counted : answer.lines ≡ length accepts.lines
   pub charged : answer.charge + accepts.accepted.left ≡ steps
 

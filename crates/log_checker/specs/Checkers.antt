@@ -22,7 +22,7 @@ use Rattle.geo_logs.specs.Places.{AreConditionsBegun, AreGoalsBegun, IsBegunEnd,
 use Rattle.geo_logs.specs.Samples.{IsAcceptedSample}
 use Rattle.geo_logs.specs.Starts.{start_of}
 use Rattle.log_checker.specs.Judged.{IsProgramOver}
-use Rattle.log_checker.specs.Subjects.{log_item, source_lines}
+use Rattle.log_checker.specs.Subjects.{log_item, source_lines, version_number}
 use Rattle.log_checker.specs.declared.due.Due.{Due}
 use Rattle.log_checker.specs.declared.due.Due.TheVariants as due
 use Rattle.log_checker.specs.declared.due.Task.{Task}
@@ -34,10 +34,15 @@ use Rattle.log_checker.specs.declared.state.State.TheVariants as state
 use Rattle.log_checker.specs.declared.work.Work.{Work}
 
 -- THE SUBJECT
--- what the logs of a problem are about, with these lines of the program
-abbrev pub subject_of : List (List ℕ) → Problem → Subject
-subject_of program q = record {
-  program = program;
+-- the head of a log: its version, and the lines of its program
+abbrev pub Head : Type 0
+Head = ℕ × List (List ℕ)
+
+-- what the logs of a problem are about that have this head
+abbrev pub subject_of : Head → Problem → Subject
+subject_of head q = record {
+  version = head.0;
+  program = head.1;
   construction = q.steps;
   conditions = map (λ i. log_item (item_form q.steps.nodes i)) q.conditions;
   goals = map (λ i. log_item (item_form q.steps.nodes i)) q.goals;
@@ -135,11 +140,15 @@ module _ (subject : Subject) (steps : ℕ) where
   IsDue e (due.Nothing verdict) good = IsWhole good verdict e.budget.left
 
 -- STATES
--- the problem is that of the well-formed program, and behind these lines is due what the code says
+-- the head of the log in work
+abbrev pub head_of : Work → Head
+head_of w = (version_number w.version, source_lines (source_of w.program))
+
+-- the problem is that of the well-formed program, by the version of the log, and behind these lines is due what the code says
 pub record IsAtWork (w : Work) (steps : ℕ) (good : List Line) : Type 0 where
   pub well_formed : IsWellFormed (source_of w.program)
-  pub problem : IsProblem (source_of w.program) (form_of_problem w.problem) w.problem.conditions w.problem.goals
-  pub is_due : IsDue (subject_of (source_lines (source_of w.program)) w.problem) steps w.evidence w.due good
+  pub problem : IsProblem w.version (source_of w.program) (form_of_problem w.problem) w.problem.conditions w.problem.goals
+  pub is_due : IsDue (subject_of (head_of w) w.problem) steps w.evidence w.due good
 
 -- pieces, each with a line feed
 abbrev pub with_feeds : List (List ℕ) → List ℕ
@@ -148,10 +157,10 @@ with_feeds pieces = flat_map (λ piece. piece ++ 10 ∷ []) pieces
 -- the state is what these lines leave: none; the header and lines of a program; lines behind the program
 abbrev pub IsLeftBy : ℕ → State → List Line → Type 0
 IsLeftBy steps state.Empty lines = lines ≡ []
-IsLeftBy steps (state.Program bytes) lines =
-    (texts : List (List ℕ)) × (lines ≡ Header ∷ map ProgramLine texts) × (bytes.items ≡ with_feeds texts)
+IsLeftBy steps (state.Program version text) lines =
+    (texts : List (List ℕ)) × (lines ≡ Header (version_number version) ∷ map ProgramLine texts) × (text.items ≡ with_feeds texts)
 IsLeftBy steps (state.Work w) lines =
-    (good : List Line) × (lines ≡ first_lines (subject_of (source_lines (source_of w.program)) w.problem) ++ good)
+    (good : List Line) × (lines ≡ first_lines (subject_of (head_of w) w.problem) ++ good)
     × (good ≢ []) × IsProgramOver (map Some good) × IsAtWork w steps good
 IsLeftBy steps (state.Failed error) lines = ⊥
 

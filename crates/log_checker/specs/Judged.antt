@@ -41,7 +41,7 @@ AreRead bytes (read ∷ reads) =
 abbrev pub IsHeaderRefused : List (Option Line) → Refusal → Type 0
 IsHeaderRefused [] refusal = refusal ≡ rejected unfinished
 IsHeaderRefused (None ∷ reads) refusal = refusal ≡ rejected bad_line
-IsHeaderRefused (Some Header ∷ reads) refusal = ⊥
+IsHeaderRefused (Some (Header version) ∷ reads) refusal = ⊥
 IsHeaderRefused (Some _ ∷ reads) refusal = refusal ≡ rejected wrong_line
 
 -- the next line is none of a program
@@ -49,11 +49,12 @@ abbrev pub IsProgramOver : List (Option Line) → Type 0
 IsProgramOver (Some (ProgramLine text) ∷ reads) = ⊥
 IsProgramOver _ = Unit {0}
 
--- the header, all lines of the program, and the rest
+-- the header with its version, all lines of the program, and the rest
 pub record BeginsWithProgram (reads : List (Option Line)) : Type 0 where
+  pub version : ℕ
   pub texts : List (List ℕ)
   pub rest : List (Option Line)
-  pub split : reads ≡ Some Header ∷ map (λ text. Some (ProgramLine text)) texts ++ rest
+  pub split : reads ≡ Some (Header version) ∷ map (λ text. Some (ProgramLine text)) texts ++ rest
   pub over : IsProgramOver rest
 
 -- nothing follows the lines of the program
@@ -69,14 +70,15 @@ pub record IsProgramRefused (texts : List (List ℕ)) (rest : List (Option Line)
   pub counted : number ≡ 2
   pub refused : refusal ≡ rejected wrong_program
 
--- something follows them, and they are those of a program: what follows is judged by its subject
-pub record IsRestRefused (steps : ℕ) (texts : List (List ℕ)) (rest : List (Option Line)) (number : ℕ) (refusal : Refusal) : Type 0 where
+-- something follows them, and they are those of a program: what follows is judged by its subject of this version
+pub record IsRestRefused (steps version : ℕ) (texts : List (List ℕ)) (rest : List (Option Line)) (number : ℕ) (refusal : Refusal) : Type 0 where
   pub something : rest ≢ []
   pub program : Source
   pub well_formed : IsWellFormed program
   pub written : source_lines program ≡ texts
   pub subject : Subject
   pub about : IsSubjectOf program subject
+  pub same_version : subject.version ≡ version
   pub refused : IsFirstRefusal lemma_table subject steps rest number refusal
 
 -- of what is read line by line the line of this number is the first that is refused
@@ -85,7 +87,7 @@ IsFirstStop steps reads number refusal =
     (IsHeaderRefused reads refusal × (number ≡ 1))
     ⊎ ((first : BeginsWithProgram reads)
     × (IsProgramAlone first.texts first.rest number refusal
-    ⊎ (IsProgramRefused first.texts first.rest number refusal ⊎ IsRestRefused steps first.texts first.rest number refusal)))
+    ⊎ (IsProgramRefused first.texts first.rest number refusal ⊎ IsRestRefused steps first.version first.texts first.rest number refusal)))
 
 -- the bytes are refused at the line of this number
 pub record Refuses (bytes : List ℕ) (steps number : ℕ) (refusal : Refusal) : Type 0 where

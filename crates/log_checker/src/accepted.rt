@@ -10,6 +10,8 @@ pub struct Accepted {
     pub program: Program,
     /// Its verdict.
     pub verdict: Verdict,
+    /// The version in its header, 1 or 2.
+    pub version: u32,
     /// The number of its lines.
     pub lines: u64,
     /// The sum of the charges of its lines.

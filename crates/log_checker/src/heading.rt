@@ -4,7 +4,8 @@ ghost use Rattle.std.specs.Prelude.{◌≡◌, ◌<◌, ◌↔◌, ℕ, List, su
 ghost use Rattle.std.specs.Prelude.{slice_get};
 ghost use Rattle.geo_logs.specs.Places.{before_line};
 ghost use Rattle.geo_terms.specs.Constructions.{Construction};
-ghost use Rattle.log_checker.specs.Checkers.{AreConditionsDue, AreGoalsDue, IsDue, subject_of};
+ghost use Rattle.log_checker.specs.Checkers.{AreConditionsDue, AreGoalsDue, Head, IsDue};
+ghost use Rattle.log_checker.specs.Checkers.{subject_of};
 ghost use Rattle.log_checker.specs.Inner.Lines.{IsReady, LeadsOn, RefusesAt, RefusesWhere};
 ghost use Rattle.log_checker.specs.declared.evidence.Evidence.{Evidence};
 ghost use Rattle.proof_log.specs.declared.log.Line.{Line};
@@ -18,10 +19,10 @@ use proof_log::{Line, Verdict};
 
 /// What is due where the conditions from this index on are still to be worked.
 pub(crate) fn condition_due(problem: &Problem, index: usize) -> Due
-    ensures { (texts : List (List ℕ)) (steps : ℕ) (good : List Line) (e : Evidence)
-        → AreConditionsDue (subject_of texts problem.now) steps
+    ensures { (head : Head) (steps : ℕ) (good : List Line) (e : Evidence)
+        → AreConditionsDue (subject_of head problem.now) steps
         good e.known e.ends e.budget.left index
-        → IsDue (subject_of texts problem.now) steps e result good }
+        → IsDue (subject_of head problem.now) steps e result good }
 {
     if index < problem.conditions.items.len() {
         Due::Condition(index)
@@ -32,10 +33,10 @@ pub(crate) fn condition_due(problem: &Problem, index: usize) -> Due
 
 /// What is due where the goals from this index on are still to be worked.
 pub(crate) fn goal_due(problem: &Problem, index: usize) -> Due
-    ensures { (texts : List (List ℕ)) (steps : ℕ) (good : List Line) (e : Evidence)
-        → AreGoalsDue (subject_of texts problem.now) steps
+    ensures { (head : Head) (steps : ℕ) (good : List Line) (e : Evidence)
+        → AreGoalsDue (subject_of head problem.now) steps
         good e.known e.ends e.budget.left index
-        → IsDue (subject_of texts problem.now) steps e result good }
+        → IsDue (subject_of head problem.now) steps e result good }
 {
     if index < problem.goals.items.len() {
         Due::Goal(index)

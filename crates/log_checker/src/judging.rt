@@ -23,7 +23,9 @@ use crate::errors::CheckError;
 use crate::reasons::Reason;
 use crate::state::State;
 use crate::stops::Stop;
+use crate::versions::{number_of, version_of};
 use crate::work::{Work, begun_work, work_after};
+use geo_lowering::Version;
 use geo_points::NoMemory;
 use proof_log::{Line, LineError, read_line};
 use std::alloc::Global;
@@ -75,7 +77,9 @@ fn state_after(
 {
     match state {
         State::Empty => after_header(alloc, number, read),
-        State::Program(program) => after_program(alloc, steps, number, program, read),
+        State::Program { version, text } => {
+            after_program(alloc, steps, number, version, text, read)
+        }
         State::Work(work) => Ok(State::Work(after_work(alloc, number, work, read)?)),
         State::Failed(error) => Err(error),
     }
@@ -83,16 +87,19 @@ fn state_after(
 
 /// The state behind the first line.
 fn after_header(alloc: Global, number: u64, read: Option<Line>) -> Result<State, CheckError>
+    requires { IfSome read IsWritable }
     ensures goes { (steps : ℕ) → IfOk result (IsNextState steps [] read) }
     ensures refused { (steps : ℕ) → number ≡ 1
         → IfErr result (TellsStop (StopsNext steps [] read)) }
 {
     match read {
         Some(line) => {
-            let Line::Header = line else {
+            let Line::Header { version } = line else {
                 return Err(Stop::Rejected(Reason::WrongLine).at(number));
             };
-            Ok(State::Program(Vec::new(alloc)))
+            let version = version_of(version);
+            let text = Vec::new(alloc);
+            Ok(State::Program { version, text })
         }
         None => Err(Stop::Rejected(Reason::BadLine).at(number)),
     }
@@ -103,21 +110,22 @@ fn after_program(
     alloc: Global,
     steps: u64,
     number: u64,
-    program: Vec<u8>,
+    version: Version,
+    text: Vec<u8>,
     read: Option<Line>,
 ) -> Result<State, CheckError>
-    requires reached { IsReachedState steps (State.Program program) }
+    requires reached { IsReachedState steps (State.Program version text) }
     requires writable { IfSome read IsWritable }
-    ensures goes { (lines : List Line) → Leaves steps lines (State.Program program)
+    ensures goes { (lines : List Line) → Leaves steps lines (State.Program version text)
         → IfOk result (IsNextState steps lines read) }
-    ensures refused { (lines : List Line) → Leaves steps lines (State.Program program)
+    ensures refused { (lines : List Line) → Leaves steps lines (State.Program version text)
         → number ≡ suc (length lines)
         → IfErr result (TellsStop (StopsNext steps lines read)) }
 {
     match read {
-        Some(line) => after_program_line(alloc, steps, number, program, line),
+        Some(line) => after_program_line(alloc, steps, number, version, text, line),
         None => {
-            let work = behind_program(alloc, steps, number, &program, None)?;
+            let work = behind_program(alloc, steps, number, version, &text, None)?;
             Ok(State::Work(work))
         }
     }
@@ -128,43 +136,46 @@ fn after_program_line(
     alloc: Global,
     steps: u64,
     number: u64,
-    mut program: Vec<u8>,
+    version: Version,
+    mut text: Vec<u8>,
     line: Line,
 ) -> Result<State, CheckError>
-    requires reached { IsReachedState steps (State.Program program) }
+    requires reached { IsReachedState steps (State.Program version text) }
     requires writable { IsWritable line }
-    ensures goes { (lines : List Line) → Leaves steps lines (State.Program program)
+    ensures goes { (lines : List Line) → Leaves steps lines (State.Program version text)
         → IfOk result (IsNextState steps lines (Some line)) }
-    ensures refused { (lines : List Line) → Leaves steps lines (State.Program program)
+    ensures refused { (lines : List Line) → Leaves steps lines (State.Program version text)
         → number ≡ suc (length lines)
         → IfErr result (TellsStop (StopsNext steps lines (Some line))) }
 {
     match line {
-        Line::Program(text) => {
-            push_line(&mut program, &text.bytes)?;
-            Ok(State::Program(program))
+        Line::Program(next) => {
+            push_line(&mut text, &next.bytes)?;
+            Ok(State::Program { version, text })
         }
         line => {
-            let work = behind_program(alloc, steps, number, &program, Some(line))?;
+            let work = behind_program(alloc, steps, number, version, &text, Some(line))?;
             Ok(State::Work(work))
         }
     }
 }
 
-/// The work behind what is read, as the line of this number, behind the program with this text.
+/// The work by this version behind what is read, as the line of this number, behind the program
+/// with this text.
 fn behind_program(
     alloc: Global,
     steps: u64,
     number: u64,
+    version: Version,
     program: &[u8],
     read: Option<Line>,
 ) -> Result<Work, CheckError>
     requires fits { length program.now ≤ 67108864 }
     requires writable { IfSome read IsWritable }
-    ensures goes { IfOk result (BeginsWith program.now steps read) }
-    ensures refused { IfErr result (TellsStop (IsFirstRefused program.now steps read number)) }
+    ensures goes { IfOk result (BeginsWith version program.now steps read) }
+    ensures refused { IfErr result (TellsStop (IsFirstRefused version program.now steps read number)) }
 {
-    let work = tested_program(alloc, program, steps)?;
+    let work = tested_program(alloc, version, program, steps)?;
     after_work(alloc, number, work, read)
 }
 
@@ -177,14 +188,20 @@ fn push_line(program: &mut Vec<u8>, text: &[u8]) -> Result<(), NoMemory>
     Ok(())
 }
 
-/// The work of the program with this text. What is wrong with it is told of line 2.
-fn tested_program(alloc: Global, program: &[u8], steps: u64) -> Result<Work, CheckError>
+/// The work by this version, of the program with this text. What is wrong with it is told of line 2.
+fn tested_program(
+    alloc: Global,
+    version: Version,
+    program: &[u8],
+    steps: u64,
+) -> Result<Work, CheckError>
     requires { length program.now ≤ 67108864 }
+    ensures version { IfOk result (λ w. w.version ≡ version) }
     ensures program { IfOk result (λ w. canonical_text (source_of w.program) ≡ program.now) }
     ensures begun { IfOk result (λ w. IsAtWork w steps []) }
     ensures refused { IfErr result (TellsStop (IsNoProgram program.now)) }
 {
-    match begun_work(alloc, program, steps) {
+    match begun_work(alloc, version, program, steps) {
         Ok(work) => Ok(work),
         Err(stop) => Err(stop.at(2)),
     }
@@ -237,7 +254,7 @@ pub(crate) fn answer_at_end(state: State, steps: u64, count: u64) -> Result<Acce
         State::Work(work) => answer_of_work(work, steps, count),
         State::Failed(error) => Err(error),
         State::Empty => Err(unfinished(count)),
-        State::Program(_) => Err(unfinished(count)),
+        State::Program { .. } => Err(unfinished(count)),
     }
 }
 
@@ -259,6 +276,7 @@ fn answer_of_work(work: Work, steps: u64, count: u64) -> Result<Accepted, CheckE
         → count ≡ length lines → IfErr result (TellsStop (StopsThere steps lines)) }
 {
     let Work {
+        version,
         program,
         evidence,
         due,
@@ -268,6 +286,7 @@ fn answer_of_work(work: Work, steps: u64, count: u64) -> Result<Accepted, CheckE
         Due::Nothing(verdict) => Ok(Accepted {
             program,
             verdict,
+            version: number_of(version),
             lines: count,
             charge: steps - evidence.budget.left,
         }),
@@ -285,7 +304,9 @@ pub(crate) fn refusal_of_rest(alloc: Global, steps: u64, number: u64, state: Sta
     match state {
         State::Failed(error) => error,
         State::Empty => bad_line(number),
-        State::Program(program) => refusal_behind_program(alloc, steps, number, &program),
+        State::Program { version, text } => {
+            refusal_behind_program(alloc, steps, number, version, &text)
+        }
         State::Work(_) => bad_line(number),
     }
 }
@@ -298,11 +319,17 @@ fn bad_line(number: u64) -> CheckError
 }
 
 /// The answer where bytes without a line feed follow the lines of the program.
-fn refusal_behind_program(alloc: Global, steps: u64, number: u64, program: &[u8]) -> CheckError
+fn refusal_behind_program(
+    alloc: Global,
+    steps: u64,
+    number: u64,
+    version: Version,
+    program: &[u8],
+) -> CheckError
     requires { length program.now ≤ 67108864 }
-    ensures { TellsStop (IsFirstRefused program.now steps None number) result }
+    ensures { TellsStop (IsFirstRefused version program.now steps None number) result }
 {
-    match behind_program(alloc, steps, number, program, None) {
+    match behind_program(alloc, steps, number, version, program, None) {
         Ok(_) => unreachable!(),
         Err(error) => error,
     }

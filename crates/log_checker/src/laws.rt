@@ -70,12 +70,13 @@ pub fn accepted_bytes_mean()
     ensures { AcceptedBytesMean }
 {}
 
-/// Accepted bytes are a log of one program, with one verdict.
+/// Accepted bytes are a log of one program, with one verdict and by one version.
 pub fn accepted_bytes_tell_programs()
     ensures { AcceptedBytesTellPrograms }
 {}
 
-/// Each well-formed program of at most 268,435,456 bytes has a subject: what its logs are about.
+/// Each well-formed program of at most 268,435,456 bytes has a subject for each version: what its
+/// logs are about.
 pub fn programs_have_subjects()
     ensures { ProgramsHaveSubjects }
 {}
@@ -85,8 +86,8 @@ pub fn programs_have_defined_logs()
     ensures { ProgramsHaveDefinedLogs }
 {}
 
-/// Whichever subject of a program is taken, the same lists of lines are accepted, and the same is
-/// the defined log.
+/// Whichever subject of a program and a version is taken, the same lists of lines are accepted, and
+/// the same is the defined log.
 pub fn subjects_agree()
     ensures { SubjectsAgree }
 {}

@@ -23,6 +23,7 @@ mod state;
 mod stops;
 #[cfg(test)]
 mod tests;
+pub mod versions;
 mod work;
 
 pub use accepted::Accepted;

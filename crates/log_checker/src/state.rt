@@ -2,14 +2,16 @@
 
 use crate::errors::CheckError;
 use crate::work::Work;
+use geo_lowering::Version;
 
 /// What the lines that were taken leave.
 #[derive(Drop)]
 pub(crate) enum State {
     /// No line came yet.
     Empty,
-    /// The header came, and then lines of the program, which are kept with their line feeds.
-    Program(Vec<u8>),
+    /// The header with this version came, and then lines of the program, which are kept with their
+    /// line feeds.
+    Program { version: Version, text: Vec<u8> },
     /// Lines behind the program came.
     Work(Work),
     /// A line was refused, or memory ran out.
@@ -26,7 +28,7 @@ impl State {
     {
         match self {
             State::Failed(error) => Some(*error),
-            State::Empty | State::Program(_) | State::Work(_) => None,
+            State::Empty | State::Program { .. } | State::Work(_) => None,
         }
     }
 }

@@ -72,6 +72,43 @@ const NUMBERS: &[&str] = &[
     "verdict false 1",
 ];
 
+/// The centroid by weights, over a hidden point, in version 1.
+const HIDDEN: &[&str] = &[
+    "geolog 1",
+    "| point A",
+    "| point B",
+    "| point C",
+    "| weights X A B C div { 1 } { 3 } div { 1 } { 3 }",
+    "| prove { equal { signed_area3 X B C } { signed_area3 X C A } }",
+    "goal 1 equal { signed_area3 X B C } { signed_area3 X C A }",
+    "start : +1*S0.2.4 +1*S1.2.4",
+    "point 4 : -1*S0.1.2 +3*S0.2.3 +3*S1.2.3",
+    "cut -1 : +1*S0.1.2 -3*S0.2.3 -3*S1.2.3",
+    "point 3 : 0",
+    "end",
+    "sample x0=0 y0=0 x1=0 y1=0 x2=0 y2=0",
+    "verdict proved",
+];
+
+/// The same by a step of its own, in version 2.
+const WEIGHTED: &[&str] = &[
+    "geolog 2",
+    "| point A",
+    "| point B",
+    "| point C",
+    "| weights X A B C div { 1 } { 3 } div { 1 } { 3 }",
+    "| prove { equal { signed_area3 X B C } { signed_area3 X C A } }",
+    "goal 1 equal { signed_area3 X B C } { signed_area3 X C A }",
+    "start : +1*S0.2.3 +1*S1.2.3",
+    "point 3 : 0",
+    "end",
+    "sample x0=0 y0=0 x1=0 y1=0 x2=0 y2=0",
+    "verdict proved",
+];
+
+/// The header of version 2.
+const SECOND: &str = "geolog 2";
+
 /// The log, with the line of this number replaced, and then cut to so many lines; number 0 replaces
 /// none.
 fn altered(
@@ -134,12 +171,14 @@ fn refuses(alloc: Global, log: &[u8], steps: u64, error: CheckError) -> bool {
 
 #[test]
 fn whole_logs_are_accepted(rt: HostRuntime) -> Result<(), Fail> {
-    let rows: [(&[&str], u64, Verdict, u64, u64); 5] = [
+    let rows: [(&[&str], u64, Verdict, u64, u64); 7] = [
         (MIDDLE, 24, Verdict::Proved, 12, 24),
         (MIDDLE, 100_000_000, Verdict::Proved, 12, 24),
         (FREE, 55, Verdict::False(1), 11, 55),
         (ITSELF, 100_000_000, Verdict::Impossible(1), 9, 3),
         (NUMBERS, 20, Verdict::False(1), 15, 20),
+        (HIDDEN, 89, Verdict::Proved, 14, 89),
+        (WEIGHTED, 71, Verdict::Proved, 12, 71),
     ];
     for (log, steps, verdict, lines, charge) in rows {
         let bytes = altered(rt.alloc(), log, 0, "", log.len())?;
@@ -157,9 +196,10 @@ const fn rejected(line: u64, reason: u32) -> CheckError {
 
 #[test]
 fn altered_logs_are_refused(rt: HostRuntime) -> Result<(), Fail> {
-    let rows: [(&[&str], usize, &str, u64, CheckError); 39] = [
+    let rows: [(&[&str], usize, &str, u64, CheckError); 45] = [
         (MIDDLE, 0, "", 23, CheckError::Spent { line: 9 }),
-        (MIDDLE, 1, "geolog 2", 24, rejected(1, 21)),
+        (MIDDLE, 1, "geolog 0", 24, rejected(1, 21)),
+        (MIDDLE, 1, "geolog 3", 24, rejected(1, 21)),
         (MIDDLE, 1, "end", 24, rejected(1, 22)),
         (MIDDLE, 1, "| point A", 24, rejected(1, 22)),
         (MIDDLE, 2, "|  point A", 24, rejected(2, 23)),
@@ -221,6 +261,11 @@ fn altered_logs_are_refused(rt: HostRuntime) -> Result<(), Fail> {
         (NUMBERS, 9, "cut 1*t0 : +1", 20, rejected(9, 28)),
         (NUMBERS, 14, "sample t0=1", 20, rejected(14, 30)),
         (NUMBERS, 0, "", 19, CheckError::Spent { line: 14 }),
+        (HIDDEN, 0, "", 88, CheckError::Spent { line: 11 }),
+        (HIDDEN, 1, SECOND, 89, rejected(8, 25)),
+        (WEIGHTED, 0, "", 70, CheckError::Spent { line: 9 }),
+        (WEIGHTED, 1, "geolog 1", 71, rejected(8, 25)),
+        (WEIGHTED, 8, HIDDEN[7], 71, rejected(8, 25)),
     ];
     for (log, number, line, steps, error) in rows {
         let bytes = altered(rt.alloc(), log, number, line, log.len())?;
@@ -229,6 +274,29 @@ fn altered_logs_are_refused(rt: HostRuntime) -> Result<(), Fail> {
             "{number}: {line}"
         );
     }
+    Ok(())
+}
+
+/// The version that is answered of the log, with its header replaced.
+fn version_of_log(alloc: Global, log: &[&str], header: &str) -> Result<u32, Fail> {
+    let bytes = altered(alloc, log, 1, header, log.len())?;
+    if bytes.len() > 67_108_864 {
+        return Ok(0);
+    }
+    match check(alloc, &bytes, 1000) {
+        Ok(accepted) => Ok(accepted.version),
+        Err(_) => Ok(0),
+    }
+}
+
+#[test]
+fn versions_are_told(rt: HostRuntime) -> Result<(), Fail> {
+    for log in [MIDDLE, FREE, ITSELF, NUMBERS] {
+        assert!(rt; version_of_log(rt.alloc(), log, "geolog 1")? == 1);
+        assert!(rt; version_of_log(rt.alloc(), log, SECOND)? == 2);
+    }
+    assert!(rt; version_of_log(rt.alloc(), HIDDEN, "geolog 1")? == 1);
+    assert!(rt; version_of_log(rt.alloc(), WEIGHTED, SECOND)? == 2);
     Ok(())
 }
 

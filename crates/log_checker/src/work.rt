@@ -3,8 +3,7 @@
 ghost use Rattle.std.specs.Prelude.{◌≡◌, ℕ, List, [], Some, ◌≤◌, IfErr, IfOk, length};
 ghost use Rattle.geo_program.specs.CanonicalText.{canonical_text};
 ghost use Rattle.geo_program.specs.Programs.{Spells, source_of};
-ghost use Rattle.log_checker.specs.Checkers.{IsAtWork, subject_of};
-ghost use Rattle.log_checker.specs.Subjects.{source_lines};
+ghost use Rattle.log_checker.specs.Checkers.{IsAtWork, head_of, subject_of};
 ghost use Rattle.log_checker.specs.declared.evidence.Evidence.{Evidence};
 ghost use Rattle.geo_conditions.specs.declared.problem.Problem.{Problem};
 ghost use Rattle.proof_log.specs.declared.log.Line.{Line};
@@ -20,8 +19,9 @@ use crate::reasons::Reason;
 use crate::sampling::test_sample;
 use crate::starting::after_start_line;
 use crate::stops::Stop;
-use geo_conditions::{Problem, list};
-use geo_lowering::lower;
+use crate::versions::problem_by;
+use geo_conditions::Problem;
+use geo_lowering::Version;
 use geo_parser::{ParseError, parse};
 use geo_program::{Program, print};
 use proof_log::{Line, Verdict};
@@ -30,6 +30,8 @@ use std::alloc::Global;
 /// A program, with what the lines behind it leave.
 #[derive(Drop)]
 pub(crate) struct Work {
+    /// The version of the log.
+    pub version: Version,
     /// The program.
     pub program: Program,
     /// What is to be proved of it.
@@ -40,19 +42,25 @@ pub(crate) struct Work {
     pub due: Due,
 }
 
-/// The work of the program whose canonical text the bytes are.
-pub(crate) fn begun_work(alloc: Global, bytes: &[u8], steps: u64) -> Result<Work, Stop>
+/// The work by this version, of the program whose canonical text the bytes are.
+pub(crate) fn begun_work(
+    alloc: Global,
+    version: Version,
+    bytes: &[u8],
+    steps: u64,
+) -> Result<Work, Stop>
     requires { length bytes.now ≤ 67108864 }
+    ensures version { IfOk result (λ w. w.version ≡ version) }
     ensures program { IfOk result (λ w. canonical_text (source_of w.program) ≡ bytes.now) }
     ensures begun { IfOk result (λ w. IsAtWork w steps []) }
     ensures refused { IfErr result (TellsNoProgram bytes.now) }
 {
     let program = canonical_program(alloc, bytes)?;
-    let lowered = lower(alloc, &program)?;
-    let problem = list(alloc, &program, lowered)?;
+    let problem = problem_by(alloc, version, &program)?;
     let evidence = Evidence::new(alloc, steps);
     let due = condition_due(&problem, 0);
     Ok(Work {
+        version,
         program,
         problem,
         evidence,
@@ -67,10 +75,11 @@ pub(crate) fn work_after(alloc: Global, work: Work, line: Line) -> Result<Work, 
     ensures goes { IfOk result (GoesOn work line) }
     ensures refused { (steps : ℕ) (good : List Line) → IsAtWork work steps good
         → IfErr result (Tells (IsRefusedAfter
-        (subject_of (source_lines (source_of work.program)) work.problem)
+        (subject_of (head_of work) work.problem)
         steps good (Some line))) }
 {
     let Work {
+        version,
         program,
         problem,
         mut evidence,
@@ -78,6 +87,7 @@ pub(crate) fn work_after(alloc: Global, work: Work, line: Line) -> Result<Work, 
     } = work;
     let due = after_line(alloc, &problem, &mut evidence, due, line)?;
     Ok(Work {
+        version,
         program,
         problem,
         evidence,

@@ -1,5 +1,5 @@
 -- What follows the lead of a line, lead by lead.
-use Rattle.std.proofs.Common.{◌≡◌, ◌≢◌, ℕ, ◌<◌, ◌≤◌, ◌^◌, Bool, true, false, List, [], ◌∷◌, ◌++◌, refl, sym, ap, ◌∙◌, append_assoc, arith, lit≤, lit<, get_or}
+use Rattle.std.proofs.Common.{◌≡◌, ◌≢◌, ℕ, ◌<◌, ◌≤◌, ◌^◌, Bool, true, false, List, [], ◌∷◌, ◌++◌, refl, sym, ap, ◌∙◌, append_assoc, arith, lit≤, lit<, get_or, subst}
 use Rattle.std.specs.Prelude.{ℤ, codes, Option, Some, None}
 use Rattle.std.specs.Fmt.{decimal}
 use Rattle.std.specs.List.{list_any}
@@ -21,9 +21,9 @@ use Rattle.proof_log.specs.declared.leads.Lead.{Lead}
 use Rattle.proof_log.specs.declared.leads.Lead.TheVariants.{Header as HeaderLead, Program as ProgramLead, Condition as ConditionLead, Goal as GoalLead, Start as StartLead, Ratio as RatioLead, Point as PointLead, Coords as CoordsLead, Cut as CutLead, End as EndLead, Sample as SampleLead, Proved as ProvedLead, False as FalseLead, Impossible as ImpossibleLead, TooLarge as TooLargeLead, Spent as SpentLead}
 use Rattle.proof_log.specs.Lines.{line_text, place_text, polynomial_text, which_text}
 use Rattle.geo_poly.specs.PolynomialVariables.{IsRatio}
-use Rattle.proof_log.specs.Writable.{CanWriteLemma, HasNoLineFeed}
+use Rattle.proof_log.specs.Writable.{CanWriteLemma, HasNoLineFeed, IsVersion}
 use Rattle.proof_log.specs.Inner.Reading.{Begins, Form, NoneBegins, StopsAt, factors, is_number_byte, naturals, polynomials, value_lists, variables}
-use Rattle.proof_log.specs.Inner.Leads.{IsBody, body_text, heads, last_numbers, lead_of, lead_text, lemmas, results, stops, texts}
+use Rattle.proof_log.specs.Inner.Leads.{IsBody, body_text, heads, last_numbers, lead_of, lead_text, lemmas, results, stops, texts, versions}
 use Rattle.proof_log.proofs.Runs.{Unique, naturals_unique}
 use Rattle.proof_log.proofs.Unique.{nothing_stops, small_unique}
 use Rattle.proof_log.proofs.UniqueTerms.{polynomials_unique}
@@ -34,7 +34,7 @@ whole form bytes x e fits = record { spelt = e ∙ sym (append-nil (form.text x)
 
 -- a line is its lead and what follows
 pub line_parts : (l : Line) → line_text l ≡ lead_text (lead_of l) ++ body_text l
-line_parts Header = refl
+line_parts (Header version) = refl
 line_parts (Program text) = refl
 line_parts (Condition k text) = simp append_assoc
 line_parts (Goal k text) = simp append_assoc
@@ -218,6 +218,26 @@ last_number bits bytes n r h =
 pub last_unique : (bits : ℕ) → 2 ^ bits ≤ 2 ^ 64 → (bytes : List ℕ) (m n : ℕ) → Begins (last_numbers bits) bytes m [] → Begins (last_numbers bits) bytes n [] → m ≡ n
 last_unique bits small bytes m n h k = (naturals_unique bits small bytes m n [] [] (last_number bits bytes m [] h).0 (last_number bits bytes n [] k).0).0
 
+-- a version is a number of 32 bits
+version_number : (bytes : List ℕ) (version : ℕ) (r : List ℕ) → Begins versions bytes version r → Begins (last_numbers 32) bytes version r
+version_number bytes version r h =
+    let few : 2 < 2 ^ 32 = lit< tt in
+    record { spelt = h.spelt; fits = omega (few, h.fits.1, arith); stops = h.stops }
+
+pub versions_unique : (bytes : List ℕ) (m n : ℕ) → Begins versions bytes m [] → Begins versions bytes n [] → m ≡ n
+versions_unique bytes m n h k = last_unique 32 (lit≤ tt) bytes m n (version_number bytes m [] h) (version_number bytes n [] k)
+
+pub version_unread : (bytes : List ℕ) → NoneBegins (last_numbers 32) bytes → NoneBegins versions bytes
+version_unread bytes none version r h = none version r (version_number bytes version r h)
+
+-- another number is no version
+pub version_other : (bytes : List ℕ) (n : ℕ) → Begins (last_numbers 32) bytes n [] → (IsVersion n → ⊥) → NoneBegins versions bytes
+version_other bytes n read other version r h =
+    let e : r ≡ [] = nothing_stops r h.stops in
+    let at : Begins versions bytes version [] = subst (λ rest. Begins versions bytes version rest) e h in
+    let same : n ≡ version = last_unique 32 (lit≤ tt) bytes n version read (version_number bytes version [] at) in
+    other (subst IsVersion (sym same) at.fits)
+
 pub last_read : (bits : ℕ) (bytes : List ℕ) (n : ℕ) (rest : List ℕ) → Begins (naturals bits) bytes n rest → rest ≡ [] → Begins (last_numbers bits) bytes n []
 last_read bits bytes n rest h e = record { spelt = h.spelt ∙ ap (λ l. decimal n ++ l) e; fits = h.fits; stops = tt }
 
@@ -320,8 +340,8 @@ no_verdict Proved lead other e = let f : true ≡ false = ap is_verdict e ∙ ot
 no_verdict (False g) lead other e = let f : true ≡ false = ap is_verdict e ∙ other in cc
 no_verdict (Impossible k) lead other e = let f : true ≡ false = ap is_verdict e ∙ other in cc
 
-pub header_body : (bytes : List ℕ) (l : Line) → IsBody HeaderLead bytes l → (l ≡ Header) × (bytes ≡ [])
-header_body bytes Header h = (refl, h.spelt)
+pub header_body : (bytes : List ℕ) (l : Line) → IsBody HeaderLead bytes l → (version : ℕ) × (l ≡ Header version) × Begins versions bytes version []
+header_body bytes (Header version) h = (version, refl, whole versions bytes version h.spelt h.writable)
 header_body bytes (VerdictLine v) h = absurd (no_verdict v HeaderLead refl h.lead_is)
 header_body bytes _ h = let e = h.lead_is in absurd (cc)
 

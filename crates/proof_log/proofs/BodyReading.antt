@@ -15,7 +15,7 @@ use Rattle.proof_log.specs.declared.leads.Lead.TheVariants.{Header as HeaderLead
 use Rattle.proof_log.specs.Lines.{factor_text, place_text, variable_name}
 use Rattle.geo_poly.specs.PolynomialVariables.{IsRatio}
 use Rattle.proof_log.specs.Inner.Reading.{Begins, Form, NoneBegins, factors, naturals, polynomials, value_lists, variables}
-use Rattle.proof_log.specs.Inner.Leads.{IsBody, heads, last_numbers, lemmas, results, stops, texts}
+use Rattle.proof_log.specs.Inner.Leads.{IsBody, heads, last_numbers, lemmas, results, stops, texts, versions}
 use Rattle.proof_log.proofs.Unique.{small_unique, variables_unique}
 use Rattle.proof_log.proofs.UniqueTerms.{factors_unique}
 use Rattle.proof_log.proofs.Bodies.{header_body, program_body, condition_body, goal_body, start_body, ratio_body, point_body, coords_body, cut_body, end_body, sample_body, proved_body, false_body, impossible_body, too_large_body, spent_body, lemmas_unique}
@@ -24,11 +24,11 @@ use Rattle.proof_log.proofs.Bodies.{header_body, program_body, condition_body, g
 unwhole : {T : Type 0} (form : Form T) (bytes : List ℕ) (x : T) → Begins form bytes x [] → bytes ≡ form.text x
 unwhole form bytes x h = h.spelt ∙ append-nil (form.text x)
 
-pub header_read : (bytes : List ℕ) → bytes ≡ [] → IsBody HeaderLead bytes Header
-header_read bytes e = record { writable = tt; lead_is = refl; spelt = e }
+pub header_read : (bytes : List ℕ) (x : ℕ) → Begins versions bytes x [] → IsBody HeaderLead bytes (Header x)
+header_read bytes x h = record { writable = h.fits; lead_is = refl; spelt = unwhole versions bytes x h }
 
-pub header_refused : (bytes : List ℕ) → (bytes ≡ [] → ⊥) → (l : Line) → IsBody HeaderLead bytes l → ⊥
-header_refused bytes none l h = none (header_body bytes l h).1
+pub header_refused : (bytes : List ℕ) → NoneBegins versions bytes → (l : Line) → IsBody HeaderLead bytes l → ⊥
+header_refused bytes none l h = let a = header_body bytes l h in none a.0 [] a.2
 
 pub end_read : (bytes : List ℕ) → bytes ≡ [] → IsBody EndLead bytes End
 end_read bytes e = record { writable = tt; lead_is = refl; spelt = e }

@@ -2,8 +2,6 @@
 use Rattle.std.proofs.Common.{◌≡◌, ℕ, zero, suc, ◌<◌, ◌≤◌, ◌^◌, true, false, cond, eqb, List, [], ◌∷◌, ◌++◌, refl, sym, ap, ◌∙◌, subst, append_assoc, arith, lit≤}
 use Rattle.std.specs.Prelude.{ℤ, pos, negsuc, unsigned_abs, slice_get, Option, Some, None, Result, Ok}
 use Rattle.std.specs.Result.{result_ok}
-use Rattle.std.specs.Prelude.{neg_ℤ, if◌then◌else◌}
-use Rattle.std.specs.Str.Parse.{starts_with_minus}
 use Rattle.std.proofs.lemmas.Int.{to_z-of_z}
 use mir.Val.{to_z, of_z}
 use mir.Syntax.{w128}
@@ -51,20 +49,6 @@ module _ (bytes run rest : List ℕ) (split : bytes ≡ run ++ rest) (all : Pass
 pub unfold_mag : (z : ℤ) → mag z ≤ unsigned_abs z
 unfold_mag (pos n) = omega arith
 unfold_mag (negsuc n) = omega arith
-
-size_of_negative : (n : ℕ) → unsigned_abs (neg_ℤ (pos n)) ≡ n
-size_of_negative zero = refl
-size_of_negative (suc n) = refl
-
-size_of_value : (bytes : List ℕ) → unsigned_abs (decimal_value bytes) ≡ decimal_size bytes
-size_of_value bytes =
-    elim (starts_with_minus bytes) as (λ b. unsigned_abs (if b then neg_ℤ (pos (decimal_size bytes)) else pos (decimal_size bytes)) ≡ decimal_size bytes) [ true ↦ size_of_negative (decimal_size bytes) | false ↦ refl ]
-
--- a number that was read fits its type
-pub number_cast : (z : ℤ) (bytes : List ℕ) → z ≡ decimal_value bytes → decimal_size bytes < 2 ^ 127 → to_z w128 (of_z w128 z) ≡ z
-number_cast z bytes value fits =
-    let size : unsigned_abs z ≡ decimal_size bytes = ap unsigned_abs value ∙ size_of_value bytes in
-    to_z-of_z w128 z (omega (arith, unfold_mag z))
 
 -- a result that is there is no want of one
 pub no_result : {E : Type 0} (r : Result ℤ E) (o : Option ℤ) (z : ℤ) → r ≡ Ok z → o ≡ result_ok r → o ≡ None → ⊥

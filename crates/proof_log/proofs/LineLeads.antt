@@ -5,7 +5,7 @@ use Rattle.proof_log.specs.declared.errors.LineError.{LineError}
 use Rattle.std.proofs.lemmas.List.{append_cancel_left}
 use Rattle.geo_poly.specs.declared.limits.Which.{Which}
 use Rattle.proof_log.specs.declared.log.Line.{Line}
-use Rattle.proof_log.specs.declared.log.Line.TheVariants.{Program, Condition, Goal, Start, Ratio, Point, Coords, Cut, Sample, Verdict as VerdictLine, StopTooLarge, StopSpent}
+use Rattle.proof_log.specs.declared.log.Line.TheVariants.{Header, Program, Condition, Goal, Start, Ratio, Point, Coords, Cut, Sample, Verdict as VerdictLine, StopTooLarge, StopSpent}
 use Rattle.proof_log.specs.declared.log.Verdict.TheVariants.{False, Impossible}
 use Rattle.proof_log.specs.declared.leads.Lead.{Lead}
 use Rattle.proof_log.specs.declared.leads.Lead.TheVariants.{Header as HeaderLead, Program as ProgramLead, Condition as ConditionLead, Goal as GoalLead, Start as StartLead, Ratio as RatioLead, Point as PointLead, Coords as CoordsLead, Cut as CutLead, End as EndLead, Sample as SampleLead, Proved as ProvedLead, False as FalseLead, Impossible as ImpossibleLead, TooLarge as TooLargeLead, Spent as SpentLead}
@@ -16,7 +16,7 @@ use Rattle.proof_log.specs.Inner.Leads.{IsBody, body_text, is_no_byte, lead_of, 
 use Rattle.proof_log.proofs.Runs.{Unique}
 use Rattle.proof_log.proofs.Unique.{small_unique, variables_unique}
 use Rattle.proof_log.proofs.UniqueTerms.{factors_unique, polynomials_unique, value_lists_unique}
-use Rattle.proof_log.proofs.Bodies.{IsCutLine, IsPointLine, IsRatioLine, header_body, program_body, condition_body, goal_body, start_body, ratio_body, point_body, coords_body, cut_body, end_body, sample_body, proved_body, false_body, impossible_body, too_large_body, spent_body, heads_unique, last_unique, lemmas_unique, line_parts, results_unique, stops_unique, text_is}
+use Rattle.proof_log.proofs.Bodies.{IsCutLine, IsPointLine, IsRatioLine, header_body, program_body, condition_body, goal_body, start_body, ratio_body, point_body, coords_body, cut_body, end_body, sample_body, proved_body, false_body, impossible_body, too_large_body, spent_body, heads_unique, last_unique, lemmas_unique, line_parts, results_unique, stops_unique, text_is, versions_unique}
 
 -- LEADS
 
@@ -161,7 +161,9 @@ same_ratio bytes l m a b =
 
 -- two lines with one lead and one body are the same
 same_body : (lead : Lead) (bytes : List ℕ) (l m : Line) → IsBody lead bytes l → IsBody lead bytes m → l ≡ m
-same_body HeaderLead bytes l m h k = (header_body bytes l h).0 ∙ sym (header_body bytes m k).0
+same_body HeaderLead bytes l m h k =
+    let a = header_body bytes l h in let b = header_body bytes m k in
+    a.1 ∙ ap Header (versions_unique bytes a.0 b.0 a.2 b.2) ∙ sym b.1
 same_body ProgramLead bytes l m h k =
     let a = program_body bytes l h in let b = program_body bytes m k in
     a.1 ∙ ap Program (sym (text_is bytes a.0 [] a.2).0 ∙ (text_is bytes b.0 [] b.2).0) ∙ sym b.1

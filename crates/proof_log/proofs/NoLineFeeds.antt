@@ -159,7 +159,9 @@ colon = known (codes " : ") refl
 
 pub no_line_feed : (l : Line) → IsWritable l → HasNoLineFeed (line_text l)
 unfolding has_none
-no_line_feed Header h = known (codes "geolog 1") refl
+no_line_feed (Header version) h =
+    let few : 2 < 2 ^ 32 = lit< tt in
+    joined (codes "geolog ") (decimal version) (known (codes "geolog ") refl) (small version (omega (few, h.1, arith)))
 no_line_feed (Program text) h = joined (codes "| ") text (known (codes "| ") refl) h
 no_line_feed (Condition k text) h =
     joined (codes "condition " ++ decimal k ++ codes " ") text

@@ -71,7 +71,7 @@ which_text Degree = codes "degree"
 
 -- a line, without its line feed
 abbrev pub line_text : Line → List ℕ
-line_text Header = codes "geolog 1"
+line_text (Header version) = codes "geolog " ++ decimal version
 line_text (Program text) = codes "| " ++ text
 line_text (Condition k text) = codes "condition " ++ decimal k ++ codes " " ++ text
 line_text (Goal k text) = codes "goal " ++ decimal k ++ codes " " ++ text

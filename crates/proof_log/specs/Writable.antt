@@ -64,6 +64,10 @@ CanWriteValues (v ∷ vs) = CanWriteValue v × CanWriteValues vs
 
 -- LINES
 
+-- the versions of the format are 1 and 2
+abbrev pub IsVersion : ℕ → Type 0
+IsVersion version = (1 ≤ version) × (version ≤ 2)
+
 -- no line feed
 abbrev pub HasNoLineFeed : List ℕ → Type 0
 HasNoLineFeed [] = Unit {0}
@@ -89,7 +93,7 @@ CanWriteVerdict (Impossible k) = k < 2 ^ 32
 
 -- a line that may be written
 abbrev pub IsWritable : Line → Type 0
-IsWritable Header = Unit {0}
+IsWritable (Header version) = IsVersion version
 IsWritable (Program text) = HasNoLineFeed text
 IsWritable (Condition k text) = CanWriteHead k text
 IsWritable (Goal k text) = CanWriteHead k text

@@ -9,7 +9,7 @@ use crate::reader::Reader;
 /// How a line begins. It tells what follows.
 #[derive(Clone, Copy)]
 pub(crate) enum Lead {
-    /// `geolog 1`
+    /// `geolog `
     Header,
     /// `| `
     Program,
@@ -68,7 +68,7 @@ impl Lead {
         ensures { result.now ≡ lead_text self }
     {
         match self {
-            Lead::Header => b"geolog 1",
+            Lead::Header => b"geolog ",
             Lead::Program => b"| ",
             Lead::Condition => b"condition ",
             Lead::Goal => b"goal ",

@@ -10,7 +10,7 @@ ghost use Rattle.proof_log.specs.declared.leads.Lead.TheVariants.{Ratio as Ratio
 ghost use Rattle.geo_poly.specs.PolynomialVariables.{IsRatio};
 ghost use Rattle.proof_log.specs.declared.log.Line.{Line};
 ghost use Rattle.proof_log.specs.Inner.Leads.{IsBody, heads, last_numbers, lemmas, results, stops};
-ghost use Rattle.proof_log.specs.Inner.Leads.{texts};
+ghost use Rattle.proof_log.specs.Inner.Leads.{texts, versions};
 ghost use Rattle.proof_log.specs.Lines.{line_text};
 ghost use Rattle.proof_log.specs.Inner.Reading.{Begins, NoneBegins};
 ghost use Rattle.proof_log.specs.Writable.{HasNoLineFeed, IsWritable};
@@ -23,6 +23,9 @@ use geo_base::Text;
 use geo_points::PointId;
 use geo_poly::{Poly, Var, Which};
 use std::alloc::Global;
+
+/// The last version of the format.
+const LAST_VERSION: u32 = 2;
 
 /// The line whose text the bytes are, without its line feed. `BadLine` comes exactly where they
 /// are the text of no line that may be written.
@@ -45,10 +48,9 @@ impl<'a> Reader<'a> {
         ensures bad { IsErrOf result LineError.BadLine → (l : Line) → IsBody lead self.old l → ⊥ }
     {
         match lead {
-            Lead::Header => {
-                self.end()?;
-                Ok(Line::Header)
-            }
+            Lead::Header => Ok(Line::Header {
+                version: self.version()?,
+            }),
             Lead::Program => Ok(Line::Program(self.text(alloc)?)),
             Lead::Condition => self.condition(alloc),
             Lead::Goal => self.goal(alloc),
@@ -88,6 +90,21 @@ impl<'a> Reader<'a> {
         } else {
             Err(LineError::BadLine)
         }
+    }
+
+    // A version of the format, and then the end of the line.
+    fn version(&mut self) -> Result<u32, LineError>
+        ensures read { IfOk result (λ version. Begins versions self.old version []) }
+        ensures bad { IsErrOf result LineError.BadLine → NoneBegins versions self.old }
+    {
+        let version = self.last_small()?;
+        if version == 0 {
+            return Err(LineError::BadLine);
+        }
+        if version > LAST_VERSION {
+            return Err(LineError::BadLine);
+        }
+        Ok(version)
     }
 
     // A text, up to the end of the line.

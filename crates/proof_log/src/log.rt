@@ -19,8 +19,10 @@ pub enum Verdict {
 /// A line of a log.
 #[derive(Drop)]
 pub enum Line {
-    /// The first line, which names the format.
-    Header,
+    /// The first line, which names the format and its version, 1 or 2.
+    Header {
+        version: u32,
+    },
     /// A line of the program, without its line feed.
     Program(Text),
     /// The condition's number, from 1, and its text: its chain begins.

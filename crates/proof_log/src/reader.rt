@@ -4,6 +4,7 @@ ghost use Rattle.std.specs.Prelude.{◌≡◌, ◌+◌, ◌^◌, ◌<◌, ◌≤
 ghost use Rattle.std.specs.Prelude.{length, unsigned_abs, slice_get, IsTrue, IsNone, IfSome};
 ghost use Rattle.std.specs.Prelude.{OnSome, Some};
 ghost use Rattle.std.specs.List.{prefix_len};
+ghost use Rattle.geo_base.specs.Decimals.{IsDecimal, decimal_size, decimal_value};
 ghost use Rattle.geo_poly.specs.Monomials.{degree_of};
 ghost use Rattle.geo_poly.specs.declared.variables.Var.{Var};
 ghost use Rattle.proof_log.specs.Writable.{CanWriteMonomial, IsSorted};
@@ -15,7 +16,6 @@ ghost use Rattle.proof_log.specs.Inner.Reading.{variables};
 use geo_base::read_decimal;
 use geo_points::{ParamId, PointId};
 use geo_poly::{MAX_DEGREE, Var};
-use itoa::Buffer;
 use std::marker::Model;
 
 /// The bytes of a line that are still to be read.
@@ -101,7 +101,7 @@ impl<'a> Reader<'a> {
     {
         let run = self.run();
         let number = read_decimal(run).ok()?;
-        if is_text_of(&number, run) {
+        if is_canonical(run) {
             Some(number)
         } else {
             None
@@ -293,11 +293,21 @@ fn run_length(bytes: &[u8]) -> usize
         .count()
 }
 
-// Whether the text is that of the number.
-fn is_text_of(number: &i128, text: &[u8]) -> bool
-    ensures { IsTrue result ↔ (integers.text number.now ≡ text.now) }
+// Whether decimal text is the one spelling of its number: no zero in front of other digits, and no
+// `-` before 0.
+#[tactic(auto, using(crate::proofs::Spelling::is_short, crate::proofs::Spelling::is_negative, crate::proofs::Spelling::is_plain))]
+fn is_canonical(text: &[u8]) -> bool
+    requires decimal { IsDecimal text.now }
+    requires fits { decimal_size text.now < 2 ^ 127 }
+    ensures { IsTrue result ↔ (integers.text (decimal_value text.now) ≡ text.now) }
 {
-    Buffer::new().format(*number).as_bytes() == text
+    if text.len() < 2 {
+        return true;
+    }
+    if text[0] == b'-' {
+        return text[1] != b'0';
+    }
+    text[0] != b'0'
 }
 
 // Whether the points stand in their sorted order.

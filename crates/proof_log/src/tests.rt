@@ -8,6 +8,7 @@ use std::test::Fail;
 // Lines, each with its one spelling.
 const LINES: &[&[u8]] = &[
     b"geolog 1",
+    b"geolog 2",
     b"| point A",
     b"| ",
     b"|  point A",
@@ -53,7 +54,12 @@ const LINES: &[&[u8]] = &[
 // Bytes that are no line.
 const OTHERS: &[&[u8]] = &[
     b"",
-    b"geolog 2",
+    b"geolog",
+    b"geolog ",
+    b"geolog 0",
+    b"geolog 3",
+    b"geolog 01",
+    b"geolog 12",
     b"geolog 1 ",
     b"|",
     b"| a\nb",

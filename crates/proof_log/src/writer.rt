@@ -32,7 +32,7 @@ fn push_line(alloc: Global, out: &mut Vec<u8>, line: &Line) -> Result<(), NoMemo
     ensures { OnOk result (out.new.items ≡ out.old.items ++ line_text line.now) }
 {
     match line {
-        Line::Header => out.extend_from_slice(b"geolog 1")?,
+        Line::Header { version } => push_labelled(alloc, out, b"geolog ", *version)?,
         Line::Program(text) => push_program(out, text)?,
         Line::Condition { k, text } => push_condition(alloc, out, *k, text)?,
         Line::Goal { k, text } => push_goal(alloc, out, *k, text)?,
@@ -262,9 +262,11 @@ fn push_term(alloc: Global, out: &mut Vec<u8>, poly: &Poly, i: u64) -> Result<()
     ensures { OnOk result (out.new.items ≡ out.old.items ++ term_text (term_at poly.now i)) }
 {
     push_coefficient(alloc, out, poly.coefficient(i))?;
-    for j in 0..poly.powers(i) {
-        let (variable, exponent) = poly.power(i, j);
-        push_power(alloc, out, variable, exponent)?;
+    let p = poly.shared();
+    let (mut rest, _) = p.term(i);
+    while let Some(first) = p.first_power(rest) {
+        push_power(alloc, out, first.var, first.exponent)?;
+        rest = first.rest;
     }
     Ok(())
 }

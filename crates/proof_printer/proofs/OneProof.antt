@@ -1,5 +1,5 @@
 -- Bytes have one readable proof.
-use Rattle.std.proofs.Common.{◌≡◌, ℕ, List, [], ◌∷◌, ◌++◌, refl, sym, ap, ap₂, ◌∙◌, codes}
+use Rattle.std.proofs.Common.{◌≡◌, List, [], ◌∷◌, ◌++◌, refl, sym, ap, ap₂, subst, ◌∙◌, codes}
 use Rattle.geo_poly.specs.Polynomials.{Summands}
 use Rattle.geo_terms.specs.Constructions.{Construction}
 use Rattle.geo_program.specs.Names.{names_of}
@@ -8,6 +8,7 @@ use Rattle.geo_program.specs.WellFormed.{Source}
 use Rattle.geo_program.specs.declared.names.NameKind.TheVariants as kind
 use Rattle.geo_lowering.specs.Counting.{param_places}
 use Rattle.geo_lowering.specs.Lowering.{IsLowered, LoweredForm, point_places}
+use Rattle.geo_lowering.specs.declared.version.Version.{Version}
 use Rattle.geo_lowering.proofs.Alike.{lowered_forms_agree, same_programs_lower_alike}
 use Rattle.proof_log.specs.declared.log.Line.{Line}
 use Rattle.proof_log.specs.declared.log.Line.TheVariants.{Header, Program, Condition, Goal, Start, Ratio, Point, Coords, Cut, End, Sample, Verdict, StopTooLarge, StopSpent}
@@ -16,6 +17,7 @@ use Rattle.geo_logs.specs.declared.moves.Move.{Move}
 use Rattle.geo_logs.specs.declared.moves.Move.TheVariants as move
 use Rattle.log_checker.proofs.AcceptedBytes.{accepted_bytes_tell_programs}
 use Rattle.log_checker.proofs.AlikeSteps.{AlikeConstructions, replacement_same}
+use Rattle.log_checker.proofs.VersionNumbers.{one_version}
 use Rattle.proof_printer.specs.Naming.{Naming, name_or_number, naming_of}
 use Rattle.proof_printer.specs.Proofs.{ReadableProofIsUnique}
 use Rattle.proof_printer.specs.Readable.{lines_of, move_lines, polynomial_after, ratio_move, readable, replacement_lines}
@@ -26,7 +28,7 @@ module _ (n : Naming) (c d : Construction) (h : AlikeConstructions c d) where
   moves_same before mv q = ap (λ made. replacement_lines n made q) (replacement_same c d h mv before)
 
   line_same : (before : Summands) (line : Line) → lines_of n c before line ≡ lines_of n d before line
-  line_same before Header = refl
+  line_same before (Header version) = refl
   line_same before (Program text) = refl
   line_same before (Condition k text) = refl
   line_same before (Goal k text) = refl
@@ -46,13 +48,13 @@ module _ (n : Naming) (c d : Construction) (h : AlikeConstructions c d) where
   readable_same before (line ∷ lines) = ap₂ (λ l m. l ++ m) (line_same before line) (readable_same (polynomial_after before line) lines)
 
 -- PROGRAMS THAT ARE THE SAME
-module _ (p q : Source) (same : SameSource p q) (form : LoweredForm) (lowered : IsLowered p form) where
-  also : IsLowered q form
-  also = same_programs_lower_alike p q form same lowered
+module _ (version : Version) (p q : Source) (same : SameSource p q) (form : LoweredForm) (lowered : IsLowered version p form) where
+  also : IsLowered version q form
+  also = same_programs_lower_alike version p q form same lowered
 
-  naming_same : naming_of p ≡ naming_of q
+  naming_same : naming_of version p ≡ naming_of version q
   naming_same =
-      let points : point_places 0 p.commands ≡ point_places 0 q.commands = sym lowered.points ∙ also.points in
+      let points : point_places version 0 p.commands ≡ point_places version 0 q.commands = sym lowered.points ∙ also.points in
       let params : param_places 0 p.commands ≡ param_places 0 q.commands = sym lowered.params ∙ also.params in
       λ i. record {
         point = name_or_number (codes "#") (points i) (names_of kind.Point (same.names i));
@@ -63,10 +65,16 @@ pub readable_proof_is_unique : ReadableProofIsUnique
 readable_proof_is_unique bytes steps steps' text text' a b =
     let p = a.program in
     let q = b.program in
-    let same = (accepted_bytes_tell_programs bytes steps steps' p q a.verdict b.verdict a.accepted b.accepted).0 in
-    let forms = lowered_forms_agree q a.form b.form (also p q same a.form a.lowered) b.lowered in
+    let told = accepted_bytes_tell_programs bytes steps steps' p q a.verdict b.verdict a.accepted b.accepted in
+    let same = told.0 in
+    let v = a.accepted.accepted.about.version in
+    let version : b.accepted.accepted.about.version ≡ v =
+    one_version b.accepted.accepted.about.version v (sym b.accepted.accepted.about.same_version ∙ sym told.2 ∙ a.accepted.accepted.about.same_version) in
+    let other : IsLowered v q b.form = subst (λ (x : Version). IsLowered x q b.form) version b.lowered in
+    let forms = lowered_forms_agree v q a.form b.form (also v p q same a.form a.lowered) other in
     let alike : AlikeConstructions a.form.construction b.form.construction = record { steps = forms.steps; params = forms.numbers } in
-    let names = naming_same p q same a.form a.lowered in
+    let names = naming_same v p q same a.form a.lowered in
     let lines = logs_told a.accepted.lines b.accepted.lines a.accepted.writable b.accepted.writable (sym a.accepted.written ∙ b.accepted.written) in
-    a.written ∙ readable_same (naming_of p) a.form.construction b.form.construction alike [] a.accepted.lines
-    ∙ (λ i. readable (names i) b.form.construction [] (lines i)) ∙ sym b.written
+    a.written ∙ readable_same (naming_of v p) a.form.construction b.form.construction alike [] a.accepted.lines
+    ∙ (λ i. readable (names i) b.form.construction [] (lines i))
+    ∙ ap (λ (x : Version). readable (naming_of x q) b.form.construction [] b.accepted.lines) (sym version) ∙ sym b.written

@@ -159,9 +159,9 @@ module _ (c : Construction) (construction : IsConstruction c) where
   program_can [] rest h = h
   program_can (t ∷ ts) rest h = λ q. (tt, program_can ts rest h q)
 
-  pub log_can : (program : List (List ℕ)) (conditions goals : List Item) (steps : ℕ) (lines rest : List Line) (verdict : Verdict) (left : ℕ)
-      → AllByRecursion IsBelow goals → AllByRecursion IsBelow conditions → steps < 2 ^ 128 → lines ≡ Header ∷ map ProgramLine program ++ rest
+  pub log_can : (version : ℕ) (program : List (List ℕ)) (conditions goals : List Item) (steps : ℕ) (lines rest : List Line) (verdict : Verdict) (left : ℕ)
+      → AllByRecursion IsBelow goals → AllByRecursion IsBelow conditions → steps < 2 ^ 128 → lines ≡ Header version ∷ map ProgramLine program ++ rest
       → AreConditionsWorked (IsAcceptedChain lemma_table c) (IsAcceptedSample c) goals [] [] 1 steps conditions rest verdict left → CanPrintAll c [] lines
-  log_can program conditions goals steps lines rest verdict left g b few split worked =
+  log_can version program conditions goals steps lines rest verdict left g b few split worked =
       let behind = conditions_can goals [] [] 1 steps conditions rest verdict left g b few worked in
       subst (CanPrintAll c []) (sym split) (tt, program_can program rest behind [])

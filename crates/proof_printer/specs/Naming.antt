@@ -10,6 +10,7 @@ use Rattle.geo_program.specs.Names.{names_of}
 use Rattle.geo_program.specs.WellFormed.{Source}
 use Rattle.geo_lowering.specs.Counting.{param_places}
 use Rattle.geo_lowering.specs.Lowering.{point_places}
+use Rattle.geo_lowering.specs.declared.version.Version.{Version}
 
 -- the names of all points and of all parameters of a lowered program, by number
 pub record Naming : Type 0 where
@@ -25,10 +26,10 @@ name_at _ _ n = None
 abbrev pub name_or_number : List ℕ → List ℕ → List (List ℕ) → ℕ → List ℕ
 name_or_number mark places names n = unwrap_or (name_at places names n) (mark ++ decimal n)
 
--- the names of a program: `A`, or `#4` where point 4 is hidden; `r`, or `#t0` where parameter 0 is hidden
-abbrev pub naming_of : Source → Naming
-naming_of p = record {
-  point = name_or_number (codes "#") (point_places 0 p.commands) (names_of kind.Point p.names);
+-- the names of a program in logs of this version: `A`, or `#4` where point 4 is hidden; `r`, or `#t0` where parameter 0 is hidden
+abbrev pub naming_of : Version → Source → Naming
+naming_of version p = record {
+  point = name_or_number (codes "#") (point_places version 0 p.commands) (names_of kind.Point p.names);
   param = name_or_number (codes "#t") (param_places 0 p.commands) (names_of kind.Param p.names);
 }
 

@@ -61,7 +61,7 @@ verdict_text (Impossible k) = codes "Impossible: condition " ++ decimal k ++ cod
 
 -- what is printed of a line of the log, which stands behind this polynomial; a stop stands in no accepted log
 abbrev pub lines_of : Naming → Construction → Summands → Line → List ℕ
-lines_of n c before Header = []
+lines_of n c before (Header version) = []
 lines_of n c before (Program text) = ended text
 lines_of n c before (Condition k text) = ended (codes "Condition " ++ decimal k ++ codes ": " ++ text)
 lines_of n c before (Goal k text) = ended (codes "Goal " ++ decimal k ++ codes ": " ++ text)

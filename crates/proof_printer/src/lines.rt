@@ -32,7 +32,7 @@ impl Printer {
             ++ lines_of (naming_in self.now.namer) self.now.steps before.now line.now) }
     {
         match line {
-            Line::Header => Ok(()),
+            Line::Header { version: _ } => Ok(()),
             Line::Program(text) => push_program(out, text),
             Line::Condition { k, text } => push_head(alloc, out, b"Condition ", *k, text),
             Line::Goal { k, text } => push_head(alloc, out, b"Goal ", *k, text),

@@ -3,6 +3,7 @@
 ghost use Rattle.std.specs.Prelude.{codes, ◌≡◌, [], ◌∷◌, ◌++◌, IfOk, OnOk, map};
 ghost use Rattle.geo_lowering.specs.Lowering.{IsLowered};
 ghost use Rattle.geo_lowering.specs.Parts.{form_of};
+ghost use Rattle.geo_lowering.specs.declared.version.Version.{Version};
 ghost use Rattle.geo_program.specs.Names.{names_of};
 ghost use Rattle.geo_program.specs.Programs.{source_of};
 ghost use Rattle.proof_printer.specs.Inner.Names.{naming_in};
@@ -25,8 +26,8 @@ pub(crate) struct Namer {
 impl Namer {
     /// The names of a program that is lowered so.
     pub fn new(alloc: Global, program: &Program, lowered: &Lowered) -> Result<Namer, NoMemory>
-        requires { IsLowered (source_of program.now) (form_of lowered.now) }
-        ensures { IfOk result (λ namer. naming_in namer ≡ naming_of (source_of program.now)) }
+        ensures { (version : Version) → IsLowered version (source_of program.now) (form_of lowered.now)
+            → IfOk result (λ namer. naming_in namer ≡ naming_of version (source_of program.now)) }
     {
         let names = program.names.as_slice();
         let points = texts_of(alloc, names, NameKind::Point)?;

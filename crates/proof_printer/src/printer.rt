@@ -10,11 +10,12 @@ use crate::lines::polynomial_after;
 use crate::namer::Namer;
 use crate::pieces::{read_written, split_line};
 use geo_base::Text;
-use geo_lowering::{Lowered, lower};
+use geo_lowering::{Lowered, Version};
 use geo_points::NoMemory;
 use geo_poly::Poly;
 use geo_program::Program;
 use geo_terms::Steps;
+use log_checker::versions::lower_by;
 use std::alloc::Global;
 
 /// What the lines of a log are printed by: the names of its program, and the steps of its
@@ -28,14 +29,14 @@ pub(crate) struct Printer {
 }
 
 impl Printer {
-    /// The printer of a program's logs.
-    pub fn new(alloc: Global, program: &Program) -> Result<Printer, NoMemory>
+    /// The printer of a program's logs of this version.
+    pub fn new(alloc: Global, version: Version, program: &Program) -> Result<Printer, NoMemory>
         ensures names { IfOk result (λ printer.
-            naming_in printer.namer ≡ naming_of (source_of program.now)) }
+            naming_in printer.namer ≡ naming_of version (source_of program.now)) }
         ensures steps { IfOk result (λ printer.
-            IsConstructionOf (source_of program.now) printer.steps) }
+            IsConstructionOf version (source_of program.now) printer.steps) }
     {
-        let lowered = lower(alloc, program)?;
+        let lowered = lower_by(alloc, version, program)?;
         let namer = Namer::new(alloc, program, &lowered)?;
         let Lowered {
             steps,

@@ -7,6 +7,7 @@ ghost use Rattle.proof_printer.specs.Proofs.{IsReadableProof};
 
 use crate::printer::Printer;
 use geo_base::Text;
+use log_checker::versions::version_of;
 use log_checker::{CheckError, check};
 use std::alloc::Global;
 
@@ -17,6 +18,7 @@ pub fn text(alloc: Global, bytes: &[u8], steps: u64) -> Result<Text, CheckError>
     ensures refused { IfErr result (TellsStop (Refuses bytes.now steps)) }
 {
     let accepted = check(alloc, bytes, steps)?;
-    let printer = Printer::new(alloc, &accepted.program)?;
+    let version = version_of(accepted.version);
+    let printer = Printer::new(alloc, version, &accepted.program)?;
     Ok(printer.print(alloc, bytes)?)
 }

@@ -190,6 +190,78 @@ const CIRCLE: Worked = Worked {
     ],
 };
 
+/// The centroid by weights, over a hidden point, in version 1.
+const HIDDEN: Worked = Worked {
+    log: &[
+        "geolog 1",
+        "| point A",
+        "| point B",
+        "| point C",
+        "| weights X A B C div { 1 } { 3 } div { 1 } { 3 }",
+        "| prove { equal { signed_area3 X B C } { signed_area3 X C A } }",
+        "goal 1 equal { signed_area3 X B C } { signed_area3 X C A }",
+        "start : +1*S0.2.4 +1*S1.2.4",
+        "point 4 : -1*S0.1.2 +3*S0.2.3 +3*S1.2.3",
+        "cut -1 : +1*S0.1.2 -3*S0.2.3 -3*S1.2.3",
+        "point 3 : 0",
+        "end",
+        "sample x0=0 y0=0 x1=0 y1=0 x2=0 y2=0",
+        "verdict proved",
+    ],
+    proof: &[
+        "point A",
+        "point B",
+        "point C",
+        "weights X A B C div { 1 } { 3 } div { 1 } { 3 }",
+        "prove { equal { signed_area3 X B C } { signed_area3 X C A } }",
+        "Goal 1: equal { signed_area3 X B C } { signed_area3 X C A }",
+        "  +1*S(A,C,X) +1*S(B,C,X)",
+        "  S(A,C,X) = (+3*S(A,C,#3)) / (+3)",
+        "  S(B,C,X) = (-1*S(A,B,C) +3*S(B,C,#3)) / (+3)",
+        "  gives -1*S(A,B,C) +3*S(A,C,#3) +3*S(B,C,#3)",
+        "  divide by -1: +1*S(A,B,C) -3*S(A,C,#3) -3*S(B,C,#3)",
+        "  S(A,C,#3) = (-1*S(A,B,C)) / (+3)",
+        "  S(B,C,#3) = (+2*S(A,B,C)) / (+3)",
+        "  gives 0",
+        "  zero",
+        "At x(A)=0 y(A)=0 x(B)=0 y(B)=0 x(C)=0 y(C)=0",
+        "Proved.",
+    ],
+};
+
+/// The same by a step of its own, in version 2.
+const WEIGHTED: Worked = Worked {
+    log: &[
+        "geolog 2",
+        "| point A",
+        "| point B",
+        "| point C",
+        "| weights X A B C div { 1 } { 3 } div { 1 } { 3 }",
+        "| prove { equal { signed_area3 X B C } { signed_area3 X C A } }",
+        "goal 1 equal { signed_area3 X B C } { signed_area3 X C A }",
+        "start : +1*S0.2.3 +1*S1.2.3",
+        "point 3 : 0",
+        "end",
+        "sample x0=0 y0=0 x1=0 y1=0 x2=0 y2=0",
+        "verdict proved",
+    ],
+    proof: &[
+        "point A",
+        "point B",
+        "point C",
+        "weights X A B C div { 1 } { 3 } div { 1 } { 3 }",
+        "prove { equal { signed_area3 X B C } { signed_area3 X C A } }",
+        "Goal 1: equal { signed_area3 X B C } { signed_area3 X C A }",
+        "  +1*S(A,C,X) +1*S(B,C,X)",
+        "  S(A,C,X) = (-3*S(A,B,C)) / (+9)",
+        "  S(B,C,X) = (+3*S(A,B,C)) / (+9)",
+        "  gives 0",
+        "  zero",
+        "At x(A)=0 y(A)=0 x(B)=0 y(B)=0 x(C)=0 y(C)=0",
+        "Proved.",
+    ],
+};
+
 /// The lines, each with its line feed.
 fn joined(alloc: Global, lines: &[&str]) -> Result<Vec<u8>, AllocError> {
     let mut bytes = Vec::new(alloc);
@@ -218,7 +290,7 @@ fn refuses(answer: Result<Text, CheckError>, error: CheckError) -> bool {
 
 #[test]
 fn logs_are_printed(rt: HostRuntime) -> Result<(), Fail> {
-    for worked in [MIDDLE, NUMBERS, ITSELF, CIRCLE] {
+    for worked in [MIDDLE, NUMBERS, ITSELF, CIRCLE, HIDDEN, WEIGHTED] {
         let log = joined(rt.alloc(), worked.log)?;
         let proof = joined(rt.alloc(), worked.proof)?;
         assert!(rt; log.len() <= 67_108_864);

@@ -8,11 +8,13 @@ syn keyword geoCommand translate symmetric reflect circumcenter orthocenter cent
 syn keyword geoProve prove assume
 syn keyword geoStatement equal collinear perpendicular identical same_length harmonic concyclic
 syn keyword geoExpression signed_area3 pythagoras_difference3 sratio neg sum sub mult div
+syn match geoCondition "\(\<assume\s\+\)\@<=\(different\|not_collinear\|not_parallel\)\>"
 syn match geoNumber "-\?\<\d\+\>"
 syn match geoComment "%.*$"
 hi def link geoCommand Type
 hi def link geoProve Keyword
 hi def link geoStatement Statement
+hi def link geoCondition Statement
 hi def link geoExpression Function
 hi def link geoNumber Number
 hi def link geoComment Comment

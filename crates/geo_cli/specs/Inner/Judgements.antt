@@ -7,6 +7,7 @@ use Rattle.geo_cli.specs.Due.{accepted_text}
 use Rattle.geo_cli.specs.Input.{IsInput, log_limit}
 use Rattle.geo_conditions.specs.declared.items.Item.{Item}
 use Rattle.geo_conditions.specs.Lists.{AreConditionItems, ItemForm}
+use Rattle.geo_lowering.specs.declared.version.Version.TheVariants.{Two}
 use Rattle.geo_program.specs.WellFormed.{Source}
 use Rattle.log_checker.specs.Checked.{IsAnswer, TellsStop}
 use Rattle.log_checker.specs.Judged.{Refuses}
@@ -60,5 +61,5 @@ condition_lines k (item ∷ items) = condition_line k item.text ++ condition_lin
 -- the text tells the program, its conditions and the verdict
 pub record IsAcceptedText (p : Source) (verdict : Verdict) (text : List ℕ) : Type 0 where
   pub conditions : List ItemForm
-  pub listed : AreConditionItems p conditions
+  pub listed : AreConditionItems Two p conditions
   pub is : text ≡ accepted_text p conditions verdict

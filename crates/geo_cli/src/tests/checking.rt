@@ -11,7 +11,7 @@ use std::process::Abort;
 use std::test::Fail;
 
 const MIDPOINT_LINES: [&[u8]; 12] = [
-    b"geolog 1\n",
+    b"geolog 2\n",
     b"| point A\n",
     b"| point B\n",
     b"| midpoint M A B\n",

@@ -3,7 +3,7 @@ use Rattle.std.specs.Prelude.{◌≡◌, ◌<◌, ◌≤◌, Contains, List, [],
 use Rattle.std.specs.List.{AllByRecursion}
 use Rattle.geo_points.specs.declared.ids.TermId.{TermId}
 use Rattle.geo_program.specs.declared.commands.Command.{Command}
-use Rattle.geo_program.specs.declared.commands.Command.TheVariants.{Pratio, Tratio, Lratio}
+use Rattle.geo_program.specs.declared.commands.Command.TheVariants.{Pratio, Tratio, Lratio, Weights}
 use Rattle.geo_program.specs.declared.statements.Statement.{Statement}
 use Rattle.geo_program.specs.declared.statements.Statement.TheVariants.{Equal}
 use Rattle.geo_program.specs.Expressions.{nesting}
@@ -11,7 +11,7 @@ use Rattle.geo_terms.specs.Stores.{Store, IsStore, tree_of}
 use Rattle.geo_lowering.specs.Conditions.{Condition, different, not_collinear, not_parallel, crossing, nonzero, expression_conditions}
 use Rattle.geo_conditions.specs.declared.condition_list.ConditionList.{ConditionList}
 use Rattle.geo_conditions.specs.declared.condition_sources.ConditionSource.{ConditionSource}
-use Rattle.geo_conditions.specs.declared.condition_sources.ConditionSource.TheVariants.{Nothing, One, Expression}
+use Rattle.geo_conditions.specs.declared.condition_sources.ConditionSource.TheVariants.{Nothing, One, Expression, Expressions}
 use Rattle.geo_conditions.specs.declared.conditions.Condition.{Condition as KeptCondition}
 use Rattle.geo_conditions.specs.declared.conditions.Condition.TheVariants.{Different, NotCollinear, NotParallel, Crossing, Nonzero}
 use Rattle.geo_conditions.specs.declared.conditions.ListedCondition.{ListedCondition}
@@ -61,18 +61,21 @@ abbrev pub conditions_given : Store → ConditionSource → List Condition
 conditions_given nodes Nothing = []
 conditions_given nodes (One c) = condition_of nodes c ∷ []
 conditions_given nodes (Expression e) = expression_conditions (tree_of nodes e)
+conditions_given nodes (Expressions e f) = expression_conditions (tree_of nodes e) ++ expression_conditions (tree_of nodes f)
 
--- its term stands in the store, and its braces at most 128 deep
+-- its terms stand in the store, and their braces at most 128 deep
 abbrev pub IsSourceKept : Store → ConditionSource → Type 0
 IsSourceKept nodes Nothing = Unit {0}
 IsSourceKept nodes (One c) = IsKept nodes c
 IsSourceKept nodes (Expression e) = HasBraces nodes e
+IsSourceKept nodes (Expressions e f) = HasBraces nodes e × HasBraces nodes f
 
--- so does the number of the command
+-- so do the numbers of the command
 abbrev pub IsNumberBraced : Store → Command → Type 0
 IsNumberBraced nodes (Pratio w u v r) = HasBraces nodes r
 IsNumberBraced nodes (Tratio u v r) = HasBraces nodes r
 IsNumberBraced nodes (Lratio a b r) = HasBraces nodes r
+IsNumberBraced nodes (Weights a b c r s) = HasBraces nodes r × HasBraces nodes s
 IsNumberBraced nodes _ = Unit {0}
 
 -- so do the sides of the statement

@@ -15,6 +15,7 @@ use Rattle.geo_program.specs.declared.commands.Command.{Command}
 use Rattle.geo_lowering.specs.Counting.{param_places}
 use Rattle.geo_lowering.specs.Lowering.{Layout, line_places, pair_numbers, point_place, point_places}
 use Rattle.geo_lowering.specs.Inner.Renaming.{AreRenamed}
+use Rattle.geo_lowering.specs.declared.version.Version.{Version}
 use Rattle.geo_conditions.specs.declared.conditions.Condition.{Condition}
 use Rattle.geo_conditions.specs.declared.conditions.Condition.TheVariants.{Different, NotCollinear, NotParallel, Crossing, Nonzero}
 use Rattle.geo_conditions.specs.declared.conditions.ListedCondition.{ListedCondition}
@@ -78,7 +79,7 @@ pub record AreItems (nodes : Store) (items : List Item) (forms : List ItemForm) 
   pub are : map (item_form nodes) items ≡ forms
 
 -- the lists say where the points, lines and parameters of the commands stand
-pub record HasPlaces (commands : List Command) (p : List PointId) (l : List (PointId × PointId)) (t : List ParamId) : Type 0 where
-  pub points : map (λ a. a.0) p ≡ point_places 0 commands
-  pub lines : map pair_numbers l ≡ line_places (point_place commands) 0 commands
+pub record HasPlaces (version : Version) (commands : List Command) (p : List PointId) (l : List (PointId × PointId)) (t : List ParamId) : Type 0 where
+  pub points : map (λ a. a.0) p ≡ point_places version 0 commands
+  pub lines : map pair_numbers l ≡ line_places version (point_place version commands) 0 commands
   pub params : map (λ k. k.0) t ≡ param_places 0 commands

@@ -2,15 +2,16 @@
 use Rattle.std.specs.Prelude.{◌≡◌, ℕ, suc, ◌<◌, length, List, [], ◌∷◌, map}
 use Rattle.std.specs.List.{AllByRecursion}
 use Rattle.geo_terms.specs.declared.steps.Step.{Step}
-use Rattle.geo_terms.specs.declared.steps.Step.TheVariants.{Pratio, Tratio}
+use Rattle.geo_terms.specs.declared.steps.Step.TheVariants.{Pratio, Tratio, Weights}
 use Rattle.geo_terms.specs.Constructions.{IsStep}
 use Rattle.geo_terms.specs.Stores.{Store}
 use Rattle.geo_lowering.specs.StepForms.{StepForm, step_form}
 
--- the number of the step stands in the store
+-- the numbers of the step stand in the store
 abbrev pub HasStoredNumber : Store → Step → Type 0
 HasStoredNumber nodes (Pratio w u v r) = r.0 < length nodes
 HasStoredNumber nodes (Tratio u v r) = r.0 < length nodes
+HasStoredNumber nodes (Weights o u v r s) = (r.0 < length nodes) × (s.0 < length nodes)
 HasStoredNumber nodes _ = Unit {0}
 
 -- the steps have these forms, and their numbers stand in the store

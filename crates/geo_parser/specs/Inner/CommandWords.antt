@@ -1,9 +1,11 @@
 -- What the words that begin a command stand for.
-use Rattle.std.specs.Prelude.{ℕ, codes, List, [], ◌∷◌}
+use Rattle.std.specs.Prelude.{ℕ, codes, Option, Some, None, List, [], ◌∷◌}
 use Rattle.geo_program.specs.declared.names.NameKind.{NameKind}
 use Rattle.geo_program.specs.declared.names.NameKind.TheVariants as kind
 use Rattle.geo_parser.specs.declared.command_words.CommandWord.{CommandWord}
-use Rattle.geo_parser.specs.declared.command_words.CommandWord.TheVariants.{Point, Param, Pair, Triple, Inter, Direction, Intersec, Pratio, Step}
+use Rattle.geo_parser.specs.declared.command_words.CommandWord.TheVariants.{Point, Param, Pair, Triple, Inter, Direction, Intersec, Pratio, Step, Weights, Assume}
+use Rattle.geo_parser.specs.declared.command_words.ConditionWord.{ConditionWord}
+use Rattle.geo_parser.specs.declared.command_words.ConditionWord.TheVariants.{Different, NotCollinear, NotParallel}
 use Rattle.geo_parser.specs.declared.command_words.DirectionWord.{DirectionWord}
 use Rattle.geo_parser.specs.declared.command_words.DirectionWord.TheVariants.{Parallel, Perp}
 use Rattle.geo_parser.specs.declared.command_words.PairWord.{PairWord}
@@ -42,6 +44,12 @@ abbrev pub step_text : StepWord → List ℕ
 step_text Tratio = codes "tratio"
 step_text Lratio = codes "lratio"
 
+-- the text of the word of a condition
+abbrev pub condition_text : ConditionWord → List ℕ
+condition_text Different = codes "different"
+condition_text NotCollinear = codes "not_collinear"
+condition_text NotParallel = codes "not_parallel"
+
 -- the word's text
 abbrev pub command_text : CommandWord → List ℕ
 command_text Point = codes "point"
@@ -53,6 +61,13 @@ command_text (Direction w) = direction_text w
 command_text Intersec = codes "intersec"
 command_text Pratio = codes "pratio"
 command_text (Step w) = step_text w
+command_text Weights = codes "weights"
+command_text (Assume w) = codes "assume"
+
+-- the word of the condition that is assumed
+abbrev pub command_condition : CommandWord → Option (List ℕ)
+command_condition (Assume w) = Some (condition_text w)
+command_condition _ = None
 
 -- what the new name names, where the command is on two points
 abbrev pub pair_kind : PairWord → NameKind
@@ -63,17 +78,19 @@ pair_kind Midpoint = kind.Point
 pair_kind Symmetric = kind.Point
 pair_kind Oncircle = kind.Point
 
--- what the new name names
-abbrev pub command_kind : CommandWord → NameKind
-command_kind Point = kind.Point
-command_kind Param = kind.Param
-command_kind (Pair w) = pair_kind w
-command_kind (Triple w) = kind.Point
-command_kind Inter = kind.Point
-command_kind (Direction w) = kind.Line
-command_kind Intersec = kind.Point
-command_kind Pratio = kind.Point
-command_kind (Step w) = kind.Point
+-- what the new name names, if there is one
+abbrev pub command_kind : CommandWord → Option NameKind
+command_kind Point = Some kind.Point
+command_kind Param = Some kind.Param
+command_kind (Pair w) = Some (pair_kind w)
+command_kind (Triple w) = Some kind.Point
+command_kind Inter = Some kind.Point
+command_kind (Direction w) = Some kind.Line
+command_kind Intersec = Some kind.Point
+command_kind Pratio = Some kind.Point
+command_kind (Step w) = Some kind.Point
+command_kind Weights = Some kind.Point
+command_kind (Assume w) = None
 
 -- how many points the construction makes, by the kind of command
 abbrev pub pair_points : PairWord → ℕ
@@ -110,8 +127,16 @@ command_points (Direction w) = direction_points w
 command_points Intersec = 1
 command_points Pratio = 1
 command_points (Step w) = 1
+command_points Weights = 2
+command_points (Assume w) = 0
 
--- what is due behind the new name
+-- what is due behind the word of a condition
+abbrev pub condition_slots : ConditionWord → List Slot
+condition_slots Different = a_point ∷ a_point ∷ []
+condition_slots NotCollinear = a_point ∷ a_point ∷ a_point ∷ []
+condition_slots NotParallel = a_point ∷ a_point ∷ a_point ∷ a_point ∷ []
+
+-- what is due behind the new name, or behind the word of the condition
 abbrev pub command_slots : CommandWord → List Slot
 command_slots Point = sketch_slot ∷ []
 command_slots Param = []
@@ -122,7 +147,9 @@ command_slots (Direction w) = a_point ∷ a_line ∷ []
 command_slots Intersec = a_line ∷ a_line ∷ []
 command_slots Pratio = a_point ∷ a_point ∷ a_point ∷ a_number ∷ []
 command_slots (Step w) = a_point ∷ a_point ∷ a_number ∷ []
+command_slots Weights = a_point ∷ a_point ∷ a_point ∷ a_number ∷ a_number ∷ []
+command_slots (Assume w) = condition_slots w
 
--- what is due behind the word
+-- what is due behind the word, and behind that of the condition
 abbrev pub command_due : CommandWord → List Slot
-command_due w = new_name_slot (command_kind w) (command_points w) ∷ command_slots w
+command_due w = elim (command_kind w) [ None ↦ command_slots w | Some kind ↦ new_name_slot kind (command_points w) ∷ command_slots w ]

@@ -1,15 +1,15 @@
 -- What the steps of the reader read, and what they refuse.
-use Rattle.std.specs.Prelude.{◌≡◌, ◌⊎◌, ℕ, ◌+◌, ◌<◌, ◌≤◌, All, Bool, ℤ, codes, Option, Some, None, List, [], ◌∷◌, ◌++◌, length, sum_by}
+use Rattle.std.specs.Prelude.{◌≡◌, ◌⊎◌, ℕ, ◌+◌, ◌<◌, ◌≤◌, All, Bool, ℤ, codes, Option, Some, None, List, [], ◌∷◌, ◌++◌, length, map, sum_by}
 use Rattle.std.specs.List.{flat_map}
 use Rattle.geo_points.specs.declared.ids.TermId.{TermId}
 use Rattle.geo_lexer.specs.declared.token_types.Fault.{Fault}
 use Rattle.geo_lexer.specs.Lexemes.{Lexeme, word_lexeme, number_lexeme}
-use Rattle.geo_program.specs.CanonicalText.{Sketch, argument_lexemes, commands_lexemes, sketch_lexemes}
+use Rattle.geo_program.specs.CanonicalText.{Sketch, argument_lexemes, commands_lexemes, condition_lexemes, sketch_lexemes}
 use Rattle.geo_program.specs.Expressions.{IsExpression, braced, expression_lexemes, nesting}
 use Rattle.geo_program.specs.Forms.{AreSidesStored, Argument, IsStored, command_form, line_argument, number_argument, point_argument, side_argument, statement_form}
 use Rattle.geo_program.specs.Names.{name_text, names_of}
 use Rattle.geo_program.specs.Spelling.{AreSketches}
-use Rattle.geo_program.specs.WellFormed.{AllDiffer, AreCommands, IsArgument, Scope, empty_scope, scope_of}
+use Rattle.geo_program.specs.WellFormed.{AllDiffer, AreCommands, IsArgument, Scope, empty_scope, kinds_made, scope_of}
 use Rattle.geo_program.specs.Words.{IsNameText}
 use Rattle.geo_program.specs.declared.commands.Command.{Command}
 use Rattle.geo_program.specs.declared.commands.Command.TheVariants.{Point}
@@ -20,13 +20,14 @@ use Rattle.geo_terms.specs.Stores.{HasChildrenBelow, HasShortInteger, Store, nod
 use Rattle.geo_terms.specs.Trees.{Tree}
 use Rattle.geo_terms.specs.declared.nodes.Node.{Node}
 use Rattle.geo_parser.specs.declared.command_words.CommandWord.{CommandWord}
+use Rattle.geo_parser.specs.declared.command_words.ConditionWord.{ConditionWord}
 use Rattle.geo_parser.specs.declared.expression_words.ExpressionWord.{ExpressionWord}
 use Rattle.geo_parser.specs.declared.reader.Reader.{Reader}
 use Rattle.geo_parser.specs.declared.statement_words.StatementWord.{StatementWord}
 use Rattle.geo_parser.specs.Inner.Coming.{fault_from, lexemes_of}
-use Rattle.geo_parser.specs.Inner.CommandWords.{command_due, command_kind, command_points, command_slots, command_text}
+use Rattle.geo_parser.specs.Inner.CommandWords.{command_condition, command_due, command_kind, command_points, command_slots, command_text, condition_slots, condition_text}
 use Rattle.geo_parser.specs.Inner.Dictionaries.{IsNew}
-use Rattle.geo_parser.specs.Forms.{Slot, a_line, a_number, a_point, close_slot, command_slot, end_slot, expression_slot, name_slot, new_name_slot, open_slot, second_number_slot, side, sketch_slot, statement_slot}
+use Rattle.geo_parser.specs.Forms.{Slot, a_line, a_number, a_point, close_slot, command_slot, condition_slot, end_slot, expression_slot, name_slot, new_name_slot, open_slot, second_number_slot, side, sketch_slot, statement_slot}
 use Rattle.geo_parser.specs.Slots.{Reading}
 use Rattle.geo_parser.specs.Inner.StatementWords.{expression_due, expression_text, statement_due, statement_text}
 
@@ -145,9 +146,18 @@ pub record ReadsFormed (form : ExpressionWord) (level : ℕ) (ratios : Bool) (ol
 
 -- COMMANDS
 
--- the word of a command was due, and stands there
+-- the word of a condition was due, and stands there
+pub record ReadsCondition (word : ConditionWord) (old new : Reader) : Type 0 where
+  pub passes : Passes old new (word_lexeme (condition_text word) ∷ [])
+  pub names : new.names ≡ old.names
+  pub points : new.points ≡ old.points
+  pub terms : new.terms ≡ old.terms
+  pub follows : (begun : List Name) → (rest : List Slot)
+      → fault_of old begun (condition_slot ∷ rest) ≡ fault_of new begun (condition_slots word ++ rest)
+
+-- the word of a command was due, and stands there; behind `assume` stands the word of a condition
 pub record ReadsWord (word : CommandWord) (old new : Reader) : Type 0 where
-  pub passes : Passes old new (word_lexeme (command_text word) ∷ [])
+  pub passes : Passes old new (word_lexeme (command_text word) ∷ condition_lexemes (command_condition word))
   pub names : new.names ≡ old.names
   pub points : new.points ≡ old.points
   pub terms : new.terms ≡ old.terms
@@ -194,7 +204,8 @@ pub record ReadsSecond (old new : Reader) : Type 0 where
 -- the command has this word
 pub record HasWord (word : CommandWord) (nodes : Store) (command : Command) : Type 0 where
   pub text : (command_form nodes command).word ≡ command_text word
-  pub kind : (command_form nodes command).kind ≡ command_kind word
+  pub condition : (command_form nodes command).condition ≡ command_condition word
+  pub kind : (command_form nodes command).made ≡ command_kind word
   pub points : (command_form nodes command).points ≡ command_points word
 
 -- what stands behind the new name, and the command that it makes
@@ -207,17 +218,19 @@ pub record ReadsForm (word : CommandWord) (old new : Reader) (command : Command)
   pub valid : All (IsArgument (scope old)) (command_form new.terms command).arguments
   pub stored : IsStored new.terms command
 
--- what stands behind the word of a command: its new name and the rest
+-- what stands behind the word of a command: its new name, if it has one, and the rest
 pub record ReadsCommand (word : CommandWord) (old new : Reader) (command : Command) : Type 0 where
-  pub text : List ℕ
+  pub own : List Name
   pub sketch : Sketch
   pub sketched : (sketch ≡ None) ⊎ (command ≡ Point)
   pub named : HasWord word new.terms command
   pub passes : Passes old new
-      (word_lexeme text ∷ flat_map (argument_lexemes old.names) (command_form new.terms command).arguments ++ sketch_lexemes sketch)
-  pub names : new.names ≡ old.names ++ a_name text (command_kind word) ∷ []
-  pub valid_name : IsNameText text
-  pub fresh : IsNew old.names text
+      (map (λ name. word_lexeme name.text) own
+      ++ (flat_map (argument_lexemes old.names) (command_form new.terms command).arguments ++ sketch_lexemes sketch))
+  pub names : new.names ≡ old.names ++ own
+  pub kinds : map (λ name. name.kind) own ≡ kinds_made (command_form new.terms command)
+  pub texts : All (λ name. IsNameText name.text) own
+  pub differ : AllDiffer old.names → AllDiffer (old.names ++ own)
   pub valid : All (IsArgument (scope old)) (command_form new.terms command).arguments
   pub stored : IsStored new.terms command
   pub counted : new.points ≡ old.points + command_points word

@@ -3,15 +3,15 @@ use Rattle.std.specs.Prelude.{◌≡◌, ◌≢◌, ℕ, ◌+◌, ◌≤◌, ◌
 use Rattle.geo_program.specs.CanonicalText.{canonical_text}
 use Rattle.geo_program.specs.Programs.{source_of}
 use Rattle.geo_program.specs.WellFormed.{IsWellFormed, Source}
+use Rattle.geo_lowering.specs.declared.version.Version.{Version}
 use Rattle.proof_log.specs.declared.log.Line.{Line}
 use Rattle.proof_log.specs.Lines.{line_text, log_text}
 use Rattle.proof_log.specs.Writable.{AllWritable, IsWritable}
 use Rattle.geo_logs.specs.Judging.{Refusal, rejected, wrong_program}
-use Rattle.log_checker.specs.Checkers.{IsAtWork, IsLeftBy, subject_of}
+use Rattle.log_checker.specs.Checkers.{IsAtWork, IsLeftBy, head_of, subject_of}
 use Rattle.log_checker.specs.Inner.Lines.{GoesOn, IsRefusedAfter}
 use Rattle.log_checker.specs.Judged.{IsFirstStop, IsRead}
 use Rattle.log_checker.specs.Laws.{IsAcceptedLog}
-use Rattle.log_checker.specs.Subjects.{source_lines}
 use Rattle.log_checker.specs.declared.accepted.Accepted.{Accepted}
 use Rattle.log_checker.specs.declared.state.State.{State}
 use Rattle.log_checker.specs.declared.state.State.TheVariants.{Failed}
@@ -51,7 +51,7 @@ pub record GoesOnWith (w : Work) (read : Option Line) (w' : Work) : Type 0 where
 -- the work is refused at this number
 pub record IsRefusedWork (w : Work) (steps : ℕ) (good : List Line) (read : Option Line) (number n : ℕ) (refusal : Refusal) : Type 0 where
   pub at : n ≡ number
-  pub refused : IsRefusedAfter (subject_of (source_lines (source_of w.program)) w.problem) steps good read refusal
+  pub refused : IsRefusedAfter (subject_of (head_of w) w.problem) steps good read refusal
 
 -- the bytes are the text of no program
 pub record IsNoProgram (bytes : List ℕ) (n : ℕ) (refusal : Refusal) : Type 0 where
@@ -59,25 +59,27 @@ pub record IsNoProgram (bytes : List ℕ) (n : ℕ) (refusal : Refusal) : Type 0
   pub refused : refusal ≡ rejected wrong_program
   pub none : (p : Source) → IsWellFormed p → canonical_text p ≢ bytes
 
--- a work of the program with this text, where no line came behind it
-pub record IsBegunWork (bytes : List ℕ) (steps : ℕ) (w : Work) : Type 0 where
+-- a work by this version, of the program with this text, where no line came behind it
+pub record IsBegunWork (version : Version) (bytes : List ℕ) (steps : ℕ) (w : Work) : Type 0 where
+  pub version-is : w.version ≡ version
   pub text : canonical_text (source_of w.program) ≡ bytes
   pub begun : IsAtWork w steps []
 
 -- the first line behind the program is refused: the bytes are the text of no program, or the work refuses it
-abbrev pub IsFirstRefused : List ℕ → ℕ → Option Line → ℕ → ℕ → Refusal → Type 0
-IsFirstRefused bytes steps read number n refusal =
-    IsNoProgram bytes n refusal ⊎ ((w : Work) × IsBegunWork bytes steps w × IsRefusedWork w steps [] read number n refusal)
+abbrev pub IsFirstRefused : Version → List ℕ → ℕ → Option Line → ℕ → ℕ → Refusal → Type 0
+IsFirstRefused version bytes steps read number n refusal =
+    IsNoProgram bytes n refusal ⊎ ((w : Work) × IsBegunWork version bytes steps w × IsRefusedWork w steps [] read number n refusal)
 
 -- what was read is a line, with which the work begins
-pub record BeginsWith (bytes : List ℕ) (steps : ℕ) (read : Option Line) (w' : Work) : Type 0 where
+pub record BeginsWith (version : Version) (bytes : List ℕ) (steps : ℕ) (read : Option Line) (w' : Work) : Type 0 where
   pub work : Work
-  pub begun : IsBegunWork bytes steps work
+  pub begun : IsBegunWork version bytes steps work
   pub goes : GoesOnWith work read w'
 
 -- the answer is that of the accepted lines
 pub record IsAnswerOf (steps : ℕ) (lines : List Line) (answer : Accepted) : Type 0 where
   pub accepted : IsAcceptedLog (source_of answer.program) steps lines answer.verdict
+  pub version : answer.version ≡ accepted.subject.version
   pub counted : answer.lines ≡ length lines
   pub charged : answer.charge + accepted.left ≡ steps
 

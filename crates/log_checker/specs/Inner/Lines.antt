@@ -5,6 +5,7 @@ use Rattle.geo_poly.specs.PolynomialVariables.{AllVariables}
 use Rattle.geo_terms.specs.Constructions.{Construction}
 use Rattle.geo_program.specs.CanonicalText.{canonical_text}
 use Rattle.geo_program.specs.WellFormed.{IsWellFormed, Source}
+use Rattle.geo_lowering.specs.declared.version.Version.{Version}
 use Rattle.geo_conditions.specs.declared.problem.Problem.{Problem}
 use Rattle.geo_conditions.specs.Lists.{IsProblem}
 use Rattle.geo_conditions.specs.Problems.{form_of_problem}
@@ -17,7 +18,7 @@ use Rattle.geo_logs.specs.Moves.{spent, too_large}
 use Rattle.geo_logs.specs.Naming.{IsNamed}
 use Rattle.geo_logs.specs.Places.{Place}
 use Rattle.geo_poly.specs.declared.variables.Var.{Var}
-use Rattle.log_checker.specs.Checkers.{IsAtWork, IsDue, subject_of}
+use Rattle.log_checker.specs.Checkers.{Head, IsAtWork, IsDue, subject_of}
 use Rattle.log_checker.specs.Inner.Stops.{reason_of}
 use Rattle.log_checker.specs.declared.due.Due.{Due}
 use Rattle.log_checker.specs.declared.evidence.Evidence.{Evidence}
@@ -48,15 +49,16 @@ pub record IsStepLine (c : Construction) (known : List Var) (left : ℕ) (q : Su
 abbrev pub IsNamedBy : Construction → Summands → Type 0
 IsNamedBy c q = AllVariables (IsNamed c (length c.steps)) q
 
--- the problem is that of a program
+-- the problem is that of a program, by some version
 pub record IsReady (q : Problem) : Type 0 where
+  pub version : Version
   pub program : Source
   pub well_formed : IsWellFormed program
-  pub problem : IsProblem program (form_of_problem q) q.conditions q.goals
+  pub problem : IsProblem version program (form_of_problem q) q.conditions q.goals
 
 -- some lines lead to what is due
 abbrev pub IsReached : Problem → Evidence → Due → Type 0
-IsReached q e due = (texts : List (List ℕ)) × (steps : ℕ) × (good : List Line) × IsDue (subject_of texts q) steps e due good
+IsReached q e due = (head : Head) × (steps : ℕ) × (good : List Line) × IsDue (subject_of head q) steps e due good
 
 -- behind good lines, or a whole log, the line is refused
 abbrev pub IsRefusedAfter : Subject → ℕ → List Line → Option Line → Refusal → Type 0
@@ -67,17 +69,18 @@ IsRefusedAfter subject steps good read refusal =
 -- the line leads from what is due to what is due behind it, with what the chains leave before and after
 abbrev pub LeadsOn : Problem → Evidence → Due → Line → Evidence → Due → Type 0
 LeadsOn q e due line e' due' =
-    (texts : List (List ℕ)) (steps : ℕ) (good : List Line) → IsDue (subject_of texts q) steps e due good
-    → IsDue (subject_of texts q) steps e' due' (good ++ line ∷ [])
+    (head : Head) (steps : ℕ) (good : List Line) → IsDue (subject_of head q) steps e due good
+    → IsDue (subject_of head q) steps e' due' (good ++ line ∷ [])
 
 -- the line is refused where this is due
 abbrev pub RefusesWhere : Problem → Evidence → Due → Line → Stop → Type 0
 RefusesWhere q e due line stop =
-    (texts : List (List ℕ)) (steps : ℕ) (good : List Line) → IsDue (subject_of texts q) steps e due good
-    → Tells (IsRefusedAfter (subject_of texts q) steps good (Some line)) stop
+    (head : Head) (steps : ℕ) (good : List Line) → IsDue (subject_of head q) steps e due good
+    → Tells (IsRefusedAfter (subject_of head q) steps good (Some line)) stop
 
 -- the work goes on with the line, for the same program
 pub record GoesOn (w : Work) (line : Line) (w' : Work) : Type 0 where
+  pub version : w'.version ≡ w.version
   pub program : w'.program ≡ w.program
   pub problem : w'.problem ≡ w.problem
   pub goes : (steps : ℕ) (good : List Line) → IsAtWork w steps good → IsAtWork w' steps (good ++ line ∷ [])

@@ -11,12 +11,12 @@ use Rattle.proof_log.specs.declared.log.Verdict.TheVariants.{Proved, False, Impo
 use Rattle.proof_log.specs.declared.leads.Lead.{Lead}
 use Rattle.proof_log.specs.declared.leads.Lead.TheVariants.{Header as HeaderLead, Program as ProgramLead, Condition as ConditionLead, Goal as GoalLead, Start as StartLead, Ratio as RatioLead, Point as PointLead, Coords as CoordsLead, Cut as CutLead, End as EndLead, Sample as SampleLead, Proved as ProvedLead, False as FalseLead, Impossible as ImpossibleLead, TooLarge as TooLargeLead, Spent as SpentLead}
 use Rattle.proof_log.specs.Lines.{factor_text, place_text, polynomial_text, value_text, variable_name, which_text}
-use Rattle.proof_log.specs.Writable.{CanWriteHead, CanWriteLemma, CanWritePolynomial, HasNoLineFeed, IsWritable}
+use Rattle.proof_log.specs.Writable.{CanWriteHead, CanWriteLemma, CanWritePolynomial, HasNoLineFeed, IsVersion, IsWritable}
 use Rattle.proof_log.specs.Inner.Reading.{Form, is_byte, is_number_byte}
 
 -- the text of a lead
 abbrev pub lead_text : Lead → List ℕ
-lead_text HeaderLead = codes "geolog 1"
+lead_text HeaderLead = codes "geolog "
 lead_text ProgramLead = codes "| "
 lead_text ConditionLead = codes "condition "
 lead_text GoalLead = codes "goal "
@@ -43,7 +43,7 @@ leads = record { text = lead_text; fits = λ lead. Unit {0}; more = is_no_byte }
 
 -- the lead of a line
 abbrev pub lead_of : Line → Lead
-lead_of Header = HeaderLead
+lead_of (Header version) = HeaderLead
 lead_of (Program text) = ProgramLead
 lead_of (Condition k text) = ConditionLead
 lead_of (Goal k text) = GoalLead
@@ -62,7 +62,7 @@ lead_of (StopSpent line) = SpentLead
 
 -- what follows the lead of a line
 abbrev pub body_text : Line → List ℕ
-body_text Header = []
+body_text (Header version) = decimal version
 body_text (Program text) = text
 body_text (Condition k text) = decimal k ++ (codes " " ++ text)
 body_text (Goal k text) = decimal k ++ (codes " " ++ text)
@@ -85,6 +85,10 @@ pub record IsBody (lead : Lead) (bytes : List ℕ) (l : Line) : Type 0 where
   pub writable : IsWritable l
   pub lead_is : lead_of l ≡ lead
   pub spelt : bytes ≡ body_text l
+
+-- versions of the format, up to the end of the line
+abbrev pub versions : Form ℕ
+versions = record { text = decimal; fits = IsVersion; more = is_byte }
 
 -- texts without line feeds, up to the end of the line
 abbrev pub texts : Form (List ℕ)

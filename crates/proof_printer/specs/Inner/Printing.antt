@@ -7,6 +7,7 @@ use Rattle.geo_poly.specs.Replace.{replaced_degree, replaced_weight}
 use Rattle.geo_terms.specs.Constructions.{Construction}
 use Rattle.geo_program.specs.WellFormed.{Source}
 use Rattle.geo_lowering.specs.Lowering.{IsLowered, LoweredForm}
+use Rattle.geo_lowering.specs.declared.version.Version.{Version}
 use Rattle.geo_logs.specs.declared.moves.Move.{Move}
 use Rattle.geo_logs.specs.declared.moves.Move.TheVariants as move
 use Rattle.geo_logs.specs.declared.moves.Replacement.{Replacement}
@@ -20,10 +21,10 @@ use Rattle.proof_log.specs.Writable.{AllWritable}
 use Rattle.proof_printer.specs.Naming.{Naming}
 use Rattle.proof_printer.specs.Readable.{polynomial_after, ratio_move, readable}
 
--- the construction is that of a lowered form of the program
-pub record IsConstructionOf (p : Source) (c : Construction) : Type 0 where
+-- the construction is that of a lowered form of the program by this version
+pub record IsConstructionOf (version : Version) (p : Source) (c : Construction) : Type 0 where
   pub form : LoweredForm
-  pub lowered : IsLowered p form
+  pub lowered : IsLowered version p form
   pub same : c ≡ form.construction
 
 -- the replacement in a polynomial is within its limits

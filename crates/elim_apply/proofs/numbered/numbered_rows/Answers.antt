@@ -1,32 +1,22 @@
-use Rattle.std.proofs.Common.{◌≡◌, ◌∷◌, [], ◌++◌, List, get_or, sym, ap, ◌∙◌}
-use Rattle.std.specs.Option.{option_map}
-use Rattle.fraction_poly.specs.TableRows.{row_numbers}
-use Rattle.geo_poly.specs.declared.variables.Var.{Var}
-use Rattle.geo_poly.specs.declared.variables.Var.TheVariants.{R}
+use Rattle.std.proofs.Common.{◌≡◌}
 use Rattle.elim_apply.specs.declared.numbered.NumberedRow.{NumberedRow}
-use Rattle.elim_apply.specs.LemmaTable.{row_of_move}
-use Rattle.elim_apply.specs.Inner.Sketches.{numbered_row}
-use Rattle.elim_apply.proofs.NumberedRows.{numbered_none, numbered_some, rows_none, rows_some}
+use Rattle.elim_apply.specs.Inner.Sketches.{HasNumbers, numbered_draft}
+use Rattle.elim_apply.proofs.NumberedRows.{mapped_push, read_at}
 use Rattle.elim_apply.proofs.numbered.numbered_rows.Goals as goal
-use Rattle.elim_apply.proofs.numbered.numbered_rows.Goals.{in-Some+in_ok-push, in_default}
 
-abbrev none : Var
-none = R (record { 0 = 0 }) (record { 0 = 0 }) (record { 0 = 0 }) (record { 0 = 0 })
+pub numbers-requires-clause-stored : goal.numbers-requires-clause-stored
+numbers-requires-clause-stored c =
+    (read_at (HasNumbers c.args.terms.now) c.args.rows.now c.loop-row.row-index c.row-item.result c.loop-row-test.true c.row-item.is c.requires.numbers).stored
 
-pub loop-v-preserved : goal.loop-v-preserved
-loop-v-preserved c =
-    let steps = c.args.steps.now in
-    let mv = c.args.mv.now in
-    let vs = c.args.variables.now in
-    let i = c.loop-v.v-index in
-    let numbers : c.in_ok-numbers.field-0 ≡ option_map row_numbers (row_of_move steps mv (get_or vs i none)) = c.in_ok-numbers.ensures in
-    elim c.match-branch-2.branch [
-      | in-Some+in_ok-push w ↦
-          let n : NumberedRow = record { var = get_or vs i none; numbers = w.in-Some.numbers } in
-          let items : c.match-branch-2.rows.items ≡ c.loop-v.rows.items ++ n ∷ [] = ap (λ x. x.items) w.rows-is ∙ w.in_ok-push.ensures.items in
-          items ∙ ap (λ (rows : List NumberedRow). rows ++ n ∷ []) c.loop-v.invariant
-          ∙ sym (rows_some (numbered_row steps mv) vs i none c.loop-v-test.true n (numbered_some steps mv (get_or vs i none) c.in_ok-numbers.field-0 w.in-Some.numbers numbers w.in-Some.is))
-      | in_default w ↦
-          ap (λ x. x.items) w.rows-is ∙ c.loop-v.invariant
-          ∙ sym (rows_none (numbered_row steps mv) vs i none c.loop-v-test.true (numbered_none steps mv (get_or vs i none) c.in_ok-numbers.field-0 numbers w.in_default.is))
-    ]
+pub loop-row-preserved : goal.loop-row-preserved
+loop-row-preserved c =
+    let terms = c.args.terms.now in
+    let d = c.row-item.result in
+    let made : NumberedRow = record { var = d.var; numbers = c.in_ok-numbers.numbers } in
+    let same : made ≡ numbered_draft terms d = λ i. record { var = d.var; numbers = c.in_ok-numbers.ensures.numbers i } in
+    record {
+      rows =
+          mapped_push (numbered_draft terms) c.args.rows.now c.loop-row.row-index d c.loop-row-test.true c.row-item.is
+          _ _ made c.in_ok-push.ensures.items c.loop-row.invariant.rows same;
+      known = c.in_ok-numbers.ensures.known;
+    }

@@ -8,7 +8,7 @@ invariant-loop-piece g l = record {
   most : l.most ≡ l.limit + 1;
   within : vec_len l.bytes ≤ l.most;
   taken : Loses (g.S.Source.left l.initial.source) l.bytes.items (g.S.Source.left l.source);
-  counted : g.S.Source.faults l.initial.source ≤ g.S.Source.faults l.source;
+  still : g.S.Source.faults l.source ≡ g.S.Source.faults l.initial.source;
 }
 
 abbrev pub decreases-loop-piece : goal.decreases-loop-piece

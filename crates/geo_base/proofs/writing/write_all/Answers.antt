@@ -7,5 +7,5 @@ pub loop-written-preserved : goal.loop-written-preserved
 loop-written-preserved g c = record {
   within = search rules;
   grown = Grows-take _ _ _ c.args.bytes.now c.loop-written.written c.in_ok-written.field-0 c.loop-written.invariant.grown c.in_ok-written.ensures.grown;
-  counted = search rules;
+  still = search rules;
 }

@@ -18,8 +18,8 @@ returns-in-Some-clause-points g c =
     let cut = rw c.in-Some.is at c.in_ok-line.ensures.some in
     cut_points (length c.args.steps.now.steps) c.deref.result.now c.args.p.now c.in-Some.line c.requires.points cut
 
-pub apply-requires-clause-place : goal.apply-requires-clause-place
-apply-requires-clause-place g c = place_below c.args.steps.now c.args.p.now c.in-Some-next_move.mv c.in-Some-next_move.ensures.some
+pub apply_known-requires-clause-place : goal.apply_known-requires-clause-place
+apply_known-requires-clause-place g c = place_below c.args.steps.now c.args.p.now c.in-Some-next_move.mv c.in-Some-next_move.ensures.some
 
 pub returns-in_err-poly-clause-row : goal.returns-in_err-poly-clause-row
 returns-in_err-poly-clause-row g c = λ h.
@@ -35,7 +35,7 @@ returns-in_err-poly-clause-too_large g c = λ which h.
 pub returns-clause-line : goal.returns-clause-line
 returns-clause-line g c =
     let due : IsMoveDue c.args.steps.now c.args.known.now c.args.p.now c.in-Some-next_move.mv = search rules in
-    move_next c.args.steps.now c.args.known.now c.args.budget.now.left c.apply.new.budget.left c.args.p.now c.in_ok-poly.poly c.in-Some-next_move.mv c.move_line.result
+    move_next c.args.steps.now c.args.known.now c.args.budget.now.left c.apply_known.new.budget.left c.args.p.now c.in_ok-poly.poly c.in-Some-next_move.mv c.move_line.result
     due c.in_ok-poly.ensures.moved c.in_ok-poly.ensures.paid c.move_line.ensures
 
 pub returns-clause-points : goal.returns-clause-points

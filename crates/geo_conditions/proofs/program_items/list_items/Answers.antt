@@ -73,34 +73,34 @@ returns-clause-keeps c =
     on_ok_weaker c.make_items.result (λ k. keeps_both c.args.steps.now c.rename_terms.new.steps c.make_items.new.steps c.in_ok-renamed.ensures.keeps k) c.make_items.ensures.keeps
 
 pub returns-clause-conditions : goal.returns-clause-conditions
-returns-clause-conditions c =
+returns-clause-conditions c = λ version has.
     let p = source_of c.args.program.now in
     let places : Places = record { points = c.as_slice-points.result; lines = c.as_slice-lines.result; params = c.as_slice-params.result; terms = c.as_slice-terms.result } in
     let x : places.points.now ≡ c.args.points.now = c.as_slice-points.ensures.value ∙ c.points.view_is in
     let y : places.lines.now ≡ c.args.lines.now = c.as_slice-lines.ensures.value ∙ c.lines.view_is in
     let z : places.params.now ≡ c.args.params.now = c.as_slice-params.ensures.value ∙ c.params.view_is in
-    let layouts = same_layout p.commands places (ap (λ (l : List PointId). map (λ a. a.0) l) x ∙ c.requires.points) (ap (λ (l : List (PointId × PointId)). map pair_numbers l) y ∙ c.requires.lines)
-    (ap (λ (l : List ParamId). map (λ t. t.0) l) z ∙ c.requires.params) in
+    let layouts = same_layout version p.commands places (ap (λ (l : List PointId). map (λ a. a.0) l) x ∙ has.points) (ap (λ (l : List (PointId × PointId)). map pair_numbers l) y ∙ has.lines)
+    (ap (λ (l : List ParamId). map (λ t. t.0) l) z ∙ has.params) in
     let listed = c.in_ok-listed.listed in
     let are = subst (λ (cs : List Command). AreConditions (record { names = p.names; nodes = p.nodes; commands = cs; statement = p.statement }) (map (found_of p.nodes) listed.items.items)) c.as_slice-commands.ensures (c.in_ok-listed.ensures.conditions p.names) in
     IfOk-weaker c.make_items.result _ _
-    (λ both h. conditions_by p c.in_ok-printer.printer.names c.in_ok-printer.printer.terms.now c.in_ok-printer.ensures.names c.in_ok-printer.ensures.terms (places_layout places) c.make_items.new.steps.nodes both.0
+    (λ both h. conditions_by p c.in_ok-printer.printer.names c.in_ok-printer.printer.terms.now c.in_ok-printer.ensures.names c.in_ok-printer.ensures.terms version (places_layout places) c.make_items.new.steps.nodes both.0
     c.as_slice-rows.result.now listed.items.items layouts c.as_slice-rows.ensures.value are h)
     c.make_items.ensures.conditions
 
 pub returns-clause-goals : goal.returns-clause-goals
-returns-clause-goals c =
+returns-clause-goals c = λ version has.
     let p = source_of c.args.program.now in
     let places : Places = record { points = c.as_slice-points.result; lines = c.as_slice-lines.result; params = c.as_slice-params.result; terms = c.as_slice-terms.result } in
     let x : places.points.now ≡ c.args.points.now = c.as_slice-points.ensures.value ∙ c.points.view_is in
     let y : places.lines.now ≡ c.args.lines.now = c.as_slice-lines.ensures.value ∙ c.lines.view_is in
     let z : places.params.now ≡ c.args.params.now = c.as_slice-params.ensures.value ∙ c.params.view_is in
-    let layouts = same_layout p.commands places (ap (λ (l : List PointId). map (λ a. a.0) l) x ∙ c.requires.points) (ap (λ (l : List (PointId × PointId)). map pair_numbers l) y ∙ c.requires.lines)
-    (ap (λ (l : List ParamId). map (λ t. t.0) l) z ∙ c.requires.params) in
+    let layouts = same_layout version p.commands places (ap (λ (l : List PointId). map (λ a. a.0) l) x ∙ has.points) (ap (λ (l : List (PointId × PointId)). map pair_numbers l) y ∙ has.lines)
+    (ap (λ (l : List ParamId). map (λ t. t.0) l) z ∙ has.params) in
     let commands = c.as_slice-commands.result.now in
     let lines_are : length commands + 1 ≡ suc (length p.commands) = add-one (length commands) ∙ ap (λ (cs : List Command). suc (length cs)) c.as_slice-commands.ensures in
     let goals = c.in_ok-wanted.wanted.goals.keys in
     IfOk-weaker c.make_items.result _ _
-    (λ both h. goals_by p c.in_ok-printer.printer.names c.in_ok-printer.printer.terms.now c.in_ok-printer.ensures.names c.in_ok-printer.ensures.terms (places_layout places) (length commands + 1) c.make_items.new.steps.nodes both.1
+    (λ both h. goals_by p c.in_ok-printer.printer.names c.in_ok-printer.printer.terms.now c.in_ok-printer.ensures.names c.in_ok-printer.ensures.terms version (places_layout places) (length commands + 1) c.make_items.new.steps.nodes both.1
     c.as_slice-ratios.result.now goals layouts lines_are c.as_slice-ratios.ensures.keys (c.in_ok-wanted.ensures p.names p.commands) h)
     c.make_items.ensures.goals

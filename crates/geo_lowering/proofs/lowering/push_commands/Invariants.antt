@@ -7,4 +7,4 @@ use Rattle.geo_lowering.proofs.lowering.push_commands.Given as goal
 -- the steps of the first commands are pushed
 abbrev pub invariant-loop-command : goal.invariant-loop-command
 invariant-loop-command l =
-    IsBegun (source_of l.program) (layout_at l.places) l.steps l.terms l.fractions (drop l.command-index l.program.commands)
+    IsBegun l.version (source_of l.program) (layout_at l.places) l.steps l.terms l.fractions (drop l.command-index l.program.commands)

@@ -42,6 +42,7 @@ loop-last-preserved g c =
       way = goes_on c.args.steps.now c.args.known.now c.args.budget.now.left c.args.first c.loop-last.budget.left c.loop-last.last c.in_ok-line.line c.line_after.new.budget.left c.in-Some.poly s _ _ way
           c.in_ok-line.ensures.line (sym c.in-Some.ensures) c.in_ok-write.ensures.ok;
       points = line_points _ c.in_ok-line.line c.in-Some.poly (sym c.in-Some.ensures) c.in_ok-line.ensures.points;
+      numbers = c.line_after.ensures.numbers;
     }
 
 pub returns-in-None-clause-ok : goal.returns-in-None-clause-ok

@@ -49,6 +49,7 @@ loop-i-preserved g c =
       passes = subst (λ ks. Passes first (conditions_from c.args.problem.now (c.loop-i.i + 1) ks c.add.new.self.ends left) s u) (sym c.in_ok-add.ensures.known)
           (subst (λ qs. Passes first (conditions_from c.args.problem.now (c.loop-i.i + 1) known qs left) s u) (sym c.in_ok-add.ensures.ends) passed);
       nonzero = nonzero_more c.loop-i.findings.ends c.add.new.self.ends c.in_ok-chain.chain.end c.loop-i.invariant.nonzero (iff_false c.is_zero.ensures c.if-is_zero.false) c.in_ok-add.ensures.ends;
+      numbers = c.work_condition.ensures.numbers;
     }
 
 pub returns-then-is_zero-clause-impossible : goal.returns-then-is_zero-clause-impossible

@@ -1,3 +1,4 @@
+use Rattle.fraction_poly.specs.Inner.Known.{IsKnownOf}
 use Rattle.geo_poly.specs.Specialise.{NoneZero}
 use Rattle.geo_prover.specs.Inner.Halting.{Passes}
 use Rattle.geo_prover.specs.Inner.Tasks.{conditions_from}
@@ -10,4 +11,5 @@ invariant-loop-i g l = record {
   passes : Passes (conditions_from l.problem 0 l.initial.findings.known l.initial.findings.ends l.initial.budget.left) (conditions_from l.problem l.i l.findings.known l.findings.ends l.budget.left)
       (state l.initial.log (g.K.Sink.held l.initial.sink) (g.K.Sink.faults l.initial.sink)) (state l.log (g.K.Sink.held l.sink) (g.K.Sink.faults l.sink));
   nonzero : NoneZero l.findings.ends;
+  numbers : IsKnownOf l.problem.steps.nodes l.numbers;
 }

@@ -72,6 +72,7 @@ loop-i-preserved g c =
       passes = passes_on (goals_from c.args.problem.now 0 c.args.findings.now.known c.args.findings.now.ends c.args.budget.now.left)
           (goals_from c.args.problem.now c.loop-i.i c.args.findings.now.known c.args.findings.now.ends c.loop-i.budget.left) (goals_from p (c.loop-i.i + 1) c.args.findings.now.known c.args.findings.now.ends left) s t u c.loop-i.invariant.passes went;
       kept = c.loop-i.invariant.kept;
+      numbers = c.work_goal.ensures.numbers;
     }
 
 pub returns-then-not-is_zero-clause-nonzero : goal.returns-then-not-is_zero-clause-nonzero

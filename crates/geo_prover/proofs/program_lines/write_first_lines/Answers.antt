@@ -13,14 +13,14 @@ use Rattle.geo_prover.proofs.program_lines.write_first_lines.Goals as goal
 pub returns-in_err-write-clause-err : goal.returns-in_err-write-clause-err
 returns-in_err-write-clause-err g c =
     if_err _ _ c.in_err-write.field-0.0 c.from_residual-in_err-write.ensures.1
-    (unwritten_first _ _ c.args.log.now.within Header (map ProgramLine (source_lines (source_of c.args.program.now))) c.in_err-write.field-0.0 c.in_err-write.ensures.err)
+    (unwritten_first _ _ c.args.log.now.within (Header 2) (map ProgramLine (source_lines (source_of c.args.program.now))) c.in_err-write.field-0.0 c.in_err-write.ensures.err)
 
 pub returns-clause-ok : goal.returns-clause-ok
 returns-clause-ok g c =
     let p = source_of c.args.program.now in
     let text : c.deref.result.now ≡ program_text c.args.program.now = search rules in
     on_ok_weaker c.write_pieces.result
-    (λ f. writes_more (Header ∷ []) (map ProgramLine (source_lines p)) _ _ _ c.in_ok-write.ensures.ok
+    (λ f. writes_more (Header 2 ∷ []) (map ProgramLine (source_lines p)) _ _ _ c.in_ok-write.ensures.ok
     (f (source_lines p) (text ∙ program_pieces p) (program_one_line p (program_well_formed c.args.program.now))))
     c.write_pieces.ensures.ok
 
@@ -29,6 +29,6 @@ returns-clause-err g c =
     let p = source_of c.args.program.now in
     let text : c.deref.result.now ≡ program_text c.args.program.now = search rules in
     IfErr-weaker c.write_pieces.result _ _
-    (λ e f. broken_on (Header ∷ []) _ _ _ c.in_ok-write.ensures.ok (map ProgramLine (source_lines p)) e
+    (λ e f. broken_on (Header 2 ∷ []) _ _ _ c.in_ok-write.ensures.ok (map ProgramLine (source_lines p)) e
     (f (source_lines p) (text ∙ program_pieces p) (program_one_line p (program_well_formed c.args.program.now))))
     c.write_pieces.ensures.err

@@ -34,8 +34,8 @@ returns c =
     let e = c.args.evidence.now in
     let made = c.in_ok-poly.ensures.step in
     record {
-      goes = λ texts steps good d.
-          let s = subject_of texts q in
+      goes = λ head steps good d.
+          let s = subject_of head q in
           let Due : Line → Type 0 = λ l. IsStepDue s steps (good ++ l ∷ []) e.known e.ends c.after_step.new.budget.left c.args.task c.args.own c.in_ok-poly.poly in
           subst Due (sym made.is)
           (next_step_due s steps good e.known e.ends e.budget.left c.after_step.new.budget.left c.args.task c.args.own c.args.before c.in_ok-poly.poly made.step d made.leads);

@@ -7,14 +7,14 @@ use Rattle.log_checker.proofs.KeysInTurn.{false_not}
 use Rattle.log_checker.proofs.chaining.after_goal.Goals as goal
 
 pub returns-then-is_zero : goal.returns-then-is_zero
-returns-then-is_zero c = λ texts steps good d.
+returns-then-is_zero c = λ head steps good d.
     let e = c.args.evidence.now in
-    c.goal_due.ensures texts steps (good ++ End ∷ []) e
-    (goal_zero (subject_of texts c.args.problem.now) steps good e.known e.ends e.budget.left c.args.k c.args.own c.args.last d c.requires (c.if-is_zero.ensures.0 refl))
+    c.goal_due.ensures head steps (good ++ End ∷ []) e
+    (goal_zero (subject_of head c.args.problem.now) steps good e.known e.ends e.budget.left c.args.k c.args.own c.args.last d c.requires (c.if-is_zero.ensures.0 refl))
 
 pub returns : goal.returns
-returns c = λ texts steps good d.
-    let s = subject_of texts c.args.problem.now in
+returns c = λ head steps good d.
+    let s = subject_of head c.args.problem.now in
     let e = c.args.evidence.now in
     let more = good ++ End ∷ [] in
     let due = goal_fails s steps good e.known e.ends e.budget.left c.args.k c.args.own c.args.last d c.requires (λ zero_there. false_not (c.if-is_zero.ensures.1 zero_there)) in

@@ -12,4 +12,4 @@ returns-in-Empty-clause-refused c = λ lines leaves count.
 pub returns-clause-refused : goal.returns-clause-refused
 returns-clause-refused c = λ lines leaves count.
     let at = subst (Leaves c.args.steps lines) c.in-Program.is leaves in
-    subst (TellsStop (StopsThere c.args.steps lines)) (sym c.unfinished-in-Program.ensures) (unfinished_program_leaves c.args.steps lines c.in-Program.field-0 c.args.count at count)
+    subst (TellsStop (StopsThere c.args.steps lines)) (sym c.unfinished-in-Program.ensures) (unfinished_program_leaves c.args.steps lines c.in-Program.version c.in-Program.text c.args.count at count)

@@ -1,4 +1,4 @@
-use Rattle.std.proofs.Common.{sym, subst, arith}
+use Rattle.std.proofs.Common.{sym, ◌∙◌, subst, arith}
 use Rattle.log_checker.specs.Checked.{TellsStop}
 use Rattle.log_checker.specs.Inner.Judged.{StopsThere}
 use Rattle.log_checker.proofs.JudgedAnswers.{accepted_there, unfinished_tells}
@@ -10,7 +10,7 @@ overflow_sub-result c = (accepted_there c.args.steps c.requires.reached.0 c.args
 pub returns-in-Nothing-clause-accepted : goal.returns-in-Nothing-clause-accepted
 returns-in-Nothing-clause-accepted c = λ lines h count.
     let there = accepted_there c.args.steps lines c.args.work c.in-Nothing.verdict c.in-Nothing.is h.left in
-    record { accepted = there.0; counted = count; charged = omega (arith, there.1, there.2) }
+    record { accepted = there.0; version = c.number_of.ensures ∙ sym there.3; counted = count; charged = omega (arith, there.1, there.2) }
 
 pub returns : goal.returns
 returns c = record {

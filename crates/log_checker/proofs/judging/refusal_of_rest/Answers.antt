@@ -12,12 +12,12 @@ returns-in-Empty-clause-refused c = λ lines leaves count.
 pub refusal_behind_program-requires : goal.refusal_behind_program-requires
 refusal_behind_program-requires c =
     let reached = subst (IsReachedState c.args.steps) c.in-Program.is c.requires in
-    let short = program_short c.args.steps reached.0 c.in-Program.program reached.1 in omega (arith, short, ap length c.deref.ensures.value)
+    let short = program_short c.args.steps reached.0 c.in-Program.version c.in-Program.text reached.1 in omega (arith, short, ap length c.deref.ensures.value)
 
 pub returns-in-Program-clause-refused : goal.returns-in-Program-clause-refused
 returns-in-Program-clause-refused c = λ lines leaves count.
-    first_tells c.args.steps lines c.in-Program.program None c.args.number c.refusal_behind_program.result (subst (Leaves c.args.steps lines) c.in-Program.is leaves) count (λ more. tt)
-    (subst (λ bs. TellsStop (IsFirstRefused bs c.args.steps None c.args.number) c.refusal_behind_program.result) c.deref.ensures.value c.refusal_behind_program.ensures)
+    first_tells c.args.steps lines c.in-Program.version c.in-Program.text None c.args.number c.refusal_behind_program.result (subst (Leaves c.args.steps lines) c.in-Program.is leaves) count (λ more. tt)
+    (subst (λ bs. TellsStop (IsFirstRefused c.in-Program.version bs c.args.steps None c.args.number) c.refusal_behind_program.result) c.deref.ensures.value c.refusal_behind_program.ensures)
 
 pub returns-clause-refused : goal.returns-clause-refused
 returns-clause-refused c = λ lines leaves count.

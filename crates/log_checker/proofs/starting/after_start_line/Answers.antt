@@ -24,11 +24,11 @@ returns-in_err-poly-clause-refused c =
     (start_refused c.args.problem.now c.args.evidence.now c.args.task c.args.term (StartLine c.in-Start.poly) c.in_err-poly.field-0.0 c.in_err-poly.ensures.refused))
 
 pub returns-clause-goes : goal.returns-clause-goes
-returns-clause-goes c = λ texts steps good d.
+returns-clause-goes c = λ head steps good d.
     let q = c.args.problem.now in
     let e = c.args.evidence.now in
     let line = c.in-Start.is ∙ ap StartLine (sym c.in_ok-poly.ensures.result) in
-    subst (λ l. IsStepDue (subject_of texts q) steps (good ++ l ∷ []) e.known e.ends c.right_start.new.budget.left c.args.task c.own_variable-own.result c.in_ok-poly.poly) (sym line)
-    (first_step_due (subject_of texts q) steps good e.known e.ends e.budget.left c.right_start.new.budget.left c.args.task c.own_variable-own.result c.in_ok-poly.poly d.0
+    subst (λ l. IsStepDue (subject_of head q) steps (good ++ l ∷ []) e.known e.ends c.right_start.new.budget.left c.args.task c.own_variable-own.result c.in_ok-poly.poly) (sym line)
+    (first_step_due (subject_of head q) steps good e.known e.ends e.budget.left c.right_start.new.budget.left c.args.task c.own_variable-own.result c.in_ok-poly.poly d.0
     (subst (λ t. IsStarted e.budget.left t) d.2 c.in_ok-poly.ensures.started.0) (c.in_ok-poly.ensures.started.1 ∙ ap start_of d.2)
     (c.in_ok-poly.ensures.paid ∙ ap (λ t. e.budget.left - start_charge t) d.2) c.own_variable-own.ensures)

@@ -18,7 +18,7 @@ loop-self-preserved g c =
       opened = c.loop-self.invariant.opened ∙ (rw kept (open_bytes-taken _ _ _ _ c.refill.ensures.lost));
       counted = rw kept (length-taken _ _ _ _ _ _ c.loop-self.invariant.counted (omega arith));
       unread = λ has. absurd (Contains-moved _ _ _ line_feed moved.0 (c.loop-self.invariant.unread has).2 clean has);
-      faults = search rules;
+      still = search rules;
     }
 
 pub returns-clause-counted : goal.returns-clause-counted

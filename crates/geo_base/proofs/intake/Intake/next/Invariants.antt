@@ -16,7 +16,7 @@ invariant-loop-self g l = record {
   unread : Contains l.initial.self.piece line_feed → (l.source ≡ l.initial.source)
       × (l.self.taken ≡ l.initial.self.taken)
       × (l.self.line.items ++ l.self.piece ≡ l.initial.self.piece);
-  faults : g.S.Source.faults l.initial.source ≤ g.S.Source.faults l.source;
+  still : g.S.Source.faults l.source ≡ g.S.Source.faults l.initial.source;
 }
 
 abbrev pub decreases-loop-self : goal.decreases-loop-self

@@ -1,28 +1,21 @@
-use Rattle.std.proofs.Common.{◌≡◌, [], ◌∷◌, ◌++◌, List, sym, ap, ◌∙◌, subst, arith}
-use Rattle.geo_program.specs.declared.names.Name.{Name}
-use Rattle.geo_program.specs.declared.names.NameKind.{NameKind}
+use Rattle.std.proofs.Common.{◌≡◌, None, sym, ◌∙◌}
+use Rattle.std.proofs.lemmas.Result.{IfOk-weaker}
 use Rattle.geo_parser.specs.Inner.CommandWords.{command_kind}
-use Rattle.geo_parser.specs.Inner.Reads.{ReadsCommand, a_name}
-use Rattle.geo_parser.proofs.CommandReading.{ReadsCommand-made, Refuses-form, Refuses-name, extent-name}
-use Rattle.geo_parser.proofs.Reading.{answered}
+use Rattle.geo_parser.specs.Inner.Reads.{ReadsCommand, ReadsForm}
+use Rattle.geo_parser.proofs.CommandReading.{ReadsCommand-unnamed, Refuses-unnamed}
 use Rattle.geo_parser.proofs.reader.Reader.command.Goals as goal
 
-pub returns-in_err-name-clause-refused : goal.returns-in_err-name-clause-refused
-returns-in_err-name-clause-refused c = λ f e.
-    Refuses-name c.args.word c.points.result c.points.ensures _ f (c.in_err-name.ensures.refused f (answered _ _ f c.from_residual.ensures.1 e) (command_kind c.args.word))
+pub named_command-requires-clause-kind : goal.named_command-requires-clause-kind
+named_command-requires-clause-kind c = sym c.kind.ensures ∙ c.in-Some.is
 
-pub arguments-requires : goal.arguments-requires
-arguments-requires c = omega (arith, extent-name c.args.word c.points.result c.points.ensures _ _ _ c.in_ok-name.ensures.ok, c.requires.room)
+pub returns-in-None-clause-ok : goal.returns-in-None-clause-ok
+returns-in-None-clause-ok c =
+    let none : command_kind c.args.word ≡ None = sym c.kind.ensures ∙ c.in-None.is in
+    let old = c.args.self.now in
+    let new = c.arguments.new.self in
+    IfOk-weaker c.arguments.result (ReadsForm c.args.word old new) (ReadsCommand c.args.word old new) (λ command form. ReadsCommand-unnamed c.args.word none old new command c.requires.few form) c.arguments.ensures.ok
 
-pub returns-in_err-command-clause-refused : goal.returns-in_err-command-clause-refused
-returns-in_err-command-clause-refused c = λ f e.
-    Refuses-form c.args.word c.points.result c.points.ensures _ _ _ c.in_ok-name.ensures.ok f (c.in_err-command.ensures.refused f (answered _ _ f c.from_residual-in_err-command.ensures.1 e))
-
-pub returns-clause-ok : goal.returns-clause-ok
-returns-clause-ok c =
-    let d = c.arguments.new.self in
-    let made = ReadsCommand-made c.args.word c.points.result c.points.ensures c.args.self.now c.new_name.new.self c.in_ok-name.name.now c.in_ok-name.ensures.ok d c.in_ok-command.command c.in_ok-command.ensures.ok in
-    let P : List Name → Type 0 = λ ns. ReadsCommand c.args.word c.args.self.now (record d { names = ns }) c.in_ok-command.command in
-    let declared : c.declare.new.self ≡ d.names ++ a_name c.in_ok-name.name.now (command_kind c.args.word) ∷ [] =
-    c.in_ok-declare.ensures.ok ∙ ap (λ (k : NameKind). d.names ++ a_name c.in_ok-name.name.now k ∷ []) c.kind.ensures in
-    subst P (sym declared) made
+pub returns-in-None-clause-refused : goal.returns-in-None-clause-refused
+returns-in-None-clause-refused c = λ f e.
+    let none : command_kind c.args.word ≡ None = sym c.kind.ensures ∙ c.in-None.is in
+    Refuses-unnamed c.args.word none c.args.self.now f (c.arguments.ensures.refused f e)

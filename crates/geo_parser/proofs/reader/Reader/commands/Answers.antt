@@ -9,8 +9,7 @@ use Rattle.geo_parser.proofs.reader.Reader.commands.Goals as goal
 
 pub returns-in_err-word-clause-refused : goal.returns-in_err-word-clause-refused
 returns-in_err-word-clause-refused c = λ f e.
-    let refused = c.in_err-word.ensures.refused f (answered _ _ f c.from_residual.ensures.1 e) in
-    c.loop-items.invariant.follows ∙ refused.first [] []
+    c.loop-items.invariant.follows ∙ c.in_err-word.ensures.refused f (answered _ _ f c.from_residual.ensures.1 e)
 
 pub returns-in_err-command-clause-refused : goal.returns-in_err-command-clause-refused
 returns-in_err-command-clause-refused c = λ f e.

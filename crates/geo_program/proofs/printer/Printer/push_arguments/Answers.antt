@@ -33,6 +33,22 @@ push_numbered-requires-in-Lratio-clause-number c =
     let arguments = subst (λ (command : Command). AllByRecursion (IsArgument (whole_scope names)) (command_form nodes command).arguments) c.in-Lratio.is c.requires.arguments in
     number_printable names nodes c.in-Lratio.r c.requires.store stored arguments.1.1.0
 
+pub push_weights-requires-clause-r : goal.push_weights-requires-clause-r
+push_weights-requires-clause-r c =
+    let names = c.args.self.now.names in
+    let nodes = c.args.self.now.terms.now in
+    let stored = subst (λ (command : Command). IsStored nodes command) c.in-Weights.is c.requires.stored in
+    let arguments = subst (λ (command : Command). AllByRecursion (IsArgument (whole_scope names)) (command_form nodes command).arguments) c.in-Weights.is c.requires.arguments in
+    number_printable names nodes c.in-Weights.r c.requires.store stored.0 arguments.1.1.1.0
+
+pub push_weights-requires-clause-s : goal.push_weights-requires-clause-s
+push_weights-requires-clause-s c =
+    let names = c.args.self.now.names in
+    let nodes = c.args.self.now.terms.now in
+    let stored = subst (λ (command : Command). IsStored nodes command) c.in-Weights.is c.requires.stored in
+    let arguments = subst (λ (command : Command). AllByRecursion (IsArgument (whole_scope names)) (command_form nodes command).arguments) c.in-Weights.is c.requires.arguments in
+    number_printable names nodes c.in-Weights.s c.requires.store stored.1 arguments.1.1.1.1.0
+
 pub returns-in-Point : goal.returns-in-Point
 returns-in-Point c =
     (appends_none c.args.out.now.items).is

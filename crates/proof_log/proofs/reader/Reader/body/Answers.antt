@@ -3,9 +3,14 @@ use Rattle.std.specs.Prelude.{Err}
 use Rattle.proof_log.specs.declared.errors.LineError.TheVariants.{BadLine}
 use Rattle.proof_log.specs.declared.leads.Lead.{Lead}
 use Rattle.proof_log.specs.Inner.Leads.{IsBody}
-use Rattle.proof_log.proofs.BodyReading.{coords_refused, false_refused, impossible_refused, program_refused, sample_refused, spent_refused, start_refused, too_large_refused}
+use Rattle.proof_log.proofs.BodyReading.{coords_refused, false_refused, header_refused, impossible_refused, program_refused, sample_refused, spent_refused, start_refused, too_large_refused}
 use Rattle.proof_log.proofs.Growth.{bad_error}
 use Rattle.proof_log.proofs.reader.Reader.body.Goals as goal
+
+pub returns-in_err-version-in-Header-clause-bad : goal.returns-in_err-version-in-Header-clause-bad
+returns-in_err-version-in-Header-clause-bad c = λ is l h.
+    header_refused c.args.self.now (c.in_err-version-in-Header.ensures.bad (ap Err (bad_error c.from_residual.result c.in_err-version-in-Header.field-0.0 BadLine c.from_residual.ensures.1 is)))
+    l (subst (λ (k : Lead). IsBody k c.args.self.now l) c.in-Header.is h)
 
 pub returns-in_err-text-in-Program-clause-bad : goal.returns-in_err-text-in-Program-clause-bad
 returns-in_err-text-in-Program-clause-bad c = λ is l h.

@@ -1,0 +1,1 @@
+point A assume equal

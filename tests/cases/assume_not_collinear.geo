@@ -1,0 +1,1 @@
+point A point B point C assume not_collinear A B C prove { equal { signed_area3 A B C } { 1 } }

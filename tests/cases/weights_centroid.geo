@@ -1,0 +1,1 @@
+point A point B point C weights X A B C div { 1 } { 3 } div { 1 } { 3 } prove { equal { signed_area3 X B C } { signed_area3 X C A } }
