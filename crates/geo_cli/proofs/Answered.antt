@@ -1,11 +1,11 @@
 -- What `prove` did with the bytes of a program is what is due for them; and what a command did with its input.
-use Rattle.std.proofs.Common.{◌≡◌, ℕ, inl, inr, List, Option, refl, sym, ap, subst, length}
+use Rattle.std.proofs.Common.{◌≡◌, ℕ, true, false, inl, inr, List, Option, refl, sym, ap, subst, length}
 use Rattle.geo_base.specs.Devices.{HasRisen}
 use Rattle.geo_cli.specs.declared.order.Command.{Command}
-use Rattle.geo_cli.specs.declared.order.Command.TheVariants.{Bench, Check, Prove, Text}
+use Rattle.geo_cli.specs.declared.order.Command.TheVariants.{Bench, Check, Figure, Place, Prove, Text}
 use Rattle.geo_cli.specs.declared.status.Status.{Status}
 use Rattle.geo_cli.specs.declared.status.Status.TheVariants.{ReadFault, TooLarge, Spent, TooLong}
-use Rattle.geo_cli.specs.Due.{Due, IsBenchDue, IsCommandDue, IsDueFor, IsDueForLog, IsDueForText, IsReadDue, too_long_line}
+use Rattle.geo_cli.specs.Due.{Due, IsBenchDue, IsCommandDue, IsDueFor, IsDueForLog, IsDueForText, IsDueForValues, IsReadDue, too_long_line}
 use Rattle.geo_cli.specs.Inner.Answering.{AnswersBytes, AnswersCommand, AnswersDue, AnswersInput}
 use Rattle.geo_cli.specs.Input.{IsInput, IsLong, log_limit, program_limit}
 use Rattle.geo_cli.specs.Run.{IsAnswered, IsCutShort}
@@ -114,6 +114,12 @@ module _ (steps : ℕ) (left left' held held' : Option (List ℕ)) (g g' f f' : 
 
   pub by_text : (command : Command) → command ≡ Text → AnswersInput log_limit (IsDueForText steps) left left' g g' f f' held held' s → Carried command
   by_text command is h = subst Carried (sym is) (by_reading Text log_limit (IsDueForText steps) (λ number no. absurd (cc)) (λ due d. d) h)
+
+  pub by_place : (command : Command) → command ≡ Place → AnswersInput program_limit (IsDueForValues false) left left' g g' f f' held held' s → Carried command
+  by_place command is h = subst Carried (sym is) (by_reading Place program_limit (IsDueForValues false) (λ number no. absurd (cc)) (λ due d. d) h)
+
+  pub by_figure : (command : Command) → command ≡ Figure → AnswersInput program_limit (IsDueForValues true) left left' g g' f f' held held' s → Carried command
+  by_figure command is h = subst Carried (sym is) (by_reading Figure program_limit (IsDueForValues true) (λ number no. absurd (cc)) (λ due d. d) h)
 
   pub by_bench : (command : Command) (number : ℕ) → command ≡ Bench number → left' ≡ left
       → AnswersDue (IsBenchDue number steps) f f' held held' s → Carried command

@@ -1,16 +1,23 @@
 -- How a run ends, from what its parts say.
 use Rattle.std.proofs.Common.{◌≡◌, ◌⊎◌, inl, inr, ℕ, ◌<◌, ◌≤◌, ◌^◌, List, [], ◌∷◌, length, Option, None, Some, refl, sym, ◌∙◌, ap, subst, arith}
+use Rattle.std.specs.Prelude.{Bool, true, false, ℤ, Result, Ok, Err}
 use Rattle.geo_base.specs.Devices.{Grows, HasRisen}
+use Rattle.geo_base.specs.declared.texts.Text.{Text as Written}
+use Rattle.geo_figure.specs.declared.errors.DrawError.{DrawError}
+use Rattle.geo_figure.specs.declared.errors.DrawError.TheVariants as drawing
+use Rattle.geo_place.specs.declared.errors.PlaceError.{PlaceError}
+use Rattle.geo_place.specs.declared.errors.PlaceError.TheVariants as placing
+use Rattle.geo_place.specs.declared.placed.Placed.{Placed}
 use Rattle.geo_cli.specs.declared.order.Command.{Command}
-use Rattle.geo_cli.specs.declared.order.Command.TheVariants.{Bench, Check, Prove, Text}
+use Rattle.geo_cli.specs.declared.order.Command.TheVariants.{Bench, Check, Figure, Place, Prove, Text}
 use Rattle.geo_cli.specs.declared.order.Order.{Order}
 use Rattle.geo_cli.specs.declared.status.Status.{Status}
 use Rattle.geo_cli.specs.declared.status.Status.TheVariants as status
-use Rattle.geo_cli.specs.Due.{Due, IsAcceptedDue, IsBenchDue, IsCalledFor, IsCommandDue, IsDue, IsLogDue, bench_text, usage_line}
+use Rattle.geo_cli.specs.Due.{Due, IsAcceptedDue, IsBenchDue, IsCalledFor, IsCommandDue, IsDue, IsDueForValues, IsLogDue, IsRestDue, TellsAnswer, TellsDrawing, bench_text, usage_line}
 use Rattle.geo_cli.specs.Inner.Answering.{AnswersCommand, HasNumber}
 use Rattle.geo_cli.specs.Input.{IsInput, Takes, limit_of, log_limit, program_limit}
 use Rattle.geo_cli.specs.Orders.{IsOrder, IsRow, TellsSteps}
-use Rattle.geo_cli.specs.Run.{Benches, Checks, Ends, IsAnswered, IsCutShort, Prints, Proves, VerdictTells}
+use Rattle.geo_cli.specs.Run.{Benches, Checks, Ends, IsAnswered, IsCutShort, Proves, VerdictTells}
 use Rattle.geo_cli.specs.Status.{ending_status, refusal_status, status_number, stop_status, verdict_status}
 use Rattle.geo_cli.specs.Words.{IsBenchOf, IsCheck, IsNoCommand, IsProve, ReadsNothing}
 use Rattle.geo_cli.proofs.OneDue.{GivesOne, called_is_due}
@@ -31,7 +38,7 @@ use Rattle.proof_log.specs.Lines.{log_text}
 
 -- STATUSES
 -- two statuses with different numbers are not equal
-differ : (s t : Status) (P : Type 0) → s ≡ t → (status_number s ≡ status_number t → ⊥) → P
+pub differ : (s t : Status) (P : Type 0) → s ≡ t → (status_number s ≡ status_number t → ⊥) → P
 differ s t P same apart = absurd (apart (ap status_number same))
 
 -- a status that tells no verdict
@@ -83,8 +90,30 @@ no_refusal v n (rejected reason) P says = no_verdict v (refusal_status n (reject
 no_refusal v n (stopped spent) P says = no_verdict v (refusal_status n (stopped spent)) P says (omega arith)
 no_refusal v n (stopped (too_large which)) P says = no_verdict v (refusal_status n (stopped (too_large which))) P says (omega arith)
 
+-- values and a program call for no verdict
+drawing_number : (answer : Result Written DrawError) (due : Due) → TellsDrawing answer due → 3 ≤ status_number due.status
+drawing_number (Ok text) due h = subst (λ (d : Due). 3 ≤ status_number d.status) (sym h) (omega arith)
+drawing_number (Err (drawing.TooLarge line)) due h = subst (λ (d : Due). 3 ≤ status_number d.status) (sym h) (omega arith)
+drawing_number (Err drawing.NoMemory) due h = absurd h
+
+answer_number : (drawn : Bool) (answer : Result Placed PlaceError) (due : Due) → TellsAnswer drawn answer due → 3 ≤ status_number due.status
+answer_number false (Ok placed) due h = subst (λ (d : Due). 3 ≤ status_number d.status) (sym h) (omega arith)
+answer_number true (Ok placed) due (answer, d, h) = drawing_number answer due h
+answer_number drawn (Err (placing.Unmet k)) due h = subst (λ (d : Due). 3 ≤ status_number d.status) (sym h) (omega arith)
+answer_number drawn (Err (placing.TooLarge line)) due h = subst (λ (d : Due). 3 ≤ status_number d.status) (sym h) (omega arith)
+answer_number drawn (Err placing.NoMemory) due h = absurd h
+
+rest_number : (drawn : Bool) (values : List ℤ) (rest : List ℕ) (due : Due) → IsRestDue drawn values rest due → 3 ≤ status_number due.status
+rest_number drawn values rest due (inl (fault, none, is)) = subst (λ (d : Due). 3 ≤ status_number d.status) (sym is) (omega arith)
+rest_number drawn values rest due (inr (p, spelt, inl h)) = subst (λ (d : Due). 3 ≤ status_number d.status) (sym h.1) (omega arith)
+rest_number drawn values rest due (inr (p, spelt, inr h)) = answer_number drawn h.answer due h.is
+
+values_number : (drawn : Bool) (bytes : List ℕ) (due : Due) → IsDueForValues drawn bytes due → 3 ≤ status_number due.status
+values_number drawn bytes due (inl h) = subst (λ (d : Due). 3 ≤ status_number d.status) (sym h.1) (omega arith)
+values_number drawn bytes due (inr h) = rest_number drawn h.values h.rest due h.of_rest
+
 -- the status that is due, where it is that of the run
-due_says : (due other : Due) (s t : Status) → s ≡ due.status → due ≡ other → s ≡ t → other.status ≡ t
+pub due_says : (due other : Due) (s t : Status) → s ≡ due.status → due ≡ other → s ≡ t → other.status ≡ t
 due_says due other s t answered is says = ap (λ (d : Due). d.status) (sym is) ∙ sym answered ∙ says
 
 module _ (words : List (List ℕ)) (left left' held held' : Option (List ℕ)) (verdict : Verdict) where
@@ -174,6 +203,14 @@ module _ (words : List (List ℕ)) (left left' held held' : Option (List ℕ)) (
       no_verdict verdict status.Done _ (due_says due _ s _ answered h.is says) (omega arith)
   command_decides Text steps given due s answered written says (inr (bytes, input, inr h)) =
       no_refusal verdict h.number h.refusal _ (due_says due _ s _ answered h.is says)
+  command_decides Place steps given due s answered written says (inl h) =
+      no_verdict verdict status.TooLong _ (due_says due _ s _ answered h.1 says) (omega arith)
+  command_decides Place steps given due s answered written says (inr (bytes, input, h)) =
+      no_verdict verdict due.status _ (sym answered ∙ says) (values_number false bytes due h)
+  command_decides Figure steps given due s answered written says (inl h) =
+      no_verdict verdict status.TooLong _ (due_says due _ s _ answered h.1 says) (omega arith)
+  command_decides Figure steps given due s answered written says (inr (bytes, input, h)) =
+      no_verdict verdict due.status _ (sym answered ∙ says) (values_number true bytes due h)
   command_decides (Bench number) steps given due s answered written says (unread, h) =
       inr (inr (log_benches number steps given due h (due_says due _ s _ answered h.is says) written))
 
@@ -198,77 +235,6 @@ module _ (words : List (List ℕ)) (left left' held held' : Option (List ℕ)) (
       by_answer (inr a) = cut_decides s f f' _ a.0 says
   decides g g' f f' s (inr (inl h)) says = no_verdict verdict status.ReadFault _ (sym h.is ∙ says) (omega arith)
   decides g g' f f' s (inr (inr h)) says = no_verdict verdict status.NoMemory _ (sym h.is ∙ says) (omega arith)
-
--- READABLE PROOFS
--- a status that tells no readable proof
-not_done : (s : Status) (P : Type 0) → s ≡ status.Done → status_number s < 13 → P
-not_done s P is low = differ s status.Done P is (λ e. omega (arith, e, low))
-
-verdict_low : (v : Verdict) → status_number (verdict_status v) < 13
-verdict_low Proved = omega arith
-verdict_low (False g) = omega arith
-verdict_low (Impossible k) = omega arith
-
-stop_low : (n : ℕ) (stop : Stop) → status_number (stop_status n stop) < 13
-stop_low n spent = omega arith
-stop_low n (too_large which) = omega arith
-
-ending_low : (lines : List Line) (ending : Ending) → status_number (ending_status lines ending) < 13
-ending_low lines (ends_with v left) = verdict_low v
-ending_low lines (ends_by stop) = stop_low (length lines) stop
-ending_low lines too_long = omega arith
-
-refusal_low : (n : ℕ) (r : Refusal) → status_number (refusal_status n r) < 13
-refusal_low n (rejected reason) = omega arith
-refusal_low n (stopped stop) = stop_low n stop
-
-module _ (words : List (List ℕ)) (left left' held held' : Option (List ℕ)) where
-  command_prints : (command : Command) (steps : ℕ) → IsOrder words (record { command = command; steps = steps }) → (due : Due) (s : Status)
-      → s ≡ due.status → Grows held due.text held' → s ≡ status.Done → IsCommandDue command steps left left' due → Prints words left left' held held'
-  command_prints Prove steps given due s answered written done (inl h) = not_done _ _ (due_says due _ s _ answered h.1 done) (omega arith)
-  command_prints Prove steps given due s answered written done (inr (bytes, input, inl h)) =
-      not_done _ _ (due_says due _ s _ answered h.is done) (ending_low h.lines h.ending)
-  command_prints Prove steps given due s answered written done (inr (bytes, input, inr h)) =
-      not_done _ _ (due_says due _ s _ answered h.is done) (omega arith)
-  command_prints Check steps given due s answered written done (inl h) = not_done _ _ (due_says due _ s _ answered h.1 done) (omega arith)
-  command_prints Check steps given due s answered written done (inr (bytes, input, inl h)) =
-      not_done _ _ (due_says due _ s _ answered h.is done) (verdict_low h.verdict)
-  command_prints Check steps given due s answered written done (inr (bytes, input, inr h)) =
-      not_done _ _ (due_says due _ s _ answered h.is done) (refusal_low h.number h.refusal)
-  command_prints Text steps given due s answered written done (inl h) = not_done _ _ (due_says due _ s _ answered h.1 done) (omega arith)
-  command_prints Text steps given due s answered written done (inr (bytes, input, inl h)) = record {
-    steps = steps;
-    command = given;
-    bytes = bytes;
-    input = input;
-    text = h.text;
-    readable = h.readable;
-    written = subst (λ (d : Due). Grows held d.text held') h.is written;
-  }
-  command_prints Text steps given due s answered written done (inr (bytes, input, inr h)) =
-      not_done _ _ (due_says due _ s _ answered h.is done) (refusal_low h.number h.refusal)
-  command_prints (Bench number) steps given due s answered written done (unread, h) =
-      not_done _ _ (due_says due _ s _ answered h.is done) (ending_low h.lines h.ending)
-
-  due_prints : (due : Due) (s : Status) → IsDue words left left' due → s ≡ due.status → Grows held due.text held' → s ≡ status.Done
-      → Prints words left left' held held'
-  due_prints due s (inl h) answered written done = not_done _ _ (due_says due _ s _ answered h.is done) (omega arith)
-  due_prints due s (inr h) answered written done =
-      command_prints h.order.command h.order.steps h.given due s answered written done h.of_command
-
-  cut_prints : (s : Status) (faults faults' : ℕ) (P : Type 0) → IsCutShort s faults faults' → s ≡ status.Done → P
-  cut_prints s faults faults' P (inl h) done = not_done status.WriteFault P (sym h.0 ∙ done) (omega arith)
-  cut_prints s faults faults' P (inr h) done = not_done status.NoMemory P (sym h ∙ done) (omega arith)
-
-  -- a run that answers that a readable proof is written
-  pub prints : (g g' f f' : ℕ) (s : Status) → Ends words left left' g g' f f' held held' s → s ≡ status.Done → Prints words left left' held held'
-  prints g g' f f' s (inl h) done = by_answer h.answered
-    where
-      by_answer : IsAnswered h.due s f f' held held' → Prints words left left' held held'
-      by_answer (inl a) = due_prints h.due s h.cause a.0 a.1 done
-      by_answer (inr a) = cut_prints s f f' _ a.0 done
-  prints g g' f f' s (inr (inl h)) done = not_done status.ReadFault _ (sym h.is ∙ done) (omega arith)
-  prints g g' f f' s (inr (inr h)) done = not_done status.NoMemory _ (sym h.is ∙ done) (omega arith)
 
 -- COMPLETENESS
 module _ (words : List (List ℕ)) (one : GivesOne words) (left left' held held' : Option (List ℕ)) where
@@ -308,6 +274,8 @@ pub has_number : (words : List (List ℕ)) (command : Command) → IsRow words c
 has_number words Prove row = tt
 has_number words Check row = tt
 has_number words Text row = tt
+has_number words Place row = tt
+has_number words Figure row = tt
 has_number words (Bench number) (text, is, written, some, few) = (some, few)
 
 module _ (words : List (List ℕ)) (one : GivesOne words) (order : Order) (given : IsOrder words order) where

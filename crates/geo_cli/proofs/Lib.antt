@@ -1,3 +1,4 @@
+pub mod ValueLines
 pub mod OrderLemmas
 pub mod OneDue
 pub mod Answered
@@ -6,3 +7,4 @@ pub mod Reported
 pub mod Benched
 pub mod Ended
 pub mod Decisive
+pub mod Placed

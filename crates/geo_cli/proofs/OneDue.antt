@@ -1,11 +1,27 @@
 -- One thing is due at most for words and for a source that tells its bytes.
-use Rattle.std.proofs.Common.{◌≡◌, ℕ, zero, suc, ◌<◌, inl, inr, List, [], ◌∷◌, ◌++◌, map, length, codes, Option, Some, None, refl, sym, ap, subst, ◌∙◌, append-nil, length-append, arith}
+use Rattle.std.proofs.Common.{◌≡◌, ℕ, zero, suc, ◌+◌, ◌*◌, ◌<◌, Bool, true, false, ℤ, inl, inr, List, [], ◌∷◌, ◌++◌, map, length, codes, Option, Some, None, refl, sym, ap, subst, ◌∙◌, append-nil, length-append, arith}
+use Rattle.std.specs.Prelude.{Result, Ok, Err}
 use Rattle.std.proofs.lemmas.List.{length-map, map-append}
+use Rattle.geo_base.specs.declared.texts.Text.{Text as Written}
+use Rattle.geo_cli.specs.Values.{values_line}
+use Rattle.geo_cli.proofs.ValueLines.{one_line}
+use Rattle.geo_conditions.specs.Truth.{ProgramValues}
+use Rattle.geo_conditions.proofs.Sightings.{same_frees, same_numbers}
+use Rattle.geo_figure.specs.declared.errors.DrawError.{DrawError}
+use Rattle.geo_figure.specs.declared.errors.DrawError.TheVariants as drawing
+use Rattle.geo_figure.proofs.OneDrawing.{one_drawing}
+use Rattle.geo_place.specs.declared.errors.PlaceError.{PlaceError}
+use Rattle.geo_place.specs.declared.errors.PlaceError.TheVariants as placing
+use Rattle.geo_place.specs.declared.placed.Placed.{Placed}
+use Rattle.geo_place.specs.Placing.{IsAnswer, values_wanted}
+use Rattle.geo_place.proofs.SameEvaluation.{same_answer}
+use Rattle.geo_place.proofs.ValueLists.{values_once}
+use Rattle.geo_program.specs.declared.program_type.Program.{Program}
 use Rattle.geo_cli.specs.declared.order.Command.{Command}
-use Rattle.geo_cli.specs.declared.order.Command.TheVariants.{Bench, Check, Prove, Text}
+use Rattle.geo_cli.specs.declared.order.Command.TheVariants.{Bench, Check, Figure, Place, Prove, Text}
 use Rattle.geo_cli.specs.declared.order.Order.{Order}
 use Rattle.geo_cli.specs.declared.status.Status.TheVariants.{Done, Syntax}
-use Rattle.geo_cli.specs.Due.{Due, IsAcceptedDue, IsBenchDue, IsCalledFor, IsCommandCall, IsCommandDue, IsDue, IsDueFor, IsDueForLog, IsDueForText, IsLogDue, IsReadCall, IsReadDue, IsReadableDue, IsRefusalDue, IsRejectionDue, bench_text, conditions_text, refusal_line, syntax_line}
+use Rattle.geo_cli.specs.Due.{Due, IsAcceptedDue, IsBenchDue, IsCalledFor, IsCommandCall, IsCommandDue, IsDue, IsDueFor, IsDueForLog, IsDueForText, IsDueForValues, IsLogDue, IsReadCall, IsReadDue, IsReadableDue, IsRefusalDue, IsRejectionDue, IsRestDue, IsValuesDue, TellsAnswer, TellsDrawing, bench_text, conditions_text, fault_due, refusal_line, syntax_line}
 use Rattle.geo_cli.specs.Input.{IsInput, IsLong, log_limit, program_limit}
 use Rattle.geo_cli.specs.Orders.{IsOrder}
 use Rattle.geo_cli.specs.Status.{ending_status, refusal_status, verdict_status}
@@ -148,6 +164,69 @@ one_due_for_text steps bytes due other (inr h) (inl g) =
     let r = g.readable in absurd (accepted_bytes_are_not_refused bytes steps h.number r.program r.verdict h.refusal r.accepted h.refused)
 one_due_for_text steps bytes due other (inr h) (inr g) = one_rejection_due steps bytes due other h g
 
+-- WHAT VALUES AND A PROGRAM CALL FOR
+
+-- a drawing is one
+one_drawing_told : (answer : Result Written DrawError) (due other : Due) → TellsDrawing answer due → TellsDrawing answer other → due ≡ other
+one_drawing_told (Ok text) due other h g = h ∙ sym g
+one_drawing_told (Err (drawing.TooLarge line)) due other h g = h ∙ sym g
+one_drawing_told (Err drawing.NoMemory) due other h g = absurd h
+
+-- want of memory calls for nothing
+drawing_memory : (answer : Result Written DrawError) (due : Due) → TellsDrawing answer due → answer ≡ Err drawing.NoMemory → ⊥
+drawing_memory answer due h e = subst (λ (a : Result Written DrawError). TellsDrawing a due) e h
+
+answer_memory : (drawn : Bool) (answer : Result Placed PlaceError) (due : Due) → TellsAnswer drawn answer due → answer ≡ Err placing.NoMemory → ⊥
+answer_memory drawn answer due h e = subst (λ (a : Result Placed PlaceError). TellsAnswer drawn a due) e h
+
+-- an answer calls for one text
+one_told : (drawn : Bool) (answer : Result Placed PlaceError) (due other : Due) → TellsAnswer drawn answer due → TellsAnswer drawn answer other → due ≡ other
+one_told false (Ok placed) due other h g = h ∙ sym g
+one_told true (Ok placed) due other (a, d, h) (b, e, g) =
+    let same = one_drawing placed a b d e (drawing_memory a due h) (drawing_memory b other g) in
+    one_drawing_told b due other (subst (λ (z : Result Written DrawError). TellsDrawing z due) same h) g
+one_told drawn (Err (placing.Unmet k)) due other h g = h ∙ sym g
+one_told drawn (Err (placing.TooLarge line)) due other h g = h ∙ sym g
+one_told drawn (Err placing.NoMemory) due other h g = absurd h
+
+-- values and a program call for one text
+one_values : (drawn : Bool) (p q : Program) (values : List ℤ) (due other : Due) → SameSource (source_of p) (source_of q) → IsWellFormed (source_of p)
+    → IsValuesDue drawn p values due → IsValuesDue drawn q values other → due ≡ other
+one_values drawn p q values due other s w h g = by h g
+  where
+    wanted : values_wanted (source_of p) ≡ values_wanted (source_of q)
+    wanted = λ i. 2 * length (same_frees (source_of p) (source_of q) s i) + same_numbers (source_of p) (source_of q) s i
+
+    by : IsValuesDue drawn p values due → IsValuesDue drawn q values other → due ≡ other
+    by (inl h) (inl g) = h.1 ∙ sym g.1
+    by (inl h) (inr g) = absurd (h.0 (g.count ∙ sym wanted))
+    by (inr h) (inl g) = absurd (g.0 (h.count ∙ wanted))
+    by (inr h) (inr g) =
+        let frees = g.frees ∙ ap length (sym (same_frees (source_of p) (source_of q) s)) in
+        let v : h.v ≡ g.v = sym (values_once (source_of p) values h.v h.frees h.are) ∙ values_once (source_of p) values g.v frees g.are in
+        let same = same_answer (source_of p) (source_of q) s w g.v h.answer g.answer (subst (λ (z : ProgramValues). IsAnswer (source_of p) z h.answer) v h.given) g.given
+        (answer_memory drawn h.answer due h.is) (answer_memory drawn g.answer other g.is) in
+        one_told drawn g.answer due other (subst (λ (a : Result Placed PlaceError). TellsAnswer drawn a due) same h.is) g.is
+
+one_rest : (drawn : Bool) (values : List ℤ) (rest : List ℕ) (due other : Due) → IsRestDue drawn values rest due → IsRestDue drawn values rest other → due ≡ other
+one_rest drawn values rest due other (inl (fault, none, is)) (inl (fault', none', is')) =
+    let same : fault ≡ fault' = one_refusal rest fault fault' none.refused none'.refused in
+    is ∙ (λ i. fault_due (same i).refusal (length (values_line values) + (same i).place)) ∙ sym is'
+one_rest drawn values rest due other (inl (fault, none, is)) (inr (q, spelt, g)) = absurd (none.spells_none q spelt)
+one_rest drawn values rest due other (inr (p, spelt, h)) (inl (fault, none, is)) = absurd (none.spells_none p spelt)
+one_rest drawn values rest due other (inr (p, spelt, h)) (inr (q, spelt', g)) =
+    one_values drawn p q values due other (spells_one rest p q spelt spelt') spelt.well_formed h g
+
+-- one thing is due at most for values and a program
+one_due_for_values : (drawn : Bool) (bytes : List ℕ) (due other : Due) → IsDueForValues drawn bytes due → IsDueForValues drawn bytes other → due ≡ other
+one_due_for_values drawn bytes due other (inl h) (inl g) = h.1 ∙ sym g.1
+one_due_for_values drawn bytes due other (inl h) (inr g) = absurd (h.0 g.values g.rest g.line)
+one_due_for_values drawn bytes due other (inr h) (inl g) = absurd (g.0 h.values h.rest h.line)
+one_due_for_values drawn bytes due other (inr h) (inr g) =
+    let same = one_line bytes h.values g.values h.rest g.rest h.line g.line in
+    one_rest drawn g.values g.rest due other
+    (subst (λ (zs : List ℤ). IsRestDue drawn zs g.rest due) same.0 (subst (λ (r : List ℕ). IsRestDue drawn h.values r due) same.1 h.of_rest)) g.of_rest
+
 -- WHAT A NUMBER CALLS FOR
 
 -- the commands have the same forms over any store
@@ -212,6 +291,8 @@ one_command : (command : Command) (steps : ℕ) (left left' : Option (List ℕ))
 one_command Prove steps left left' due other h g = one_read program_limit (IsDueFor steps) (one_due_for steps) left left' due other h g
 one_command Check steps left left' due other h g = one_read log_limit (IsDueForLog steps) (one_due_for_log steps) left left' due other h g
 one_command Text steps left left' due other h g = one_read log_limit (IsDueForText steps) (one_due_for_text steps) left left' due other h g
+one_command Place steps left left' due other h g = one_read program_limit (IsDueForValues false) (one_due_for_values false) left left' due other h g
+one_command Figure steps left left' due other h g = one_read program_limit (IsDueForValues true) (one_due_for_values true) left left' due other h g
 one_command (Bench number) steps left left' due other h g = one_bench_due number steps due other h g.1
 
 -- two things that a command calls for are one
@@ -228,6 +309,8 @@ calls_one : (command : Command) (steps : ℕ) (left : Option (List ℕ)) (due ot
 calls_one Prove steps left due other h g = one_call program_limit (IsDueFor steps) (one_due_for steps) left due other h g
 calls_one Check steps left due other h g = one_call log_limit (IsDueForLog steps) (one_due_for_log steps) left due other h g
 calls_one Text steps left due other h g = one_call log_limit (IsDueForText steps) (one_due_for_text steps) left due other h g
+calls_one Place steps left due other h g = one_call program_limit (IsDueForValues false) (one_due_for_values false) left due other h g
+calls_one Figure steps left due other h g = one_call program_limit (IsDueForValues true) (one_due_for_values true) left due other h g
 calls_one (Bench number) steps left due other h g = one_bench_due number steps due other h g
 
 -- two things that are called for are one

@@ -9,7 +9,7 @@ use Rattle.std.proofs.lemmas.Bool.{ne_eqb}
 use Rattle.std.proofs.lemmas.List.{get_or_append_left, get_or_at, get_or-map, take-append-drop, take_at, drop_at, take_all, drop_all, take-map, drop-map, length-map}
 use Rattle.std.proofs.lemmas.List.Sums.{position_or_len_is}
 use Rattle.geo_cli.specs.declared.order.Command.{Command}
-use Rattle.geo_cli.specs.declared.order.Command.TheVariants.{Prove, Check, Text, Bench}
+use Rattle.geo_cli.specs.declared.order.Command.TheVariants.{Prove, Check, Text, Bench, Figure, Place}
 use Rattle.geo_cli.specs.declared.order.Order.{Order}
 use Rattle.geo_cli.specs.Inner.OrderParts.{SplitsOff, front_of, tail_of}
 use Rattle.geo_cli.specs.Orders.{IsOrder, IsRow, TellsSteps}
@@ -39,6 +39,8 @@ row_no_option : (words : List (List ℕ)) (command : Command) → IsRow words co
 row_no_option words Prove row = one_word words (codes "prove") refl row
 row_no_option words Check row = one_word words (codes "check") refl row
 row_no_option words Text row = one_word words (codes "text") refl row
+row_no_option words Place row = one_word words (codes "place") refl row
+row_no_option words Figure row = one_word words (codes "figure") refl row
 row_no_option words (Bench number) (text, is, writes, low, high) =
     two_words words (codes "bench") text refl (numeral_no_minus text writes.digits) is
 
@@ -47,6 +49,8 @@ pub length-row : (words : List (List ℕ)) (command : Command) → IsRow words c
 length-row words Prove row = rw row (omega arith)
 length-row words Check row = rw row (omega arith)
 length-row words Text row = rw row (omega arith)
+length-row words Place row = rw row (omega arith)
+length-row words Figure row = rw row (omega arith)
 length-row words (Bench number) (text, is, writes, low, high) = rw is (omega arith)
 
 -- words that are cut at the first that begins with `-`

@@ -1,22 +1,34 @@
 -- What a run is to write and to answer, and the cause of it.
-use Rattle.std.specs.Prelude.{◌≡◌, ◌⊎◌, ℕ, suc, ◌-◌, ◌<◌, ◌≤◌, List, [], ◌∷◌, ◌++◌, length, Option, None, Some, codes}
+use Rattle.std.specs.Prelude.{◌≡◌, ◌≢◌, ◌⊎◌, ℕ, suc, ◌+◌, ◌-◌, ◌<◌, ◌≤◌, Bool, true, false, ℤ, List, [], ◌∷◌, ◌++◌, length, Option, None, Some, Result, Ok, Err, codes}
 use Rattle.std.specs.Fmt.{decimal}
 use Rattle.geo_cli.specs.declared.order.Command.{Command}
-use Rattle.geo_cli.specs.declared.order.Command.TheVariants.{Bench, Check, Prove, Text}
+use Rattle.geo_cli.specs.declared.order.Command.TheVariants.{Bench, Check, Figure, Place, Prove, Text}
 use Rattle.geo_cli.specs.declared.order.Order.{Order}
 use Rattle.geo_cli.specs.declared.status.Status.{Status}
-use Rattle.geo_cli.specs.declared.status.Status.TheVariants.{Done, Usage, Syntax, TooLong}
+use Rattle.geo_cli.specs.declared.status.Status.TheVariants.{Done, Usage, Syntax, TooLarge, TooLong, Unmet}
 use Rattle.geo_cli.specs.Input.{IsInput, IsLong, log_limit, program_limit}
 use Rattle.geo_cli.specs.Orders.{IsOrder}
 use Rattle.geo_cli.specs.Status.{ending_status, refusal_status, verdict_status}
+use Rattle.geo_cli.specs.Values.{HasNoValuesLine, HasValuesLine, values_line}
 use Rattle.geo_cli.specs.Words.{IsNoCommand}
+use Rattle.geo_base.specs.declared.texts.Text.{Text as Written}
 use Rattle.geo_conditions.specs.Lists.{AreConditionItems, ItemForm}
+use Rattle.geo_conditions.specs.Truth.{ProgramValues, free_points}
+use Rattle.geo_figure.specs.declared.errors.DrawError.{DrawError}
+use Rattle.geo_figure.specs.declared.errors.DrawError.TheVariants as drawing
+use Rattle.geo_figure.specs.Drawing.{IsDrawn}
 use Rattle.geo_lexer.specs.declared.token_types.Fault.{Fault}
 use Rattle.geo_logs.specs.Ends.{Ending, ends_by, ends_with, stop_line, too_long}
 use Rattle.geo_logs.specs.Judging.{Refusal, number_of, rejected, stopped}
 use Rattle.geo_lowering.specs.Lowering.{IsLowered, LoweredForm}
 use Rattle.geo_lowering.specs.declared.version.Version.TheVariants.{Two}
+use Rattle.geo_logs.specs.Moves.{too_large}
 use Rattle.geo_parser.specs.Refusals.{IsRefused}
+use Rattle.geo_place.specs.declared.errors.PlaceError.{PlaceError}
+use Rattle.geo_place.specs.declared.errors.PlaceError.TheVariants as placing
+use Rattle.geo_place.specs.declared.placed.Placed.{Placed}
+use Rattle.geo_place.specs.Placing.{IsAnswer, integers_of, text_of, values_wanted}
+use Rattle.geo_poly.specs.declared.limits.Which.TheVariants.{Norm}
 use Rattle.geo_program.specs.CanonicalText.{canonical_text}
 use Rattle.geo_program.specs.declared.program_type.Program.{Program}
 use Rattle.geo_program.specs.Programs.{Spells, source_of}
@@ -123,6 +135,69 @@ pub record IsReadableDue (steps : ℕ) (bytes : List ℕ) (due : Due) : Type 0 w
 abbrev pub IsDueForText : ℕ → List ℕ → Due → Type 0
 IsDueForText steps bytes due = IsReadableDue steps bytes due ⊎ IsRejectionDue steps bytes due
 
+-- WHAT VALUES AND A PROGRAM CALL FOR
+-- `unmet 1`
+abbrev pub unmet_line : ℕ → List ℕ
+unmet_line k = codes "unmet " ++ decimal k ++ 10 ∷ []
+
+-- a number is too large at this line of the canonical program
+abbrev pub stop_due : ℕ → Due
+stop_due line = record { text = line_text (stop_line line (too_large Norm)) ++ 10 ∷ []; status = TooLarge line Norm }
+
+-- a refusal, and its place among all bytes
+abbrev pub fault_due : ℕ → ℕ → Due
+fault_due refusal place = record { text = syntax_line (record { refusal = refusal; place = place }); status = Syntax refusal place }
+
+-- the drawing, or the line at which a number of it is too large
+abbrev pub TellsDrawing : Result Written DrawError → Due → Type 0
+TellsDrawing (Ok text) due = due ≡ record { text = text; status = Done }
+TellsDrawing (Err (drawing.TooLarge line)) due = due ≡ stop_due line
+TellsDrawing (Err drawing.NoMemory) due = ⊥
+
+-- placed points as text, or drawn
+abbrev pub TellsPoints : Bool → Placed → Due → Type 0
+TellsPoints false placed due = due ≡ record { text = text_of placed; status = Done }
+TellsPoints true placed due = (answer : Result Written DrawError) × IsDrawn placed answer × TellsDrawing answer due
+
+-- what is answered for the values
+abbrev pub TellsAnswer : Bool → Result Placed PlaceError → Due → Type 0
+TellsAnswer drawn (Ok placed) due = TellsPoints drawn placed due
+TellsAnswer drawn (Err (placing.Unmet k)) due = due ≡ record { text = unmet_line k; status = Unmet k }
+TellsAnswer drawn (Err (placing.TooLarge line)) due = due ≡ stop_due line
+TellsAnswer drawn (Err placing.NoMemory) due = ⊥
+
+-- the values are the program's, and this is answered for them
+pub record IsPlacedDue (drawn : Bool) (program : Program) (values : List ℤ) (due : Due) : Type 0 where
+  pub count : length values ≡ values_wanted (source_of program)
+  pub v : ProgramValues
+  pub frees : length v.coordinates ≡ length (free_points 0 program.commands)
+  pub are : integers_of v ≡ values
+  pub answer : Result Placed PlaceError
+  pub given : IsAnswer (source_of program) v answer
+  pub is : TellsAnswer drawn answer due
+
+-- what values and a program call for: a refusal where the program has not so many values
+abbrev pub IsValuesDue : Bool → Program → List ℤ → Due → Type 0
+IsValuesDue drawn program values due =
+    ((length values ≢ values_wanted (source_of program)) × (due ≡ fault_due 14 0)) ⊎ IsPlacedDue drawn program values due
+
+-- what values and the bytes behind their line call for: where these spell no program, the place is counted from the line's beginning
+abbrev pub IsRestDue : Bool → List ℤ → List ℕ → Due → Type 0
+IsRestDue drawn values rest due =
+    ((fault : Fault) × SpellsNone rest fault × (due ≡ fault_due fault.refusal (length (values_line values) + fault.place)))
+    ⊎ ((program : Program) × Spells rest program × IsValuesDue drawn program values due)
+
+-- the bytes are a line of values and a rest
+pub record IsLineDue (drawn : Bool) (bytes : List ℕ) (due : Due) : Type 0 where
+  pub values : List ℤ
+  pub rest : List ℕ
+  pub line : HasValuesLine bytes values rest
+  pub of_rest : IsRestDue drawn values rest due
+
+-- what `place` is to write of these bytes, or `figure`, which draws
+abbrev pub IsDueForValues : Bool → List ℕ → Due → Type 0
+IsDueForValues drawn bytes due = (HasNoValuesLine bytes × (due ≡ fault_due 13 0)) ⊎ IsLineDue drawn bytes due
+
 -- WHAT A NUMBER CALLS FOR
 
 -- `points 10`
@@ -174,6 +249,8 @@ abbrev pub IsCommandDue : Command → ℕ → Option (List ℕ) → Option (List
 IsCommandDue Prove steps left left' due = IsReadDue program_limit (IsDueFor steps) left left' due
 IsCommandDue Check steps left left' due = IsReadDue log_limit (IsDueForLog steps) left left' due
 IsCommandDue Text steps left left' due = IsReadDue log_limit (IsDueForText steps) left left' due
+IsCommandDue Place steps left left' due = IsReadDue program_limit (IsDueForValues false) left left' due
+IsCommandDue Figure steps left left' due = IsReadDue program_limit (IsDueForValues true) left left' due
 IsCommandDue (Bench number) steps left left' due = (left' ≡ left) × IsBenchDue number steps due
 
 -- they give an order
@@ -197,6 +274,8 @@ abbrev pub IsCommandCall : Command → ℕ → Option (List ℕ) → Due → Typ
 IsCommandCall Prove steps left due = IsReadCall program_limit (IsDueFor steps) left due
 IsCommandCall Check steps left due = IsReadCall log_limit (IsDueForLog steps) left due
 IsCommandCall Text steps left due = IsReadCall log_limit (IsDueForText steps) left due
+IsCommandCall Place steps left due = IsReadCall program_limit (IsDueForValues false) left due
+IsCommandCall Figure steps left due = IsReadCall program_limit (IsDueForValues true) left due
 IsCommandCall (Bench number) steps left due = IsBenchDue number steps due
 
 -- what the words call for then

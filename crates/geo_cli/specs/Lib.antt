@@ -3,6 +3,7 @@ pub mod Orders
 pub mod Words
 pub mod Status
 pub mod Input
+pub mod Values
 pub mod Due
 pub mod Run
 pub mod Inner

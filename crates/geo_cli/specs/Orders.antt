@@ -2,7 +2,7 @@
 use Rattle.std.specs.Prelude.{◌≡◌, ℕ, ◌≤◌, List, [], ◌∷◌, ◌++◌, codes}
 use Rattle.geo_cli.specs.Numbers.{Writes}
 use Rattle.geo_cli.specs.declared.order.Command.{Command}
-use Rattle.geo_cli.specs.declared.order.Command.TheVariants.{Prove, Check, Text, Bench}
+use Rattle.geo_cli.specs.declared.order.Command.TheVariants.{Prove, Check, Text, Place, Figure, Bench}
 use Rattle.geo_cli.specs.declared.order.Order.{Order}
 
 -- the words are the row of the command
@@ -10,6 +10,8 @@ abbrev pub IsRow : List (List ℕ) → Command → Type 0
 IsRow words Prove = words ≡ codes "prove" ∷ []
 IsRow words Check = words ≡ codes "check" ∷ []
 IsRow words Text = words ≡ codes "text" ∷ []
+IsRow words Place = words ≡ codes "place" ∷ []
+IsRow words Figure = words ≡ codes "figure" ∷ []
 IsRow words (Bench number) =
     (text : List ℕ) × (words ≡ codes "bench" ∷ text ∷ []) × Writes text number × (1 ≤ number) × (number ≤ 60)
 

@@ -1,15 +1,20 @@
 -- How a run ends, by its words, the bytes that the source has still to give, the bytes that the sink holds, and the counts of faults of
 -- both. A name with a prime is the same after the run.
-use Rattle.std.specs.Prelude.{◌≡◌, ◌⊎◌, ℕ, List, length, take, Option}
+use Rattle.std.specs.Prelude.{◌≡◌, ◌⊎◌, ℕ, Bool, true, false, List, length, take, Option}
 use Rattle.geo_base.specs.Devices.{Grows, HasRisen}
 use Rattle.geo_cli.specs.declared.status.Status.{Status}
 use Rattle.geo_cli.specs.declared.status.Status.TheVariants.{NoMemory, ReadFault, WriteFault}
 use Rattle.geo_cli.specs.Due.{Due, IsDue, bench_text}
 use Rattle.geo_cli.specs.Input.{IsInput, log_limit, program_limit}
-use Rattle.geo_cli.specs.Words.{IsBenchOf, IsCheck, IsProve, IsText, ReadsNothing}
+use Rattle.geo_cli.specs.Values.{HasValuesLine}
+use Rattle.geo_cli.specs.Words.{IsBenchOf, IsCheck, IsFigure, IsPlace, IsProve, IsText, ReadsNothing}
+use Rattle.geo_conditions.specs.Truth.{ProgramValues}
+use Rattle.geo_figure.specs.Drawing.{drawing}
 use Rattle.geo_logs.specs.Ends.{ends_with}
 use Rattle.geo_lowering.specs.Lowering.{IsLowered, LoweredForm}
 use Rattle.geo_lowering.specs.declared.version.Version.TheVariants.{Two}
+use Rattle.geo_place.specs.declared.placed.Placed.{Placed}
+use Rattle.geo_place.specs.Placing.{Places, PlacesNothing, integers_of, text_of}
 use Rattle.geo_program.specs.declared.program_type.Program.{Program}
 use Rattle.geo_program.specs.Programs.{Spells, source_of}
 use Rattle.geo_program.specs.WellFormed.{Source}
@@ -80,6 +85,48 @@ pub record Prints (words : List (List ℕ)) (left left' held held' : Option (Lis
   pub text : List ℕ
   pub readable : IsReadableProof bytes steps text
   pub written : Grows held text held'
+
+-- the words are `place`, or `figure` where it is drawn, with so many steps
+abbrev pub IsPlaceOf : Bool → List (List ℕ) → ℕ → Type 0
+IsPlaceOf false = IsPlace
+IsPlaceOf true = IsFigure
+
+-- placed points as text, or drawn
+abbrev pub shown : Bool → Placed → List ℕ
+shown false placed = text_of placed
+shown true placed = drawing placed
+
+-- the words are `place` or `figure`, the source gave these bytes and no more, and they are values and a program
+pub record ReadsValues (drawn : Bool) (words : List (List ℕ)) (left left' : Option (List ℕ)) (program : Program) (v : ProgramValues) : Type 0 where
+  pub steps : ℕ
+  pub command : IsPlaceOf drawn words steps
+  pub bytes : List ℕ
+  pub input : IsInput program_limit left bytes left'
+  pub rest : List ℕ
+  pub line : HasValuesLine bytes (integers_of v) rest
+  pub spelt : Spells rest program
+
+-- these are the points of the one placement with the values that meets the program, and the sink holds them besides
+pub record PlacesInput (drawn : Bool) (words : List (List ℕ)) (left left' held held' : Option (List ℕ)) : Type 0 where
+  pub program : Program
+  pub v : ProgramValues
+  pub reads : ReadsValues drawn words left left' program v
+  pub placed : Placed
+  pub places : Places (source_of program) v placed
+  pub written : Grows held (shown drawn placed) held'
+
+-- the condition of this number is not met, and no placement with the values meets the program
+pub record PlacesNone (words : List (List ℕ)) (left left' : Option (List ℕ)) (k : ℕ) : Type 0 where
+  pub drawn : Bool
+  pub program : Program
+  pub v : ProgramValues
+  pub reads : ReadsValues drawn words left left' program v
+  pub none : PlacesNothing (source_of program) v k
+
+-- what is told where all is written: a readable proof, placed points, or a drawing
+abbrev pub DoneTells : List (List ℕ) → Option (List ℕ) → Option (List ℕ) → Option (List ℕ) → Option (List ℕ) → Type 0
+DoneTells words left left' held held' =
+    Prints words left left' held held' ⊎ (PlacesInput false words left left' held held' ⊎ PlacesInput true words left left' held held')
 
 -- THE ENDS OF A RUN
 -- writing was cut short: a write failed, or memory ran out

@@ -2,7 +2,7 @@
 use Rattle.std.specs.Prelude.{ℕ, ◌⊎◌, List, map}
 use Rattle.std.specs.String.{string_bytes}
 use Rattle.std.specs.declared.string.String.{String}
-use Rattle.geo_cli.specs.declared.order.Command.TheVariants.{Bench, Check, Prove, Text}
+use Rattle.geo_cli.specs.declared.order.Command.TheVariants.{Bench, Check, Figure, Place, Prove, Text}
 use Rattle.geo_cli.specs.declared.order.Order.{Order}
 use Rattle.geo_cli.specs.Orders.{IsOrder}
 
@@ -21,6 +21,14 @@ IsCheck words steps = IsOrder words (record { command = Check; steps = steps })
 -- the words are `text`, with so many steps
 abbrev pub IsText : List (List ℕ) → ℕ → Type 0
 IsText words steps = IsOrder words (record { command = Text; steps = steps })
+
+-- the words are `place`, with so many steps, which it does not need
+abbrev pub IsPlace : List (List ℕ) → ℕ → Type 0
+IsPlace words steps = IsOrder words (record { command = Place; steps = steps })
+
+-- the words are `figure`, with so many steps, which it does not need
+abbrev pub IsFigure : List (List ℕ) → ℕ → Type 0
+IsFigure words steps = IsOrder words (record { command = Figure; steps = steps })
 
 -- the words are `bench` and this number, with so many steps
 abbrev pub IsBenchOf : List (List ℕ) → ℕ → ℕ → Type 0

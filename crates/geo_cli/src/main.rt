@@ -1,6 +1,6 @@
 //! Proves a statement of plane geometry that standard input spells, and writes the log of the
 //! proof; or checks a log that standard input gives, or writes it as a proof that a person reads;
-//! or proves a generated program.
+//! or proves a generated program; or places or draws the points of a program at given values.
 #![tactic(auto)]
 
 use crate::run::run;
@@ -17,6 +17,7 @@ mod checking;
 mod judging;
 mod numbers;
 mod order;
+mod placing;
 mod printing;
 mod proving;
 mod refusing;
@@ -24,6 +25,7 @@ mod run;
 mod status;
 #[cfg(test)]
 mod tests;
+mod values;
 
 fn main(rt: HostRuntime) -> ExitCode {
     let status = match words_of(&rt) {

@@ -23,6 +23,10 @@ pub enum Command {
     Check,
     /// Print the proof of a log.
     Text,
+    /// Print the points of a program at values.
+    Place,
+    /// Draw the points of a program at values.
+    Figure,
     /// Prove the generated program of this number, from 1 to 60.
     Bench(u32),
 }
@@ -159,6 +163,8 @@ fn plain_command(name: &str) -> Option<Command>
         "prove" => Some(Command::Prove),
         "check" => Some(Command::Check),
         "text" => Some(Command::Text),
+        "place" => Some(Command::Place),
+        "figure" => Some(Command::Figure),
         _ => None,
     }
 }

@@ -8,7 +8,7 @@ ghost use Rattle.geo_cli.specs.Input.{Takes, limit_of};
 ghost use Rattle.geo_cli.specs.Orders.{IsOrder};
 ghost use Rattle.geo_cli.specs.declared.order.Command.TheVariants.{Bench};
 ghost use Rattle.geo_cli.specs.declared.order.Order.{Order};
-ghost use Rattle.geo_cli.specs.Run.{Ends, Prints, VerdictTells};
+ghost use Rattle.geo_cli.specs.Run.{DoneTells, Ends, PlacesNone, VerdictTells};
 ghost use Rattle.geo_cli.specs.Status.{verdict_status};
 ghost use Rattle.geo_cli.specs.Words.{ReadsNothing, bytes_of_words};
 ghost use Rattle.proof_log.specs.declared.log.Verdict.{Verdict};
@@ -17,6 +17,7 @@ use crate::answers::{USAGE, answer};
 use crate::benching::run_bench;
 use crate::checking::run_check;
 use crate::order::{Command, Order, order_of};
+use crate::placing::run_place;
 use crate::printing::run_text;
 use crate::proving::run_prove;
 use crate::status::Status;
@@ -26,8 +27,9 @@ use std::alloc::Global;
 /// Carries out the command that the words are. For `prove` it reads a program from the source to
 /// its end, and writes its log to the sink, each line when it is made. For `check` and `text` it
 /// reads a log to its end, and then writes what it tells, or the log as a proof that a person
-/// reads. For `bench` it reads nothing. It writes nothing before the words and the reading are
-/// done.
+/// reads. For `place` and `figure` it reads values and a program to their end, and then writes
+/// the program's points at these values, or draws them. For `bench` it reads nothing. It writes
+/// nothing before the words and the reading are done.
 pub fn run<S: Source, K: Sink>(
     alloc: Global,
     words: &Vec<String>,
@@ -37,9 +39,12 @@ pub fn run<S: Source, K: Sink>(
     ensures decides { (verdict : Verdict) → result ≡ verdict_status verdict
         → VerdictTells (bytes_of_words words.now.items) (S.left source.old) (S.left source.new)
         (K.held sink.old) (K.held sink.new) verdict }
-    ensures prints { result ≡ Status.Done
-        → Prints (bytes_of_words words.now.items) (S.left source.old) (S.left source.new)
+    ensures done { result ≡ Status.Done
+        → DoneTells (bytes_of_words words.now.items) (S.left source.old) (S.left source.new)
         (K.held sink.old) (K.held sink.new) }
+    ensures unmet { (number : ℕ) → result ≡ Status.Unmet number
+        → PlacesNone (bytes_of_words words.now.items) (S.left source.old) (S.left source.new)
+        number }
     ensures ends { Ends (bytes_of_words words.now.items) (S.left source.old) (S.left source.new)
         (S.faults source.old) (S.faults source.new) (K.faults sink.old) (K.faults sink.new)
         (K.held sink.old) (K.held sink.new) result }
@@ -91,6 +96,8 @@ fn carry_out<S: Source, K: Sink>(
         Command::Prove => run_prove(alloc, order.steps, source, sink),
         Command::Check => run_check(alloc, order.steps, source, sink),
         Command::Text => run_text(alloc, order.steps, source, sink),
+        Command::Place => run_place(alloc, false, source, sink),
+        Command::Figure => run_place(alloc, true, source, sink),
         Command::Bench(number) => run_bench(alloc, number, order.steps, sink),
     }
 }

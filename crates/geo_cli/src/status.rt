@@ -52,8 +52,10 @@ pub enum Status {
     },
     /// The input, or the log, is longer than its limit.
     TooLong,
-    /// A readable proof is written.
+    /// A readable proof, placed points or a drawing is written.
     Done,
+    /// No placement with the values meets the program: the number of the condition that is not met.
+    Unmet(u32),
 }
 
 impl Status {
@@ -75,6 +77,7 @@ impl Status {
             Status::Rejected { .. } => 11,
             Status::TooLong => 12,
             Status::Done => 13,
+            Status::Unmet(_) => 15,
         }
     }
 

@@ -2,7 +2,7 @@
 use Rattle.std.specs.Prelude.{◌≡◌, ℕ, List, [], ◌∷◌, ◌++◌, codes}
 use Rattle.geo_cli.specs.declared.benching.Report.{Report}
 use Rattle.geo_cli.specs.declared.status.Status.{Status}
-use Rattle.geo_cli.specs.Due.{count_line, ending_text}
+use Rattle.geo_cli.specs.Due.{Due, count_line, ending_text}
 use Rattle.geo_cli.specs.Status.{ending_status, verdict_status}
 use Rattle.geo_logs.specs.Ends.{Ending}
 use Rattle.geo_program.specs.WellFormed.{Source}
@@ -29,3 +29,7 @@ summary_report summary = record {
 -- what is told of a log that ends with this line of a stop
 abbrev pub stop_report : Line → Status → Report
 stop_report stop status = record { text = line_text stop ++ 10 ∷ []; status = status }
+
+-- what a report is to write and to answer
+abbrev pub due_of : Report → Due
+due_of report = record { text = report.text; status = report.status }

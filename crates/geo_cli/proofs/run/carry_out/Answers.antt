@@ -1,5 +1,5 @@
 use Rattle.std.proofs.Common.{refl}
-use Rattle.geo_cli.proofs.Answered.{by_bench, by_check, by_prove, by_text}
+use Rattle.geo_cli.proofs.Answered.{by_bench, by_check, by_figure, by_place, by_prove, by_text}
 use Rattle.geo_cli.proofs.run.carry_out.Goals as goal
 
 pub returns-in-Prove-clause-answers : goal.returns-in-Prove-clause-answers
@@ -13,6 +13,12 @@ returns-in-Check-clause-answers g c = by_check _ _ _ _ _ _ _ _ _ _ _ c.in-Check.
 
 pub returns-in-Text-clause-answers : goal.returns-in-Text-clause-answers
 returns-in-Text-clause-answers g c = by_text _ _ _ _ _ _ _ _ _ _ _ c.in-Text.is c.run_text.ensures.answers
+
+pub returns-in-Place-clause-answers : goal.returns-in-Place-clause-answers
+returns-in-Place-clause-answers g c = by_place _ _ _ _ _ _ _ _ _ _ _ c.in-Place.is c.run_place.ensures.answers
+
+pub returns-in-Figure-clause-answers : goal.returns-in-Figure-clause-answers
+returns-in-Figure-clause-answers g c = by_figure _ _ _ _ _ _ _ _ _ _ _ c.in-Figure.is c.run_place-in-Figure.ensures.answers
 
 pub returns-in-Bench-clause-answers : goal.returns-in-Bench-clause-answers
 returns-in-Bench-clause-answers g c = by_bench _ _ _ _ _ _ _ _ _ _ _ _ c.in-Bench.is refl c.run_bench.ensures.answers

@@ -1,0 +1,186 @@
+//! The commands `place` and `figure`: values and a program are read, and the program's points at
+//! these values are written.
+ghost use Rattle.std.specs.Prelude.{◌≡◌, ◌≢◌, ◌+◌, ◌≤◌, ◌<◌, ◌^◌, All, IfOk, length, true};
+ghost use Rattle.std.specs.Prelude.{unsigned_abs};
+ghost use Rattle.geo_cli.specs.Due.{IsDueForValues, IsRestDue, IsValuesDue, TellsPoints};
+ghost use Rattle.geo_cli.specs.Due.{fault_due, stop_due, unmet_line};
+ghost use Rattle.geo_cli.specs.Inner.Answering.{AnswersDue, AnswersInput};
+ghost use Rattle.geo_cli.specs.Inner.Telling.{due_of};
+ghost use Rattle.geo_cli.specs.Input.{Takes, program_limit};
+ghost use Rattle.geo_cli.specs.Values.{values_line};
+ghost use Rattle.geo_place.specs.Placing.{IsDrawable};
+
+use crate::answers::{TOO_LONG, answer, push_numbered, syntax_line};
+use crate::benching::Report;
+use crate::status::Status;
+use crate::values::split_values;
+use geo_base::{ReadError, Sink, Source, Text, read_all};
+use geo_figure::{DrawError, draw};
+use geo_lexer::Fault;
+use geo_parser::{ParseError, parse};
+use geo_place::{Ints, PlaceError, Placed, place, placed_text, wanted};
+use geo_points::NoMemory;
+use geo_poly::Which;
+use geo_program::Program;
+use proof_log::{Line, write_line};
+use std::alloc::Global;
+
+/// The most bytes of the values and the program.
+const PROGRAM_LIMIT: u64 = 1_048_576;
+
+/// Reads values and a program to their end, and writes the program's points at these values, as
+/// text or drawn, or tells why there are none.
+pub fn run_place<S: Source, K: Sink>(
+    alloc: Global,
+    drawn: bool,
+    source: &mut S,
+    sink: &mut K,
+) -> Status
+    ensures answers { AnswersInput program_limit (IsDueForValues drawn)
+        (S.left source.old) (S.left source.new) (S.faults source.old) (S.faults source.new)
+        (K.faults sink.old) (K.faults sink.new) (K.held sink.old) (K.held sink.new) result }
+    ensures unwritten { result ≡ Status.ReadFault → sink.new ≡ sink.old }
+    ensures taken { Takes program_limit (S.left source.old) (S.left source.new) }
+    ensures source_faults { S.faults source.old ≤ S.faults source.new }
+    ensures sink_faults { K.faults sink.old ≤ K.faults sink.new }
+{
+    match read_all(alloc, source, PROGRAM_LIMIT) {
+        Ok(bytes) => place_bytes(alloc, &bytes, drawn, sink),
+        Err(ReadError::TooLong) => answer(sink, TOO_LONG, Status::TooLong),
+        Err(ReadError::ReadFault) => Status::ReadFault,
+        Err(ReadError::NoMemory) => Status::NoMemory,
+    }
+}
+
+/// Writes what the bytes call for.
+fn place_bytes<K: Sink>(alloc: Global, bytes: &[u8], drawn: bool, sink: &mut K) -> Status
+    requires { length bytes.now ≤ 1048576 }
+    ensures answers { AnswersDue (IsDueForValues drawn bytes.now) (K.faults sink.old)
+        (K.faults sink.new) (K.held sink.old) (K.held sink.new) result }
+    ensures reads { result ≢ Status.ReadFault }
+    ensures faults { K.faults sink.old ≤ K.faults sink.new }
+{
+    let Ok(report) = report_bytes(alloc, bytes, drawn) else {
+        return Status::NoMemory;
+    };
+    answer(sink, &report.text.bytes, report.status)
+}
+
+/// What is to be written for the bytes.
+fn report_bytes(alloc: Global, bytes: &[u8], drawn: bool) -> Result<Report, NoMemory>
+    requires { length bytes.now ≤ 1048576 }
+    ensures { IfOk result (λ r. IsDueForValues drawn bytes.now (due_of r)) }
+{
+    match split_values(alloc, bytes)? {
+        Some((values, rest)) => {
+            let before = bytes.len() - rest.len();
+            report_rest(alloc, &values, before as u64, rest, drawn)
+        }
+        None => report_fault(alloc, 13, 0),
+    }
+}
+
+/// What is to be written for values and the bytes behind them, where so many bytes stand before.
+fn report_rest(
+    alloc: Global,
+    values: &Ints,
+    before: u64,
+    rest: &[u8],
+    drawn: bool,
+) -> Result<Report, NoMemory>
+    requires before { before ≡ length (values_line values.now) }
+    requires few { before + length rest.now ≤ 1048576 }
+    requires short { All (λ z. unsigned_abs z < 2 ^ 127) values.now }
+    ensures { IfOk result (λ r. IsRestDue drawn values.now rest.now (due_of r)) }
+{
+    match parse(alloc, rest) {
+        Ok(program) => report_program(alloc, &program, values, drawn),
+        Err(ParseError::Syntax(fault)) => report_fault(alloc, fault.refusal, before + fault.place),
+        Err(ParseError::NoMemory) => Err(NoMemory),
+    }
+}
+
+/// What is to be written for values and a program.
+fn report_program(
+    alloc: Global,
+    program: &Program,
+    values: &Ints,
+    drawn: bool,
+) -> Result<Report, NoMemory>
+    requires { All (λ z. unsigned_abs z < 2 ^ 127) values.now }
+    ensures { IfOk result (λ r. IsValuesDue drawn program.now values.now (due_of r)) }
+{
+    if values.items.len() as u64 != wanted(program) {
+        return report_fault(alloc, 14, 0);
+    }
+    match place(alloc, program, values) {
+        Ok(placed) => report_points(alloc, &placed, drawn),
+        Err(PlaceError::Unmet(number)) => report_unmet(alloc, number),
+        Err(PlaceError::TooLarge { line }) => report_stop(alloc, line),
+        Err(PlaceError::NoMemory) => Err(NoMemory),
+    }
+}
+
+/// What is to be written for placed points.
+fn report_points(alloc: Global, placed: &Placed, drawn: bool) -> Result<Report, NoMemory>
+    requires { All IsDrawable placed.now.points }
+    ensures { IfOk result (λ r. TellsPoints drawn placed.now (due_of r)) }
+{
+    if drawn {
+        return report_drawing(alloc, placed);
+    }
+    Ok(Report {
+        text: placed_text(alloc, placed)?,
+        status: Status::Done,
+    })
+}
+
+/// What is to be written for a drawing of placed points.
+fn report_drawing(alloc: Global, placed: &Placed) -> Result<Report, NoMemory>
+    requires { All IsDrawable placed.now.points }
+    ensures { IfOk result (λ r. TellsPoints true placed.now (due_of r)) }
+{
+    match draw(alloc, placed) {
+        Ok(text) => Ok(Report {
+            text,
+            status: Status::Done,
+        }),
+        Err(DrawError::TooLarge { line }) => report_stop(alloc, line),
+        Err(DrawError::NoMemory) => Err(NoMemory),
+    }
+}
+
+/// What is to be written for a refusal at this place.
+fn report_fault(alloc: Global, refusal: u32, place: u64) -> Result<Report, NoMemory>
+    ensures { IfOk result (λ r. due_of r ≡ fault_due refusal place) }
+{
+    Ok(Report {
+        text: syntax_line(alloc, Fault { refusal, place })?,
+        status: Status::Syntax { refusal, place },
+    })
+}
+
+/// What is to be written for the condition of this number, which is not met.
+fn report_unmet(alloc: Global, number: u32) -> Result<Report, NoMemory>
+    ensures { IfOk result (λ r.
+        due_of r ≡ record { text = unmet_line number; status = Status.Unmet number }) }
+{
+    let mut bytes = Vec::new(alloc);
+    push_numbered(alloc, &mut bytes, b"unmet ", number as u64)?;
+    bytes.push(b'\n')?;
+    Ok(Report {
+        text: Text { bytes },
+        status: Status::Unmet(number),
+    })
+}
+
+/// What is to be written for a number that is too large, at this line.
+fn report_stop(alloc: Global, line: u64) -> Result<Report, NoMemory>
+    ensures { IfOk result (λ r. due_of r ≡ stop_due line) }
+{
+    let which = Which::Norm;
+    Ok(Report {
+        text: write_line(alloc, &Line::StopTooLarge { line, which })?,
+        status: Status::TooLarge { line, which },
+    })
+}

@@ -1,0 +1,5 @@
+pub mod BoundLaws
+pub mod ShareLaws
+pub mod FrameTurns
+pub mod PictureLaws
+pub mod OneDrawing
