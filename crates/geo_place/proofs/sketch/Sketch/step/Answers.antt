@@ -35,4 +35,4 @@ returns-in-Weights c =
     subst (λ s. AreResults c.weighted.result (step_spot P c.args.y.0 (step_form nodes s))) (sym c.in-Weights.is)
     (c.weighted.ensures (P.point c.in-Weights.o.0) (P.point c.in-Weights.u.0) (P.point c.in-Weights.v.0) (reckoned P (tree_of nodes c.in-Weights.r))
     (reckoned P (tree_of nodes c.in-Weights.s)) c.point-in-Weights.ensures c.point-in-Weights-2.ensures c.point-in-Weights-3.ensures
-    c.term-in-Weights.ensures c.term-in-Weights-2.ensures)
+    c.term-r.ensures c.term-s.ensures)
