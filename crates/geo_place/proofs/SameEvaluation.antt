@@ -12,7 +12,7 @@ use Rattle.geo_program.specs.declared.names.NameKind.TheVariants as kind
 use Rattle.geo_program.specs.Names.{names_of}
 use Rattle.geo_program.specs.Spelling.{SameSource}
 use Rattle.geo_program.specs.declared.statements.Statement.{Statement}
-use Rattle.geo_program.specs.WellFormed.{IsWellFormed, Source, empty_scope}
+use Rattle.geo_program.specs.WellFormed.{IsWellFormed, Source}
 use Rattle.geo_lowering.specs.Building.{forgotten}
 use Rattle.geo_lowering.specs.Conditions.{Condition}
 use Rattle.geo_lowering.specs.Counting.{points_named}
@@ -269,7 +269,7 @@ module _ (p q : Source) (s : SameSource p q) (w : IsWellFormed p) (v : ProgramVa
       let there = forgotten Two q k.reckoned in
       let near = h.only.unique there (values_there q p t there there v k.only.has) (((same_programs_mean_the_same p q s).meets there).1 k.only.meets) in
       let long : length a.points ≡ points_named p.commands =
-      sym (length-map a.points (λ (c : At). c.name)) ∙ ap (λ (ns : List (List ℕ)). length ns) h.told.names ∙ (let c = names_counted p.nodes empty_scope p.names p.commands 0 w.commands in omega (arith, c)) in
+      sym (length-map a.points (λ (c : At). c.name)) ∙ ap (λ (ns : List (List ℕ)). length ns) h.told.names ∙ sym (names_counted p w) in
       let points = same_ats a.points b.points (h.told.names ∙ ap (λ ns. names_of kind.Point ns) s.names ∙ sym k.told.names) (h.told.lines ∙ same_point_lines p q s ∙ sym k.told.lines)
       (λ i c d e f.
       let one = h.told.triples i c e in
