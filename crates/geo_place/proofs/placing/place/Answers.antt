@@ -72,11 +72,12 @@ named_points-requires c =
     let w = program_well_formed c.args.program.now in
     let q : 0 + length (point_lines 1 p.commands) ≡ length (point_lines 1 p.commands) = omega arith in
     let names = names_counted p w in
-    let same = ap (λ (ns : List Name). length (names_of kind.Point ns)) (sym c.as_slice-2.ensures) in (
-      ap (λ (ls : List ℕ). length ls) c.deref-2.ensures.value ∙ ap (λ (ls : List ℕ). length ls) c.in_ok-lines.ensures
-          ∙ ap (λ (cs : List Command). length (point_lines 1 cs)) c.as_slice.ensures ∙ sym (lines_counted 0 1 p.commands ∙ q) ∙ names ∙ same,
-      ap (λ (ts : List Triple). length ts) c.deref-3.ensures.value ∙ c.in_ok-evaluated.ensures.told ∙ names ∙ same,
-    )
+    let same = ap (λ (ns : List Name). length (names_of kind.Point ns)) (sym c.as_slice-2.ensures) in
+    record {
+      lines = ap (λ (ls : List ℕ). length ls) c.deref-2.ensures.value ∙ ap (λ (ls : List ℕ). length ls) c.in_ok-lines.ensures
+          ∙ ap (λ (cs : List Command). length (point_lines 1 cs)) c.as_slice.ensures ∙ sym (lines_counted 0 1 p.commands ∙ q) ∙ names ∙ same;
+      triples = ap (λ (ts : List Triple). length ts) c.deref-3.ensures.value ∙ c.in_ok-evaluated.ensures.told ∙ names ∙ same;
+    }
 
 pub returns-clause-answer : goal.returns-clause-answer
 returns-clause-answer c = λ v l e.
