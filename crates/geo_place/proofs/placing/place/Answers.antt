@@ -1,5 +1,5 @@
 use Rattle.std.proofs.Common.{◌≡◌, ◌+◌, ◌<◌, ◌^◌, ℕ, ℤ, List, [], All, length, map, unsigned_abs, refl, sym, ◌∙◌, ap, subst, arith}
-use Rattle.std.specs.Prelude.{Result, Ok, Err, Some, slice_get}
+use Rattle.std.specs.Prelude.{Ok, Err}
 use Rattle.geo_program.proofs.Propositions.{program_well_formed}
 use Rattle.geo_program.specs.Names.{names_of}
 use Rattle.geo_program.specs.Programs.{source_of}
@@ -12,7 +12,6 @@ use Rattle.geo_conditions.specs.Lists.{Found, IsProblem, all_found, condition_it
 use Rattle.geo_conditions.specs.Problems.{form_of_problem}
 use Rattle.geo_place.specs.declared.placed.Placed.{Placed}
 use Rattle.geo_place.specs.declared.triples.Triple.{Triple}
-use Rattle.geo_place.specs.Inner.{IsTripleOf, triple_at}
 use Rattle.geo_place.specs.Placing.{IsAnswer, point_lines, values_wanted}
 use Rattle.geo_place.proofs.Existence.{placement_least, placement_reckoned, reckoned_placement}
 use Rattle.geo_place.proofs.PlaceAnswers.{all_drawable, answer_placed, answer_stopped, are_told, lines_counted, names_counted, refused_answer}
