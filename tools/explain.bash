@@ -96,13 +96,18 @@ explain() {
     11:rejected) explain_rejection "$1" "$2" "${words[1]}" "${words[2]}" ;;
     3:*) echo "geo: the program has no such words: $3 (geo --help)" ;;
     6:*)
+      if [ "$3" = place ] || [ "$3" = figure ]; then
+        echo "$1: not placed: at line ${words[2]-} of the program, written as the program writes it, a number does not fit 128 bits"
+        hint "smaller numbers in the line 'at' may help"
+        return
+      fi
       echo "$1: undecided: a number or a degree would pass the limit"
       hint "more steps do not help: say it in another way (docs/GUIDE.md)"
       ;;
     7:*) explain_spent "$1" "$3" ;;
     12:*)
       if [ "$3" = check ] || [ "$3" = text ] || [ "$(wc -c <"$2")" -gt 1048576 ]; then
-        echo "$1: too long: a program has at most 1,048,576 bytes, a log at most 67,108,864"
+        echo "$1: too long: a program has at most 1,048,576 bytes, with a line of numbers before it too, and a log at most 67,108,864"
       else
         echo "$1: undecided: its log would be longer than 67,108,864 bytes"
         hint "more steps do not help: say it in another way (docs/GUIDE.md)"
