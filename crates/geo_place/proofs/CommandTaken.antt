@@ -5,10 +5,10 @@ use Rattle.std.specs.List.{AllByRecursion}
 use Rattle.geo_terms.specs.Stores.{Store}
 use Rattle.geo_program.specs.declared.commands.Command.{Command}
 use Rattle.geo_program.specs.declared.names.NameKind.TheVariants as kind
-use Rattle.geo_program.specs.Names.{is_kind}
 use Rattle.geo_program.specs.WellFormed.{Source}
-use Rattle.geo_lowering.specs.Counting.{named, next_point}
+use Rattle.geo_lowering.specs.Counting.{is_made, named, next_point}
 use Rattle.geo_lowering.specs.Lowering.{steps_of}
+use Rattle.geo_lowering.specs.declared.version.Version.TheVariants.{Two}
 use Rattle.geo_conditions.specs.declared.items.Item.{Item}
 use Rattle.geo_conditions.specs.declared.problem.Problem.{Problem}
 use Rattle.geo_conditions.specs.Lists.{condition_item, item_form}
@@ -32,7 +32,7 @@ module _ (run : Run) (problem : Problem) (ints : List ℤ) (h : IsRun run proble
   Passed ts = AllByRecursion (Passes p run.placed) ts
 
   abbrev past : ℕ
-  past = next_point (n p h.formed k c at) c
+  past = next_point Two (n p h.formed k c at) c
 
   -- the items that are tested before the steps, and behind them
   abbrev pub front : List Item
@@ -44,13 +44,13 @@ module _ (run : Run) (problem : Problem) (ints : List ℤ) (h : IsRun run proble
   middle_is : end - late ≡ middle run problem ints h k c at old t
   middle_is = let a = ends.end_same in let b = ends.late_same in omega (arith, a, b)
 
-  front_items : map (item_form problem.steps.nodes) front ≡ map (condition_item p) (first run problem ints h k c at old t)
+  front_items : map (item_form problem.steps.nodes) front ≡ map (condition_item Two p) (first run problem ints h k c at old t)
   front_items =
       ap (λ (i : ℕ). map (item_form problem.steps.nodes) (take (i - old.tested) (drop old.tested items))) middle_is
       ∙ ap (λ (is : List Item). map (item_form problem.steps.nodes) (take (middle run problem ints h k c at old t - old.tested) (drop old.tested is))) ends.same
       ∙ first_items run problem ints h k c at old t
 
-  back_items : map (item_form problem.steps.nodes) back ≡ map (condition_item p) (second run problem ints h k c at old t)
+  back_items : map (item_form problem.steps.nodes) back ≡ map (condition_item Two p) (second run problem ints h k c at old t)
   back_items =
       ap (λ (i : ℕ). map (item_form problem.steps.nodes) (take (end - i) (drop i items))) middle_is
       ∙ ap (λ (i : ℕ). map (item_form problem.steps.nodes) (take (i - middle run problem ints h k c at old t) (drop (middle run problem ints h k c at old t) items))) ends.end_same
@@ -63,7 +63,7 @@ module _ (run : Run) (problem : Problem) (ints : List ℤ) (h : IsRun run proble
 
   module _ (met : AllByRecursion (IsItemMet old.sketch nodes) front) (after : ℕ) (behind : after ≡ past) where
     abbrev pub steps : ℕ → List LineTurn
-    steps i = at_line line (makes (length old.sketch.points.items) (take (i - length old.sketch.points.items) (drop (length old.sketch.points.items) (steps_of p))))
+    steps i = at_line line (makes (length old.sketch.points.items) (take (i - length old.sketch.points.items) (drop (length old.sketch.points.items) (steps_of Two p))))
 
     abbrev N : ℕ
     N = length old.sketch.points.items
@@ -74,8 +74,8 @@ module _ (run : Run) (problem : Problem) (ints : List ℤ) (h : IsRun run proble
     early_passed : Passed (E p h.formed k c at)
     early_passed = early_pass run problem ints h k c at old t front front_items met_here
 
-    steps_are : steps after ≡ at_line (suc k) (makes N (take (past - N) (drop N (steps_of p))))
-    steps_are = ap (λ (i : ℕ). steps i) behind ∙ ap (λ (l : ℕ). at_line l (makes N (take (past - N) (drop N (steps_of p))))) counted
+    steps_are : steps after ≡ at_line (suc k) (makes N (take (past - N) (drop N (steps_of Two p))))
+    steps_are = ap (λ (i : ℕ). steps i) behind ∙ ap (λ (l : ℕ). at_line l (makes N (take (past - N) (drop N (steps_of Two p))))) counted
 
     pub steps_fail : (error : PlaceError) → Stops run (steps after) error → Stops run (turns_of p) error
     steps_fail error s = make_fail run problem ints h k c at old t error early_passed (subst (λ (ts : List LineTurn). Stops run ts error) steps_are s)
@@ -87,10 +87,10 @@ module _ (run : Run) (problem : Problem) (ints : List ℤ) (h : IsRun run proble
       steps_passed : Passed (K p h.formed k c at)
       steps_passed = make_pass run problem ints h k c at old t (subst (λ (ts : List LineTurn). Passed ts) steps_are passed)
 
-      pub last_there : is_kind (named c) kind.Point ≡ true → 1 ≤ length new.points.items
+      pub last_there : is_made kind.Point (named c) ≡ true → 1 ≤ length new.points.items
       last_there b = some_point run problem ints h k c at old t new s made b
 
-      pub tell_fails : is_kind (named c) kind.Point ≡ true → (error : PlaceError)
+      pub tell_fails : is_made kind.Point (named c) ≡ true → (error : PlaceError)
           → ((q : Position) → slice_get new.points.items (length new.points.items - 1) ≡ Some q → IsTripleStop q line error) → Stops run (turns_of p) error
       tell_fails b error f =
           let l = last_there b in
@@ -102,10 +102,10 @@ module _ (run : Run) (problem : Problem) (ints : List ℤ) (h : IsRun run proble
         pub same : sketch ≡ new
         pub told : IsTold run problem ints h k c at old t new s made triples
 
-      pub none_told : is_kind (named c) kind.Point ≡ false → TellsAll new old.triples.items
+      pub none_told : is_made kind.Point (named c) ≡ false → TellsAll new old.triples.items
       none_told b = record { same = refl; told = told_none run problem ints h k c at old t new s made b }
 
-      pub one_told : is_kind (named c) kind.Point ≡ true → (sketch : Sketch) → sketch ≡ new → (triples : List Triple)
+      pub one_told : is_made kind.Point (named c) ≡ true → (sketch : Sketch) → sketch ≡ new → (triples : List Triple)
           → ((q : Position) → slice_get new.points.items (length new.points.items - 1) ≡ Some q → TellsTriple old.triples.items triples q) → TellsAll sketch triples
       one_told b sketch e triples f =
           let l = last_there b in

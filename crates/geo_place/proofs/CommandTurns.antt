@@ -8,7 +8,7 @@ use Rattle.geo_points.specs.declared.ids.PointId.{PointId}
 use Rattle.geo_terms.specs.Stores.{Store}
 use Rattle.geo_terms.specs.Trees.{Tree, integer_leaf, parameter_leaf, area_leaf, pythagoras_leaf, ratio_leaf, negation, addition, subtraction, multiplication, division}
 use Rattle.geo_program.specs.declared.commands.Command.{Command}
-use Rattle.geo_program.specs.declared.commands.Command.TheVariants.{Point, Param, Line, Parallel, Perp, Med, Intersec, Inter, Foot, Pratio, Tratio, Online, Lratio, Midpoint, Translate, Symmetric, Reflect, Circumcenter, Orthocenter, Centroid, Oncircle, Second, Cc, Inverse}
+use Rattle.geo_program.specs.declared.commands.Command.TheVariants.{Point, Param, Line, Parallel, Perp, Med, Intersec, Inter, Foot, Pratio, Tratio, Online, Lratio, Midpoint, Translate, Symmetric, Reflect, Circumcenter, Orthocenter, Centroid, Oncircle, Second, Cc, Inverse, Weights, AssumeDifferent, AssumeNotCollinear, AssumeNotParallel}
 use Rattle.geo_program.specs.declared.names.NameKind.TheVariants as kind
 use Rattle.geo_program.specs.WellFormed.{IsWellFormed, Source}
 use Rattle.geo_lowering.specs.Conditions.{Condition, early_conditions, late_conditions, command_conditions}
@@ -22,6 +22,7 @@ use Rattle.geo_lowering.proofs.Fixed.{past_all}
 use Rattle.geo_lowering.proofs.FormLaws.{past}
 use Rattle.geo_lowering.proofs.Laying.{AreLaid, AreNamed, IsLaid, IsNamed, laid_program, named_program}
 use Rattle.geo_lowering.proofs.Values.{IsOver}
+use Rattle.geo_lowering.specs.declared.version.Version.TheVariants.{Two}
 use Rattle.geo_conditions.specs.Lists.{Found, IsListed, all_found, found_at, found_from}
 use Rattle.geo_conditions.specs.Statements.{statement_conditions, statement_goals}
 use Rattle.geo_conditions.specs.Terms.{condition_term}
@@ -41,22 +42,22 @@ points_append : (x : ℕ) (bs cs : List Command) → points_from x (bs ++ cs) �
 points_append x [] cs = refl
 points_append x (b ∷ bs) cs = points_append (counted kind.Point (named b) x) bs cs
 
-pub past_append : (n : ℕ) (bs cs : List Command) → points_past n (bs ++ cs) ≡ points_past (points_past n bs) cs
+pub past_append : (n : ℕ) (bs cs : List Command) → points_past Two n (bs ++ cs) ≡ points_past Two (points_past Two n bs) cs
 past_append n [] cs = refl
-past_append n (b ∷ bs) cs = past_append (next_point n b) bs cs
+past_append n (b ∷ bs) cs = past_append (next_point Two n b) bs cs
 
 numbers_append : (m : ℕ) (bs cs : List Command) → numbers_from m (bs ++ cs) ≡ numbers_from (numbers_from m bs) cs
 numbers_append m [] cs = refl
 numbers_append m (b ∷ bs) cs = numbers_append (next_number m b) bs cs
 
 turns_append : (p : Source) (bs cs : List Command) (line x n m : ℕ)
-    → turns_from p line x n m (bs ++ cs) ≡ turns_from p line x n m bs ++ turns_from p (line + length bs) (points_from x bs) (points_past n bs) (numbers_from m bs) cs
+    → turns_from p line x n m (bs ++ cs) ≡ turns_from p line x n m bs ++ turns_from p (line + length bs) (points_from x bs) (points_past Two n bs) (numbers_from m bs) cs
 turns_append p [] cs line x n m = let q : line ≡ line + 0 = omega arith in ap (λ (l : ℕ). turns_from p l x n m cs) q
 turns_append p (b ∷ bs) cs line x n m =
     let here = at_line line (command_turns p x n m b) in
-    let x' = counted kind.Point (named b) x in let n' = next_point n b in let m' = next_number m b in
+    let x' = counted kind.Point (named b) x in let n' = next_point Two n b in let m' = next_number m b in
     let q : suc line + length bs ≡ line + suc (length bs) = omega arith in
-    let last : ℕ → List LineTurn = λ l. turns_from p l (points_from x' bs) (points_past n' bs) (numbers_from m' bs) cs in
+    let last : ℕ → List LineTurn = λ l. turns_from p l (points_from x' bs) (points_past Two n' bs) (numbers_from m' bs) cs in
     ap (λ (ts : List LineTurn). here ++ ts) (turns_append p bs cs (suc line) x' n' m')
     ∙ sym (append_assoc here (turns_from p (suc line) x' n' m' bs) (last (suc line + length bs)))
     ∙ ap (λ (l : ℕ). here ++ turns_from p (suc line) x' n' m' bs ++ last l) q
@@ -80,10 +81,10 @@ named_front : (nodes : Store) (bs cs : List Command) (x y j : ℕ) → AreNamed 
 named_front nodes [] cs x y j h = tt
 named_front nodes (b ∷ bs) cs x y j h = (h.0, named_front nodes bs cs _ _ _ h.1)
 
-laid_here : (l : Layout) (bs cs : List Command) (c : Command) (x y j n m : ℕ) → AreLaid l x y j n m (bs ++ c ∷ cs)
-    → IsLaid l (points_from x bs) (params_past y bs) (lines_past j bs) (points_past n bs) (numbers_from m bs) c
+laid_here : (l : Layout) (bs cs : List Command) (c : Command) (x y j n m : ℕ) → AreLaid Two l x y j n m (bs ++ c ∷ cs)
+    → IsLaid Two l (points_from x bs) (params_past y bs) (lines_past j bs) (points_past Two n bs) (numbers_from m bs) c
 laid_here l [] cs c x y j n m h = h.0
-laid_here l (b ∷ bs) cs c x y j n m h = laid_here l bs cs c _ _ _ (next_point n b) (next_number m b) h.1
+laid_here l (b ∷ bs) cs c x y j n m h = laid_here l bs cs c _ _ _ (next_point Two n b) (next_number m b) h.1
 
 over_wider : (n m m' : ℕ) → m ≤ m' → (e : Tree) → IsOver n m e → IsOver n m' e
 over_wider n m m' l (integer_leaf z) h = h
@@ -134,6 +135,10 @@ late_new line x y j old more (Circumcenter a b c) h l = ap (λ (fs : List Found)
 late_new line x y j old more (Orthocenter a b c) h l = ap (λ (fs : List Found). length fs) (none_fresh key old more l)
 late_new line x y j old more (Centroid a b c) h l = ap (λ (fs : List Found). length fs) (none_fresh key old more l)
 late_new line x y j old more (Inverse p o a) h l = ap (λ (fs : List Found). length fs) (none_fresh key old more l)
+late_new line x y j old more (Weights a b c r s) h l = ap (λ (fs : List Found). length fs) (none_fresh key old more l)
+late_new line x y j old more (AssumeDifferent a b) h l = ap (λ (fs : List Found). length fs) (none_fresh key old more l)
+late_new line x y j old more (AssumeNotCollinear a b c) h l = ap (λ (fs : List Found). length fs) (none_fresh key old more l)
+late_new line x y j old more (AssumeNotParallel a b c d) h l = ap (λ (fs : List Found). length fs) (none_fresh key old more l)
 
 -- LINES
 at_one_line : (line : ℕ) (cs : List Condition) → AllByRecursion (λ f. f.line ≡ line) (found_at line cs)
@@ -151,10 +156,10 @@ later_from nodes (c ∷ cs) line line' x l =
     (later_at line line' l (command_conditions nodes (record { 0 = x }) c)) (later_from nodes cs line (suc line') (counted kind.Point (named c) x) (omega arith))
 
 -- how many points there are after the command
-pub after_at : (n : ℕ) (cs : List Command) (k : ℕ) (c : Command) → slice_get cs k ≡ Some c → slice_get (points_after n cs) k ≡ Some (next_point (points_past n (take k cs)) c)
+pub after_at : (n : ℕ) (cs : List Command) (k : ℕ) (c : Command) → slice_get cs k ≡ Some c → slice_get (points_after Two n cs) k ≡ Some (next_point Two (points_past Two n (take k cs)) c)
 after_at n [] k c e = cc
-after_at n (b ∷ bs) zero c e = ap (λ (o : Option Command). elim o [ None ↦ Some (next_point n b) | Some d ↦ Some (next_point n d) ]) e
-after_at n (b ∷ bs) (suc k) c e = after_at (next_point n b) bs k c e
+after_at n (b ∷ bs) zero c e = ap (λ (o : Option Command). elim o [ None ↦ Some (next_point Two n b) | Some d ↦ Some (next_point Two n d) ]) e
+after_at n (b ∷ bs) (suc k) c e = after_at (next_point Two n b) bs k c e
 
 -- THE COMMAND AT A PLACE
 module _ (p : Source) (w : IsWellFormed p) (k : ℕ) (c : Command) (at : slice_get p.commands k ≡ Some c) where
@@ -185,13 +190,13 @@ module _ (p : Source) (w : IsWellFormed p) (k : ℕ) (c : Command) (at : slice_g
   long = length-take-le k p.commands (let b = below_all in omega arith)
 
   abbrev l : Layout
-  l = layout_of p.commands
+  l = layout_of Two p.commands
 
   abbrev pub x : ℕ
   x = points_from 0 before
 
   abbrev pub n : ℕ
-  n = points_past 0 before
+  n = points_past Two 0 before
 
   abbrev pub m : ℕ
   m = numbers_from 0 before
@@ -215,7 +220,7 @@ module _ (p : Source) (w : IsWellFormed p) (k : ℕ) (c : Command) (at : slice_g
   late = late_conditions (record { 0 = x }) c
 
   abbrev pub steps : List StepForm
-  steps = command_steps l p.nodes n m c
+  steps = command_steps Two l p.nodes n m c
 
   line_is : 1 + length before ≡ line
   line_is = let e = long in omega arith
@@ -228,7 +233,7 @@ module _ (p : Source) (w : IsWellFormed p) (k : ℕ) (c : Command) (at : slice_g
   K = at_line line (makes n steps)
 
   abbrev pub W : List LineTurn
-  W = at_line line (gathered kind.Point (named c) (write (further n (hidden c))) [])
+  W = at_line line (gathered kind.Point (named c) (write (further n (hidden Two c))) [])
 
   abbrev pub L : List LineTurn
   L = at_line line (map test late)
@@ -238,14 +243,14 @@ module _ (p : Source) (w : IsWellFormed p) (k : ℕ) (c : Command) (at : slice_g
 
   turns_are : at_line line (command_turns p x n m c) ≡ E ++ K ++ W ++ L
   turns_are =
-      let e = map test early in let s = makes n steps in let g = gathered kind.Point (named c) (write (further n (hidden c))) [] in let f = map test late in
+      let e = map test early in let s = makes n steps in let g = gathered kind.Point (named c) (write (further n (hidden Two c))) [] in let f = map test late in
       line_append line (e ++ s ++ g) f ∙ ap (λ (ts : List LineTurn). ts ++ L) (line_append line (e ++ s) g) ∙ ap (λ (ts : List LineTurn). ts ++ W ++ L) (line_append line e s)
 
   last_line : ℕ
   last_line = suc (length p.commands)
 
   abbrev others : List LineTurn
-  others = turns_from p (suc line) (counted kind.Point (named c) x) (next_point n c) (next_number m c) rest
+  others = turns_from p (suc line) (counted kind.Point (named c) x) (next_point Two n c) (next_number m c) rest
 
   abbrev statement_turns : List LineTurn
   statement_turns = at_line (suc (length p.commands)) (map test (statement_conditions p.nodes p.statement))
@@ -301,11 +306,11 @@ module _ (p : Source) (w : IsWellFormed p) (k : ℕ) (c : Command) (at : slice_g
         (each_append P done (E ++ K ++ W ++ L) d (each_append P (E ++ K ++ W) L (each_append P (E ++ K) W (each_append P E K a b) f) g))
 
   -- SCOPES
-  scopes : (placed : Placement) → Behind p placed 0 0 0 0 0 before c
-  scopes placed = behind p placed before rest c 0 0 0 0 0 (no_bounds l) (subst (λ cs. AreNamed p.nodes 0 0 0 cs) commands_are (named_program p w)) (subst (λ cs. AreLaid l 0 0 0 0 0 cs) commands_are (laid_program p.commands))
+  scopes : (placed : Placement) → Behind Two p placed 0 0 0 0 0 before c
+  scopes placed = behind Two p placed before rest c 0 0 0 0 0 (no_bounds l) (subst (λ cs. AreNamed p.nodes 0 0 0 cs) commands_are (named_program p w)) (subst (λ cs. AreLaid Two l 0 0 0 0 0 cs) commands_are (laid_program Two p.commands))
 
-  pub laid : IsLaid l x y j n m c
-  laid = laid_here l before rest c 0 0 0 0 0 (subst (λ cs. AreLaid l 0 0 0 0 0 cs) commands_are (laid_program p.commands))
+  pub laid : IsLaid Two l x y j n m c
+  laid = laid_here l before rest c 0 0 0 0 0 (subst (λ cs. AreLaid Two l 0 0 0 0 0 cs) commands_are (laid_program Two p.commands))
 
   module _ (placed : Placement) where
     bounds : Bounds l x y j n m
@@ -331,44 +336,44 @@ module _ (p : Source) (w : IsWellFormed p) (k : ℕ) (c : Command) (at : slice_g
     pub early_terms : AllByRecursion (λ d. IsOver n M (condition_term l d)) early
     early_terms = terms_over x y j n m bounds numbers_few early (early_over p.nodes x y j c names)
 
-    pub late_terms : AllByRecursion (λ d. IsOver (next_point n c) M (condition_term l d)) late
+    pub late_terms : AllByRecursion (λ d. IsOver (next_point Two n c) M (condition_term l d)) late
     late_terms =
         let X = counted kind.Point (named c) x in let Y = counted kind.Param (named c) y in let J = counted kind.Line (named c) j in
-        terms_over X Y J (next_point n c) (next_number m c) (bounds_next l p.nodes x y j n m c bounds names laid) numbers_few_next late
+        terms_over X Y J (next_point Two n c) (next_number m c) (bounds_next Two l p.nodes x y j n m c bounds names laid) numbers_few_next late
         (each_back (IsConditionOver X Y J) early late (command_over p.nodes x y j c names))
 
   -- STEPS
   abbrev steps_before : List StepForm
-  steps_before = steps_from l p.nodes 0 0 before
+  steps_before = steps_from Two l p.nodes 0 0 before
 
-  steps_are : steps_of p ≡ steps_before ++ (steps ++ steps_from l p.nodes (next_point n c) (next_number m c) rest)
-  steps_are = ap (λ (cs : List Command). steps_from l p.nodes 0 0 cs) commands_are ∙ steps_append l p.nodes before (c ∷ rest) 0 0
+  steps_are : steps_of Two p ≡ steps_before ++ (steps ++ steps_from Two l p.nodes (next_point Two n c) (next_number m c) rest)
+  steps_are = ap (λ (cs : List Command). steps_from Two l p.nodes 0 0 cs) commands_are ∙ steps_append l p.nodes before (c ∷ rest) 0 0
 
   before_long : length steps_before ≡ n
-  before_long = let a = past-length 0 steps_before in let b = past_all p before 0 0 in omega (arith, a, b)
+  before_long = let a = past-length 0 steps_before in let b = past_all Two p before 0 0 in omega (arith, a, b)
 
-  steps_long : n + length steps ≡ next_point n c
-  steps_long = sym (past-length n steps) ∙ past_steps l p.nodes n m c
+  steps_long : n + length steps ≡ next_point Two n c
+  steps_long = sym (past-length n steps) ∙ past_steps Two l p.nodes n m c
 
   -- the steps of the command among all
-  pub steps_here : take (next_point n c - n) (drop n (steps_of p)) ≡ steps
+  pub steps_here : take (next_point Two n c - n) (drop n (steps_of Two p)) ≡ steps
   steps_here =
-      let after = steps_from l p.nodes (next_point n c) (next_number m c) rest in
-      let d : drop n (steps_of p) ≡ steps ++ after = ap (λ (fs : List StepForm). drop n fs) steps_are ∙ drop_at steps_before (steps ++ after) n before_long in
-      ap (λ (fs : List StepForm). take (next_point n c - n) fs) d ∙ take_at steps after (next_point n c - n) (let e = steps_long in omega arith)
+      let after = steps_from Two l p.nodes (next_point Two n c) (next_number m c) rest in
+      let d : drop n (steps_of Two p) ≡ steps ++ after = ap (λ (fs : List StepForm). drop n fs) steps_are ∙ drop_at steps_before (steps ++ after) n before_long in
+      ap (λ (fs : List StepForm). take (next_point Two n c - n) fs) d ∙ take_at steps after (next_point Two n c - n) (let e = steps_long in omega arith)
 
-  pub points_up : n ≤ next_point n c
+  pub points_up : n ≤ next_point Two n c
   points_up = let e = steps_long in omega arith
 
-  pub points_few : next_point n c ≤ length (steps_of p)
+  pub points_few : next_point Two n c ≤ length (steps_of Two p)
   points_few =
-      let after = steps_from l p.nodes (next_point n c) (next_number m c) rest in
-      let e : length (steps_of p) ≡ length steps_before + (length steps + length after) =
+      let after = steps_from Two l p.nodes (next_point Two n c) (next_number m c) rest in
+      let e : length (steps_of Two p) ≡ length steps_before + (length steps + length after) =
       ap (λ (fs : List StepForm). length fs) steps_are ∙ length-append steps_before (steps ++ after) ∙ ap (λ (i : ℕ). length steps_before + i) (length-append steps after) in
       let a = before_long in let b = steps_long in omega (arith, e, a, b)
 
-  pub past_next : points_past 0 (take (suc k) p.commands) ≡ next_point n c
-  past_next = ap (λ (cs : List Command). points_past 0 cs) before_next ∙ past_append 0 before (c ∷ [])
+  pub past_next : points_past Two 0 (take (suc k) p.commands) ≡ next_point Two n c
+  past_next = ap (λ (cs : List Command). points_past Two 0 cs) before_next ∙ past_append 0 before (c ∷ [])
 
   pub named_next : points_from 0 (take (suc k) p.commands) ≡ counted kind.Point (named c) x
   named_next = ap (λ (cs : List Command). points_from 0 cs) before_next ∙ points_append 0 before (c ∷ [])

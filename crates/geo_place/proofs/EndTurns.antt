@@ -17,6 +17,7 @@ use Rattle.geo_lowering.specs.Lowering.{layout_of, steps_of}
 use Rattle.geo_lowering.proofs.ConditionValues.{each_append, each_back, each_front}
 use Rattle.geo_lowering.proofs.FormLaws.{past}
 use Rattle.geo_lowering.proofs.Values.{IsOver}
+use Rattle.geo_lowering.specs.declared.version.Version.TheVariants.{Two}
 use Rattle.geo_conditions.specs.declared.items.Item.{Item}
 use Rattle.geo_conditions.specs.Lists.{AreConditions, AreGoals, Found, IsListed, ItemForm, all_found, condition_item, found_at, found_from, goal_item, item_form}
 use Rattle.geo_conditions.specs.Statements.{statement_conditions, statement_goals}
@@ -74,7 +75,7 @@ module _ (p : Source) (w : IsWellFormed p) (v : ProgramValues) (placed : Placeme
   run = record { program = p; values = v; placed = placed; conditions = conditions }
 
   abbrev N : ℕ
-  N = past 0 (steps_of p)
+  N = past 0 (steps_of Two p)
 
   abbrev M : ℕ
   M = numbers_had p.commands
@@ -97,10 +98,10 @@ module _ (p : Source) (w : IsWellFormed p) (v : ProgramValues) (placed : Placeme
   abbrev O : LineTurn → Type 0
   O t = TurnOver p w v placed r t.turn
 
-  pub stated_terms : AllByRecursion (λ d. IsOver N M (condition_term (layout_of p.commands) d)) (statement_conditions p.nodes p.statement)
+  pub stated_terms : AllByRecursion (λ d. IsOver N M (condition_term (layout_of Two p.commands) d)) (statement_conditions p.nodes p.statement)
   stated_terms = tests O last (statement_conditions p.nodes p.statement) (line_turns O last (map test (statement_conditions p.nodes p.statement)) (each_back O command_part test_part (each_front O (command_part ++ test_part) judge_part (turns_over p w v placed r))))
 
-  goal_terms : AllByRecursion (λ g. IsOver N M (goal_term (layout_of p.commands) p.nodes g)) (statement_goals p.nodes p.statement)
+  goal_terms : AllByRecursion (λ g. IsOver N M (goal_term (layout_of Two p.commands) p.nodes g)) (statement_goals p.nodes p.statement)
   goal_terms = judges O last (statement_goals p.nodes p.statement) (line_turns O last (map judge (statement_goals p.nodes p.statement)) (each_back O (command_part ++ test_part) judge_part (turns_over p w v placed r)))
 
   -- what is listed for the statement
@@ -131,25 +132,25 @@ module _ (p : Source) (w : IsWellFormed p) (v : ProgramValues) (placed : Placeme
 
   module _ (sketch : Sketch) (nodes : Store) (g : SamePlacement N M (placement_of sketch) placed) where
     abbrev GoalOver : Statement → Type 0
-    GoalOver s = IsOver N M (goal_term (layout_of p.commands) p.nodes s)
+    GoalOver s = IsOver N M (goal_term (layout_of Two p.commands) p.nodes s)
 
-    term_is : (item : Item) (s : Statement) → item_form nodes item ≡ goal_item p s → tree_of nodes item.term ≡ goal_term (layout_of p.commands) p.nodes s
+    term_is : (item : Item) (s : Statement) → item_form nodes item ≡ goal_item Two p s → tree_of nodes item.term ≡ goal_term (layout_of Two p.commands) p.nodes s
     term_is item s e = ap (λ (i : ItemForm). i.term) e
 
     -- the goal passes its turn
     abbrev Judged : Statement → Type 0
     Judged s = (IsTooLarge p placed (judge s) → ⊥) × IsRight p placed (judge s)
 
-    null_there : (item : Item) (s : Statement) → item_form nodes item ≡ goal_item p s → GoalOver s → IsItemNull sketch nodes item → Judged s
+    null_there : (item : Item) (s : Statement) → item_form nodes item ≡ goal_item Two p s → GoalOver s → IsItemNull sketch nodes item → Judged s
     null_there item s e o h =
-        let t = goal_term (layout_of p.commands) p.nodes s in
+        let t = goal_term (layout_of Two p.commands) p.nodes s in
         let k = subst (λ u. (IsRefused (reckoned (placement_of sketch) u) → ⊥) × Same (number (reckoned (placement_of sketch) u)) (whole (pos 0))) (term_is item s e) h in
         (λ x. k.0 (refused_here N M (placement_of sketch) placed g t o x), fractions.same_trans _ _ _ (fractions.same_sym _ _ (same_there N M (placement_of sketch) placed g t o)) k.1)
 
-    nulls_there : (items : List Item) (ss : List Statement) → map (item_form nodes) items ≡ map (goal_item p) ss → AllByRecursion GoalOver ss
+    nulls_there : (items : List Item) (ss : List Statement) → map (item_form nodes) items ≡ map (goal_item Two p) ss → AllByRecursion GoalOver ss
         → AllByRecursion (IsItemNull sketch nodes) items → AllByRecursion Judged ss
     nulls_there items [] e o h = tt
-    nulls_there [] (s ∷ ss) e o h = absurd (none_before [] (goal_item p s) (map (goal_item p) ss) (sym e))
+    nulls_there [] (s ∷ ss) e o h = absurd (none_before [] (goal_item Two p s) (map (goal_item Two p) ss) (sym e))
     nulls_there (item ∷ items) (s ∷ ss) e o h = (null_there item s (head_of e) o.0 h.0, nulls_there items ss (tail_of e) o.1 h.1)
 
     judge_pass : (ss : List Statement) → AllByRecursion Judged ss → AllByRecursion P (at_line last (map judge ss))
@@ -159,7 +160,7 @@ module _ (p : Source) (w : IsWellFormed p) (v : ProgramValues) (placed : Placeme
     judge_turns : (ss ts : List Statement) → at_line last (map judge (ss ++ ts)) ≡ at_line last (map judge ss) ++ at_line last (map judge ts)
     judge_turns ss ts = ap (λ (us : List Turn). at_line last us) (map-append judge ss ts) ∙ map-append (λ (t : Turn). record { line = last; turn = t }) (map judge ss) (map judge ts)
 
-    module _ (items : List Item) (goals : List Statement) (listed : AreGoals p goals) (e : map (item_form nodes) items ≡ map (goal_item p) goals)
+    module _ (items : List Item) (goals : List Statement) (listed : AreGoals p goals) (e : map (item_form nodes) items ≡ map (goal_item Two p) goals)
         (passed : AllByRecursion P (command_part ++ test_part)) where
       over : AllByRecursion GoalOver goals
       over = fresh_hold (λ (s : Statement). s) GoalOver (statement_goals p.nodes p.statement) [] goals listed goal_terms
@@ -171,13 +172,13 @@ module _ (p : Source) (w : IsWellFormed p) (v : ProgramValues) (placed : Placeme
 
       -- the first goal that is not 0
       module _ (Q : Item → Type 0) (h : StopsGoals sketch nodes items Q) where
-        abbrev at : Beside (item_form nodes) (goal_item p) h.before h.item goals
-        at = beside (item_form nodes) (goal_item p) h.before h.item h.after goals (subst (λ is. map (item_form nodes) is ≡ map (goal_item p) goals) h.parts e)
+        abbrev at : Beside (item_form nodes) (goal_item Two p) h.before h.item goals
+        at = beside (item_form nodes) (goal_item Two p) h.before h.item h.after goals (subst (λ is. map (item_form nodes) is ≡ map (goal_item Two p) goals) h.parts e)
 
         abbrev pub goal : Statement
         goal = at.item
 
-        pub goal_item_is : item_form nodes h.item ≡ goal_item p goal
+        pub goal_item_is : item_form nodes h.item ≡ goal_item Two p goal
         goal_item_is = at.same
 
         goal_over : GoalOver goal
@@ -210,7 +211,7 @@ module _ (p : Source) (w : IsWellFormed p) (v : ProgramValues) (placed : Placeme
       not_null h =
           let Q : Item → Type 0 = IsItemMet sketch nodes in
           let s = goal Q h in
-          let t = goal_term (layout_of p.commands) p.nodes s in
+          let t = goal_term (layout_of Two p.commands) p.nodes s in
           let k = subst (λ u. (IsRefused (reckoned (placement_of sketch) u) → ⊥) × IsNonzero (number (reckoned (placement_of sketch) u))) (term_is h.item s (goal_item_is Q h)) h.stops in (
             last,
             s,
@@ -225,7 +226,7 @@ module _ (p : Source) (w : IsWellFormed p) (v : ProgramValues) (placed : Placeme
       goal_large line h =
           let Q : Item → Type 0 = λ i. (line ≡ i.line) × IsRefused (item_reckoned sketch nodes i) in
           let s = goal Q h in
-          let t = goal_term (layout_of p.commands) p.nodes s in
+          let t = goal_term (layout_of Two p.commands) p.nodes s in
           let same : last ≡ line = sym (h.stops.0 ∙ ap (λ (i : ItemForm). i.line) (goal_item_is Q h)) in
           subst (λ (i : ℕ). EndsAs p placed (too_large i)) same (
             judge s,

@@ -8,19 +8,20 @@ use Rattle.geo_points.specs.Placements.{Placement, SamePoint}
 use Rattle.geo_points.specs.Points.{Point, x_coordinate, y_coordinate}
 use Rattle.geo_points.proofs.Placed.{point_exists}
 use Rattle.geo_program.specs.declared.commands.Command.{Command}
-use Rattle.geo_program.specs.declared.commands.Command.TheVariants.{Point as Free, Param, Line, Parallel, Perp, Med, Intersec, Inter, Foot, Pratio, Tratio, Online, Lratio, Midpoint, Translate, Symmetric, Reflect, Circumcenter, Orthocenter, Centroid, Oncircle, Second, Cc, Inverse}
+use Rattle.geo_program.specs.declared.commands.Command.TheVariants.{Point as Free, Param, Line, Parallel, Perp, Med, Intersec, Inter, Foot, Pratio, Tratio, Online, Lratio, Midpoint, Translate, Symmetric, Reflect, Circumcenter, Orthocenter, Centroid, Oncircle, Second, Cc, Inverse, Weights, AssumeDifferent, AssumeNotCollinear, AssumeNotParallel}
 use Rattle.geo_program.specs.declared.names.NameKind.TheVariants as kind
 use Rattle.geo_program.specs.WellFormed.{IsWellFormed, Source}
 use Rattle.geo_terms.specs.Stores.{Store}
 use Rattle.geo_lowering.specs.Building.{forgotten}
 use Rattle.geo_lowering.specs.Counting.{counted, further, hidden, named, next_number, next_point, numbers_had}
 use Rattle.geo_lowering.specs.Lowering.{Layout, command_steps, layout_of, point_place, steps_from, steps_of}
-use Rattle.geo_lowering.specs.StepForms.{StepForm, free, crossing_of, foot_of, along, turned_along}
+use Rattle.geo_lowering.specs.StepForms.{StepForm, free, crossing_of, foot_of, along, turned_along, weighted}
 use Rattle.geo_lowering.proofs.Bounds.{past_steps, program_over}
 use Rattle.geo_lowering.proofs.FormLaws.{AreFormsOver, past}
 use Rattle.geo_lowering.proofs.Laying.{AreLaid, laid_program}
 use Rattle.geo_lowering.proofs.Puts.{of_path, put, put_here, put_other}
 use Rattle.geo_lowering.proofs.Values.{AgreeBelow}
+use Rattle.geo_lowering.specs.declared.version.Version.TheVariants.{Two}
 use Rattle.geo_conditions.specs.Truth.{HasValues, ProgramValues, free_points, is_free, whole_point}
 use Rattle.geo_place.specs.Evaluation.{AreAt, IsLeast, IsReckoned}
 use Rattle.geo_place.specs.Formulas.{IsAt, Spot, step_spot}
@@ -37,12 +38,13 @@ places_append n (crossing_of u v p q ∷ fs) gs = places_append (suc n) fs gs
 places_append n (foot_of p u v ∷ fs) gs = places_append (suc n) fs gs
 places_append n (along w u v r ∷ fs) gs = places_append (suc n) fs gs
 places_append n (turned_along u v r ∷ fs) gs = places_append (suc n) fs gs
+places_append n (weighted o u v r s ∷ fs) gs = places_append (suc n) fs gs
 
 -- that of a command
 abbrev PlaceOf : Bool → ℕ → List ℕ
 PlaceOf b n = elim b [ true ↦ n ∷ [] | false ↦ [] ]
 
-command_places : (l : Layout) (nodes : Store) (n m : ℕ) (c : Command) → free_places n (command_steps l nodes n m c) ≡ PlaceOf (is_free c) n
+command_places : (l : Layout) (nodes : Store) (n m : ℕ) (c : Command) → free_places n (command_steps Two l nodes n m c) ≡ PlaceOf (is_free c) n
 command_places l nodes n m Free = refl
 command_places l nodes n m Param = refl
 command_places l nodes n m (Line a b) = refl
@@ -67,6 +69,10 @@ command_places l nodes n m (Oncircle o a) = refl
 command_places l nodes n m (Second a b o) = refl
 command_places l nodes n m (Cc o p a) = refl
 command_places l nodes n m (Inverse p o a) = refl
+command_places l nodes n m (Weights a b c r s) = refl
+command_places l nodes n m (AssumeDifferent a b) = refl
+command_places l nodes n m (AssumeNotCollinear a b c) = refl
+command_places l nodes n m (AssumeNotParallel a b c d) = refl
 
 free_is : (c : Command) → is_free c ≡ true → c ≡ Free
 free_is Free e = refl
@@ -93,17 +99,21 @@ free_is (Oncircle o a) e = cc
 free_is (Second a b o) e = cc
 free_is (Cc o p a) e = cc
 free_is (Inverse p o a) e = cc
+free_is (Weights a b c r s) e = cc
+free_is (AssumeDifferent a b) e = cc
+free_is (AssumeNotCollinear a b c) e = cc
+free_is (AssumeNotParallel a b c d) e = cc
 
 -- they are the free points that the commands name
-commands_places : (l : Layout) (nodes : Store) (cs : List Command) (x q j n m : ℕ) → AreLaid l x q j n m cs
-    → free_places n (steps_from l nodes n m cs) ≡ map l.point (free_points x cs)
+commands_places : (l : Layout) (nodes : Store) (cs : List Command) (x q j n m : ℕ) → AreLaid Two l x q j n m cs
+    → free_places n (steps_from Two l nodes n m cs) ≡ map l.point (free_points x cs)
 commands_places l nodes [] x q j n m d = refl
 commands_places l nodes (c ∷ cs) x q j n m d =
-    let rest = steps_from l nodes (next_point n c) (next_number m c) cs in
-    places_append n (command_steps l nodes n m c) rest
-    ∙ ap (λ (xs : List ℕ). xs ++ free_places (past n (command_steps l nodes n m c)) rest) (command_places l nodes n m c)
-    ∙ ap (λ (k : ℕ). PlaceOf (is_free c) n ++ free_places k rest) (past_steps l nodes n m c)
-    ∙ ap (λ (xs : List ℕ). PlaceOf (is_free c) n ++ xs) (commands_places l nodes cs _ _ _ (next_point n c) (next_number m c) d.1)
+    let rest = steps_from Two l nodes (next_point Two n c) (next_number m c) cs in
+    places_append n (command_steps Two l nodes n m c) rest
+    ∙ ap (λ (xs : List ℕ). xs ++ free_places (past n (command_steps Two l nodes n m c)) rest) (command_places l nodes n m c)
+    ∙ ap (λ (k : ℕ). PlaceOf (is_free c) n ++ free_places k rest) (past_steps Two l nodes n m c)
+    ∙ ap (λ (xs : List ℕ). PlaceOf (is_free c) n ++ xs) (commands_places l nodes cs _ _ _ (next_point Two n c) (next_number m c) d.1)
     ∙ next (is_free c) refl
   where
     next : (b : Bool) → is_free c ≡ b
@@ -111,12 +121,12 @@ commands_places l nodes (c ∷ cs) x q j n m d =
         ≡ map l.point (elim b [ true ↦ x ∷ free_points (counted kind.Point (named c) x) cs | false ↦ free_points (counted kind.Point (named c) x) cs ])
     next true e =
         let f = free_is c e in
-        let here : l.point x ≡ n = d.0.point (ap named f) ∙ ap (λ b. further n (hidden b)) f in
+        let here : l.point x ≡ n = d.0.point (ap (λ b. named b) f) ∙ ap (λ b. further n (hidden Two b)) f in
         ap (λ (k : ℕ). k ∷ map l.point (free_points (counted kind.Point (named c) x) cs)) (sym here)
     next false e = refl
 
-pub program_places : (p : Source) → free_places 0 (steps_of p) ≡ map (point_place p.commands) (free_points 0 p.commands)
-program_places p = commands_places (layout_of p.commands) p.nodes p.commands 0 0 0 0 0 (laid_program p.commands)
+pub program_places : (p : Source) → free_places 0 (steps_of Two p) ≡ map (point_place Two p.commands) (free_points 0 p.commands)
+program_places p = commands_places (layout_of Two p.commands) p.nodes p.commands 0 0 0 0 0 (laid_program Two p.commands)
 
 -- POINTS THAT ARE LAID OUT
 same_or_not : (i n : ℕ) → (i ≡ n) ⊎ (i ≡ n → ⊥)
@@ -149,6 +159,7 @@ made_at placed n (crossing_of u v p q) xys = spot_point (step_spot placed n (cro
 made_at placed n (foot_of p u v) xys = spot_point (step_spot placed n (foot_of p u v))
 made_at placed n (along w u v r) xys = spot_point (step_spot placed n (along w u v r))
 made_at placed n (turned_along u v r) xys = spot_point (step_spot placed n (turned_along u v r))
+made_at placed n (weighted o u v r t) xys = spot_point (step_spot placed n (weighted o u v r t))
 
 -- the values that are left then
 abbrev left_over : StepForm → List (ℤ × ℤ) → List (ℤ × ℤ)
@@ -158,6 +169,7 @@ left_over (crossing_of u v p q) xys = xys
 left_over (foot_of p u v) xys = xys
 left_over (along w u v r) xys = xys
 left_over (turned_along u v r) xys = xys
+left_over (weighted o u v r t) xys = xys
 
 module _ (numbers : ℕ → Fraction) where
   abbrev with_points : (ℕ → Point) → Placement
@@ -203,6 +215,8 @@ module _ (numbers : ℕ → Fraction) where
       let s = along w u v r in spot_at n m (with_points f) (with_points (laid_out f n (s ∷ fs) xys)) (agrees (s ∷ fs) f n m xys) s (λ e. cc) o (here fs s f n xys)
   one_at m fs (turned_along u v r) f n xys o =
       let s = turned_along u v r in spot_at n m (with_points f) (with_points (laid_out f n (s ∷ fs) xys)) (agrees (s ∷ fs) f n m xys) s (λ e. cc) o (here fs s f n xys)
+  one_at m fs (weighted i u v r t) f n xys o =
+      let s = weighted i u v r t in spot_at n m (with_points f) (with_points (laid_out f n (s ∷ fs) xys)) (agrees (s ∷ fs) f n m xys) s (λ e. cc) o (here fs s f n xys)
 
   all_at : (m : ℕ) (fs : List StepForm) (f : ℕ → Point) (n : ℕ) (xys : List (ℤ × ℤ)) → AreFormsOver n m fs → AreAt (with_points (laid_out f n fs xys)) n fs
   all_at m [] f n xys o = tt
@@ -220,6 +234,7 @@ module _ (numbers : ℕ → Fraction) where
   frees_laid (foot_of p u v ∷ fs) f n xys k lt l = frees_laid fs (put f n (made_at (with_points f) n (foot_of p u v) xys)) (suc n) xys k lt l
   frees_laid (along w u v r ∷ fs) f n xys k lt l = frees_laid fs (put f n (made_at (with_points f) n (along w u v r) xys)) (suc n) xys k lt l
   frees_laid (turned_along u v r ∷ fs) f n xys k lt l = frees_laid fs (put f n (made_at (with_points f) n (turned_along u v r) xys)) (suc n) xys k lt l
+  frees_laid (weighted o u v r t ∷ fs) f n xys k lt l = frees_laid fs (put f n (made_at (with_points f) n (weighted o u v r t) xys)) (suc n) xys k lt l
 
   -- all triples are least
   made_least : (placed : Placement) (n : ℕ) (s : StepForm) (xys : List (ℤ × ℤ)) → IsLeast (made_at placed n s xys)
@@ -229,6 +244,7 @@ module _ (numbers : ℕ → Fraction) where
   made_least placed n (foot_of p u v) xys = spot_least (step_spot placed n (foot_of p u v))
   made_least placed n (along w u v r) xys = spot_least (step_spot placed n (along w u v r))
   made_least placed n (turned_along u v r) xys = spot_least (step_spot placed n (turned_along u v r))
+  made_least placed n (weighted o u v r t) xys = spot_least (step_spot placed n (weighted o u v r t))
 
   laid_least : (fs : List StepForm) (f : ℕ → Point) (n : ℕ) (xys : List (ℤ × ℤ)) → ((k : ℕ) → IsLeast (f k)) → (k : ℕ) → IsLeast (laid_out f n fs xys k)
   laid_least [] f n xys h k = h k
@@ -244,7 +260,7 @@ module _ (numbers : ℕ → Fraction) where
 abbrev pub reckoned_placement : Source → ProgramValues → Placement
 reckoned_placement p v =
     let numbers : ℕ → Fraction = λ k. whole (slice_index_or v.numbers k (pos 0)) in
-    record { point = laid_out numbers (λ k. whole_point (pos 0, pos 0)) 0 (steps_of p) v.coordinates; number = numbers }
+    record { point = laid_out numbers (λ k. whole_point (pos 0, pos 0)) 0 (steps_of Two p) v.coordinates; number = numbers }
 
 pub placement_reckoned : (p : Source) → IsWellFormed p → (v : ProgramValues) → length v.coordinates ≡ length (free_points 0 p.commands)
     → length v.numbers ≡ numbers_had p.commands → IsReckoned p v (reckoned_placement p v)
@@ -253,23 +269,23 @@ placement_reckoned p w v a b =
     let start : ℕ → Point = λ k. whole_point (pos 0, pos 0) in
     let frees = free_points 0 p.commands in
     let places = program_places p in
-    let wide : length (free_places 0 (steps_of p)) ≡ length frees = ap length places ∙ length-map frees (point_place p.commands) in
+    let wide : length (free_places 0 (steps_of Two p)) ≡ length frees = ap length places ∙ length-map frees (point_place Two p.commands) in
     record {
       values = record {
         points = a;
         numbers = b;
         same_points = λ k lt.
             let c : k < length frees = omega arith in
-            let at : slice_index_or (free_places 0 (steps_of p)) k 0 ≡ point_place p.commands (slice_index_or frees k 0) =
-            ap (λ (xs : List ℕ). slice_index_or xs k 0) places ∙ get_or-map (point_place p.commands) frees k 0 0 c in
-            of_path (subst (λ i. laid_out numbers start 0 (steps_of p) v.coordinates i ≡ whole_point (slice_index_or v.coordinates k (pos 0, pos 0))) at
-            (frees_laid numbers (steps_of p) start 0 v.coordinates k (omega (arith, c, wide)) lt));
+            let at : slice_index_or (free_places 0 (steps_of Two p)) k 0 ≡ point_place Two p.commands (slice_index_or frees k 0) =
+            ap (λ (xs : List ℕ). slice_index_or xs k 0) places ∙ get_or-map (point_place Two p.commands) frees k 0 0 c in
+            of_path (subst (λ i. laid_out numbers start 0 (steps_of Two p) v.coordinates i ≡ whole_point (slice_index_or v.coordinates k (pos 0, pos 0))) at
+            (frees_laid numbers (steps_of Two p) start 0 v.coordinates k (omega (arith, c, wide)) lt));
         same_numbers = λ k lt. fractions.same_refl (numbers k);
       };
-      points = all_at numbers (numbers_had p.commands) (steps_of p) start 0 v.coordinates (program_over p w);
+      points = all_at numbers (numbers_had p.commands) (steps_of Two p) start 0 v.coordinates (program_over Two p w);
     }
 
 pub placement_least : (p : Source) (v : ProgramValues) (k : ℕ) → IsLeast ((reckoned_placement p v).point k)
 placement_least p v k =
     let numbers : ℕ → Fraction = λ k. whole (slice_index_or v.numbers k (pos 0)) in
-    laid_least numbers (steps_of p) (λ k. whole_point (pos 0, pos 0)) 0 v.coordinates (λ i. whole_least (pos 0, pos 0)) k
+    laid_least numbers (steps_of Two p) (λ k. whole_point (pos 0, pos 0)) 0 v.coordinates (λ i. whole_least (pos 0, pos 0)) k

@@ -12,6 +12,7 @@ use Rattle.geo_lowering.proofs.ConditionValues.{each_append}
 use Rattle.geo_lowering.proofs.Fixed.{past_all}
 use Rattle.geo_lowering.proofs.FormLaws.{past}
 use Rattle.geo_lowering.proofs.Values.{IsOver}
+use Rattle.geo_lowering.specs.declared.version.Version.TheVariants.{Two}
 use Rattle.geo_conditions.specs.declared.items.Item.{Item}
 use Rattle.geo_conditions.specs.declared.problem.Problem.{Problem}
 use Rattle.geo_conditions.specs.Lists.{AreStoredGoals, Found, IsListed, ItemForm, condition_item, found_from, item_form}
@@ -37,13 +38,13 @@ module _ (run : Run) (problem : Problem) (ints : List ℤ) (h : IsRun run proble
   all_commands = take_all (length p.commands) p.commands (let q : length p.commands ≤ length p.commands = omega arith in q)
 
   abbrev N : ℕ
-  N = past 0 (steps_of p)
+  N = past 0 (steps_of Two p)
 
   abbrev M : ℕ
   M = numbers_had p.commands
 
   points_long : length progress.sketch.points.items ≡ N
-  points_long = t.points ∙ ap (λ cs. points_past 0 cs) all_commands ∙ sym (past_all p p.commands 0 0)
+  points_long = t.points ∙ ap (λ cs. points_past Two 0 cs) all_commands ∙ sym (past_all Two p p.commands 0 0)
 
   same : SamePlacement N M (placement_of progress.sketch) run.placed
   same =
@@ -61,14 +62,14 @@ module _ (run : Run) (problem : Problem) (ints : List ℤ) (h : IsRun run proble
       stated_here p h.formed run.values run.placed h.reckoned run.conditions (take progress.tested run.conditions) h.listed
       (subst (λ cs. IsListed (λ f. f.condition) [] (found_from p.nodes 0 1 cs) (take progress.tested run.conditions)) all_commands t.listed)
 
-  rest_items : map (item_form nodes) (drop progress.tested problem.conditions) ≡ map (condition_item p) stated.more
+  rest_items : map (item_form nodes) (drop progress.tested problem.conditions) ≡ map (condition_item Two p) stated.more
   rest_items =
       sym (drop-map (item_form nodes) progress.tested problem.conditions) ∙ ap (λ (fs : List ItemForm). drop progress.tested fs) h.written
-      ∙ drop-map (condition_item p) progress.tested run.conditions
-      ∙ ap (λ (fs : List Found). map (condition_item p) fs) (ap (λ (fs : List Found). drop progress.tested fs) stated.whole ∙ drop_at (take progress.tested run.conditions) stated.more progress.tested (length-take-le progress.tested run.conditions t.tested))
+      ∙ drop-map (condition_item Two p) progress.tested run.conditions
+      ∙ ap (λ (fs : List Found). map (condition_item Two p) fs) (ap (λ (fs : List Found). drop progress.tested fs) stated.whole ∙ drop_at (take progress.tested run.conditions) stated.more progress.tested (length-take-le progress.tested run.conditions t.tested))
 
   module _ (items : List Item) (e : items ≡ drop progress.tested problem.conditions) where
-    these : map (item_form nodes) items ≡ map (condition_item p) stated.more
+    these : map (item_form nodes) items ≡ map (condition_item Two p) stated.more
     these = ap (λ (is : List Item). map (item_form nodes) is) e ∙ rest_items
 
     pub stated_pass : AllByRecursion (IsItemMet progress.sketch nodes) items
@@ -86,7 +87,7 @@ module _ (run : Run) (problem : Problem) (ints : List ℤ) (h : IsRun run proble
         (stated_terms p h.formed run.values run.placed h.reckoned run.conditions) items these [] (stated.whole ∙ sym (append-nil (take progress.tested run.conditions ++ stated.more))) h.listed error
         (subst (λ (i : ℕ). FirstFails progress.sketch nodes items i error) (sym (length-take-le progress.tested run.conditions t.tested)) f)))
 
-    pub all_end : AreStoredGoals p nodes problem.goals → AllByRecursion (IsItemMet progress.sketch nodes) items → (result : Result Bool PlaceError) → GoalsCome progress.sketch nodes problem.goals result
+    pub all_end : AreStoredGoals Two p nodes problem.goals → AllByRecursion (IsItemMet progress.sketch nodes) items → (result : Result Bool PlaceError) → GoalsCome progress.sketch nodes problem.goals result
         → GoalsEnd p h.formed run.values run.placed h.reckoned run.conditions result
     all_end g m result c =
         goals_end p h.formed run.values run.placed h.reckoned run.conditions progress.sketch nodes same problem.goals g.are.goals g.are.listed g.are.written (stated_pass m) result c

@@ -11,10 +11,11 @@ use Rattle.frac_laws.specs.Numbers.{IsNumber, fraction_of}
 use Rattle.geo_points.specs.Placements.{Placement, SamePoint, SamePlacement}
 use Rattle.geo_points.proofs.Same.{point_trans, flip_point}
 use Rattle.geo_lowering.specs.Lowering.{steps_of}
-use Rattle.geo_lowering.specs.StepForms.{StepForm, free, crossing_of, foot_of, along, turned_along}
+use Rattle.geo_lowering.specs.StepForms.{StepForm, free, crossing_of, foot_of, along, turned_along, weighted}
 use Rattle.geo_lowering.proofs.FormLaws.{AreFormsOver, IsFormOver, past}
 use Rattle.geo_lowering.proofs.ConditionValues.{each_append}
 use Rattle.geo_lowering.proofs.Puts.{of_path}
+use Rattle.geo_lowering.specs.declared.version.Version.TheVariants.{Two}
 use Rattle.geo_place.specs.declared.errors.PlaceError.{PlaceError}
 use Rattle.geo_place.specs.declared.errors.PlaceError.TheVariants.{NoMemory, TooLarge, Unmet}
 use Rattle.geo_place.specs.declared.positions.Position.{Position}
@@ -97,6 +98,7 @@ is_free_step (crossing_of u v p q) = false
 is_free_step (foot_of p u v) = false
 is_free_step (along w u v r) = false
 is_free_step (turned_along u v r) = false
+is_free_step (weighted o u v r s) = false
 
 pub free_step_is : (f : StepForm) → is_free_step f ≡ true → f ≡ free
 free_step_is free e = refl
@@ -104,6 +106,7 @@ free_step_is (crossing_of u v p q) e = cc
 free_step_is (foot_of p u v) e = cc
 free_step_is (along w u v r) e = cc
 free_step_is (turned_along u v r) e = cc
+free_step_is (weighted o u v r s) e = cc
 
 places_other : (n : ℕ) (f : StepForm) → is_free_step f ≡ false → free_places n (f ∷ []) ≡ []
 places_other n free e = cc
@@ -111,6 +114,7 @@ places_other n (crossing_of u v p q) e = refl
 places_other n (foot_of p u v) e = refl
 places_other n (along w u v r) e = refl
 places_other n (turned_along u v r) e = refl
+places_other n (weighted o u v r s) e = refl
 
 -- the place of a free point among those of all steps
 pub place_at : (n : ℕ) (fs : List StepForm) (i : ℕ) → slice_get fs i ≡ Some free
@@ -121,11 +125,13 @@ place_at n (crossing_of u v p q ∷ fs) zero e = cc
 place_at n (foot_of p u v ∷ fs) zero e = cc
 place_at n (along w u v r ∷ fs) zero e = cc
 place_at n (turned_along u v r ∷ fs) zero e = cc
+place_at n (weighted o u v r s ∷ fs) zero e = cc
 place_at n (free ∷ fs) (suc i) e = let h = place_at (suc n) fs i e in let a = h.0 in let b = h.1 in (a ∙ (let q : suc n + i ≡ n + suc i = omega arith in q), omega arith)
 place_at n (crossing_of u v p q ∷ fs) (suc i) e = let h = place_at (suc n) fs i e in (h.0 ∙ (let q : suc n + i ≡ n + suc i = omega arith in q), h.1)
 place_at n (foot_of p u v ∷ fs) (suc i) e = let h = place_at (suc n) fs i e in (h.0 ∙ (let q : suc n + i ≡ n + suc i = omega arith in q), h.1)
 place_at n (along w u v r ∷ fs) (suc i) e = let h = place_at (suc n) fs i e in (h.0 ∙ (let q : suc n + i ≡ n + suc i = omega arith in q), h.1)
 place_at n (turned_along u v r ∷ fs) (suc i) e = let h = place_at (suc n) fs i e in (h.0 ∙ (let q : suc n + i ≡ n + suc i = omega arith in q), h.1)
+place_at n (weighted o u v r s ∷ fs) (suc i) e = let h = place_at (suc n) fs i e in (h.0 ∙ (let q : suc n + i ≡ n + suc i = omega arith in q), h.1)
 
 -- SKETCHES GROW
 pub get_below : {A : Type 0} (xs : List A) (i : ℕ) (x : A) → slice_get xs i ≡ Some x → i < length xs
@@ -151,7 +157,7 @@ unfolding placement_of
 numbers_same a b e = ap (λ (rs : List Frac). λ (k : ℕ). elim (slice_get rs k) [ None ↦ whole (pos 0) | Some r ↦ fraction_of r ]) e
 
 module _ (run : Run) (old new : Sketch) (s : Position) (f : StepForm) (points : new.points.items ≡ old.points.items ++ s ∷ []) (numbers : new.numbers.items ≡ old.numbers.items)
-    (frees : new.free ≡ old.free + length (free_places 0 (f ∷ []))) (at : slice_get (steps_of run.program) (length old.points.items) ≡ Some f) (h : IsSketchOf run old)
+    (frees : new.free ≡ old.free + length (free_places 0 (f ∷ []))) (at : slice_get (steps_of Two run.program) (length old.points.items) ≡ Some f) (h : IsSketchOf run old)
     (there : SamePoint (point_at s) (run.placed.point (length old.points.items))) where
   abbrev n : ℕ
   n = length old.points.items
@@ -168,23 +174,24 @@ module _ (run : Run) (old new : Sketch) (s : Position) (f : StepForm) (points : 
       go (foot_of p u v) = refl
       go (along w u v r) = refl
       go (turned_along u v r) = refl
+      go (weighted o u v r s) = refl
 
   abbrev front : List StepForm
-  front = take n (steps_of run.program)
+  front = take n (steps_of Two run.program)
 
-  free_now : new.free ≡ length (free_places 0 (take (length new.points.items) (steps_of run.program)))
+  free_now : new.free ≡ length (free_places 0 (take (length new.points.items) (steps_of Two run.program)))
   free_now =
-      let parts : take (suc n) (steps_of run.program) ≡ front ++ f ∷ [] = take_next n (steps_of run.program) f at in
-      let all : free_places 0 (take (length new.points.items) (steps_of run.program)) ≡ free_places 0 front ++ free_places (past 0 front) (f ∷ []) =
-      ap (λ (k : ℕ). free_places 0 (take k (steps_of run.program))) grown ∙ ap (λ (fs : List StepForm). free_places 0 fs) parts ∙ places_append 0 front (f ∷ []) in
+      let parts : take (suc n) (steps_of Two run.program) ≡ front ++ f ∷ [] = take_next n (steps_of Two run.program) f at in
+      let all : free_places 0 (take (length new.points.items) (steps_of Two run.program)) ≡ free_places 0 front ++ free_places (past 0 front) (f ∷ []) =
+      ap (λ (k : ℕ). free_places 0 (take k (steps_of Two run.program))) grown ∙ ap (λ (fs : List StepForm). free_places 0 fs) parts ∙ places_append 0 front (f ∷ []) in
       let a = h.free in let b = one_free (past 0 front) in
-      let c : length (free_places 0 (take (length new.points.items) (steps_of run.program))) ≡ length (free_places 0 front) + length (free_places (past 0 front) (f ∷ [])) =
+      let c : length (free_places 0 (take (length new.points.items) (steps_of Two run.program))) ≡ length (free_places 0 front) + length (free_places (past 0 front) (f ∷ [])) =
       ap (λ (xs : List ℕ). length xs) all ∙ length-append (free_places 0 front) (free_places (past 0 front) (f ∷ [])) in
       omega (arith, a, b, c, frees)
 
   pub sketch_next : IsSketchOf run new
   sketch_next = record {
-    few = let l : n < length (steps_of run.program) = get_below (steps_of run.program) n f at in let g = grown in omega arith;
+    few = let l : n < length (steps_of Two run.program) = get_below (steps_of Two run.program) n f at in let g = grown in omega arith;
     numbers = ap (λ (xs : List Frac). length xs) numbers ∙ h.numbers;
     free = free_now;
     same = record {

@@ -12,9 +12,10 @@ use Rattle.geo_terms.specs.Constructions.{IsStep}
 use Rattle.geo_terms.specs.Stores.{Store}
 use Rattle.geo_lowering.specs.Counting.{numbers_had}
 use Rattle.geo_lowering.specs.Lowering.{point_place, steps_of}
-use Rattle.geo_lowering.specs.StepForms.{StepForm, crossing_of, foot_of, along, turned_along, free, step_form}
+use Rattle.geo_lowering.specs.StepForms.{StepForm, crossing_of, foot_of, along, turned_along, weighted, free, step_form}
 use Rattle.geo_lowering.proofs.Bounds.{program_over}
 use Rattle.geo_lowering.proofs.FormLaws.{IsFormOver}
+use Rattle.geo_lowering.specs.declared.version.Version.TheVariants.{Two}
 use Rattle.geo_conditions.specs.declared.problem.Problem.{Problem}
 use Rattle.geo_conditions.specs.Truth.{free_points, whole_point}
 use Rattle.geo_place.specs.declared.errors.PlaceError.{PlaceError}
@@ -38,13 +39,14 @@ get_map f [] k x e = cc
 get_map f (y ∷ ys) zero x e = ap (λ (o : Option _). elim o [ None ↦ Some (f y) | Some z ↦ Some (f z) ]) e
 get_map f (y ∷ ys) (suc k) x e = get_map f ys k x e
 
--- the number of a step of a construction stands in the store
+-- the numbers of a step of a construction stand in the store
 pub has_number : (nodes : Store) (points params : ℕ) (s : Step) → IsStep nodes points params s → HasNumber nodes s
 has_number nodes points params step.Point h = tt
 has_number nodes points params (step.Inter u v p q) h = tt
 has_number nodes points params (step.Foot p u v) h = tt
 has_number nodes points params (step.Pratio w u v r) h = h.3.stored
 has_number nodes points params (step.Tratio u v r) h = h.2.stored
+has_number nodes points params (step.Weights o u v r s) h = (h.3.stored, h.4.stored)
 
 -- a step makes at most one free point
 one_few : (n : ℕ) (f : StepForm) → length (free_places n (f ∷ [])) ≤ 1
@@ -53,6 +55,7 @@ one_few n (crossing_of u v p q) = omega arith
 one_few n (foot_of p u v) = omega arith
 one_few n (along w u v r) = omega arith
 one_few n (turned_along u v r) = omega arith
+one_few n (weighted o u v r s) = omega arith
 
 places_few : (n : ℕ) (fs : List StepForm) → length (free_places n fs) ≤ length fs
 places_few n [] = omega arith
@@ -61,6 +64,7 @@ places_few n (crossing_of u v p q ∷ fs) = let h = places_few (suc n) fs in ome
 places_few n (foot_of p u v ∷ fs) = let h = places_few (suc n) fs in omega (arith, h)
 places_few n (along w u v r ∷ fs) = let h = places_few (suc n) fs in omega (arith, h)
 places_few n (turned_along u v r ∷ fs) = let h = places_few (suc n) fs in omega (arith, h)
+places_few n (weighted o u v r s ∷ fs) = let h = places_few (suc n) fs in omega (arith, h)
 
 -- the step of a free point alone has its form
 pub form_free : (nodes : Store) (s : Step) → step_form nodes s ≡ free → s ≡ step.Point
@@ -69,12 +73,13 @@ form_free nodes (step.Inter u v p q) e = cc
 form_free nodes (step.Foot p u v) e = cc
 form_free nodes (step.Pratio w u v r) e = cc
 form_free nodes (step.Tratio u v r) e = cc
+form_free nodes (step.Weights o u v r s) e = cc
 
-pub all_steps : (run : Run) (problem : Problem) (ints : List ℤ) → IsRun run problem ints → length problem.steps.steps ≡ length (steps_of run.program)
+pub all_steps : (run : Run) (problem : Problem) (ints : List ℤ) → IsRun run problem ints → length problem.steps.steps ≡ length (steps_of Two run.program)
 all_steps run problem ints h = sym (length-map problem.steps.steps (step_form problem.steps.nodes)) ∙ ap (λ (fs : List StepForm). length fs) h.lowered.steps
 
 pub all_items : (run : Run) (problem : Problem) (ints : List ℤ) → IsRun run problem ints → length problem.conditions ≡ length run.conditions
-all_items run problem ints h = same_length (item_form problem.steps.nodes) (condition_item run.program) problem.conditions run.conditions h.written
+all_items run problem ints h = same_length (item_form problem.steps.nodes) (condition_item Two run.program) problem.conditions run.conditions h.written
 
 module _ (run : Run) (problem : Problem) (ints : List ℤ) (h : IsRun run problem ints) (sketch : Sketch) (s : IsSketchOf run sketch) (here : Step)
     (at : slice_get problem.steps.steps (length sketch.points.items) ≡ Some here) where
@@ -84,14 +89,14 @@ module _ (run : Run) (problem : Problem) (ints : List ℤ) (h : IsRun run proble
   abbrev pub form : StepForm
   form = step_form problem.steps.nodes here
 
-  pub at_form : slice_get (steps_of run.program) n ≡ Some form
+  pub at_form : slice_get (steps_of Two run.program) n ≡ Some form
   at_form = subst (λ (fs : List StepForm). slice_get fs n ≡ Some form) h.lowered.steps (get_map (step_form problem.steps.nodes) problem.steps.steps n here at)
 
   pub free_few : sketch.free + length (free_places 0 (form ∷ [])) ≤ 513
   free_few =
       let a = s.free in
-      let b = places_few 0 (take n (steps_of run.program)) in
-      let c : length (take n (steps_of run.program)) ≡ n = length-take-le n (steps_of run.program) s.few in
+      let b = places_few 0 (take n (steps_of Two run.program)) in
+      let c : length (take n (steps_of Two run.program)) ≡ n = length-take-le n (steps_of Two run.program) s.few in
       let d = s.few in let e = all_steps run problem ints h in let f = h.lowered.valid.few in let g = one_few 0 form in omega (arith, a, b, c, d, e, f, g)
 
   zero_plus : 0 + n ≡ n
@@ -101,25 +106,25 @@ module _ (run : Run) (problem : Problem) (ints : List ℤ) (h : IsRun run proble
   over =
       subst (λ (m : ℕ). IsFormOver n m form) (sym s.numbers)
       (subst (λ (k : ℕ). IsFormOver k (numbers_had run.program.commands) form) zero_plus
-      (over_place 0 (numbers_had run.program.commands) (steps_of run.program) n form (program_over run.program h.formed) at_form))
+      (over_place 0 (numbers_had run.program.commands) (steps_of Two run.program) n form (program_over Two run.program h.formed) at_form))
 
   pub is_at : IsAt (run.placed.point n) (step_spot run.placed n form)
-  is_at = subst (λ (k : ℕ). IsAt (run.placed.point k) (step_spot run.placed k form)) zero_plus (at_place run.placed 0 (steps_of run.program) n form h.reckoned.points at_form)
+  is_at = subst (λ (k : ℕ). IsAt (run.placed.point k) (step_spot run.placed k form)) zero_plus (at_place run.placed 0 (steps_of Two run.program) n form h.reckoned.points at_form)
 
   pub in_store : HasNumber problem.steps.nodes here
   in_store = has_number problem.steps.nodes n problem.steps.params here (h.lowered.valid.steps n here at)
 
   -- A FREE POINT
   module _ (e : form ≡ free) where
-    place : (slice_index_or (free_places 0 (steps_of run.program)) (length (free_places 0 (take n (steps_of run.program)))) 0 ≡ 0 + n)
-        × (length (free_places 0 (take n (steps_of run.program))) < length (free_places 0 (steps_of run.program)))
-    place = place_at 0 (steps_of run.program) n (at_form ∙ ap (λ (f : StepForm). Some f) e)
+    place : (slice_index_or (free_places 0 (steps_of Two run.program)) (length (free_places 0 (take n (steps_of Two run.program)))) 0 ≡ 0 + n)
+        × (length (free_places 0 (take n (steps_of Two run.program))) < length (free_places 0 (steps_of Two run.program)))
+    place = place_at 0 (steps_of Two run.program) n (at_form ∙ ap (λ (f : StepForm). Some f) e)
 
     abbrev frees : List ℕ
     frees = free_points 0 run.program.commands
 
-    wide : length (free_places 0 (steps_of run.program)) ≡ length run.values.coordinates
-    wide = ap (λ (xs : List ℕ). length xs) (program_places run.program) ∙ length-map frees (point_place run.program.commands) ∙ sym h.reckoned.values.points
+    wide : length (free_places 0 (steps_of Two run.program)) ≡ length run.values.coordinates
+    wide = ap (λ (xs : List ℕ). length xs) (program_places run.program) ∙ length-map frees (point_place Two run.program.commands) ∙ sym h.reckoned.values.points
 
     pub below_all : sketch.free < length run.values.coordinates
     below_all = let a = place.1 in let b = s.free in let c = wide in omega (arith, a, b, c)
@@ -134,12 +139,12 @@ module _ (run : Run) (problem : Problem) (ints : List ℤ) (h : IsRun run proble
         ap (λ (zs : List ℤ). length zs) ints_parts ∙ length-append (pairs run.values.coordinates) run.values.numbers ∙ ap (λ (k : ℕ). k + length run.values.numbers) (pairs_length run.values.coordinates) in
         omega (arith, a, b)
 
-    at_free : point_place run.program.commands (slice_index_or frees sketch.free 0) ≡ n
+    at_free : point_place Two run.program.commands (slice_index_or frees sketch.free 0) ≡ n
     at_free =
         let l : sketch.free < length frees = let a = below_all in let b = h.reckoned.values.points in omega (arith, a, b) in
-        sym (get_or-map (point_place run.program.commands) frees sketch.free 0 0 l)
+        sym (get_or-map (point_place Two run.program.commands) frees sketch.free 0 0 l)
         ∙ ap (λ (xs : List ℕ). slice_index_or xs sketch.free 0) (sym (program_places run.program))
-        ∙ ap (λ (k : ℕ). slice_index_or (free_places 0 (steps_of run.program)) k 0) s.free ∙ place.0 ∙ zero_plus
+        ∙ ap (λ (k : ℕ). slice_index_or (free_places 0 (steps_of Two run.program)) k 0) s.free ∙ place.0 ∙ zero_plus
 
     abbrev xy : ℤ × ℤ
     xy = slice_index_or run.values.coordinates sketch.free (pos 0, pos 0)

@@ -13,12 +13,14 @@ use Rattle.geo_program.specs.declared.commands.Command.{Command}
 use Rattle.geo_program.specs.declared.names.Name.{Name}
 use Rattle.geo_program.specs.declared.names.NameKind.{NameKind}
 use Rattle.geo_program.specs.declared.names.NameKind.TheVariants as kind
-use Rattle.geo_program.specs.Names.{is_kind, names_of}
-use Rattle.geo_program.specs.WellFormed.{AreCommands, IsWellFormed, Scope, Source, declare, empty_scope}
+use Rattle.geo_program.specs.Names.{names_of}
+use Rattle.geo_program.specs.WellFormed.{IsWellFormed, Scope, Source}
 use Rattle.geo_lowering.specs.Building.{forgotten}
 use Rattle.geo_lowering.specs.Counting.{counted, gathered, named, points_from}
 use Rattle.geo_lowering.specs.Lowering.{IsLowered, LoweredForm, point_place}
-use Rattle.geo_lowering.proofs.Laying.{kind-is}
+use Rattle.geo_conditions.proofs.ConditionScopes.{scope_past}
+use Rattle.geo_program.proofs.ScopeLemmas.{points_declared}
+use Rattle.geo_lowering.specs.declared.version.Version.TheVariants.{Two}
 use Rattle.geo_conditions.specs.Lists.{Found}
 use Rattle.geo_conditions.specs.Truth.{ProgramValues}
 use Rattle.geo_place.specs.declared.errors.PlaceError.{PlaceError}
@@ -27,32 +29,26 @@ use Rattle.geo_place.specs.declared.placed.At.{At}
 use Rattle.geo_place.specs.declared.placed.Placed.{Placed}
 use Rattle.geo_place.specs.declared.triples.Triple.{Triple}
 use Rattle.geo_place.specs.Evaluation.{EndsAs, IsLeast, IsReckoned, placed_all}
-use Rattle.geo_place.specs.Inner.{EndsWith, IsTripleOf, Run, name_lines, triple_at}
+use Rattle.geo_place.specs.Inner.{EndsWith, IsTripleOf, Run, triple_at}
 use Rattle.geo_place.specs.Placing.{AreTold, IsAnswer, IsDrawable, IsTold, Places, point_lines}
 use Rattle.geo_place.proofs.LawProofs.{evaluation_places, unmet_values_place_nothing}
 use Rattle.geo_place.proofs.LeastTriples.{least_once}
 
 -- NAMES
-pub lines_same : (nodes : Store) (s : Scope) (names : List Name) (cs : List Command) (line : ℕ) → AreCommands nodes s names cs → name_lines line names ≡ point_lines line cs
-lines_same nodes s [] [] line h = refl
-lines_same nodes s (n ∷ ns) (c ∷ cs) line h =
-    ap (λ (k : NameKind). gathered kind.Point k line (name_lines (suc line) ns)) (h.0.named ∙ kind-is nodes c)
-    ∙ ap (λ (ls : List ℕ). gathered kind.Point (named c) line ls) (lines_same nodes (declare n.kind s) ns cs (suc line) h.1)
-lines_same nodes s [] (c ∷ cs) line h = absurd h
-lines_same nodes s (n ∷ ns) [] line h = absurd h
+-- as many names of points as commands that name points, and as many lines
+pub names_counted : (p : Source) → IsWellFormed p → points_from 0 p.commands ≡ length (names_of kind.Point p.names)
+names_counted p w = sym (ap (λ (s : Scope). s.points) (scope_past p.nodes p.names p.commands 0 0 0 w.commands)) ∙ points_declared p.names
 
-pub names_counted : (nodes : Store) (s : Scope) (names : List Name) (cs : List Command) (x : ℕ) → AreCommands nodes s names cs
-    → points_from x cs ≡ x + length (names_of kind.Point names)
-names_counted nodes s [] [] x h = omega arith
-names_counted nodes s (n ∷ ns) (c ∷ cs) x h =
-    ap (λ (k : NameKind). points_from (counted kind.Point k x) cs) (sym (kind-is nodes c) ∙ sym h.0.named) ∙ names_counted nodes (declare n.kind s) ns cs (counted kind.Point n.kind x) h.1 ∙ go n.kind
-  where
-    go : (k : NameKind) → counted kind.Point k x + length (names_of kind.Point ns) ≡ x + length (names_of kind.Point (record { text = n.text; kind = k } ∷ ns))
-    go kind.Point = omega arith
-    go kind.Param = refl
-    go kind.Line = refl
-names_counted nodes s [] (c ∷ cs) x h = absurd h
-names_counted nodes s (n ∷ ns) [] x h = absurd h
+lines_next : (made : Option NameKind) (x line : ℕ) (lines : List ℕ) → counted kind.Point made x + length lines ≡ x + length (gathered kind.Point made line lines)
+lines_next (Some kind.Point) x line lines = omega arith
+lines_next (Some kind.Param) x line lines = refl
+lines_next (Some kind.Line) x line lines = refl
+lines_next None x line lines = refl
+
+pub lines_counted : (x line : ℕ) (cs : List Command) → points_from x cs ≡ x + length (point_lines line cs)
+lines_counted x line [] = omega arith
+lines_counted x line (c ∷ cs) =
+    lines_counted (counted kind.Point (named c) x) (suc line) cs ∙ lines_next (named c) x line (point_lines (suc line) cs)
 
 -- TRIPLES
 get_map : {A B : Type 0} (f : A → B) (xs : List A) (k : ℕ) (x : A) → slice_get xs k ≡ Some x → slice_get (map f xs) k ≡ Some (f x)
@@ -65,18 +61,18 @@ told_of a A l h =
     let s = least_once h.told A h.least l h.same in
     record { x = h.x ∙ s.x; y = h.y ∙ s.y; w = h.w ∙ ap pos s.w; least = l }
 
-module _ (p : Source) (w : IsWellFormed p) (l : LoweredForm) (i : IsLowered p l) (v : ProgramValues) (placed : Placement) (r : IsReckoned p v placed) where
+module _ (p : Source) (w : IsWellFormed p) (l : LoweredForm) (i : IsLowered Two p l) (v : ProgramValues) (placed : Placement) (r : IsReckoned p v placed) where
   pub are_told : ((k : ℕ) → IsLeast (placed.point k)) → (points : List At) (triples : List Triple)
-      → map (λ a. a.name) points ≡ names_of kind.Point p.names → map (λ a. a.line) points ≡ name_lines 1 p.names → map triple_at points ≡ triples
-      → ((a : ℕ) (t : Triple) → slice_get triples a ≡ Some t → IsTripleOf t (placed.point (point_place p.commands a))) → AreTold p (forgotten p placed) points
+      → map (λ a. a.name) points ≡ names_of kind.Point p.names → map (λ a. a.line) points ≡ point_lines 1 p.commands → map triple_at points ≡ triples
+      → ((a : ℕ) (t : Triple) → slice_get triples a ≡ Some t → IsTripleOf t (placed.point (point_place Two p.commands a))) → AreTold p (forgotten Two p placed) points
   are_told least points triples a b c h = record {
     names = a;
-    lines = b ∙ lines_same p.nodes empty_scope p.names p.commands 1 w.commands;
-    triples = λ k q e. told_of q (placed.point (point_place p.commands k)) (least (point_place p.commands k))
+    lines = b;
+    triples = λ k q e. told_of q (placed.point (point_place Two p.commands k)) (least (point_place Two p.commands k))
         (h k (triple_at q) (subst (λ (ts : List Triple). slice_get ts k ≡ Some (triple_at q)) c (get_map triple_at points k q e)));
   }
 
-  pub answer_placed : (answer : Placed) → EndsAs p placed (placed_all answer.holds) → AreTold p (forgotten p placed) answer.points → Places p v answer
+  pub answer_placed : (answer : Placed) → EndsAs p placed (placed_all answer.holds) → AreTold p (forgotten Two p placed) answer.points → Places p v answer
   answer_placed answer e t =
       let k = evaluation_places p l v placed answer.holds w i r e in
       record { reckoned = placed; is_reckoned = r; ends = e; told = t; only = k.0; holds = k.1 }
@@ -114,7 +110,7 @@ each_drawable (p ∷ ps) (t ∷ ts) e h f =
 
 pub all_drawable : (p : Source) → IsWellFormed p → (placed : Placement) (points : List At) (triples : List Triple)
     → map (λ a. a.name) points ≡ names_of kind.Point p.names → map triple_at points ≡ triples
-    → ((a : ℕ) (t : Triple) → slice_get triples a ≡ Some t → IsTripleOf t (placed.point (point_place p.commands a))) → All IsDrawable points
+    → ((a : ℕ) (t : Triple) → slice_get triples a ≡ Some t → IsTripleOf t (placed.point (point_place Two p.commands a))) → All IsDrawable points
 all_drawable p w placed points triples a c h =
     All-from_recursion IsDrawable points
     (each_drawable points (names_of kind.Point p.names) a (names_some p.names (recursion_from_All (λ n. IsNameText n.text) p.names w.names))

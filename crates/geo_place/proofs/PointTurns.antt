@@ -5,6 +5,7 @@ use Rattle.std.specs.List.{AllByRecursion}
 use Rattle.std.proofs.lemmas.List.{length-drop, take_all}
 use Rattle.geo_lowering.specs.Lowering.{steps_of}
 use Rattle.geo_lowering.specs.StepForms.{StepForm}
+use Rattle.geo_lowering.specs.declared.version.Version.TheVariants.{Two}
 use Rattle.geo_conditions.specs.declared.problem.Problem.{Problem}
 use Rattle.geo_place.specs.declared.errors.PlaceError.{PlaceError}
 use Rattle.geo_place.specs.declared.sketch.Sketch.{Sketch}
@@ -18,7 +19,7 @@ use Rattle.geo_place.proofs.Taking.{get_some}
 module _ (run : Run) (n to line : ℕ) where
   -- the steps of the points from n up to `to`
   abbrev pub between : List StepForm
-  between = take (to - n) (drop n (steps_of run.program))
+  between = take (to - n) (drop n (steps_of Two run.program))
 
   -- the points below `count` are made, and their steps pass
   pub record AreMade (count : ℕ) (sketch : Sketch) : Type 0 where
@@ -40,8 +41,8 @@ module _ (run : Run) (n to line : ℕ) where
     pub below : length sketch.points.items < length problem.steps.steps
     below = let a = m.count_is in omega (arith, a, last, high)
 
-    here : (f : StepForm) × (slice_get (steps_of run.program) count ≡ Some f)
-    here = get_some (steps_of run.program) count (let a = all_steps run problem ints h in omega (arith, a, last, high))
+    here : (f : StepForm) × (slice_get (steps_of Two run.program) count ≡ Some f)
+    here = get_some (steps_of Two run.program) count (let a = all_steps run problem ints h in omega (arith, a, last, high))
 
     whole : n + (count - n) ≡ count
     whole = omega (arith, low)
@@ -49,13 +50,13 @@ module _ (run : Run) (n to line : ℕ) where
     at : slice_get between (count - n) ≡ Some here.0
     at =
         let l : count - n < to - n = omega (arith, low, high) in
-        taken_at (steps_of run.program) n (to - n) (count - n) l ∙ ap (λ (i : ℕ). slice_get (steps_of run.program) i) whole ∙ here.1
+        taken_at (steps_of Two run.program) n (to - n) (count - n) l ∙ ap (λ (i : ℕ). slice_get (steps_of Two run.program) i) whole ∙ here.1
 
-    here_now : slice_get (steps_of run.program) (length sketch.points.items) ≡ Some here.0
-    here_now = subst (λ (i : ℕ). slice_get (steps_of run.program) i ≡ Some here.0) (sym m.count_is) here.1
+    here_now : slice_get (steps_of Two run.program) (length sketch.points.items) ≡ Some here.0
+    here_now = subst (λ (i : ℕ). slice_get (steps_of Two run.program) i ≡ Some here.0) (sym m.count_is) here.1
 
     pub made_next : (new : Sketch) → IsSketchOf run new → length new.points.items ≡ length sketch.points.items + 1
-        → ((f : StepForm) → slice_get (steps_of run.program) (length sketch.points.items) ≡ Some f → IsTooLarge run.program run.placed (make (length sketch.points.items) f) → ⊥)
+        → ((f : StepForm) → slice_get (steps_of Two run.program) (length sketch.points.items) ≡ Some f → IsTooLarge run.program run.placed (make (length sketch.points.items) f) → ⊥)
         → AreMade (count + 1) new
     made_next new s e p =
         let same : length sketch.points.items ≡ n + (count - n) = m.count_is ∙ sym whole in
@@ -68,7 +69,7 @@ module _ (run : Run) (n to line : ℕ) where
         }
 
     pub made_stops : (e : PlaceError)
-        → ((f : StepForm) → slice_get (steps_of run.program) (length sketch.points.items) ≡ Some f → Stops run (at_line line (make (length sketch.points.items) f ∷ [])) e)
+        → ((f : StepForm) → slice_get (steps_of Two run.program) (length sketch.points.items) ≡ Some f → Stops run (at_line line (make (length sketch.points.items) f ∷ [])) e)
         → Stops run (at_line line (makes n between)) e
     made_stops e s =
         let same : length sketch.points.items ≡ n + (count - n) = m.count_is ∙ sym whole in
@@ -77,7 +78,7 @@ module _ (run : Run) (n to line : ℕ) where
   pub made_last : (count : ℕ) (sketch : Sketch) → AreMade count sketch → to ≤ count → AllByRecursion (Passes run.program run.placed) (at_line line (makes n between))
   made_last count sketch m l =
       subst (λ (fs : List StepForm). AllByRecursion (Passes run.program run.placed) (at_line line (makes n fs)))
-      (take_all (count - n) between (short (to - n) (drop n (steps_of run.program)) (count - n) (omega (arith, l)))) m.passed
+      (take_all (count - n) between (short (to - n) (drop n (steps_of Two run.program)) (count - n) (omega (arith, l)))) m.passed
     where
       short : {A : Type 0} (i : ℕ) (xs : List A) (j : ℕ) → i ≤ j → length (take i xs) ≤ j
       short zero [] j l = omega arith

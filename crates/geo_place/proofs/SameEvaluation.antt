@@ -18,6 +18,7 @@ use Rattle.geo_lowering.specs.Conditions.{Condition}
 use Rattle.geo_lowering.specs.Counting.{points_named}
 use Rattle.geo_lowering.specs.Lowering.{Layout, layout_of, point_place, steps_of}
 use Rattle.geo_lowering.specs.StepForms.{StepForm}
+use Rattle.geo_lowering.specs.declared.version.Version.TheVariants.{Two}
 use Rattle.geo_conditions.specs.Lists.{Found, IsListed, all_found}
 use Rattle.geo_conditions.specs.Terms.{condition_term, goal_term}
 use Rattle.geo_conditions.specs.Truth.{HasValues, Meets, ProgramValues, free_points, whole_point}
@@ -53,27 +54,27 @@ module _ (placed : Placement) (l : Layout) where
 
 module _ (placed : Placement) (p : Source) where
   abbrev Q : LineTurn → LineTask
-  Q = line_task (layout_of p.commands) p.nodes
+  Q = line_task (layout_of Two p.commands) p.nodes
 
-  large_to : (t : Turn) → IsTooLarge p placed t → TaskTooLarge placed (layout_of p.commands) (task_of (layout_of p.commands) p.nodes t)
+  large_to : (t : Turn) → IsTooLarge p placed t → TaskTooLarge placed (layout_of Two p.commands) (task_of (layout_of Two p.commands) p.nodes t)
   large_to (test c) h = h
   large_to (make n f) h = h
   large_to (write n) h = h
   large_to (judge g) h = h
 
-  large_of : (t : Turn) → TaskTooLarge placed (layout_of p.commands) (task_of (layout_of p.commands) p.nodes t) → IsTooLarge p placed t
+  large_of : (t : Turn) → TaskTooLarge placed (layout_of Two p.commands) (task_of (layout_of Two p.commands) p.nodes t) → IsTooLarge p placed t
   large_of (test c) h = h
   large_of (make n f) h = h
   large_of (write n) h = h
   large_of (judge g) h = h
 
-  right_to : (t : Turn) → IsRight p placed t → TaskRight placed (layout_of p.commands) (task_of (layout_of p.commands) p.nodes t)
+  right_to : (t : Turn) → IsRight p placed t → TaskRight placed (layout_of Two p.commands) (task_of (layout_of Two p.commands) p.nodes t)
   right_to (test c) h = h
   right_to (make n f) h = h
   right_to (write n) h = h
   right_to (judge g) h = h
 
-  right_of : (t : Turn) → TaskRight placed (layout_of p.commands) (task_of (layout_of p.commands) p.nodes t) → IsRight p placed t
+  right_of : (t : Turn) → TaskRight placed (layout_of Two p.commands) (task_of (layout_of Two p.commands) p.nodes t) → IsRight p placed t
   right_of (test c) h = h
   right_of (make n f) h = h
   right_of (write n) h = h
@@ -110,30 +111,30 @@ is_judge l m one other line g k (judge h) e = record { goal = h; same = λ i. re
 -- SAME PROGRAMS
 module _ (p q : Source) (s : SameSource p q) (placed : Placement) where
   abbrev P' : LineTurn → LineTask
-  P' = line_task (layout_of p.commands) p.nodes
+  P' = line_task (layout_of Two p.commands) p.nodes
 
   abbrev Q' : LineTurn → LineTask
-  Q' = line_task (layout_of q.commands) q.nodes
+  Q' = line_task (layout_of Two q.commands) q.nodes
 
   large_there : (t u : LineTurn) → P' t ≡ Q' u → IsTooLarge p placed t.turn → IsTooLarge q placed u.turn
   large_there t u e h =
       large_of placed q u.turn
-      (subst (λ (z : LineTask). TaskTooLarge placed (layout_of q.commands) z.task) e (subst (λ (l : Layout). TaskTooLarge placed l (P' t).task) (same_layout p q s) (large_to placed p t.turn h)))
+      (subst (λ (z : LineTask). TaskTooLarge placed (layout_of Two q.commands) z.task) e (subst (λ (l : Layout). TaskTooLarge placed l (P' t).task) (same_layout p q s Two) (large_to placed p t.turn h)))
 
   large_here : (t u : LineTurn) → P' t ≡ Q' u → IsTooLarge q placed u.turn → IsTooLarge p placed t.turn
   large_here t u e h =
       large_of placed p t.turn
-      (subst (λ (l : Layout). TaskTooLarge placed l (P' t).task) (sym (same_layout p q s)) (subst (λ (z : LineTask). TaskTooLarge placed (layout_of q.commands) z.task) (sym e) (large_to placed q u.turn h)))
+      (subst (λ (l : Layout). TaskTooLarge placed l (P' t).task) (sym (same_layout p q s Two)) (subst (λ (z : LineTask). TaskTooLarge placed (layout_of Two q.commands) z.task) (sym e) (large_to placed q u.turn h)))
 
   right_there : (t u : LineTurn) → P' t ≡ Q' u → IsRight p placed t.turn → IsRight q placed u.turn
   right_there t u e h =
       right_of placed q u.turn
-      (subst (λ (z : LineTask). TaskRight placed (layout_of q.commands) z.task) e (subst (λ (l : Layout). TaskRight placed l (P' t).task) (same_layout p q s) (right_to placed p t.turn h)))
+      (subst (λ (z : LineTask). TaskRight placed (layout_of Two q.commands) z.task) e (subst (λ (l : Layout). TaskRight placed l (P' t).task) (same_layout p q s Two) (right_to placed p t.turn h)))
 
   right_here : (t u : LineTurn) → P' t ≡ Q' u → IsRight q placed u.turn → IsRight p placed t.turn
   right_here t u e h =
       right_of placed p t.turn
-      (subst (λ (l : Layout). TaskRight placed l (P' t).task) (sym (same_layout p q s)) (subst (λ (z : LineTask). TaskRight placed (layout_of q.commands) z.task) (sym e) (right_to placed q u.turn h)))
+      (subst (λ (l : Layout). TaskRight placed l (P' t).task) (sym (same_layout p q s Two)) (subst (λ (z : LineTask). TaskRight placed (layout_of Two q.commands) z.task) (sym e) (right_to placed q u.turn h)))
 
   all_there : (ts us : List LineTurn) → map P' ts ≡ map Q' us → AllByRecursion (Passes p placed) ts → AllByRecursion (Passes q placed) us
   all_there ts [] e h = tt
@@ -175,7 +176,7 @@ module _ (p q : Source) (s : SameSource p q) (placed : Placement) where
   ends_there (unmet k) (line, c, fails, listed) =
       let t : LineTurn = record { line = line; turn = test c } in
       let r = comes_up t fails.0 in
-      let is : r.turn ≡ t = is_test (layout_of q.commands) q.nodes line c r.turn.line r.turn.turn r.same in
+      let is : r.turn ≡ t = is_test (layout_of Two q.commands) q.nodes line c r.turn.line r.turn.turn r.same in
       let same : P' t ≡ Q' t = subst (λ (u : LineTurn). P' t ≡ Q' u) is r.same in (
         line,
         c,
@@ -192,7 +193,7 @@ module _ (p q : Source) (s : SameSource p q) (placed : Placement) where
   ends_there (placed_all false) (line, g, fails) =
       let t : LineTurn = record { line = line; turn = judge g } in
       let r = comes_up t fails.0 in
-      let j = is_judge (layout_of p.commands) (layout_of q.commands) p.nodes q.nodes line g r.turn.line r.turn.turn r.same in
+      let j = is_judge (layout_of Two p.commands) (layout_of Two q.commands) p.nodes q.nodes line g r.turn.line r.turn.turn r.same in
       let u : LineTurn = record { line = line; turn = judge j.goal } in
       let same : P' t ≡ Q' u = subst (λ (z : LineTurn). P' t ≡ Q' z) j.same r.same in (
         line,
@@ -200,8 +201,8 @@ module _ (p q : Source) (s : SameSource p q) (placed : Placement) where
         (subst (λ (z : LineTurn). ComesUp q placed z) j.same r.comes, (λ z. fails.1 (large_here t u same z)), (λ z. fails.2 (right_here t u same z))),
       )
 
-  places_same : point_place p.commands ≡ point_place q.commands
-  places_same = ap (λ (l : Layout). l.point) (same_layout p q s)
+  places_same : point_place Two p.commands ≡ point_place Two q.commands
+  places_same = ap (λ (l : Layout). l.point) (same_layout p q s Two)
 
   values_there : (one : Placement) (v : ProgramValues) → HasValues p one v → HasValues q one v
   values_there one v h = record {
@@ -213,7 +214,7 @@ module _ (p q : Source) (s : SameSource p q) (placed : Placement) where
 
   pub reckoned_there : (v : ProgramValues) → IsReckoned p v placed → IsReckoned q v placed
   reckoned_there v h = record {
-    values = subst (λ (place : ℕ → ℕ). HasValues q (record { point = λ a. placed.point (place a); number = placed.number }) v) places_same (values_there (forgotten p placed) v h.values);
+    values = subst (λ (place : ℕ → ℕ). HasValues q (record { point = λ a. placed.point (place a); number = placed.number }) v) places_same (values_there (forgotten Two p placed) v h.values);
     points = subst (λ (fs : List StepForm). AreAt placed 0 fs) (same_steps p q s) h.points;
   }
 
@@ -265,7 +266,7 @@ module _ (p q : Source) (s : SameSource p q) (w : IsWellFormed p) (v : ProgramVa
   same_placed a b h k =
       let t = turned p q s in
       let hold = same_bool a.holds b.holds (same_end h.reckoned k.reckoned (placed_all a.holds) (placed_all b.holds) h.is_reckoned k.is_reckoned h.ends k.ends) in
-      let there = forgotten q k.reckoned in
+      let there = forgotten Two q k.reckoned in
       let near = h.only.unique there (values_there q p t there there v k.only.has) (((same_programs_mean_the_same p q s).meets there).1 k.only.meets) in
       let long : length a.points ≡ points_named p.commands =
       sym (length-map a.points (λ (c : At). c.name)) ∙ ap (λ (ns : List (List ℕ)). length ns) h.told.names ∙ (let c = names_counted p.nodes empty_scope p.names p.commands 0 w.commands in omega (arith, c)) in
@@ -274,7 +275,7 @@ module _ (p q : Source) (s : SameSource p q) (w : IsWellFormed p) (v : ProgramVa
       let one = h.told.triples i c e in
       let other = k.told.triples i d f in
       let below : i < points_named p.commands = let l = get_below a.points i c e in omega (arith, l, long) in
-      let same = least_once ((forgotten p h.reckoned).point i) (there.point i) one.least other.least (near.same_points i below) in
+      let same = least_once ((forgotten Two p h.reckoned).point i) (there.point i) one.least other.least (near.same_points i below) in
       record { x = one.x ∙ same.x ∙ sym other.x; y = one.y ∙ same.y ∙ sym other.y; w = one.w ∙ ap pos same.w ∙ sym other.w }) in
       λ i. record { points = points i; holds = hold i }
 

@@ -1,5 +1,5 @@
 -- The turns of a program, as they can be read off the forms of its commands and of its statement.
-use Rattle.std.proofs.Common.{◌≡◌, ℕ, zero, suc, Bool, true, false, List, [], ◌∷◌, ◌++◌, length, map, refl, sym, ◌∙◌, ap, ap₂, eqb, if◌then◌else◌}
+use Rattle.std.proofs.Common.{◌≡◌, ℕ, zero, suc, Bool, true, false, List, [], ◌∷◌, ◌++◌, length, map, Option, Some, None, refl, sym, ◌∙◌, ap, ap₂, eqb, if◌then◌else◌}
 use Rattle.std.specs.Prelude.{slice_index}
 use Rattle.std.specs.List.{AllByRecursion}
 use Rattle.std.proofs.lemmas.List.{map-append}
@@ -7,19 +7,19 @@ use Rattle.geo_points.specs.declared.ids.PointId.{PointId}
 use Rattle.geo_terms.specs.Stores.{Store, tree_of}
 use Rattle.geo_terms.specs.Trees.{Tree}
 use Rattle.geo_program.specs.declared.commands.Command.{Command}
-use Rattle.geo_program.specs.declared.commands.Command.TheVariants.{Point, Param, Line, Parallel, Perp, Med, Intersec, Inter, Foot, Pratio, Tratio, Online, Lratio, Midpoint, Translate, Symmetric, Reflect, Circumcenter, Orthocenter, Centroid, Oncircle, Second, Cc, Inverse}
+use Rattle.geo_program.specs.declared.commands.Command.TheVariants.{Point, Param, Line, Parallel, Perp, Med, Intersec, Inter, Foot, Pratio, Tratio, Online, Lratio, Midpoint, Translate, Symmetric, Reflect, Circumcenter, Orthocenter, Centroid, Oncircle, Second, Cc, Inverse, Weights, AssumeDifferent, AssumeNotCollinear, AssumeNotParallel}
 use Rattle.geo_program.specs.declared.names.NameKind.{NameKind}
 use Rattle.geo_program.specs.declared.names.NameKind.TheVariants as kind
-use Rattle.geo_program.specs.Names.{is_kind}
 use Rattle.geo_program.specs.declared.statements.Statement.{Statement}
 use Rattle.geo_program.specs.declared.statements.Statement.TheVariants as statement
 use Rattle.geo_program.specs.Forms.{Argument, CommandForm, point_argument, line_argument, number_argument, command_form}
 use Rattle.geo_program.specs.Spelling.{SameSource}
 use Rattle.geo_program.specs.WellFormed.{Source}
 use Rattle.geo_lowering.specs.Conditions.{Condition, early_conditions, expression_conditions, late_conditions}
-use Rattle.geo_lowering.specs.Counting.{named, hidden, has_number, further, counted, gathered, next_point, next_number}
+use Rattle.geo_lowering.specs.Counting.{named, hidden, has_number, is_made, further, counted, gathered, next_point, next_number}
 use Rattle.geo_lowering.specs.Lowering.{Layout, command_steps, layout_of, renamed, steps_from, steps_of}
-use Rattle.geo_lowering.specs.StepForms.{StepForm, along, turned_along}
+use Rattle.geo_lowering.specs.StepForms.{StepForm, along, turned_along, weighted}
+use Rattle.geo_lowering.specs.declared.version.Version.TheVariants.{Two}
 use Rattle.geo_conditions.specs.Statements.{pair_goals, statement_conditions, statement_goals}
 use Rattle.geo_conditions.specs.Terms.{goal_term}
 use Rattle.geo_conditions.proofs.GoalTexts.{IsPair, pairs_paired}
@@ -51,7 +51,7 @@ line_task l nodes t = record { line = t.line; task = task_of l nodes t.turn }
 -- COMMANDS
 -- what evaluation sees of a command
 record Sight : Type 0 where
-  kind : NameKind
+  kind : Option NameKind
   hidden : ℕ
   number : Bool
   steps : Layout → ℕ → ℕ → List StepForm
@@ -61,9 +61,9 @@ record Sight : Type 0 where
 abbrev sight : Store → Command → Sight
 sight nodes c = record {
   kind = named c;
-  hidden = hidden c;
+  hidden = hidden Two c;
   number = has_number c;
-  steps = λ l n m. command_steps l nodes n m c;
+  steps = λ l n m. command_steps Two l nodes n m c;
   early = early_conditions nodes c;
   late = λ x. late_conditions x c;
 }
@@ -71,11 +71,22 @@ sight nodes c = record {
 -- of a command whose number is this tree
 abbrev numbered : (Layout → Tree → StepForm) → Tree → Sight
 numbered step e = record {
-  kind = kind.Point;
+  kind = Some kind.Point;
   hidden = 0;
   number = false;
   steps = λ l n m. step l (renamed l e) ∷ [];
   early = expression_conditions e;
+  late = λ x. [];
+}
+
+-- of `weights` with these numbers
+abbrev by_weights : PointId → PointId → PointId → Tree → Tree → Sight
+by_weights a b c e f = record {
+  kind = Some kind.Point;
+  hidden = 0;
+  number = false;
+  steps = λ l n m. weighted (l.point a.0) (l.point b.0) (l.point c.0) (renamed l e) (renamed l f) ∷ [];
+  early = expression_conditions e ++ expression_conditions f;
   late = λ x. [];
 }
 
@@ -86,7 +97,9 @@ by_letter word letter c d = if eqb (slice_index word 0) letter then c else d
 -- what evaluation sees of a command with this word, so many points and these arguments
 abbrev seen_by : List ℕ → ℕ → List Argument → Sight
 seen_by word zero [] = sight [] Param
-seen_by word zero (point_argument a ∷ point_argument b ∷ []) = sight [] (Line a b)
+seen_by word zero (point_argument a ∷ point_argument b ∷ []) = sight [] (by_letter word 97 (AssumeDifferent a b) (Line a b))
+seen_by word zero (point_argument a ∷ point_argument b ∷ point_argument c ∷ []) = sight [] (AssumeNotCollinear a b c)
+seen_by word zero (point_argument a ∷ point_argument b ∷ point_argument c ∷ point_argument d ∷ []) = sight [] (AssumeNotParallel a b c d)
 seen_by word (suc zero) (point_argument p ∷ line_argument b ∷ []) = sight [] (Parallel p b)
 seen_by word (suc (suc zero)) (point_argument p ∷ line_argument b ∷ []) = sight [] (Perp p b)
 seen_by word (suc (suc zero)) (point_argument a ∷ point_argument b ∷ []) = sight [] (Med a b)
@@ -107,6 +120,7 @@ seen_by word (suc (suc zero)) (point_argument a ∷ point_argument b ∷ point_a
     (by_letter word 115 (Second a b c) (if eqb (slice_index word 1) 101 then Centroid a b c else Cc a b c)))
 seen_by word (suc (suc (suc zero))) (point_argument a ∷ point_argument b ∷ point_argument c ∷ []) = sight [] (Orthocenter a b c)
 seen_by word (suc (suc (suc (suc (suc zero))))) (point_argument a ∷ point_argument b ∷ point_argument c ∷ []) = sight [] (Circumcenter a b c)
+seen_by word (suc (suc zero)) (point_argument a ∷ point_argument b ∷ point_argument c ∷ number_argument e ∷ number_argument f ∷ []) = by_weights a b c e f
 seen_by word _ _ = sight [] Point
 
 abbrev seen : CommandForm → Sight
@@ -114,29 +128,7 @@ seen f = seen_by f.word f.points f.arguments
 
 seen-is : (nodes : Store) (c : Command) → seen (command_form nodes c) ≡ sight nodes c
 seen-is nodes Point = refl
-seen-is nodes Param = refl
-seen-is nodes (Line a b) = refl
-seen-is nodes (Parallel p b) = refl
-seen-is nodes (Perp p b) = refl
-seen-is nodes (Med a b) = refl
-seen-is nodes (Intersec a b) = refl
-seen-is nodes (Inter a b c d) = refl
-seen-is nodes (Foot p a b) = refl
-seen-is nodes (Pratio w u v r) = refl
-seen-is nodes (Tratio u v r) = refl
-seen-is nodes (Online a b) = refl
-seen-is nodes (Lratio a b r) = refl
-seen-is nodes (Midpoint a b) = refl
-seen-is nodes (Translate a b c) = refl
-seen-is nodes (Symmetric a o) = refl
-seen-is nodes (Reflect a p q) = refl
-seen-is nodes (Circumcenter a b c) = refl
-seen-is nodes (Orthocenter a b c) = refl
-seen-is nodes (Centroid a b c) = refl
-seen-is nodes (Oncircle o a) = refl
-seen-is nodes (Second a b o) = refl
-seen-is nodes (Cc o p a) = refl
-seen-is nodes (Inverse p o a) = refl
+seen-is nodes _ = refl
 
 sights : (nodes : Store) (cs : List Command) → map seen (map (command_form nodes) cs) ≡ map (sight nodes) cs
 sights nodes [] = refl
@@ -192,22 +184,22 @@ module _ (l : Layout) (nodes : Store) where
 
   command-is : (x n m : ℕ) (c : Command)
       → map (task_of l nodes)
-      (map test (early_conditions nodes c) ++ makes n (command_steps l nodes n m c) ++ gathered kind.Point (named c) (write (further n (hidden c))) []
+      (map test (early_conditions nodes c) ++ makes n (command_steps Two l nodes n m c) ++ gathered kind.Point (named c) (write (further n (hidden Two c))) []
       ++ map test (late_conditions (record { 0 = x }) c))
       ≡ command_tasks l x n m (sight nodes c)
   command-is x n m c =
       let T = task_of l nodes in
       let e = map test (early_conditions nodes c) in
-      let f = makes n (command_steps l nodes n m c) in
-      let g : List Turn = gathered kind.Point (named c) (write (further n (hidden c))) [] in
+      let f = makes n (command_steps Two l nodes n m c) in
+      let g : List Turn = gathered kind.Point (named c) (write (further n (hidden Two c))) [] in
       let h = map test (late_conditions (record { 0 = x }) c) in
       map-append T (e ++ f ++ g) h ∙ ap (λ (ts : List Task). ts ++ map T h) (map-append T (e ++ f) g ∙ ap (λ (ts : List Task). ts ++ map T g) (map-append T e f))
-      ∙ (λ i. tests-is (early_conditions nodes c) i ++ makes-is n (command_steps l nodes n m c) i ++ writes-is (is_kind (named c) kind.Point) (further n (hidden c)) i
+      ∙ (λ i. tests-is (early_conditions nodes c) i ++ makes-is n (command_steps Two l nodes n m c) i ++ writes-is (is_made kind.Point (named c)) (further n (hidden Two c)) i
           ++ tests-is (late_conditions (record { 0 = x }) c) i)
 
-  steps_from-is : (n m : ℕ) (cs : List Command) → steps_from l nodes n m cs ≡ steps_from' l n m (map (sight nodes) cs)
+  steps_from-is : (n m : ℕ) (cs : List Command) → steps_from Two l nodes n m cs ≡ steps_from' l n m (map (sight nodes) cs)
   steps_from-is n m [] = refl
-  steps_from-is n m (c ∷ cs) = ap (λ (xs : List StepForm). command_steps l nodes n m c ++ xs) (steps_from-is (next_point n c) (next_number m c) cs)
+  steps_from-is n m (c ∷ cs) = ap (λ (xs : List StepForm). command_steps Two l nodes n m c ++ xs) (steps_from-is (next_point Two n c) (next_number m c) cs)
 
 point_lines-is : (nodes : Store) (line : ℕ) (cs : List Command) → point_lines line cs ≡ point_lines' line (map (sight nodes) cs)
 point_lines-is nodes line [] = refl
@@ -215,17 +207,17 @@ point_lines-is nodes line (c ∷ cs) = ap (λ (xs : List ℕ). gathered kind.Poi
 
 module _ (p : Source) where
   abbrev L : Layout
-  L = layout_of p.commands
+  L = layout_of Two p.commands
 
   turns_from-is : (line x n m : ℕ) (cs : List Command) → map (line_task L p.nodes) (turns_from p line x n m cs) ≡ tasks_from' L line x n m (map (sight p.nodes) cs)
   turns_from-is line x n m [] = refl
   turns_from-is line x n m (c ∷ cs) =
       let first = at_line line (map test (early_conditions p.nodes c)
-      ++ makes n (command_steps L p.nodes n m c) ++ gathered kind.Point (named c) (write (further n (hidden c))) [] ++ map test (late_conditions (record { 0 = x }) c)) in
-      let rest = turns_from p (suc line) (counted kind.Point (named c) x) (next_point n c) (next_number m c) cs in
+      ++ makes n (command_steps Two L p.nodes n m c) ++ gathered kind.Point (named c) (write (further n (hidden Two c))) [] ++ map test (late_conditions (record { 0 = x }) c)) in
+      let rest = turns_from p (suc line) (counted kind.Point (named c) x) (next_point Two n c) (next_number m c) cs in
       map-append (line_task L p.nodes) first rest
       ∙ ap₂ (λ (xs ys : List LineTask). xs ++ ys) (on_line-is L p.nodes line _ ∙ ap (λ (ts : List Task). on_line line ts) (command-is L p.nodes x n m c))
-      (turns_from-is (suc line) (counted kind.Point (named c) x) (next_point n c) (next_number m c) cs)
+      (turns_from-is (suc line) (counted kind.Point (named c) x) (next_point Two n c) (next_number m c) cs)
 
 -- STATEMENTS
 goals_end : (l : Layout) (nodes : Store) (gs : List Statement) (g : Statement)
@@ -248,23 +240,23 @@ module _ (p q : Source) (s : SameSource p q) where
   same_sights : map (sight p.nodes) p.commands ≡ map (sight q.nodes) q.commands
   same_sights = sym (sights p.nodes p.commands) ∙ ap (map seen) s.commands ∙ sights q.nodes q.commands
 
-  pub same_steps : steps_of p ≡ steps_of q
+  pub same_steps : steps_of Two p ≡ steps_of Two q
   same_steps =
-      steps_from-is (layout_of p.commands) p.nodes 0 0 p.commands ∙ ap₂ (λ (l : Layout) (ss : List Sight). steps_from' l 0 0 ss) (same_layout p q s) same_sights
-      ∙ sym (steps_from-is (layout_of q.commands) q.nodes 0 0 q.commands)
+      steps_from-is (layout_of Two p.commands) p.nodes 0 0 p.commands ∙ ap₂ (λ (l : Layout) (ss : List Sight). steps_from' l 0 0 ss) (same_layout p q s Two) same_sights
+      ∙ sym (steps_from-is (layout_of Two q.commands) q.nodes 0 0 q.commands)
 
   pub same_point_lines : point_lines 1 p.commands ≡ point_lines 1 q.commands
   same_point_lines = point_lines-is p.nodes 1 p.commands ∙ ap (point_lines' 1) same_sights ∙ sym (point_lines-is q.nodes 1 q.commands)
 
   abbrev pub Lp : Layout
-  Lp = layout_of p.commands
+  Lp = layout_of Two p.commands
 
   abbrev pub Lq : Layout
-  Lq = layout_of q.commands
+  Lq = layout_of Two q.commands
 
   command_tasks_same : map (line_task Lp p.nodes) (turns_from p 1 0 0 0 p.commands) ≡ map (line_task Lq q.nodes) (turns_from q 1 0 0 0 q.commands)
   command_tasks_same =
-      turns_from-is p 1 0 0 0 p.commands ∙ ap₂ (λ (l : Layout) (ss : List Sight). tasks_from' l 1 0 0 0 ss) (same_layout p q s) same_sights ∙ sym (turns_from-is q 1 0 0 0 q.commands)
+      turns_from-is p 1 0 0 0 p.commands ∙ ap₂ (λ (l : Layout) (ss : List Sight). tasks_from' l 1 0 0 0 ss) (same_layout p q s Two) same_sights ∙ sym (turns_from-is q 1 0 0 0 q.commands)
 
   conditions_same : map (line_task Lp p.nodes) (at_line (suc (length p.commands)) (map test (statement_conditions p.nodes p.statement)))
       ≡ map (line_task Lq q.nodes) (at_line (suc (length q.commands)) (map test (statement_conditions q.nodes q.statement)))
@@ -279,7 +271,7 @@ module _ (p q : Source) (s : SameSource p q) where
   goal_tasks =
       goals_end Lp p.nodes (pair_goals p.nodes p.statement) p.statement
       ∙ ap (λ (ts : List Task). ts ++ judges (goal_term Lp p.nodes p.statement) ∷ []) (pair_terms Lp p.nodes q.nodes (pair_goals p.nodes p.statement) (pairs_paired p.nodes p.statement))
-      ∙ (λ i. map (λ g. judges (goal_term (same_layout p q s i) q.nodes g)) (same_saying p q s i).pairs ++ judges ((same_saying p q s i).term (same_layout p q s i)) ∷ [])
+      ∙ (λ i. map (λ g. judges (goal_term (same_layout p q s Two i) q.nodes g)) (same_saying p q s i).pairs ++ judges ((same_saying p q s i).term (same_layout p q s Two i)) ∷ [])
       ∙ sym (goals_end Lq q.nodes (pair_goals q.nodes q.statement) q.statement)
 
   goals_same : map (line_task Lp p.nodes) (at_line (suc (length p.commands)) (map judge (statement_goals p.nodes p.statement)))

@@ -12,6 +12,7 @@ use Rattle.geo_program.specs.declared.commands.Command.{Command}
 use Rattle.geo_lowering.specs.Counting.{numbers_had, points_from, points_past}
 use Rattle.geo_lowering.specs.Lowering.{point_place, steps_of}
 use Rattle.geo_lowering.specs.StepForms.{StepForm}
+use Rattle.geo_lowering.specs.declared.version.Version.TheVariants.{Two}
 use Rattle.geo_conditions.specs.declared.problem.Problem.{Problem}
 use Rattle.geo_conditions.specs.Lists.{Found, IsListed, found_from}
 use Rattle.geo_conditions.specs.Truth.{is_free}
@@ -78,7 +79,7 @@ module _ (run : Run) (problem : Problem) (ints : List ℤ) (h : IsRun run proble
     first_sketch = record {
       few = let a = none in omega (arith, a);
       numbers = numbers_long ∙ h.reckoned.values.numbers;
-      free = free ∙ sym (ap (λ (i : ℕ). length (free_places 0 (take i (steps_of run.program)))) none ∙ ap (λ (fs : List StepForm). length (free_places 0 fs)) (take_zero (steps_of run.program)));
+      free = free ∙ sym (ap (λ (i : ℕ). length (free_places 0 (take i (steps_of Two run.program)))) none ∙ ap (λ (fs : List StepForm). length (free_places 0 fs)) (take_zero (steps_of Two run.program)));
       same = record {
         same_points = λ k b. let a = none in absurd (omega (arith, a, b));
         same_numbers = number_same_at;
@@ -91,14 +92,14 @@ module _ (run : Run) (problem : Problem) (ints : List ℤ) (h : IsRun run proble
     conditions_none : take progress.tested run.conditions ≡ []
     conditions_none = ap (λ (i : ℕ). take i run.conditions) tested ∙ take_zero run.conditions
 
-    no_triple : (us : List Triple) → us ≡ [] → (a : ℕ) (t : Triple) → slice_get us a ≡ Some t → IsTripleOf t (run.placed.point (point_place run.program.commands a))
+    no_triple : (us : List Triple) → us ≡ [] → (a : ℕ) (t : Triple) → slice_get us a ≡ Some t → IsTripleOf t (run.placed.point (point_place Two run.program.commands a))
     no_triple [] e a t f = cc
     no_triple (u ∷ us) e a t f = cc
 
     pub first_taken : IsTaken run 0 progress
     first_taken = record {
       sketch = first_sketch;
-      points = none ∙ sym (ap (λ (cs : List Command). points_past 0 cs) commands_none);
+      points = none ∙ sym (ap (λ (cs : List Command). points_past Two 0 cs) commands_none);
       tested = omega (arith, tested);
       listed = subst (λ (cs : List Command). IsListed (λ f. f.condition) [] (found_from run.program.nodes 0 1 cs) (take progress.tested run.conditions)) (sym commands_none) conditions_none;
       held = subst (λ (fs : List Found). AllByRecursion (λ f. IsPassed run f.condition) fs) (sym conditions_none) tt;

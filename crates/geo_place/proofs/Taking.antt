@@ -11,11 +11,10 @@ use Rattle.geo_terms.specs.Stores.{Store}
 use Rattle.geo_program.specs.declared.commands.Command.{Command}
 use Rattle.geo_program.specs.declared.names.NameKind.{NameKind}
 use Rattle.geo_program.specs.declared.names.NameKind.TheVariants as kind
-use Rattle.geo_program.specs.Names.{is_kind}
 use Rattle.geo_program.specs.WellFormed.{IsWellFormed, Source}
 use Rattle.geo_points.specs.declared.ids.PointId.{PointId}
 use Rattle.geo_lowering.specs.Conditions.{late_conditions}
-use Rattle.geo_lowering.specs.Counting.{counted, further, gathered, hidden, named, next_point, numbers_had, points_from, points_past}
+use Rattle.geo_lowering.specs.Counting.{counted, further, gathered, hidden, is_made, named, next_point, numbers_had, points_from, points_past}
 use Rattle.geo_lowering.proofs.Values.{IsOver}
 use Rattle.geo_conditions.specs.Terms.{condition_term}
 use Rattle.geo_lowering.specs.Lowering.{layout_of, point_place, points_after, steps_of}
@@ -36,6 +35,7 @@ use Rattle.geo_place.proofs.CommandTurns.{E, K, L, Listed, W, after_at, all_pass
 use Rattle.geo_place.proofs.ListParts.{get_before, get_behind, head_of, index_at, none_before, same_length, tail_of}
 use Rattle.geo_place.proofs.Sketches.{point_found}
 use Rattle.geo_lowering.proofs.Puts.{of_path}
+use Rattle.geo_lowering.specs.declared.version.Version.TheVariants.{Two}
 use Rattle.geo_place.proofs.TestTurns.{tests_held, tests_pass, tests_stop}
 
 -- LISTS
@@ -67,10 +67,12 @@ part_holds P [] (y ∷ ys) zs (suc i) a h l u e = part_holds P [] ys zs i a h.1 
 part_holds P (x ∷ xs) ys zs zero a h l u e = absurd (omega arith)
 part_holds P (x ∷ xs) ys zs (suc i) a h l u e = part_holds P xs ys zs i a h (omega arith) (omega arith) e
 
-kind_is : (g : NameKind) → is_kind g kind.Point ≡ true → g ≡ kind.Point
-kind_is kind.Point e = refl
-kind_is kind.Param e = cc
-kind_is kind.Line e = cc
+-- what makes a point
+made_is : (made : Option NameKind) → is_made kind.Point made ≡ true → made ≡ Some kind.Point
+made_is (Some kind.Point) e = refl
+made_is (Some kind.Param) e = cc
+made_is (Some kind.Line) e = cc
+made_is None e = cc
 
 module _ (run : Run) (problem : Problem) (ints : List ℤ) (h : IsRun run problem ints) (k : ℕ) (c : Command) (at : slice_get run.program.commands k ≡ Some c)
     (old : Progress) (t : IsTaken run k old) where
@@ -99,7 +101,7 @@ module _ (run : Run) (problem : Problem) (ints : List ℤ) (h : IsRun run proble
   later = parts.later
 
   pub items_long : length problem.conditions ≡ length run.conditions
-  items_long = same_length (item_form nodes) (condition_item p) problem.conditions run.conditions h.written
+  items_long = same_length (item_form nodes) (condition_item Two p) problem.conditions run.conditions h.written
 
   before_long : length before_list ≡ old.tested
   before_long = length-take-le old.tested run.conditions t.tested
@@ -132,14 +134,14 @@ module _ (run : Run) (problem : Problem) (ints : List ℤ) (h : IsRun run proble
 
   line_at : (i : ℕ) (item : Item) → slice_get problem.conditions i ≡ Some item → old.tested ≤ i → i < count → item.line ≡ suc k
   line_at i item e l u =
-      let b = beneath (item_form nodes) (condition_item p) problem.conditions run.conditions i item h.written e in
+      let b = beneath (item_form nodes) (condition_item Two p) problem.conditions run.conditions i item h.written e in
       ap (λ (f : ItemForm). f.line) b.same
       ∙ part_holds (λ (f : Found). f.line ≡ suc k) before_list (first ++ second) later i b.other both_lines (let q = before_long in omega (arith, l, q))
       (let q = before_long in let r = both_long in omega (arith, u, q, r)) (subst (λ (fs : List Found). slice_get fs i ≡ Some b.other) whole_two b.here)
 
   line_past : (item : Item) → slice_get problem.conditions count ≡ Some item → suc k < item.line
   line_past item e =
-      let b = beneath (item_form nodes) (condition_item p) problem.conditions run.conditions count item h.written e in
+      let b = beneath (item_form nodes) (condition_item Two p) problem.conditions run.conditions count item h.written e in
       let l : count < length run.conditions = get_in run.conditions count b.other b.here in
       let same = ap (λ (f : ItemForm). f.line) b.same in
       let m = part_holds (λ (f : Found). suc k < f.line) (before_list ++ (first ++ second)) later [] count b.other parts.later_lines
@@ -193,18 +195,18 @@ module _ (run : Run) (problem : Problem) (ints : List ℤ) (h : IsRun run proble
   middle = old.tested + length first
 
   slices : (i j : ℕ) (xs ys zs : List Found) → run.conditions ≡ xs ++ (ys ++ zs) → length xs ≡ i → length ys ≡ j
-      → map (item_form nodes) (take j (drop i problem.conditions)) ≡ map (condition_item p) ys
+      → map (item_form nodes) (take j (drop i problem.conditions)) ≡ map (condition_item Two p) ys
   slices i j xs ys zs e a b =
       sym (take-map (item_form nodes) j (drop i problem.conditions)) ∙ ap (λ (fs : List ItemForm). take j fs) (sym (drop-map (item_form nodes) i problem.conditions))
-      ∙ ap (λ (fs : List ItemForm). take j (drop i fs)) h.written ∙ ap (λ (fs : List ItemForm). take j fs) (drop-map (condition_item p) i run.conditions)
-      ∙ take-map (condition_item p) j (drop i run.conditions)
-      ∙ ap (λ (fs : List Found). map (condition_item p) (take j fs)) (ap (λ (fs : List Found). drop i fs) e ∙ drop_at xs (ys ++ zs) i a)
-      ∙ ap (λ (fs : List Found). map (condition_item p) fs) (take_at ys zs j b)
+      ∙ ap (λ (fs : List ItemForm). take j (drop i fs)) h.written ∙ ap (λ (fs : List ItemForm). take j fs) (drop-map (condition_item Two p) i run.conditions)
+      ∙ take-map (condition_item Two p) j (drop i run.conditions)
+      ∙ ap (λ (fs : List Found). map (condition_item Two p) (take j fs)) (ap (λ (fs : List Found). drop i fs) e ∙ drop_at xs (ys ++ zs) i a)
+      ∙ ap (λ (fs : List Found). map (condition_item Two p) fs) (take_at ys zs j b)
 
-  pub first_items : map (item_form nodes) (take (middle - old.tested) (drop old.tested problem.conditions)) ≡ map (condition_item p) first
+  pub first_items : map (item_form nodes) (take (middle - old.tested) (drop old.tested problem.conditions)) ≡ map (condition_item Two p) first
   first_items = slices old.tested (middle - old.tested) before_list first (second ++ later) whole before_long (omega arith)
 
-  pub second_items : map (item_form nodes) (take (count - middle) (drop middle problem.conditions)) ≡ map (condition_item p) second
+  pub second_items : map (item_form nodes) (take (count - middle) (drop middle problem.conditions)) ≡ map (condition_item Two p) second
   second_items =
       slices middle (count - middle) (before_list ++ first) second later (parts.whole ∙ append_assoc (before_list ++ first) second later)
       (let a = before_long in let b = length-append before_list first in omega (arith, a, b)) (omega arith)
@@ -216,12 +218,12 @@ module _ (run : Run) (problem : Problem) (ints : List ℤ) (h : IsRun run proble
   abbrev M : ℕ
   M = numbers_had p.commands
 
-  early_over : AllByRecursion (λ d. IsOver N (length old.sketch.numbers.items) (condition_term (layout_of p.commands) d)) (early p w k c at)
+  early_over : AllByRecursion (λ d. IsOver N (length old.sketch.numbers.items) (condition_term (layout_of Two p.commands) d)) (early p w k c at)
   early_over =
-      subst (λ (i : ℕ). AllByRecursion (λ d. IsOver i (length old.sketch.numbers.items) (condition_term (layout_of p.commands) d)) (early p w k c at)) (sym t.points)
-      (subst (λ (j : ℕ). AllByRecursion (λ d. IsOver (n p w k c at) j (condition_term (layout_of p.commands) d)) (early p w k c at)) (sym t.sketch.numbers) (early_terms p w k c at run.placed))
+      subst (λ (i : ℕ). AllByRecursion (λ d. IsOver i (length old.sketch.numbers.items) (condition_term (layout_of Two p.commands) d)) (early p w k c at)) (sym t.points)
+      (subst (λ (j : ℕ). AllByRecursion (λ d. IsOver (n p w k c at) j (condition_term (layout_of Two p.commands) d)) (early p w k c at)) (sym t.sketch.numbers) (early_terms p w k c at run.placed))
 
-  module _ (items : List Item) (e : map (item_form nodes) items ≡ map (condition_item p) first) where
+  module _ (items : List Item) (e : map (item_form nodes) items ≡ map (condition_item Two p) first) where
     pub early_held : AllByRecursion (IsItemMet old.sketch nodes) items → AllByRecursion (λ f. IsPassed run f.condition) (before_list ++ first)
     early_held m = tests_held run old.sketch nodes N (length old.sketch.numbers.items) t.sketch.same (suc k) (early p w k c at) before_list first parts.early_listed t.held early_over items e m
 
@@ -239,25 +241,25 @@ module _ (run : Run) (problem : Problem) (ints : List ℤ) (h : IsRun run proble
   pub from_here : length old.sketch.points.items ≡ n p w k c at
   from_here = t.points
 
-  pub step_turns : take (next_point (n p w k c at) c - length old.sketch.points.items) (drop (length old.sketch.points.items) (steps_of p)) ≡ steps p w k c at
-  step_turns = ap (λ (i : ℕ). take (next_point (n p w k c at) c - i) (drop i (steps_of p))) t.points ∙ steps_here p w k c at
+  pub step_turns : take (next_point Two (n p w k c at) c - length old.sketch.points.items) (drop (length old.sketch.points.items) (steps_of Two p)) ≡ steps p w k c at
+  step_turns = ap (λ (i : ℕ). take (next_point Two (n p w k c at) c - i) (drop i (steps_of Two p))) t.points ∙ steps_here p w k c at
 
-  make_line : at_line (suc k) (makes (length old.sketch.points.items) (take (next_point (n p w k c at) c - length old.sketch.points.items) (drop (length old.sketch.points.items) (steps_of p)))) ≡ K p w k c at
+  make_line : at_line (suc k) (makes (length old.sketch.points.items) (take (next_point Two (n p w k c at) c - length old.sketch.points.items) (drop (length old.sketch.points.items) (steps_of Two p)))) ≡ K p w k c at
   make_line =
       ap (λ (fs : List StepForm). at_line (suc k) (makes (length old.sketch.points.items) fs)) step_turns ∙ ap (λ (i : ℕ). at_line (suc k) (makes i (steps p w k c at))) t.points
 
-  pub make_pass : AllByRecursion (Passes p run.placed) (at_line (suc k) (makes (length old.sketch.points.items) (take (next_point (n p w k c at) c - length old.sketch.points.items) (drop (length old.sketch.points.items) (steps_of p)))))
+  pub make_pass : AllByRecursion (Passes p run.placed) (at_line (suc k) (makes (length old.sketch.points.items) (take (next_point Two (n p w k c at) c - length old.sketch.points.items) (drop (length old.sketch.points.items) (steps_of Two p)))))
       → AllByRecursion (Passes p run.placed) (K p w k c at)
   make_pass h = subst (λ ts. AllByRecursion (Passes p run.placed) ts) make_line h
 
   pub make_fail : (error : PlaceError) → AllByRecursion (Passes p run.placed) (E p w k c at)
-      → Stops run (at_line (suc k) (makes (length old.sketch.points.items) (take (next_point (n p w k c at) c - length old.sketch.points.items) (drop (length old.sketch.points.items) (steps_of p))))) error
+      → Stops run (at_line (suc k) (makes (length old.sketch.points.items) (take (next_point Two (n p w k c at) c - length old.sketch.points.items) (drop (length old.sketch.points.items) (steps_of Two p))))) error
       → Stops run (turns_of p) error
   make_fail error a s = make_stop p w k c at run.values run.placed run.conditions error t.passed a (subst (λ ts. Stops run ts error) make_line s)
 
   -- how many points there are then
-  pub after_is : slice_index_or problem.after k 0 ≡ next_point (n p w k c at) c
-  after_is = index_at problem.after k 0 (next_point (n p w k c at) c) (ap (λ (ns : List ℕ). slice_get ns k) h.lowered.after ∙ after_at 0 p.commands k c at)
+  pub after_is : slice_index_or problem.after k 0 ≡ next_point Two (n p w k c at) c
+  after_is = index_at problem.after k 0 (next_point Two (n p w k c at) c) (ap (λ (ns : List ℕ). slice_get ns k) h.lowered.after ∙ after_at 0 p.commands k c at)
 
   pub after_long : k < length problem.after
   after_long = go problem.after k (ap (λ (ns : List ℕ). slice_get ns k) h.lowered.after ∙ after_at 0 p.commands k c at)
@@ -267,47 +269,47 @@ module _ (run : Run) (problem : Problem) (ints : List ℤ) (h : IsRun run proble
       go (y ∷ ys) zero e = omega arith
       go (y ∷ ys) (suc i) e = let q : i < length ys = go ys i e in omega arith
 
-  steps_long : length problem.steps.steps ≡ length (steps_of p)
+  steps_long : length problem.steps.steps ≡ length (steps_of Two p)
   steps_long = sym (length-map problem.steps.steps (step_form nodes)) ∙ ap (λ (fs : List StepForm). length fs) h.lowered.steps
 
-  pub next_few : next_point (n p w k c at) c ≤ length problem.steps.steps
+  pub next_few : next_point Two (n p w k c at) c ≤ length problem.steps.steps
   next_few = let a = points_few p w k c at in let b = steps_long in omega (arith, a, b)
 
-  pub next_up : length old.sketch.points.items ≤ next_point (n p w k c at) c
+  pub next_up : length old.sketch.points.items ≤ next_point Two (n p w k c at) c
   next_up = let a = points_up p w k c at in let b = t.points in omega (arith, a, b)
 
   -- BEHIND THE STEPS
-  module _ (new : Sketch) (s : IsSketchOf run new) (made : length new.points.items ≡ next_point (n p w k c at) c) where
+  module _ (new : Sketch) (s : IsSketchOf run new) (made : length new.points.items ≡ next_point Two (n p w k c at) c) where
     -- the point that the command names is the last
-    module _ (b : is_kind (named c) kind.Point ≡ true) where
-      next_is : next_point (n p w k c at) c ≡ suc (further (n p w k c at) (hidden c))
-      next_is = ap (λ (z : Bool). elim z [ true ↦ suc (further (n p w k c at) (hidden c)) | false ↦ further (n p w k c at) (hidden c) ]) b
+    module _ (b : is_made kind.Point (named c) ≡ true) where
+      next_is : next_point Two (n p w k c at) c ≡ suc (further (n p w k c at) (hidden Two c))
+      next_is = ap (λ (z : Bool). elim z [ true ↦ suc (further (n p w k c at) (hidden Two c)) | false ↦ further (n p w k c at) (hidden Two c) ]) b
 
-      pub last_is : length new.points.items - 1 ≡ further (n p w k c at) (hidden c)
+      pub last_is : length new.points.items - 1 ≡ further (n p w k c at) (hidden Two c)
       last_is = let a = next_is in omega (arith, a, made)
 
       pub some_point : 1 ≤ length new.points.items
       some_point = let a = next_is in omega (arith, a, made)
 
-      point_is : point_place p.commands (x p w k c at) ≡ further (n p w k c at) (hidden c)
-      point_is = (laid p w k c at).point (kind_is (named c) b)
+      point_is : point_place Two p.commands (x p w k c at) ≡ further (n p w k c at) (hidden Two c)
+      point_is = (laid p w k c at).point (made_is (named c) b)
 
-      write_line : W p w k c at ≡ record { line = suc k; turn = write (further (n p w k c at) (hidden c)) } ∷ []
-      write_line = ap (λ (z : Bool). at_line (suc k) (elim z [ true ↦ write (further (n p w k c at) (hidden c)) ∷ [] | false ↦ [] ])) b
+      write_line : W p w k c at ≡ record { line = suc k; turn = write (further (n p w k c at) (hidden Two c)) } ∷ []
+      write_line = ap (λ (z : Bool). at_line (suc k) (elim z [ true ↦ write (further (n p w k c at) (hidden Two c)) ∷ [] | false ↦ [] ])) b
 
       module _ (q : Position) (e : slice_get new.points.items (length new.points.items - 1) ≡ Some q) where
-        there : SamePoint (point_at q) (run.placed.point (further (n p w k c at) (hidden c)))
+        there : SamePoint (point_at q) (run.placed.point (further (n p w k c at) (hidden Two c)))
         there =
-            let f : slice_get new.points.items (further (n p w k c at) (hidden c)) ≡ Some q = subst (λ (i : ℕ). slice_get new.points.items i ≡ Some q) last_is e in
-            point_trans _ _ _ (of_path (sym (point_found new (further (n p w k c at) (hidden c)) q f)))
-            (s.same.same_points (further (n p w k c at) (hidden c)) (let a = next_is in omega (arith, a, made)))
+            let f : slice_get new.points.items (further (n p w k c at) (hidden Two c)) ≡ Some q = subst (λ (i : ℕ). slice_get new.points.items i ≡ Some q) last_is e in
+            point_trans _ _ _ (of_path (sym (point_found new (further (n p w k c at) (hidden Two c)) q f)))
+            (s.same.same_points (further (n p w k c at) (hidden Two c)) (let a = next_is in omega (arith, a, made)))
 
         pub write_pass : (IsTriplePast (point_at q) → ⊥) → AllByRecursion (Passes p run.placed) (W p w k c at)
         write_pass f =
             subst (λ ts. AllByRecursion (Passes p run.placed) ts) (sym write_line)
-            ((λ (z : IsTriplePast (run.placed.point (further (n p w k c at) (hidden c)))). f (z.0, z.1, point_trans _ _ _ z.2 (flip_point _ _ there), z.3), tt), tt)
+            ((λ (z : IsTriplePast (run.placed.point (further (n p w k c at) (hidden Two c)))). f (z.0, z.1, point_trans _ _ _ z.2 (flip_point _ _ there), z.3), tt), tt)
 
-        pub triple_is : (u : Triple) → IsTripleOf u (point_at q) → IsTripleOf u (run.placed.point (point_place p.commands (x p w k c at)))
+        pub triple_is : (u : Triple) → IsTripleOf u (point_at q) → IsTripleOf u (run.placed.point (point_place Two p.commands (x p w k c at)))
         triple_is u z =
             subst (λ (i : ℕ). IsTripleOf u (run.placed.point i)) (sym point_is) (record { told = z.told; x = z.x; y = z.y; w = z.w; least = z.least; same = point_trans _ _ _ z.same there; short_x = z.short_x; short_y = z.short_y })
 
@@ -319,30 +321,30 @@ module _ (run : Run) (problem : Problem) (ints : List ℤ) (h : IsRun run proble
             (subst (λ ts. Stops run ts (TooLarge l)) (sym write_line)
             (record {
               before = [];
-              turn = record { line = suc k; turn = write (further (n p w k c at) (hidden c)) };
+              turn = record { line = suc k; turn = write (further (n p w k c at) (hidden Two c)) };
               after = [];
               parts = refl;
               passed = tt;
               stops = (sym z.0, (z.1.0, z.1.1, point_trans _ _ _ z.1.2 there, z.1.3));
             }))
 
-    no_write : is_kind (named c) kind.Point ≡ false → AllByRecursion (Passes p run.placed) (W p w k c at)
-    no_write b = subst (λ ts. AllByRecursion (Passes p run.placed) ts) (sym (ap (λ (z : Bool). at_line (suc k) (elim z [ true ↦ write (further (n p w k c at) (hidden c)) ∷ [] | false ↦ [] ])) b)) tt
+    no_write : is_made kind.Point (named c) ≡ false → AllByRecursion (Passes p run.placed) (W p w k c at)
+    no_write b = subst (λ ts. AllByRecursion (Passes p run.placed) ts) (sym (ap (λ (z : Bool). at_line (suc k) (elim z [ true ↦ write (further (n p w k c at) (hidden Two c)) ∷ [] | false ↦ [] ])) b)) tt
 
     -- what is told of the command: the triple of its point, where it names one
     pub record IsTold (told : List Triple) : Type 0 where
       pub written : AllByRecursion (Passes p run.placed) (W p w k c at)
       pub long : length told ≡ counted kind.Point (named c) (x p w k c at)
-      pub triples : (a : ℕ) (u : Triple) → slice_get told a ≡ Some u → IsTripleOf u (run.placed.point (point_place p.commands a))
+      pub triples : (a : ℕ) (u : Triple) → slice_get told a ≡ Some u → IsTripleOf u (run.placed.point (point_place Two p.commands a))
 
-    pub told_none : is_kind (named c) kind.Point ≡ false → IsTold old.triples.items
+    pub told_none : is_made kind.Point (named c) ≡ false → IsTold old.triples.items
     told_none b = record {
       written = no_write b;
       long = t.told ∙ sym (ap (λ (z : Bool). elim z [ true ↦ suc (x p w k c at) | false ↦ x p w k c at ]) b);
       triples = t.triples;
     }
 
-    pub told_one : (b : is_kind (named c) kind.Point ≡ true) (q : Position) → slice_get new.points.items (length new.points.items - 1) ≡ Some q
+    pub told_one : (b : is_made kind.Point (named c) ≡ true) (q : Position) → slice_get new.points.items (length new.points.items - 1) ≡ Some q
         → (told : List Triple) → TellsTriple old.triples.items told q → IsTold told
     told_one b q e told z = record {
       written = write_pass b q e z.fits;
@@ -351,21 +353,21 @@ module _ (run : Run) (problem : Problem) (ints : List ℤ) (h : IsRun run proble
       triples = λ a u f. pushed_triple a u (subst (λ (us : List Triple). slice_get us a ≡ Some u) z.pushed f);
     }
       where
-        pushed_triple : (a : ℕ) (u : Triple) → slice_get (old.triples.items ++ z.triple ∷ []) a ≡ Some u → IsTripleOf u (run.placed.point (point_place p.commands a))
+        pushed_triple : (a : ℕ) (u : Triple) → slice_get (old.triples.items ++ z.triple ∷ []) a ≡ Some u → IsTripleOf u (run.placed.point (point_place Two p.commands a))
         pushed_triple a u f =
             ⊎_elim (λ (l : a < length old.triples.items). t.triples a u (sym (get_before old.triples.items (z.triple ∷ []) a l) ∙ f))
             (λ (l : length old.triples.items ≤ a).
             let r = get_behind old.triples.items z.triple a u l f in
-            subst (λ (i : ℕ). IsTripleOf u (run.placed.point (point_place p.commands i))) (sym (r.0 ∙ t.told)) (triple_is b q e u (subst (λ (v : Triple). IsTripleOf v (point_at q)) r.1 z.is)))
+            subst (λ (i : ℕ). IsTripleOf u (run.placed.point (point_place Two p.commands i))) (sym (r.0 ∙ t.told)) (triple_is b q e u (subst (λ (v : Triple). IsTripleOf v (point_at q)) r.1 z.is)))
             (cases_lt a (length old.triples.items))
 
     -- TESTS BEHIND THE STEPS
-    late_over : AllByRecursion (λ d. IsOver (length new.points.items) (length new.numbers.items) (condition_term (layout_of p.commands) d)) (late p w k c at)
+    late_over : AllByRecursion (λ d. IsOver (length new.points.items) (length new.numbers.items) (condition_term (layout_of Two p.commands) d)) (late p w k c at)
     late_over =
-        subst (λ (i : ℕ). AllByRecursion (λ d. IsOver i (length new.numbers.items) (condition_term (layout_of p.commands) d)) (late p w k c at)) (sym made)
-        (subst (λ (j : ℕ). AllByRecursion (λ d. IsOver (next_point (n p w k c at) c) j (condition_term (layout_of p.commands) d)) (late p w k c at)) (sym s.numbers) (late_terms p w k c at run.placed))
+        subst (λ (i : ℕ). AllByRecursion (λ d. IsOver i (length new.numbers.items) (condition_term (layout_of Two p.commands) d)) (late p w k c at)) (sym made)
+        (subst (λ (j : ℕ). AllByRecursion (λ d. IsOver (next_point Two (n p w k c at) c) j (condition_term (layout_of Two p.commands) d)) (late p w k c at)) (sym s.numbers) (late_terms p w k c at run.placed))
 
-    module _ (items : List Item) (e : map (item_form nodes) items ≡ map (condition_item p) second) (held : AllByRecursion (λ f. IsPassed run f.condition) (before_list ++ first)) where
+    module _ (items : List Item) (e : map (item_form nodes) items ≡ map (condition_item Two p) second) (held : AllByRecursion (λ f. IsPassed run f.condition) (before_list ++ first)) where
       late_held : AllByRecursion (IsItemMet new nodes) items → AllByRecursion (λ f. IsPassed run f.condition) ((before_list ++ first) ++ second)
       late_held m = tests_held run new nodes (length new.points.items) (length new.numbers.items) s.same (suc k) (late p w k c at) (before_list ++ first) second parts.late_listed held late_over items e m
 

@@ -13,6 +13,7 @@ use Rattle.geo_lowering.specs.Conditions.{Condition}
 use Rattle.geo_lowering.specs.Lowering.{layout_of}
 use Rattle.geo_lowering.proofs.ConditionValues.{each_append, each_back, each_front}
 use Rattle.geo_lowering.proofs.Values.{AgreeBelow, IsOver}
+use Rattle.geo_lowering.specs.declared.version.Version.TheVariants.{Two}
 use Rattle.geo_conditions.specs.declared.items.Item.{Item}
 use Rattle.geo_conditions.specs.Lists.{AreConditions, Found, IsListed, ItemForm, condition_item, found_at, item_form}
 use Rattle.geo_conditions.specs.Terms.{condition_term}
@@ -67,24 +68,24 @@ module _ (run : Run) where
 
   module _ (sketch : Sketch) (nodes : Store) (n m : ℕ) (g : SamePlacement n m (placement_of sketch) run.placed) where
     abbrev Over : Condition → Type 0
-    Over c = IsOver n m (condition_term (layout_of run.program.commands) c)
+    Over c = IsOver n m (condition_term (layout_of Two run.program.commands) c)
 
     abbrev FoundOver : Found → Type 0
     FoundOver f = Over f.condition
 
-    term_is : (item : Item) (f : Found) → item_form nodes item ≡ condition_item run.program f → tree_of nodes item.term ≡ condition_term (layout_of run.program.commands) f.condition
+    term_is : (item : Item) (f : Found) → item_form nodes item ≡ condition_item Two run.program f → tree_of nodes item.term ≡ condition_term (layout_of Two run.program.commands) f.condition
     term_is item f e = ap (λ (i : ItemForm). i.term) e
 
-    item_passes : (item : Item) (f : Found) → item_form nodes item ≡ condition_item run.program f → FoundOver f → IsItemMet sketch nodes item → IsPassed run f.condition
+    item_passes : (item : Item) (f : Found) → item_form nodes item ≡ condition_item Two run.program f → FoundOver f → IsItemMet sketch nodes item → IsPassed run f.condition
     item_passes item f e o h =
-        let t = condition_term (layout_of run.program.commands) f.condition in
+        let t = condition_term (layout_of Two run.program.commands) f.condition in
         let k = subst (λ u. (IsRefused (reckoned (placement_of sketch) u) → ⊥) × IsNonzero (number (reckoned (placement_of sketch) u))) (term_is item f e) h in
         (λ r. k.0 (refused_here n m (placement_of sketch) run.placed g t o r), nonzero_same _ _ (same_there n m (placement_of sketch) run.placed g t o) k.1)
 
-    items_pass : (items : List Item) (fs : List Found) → map (item_form nodes) items ≡ map (condition_item run.program) fs → AllByRecursion FoundOver fs
+    items_pass : (items : List Item) (fs : List Found) → map (item_form nodes) items ≡ map (condition_item Two run.program) fs → AllByRecursion FoundOver fs
         → AllByRecursion (IsItemMet sketch nodes) items → AllByRecursion (λ f. IsPassed run f.condition) fs
     items_pass items [] e o h = tt
-    items_pass [] (f ∷ fs) e o h = absurd (none_before [] (condition_item run.program f) (map (condition_item run.program) fs) (sym e))
+    items_pass [] (f ∷ fs) e o h = absurd (none_before [] (condition_item Two run.program f) (map (condition_item Two run.program) fs) (sym e))
     items_pass (item ∷ items) (f ∷ fs) e o h = (item_passes item f (head_of e) o.0 h.0, items_pass items fs (tail_of e) o.1 h.1)
 
     found_over : (line : ℕ) (cs : List Condition) → AllByRecursion Over cs → AllByRecursion FoundOver (found_at line cs)
@@ -97,7 +98,7 @@ module _ (run : Run) where
 
     module _ (line : ℕ) (cs : List Condition) (old more : List Found) (l : IsListed key old (found_at line cs) (old ++ more))
         (held : AllByRecursion (λ f. IsPassed run f.condition) old) (o : AllByRecursion Over cs) (items : List Item)
-        (e : map (item_form nodes) items ≡ map (condition_item run.program) more) where
+        (e : map (item_form nodes) items ≡ map (condition_item Two run.program) more) where
       more_over : AllByRecursion FoundOver more
       more_over = fresh_hold key FoundOver (found_at line cs) old more l (found_over line cs o)
 
@@ -110,10 +111,10 @@ module _ (run : Run) where
 
       -- and the first that is not met stops evaluation
       module _ (later : List Found) (all : run.conditions ≡ (old ++ more) ++ later) (listed : AreConditions run.program run.conditions) where
-        stop_at : (item : Item) (b : List Found) (f : Found) (a : List Found) (k : ℕ) → more ≡ b ++ f ∷ a → item_form nodes item ≡ condition_item run.program f → FoundOver f
+        stop_at : (item : Item) (b : List Found) (f : Found) (a : List Found) (k : ℕ) → more ≡ b ++ f ∷ a → item_form nodes item ≡ condition_item Two run.program f → FoundOver f
             → k ≡ suc (length (old ++ b)) → (error : PlaceError) → FailsItem sketch nodes item k error → (error ≡ NoMemory → ⊥) → StopsAt run (found_turn f) error
         stop_at item b f a k parts same o place (Unmet j) h d =
-            let t = condition_term (layout_of run.program.commands) f.condition in
+            let t = condition_term (layout_of Two run.program.commands) f.condition in
             let q = subst (λ u. (IsRefused (reckoned (placement_of sketch) u) → ⊥) × Same (number (reckoned (placement_of sketch) u)) (whole (pos 0))) (term_is item f same) h.1 in
             let split : run.conditions ≡ (old ++ b) ++ f ∷ (a ++ later) =
             all ∙ ap (λ (zs : List Found). (old ++ zs) ++ later) parts ∙ ap (λ (zs : List Found). zs ++ later) (sym (append_assoc old b (f ∷ a))) ∙ append_assoc (old ++ b) (f ∷ a) later in (
@@ -124,7 +125,7 @@ module _ (run : Run) where
               λ x. not_same _ x (fractions.same_trans _ _ _ (fractions.same_sym _ _ (same_there n m (placement_of sketch) run.placed g t o)) q.1),
             )
         stop_at item b f a k parts same o place (TooLarge line') h d =
-            let t = condition_term (layout_of run.program.commands) f.condition in (
+            let t = condition_term (layout_of Two run.program.commands) f.condition in (
               ap (λ (i : ItemForm). i.line) (sym same) ∙ sym h.0,
               refused_there n m (placement_of sketch) run.placed g t o (subst (λ u. IsRefused (reckoned (placement_of sketch) u)) (term_is item f same) h.1),
             )
@@ -132,12 +133,12 @@ module _ (run : Run) where
 
         stop_found : (error : PlaceError) → FirstFails sketch nodes items (length old) error → (error ≡ NoMemory → ⊥) → Stop run (at_line line (map test cs)) error
         stop_found error h d =
-            let s = beside (item_form nodes) (condition_item run.program) h.before h.item h.after more (subst (λ is. map (item_form nodes) is ≡ map (condition_item run.program) more) h.parts e) in
+            let s = beside (item_form nodes) (condition_item Two run.program) h.before h.item h.after more (subst (λ is. map (item_form nodes) is ≡ map (condition_item Two run.program) more) h.parts e) in
             let over = subst (λ fs. AllByRecursion FoundOver fs) s.parts more_over in
             let b = items_pass h.before s.before s.same_before (each_front FoundOver s.before (s.item ∷ s.after) over) h.met in
             let first = first_fresh key (IsPassed run) (found_at line cs) old s.before s.item s.after (subst (λ fs. IsListed key old (found_at line cs) (old ++ fs)) s.parts l) held b in
             let long : suc (length old + length h.before) ≡ suc (length (old ++ s.before)) =
-            let p = same_length (item_form nodes) (condition_item run.program) h.before s.before s.same_before in let q = length-append old s.before in omega arith in
+            let p = same_length (item_form nodes) (condition_item Two run.program) h.before s.before s.same_before in let q = length-append old s.before in omega arith in
             record {
               before = map found_turn first.before;
               turn = found_turn s.item;

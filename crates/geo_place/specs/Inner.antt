@@ -11,13 +11,12 @@ use Rattle.geo_points.specs.Points.{Point, x_coordinate, y_coordinate}
 use Rattle.geo_terms.specs.declared.steps.Step.{Step}
 use Rattle.geo_terms.specs.declared.steps.Step.TheVariants as step
 use Rattle.geo_terms.specs.Stores.{Store, tree_of}
-use Rattle.geo_program.specs.declared.names.Name.{Name}
-use Rattle.geo_program.specs.declared.names.NameKind.TheVariants as kind
 use Rattle.geo_program.specs.WellFormed.{IsWellFormed, Source}
 use Rattle.geo_lowering.specs.Conditions.{Condition}
-use Rattle.geo_lowering.specs.Counting.{gathered, numbers_had, points_from, points_past}
+use Rattle.geo_lowering.specs.Counting.{numbers_had, points_from, points_past}
 use Rattle.geo_lowering.specs.Lowering.{IsLowered, point_place, steps_of}
-use Rattle.geo_lowering.specs.StepForms.{StepForm, free, crossing_of, foot_of, along, turned_along}
+use Rattle.geo_lowering.specs.StepForms.{StepForm, free, crossing_of, foot_of, along, turned_along, weighted}
+use Rattle.geo_lowering.specs.declared.version.Version.TheVariants.{Two}
 use Rattle.geo_conditions.specs.declared.items.Item.{Item}
 use Rattle.geo_conditions.specs.declared.problem.Problem.{Problem}
 use Rattle.geo_conditions.specs.Lists.{AreConditions, AreGoals, Found, IsListed, condition_item, goal_item, found_at, found_from, item_form}
@@ -84,6 +83,7 @@ free_places n (crossing_of u v p q ∷ fs) = free_places (suc n) fs
 free_places n (foot_of p u v ∷ fs) = free_places (suc n) fs
 free_places n (along w u v r ∷ fs) = free_places (suc n) fs
 free_places n (turned_along u v r ∷ fs) = free_places (suc n) fs
+free_places n (weighted o u v r s ∷ fs) = free_places (suc n) fs
 
 -- ITEMS
 -- what is reckoned of the item's term
@@ -142,19 +142,19 @@ pub record Run : Type 0 where
 -- these are the problem and the values of the run
 pub record IsRun (run : Run) (problem : Problem) (ints : List ℤ) : Type 0 where
   pub formed : IsWellFormed run.program
-  pub lowered : IsLowered run.program (form_of_problem problem)
+  pub lowered : IsLowered Two run.program (form_of_problem problem)
   pub reckoned : IsReckoned run.program run.values run.placed
   pub listed : AreConditions run.program run.conditions
   pub stored : All (λ i. i.term.0 < length problem.steps.nodes) problem.conditions
-  pub written : map (item_form problem.steps.nodes) problem.conditions ≡ map (condition_item run.program) run.conditions
+  pub written : map (item_form problem.steps.nodes) problem.conditions ≡ map (condition_item Two run.program) run.conditions
   pub ints_are : ints ≡ integers_of run.values
   pub short : All (λ z. unsigned_abs z < 2 ^ 127) ints
 
 -- the sketch has the first points of the run's placement, and all its numbers
 pub record IsSketchOf (run : Run) (sketch : Sketch) : Type 0 where
-  pub few : length sketch.points.items ≤ length (steps_of run.program)
+  pub few : length sketch.points.items ≤ length (steps_of Two run.program)
   pub numbers : length sketch.numbers.items ≡ numbers_had run.program.commands
-  pub free : sketch.free ≡ length (free_places 0 (take (length sketch.points.items) (steps_of run.program)))
+  pub free : sketch.free ≡ length (free_places 0 (take (length sketch.points.items) (steps_of Two run.program)))
   pub same : SamePlacement (length sketch.points.items) (length sketch.numbers.items) (placement_of sketch) run.placed
 
 -- the turn stops evaluation with this error
@@ -186,14 +186,14 @@ IsPassed run c = (IsTooLarge run.program run.placed (test c) → ⊥) × IsRight
 -- the first k commands are evaluated, and all their turns pass
 pub record IsTaken (run : Run) (k : ℕ) (progress : Progress) : Type 0 where
   pub sketch : IsSketchOf run progress.sketch
-  pub points : length progress.sketch.points.items ≡ points_past 0 (take k run.program.commands)
+  pub points : length progress.sketch.points.items ≡ points_past Two 0 (take k run.program.commands)
   pub tested : progress.tested ≤ length run.conditions
   pub listed : IsListed (λ f. f.condition) [] (found_from run.program.nodes 0 1 (take k run.program.commands))
       (take progress.tested run.conditions)
   pub held : AllByRecursion (λ f. IsPassed run f.condition) (take progress.tested run.conditions)
   pub told : length progress.triples.items ≡ points_from 0 (take k run.program.commands)
   pub triples : (a : ℕ) (t : Triple) → slice_get progress.triples.items a ≡ Some t
-      → IsTripleOf t (run.placed.point (point_place run.program.commands a))
+      → IsTripleOf t (run.placed.point (point_place Two run.program.commands a))
   pub passed : AllByRecursion (Passes run.program run.placed) (turns_from run.program 1 0 0 0 (take k run.program.commands))
 
 -- evaluation ends with this error, unless memory is wanting
@@ -202,20 +202,16 @@ EndsWith run (Unmet k) = EndsAs run.program run.placed (unmet k)
 EndsWith run (TooLarge line) = EndsAs run.program run.placed (too_large line)
 EndsWith run NoMemory = Unit {0}
 
--- NAMES
--- the lines of the names of points, where the first name's is `line`
-abbrev pub name_lines : ℕ → List Name → List ℕ
-name_lines line [] = []
-name_lines line (n ∷ names) = gathered kind.Point n.kind line (name_lines (suc line) names)
-
+-- TRIPLES
 -- the triple of a point that is told
 abbrev pub triple_at : At → Triple
 triple_at a = record { x = a.x; y = a.y; w = a.w }
 
--- the number of the step stands in the store
+-- the numbers of the step stand in the store
 abbrev pub HasNumber : Store → Step → Type 0
 HasNumber nodes (step.Pratio w u v r) = r.0 < length nodes
 HasNumber nodes (step.Tratio u v r) = r.0 < length nodes
+HasNumber nodes (step.Weights o u v r s) = (r.0 < length nodes) × (s.0 < length nodes)
 HasNumber nodes _ = Unit {0}
 
 -- the triple of the position stands behind those before it, and is not too large

@@ -10,6 +10,7 @@ use Rattle.geo_program.specs.Names.{names_of}
 use Rattle.geo_program.specs.WellFormed.{Source}
 use Rattle.geo_lowering.specs.Building.{forgotten}
 use Rattle.geo_lowering.specs.Counting.{gathered, named, numbers_had, points_named}
+use Rattle.geo_lowering.specs.declared.version.Version.TheVariants.{Two}
 use Rattle.geo_conditions.specs.Truth.{HasValues, Holds, Meets, ProgramValues, free_points}
 use Rattle.geo_place.specs.declared.placed.At.{At}
 use Rattle.geo_place.specs.declared.placed.Placed.{Placed}
@@ -59,9 +60,9 @@ pub record Places (p : Source) (v : ProgramValues) (answer : Placed) : Type 0 wh
   pub reckoned : Placement
   pub is_reckoned : IsReckoned p v reckoned
   pub ends : EndsAs p reckoned (placed_all answer.holds)
-  pub told : AreTold p (forgotten p reckoned) answer.points
-  pub only : IsOnlyPlacement p v (forgotten p reckoned)
-  pub holds : IsTrue answer.holds ↔ Holds p (forgotten p reckoned)
+  pub told : AreTold p (forgotten Two p reckoned) answer.points
+  pub only : IsOnlyPlacement p v (forgotten Two p reckoned)
+  pub holds : IsTrue answer.holds ↔ Holds p (forgotten Two p reckoned)
 
 -- evaluation ends at the k-th condition, and no placement with the values meets the program
 pub record PlacesNothing (p : Source) (v : ProgramValues) (k : ℕ) : Type 0 where

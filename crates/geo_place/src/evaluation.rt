@@ -5,13 +5,12 @@ ghost use Rattle.std.specs.Prelude.{OnOk, Some, drop, length, pos, slice_get, sl
 ghost use Rattle.std.specs.Prelude.{unsigned_abs};
 ghost use Rattle.ring_laws.specs.Fraction.{whole};
 ghost use Rattle.frac_laws.specs.Numbers.{IsNumber};
-ghost use Rattle.geo_program.specs.Names.{is_kind};
 ghost use Rattle.geo_program.specs.Programs.{source_of};
-ghost use Rattle.geo_program.specs.declared.names.NameKind.TheVariants as kind;
 ghost use Rattle.geo_points.specs.declared.ids.PointId.{PointId};
 ghost use Rattle.geo_lowering.specs.Conditions.{late_conditions};
-ghost use Rattle.geo_lowering.specs.Counting.{named, points_named};
+ghost use Rattle.geo_lowering.specs.Counting.{points_named};
 ghost use Rattle.geo_lowering.specs.Lowering.{point_place};
+ghost use Rattle.geo_lowering.specs.declared.version.Version.TheVariants.{Two};
 ghost use Rattle.geo_conditions.specs.Lists.{AreStoredGoals};
 ghost use Rattle.geo_place.specs.Evaluation.{EndsAs, IsTriplePast, placed_all, turns_of};
 ghost use Rattle.geo_place.specs.Inner.{EndsWith, IsRun, IsTaken, IsTripleOf, IsTripleStop, Run};
@@ -19,6 +18,7 @@ ghost use Rattle.geo_place.specs.Inner.{Stops, TellsTriple, point_at};
 
 use crate::conditions::{all_hold, conditions_through, test_conditions};
 use crate::errors::PlaceError;
+use crate::naming::names_point;
 use crate::positions::{Position, whole_number};
 use crate::sketch::Sketch;
 use crate::triples::{Triple, triple_of};
@@ -47,20 +47,6 @@ pub struct Progress {
     pub tested: usize,
     /// The triples of the named points so far.
     pub triples: Vec<Triple>,
-}
-
-/// Whether the command names a point.
-fn names_point(command: &Command) -> bool
-    ensures { result ≡ is_kind (named command.now) kind.Point }
-{
-    !matches!(
-        command,
-        Command::Param
-            | Command::Line { .. }
-            | Command::Parallel { .. }
-            | Command::Perp { .. }
-            | Command::Med { .. }
-    )
 }
 
 /// How many conditions of the command name its point.
@@ -186,14 +172,14 @@ pub fn evaluate(
 ) -> Result<Evaluated, PlaceError>
     ghost run: { Run }
     requires run { IsRun run problem.now values.now }
-    requires goals { AreStoredGoals run.program problem.now.steps.nodes problem.now.goals }
+    requires goals { AreStoredGoals Two run.program problem.now.steps.nodes problem.now.goals }
     requires program { source_of program.now ≡ run.program }
     ensures placed { IfOk result (λ e. EndsAs run.program run.placed (placed_all e.holds)) }
     ensures told { IfOk result (λ e.
         length e.triples.items ≡ points_named run.program.commands) }
     ensures triples { IfOk result (λ e. (a : ℕ) (t : Triple)
         → slice_get e.triples.items a ≡ Some t
-        → IsTripleOf t (run.placed.point (point_place run.program.commands a))) }
+        → IsTripleOf t (run.placed.point (point_place Two run.program.commands a))) }
     ensures stopped { IfErr result (EndsWith run) }
 {
     let commands = program.commands.as_slice();

@@ -6,6 +6,7 @@ ghost use Rattle.std.specs.Prelude.{take, unsigned_abs};
 ghost use Rattle.std.specs.List.{AllByRecursion};
 ghost use Rattle.geo_lowering.specs.Lowering.{steps_of};
 ghost use Rattle.geo_lowering.specs.StepForms.{StepForm, step_form};
+ghost use Rattle.geo_lowering.specs.declared.version.Version.TheVariants.{Two};
 ghost use Rattle.geo_points.specs.Placements.{SamePoint};
 ghost use Rattle.geo_terms.specs.Stores.{Store};
 ghost use Rattle.ring_laws.specs.Fraction.{whole};
@@ -103,10 +104,10 @@ impl Sketch {
         ensures points { OnOk result
             (length self.new.points.items ≡ length self.old.points.items + 1) }
         ensures passed { OnOk result ((f : StepForm)
-            → slice_get (steps_of run.program) (length self.old.points.items) ≡ Some f
+            → slice_get (steps_of Two run.program) (length self.old.points.items) ≡ Some f
             → IsTooLarge run.program run.placed (make (length self.old.points.items) f) → ⊥) }
         ensures stops { IfErr result (λ e. (f : StepForm)
-            → slice_get (steps_of run.program) (length self.old.points.items) ≡ Some f
+            → slice_get (steps_of Two run.program) (length self.old.points.items) ≡ Some f
             → Stops run (at_line line (make (length self.old.points.items) f ∷ [])) e) }
     {
         let step = problem.steps.step(PointId(self.points.len() as u32));
@@ -134,11 +135,11 @@ impl Sketch {
         ensures passed { OnOk result (AllByRecursion (Passes run.program run.placed)
             (at_line line (makes (length self.old.points.items)
             (take (to - length self.old.points.items)
-            (drop (length self.old.points.items) (steps_of run.program)))))) }
+            (drop (length self.old.points.items) (steps_of Two run.program)))))) }
         ensures stops { IfErr result (Stops run
             (at_line line (makes (length self.old.points.items)
             (take (to - length self.old.points.items)
-            (drop (length self.old.points.items) (steps_of run.program)))))) }
+            (drop (length self.old.points.items) (steps_of Two run.program)))))) }
     {
         for _ in self.points.len() as u32..to {
             self.make_point(problem, values, line)?;

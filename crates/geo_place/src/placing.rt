@@ -8,7 +8,7 @@ ghost use Rattle.geo_place.specs.Placing.{values_wanted};
 
 use crate::errors::PlaceError;
 use crate::evaluation::evaluate;
-use crate::naming::named_points;
+use crate::naming::{lines_of_points, named_points};
 use crate::placed::{Ints, Placed};
 use geo_conditions::list;
 use geo_lowering::lower;
@@ -29,7 +29,8 @@ pub fn place(alloc: Global, program: &Program, values: &Ints) -> Result<Placed, 
     let lowered = lower(alloc, program)?;
     let problem = list(alloc, program, lowered)?;
     let evaluated = evaluate(alloc, program, &problem, &values.items)?;
-    let points = named_points(alloc, program.names.as_slice(), &evaluated.triples)?;
+    let lines = lines_of_points(alloc, program.commands.as_slice())?;
+    let points = named_points(alloc, program.names.as_slice(), &lines, &evaluated.triples)?;
     Ok(Placed {
         points,
         holds: evaluated.holds,

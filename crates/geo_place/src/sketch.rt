@@ -13,7 +13,7 @@ ghost use Rattle.geo_place.specs.Reckonings.{HasResult};
 use crate::positions::{Position, Reckoned, whole_number};
 use crate::quantities::{area, pythagoras, ratio};
 use crate::results::{difference_of, opposite_of, product_of, quotient_of, sum_of};
-use crate::spots::{aside, crossing, foot, onwards, there};
+use crate::spots::{aside, crossing, foot, onwards, there, weighted};
 use frac_laws::{Frac, FracTooLarge};
 use geo_points::{ParamId, PointId, TermId};
 use geo_terms::{Node, Step, Terms};
@@ -106,6 +106,10 @@ impl Sketch {
                 let number = self.term(terms, r);
                 let (u, v) = (self.point(u), self.point(v));
                 aside(there(&u), number, &u, &v)
+            }
+            Step::Weights { o, u, v, r, s } => {
+                let (r, s) = (self.term(terms, r), self.term(terms, s));
+                weighted(&self.point(o), &self.point(u), &self.point(v), r, s)
             }
         }
     }

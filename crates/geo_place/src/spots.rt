@@ -2,7 +2,7 @@
 
 ghost use Rattle.geo_points.specs.Points.{Point};
 ghost use Rattle.geo_place.specs.Formulas.{Spot, aside as aside_of, crossing_spot, foot_spot};
-ghost use Rattle.geo_place.specs.Formulas.{onwards as onwards_of, spot_of};
+ghost use Rattle.geo_place.specs.Formulas.{onwards as onwards_of, spot_of, weighted_spot};
 ghost use Rattle.geo_place.specs.Inner.{AreResults, IsPosition};
 ghost use Rattle.geo_place.specs.Reckonings.{HasResult, Reckoning};
 
@@ -44,6 +44,21 @@ pub fn aside(w: Reckoned, r: Result<Frac, FracTooLarge>, u: &Position, v: &Posit
     let x = difference_of(w.x, product_of(r, rise(u, v)));
     let y = sum_of(w.y, product_of(r, run(u, v)));
     Reckoned { x, y }
+}
+
+/// `(O + r (U - O)) + s (V - O)`.
+pub fn weighted(
+    o: &Position,
+    u: &Position,
+    v: &Position,
+    r: Result<Frac, FracTooLarge>,
+    s: Result<Frac, FracTooLarge>,
+) -> Reckoned
+    ensures { (O U V : Point) (e f : Reckoning) → IsPosition o.now O → IsPosition u.now U
+        → IsPosition v.now V → HasResult e r → HasResult f s
+        → AreResults result (weighted_spot O U V e f) }
+{
+    onwards(onwards(there(o), r, o, u), s, o, v)
 }
 
 /// The point of the lines UV and PQ.

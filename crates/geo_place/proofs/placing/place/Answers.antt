@@ -18,13 +18,14 @@ use Rattle.geo_place.proofs.Existence.{placement_least, placement_reckoned, reck
 use Rattle.geo_place.proofs.PlaceAnswers.{all_drawable, answer_placed, answer_stopped, are_told, names_counted, refused_answer}
 use Rattle.geo_place.proofs.ValueLists.{values_are, values_of, values_once}
 use Rattle.geo_place.proofs.placing.place.Goals as goal
+use Rattle.geo_lowering.specs.declared.version.Version.TheVariants.{Two}
 
 pub evaluate-requires : goal.evaluate-requires
 evaluate-requires c =
     let p = source_of c.args.program.now in
     let w = program_well_formed c.args.program.now in
     let q = c.in_ok-problem.problem in
-    let i : IsProblem p (form_of_problem q) q.conditions q.goals = c.in_ok-problem.ensures in
+    let i : IsProblem Two p (form_of_problem q) q.conditions q.goals = c.in_ok-problem.ensures in
     let zs = c.deref.result.now in
     let same : zs ≡ c.args.values.now = c.deref.ensures.value ∙ c.values.view_is in
     let full : length zs ≡ values_wanted p = ap (λ (ys : List ℤ). length ys) same ∙ c.requires.wanted in
@@ -40,7 +41,7 @@ evaluate-requires c =
         reckoned = reckoned;
         listed = listed.1;
         stored = i.conditions.stored;
-        written = i.conditions.are.written ∙ ap (λ (fs : List Found). map (condition_item p) fs) once;
+        written = i.conditions.are.written ∙ ap (λ (fs : List Found). map (condition_item Two p) fs) once;
         ints_are = sym are.0;
         short = subst (λ (ys : List ℤ). All (λ z. unsigned_abs z < 2 ^ 127) ys) (sym same) c.requires.short;
       },
@@ -52,7 +53,7 @@ returns-in_err-evaluated-clause-answer c = λ v l e.
     let p = source_of c.args.program.now in
     let w = program_well_formed c.args.program.now in
     let q = c.in_ok-problem.problem in
-    let i : IsProblem p (form_of_problem q) q.conditions q.goals = c.in_ok-problem.ensures in
+    let i : IsProblem Two p (form_of_problem q) q.conditions q.goals = c.in_ok-problem.ensures in
     let zs = c.deref.result.now in
     let same : zs ≡ c.args.values.now = c.deref.ensures.value ∙ c.values.view_is in
     let full : length zs ≡ values_wanted p = ap (λ (ys : List ℤ). length ys) same ∙ c.requires.wanted in
@@ -69,16 +70,20 @@ pub named_points-requires : goal.named_points-requires
 named_points-requires c =
     let p = source_of c.args.program.now in
     let w = program_well_formed c.args.program.now in
-    let q : 0 + length (names_of kind.Point p.names) ≡ length (names_of kind.Point p.names) = omega arith in
-    ap (λ (ts : List Triple). length ts) c.deref-2.ensures.value ∙ c.in_ok-evaluated.ensures.told ∙ names_counted p.nodes empty_scope p.names p.commands 0 w.commands ∙ q
-    ∙ ap (λ (ns : List Name). length (names_of kind.Point ns)) (sym c.as_slice.ensures)
+    let q : 0 + length (point_lines 1 p.commands) ≡ length (point_lines 1 p.commands) = omega arith in
+    let names = names_counted p w in
+    let same = ap (λ (ns : List Name). length (names_of kind.Point ns)) (sym c.as_slice-2.ensures) in (
+      ap (λ (ls : List ℕ). length ls) c.deref-2.ensures.value ∙ ap (λ (ls : List ℕ). length ls) c.in_ok-lines.ensures
+          ∙ ap (λ (cs : List Command). length (point_lines 1 cs)) c.as_slice.ensures ∙ sym (lines_counted 0 1 p.commands ∙ q) ∙ names ∙ same,
+      ap (λ (ts : List Triple). length ts) c.deref-3.ensures.value ∙ c.in_ok-evaluated.ensures.told ∙ names ∙ same,
+    )
 
 pub returns-clause-answer : goal.returns-clause-answer
 returns-clause-answer c = λ v l e.
     let p = source_of c.args.program.now in
     let w = program_well_formed c.args.program.now in
     let q = c.in_ok-problem.problem in
-    let i : IsProblem p (form_of_problem q) q.conditions q.goals = c.in_ok-problem.ensures in
+    let i : IsProblem Two p (form_of_problem q) q.conditions q.goals = c.in_ok-problem.ensures in
     let zs = c.deref.result.now in
     let same : zs ≡ c.args.values.now = c.deref.ensures.value ∙ c.values.view_is in
     let full : length zs ≡ values_wanted p = ap (λ (ys : List ℤ). length ys) same ∙ c.requires.wanted in
@@ -99,7 +104,7 @@ returns-clause-drawable c =
     let p = source_of c.args.program.now in
     let w = program_well_formed c.args.program.now in
     let q = c.in_ok-problem.problem in
-    let i : IsProblem p (form_of_problem q) q.conditions q.goals = c.in_ok-problem.ensures in
+    let i : IsProblem Two p (form_of_problem q) q.conditions q.goals = c.in_ok-problem.ensures in
     let zs = c.deref.result.now in
     let same : zs ≡ c.args.values.now = c.deref.ensures.value ∙ c.values.view_is in
     let full : length zs ≡ values_wanted p = ap (λ (ys : List ℤ). length ys) same ∙ c.requires.wanted in

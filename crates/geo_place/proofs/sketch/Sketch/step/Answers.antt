@@ -27,3 +27,12 @@ returns-in-Tratio c =
     subst (λ s. AreResults c.aside.result (step_spot P c.args.y.0 (step_form c.args.terms.now s))) (sym c.in-Tratio.is)
     (c.aside.ensures (spot_of U) (reckoned P (tree_of c.args.terms.now c.in-Tratio.r)) U (P.point c.in-Tratio.v.0)
     (c.there-in-Tratio.ensures U c.point-u-in-Tratio.ensures) c.term-number-in-Tratio.ensures c.point-u-in-Tratio.ensures c.point-v-in-Tratio.ensures)
+
+pub returns-in-Weights : goal.returns-in-Weights
+returns-in-Weights c =
+    let P = placement_of c.args.self.now in
+    let nodes = c.args.terms.now in
+    subst (λ s. AreResults c.weighted.result (step_spot P c.args.y.0 (step_form nodes s))) (sym c.in-Weights.is)
+    (c.weighted.ensures (P.point c.in-Weights.o.0) (P.point c.in-Weights.u.0) (P.point c.in-Weights.v.0) (reckoned P (tree_of nodes c.in-Weights.r))
+    (reckoned P (tree_of nodes c.in-Weights.s)) c.point-in-Weights.ensures c.point-in-Weights-2.ensures c.point-in-Weights-3.ensures
+    c.term-r.ensures c.term-s.ensures)
