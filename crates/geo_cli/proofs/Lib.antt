@@ -1,5 +1,6 @@
 pub mod ValueLines
 pub mod OrderLemmas
+pub mod ValuesDue
 pub mod OneDue
 pub mod Answered
 pub mod ReadLogs

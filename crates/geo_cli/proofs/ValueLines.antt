@@ -38,17 +38,15 @@ next_text z zs rest = ap (λ (t : List ℕ). 32 ∷ t) (append_assoc (signed_dec
 begins : (text : List ℕ) (z : ℤ) (zs : List ℤ) (rest : List ℕ) → IsShort z → 32 ∷ text ≡ behind_at (z ∷ zs) rest → Begins integers text z (behind_at zs rest)
 begins text z zs rest short e = record { spelt = tail_of (e ∙ next_text z zs rest); fits = short; stops = stops zs rest }
 
+-- bytes that differ are not equal
+differ : (a b : ℕ) → a ≡ b → (a ≡ b → ⊥) → ⊥
+differ a b e apart = apart e
+
 -- ONE LINE
 same_behind : (v v' : List ℤ) (r r' : List ℕ) → AllByRecursion IsShort v → AllByRecursion IsShort v' → behind_at v r ≡ behind_at v' r' → (v ≡ v') × (r ≡ r')
 same_behind [] [] r r' h k e = (refl, tail_of e)
-same_behind [] (z ∷ zs) r r' h k e = absurd (let no : 10 ≡ 32 = head_of e in no_number no)
-  where
-    no_number : 10 ≡ 32 → ⊥
-    no_number q = omega (arith, q)
-same_behind (z ∷ zs) [] r r' h k e = absurd (let no : 32 ≡ 10 = head_of e in no_number no)
-  where
-    no_number : 32 ≡ 10 → ⊥
-    no_number q = omega (arith, q)
+same_behind [] (z ∷ zs) r r' h k e = absurd (differ 10 32 (head_of e) (λ q. omega (arith, q)))
+same_behind (z ∷ zs) [] r r' h k e = absurd (differ 32 10 (head_of e) (λ q. omega (arith, q)))
 same_behind (z ∷ zs) (y ∷ ys) r r' h k e =
     let text = signed_decimal z ++ behind_at zs r in
     let one : Begins integers text z (behind_at zs r) = record { spelt = refl; fits = h.0; stops = stops zs r } in
@@ -86,7 +84,10 @@ first_read bytes left_text [] none e = record {
 }
 first_read bytes left_text (z ∷ zs) none e = cc
 
-module _ (bytes : List ℕ) (items : List ℤ) (text : List ℕ) (h : IsRead bytes items (32 ∷ text)) where
+module _ (bytes : List ℕ) (items : List ℤ) (left_text text : List ℕ) (blank : left_text ≡ 32 ∷ text) (before : IsRead bytes items left_text) where
+  h : IsRead bytes items (32 ∷ text)
+  h = subst (λ (t : List ℕ). IsRead bytes items t) blank before
+
   -- a further number is read
   pub next_read : (z : ℤ) (behind : List ℕ) → Begins integers text z behind → (more : List ℤ) → more ≡ items ++ z ∷ [] → IsRead bytes more behind
   next_read z behind b more is =
@@ -110,7 +111,7 @@ module _ (bytes : List ℕ) (items : List ℤ) (text : List ℕ) (h : IsRead byt
       step values rest l = go l.left l.values_are l.text l.short
         where
           go : (left : List ℤ) → values ≡ items ++ left → 32 ∷ text ≡ behind_at left rest → AllByRecursion IsShort left → IsLeft (items ++ z ∷ []) behind values rest
-          go [] v e s = absurd (let no : 32 ≡ 10 = head_of e in omega (arith, no))
+          go [] v e s = absurd (differ 32 10 (head_of e) (λ q. omega (arith, q)))
           go (y ∷ ys) v e s =
               let u = integers_unique text z y behind (behind_at ys rest) b (begins text y ys rest s.0 e) in
               record {
@@ -128,7 +129,7 @@ module _ (bytes : List ℕ) (items : List ℤ) (text : List ℕ) (h : IsRead byt
       go l = at l.left l.text l.short
         where
           at : (left : List ℤ) → 32 ∷ text ≡ behind_at left rest → AllByRecursion IsShort left → ⊥
-          at [] e s = let no : 32 ≡ 10 = head_of e in omega (arith, no)
+          at [] e s = differ 32 10 (head_of e) (λ q. omega (arith, q))
           at (y ∷ ys) e s = none y (behind_at ys rest) (begins text y ys rest s.0 e)
 
 -- the line ends
