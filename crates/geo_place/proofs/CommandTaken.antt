@@ -1,5 +1,5 @@
 -- What the tests, the steps and the triple of a command come to, as they are evaluated.
-use Rattle.std.proofs.Common.{◌≡◌, ℕ, suc, ◌+◌, ◌-◌, ◌<◌, ◌≤◌, Bool, true, false, ℤ, List, [], ◌∷◌, ◌++◌, length, map, refl, sym, ◌∙◌, ap, subst, arith}
+use Rattle.std.proofs.Common.{◌≡◌, ℕ, suc, ◌+◌, ◌-◌, ◌≤◌, true, false, ℤ, List, ◌++◌, length, map, refl, ◌∙◌, ap, subst, arith}
 use Rattle.std.specs.Prelude.{Some, slice_get, take, drop}
 use Rattle.std.specs.List.{AllByRecursion}
 use Rattle.geo_terms.specs.Stores.{Store}

@@ -1,10 +1,9 @@
 -- The turns of one command among all turns, and its conditions among those that are listed.
-use Rattle.std.proofs.Common.{◌≡◌, ℕ, zero, suc, ◌+◌, ◌-◌, ◌<◌, ◌≤◌, ◌⊎◌, inl, inr, ⊎_elim, Contains, List, [], ◌∷◌, ◌++◌, length, map, refl, sym, ◌∙◌, ap, subst, append_assoc, append-nil, arith}
+use Rattle.std.proofs.Common.{◌≡◌, ℕ, zero, suc, ◌+◌, ◌-◌, ◌<◌, ◌≤◌, List, [], ◌∷◌, ◌++◌, length, map, refl, sym, ◌∙◌, ap, subst, append_assoc, append-nil, arith}
 use Rattle.std.specs.Prelude.{Option, Some, None, slice_get, take, drop}
 use Rattle.std.specs.List.{AllByRecursion}
 use Rattle.std.proofs.lemmas.List.{length-append, length-take-le, map-append, take-append-drop, take_at, drop_at}
 use Rattle.geo_points.specs.Placements.{Placement}
-use Rattle.geo_points.specs.declared.ids.PointId.{PointId}
 use Rattle.geo_terms.specs.Stores.{Store}
 use Rattle.geo_terms.specs.Trees.{Tree, integer_leaf, parameter_leaf, area_leaf, pythagoras_leaf, ratio_leaf, negation, addition, subtraction, multiplication, division}
 use Rattle.geo_program.specs.declared.commands.Command.{Command}
@@ -15,8 +14,8 @@ use Rattle.geo_lowering.specs.Conditions.{Condition, early_conditions, late_cond
 use Rattle.geo_lowering.specs.Counting.{counted, further, gathered, hidden, named, next_number, next_point, numbers_from, numbers_had, points_from, points_past}
 use Rattle.geo_lowering.specs.Lowering.{Layout, command_steps, layout_of, points_after, steps_from, steps_of}
 use Rattle.geo_lowering.specs.StepForms.{StepForm}
-use Rattle.geo_lowering.proofs.Bounds.{Bounds, bounds_next, no_bounds, numbers_from-up, next_number-up, past_steps}
-use Rattle.geo_lowering.proofs.ConditionValues.{each_append, each_back, each_front}
+use Rattle.geo_lowering.proofs.Bounds.{Bounds, bounds_next, no_bounds, numbers_from-up, past_steps}
+use Rattle.geo_lowering.proofs.ConditionValues.{each_append, each_back}
 use Rattle.geo_lowering.proofs.Exists.{Behind, behind, lines_past, params_past}
 use Rattle.geo_lowering.proofs.Fixed.{past_all}
 use Rattle.geo_lowering.proofs.FormLaws.{past}
@@ -27,11 +26,11 @@ use Rattle.geo_conditions.specs.Lists.{Found, IsListed, all_found, found_at, fou
 use Rattle.geo_conditions.specs.Statements.{statement_conditions, statement_goals}
 use Rattle.geo_conditions.specs.Terms.{condition_term}
 use Rattle.geo_conditions.proofs.Agreement.{IsConditionOver}
-use Rattle.geo_conditions.proofs.ConditionScopes.{AreOver, FoundOver, at_line as found_line, command_over, early_over, found_over}
+use Rattle.geo_conditions.proofs.ConditionScopes.{AreOver, at_line as found_line, command_over, early_over, found_over}
 use Rattle.geo_conditions.proofs.Listings.{held, listed_hold, listed_once}
 use Rattle.geo_conditions.specs.Truth.{ProgramValues}
 use Rattle.geo_place.specs.declared.errors.PlaceError.{PlaceError}
-use Rattle.geo_place.specs.Evaluation.{LineTurn, Passes, Turn, at_line, command_turns, judge, makes, test, turns_from, turns_of, write}
+use Rattle.geo_place.specs.Evaluation.{LineTurn, Passes, at_line, command_turns, judge, makes, test, turns_from, turns_of, write}
 use Rattle.geo_place.specs.Inner.{Run, Stops}
 use Rattle.geo_place.proofs.ListParts.{fresh_hold, listed_front, listed_join, listed_split, none_fresh, one_fresh}
 use Rattle.geo_place.proofs.MakeTurns.{line_append, stops_in, drop_next, take_next}

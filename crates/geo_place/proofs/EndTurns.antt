@@ -1,9 +1,9 @@
 -- The end of an evaluation: the turns of the statement, and the end that a stop means.
-use Rattle.std.proofs.Common.{◌≡◌, ℕ, zero, suc, ◌+◌, ◌<◌, ◌≤◌, Bool, true, false, All, List, [], ◌∷◌, ◌++◌, length, map, pos, refl, sym, ◌∙◌, ap, subst, append_assoc, append-nil, arith}
-use Rattle.std.specs.Prelude.{Result, Ok, Err, take, drop}
+use Rattle.std.proofs.Common.{◌≡◌, ℕ, suc, Bool, true, false, List, [], ◌∷◌, ◌++◌, length, map, pos, refl, sym, ◌∙◌, ap, subst, append_assoc, append-nil}
+use Rattle.std.specs.Prelude.{Result, Ok, Err}
 use Rattle.std.specs.List.{AllByRecursion}
-use Rattle.std.proofs.lemmas.List.{length-append, map-append, take_all}
-use Rattle.std.proofs.lemmas.List.Elements.{All-from_recursion, recursion_from_All}
+use Rattle.std.proofs.lemmas.List.{map-append}
+use Rattle.std.proofs.lemmas.List.Elements.{All-from_recursion}
 use Rattle.ring_laws.specs.Fraction.{IsNonzero, Same, whole}
 use Rattle.ring_laws.proofs.Fractions.{fractions}
 use Rattle.geo_points.specs.Placements.{Placement, SamePlacement}
@@ -19,7 +19,7 @@ use Rattle.geo_lowering.proofs.FormLaws.{past}
 use Rattle.geo_lowering.proofs.Values.{IsOver}
 use Rattle.geo_lowering.specs.declared.version.Version.TheVariants.{Two}
 use Rattle.geo_conditions.specs.declared.items.Item.{Item}
-use Rattle.geo_conditions.specs.Lists.{AreConditions, AreGoals, Found, IsListed, ItemForm, all_found, condition_item, found_at, found_from, goal_item, item_form}
+use Rattle.geo_conditions.specs.Lists.{AreConditions, AreGoals, Found, IsListed, ItemForm, found_at, found_from, goal_item, item_form}
 use Rattle.geo_conditions.specs.Statements.{statement_conditions, statement_goals}
 use Rattle.geo_conditions.specs.Terms.{condition_term, goal_term}
 use Rattle.geo_conditions.specs.Truth.{ProgramValues}
@@ -27,11 +27,10 @@ use Rattle.geo_conditions.proofs.Listings.{all_hold, listed_once}
 use Rattle.geo_place.specs.declared.errors.PlaceError.{PlaceError}
 use Rattle.geo_place.specs.declared.errors.PlaceError.TheVariants.{NoMemory, TooLarge, Unmet}
 use Rattle.geo_place.specs.declared.sketch.Sketch.{Sketch}
-use Rattle.geo_place.specs.Evaluation.{ComesUp, EndsAs, FailsAt, IsReckoned, IsRight, IsTooLarge, LineTurn, Passes, Turn, at_line, judge, placed_all, test, too_large, turns_from, turns_of, unmet}
+use Rattle.geo_place.specs.Evaluation.{ComesUp, EndsAs, IsReckoned, IsRight, IsTooLarge, LineTurn, Passes, Turn, at_line, judge, placed_all, test, too_large, turns_from, turns_of}
 use Rattle.geo_place.specs.Formulas.{reckoned}
-use Rattle.geo_place.specs.Inner.{EndsWith, GoalsCome, IsItemMet, IsItemNull, IsPassed, Run, Stop, StopsAt, StopsGoals, Stops, item_reckoned, placement_of}
+use Rattle.geo_place.specs.Inner.{EndsWith, GoalsCome, IsItemMet, IsItemNull, Run, StopsGoals, Stops, item_reckoned, placement_of}
 use Rattle.geo_place.specs.Reckonings.{IsRefused, number}
-use Rattle.geo_place.proofs.Inverses.{nonzero_same}
 use Rattle.geo_place.proofs.ListParts.{Beside, FirstOf, beside, first_fresh, fresh_hold, head_of, listed_split, none_before, tail_of}
 use Rattle.geo_place.proofs.MakeTurns.{stops_in}
 use Rattle.geo_place.proofs.Once.{TurnOver, turns_over}

@@ -1,18 +1,17 @@
 -- Values have a reckoned placement: each point is put where its step's reckonings come to.
-use Rattle.std.proofs.Common.{◌≡◌, ◌⊎◌, inl, inr, ⊎_elim, ℕ, zero, suc, ◌+◌, ◌<◌, ◌≤◌, Bool, true, false, ℤ, pos, List, [], ◌∷◌, ◌++◌, length, map, refl, sym, ◌∙◌, ap, subst, arith}
+use Rattle.std.proofs.Common.{◌≡◌, ◌⊎◌, inl, inr, ⊎_elim, ℕ, zero, suc, ◌<◌, Bool, true, false, ℤ, pos, List, [], ◌∷◌, ◌++◌, length, map, refl, sym, ◌∙◌, ap, subst, arith}
 use Rattle.std.specs.Prelude.{slice_index_or}
 use Rattle.std.proofs.lemmas.List.{length-map, get_or-map}
-use Rattle.ring_laws.specs.Fraction.{Fraction, Same, whole}
+use Rattle.ring_laws.specs.Fraction.{Fraction, whole}
 use Rattle.ring_laws.proofs.Fractions.{fractions}
-use Rattle.geo_points.specs.Placements.{Placement, SamePoint}
-use Rattle.geo_points.specs.Points.{Point, x_coordinate, y_coordinate}
+use Rattle.geo_points.specs.Placements.{Placement}
+use Rattle.geo_points.specs.Points.{Point}
 use Rattle.geo_points.proofs.Placed.{point_exists}
 use Rattle.geo_program.specs.declared.commands.Command.{Command}
 use Rattle.geo_program.specs.declared.commands.Command.TheVariants.{Point as Free, Param, Line, Parallel, Perp, Med, Intersec, Inter, Foot, Pratio, Tratio, Online, Lratio, Midpoint, Translate, Symmetric, Reflect, Circumcenter, Orthocenter, Centroid, Oncircle, Second, Cc, Inverse, Weights, AssumeDifferent, AssumeNotCollinear, AssumeNotParallel}
 use Rattle.geo_program.specs.declared.names.NameKind.TheVariants as kind
 use Rattle.geo_program.specs.WellFormed.{IsWellFormed, Source}
 use Rattle.geo_terms.specs.Stores.{Store}
-use Rattle.geo_lowering.specs.Building.{forgotten}
 use Rattle.geo_lowering.specs.Counting.{counted, further, hidden, named, next_number, next_point, numbers_had}
 use Rattle.geo_lowering.specs.Lowering.{Layout, command_steps, layout_of, point_place, steps_from, steps_of}
 use Rattle.geo_lowering.specs.StepForms.{StepForm, free, crossing_of, foot_of, along, turned_along, weighted}
@@ -22,7 +21,7 @@ use Rattle.geo_lowering.proofs.Laying.{AreLaid, laid_program}
 use Rattle.geo_lowering.proofs.Puts.{of_path, put, put_here, put_other}
 use Rattle.geo_lowering.proofs.Values.{AgreeBelow}
 use Rattle.geo_lowering.specs.declared.version.Version.TheVariants.{Two}
-use Rattle.geo_conditions.specs.Truth.{HasValues, ProgramValues, free_points, is_free, whole_point}
+use Rattle.geo_conditions.specs.Truth.{ProgramValues, free_points, is_free, whole_point}
 use Rattle.geo_place.specs.Evaluation.{AreAt, IsLeast, IsReckoned}
 use Rattle.geo_place.specs.Formulas.{IsAt, Spot, step_spot}
 use Rattle.geo_place.specs.Inner.{free_places}

@@ -1,30 +1,26 @@
 -- How an evaluation ends behind all commands.
-use Rattle.std.proofs.Common.{◌≡◌, ℕ, suc, ◌+◌, ◌-◌, ◌<◌, ◌≤◌, Bool, ℤ, List, [], ◌∷◌, ◌++◌, length, map, refl, sym, ◌∙◌, ap, subst, append-nil, arith}
-use Rattle.std.specs.Prelude.{Result, Ok, Err, Some, slice_get, take, drop}
+use Rattle.std.proofs.Common.{◌≡◌, ℕ, suc, ◌≤◌, Bool, ℤ, List, [], ◌++◌, length, map, sym, ◌∙◌, ap, subst, append-nil, arith}
+use Rattle.std.specs.Prelude.{Result, take, drop}
 use Rattle.std.specs.List.{AllByRecursion}
-use Rattle.std.proofs.lemmas.List.{drop-map, drop_at, length-take-le, take-append-drop, take_all}
-use Rattle.geo_points.specs.Placements.{Placement, SamePlacement}
+use Rattle.std.proofs.lemmas.List.{drop-map, drop_at, length-take-le, take_all}
+use Rattle.geo_points.specs.Placements.{SamePlacement}
 use Rattle.geo_terms.specs.Stores.{Store}
-use Rattle.geo_program.specs.WellFormed.{IsWellFormed, Source}
+use Rattle.geo_program.specs.WellFormed.{Source}
 use Rattle.geo_lowering.specs.Counting.{numbers_had, points_from, points_named, points_past}
-use Rattle.geo_lowering.specs.Lowering.{layout_of, point_place, steps_of}
+use Rattle.geo_lowering.specs.Lowering.{steps_of}
 use Rattle.geo_lowering.proofs.ConditionValues.{each_append}
 use Rattle.geo_lowering.proofs.Fixed.{past_all}
 use Rattle.geo_lowering.proofs.FormLaws.{past}
-use Rattle.geo_lowering.proofs.Values.{IsOver}
 use Rattle.geo_lowering.specs.declared.version.Version.TheVariants.{Two}
 use Rattle.geo_conditions.specs.declared.items.Item.{Item}
 use Rattle.geo_conditions.specs.declared.problem.Problem.{Problem}
 use Rattle.geo_conditions.specs.Lists.{AreStoredGoals, Found, IsListed, ItemForm, condition_item, found_from, item_form}
 use Rattle.geo_conditions.specs.Statements.{statement_conditions}
-use Rattle.geo_conditions.specs.Terms.{condition_term}
 use Rattle.geo_place.specs.declared.errors.PlaceError.{PlaceError}
 use Rattle.geo_place.specs.declared.evaluation.Progress.{Progress}
-use Rattle.geo_place.specs.declared.triples.Triple.{Triple}
-use Rattle.geo_place.specs.Evaluation.{EndsAs, LineTurn, Passes, at_line, placed_all, test, turns_from, turns_of}
-use Rattle.geo_place.specs.Inner.{EndsWith, FirstFails, GoalsCome, IsItemMet, IsPassed, IsRun, IsTaken, IsTripleOf, Run, Stops, placement_of}
+use Rattle.geo_place.specs.Evaluation.{Passes, at_line, test, turns_from}
+use Rattle.geo_place.specs.Inner.{EndsWith, FirstFails, GoalsCome, IsItemMet, IsRun, IsTaken, Run, placement_of}
 use Rattle.geo_place.proofs.EndTurns.{GoalsEnd, Stated, ends_with, goals_end, stated_here, stated_stop, stated_terms}
-use Rattle.geo_place.proofs.Taking.{items_long}
 use Rattle.geo_place.proofs.TestTurns.{tests_pass, tests_stop}
 
 module _ (run : Run) (problem : Problem) (ints : List ℤ) (h : IsRun run problem ints) (progress : Progress) (t : IsTaken run (length run.program.commands) progress) where

@@ -1,11 +1,11 @@
 -- Lists without repeats, part by part.
-use Rattle.std.proofs.Common.{◌≡◌, ℕ, zero, suc, ◌+◌, ◌<◌, ◌≤◌, ◌⊎◌, inl, inr, ⊎_elim, Contains, List, [], ◌∷◌, ◌++◌, length, get_or, map, refl, sym, ◌∙◌, ap, subst, append_assoc, append-nil, arith}
+use Rattle.std.proofs.Common.{◌≡◌, ℕ, zero, suc, ◌+◌, ◌<◌, ◌≤◌, inl, inr, Contains, List, [], ◌∷◌, ◌++◌, length, get_or, map, refl, sym, ◌∙◌, ap, subst, append_assoc, append-nil, arith}
 use Rattle.std.specs.Prelude.{Option, Some, None, slice_get, slice_index_or, take, drop}
 use Rattle.std.specs.List.{AllByRecursion}
 use Rattle.std.specs.Prelude.{◌-◌, All}
 use Rattle.std.proofs.lemmas.List.{append_cancel_left, length-append, length-drop, take_all}
 use Rattle.std.proofs.lemmas.List.Elements.{All-from_recursion, recursion_from_All}
-use Rattle.geo_lowering.proofs.ConditionValues.{each_append, each_front}
+use Rattle.geo_lowering.proofs.ConditionValues.{each_append}
 use Rattle.geo_conditions.specs.Lists.{IsListed}
 use Rattle.geo_conditions.proofs.Listings.{held}
 
@@ -109,8 +109,12 @@ beside g h (x ∷ b) i a [] e = absurd (none_before [] (g x) (map g (b ++ i ∷ 
 beside {A} {B} {C} g h (x ∷ b) i a (f ∷ fs) e =
     let r = beside g h b i a fs (tail_of e) in
     record {
-      before = f ∷ r.before; item = r.item; after = r.after; parts = ap (λ (zs : List B). f ∷ zs) r.parts;
-      same_before = (λ j. head_of e j ∷ r.same_before j); same = r.same;
+      before = f ∷ r.before;
+      item = r.item;
+      after = r.after;
+      parts = ap (λ (zs : List B). f ∷ zs) r.parts;
+      same_before = (λ j. head_of e j ∷ r.same_before j);
+      same = r.same;
     }
 
 pub same_length : {A B C : Type 0} (g : A → C) (h : B → C) (xs : List A) (ys : List B) → map g xs ≡ map h ys → length xs ≡ length ys

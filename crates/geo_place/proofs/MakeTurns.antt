@@ -1,15 +1,15 @@
 -- The points that steps make, one after another, are those of the run's placement.
-use Rattle.std.proofs.Common.{◌≡◌, ℕ, zero, suc, ◌+◌, ◌-◌, ◌<◌, ◌≤◌, Bool, true, false, ◌⊎◌, inl, inr, ⊎_elim, List, [], ◌∷◌, ◌++◌, length, map, refl, sym, ◌∙◌, ap, subst, append_assoc, append-nil, pos, lit<, arith}
-use Rattle.std.specs.Prelude.{Option, Some, None, Result, Ok, Err, slice_get, slice_index_or, take, drop}
+use Rattle.std.proofs.Common.{◌≡◌, ℕ, zero, suc, ◌+◌, ◌<◌, Bool, true, false, ◌⊎◌, inl, inr, ⊎_elim, List, [], ◌∷◌, ◌++◌, length, refl, sym, ◌∙◌, ap, subst, append_assoc, pos, lit<, arith}
+use Rattle.std.specs.Prelude.{Option, Some, None, slice_get, slice_index_or, take, drop}
 use Rattle.std.specs.List.{AllByRecursion}
 use Rattle.std.proofs.Math.Nat.{eq-or-lt_of_le}
 use Rattle.std.proofs.lemmas.List.{length-append, length-take-le, map-append, take-append-drop}
 use Rattle.ring_laws.specs.Fraction.{Fraction, Same, whole}
 use Rattle.ring_laws.proofs.Fractions.{fractions}
 use Rattle.frac_laws.specs.declared.frac.Frac.{Frac}
-use Rattle.frac_laws.specs.Numbers.{IsNumber, fraction_of}
+use Rattle.frac_laws.specs.Numbers.{fraction_of}
 use Rattle.geo_points.specs.Placements.{Placement, SamePoint, SamePlacement}
-use Rattle.geo_points.proofs.Same.{point_trans, flip_point}
+use Rattle.geo_points.proofs.Same.{point_trans}
 use Rattle.geo_lowering.specs.Lowering.{steps_of}
 use Rattle.geo_lowering.specs.StepForms.{StepForm, free, crossing_of, foot_of, along, turned_along, weighted}
 use Rattle.geo_lowering.proofs.FormLaws.{AreFormsOver, IsFormOver, past}
@@ -19,12 +19,11 @@ use Rattle.geo_lowering.specs.declared.version.Version.TheVariants.{Two}
 use Rattle.geo_place.specs.declared.errors.PlaceError.{PlaceError}
 use Rattle.geo_place.specs.declared.errors.PlaceError.TheVariants.{NoMemory, TooLarge, Unmet}
 use Rattle.geo_place.specs.declared.positions.Position.{Position}
-use Rattle.geo_place.specs.declared.positions.Reckoned.{Reckoned}
 use Rattle.geo_place.specs.declared.sketch.Sketch.{Sketch}
 use Rattle.geo_place.specs.Evaluation.{AreAt, IsTooLarge, LineTurn, Passes, Turn, at_line, make, makes}
 use Rattle.geo_place.specs.Formulas.{IsAt, Spot, step_spot}
-use Rattle.geo_place.specs.Inner.{AreResults, IsPosition, IsSketchOf, Run, Stop, Stops, StopsAt, free_places, placement_of, point_at}
-use Rattle.geo_place.specs.Reckonings.{HasResult, IsRefused, IsResult, number}
+use Rattle.geo_place.specs.Inner.{IsSketchOf, Run, Stop, Stops, free_places, placement_of, point_at}
+use Rattle.geo_place.specs.Reckonings.{IsRefused, IsResult, number}
 use Rattle.geo_place.proofs.Alike.{alike_number, alike_refused, step_alike}
 use Rattle.geo_place.proofs.Existence.{places_append}
 use Rattle.geo_place.proofs.ResultLaws.{moved}

@@ -4,7 +4,7 @@ use Rattle.std.specs.Prelude.{IfErr, IfOk, OnOk, Option, Some, None, Result, Ok,
 use Rattle.std.proofs.lemmas.List.{length-append, length-take-le, length-map, get_or-map}
 use Rattle.ring_laws.specs.Fraction.{whole}
 use Rattle.frac_laws.specs.Numbers.{IsNumber}
-use Rattle.geo_points.specs.Placements.{Placement, SamePoint}
+use Rattle.geo_points.specs.Placements.{SamePoint}
 use Rattle.geo_points.proofs.Same.{flip_point, point_trans}
 use Rattle.geo_terms.specs.declared.steps.Step.{Step}
 use Rattle.geo_terms.specs.declared.steps.Step.TheVariants as step

@@ -1,14 +1,13 @@
 -- What `place` answers, from the end of the evaluation.
-use Rattle.std.proofs.Common.{◌≡◌, ℕ, zero, suc, ◌+◌, ◌<◌, ◌≤◌, Bool, true, false, ℤ, pos, List, [], ◌∷◌, length, map, refl, sym, ◌∙◌, ap, subst, arith}
-use Rattle.std.specs.Prelude.{◌≤ℤ◌, All, IsErrAnd, Option, Some, None, Result, Ok, Err, slice_get, if◌then◌else◌}
-use Rattle.std.specs.List.{AllByRecursion, filter_map}
+use Rattle.std.proofs.Common.{◌≡◌, ℕ, zero, suc, ◌+◌, ◌<◌, ◌≤◌, true, false, pos, List, [], ◌∷◌, length, map, refl, sym, ◌∙◌, ap, subst, arith}
+use Rattle.std.specs.Prelude.{◌≤ℤ◌, All, IsErrAnd, Option, Some, None, Result, Ok, Err, slice_get}
+use Rattle.std.specs.List.{AllByRecursion}
 use Rattle.std.proofs.lemmas.Int.{ints}
 use Rattle.std.proofs.lemmas.List.Elements.{All-from_recursion, recursion_from_All}
 use Rattle.geo_program.specs.Words.{IsNameText}
 use Rattle.geo_place.proofs.ListParts.{head_of, none_before, tail_of}
 use Rattle.geo_points.specs.Placements.{Placement}
 use Rattle.geo_points.specs.Points.{Point as Triplet}
-use Rattle.geo_terms.specs.Stores.{Store}
 use Rattle.geo_program.specs.declared.commands.Command.{Command}
 use Rattle.geo_program.specs.declared.names.Name.{Name}
 use Rattle.geo_program.specs.declared.names.NameKind.{NameKind}
@@ -29,7 +28,7 @@ use Rattle.geo_place.specs.declared.placed.At.{At}
 use Rattle.geo_place.specs.declared.placed.Placed.{Placed}
 use Rattle.geo_place.specs.declared.triples.Triple.{Triple}
 use Rattle.geo_place.specs.Evaluation.{EndsAs, IsLeast, IsReckoned, placed_all}
-use Rattle.geo_place.specs.Inner.{EndsWith, IsTripleOf, Run, triple_at}
+use Rattle.geo_place.specs.Inner.{EndsWith, IsTripleOf, triple_at}
 use Rattle.geo_place.specs.Placing.{AreTold, IsAnswer, IsDrawable, IsTold, Places, point_lines}
 use Rattle.geo_place.proofs.LawProofs.{evaluation_places, unmet_values_place_nothing}
 use Rattle.geo_place.proofs.LeastTriples.{least_once}

@@ -1,15 +1,15 @@
 -- How the points of a command are made, one after another.
-use Rattle.std.proofs.Common.{◌≡◌, ℕ, zero, suc, ◌+◌, ◌-◌, ◌<◌, ◌≤◌, ℤ, List, [], ◌∷◌, length, refl, sym, ◌∙◌, ap, subst, arith}
+use Rattle.std.proofs.Common.{◌≡◌, ℕ, zero, suc, ◌+◌, ◌-◌, ◌<◌, ◌≤◌, ℤ, List, [], ◌∷◌, length, sym, ◌∙◌, ap, subst, arith}
 use Rattle.std.specs.Prelude.{Some, slice_get, take, drop}
 use Rattle.std.specs.List.{AllByRecursion}
-use Rattle.std.proofs.lemmas.List.{length-drop, take_all}
+use Rattle.std.proofs.lemmas.List.{take_all}
 use Rattle.geo_lowering.specs.Lowering.{steps_of}
 use Rattle.geo_lowering.specs.StepForms.{StepForm}
 use Rattle.geo_lowering.specs.declared.version.Version.TheVariants.{Two}
 use Rattle.geo_conditions.specs.declared.problem.Problem.{Problem}
 use Rattle.geo_place.specs.declared.errors.PlaceError.{PlaceError}
 use Rattle.geo_place.specs.declared.sketch.Sketch.{Sketch}
-use Rattle.geo_place.specs.Evaluation.{IsTooLarge, LineTurn, Passes, at_line, make, makes}
+use Rattle.geo_place.specs.Evaluation.{IsTooLarge, Passes, at_line, make, makes}
 use Rattle.geo_place.specs.Inner.{IsRun, IsSketchOf, Run, Stops}
 use Rattle.geo_place.proofs.ListParts.{take_zero, taken_at}
 use Rattle.geo_place.proofs.MakeTurns.{made, pass_next, stop_next}

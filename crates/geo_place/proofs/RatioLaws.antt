@@ -1,7 +1,7 @@
 -- Whether two points have the same first coordinate.
-use Rattle.std.proofs.Common.{◌≡◌, Bool, true, false, pos, ◌*ℤ◌, ◌-ℤ◌, [], ◌∷◌, refl, sym, ◌∙◌, ap, subst, unsigned_abs}
+use Rattle.std.proofs.Common.{◌≡◌, Bool, true, false, pos, ◌*ℤ◌, [], ◌∷◌, refl, sym, subst, unsigned_abs}
 use Rattle.ring_laws.specs.Solver.{variable, numeral, ◌⊠◌, ◌⊞◌, opposite, entry_at, given}
-use Rattle.ring_laws.specs.Fraction.{Fraction, Same}
+use Rattle.ring_laws.specs.Fraction.{Same}
 use Rattle.ring_laws.proofs.Combination.{by_combination}
 use Rattle.ring_laws.proofs.Fractions.{fractions}
 use Rattle.ring_laws.proofs.Integers.{integers}

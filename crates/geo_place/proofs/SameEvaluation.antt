@@ -1,36 +1,35 @@
 -- Programs that are the same evaluate alike, and one answer comes of values.
-use Rattle.std.proofs.Common.{◌≡◌, ⊎_elim, ◌⊎◌, ℕ, zero, suc, ◌+◌, ◌<◌, ◌≤◌, Bool, true, false, ℤ, pos, List, [], ◌∷◌, ◌++◌, length, map, refl, sym, ◌∙◌, ap, subst, arith}
-use Rattle.std.specs.Prelude.{All, Option, Some, None, Result, Ok, Err, slice_get, slice_index_or}
+use Rattle.std.proofs.Common.{◌≡◌, ◌⊎◌, ℕ, zero, suc, ◌<◌, Bool, true, false, pos, List, [], ◌∷◌, ◌++◌, length, map, refl, sym, ◌∙◌, ap, subst, arith}
+use Rattle.std.specs.Prelude.{Some, Result, Ok, Err, slice_get, slice_index_or}
 use Rattle.std.specs.List.{AllByRecursion}
 use Rattle.std.proofs.lemmas.List.Elements.{All-from_recursion, recursion_from_All}
 use Rattle.std.proofs.lemmas.List.{length-map}
 use Rattle.ring_laws.specs.Fraction.{IsNonzero, Same, whole}
-use Rattle.geo_points.specs.Placements.{Placement, SamePlacement, SamePoint}
-use Rattle.geo_points.specs.Points.{Point}
+use Rattle.geo_points.specs.Placements.{Placement, SamePoint}
 use Rattle.geo_terms.specs.Stores.{Store}
 use Rattle.geo_program.specs.declared.names.NameKind.TheVariants as kind
 use Rattle.geo_program.specs.Names.{names_of}
 use Rattle.geo_program.specs.Spelling.{SameSource}
 use Rattle.geo_program.specs.declared.statements.Statement.{Statement}
-use Rattle.geo_program.specs.WellFormed.{IsWellFormed, Source, empty_scope}
+use Rattle.geo_program.specs.WellFormed.{IsWellFormed, Source}
 use Rattle.geo_lowering.specs.Building.{forgotten}
 use Rattle.geo_lowering.specs.Conditions.{Condition}
 use Rattle.geo_lowering.specs.Counting.{points_named}
-use Rattle.geo_lowering.specs.Lowering.{Layout, layout_of, point_place, steps_of}
+use Rattle.geo_lowering.specs.Lowering.{Layout, layout_of, point_place}
 use Rattle.geo_lowering.specs.StepForms.{StepForm}
 use Rattle.geo_lowering.specs.declared.version.Version.TheVariants.{Two}
-use Rattle.geo_conditions.specs.Lists.{Found, IsListed, all_found}
+use Rattle.geo_conditions.specs.Lists.{Found, IsListed}
 use Rattle.geo_conditions.specs.Terms.{condition_term, goal_term}
-use Rattle.geo_conditions.specs.Truth.{HasValues, Meets, ProgramValues, free_points, whole_point}
+use Rattle.geo_conditions.specs.Truth.{HasValues, ProgramValues, whole_point}
 use Rattle.geo_conditions.proofs.Sightings.{same_found, same_frees, same_layout, same_numbers}
 use Rattle.geo_conditions.proofs.SamePrograms.{same_programs_mean_the_same}
 use Rattle.geo_place.specs.declared.errors.PlaceError.{PlaceError}
 use Rattle.geo_place.specs.declared.errors.PlaceError.TheVariants.{NoMemory, TooLarge, Unmet}
 use Rattle.geo_place.specs.declared.placed.At.{At}
 use Rattle.geo_place.specs.declared.placed.Placed.{Placed}
-use Rattle.geo_place.specs.Evaluation.{AreAt, ComesUp, End, EndsAs, FailsAt, IsLeast, IsListedAt, IsReckoned, IsRight, IsTooLarge, IsTriplePast, LineTurn, Passes, Turn, judge, make, placed_all, test, too_large, turns_of, unmet, write}
+use Rattle.geo_place.specs.Evaluation.{AreAt, ComesUp, End, EndsAs, IsListedAt, IsReckoned, IsRight, IsTooLarge, IsTriplePast, LineTurn, Passes, Turn, judge, make, placed_all, test, too_large, turns_of, unmet, write}
 use Rattle.geo_place.specs.Formulas.{reckoned, step_spot}
-use Rattle.geo_place.specs.Placing.{AreTold, IsAnswer, IsTold, Places, PlacesNothing, IsStopped, point_lines}
+use Rattle.geo_place.specs.Placing.{IsAnswer, Places}
 use Rattle.geo_place.specs.Reckonings.{IsRefused, number}
 use Rattle.geo_place.proofs.Once.{evaluation_ends_once}
 use Rattle.geo_place.proofs.LeastTriples.{least_once}
@@ -269,7 +268,7 @@ module _ (p q : Source) (s : SameSource p q) (w : IsWellFormed p) (v : ProgramVa
       let there = forgotten Two q k.reckoned in
       let near = h.only.unique there (values_there q p t there there v k.only.has) (((same_programs_mean_the_same p q s).meets there).1 k.only.meets) in
       let long : length a.points ≡ points_named p.commands =
-      sym (length-map a.points (λ (c : At). c.name)) ∙ ap (λ (ns : List (List ℕ)). length ns) h.told.names ∙ (let c = names_counted p.nodes empty_scope p.names p.commands 0 w.commands in omega (arith, c)) in
+      sym (length-map a.points (λ (c : At). c.name)) ∙ ap (λ (ns : List (List ℕ)). length ns) h.told.names ∙ sym (names_counted p w) in
       let points = same_ats a.points b.points (h.told.names ∙ ap (λ ns. names_of kind.Point ns) s.names ∙ sym k.told.names) (h.told.lines ∙ same_point_lines p q s ∙ sym k.told.lines)
       (λ i c d e f.
       let one = h.told.triples i c e in

@@ -1,13 +1,13 @@
 -- The turns of a program, as they can be read off the forms of its commands and of its statement.
-use Rattle.std.proofs.Common.{◌≡◌, ℕ, zero, suc, Bool, true, false, List, [], ◌∷◌, ◌++◌, length, map, Option, Some, None, refl, sym, ◌∙◌, ap, ap₂, eqb, if◌then◌else◌}
+use Rattle.std.proofs.Common.{◌≡◌, ℕ, zero, suc, Bool, true, false, List, [], ◌∷◌, ◌++◌, length, map, Option, Some, refl, sym, ◌∙◌, ap, ap₂, eqb, if◌then◌else◌}
 use Rattle.std.specs.Prelude.{slice_index}
 use Rattle.std.specs.List.{AllByRecursion}
 use Rattle.std.proofs.lemmas.List.{map-append}
 use Rattle.geo_points.specs.declared.ids.PointId.{PointId}
-use Rattle.geo_terms.specs.Stores.{Store, tree_of}
+use Rattle.geo_terms.specs.Stores.{Store}
 use Rattle.geo_terms.specs.Trees.{Tree}
 use Rattle.geo_program.specs.declared.commands.Command.{Command}
-use Rattle.geo_program.specs.declared.commands.Command.TheVariants.{Point, Param, Line, Parallel, Perp, Med, Intersec, Inter, Foot, Pratio, Tratio, Online, Lratio, Midpoint, Translate, Symmetric, Reflect, Circumcenter, Orthocenter, Centroid, Oncircle, Second, Cc, Inverse, Weights, AssumeDifferent, AssumeNotCollinear, AssumeNotParallel}
+use Rattle.geo_program.specs.declared.commands.Command.TheVariants.{Point, Param, Line, Parallel, Perp, Med, Intersec, Inter, Foot, Online, Midpoint, Translate, Symmetric, Reflect, Circumcenter, Orthocenter, Centroid, Oncircle, Second, Cc, Inverse, AssumeDifferent, AssumeNotCollinear, AssumeNotParallel}
 use Rattle.geo_program.specs.declared.names.NameKind.{NameKind}
 use Rattle.geo_program.specs.declared.names.NameKind.TheVariants as kind
 use Rattle.geo_program.specs.declared.statements.Statement.{Statement}
@@ -195,7 +195,7 @@ module _ (l : Layout) (nodes : Store) where
       let h = map test (late_conditions (record { 0 = x }) c) in
       map-append T (e ++ f ++ g) h ∙ ap (λ (ts : List Task). ts ++ map T h) (map-append T (e ++ f) g ∙ ap (λ (ts : List Task). ts ++ map T g) (map-append T e f))
       ∙ (λ i. tests-is (early_conditions nodes c) i ++ makes-is n (command_steps Two l nodes n m c) i ++ writes-is (is_made kind.Point (named c)) (further n (hidden Two c)) i
-          ++ tests-is (late_conditions (record { 0 = x }) c) i)
+      ++ tests-is (late_conditions (record { 0 = x }) c) i)
 
   steps_from-is : (n m : ℕ) (cs : List Command) → steps_from Two l nodes n m cs ≡ steps_from' l n m (map (sight nodes) cs)
   steps_from-is n m [] = refl

@@ -1,7 +1,6 @@
 -- The placement of a sketch: its points and numbers, and what a further point adds.
-use Rattle.std.proofs.Common.{◌≡◌, ℕ, suc, ◌<◌, ◌≤◌, ◌+◌, ◌*◌, ℤ, pos, ◌*ℤ◌, unsigned_abs, ◌⊎◌, ⊎_elim, List, [], ◌∷◌, ◌++◌, length, refl, sym, ◌∙◌, ap, subst, lit<, arith}
+use Rattle.std.proofs.Common.{◌≡◌, ℕ, ℤ, pos, ◌*ℤ◌, unsigned_abs, [], ◌∷◌, sym, ap, subst, lit<}
 use Rattle.std.specs.Prelude.{Option, Some, None, slice_get}
-use Rattle.std.proofs.Math.Nat.{eq-or-lt_of_le}
 use Rattle.ring_laws.specs.Solver.{variable, ◌⊠◌, entry_at}
 use Rattle.ring_laws.specs.Fraction.{Fraction, Same, whole}
 use Rattle.ring_laws.proofs.Fractions.{fractions}
@@ -9,7 +8,7 @@ use Rattle.ring_laws.proofs.Integers.{integers}
 use Rattle.ring_laws.proofs.Sound.{agree}
 use Rattle.frac_laws.specs.declared.frac.Frac.{Frac}
 use Rattle.frac_laws.specs.Numbers.{IsNumber, fraction_of}
-use Rattle.geo_points.specs.Placements.{Placement, SamePoint, SamePlacement}
+use Rattle.geo_points.specs.Placements.{SamePoint}
 use Rattle.geo_points.specs.Points.{Point, x_coordinate, y_coordinate}
 use Rattle.geo_place.specs.declared.positions.Position.{Position}
 use Rattle.geo_place.specs.declared.sketch.Sketch.{Sketch}

@@ -1,5 +1,5 @@
 -- How an evaluation begins.
-use Rattle.std.proofs.Common.{◌≡◌, ⊎_elim, ℕ, zero, suc, ◌+◌, ◌*◌, ◌<◌, ◌≤◌, ℤ, pos, List, [], ◌∷◌, ◌++◌, length, refl, sym, ◌∙◌, ap, subst, arith}
+use Rattle.std.proofs.Common.{◌≡◌, ⊎_elim, ℕ, ◌+◌, ◌*◌, ◌<◌, ◌≤◌, ℤ, pos, List, [], ◌∷◌, ◌++◌, length, sym, ◌∙◌, ap, subst, arith}
 use Rattle.std.specs.Prelude.{Some, slice_get, slice_index_or, take, drop}
 use Rattle.std.specs.List.{AllByRecursion, filter}
 use Rattle.std.proofs.lemmas.Bool.{cases_lt}
@@ -9,7 +9,7 @@ use Rattle.ring_laws.proofs.Fractions.{fractions}
 use Rattle.frac_laws.specs.declared.frac.Frac.{Frac}
 use Rattle.frac_laws.specs.Numbers.{IsNumber}
 use Rattle.geo_program.specs.declared.commands.Command.{Command}
-use Rattle.geo_lowering.specs.Counting.{numbers_had, points_from, points_past}
+use Rattle.geo_lowering.specs.Counting.{points_from, points_past}
 use Rattle.geo_lowering.specs.Lowering.{point_place, steps_of}
 use Rattle.geo_lowering.specs.StepForms.{StepForm}
 use Rattle.geo_lowering.specs.declared.version.Version.TheVariants.{Two}
@@ -18,7 +18,6 @@ use Rattle.geo_conditions.specs.Lists.{Found, IsListed, found_from}
 use Rattle.geo_conditions.specs.Truth.{is_free}
 use Rattle.geo_place.specs.declared.evaluation.Progress.{Progress}
 use Rattle.geo_place.specs.declared.positions.Position.{Position}
-use Rattle.geo_place.specs.declared.sketch.Sketch.{Sketch}
 use Rattle.geo_place.specs.declared.triples.Triple.{Triple}
 use Rattle.geo_place.specs.Evaluation.{Passes, turns_from}
 use Rattle.geo_place.specs.Inner.{IsPassed, IsRun, IsSketchOf, IsTaken, IsTripleOf, Run, free_places, placement_of}

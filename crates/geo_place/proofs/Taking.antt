@@ -1,11 +1,11 @@
 -- How an evaluation goes on by one command.
-use Rattle.std.proofs.Common.{◌≡◌, ◌⊎◌, inl, inr, ⊎_elim, ℕ, zero, suc, ◌+◌, ◌-◌, ◌<◌, ◌≤◌, Bool, true, false, ℤ, List, [], ◌∷◌, ◌++◌, length, map, refl, sym, ◌∙◌, ap, subst, append_assoc, append-nil, arith}
+use Rattle.std.proofs.Common.{◌≡◌, ⊎_elim, ℕ, zero, suc, ◌+◌, ◌-◌, ◌<◌, ◌≤◌, Bool, true, false, ℤ, List, [], ◌∷◌, ◌++◌, length, map, refl, sym, ◌∙◌, ap, subst, append_assoc, append-nil, arith}
 use Rattle.std.specs.Prelude.{◌≢◌, Option, Some, None, slice_get, slice_index_or, take, drop}
 use Rattle.std.specs.List.{AllByRecursion}
 use Rattle.std.proofs.Math.Nat.{eq-or-lt_of_le}
 use Rattle.std.proofs.lemmas.Bool.{cases_lt}
 use Rattle.std.proofs.lemmas.List.{drop-map, drop_at, length-append, length-map, length-take-le, take-map, take_at}
-use Rattle.geo_points.specs.Placements.{Placement, SamePlacement, SamePoint}
+use Rattle.geo_points.specs.Placements.{SamePoint}
 use Rattle.geo_points.proofs.Same.{flip_point, point_trans}
 use Rattle.geo_terms.specs.Stores.{Store}
 use Rattle.geo_program.specs.declared.commands.Command.{Command}
@@ -14,12 +14,12 @@ use Rattle.geo_program.specs.declared.names.NameKind.TheVariants as kind
 use Rattle.geo_program.specs.WellFormed.{IsWellFormed, Source}
 use Rattle.geo_points.specs.declared.ids.PointId.{PointId}
 use Rattle.geo_lowering.specs.Conditions.{late_conditions}
-use Rattle.geo_lowering.specs.Counting.{counted, further, gathered, hidden, is_made, named, next_point, numbers_had, points_from, points_past}
+use Rattle.geo_lowering.specs.Counting.{counted, further, hidden, is_made, named, next_point, numbers_had}
 use Rattle.geo_lowering.proofs.Values.{IsOver}
 use Rattle.geo_conditions.specs.Terms.{condition_term}
-use Rattle.geo_lowering.specs.Lowering.{layout_of, point_place, points_after, steps_of}
+use Rattle.geo_lowering.specs.Lowering.{layout_of, point_place, steps_of}
 use Rattle.geo_lowering.specs.StepForms.{StepForm, step_form}
-use Rattle.geo_lowering.proofs.ConditionValues.{each_append, each_back, each_front}
+use Rattle.geo_lowering.proofs.ConditionValues.{each_append}
 use Rattle.geo_conditions.specs.declared.items.Item.{Item}
 use Rattle.geo_conditions.specs.declared.problem.Problem.{Problem}
 use Rattle.geo_conditions.specs.Lists.{Found, IsListed, ItemForm, found_from, condition_item, item_form}
@@ -29,9 +29,9 @@ use Rattle.geo_place.specs.declared.evaluation.Progress.{Progress}
 use Rattle.geo_place.specs.declared.positions.Position.{Position}
 use Rattle.geo_place.specs.declared.sketch.Sketch.{Sketch}
 use Rattle.geo_place.specs.declared.triples.Triple.{Triple}
-use Rattle.geo_place.specs.Evaluation.{IsTooLarge, IsTriplePast, LineTurn, Passes, Turn, at_line, makes, turns_of, write}
-use Rattle.geo_place.specs.Inner.{FirstFails, IsItemMet, IsPassed, IsRun, IsSketchOf, IsTaken, IsTripleOf, IsTripleStop, Run, Stops, TellsTriple, placement_of, point_at}
-use Rattle.geo_place.proofs.CommandTurns.{E, K, L, Listed, W, after_at, all_pass, commands_are, early, early_stop, early_terms, laid, late, late_stop, late_terms, listed_here, long, make_stop, n, named_next, past_next, points_few, points_up, steps, steps_here, write_stop, x}
+use Rattle.geo_place.specs.Evaluation.{IsTriplePast, Passes, at_line, makes, turns_of, write}
+use Rattle.geo_place.specs.Inner.{FirstFails, IsItemMet, IsPassed, IsRun, IsSketchOf, IsTaken, IsTripleOf, IsTripleStop, Run, Stops, TellsTriple, point_at}
+use Rattle.geo_place.proofs.CommandTurns.{E, K, L, Listed, W, after_at, all_pass, early, early_stop, early_terms, laid, late, late_stop, late_terms, listed_here, make_stop, n, named_next, past_next, points_few, points_up, steps, steps_here, write_stop, x}
 use Rattle.geo_place.proofs.ListParts.{get_before, get_behind, head_of, index_at, none_before, same_length, tail_of}
 use Rattle.geo_place.proofs.Sketches.{point_found}
 use Rattle.geo_lowering.proofs.Puts.{of_path}

@@ -1,5 +1,5 @@
 -- The tests of items are the turns of the conditions that they are listed for.
-use Rattle.std.proofs.Common.{◌≡◌, ℕ, zero, suc, ◌+◌, ◌<◌, pos, List, [], ◌∷◌, ◌++◌, length, map, refl, sym, ◌∙◌, ap, subst, append_assoc, arith}
+use Rattle.std.proofs.Common.{◌≡◌, ℕ, suc, ◌+◌, pos, List, [], ◌∷◌, ◌++◌, length, map, refl, sym, ◌∙◌, ap, subst, append_assoc, arith}
 use Rattle.std.specs.List.{AllByRecursion}
 use Rattle.std.proofs.lemmas.List.{length-append, map-append}
 use Rattle.ring_laws.specs.Fraction.{IsNonzero, Same, whole}
@@ -20,11 +20,11 @@ use Rattle.geo_conditions.specs.Terms.{condition_term}
 use Rattle.geo_place.specs.declared.errors.PlaceError.{PlaceError}
 use Rattle.geo_place.specs.declared.errors.PlaceError.TheVariants.{NoMemory, TooLarge, Unmet}
 use Rattle.geo_place.specs.declared.sketch.Sketch.{Sketch}
-use Rattle.geo_place.specs.Evaluation.{IsRight, IsTooLarge, LineTurn, Passes, Turn, at_line, test}
+use Rattle.geo_place.specs.Evaluation.{LineTurn, Passes, at_line, test}
 use Rattle.geo_place.specs.Formulas.{reckoned}
 use Rattle.geo_place.specs.Inner.{FailsItem, FirstFails, IsItemMet, IsPassed, Run, Stop, StopsAt, Stops, placement_of}
-use Rattle.geo_place.specs.Reckonings.{IsRefused, Reckoning, number}
-use Rattle.geo_place.proofs.Alike.{Alike, alike_number, alike_refused, term_alike}
+use Rattle.geo_place.specs.Reckonings.{IsRefused, number}
+use Rattle.geo_place.proofs.Alike.{alike_number, alike_refused, term_alike}
 use Rattle.geo_place.proofs.Inverses.{nonzero_same}
 use Rattle.geo_place.proofs.ListParts.{beside, first_fresh, fresh_hold, head_of, none_before, same_length, tail_of}
 use Rattle.geo_conditions.proofs.Listings.{all_hold}

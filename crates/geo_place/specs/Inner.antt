@@ -1,10 +1,9 @@
 -- What the functions of the crate say to one another: points and numbers in lowest terms, what comes of reckonings, and how far an
 -- evaluation has come.
-use Rattle.std.specs.Prelude.{◌≡◌, ◌≤◌, ◌<◌, ◌^◌, ◌+◌, ◌*◌, ◌++◌, ◌∷◌, [], ℕ, suc, ℤ, pos, ◌*ℤ◌, unsigned_abs, All, Bool, true, false, Result, Ok, Err, List, length, map, slice_get, Some, None, take, drop}
+use Rattle.std.specs.Prelude.{◌≡◌, ◌≤◌, ◌<◌, ◌^◌, ◌+◌, ◌*◌, ◌++◌, ◌∷◌, [], ℕ, suc, ℤ, pos, ◌*ℤ◌, unsigned_abs, All, Bool, true, false, Result, Ok, Err, List, length, map, slice_get, Some, None, take}
 use Rattle.std.specs.List.{AllByRecursion}
 use Rattle.std.proofs.Common.{mul-pos, lit<}
-use Rattle.ring_laws.specs.Fraction.{Fraction, IsNonzero, Same, whole}
-use Rattle.frac_laws.specs.declared.frac.Frac.{Frac}
+use Rattle.ring_laws.specs.Fraction.{IsNonzero, Same, whole}
 use Rattle.frac_laws.specs.Numbers.{IsNumber, fraction_of}
 use Rattle.geo_points.specs.Placements.{Placement, SamePlacement, SamePoint}
 use Rattle.geo_points.specs.Points.{Point, x_coordinate, y_coordinate}
@@ -19,9 +18,8 @@ use Rattle.geo_lowering.specs.StepForms.{StepForm, free, crossing_of, foot_of, a
 use Rattle.geo_lowering.specs.declared.version.Version.TheVariants.{Two}
 use Rattle.geo_conditions.specs.declared.items.Item.{Item}
 use Rattle.geo_conditions.specs.declared.problem.Problem.{Problem}
-use Rattle.geo_conditions.specs.Lists.{AreConditions, AreGoals, Found, IsListed, condition_item, goal_item, found_at, found_from, item_form}
+use Rattle.geo_conditions.specs.Lists.{AreConditions, Found, IsListed, condition_item, found_from, item_form}
 use Rattle.geo_conditions.specs.Problems.{form_of_problem}
-use Rattle.geo_conditions.specs.Statements.{statement_conditions}
 use Rattle.geo_conditions.specs.Truth.{ProgramValues}
 use Rattle.geo_place.specs.declared.errors.PlaceError.{PlaceError}
 use Rattle.geo_place.specs.declared.errors.PlaceError.TheVariants.{NoMemory, TooLarge, Unmet}
@@ -31,7 +29,7 @@ use Rattle.geo_place.specs.declared.positions.Position.{Position}
 use Rattle.geo_place.specs.declared.positions.Reckoned.{Reckoned}
 use Rattle.geo_place.specs.declared.sketch.Sketch.{Sketch}
 use Rattle.geo_place.specs.declared.triples.Triple.{Triple}
-use Rattle.geo_place.specs.Evaluation.{EndsAs, IsLeast, IsListedAt, IsReckoned, IsRight, IsTooLarge, IsTriplePast, LineTurn, Passes, placed_all, test, too_large, turns_from, unmet}
+use Rattle.geo_place.specs.Evaluation.{EndsAs, IsLeast, IsListedAt, IsReckoned, IsRight, IsTooLarge, IsTriplePast, LineTurn, Passes, test, too_large, turns_from, unmet}
 use Rattle.geo_place.specs.Formulas.{Spot, reckoned}
 use Rattle.geo_place.specs.Placing.{integers_of}
 use Rattle.geo_place.specs.Reckonings.{HasResult, IsRefused, Reckoning, number}

@@ -152,7 +152,12 @@ impl Progress {
         let end = conditions_through(items, self.tested, line);
         let middle = end - late_count(command);
         let terms = problem.steps.look();
-        test_conditions(&self.sketch, terms, &items[self.tested..middle], self.tested)?;
+        test_conditions(
+            &self.sketch,
+            terms,
+            &items[self.tested..middle],
+            self.tested,
+        )?;
         self.sketch.make_points(problem, values, to, line)?;
         if names_point(command) {
             self.tell(line)?;

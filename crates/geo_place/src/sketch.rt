@@ -100,7 +100,12 @@ impl Sketch {
             Step::Foot { p, u, v } => foot(&self.point(p), &self.point(u), &self.point(v)),
             Step::Pratio { w, u, v, r } => {
                 let number = self.term(terms, r);
-                onwards(there(&self.point(w)), number, &self.point(u), &self.point(v))
+                onwards(
+                    there(&self.point(w)),
+                    number,
+                    &self.point(u),
+                    &self.point(v),
+                )
             }
             Step::Tratio { u, v, r } => {
                 let number = self.term(terms, r);

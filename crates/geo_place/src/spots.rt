@@ -22,12 +22,7 @@ pub fn there(w: &Position) -> Reckoned
 }
 
 /// `W + r (V - U)`.
-pub fn onwards(
-    w: Reckoned,
-    r: Result<Frac, FracTooLarge>,
-    u: &Position,
-    v: &Position,
-) -> Reckoned
+pub fn onwards(w: Reckoned, r: Result<Frac, FracTooLarge>, u: &Position, v: &Position) -> Reckoned
     ensures { (s : Spot) (e : Reckoning) (U V : Point) → AreResults w s → HasResult e r
         → IsPosition u.now U → IsPosition v.now V → AreResults result (onwards_of s e U V) }
 {

@@ -20,6 +20,8 @@ mod moves;
 #[cfg(test)]
 mod moves_table;
 #[cfg(test)]
+mod places;
+#[cfg(test)]
 mod problems;
 #[cfg(test)]
 mod ratio_moves_table;

@@ -1,8 +1,7 @@
-use Rattle.std.proofs.Common.{rules, ◌≡◌, ◌+◌, ◌-◌, ◌*◌, ◌<◌, ◌≤◌, ◌^◌, ℕ, List, All, Fits, w64, pos, length, arith, refl, sym, ◌∙◌, ap, subst}
+use Rattle.std.proofs.Common.{rules, ◌≡◌, ◌-◌, ◌*◌, ◌<◌, ◌≤◌, ℕ, List, All, pos, length, arith, sym, ◌∙◌, ap, subst}
 use Rattle.std.specs.Prelude.{Ok, Err, Some, slice_get, slice_index_or, take, drop}
 use Rattle.std.specs.List.{AllByRecursion, filter}
 use Rattle.ring_laws.specs.Fraction.{whole}
-use Rattle.frac_laws.specs.declared.frac.Frac.{Frac}
 use Rattle.frac_laws.specs.Numbers.{IsNumber}
 use Rattle.geo_terms.specs.Stores.{Store}
 use Rattle.geo_program.specs.declared.commands.Command.{Command}

@@ -1,4 +1,4 @@
-use Rattle.std.proofs.Common.{rules, arith, ◌≡◌, ◌+◌, pos, length, ◌∷◌, ◌++◌, [], List, ap, sym, subst}
+use Rattle.std.proofs.Common.{rules, arith, ◌≡◌, pos, length, ◌∷◌, ◌++◌, [], List, ap, sym, subst}
 use Rattle.std.specs.Prelude.{Some, slice_get, slice_index_or}
 use Rattle.ring_laws.specs.Fraction.{whole}
 use Rattle.frac_laws.specs.declared.frac.Frac.{Frac}

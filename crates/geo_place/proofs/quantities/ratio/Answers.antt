@@ -1,4 +1,4 @@
-use Rattle.std.proofs.Common.{◌≡◌, Bool, true, false, sym, ◌∙◌, true≢false, subst}
+use Rattle.std.proofs.Common.{Bool, true, false, sym, ◌∙◌, true≢false, subst}
 use Rattle.geo_place.specs.Formulas.{rise_of, run_of}
 use Rattle.geo_place.specs.Reckonings.{HasResult, ◌⊘◌}
 use Rattle.geo_place.proofs.RatioLaws.{level, tilted}

@@ -1,9 +1,9 @@
-use Rattle.std.proofs.Common.{◌≡◌, ◌<◌, ◌≤◌, ◌+◌, ◌*◌, List, length, sym, ap, ◌∙◌, arith}
+use Rattle.std.proofs.Common.{◌≡◌, List, length, ap, ◌∙◌, arith}
 use Rattle.std.specs.List.{filter}
 use Rattle.geo_program.specs.declared.commands.Command.{Command}
-use Rattle.geo_lowering.specs.Counting.{has_number, numbers_had}
+use Rattle.geo_lowering.specs.Counting.{has_number}
 use Rattle.geo_lowering.proofs.Small.{program_commands}
-use Rattle.geo_conditions.specs.Truth.{free_points, is_free}
+use Rattle.geo_conditions.specs.Truth.{is_free}
 use Rattle.geo_place.proofs.ValueLists.{filter_few, frees_counted, numbers_counted}
 use Rattle.geo_place.proofs.values.wanted.Goals as goal
 

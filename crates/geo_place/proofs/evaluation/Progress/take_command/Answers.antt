@@ -1,8 +1,5 @@
-use Rattle.std.proofs.Common.{◌≡◌, ℕ, List, suc, ◌+◌, ◌-◌, ◌<◌, ◌≤◌, true, false, length, arith, refl, sym, ◌∙◌, ap, subst}
+use Rattle.std.proofs.Common.{◌≡◌, ℕ, List, suc, ◌+◌, ◌-◌, ◌<◌, ◌≤◌, length, arith, refl, sym, ◌∙◌, ap, subst}
 use Rattle.std.specs.Prelude.{slice_index_or}
-use Rattle.geo_program.specs.declared.names.NameKind.TheVariants as kind
-use Rattle.geo_program.specs.Names.{is_kind}
-use Rattle.geo_lowering.specs.Counting.{named}
 use Rattle.geo_conditions.specs.declared.problem.Problem.{Problem}
 use Rattle.geo_place.specs.Evaluation.{turns_of}
 use Rattle.geo_place.specs.Inner.{Stops}
@@ -250,13 +247,13 @@ returns-in_err-test_conditions-2-clause-stops g c =
     let behind = ap (λ (ns : List ℕ). slice_index_or ns k 0) (c.as_slice-after.ensures.value ∙ ap (λ (q : Problem). q.after) c.problem.view_is) ∙ after_is g.run Q V h k C at old t in
     let made = c.in_ok-make_points.ensures in
     let told : TellsAll g.run Q V h k C at old t items through.result late ends nodes stored (k + 1) next met after behind made.passed c.make_points.new.self made.sketch made.points c.if-names_point.self.sketch c.if-names_point.self.triples.items = elim c.if-names_point.branch [
-        then-names_point+in_ok-tell w ↦
+      | then-names_point+in_ok-tell w ↦
           subst (λ z. TellsAll g.run Q V h k C at old t items through.result late ends nodes stored (k + 1) next met after behind made.passed c.make_points.new.self made.sketch made.points z.sketch z.triples.items) (sym w.self-is)
           (one_told g.run Q V h k C at old t items through.result late ends nodes stored (k + 1) next met after behind made.passed c.make_points.new.self made.sketch made.points (sym c.names_point.ensures ∙ w.if-names_point.true) w.tell.new.self.sketch w.in_ok-tell.ensures.sketch w.tell.new.self.triples.items w.in_ok-tell.ensures.triple)
       | else-names_point w ↦
           subst (λ z. TellsAll g.run Q V h k C at old t items through.result late ends nodes stored (k + 1) next met after behind made.passed c.make_points.new.self made.sketch made.points z.sketch z.triples.items) (sym w.self-is)
           (none_told g.run Q V h k C at old t items through.result late ends nodes stored (k + 1) next met after behind made.passed c.make_points.new.self made.sketch made.points (sym c.names_point.ensures ∙ w.if-names_point.false))
-      ] in
+    ] in
     let e = c.in_err-test_conditions-2.field-0.0 in
     passed_on c.from_residual-in_err-test_conditions-2.result e (Stops g.run (turns_of g.run.program)) c.from_residual-in_err-test_conditions-2.ensures.1
     (back_fails g.run Q V h k C at old t items through.result late ends nodes stored (k + 1) next met after behind made.passed c.make_points.new.self made.sketch made.points c.if-names_point.self.sketch c.if-names_point.self.triples.items told e c.in_err-test_conditions-2.ensures.fails)
@@ -284,12 +281,12 @@ returns-clause-taken g c =
     let behind = ap (λ (ns : List ℕ). slice_index_or ns k 0) (c.as_slice-after.ensures.value ∙ ap (λ (q : Problem). q.after) c.problem.view_is) ∙ after_is g.run Q V h k C at old t in
     let made = c.in_ok-make_points.ensures in
     let told : TellsAll g.run Q V h k C at old t items through.result late ends nodes stored (k + 1) next met after behind made.passed c.make_points.new.self made.sketch made.points c.if-names_point.self.sketch c.if-names_point.self.triples.items = elim c.if-names_point.branch [
-        then-names_point+in_ok-tell w ↦
+      | then-names_point+in_ok-tell w ↦
           subst (λ z. TellsAll g.run Q V h k C at old t items through.result late ends nodes stored (k + 1) next met after behind made.passed c.make_points.new.self made.sketch made.points z.sketch z.triples.items) (sym w.self-is)
           (one_told g.run Q V h k C at old t items through.result late ends nodes stored (k + 1) next met after behind made.passed c.make_points.new.self made.sketch made.points (sym c.names_point.ensures ∙ w.if-names_point.true) w.tell.new.self.sketch w.in_ok-tell.ensures.sketch w.tell.new.self.triples.items w.in_ok-tell.ensures.triple)
       | else-names_point w ↦
           subst (λ z. TellsAll g.run Q V h k C at old t items through.result late ends nodes stored (k + 1) next met after behind made.passed c.make_points.new.self made.sketch made.points z.sketch z.triples.items) (sym w.self-is)
           (none_told g.run Q V h k C at old t items through.result late ends nodes stored (k + 1) next met after behind made.passed c.make_points.new.self made.sketch made.points (sym c.names_point.ensures ∙ w.if-names_point.false))
-      ] in
+    ] in
     command_taken g.run Q V h k C at old t items through.result late ends nodes stored (k + 1) next met after behind made.passed c.make_points.new.self made.sketch made.points c.if-names_point.self.sketch c.if-names_point.self.triples.items told c.in_ok-test_conditions-2.ensures.met
     (record { sketch = c.if-names_point.self.sketch; tested = through.result; triples = c.if-names_point.self.triples }) refl refl refl

@@ -1,5 +1,5 @@
 use mir.Syntax.{w128}
-use Rattle.std.proofs.Common.{◌≡◌, ◌<◌, ◌^◌, unsigned_abs, sym, subst, arith}
+use Rattle.std.proofs.Common.{◌<◌, ◌^◌, unsigned_abs, subst, arith}
 use Rattle.std.specs.Prelude.{Ok}
 use Rattle.std.proofs.lemmas.Int.{fits_signed_from_abs, to_z-of_z}
 use Rattle.ring_laws.specs.Fraction.{whole}
@@ -8,7 +8,6 @@ use Rattle.geo_terms.specs.declared.nodes.Node.TheVariants as node
 use Rattle.geo_terms.specs.Stores.{tree_of}
 use Rattle.geo_place.specs.Formulas.{reckoned}
 use Rattle.geo_place.specs.Inner.{placement_of}
-use Rattle.geo_place.specs.Reckonings.{HasResult, known}
 use Rattle.geo_place.proofs.ResultLaws.{known_result}
 use Rattle.geo_place.proofs.TermParts.{of_node}
 use Rattle.geo_place.proofs.sketch.Sketch.+term.Goals as goal

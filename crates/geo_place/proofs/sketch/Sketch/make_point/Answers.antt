@@ -1,8 +1,7 @@
-use Rattle.std.proofs.Common.{◌≡◌, ◌+◌, ◌≤◌, ◌∷◌, [], length, arith, refl, sym, ◌∙◌, ap, subst}
+use Rattle.std.proofs.Common.{◌≡◌, ◌+◌, length, arith, refl, sym, ◌∙◌, ap, subst}
 use Rattle.std.specs.Prelude.{Option, Some, None, slice_get}
 use Rattle.geo_lowering.specs.StepForms.{StepForm, step_form}
 use Rattle.geo_place.specs.Evaluation.{IsTooLarge, make}
-use Rattle.geo_place.specs.Inner.{free_places}
 use Rattle.geo_place.proofs.MakeTurns.{sketch_next}
 use Rattle.geo_place.proofs.NextPoints.{at_form, free_few}
 use Rattle.geo_place.proofs.sketch.Sketch.make_point.Goals as goal

@@ -1,4 +1,4 @@
-use Rattle.std.proofs.Common.{◌≡◌, ◌≤◌, length, arith, sym, subst}
+use Rattle.std.proofs.Common.{◌≤◌, length, arith}
 use Rattle.geo_place.specs.Evaluation.{at_line, makes}
 use Rattle.geo_place.specs.Inner.{Stops}
 use Rattle.geo_place.proofs.ItemTests.{passed_on}

@@ -1,4 +1,4 @@
-use Rattle.std.proofs.Common.{◌≡◌, ◌∙◌, length, sym, ap, subst}
+use Rattle.std.proofs.Common.{◌∙◌, length, sym, ap, subst}
 use Rattle.geo_lowering.specs.StepForms.{step_form}
 use Rattle.geo_place.specs.Formulas.{step_spot}
 use Rattle.geo_place.specs.Inner.{AreResults, HasNumber, placement_of}

@@ -1,5 +1,4 @@
 use Rattle.std.proofs.Common.{sym, subst}
-use Rattle.geo_terms.specs.declared.steps.Step.TheVariants as step
 use Rattle.geo_terms.specs.Stores.{tree_of}
 use Rattle.geo_lowering.specs.StepForms.{step_form}
 use Rattle.geo_place.specs.Formulas.{reckoned, spot_of, step_spot}
