@@ -4,12 +4,12 @@ use Rattle.std.specs.Prelude.{IfErr, IfOk, IsErr, Option, Some, None, Result, Ok
 use Rattle.std.specs.List.{AllByRecursion}
 use Rattle.std.proofs.lemmas.List.{map-append, take_more}
 use Rattle.geo_place.proofs.ItemTests.{parted}
+use Rattle.geo_place.proofs.ListParts.{each_append, each_back, each_front}
 use Rattle.std.proofs.lemmas.List.Elements.{All-from_recursion, recursion_from_All}
 use Rattle.ring_laws.specs.Fraction.{Fraction}
 use Rattle.frac_laws.specs.declared.frac.Frac.{Frac}
 use Rattle.frac_laws.specs.declared.frac.FracTooLarge.{FracTooLarge}
 use Rattle.frac_laws.specs.Numbers.{IsNumber}
-use Rattle.geo_lowering.proofs.ConditionValues.{each_append, each_back, each_front}
 use Rattle.geo_place.specs.Reckonings.{IsRefused, Reckoning, known, ◌⊖◌}
 use Rattle.geo_place.specs.declared.placed.At.{At}
 use Rattle.geo_figure.specs.declared.bounds.Bounds.{Bounds}

@@ -5,7 +5,7 @@ use Rattle.std.specs.List.{AllByRecursion, filter, flat_map}
 use Rattle.std.proofs.lemmas.List.{map-append, take_more}
 use Rattle.std.proofs.lemmas.List.Elements.{All-from_recursion, filter-append, recursion_from_All}
 use Rattle.geo_base.specs.declared.texts.Text.{Text}
-use Rattle.geo_lowering.proofs.ConditionValues.{each_append, each_back}
+use Rattle.geo_place.proofs.ListParts.{each_append, each_back}
 use Rattle.geo_place.specs.Placing.{text_of}
 use Rattle.geo_place.specs.declared.placed.At.{At}
 use Rattle.geo_place.specs.declared.placed.Placed.{Placed}

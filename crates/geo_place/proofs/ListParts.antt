@@ -5,7 +5,7 @@ use Rattle.std.specs.List.{AllByRecursion}
 use Rattle.std.specs.Prelude.{◌-◌, All}
 use Rattle.std.proofs.lemmas.List.{append_cancel_left, length-append, length-drop, take_all}
 use Rattle.std.proofs.lemmas.List.Elements.{All-from_recursion, recursion_from_All}
-use Rattle.geo_lowering.proofs.ConditionValues.{each_append}
+pub use Rattle.geo_lowering.proofs.ConditionValues.{each_append, each_back, each_front}
 use Rattle.geo_conditions.specs.Lists.{IsListed}
 use Rattle.geo_conditions.proofs.Listings.{held}
 
