@@ -1,5 +1,5 @@
 -- What `place` and `figure` are to write, from what the parts of the input call for.
-use Rattle.std.proofs.Common.{◌≡◌, ◌≢◌, ℕ, ◌+◌, ◌-◌, Bool, ℤ, inl, inr, List, ◌++◌, length, Result, Ok, Err, ap, ◌∙◌, sym, arith}
+use Rattle.std.proofs.Common.{◌≡◌, ◌≢◌, ℕ, ◌+◌, ◌-◌, Bool, ℤ, inl, inr, List, ◌++◌, length, Result, Ok, Err, ap, ◌∙◌, subst, arith}
 use Rattle.std.specs.Prelude.{IfOk}
 use Rattle.std.proofs.lemmas.List.{length-append}
 use Rattle.geo_points.specs.declared.memory.NoMemory.{NoMemory}
@@ -59,18 +59,19 @@ module _ (drawn : Bool) where
     count_told other = weaker (λ due. due ≡ fault_due 14 0) (IsValuesDue drawn program values) (λ due h. inl (other, h))
 
     -- it has so many, and this is the answer
-    pub answer_told : length values ≡ values_wanted (source_of program) → (answer : Result Placed PlaceError)
-        → ((v : ProgramValues) → length v.coordinates ≡ length (free_points 0 program.commands) → integers_of v ≡ values → IsAnswer (source_of program) v answer)
+    pub answer_told : length values ≡ values_wanted (source_of program) → (got answer : Result Placed PlaceError) → got ≡ answer
+        → ((v : ProgramValues) → length v.coordinates ≡ length (free_points 0 program.commands) → integers_of v ≡ values → IsAnswer (source_of program) v got)
         → (r : Result Report NoMemory) → IfOk r (λ x. TellsAnswer drawn answer (due_of x)) → IfOk r (λ x. IsValuesDue drawn program values (due_of x))
-    answer_told count answer gives =
+    answer_told count got answer same gives =
+        let v = values_of (source_of program) values in
         let are = values_are (source_of program) values count in
         weaker (TellsAnswer drawn answer) (IsValuesDue drawn program values)
         (λ due h. inr (record {
           count = count;
-          v = values_of (source_of program) values;
+          v = v;
           frees = are.1.0;
           are = are.0;
           answer = answer;
-          given = gives (values_of (source_of program) values) are.1.0 are.0;
+          given = subst (λ (a : Result Placed PlaceError). IsAnswer (source_of program) v a) same (gives v are.1.0 are.0);
           is = h;
         }))
