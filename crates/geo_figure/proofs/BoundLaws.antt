@@ -1,23 +1,17 @@
 -- Signs of numbers in lowest terms, and how bounds grow.
-use Rattle.std.proofs.Common.{◌≡◌, ◌≢◌, ℕ, zero, suc, ◌+◌, ◌*◌, ◌<◌, ◌≤◌, Bool, true, false, ℤ, pos, negsuc, ◌*ℤ◌, ◌+ℤ◌, unsigned_abs, List, [], ◌∷◌, ◌++◌, map, fold, All, neg_ℤ, refl, sym, ◌∙◌, ap, subst, mul-pos, arith}
-use Rattle.std.specs.List.{AllByRecursion}
-use Rattle.std.specs.Prelude.{◌≤ℤ◌, ◌<ℤ◌, Result, Ok, Err}
+use Rattle.std.proofs.Common.{◌≡◌, ℕ, zero, suc, ◌+◌, ◌*◌, ◌<◌, Bool, true, false, ℤ, pos, negsuc, ◌*ℤ◌, ◌+ℤ◌, unsigned_abs, List, [], ◌∷◌, ◌++◌, fold, neg_ℤ, refl, sym, ◌∙◌, ap, subst, mul-pos, arith}
+use Rattle.std.specs.Prelude.{◌≤ℤ◌, ◌<ℤ◌, Ok}
 use Rattle.std.proofs.lemmas.Int.{ints}
-use Rattle.std.proofs.lemmas.List.Elements.{All-from_recursion, recursion_from_All}
 use Rattle.ring_laws.specs.Solver.{variable, numeral, ◌⊠◌, ◌⊞◌, opposite, entry_at, given}
-use Rattle.ring_laws.specs.Fraction.{Fraction, Same, minus, negated, plus, quotient, quotient_at, whole}
+use Rattle.ring_laws.specs.Fraction.{Fraction, minus, negated, plus, quotient, quotient_at, whole}
 use Rattle.ring_laws.proofs.Combination.{by_combination}
 use Rattle.ring_laws.proofs.Integers.{integers}
 use Rattle.ring_laws.proofs.Sound.{agree}
 use Rattle.frac_laws.specs.declared.frac.Frac.{Frac}
-use Rattle.frac_laws.specs.declared.frac.FracTooLarge.{FracTooLarge}
 use Rattle.frac_laws.specs.Numbers.{IsNumber}
-use Rattle.geo_place.specs.Reckonings.{HasResult, IsRefused, IsResult, Reckoning, known, ◌⊖◌}
-use Rattle.geo_place.proofs.ResultLaws.{known_result}
-use Rattle.geo_figure.specs.declared.bounds.Bounds.{Bounds}
+use Rattle.geo_place.specs.Reckonings.{IsResult, known, ◌⊖◌}
 use Rattle.geo_figure.specs.Bounds.{greater, greatest, is_negative, least, lesser}
-use Rattle.geo_figure.specs.Drawing.{differences}
-use Rattle.geo_figure.specs.Inner.{AreBounds, IsGreater, IsLesser}
+use Rattle.geo_figure.specs.Inner.{IsGreater, IsLesser}
 
 -- SIGNS
 -- n a and -m d are not the same, where m and d are not 0

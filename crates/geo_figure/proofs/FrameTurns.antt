@@ -1,6 +1,6 @@
 -- What comes of frames and cells, point by point.
-use Rattle.std.proofs.Common.{◌≡◌, ◌≢◌, ◌⊎◌, ⊎_elim, ℕ, suc, ◌+◌, ◌-◌, ◌<◌, ◌≤◌, Bool, true, false, List, [], ◌∷◌, ◌++◌, length, get_or, map, All, refl, sym, ◌∙◌, ap, subst, append_assoc, arith}
-use Rattle.std.specs.Prelude.{IfErr, IfOk, IsErr, Option, Some, None, Result, Ok, Err, slice_get, slice_index, take, drop}
+use Rattle.std.proofs.Common.{◌≡◌, ◌≢◌, ◌⊎◌, ⊎_elim, ℕ, suc, ◌+◌, ◌-◌, ◌<◌, ◌≤◌, true, false, List, [], ◌∷◌, ◌++◌, length, get_or, map, refl, sym, ◌∙◌, ap, subst, append_assoc, arith}
+use Rattle.std.specs.Prelude.{IfErr, IfOk, IsErr, Result, Ok, Err, slice_index, take, drop}
 use Rattle.std.specs.List.{AllByRecursion}
 use Rattle.std.proofs.lemmas.List.{map-append, take_more}
 use Rattle.geo_place.proofs.ItemTests.{parted}
@@ -19,7 +19,7 @@ use Rattle.geo_figure.specs.declared.errors.DrawError.{DrawError}
 use Rattle.geo_figure.specs.declared.errors.DrawError.TheVariants.{NoMemory, TooLarge}
 use Rattle.geo_figure.specs.Bounds.{greatest, least}
 use Rattle.geo_figure.specs.Drawing.{DrawTurn, IsPassed, bound_turn, bound_turns, differences, share_turn, shares, step_of, x_of, y_of}
-use Rattle.geo_figure.specs.Inner.{AreBounds, AreKept, AreWider, IsCellOf, IsFrame, IsFrameOf, IsGreater, IsLesser, IsStep, IsWiderFrame, Stop, Stops, cell_at}
+use Rattle.geo_figure.specs.Inner.{AreBounds, AreKept, AreWider, IsCellOf, IsFrame, IsGreater, IsLesser, IsStep, IsWiderFrame, Stop, Stops}
 use Rattle.geo_figure.proofs.BoundLaws.{greatest_next, least_next}
 
 -- ALL OF TWO LISTS

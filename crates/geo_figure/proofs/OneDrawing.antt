@@ -1,15 +1,12 @@
 -- Placed points have one drawing.
 use Rattle.std.proofs.Common.{◌≡◌, ℕ, List, [], ◌∷◌, ◌++◌, refl, sym, ◌∙◌, ap, subst}
-use Rattle.std.specs.Prelude.{All, Result, Ok, Err}
+use Rattle.std.specs.Prelude.{Ok, Err}
 use Rattle.std.specs.List.{AllByRecursion}
 use Rattle.std.proofs.lemmas.List.Elements.{recursion_from_All}
-use Rattle.geo_base.specs.declared.texts.Text.{Text}
 use Rattle.geo_place.specs.declared.placed.At.{At}
-use Rattle.geo_place.specs.declared.placed.Placed.{Placed}
 use Rattle.geo_place.proofs.ListParts.{head_of, tail_of}
-use Rattle.geo_figure.specs.declared.errors.DrawError.{DrawError}
 use Rattle.geo_figure.specs.declared.errors.DrawError.TheVariants.{NoMemory, TooLarge}
-use Rattle.geo_figure.specs.Drawing.{DrawTurn, IsDrawn, IsPassed, IsTooLargeAt, draw_turns}
+use Rattle.geo_figure.specs.Drawing.{DrawTurn, IsPassed, IsTooLargeAt}
 use Rattle.geo_figure.specs.Laws.{PointsHaveOneDrawing}
 
 -- the first turn that does not pass is one

@@ -1,19 +1,19 @@
 -- The picture of cells, and the drawing.
-use Rattle.std.proofs.Common.{◌≡◌, ◌≢◌, ℕ, suc, ◌+◌, ◌<◌, ◌≤◌, Bool, true, false, List, [], ◌∷◌, ◌++◌, length, get_or, map, All, refl, sym, ◌∙◌, ap, subst, append_assoc, arith}
-use Rattle.std.specs.Prelude.{Option, Some, None, Result, Ok, Err, take, if◌then◌else◌}
+use Rattle.std.proofs.Common.{◌≡◌, ◌≢◌, ℕ, suc, ◌+◌, ◌<◌, Bool, true, false, List, [], ◌∷◌, ◌++◌, length, get_or, map, refl, sym, ◌∙◌, ap, subst, arith}
+use Rattle.std.specs.Prelude.{Option, Some, None, Ok, Err, take, if◌then◌else◌}
 use Rattle.std.specs.List.{AllByRecursion, filter, flat_map}
-use Rattle.std.proofs.lemmas.List.{map-append, take_more}
-use Rattle.std.proofs.lemmas.List.Elements.{All-from_recursion, filter-append, recursion_from_All}
+use Rattle.std.proofs.lemmas.List.{take_more}
+use Rattle.std.proofs.lemmas.List.Elements.{All-from_recursion, filter-append}
 use Rattle.geo_base.specs.declared.texts.Text.{Text}
-use Rattle.geo_place.proofs.ListParts.{each_append, each_back}
+use Rattle.geo_place.proofs.ListParts.{each_back}
 use Rattle.geo_place.specs.Placing.{text_of}
 use Rattle.geo_place.specs.declared.placed.At.{At}
 use Rattle.geo_place.specs.declared.placed.Placed.{Placed}
 use Rattle.geo_figure.specs.declared.cells.Cell.{Cell}
 use Rattle.geo_figure.specs.declared.errors.DrawError.{DrawError}
 use Rattle.geo_figure.specs.declared.errors.DrawError.TheVariants.{NoMemory, TooLarge}
-use Rattle.geo_figure.specs.Drawing.{DrawTurn, IsDrawn, IsPassed, IsTooLargeAt, draw_turns, drawing, first_numbers, mark, picture_line, stands_in}
-use Rattle.geo_figure.specs.Inner.{IsMark, Stop, Stops, cell_at, cell_line, cell_mark, is_cell}
+use Rattle.geo_figure.specs.Drawing.{IsDrawn, IsPassed, draw_turns, first_numbers, mark, picture_line, stands_in}
+use Rattle.geo_figure.specs.Inner.{IsMark, Stops, cell_at, cell_line, cell_mark, is_cell}
 
 -- MARKS
 pub more_marked : (cells : List Cell) (c : Cell) → cells ≢ [] → 42 ≡ cell_mark (cells ++ c ∷ [])

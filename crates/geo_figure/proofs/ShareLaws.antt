@@ -1,13 +1,12 @@
 -- Shares of coordinates: whether all coordinates are the same, and a share without its fractional part.
-use Rattle.std.proofs.Common.{◌≡◌, ℕ, suc, ◌+◌, ◌*◌, ◌<◌, ◌≤◌, Bool, true, false, ℤ, pos, ◌*ℤ◌, unsigned_abs, ⊎_elim, List, [], ◌∷◌, All, refl, sym, ◌∙◌, ap, subst, arith}
-use Rattle.std.specs.Prelude.{◌/◌, IfOk, IsErr, OnOk, Result, Ok, Err}
-use Rattle.std.specs.List.{AllByRecursion}
+use Rattle.std.proofs.Common.{◌≡◌, ℕ, suc, ◌+◌, ◌*◌, ◌<◌, ◌≤◌, Bool, true, false, ℤ, pos, ◌*ℤ◌, unsigned_abs, ⊎_elim, List, [], ◌∷◌, refl, sym, ◌∙◌, ap, subst, arith}
+use Rattle.std.specs.Prelude.{◌/◌, Ok, Err}
 use Rattle.std.proofs.lemmas.Bool.{cases_lt}
 use Rattle.std.proofs.lemmas.Int.{unsigned_abs-mul}
 use Rattle.std.proofs.lemmas.List.Elements.{All-from_recursion, recursion_from_All}
 use Rattle.std.proofs.lemmas.Nat.{div_below, le-div}
 use Rattle.std.proofs.Math.Nat.{mul-le-mul_right, mul_assoc, mul_comm}
-use Rattle.ring_laws.specs.Fraction.{Fraction, Same, minus, negated, plus, whole}
+use Rattle.ring_laws.specs.Fraction.{Fraction, Same, minus, whole}
 use Rattle.ring_laws.proofs.Fractions.{fractions}
 use Rattle.ring_laws.proofs.Quotients.{same_of_zero, zero_of_same}
 use Rattle.frac_laws.specs.declared.frac.Frac.{Frac}
@@ -16,11 +15,11 @@ use Rattle.frac_laws.specs.Numbers.{IsNumber, IsSameNumber, fraction_of}
 use Rattle.geo_points.specs.Points.{is_null}
 use Rattle.geo_points.proofs.Ratios.{null-true}
 use Rattle.geo_points.proofs.Zeros.{same_of_minus}
-use Rattle.geo_place.specs.Reckonings.{HasResult, IsRefused, IsResult, Reckoning, known, number, ◌⊖◌, ◌⊗◌, ◌⊘◌}
-use Rattle.geo_place.proofs.ResultLaws.{known_result, same_of}
+use Rattle.geo_place.specs.Reckonings.{IsRefused, IsResult, Reckoning, number}
+use Rattle.geo_place.proofs.ResultLaws.{same_of}
 use Rattle.geo_figure.specs.declared.bounds.Bounds.{Bounds}
 use Rattle.geo_figure.specs.Bounds.{greatest, least}
-use Rattle.geo_figure.specs.Drawing.{are_level, share, shares, step_of}
+use Rattle.geo_figure.specs.Drawing.{are_level, share, shares}
 use Rattle.geo_figure.specs.Inner.{AreBounds, AreKept}
 use Rattle.geo_figure.specs.Inner.{IsStep}
 

@@ -1,5 +1,5 @@
 -- The drawing of placed points: 21 lines of 41 bytes, with the least coordinates at the left and at the bottom.
-use Rattle.std.specs.Prelude.{◌≡◌, ℕ, zero, suc, ◌-◌, ◌/◌, Bool, true, false, ◌&&◌, eqb, pos, unsigned_abs, All, Result, Ok, Err, List, [], ◌∷◌, ◌++◌, length, map, slice_index}
+use Rattle.std.specs.Prelude.{◌≡◌, ℕ, zero, suc, ◌-◌, ◌/◌, Bool, true, false, ◌&&◌, eqb, pos, unsigned_abs, All, Result, Ok, Err, List, [], ◌∷◌, ◌++◌, map, slice_index}
 use Rattle.std.specs.List.{filter, flat_map}
 use Rattle.ring_laws.specs.Fraction.{Fraction, minus, quotient, whole}
 use Rattle.geo_points.specs.Points.{is_null}

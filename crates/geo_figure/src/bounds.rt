@@ -108,10 +108,7 @@ fn wider(bounds: Bounds, x: Frac) -> Result<Bounds, FracTooLarge>
     ensures { (xs : List Fraction) (a : Fraction) → xs ≢ [] → AreBounds bounds xs
         → IsNumber x a → AreWider xs a result }
 {
-    bounds_from(
-        lesser_of(bounds.least, x),
-        greater_of(bounds.greatest, x),
-    )
+    bounds_from(lesser_of(bounds.least, x), greater_of(bounds.greatest, x))
 }
 
 /// The frame of the bounds of both coordinates. A refusal is told with the line.

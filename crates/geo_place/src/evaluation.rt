@@ -130,7 +130,8 @@ impl Progress {
     }
 
     /// Evaluates the command of this number, counted from 0: its conditions that do not name its
-    /// point, its steps, the triple of its point, and its other conditions.
+    /// point, its steps, the triple of its point, if it names one, and its other conditions. An
+    /// assumption has its condition alone.
     fn take_command(
         &mut self,
         problem: &Problem,

@@ -1,4 +1,3 @@
-use Rattle.ring_laws.specs.Fraction.{Fraction}
 use Rattle.geo_figure.specs.Bounds.{greatest, least}
 use Rattle.geo_figure.proofs.FrameTurns.{wider_found}
 use Rattle.geo_figure.proofs.bounds.wider.Goals as goal

@@ -1,4 +1,4 @@
-use Rattle.std.proofs.Common.{rules, ◌≡◌, ℤ, ◌*ℤ◌, FitsSigned, to_z, of_z, sym, ◌∙◌, ap}
+use Rattle.std.proofs.Common.{rules, ℤ, ◌*ℤ◌, FitsSigned, sym, ◌∙◌, ap}
 use Rattle.std.specs.Int.{w128}
 use Rattle.std.proofs.lemmas.Int.{to_z-of_z}
 use Rattle.geo_figure.proofs.BoundLaws.{quotient_number}

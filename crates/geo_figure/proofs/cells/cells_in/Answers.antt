@@ -1,4 +1,4 @@
-use Rattle.std.proofs.Common.{List, map, take}
+use Rattle.std.proofs.Common.{List, map}
 use Rattle.geo_place.specs.declared.placed.At.{At}
 use Rattle.geo_figure.specs.Drawing.{share_turn}
 use Rattle.geo_figure.specs.Inner.{IsFrame, Stops}

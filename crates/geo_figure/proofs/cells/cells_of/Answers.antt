@@ -1,4 +1,4 @@
-use Rattle.std.proofs.Common.{[], ◌++◌, map, refl, subst}
+use Rattle.std.proofs.Common.{[], map, refl, subst}
 use Rattle.geo_figure.specs.Drawing.{bound_turns, draw_turns, share_turn}
 use Rattle.geo_figure.specs.Inner.{IsFrameOf, Stops}
 use Rattle.geo_place.proofs.ItemTests.{passed_on}

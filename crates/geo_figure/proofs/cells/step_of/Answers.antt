@@ -1,7 +1,6 @@
-use Rattle.std.proofs.Common.{rules, ◌≡◌, ℤ, pos, ◌*ℤ◌, sym, ◌∙◌, ap, subst}
-use Rattle.ring_laws.specs.Fraction.{Fraction, whole}
-use Rattle.frac_laws.specs.Numbers.{IsNumber}
-use Rattle.geo_place.specs.Reckonings.{HasResult, known, number, ◌⊖◌, ◌⊗◌}
+use Rattle.std.proofs.Common.{rules, ◌≡◌, pos, ◌*ℤ◌}
+use Rattle.ring_laws.specs.Fraction.{whole}
+use Rattle.geo_place.specs.Reckonings.{known, number, ◌⊖◌, ◌⊗◌}
 use Rattle.geo_place.proofs.ResultLaws.{known_result}
 use Rattle.geo_figure.specs.Bounds.{greatest, least}
 use Rattle.geo_figure.specs.Drawing.{share}
