@@ -69,9 +69,9 @@ module _ (drawn : Bool) where
         (λ due h. inr (record {
           count = count;
           v = v;
-          frees = are.1.0;
+          frees = are.1;
           are = are.0;
           answer = answer;
-          given = subst (λ (a : Result Placed PlaceError). IsAnswer (source_of program) v a) same (gives v are.1.0 are.0);
+          given = subst (λ (a : Result Placed PlaceError). IsAnswer (source_of program) v a) same (gives v are.1 are.0);
           is = h;
         }))
