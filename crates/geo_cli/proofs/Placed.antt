@@ -1,5 +1,5 @@
 -- A run that answers that its text is written, or that a condition is not met.
-use Rattle.std.proofs.Common.{◌≡◌, ◌⊎◌, inl, inr, ℕ, ◌<◌, ◌≤◌, List, [], ◌∷◌, length, Option, None, Some, refl, sym, ◌∙◌, ap, subst, arith}
+use Rattle.std.proofs.Common.{◌≡◌, inl, inr, ℕ, ◌<◌, List, length, Option, refl, sym, ◌∙◌, ap, subst, arith}
 use Rattle.std.specs.Prelude.{Bool, true, false, ℤ, Result, Ok, Err}
 use Rattle.geo_base.specs.Devices.{Grows}
 use Rattle.geo_base.specs.declared.texts.Text.{Text as Written}
@@ -7,13 +7,13 @@ use Rattle.geo_cli.specs.declared.order.Command.{Command}
 use Rattle.geo_cli.specs.declared.order.Command.TheVariants.{Bench, Check, Figure, Place, Prove, Text}
 use Rattle.geo_cli.specs.declared.status.Status.{Status}
 use Rattle.geo_cli.specs.declared.status.Status.TheVariants as status
-use Rattle.geo_cli.specs.Due.{Due, IsCommandDue, IsDue, IsDueForValues, IsRestDue, TellsAnswer, TellsDrawing, stop_due, unmet_line}
+use Rattle.geo_cli.specs.Due.{Due, IsCommandDue, IsDue, IsDueForValues, IsRestDue, TellsAnswer, TellsDrawing}
 use Rattle.geo_cli.specs.Input.{IsInput, program_limit}
 use Rattle.geo_cli.specs.Orders.{IsOrder}
 use Rattle.geo_cli.specs.Run.{DoneTells, Ends, IsAnswered, IsCutShort, IsPlaceOf, PlacesInput, PlacesNone, ReadsValues, shown}
 use Rattle.geo_cli.specs.Status.{ending_status, refusal_status, status_number, stop_status, verdict_status}
 use Rattle.geo_cli.specs.Values.{HasValuesLine}
-use Rattle.geo_cli.proofs.Ended.{differ, due_says}
+use Rattle.geo_cli.proofs.Ended.{differ}
 use Rattle.geo_conditions.specs.Truth.{ProgramValues}
 use Rattle.geo_figure.specs.declared.errors.DrawError.{DrawError}
 use Rattle.geo_figure.specs.declared.errors.DrawError.TheVariants as drawing
@@ -24,7 +24,7 @@ use Rattle.geo_logs.specs.Moves.{Stop, spent, too_large}
 use Rattle.geo_place.specs.declared.errors.PlaceError.{PlaceError}
 use Rattle.geo_place.specs.declared.errors.PlaceError.TheVariants as placing
 use Rattle.geo_place.specs.declared.placed.Placed.{Placed}
-use Rattle.geo_place.specs.Placing.{IsAnswer, Places, PlacesNothing, integers_of, text_of}
+use Rattle.geo_place.specs.Placing.{IsAnswer, Places, PlacesNothing, integers_of}
 use Rattle.geo_poly.specs.declared.limits.Which.TheVariants.{Norm}
 use Rattle.geo_program.specs.declared.program_type.Program.{Program}
 use Rattle.geo_program.specs.Programs.{Spells, source_of}

@@ -1,5 +1,5 @@
 -- What `place` and `figure` are to write, from what the parts of the input call for.
-use Rattle.std.proofs.Common.{◌≡◌, ◌≢◌, ℕ, ◌+◌, ◌-◌, Bool, ℤ, inl, inr, List, ◌++◌, length, Result, Ok, Err, ap, ◌∙◌, subst, arith}
+use Rattle.std.proofs.Common.{◌≡◌, ◌≢◌, ℕ, ◌+◌, ◌-◌, Bool, ℤ, inl, inr, List, length, Result, Ok, Err, ap, ◌∙◌, subst, arith}
 use Rattle.std.specs.Prelude.{IfOk}
 use Rattle.std.proofs.lemmas.List.{length-append}
 use Rattle.geo_points.specs.declared.memory.NoMemory.{NoMemory}

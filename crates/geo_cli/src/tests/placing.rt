@@ -68,14 +68,13 @@ fn points_are_placed(rt: HostRuntime) -> Result<(), Fail> {
 
 #[test]
 fn what_cannot_be_placed_is_told(rt: HostRuntime) -> Result<(), Fail> {
-    const CROSSING: &[u8] = b"at 0 0 1 0\npoint A point B inter X A B A B prove { collinear A B X }";
-    const CIRCLE: &[u8] =
-        b"at 0 0 1 0 0\npoint A point B oncircle P A B prove { collinear A B P }";
+    const CROSSING: &[u8] =
+        b"at 0 0 1 0\npoint A point B inter X A B A B prove { collinear A B X }";
+    const CIRCLE: &[u8] = b"at 0 0 1 0 0\npoint A point B oncircle P A B prove { collinear A B P }";
     const FAR: &[u8] =
         b"at 170141183460469231731687303715884105727 0 0 0\npoint A point B midpoint M A B \
         symmetric S A B prove { identical A A }";
-    const GOAL: &[u8] =
-        b"at 0 0 10000000000000000000 1 1 10000000000000000000 3 \
+    const GOAL: &[u8] = b"at 0 0 10000000000000000000 1 1 10000000000000000000 3 \
         170141183460469231731687303715884105727\npoint A point B point C point D \
         prove { harmonic A B C D }";
     let stop = |line: u64| Status::TooLarge {

@@ -1,4 +1,4 @@
-use Rattle.std.proofs.Common.{◌∙◌, ap, refl, rules, Err, Ok}
+use Rattle.std.proofs.Common.{◌∙◌, ap, rules, Err, Ok}
 use Rattle.geo_cli.proofs.ValuesDue.{answer_told}
 use Rattle.geo_cli.proofs.placing.report_program.Goals as goal
 

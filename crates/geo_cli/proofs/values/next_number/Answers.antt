@@ -1,5 +1,4 @@
-use Rattle.std.proofs.Common.{◌≡◌, rules, true, false, sym, ap, ◌∙◌}
-use Rattle.std.specs.Fmt.{signed_decimal}
+use Rattle.std.proofs.Common.{◌≡◌, rules, true, false, sym, ◌∙◌}
 use Rattle.geo_base.specs.Decimals.{decimal_value}
 use Rattle.proof_log.proofs.Found.{integer_misspelt, integer_unread, no_result}
 use Rattle.geo_cli.proofs.values.next_number.Goals as goal
