@@ -31,10 +31,12 @@ module _ (bytes : List ℕ) (fault : Fault) where
   behind_tokens slots None within e = at_end (refusal_at_end slots) e
 
   first_within : (r : Reading) (slots : List Slot) (tokens : List Token) (stop : Option Fault) → AllByRecursion (IsWithin bytes) tokens
-      → ((f : Fault) → stop ≡ Some f → f.place ≤ length bytes) → first_fault r slots (placed_lexemes bytes tokens) (length bytes) stop ≡ Some fault
+      → ((f : Fault) → stop ≡ Some f → f.place ≤ length bytes)
+      → first_fault r slots (placed_lexemes bytes tokens) (length bytes) stop ≡ Some fault
       → fault.place ≤ length bytes
   first_within r slots [] stop inside within e = behind_tokens slots stop within e
-  first_within r slots (t ∷ ts) stop inside within e = go (next r slots (lexeme_of bytes t)) (λ s rest. first_within s rest ts stop inside.1 within) e
+  first_within r slots (t ∷ ts) stop inside within e =
+      go (next r slots (lexeme_of bytes t)) (λ s rest. first_within s rest ts stop inside.1 within) e
     where
       go : (o : Outcome)
           → ((s : Reading) (rest : List Slot) → first_fault s rest (placed_lexemes bytes ts) (length bytes) stop ≡ Some fault → fault.place ≤ length bytes)

@@ -1,12 +1,11 @@
 -- What `place` and `figure` are to write, from what the parts of the input call for.
-use Rattle.std.proofs.Common.{◌≡◌, ◌≢◌, ℕ, ◌+◌, ◌-◌, Bool, ℤ, inl, inr, List, length, Result, Ok, Err, ap, ◌∙◌, subst, arith}
+use Rattle.std.proofs.Common.{◌≡◌, ℕ, ◌+◌, Bool, ℤ, inl, inr, List, length, Result, Ok, Err, ap, ◌∙◌, subst}
 use Rattle.std.specs.Prelude.{IfOk}
-use Rattle.std.proofs.lemmas.List.{length-append}
 use Rattle.geo_points.specs.declared.memory.NoMemory.{NoMemory}
 use Rattle.geo_cli.specs.declared.benching.Report.{Report}
-use Rattle.geo_cli.specs.Due.{Due, IsDueForValues, IsRestDue, IsValuesDue, SpellsNone, TellsAnswer, fault_due}
+use Rattle.geo_cli.specs.Due.{Due, IsRestDue, IsValuesDue, SpellsNone, TellsAnswer, fault_due}
 use Rattle.geo_cli.specs.Inner.Telling.{due_of}
-use Rattle.geo_cli.specs.Values.{HasNoValuesLine, HasValuesLine, values_line}
+use Rattle.geo_cli.specs.Values.{values_line}
 use Rattle.geo_conditions.specs.Truth.{ProgramValues, free_points}
 use Rattle.geo_lexer.specs.declared.token_types.Fault.{Fault}
 use Rattle.geo_place.specs.declared.errors.PlaceError.{PlaceError}
@@ -16,29 +15,13 @@ use Rattle.geo_place.proofs.ValueLists.{values_are, values_of}
 use Rattle.geo_program.specs.declared.program_type.Program.{Program}
 use Rattle.geo_program.specs.Programs.{Spells, source_of}
 
--- the line of values is what stands before the rest
-pub before_rest : (bytes : List ℕ) (values : List ℤ) (rest : List ℕ) → HasValuesLine bytes values rest → length bytes - length rest ≡ length (values_line values)
-before_rest bytes values rest h =
-    let size : length bytes ≡ length (values_line values) + length rest = ap length h.parts ∙ length-append (values_line values) rest in omega (arith, size)
-
 -- a property of what is told goes over to what is called for
-weaker : (P Q : Due → Type 0) → ((due : Due) → P due → Q due) → (r : Result Report NoMemory) → IfOk r (λ x. P (due_of x)) → IfOk r (λ x. Q (due_of x))
+weaker : (P Q : Due → Type 0) → ((due : Due) → P due → Q due) → (r : Result Report NoMemory) → IfOk r (λ x. P (due_of x))
+    → IfOk r (λ x. Q (due_of x))
 weaker P Q more (Ok x) h = more (due_of x) h
 weaker P Q more (Err e) h = tt
 
 module _ (drawn : Bool) where
-  -- there is a line of values, and this is what stands behind it
-  pub line_told : (bytes : List ℕ) (values : List ℤ) (rest : List ℕ) → HasValuesLine bytes values rest → (r : Result Report NoMemory)
-      → IfOk r (λ x. IsRestDue drawn values rest (due_of x)) → IfOk r (λ x. IsDueForValues drawn bytes (due_of x))
-  line_told bytes values rest line =
-      weaker (IsRestDue drawn values rest) (IsDueForValues drawn bytes)
-      (λ due h. inr (record { values = values; rest = rest; line = line; of_rest = h }))
-
-  -- there is none
-  pub no_line_told : (bytes : List ℕ) → HasNoValuesLine bytes → (r : Result Report NoMemory) → IfOk r (λ x. due_of x ≡ fault_due 13 0)
-      → IfOk r (λ x. IsDueForValues drawn bytes (due_of x))
-  no_line_told bytes none = weaker (λ due. due ≡ fault_due 13 0) (IsDueForValues drawn bytes) (λ due h. inl (none, h))
-
   module _ (values : List ℤ) (rest : List ℕ) where
     -- the rest spells a program
     pub program_told : (program : Program) → Spells rest program → (r : Result Report NoMemory)
@@ -46,22 +29,19 @@ module _ (drawn : Bool) where
     program_told program spelt = weaker (IsValuesDue drawn program values) (IsRestDue drawn values rest) (λ due h. inr (program, spelt, h))
 
     -- it spells none
-    pub fault_told : (fault : Fault) → SpellsNone rest fault → (before : ℕ) → before ≡ length (values_line values) → (r : Result Report NoMemory)
+    pub fault_told : (fault : Fault) → SpellsNone rest fault → (before : ℕ) → before ≡ length (values_line values)
+        → (r : Result Report NoMemory)
         → IfOk r (λ x. due_of x ≡ fault_due fault.refusal (before + fault.place)) → IfOk r (λ x. IsRestDue drawn values rest (due_of x))
     fault_told fault none before is =
         weaker (λ due. due ≡ fault_due fault.refusal (before + fault.place)) (IsRestDue drawn values rest)
         (λ due h. inl (fault, none, h ∙ ap (λ (n : ℕ). fault_due fault.refusal (n + fault.place)) is))
 
   module _ (program : Program) (values : List ℤ) where
-    -- the program has more or fewer values
-    pub count_told : length values ≢ values_wanted (source_of program) → (r : Result Report NoMemory) → IfOk r (λ x. due_of x ≡ fault_due 14 0)
-        → IfOk r (λ x. IsValuesDue drawn program values (due_of x))
-    count_told other = weaker (λ due. due ≡ fault_due 14 0) (IsValuesDue drawn program values) (λ due h. inl (other, h))
-
-    -- it has so many, and this is the answer
+    -- the program has so many values, and this is the answer
     pub answer_told : length values ≡ values_wanted (source_of program) → (got answer : Result Placed PlaceError) → got ≡ answer
         → ((v : ProgramValues) → length v.coordinates ≡ length (free_points 0 program.commands) → integers_of v ≡ values → IsAnswer (source_of program) v got)
-        → (r : Result Report NoMemory) → IfOk r (λ x. TellsAnswer drawn answer (due_of x)) → IfOk r (λ x. IsValuesDue drawn program values (due_of x))
+        → (r : Result Report NoMemory) → IfOk r (λ x. TellsAnswer drawn answer (due_of x))
+        → IfOk r (λ x. IsValuesDue drawn program values (due_of x))
     answer_told count got answer same gives =
         let v = values_of (source_of program) values in
         let are = values_are (source_of program) values count in
