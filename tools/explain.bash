@@ -107,7 +107,7 @@ explain() {
     7:*) explain_spent "$1" "$3" ;;
     12:*)
       if [ "$3" = check ] || [ "$3" = text ] || [ "$(wc -c <"$2")" -gt 1048576 ]; then
-        echo "$1: too long: a program has at most 1,048,576 bytes, with a line of numbers before it too, and a log at most 67,108,864"
+        echo "$1: too long: a program has at most 1,048,576 bytes, a log at most 67,108,864"
       else
         echo "$1: undecided: its log would be longer than 67,108,864 bytes"
         hint "more steps do not help: say it in another way (docs/GUIDE.md)"
