@@ -69,7 +69,10 @@ pub record IsTripleOf (t : Triple) (A : Point) : Type 0 where
 -- the placement of a sketch; past the ends it has zeros
 unfoldable pub placement_of : Sketch → Placement
 placement_of sketch = record {
-  point = λ k. elim (slice_get sketch.points.items k) [ None ↦ record { x = pos 0; y = pos 0; w = 1; positive = lit< tt } | Some s ↦ point_at s ];
+  point = λ k. elim (slice_get sketch.points.items k) [
+    | None ↦ record { x = pos 0; y = pos 0; w = 1; positive = lit< tt }
+    | Some s ↦ point_at s
+  ];
   number = λ k. elim (slice_get sketch.numbers.items k) [ None ↦ whole (pos 0) | Some r ↦ fraction_of r ];
 }
 

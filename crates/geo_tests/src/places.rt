@@ -1,10 +1,12 @@
 //! Programs at values, and the pictures of their points. What is expected was worked out by hand.
 
-ghost use Rattle.std.specs.Prelude.{◌≡◌, ◌<◌, ◌^◌, All, IfOk, length, unsigned_abs};
+ghost use Rattle.std.specs.Prelude.{◌<◌, ◌^◌, All, IfOk, unsigned_abs};
+ghost use Rattle.geo_place.specs.Placing.{IsDrawable};
 
 use geo_base::Text;
+use geo_figure::draw;
 use geo_parser::parse;
-use geo_place::{Ints, PlaceError, place, placed_text, wanted};
+use geo_place::{Ints, PlaceError, Placed, place, placed_text, wanted};
 use geo_points::NoMemory;
 use std::alloc::Global;
 use std::test::Fail;
@@ -52,6 +54,30 @@ const PLACED: &[(&str, &[i64], Result<&str, PlaceError>)] = &[
     ),
 ];
 
+// The picture of a segment and its middle, and then the points.
+const MIDDLE: &str = "........................................B\n\
+     .........................................\n\
+     .........................................\n\
+     .........................................\n\
+     .........................................\n\
+     .........................................\n\
+     .........................................\n\
+     .........................................\n\
+     .........................................\n\
+     .........................................\n\
+     ....................M....................\n\
+     .........................................\n\
+     .........................................\n\
+     .........................................\n\
+     .........................................\n\
+     .........................................\n\
+     .........................................\n\
+     .........................................\n\
+     .........................................\n\
+     .........................................\n\
+     A........................................\n\
+     A 0 0 1\nB 3 1 1\nM 3 1 2\nholds\n";
+
 // Whole numbers as values.
 fn ints(alloc: Global, values: &[i64]) -> Result<Ints, NoMemory>
     ensures { IfOk result (λ zs. All (λ z. unsigned_abs z < 2 ^ 127) zs) }
@@ -63,8 +89,10 @@ fn ints(alloc: Global, values: &[i64]) -> Result<Ints, NoMemory>
     Ok(Ints { items })
 }
 
-// What is answered for the program that a text spells at these values.
-fn answer(alloc: Global, text: &str, values: &[i64]) -> Result<Text, PlaceError> {
+// The program that a text spells, placed at these values.
+fn placed(alloc: Global, text: &str, values: &[i64]) -> Result<Placed, PlaceError>
+    ensures { IfOk result (λ answer. All IsDrawable answer.points) }
+{
     if text.len() > 67_108_864 {
         return Err(PlaceError::NoMemory);
     }
@@ -73,7 +101,12 @@ fn answer(alloc: Global, text: &str, values: &[i64]) -> Result<Text, PlaceError>
     if ints.items.len() as u64 != wanted(&program) {
         return Err(PlaceError::NoMemory);
     }
-    let placed = place(alloc, &program, &ints)?;
+    place(alloc, &program, &ints)
+}
+
+// What is answered for the program at these values.
+fn answer(alloc: Global, text: &str, values: &[i64]) -> Result<Text, PlaceError> {
+    let placed = placed(alloc, text, values)?;
     Ok(placed_text(alloc, &placed)?)
 }
 
@@ -91,5 +124,23 @@ fn programs_are_placed(rt: HostRuntime) -> Result<(), Fail> {
     for (text, values, want) in PLACED {
         assert!(rt; is_answer(rt.alloc(), text, values, *want), "{text}");
     }
+    Ok(())
+}
+
+// Whether the program at these values has this picture.
+fn is_drawn(alloc: Global, text: &str, values: &[i64], want: &str) -> bool {
+    let Ok(placed) = placed(alloc, text, values) else {
+        return false;
+    };
+    match draw(alloc, &placed) {
+        Ok(picture) => picture.bytes.as_slice() == want.as_bytes(),
+        Err(_) => false,
+    }
+}
+
+#[test]
+fn points_are_drawn(rt: HostRuntime) -> Result<(), Fail> {
+    let text = "point A point B midpoint M A B prove { collinear A M B }";
+    assert!(rt; is_drawn(rt.alloc(), text, &[0, 0, 3, 1], MIDDLE));
     Ok(())
 }
