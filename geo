@@ -115,7 +115,7 @@ decide() {
 explain_answer() {
   local line=''
   . "$home/tools/explain.bash"
-  case $2 in 4 | 11 | 15 | 16) line=$(answer "$1" 2>/dev/null | tail -n 1 | head -c 200 | tr -d '\000') ;; esac
+  case $2:$word in 4:* | 11:* | 15:* | 16:* | 6:place | 6:figure) line=$(answer "$1" 2>/dev/null | tail -n 1 | head -c 200 | tr -d '\000') ;; esac
   explain "${names[$1]}" "${inputs[$1]}" "$word" "$2" "$line" >&2
 }
 

@@ -96,6 +96,11 @@ explain() {
     11:rejected) explain_rejection "$1" "$2" "${words[1]}" "${words[2]}" ;;
     3:*) echo "geo: the program has no such words: $3 (geo --help)" ;;
     6:*)
+      if [ "$3" = place ] || [ "$3" = figure ]; then
+        echo "$1: not placed: at line ${words[2]-} of the program, written as the program writes it, a number does not fit 128 bits"
+        hint "smaller numbers in the line 'at' may help"
+        return
+      fi
       echo "$1: undecided: a number or a degree would pass the limit"
       hint "more steps do not help: say it in another way (docs/GUIDE.md)"
       ;;

@@ -18,12 +18,12 @@ use Rattle.geo_cli.specs.Inner.Answering.{AnswersCommand, HasNumber}
 use Rattle.geo_cli.specs.Input.{IsInput, Takes, limit_of, log_limit, program_limit}
 use Rattle.geo_cli.specs.Orders.{IsOrder, IsRow, TellsSteps}
 use Rattle.geo_cli.specs.Run.{Benches, Checks, Ends, IsAnswered, IsCutShort, Proves, VerdictTells}
-use Rattle.geo_cli.specs.Status.{ending_status, refusal_status, status_number, stop_status, verdict_status}
+use Rattle.geo_cli.specs.Status.{ending_status, refusal_status, status_number, verdict_status}
 use Rattle.geo_cli.specs.Words.{IsBenchOf, IsCheck, IsNoCommand, IsProve, ReadsNothing}
 use Rattle.geo_cli.proofs.OneDue.{GivesOne, called_is_due}
 use Rattle.geo_logs.specs.Ends.{Ending, ends_by, ends_with, too_long}
 use Rattle.geo_logs.specs.Judging.{Refusal, rejected, stopped}
-use Rattle.geo_logs.specs.Moves.{Stop, spent, too_large}
+use Rattle.geo_logs.specs.Moves.{spent, too_large}
 use Rattle.geo_program.specs.Programs.{source_of}
 use Rattle.geo_program.specs.WellFormed.{IsWellFormed, Source}
 use Rattle.geo_program.proofs.Propositions.{program_well_formed}

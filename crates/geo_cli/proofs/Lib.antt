@@ -1,5 +1,7 @@
 pub mod ValueLines
 pub mod OrderLemmas
+pub mod FaultPlaces
+pub mod ValuesDue
 pub mod OneDue
 pub mod Answered
 pub mod ReadLogs

@@ -215,7 +215,7 @@ one_rest drawn values rest due other (inl (fault, none, is)) (inl (fault', none'
 one_rest drawn values rest due other (inl (fault, none, is)) (inr (q, spelt, g)) = absurd (none.spells_none q spelt)
 one_rest drawn values rest due other (inr (p, spelt, h)) (inl (fault, none, is)) = absurd (none.spells_none p spelt)
 one_rest drawn values rest due other (inr (p, spelt, h)) (inr (q, spelt', g)) =
-    one_values drawn p q values due other (spells_one rest p q spelt spelt') spelt.well_formed h g
+    one_values drawn p q values due other (spells_one rest (source_of p) (source_of q) spelt spelt') spelt.well_formed h g
 
 -- one thing is due at most for values and a program
 one_due_for_values : (drawn : Bool) (bytes : List ℕ) (due other : Due) → IsDueForValues drawn bytes due → IsDueForValues drawn bytes other → due ≡ other

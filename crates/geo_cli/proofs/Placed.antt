@@ -1,5 +1,5 @@
 -- A run that answers that its text is written, or that a condition is not met.
-use Rattle.std.proofs.Common.{◌≡◌, ◌⊎◌, inl, inr, ℕ, ◌<◌, ◌≤◌, List, [], ◌∷◌, length, Option, None, Some, refl, sym, ◌∙◌, ap, subst, arith}
+use Rattle.std.proofs.Common.{◌≡◌, inl, inr, ℕ, ◌<◌, List, length, Option, refl, sym, ◌∙◌, ap, subst, arith}
 use Rattle.std.specs.Prelude.{Bool, true, false, ℤ, Result, Ok, Err}
 use Rattle.geo_base.specs.Devices.{Grows}
 use Rattle.geo_base.specs.declared.texts.Text.{Text as Written}
@@ -7,13 +7,13 @@ use Rattle.geo_cli.specs.declared.order.Command.{Command}
 use Rattle.geo_cli.specs.declared.order.Command.TheVariants.{Bench, Check, Figure, Place, Prove, Text}
 use Rattle.geo_cli.specs.declared.status.Status.{Status}
 use Rattle.geo_cli.specs.declared.status.Status.TheVariants as status
-use Rattle.geo_cli.specs.Due.{Due, IsCommandDue, IsDue, IsDueForValues, IsRestDue, TellsAnswer, TellsDrawing, stop_due, unmet_line}
+use Rattle.geo_cli.specs.Due.{Due, IsCommandDue, IsDue, IsDueForValues, IsRestDue, TellsAnswer, TellsDrawing}
 use Rattle.geo_cli.specs.Input.{IsInput, program_limit}
 use Rattle.geo_cli.specs.Orders.{IsOrder}
 use Rattle.geo_cli.specs.Run.{DoneTells, Ends, IsAnswered, IsCutShort, IsPlaceOf, PlacesInput, PlacesNone, ReadsValues, shown}
 use Rattle.geo_cli.specs.Status.{ending_status, refusal_status, status_number, stop_status, verdict_status}
 use Rattle.geo_cli.specs.Values.{HasValuesLine}
-use Rattle.geo_cli.proofs.Ended.{differ, due_says}
+use Rattle.geo_cli.proofs.Ended.{differ}
 use Rattle.geo_conditions.specs.Truth.{ProgramValues}
 use Rattle.geo_figure.specs.declared.errors.DrawError.{DrawError}
 use Rattle.geo_figure.specs.declared.errors.DrawError.TheVariants as drawing
@@ -24,7 +24,7 @@ use Rattle.geo_logs.specs.Moves.{Stop, spent, too_large}
 use Rattle.geo_place.specs.declared.errors.PlaceError.{PlaceError}
 use Rattle.geo_place.specs.declared.errors.PlaceError.TheVariants as placing
 use Rattle.geo_place.specs.declared.placed.Placed.{Placed}
-use Rattle.geo_place.specs.Placing.{IsAnswer, Places, PlacesNothing, integers_of, text_of}
+use Rattle.geo_place.specs.Placing.{IsAnswer, Places, PlacesNothing, integers_of}
 use Rattle.geo_poly.specs.declared.limits.Which.TheVariants.{Norm}
 use Rattle.geo_program.specs.declared.program_type.Program.{Program}
 use Rattle.geo_program.specs.Programs.{Spells, source_of}
@@ -69,7 +69,8 @@ same_number j k e = ap number e
 -- WHAT IS DUE FOR VALUES AND A PROGRAM
 module _ (words : List (List ℕ)) (left left' held held' : Option (List ℕ)) (drawn : Bool) (steps : ℕ) (command : IsPlaceOf drawn words steps)
     (bytes : List ℕ) (input : IsInput program_limit left bytes left') where
-  reads_here : (values : List ℤ) (rest : List ℕ) → HasValuesLine bytes values rest → (p : Program) → Spells rest p → (v : ProgramValues) → integers_of v ≡ values
+  reads_here : (values : List ℤ) (rest : List ℕ) → HasValuesLine bytes values rest → (p : Program) → Spells rest p → (v : ProgramValues)
+      → integers_of v ≡ values
       → ReadsValues drawn words left left' p v
   reads_here values rest line p spelt v are = record {
     steps = steps;
@@ -83,7 +84,8 @@ module _ (words : List (List ℕ)) (left left' held held' : Option (List ℕ)) (
 
   -- placed points
   module _ (p : Program) (v : ProgramValues) (reads : ReadsValues drawn words left left' p v) (due : Due) (done : due.status ≡ status.Done) (written : Grows held due.text held') where
-    placed_here : (placed : Placed) → Places (source_of p) v placed → due.text ≡ shown drawn placed → PlacesInput drawn words left left' held held'
+    placed_here : (placed : Placed) → Places (source_of p) v placed → due.text ≡ shown drawn placed
+        → PlacesInput drawn words left left' held held'
     placed_here placed places is = record {
       program = p;
       v = v;
@@ -93,14 +95,18 @@ module _ (words : List (List ℕ)) (left left' held held' : Option (List ℕ)) (
       written = subst (λ (text : List ℕ). Grows held text held') is written;
     }
 
-    drawing_here : (placed : Placed) (answer : Result Written DrawError) → IsDrawn placed answer → TellsDrawing answer due → Places (source_of p) v placed
-        → ((text : List ℕ) → due.text ≡ text → text ≡ shown true placed → PlacesInput drawn words left left' held held') → PlacesInput drawn words left left' held held'
+    drawing_here : (placed : Placed) (answer : Result Written DrawError) → IsDrawn placed answer → TellsDrawing answer due
+        → Places (source_of p) v placed
+        → ((text : List ℕ) → due.text ≡ text → text ≡ shown true placed → PlacesInput drawn words left left' held held')
+        → PlacesInput drawn words left left' held held'
     drawing_here placed (Ok text) d h places with = with text (ap (λ (x : Due). x.text) h) d.0
-    drawing_here placed (Err (drawing.TooLarge line)) d h places with = not_done (status.TooLarge line Norm) _ (sym (ap (λ (x : Due). x.status) h) ∙ done) (omega arith)
+    drawing_here placed (Err (drawing.TooLarge line)) d h places with =
+        not_done (status.TooLarge line Norm) _ (sym (ap (λ (x : Due). x.status) h) ∙ done) (omega arith)
     drawing_here placed (Err drawing.NoMemory) d h places with = absurd h
 
   module _ (p : Program) (v : ProgramValues) (reads : ReadsValues drawn words left left' p v) (due : Due) where
-    answer_done : (answer : Result Placed PlaceError) → IsAnswer (source_of p) v answer → (b : Bool) → b ≡ drawn → TellsAnswer b answer due → due.status ≡ status.Done → Grows held due.text held'
+    answer_done : (answer : Result Placed PlaceError) → IsAnswer (source_of p) v answer → (b : Bool) → b ≡ drawn
+        → TellsAnswer b answer due → due.status ≡ status.Done → Grows held due.text held'
         → PlacesInput drawn words left left' held held'
     answer_done (Ok placed) given false is tells done written =
         placed_here p v reads due done written placed given (ap (λ (x : Due). x.text) tells ∙ ap (λ (z : Bool). shown z placed) is)
@@ -109,39 +115,51 @@ module _ (words : List (List ℕ)) (left left' held held' : Option (List ℕ)) (
         (λ text e same. placed_here p v reads due done written placed given (e ∙ same ∙ ap (λ (z : Bool). shown z placed) is))
     answer_done (Err (placing.Unmet k)) given b is tells done written =
         differ (status.Unmet k) status.Done _ (sym (ap (λ (x : Due). x.status) tells) ∙ done) (λ e. omega (arith, e))
-    answer_done (Err (placing.TooLarge line)) given b is tells done written = not_done (status.TooLarge line Norm) _ (sym (ap (λ (x : Due). x.status) tells) ∙ done) (omega arith)
+    answer_done (Err (placing.TooLarge line)) given b is tells done written =
+        not_done (status.TooLarge line Norm) _ (sym (ap (λ (x : Due). x.status) tells) ∙ done) (omega arith)
     answer_done (Err placing.NoMemory) given b is tells done written = absurd tells
 
-    drawing_unmet : (k : ℕ) (answer : Result Written DrawError) → TellsDrawing answer due → due.status ≡ status.Unmet k → PlacesNone words left left' k
+    drawing_unmet : (k : ℕ) (answer : Result Written DrawError) → TellsDrawing answer due → due.status ≡ status.Unmet k
+        → PlacesNone words left left' k
     drawing_unmet k (Ok text) tells says = not_unmet k status.Done _ (sym (ap (λ (x : Due). x.status) tells) ∙ says) (omega arith)
-    drawing_unmet k (Err (drawing.TooLarge line)) tells says = not_unmet k (status.TooLarge line Norm) _ (sym (ap (λ (x : Due). x.status) tells) ∙ says) (omega arith)
+    drawing_unmet k (Err (drawing.TooLarge line)) tells says =
+        not_unmet k (status.TooLarge line Norm) _ (sym (ap (λ (x : Due). x.status) tells) ∙ says) (omega arith)
     drawing_unmet k (Err drawing.NoMemory) tells says = absurd tells
 
-    answer_unmet : (k : ℕ) (answer : Result Placed PlaceError) → IsAnswer (source_of p) v answer → (b : Bool) → TellsAnswer b answer due → due.status ≡ status.Unmet k → PlacesNone words left left' k
-    answer_unmet k (Ok placed) given false tells says = not_unmet k status.Done _ (sym (ap (λ (x : Due). x.status) tells) ∙ says) (omega arith)
+    answer_unmet : (k : ℕ) (answer : Result Placed PlaceError) → IsAnswer (source_of p) v answer → (b : Bool) → TellsAnswer b answer due
+        → due.status ≡ status.Unmet k → PlacesNone words left left' k
+    answer_unmet k (Ok placed) given false tells says =
+        not_unmet k status.Done _ (sym (ap (λ (x : Due). x.status) tells) ∙ says) (omega arith)
     answer_unmet k (Ok placed) given true (answer, d, tells) says = drawing_unmet k answer tells says
     answer_unmet k (Err (placing.Unmet j)) given b tells says =
         let same = same_number j k (sym (ap (λ (x : Due). x.status) tells) ∙ says) in
         record { drawn = drawn; program = p; v = v; reads = reads; none = subst (λ (i : ℕ). PlacesNothing (source_of p) v i) same given }
-    answer_unmet k (Err (placing.TooLarge line)) given b tells says = not_unmet k (status.TooLarge line Norm) _ (sym (ap (λ (x : Due). x.status) tells) ∙ says) (omega arith)
+    answer_unmet k (Err (placing.TooLarge line)) given b tells says =
+        not_unmet k (status.TooLarge line Norm) _ (sym (ap (λ (x : Due). x.status) tells) ∙ says) (omega arith)
     answer_unmet k (Err placing.NoMemory) given b tells says = absurd tells
 
   module _ (due : Due) where
-    rest_done : (values : List ℤ) (rest : List ℕ) → HasValuesLine bytes values rest → IsRestDue drawn values rest due → due.status ≡ status.Done → Grows held due.text held'
+    rest_done : (values : List ℤ) (rest : List ℕ) → HasValuesLine bytes values rest → IsRestDue drawn values rest due
+        → due.status ≡ status.Done → Grows held due.text held'
         → PlacesInput drawn words left left' held held'
-    rest_done values rest line (inl (fault, none, is)) done written = not_done _ _ (sym (ap (λ (x : Due). x.status) is) ∙ done) (omega arith)
-    rest_done values rest line (inr (p, spelt, inl h)) done written = not_done _ _ (sym (ap (λ (x : Due). x.status) h.1) ∙ done) (omega arith)
+    rest_done values rest line (inl (fault, none, is)) done written =
+        not_done _ _ (sym (ap (λ (x : Due). x.status) is) ∙ done) (omega arith)
+    rest_done values rest line (inr (p, spelt, inl h)) done written =
+        not_done _ _ (sym (ap (λ (x : Due). x.status) h.1) ∙ done) (omega arith)
     rest_done values rest line (inr (p, spelt, inr h)) done written =
         answer_done p h.v (reads_here values rest line p spelt h.v h.are) due h.answer h.given drawn refl h.is done written
 
-    pub values_done : IsDueForValues drawn bytes due → due.status ≡ status.Done → Grows held due.text held' → PlacesInput drawn words left left' held held'
+    pub values_done : IsDueForValues drawn bytes due → due.status ≡ status.Done → Grows held due.text held'
+        → PlacesInput drawn words left left' held held'
     values_done (inl h) done written = not_done _ _ (sym (ap (λ (x : Due). x.status) h.1) ∙ done) (omega arith)
     values_done (inr h) done written = rest_done h.values h.rest h.line h.of_rest done written
 
-    rest_unmet : (k : ℕ) (values : List ℤ) (rest : List ℕ) → HasValuesLine bytes values rest → IsRestDue drawn values rest due → due.status ≡ status.Unmet k → PlacesNone words left left' k
+    rest_unmet : (k : ℕ) (values : List ℤ) (rest : List ℕ) → HasValuesLine bytes values rest → IsRestDue drawn values rest due
+        → due.status ≡ status.Unmet k → PlacesNone words left left' k
     rest_unmet k values rest line (inl (fault, none, is)) says = not_unmet k _ _ (sym (ap (λ (x : Due). x.status) is) ∙ says) (omega arith)
     rest_unmet k values rest line (inr (p, spelt, inl h)) says = not_unmet k _ _ (sym (ap (λ (x : Due). x.status) h.1) ∙ says) (omega arith)
-    rest_unmet k values rest line (inr (p, spelt, inr h)) says = answer_unmet p h.v (reads_here values rest line p spelt h.v h.are) due k h.answer h.given drawn h.is says
+    rest_unmet k values rest line (inr (p, spelt, inr h)) says =
+        answer_unmet p h.v (reads_here values rest line p spelt h.v h.are) due k h.answer h.given drawn h.is says
 
     pub values_unmet : (k : ℕ) → IsDueForValues drawn bytes due → due.status ≡ status.Unmet k → PlacesNone words left left' k
     values_unmet k (inl h) says = not_unmet k _ _ (sym (ap (λ (x : Due). x.status) h.1) ∙ says) (omega arith)
@@ -149,14 +167,19 @@ module _ (words : List (List ℕ)) (left left' held held' : Option (List ℕ)) (
 
 -- THE RUN
 module _ (words : List (List ℕ)) (left left' held held' : Option (List ℕ)) where
-  command_done : (command : Command) (steps : ℕ) → IsOrder words (record { command = command; steps = steps }) → (due : Due) → due.status ≡ status.Done
+  command_done : (command : Command) (steps : ℕ) → IsOrder words (record { command = command; steps = steps }) → (due : Due)
+      → due.status ≡ status.Done
       → Grows held due.text held' → IsCommandDue command steps left left' due → DoneTells words left left' held held'
   command_done Prove steps given due is written (inl h) = not_done _ _ (sym (ap (λ (d : Due). d.status) h.1) ∙ is) (omega arith)
-  command_done Prove steps given due is written (inr (bytes, input, inl h)) = not_done _ _ (sym (ap (λ (d : Due). d.status) h.is) ∙ is) (ending_low h.lines h.ending)
-  command_done Prove steps given due is written (inr (bytes, input, inr h)) = not_done _ _ (sym (ap (λ (d : Due). d.status) h.is) ∙ is) (omega arith)
+  command_done Prove steps given due is written (inr (bytes, input, inl h)) =
+      not_done _ _ (sym (ap (λ (d : Due). d.status) h.is) ∙ is) (ending_low h.lines h.ending)
+  command_done Prove steps given due is written (inr (bytes, input, inr h)) =
+      not_done _ _ (sym (ap (λ (d : Due). d.status) h.is) ∙ is) (omega arith)
   command_done Check steps given due is written (inl h) = not_done _ _ (sym (ap (λ (d : Due). d.status) h.1) ∙ is) (omega arith)
-  command_done Check steps given due is written (inr (bytes, input, inl h)) = not_done _ _ (sym (ap (λ (d : Due). d.status) h.is) ∙ is) (verdict_low h.verdict)
-  command_done Check steps given due is written (inr (bytes, input, inr h)) = not_done _ _ (sym (ap (λ (d : Due). d.status) h.is) ∙ is) (refusal_low h.number h.refusal)
+  command_done Check steps given due is written (inr (bytes, input, inl h)) =
+      not_done _ _ (sym (ap (λ (d : Due). d.status) h.is) ∙ is) (verdict_low h.verdict)
+  command_done Check steps given due is written (inr (bytes, input, inr h)) =
+      not_done _ _ (sym (ap (λ (d : Due). d.status) h.is) ∙ is) (refusal_low h.number h.refusal)
   command_done Text steps given due is written (inl h) = not_done _ _ (sym (ap (λ (d : Due). d.status) h.1) ∙ is) (omega arith)
   command_done Text steps given due is written (inr (bytes, input, inl h)) =
       inl (record {
@@ -168,14 +191,19 @@ module _ (words : List (List ℕ)) (left left' held held' : Option (List ℕ)) w
         readable = h.readable;
         written = subst (λ (d : Due). Grows held d.text held') h.is written;
       })
-  command_done Text steps given due is written (inr (bytes, input, inr h)) = not_done _ _ (sym (ap (λ (d : Due). d.status) h.is) ∙ is) (refusal_low h.number h.refusal)
+  command_done Text steps given due is written (inr (bytes, input, inr h)) =
+      not_done _ _ (sym (ap (λ (d : Due). d.status) h.is) ∙ is) (refusal_low h.number h.refusal)
   command_done Place steps given due is written (inl h) = not_done _ _ (sym (ap (λ (d : Due). d.status) h.1) ∙ is) (omega arith)
-  command_done Place steps given due is written (inr (bytes, input, h)) = inr (inl (values_done words left left' held held' false steps given bytes input due h is written))
+  command_done Place steps given due is written (inr (bytes, input, h)) =
+      inr (inl (values_done words left left' held held' false steps given bytes input due h is written))
   command_done Figure steps given due is written (inl h) = not_done _ _ (sym (ap (λ (d : Due). d.status) h.1) ∙ is) (omega arith)
-  command_done Figure steps given due is written (inr (bytes, input, h)) = inr (inr (values_done words left left' held held' true steps given bytes input due h is written))
-  command_done (Bench number) steps given due is written (unread, h) = not_done _ _ (sym (ap (λ (d : Due). d.status) h.is) ∙ is) (ending_low h.lines h.ending)
+  command_done Figure steps given due is written (inr (bytes, input, h)) =
+      inr (inr (values_done words left left' held held' true steps given bytes input due h is written))
+  command_done (Bench number) steps given due is written (unread, h) =
+      not_done _ _ (sym (ap (λ (d : Due). d.status) h.is) ∙ is) (ending_low h.lines h.ending)
 
-  due_done : (due : Due) → IsDue words left left' due → due.status ≡ status.Done → Grows held due.text held' → DoneTells words left left' held held'
+  due_done : (due : Due) → IsDue words left left' due → due.status ≡ status.Done → Grows held due.text held'
+      → DoneTells words left left' held held'
   due_done due (inl h) is written = not_done _ _ (sym (ap (λ (d : Due). d.status) h.is) ∙ is) (omega arith)
   due_done due (inr h) is written = command_done h.order.command h.order.steps h.given due is written h.of_command
 
@@ -184,7 +212,8 @@ module _ (words : List (List ℕ)) (left left' held held' : Option (List ℕ)) w
   cut_done s faults faults' P (inr h) is = not_done status.NoMemory P (sym h ∙ is) (omega arith)
 
   -- a run that answers that its text is written
-  pub done : (g g' f f' : ℕ) (s : Status) → Ends words left left' g g' f f' held held' s → s ≡ status.Done → DoneTells words left left' held held'
+  pub done : (g g' f f' : ℕ) (s : Status) → Ends words left left' g g' f f' held held' s → s ≡ status.Done
+      → DoneTells words left left' held held'
   done g g' f f' s (inl h) is = by_answer h.answered
     where
       by_answer : IsAnswered h.due s f f' held held' → DoneTells words left left' held held'
@@ -198,22 +227,31 @@ module _ (words : List (List ℕ)) (left left' held held' : Option (List ℕ)) (
   low_unmet : (due : Due) (s : Status) (P : Type 0) → due.status ≡ s → due.status ≡ status.Unmet k → status_number s < 13 → P
   low_unmet due s P has is low = not_unmet k s P (sym has ∙ is) (omega (arith, low))
 
-  command_unmet : (command : Command) (steps : ℕ) → IsOrder words (record { command = command; steps = steps }) → (due : Due) → due.status ≡ status.Unmet k
+  command_unmet : (command : Command) (steps : ℕ) → IsOrder words (record { command = command; steps = steps }) → (due : Due)
+      → due.status ≡ status.Unmet k
       → IsCommandDue command steps left left' due → PlacesNone words left left' k
   command_unmet Prove steps given due is (inl h) = low_unmet due _ _ (ap (λ (d : Due). d.status) h.1) is (omega arith)
-  command_unmet Prove steps given due is (inr (bytes, input, inl h)) = low_unmet due _ _ (ap (λ (d : Due). d.status) h.is) is (ending_low h.lines h.ending)
+  command_unmet Prove steps given due is (inr (bytes, input, inl h)) =
+      low_unmet due _ _ (ap (λ (d : Due). d.status) h.is) is (ending_low h.lines h.ending)
   command_unmet Prove steps given due is (inr (bytes, input, inr h)) = low_unmet due _ _ (ap (λ (d : Due). d.status) h.is) is (omega arith)
   command_unmet Check steps given due is (inl h) = low_unmet due _ _ (ap (λ (d : Due). d.status) h.1) is (omega arith)
-  command_unmet Check steps given due is (inr (bytes, input, inl h)) = low_unmet due _ _ (ap (λ (d : Due). d.status) h.is) is (verdict_low h.verdict)
-  command_unmet Check steps given due is (inr (bytes, input, inr h)) = low_unmet due _ _ (ap (λ (d : Due). d.status) h.is) is (refusal_low h.number h.refusal)
+  command_unmet Check steps given due is (inr (bytes, input, inl h)) =
+      low_unmet due _ _ (ap (λ (d : Due). d.status) h.is) is (verdict_low h.verdict)
+  command_unmet Check steps given due is (inr (bytes, input, inr h)) =
+      low_unmet due _ _ (ap (λ (d : Due). d.status) h.is) is (refusal_low h.number h.refusal)
   command_unmet Text steps given due is (inl h) = low_unmet due _ _ (ap (λ (d : Due). d.status) h.1) is (omega arith)
-  command_unmet Text steps given due is (inr (bytes, input, inl h)) = not_unmet k status.Done _ (sym (ap (λ (d : Due). d.status) h.is) ∙ is) (omega arith)
-  command_unmet Text steps given due is (inr (bytes, input, inr h)) = low_unmet due _ _ (ap (λ (d : Due). d.status) h.is) is (refusal_low h.number h.refusal)
+  command_unmet Text steps given due is (inr (bytes, input, inl h)) =
+      not_unmet k status.Done _ (sym (ap (λ (d : Due). d.status) h.is) ∙ is) (omega arith)
+  command_unmet Text steps given due is (inr (bytes, input, inr h)) =
+      low_unmet due _ _ (ap (λ (d : Due). d.status) h.is) is (refusal_low h.number h.refusal)
   command_unmet Place steps given due is (inl h) = low_unmet due _ _ (ap (λ (d : Due). d.status) h.1) is (omega arith)
-  command_unmet Place steps given due is (inr (bytes, input, h)) = values_unmet words left left' held held' false steps given bytes input due k h is
+  command_unmet Place steps given due is (inr (bytes, input, h)) =
+      values_unmet words left left' held held' false steps given bytes input due k h is
   command_unmet Figure steps given due is (inl h) = low_unmet due _ _ (ap (λ (d : Due). d.status) h.1) is (omega arith)
-  command_unmet Figure steps given due is (inr (bytes, input, h)) = values_unmet words left left' held held' true steps given bytes input due k h is
-  command_unmet (Bench number) steps given due is (unread, h) = low_unmet due _ _ (ap (λ (d : Due). d.status) h.is) is (ending_low h.lines h.ending)
+  command_unmet Figure steps given due is (inr (bytes, input, h)) =
+      values_unmet words left left' held held' true steps given bytes input due k h is
+  command_unmet (Bench number) steps given due is (unread, h) =
+      low_unmet due _ _ (ap (λ (d : Due). d.status) h.is) is (ending_low h.lines h.ending)
 
   due_unmet : (due : Due) → IsDue words left left' due → due.status ≡ status.Unmet k → PlacesNone words left left' k
   due_unmet due (inl h) is = low_unmet due _ _ (ap (λ (d : Due). d.status) h.is) is (omega arith)
@@ -224,7 +262,8 @@ module _ (words : List (List ℕ)) (left left' held held' : Option (List ℕ)) (
   cut_unmet s faults faults' P (inr h) is = not_unmet k status.NoMemory P (sym h ∙ is) (omega arith)
 
   -- a run that answers that a condition is not met
-  pub unmet : (g g' f f' : ℕ) (s : Status) → Ends words left left' g g' f f' held held' s → s ≡ status.Unmet k → PlacesNone words left left' k
+  pub unmet : (g g' f f' : ℕ) (s : Status) → Ends words left left' g g' f f' held held' s → s ≡ status.Unmet k
+      → PlacesNone words left left' k
   unmet g g' f f' s (inl h) is = by_answer h.answered
     where
       by_answer : IsAnswered h.due s f f' held held' → PlacesNone words left left' k

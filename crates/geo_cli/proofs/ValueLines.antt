@@ -1,9 +1,9 @@
 -- The line of values: it is one at most, and how it is read.
-use Rattle.std.proofs.Common.{◌≡◌, ℕ, ◌+◌, ◌<◌, ◌≤◌, ◌^◌, Bool, true, false, ℤ, unsigned_abs, List, [], ◌∷◌, ◌++◌, All, length, codes, refl, sym, ◌∙◌, ap, subst, append_assoc, arith}
+use Rattle.std.proofs.Common.{◌≡◌, ℕ, ◌<◌, ◌^◌, ℤ, unsigned_abs, List, [], ◌∷◌, ◌++◌, codes, refl, sym, ◌∙◌, ap, subst, append_assoc, arith}
 use Rattle.std.specs.Fmt.{signed_decimal}
 use Rattle.std.specs.List.{AllByRecursion, flat_map}
 use Rattle.std.proofs.lemmas.Grind.{flat_map-append}
-use Rattle.std.proofs.lemmas.List.Elements.{All-from_recursion, recursion_from_All}
+use Rattle.std.proofs.lemmas.List.Elements.{recursion_from_All}
 use Rattle.geo_cli.specs.Values.{HasNoValuesLine, HasValuesLine, values_line}
 use Rattle.geo_lowering.proofs.ConditionValues.{each_append}
 use Rattle.geo_place.proofs.ListParts.{head_of, tail_of}
@@ -25,7 +25,8 @@ abbrev pub at_text : List ℕ
 at_text = codes "at"
 
 pub line_parts : (values : List ℤ) (rest : List ℕ) → values_line values ++ rest ≡ at_text ++ behind_at values rest
-line_parts values rest = append_assoc at_text (blanks values ++ 10 ∷ []) rest ∙ ap (λ (t : List ℕ). at_text ++ t) (append_assoc (blanks values) (10 ∷ []) rest)
+line_parts values rest =
+    append_assoc at_text (blanks values ++ 10 ∷ []) rest ∙ ap (λ (t : List ℕ). at_text ++ t) (append_assoc (blanks values) (10 ∷ []) rest)
 
 -- what follows a number is no digit
 stops : (values : List ℤ) (rest : List ℕ) → StopsAt is_number_byte (behind_at values rest)
@@ -35,20 +36,20 @@ stops (z ∷ zs) rest = refl
 next_text : (z : ℤ) (zs : List ℤ) (rest : List ℕ) → behind_at (z ∷ zs) rest ≡ 32 ∷ (signed_decimal z ++ behind_at zs rest)
 next_text z zs rest = ap (λ (t : List ℕ). 32 ∷ t) (append_assoc (signed_decimal z) (blanks zs) (10 ∷ rest))
 
-begins : (text : List ℕ) (z : ℤ) (zs : List ℤ) (rest : List ℕ) → IsShort z → 32 ∷ text ≡ behind_at (z ∷ zs) rest → Begins integers text z (behind_at zs rest)
+begins : (text : List ℕ) (z : ℤ) (zs : List ℤ) (rest : List ℕ) → IsShort z → 32 ∷ text ≡ behind_at (z ∷ zs) rest
+    → Begins integers text z (behind_at zs rest)
 begins text z zs rest short e = record { spelt = tail_of (e ∙ next_text z zs rest); fits = short; stops = stops zs rest }
 
+-- an equation of bytes that are not equal
+differ : (a b : ℕ) → a ≡ b → (a ≡ b → ⊥) → ⊥
+differ a b e apart = apart e
+
 -- ONE LINE
-same_behind : (v v' : List ℤ) (r r' : List ℕ) → AllByRecursion IsShort v → AllByRecursion IsShort v' → behind_at v r ≡ behind_at v' r' → (v ≡ v') × (r ≡ r')
+same_behind : (v v' : List ℤ) (r r' : List ℕ) → AllByRecursion IsShort v → AllByRecursion IsShort v' → behind_at v r ≡ behind_at v' r'
+    → (v ≡ v') × (r ≡ r')
 same_behind [] [] r r' h k e = (refl, tail_of e)
-same_behind [] (z ∷ zs) r r' h k e = absurd (let no : 10 ≡ 32 = head_of e in no_number no)
-  where
-    no_number : 10 ≡ 32 → ⊥
-    no_number q = omega (arith, q)
-same_behind (z ∷ zs) [] r r' h k e = absurd (let no : 32 ≡ 10 = head_of e in no_number no)
-  where
-    no_number : 32 ≡ 10 → ⊥
-    no_number q = omega (arith, q)
+same_behind [] (z ∷ zs) r r' h k e = absurd (differ 10 32 (head_of e) (λ q. omega (arith, q)))
+same_behind (z ∷ zs) [] r r' h k e = absurd (differ 32 10 (head_of e) (λ q. omega (arith, q)))
 same_behind (z ∷ zs) (y ∷ ys) r r' h k e =
     let text = signed_decimal z ++ behind_at zs r in
     let one : Begins integers text z (behind_at zs r) = record { spelt = refl; fits = h.0; stops = stops zs r } in
@@ -86,9 +87,13 @@ first_read bytes left_text [] none e = record {
 }
 first_read bytes left_text (z ∷ zs) none e = cc
 
-module _ (bytes : List ℕ) (items : List ℤ) (text : List ℕ) (h : IsRead bytes items (32 ∷ text)) where
+module _ (bytes : List ℕ) (items : List ℤ) (left_text text : List ℕ) (blank : left_text ≡ 32 ∷ text) (before : IsRead bytes items left_text) where
+  h : IsRead bytes items (32 ∷ text)
+  h = subst (λ (t : List ℕ). IsRead bytes items t) blank before
+
   -- a further number is read
-  pub next_read : (z : ℤ) (behind : List ℕ) → Begins integers text z behind → (more : List ℤ) → more ≡ items ++ z ∷ [] → IsRead bytes more behind
+  pub next_read : (z : ℤ) (behind : List ℕ) → Begins integers text z behind → (more : List ℤ) → more ≡ items ++ z ∷ []
+      → IsRead bytes more behind
   next_read z behind b more is =
       subst (λ (zs : List ℤ). IsRead bytes zs behind) (sym is)
       (record {
@@ -109,8 +114,9 @@ module _ (bytes : List ℕ) (items : List ℤ) (text : List ℕ) (h : IsRead byt
       step : (values : List ℤ) (rest : List ℕ) → IsLeft items (32 ∷ text) values rest → IsLeft (items ++ z ∷ []) behind values rest
       step values rest l = go l.left l.values_are l.text l.short
         where
-          go : (left : List ℤ) → values ≡ items ++ left → 32 ∷ text ≡ behind_at left rest → AllByRecursion IsShort left → IsLeft (items ++ z ∷ []) behind values rest
-          go [] v e s = absurd (let no : 32 ≡ 10 = head_of e in omega (arith, no))
+          go : (left : List ℤ) → values ≡ items ++ left → 32 ∷ text ≡ behind_at left rest → AllByRecursion IsShort left
+              → IsLeft (items ++ z ∷ []) behind values rest
+          go [] v e s = absurd (differ 32 10 (head_of e) (λ q. omega (arith, q)))
           go (y ∷ ys) v e s =
               let u = integers_unique text z y behind (behind_at ys rest) b (begins text y ys rest s.0 e) in
               record {
@@ -128,18 +134,12 @@ module _ (bytes : List ℕ) (items : List ℤ) (text : List ℕ) (h : IsRead byt
       go l = at l.left l.text l.short
         where
           at : (left : List ℤ) → 32 ∷ text ≡ behind_at left rest → AllByRecursion IsShort left → ⊥
-          at [] e s = let no : 32 ≡ 10 = head_of e in omega (arith, no)
+          at [] e s = differ 32 10 (head_of e) (λ q. omega (arith, q))
           at (y ∷ ys) e s = none y (behind_at ys rest) (begins text y ys rest s.0 e)
 
--- the line ends
-pub line_read : (bytes : List ℕ) (items : List ℤ) (left_text rest : List ℕ) → IsRead bytes items left_text → left_text ≡ 10 ∷ rest → HasValuesLine bytes items rest
-line_read bytes items left_text rest h e = record {
-  parts = h.parts ∙ ap (λ (t : List ℕ). at_text ++ (blanks items ++ t)) e ∙ sym (line_parts items rest);
-  short = All-from_recursion IsShort items h.short;
-}
-
 -- neither a blank nor a line feed stands next
-pub no_line : (bytes : List ℕ) (items : List ℤ) (left_text : List ℕ) → IsRead bytes items left_text → ((text : List ℕ) → left_text ≡ 32 ∷ text → ⊥)
+pub no_line : (bytes : List ℕ) (items : List ℤ) (left_text : List ℕ) → IsRead bytes items left_text
+    → ((text : List ℕ) → left_text ≡ 32 ∷ text → ⊥)
     → ((rest : List ℕ) → left_text ≡ 10 ∷ rest → ⊥) → HasNoValuesLine bytes
 no_line bytes items left_text h blank feed values rest line = go (h.lines values rest line)
   where
@@ -149,7 +149,3 @@ no_line bytes items left_text h blank feed values rest line = go (h.lines values
         at : (left : List ℤ) → left_text ≡ behind_at left rest → ⊥
         at [] e = feed rest e
         at (y ∷ ys) e = blank (signed_decimal y ++ behind_at ys rest) (e ∙ next_text y ys rest)
-
--- the bytes do not begin with `at`
-pub no_word : (bytes : List ℕ) → ((rest : List ℕ) → bytes ≡ at_text ++ rest → ⊥) → HasNoValuesLine bytes
-no_word bytes none values rest line = none (behind_at values rest) (line.parts ∙ line_parts values rest)

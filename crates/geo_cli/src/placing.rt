@@ -12,6 +12,7 @@ ghost use Rattle.geo_place.specs.Placing.{IsDrawable};
 
 use crate::answers::{TOO_LONG, answer, push_numbered, syntax_line};
 use crate::benching::Report;
+use crate::proving::PROGRAM_LIMIT;
 use crate::status::Status;
 use crate::values::split_values;
 use geo_base::{ReadError, Sink, Source, Text, read_all};
@@ -24,9 +25,6 @@ use geo_poly::Which;
 use geo_program::Program;
 use proof_log::{Line, write_line};
 use std::alloc::Global;
-
-/// The most bytes of the values and the program.
-const PROGRAM_LIMIT: u64 = 1_048_576;
 
 /// Reads values and a program to their end, and writes the program's points at these values, as
 /// text or drawn, or tells why there are none.

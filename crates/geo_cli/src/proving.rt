@@ -15,7 +15,7 @@ use geo_prover::{ProveError, prove};
 use std::alloc::Global;
 
 /// The most bytes of a program.
-const PROGRAM_LIMIT: u64 = 1_048_576;
+pub const PROGRAM_LIMIT: u64 = 1_048_576;
 
 /// Reads a program to its end, and writes its log with so many steps, up to its verdict or to the
 /// line of a stop.

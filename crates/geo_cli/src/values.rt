@@ -22,16 +22,16 @@ pub fn split_values(alloc: Global, bytes: &[u8]) -> Result<Option<(Ints, &[u8])>
     let Some(mut rest) = bytes.strip_prefix(b"at") else {
         return Ok(None);
     };
-    while let [b' ', text @ ..] = rest {
+    while let Some(text) = rest.strip_prefix(b" ") {
         let Some((number, behind)) = next_number(text) else {
             return Ok(None);
         };
         items.push(number)?;
         rest = behind;
     }
-    match rest {
-        [b'\n', program @ ..] => Ok(Some((Ints { items }, program))),
-        _ => Ok(None),
+    match rest.strip_prefix(b"\n") {
+        Some(program) => Ok(Some((Ints { items }, program))),
+        None => Ok(None),
     }
 }
 

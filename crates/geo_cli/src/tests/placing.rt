@@ -61,6 +61,11 @@ fn points_are_placed(rt: HostRuntime) -> Result<(), Fail> {
             oncircle P A B prove { equal { sratio A X A B } { r } }",
             b"A 0 0 1\nB 2 0 1\nX 2 0 1\nP 0 2 1\nholds\n",
         ),
+        placed(
+            b"at 0 0 4 0 1 3\npoint A point B point C assume not_collinear A B C \
+            weights W A B C div { 1 } { 2 } 2 midpoint M A W prove { collinear A M W }",
+            b"A 0 0 1\nB 4 0 1\nC 1 3 1\nW 4 6 1\nM 2 3 1\nholds\n",
+        ),
         placed(b"at\nprove { equal { 1 } { 1 } }", b"holds\n"),
     ];
     expect_rows(&rt, &rows)
@@ -68,14 +73,16 @@ fn points_are_placed(rt: HostRuntime) -> Result<(), Fail> {
 
 #[test]
 fn what_cannot_be_placed_is_told(rt: HostRuntime) -> Result<(), Fail> {
-    const CROSSING: &[u8] = b"at 0 0 1 0\npoint A point B inter X A B A B prove { collinear A B X }";
-    const CIRCLE: &[u8] =
-        b"at 0 0 1 0 0\npoint A point B oncircle P A B prove { collinear A B P }";
+    const CROSSING: &[u8] =
+        b"at 0 0 1 0\npoint A point B inter X A B A B prove { collinear A B X }";
+    const CIRCLE: &[u8] = b"at 0 0 1 0 0\npoint A point B oncircle P A B prove { collinear A B P }";
+    const FLAT: &[u8] =
+        b"at 0 0 1 1 2 2\npoint A point B point C assume not_collinear A B C inter X A B A B \
+        prove { collinear A B X }";
     const FAR: &[u8] =
         b"at 170141183460469231731687303715884105727 0 0 0\npoint A point B midpoint M A B \
         symmetric S A B prove { identical A A }";
-    const GOAL: &[u8] =
-        b"at 0 0 10000000000000000000 1 1 10000000000000000000 3 \
+    const GOAL: &[u8] = b"at 0 0 10000000000000000000 1 1 10000000000000000000 3 \
         170141183460469231731687303715884105727\npoint A point B point C point D \
         prove { harmonic A B C D }";
     let stop = |line: u64| Status::TooLarge {
@@ -86,6 +93,7 @@ fn what_cannot_be_placed_is_told(rt: HostRuntime) -> Result<(), Fail> {
         run_of(&["place"], CROSSING, Status::Unmet(1), b"unmet 1\n"),
         run_of(&["figure"], CROSSING, Status::Unmet(1), b"unmet 1\n"),
         run_of(&["place"], CIRCLE, Status::Unmet(2), b"unmet 2\n"),
+        run_of(&["place"], FLAT, Status::Unmet(1), b"unmet 1\n"),
         run_of(&["place"], FAR, stop(3), b"stop too_large 3 norm\n"),
         run_of(&["place"], GOAL, stop(5), b"stop too_large 5 norm\n"),
     ];

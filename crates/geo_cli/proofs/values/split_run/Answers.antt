@@ -1,0 +1,15 @@
+use Rattle.std.proofs.Common.{take, drop, ap, ◌∙◌, subst, sym}
+use Rattle.std.specs.Prelude.{ℕ, List}
+use Rattle.proof_log.specs.Inner.Reading.{Passes, StopsAt, is_number_byte}
+use Rattle.proof_log.proofs.Runs.{prefix_passes}
+use Rattle.geo_cli.proofs.values.split_run.Goals as goal
+
+pub returns-clause-all : goal.returns-clause-all
+returns-clause-all c =
+    let bytes : List ℕ = c.args.bytes.now in
+    subst (Passes is_number_byte) (sym (c.split_at.ensures.front ∙ ap (λ (n : ℕ). take n bytes) c.run_length-count.ensures.run)) (prefix_passes is_number_byte bytes).0
+
+pub returns-clause-stops : goal.returns-clause-stops
+returns-clause-stops c =
+    let bytes : List ℕ = c.args.bytes.now in
+    subst (StopsAt is_number_byte) (sym (c.split_at.ensures.back ∙ ap (λ (n : ℕ). drop n bytes) c.run_length-count.ensures.run)) (prefix_passes is_number_byte bytes).1
