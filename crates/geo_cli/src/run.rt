@@ -1,5 +1,5 @@
 //! A run of the program, over any source and sink.
-ghost use Rattle.std.specs.Prelude.{◌≡◌, ◌≤◌, ◌⊎◌, ℕ};
+ghost use Rattle.std.specs.Prelude.{◌≡◌, ◌≢◌, ◌≤◌, ◌⊎◌, ℕ};
 ghost use Rattle.geo_base.specs.Devices.{Grows, HasRisen};
 ghost use Rattle.geo_cli.specs.Due.{Due, IsCalledFor};
 ghost use Rattle.geo_cli.specs.Inner.Answering.{AnswersCommand, HasNumber};
@@ -63,6 +63,10 @@ pub fn run<S: Source, K: Sink>(
     ensures unread { ReadsNothing (bytes_of_words words.now.items) → source.new ≡ source.old }
     ensures source_faults { S.faults source.old ≤ S.faults source.new }
     ensures sink_faults { K.faults sink.old ≤ K.faults sink.new }
+    ensures source_heard { result ≢ Status.ReadFault
+        → S.faults source.new ≡ S.faults source.old }
+    ensures sink_heard { result ≢ Status.WriteFault
+        → K.faults sink.new ≡ K.faults sink.old }
 {
     match order_of(words) {
         Some(order) => carry_out(alloc, order, source, sink),
@@ -86,6 +90,10 @@ fn carry_out<S: Source, K: Sink>(
     ensures unread { (number : ℕ) → order.command ≡ Bench number → source.new ≡ source.old }
     ensures source_faults { S.faults source.old ≤ S.faults source.new }
     ensures sink_faults { K.faults sink.old ≤ K.faults sink.new }
+    ensures source_heard { result ≢ Status.ReadFault
+        → S.faults source.new ≡ S.faults source.old }
+    ensures sink_heard { result ≢ Status.WriteFault
+        → K.faults sink.new ≡ K.faults sink.old }
 {
     match order.command {
         Command::Prove => run_prove(alloc, order.steps, source, sink),
