@@ -8,7 +8,7 @@ ghost use Rattle.geo_cli.specs.Input.{Takes, limit_of};
 ghost use Rattle.geo_cli.specs.Orders.{IsOrder};
 ghost use Rattle.geo_cli.specs.declared.order.Command.TheVariants.{Bench};
 ghost use Rattle.geo_cli.specs.declared.order.Order.{Order};
-ghost use Rattle.geo_cli.specs.Run.{Ends, Prints, VerdictTells};
+ghost use Rattle.geo_cli.specs.Run.{Ends, Prints, VerdictAccepted, VerdictTells};
 ghost use Rattle.geo_cli.specs.Status.{verdict_status};
 ghost use Rattle.geo_cli.specs.Words.{ReadsNothing, bytes_of_words};
 ghost use Rattle.proof_log.specs.declared.log.Verdict.{Verdict};
@@ -37,6 +37,9 @@ pub fn run<S: Source, K: Sink>(
     ensures decides { (verdict : Verdict) → result ≡ verdict_status verdict
         → VerdictTells (bytes_of_words words.now.items) (S.left source.old) (S.left source.new)
         (K.held sink.old) (K.held sink.new) verdict }
+    ensures accepted { (verdict : Verdict) → result ≡ verdict_status verdict
+        → VerdictAccepted (bytes_of_words words.now.items) (S.left source.old)
+        (S.left source.new) (K.held sink.old) (K.held sink.new) verdict }
     ensures prints { result ≡ Status.Done
         → Prints (bytes_of_words words.now.items) (S.left source.old) (S.left source.new)
         (K.held sink.old) (K.held sink.new) }

@@ -1,5 +1,5 @@
 use Rattle.geo_cli.proofs.Decisive.{decisive}
-use Rattle.geo_cli.proofs.Ended.{completes, decides, ends_in, has_number, misused, no_order, prints, reads_nothing, takes_order}
+use Rattle.geo_cli.proofs.Ended.{accepts, completes, decides, ends_in, has_number, misused, no_order, prints, reads_nothing, takes_order}
 use Rattle.geo_cli.proofs.OneDue.{one_is_called}
 use Rattle.geo_cli.proofs.run.run.Goals as goal
 
@@ -9,6 +9,10 @@ carry_out-requires g c = has_number _ _ c.in-Some.ensures.given.row
 pub returns-in-Some-clause-decides : goal.returns-in-Some-clause-decides
 returns-in-Some-clause-decides g c = λ verdict.
     decides _ _ _ _ _ verdict _ _ _ _ _ (ends_in _ c.order_of.ensures.one _ c.in-Some.ensures.given _ _ _ _ _ _ _ _ _ c.carry_out.ensures.answers)
+
+pub returns-in-Some-clause-accepted : goal.returns-in-Some-clause-accepted
+returns-in-Some-clause-accepted g c = λ verdict.
+    accepts _ _ _ _ _ verdict _ _ _ _ _ (ends_in _ c.order_of.ensures.one _ c.in-Some.ensures.given _ _ _ _ _ _ _ _ _ c.carry_out.ensures.answers)
 
 pub returns-in-Some-clause-prints : goal.returns-in-Some-clause-prints
 returns-in-Some-clause-prints g c =
