@@ -17,7 +17,7 @@ use Rattle.geo_cli.specs.Due.{Due, IsAcceptedDue, IsBenchDue, IsCalledFor, IsCom
 use Rattle.geo_cli.specs.Inner.Answering.{AnswersCommand, HasNumber}
 use Rattle.geo_cli.specs.Input.{IsInput, Takes, limit_of, log_limit, program_limit}
 use Rattle.geo_cli.specs.Orders.{IsOrder, IsRow, TellsSteps}
-use Rattle.geo_cli.specs.Run.{Benches, Checks, Ends, IsAnswered, IsCutShort, Proves, VerdictTells}
+use Rattle.geo_cli.specs.Run.{BenchesLog, ChecksLog, Ends, IsAnswered, IsCutShort, ProvesByLog, VerdictAccepted, VerdictTells}
 use Rattle.geo_cli.specs.Status.{ending_status, refusal_status, status_number, verdict_status}
 use Rattle.geo_cli.specs.Words.{IsBenchOf, IsCheck, IsNoCommand, IsProve, ReadsNothing}
 use Rattle.geo_cli.proofs.OneDue.{GivesOne, called_is_due}
@@ -118,11 +118,11 @@ due_says due other s t answered is says = ap (λ (d : Due). d.status) (sym is) �
 
 module _ (words : List (List ℕ)) (left left' held held' : Option (List ℕ)) (verdict : Verdict) where
   abbrev Decided : Type 0
-  Decided = VerdictTells words left left' held held' verdict
+  Decided = VerdictAccepted words left left' held held' verdict
 
   -- a log that was written and ends with this verdict
   log_proves : (steps : ℕ) → IsProve words steps → (bytes : List ℕ) → IsInput program_limit left bytes left' → (due : Due) (log : IsLogDue steps bytes due)
-      → ending_status log.lines log.ending ≡ verdict_status verdict → Grows held due.text held' → Proves words left left' held held' verdict
+      → ending_status log.lines log.ending ≡ verdict_status verdict → Grows held due.text held' → ProvesByLog words left left' held held' verdict
   log_proves steps command bytes input due log says written =
       let ends = ends_so verdict log.lines log.ending says in
       let p = source_of log.program in
@@ -130,36 +130,40 @@ module _ (words : List (List ℕ)) (left left' held held' : Option (List ℕ)) (
       let accepted = accepted_log p steps ends.0 log.lines verdict log.spelt.well_formed (few_steps words Prove steps command) of_log in
       let grown : Grows held (log_text log.lines) held' = subst (λ (d : Due). Grows held d.text held') log.is written in
       record {
-        steps = steps;
-        command = command;
-        bytes = bytes;
-        input = input;
-        program = log.program;
-        spelt = log.spelt;
-        text = log_text log.lines;
-        written = grown;
+        proves = record {
+          steps = steps;
+          command = command;
+          bytes = bytes;
+          input = input;
+          program = log.program;
+          spelt = log.spelt;
+          text = log_text log.lines;
+          written = grown;
+          means = accepted_bytes_mean (log_text log.lines) steps p verdict accepted;
+        };
         accepted = accepted;
-        means = accepted_bytes_mean (log_text log.lines) steps p verdict accepted;
       }
 
   -- a log that was read and is accepted with this verdict
   log_checks : (steps : ℕ) → IsCheck words steps → (bytes : List ℕ) → IsInput log_limit left bytes left' → (due : Due) (h : IsAcceptedDue steps bytes due)
-      → verdict_status h.verdict ≡ verdict_status verdict → Checks words left left' verdict
+      → verdict_status h.verdict ≡ verdict_status verdict → ChecksLog words left left' verdict
   log_checks steps command bytes input due h says =
       let accepted : Accepts bytes steps h.program verdict = subst (Accepts bytes steps h.program) (same_verdict h.verdict verdict says) h.accepted in
       record {
-        steps = steps;
-        command = command;
-        bytes = bytes;
-        input = input;
-        program = h.program;
+        checks = record {
+          steps = steps;
+          command = command;
+          bytes = bytes;
+          input = input;
+          program = h.program;
+          means = accepted_bytes_mean bytes steps h.program verdict accepted;
+        };
         accepted = accepted;
-        means = accepted_bytes_mean bytes steps h.program verdict accepted;
       }
 
   -- the log of a generated program, which ends with this verdict
   log_benches : (number steps : ℕ) → IsBenchOf words number steps → (due : Due) (h : IsBenchDue number steps due)
-      → ending_status h.lines h.ending ≡ verdict_status verdict → Grows held due.text held' → Benches words held held' verdict
+      → ending_status h.lines h.ending ≡ verdict_status verdict → Grows held due.text held' → BenchesLog words held held' verdict
   log_benches number steps command due h says written =
       let ends = ends_so verdict h.lines h.ending says in
       let p = source_of h.program in
@@ -168,18 +172,22 @@ module _ (words : List (List ℕ)) (left left' held held' : Option (List ℕ)) (
       let accepted = accepted_log p steps ends.0 h.lines verdict (program_well_formed h.program) (few_steps words (Bench number) steps command) of_log in
       let grown : Grows held (bench_text number points steps h.lines h.ending) held' = subst (λ (d : Due). Grows held d.text held') h.is written in
       record {
-        number = number;
-        steps = steps;
-        command = command;
-        program = h.program;
-        made = h.made;
+        benches = record {
+          number = number;
+          steps = steps;
+          command = command;
+          program = h.program;
+          made = h.made;
+          text = log_text h.lines;
+          means = accepted_bytes_mean (log_text h.lines) steps p verdict accepted;
+        };
         form = h.form;
         lowered = h.lowered;
         lines = h.lines;
         left = ends.0;
         log = of_log;
+        is = refl;
         accepted = accepted;
-        means = accepted_bytes_mean (log_text h.lines) steps p verdict accepted;
         written = subst (λ (e : Ending). Grows held (bench_text number points steps h.lines e) held') ends.1 grown;
       }
 
@@ -225,16 +233,27 @@ module _ (words : List (List ℕ)) (left left' held held' : Option (List ℕ)) (
   cut_decides s faults faults' P (inr h) says = no_verdict verdict status.NoMemory P (sym h ∙ says) (omega arith)
 
   -- a run that answers the verdict
-  pub decides : (source_faults source_faults' faults faults' : ℕ) (s : Status)
+  pub accepts : (source_faults source_faults' faults faults' : ℕ) (s : Status)
       → Ends words left left' source_faults source_faults' faults faults' held held' s → s ≡ verdict_status verdict
-      → VerdictTells words left left' held held' verdict
-  decides g g' f f' s (inl h) says = by_answer h.answered
+      → VerdictAccepted words left left' held held' verdict
+  accepts g g' f f' s (inl h) says = by_answer h.answered
     where
       by_answer : IsAnswered h.due s f f' held held' → Decided
       by_answer (inl a) = due_decides h.due s h.cause a.0 a.1 says
       by_answer (inr a) = cut_decides s f f' _ a.0 says
-  decides g g' f f' s (inr (inl h)) says = no_verdict verdict status.ReadFault _ (sym h.is ∙ says) (omega arith)
-  decides g g' f f' s (inr (inr h)) says = no_verdict verdict status.NoMemory _ (sym h.is ∙ says) (omega arith)
+  accepts g g' f f' s (inr (inl h)) says = no_verdict verdict status.ReadFault _ (sym h.is ∙ says) (omega arith)
+  accepts g g' f f' s (inr (inr h)) says = no_verdict verdict status.NoMemory _ (sym h.is ∙ says) (omega arith)
+
+  -- what the log tells of truth
+  tells : Decided → VerdictTells words left left' held held' verdict
+  tells (inl h) = inl h.proves
+  tells (inr (inl h)) = inr (inl h.checks)
+  tells (inr (inr h)) = inr (inr h.benches)
+
+  pub decides : (source_faults source_faults' faults faults' : ℕ) (s : Status)
+      → Ends words left left' source_faults source_faults' faults faults' held held' s → s ≡ verdict_status verdict
+      → VerdictTells words left left' held held' verdict
+  decides g g' f f' s h says = tells (accepts g g' f f' s h says)
 
 -- COMPLETENESS
 module _ (words : List (List ℕ)) (one : GivesOne words) (left left' held held' : Option (List ℕ)) where

@@ -28,8 +28,7 @@ use Rattle.proof_printer.specs.Proofs.{IsReadableProof}
 
 -- THE MAIN CLAUSE
 -- the words are `prove` with so many steps, the source gave these bytes and no more, they spell this program, and the sink holds this text
--- besides; the text is a log of the program that is accepted with these steps and this verdict; and it means: the statement is true, or
--- the printed integers break it, or no placement meets the program
+-- besides; and it means: the statement is true, or the printed integers break it, or no placement meets the program
 pub record Proves (words : List (List ℕ)) (left left' held held' : Option (List ℕ)) (verdict : Verdict) : Type 0 where
   pub steps : ℕ
   pub command : IsProve words steps
@@ -39,41 +38,60 @@ pub record Proves (words : List (List ℕ)) (left left' held held' : Option (Lis
   pub spelt : Spells bytes program
   pub text : List ℕ
   pub written : Grows held text held'
-  pub accepted : Accepts text steps (source_of program) verdict
   pub means : BytesMean text (source_of program) verdict
 
--- the words are `check` with so many steps, the source gave these bytes and no more, whoever wrote them; they are a log of this program
--- that is accepted with these steps and this verdict; and it means that
+-- the words are `check` with so many steps, the source gave these bytes and no more, whoever wrote them; and they mean that of this program
 pub record Checks (words : List (List ℕ)) (left left' : Option (List ℕ)) (verdict : Verdict) : Type 0 where
   pub steps : ℕ
   pub command : IsCheck words steps
   pub bytes : List ℕ
   pub input : IsInput log_limit left bytes left'
   pub program : Source
-  pub accepted : Accepts bytes steps program verdict
   pub means : BytesMean bytes program verdict
 
--- the words are `bench` with this number and so many steps; the log of the program of this number, with these steps, ends with this
--- verdict, and is accepted; and it means that; the sink holds the numbers of that log besides, and not the log
-pub record Benches (words : List (List ℕ)) (held held' : Option (List ℕ)) (verdict : Verdict) : Type 0 where
+-- the words are `bench` with this number and so many steps, and a text means that of the program of this number
+pub record Benches (words : List (List ℕ)) (verdict : Verdict) : Type 0 where
   pub number : ℕ
   pub steps : ℕ
   pub command : IsBenchOf words number steps
   pub program : Program
   pub made : IsBench number (source_of program)
-  pub form : LoweredForm
-  pub lowered : IsLowered Two (source_of program) form
-  pub lines : List Line
-  pub left : ℕ
-  pub log : IsLogOf (source_of program) steps lines (ends_with verdict left)
-  pub accepted : Accepts (log_text lines) steps (source_of program) verdict
-  pub means : BytesMean (log_text lines) (source_of program) verdict
-  pub written : Grows held (bench_text number (length form.construction.steps) steps lines (ends_with verdict left)) held'
+  pub text : List ℕ
+  pub means : BytesMean text (source_of program) verdict
 
 -- what a verdict that is answered tells, by the command
 abbrev pub VerdictTells : List (List ℕ) → Option (List ℕ) → Option (List ℕ) → Option (List ℕ) → Option (List ℕ) → Verdict → Type 0
 VerdictTells words left left' held held' verdict =
-    Proves words left left' held held' verdict ⊎ (Checks words left left' verdict ⊎ Benches words held held' verdict)
+    Proves words left left' held held' verdict ⊎ (Checks words left left' verdict ⊎ Benches words verdict)
+
+-- THE LOG BEHIND A VERDICT
+-- the text is a log of the program that is accepted with these steps and this verdict
+pub record ProvesByLog (words : List (List ℕ)) (left left' held held' : Option (List ℕ)) (verdict : Verdict) : Type 0 where
+  pub proves : Proves words left left' held held' verdict
+  pub accepted : Accepts proves.text proves.steps (source_of proves.program) verdict
+
+-- so are the bytes
+pub record ChecksLog (words : List (List ℕ)) (left left' : Option (List ℕ)) (verdict : Verdict) : Type 0 where
+  pub checks : Checks words left left' verdict
+  pub accepted : Accepts checks.bytes checks.steps checks.program verdict
+
+-- the text is the log of the program with these steps, which ends with this verdict, and is accepted; the sink holds the numbers of that
+-- log besides, and not the log
+pub record BenchesLog (words : List (List ℕ)) (held held' : Option (List ℕ)) (verdict : Verdict) : Type 0 where
+  pub benches : Benches words verdict
+  pub form : LoweredForm
+  pub lowered : IsLowered Two (source_of benches.program) form
+  pub lines : List Line
+  pub left : ℕ
+  pub log : IsLogOf (source_of benches.program) benches.steps lines (ends_with verdict left)
+  pub is : benches.text ≡ log_text lines
+  pub accepted : Accepts benches.text benches.steps (source_of benches.program) verdict
+  pub written : Grows held (bench_text benches.number (length form.construction.steps) benches.steps lines (ends_with verdict left)) held'
+
+-- which log it is that tells the verdict, by the command
+abbrev pub VerdictAccepted : List (List ℕ) → Option (List ℕ) → Option (List ℕ) → Option (List ℕ) → Option (List ℕ) → Verdict → Type 0
+VerdictAccepted words left left' held held' verdict =
+    ProvesByLog words left left' held held' verdict ⊎ (ChecksLog words left left' verdict ⊎ BenchesLog words held held' verdict)
 
 -- the words are `text` with so many steps, the source gave these bytes and no more, they are an accepted log, and the sink holds its
 -- readable proof besides

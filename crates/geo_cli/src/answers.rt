@@ -1,5 +1,5 @@
 //! The texts that a run writes besides logs.
-ghost use Rattle.std.specs.Prelude.{◌≡◌, ◌≤◌, ◌∷◌, ◌++◌, [], codes, IfOk, OnOk};
+ghost use Rattle.std.specs.Prelude.{◌≡◌, ◌≢◌, ◌≤◌, ◌∷◌, ◌++◌, [], codes, IfOk, OnOk};
 ghost use Rattle.std.specs.Fmt.{decimal};
 ghost use Rattle.geo_cli.specs.Due.{count_line, syntax_line};
 ghost use Rattle.geo_cli.specs.Run.{IsAnswered};
@@ -23,6 +23,8 @@ pub fn answer<K: Sink>(sink: &mut K, text: &[u8], status: Status) -> Status
     ensures answered { IsAnswered (record { text = text.now; status = status }) result
         (K.faults sink.old) (K.faults sink.new) (K.held sink.old) (K.held sink.new) }
     ensures faults { K.faults sink.old ≤ K.faults sink.new }
+    ensures heard { result ≢ Status.WriteFault
+        → K.faults sink.new ≡ K.faults sink.old }
 {
     match write_all(sink, text) {
         Ok(()) => status,

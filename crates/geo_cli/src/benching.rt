@@ -34,6 +34,8 @@ pub fn run_bench<K: Sink>(alloc: Global, number: u32, steps: u64, sink: &mut K) 
         (K.held sink.old) (K.held sink.new) result }
     ensures reads { result ≢ Status.ReadFault }
     ensures faults { K.faults sink.old ≤ K.faults sink.new }
+    ensures heard { result ≢ Status.WriteFault
+        → K.faults sink.new ≡ K.faults sink.old }
 {
     let Ok(report) = bench_report(alloc, number, steps) else {
         return Status::NoMemory;

@@ -33,6 +33,10 @@ pub fn run_check<S: Source, K: Sink>(
     ensures taken { Takes log_limit (S.left source.old) (S.left source.new) }
     ensures source_faults { S.faults source.old ≤ S.faults source.new }
     ensures sink_faults { K.faults sink.old ≤ K.faults sink.new }
+    ensures source_heard { result ≢ Status.ReadFault
+        → S.faults source.new ≡ S.faults source.old }
+    ensures sink_heard { result ≢ Status.WriteFault
+        → K.faults sink.new ≡ K.faults sink.old }
 {
     match judge(alloc, steps, source) {
         Ok(judged) => report(alloc, judged, sink),
@@ -49,6 +53,8 @@ fn report<K: Sink>(alloc: Global, judged: Result<Accepted, CheckError>, sink: &m
         (K.held sink.old) (K.held sink.new) result }
     ensures reads { result ≢ Status.ReadFault }
     ensures faults { K.faults sink.old ≤ K.faults sink.new }
+    ensures heard { result ≢ Status.WriteFault
+        → K.faults sink.new ≡ K.faults sink.old }
 {
     match judged {
         Ok(accepted) => accept(alloc, &accepted.program, accepted.verdict, sink),
@@ -64,6 +70,8 @@ fn accept<K: Sink>(alloc: Global, program: &Program, verdict: Verdict, sink: &mu
         (K.held sink.old) (K.held sink.new) result }
     ensures reads { result ≢ Status.ReadFault }
     ensures faults { K.faults sink.old ≤ K.faults sink.new }
+    ensures heard { result ≢ Status.WriteFault
+        → K.faults sink.new ≡ K.faults sink.old }
 {
     let Ok(text) = accepted_text(alloc, program, verdict) else {
         return Status::NoMemory;

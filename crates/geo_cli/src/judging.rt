@@ -1,5 +1,5 @@
 //! A log that is read and judged line by line.
-ghost use Rattle.std.specs.Prelude.{◌≤◌, IfOk, IsErrOf, OnErr};
+ghost use Rattle.std.specs.Prelude.{◌≡◌, ◌≤◌, IfOk, IsErrOf, OnErr};
 ghost use Rattle.geo_base.specs.Devices.{HasRisen};
 ghost use Rattle.geo_cli.specs.Inner.Judgements.{IsJudgedInput};
 ghost use Rattle.geo_cli.specs.Input.{IsLong, Takes, log_limit};
@@ -25,6 +25,8 @@ pub fn judge<S: Source>(
     ensures fault { IsErrOf result ReadError.ReadFault
         → HasRisen (S.faults source.old) (S.faults source.new) }
     ensures faults { S.faults source.old ≤ S.faults source.new }
+    ensures heard { ¬ IsErrOf result ReadError.ReadFault
+        → S.faults source.new ≡ S.faults source.old }
 {
     let Ok(mut reader) = LineReader::new(alloc, LOG_LIMIT) else {
         return Err(ReadError::NoMemory);

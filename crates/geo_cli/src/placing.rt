@@ -41,6 +41,10 @@ pub fn run_place<S: Source, K: Sink>(
     ensures taken { Takes program_limit (S.left source.old) (S.left source.new) }
     ensures source_faults { S.faults source.old ≤ S.faults source.new }
     ensures sink_faults { K.faults sink.old ≤ K.faults sink.new }
+    ensures source_heard { result ≢ Status.ReadFault
+        → S.faults source.new ≡ S.faults source.old }
+    ensures sink_heard { result ≢ Status.WriteFault
+        → K.faults sink.new ≡ K.faults sink.old }
 {
     match read_all(alloc, source, PROGRAM_LIMIT) {
         Ok(bytes) => place_bytes(alloc, &bytes, drawn, sink),
@@ -57,6 +61,8 @@ fn place_bytes<K: Sink>(alloc: Global, bytes: &[u8], drawn: bool, sink: &mut K) 
         (K.faults sink.new) (K.held sink.old) (K.held sink.new) result }
     ensures reads { result ≢ Status.ReadFault }
     ensures faults { K.faults sink.old ≤ K.faults sink.new }
+    ensures heard { result ≢ Status.WriteFault
+        → K.faults sink.new ≡ K.faults sink.old }
 {
     let Ok(report) = report_bytes(alloc, bytes, drawn) else {
         return Status::NoMemory;

@@ -27,6 +27,10 @@ pub fn run_text<S: Source, K: Sink>(
     ensures taken { Takes log_limit (S.left source.old) (S.left source.new) }
     ensures source_faults { S.faults source.old ≤ S.faults source.new }
     ensures sink_faults { K.faults sink.old ≤ K.faults sink.new }
+    ensures source_heard { result ≢ Status.ReadFault
+        → S.faults source.new ≡ S.faults source.old }
+    ensures sink_heard { result ≢ Status.WriteFault
+        → K.faults sink.new ≡ K.faults sink.old }
 {
     match read_all(alloc, source, LOG_LIMIT) {
         Ok(bytes) => print_bytes(alloc, &bytes, steps, sink),
@@ -43,6 +47,8 @@ fn print_bytes<K: Sink>(alloc: Global, bytes: &[u8], steps: u64, sink: &mut K) -
         (K.held sink.old) (K.held sink.new) result }
     ensures reads { result ≢ Status.ReadFault }
     ensures faults { K.faults sink.old ≤ K.faults sink.new }
+    ensures heard { result ≢ Status.WriteFault
+        → K.faults sink.new ≡ K.faults sink.old }
 {
     match text(alloc, bytes, steps) {
         Ok(proof) => answer(sink, &proof.bytes, Status::Done),

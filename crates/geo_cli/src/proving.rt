@@ -32,6 +32,10 @@ pub fn run_prove<S: Source, K: Sink>(
     ensures taken { Takes program_limit (S.left source.old) (S.left source.new) }
     ensures source_faults { S.faults source.old ≤ S.faults source.new }
     ensures sink_faults { K.faults sink.old ≤ K.faults sink.new }
+    ensures source_heard { result ≢ Status.ReadFault
+        → S.faults source.new ≡ S.faults source.old }
+    ensures sink_heard { result ≢ Status.WriteFault
+        → K.faults sink.new ≡ K.faults sink.old }
 {
     match read_all(alloc, source, PROGRAM_LIMIT) {
         Ok(bytes) => prove_bytes(alloc, &bytes, steps, sink),
@@ -48,6 +52,8 @@ fn prove_bytes<K: Sink>(alloc: Global, bytes: &[u8], steps: u64, sink: &mut K) -
         (K.held sink.old) (K.held sink.new) result }
     ensures reads { result ≢ Status.ReadFault }
     ensures faults { K.faults sink.old ≤ K.faults sink.new }
+    ensures heard { result ≢ Status.WriteFault
+        → K.faults sink.new ≡ K.faults sink.old }
 {
     match parse(alloc, bytes) {
         Ok(program) => prove_program(alloc, &program, steps, sink),
@@ -63,6 +69,8 @@ fn refuse<K: Sink>(alloc: Global, fault: Fault, sink: &mut K) -> Status
         (K.held sink.old) (K.held sink.new) result }
     ensures reads { result ≢ Status.ReadFault }
     ensures faults { K.faults sink.old ≤ K.faults sink.new }
+    ensures heard { result ≢ Status.WriteFault
+        → K.faults sink.new ≡ K.faults sink.old }
 {
     let Ok(line) = syntax_line(alloc, fault) else {
         return Status::NoMemory;
@@ -78,6 +86,8 @@ fn prove_program<K: Sink>(alloc: Global, program: &Program, steps: u64, sink: &m
         (K.held sink.old) (K.held sink.new) result }
     ensures reads { result ≢ Status.ReadFault }
     ensures faults { K.faults sink.old ≤ K.faults sink.new }
+    ensures heard { result ≢ Status.WriteFault
+        → K.faults sink.new ≡ K.faults sink.old }
 {
     match prove(alloc, program, steps, sink) {
         Ok(summary) => Status::of_verdict(summary.verdict),

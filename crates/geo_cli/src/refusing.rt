@@ -20,6 +20,8 @@ pub fn refuse<K: Sink>(alloc: Global, error: CheckError, sink: &mut K) -> Status
         (K.held sink.old) (K.held sink.new) result }
     ensures reads { result ≢ Status.ReadFault }
     ensures faults { K.faults sink.old ≤ K.faults sink.new }
+    ensures heard { result ≢ Status.WriteFault
+        → K.faults sink.new ≡ K.faults sink.old }
 {
     let Ok(line) = refusal_line(alloc, error) else {
         return Status::NoMemory;

@@ -1,5 +1,5 @@
 //! A run of the program, over any source and sink.
-ghost use Rattle.std.specs.Prelude.{◌≡◌, ◌≤◌, ◌⊎◌, ℕ};
+ghost use Rattle.std.specs.Prelude.{◌≡◌, ◌≢◌, ◌≤◌, ◌⊎◌, ℕ};
 ghost use Rattle.geo_base.specs.Devices.{Grows, HasRisen};
 ghost use Rattle.geo_cli.specs.Due.{Due, IsCalledFor};
 ghost use Rattle.geo_cli.specs.Inner.Answering.{AnswersCommand, HasNumber};
@@ -8,7 +8,7 @@ ghost use Rattle.geo_cli.specs.Input.{Takes, limit_of};
 ghost use Rattle.geo_cli.specs.Orders.{IsOrder};
 ghost use Rattle.geo_cli.specs.declared.order.Command.TheVariants.{Bench};
 ghost use Rattle.geo_cli.specs.declared.order.Order.{Order};
-ghost use Rattle.geo_cli.specs.Run.{DoneTells, Ends, PlacesNone, VerdictTells};
+ghost use Rattle.geo_cli.specs.Run.{DoneTells, Ends, PlacesNone, VerdictAccepted, VerdictTells};
 ghost use Rattle.geo_cli.specs.Status.{verdict_status};
 ghost use Rattle.geo_cli.specs.Words.{ReadsNothing, bytes_of_words};
 ghost use Rattle.proof_log.specs.declared.log.Verdict.{Verdict};
@@ -39,6 +39,9 @@ pub fn run<S: Source, K: Sink>(
     ensures decides { (verdict : Verdict) → result ≡ verdict_status verdict
         → VerdictTells (bytes_of_words words.now.items) (S.left source.old) (S.left source.new)
         (K.held sink.old) (K.held sink.new) verdict }
+    ensures accepted { (verdict : Verdict) → result ≡ verdict_status verdict
+        → VerdictAccepted (bytes_of_words words.now.items) (S.left source.old)
+        (S.left source.new) (K.held sink.old) (K.held sink.new) verdict }
     ensures done { result ≡ Status.Done
         → DoneTells (bytes_of_words words.now.items) (S.left source.old) (S.left source.new)
         (K.held sink.old) (K.held sink.new) }
@@ -68,6 +71,10 @@ pub fn run<S: Source, K: Sink>(
     ensures unread { ReadsNothing (bytes_of_words words.now.items) → source.new ≡ source.old }
     ensures source_faults { S.faults source.old ≤ S.faults source.new }
     ensures sink_faults { K.faults sink.old ≤ K.faults sink.new }
+    ensures source_heard { result ≢ Status.ReadFault
+        → S.faults source.new ≡ S.faults source.old }
+    ensures sink_heard { result ≢ Status.WriteFault
+        → K.faults sink.new ≡ K.faults sink.old }
 {
     match order_of(words) {
         Some(order) => carry_out(alloc, order, source, sink),
@@ -91,6 +98,10 @@ fn carry_out<S: Source, K: Sink>(
     ensures unread { (number : ℕ) → order.command ≡ Bench number → source.new ≡ source.old }
     ensures source_faults { S.faults source.old ≤ S.faults source.new }
     ensures sink_faults { K.faults sink.old ≤ K.faults sink.new }
+    ensures source_heard { result ≢ Status.ReadFault
+        → S.faults source.new ≡ S.faults source.old }
+    ensures sink_heard { result ≢ Status.WriteFault
+        → K.faults sink.new ≡ K.faults sink.old }
 {
     match order.command {
         Command::Prove => run_prove(alloc, order.steps, source, sink),

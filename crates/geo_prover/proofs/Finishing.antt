@@ -1,6 +1,6 @@
 -- From the parts of a log to the log of a program.
 use Rattle.std.proofs.Common.{◌≡◌, ℕ, zero, suc, ◌+◌, ◌-◌, ◌<◌, ◌≤◌, ◌^◌, inl, inr, Some, Ok, Err, List, [], ◌∷◌, ◌++◌, map, length, append-nil, append_assoc, refl, sym, ◌∙◌, ap, subst, take, arith}
-use Rattle.std.specs.Prelude.{IfErr, OnOk, Result, slice_get}
+use Rattle.std.specs.Prelude.{IfErr, IsErrOf, OnOk, Result, slice_get}
 use Rattle.std.proofs.lemmas.List.{length-append}
 use Rattle.std.proofs.lemmas.List.Elements.{All-from_recursion, recursion_from_All}
 use Rattle.geo_base.specs.Devices.{Grows}
@@ -218,7 +218,7 @@ module _ (p : Source) (problem : Problem) (steps : ℕ) (w : IsWellFormed p) (sm
     halted (Spent n) h = (stopped spent n h, h.faults)
     halted TooLong h = (left_out h, h.faults)
     halted WriteFault h = (h.1, broken h.0, h.0.faults)
-    halted NoMemory h = (broken h, h.faults)
+    halted NoMemory h = (broken h.0, h.1)
 
     -- AMONG THE FIRST LINES
     begun_before : (before : List Line) (line : Line) (rest : List Line) → first_lines subject ≡ before ++ line ∷ rest → whole.begun before (before_line line)
@@ -263,7 +263,7 @@ module _ (p : Source) (problem : Problem) (steps : ℕ) (w : IsWellFormed p) (sm
       h.faults,
     )
     halted_among WriteFault h = (h.1, part_among h.0, h.0.faults)
-    halted_among NoMemory h = (part_among h, h.faults)
+    halted_among NoMemory h = (part_among h.0, h.1)
 
     -- THE WHOLE LOG
     pub left_of : (lines : List Line) (verdict : Verdict) (left : ℕ) → IsLogOfProver lemma_table subject steps lines verdict left → left ≤ steps
@@ -288,7 +288,7 @@ module _ (p : Source) (problem : Problem) (steps : ℕ) (w : IsWellFormed p) (sm
         }
 
 -- where nothing was written
-pub nothing_written : (p : Source) (steps : ℕ) → IsShortProgram p → (s t : State) → t.held ≡ s.held → s.faults ≤ t.faults → IsAnswerOf p steps s t NoMemory
+pub nothing_written : (p : Source) (steps : ℕ) → IsShortProgram p → (s t : State) → t.held ≡ s.held → t.faults ≡ s.faults → IsAnswerOf p steps s t NoMemory
 nothing_written p steps short s t same faults =
     let log = programs_have_defined_logs Two p steps short in (
       record {
@@ -302,10 +302,19 @@ nothing_written p steps short s t same faults =
     )
 
 -- faults never fall
-pub faults_kept : (p : Source) (steps : ℕ) (s t : State) (r : Result Summary ProveError) → OnOk r (s.faults ≤ t.faults) → IfErr r (IsAnswerOf p steps s t) → s.faults ≤ t.faults
-faults_kept p steps s t (Ok x) h e = h
-faults_kept p steps s t (Err (TooLarge n which)) h e = e.1
-faults_kept p steps s t (Err (Spent n)) h e = e.1
-faults_kept p steps s t (Err TooLong) h e = e.1
+pub faults_kept : (p : Source) (steps : ℕ) (s t : State) (r : Result Summary ProveError) → OnOk r (t.faults ≡ s.faults) → IfErr r (IsAnswerOf p steps s t) → s.faults ≤ t.faults
+faults_kept p steps s t (Ok x) h e = omega (arith, h)
+faults_kept p steps s t (Err (TooLarge n which)) h e = omega (arith, e.1)
+faults_kept p steps s t (Err (Spent n)) h e = omega (arith, e.1)
+faults_kept p steps s t (Err TooLong) h e = omega (arith, e.1)
 faults_kept p steps s t (Err WriteFault) h e = e.2
-faults_kept p steps s t (Err NoMemory) h e = e.1
+faults_kept p steps s t (Err NoMemory) h e = omega (arith, e.1)
+
+-- and they rise only where a fault of the sink is answered
+pub faults_heard : (p : Source) (steps : ℕ) (s t : State) (r : Result Summary ProveError) → OnOk r (t.faults ≡ s.faults) → IfErr r (IsAnswerOf p steps s t) → ¬ (IsErrOf r WriteFault) → t.faults ≡ s.faults
+faults_heard p steps s t (Ok x) h e other = h
+faults_heard p steps s t (Err (TooLarge n which)) h e other = e.1
+faults_heard p steps s t (Err (Spent n)) h e other = e.1
+faults_heard p steps s t (Err TooLong) h e other = e.1
+faults_heard p steps s t (Err WriteFault) h e other = absurd (other refl)
+faults_heard p steps s t (Err NoMemory) h e other = e.1

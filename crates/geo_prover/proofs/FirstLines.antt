@@ -4,8 +4,8 @@ use Rattle.std.specs.Prelude.{◌==◌, nat_lt}
 use Rattle.std.specs.List.{AllByRecursion, flat_map, position, prefix_len}
 use Rattle.std.proofs.lemmas.Bool.{eqb-false, lt-ltb, ltb-true, ne_eqb}
 use Rattle.std.proofs.lemmas.List.{length-append, map-append}
-use Rattle.geo_base.specs.Devices.{Grows}
-use Rattle.geo_base.proofs.DeviceLemmas.{Grows-append, Grows-nothing, HasRisen-after}
+use Rattle.geo_base.specs.Devices.{Grows, HasRisen}
+use Rattle.geo_base.proofs.DeviceLemmas.{Grows-append, Grows-nothing}
 use Rattle.geo_lexer.specs.Lexemes.{Lexeme}
 use Rattle.geo_program.specs.CanonicalText.{canonical_text, line_lexemes, line_text, no_sketches}
 use Rattle.geo_program.specs.WellFormed.{Source}
@@ -149,6 +149,9 @@ module _ (front : List Line) (s t u : State) (w : Writes front s t) where
   faults_on : t.faults ≤ u.faults → s.faults ≤ u.faults
   faults_on g = let f = w.faults in omega (arith, f, g)
 
+  sound_on : u.faults ≡ t.faults → u.faults ≡ s.faults
+  sound_on g = g ∙ w.faults
+
   -- what was written of a text behind another
   taken : (xs ys : List ℕ) (n : ℕ) → take (length xs + n) (xs ++ ys) ≡ xs ++ take n ys
   taken [] ys n = let e : 0 + n ≡ n = omega arith in ap (λ k. take k ys) e
@@ -169,7 +172,7 @@ module _ (front : List Line) (s t u : State) (w : Writes front s t) where
         let same : text_length ((front ++ g.before) ++ g.line ∷ []) ≡ text_length (front ++ (g.before ++ g.line ∷ [])) = ap text_length (append_assoc front g.before (g.line ∷ [])) in
         let big = g.long in omega (arith, m, l, same, big);
     written = subst (λ text. Grows s.held text u.held) (sym (log_text-append front g.before)) (Grows-append s.held t.held u.held (log_text front) (log_text g.before) w.written g.written);
-    faults = faults_on g.faults;
+    faults = sound_on g.faults;
   }
 
   part_on : (all : List Line) → IsPartAmong all t u → IsPartAmong (front ++ all) s u
@@ -190,8 +193,8 @@ module _ (front : List Line) (s t u : State) (w : Writes front s t) where
   broken_on all (TooLarge n which) g = g
   broken_on all (Spent n) g = g
   broken_on all TooLong g = left_out_on all g
-  broken_on all WriteFault g = (part_on all g.0, HasRisen-after s.faults t.faults u.faults w.faults g.1)
-  broken_on all NoMemory g = part_on all g
+  broken_on all WriteFault g = (part_on all g.0, subst (λ n. HasRisen n u.faults) w.faults g.1)
+  broken_on all NoMemory g = (part_on all g.0, sound_on g.1)
 
 -- at once
 module _ (s t : State) (fits : s.bytes ≤ 67108864) where
@@ -224,10 +227,10 @@ module _ (s t : State) (fits : s.bytes ≤ 67108864) where
     faults = h.faults;
   }
   unwritten_first line rest WriteFault h = (cut_off line rest h.0, h.1)
-  unwritten_first line rest NoMemory h = cut_off line rest h
+  unwritten_first line rest NoMemory h = (cut_off line rest h.0, h.1)
 
-  pub memory_first : (all : List Line) → t.held ≡ s.held → s.faults ≤ t.faults → IsBrokenOffAmong all s t NoMemory
-  memory_first all same faults = nothing_among all same faults
+  pub memory_first : (all : List Line) → t.held ≡ s.held → t.faults ≡ s.faults → IsBrokenOffAmong all s t NoMemory
+  memory_first all same faults = (nothing_among all same (omega (arith, faults)), faults)
 
 -- a line of the program is not written
 pub piece_breaks : (lines : List (List ℕ)) (rest : List ℕ) (s t u : State) (n : ℕ) (e : ProveError) → IsBetween lines rest s t → t.bytes ≤ 67108864 → position (λ b. b == 10) rest ≡ Some n
@@ -243,4 +246,4 @@ piece_breaks lines rest s t u n e b fits p h =
 pub memory_between : (lines : List (List ℕ)) (rest : List ℕ) (s t : State) → IsBetween lines rest s t → t.bytes ≤ 67108864 → IsBrokenOffAmong (map ProgramLine lines) s t NoMemory
 memory_between lines rest s t b fits =
     subst (λ xs. IsBrokenOffAmong xs s t NoMemory) (sym (ap (λ xs. map ProgramLine xs) b.split ∙ map-append ProgramLine b.done b.left))
-    (broken_on (map ProgramLine b.done) s t t b.written (map ProgramLine b.left) NoMemory (memory_first t t fits (map ProgramLine b.left) refl (omega arith)))
+    (broken_on (map ProgramLine b.done) s t t b.written (map ProgramLine b.left) NoMemory (memory_first t t fits (map ProgramLine b.left) refl refl))

@@ -2,8 +2,8 @@
 use Rattle.std.proofs.Common.{◌≡◌, ℕ, suc, ◌+◌, ◌<◌, ◌≤◌, inl, inr, List, [], ◌∷◌, ◌++◌, length, append-nil, append_assoc, refl, sym, ◌∙◌, ap, subst, take, arith}
 use Rattle.std.proofs.lemmas.List.{length-append}
 use Rattle.std.proofs.lemmas.Grind.{flat_map-append}
-use Rattle.geo_base.specs.Devices.{Grows}
-use Rattle.geo_base.proofs.DeviceLemmas.{Grows-append, Grows-nothing, HasRisen-after}
+use Rattle.geo_base.specs.Devices.{Grows, HasRisen}
+use Rattle.geo_base.proofs.DeviceLemmas.{Grows-append, Grows-nothing}
 use Rattle.geo_terms.specs.Constructions.{Construction}
 use Rattle.proof_log.specs.declared.log.Line.{Line}
 use Rattle.proof_log.specs.declared.log.Verdict.{Verdict}
@@ -34,14 +34,14 @@ text_length-append xs ys = ap length (log_text-append xs ys) ∙ length-append (
 
 -- WRITES
 pub writes_nothing : (s : State) → Writes [] s s
-writes_nothing s = record { counted = omega arith; measured = omega arith; written = Grows-nothing s.held; faults = omega arith }
+writes_nothing s = record { counted = omega arith; measured = omega arith; written = Grows-nothing s.held; faults = refl }
 
 pub writes_more : (xs ys : List Line) (s t u : State) → Writes xs s t → Writes ys t u → Writes (xs ++ ys) s u
 writes_more xs ys s t u h g = record {
   counted = let a = h.counted in let b = g.counted in let n : length (xs ++ ys) ≡ length xs + length ys = length-append xs ys in omega (arith, a, b, n);
   measured = let a = h.measured in let b = g.measured in let n = text_length-append xs ys in omega (arith, a, b, n);
   written = subst (λ text. Grows s.held text u.held) (sym (log_text-append xs ys)) (Grows-append s.held t.held u.held (log_text xs) (log_text ys) h.written g.written);
-  faults = let a = h.faults in let b = g.faults in omega (arith, a, b);
+  faults = g.faults ∙ h.faults;
 }
 
 -- PARTS IN A ROW
@@ -102,6 +102,9 @@ module _ (c : Construction) (P Q : Part) (s t u : State) (h : Passes P Q s t) wh
   faults_on : t.faults ≤ u.faults → s.faults ≤ u.faults
   faults_on g = let f = h.written.faults in omega (arith, f, g)
 
+  sound_on : u.faults ≡ t.faults → u.faults ≡ s.faults
+  sound_on g = g ∙ h.written.faults
+
   written_on : (lines : List Line) → Grows t.held (log_text lines) u.held → Grows s.held (log_text (h.lines ++ lines)) u.held
   written_on lines g =
       subst (λ text. Grows s.held text u.held) (sym (log_text-append h.lines lines)) (Grows-append s.held t.held u.held (log_text h.lines) (log_text lines) h.written.written g)
@@ -118,7 +121,7 @@ module _ (c : Construction) (P Q : Part) (s t u : State) (h : Passes P Q s t) wh
     fits = fits_on g.lines g.fits;
     last = g.last ∙ ap suc (counted_on g.lines);
     written = subst (λ xs. Grows s.held (log_text xs) u.held) (sym (append_assoc h.lines g.lines (stop_line number stop ∷ []))) (written_on (g.lines ++ stop_line number stop ∷ []) g.written);
-    faults = faults_on g.faults;
+    faults = sound_on g.faults;
   }
 
   too_long_on : IsTooLong c Q t u → IsTooLong c P s u
@@ -135,7 +138,7 @@ module _ (c : Construction) (P Q : Part) (s t u : State) (h : Passes P Q s t) wh
         let same : text_length ((h.lines ++ g.lines) ++ g.line ∷ []) ≡ text_length (h.lines ++ (g.lines ++ g.line ∷ [])) = ap text_length (append_assoc h.lines g.lines (g.line ∷ [])) in
         let big = g.long in omega (arith, m, l, same, big);
     written = written_on g.lines g.written;
-    faults = faults_on g.faults;
+    faults = sound_on g.faults;
   }
 
   piece_on : (place : Place) (lines : List Line) (piece : List ℕ) → IsPieceOfNext c place (t.lines + length lines) (t.bytes + text_length lines) piece
@@ -162,8 +165,8 @@ module _ (c : Construction) (P Q : Part) (s t u : State) (h : Passes P Q s t) wh
   halts_on (TooLarge n which) g = stopped_on (too_large which) n g
   halts_on (Spent n) g = stopped_on spent n g
   halts_on TooLong g = too_long_on g
-  halts_on WriteFault g = (broken_on g.0, HasRisen-after s.faults t.faults u.faults h.written.faults g.1)
-  halts_on NoMemory g = broken_on g
+  halts_on WriteFault g = (broken_on g.0, subst (λ n. HasRisen n u.faults) h.written.faults g.1)
+  halts_on NoMemory g = (broken_on g.0, sound_on g.1)
 
 -- AT A PLACE
 -- the place of no lines
@@ -184,7 +187,7 @@ memory_at c place s t fits same faults = record {
 }
 
 pub memory_here : (c : Construction) (place : Place) (s : State) → s.bytes ≤ 67108864 → Halts c (here_part place) s s NoMemory
-memory_here c place s fits = memory_at c place s s fits refl (omega arith)
+memory_here c place s fits = (memory_at c place s s fits refl (omega arith), refl)
 
 -- nor in a part that begins there
 pub memory_in : (c : Construction) (P : Part) (place : Place) (s : State) → P.begun [] place → s.bytes ≤ 67108864 → Halts c P s s NoMemory
@@ -220,7 +223,7 @@ unwritten_here c place line s t next fits TooLong h = record {
   faults = h.faults;
 }
 unwritten_here c place line s t next fits WriteFault h = (cut_off_at c place line s t next fits h.0, h.1)
-unwritten_here c place line s t next fits NoMemory h = cut_off_at c place line s t next fits h
+unwritten_here c place line s t next fits NoMemory h = (cut_off_at c place line s t next fits h.0, h.1)
 
 -- a stop comes next
 module _ (c : Construction) (place : Place) (stop : Stop) (s t : State) (next : IsNext lemma_table c place (stops stop)) (fits : s.bytes ≤ 67108864) where
@@ -259,7 +262,7 @@ module _ (c : Construction) (place : Place) (stop : Stop) (s t : State) (next : 
   })
   stopped_here TooLong h = absurd h
   stopped_here WriteFault h = (stop_part h.0, h.1)
-  stopped_here NoMemory h = stop_part h
+  stopped_here NoMemory h = (stop_part h.0, h.1)
 
 -- CAUSES
 -- a line that is not made, at its place

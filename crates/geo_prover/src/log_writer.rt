@@ -100,6 +100,9 @@ fn put_line<K: Sink>(alloc: Global, sink: &mut K, line: &Line) -> Result<(), Pro
     ensures causes { IfErr result IsOfSink }
     ensures fault { IsErrOf result ProveError.WriteFault
         → HasRisen (K.faults sink.old) (K.faults sink.new) }
+    ensures sound { OnOk result (K.faults sink.new ≡ K.faults sink.old) }
+    ensures starved { IsErrOf result ProveError.NoMemory
+        → K.faults sink.new ≡ K.faults sink.old }
     ensures faults { K.faults sink.old ≤ K.faults sink.new }
 {
     let text = write_line(alloc, line)?;
@@ -114,6 +117,9 @@ fn put<K: Sink>(sink: &mut K, text: &[u8]) -> Result<(), ProveError>
     ensures causes { IfErr result IsOfSink }
     ensures fault { IsErrOf result ProveError.WriteFault
         → HasRisen (K.faults sink.old) (K.faults sink.new) }
+    ensures sound { OnOk result (K.faults sink.new ≡ K.faults sink.old) }
+    ensures starved { IsErrOf result ProveError.NoMemory
+        → K.faults sink.new ≡ K.faults sink.old }
     ensures faults { K.faults sink.old ≤ K.faults sink.new }
 {
     match write_all(sink, text) {

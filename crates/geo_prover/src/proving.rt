@@ -60,6 +60,8 @@ pub fn prove<K: Sink>(
     ensures memory { IsErrOf result ProveError.NoMemory
         → WritesPart (source_of program.now) steps (K.held sink.old) (K.held sink.new) }
     ensures faults { K.faults sink.old ≤ K.faults sink.new }
+    ensures heard { ¬ IsErrOf result ProveError.WriteFault
+        → K.faults sink.new ≡ K.faults sink.old }
 {
     prove_all(alloc, program, steps, sink)
 }
@@ -76,7 +78,7 @@ fn prove_all<K: Sink>(
     ensures err { IfErr result (IsAnswerOf (source_of program.now) steps
         (first_state (K.held sink.old) (K.faults sink.old))
         (first_state (K.held sink.new) (K.faults sink.new))) }
-    ensures faults { OnOk result (K.faults sink.old ≤ K.faults sink.new) }
+    ensures faults { OnOk result (K.faults sink.new ≡ K.faults sink.old) }
 {
     let problem = problem_by(alloc, Version::Two, program)?;
     let mut numbers = KnownNumbers::new(alloc)?;

@@ -1,5 +1,5 @@
 -- What the prover answers where the log does not end with a verdict.
-use Rattle.std.specs.Prelude.{ℕ, ◌≤◌}
+use Rattle.std.specs.Prelude.{◌≡◌, ℕ, ◌≤◌}
 use Rattle.geo_base.specs.Devices.{HasRisen}
 use Rattle.geo_logs.specs.Ends.{too_long}
 use Rattle.geo_logs.specs.Moves.{spent, too_large}
@@ -11,8 +11,8 @@ use Rattle.geo_prover.specs.Inner.Written.{State}
 
 -- the error, and what was written
 abbrev pub IsAnswerOf : Source → ℕ → State → State → ProveError → Type 0
-IsAnswerOf p steps s t (TooLarge n which) = StopsAt p steps s.held t.held (too_large which) n × (s.faults ≤ t.faults)
-IsAnswerOf p steps s t (Spent n) = StopsAt p steps s.held t.held spent n × (s.faults ≤ t.faults)
-IsAnswerOf p steps s t TooLong = WritesLog p steps s.held t.held too_long × (s.faults ≤ t.faults)
+IsAnswerOf p steps s t (TooLarge n which) = StopsAt p steps s.held t.held (too_large which) n × (t.faults ≡ s.faults)
+IsAnswerOf p steps s t (Spent n) = StopsAt p steps s.held t.held spent n × (t.faults ≡ s.faults)
+IsAnswerOf p steps s t TooLong = WritesLog p steps s.held t.held too_long × (t.faults ≡ s.faults)
 IsAnswerOf p steps s t WriteFault = HasRisen s.faults t.faults × WritesPart p steps s.held t.held × (s.faults ≤ t.faults)
-IsAnswerOf p steps s t NoMemory = WritesPart p steps s.held t.held × (s.faults ≤ t.faults)
+IsAnswerOf p steps s t NoMemory = WritesPart p steps s.held t.held × (t.faults ≡ s.faults)

@@ -22,7 +22,7 @@ pub record IsTooLongAmong (all : List Line) (s t : State) : Type 0 where
   pub fits : s.bytes + text_length before ≤ 67108864
   pub long : 67108864 < s.bytes + text_length (before ++ line ∷ [])
   pub written : Grows s.held (log_text before) t.held
-  pub faults : s.faults ≤ t.faults
+  pub faults : t.faults ≡ s.faults
 
 -- some of the lines were written, within the limit, the last of them perhaps in part
 pub record IsPartAmong (all : List Line) (s t : State) : Type 0 where
@@ -40,4 +40,4 @@ IsBrokenOffAmong all s t (TooLarge n which) = ⊥
 IsBrokenOffAmong all s t (Spent n) = ⊥
 IsBrokenOffAmong all s t TooLong = IsTooLongAmong all s t
 IsBrokenOffAmong all s t WriteFault = IsPartAmong all s t × HasRisen s.faults t.faults
-IsBrokenOffAmong all s t NoMemory = IsPartAmong all s t
+IsBrokenOffAmong all s t NoMemory = IsPartAmong all s t × (t.faults ≡ s.faults)

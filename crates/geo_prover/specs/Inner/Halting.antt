@@ -36,7 +36,7 @@ pub record IsStopped (c : Construction) (part : Part) (s t : State) (stop : Stop
   pub fits : s.bytes + text_length lines ≤ 67108864
   pub last : number ≡ suc (s.lines + length lines)
   pub written : Grows s.held (log_text (lines ++ stop_line number stop ∷ [])) t.held
-  pub faults : s.faults ≤ t.faults
+  pub faults : t.faults ≡ s.faults
 
 -- the next line takes the text past its limit, and the lines before were written
 pub record IsTooLong (c : Construction) (part : Part) (s t : State) : Type 0 where
@@ -48,7 +48,7 @@ pub record IsTooLong (c : Construction) (part : Part) (s t : State) : Type 0 whe
   pub fits : s.bytes + text_length lines ≤ 67108864
   pub long : 67108864 < s.bytes + text_length (lines ++ line ∷ [])
   pub written : Grows s.held (log_text lines) t.held
-  pub faults : s.faults ≤ t.faults
+  pub faults : t.faults ≡ s.faults
 
 -- the text is the first bytes of the line that comes next, or of the stop line
 abbrev pub IsPieceOfNext : Construction → Place → ℕ → ℕ → List ℕ → Type 0
@@ -76,7 +76,7 @@ Halts c part s t (TooLarge n which) = IsStopped c part s t (too_large which) n
 Halts c part s t (Spent n) = IsStopped c part s t spent n
 Halts c part s t TooLong = IsTooLong c part s t
 Halts c part s t WriteFault = IsBrokenOff c part s t × HasRisen s.faults t.faults
-Halts c part s t NoMemory = IsBrokenOff c part s t
+Halts c part s t NoMemory = IsBrokenOff c part s t × (t.faults ≡ s.faults)
 
 -- a line that has no polynomial for this reason is answered so
 abbrev pub IsAnswered : ApplyError → State → State → ProveError → Type 0

@@ -28,7 +28,7 @@ pub record Writes (lines : List Line) (s t : State) : Type 0 where
   pub counted : t.lines ≡ s.lines + length lines
   pub measured : t.bytes ≡ s.bytes + text_length lines
   pub written : Grows s.held (log_text lines) t.held
-  pub faults : s.faults ≤ t.faults
+  pub faults : t.faults ≡ s.faults
 
 -- the first bytes of the text were written
 pub record WritesSome (text : List ℕ) (s t : State) : Type 0 where
@@ -40,7 +40,7 @@ pub record WritesSome (text : List ℕ) (s t : State) : Type 0 where
 pub record IsLeftOut (line : Line) (s t : State) : Type 0 where
   pub long : 67108864 < s.bytes + text_length (line ∷ [])
   pub kept : t.held ≡ s.held
-  pub faults : s.faults ≤ t.faults
+  pub faults : t.faults ≡ s.faults
 
 -- the line is within the limit, and the first bytes of it were written; or none were
 abbrev pub IsCutOff : Line → State → State → Type 0
@@ -54,13 +54,13 @@ IsUnwritten line s t (TooLarge n which) = ⊥
 IsUnwritten line s t (Spent n) = ⊥
 IsUnwritten line s t TooLong = IsLeftOut line s t
 IsUnwritten line s t WriteFault = IsCutOff line s t × HasRisen s.faults t.faults
-IsUnwritten line s t NoMemory = IsCutOff line s t
+IsUnwritten line s t NoMemory = IsCutOff line s t × (t.faults ≡ s.faults)
 
 -- the line of the stop was written, and has this number
 pub record IsStopWritten (stop : Stop) (number : ℕ) (s t : State) : Type 0 where
   pub last : number ≡ suc s.lines
   pub written : Grows s.held (log_text (stop_line number stop ∷ [])) t.held
-  pub faults : s.faults ≤ t.faults
+  pub faults : t.faults ≡ s.faults
 
 -- the stop is answered, with its line; or the first bytes of the line were written
 abbrev pub HasStopped : Stop → State → State → ProveError → Type 0
@@ -68,4 +68,4 @@ HasStopped stop s t (TooLarge n which) = (stop ≡ too_large which) × IsStopWri
 HasStopped stop s t (Spent n) = (stop ≡ spent) × IsStopWritten stop n s t
 HasStopped stop s t TooLong = ⊥
 HasStopped stop s t WriteFault = WritesSome (log_text (stop_line (suc s.lines) stop ∷ [])) s t × HasRisen s.faults t.faults
-HasStopped stop s t NoMemory = WritesSome (log_text (stop_line (suc s.lines) stop ∷ [])) s t
+HasStopped stop s t NoMemory = WritesSome (log_text (stop_line (suc s.lines) stop ∷ [])) s t × (t.faults ≡ s.faults)

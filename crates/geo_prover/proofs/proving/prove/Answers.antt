@@ -1,7 +1,7 @@
 use Rattle.std.proofs.lemmas.Result.{IfErr-at_err}
 use Rattle.geo_program.specs.Programs.{source_of}
 use Rattle.geo_prover.specs.Inner.Written.{first_state}
-use Rattle.geo_prover.proofs.Finishing.{faults_kept}
+use Rattle.geo_prover.proofs.Finishing.{faults_heard, faults_kept}
 use Rattle.geo_prover.proofs.proving.prove.Goals as goal
 
 pub returns-clause-spent : goal.returns-clause-spent
@@ -22,4 +22,9 @@ returns-clause-memory g c = λ e. (IfErr-at_err _ e c.prove_all.ensures.err).0
 pub returns-clause-faults : goal.returns-clause-faults
 returns-clause-faults g c =
     faults_kept (source_of c.args.program.now) c.args.steps (first_state (g.K.Sink.held c.args.sink.now) (g.K.Sink.faults c.args.sink.now))
+    (first_state (g.K.Sink.held c.prove_all.new.sink) (g.K.Sink.faults c.prove_all.new.sink)) c.prove_all.result c.prove_all.ensures.faults c.prove_all.ensures.err
+
+pub returns-clause-heard : goal.returns-clause-heard
+returns-clause-heard g c =
+    faults_heard (source_of c.args.program.now) c.args.steps (first_state (g.K.Sink.held c.args.sink.now) (g.K.Sink.faults c.args.sink.now))
     (first_state (g.K.Sink.held c.prove_all.new.sink) (g.K.Sink.faults c.prove_all.new.sink)) c.prove_all.result c.prove_all.ensures.faults c.prove_all.ensures.err

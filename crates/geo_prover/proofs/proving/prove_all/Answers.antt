@@ -14,13 +14,13 @@ pub returns-in_err-problem-clause-err : goal.returns-in_err-problem-clause-err
 returns-in_err-problem-clause-err g c =
     let s = first_state (g.K.Sink.held c.args.sink.now) (g.K.Sink.faults c.args.sink.now) in
     if_err _ _ NoMemory c.from_residual.ensures.1
-    (nothing_written (source_of c.args.program.now) c.args.steps (record { well_formed = program_well_formed c.args.program.now; short = c.args.program.now.short }) s s refl (omega arith))
+    (nothing_written (source_of c.args.program.now) c.args.steps (record { well_formed = program_well_formed c.args.program.now; short = c.args.program.now.short }) s s refl refl)
 
 pub returns-in_err-numbers-clause-err : goal.returns-in_err-numbers-clause-err
 returns-in_err-numbers-clause-err g c =
     let s = first_state (g.K.Sink.held c.args.sink.now) (g.K.Sink.faults c.args.sink.now) in
     if_err _ _ NoMemory c.from_residual-in_err-numbers.ensures.1
-    (nothing_written (source_of c.args.program.now) c.args.steps (record { well_formed = program_well_formed c.args.program.now; short = c.args.program.now.short }) s s refl (omega arith))
+    (nothing_written (source_of c.args.program.now) c.args.steps (record { well_formed = program_well_formed c.args.program.now; short = c.args.program.now.short }) s s refl refl)
 
 pub returns-in_err-write_first_lines-clause-err : goal.returns-in_err-write_first_lines-clause-err
 returns-in_err-write_first_lines-clause-err g c =
