@@ -1,7 +1,7 @@
-use Rattle.std.proofs.Common.{rules, refl, arith}
+use Rattle.std.proofs.Common.{rules, arith}
 use Rattle.geo_cli.specs.Due.{IsDueForLog}
 use Rattle.geo_cli.specs.Input.{log_limit}
-use Rattle.geo_cli.proofs.Answered.{of_fault, of_input, of_long}
+use Rattle.geo_cli.proofs.Answered.{of_input, of_long}
 use Rattle.geo_cli.proofs.checking.run_check.Goals as goal
 
 pub returns-in-Ok-clause-answers : goal.returns-in-Ok-clause-answers
@@ -17,7 +17,3 @@ returns-in-Ok-clause-taken g c =
 pub returns-in-Err-TooLong-clause-answers : goal.returns-in-Err-TooLong-clause-answers
 returns-in-Err-TooLong-clause-answers g c =
     of_long log_limit (IsDueForLog c.args.steps) _ _ _ _ _ _ _ _ _ (c.judge.ensures.too_long (search rules)) c.answer.ensures.answered
-
-pub returns-in-Err-ReadFault-clause-answers : goal.returns-in-Err-ReadFault-clause-answers
-returns-in-Err-ReadFault-clause-answers g c =
-    of_fault log_limit (IsDueForLog c.args.steps) _ _ _ _ _ _ _ _ _ refl (c.judge.ensures.fault (search rules)) refl
