@@ -1,7 +1,7 @@
-use Rattle.std.proofs.Common.{rules, refl}
+use Rattle.std.proofs.Common.{rules}
 use Rattle.geo_cli.specs.Due.{IsDueFor}
 use Rattle.geo_cli.specs.Input.{program_limit}
-use Rattle.geo_cli.proofs.Answered.{of_fault, of_input, of_long}
+use Rattle.geo_cli.proofs.Answered.{of_input, of_long}
 use Rattle.geo_cli.proofs.proving.run_prove.Goals as goal
 
 pub returns-in-Ok-clause-answers : goal.returns-in-Ok-clause-answers
@@ -13,7 +13,3 @@ pub returns-in-Err-TooLong-clause-answers : goal.returns-in-Err-TooLong-clause-a
 returns-in-Err-TooLong-clause-answers g c =
     let h = c.read_all.ensures.too_long (search rules) in
     of_long program_limit (IsDueFor c.args.steps) _ _ _ _ _ _ _ _ _ (record { taken = h.0; longer = h.1; lost = h.2 }) c.answer.ensures.answered
-
-pub returns-in-Err-ReadFault-clause-answers : goal.returns-in-Err-ReadFault-clause-answers
-returns-in-Err-ReadFault-clause-answers g c =
-    of_fault program_limit (IsDueFor c.args.steps) _ _ _ _ _ _ _ _ _ refl (c.read_all.ensures.fault (search rules)) refl
