@@ -12,7 +12,8 @@ use Rattle.elim_apply.proofs.MoveRows.{lemma_table_sound}
 use Rattle.log_checker.specs.Laws.{DefinedLogsAreAccepted, DefinedVerdictsDecide, IsAcceptedLog, IsDecided, Means}
 use Rattle.log_checker.specs.Subjects.{IsSubjectOf}
 use Rattle.log_checker.proofs.Meanings.{meanings_exclude}
-use Rattle.log_checker.proofs.Realised.{conditions_named, false_breaks, goals_named, impossible_is_never_met, proved_is_true}
+use Rattle.log_checker.proofs.Realised.{conditions_named, goals_named}
+use Rattle.log_checker.proofs.ThreeVerdicts.{false_breaks, impossible_is_never_met, proved_is_true}
 use Rattle.log_checker.proofs.Verdicts.{parts_of, valid}
 
 -- the prover's list is an accepted one

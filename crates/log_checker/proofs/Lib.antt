@@ -10,10 +10,13 @@ pub mod Meanings
 pub mod Names
 pub mod Made
 pub mod Ready
+pub mod PairGoals
 pub mod Turns
 pub mod Verdicts
 pub mod Printed
 pub mod Realised
+pub mod FailingGoals
+pub mod ThreeVerdicts
 pub mod Decision
 pub mod Onwards
 pub mod GoingOn

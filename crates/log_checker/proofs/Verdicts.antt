@@ -81,17 +81,17 @@ module _ (p : Source) (subject : Subject) (w : IsWellFormed p) (s : Parts p subj
 
   module _ (lines : List Line) (verdict : Verdict) (shown : IsShown subject lines verdict) where
     -- ALL GOALS
-    -- all goals before a place have the value 0, where they are said to be
-    zero_below : (V L : Placement) → IsLoweredTo v p l V L → Meets p V → ((k : ℕ) → SaysZero verdict k) → (k : ℕ) (j : ℕ) (g : Statement) → j < k → At s.goals j g → IsZeroGoal v p L g
-    zero_below V L i m says zero j g lt at = absurd (omega (arith, lt))
-    zero_below V L i m says (suc k) j g lt at =
+    -- the goals before a place have the value 0, where they are said to be
+    pub zero_below : (V L : Placement) → IsLoweredTo v p l V L → Meets p V → (k : ℕ) → ((j : ℕ) → j < k → SaysZero verdict j) → (j : ℕ) (g : Statement) → j < k → At s.goals j g → IsZeroGoal v p L g
+    zero_below V L i m zero says j g lt at = absurd (omega (arith, lt))
+    zero_below V L i m (suc k) says j g lt at =
         let parts = parted s.goals j g at in
         let before = each_of (IsZeroGoal v p L) parts.before
-        (λ n h at_n. zero_below V L i m says k n h
+        (λ n h at_n. zero_below V L i m k (λ a b. says a (omega (arith, b))) n h
         (let u : n < length parts.before = below parts.before n h at_n in let e = parts.place in omega (arith, u, e, lt))
         (subst (λ gs. At gs n h) (sym parts.whole) (in_front parts.before (g ∷ parts.after) n h at_n))) in
         let has = goals_in_turn v p l V L s.goals i s.listed_goals m parts.before parts.after g parts.whole before in
-        (has, shown.zero j (log_goal v p g) (goal_at j g at) (says j) L (steps_built L i.steps) has)
+        (has, shown.zero j (log_goal v p g) (goal_at j g at) (says j lt) L (steps_built L i.steps) has)
 
     -- where all goals are said to be 0, the statement holds in every placement that meets the program
     pub holds_of_all : ((k : ℕ) → SaysZero verdict k) → (V : Placement) → Meets p V → Holds p V
@@ -100,7 +100,7 @@ module _ (p : Source) (subject : Subject) (w : IsWellFormed p) (s : Parts p subj
         let i : IsLoweredTo v p l V d.0 = record { well_formed = w; form = s.lowered; extends = d.1; steps = d.2 } in
         (goals_are_terms v p l V d.0 s.goals i s.listed_goals).1
         (All-from_recursion (IsZeroGoal v p d.0) s.goals
-        (each_of (IsZeroGoal v p d.0) s.goals (λ k g at. zero_below V d.0 i m says (suc k) k g (omega arith) at)))
+        (each_of (IsZeroGoal v p d.0) s.goals (λ k g at. zero_below V d.0 i m (suc k) (λ j lt. says j) k g (omega arith) at)))
 
     -- CONDITIONS
     pub never_met : (k : ℕ) → verdict ≡ Impossible k → IsImpossible p
