@@ -1,3 +1,4 @@
+pub mod ChainsBelow
 pub mod AcceptedLogs
 pub mod Refusals
 pub mod Beginnings
