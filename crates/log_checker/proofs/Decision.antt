@@ -30,7 +30,7 @@ pub means : (p : Source) (steps : ℕ) (lines : List Line) (verdict : Verdict) �
 means p steps lines Proved a = proved_is_true p steps lines a
 means p steps lines (False g) a =
     let b = (false_breaks p steps g lines a).2 in record { placed = b.placed; meets = b.meets; fails = b.fails b.placed b.has b.meets }
-means p steps lines (Impossible k) a = impossible_is_never_met p steps k lines a
+means p steps lines (Impossible k) a = (impossible_is_never_met p steps k lines a).0
 
 -- and then no other does
 pub decided : (p : Source) (verdict : Verdict) → Means p verdict → IsDecided p verdict

@@ -30,7 +30,7 @@ use Rattle.elim_apply.specs.LemmaTable.{lemma_table}
 use Rattle.geo_logs.proofs.Examples.{at, quotients, quotients_accepted, quotients_lines, twice, twice_accepted, twice_lines}
 use Rattle.log_checker.specs.Laws.{EndsWithValues}
 use Rattle.log_checker.specs.Subjects.{IsSubjectOf}
-use Rattle.log_checker.specs.VerdictNumbers.{FailsAt}
+use Rattle.log_checker.specs.VerdictNumbers.{FailsAt, HoldsNowhere}
 use Rattle.log_checker.proofs.ThreeVerdicts.{false_breaks, impossible_is_never_met}
 
 -- NAMES OF ONE LETTER
@@ -155,8 +155,8 @@ twice_about = record {
   same_goals = refl;
 }
 
--- no placement meets it
-twice_impossible : IsImpossible twice_source
+-- no placement meets it, and its first condition holds nowhere
+twice_impossible : IsImpossible twice_source × HoldsNowhere twice_source 1
 twice_impossible = impossible_is_never_met twice_source 3 1 twice_lines (record { well_formed = twice_well_formed; subject = twice; about = twice_about; left = 0; accepted = twice_accepted lemma_table })
 
 -- TWO QUOTIENTS THAT ARE NOT EQUAL

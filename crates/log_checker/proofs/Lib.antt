@@ -17,6 +17,9 @@ pub mod Verdicts
 pub mod Printed
 pub mod Realised
 pub mod FailingGoals
+pub mod FirstCommands
+pub mod GivenConditions
+pub mod NeverMet
 pub mod ThreeVerdicts
 pub mod Decision
 pub mod Onwards

@@ -19,7 +19,7 @@ use Rattle.log_checker.specs.Shown.{IsShown}
 use Rattle.geo_logs.specs.Logs.{Item, Subject}
 use Rattle.geo_logs.specs.Placements.{HoldsAsCondition}
 use Rattle.log_checker.proofs.AcceptedLogs.{accepted_true}
-use Rattle.log_checker.specs.Laws.{AcceptedVerdictsHold, IsAcceptedLog}
+use Rattle.log_checker.specs.Laws.{IsAcceptedLog}
 use Rattle.log_checker.specs.Subjects.{IsSubjectOf, log_item}
 use Rattle.log_checker.proofs.Places.{At, at_map, below, each_at, each_of, in_front, of_map, parted}
 use Rattle.log_checker.proofs.Ready.{log_condition}
@@ -102,23 +102,7 @@ module _ (p : Source) (subject : Subject) (w : IsWellFormed p) (s : Parts p subj
         (All-from_recursion (IsZeroGoal v p d.0) s.goals
         (each_of (IsZeroGoal v p d.0) s.goals (λ k g at. zero_below V d.0 i m (suc k) (λ j lt. says j) k g (omega arith) at)))
 
-    -- CONDITIONS
-    pub never_met : (k : ℕ) → verdict ≡ Impossible k → IsImpossible p
-    never_met k is V m =
-        let d = placements_lower v p l V s.found w s.lowered s.listed m in
-        let n = shown.never k is in
-        let f = of_map (log_condition v p) s.found n.0 n.1 (subst (λ items. At items n.0 n.1) s.conditions n.3) in
-        let z = each_at (λ (g : Found). IsNonzeroCondition v p d.0 g.condition) s.found n.0 f.0 (recursion_from_All (λ (g : Found). IsNonzeroCondition v p d.0 g.condition) s.found d.3) f.1 in
-        n.4 d.0 (steps_built d.0 d.2) (subst (λ (t : Item). HoldsAsCondition d.0 t.term) (sym f.2) (record { has_value = z.0; nonzero = z.1 }))
-
 -- THE UNIVERSAL HALF
 pub shown_by : (p : Source) (steps : ℕ) (lines : List Line) (verdict : Verdict) (a : IsAcceptedLog p steps lines verdict) → IsShown a.subject lines verdict
 shown_by p steps lines verdict a =
     accepted_true a.subject steps a.left lines verdict (valid p a.subject a.well_formed (parts_of p a.subject a.about)) a.accepted
-
-pub accepted_verdicts_hold : AcceptedVerdictsHold
-accepted_verdicts_hold p steps lines Proved a =
-    holds_of_all p a.subject a.well_formed (parts_of p a.subject a.about) lines Proved (shown_by p steps lines Proved a) (λ k. tt)
-accepted_verdicts_hold p steps lines (False g) a = tt
-accepted_verdicts_hold p steps lines (Impossible k) a =
-    never_met p a.subject a.well_formed (parts_of p a.subject a.about) lines (Impossible k) (shown_by p steps lines (Impossible k) a) k refl
