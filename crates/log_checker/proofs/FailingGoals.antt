@@ -1,12 +1,10 @@
 -- The goal that a verdict names is the first that fails.
-use Rattle.std.proofs.Common.{◌≡◌, ⊎_elim, ℕ, suc, ◌<◌, ℤ, List, ◌∷◌, ◌++◌, length, ap, ◌∙◌, subst, sym, arith}
+use Rattle.std.proofs.Common.{◌≡◌, ⊎_elim, ℕ, suc, ◌<◌, ℤ, List, ◌∷◌, length, subst, sym, arith}
 use Rattle.std.proofs.lemmas.List.Elements.{All-from_recursion}
-use Rattle.geo_points.specs.declared.ids.PointId.{PointId}
 use Rattle.geo_points.specs.Placements.{Placement}
 use Rattle.geo_points.proofs.Same.{cross_product-same}
 use Rattle.geo_poly.specs.declared.variables.Var.{Var}
 use Rattle.geo_program.specs.declared.statements.Statement.{Statement}
-use Rattle.geo_program.specs.declared.statements.Statement.TheVariants.{Parallel}
 use Rattle.geo_program.specs.WellFormed.{Source, IsWellFormed}
 use Rattle.geo_lowering.specs.Building.{forgotten}
 use Rattle.geo_lowering.proofs.LawProofs.{to_forms}

@@ -2,20 +2,17 @@
 use Rattle.std.proofs.Common.{◌≡◌, ℕ, ◌≤◌, List, [], ◌∷◌, ◌++◌, sym, ◌∙◌, ap, subst, arith}
 use Rattle.ring_laws.proofs.Fractions.{fractions}
 use Rattle.geo_points.specs.Placements.{Placement}
-use Rattle.geo_points.specs.Points.{Point as Triple}
-use Rattle.geo_terms.specs.Constructions.{Construction}
 use Rattle.geo_terms.specs.TermBounds.{IsTermBelow}
 use Rattle.geo_program.specs.declared.commands.Command.{Command}
-use Rattle.geo_program.specs.declared.names.NameKind.TheVariants as kind
 use Rattle.geo_program.specs.WellFormed.{Source, IsWellFormed}
 use Rattle.geo_lowering.specs.CommandsMet.{AreCommandsMet, lines_of}
 use Rattle.geo_lowering.specs.Conditions.{AreConditionsMet, Condition, IsConditionMet}
-use Rattle.geo_lowering.specs.Counting.{named, counted, next_point, next_number, numbers_from, points_from, points_past}
+use Rattle.geo_lowering.specs.Counting.{next_point, next_number, numbers_from, points_from, points_past}
 use Rattle.geo_lowering.specs.Lines.{DrawnLine}
 use Rattle.geo_lowering.specs.Lowering.{IsLowered, LoweredForm, command_steps, layout_of, steps_from}
 use Rattle.geo_lowering.specs.StepForms.{AreFormsMet}
 use Rattle.geo_lowering.specs.declared.version.Version.{Version}
-use Rattle.geo_lowering.proofs.Bounds.{Bounds, no_bounds, numbers_from-up, past_steps}
+use Rattle.geo_lowering.proofs.Bounds.{no_bounds, numbers_from-up, past_steps}
 use Rattle.geo_lowering.proofs.Down.{down}
 use Rattle.geo_lowering.proofs.Exists.{params_past, lines_past}
 use Rattle.geo_lowering.proofs.Fixed.{bounds_all}

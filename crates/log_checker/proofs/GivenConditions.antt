@@ -14,7 +14,7 @@ use Rattle.geo_lowering.specs.Counting.{named, counted, points_from}
 use Rattle.geo_lowering.proofs.ConditionValues.{each_append, each_back, each_front}
 use Rattle.geo_lowering.proofs.Exists.{params_past, lines_past}
 use Rattle.geo_lowering.proofs.Laying.{AreNamed, named_program}
-use Rattle.geo_conditions.specs.Lists.{AreConditions, Found, IsListed, all_found, found_at, found_from}
+use Rattle.geo_conditions.specs.Lists.{Found, IsListed, all_found, found_at, found_from}
 use Rattle.geo_conditions.specs.Statements.{statement_conditions}
 use Rattle.geo_conditions.proofs.Agreement.{IsConditionOver}
 use Rattle.geo_conditions.proofs.ConditionScopes.{FoundOver, at_line, command_over, early_over, program_over}

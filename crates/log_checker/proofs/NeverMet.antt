@@ -1,6 +1,5 @@
 -- The condition that a verdict calls impossible holds in no placement that meets what stands before it.
-use Rattle.std.proofs.Common.{◌≡◌, ⊎_elim, ℕ, zero, suc, ◌+◌, ◌-◌, ◌<◌, List, [], ◌∷◌, ◌++◌, length, take, refl, sym, ◌∙◌, ap, subst, arith}
-use Rattle.std.specs.List.{AllByRecursion}
+use Rattle.std.proofs.Common.{◌≡◌, ⊎_elim, ℕ, zero, suc, ◌+◌, ◌-◌, List, [], ◌∷◌, ◌++◌, length, take, refl, sym, ◌∙◌, ap, subst, arith}
 use Rattle.std.proofs.lemmas.List.{append_assoc, length-append, take_at}
 use Rattle.std.proofs.lemmas.List.Elements.{All-from_recursion, recursion_from_All}
 use Rattle.geo_points.specs.Placements.{Placement}
@@ -12,7 +11,7 @@ use Rattle.geo_lowering.specs.Conditions.{Condition, IsConditionMet}
 use Rattle.geo_lowering.specs.Counting.{points_past}
 use Rattle.geo_lowering.proofs.ConditionValues.{each_back, each_front}
 use Rattle.geo_conditions.specs.Lists.{AreConditions, Found, all_found}
-use Rattle.geo_conditions.specs.Truth.{IsImpossible, Meets}
+use Rattle.geo_conditions.specs.Truth.{IsImpossible}
 use Rattle.geo_conditions.proofs.Extensions.{met_commands}
 use Rattle.geo_conditions.proofs.Listings.{all_hold, listed_hold}
 use Rattle.proof_log.specs.declared.log.Line.{Line}

@@ -1,27 +1,25 @@
 -- What accepted logs prove of programs.
 use Rattle.std.proofs.Common.{◌≡◌, ℕ, zero, suc, ◌<◌, List, [], ◌∷◌, map, length, refl, sym, ◌∙◌, ap, subst, arith}
-use Rattle.std.proofs.lemmas.List.Elements.{recursion_from_All, All-from_recursion}
+use Rattle.std.proofs.lemmas.List.Elements.{All-from_recursion}
 use Rattle.geo_points.specs.Placements.{Placement}
 use Rattle.geo_program.specs.declared.statements.Statement.{Statement}
 use Rattle.geo_program.specs.WellFormed.{Source, IsWellFormed}
 use Rattle.geo_terms.specs.Constructions.{IsConstruction, MeetsSteps}
 use Rattle.geo_lowering.specs.Lowering.{IsLowered, LoweredForm}
 use Rattle.geo_lowering.specs.declared.version.Version.{Version}
-use Rattle.geo_conditions.specs.Laws.{IsLoweredTo, IsNonzeroCondition, IsZeroGoal}
+use Rattle.geo_conditions.specs.Laws.{IsLoweredTo, IsZeroGoal}
 use Rattle.geo_conditions.specs.Lists.{AreConditions, AreGoals, Found, condition_item, goal_item}
-use Rattle.geo_conditions.specs.Truth.{Holds, IsImpossible, Meets}
+use Rattle.geo_conditions.specs.Truth.{Holds, Meets}
 use Rattle.geo_conditions.proofs.LawProofs.{goals_are_terms, placements_lower}
 use Rattle.proof_log.specs.declared.log.Line.{Line}
 use Rattle.proof_log.specs.declared.log.Verdict.{Verdict}
-use Rattle.proof_log.specs.declared.log.Verdict.TheVariants.{Proved, False, Impossible}
 use Rattle.geo_logs.specs.Laws.{SaysZero}
 use Rattle.log_checker.specs.Shown.{IsShown}
 use Rattle.geo_logs.specs.Logs.{Item, Subject}
-use Rattle.geo_logs.specs.Placements.{HoldsAsCondition}
 use Rattle.log_checker.proofs.AcceptedLogs.{accepted_true}
 use Rattle.log_checker.specs.Laws.{IsAcceptedLog}
 use Rattle.log_checker.specs.Subjects.{IsSubjectOf, log_item}
-use Rattle.log_checker.proofs.Places.{At, at_map, below, each_at, each_of, in_front, of_map, parted}
+use Rattle.log_checker.proofs.Places.{At, at_map, below, each_of, in_front, of_map, parted}
 use Rattle.log_checker.proofs.Ready.{log_condition}
 use Rattle.log_checker.proofs.Turns.{goals_in_turn}
 
