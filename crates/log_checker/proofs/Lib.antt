@@ -18,6 +18,7 @@ pub mod Printed
 pub mod Realised
 pub mod FailingGoals
 pub mod FirstCommands
+pub mod Origins
 pub mod GivenConditions
 pub mod NeverMet
 pub mod ThreeVerdicts

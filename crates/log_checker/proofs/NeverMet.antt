@@ -21,7 +21,8 @@ use Rattle.geo_logs.specs.Placements.{HoldsAsCondition, MeetsStepsBelow}
 use Rattle.log_checker.specs.Shown.{IsShown}
 use Rattle.log_checker.specs.VerdictNumbers.{HoldsNowhere, IsOnOwnPoint, MeetsBefore}
 use Rattle.log_checker.proofs.FirstCommands.{first_below, first_lowered}
-use Rattle.log_checker.proofs.GivenConditions.{IsGiven, IsLate, given_in, origin}
+use Rattle.log_checker.proofs.GivenConditions.{IsGiven, IsLate, given_in}
+use Rattle.log_checker.proofs.Origins.{origin}
 use Rattle.log_checker.proofs.Places.{At, of_map, parted}
 use Rattle.log_checker.proofs.Ready.{log_condition}
 use Rattle.log_checker.proofs.Verdicts.{Parts}
