@@ -21,7 +21,8 @@ use Rattle.geo_logs.specs.Chains.{chain_lines}
 use Rattle.geo_logs.specs.Logs.{AreConditionsWorked, AreGoalsWorked, Chains, Item, Samples, known_by}
 use Rattle.log_checker.specs.Accepted.{AcceptedBytesMean, AcceptedBytesTellPrograms, ProgramsHaveDefinedLogs, ProgramsHaveSubjects}
 use Rattle.log_checker.specs.Subjects.{version_number, log_item, source_lines}
-use Rattle.log_checker.proofs.Realised.{accepted_samples_are_met, false_breaks, impossible_is_never_met, proved_is_true}
+use Rattle.log_checker.proofs.Realised.{accepted_samples_are_met}
+use Rattle.log_checker.proofs.ThreeVerdicts.{false_breaks, impossible_is_never_met, proved_is_true}
 use Rattle.log_checker.proofs.Reached.{defined_log_exists}
 
 -- WHAT THEY MEAN
@@ -38,6 +39,7 @@ accepted_bytes_mean bytes steps p (False g) a =
       record { lines = a.lines; writable = a.writable; written = a.written; ends = broken.1 },
       record { placed = breaks.placed; has = breaks.has; meets = breaks.meets; unique = breaks.unique },
       breaks,
+      broken.3,
     )
 accepted_bytes_mean bytes steps p (Impossible k) a = impossible_is_never_met p steps k a.lines a.accepted
 

@@ -12,7 +12,8 @@ use Rattle.elim_apply.proofs.MoveRows.{lemma_table_sound}
 use Rattle.log_checker.specs.Laws.{DefinedLogsAreAccepted, DefinedVerdictsDecide, IsAcceptedLog, IsDecided, Means}
 use Rattle.log_checker.specs.Subjects.{IsSubjectOf}
 use Rattle.log_checker.proofs.Meanings.{meanings_exclude}
-use Rattle.log_checker.proofs.Realised.{conditions_named, false_breaks, goals_named, impossible_is_never_met, proved_is_true}
+use Rattle.log_checker.proofs.Realised.{conditions_named, goals_named}
+use Rattle.log_checker.proofs.ThreeVerdicts.{false_breaks, impossible_is_never_met, proved_is_true}
 use Rattle.log_checker.proofs.Verdicts.{parts_of, valid}
 
 -- the prover's list is an accepted one
@@ -29,7 +30,7 @@ pub means : (p : Source) (steps : ℕ) (lines : List Line) (verdict : Verdict) �
 means p steps lines Proved a = proved_is_true p steps lines a
 means p steps lines (False g) a =
     let b = (false_breaks p steps g lines a).2 in record { placed = b.placed; meets = b.meets; fails = b.fails b.placed b.has b.meets }
-means p steps lines (Impossible k) a = impossible_is_never_met p steps k lines a
+means p steps lines (Impossible k) a = (impossible_is_never_met p steps k lines a).0
 
 -- and then no other does
 pub decided : (p : Source) (verdict : Verdict) → Means p verdict → IsDecided p verdict

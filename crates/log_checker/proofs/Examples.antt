@@ -30,7 +30,8 @@ use Rattle.elim_apply.specs.LemmaTable.{lemma_table}
 use Rattle.geo_logs.proofs.Examples.{at, quotients, quotients_accepted, quotients_lines, twice, twice_accepted, twice_lines}
 use Rattle.log_checker.specs.Laws.{EndsWithValues}
 use Rattle.log_checker.specs.Subjects.{IsSubjectOf}
-use Rattle.log_checker.proofs.Realised.{false_breaks, impossible_is_never_met}
+use Rattle.log_checker.specs.VerdictNumbers.{FailsAt, HoldsNowhere}
+use Rattle.log_checker.proofs.ThreeVerdicts.{false_breaks, impossible_is_never_met}
 
 -- NAMES OF ONE LETTER
 -- the words have two letters or more
@@ -154,8 +155,8 @@ twice_about = record {
   same_goals = refl;
 }
 
--- no placement meets it
-twice_impossible : IsImpossible twice_source
+-- no placement meets it, and its first condition holds nowhere
+twice_impossible : IsImpossible twice_source × HoldsNowhere twice_source 1
 twice_impossible = impossible_is_never_met twice_source 3 1 twice_lines (record { well_formed = twice_well_formed; subject = twice; about = twice_about; left = 0; accepted = twice_accepted lemma_table })
 
 -- TWO QUOTIENTS THAT ARE NOT EQUAL
@@ -222,8 +223,8 @@ quotients_about = record {
   same_goals = refl;
 }
 
--- the value of its sample breaks it
-quotients_broken : (v : ProgramValues) × EndsWithValues quotients_lines (False 1) v × Breaks quotients_source v
+-- the value of its sample breaks it, by its first goal
+quotients_broken : (v : ProgramValues) × EndsWithValues quotients_lines (False 1) v × Breaks quotients_source v × FailsAt quotients_source v 1
 quotients_broken =
     false_breaks quotients_source 20 1 quotients_lines
     (record { well_formed = quotients_well_formed; subject = quotients; about = quotients_about; left = 0; accepted = quotients_accepted lemma_table })

@@ -1,3 +1,4 @@
+pub mod ChainsBelow
 pub mod AcceptedLogs
 pub mod Refusals
 pub mod Beginnings
@@ -10,10 +11,17 @@ pub mod Meanings
 pub mod Names
 pub mod Made
 pub mod Ready
+pub mod PairGoals
 pub mod Turns
 pub mod Verdicts
 pub mod Printed
 pub mod Realised
+pub mod FailingGoals
+pub mod FirstCommands
+pub mod Origins
+pub mod GivenConditions
+pub mod NeverMet
+pub mod ThreeVerdicts
 pub mod Decision
 pub mod Onwards
 pub mod GoingOn

@@ -108,12 +108,8 @@ module _ (version : Version) (p : Source) where
       (subst (λ i. FreesAgree lowered (sample_placement values) i rest) (sym (past_steps version L p.nodes n m c))
       (made_free values lowered cs _ _ _ (next_point version n c) (next_number m c) d.1 h.2))
 
--- WHAT IS MADE
-module _ (version : Version) (p : Source) (l : LoweredForm) (i : IsLowered version p l) (values : List (Var × ℤ)) (before rest : List Command) (e : p.commands ≡ before ++ rest)
-    (at : ℕ → Triple) (h : AreMade version p (given_by version p values) (record { point = at; number = (given_by version p values).number }) 0 0 0 before) where
-  abbrev made : Placement
-  made = record { point = at; number = (given_by version p values).number }
-
+-- STEPS OF THE FIRST COMMANDS
+module _ (version : Version) (p : Source) (l : LoweredForm) (i : IsLowered version p l) (before rest : List Command) (e : p.commands ≡ before ++ rest) where
   abbrev in_front : List StepForm
   in_front = steps_from version (layout_of version p.commands) p.nodes 0 0 before
 
@@ -123,19 +119,30 @@ module _ (version : Version) (p : Source) (l : LoweredForm) (i : IsLowered versi
   last : past 0 in_front ≡ points_past version 0 before
   last = past_all version p before 0 0
 
-  pub meets_below : MeetsStepsBelow made l.construction (points_past version 0 before)
-  meets_below k s lt at_k =
+  -- a placement that meets them meets the steps of all points below the last of theirs
+  pub first_met : (placed : Placement) → AreFormsMet placed 0 in_front → MeetsStepsBelow placed l.construction (points_past version 0 before)
+  first_met placed met k s lt at_k =
       let q : 0 + k ≡ k = omega arith in
       let b : 0 + k < past 0 in_front = subst (λ n. 0 + k < n) (sym last) (omega (arith, lt)) in
-      subst (λ n. IsStepMet made l.construction.nodes n s) q
-      (front_met l.construction.nodes made in_front more.0 l.construction.steps 0 more.1 (made_met version p (given_by version p values) made before 0 0 0 h) k s b at_k)
+      subst (λ n. IsStepMet placed l.construction.nodes n s) q
+      (front_met l.construction.nodes placed in_front more.0 l.construction.steps 0 more.1 met k s b at_k)
+
+-- WHAT IS MADE
+module _ (version : Version) (p : Source) (l : LoweredForm) (i : IsLowered version p l) (values : List (Var × ℤ)) (before rest : List Command) (e : p.commands ≡ before ++ rest)
+    (at : ℕ → Triple) (h : AreMade version p (given_by version p values) (record { point = at; number = (given_by version p values).number }) 0 0 0 before) where
+  abbrev made : Placement
+  made = record { point = at; number = (given_by version p values).number }
+
+  pub meets_below : MeetsStepsBelow made l.construction (points_past version 0 before)
+  meets_below = first_met version p l i before rest e made (made_met version p (given_by version p values) made before 0 0 0 h)
 
   free_point : (a : PointId) → a.0 < points_past version 0 before → At l.construction.steps a.0 step.Point → SamePoint (at a.0) (sample_point values a.0)
   free_point a lt is_free =
       let q : 0 + a.0 ≡ a.0 = omega arith in
-      let b : 0 + a.0 < past 0 in_front = subst (λ n. 0 + a.0 < n) (sym last) (omega (arith, lt)) in
+      let b : 0 + a.0 < past 0 (in_front version p l i before rest e) = subst (λ n. 0 + a.0 < n) (sym (last version p l i before rest e)) (omega (arith, lt)) in
+      let ms = more version p l i before rest e in
       subst (λ n. SamePoint (at n) (sample_point values n)) q
-      (front_free l.construction.nodes made (sample_placement values) in_front more.0 l.construction.steps 0 more.1
+      (front_free l.construction.nodes made (sample_placement values) (in_front version p l i before rest e) ms.0 l.construction.steps 0 ms.1
       (made_free version p values made before 0 0 0 0 0 (laid_front version (layout_of version p.commands) before rest 0 0 0 0 0 (subst (λ cs. AreLaid version (layout_of version p.commands) 0 0 0 0 0 cs) e (laid_program version p.commands))) h) a.0 b is_free)
 
   pub has_values : HasValuesBelow made l.construction (points_past version 0 before) values

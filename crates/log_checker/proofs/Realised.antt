@@ -1,6 +1,7 @@
 -- The sample of an accepted log has one placement that meets its program.
 use Rattle.std.proofs.Common.{◌≡◌, ◌↔◌, ℕ, suc, ◌+◌, ◌<◌, ◌≤◌, ℤ, pos, List, [], ◌∷◌, map, length, append-nil, refl, sym, ◌∙◌, ap, subst, arith}
 use Rattle.std.proofs.lemmas.List.Elements.{recursion_from_All}
+use Rattle.std.specs.List.{AllByRecursion}
 use Rattle.geo_points.specs.declared.ids.PointId.{PointId}
 use Rattle.ring_laws.specs.Fraction.{Same, whole}
 use Rattle.geo_points.specs.Placements.{Placement, SamePoint}
@@ -33,20 +34,20 @@ use Rattle.geo_conditions.proofs.ConditionScopes.{program_over, program_statemen
 use Rattle.geo_conditions.proofs.LawProofs.{conditions_are_terms, goals_are_terms, placements_are_realised}
 use Rattle.geo_conditions.proofs.Listings.{listed_hold}
 use Rattle.geo_conditions.proofs.ValueLaws.{one_failure_breaks, values_fix_placements}
-use Rattle.proof_log.specs.declared.log.Verdict.TheVariants.{Proved, False, Impossible}
+use Rattle.proof_log.specs.declared.log.Verdict.TheVariants.{False}
 use Rattle.geo_logs.specs.Laws.{AreNamed, GivesConditions, GivesFailure, HoldBefore}
 use Rattle.geo_logs.specs.Logs.{Item, Subject}
 use Rattle.geo_logs.specs.Placements.{HasValuesBelow, HoldsAsCondition}
 use Rattle.geo_terms.specs.TermBounds.{IsTermBelow}
 use Rattle.geo_logs.specs.Samples.{sample_variables}
 use Rattle.geo_logs.proofs.TermVariables.{term_sound}
-use Rattle.log_checker.specs.Laws.{AcceptedSamplesAreMet, FalseBreaks, ImpossibleIsNeverMet, IsRealised, ProvedIsTrue}
+use Rattle.log_checker.specs.Laws.{AcceptedSamplesAreMet, IsRealised}
 use Rattle.log_checker.proofs.Made.{front_free, given_by, sample_placement, sample_point}
 use Rattle.log_checker.proofs.Names.{condition_below, goal_below, goals_over}
 use Rattle.log_checker.proofs.Places.{At, each_at, map-length, of_map}
 use Rattle.log_checker.proofs.Printed.{has_sample_values, sample_values, values_printed}
 use Rattle.log_checker.proofs.Ready.{log_condition, terms_nonzero, terms_ready}
-use Rattle.log_checker.proofs.Verdicts.{Parts, accepted_verdicts_hold, log_goal, parts_of, shown_by}
+use Rattle.log_checker.proofs.Verdicts.{Parts, log_goal, parts_of, shown_by}
 
 past-length : (n : ℕ) (fs : List StepForm) → past n fs ≡ n + length fs
 past-length n [] = omega arith
@@ -65,13 +66,13 @@ module _ (p : Source) (subject : Subject) (w : IsWellFormed p) (s : Parts p subj
   abbrev M : ℕ
   M = numbers_from 0 p.commands
 
-  abbrev X : ℕ
+  abbrev pub X : ℕ
   X = points_from 0 p.commands
 
-  abbrev Y : ℕ
+  abbrev pub Y : ℕ
   Y = params_past 0 p.commands
 
-  abbrev J : ℕ
+  abbrev pub J : ℕ
   J = lines_past 0 p.commands
 
   bounds : Bounds (layout_of v p.commands) X Y J N M
@@ -103,12 +104,15 @@ module _ (p : Source) (subject : Subject) (w : IsWellFormed p) (s : Parts p subj
         term_sound subject.construction item.term,
       )
 
+  pub listed_over : AllByRecursion (IsStatementOver p.nodes X Y) s.goals
+  listed_over =
+      listed_hold (λ (h : Statement). h) (IsStatementOver p.nodes X Y) (statement_goals p.nodes p.statement) [] s.goals s.listed_goals tt
+      (goals_over (layout_of v p.commands) X Y J N M subject.construction.params bounds few p.nodes p.statement (program_statement_over p w))
+
   pub goals_named : AreNamed subject.construction subject.goals
   goals_named i item at =
       let g = of_map (log_goal v p) s.goals i item (subst (λ items. At items i item) s.same_goals at) in
-      let over = listed_hold (λ (h : Statement). h) (IsStatementOver p.nodes X Y) (statement_goals p.nodes p.statement) [] s.goals s.listed_goals tt
-      (goals_over (layout_of v p.commands) X Y J N M subject.construction.params bounds few p.nodes p.statement (program_statement_over p w)) in
-      let o = each_at (λ (h : Statement). IsStatementOver p.nodes X Y h) s.goals i g.0 over g.1 in (
+      let o = each_at (IsStatementOver p.nodes X Y) s.goals i g.0 listed_over g.1 in (
         subst (λ n. IsTermBelow n subject.construction.params item.term) (sym steps_are)
             (subst (λ (t : Item). IsTermBelow N subject.construction.params t.term) (sym g.2) (goal_below (layout_of v p.commands) X Y J N M subject.construction.params bounds few p.nodes g.0 o)),
         term_sound subject.construction item.term,
@@ -153,7 +157,7 @@ module _ (p : Source) (subject : Subject) (w : IsWellFormed p) (s : Parts p subj
         unique = λ one other a b c d. values_fix_placements p (sample_values v p values) one other w a b c d;
       }
 
-      lowered_to : IsLoweredTo v p l (forgotten v p made.0) made.0
+      pub lowered_to : IsLoweredTo v p l (forgotten v p made.0) made.0
       lowered_to = record { well_formed = w; form = s.lowered; extends = forgotten-extends v p made.0; steps = made.1 }
 
       -- in it all conditions hold
@@ -168,20 +172,29 @@ module _ (p : Source) (subject : Subject) (w : IsWellFormed p) (s : Parts p subj
           (each_at (λ (g : Found). IsConditionMet p V g.condition) s.found i f.0 met f.1) in
           subst (λ (t : Item). HoldsAsCondition L t.term) (sym f.2) (record { has_value = z.0; nonzero = z.1 })
 
-      -- the statement does not hold there, where a goal fails
-      pub fails : (g : ℕ) → GivesFailure subject values (False g) → Holds p (forgotten v p made.0) → ⊥
-      fails g h holds =
-          let L = made.0 in let V = forgotten v p L in
-          let n = length subject.construction.steps in
-          let goal = of_map (log_goal v p) s.goals h.0 h.1 (subst (λ items. At items h.0 h.1) s.same_goals h.3) in
-          let zeros = recursion_from_All (IsZeroGoal v p L) s.goals ((goals_are_terms v p l V L s.goals lowered_to s.listed_goals).0 holds) in
-          let zero = each_at (IsZeroGoal v p L) s.goals h.0 goal.0 zeros goal.1 in
+      -- the goal that fails
+      pub failing : (g : ℕ) (h : GivesFailure subject values (False g)) → (goal : Statement) × At s.goals h.0 goal × (h.1 ≡ log_goal v p goal)
+      failing g h = of_map (log_goal v p) s.goals h.0 h.1 (subst (λ items. At items h.0 h.1) s.same_goals h.3)
+
+      -- its term is not 0 there
+      pub failing_not_zero : (g : ℕ) (h : GivesFailure subject values (False g)) → IsZeroGoal v p made.0 (failing g h).0 → ⊥
+      failing_not_zero g h zero =
+          let L = made.0 in
+          let goal = failing g h in
           let named = goals_named h.0 h.1 h.3 in
           let has : HasTreeValue L h.1.term = subst (λ (t : Item). HasTreeValue L t.term) (sym goal.2) zero.0 in
           let same : Same (tree_value L h.1.term) (whole (pos 0)) = subst (λ (t : Item). Same (tree_value L t.term) (whole (pos 0))) (sym goal.2) zero.1 in
           let apart = h.4 L (has_all_values L made.3 made.4) (subst (λ c. MeetsSteps L c) (sym s.built) made.1)
           (λ i item lt at. conditions_named i item at) all_hold_there named.0 named.1 has in
           not_same (tree_value L h.1.term) apart same
+
+      -- so the statement does not hold there
+      pub fails : (g : ℕ) → GivesFailure subject values (False g) → Holds p (forgotten v p made.0) → ⊥
+      fails g h holds =
+          let L = made.0 in
+          let goal = failing g h in
+          let zeros = recursion_from_All (IsZeroGoal v p L) s.goals ((goals_are_terms v p l (forgotten v p L) L s.goals lowered_to s.listed_goals).0 holds) in
+          failing_not_zero g h (each_at (IsZeroGoal v p L) s.goals h.0 goal.0 zeros goal.1)
 
       pub broken : (g : ℕ) → GivesFailure subject values (False g) → Breaks p (sample_values v p values)
       broken g h = one_failure_breaks p (sample_values v p values) (forgotten v p made.0) w (has_sample_values v p values (forgotten v p made.0) made.3 made.4) made.2 (fails g h)
@@ -195,21 +208,3 @@ accepted_samples_are_met p steps lines verdict a some =
       record { before = h.0; sample = h.1; split = h.2; printed = values_printed s.version p s.form h.1 s.lowered (h.3 ∙ ap (λ c. sample_variables c) s.built) },
       realised p a.subject a.well_formed s h.1 h.4,
     )
-
--- THE THREE VERDICTS
-pub proved_is_true : ProvedIsTrue
-proved_is_true p steps lines a =
-    let r = (accepted_samples_are_met p steps lines Proved a tt).2 in
-    record { placed = r.placed; meets = r.meets; holds = accepted_verdicts_hold p steps lines Proved a }
-
-pub false_breaks : FalseBreaks
-false_breaks p steps g lines a =
-    let s = parts_of p a.subject a.about in
-    let h = (shown_by p steps lines (False g) a).sample tt in (
-      sample_values s.version p h.1,
-      record { before = h.0; sample = h.1; split = h.2; printed = values_printed s.version p s.form h.1 s.lowered (h.3 ∙ ap (λ c. sample_variables c) s.built) },
-      broken p a.subject a.well_formed s h.1 h.4 g h.5,
-    )
-
-pub impossible_is_never_met : ImpossibleIsNeverMet
-impossible_is_never_met p steps k lines a = accepted_verdicts_hold p steps lines (Impossible k) a

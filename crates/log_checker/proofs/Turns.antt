@@ -4,51 +4,25 @@ use Rattle.std.specs.List.{AllByRecursion}
 use Rattle.std.proofs.lemmas.List.Elements.{recursion_from_All, All-from_recursion}
 use Rattle.geo_points.specs.Placements.{Placement}
 use Rattle.geo_program.specs.declared.statements.Statement.{Statement}
-use Rattle.geo_program.specs.declared.statements.Statement.TheVariants.{Equal, Collinear, Parallel, Perpendicular, Identical, Midpoint, SameLength, Harmonic, Concyclic}
 use Rattle.geo_program.specs.WellFormed.{Source}
-use Rattle.geo_terms.specs.Stores.{Store, tree_of}
-use Rattle.geo_terms.specs.Trees.{Tree, integer_leaf, parameter_leaf, area_leaf, pythagoras_leaf, ratio_leaf, negation, addition, subtraction, multiplication, division}
+use Rattle.geo_terms.specs.Stores.{Store}
 use Rattle.geo_terms.specs.Values.{HasTreeValue}
 use Rattle.geo_lowering.specs.Lowering.{Layout, LoweredForm, layout_of}
-use Rattle.geo_lowering.proofs.ConditionValues.{each_append, each_back}
+use Rattle.geo_lowering.proofs.ConditionValues.{each_back}
 use Rattle.geo_lowering.specs.declared.version.Version.{Version}
 use Rattle.geo_conditions.specs.Laws.{IsLoweredTo, IsZeroGoal}
 use Rattle.geo_conditions.specs.Lists.{AreGoals}
-use Rattle.geo_conditions.specs.Statements.{pair_goals, ratio_goals}
+use Rattle.geo_conditions.specs.Statements.{pair_goals}
 use Rattle.geo_conditions.specs.Terms.{goal_term}
 use Rattle.geo_conditions.specs.Truth.{Meets}
 use Rattle.geo_conditions.proofs.Listings.{all_hold, listed_hold}
 use Rattle.geo_conditions.proofs.TermValues.{goals_have_values}
+use Rattle.log_checker.proofs.PairGoals.{pairs_hold}
 use Rattle.log_checker.proofs.Prefixes.{fronted}
 
-module _ (l : Layout) (nodes : Store) (L : Placement) where
-  -- the goal's term has a value
-  abbrev pub HasTerm : Statement → Type 0
-  HasTerm s = HasTreeValue L (goal_term l nodes s)
-
-  -- those of the ratios always have one
-  ratio_terms : (e : Tree) → AllByRecursion HasTerm (ratio_goals e)
-  ratio_terms (integer_leaf z) = tt
-  ratio_terms (parameter_leaf t) = tt
-  ratio_terms (area_leaf a b c) = tt
-  ratio_terms (pythagoras_leaf a b c) = tt
-  ratio_terms (ratio_leaf a b c d) = ((tt, tt), tt)
-  ratio_terms (negation e) = ratio_terms e
-  ratio_terms (addition e f) = each_append HasTerm (ratio_goals e) (ratio_goals f) (ratio_terms e) (ratio_terms f)
-  ratio_terms (subtraction e f) = each_append HasTerm (ratio_goals e) (ratio_goals f) (ratio_terms e) (ratio_terms f)
-  ratio_terms (multiplication e f) = each_append HasTerm (ratio_goals e) (ratio_goals f) (ratio_terms e) (ratio_terms f)
-  ratio_terms (division e f) = each_append HasTerm (ratio_goals e) (ratio_goals f) (ratio_terms e) (ratio_terms f)
-
-  pair_terms : (s : Statement) → AllByRecursion HasTerm (pair_goals nodes s)
-  pair_terms (Equal e f) = each_append HasTerm (ratio_goals (tree_of nodes e)) (ratio_goals (tree_of nodes f)) (ratio_terms (tree_of nodes e)) (ratio_terms (tree_of nodes f))
-  pair_terms (Collinear a b c) = tt
-  pair_terms (Parallel a b c d) = tt
-  pair_terms (Perpendicular a b c d) = tt
-  pair_terms (Identical a b) = tt
-  pair_terms (Midpoint m a b) = tt
-  pair_terms (SameLength a b c d) = tt
-  pair_terms (Harmonic a b c d) = ((tt, tt), ((tt, tt), tt))
-  pair_terms (Concyclic a b c d) = tt
+-- the goal's term has a value
+abbrev pub HasTerm : Layout → Store → Placement → Statement → Type 0
+HasTerm l nodes L s = HasTreeValue L (goal_term l nodes s)
 
 -- an item of two joined lists is one of the first, or stands behind all of it
 module _ {A : Type 0} (H Z : A → Type 0) where
@@ -74,7 +48,7 @@ goals_in_turn version p l V L goals i listed m before after g e zeros =
     let H : Statement → Type 0 = HasTerm (layout_of version p.commands) p.nodes L in
     let Z : Statement → Type 0 = IsZeroGoal version p L in
     let front = fronted (λ (s : Statement). s) pairs (p.statement ∷ []) [] goals listed in
-    let terms : AllByRecursion H front.front = listed_hold (λ (s : Statement). s) H pairs [] front.front front.listing tt (pair_terms (layout_of version p.commands) p.nodes L p.statement) in
+    let terms : AllByRecursion H front.front = listed_hold (λ (s : Statement). s) H pairs [] front.front front.listing tt (pairs_hold H (λ a b c d. (tt, tt)) p.nodes p.statement) in
     ⊎_elim (λ (h : AllByRecursion H front.front → H g). h terms)
     (λ (h : AllByRecursion Z before → AllByRecursion Z front.front).
     let zero = (all_hold (λ (s : Statement). s) Z pairs [] front.front front.listing (h zeros)).1 in

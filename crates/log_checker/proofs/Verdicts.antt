@@ -1,27 +1,25 @@
 -- What accepted logs prove of programs.
 use Rattle.std.proofs.Common.{◌≡◌, ℕ, zero, suc, ◌<◌, List, [], ◌∷◌, map, length, refl, sym, ◌∙◌, ap, subst, arith}
-use Rattle.std.proofs.lemmas.List.Elements.{recursion_from_All, All-from_recursion}
+use Rattle.std.proofs.lemmas.List.Elements.{All-from_recursion}
 use Rattle.geo_points.specs.Placements.{Placement}
 use Rattle.geo_program.specs.declared.statements.Statement.{Statement}
 use Rattle.geo_program.specs.WellFormed.{Source, IsWellFormed}
 use Rattle.geo_terms.specs.Constructions.{IsConstruction, MeetsSteps}
 use Rattle.geo_lowering.specs.Lowering.{IsLowered, LoweredForm}
 use Rattle.geo_lowering.specs.declared.version.Version.{Version}
-use Rattle.geo_conditions.specs.Laws.{IsLoweredTo, IsNonzeroCondition, IsZeroGoal}
+use Rattle.geo_conditions.specs.Laws.{IsLoweredTo, IsZeroGoal}
 use Rattle.geo_conditions.specs.Lists.{AreConditions, AreGoals, Found, condition_item, goal_item}
-use Rattle.geo_conditions.specs.Truth.{Holds, IsImpossible, Meets}
+use Rattle.geo_conditions.specs.Truth.{Holds, Meets}
 use Rattle.geo_conditions.proofs.LawProofs.{goals_are_terms, placements_lower}
 use Rattle.proof_log.specs.declared.log.Line.{Line}
 use Rattle.proof_log.specs.declared.log.Verdict.{Verdict}
-use Rattle.proof_log.specs.declared.log.Verdict.TheVariants.{Proved, False, Impossible}
 use Rattle.geo_logs.specs.Laws.{SaysZero}
 use Rattle.log_checker.specs.Shown.{IsShown}
 use Rattle.geo_logs.specs.Logs.{Item, Subject}
-use Rattle.geo_logs.specs.Placements.{HoldsAsCondition}
 use Rattle.log_checker.proofs.AcceptedLogs.{accepted_true}
-use Rattle.log_checker.specs.Laws.{AcceptedVerdictsHold, IsAcceptedLog}
+use Rattle.log_checker.specs.Laws.{IsAcceptedLog}
 use Rattle.log_checker.specs.Subjects.{IsSubjectOf, log_item}
-use Rattle.log_checker.proofs.Places.{At, at_map, below, each_at, each_of, in_front, of_map, parted}
+use Rattle.log_checker.proofs.Places.{At, at_map, below, each_of, in_front, of_map, parted}
 use Rattle.log_checker.proofs.Ready.{log_condition}
 use Rattle.log_checker.proofs.Turns.{goals_in_turn}
 
@@ -81,17 +79,17 @@ module _ (p : Source) (subject : Subject) (w : IsWellFormed p) (s : Parts p subj
 
   module _ (lines : List Line) (verdict : Verdict) (shown : IsShown subject lines verdict) where
     -- ALL GOALS
-    -- all goals before a place have the value 0, where they are said to be
-    zero_below : (V L : Placement) → IsLoweredTo v p l V L → Meets p V → ((k : ℕ) → SaysZero verdict k) → (k : ℕ) (j : ℕ) (g : Statement) → j < k → At s.goals j g → IsZeroGoal v p L g
-    zero_below V L i m says zero j g lt at = absurd (omega (arith, lt))
-    zero_below V L i m says (suc k) j g lt at =
+    -- the goals before a place have the value 0, where they are said to be
+    pub zero_below : (V L : Placement) → IsLoweredTo v p l V L → Meets p V → (k : ℕ) → ((j : ℕ) → j < k → SaysZero verdict j) → (j : ℕ) (g : Statement) → j < k → At s.goals j g → IsZeroGoal v p L g
+    zero_below V L i m zero says j g lt at = absurd (omega (arith, lt))
+    zero_below V L i m (suc k) says j g lt at =
         let parts = parted s.goals j g at in
         let before = each_of (IsZeroGoal v p L) parts.before
-        (λ n h at_n. zero_below V L i m says k n h
+        (λ n h at_n. zero_below V L i m k (λ a b. says a (omega (arith, b))) n h
         (let u : n < length parts.before = below parts.before n h at_n in let e = parts.place in omega (arith, u, e, lt))
         (subst (λ gs. At gs n h) (sym parts.whole) (in_front parts.before (g ∷ parts.after) n h at_n))) in
         let has = goals_in_turn v p l V L s.goals i s.listed_goals m parts.before parts.after g parts.whole before in
-        (has, shown.zero j (log_goal v p g) (goal_at j g at) (says j) L (steps_built L i.steps) has)
+        (has, shown.zero j (log_goal v p g) (goal_at j g at) (says j lt) L (steps_built L i.steps) has)
 
     -- where all goals are said to be 0, the statement holds in every placement that meets the program
     pub holds_of_all : ((k : ℕ) → SaysZero verdict k) → (V : Placement) → Meets p V → Holds p V
@@ -100,25 +98,9 @@ module _ (p : Source) (subject : Subject) (w : IsWellFormed p) (s : Parts p subj
         let i : IsLoweredTo v p l V d.0 = record { well_formed = w; form = s.lowered; extends = d.1; steps = d.2 } in
         (goals_are_terms v p l V d.0 s.goals i s.listed_goals).1
         (All-from_recursion (IsZeroGoal v p d.0) s.goals
-        (each_of (IsZeroGoal v p d.0) s.goals (λ k g at. zero_below V d.0 i m says (suc k) k g (omega arith) at)))
-
-    -- CONDITIONS
-    pub never_met : (k : ℕ) → verdict ≡ Impossible k → IsImpossible p
-    never_met k is V m =
-        let d = placements_lower v p l V s.found w s.lowered s.listed m in
-        let n = shown.never k is in
-        let f = of_map (log_condition v p) s.found n.0 n.1 (subst (λ items. At items n.0 n.1) s.conditions n.3) in
-        let z = each_at (λ (g : Found). IsNonzeroCondition v p d.0 g.condition) s.found n.0 f.0 (recursion_from_All (λ (g : Found). IsNonzeroCondition v p d.0 g.condition) s.found d.3) f.1 in
-        n.4 d.0 (steps_built d.0 d.2) (subst (λ (t : Item). HoldsAsCondition d.0 t.term) (sym f.2) (record { has_value = z.0; nonzero = z.1 }))
+        (each_of (IsZeroGoal v p d.0) s.goals (λ k g at. zero_below V d.0 i m (suc k) (λ j lt. says j) k g (omega arith) at)))
 
 -- THE UNIVERSAL HALF
 pub shown_by : (p : Source) (steps : ℕ) (lines : List Line) (verdict : Verdict) (a : IsAcceptedLog p steps lines verdict) → IsShown a.subject lines verdict
 shown_by p steps lines verdict a =
     accepted_true a.subject steps a.left lines verdict (valid p a.subject a.well_formed (parts_of p a.subject a.about)) a.accepted
-
-pub accepted_verdicts_hold : AcceptedVerdictsHold
-accepted_verdicts_hold p steps lines Proved a =
-    holds_of_all p a.subject a.well_formed (parts_of p a.subject a.about) lines Proved (shown_by p steps lines Proved a) (λ k. tt)
-accepted_verdicts_hold p steps lines (False g) a = tt
-accepted_verdicts_hold p steps lines (Impossible k) a =
-    never_met p a.subject a.well_formed (parts_of p a.subject a.about) lines (Impossible k) (shown_by p steps lines (Impossible k) a) k refl

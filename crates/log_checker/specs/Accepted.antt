@@ -17,6 +17,7 @@ use Rattle.geo_logs.specs.Ends.{Ending, IsDefinedLog}
 use Rattle.geo_logs.specs.Logs.{IsAccepted, Subject}
 use Rattle.log_checker.specs.Laws.{EndsWithValues, IsAcceptedLog, IsRealised}
 use Rattle.log_checker.specs.Subjects.{IsSubjectOf, source_lines, version_number}
+use Rattle.log_checker.specs.VerdictNumbers.{FailsAt, HoldsNowhere}
 
 -- BYTES
 -- the bytes are a log of the well-formed program that is accepted with this verdict, within so many steps: the text of lines that may be
@@ -35,11 +36,12 @@ pub record PrintsValues (bytes : List ℕ) (verdict : Verdict) (v : ProgramValue
   pub ends : EndsWithValues lines verdict v
 
 -- what accepted bytes with this verdict say of their program. Proved: it is true, and the placement with the printed integers meets it.
--- False: the printed integers break it. Impossible: no placement meets it
+-- False: the printed integers break it, and the goal with this number is the first that fails there. Impossible: no placement meets it, and
+-- the condition with this number holds in none that meets what stands before it
 abbrev pub BytesMean : List ℕ → Source → Verdict → Type 0
 BytesMean bytes p Proved = IsTrueProgram p × ((v : ProgramValues) × PrintsValues bytes Proved v × IsRealised p v)
-BytesMean bytes p (False g) = (v : ProgramValues) × PrintsValues bytes (False g) v × IsRealised p v × Breaks p v
-BytesMean bytes p (Impossible k) = IsImpossible p
+BytesMean bytes p (False g) = (v : ProgramValues) × PrintsValues bytes (False g) v × IsRealised p v × Breaks p v × FailsAt p v g
+BytesMean bytes p (Impossible k) = IsImpossible p × HoldsNowhere p k
 
 -- accepted bytes mean what they say, whoever wrote them
 abbrev pub AcceptedBytesMean : Type 0

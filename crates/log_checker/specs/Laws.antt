@@ -14,6 +14,7 @@ use Rattle.geo_logs.specs.Laws.{HasSample}
 use Rattle.elim_apply.specs.LemmaTable.{lemma_table}
 use Rattle.geo_logs.specs.Logs.{IsAccepted, Subject}
 use Rattle.log_checker.specs.Subjects.{AreSampleValues, IsSubjectOf}
+use Rattle.log_checker.specs.VerdictNumbers.{FailsAt, HoldsNowhere}
 
 -- the lines are a log of the well-formed program that is accepted with this verdict, within so many steps
 pub record IsAcceptedLog (p : Source) (steps : ℕ) (lines : List Line) (verdict : Verdict) : Type 0 where
@@ -60,16 +61,16 @@ AcceptedSamplesAreMet =
 abbrev pub ProvedIsTrue : Type 0
 ProvedIsTrue = (p : Source) (steps : ℕ) (lines : List Line) → IsAcceptedLog p steps lines Proved → IsTrueProgram p
 
--- one that is accepted with False names a program that the integers of its sample break
+-- one that is accepted with False names a program that the integers of its sample break, and its first goal that fails there
 abbrev pub FalseBreaks : Type 0
 FalseBreaks =
     (p : Source) (steps g : ℕ) (lines : List Line) → IsAcceptedLog p steps lines (False g)
-    → (v : ProgramValues) × EndsWithValues lines (False g) v
-    × Breaks p v
+    → (v : ProgramValues) × EndsWithValues lines (False g) v × Breaks p v × FailsAt p v g
 
--- one that is accepted with Impossible names a program that no placement meets
+-- one that is accepted with Impossible names a program that no placement meets, and its condition that holds nowhere
 abbrev pub ImpossibleIsNeverMet : Type 0
-ImpossibleIsNeverMet = (p : Source) (steps k : ℕ) (lines : List Line) → IsAcceptedLog p steps lines (Impossible k) → IsImpossible p
+ImpossibleIsNeverMet =
+    (p : Source) (steps k : ℕ) (lines : List Line) → IsAcceptedLog p steps lines (Impossible k) → IsImpossible p × HoldsNowhere p k
 
 -- DECISION
 -- the statement does not hold in some placement that meets the program

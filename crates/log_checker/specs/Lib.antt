@@ -1,5 +1,6 @@
 pub mod Shown
 pub mod Subjects
+pub mod VerdictNumbers
 pub mod Laws
 pub mod Accepted
 pub mod Begun

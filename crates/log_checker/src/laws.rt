@@ -34,12 +34,14 @@ pub fn proved_is_true()
     ensures { ProvedIsTrue }
 {}
 
-/// An accepted log with False names a program that its printed integers break.
+/// An accepted log with False names a program that its printed integers break, and the first goal
+/// that fails there.
 pub fn false_breaks()
     ensures { FalseBreaks }
 {}
 
-/// An accepted log with Impossible names a program that no placement meets.
+/// An accepted log with Impossible names a program that no placement meets, and a condition that
+/// holds in none that meets what stands before it.
 pub fn impossible_is_never_met()
     ensures { ImpossibleIsNeverMet }
 {}
@@ -64,8 +66,10 @@ pub fn defined_logs_are_accepted()
     ensures { DefinedLogsAreAccepted }
 {}
 
-/// What accepted bytes say of their program: with Proved it is true, with False the printed
-/// integers break it, and with Impossible no placement meets it.
+/// What accepted bytes say of their program: with Proved it is true; with False the printed
+/// integers break it, and the goal with the number is the first that fails there; with Impossible
+/// no placement meets it, and the condition with the number holds in none that meets what stands
+/// before it.
 pub fn accepted_bytes_mean()
     ensures { AcceptedBytesMean }
 {}

@@ -1,4 +1,4 @@
-use Rattle.log_checker.proofs.Verdicts.{accepted_verdicts_hold}
+use Rattle.log_checker.proofs.ThreeVerdicts.{accepted_verdicts_hold}
 use Rattle.log_checker.proofs.laws.accepted_verdicts_hold.Goals as goal
 
 pub returns : goal.returns

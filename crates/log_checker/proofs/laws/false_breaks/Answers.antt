@@ -1,4 +1,4 @@
-use Rattle.log_checker.proofs.Realised.{false_breaks}
+use Rattle.log_checker.proofs.ThreeVerdicts.{false_breaks}
 use Rattle.log_checker.proofs.laws.false_breaks.Goals as goal
 
 pub returns : goal.returns

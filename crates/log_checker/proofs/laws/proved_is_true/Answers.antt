@@ -1,4 +1,4 @@
-use Rattle.log_checker.proofs.Realised.{proved_is_true}
+use Rattle.log_checker.proofs.ThreeVerdicts.{proved_is_true}
 use Rattle.log_checker.proofs.laws.proved_is_true.Goals as goal
 
 pub returns : goal.returns
