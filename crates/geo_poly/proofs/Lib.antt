@@ -59,3 +59,8 @@ pub mod Dividing
 pub mod ZeroFactors
 pub mod TickBounds
 pub mod KnownVariables
+pub mod FactoredTerms
+pub mod NestedSums
+pub mod FactorPaths
+pub mod MultipliedIn
+pub mod PendingTerms

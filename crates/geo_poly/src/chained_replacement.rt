@@ -76,7 +76,7 @@ pub(crate) fn stored_rows(
 }
 
 /// A chain of the one pair.
-fn one_term_chain(arena: &mut Arena, key: u64, coefficient: i128) -> Result<Chain, NoMemory>
+pub(crate) fn one_term_chain(arena: &mut Arena, key: u64, coefficient: i128) -> Result<Chain, NoMemory>
     ensures chain { IfOk result
         (λ c. list_of arena.new c ≡ Some ((key, coefficient) ∷ [])) }
     ensures adds { IfOk result (AddsChain arena.old arena.new) }
@@ -89,7 +89,7 @@ fn one_term_chain(arena: &mut Arena, key: u64, coefficient: i128) -> Result<Chai
 }
 
 /// The chain times the list. The chain is spent, also where there is no memory.
-fn times_list<L: Ledger>(
+pub(crate) fn times_list<L: Ledger>(
     alloc: Global,
     store: &mut Monos,
     arena: &mut Arena,
@@ -156,7 +156,7 @@ fn times_list_by_halves<L: Ledger>(
 }
 
 /// Whether the list is that of the polynomial 1.
-fn is_one(list: &[Indexed]) -> bool
+pub(crate) fn is_one(list: &[Indexed]) -> bool
     ensures { IsTrue result → list.now ≡ (record { 0 = 0 }, pos 1) ∷ [] }
 {
     match list {
@@ -210,7 +210,7 @@ fn times_power_chain<L: Ledger>(
 }
 
 /// The list at a place.
-fn list_at(lists: &[IndexList], i: usize) -> &[Indexed]
+pub(crate) fn list_at(lists: &[IndexList], i: usize) -> &[Indexed]
     requires { i < length lists.now }
     ensures { slice_get lists.now i ≡ Some result.now }
 {
@@ -218,7 +218,7 @@ fn list_at(lists: &[IndexList], i: usize) -> &[Indexed]
 }
 
 /// The index of the monomial of the variables with no row. The numbers tell where to look first.
-fn stored_others(
+pub(crate) fn stored_others(
     store: &mut Monos,
     vars: &[Var],
     rows: &RowTable,
