@@ -64,3 +64,4 @@ pub mod NestedSums
 pub mod FactorPaths
 pub mod MultipliedIn
 pub mod PendingTerms
+pub mod JoinedParts
