@@ -208,3 +208,18 @@ counted_place rows [] i v r within at e bounded some = absurd (omega arith)
 counted_place rows (w ∷ m) zero v r within at e bounded some =
     counted_row rows v.0 r bounded e (subst (λ (x : Var × ℕ). IsNonzeroRow (row_of rows x.0)) (sym at) some.0)
 counted_place rows (w ∷ m) (suc i) v r within at e bounded some = counted_place rows m i v r (omega arith) at e bounded some.1
+
+-- a place within the rows has one
+row_there : (rows : List Row) (i : ℕ) → i < length rows → slice_get rows i ≡ None → ⊥
+row_there [] i within e = omega (arith, within)
+row_there (r ∷ rows) zero within e = let q : ◌≡◌ {A = Option Row} None (Some r) = sym e in cc
+row_there (r ∷ rows) (suc i) within e = row_there rows i (omega arith) e
+
+-- one more variable, whose row stands at a place
+pub Path-place : (rows : List Row) (den : Piece) (v : Var × ℕ) (done : Powers) (lacking : ℕ) (ks : List ℕ) (i : ℕ) → i < length rows → slice_get rows i ≡ row_of rows v.0
+    → ((r : Row) → row_of rows v.0 ≡ Some r → 1 ≤ r.num.count) → Path rows den done lacking ks → Path rows den (done ++ v ∷ []) lacking (ks ++ replicate v.1 (i + 1))
+Path-place rows den v done lacking ks i within at counts h = go (slice_get rows i) refl
+  where
+    go : (o : Option Row) → slice_get rows i ≡ o → Path rows den (done ++ v ∷ []) lacking (ks ++ replicate v.1 (i + 1))
+    go None e = absurd (row_there rows i within e)
+    go (Some r) e = Path-some rows den v done lacking ks i r e (sym at ∙ e) (counts r (sym at ∙ e)) h

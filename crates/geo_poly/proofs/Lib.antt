@@ -65,3 +65,4 @@ pub mod FactorPaths
 pub mod MultipliedIn
 pub mod PendingTerms
 pub mod JoinedParts
+pub mod TermPlaces
