@@ -80,7 +80,7 @@ Path-start rows den lacking h =
       degree = λ d. ap (λ (qs : List Piece). degree_with qs d) same ∙ degree_same den lacking d;
       counts = λ n. ap (λ (qs : List Piece). count_with qs n) same ∙ count_same den lacking n;
       some = subst AllSome (sym same) (some_same den lacking h);
-      long = omega (arith, length-replicate lacking 0);
+      long = omega (arith, length-replicate {A = ℕ} lacking 0);
     }
 
 -- THE ORDER OF THE FACTORS DOES NOT MATTER

@@ -31,10 +31,10 @@ use Rattle.geo_poly.proofs.PolynomialLaws.{coefficients_add}
 use Rattle.geo_poly.proofs.ReplaceTerms.{IsCanonical-polynomial_of, IsMonomial-others}
 
 -- TWO CHAINS, MERGED INTO THE FIRST
-module _ (vars : List Var) (s1 s2 : Links) (kept : Keeps s1 s2) (a0 a1 a2 a3 : Chains) (sum rest whole : ℕ) (list : Pairs) (p q w : Summands) (adds : AddsChain a0 a1 sum)
+module _ (vars : List Var) (s1 s2 : Links) (kept : Keeps s1 s2) (a0 a1 a2 a3 : Chains) (sum rest whole : ℕ) (p q w : Summands) (adds : AddsChain a0 a1 sum)
     (more : AddsChain a1 a2 rest) (stands : StandsFor vars s1 a1 sum p) (second : StandsFor vars s2 a2 rest q) (is : whole ≡ sum) where
-  pub joined_adds : Merges a2 a3 sum rest list → AddsChain a0 a3 whole
-  joined_adds merges =
+  pub joined_adds : (list : Pairs) → Merges a2 a3 sum rest list → AddsChain a0 a3 whole
+  joined_adds list merges =
       subst (AddsChain a0 a3) (sym is) (AddsChain-merges a0 a1 a2 a3 sum rest list adds more (live-differs a1 sum rest stands.live more.unused) merges)
 
   pub joined_stands : StandsFor vars s2 a3 sum (sum_of (keyed_terms vars s2 (pairs_of a2 sum)) (keyed_terms vars s2 (pairs_of a2 rest))) → sum_of p q ≡ w → StandsFor vars s2 a3 whole w

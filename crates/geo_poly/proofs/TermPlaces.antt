@@ -36,7 +36,7 @@ degree_at rows den top (u ∷ q) (suc i) t within at h = degree_at rows den top 
 counts_at : (q : Summands) (i : ℕ) (t : Powers × ℤ) → i < length q → t ≡ get_or q i t → IsCanonical term_cmp coefficients q → eqb (unsigned_abs t.1) 0 ≡ false
 counts_at [] i t within at h = absurd (omega arith)
 counts_at (u ∷ q) zero t within at h = subst (λ (x : Powers × ℤ). eqb (unsigned_abs x.1) 0 ≡ false) (sym at) h.0
-counts_at (u ∷ q) (suc i) t within at h = counts_at q i t (omega arith) at h.1.1
+counts_at (u ∷ q) (suc i) t within at h = counts_at q i t (omega arith) at h.2
 
 pub replaceable_at : (setting : Setting) (p : Shared) (i : ℕ) → i < length p.list.now → AllVariables (Contains setting.vars.now) (told p)
     → CanReplace setting.rows.now setting.den.piece.now setting.top (told p) → IsReplaceable setting (told_term p (item p.list.now i))

@@ -1,7 +1,7 @@
 //! Terms of a polynomial that are to be replaced, with the factors that each is to get.
 
-ghost use Rattle.std.specs.Prelude.{◌≡◌, ◌-◌, ◌≤◌, ◌++◌, Contains, IfOk, OnOk};
-ghost use Rattle.std.specs.Prelude.{drop, replicate, take};
+ghost use Rattle.std.specs.Prelude.{◌≡◌, ◌+◌, ◌-◌, ◌<◌, ◌≤◌, ◌++◌, Contains, IfOk, OnOk};
+ghost use Rattle.std.specs.Prelude.{drop, length, replicate, take};
 ghost use Rattle.geo_poly.specs.Inner.Factored.{AreFactors, ArePending};
 ghost use Rattle.geo_poly.specs.Inner.TermFactors.{HasNoZero};
 ghost use Rattle.geo_poly.specs.Monomials.{IsMonomial};
@@ -11,6 +11,7 @@ ghost use Rattle.geo_poly.specs.Shared.{AreParts, IsIndexOf, told, told_powers};
 
 use crate::interning::number_at;
 use crate::reading::read_powers;
+use crate::replacement::Row;
 use crate::replacement_bounds::{has_zero, lacking_at};
 use crate::settings::Setting;
 use crate::shared::{Indexed, Shared};
@@ -77,6 +78,15 @@ fn push_factor(factors: &mut Vec<usize>, factor: usize, count: u32) -> Result<()
     Ok(())
 }
 
+/// The number of the factor that is the numerator of the row at a place.
+fn factor_of_row(rows: &[Row], place: usize) -> usize
+    requires { place < length rows.now }
+    ensures { result ≡ place + 1 }
+{
+    let _count = rows.len();
+    place + 1
+}
+
 /// The factors of a term: the denominators that it lacks, and then its numerators in order.
 fn factors_of(
     alloc: Global,
@@ -97,7 +107,7 @@ fn factors_of(
     for k in 0..powers.len() {
         let (v, e) = powers[k];
         if let Some(i) = setting.rows.find_place(v, number_at(numbers, k)) {
-            push_factor(&mut factors, i + 1, e)?;
+            push_factor(&mut factors, factor_of_row(setting.rows.rows(), i), e)?;
         }
     }
     Ok(factors)

@@ -133,7 +133,7 @@ times_factors-requires-in-Ok-clause-live g t c =
     let front = c.split_at.result.0.now in
     let back = c.split_at.result.1.now in
     let stands = joined_stands setting.vars.now c.nested_sum.new.store c.nested_sum-in_default.new.store c.in-Ok.ensures.kept c.args.arena.now c.nested_sum.new.arena c.nested_sum-in_default.new.arena c.summed-whole.new.arena
-    c.in_ok-sum-in_default.sum c.in-Ok.rest c.summed-whole.result _ _ _ (polynomial_of (factored_terms (map (told_pending setting p (c.args.depth + n)) es))) c.in_ok-sum-in_default.ensures.adds c.in-Ok.ensures.adds
+    c.in_ok-sum-in_default.sum c.in-Ok.rest c.summed-whole.result _ _ (polynomial_of (factored_terms (map (told_pending setting p (c.args.depth + n)) es))) c.in_ok-sum-in_default.ensures.adds c.in-Ok.ensures.adds
     c.in_ok-sum-in_default.ensures.chain c.in-Ok.ensures.chain c.summed-whole.ensures.chain c.summed-whole.ensures.sum (parts_sum setting c.args.store.now c.requires.set p (c.args.depth + n) es at front back c.split_at.ensures.front c.split_at.ensures.back) in
     stands.live
 
@@ -148,7 +148,7 @@ times_factors-requires-in-Ok-clause-keys g t c =
     let front = c.split_at.result.0.now in
     let back = c.split_at.result.1.now in
     let stands = joined_stands setting.vars.now c.nested_sum.new.store c.nested_sum-in_default.new.store c.in-Ok.ensures.kept c.args.arena.now c.nested_sum.new.arena c.nested_sum-in_default.new.arena c.summed-whole.new.arena
-    c.in_ok-sum-in_default.sum c.in-Ok.rest c.summed-whole.result _ _ _ (polynomial_of (factored_terms (map (told_pending setting p (c.args.depth + n)) es))) c.in_ok-sum-in_default.ensures.adds c.in-Ok.ensures.adds
+    c.in_ok-sum-in_default.sum c.in-Ok.rest c.summed-whole.result _ _ (polynomial_of (factored_terms (map (told_pending setting p (c.args.depth + n)) es))) c.in_ok-sum-in_default.ensures.adds c.in-Ok.ensures.adds
     c.in_ok-sum-in_default.ensures.chain c.in-Ok.ensures.chain c.summed-whole.ensures.chain c.summed-whole.ensures.sum (parts_sum setting c.args.store.now c.requires.set p (c.args.depth + n) es at front back c.split_at.ensures.front c.split_at.ensures.back) in
     stands.keys
 
@@ -163,7 +163,7 @@ times_factors-requires-in-Ok-clause-in_order g t c =
     let front = c.split_at.result.0.now in
     let back = c.split_at.result.1.now in
     let stands = joined_stands setting.vars.now c.nested_sum.new.store c.nested_sum-in_default.new.store c.in-Ok.ensures.kept c.args.arena.now c.nested_sum.new.arena c.nested_sum-in_default.new.arena c.summed-whole.new.arena
-    c.in_ok-sum-in_default.sum c.in-Ok.rest c.summed-whole.result _ _ _ (polynomial_of (factored_terms (map (told_pending setting p (c.args.depth + n)) es))) c.in_ok-sum-in_default.ensures.adds c.in-Ok.ensures.adds
+    c.in_ok-sum-in_default.sum c.in-Ok.rest c.summed-whole.result _ _ (polynomial_of (factored_terms (map (told_pending setting p (c.args.depth + n)) es))) c.in_ok-sum-in_default.ensures.adds c.in-Ok.ensures.adds
     c.in_ok-sum-in_default.ensures.chain c.in-Ok.ensures.chain c.summed-whole.ensures.chain c.summed-whole.ensures.sum (parts_sum setting c.args.store.now c.requires.set p (c.args.depth + n) es at front back c.split_at.ensures.front c.split_at.ensures.back) in
     joined_order setting c.args.store.now c.requires.set p c.args.depth n first es c.shared_factors-shared.ensures.shared c.requires.pending c.requires.norm (omega (arith, c.split_place.ensures.some, c.split_place.ensures.within)) c.front_of-factors.result.now c.front_of-factors.ensures
     (keyed_terms setting.vars.now c.nested_sum-in_default.new.store (pairs_of c.summed-whole.new.arena c.summed-whole.result)) stands.terms
@@ -179,7 +179,7 @@ times_factors-requires-in-Ok-clause-monomials g t c =
     let front = c.split_at.result.0.now in
     let back = c.split_at.result.1.now in
     let stands = joined_stands setting.vars.now c.nested_sum.new.store c.nested_sum-in_default.new.store c.in-Ok.ensures.kept c.args.arena.now c.nested_sum.new.arena c.nested_sum-in_default.new.arena c.summed-whole.new.arena
-    c.in_ok-sum-in_default.sum c.in-Ok.rest c.summed-whole.result _ _ _ (polynomial_of (factored_terms (map (told_pending setting p (c.args.depth + n)) es))) c.in_ok-sum-in_default.ensures.adds c.in-Ok.ensures.adds
+    c.in_ok-sum-in_default.sum c.in-Ok.rest c.summed-whole.result _ _ (polynomial_of (factored_terms (map (told_pending setting p (c.args.depth + n)) es))) c.in_ok-sum-in_default.ensures.adds c.in-Ok.ensures.adds
     c.in_ok-sum-in_default.ensures.chain c.in-Ok.ensures.chain c.summed-whole.ensures.chain c.summed-whole.ensures.sum (parts_sum setting c.args.store.now c.requires.set p (c.args.depth + n) es at front back c.split_at.ensures.front c.split_at.ensures.back) in
     joined_monomials setting c.args.store.now c.requires.set p c.args.depth n first es c.shared_factors-shared.ensures.shared c.requires.pending c.requires.norm (omega (arith, c.split_place.ensures.some, c.split_place.ensures.within)) c.front_of-factors.result.now c.front_of-factors.ensures
     (keyed_terms setting.vars.now c.nested_sum-in_default.new.store (pairs_of c.summed-whole.new.arena c.summed-whole.result)) stands.terms
@@ -195,7 +195,7 @@ times_factors-requires-in-Ok-clause-norm g t c =
     let front = c.split_at.result.0.now in
     let back = c.split_at.result.1.now in
     let stands = joined_stands setting.vars.now c.nested_sum.new.store c.nested_sum-in_default.new.store c.in-Ok.ensures.kept c.args.arena.now c.nested_sum.new.arena c.nested_sum-in_default.new.arena c.summed-whole.new.arena
-    c.in_ok-sum-in_default.sum c.in-Ok.rest c.summed-whole.result _ _ _ (polynomial_of (factored_terms (map (told_pending setting p (c.args.depth + n)) es))) c.in_ok-sum-in_default.ensures.adds c.in-Ok.ensures.adds
+    c.in_ok-sum-in_default.sum c.in-Ok.rest c.summed-whole.result _ _ (polynomial_of (factored_terms (map (told_pending setting p (c.args.depth + n)) es))) c.in_ok-sum-in_default.ensures.adds c.in-Ok.ensures.adds
     c.in_ok-sum-in_default.ensures.chain c.in-Ok.ensures.chain c.summed-whole.ensures.chain c.summed-whole.ensures.sum (parts_sum setting c.args.store.now c.requires.set p (c.args.depth + n) es at front back c.split_at.ensures.front c.split_at.ensures.back) in
     joined_norm setting c.args.store.now c.requires.set p c.args.depth n first es c.shared_factors-shared.ensures.shared c.requires.pending c.requires.norm (omega (arith, c.split_place.ensures.some, c.split_place.ensures.within)) c.front_of-factors.result.now c.front_of-factors.ensures
     (keyed_terms setting.vars.now c.nested_sum-in_default.new.store (pairs_of c.summed-whole.new.arena c.summed-whole.result)) stands.terms
@@ -211,7 +211,7 @@ times_factors-requires-in-Ok-clause-degree g t c =
     let front = c.split_at.result.0.now in
     let back = c.split_at.result.1.now in
     let stands = joined_stands setting.vars.now c.nested_sum.new.store c.nested_sum-in_default.new.store c.in-Ok.ensures.kept c.args.arena.now c.nested_sum.new.arena c.nested_sum-in_default.new.arena c.summed-whole.new.arena
-    c.in_ok-sum-in_default.sum c.in-Ok.rest c.summed-whole.result _ _ _ (polynomial_of (factored_terms (map (told_pending setting p (c.args.depth + n)) es))) c.in_ok-sum-in_default.ensures.adds c.in-Ok.ensures.adds
+    c.in_ok-sum-in_default.sum c.in-Ok.rest c.summed-whole.result _ _ (polynomial_of (factored_terms (map (told_pending setting p (c.args.depth + n)) es))) c.in_ok-sum-in_default.ensures.adds c.in-Ok.ensures.adds
     c.in_ok-sum-in_default.ensures.chain c.in-Ok.ensures.chain c.summed-whole.ensures.chain c.summed-whole.ensures.sum (parts_sum setting c.args.store.now c.requires.set p (c.args.depth + n) es at front back c.split_at.ensures.front c.split_at.ensures.back) in
     joined_degree setting c.args.store.now c.requires.set p c.args.depth n first es c.shared_factors-shared.ensures.shared c.requires.pending c.requires.norm (omega (arith, c.split_place.ensures.some, c.split_place.ensures.within)) c.front_of-factors.result.now c.front_of-factors.ensures
     (keyed_terms setting.vars.now c.nested_sum-in_default.new.store (pairs_of c.summed-whole.new.arena c.summed-whole.result)) stands.terms
@@ -227,7 +227,7 @@ returns-in-Ok-clause-chain g t c =
     let front = c.split_at.result.0.now in
     let back = c.split_at.result.1.now in
     let stands = joined_stands setting.vars.now c.nested_sum.new.store c.nested_sum-in_default.new.store c.in-Ok.ensures.kept c.args.arena.now c.nested_sum.new.arena c.nested_sum-in_default.new.arena c.summed-whole.new.arena
-    c.in_ok-sum-in_default.sum c.in-Ok.rest c.summed-whole.result _ _ _ (polynomial_of (factored_terms (map (told_pending setting p (c.args.depth + n)) es))) c.in_ok-sum-in_default.ensures.adds c.in-Ok.ensures.adds
+    c.in_ok-sum-in_default.sum c.in-Ok.rest c.summed-whole.result _ _ (polynomial_of (factored_terms (map (told_pending setting p (c.args.depth + n)) es))) c.in_ok-sum-in_default.ensures.adds c.in-Ok.ensures.adds
     c.in_ok-sum-in_default.ensures.chain c.in-Ok.ensures.chain c.summed-whole.ensures.chain c.summed-whole.ensures.sum (parts_sum setting c.args.store.now c.requires.set p (c.args.depth + n) es at front back c.split_at.ensures.front c.split_at.ensures.back) in
     IfOk-weaker c.times_factors-in-Ok.result _ _
     (λ v h. subst (λ (q : Summands). StandsFor setting.vars.now c.times_factors-in-Ok.new.store c.times_factors-in-Ok.new.arena v q) (joined_made setting c.args.store.now c.requires.set p c.args.depth n first es c.shared_factors-shared.ensures.shared c.requires.pending c.requires.norm (omega (arith, c.split_place.ensures.some, c.split_place.ensures.within)) c.front_of-factors.result.now c.front_of-factors.ensures
@@ -245,8 +245,8 @@ returns-in-Ok-clause-adds g t c =
     let front = c.split_at.result.0.now in
     let back = c.split_at.result.1.now in
     let adds = joined_adds setting.vars.now c.nested_sum.new.store c.nested_sum-in_default.new.store c.in-Ok.ensures.kept c.args.arena.now c.nested_sum.new.arena c.nested_sum-in_default.new.arena c.summed-whole.new.arena
-    c.in_ok-sum-in_default.sum c.in-Ok.rest c.summed-whole.result _ _ _ (polynomial_of (factored_terms (map (told_pending setting p (c.args.depth + n)) es))) c.in_ok-sum-in_default.ensures.adds c.in-Ok.ensures.adds
-    c.in_ok-sum-in_default.ensures.chain c.in-Ok.ensures.chain c.summed-whole.ensures.chain c.summed-whole.ensures.merges in
+    c.in_ok-sum-in_default.sum c.in-Ok.rest c.summed-whole.result _ _ (polynomial_of (factored_terms (map (told_pending setting p (c.args.depth + n)) es))) c.in_ok-sum-in_default.ensures.adds c.in-Ok.ensures.adds
+    c.in_ok-sum-in_default.ensures.chain c.in-Ok.ensures.chain c.summed-whole.ensures.chain _ c.summed-whole.ensures.merges in
     IfOk-weaker c.times_factors-in-Ok.result _ _ (λ v h. AddsChain-swaps c.args.arena.now c.summed-whole.new.arena c.times_factors-in-Ok.new.arena c.summed-whole.result v adds h) c.times_factors-in-Ok.ensures.swaps
 
 pub returns-in-Ok-clause-err : goal.returns-in-Ok-clause-err
@@ -260,8 +260,8 @@ returns-in-Ok-clause-err g t c =
     let front = c.split_at.result.0.now in
     let back = c.split_at.result.1.now in
     let adds = joined_adds setting.vars.now c.nested_sum.new.store c.nested_sum-in_default.new.store c.in-Ok.ensures.kept c.args.arena.now c.nested_sum.new.arena c.nested_sum-in_default.new.arena c.summed-whole.new.arena
-    c.in_ok-sum-in_default.sum c.in-Ok.rest c.summed-whole.result _ _ _ (polynomial_of (factored_terms (map (told_pending setting p (c.args.depth + n)) es))) c.in_ok-sum-in_default.ensures.adds c.in-Ok.ensures.adds
-    c.in_ok-sum-in_default.ensures.chain c.in-Ok.ensures.chain c.summed-whole.ensures.chain c.summed-whole.ensures.merges in
+    c.in_ok-sum-in_default.sum c.in-Ok.rest c.summed-whole.result _ _ (polynomial_of (factored_terms (map (told_pending setting p (c.args.depth + n)) es))) c.in_ok-sum-in_default.ensures.adds c.in-Ok.ensures.adds
+    c.in_ok-sum-in_default.ensures.chain c.in-Ok.ensures.chain c.summed-whole.ensures.chain _ c.summed-whole.ensures.merges in
     on_err_weaker c.times_factors-in-Ok.result (gave_back c.args.arena.now c.summed-whole.new.arena c.times_factors-in-Ok.new.arena c.summed-whole.result adds) c.times_factors-in-Ok.ensures.err
 
 pub returns-in-Ok-clause-kept : goal.returns-in-Ok-clause-kept
@@ -279,7 +279,7 @@ returns-in-Ok-clause-ticks g t c =
     let front = c.split_at.result.0.now in
     let back = c.split_at.result.1.now in
     let stands = joined_stands setting.vars.now c.nested_sum.new.store c.nested_sum-in_default.new.store c.in-Ok.ensures.kept c.args.arena.now c.nested_sum.new.arena c.nested_sum-in_default.new.arena c.summed-whole.new.arena
-    c.in_ok-sum-in_default.sum c.in-Ok.rest c.summed-whole.result _ _ _ (polynomial_of (factored_terms (map (told_pending setting p (c.args.depth + n)) es))) c.in_ok-sum-in_default.ensures.adds c.in-Ok.ensures.adds
+    c.in_ok-sum-in_default.sum c.in-Ok.rest c.summed-whole.result _ _ (polynomial_of (factored_terms (map (told_pending setting p (c.args.depth + n)) es))) c.in_ok-sum-in_default.ensures.adds c.in-Ok.ensures.adds
     c.in_ok-sum-in_default.ensures.chain c.in-Ok.ensures.chain c.summed-whole.ensures.chain c.summed-whole.ensures.sum (parts_sum setting c.args.store.now c.requires.set p (c.args.depth + n) es at front back c.split_at.ensures.front c.split_at.ensures.back) in
     let size = sym (length-map {B = Powers × ℤ} (pairs_of c.summed-whole.new.arena c.summed-whole.result) (keyed_term setting.vars.now c.nested_sum-in_default.new.store)) in
     let whole = joined_products setting c.args.store.now c.requires.set p c.args.depth n first es c.shared_factors-shared.ensures.shared c.requires.pending c.requires.norm (omega (arith, c.split_place.ensures.some, c.split_place.ensures.within)) c.front_of-factors.result.now c.front_of-factors.ensures
@@ -299,6 +299,20 @@ returns-in-Err-clause-ticks g t c =
     let whole = joined_products setting c.args.store.now c.requires.set p c.args.depth n first es c.shared_factors-shared.ensures.shared c.requires.pending c.requires.norm (omega (arith, c.split_place.ensures.some, c.split_place.ensures.within)) (take n first) refl
     (polynomial_of (factored_terms (map (told_pending setting p (c.args.depth + n)) es))) refl _ refl in
     omega (arith, c.in_ok-sum-in_default.ensures.ticks, c.in-Err.ensures.ticks, parts_products setting c.args.store.now c.requires.set p (c.args.depth + n) es at front back c.split_at.ensures.front c.split_at.ensures.back, whole)
+
+pub returns-in_err-sum-in_default-clause-ticks : goal.returns-in_err-sum-in_default-clause-ticks
+returns-in_err-sum-in_default-clause-ticks g t c =
+    let setting = c.args.setting.now in
+    let p = c.args.p.now in
+    let es = c.args.pending.now in
+    let first = c.factors_from-first.result.now in
+    let n = c.shared_factors-shared.result in
+    let at = c.split_place.result in
+    let front = c.split_at.result.0.now in
+    let back = c.split_at.result.1.now in
+    let whole = joined_products setting c.args.store.now c.requires.set p c.args.depth n first es c.shared_factors-shared.ensures.shared c.requires.pending c.requires.norm (omega (arith, c.split_place.ensures.some, c.split_place.ensures.within)) (take n first) refl
+    (polynomial_of (factored_terms (map (told_pending setting p (c.args.depth + n)) es))) refl _ refl in
+    omega (arith, c.in_err-sum-in_default.ensures.ticks, parts_products setting c.args.store.now c.requires.set p (c.args.depth + n) es at front back c.split_at.ensures.front c.split_at.ensures.back, whole)
 
 -- ONE TERM
 pub lone_chain-requires-clause-index : goal.lone_chain-requires-clause-index

@@ -31,11 +31,14 @@ loop-k-preserved c =
     let at : v ≡ get_or m k v = get_or_any m k none v c.loop-k-test.true in
     let more : take (c.loop-k.k + 1) m ≡ take c.loop-k.k m ++ v ∷ [] = take_more m k v c.loop-k-test.true at in
     elim c.match-find_place.branch [
-      | in-Some+in_ok-push_factor-2 w ↦ rw (w.factors-is, w.in_ok-push_factor-2.ensures, more)
+      | in-Some+in_ok-push_factor-2 w ↦ rw (w.factors-is, w.in_ok-push_factor-2.ensures, w.factor_of_row.ensures, more)
           (Path-place rows den v (take k m) c.args.lacking ks _ w.in-Some.ensures.within w.in-Some.ensures.row
           (λ r e. counted_place rows m k v r c.loop-k-test.true at e c.requires.rows c.requires.no_zero.numerators) c.loop-k.invariant)
       | in_default w ↦ rw (w.factors-is, more) (Path-none rows den v (take k m) c.args.lacking ks w.in_default.ensures.none c.loop-k.invariant)
     ]
+
+pub factor_of_row-requires : goal.factor_of_row-requires
+factor_of_row-requires c = omega (arith, c.in-Some.ensures.within, ap length c.rows.ensures)
 
 pub returns : goal.returns
 returns c =

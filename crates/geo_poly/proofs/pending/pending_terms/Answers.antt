@@ -10,7 +10,7 @@ use Rattle.geo_poly.proofs.PendingTerms.{Made, Made-all, Made-more, Made-none, M
 use Rattle.geo_poly.proofs.TermPlaces.{replaceable_at}
 use Rattle.geo_poly.proofs.Told.{index_at, item, length-terms_of, told-take}
 use Rattle.geo_poly.proofs.pending.pending_terms.Goals as goal
-use Rattle.geo_poly.proofs.pending.pending_terms.Goals.{then-has_zero, else-has_zero+in_ok-push}
+use Rattle.geo_poly.proofs.pending.pending_terms.Goals.{then-not-has_zero+in_ok-pending_term+in_ok-push, else-not-has_zero}
 
 pub loop-term-init : goal.loop-term-init
 loop-term-init c =
@@ -37,7 +37,7 @@ pub pending_term-requires-clause-monomial : goal.pending_term-requires-clause-mo
 pending_term-requires-clause-monomial c = (replaceable_at c.args.setting.now c.args.p.now c.loop-term.term-index c.loop-term-test.true c.requires.known c.requires.can).monomial
 
 pub pending_term-requires-clause-no_zero : goal.pending_term-requires-clause-no_zero
-pending_term-requires-clause-no_zero c = c.has_zero.ensures.nonzero c.if-has_zero.false
+pending_term-requires-clause-no_zero c = c.has_zero.ensures.nonzero c.if-not-has_zero.true
 
 pub loop-term-preserved : goal.loop-term-preserved
 loop-term-preserved c =
@@ -49,9 +49,9 @@ loop-term-preserved c =
     let es = c.loop-term.pending.items in
     let here = replaceable_at setting p i c.loop-term-test.true c.requires.known c.requires.can in
     let index = index_at p i c.loop-term-test.true c.requires.parts in
-    elim c.if-has_zero.branch [
-      | then-has_zero w ↦ rw (w.pending-is, told-take p i c.loop-term-test.true) (Made-zero setting p q t es (c.has_zero.ensures.zero w.if-has_zero.true t.1) c.loop-term.invariant)
-      | else-has_zero+in_ok-push w ↦
+    elim c.if-not-has_zero.branch [
+      | else-not-has_zero w ↦ rw (w.pending-is, told-take p i c.loop-term-test.true) (Made-zero setting p q t es (c.has_zero.ensures.zero w.if-not-has_zero.false t.1) c.loop-term.invariant)
+      | then-not-has_zero+in_ok-pending_term+in_ok-push w ↦
           let e = w.in_ok-pending_term.field-0 in
           let made = w.in_ok-pending_term.ensures in
           rw (w.pending-is, w.in_ok-push.ensures.items, told-take p i c.loop-term-test.true)
@@ -64,5 +64,5 @@ returns c =
     let setting = c.args.setting.now in
     let p = c.args.p.now in
     let es = c.loop-term.pending.items in
-    Made-all setting p (told p) es
-    (subst (λ (q : Summands). Made setting p q es) (take_all c.loop-term.term-index (told p) (omega (arith, length-terms_of p.vars.now p.monos.now p.list.now, c.loop-term-test.false))) c.loop-term.invariant)
+    let past = take_all c.loop-term.term-index (told p) (omega (arith, length-terms_of p.vars.now p.monos.now p.list.now, c.loop-term-test.false)) in
+    record { pending = Made-all setting p (told p) es (subst (λ (q : Summands). Made setting p q es) past c.loop-term.invariant) }
