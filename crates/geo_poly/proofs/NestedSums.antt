@@ -55,12 +55,14 @@ module _ (setting : Setting) (links : Links) (set : IsSet setting links) where
     pub all_within : (depth : ℕ) (es : List Pending) → All (IsPending setting p depth) es → AllWithin 65535 (map (told_pending setting p depth) es)
     all_within depth [] h = tt
     all_within depth (e ∷ es) h =
-        let first = All-head (IsPending setting p depth) e es h in
-        (record {
-          nonzero = some (unsigned_abs e.coefficient) first.nonzero;
-          monomial = IsMonomial-others rows (told_powers p e.id) first.monomial;
-          degree = first.degree;
-        }, all_within depth es (All-tail (IsPending setting p depth) e es h))
+        let first = All-head (IsPending setting p depth) e es h in (
+          record {
+            nonzero = some (unsigned_abs e.coefficient) first.nonzero;
+            monomial = IsMonomial-others rows (told_powers p e.id) first.monomial;
+            degree = first.degree;
+          },
+          all_within depth es (All-tail (IsPending setting p depth) e es h),
+        )
 
     -- WHAT ALL SHARE
     module _ (depth n : ℕ) (first : List ℕ) where
@@ -110,12 +112,14 @@ module _ (setting : Setting) (links : Links) (set : IsSet setting links) where
       lower : (es : List Pending) → All Shares es → All (IsPending setting p depth) es → AllWithin (65535 - degree_with shared 0) (map (told_pending setting p (depth + n)) es)
       lower [] h g = tt
       lower (e ∷ es) h g =
-          let here = All-head (IsPending setting p depth) e es g in
-          (record {
-            nonzero = some (unsigned_abs e.coefficient) here.nonzero;
-            monomial = IsMonomial-others rows (told_powers p e.id) here.monomial;
-            degree = omega (arith, deeper_degree e (All-head Shares e es h) here);
-          }, lower es (All-tail Shares e es h) (All-tail (IsPending setting p depth) e es g))
+          let here = All-head (IsPending setting p depth) e es g in (
+            record {
+              nonzero = some (unsigned_abs e.coefficient) here.nonzero;
+              monomial = IsMonomial-others rows (told_powers p e.id) here.monomial;
+              degree = omega (arith, deeper_degree e (All-head Shares e es h) here);
+            },
+            lower es (All-tail Shares e es h) (All-tail (IsPending setting p depth) e es g),
+          )
 
       few : (es : List Pending) → 1 ≤ length es → All Shares es → All (IsPending setting p depth) es → degree_with shared 0 ≤ 65535
       few [] l h g = absurd (omega arith)

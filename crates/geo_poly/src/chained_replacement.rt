@@ -76,7 +76,11 @@ pub(crate) fn stored_rows(
 }
 
 /// A chain of the one pair.
-pub(crate) fn one_term_chain(arena: &mut Arena, key: u64, coefficient: i128) -> Result<Chain, NoMemory>
+pub(crate) fn one_term_chain(
+    arena: &mut Arena,
+    key: u64,
+    coefficient: i128,
+) -> Result<Chain, NoMemory>
     ensures chain { IfOk result
         (λ c. list_of arena.new c ≡ Some ((key, coefficient) ∷ [])) }
     ensures adds { IfOk result (AddsChain arena.old arena.new) }

@@ -137,7 +137,13 @@ fn pending_term(
 {
     read_powers(p, term.0, powers, numbers)?;
     let lacking = lacking_at(p, term.0, setting.rows, setting.top);
-    let factors = factors_of(alloc, setting, powers.as_slice(), numbers.as_slice(), lacking)?;
+    let factors = factors_of(
+        alloc,
+        setting,
+        powers.as_slice(),
+        numbers.as_slice(),
+        lacking,
+    )?;
     Ok(Pending {
         id: term.0,
         coefficient: term.1,
