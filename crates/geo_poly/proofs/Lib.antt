@@ -48,7 +48,6 @@ pub mod Unions
 pub mod MergedVariables
 pub mod ChainSwaps
 pub mod ChainSums
-pub mod ReplacedHalves
 pub mod ZeroPut
 pub mod Entries
 pub mod Moved
