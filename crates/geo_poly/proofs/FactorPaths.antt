@@ -1,9 +1,9 @@
 -- The factors of a term, listed: what they make of it.
-use Rattle.std.proofs.Common.{◌≡◌, ℕ, zero, suc, ◌+◌, ◌*◌, ◌-◌, ◌^◌, ◌<◌, ◌≤◌, add-one, ℤ, Option, Some, None, List, [], ◌∷◌, ◌++◌, get_or, length, map, replicate, refl, sym, ap, ap₂, subst, ◌∙◌, arith}
-use Rattle.std.specs.Prelude.{◌≢◌, slice_get}
+use Rattle.std.proofs.Common.{◌≡◌, ℕ, zero, suc, ◌+◌, ◌*◌, ◌-◌, ◌^◌, ◌<◌, ◌≤◌, add-one, Option, Some, None, List, [], ◌∷◌, ◌++◌, get_or, length, replicate, refl, sym, ap, subst, ◌∙◌, arith}
+use Rattle.std.specs.Prelude.{slice_get}
 use Rattle.std.proofs.Math.Nat.{mul_assoc, mul_comm, mul-le-mul_left, mul-one, pow-suc, pow-zero}
 use Rattle.std.proofs.lemmas.List.{length-append, length-map, length-replicate, map-append}
-use Rattle.geo_poly.specs.Counted.{count_row, count_rows, exponent_row, replaced_exponents, term_products}
+use Rattle.geo_poly.specs.Counted.{count_row, count_rows, exponent_row, replaced_exponents}
 use Rattle.geo_poly.specs.declared.replacement.Piece.{Piece}
 use Rattle.geo_poly.specs.declared.replacement.Row.{Row}
 use Rattle.geo_poly.specs.declared.settings.Setting.{Setting}

@@ -1,5 +1,5 @@
 -- What a nested sum makes of one term, and of two parts that are added and get what all share.
-use Rattle.std.proofs.Common.{◌≡◌, ℕ, zero, suc, ◌+◌, ◌^◌, ◌<◌, ◌≤◌, ℤ, List, [], ◌∷◌, ◌++◌, drop, get_or, length, map, refl, sym, ap, ap₂, subst, ◌∙◌, take, unsigned_abs, arith}
+use Rattle.std.proofs.Common.{◌≡◌, ℕ, ◌+◌, ◌^◌, ◌<◌, ◌≤◌, ℤ, List, [], ◌∷◌, drop, get_or, length, map, sym, ap, ap₂, subst, ◌∙◌, take, unsigned_abs, arith}
 use Rattle.std.specs.Prelude.{All}
 use Rattle.std.proofs.lemmas.List.{append-nil}
 use Rattle.std.proofs.lemmas.List.Elements.{All-head}
@@ -11,7 +11,6 @@ use Rattle.poly_arena.specs.Chains.{Chains, Merges, Pairs, pairs_of}
 use Rattle.geo_poly.specs.Chained.{AddsChain, StandsFor, keyed_terms}
 use Rattle.geo_poly.specs.declared.pending.Pending.{Pending}
 use Rattle.geo_poly.specs.declared.replacement.Piece.{Piece}
-use Rattle.geo_poly.specs.declared.replacement.Row.{Row}
 use Rattle.geo_poly.specs.declared.settings.Setting.{Setting}
 use Rattle.geo_poly.specs.declared.shared.Shared.{Shared}
 use Rattle.geo_poly.specs.declared.variables.Var.{Var}

@@ -1,5 +1,5 @@
 -- A chain that is multiplied by factors, one after the other.
-use Rattle.std.proofs.Common.{◌≡◌, ℕ, zero, suc, ◌+◌, ◌*◌, ◌-◌, ◌^◌, ◌<◌, ◌≤◌, pos, ℤ, Some, List, [], ◌∷◌, ◌++◌, drop, get_or, length, map, refl, sym, ap, ap₂, subst, take, ◌∙◌, arith}
+use Rattle.std.proofs.Common.{◌≡◌, ℕ, zero, suc, ◌+◌, ◌*◌, ◌-◌, ◌^◌, ◌<◌, ◌≤◌, pos, Some, List, [], ◌∷◌, ◌++◌, drop, get_or, length, refl, sym, ap, subst, take, ◌∙◌, arith}
 use Rattle.std.specs.Prelude.{slice_get}
 use Rattle.std.proofs.Math.Nat.{mul-le-mul}
 use Rattle.std.proofs.lemmas.List.{map-append, take-append-drop}
@@ -19,7 +19,7 @@ use Rattle.geo_poly.specs.Shared.{Indices, named, powers_at, terms_of}
 use Rattle.geo_poly.proofs.ChainPowers.{orders}
 use Rattle.geo_poly.proofs.FactoredTerms.{CanMultiply-times_pieces, degree_with-append, degree_with-is, length-times_pieces-le, products_with-append, weight_with-append, weight_with-grows}
 use Rattle.geo_poly.proofs.NestedSums.{good_piece, good_pieces}
-use Rattle.geo_poly.proofs.PolynomialRing.{IsNormal, product_of-one}
+use Rattle.geo_poly.proofs.PolynomialRing.{product_of-one}
 
 -- THE LIST OF A FACTOR
 numerator_stored : (vars : List Var) (links : Links) (rows : List Row) (lists : List Indices) (den : Piece) (i : ℕ) (list : Indices) → AreStored vars links rows lists → slice_get lists i ≡ Some list

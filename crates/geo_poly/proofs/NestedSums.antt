@@ -1,6 +1,6 @@
 -- Nested sums: what terms share is multiplied in after they are added.
-use Rattle.std.proofs.Common.{◌≡◌, ℕ, zero, suc, ◌+◌, ◌-◌, ◌^◌, ◌<◌, ◌≤◌, eqb, false, ℤ, Some, List, [], ◌∷◌, ◌++◌, drop, get_or, length, map, refl, sym, ap, ap₂, subst, ◌∙◌, take, unsigned_abs, arith}
-use Rattle.std.specs.Prelude.{All, ◌≢◌, slice_get}
+use Rattle.std.proofs.Common.{◌≡◌, ℕ, zero, suc, ◌+◌, ◌-◌, ◌^◌, ◌<◌, ◌≤◌, List, [], ◌∷◌, ◌++◌, drop, length, map, refl, sym, ap, ap₂, ◌∙◌, take, unsigned_abs, arith}
+use Rattle.std.specs.Prelude.{All}
 use Rattle.std.proofs.lemmas.List.{drop-drop, map-append, take-append-drop}
 use Rattle.std.proofs.lemmas.List.Elements.{All-cons, All-head, All-nil, All-tail}
 use Rattle.std.proofs.lemmas.List.Sums.{sum_by-append}
@@ -13,11 +13,11 @@ use Rattle.geo_poly.specs.declared.shared.Shared.{Shared}
 use Rattle.geo_poly.specs.declared.variables.Var.{Var}
 use Rattle.geo_poly.specs.Inner.Factored.{Factored, IsPending, degree_with, factored_products, factored_terms, factored_weight, numerator_at, piece_of, pieces_of, products_with, times_pieces, told_pending, weight_with}
 use Rattle.geo_poly.specs.Inner.Settings.{AreStored, IsSet}
-use Rattle.geo_poly.specs.Monomials.{IsMonomial, Powers, degree_of}
+use Rattle.geo_poly.specs.Monomials.{degree_of}
 use Rattle.geo_poly.specs.Polynomials.{Summands, norm_of, polynomial_of, sum_of, total_degree}
-use Rattle.geo_poly.specs.Replace.{AllBounded, IsBounded, others}
+use Rattle.geo_poly.specs.Replace.{AllBounded, others}
 use Rattle.geo_poly.specs.Shared.{Indices, told_powers}
-use Rattle.geo_poly.proofs.FactoredTerms.{AllGood, AllGoodTerms, AllWithin, IsGood, IsWithin, degree_with-append, degree_with-is, factored_count, length-sum-le, norm_of-sum-le, products_with-mono, shared_products, shared_terms, shared_weight, sum_of_parts, total_degree-sum-le, weight_with-grows, weight_with-mono, with_pieces}
+use Rattle.geo_poly.proofs.FactoredTerms.{AllGood, AllGoodTerms, AllWithin, IsGood, degree_with-append, degree_with-is, factored_count, length-sum-le, norm_of-sum-le, products_with-mono, shared_products, shared_terms, shared_weight, sum_of_parts, total_degree-sum-le, weight_with-grows, weight_with-mono, with_pieces}
 use Rattle.geo_poly.proofs.ChainPowers.{some}
 use Rattle.geo_poly.proofs.ReplaceTerms.{IsMonomial-others}
 

@@ -1,5 +1,5 @@
 -- The terms of a polynomial with their factors, one after the other, and in any order.
-use Rattle.std.proofs.Common.{◌≡◌, ℕ, ◌+◌, ◌-◌, ◌≤◌, eqb, ℤ, List, [], ◌∷◌, ◌++◌, get_or, length, map, refl, sym, ap, ap₂, subst, ◌∙◌, take, drop, unsigned_abs, arith}
+use Rattle.std.proofs.Common.{◌≡◌, ℕ, ◌≤◌, ℤ, List, [], ◌∷◌, ◌++◌, map, refl, sym, ap, ap₂, subst, ◌∙◌, unsigned_abs, arith}
 use Rattle.std.specs.Prelude.{All, Contains, ◌≢◌}
 use Rattle.std.specs.List.Sorted.{IsPermutation}
 use Rattle.std.proofs.lemmas.List.{append-nil, map_push}
@@ -13,10 +13,10 @@ use Rattle.geo_poly.specs.declared.replacement.Piece.{Piece}
 use Rattle.geo_poly.specs.declared.replacement.Row.{Row}
 use Rattle.geo_poly.specs.declared.settings.Setting.{Setting}
 use Rattle.geo_poly.specs.declared.shared.Shared.{Shared}
-use Rattle.geo_poly.specs.Inner.Factored.{AreFactors, ArePending, Factored, IsPending, degree_with, factored_products, factored_terms, factored_weight, pieces_of, products_with, times_pieces, told_pending, weight_with}
+use Rattle.geo_poly.specs.Inner.Factored.{AreFactors, ArePending, Factored, IsPending, factored_products, factored_terms, factored_weight, products_with, times_pieces, told_pending, weight_with}
 use Rattle.geo_poly.specs.Monomials.{IsMonomial, Powers, degree_of}
 use Rattle.geo_poly.specs.Polynomials.{Summands, polynomial_of}
-use Rattle.geo_poly.specs.Replace.{denominators, others, replaced_term, replaced_terms, term_degree, term_weight, weight_of}
+use Rattle.geo_poly.specs.Replace.{others, replaced_term, replaced_terms, term_degree, term_weight, weight_of}
 use Rattle.geo_poly.specs.Shared.{IsIndexOf, told_powers}
 use Rattle.geo_poly.proofs.FactoredTerms.{any_order, factored_terms-append}
 use Rattle.geo_poly.proofs.ReplaceTerms.{replaced_terms-append}

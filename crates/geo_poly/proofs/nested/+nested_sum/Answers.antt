@@ -1,14 +1,13 @@
-use Rattle.std.proofs.Common.{◌≡◌, ℕ, ◌+◌, ◌*◌, ◌^◌, ◌<◌, ◌≤◌, ℤ, List, [], ◌∷◌, ◌++◌, drop, length, map, refl, rules, sym, ap, ap₂, subst, take, ◌∙◌, arith}
+use Rattle.std.proofs.Common.{◌≡◌, ◌+◌, ℤ, List, [], ◌∷◌, length, map, refl, rules, sym, subst, take, arith}
 use Rattle.std.specs.Prelude.{All}
 use Rattle.std.proofs.lemmas.List.{length-map}
 use Rattle.std.proofs.lemmas.List.Elements.{All-drop, All-take}
 use Rattle.std.proofs.lemmas.Result.{IfOk-weaker, on_err_weaker}
 use Rattle.mono_store.proofs.Interning.{Keeps_trans}
 use Rattle.poly_arena.specs.Chains.{pairs_of}
-use Rattle.sparse_lists.specs.SparseLists.{AllKeys, IsCanonical}
 use Rattle.geo_poly.specs.Chained.{StandsFor, keyed_term, keyed_terms}
 use Rattle.geo_poly.specs.declared.pending.Pending.{Pending}
-use Rattle.geo_poly.specs.Inner.Factored.{factored_terms, factored_weight, IsPending, told_pending}
+use Rattle.geo_poly.specs.Inner.Factored.{factored_terms, IsPending, told_pending}
 use Rattle.geo_poly.specs.Monomials.{Powers}
 use Rattle.geo_poly.specs.Polynomials.{Summands, polynomial_of}
 use Rattle.geo_poly.proofs.ChainSteps.{gave_back}

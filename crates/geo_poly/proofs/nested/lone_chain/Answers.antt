@@ -1,14 +1,11 @@
-use Rattle.std.proofs.Common.{◌≡◌, ℤ, [], ◌∷◌, FitsSigned, rules, sym, ap, ap₂, subst, ◌∙◌, to_z, of_z}
+use Rattle.std.proofs.Common.{ℤ, [], ◌∷◌, FitsSigned, rules, sym, ap, ap₂, subst, ◌∙◌}
 use Rattle.std.specs.Int.{w128}
 use Rattle.std.proofs.lemmas.Int.{to_z-of_z}
 use Rattle.std.proofs.lemmas.Result.{IfOk-weaker}
 use Rattle.sparse_lists.specs.SparseLists.{AllKeys}
 use Rattle.std.specs.Prelude.{Contains}
-use Rattle.geo_poly.specs.Chained.{StandsFor}
 use Rattle.geo_poly.specs.Monomials.{IsMonomial, Powers}
-use Rattle.geo_poly.specs.Polynomials.{Summands}
 use Rattle.geo_poly.specs.Replace.{others}
-use Rattle.geo_poly.specs.Shared.{told_powers}
 use Rattle.geo_poly.proofs.ChainSteps.{StandsFor-list}
 use Rattle.geo_poly.proofs.nested.lone_chain.Goals as goal
 

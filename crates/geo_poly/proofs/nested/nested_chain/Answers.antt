@@ -1,4 +1,4 @@
-use Rattle.std.proofs.Common.{◌≡◌, ◌+◌, ◌^◌, ◌<◌, ◌≤◌, List, map, sym, ap, subst, ◌∙◌, arith}
+use Rattle.std.proofs.Common.{List, sym, subst, arith}
 use Rattle.std.proofs.lemmas.Result.{IfOk-weaker}
 use Rattle.geo_poly.specs.Chained.{StandsFor}
 use Rattle.geo_poly.specs.declared.pending.Pending.{Pending}

@@ -1,4 +1,4 @@
-use Rattle.std.proofs.Common.{◌≡◌, ℕ, ◌+◌, ◌-◌, ◌<◌, ◌≤◌, List, [], ◌∷◌, ◌++◌, ◌∙◌, get_or, length, replicate, sym, ap, subst, take, arith}
+use Rattle.std.proofs.Common.{◌≡◌, ℕ, ◌+◌, List, [], ◌∷◌, ◌++◌, ◌∙◌, get_or, length, replicate, sym, ap, subst, take, arith}
 use Rattle.std.proofs.lemmas.List.{take_all}
 use Rattle.sparse_lists.proofs.Merging.{get_or_any}
 use Rattle.geo_poly.specs.declared.variables.Var.{Var}

@@ -1,4 +1,4 @@
-use Rattle.std.proofs.Common.{◌≡◌, ◌-◌, ◌∙◌, ap, subst, sym}
+use Rattle.std.proofs.Common.{◌-◌, ◌∙◌, ap, subst, sym}
 use Rattle.geo_poly.specs.Inner.Factored.{AreFactors}
 use Rattle.geo_poly.specs.Inner.TermFactors.{HasNoZero}
 use Rattle.geo_poly.specs.Monomials.{Powers}

@@ -1,9 +1,6 @@
-use Rattle.std.proofs.Common.{◌≡◌, ℤ, List, [], ◌∷◌, ◌++◌, ◌∙◌, ap₂, length, subst, sym, take, arith}
+use Rattle.std.proofs.Common.{ℤ, List, [], ap₂, subst, sym, take, arith}
 use Rattle.std.proofs.lemmas.List.{take_all}
 use Rattle.geo_poly.specs.declared.pending.Pending.{Pending}
-use Rattle.geo_poly.specs.Inner.Factored.{AreFactors}
-use Rattle.geo_poly.specs.Inner.TermFactors.{HasNoZero}
-use Rattle.geo_poly.specs.Monomials.{Powers}
 use Rattle.geo_poly.specs.Polynomials.{Summands}
 use Rattle.geo_poly.specs.Shared.{IsIndexOf, told, told_powers, told_term}
 use Rattle.geo_poly.proofs.PendingTerms.{Made, Made-all, Made-more, Made-none, Made-zero}

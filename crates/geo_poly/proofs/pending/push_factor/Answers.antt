@@ -1,4 +1,4 @@
-use Rattle.std.proofs.Common.{◌≡◌, List, ℕ, [], ◌∷◌, ◌++◌, append_assoc, replicate, sym, ap, ◌∙◌}
+use Rattle.std.proofs.Common.{List, ℕ, [], ◌∷◌, ◌++◌, append_assoc, replicate, sym, ap, ◌∙◌}
 use Rattle.std.proofs.lemmas.List.{append-nil, replicate_more}
 use Rattle.geo_poly.proofs.pending.push_factor.Goals as goal
 

@@ -1,4 +1,4 @@
-use Rattle.std.proofs.Common.{◌≡◌, ℕ, ◌+◌, ◌^◌, ◌<◌, drop, take}
+use Rattle.std.proofs.Common.{◌≡◌, ◌+◌, ◌^◌, ◌<◌, drop, take}
 use Rattle.std.specs.Prelude.{All}
 use Rattle.geo_poly.proofs.sharing.shared_factors.Given as goal
 
