@@ -35,18 +35,18 @@ use Rattle.log_checker.proofs.Reached.{beginnings_go_on}
 use Rattle.log_checker.proofs.Realised.{conditions_named, goals_named}
 use Rattle.log_checker.proofs.Verdicts.{parts_of, valid}
 use Rattle.log_checker.proofs.WritableLines.{next_lines_are_writable}
-use Rattle.geo_prover.specs.declared.errors.ProveError.{ProveError}
-use Rattle.geo_prover.specs.declared.errors.ProveError.TheVariants.{TooLarge, Spent, TooLong, WriteFault, NoMemory}
+use Rattle.log_maker.specs.declared.errors.ProveError.{ProveError}
+use Rattle.log_maker.specs.declared.errors.ProveError.TheVariants.{TooLarge, Spent, TooLong, WriteFault, NoMemory}
 use Rattle.geo_prover.specs.declared.summary.Summary.{Summary}
 use Rattle.geo_prover.specs.Proving.{Concludes, IsLogOf, StopsAt, WritesLog, WritesPart}
 use Rattle.geo_prover.specs.Inner.Answers.{IsAnswerOf}
 use Rattle.geo_prover.specs.Inner.FirstLines.{IsBrokenOffAmong, IsPartAmong}
-use Rattle.geo_prover.specs.Inner.Halting.{Finishes, Halts, IsBrokenOff, IsPieceOfNext, IsStopped, IsTooLong, Passes}
-use Rattle.geo_prover.specs.Inner.Parts.{CanWrite, IsInside, Part, items_of, log_part}
-use Rattle.geo_prover.specs.Inner.Tasks.{IsItemReady, IsReady, conditions_from}
-use Rattle.geo_prover.specs.Inner.Written.{State, Writes}
-use Rattle.geo_prover.proofs.Listing.{conditions_start}
-use Rattle.geo_prover.proofs.Passing.{log_text-append, text_length-append}
+use Rattle.log_maker.specs.Halting.{Finishes, Halts, IsBrokenOff, IsPieceOfNext, IsStopped, IsTooLong, Passes}
+use Rattle.log_maker.specs.Parts.{CanWrite, IsInside, Part, items_of, log_part}
+use Rattle.log_maker.specs.Tasks.{IsItemReady, IsReady, conditions_from}
+use Rattle.log_maker.specs.Written.{State, Writes}
+use Rattle.log_maker.proofs.Listing.{conditions_start}
+use Rattle.log_maker.proofs.Passing.{log_text-append, text_length-append}
 
 -- FRONTS
 take_front : (xs ys : List ℕ) → take (length xs) (xs ++ ys) ≡ xs

@@ -15,11 +15,11 @@ use Rattle.proof_log.specs.declared.log.Line.{Line}
 use Rattle.proof_log.specs.declared.log.Line.TheVariants.{Program as ProgramLine}
 use Rattle.proof_log.specs.Lines.{log_text}
 use Rattle.proof_log.specs.Writable.{HasNoLineFeed}
-use Rattle.geo_prover.specs.declared.errors.ProveError.{ProveError}
-use Rattle.geo_prover.specs.declared.errors.ProveError.TheVariants.{TooLarge, Spent, TooLong, WriteFault, NoMemory}
+use Rattle.log_maker.specs.declared.errors.ProveError.{ProveError}
+use Rattle.log_maker.specs.declared.errors.ProveError.TheVariants.{TooLarge, Spent, TooLong, WriteFault, NoMemory}
 use Rattle.geo_prover.specs.Inner.FirstLines.{IsBrokenOffAmong, IsPartAmong, IsTooLongAmong, pieces}
-use Rattle.geo_prover.specs.Inner.Written.{IsCutOff, IsUnwritten, State, Writes}
-use Rattle.geo_prover.proofs.Passing.{log_text-append, text_length-append, writes_more, writes_nothing}
+use Rattle.log_maker.specs.Written.{IsCutOff, IsUnwritten, State, Writes}
+use Rattle.log_maker.proofs.Passing.{log_text-append, text_length-append, writes_more, writes_nothing}
 
 -- THE FIRST LINE FEED
 abbrev passes : ℕ → Bool

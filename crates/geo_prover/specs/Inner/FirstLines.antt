@@ -5,9 +5,9 @@ use Rattle.geo_base.specs.Devices.{Grows, HasRisen}
 use Rattle.geo_logs.specs.Ends.{text_length}
 use Rattle.proof_log.specs.declared.log.Line.{Line}
 use Rattle.proof_log.specs.Lines.{log_text}
-use Rattle.geo_prover.specs.declared.errors.ProveError.{ProveError}
-use Rattle.geo_prover.specs.declared.errors.ProveError.TheVariants.{TooLarge, Spent, TooLong, WriteFault, NoMemory}
-use Rattle.geo_prover.specs.Inner.Written.{State}
+use Rattle.log_maker.specs.declared.errors.ProveError.{ProveError}
+use Rattle.log_maker.specs.declared.errors.ProveError.TheVariants.{TooLarge, Spent, TooLong, WriteFault, NoMemory}
+use Rattle.log_maker.specs.Written.{State}
 
 -- texts, each with its line feed
 abbrev pub pieces : List (List ℕ) → List ℕ

@@ -6,8 +6,8 @@ use Rattle.log_checker.specs.Subjects.{source_lines}
 use Rattle.log_checker.proofs.LineFeeds.{program_one_line}
 use Rattle.proof_log.specs.declared.log.Line.TheVariants.{Header, Program as ProgramLine}
 use Rattle.geo_prover.proofs.FirstLines.{broken_on, program_pieces, unwritten_first}
-use Rattle.geo_prover.proofs.Handing.{if_err}
-use Rattle.geo_prover.proofs.Passing.{writes_more}
+use Rattle.log_maker.proofs.Handing.{if_err}
+use Rattle.log_maker.proofs.Passing.{writes_more}
 use Rattle.geo_prover.proofs.program_lines.write_first_lines.Goals as goal
 
 pub returns-in_err-write-clause-err : goal.returns-in_err-write-clause-err

@@ -1,13 +1,13 @@
 use Rattle.std.proofs.Common.{◌<◌, ◌^◌, [], refl, arith}
 use Rattle.geo_program.specs.Programs.{source_of}
 use Rattle.geo_program.proofs.Propositions.{program_well_formed}
-use Rattle.geo_prover.specs.declared.errors.ProveError.TheVariants.{NoMemory}
-use Rattle.geo_prover.specs.Inner.Parts.{log_part}
-use Rattle.geo_prover.specs.Inner.Tasks.{conditions_from}
-use Rattle.geo_prover.specs.Inner.Written.{first_state, state}
+use Rattle.log_maker.specs.declared.errors.ProveError.TheVariants.{NoMemory}
+use Rattle.log_maker.specs.Parts.{log_part}
+use Rattle.log_maker.specs.Tasks.{conditions_from}
+use Rattle.log_maker.specs.Written.{first_state, state}
 use Rattle.geo_prover.proofs.Finishing.{can_write, concluded, halted, halted_among, left_of, nothing_written, past_program, ready, subject_of}
-use Rattle.geo_prover.proofs.Handing.{if_err}
-use Rattle.geo_prover.proofs.Passing.{can_write_on, finishes_on, halts_on}
+use Rattle.log_maker.proofs.Handing.{if_err}
+use Rattle.log_maker.proofs.Passing.{can_write_on, finishes_on, halts_on}
 use Rattle.geo_prover.proofs.proving.prove_all.Goals as goal
 
 pub returns-in_err-problem-clause-err : goal.returns-in_err-problem-clause-err

@@ -1,0 +1,5 @@
+pub mod Handing
+pub mod Passing
+pub mod Chaining
+pub mod Listing
+pub mod Sampling

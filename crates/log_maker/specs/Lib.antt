@@ -1,0 +1,5 @@
+pub mod Causes
+pub mod Written
+pub mod Parts
+pub mod Halting
+pub mod Tasks
