@@ -14,6 +14,8 @@ mod acceptance;
 mod answers;
 mod benching;
 mod checking;
+mod discovering;
+mod fixing;
 mod judging;
 mod numbers;
 mod order;

@@ -25,6 +25,10 @@ pub enum Command {
     Text,
     /// Prove the generated program of this number, from 1 to 60.
     Bench(u32),
+    /// Write all relations of a figure.
+    Discover,
+    /// Decide a program in the fixed frame.
+    Fixed,
 }
 
 /// A command, and the steps that it may take.
@@ -159,6 +163,8 @@ fn plain_command(name: &str) -> Option<Command>
         "prove" => Some(Command::Prove),
         "check" => Some(Command::Check),
         "text" => Some(Command::Text),
+        "discover" => Some(Command::Discover),
+        "fixed" => Some(Command::Fixed),
         _ => None,
     }
 }

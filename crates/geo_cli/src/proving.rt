@@ -15,7 +15,7 @@ use geo_prover::{ProveError, prove};
 use std::alloc::Global;
 
 /// The most bytes of a program.
-const PROGRAM_LIMIT: u64 = 1_048_576;
+pub const PROGRAM_LIMIT: u64 = 1_048_576;
 
 /// Reads a program to its end, and writes its log with so many steps, up to its verdict or to the
 /// line of a stop.
@@ -57,7 +57,7 @@ fn prove_bytes<K: Sink>(alloc: Global, bytes: &[u8], steps: u64, sink: &mut K) -
 }
 
 /// Tells why bytes spell no program.
-fn refuse<K: Sink>(alloc: Global, fault: Fault, sink: &mut K) -> Status
+pub fn refuse<K: Sink>(alloc: Global, fault: Fault, sink: &mut K) -> Status
     ensures answers { (bytes : List ℕ) → SpellsNone bytes fault → (steps : ℕ)
         → AnswersBytes steps bytes (K.faults sink.old) (K.faults sink.new)
         (K.held sink.old) (K.held sink.new) result }

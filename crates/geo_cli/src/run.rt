@@ -16,6 +16,8 @@ ghost use Rattle.proof_log.specs.declared.log.Verdict.{Verdict};
 use crate::answers::{USAGE, answer};
 use crate::benching::run_bench;
 use crate::checking::run_check;
+use crate::discovering::run_discover;
+use crate::fixing::run_fixed;
 use crate::order::{Command, Order, order_of};
 use crate::printing::run_text;
 use crate::proving::run_prove;
@@ -92,5 +94,7 @@ fn carry_out<S: Source, K: Sink>(
         Command::Check => run_check(alloc, order.steps, source, sink),
         Command::Text => run_text(alloc, order.steps, source, sink),
         Command::Bench(number) => run_bench(alloc, number, order.steps, sink),
+        Command::Discover => run_discover(alloc, order.steps, source, sink),
+        Command::Fixed => run_fixed(alloc, order.steps, source, sink),
     }
 }

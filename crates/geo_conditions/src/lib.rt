@@ -16,6 +16,7 @@ mod problem;
 mod program_conditions;
 mod program_items;
 mod renaming;
+mod restating;
 
 pub use conditions::{Condition, ListedCondition};
 pub use items::{Conditions, Goals, Item};

@@ -12,7 +12,8 @@ use Rattle.proof_log.specs.Lines.{line_text, log_text}
 use Rattle.geo_logs.specs.Ends.{Ending, ends_by, ends_with, too_long}
 use Rattle.log_checker.specs.Accepted.{Accepts}
 use Rattle.geo_prover.specs.Proving.{IsLogOf}
-use Rattle.geo_discover.specs.Candidates.{candidates, with_statement}
+use Rattle.geo_discover.specs.Candidates.{candidates}
+use Rattle.geo_program.specs.Relations.{with_statement}
 
 -- FINDINGS
 -- a candidate with its log

@@ -17,7 +17,7 @@ use geo_base::{Budget, Sink};
 use geo_lowering::Version;
 use geo_program::Program;
 use log_checker::versions::problem_by;
-use log_maker::{LogWriter, ProveError, work};
+use log_maker::{Frame, LogWriter, ProveError, work};
 use std::alloc::Global;
 
 /// Writes the defined log of the program, each line as soon as it is made: the header, the program,
@@ -72,7 +72,7 @@ fn prove_all<K: Sink>(
     let mut budget = Budget { left: steps };
     let mut log = LogWriter::new();
     write_first_lines(alloc, program, &mut log, sink)?;
-    let verdict = work(alloc, &problem, &mut numbers, &mut budget, &mut log, sink)?;
+    let verdict = work(alloc, Frame::Full, &problem, &mut numbers, &mut budget, &mut log, sink)?;
     Ok(Summary {
         verdict,
         lines: log.lines,

@@ -20,14 +20,16 @@ use Rattle.proof_log.specs.declared.log.Verdict.TheVariants.{Proved, False, Impo
 use Rattle.geo_logs.specs.Chains.{chain_lines}
 use Rattle.geo_logs.specs.Logs.{Item, known_by}
 use Rattle.geo_logs.specs.Places.{Place, before_line, before_sample}
-use Rattle.geo_logs.specs.Samples.{IsLeastSample}
 use Rattle.geo_logs.proofs.AcceptedProvers.{All-push}
 use Rattle.log_checker.specs.Subjects.{log_item}
 use Rattle.log_checker.proofs.Places.{each_at}
 use Rattle.log_maker.specs.declared.errors.ProveError.TheVariants.{NoMemory}
+use Rattle.log_maker.specs.declared.frame.Frame.{Frame}
+use Rattle.log_maker.specs.InFrame.{chosen_in}
+use Rattle.log_maker.specs.Sizes.{Fits}
 use Rattle.log_maker.specs.Halting.{Finishes, Halts, IsImpossibleAt, Passes, WorksChain}
-use Rattle.log_maker.specs.Parts.{CanWrite, IsInside, Part, chain_part, conditions_part, end_part, goals_part, here_part, items_of}
-use Rattle.log_maker.specs.Tasks.{IsConditionTask, IsGoalTask, IsItemReady, IsReady, conditions_from, goals_from}
+use Rattle.log_maker.specs.Parts.{IsInside, Part, chain_part, conditions_part, end_part, goals_part, here_part, items_of}
+use Rattle.log_maker.specs.Tasks.{IsConditionTask, IsGoalTask, IsItemReady, IsReady, conditions_before, conditions_from, goals_from}
 use Rattle.log_maker.specs.Written.{State, Writes}
 use Rattle.log_maker.proofs.Passing.{memory_in, passes_at_once, reaches, writes_more, writes_nothing}
 
@@ -49,21 +51,18 @@ some_at (x ∷ xs) zero h = (x, refl)
 some_at (x ∷ xs) (suc i) h = some_at xs i (omega (arith, h))
 
 -- what is due first
-module _ (c : Construction) where
-  goals_start : (known : List Var) (listed : List Summands) (k left : ℕ) (goals : List Item) → (place : Place) × (goals_part c known listed k left goals).begun [] place
+module _ (frame : Frame) (c : Construction) where
+  goals_start : (known : List Var) (listed : List Summands) (k left : ℕ) (goals : List Item) → (place : Place) × (goals_part frame c known listed k left goals).begun [] place
   goals_start known listed k left [] = (before_sample listed left, inl (refl, refl))
   goals_start known listed k left (item ∷ items) = (before_line (Goal k item.text), inl (inl (refl, refl)))
 
-  pub conditions_start : (goals : List Item) (known : List Var) (listed : List Summands) (k left : ℕ) (items : List Item) → (place : Place) × (conditions_part c goals known listed k left items).begun [] place
+  pub conditions_start : (goals : List Item) (known : List Var) (listed : List Summands) (k left : ℕ) (items : List Item) → (place : Place) × (conditions_part frame c goals known listed k left items).begun [] place
   conditions_start goals known listed k left [] = goals_start known listed 1 left goals
   conditions_start goals known listed k left (item ∷ items) = (before_line (Condition k item.text), inl (inl (refl, refl)))
 
-module _ (problem : Problem) where
+module _ (frame : Frame) (problem : Problem) where
   abbrev c : Construction
   c = problem.steps
-
-  abbrev goals : List Item
-  goals = items_of c.nodes problem.goals
 
   abbrev term : ListedItem → Tree
   term item = tree_of c.nodes item.term
@@ -72,24 +71,21 @@ module _ (problem : Problem) where
       → items_of c.nodes (drop i items) ≡ log_item (item_form c.nodes item) ∷ items_of c.nodes (drop (suc i) items)
   items_at items i item at = ap (λ xs. items_of c.nodes xs) (at_drop items i item at)
 
-  -- CONDITIONS
-  module _ (i : ℕ) (known : List Var) (listed : List Summands) (left : ℕ) where
+  -- CONDITIONS, whatever goals stand behind them
+  module _ (goals : List Item) (i : ℕ) (known : List Var) (listed : List Summands) (left : ℕ) where
     abbrev Conditions : List Item → Part
-    Conditions items = conditions_part c goals known listed (suc i) left items
-
-    abbrev Goals : List Item → Part
-    Goals items = goals_part c known listed (suc i) left items
+    Conditions items = conditions_part frame c goals known listed (suc i) left items
 
     -- a list of conditions begins with the chain of the first
     pub condition_chain : (item : ListedItem) (s : State) → slice_get problem.conditions i ≡ Some item
-        → Passes (conditions_from problem i known listed left) (chain_part c (Condition (suc i) item.text) known left (term item)) s s
+        → Passes (conditions_before frame problem goals i known listed left) (chain_part frame c (Condition (suc i) item.text) known left (term item)) s s
     condition_chain item s at =
-        passes_at_once (conditions_from problem i known listed left) (chain_part c (Condition (suc i) item.text) known left (term item)) s
+        passes_at_once (conditions_before frame problem goals i known listed left) (chain_part frame c (Condition (suc i) item.text) known left (term item)) s
         (λ lines place h. subst (λ items. (Conditions items).begun lines place) (sym (items_at problem.conditions i item at)) (inl h))
         (λ lines verdict l w. absurd w)
 
     module _ (item : ListedItem) (left' : ℕ) (s t : State) (end : Summands) (variable : Option Var) (at : slice_get problem.conditions i ≡ Some item)
-        (h : WorksChain c (Condition (suc i) item.text) known left (term item) left' s t end variable) where
+        (h : WorksChain frame c (Condition (suc i) item.text) known left (term item) left' s t end variable) where
       abbrev header : Line
       header = Condition (suc i) item.text
 
@@ -104,7 +100,7 @@ module _ (problem : Problem) where
 
       -- where it does not end in 0, the next condition follows
       pub condition_passes : end ≢ []
-          → Passes (conditions_from problem i known listed left) (conditions_from problem (suc i) (known ++ cons_option variable []) (listed ++ end ∷ []) left') s t
+          → Passes (conditions_before frame problem goals i known listed left) (conditions_before frame problem goals (suc i) (known ++ cons_option variable []) (listed ++ end ∷ []) left') s t
       condition_passes nonzero = record {
         lines = chain_lines header (term item) h.chain;
         continues = record {
@@ -113,16 +109,16 @@ module _ (problem : Problem) where
                 record { chain = h.chain; after = left'; rest = more; split = refl; works = h.works },
                 inr (
                   (λ e. nonzero (h.ended ∙ e)),
-                  subst (λ q. (conditions_part c goals (known ++ known_by (own ∷ [])) (listed ++ q ∷ []) (suc (suc i)) left' rest).begun more place) h.ended
-                      (subst (λ v. (conditions_part c goals (known ++ cons_option v []) (listed ++ end ∷ []) (suc (suc i)) left' rest).begun more place) h.told b),
+                  subst (λ q. (conditions_part frame c goals (known ++ known_by (own ∷ [])) (listed ++ q ∷ []) (suc (suc i)) left' rest).begun more place) h.ended
+                      (subst (λ v. (conditions_part frame c goals (known ++ cons_option v []) (listed ++ end ∷ []) (suc (suc i)) left' rest).begun more place) h.told b),
                 ),
               ));
           whole = λ more verdict l w. subst (λ items. (Conditions items).whole (chain_lines header (term item) h.chain ++ more) verdict l) (sym (items_at problem.conditions i item at)) (
             record { chain = h.chain; after = left'; rest = more; split = refl; works = h.works },
             inr (
               (λ e. nonzero (h.ended ∙ e)),
-              subst (λ q. (conditions_part c goals (known ++ known_by (own ∷ [])) (listed ++ q ∷ []) (suc (suc i)) left' rest).whole more verdict l) h.ended
-                  (subst (λ v. (conditions_part c goals (known ++ cons_option v []) (listed ++ end ∷ []) (suc (suc i)) left' rest).whole more verdict l) h.told w),
+              subst (λ q. (conditions_part frame c goals (known ++ known_by (own ∷ [])) (listed ++ q ∷ []) (suc (suc i)) left' rest).whole more verdict l) h.ended
+                  (subst (λ v. (conditions_part frame c goals (known ++ cons_option v []) (listed ++ end ∷ []) (suc (suc i)) left' rest).whole more verdict l) h.told w),
             ),
           );
         };
@@ -130,7 +126,7 @@ module _ (problem : Problem) where
       }
 
       -- where it does, it is impossible
-      pub condition_impossible : end ≡ [] → IsImpossibleAt (conditions_from problem i known listed left) left' s t (suc i)
+      pub condition_impossible : end ≡ [] → IsImpossibleAt (conditions_before frame problem goals i known listed left) left' s t (suc i)
       condition_impossible zero_end = record {
         lines = lines;
         begun =
@@ -148,28 +144,65 @@ module _ (problem : Problem) where
       }
 
     -- behind all conditions come the goals
-    pub conditions_over : (s : State) → length problem.conditions ≤ i → Passes (conditions_from problem i known listed left) (goals_from problem 0 known listed left) s s
+    pub conditions_over : (s : State) → length problem.conditions ≤ i → Passes (conditions_before frame problem goals i known listed left) (goals_part frame c known listed 1 left goals) s s
     conditions_over s over =
         let none = ap (λ xs. items_of c.nodes xs) (past_end problem.conditions i over) in
-        passes_at_once (conditions_from problem i known listed left) (goals_from problem 0 known listed left) s
+        passes_at_once (conditions_before frame problem goals i known listed left) (goals_part frame c known listed 1 left goals) s
         (λ lines place h. subst (λ items. (Conditions items).begun lines place) (sym none) h)
         (λ lines verdict l w. subst (λ items. (Conditions items).whole lines verdict l) (sym none) w)
 
-    -- GOALS
+    -- memory runs out
+    pub conditions_halt : (s : State) → Fits s.size → Halts frame c (conditions_before frame problem goals i known listed left) s s NoMemory
+    conditions_halt s fits =
+        let start = conditions_start frame c goals known listed (suc i) left (items_of c.nodes (drop i problem.conditions)) in
+        memory_in frame c (conditions_before frame problem goals i known listed left) start.0 s start.1 fits
+
+    -- tasks
+    module _ (header : Line) (id : TermId) where
+      pub task_chain : (s : State) → IsConditionTask problem.conditions i header id → Passes (conditions_before frame problem goals i known listed left) (chain_part frame c header known left (tree_of c.nodes id)) s s
+      task_chain s task =
+          subst (λ h. Passes (conditions_before frame problem goals i known listed left) (chain_part frame c h known left (tree_of c.nodes id)) s s) (sym task.header_is)
+          (subst (λ t. Passes (conditions_before frame problem goals i known listed left) (chain_part frame c (Condition (suc i) task.item.text) known left (tree_of c.nodes t)) s s) (sym task.term_is) (condition_chain task.item s task.at))
+
+      module _ (left' : ℕ) (s t : State) (end : Summands) (variable : Option Var) (h : WorksChain frame c header known left (tree_of c.nodes id) left' s t end variable) where
+        works_condition : (task : IsConditionTask problem.conditions i header id) → WorksChain frame c (Condition (suc i) task.item.text) known left (term task.item) left' s t end variable
+        works_condition task =
+            subst (λ x. WorksChain frame c (Condition (suc i) task.item.text) known left (tree_of c.nodes x) left' s t end variable) task.term_is
+            (subst (λ l. WorksChain frame c l known left (tree_of c.nodes id) left' s t end variable) task.header_is h)
+
+        -- a condition whose chain does not end in 0
+        pub task_passes : (known' : List Var) (listed' : List Summands) → IsConditionTask problem.conditions i header id → end ≢ [] → known' ≡ known ++ cons_option variable [] → listed' ≡ listed ++ end ∷ []
+            → Passes (conditions_before frame problem goals i known listed left) (conditions_before frame problem goals (i + 1) known' listed' left') s t
+        task_passes known' listed' task nonzero k l =
+            subst (λ n. Passes (conditions_before frame problem goals i known listed left) (conditions_before frame problem goals n known' listed' left') s t) (sym (add-one i))
+            (subst (λ ks. Passes (conditions_before frame problem goals i known listed left) (conditions_before frame problem goals (suc i) ks listed' left') s t) (sym k)
+            (subst (λ ls. Passes (conditions_before frame problem goals i known listed left) (conditions_before frame problem goals (suc i) (known ++ cons_option variable []) ls left') s t) (sym l)
+            (condition_passes task.item left' s t end variable task.at (works_condition task) nonzero)))
+
+        -- one whose chain does
+        pub task_impossible : IsConditionTask problem.conditions i header id → end ≡ [] → IsImpossibleAt (conditions_before frame problem goals i known listed left) left' s t (i + 1)
+        task_impossible task zero_end =
+            subst (λ n. IsImpossibleAt (conditions_before frame problem goals i known listed left) left' s t n) (sym (add-one i)) (condition_impossible task.item left' s t end variable task.at (works_condition task) zero_end)
+
+  -- GOALS
+  module _ (i : ℕ) (known : List Var) (listed : List Summands) (left : ℕ) where
+    abbrev Goals : List Item → Part
+    Goals items = goals_part frame c known listed (suc i) left items
+
     pub goal_chain : (item : ListedItem) (s : State) → slice_get problem.goals i ≡ Some item
-        → Passes (goals_from problem i known listed left) (chain_part c (Goal (suc i) item.text) known left (term item)) s s
+        → Passes (goals_from frame problem i known listed left) (chain_part frame c (Goal (suc i) item.text) known left (term item)) s s
     goal_chain item s at =
-        passes_at_once (goals_from problem i known listed left) (chain_part c (Goal (suc i) item.text) known left (term item)) s
+        passes_at_once (goals_from frame problem i known listed left) (chain_part frame c (Goal (suc i) item.text) known left (term item)) s
         (λ lines place h. subst (λ items. (Goals items).begun lines place) (sym (items_at problem.goals i item at)) (inl h))
         (λ lines verdict l w. absurd w)
 
     module _ (item : ListedItem) (left' : ℕ) (s t : State) (end : Summands) (variable : Option Var) (at : slice_get problem.goals i ≡ Some item)
-        (h : WorksChain c (Goal (suc i) item.text) known left (term item) left' s t end variable) where
+        (h : WorksChain frame c (Goal (suc i) item.text) known left (term item) left' s t end variable) where
       abbrev goal_lines : List Line
       goal_lines = chain_lines (Goal (suc i) item.text) (term item) h.chain
 
       -- where it ends in 0, the next goal follows
-      pub goal_passes : end ≡ [] → Passes (goals_from problem i known listed left) (goals_from problem (suc i) known listed left') s t
+      pub goal_passes : end ≡ [] → Passes (goals_from frame problem i known listed left) (goals_from frame problem (suc i) known listed left') s t
       goal_passes zero_end = record {
         lines = goal_lines;
         continues = record {
@@ -182,21 +215,21 @@ module _ (problem : Problem) where
       }
 
       -- where it does not, the end of the log follows
-      pub goal_fails : end ≢ [] → Passes (goals_from problem i known listed left) (end_part c (listed ++ end ∷ []) (False (suc i)) left') s t
+      pub goal_fails : end ≢ [] → Passes (goals_from frame problem i known listed left) (end_part frame c (listed ++ end ∷ []) (False (suc i)) left') s t
       goal_fails nonzero = record {
         lines = goal_lines;
         continues = record {
           begun = λ more place b. subst (λ items. (Goals items).begun (goal_lines ++ more) place) (sym (items_at problem.goals i item at))
               (inr (
                 record { chain = h.chain; after = left'; rest = more; split = refl; works = h.works },
-                inr ((λ e. nonzero (h.ended ∙ e)), subst (λ q. (end_part c (listed ++ q ∷ []) (False (suc i)) left').begun more place) h.ended b),
+                inr ((λ e. nonzero (h.ended ∙ e)), subst (λ q. (end_part frame c (listed ++ q ∷ []) (False (suc i)) left').begun more place) h.ended b),
               ));
           whole = λ more verdict l w. subst (λ items. (Goals items).whole (goal_lines ++ more) verdict l) (sym (items_at problem.goals i item at)) (
             record { chain = h.chain; after = left'; rest = more; split = refl; works = h.works },
             inr (
               (λ e. nonzero (h.ended ∙ e)),
-              (subst (λ q. (end_part c (listed ++ q ∷ []) (False (suc i)) left').whole more verdict l) h.ended w).0,
-              (subst (λ q. (end_part c (listed ++ q ∷ []) (False (suc i)) left').whole more verdict l) h.ended w).1,
+              (subst (λ q. (end_part frame c (listed ++ q ∷ []) (False (suc i)) left').whole more verdict l) h.ended w).0,
+              (subst (λ q. (end_part frame c (listed ++ q ∷ []) (False (suc i)) left').whole more verdict l) h.ended w).1,
             ),
           );
         };
@@ -204,94 +237,43 @@ module _ (problem : Problem) where
       }
 
     -- behind all goals comes the end of a proof
-    pub goals_over : (s : State) → length problem.goals ≤ i → Passes (goals_from problem i known listed left) (end_part c listed Proved left) s s
+    pub goals_over : (s : State) → length problem.goals ≤ i → Passes (goals_from frame problem i known listed left) (end_part frame c listed Proved left) s s
     goals_over s over =
         let none = ap (λ xs. items_of c.nodes xs) (past_end problem.goals i over) in
-        passes_at_once (goals_from problem i known listed left) (end_part c listed Proved left) s
+        passes_at_once (goals_from frame problem i known listed left) (end_part frame c listed Proved left) s
         (λ lines place h. subst (λ items. (Goals items).begun lines place) (sym none) h)
         (λ lines verdict l w. subst (λ items. (Goals items).whole lines verdict l) (sym none) w)
 
-    -- MEMORY
-    pub conditions_halt : (s : State) → s.bytes ≤ 67108864 → Halts c (conditions_from problem i known listed left) s s NoMemory
-    conditions_halt s fits =
-        let start = conditions_start c goals known listed (suc i) left (items_of c.nodes (drop i problem.conditions)) in
-        memory_in c (conditions_from problem i known listed left) start.0 s start.1 fits
-
-    pub goals_halt : (s : State) → s.bytes ≤ 67108864 → Halts c (goals_from problem i known listed left) s s NoMemory
+    -- memory runs out
+    pub goals_halt : (s : State) → Fits s.size → Halts frame c (goals_from frame problem i known listed left) s s NoMemory
     goals_halt s fits =
-        let start = goals_start c known listed (suc i) left (items_of c.nodes (drop i problem.goals)) in
-        memory_in c (goals_from problem i known listed left) start.0 s start.1 fits
+        let start = goals_start frame c known listed (suc i) left (items_of c.nodes (drop i problem.goals)) in
+        memory_in frame c (goals_from frame problem i known listed left) start.0 s start.1 fits
 
-    -- NUMBERS
-    -- the number of the next condition fits
-    pub condition_small : (bytes : ℕ) → CanWrite c (conditions_from problem i known listed left) bytes → bytes ≤ 67108864 → i < length problem.conditions → i + 1 < 2 ^ 32
-    condition_small bytes can fits lt =
-        let item = some_at problem.conditions i lt in
-        let header = Condition (suc i) item.0.text in
-        let begun = subst (λ items. (Conditions items).begun [] (before_line header)) (sym (items_at problem.conditions i item.0 item.1)) (inl (inl (refl, refl))) in
-        let head = can [] (before_line header) header begun refl (omega (arith, fits)) in
-        let fit : suc i < 2 ^ 32 = head.small in omega (arith, fit)
-
-    -- and that of the next goal
-    pub goal_small : (bytes : ℕ) → CanWrite c (goals_from problem i known listed left) bytes → bytes ≤ 67108864 → i < length problem.goals → i + 1 < 2 ^ 32
-    goal_small bytes can fits lt =
-        let item = some_at problem.goals i lt in
-        let header = Goal (suc i) item.0.text in
-        let begun = subst (λ items. (Goals items).begun [] (before_line header)) (sym (items_at problem.goals i item.0 item.1)) (inl (inl (refl, refl))) in
-        let head = can [] (before_line header) header begun refl (omega (arith, fits)) in
-        let fit : suc i < 2 ^ 32 = head.small in omega (arith, fit)
-
-    -- TASKS
+    -- tasks
     module _ (header : Line) (id : TermId) where
-      abbrev Chain : ListedItem → Line → Part
-      Chain item head = chain_part c head known left (term item)
-
-      pub task_chain : (s : State) → IsConditionTask problem.conditions i header id → Passes (conditions_from problem i known listed left) (chain_part c header known left (tree_of c.nodes id)) s s
-      task_chain s task =
-          subst (λ h. Passes (conditions_from problem i known listed left) (chain_part c h known left (tree_of c.nodes id)) s s) (sym task.header_is)
-          (subst (λ t. Passes (conditions_from problem i known listed left) (chain_part c (Condition (suc i) task.item.text) known left (tree_of c.nodes t)) s s) (sym task.term_is) (condition_chain task.item s task.at))
-
-      pub goal_task_chain : (s : State) → IsGoalTask problem.goals i header id → Passes (goals_from problem i known listed left) (chain_part c header known left (tree_of c.nodes id)) s s
+      pub goal_task_chain : (s : State) → IsGoalTask problem.goals i header id → Passes (goals_from frame problem i known listed left) (chain_part frame c header known left (tree_of c.nodes id)) s s
       goal_task_chain s task =
-          subst (λ h. Passes (goals_from problem i known listed left) (chain_part c h known left (tree_of c.nodes id)) s s) (sym task.header_is)
-          (subst (λ t. Passes (goals_from problem i known listed left) (chain_part c (Goal (suc i) task.item.text) known left (tree_of c.nodes t)) s s) (sym task.term_is) (goal_chain task.item s task.at))
+          subst (λ h. Passes (goals_from frame problem i known listed left) (chain_part frame c h known left (tree_of c.nodes id)) s s) (sym task.header_is)
+          (subst (λ t. Passes (goals_from frame problem i known listed left) (chain_part frame c (Goal (suc i) task.item.text) known left (tree_of c.nodes t)) s s) (sym task.term_is) (goal_chain task.item s task.at))
 
-      module _ (left' : ℕ) (s t : State) (end : Summands) (variable : Option Var) (h : WorksChain c header known left (tree_of c.nodes id) left' s t end variable) where
-        works_condition : (task : IsConditionTask problem.conditions i header id) → WorksChain c (Condition (suc i) task.item.text) known left (term task.item) left' s t end variable
-        works_condition task =
-            subst (λ x. WorksChain c (Condition (suc i) task.item.text) known left (tree_of c.nodes x) left' s t end variable) task.term_is
-            (subst (λ l. WorksChain c l known left (tree_of c.nodes id) left' s t end variable) task.header_is h)
-
-        works_goal : (task : IsGoalTask problem.goals i header id) → WorksChain c (Goal (suc i) task.item.text) known left (term task.item) left' s t end variable
+      module _ (left' : ℕ) (s t : State) (end : Summands) (variable : Option Var) (h : WorksChain frame c header known left (tree_of c.nodes id) left' s t end variable) where
+        works_goal : (task : IsGoalTask problem.goals i header id) → WorksChain frame c (Goal (suc i) task.item.text) known left (term task.item) left' s t end variable
         works_goal task =
-            subst (λ x. WorksChain c (Goal (suc i) task.item.text) known left (tree_of c.nodes x) left' s t end variable) task.term_is
-            (subst (λ l. WorksChain c l known left (tree_of c.nodes id) left' s t end variable) task.header_is h)
-
-        -- a condition whose chain does not end in 0
-        pub task_passes : (known' : List Var) (listed' : List Summands) → IsConditionTask problem.conditions i header id → end ≢ [] → known' ≡ known ++ cons_option variable [] → listed' ≡ listed ++ end ∷ []
-            → Passes (conditions_from problem i known listed left) (conditions_from problem (i + 1) known' listed' left') s t
-        task_passes known' listed' task nonzero k l =
-            subst (λ n. Passes (conditions_from problem i known listed left) (conditions_from problem n known' listed' left') s t) (sym (add-one i))
-            (subst (λ ks. Passes (conditions_from problem i known listed left) (conditions_from problem (suc i) ks listed' left') s t) (sym k)
-            (subst (λ ls. Passes (conditions_from problem i known listed left) (conditions_from problem (suc i) (known ++ cons_option variable []) ls left') s t) (sym l)
-            (condition_passes task.item left' s t end variable task.at (works_condition task) nonzero)))
-
-        -- one whose chain does
-        pub task_impossible : IsConditionTask problem.conditions i header id → end ≡ [] → IsImpossibleAt (conditions_from problem i known listed left) left' s t (i + 1)
-        task_impossible task zero_end =
-            subst (λ n. IsImpossibleAt (conditions_from problem i known listed left) left' s t n) (sym (add-one i)) (condition_impossible task.item left' s t end variable task.at (works_condition task) zero_end)
+            subst (λ x. WorksChain frame c (Goal (suc i) task.item.text) known left (tree_of c.nodes x) left' s t end variable) task.term_is
+            (subst (λ l. WorksChain frame c l known left (tree_of c.nodes id) left' s t end variable) task.header_is h)
 
         -- a goal whose chain ends in 0
-        pub goal_task_passes : IsGoalTask problem.goals i header id → end ≡ [] → Passes (goals_from problem i known listed left) (goals_from problem (i + 1) known listed left') s t
+        pub goal_task_passes : IsGoalTask problem.goals i header id → end ≡ [] → Passes (goals_from frame problem i known listed left) (goals_from frame problem (i + 1) known listed left') s t
         goal_task_passes task zero_end =
-            subst (λ n. Passes (goals_from problem i known listed left) (goals_from problem n known listed left') s t) (sym (add-one i)) (goal_passes task.item left' s t end variable task.at (works_goal task) zero_end)
+            subst (λ n. Passes (goals_from frame problem i known listed left) (goals_from frame problem n known listed left') s t) (sym (add-one i)) (goal_passes task.item left' s t end variable task.at (works_goal task) zero_end)
 
         -- one whose chain does not
         pub goal_task_fails : (listed' : List Summands) → IsGoalTask problem.goals i header id → end ≢ [] → listed' ≡ listed ++ end ∷ []
-            → Passes (goals_from problem i known listed left) (end_part c listed' (False (i + 1)) left') s t
+            → Passes (goals_from frame problem i known listed left) (end_part frame c listed' (False (i + 1)) left') s t
         goal_task_fails listed' task nonzero l =
-            subst (λ n. Passes (goals_from problem i known listed left) (end_part c listed' (False n) left') s t) (sym (add-one i))
-            (subst (λ ls. Passes (goals_from problem i known listed left) (end_part c ls (False (suc i)) left') s t) (sym l) (goal_fails task.item left' s t end variable task.at (works_goal task) nonzero))
+            subst (λ n. Passes (goals_from frame problem i known listed left) (end_part frame c listed' (False n) left') s t) (sym (add-one i))
+            (subst (λ ls. Passes (goals_from frame problem i known listed left) (end_part frame c ls (False (suc i)) left') s t) (sym l) (goal_fails task.item left' s t end variable task.at (works_goal task) nonzero))
 
   -- READY ITEMS
   pub condition_ready : (i : ℕ) (head : Line) (id : TermId) → IsReady problem → IsConditionTask problem.conditions i head id → (id.0 < length c.nodes) × IsInside c (tree_of c.nodes id)
@@ -309,15 +291,15 @@ pub nonzero_more : (listed listed' : List Summands) (end : Summands) → NoneZer
 nonzero_more listed listed' end h n e = subst NoneZero (sym e) (All-push (λ r. r ≢ []) listed end h n)
 
 -- THE END
-module _ (c : Construction) (listed : List Summands) (verdict : Verdict) (left : ℕ) where
-  pub at_sample : (s : State) → Passes (end_part c listed verdict left) (here_part (before_sample listed left)) s s
-  at_sample s = reaches (end_part c listed verdict left) [] (before_sample listed left) s s (inl (refl, refl)) (writes_nothing s)
+module _ (frame : Frame) (c : Construction) (listed : List Summands) (verdict : Verdict) (left : ℕ) where
+  pub at_sample : (s : State) → Passes (end_part frame c listed verdict left) (here_part (before_sample listed left)) s s
+  at_sample s = reaches (end_part frame c listed verdict left) [] (before_sample listed left) s s (inl (refl, refl)) (writes_nothing s)
 
-  module _ (values : List (Var × ℤ)) (left' : ℕ) (chosen : IsLeastSample c listed left values left') (s t : State) (w : Writes (Sample values ∷ []) s t) where
-    pub at_verdict : Passes (end_part c listed verdict left) (here_part (before_line (VerdictLine verdict))) s t
-    at_verdict = reaches (end_part c listed verdict left) (Sample values ∷ []) (before_line (VerdictLine verdict)) s t (inr (values, left', chosen, refl, refl)) w
+  module _ (values : List (Var × ℤ)) (left' : ℕ) (chosen : chosen_in frame c listed left values left') (s t : State) (w : Writes (Sample values ∷ []) s t) where
+    pub at_verdict : Passes (end_part frame c listed verdict left) (here_part (before_line (VerdictLine verdict))) s t
+    at_verdict = reaches (end_part frame c listed verdict left) (Sample values ∷ []) (before_line (VerdictLine verdict)) s t (inr (values, left', chosen, refl, refl)) w
 
-    pub concludes : (u : State) → Writes (VerdictLine verdict ∷ []) t u → Finishes (end_part c listed verdict left) s u verdict left'
+    pub concludes : (u : State) → Writes (VerdictLine verdict ∷ []) t u → Finishes (end_part frame c listed verdict left) s u verdict left'
     concludes u v = record {
       lines = Sample values ∷ VerdictLine verdict ∷ [];
       whole = (refl, record { values = values; chosen = chosen; split = refl });
@@ -325,8 +307,8 @@ module _ (c : Construction) (listed : List Summands) (verdict : Verdict) (left :
     }
 
 -- what is told of the conditions, where nothing is known yet
-pub at_nothing : (R : Part → Type 0) (problem : Problem) (known : List Var) (listed : List Summands) (left : ℕ) → known ≡ [] → listed ≡ [] → R (conditions_from problem 0 known listed left) → R (conditions_from problem 0 [] [] left)
-at_nothing R problem known listed left k l h = subst (λ ks. R (conditions_from problem 0 ks [] left)) k (subst (λ ls. R (conditions_from problem 0 known ls left)) l h)
+pub at_nothing : (R : Part → Type 0) (frame : Frame) (problem : Problem) (known : List Var) (listed : List Summands) (left : ℕ) → known ≡ [] → listed ≡ [] → R (conditions_from frame problem 0 known listed left) → R (conditions_from frame problem 0 [] [] left)
+at_nothing R frame problem known listed left k l h = subst (λ ks. R (conditions_from frame problem 0 ks [] left)) k (subst (λ ls. R (conditions_from frame problem 0 known ls left)) l h)
 
 -- the number, if there is one
 pub at_none : {A : Type 0} (P : Type 0) (o : Option A) → ((x : A) → o ≡ Some x → ⊥) → IfNone o P → P

@@ -1,26 +1,28 @@
 -- Parts of a log in a row: what was written adds up, a stop behind lines is a stop of the whole.
-use Rattle.std.proofs.Common.{◌≡◌, ℕ, suc, ◌+◌, ◌<◌, ◌≤◌, inl, inr, List, [], ◌∷◌, ◌++◌, length, append-nil, append_assoc, refl, sym, ◌∙◌, ap, subst, take, arith}
+use Rattle.std.proofs.Common.{◌≡◌, ℕ, suc, ◌+◌, ◌≤◌, inl, inr, List, [], ◌∷◌, ◌++◌, length, append-nil, append_assoc, refl, sym, ◌∙◌, ap, subst, take, arith}
 use Rattle.std.proofs.lemmas.List.{length-append}
 use Rattle.std.proofs.lemmas.Grind.{flat_map-append}
-use Rattle.geo_base.specs.Devices.{Grows}
-use Rattle.geo_base.proofs.DeviceLemmas.{Grows-append, Grows-nothing, HasRisen-after}
+use Rattle.geo_base.proofs.DeviceLemmas.{HasRisen-after}
 use Rattle.geo_terms.specs.Constructions.{Construction}
 use Rattle.proof_log.specs.declared.log.Line.{Line}
 use Rattle.proof_log.specs.declared.log.Verdict.{Verdict}
 use Rattle.proof_log.specs.Lines.{line_text, log_text}
-use Rattle.proof_log.specs.Writable.{IsWritable}
 use Rattle.elim_apply.specs.declared.errors.ApplyError.{ApplyError}
 use Rattle.elim_apply.specs.declared.errors.ApplyError.TheVariants.{NoRow, Spent as SpentThere, TooLarge as TooLargeThere, NoMemory as NoMemoryThere}
-use Rattle.elim_apply.specs.LemmaTable.{lemma_table}
 use Rattle.geo_poly.specs.declared.limits.Which.{Which}
-use Rattle.geo_logs.specs.Ends.{IsNext, comes, stop_line, stops, text_length}
+use Rattle.geo_logs.specs.Ends.{comes, stop_line, stops, text_length}
 use Rattle.geo_logs.specs.Moves.{Stop, spent, too_large}
 use Rattle.geo_logs.specs.Places.{Place}
 use Rattle.log_maker.specs.declared.errors.ProveError.{ProveError}
 use Rattle.log_maker.specs.declared.errors.ProveError.TheVariants.{TooLarge, Spent, TooLong, WriteFault, NoMemory}
+use Rattle.log_maker.specs.declared.frame.Frame.{Frame}
+use Rattle.log_maker.specs.declared.size.Size.{Size}
 use Rattle.log_maker.specs.Halting.{Finishes, Halts, IsAnswered, IsBrokenOff, IsPieceOfNext, IsStopped, IsTooLong, Passes}
+use Rattle.log_maker.specs.InFrame.{IsNextIn}
 use Rattle.log_maker.specs.Parts.{CanWrite, Continues, Part, here_part}
+use Rattle.log_maker.specs.Sizes.{Fits, HoldsText, IsPast, IsTakable, with_text}
 use Rattle.log_maker.specs.Written.{HasStopped, IsCutOff, IsUnwritten, State, Writes, WritesSome}
+use Rattle.log_maker.proofs.Sizing.{fits_none, holds_more, holds_nothing, takable_then, with_both, with_none}
 
 -- TEXTS
 abbrev piece_of_line : Line → List ℕ
@@ -34,13 +36,24 @@ text_length-append xs ys = ap length (log_text-append xs ys) ∙ length-append (
 
 -- WRITES
 pub writes_nothing : (s : State) → Writes [] s s
-writes_nothing s = record { counted = omega arith; measured = omega arith; written = Grows-nothing s.held; faults = omega arith }
+writes_nothing s = record { counted = omega arith; measured = sym (with_none s.size); written = holds_nothing s.size s.held; faults = omega arith }
+
+-- the size behind lines and further ones
+pub sized_on : (xs : List Line) (s t : State) → Writes xs s t → (ys : List Line) → with_text t.size (text_length ys) ≡ with_text s.size (text_length (xs ++ ys))
+sized_on xs s t h ys =
+    ap (λ (z : Size). with_text z (text_length ys)) h.measured ∙ with_both s.size (text_length xs) (text_length ys)
+    ∙ ap (λ (n : ℕ). with_text s.size n) (sym (text_length-append xs ys))
+
+-- the text behind lines
+pub held_on : (xs : List Line) (s t u : State) → Writes xs s t → (text : List ℕ) → HoldsText t.size t.held text u.held → HoldsText s.size s.held (log_text xs ++ text) u.held
+held_on xs s t u h text g =
+    holds_more s.size (text_length xs) s.held t.held u.held (log_text xs) text h.written (subst (λ (z : Size). HoldsText z t.held text u.held) h.measured g)
 
 pub writes_more : (xs ys : List Line) (s t u : State) → Writes xs s t → Writes ys t u → Writes (xs ++ ys) s u
 writes_more xs ys s t u h g = record {
   counted = let a = h.counted in let b = g.counted in let n : length (xs ++ ys) ≡ length xs + length ys = length-append xs ys in omega (arith, a, b, n);
-  measured = let a = h.measured in let b = g.measured in let n = text_length-append xs ys in omega (arith, a, b, n);
-  written = subst (λ text. Grows s.held text u.held) (sym (log_text-append xs ys)) (Grows-append s.held t.held u.held (log_text xs) (log_text ys) h.written g.written);
+  measured = g.measured ∙ sized_on xs s t h ys;
+  written = subst (λ text. HoldsText s.size s.held text u.held) (sym (log_text-append xs ys)) (held_on xs s t u h (log_text ys) g.written);
   faults = let a = h.faults in let b = g.faults in omega (arith, a, b);
 }
 
@@ -83,33 +96,35 @@ reaches P xs place s t b w = record {
   written = w;
 }
 
--- WRITABLE LINES
-pub can_write_on : (c : Construction) (P Q : Part) (s t : State) → Passes P Q s t → CanWrite c P s.bytes → CanWrite c Q t.bytes
-can_write_on c P Q s t h can lines place line b n fits =
-    can (h.lines ++ lines) place line (h.continues.begun lines place b) n
-    (let m = h.written.measured in let l = text_length-append h.lines lines in omega (arith, m, l, fits))
+-- LINES THAT MAY BE TAKEN
+pub can_write_on : (frame : Frame) (c : Construction) (P Q : Part) (s t : State) → Passes P Q s t → CanWrite frame c P s.size → CanWrite frame c Q t.size
+can_write_on frame c P Q s t h can lines place line b n fits =
+    subst (λ (z : Size). IsTakable z line) (sym h.written.measured)
+    (takable_then s.size (text_length h.lines) line
+    (can (h.lines ++ lines) place line (h.continues.begun lines place b) n (subst Fits (sized_on h.lines s t h.written lines) fits)))
 
 -- so the line that comes next at a place may
-pub write_here : (c : Construction) (P : Part) (place : Place) (s t : State) → Passes P (here_part place) s t → CanWrite c P s.bytes → t.bytes ≤ 67108864 → (line : Line)
-    → IsNext lemma_table c place (comes line) → IsWritable line
-write_here c P place s t h can fits line n = can_write_on c P (here_part place) s t h can [] place line (refl, refl) n (omega (arith, fits))
+pub write_here : (frame : Frame) (c : Construction) (P : Part) (place : Place) (s t : State) → Passes P (here_part place) s t → CanWrite frame c P s.size → Fits t.size → (line : Line)
+    → IsNextIn frame c place (comes line) → IsTakable t.size line
+write_here frame c P place s t h can fits line n =
+    can_write_on frame c P (here_part place) s t h can [] place line (refl, refl) n (subst Fits (sym (with_none t.size)) fits)
 
 -- STOPS
-module _ (c : Construction) (P Q : Part) (s t u : State) (h : Passes P Q s t) where
-  fits_on : (lines : List Line) → t.bytes + text_length lines ≤ 67108864 → s.bytes + text_length (h.lines ++ lines) ≤ 67108864
-  fits_on lines fits = let m = h.written.measured in let l = text_length-append h.lines lines in omega (arith, m, l, fits)
+module _ (frame : Frame) (c : Construction) (P Q : Part) (s t u : State) (h : Passes P Q s t) where
+  fits_on : (lines : List Line) → Fits (with_text t.size (text_length lines)) → Fits (with_text s.size (text_length (h.lines ++ lines)))
+  fits_on lines fits = subst Fits (sized_on h.lines s t h.written lines) fits
 
   faults_on : t.faults ≤ u.faults → s.faults ≤ u.faults
   faults_on g = let f = h.written.faults in omega (arith, f, g)
 
-  written_on : (lines : List Line) → Grows t.held (log_text lines) u.held → Grows s.held (log_text (h.lines ++ lines)) u.held
+  written_on : (lines : List Line) → HoldsText t.size t.held (log_text lines) u.held → HoldsText s.size s.held (log_text (h.lines ++ lines)) u.held
   written_on lines g =
-      subst (λ text. Grows s.held text u.held) (sym (log_text-append h.lines lines)) (Grows-append s.held t.held u.held (log_text h.lines) (log_text lines) h.written.written g)
+      subst (λ text. HoldsText s.size s.held text u.held) (sym (log_text-append h.lines lines)) (held_on h.lines s t u h.written (log_text lines) g)
 
   counted_on : (lines : List Line) → t.lines + length lines ≡ s.lines + length (h.lines ++ lines)
   counted_on lines = let n = h.written.counted in let l : length (h.lines ++ lines) ≡ length h.lines + length lines = length-append h.lines lines in omega (arith, n, l)
 
-  stopped_on : (stop : Stop) (number : ℕ) → IsStopped c Q t u stop number → IsStopped c P s u stop number
+  stopped_on : (stop : Stop) (number : ℕ) → IsStopped frame c Q t u stop number → IsStopped frame c P s u stop number
   stopped_on stop number g = record {
     lines = h.lines ++ g.lines;
     place = g.place;
@@ -117,11 +132,11 @@ module _ (c : Construction) (P Q : Part) (s t u : State) (h : Passes P Q s t) wh
     next = g.next;
     fits = fits_on g.lines g.fits;
     last = g.last ∙ ap suc (counted_on g.lines);
-    written = subst (λ xs. Grows s.held (log_text xs) u.held) (sym (append_assoc h.lines g.lines (stop_line number stop ∷ []))) (written_on (g.lines ++ stop_line number stop ∷ []) g.written);
+    written = subst (λ xs. HoldsText s.size s.held (log_text xs) u.held) (sym (append_assoc h.lines g.lines (stop_line number stop ∷ []))) (written_on (g.lines ++ stop_line number stop ∷ []) g.written);
     faults = faults_on g.faults;
   }
 
-  too_long_on : IsTooLong c Q t u → IsTooLong c P s u
+  too_long_on : IsTooLong frame c Q t u → IsTooLong frame c P s u
   too_long_on g = record {
     lines = h.lines ++ g.lines;
     place = g.place;
@@ -130,21 +145,19 @@ module _ (c : Construction) (P Q : Part) (s t u : State) (h : Passes P Q s t) wh
     next = g.next;
     fits = fits_on g.lines g.fits;
     long =
-        let m = h.written.measured in
-        let l = text_length-append h.lines (g.lines ++ g.line ∷ []) in
-        let same : text_length ((h.lines ++ g.lines) ++ g.line ∷ []) ≡ text_length (h.lines ++ (g.lines ++ g.line ∷ [])) = ap text_length (append_assoc h.lines g.lines (g.line ∷ [])) in
-        let big = g.long in omega (arith, m, l, same, big);
+        let same : text_length (h.lines ++ (g.lines ++ g.line ∷ [])) ≡ text_length ((h.lines ++ g.lines) ++ g.line ∷ []) = ap text_length (sym (append_assoc h.lines g.lines (g.line ∷ []))) in
+        subst IsPast (sized_on h.lines s t h.written (g.lines ++ g.line ∷ []) ∙ ap (λ (n : ℕ). with_text s.size n) same) g.long;
     written = written_on g.lines g.written;
     faults = faults_on g.faults;
   }
 
-  piece_on : (place : Place) (lines : List Line) (piece : List ℕ) → IsPieceOfNext c place (t.lines + length lines) (t.bytes + text_length lines) piece
-      → IsPieceOfNext c place (s.lines + length (h.lines ++ lines)) (s.bytes + text_length (h.lines ++ lines)) piece
+  piece_on : (place : Place) (lines : List Line) (piece : List ℕ) → IsPieceOfNext frame c place (t.lines + length lines) (with_text t.size (text_length lines)) piece
+      → IsPieceOfNext frame c place (s.lines + length (h.lines ++ lines)) (with_text s.size (text_length (h.lines ++ lines))) piece
   piece_on place lines piece g =
-      let m : t.bytes + text_length lines ≡ s.bytes + text_length (h.lines ++ lines) = let a = h.written.measured in let l = text_length-append h.lines lines in omega (arith, a, l) in
-      subst (λ n. IsPieceOfNext c place (s.lines + length (h.lines ++ lines)) n piece) m (subst (λ n. IsPieceOfNext c place n (t.bytes + text_length lines) piece) (counted_on lines) g)
+      subst (λ (z : Size). IsPieceOfNext frame c place (s.lines + length (h.lines ++ lines)) z piece) (sized_on h.lines s t h.written lines)
+      (subst (λ (n : ℕ). IsPieceOfNext frame c place n (with_text t.size (text_length lines)) piece) (counted_on lines) g)
 
-  broken_on : IsBrokenOff c Q t u → IsBrokenOff c P s u
+  broken_on : IsBrokenOff frame c Q t u → IsBrokenOff frame c P s u
   broken_on g = record {
     lines = h.lines ++ g.lines;
     place = g.place;
@@ -153,12 +166,12 @@ module _ (c : Construction) (P Q : Part) (s t u : State) (h : Passes P Q s t) wh
     fits = fits_on g.lines g.fits;
     next = piece_on g.place g.lines g.piece g.next;
     written =
-        subst (λ text. Grows s.held text u.held) (sym (append_assoc (log_text h.lines) (log_text g.lines) g.piece) ∙ ap (λ text. text ++ g.piece) (sym (log_text-append h.lines g.lines)))
-        (Grows-append s.held t.held u.held (log_text h.lines) (log_text g.lines ++ g.piece) h.written.written g.written);
+        subst (λ text. HoldsText s.size s.held text u.held) (sym (append_assoc (log_text h.lines) (log_text g.lines) g.piece) ∙ ap (λ text. text ++ g.piece) (sym (log_text-append h.lines g.lines)))
+        (held_on h.lines s t u h.written (log_text g.lines ++ g.piece) g.written);
     faults = faults_on g.faults;
   }
 
-  pub halts_on : (e : ProveError) → Halts c Q t u e → Halts c P s u e
+  pub halts_on : (e : ProveError) → Halts frame c Q t u e → Halts frame c P s u e
   halts_on (TooLarge n which) g = stopped_on (too_large which) n g
   halts_on (Spent n) g = stopped_on spent n g
   halts_on TooLong g = too_long_on g
@@ -170,112 +183,99 @@ module _ (c : Construction) (P Q : Part) (s t u : State) (h : Passes P Q s t) wh
 pub stands : (place : Place) → (here_part place).begun [] place
 stands place = (refl, refl)
 
--- memory ran out before anything more was written
-pub memory_at : (c : Construction) (place : Place) (s t : State) → s.bytes ≤ 67108864 → t.held ≡ s.held → s.faults ≤ t.faults → IsBrokenOff c (here_part place) s t
-memory_at c place s t fits same faults = record {
-  lines = [];
-  place = place;
-  piece = [];
-  begun = stands place;
-  fits = omega (arith, fits);
-  next = inl refl;
-  written = subst (λ held. Grows s.held [] held) (sym same) (Grows-nothing s.held);
-  faults = faults;
-}
-
-pub memory_here : (c : Construction) (place : Place) (s : State) → s.bytes ≤ 67108864 → Halts c (here_part place) s s NoMemory
-memory_here c place s fits = memory_at c place s s fits refl (omega arith)
-
--- nor in a part that begins there
-pub memory_in : (c : Construction) (P : Part) (place : Place) (s : State) → P.begun [] place → s.bytes ≤ 67108864 → Halts c P s s NoMemory
-memory_in c P place s b fits = halts_on c P (here_part place) s s s (reaches P [] place s s b (writes_nothing s)) NoMemory (memory_here c place s fits)
-
-cut_off_at : (c : Construction) (place : Place) (line : Line) (s t : State) → IsNext lemma_table c place (comes line) → s.bytes ≤ 67108864 → IsCutOff line s t → IsBrokenOff c (here_part place) s t
-cut_off_at c place line s t next fits (inl h) = record {
-  lines = [];
-  place = place;
-  piece = take h.1.count (log_text (line ∷ []));
-  begun = stands place;
-  fits = omega (arith, fits);
-  next = inr (inl (line, h.1.count, next, (let f = h.0 in omega (arith, f)), refl));
-  written = h.1.written;
-  faults = h.1.faults;
-}
-cut_off_at c place line s t next fits (inr h) = memory_at c place s t fits h.0 h.1
-
--- the line that comes next was not written
-pub unwritten_here : (c : Construction) (place : Place) (line : Line) (s t : State) → IsNext lemma_table c place (comes line) → s.bytes ≤ 67108864 → (e : ProveError) → IsUnwritten line s t e
-    → Halts c (here_part place) s t e
-unwritten_here c place line s t next fits (TooLarge n which) h = absurd h
-unwritten_here c place line s t next fits (Spent n) h = absurd h
-unwritten_here c place line s t next fits TooLong h = record {
-  lines = [];
-  place = place;
-  line = line;
-  begun = stands place;
-  next = next;
-  fits = omega (arith, fits);
-  long = h.long;
-  written = subst (λ held. Grows s.held [] held) (sym h.kept) (Grows-nothing s.held);
-  faults = h.faults;
-}
-unwritten_here c place line s t next fits WriteFault h = (cut_off_at c place line s t next fits h.0, h.1)
-unwritten_here c place line s t next fits NoMemory h = cut_off_at c place line s t next fits h
-
--- a stop comes next
-module _ (c : Construction) (place : Place) (stop : Stop) (s t : State) (next : IsNext lemma_table c place (stops stop)) (fits : s.bytes ≤ 67108864) where
-  stop_part : WritesSome (log_text (stop_line (suc s.lines) stop ∷ [])) s t → IsBrokenOff c (here_part place) s t
-  stop_part h = record {
+module _ (frame : Frame) (c : Construction) where
+  -- memory ran out before anything more was written
+  pub memory_at : (place : Place) (s t : State) → Fits s.size → t.held ≡ s.held → s.faults ≤ t.faults → IsBrokenOff frame c (here_part place) s t
+  memory_at place s t fits same faults = record {
     lines = [];
     place = place;
-    piece = take h.count (log_text (stop_line (suc s.lines) stop ∷ []));
+    piece = [];
     begun = stands place;
-    fits = omega (arith, fits);
-    next = inr (inr (stop, h.count, next, ap (λ n. take h.count (log_text (stop_line (suc n) stop ∷ []))) (let e : s.lines ≡ s.lines + 0 = omega arith in e)));
-    written = h.written;
-    faults = h.faults;
+    fits = fits_none s.size fits;
+    next = inl refl;
+    written = subst (λ held. HoldsText s.size s.held [] held) (sym same) (holds_nothing s.size s.held);
+    faults = faults;
   }
 
-  pub stopped_here : (e : ProveError) → HasStopped stop s t e → Halts c (here_part place) s t e
-  stopped_here (TooLarge n which) h = subst (λ z. IsStopped c (here_part place) s t z n) h.0 (record {
+  pub memory_here : (place : Place) (s : State) → Fits s.size → Halts frame c (here_part place) s s NoMemory
+  memory_here place s fits = memory_at place s s fits refl (omega arith)
+
+  -- nor in a part that begins there
+  pub memory_in : (P : Part) (place : Place) (s : State) → P.begun [] place → Fits s.size → Halts frame c P s s NoMemory
+  memory_in P place s b fits = halts_on frame c P (here_part place) s s s (reaches P [] place s s b (writes_nothing s)) NoMemory (memory_here place s fits)
+
+  cut_off_at : (place : Place) (line : Line) (s t : State) → IsNextIn frame c place (comes line) → Fits s.size → IsCutOff line s t → IsBrokenOff frame c (here_part place) s t
+  cut_off_at place line s t next fits (inl h) = record {
     lines = [];
     place = place;
+    piece = take h.1.count (log_text (line ∷ []));
     begun = stands place;
-    next = next;
-    fits = omega (arith, fits);
-    last = let l = h.1.last in omega (arith, l);
+    fits = fits_none s.size fits;
+    next = inr (inl (line, h.1.count, next, subst (λ (z : Size). Fits (with_text z (text_length (line ∷ [])))) (sym (with_none s.size)) h.0, refl));
     written = h.1.written;
     faults = h.1.faults;
-  })
-  stopped_here (Spent n) h = subst (λ z. IsStopped c (here_part place) s t z n) h.0 (record {
+  }
+  cut_off_at place line s t next fits (inr h) = memory_at place s t fits h.0 h.1
+
+  -- the line that comes next was not written
+  pub unwritten_here : (place : Place) (line : Line) (s t : State) → IsNextIn frame c place (comes line) → Fits s.size → (e : ProveError) → IsUnwritten line s t e
+      → Halts frame c (here_part place) s t e
+  unwritten_here place line s t next fits (TooLarge n which) h = absurd h
+  unwritten_here place line s t next fits (Spent n) h = absurd h
+  unwritten_here place line s t next fits TooLong h = record {
     lines = [];
     place = place;
+    line = line;
     begun = stands place;
     next = next;
-    fits = omega (arith, fits);
-    last = let l = h.1.last in omega (arith, l);
-    written = h.1.written;
-    faults = h.1.faults;
-  })
-  stopped_here TooLong h = absurd h
-  stopped_here WriteFault h = (stop_part h.0, h.1)
-  stopped_here NoMemory h = stop_part h
+    fits = fits_none s.size fits;
+    long = h.long;
+    written = subst (λ held. HoldsText s.size s.held [] held) (sym h.kept) (holds_nothing s.size s.held);
+    faults = h.faults;
+  }
+  unwritten_here place line s t next fits WriteFault h = (cut_off_at place line s t next fits h.0, h.1)
+  unwritten_here place line s t next fits NoMemory h = cut_off_at place line s t next fits h
 
--- CAUSES
--- a line that is not made, at its place
-pub answered_here : (c : Construction) (place : Place) (s t : State) → s.bytes ≤ 67108864 → (error : ApplyError) → (error ≡ SpentThere → IsNext lemma_table c place (stops spent))
-    → ((which : Which) → error ≡ TooLargeThere which → IsNext lemma_table c place (stops (too_large which))) → (error ≡ NoRow → ⊥) → (e : ProveError) → IsAnswered error s t e
-    → Halts c (here_part place) s t e
-answered_here c place s t fits NoRow is_spent is_large is_made e h = absurd (is_made refl)
-answered_here c place s t fits SpentThere is_spent is_large is_made e h = stopped_here c place spent s t (is_spent refl) fits e h
-answered_here c place s t fits (TooLargeThere which) is_spent is_large is_made e h = stopped_here c place (too_large which) s t (is_large which refl) fits e h
-answered_here c place s t fits NoMemoryThere is_spent is_large is_made e h =
-    subst (λ x. Halts c (here_part place) s t x) (sym h.0) (subst (λ u. Halts c (here_part place) s u NoMemory) (sym h.1) (memory_here c place s fits))
+  -- a stop comes next
+  module _ (place : Place) (stop : Stop) (s t : State) (next : IsNextIn frame c place (stops stop)) (fits : Fits s.size) where
+    stop_part : WritesSome (log_text (stop_line (suc s.lines) stop ∷ [])) s t → IsBrokenOff frame c (here_part place) s t
+    stop_part h = record {
+      lines = [];
+      place = place;
+      piece = take h.count (log_text (stop_line (suc s.lines) stop ∷ []));
+      begun = stands place;
+      fits = fits_none s.size fits;
+      next = inr (inr (stop, h.count, next, ap (λ n. take h.count (log_text (stop_line (suc n) stop ∷ []))) (let e : s.lines ≡ s.lines + 0 = omega arith in e)));
+      written = h.written;
+      faults = h.faults;
+    }
 
--- each line has a text
-pub some_text : (line : Line) → 0 < text_length (line ∷ [])
-some_text line =
-    let a : log_text (line ∷ []) ≡ line_text line ++ 10 ∷ [] = append-nil (line_text line ++ 10 ∷ []) in
-    let b : length (line_text line ++ 10 ∷ []) ≡ length (line_text line) + 1 = length-append (line_text line) (10 ∷ []) in
-    let d : text_length (line ∷ []) ≡ length (line_text line ++ 10 ∷ []) = ap length a in
-    omega (arith, b, d)
+    stop_here : (n : ℕ) → n ≡ suc s.lines → HoldsText s.size s.held (log_text (stop_line n stop ∷ [])) t.held → s.faults ≤ t.faults → IsStopped frame c (here_part place) s t stop n
+    stop_here n last written faults = record {
+      lines = [];
+      place = place;
+      begun = stands place;
+      next = next;
+      fits = fits_none s.size fits;
+      last = omega (arith, last);
+      written = written;
+      faults = faults;
+    }
+
+    pub stopped_here : (e : ProveError) → HasStopped stop s t e → Halts frame c (here_part place) s t e
+    stopped_here (TooLarge n which) h = subst (λ z. IsStopped frame c (here_part place) s t z n) h.0 (stop_here n h.1.last h.1.written h.1.faults)
+    stopped_here (Spent n) h = subst (λ z. IsStopped frame c (here_part place) s t z n) h.0 (stop_here n h.1.last h.1.written h.1.faults)
+    stopped_here TooLong h = absurd h
+    stopped_here WriteFault h = (stop_part h.0, h.1)
+    stopped_here NoMemory h = stop_part h
+
+  -- CAUSES
+  -- a line that is not made, at its place
+  pub answered_here : (place : Place) (s t : State) → Fits s.size → (error : ApplyError) → (error ≡ SpentThere → IsNextIn frame c place (stops spent))
+      → ((which : Which) → error ≡ TooLargeThere which → IsNextIn frame c place (stops (too_large which))) → (error ≡ NoRow → ⊥) → (e : ProveError) → IsAnswered error s t e
+      → Halts frame c (here_part place) s t e
+  answered_here place s t fits NoRow is_spent is_large is_made e h = absurd (is_made refl)
+  answered_here place s t fits SpentThere is_spent is_large is_made e h = stopped_here place spent s t (is_spent refl) fits e h
+  answered_here place s t fits (TooLargeThere which) is_spent is_large is_made e h = stopped_here place (too_large which) s t (is_large which refl) fits e h
+  answered_here place s t fits NoMemoryThere is_spent is_large is_made e h =
+      subst (λ x. Halts frame c (here_part place) s t x) (sym h.0) (subst (λ u. Halts frame c (here_part place) s u NoMemory) (sym h.1) (memory_here place s fits))

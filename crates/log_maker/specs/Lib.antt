@@ -1,3 +1,7 @@
+pub mod Frames
+pub mod FixedLogs
+pub mod InFrame
+pub mod Sizes
 pub mod Causes
 pub mod Written
 pub mod Parts

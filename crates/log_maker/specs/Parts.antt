@@ -1,5 +1,5 @@
--- The parts of the prover's log over the lemma table: how each begins, and what it is whole.
-use Rattle.std.specs.Prelude.{◌≡◌, ℕ, ◌+◌, ◌≤◌, Option, Some, None, List, [], ◌++◌, length, map}
+-- The parts of the prover's log over the lemma table, in either frame: how each begins, and what it is whole.
+use Rattle.std.specs.Prelude.{◌≡◌, ℕ, Option, Some, None, List, [], ◌++◌, length, map}
 use Rattle.geo_conditions.specs.declared.items.Item.{Item as ListedItem}
 use Rattle.geo_conditions.specs.Lists.{item_form}
 use Rattle.geo_poly.specs.declared.variables.Var.{Var}
@@ -11,15 +11,15 @@ use Rattle.geo_terms.specs.Trees.{Tree}
 use Rattle.proof_log.specs.declared.log.Line.{Line}
 use Rattle.proof_log.specs.declared.log.Line.TheVariants.{Start, Ratio, Point, Coords, Cut}
 use Rattle.proof_log.specs.declared.log.Verdict.{Verdict}
-use Rattle.proof_log.specs.Writable.{IsWritable}
-use Rattle.elim_apply.specs.LemmaTable.{lemma_table}
 use Rattle.geo_logs.specs.Chains.{ChainStep, line_of}
-use Rattle.geo_logs.specs.Defined.{IsDefinedChain, IsLogOfProver, LeadsBySteps}
-use Rattle.geo_logs.specs.Ends.{IsNext, comes, text_length}
-use Rattle.geo_logs.specs.Logs.{AreConditionsWorked, AreGoalsWorked, IsConcluded, Item, Subject}
+use Rattle.geo_logs.specs.Ends.{comes, text_length}
+use Rattle.geo_logs.specs.Logs.{AreConditionsWorked, AreGoalsWorked, IsConcluded, IsLog, Item, Subject}
 use Rattle.geo_logs.specs.Places.{AreConditionsBegun, AreGoalsBegun, IsBegun, IsBegunChain, IsBegunEnd, Place, in_chain}
-use Rattle.geo_logs.specs.Samples.{IsLeastSample}
 use Rattle.log_checker.specs.Subjects.{log_item}
+use Rattle.log_maker.specs.declared.frame.Frame.{Frame}
+use Rattle.log_maker.specs.declared.size.Size.{Size}
+use Rattle.log_maker.specs.InFrame.{IsNextIn, chosen_in, leads_in, works_in}
+use Rattle.log_maker.specs.Sizes.{Fits, IsTakable, with_text}
 
 -- PARTS
 -- the lines that begin a part of a log, each list with the place after it; and those that are all of it and of the log, with the verdict
@@ -33,54 +33,54 @@ abbrev pub here_part : Place → Part
 here_part here = record { begun = λ lines place. (lines ≡ []) × (place ≡ here); whole = λ lines verdict left. ⊥ }
 
 -- some steps lead from the polynomial to another, and these are their lines
-pub record IsBegunSteps (c : Construction) (known : List Var) (left : ℕ) (q : Summands) (lines : List Line) (place : Place) : Type 0 where
+pub record IsBegunSteps (frame : Frame) (c : Construction) (known : List Var) (left : ℕ) (q : Summands) (lines : List Line) (place : Place) : Type 0 where
   pub steps : List ChainStep
   pub after : ℕ
   pub last : Summands
-  pub leads : LeadsBySteps lemma_table c known left q steps after last
+  pub leads : leads_in frame c known left q steps after last
   pub split : lines ≡ map line_of steps
   pub stands : place ≡ in_chain known after last
 
 -- the steps of a chain after a polynomial
-abbrev pub steps_part : Construction → List Var → ℕ → Summands → Part
-steps_part c known left q = record { begun = IsBegunSteps c known left q; whole = λ lines verdict left'. ⊥ }
+abbrev pub steps_part : Frame → Construction → List Var → ℕ → Summands → Part
+steps_part frame c known left q = record { begun = IsBegunSteps frame c known left q; whole = λ lines verdict left'. ⊥ }
 
 -- the chain of a term, behind which something else follows
-abbrev pub chain_part : Construction → Line → List Var → ℕ → Tree → Part
-chain_part c header known left e = record {
-  begun = IsBegunChain (LeadsBySteps lemma_table c) (IsDefinedChain lemma_table c) (IsLeastSample c) header known left e;
+abbrev pub chain_part : Frame → Construction → Line → List Var → ℕ → Tree → Part
+chain_part frame c header known left e = record {
+  begun = IsBegunChain (leads_in frame c) (works_in frame c) (chosen_in frame c) header known left e;
   whole = λ lines verdict left'. ⊥;
 }
 
 -- the sample and the verdict
-abbrev pub end_part : Construction → List Summands → Verdict → ℕ → Part
-end_part c listed verdict left = record {
-  begun = IsBegunEnd (LeadsBySteps lemma_table c) (IsDefinedChain lemma_table c) (IsLeastSample c) listed verdict left;
+abbrev pub end_part : Frame → Construction → List Summands → Verdict → ℕ → Part
+end_part frame c listed verdict left = record {
+  begun = IsBegunEnd (leads_in frame c) (works_in frame c) (chosen_in frame c) listed verdict left;
   whole = λ lines other left'.
-      (other ≡ verdict) × IsConcluded (IsDefinedChain lemma_table c) (IsLeastSample c) listed left lines verdict left';
+      (other ≡ verdict) × IsConcluded (works_in frame c) (chosen_in frame c) listed left lines verdict left';
 }
 
 -- the goals from number k on, and what follows
-abbrev pub goals_part : Construction → List Var → List Summands → ℕ → ℕ → List Item → Part
-goals_part c known listed k left items = record {
-  begun = AreGoalsBegun (LeadsBySteps lemma_table c) (IsDefinedChain lemma_table c) (IsLeastSample c) known listed k left items;
-  whole = AreGoalsWorked (IsDefinedChain lemma_table c) (IsLeastSample c) known listed k left items;
+abbrev pub goals_part : Frame → Construction → List Var → List Summands → ℕ → ℕ → List Item → Part
+goals_part frame c known listed k left items = record {
+  begun = AreGoalsBegun (leads_in frame c) (works_in frame c) (chosen_in frame c) known listed k left items;
+  whole = AreGoalsWorked (works_in frame c) (chosen_in frame c) known listed k left items;
 }
 
 -- the conditions from number k on, and what follows
-abbrev pub conditions_part : Construction → List Item → List Var → List Summands → ℕ → ℕ → List Item → Part
-conditions_part c goals known listed k left items = record {
-  begun = AreConditionsBegun (LeadsBySteps lemma_table c) (IsDefinedChain lemma_table c) (IsLeastSample c) goals known listed k left items;
-  whole = AreConditionsWorked (IsDefinedChain lemma_table c) (IsLeastSample c) goals known listed k left items;
+abbrev pub conditions_part : Frame → Construction → List Item → List Var → List Summands → ℕ → ℕ → List Item → Part
+conditions_part frame c goals known listed k left items = record {
+  begun = AreConditionsBegun (leads_in frame c) (works_in frame c) (chosen_in frame c) goals known listed k left items;
+  whole = AreConditionsWorked (works_in frame c) (chosen_in frame c) goals known listed k left items;
 }
 
 -- the log
-abbrev pub log_part : Subject → ℕ → Part
-log_part subject steps =
+abbrev pub log_part : Frame → Subject → ℕ → Part
+log_part frame subject steps =
     let c = subject.construction in
     record {
-      begun = IsBegun (LeadsBySteps lemma_table c) (IsDefinedChain lemma_table c) (IsLeastSample c) subject steps;
-      whole = IsLogOfProver lemma_table subject steps;
+      begun = IsBegun (leads_in frame c) (works_in frame c) (chosen_in frame c) subject steps;
+      whole = IsLog (works_in frame c) (chosen_in frame c) subject steps;
     }
 
 -- behind these lines a part goes on as another
@@ -89,11 +89,11 @@ pub record Continues (part next : Part) (lines : List Line) : Type 0 where
   pub whole : (more : List Line) (verdict : Verdict) (left : ℕ) → next.whole more verdict left → part.whole (lines ++ more) verdict left
 
 -- each line that comes next in the part may be written, where the text before it is within the limit
-abbrev pub CanWrite : Construction → Part → ℕ → Type 0
-CanWrite c part bytes =
-    (lines : List Line) (place : Place) (line : Line) → part.begun lines place → IsNext lemma_table c place (comes line)
-    → bytes + text_length lines ≤ 67108864
-    → IsWritable line
+abbrev pub CanWrite : Frame → Construction → Part → Size → Type 0
+CanWrite frame c part size =
+    (lines : List Line) (place : Place) (line : Line) → part.begun lines place → IsNextIn frame c place (comes line)
+    → Fits (with_text size (text_length lines))
+    → IsTakable size line
 
 -- LINES
 -- the polynomial of a line

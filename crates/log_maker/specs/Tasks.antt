@@ -2,6 +2,7 @@
 use Rattle.std.specs.Prelude.{◌≡◌, ℕ, suc, ◌<◌, Some, List, All, drop, length, slice_get}
 use Rattle.geo_conditions.specs.declared.items.Item.{Item}
 use Rattle.geo_conditions.specs.declared.problem.Problem.{Problem}
+use Rattle.geo_logs.specs.Logs.{Item as LogItem}
 use Rattle.geo_points.specs.declared.ids.TermId.{TermId}
 use Rattle.geo_poly.specs.declared.variables.Var.{Var}
 use Rattle.geo_poly.specs.Polynomials.{Summands}
@@ -9,6 +10,7 @@ use Rattle.geo_terms.specs.Constructions.{Construction}
 use Rattle.geo_terms.specs.Stores.{tree_of}
 use Rattle.proof_log.specs.declared.log.Line.{Line}
 use Rattle.proof_log.specs.declared.log.Line.TheVariants.{Condition, Goal}
+use Rattle.log_maker.specs.declared.frame.Frame.{Frame}
 use Rattle.log_maker.specs.Parts.{IsInside, Part, conditions_part, goals_part, items_of}
 
 -- the item's term stands in the store, and names points and parameters of the construction
@@ -35,13 +37,17 @@ pub record IsGoalTask (items : List Item) (i : ℕ) (header : Line) (term : Term
   pub header_is : header ≡ Goal (suc i) item.text
   pub term_is : term ≡ item.term
 
--- the conditions from place i on, and what follows
-abbrev pub conditions_from : Problem → ℕ → List Var → List Summands → ℕ → Part
-conditions_from problem i known listed left =
-    let nodes = problem.steps.nodes in
-    conditions_part problem.steps (items_of nodes problem.goals) known listed (suc i) left (items_of nodes (drop i problem.conditions))
+-- the conditions from place i on, with these goals behind them, and what follows
+abbrev pub conditions_before : Frame → Problem → List LogItem → ℕ → List Var → List Summands → ℕ → Part
+conditions_before frame problem goals i known listed left =
+    conditions_part frame problem.steps goals known listed (suc i) left (items_of problem.steps.nodes (drop i problem.conditions))
+
+-- with the problem's own goals
+abbrev pub conditions_from : Frame → Problem → ℕ → List Var → List Summands → ℕ → Part
+conditions_from frame problem i known listed left =
+    conditions_before frame problem (items_of problem.steps.nodes problem.goals) i known listed left
 
 -- the goals from place i on, and what follows
-abbrev pub goals_from : Problem → ℕ → List Var → List Summands → ℕ → Part
-goals_from problem i known listed left =
-    goals_part problem.steps known listed (suc i) left (items_of problem.steps.nodes (drop i problem.goals))
+abbrev pub goals_from : Frame → Problem → ℕ → List Var → List Summands → ℕ → Part
+goals_from frame problem i known listed left =
+    goals_part frame problem.steps known listed (suc i) left (items_of problem.steps.nodes (drop i problem.goals))

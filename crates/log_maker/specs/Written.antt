@@ -1,6 +1,6 @@
 -- What one write does to a log and to its sink.
-use Rattle.std.specs.Prelude.{◌≡◌, ℕ, suc, ◌+◌, ◌<◌, ◌≤◌, ◌⊎◌, Option, List, [], ◌∷◌, length, take}
-use Rattle.geo_base.specs.Devices.{Grows, HasRisen}
+use Rattle.std.specs.Prelude.{◌≡◌, ℕ, suc, ◌+◌, ◌≤◌, ◌⊎◌, Option, List, [], ◌∷◌, length, take}
+use Rattle.geo_base.specs.Devices.{HasRisen}
 use Rattle.geo_logs.specs.Ends.{stop_line, text_length}
 use Rattle.geo_logs.specs.Moves.{Stop, spent, too_large}
 use Rattle.proof_log.specs.declared.log.Line.{Line}
@@ -8,44 +8,47 @@ use Rattle.proof_log.specs.Lines.{log_text}
 use Rattle.log_maker.specs.declared.errors.ProveError.{ProveError}
 use Rattle.log_maker.specs.declared.errors.ProveError.TheVariants.{TooLarge, Spent, TooLong, WriteFault, NoMemory}
 use Rattle.log_maker.specs.declared.log_writer.LogWriter.{LogWriter}
+use Rattle.log_maker.specs.declared.size.Size.{Size}
+use Rattle.log_maker.specs.declared.size.Size.TheVariants.{Written}
+use Rattle.log_maker.specs.Sizes.{Fits, HoldsText, IsPast, with_text}
 
--- how many lines and bytes of a log there are, the bytes that its sink holds, and the sink's count of faults
+-- how many lines of a log there are, the size of their text, the bytes that its sink holds, and the sink's count of faults
 pub record State : Type 0 where
   pub lines : ℕ
-  pub bytes : ℕ
+  pub size : Size
   pub held : Option (List ℕ)
   pub faults : ℕ
 
 abbrev pub state : LogWriter → Option (List ℕ) → ℕ → State
-state log held faults = record { lines = log.lines; bytes = log.bytes; held = held; faults = faults }
+state log held faults = record { lines = log.lines; size = log.size; held = held; faults = faults }
 
 -- nothing of the log is written yet
 abbrev pub first_state : Option (List ℕ) → ℕ → State
-first_state held faults = record { lines = 0; bytes = 0; held = held; faults = faults }
+first_state held faults = record { lines = 0; size = Written 0; held = held; faults = faults }
 
--- these lines were written
+-- these lines were written, or counted
 pub record Writes (lines : List Line) (s t : State) : Type 0 where
   pub counted : t.lines ≡ s.lines + length lines
-  pub measured : t.bytes ≡ s.bytes + text_length lines
-  pub written : Grows s.held (log_text lines) t.held
+  pub measured : t.size ≡ with_text s.size (text_length lines)
+  pub written : HoldsText s.size s.held (log_text lines) t.held
   pub faults : s.faults ≤ t.faults
 
 -- the first bytes of the text were written
 pub record WritesSome (text : List ℕ) (s t : State) : Type 0 where
   pub count : ℕ
-  pub written : Grows s.held (take count text) t.held
+  pub written : HoldsText s.size s.held (take count text) t.held
   pub faults : s.faults ≤ t.faults
 
 -- the line takes the text past its limit, and was not written
 pub record IsLeftOut (line : Line) (s t : State) : Type 0 where
-  pub long : 67108864 < s.bytes + text_length (line ∷ [])
+  pub long : IsPast (with_text s.size (text_length (line ∷ [])))
   pub kept : t.held ≡ s.held
   pub faults : s.faults ≤ t.faults
 
 -- the line is within the limit, and the first bytes of it were written; or none were
 abbrev pub IsCutOff : Line → State → State → Type 0
 IsCutOff line s t =
-    ((s.bytes + text_length (line ∷ []) ≤ 67108864) × WritesSome (log_text (line ∷ [])) s t)
+    (Fits (with_text s.size (text_length (line ∷ []))) × WritesSome (log_text (line ∷ [])) s t)
     ⊎ ((t.held ≡ s.held) × (s.faults ≤ t.faults))
 
 -- why the line was not written
@@ -56,10 +59,10 @@ IsUnwritten line s t TooLong = IsLeftOut line s t
 IsUnwritten line s t WriteFault = IsCutOff line s t × HasRisen s.faults t.faults
 IsUnwritten line s t NoMemory = IsCutOff line s t
 
--- the line of the stop was written, and has this number
+-- the line of the stop was written, or would be next, and has this number
 pub record IsStopWritten (stop : Stop) (number : ℕ) (s t : State) : Type 0 where
   pub last : number ≡ suc s.lines
-  pub written : Grows s.held (log_text (stop_line number stop ∷ [])) t.held
+  pub written : HoldsText s.size s.held (log_text (stop_line number stop ∷ [])) t.held
   pub faults : s.faults ≤ t.faults
 
 -- the stop is answered, with its line; or the first bytes of the line were written

@@ -1,7 +1,7 @@
 //! The chain of a condition or a goal.
 
-ghost use Rattle.std.specs.Prelude.{◌≡◌, ◌≢◌, ◌-◌, ◌<◌, ◌∷◌, [], IfErr, IfOk, OnOk, length};
-ghost use Rattle.geo_chain.specs.NextLines.{HasLinePointsBelow, IsNextLine};
+ghost use Rattle.std.specs.Prelude.{◌≡◌, ◌≢◌, ◌+◌, ◌-◌, ◌<◌, ◌∷◌, [], IfErr, IfOk, OnOk, length};
+ghost use Rattle.geo_chain.specs.NextLines.{HasLinePointsBelow};
 ghost use Rattle.geo_logs.specs.Places.{before_start, in_chain};
 ghost use Rattle.geo_logs.specs.Starts.{IsStarted, start_charge, start_of};
 ghost use Rattle.proof_log.specs.declared.log.Line.TheVariants.{Start};
@@ -9,19 +9,22 @@ ghost use Rattle.fraction_poly.specs.Inner.Known.{IsKnownOf};
 ghost use Rattle.fraction_poly.specs.TableRows.{HasPointsBelow};
 ghost use Rattle.geo_poly.specs.PolynomialVariables.{AllVariables};
 ghost use Rattle.geo_terms.specs.Stores.{tree_of};
-ghost use Rattle.proof_log.specs.Writable.{IsWritable};
+ghost use Rattle.log_maker.specs.declared.frame.Frame.{Frame};
+ghost use Rattle.log_maker.specs.InFrame.{IsNextLineIn};
+ghost use Rattle.log_maker.specs.Sizes.{IsTakable};
 ghost use Rattle.log_maker.specs.Halting.{Halts, IsAnswered, WorksChain, WorksSteps};
 ghost use Rattle.log_maker.specs.Parts.{CanWrite, IsInside, chain_part};
 ghost use Rattle.log_maker.specs.Parts.{here_part, polynomial_on, steps_part};
 ghost use Rattle.log_maker.specs.Written.{IsUnwritten, Writes, state};
 
 use crate::errors::ProveError;
+use crate::frame::Frame;
 use crate::known::sole_variable;
 use crate::log_writer::LogWriter;
 use elim_apply::{ApplyError, KnownNumbers, start};
 use geo_base::{Budget, Sink};
 use geo_chain::next_line_known;
-use geo_points::TermId;
+use geo_points::{NoMemory, TermId};
 use geo_poly::lists::Vars;
 use geo_poly::{Poly, Var};
 use geo_terms::Steps;
@@ -37,6 +40,17 @@ pub struct Task {
     pub term: TermId,
 }
 
+/// The number of the item at place i. More items than a number can tell are answered by want of
+/// memory.
+pub fn item_number(i: usize) -> Result<u32, NoMemory>
+    ensures { IfOk result (λ k. k ≡ i + 1) }
+{
+    if i >= u32::MAX as usize {
+        return Err(NoMemory);
+    }
+    Ok(i as u32 + 1)
+}
+
 /// What a chain came to.
 #[derive(Drop)]
 pub struct WorkedChain {
@@ -50,6 +64,7 @@ pub struct WorkedChain {
 /// polynomial of the line before and the numbers of steps are kept.
 pub fn work_chain<K: Sink>(
     alloc: Global,
+    frame: Frame,
     steps: &Steps,
     known: &Vars,
     numbers: &mut KnownNumbers,
@@ -61,14 +76,15 @@ pub fn work_chain<K: Sink>(
     requires stored { task.now.term.0 < length steps.now.nodes }
     requires inside { IsInside steps.now (tree_of steps.now.nodes task.now.term) }
     requires numbers { IsKnownOf steps.now.nodes numbers.old }
-    requires writable { CanWrite steps.now (chain_part steps.now task.now.header known.now
-        budget.old.left (tree_of steps.now.nodes task.now.term)) log.old.bytes }
-    ensures ok { IfOk result (λ chain. WorksChain steps.now task.now.header known.now
+    requires writable { CanWrite frame steps.now (chain_part frame steps.now
+        task.now.header known.now budget.old.left (tree_of steps.now.nodes task.now.term))
+        log.old.size }
+    ensures ok { IfOk result (λ chain. WorksChain frame steps.now task.now.header known.now
         budget.old.left (tree_of steps.now.nodes task.now.term) budget.new.left
         (state log.old (K.held sink.old) (K.faults sink.old))
         (state log.new (K.held sink.new) (K.faults sink.new)) chain.end chain.variable) }
-    ensures err { IfErr result (Halts steps.now (chain_part steps.now task.now.header known.now
-        budget.old.left (tree_of steps.now.nodes task.now.term))
+    ensures err { IfErr result (Halts frame steps.now (chain_part frame steps.now
+        task.now.header known.now budget.old.left (tree_of steps.now.nodes task.now.term))
         (state log.old (K.held sink.old) (K.faults sink.old))
         (state log.new (K.held sink.new) (K.faults sink.new))) }
     ensures numbers { IsKnownOf steps.now.nodes numbers.new }
@@ -77,7 +93,7 @@ pub fn work_chain<K: Sink>(
     let first = first_polynomial(alloc, steps, task.term, budget, log, sink)?;
     let variable = sole_variable(&first);
     let first = write_start(alloc, first, log, sink)?;
-    let end = work_steps(alloc, steps, known, numbers, first, budget, log, sink)?;
+    let end = work_steps(alloc, frame, steps, known, numbers, first, budget, log, sink)?;
     Ok(WorkedChain { end, variable })
 }
 
@@ -97,7 +113,7 @@ fn first_polynomial<K: Sink>(
     ensures paid { OnOk result
         (budget.new.left ≡ budget.old.left - start_charge (tree_of steps.now.nodes term)) }
     ensures kept { OnOk result (sink.new ≡ sink.old) }
-    ensures err { IfErr result (Halts steps.now
+    ensures err { (frame : Frame) → IfErr result (Halts frame steps.now
         (here_part (before_start budget.old.left (tree_of steps.now.nodes term)))
         (state log.now (K.held sink.old) (K.faults sink.old))
         (state log.now (K.held sink.new) (K.faults sink.new))) }
@@ -115,7 +131,7 @@ fn write_start<K: Sink>(
     log: &mut LogWriter,
     sink: &mut K,
 ) -> Result<Poly, ProveError>
-    requires { IsWritable (Start first) }
+    requires { IsTakable log.old.size (Start first) }
     ensures same { IfOk result (λ q. q ≡ first) }
     ensures ok { OnOk result (Writes (Start first ∷ [])
         (state log.old (K.held sink.old) (K.faults sink.old))
@@ -136,6 +152,7 @@ fn write_start<K: Sink>(
 /// polynomial.
 fn work_steps<K: Sink>(
     alloc: Global,
+    frame: Frame,
     steps: &Steps,
     known: &Vars,
     numbers: &mut KnownNumbers,
@@ -146,20 +163,20 @@ fn work_steps<K: Sink>(
 ) -> Result<Poly, ProveError>
     requires numbers { IsKnownOf steps.now.nodes numbers.old }
     requires points { AllVariables (HasPointsBelow (length steps.now.steps)) first }
-    requires writable { CanWrite steps.now
-        (steps_part steps.now known.now budget.old.left first) log.old.bytes }
-    ensures ok { IfOk result (WorksSteps steps.now known.now budget.old.left first
+    requires writable { CanWrite frame steps.now
+        (steps_part frame steps.now known.now budget.old.left first) log.old.size }
+    ensures ok { IfOk result (WorksSteps frame steps.now known.now budget.old.left first
         budget.new.left (state log.old (K.held sink.old) (K.faults sink.old))
         (state log.new (K.held sink.new) (K.faults sink.new))) }
-    ensures err { IfErr result (Halts steps.now
-        (steps_part steps.now known.now budget.old.left first)
+    ensures err { IfErr result (Halts frame steps.now
+        (steps_part frame steps.now known.now budget.old.left first)
         (state log.old (K.held sink.old) (K.faults sink.old))
         (state log.new (K.held sink.new) (K.faults sink.new))) }
     ensures numbers { IsKnownOf steps.now.nodes numbers.new }
 {
     let mut last = first;
     loop {
-        let line = line_after(alloc, steps, known, numbers, &last, budget, log, sink)?;
+        let line = line_after(alloc, frame, steps, known, numbers, &last, budget, log, sink)?;
         log.write(alloc, sink, &line)?;
         match polynomial_of(line) {
             Some(poly) => last = poly,
@@ -171,6 +188,7 @@ fn work_steps<K: Sink>(
 /// The line after a polynomial; the line of a stop is written.
 fn line_after<K: Sink>(
     alloc: Global,
+    frame: Frame,
     steps: &Steps,
     known: &Vars,
     numbers: &mut KnownNumbers,
@@ -181,18 +199,18 @@ fn line_after<K: Sink>(
 ) -> Result<Line, ProveError>
     requires numbers { IsKnownOf steps.now.nodes numbers.old }
     requires points { AllVariables (HasPointsBelow (length steps.now.steps)) last.now }
-    ensures line { IfOk result (λ line.
-        IsNextLine steps.now known.now budget.old.left last.now line budget.new.left) }
+    ensures line { IfOk result (λ line. IsNextLineIn frame steps.now known.now
+        budget.old.left last.now line budget.new.left) }
     ensures points { IfOk result (HasLinePointsBelow (length steps.now.steps)) }
     ensures kept { OnOk result (sink.new ≡ sink.old) }
-    ensures err { IfErr result (Halts steps.now
+    ensures err { IfErr result (Halts frame steps.now
         (here_part (in_chain known.now budget.old.left last.now))
         (state log.now (K.held sink.old) (K.faults sink.old))
         (state log.now (K.held sink.new) (K.faults sink.new))) }
     ensures numbers { IsKnownOf steps.now.nodes numbers.new }
 {
     match next_line_known(alloc, steps, numbers, last, known, budget) {
-        Ok(line) => Ok(line),
+        Ok(line) => Ok(frame.framed(alloc, line)?),
         Err(error) => Err(stopped(alloc, error, log, sink)),
     }
 }

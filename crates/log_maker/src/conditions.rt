@@ -1,19 +1,21 @@
 //! The chains of the conditions.
 
-ghost use Rattle.std.specs.Prelude.{◌≡◌, ◌≢◌, ◌+◌, ◌^◌, ◌<◌, ◌∷◌, ◌++◌, [], length};
+ghost use Rattle.std.specs.Prelude.{◌≡◌, ◌≢◌, ◌+◌, ◌^◌, ◌<◌, ◌∷◌, ◌++◌, [], List, length};
 ghost use Rattle.std.specs.Prelude.{IfErr, IfNone, IfOk, IfSome, OnOk};
 ghost use Rattle.std.specs.List.{cons_option};
 ghost use Rattle.fraction_poly.specs.Inner.Known.{IsKnownOf};
 ghost use Rattle.geo_poly.specs.Specialise.{NoneZero};
 ghost use Rattle.log_maker.specs.Halting.{Halts, IsImpossibleAt, Passes};
-ghost use Rattle.log_maker.specs.Parts.{CanWrite};
+ghost use Rattle.geo_logs.specs.Logs.{Item as LogItem};
+ghost use Rattle.log_maker.specs.Parts.{CanWrite, goals_part};
 ghost use Rattle.log_maker.specs.Tasks.{IsConditionTask, IsReady};
-ghost use Rattle.log_maker.specs.Tasks.{conditions_from, goals_from};
+ghost use Rattle.log_maker.specs.Tasks.{conditions_before, conditions_from};
 ghost use Rattle.log_maker.specs.Written.{state};
 
-use crate::chains::{Task, WorkedChain, work_chain};
+use crate::chains::{Task, WorkedChain, item_number, work_chain};
 use crate::errors::ProveError;
 use crate::findings::Findings;
+use crate::frame::Frame;
 use crate::log_writer::LogWriter;
 use elim_apply::KnownNumbers;
 use geo_base::{Budget, Sink, Text};
@@ -26,6 +28,7 @@ use std::alloc::Global;
 /// answers its number, if there is one.
 pub fn work_conditions<K: Sink>(
     alloc: Global,
+    frame: Frame,
     problem: &Problem,
     findings: &mut Findings,
     numbers: &mut KnownNumbers,
@@ -36,26 +39,30 @@ pub fn work_conditions<K: Sink>(
     requires ready { IsReady problem.now }
     requires numbers { IsKnownOf problem.now.steps.nodes numbers.old }
     requires nonzero { NoneZero findings.old.ends }
-    requires writable { CanWrite problem.now.steps (conditions_from problem.now 0
-        findings.old.known findings.old.ends budget.old.left) log.old.bytes }
-    ensures met { IfOk result (λ found. IfNone found (Passes
-        (conditions_from problem.now 0 findings.old.known findings.old.ends budget.old.left)
-        (goals_from problem.now 0 findings.new.known findings.new.ends budget.new.left)
+    requires writable { CanWrite frame problem.now.steps (conditions_from frame problem.now 0
+        findings.old.known findings.old.ends budget.old.left) log.old.size }
+    ensures met { (goals : List LogItem) → IfOk result (λ found. IfNone found (Passes
+        (conditions_before frame problem.now goals 0
+        findings.old.known findings.old.ends budget.old.left)
+        (goals_part frame problem.now.steps findings.new.known findings.new.ends 1
+        budget.new.left goals)
         (state log.old (K.held sink.old) (K.faults sink.old))
         (state log.new (K.held sink.new) (K.faults sink.new)))) }
-    ensures impossible { IfOk result (λ found. IfSome found (IsImpossibleAt
-        (conditions_from problem.now 0 findings.old.known findings.old.ends budget.old.left)
+    ensures impossible { (goals : List LogItem) → IfOk result (λ found. IfSome found
+        (IsImpossibleAt (conditions_before frame problem.now goals 0
+        findings.old.known findings.old.ends budget.old.left)
         budget.new.left (state log.old (K.held sink.old) (K.faults sink.old))
         (state log.new (K.held sink.new) (K.faults sink.new)))) }
     ensures nonzero { OnOk result (NoneZero findings.new.ends) }
-    ensures err { IfErr result (Halts problem.now.steps
-        (conditions_from problem.now 0 findings.old.known findings.old.ends budget.old.left)
+    ensures err { (goals : List LogItem) → IfErr result (Halts frame problem.now.steps
+        (conditions_before frame problem.now goals 0
+        findings.old.known findings.old.ends budget.old.left)
         (state log.old (K.held sink.old) (K.faults sink.old))
         (state log.new (K.held sink.new) (K.faults sink.new))) }
     ensures numbers { IsKnownOf problem.now.steps.nodes numbers.new }
 {
     for i in 0..problem.conditions.items.len() {
-        let chain = work_condition(alloc, problem, i, findings, numbers, budget, log, sink)?;
+        let chain = work_condition(alloc, frame, problem, i, findings, numbers, budget, log, sink)?;
         if chain.end.is_zero() {
             return Ok(Some(i as u32 + 1));
         }
@@ -67,6 +74,7 @@ pub fn work_conditions<K: Sink>(
 /// Writes the chain of the condition at place i.
 fn work_condition<K: Sink>(
     alloc: Global,
+    frame: Frame,
     problem: &Problem,
     i: usize,
     findings: &Findings,
@@ -78,21 +86,25 @@ fn work_condition<K: Sink>(
     requires ready { IsReady problem.now }
     requires numbers { IsKnownOf problem.now.steps.nodes numbers.old }
     requires place { i < length problem.now.conditions }
-    requires writable { CanWrite problem.now.steps (conditions_from problem.now i
-        findings.now.known findings.now.ends budget.old.left) log.old.bytes }
-    ensures passes { IfOk result (λ chain. chain.end ≢ [] → Passes
-        (conditions_from problem.now i findings.now.known findings.now.ends budget.old.left)
-        (conditions_from problem.now (i + 1) (findings.now.known ++ cons_option chain.variable [])
+    requires writable { CanWrite frame problem.now.steps (conditions_from frame problem.now i
+        findings.now.known findings.now.ends budget.old.left) log.old.size }
+    ensures passes { (goals : List LogItem) → IfOk result (λ chain. chain.end ≢ [] → Passes
+        (conditions_before frame problem.now goals i
+        findings.now.known findings.now.ends budget.old.left)
+        (conditions_before frame problem.now goals (i + 1)
+        (findings.now.known ++ cons_option chain.variable [])
         (findings.now.ends ++ chain.end ∷ []) budget.new.left)
         (state log.old (K.held sink.old) (K.faults sink.old))
         (state log.new (K.held sink.new) (K.faults sink.new))) }
-    ensures impossible { IfOk result (λ chain. chain.end ≡ [] → IsImpossibleAt
-        (conditions_from problem.now i findings.now.known findings.now.ends budget.old.left)
+    ensures impossible { (goals : List LogItem) → IfOk result (λ chain. chain.end ≡ []
+        → IsImpossibleAt (conditions_before frame problem.now goals i
+        findings.now.known findings.now.ends budget.old.left)
         budget.new.left (state log.old (K.held sink.old) (K.faults sink.old))
         (state log.new (K.held sink.new) (K.faults sink.new)) (i + 1)) }
-    ensures small { i + 1 < 2 ^ 32 }
-    ensures err { IfErr result (Halts problem.now.steps
-        (conditions_from problem.now i findings.now.known findings.now.ends budget.old.left)
+    ensures small { OnOk result (i + 1 < 2 ^ 32) }
+    ensures err { (goals : List LogItem) → IfErr result (Halts frame problem.now.steps
+        (conditions_before frame problem.now goals i
+        findings.now.known findings.now.ends budget.old.left)
         (state log.old (K.held sink.old) (K.faults sink.old))
         (state log.new (K.held sink.new) (K.faults sink.new))) }
     ensures numbers { IsKnownOf problem.now.steps.nodes numbers.new }
@@ -100,6 +112,7 @@ fn work_condition<K: Sink>(
     let task = condition_task(alloc, problem, i)?;
     work_chain(
         alloc,
+        frame,
         &problem.steps,
         &findings.known,
         numbers,
@@ -113,13 +126,12 @@ fn work_condition<K: Sink>(
 /// The chain that is due for the condition at place i.
 fn condition_task(alloc: Global, problem: &Problem, i: usize) -> Result<Task, NoMemory>
     requires place { i < length problem.now.conditions }
-    requires small { i + 1 < 2 ^ 32 }
     ensures { IfOk result (λ task.
         IsConditionTask problem.now.conditions i task.header task.term) }
 {
     let item = &problem.conditions.items[i];
     let header = Line::Condition {
-        k: i as u32 + 1,
+        k: item_number(i)?,
         text: copied(alloc, &item.text)?,
     };
     Ok(Task {

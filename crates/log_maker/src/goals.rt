@@ -10,10 +10,11 @@ ghost use Rattle.log_maker.specs.Parts.{CanWrite, end_part};
 ghost use Rattle.log_maker.specs.Tasks.{IsGoalTask, IsReady, goals_from};
 ghost use Rattle.log_maker.specs.Written.{state};
 
-use crate::chains::{Task, WorkedChain, work_chain};
+use crate::chains::{Task, WorkedChain, item_number, work_chain};
 use crate::conditions::copied;
 use crate::errors::ProveError;
 use crate::findings::Findings;
+use crate::frame::Frame;
 use crate::log_writer::LogWriter;
 use elim_apply::KnownNumbers;
 use geo_base::{Budget, Sink};
@@ -26,6 +27,7 @@ use std::alloc::Global;
 /// answers the verdict. The end that is not 0 is among the findings then.
 pub fn work_goals<K: Sink>(
     alloc: Global,
+    frame: Frame,
     problem: &Problem,
     findings: &mut Findings,
     numbers: &mut KnownNumbers,
@@ -36,22 +38,22 @@ pub fn work_goals<K: Sink>(
     requires ready { IsReady problem.now }
     requires numbers { IsKnownOf problem.now.steps.nodes numbers.old }
     requires nonzero { NoneZero findings.old.ends }
-    requires writable { CanWrite problem.now.steps (goals_from problem.now 0
-        findings.old.known findings.old.ends budget.old.left) log.old.bytes }
+    requires writable { CanWrite frame problem.now.steps (goals_from frame problem.now 0
+        findings.old.known findings.old.ends budget.old.left) log.old.size }
     ensures ok { IfOk result (λ verdict. Passes
-        (goals_from problem.now 0 findings.old.known findings.old.ends budget.old.left)
-        (end_part problem.now.steps findings.new.ends verdict budget.new.left)
+        (goals_from frame problem.now 0 findings.old.known findings.old.ends budget.old.left)
+        (end_part frame problem.now.steps findings.new.ends verdict budget.new.left)
         (state log.old (K.held sink.old) (K.faults sink.old))
         (state log.new (K.held sink.new) (K.faults sink.new))) }
     ensures nonzero { OnOk result (NoneZero findings.new.ends) }
-    ensures err { IfErr result (Halts problem.now.steps
-        (goals_from problem.now 0 findings.old.known findings.old.ends budget.old.left)
+    ensures err { IfErr result (Halts frame problem.now.steps
+        (goals_from frame problem.now 0 findings.old.known findings.old.ends budget.old.left)
         (state log.old (K.held sink.old) (K.faults sink.old))
         (state log.new (K.held sink.new) (K.faults sink.new))) }
     ensures numbers { IsKnownOf problem.now.steps.nodes numbers.new }
 {
     for i in 0..problem.goals.items.len() {
-        let chain = work_goal(alloc, problem, i, findings, numbers, budget, log, sink)?;
+        let chain = work_goal(alloc, frame, problem, i, findings, numbers, budget, log, sink)?;
         if !chain.end.is_zero() {
             findings.add_end(chain.end)?;
             return Ok(Verdict::False(i as u32 + 1));
@@ -63,6 +65,7 @@ pub fn work_goals<K: Sink>(
 /// Writes the chain of the goal at place i.
 fn work_goal<K: Sink>(
     alloc: Global,
+    frame: Frame,
     problem: &Problem,
     i: usize,
     findings: &Findings,
@@ -74,22 +77,22 @@ fn work_goal<K: Sink>(
     requires ready { IsReady problem.now }
     requires numbers { IsKnownOf problem.now.steps.nodes numbers.old }
     requires place { i < length problem.now.goals }
-    requires writable { CanWrite problem.now.steps (goals_from problem.now i
-        findings.now.known findings.now.ends budget.old.left) log.old.bytes }
+    requires writable { CanWrite frame problem.now.steps (goals_from frame problem.now i
+        findings.now.known findings.now.ends budget.old.left) log.old.size }
     ensures passes { IfOk result (λ chain. chain.end ≡ [] → Passes
-        (goals_from problem.now i findings.now.known findings.now.ends budget.old.left)
-        (goals_from problem.now (i + 1) findings.now.known findings.now.ends budget.new.left)
+        (goals_from frame problem.now i findings.now.known findings.now.ends budget.old.left)
+        (goals_from frame problem.now (i + 1) findings.now.known findings.now.ends budget.new.left)
         (state log.old (K.held sink.old) (K.faults sink.old))
         (state log.new (K.held sink.new) (K.faults sink.new))) }
     ensures fails { IfOk result (λ chain. chain.end ≢ [] → Passes
-        (goals_from problem.now i findings.now.known findings.now.ends budget.old.left)
-        (end_part problem.now.steps (findings.now.ends ++ chain.end ∷ []) (False (i + 1))
+        (goals_from frame problem.now i findings.now.known findings.now.ends budget.old.left)
+        (end_part frame problem.now.steps (findings.now.ends ++ chain.end ∷ []) (False (i + 1))
         budget.new.left)
         (state log.old (K.held sink.old) (K.faults sink.old))
         (state log.new (K.held sink.new) (K.faults sink.new))) }
-    ensures small { i + 1 < 2 ^ 32 }
-    ensures err { IfErr result (Halts problem.now.steps
-        (goals_from problem.now i findings.now.known findings.now.ends budget.old.left)
+    ensures small { OnOk result (i + 1 < 2 ^ 32) }
+    ensures err { IfErr result (Halts frame problem.now.steps
+        (goals_from frame problem.now i findings.now.known findings.now.ends budget.old.left)
         (state log.old (K.held sink.old) (K.faults sink.old))
         (state log.new (K.held sink.new) (K.faults sink.new))) }
     ensures numbers { IsKnownOf problem.now.steps.nodes numbers.new }
@@ -97,6 +100,7 @@ fn work_goal<K: Sink>(
     let task = goal_task(alloc, problem, i)?;
     work_chain(
         alloc,
+        frame,
         &problem.steps,
         &findings.known,
         numbers,
@@ -110,12 +114,11 @@ fn work_goal<K: Sink>(
 /// The chain that is due for the goal at place i.
 fn goal_task(alloc: Global, problem: &Problem, i: usize) -> Result<Task, NoMemory>
     requires place { i < length problem.now.goals }
-    requires small { i + 1 < 2 ^ 32 }
     ensures { IfOk result (λ task. IsGoalTask problem.now.goals i task.header task.term) }
 {
     let item = &problem.goals.items[i];
     let header = Line::Goal {
-        k: i as u32 + 1,
+        k: item_number(i)?,
         text: copied(alloc, &item.text)?,
     };
     Ok(Task {

@@ -1,30 +1,26 @@
-//! Writes a log line by line, within the limit of its text.
+//! Writes a log line by line, within the limit of its text; or counts its lines.
 
-ghost use Rattle.std.specs.Prelude.{◌≡◌, ◌≤◌, ℕ, [], ◌∷◌, take, IfErr, IsErrOf, OnErr, OnOk};
-ghost use Rattle.geo_base.specs.Devices.{Grows, HasRisen};
+ghost use Rattle.std.specs.Prelude.{◌≡◌, ◌+◌, ◌*◌, ◌^◌, ◌<◌, [], ◌∷◌, IfErr, OnOk};
 ghost use Rattle.geo_logs.specs.Moves.{spent, too_large};
-ghost use Rattle.log_maker.specs.Causes.{IsOfSink};
-ghost use Rattle.proof_log.specs.Lines.{log_text};
-ghost use Rattle.proof_log.specs.Writable.{IsWritable};
+ghost use Rattle.log_maker.specs.Sizes.{Fits, IsTakable};
 
 use crate::errors::ProveError;
-use geo_base::{PutError, Sink, Text, write_all};
+use crate::putting::{put_line, put_within};
+use crate::size::Size;
+use geo_base::Sink;
 use geo_poly::Which;
-use proof_log::{Line, write_line};
+use proof_log::Line;
 use std::alloc::Global;
-
-/// The most bytes of a log's text.
-const LOG_LIMIT: u64 = 67_108_864;
 
 /// How much of a log has been written.
 #[derive(Drop)]
 pub struct LogWriter {
     /// How many lines.
     pub lines: u64,
-    /// How many bytes.
-    pub bytes: u64,
-    ghost few: { lines ≤ bytes },
-    ghost within: { bytes ≤ 67108864 },
+    /// What is done with them, and the size of the text.
+    pub size: Size,
+    ghost few: { lines + 1 < 2 ^ 64 },
+    ghost within: { Fits size },
 }
 
 impl LogWriter {
@@ -33,9 +29,24 @@ impl LogWriter {
     /// Nothing has been written.
     pub fn new() -> LogWriter
         ensures lines { result.lines ≡ 0 }
-        ensures bytes { result.bytes ≡ 0 }
+        ensures size { result.size ≡ Size.Written 0 }
     {
-        LogWriter { lines: 0, bytes: 0 }
+        LogWriter {
+            lines: 0,
+            size: Size::Written(0),
+        }
+    }
+
+    /// So many lines are counted, and those to come will be.
+    pub fn counting(lines: u64) -> LogWriter
+        requires { lines + 1 < 2 ^ 64 }
+        ensures lines { result.lines ≡ lines }
+        ensures size { result.size ≡ Size.Counted }
+    {
+        LogWriter {
+            lines,
+            size: Size::Counted,
+        }
     }
 
     /// Writes a line behind those before, where it is within the limit.
@@ -45,7 +56,7 @@ impl LogWriter {
         sink: &mut K,
         line: &Line,
     ) -> Result<(), ProveError>
-        requires { IsWritable line.now }
+        requires { IsTakable self.old.size line.now }
         ensures ok { OnOk result (Writes (line.now ∷ [])
             (state self.old (K.held sink.old) (K.faults sink.old))
             (state self.new (K.held sink.new) (K.faults sink.new))) }
@@ -53,14 +64,13 @@ impl LogWriter {
             (state self.old (K.held sink.old) (K.faults sink.old))
             (state self.new (K.held sink.new) (K.faults sink.new))) }
     {
-        let text = write_line(alloc, line)?;
-        let count = text.bytes.len() as u64;
-        if count > LOG_LIMIT - self.bytes {
-            return Err(ProveError::TooLong);
+        // More lines than a number can tell are answered by want of memory.
+        if self.lines >= u64::MAX - 2 {
+            return Err(ProveError::NoMemory);
         }
-        put(sink, &text.bytes)?;
+        let size = put_within(alloc, sink, self.size, line)?;
+        self.size = size;
         self.lines += 1;
-        self.bytes += count;
         Ok(())
     }
 
@@ -70,6 +80,9 @@ impl LogWriter {
             (state self.now (K.held sink.new) (K.faults sink.new)) result }
     {
         let line = self.lines + 1;
+        if self.size == Size::Counted {
+            return ProveError::Spent { line };
+        }
         match put_line(alloc, sink, &Line::StopSpent { line }) {
             Ok(()) => ProveError::Spent { line },
             Err(error) => error,
@@ -83,42 +96,12 @@ impl LogWriter {
             (state self.now (K.held sink.new) (K.faults sink.new)) result }
     {
         let line = self.lines + 1;
+        if self.size == Size::Counted {
+            return ProveError::TooLarge { line, which };
+        }
         match put_line(alloc, sink, &Line::StopTooLarge { line, which }) {
             Ok(()) => ProveError::TooLarge { line, which },
             Err(error) => error,
         }
-    }
-}
-
-/// Writes a line, whatever the limit.
-fn put_line<K: Sink>(alloc: Global, sink: &mut K, line: &Line) -> Result<(), ProveError>
-    requires { IsWritable line.now }
-    ensures ok { OnOk result
-        (Grows (K.held sink.old) (log_text (line.now ∷ [])) (K.held sink.new)) }
-    ensures part { OnErr result ((n : ℕ)
-        × Grows (K.held sink.old) (take n (log_text (line.now ∷ []))) (K.held sink.new)) }
-    ensures causes { IfErr result IsOfSink }
-    ensures fault { IsErrOf result ProveError.WriteFault
-        → HasRisen (K.faults sink.old) (K.faults sink.new) }
-    ensures faults { K.faults sink.old ≤ K.faults sink.new }
-{
-    let text = write_line(alloc, line)?;
-    put(sink, &text.bytes)
-}
-
-/// Writes a text.
-fn put<K: Sink>(sink: &mut K, text: &[u8]) -> Result<(), ProveError>
-    ensures ok { OnOk result (Grows (K.held sink.old) text.now (K.held sink.new)) }
-    ensures part { OnErr result ((n : ℕ)
-        × Grows (K.held sink.old) (take n text.now) (K.held sink.new)) }
-    ensures causes { IfErr result IsOfSink }
-    ensures fault { IsErrOf result ProveError.WriteFault
-        → HasRisen (K.faults sink.old) (K.faults sink.new) }
-    ensures faults { K.faults sink.old ≤ K.faults sink.new }
-{
-    match write_all(sink, text) {
-        Ok(()) => Ok(()),
-        Err(PutError::Failed) => Err(ProveError::WriteFault),
-        Err(PutError::NoMemory) => Err(ProveError::NoMemory),
     }
 }

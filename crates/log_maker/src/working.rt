@@ -1,16 +1,21 @@
 //! The chains of a problem, and what follows them.
 
-ghost use Rattle.std.specs.Prelude.{[], IfErr, IfOk};
+ghost use Rattle.std.specs.Prelude.{◌≡◌, [], ◌∷◌, IfErr, IfOk};
 ghost use Rattle.fraction_poly.specs.Inner.Known.{IsKnownOf};
+ghost use Rattle.geo_poly.specs.Specialise.{NoneZero};
 ghost use Rattle.log_maker.specs.Halting.{Finishes, Halts};
 ghost use Rattle.log_maker.specs.Parts.{CanWrite};
-ghost use Rattle.log_maker.specs.Tasks.{IsReady, conditions_from};
-ghost use Rattle.log_maker.specs.Written.{state};
+ghost use Rattle.log_maker.specs.Sizes.{IsTakable};
+ghost use Rattle.log_maker.specs.Tasks.{IsReady, conditions_from, goals_from};
+ghost use Rattle.log_maker.specs.Written.{IsUnwritten, Writes, state};
+ghost use Rattle.proof_log.specs.declared.log.Line.TheVariants.{Verdict as VerdictLine};
+ghost use Rattle.proof_log.specs.declared.log.Verdict.TheVariants.{Impossible};
 
 use crate::conditions::work_conditions;
 use crate::ending::conclude;
 use crate::errors::ProveError;
 use crate::findings::Findings;
+use crate::frame::Frame;
 use crate::goals::work_goals;
 use crate::log_writer::LogWriter;
 use elim_apply::KnownNumbers;
@@ -22,6 +27,7 @@ use std::alloc::Global;
 /// Writes the chains, and what follows them.
 pub fn work<K: Sink>(
     alloc: Global,
+    frame: Frame,
     problem: &Problem,
     numbers: &mut KnownNumbers,
     budget: &mut Budget,
@@ -30,26 +36,93 @@ pub fn work<K: Sink>(
 ) -> Result<Verdict, ProveError>
     requires ready { IsReady problem.now }
     requires numbers { IsKnownOf problem.now.steps.nodes numbers.old }
-    requires writable { CanWrite problem.now.steps
-        (conditions_from problem.now 0 [] [] budget.old.left) log.old.bytes }
+    requires writable { CanWrite frame problem.now.steps
+        (conditions_from frame problem.now 0 [] [] budget.old.left) log.old.size }
     ensures ok { IfOk result (λ verdict. Finishes
-        (conditions_from problem.now 0 [] [] budget.old.left)
+        (conditions_from frame problem.now 0 [] [] budget.old.left)
         (state log.old (K.held sink.old) (K.faults sink.old))
         (state log.new (K.held sink.new) (K.faults sink.new)) verdict budget.new.left) }
-    ensures err { IfErr result (Halts problem.now.steps
-        (conditions_from problem.now 0 [] [] budget.old.left)
+    ensures err { IfErr result (Halts frame problem.now.steps
+        (conditions_from frame problem.now 0 [] [] budget.old.left)
         (state log.old (K.held sink.old) (K.faults sink.old))
         (state log.new (K.held sink.new) (K.faults sink.new))) }
 {
     let mut findings = Findings::new(alloc);
-    if let Some(k) = work_conditions(alloc, problem, &mut findings, numbers, budget, log, sink)? {
-        let verdict = Verdict::Impossible(k);
-        log.write(alloc, sink, &Line::Verdict(verdict))?;
-        return Ok(verdict);
+    if let Some(k) = work_conditions(
+        alloc,
+        frame,
+        problem,
+        &mut findings,
+        numbers,
+        budget,
+        log,
+        sink,
+    )? {
+        return write_impossible(alloc, k, log, sink);
     }
-    let verdict = work_goals(alloc, problem, &mut findings, numbers, budget, log, sink)?;
+    work_rest(
+        alloc,
+        frame,
+        problem,
+        &mut findings,
+        numbers,
+        budget,
+        log,
+        sink,
+    )
+}
+
+/// Writes the verdict that a condition is never met.
+pub fn write_impossible<K: Sink>(
+    alloc: Global,
+    k: u32,
+    log: &mut LogWriter,
+    sink: &mut K,
+) -> Result<Verdict, ProveError>
+    requires { IsTakable log.old.size (VerdictLine (Impossible k)) }
+    ensures ok { IfOk result (λ verdict. (verdict ≡ Impossible k)
+        × Writes (VerdictLine (Impossible k) ∷ [])
+        (state log.old (K.held sink.old) (K.faults sink.old))
+        (state log.new (K.held sink.new) (K.faults sink.new))) }
+    ensures err { IfErr result (IsUnwritten (VerdictLine (Impossible k))
+        (state log.old (K.held sink.old) (K.faults sink.old))
+        (state log.new (K.held sink.new) (K.faults sink.new))) }
+{
+    let verdict = Verdict::Impossible(k);
+    log.write(alloc, sink, &Line::Verdict(verdict))?;
+    Ok(verdict)
+}
+
+/// Writes the chains of the goals, the sample and the verdict, where all conditions are met.
+pub fn work_rest<K: Sink>(
+    alloc: Global,
+    frame: Frame,
+    problem: &Problem,
+    findings: &mut Findings,
+    numbers: &mut KnownNumbers,
+    budget: &mut Budget,
+    log: &mut LogWriter,
+    sink: &mut K,
+) -> Result<Verdict, ProveError>
+    requires ready { IsReady problem.now }
+    requires numbers { IsKnownOf problem.now.steps.nodes numbers.old }
+    requires nonzero { NoneZero findings.old.ends }
+    requires writable { CanWrite frame problem.now.steps (goals_from frame problem.now 0
+        findings.old.known findings.old.ends budget.old.left) log.old.size }
+    ensures ok { IfOk result (λ verdict. Finishes (goals_from frame problem.now 0
+        findings.old.known findings.old.ends budget.old.left)
+        (state log.old (K.held sink.old) (K.faults sink.old))
+        (state log.new (K.held sink.new) (K.faults sink.new)) verdict budget.new.left) }
+    ensures err { IfErr result (Halts frame problem.now.steps (goals_from frame problem.now 0
+        findings.old.known findings.old.ends budget.old.left)
+        (state log.old (K.held sink.old) (K.faults sink.old))
+        (state log.new (K.held sink.new) (K.faults sink.new))) }
+    ensures numbers { IsKnownOf problem.now.steps.nodes numbers.new }
+{
+    let verdict = work_goals(alloc, frame, problem, findings, numbers, budget, log, sink)?;
     conclude(
         alloc,
+        frame,
         &problem.steps,
         &findings.ends,
         verdict,
