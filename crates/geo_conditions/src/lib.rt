@@ -15,10 +15,11 @@ pub mod laws;
 mod problem;
 mod program_conditions;
 mod program_items;
+mod relation_items;
 mod renaming;
-mod restating;
 
 pub use conditions::{Condition, ListedCondition};
 pub use items::{Conditions, Goals, Item};
 pub use problem::{Problem, list};
 pub use program_items::list_items;
+pub use relation_items::relation_item;

@@ -3,8 +3,9 @@
 use crate::conditions::{Conditions, Outcome};
 use elim_apply::KnownNumbers;
 use geo_base::{Budget, SureSink};
-use geo_conditions::Problem;
+use geo_conditions::Goals;
 use geo_points::NoMemory;
+use geo_terms::Steps;
 use log_maker::{Findings, Frame, LogWriter, ProveError, work_rest, write_impossible};
 use proof_log::Verdict;
 use std::alloc::Global;
@@ -22,11 +23,13 @@ pub(crate) enum Judgement {
     Impossible(u32),
 }
 
-/// What the log says of the candidate whose goal the problem has, where so many bytes stand before
-/// the conditions' lines.
+/// What the log says of the candidate with these goals, whose terms stand in the store of `terms`,
+/// where so many bytes stand before the conditions' lines.
 pub(crate) fn judge(
     alloc: Global,
-    problem: &Problem,
+    steps: &Steps,
+    terms: &Steps,
+    goals: &Goals,
     conditions: &mut Conditions,
     numbers: &mut KnownNumbers,
     before: u64,
@@ -38,7 +41,9 @@ pub(crate) fn judge(
     let ended = match conditions.outcome {
         Outcome::Met { left } => judge_goal(
             alloc,
-            problem,
+            steps,
+            terms,
+            goals,
             &mut conditions.findings,
             numbers,
             left,
@@ -57,11 +62,12 @@ pub(crate) fn judge(
     }
 }
 
-/// The verdict on the goal of the problem, where the conditions show so much. What they show stays
-/// as it is.
+/// The verdict on the goals, where the conditions show so much. What they show stays as it is.
 fn judge_goal(
     alloc: Global,
-    problem: &Problem,
+    steps: &Steps,
+    terms: &Steps,
+    goals: &Goals,
     findings: &mut Findings,
     numbers: &mut KnownNumbers,
     left: u64,
@@ -73,7 +79,9 @@ fn judge_goal(
     let verdict = work_rest(
         alloc,
         Frame::Full,
-        problem,
+        steps,
+        terms,
+        goals,
         findings,
         numbers,
         &mut budget,

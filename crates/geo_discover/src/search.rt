@@ -7,10 +7,11 @@ use crate::found_text::FoundText;
 use crate::front::{front_text, statement_line};
 use elim_apply::KnownNumbers;
 use geo_base::{Sink, SureSink, Text, push_decimal};
-use geo_conditions::Problem;
+use geo_conditions::{Goals, Problem, relation_item};
 use geo_lowering::Version;
 use geo_points::NoMemory;
 use geo_program::{Printer, Program, Statement};
+use geo_terms::Steps;
 use log_checker::versions::problem_by;
 use log_maker::ProveError;
 use std::alloc::Global;
@@ -27,10 +28,12 @@ pub struct Found {
 pub(crate) struct Search<'a> {
     /// The printer of the program.
     printer: Printer<'a>,
-    /// The problem of the program with the candidate.
+    /// The problem of the program with some relation, whose conditions are those of each.
     problem: Problem,
     /// What is known of its terms.
     numbers: KnownNumbers,
+    /// The terms of the candidates' goals. There are no steps.
+    terms: Steps,
     /// The lines of each log before the statement.
     front: Text,
     /// The line of the statement in the program.
@@ -63,6 +66,7 @@ impl<'a> Search<'a> {
             printer,
             problem,
             numbers,
+            terms: Steps::new(alloc)?,
             front,
             line,
             conditions,
@@ -81,13 +85,14 @@ impl<'a> Search<'a> {
         statement: Statement,
         sink: &mut K,
     ) -> Result<(), DiscoverError> {
-        self.problem
-            .restate(alloc, &self.printer, statement, self.line)?;
+        let goals = self.goals_of(alloc, statement)?;
         let own = statement_line(alloc, &self.printer, statement)?;
         let before = (self.front.bytes.len() + own.bytes.len()) as u64;
         let judgement = judge(
             alloc,
-            &self.problem,
+            &self.problem.steps,
+            &self.terms,
+            &goals,
             &mut self.conditions,
             &mut self.numbers,
             before,
@@ -99,6 +104,21 @@ impl<'a> Search<'a> {
             Judgement::Fails => Ok(()),
             Judgement::Impossible(k) => self.put_impossible(alloc, k, sink),
         }
+    }
+
+    /// The goals of a candidate: the candidate itself.
+    fn goals_of(&mut self, alloc: Global, statement: Statement) -> Result<Goals, NoMemory> {
+        let item = relation_item(
+            alloc,
+            &self.printer,
+            &self.problem.points,
+            &mut self.terms,
+            statement,
+            self.line,
+        )?;
+        let mut items = Vec::new(alloc);
+        items.push(item)?;
+        Ok(Goals { items })
     }
 
     /// Writes the line of a relation, and its log.

@@ -8,6 +8,7 @@ ghost use Rattle.proof_log.specs.declared.log.Line.TheVariants.{Start};
 ghost use Rattle.fraction_poly.specs.Inner.Known.{IsKnownOf};
 ghost use Rattle.fraction_poly.specs.TableRows.{HasPointsBelow};
 ghost use Rattle.geo_poly.specs.PolynomialVariables.{AllVariables};
+ghost use Rattle.geo_terms.specs.Constructions.{Construction};
 ghost use Rattle.geo_terms.specs.Stores.{tree_of};
 ghost use Rattle.log_maker.specs.declared.frame.Frame.{Frame};
 ghost use Rattle.log_maker.specs.InFrame.{IsNextLineIn};
@@ -60,12 +61,14 @@ pub struct WorkedChain {
     pub variable: Option<Var>,
 }
 
-/// Writes the chain of a term: the header, the start, a line for each step, and the end. Only the
-/// polynomial of the line before and the numbers of steps are kept.
+/// Writes the chain of a term, which stands in the store of `terms`: the header, the start, a line
+/// for each step, and the end. Only the polynomial of the line before and the numbers of steps are
+/// kept.
 pub fn work_chain<K: Sink>(
     alloc: Global,
     frame: Frame,
     steps: &Steps,
+    terms: &Steps,
     known: &Vars,
     numbers: &mut KnownNumbers,
     task: &Task,
@@ -73,24 +76,24 @@ pub fn work_chain<K: Sink>(
     log: &mut LogWriter,
     sink: &mut K,
 ) -> Result<WorkedChain, ProveError>
-    requires stored { task.now.term.0 < length steps.now.nodes }
-    requires inside { IsInside steps.now (tree_of steps.now.nodes task.now.term) }
+    requires stored { task.now.term.0 < length terms.now.nodes }
+    requires inside { IsInside steps.now (tree_of terms.now.nodes task.now.term) }
     requires numbers { IsKnownOf steps.now.nodes numbers.old }
     requires writable { CanWrite frame steps.now (chain_part frame steps.now
-        task.now.header known.now budget.old.left (tree_of steps.now.nodes task.now.term))
+        task.now.header known.now budget.old.left (tree_of terms.now.nodes task.now.term))
         log.old.size }
     ensures ok { IfOk result (λ chain. WorksChain frame steps.now task.now.header known.now
-        budget.old.left (tree_of steps.now.nodes task.now.term) budget.new.left
+        budget.old.left (tree_of terms.now.nodes task.now.term) budget.new.left
         (state log.old (K.held sink.old) (K.faults sink.old))
         (state log.new (K.held sink.new) (K.faults sink.new)) chain.end chain.variable) }
     ensures err { IfErr result (Halts frame steps.now (chain_part frame steps.now
-        task.now.header known.now budget.old.left (tree_of steps.now.nodes task.now.term))
+        task.now.header known.now budget.old.left (tree_of terms.now.nodes task.now.term))
         (state log.old (K.held sink.old) (K.faults sink.old))
         (state log.new (K.held sink.new) (K.faults sink.new))) }
     ensures numbers { IsKnownOf steps.now.nodes numbers.new }
 {
     log.write(alloc, sink, &task.header)?;
-    let first = first_polynomial(alloc, steps, task.term, budget, log, sink)?;
+    let first = first_polynomial(alloc, terms, task.term, budget, log, sink)?;
     let variable = sole_variable(&first);
     let first = write_start(alloc, first, log, sink)?;
     let end = work_steps(alloc, frame, steps, known, numbers, first, budget, log, sink)?;
@@ -100,25 +103,25 @@ pub fn work_chain<K: Sink>(
 /// The polynomial at the start; the line of a stop is written.
 fn first_polynomial<K: Sink>(
     alloc: Global,
-    steps: &Steps,
+    terms: &Steps,
     term: TermId,
     budget: &mut Budget,
     log: &LogWriter,
     sink: &mut K,
 ) -> Result<Poly, ProveError>
-    requires { term.0 < length steps.now.nodes }
+    requires { term.0 < length terms.now.nodes }
     ensures started { OnOk result
-        (IsStarted budget.old.left (tree_of steps.now.nodes term)) }
-    ensures start { IfOk result (λ q. q ≡ start_of (tree_of steps.now.nodes term)) }
+        (IsStarted budget.old.left (tree_of terms.now.nodes term)) }
+    ensures start { IfOk result (λ q. q ≡ start_of (tree_of terms.now.nodes term)) }
     ensures paid { OnOk result
-        (budget.new.left ≡ budget.old.left - start_charge (tree_of steps.now.nodes term)) }
+        (budget.new.left ≡ budget.old.left - start_charge (tree_of terms.now.nodes term)) }
     ensures kept { OnOk result (sink.new ≡ sink.old) }
-    ensures err { (frame : Frame) → IfErr result (Halts frame steps.now
-        (here_part (before_start budget.old.left (tree_of steps.now.nodes term)))
+    ensures err { (frame : Frame) (c : Construction) → IfErr result (Halts frame c
+        (here_part (before_start budget.old.left (tree_of terms.now.nodes term)))
         (state log.now (K.held sink.old) (K.faults sink.old))
         (state log.now (K.held sink.new) (K.faults sink.new))) }
 {
-    match start(alloc, steps, term, budget) {
+    match start(alloc, terms, term, budget) {
         Ok(first) => Ok(first),
         Err(error) => Err(stopped(alloc, error, log, sink)),
     }

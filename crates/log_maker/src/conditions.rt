@@ -42,20 +42,23 @@ pub fn work_conditions<K: Sink>(
     requires writable { CanWrite frame problem.now.steps (conditions_from frame problem.now 0
         findings.old.known findings.old.ends budget.old.left) log.old.size }
     ensures met { (goals : List LogItem) → IfOk result (λ found. IfNone found (Passes
-        (conditions_before frame problem.now goals 0
+        (conditions_before frame problem.now.steps problem.now.steps.nodes
+        problem.now.conditions goals 0
         findings.old.known findings.old.ends budget.old.left)
         (goals_part frame problem.now.steps findings.new.known findings.new.ends 1
         budget.new.left goals)
         (state log.old (K.held sink.old) (K.faults sink.old))
         (state log.new (K.held sink.new) (K.faults sink.new)))) }
     ensures impossible { (goals : List LogItem) → IfOk result (λ found. IfSome found
-        (IsImpossibleAt (conditions_before frame problem.now goals 0
+        (IsImpossibleAt (conditions_before frame problem.now.steps problem.now.steps.nodes
+        problem.now.conditions goals 0
         findings.old.known findings.old.ends budget.old.left)
         budget.new.left (state log.old (K.held sink.old) (K.faults sink.old))
         (state log.new (K.held sink.new) (K.faults sink.new)))) }
     ensures nonzero { OnOk result (NoneZero findings.new.ends) }
     ensures err { (goals : List LogItem) → IfErr result (Halts frame problem.now.steps
-        (conditions_before frame problem.now goals 0
+        (conditions_before frame problem.now.steps problem.now.steps.nodes
+        problem.now.conditions goals 0
         findings.old.known findings.old.ends budget.old.left)
         (state log.old (K.held sink.old) (K.faults sink.old))
         (state log.new (K.held sink.new) (K.faults sink.new))) }
@@ -89,21 +92,25 @@ fn work_condition<K: Sink>(
     requires writable { CanWrite frame problem.now.steps (conditions_from frame problem.now i
         findings.now.known findings.now.ends budget.old.left) log.old.size }
     ensures passes { (goals : List LogItem) → IfOk result (λ chain. chain.end ≢ [] → Passes
-        (conditions_before frame problem.now goals i
+        (conditions_before frame problem.now.steps problem.now.steps.nodes
+        problem.now.conditions goals i
         findings.now.known findings.now.ends budget.old.left)
-        (conditions_before frame problem.now goals (i + 1)
+        (conditions_before frame problem.now.steps problem.now.steps.nodes
+        problem.now.conditions goals (i + 1)
         (findings.now.known ++ cons_option chain.variable [])
         (findings.now.ends ++ chain.end ∷ []) budget.new.left)
         (state log.old (K.held sink.old) (K.faults sink.old))
         (state log.new (K.held sink.new) (K.faults sink.new))) }
     ensures impossible { (goals : List LogItem) → IfOk result (λ chain. chain.end ≡ []
-        → IsImpossibleAt (conditions_before frame problem.now goals i
+        → IsImpossibleAt (conditions_before frame problem.now.steps problem.now.steps.nodes
+        problem.now.conditions goals i
         findings.now.known findings.now.ends budget.old.left)
         budget.new.left (state log.old (K.held sink.old) (K.faults sink.old))
         (state log.new (K.held sink.new) (K.faults sink.new)) (i + 1)) }
     ensures small { OnOk result (i + 1 < 2 ^ 32) }
     ensures err { (goals : List LogItem) → IfErr result (Halts frame problem.now.steps
-        (conditions_before frame problem.now goals i
+        (conditions_before frame problem.now.steps problem.now.steps.nodes
+        problem.now.conditions goals i
         findings.now.known findings.now.ends budget.old.left)
         (state log.old (K.held sink.old) (K.faults sink.old))
         (state log.new (K.held sink.new) (K.faults sink.new))) }
@@ -113,6 +120,7 @@ fn work_condition<K: Sink>(
     work_chain(
         alloc,
         frame,
+        &problem.steps,
         &problem.steps,
         &findings.known,
         numbers,

@@ -1,12 +1,12 @@
 //! The chains of a problem, and what follows them.
 
-ghost use Rattle.std.specs.Prelude.{◌≡◌, [], ◌∷◌, IfErr, IfOk};
+ghost use Rattle.std.specs.Prelude.{◌≡◌, [], ◌∷◌, All, IfErr, IfOk};
 ghost use Rattle.fraction_poly.specs.Inner.Known.{IsKnownOf};
 ghost use Rattle.geo_poly.specs.Specialise.{NoneZero};
 ghost use Rattle.log_maker.specs.Halting.{Finishes, Halts};
 ghost use Rattle.log_maker.specs.Parts.{CanWrite};
 ghost use Rattle.log_maker.specs.Sizes.{IsTakable};
-ghost use Rattle.log_maker.specs.Tasks.{IsReady, conditions_from, goals_from};
+ghost use Rattle.log_maker.specs.Tasks.{IsItemReady, IsReady, conditions_from, goals_from};
 ghost use Rattle.log_maker.specs.Written.{IsUnwritten, Writes, state};
 ghost use Rattle.proof_log.specs.declared.log.Line.TheVariants.{Verdict as VerdictLine};
 ghost use Rattle.proof_log.specs.declared.log.Verdict.TheVariants.{Impossible};
@@ -20,7 +20,8 @@ use crate::goals::work_goals;
 use crate::log_writer::LogWriter;
 use elim_apply::KnownNumbers;
 use geo_base::{Budget, Sink};
-use geo_conditions::Problem;
+use geo_conditions::{Goals, Problem};
+use geo_terms::Steps;
 use proof_log::{Line, Verdict};
 use std::alloc::Global;
 
@@ -63,7 +64,9 @@ pub fn work<K: Sink>(
     work_rest(
         alloc,
         frame,
-        problem,
+        &problem.steps,
+        &problem.steps,
+        &problem.goals,
         &mut findings,
         numbers,
         budget,
@@ -97,33 +100,37 @@ pub fn write_impossible<K: Sink>(
 pub fn work_rest<K: Sink>(
     alloc: Global,
     frame: Frame,
-    problem: &Problem,
+    steps: &Steps,
+    terms: &Steps,
+    goals: &Goals,
     findings: &mut Findings,
     numbers: &mut KnownNumbers,
     budget: &mut Budget,
     log: &mut LogWriter,
     sink: &mut K,
 ) -> Result<Verdict, ProveError>
-    requires ready { IsReady problem.now }
-    requires numbers { IsKnownOf problem.now.steps.nodes numbers.old }
+    requires ready { All (IsItemReady steps.now terms.now.nodes) goals.now }
+    requires numbers { IsKnownOf steps.now.nodes numbers.old }
     requires nonzero { NoneZero findings.old.ends }
-    requires writable { CanWrite frame problem.now.steps (goals_from frame problem.now 0
+    requires writable { CanWrite frame steps.now (goals_from frame steps.now terms.now.nodes goals.now 0
         findings.old.known findings.old.ends budget.old.left) log.old.size }
-    ensures ok { IfOk result (λ verdict. Finishes (goals_from frame problem.now 0
+    ensures ok { IfOk result (λ verdict. Finishes (goals_from frame steps.now terms.now.nodes goals.now 0
         findings.old.known findings.old.ends budget.old.left)
         (state log.old (K.held sink.old) (K.faults sink.old))
         (state log.new (K.held sink.new) (K.faults sink.new)) verdict budget.new.left) }
-    ensures err { IfErr result (Halts frame problem.now.steps (goals_from frame problem.now 0
+    ensures err { IfErr result (Halts frame steps.now (goals_from frame steps.now terms.now.nodes goals.now 0
         findings.old.known findings.old.ends budget.old.left)
         (state log.old (K.held sink.old) (K.faults sink.old))
         (state log.new (K.held sink.new) (K.faults sink.new))) }
-    ensures numbers { IsKnownOf problem.now.steps.nodes numbers.new }
+    ensures numbers { IsKnownOf steps.now.nodes numbers.new }
 {
-    let verdict = work_goals(alloc, frame, problem, findings, numbers, budget, log, sink)?;
+    let verdict = work_goals(
+        alloc, frame, steps, terms, goals, findings, numbers, budget, log, sink,
+    )?;
     conclude(
         alloc,
         frame,
-        &problem.steps,
+        steps,
         &findings.ends,
         verdict,
         budget,

@@ -8,10 +8,9 @@ use Rattle.log_maker.proofs.chains.first_polynomial.Goals as goal
 
 pub returns-in-Err-clause-err : goal.returns-in-Err-clause-err
 returns-in-Err-clause-err g c =
-    λ frame.
-    let steps = c.args.steps.now in
+    λ frame steps.
     let left = c.args.budget.now.left in
-    let e = tree_of steps.nodes c.args.term in
+    let e = tree_of c.args.terms.now.nodes c.args.term in
     answered_here frame steps (before_start left e) _ _ c.args.log.now.within c.in-Err.error
     (λ is. start_stops frame steps left e spent (c.in-Err.ensures.spent (ap Err is)).0)
     (λ which is. start_stops frame steps left e (too_large which) (c.in-Err.ensures.too_large which (ap Err is)).0) (λ is. c.in-Err.ensures.row (ap Err is)) c.stopped.result c.stopped.ensures

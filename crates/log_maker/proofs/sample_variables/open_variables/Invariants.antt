@@ -5,4 +5,4 @@ use Rattle.log_maker.proofs.sample_variables.open_variables.Given as goal
 
 -- what is there, and what is still to come, is the whole
 abbrev pub invariant-loop-v : goal.invariant-loop-v
-invariant-loop-v l = l.items.items ++ filter (is_in_frame l.frame) (drop l.v-index l.vars.now) ≡ filter (is_in_frame l.frame) l.vars.now
+invariant-loop-v l = l.items.items ++ filter (is_in_frame l.frame) (drop l.v-index l.vars) ≡ filter (is_in_frame l.frame) l.vars

@@ -63,7 +63,7 @@ work_rest-requires-clause-writable g c =
     let t = state c.work_conditions.new.log (g.K.Sink.held c.work_conditions.new.sink) (g.K.Sink.faults c.work_conditions.new.sink) in
     let p = c.args.problem.now in
     let first = conditions_from c.args.frame p 0 [] [] c.args.budget.now.left in
-    let goals = goals_from c.args.frame p 0 c.work_conditions.new.findings.known c.work_conditions.new.findings.ends c.work_conditions.new.budget.left in
+    let goals = goals_from c.args.frame p.steps p.steps.nodes p.goals 0 c.work_conditions.new.findings.known c.work_conditions.new.findings.ends c.work_conditions.new.budget.left in
     let passed = at_nothing (λ part. Passes part goals s t) c.args.frame p c.new-findings.result.known c.new-findings.result.ends c.args.budget.now.left c.new-findings.ensures.known c.new-findings.ensures.ends
     (at_none _ c.in_ok-k.field-0 c.in_default.not-Some (c.in_ok-k.ensures.met (items_of p.steps.nodes p.goals))) in
     can_write_on c.args.frame p.steps first goals s t passed c.requires.writable
@@ -75,7 +75,7 @@ returns-clause-ok g c =
     let u = state c.work_rest.new.log (g.K.Sink.held c.work_rest.new.sink) (g.K.Sink.faults c.work_rest.new.sink) in
     let p = c.args.problem.now in
     let first = conditions_from c.args.frame p 0 [] [] c.args.budget.now.left in
-    let goals = goals_from c.args.frame p 0 c.work_conditions.new.findings.known c.work_conditions.new.findings.ends c.work_conditions.new.budget.left in
+    let goals = goals_from c.args.frame p.steps p.steps.nodes p.goals 0 c.work_conditions.new.findings.known c.work_conditions.new.findings.ends c.work_conditions.new.budget.left in
     let passed = at_nothing (λ part. Passes part goals s t) c.args.frame p c.new-findings.result.known c.new-findings.result.ends c.args.budget.now.left c.new-findings.ensures.known c.new-findings.ensures.ends
     (at_none _ c.in_ok-k.field-0 c.in_default.not-Some (c.in_ok-k.ensures.met (items_of p.steps.nodes p.goals))) in
     IfOk-weaker c.work_rest.result _ _ (λ verdict h. finishes_on first goals s t u verdict c.work_rest.new.budget.left passed h) c.work_rest.ensures.ok
@@ -87,7 +87,7 @@ returns-clause-err g c =
     let u = state c.work_rest.new.log (g.K.Sink.held c.work_rest.new.sink) (g.K.Sink.faults c.work_rest.new.sink) in
     let p = c.args.problem.now in
     let first = conditions_from c.args.frame p 0 [] [] c.args.budget.now.left in
-    let goals = goals_from c.args.frame p 0 c.work_conditions.new.findings.known c.work_conditions.new.findings.ends c.work_conditions.new.budget.left in
+    let goals = goals_from c.args.frame p.steps p.steps.nodes p.goals 0 c.work_conditions.new.findings.known c.work_conditions.new.findings.ends c.work_conditions.new.budget.left in
     let passed = at_nothing (λ part. Passes part goals s t) c.args.frame p c.new-findings.result.known c.new-findings.result.ends c.args.budget.now.left c.new-findings.ensures.known c.new-findings.ensures.ends
     (at_none _ c.in_ok-k.field-0 c.in_default.not-Some (c.in_ok-k.ensures.met (items_of p.steps.nodes p.goals))) in
     IfErr-weaker c.work_rest.result _ _ (λ e h. halts_on c.args.frame p.steps first goals s t u passed e h) c.work_rest.ensures.err
