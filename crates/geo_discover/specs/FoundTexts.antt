@@ -1,6 +1,7 @@
 -- What is written of the relations of a figure, and how the search ends.
-use Rattle.std.specs.Prelude.{◌≡◌, ◌↔◌, ◌⊎◌, ℕ, ◌^◌, ◌<◌, ◌≤◌, Option, Some, None, List, [], ◌∷◌, ◌++◌, codes, decimal, length, map, sum_by}
+use Rattle.std.specs.Prelude.{◌≡◌, ◌↔◌, ◌⊎◌, ℕ, ◌^◌, ◌<◌, ◌≤◌, Option, Some, None, List, [], ◌∷◌, ◌++◌, codes, decimal, length, map, sum_by, take}
 use Rattle.std.specs.List.{AllByRecursion, flat_map}
+use Rattle.geo_base.specs.Devices.{Grows}
 use Rattle.geo_conditions.specs.Truth.{IsTrueProgram}
 use Rattle.geo_program.specs.declared.statements.Statement.{Statement}
 use Rattle.geo_program.specs.FormTexts.{form_text}
@@ -128,6 +129,25 @@ pub record IsSearched (p : Source) (steps : ℕ) (lines : List (List ℕ)) (end 
   pub written : ((lines ≡ found_lines p findings) × (length (text_of_lines lines) ≤ 67108864) × (end ≡ whole_end findings))
       ⊎ ((line : List ℕ) × (more : List (List ℕ)) × (found_lines p findings ≡ lines ++ line ∷ more) × (length (text_of_lines lines) ≤ 67108864)
       × (67108864 < length (text_of_lines (lines ++ line ∷ []))) × (end ≡ cut))
+
+-- WHAT A CALL WRITES
+-- the text of the search was written, and it ends so
+pub record WritesFound (p : Source) (steps : ℕ) (held held' : Option (List ℕ)) (end : SearchEnd) : Type 0 where
+  pub lines : List (List ℕ)
+  pub searched : IsSearched p steps lines end
+  pub written : Grows held (text_of_lines lines) held'
+
+-- the first bytes of it were written
+pub record WritesFoundPart (p : Source) (steps : ℕ) (held held' : Option (List ℕ)) : Type 0 where
+  pub lines : List (List ℕ)
+  pub end : SearchEnd
+  pub searched : IsSearched p steps lines end
+  pub count : ℕ
+  pub written : Grows held (take count (text_of_lines lines)) held'
+
+-- the search ends since a text is too long: its own, or the log of the first open candidate
+abbrev pub WritesTooLong : Source → ℕ → Option (List ℕ) → Option (List ℕ) → Type 0
+WritesTooLong p steps held held' = WritesFound p steps held held' cut ⊎ ((n : ℕ) × WritesFound p steps held held' (open_by too_long n))
 
 -- LAWS
 -- a finding says what is so: where its log ends with a verdict, its candidate is a relation just where the program with it is true, and

@@ -1,5 +1,15 @@
 //! All relations of the stated kinds between the points of a figure.
 
+ghost use Rattle.std.specs.Prelude.{◌≡◌, ◌^◌, ◌<◌, ◌≤◌, ℕ, Err, IfOk, IsErrOf, length};
+ghost use Rattle.geo_base.specs.Devices.{HasRisen};
+ghost use Rattle.geo_discover.specs.FoundTexts.{WritesFound, WritesFoundPart, WritesTooLong};
+ghost use Rattle.geo_discover.specs.FoundTexts.{found, impossible, open_by};
+ghost use Rattle.geo_logs.specs.Ends.{ends_by};
+ghost use Rattle.geo_logs.specs.Moves.{spent, too_large};
+ghost use Rattle.geo_poly.specs.declared.limits.Which.{Which};
+ghost use Rattle.geo_program.specs.Programs.{program_text, source_of};
+ghost use Rattle.geo_program.specs.WellFormed.{empty_scope, scope_of};
+
 use crate::errors::DiscoverError;
 use crate::found_text::FoundText;
 use crate::quadruples::search_quadruples;
@@ -18,7 +28,33 @@ pub fn discover<K: Sink>(
     program: &Program,
     steps: u64,
     sink: &mut K,
-) -> Result<Found, DiscoverError> {
+) -> Result<Found, DiscoverError>
+    requires short { length (program_text program.now) ≤ 67108864 }
+    ensures found { IfOk result (λ f. WritesFound (source_of program.now) steps
+        (K.held sink.old) (K.held sink.new) (found f.relations)) }
+    ensures impossible { (k : ℕ) → result ≡ Err (DiscoverError.Impossible k)
+        → WritesFound (source_of program.now) steps (K.held sink.old) (K.held sink.new)
+        (impossible k) }
+
+    // The end of the first open candidate's log, where all is written.
+    ensures spent { (line : ℕ) → result ≡ Err (DiscoverError.Spent line)
+        → WritesFound (source_of program.now) steps (K.held sink.old) (K.held sink.new)
+        (open_by (ends_by spent) line) }
+    ensures too_large { (line : ℕ) (which : Which)
+        → result ≡ Err (DiscoverError.TooLarge line which)
+        → WritesFound (source_of program.now) steps (K.held sink.old) (K.held sink.new)
+        (open_by (ends_by (too_large which)) line) }
+    ensures too_long { IsErrOf result DiscoverError.TooLong
+        → WritesTooLong (source_of program.now) steps (K.held sink.old) (K.held sink.new) }
+
+    // After both the text was written in part.
+    ensures write_fault { IsErrOf result DiscoverError.WriteFault
+        → HasRisen (K.faults sink.old) (K.faults sink.new)
+        × WritesFoundPart (source_of program.now) steps (K.held sink.old) (K.held sink.new) }
+    ensures memory { IsErrOf result DiscoverError.NoMemory
+        → WritesFoundPart (source_of program.now) steps (K.held sink.old) (K.held sink.new) }
+    ensures faults { K.faults sink.old ≤ K.faults sink.new }
+{
     let points = point_count(program.names.as_slice());
     if points < 3 {
         put_counts(alloc, &mut FoundText::new(), 0, 0, sink)?;
@@ -31,7 +67,10 @@ pub fn discover<K: Sink>(
 }
 
 /// How many of the names are points.
-fn point_count(names: &[Name]) -> u32 {
+fn point_count(names: &[Name]) -> u32
+    requires { length names.now < 2 ^ 32 }
+    ensures { result ≡ (scope_of empty_scope names.now).points }
+{
     let mut count = 0;
     for name in names {
         if name.kind == NameKind::Point {

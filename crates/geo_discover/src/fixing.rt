@@ -1,6 +1,6 @@
 //! The verdict in the frame in which the first point is the origin.
 
-ghost use Rattle.std.specs.Prelude.{◌≡◌, ◌≢◌, ℕ, Err, IfOk};
+ghost use Rattle.std.specs.Prelude.{◌≡◌, ◌≢◌, ◌+◌, ◌^◌, ◌<◌, ℕ, Err, IfOk, length};
 ghost use Rattle.geo_discover.specs.FixedEnds.{EndsWithVerdict, StopsAtLine};
 ghost use Rattle.geo_logs.specs.Moves.{spent, too_large};
 ghost use Rattle.geo_poly.specs.declared.limits.Which.{Which};
@@ -19,7 +19,10 @@ use proof_log::Verdict;
 use std::alloc::Global;
 
 /// The lines of a log before its chains: the header, the commands, the statement.
-fn lines_before(program: &Program) -> u64 {
+fn lines_before(program: &Program) -> u64
+    ensures count { result ≡ length program.now.commands + 2 }
+    ensures small { result + 1 < 2 ^ 64 }
+{
     program.commands.as_slice().len() as u64 + 2
 }
 

@@ -1,5 +1,8 @@
 //! The text of a search, written line by line within its limit.
 
+ghost use Rattle.std.specs.Prelude.{◌≡◌, ◌==◌};
+ghost use Rattle.std.specs.List.{position};
+
 use crate::errors::DiscoverError;
 use geo_base::{PutError, Sink, write_all};
 
@@ -15,15 +18,24 @@ pub(crate) struct FoundText {
 }
 
 impl FoundText {
-    ghost use Rattle.std.specs.Prelude.{◌≤◌};
+    ghost use Rattle.std.specs.Prelude.{◌≡◌, ◌≤◌, IfErr, OnOk};
+    ghost use Rattle.geo_discover.specs.Inner.Puts.{IsUnput, Puts};
 
     /// Nothing has been written.
-    pub fn new() -> FoundText {
+    pub fn new() -> FoundText
+        ensures { result.bytes ≡ 0 }
+    {
         FoundText { bytes: 0 }
     }
 
     /// Writes a line, which ends with its line feed, where it is within the limit.
-    pub fn put<K: Sink>(&mut self, sink: &mut K, line: &[u8]) -> Result<(), DiscoverError> {
+    pub fn put<K: Sink>(&mut self, sink: &mut K, line: &[u8]) -> Result<(), DiscoverError>
+        ensures ok { OnOk result (Puts line.now self.old.bytes self.new.bytes
+            (K.held sink.old) (K.held sink.new)) }
+        ensures err { IfErr result (IsUnput line.now self.old.bytes (K.held sink.old)
+            (K.held sink.new) (K.faults sink.old) (K.faults sink.new)) }
+        ensures faults { K.faults sink.old ≤ K.faults sink.new }
+    {
         let count = line.len() as u64;
         if count > TEXT_LIMIT - self.bytes {
             return Err(DiscoverError::TooLong);
@@ -50,6 +62,8 @@ impl FoundText {
 }
 
 /// The place of the first line feed.
-fn first_line_feed(text: &[u8]) -> Option<usize> {
+fn first_line_feed(text: &[u8]) -> Option<usize>
+    ensures { result ≡ position (λ b. b == 10) text.now }
+{
     text.iter().position(|b| *b == b'\n')
 }
