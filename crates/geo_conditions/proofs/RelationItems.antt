@@ -10,7 +10,7 @@ use Rattle.geo_program.specs.WellFormed.{Source}
 use Rattle.geo_lowering.specs.Counting.{param_places}
 use Rattle.geo_lowering.specs.Lowering.{Layout, layout_of, line_place, param_place, point_places}
 use Rattle.geo_lowering.specs.declared.version.Version.{Version}
-use Rattle.geo_conditions.specs.Inner.ItemTerms.{goal_item_term, item_tree}
+use Rattle.geo_conditions.specs.Inner.ItemTerms.{AreSidesWithin, IsItemStored, goal_item_term, item_tree}
 use Rattle.geo_conditions.specs.Terms.{goal_term}
 
 module _ (version : Version) (p : Source) where
@@ -32,3 +32,26 @@ module _ (version : Version) (p : Source) where
   pub relation_term : (points : List PointId) (nodes : Store) (s : Statement) → IsRelation s → map (λ a. a.0) points ≡ point_places version 0 p.commands
       → item_tree nodes (goal_item_term points [] s) ≡ goal_term (layout_of version p.commands) p.nodes s
   relation_term points nodes s r places = term_with points nodes s r ∙ ap (λ (xs : List ℕ). goal_term (layout_with xs) p.nodes s) places
+
+-- relations have no sides, and their terms none that stand in a store
+pub no_sides : (n : ℕ) (s : Statement) → IsRelation s → AreSidesWithin n s
+no_sides n (Equal e f) r = absurd r
+no_sides n (Collinear a b c) r = tt
+no_sides n (Parallel a b c d) r = tt
+no_sides n (Perpendicular a b c d) r = tt
+no_sides n (Identical a b) r = tt
+no_sides n (Midpoint m a b) r = tt
+no_sides n (SameLength a b c d) r = tt
+no_sides n (Harmonic a b c d) r = tt
+no_sides n (Concyclic a b c d) r = tt
+
+pub none_stored : (points : List PointId) (nodes : Store) (s : Statement) → IsRelation s → IsItemStored nodes (goal_item_term points [] s)
+none_stored points nodes (Equal e f) r = absurd r
+none_stored points nodes (Collinear a b c) r = tt
+none_stored points nodes (Parallel a b c d) r = tt
+none_stored points nodes (Perpendicular a b c d) r = tt
+none_stored points nodes (Identical a b) r = tt
+none_stored points nodes (Midpoint m a b) r = tt
+none_stored points nodes (SameLength a b c d) r = tt
+none_stored points nodes (Harmonic a b c d) r = tt
+none_stored points nodes (Concyclic a b c d) r = tt

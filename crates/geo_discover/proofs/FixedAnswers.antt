@@ -79,7 +79,8 @@ pub counted_takes : (c : Construction) (P : Part) (z : Size) → z ≡ Counted �
 counted_takes c P z is lines place line b n fits = subst (λ (x : Size). IsTakable x line) (sym is) tt
 
 pub never_long : (c : Construction) (P : Part) (s t : State) → s.size ≡ Counted → IsTooLong Fixed c P s t → ⊥
-never_long c P s t is h = subst (λ (x : Size). IsPast (with_text x (text_length (h.lines ++ h.line ∷ [])))) is h.long
+never_long c P s t is h =
+    let none : 67108864 < 0 = subst (λ (x : Size). IsPast (with_text x (text_length (h.lines ++ h.line ∷ [])))) is h.long in omega (arith, none)
 
 pub no_rise : HasRisen 0 0 → ⊥
 no_rise (inl h) = omega (arith, h)

@@ -11,15 +11,18 @@ abbrev pub with_text : Size → ℕ → Size
 with_text (Written bytes) n = Written (bytes + n)
 with_text Counted n = Counted
 
+-- how many bytes of text were written
+abbrev pub bytes_of : Size → ℕ
+bytes_of (Written bytes) = bytes
+bytes_of Counted = 0
+
 -- the text is within its limit
 abbrev pub Fits : Size → Type 0
-Fits (Written bytes) = bytes ≤ 67108864
-Fits Counted = Unit {0}
+Fits size = bytes_of size ≤ 67108864
 
 -- the text passes its limit
 abbrev pub IsPast : Size → Type 0
-IsPast (Written bytes) = 67108864 < bytes
-IsPast Counted = ⊥
+IsPast size = 67108864 < bytes_of size
 
 -- the text went to the sink; lines that are counted leave it as it is
 abbrev pub HoldsText : Size → Option (List ℕ) → List ℕ → Option (List ℕ) → Type 0

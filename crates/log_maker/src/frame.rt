@@ -1,6 +1,6 @@
 //! The frame of the coordinates.
 
-ghost use Rattle.std.specs.Prelude.{◌≡◌, IfOk};
+ghost use Rattle.std.specs.Prelude.{◌≡◌, IfOk, pos};
 ghost use Rattle.geo_poly.specs.Specialise.{specialised};
 ghost use Rattle.log_maker.specs.Frames.{at_origin};
 ghost use Rattle.log_maker.specs.InFrame.{framed_line, is_in_frame};
@@ -54,7 +54,7 @@ fn at_origin(alloc: Global, p: &Poly) -> Result<Poly, NoMemory>
 
 /// The polynomial with 0 for a variable, which takes no norm past its limit.
 fn without(alloc: Global, p: &Poly, v: Var) -> Result<Poly, NoMemory>
-    ensures { IfOk result (λ q. q ≡ specialised v 0 p.now) }
+    ensures { IfOk result (λ q. q ≡ specialised v (pos 0) p.now) }
 {
     match p.specialise(alloc, v, 0) {
         Ok(q) => Ok(q),

@@ -1,6 +1,6 @@
 //! The text of one line, put into a sink.
 
-ghost use Rattle.std.specs.Prelude.{◌≡◌, ◌≤◌, ℕ, [], ◌∷◌, take, IfErr, IfOk, IsErrOf, OnErr, OnOk};
+ghost use Rattle.std.specs.Prelude.{◌≡◌, ◌+◌, ◌≤◌, ℕ, [], ◌∷◌, take, IfErr, IfOk, IsErrOf, OnErr, OnOk};
 ghost use Rattle.geo_base.specs.Devices.{Grows, HasRisen};
 ghost use Rattle.geo_logs.specs.Ends.{text_length};
 ghost use Rattle.log_maker.specs.Causes.{IsOfSink};
@@ -31,21 +31,43 @@ pub(crate) fn put_within<K: Sink>(
     ensures fits { IfOk result Fits }
     ensures ok { OnOk result
         (HoldsText size (K.held sink.old) (log_text (line.now ∷ [])) (K.held sink.new)) }
-    ensures err { IfErr result (IsUnwritten line.now
-        (record { lines = 0; size = size; held = K.held sink.old; faults = K.faults sink.old })
-        (record { lines = 0; size = size; held = K.held sink.new; faults = K.faults sink.new })) }
+    ensures err { (lines : ℕ) → IfErr result (IsUnwritten line.now
+        (record { lines = lines; size = size; held = K.held sink.old; faults = K.faults sink.old })
+        (record { lines = lines; size = size; held = K.held sink.new; faults = K.faults sink.new })) }
     ensures faults { K.faults sink.old ≤ K.faults sink.new }
 {
-    let Size::Written(bytes) = size else {
-        return Ok(size);
-    };
+    match size {
+        Size::Written(bytes) => Ok(Size::Written(put_text(alloc, sink, bytes, line)?)),
+        Size::Counted => Ok(Size::Counted),
+    }
+}
+
+/// Writes a line behind so many bytes, within the limit of the text, and answers how many there are
+/// then.
+fn put_text<K: Sink>(
+    alloc: Global,
+    sink: &mut K,
+    bytes: u64,
+    line: &Line,
+) -> Result<u64, ProveError>
+    requires writable { IsWritable line.now }
+    requires fits { bytes ≤ 67108864 }
+    ensures sum { IfOk result (λ n. n ≡ bytes + text_length (line.now ∷ [])) }
+    ensures fits { IfOk result (λ n. n ≤ 67108864) }
+    ensures ok { OnOk result
+        (Grows (K.held sink.old) (log_text (line.now ∷ [])) (K.held sink.new)) }
+    ensures err { (lines : ℕ) → IfErr result (IsUnwritten line.now
+        (record { lines = lines; size = Size.Written bytes; held = K.held sink.old; faults = K.faults sink.old })
+        (record { lines = lines; size = Size.Written bytes; held = K.held sink.new; faults = K.faults sink.new })) }
+    ensures faults { K.faults sink.old ≤ K.faults sink.new }
+{
     let text = write_line(alloc, line)?;
     let count = text.bytes.len() as u64;
     if count > LOG_LIMIT - bytes {
         return Err(ProveError::TooLong);
     }
     put(sink, &text.bytes)?;
-    Ok(Size::Written(bytes + count))
+    Ok(bytes + count)
 }
 
 /// Writes a line, whatever the limit.
