@@ -35,12 +35,7 @@ fn discover_bytes<K: Sink>(alloc: Global, bytes: &[u8], steps: u64, sink: &mut K
 }
 
 /// Searches the figure of a program.
-fn discover_program<K: Sink>(
-    alloc: Global,
-    program: &Program,
-    steps: u64,
-    sink: &mut K,
-) -> Status {
+fn discover_program<K: Sink>(alloc: Global, program: &Program, steps: u64, sink: &mut K) -> Status {
     match discover(alloc, program, steps, sink) {
         Ok(_) => Status::Done,
         Err(DiscoverError::Impossible(k)) => Status::Impossible(k),

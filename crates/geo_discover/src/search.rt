@@ -175,7 +175,11 @@ impl<'a> Search<'a> {
     }
 
     /// Writes how many candidates are relations and how many are open, behind all of them.
-    pub fn conclude<K: Sink>(mut self, alloc: Global, sink: &mut K) -> Result<Found, DiscoverError> {
+    pub fn conclude<K: Sink>(
+        mut self,
+        alloc: Global,
+        sink: &mut K,
+    ) -> Result<Found, DiscoverError> {
         put_counts(alloc, &mut self.text, self.relations, self.open, sink)?;
         match self.first_open {
             None => Ok(Found {

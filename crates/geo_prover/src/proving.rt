@@ -72,7 +72,15 @@ fn prove_all<K: Sink>(
     let mut budget = Budget { left: steps };
     let mut log = LogWriter::new();
     write_first_lines(alloc, program, &mut log, sink)?;
-    let verdict = work(alloc, Frame::Full, &problem, &mut numbers, &mut budget, &mut log, sink)?;
+    let verdict = work(
+        alloc,
+        Frame::Full,
+        &problem,
+        &mut numbers,
+        &mut budget,
+        &mut log,
+        sink,
+    )?;
     Ok(Summary {
         verdict,
         lines: log.lines,

@@ -96,7 +96,9 @@ pub fn work_chain<K: Sink>(
     let first = first_polynomial(alloc, terms, task.term, budget, log, sink)?;
     let variable = sole_variable(&first);
     let first = write_start(alloc, first, log, sink)?;
-    let end = work_steps(alloc, frame, steps, known, numbers, first, budget, log, sink)?;
+    let end = work_steps(
+        alloc, frame, steps, known, numbers, first, budget, log, sink,
+    )?;
     Ok(WorkedChain { end, variable })
 }
 
@@ -179,7 +181,9 @@ fn work_steps<K: Sink>(
 {
     let mut last = first;
     loop {
-        let line = line_after(alloc, frame, steps, known, numbers, &last, budget, log, sink)?;
+        let line = line_after(
+            alloc, frame, steps, known, numbers, &last, budget, log, sink,
+        )?;
         log.write(alloc, sink, &line)?;
         match polynomial_of(line) {
             Some(poly) => last = poly,

@@ -65,7 +65,9 @@ pub fn work_conditions<K: Sink>(
     ensures numbers { IsKnownOf problem.now.steps.nodes numbers.new }
 {
     for i in 0..problem.conditions.items.len() {
-        let chain = work_condition(alloc, frame, problem, i, findings, numbers, budget, log, sink)?;
+        let chain = work_condition(
+            alloc, frame, problem, i, findings, numbers, budget, log, sink,
+        )?;
         if chain.end.is_zero() {
             return Ok(Some(i as u32 + 1));
         }
