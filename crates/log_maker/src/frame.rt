@@ -52,13 +52,13 @@ fn at_origin(alloc: Global, p: &Poly) -> Result<Poly, NoMemory>
     without(alloc, &p, Var::Y(PointId(0)))
 }
 
-/// The polynomial with 0 for a variable, which takes no norm past its limit.
+/// The polynomial with 0 for a variable. 0 takes no norm past its limit, so memory alone can be
+/// wanting.
 fn without(alloc: Global, p: &Poly, v: Var) -> Result<Poly, NoMemory>
     ensures { IfOk result (λ q. q ≡ specialised v (pos 0) p.now) }
 {
     match p.specialise(alloc, v, 0) {
         Ok(q) => Ok(q),
-        Err(PolyError::NoMemory) => Err(NoMemory),
-        Err(PolyError::TooLarge(_)) => unreachable!(),
+        Err(PolyError::NoMemory | PolyError::TooLarge(_)) => Err(NoMemory),
     }
 }

@@ -1,8 +1,9 @@
-use Rattle.std.proofs.Common.{Err, ap}
+use Rattle.std.proofs.Common.{Err, ap, length, subst, sym}
+use Rattle.geo_chain.specs.NextLines.{HasLinePointsBelow}
 use Rattle.geo_logs.specs.Moves.{spent, too_large}
 use Rattle.geo_logs.specs.Places.{in_chain}
 use Rattle.log_maker.specs.declared.errors.ProveError.TheVariants.{NoMemory}
-use Rattle.log_maker.proofs.Framing.{chain_stops}
+use Rattle.log_maker.proofs.Framing.{chain_stops, framed_points}
 use Rattle.log_maker.proofs.Handing.{if_err}
 use Rattle.log_maker.proofs.Passing.{answered_here, memory_here}
 use Rattle.log_maker.proofs.chains.line_after.Goals as goal
@@ -19,6 +20,11 @@ returns-in-Err-clause-err g c =
     (λ which e. let h = c.in-Err.ensures.too_large which (ap Err e) in chain_stops frame steps known left last (too_large which) (h.0, h.1.no_cut, h.1.next, h.2))
     (λ e. c.in-Err.ensures.row (ap Err e)) c.stopped.result c.stopped.ensures
 
-pub returns-in-Ok-in_err-framed-clause-err : goal.returns-in-Ok-in_err-framed-clause-err
-returns-in-Ok-in_err-framed-clause-err g c =
+pub returns-in_err-framed-in-Ok-clause-err : goal.returns-in_err-framed-in-Ok-clause-err
+returns-in_err-framed-in-Ok-clause-err g c =
     if_err _ _ NoMemory c.from_residual.ensures.1 (memory_here c.args.frame c.args.steps.now (in_chain c.args.known.now c.args.budget.now.left c.args.last.now) _ c.args.log.now.within)
+
+pub returns-in_ok-framed-in-Ok-clause-points : goal.returns-in_ok-framed-in-Ok-clause-points
+returns-in_ok-framed-in-Ok-clause-points g c =
+    let n = length c.args.steps.now.steps in
+    subst (HasLinePointsBelow n) (sym c.in_ok-framed.ensures) (framed_points n c.args.frame c.in-Ok.line c.in-Ok.ensures.points)

@@ -2,9 +2,9 @@ use Rattle.std.proofs.Common.{sym, subst}
 use Rattle.geo_logs.specs.Places.{in_chain}
 use Rattle.log_maker.specs.Parts.{here_part, steps_part}
 use Rattle.log_maker.specs.Written.{state}
-use Rattle.log_maker.proofs.Chaining.{IsUnderWay, ends, goes_on, line_comes, line_points, stands_at}
+use Rattle.log_maker.proofs.Chaining.{IsUnderWay, begins, ends, goes_on, line_comes, line_points, stands_at}
 use Rattle.log_maker.proofs.Handing.{if_err}
-use Rattle.log_maker.proofs.Passing.{halts_on, unwritten_here, write_here}
+use Rattle.log_maker.proofs.Passing.{halts_on, unwritten_here, write_here, writes_nothing}
 use Rattle.log_maker.proofs.chains.work_steps.Goals as goal
 
 pub returns-in_err-line-clause-err : goal.returns-in_err-line-clause-err
@@ -52,3 +52,12 @@ returns-in-None-clause-ok g c =
     (sym c.in_ok-line.ensures.kept) c.loop-last.invariant.way in
     ends c.args.frame c.args.steps.now c.args.known.now c.args.budget.now.left c.args.first c.loop-last.budget.left c.loop-last.last c.in_ok-line.line c.line_after.new.budget.left s _ _ way
     c.in_ok-line.ensures.line (sym c.in-None.ensures) c.in_ok-write.ensures.ok
+
+pub loop-last-init : goal.loop-last-init
+loop-last-init g c =
+    let s = state c.args.log.now (g.K.Sink.held c.args.sink.now) (g.K.Sink.faults c.args.sink.now) in
+    record {
+      way = begins c.args.frame c.args.steps.now c.args.known.now c.args.budget.now.left c.args.first s (writes_nothing s);
+      points = c.requires.points;
+      numbers = c.requires.numbers;
+    }

@@ -8,7 +8,7 @@ use Rattle.log_maker.specs.Tasks.{goals_from}
 use Rattle.log_maker.specs.Written.{state}
 use Rattle.log_maker.proofs.Handing.{if_err}
 use Rattle.log_maker.proofs.Listing.{nonzero_more}
-use Rattle.log_maker.proofs.Passing.{halts_on, memory_in, passes_on}
+use Rattle.log_maker.proofs.Passing.{halts_on, memory_in, passes_at_once, passes_on}
 use Rattle.log_maker.proofs.goals.work_goals.Goals as goal
 
 pub returns-in_err-chain-clause-err : goal.returns-in_err-chain-clause-err
@@ -76,3 +76,9 @@ returns-then-not-is_zero-clause-nonzero g c =
     let nonzero : c.in_ok-chain.chain.end ≡ [] → ⊥ = search rules in
     nonzero_more c.args.findings.now.ends c.add_end.new.self.ends c.in_ok-chain.chain.end c.requires.nonzero nonzero
     (c.in_ok-add_end.ensures.ends ∙ ap (λ f. f.ends ++ c.in_ok-chain.chain.end ∷ []) c.loop-i.invariant.kept)
+
+pub loop-i-init : goal.loop-i-init
+loop-i-init g c =
+    let s = state c.args.log.now (g.K.Sink.held c.args.sink.now) (g.K.Sink.faults c.args.sink.now) in
+    let first = goals_from c.args.frame c.args.steps.now c.args.terms.now.nodes c.args.goals.now 0 c.args.findings.now.known c.args.findings.now.ends c.args.budget.now.left in
+    record { passes = passes_at_once first first s (λ lines place h. h) (λ lines verdict left h. h); kept = refl; numbers = c.requires.numbers }

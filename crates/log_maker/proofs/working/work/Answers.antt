@@ -4,7 +4,7 @@ use Rattle.geo_logs.specs.Places.{before_line}
 use Rattle.proof_log.specs.declared.log.Line.TheVariants.{Verdict as VerdictLine}
 use Rattle.proof_log.specs.declared.log.Verdict.{Verdict}
 use Rattle.proof_log.specs.declared.log.Verdict.TheVariants.{Impossible}
-use Rattle.log_maker.specs.Halting.{Finishes, IsImpossibleAt, Passes}
+use Rattle.log_maker.specs.Halting.{Finishes, Halts, IsImpossibleAt, Passes}
 use Rattle.log_maker.specs.Parts.{here_part, items_of}
 use Rattle.log_maker.specs.Tasks.{conditions_from, goals_from}
 use Rattle.log_maker.specs.Written.{state}
@@ -91,3 +91,13 @@ returns-clause-err g c =
     let passed = at_nothing (λ part. Passes part goals s t) c.args.frame p c.new-findings.result.known c.new-findings.result.ends c.args.budget.now.left c.new-findings.ensures.known c.new-findings.ensures.ends
     (at_none _ c.in_ok-k.field-0 c.in_default.not-Some (c.in_ok-k.ensures.met (items_of p.steps.nodes p.goals))) in
     IfErr-weaker c.work_rest.result _ _ (λ e h. halts_on c.args.frame p.steps first goals s t u passed e h) c.work_rest.ensures.err
+
+pub returns-in_err-k-clause-err : goal.returns-in_err-k-clause-err
+returns-in_err-k-clause-err g c =
+    let s = state c.args.log.now (g.K.Sink.held c.args.sink.now) (g.K.Sink.faults c.args.sink.now) in
+    let t = state c.work_conditions.new.log (g.K.Sink.held c.work_conditions.new.sink) (g.K.Sink.faults c.work_conditions.new.sink) in
+    let p = c.args.problem.now in
+    let e = c.in_err-k.field-0.0 in
+    if_err _ _ e c.from_residual.ensures.1
+    (at_nothing (λ part. Halts c.args.frame p.steps part s t e) c.args.frame p c.new-findings.result.known c.new-findings.result.ends c.args.budget.now.left c.new-findings.ensures.known c.new-findings.ensures.ends
+    (c.in_err-k.ensures.err (items_of p.steps.nodes p.goals)))
