@@ -27,4 +27,4 @@ returns-in_err-framed-in-Ok-clause-err g c =
 pub returns-in_ok-framed-in-Ok-clause-points : goal.returns-in_ok-framed-in-Ok-clause-points
 returns-in_ok-framed-in-Ok-clause-points g c =
     let n = length c.args.steps.now.steps in
-    subst (HasLinePointsBelow n) (sym c.in_ok-framed.ensures) (framed_points n c.args.frame c.in-Ok.line c.in-Ok.ensures.points)
+    subst (HasLinePointsBelow n) (sym c.in_ok-framed-in-Ok.ensures) (framed_points n c.args.frame c.in-Ok.line c.in-Ok.ensures.points)

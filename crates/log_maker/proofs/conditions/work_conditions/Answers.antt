@@ -1,4 +1,4 @@
-use Rattle.std.proofs.Common.{◌+◌, [], ◌∷◌, ◌++◌, sym, subst, arith}
+use Rattle.std.proofs.Common.{◌+◌, ◌≤◌, [], ◌∷◌, ◌++◌, length, sym, subst, rules}
 use Rattle.std.specs.List.{cons_option}
 use Rattle.std.proofs.lemmas.Bool.{iff_false}
 use Rattle.log_maker.specs.declared.errors.ProveError.TheVariants.{NoMemory}
@@ -89,6 +89,7 @@ work_condition-requires-clause-writable g c =
 
 pub returns-clause-met : goal.returns-clause-met
 returns-clause-met g c =
+    let over : length c.args.problem.now.conditions ≤ c.loop-i.i = search rules in
     λ goals.
     let p = c.args.problem.now in
     let s = state c.args.log.now (g.K.Sink.held c.args.sink.now) (g.K.Sink.faults c.args.sink.now) in
@@ -96,4 +97,4 @@ returns-clause-met g c =
     passes_on (conditions_before c.args.frame p.steps p.steps.nodes p.conditions goals 0 c.args.findings.now.known c.args.findings.now.ends c.args.budget.now.left)
     (conditions_before c.args.frame p.steps p.steps.nodes p.conditions goals c.loop-i.i c.loop-i.findings.known c.loop-i.findings.ends c.loop-i.budget.left)
     (goals_part c.args.frame p.steps c.loop-i.findings.known c.loop-i.findings.ends 1 c.loop-i.budget.left goals) s t t (c.loop-i.invariant.passes goals)
-    (conditions_over c.args.frame p.steps p.steps.nodes p.conditions goals c.loop-i.i c.loop-i.findings.known c.loop-i.findings.ends c.loop-i.budget.left t (let h = c.loop-i-test.false in omega (arith, h)))
+    (conditions_over c.args.frame p.steps p.steps.nodes p.conditions goals c.loop-i.i c.loop-i.findings.known c.loop-i.findings.ends c.loop-i.budget.left t over)

@@ -9,6 +9,7 @@ use Rattle.log_maker.specs.Parts.{here_part, items_of}
 use Rattle.log_maker.specs.Tasks.{conditions_from, goals_from}
 use Rattle.log_maker.specs.Written.{state}
 use Rattle.log_maker.proofs.Framing.{line_due}
+use Rattle.log_maker.proofs.Handing.{if_err}
 use Rattle.log_maker.proofs.Listing.{at_impossible, at_none, at_nothing, at_some, ends_impossible}
 use Rattle.log_maker.proofs.Passing.{can_write_on, finishes_on, halts_on, unwritten_here, write_here}
 use Rattle.log_maker.proofs.working.work.Goals as goal
