@@ -118,19 +118,19 @@ module _ (p : Source) (problem : Problem) (steps : ℕ) (w : IsWellFormed p) (sm
   }
 
   -- ITEMS
-  item_ready : (item : ListedItem) → item.term.0 < length c.nodes → IsInside c (tree_of c.nodes item.term) → IsItemReady c item
+  item_ready : (item : ListedItem) → item.term.0 < length c.nodes → IsInside c (tree_of c.nodes item.term) → IsItemReady c c.nodes item
   item_ready item stored inside = record { stored = stored; inside = inside }
 
   pub ready : IsReady problem
   ready = record {
     conditions =
-        All-from_recursion (IsItemReady c) problem.conditions
-        (each_of (IsItemReady c) problem.conditions
+        All-from_recursion (IsItemReady c c.nodes) problem.conditions
+        (each_of (IsItemReady c c.nodes) problem.conditions
         (λ i item at. item_ready item (each_at (λ (x : ListedItem). x.term.0 < length c.nodes) problem.conditions i item (recursion_from_All (λ (x : ListedItem). x.term.0 < length c.nodes) problem.conditions is.conditions.stored) at)
         (conditions_named p subject w (parts_of p subject about) i (log_item (item_form c.nodes item)) (listed_at problem.conditions i item at)).0));
     goals =
-        All-from_recursion (IsItemReady c) problem.goals
-        (each_of (IsItemReady c) problem.goals
+        All-from_recursion (IsItemReady c c.nodes) problem.goals
+        (each_of (IsItemReady c c.nodes) problem.goals
         (λ i item at. item_ready item (each_at (λ (x : ListedItem). x.term.0 < length c.nodes) problem.goals i item (recursion_from_All (λ (x : ListedItem). x.term.0 < length c.nodes) problem.goals is.goals.stored) at)
         (goals_named p subject w (parts_of p subject about) i (log_item (item_form c.nodes item)) (listed_at problem.goals i item at)).0));
   }
