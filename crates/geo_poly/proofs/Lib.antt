@@ -50,6 +50,7 @@ pub mod ChainSwaps
 pub mod ChainSums
 pub mod ReplacedHalves
 pub mod ZeroPut
+pub mod ZeroWalks
 pub mod Entries
 pub mod Moved
 pub mod Places

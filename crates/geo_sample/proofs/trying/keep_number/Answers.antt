@@ -1,0 +1,19 @@
+use Rattle.std.proofs.Common.{◌≡◌, ◌^◌, ◌<◌, true, All, List, ℤ, sym, subst}
+use Rattle.std.specs.Prelude.{◌↔◌, IsTrue}
+use Rattle.geo_poly.specs.Polynomials.{Summands}
+use Rattle.geo_poly.specs.Specialise.{NoneZero, specialised_weight}
+use Rattle.geo_sample.specs.Tries.{all_specialised}
+use Rattle.geo_sample.proofs.Changes.{zero_fits}
+use Rattle.geo_sample.proofs.trying.keep_number.Goals as goal
+
+pub returns-then-number-eq0-clause-keeps : goal.returns-then-number-eq0-clause-keeps
+returns-then-number-eq0-clause-keeps c =
+    subst (λ (z : ℤ). IsTrue c.keep_zero.result ↔ NoneZero (all_specialised c.args.v z c.args.polys.now.items)) (sym c.if-number-eq0.true) c.keep_zero.ensures.keeps
+
+pub returns-then-number-eq0-clause-put : goal.returns-then-number-eq0-clause-put
+returns-then-number-eq0-clause-put c =
+    subst (λ (z : ℤ). c.keep_zero.result ≡ true → c.keep_zero.new.polys.items ≡ all_specialised c.args.v z c.args.polys.now.items) (sym c.if-number-eq0.true) c.keep_zero.ensures.put
+
+pub returns-then-number-eq0-clause-fit : goal.returns-then-number-eq0-clause-fit
+returns-then-number-eq0-clause-fit c =
+    subst (λ (z : ℤ). All (λ p. specialised_weight c.args.v z p < 2 ^ 127) c.args.polys.now.items) (sym c.if-number-eq0.true) (zero_fits c.args.v c.args.polys.now.items c.are_valid.ensures.valid)
