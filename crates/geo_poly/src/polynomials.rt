@@ -241,8 +241,8 @@ impl Poly {
     pub fn put_zero(&mut self, v: Var)
         ensures { self.new ≡ specialised v (pos 0) self.old }
     {
-        if let Some(number) = find_place(self.stored.vars.as_slice(), v, 0) {
-            let vars = self.stored.vars.as_slice();
+        let vars = self.stored.vars.as_slice();
+        if let Some(number) = find_place(vars, v, 0) {
             keep_lacking(vars, &self.stored.monos, &mut self.stored.list, number);
         }
     }

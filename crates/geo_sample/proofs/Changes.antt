@@ -60,6 +60,10 @@ zero_fits v ps h =
     All-weaker IsPolynomial (λ p. specialised_weight v (pos 0) p < 2 ^ 127)
     (λ p valid. let small : unsigned_abs (pos 0) ≤ 1 = omega arith in omega (arith, small_weight v (pos 0) p small, valid.norm_fits)) ps h
 
+-- what is told of them of what a call was passed
+pub seen : (v : Var) (y z : ℤ) (qs ps : List Summands) (cs : List (Option Summands)) → y ≡ z → qs ≡ ps → cs ≡ changes v y qs → cs ≡ changes v z ps
+seen v y z qs ps cs number polys c = c ∙ ap₂ (λ (k : ℤ) (rs : List Summands). changes v k rs) number polys
+
 -- THE LOOP THAT PUTS TOGETHER
 -- what is put together of polynomials and what they become
 pub put_all : (v : Var) (z : ℤ) (ps next : List Summands) (cs : List (Option Summands)) → All IsCollected ps → cs ≡ changes v z ps → next ≡ changed cs ps → next ≡ all_specialised v z ps

@@ -1,5 +1,6 @@
 use Rattle.std.proofs.Common.{◌≡◌, ℕ, ◌+◌, ◌∷◌, ◌++◌, [], ℤ, pos, List, length, ◌<◌, get_or, take, drop, sym, ap, subst, ◌∙◌, arith}
 use Rattle.std.specs.Prelude.{◌↔◌, IsTrue}
+use Rattle.std.proofs.lemmas.Bool.Decides.{nat_tests}
 use Rattle.std.proofs.lemmas.Result.{err_from_is_err_and}
 use Rattle.std.proofs.lemmas.List.{take_more, take-append-drop}
 use Rattle.sparse_lists.proofs.Merging.{drop_at, get_or_any}
@@ -22,13 +23,15 @@ parts xs i lt = ap (λ (ys : List (Var × ℤ)). take i xs ++ ys) (sym (drop_at 
 
 pub returns-then-is_empty-clause-hold : goal.returns-then-is_empty-clause-hold
 returns-then-is_empty-clause-hold c =
-    let none = no_value c.args.values.now (omega (arith, c.if-is_empty.true)) in
+    let none_long : length c.args.values.now ≡ 0 = grind (arith, nat_tests, c.if-is_empty.ensures) in
+    let none = no_value c.args.values.now none_long in
     subst (λ (xs : List (Var × ℤ)). IsTrue c.none_zero.result ↔ NoneZero (specialised_by xs c.args.polys.now)) (sym none) c.none_zero.ensures
 
 pub returns-then-is_empty-clause-made : goal.returns-then-is_empty-clause-made
 returns-then-is_empty-clause-made c =
     let left = c.args.budget.now.left in
-    let none = no_value c.args.values.now (omega (arith, c.if-is_empty.true)) in
+    let none_long : length c.args.values.now ≡ 0 = grind (arith, nat_tests, c.if-is_empty.ensures) in
+    let none = no_value c.args.values.now none_long in
     subst (λ (xs : List (Var × ℤ)). AreMade left (single_tries xs c.args.polys.now) left) (sym none) (AreMade-nil left)
 
 pub returns-in_err-affordable-clause-stopped : goal.returns-in_err-affordable-clause-stopped
@@ -38,7 +41,7 @@ returns-in_err-affordable-clause-stopped c =
     let left = c.args.budget.now.left in
     let p = err_from_is_err_and c.from_residual.result c.from_residual.ensures.1 in
     let spent = c.in_err-affordable.ensures.spent in
-    let some : 0 < length c.args.values.now = omega (arith, c.if-is_empty.false) in
+    let some : 0 < length c.args.values.now = grind (arith, nat_tests, c.if-is_empty.ensures) in
     if_err _ c.from_residual.result c.in_err-affordable.field-0.0 p.0 p.1 p.2
     (subst (λ (e : SampleError). EndIn e left (single_tries xs ps) left) (sym spent.0) (short_values xs ps left some spent.1))
 

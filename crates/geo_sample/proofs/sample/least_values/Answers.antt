@@ -1,4 +1,5 @@
 use Rattle.std.proofs.Common.{◌≡◌, ℕ, ◌+◌, ◌<◌, ◌^◌, ◌∷◌, ◌++◌, [], ℤ, pos, List, suc, All, unsigned_abs, length, get_or, take, drop, sym, ap, subst, ◌∙◌, arith}
+use Rattle.std.proofs.lemmas.Bool.Decides.{nat_tests}
 use Rattle.std.proofs.lemmas.Result.{err_from_is_err_and}
 use Rattle.std.proofs.lemmas.List.{take_more, take-append-drop}
 use Rattle.std.proofs.lemmas.List.Elements.{All-push}
@@ -22,10 +23,16 @@ parts : (vs : List Var) (i : ℕ) → i < length vs → take i vs ++ get_or vs i
 parts vs i lt = ap (λ (ws : List Var). take i vs ++ ws) (sym (drop_at vs i (get_or vs i none) lt (get_or_any vs i none (get_or vs i none) lt))) ∙ take-append-drop i vs
 
 pub returns-then-is_empty-clause-least : goal.returns-then-is_empty-clause-least
-returns-then-is_empty-clause-least c = empty_sample c.args.vars.now c.args.polys.now (omega (arith, c.if-is_empty.true))
+returns-then-is_empty-clause-least c =
+    let vs = c.args.vars.now in
+    let ps = c.args.polys.now in
+    let none_long : length c.args.vars.now ≡ 0 = grind (arith, nat_tests, c.if-is_empty.ensures) in
+    subst (λ (xs : List (Var × ℤ)). IsLeastSample vs ps xs) (sym c.new-values.ensures.items) (empty_sample vs ps none_long)
 
 pub returns-then-is_empty-clause-made : goal.returns-then-is_empty-clause-made
-returns-then-is_empty-clause-made c = AreMade-nil c.args.budget.now.left
+returns-then-is_empty-clause-made c =
+    let left = c.args.budget.now.left in
+    subst (λ (xs : List (Var × ℤ)). AreMade left (search_tries xs c.args.polys.now) left) (sym c.new-values.ensures.items) (AreMade-nil left)
 
 pub returns-in_err-affordable-clause-stopped : goal.returns-in_err-affordable-clause-stopped
 returns-in_err-affordable-clause-stopped c =
@@ -34,7 +41,7 @@ returns-in_err-affordable-clause-stopped c =
     let left = c.args.budget.now.left in
     let p = err_from_is_err_and c.from_residual.result c.from_residual.ensures.1 in
     let spent = c.in_err-affordable.ensures.spent in
-    let some : 0 < length c.args.vars.now = omega (arith, c.if-is_empty.false) in
+    let some : 0 < length c.args.vars.now = grind (arith, nat_tests, c.if-is_empty.ensures) in
     if_err _ c.from_residual.result c.in_err-affordable.field-0.0 p.0 p.1 p.2
     (subst (λ (e : SampleError). SearchEndsIn e vs ps left left) (sym spent.0) (short_search vs ps left (collected_polynomials ps c.are_valid.ensures.valid) c.requires some spent.1))
 

@@ -1,4 +1,4 @@
-use Rattle.std.proofs.Common.{pos, set, ap, ◌∙◌}
+use Rattle.std.proofs.Common.{◌<◌, length, pos, set, ap, ◌∙◌, arith}
 use Rattle.std.proofs.lemmas.List.Edits.{map_over_more}
 use Rattle.geo_poly.specs.Polynomials.{Summands}
 use Rattle.geo_poly.specs.Specialise.{specialised}
@@ -9,5 +9,6 @@ loop-place-preserved c =
     let i = c.loop-place.place in
     let ps = c.args.polys.now.items in
     let now = c.loop-place.polys.items in
+    let within : c.loop-place.place < length c.args.polys.now.items = omega (arith, c.loop-place-test.true, c.len-place-end.ensures) in
     ap (λ (q : Summands). set now i q) c.put_zero.ensures
-    ∙ map_over_more (specialised c.args.v (pos 0)) ps now i c.index_mut.result.now c.loop-place-test.true c.loop-place.invariant c.index_mut.ensures.value
+    ∙ map_over_more (specialised c.args.v (pos 0)) ps now i c.index_mut.result.now within c.loop-place.invariant c.index_mut.ensures.value
