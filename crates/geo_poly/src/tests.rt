@@ -321,7 +321,10 @@ fn zeros_are_put_in_place(rt: HostRuntime) -> Result<(), Fail> {
     for (v, text) in table {
         assert_eq!(rt; spelled_at_zero(alloc, squares(alloc)?, v)?.as_str(), text);
     }
-    assert_eq!(rt; spelled_at_zero(alloc, linear(alloc, 3, 0)?, x)?.as_str(), "0");
+    assert_eq!(rt;
+        spelled_at_zero(alloc, linear(alloc, 3, 0)?, x)?.as_str(),
+        "0"
+    );
     Ok(())
 }
 

@@ -70,7 +70,7 @@ pub(crate) fn keep_lacking(vars: &[Var], monos: &Monos, list: &mut Vec<Indexed>,
     ensures shared { IsShared vars.now monos.now list.new.items }
     ensures terms { terms_of vars.now monos.now list.new.items
         ≡ specialised (var_at vars.now number) (pos 0)
-            (terms_of vars.now monos.now list.old.items) }
+        (terms_of vars.now monos.now list.old.items) }
 {
     let p = Shared {
         vars,
