@@ -1,4 +1,4 @@
-use Rattle.std.proofs.Common.{◌≡◌, true, IfOk, ℤ, pos, subst}
+use Rattle.std.proofs.Common.{◌≡◌, true, IfOk, ℤ, subst}
 use Rattle.std.specs.Int.{w128}
 use Rattle.std.specs.Prelude.{◌↔◌, IsTrue}
 use Rattle.std.proofs.lemmas.Int.{to_z_pos}
