@@ -1,4 +1,4 @@
-use Rattle.std.proofs.Common.{◌≡◌, pos, List, [], filter, sym, ap, subst, ◌∙◌}
+use Rattle.std.proofs.Common.{◌≡◌, pos, [], filter, sym, ap, subst, ◌∙◌}
 use Rattle.std.specs.Prelude.{◌↔◌, IsTrue}
 use Rattle.geo_poly.specs.Inner.Parts.{lacks}
 use Rattle.geo_poly.specs.declared.variables.Var.{Var}
