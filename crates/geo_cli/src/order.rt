@@ -23,6 +23,8 @@ pub enum Command {
     Check,
     /// Print the proof of a log.
     Text,
+    /// Cite the theorem of a log at a program.
+    Cite,
     /// Prove the generated program of this number, from 1 to 60.
     Bench(u32),
 }
@@ -159,6 +161,7 @@ fn plain_command(name: &str) -> Option<Command>
         "prove" => Some(Command::Prove),
         "check" => Some(Command::Check),
         "text" => Some(Command::Text),
+        "cite" => Some(Command::Cite),
         _ => None,
     }
 }

@@ -16,6 +16,7 @@ ghost use Rattle.proof_log.specs.declared.log.Verdict.{Verdict};
 use crate::answers::{USAGE, answer};
 use crate::benching::run_bench;
 use crate::checking::run_check;
+use crate::citing::run_cite;
 use crate::order::{Command, Order, order_of};
 use crate::printing::run_text;
 use crate::proving::run_prove;
@@ -91,6 +92,7 @@ fn carry_out<S: Source, K: Sink>(
         Command::Prove => run_prove(alloc, order.steps, source, sink),
         Command::Check => run_check(alloc, order.steps, source, sink),
         Command::Text => run_text(alloc, order.steps, source, sink),
+        Command::Cite => run_cite(alloc, order.steps, source, sink),
         Command::Bench(number) => run_bench(alloc, number, order.steps, sink),
     }
 }

@@ -52,8 +52,13 @@ pub enum Status {
     },
     /// The input, or the log, is longer than its limit.
     TooLong,
-    /// A readable proof is written.
+    /// A readable proof is written, or a statement is cited.
     Done,
+    /// The citing program is no instance of the cited one.
+    NotInstance {
+        /// The line of the cited program that asks what is not so, from 1.
+        line: u64,
+    },
 }
 
 impl Status {
@@ -75,6 +80,7 @@ impl Status {
             Status::Rejected { .. } => 11,
             Status::TooLong => 12,
             Status::Done => 13,
+            Status::NotInstance { .. } => 16,
         }
     }
 

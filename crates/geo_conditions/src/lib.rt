@@ -17,7 +17,11 @@ mod program_conditions;
 mod program_items;
 mod renaming;
 
+pub use condition_items::condition_text;
+pub use condition_list::ConditionList;
 pub use conditions::{Condition, ListedCondition};
 pub use items::{Conditions, Goals, Item};
 pub use problem::{Problem, list};
+pub use program_conditions::list_program;
 pub use program_items::list_items;
+pub use renaming::rename_terms;

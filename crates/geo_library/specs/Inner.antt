@@ -1,0 +1,2 @@
+-- What private functions speak of. No public contract cites it.
+pub mod Answers
