@@ -1,2 +1,3 @@
 -- What private functions speak of. No public contract cites it.
 pub mod Answers
+pub mod Goals

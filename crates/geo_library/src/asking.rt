@@ -1,7 +1,8 @@
 //! What each line of the cited program asks.
 
-use crate::goal_terms::{Places, intern_goal};
+use crate::goal_terms::intern_goal;
 use crate::goals::{Goal, command_goals};
+use crate::places::Places;
 use geo_conditions::{Item, ListedCondition, condition_text};
 use geo_points::{NoMemory, PointId, TermId};
 use geo_program::{Command, NameKind, Printer};
@@ -68,7 +69,7 @@ fn ask(
     goal: Option<Goal>,
 ) -> Result<(), NoMemory> {
     if let Some(goal) = goal {
-        let term = intern_goal(steps, places, goal)?;
+        let term = intern_goal(steps, places.goal(goal))?;
         asked.push(AskedGoal { line, term })?;
     }
     Ok(())

@@ -1,275 +1,279 @@
-//! The terms of goals over the points of the citing program, in the store of its steps. A store with
-//! no room left is answered by NoMemory.
+//! The terms of goals, put into the store of the steps of the citing program. A store with no room
+//! left is answered by NoMemory.
+
+ghost use Rattle.std.specs.Prelude.{◌<◌, pos, IfOk, length};
+ghost use Rattle.geo_terms.specs.Stores.{tree_of};
+ghost use Rattle.geo_terms.specs.Trees.{addition, area_leaf, integer_leaf, multiplication};
+ghost use Rattle.geo_terms.specs.Trees.{pythagoras_leaf, subtraction};
+ghost use Rattle.geo_conditions.specs.Inner.ItemTerms.{HasTerm};
+ghost use Rattle.geo_library.specs.CitedGoals.{along_goal, centroid_goal, turned_goal};
+ghost use Rattle.geo_library.specs.CitedGoals.{weights_goal};
+ghost use Rattle.geo_library.specs.Inner.Goals.{IsGoalWithin, IsNumberWithin, goal_tree};
+ghost use Rattle.geo_library.specs.Inner.Goals.{number_tree};
 
 use crate::goals::{Goal, Number};
+use geo_conditions::interning::{area, difference, intern, midpoint, perpendicular, product};
+use geo_conditions::interning::{pythagoras, same_length, sum};
 use geo_points::{NoMemory, PointId, TermId};
 use geo_terms::{Node, Steps};
 
-/// Where the points and the terms of the cited program stand among the steps of the citing one.
-#[derive(Clone, Copy, Drop)]
-pub struct Places<'a> {
-    /// The points.
-    pub points: &'a [PointId],
-    /// The terms of the cited program's store, in order, over these points.
-    pub terms: &'a [TermId],
-}
-
-impl<'a> Places<'a> {
-    // The place of a point.
-    fn point(&self, a: PointId) -> PointId {
-        self.points[a.0 as usize]
-    }
-
-    // The place of a term.
-    fn term(&self, e: TermId) -> TermId {
-        self.terms[e.0 as usize]
-    }
-}
-
-// The index of a node.
-fn intern(steps: &mut Steps, node: Node) -> Result<TermId, NoMemory> {
-    if steps.look().len() == u32::MAX {
-        return Err(NoMemory);
-    }
-    steps.intern(node)
-}
-
-// S_ABC.
-fn area(
-    steps: &mut Steps,
-    places: &Places,
-    a: PointId,
-    b: PointId,
-    c: PointId,
-) -> Result<TermId, NoMemory> {
-    intern(steps, Node::S(places.point(a), places.point(b), places.point(c)))
-}
-
-// P_ABC.
-fn pythagoras(
-    steps: &mut Steps,
-    places: &Places,
-    a: PointId,
-    b: PointId,
-    c: PointId,
-) -> Result<TermId, NoMemory> {
-    intern(steps, Node::P(places.point(a), places.point(b), places.point(c)))
-}
-
-// P_ABC - P_DEF.
-fn difference(
-    steps: &mut Steps,
-    places: &Places,
-    first: [PointId; 3],
-    second: [PointId; 3],
-) -> Result<TermId, NoMemory> {
-    let [a, b, c] = first;
-    let [d, e, f] = second;
-    let first = pythagoras(steps, places, a, b, c)?;
-    let second = pythagoras(steps, places, d, e, f)?;
-    intern(steps, Node::Sub(first, second))
-}
-
 // A number.
-fn number(steps: &mut Steps, places: &Places, number: Number) -> Result<TermId, NoMemory> {
+fn number(steps: &mut Steps, number: Number) -> Result<TermId, NoMemory>
+    requires stored { IsNumberWithin (length steps.old.nodes) number }
+    ensures { IfOk result (λ id. HasTerm steps.old steps.new id
+        (number_tree steps.old.nodes number)) }
+{
     match number {
         Number::One => intern(steps, Node::Int(1)),
-        Number::Stored(e) => Ok(places.term(e)),
+        Number::Stored(e) => Ok(e),
     }
 }
 
-// A whole number times a term.
-fn times(steps: &mut Steps, n: i128, e: TermId) -> Result<TermId, NoMemory> {
-    let n = intern(steps, Node::Int(n))?;
-    intern(steps, Node::Mul(n, e))
+// 2 e.
+fn twice(steps: &mut Steps, e: TermId) -> Result<TermId, NoMemory>
+    requires stored { e.0 < length steps.old.nodes }
+    ensures { IfOk result (λ id. HasTerm steps.old steps.new id
+        (multiplication (integer_leaf (pos 2)) (tree_of steps.old.nodes e))) }
+{
+    let n = intern(steps, Node::Int(2))?;
+    product(steps, n, e)
 }
 
-// P_XAX + r r P_UVU.
-fn with_square(
-    steps: &mut Steps,
-    places: &Places,
-    first: TermId,
-    u: PointId,
-    v: PointId,
-    r: TermId,
-) -> Result<TermId, NoMemory> {
-    let square = intern(steps, Node::Mul(r, r))?;
-    let length = pythagoras(steps, places, u, v, u)?;
-    let second = intern(steps, Node::Mul(square, length))?;
-    intern(steps, Node::Add(first, second))
+// 8 e.
+fn eight_times(steps: &mut Steps, e: TermId) -> Result<TermId, NoMemory>
+    requires stored { e.0 < length steps.old.nodes }
+    ensures { IfOk result (λ id. HasTerm steps.old steps.new id
+        (multiplication (integer_leaf (pos 8)) (tree_of steps.old.nodes e))) }
+{
+    let n = intern(steps, Node::Int(8))?;
+    product(steps, n, e)
+}
+
+// r r P_UVU.
+fn square_times(steps: &mut Steps, r: TermId, u: PointId, v: PointId) -> Result<TermId, NoMemory>
+    requires stored { r.0 < length steps.old.nodes }
+    ensures { IfOk result (λ id. HasTerm steps.old steps.new id
+        (multiplication (multiplication (tree_of steps.old.nodes r) (tree_of steps.old.nodes r)) (pythagoras_leaf u v u))) }
+{
+    let square = product(steps, r, r)?;
+    let length = pythagoras(steps, u, v, u)?;
+    product(steps, square, length)
+}
+
+// e + r r P_UVU.
+fn with_square(steps: &mut Steps, e: TermId, r: TermId, u: PointId, v: PointId) -> Result<TermId, NoMemory>
+    requires e { e.0 < length steps.old.nodes }
+    requires r { r.0 < length steps.old.nodes }
+    ensures { IfOk result (λ id. HasTerm steps.old steps.new id
+        (addition (tree_of steps.old.nodes e)
+        (multiplication (multiplication (tree_of steps.old.nodes r) (tree_of steps.old.nodes r))
+        (pythagoras_leaf u v u)))) }
+{
+    let square = square_times(steps, r, u, v)?;
+    sum(steps, e, square)
+}
+
+// P_XWX + r r P_UVU.
+fn squares(steps: &mut Steps, x: PointId, w: PointId, u: PointId, v: PointId, r: TermId) -> Result<TermId, NoMemory>
+    requires stored { r.0 < length steps.old.nodes }
+    ensures { IfOk result (λ id. HasTerm steps.old steps.new id
+        (addition (pythagoras_leaf x w x)
+        (multiplication (multiplication (tree_of steps.old.nodes r) (tree_of steps.old.nodes r))
+        (pythagoras_leaf u v u)))) }
+{
+    let length = pythagoras(steps, x, w, x)?;
+    with_square(steps, length, r, u, v)
+}
+
+// 2 r (P_XUV - P_WUV).
+fn along_twice(steps: &mut Steps, x: PointId, w: PointId, u: PointId, v: PointId, r: TermId) -> Result<TermId, NoMemory>
+    requires stored { r.0 < length steps.old.nodes }
+    ensures { IfOk result (λ id. HasTerm steps.old steps.new id
+        (multiplication (multiplication (integer_leaf (pos 2)) (tree_of steps.old.nodes r))
+        (subtraction (pythagoras_leaf x u v) (pythagoras_leaf w u v)))) }
+{
+    let twice = twice(steps, r)?;
+    let along = perpendicular(steps, x, w, u, v)?;
+    product(steps, twice, along)
 }
 
 // P_XWX + r r P_UVU - 2 r (P_XUV - P_WUV).
-fn along(
-    steps: &mut Steps,
-    places: &Places,
-    x: PointId,
-    w: PointId,
-    u: PointId,
-    v: PointId,
-    r: TermId,
-) -> Result<TermId, NoMemory> {
-    let length = pythagoras(steps, places, x, w, x)?;
-    let squares = with_square(steps, places, length, u, v, r)?;
-    let twice = times(steps, 2, r)?;
-    let along = difference(steps, places, [x, u, v], [w, u, v])?;
-    let product = intern(steps, Node::Mul(twice, along))?;
-    intern(steps, Node::Sub(squares, product))
+fn along(steps: &mut Steps, x: PointId, w: PointId, u: PointId, v: PointId, r: TermId) -> Result<TermId, NoMemory>
+    requires stored { r.0 < length steps.old.nodes }
+    ensures { IfOk result (λ id. HasTerm steps.old steps.new id
+        (along_goal x w u v (tree_of steps.old.nodes r))) }
+{
+    let squares = squares(steps, x, w, u, v, r)?;
+    let along = along_twice(steps, x, w, u, v, r)?;
+    difference(steps, squares, along)
+}
+
+// 8 r S_UVX.
+fn turned_part(steps: &mut Steps, x: PointId, u: PointId, v: PointId, r: TermId) -> Result<TermId, NoMemory>
+    requires stored { r.0 < length steps.old.nodes }
+    ensures { IfOk result (λ id. HasTerm steps.old steps.new id
+        (multiplication (multiplication (integer_leaf (pos 8)) (tree_of steps.old.nodes r))
+        (area_leaf u v x))) }
+{
+    let eight = eight_times(steps, r)?;
+    let area = area(steps, u, v, x)?;
+    product(steps, eight, area)
 }
 
 // P_XUX + r r P_UVU - 8 r S_UVX.
-fn turned(
-    steps: &mut Steps,
-    places: &Places,
-    x: PointId,
-    u: PointId,
-    v: PointId,
-    r: TermId,
-) -> Result<TermId, NoMemory> {
-    let length = pythagoras(steps, places, x, u, x)?;
-    let squares = with_square(steps, places, length, u, v, r)?;
-    let eight = times(steps, 8, r)?;
-    let area = area(steps, places, u, v, x)?;
-    let product = intern(steps, Node::Mul(eight, area))?;
-    intern(steps, Node::Sub(squares, product))
-}
-
-// 2 P_AMA + 2 P_BMB - P_ABA.
-fn midpoint(
-    steps: &mut Steps,
-    places: &Places,
-    m: PointId,
-    a: PointId,
-    b: PointId,
-) -> Result<TermId, NoMemory> {
-    let first = pythagoras(steps, places, a, m, a)?;
-    let first = times(steps, 2, first)?;
-    let second = pythagoras(steps, places, b, m, b)?;
-    let second = times(steps, 2, second)?;
-    let sum = intern(steps, Node::Add(first, second))?;
-    let length = pythagoras(steps, places, a, b, a)?;
-    intern(steps, Node::Sub(sum, length))
-}
-
-// P_AXB + P_BXC + P_CXA.
-fn around(
-    steps: &mut Steps,
-    places: &Places,
-    x: PointId,
-    a: PointId,
-    b: PointId,
-    c: PointId,
-) -> Result<TermId, NoMemory> {
-    let first = pythagoras(steps, places, a, x, b)?;
-    let second = pythagoras(steps, places, b, x, c)?;
-    let third = pythagoras(steps, places, c, x, a)?;
-    let sum = intern(steps, Node::Add(first, second))?;
-    intern(steps, Node::Add(sum, third))
-}
-
-// P_AXA + P_BXB + P_CXC + 2 (P_AXB + P_BXC + P_CXA).
-fn centroid(
-    steps: &mut Steps,
-    places: &Places,
-    x: PointId,
-    a: PointId,
-    b: PointId,
-    c: PointId,
-) -> Result<TermId, NoMemory> {
-    let first = pythagoras(steps, places, a, x, a)?;
-    let second = pythagoras(steps, places, b, x, b)?;
-    let third = pythagoras(steps, places, c, x, c)?;
-    let sum = intern(steps, Node::Add(first, second))?;
-    let squares = intern(steps, Node::Add(sum, third))?;
-    let around = around(steps, places, x, a, b, c)?;
-    let twice = times(steps, 2, around)?;
-    intern(steps, Node::Add(squares, twice))
+fn turned(steps: &mut Steps, x: PointId, u: PointId, v: PointId, r: TermId) -> Result<TermId, NoMemory>
+    requires stored { r.0 < length steps.old.nodes }
+    ensures { IfOk result (λ id. HasTerm steps.old steps.new id
+        (turned_goal x u v (tree_of steps.old.nodes r))) }
+{
+    let squares = squares(steps, x, u, u, v, r)?;
+    let turned = turned_part(steps, x, u, v, r)?;
+    difference(steps, squares, turned)
 }
 
 // S_PQX + S_PQA.
-fn halfway(
-    steps: &mut Steps,
-    places: &Places,
-    x: PointId,
-    a: PointId,
-    p: PointId,
-    q: PointId,
-) -> Result<TermId, NoMemory> {
-    let first = area(steps, places, p, q, x)?;
-    let second = area(steps, places, p, q, a)?;
-    intern(steps, Node::Add(first, second))
+fn halfway(steps: &mut Steps, x: PointId, a: PointId, p: PointId, q: PointId) -> Result<TermId, NoMemory>
+    ensures { IfOk result (λ id. HasTerm steps.old steps.new id
+        (addition (area_leaf p q x) (area_leaf p q a))) }
+{
+    let first = area(steps, p, q, x)?;
+    let second = area(steps, p, q, a)?;
+    sum(steps, first, second)
+}
+
+// P_XOP - P_AOA.
+fn inverse(steps: &mut Steps, x: PointId, p: PointId, o: PointId, a: PointId) -> Result<TermId, NoMemory>
+    ensures { IfOk result (λ id. HasTerm steps.old steps.new id
+        (subtraction (pythagoras_leaf x o p) (pythagoras_leaf a o a))) }
+{
+    let first = pythagoras(steps, x, o, p)?;
+    let second = pythagoras(steps, a, o, a)?;
+    difference(steps, first, second)
+}
+
+// P_AXA + P_BXB + P_CXC.
+fn lengths(steps: &mut Steps, x: PointId, a: PointId, b: PointId, c: PointId) -> Result<TermId, NoMemory>
+    ensures { IfOk result (λ id. HasTerm steps.old steps.new id
+        (addition (addition (pythagoras_leaf a x a) (pythagoras_leaf b x b))
+        (pythagoras_leaf c x c))) }
+{
+    let first = pythagoras(steps, a, x, a)?;
+    let second = pythagoras(steps, b, x, b)?;
+    let both = sum(steps, first, second)?;
+    let third = pythagoras(steps, c, x, c)?;
+    sum(steps, both, third)
+}
+
+// P_AXB + P_BXC + P_CXA.
+fn angles(steps: &mut Steps, x: PointId, a: PointId, b: PointId, c: PointId) -> Result<TermId, NoMemory>
+    ensures { IfOk result (λ id. HasTerm steps.old steps.new id
+        (addition (addition (pythagoras_leaf a x b) (pythagoras_leaf b x c))
+        (pythagoras_leaf c x a))) }
+{
+    let first = pythagoras(steps, a, x, b)?;
+    let second = pythagoras(steps, b, x, c)?;
+    let both = sum(steps, first, second)?;
+    let third = pythagoras(steps, c, x, a)?;
+    sum(steps, both, third)
+}
+
+// P_AXA + P_BXB + P_CXC + 2 (P_AXB + P_BXC + P_CXA).
+fn centroid(steps: &mut Steps, x: PointId, a: PointId, b: PointId, c: PointId) -> Result<TermId, NoMemory>
+    ensures { IfOk result (λ id. HasTerm steps.old steps.new id
+        (centroid_goal x a b c)) }
+{
+    let lengths = lengths(steps, x, a, b, c)?;
+    let angles = angles(steps, x, a, b, c)?;
+    let twice = twice(steps, angles)?;
+    sum(steps, lengths, twice)
+}
+
+// 2 r P_XAB.
+fn twice_along(steps: &mut Steps, r: TermId, x: PointId, a: PointId, b: PointId) -> Result<TermId, NoMemory>
+    requires stored { r.0 < length steps.old.nodes }
+    ensures { IfOk result (λ id. HasTerm steps.old steps.new id
+        (multiplication (multiplication (integer_leaf (pos 2)) (tree_of steps.old.nodes r))
+        (pythagoras_leaf x a b))) }
+{
+    let twice = twice(steps, r)?;
+    let quantity = pythagoras(steps, x, a, b)?;
+    product(steps, twice, quantity)
 }
 
 // e - 2 r P_XAB.
-fn less_twice(
-    steps: &mut Steps,
-    places: &Places,
-    e: TermId,
-    r: TermId,
-    x: PointId,
-    a: PointId,
-    b: PointId,
-) -> Result<TermId, NoMemory> {
-    let twice = times(steps, 2, r)?;
-    let quantity = pythagoras(steps, places, x, a, b)?;
-    let product = intern(steps, Node::Mul(twice, quantity))?;
-    intern(steps, Node::Sub(e, product))
+fn less_along(steps: &mut Steps, e: TermId, r: TermId, x: PointId, a: PointId, b: PointId) -> Result<TermId, NoMemory>
+    requires e { e.0 < length steps.old.nodes }
+    requires r { r.0 < length steps.old.nodes }
+    ensures { IfOk result (λ id. HasTerm steps.old steps.new id
+        (subtraction (tree_of steps.old.nodes e)
+        (multiplication (multiplication (integer_leaf (pos 2)) (tree_of steps.old.nodes r))
+        (pythagoras_leaf x a b)))) }
+{
+    let along = twice_along(steps, r, x, a, b)?;
+    difference(steps, e, along)
 }
 
 // 2 r s P_BAC.
-fn twice_both(
-    steps: &mut Steps,
-    places: &Places,
-    a: PointId,
-    b: PointId,
-    c: PointId,
-    r: TermId,
-    s: TermId,
-) -> Result<TermId, NoMemory> {
-    let twice = times(steps, 2, r)?;
-    let product = intern(steps, Node::Mul(twice, s))?;
-    let quantity = pythagoras(steps, places, b, a, c)?;
-    intern(steps, Node::Mul(product, quantity))
+fn twice_both(steps: &mut Steps, a: PointId, b: PointId, c: PointId, r: TermId, s: TermId) -> Result<TermId, NoMemory>
+    requires r { r.0 < length steps.old.nodes }
+    requires s { s.0 < length steps.old.nodes }
+    ensures { IfOk result (λ id. HasTerm steps.old steps.new id
+        (multiplication (multiplication (multiplication (integer_leaf (pos 2))
+        (tree_of steps.old.nodes r)) (tree_of steps.old.nodes s)) (pythagoras_leaf b a c))) }
+{
+    let twice = twice(steps, r)?;
+    let both = product(steps, twice, s)?;
+    let quantity = pythagoras(steps, b, a, c)?;
+    product(steps, both, quantity)
+}
+
+// P_XAX + r r P_BAB + s s P_CAC.
+fn weighted_squares(steps: &mut Steps, x: PointId, a: PointId, b: PointId, c: PointId, r: TermId, s: TermId) -> Result<TermId, NoMemory>
+    requires r { r.0 < length steps.old.nodes }
+    requires s { s.0 < length steps.old.nodes }
+    ensures { IfOk result (λ id. HasTerm steps.old steps.new id
+        (addition (addition (pythagoras_leaf x a x)
+        (multiplication (multiplication (tree_of steps.old.nodes r) (tree_of steps.old.nodes r)) (pythagoras_leaf b a b)))
+        (multiplication (multiplication (tree_of steps.old.nodes s) (tree_of steps.old.nodes s))
+        (pythagoras_leaf c a c)))) }
+{
+    let first = squares(steps, x, a, b, a, r)?;
+    with_square(steps, first, s, c, a)
 }
 
 // P_XAX + r r P_BAB + s s P_CAC - 2 r P_XAB - 2 s P_XAC + 2 r s P_BAC.
-fn weights(
-    steps: &mut Steps,
-    places: &Places,
-    x: PointId,
-    a: PointId,
-    b: PointId,
-    c: PointId,
-    r: TermId,
-    s: TermId,
-) -> Result<TermId, NoMemory> {
-    let length = pythagoras(steps, places, x, a, x)?;
-    let sum = with_square(steps, places, length, b, a, r)?;
-    let squares = with_square(steps, places, sum, c, a, s)?;
-    let first = less_twice(steps, places, squares, r, x, a, b)?;
-    let second = less_twice(steps, places, first, s, x, a, c)?;
-    let both = twice_both(steps, places, a, b, c, r, s)?;
-    intern(steps, Node::Add(second, both))
+fn weights(steps: &mut Steps, x: PointId, a: PointId, b: PointId, c: PointId, r: TermId, s: TermId) -> Result<TermId, NoMemory>
+    requires r { r.0 < length steps.old.nodes }
+    requires s { s.0 < length steps.old.nodes }
+    ensures { IfOk result (λ id. HasTerm steps.old steps.new id
+        (weights_goal x a b c (tree_of steps.old.nodes r) (tree_of steps.old.nodes s))) }
+{
+    let squares = weighted_squares(steps, x, a, b, c, r, s)?;
+    let first = less_along(steps, squares, r, x, a, b)?;
+    let second = less_along(steps, first, s, x, a, c)?;
+    let both = twice_both(steps, a, b, c, r, s)?;
+    sum(steps, second, both)
 }
 
-/// The term of a goal at the places.
-pub fn intern_goal(steps: &mut Steps, places: &Places, goal: Goal) -> Result<TermId, NoMemory> {
+/// The index of a goal's term, which is added where it is new.
+pub fn intern_goal(steps: &mut Steps, goal: Goal) -> Result<TermId, NoMemory>
+    requires { IsGoalWithin (length steps.old.nodes) goal }
+    ensures { IfOk result (λ id. HasTerm steps.old steps.new id (goal_tree steps.old.nodes goal)) }
+{
     match goal {
-        Goal::OnLine { a, b, x } => area(steps, places, a, b, x),
-        Goal::Upright { x, y, a, b } => difference(steps, places, [x, a, b], [y, a, b]),
+        Goal::OnLine { a, b, x } => area(steps, a, b, x),
+        Goal::Upright { x, y, a, b } => perpendicular(steps, x, y, a, b),
         Goal::Along { x, w, u, v, r } => {
-            let r = number(steps, places, r)?;
-            along(steps, places, x, w, u, v, r)
+            let r = number(steps, r)?;
+            along(steps, x, w, u, v, r)
         }
-        Goal::Turned { x, u, v, r } => turned(steps, places, x, u, v, places.term(r)),
-        Goal::Midpoint { m, a, b } => midpoint(steps, places, m, a, b),
-        Goal::Halfway { x, a, p, q } => halfway(steps, places, x, a, p, q),
-        Goal::Bisector { x, a, b } => difference(steps, places, [x, a, x], [x, b, x]),
-        Goal::Circle { x, o, a } => difference(steps, places, [x, o, x], [a, o, a]),
-        Goal::Centroid { x, a, b, c } => centroid(steps, places, x, a, b, c),
-        Goal::Inverse { x, p, o, a } => difference(steps, places, [x, o, p], [a, o, a]),
-        Goal::Weights { x, a, b, c, r, s } => {
-            weights(steps, places, x, a, b, c, places.term(r), places.term(s))
-        }
+        Goal::Turned { x, u, v, r } => turned(steps, x, u, v, r),
+        Goal::Midpoint { m, a, b } => midpoint(steps, m, a, b),
+        Goal::Halfway { x, a, p, q } => halfway(steps, x, a, p, q),
+        Goal::Bisector { x, a, b } => same_length(steps, x, a, x, b),
+        Goal::Circle { x, o, a } => same_length(steps, x, o, a, o),
+        Goal::Centroid { x, a, b, c } => centroid(steps, x, a, b, c),
+        Goal::Inverse { x, p, o, a } => inverse(steps, x, p, o, a),
+        Goal::Weights { x, a, b, c, r, s } => weights(steps, x, a, b, c, r, s),
     }
 }
