@@ -1,3 +1,5 @@
 -- What private functions speak of. No public contract cites it.
 pub mod Answers
 pub mod Goals
+pub mod Counting
+pub mod Names

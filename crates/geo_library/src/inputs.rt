@@ -1,5 +1,13 @@
 //! The parts of the input: a log, a line that gives names, and a program.
 
+ghost use Rattle.std.specs.Prelude.{◌≡◌, ◌==◌, ◌<◌, ◌++◌, ℕ, List, IfNone, IfOk, IfSome, MatchBool};
+ghost use Rattle.std.specs.Prelude.{MatchOption, length, map, position};
+ghost use Rattle.std.specs.List.{AllPass, prefix_len};
+ghost use Rattle.geo_lexer.specs.Bytes.{is_letter, is_word_byte};
+ghost use Rattle.geo_lexer.specs.Lexemes.{IsWord};
+ghost use Rattle.geo_library.specs.Inner.Names.{BeginsWithSome, HasNoNames};
+ghost use Rattle.geo_library.specs.Inputs.{BeginsWithLog, BeginsWithNames, BeginsWithVerdict};
+
 use geo_points::NoMemory;
 use std::alloc::Global;
 
@@ -14,81 +22,105 @@ pub struct Names<'a> {
 
 /// The log, up to and with the first line that begins with `verdict `, and what follows it. Where
 /// there is no such line, all is the log.
-pub fn cut_log(bytes: &[u8]) -> (&[u8], &[u8]) {
-    let mut end = 0;
-    while let Some(at) = line_feed_at(&bytes[end..]) {
-        let found = begins_with_verdict(&bytes[end..end + at]);
-        end += at + 1;
-        if found {
-            return bytes.split_at(end);
+pub fn cut_log(bytes: &[u8]) -> (&[u8], &[u8])
+    ensures { BeginsWithLog bytes.now result.0.now result.1.now }
+{
+    let rest = behind_log(bytes);
+    bytes.split_at(bytes.len() - rest.len())
+}
+
+/// What follows the log.
+fn behind_log(bytes: &[u8]) -> &[u8]
+    ensures { BeginsWithSome bytes.now result.now }
+{
+    let mut rest = bytes;
+    while let Some(at) = line_feed_at(rest) {
+        let (line, behind) = rest.split_at(at);
+        rest = &behind[1..];
+        if begins_with_verdict(line) {
+            return rest;
         }
     }
-    bytes.split_at(bytes.len())
+    &[]
+}
+
+/// Where the first line feed stands.
+fn line_feed_at(bytes: &[u8]) -> Option<usize>
+    ensures value { result ≡ position (λ b. b == 10) bytes.now }
+    ensures within { IfSome result (λ at. at < length bytes.now) }
+{
+    bytes.iter().position(|b| *b == b'\n')
+}
+
+/// Whether the line begins with `verdict `.
+fn begins_with_verdict(line: &[u8]) -> bool
+    ensures { MatchBool result (BeginsWithVerdict line.now) (BeginsWithVerdict line.now → ⊥) }
+{
+    match behind(line, b"verdict ") {
+        Some(_) => true,
+        None => false,
+    }
+}
+
+/// What stands behind the text, where the bytes begin with it.
+fn behind<'a>(bytes: &'a [u8], text: &[u8]) -> Option<&'a [u8]>
+    ensures some { IfSome result (λ rest. bytes.now ≡ text.now ++ rest.now) }
+    ensures none { IfNone result ((rest : List ℕ) → bytes.now ≡ text.now ++ rest → ⊥) }
+{
+    let rest = bytes.strip_prefix(text)?;
+    Some(rest)
 }
 
 /// What is named behind the log: `with` and words, each after one space. `None` where there is no
 /// such line.
-pub fn read_names(alloc: Global, rest: &[u8]) -> Result<Option<Names>, NoMemory> {
-    let Some(at) = line_feed_at(rest) else {
+pub fn read_names(alloc: Global, rest: &[u8]) -> Result<Option<Names>, NoMemory>
+    ensures { IfOk result (λ names. MatchOption names (HasNoNames rest.now)
+        (λ n. BeginsWithNames rest.now (map (λ text. text.now) n.texts.items) n.program.now)) }
+{
+    let Some(words) = behind(rest, b"with") else {
         return Ok(None);
     };
-    let Some(words) = rest[..at].strip_prefix(b"with") else {
-        return Ok(None);
-    };
-    match read_words(alloc, words)? {
-        Some(texts) => Ok(Some(Names {
-            texts,
-            program: &rest[at + 1..],
-        })),
+    let mut left = words;
+    let mut texts = Vec::new(alloc);
+    while let Some(next) = behind(left, b" ") {
+        let (word, after) = next.split_at(word_length(next));
+        if !is_word(word) {
+            return Ok(None);
+        }
+        texts.push(word)?;
+        left = after;
+    }
+    match behind(left, b"\n") {
+        Some(program) => Ok(Some(Names { texts, program })),
         None => Ok(None),
     }
 }
 
-/// Words, each after one space. `None` where the line is no such list.
-fn read_words(alloc: Global, line: &[u8]) -> Result<Option<Vec<&[u8]>>, NoMemory> {
-    let mut words = Vec::new(alloc);
-    let mut left = line;
-    while !left.is_empty() {
-        let Some(behind) = left.strip_prefix(b" ") else {
-            return Ok(None);
-        };
-        let (word, next) = behind.split_at(space_at(behind));
-        if !is_word(word) {
-            return Ok(None);
-        }
-        words.push(word)?;
-        left = next;
-    }
-    Ok(Some(words))
+/// How many letters, digits and `_` stand in front.
+fn word_length(bytes: &[u8]) -> usize
+    ensures { result ≡ prefix_len is_word_byte bytes.now }
+{
+    bytes.iter().take_while(|b| is_word_byte(**b)).count()
 }
 
-/// Where the first line feed stands.
-fn line_feed_at(bytes: &[u8]) -> Option<usize> {
-    bytes.iter().position(|b| *b == b'\n')
+/// Whether letters, digits and `_` are a word: a letter stands first, and they are at most 64.
+fn is_word(text: &[u8]) -> bool
+    requires { AllPass is_word_byte text.now }
+    ensures { MatchBool result (IsWord text.now) (IsWord text.now → ⊥) }
+{
+    !text.is_empty() && text.len() <= 64 && is_letter(text[0])
 }
 
-/// Where the first space stands, or the length.
-fn space_at(bytes: &[u8]) -> usize {
-    match bytes.iter().position(|b| *b == b' ') {
-        Some(at) => at,
-        None => bytes.len(),
-    }
-}
-
-/// Whether the line begins with `verdict `.
-fn begins_with_verdict(line: &[u8]) -> bool {
-    line.starts_with(b"verdict ")
-}
-
-/// A letter and then letters, digits and `_`, at most 64 bytes in all.
-fn is_word(text: &[u8]) -> bool {
-    let [first, ..] = text else {
-        return false;
-    };
-    text.len() <= 64 && first.is_ascii_alphabetic() && text.iter().all(|b| is_word_byte(*b))
+/// Whether the byte is a letter.
+fn is_letter(byte: u8) -> bool
+    ensures { result ≡ is_letter byte }
+{
+    byte.is_ascii_alphabetic()
 }
 
 /// Whether the byte may stand in a word.
-fn is_word_byte(byte: u8) -> bool {
+fn is_word_byte(byte: u8) -> bool
+    ensures { result ≡ is_word_byte byte }
+{
     byte.is_ascii_alphanumeric() || byte == b'_'
 }
