@@ -22,6 +22,6 @@ pub use condition_list::ConditionList;
 pub use conditions::{Condition, ListedCondition};
 pub use items::{Conditions, Goals, Item};
 pub use problem::{Problem, list};
-pub use program_conditions::list_program;
+pub use program_conditions::{list_program, next_point};
 pub use program_items::list_items;
 pub use renaming::{point_at, rename_terms};

@@ -3,3 +3,6 @@ pub mod Answers
 pub mod Goals
 pub mod Counting
 pub mod Names
+pub mod Asking
+pub mod Listing
+pub mod Naming

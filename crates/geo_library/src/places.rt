@@ -8,14 +8,16 @@ ghost use Rattle.geo_library.specs.Inner.Goals.{placed_number};
 
 use crate::goals::{Goal, Number};
 use geo_conditions::point_at;
-use geo_points::{PointId, TermId};
+use geo_points::{ParamId, PointId, TermId};
 
 /// Where the points and the terms of the cited program stand among the steps of the citing one.
 #[derive(Clone, Copy, Drop)]
 pub struct Places<'a> {
     /// The points.
     pub points: &'a [PointId],
-    /// The terms of the cited program's store, in order, over these points.
+    /// The parameters.
+    pub params: &'a [ParamId],
+    /// The terms of the cited program's store, in order, over these points and parameters.
     pub terms: &'a [TermId],
 }
 
