@@ -104,7 +104,6 @@ module _ (s : Source) (placed : Placement) (x : PointId) where
   command_met t (Second a b o) l z n = record { on_line = on_line (at a) (at b) X z.0.1; distance = same_distance X (at o) (at a) z.1.0.1 }
   command_met t (Cc o p a) l z n = record { first = same_distance X (at o) (at a) z.0.1; second = same_distance X (at p) (at a) z.1.0.1 }
   command_met t (Inverse p o a) l z n = record { on_line = on_line (at o) (at p) X z.0.1; product = inverted X (at p) (at o) (at a) z.1.0.1 }
-
   command_met t (Weights a b c r q) l z n =
       let h = weights_are X (at a) (at b) (at c) (number (tree_of s.nodes r)) (number (tree_of s.nodes q)) z.0.1 in
       (z.0.0.0.0.0.0.1.0.0, z.0.0.0.0.0.1.0.0, weighted_back (at a) (at b) (at c) (number (tree_of s.nodes r)) (number (tree_of s.nodes q)) X h.0 h.1)

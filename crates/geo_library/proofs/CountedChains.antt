@@ -203,16 +203,16 @@ module _ (c : Construction) (known : List Var) where
     chain_worked now left0 mid q lines' left' end same begun charged is two h =
         let started : IsStarted left e = subst (λ n. IsStarted n e) same begun in
         let paid : mid ≡ left - start_charge e = charged ∙ ap (λ n. n - start_charge e) same in record {
-      chain = record { steps = h.steps; end = end };
-      works = record {
-        started = started;
-        leads = subst (λ k. Leads k (start_of e) h.steps left' end) paid (subst (λ r. Leads mid r h.steps left' end) is h.leads);
-        no_cut = h.no_cut;
-        ended = h.ended;
-      };
-      ended = refl;
-      counted =
-          let a = h.counted in
-          let b : length (map line_of h.steps) ≡ length h.steps = length-map h.steps line_of in
-          let d : length (map line_of h.steps ++ line.End ∷ []) ≡ length (map line_of h.steps) + 1 = length-append (map line_of h.steps) (line.End ∷ []) in omega (arith, a, b, d, two);
-    }
+          chain = record { steps = h.steps; end = end };
+          works = record {
+            started = started;
+            leads = subst (λ k. Leads k (start_of e) h.steps left' end) paid (subst (λ r. Leads mid r h.steps left' end) is h.leads);
+            no_cut = h.no_cut;
+            ended = h.ended;
+          };
+          ended = refl;
+          counted =
+              let a = h.counted in
+              let b : length (map line_of h.steps) ≡ length h.steps = length-map h.steps line_of in
+              let d : length (map line_of h.steps ++ line.End ∷ []) ≡ length (map line_of h.steps) + 1 = length-append (map line_of h.steps) (line.End ∷ []) in omega (arith, a, b, d, two);
+        }

@@ -6,3 +6,4 @@ pub mod Names
 pub mod Asking
 pub mod Listing
 pub mod Naming
+pub mod Knowing

@@ -12,8 +12,9 @@ ghost use Rattle.geo_library.specs.Inner.Goals.{IsGoalWithin, IsNumberWithin, go
 ghost use Rattle.geo_library.specs.Inner.Goals.{number_tree};
 
 use crate::goals::{Goal, Number};
-use geo_conditions::interning::{area, difference, intern, midpoint, perpendicular, product};
-use geo_conditions::interning::{pythagoras, same_length, sum};
+use geo_conditions::interning::{
+    area, difference, intern, midpoint, perpendicular, product, pythagoras, same_length, sum,
+};
 use geo_points::{NoMemory, PointId, TermId};
 use geo_terms::{Node, Steps};
 
@@ -61,7 +62,13 @@ fn square_times(steps: &mut Steps, r: TermId, u: PointId, v: PointId) -> Result<
 }
 
 // e + r r P_UVU.
-fn with_square(steps: &mut Steps, e: TermId, r: TermId, u: PointId, v: PointId) -> Result<TermId, NoMemory>
+fn with_square(
+    steps: &mut Steps,
+    e: TermId,
+    r: TermId,
+    u: PointId,
+    v: PointId,
+) -> Result<TermId, NoMemory>
     requires e { e.0 < length steps.old.nodes }
     requires r { r.0 < length steps.old.nodes }
     ensures { IfOk result (λ id. HasTerm steps.old steps.new id
@@ -74,7 +81,14 @@ fn with_square(steps: &mut Steps, e: TermId, r: TermId, u: PointId, v: PointId) 
 }
 
 // P_XWX + r r P_UVU.
-fn squares(steps: &mut Steps, x: PointId, w: PointId, u: PointId, v: PointId, r: TermId) -> Result<TermId, NoMemory>
+fn squares(
+    steps: &mut Steps,
+    x: PointId,
+    w: PointId,
+    u: PointId,
+    v: PointId,
+    r: TermId,
+) -> Result<TermId, NoMemory>
     requires stored { r.0 < length steps.old.nodes }
     ensures { IfOk result (λ id. HasTerm steps.old steps.new id
         (addition (pythagoras_leaf x w x)
@@ -86,7 +100,14 @@ fn squares(steps: &mut Steps, x: PointId, w: PointId, u: PointId, v: PointId, r:
 }
 
 // 2 r (P_XUV - P_WUV).
-fn along_twice(steps: &mut Steps, x: PointId, w: PointId, u: PointId, v: PointId, r: TermId) -> Result<TermId, NoMemory>
+fn along_twice(
+    steps: &mut Steps,
+    x: PointId,
+    w: PointId,
+    u: PointId,
+    v: PointId,
+    r: TermId,
+) -> Result<TermId, NoMemory>
     requires stored { r.0 < length steps.old.nodes }
     ensures { IfOk result (λ id. HasTerm steps.old steps.new id
         (multiplication (multiplication (integer_leaf (pos 2)) (tree_of steps.old.nodes r))
@@ -98,7 +119,14 @@ fn along_twice(steps: &mut Steps, x: PointId, w: PointId, u: PointId, v: PointId
 }
 
 // P_XWX + r r P_UVU - 2 r (P_XUV - P_WUV).
-fn along(steps: &mut Steps, x: PointId, w: PointId, u: PointId, v: PointId, r: TermId) -> Result<TermId, NoMemory>
+fn along(
+    steps: &mut Steps,
+    x: PointId,
+    w: PointId,
+    u: PointId,
+    v: PointId,
+    r: TermId,
+) -> Result<TermId, NoMemory>
     requires stored { r.0 < length steps.old.nodes }
     ensures { IfOk result (λ id. HasTerm steps.old steps.new id
         (along_goal x w u v (tree_of steps.old.nodes r))) }
@@ -109,7 +137,13 @@ fn along(steps: &mut Steps, x: PointId, w: PointId, u: PointId, v: PointId, r: T
 }
 
 // 8 r S_UVX.
-fn turned_part(steps: &mut Steps, x: PointId, u: PointId, v: PointId, r: TermId) -> Result<TermId, NoMemory>
+fn turned_part(
+    steps: &mut Steps,
+    x: PointId,
+    u: PointId,
+    v: PointId,
+    r: TermId,
+) -> Result<TermId, NoMemory>
     requires stored { r.0 < length steps.old.nodes }
     ensures { IfOk result (λ id. HasTerm steps.old steps.new id
         (multiplication (multiplication (integer_leaf (pos 8)) (tree_of steps.old.nodes r))
@@ -121,7 +155,13 @@ fn turned_part(steps: &mut Steps, x: PointId, u: PointId, v: PointId, r: TermId)
 }
 
 // P_XUX + r r P_UVU - 8 r S_UVX.
-fn turned(steps: &mut Steps, x: PointId, u: PointId, v: PointId, r: TermId) -> Result<TermId, NoMemory>
+fn turned(
+    steps: &mut Steps,
+    x: PointId,
+    u: PointId,
+    v: PointId,
+    r: TermId,
+) -> Result<TermId, NoMemory>
     requires stored { r.0 < length steps.old.nodes }
     ensures { IfOk result (λ id. HasTerm steps.old steps.new id
         (turned_goal x u v (tree_of steps.old.nodes r))) }
@@ -132,7 +172,13 @@ fn turned(steps: &mut Steps, x: PointId, u: PointId, v: PointId, r: TermId) -> R
 }
 
 // S_PQX + S_PQA.
-fn halfway(steps: &mut Steps, x: PointId, a: PointId, p: PointId, q: PointId) -> Result<TermId, NoMemory>
+fn halfway(
+    steps: &mut Steps,
+    x: PointId,
+    a: PointId,
+    p: PointId,
+    q: PointId,
+) -> Result<TermId, NoMemory>
     ensures { IfOk result (λ id. HasTerm steps.old steps.new id
         (addition (area_leaf p q x) (area_leaf p q a))) }
 {
@@ -142,7 +188,13 @@ fn halfway(steps: &mut Steps, x: PointId, a: PointId, p: PointId, q: PointId) ->
 }
 
 // P_XOP - P_AOA.
-fn inverse(steps: &mut Steps, x: PointId, p: PointId, o: PointId, a: PointId) -> Result<TermId, NoMemory>
+fn inverse(
+    steps: &mut Steps,
+    x: PointId,
+    p: PointId,
+    o: PointId,
+    a: PointId,
+) -> Result<TermId, NoMemory>
     ensures { IfOk result (λ id. HasTerm steps.old steps.new id
         (subtraction (pythagoras_leaf x o p) (pythagoras_leaf a o a))) }
 {
@@ -152,7 +204,13 @@ fn inverse(steps: &mut Steps, x: PointId, p: PointId, o: PointId, a: PointId) ->
 }
 
 // P_AXA + P_BXB + P_CXC.
-fn lengths(steps: &mut Steps, x: PointId, a: PointId, b: PointId, c: PointId) -> Result<TermId, NoMemory>
+fn lengths(
+    steps: &mut Steps,
+    x: PointId,
+    a: PointId,
+    b: PointId,
+    c: PointId,
+) -> Result<TermId, NoMemory>
     ensures { IfOk result (λ id. HasTerm steps.old steps.new id
         (addition (addition (pythagoras_leaf a x a) (pythagoras_leaf b x b))
         (pythagoras_leaf c x c))) }
@@ -165,7 +223,13 @@ fn lengths(steps: &mut Steps, x: PointId, a: PointId, b: PointId, c: PointId) ->
 }
 
 // P_AXB + P_BXC + P_CXA.
-fn angles(steps: &mut Steps, x: PointId, a: PointId, b: PointId, c: PointId) -> Result<TermId, NoMemory>
+fn angles(
+    steps: &mut Steps,
+    x: PointId,
+    a: PointId,
+    b: PointId,
+    c: PointId,
+) -> Result<TermId, NoMemory>
     ensures { IfOk result (λ id. HasTerm steps.old steps.new id
         (addition (addition (pythagoras_leaf a x b) (pythagoras_leaf b x c))
         (pythagoras_leaf c x a))) }
@@ -178,7 +242,13 @@ fn angles(steps: &mut Steps, x: PointId, a: PointId, b: PointId, c: PointId) -> 
 }
 
 // P_AXA + P_BXB + P_CXC + 2 (P_AXB + P_BXC + P_CXA).
-fn centroid(steps: &mut Steps, x: PointId, a: PointId, b: PointId, c: PointId) -> Result<TermId, NoMemory>
+fn centroid(
+    steps: &mut Steps,
+    x: PointId,
+    a: PointId,
+    b: PointId,
+    c: PointId,
+) -> Result<TermId, NoMemory>
     ensures { IfOk result (λ id. HasTerm steps.old steps.new id
         (centroid_goal x a b c)) }
 {
@@ -189,7 +259,13 @@ fn centroid(steps: &mut Steps, x: PointId, a: PointId, b: PointId, c: PointId) -
 }
 
 // 2 r P_XAB.
-fn twice_along(steps: &mut Steps, r: TermId, x: PointId, a: PointId, b: PointId) -> Result<TermId, NoMemory>
+fn twice_along(
+    steps: &mut Steps,
+    r: TermId,
+    x: PointId,
+    a: PointId,
+    b: PointId,
+) -> Result<TermId, NoMemory>
     requires stored { r.0 < length steps.old.nodes }
     ensures { IfOk result (λ id. HasTerm steps.old steps.new id
         (multiplication (multiplication (integer_leaf (pos 2)) (tree_of steps.old.nodes r))
@@ -201,7 +277,14 @@ fn twice_along(steps: &mut Steps, r: TermId, x: PointId, a: PointId, b: PointId)
 }
 
 // e - 2 r P_XAB.
-fn less_along(steps: &mut Steps, e: TermId, r: TermId, x: PointId, a: PointId, b: PointId) -> Result<TermId, NoMemory>
+fn less_along(
+    steps: &mut Steps,
+    e: TermId,
+    r: TermId,
+    x: PointId,
+    a: PointId,
+    b: PointId,
+) -> Result<TermId, NoMemory>
     requires e { e.0 < length steps.old.nodes }
     requires r { r.0 < length steps.old.nodes }
     ensures { IfOk result (λ id. HasTerm steps.old steps.new id
@@ -214,7 +297,14 @@ fn less_along(steps: &mut Steps, e: TermId, r: TermId, x: PointId, a: PointId, b
 }
 
 // 2 r s P_BAC.
-fn twice_both(steps: &mut Steps, a: PointId, b: PointId, c: PointId, r: TermId, s: TermId) -> Result<TermId, NoMemory>
+fn twice_both(
+    steps: &mut Steps,
+    a: PointId,
+    b: PointId,
+    c: PointId,
+    r: TermId,
+    s: TermId,
+) -> Result<TermId, NoMemory>
     requires r { r.0 < length steps.old.nodes }
     requires s { s.0 < length steps.old.nodes }
     ensures { IfOk result (λ id. HasTerm steps.old steps.new id
@@ -228,7 +318,15 @@ fn twice_both(steps: &mut Steps, a: PointId, b: PointId, c: PointId, r: TermId, 
 }
 
 // P_XAX + r r P_BAB + s s P_CAC.
-fn weighted_squares(steps: &mut Steps, x: PointId, a: PointId, b: PointId, c: PointId, r: TermId, s: TermId) -> Result<TermId, NoMemory>
+fn weighted_squares(
+    steps: &mut Steps,
+    x: PointId,
+    a: PointId,
+    b: PointId,
+    c: PointId,
+    r: TermId,
+    s: TermId,
+) -> Result<TermId, NoMemory>
     requires r { r.0 < length steps.old.nodes }
     requires s { s.0 < length steps.old.nodes }
     ensures { IfOk result (λ id. HasTerm steps.old steps.new id
@@ -242,7 +340,15 @@ fn weighted_squares(steps: &mut Steps, x: PointId, a: PointId, b: PointId, c: Po
 }
 
 // P_XAX + r r P_BAB + s s P_CAC - 2 r P_XAB - 2 s P_XAC + 2 r s P_BAC.
-fn weights(steps: &mut Steps, x: PointId, a: PointId, b: PointId, c: PointId, r: TermId, s: TermId) -> Result<TermId, NoMemory>
+fn weights(
+    steps: &mut Steps,
+    x: PointId,
+    a: PointId,
+    b: PointId,
+    c: PointId,
+    r: TermId,
+    s: TermId,
+) -> Result<TermId, NoMemory>
     requires r { r.0 < length steps.old.nodes }
     requires s { s.0 < length steps.old.nodes }
     ensures { IfOk result (λ id. HasTerm steps.old steps.new id

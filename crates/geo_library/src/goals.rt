@@ -210,13 +210,7 @@ fn two(first: Goal, second: Goal) -> (Option<Goal>, Option<Goal>)
 }
 
 // X lies r times the vector UV from W.
-fn along(
-    x: PointId,
-    w: PointId,
-    u: PointId,
-    v: PointId,
-    r: Number,
-) -> (Option<Goal>, Option<Goal>)
+fn along(x: PointId, w: PointId, u: PointId, v: PointId, r: Number) -> (Option<Goal>, Option<Goal>)
     ensures { result ≡ (Some (Goal.Along x w u v r), None) }
 {
     one(Goal::Along { x, w, u, v, r })

@@ -63,7 +63,7 @@ fn begins_with_verdict(line: &[u8]) -> bool
 }
 
 /// What stands behind the text, where the bytes begin with it.
-fn behind<'a>(bytes: &'a [u8], text: &[u8]) -> Option<&'a [u8]>
+pub fn behind<'a>(bytes: &'a [u8], text: &[u8]) -> Option<&'a [u8]>
     ensures some { IfSome result (λ rest. bytes.now ≡ text.now ++ rest.now) }
     ensures none { IfNone result ((rest : List ℕ) → bytes.now ≡ text.now ++ rest → ⊥) }
 {

@@ -122,31 +122,155 @@ enum Answer {
 
 /// Each row: the log, what follows it, the steps, and the answer.
 const ROWS: &[(&[&str], &str, u64, Answer)] = &[
-    (MIDDLE, "with P Q N\npoint P point Q pratio N Q Q P div { 1 } { 2 } prove { collinear P N Q }", 1000, Answer::Cited("collinear P N Q")),
-    (MIDDLE, "with P Q N\npoint P point Q pratio N Q Q P div { 1 } { 3 } prove { collinear P N Q }", 1000, Answer::Error(CiteError::NotInstance { line: 3 })),
-    (MIDDLE, "with P Q N\npoint P point Q pratio N Q Q P div { 1 } { 2 } prove { collinear N P Q }", 1000, Answer::Error(CiteError::NotInstance { line: 4 })),
-    (MIDDLE, "with P P P\npoint P prove { collinear P P P }", 1000, Answer::Cited("collinear P P P")),
-    (MIDDLE, "with P Q\npoint P point Q midpoint N P Q prove { collinear P N Q }", 1000, Answer::Syntax(15, 0)),
-    (MIDDLE, "with P Q N N\npoint P point Q midpoint N P Q prove { collinear P N Q }", 1000, Answer::Syntax(15, 0)),
-    (MIDDLE, "with P Q r\npoint P point Q param r prove { collinear P P Q }", 1000, Answer::Syntax(15, 0)),
-    (MIDDLE, "with P Q X\npoint P point Q midpoint N P Q prove { collinear P N Q }", 1000, Answer::Syntax(15, 0)),
-    (MIDDLE, "with P Q  N\npoint P point Q midpoint N P Q prove { collinear P N Q }", 1000, Answer::Syntax(15, 0)),
+    (
+        MIDDLE,
+        "with P Q N\npoint P point Q pratio N Q Q P div { 1 } { 2 } prove { collinear P N Q }",
+        1000,
+        Answer::Cited("collinear P N Q"),
+    ),
+    (
+        MIDDLE,
+        "with P Q N\npoint P point Q pratio N Q Q P div { 1 } { 3 } prove { collinear P N Q }",
+        1000,
+        Answer::Error(CiteError::NotInstance { line: 3 }),
+    ),
+    (
+        MIDDLE,
+        "with P Q N\npoint P point Q pratio N Q Q P div { 1 } { 2 } prove { collinear N P Q }",
+        1000,
+        Answer::Error(CiteError::NotInstance { line: 4 }),
+    ),
+    (
+        MIDDLE,
+        "with P P P\npoint P prove { collinear P P P }",
+        1000,
+        Answer::Cited("collinear P P P"),
+    ),
+    (
+        MIDDLE,
+        "with P Q\npoint P point Q midpoint N P Q prove { collinear P N Q }",
+        1000,
+        Answer::Syntax(15, 0),
+    ),
+    (
+        MIDDLE,
+        "with P Q N N\npoint P point Q midpoint N P Q prove { collinear P N Q }",
+        1000,
+        Answer::Syntax(15, 0),
+    ),
+    (
+        MIDDLE,
+        "with P Q r\npoint P point Q param r prove { collinear P P Q }",
+        1000,
+        Answer::Syntax(15, 0),
+    ),
+    (
+        MIDDLE,
+        "with P Q X\npoint P point Q midpoint N P Q prove { collinear P N Q }",
+        1000,
+        Answer::Syntax(15, 0),
+    ),
+    (
+        MIDDLE,
+        "with P Q  N\npoint P point Q midpoint N P Q prove { collinear P N Q }",
+        1000,
+        Answer::Syntax(15, 0),
+    ),
     (MIDDLE, "with P Q N", 1000, Answer::Syntax(15, 0)),
     (MIDDLE, "", 1000, Answer::Syntax(15, 0)),
-    (MIDDLE, "with P Q N\npoint P point Q midpoint N P prove { collinear P N Q }", 1000, Answer::Syntax(4, 40)),
-    (MIDDLE, "with P Q N\npoint P point Q midpoint N P Q prove { collinear P N Q }", 24, Answer::Error(CiteError::Spent { line: 14 })),
-    (MIDDLE, "with P Q N\npoint P point Q midpoint N P Q prove { collinear P N Q }", 23, Answer::Error(CiteError::Spent { line: 9 })),
-    (MIDDLE, "with P Q N\npoint P point Q pratio N Q Q P div { 1 } { 2 } prove { collinear P N Q }", 60, Answer::Error(CiteError::Spent { line: 16 })),
-    (ONLINE, "with P Q N\npoint P point Q midpoint N P Q prove { collinear P Q N }", 1000, Answer::Error(CiteError::NotInstance { line: 3 })),
-    (ONLINE, "with P Q N\npoint P point Q midpoint N P Q assume different P Q prove { collinear P Q N }", 1000, Answer::Cited("collinear P Q N")),
-    (ONLINE, "with P Q N\npoint P point Q midpoint N P Q assume different Q P prove { collinear P Q N }", 1000, Answer::Error(CiteError::NotInstance { line: 3 })),
-    (FOOT, "with A B C F\npoint A point B point C online F A B prove { perpendicular C F A B }", 1000, Answer::Error(CiteError::NotInstance { line: 4 })),
-    (FOOT, "with A B C F\npoint A point B point C foot F C B A assume different A B prove { perpendicular C F A B }", 1000, Answer::Cited("perpendicular C F A B")),
-    (TURNED, "with A B r X\npoint A point B param r tratio X A B r prove { perpendicular A X A B }", 1000, Answer::Cited("perpendicular A X A B")),
-    (TURNED, "with A B s X\npoint A point B param s tratio Y A B s symmetric X Y A prove { perpendicular A X A B }", 1000, Answer::Error(CiteError::NotInstance { line: 4 })),
-    (FREE, "with A B C\npoint A point B point C prove { collinear A B C }", 1000, Answer::Error(CiteError::Rejected { line: 11, reason: 33 })),
-    (FREE, "", 1000, Answer::Error(CiteError::Rejected { line: 11, reason: 33 })),
-    (LINE, "with A B l\npoint A point B prove { collinear A A B }", 1000, Answer::Error(CiteError::Rejected { line: 4, reason: 34 })),
+    (
+        MIDDLE,
+        "with P Q N\npoint P point Q midpoint N P prove { collinear P N Q }",
+        1000,
+        Answer::Syntax(4, 40),
+    ),
+    (
+        MIDDLE,
+        "with P Q N\npoint P point Q midpoint N P Q prove { collinear P N Q }",
+        24,
+        Answer::Error(CiteError::Spent { line: 14 }),
+    ),
+    (
+        MIDDLE,
+        "with P Q N\npoint P point Q midpoint N P Q prove { collinear P N Q }",
+        23,
+        Answer::Error(CiteError::Spent { line: 9 }),
+    ),
+    (
+        MIDDLE,
+        "with P Q N\npoint P point Q pratio N Q Q P div { 1 } { 2 } prove { collinear P N Q }",
+        60,
+        Answer::Error(CiteError::Spent { line: 16 }),
+    ),
+    (
+        ONLINE,
+        "with P Q N\npoint P point Q midpoint N P Q prove { collinear P Q N }",
+        1000,
+        Answer::Error(CiteError::NotInstance { line: 3 }),
+    ),
+    (
+        ONLINE,
+        "with P Q N\npoint P point Q midpoint N P Q assume different P Q prove { collinear P Q N }",
+        1000,
+        Answer::Cited("collinear P Q N"),
+    ),
+    (
+        ONLINE,
+        "with P Q N\npoint P point Q midpoint N P Q assume different Q P prove { collinear P Q N }",
+        1000,
+        Answer::Error(CiteError::NotInstance { line: 3 }),
+    ),
+    (
+        FOOT,
+        "with A B C F\npoint A point B point C online F A B prove { perpendicular C F A B }",
+        1000,
+        Answer::Error(CiteError::NotInstance { line: 4 }),
+    ),
+    (
+        FOOT,
+        "with A B C F\npoint A point B point C foot F C B A assume different A B prove { perpendicular C F A B }",
+        1000,
+        Answer::Cited("perpendicular C F A B"),
+    ),
+    (
+        TURNED,
+        "with A B r X\npoint A point B param r tratio X A B r prove { perpendicular A X A B }",
+        1000,
+        Answer::Cited("perpendicular A X A B"),
+    ),
+    (
+        TURNED,
+        "with A B s X\npoint A point B param s tratio Y A B s symmetric X Y A prove { perpendicular A X A B }",
+        1000,
+        Answer::Error(CiteError::NotInstance { line: 4 }),
+    ),
+    (
+        FREE,
+        "with A B C\npoint A point B point C prove { collinear A B C }",
+        1000,
+        Answer::Error(CiteError::Rejected {
+            line: 11,
+            reason: 33,
+        }),
+    ),
+    (
+        FREE,
+        "",
+        1000,
+        Answer::Error(CiteError::Rejected {
+            line: 11,
+            reason: 33,
+        }),
+    ),
+    (
+        LINE,
+        "with A B l\npoint A point B prove { collinear A A B }",
+        1000,
+        Answer::Error(CiteError::Rejected {
+            line: 4,
+            reason: 34,
+        }),
+    ),
 ];
 
 /// The lines of a log.
@@ -180,13 +304,19 @@ fn citations_have_their_answers(rt: HostRuntime) -> Result<(), Fail> {
         let mut bytes = log_of(rt.alloc(), log)?;
         let length = bytes.len() as u64;
         bytes.extend_from_slice(rest.as_bytes())?;
-        assert!(rt; answers(rt.alloc(), &bytes, length, *steps, *answer), "{rest}");
+        assert!(rt;
+            answers(rt.alloc(), &bytes, length, *steps, *answer),
+            "{rest}"
+        );
     }
     Ok(())
 }
 
 #[test]
 fn an_empty_input_is_refused(rt: HostRuntime) {
-    let refused = CiteError::Rejected { line: 1, reason: 32 };
+    let refused = CiteError::Rejected {
+        line: 1,
+        reason: 32,
+    };
     assert!(rt; answers(rt.alloc(), b"", 0, 1000, Answer::Error(refused)));
 }
