@@ -1,7 +1,8 @@
 -- Why the log of an input is no theorem.
-use Rattle.std.proofs.Common.{◌≡◌, ◌≢◌, ℕ, ◌+◌, ◌<◌, true, false, All, inl, inr, length, take, slice_get, Some, List, refl, sym, ◌∙◌, subst}
+use Rattle.std.proofs.Common.{◌≡◌, ◌≢◌, ℕ, zero, suc, ◌+◌, ◌<◌, true, false, All, inl, inr, length, take, slice_get, Some, List, [], ◌∷◌, refl, sym, subst, add-one, arith}
 use Rattle.std.specs.Prelude.{slice_index_or}
-use Rattle.std.proofs.lemmas.Option.{slice_get_within}
+use Rattle.std.specs.List.{AllByRecursion}
+use Rattle.std.proofs.lemmas.List.Elements.{All-from_recursion, recursion_from_All}
 use Rattle.geo_program.specs.declared.commands.Command.{Command}
 use Rattle.geo_program.specs.declared.commands.Command.TheVariants.{Point}
 use Rattle.geo_program.specs.Programs.{source_of}
@@ -45,25 +46,39 @@ module _ (bytes log rest : List ℕ) (steps : ℕ) (b : BeginsWithLog bytes log 
     },
   ))
 
-  theorem : (p : Source) (verdict : Verdict) → Accepts log steps p verdict → verdict ≡ Proved → HasTheorem bytes steps
+  abbrev theorem : (p : Source) (verdict : Verdict) → Accepts log steps p verdict → verdict ≡ Proved → HasTheorem bytes steps
   theorem p verdict a e = record { log = log; rest = rest; begins = b; program = p; accepts = subst (λ (v : Verdict). Accepts log steps p v) e a }
 
   -- a command that has lines
-  pub line_told : (a : Accepted) (k : ℕ) → IsAnswer log steps a → a.verdict ≡ Proved → k < length (source_of a.program).commands
-      → has_lines (slice_index_or (source_of a.program).commands k Point) ≡ true → All (λ c. has_lines c ≡ false) (take k (source_of a.program).commands)
-      → TellsRefusal bytes steps (cite.Rejected (k + 2) 34)
-  line_told a k h e below lines first = inr (inr (
-    refl,
-    record {
-      theorem = theorem (source_of a.program) a.verdict h.accepts e;
-      place = k;
-      command = slice_index_or (source_of a.program).commands k Point;
-      at = get_within (source_of a.program).commands k below;
-      lines = lines;
-      first = first;
-      counted = refl;
-    },
-  ))
+  pub line_told : (a : Accepted) (k : ℕ) (cs : List Command) → cs ≡ (source_of a.program).commands → IsAnswer log steps a → a.verdict ≡ Proved → k < length cs
+      → has_lines (slice_index_or cs k Point) ≡ true → All (λ c. has_lines c ≡ false) (take k cs) → TellsRefusal bytes steps (cite.Rejected (k + 2) 34)
+  line_told a k cs same h e below lines first = inr (inr (refl, record {
+    theorem = theorem (source_of a.program) a.verdict h.accepts e;
+    place = k;
+    command = slice_index_or cs k Point;
+    at = subst (λ (xs : List Command). slice_get xs k ≡ Some (slice_index_or cs k Point)) same (get_within cs k below);
+    lines = lines;
+    first = subst (λ (xs : List Command). All (λ c. has_lines c ≡ false) (take k xs)) same first;
+    counted = refl;
+  }))
     where
       get_within : (cs : List Command) (k : ℕ) → k < length cs → slice_get cs k ≡ Some (slice_index_or cs k Point)
-      get_within cs k below = grind arith
+      get_within [] k below = absurd (omega (arith, below))
+      get_within (c ∷ cs) zero below = refl
+      get_within (c ∷ cs) (suc k) below = get_within cs k (omega (arith, below))
+
+-- NO LINES
+abbrev NoLines : List Command → Type 0
+NoLines cs = AllByRecursion (λ c. has_lines c ≡ false) cs
+
+one_more : (cs : List Command) (k : ℕ) → k < length cs → NoLines (take k cs) → has_lines (slice_index_or cs k Point) ≡ false → NoLines (take (suc k) cs)
+one_more [] k b h e = absurd (omega (arith, b))
+one_more (c ∷ cs) zero b h e = (e, tt)
+one_more (c ∷ cs) (suc k) b h e = (h.0, one_more cs k (omega (arith, b)) h.1 e)
+
+-- one command more has none
+pub none_more : (cs : List Command) (k : ℕ) → k < length cs → All (λ c. has_lines c ≡ false) (take k cs) → has_lines (slice_index_or cs k Point) ≡ false
+    → All (λ c. has_lines c ≡ false) (take (k + 1) cs)
+none_more cs k b h e =
+    subst (λ n. All (λ c. has_lines c ≡ false) (take n cs)) (sym (add-one k))
+    (All-from_recursion (λ (c : Command). has_lines c ≡ false) (take (suc k) cs) (one_more cs k b (recursion_from_All (λ (c : Command). has_lines c ≡ false) (take k cs) h) e))
