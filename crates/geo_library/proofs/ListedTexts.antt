@@ -50,8 +50,3 @@ module _ (text : List ℕ) (all : List Item) (k : ℕ) (i : Item) (b : k < lengt
 
   pub found : i ≡ get_or all k i → i.text ≡ text → Contains (texts all) text
   found e is = h.goes (subst (λ xs. Contains (texts xs) text) (sym (at_front e)) (0, omega arith, is))
-
-pub none_left : (text : List ℕ) (all left : List Item) → left ≡ [] → AreOthersSoFar text all left → Contains (map (λ i. i.text) all) text → ⊥
-none_left text all left e h c =
-    let r : Contains (map (λ i. i.text) []) text = subst (λ xs. Contains (map (λ i. i.text) xs) text) e (h.back c) in
-    let b = r.1 in omega (arith, b)
