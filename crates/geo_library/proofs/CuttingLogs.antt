@@ -1,5 +1,5 @@
 -- The log of an input is cut off line by line.
-use Rattle.std.proofs.Common.{◌≡◌, ℕ, zero, suc, ◌-◌, ◌+◌, ◌<◌, inl, inr, length, take, drop, List, [], ◌∷◌, ◌++◌, refl, sym, ◌∙◌, ap, subst, append_assoc, append-nil, arith}
+use Rattle.std.proofs.Common.{◌≡◌, ℕ, zero, suc, ◌-◌, ◌+◌, ◌<◌, inl, inr, length, take, drop, List, [], ◌∷◌, ◌++◌, refl, sym, ◌∙◌, ap, subst, append_assoc, append-nil, length-append, ap₂, ◌≤◌, arith}
 use Rattle.std.specs.List.{AllByRecursion}
 use Rattle.std.specs.Prelude.{All, position, Some, None, ◌==◌}
 use Rattle.std.proofs.lemmas.List.{take_rest}
@@ -122,3 +122,26 @@ never_ends bytes rest k none = record { log = k.before ++ rest; begins = k.goes 
 pub log_before : (bytes log rest : List ℕ) → BeginsWithLog bytes log rest → bytes ≡ log ++ rest
 log_before bytes log rest (inl a) = a.split
 log_before bytes log rest (inr a) = sym a.whole ∙ sym (append-nil log) ∙ ap (λ (l : List ℕ). log ++ l) (sym a.nothing)
+
+-- the log is as long as the input without the rest
+pub rest_short : (bytes rest : List ℕ) → BeginsWithSome bytes rest → length rest ≤ length bytes
+rest_short bytes rest h =
+    let e : length bytes ≡ length h.log + length rest = ap length (log_before bytes h.log rest h.begins) ∙ length-append h.log rest in omega (arith, e)
+
+front_of : (xs ys : List ℕ) → take (length xs) (xs ++ ys) ≡ xs
+front_of [] ys = refl
+front_of (x ∷ xs) ys = ap (λ zs. x ∷ zs) (front_of xs ys)
+
+back_of : (xs ys : List ℕ) → drop (length xs) (xs ++ ys) ≡ ys
+back_of [] ys = refl
+back_of (x ∷ xs) ys = back_of xs ys
+
+-- so it is cut off there
+pub cut_there : (bytes rest front back : List ℕ) (n : ℕ) → BeginsWithSome bytes rest → n ≡ length bytes - length rest → front ≡ take n bytes → back ≡ drop n bytes → BeginsWithLog bytes front back
+cut_there bytes rest front back n h is f b =
+    let e = log_before bytes h.log rest h.begins in
+    let l : length bytes ≡ length h.log + length rest = ap length e ∙ length-append h.log rest in
+    let at : n ≡ length h.log = omega (arith, l, is) in
+    let front_is : front ≡ h.log = f ∙ ap₂ (λ (k : ℕ) (xs : List ℕ). take k xs) at e ∙ front_of h.log rest in
+    let back_is : back ≡ rest = b ∙ ap₂ (λ (k : ℕ) (xs : List ℕ). drop k xs) at e ∙ back_of h.log rest in
+    subst (λ (x : List ℕ). BeginsWithLog bytes x back) (sym front_is) (subst (λ (x : List ℕ). BeginsWithLog bytes h.log x) (sym back_is) h.begins)

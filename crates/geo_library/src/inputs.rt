@@ -26,7 +26,8 @@ pub fn cut_log(bytes: &[u8]) -> (&[u8], &[u8])
     ensures { BeginsWithLog bytes.now result.0.now result.1.now }
 {
     let rest = behind_log(bytes);
-    bytes.split_at(bytes.len() - rest.len())
+    let end = bytes.len() - rest.len();
+    bytes.split_at(end)
 }
 
 /// What follows the log.
