@@ -1,5 +1,6 @@
 -- The variables that conditions make known.
-use Rattle.std.proofs.Common.{◌≡◌, ℕ, zero, suc, ◌+◌, ◌<◌, inl, inr, pos, negsuc, ℤ, Option, Some, None, List, [], ◌∷◌, ◌++◌, drop, get_or, length, refl, sym, ◌∙◌, ap, subst, drop-cons, add-one, append-nil, append_assoc, slice_get}
+use Rattle.std.proofs.Common.{◌≡◌, ◌==◌, Bool, true, false, cond, unsigned_abs, ℕ, zero, suc, ◌+◌, ◌<◌, inl, inr, ℤ, Option, Some, None, List, [], ◌∷◌, ◌++◌, drop, get_or, length, refl, sym, ◌∙◌, ap, subst, drop-cons, add-one, append-nil, append_assoc, slice_get}
+use Rattle.std.specs.Prelude.{codes}
 use Rattle.std.specs.Option.{option_to_list}
 use Rattle.geo_points.specs.declared.ids.TermId.{TermId}
 use Rattle.geo_poly.specs.declared.canonical.Canon.{Canon}
@@ -19,9 +20,11 @@ use Rattle.geo_library.specs.Inner.Knowing.{AreKnown, IsKnownBy, IsQuantity, IsR
 
 -- a number has no variable
 number_alone : (z : ℤ) → variables_of (constant_of z) ≡ []
-number_alone (pos zero) = refl
-number_alone (pos (suc n)) = refl
-number_alone (negsuc n) = refl
+number_alone z = by (unsigned_abs z == 0)
+  where
+    by : (b : Bool) → variables_of (cond b [] (([], z) ∷ [])) ≡ []
+    by true = refl
+    by false = refl
 
 -- a sign times a variable has this one
 one_variable : (c : Canon) → variables_of (canon_polynomial c) ≡ option_to_list c.var
@@ -42,6 +45,11 @@ of_node trees (node.Add e f) h = absurd h
 of_node trees (node.Sub e f) h = absurd h
 of_node trees (node.Mul e f) h = absurd h
 of_node trees (node.Div e f) h = absurd h
+
+-- a text that begins in neither of the two ways
+pub tells_neither : (text : List ℕ) → ((rest : List ℕ) → text ≡ codes "different " ++ rest → ⊥) → ((rest : List ℕ) → text ≡ codes "not_collinear " ++ rest → ⊥) → TellsText text → ⊥
+tells_neither text f g (inl t) = f t.0 t.1
+tells_neither text f g (inr t) = g t.0 t.1
 
 module _ (nodes : Store) (store : IsStore nodes) where
   -- the variable of an item whose text says so

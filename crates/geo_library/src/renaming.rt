@@ -1,10 +1,10 @@
 //! What the names of the cited program stand for in the citing one.
 
-ghost use Rattle.std.specs.Prelude.{◌≡◌, ◌<◌, ℕ, IfNone, IfOk, IfSome, MatchOption, length, map};
+ghost use Rattle.std.specs.Prelude.{◌≡◌, ◌<◌, ℕ, IfNone, IfOk, IfSome, MatchOption, [], length, map};
 ghost use Rattle.std.specs.Prelude.{slice_index_or};
 ghost use Rattle.geo_program.specs.Names.{name_text, names_of};
-ghost use Rattle.geo_library.specs.Inner.Naming.{AreImages, HasNoRenaming, renaming_form};
-ghost use Rattle.geo_library.specs.Renamings.{IsRenaming, given_names};
+ghost use Rattle.geo_library.specs.Inner.Naming.{AreImages, HasNoNumbers, HasNoRenaming, renaming_form};
+ghost use Rattle.geo_library.specs.Renamings.{AreNamesOf, IsRenaming, given_names};
 
 use geo_base::Text;
 use geo_points::{NoMemory, ParamId, PointId};
@@ -36,26 +36,48 @@ pub fn renaming_of(
     if texts.len() != cited.len() {
         return Ok(None);
     }
-    let mut points = Vec::new(alloc);
-    let mut params = Vec::new(alloc);
+    let Some(points) = numbers_of(alloc, cited, citing, texts, NameKind::Point)? else {
+        return Ok(None);
+    };
+    let Some(params) = numbers_of(alloc, cited, citing, texts, NameKind::Param)? else {
+        return Ok(None);
+    };
+    Ok(Some(Renaming { points, params }))
+}
+
+/// The numbers of the names that the texts of this kind stand for. `None` where one stands for none.
+fn numbers_of(
+    alloc: Global,
+    cited: &[Name],
+    citing: &[Name],
+    texts: &[&[u8]],
+    kind: NameKind,
+) -> Result<Option<Vec<usize>>, NoMemory>
+    requires { length texts.now ≡ length cited.now }
+    ensures { IfOk result (λ r. MatchOption r
+        (HasNoNumbers kind citing.now (names_of kind (given_names cited.now (map (λ t. t.now) texts.now))))
+        (λ v. AreNamesOf kind citing.now (names_of kind (given_names cited.now (map (λ t. t.now) texts.now))) v.items)) }
+{
+    let mut numbers = Vec::new(alloc);
     for (k, name) in cited.iter().enumerate() {
-        match name.kind {
-            NameKind::Point => {
-                let Some(number) = number_of(citing, NameKind::Point, texts[k]) else {
-                    return Ok(None);
-                };
-                points.push(number)?;
-            }
-            NameKind::Param => {
-                let Some(number) = number_of(citing, NameKind::Param, texts[k]) else {
-                    return Ok(None);
-                };
-                params.push(number)?;
-            }
-            NameKind::Line => {}
+        if name.kind == kind {
+            let Some(number) = number_of(citing, kind, text_at(texts, k)) else {
+                return Ok(None);
+            };
+            numbers.push(number)?;
         }
     }
-    Ok(Some(Renaming { points, params }))
+    Ok(Some(numbers))
+}
+
+/// The text at a place; past the end none.
+fn text_at<'a>(texts: &[&'a [u8]], k: usize) -> &'a [u8]
+    ensures { result.now ≡ slice_index_or (map (λ t. t.now) texts.now) k [] }
+{
+    match texts.get(k) {
+        Some(text) => *text,
+        None => &[],
+    }
 }
 
 /// The number of the name of this kind that has the text.
@@ -83,14 +105,23 @@ pub fn given_names(alloc: Global, cited: &[Name], texts: &[&[u8]]) -> Result<Vec
         names.items ≡ given_names cited.now (map (λ t. t.now) texts.now)) }
 {
     let mut names = Vec::new(alloc);
-    for (name, text) in cited.iter().zip(texts) {
-        let bytes = Vec::from_slice(alloc, text)?;
-        names.push(Name {
-            text: Text { bytes },
-            kind: name.kind,
-        })?;
+    for (k, name) in cited.iter().enumerate() {
+        if k < texts.len() {
+            names.push(name_with(alloc, name.kind, text_at(texts, k))?)?;
+        }
     }
     Ok(names)
+}
+
+/// A name of this kind with this text.
+fn name_with(alloc: Global, kind: NameKind, text: &[u8]) -> Result<Name, NoMemory>
+    ensures { IfOk result (λ n. n ≡ record { text = text.now; kind = kind }) }
+{
+    let bytes = Vec::from_slice(alloc, text)?;
+    Ok(Name {
+        text: Text { bytes },
+        kind,
+    })
 }
 
 /// Where the points and parameters of the cited program stand among the steps of the citing one.
