@@ -41,6 +41,10 @@ pub missing_told : (missing : Option ℕ) (One : Miss → Type 0) → ((miss : M
     → (line : ℕ) × (missing ≡ Some line) × (error ≡ cite.NotInstance line) → TellsMiss One error
 missing_told missing One f error h = subst (TellsMiss One) (sym h.2) (f (no_instance h.0) (h.0, h.1, refl))
 
+-- the goal at a place
+abbrev pub goal_at : List AskedGoal → ℕ → AskedGoal
+goal_at goals k = get_or goals k (record { line = 0; term = record { 0 = 0 } })
+
 module _ (c : Construction) (known : List Var) where
   -- ONE GOAL
   -- its chain stops
@@ -61,13 +65,16 @@ module _ (c : Construction) (known : List Var) where
   pub begins : (missing : Option ℕ) (forms : List GoalForm) (start steps : ℕ) → AreGoalsUnderWay missing forms forms start steps start steps
   begins missing forms start steps = record { zero = λ h. h; missed = λ miss h. h }
 
-  module _ (missing : Option ℕ) (nodes : Store) (goals : List AskedGoal) (k : ℕ) (goal : AskedGoal) (start steps lines rest : ℕ) (b : k < length goals) (is : goal ≡ get_or goals k goal)
+  module _ (missing : Option ℕ) (nodes : Store) (goals : List AskedGoal) (k : ℕ) (start steps lines rest : ℕ) (b : k < length goals)
       (h : AreGoalsUnderWay missing (map (asked_form nodes) goals) (map (asked_form nodes) (drop k goals)) start steps lines rest) where
+    abbrev goal : AskedGoal
+    goal = goal_at goals k
+
     abbrev forms : List AskedGoal → List GoalForm
     forms gs = map (asked_form nodes) gs
 
     at_front : forms (drop k goals) ≡ asked_form nodes goal ∷ forms (drop (suc k) goals)
-    at_front = ap forms (drop-cons goals k goal b ∙ ap (λ g. g ∷ drop (suc k) goals) (sym is))
+    at_front = ap forms (drop-cons goals k (record { line = 0; term = record { 0 = 0 } }) b)
 
     abbrev Missed : Miss → Type 0
     Missed miss = IsFirstGoalMiss c known missing start steps (forms goals) miss

@@ -7,3 +7,4 @@ pub mod Asking
 pub mod Listing
 pub mod Naming
 pub mod Knowing
+pub mod GoalsWorked

@@ -3,7 +3,7 @@
 ghost use Rattle.std.specs.Prelude.{◌≤◌, IfOk, IfSome, OnOk, length, map};
 ghost use Rattle.std.specs.List.{AllByRecursion};
 ghost use Rattle.std.specs.Option.{option_to_list};
-ghost use Rattle.geo_conditions.specs.Inner.ItemTerms.{Keeps};
+ghost use Rattle.geo_conditions.specs.Inner.ItemTerms.{Keeps, terms_layout};
 ghost use Rattle.geo_lowering.specs.Counting.{points_named};
 ghost use Rattle.geo_program.specs.Forms.{IsStored};
 ghost use Rattle.geo_library.specs.Inner.Asking.{AreAsked, ArePlaced, Asks, goal_forms};
@@ -13,7 +13,8 @@ ghost use Rattle.geo_library.specs.Inner.Goals.{IsGoalWithin, goal_tree};
 use crate::goal_terms::intern_goal;
 use crate::goals::{Goal, command_goals};
 use crate::places::Places;
-use geo_conditions::next_point;
+use crate::renaming::Images;
+use geo_conditions::{next_point, rename_terms};
 use geo_points::{NoMemory, PointId, TermId};
 use geo_program::Command;
 use geo_terms::{Steps, Terms};
@@ -26,6 +27,30 @@ pub struct AskedGoal {
     pub line: u64,
     /// The term, in the store of the steps.
     pub term: TermId,
+}
+
+/// The goals of the commands, whose lines are counted from 1, over these images of their points and
+/// parameters; the terms of the commands are those of the store `terms`.
+pub fn image_goals(
+    alloc: Global,
+    steps: &mut Steps,
+    terms: &Terms,
+    commands: &[Command],
+    images: &Images,
+) -> Result<Vec<AskedGoal>, NoMemory>
+    requires stored { AllByRecursion (IsStored terms.now) commands.now }
+    requires few { points_named commands.now ≤ 512 }
+    ensures keeps { OnOk result (Keeps steps.old steps.new) }
+    ensures goals { IfOk result (λ asked. AreAsked steps.new.nodes asked.items (goals_from terms.now
+        (terms_layout images.now.points.items images.now.params.items) 0 1 commands.now)) }
+{
+    let renamed = rename_terms(alloc, steps, terms, &images.points, &images.params)?;
+    let places = Places {
+        points: &images.points,
+        params: &images.params,
+        terms: &renamed,
+    };
+    asked_goals(alloc, steps, &places, terms, commands)
 }
 
 /// The goals of the commands, whose lines are counted from 1, over the places; the terms of the
