@@ -8,3 +8,4 @@ pub mod Listing
 pub mod Naming
 pub mod Knowing
 pub mod GoalsWorked
+pub mod Missing

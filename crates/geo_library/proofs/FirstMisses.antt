@@ -1,0 +1,148 @@
+-- Conditions and goals, each by themselves, are what the lines of the cited program ask, one after another.
+use Rattle.std.proofs.Common.{◌≡◌, ◌≢◌, ℕ, suc, ◌+◌, ◌<◌, ◌≤◌, inl, inr, Option, Some, None, List, [], ◌∷◌, ◌++◌, length, map, refl, sym, ◌∙◌, ap, subst, append_assoc, arith}
+use Rattle.std.specs.Prelude.{Contains}
+use Rattle.std.specs.List.{AllByRecursion}
+use Rattle.geo_points.specs.declared.ids.PointId.{PointId}
+use Rattle.geo_poly.specs.declared.variables.Var.{Var}
+use Rattle.geo_terms.specs.Constructions.{Construction}
+use Rattle.geo_terms.specs.Stores.{Store}
+use Rattle.geo_terms.specs.Trees.{Tree}
+use Rattle.geo_program.specs.declared.commands.Command.{Command}
+use Rattle.geo_program.specs.declared.names.Name.{Name}
+use Rattle.geo_program.specs.declared.names.NameKind.TheVariants as kind
+use Rattle.geo_program.specs.WellFormed.{Source}
+use Rattle.geo_lowering.specs.Conditions.{Condition, command_conditions}
+use Rattle.geo_lowering.specs.Counting.{counted, named}
+use Rattle.geo_lowering.specs.Lowering.{layout_of, renamed}
+use Rattle.geo_lowering.specs.declared.version.Version.TheVariants.{Two}
+use Rattle.geo_lowering.proofs.ConditionValues.{each_append}
+use Rattle.geo_conditions.specs.Lists.{Found, condition_form, found_at, found_from}
+use Rattle.geo_library.specs.CitedGoals.{command_goals}
+use Rattle.geo_library.specs.Figures.{Figure}
+use Rattle.geo_library.specs.Inner.Asking.{GoalForm}
+use Rattle.geo_library.specs.Inner.GoalsWorked.{AreGoalsZero, IsBefore, IsFirstGoalMiss, IsMissing}
+use Rattle.geo_library.specs.Inner.Missing.{IsFirstNotFound, IsFound}
+use Rattle.geo_library.specs.Instances.{Asked, AskedAt, asked_at, asks_goal, command_asked, commands_asked, condition_texts, conditions_asked}
+use Rattle.geo_library.specs.Renamings.{Renaming, image}
+use Rattle.geo_library.specs.Working.{ArePassed, IsFirstMiss, Miss, Progress, no_instance}
+
+module _ (q : Source) (figure : Figure) (given : List Name) (r : Renaming) where
+  abbrev listed : List (List ℕ)
+  listed = condition_texts q
+
+  abbrev C : Construction
+  C = figure.construction
+
+  -- the images of terms, asked at a line
+  abbrev pub image_forms : ℕ → List Tree → List GoalForm
+  image_forms line es = map (λ e. record { line = line; term = renamed (layout_of Two q.commands) (image r e) }) es
+
+  -- of the goals of commands
+  abbrev pub image_forms_from : Store → ℕ → ℕ → List Command → List GoalForm
+  image_forms_from nodes x line [] = []
+  image_forms_from nodes x line (c ∷ cs) = image_forms line (command_goals nodes (record { 0 = x }) c) ++ image_forms_from nodes (counted kind.Point (named c) x) (suc line) cs
+
+  -- LINES
+  at_line : (line low : ℕ) → low ≤ line → (cds : List Condition) → AllByRecursion (λ f. low ≤ f.line) (found_at line cds)
+  at_line line low b [] = tt
+  at_line line low b (c ∷ cds) = (b, at_line line low b cds)
+
+  found_lines : (nodes : Store) (x line low : ℕ) → low ≤ line → (cs : List Command) → AllByRecursion (λ f. low ≤ f.line) (found_from nodes x line cs)
+  found_lines nodes x line low b [] = tt
+  found_lines nodes x line low b (c ∷ cs) =
+      each_append (λ (f : Found). low ≤ f.line) (found_at line (command_conditions nodes (record { 0 = x }) c)) _ (at_line line low b (command_conditions nodes (record { 0 = x }) c))
+      (found_lines nodes (counted kind.Point (named c) x) (suc line) low (omega (arith, b)) cs)
+
+  forms_at_line : (line low : ℕ) → low ≤ line → (es : List Tree) → AllByRecursion (λ g. low ≤ g.line) (image_forms line es)
+  forms_at_line line low b [] = tt
+  forms_at_line line low b (e ∷ es) = (b, forms_at_line line low b es)
+
+  form_lines : (nodes : Store) (x line low : ℕ) → low ≤ line → (cs : List Command) → AllByRecursion (λ g. low ≤ g.line) (image_forms_from nodes x line cs)
+  form_lines nodes x line low b [] = tt
+  form_lines nodes x line low b (c ∷ cs) =
+      each_append (λ (g : GoalForm). low ≤ g.line) (image_forms line (command_goals nodes (record { 0 = x }) c)) _ (forms_at_line line low b (command_goals nodes (record { 0 = x }) c))
+      (form_lines nodes (counted kind.Point (named c) x) (suc line) low (omega (arith, b)) cs)
+
+  -- no condition is missing up to this line
+  not_yet : (line : ℕ) (missing : Option ℕ) (fs : List Found) → AllByRecursion (λ f. suc line ≤ f.line) fs → IsFirstNotFound listed given fs missing → IsBefore missing line
+  not_yet line missing [] b h = subst (λ (m : Option ℕ). IsBefore m line) (sym h) tt
+  not_yet line missing (f ∷ fs) b (inl h) = not_yet line missing fs b.1 h.1
+  not_yet line missing (f ∷ fs) b (inr h) = let low = b.0 in subst (λ (m : Option ℕ). IsBefore m line) (sym h.1) (omega (arith, low))
+
+  one_line : (a b : ℕ) → ◌≡◌ {A = Option ℕ} (Some a) (Some b) → a ≡ b
+  one_line a b e = cc
+
+  -- where one is missing at this line, nothing else is told
+  held_back : (line : ℕ) (missing : Option ℕ) (lines left : ℕ) (gs : List GoalForm) (miss : Miss) → AllByRecursion (λ g. line ≤ g.line) gs → missing ≡ Some line
+      → IsFirstGoalMiss C figure.known missing lines left gs miss → miss ≡ no_instance line
+  held_back line missing lines left [] miss b e h = h.2 ∙ ap no_instance (one_line h.0 line (sym h.1 ∙ e))
+  held_back line missing lines left (g ∷ gs) miss b e (inl h) = h.1.2 ∙ ap no_instance (one_line h.1.0 line (sym h.1.1 ∙ e))
+  held_back line missing lines left (g ∷ gs) miss b e (inr h) =
+      let low = b.0 in let y : g.line < line = subst (λ (m : Option ℕ). IsBefore m g.line) e h.0 in absurd (omega (arith, low, y))
+
+  -- MISSES
+  -- conditions of a line, and then what is asked behind them
+  conditions_missed : (line : ℕ) (missing : Option ℕ) (miss : Miss) (now : Progress) (cds : List Condition) (more : List Found) (behind : List AskedAt)
+      → IsFirstNotFound listed given (found_at line cds ++ more) missing → (missing ≡ Some line → miss ≡ no_instance line)
+      → (IsFirstNotFound listed given more missing → IsFirstMiss q figure now behind miss) → IsFirstMiss q figure now (asked_at line (conditions_asked given cds) ++ behind) miss
+  conditions_missed line missing miss now [] more behind h here later = later h
+  conditions_missed line missing miss now (c ∷ cds) more behind (inl h) here later = inr (inr (now, (h.0, refl), conditions_missed line missing miss now cds more behind h.1 here later))
+  conditions_missed line missing miss now (c ∷ cds) more behind (inr h) here later = inl (h.0, here h.1)
+
+  -- goals of a line
+  goals_missed : (line : ℕ) (missing : Option ℕ) (miss : Miss) (now : Progress) (es : List Tree) (more : List GoalForm) (behind : List AskedAt) → IsBefore missing line
+      → IsFirstGoalMiss C figure.known missing now.lines now.left (image_forms line es ++ more) miss
+      → ((then : Progress) → IsFirstGoalMiss C figure.known missing then.lines then.left more miss → IsFirstMiss q figure then behind miss)
+      → IsFirstMiss q figure now (asked_at line (map (λ e. asks_goal (image r e)) es) ++ behind) miss
+  goals_missed line missing miss now [] more behind y h later = later now h
+  goals_missed line missing miss now (e ∷ es) more behind y (inl h) later = absurd (h.0 y)
+  goals_missed line missing miss now (e ∷ es) more behind y (inr (b, inl (inl h))) later =
+      let w = h.3 in inl ((w.chain, h.1, w.works, λ z. h.4 (sym w.ended ∙ z)), h.5)
+  goals_missed line missing miss now (e ∷ es) more behind y (inr (b, inl (inr h))) later =
+      let w = h.2 in inr (inl (h.0, h.1, (w.before, record { place = w.place; begun = w.begun; next = w.next }, w.counted), h.3))
+  goals_missed line missing miss now (e ∷ es) more behind y (inr (b, inr h)) later =
+      let w = h.2 in
+      let then : Progress = record { lines = h.0; left = h.1 } in
+      inr (inr (then, (w.chain, w.works, w.ended, w.counted), goals_missed line missing miss then es more behind y h.3 later))
+
+  -- of commands, and then what the statement asks
+  pub commands_missed : (nodes : Store) (x line : ℕ) (missing : Option ℕ) (miss : Miss) (now : Progress) (cs : List Command) (last : List Found) (behind : List AskedAt)
+      → AllByRecursion (λ f. line + length cs ≤ f.line) last → IsFirstNotFound listed given (found_from nodes x line cs ++ last) missing
+      → IsFirstGoalMiss C figure.known missing now.lines now.left (image_forms_from nodes x line cs) miss
+      → ((then : Progress) → IsFirstNotFound listed given last missing → IsMissing missing miss → IsFirstMiss q figure then behind miss)
+      → IsFirstMiss q figure now (commands_asked given r nodes x line cs ++ behind) miss
+  commands_missed nodes x line missing miss now [] last behind b h g later = later now h g
+  commands_missed nodes x line missing miss now (c ∷ cs) last behind b h g later =
+      let cds = command_conditions nodes (record { 0 = x }) c in
+      let es = command_goals nodes (record { 0 = x }) c in
+      let y = counted kind.Point (named c) x in
+      let rest = commands_asked given r nodes y (suc line) cs ++ behind in
+      let left = found_from nodes y (suc line) cs ++ last in
+      let high : AllByRecursion (λ f. suc line + length cs ≤ f.line) last = higher last b in
+      let high_first : AllByRecursion (λ f. suc line ≤ f.line) last = first_of last high in
+      let lows = each_append (λ (f : Found). suc line ≤ f.line) (found_from nodes y (suc line) cs) last (found_lines nodes y (suc line) (suc line) (omega arith) cs) high_first in
+      subst (λ (all : List AskedAt). IsFirstMiss q figure now all miss) (sym (split cds es rest))
+      (conditions_missed line missing miss now cds left (asked_at line (map (λ e. asks_goal (image r e)) es) ++ rest)
+      (subst (λ (fs : List Found). IsFirstNotFound listed given fs missing) (append_assoc (found_at line cds) (found_from nodes y (suc line) cs) last) h)
+      (λ e. held_back line missing now.lines now.left (image_forms_from nodes x line (c ∷ cs)) miss (form_lines nodes x line line (omega arith) (c ∷ cs)) e g)
+      (λ k. goals_missed line missing miss now es (image_forms_from nodes y (suc line) cs) rest (not_yet line missing left lows k) g
+      (λ then u. commands_missed nodes y (suc line) missing miss then cs last behind high k u later)))
+    where
+      higher : (fs : List Found) → AllByRecursion (λ f. line + suc (length cs) ≤ f.line) fs → AllByRecursion (λ f. suc line + length cs ≤ f.line) fs
+      higher [] k = tt
+      higher (f ∷ fs) k = let low = k.0 in (omega (arith, low), higher fs k.1)
+
+      first_of : (fs : List Found) → AllByRecursion (λ f. suc line + length cs ≤ f.line) fs → AllByRecursion (λ f. suc line ≤ f.line) fs
+      first_of [] k = tt
+      first_of (f ∷ fs) k = let low = k.0 in (omega (arith, low), first_of fs k.1)
+
+      pushed : (us vs : List Asked) (ws : List AskedAt) → asked_at line (us ++ vs) ++ ws ≡ asked_at line us ++ asked_at line vs ++ ws
+      pushed [] vs ws = refl
+      pushed (u ∷ us) vs ws = ap (λ (zs : List AskedAt). record { line = line; asked = u } ∷ zs) (pushed us vs ws)
+
+      split : (cds : List Condition) (es : List Tree) (rest : List AskedAt)
+          → (asked_at line (conditions_asked given cds ++ map (λ e. asks_goal (image r e)) es) ++ commands_asked given r nodes (counted kind.Point (named c) x) (suc line) cs) ++ behind
+          ≡ asked_at line (conditions_asked given cds) ++ asked_at line (map (λ e. asks_goal (image r e)) es) ++ commands_asked given r nodes (counted kind.Point (named c) x) (suc line) cs ++ behind
+      split cds es rest =
+          append_assoc (asked_at line (conditions_asked given cds ++ map (λ e. asks_goal (image r e)) es)) (commands_asked given r nodes (counted kind.Point (named c) x) (suc line) cs) behind
+          ∙ pushed (conditions_asked given cds) (map (λ e. asks_goal (image r e)) es) (commands_asked given r nodes (counted kind.Point (named c) x) (suc line) cs ++ behind)
