@@ -26,13 +26,7 @@ use Rattle.geo_library.specs.Instances.{Asked, AskedAt, asked_at, asks_goal, com
 use Rattle.geo_library.specs.Renamings.{Renaming, image}
 use Rattle.geo_library.specs.Working.{ArePassed, IsFirstMiss, Miss, Progress, no_instance}
 
-module _ (q : Source) (figure : Figure) (given : List Name) (r : Renaming) where
-  abbrev listed : List (List ℕ)
-  listed = condition_texts q
-
-  abbrev C : Construction
-  C = figure.construction
-
+module _ (q : Source) (r : Renaming) where
   -- the images of terms, asked at a line
   abbrev pub image_forms : ℕ → List Tree → List GoalForm
   image_forms line es = map (λ e. record { line = line; term = renamed (layout_of Two q.commands) (image r e) }) es
@@ -41,6 +35,13 @@ module _ (q : Source) (figure : Figure) (given : List Name) (r : Renaming) where
   abbrev pub image_forms_from : Store → ℕ → ℕ → List Command → List GoalForm
   image_forms_from nodes x line [] = []
   image_forms_from nodes x line (c ∷ cs) = image_forms line (command_goals nodes (record { 0 = x }) c) ++ image_forms_from nodes (counted kind.Point (named c) x) (suc line) cs
+
+module _ (q : Source) (figure : Figure) (given : List Name) (r : Renaming) where
+  abbrev listed : List (List ℕ)
+  listed = condition_texts q
+
+  abbrev C : Construction
+  C = figure.construction
 
   -- LINES
   at_line : (line low : ℕ) → low ≤ line → (cds : List Condition) → AllByRecursion (λ f. low ≤ f.line) (found_at line cds)
@@ -53,14 +54,14 @@ module _ (q : Source) (figure : Figure) (given : List Name) (r : Renaming) where
       each_append (λ (f : Found). low ≤ f.line) (found_at line (command_conditions nodes (record { 0 = x }) c)) _ (at_line line low b (command_conditions nodes (record { 0 = x }) c))
       (found_lines nodes (counted kind.Point (named c) x) (suc line) low (omega (arith, b)) cs)
 
-  forms_at_line : (line low : ℕ) → low ≤ line → (es : List Tree) → AllByRecursion (λ g. low ≤ g.line) (image_forms line es)
+  forms_at_line : (line low : ℕ) → low ≤ line → (es : List Tree) → AllByRecursion (λ g. low ≤ g.line) (image_forms q r line es)
   forms_at_line line low b [] = tt
   forms_at_line line low b (e ∷ es) = (b, forms_at_line line low b es)
 
-  form_lines : (nodes : Store) (x line low : ℕ) → low ≤ line → (cs : List Command) → AllByRecursion (λ g. low ≤ g.line) (image_forms_from nodes x line cs)
+  form_lines : (nodes : Store) (x line low : ℕ) → low ≤ line → (cs : List Command) → AllByRecursion (λ g. low ≤ g.line) (image_forms_from q r nodes x line cs)
   form_lines nodes x line low b [] = tt
   form_lines nodes x line low b (c ∷ cs) =
-      each_append (λ (g : GoalForm). low ≤ g.line) (image_forms line (command_goals nodes (record { 0 = x }) c)) _ (forms_at_line line low b (command_goals nodes (record { 0 = x }) c))
+      each_append (λ (g : GoalForm). low ≤ g.line) (image_forms q r line (command_goals nodes (record { 0 = x }) c)) _ (forms_at_line line low b (command_goals nodes (record { 0 = x }) c))
       (form_lines nodes (counted kind.Point (named c) x) (suc line) low (omega (arith, b)) cs)
 
   -- no condition is missing up to this line
@@ -84,14 +85,14 @@ module _ (q : Source) (figure : Figure) (given : List Name) (r : Renaming) where
   -- conditions of a line, and then what is asked behind them
   conditions_missed : (line : ℕ) (missing : Option ℕ) (miss : Miss) (now : Progress) (cds : List Condition) (more : List Found) (behind : List AskedAt)
       → IsFirstNotFound listed given (found_at line cds ++ more) missing → (missing ≡ Some line → miss ≡ no_instance line)
-      → (IsFirstNotFound listed given more missing → IsFirstMiss q figure now behind miss) → IsFirstMiss q figure now (asked_at line (conditions_asked given cds) ++ behind) miss
+      → (IsFirstNotFound listed given more missing → IsFirstMiss q figure now behind miss) → IsFirstMiss q figure now (asked_at line (conditions_asked given r cds) ++ behind) miss
   conditions_missed line missing miss now [] more behind h here later = later h
   conditions_missed line missing miss now (c ∷ cds) more behind (inl h) here later = inr (inr (now, (h.0, refl), conditions_missed line missing miss now cds more behind h.1 here later))
   conditions_missed line missing miss now (c ∷ cds) more behind (inr h) here later = inl (h.0, here h.1)
 
   -- goals of a line
   goals_missed : (line : ℕ) (missing : Option ℕ) (miss : Miss) (now : Progress) (es : List Tree) (more : List GoalForm) (behind : List AskedAt) → IsBefore missing line
-      → IsFirstGoalMiss C figure.known missing now.lines now.left (image_forms line es ++ more) miss
+      → IsFirstGoalMiss C figure.known missing now.lines now.left (image_forms q r line es ++ more) miss
       → ((then : Progress) → IsFirstGoalMiss C figure.known missing then.lines then.left more miss → IsFirstMiss q figure then behind miss)
       → IsFirstMiss q figure now (asked_at line (map (λ e. asks_goal (image r e)) es) ++ behind) miss
   goals_missed line missing miss now [] more behind y h later = later now h
@@ -108,7 +109,7 @@ module _ (q : Source) (figure : Figure) (given : List Name) (r : Renaming) where
   -- of commands, and then what the statement asks
   pub commands_missed : (nodes : Store) (x line : ℕ) (missing : Option ℕ) (miss : Miss) (now : Progress) (cs : List Command) (last : List Found) (behind : List AskedAt)
       → AllByRecursion (λ f. line + length cs ≤ f.line) last → IsFirstNotFound listed given (found_from nodes x line cs ++ last) missing
-      → IsFirstGoalMiss C figure.known missing now.lines now.left (image_forms_from nodes x line cs) miss
+      → IsFirstGoalMiss C figure.known missing now.lines now.left (image_forms_from q r nodes x line cs) miss
       → ((then : Progress) → IsFirstNotFound listed given last missing → IsMissing missing miss → IsFirstMiss q figure then behind miss)
       → IsFirstMiss q figure now (commands_asked given r nodes x line cs ++ behind) miss
   commands_missed nodes x line missing miss now [] last behind b h g later = later now h g
@@ -124,8 +125,8 @@ module _ (q : Source) (figure : Figure) (given : List Name) (r : Renaming) where
       subst (λ (all : List AskedAt). IsFirstMiss q figure now all miss) (sym (split cds es rest))
       (conditions_missed line missing miss now cds left (asked_at line (map (λ e. asks_goal (image r e)) es) ++ rest)
       (subst (λ (fs : List Found). IsFirstNotFound listed given fs missing) (append_assoc (found_at line cds) (found_from nodes y (suc line) cs) last) h)
-      (λ e. held_back line missing now.lines now.left (image_forms_from nodes x line (c ∷ cs)) miss (form_lines nodes x line line (omega arith) (c ∷ cs)) e g)
-      (λ k. goals_missed line missing miss now es (image_forms_from nodes y (suc line) cs) rest (not_yet line missing left lows k) g
+      (λ e. held_back line missing now.lines now.left (image_forms_from q r nodes x line (c ∷ cs)) miss (form_lines nodes x line line (omega arith) (c ∷ cs)) e g)
+      (λ k. goals_missed line missing miss now es (image_forms_from q r nodes y (suc line) cs) rest (not_yet line missing left lows k) g
       (λ then u. commands_missed nodes y (suc line) missing miss then cs last behind high k u later)))
     where
       higher : (fs : List Found) → AllByRecursion (λ f. line + suc (length cs) ≤ f.line) fs → AllByRecursion (λ f. suc line + length cs ≤ f.line) fs
@@ -136,13 +137,13 @@ module _ (q : Source) (figure : Figure) (given : List Name) (r : Renaming) where
       first_of [] k = tt
       first_of (f ∷ fs) k = let low = k.0 in (omega (arith, low), first_of fs k.1)
 
-      pushed : (us vs : List Asked) (ws : List AskedAt) → asked_at line (us ++ vs) ++ ws ≡ asked_at line us ++ asked_at line vs ++ ws
+      pushed : (us vs : List Asked) (ws : List AskedAt) → asked_at line (us ++ vs) ++ ws ≡ asked_at line us ++ (asked_at line vs ++ ws)
       pushed [] vs ws = refl
       pushed (u ∷ us) vs ws = ap (λ (zs : List AskedAt). record { line = line; asked = u } ∷ zs) (pushed us vs ws)
 
       split : (cds : List Condition) (es : List Tree) (rest : List AskedAt)
-          → (asked_at line (conditions_asked given cds ++ map (λ e. asks_goal (image r e)) es) ++ commands_asked given r nodes (counted kind.Point (named c) x) (suc line) cs) ++ behind
-          ≡ asked_at line (conditions_asked given cds) ++ asked_at line (map (λ e. asks_goal (image r e)) es) ++ commands_asked given r nodes (counted kind.Point (named c) x) (suc line) cs ++ behind
+          → (asked_at line (conditions_asked given r cds ++ map (λ e. asks_goal (image r e)) es) ++ commands_asked given r nodes (counted kind.Point (named c) x) (suc line) cs) ++ behind
+          ≡ asked_at line (conditions_asked given r cds) ++ (asked_at line (map (λ e. asks_goal (image r e)) es) ++ (commands_asked given r nodes (counted kind.Point (named c) x) (suc line) cs ++ behind))
       split cds es rest =
-          append_assoc (asked_at line (conditions_asked given cds ++ map (λ e. asks_goal (image r e)) es)) (commands_asked given r nodes (counted kind.Point (named c) x) (suc line) cs) behind
-          ∙ pushed (conditions_asked given cds) (map (λ e. asks_goal (image r e)) es) (commands_asked given r nodes (counted kind.Point (named c) x) (suc line) cs ++ behind)
+          append_assoc (asked_at line (conditions_asked given r cds ++ map (λ e. asks_goal (image r e)) es)) (commands_asked given r nodes (counted kind.Point (named c) x) (suc line) cs) behind
+          ∙ pushed (conditions_asked given r cds) (map (λ e. asks_goal (image r e)) es) (commands_asked given r nodes (counted kind.Point (named c) x) (suc line) cs ++ behind)
