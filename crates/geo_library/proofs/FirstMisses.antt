@@ -232,20 +232,20 @@ module _ (q : Source) (figure : Figure) (given : List Name) (r : Renaming) where
     all_missed missing miss now h g =
         commands_missed p.nodes 0 1 missing miss now p.commands (found_at end_line last_conditions) (asked_at end_line (statement_asked given r p.nodes p.statement)) (ends_at last_conditions) h g
         (λ then k m.
-          subst (λ (zs : List AskedAt). IsFirstMiss q figure then zs miss) (sym (both_asked end_line (conditions_asked given r last_conditions) (asks_statement wanted ∷ [])))
-          (conditions_missed end_line missing miss then last_conditions [] (asked_at end_line (asks_statement wanted ∷ []))
-          (subst (λ (fs : List Found). IsFirstNotFound listed given fs missing) (sym (append-nil (found_at end_line last_conditions))) k)
-          (λ e. m.2 ∙ ap no_instance (one_line m.0 end_line (sym m.1 ∙ e)))
-          (λ e. absurd (some_none m.0 missing e m.1))))
+        subst (λ (zs : List AskedAt). IsFirstMiss q figure then zs miss) (sym (both_asked end_line (conditions_asked given r last_conditions) (asks_statement wanted ∷ [])))
+        (conditions_missed end_line missing miss then last_conditions [] (asked_at end_line (asks_statement wanted ∷ []))
+        (subst (λ (fs : List Found). IsFirstNotFound listed given fs missing) (sym (append-nil (found_at end_line last_conditions))) k)
+        (λ e. m.2 ∙ ap no_instance (one_line m.0 end_line (sym m.1 ∙ e)))
+        (λ e. absurd (some_none m.0 missing e m.1))))
 
     -- all but the statement is so
     but_last_passed : (now : Progress) → IsFirstNotFound listed given (all_found p) None → AreGoalsZero C figure.known now.lines now.left (image_forms_from q r p.nodes 0 1 p.commands) → Passed now but_last
     but_last_passed now h g =
         commands_passed p.nodes 0 1 now p.commands (found_at end_line last_conditions) (asked_at end_line (conditions_asked given r last_conditions)) h g
         (λ then k.
-          subst (λ (zs : List AskedAt). Passed then zs) (append-nil (asked_at end_line (conditions_asked given r last_conditions)))
-          (conditions_passed end_line then last_conditions [] []
-          (subst (λ (fs : List Found). IsFirstNotFound listed given fs None) (sym (append-nil (found_at end_line last_conditions))) k) (λ e. (then, refl))))
+        subst (λ (zs : List AskedAt). Passed then zs) (append-nil (asked_at end_line (conditions_asked given r last_conditions)))
+        (conditions_passed end_line then last_conditions [] []
+        (subst (λ (fs : List Found). IsFirstNotFound listed given fs None) (sym (append-nil (found_at end_line last_conditions))) k) (λ e. (then, refl))))
 
     -- the statement is the cited one
     pub all_passed : (now : Progress) → IsFirstNotFound listed given (all_found p) None → AreGoalsZero C figure.known now.lines now.left (image_forms_from q r p.nodes 0 1 p.commands)

@@ -52,15 +52,18 @@ module _ (bytes log rest : List ℕ) (steps : ℕ) (b : BeginsWithLog bytes log 
   -- a command that has lines
   pub line_told : (a : Accepted) (k : ℕ) (cs : List Command) → cs ≡ (source_of a.program).commands → IsAnswer log steps a → a.verdict ≡ Proved → k < length cs
       → has_lines (slice_index_or cs k Point) ≡ true → All (λ c. has_lines c ≡ false) (take k cs) → TellsRefusal bytes steps (cite.Rejected (k + 2) 34)
-  line_told a k cs same h e below lines first = inr (inr (refl, record {
-    theorem = theorem (source_of a.program) a.verdict h.accepts e;
-    place = k;
-    command = slice_index_or cs k Point;
-    at = subst (λ (xs : List Command). slice_get xs k ≡ Some (slice_index_or cs k Point)) same (get_within cs k below);
-    lines = lines;
-    first = subst (λ (xs : List Command). All (λ c. has_lines c ≡ false) (take k xs)) same first;
-    counted = refl;
-  }))
+  line_told a k cs same h e below lines first = inr (inr (
+    refl,
+    record {
+      theorem = theorem (source_of a.program) a.verdict h.accepts e;
+      place = k;
+      command = slice_index_or cs k Point;
+      at = subst (λ (xs : List Command). slice_get xs k ≡ Some (slice_index_or cs k Point)) same (get_within cs k below);
+      lines = lines;
+      first = subst (λ (xs : List Command). All (λ c. has_lines c ≡ false) (take k xs)) same first;
+      counted = refl;
+    },
+  ))
     where
       get_within : (cs : List Command) (k : ℕ) → k < length cs → slice_get cs k ≡ Some (slice_index_or cs k Point)
       get_within [] k below = absurd (omega (arith, below))

@@ -13,9 +13,9 @@ loop-item-preserved c =
     goes_on c.args.steps.now.nodes c.args.items.now c.loop-item.item-index c.item-item.result vars c.match-known_by.vars.items known c.loop-item-test.true c.item-item.is c.loop-item.invariant
     c.known_by.ensures
     (elim c.match-known_by.branch [
-      in-Some+in_ok-push w ↦
+      | in-Some+in_ok-push w ↦
           ap (λ (v : Vec Var Global). v.items) w.vars-is ∙ w.in_ok-push.ensures.items ∙ ap (λ (o : Option Var). vars ++ option_to_list o) (sym w.in-Some.is)
-    | in_default w ↦
+      | in_default w ↦
           ap (λ (v : Vec Var Global). v.items) w.vars-is ∙ sym (append-nil vars) ∙ ap (λ (o : Option Var). vars ++ option_to_list o) (sym w.in_default.is)
     ])
 

@@ -13,12 +13,12 @@ loop-name-preserved c =
     let number = c.loop-name.number in
     let low = c.loop-name.invariant.1 in
     elim c.if-eq.branch [
-      then-eq+else-eq-2 w ↦
+      | then-eq+else-eq-2 w ↦
           let same : name.kind ≡ kind = search rules in
           let other : name.text ≡ text → ⊥ = search rules in
           subst (λ (n : ℕ). AreOthers kind text names (drop (j + 1) names) n × (n ≤ j + 1)) (sym w.number-is)
           (other_name kind text names j name number c.loop-name-test.true c.name-item.is c.loop-name.invariant.0 same other, omega (arith, low))
-    | else-eq w ↦
+      | else-eq w ↦
           let other : name.kind ≡ kind → ⊥ = search rules in
           subst (λ (n : ℕ). AreOthers kind text names (drop (j + 1) names) n × (n ≤ j + 1)) (sym w.number-is)
           (other_kind kind text names j name number c.loop-name-test.true c.name-item.is c.loop-name.invariant.0 other, omega (arith, low))

@@ -31,13 +31,13 @@ loop-k-preserved c =
     let numbers = c.loop-k.numbers.items in
     let long = length-map c.args.texts.now (λ t. t.now) ∙ c.requires in
     elim c.if-eq.branch [
-      then-eq+in-Some+in_ok-push w ↦
+      | then-eq+in-Some+in_ok-push w ↦
           let same : name.kind ≡ kind = search rules in
           one_more kind citing all (left_at kind cited texts k) numbers c.loop-k.invariant (slice_index_or texts k []) (left_at kind cited texts (k + 1)) w.in-Some.number c.if-eq.numbers.items
           (left_here kind cited texts k name c.loop-k-test.true long c.index-cited-k.is same)
           w.in-Some.ensures.declared (w.in-Some.ensures.named ∙ w.text_at.ensures)
           (ap (λ (v : Vec ℕ Global). v.items) w.numbers-is ∙ w.in_ok-push.ensures.items)
-    | else-eq w ↦
+      | else-eq w ↦
           let other : name.kind ≡ kind → ⊥ = search rules in
           subst (λ (v : Vec ℕ Global). AreNumbersSoFar kind citing all (left_at kind cited texts (k + 1)) v.items) (sym w.numbers-is)
           (same_left kind citing all (left_at kind cited texts k) numbers c.loop-k.invariant (left_at kind cited texts (k + 1))

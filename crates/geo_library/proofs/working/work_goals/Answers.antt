@@ -8,9 +8,11 @@ use Rattle.geo_library.proofs.working.work_goals.Goals as goal
 
 pub loop-goal-preserved : goal.loop-goal-preserved
 loop-goal-preserved c =
-    let s = c.args.steps.now in
-    (goes_on s c.args.known.now c.args.missing s.nodes c.args.goals.now c.loop-goal.goal-index c.args.now.lines c.args.now.budget.left c.loop-goal.now.lines c.loop-goal.now.budget.left
-    c.loop-goal-test.true c.loop-goal.invariant.0 c.if-not-is_before.ensures c.work_goal.new.now.lines c.work_goal.new.now.budget.left c.in_ok-work_goal.ensures.zero, c.work_goal.ensures.numbers)
+    let s = c.args.steps.now in (
+      goes_on s c.args.known.now c.args.missing s.nodes c.args.goals.now c.loop-goal.goal-index c.args.now.lines c.args.now.budget.left c.loop-goal.now.lines c.loop-goal.now.budget.left
+          c.loop-goal-test.true c.loop-goal.invariant.0 c.if-not-is_before.ensures c.work_goal.new.now.lines c.work_goal.new.now.budget.left c.in_ok-work_goal.ensures.zero,
+      c.work_goal.ensures.numbers,
+    )
 
 pub returns-then-not-is_before-clause-missed : goal.returns-then-not-is_before-clause-missed
 returns-then-not-is_before-clause-missed c =
