@@ -42,7 +42,8 @@ module _ (p : Shared) (list : Indices) (n : ℕ) (front back : Indices) (front-i
     pub back_known : AllVariables (Contains vars) (told_list p back)
     back_known = subst (λ (ts : Summands). AllVariables (Contains vars) ts) (sym back_told) (AllKeys-drop (λ (m : Powers). AllKeys (Contains vars) m) n (told_list p list) known)
 
-  pub halves_counted : (rows : List Row) (den : Piece) (top : ℕ) → products_of_terms rows den top (told_list p front) + products_of_terms rows den top (told_list p back) ≡ products_of_terms rows den top (told_list p list)
+  pub halves_counted : (rows : List Row) (den : Piece) (top : ℕ) → products_of_terms rows den top (told_list p front)
+      + products_of_terms rows den top (told_list p back) ≡ products_of_terms rows den top (told_list p list)
   halves_counted rows den top =
       ap₂ (λ (x y : Summands). products_of_terms rows den top x + products_of_terms rows den top y) front_told back_told ∙ counted_halves rows den top n (told_list p list)
 

@@ -28,8 +28,12 @@ replaced_chain-requires g t c =
           (
             front_indices c.args.p.now c.args.list.now (length c.args.list.now / 2) c.split_at.result.0.now c.split_at.result.1.now c.split_at.ensures.front c.split_at.ensures.back c.requires.indices,
             (
-              front_known c.args.p.now c.args.list.now (length c.args.list.now / 2) c.split_at.result.0.now c.split_at.result.1.now c.split_at.ensures.front c.split_at.ensures.back setting.vars.now c.requires.known,
-              front_can c.args.p.now c.args.list.now (length c.args.list.now / 2) c.split_at.result.0.now c.split_at.result.1.now c.split_at.ensures.front c.split_at.ensures.back setting.rows.now setting.den.piece.now setting.top c.requires.can,
+              front_known c.args.p.now c.args.list.now
+                  (length c.args.list.now / 2) c.split_at.result.0.now c.split_at.result.1.now c.split_at.ensures.front
+                  c.split_at.ensures.back setting.vars.now c.requires.known,
+              front_can c.args.p.now c.args.list.now
+                  (length c.args.list.now / 2) c.split_at.result.0.now c.split_at.result.1.now c.split_at.ensures.front
+                  c.split_at.ensures.back setting.rows.now setting.den.piece.now setting.top c.requires.can,
             ),
           ),
         ),
@@ -48,8 +52,12 @@ replaced_chain-requires-in_default g t c =
           (
             back_indices c.args.p.now c.args.list.now (length c.args.list.now / 2) c.split_at.result.0.now c.split_at.result.1.now c.split_at.ensures.front c.split_at.ensures.back c.requires.indices,
             (
-              back_known c.args.p.now c.args.list.now (length c.args.list.now / 2) c.split_at.result.0.now c.split_at.result.1.now c.split_at.ensures.front c.split_at.ensures.back setting.vars.now c.requires.known,
-              back_can c.args.p.now c.args.list.now (length c.args.list.now / 2) c.split_at.result.0.now c.split_at.result.1.now c.split_at.ensures.front c.split_at.ensures.back setting.rows.now setting.den.piece.now setting.top c.requires.can,
+              back_known c.args.p.now c.args.list.now
+                  (length c.args.list.now / 2) c.split_at.result.0.now c.split_at.result.1.now c.split_at.ensures.front
+                  c.split_at.ensures.back setting.vars.now c.requires.known,
+              back_can c.args.p.now c.args.list.now
+                  (length c.args.list.now / 2) c.split_at.result.0.now c.split_at.result.1.now c.split_at.ensures.front
+                  c.split_at.ensures.back setting.rows.now setting.den.piece.now setting.top c.requires.can,
             ),
           ),
         ),
@@ -81,7 +89,9 @@ summed-requires-clause-fits g t c =
     let setting = c.args.setting.now in
     norms_fit setting.vars.now c.replaced_chain.new.store c.replaced_chain-in_default.new.store c.in-Ok.ensures.kept c.replaced_chain.new.arena c.replaced_chain-in_default.new.arena
     c.in_ok-sum-in_default.sum c.in-Ok.rest _ _ c.in_ok-sum-in_default.ensures.chain c.in-Ok.ensures.adds c.in-Ok.ensures.chain
-    (halves_fit c.args.p.now c.args.list.now (length c.args.list.now / 2) c.split_at.result.0.now c.split_at.result.1.now c.split_at.ensures.front c.split_at.ensures.back setting.rows.now setting.den.piece.now setting.top c.requires.can)
+    (halves_fit c.args.p.now c.args.list.now
+    (length c.args.list.now / 2) c.split_at.result.0.now c.split_at.result.1.now c.split_at.ensures.front c.split_at.ensures.back
+    setting.rows.now setting.den.piece.now setting.top c.requires.can)
 
 pub returns-in-Ok-clause-chain : goal.returns-in-Ok-clause-chain
 returns-in-Ok-clause-chain g t c =
@@ -91,13 +101,18 @@ returns-in-Ok-clause-chain g t c =
     let whole =
     sum_is setting.vars.now c.replaced_chain.new.store c.replaced_chain-in_default.new.store c.in-Ok.ensures.kept c.replaced_chain.new.arena c.replaced_chain-in_default.new.arena
     c.in_ok-sum-in_default.sum c.in-Ok.rest _ _ c.in_ok-sum-in_default.ensures.chain c.in-Ok.ensures.adds c.in-Ok.ensures.chain
-    ∙ halves_sum c.args.p.now c.args.list.now (length c.args.list.now / 2) c.split_at.result.0.now c.split_at.result.1.now c.split_at.ensures.front c.split_at.ensures.back setting.rows.now setting.den.piece.now setting.top c.requires.can in
-    subst (λ (n : ℕ). StandsFor vars s2 c.summed.new.arena n (polynomial_of (replaced_terms setting.rows.now setting.den.piece.now.poly setting.top (told_list c.args.p.now c.args.list.now)))) (sym c.summed.ensures.chain)
+    ∙ halves_sum c.args.p.now c.args.list.now
+    (length c.args.list.now / 2) c.split_at.result.0.now c.split_at.result.1.now c.split_at.ensures.front c.split_at.ensures.back
+    setting.rows.now setting.den.piece.now setting.top c.requires.can in
+    subst (λ (n : ℕ). StandsFor vars s2 c.summed.new.arena n
+    (polynomial_of (replaced_terms setting.rows.now setting.den.piece.now.poly setting.top (told_list c.args.p.now c.args.list.now))))
+    (sym c.summed.ensures.chain)
     (subst (λ (p : Summands). StandsFor vars s2 c.summed.new.arena c.in_ok-sum-in_default.sum p) whole c.summed.ensures.sum)
 
 pub read_powers-requires : goal.read_powers-requires
 read_powers-requires g t c =
-    let all : AllKeys (IsIndexOf c.args.p.now) (item c.args.list.now 0 ∷ []) = subst (λ (xs : Indices). AllKeys (IsIndexOf c.args.p.now) xs) (sym (one_is c.args.p.now c.args.list.now c.in-len1.len_at_least c.in-len1.len_below)) c.requires.indices in
+    let all : AllKeys (IsIndexOf c.args.p.now) (item c.args.list.now 0 ∷ []) = subst (λ (xs : Indices). AllKeys (IsIndexOf c.args.p.now) xs)
+    (sym (one_is c.args.p.now c.args.list.now c.in-len1.len_at_least c.in-len1.len_below)) c.requires.indices in
     all.0
 
 pub replaced_term_chain-requires-clause-set : goal.replaced_term_chain-requires-clause-set
@@ -123,7 +138,9 @@ replaced_term_chain-requires-clause-monomial g t c =
     let coef = (item c.args.list.now 0).1 in
     let fits : FitsSigned w128 (item c.args.list.now 0).1 = search rules in
     let powers = c.as_slice-powers.ensures.value ∙ c.in_ok-read_powers-in-len1.ensures in
-    IsMonomial-others setting.rows.now c.as_slice-powers.result.now (one_monomial c.args.p.now c.args.list.now c.in-len1.len_at_least c.in-len1.len_below c.as_slice-powers.result.now (to_z w128 (of_z w128 coef)) powers (to_z-of_z w128 coef fits) setting.rows.now setting.den.piece.now setting.top c.requires.can)
+    IsMonomial-others setting.rows.now c.as_slice-powers.result.now
+    (one_monomial c.args.p.now c.args.list.now c.in-len1.len_at_least c.in-len1.len_below c.as_slice-powers.result.now
+    (to_z w128 (of_z w128 coef)) powers (to_z-of_z w128 coef fits) setting.rows.now setting.den.piece.now setting.top c.requires.can)
 
 pub replaced_term_chain-requires-clause-nonzero : goal.replaced_term_chain-requires-clause-nonzero
 replaced_term_chain-requires-clause-nonzero g t c =
@@ -131,7 +148,8 @@ replaced_term_chain-requires-clause-nonzero g t c =
     let coef = (item c.args.list.now 0).1 in
     let fits : FitsSigned w128 (item c.args.list.now 0).1 = search rules in
     let powers = c.as_slice-powers.ensures.value ∙ c.in_ok-read_powers-in-len1.ensures in
-    one_nonzero c.args.p.now c.args.list.now c.in-len1.len_at_least c.in-len1.len_below c.as_slice-powers.result.now (to_z w128 (of_z w128 coef)) powers (to_z-of_z w128 coef fits) setting.rows.now setting.den.piece.now setting.top c.requires.can
+    one_nonzero c.args.p.now c.args.list.now c.in-len1.len_at_least c.in-len1.len_below c.as_slice-powers.result.now
+    (to_z w128 (of_z w128 coef)) powers (to_z-of_z w128 coef fits) setting.rows.now setting.den.piece.now setting.top c.requires.can
 
 pub replaced_term_chain-requires-clause-top : goal.replaced_term_chain-requires-clause-top
 replaced_term_chain-requires-clause-top g t c =
@@ -139,7 +157,8 @@ replaced_term_chain-requires-clause-top g t c =
     let coef = (item c.args.list.now 0).1 in
     let fits : FitsSigned w128 (item c.args.list.now 0).1 = search rules in
     let powers = c.as_slice-powers.ensures.value ∙ c.in_ok-read_powers-in-len1.ensures in
-    one_top c.args.p.now c.args.list.now c.in-len1.len_at_least c.in-len1.len_below c.as_slice-powers.result.now (to_z w128 (of_z w128 coef)) powers (to_z-of_z w128 coef fits) setting.rows.now setting.den.piece.now setting.top c.requires.can
+    one_top c.args.p.now c.args.list.now c.in-len1.len_at_least c.in-len1.len_below c.as_slice-powers.result.now
+    (to_z w128 (of_z w128 coef)) powers (to_z-of_z w128 coef fits) setting.rows.now setting.den.piece.now setting.top c.requires.can
 
 pub replaced_term_chain-requires-clause-norm : goal.replaced_term_chain-requires-clause-norm
 replaced_term_chain-requires-clause-norm g t c =
@@ -147,7 +166,8 @@ replaced_term_chain-requires-clause-norm g t c =
     let coef = (item c.args.list.now 0).1 in
     let fits : FitsSigned w128 (item c.args.list.now 0).1 = search rules in
     let powers = c.as_slice-powers.ensures.value ∙ c.in_ok-read_powers-in-len1.ensures in
-    one_norm c.args.p.now c.args.list.now c.in-len1.len_at_least c.in-len1.len_below c.as_slice-powers.result.now (to_z w128 (of_z w128 coef)) powers (to_z-of_z w128 coef fits) setting.rows.now setting.den.piece.now setting.top c.requires.can
+    one_norm c.args.p.now c.args.list.now c.in-len1.len_at_least c.in-len1.len_below c.as_slice-powers.result.now
+    (to_z w128 (of_z w128 coef)) powers (to_z-of_z w128 coef fits) setting.rows.now setting.den.piece.now setting.top c.requires.can
 
 pub replaced_term_chain-requires-clause-degree : goal.replaced_term_chain-requires-clause-degree
 replaced_term_chain-requires-clause-degree g t c =
@@ -155,7 +175,8 @@ replaced_term_chain-requires-clause-degree g t c =
     let coef = (item c.args.list.now 0).1 in
     let fits : FitsSigned w128 (item c.args.list.now 0).1 = search rules in
     let powers = c.as_slice-powers.ensures.value ∙ c.in_ok-read_powers-in-len1.ensures in
-    one_degree c.args.p.now c.args.list.now c.in-len1.len_at_least c.in-len1.len_below c.as_slice-powers.result.now (to_z w128 (of_z w128 coef)) powers (to_z-of_z w128 coef fits) setting.rows.now setting.den.piece.now setting.top c.requires.can
+    one_degree c.args.p.now c.args.list.now c.in-len1.len_at_least c.in-len1.len_below c.as_slice-powers.result.now
+    (to_z w128 (of_z w128 coef)) powers (to_z-of_z w128 coef fits) setting.rows.now setting.den.piece.now setting.top c.requires.can
 
 pub returns-in_ok-rest-in-len1-clause-chain : goal.returns-in_ok-rest-in-len1-clause-chain
 returns-in_ok-rest-in-len1-clause-chain g t c =
@@ -164,23 +185,29 @@ returns-in_ok-rest-in-len1-clause-chain g t c =
     let fits : FitsSigned w128 (item c.args.list.now 0).1 = search rules in
     let powers = c.as_slice-powers.ensures.value ∙ c.in_ok-read_powers-in-len1.ensures in
     IfOk-weaker c.replaced_term_chain.result _ _
-    (λ v h. subst (λ (q : Summands). StandsFor setting.vars.now c.replaced_term_chain.new.store c.replaced_term_chain.new.arena v q) (one_made c.args.p.now c.args.list.now c.in-len1.len_at_least c.in-len1.len_below c.as_slice-powers.result.now (to_z w128 (of_z w128 coef)) powers (to_z-of_z w128 coef fits) setting.rows.now setting.den.piece.now setting.top c.requires.can) h)
+    (λ v h. subst (λ (q : Summands). StandsFor setting.vars.now c.replaced_term_chain.new.store c.replaced_term_chain.new.arena v q)
+    (one_made c.args.p.now c.args.list.now c.in-len1.len_at_least c.in-len1.len_below c.as_slice-powers.result.now
+    (to_z w128 (of_z w128 coef)) powers (to_z-of_z w128 coef fits) setting.rows.now setting.den.piece.now setting.top c.requires.can) h)
     c.replaced_term_chain.ensures.chain
 
 pub has_zero-requires-clause-index : goal.has_zero-requires-clause-index
 has_zero-requires-clause-index g t c =
-    let all : AllKeys (IsIndexOf c.args.p.now) (item c.args.list.now 0 ∷ []) = subst (λ (xs : Indices). AllKeys (IsIndexOf c.args.p.now) xs) (sym (one_is c.args.p.now c.args.list.now c.in-len1.len_at_least c.in-len1.len_below)) c.requires.indices in
+    let all : AllKeys (IsIndexOf c.args.p.now) (item c.args.list.now 0 ∷ []) = subst (λ (xs : Indices). AllKeys (IsIndexOf c.args.p.now) xs)
+    (sym (one_is c.args.p.now c.args.list.now c.in-len1.len_at_least c.in-len1.len_below)) c.requires.indices in
     all.0
 
 pub has_zero-requires-clause-top : goal.has_zero-requires-clause-top
 has_zero-requires-clause-top g t c =
     let setting = c.args.setting.now in
-    one_top c.args.p.now c.args.list.now c.in-len1.len_at_least c.in-len1.len_below (told_powers c.args.p.now (item c.args.list.now 0).0) (item c.args.list.now 0).1 refl refl setting.rows.now setting.den.piece.now setting.top c.requires.can
+    one_top c.args.p.now c.args.list.now c.in-len1.len_at_least c.in-len1.len_below (told_powers c.args.p.now (item c.args.list.now 0).0)
+    (item c.args.list.now 0).1 refl refl setting.rows.now setting.den.piece.now setting.top c.requires.can
 
 pub has_zero-requires-clause-monomial : goal.has_zero-requires-clause-monomial
 has_zero-requires-clause-monomial g t c =
     let setting = c.args.setting.now in
-    one_monomial c.args.p.now c.args.list.now c.in-len1.len_at_least c.in-len1.len_below (told_powers c.args.p.now (item c.args.list.now 0).0) (item c.args.list.now 0).1 refl refl setting.rows.now setting.den.piece.now setting.top c.requires.can
+    one_monomial c.args.p.now c.args.list.now c.in-len1.len_at_least c.in-len1.len_below
+    (told_powers c.args.p.now (item c.args.list.now 0).0)
+    (item c.args.list.now 0).1 refl refl setting.rows.now setting.den.piece.now setting.top c.requires.can
 
 pub replaced_term_chain-requires-clause-no_zero : goal.replaced_term_chain-requires-clause-no_zero
 replaced_term_chain-requires-clause-no_zero g t c =
@@ -191,11 +218,15 @@ replaced_term_chain-requires-clause-no_zero g t c =
 pub returns-in-Ok-clause-ticks : goal.returns-in-Ok-clause-ticks
 returns-in-Ok-clause-ticks g t c =
     let setting = c.args.setting.now in
-    let whole = halves_counted c.args.p.now c.args.list.now (length c.args.list.now / 2) c.split_at.result.0.now c.split_at.result.1.now c.split_at.ensures.front c.split_at.ensures.back setting.rows.now setting.den.piece.now setting.top in
+    let whole = halves_counted c.args.p.now c.args.list.now
+    (length c.args.list.now / 2) c.split_at.result.0.now c.split_at.result.1.now c.split_at.ensures.front c.split_at.ensures.back
+    setting.rows.now setting.den.piece.now setting.top in
     omega (arith, whole, c.in_ok-sum-in_default.ensures.ticks, c.in-Ok.ensures.ticks)
 
 pub returns-in-Err-clause-ticks : goal.returns-in-Err-clause-ticks
 returns-in-Err-clause-ticks g t c =
     let setting = c.args.setting.now in
-    let whole = halves_counted c.args.p.now c.args.list.now (length c.args.list.now / 2) c.split_at.result.0.now c.split_at.result.1.now c.split_at.ensures.front c.split_at.ensures.back setting.rows.now setting.den.piece.now setting.top in
+    let whole = halves_counted c.args.p.now c.args.list.now
+    (length c.args.list.now / 2) c.split_at.result.0.now c.split_at.result.1.now c.split_at.ensures.front c.split_at.ensures.back
+    setting.rows.now setting.den.piece.now setting.top in
     omega (arith, whole, c.in_ok-sum-in_default.ensures.ticks, c.in-Err.ensures.ticks)

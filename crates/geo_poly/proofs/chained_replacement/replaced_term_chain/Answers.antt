@@ -27,7 +27,8 @@ abbrev at : Powers → ℕ → Var × ℕ
 at m i = get_or m i none
 
 -- the progress, with the variable of this turn shown
-shown : (rows : List Row) (top : ℕ) (m : Powers) (k : ℤ) (i : ℕ) (p : Summands) (missing : ℕ) → i < length m → Progress rows top m k (drop i m) p missing → Progress rows top m k (at m i ∷ drop (i + 1) m) p missing
+shown : (rows : List Row) (top : ℕ) (m : Powers) (k : ℤ) (i : ℕ) (p : Summands) (missing : ℕ) → i < length m
+    → Progress rows top m k (drop i m) p missing → Progress rows top m k (at m i ∷ drop (i + 1) m) p missing
 shown rows top m k i p missing h progress =
     subst (λ left. Progress rows top m k left p missing) (drop_at m i (at m i) h (get_or_any m i none (at m i) h)) progress
 
@@ -63,7 +64,8 @@ times_power_chain-requires-clause-norm g c =
     let i = c.loop-k.k in
     let p = keyed_terms setting.vars.now c.loop-k.store (pairs_of c.loop-k.arena c.loop-k.product) in
     let fits = row_fits rows top m k (at m i) (drop (i + 1) m) p c.loop-k.missing c.row-row.result.now _ _ (sym c.in-Some.ensures.row ∙ c.row-row.ensures) c.requires.set.rows_bounded
-    (shown rows top m k i p c.loop-k.missing c.loop-k-test.true c.loop-k.invariant.progress) (le_refl (weight_rows rows m (unsigned_abs k))) (le_refl (degree_rows rows m (degree_of (others rows m)))) in
+    (shown rows top m k i p c.loop-k.missing c.loop-k-test.true c.loop-k.invariant.progress) (le_refl (weight_rows rows m (unsigned_abs k)))
+    (le_refl (degree_rows rows m (degree_of (others rows m)))) in
     omega (arith, fits.0, rows_weight_fits rows setting.den.piece.now top m k c.args.coefficient (to_z-of_z w128 c.args.coefficient (search rules)) c.requires.set.den_bounded c.requires.norm)
 
 pub times_power_chain-requires-clause-degree : goal.times_power_chain-requires-clause-degree
@@ -76,7 +78,8 @@ times_power_chain-requires-clause-degree g c =
     let i = c.loop-k.k in
     let p = keyed_terms setting.vars.now c.loop-k.store (pairs_of c.loop-k.arena c.loop-k.product) in
     let fits = row_fits rows top m k (at m i) (drop (i + 1) m) p c.loop-k.missing c.row-row.result.now _ _ (sym c.in-Some.ensures.row ∙ c.row-row.ensures) c.requires.set.rows_bounded
-    (shown rows top m k i p c.loop-k.missing c.loop-k-test.true c.loop-k.invariant.progress) (le_refl (weight_rows rows m (unsigned_abs k))) (le_refl (degree_rows rows m (degree_of (others rows m)))) in
+    (shown rows top m k i p c.loop-k.missing c.loop-k-test.true c.loop-k.invariant.progress) (le_refl (weight_rows rows m (unsigned_abs k)))
+    (le_refl (degree_rows rows m (degree_of (others rows m)))) in
     omega (arith, fits.1, c.requires.degree)
 
 pub times_power_chain-requires-2-clause-stored : goal.times_power_chain-requires-2-clause-stored
@@ -112,7 +115,9 @@ loop-k-preserved g c =
             progress = rw made.ensures.chain.terms
                 (Progress-some rows top m k (at m i) (drop (i + 1) m) p c.loop-k.missing w.row-row.result.now row c.requires.set.rows_bounded progress (omega (arith, fits.1, c.requires.degree)));
             counting =
-                Counting-some rows m (at m i) (drop (i + 1) m) size (length (pairs_of w.times_power_chain.new.arena made.product)) c.args.ticks.now c.loop-k.ticks w.times_power_chain.new.ticks w.row-row.result.now row c.requires.set.rows_bounded counting
+                Counting-some rows m (at m i) (drop (i + 1) m) size
+                (length (pairs_of w.times_power_chain.new.arena made.product)) c.args.ticks.now c.loop-k.ticks
+                w.times_power_chain.new.ticks w.row-row.result.now row c.requires.set.rows_bounded counting
                 (power_size setting.vars.now c.loop-k.store w.times_power_chain.new.store c.loop-k.arena w.times_power_chain.new.arena c.loop-k.product made.product w.row-row.result.now.num (at m i).1
                 (bounded_row rows (at m i).0 w.row-row.result.now c.requires.set.rows_bounded row) made.ensures.chain)
                 made.ensures.ticks;
@@ -138,9 +143,12 @@ returns-in_err-product-2-clause-ticks g c =
     let now = c.times_power_chain.new.ticks in
     let row : row_of rows (at m i).0 ≡ Some c.row-row.result.now = sym c.in-Some.ensures.row ∙ c.row-row.ensures in
     let counting = counted rows m i (length (pairs_of c.loop-k.arena c.loop-k.product)) start c.loop-k.ticks c.loop-k-test.true c.loop-k.invariant.counting in
-    let after = Counting-some rows m (at m i) (drop (i + 1) m) (length (pairs_of c.loop-k.arena c.loop-k.product)) 0 start c.loop-k.ticks now c.row-row.result.now row c.requires.set.rows_bounded counting
+    let after = Counting-some rows m (at m i) (drop (i + 1) m)
+    (length (pairs_of c.loop-k.arena c.loop-k.product)) 0 start c.loop-k.ticks now c.row-row.result.now row c.requires.set.rows_bounded
+    counting
     (omega arith) c.in_err-product-2.ensures.ticks in
-    counted_term rows setting.den.piece.now setting.top m (drop (i + 1) m) 0 start now now (setting.top - denominators rows m) c.requires.set.rows_bounded c.requires.set.den_bounded c.requires.no_zero after refl
+    counted_term rows setting.den.piece.now setting.top m (drop (i + 1) m) 0 start now now
+    (setting.top - denominators rows m) c.requires.set.rows_bounded c.requires.set.den_bounded c.requires.no_zero after refl
     (omega arith)
 
 pub returns-clause-adds : goal.returns-clause-adds

@@ -56,12 +56,14 @@ loop-k-preserved g c =
     let made = c.in_ok-product.product in
     let piece = c.args.factor.now.piece.now in
     let n = length (pairs_of c.args.arena.now c.args.chain) in
-    let more = power_ticks vars s0 c.loop-k.store c.args.arena.now c.loop-k.arena c.args.chain c.loop-k.product c.args.factor.now.list.now piece c.loop-k._k c.args.ticks.now c.loop-k.ticks c.times_list.new.ticks
+    let more = power_ticks vars s0 c.loop-k.store c.args.arena.now c.loop-k.arena c.args.chain c.loop-k.product c.args.factor.now.list.now
+    piece c.loop-k._k c.args.ticks.now c.loop-k.ticks c.times_list.new.ticks
     c.requires.piece c.requires.stored c.loop-k.invariant.chain c.loop-k.invariant.ticks c.in_ok-product.ensures.ticks in
     record {
       kept = Keeps_trans c.loop-k.invariant.kept c.in_ok-product.ensures.kept;
       swaps = Swaps-trans c.args.arena.now c.loop-k.arena c.times_list.new.arena c.args.chain c.loop-k.product made c.loop-k.invariant.swaps c.in_ok-product.ensures.swaps;
-      chain = next_power vars s0 c.loop-k.store c.loop-k.invariant.kept c.args.factor.now.list.now c.args.factor.now.piece.now.poly c.requires.stored c.loop-k.arena c.loop-k.product base c.loop-k._k c.loop-k.invariant.chain
+      chain = next_power vars s0 c.loop-k.store c.loop-k.invariant.kept c.args.factor.now.list.now c.args.factor.now.piece.now.poly
+          c.requires.stored c.loop-k.arena c.loop-k.product base c.loop-k._k c.loop-k.invariant.chain
           c.times_list.new.store c.times_list.new.arena made c.in_ok-product.ensures.chain;
       ticks = subst (λ (k : ℕ). c.times_list.new.ticks ≤ c.args.ticks.now + power_products n piece.count k) (sym (add-one c.loop-k._k)) more;
     }
@@ -76,7 +78,10 @@ returns-in_err-product-clause-ticks g c =
     let s0 = c.args.store.now in
     let piece = c.args.factor.now.piece.now in
     let n = length (pairs_of c.args.arena.now c.args.chain) in
-    let more = power_ticks vars s0 c.loop-k.store c.args.arena.now c.loop-k.arena c.args.chain c.loop-k.product c.args.factor.now.list.now piece c.loop-k._k c.args.ticks.now c.loop-k.ticks c.times_list.new.ticks
+    let more = power_ticks vars s0 c.loop-k.store c.args.arena.now c.loop-k.arena c.args.chain c.loop-k.product c.args.factor.now.list.now
+    piece c.loop-k._k c.args.ticks.now c.loop-k.ticks c.times_list.new.ticks
     c.requires.piece c.requires.stored c.loop-k.invariant.chain c.loop-k.invariant.ticks c.in_err-product.ensures.ticks in
-    let whole : power_products n piece.count (suc c.loop-k._k) ≤ power_products n piece.count c.args.count = power_products-mono n piece.count (suc c.loop-k._k) c.args.count (omega (arith, c.loop-k-test.true)) in
+    let whole : power_products n piece.count (suc c.loop-k._k)
+    ≤ power_products n piece.count c.args.count =
+    power_products-mono n piece.count (suc c.loop-k._k) c.args.count (omega (arith, c.loop-k-test.true)) in
     omega (arith, more, whole)

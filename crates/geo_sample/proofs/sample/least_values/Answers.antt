@@ -25,7 +25,9 @@ parts vs i lt = ap (λ (ws : List Var). take i vs ++ ws) (sym (drop_at vs i (get
 pub returns-in_err-current-clause-stopped : goal.returns-in_err-current-clause-stopped
 returns-in_err-current-clause-stopped c =
     let p = err_from_is_err_and c.from_residual.result c.from_residual.ensures.1 in
-    if_err _ c.from_residual.result _ p.0 p.1 p.2 (nothing_searched c.args.vars.now c.args.polys.now c.args.budget.now.left (collected_polynomials c.args.polys.now c.are_valid.ensures.valid) c.requires)
+    if_err _ c.from_residual.result _ p.0 p.1 p.2
+    (nothing_searched c.args.vars.now c.args.polys.now c.args.budget.now.left
+    (collected_polynomials c.args.polys.now c.are_valid.ensures.valid) c.requires)
 
 pub least_value-requires-clause-collected : goal.least_value-requires-clause-collected
 least_value-requires-clause-collected c =

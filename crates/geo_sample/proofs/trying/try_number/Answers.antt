@@ -17,7 +17,8 @@ returns-in_err-changes-clause-stopped c =
     let left = c.args.budget.now.left in
     let t : Try = record { variable = c.args.v; number = c.args.number; polys = c.args.polys.now } in
     let p = err_from_is_err_and c.from_residual.result c.from_residual.ensures.1 in
-    let affordable : charge_of (record { variable = c.args.v; number = c.args.number; polys = c.args.polys.now }) ≤ c.args.budget.now.left = omega (arith, c.count_of_monomials-charge.ensures, c.if-charge-budget.false) in
+    let affordable : charge_of (record { variable = c.args.v; number = c.args.number; polys = c.args.polys.now })
+    ≤ c.args.budget.now.left = omega (arith, c.count_of_monomials-charge.ensures, c.if-charge-budget.false) in
     if_err _ c.from_residual.result c.in_err-changes.field-0.0 p.0 p.1 p.2
     (elim c.in_err-changes.ensures.stopped [
       | inl no_memory ↦ subst (λ (e : SampleError). EndIn e left (t ∷ []) left) (sym no_memory) (one_short left t)
