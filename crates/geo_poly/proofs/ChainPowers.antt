@@ -46,7 +46,7 @@ times_power-one : (p : Summands) (n : ℕ) → IsNormal p → times_power p (([]
 times_power-one p zero h = refl
 times_power-one p (suc n) h = ap (λ (x : Summands). product_of x (([], pos 1) ∷ [])) (times_power-one p n h) ∙ product_of-one p h
 
-orders : (p : Summands) → AllKeys IsMonomial p → AllKeys (λ (m : Powers). IsCanonical var_cmp exponents m) p
+pub orders : (p : Summands) → AllKeys IsMonomial p → AllKeys (λ (m : Powers). IsCanonical var_cmp exponents m) p
 orders [] h = tt
 orders (t ∷ ts) h = (h.0.in_order, orders ts h.1)
 
@@ -66,7 +66,7 @@ known_others Holds rows (v ∷ m) h = go (row_of rows v.0) (known_others Holds r
     go None rest = (h.0, rest)
     go (Some r) rest = rest
 
-some : (n : ℕ) → n ≢ 0 → eqb n 0 ≡ false
+pub some : (n : ℕ) → n ≢ 0 → eqb n 0 ≡ false
 some n h = go (eqb n 0) refl
   where
     go : (b : Bool) → eqb n 0 ≡ b → b ≡ false

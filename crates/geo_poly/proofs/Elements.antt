@@ -1,5 +1,5 @@
 -- Lists of indices as elements of a ring.
-use Rattle.std.proofs.Common.{◌≡◌, List, refl, sym, subst, ◌∙◌, arith}
+use Rattle.std.proofs.Common.{◌≡◌, List, refl, sym, subst, ◌∙◌}
 use Rattle.std.specs.List.Sorted.{IsStrictlySortedBy}
 use Rattle.sparse_lists.specs.SparseLists.{AllKeys}
 use Rattle.mono_store.specs.Stores.{Links}

@@ -48,7 +48,6 @@ pub mod Unions
 pub mod MergedVariables
 pub mod ChainSwaps
 pub mod ChainSums
-pub mod ReplacedHalves
 pub mod ZeroPut
 pub mod Entries
 pub mod Moved
@@ -59,3 +58,10 @@ pub mod Dividing
 pub mod ZeroFactors
 pub mod TickBounds
 pub mod KnownVariables
+pub mod FactoredTerms
+pub mod NestedSums
+pub mod FactorPaths
+pub mod MultipliedIn
+pub mod PendingTerms
+pub mod JoinedParts
+pub mod TermPlaces

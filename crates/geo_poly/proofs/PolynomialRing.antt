@@ -120,7 +120,7 @@ products-total : (p r : Summands) → total lists (λ t. multiples t r) p ≡ pr
 products-total [] r = refl
 products-total (t ∷ ts) r = ap (λ x. multiples t r ++ x) (products-total ts r)
 
-products-left : (p r : Summands) → Alike (products (polynomial_of p) r) (products p r)
+pub products-left : (p r : Summands) → Alike (products (polynomial_of p) r) (products p r)
 products-left p r =
     ap polynomial_of (sym (products-total (polynomial_of p) r))
     ∙ total-canonical lists term_cmp coefficients term_order coefficients_add (λ t. multiples t r) (multiples-add r) (multiples-zero r) p

@@ -10,15 +10,15 @@ use Rattle.geo_poly.proofs.MonomialLaws.{degree_of-product}
 use Rattle.geo_poly.proofs.ProductLaws.{norm_of-product_of-le, monomials_of_products, IsCanonical-product_of}
 
 -- the degree is at most d where that of each monomial is
-UpTo : ℕ → Powers → Type 0
+pub UpTo : ℕ → Powers → Type 0
 UpTo d m = degree_of m ≤ d
 
-up_to : (p : Summands) (d : ℕ) → total_degree p ≤ d → AllKeys (UpTo d) p
+pub up_to : (p : Summands) (d : ℕ) → total_degree p ≤ d → AllKeys (UpTo d) p
 unfolding UpTo
 up_to [] d h = tt
 up_to (t ∷ ts) d h = (omega arith, up_to ts d (omega arith))
 
-from_up_to : (p : Summands) (d : ℕ) → AllKeys (UpTo d) p → total_degree p ≤ d
+pub from_up_to : (p : Summands) (d : ℕ) → AllKeys (UpTo d) p → total_degree p ≤ d
 unfolding UpTo
 from_up_to [] d h = omega arith
 from_up_to (t ∷ ts) d h = omega (arith, h.0, from_up_to ts d h.1)

@@ -112,7 +112,7 @@ replaced_of_one rows den top t h =
     ∙ ap polynomial_of (sym (append-nil (replaced_term rows den top t)))
 
 -- PARTS OF A LIST
-replaced_terms-append : (rows : List Row) (den : Summands) (top : ℕ) (p q : Summands) → replaced_terms rows den top (p ++ q) ≡ replaced_terms rows den top p ++ replaced_terms rows den top q
+pub replaced_terms-append : (rows : List Row) (den : Summands) (top : ℕ) (p q : Summands) → replaced_terms rows den top (p ++ q) ≡ replaced_terms rows den top p ++ replaced_terms rows den top q
 replaced_terms-append rows den top [] q = refl
 replaced_terms-append rows den top (t ∷ ts) q =
     ap (λ x. replaced_term rows den top t ++ x) (replaced_terms-append rows den top ts q) ∙ sym (append_assoc (replaced_term rows den top t) (replaced_terms rows den top ts) (replaced_terms rows den top q))

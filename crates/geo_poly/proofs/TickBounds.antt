@@ -84,7 +84,7 @@ count_row-scale : (o : Option Row) (e x y : ℕ) → count_row o e (x * y) ≡ x
 count_row-scale None e x y = refl
 count_row-scale (Some r) e x y = mul_assoc x y (r.num.count ^ e)
 
-count_rows-scale : (rows : List Row) (m : Powers) (x y : ℕ) → count_rows rows m (x * y) ≡ x * count_rows rows m y
+pub count_rows-scale : (rows : List Row) (m : Powers) (x y : ℕ) → count_rows rows m (x * y) ≡ x * count_rows rows m y
 count_rows-scale rows [] x y = refl
 count_rows-scale rows (v ∷ m) x y = ap (count_rows rows m) (count_row-scale (row_of rows v.0) v.1 x y) ∙ count_rows-scale rows m x (count_row (row_of rows v.0) v.1 y)
 
@@ -100,10 +100,10 @@ some_monomial : (p : Summands) → p ≢ [] → 1 ≤ length p
 some_monomial [] h = absurd (h refl)
 some_monomial (t ∷ ts) h = omega arith
 
-counted : (piece : Piece) → IsBounded piece → piece.poly ≢ [] → 1 ≤ piece.count
+pub counted : (piece : Piece) → IsBounded piece → piece.poly ≢ [] → 1 ≤ piece.count
 counted piece h some = omega (arith, h.count, some_monomial piece.poly some)
 
-counted_row : (rows : List Row) (v : Var) (r : Row) → AllBounded rows → row_of rows v ≡ Some r → IsNonzeroRow (row_of rows v) → 1 ≤ r.num.count
+pub counted_row : (rows : List Row) (v : Var) (r : Row) → AllBounded rows → row_of rows v ≡ Some r → IsNonzeroRow (row_of rows v) → 1 ≤ r.num.count
 counted_row rows v r bounded e some = counted r.num (bounded_row rows v r bounded e) (subst IsNonzeroRow e some)
 
 count_rows-grows : (rows : List Row) (m : Powers) (x : ℕ) → AllBounded rows → AreNonzeroRows rows m → x ≤ count_rows rows m x
