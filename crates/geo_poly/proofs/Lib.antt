@@ -49,6 +49,7 @@ pub mod MergedVariables
 pub mod ChainSwaps
 pub mod ChainSums
 pub mod ZeroPut
+pub mod ZeroWalks
 pub mod Entries
 pub mod Moved
 pub mod Places
