@@ -21,6 +21,7 @@ use Rattle.geo_logs.specs.Chains.{chain_lines}
 use Rattle.geo_logs.specs.Logs.{AreConditionsWorked, AreGoalsWorked, Chains, Item, Samples, known_by}
 use Rattle.log_checker.specs.Accepted.{AcceptedBytesMean, AcceptedBytesTellPrograms, ProgramsHaveDefinedLogs, ProgramsHaveSubjects}
 use Rattle.log_checker.specs.Subjects.{version_number, log_item, source_lines}
+use Rattle.log_checker.proofs.PrintedValues.{accepted_values}
 use Rattle.log_checker.proofs.Realised.{accepted_samples_are_met}
 use Rattle.log_checker.proofs.ThreeVerdicts.{false_breaks, impossible_is_never_met, proved_is_true}
 use Rattle.log_checker.proofs.Reached.{defined_log_exists}
@@ -30,13 +31,13 @@ pub accepted_bytes_mean : AcceptedBytesMean
 accepted_bytes_mean bytes steps p Proved a =
     let met = accepted_samples_are_met p steps a.lines Proved a.accepted tt in (
       proved_is_true p steps a.lines a.accepted,
-      (met.0, record { lines = a.lines; writable = a.writable; written = a.written; ends = met.1 }, met.2),
+      (met.0, accepted_values bytes steps p Proved met.0 a met.1, met.2),
     )
 accepted_bytes_mean bytes steps p (False g) a =
     let broken = false_breaks p steps g a.lines a.accepted in
     let breaks = broken.2 in (
       broken.0,
-      record { lines = a.lines; writable = a.writable; written = a.written; ends = broken.1 },
+      accepted_values bytes steps p (False g) broken.0 a broken.1,
       record { placed = breaks.placed; has = breaks.has; meets = breaks.meets; unique = breaks.unique },
       breaks,
       broken.3,

@@ -40,6 +40,7 @@ pub mod ReadTerms
 pub mod ReadLines
 pub mod JudgedWhole
 pub mod DefinedBytes
+pub mod PrintedValues
 pub mod AcceptedBytes
 pub mod Midpoints
 pub mod AlikeSteps
