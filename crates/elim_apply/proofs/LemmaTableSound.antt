@@ -124,7 +124,8 @@ module _ (c : Construction) (placed : Placement) (y i j d e : PointId) (has : Ha
       along h =
           let value = tree_value placed (tree_of c.nodes r) in
           canonical_ratio-defined placed.point placed.number a w u v
-          (ratio-pratio (placed.point a.0) (placed.point w.0) (placed.point u.0) (placed.point v.0) (placed.point y.0) value value (whole (pos 1)) (met (Pratio w u v r) is).1 (fractions.mul-one value) h).0
+          (ratio-pratio (placed.point a.0) (placed.point w.0) (placed.point u.0) (placed.point v.0) (placed.point y.0) value value
+          (whole (pos 1)) (met (Pratio w u v r) is).1 (fractions.mul-one value) h).0
 
       across : eqb d.0 v.0 ≡ true → eqb e.0 u.0 ≡ true → HasVariable placed (sorted_ratio (HasVariable placed) a w u v)
       across dv eu =
@@ -176,7 +177,9 @@ module _ (c : Construction) where
       after step (Some ab) = mapped_den step (area_numerator c.nodes step ab.0 ab.1)
 
       go : (o : Option Step)
-          → IfSome (option_and_then (λ step. option_and_then (λ ab. option_map (step_row c.nodes step 1) (area_numerator c.nodes step ab.0 ab.1)) (points_after y i j k)) o) (λ t. t.den ≡ point_denominator c o)
+          → IfSome (option_and_then (λ step. option_and_then
+          (λ ab. option_map (step_row c.nodes step 1) (area_numerator c.nodes step ab.0 ab.1)) (points_after y i j k)) o)
+          (λ t. t.den ≡ point_denominator c o)
       go None = tt
       go (Some step) = after step (points_after y i j k)
 

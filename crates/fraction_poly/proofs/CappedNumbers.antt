@@ -64,7 +64,8 @@ numbers_at trees parts e n h at =
     let is : slice_get parts e.0 ≡ Some (capped (numbers_of (tree_at trees e))) = h.each e (slice_get_within parts e.0 n at) in cc
 
 -- the numbers of one tree more
-pub AreNumbersOf-push : (trees : List Tree) (parts : List Numbers) (n : Numbers) → AreNumbersOf trees parts → n ≡ capped (numbers_of (tree_at trees (record { 0 = length parts }))) → AreNumbersOf trees (parts ++ n ∷ [])
+pub AreNumbersOf-push : (trees : List Tree) (parts : List Numbers) (n : Numbers) → AreNumbersOf trees parts
+    → n ≡ capped (numbers_of (tree_at trees (record { 0 = length parts }))) → AreNumbersOf trees (parts ++ n ∷ [])
 AreNumbersOf-push trees parts n h is = record { each = each }
   where
     each : (e : TermId) → e.0 < length (parts ++ n ∷ []) → slice_get (parts ++ n ∷ []) e.0 ≡ Some (capped (numbers_of (tree_at trees e)))

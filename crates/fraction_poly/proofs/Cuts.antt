@@ -101,7 +101,8 @@ pub record IsInterned (old new : Store) (node : Node) (place : TermId) : Type 0 
   pub valid : IsStore new
 
 -- nothing is cut out
-pub cut-none : {S : Type 0} (nodes : Store) (id : TermId) (order : List TermId) (places : HashMap ℕ TermId S) (cut : Store) → places.entries ≡ [] → cut ≡ [] → IsStore cut → IsCut nodes id order (length order) places cut
+pub cut-none : {S : Type 0} (nodes : Store) (id : TermId) (order : List TermId) (places : HashMap ℕ TermId S) (cut : Store)
+    → places.entries ≡ [] → cut ≡ [] → IsStore cut → IsCut nodes id order (length order) places cut
 cut-none nodes id order places cut empty none store = record {
   store = store;
   count = omega (arith, ap length none);

@@ -214,7 +214,8 @@ module _ (nodes : Store) (store : IsStore nodes) (id : TermId) where
         let within : stands.0 < length more = slice_get_within more stands.0 c stands.2 in
         elim (place_cases stands.0 (length order) (omega (arith, length_push order index))) [
           | inl before ↦ inl (inr (stands.0, stands.1, sym (slice_get-front order (index ∷ []) stands.0 before) ∙ stands.2))
-          | inr last ↦ inl (inl (let same : index ≡ c = let here : slice_get more stands.0 ≡ Some index = slice_get-end order index stands.0 last in cc in subst (λ (d : TermId). Has old d.0) same takes.member))
+          | inr last ↦ inl (inl (let same : index ≡ c = let here : slice_get more stands.0 ≡ Some index = slice_get-end order index stands.0
+              last in cc in subst (λ (d : TermId). Has old d.0) same takes.member))
         ]
 
     node_below : HasChildrenBelow index.0 node

@@ -26,7 +26,8 @@ Grows-append None middle after xs ys p q = rw p at q
 Grows-append (Some held) middle after xs ys p q = (rw p at q) ∙ ap Some (append_assoc held xs ys)
 
 -- the first n bytes, and then the first m of the rest, are the first n + m
-pub Grows-take : (before middle after : Option (List ℕ)) (bytes : List ℕ) (n m : ℕ) → Grows before (take n bytes) middle → Grows middle (take m (take (length bytes - n) (drop n bytes))) after → Grows before (take (n + m) bytes) after
+pub Grows-take : (before middle after : Option (List ℕ)) (bytes : List ℕ) (n m : ℕ) → Grows before (take n bytes) middle
+    → Grows middle (take m (take (length bytes - n) (drop n bytes))) after → Grows before (take (n + m) bytes) after
 Grows-take before middle after bytes n m p q =
     rw (take-add n m bytes) (Grows-append before middle after (take n bytes) (take m (drop n bytes)) p (rw (take_rest bytes n) at q))
 
@@ -42,7 +43,8 @@ HasRisen-before before middle after low (inr last) high =
     ⊎_elim (λ same. inr (sym same ∙ last)) (λ more. inl (omega arith)) (eq-or-lt_of_le high)
 
 -- what a read from memory takes: the bytes that it copied into the front of the buffer
-pub piece_taken : (left bytes written tail : List ℕ) (at n : ℕ) → left ≡ drop at bytes → n ≤ length (drop at bytes) → written ≡ take n (drop at bytes) → left ≡ take n (written ++ tail) ++ drop (at + n) bytes
+pub piece_taken : (left bytes written tail : List ℕ) (at n : ℕ) → left ≡ drop at bytes → n ≤ length (drop at bytes)
+    → written ≡ take n (drop at bytes) → left ≡ take n (written ++ tail) ++ drop (at + n) bytes
 piece_taken left bytes written tail at n is fits copied =
     let front : take n (written ++ tail) ≡ take n (drop at bytes) =
     rw copied (take_at (take n (drop at bytes)) tail n (length-take-le n (drop at bytes) fits)) in

@@ -58,7 +58,8 @@ module _ (b : Bounds) (xs : List Fraction) (h : AreBounds b xs) where
   unfolding fraction_of
   same_bounds s =
       let e : Same (fraction_of b.greatest) (fraction_of b.least) = record {
-        crossed = subst (λ z. b.greatest.num *ℤ z ≡ b.least.num *ℤ pos (unsigned_abs b.greatest.den)) b.least.positive (subst (λ z. b.greatest.num *ℤ b.least.den ≡ b.least.num *ℤ z) b.greatest.positive (sym s));
+        crossed = subst (λ z. b.greatest.num *ℤ z ≡ b.least.num *ℤ pos (unsigned_abs b.greatest.den)) b.least.positive
+            (subst (λ z. b.greatest.num *ℤ b.least.den ≡ b.least.num *ℤ z) b.greatest.positive (sym s));
       } in
       fractions.same_trans _ _ _ (fractions.same_sym _ _ (same_of b.greatest (greatest xs) h.greatest)) (fractions.same_trans _ _ _ e (same_of b.least (least xs) h.least))
 
@@ -66,7 +67,8 @@ module _ (b : Bounds) (xs : List Fraction) (h : AreBounds b xs) where
   unfolding fraction_of
   bounds_same s =
       let e = fractions.same_trans _ _ _ (same_of b.greatest (greatest xs) h.greatest) (fractions.same_trans _ _ _ s (fractions.same_sym _ _ (same_of b.least (least xs) h.least))) in
-      sym (subst (λ z. b.greatest.num *ℤ z ≡ b.least.num *ℤ b.greatest.den) (sym b.least.positive) (subst (λ z. b.greatest.num *ℤ pos (unsigned_abs b.least.den) ≡ b.least.num *ℤ z) (sym b.greatest.positive) e.crossed))
+      sym (subst (λ z. b.greatest.num *ℤ z ≡ b.least.num *ℤ b.greatest.den) (sym b.least.positive)
+      (subst (λ z. b.greatest.num *ℤ pos (unsigned_abs b.least.den) ≡ b.least.num *ℤ z) (sym b.greatest.positive) e.crossed))
 
   minus_null : Same (greatest xs) (least xs) → (minus (greatest xs) (least xs)).numerator ≡ pos 0
   unfolding minus

@@ -23,7 +23,8 @@ use Rattle.std.proofs.lemmas.Bool.{false≢true}
 -- ---- two parts with a byte between them
 
 -- tokens, a gap and the tokens after it
-IsLexed-append : (bytes : List ℕ) (end place far : ℕ) (ts us : List Token) (fault : Option Fault) → AreTokens bytes 0 ts end → IsGap bytes end place → AreTokens bytes place us far → IsLexedEnd bytes far fault → IsLexed bytes (ts ++ us) fault
+IsLexed-append : (bytes : List ℕ) (end place far : ℕ) (ts us : List Token) (fault : Option Fault) → AreTokens bytes 0 ts end
+    → IsGap bytes end place → AreTokens bytes place us far → IsLexedEnd bytes far fault → IsLexed bytes (ts ++ us) fault
 IsLexed-append bytes end place far ts [] fault before gap after ends = record {
   end = end;
   tokens_are = AreTokens-append bytes 0 end end ts [] before refl;

@@ -84,7 +84,10 @@ Spells-next line text xs ys first second =
     subst (λ (t : List ℕ). Spells t (xs ++ ys)) (sym (append_assoc line (10 ∷ []) text)) (Spells-line line text xs ys first second)
 
 -- any number of lines, each with a line feed after it
-pub Spells-lines : {A : Type 0} (line : A → List ℕ) (lexemes : A → List Lexeme) (items : List A) → All (λ a. Spells (line a) (lexemes a)) items → Spells (flat_map (λ a. line a ++ 10 ∷ []) items) (flat_map lexemes items)
+pub Spells-lines : {A : Type 0} (line : A → List ℕ) (lexemes : A → List Lexeme) (items : List A)
+    → All (λ a. Spells (line a) (lexemes a)) items → Spells (flat_map (λ a. line a ++ 10 ∷ []) items) (flat_map lexemes items)
 Spells-lines line lexemes [] all = Spells-nil
 Spells-lines line lexemes (a ∷ items) all =
-    Spells-next (line a) (flat_map (λ b. line b ++ 10 ∷ []) items) (lexemes a) (flat_map lexemes items) (All-head (λ b. Spells (line b) (lexemes b)) a items all) (Spells-lines line lexemes items (All-tail (λ b. Spells (line b) (lexemes b)) a items all))
+    Spells-next (line a) (flat_map (λ b. line b ++ 10 ∷ []) items) (lexemes a) (flat_map lexemes items)
+    (All-head (λ b. Spells (line b) (lexemes b)) a items all)
+    (Spells-lines line lexemes items (All-tail (λ b. Spells (line b) (lexemes b)) a items all))

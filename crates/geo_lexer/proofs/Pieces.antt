@@ -147,7 +147,8 @@ pub record IsSamePiece (kind other : Kind) (end far : ℕ) : Type 0 where
 
 pub same_piece : (bytes : List ℕ) (kind other : Kind) (start end far : ℕ) → IsPieceAt bytes kind start end → IsPieceAt bytes other start far → IsSamePiece kind other end far
 same_piece bytes kind other start end far at too =
-    let kinds : kind ≡ other = sym (kind_is kind (get_or bytes start 0) (first_of_piece bytes kind start end at)) ∙ kind_is other (get_or bytes start 0) (first_of_piece bytes other start far too) in record {
+    let kinds : kind ≡ other = sym (kind_is kind (get_or bytes start 0) (first_of_piece bytes kind start end at))
+    ∙ kind_is other (get_or bytes start 0) (first_of_piece bytes other start far too) in record {
       kinds = kinds;
       ends = same_end bytes other start end far (subst (λ (k : Kind). IsPieceAt bytes k start end) kinds at) too;
     }

@@ -41,7 +41,8 @@ IsWordAt-run bytes start end inside letter run = record {
 }
 
 -- a token of a kind from one place to another is what was asked of it
-pub token_is : (bytes : List ℕ) (t : Token) (kind : Kind) (start end : ℕ) → t.kind ≡ kind → t.start ≡ start → t.end ≡ end → IsTokenAt bytes kind start end → (t.start ≡ start) × IsTokenAt bytes t.kind t.start t.end
+pub token_is : (bytes : List ℕ) (t : Token) (kind : Kind) (start end : ℕ) → t.kind ≡ kind → t.start ≡ start → t.end ≡ end
+    → IsTokenAt bytes kind start end → (t.start ≡ start) × IsTokenAt bytes t.kind t.start t.end
 token_is bytes t kind start end kind_is start_is end_is at = (start_is, rw (kind_is, start_is, end_is) at)
 
 -- a fault at a place is what was asked of it
@@ -98,7 +99,9 @@ bare_minus bytes start inside minus stops = record {
 }
 
 -- a digit or a `-` that begins no decimal text begins nothing
-pub BeginsNothing-run : (bytes : List ℕ) (start end : ℕ) → start < length bytes → IsTrue (is_digit (slice_index bytes start)) ⊎ (slice_index bytes start ≡ 45) → IsRun is_digit bytes (start + 1) end → ¬ (IsDecimal (slice_range bytes start end)) → BeginsNothing bytes start
+pub BeginsNothing-run : (bytes : List ℕ) (start end : ℕ) → start < length bytes → IsTrue (is_digit (slice_index bytes start))
+    ⊎ (slice_index bytes start ≡ 45) → IsRun is_digit bytes (start + 1) end → ¬ (IsDecimal (slice_range bytes start end))
+    → BeginsNothing bytes start
 BeginsNothing-run bytes start end inside (inl digit) run none =
     absurd (none (number_of_digit bytes start end inside digit run))
 BeginsNothing-run bytes start end inside (inr minus) run none =

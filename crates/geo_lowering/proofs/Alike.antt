@@ -78,7 +78,8 @@ seen_by version word (suc zero) (point_argument a ∷ point_argument b ∷ numbe
     then numbered (λ l r. turned_along (l.point a.0) (l.point b.0) r) e
     else numbered (λ l r. along (l.point a.0) (l.point a.0) (l.point b.0) r) e
 seen_by version word (suc zero) (point_argument a ∷ point_argument b ∷ []) = sight version [] (by_letter word 111 (Online a b) (by_letter word 109 (Midpoint a b) (Symmetric a b)))
-seen_by version word (suc zero) (point_argument a ∷ point_argument b ∷ point_argument c ∷ []) = sight version [] (by_letter word 102 (Foot a b c) (by_letter word 116 (Translate a b c) (Inverse a b c)))
+seen_by version word (suc zero) (point_argument a ∷ point_argument b ∷ point_argument c ∷ []) =
+    sight version [] (by_letter word 102 (Foot a b c) (by_letter word 116 (Translate a b c) (Inverse a b c)))
 seen_by version word (suc (suc zero)) (point_argument a ∷ point_argument b ∷ point_argument c ∷ []) =
     sight version []
     (by_letter word 114 (Reflect a b c)

@@ -251,7 +251,9 @@ programs_have_lowered_forms version p w short =
     let M = numbers_had p.commands in
     let over = are_steps r.nodes 0 M r.steps (subst (λ gs. AreFormsOver 0 M gs) (sym r.forms.formed) (program_over version p w)) r.forms.stored in
     let count : length r.steps ≡ points_past version 0 p.commands =
-    sym (length-map r.steps (step_form r.nodes)) ∙ ap length r.forms.formed ∙ (let q : length fs ≡ past 0 fs = let e : past 0 fs ≡ 0 + length fs = past-length 0 fs in omega arith in q) ∙ past_all version p p.commands 0 0 in
+    sym (length-map r.steps (step_form r.nodes)) ∙ ap length r.forms.formed
+    ∙ (let q : length fs ≡ past 0 fs = let e : past 0 fs ≡ 0 + length fs = past-length 0 fs in omega arith in q)
+    ∙ past_all version p p.commands 0 0 in
     let points : points_past version 0 p.commands ≤ 512 = points_within version p w in (
       record {
         construction = record { nodes = r.nodes; steps = r.steps; params = M };

@@ -41,7 +41,8 @@ module _ (r : Reading) (word : List ℕ) (rest : List Slot) where
   pub begin_command-prove : is_text word (codes "prove") ≡ true → begin_command r word rest ≡ taken (completed r) statement_slots
   begin_command-prove h = ap (λ b. by_word b (due_behind word commands) r rest) h
 
-  pub begin_command-due : (due : Option (List Slot)) → is_text word (codes "prove") ≡ false → due ≡ due_behind word commands → begin_command r word rest ≡ follow (completed r) due (command_slot ∷ rest)
+  pub begin_command-due : (due : Option (List Slot)) → is_text word (codes "prove") ≡ false → due ≡ due_behind word commands
+      → begin_command r word rest ≡ follow (completed r) due (command_slot ∷ rest)
   begin_command-due due h is = ap (λ b. by_word b (due_behind word commands) r rest) h ∙ ap (λ o. follow (completed r) o (command_slot ∷ rest)) (sym is)
 
 -- behind another word than `assume` a new name is due
@@ -74,10 +75,13 @@ module _ (s : Reader) (word : List ℕ) (is : next_lexeme s.cursor.tokens ≡ So
         points = refl;
         terms = refl;
         follows = λ rest. first_fault-taken _ _ _ _ s.cursor.tokens s.cursor.end s.cursor.stop (word_lexeme word) is
-            (begin_command-due (reading s.names [] s.points) word rest (Some (command_due command)) h (due ∙ sym (due_behind-naming word no_assume)) ∙ ap (λ r. taken r (command_due command ++ command_slot ∷ rest)) (completed_none s.names s.points));
+            (begin_command-due (reading s.names [] s.points) word rest (Some (command_due command)) h
+            (due ∙ sym (due_behind-naming word no_assume))
+            ∙ ap (λ r. taken r (command_due command ++ command_slot ∷ rest)) (completed_none s.names s.points));
       }
 
-  pub Refuses-no_command : is_text word (codes "prove") ≡ false → is_text word (codes "assume") ≡ false → None ≡ due_behind word naming_commands → Refuses (command_slot ∷ []) s (fault_here 4 s.cursor.tokens s.cursor.end s.cursor.stop)
+  pub Refuses-no_command : is_text word (codes "prove") ≡ false → is_text word (codes "assume") ≡ false
+      → None ≡ due_behind word naming_commands → Refuses (command_slot ∷ []) s (fault_here 4 s.cursor.tokens s.cursor.end s.cursor.stop)
   Refuses-no_command h no_assume none =
       Refuses-token (command_slot ∷ []) s (word_lexeme word) is 4 (λ begun rest. begin_command-due (reading s.names begun s.points) word rest None h (none ∙ sym (due_behind-naming word no_assume)))
 
@@ -104,7 +108,8 @@ module _ (s : Reader) (word : List ℕ) (is : next_lexeme s.cursor.tokens ≡ So
   -- A NEW NAME
 
   -- a word that can be no new name is refused
-  pub Refuses-no_new_name : (kind : NameKind) (points refusal : ℕ) → IsNoNewName s.names word refusal → Refuses (new_name_slot kind points ∷ []) s (fault_here refusal s.cursor.tokens s.cursor.end s.cursor.stop)
+  pub Refuses-no_new_name : (kind : NameKind) (points refusal : ℕ) → IsNoNewName s.names word refusal
+      → Refuses (new_name_slot kind points ∷ []) s (fault_here refusal s.cursor.tokens s.cursor.end s.cursor.stop)
   Refuses-no_new_name kind points refusal h =
       Refuses-token (new_name_slot kind points ∷ []) s (word_lexeme word) is refusal (λ begun rest. h.may_not (reading s.names begun s.points) kind points rest refl)
 
@@ -112,10 +117,13 @@ module _ (s : Reader) (word : List ℕ) (is : next_lexeme s.cursor.tokens ≡ So
     -- a new name with which there are too many points is refused
     pub Refuses-points : (kind : NameKind) → nat_le (s.points + points) 512 ≡ false → Refuses (new_name_slot kind points ∷ []) s (fault_here 10 s.cursor.tokens s.cursor.end s.cursor.stop)
     Refuses-points kind many =
-        Refuses-token (new_name_slot kind points ∷ []) s (word_lexeme word) is 10 (λ begun rest. begin_name-new (reading s.names begun s.points) s.names refl kind points word rest false new.free new.undeclared many)
+        Refuses-token (new_name_slot kind points ∷ []) s (word_lexeme word) is 10
+        (λ begun rest. begin_name-new (reading s.names begun s.points) s.names refl kind points word rest false new.free new.undeclared
+        many)
 
     -- another one is read
-    pub ReadsNewName-token : nat_le (s.points + points) 512 ≡ true → s.points + points ≤ 512 → IsWord word → (Contains reserved_words word → ⊥) → ReadsNewName points s (record (advanced s) { points = s.points + points }) word
+    pub ReadsNewName-token : nat_le (s.points + points) 512 ≡ true → s.points + points ≤ 512 → IsWord word
+        → (Contains reserved_words word → ⊥) → ReadsNewName points s (record (advanced s) { points = s.points + points }) word
     ReadsNewName-token few below valid free = record {
       passes = record { spelt = (Passes-token s (word_lexeme word) is).spelt; stop = refl };
       names = refl;
@@ -135,17 +143,21 @@ abbrev by_completed : Reading → Bool → Option (List Slot) → List Slot → 
 by_completed r prove due rest = if prove then taken r statement_slots else follow r due (command_slot ∷ rest)
 
 -- where a command is due, the name that is begun may be declared
-next-completed : (names begun : List Name) (points : ℕ) (rest : List Slot) (l : Lexeme) → next (reading names begun points) (command_slot ∷ rest) l ≡ next (reading (names ++ begun) [] points) (command_slot ∷ rest) l
+next-completed : (names begun : List Name) (points : ℕ) (rest : List Slot) (l : Lexeme)
+    → next (reading names begun points) (command_slot ∷ rest) l ≡ next (reading (names ++ begun) [] points) (command_slot ∷ rest) l
 next-completed names begun points rest (word_lexeme word) =
     ap (λ r. by_completed r (is_text word (codes "prove")) (due_behind word commands) rest) (sym (completed_none (names ++ begun) points))
 next-completed names begun points rest (number_lexeme n) = refl
 next-completed names begun points rest open_brace = refl
 next-completed names begun points rest close_brace = refl
 
-fault_from-completed : (names begun : List Name) (points : ℕ) (rest : List Slot) (k : Coming) → fault_from (reading names begun points) (command_slot ∷ rest) k ≡ fault_from (reading (names ++ begun) [] points) (command_slot ∷ rest) k
+fault_from-completed : (names begun : List Name) (points : ℕ) (rest : List Slot) (k : Coming)
+    → fault_from (reading names begun points) (command_slot ∷ rest) k ≡ fault_from (reading (names ++ begun) [] points)
+    (command_slot ∷ rest) k
 fault_from-completed names begun points rest k = by k.tokens
   where
-    by : (tokens : List (Lexeme × ℕ)) → first_fault (reading names begun points) (command_slot ∷ rest) tokens k.end k.stop ≡ first_fault (reading (names ++ begun) [] points) (command_slot ∷ rest) tokens k.end k.stop
+    by : (tokens : List (Lexeme × ℕ)) → first_fault (reading names begun points) (command_slot ∷ rest) tokens k.end k.stop ≡ first_fault
+        (reading (names ++ begun) [] points) (command_slot ∷ rest) tokens k.end k.stop
     by [] = refl
     by (t ∷ ts) =
         ap (λ (o : Outcome). elim o [ refused refusal ↦ Some (fault_at t.1 refusal) | taken s more ↦ first_fault s more ts k.end k.stop ]) (next-completed names begun points rest t.0)

@@ -32,7 +32,13 @@ points_any nodes wider _ = refl
 pub points_kept : (nodes wider : Store) (commands : List Command) → sum_by (λ c. (command_form wider c).points) commands ≡ sum_by (λ c. (command_form nodes c).points) commands
 points_kept nodes wider [] = refl
 points_kept nodes wider (c ∷ commands) =
-    omega (arith, sum_by-cons (λ (k : Command). (command_form wider k).points) c commands, sum_by-cons (λ (k : Command). (command_form nodes k).points) c commands, points_any nodes wider c, points_kept nodes wider commands)
+    omega (
+      arith,
+      sum_by-cons (λ (k : Command). (command_form wider k).points) c commands,
+      sum_by-cons (λ (k : Command). (command_form nodes k).points) c commands,
+      points_any nodes wider c,
+      points_kept nodes wider commands,
+    )
 
 pub KeepsTrees-extends : (old new : Store) → Extends old new → KeepsTrees old new
 KeepsTrees-extends old new h = record { longer = h.longer; trees = h.others }
@@ -89,7 +95,9 @@ module _ (a b c d : Reader) (commands : List Command) (word : CommandWord) (comm
       (commands_lexemes-kept [] b.names k.own b.names b.terms d.terms commands h.sketches refl (KeepsTrees-extends b.terms d.terms terms_extend) h.made)
       ∙ ap (λ ls. commands_lexemes b.names b.terms b.names commands h.sketches ++ (ls ++ sketch_lexemes k.sketch) ∷ []) (command_lexemes-append b.names k.own d.terms k.own command is_command)
 
-  lexemes_are : flat_map (λ line. line) (commands_lexemes longer d.terms longer (commands ++ command ∷ []) (h.sketches ++ k.sketch ∷ [])) ≡ flat_map (λ line. line) (commands_lexemes b.names b.terms b.names commands h.sketches) ++ own
+  lexemes_are : flat_map (λ line. line)
+      (commands_lexemes longer d.terms longer (commands ++ command ∷ []) (h.sketches ++ k.sketch ∷ [])) ≡ flat_map (λ line. line)
+      (commands_lexemes b.names b.terms b.names commands h.sketches) ++ own
   lexemes_are =
       ap (flat_map (λ line. line)) lines_are
       ∙ flat_map-append (λ (line : List Lexeme). line) (commands_lexemes b.names b.terms b.names commands h.sketches) (own ∷ [])

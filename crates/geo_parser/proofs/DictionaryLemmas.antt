@@ -88,7 +88,8 @@ length-names_of kind (name ∷ names) = by (is_kind name.kind kind) (length-name
     by false h = omega arith
 
 -- the counts are those of the kinds
-pub count_of-dictionary : (names : List Name) (look_up : List ℕ → Option Meaning) (counts : Counts) (kind : NameKind) → IsDictionary names look_up counts → count_of counts kind ≡ length (names_of kind names)
+pub count_of-dictionary : (names : List Name) (look_up : List ℕ → Option Meaning) (counts : Counts) (kind : NameKind)
+    → IsDictionary names look_up counts → count_of counts kind ≡ length (names_of kind names)
 count_of-dictionary names look_up counts Point h = h.points
 count_of-dictionary names look_up counts Param h = h.params
 count_of-dictionary names look_up counts Line h = h.lines
@@ -153,7 +154,8 @@ module _ (names : List Name) (word : List ℕ) (kind : NameKind) where
     count_same k n h other = h ∙ ap length (sym (names_of-push_other k names new_name other))
 
 -- with the new word, its kind counted once more, they are a dictionary of the longer list
-pub IsDictionary-declare : (names : List Name) (word : List ℕ) (kind : NameKind) (look_up : List ℕ → Option Meaning) (counts : Counts) (number : ℕ) → IsDictionary names look_up counts → IsNew names word → number ≡ count_of counts kind
+pub IsDictionary-declare : (names : List Name) (word : List ℕ) (kind : NameKind) (look_up : List ℕ → Option Meaning) (counts : Counts)
+    (number : ℕ) → IsDictionary names look_up counts → IsNew names word → number ≡ count_of counts kind
     → IsDictionary (names ++ new_name names word kind ∷ []) (longer names word kind look_up number) (counted counts kind)
 IsDictionary-declare names word Point look_up counts number valid new next = record {
   tells = λ q. tells_more names word Point look_up counts number valid new next q (bytes_eq word q) refl;

@@ -78,8 +78,10 @@ pub Refuses-at : (word word' : CommandWord) (s : Reader) (f : Fault) → word �
 Refuses-at word word' s f e h = let P : CommandWord → Type 0 = λ w. Refuses (command_slots w) s f in subst P (sym e) h
 
 -- a statement with these arguments
-pub ReadsStated-made : (word : StatementWord) (arguments : List Argument) (old new : Reader) (statement : Statement) → ReadsArguments arguments old new → flat_map argument_slots arguments ≡ statement_due word
-    → (statement_form new.terms statement).word ≡ statement_text word → (statement_form new.terms statement).arguments ≡ arguments → AreSidesStored new.terms statement → ReadsStated word old new statement
+pub ReadsStated-made : (word : StatementWord) (arguments : List Argument) (old new : Reader) (statement : Statement)
+    → ReadsArguments arguments old new → flat_map argument_slots arguments ≡ statement_due word
+    → (statement_form new.terms statement).word ≡ statement_text word → (statement_form new.terms statement).arguments ≡ arguments
+    → AreSidesStored new.terms statement → ReadsStated word old new statement
 ReadsStated-made word arguments old new statement h slots text made stored =
     let P : List Slot → Type 0 = λ F. Reads F old new (flat_map (argument_lexemes old.names) arguments) in
     let Q : List Argument → Type 0 = λ xs. Reads (statement_due word) old new (flat_map (argument_lexemes old.names) xs) in
@@ -123,7 +125,8 @@ Refuses-word a b f o h =
     Refuses-then (open_slot 0 ∷ []) (statement_slot ∷ close_slot ∷ end_slot ∷ []) a b _ o f (Refuses-first (statement_slot ∷ []) (close_slot ∷ end_slot ∷ []) b f h)
 
 -- `{`, the statement and `}`
-module _ (a b c d : Reader) (word : StatementWord) (statement : Statement) (o : Reads (open_slot 0 ∷ []) a b (open_brace ∷ [])) (w : ReadsStatementWord word b c) (s : ReadsStated word c d statement) where
+module _ (a b c d : Reader) (word : StatementWord) (statement : Statement) (o : Reads (open_slot 0 ∷ []) a b (open_brace ∷ []))
+    (w : ReadsStatementWord word b c) (s : ReadsStated word c d statement) where
   within : Reads (statement_slot ∷ []) b d (word_lexeme (statement_text word) ∷ flat_map (argument_lexemes c.names) (statement_form d.terms statement).arguments)
   within = Reads-statement word b c w d _ s.reads
 
@@ -143,11 +146,13 @@ module _ (a b c d : Reader) (word : StatementWord) (statement : Statement) (o : 
         let all = Reads-then (open_slot 0 ∷ []) (statement_slot ∷ close_slot ∷ []) a b _ o e _ (Reads-then (statement_slot ∷ []) (close_slot ∷ []) b d _ within e _ k) in
         let names : c.names ≡ a.names = w.names ∙ o.names in
         let kept : statement_form e.terms statement ≡ statement_form d.terms statement = statement_form-kept d.terms e.terms (KeepsTrees-extends d.terms e.terms k.terms) statement s.sides in
-        let P : List ℕ → List Name → StatementForm → Type 0 = λ text ns f. Reads (open_slot 0 ∷ statement_slot ∷ close_slot ∷ []) a e (braced (word_lexeme text ∷ flat_map (argument_lexemes ns) f.arguments)) in
+        let P : List ℕ → List Name → StatementForm → Type 0 = λ text ns f. Reads (open_slot 0 ∷ statement_slot ∷ close_slot ∷ []) a e
+        (braced (word_lexeme text ∷ flat_map (argument_lexemes ns) f.arguments)) in
         let Q : StatementForm → Type 0 = λ f. Reads (open_slot 0 ∷ statement_slot ∷ close_slot ∷ []) a e (braced (word_lexeme f.word ∷ flat_map (argument_lexemes a.names) f.arguments)) in
         let R : StatementForm → Type 0 = λ f. All (IsArgument (scope a)) f.arguments in
         record {
-          reads = subst Q (sym kept) (subst (λ text. P text a.names (statement_form d.terms statement)) (sym s.text) (subst (λ ns. P (statement_text word) ns (statement_form d.terms statement)) names all));
+          reads = subst Q (sym kept) (subst (λ text. P text a.names (statement_form d.terms statement)) (sym s.text)
+              (subst (λ ns. P (statement_text word) ns (statement_form d.terms statement)) names all));
           valid = subst R (sym kept) (subst (λ ns. All (IsArgument (scope_of empty_scope ns)) (statement_form d.terms statement).arguments) names s.valid);
           sides = AreSidesStored-kept d.terms e.terms (KeepsTrees-extends d.terms e.terms k.terms) statement s.sides;
           ended = ended;

@@ -66,7 +66,8 @@ module _ (r : Reading) (names : List Name) (same : r.declared ≡ names) (kind :
       ap (λ b. by_free b (declared_name r word) few (begun r kind points word) rest) h
       ∙ ap (λ o. by_new o few (begun r kind points word) rest) (declared_name_lem r names word (Some name) same some)
 
-  pub begin_name-new : (b : Bool) → is_reserved word ≡ false → name_of names word ≡ None → nat_le (r.points + points) 512 ≡ b → begin_name r kind points word rest ≡ by_points b (begun r kind points word) rest
+  pub begin_name-new : (b : Bool) → is_reserved word ≡ false → name_of names word ≡ None → nat_le (r.points + points) 512 ≡ b
+      → begin_name r kind points word rest ≡ by_points b (begun r kind points word) rest
   begin_name-new b h none room =
       ap (λ c. by_free c (declared_name r word) few (begun r kind points word) rest) h
       ∙ ap (λ o. by_new o few (begun r kind points word) rest) (declared_name_lem r names word None same none)

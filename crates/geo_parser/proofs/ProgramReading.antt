@@ -145,4 +145,10 @@ module _ (bytes : List ℕ) (tokens : List Token) (stop : Option Fault) (lexed :
   pub short : length (canonical_text read_source) ≤ 2 * length bytes
   short =
       let row = StandInRow-lexed bytes tokens stop lexed in
-      omega (arith, canonical_text_short read_source h.read.sketches (AreSketches-length commands h.read.sketches h.read.sketched), ap (sum_by lexeme_size) meant, lexemes_short bytes 0 lexed.end tokens lexed.tokens_are, row.end_within)
+      omega (
+        arith,
+        canonical_text_short read_source h.read.sketches (AreSketches-length commands h.read.sketches h.read.sketched),
+        ap (sum_by lexeme_size) meant,
+        lexemes_short bytes 0 lexed.end tokens lexed.tokens_are,
+        row.end_within,
+      )

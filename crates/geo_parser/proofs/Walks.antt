@@ -51,7 +51,8 @@ due_at_end None = []
 due_at_end (Some p) = p.1
 
 -- where no lexeme is refused, only the end may be
-pub first_fault-walk : (r s : Reading) (slots rest : List Slot) (tokens : List (Lexeme × ℕ)) (end : ℕ) → walk r slots (map (λ t. t.0) tokens) ≡ Some (s, rest) → first_fault r slots tokens end None ≡ end_fault rest end None
+pub first_fault-walk : (r s : Reading) (slots rest : List Slot) (tokens : List (Lexeme × ℕ)) (end : ℕ)
+    → walk r slots (map (λ t. t.0) tokens) ≡ Some (s, rest) → first_fault r slots tokens end None ≡ end_fault rest end None
 unfolding due_at_end
 first_fault-walk r s slots rest [] end h = ap (λ o. end_fault (due_at_end o) end None) h
 first_fault-walk r s slots rest (t ∷ ts) end h = by (next r slots t.0) h (λ q more. first_fault-walk q s more rest ts end)

@@ -54,7 +54,9 @@ module _ (run : Run) (problem : Problem) (ints : List ℤ) (h : IsRun run proble
   back_items =
       ap (λ (i : ℕ). map (item_form problem.steps.nodes) (take (end - i) (drop i items))) middle_is
       ∙ ap (λ (i : ℕ). map (item_form problem.steps.nodes) (take (i - middle run problem ints h k c at old t) (drop (middle run problem ints h k c at old t) items))) ends.end_same
-      ∙ ap (λ (is : List Item). map (item_form problem.steps.nodes) (take (count run problem ints h k c at old t - middle run problem ints h k c at old t) (drop (middle run problem ints h k c at old t) is))) ends.same
+      ∙ ap (λ (is : List Item). map (item_form problem.steps.nodes)
+      (take (count run problem ints h k c at old t - middle run problem ints h k c at old t)
+      (drop (middle run problem ints h k c at old t) is))) ends.same
       ∙ second_items run problem ints h k c at old t
 
   pub front_fails : (error : PlaceError) → FirstFails old.sketch nodes front old.tested error → Stops run (turns_of p) error

@@ -287,7 +287,9 @@ module _ (p : Source) (w : IsWellFormed p) (k : ℕ) (c : Command) (at : slice_g
       command_stop s = stops_in run (turns_of p) done (E ++ K ++ W ++ L) (others ++ statement_turns ++ goal_turns) e all_turns d s
 
       pub early_stop : Stops run E e → Stops run (turns_of p) e
-      early_stop s = command_stop (stops_in run (E ++ K ++ W ++ L) [] E (K ++ W ++ L) e (append_assoc (E ++ K) W L ∙ append_assoc E K (W ++ L) ∙ ap (λ (ts : List LineTurn). E ++ ts) (sym (append_assoc K W L))) tt s)
+      early_stop s =
+          command_stop (stops_in run (E ++ K ++ W ++ L) [] E (K ++ W ++ L) e
+          (append_assoc (E ++ K) W L ∙ append_assoc E K (W ++ L) ∙ ap (λ (ts : List LineTurn). E ++ ts) (sym (append_assoc K W L))) tt s)
 
       pub make_stop : AllByRecursion P E → Stops run K e → Stops run (turns_of p) e
       make_stop a s = command_stop (stops_in run (E ++ K ++ W ++ L) E K (W ++ L) e (append_assoc (E ++ K) W L) a s)
@@ -306,7 +308,9 @@ module _ (p : Source) (w : IsWellFormed p) (k : ℕ) (c : Command) (at : slice_g
 
   -- SCOPES
   scopes : (placed : Placement) → Behind Two p placed 0 0 0 0 0 before c
-  scopes placed = behind Two p placed before rest c 0 0 0 0 0 (no_bounds l) (subst (λ cs. AreNamed p.nodes 0 0 0 cs) commands_are (named_program p w)) (subst (λ cs. AreLaid Two l 0 0 0 0 0 cs) commands_are (laid_program Two p.commands))
+  scopes placed =
+      behind Two p placed before rest c 0 0 0 0 0 (no_bounds l) (subst (λ cs. AreNamed p.nodes 0 0 0 cs) commands_are (named_program p w))
+      (subst (λ cs. AreLaid Two l 0 0 0 0 0 cs) commands_are (laid_program Two p.commands))
 
   pub laid : IsLaid Two l x y j n m c
   laid = laid_here l before rest c 0 0 0 0 0 (subst (λ cs. AreLaid Two l 0 0 0 0 0 cs) commands_are (laid_program Two p.commands))
@@ -423,7 +427,9 @@ module _ (p : Source) (w : IsWellFormed p) (k : ℕ) (c : Command) (at : slice_g
       let t = listed_split key (found_at line early) (found_at line late ++ found_later) old result (subst (λ fs. IsListed key fs back result) same s.2) in
       let u = listed_split key (found_at line late) found_later (old ++ t.0) result t.2 in
       let v = listed_front key found_later ((old ++ t.0) ++ u.0) result u.2 in
-      let over_old = listed_hold key (IsConditionOver x y j) found_before [] old b tt (found_over p.nodes before 0 0 0 1 (named_front p.nodes before (c ∷ rest) 0 0 0 (subst (λ cs. AreNamed p.nodes 0 0 0 cs) commands_are (named_program p w)))) in
+      let over_old = listed_hold key (IsConditionOver x y j) found_before [] old b tt
+      (found_over p.nodes before 0 0 0 1
+      (named_front p.nodes before (c ∷ rest) 0 0 0 (subst (λ cs. AreNamed p.nodes 0 0 0 cs) commands_are (named_program p w)))) in
       let over_first = fresh_hold key (λ f. IsConditionOver x y j f.condition) (found_at line early) old t.0 t.1 (found_line x y j line early (early_over p.nodes x y j c (names placed))) in
       record {
         first = t.0;
@@ -437,7 +443,9 @@ module _ (p : Source) (w : IsWellFormed p) (k : ℕ) (c : Command) (at : slice_g
         second_lines = fresh_hold key (λ f. f.line ≡ line) (found_at line late) (old ++ t.0) u.0 u.1 (at_one_line line late);
         later_lines = fresh_hold key (λ f. line < f.line) found_later ((old ++ t.0) ++ u.0) v.0 (subst (λ fs. IsListed key ((old ++ t.0) ++ u.0) found_later fs) v.1 u.2)
             (each_append (λ f. line < f.line) (found_from p.nodes (counted kind.Point (named c) x) (suc line) rest) (found_at (suc (length p.commands)) (statement_conditions p.nodes p.statement))
-            (later_from p.nodes rest line (suc line) (counted kind.Point (named c) x) (omega arith)) (later_at line (suc (length p.commands)) (let q = below_all in omega arith) (statement_conditions p.nodes p.statement)));
+            (later_from p.nodes rest line (suc line) (counted kind.Point (named c) x) (omega arith))
+            (later_at line (suc (length p.commands)) (let q = below_all in omega arith) (statement_conditions p.nodes p.statement)));
         next = subst (λ fs. IsListed key [] fs ((old ++ t.0) ++ u.0)) (sym found_next)
-            (listed_join key found_before (found_at line early ++ found_at line late) [] old ((old ++ t.0) ++ u.0) b (listed_join key (found_at line early) (found_at line late) old (old ++ t.0) ((old ++ t.0) ++ u.0) t.1 u.1));
+            (listed_join key found_before (found_at line early ++ found_at line late) [] old ((old ++ t.0) ++ u.0) b
+            (listed_join key (found_at line early) (found_at line late) old (old ++ t.0) ((old ++ t.0) ++ u.0) t.1 u.1));
       }

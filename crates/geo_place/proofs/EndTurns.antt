@@ -98,10 +98,16 @@ module _ (p : Source) (w : IsWellFormed p) (v : ProgramValues) (placed : Placeme
   O t = TurnOver p w v placed r t.turn
 
   pub stated_terms : AllByRecursion (λ d. IsOver N M (condition_term (layout_of Two p.commands) d)) (statement_conditions p.nodes p.statement)
-  stated_terms = tests O last (statement_conditions p.nodes p.statement) (line_turns O last (map test (statement_conditions p.nodes p.statement)) (each_back O command_part test_part (each_front O (command_part ++ test_part) judge_part (turns_over p w v placed r))))
+  stated_terms =
+      tests O last (statement_conditions p.nodes p.statement)
+      (line_turns O last (map test (statement_conditions p.nodes p.statement))
+      (each_back O command_part test_part (each_front O (command_part ++ test_part) judge_part (turns_over p w v placed r))))
 
   goal_terms : AllByRecursion (λ g. IsOver N M (goal_term (layout_of Two p.commands) p.nodes g)) (statement_goals p.nodes p.statement)
-  goal_terms = judges O last (statement_goals p.nodes p.statement) (line_turns O last (map judge (statement_goals p.nodes p.statement)) (each_back O (command_part ++ test_part) judge_part (turns_over p w v placed r)))
+  goal_terms =
+      judges O last (statement_goals p.nodes p.statement)
+      (line_turns O last (map judge (statement_goals p.nodes p.statement))
+      (each_back O (command_part ++ test_part) judge_part (turns_over p w v placed r)))
 
   -- what is listed for the statement
   pub record Stated (old : List Found) : Type 0 where

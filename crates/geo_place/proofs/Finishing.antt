@@ -62,7 +62,10 @@ module _ (run : Run) (problem : Problem) (ints : List ℤ) (h : IsRun run proble
   rest_items =
       sym (drop-map (item_form nodes) progress.tested problem.conditions) ∙ ap (λ (fs : List ItemForm). drop progress.tested fs) h.written
       ∙ drop-map (condition_item Two p) progress.tested run.conditions
-      ∙ ap (λ (fs : List Found). map (condition_item Two p) fs) (ap (λ (fs : List Found). drop progress.tested fs) stated.whole ∙ drop_at (take progress.tested run.conditions) stated.more progress.tested (length-take-le progress.tested run.conditions t.tested))
+      ∙ ap (λ (fs : List Found). map (condition_item Two p) fs)
+      (ap (λ (fs : List Found). drop progress.tested fs) stated.whole
+      ∙ drop_at (take progress.tested run.conditions) stated.more progress.tested
+      (length-take-le progress.tested run.conditions t.tested))
 
   module _ (items : List Item) (e : items ≡ drop progress.tested problem.conditions) where
     these : map (item_form nodes) items ≡ map (condition_item Two p) stated.more
@@ -83,7 +86,8 @@ module _ (run : Run) (problem : Problem) (ints : List ℤ) (h : IsRun run proble
         (stated_terms p h.formed run.values run.placed h.reckoned run.conditions) items these [] (stated.whole ∙ sym (append-nil (take progress.tested run.conditions ++ stated.more))) h.listed error
         (subst (λ (i : ℕ). FirstFails progress.sketch nodes items i error) (sym (length-take-le progress.tested run.conditions t.tested)) f)))
 
-    pub all_end : AreStoredGoals Two p nodes problem.goals → AllByRecursion (IsItemMet progress.sketch nodes) items → (result : Result Bool PlaceError) → GoalsCome progress.sketch nodes problem.goals result
+    pub all_end : AreStoredGoals Two p nodes problem.goals → AllByRecursion (IsItemMet progress.sketch nodes) items
+        → (result : Result Bool PlaceError) → GoalsCome progress.sketch nodes problem.goals result
         → GoalsEnd p h.formed run.values run.placed h.reckoned run.conditions result
     all_end g m result c =
         goals_end p h.formed run.values run.placed h.reckoned run.conditions progress.sketch nodes same problem.goals g.are.goals g.are.listed g.are.written (stated_pass m) result c

@@ -44,7 +44,9 @@ passed_on (Err e) x P h p = subst P (sym h) p
 
 -- the item at a place, with those before it
 pub parted : {A : Type 0} (xs : List A) (k : ℕ) (x : A) → k < length xs → x ≡ get_or xs k x → xs ≡ take k xs ++ x ∷ drop (suc k) xs
-parted xs k x l e = sym (take-append-drop k xs) ∙ ap (λ ys. take k xs ++ ys) (drop_more xs k x l ∙ ap (λ y. y ∷ drop (k + 1) xs) (sym e) ∙ (let q : k + 1 ≡ suc k = omega arith in ap (λ (i : ℕ). x ∷ drop i xs) q))
+parted xs k x l e =
+    sym (take-append-drop k xs) ∙ ap (λ ys. take k xs ++ ys)
+    (drop_more xs k x l ∙ ap (λ y. y ∷ drop (k + 1) xs) (sym e) ∙ (let q : k + 1 ≡ suc k = omega arith in ap (λ (i : ℕ). x ∷ drop i xs) q))
 
 module _ (sketch : Sketch) (nodes : Store) (items : List Item) (k : ℕ) (item : Item) (l : k < length items) (at : item ≡ get_or items k item) where
   pub first_fails : (earlier : ℕ) (e : PlaceError) → AllByRecursion (IsItemMet sketch nodes) (take k items) → FailsItem sketch nodes item (earlier + k + 1) e → FirstFails sketch nodes items earlier e
@@ -54,7 +56,9 @@ module _ (sketch : Sketch) (nodes : Store) (items : List Item) (k : ℕ) (item :
     after = drop (suc k) items;
     parts = parted items k item l at;
     met = m;
-    fails = subst (λ (i : ℕ). FailsItem sketch nodes item i e) (let q = length-take-le k items (omega arith) in let r : earlier + k + 1 ≡ suc (earlier + length (take k items)) = omega (arith, q) in r) f;
+    fails = subst (λ (i : ℕ). FailsItem sketch nodes item i e)
+        (let q = length-take-le k items (omega arith) in
+        let r : earlier + k + 1 ≡ suc (earlier + length (take k items)) = omega (arith, q) in r) f;
   }
 
   pub stops_goals : (Q : Item → Type 0) → AllByRecursion (IsItemNull sketch nodes) (take k items) → Q item → StopsGoals sketch nodes items Q

@@ -240,7 +240,9 @@ module _ (at : Position) (g : ℕ) (h : IsGcd (unsigned_abs at.x.den) (unsigned_
       go (Err e) made fits past wide X Y = record {
         triple = tt;
         fits = tt;
-        past = λ q. is_past (⊎_elim (λ z. inl (subst IsPast X z)) (λ (z : IsPast (at.y.num *ℤ right) ⊎ IsPast (at.x.den *ℤ left)). inr (⊎_elim (λ y. inl (subst IsPast Y y)) (λ y. inr (subst IsPast wide y)) z)) (past q));
+        past = λ q. is_past (⊎_elim (λ z. inl (subst IsPast X z))
+            (λ (z : IsPast (at.y.num *ℤ right) ⊎ IsPast (at.x.den *ℤ left)). inr
+            (⊎_elim (λ y. inl (subst IsPast Y y)) (λ y. inr (subst IsPast wide y)) z)) (past q));
       }
 
 -- what comes of the products, at other numbers that are the same

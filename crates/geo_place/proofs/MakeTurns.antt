@@ -253,7 +253,8 @@ module _ (run : Run) (line n : ℕ) (fs : List StepForm) where
   pub pass_next : (i : ℕ) (f : StepForm) → slice_get fs i ≡ Some f → AllByRecursion Pass (made i) → (IsTooLarge run.program run.placed (make (n + i) f) → ⊥) → AllByRecursion Pass (made (suc i))
   pass_next i f e h p = subst (λ ts. AllByRecursion Pass ts) (sym (made_next i f e)) (each_append Pass (made i) (record { line = line; turn = make (n + i) f } ∷ []) h ((p, tt), tt))
 
-  pub stop_next : (i : ℕ) (f : StepForm) (e : PlaceError) → slice_get fs i ≡ Some f → AllByRecursion Pass (made i) → Stops run (record { line = line; turn = make (n + i) f } ∷ []) e → Stops run (at_line line (makes n fs)) e
+  pub stop_next : (i : ℕ) (f : StepForm) (e : PlaceError) → slice_get fs i ≡ Some f → AllByRecursion Pass (made i)
+      → Stops run (record { line = line; turn = make (n + i) f } ∷ []) e → Stops run (at_line line (makes n fs)) e
   stop_next i f e at h s =
       let l : i < length fs = get_below fs i f at in
       let long : length (take i fs) ≡ i = length-take-le i fs (omega arith) in

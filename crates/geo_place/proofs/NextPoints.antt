@@ -136,7 +136,8 @@ module _ (run : Run) (problem : Problem) (ints : List ℤ) (h : IsRun run proble
     inside =
         let a = below_all in
         let b : length ints ≡ 2 * length run.values.coordinates + length run.values.numbers =
-        ap (λ (zs : List ℤ). length zs) ints_parts ∙ length-append (pairs run.values.coordinates) run.values.numbers ∙ ap (λ (k : ℕ). k + length run.values.numbers) (pairs_length run.values.coordinates) in
+        ap (λ (zs : List ℤ). length zs) ints_parts ∙ length-append (pairs run.values.coordinates) run.values.numbers
+        ∙ ap (λ (k : ℕ). k + length run.values.numbers) (pairs_length run.values.coordinates) in
         omega (arith, a, b)
 
     at_free : point_place Two run.program.commands (slice_index_or frees sketch.free 0) ≡ n

@@ -37,7 +37,8 @@ module _ (run : Run) (n to line : ℕ) where
         (subst (λ (fs : List StepForm). AllByRecursion (Passes run.program run.placed) (at_line line (makes n fs))) (sym (take_zero between)) tt);
   }
 
-  module _ (problem : Problem) (ints : List ℤ) (h : IsRun run problem ints) (last : to ≤ length problem.steps.steps) (count : ℕ) (sketch : Sketch) (m : AreMade count sketch) (low : n ≤ count) (high : count < to) where
+  module _ (problem : Problem) (ints : List ℤ) (h : IsRun run problem ints) (last : to ≤ length problem.steps.steps) (count : ℕ)
+      (sketch : Sketch) (m : AreMade count sketch) (low : n ≤ count) (high : count < to) where
     pub below : length sketch.points.items < length problem.steps.steps
     below = let a = m.count_is in omega (arith, a, last, high)
 

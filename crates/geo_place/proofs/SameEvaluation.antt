@@ -118,12 +118,14 @@ module _ (p q : Source) (s : SameSource p q) (placed : Placement) where
   large_there : (t u : LineTurn) → P' t ≡ Q' u → IsTooLarge p placed t.turn → IsTooLarge q placed u.turn
   large_there t u e h =
       large_of placed q u.turn
-      (subst (λ (z : LineTask). TaskTooLarge placed (layout_of Two q.commands) z.task) e (subst (λ (l : Layout). TaskTooLarge placed l (P' t).task) (same_layout p q s Two) (large_to placed p t.turn h)))
+      (subst (λ (z : LineTask). TaskTooLarge placed (layout_of Two q.commands) z.task) e
+      (subst (λ (l : Layout). TaskTooLarge placed l (P' t).task) (same_layout p q s Two) (large_to placed p t.turn h)))
 
   large_here : (t u : LineTurn) → P' t ≡ Q' u → IsTooLarge q placed u.turn → IsTooLarge p placed t.turn
   large_here t u e h =
       large_of placed p t.turn
-      (subst (λ (l : Layout). TaskTooLarge placed l (P' t).task) (sym (same_layout p q s Two)) (subst (λ (z : LineTask). TaskTooLarge placed (layout_of Two q.commands) z.task) (sym e) (large_to placed q u.turn h)))
+      (subst (λ (l : Layout). TaskTooLarge placed l (P' t).task) (sym (same_layout p q s Two))
+      (subst (λ (z : LineTask). TaskTooLarge placed (layout_of Two q.commands) z.task) (sym e) (large_to placed q u.turn h)))
 
   right_there : (t u : LineTurn) → P' t ≡ Q' u → IsRight p placed t.turn → IsRight q placed u.turn
   right_there t u e h =
@@ -133,7 +135,8 @@ module _ (p q : Source) (s : SameSource p q) (placed : Placement) where
   right_here : (t u : LineTurn) → P' t ≡ Q' u → IsRight q placed u.turn → IsRight p placed t.turn
   right_here t u e h =
       right_of placed p t.turn
-      (subst (λ (l : Layout). TaskRight placed l (P' t).task) (sym (same_layout p q s Two)) (subst (λ (z : LineTask). TaskRight placed (layout_of Two q.commands) z.task) (sym e) (right_to placed q u.turn h)))
+      (subst (λ (l : Layout). TaskRight placed l (P' t).task) (sym (same_layout p q s Two))
+      (subst (λ (z : LineTask). TaskRight placed (layout_of Two q.commands) z.task) (sym e) (right_to placed q u.turn h)))
 
   all_there : (ts us : List LineTurn) → map P' ts ≡ map Q' us → AllByRecursion (Passes p placed) ts → AllByRecursion (Passes q placed) us
   all_there ts [] e h = tt
@@ -207,7 +210,10 @@ module _ (p q : Source) (s : SameSource p q) (placed : Placement) where
   values_there one v h = record {
     points = h.points ∙ ap (λ (xs : List ℕ). length xs) (same_frees p q s);
     numbers = h.numbers ∙ same_numbers p q s;
-    same_points = subst (λ (xs : List ℕ). (k : ℕ) → k < length v.coordinates → SamePoint (one.point (slice_index_or xs k 0)) (whole_point (slice_index_or v.coordinates k (pos 0, pos 0)))) (same_frees p q s) h.same_points;
+    same_points =
+        subst (λ (xs : List ℕ). (k : ℕ) → k < length v.coordinates
+        → SamePoint (one.point (slice_index_or xs k 0)) (whole_point (slice_index_or v.coordinates k (pos 0, pos 0))))
+        (same_frees p q s) h.same_points;
     same_numbers = h.same_numbers;
   }
 

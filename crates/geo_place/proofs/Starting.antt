@@ -51,7 +51,8 @@ module _ (run : Run) (problem : Problem) (ints : List ℤ) (h : IsRun run proble
   frees_fit =
       let a = frees_are in
       let b : length ints ≡ 2 * length run.values.coordinates + length run.values.numbers =
-      ap (λ (zs : List ℤ). length zs) ints_parts ∙ length-append (pairs run.values.coordinates) run.values.numbers ∙ ap (λ (k : ℕ). k + length run.values.numbers) (pairs_length run.values.coordinates) in
+      ap (λ (zs : List ℤ). length zs) ints_parts ∙ length-append (pairs run.values.coordinates) run.values.numbers
+      ∙ ap (λ (k : ℕ). k + length run.values.numbers) (pairs_length run.values.coordinates) in
       omega (arith, a, b)
 
   behind : drop (2 * frees) ints ≡ run.values.numbers
@@ -78,7 +79,8 @@ module _ (run : Run) (problem : Problem) (ints : List ℤ) (h : IsRun run proble
     first_sketch = record {
       few = let a = none in omega (arith, a);
       numbers = numbers_long ∙ h.reckoned.values.numbers;
-      free = free ∙ sym (ap (λ (i : ℕ). length (free_places 0 (take i (steps_of Two run.program)))) none ∙ ap (λ (fs : List StepForm). length (free_places 0 fs)) (take_zero (steps_of Two run.program)));
+      free = free ∙ sym (ap (λ (i : ℕ). length (free_places 0 (take i (steps_of Two run.program)))) none
+          ∙ ap (λ (fs : List StepForm). length (free_places 0 fs)) (take_zero (steps_of Two run.program)));
       same = record {
         same_points = λ k b. let a = none in absurd (omega (arith, a, b));
         same_numbers = number_same_at;

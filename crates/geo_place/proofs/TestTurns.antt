@@ -133,7 +133,8 @@ module _ (run : Run) where
 
         stop_found : (error : PlaceError) → FirstFails sketch nodes items (length old) error → (error ≡ NoMemory → ⊥) → Stop run (at_line line (map test cs)) error
         stop_found error h d =
-            let s = beside (item_form nodes) (condition_item Two run.program) h.before h.item h.after more (subst (λ is. map (item_form nodes) is ≡ map (condition_item Two run.program) more) h.parts e) in
+            let s = beside (item_form nodes) (condition_item Two run.program) h.before h.item h.after more
+            (subst (λ is. map (item_form nodes) is ≡ map (condition_item Two run.program) more) h.parts e) in
             let over = subst (λ fs. AllByRecursion FoundOver fs) s.parts more_over in
             let b = items_pass h.before s.before s.same_before (each_front FoundOver s.before (s.item ∷ s.after) over) h.met in
             let first = first_fresh key (IsPassed run) (found_at line cs) old s.before s.item s.after (subst (λ fs. IsListed key old (found_at line cs) (old ++ fs)) s.parts l) held b in

@@ -103,6 +103,8 @@ values_are p zs e =
 pub values_once : (p : Source) (zs : List ℤ) (v : ProgramValues) → length v.coordinates ≡ length (free_points 0 p.commands) → integers_of v ≡ zs → values_of p zs ≡ v
 values_once p zs v l e =
     let n = length (free_points 0 p.commands) in
-    let a : pairs_of n zs ≡ v.coordinates = ap (λ (ys : List ℤ). pairs_of n ys) (sym e) ∙ ap (λ (i : ℕ). pairs_of i (pairs v.coordinates ++ v.numbers)) (sym l) ∙ pairs_parted v.coordinates v.numbers in
-    let b : drop (2 * n) zs ≡ v.numbers = ap (λ (ys : List ℤ). drop (2 * n) ys) (sym e) ∙ ap (λ (i : ℕ). drop (2 * i) (pairs v.coordinates ++ v.numbers)) (sym l) ∙ numbers_behind v.coordinates v.numbers in
+    let a : pairs_of n zs ≡ v.coordinates = ap (λ (ys : List ℤ). pairs_of n ys) (sym e)
+    ∙ ap (λ (i : ℕ). pairs_of i (pairs v.coordinates ++ v.numbers)) (sym l) ∙ pairs_parted v.coordinates v.numbers in
+    let b : drop (2 * n) zs ≡ v.numbers = ap (λ (ys : List ℤ). drop (2 * n) ys) (sym e)
+    ∙ ap (λ (i : ℕ). drop (2 * i) (pairs v.coordinates ++ v.numbers)) (sym l) ∙ numbers_behind v.coordinates v.numbers in
     λ i. record { coordinates = a i; numbers = b i }

@@ -67,7 +67,8 @@ unfolding times
 crossed_back A B C D h =
     let p = variable 0 in let q = variable 1 in let r = variable 2 in let s = variable 3 in
     let crossed : x_difference A B *ℤ y_difference C D ≡ y_difference A B *ℤ x_difference C D =
-    cancel (x_difference A B *ℤ y_difference C D) (y_difference A B *ℤ x_difference C D) (A.w * B.w * (C.w * D.w)) (mul-pos (mul-pos A.positive B.positive) (mul-pos C.positive D.positive)) h.crossed in
+    cancel (x_difference A B *ℤ y_difference C D) (y_difference A B *ℤ x_difference C D) (A.w * B.w * (C.w * D.w))
+    (mul-pos (mul-pos A.positive B.positive) (mul-pos C.positive D.positive)) h.crossed in
     by_combination integers (entry_at integers (x_difference A B ∷ y_difference A B ∷ x_difference C D ∷ y_difference C D ∷ []))
     (given (numeral 1) (p ⊠ s) (q ⊠ r) ∷ []) (p ⊠ s ⊟ q ⊠ r) (numeral 0) (crossed, tt) tt
 

@@ -64,8 +64,11 @@ module _ (at : ℕ → Point) (number : ℕ → Fraction) where
     squared e =
         subst (λ n. Same (pythagoras_difference (at a.0) (at b.0) (at n)) (pythagoras_difference (at (lower a b).0) (at (higher a b).0) (at (lower a b).0))) e
         (elim (orders a.0 b.0) [
-          | inl up ↦ subst (λ (v : Fraction). Same (pythagoras_difference (at a.0) (at b.0) (at a.0)) v) (λ i. pythagoras_difference (at (sym up.low i)) (at (sym up.high i)) (at (sym up.low i))) (fractions.same_refl _)
-          | inr down ↦ subst (λ (v : Fraction). Same (pythagoras_difference (at a.0) (at b.0) (at a.0)) v) (λ i. pythagoras_difference (at (sym down.low i)) (at (sym down.high i)) (at (sym down.low i))) (pythagoras_difference-length (at a.0) (at b.0))
+          | inl up ↦ subst (λ (v : Fraction). Same (pythagoras_difference (at a.0) (at b.0) (at a.0)) v)
+              (λ i. pythagoras_difference (at (sym up.low i)) (at (sym up.high i)) (at (sym up.low i))) (fractions.same_refl _)
+          | inr down ↦ subst (λ (v : Fraction). Same (pythagoras_difference (at a.0) (at b.0) (at a.0)) v)
+              (λ i. pythagoras_difference (at (sym down.low i)) (at (sym down.high i)) (at (sym down.low i)))
+              (pythagoras_difference-length (at a.0) (at b.0))
         ])
 
     -- with its ends sorted
@@ -80,7 +83,9 @@ module _ (at : ℕ → Point) (number : ℕ → Fraction) where
     canonical_difference-value = go (eqb a.0 b.0) (eqb b.0 c.0) (eqb a.0 c.0) refl refl refl
       where
         go : (p q r : Bool) → eqb a.0 b.0 ≡ p → eqb b.0 c.0 ≡ q → eqb a.0 c.0 ≡ r
-            → Same difference (canon_value at number (cond (p || q) (record { sign = pos 0; var = None }) (record { sign = pos 1; var = Some (cond r (P (lower a b) (higher a b) (lower a b)) (P (lower a c) b (higher a c))) })))
+            → Same difference (canon_value at number
+            (cond (p || q) (record { sign = pos 0; var = None })
+            (record { sign = pos 1; var = Some (cond r (P (lower a b) (higher a b) (lower a b)) (P (lower a c) b (higher a c))) })))
         go true q r e f g = subst (λ n. Same (pythagoras_difference (at a.0) (at n) (at c.0)) (whole (pos 0))) (eqb-true a.0 b.0 e) (pythagoras_difference-first (at a.0) (at c.0))
         go false true r e f g = subst (λ n. Same (pythagoras_difference (at a.0) (at b.0) (at n)) (whole (pos 0))) (eqb-true b.0 c.0 f) (pythagoras_difference-last (at a.0) (at b.0))
         go false false true e f g = squared (eqb-true a.0 c.0 g) ∘ plus_one-times _
@@ -165,7 +170,9 @@ module _ (at : ℕ → Point) (number : ℕ → Fraction) where
         has.apart (x_difference-self (at c.0)) (y_difference-self (at c.0))
 
     by_orders : (o p : Ordering) → o ≡ nat_cmp a.0 b.0 → p ≡ nat_cmp c.0 d.0 → (same : Bool) → is_same_pair a b c d ≡ same
-        → Same quotient (canon_value at number (cond same (record { sign = ordering_sign o *ℤ ordering_sign p; var = None }) (signed_variable (ordering_sign o *ℤ ordering_sign p) (R (lower a b) (higher a b) (lower c d) (higher c d)))))
+        → Same quotient (canon_value at number
+        (cond same (record { sign = ordering_sign o *ℤ ordering_sign p; var = None })
+        (signed_variable (ordering_sign o *ℤ ordering_sign p) (R (lower a b) (higher a b) (lower c d) (higher c d)))))
     by_orders Less Equal e f same s = absurd (apart (ranked c.0 d.0 Equal f))
     by_orders Equal Equal e f same s = absurd (apart (ranked c.0 d.0 Equal f))
     by_orders Greater Equal e f same s = absurd (apart (ranked c.0 d.0 Equal f))

@@ -128,7 +128,8 @@ exponents_push : (rows : List Row) (done : Powers) (v : Var × ℕ) → replaced
 exponents_push rows [] v = omega arith
 exponents_push rows (u ∷ done) v = omega (arith, exponents_push rows done v)
 
-pub Path-none : (rows : List Row) (den : Piece) (v : Var × ℕ) (done : Powers) (lacking : ℕ) (ks : List ℕ) → row_of rows v.0 ≡ None → Path rows den done lacking ks → Path rows den (done ++ v ∷ []) lacking ks
+pub Path-none : (rows : List Row) (den : Piece) (v : Var × ℕ) (done : Powers) (lacking : ℕ) (ks : List ℕ) → row_of rows v.0 ≡ None
+    → Path rows den done lacking ks → Path rows den (done ++ v ∷ []) lacking ks
 Path-none rows den v done lacking ks e h = record {
   terms = λ p. h.terms p ∙ ap (λ (x : Summands). times_power x den.poly lacking) (sym (rows_push rows done v p ∙ ap (λ (o : Option Row). times_row o v.1 (times_rows rows done p)) e));
   weight = λ w. h.weight w ∙ ap (λ x. x * den.weight ^ lacking) (sym (weights_push rows done v w ∙ ap (λ (o : Option Row). weight_row o v.1 (weight_rows rows done w)) e));
@@ -158,7 +159,9 @@ Path-some rows den v done lacking ks i r at e counted h =
           ∙ ap (λ (x : Summands). times_power x r.num.poly v.1) (h.terms p) ∙ powers_swap (times_rows rows done p) den.poly r.num.poly lacking v.1
           ∙ ap (λ (x : Summands). times_power x den.poly lacking) (sym (rows_push rows done v p ∙ ap (λ (o : Option Row). times_row o v.1 (times_rows rows done p)) e));
       weight = λ w.
-          let whole = ap (λ (x : List Piece). weight_with x w) same ∙ weight_with-append qs more w ∙ ap (weight_with qs) (weight_same r.num v.1 w) ∙ weight_scale qs w (r.num.weight ^ v.1) ∙ ap (λ x. x * r.num.weight ^ v.1) (h.weight w) in
+          let whole = ap (λ (x : List Piece). weight_with x w) same ∙ weight_with-append qs more w
+          ∙ ap (weight_with qs) (weight_same r.num v.1 w) ∙ weight_scale qs w (r.num.weight ^ v.1)
+          ∙ ap (λ x. x * r.num.weight ^ v.1) (h.weight w) in
           let pushed = ap (λ x. x * den.weight ^ lacking) (weights_push rows done v w ∙ ap (λ (o : Option Row). weight_row o v.1 (weight_rows rows done w)) e) in
           omega (arith, whole, pushed);
       degree = λ d.
@@ -166,7 +169,9 @@ Path-some rows den v done lacking ks i r at e counted h =
           let pushed = degrees_push rows done v d ∙ ap (λ (o : Option Row). degree_row o v.1 (degree_rows rows done d)) e in
           omega (arith, whole, pushed, h.degree d, degree_with-is qs d, degree_with-is qs (d + r.num.degree * v.1));
       counts = λ n.
-          let whole = ap (λ (x : List Piece). count_with x n) same ∙ count_with-append qs more n ∙ ap (count_with qs) (count_same r.num v.1 n) ∙ count_scale qs n (r.num.count ^ v.1) ∙ ap (λ x. x * r.num.count ^ v.1) (h.counts n) in
+          let whole = ap (λ (x : List Piece). count_with x n) same ∙ count_with-append qs more n
+          ∙ ap (count_with qs) (count_same r.num v.1 n) ∙ count_scale qs n (r.num.count ^ v.1)
+          ∙ ap (λ x. x * r.num.count ^ v.1) (h.counts n) in
           let pushed = ap (λ x. x * den.count ^ lacking) (counts_push rows done v n ∙ ap (λ (o : Option Row). count_row o v.1 (count_rows rows done n)) e) in
           omega (arith, whole, pushed);
       some = subst AllSome (sym same) (some_append qs more h.some (some_same r.num v.1 (λ _. counted)));
@@ -199,11 +204,13 @@ Path-end setting m lacking ks e h =
     }
 
 -- the pieces of a term that does not become zero have monomials
-pub counted_denominator : (rows : List Row) (den : Piece) (top : ℕ) (m : Powers) (lacking : ℕ) → lacking ≡ top - denominators rows m → IsBounded den → HasNoZero rows den top m → 0 < lacking → 1 ≤ den.count
+pub counted_denominator : (rows : List Row) (den : Piece) (top : ℕ) (m : Powers) (lacking : ℕ) → lacking ≡ top - denominators rows m
+    → IsBounded den → HasNoZero rows den top m → 0 < lacking → 1 ≤ den.count
 counted_denominator rows den top m lacking e bounded h more = counted den bounded (h.denominator (omega (arith, e, more)))
 
 -- the numerator of the variable at a place has a monomial
-pub counted_place : (rows : List Row) (m : Powers) (i : ℕ) (v : Var × ℕ) (r : Row) → i < length m → v ≡ get_or m i v → row_of rows v.0 ≡ Some r → AllBounded rows → AreNonzeroRows rows m → 1 ≤ r.num.count
+pub counted_place : (rows : List Row) (m : Powers) (i : ℕ) (v : Var × ℕ) (r : Row) → i < length m → v ≡ get_or m i v
+    → row_of rows v.0 ≡ Some r → AllBounded rows → AreNonzeroRows rows m → 1 ≤ r.num.count
 counted_place rows [] i v r within at e bounded some = absurd (omega arith)
 counted_place rows (w ∷ m) zero v r within at e bounded some =
     counted_row rows v.0 r bounded e (subst (λ (x : Var × ℕ). IsNonzeroRow (row_of rows x.0)) (sym at) some.0)

@@ -61,7 +61,8 @@ module _ (setting : Setting) (links : Links) (set : IsSet setting links) (p : Sh
   pub joined_monomials : AllKeys IsMonomial base
   joined_monomials =
       subst (λ (x : Summands). AllKeys IsMonomial x) (sym base-is)
-      (monomials_of_sum 65535 deep (omega arith) (good_terms setting links set p (depth + n) es) (all_within setting links set p (depth + n) es (all_deeper setting links set p depth n first es share pending)))
+      (monomials_of_sum 65535 deep (omega arith) (good_terms setting links set p (depth + n) es)
+      (all_within setting links set p (depth + n) es (all_deeper setting links set p depth n first es share pending)))
 
   pub joined_norm : weight_with (pieces_of setting.rows.now setting.den.piece.now factors) (norm_of base) < 2 ^ 127
   joined_norm =

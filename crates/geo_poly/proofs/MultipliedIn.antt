@@ -46,13 +46,18 @@ module _ (setting : Setting) (links : Links) (set : IsSet setting links) where
   abbrev den : Piece
   den = setting.den.piece.now
 
-  pub stored_there : (factor : ℕ) (list : Indices) → 0 < factor → slice_get setting.nums.now (factor - 1) ≡ Some list → IsStoredAs setting.vars.now links list (piece_of setting.rows.now setting.den.piece.now factor).poly
+  pub stored_there : (factor : ℕ) (list : Indices) → 0 < factor → slice_get setting.nums.now (factor - 1) ≡ Some list
+      → IsStoredAs setting.vars.now links list (piece_of setting.rows.now setting.den.piece.now factor).poly
   stored_there zero list h e = absurd (omega (arith, h))
-  stored_there (suc i) list h e = numerator_stored vars links rows setting.nums.now den i list set.rows_stored (let back : suc i - 1 ≡ i = omega arith in subst (λ (j : ℕ). slice_get setting.nums.now j ≡ Some list) back e)
+  stored_there (suc i) list h e =
+      numerator_stored vars links rows setting.nums.now den i list set.rows_stored
+      (let back : suc i - 1 ≡ i = omega arith in subst (λ (j : ℕ). slice_get setting.nums.now j ≡ Some list) back e)
 
   pub stored_past : (factor : ℕ) → length setting.nums.now < factor → IsStoredAs setting.vars.now links setting.den.list.now (piece_of setting.rows.now setting.den.piece.now factor).poly
   stored_past zero h = absurd (omega (arith, h))
-  stored_past (suc i) h = subst (λ (q : Piece). IsStoredAs vars links setting.den.list.now q.poly) (sym (no_numerator vars links rows setting.nums.now den i set.rows_stored (omega (arith, h)))) set.den_stored
+  stored_past (suc i) h =
+      subst (λ (q : Piece). IsStoredAs vars links setting.den.list.now q.poly)
+      (sym (no_numerator vars links rows setting.nums.now den i set.rows_stored (omega (arith, h)))) set.den_stored
 
   pub stored_first : (factor : ℕ) → factor ≡ 0 → IsStoredAs setting.vars.now links setting.den.list.now (piece_of setting.rows.now setting.den.piece.now factor).poly
   stored_first factor e = subst (λ (k : ℕ). IsStoredAs vars links setting.den.list.now (piece_of rows den k).poly) (sym e) set.den_stored
@@ -84,7 +89,9 @@ module _ (setting : Setting) (s0 : Links) (set : IsSet setting s0) (factors : Li
   later_fits done left e =
       let same : pieces factors ≡ pieces done ++ pieces left = ap pieces e ∙ map-append (piece_of setting.rows.now setting.den.piece.now) done left in
       let w = ap (λ (qs : List Piece). weight_with qs (norm_of base)) same ∙ weight_with-append (pieces done) (pieces left) (norm_of base) in
-      let d = ap (λ (qs : List Piece). degree_with qs (total_degree base)) same ∙ degree_with-append (pieces done) (pieces left) (total_degree base) ∙ degree_with-is (pieces done) (degree_with (pieces left) (total_degree base)) in
+      let d = ap (λ (qs : List Piece). degree_with qs (total_degree base)) same
+      ∙ degree_with-append (pieces done) (pieces left) (total_degree base)
+      ∙ degree_with-is (pieces done) (degree_with (pieces left) (total_degree base)) in
       (omega (arith, norm, w, weight_with-grows (pieces done) (weight_with (pieces left) (norm_of base)) (good_pieces setting s0 set done)), omega (arith, degree, d))
 
   module _ (i : ℕ) (positive : 0 < i) (within : i ≤ length factors) where
@@ -100,7 +107,8 @@ module _ (setting : Setting) (s0 : Links) (set : IsSet setting s0) (factors : Li
     fits_now : (weight_with (pieces (drop (i - 1) factors)) (norm_of base) < 2 ^ 127) × (degree_with (pieces (drop (i - 1) factors)) (total_degree base) ≤ 65535)
     fits_now = later_fits (take (i - 1) factors) (drop (i - 1) factors) (sym (take-append-drop (i - 1) factors))
 
-    pub can_multiply : CanMultiply (times_pieces (pieces_of setting.rows.now setting.den.piece.now (drop i factors)) base) (piece_of setting.rows.now setting.den.piece.now (get_or factors (i - 1) 0)).poly
+    pub can_multiply : CanMultiply (times_pieces (pieces_of setting.rows.now setting.den.piece.now (drop i factors)) base)
+        (piece_of setting.rows.now setting.den.piece.now (get_or factors (i - 1) 0)).poly
     can_multiply =
         let w : weight_with (pieces (k ∷ drop i factors)) (norm_of base) < 2 ^ 127 = subst (λ (ks : List ℕ). weight_with (pieces ks) (norm_of base) < 2 ^ 127) shown fits_now.0 in
         let d : degree_with (pieces (k ∷ drop i factors)) (total_degree base) ≤ 65535 = subst (λ (ks : List ℕ). degree_with (pieces ks) (total_degree base) ≤ 65535) shown fits_now.1 in
@@ -117,7 +125,9 @@ module _ (setting : Setting) (s0 : Links) (set : IsSet setting s0) (factors : Li
     ticks_now n size start before now n-is size-is h step =
         let q = piece_of setting.rows.now setting.den.piece.now k in
         let good = good_piece setting s0 set k in
-        let long : length (times_pieces rest base) ≤ count_with rest n = subst (λ (m : ℕ). length (times_pieces rest base) ≤ count_with rest m) n-is (length-times_pieces-le rest base (good_pieces setting s0 set (drop i factors))) in
+        let long : length (times_pieces rest base) ≤ count_with rest n = subst
+        (λ (m : ℕ). length (times_pieces rest base) ≤ count_with rest m) n-is
+        (length-times_pieces-le rest base (good_pieces setting s0 set (drop i factors))) in
         let all : size * length q.poly ≤ count_with rest n * q.count = mul-le-mul (omega (arith, size-is, long)) good.bounded.count in
         let whole : products_with (pieces (drop (i - 1) factors)) n ≡ products_with rest n + count_with rest n * q.count = ap (λ (ks : List ℕ). products_with (pieces ks) n) shown in
         omega (arith, h, step, all, whole)

@@ -22,7 +22,8 @@ use Rattle.geo_poly.proofs.ChainPowers.{some}
 use Rattle.geo_poly.proofs.ReplaceTerms.{IsMonomial-others}
 
 -- THE PIECES
-good_numerator : (vars : List Var) (links : Links) (rows : List Row) (lists : List Indices) (den : Piece) → IsGood den → AllBounded rows → AreStored vars links rows lists → (i : ℕ) → IsGood (numerator_at rows den i)
+good_numerator : (vars : List Var) (links : Links) (rows : List Row) (lists : List Indices) (den : Piece) → IsGood den → AllBounded rows
+    → AreStored vars links rows lists → (i : ℕ) → IsGood (numerator_at rows den i)
 good_numerator vars links [] lists den good bounded stored i = good
 good_numerator vars links (r ∷ rows) [] den good bounded stored i = absurd stored
 good_numerator vars links (r ∷ rows) (l ∷ lists) den good bounded stored zero = record { bounded = bounded.0; polynomial = stored.0.polynomial }
@@ -95,7 +96,8 @@ module _ (setting : Setting) (links : Links) (set : IsSet setting links) where
           let whole = ap (λ (qs : List Piece). degree_with qs d) (one_shares e h) ∙ degree_with-append shared rest d ∙ degree_with-is shared (degree_with rest d) in
           omega (arith, whole, g.degree)
 
-      pub all_deeper : (es : List Pending) → All (λ (e : Pending). take n (drop depth e.factors.items) ≡ take n first) es → All (IsPending setting p depth) es → All (IsPending setting p (depth + n)) es
+      pub all_deeper : (es : List Pending) → All (λ (e : Pending). take n (drop depth e.factors.items) ≡ take n first) es
+          → All (IsPending setting p depth) es → All (IsPending setting p (depth + n)) es
       all_deeper [] h g = All-nil (IsPending setting p (depth + n))
       all_deeper (e ∷ es) h g =
           let here = All-head (IsPending setting p depth) e es g in
@@ -142,7 +144,8 @@ module _ (setting : Setting) (links : Links) (set : IsSet setting links) where
         pub norm_left : weight_with (pieces_of setting.rows.now setting.den.piece.now (take n first)) (norm_of (polynomial_of (factored_terms (map (told_pending setting p (depth + n)) es)))) < 2 ^ 127
         norm_left = omega (arith, norm, weighs, weight_with-mono shared (norm_of sum) (factored_weight deep) (norm_of-sum-le deep (good_terms (depth + n) es)))
 
-        pub degree_left : 1 ≤ length es → degree_with (pieces_of setting.rows.now setting.den.piece.now (take n first)) (total_degree (polynomial_of (factored_terms (map (told_pending setting p (depth + n)) es)))) ≤ 65535
+        pub degree_left : 1 ≤ length es → degree_with (pieces_of setting.rows.now setting.den.piece.now (take n first))
+            (total_degree (polynomial_of (factored_terms (map (told_pending setting p (depth + n)) es)))) ≤ 65535
         degree_left some_term =
             omega (
               arith,
@@ -202,6 +205,7 @@ module _ (setting : Setting) (links : Links) (set : IsSet setting links) where
       parts_sum =
           sum_of_parts (map (told_pending setting p depth) front) (map (told_pending setting p depth) back) ∙ ap (λ (fs : List Factored). polynomial_of (factored_terms fs)) parts
 
-      pub parts_products : factored_products (map (told_pending setting p depth) front) + factored_products (map (told_pending setting p depth) back) ≡ factored_products (map (told_pending setting p depth) es)
+      pub parts_products : factored_products (map (told_pending setting p depth) front)
+          + factored_products (map (told_pending setting p depth) back) ≡ factored_products (map (told_pending setting p depth) es)
       parts_products =
           sym (sum_by-append (λ (f : Factored). products_with f.0 1) (map (told_pending setting p depth) front) (map (told_pending setting p depth) back)) ∙ ap factored_products parts

@@ -45,7 +45,8 @@ module _ (setting : Setting) (p : Shared) where
   Made-none = record { terms = refl; weight = omega arith; products = omega arith; pending = All-nil (IsPending setting p 0) }
 
   -- a term that becomes zero
-  pub Made-zero : (q : Summands) (t : Powers × ℤ) (es : List Pending) → replaced_term setting.rows.now setting.den.piece.now.poly setting.top t ≡ [] → Made setting p q es → Made setting p (q ++ t ∷ []) es
+  pub Made-zero : (q : Summands) (t : Powers × ℤ) (es : List Pending)
+      → replaced_term setting.rows.now setting.den.piece.now.poly setting.top t ≡ [] → Made setting p q es → Made setting p (q ++ t ∷ []) es
   Made-zero q t es zero h = record {
     terms =
         h.terms ∙ sym (append-nil (replaced_terms rows den.poly top q)) ∙ ap (λ (x : Summands). replaced_terms rows den.poly top q ++ x) (ap (λ (x : Summands). x ++ []) (sym zero))
@@ -84,7 +85,8 @@ module _ (setting : Setting) (p : Shared) where
         }
 
     -- a term that does not
-    pub Made-more : (q : Summands) (es : List Pending) → IsIndexOf p e.id → IsMonomial t.0 → AllKeys (Contains setting.vars.now) t.0 → unsigned_abs t.1 ≢ 0 → term_degree setting.rows.now setting.den.piece.now setting.top t ≤ 65535
+    pub Made-more : (q : Summands) (es : List Pending) → IsIndexOf p e.id → IsMonomial t.0 → AllKeys (Contains setting.vars.now) t.0
+        → unsigned_abs t.1 ≢ 0 → term_degree setting.rows.now setting.den.piece.now setting.top t ≤ 65535
         → Made setting p q es → Made setting p (q ++ t ∷ []) (es ++ e ∷ [])
     Made-more q es index monomial known nonzero degree h =
         let pushed = map_push told es e in

@@ -69,7 +69,8 @@ degree_rows-grows rows (v ∷ m) d =
     omega (arith, degree_row-grows (row_of rows v.0) v.1 d, degree_rows-grows rows m (degree_row (row_of rows v.0) v.1 d))
 
 -- a variable with no row
-pub Progress-none : (rows : List Row) (top : ℕ) (m : Powers) (c : ℤ) (v : Var × ℕ) (left : Powers) (p : Summands) (missing : ℕ) → row_of rows v.0 ≡ None → Progress rows top m c (v ∷ left) p missing → Progress rows top m c left p missing
+pub Progress-none : (rows : List Row) (top : ℕ) (m : Powers) (c : ℤ) (v : Var × ℕ) (left : Powers) (p : Summands) (missing : ℕ)
+    → row_of rows v.0 ≡ None → Progress rows top m c (v ∷ left) p missing → Progress rows top m c left p missing
 Progress-none rows top m c v left p missing e h = record {
   kept = ap (λ (o : Option Row). times_rows rows left (times_row o v.1 p)) (sym e) ∙ h.kept;
   in_order = h.in_order;
@@ -82,24 +83,32 @@ Progress-none rows top m c v left p missing e h = record {
 }
 
 -- a variable with a row: what its call may do, and what it makes
-pub row_fits : (rows : List Row) (top : ℕ) (m : Powers) (c : ℤ) (v : Var × ℕ) (left : Powers) (p : Summands) (missing : ℕ) (r : Row) (w d : ℕ) → row_of rows v.0 ≡ Some r → AllBounded rows → Progress rows top m c (v ∷ left) p missing
+pub row_fits : (rows : List Row) (top : ℕ) (m : Powers) (c : ℤ) (v : Var × ℕ) (left : Powers) (p : Summands) (missing : ℕ) (r : Row)
+    (w d : ℕ) → row_of rows v.0 ≡ Some r → AllBounded rows → Progress rows top m c (v ∷ left) p missing
     → weight_rows rows m (unsigned_abs c) ≤ w → degree_rows rows m (degree_of (others rows m)) ≤ d
     → (norm_of p * r.num.weight ^ v.1 ≤ w) × (total_degree p + r.num.degree * v.1 ≤ d) × (r.power * v.1 ≤ missing)
 row_fits rows top m c v left p missing r w d e bounded h w-le d-le =
-    let norm : weight_rows rows left (norm_of p * r.num.weight ^ v.1) ≤ weight_rows rows m (unsigned_abs c) = subst (λ (o : Option Row). weight_rows rows left (weight_row o v.1 (norm_of p)) ≤ weight_rows rows m (unsigned_abs c)) e h.norm in
-    let degree : degree_rows rows left (total_degree p + r.num.degree * v.1) ≤ degree_rows rows m (degree_of (others rows m)) = subst (λ (o : Option Row). degree_rows rows left (degree_row o v.1 (total_degree p)) ≤ degree_rows rows m (degree_of (others rows m))) e h.degree in
+    let norm : weight_rows rows left (norm_of p * r.num.weight ^ v.1) ≤ weight_rows rows m (unsigned_abs c) = subst
+    (λ (o : Option Row). weight_rows rows left (weight_row o v.1 (norm_of p)) ≤ weight_rows rows m (unsigned_abs c)) e h.norm in
+    let degree : degree_rows rows left (total_degree p + r.num.degree * v.1) ≤ degree_rows rows m (degree_of (others rows m)) = subst
+    (λ (o : Option Row). degree_rows rows left (degree_row o v.1 (total_degree p)) ≤ degree_rows rows m (degree_of (others rows m))) e
+    h.degree in
     let at : power_in (row_of rows v.0) * v.1 ≡ r.power * v.1 = ap (λ (o : Option Row). power_in o * v.1) e in (
       omega (arith, norm, weight_rows-grows rows left (norm_of p * r.num.weight ^ v.1) bounded),
       omega (arith, degree, degree_rows-grows rows left (total_degree p + r.num.degree * v.1)),
       omega (arith, at, h.missing-is),
     )
 
-pub Progress-some : (rows : List Row) (top : ℕ) (m : Powers) (c : ℤ) (v : Var × ℕ) (left : Powers) (p : Summands) (missing : ℕ) (r : Row) → row_of rows v.0 ≡ Some r → AllBounded rows → Progress rows top m c (v ∷ left) p missing
+pub Progress-some : (rows : List Row) (top : ℕ) (m : Powers) (c : ℤ) (v : Var × ℕ) (left : Powers) (p : Summands) (missing : ℕ) (r : Row)
+    → row_of rows v.0 ≡ Some r → AllBounded rows → Progress rows top m c (v ∷ left) p missing
     → total_degree p + r.num.degree * v.1 ≤ 65535 → Progress rows top m c left (times_power p r.num.poly v.1) (missing - r.power * v.1)
 Progress-some rows top m c v left p missing r e bounded h fits =
     let b = bounded_row rows v.0 r bounded e in
-    let norm : weight_rows rows left (norm_of p * r.num.weight ^ v.1) ≤ weight_rows rows m (unsigned_abs c) = subst (λ (o : Option Row). weight_rows rows left (weight_row o v.1 (norm_of p)) ≤ weight_rows rows m (unsigned_abs c)) e h.norm in
-    let degree : degree_rows rows left (total_degree p + r.num.degree * v.1) ≤ degree_rows rows m (degree_of (others rows m)) = subst (λ (o : Option Row). degree_rows rows left (degree_row o v.1 (total_degree p)) ≤ degree_rows rows m (degree_of (others rows m))) e h.degree in
+    let norm : weight_rows rows left (norm_of p * r.num.weight ^ v.1) ≤ weight_rows rows m (unsigned_abs c) = subst
+    (λ (o : Option Row). weight_rows rows left (weight_row o v.1 (norm_of p)) ≤ weight_rows rows m (unsigned_abs c)) e h.norm in
+    let degree : degree_rows rows left (total_degree p + r.num.degree * v.1) ≤ degree_rows rows m (degree_of (others rows m)) = subst
+    (λ (o : Option Row). degree_rows rows left (degree_row o v.1 (total_degree p)) ≤ degree_rows rows m (degree_of (others rows m))) e
+    h.degree in
     let at : power_in (row_of rows v.0) * v.1 ≡ r.power * v.1 = ap (λ (o : Option Row). power_in o * v.1) e in
     record {
       kept = ap (λ (o : Option Row). times_rows rows left (times_row o v.1 p)) (sym e) ∙ h.kept;
@@ -111,7 +120,8 @@ Progress-some rows top m c v left p missing r e bounded h fits =
     }
 
 -- the weight of the whole term bounds that of its rows
-pub rows_weight_fits : (rows : List Row) (den : Piece) (top : ℕ) (m : Powers) (k c : ℤ) → k ≡ c → IsBounded den → term_weight rows den top (m, c) < 2 ^ 127 → weight_rows rows m (unsigned_abs k) < 2 ^ 127
+pub rows_weight_fits : (rows : List Row) (den : Piece) (top : ℕ) (m : Powers) (k c : ℤ) → k ≡ c → IsBounded den
+    → term_weight rows den top (m, c) < 2 ^ 127 → weight_rows rows m (unsigned_abs k) < 2 ^ 127
 rows_weight_fits rows den top m k c e b h =
     let one : 1 ≤ den.weight ^ (top - denominators rows m) = one-le-pow (top - denominators rows m) den.weight b.weight in
     let same : weight_rows rows m (unsigned_abs k) ≡ weight_rows rows m (unsigned_abs c) = ap (λ z. weight_rows rows m (unsigned_abs z)) e in

@@ -102,9 +102,17 @@ norm_of-replaced_term-le rows den top t h b =
 pub norm_of-replaced_terms-le : (rows : List Row) (den : Piece) (top : ℕ) (p : Summands) → AllBounded rows → IsBounded den → norm_of (replaced_terms rows den.poly top p) ≤ weight_of rows den top p
 norm_of-replaced_terms-le rows den top [] h b = omega arith
 norm_of-replaced_terms-le rows den top (t ∷ ts) h b =
-    omega (arith, sum_by-append (λ (t : Powers × ℤ). unsigned_abs t.1) (replaced_term rows den.poly top t) (replaced_terms rows den.poly top ts), sum_by-cons (term_weight rows den top) t ts, norm_of-replaced_term-le rows den top t h b, norm_of-replaced_terms-le rows den top ts h b)
+    omega (
+      arith,
+      sum_by-append (λ (t : Powers × ℤ). unsigned_abs t.1) (replaced_term rows den.poly top t)
+          (replaced_terms rows den.poly top ts),
+      sum_by-cons (term_weight rows den top) t ts,
+      norm_of-replaced_term-le rows den top t h b,
+      norm_of-replaced_terms-le rows den top ts h b,
+    )
 
-pub replaced_of_one : (rows : List Row) (den : Summands) (top : ℕ) (t : Powers × ℤ) → eqb (unsigned_abs t.1) 0 ≡ false → replaced_term rows den top t ≡ polynomial_of (replaced_terms rows den top (t ∷ []))
+pub replaced_of_one : (rows : List Row) (den : Summands) (top : ℕ) (t : Powers × ℤ) → eqb (unsigned_abs t.1) 0 ≡ false
+    → replaced_term rows den top t ≡ polynomial_of (replaced_terms rows den top (t ∷ []))
 replaced_of_one rows den top t h =
     sym (canonical_self term_cmp coefficients term_order coefficients_add (replaced_term rows den top t)
     (IsCanonical-times_power (times_rows rows t.0 ((others rows t.0, t.1) ∷ [])) den (top - denominators rows t.0)
@@ -115,7 +123,8 @@ replaced_of_one rows den top t h =
 pub replaced_terms-append : (rows : List Row) (den : Summands) (top : ℕ) (p q : Summands) → replaced_terms rows den top (p ++ q) ≡ replaced_terms rows den top p ++ replaced_terms rows den top q
 replaced_terms-append rows den top [] q = refl
 replaced_terms-append rows den top (t ∷ ts) q =
-    ap (λ x. replaced_term rows den top t ++ x) (replaced_terms-append rows den top ts q) ∙ sym (append_assoc (replaced_term rows den top t) (replaced_terms rows den top ts) (replaced_terms rows den top q))
+    ap (λ x. replaced_term rows den top t ++ x) (replaced_terms-append rows den top ts q)
+    ∙ sym (append_assoc (replaced_term rows den top t) (replaced_terms rows den top ts) (replaced_terms rows den top q))
 
 -- the sum of two canonical lists is the canonical list of both
 pub sum_of-polynomial_of : (p q : Summands) → sum_of (polynomial_of p) (polynomial_of q) ≡ polynomial_of (p ++ q)
@@ -173,7 +182,8 @@ CanReplace-drop rows den top n p h = CanReplace-back rows den top (take n p) (dr
 pub replaced_halves_fit : (rows : List Row) (den : Piece) (top n : ℕ) (p : Summands) → CanReplace rows den top p
     → norm_of (polynomial_of (replaced_terms rows den.poly top (take n p))) + norm_of (polynomial_of (replaced_terms rows den.poly top (drop n p))) < 2 ^ 127
 replaced_halves_fit rows den top n p h =
-    let whole : weight_of rows den top (take n p) + weight_of rows den top (drop n p) ≡ weight_of rows den top p = sym (sum_by-append (term_weight rows den top) (take n p) (drop n p)) ∙ ap (weight_of rows den top) (take-append-drop n p) in
+    let whole : weight_of rows den top (take n p) + weight_of rows den top (drop n p) ≡ weight_of rows den top p = sym
+    (sum_by-append (term_weight rows den top) (take n p) (drop n p)) ∙ ap (weight_of rows den top) (take-append-drop n p) in
     omega (
       arith,
       whole,
@@ -185,7 +195,8 @@ replaced_halves_fit rows den top n p h =
     )
 
 -- a next other variable is a prefix of them all
-pub next_other : (rows : List Row) (m kept_part : Powers) (v : Var × ℕ) (left : Powers) → IsMonomial m → row_of rows v.0 ≡ None → kept_part ++ others rows (v ∷ left) ≡ others rows m → IsMonomial (kept_part ++ v ∷ [])
+pub next_other : (rows : List Row) (m kept_part : Powers) (v : Var × ℕ) (left : Powers) → IsMonomial m → row_of rows v.0 ≡ None
+    → kept_part ++ others rows (v ∷ left) ≡ others rows m → IsMonomial (kept_part ++ v ∷ [])
 next_other rows m kept_part v left h e same =
     IsMonomial_front (kept_part ++ v ∷ []) (others rows left)
     (subst IsMonomial (sym same ∙ ap (λ x. kept_part ++ x) (others-none rows v left e) ∙ sym (append_assoc kept_part (v ∷ []) (others rows left))) (IsMonomial-others rows m h))
@@ -194,13 +205,19 @@ next_other rows m kept_part v left h e same =
 total_degree-times_rows-le : (rows : List Row) (m : Powers) (p : Summands) → AllBounded rows → total_degree (times_rows rows m p) ≤ degree_rows rows m (total_degree p)
 total_degree-times_rows-le rows [] p h = omega arith
 total_degree-times_rows-le rows (v ∷ m) p h =
-    omega (arith, total_degree-times_rows-le rows m (times_row (row_of rows v.0) v.1 p) h, degree_rows-mono rows m (total_degree (times_row (row_of rows v.0) v.1 p)) (degree_row (row_of rows v.0) v.1 (total_degree p)) (go (row_of rows v.0) refl))
+    omega (
+      arith,
+      total_degree-times_rows-le rows m (times_row (row_of rows v.0) v.1 p) h,
+      degree_rows-mono rows m (total_degree (times_row (row_of rows v.0) v.1 p)) (degree_row (row_of rows v.0) v.1 (total_degree p))
+          (go (row_of rows v.0) refl),
+    )
   where
     go : (o : Option Row) → row_of rows v.0 ≡ o → total_degree (times_row o v.1 p) ≤ degree_row o v.1 (total_degree p)
     go None e = omega arith
     go (Some r) e = total_degree-times_power-le p r.num.poly r.num.degree v.1 (bounded_row rows v.0 r h e).degree
 
-monomials_of_times_rows : (rows : List Row) (m : Powers) (p : Summands) → AllBounded rows → AllKeys IsMonomial p → degree_rows rows m (total_degree p) ≤ 65535 → AllKeys IsMonomial (times_rows rows m p)
+monomials_of_times_rows : (rows : List Row) (m : Powers) (p : Summands) → AllBounded rows → AllKeys IsMonomial p
+    → degree_rows rows m (total_degree p) ≤ 65535 → AllKeys IsMonomial (times_rows rows m p)
 monomials_of_times_rows rows [] p h g fits = g
 monomials_of_times_rows rows (v ∷ m) p h g fits =
     monomials_of_times_rows rows m (times_row (row_of rows v.0) v.1 p) h
@@ -215,7 +232,8 @@ monomials_of_times_rows rows (v ∷ m) p h g fits =
     ones None e f = g
     ones (Some r) e f = monomials_of_times_power p r.num.poly r.num.degree v.1 g (bounded_row rows v.0 r h e).degree f
 
-monomials_of_replaced_term : (rows : List Row) (den : Piece) (top : ℕ) (t : Powers × ℤ) → AllBounded rows → IsBounded den → IsMonomial t.0 → term_degree rows den top t ≤ 65535 → AllKeys IsMonomial (replaced_term rows den.poly top t)
+monomials_of_replaced_term : (rows : List Row) (den : Piece) (top : ℕ) (t : Powers × ℤ) → AllBounded rows → IsBounded den → IsMonomial t.0
+    → term_degree rows den top t ≤ 65535 → AllKeys IsMonomial (replaced_term rows den.poly top t)
 monomials_of_replaced_term rows den top t h b g fits =
     let one : total_degree ((others rows t.0, t.1) ∷ []) ≡ degree_of (others rows t.0) = omega arith in
     let rowed = total_degree-times_rows-le rows t.0 ((others rows t.0, t.1) ∷ []) h in
@@ -224,7 +242,8 @@ monomials_of_replaced_term rows den top t h b g fits =
     (monomials_of_times_rows rows t.0 ((others rows t.0, t.1) ∷ []) h (IsMonomial-others rows t.0 g, tt) (omega (arith, same, fits)))
     b.degree (omega (arith, rowed, same, fits))
 
-monomials_of_replaced_terms : (rows : List Row) (den : Piece) (top : ℕ) (p : Summands) → AllBounded rows → IsBounded den → AllKeys IsMonomial p → degree_bound rows den top p ≤ 65535 → AllKeys IsMonomial (replaced_terms rows den.poly top p)
+monomials_of_replaced_terms : (rows : List Row) (den : Piece) (top : ℕ) (p : Summands) → AllBounded rows → IsBounded den
+    → AllKeys IsMonomial p → degree_bound rows den top p ≤ 65535 → AllKeys IsMonomial (replaced_terms rows den.poly top p)
 monomials_of_replaced_terms rows den top [] h b g fits = tt
 monomials_of_replaced_terms rows den top (t ∷ ts) h b g fits =
     AllKeys-append IsMonomial (replaced_term rows den.poly top t) (replaced_terms rows den.poly top ts)
@@ -233,6 +252,7 @@ monomials_of_replaced_terms rows den top (t ∷ ts) h b g fits =
 pub IsPolynomial-replaced : (rows : List Row) (den : Piece) (top : ℕ) (p : Summands) → CanReplace rows den top p → IsPolynomial (polynomial_of (replaced_terms rows den.poly top p))
 IsPolynomial-replaced rows den top p h = record {
   in_order = IsCanonical-polynomial_of (replaced_terms rows den.poly top p);
-  monomials = AllKeys-canonical term_cmp coefficients IsMonomial (replaced_terms rows den.poly top p) (monomials_of_replaced_terms rows den top p h.rows_bounded h.den_bounded h.monomials h.degree_fits);
+  monomials = AllKeys-canonical term_cmp coefficients IsMonomial (replaced_terms rows den.poly top p)
+      (monomials_of_replaced_terms rows den top p h.rows_bounded h.den_bounded h.monomials h.degree_fits);
   norm_fits = omega (arith, h.weight_fits, norm_of-polynomial_of-le (replaced_terms rows den.poly top p), norm_of-replaced_terms-le rows den top p h.rows_bounded h.den_bounded);
 }

@@ -46,7 +46,8 @@ signs c D z positive nonzero h = elim h.choice [
     not_negative : (D z : ℤ) → D ≡ pos (unsigned_abs D) → z ≡ D → z <ℤ pos 0 → ⊥
     not_negative D z positive e below = omega (arith, ints, positive, e, below)
 
-pub IsFactor-signed : (p : Summands) (m : Powers) (D z : ℤ) → IsPolynomial p → 0 < length p → DividesAll (unsigned_abs D) p → unsigned_abs D < 2 ^ 127 → IsSigned (leading_coefficient p) D z → IsMonomial m → IsFactor (m, z)
+pub IsFactor-signed : (p : Summands) (m : Powers) (D z : ℤ) → IsPolynomial p → 0 < length p → DividesAll (unsigned_abs D) p
+    → unsigned_abs D < 2 ^ 127 → IsSigned (leading_coefficient p) D z → IsMonomial m → IsFactor (m, z)
 IsFactor-signed p m D z h some divides fits signed monomial = record {
   monomial = monomial;
   nonzero = λ e. nonzero_divisor p (unsigned_abs D) h some divides (sym (size-signed (leading_coefficient p) D z signed) ∙ e);

@@ -101,7 +101,8 @@ ratio_form a b c d = go (is_same_pair a b c d) refl
     small = small_product (pair_sign a b) (pair_sign c d) (small_sign (nat_cmp a.0 b.0)) (small_sign (nat_cmp c.0 d.0))
 
     go : (same : Bool) → is_same_pair a b c d ≡ same
-        → IsSortedForm (cond same (record { sign = pair_sign a b *ℤ pair_sign c d; var = None }) (signed_variable (pair_sign a b *ℤ pair_sign c d) (R (lower a b) (higher a b) (lower c d) (higher c d))))
+        → IsSortedForm (cond same (record { sign = pair_sign a b *ℤ pair_sign c d; var = None })
+        (signed_variable (pair_sign a b *ℤ pair_sign c d) (R (lower a b) (higher a b) (lower c d) (higher c d))))
     go true e = record { sign = small; variable = tt; nonzero = tt }
     go false e =
         form (pair_sign a b *ℤ pair_sign c d) (R (lower a b) (higher a b) (lower c d) (higher c d)) small

@@ -28,7 +28,8 @@ top_at rows top [] i t within at h = absurd (omega arith)
 top_at rows top (u ∷ q) zero t within at h = subst (λ (x : Powers × ℤ). denominators rows x.0 ≤ top) (sym at) (omega (arith, h))
 top_at rows top (u ∷ q) (suc i) t within at h = top_at rows top q i t (omega arith) at (omega (arith, h))
 
-degree_at : (rows : List Row) (den : Piece) (top : ℕ) (q : Summands) (i : ℕ) (t : Powers × ℤ) → i < length q → t ≡ get_or q i t → degree_bound rows den top q ≤ 65535 → term_degree rows den top t ≤ 65535
+degree_at : (rows : List Row) (den : Piece) (top : ℕ) (q : Summands) (i : ℕ) (t : Powers × ℤ) → i < length q → t ≡ get_or q i t
+    → degree_bound rows den top q ≤ 65535 → term_degree rows den top t ≤ 65535
 degree_at rows den top [] i t within at h = absurd (omega arith)
 degree_at rows den top (u ∷ q) zero t within at h = subst (λ (x : Powers × ℤ). term_degree rows den top x ≤ 65535) (sym at) (omega (arith, h))
 degree_at rows den top (u ∷ q) (suc i) t within at h = degree_at rows den top q i t (omega arith) at (omega (arith, h))

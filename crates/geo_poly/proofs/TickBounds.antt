@@ -63,7 +63,8 @@ pow-some k zero h = omega (arith, pow-zero k)
 pow-some k (suc n) h = one-le-pow (suc n) k (h (omega arith))
 
 -- a chain that was multiplied k times by a piece
-pub power_size : (vars : List Var) (s0 s : Links) (a0 a : Chains) (first chain : ℕ) (piece : Piece) (k : ℕ) → IsBounded piece → StandsFor vars s a chain (times_power (keyed_terms vars s0 (pairs_of a0 first)) piece.poly k)
+pub power_size : (vars : List Var) (s0 s : Links) (a0 a : Chains) (first chain : ℕ) (piece : Piece) (k : ℕ) → IsBounded piece
+    → StandsFor vars s a chain (times_power (keyed_terms vars s0 (pairs_of a0 first)) piece.poly k)
     → length (pairs_of a chain) ≤ length (pairs_of a0 first) * piece.count ^ k
 power_size vars s0 s a0 a first chain piece k bounded stands =
     let base = keyed_terms vars s0 (pairs_of a0 first) in
@@ -133,7 +134,8 @@ Counting-start rows m size start some one = record {
 }
 
 -- a variable with no row
-pub Counting-none : (rows : List Row) (m : Powers) (v : Var × ℕ) (left : Powers) (size start now : ℕ) → row_of rows v.0 ≡ None → Counting rows m (v ∷ left) size start now → Counting rows m left size start now
+pub Counting-none : (rows : List Row) (m : Powers) (v : Var × ℕ) (left : Powers) (size start now : ℕ) → row_of rows v.0 ≡ None
+    → Counting rows m (v ∷ left) size start now → Counting rows m left size start now
 Counting-none rows m v left size start now e h = record {
   nonzero = h.nonzero.1;
   sizes = subst (λ (o : Option Row). count_rows rows left (count_row o v.1 size) ≤ count_rows rows m 1) e h.sizes;
@@ -144,7 +146,8 @@ Counting-none rows m v left size start now e h = record {
 }
 
 -- a variable with a row: its powers, whole or in part
-pub Counting-some : (rows : List Row) (m : Powers) (v : Var × ℕ) (left : Powers) (size size' start now now' : ℕ) (r : Row) → row_of rows v.0 ≡ Some r → AllBounded rows → Counting rows m (v ∷ left) size start now
+pub Counting-some : (rows : List Row) (m : Powers) (v : Var × ℕ) (left : Powers) (size size' start now now' : ℕ) (r : Row)
+    → row_of rows v.0 ≡ Some r → AllBounded rows → Counting rows m (v ∷ left) size start now
     → size' ≤ size * r.num.count ^ v.1 → now' ≤ now + power_products size r.num.count v.1 → Counting rows m left size' start now'
 Counting-some rows m v left size size' start now now' r e bounded h fits step =
     let k = r.num.count in
@@ -165,7 +168,8 @@ Counting-some rows m v left size size' start now now' r e bounded h fits step =
     }
 
 -- the denominators that are lacking, whole or in part
-pub counted_term : (rows : List Row) (den : Piece) (top : ℕ) (m left : Powers) (size start now now' lacking : ℕ) → AllBounded rows → IsBounded den → HasNoZero rows den top m → Counting rows m left size start now
+pub counted_term : (rows : List Row) (den : Piece) (top : ℕ) (m left : Powers) (size start now now' lacking : ℕ) → AllBounded rows
+    → IsBounded den → HasNoZero rows den top m → Counting rows m left size start now
     → lacking ≡ top - denominators rows m → now' ≤ now + power_products size den.count lacking → now' ≤ start + term_products rows den top m
 counted_term rows den top m left size start now now' lacking bounded den_bounded some h e step =
     let n = top - denominators rows m in
@@ -187,7 +191,8 @@ counted_term rows den top m left size start now now' lacking bounded den_bounded
     omega (arith, made, powers, all, before, parts, h.ticks)
 
 -- SUMS OF TERMS
-pub counted_halves : (rows : List Row) (den : Piece) (top n : ℕ) (p : Summands) → products_of_terms rows den top (take n p) + products_of_terms rows den top (drop n p) ≡ products_of_terms rows den top p
+pub counted_halves : (rows : List Row) (den : Piece) (top n : ℕ) (p : Summands)
+    → products_of_terms rows den top (take n p) + products_of_terms rows den top (drop n p) ≡ products_of_terms rows den top p
 counted_halves rows den top n p =
     sym (sum_by-append (λ t. term_products rows den top t.0) (take n p) (drop n p)) ∙ ap (products_of_terms rows den top) (take-append-drop n p)
 

@@ -79,11 +79,13 @@ Seen-fits rows top m v left missing r e h =
 
 -- WHAT IT FINDS
 -- a zero numerator
-pub zero_numerator : (rows : List Row) (den : Summands) (top : ℕ) (m : Powers) (v : Var × ℕ) (left : Powers) (missing : ℕ) (r : Row) → row_of rows v.0 ≡ Some r → r.num.poly ≡ [] → Seen rows top m (v ∷ left) missing
+pub zero_numerator : (rows : List Row) (den : Summands) (top : ℕ) (m : Powers) (v : Var × ℕ) (left : Powers) (missing : ℕ) (r : Row)
+    → row_of rows v.0 ≡ Some r → r.num.poly ≡ [] → Seen rows top m (v ∷ left) missing
     → (k : ℤ) → replaced_term rows den top (m, k) ≡ []
 zero_numerator rows den top m v left missing r e none h k =
     let some : 0 < v.1 = grind (arith, nat_tests) in
-    let gone : (q : Summands) → times_row (row_of rows v.0) v.1 q ≡ [] = λ q. ap (λ (o : Option Row). times_row o v.1 q) e ∙ ap (λ (p : Summands). times_power q p v.1) none ∙ times_power-by_none q v.1 some in
+    let gone : (q : Summands) → times_row (row_of rows v.0) v.1 q ≡ [] = λ q. ap (λ (o : Option Row). times_row o v.1 q) e
+    ∙ ap (λ (p : Summands). times_power q p v.1) none ∙ times_power-by_none q v.1 some in
     let all = h.lost (λ q. ap (times_rows rows left) (gone q) ∙ times_rows-of_none rows left) in
     ap (λ (p : Summands). times_power p den (top - denominators rows m)) (all ((others rows m, k) ∷ [])) ∙ times_power-of_none den (top - denominators rows m)
 

@@ -44,7 +44,8 @@ module _ (vars : List Var) (rising : IsStrictlySortedBy var_cmp vars) (j k e : �
   -- the walk has not come to it
   pub before : j < k → exponent (var_at vars k) rest ≡ exponent (var_at vars k) ((v, e) ∷ rest)
   before lt =
-      let greater : var_cmp (var_at vars k) v ≡ Greater = subst (λ (w : Var). var_cmp (var_at vars k) w ≡ Greater) here (var_order.flip (var_at vars j) (var_at vars k) (rising_at vars j k rising lt within)) in
+      let greater : var_cmp (var_at vars k) v ≡ Greater = subst (λ (w : Var). var_cmp (var_at vars k) w ≡ Greater) here
+      (var_order.flip (var_at vars j) (var_at vars k) (rising_at vars j k rising lt within)) in
       let whole : exponent (var_at vars k) ((v, e) ∷ rest) ≡ 0 + exponent (var_at vars k) rest = ap (λ (o : Ordering). cond (is_eq o) e 0 + exponent (var_at vars k) rest) greater in
       omega (arith, whole)
 
@@ -105,10 +106,14 @@ module _ (f : Powers × ℤ → Bool) (p : Summands) (i : ℕ) (t : Powers × �
   left_out fails empty = let rest = filter f (drop (i + 1) p) in ap (filter f) at ∙ ap (λ (b : Bool). cond b (t ∷ rest) rest) fails ∙ empty
 
 -- THEIR INDICES
-pub terms_of-filter : (vars : List Var) (links : Links) (f : Powers × ℤ → Bool) (list : Indices) → terms_of vars links (filter (λ t. f (term_of vars links t)) list) ≡ filter f (terms_of vars links list)
+pub terms_of-filter : (vars : List Var) (links : Links) (f : Powers × ℤ → Bool) (list : Indices)
+    → terms_of vars links (filter (λ t. f (term_of vars links t)) list) ≡ filter f (terms_of vars links list)
 terms_of-filter vars links f [] = refl
 terms_of-filter vars links f (t ∷ ts) =
-    elim (f (term_of vars links t)) as (λ b. terms_of vars links (cond b (t ∷ filter (λ u. f (term_of vars links u)) ts) (filter (λ u. f (term_of vars links u)) ts)) ≡ cond b (term_of vars links t ∷ filter f (terms_of vars links ts)) (filter f (terms_of vars links ts))) [
+    elim (f (term_of vars links t)) as
+    (λ b. terms_of vars links (cond b (t ∷ filter (λ u. f (term_of vars links u)) ts)
+    (filter (λ u. f (term_of vars links u)) ts)) ≡ cond b (term_of vars links t ∷ filter f (terms_of vars links ts))
+    (filter f (terms_of vars links ts))) [
       | true ↦ ap (λ (us : Summands). term_of vars links t ∷ us) (terms_of-filter vars links f ts)
       | false ↦ terms_of-filter vars links f ts
     ]
@@ -136,7 +141,8 @@ monomial_in vars links list i t within at h =
     (ap (term_of vars links) at ∙ sym (get_or-map (term_of vars links) list i t (term_of vars links t) within)) h.polynomial.monomials
 
 -- the terms that are kept
-pub kept_terms : (vars : List Var) (links : Links) (list : Indices) (v : Var) → IsShared vars links list → terms_of vars links (filter (λ t. lacks v (term_of vars links t)) list) ≡ specialised v (pos 0) (terms_of vars links list)
+pub kept_terms : (vars : List Var) (links : Links) (list : Indices) (v : Var) → IsShared vars links list
+    → terms_of vars links (filter (λ t. lacks v (term_of vars links t)) list) ≡ specialised v (pos 0) (terms_of vars links list)
 kept_terms vars links list v h = terms_of-filter vars links (lacks v) list ∙ sym (specialised-zero v (terms_of vars links list) h.polynomial.in_order h.polynomial.monomials)
 
 pub kept_shared : (vars : List Var) (links : Links) (list : Indices) (v : Var) → IsShared vars links list → IsShared vars links (filter (λ t. lacks v (term_of vars links t)) list)
@@ -165,6 +171,7 @@ pub absent : (vars : List Var) (links : Links) (list : Indices) (v : Var) → (C
 absent vars links list v out h = no_degree vars v (terms_of vars links list) out (known_variables vars links list h)
 
 -- so 0 for it changes nothing
-pub absent_zero : (vars : List Var) (links : Links) (list : Indices) (v : Var) → (Contains vars v → ⊥) → IsShared vars links list → specialised v (pos 0) (terms_of vars links list) ≡ terms_of vars links list
+pub absent_zero : (vars : List Var) (links : Links) (list : Indices) (v : Var) → (Contains vars v → ⊥) → IsShared vars links list
+    → specialised v (pos 0) (terms_of vars links list) ≡ terms_of vars links list
 absent_zero vars links list v out h =
     specialised-lacking v (pos 0) (terms_of vars links list) (record { in_order = h.polynomial.in_order; monomials = h.polynomial.monomials }) (absent vars links list v out h.indices)

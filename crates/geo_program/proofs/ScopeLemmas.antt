@@ -101,7 +101,8 @@ IsExpression-ratios points params ratios (multiplication e f) h = (IsExpression-
 IsExpression-ratios points params ratios (division e f) h = (IsExpression-ratios points params ratios e h.0, h.1)
 
 -- over more points and parameters an expression is one
-pub IsExpression-wider : (points params more_points more_params : ℕ) (ratios : Bool) (e : Tree) → points ≤ more_points → params ≤ more_params → IsExpression points params ratios e → IsExpression more_points more_params ratios e
+pub IsExpression-wider : (points params more_points more_params : ℕ) (ratios : Bool) (e : Tree) → points ≤ more_points
+    → params ≤ more_params → IsExpression points params ratios e → IsExpression more_points more_params ratios e
 IsExpression-wider points params p q ratios (integer_leaf n) hp hq h = h
 IsExpression-wider points params p q ratios (parameter_leaf t) hp hq h = omega arith
 IsExpression-wider points params p q ratios (area_leaf a b c) hp hq h = omega arith

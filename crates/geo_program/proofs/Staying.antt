@@ -26,7 +26,9 @@ use Rattle.geo_terms.proofs.Trees.{tree_of-append}
 -- MORE NAMES
 
 -- what is an expression over a scope is one over its names
-pub over_names : (names : List Name) (ratios : Bool) (e : Tree) → IsExpression (scope_of empty_scope names).points (scope_of empty_scope names).params ratios e → IsExpression (length (names_of Point names)) (length (names_of Param names)) ratios e
+pub over_names : (names : List Name) (ratios : Bool) (e : Tree)
+    → IsExpression (scope_of empty_scope names).points (scope_of empty_scope names).params ratios e
+    → IsExpression (length (names_of Point names)) (length (names_of Param names)) ratios e
 over_names names ratios e h = rw (points_declared names, params_declared names) at h
 
 module _ (names more : List Name) where
@@ -37,7 +39,9 @@ module _ (names more : List Name) where
   parts_kept word x y u v h k = ap₂ (λ p q. word_lexeme word ∷ braced p ++ braced q) h k
 
   -- an expression over the names is spelt the same with more names
-  pub expression_lexemes-append : (ratios : Bool) (e : Tree) → IsExpression (length (names_of Point names)) (length (names_of Param names)) ratios e → expression_lexemes (names ++ more) e ≡ expression_lexemes names e
+  pub expression_lexemes-append : (ratios : Bool) (e : Tree)
+      → IsExpression (length (names_of Point names)) (length (names_of Param names)) ratios e
+      → expression_lexemes (names ++ more) e ≡ expression_lexemes names e
   expression_lexemes-append ratios (integer_leaf n) h = refl
   expression_lexemes-append ratios (parameter_leaf t) h = ap (λ text. word_lexeme text ∷ []) (name_text-append Param names more t.0 h)
   expression_lexemes-append ratios (area_leaf a b c) h =
@@ -64,7 +68,8 @@ module _ (names more : List Name) where
   argument_lexemes-append (number_argument e) h = expression_lexemes-append false e (over_names names false e h.0)
   argument_lexemes-append (side_argument e) h = ap braced (expression_lexemes-append true e (over_names names true e h.0))
 
-  pub arguments_lexemes-append : (arguments : List Argument) → All (IsArgument (scope_of empty_scope names)) arguments → flat_map (argument_lexemes (names ++ more)) arguments ≡ flat_map (argument_lexemes names) arguments
+  pub arguments_lexemes-append : (arguments : List Argument) → All (IsArgument (scope_of empty_scope names)) arguments
+      → flat_map (argument_lexemes (names ++ more)) arguments ≡ flat_map (argument_lexemes names) arguments
   arguments_lexemes-append [] h = refl
   arguments_lexemes-append (x ∷ arguments) h =
       ap₂ (λ l m. l ++ m)
@@ -72,13 +77,17 @@ module _ (names more : List Name) where
       (arguments_lexemes-append arguments (All-tail (IsArgument (scope_of empty_scope names)) x arguments h))
 
 -- a command whose arguments are over these names is spelt the same with more names
-pub command_lexemes-append : (names more : List Name) (nodes : Store) (own : List Name) (command : Command) → IsCommand nodes (scope_of empty_scope names) own command → command_lexemes (names ++ more) nodes own command ≡ command_lexemes names nodes own command
+pub command_lexemes-append : (names more : List Name) (nodes : Store) (own : List Name) (command : Command)
+    → IsCommand nodes (scope_of empty_scope names) own command
+    → command_lexemes (names ++ more) nodes own command ≡ command_lexemes names nodes own command
 command_lexemes-append names more nodes own command h =
     ap (λ l. word_lexeme (command_form nodes command).word ∷ condition_lexemes (command_form nodes command).condition ++ (map (λ (name : Name). word_lexeme name.text) own ++ l))
     (arguments_lexemes-append names more (command_form nodes command).arguments h.arguments)
 
 -- the same of a statement
-pub statement_lexemes-append : (names more : List Name) (nodes : Store) (s : Statement) → All (IsArgument (scope_of empty_scope names)) (statement_form nodes s).arguments → statement_lexemes (names ++ more) nodes s ≡ statement_lexemes names nodes s
+pub statement_lexemes-append : (names more : List Name) (nodes : Store) (s : Statement)
+    → All (IsArgument (scope_of empty_scope names)) (statement_form nodes s).arguments
+    → statement_lexemes (names ++ more) nodes s ≡ statement_lexemes names nodes s
 statement_lexemes-append names more nodes s h =
     ap (λ l. word_lexeme (codes "prove") ∷ braced (word_lexeme (statement_form nodes s).word ∷ l))
     (arguments_lexemes-append names more (statement_form nodes s).arguments h)

@@ -75,7 +75,8 @@ length-changed (c ∷ cs) [] = refl
 length-changed (c ∷ cs) (p ∷ ps) = omega (arith, length-changed cs ps)
 
 -- a change that is moved out of what is left of their list
-pub same_left : (now cs : List (Option Summands)) (i : ℕ) (c : Option Summands) → i < length now → i < length cs → c ≡ get_or now i c → drop i now ≡ drop i cs → (get_or cs i None ≡ c) × (drop (i + 1) now ≡ drop (i + 1) cs)
+pub same_left : (now cs : List (Option Summands)) (i : ℕ) (c : Option Summands) → i < length now → i < length cs → c ≡ get_or now i c
+    → drop i now ≡ drop i cs → (get_or cs i None ≡ c) × (drop (i + 1) now ≡ drop (i + 1) cs)
 same_left now cs i c lt below at same =
     let d = get_or cs i None in
     let both : c ∷ drop (i + 1) now ≡ get_or cs i None ∷ drop (i + 1) cs = sym (drop_at now i c lt at) ∙ same ∙ drop_at cs i d below (get_or_any cs i None d below) in
@@ -96,7 +97,8 @@ stays-more (c ∷ cs) [] (suc i) lt none = refl
 stays-more (c ∷ cs) (p ∷ ps) (suc i) lt none = ap (λ (qs : List Summands). unwrap_or c p ∷ qs) (stays-more cs ps i (omega (arith, lt)) none)
 
 -- one more that becomes another
-pub becomes-more : (cs : List (Option Summands)) (ps : List Summands) (i : ℕ) (q : Summands) → i < length cs → length cs ≡ length ps → get_or cs i None ≡ Some q → changed (take (suc i) cs) ps ≡ set (changed (take i cs) ps) i q
+pub becomes-more : (cs : List (Option Summands)) (ps : List Summands) (i : ℕ) (q : Summands) → i < length cs → length cs ≡ length ps
+    → get_or cs i None ≡ Some q → changed (take (suc i) cs) ps ≡ set (changed (take i cs) ps) i q
 becomes-more [] ps i q lt same e = absurd (omega (arith, lt))
 becomes-more (c ∷ cs) [] i q lt same e = absurd (omega (arith, same))
 becomes-more (c ∷ cs) (p ∷ ps) zero q lt same e = ap (λ (d : Option Summands). unwrap_or d p ∷ ps) e

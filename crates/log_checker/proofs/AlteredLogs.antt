@@ -154,7 +154,8 @@ ten_lines =
 pub other_verdict : IsFirstStop 100 (with_rest (chain_reads (Some (Sample zeros) ∷ Some (VerdictLine (False 1)) ∷ []))) 12 (rejected wrong_verdict)
 other_verdict =
     stop_behind (Some goal_line)
-    (Some (Start (times (negsuc 0))) ∷ Some (Cut ([], negsuc 0) (times (pos 1))) ∷ Some (PointLine (at 2) []) ∷ Some End ∷ Some (Sample zeros) ∷ Some (VerdictLine (False 1)) ∷ []) 12 (rejected wrong_verdict) tt
+    (Some (Start (times (negsuc 0))) ∷ Some (Cut ([], negsuc 0) (times (pos 1))) ∷ Some (PointLine (at 2) []) ∷ Some End
+    ∷ Some (Sample zeros) ∷ Some (VerdictLine (False 1)) ∷ []) 12 (rejected wrong_verdict) tt
     (inl (record {
       good = chain_good (Sample zeros ∷ []);
       place = before_line (VerdictLine Proved);

@@ -121,14 +121,20 @@ module _ (c : Construction) where
       all_lines = first.split ∙ ap (λ zs. head ∷ Start (start_of e) ∷ zs) (append_assoc (map line_of first.chain.steps) (End ∷ []) first.rest)
 
       -- a chain that is begun goes on
-      pub chain_goes : (xs zs : List Line) (place : Place) → ws ≡ xs ++ zs → IsBegunChain (LeadsTo lemma_table c) (IsAcceptedChain lemma_table c) (IsAcceptedSample c) head known left e xs place → Goes place zs
+      pub chain_goes : (xs zs : List Line) (place : Place) → ws ≡ xs ++ zs
+          → IsBegunChain (LeadsTo lemma_table c) (IsAcceptedChain lemma_table c) (IsAcceptedSample c) head known left e xs place
+          → Goes place zs
       chain_goes xs zs place same (inl h) =
           goes_at place (before_line head) zs h.1
           (head, Start (start_of e) ∷ (map line_of first.chain.steps ++ End ∷ first.rest), ap (λ ys. ys ++ zs) (sym h.0) ∙ sym same ∙ all_lines, refl)
       chain_goes xs zs place same (inr (inl h)) =
           let both : head ∷ zs ≡ head ∷ Start (start_of e) ∷ (map line_of first.chain.steps ++ End ∷ first.rest) = ap (λ ys. ys ++ zs) (sym h.0) ∙ sym same ∙ all_lines in
-          goes_at place (before_start left e) zs h.1
-          (Start (start_of e), map line_of first.chain.steps ++ End ∷ first.rest, tail_of head head zs (Start (start_of e) ∷ (map line_of first.chain.steps ++ End ∷ first.rest)) both, (refl, first.works.started))
+          goes_at place (before_start left e) zs h.1 (
+            Start (start_of e),
+            map line_of first.chain.steps ++ End ∷ first.rest,
+            tail_of head head zs (Start (start_of e) ∷ (map line_of first.chain.steps ++ End ∷ first.rest)) both,
+            (refl, first.works.started),
+          )
       chain_goes xs zs place same (inr (inr h)) =
           let both : head ∷ Start (start_of e) ∷ (map line_of first.chain.steps ++ End ∷ first.rest) ≡ head ∷ Start (start_of e) ∷ (map line_of h.steps ++ zs) =
           sym all_lines ∙ same ∙ ap (λ ys. ys ++ zs) h.split in
@@ -147,7 +153,9 @@ module _ (c : Construction) where
           let lines = cancelled (head ∷ Start (start_of e) ∷ []) (map line_of first.chain.steps ++ End ∷ first.rest) (map line_of done.chain.steps ++ End ∷ (done.rest ++ zs))
           (sym all_lines ∙ same ∙ other) in
           full_ends done.after done.chain.end first.after first.chain.end first.rest (done.rest ++ zs)
-          (path_rest (left - start_charge e) (start_of e) first.chain.steps first.after first.chain.end done.chain.steps done.after done.chain.end first.rest (End ∷ (done.rest ++ zs)) first.works.leads done.works.leads lines)
+          (path_rest (left - start_charge e)
+          (start_of e) first.chain.steps first.after first.chain.end done.chain.steps done.after done.chain.end first.rest
+          (End ∷ (done.rest ++ zs)) first.works.leads done.works.leads lines)
 
   -- THE END
   module _ (listed : List Summands) (left : ℕ) where

@@ -195,4 +195,5 @@ pub stopped : (bytes rest piece behind : List ℕ) (steps : ℕ) (c : CheckerVal
     → TellsStop (StopsAt c.steps (t.pieces ++ piece ∷ [])) e → TellsStop (Refuses bytes steps) e
 stopped bytes rest piece behind steps c t e is h =
     tells_stop_map (StopsAt c.steps (t.pieces ++ piece ∷ [])) (Refuses bytes steps)
-    (λ n r s. stops_early bytes behind (t.pieces ++ piece ∷ []) steps n r (moved_on t.pieces bytes rest piece behind t.split is) (subst (λ k. StopsAt k (t.pieces ++ piece ∷ []) n r) t.steps_are s)) e h
+    (λ n r s. stops_early bytes behind (t.pieces ++ piece ∷ []) steps n r (moved_on t.pieces bytes rest piece behind t.split is)
+    (subst (λ k. StopsAt k (t.pieces ++ piece ∷ []) n r) t.steps_are s)) e h

@@ -77,7 +77,9 @@ module _ (subject : Subject) (steps : ℕ) where
       → AreConditionsDue subject steps good known listed left index → AreGoalsDue subject steps good known listed left 0
   goals_due good known listed left index over d = record {
     begun = λ more place h. d.begun more place (subst (λ items. AreConditionsBegun Leads Works Chosen subject.goals known listed (suc index) left items more place) (sym none_left) h);
-    worked = λ more verdict left' h. d.worked more verdict left' (subst (λ items. AreConditionsWorked Works Chosen subject.goals known listed (suc index) left items more verdict left') (sym none_left) h);
+    worked = λ more verdict left' h. d.worked more verdict left'
+        (subst (λ items. AreConditionsWorked Works Chosen subject.goals known listed (suc index) left items more verdict left')
+        (sym none_left) h);
   }
     where
       none_left : drop index subject.conditions ≡ []
@@ -127,7 +129,8 @@ module _ (subject : Subject) (steps : ℕ) where
   start_due good known listed left t item d = record { before = good; item = item; due = d; split = refl }
 
   -- the start
-  pub first_step_due : (good : List Line) (known : List Var) (listed : List Summands) (left left' : ℕ) (t : Task) (own : Option Var) (q : Summands) (d : IsStartDue subject steps good known listed left t)
+  pub first_step_due : (good : List Line) (known : List Var) (listed : List Summands) (left left' : ℕ) (t : Task) (own : Option Var)
+      (q : Summands) (d : IsStartDue subject steps good known listed left t)
       → IsStarted left d.item.term → q ≡ start_of d.item.term → left' ≡ left - start_charge d.item.term → own ≡ only_variable q
       → IsStepDue subject steps (good ++ Start q ∷ []) known listed left' t own q
   first_step_due good known listed left left' t own q d started is charged alone =
@@ -330,13 +333,16 @@ module _ (subject : Subject) (steps : ℕ) where
             stands =
                 subst (λ ls. Good ls (before_line (VerdictLine (Impossible (suc index))))) (behind good w.before (chain_lines header w.item.term w.chain) [] same_split ∙ append-nil (good ++ End ∷ []))
                 (w.due.3.begun (chain_lines header w.item.term w.chain ++ []) (before_line (VerdictLine (Impossible (suc index))))
-                (subst (λ items. AreConditionsBegun Leads Works Chosen subject.goals known listed (suc index) w.first items (chain_lines header w.item.term w.chain ++ []) (before_line (VerdictLine (Impossible (suc index)))))
+                (subst (λ items. AreConditionsBegun Leads Works Chosen subject.goals known listed (suc index) w.first items
+                (chain_lines header w.item.term w.chain ++ []) (before_line (VerdictLine (Impossible (suc index)))))
                 (sym (drop_item subject.conditions index w.item w.due.2))
                 (inr (begins header known w.first left w.item w.chain [] w.works, inl (w.ends ∙ none_left, refl, refl)))));
             whole =
-                subst (λ ls. IsWhole subject steps ls (Impossible (suc index)) left) (behind good w.before (chain_lines header w.item.term w.chain) (VerdictLine (Impossible (suc index)) ∷ []) same_split)
+                subst (λ ls. IsWhole subject steps ls (Impossible (suc index)) left)
+                (behind good w.before (chain_lines header w.item.term w.chain) (VerdictLine (Impossible (suc index)) ∷ []) same_split)
                 (w.due.3.worked (chain_lines header w.item.term w.chain ++ VerdictLine (Impossible (suc index)) ∷ []) (Impossible (suc index)) left
-                (subst (λ items. AreConditionsWorked Works Chosen subject.goals known listed (suc index) w.first items (chain_lines header w.item.term w.chain ++ VerdictLine (Impossible (suc index)) ∷ []) (Impossible (suc index)) left)
+                (subst (λ items. AreConditionsWorked Works Chosen subject.goals known listed (suc index) w.first items
+                (chain_lines header w.item.term w.chain ++ VerdictLine (Impossible (suc index)) ∷ []) (Impossible (suc index)) left)
                 (sym (drop_item subject.conditions index w.item w.due.2))
                 (begins header known w.first left w.item w.chain (VerdictLine (Impossible (suc index)) ∷ []) w.works, inl (w.ends ∙ none_left, refl, refl, refl))));
           }

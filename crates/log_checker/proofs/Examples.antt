@@ -107,7 +107,8 @@ twice_well_formed = record {
     ),
   );
   few = lit≤ tt;
-  statement = All-from_recursion (IsArgument (scope_of empty_scope twice_source.names)) (point_argument (at 0) ∷ point_argument (at 1) ∷ point_argument (at 2) ∷ []) (lit< tt, (lit< tt, (lit< tt, tt)));
+  statement = All-from_recursion (IsArgument (scope_of empty_scope twice_source.names))
+      (point_argument (at 0) ∷ point_argument (at 1) ∷ point_argument (at 2) ∷ []) (lit< tt, (lit< tt, (lit< tt, tt)));
   sides = tt;
 }
 
@@ -157,7 +158,9 @@ twice_about = record {
 
 -- no placement meets it, and its first condition holds nowhere
 twice_impossible : IsImpossible twice_source × HoldsNowhere twice_source 1
-twice_impossible = impossible_is_never_met twice_source 3 1 twice_lines (record { well_formed = twice_well_formed; subject = twice; about = twice_about; left = 0; accepted = twice_accepted lemma_table })
+twice_impossible =
+    impossible_is_never_met twice_source 3 1 twice_lines
+    (record { well_formed = twice_well_formed; subject = twice; about = twice_about; left = 0; accepted = twice_accepted lemma_table })
 
 -- TWO QUOTIENTS THAT ARE NOT EQUAL
 abbrev pub term : ℕ → TermId

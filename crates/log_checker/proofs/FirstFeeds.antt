@@ -43,7 +43,8 @@ front_splits : (xs : List ℕ) → front xs < length xs → xs ≡ take (front x
 front_splits [] l = absurd (omega (arith, l))
 front_splits (x ∷ xs) l = go (λ below. front_splits xs below) (x == 10) refl
   where
-    go : (front xs < length xs → xs ≡ take (front xs) xs ++ 10 ∷ drop (suc (front xs)) xs) → (t : Bool) → (x == 10) ≡ t → x ∷ xs ≡ take (front (x ∷ xs)) (x ∷ xs) ++ 10 ∷ drop (suc (front (x ∷ xs))) (x ∷ xs)
+    go : (front xs < length xs → xs ≡ take (front xs) xs ++ 10 ∷ drop (suc (front xs)) xs) → (t : Bool) → (x == 10) ≡ t
+        → x ∷ xs ≡ take (front (x ∷ xs)) (x ∷ xs) ++ 10 ∷ drop (suc (front (x ∷ xs))) (x ∷ xs)
     go behind true e = subst (λ n. x ∷ xs ≡ take n (x ∷ xs) ++ 10 ∷ drop (suc n) (x ∷ xs)) (sym (front_at x xs e)) (ap (λ b. b ∷ xs) (same_byte x e))
     go behind false e =
         let below : front xs < length xs = omega (arith, l, front_behind x xs e) in

@@ -41,7 +41,11 @@ module _ (p : Source) (subject : Subject) (steps : ℕ) (w : IsWellFormed p) (s 
   behind_whole good (None ∷ reads) h =
       inr (number_after lemma_table subject steps good, rejected bad_line, inr (inl (record { good = good; read = None; more = reads; split = refl; counted = refl; whole = h; refused = refl })))
   behind_whole good (Some line ∷ reads) h =
-      inr (number_after lemma_table subject steps good, rejected wrong_line, inr (inl (record { good = good; read = Some line; more = reads; split = refl; counted = refl; whole = h; refused = refl })))
+      inr (
+        number_after lemma_table subject steps good,
+        rejected wrong_line,
+        inr (inl (record { good = good; read = Some line; more = reads; split = refl; counted = refl; whole = h; refused = refl })),
+      )
 
   judged_from : (good : List Line) (place : Place) (reads : List (Option Line)) → IsGoodSoFar lemma_table subject steps good place → AllByRecursion IsReadable reads → Judged (map Some good ++ reads)
   judged_from good place [] h r =
@@ -135,8 +139,12 @@ parted (Some line ∷ reads) = record { texts = []; rest = Some line ∷ reads; 
 
 behind_header : (bytes : List ℕ) (line : Line) (header : Option Line) (reads : List (Option Line)) → AreRead bytes (header ∷ reads) → header ≡ Some line
     → (rest : List ℕ) × (length rest ≤ length bytes) × AreRead rest reads
-behind_header bytes line header reads (inl (first, h)) e =
-    (first.rest, (let whole : length bytes ≡ length (first.piece ++ 10 ∷ first.rest) = ap length first.split in let parts = length-append first.piece (10 ∷ first.rest) in omega (arith, whole, parts)), h)
+behind_header bytes line header reads (inl (first, h)) e = (
+  first.rest,
+  (let whole : length bytes ≡ length (first.piece ++ 10 ∷ first.rest) = ap length first.split in
+      let parts = length-append first.piece (10 ∷ first.rest) in omega (arith, whole, parts)),
+  h,
+)
 behind_header bytes line header reads (inr h) e = absurd (let q : ◌≡◌ {A = Option Line} None (Some line) = sym h.2 ∙ e in cc)
 
 -- WHOLE LOGS
@@ -151,12 +159,14 @@ module _ (bytes : List ℕ) (steps : ℕ) where
     -- the texts behind the header are short
     short : (p : Source) → IsWellFormed p → source_lines p ≡ first.texts → IsShortProgram p
     short p w e =
-        let behind = behind_header bytes (Header first.version) (Some (Header first.version)) (map (λ text. Some (ProgramLine text)) first.texts ++ first.rest) (subst (AreRead bytes) first.split are) refl in
+        let behind = behind_header bytes (Header first.version) (Some (Header first.version))
+        (map (λ text. Some (ProgramLine text)) first.texts ++ first.rest) (subst (AreRead bytes) first.split are) refl in
         let fit = texts_fit behind.0 first.texts first.rest behind.2 in
         let text : length (flat_map with_feed first.texts) ≡ length (canonical_text p) = ap length (ap (flat_map with_feed) (sym e) ∙ text_of_lines p) in
         record { well_formed = w; short = let b = behind.1 in omega (arith, b, fit, text, small) }
 
-    accepted : (p : Source) (subject : Subject) (good : List Line) → IsWellFormed p → source_lines p ≡ first.texts → IsSubjectOf p subject → subject.version ≡ first.version → first.rest ≡ map Some good
+    accepted : (p : Source) (subject : Subject) (good : List Line) → IsWellFormed p → source_lines p ≡ first.texts → IsSubjectOf p subject
+        → subject.version ≡ first.version → first.rest ≡ map Some good
         → IsGoodToEnd lemma_table subject steps good → Outcome
     accepted p subject good w e s number same (verdict, left, worked) =
         let lines = Header subject.version ∷ map ProgramLine subject.program ++ good in

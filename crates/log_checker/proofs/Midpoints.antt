@@ -90,7 +90,8 @@ midpoint_well_formed = record {
     ),
   );
   few = lit≤ tt;
-  statement = All-from_recursion (IsArgument (scope_of empty_scope midpoint_source.names)) (point_argument (at 0) ∷ point_argument (at 2) ∷ point_argument (at 1) ∷ []) (lit< tt, (lit< tt, (lit< tt, tt)));
+  statement = All-from_recursion (IsArgument (scope_of empty_scope midpoint_source.names))
+      (point_argument (at 0) ∷ point_argument (at 2) ∷ point_argument (at 1) ∷ []) (lit< tt, (lit< tt, (lit< tt, tt)));
   sides = tt;
 }
 
@@ -296,7 +297,11 @@ least v = record { natural = refl; keeps = All-nil _; least = λ k lt h. omega (
 pub midpoint_sample_least : IsLeastSample midpoint_construction [] 76 zeros 76
 midpoint_sample_least = record {
   least = (refl, least (abscissa (at 0)), (refl, least (ordinate (at 0)), (refl, least (abscissa (at 1)), (refl, least (ordinate (at 1)), tt))));
-  made = record { charged = refl; fit = All-from_recursion (λ t. IsTooLarge t → ⊥) (search_tries zeros []) (light_try (abscissa (at 0)), (light_try (ordinate (at 0)), (light_try (abscissa (at 1)), (light_try (ordinate (at 1)), tt)))) };
+  made = record {
+    charged = refl;
+    fit = All-from_recursion (λ t. IsTooLarge t → ⊥) (search_tries zeros [])
+        (light_try (abscissa (at 0)), (light_try (ordinate (at 0)), (light_try (abscissa (at 1)), (light_try (ordinate (at 1)), tt))));
+  };
 }
 
 abbrev IsSmall : Var × ℤ → Type 0
@@ -306,7 +311,11 @@ pub midpoint_sample_accepted : IsAcceptedSample midpoint_construction [] 76 zero
 midpoint_sample_accepted = record {
   variables = refl;
   fits = All-from_recursion IsSmall zeros (lit< tt, (lit< tt, (lit< tt, (lit< tt, tt))));
-  made = record { charged = refl; fit = All-from_recursion (λ t. IsTooLarge t → ⊥) (single_tries zeros []) (light_try (abscissa (at 0)), (light_try (ordinate (at 0)), (light_try (abscissa (at 1)), (light_try (ordinate (at 1)), tt)))) };
+  made = record {
+    charged = refl;
+    fit = All-from_recursion (λ t. IsTooLarge t → ⊥) (single_tries zeros [])
+        (light_try (abscissa (at 0)), (light_try (ordinate (at 0)), (light_try (abscissa (at 1)), (light_try (ordinate (at 1)), tt))));
+  };
   nonzero = All-nil _;
 }
 
@@ -400,8 +409,16 @@ can_write z h = record { polynomial = h; variables = ((area_variable, tt), tt) }
 
 midpoint_writable : AllWritable midpoint_lines
 unfolding has_feed
-midpoint_writable =
-    ((lit≤ tt, lit≤ tt), (no_feed (codes "point A") refl, (no_feed (codes "point B") refl, (no_feed (codes "midpoint M A B") refl, (no_feed (codes "prove { collinear A M B }") refl, chain_writable)))))
+midpoint_writable = (
+  (lit≤ tt, lit≤ tt),
+  (
+    no_feed (codes "point A") refl,
+    (
+      no_feed (codes "point B") refl,
+      (no_feed (codes "midpoint M A B") refl, (no_feed (codes "prove { collinear A M B }") refl, chain_writable)),
+    ),
+  ),
+)
   where
     coordinate : (v : Var) → IsVariable v → CanWriteValue (v, pos 0)
     coordinate v h = record { variable = h; fits = lit< tt }

@@ -89,7 +89,8 @@ factor_exists known t ts h =
     let fits : c.content < 2 ^ 127 = let n = h.norm_fits in omega (arith, small, sum, n) in
     record {
       factor = (m, z.0);
-      is = IsFactorOf-signed known p m (pos c.content) z.0 h some refl divides c.greatest z.1 valid (λ v k. known_in_reduced known p t v some refl monomial k) (λ v k. other_in_reduced known p t v some refl monomial k);
+      is = IsFactorOf-signed known p m (pos c.content) z.0 h some refl divides c.greatest z.1 valid
+          (λ v k. known_in_reduced known p t v some refl monomial k) (λ v k. other_in_reduced known p t v some refl monomial k);
       fits = IsFactor-signed p m (pos c.content) z.0 h some divides fits z.1 valid;
       by_known = keys_known known p t.0;
     }

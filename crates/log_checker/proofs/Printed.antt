@@ -101,7 +101,8 @@ parameter-item k (suc n) zero v lt = let q : k ≡ k + 0 = omega arith in ap (λ
 parameter-item k (suc n) (suc i) v lt =
     let q : suc k + i ≡ k + suc i = omega arith in parameter-item (suc k) n i v (omega (arith, lt)) ∙ ap (λ j. Number (record { 0 = j })) q
 
-pub has_sample_values : (version : Version) (p : Source) (values : List (Var × ℤ)) (V : Placement) → AreFreesSame V (given_by version p values) 0 p.commands → V.number ≡ (given_by version p values).number
+pub has_sample_values : (version : Version) (p : Source) (values : List (Var × ℤ)) (V : Placement)
+    → AreFreesSame V (given_by version p values) 0 p.commands → V.number ≡ (given_by version p values).number
     → HasValues p V (sample_values version p values)
 has_sample_values version p values V frees numbers =
     let n = numbers_had p.commands in

@@ -190,7 +190,8 @@ body_of : {T : Type 0} (like : Line) (bytes : List ℕ) (A : T → Type 0) (line
 body_of like bytes A line read Refused refuse (inl h) = inl (line h.0, read h.0 h.1)
 body_of like bytes A line read Refused refuse (inr n) = inr (refuse n)
 
-empty_body : (like : Line) (bytes : List ℕ) (line : Line) → (bytes ≡ [] → IsBody (lead_of like) bytes line) → ((bytes ≡ [] → ⊥) → (l : Line) → IsBody (lead_of like) bytes l → ⊥) → IsBodyOrNone like bytes
+empty_body : (like : Line) (bytes : List ℕ) (line : Line) → (bytes ≡ [] → IsBody (lead_of like) bytes line)
+    → ((bytes ≡ [] → ⊥) → (l : Line) → IsBody (lead_of like) bytes l → ⊥) → IsBodyOrNone like bytes
 empty_body like bytes line read refuse = go (none_decided bytes)
   where
     go : Decided (bytes ≡ []) → IsBodyOrNone like bytes

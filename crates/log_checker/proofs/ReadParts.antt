@@ -210,7 +210,9 @@ sorted_decided (S a b c) = both_decided (less_decided a.0 b.0) (less_decided b.0
 sorted_decided (P a b c) =
     decided_by
     (λ (h : (a.0 ≤ c.0) × ((b.0 ≢ a.0) × ((b.0 ≢ c.0) × (a.0 ≡ c.0 → a.0 < b.0)))). (h.0, h.1.0, h.1.1.0, h.1.1.1)) (λ (h : IsSorted (P a b c)). (h.0, (h.1, (h.2, h.3))))
-    (both_decided (at_most_decided a.0 c.0) (both_decided (none_of (numbers_decided b.0 a.0)) (both_decided (none_of (numbers_decided b.0 c.0)) (implied (numbers_decided a.0 c.0) (less_decided a.0 b.0)))))
+    (both_decided (at_most_decided a.0 c.0)
+    (both_decided (none_of (numbers_decided b.0 a.0))
+    (both_decided (none_of (numbers_decided b.0 c.0)) (implied (numbers_decided a.0 c.0) (less_decided a.0 b.0)))))
   where
     implied : Decided (a.0 ≡ c.0) → Decided (a.0 < b.0) → Decided (a.0 ≡ c.0 → a.0 < b.0)
     implied (inl e) (inl h) = inl (λ q. h)

@@ -168,12 +168,14 @@ module _ (c : Construction) where
     of_move : (move : Move) (r : Summands) → MoveFitsOrIsRefused move r
     of_move move r = rowless (none_decided (made_by move).rows)
       where
-        moved : (made_by move).rows ≢ [] → IsMoved (made_by move) left q (replaced_by (made_by move).rows (made_by move).den.poly q) → Decided (r ≡ replaced_by (made_by move).rows (made_by move).den.poly q) → MoveFitsOrIsRefused move r
+        moved : (made_by move).rows ≢ [] → IsMoved (made_by move) left q (replaced_by (made_by move).rows (made_by move).den.poly q)
+            → Decided (r ≡ replaced_by (made_by move).rows (made_by move).den.poly q) → MoveFitsOrIsRefused move r
         moved some h (inl e) = inl (subst (IsMoved (made_by move) left q) (sym e) h, (refl, refl))
         moved some h (inr n) =
             inr (rejected wrong_polynomial, (some, (λ stop bad. not_stopped (made_by move) left q (replaced_by (made_by move).rows (made_by move).den.poly q) stop h bad), n))
 
-        paid : (made_by move).rows ≢ [] → IsMoved (made_by move) left q (replaced_by (made_by move).rows (made_by move).den.poly q) ⊎ ((stop : Stop) × IsMoveStopped (made_by move) left q stop) → MoveFitsOrIsRefused move r
+        paid : (made_by move).rows ≢ [] → IsMoved (made_by move) left q (replaced_by (made_by move).rows (made_by move).den.poly q)
+            ⊎ ((stop : Stop) × IsMoveStopped (made_by move) left q stop) → MoveFitsOrIsRefused move r
         paid some (inl h) = moved some h (polynomials_decided r (replaced_by (made_by move).rows (made_by move).den.poly q))
         paid some (inr h) = inr (stopped h.0, (some, h.1))
 

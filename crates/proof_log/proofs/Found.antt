@@ -311,7 +311,8 @@ pub coefficient_not_plus : (s0 s1 s2 : List ℕ) (number : ℤ) → s0 ≡ 43 �
 coefficient_not_plus s0 s1 s2 number plus read none =
     coefficient_unplus s0 s1 plus (λ z r h n is some. none n ((integers_unique s1 number z s2 r read h).0 ∙ is) some)
 
-pub coefficient_not_minus : (s0 s1 s2 : List ℕ) (number : ℤ) → ((rest : List ℕ) → s0 ≡ 43 ∷ rest → ⊥) → s1 ≡ s0 → Begins integers s1 number s2 → ((n : ℕ) → number ≡ negsuc n → ⊥) → NoneBegins coefficients s0
+pub coefficient_not_minus : (s0 s1 s2 : List ℕ) (number : ℤ) → ((rest : List ℕ) → s0 ≡ 43 ∷ rest → ⊥) → s1 ≡ s0
+    → Begins integers s1 number s2 → ((n : ℕ) → number ≡ negsuc n → ⊥) → NoneBegins coefficients s0
 coefficient_not_minus s0 s1 s2 number no_plus kept read none =
     let P : List ℕ → Type 0 = λ l. Begins integers l number s2 in
     let at = subst P kept read in

@@ -69,7 +69,8 @@ on_some (Some x) Q e h = h
 
 -- the leads, one after another
 abbrev pub all_leads : List Lead
-all_leads = HeaderLead ∷ ProgramLead ∷ ConditionLead ∷ GoalLead ∷ StartLead ∷ RatioLead ∷ PointLead ∷ CoordsLead ∷ CutLead ∷ EndLead ∷ SampleLead ∷ ProvedLead ∷ FalseLead ∷ ImpossibleLead ∷ TooLargeLead ∷ SpentLead ∷ []
+all_leads = HeaderLead ∷ ProgramLead ∷ ConditionLead ∷ GoalLead ∷ StartLead ∷ RatioLead ∷ PointLead ∷ CoordsLead ∷ CutLead ∷ EndLead
+    ∷ SampleLead ∷ ProvedLead ∷ FalseLead ∷ ImpossibleLead ∷ TooLargeLead ∷ SpentLead ∷ []
 
 -- so many of them do not stand at the beginning of the bytes, and the reader is still there
 pub record AreLeadsPassed (s0 now : List ℕ) (items : List Lead) (count : ℕ) : Type 0 where
@@ -80,7 +81,9 @@ pub record AreLeadsPassed (s0 now : List ℕ) (items : List Lead) (count : ℕ) 
 pub leads_begin : (s0 : List ℕ) (items : List Lead) → items ≡ all_leads → AreLeadsPassed s0 s0 items 0
 leads_begin s0 items e = record { same = refl; items_are = e; none = λ k below. absurd (omega arith) }
 
-pub leads_step : (s0 now next : List ℕ) (items : List Lead) (i : ℕ) (lead : Lead) → AreLeadsPassed s0 now items i → lead ≡ get_or items i HeaderLead → next ≡ now → ((rest : List ℕ) → now ≡ lead_text lead ++ rest → ⊥) → AreLeadsPassed s0 next items (i + 1)
+pub leads_step : (s0 now next : List ℕ) (items : List Lead) (i : ℕ) (lead : Lead) → AreLeadsPassed s0 now items i
+    → lead ≡ get_or items i HeaderLead → next ≡ now → ((rest : List ℕ) → now ≡ lead_text lead ++ rest → ⊥)
+    → AreLeadsPassed s0 next items (i + 1)
 leads_step s0 now next items i lead h is kept none = record {
   same = kept ∙ h.same;
   items_are = h.items_are;
@@ -207,6 +210,7 @@ lines_told l m h k e =
     same_body (lead_of l) (body_text l) l m a b
 
 -- a line that is read is the one whose text the bytes are
-pub exact_line : (r : Result Line LineError) (bytes rest : List ℕ) (lead : Lead) (l : Line) → Begins leads bytes lead rest → IfOk r (IsBody lead rest) → IsWritable l → bytes ≡ line_text l → IfOk r (λ m. m ≡ l)
+pub exact_line : (r : Result Line LineError) (bytes rest : List ℕ) (lead : Lead) (l : Line) → Begins leads bytes lead rest
+    → IfOk r (IsBody lead rest) → IsWritable l → bytes ≡ line_text l → IfOk r (λ m. m ≡ l)
 exact_line (Err e) bytes rest lead l h b writable text = tt
 exact_line (Ok m) bytes rest lead l h b writable text = lines_told m l b.writable writable (sym (line_from_body bytes rest lead m h b) ∙ text)

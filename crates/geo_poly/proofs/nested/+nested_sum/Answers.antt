@@ -37,8 +37,14 @@ nested_sum-requires g t c =
         (
           c.requires.set,
           (
-            subst (λ (xs : List Pending). All (IsPending setting p (c.args.depth + n)) xs) (sym c.split_at.ensures.front) (All-take (IsPending setting p (c.args.depth + n)) at es (all_deeper setting c.args.store.now c.requires.set p c.args.depth n first es c.shared_factors-shared.ensures.shared c.requires.pending)),
-            front_norm setting c.args.store.now c.requires.set p (c.args.depth + n) es at front back c.split_at.ensures.front c.split_at.ensures.back (deeper_norm setting c.args.store.now c.requires.set p c.args.depth n first es c.shared_factors-shared.ensures.shared c.requires.pending c.requires.norm),
+            subst (λ (xs : List Pending). All (IsPending setting p (c.args.depth + n)) xs) (sym c.split_at.ensures.front)
+                (All-take (IsPending setting p (c.args.depth + n)) at es
+                (all_deeper setting c.args.store.now c.requires.set p c.args.depth n first es c.shared_factors-shared.ensures.shared
+                c.requires.pending)),
+            front_norm setting c.args.store.now c.requires.set p
+                (c.args.depth + n) es at front back c.split_at.ensures.front c.split_at.ensures.back
+                (deeper_norm setting c.args.store.now c.requires.set p c.args.depth n first es c.shared_factors-shared.ensures.shared
+                c.requires.pending c.requires.norm),
           ),
         ),
       ),
@@ -61,8 +67,14 @@ nested_sum-requires-in_default g t c =
         (
           IsSet-kept setting c.args.store.now c.nested_sum.new.store c.in_ok-sum-in_default.ensures.kept c.requires.set,
           (
-            subst (λ (xs : List Pending). All (IsPending setting p (c.args.depth + n)) xs) (sym c.split_at.ensures.back) (All-drop (IsPending setting p (c.args.depth + n)) at es (all_deeper setting c.args.store.now c.requires.set p c.args.depth n first es c.shared_factors-shared.ensures.shared c.requires.pending)),
-            back_norm setting c.args.store.now c.requires.set p (c.args.depth + n) es at front back c.split_at.ensures.front c.split_at.ensures.back (deeper_norm setting c.args.store.now c.requires.set p c.args.depth n first es c.shared_factors-shared.ensures.shared c.requires.pending c.requires.norm),
+            subst (λ (xs : List Pending). All (IsPending setting p (c.args.depth + n)) xs) (sym c.split_at.ensures.back)
+                (All-drop (IsPending setting p (c.args.depth + n)) at es
+                (all_deeper setting c.args.store.now c.requires.set p c.args.depth n first es c.shared_factors-shared.ensures.shared
+                c.requires.pending)),
+            back_norm setting c.args.store.now c.requires.set p
+                (c.args.depth + n) es at front back c.split_at.ensures.front c.split_at.ensures.back
+                (deeper_norm setting c.args.store.now c.requires.set p c.args.depth n first es c.shared_factors-shared.ensures.shared
+                c.requires.pending c.requires.norm),
           ),
         ),
       ),
@@ -114,7 +126,10 @@ summed-whole-requires-clause-fits g t c =
     let back = c.split_at.result.1.now in
     norms_fit setting.vars.now c.nested_sum.new.store c.nested_sum-in_default.new.store c.in-Ok.ensures.kept c.nested_sum.new.arena c.nested_sum-in_default.new.arena
     c.in_ok-sum-in_default.sum c.in-Ok.rest _ _ c.in_ok-sum-in_default.ensures.chain c.in-Ok.ensures.adds c.in-Ok.ensures.chain
-    (parts_fit setting c.args.store.now c.requires.set p (c.args.depth + n) es at front back c.split_at.ensures.front c.split_at.ensures.back (deeper_norm setting c.args.store.now c.requires.set p c.args.depth n first es c.shared_factors-shared.ensures.shared c.requires.pending c.requires.norm))
+    (parts_fit setting c.args.store.now c.requires.set p
+    (c.args.depth + n) es at front back c.split_at.ensures.front c.split_at.ensures.back
+    (deeper_norm setting c.args.store.now c.requires.set p c.args.depth n first es c.shared_factors-shared.ensures.shared
+    c.requires.pending c.requires.norm))
 
 -- WHAT ALL SHARE, MULTIPLIED IN
 pub times_factors-requires-in-Ok-clause-set : goal.times_factors-requires-in-Ok-clause-set
@@ -131,9 +146,14 @@ times_factors-requires-in-Ok-clause-live g t c =
     let at = c.split_place.result in
     let front = c.split_at.result.0.now in
     let back = c.split_at.result.1.now in
-    let stands = joined_stands setting.vars.now c.nested_sum.new.store c.nested_sum-in_default.new.store c.in-Ok.ensures.kept c.args.arena.now c.nested_sum.new.arena c.nested_sum-in_default.new.arena c.summed-whole.new.arena
-    c.in_ok-sum-in_default.sum c.in-Ok.rest c.summed-whole.result _ _ (polynomial_of (factored_terms (map (told_pending setting p (c.args.depth + n)) es))) c.in_ok-sum-in_default.ensures.adds c.in-Ok.ensures.adds
-    c.in_ok-sum-in_default.ensures.chain c.in-Ok.ensures.chain c.summed-whole.ensures.chain c.summed-whole.ensures.sum (parts_sum setting c.args.store.now c.requires.set p (c.args.depth + n) es at front back c.split_at.ensures.front c.split_at.ensures.back) in
+    let stands = joined_stands setting.vars.now c.nested_sum.new.store c.nested_sum-in_default.new.store c.in-Ok.ensures.kept
+    c.args.arena.now c.nested_sum.new.arena c.nested_sum-in_default.new.arena c.summed-whole.new.arena
+    c.in_ok-sum-in_default.sum c.in-Ok.rest c.summed-whole.result _ _
+    (polynomial_of (factored_terms (map (told_pending setting p (c.args.depth + n)) es))) c.in_ok-sum-in_default.ensures.adds
+    c.in-Ok.ensures.adds
+    c.in_ok-sum-in_default.ensures.chain c.in-Ok.ensures.chain c.summed-whole.ensures.chain c.summed-whole.ensures.sum
+    (parts_sum setting c.args.store.now c.requires.set p
+    (c.args.depth + n) es at front back c.split_at.ensures.front c.split_at.ensures.back) in
     stands.live
 
 pub times_factors-requires-in-Ok-clause-keys : goal.times_factors-requires-in-Ok-clause-keys
@@ -146,9 +166,14 @@ times_factors-requires-in-Ok-clause-keys g t c =
     let at = c.split_place.result in
     let front = c.split_at.result.0.now in
     let back = c.split_at.result.1.now in
-    let stands = joined_stands setting.vars.now c.nested_sum.new.store c.nested_sum-in_default.new.store c.in-Ok.ensures.kept c.args.arena.now c.nested_sum.new.arena c.nested_sum-in_default.new.arena c.summed-whole.new.arena
-    c.in_ok-sum-in_default.sum c.in-Ok.rest c.summed-whole.result _ _ (polynomial_of (factored_terms (map (told_pending setting p (c.args.depth + n)) es))) c.in_ok-sum-in_default.ensures.adds c.in-Ok.ensures.adds
-    c.in_ok-sum-in_default.ensures.chain c.in-Ok.ensures.chain c.summed-whole.ensures.chain c.summed-whole.ensures.sum (parts_sum setting c.args.store.now c.requires.set p (c.args.depth + n) es at front back c.split_at.ensures.front c.split_at.ensures.back) in
+    let stands = joined_stands setting.vars.now c.nested_sum.new.store c.nested_sum-in_default.new.store c.in-Ok.ensures.kept
+    c.args.arena.now c.nested_sum.new.arena c.nested_sum-in_default.new.arena c.summed-whole.new.arena
+    c.in_ok-sum-in_default.sum c.in-Ok.rest c.summed-whole.result _ _
+    (polynomial_of (factored_terms (map (told_pending setting p (c.args.depth + n)) es))) c.in_ok-sum-in_default.ensures.adds
+    c.in-Ok.ensures.adds
+    c.in_ok-sum-in_default.ensures.chain c.in-Ok.ensures.chain c.summed-whole.ensures.chain c.summed-whole.ensures.sum
+    (parts_sum setting c.args.store.now c.requires.set p
+    (c.args.depth + n) es at front back c.split_at.ensures.front c.split_at.ensures.back) in
     stands.keys
 
 pub times_factors-requires-in-Ok-clause-in_order : goal.times_factors-requires-in-Ok-clause-in_order
@@ -161,10 +186,17 @@ times_factors-requires-in-Ok-clause-in_order g t c =
     let at = c.split_place.result in
     let front = c.split_at.result.0.now in
     let back = c.split_at.result.1.now in
-    let stands = joined_stands setting.vars.now c.nested_sum.new.store c.nested_sum-in_default.new.store c.in-Ok.ensures.kept c.args.arena.now c.nested_sum.new.arena c.nested_sum-in_default.new.arena c.summed-whole.new.arena
-    c.in_ok-sum-in_default.sum c.in-Ok.rest c.summed-whole.result _ _ (polynomial_of (factored_terms (map (told_pending setting p (c.args.depth + n)) es))) c.in_ok-sum-in_default.ensures.adds c.in-Ok.ensures.adds
-    c.in_ok-sum-in_default.ensures.chain c.in-Ok.ensures.chain c.summed-whole.ensures.chain c.summed-whole.ensures.sum (parts_sum setting c.args.store.now c.requires.set p (c.args.depth + n) es at front back c.split_at.ensures.front c.split_at.ensures.back) in
-    joined_order setting c.args.store.now c.requires.set p c.args.depth n first es c.shared_factors-shared.ensures.shared c.requires.pending c.requires.norm (omega (arith, c.split_place.ensures.some, c.split_place.ensures.within)) c.front_of-factors.result.now c.front_of-factors.ensures
+    let stands = joined_stands setting.vars.now c.nested_sum.new.store c.nested_sum-in_default.new.store c.in-Ok.ensures.kept
+    c.args.arena.now c.nested_sum.new.arena c.nested_sum-in_default.new.arena c.summed-whole.new.arena
+    c.in_ok-sum-in_default.sum c.in-Ok.rest c.summed-whole.result _ _
+    (polynomial_of (factored_terms (map (told_pending setting p (c.args.depth + n)) es))) c.in_ok-sum-in_default.ensures.adds
+    c.in-Ok.ensures.adds
+    c.in_ok-sum-in_default.ensures.chain c.in-Ok.ensures.chain c.summed-whole.ensures.chain c.summed-whole.ensures.sum
+    (parts_sum setting c.args.store.now c.requires.set p
+    (c.args.depth + n) es at front back c.split_at.ensures.front c.split_at.ensures.back) in
+    joined_order setting c.args.store.now c.requires.set p c.args.depth n first es c.shared_factors-shared.ensures.shared c.requires.pending
+    c.requires.norm (omega (arith, c.split_place.ensures.some, c.split_place.ensures.within)) c.front_of-factors.result.now
+    c.front_of-factors.ensures
     (keyed_terms setting.vars.now c.nested_sum-in_default.new.store (pairs_of c.summed-whole.new.arena c.summed-whole.result)) stands.terms
 
 pub times_factors-requires-in-Ok-clause-monomials : goal.times_factors-requires-in-Ok-clause-monomials
@@ -177,10 +209,17 @@ times_factors-requires-in-Ok-clause-monomials g t c =
     let at = c.split_place.result in
     let front = c.split_at.result.0.now in
     let back = c.split_at.result.1.now in
-    let stands = joined_stands setting.vars.now c.nested_sum.new.store c.nested_sum-in_default.new.store c.in-Ok.ensures.kept c.args.arena.now c.nested_sum.new.arena c.nested_sum-in_default.new.arena c.summed-whole.new.arena
-    c.in_ok-sum-in_default.sum c.in-Ok.rest c.summed-whole.result _ _ (polynomial_of (factored_terms (map (told_pending setting p (c.args.depth + n)) es))) c.in_ok-sum-in_default.ensures.adds c.in-Ok.ensures.adds
-    c.in_ok-sum-in_default.ensures.chain c.in-Ok.ensures.chain c.summed-whole.ensures.chain c.summed-whole.ensures.sum (parts_sum setting c.args.store.now c.requires.set p (c.args.depth + n) es at front back c.split_at.ensures.front c.split_at.ensures.back) in
-    joined_monomials setting c.args.store.now c.requires.set p c.args.depth n first es c.shared_factors-shared.ensures.shared c.requires.pending c.requires.norm (omega (arith, c.split_place.ensures.some, c.split_place.ensures.within)) c.front_of-factors.result.now c.front_of-factors.ensures
+    let stands = joined_stands setting.vars.now c.nested_sum.new.store c.nested_sum-in_default.new.store c.in-Ok.ensures.kept
+    c.args.arena.now c.nested_sum.new.arena c.nested_sum-in_default.new.arena c.summed-whole.new.arena
+    c.in_ok-sum-in_default.sum c.in-Ok.rest c.summed-whole.result _ _
+    (polynomial_of (factored_terms (map (told_pending setting p (c.args.depth + n)) es))) c.in_ok-sum-in_default.ensures.adds
+    c.in-Ok.ensures.adds
+    c.in_ok-sum-in_default.ensures.chain c.in-Ok.ensures.chain c.summed-whole.ensures.chain c.summed-whole.ensures.sum
+    (parts_sum setting c.args.store.now c.requires.set p
+    (c.args.depth + n) es at front back c.split_at.ensures.front c.split_at.ensures.back) in
+    joined_monomials setting c.args.store.now c.requires.set p c.args.depth n first es c.shared_factors-shared.ensures.shared
+    c.requires.pending c.requires.norm
+    (omega (arith, c.split_place.ensures.some, c.split_place.ensures.within)) c.front_of-factors.result.now c.front_of-factors.ensures
     (keyed_terms setting.vars.now c.nested_sum-in_default.new.store (pairs_of c.summed-whole.new.arena c.summed-whole.result)) stands.terms
 
 pub times_factors-requires-in-Ok-clause-norm : goal.times_factors-requires-in-Ok-clause-norm
@@ -193,10 +232,17 @@ times_factors-requires-in-Ok-clause-norm g t c =
     let at = c.split_place.result in
     let front = c.split_at.result.0.now in
     let back = c.split_at.result.1.now in
-    let stands = joined_stands setting.vars.now c.nested_sum.new.store c.nested_sum-in_default.new.store c.in-Ok.ensures.kept c.args.arena.now c.nested_sum.new.arena c.nested_sum-in_default.new.arena c.summed-whole.new.arena
-    c.in_ok-sum-in_default.sum c.in-Ok.rest c.summed-whole.result _ _ (polynomial_of (factored_terms (map (told_pending setting p (c.args.depth + n)) es))) c.in_ok-sum-in_default.ensures.adds c.in-Ok.ensures.adds
-    c.in_ok-sum-in_default.ensures.chain c.in-Ok.ensures.chain c.summed-whole.ensures.chain c.summed-whole.ensures.sum (parts_sum setting c.args.store.now c.requires.set p (c.args.depth + n) es at front back c.split_at.ensures.front c.split_at.ensures.back) in
-    joined_norm setting c.args.store.now c.requires.set p c.args.depth n first es c.shared_factors-shared.ensures.shared c.requires.pending c.requires.norm (omega (arith, c.split_place.ensures.some, c.split_place.ensures.within)) c.front_of-factors.result.now c.front_of-factors.ensures
+    let stands = joined_stands setting.vars.now c.nested_sum.new.store c.nested_sum-in_default.new.store c.in-Ok.ensures.kept
+    c.args.arena.now c.nested_sum.new.arena c.nested_sum-in_default.new.arena c.summed-whole.new.arena
+    c.in_ok-sum-in_default.sum c.in-Ok.rest c.summed-whole.result _ _
+    (polynomial_of (factored_terms (map (told_pending setting p (c.args.depth + n)) es))) c.in_ok-sum-in_default.ensures.adds
+    c.in-Ok.ensures.adds
+    c.in_ok-sum-in_default.ensures.chain c.in-Ok.ensures.chain c.summed-whole.ensures.chain c.summed-whole.ensures.sum
+    (parts_sum setting c.args.store.now c.requires.set p
+    (c.args.depth + n) es at front back c.split_at.ensures.front c.split_at.ensures.back) in
+    joined_norm setting c.args.store.now c.requires.set p c.args.depth n first es c.shared_factors-shared.ensures.shared c.requires.pending
+    c.requires.norm (omega (arith, c.split_place.ensures.some, c.split_place.ensures.within)) c.front_of-factors.result.now
+    c.front_of-factors.ensures
     (keyed_terms setting.vars.now c.nested_sum-in_default.new.store (pairs_of c.summed-whole.new.arena c.summed-whole.result)) stands.terms
 
 pub times_factors-requires-in-Ok-clause-degree : goal.times_factors-requires-in-Ok-clause-degree
@@ -209,10 +255,17 @@ times_factors-requires-in-Ok-clause-degree g t c =
     let at = c.split_place.result in
     let front = c.split_at.result.0.now in
     let back = c.split_at.result.1.now in
-    let stands = joined_stands setting.vars.now c.nested_sum.new.store c.nested_sum-in_default.new.store c.in-Ok.ensures.kept c.args.arena.now c.nested_sum.new.arena c.nested_sum-in_default.new.arena c.summed-whole.new.arena
-    c.in_ok-sum-in_default.sum c.in-Ok.rest c.summed-whole.result _ _ (polynomial_of (factored_terms (map (told_pending setting p (c.args.depth + n)) es))) c.in_ok-sum-in_default.ensures.adds c.in-Ok.ensures.adds
-    c.in_ok-sum-in_default.ensures.chain c.in-Ok.ensures.chain c.summed-whole.ensures.chain c.summed-whole.ensures.sum (parts_sum setting c.args.store.now c.requires.set p (c.args.depth + n) es at front back c.split_at.ensures.front c.split_at.ensures.back) in
-    joined_degree setting c.args.store.now c.requires.set p c.args.depth n first es c.shared_factors-shared.ensures.shared c.requires.pending c.requires.norm (omega (arith, c.split_place.ensures.some, c.split_place.ensures.within)) c.front_of-factors.result.now c.front_of-factors.ensures
+    let stands = joined_stands setting.vars.now c.nested_sum.new.store c.nested_sum-in_default.new.store c.in-Ok.ensures.kept
+    c.args.arena.now c.nested_sum.new.arena c.nested_sum-in_default.new.arena c.summed-whole.new.arena
+    c.in_ok-sum-in_default.sum c.in-Ok.rest c.summed-whole.result _ _
+    (polynomial_of (factored_terms (map (told_pending setting p (c.args.depth + n)) es))) c.in_ok-sum-in_default.ensures.adds
+    c.in-Ok.ensures.adds
+    c.in_ok-sum-in_default.ensures.chain c.in-Ok.ensures.chain c.summed-whole.ensures.chain c.summed-whole.ensures.sum
+    (parts_sum setting c.args.store.now c.requires.set p
+    (c.args.depth + n) es at front back c.split_at.ensures.front c.split_at.ensures.back) in
+    joined_degree setting c.args.store.now c.requires.set p c.args.depth n first es c.shared_factors-shared.ensures.shared
+    c.requires.pending c.requires.norm
+    (omega (arith, c.split_place.ensures.some, c.split_place.ensures.within)) c.front_of-factors.result.now c.front_of-factors.ensures
     (keyed_terms setting.vars.now c.nested_sum-in_default.new.store (pairs_of c.summed-whole.new.arena c.summed-whole.result)) stands.terms
 
 pub returns-in-Ok-clause-chain : goal.returns-in-Ok-clause-chain
@@ -225,11 +278,19 @@ returns-in-Ok-clause-chain g t c =
     let at = c.split_place.result in
     let front = c.split_at.result.0.now in
     let back = c.split_at.result.1.now in
-    let stands = joined_stands setting.vars.now c.nested_sum.new.store c.nested_sum-in_default.new.store c.in-Ok.ensures.kept c.args.arena.now c.nested_sum.new.arena c.nested_sum-in_default.new.arena c.summed-whole.new.arena
-    c.in_ok-sum-in_default.sum c.in-Ok.rest c.summed-whole.result _ _ (polynomial_of (factored_terms (map (told_pending setting p (c.args.depth + n)) es))) c.in_ok-sum-in_default.ensures.adds c.in-Ok.ensures.adds
-    c.in_ok-sum-in_default.ensures.chain c.in-Ok.ensures.chain c.summed-whole.ensures.chain c.summed-whole.ensures.sum (parts_sum setting c.args.store.now c.requires.set p (c.args.depth + n) es at front back c.split_at.ensures.front c.split_at.ensures.back) in
+    let stands = joined_stands setting.vars.now c.nested_sum.new.store c.nested_sum-in_default.new.store c.in-Ok.ensures.kept
+    c.args.arena.now c.nested_sum.new.arena c.nested_sum-in_default.new.arena c.summed-whole.new.arena
+    c.in_ok-sum-in_default.sum c.in-Ok.rest c.summed-whole.result _ _
+    (polynomial_of (factored_terms (map (told_pending setting p (c.args.depth + n)) es))) c.in_ok-sum-in_default.ensures.adds
+    c.in-Ok.ensures.adds
+    c.in_ok-sum-in_default.ensures.chain c.in-Ok.ensures.chain c.summed-whole.ensures.chain c.summed-whole.ensures.sum
+    (parts_sum setting c.args.store.now c.requires.set p
+    (c.args.depth + n) es at front back c.split_at.ensures.front c.split_at.ensures.back) in
     IfOk-weaker c.times_factors-in-Ok.result _ _
-    (λ v h. subst (λ (q : Summands). StandsFor setting.vars.now c.times_factors-in-Ok.new.store c.times_factors-in-Ok.new.arena v q) (joined_made setting c.args.store.now c.requires.set p c.args.depth n first es c.shared_factors-shared.ensures.shared c.requires.pending c.requires.norm (omega (arith, c.split_place.ensures.some, c.split_place.ensures.within)) c.front_of-factors.result.now c.front_of-factors.ensures
+    (λ v h. subst (λ (q : Summands). StandsFor setting.vars.now c.times_factors-in-Ok.new.store c.times_factors-in-Ok.new.arena v q)
+    (joined_made setting c.args.store.now c.requires.set p c.args.depth n first es c.shared_factors-shared.ensures.shared
+    c.requires.pending c.requires.norm
+    (omega (arith, c.split_place.ensures.some, c.split_place.ensures.within)) c.front_of-factors.result.now c.front_of-factors.ensures
     (keyed_terms setting.vars.now c.nested_sum-in_default.new.store (pairs_of c.summed-whole.new.arena c.summed-whole.result)) stands.terms) h)
     c.times_factors-in-Ok.ensures.chain
 
@@ -243,10 +304,15 @@ returns-in-Ok-clause-adds g t c =
     let at = c.split_place.result in
     let front = c.split_at.result.0.now in
     let back = c.split_at.result.1.now in
-    let adds = joined_adds setting.vars.now c.nested_sum.new.store c.nested_sum-in_default.new.store c.in-Ok.ensures.kept c.args.arena.now c.nested_sum.new.arena c.nested_sum-in_default.new.arena c.summed-whole.new.arena
-    c.in_ok-sum-in_default.sum c.in-Ok.rest c.summed-whole.result _ _ (polynomial_of (factored_terms (map (told_pending setting p (c.args.depth + n)) es))) c.in_ok-sum-in_default.ensures.adds c.in-Ok.ensures.adds
+    let adds = joined_adds setting.vars.now c.nested_sum.new.store c.nested_sum-in_default.new.store c.in-Ok.ensures.kept c.args.arena.now
+    c.nested_sum.new.arena c.nested_sum-in_default.new.arena c.summed-whole.new.arena
+    c.in_ok-sum-in_default.sum c.in-Ok.rest c.summed-whole.result _ _
+    (polynomial_of (factored_terms (map (told_pending setting p (c.args.depth + n)) es))) c.in_ok-sum-in_default.ensures.adds
+    c.in-Ok.ensures.adds
     c.in_ok-sum-in_default.ensures.chain c.in-Ok.ensures.chain c.summed-whole.ensures.chain _ c.summed-whole.ensures.merges in
-    IfOk-weaker c.times_factors-in-Ok.result _ _ (λ v h. AddsChain-swaps c.args.arena.now c.summed-whole.new.arena c.times_factors-in-Ok.new.arena c.summed-whole.result v adds h) c.times_factors-in-Ok.ensures.swaps
+    IfOk-weaker c.times_factors-in-Ok.result _ _
+    (λ v h. AddsChain-swaps c.args.arena.now c.summed-whole.new.arena c.times_factors-in-Ok.new.arena c.summed-whole.result v adds h)
+    c.times_factors-in-Ok.ensures.swaps
 
 pub returns-in-Ok-clause-err : goal.returns-in-Ok-clause-err
 returns-in-Ok-clause-err g t c =
@@ -258,8 +324,11 @@ returns-in-Ok-clause-err g t c =
     let at = c.split_place.result in
     let front = c.split_at.result.0.now in
     let back = c.split_at.result.1.now in
-    let adds = joined_adds setting.vars.now c.nested_sum.new.store c.nested_sum-in_default.new.store c.in-Ok.ensures.kept c.args.arena.now c.nested_sum.new.arena c.nested_sum-in_default.new.arena c.summed-whole.new.arena
-    c.in_ok-sum-in_default.sum c.in-Ok.rest c.summed-whole.result _ _ (polynomial_of (factored_terms (map (told_pending setting p (c.args.depth + n)) es))) c.in_ok-sum-in_default.ensures.adds c.in-Ok.ensures.adds
+    let adds = joined_adds setting.vars.now c.nested_sum.new.store c.nested_sum-in_default.new.store c.in-Ok.ensures.kept c.args.arena.now
+    c.nested_sum.new.arena c.nested_sum-in_default.new.arena c.summed-whole.new.arena
+    c.in_ok-sum-in_default.sum c.in-Ok.rest c.summed-whole.result _ _
+    (polynomial_of (factored_terms (map (told_pending setting p (c.args.depth + n)) es))) c.in_ok-sum-in_default.ensures.adds
+    c.in-Ok.ensures.adds
     c.in_ok-sum-in_default.ensures.chain c.in-Ok.ensures.chain c.summed-whole.ensures.chain _ c.summed-whole.ensures.merges in
     on_err_weaker c.times_factors-in-Ok.result (gave_back c.args.arena.now c.summed-whole.new.arena c.times_factors-in-Ok.new.arena c.summed-whole.result adds) c.times_factors-in-Ok.ensures.err
 
@@ -277,13 +346,29 @@ returns-in-Ok-clause-ticks g t c =
     let at = c.split_place.result in
     let front = c.split_at.result.0.now in
     let back = c.split_at.result.1.now in
-    let stands = joined_stands setting.vars.now c.nested_sum.new.store c.nested_sum-in_default.new.store c.in-Ok.ensures.kept c.args.arena.now c.nested_sum.new.arena c.nested_sum-in_default.new.arena c.summed-whole.new.arena
-    c.in_ok-sum-in_default.sum c.in-Ok.rest c.summed-whole.result _ _ (polynomial_of (factored_terms (map (told_pending setting p (c.args.depth + n)) es))) c.in_ok-sum-in_default.ensures.adds c.in-Ok.ensures.adds
-    c.in_ok-sum-in_default.ensures.chain c.in-Ok.ensures.chain c.summed-whole.ensures.chain c.summed-whole.ensures.sum (parts_sum setting c.args.store.now c.requires.set p (c.args.depth + n) es at front back c.split_at.ensures.front c.split_at.ensures.back) in
+    let stands = joined_stands setting.vars.now c.nested_sum.new.store c.nested_sum-in_default.new.store c.in-Ok.ensures.kept
+    c.args.arena.now c.nested_sum.new.arena c.nested_sum-in_default.new.arena c.summed-whole.new.arena
+    c.in_ok-sum-in_default.sum c.in-Ok.rest c.summed-whole.result _ _
+    (polynomial_of (factored_terms (map (told_pending setting p (c.args.depth + n)) es))) c.in_ok-sum-in_default.ensures.adds
+    c.in-Ok.ensures.adds
+    c.in_ok-sum-in_default.ensures.chain c.in-Ok.ensures.chain c.summed-whole.ensures.chain c.summed-whole.ensures.sum
+    (parts_sum setting c.args.store.now c.requires.set p
+    (c.args.depth + n) es at front back c.split_at.ensures.front c.split_at.ensures.back) in
     let size = sym (length-map {B = Powers × ℤ} (pairs_of c.summed-whole.new.arena c.summed-whole.result) (keyed_term setting.vars.now c.nested_sum-in_default.new.store)) in
-    let whole = joined_products setting c.args.store.now c.requires.set p c.args.depth n first es c.shared_factors-shared.ensures.shared c.requires.pending c.requires.norm (omega (arith, c.split_place.ensures.some, c.split_place.ensures.within)) c.front_of-factors.result.now c.front_of-factors.ensures
-    (keyed_terms setting.vars.now c.nested_sum-in_default.new.store (pairs_of c.summed-whole.new.arena c.summed-whole.result)) stands.terms (length (pairs_of c.summed-whole.new.arena c.summed-whole.result)) size in
-    omega (arith, c.in_ok-sum-in_default.ensures.ticks, c.in-Ok.ensures.ticks, c.times_factors-in-Ok.ensures.ticks, parts_products setting c.args.store.now c.requires.set p (c.args.depth + n) es at front back c.split_at.ensures.front c.split_at.ensures.back, whole)
+    let whole = joined_products setting c.args.store.now c.requires.set p c.args.depth n first es c.shared_factors-shared.ensures.shared
+    c.requires.pending c.requires.norm
+    (omega (arith, c.split_place.ensures.some, c.split_place.ensures.within)) c.front_of-factors.result.now c.front_of-factors.ensures
+    (keyed_terms setting.vars.now c.nested_sum-in_default.new.store (pairs_of c.summed-whole.new.arena c.summed-whole.result)) stands.terms
+    (length (pairs_of c.summed-whole.new.arena c.summed-whole.result)) size in
+    omega (
+      arith,
+      c.in_ok-sum-in_default.ensures.ticks,
+      c.in-Ok.ensures.ticks,
+      c.times_factors-in-Ok.ensures.ticks,
+      parts_products setting c.args.store.now c.requires.set p
+          (c.args.depth + n) es at front back c.split_at.ensures.front c.split_at.ensures.back,
+      whole,
+    )
 
 pub returns-in-Err-clause-ticks : goal.returns-in-Err-clause-ticks
 returns-in-Err-clause-ticks g t c =
@@ -295,9 +380,17 @@ returns-in-Err-clause-ticks g t c =
     let at = c.split_place.result in
     let front = c.split_at.result.0.now in
     let back = c.split_at.result.1.now in
-    let whole = joined_products setting c.args.store.now c.requires.set p c.args.depth n first es c.shared_factors-shared.ensures.shared c.requires.pending c.requires.norm (omega (arith, c.split_place.ensures.some, c.split_place.ensures.within)) (take n first) refl
+    let whole = joined_products setting c.args.store.now c.requires.set p c.args.depth n first es c.shared_factors-shared.ensures.shared
+    c.requires.pending c.requires.norm (omega (arith, c.split_place.ensures.some, c.split_place.ensures.within)) (take n first) refl
     (polynomial_of (factored_terms (map (told_pending setting p (c.args.depth + n)) es))) refl _ refl in
-    omega (arith, c.in_ok-sum-in_default.ensures.ticks, c.in-Err.ensures.ticks, parts_products setting c.args.store.now c.requires.set p (c.args.depth + n) es at front back c.split_at.ensures.front c.split_at.ensures.back, whole)
+    omega (
+      arith,
+      c.in_ok-sum-in_default.ensures.ticks,
+      c.in-Err.ensures.ticks,
+      parts_products setting c.args.store.now c.requires.set p
+          (c.args.depth + n) es at front back c.split_at.ensures.front c.split_at.ensures.back,
+      whole,
+    )
 
 pub returns-in_err-sum-in_default-clause-ticks : goal.returns-in_err-sum-in_default-clause-ticks
 returns-in_err-sum-in_default-clause-ticks g t c =
@@ -309,9 +402,16 @@ returns-in_err-sum-in_default-clause-ticks g t c =
     let at = c.split_place.result in
     let front = c.split_at.result.0.now in
     let back = c.split_at.result.1.now in
-    let whole = joined_products setting c.args.store.now c.requires.set p c.args.depth n first es c.shared_factors-shared.ensures.shared c.requires.pending c.requires.norm (omega (arith, c.split_place.ensures.some, c.split_place.ensures.within)) (take n first) refl
+    let whole = joined_products setting c.args.store.now c.requires.set p c.args.depth n first es c.shared_factors-shared.ensures.shared
+    c.requires.pending c.requires.norm (omega (arith, c.split_place.ensures.some, c.split_place.ensures.within)) (take n first) refl
     (polynomial_of (factored_terms (map (told_pending setting p (c.args.depth + n)) es))) refl _ refl in
-    omega (arith, c.in_err-sum-in_default.ensures.ticks, parts_products setting c.args.store.now c.requires.set p (c.args.depth + n) es at front back c.split_at.ensures.front c.split_at.ensures.back, whole)
+    omega (
+      arith,
+      c.in_err-sum-in_default.ensures.ticks,
+      parts_products setting c.args.store.now c.requires.set p
+          (c.args.depth + n) es at front back c.split_at.ensures.front c.split_at.ensures.back,
+      whole,
+    )
 
 -- ONE TERM
 pub lone_chain-requires-clause-index : goal.lone_chain-requires-clause-index
@@ -397,7 +497,8 @@ returns-in_ok-chain-in-len1-clause-chain g t c =
     let e = c.term-item.result in
     let one : es ≡ e ∷ [] = alone es e c.in-len1.len_at_least c.in-len1.len_below c.term-item.is in
     IfOk-weaker c.times_factors.result _ _
-    (λ v h. subst (λ (q : Summands). StandsFor setting.vars.now c.times_factors.new.store c.times_factors.new.arena v q) (lone_made setting p c.args.depth e es one c.requires.pending c.factors_from-factors.result.now c.factors_from-factors.ensures
+    (λ v h. subst (λ (q : Summands). StandsFor setting.vars.now c.times_factors.new.store c.times_factors.new.arena v q)
+    (lone_made setting p c.args.depth e es one c.requires.pending c.factors_from-factors.result.now c.factors_from-factors.ensures
     (keyed_terms setting.vars.now c.lone_chain.new.store (pairs_of c.lone_chain.new.arena c.in_ok-chain-in-len1.chain)) c.in_ok-chain-in-len1.ensures.chain.terms) h)
     c.times_factors.ensures.chain
 
@@ -422,5 +523,6 @@ returns-in_ok-chain-in-len1-clause-ticks g t c =
     let one : es ≡ e ∷ [] = alone es e c.in-len1.len_at_least c.in-len1.len_below c.term-item.is in
     let size = sym (length-map {B = Powers × ℤ} (pairs_of c.lone_chain.new.arena c.in_ok-chain-in-len1.chain) (keyed_term setting.vars.now c.lone_chain.new.store)) in
     let whole = lone_products setting p c.args.depth e es one c.requires.pending c.factors_from-factors.result.now c.factors_from-factors.ensures
-    (keyed_terms setting.vars.now c.lone_chain.new.store (pairs_of c.lone_chain.new.arena c.in_ok-chain-in-len1.chain)) c.in_ok-chain-in-len1.ensures.chain.terms (length (pairs_of c.lone_chain.new.arena c.in_ok-chain-in-len1.chain)) size in
+    (keyed_terms setting.vars.now c.lone_chain.new.store (pairs_of c.lone_chain.new.arena c.in_ok-chain-in-len1.chain))
+    c.in_ok-chain-in-len1.ensures.chain.terms (length (pairs_of c.lone_chain.new.arena c.in_ok-chain-in-len1.chain)) size in
     omega (arith, c.times_factors.ensures.ticks, whole)

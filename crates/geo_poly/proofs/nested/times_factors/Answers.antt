@@ -25,7 +25,9 @@ loop-i-init g c =
       within = omega arith;
       kept = search rules;
       swaps = Swaps-refl a c.args.chain;
-      chain = subst (λ (ks : List ℕ). StandsFor vars s a c.args.chain (times_pieces (pieces_of setting.rows.now setting.den.piece.now ks) base)) (sym none) (StandsFor-self vars s a c.args.chain c.requires.live c.requires.keys);
+      chain = subst (λ (ks : List ℕ). StandsFor vars s a c.args.chain
+          (times_pieces (pieces_of setting.rows.now setting.den.piece.now ks) base)) (sym none)
+          (StandsFor-self vars s a c.args.chain c.requires.live c.requires.keys);
       ticks = omega arith;
     }
 
@@ -39,7 +41,8 @@ times_factor-requires-clause-fits g c =
     let base = keyed_terms setting.vars.now c.args.store.now (pairs_of c.args.arena.now c.args.chain) in
     let q = (piece_of setting.rows.now setting.den.piece.now (get_or factors (c.loop-i.i - 1) 0)).poly in
     subst (λ (x : Summands). CanMultiply x q) (sym c.loop-i.invariant.chain.terms)
-    (can_multiply setting c.args.store.now c.requires.set factors base c.requires.in_order c.requires.monomials c.requires.norm c.requires.degree c.loop-i.i c.loop-i-test.true c.loop-i.invariant.within)
+    (can_multiply setting c.args.store.now c.requires.set factors base c.requires.in_order c.requires.monomials c.requires.norm
+    c.requires.degree c.loop-i.i c.loop-i-test.true c.loop-i.invariant.within)
 
 pub loop-i-preserved : goal.loop-i-preserved
 loop-i-preserved g c =
@@ -60,7 +63,9 @@ loop-i-preserved g c =
       swaps = Swaps-trans c.args.arena.now c.loop-i.arena c.times_factor.new.arena c.args.chain c.loop-i.product made.product before.swaps made.ensures.swaps;
       chain =
           subst (λ (x : Summands). StandsFor vars c.times_factor.new.store c.times_factor.new.arena made.product x)
-          (ap (λ (x : Summands). product_of x q) before.chain.terms ∙ made_now setting s0 c.requires.set factors base c.requires.in_order c.requires.monomials c.requires.norm c.requires.degree c.loop-i.i c.loop-i-test.true before.within)
+          (ap (λ (x : Summands). product_of x q) before.chain.terms
+          ∙ made_now setting s0 c.requires.set factors base c.requires.in_order c.requires.monomials c.requires.norm c.requires.degree
+          c.loop-i.i c.loop-i-test.true before.within)
           made.ensures.chain;
       ticks =
           ticks_now setting s0 c.requires.set factors base c.requires.in_order c.requires.monomials c.requires.norm c.requires.degree c.loop-i.i c.loop-i-test.true before.within n
@@ -82,7 +87,8 @@ returns-in_err-product-clause-ticks g c =
     let n = length (pairs_of c.args.arena.now c.args.chain) in
     let base_size = length-map {B = Powers × ℤ} (pairs_of c.args.arena.now c.args.chain) (keyed_term vars s0) in
     let size = sym (length-map {B = Powers × ℤ} (pairs_of c.loop-i.arena c.loop-i.product) (keyed_term vars c.loop-i.store)) ∙ ap length before.chain.terms in
-    ticks_part setting s0 c.requires.set factors base c.requires.in_order c.requires.monomials c.requires.norm c.requires.degree c.loop-i.i c.loop-i-test.true before.within n c.args.ticks.now c.times_factor.new.ticks
+    ticks_part setting s0 c.requires.set factors base c.requires.in_order c.requires.monomials c.requires.norm c.requires.degree c.loop-i.i
+    c.loop-i-test.true before.within n c.args.ticks.now c.times_factor.new.ticks
     (ticks_now setting s0 c.requires.set factors base c.requires.in_order c.requires.monomials c.requires.norm c.requires.degree c.loop-i.i c.loop-i-test.true before.within n
     (length (pairs_of c.loop-i.arena c.loop-i.product)) c.args.ticks.now c.loop-i.ticks c.times_factor.new.ticks base_size size before.ticks c.in_err-product.ensures.ticks)
 
@@ -91,7 +97,8 @@ returns-clause-chain g c =
     let setting = c.args.setting.now in
     let base = keyed_terms setting.vars.now c.args.store.now (pairs_of c.args.arena.now c.args.chain) in
     let first : c.loop-i.i ≡ 0 = omega (arith, c.loop-i-test.false) in
-    subst (λ (k : ℕ). StandsFor setting.vars.now c.loop-i.store c.loop-i.arena c.loop-i.product (times_pieces (pieces_of setting.rows.now setting.den.piece.now (drop k c.args.factors.now)) base)) first c.loop-i.invariant.chain
+    subst (λ (k : ℕ). StandsFor setting.vars.now c.loop-i.store c.loop-i.arena c.loop-i.product
+    (times_pieces (pieces_of setting.rows.now setting.den.piece.now (drop k c.args.factors.now)) base)) first c.loop-i.invariant.chain
 
 pub returns-clause-ticks : goal.returns-clause-ticks
 returns-clause-ticks g c =

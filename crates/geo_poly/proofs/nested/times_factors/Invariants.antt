@@ -11,7 +11,9 @@ invariant-loop-i g l = record {
   within : l.i ≤ length l.factors;
   kept : Keeps l.fn.store l.store;
   swaps : Swaps l.fn.arena l.arena l.fn.chain l.product;
-  chain : StandsFor l.setting.vars.now l.store l.arena l.product (times_pieces (pieces_of l.setting.rows.now l.setting.den.piece.now (drop l.i l.factors)) (keyed_terms l.setting.vars.now l.fn.store (pairs_of l.fn.arena l.fn.chain)));
+  chain : StandsFor l.setting.vars.now l.store l.arena l.product
+      (times_pieces (pieces_of l.setting.rows.now l.setting.den.piece.now (drop l.i l.factors))
+      (keyed_terms l.setting.vars.now l.fn.store (pairs_of l.fn.arena l.fn.chain)));
   ticks : l.ticks ≤ l.fn.ticks + products_with (pieces_of l.setting.rows.now l.setting.den.piece.now (drop l.i l.factors)) (length (pairs_of l.fn.arena l.fn.chain));
 }
 

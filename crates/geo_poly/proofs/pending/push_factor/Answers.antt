@@ -9,4 +9,5 @@ pub loop-k-preserved : goal.loop-k-preserved
 loop-k-preserved c =
     let old = c.args.factors.now.items in
     let x = c.args.factor in
-    c.in_ok-push.ensures.items ∙ ap (λ (xs : List ℕ). xs ++ x ∷ []) c.loop-k.invariant ∙ append_assoc old (replicate c.loop-k._k x) (x ∷ []) ∙ ap (λ (xs : List ℕ). old ++ xs) (replicate_more c.loop-k._k x)
+    c.in_ok-push.ensures.items ∙ ap (λ (xs : List ℕ). xs ++ x ∷ []) c.loop-k.invariant ∙ append_assoc old (replicate c.loop-k._k x) (x ∷ [])
+    ∙ ap (λ (xs : List ℕ). old ++ xs) (replicate_more c.loop-k._k x)

@@ -6,7 +6,9 @@ use Rattle.geo_poly.specs.declared.pending.Pending.{Pending}
 use Rattle.geo_poly.proofs.Told.{take_more}
 use Rattle.geo_poly.proofs.sharing.shared_factors.Goals as goal
 
-fewer : (first : List ℕ) (depth s r : ℕ) (es : List Pending) → r ≤ s → All (λ (e : Pending). take s (drop depth e.factors.items) ≡ take s first) es → All (λ (e : Pending). take r (drop depth e.factors.items) ≡ take r first) es
+fewer : (first : List ℕ) (depth s r : ℕ) (es : List Pending) → r ≤ s
+    → All (λ (e : Pending). take s (drop depth e.factors.items) ≡ take s first) es
+    → All (λ (e : Pending). take r (drop depth e.factors.items) ≡ take r first) es
 fewer first depth s r es le h =
     All-weaker (λ (e : Pending). take s (drop depth e.factors.items) ≡ take s first) (λ (e : Pending). take r (drop depth e.factors.items) ≡ take r first)
     (λ e same. sym (take-take r s (drop depth e.factors.items) le) ∙ ap (take r) same ∙ take-take r s first le) es h
@@ -35,4 +37,5 @@ returns-clause-shared c =
     let first = c.args.first.now in
     let depth = c.args.depth in
     let s = c.loop-term.shared in
-    subst (λ (es : List Pending). All (λ (e : Pending). take s (drop depth e.factors.items) ≡ take s first) es) (take_all c.loop-term.term-index c.args.pending.now (omega (arith, c.loop-term-test.false))) c.loop-term.invariant.shared
+    subst (λ (es : List Pending). All (λ (e : Pending). take s (drop depth e.factors.items) ≡ take s first) es)
+    (take_all c.loop-term.term-index c.args.pending.now (omega (arith, c.loop-term-test.false))) c.loop-term.invariant.shared

@@ -29,5 +29,8 @@ returns-in_err-put_number-clause-stopped c =
     if_err _ c.from_residual-in_err-put_number.result c.in_err-put_number.field-0.0 p.0 p.1 p.2
     (elim c.in_err-put_number.ensures.stopped [
       | inl no_memory ↦ subst (λ (e : SampleError). EndIn e left (t ∷ []) left) (sym no_memory) (one_short left t)
-      | inr large ↦ subst (λ (e : SampleError). EndIn e left (t ∷ []) left) (sym large.0) (one_large left t affordable (subst (λ (z : ℤ). IsTooLarge (record { variable = c.args.value.now.0; number = z; polys = c.args.polys.now.items })) (to_z-of_z w128 c.args.value.now.1 fits) large.1))
+      | inr large ↦ subst (λ (e : SampleError). EndIn e left (t ∷ []) left) (sym large.0)
+          (one_large left t affordable (subst
+          (λ (z : ℤ). IsTooLarge (record { variable = c.args.value.now.0; number = z; polys = c.args.polys.now.items }))
+          (to_z-of_z w128 c.args.value.now.1 fits) large.1))
     ])

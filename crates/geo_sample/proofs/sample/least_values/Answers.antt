@@ -48,7 +48,9 @@ returns-in_err-affordable-clause-stopped c =
 pub returns-in_err-current-clause-stopped : goal.returns-in_err-current-clause-stopped
 returns-in_err-current-clause-stopped c =
     let p = err_from_is_err_and c.from_residual-in_err-current.result c.from_residual-in_err-current.ensures.1 in
-    if_err _ c.from_residual-in_err-current.result _ p.0 p.1 p.2 (nothing_searched c.args.vars.now c.args.polys.now c.args.budget.now.left (collected_polynomials c.args.polys.now c.are_valid.ensures.valid) c.requires)
+    if_err _ c.from_residual-in_err-current.result _ p.0 p.1 p.2
+    (nothing_searched c.args.vars.now c.args.polys.now c.args.budget.now.left
+    (collected_polynomials c.args.polys.now c.are_valid.ensures.valid) c.requires)
 
 pub put_least_value-requires-clause-collected : goal.put_least_value-requires-clause-collected
 put_least_value-requires-clause-collected c =

@@ -30,5 +30,7 @@ returns-in_err-keeps-clause-stopped c =
       | inl no_memory ↦ subst (λ (e : SampleError). EndIn e left (t ∷ []) left) (sym no_memory) (one_short left t)
       | inr large ↦
           subst (λ (e : SampleError). EndIn e left (t ∷ []) left) (sym large.0)
-          (one_large left t affordable (subst (λ (z : ℤ). IsTooLarge (record { variable = c.args.v; number = z; polys = c.args.polys.now.items })) (to_z-of_z w128 c.args.number c.ranges.number) large.1))
+          (one_large left t affordable (subst
+          (λ (z : ℤ). IsTooLarge (record { variable = c.args.v; number = z; polys = c.args.polys.now.items }))
+          (to_z-of_z w128 c.args.number c.ranges.number) large.1))
     ])

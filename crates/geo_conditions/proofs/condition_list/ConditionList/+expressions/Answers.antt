@@ -108,5 +108,6 @@ list_parts-returns-in_default t c =
     let nodes = c.args.terms.now in
     let d = c.in_default in
     let is = unfolds nodes c.requires.list.store c.args.e c.requires.braces c.node.result c.node.ensures in
-    let none : expression_conditions (tree_of nodes c.args.e) ≡ [] = ap expression_conditions is ∙ leaf_conditions nodes (trees_of nodes) c.node.result d.not-R d.not-Neg d.not-Add d.not-Sub d.not-Mul d.not-Div in
+    let none : expression_conditions (tree_of nodes c.args.e) ≡ [] = ap expression_conditions is
+    ∙ leaf_conditions nodes (trees_of nodes) c.node.result d.not-R d.not-Neg d.not-Add d.not-Sub d.not-Mul d.not-Div in
     subst (λ (cs : List Condition). Lists nodes c.args.self.now c.args.self.now (found_at c.args.line cs)) (sym none) (lists_none nodes c.args.self.now c.requires.list)
