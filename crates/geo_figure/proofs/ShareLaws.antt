@@ -15,7 +15,7 @@ use Rattle.frac_laws.specs.Numbers.{IsNumber, IsSameNumber, fraction_of}
 use Rattle.geo_points.specs.Points.{is_null}
 use Rattle.geo_points.proofs.Ratios.{null-true}
 use Rattle.geo_points.proofs.Zeros.{same_of_minus}
-use Rattle.geo_place.specs.Reckonings.{IsRefused, IsResult, Reckoning, number}
+use Rattle.geo_place.specs.Reckonings.{Overflows, IsResult, Reckoning, number}
 use Rattle.geo_place.proofs.ResultLaws.{same_of}
 use Rattle.geo_figure.specs.declared.bounds.Bounds.{Bounds}
 use Rattle.geo_figure.specs.Bounds.{greatest, least}
@@ -86,7 +86,7 @@ module _ (b : Bounds) (xs : List Fraction) (h : AreBounds b xs) where
 
 -- STEPS
 abbrev Kept : Reckoning → Type 0
-Kept e = IsRefused e → ⊥
+Kept e = Overflows e → ⊥
 
 module _ (last : ℕ) (xs : List Fraction) (a : Fraction) where
   -- where all coordinates are the same
@@ -107,7 +107,7 @@ module _ (last : ℕ) (xs : List Fraction) (a : Fraction) where
       subst (λ (es : List Reckoning). AreKept es) (sym shares_are) (All-from_recursion Kept (share last xs a ∷ []) (h.kept, tt)),
     )
 
-    pub share_refused : (refusal : FracTooLarge) → IsRefused (share last xs a) → IsStep last xs a (Err refusal)
+    pub share_refused : (refusal : FracTooLarge) → Overflows (share last xs a) → IsStep last xs a (Err refusal)
     share_refused refusal r = λ k. (recursion_from_All Kept (share last xs a ∷ []) (subst (λ (es : List Reckoning). AreKept es) shares_are k)).0 r
 
 -- the number of steps as a fraction

@@ -30,7 +30,7 @@ use Rattle.geo_place.specs.declared.sketch.Sketch.{Sketch}
 use Rattle.geo_place.specs.Evaluation.{ComesUp, EndsAs, IsReckoned, IsRight, IsTooLarge, LineTurn, Passes, Turn, at_line, judge, placed_all, test, too_large, turns_from, turns_of}
 use Rattle.geo_place.specs.Formulas.{reckoned}
 use Rattle.geo_place.specs.Inner.{EndsWith, GoalsCome, IsItemMet, IsItemNull, Run, StopsGoals, Stops, item_reckoned, placement_of}
-use Rattle.geo_place.specs.Reckonings.{IsRefused, number}
+use Rattle.geo_place.specs.Reckonings.{Overflows, number}
 use Rattle.geo_place.proofs.ListParts.{Beside, FirstOf, beside, first_fresh, fresh_hold, head_of, listed_split, none_before, tail_of}
 use Rattle.geo_place.proofs.MakeTurns.{stops_in}
 use Rattle.geo_place.proofs.Once.{TurnOver, turns_over}
@@ -149,7 +149,7 @@ module _ (p : Source) (w : IsWellFormed p) (v : ProgramValues) (placed : Placeme
     null_there : (item : Item) (s : Statement) → item_form nodes item ≡ goal_item Two p s → GoalOver s → IsItemNull sketch nodes item → Judged s
     null_there item s e o h =
         let t = goal_term (layout_of Two p.commands) p.nodes s in
-        let k = subst (λ u. (IsRefused (reckoned (placement_of sketch) u) → ⊥) × Same (number (reckoned (placement_of sketch) u)) (whole (pos 0))) (term_is item s e) h in
+        let k = subst (λ u. (Overflows (reckoned (placement_of sketch) u) → ⊥) × Same (number (reckoned (placement_of sketch) u)) (whole (pos 0))) (term_is item s e) h in
         (λ x. k.0 (refused_here N M (placement_of sketch) placed g t o x), fractions.same_trans _ _ _ (fractions.same_sym _ _ (same_there N M (placement_of sketch) placed g t o)) k.1)
 
     nulls_there : (items : List Item) (ss : List Statement) → map (item_form nodes) items ≡ map (goal_item Two p) ss → AllByRecursion GoalOver ss
@@ -217,7 +217,7 @@ module _ (p : Source) (w : IsWellFormed p) (v : ProgramValues) (placed : Placeme
           let Q : Item → Type 0 = IsItemMet sketch nodes in
           let s = goal Q h in
           let t = goal_term (layout_of Two p.commands) p.nodes s in
-          let k = subst (λ u. (IsRefused (reckoned (placement_of sketch) u) → ⊥) × IsNonzero (number (reckoned (placement_of sketch) u))) (term_is h.item s (goal_item_is Q h)) h.stops in (
+          let k = subst (λ u. (Overflows (reckoned (placement_of sketch) u) → ⊥) × IsNonzero (number (reckoned (placement_of sketch) u))) (term_is h.item s (goal_item_is Q h)) h.stops in (
             last,
             s,
             (
@@ -227,16 +227,16 @@ module _ (p : Source) (w : IsWellFormed p) (v : ProgramValues) (placed : Placeme
             ),
           )
 
-      pub goal_large : (line : ℕ) → StopsGoals sketch nodes items (λ i. (line ≡ i.line) × IsRefused (item_reckoned sketch nodes i)) → EndsAs p placed (too_large line)
+      pub goal_large : (line : ℕ) → StopsGoals sketch nodes items (λ i. (line ≡ i.line) × Overflows (item_reckoned sketch nodes i)) → EndsAs p placed (too_large line)
       goal_large line h =
-          let Q : Item → Type 0 = λ i. (line ≡ i.line) × IsRefused (item_reckoned sketch nodes i) in
+          let Q : Item → Type 0 = λ i. (line ≡ i.line) × Overflows (item_reckoned sketch nodes i) in
           let s = goal Q h in
           let t = goal_term (layout_of Two p.commands) p.nodes s in
           let same : last ≡ line = sym (h.stops.0 ∙ ap (λ (i : ItemForm). i.line) (goal_item_is Q h)) in
           subst (λ (i : ℕ). EndsAs p placed (too_large i)) same (
             judge s,
             comes_up Q h,
-            refused_there N M (placement_of sketch) placed g t (goal_over Q h) (subst (λ u. IsRefused (reckoned (placement_of sketch) u)) (term_is h.item s (goal_item_is Q h)) h.stops.1),
+            refused_there N M (placement_of sketch) placed g t (goal_over Q h) (subst (λ u. Overflows (reckoned (placement_of sketch) u)) (term_is h.item s (goal_item_is Q h)) h.stops.1),
           )
 
       -- what comes of the goals is the end

@@ -23,7 +23,7 @@ use Rattle.geo_place.specs.declared.sketch.Sketch.{Sketch}
 use Rattle.geo_place.specs.Evaluation.{AreAt, IsTooLarge, LineTurn, Passes, Turn, at_line, make, makes}
 use Rattle.geo_place.specs.Formulas.{IsAt, Spot, step_spot}
 use Rattle.geo_place.specs.Inner.{IsSketchOf, Run, Stop, Stops, free_places, placement_of, point_at}
-use Rattle.geo_place.specs.Reckonings.{IsRefused, IsResult, number}
+use Rattle.geo_place.specs.Reckonings.{Overflows, IsResult, number}
 use Rattle.geo_place.proofs.Alike.{alike_number, alike_refused, step_alike}
 use Rattle.geo_place.proofs.Existence.{places_append}
 use Rattle.geo_place.proofs.ResultLaws.{moved}
@@ -224,12 +224,12 @@ module _ (n m : ℕ) (p p' : Placement) (g : SamePlacement n m p p') (f : StepFo
         y = moved s.y (number S.y) _ (fractions.same_trans _ _ _ (alike_number S.y T.y a.1) (fractions.same_sym _ _ at.by_y)) y.is;
       })
 
-  pub not_large : (s : Position) → IsResult s.x S.x → IsResult s.y S.y → IsRefused T.x ⊎ IsRefused T.y → ⊥
+  pub not_large : (s : Position) → IsResult s.x S.x → IsResult s.y S.y → Overflows T.x ⊎ Overflows T.y → ⊥
   not_large s x y h =
       let b = step_alike n m p' p (agree_back n m p p' g) n f (λ e. absurd (d e)) o in
       ⊎_elim (λ r. x.kept (alike_refused T.x S.x b.0 r)) (λ r. y.kept (alike_refused T.y S.y b.1 r)) h
 
-  pub large_there : IsRefused S.x ⊎ IsRefused S.y → IsRefused T.x ⊎ IsRefused T.y
+  pub large_there : Overflows S.x ⊎ Overflows S.y → Overflows T.x ⊎ Overflows T.y
   large_there h =
       let a = step_alike n m p p' (agree_of n m p p' g) n f (λ e. absurd (d e)) o in
       ⊎_elim (λ r. inl (alike_refused S.x T.x a.0 r)) (λ r. inr (alike_refused S.y T.y a.1 r)) h

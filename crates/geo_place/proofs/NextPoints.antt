@@ -25,7 +25,7 @@ use Rattle.geo_place.specs.declared.positions.Reckoned.{Reckoned}
 use Rattle.geo_place.specs.declared.sketch.Sketch.{Sketch}
 use Rattle.geo_place.specs.Formulas.{IsAt, Spot, step_spot}
 use Rattle.geo_place.specs.Evaluation.{IsTooLarge, at_line, make}
-use Rattle.geo_place.specs.Reckonings.{IsRefused, IsResult}
+use Rattle.geo_place.specs.Reckonings.{Overflows, IsResult}
 use Rattle.geo_place.specs.Inner.{AreResults, HasNumber, IsPosition, IsRun, IsSketchOf, Run, Stops, free_places, placement_of, point_at}
 use Rattle.geo_place.proofs.Existence.{program_places}
 use Rattle.geo_conditions.specs.Lists.{condition_item, item_form}
@@ -174,7 +174,7 @@ module _ (run : Run) (problem : Problem) (ints : List ℤ) (h : IsRun run proble
 
   pub next_reckoned : (form ≡ free → ⊥) → (line : ℕ) (k : ℕ) → k ≡ n → (reckoned : Reckoned) → AreResults reckoned (step_spot (placement_of sketch) k form) → (r : Result Position PlaceError)
       → IfOk r (λ q. (spot : Spot) → AreResults reckoned spot → IsResult q.x spot.x × IsResult q.y spot.y)
-      → IfErr r (λ e. (spot : Spot) → AreResults reckoned spot → (e ≡ TooLarge line) × (IsRefused spot.x ⊎ IsRefused spot.y)) → NextIs line r
+      → IfErr r (λ e. (spot : Spot) → AreResults reckoned spot → (e ≡ TooLarge line) × (Overflows spot.x ⊎ Overflows spot.y)) → NextIs line r
   next_reckoned d line k kn reckoned a r ok err =
       let b : AreResults reckoned (step_spot (placement_of sketch) n form) = subst (λ (i : ℕ). AreResults reckoned (step_spot (placement_of sketch) i form)) kn a in
       go r ok err b
@@ -183,7 +183,7 @@ module _ (run : Run) (problem : Problem) (ints : List ℤ) (h : IsRun run proble
       spot = step_spot (placement_of sketch) n form
 
       go : (r : Result Position PlaceError) → IfOk r (λ q. (spot : Spot) → AreResults reckoned spot → IsResult q.x spot.x × IsResult q.y spot.y)
-          → IfErr r (λ e. (spot : Spot) → AreResults reckoned spot → (e ≡ TooLarge line) × (IsRefused spot.x ⊎ IsRefused spot.y))
+          → IfErr r (λ e. (spot : Spot) → AreResults reckoned spot → (e ≡ TooLarge line) × (Overflows spot.x ⊎ Overflows spot.y))
           → AreResults reckoned (step_spot (placement_of sketch) n form) → NextIs line r
       go (Ok q) ok err b =
           let h = ok spot b in

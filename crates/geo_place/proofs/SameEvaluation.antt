@@ -30,7 +30,7 @@ use Rattle.geo_place.specs.declared.placed.Placed.{Placed}
 use Rattle.geo_place.specs.Evaluation.{AreAt, ComesUp, End, EndsAs, IsListedAt, IsReckoned, IsRight, IsTooLarge, IsTriplePast, LineTurn, Passes, Turn, judge, make, placed_all, test, too_large, turns_of, unmet, write}
 use Rattle.geo_place.specs.Formulas.{reckoned, step_spot}
 use Rattle.geo_place.specs.Placing.{IsAnswer, Places}
-use Rattle.geo_place.specs.Reckonings.{IsRefused, number}
+use Rattle.geo_place.specs.Reckonings.{Overflows, number}
 use Rattle.geo_place.proofs.Once.{evaluation_ends_once}
 use Rattle.geo_place.proofs.LeastTriples.{least_once}
 use Rattle.geo_place.proofs.ListParts.{beside, head_of, none_before, tail_of}
@@ -40,10 +40,10 @@ use Rattle.geo_place.proofs.SeenTurns.{LineTask, Task, judges, line_task, makes_
 -- TASKS THAT PASS
 module _ (placed : Placement) (l : Layout) where
   abbrev TaskTooLarge : Task → Type 0
-  TaskTooLarge (tests c) = IsRefused (reckoned placed (condition_term l c))
-  TaskTooLarge (makes_point n f) = IsRefused (step_spot placed n f).x ⊎ IsRefused (step_spot placed n f).y
+  TaskTooLarge (tests c) = Overflows (reckoned placed (condition_term l c))
+  TaskTooLarge (makes_point n f) = Overflows (step_spot placed n f).x ⊎ Overflows (step_spot placed n f).y
   TaskTooLarge (writes n) = IsTriplePast (placed.point n)
-  TaskTooLarge (judges t) = IsRefused (reckoned placed t)
+  TaskTooLarge (judges t) = Overflows (reckoned placed t)
 
   abbrev TaskRight : Task → Type 0
   TaskRight (tests c) = IsNonzero (number (reckoned placed (condition_term l c)))

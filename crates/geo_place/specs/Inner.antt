@@ -32,7 +32,7 @@ use Rattle.geo_place.specs.declared.triples.Triple.{Triple}
 use Rattle.geo_place.specs.Evaluation.{EndsAs, IsLeast, IsListedAt, IsReckoned, IsRight, IsTooLarge, IsTriplePast, LineTurn, Passes, test, too_large, turns_from, unmet}
 use Rattle.geo_place.specs.Formulas.{Spot, reckoned}
 use Rattle.geo_place.specs.Placing.{integers_of}
-use Rattle.geo_place.specs.Reckonings.{HasResult, IsRefused, Reckoning, number}
+use Rattle.geo_place.specs.Reckonings.{HasResult, Overflows, Reckoning, number}
 
 -- POSITIONS
 -- the position is that of the point
@@ -93,17 +93,17 @@ item_reckoned sketch nodes item = reckoned (placement_of sketch) (tree_of nodes 
 
 -- it is reckoned, and is not 0
 abbrev pub IsItemMet : Sketch → Store → Item → Type 0
-IsItemMet sketch nodes item = (IsRefused (item_reckoned sketch nodes item) → ⊥) × IsNonzero (number (item_reckoned sketch nodes item))
+IsItemMet sketch nodes item = (Overflows (item_reckoned sketch nodes item) → ⊥) × IsNonzero (number (item_reckoned sketch nodes item))
 
 -- it is reckoned, and is 0
 abbrev pub IsItemNull : Sketch → Store → Item → Type 0
 IsItemNull sketch nodes item =
-    (IsRefused (item_reckoned sketch nodes item) → ⊥) × Same (number (item_reckoned sketch nodes item)) (whole (pos 0))
+    (Overflows (item_reckoned sketch nodes item) → ⊥) × Same (number (item_reckoned sketch nodes item)) (whole (pos 0))
 
 -- the item, which is the k-th, gives this error
 abbrev pub FailsItem : Sketch → Store → Item → ℕ → PlaceError → Type 0
 FailsItem sketch nodes item k (Unmet j) = (j ≡ k) × IsItemNull sketch nodes item
-FailsItem sketch nodes item k (TooLarge line) = (line ≡ item.line) × IsRefused (item_reckoned sketch nodes item)
+FailsItem sketch nodes item k (TooLarge line) = (line ≡ item.line) × Overflows (item_reckoned sketch nodes item)
 FailsItem sketch nodes item k NoMemory = Unit {0}
 
 -- the first of these items that is not met gives this error, where so many stand before them
@@ -129,7 +129,7 @@ abbrev pub GoalsCome : Sketch → Store → List Item → Result Bool PlaceError
 GoalsCome sketch nodes items (Ok true) = AllByRecursion (IsItemNull sketch nodes) items
 GoalsCome sketch nodes items (Ok false) = StopsGoals sketch nodes items (IsItemMet sketch nodes)
 GoalsCome sketch nodes items (Err (TooLarge line)) =
-    StopsGoals sketch nodes items (λ i. (line ≡ i.line) × IsRefused (item_reckoned sketch nodes i))
+    StopsGoals sketch nodes items (λ i. (line ≡ i.line) × Overflows (item_reckoned sketch nodes i))
 GoalsCome sketch nodes items (Err error) = ⊥
 
 -- RUNS

@@ -12,7 +12,7 @@ ghost use Rattle.geo_terms.specs.Stores.{Store};
 ghost use Rattle.ring_laws.specs.Fraction.{whole};
 ghost use Rattle.frac_laws.specs.Numbers.{IsNumber};
 ghost use Rattle.geo_place.specs.Formulas.{Spot};
-ghost use Rattle.geo_place.specs.Reckonings.{IsRefused, IsResult};
+ghost use Rattle.geo_place.specs.Reckonings.{Overflows, IsResult};
 ghost use Rattle.geo_place.specs.Evaluation.{IsTooLarge, Passes, at_line, make, makes};
 ghost use Rattle.geo_place.specs.Inner.{AreResults, IsRun, IsSketchOf, Run, Stops, free_places};
 ghost use Rattle.geo_place.specs.Inner.{point_at};
@@ -42,7 +42,7 @@ fn position_of(reckoned: Reckoned, line: u64) -> Result<Position, PlaceError>
     ensures position { IfOk result (λ s. (spot : Spot) → AreResults reckoned spot
         → IsResult s.x spot.x × IsResult s.y spot.y) }
     ensures refused { IfErr result (λ e. (spot : Spot) → AreResults reckoned spot
-        → (e ≡ PlaceError.TooLarge line) × (IsRefused spot.x ⊎ IsRefused spot.y)) }
+        → (e ≡ PlaceError.TooLarge line) × (Overflows spot.x ⊎ Overflows spot.y)) }
 {
     match (reckoned.x, reckoned.y) {
         (Ok(x), Ok(y)) => Ok(Position { x, y }),
