@@ -5,7 +5,7 @@ use Rattle.std.specs.Ordering.{is_eq}
 use Rattle.std.proofs.Common.{◌≡◌, ℕ, ◌<◌, ◌&&◌, Bool, true, false, cond, eqb, pos, Option, Some, None, refl, sym, ap, subst, arith}
 use Rattle.std.proofs.lemmas.Bool.{eqb-true}
 use Rattle.fraction_poly.specs.Forms.{Form, integer}
-use Rattle.fraction_poly.specs.TableRows.{TableRow, made_row, HasVariable}
+use Rattle.fraction_poly.specs.TableRows.{TableRow, HasVariable}
 use Rattle.geo_points.specs.declared.ids.PointId.{PointId}
 use Rattle.geo_points.specs.declared.ids.TermId.{TermId}
 use Rattle.geo_points.specs.Placements.{Placement}
@@ -29,7 +29,6 @@ use Rattle.geo_logs.specs.declared.moves.Move.TheVariants.{Ratio, Point, Coords}
 use Rattle.geo_logs.specs.Naming.{IsNamed}
 use Rattle.geo_terms.specs.TermBounds.{IsTermBelow}
 use Rattle.fraction_poly.specs.StepForms.{step_denominator, step_row}
-use Rattle.geo_poly.specs.declared.replacement.Row.{Row}
 use Rattle.elim_area.specs.AreaTable.{area_numerator, area_table, points_after}
 use Rattle.elim_pyth.specs.declared.pyth_rows.Reading.{Reading}
 use Rattle.elim_pyth.specs.declared.pyth_rows.Reading.TheVariants.{Linear, Quadratic}
@@ -145,10 +144,6 @@ module _ (c : Construction) (placed : Placement) (y i j d e : PointId) (has : Ha
 -- OPTIONS
 pub some_of : {A : Type 0} (o : Option A) (r : A) (Q : A → Type 0) → o ≡ Some r → IfSome o Q → Q r
 some_of {A} o r Q e h = subst (λ (x : Option A). IfSome x Q) e h
-
-mapped_row : (o : Option TableRow) (v : Var) (Q : Row → Type 0) → IfSome o (λ t. Q (made_row v t).0) → IfSome (option_map (λ t. (made_row v t).0) o) Q
-mapped_row None v Q h = tt
-mapped_row (Some t) v Q h = h
 
 pub both_some : (o : Option TableRow) (Q U : TableRow → Type 0) → IfSome o Q → IfSome o U → IfSome o (λ t. Q t × U t)
 both_some None Q U h g = tt

@@ -6,11 +6,11 @@ use Rattle.geo_cli.specs.declared.benching.Report.{Report}
 use Rattle.geo_cli.specs.Due.{Due, IsRestDue, IsValuesDue, SpellsNone, TellsAnswer, fault_due}
 use Rattle.geo_cli.specs.Inner.Telling.{due_of}
 use Rattle.geo_cli.specs.Values.{values_line}
-use Rattle.geo_conditions.specs.Truth.{ProgramValues, free_points}
+use Rattle.geo_conditions.specs.Truth.{ProgramValues, free_points, integers_of}
 use Rattle.geo_lexer.specs.declared.token_types.Fault.{Fault}
 use Rattle.geo_place.specs.declared.errors.PlaceError.{PlaceError}
 use Rattle.geo_place.specs.declared.placed.Placed.{Placed}
-use Rattle.geo_place.specs.Placing.{IsAnswer, integers_of, values_wanted}
+use Rattle.geo_place.specs.Placing.{IsAnswer, values_wanted}
 use Rattle.geo_place.proofs.ValueLists.{values_are, values_of}
 use Rattle.geo_program.specs.declared.program_type.Program.{Program}
 use Rattle.geo_program.specs.Programs.{Spells, source_of}

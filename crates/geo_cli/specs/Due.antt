@@ -13,7 +13,7 @@ use Rattle.geo_cli.specs.Values.{HasNoValuesLine, HasValuesLine, values_line}
 use Rattle.geo_cli.specs.Words.{IsNoCommand}
 use Rattle.geo_base.specs.declared.texts.Text.{Text as Written}
 use Rattle.geo_conditions.specs.Lists.{AreConditionItems, ItemForm}
-use Rattle.geo_conditions.specs.Truth.{ProgramValues, free_points}
+use Rattle.geo_conditions.specs.Truth.{ProgramValues, free_points, integers_of}
 use Rattle.geo_figure.specs.declared.errors.DrawError.{DrawError}
 use Rattle.geo_figure.specs.declared.errors.DrawError.TheVariants as drawing
 use Rattle.geo_figure.specs.Drawing.{IsDrawn}
@@ -27,7 +27,7 @@ use Rattle.geo_parser.specs.Refusals.{IsRefused}
 use Rattle.geo_place.specs.declared.errors.PlaceError.{PlaceError}
 use Rattle.geo_place.specs.declared.errors.PlaceError.TheVariants as placing
 use Rattle.geo_place.specs.declared.placed.Placed.{Placed}
-use Rattle.geo_place.specs.Placing.{IsAnswer, integers_of, text_of, values_wanted}
+use Rattle.geo_place.specs.Placing.{IsAnswer, text_of, values_wanted}
 use Rattle.geo_poly.specs.declared.limits.Which.TheVariants.{Norm}
 use Rattle.geo_program.specs.CanonicalText.{canonical_text}
 use Rattle.geo_program.specs.declared.program_type.Program.{Program}

@@ -8,13 +8,13 @@ use Rattle.geo_cli.specs.Due.{Due, IsDue, bench_text}
 use Rattle.geo_cli.specs.Input.{IsInput, log_limit, program_limit}
 use Rattle.geo_cli.specs.Values.{HasValuesLine}
 use Rattle.geo_cli.specs.Words.{IsBenchOf, IsCheck, IsFigure, IsPlace, IsProve, IsText, ReadsNothing}
-use Rattle.geo_conditions.specs.Truth.{ProgramValues}
+use Rattle.geo_conditions.specs.Truth.{ProgramValues, integers_of}
 use Rattle.geo_figure.specs.Drawing.{drawing}
 use Rattle.geo_logs.specs.Ends.{ends_with}
 use Rattle.geo_lowering.specs.Lowering.{IsLowered, LoweredForm}
 use Rattle.geo_lowering.specs.declared.version.Version.TheVariants.{Two}
 use Rattle.geo_place.specs.declared.placed.Placed.{Placed}
-use Rattle.geo_place.specs.Placing.{Places, PlacesNothing, integers_of, text_of}
+use Rattle.geo_place.specs.Placing.{Places, PlacesNothing, text_of}
 use Rattle.geo_program.specs.declared.program_type.Program.{Program}
 use Rattle.geo_program.specs.Programs.{Spells, source_of}
 use Rattle.geo_program.specs.WellFormed.{Source}

@@ -36,8 +36,6 @@ pub kept_right : (xs ys : List Reckoning) → AreKept (xs ++ ys) → AreKept ys
 kept_right xs ys h = All-from_recursion Kept ys (each_back Kept xs ys (recursion_from_All Kept (xs ++ ys) h))
 
 -- BOUNDS
-no_error : {A : Type 0} (t : A) (e : FracTooLarge) → Err e ≡ Ok t → ⊥
-no_error t e h = cc
 
 module _ (bounds : Bounds) (xs : List Fraction) (a : Fraction) (n : xs ≢ []) where
   two_kept : (ys : List Fraction) → Kept (known a ⊖ known (least ys)) → Kept (known a ⊖ known (greatest ys)) → AreKept (differences ys a)

@@ -1,5 +1,5 @@
 -- Texts without comments, put together from words, numbers and braces.
-use Rattle.std.proofs.Common.{◌≡◌, ℕ, suc, ◌<◌, ◌≤◌, ◌^◌, true, not, ℤ, pos, negsuc, List, [], ◌∷◌, ◌++◌, get_or, All, refl, sym, subst, arith, append_assoc, append-nil}
+use Rattle.std.proofs.Common.{◌≡◌, ℕ, suc, ◌<◌, ◌≤◌, ◌^◌, true, not, ℤ, pos, negsuc, List, [], ◌∷◌, ◌++◌, get_or, All, refl, sym, subst, arith, append_assoc}
 use Rattle.std.specs.Prelude.{unsigned_abs}
 use Rattle.std.specs.Fmt.{signed_decimal, decimal}
 use Rattle.std.specs.List.{flat_map}
@@ -73,10 +73,6 @@ Spells-line text more xs ys first second = record {
   has = HasLexemes-line text more xs ys first.has second.has;
   plain = joined_is_plain text more 10 refl first.plain second.plain;
 }
-
--- a line feed at the end adds nothing
-pub Spells-end : (text : List ℕ) (xs : List Lexeme) → Spells text xs → Spells (text ++ 10 ∷ []) xs
-Spells-end text xs spells = subst (Spells (text ++ 10 ∷ [])) (append-nil xs) (Spells-line text [] xs [] spells Spells-nil)
 
 -- a line, and then the text that follows it
 pub Spells-next : (line text : List ℕ) (xs ys : List Lexeme) → Spells line xs → Spells text ys → Spells ((line ++ 10 ∷ []) ++ text) (xs ++ ys)

@@ -29,13 +29,6 @@ use Rattle.geo_lowering.proofs.Laying.{AreLaid, AreNamed, laid_program, named_pr
 
 -- TERMS THAT STAY
 
-pub kept_trans : (a b c : Construction) → KeepsTerms a b → KeepsTerms b c → KeepsTerms a c
-kept_trans a b c h k = record {
-  steps = k.steps ∙ h.steps;
-  longer = let x : length a.nodes ≤ length b.nodes = h.longer in let y : length b.nodes ≤ length c.nodes = k.longer in omega arith;
-  trees = λ id w. let x : length a.nodes ≤ length b.nodes = h.longer in k.trees id (omega arith) ∙ h.trees id w;
-}
-
 pub kept_term : (a b : Construction) → KeepsTerms a b → (e : _) (id : TermId) → IsTerm a.nodes e id → IsTerm b.nodes e id
 kept_term a b h e id t = record {
   stored = let x : length a.nodes ≤ length b.nodes = h.longer in let w : id.0 < length a.nodes = t.stored in omega arith;

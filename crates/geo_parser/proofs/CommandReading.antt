@@ -6,7 +6,7 @@ use Rattle.std.proofs.lemmas.List.{append-nil, length-map}
 use Rattle.std.proofs.lemmas.List.Elements.{All-cons, All-nil}
 use Rattle.geo_lexer.specs.declared.token_types.Fault.{Fault}
 use Rattle.geo_lexer.specs.Lexemes.{Lexeme, word_lexeme, number_lexeme, open_brace, close_brace}
-use Rattle.geo_program.specs.CanonicalText.{argument_lexemes, condition_lexemes, sketch_lexemes}
+use Rattle.geo_program.specs.CanonicalText.{argument_lexemes, sketch_lexemes}
 use Rattle.geo_program.specs.Forms.{CommandForm, command_form}
 use Rattle.geo_program.specs.WellFormed.{AllDiffer, IsArgument, empty_scope, kinds_made, scope_of}
 use Rattle.geo_program.specs.Words.{IsNameText, reserved_words}
@@ -16,14 +16,13 @@ use Rattle.geo_program.specs.declared.names.NameKind.{NameKind}
 use Rattle.geo_program.proofs.Pushing.{AllDiffer-push}
 use Rattle.geo_parser.specs.declared.command_words.CommandWord.{CommandWord}
 use Rattle.geo_parser.specs.declared.command_words.CommandWord.TheVariants.{Assume, Point}
-use Rattle.geo_parser.specs.declared.command_words.ConditionWord.{ConditionWord}
 use Rattle.geo_parser.specs.declared.reader.Reader.{Reader}
 use Rattle.geo_parser.specs.Inner.Coming.{Coming, fault_from, fault_here, lexemes_of, next_lexeme}
-use Rattle.geo_parser.specs.Inner.CommandWords.{command_condition, command_due, command_kind, command_points, command_slots, command_text}
+use Rattle.geo_parser.specs.Inner.CommandWords.{command_due, command_kind, command_points, command_slots}
 use Rattle.geo_parser.specs.Inner.Dictionaries.{IsNew, IsNoNewName, name_of}
 use Rattle.geo_parser.specs.Forms.{Due, Slot, command_slot, commands, condition_slot, due_behind, naming_commands, new_name_slot}
 use Rattle.geo_parser.specs.Inner.Symbols.{IsWord}
-use Rattle.geo_parser.specs.Inner.Reads.{Passes, ReadsCommand, ReadsCondition, ReadsForm, ReadsNewName, ReadsProve, ReadsWord, Refuses, a_name, extent, fault_of, reading, statement_slots}
+use Rattle.geo_parser.specs.Inner.Reads.{Passes, ReadsCommand, ReadsForm, ReadsNewName, Refuses, a_name, extent, fault_of, reading, statement_slots}
 use Rattle.geo_parser.specs.Refusals.{fault_at, first_fault}
 use Rattle.geo_parser.specs.Slots.{Outcome, Reading, begin_command, completed, follow, next, refused, taken}
 use Rattle.geo_parser.specs.Texts.{is_text}
@@ -55,30 +54,6 @@ pub completed_none : (names : List Name) (points : ℕ) → completed (reading n
 completed_none names points = ap (λ ns. reading ns [] points) (append-nil names)
 
 module _ (s : Reader) (word : List ℕ) (is : next_lexeme s.cursor.tokens ≡ Some (word_lexeme word)) where
-  pub ReadsProve-token : is_text word (codes "prove") ≡ true → word ≡ codes "prove" → ReadsProve s (advanced s)
-  ReadsProve-token h same =
-      let P : List ℕ → Type 0 = λ w. Passes s (advanced s) (word_lexeme w ∷ []) in record {
-        passes = subst P same (Passes-token s (word_lexeme word) is);
-        names = refl;
-        points = refl;
-        terms = refl;
-        follows = λ rest. first_fault-taken _ _ _ _ s.cursor.tokens s.cursor.end s.cursor.stop (word_lexeme word) is
-            (begin_command-prove (reading s.names [] s.points) word rest h ∙ ap (λ r. taken r statement_slots) (completed_none s.names s.points));
-      }
-
-  pub ReadsWord-token : (command : CommandWord) → is_text word (codes "prove") ≡ false → is_text word (codes "assume") ≡ false → Some (command_due command) ≡ due_behind word naming_commands
-      → command_text command ≡ word → command_condition command ≡ None → ReadsWord command s (advanced s)
-  ReadsWord-token command h no_assume due text condition =
-      let P : List ℕ → Option (List ℕ) → Type 0 = λ w o. Passes s (advanced s) (word_lexeme w ∷ condition_lexemes o) in record {
-        passes = subst₂ P (sym text) (sym condition) (Passes-token s (word_lexeme word) is);
-        names = refl;
-        points = refl;
-        terms = refl;
-        follows = λ rest. first_fault-taken _ _ _ _ s.cursor.tokens s.cursor.end s.cursor.stop (word_lexeme word) is
-            (begin_command-due (reading s.names [] s.points) word rest (Some (command_due command)) h
-            (due ∙ sym (due_behind-naming word no_assume))
-            ∙ ap (λ r. taken r (command_due command ++ command_slot ∷ rest)) (completed_none s.names s.points));
-      }
 
   pub Refuses-no_command : is_text word (codes "prove") ≡ false → is_text word (codes "assume") ≡ false
       → None ≡ due_behind word naming_commands → Refuses (command_slot ∷ []) s (fault_here 4 s.cursor.tokens s.cursor.end s.cursor.stop)
@@ -91,16 +66,6 @@ module _ (s : Reader) (word : List ℕ) (is : next_lexeme s.cursor.tokens ≡ So
     assume_goes rest =
         first_fault-taken _ _ _ _ s.cursor.tokens s.cursor.end s.cursor.stop (word_lexeme word) is
         (ap (λ w. begin_command (reading s.names [] s.points) w rest) same ∙ ap (λ r. taken r (condition_slot ∷ command_slot ∷ rest)) (completed_none s.names s.points))
-
-    pub ReadsWord-assume : (b : Reader) (condition : ConditionWord) → ReadsCondition condition (advanced s) b → ReadsWord (Assume condition) s b
-    ReadsWord-assume b condition h =
-        let P : List ℕ → Type 0 = λ w. Passes s (advanced s) (word_lexeme w ∷ []) in record {
-          passes = Passes-then s (advanced s) b (word_lexeme (codes "assume") ∷ []) _ (subst P same (Passes-token s (word_lexeme word) is)) h.passes;
-          names = h.names;
-          points = h.points;
-          terms = h.terms;
-          follows = λ rest. assume_goes rest ∙ h.follows [] (command_slot ∷ rest);
-        }
 
     pub Refuses-condition : (f : Fault) → Refuses (condition_slot ∷ []) (advanced s) f → fault_of s [] (command_slot ∷ []) ≡ Some f
     Refuses-condition f h = assume_goes [] ∙ h.first [] (command_slot ∷ [])

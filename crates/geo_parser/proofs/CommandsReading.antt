@@ -4,7 +4,7 @@ use Rattle.std.specs.Prelude.{All, IfNone, IfSome, Option, sum_by}
 use Rattle.std.specs.List.{flat_map}
 use Rattle.std.proofs.lemmas.Grind.{flat_map-append}
 use Rattle.std.proofs.lemmas.List.{append-nil, length-map}
-use Rattle.std.proofs.lemmas.List.Elements.{All-append, All-nil}
+use Rattle.std.proofs.lemmas.List.Elements.{All-append}
 use Rattle.std.proofs.lemmas.List.Sums.{sum_by-cons, sum_by_push}
 use Rattle.geo_lexer.specs.Lexemes.{Lexeme, word_lexeme}
 use Rattle.geo_program.specs.CanonicalText.{argument_lexemes, command_lexemes, commands_lexemes, condition_lexemes, sketch_lexemes}
@@ -42,24 +42,6 @@ points_kept nodes wider (c ∷ commands) =
 
 pub KeepsTrees-extends : (old new : Store) → Extends old new → KeepsTrees old new
 KeepsTrees-extends old new h = record { longer = h.longer; trees = h.others }
-
--- before the first command
-pub ReadsCommands-none : (s : Reader) → s.names ≡ [] → s.points ≡ 0 → ReadsCommands s s []
-ReadsCommands-none s no_names no_points =
-    let P : List Name → Type 0 = λ ns. Passes s s (flat_map (λ line. line) (commands_lexemes ns s.terms ns [] [])) in
-    let none : Passes s s [] = record { spelt = refl; stop = refl } in record {
-      sketches = [];
-      sketched = tt;
-      passes = subst P (sym no_names) none;
-      made = no_names;
-      texts = subst (All (λ n. IsNameText n.text)) (sym no_names) (All-nil (λ n. IsNameText n.text));
-      differ = subst AllDiffer (sym no_names) tt;
-      counted = no_points;
-      few = omega (arith, no_points);
-      room = omega arith;
-      names = omega (arith, ap length no_names);
-      follows = refl;
-    }
 
 module _ (a b c d : Reader) (commands : List Command) (word : CommandWord) (command : Command) (h : ReadsCommands a b commands) (w : ReadsWord word b c) (k : ReadsCommand word c d command) where
   abbrev longer : List Name

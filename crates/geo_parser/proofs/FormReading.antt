@@ -1,5 +1,5 @@
 -- Reading what stands behind a command's new name and behind a statement's word.
-use Rattle.std.proofs.Common.{◌≡◌, ℕ, ◌≤◌, true, false, List, [], ◌∷◌, length, None, inl, refl, sym, ap, ◌∙◌, subst, arith}
+use Rattle.std.proofs.Common.{◌≡◌, ℕ, false, List, [], ◌∷◌, length, None, inl, refl, sym, ap, ◌∙◌, subst, arith}
 use Rattle.std.specs.Prelude.{All}
 use Rattle.std.specs.List.{flat_map}
 use Rattle.std.proofs.lemmas.List.{append-nil}
@@ -9,7 +9,7 @@ use Rattle.geo_lexer.specs.declared.token_types.Fault.{Fault}
 use Rattle.geo_lexer.specs.Lexemes.{Lexeme, word_lexeme, open_brace, close_brace}
 use Rattle.geo_program.specs.CanonicalText.{argument_lexemes}
 use Rattle.geo_program.specs.Expressions.{braced, expression_lexemes}
-use Rattle.geo_program.specs.Forms.{AreSidesStored, Argument, CommandForm, IsStored, StatementForm, command_form, number_argument, side_argument, statement_form}
+use Rattle.geo_program.specs.Forms.{AreSidesStored, Argument, CommandForm, IsStored, StatementForm, command_form, number_argument, statement_form}
 use Rattle.geo_program.specs.WellFormed.{IsArgument, empty_scope, scope_of}
 use Rattle.geo_program.specs.declared.commands.Command.{Command}
 use Rattle.geo_program.specs.declared.names.Name.{Name}
@@ -20,8 +20,8 @@ use Rattle.geo_parser.specs.declared.command_words.CommandWord.{CommandWord}
 use Rattle.geo_parser.specs.declared.reader.Reader.{Reader}
 use Rattle.geo_parser.specs.declared.statement_words.StatementWord.{StatementWord}
 use Rattle.geo_parser.specs.Inner.CommandWords.{command_condition, command_kind, command_points, command_slots, command_text}
-use Rattle.geo_parser.specs.Forms.{Slot, a_number, close_slot, end_slot, open_slot, side, statement_slot}
-use Rattle.geo_parser.specs.Inner.Reads.{Reads, ReadsArguments, ReadsExpression, ReadsForm, ReadsPart, ReadsStated, ReadsStatement, ReadsStatementWord, Refuses, argument_slots, extent, scope, statement_slots}
+use Rattle.geo_parser.specs.Forms.{Slot, a_number, close_slot, end_slot, open_slot, statement_slot}
+use Rattle.geo_parser.specs.Inner.Reads.{Reads, ReadsArguments, ReadsExpression, ReadsForm, ReadsStated, ReadsStatement, ReadsStatementWord, Refuses, argument_slots, scope, statement_slots}
 use Rattle.geo_parser.specs.Inner.StatementWords.{statement_due, statement_text}
 use Rattle.geo_parser.proofs.CommandReading.{Passes-length}
 use Rattle.geo_parser.proofs.CommandsReading.{KeepsTrees-extends}
@@ -32,14 +32,6 @@ pub ReadsArguments-number : (a b : Reader) (e : TermId) → ReadsExpression 0 fa
 ReadsArguments-number a b e h =
     let P : List Lexeme → Type 0 = λ ls. Reads (a_number ∷ []) a b ls in record {
       reads = subst P (sym (append-nil (expression_lexemes a.names (tree_of b.terms e)))) h.reads;
-      valid = All-cons (IsArgument (scope a)) _ [] (h.tree.valid, omega (arith, h.tree.nested)) (All-nil (IsArgument (scope a)));
-    }
-
--- a side of an equation is an argument
-pub ReadsArguments-side : (a b : Reader) (e : TermId) → ReadsPart 0 true a b e → ReadsArguments (side_argument (tree_of b.terms e) ∷ []) a b
-ReadsArguments-side a b e h =
-    let P : List Lexeme → Type 0 = λ ls. Reads side a b ls in record {
-      reads = subst P (sym (append-nil (braced (expression_lexemes a.names (tree_of b.terms e))))) h.reads;
       valid = All-cons (IsArgument (scope a)) _ [] (h.tree.valid, omega (arith, h.tree.nested)) (All-nil (IsArgument (scope a)));
     }
 
@@ -114,10 +106,6 @@ module _ (word : StatementWord) (a b : Reader) (w : ReadsStatementWord word a b)
 
   pub Refuses-statement : (f : Fault) → Refuses (statement_due word) b f → Refuses (statement_slot ∷ []) a f
   Refuses-statement f h = record { first = λ begun rest. w.follows begun rest ∙ h.first begun rest }
-
-  -- there is less to come
-  pub extent-statement : extent b ≤ extent a
-  extent-statement = omega (arith, ap length w.terms, Passes-length a b _ w.passes)
 
 -- what is refused behind the first brace
 pub Refuses-word : (a b : Reader) (f : Fault) → Reads (open_slot 0 ∷ []) a b (open_brace ∷ []) → Refuses (statement_slot ∷ []) b f → Refuses statement_slots a f

@@ -1,5 +1,5 @@
 -- What comes of a word where a name is due.
-use Rattle.std.proofs.Common.{◌≡◌, ℕ, ◌+◌, Bool, true, false, List, [], ◌∷◌, Some, None, refl, ap, ◌∙◌}
+use Rattle.std.proofs.Common.{◌≡◌, ℕ, ◌+◌, Bool, false, List, [], ◌∷◌, Some, None, ap, ◌∙◌}
 use Rattle.std.specs.Prelude.{Option, if◌then◌else◌, nat_le}
 use Rattle.geo_program.specs.declared.names.Name.{Name}
 use Rattle.geo_program.specs.declared.names.NameKind.{NameKind}
@@ -18,16 +18,11 @@ by_name o r kind rest = elim o [ None ↦ refused 5 | Some name ↦ by_kind (is_
 abbrev by_reserved : Bool → Option Name → Reading → NameKind → List Slot → Outcome
 by_reserved free name r kind rest = if free then refused 4 else by_name name r kind rest
 
-use_name_lem : (r : Reading) (kind : NameKind) (word : List ℕ) (rest : List Slot) → use_name r kind word rest ≡ by_reserved (is_reserved word) (declared_name r word) r kind rest
-use_name_lem r kind word rest = refl
-
 -- the word's name among the names of a reading
 declared_name_lem : (r : Reading) (names : List Name) (word : List ℕ) (o : Option Name) → r.declared ≡ names → name_of names word ≡ o → declared_name r word ≡ o
 declared_name_lem r names word o e h = ap (λ ns. name_of ns word) e ∙ h
 
 module _ (r : Reading) (names : List Name) (same : r.declared ≡ names) (kind : NameKind) (word : List ℕ) (rest : List Slot) where
-  pub use_name-reserved : is_reserved word ≡ true → use_name r kind word rest ≡ refused 4
-  use_name-reserved h = ap (λ b. by_reserved b (declared_name r word) r kind rest) h
 
   pub use_name-unknown : is_reserved word ≡ false → name_of names word ≡ None → use_name r kind word rest ≡ refused 5
   use_name-unknown h none =
@@ -57,9 +52,6 @@ begun r kind points word = record r { begun = (record { text = word; kind = kind
 module _ (r : Reading) (names : List Name) (same : r.declared ≡ names) (kind : NameKind) (points : ℕ) (word : List ℕ) (rest : List Slot) where
   abbrev few : Bool
   few = nat_le (r.points + points) 512
-
-  pub begin_name-reserved : is_reserved word ≡ true → begin_name r kind points word rest ≡ refused 4
-  begin_name-reserved h = ap (λ b. by_free b (declared_name r word) few (begun r kind points word) rest) h
 
   pub begin_name-declared : (name : Name) → is_reserved word ≡ false → name_of names word ≡ Some name → begin_name r kind points word rest ≡ refused 6
   begin_name-declared name h some =

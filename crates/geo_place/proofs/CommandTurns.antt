@@ -174,9 +174,6 @@ module _ (p : Source) (w : IsWellFormed p) (k : ℕ) (c : Command) (at : slice_g
   pub before_next : take (suc k) p.commands ≡ before ++ c ∷ []
   before_next = take_next k p.commands c at
 
-  commands_next : p.commands ≡ (before ++ c ∷ []) ++ rest
-  commands_next = commands_are ∙ sym (append_assoc before (c ∷ []) rest)
-
   below_all : k < length p.commands
   below_all = go k p.commands at
     where
@@ -244,9 +241,6 @@ module _ (p : Source) (w : IsWellFormed p) (k : ℕ) (c : Command) (at : slice_g
   turns_are =
       let e = map test early in let s = makes n steps in let g = gathered kind.Point (named c) (write (further n (hidden Two c))) [] in let f = map test late in
       line_append line (e ++ s ++ g) f ∙ ap (λ (ts : List LineTurn). ts ++ L) (line_append line (e ++ s) g) ∙ ap (λ (ts : List LineTurn). ts ++ W ++ L) (line_append line e s)
-
-  last_line : ℕ
-  last_line = suc (length p.commands)
 
   abbrev others : List LineTurn
   others = turns_from p (suc line) (counted kind.Point (named c) x) (next_point Two n c) (next_number m c) rest

@@ -99,22 +99,6 @@ is_free_step (along w u v r) = false
 is_free_step (turned_along u v r) = false
 is_free_step (weighted o u v r s) = false
 
-pub free_step_is : (f : StepForm) → is_free_step f ≡ true → f ≡ free
-free_step_is free e = refl
-free_step_is (crossing_of u v p q) e = cc
-free_step_is (foot_of p u v) e = cc
-free_step_is (along w u v r) e = cc
-free_step_is (turned_along u v r) e = cc
-free_step_is (weighted o u v r s) e = cc
-
-places_other : (n : ℕ) (f : StepForm) → is_free_step f ≡ false → free_places n (f ∷ []) ≡ []
-places_other n free e = cc
-places_other n (crossing_of u v p q) e = refl
-places_other n (foot_of p u v) e = refl
-places_other n (along w u v r) e = refl
-places_other n (turned_along u v r) e = refl
-places_other n (weighted o u v r s) e = refl
-
 -- the place of a free point among those of all steps
 pub place_at : (n : ℕ) (fs : List StepForm) (i : ℕ) → slice_get fs i ≡ Some free
     → (slice_index_or (free_places n fs) (length (free_places n (take i fs))) 0 ≡ n + i) × (length (free_places n (take i fs)) < length (free_places n fs))

@@ -207,9 +207,3 @@ module _ (run : Run) (problem : Problem) (ints : List ℤ) (h : IsRun run proble
                   stops = (refl, large_there n (length sketch.numbers.items) (placement_of sketch) run.placed s.same form over d is_at h.1);
                 });
           }
-
-  -- a free point is never too large
-  pub free_passes : form ≡ free → IsTooLarge run.program run.placed (make n form) → ⊥
-  free_passes e h =
-      let k : IsTooLarge run.program run.placed (make n free) = subst (λ (f : StepForm). IsTooLarge run.program run.placed (make n f)) e h in
-      ⊎_elim (λ x. x) (λ x. x) k

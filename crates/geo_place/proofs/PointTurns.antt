@@ -11,7 +11,7 @@ use Rattle.geo_place.specs.declared.errors.PlaceError.{PlaceError}
 use Rattle.geo_place.specs.declared.sketch.Sketch.{Sketch}
 use Rattle.geo_place.specs.Evaluation.{IsTooLarge, Passes, at_line, make, makes}
 use Rattle.geo_place.specs.Inner.{IsRun, IsSketchOf, Run, Stops}
-use Rattle.geo_place.proofs.ListParts.{take_zero, taken_at}
+use Rattle.geo_place.proofs.ListParts.{taken_at}
 use Rattle.geo_place.proofs.MakeTurns.{made, pass_next, stop_next}
 use Rattle.geo_place.proofs.NextPoints.{all_steps}
 use Rattle.geo_place.proofs.Taking.{get_some}
@@ -26,16 +26,6 @@ module _ (run : Run) (n to line : ℕ) where
     pub sketch_of : IsSketchOf run sketch
     pub count_is : length sketch.points.items ≡ count
     pub passed : AllByRecursion (Passes run.program run.placed) (made run line n between (count - n))
-
-  pub made_first : (sketch : Sketch) → IsSketchOf run sketch → length sketch.points.items ≡ n → AreMade n sketch
-  made_first sketch s e = record {
-    sketch_of = s;
-    count_is = e;
-    passed =
-        let q : 0 ≡ n - n = omega arith in
-        subst (λ (i : ℕ). AllByRecursion (Passes run.program run.placed) (made run line n between i)) q
-        (subst (λ (fs : List StepForm). AllByRecursion (Passes run.program run.placed) (at_line line (makes n fs))) (sym (take_zero between)) tt);
-  }
 
   module _ (problem : Problem) (ints : List ℤ) (h : IsRun run problem ints) (last : to ≤ length problem.steps.steps) (count : ℕ)
       (sketch : Sketch) (m : AreMade count sketch) (low : n ≤ count) (high : count < to) where

@@ -238,8 +238,6 @@ module _ (run : Run) (problem : Problem) (ints : List ℤ) (h : IsRun run proble
         (subst (λ (i : ℕ). FirstFails old.sketch nodes items i error) (sym before_long) f))
 
   -- THE STEPS
-  pub from_here : length old.sketch.points.items ≡ n p w k c at
-  from_here = t.points
 
   pub step_turns : take (next_point Two (n p w k c at) c - length old.sketch.points.items) (drop (length old.sketch.points.items) (steps_of Two p)) ≡ steps p w k c at
   step_turns = ap (λ (i : ℕ). take (next_point Two (n p w k c at) c - i) (drop i (steps_of Two p))) t.points ∙ steps_here p w k c at

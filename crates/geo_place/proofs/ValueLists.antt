@@ -6,9 +6,9 @@ use Rattle.std.proofs.lemmas.List.{length-drop}
 use Rattle.geo_program.specs.declared.commands.Command.{Command}
 use Rattle.geo_program.specs.declared.names.NameKind.TheVariants as kind
 use Rattle.geo_lowering.specs.Counting.{counted, has_number, named, next_number, numbers_from, numbers_had}
-use Rattle.geo_conditions.specs.Truth.{ProgramValues, free_points, is_free}
+use Rattle.geo_conditions.specs.Truth.{ProgramValues, free_points, integers_of, is_free}
 use Rattle.geo_program.specs.WellFormed.{Source}
-use Rattle.geo_place.specs.Placing.{integers_of, values_wanted}
+use Rattle.geo_place.specs.Placing.{values_wanted}
 
 -- COUNTS
 pub frees_counted : (x : ℕ) (cs : List Command) → length (free_points x cs) ≡ length (filter is_free cs)

@@ -20,7 +20,7 @@ use Rattle.geo_conditions.specs.declared.items.Item.{Item}
 use Rattle.geo_conditions.specs.declared.problem.Problem.{Problem}
 use Rattle.geo_conditions.specs.Lists.{AreConditions, Found, IsListed, condition_item, found_from, item_form}
 use Rattle.geo_conditions.specs.Problems.{form_of_problem}
-use Rattle.geo_conditions.specs.Truth.{ProgramValues}
+use Rattle.geo_conditions.specs.Truth.{ProgramValues, integers_of}
 use Rattle.geo_place.specs.declared.errors.PlaceError.{PlaceError}
 use Rattle.geo_place.specs.declared.errors.PlaceError.TheVariants.{NoMemory, TooLarge, Unmet}
 use Rattle.geo_place.specs.declared.evaluation.Progress.{Progress}
@@ -31,7 +31,6 @@ use Rattle.geo_place.specs.declared.sketch.Sketch.{Sketch}
 use Rattle.geo_place.specs.declared.triples.Triple.{Triple}
 use Rattle.geo_place.specs.Evaluation.{EndsAs, IsLeast, IsListedAt, IsReckoned, IsRight, IsTooLarge, IsTriplePast, LineTurn, Passes, test, too_large, turns_from, unmet}
 use Rattle.geo_place.specs.Formulas.{Spot, reckoned}
-use Rattle.geo_place.specs.Placing.{integers_of}
 use Rattle.geo_place.specs.Reckonings.{HasResult, Overflows, Reckoning, number}
 
 -- POSITIONS

@@ -19,10 +19,6 @@ use Rattle.geo_place.specs.declared.errors.PlaceError.TheVariants.{NoMemory, Too
 use Rattle.geo_place.specs.Evaluation.{EndsAs, IsLeast, IsReckoned, placed_all, too_large, unmet}
 
 -- VALUES
--- the values of a program, one after another
-abbrev pub integers_of : ProgramValues → List ℤ
-integers_of v = flat_map (λ xy. xy.0 ∷ xy.1 ∷ []) v.coordinates ++ v.numbers
-
 -- how many whole numbers are the values of a program: two for each free point, and one for each number
 abbrev pub values_wanted : Source → ℕ
 values_wanted p = 2 * length (free_points 0 p.commands) + numbers_had p.commands

@@ -2,8 +2,8 @@
 
 ghost use Rattle.std.specs.Prelude.{◌≡◌, ◌<◌, ◌^◌, All, IfOk, length, unsigned_abs};
 ghost use Rattle.geo_program.specs.Programs.{source_of};
-ghost use Rattle.geo_conditions.specs.Truth.{ProgramValues, free_points as numbers_of_free_points};
-ghost use Rattle.geo_place.specs.Placing.{IsAnswer, IsDrawable, integers_of};
+ghost use Rattle.geo_conditions.specs.Truth.{ProgramValues, free_points as numbers_of_free_points, integers_of};
+ghost use Rattle.geo_place.specs.Placing.{IsAnswer, IsDrawable};
 ghost use Rattle.geo_place.specs.Placing.{values_wanted};
 
 use crate::errors::PlaceError;

@@ -36,18 +36,6 @@ ratio-inter_first A U V P' Q Y' c h =
     (given_number 0 *' (area 1 3 4 -' area 2 3 4)) (area 0 3 4)
     (k.by_x, (k.by_y, (cross_product-is P' Q P' Y' c.on_second, tt))) tt
 
-pub ratio-inter_second : (A U V P Q Y : Point) → IsCrossing U V P Q Y → HasRatio A Y P Q
-    → Same (times (ratio A Y P Q) (minus (signed_area P U V) (signed_area Q U V))) (signed_area A U V)
-ratio-inter_second A U V P' Q Y' c h =
-    let k = ratio-is A Y' P' Q h in
-    geo_combination (A ∷ U ∷ V ∷ P' ∷ Q ∷ Y' ∷ []) (ratio A Y' P' Q ∷ [])
-    (fact (one_half *' (ordinate 2 -' ordinate 1)) (given_number 0 *' (abscissa 4 -' abscissa 3)) (abscissa 5 -' abscissa 0)
-    ∷ fact (opposite' (one_half *' (abscissa 2 -' abscissa 1))) (given_number 0 *' (ordinate 4 -' ordinate 3))
-    (ordinate 5 -' ordinate 0)
-    ∷ fact (opposite' one_half) (cross' 1 2 1 5) (whole_number 0) ∷ [])
-    (given_number 0 *' (area 3 1 2 -' area 4 1 2)) (area 0 1 2)
-    (k.by_x, (k.by_y, (cross_product-is U V U Y' c.on_first, tt))) tt
-
 -- the points are A D P Q Y, with Y on PQ
 pub ratio-inter_both : (A D P Q Y : Point) → cross_product P Q P Y ≡ pos 0 → HasRatio A Y D Y
     → Same (times (ratio A Y D Y) (signed_area D P Q)) (signed_area A P Q)

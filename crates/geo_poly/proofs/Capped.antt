@@ -79,9 +79,6 @@ WeightProgress-some rows top m c v left weight missing r e h =
           omega (arith, at, h.missing-is);
     }
 
-pub denominators-at : (rows : List Row) (v : Var × ℕ) (left : Powers) (r : Row) (o : Option Row) → row_of rows v.0 ≡ o → denominators rows (v ∷ left) ≡ power_in o * v.1 + denominators rows left
-denominators-at rows v left r o e = ap (λ (o : Option Row). power_in o * v.1 + denominators rows left) e
-
 -- the weight of the term, from that of its rows
 pub weight_end : (weight x d m : ℕ) → min weight m ≡ min x m → min (weight * min d m) m ≡ min (x * d) m
 weight_end weight x d m h = cap_right weight d m ∙ sym (cap_left weight d m) ∙ ap (λ k. min (k * d) m) h ∙ cap_left x d m

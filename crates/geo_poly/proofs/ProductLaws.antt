@@ -188,15 +188,6 @@ total_degree-more p i t h e = rw add-one (go p i h e)
     go (u ∷ us) zero h e = let same : degree_of t.0 ≡ degree_of u.0 = ap (λ (x : Powers × ℤ). degree_of x.0) e in omega (arith, same)
     go (u ∷ us) (suc i) h e = omega (arith, go us i (omega arith) e)
 
-pub multiples-more : (t : Powers × ℤ) (q : Summands) (i : ℕ) (u : Powers × ℤ) → i < length q → u ≡ get_or q i u
-    → multiples t (take (i + 1) q) ≡ multiples t (take i q) ++ (product t.0 u.0, t.1 *ℤ u.1) ∷ []
-multiples-more t q i u h e = rw add-one (go q i h e)
-  where
-    go : (q : Summands) (i : ℕ) → i < length q → u ≡ get_or q i u → multiples t (take (suc i) q) ≡ multiples t (take i q) ++ (product t.0 u.0, t.1 *ℤ u.1) ∷ []
-    go [] i h e = absurd (omega arith)
-    go (v ∷ vs) zero h e = ap (λ (x : Powers × ℤ). (product t.0 x.0, t.1 *ℤ x.1) ∷ []) (sym e)
-    go (v ∷ vs) (suc i) h e = ap (λ xs. (product t.0 v.0, t.1 *ℤ v.1) ∷ xs) (go vs i (omega arith) e)
-
 pub times_fits : (t : Powers × ℤ) (q : Summands) (i : ℕ) (u : Powers × ℤ) → i < length q → u ≡ get_or q i u → unsigned_abs t.1 * norm_of q < 2 ^ 127 → FitsSigned w128 (t.1 *ℤ u.1)
 times_fits t q i u h e fits =
     let size : Powers × ℤ → ℕ = λ t. unsigned_abs t.1 in

@@ -20,7 +20,6 @@ pub spaced_one : (lexeme : Lexeme) → spaced_text (lexeme ∷ []) ≡ 32 ∷ le
 unfolding spaced_text
 spaced_one lexeme = append-nil (32 ∷ lexeme_text lexeme)
 
-pub spaced-nil : spaced_text [] ≡ []
 unfolding spaced_text
 spaced-nil = refl
 

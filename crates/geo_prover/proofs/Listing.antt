@@ -360,10 +360,3 @@ impossible_on P Q s t u left k h g = record {
 -- the verdict is due there
 pub at_impossible : (P : Part) (s t : State) (left k : ℕ) → IsImpossibleAt P left s t k → Passes P (here_part (before_line (VerdictLine (Impossible k)))) s t
 at_impossible P s t left k h = reaches P h.lines (before_line (VerdictLine (Impossible k))) s t h.begun h.written
-
-pub ends_impossible : (P : Part) (s t u : State) (left k : ℕ) → IsImpossibleAt P left s t k → Writes (VerdictLine (Impossible k) ∷ []) t u → Finishes P s u (Impossible k) left
-ends_impossible P s t u left k h w = record {
-  lines = h.lines ++ VerdictLine (Impossible k) ∷ [];
-  whole = h.whole;
-  written = writes_more h.lines (VerdictLine (Impossible k) ∷ []) s t u h.written w;
-}

@@ -69,11 +69,6 @@ seen v y z qs ps cs number polys c = c ∙ ap₂ (λ (k : ℤ) (rs : List Summan
 pub put_all : (v : Var) (z : ℤ) (ps next : List Summands) (cs : List (Option Summands)) → All IsCollected ps → cs ≡ changes v z ps → next ≡ changed cs ps → next ≡ all_specialised v z ps
 put_all v z ps next cs h c e = e ∙ ap (λ (ds : List (Option Summands)). changed ds ps) c ∙ changed_all v z ps h
 
-pub length-changed : (cs : List (Option Summands)) (ps : List Summands) → length (changed cs ps) ≡ length ps
-length-changed [] ps = refl
-length-changed (c ∷ cs) [] = refl
-length-changed (c ∷ cs) (p ∷ ps) = omega (arith, length-changed cs ps)
-
 -- a change that is moved out of what is left of their list
 pub same_left : (now cs : List (Option Summands)) (i : ℕ) (c : Option Summands) → i < length now → i < length cs → c ≡ get_or now i c
     → drop i now ≡ drop i cs → (get_or cs i None ≡ c) × (drop (i + 1) now ≡ drop (i + 1) cs)

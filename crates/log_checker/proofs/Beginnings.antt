@@ -1,6 +1,5 @@
 -- What stands in an accepted log behind a beginning of it fits there.
-use Rattle.std.proofs.Common.{◌≡◌, ℕ, zero, suc, ◌-◌, inl, inr, Option, Some, None, List, [], ◌∷◌, ◌++◌, map, append-nil, refl, sym, ◌∙◌, ap, subst}
-use Rattle.std.specs.Prelude.{slice_get, take}
+use Rattle.std.proofs.Common.{◌≡◌, ℕ, suc, ◌-◌, inl, inr, Option, Some, List, [], ◌∷◌, ◌++◌, map, append-nil, refl, sym, ◌∙◌, ap, subst}
 use Rattle.std.proofs.lemmas.List.{append_assoc}
 use Rattle.geo_poly.specs.declared.variables.Var.{Var}
 use Rattle.geo_poly.specs.Polynomials.{Summands}
@@ -31,12 +30,6 @@ module _ {A : Type 0} where
   pub cancelled : (hs xs ys : List A) → hs ++ xs ≡ hs ++ ys → xs ≡ ys
   cancelled [] xs ys e = e
   cancelled (h ∷ hs) xs ys e = cancelled hs xs ys (tail_of h h (hs ++ xs) (hs ++ ys) e)
-
-  -- the item behind the first k ones
-  pub behind_take : (fs : List A) (k : ℕ) (x : A) (rest zs : List A) → slice_get fs k ≡ Some x → fs ++ rest ≡ take k fs ++ zs → (more : List A) × (zs ≡ x ∷ more)
-  behind_take [] k x rest zs at e = absurd (let q : ◌≡◌ {A = Option A} None (Some x) = at in cc)
-  behind_take (f ∷ fs) zero x rest zs at e = (fs ++ rest, sym e ∙ ap (λ y. y ∷ (fs ++ rest)) (let q : ◌≡◌ {A = Option A} (Some f) (Some x) = at in let r : f ≡ x = cc in r))
-  behind_take (f ∷ fs) (suc k) x rest zs at e = behind_take fs k x rest zs at (tail_of f f (fs ++ rest) (take k fs ++ zs) e)
 
   -- a read list that begins with good lines
   pub read_split : (xs good : List A) (more : List (Option A)) → map Some xs ≡ map Some good ++ more → (ys : List A) × (xs ≡ good ++ ys) × (map Some ys ≡ more)

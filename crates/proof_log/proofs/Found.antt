@@ -1,5 +1,5 @@
 -- What readers of numbers, names and powers have found, and what they refuse.
-use Rattle.std.proofs.Common.{◌≡◌, ℕ, zero, suc, ◌<◌, ◌≤◌, ◌^◌, true, false, cond, eqb, List, [], ◌∷◌, ◌++◌, refl, sym, ap, ◌∙◌, subst, append_assoc, arith, lit≤}
+use Rattle.std.proofs.Common.{◌≡◌, ℕ, suc, ◌<◌, ◌≤◌, ◌^◌, true, false, cond, eqb, List, [], ◌∷◌, ◌++◌, refl, sym, ap, ◌∙◌, subst, append_assoc, arith, lit≤}
 use Rattle.std.specs.Prelude.{ℤ, pos, negsuc, unsigned_abs, slice_get, Option, Some, None, Result, Ok}
 use Rattle.std.specs.Result.{result_ok}
 use Rattle.std.proofs.lemmas.Int.{to_z-of_z}
@@ -68,12 +68,6 @@ natural_unfit bits bytes rest z small h other n r k =
 -- a number of 64 bits is one of 32 where it fits
 widened : (bytes : List ℕ) (n : ℕ) (r : List ℕ) → Begins (naturals 32) bytes n r → Begins (naturals 64) bytes n r
 widened bytes n r h = record { spelt = h.spelt; fits = let fits : n < 2 ^ 32 = h.fits in let room : 2 ^ 32 ≤ 2 ^ 64 = lit≤ tt in omega arith; stops = h.stops }
-
-pub small_read : (bytes rest : List ℕ) (n : ℕ) → n < 2 ^ 32 → Begins (naturals 64) bytes n rest → Begins (naturals 32) bytes n rest
-small_read bytes rest n fits h = record { spelt = h.spelt; fits = fits; stops = h.stops }
-
-pub small_unread : (bytes : List ℕ) → NoneBegins (naturals 64) bytes → NoneBegins (naturals 32) bytes
-small_unread bytes none n r h = none n r (widened bytes n r h)
 
 pub small_unfit : (bytes rest : List ℕ) (n : ℕ) → Begins (naturals 64) bytes n rest → (n < 2 ^ 32 → ⊥) → NoneBegins (naturals 32) bytes
 small_unfit bytes rest n h other m r k =

@@ -50,9 +50,6 @@ pub record NamedBelow (name : ℕ → List ℕ) (list : List (List ℕ)) (n : �
   pub count : length list ≡ n
   pub each : (k : ℕ) → k < n → (d : List ℕ) → get_or list k d ≡ name k
 
-pub named-init : (name : ℕ → List ℕ) → NamedBelow name [] 0
-named-init name = record { count = refl; each = λ k lt d. absurd (omega (arith, lt)) }
-
 pub named-more : (name : ℕ → List ℕ) (list : List (List ℕ)) (n : ℕ) → NamedBelow name list n → NamedBelow name (list ++ name n ∷ []) (n + 1)
 named-more name list n h = record {
   count = omega (arith, length-append list (name n ∷ []), h.count);
