@@ -11,7 +11,8 @@ use Rattle.geo_poly.specs.declared.replacement.Row.{Row}
 use Rattle.geo_poly.specs.declared.variables.Var.{Var}
 use Rattle.geo_poly.specs.Monomials.{Powers, degree_of}
 use Rattle.geo_poly.specs.Polynomials.{Summands}
-use Rattle.geo_poly.specs.Replace.{degree_bound, degree_row, degree_rows, denominators, kept, most_denominators, others, power_in, replaced_degree, replaced_weight, row_of, term_degree, term_weight, weight_of, weight_row, weight_rows}
+use Rattle.geo_poly.specs.Replace.{degree_bound, degree_row, degree_rows, denominators, kept, most_denominators, others, power_in}
+use Rattle.geo_poly.specs.Replace.{replaced_degree, replaced_weight, row_of, term_degree, term_weight, weight_of, weight_row, weight_rows}
 use Rattle.geo_poly.specs.Variables.{var_cmp}
 use Rattle.geo_poly.proofs.Capped.{cap_left, cap_right, cap_weights, same_degrees}
 use Rattle.geo_logs.specs.declared.moves.Replacement.{Replacement}

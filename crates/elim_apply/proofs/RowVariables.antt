@@ -20,7 +20,8 @@ use Rattle.geo_terms.specs.Trees.{Tree, IsStepNumber}
 use Rattle.elim_area.specs.AreaTable.{area_numerator, area_table, points_after}
 use Rattle.elim_pyth.specs.declared.pyth_rows.Reading.{Reading}
 use Rattle.elim_pyth.specs.declared.pyth_rows.Reading.TheVariants.{Linear, Quadratic}
-use Rattle.elim_pyth.specs.DifferenceTable.{along_square, crossing_square, difference_row, difference_table, foot_square, linear_numerator, reading, turned_square, quadratic_numerator, quadratic_power, weights_square}
+use Rattle.elim_pyth.specs.DifferenceTable.{along_square, crossing_square, difference_row, difference_table, foot_square, linear_numerator}
+use Rattle.elim_pyth.specs.DifferenceTable.{reading, turned_square, quadratic_numerator, quadratic_power, weights_square}
 use Rattle.area_coords.specs.FreeTable.{area_in_coordinates, difference_in_coordinates, free_table, is_free, is_free_step}
 use Rattle.geo_logs.specs.Naming.{IsFree}
 use Rattle.elim_ratio.specs.RatioTable.{along_row, crossing_row, end_at, first_line, foot_row, lemma_row, plain_row, pythagoras_row, ratio_table, same_line, second_line, shared_row, with_sign}

@@ -5,7 +5,8 @@ use Rattle.std.specs.Option.{option_and_then, option_map}
 use Rattle.std.proofs.lemmas.Bool.{eqb-true}
 use Rattle.elim_pyth.specs.declared.pyth_rows.Reading.{Reading}
 use Rattle.elim_pyth.specs.declared.pyth_rows.Reading.TheVariants.{Linear, Quadratic}
-use Rattle.elim_pyth.specs.DifferenceTable.{reading, linear_numerator, quadratic_numerator, quadratic_power, difference_row, difference_table, crossing_square, foot_square, along_square, turned_square, weights_square}
+use Rattle.elim_pyth.specs.DifferenceTable.{reading, linear_numerator, quadratic_numerator, quadratic_power, difference_row}
+use Rattle.elim_pyth.specs.DifferenceTable.{difference_table, crossing_square, foot_square, along_square, turned_square, weights_square}
 use Rattle.fraction_poly.specs.Forms.{Form, pythagoras, ◌⊞◌, ◌⊟◌, ◌⊠◌, piece_of}
 use Rattle.fraction_poly.specs.Laws.{polynomial_value}
 use Rattle.fraction_poly.specs.Measures.{numbers_of}

@@ -1,5 +1,6 @@
 -- One thing is due at most for words and for a source that tells its bytes.
-use Rattle.std.proofs.Common.{◌≡◌, ℕ, zero, suc, ◌+◌, ◌*◌, ◌<◌, Bool, true, false, ℤ, inl, inr, List, [], ◌∷◌, ◌++◌, map, length, codes, Option, Some, None, refl, sym, ap, subst, ◌∙◌, append-nil, length-append, arith}
+use Rattle.std.proofs.Common.{◌≡◌, ℕ, zero, suc, ◌+◌, ◌*◌, ◌<◌, Bool, true, false, ℤ, inl, inr, List, [], ◌∷◌, ◌++◌, map, length, codes}
+use Rattle.std.proofs.Common.{Option, Some, None, refl, sym, ap, subst, ◌∙◌, append-nil, length-append, arith}
 use Rattle.std.specs.Prelude.{Result, Ok, Err}
 use Rattle.std.proofs.lemmas.List.{length-map, map-append}
 use Rattle.geo_base.specs.declared.texts.Text.{Text as Written}
@@ -21,7 +22,10 @@ use Rattle.geo_cli.specs.declared.order.Command.{Command}
 use Rattle.geo_cli.specs.declared.order.Command.TheVariants.{Bench, Check, Figure, Place, Prove, Text}
 use Rattle.geo_cli.specs.declared.order.Order.{Order}
 use Rattle.geo_cli.specs.declared.status.Status.TheVariants.{Done, Syntax}
-use Rattle.geo_cli.specs.Due.{Due, IsAcceptedDue, IsBenchDue, IsCalledFor, IsCommandCall, IsCommandDue, IsDue, IsDueFor, IsDueForLog, IsDueForText, IsDueForValues, IsLogDue, IsReadCall, IsReadDue, IsReadableDue, IsRefusalDue, IsRejectionDue, IsRestDue, IsValuesDue, TellsAnswer, TellsDrawing, bench_text, conditions_text, fault_due, refusal_line, syntax_line}
+use Rattle.geo_cli.specs.Due.{Due, IsAcceptedDue, IsBenchDue, IsCalledFor, IsCommandCall, IsCommandDue, IsDue, IsDueFor, IsDueForLog}
+use Rattle.geo_cli.specs.Due.{IsDueForText, IsDueForValues, IsLogDue, IsReadCall, IsReadDue, IsReadableDue, IsRefusalDue, IsRejectionDue}
+use Rattle.geo_cli.specs.Due.{IsRestDue, IsValuesDue, TellsAnswer, TellsDrawing, bench_text, conditions_text, fault_due, refusal_line}
+use Rattle.geo_cli.specs.Due.{syntax_line}
 use Rattle.geo_cli.specs.Input.{IsInput, IsLong, log_limit, program_limit}
 use Rattle.geo_cli.specs.Orders.{IsOrder}
 use Rattle.geo_cli.specs.Status.{ending_status, refusal_status, verdict_status}

@@ -24,7 +24,8 @@ use Rattle.geo_points.proofs.Same.{flip_point, minus-same}
 use Rattle.geo_lowering.proofs.Up.{AllStand, AllSame}
 use Rattle.geo_lowering.proofs.Values.{AgreeBelow, IsOver, over_expression, seen, renamed-has, renamed-value, value-same}
 use Rattle.geo_points.proofs.Zeros.{is_nonzero, not_same}
-use Rattle.geo_lowering.proofs.ZeroTerms.{collinear-is, parallel-is, perpendicular-is, identical-is, midpoint-is, same_length-is, concyclic-is, equal-is, different-is, not_collinear-is, not_parallel-is}
+use Rattle.geo_lowering.proofs.ZeroTerms.{collinear-is, parallel-is, perpendicular-is, identical-is, midpoint-is, same_length-is}
+use Rattle.geo_lowering.proofs.ZeroTerms.{concyclic-is, equal-is, different-is, not_collinear-is, not_parallel-is}
 use Rattle.geo_conditions.specs.Statements.{StatementHolds, ratio_goals, statement_goals}
 use Rattle.geo_conditions.specs.Terms.{condition_term, goal_term, HasNonzeroValue, HasZeroValue}
 

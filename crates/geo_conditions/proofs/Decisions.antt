@@ -1,5 +1,6 @@
 -- Conditions and goals are equal or not, so each list is there.
-use Rattle.std.proofs.Common.{◌≡◌, ℕ, zero, suc, ◌<◌, Bool, true, false, ◌⊎◌, inl, inr, ⊎_elim, ℤ, pos, negsuc, Contains, List, [], ◌∷◌, ◌++◌, length, get_or, map, refl, sym, ap, subst, ◌∙◌, true≢false, rules, arith}
+use Rattle.std.proofs.Common.{◌≡◌, ℕ, zero, suc, ◌<◌, Bool, true, false, ◌⊎◌, inl, inr, ⊎_elim, ℤ, pos, negsuc, Contains, List, [], ◌∷◌}
+use Rattle.std.proofs.Common.{◌++◌, length, get_or, map, refl, sym, ap, subst, ◌∙◌, true≢false, rules, arith}
 use Rattle.std.proofs.lemmas.Bool.Decides.{eqb_tells}
 use Rattle.std.proofs.lemmas.List.Elements.{Contains-append_right, Contains-get_or}
 use Rattle.geo_points.specs.declared.ids.PointId.{PointId}

@@ -1,5 +1,6 @@
 -- The lexemes of a text that is put together from parts.
-use Rattle.std.proofs.Common.{◌≡◌, ℕ, ◌+◌, ◌-◌, ◌<◌, ◌≤◌, ◌^◌, true, false, not, ℤ, None, Option, List, [], ◌∷◌, ◌++◌, map, length, drop, get_or, slice_range, refl, ap, sym, ◌∙◌, subst, inl, arith, append_assoc, length-append, length-drop}
+use Rattle.std.proofs.Common.{◌≡◌, ℕ, ◌+◌, ◌-◌, ◌<◌, ◌≤◌, ◌^◌, true, false, not, ℤ, None, Option, List, [], ◌∷◌, ◌++◌, map, length, drop}
+use Rattle.std.proofs.Common.{get_or, slice_range, refl, ap, sym, ◌∙◌, subst, inl, arith, append_assoc, length-append, length-drop}
 use Rattle.std.specs.Prelude.{unsigned_abs}
 use Rattle.std.specs.Fmt.{signed_decimal}
 use Rattle.std.specs.List.{AllPass}

@@ -10,7 +10,10 @@ use Rattle.geo_terms.specs.Stores.{Store, tree_of}
 use Rattle.geo_terms.specs.Trees.{Tree, parameter_leaf, division}
 use Rattle.geo_terms.specs.Values.{HasTreeValue, tree_value}
 use Rattle.geo_program.specs.declared.commands.Command.{Command}
-use Rattle.geo_program.specs.declared.commands.Command.TheVariants.{Point, Param, Line, Parallel, Perp, Med, Intersec, Inter, Foot, Pratio, Tratio, Online, Lratio, Midpoint, Translate, Symmetric, Reflect, Circumcenter, Orthocenter, Centroid, Oncircle, Second, Cc, Inverse, Weights, AssumeDifferent, AssumeNotCollinear, AssumeNotParallel}
+use Rattle.geo_program.specs.declared.commands.Command.TheVariants.{Point, Param, Line, Parallel, Perp, Med, Intersec, Inter, Foot, Pratio}
+use Rattle.geo_program.specs.declared.commands.Command.TheVariants.{Tratio, Online, Lratio, Midpoint, Translate, Symmetric, Reflect}
+use Rattle.geo_program.specs.declared.commands.Command.TheVariants.{Circumcenter, Orthocenter, Centroid, Oncircle, Second, Cc, Inverse}
+use Rattle.geo_program.specs.declared.commands.Command.TheVariants.{Weights, AssumeDifferent, AssumeNotCollinear, AssumeNotParallel}
 use Rattle.geo_program.specs.declared.names.NameKind.TheVariants as kind
 use Rattle.geo_program.specs.WellFormed.{Source}
 use Rattle.geo_lowering.specs.declared.version.Version.{Version}
@@ -26,9 +29,12 @@ use Rattle.geo_points.proofs.Exchange.{pythagoras_difference-same}
 use Rattle.geo_lowering.specs.Conditions.{command_conditions, early_conditions, expression_conditions}
 use Rattle.geo_points.proofs.Same.{self_point}
 use Rattle.geo_lowering.proofs.Puts.{put, puts, puts_here}
-use Rattle.geo_lowering.proofs.Placing.{made, Near, near, StandsFor, one_stands, half_stands, number_stands, place_along, place_turned, place_crossing, place_foot, place_reflection, place_bisector, place_upright, place_centroid, place_orthocenter, place_oncircle, place_circumcenter}
+use Rattle.geo_lowering.proofs.Placing.{made, Near, near, StandsFor, one_stands, half_stands, number_stands, place_along, place_turned}
+use Rattle.geo_lowering.proofs.Placing.{place_crossing, place_foot, place_reflection, place_bisector, place_upright, place_centroid}
+use Rattle.geo_lowering.proofs.Placing.{place_orthocenter, place_oncircle, place_circumcenter}
 use Rattle.geo_program.specs.Expressions.{IsExpression}
-use Rattle.geo_lowering.proofs.Commands.{midpoint_down, translate_down, symmetric_down, inter_down, foot_down, centroid_down, reflect_down, second_down, cc_down, oncircle_down, inverse_down, corner_differ, turned_differ}
+use Rattle.geo_lowering.proofs.Commands.{midpoint_down, translate_down, symmetric_down, inter_down, foot_down, centroid_down, reflect_down}
+use Rattle.geo_lowering.proofs.Commands.{second_down, cc_down, oncircle_down, inverse_down, corner_differ, turned_differ}
 use Rattle.geo_lowering.proofs.Centers.{circumcenter_down, orthocenter_down, circumcenter_apart, orthocenter_apart, corner_side}
 use Rattle.geo_lowering.proofs.Standing.{intersec_down, directions-are, quotient-same}
 use Rattle.geo_points.proofs.Making.{crossing_exists, foot_exists, turned_exists}

@@ -20,7 +20,9 @@ use Rattle.geo_place.specs.declared.triples.Triple.{Triple}
 use Rattle.geo_place.specs.Evaluation.{LineTurn, Passes, at_line, makes, turns_of}
 use Rattle.geo_place.specs.Inner.{FirstFails, IsItemMet, IsPassed, IsRun, IsSketchOf, IsTaken, IsTripleStop, Run, Stops, TellsTriple}
 use Rattle.geo_place.proofs.CommandTurns.{E, K, n}
-use Rattle.geo_place.proofs.Taking.{Ends, IsTold, before_list, count, early_fail, early_held, early_pass, first, first_items, get_some, late_fail, make_fail, make_pass, middle, second, second_items, some_point, taken_next, told_none, told_one, write_fail}
+use Rattle.geo_place.proofs.Taking.{Ends, IsTold, before_list, count, early_fail, early_held, early_pass, first, first_items, get_some}
+use Rattle.geo_place.proofs.Taking.{late_fail, make_fail, make_pass, middle, second, second_items, some_point, taken_next, told_none}
+use Rattle.geo_place.proofs.Taking.{told_one, write_fail}
 
 module _ (run : Run) (problem : Problem) (ints : List ℤ) (h : IsRun run problem ints) (k : ℕ) (c : Command) (at : slice_get run.program.commands k ≡ Some c)
     (old : Progress) (t : IsTaken run k old) (items : List Item) (end late : ℕ) (ends : Ends run problem ints h k c at old t items end late)

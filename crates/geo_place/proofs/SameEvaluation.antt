@@ -27,7 +27,8 @@ use Rattle.geo_place.specs.declared.errors.PlaceError.{PlaceError}
 use Rattle.geo_place.specs.declared.errors.PlaceError.TheVariants.{NoMemory, TooLarge, Unmet}
 use Rattle.geo_place.specs.declared.placed.At.{At}
 use Rattle.geo_place.specs.declared.placed.Placed.{Placed}
-use Rattle.geo_place.specs.Evaluation.{AreAt, ComesUp, End, EndsAs, IsListedAt, IsReckoned, IsRight, IsTooLarge, IsTriplePast, LineTurn, Passes, Turn, judge, make, placed_all, test, too_large, turns_of, unmet, write}
+use Rattle.geo_place.specs.Evaluation.{AreAt, ComesUp, End, EndsAs, IsListedAt, IsReckoned, IsRight, IsTooLarge, IsTriplePast, LineTurn}
+use Rattle.geo_place.specs.Evaluation.{Passes, Turn, judge, make, placed_all, test, too_large, turns_of, unmet, write}
 use Rattle.geo_place.specs.Formulas.{reckoned, step_spot}
 use Rattle.geo_place.specs.Placing.{IsAnswer, Places}
 use Rattle.geo_place.specs.Reckonings.{Overflows, number}

@@ -31,7 +31,9 @@ use Rattle.geo_place.specs.declared.sketch.Sketch.{Sketch}
 use Rattle.geo_place.specs.declared.triples.Triple.{Triple}
 use Rattle.geo_place.specs.Evaluation.{IsTriplePast, Passes, at_line, makes, turns_of, write}
 use Rattle.geo_place.specs.Inner.{FirstFails, IsItemMet, IsPassed, IsRun, IsSketchOf, IsTaken, IsTripleOf, IsTripleStop, Run, Stops, TellsTriple, point_at}
-use Rattle.geo_place.proofs.CommandTurns.{E, K, L, Listed, W, after_at, all_pass, early, early_stop, early_terms, laid, late, late_stop, late_terms, listed_here, make_stop, n, named_next, past_next, points_few, points_up, steps, steps_here, write_stop, x}
+use Rattle.geo_place.proofs.CommandTurns.{E, K, L, Listed, W, after_at, all_pass, early, early_stop, early_terms, laid, late, late_stop}
+use Rattle.geo_place.proofs.CommandTurns.{late_terms, listed_here, make_stop, n, named_next, past_next, points_few, points_up, steps}
+use Rattle.geo_place.proofs.CommandTurns.{steps_here, write_stop, x}
 use Rattle.geo_place.proofs.ListParts.{get_before, get_behind, head_of, index_at, none_before, same_length, tail_of}
 use Rattle.geo_place.proofs.Sketches.{point_found}
 use Rattle.geo_lowering.proofs.Puts.{of_path}

@@ -2,7 +2,8 @@
 use Rattle.std.proofs.Common.{◌≡◌, Bool, true, false, ◌*◌, pos, ◌*ℤ◌, refl, [], ◌∷◌, mul-pos}
 use Rattle.ring_laws.specs.Solver.{variable, numeral, ◌⊟◌, ◌⊠◌, entry_at, given}
 use Rattle.ring_laws.specs.Fraction.{Fraction, Same, minus, times, IsNonzero}
-use Rattle.geo_points.specs.Points.{Point, x_coordinate, y_coordinate, x_difference, y_difference, x_component, y_component, cross_product, signed_area, pythagoras_difference, HasRatio, ratio, is_null}
+use Rattle.geo_points.specs.Points.{Point, x_coordinate, y_coordinate, x_difference, y_difference, x_component, y_component, cross_product}
+use Rattle.geo_points.specs.Points.{signed_area, pythagoras_difference, HasRatio, ratio, is_null}
 use Rattle.geo_points.specs.Placements.{SamePoint}
 use Rattle.ring_laws.proofs.Integers.{integers}
 use Rattle.ring_laws.proofs.Combination.{by_combination}

@@ -13,7 +13,8 @@ use Rattle.ring_laws.proofs.Fractions.{fractions}
 use Rattle.geo_points.proofs.RatioSigns.{HasRatio-turned_first, HasRatio-turned_last, ratio-turned_first, ratio-turned_last, ratio-one, ratio-null, x_difference-self, y_difference-self}
 use Rattle.geo_points.proofs.Signs.{pythagoras_difference-swap, pythagoras_difference-length, pythagoras_difference-first, pythagoras_difference-last}
 use Rattle.geo_poly.specs.declared.variables.Var.TheVariants.{R, P}
-use Rattle.geo_poly.specs.Canonical.{ordering_sign, lower, higher, is_same_pair, signed_variable, canonical_difference, canonical_ratio, canon_value, CanonicalDifferenceKeepsValue, CanonicalRatioKeepsValue}
+use Rattle.geo_poly.specs.Canonical.{ordering_sign, lower, higher, is_same_pair, signed_variable, canonical_difference, canonical_ratio}
+use Rattle.geo_poly.specs.Canonical.{canon_value, CanonicalDifferenceKeepsValue, CanonicalRatioKeepsValue}
 
 infixr 3 ◌∘◌
 ◌∘◌ : {a b c : Fraction} → Same a b → Same b c → Same a c

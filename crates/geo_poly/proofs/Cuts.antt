@@ -1,5 +1,6 @@
 -- The greatest divisor of the coefficients, and the least exponents of known variables.
-use Rattle.std.proofs.Common.{◌≡◌, ℕ, zero, suc, ◌+◌, ◌<◌, ◌≤◌, min, eqb, Bool, true, false, cond, ◌⊎◌, inl, inr, ℤ, List, [], ◌∷◌, ◌++◌, take, length, get_or, refl, sym, ap, subst, ◌∙◌, append_assoc, unsigned_abs, All, Any, Contains, arith}
+use Rattle.std.proofs.Common.{◌≡◌, ℕ, zero, suc, ◌+◌, ◌<◌, ◌≤◌, min, eqb, Bool, true, false, cond, ◌⊎◌, inl, inr, ℤ, List, [], ◌∷◌, ◌++◌}
+use Rattle.std.proofs.Common.{take, length, get_or, refl, sym, ap, subst, ◌∙◌, append_assoc, unsigned_abs, All, Any, Contains, arith}
 use Rattle.std.specs.Int.{◌∣◌, IsGcd}
 use Rattle.std.specs.Ordering.{is_eq}
 use Rattle.std.specs.declared.cmp.Ordering.{Ordering}

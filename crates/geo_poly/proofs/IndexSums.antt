@@ -1,5 +1,6 @@
 -- Sums of polynomials over one store, entry by entry.
-use Rattle.std.proofs.Common.{◌≡◌, ℕ, zero, suc, ◌+◌, ◌^◌, ◌<◌, ◌≤◌, eqb, true, false, ℤ, pos, ◌+ℤ◌, ◌-ℤ◌, neg_ℤ, List, [], ◌∷◌, ◌++◌, drop, take, length, get_or, sym, ap, ap₂, subst, ◌∙◌, append_assoc, unsigned_abs, FitsSigned, to_z, of_z, arith}
+use Rattle.std.proofs.Common.{◌≡◌, ℕ, zero, suc, ◌+◌, ◌^◌, ◌<◌, ◌≤◌, eqb, true, false, ℤ, pos, ◌+ℤ◌, ◌-ℤ◌, neg_ℤ, List, [], ◌∷◌, ◌++◌, drop}
+use Rattle.std.proofs.Common.{take, length, get_or, sym, ap, ap₂, subst, ◌∙◌, append_assoc, unsigned_abs, FitsSigned, to_z, of_z, arith}
 use Rattle.std.specs.Int.{w128}
 use Rattle.std.specs.List.Sorted.{IsStrictlySortedBy}
 use Rattle.std.specs.declared.cmp.Ordering.{Ordering}

@@ -11,13 +11,16 @@ use Rattle.geo_poly.specs.declared.replacement.Row.{Row}
 use Rattle.geo_poly.specs.declared.settings.Setting.{Setting}
 use Rattle.geo_poly.specs.declared.shared.Shared.{Shared}
 use Rattle.geo_poly.specs.declared.variables.Var.{Var}
-use Rattle.geo_poly.specs.Inner.Factored.{Factored, IsPending, degree_with, factored_products, factored_terms, factored_weight, numerator_at, piece_of, pieces_of, products_with, times_pieces, told_pending, weight_with}
+use Rattle.geo_poly.specs.Inner.Factored.{Factored, IsPending, degree_with, factored_products, factored_terms, factored_weight}
+use Rattle.geo_poly.specs.Inner.Factored.{numerator_at, piece_of, pieces_of, products_with, times_pieces, told_pending, weight_with}
 use Rattle.geo_poly.specs.Inner.Settings.{AreStored, IsSet}
 use Rattle.geo_poly.specs.Monomials.{degree_of}
 use Rattle.geo_poly.specs.Polynomials.{Summands, norm_of, polynomial_of, sum_of, total_degree}
 use Rattle.geo_poly.specs.Replace.{AllBounded, others}
 use Rattle.geo_poly.specs.Shared.{Indices, told_powers}
-use Rattle.geo_poly.proofs.FactoredTerms.{AllGood, AllGoodTerms, AllWithin, IsGood, degree_with-append, degree_with-is, factored_count, length-sum-le, norm_of-sum-le, products_with-mono, shared_products, shared_terms, shared_weight, sum_of_parts, total_degree-sum-le, weight_with-grows, weight_with-mono, with_pieces}
+use Rattle.geo_poly.proofs.FactoredTerms.{AllGood, AllGoodTerms, AllWithin, IsGood, degree_with-append, degree_with-is, factored_count}
+use Rattle.geo_poly.proofs.FactoredTerms.{length-sum-le, norm_of-sum-le, products_with-mono, shared_products, shared_terms, shared_weight}
+use Rattle.geo_poly.proofs.FactoredTerms.{sum_of_parts, total_degree-sum-le, weight_with-grows, weight_with-mono, with_pieces}
 use Rattle.geo_poly.proofs.ChainPowers.{some}
 use Rattle.geo_poly.proofs.ReplaceTerms.{IsMonomial-others}
 

@@ -1,5 +1,7 @@
 -- Products of polynomials.
-use Rattle.std.proofs.Common.{◌≡◌, ℕ, zero, suc, ◌+◌, ◌*◌, ◌^◌, ◌<◌, ◌≤◌, max, eqb, Bool, true, false, ℤ, ◌*ℤ◌, [], ◌∷◌, ◌++◌, take, drop, refl, sym, ap, ap₂, subst, ◌∙◌, unsigned_abs, append_assoc, add-one, length, get_or, FitsSigned, to_z, of_z, mul-pos, arith}
+use Rattle.std.proofs.Common.{◌≡◌, ℕ, zero, suc, ◌+◌, ◌*◌, ◌^◌, ◌<◌, ◌≤◌, max, eqb, Bool, true, false, ℤ, ◌*ℤ◌, [], ◌∷◌, ◌++◌, take, drop}
+use Rattle.std.proofs.Common.{refl, sym, ap, ap₂, subst, ◌∙◌, unsigned_abs, append_assoc, add-one, length, get_or, FitsSigned, to_z, of_z}
+use Rattle.std.proofs.Common.{mul-pos, arith}
 use Rattle.std.specs.declared.cmp.Ordering.TheVariants.{Less, Greater}
 use Rattle.std.proofs.lemmas.Int.{unsigned_abs-mul, fits_signed_mul, to_z-of_z}
 use Rattle.std.specs.Int.{w128}

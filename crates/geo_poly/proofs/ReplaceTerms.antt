@@ -9,7 +9,9 @@ use Rattle.geo_poly.specs.Variables.{var_cmp}
 use Rattle.sparse_lists.specs.SparseLists.{AllKeys, IsBefore, IsCanonical}
 use Rattle.geo_poly.specs.Monomials.{Powers, exponents, IsMonomial, degree_of}
 use Rattle.geo_poly.specs.Polynomials.{Summands, coefficients, term_cmp, norm_of, total_degree, IsPolynomial, polynomial_of, sum_of}
-use Rattle.geo_poly.specs.Replace.{IsBounded, AllBounded, row_of, denominators, kept, others, times_row, times_rows, replaced_term, replaced_terms, weight_row, weight_rows, term_weight, degree_row, degree_rows, term_degree, weight_of, degree_bound, CanReplace}
+use Rattle.geo_poly.specs.Replace.{IsBounded, AllBounded, row_of, denominators, kept, others, times_row, times_rows, replaced_term}
+use Rattle.geo_poly.specs.Replace.{replaced_terms, weight_row, weight_rows, term_weight, degree_row, degree_rows, term_degree, weight_of}
+use Rattle.geo_poly.specs.Replace.{degree_bound, CanReplace}
 use Rattle.geo_poly.proofs.Orders.{term_order}
 use Rattle.sparse_lists.proofs.Canonical.{IsCanonical-canonical, canonical-canonical_left, canonical_comm}
 use Rattle.geo_poly.proofs.PolynomialLaws.{coefficients_add, norm_of-polynomial_of-le}

@@ -1,5 +1,6 @@
 -- The factor that is cut out: the divisor of the coefficients with a sign, and the common monomial.
-use Rattle.std.proofs.Common.{◌≡◌, ℕ, ◌<◌, ◌^◌, eqb, true, false, ◌⊎◌, inl, inr, ℤ, pos, neg_ℤ, ◌-ℤ◌, ◌<ℤ◌, List, [], ◌∷◌, length, get_or, refl, sym, ap, subst, ◌∙◌, unsigned_abs, FitsSigned, to_z, of_z, Contains, arith}
+use Rattle.std.proofs.Common.{◌≡◌, ℕ, ◌<◌, ◌^◌, eqb, true, false, ◌⊎◌, inl, inr, ℤ, pos, neg_ℤ, ◌-ℤ◌, ◌<ℤ◌, List, [], ◌∷◌, length, get_or}
+use Rattle.std.proofs.Common.{refl, sym, ap, subst, ◌∙◌, unsigned_abs, FitsSigned, to_z, of_z, Contains, arith}
 use Rattle.std.specs.Int.{w128, ◌∣◌}
 use Rattle.std.specs.Int.RustNames.{int_lt}
 use Rattle.std.proofs.Math.Nat.{eq-zero_of_zero-dvd}

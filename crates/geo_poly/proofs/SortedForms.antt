@@ -11,7 +11,9 @@ use Rattle.geo_points.specs.declared.ids.PointId.{PointId}
 use Rattle.geo_poly.specs.declared.canonical.Canon.{Canon}
 use Rattle.geo_poly.specs.declared.variables.Var.{Var}
 use Rattle.geo_poly.specs.declared.variables.Var.TheVariants.{R, S, P, X as Abscissa, Y as Ordinate, T as Parameter}
-use Rattle.geo_poly.specs.Canonical.{canonical_area, canonical_difference, canonical_ratio, higher, is_same_pair, lower, ordering_sign, pair_sign, permutation_sign, signed_variable, sorted_area, least_of_three, middle_of_three, greatest_of_three}
+use Rattle.geo_poly.specs.Canonical.{canonical_area, canonical_difference, canonical_ratio, higher, is_same_pair, lower, ordering_sign}
+use Rattle.geo_poly.specs.Canonical.{pair_sign, permutation_sign, signed_variable, sorted_area, least_of_three, middle_of_three}
+use Rattle.geo_poly.specs.Canonical.{greatest_of_three}
 use Rattle.geo_poly.specs.SortedVariables.{CanonicalFormsAreSorted, IsSorted, IsSortedForm, SortedVariablesAreCanonical}
 
 -- SIGNS

@@ -1,5 +1,7 @@
 -- Numbers put for variables: the order, the bounds, the exponents and the value of what becomes of a polynomial.
-use Rattle.std.proofs.Common.{◌≡◌, ℕ, zero, suc, ◌+◌ as ◌+ₙ◌, ◌*◌ as ◌*ₙ◌, ◌^◌, ◌<◌, ◌≤◌, max, not, cond, eqb, false, length, sum_by, get_or, ℤ, pos, ◌*ℤ◌, [], ◌∷◌, ◌++◌, map, take, drop, refl, sym, ap, ap₂, subst, ◌∙◌, unsigned_abs, FitsSigned, arith}
+use Rattle.std.proofs.Common.{◌≡◌, ℕ, zero, suc, ◌+◌ as ◌+ₙ◌, ◌*◌ as ◌*ₙ◌, ◌^◌, ◌<◌, ◌≤◌, max, not, cond, eqb, false, length, sum_by}
+use Rattle.std.proofs.Common.{get_or, ℤ, pos, ◌*ℤ◌, [], ◌∷◌, ◌++◌, map, take, drop, refl, sym, ap, ap₂, subst, ◌∙◌, unsigned_abs}
+use Rattle.std.proofs.Common.{FitsSigned, arith}
 use Rattle.std.specs.Int.{int_pow, w128}
 use Rattle.std.specs.Ordering.{is_eq}
 use Rattle.std.specs.declared.cmp.Ordering.{Ordering}

@@ -1,5 +1,6 @@
 -- The number 0 put for a variable: walks over a monomial by the numbers of its variables, and lists of terms that lack the variable.
-use Rattle.std.proofs.Common.{◌≡◌, ℕ, zero, suc, ◌+◌, ◌^◌, ◌<◌, ◌≤◌, pos, unsigned_abs, eqb, Bool, true, false, cond, ℤ, List, [], ◌∷◌, ◌++◌, Some, filter, length, take, drop, get_or, slice_get, refl, sym, ap, subst, ◌∙◌, arith}
+use Rattle.std.proofs.Common.{◌≡◌, ℕ, zero, suc, ◌+◌, ◌^◌, ◌<◌, ◌≤◌, pos, unsigned_abs, eqb, Bool, true, false, cond, ℤ, List, [], ◌∷◌}
+use Rattle.std.proofs.Common.{◌++◌, Some, filter, length, take, drop, get_or, slice_get, refl, sym, ap, subst, ◌∙◌, arith}
 use Rattle.std.specs.Prelude.{◌↔◌, Contains, IsTrue}
 use Rattle.std.specs.List.Sorted.{IsStrictlySortedBy}
 use Rattle.std.specs.Ordering.{is_eq}

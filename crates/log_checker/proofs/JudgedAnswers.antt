@@ -31,7 +31,8 @@ use Rattle.log_checker.specs.declared.work.Work.{Work}
 use Rattle.log_checker.specs.declared.due.Due.TheVariants as due
 use Rattle.log_checker.proofs.DueChains.{stands_open}
 use Rattle.log_checker.proofs.DueRefusals.{tells_map}
-use Rattle.log_checker.proofs.JudgedNext.{accepted_work, bad_header, bad_next, first_next, no_program, program_next, over_behind, refused_next, unfinished_empty, unfinished_program, unfinished_work, work_next}
+use Rattle.log_checker.proofs.JudgedNext.{accepted_work, bad_header, bad_next, first_next, no_program, program_next, over_behind}
+use Rattle.log_checker.proofs.JudgedNext.{refused_next, unfinished_empty, unfinished_program, unfinished_work, work_next}
 use Rattle.log_checker.proofs.ProgramTexts.{lines_of_text, texts_one_line, texts_shorter}
 
 -- STOPS WITH A NUMBER

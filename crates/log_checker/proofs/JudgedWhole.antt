@@ -17,7 +17,8 @@ use Rattle.geo_logs.specs.Logs.{Subject}
 use Rattle.geo_logs.specs.Places.{Place}
 use Rattle.geo_logs.specs.Samples.{IsAcceptedSample}
 use Rattle.log_checker.specs.Accepted.{Accepts, IsShortProgram}
-use Rattle.log_checker.specs.Judged.{AcceptedWhereNotRefused, AreRead, BeginsWithProgram, BytesAreJudged, GoesOnWith, IsFirstStop, IsJudged, IsOfProgramOrNone, IsProgramOver, IsReadable, Refuses, RestsAreJudged}
+use Rattle.log_checker.specs.Judged.{AcceptedWhereNotRefused, AreRead, BeginsWithProgram, BytesAreJudged, GoesOnWith, IsFirstStop, IsJudged}
+use Rattle.log_checker.specs.Judged.{IsOfProgramOrNone, IsProgramOver, IsReadable, Refuses, RestsAreJudged}
 use Rattle.log_checker.specs.Subjects.{IsSubjectOf, source_lines}
 use Rattle.log_checker.proofs.AcceptedBytes.{programs_have_subjects, text_of_lines}
 use Rattle.log_checker.proofs.VersionNumbers.{version_told}

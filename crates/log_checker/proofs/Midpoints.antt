@@ -1,5 +1,7 @@
 -- `point A point B midpoint M A B prove { collinear A M B }`: the program, its lowered form, its log, line by line and as bytes, and what it proves.
-use Rattle.std.proofs.Common.{◌≡◌, ◌≢◌, ℕ, zero, suc, ◌<◌, ◌^◌, Bool, true, false, Option, Some, None, inl, inr, ℤ, pos, negsuc, Contains, IsTrue, List, [], ◌∷◌, ◌++◌, length, map, cond, ◌==◌, ◌∙◌, eq-eqb, refl, sym, ap, subst, arith, lit<, lit≤, unsigned_abs}
+use Rattle.std.proofs.Common.{◌≡◌, ◌≢◌, ℕ, zero, suc, ◌<◌, ◌^◌, Bool, true, false, Option, Some, None, inl, inr, ℤ, pos, negsuc, Contains}
+use Rattle.std.proofs.Common.{IsTrue, List, [], ◌∷◌, ◌++◌, length, map, cond, ◌==◌, ◌∙◌, eq-eqb, refl, sym, ap, subst, arith, lit<, lit≤}
+use Rattle.std.proofs.Common.{unsigned_abs}
 use Rattle.std.specs.Prelude.{codes, slice_get}
 use Rattle.std.specs.Fmt.{digits}
 use Rattle.std.specs.List.{flat_map}

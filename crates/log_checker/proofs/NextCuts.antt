@@ -1,5 +1,6 @@
 -- A polynomial that is not 0 has a factor, and is cut by it where it is not 1.
-use Rattle.std.proofs.Common.{◌≡◌, ◌≢◌, ℕ, zero, suc, ◌%◌, ◌+◌, ◌^◌, eqb, Bool, true, false, cond, ◌<◌, ◌≤◌, ◌⊎◌, inl, inr, ⊎_elim, Contains, unsigned_abs, ℤ, pos, negsuc, neg_ℤ, List, [], ◌∷◌, length, refl, subst, arith}
+use Rattle.std.proofs.Common.{◌≡◌, ◌≢◌, ℕ, zero, suc, ◌%◌, ◌+◌, ◌^◌, eqb, Bool, true, false, cond, ◌<◌, ◌≤◌, ◌⊎◌, inl, inr, ⊎_elim}
+use Rattle.std.proofs.Common.{Contains, unsigned_abs, ℤ, pos, negsuc, neg_ℤ, List, [], ◌∷◌, length, refl, subst, arith}
 use Rattle.std.specs.Int.{◌∣◌, IsGcd}
 use Rattle.std.proofs.Math.Nat.{mod-lt}
 use Rattle.std.proofs.lemmas.Nat.Gcd.{IsGcd-from_mod, IsGcd-from_zero, dvd-zero, dvd_trans, le_of_dvd}

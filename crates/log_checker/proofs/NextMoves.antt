@@ -1,5 +1,6 @@
 -- A polynomial with a quantity of points has a next move, which replaces something.
-use Rattle.std.proofs.Common.{◌≡◌, ◌≢◌, ℕ, zero, suc, ◌<◌, ◌≤◌, ◌||◌, ◌&&◌, ◌⊎◌, inl, inr, ⊎_elim, IsTrue, Bool, true, false, cond, Contains, Option, Some, None, List, [], ◌∷◌, length, refl, sym, ◌∙◌, subst, arith, eq-eqb}
+use Rattle.std.proofs.Common.{◌≡◌, ◌≢◌, ℕ, zero, suc, ◌<◌, ◌≤◌, ◌||◌, ◌&&◌, ◌⊎◌, inl, inr, ⊎_elim, IsTrue, Bool, true, false, cond}
+use Rattle.std.proofs.Common.{Contains, Option, Some, None, List, [], ◌∷◌, length, refl, sym, ◌∙◌, subst, arith, eq-eqb}
 use Rattle.std.specs.Prelude.{slice_get, find, if◌then◌else◌, Any}
 use Rattle.std.specs.List.{cons_option, filter_map}
 use Rattle.std.specs.Option.{is_some, option_and_then, option_map}

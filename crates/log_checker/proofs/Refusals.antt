@@ -19,7 +19,9 @@ use Rattle.geo_logs.specs.declared.moves.Replacement.{Replacement}
 use Rattle.geo_poly.specs.Cuts.{IsCut}
 use Rattle.geo_logs.specs.Starts.{IsStarted, start_of}
 use Rattle.geo_logs.specs.Chains.{ChainStep, moves, cuts, IsEnd, LeadsTo, line_of}
-use Rattle.geo_logs.specs.Judging.{IsRefused, IsRefusedAt, IsMoveRefused, IsCutRefused, IsOtherLine, IsSampleRefused, Refusal, kind_of, rejected, stopped, no_row, wrong_polynomial, wrong_chain, wrong_verdict, wrong_start, wrong_cut, wrong_sample, inner_kind}
+use Rattle.geo_logs.specs.Judging.{IsRefused, IsRefusedAt, IsMoveRefused, IsCutRefused, IsOtherLine, IsSampleRefused, Refusal, kind_of}
+use Rattle.geo_logs.specs.Judging.{rejected, stopped, no_row, wrong_polynomial, wrong_chain, wrong_verdict, wrong_start, wrong_cut}
+use Rattle.geo_logs.specs.Judging.{wrong_sample, inner_kind}
 use Rattle.elim_apply.specs.LemmaTable.{lemma_table, row_charge, row_denominator}
 use Rattle.geo_poly.specs.PolynomialVariables.{variables_of}
 use Rattle.fraction_poly.specs.Forms.{piece_of}

@@ -1,5 +1,6 @@
 -- The variables of a sample, one after another.
-use Rattle.std.proofs.Common.{◌≡◌, ℕ, zero, suc, ◌+◌, ◌<◌, ℤ, List, [], ◌∷◌, ◌++◌, map, take, length, ◌⊎◌, inl, inr, append_assoc, add-one, Option, Some, Bool, IsTrue, ◌↔◌, ◌^◌, All, unsigned_abs, refl, sym, ◌∙◌, ap, subst, arith}
+use Rattle.std.proofs.Common.{◌≡◌, ℕ, zero, suc, ◌+◌, ◌<◌, ℤ, List, [], ◌∷◌, ◌++◌, map, take, length, ◌⊎◌, inl, inr, append_assoc, add-one}
+use Rattle.std.proofs.Common.{Option, Some, Bool, IsTrue, ◌↔◌, ◌^◌, All, unsigned_abs, refl, sym, ◌∙◌, ap, subst, arith}
 use Rattle.geo_poly.specs.declared.variables.Var.{Var}
 use Rattle.geo_poly.specs.declared.variables.Var.TheVariants.{X, Y, T}
 use Rattle.geo_terms.specs.declared.steps.Step.{Step}

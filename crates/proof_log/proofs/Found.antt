@@ -13,10 +13,13 @@ use Rattle.geo_base.specs.Decimals.{IsDecimal, decimal_size, decimal_value}
 use Rattle.geo_poly.specs.declared.variables.Var.{Var}
 use Rattle.proof_log.specs.Lines.{numbers_text}
 use Rattle.proof_log.specs.Writable.{IsSorted, numbers}
-use Rattle.proof_log.specs.Inner.Reading.{Begins, NoneBegins, Passes, StopsAt, coefficients, exponent_text, exponents, integers, is_exponent_byte, is_number_byte, names, naturals, number_lists, single_powers, single_values, variables}
+use Rattle.proof_log.specs.Inner.Reading.{Begins, NoneBegins, Passes, StopsAt, coefficients, exponent_text, exponents, integers}
+use Rattle.proof_log.specs.Inner.Reading.{is_exponent_byte, is_number_byte, names, naturals, number_lists, single_powers, single_values}
+use Rattle.proof_log.specs.Inner.Reading.{variables}
 use Rattle.proof_log.proofs.Runs.{integer_passes, integers_unique, natural_integer, naturals_unique, same_run, wide}
 use Rattle.proof_log.proofs.UniqueTerms.{value_parts}
-use Rattle.proof_log.proofs.Unique.{exponent_text-more, letter, arity, name_numbers, names_unique, not_stopped, power_parts, small_unique, unwritten_exponent, variable_name_begins, variables_unique, written_exponent, name_parts}
+use Rattle.proof_log.proofs.Unique.{exponent_text-more, letter, arity, name_numbers, names_unique, not_stopped, power_parts, small_unique}
+use Rattle.proof_log.proofs.Unique.{unwritten_exponent, variable_name_begins, variables_unique, written_exponent, name_parts}
 
 -- WHOLE NUMBERS
 

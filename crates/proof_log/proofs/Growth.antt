@@ -20,7 +20,9 @@ use Rattle.geo_poly.proofs.MonomialOrder.{IsEarlier-from_cmp, cmp_from_IsEarlier
 use Rattle.geo_poly.proofs.Orders.{term_order, var_order}
 use Rattle.proof_log.specs.Lines.{polynomial_text, power_text, sign_text, term_text, value_text}
 use Rattle.proof_log.specs.Writable.{CanWriteFactor, CanWriteMonomial, CanWritePolynomial, CanWriteValue, CanWriteValues, IsVariable}
-use Rattle.proof_log.specs.Inner.Reading.{coefficients as signed_coefficients, factors, integers, Begins, BeginsWith, NoneBegins, StopsAt, is_byte, is_power_byte, next_term, polynomials, powers_after, single_powers, single_values, terms, terms_after, value_lists}
+use Rattle.proof_log.specs.Inner.Reading.{coefficients as signed_coefficients, factors, integers, Begins, BeginsWith, NoneBegins, StopsAt}
+use Rattle.proof_log.specs.Inner.Reading.{is_byte, is_power_byte, next_term, polynomials, powers_after, single_powers, single_values, terms}
+use Rattle.proof_log.specs.Inner.Reading.{terms_after, value_lists}
 use Rattle.proof_log.specs.Inner.Growing.{PushesPower, PushesTerm, RefusesPower, RefusesTerm, last_of}
 use Rattle.proof_log.specs.declared.errors.LineError.{LineError}
 use Rattle.std.specs.Prelude.{IsErrAnd}

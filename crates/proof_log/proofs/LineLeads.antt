@@ -8,7 +8,11 @@ use Rattle.proof_log.specs.declared.log.Line.{Line}
 use Rattle.proof_log.specs.declared.log.Line.TheVariants.{Header, Program, Condition, Goal, Start, Ratio, Point, Coords, Cut, Sample, Verdict as VerdictLine, StopTooLarge, StopSpent}
 use Rattle.proof_log.specs.declared.log.Verdict.TheVariants.{False, Impossible}
 use Rattle.proof_log.specs.declared.leads.Lead.{Lead}
-use Rattle.proof_log.specs.declared.leads.Lead.TheVariants.{Header as HeaderLead, Program as ProgramLead, Condition as ConditionLead, Goal as GoalLead, Start as StartLead, Ratio as RatioLead, Point as PointLead, Coords as CoordsLead, Cut as CutLead, End as EndLead, Sample as SampleLead, Proved as ProvedLead, False as FalseLead, Impossible as ImpossibleLead, TooLarge as TooLargeLead, Spent as SpentLead}
+use Rattle.proof_log.specs.declared.leads.Lead.TheVariants.{Header as HeaderLead, Program as ProgramLead, Condition as ConditionLead}
+use Rattle.proof_log.specs.declared.leads.Lead.TheVariants.{Goal as GoalLead, Start as StartLead, Ratio as RatioLead, Point as PointLead}
+use Rattle.proof_log.specs.declared.leads.Lead.TheVariants.{Coords as CoordsLead, Cut as CutLead, End as EndLead, Sample as SampleLead}
+use Rattle.proof_log.specs.declared.leads.Lead.TheVariants.{Proved as ProvedLead, False as FalseLead, Impossible as ImpossibleLead}
+use Rattle.proof_log.specs.declared.leads.Lead.TheVariants.{TooLarge as TooLargeLead, Spent as SpentLead}
 use Rattle.proof_log.specs.Lines.{line_text}
 use Rattle.proof_log.specs.Writable.{IsWritable}
 use Rattle.proof_log.specs.Inner.Reading.{Begins, NoneBegins, StopsAt}
@@ -16,7 +20,10 @@ use Rattle.proof_log.specs.Inner.Leads.{IsBody, body_text, is_no_byte, lead_of, 
 use Rattle.proof_log.proofs.Runs.{Unique}
 use Rattle.proof_log.proofs.Unique.{small_unique, variables_unique}
 use Rattle.proof_log.proofs.UniqueTerms.{factors_unique, polynomials_unique, value_lists_unique}
-use Rattle.proof_log.proofs.Bodies.{IsCutLine, IsPointLine, IsRatioLine, header_body, program_body, condition_body, goal_body, start_body, ratio_body, point_body, coords_body, cut_body, end_body, sample_body, proved_body, false_body, impossible_body, too_large_body, spent_body, heads_unique, last_unique, lemmas_unique, line_parts, results_unique, stops_unique, text_is, versions_unique}
+use Rattle.proof_log.proofs.Bodies.{IsCutLine, IsPointLine, IsRatioLine, header_body, program_body, condition_body, goal_body, start_body}
+use Rattle.proof_log.proofs.Bodies.{ratio_body, point_body, coords_body, cut_body, end_body, sample_body, proved_body, false_body}
+use Rattle.proof_log.proofs.Bodies.{impossible_body, too_large_body, spent_body, heads_unique, last_unique, lemmas_unique, line_parts}
+use Rattle.proof_log.proofs.Bodies.{results_unique, stops_unique, text_is, versions_unique}
 
 -- LEADS
 

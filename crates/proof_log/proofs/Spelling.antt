@@ -1,5 +1,7 @@
 -- The one spelling of a number: no zero in front of other digits, and no `-` before 0.
-use Rattle.std.proofs.Common.{◌≡◌, ℕ, zero, suc, ◌+◌, ◌*◌, ◌/◌, ◌%◌, ◌^◌, ◌<◌, ◌≤◌, Bool, true, false, not, eqb, if◌then◌else◌, List, [], ◌∷◌, ◌++◌, length, drop, get_or, refl, sym, ap, subst, ◌∙◌, append-nil, append_assoc, length-append, arith, lit≤, inl, inr}
+use Rattle.std.proofs.Common.{◌≡◌, ℕ, zero, suc, ◌+◌, ◌*◌, ◌/◌, ◌%◌, ◌^◌, ◌<◌, ◌≤◌, Bool, true, false, not, eqb, if◌then◌else◌, List, []}
+use Rattle.std.proofs.Common.{◌∷◌, ◌++◌, length, drop, get_or, refl, sym, ap, subst, ◌∙◌, append-nil, append_assoc, length-append, arith}
+use Rattle.std.proofs.Common.{lit≤, inl, inr}
 use Rattle.std.specs.Prelude.{◌↔◌, IsTrue, ℤ, pos, negsuc, neg_ℤ}
 use Rattle.std.specs.Char.{digit_value}
 use Rattle.std.specs.Fmt.{decimal, signed_decimal}

@@ -11,7 +11,9 @@ use Rattle.geo_poly.specs.Monomials.{Powers, degree_of}
 use Rattle.geo_poly.specs.Polynomials.{Summands, norm_of}
 use Rattle.proof_log.specs.Lines.{polynomial_text, power_text, sign_text, term_text, variable_name}
 use Rattle.proof_log.specs.Writable.{CanWriteFactor, CanWriteMonomial, CanWritePolynomial, CanWriteValue, CanWriteValues, IsVariable}
-use Rattle.proof_log.specs.Inner.Reading.{Begins, Form, StopsAt, coefficients, exponent_text, factors, integers, is_byte, is_number_byte, is_power_byte, next_term, polynomials, powers_after, single_powers, single_values, terms, terms_after, value_lists, variables}
+use Rattle.proof_log.specs.Inner.Reading.{Begins, Form, StopsAt, coefficients, exponent_text, factors, integers, is_byte, is_number_byte}
+use Rattle.proof_log.specs.Inner.Reading.{is_power_byte, next_term, polynomials, powers_after, single_powers, single_values, terms}
+use Rattle.proof_log.specs.Inner.Reading.{terms_after, value_lists, variables}
 use Rattle.proof_log.proofs.Runs.{Unique, integers_unique}
 use Rattle.proof_log.proofs.Unique.{nothing_stops, single_powers_unique, stops_exponent, stops_number, variables_unique}
 use Rattle.proof_log.proofs.UniqueLists.{AreListed, list_unique, items_stop}

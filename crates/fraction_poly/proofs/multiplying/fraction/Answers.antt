@@ -6,7 +6,8 @@ use Rattle.geo_poly.specs.Polynomials.{constant_of, negated}
 use Rattle.geo_terms.specs.declared.nodes.Node.TheVariants.{Int, Param, S, P, R, Neg, Add, Sub, Mul, Div}
 use Rattle.geo_terms.specs.Stores.{tree_of}
 use Rattle.fraction_poly.specs.MultipliedOut.{multiplied_out, whole_fraction, fraction_sum, fraction_difference, fraction_product, fraction_quotient}
-use Rattle.fraction_poly.proofs.Nodes.{IsAtNode, node_result, part_stands, integer_fits, negation_is, addition_fits, addition_is, subtraction_fits, subtraction_is, multiplication_fits, multiplication_is, division_fits, division_is}
+use Rattle.fraction_poly.proofs.Nodes.{IsAtNode, node_result, part_stands, integer_fits, negation_is, addition_fits, addition_is}
+use Rattle.fraction_poly.proofs.Nodes.{subtraction_fits, subtraction_is, multiplication_fits, multiplication_is, division_fits, division_is}
 use Rattle.fraction_poly.proofs.multiplying.fraction.Goals as goal
 
 pub constant-requires : goal.constant-requires

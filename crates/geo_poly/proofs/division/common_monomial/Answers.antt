@@ -11,7 +11,8 @@ use Rattle.geo_poly.specs.Factors.{IsLeastExponent}
 use Rattle.geo_poly.specs.declared.shared.Shared.{Shared}
 use Rattle.geo_poly.specs.Shared.{told, told_powers, told_term}
 use Rattle.geo_poly.proofs.Told.{index_at, item, monomial_at, told-is, told-within}
-use Rattle.geo_poly.proofs.Cuts.{reduced, IsAbove, IsMonomial-reduced, next_reduced, next_put, next_left_out, common_exponent, common_exponent-other, IsMonomial-first, IsAbove-first, found_exponent, known_in_reduced, other_in_reduced}
+use Rattle.geo_poly.proofs.Cuts.{reduced, IsAbove, IsMonomial-reduced, next_reduced, next_put, next_left_out, common_exponent}
+use Rattle.geo_poly.proofs.Cuts.{common_exponent-other, IsMonomial-first, IsAbove-first, found_exponent, known_in_reduced, other_in_reduced}
 use Rattle.geo_poly.proofs.division.common_monomial.Goals as goal
 use Rattle.geo_poly.proofs.division.common_monomial.Goals.{then-is_known+then-least-gt0+in_ok-push, then-is_known+else-least-gt0, else-is_known}
 

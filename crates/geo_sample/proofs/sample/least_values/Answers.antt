@@ -13,7 +13,8 @@ use Rattle.geo_sample.specs.declared.errors.SampleError.TheVariants.{NoMemory}
 use Rattle.geo_sample.specs.Tries.{AreMade, EndIn, all_specialised, search_tries, tries_below}
 use Rattle.geo_sample.specs.Samples.{IsLeastValue, IsLeastSample, specialised_by, SearchEndsIn}
 use Rattle.geo_sample.proofs.TryEnds.{AreMade-nil, if_err}
-use Rattle.geo_sample.proofs.LeastSamples.{empty_sample, nothing_searched, short_search, collected_polynomials, collected_by, stopped_search, value_lost, more_sample, more_tries, specialised_by-append}
+use Rattle.geo_sample.proofs.LeastSamples.{empty_sample, nothing_searched, short_search, collected_polynomials, collected_by}
+use Rattle.geo_sample.proofs.LeastSamples.{stopped_search, value_lost, more_sample, more_tries, specialised_by-append}
 use Rattle.geo_sample.proofs.sample.least_values.Goals as goal
 
 abbrev none : Var

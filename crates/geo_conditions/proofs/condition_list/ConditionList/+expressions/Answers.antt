@@ -9,7 +9,8 @@ use Rattle.geo_terms.specs.Stores.{tree_of, trees_of}
 use Rattle.geo_terms.specs.Trees.{addition, division, multiplication, negation, ratio_leaf, subtraction}
 use Rattle.geo_conditions.specs.Inner.ConditionLists.{Lists}
 use Rattle.geo_conditions.specs.Lists.{found_at}
-use Rattle.geo_conditions.proofs.KeptConditions.{addition_parts, division_parts, leaf_conditions, lists_at, lists_none, lists_tree, multiplication_parts, negation_part, subtraction_parts, unfolds, walked_before, walked_now}
+use Rattle.geo_conditions.proofs.KeptConditions.{addition_parts, division_parts, leaf_conditions, lists_at, lists_none, lists_tree}
+use Rattle.geo_conditions.proofs.KeptConditions.{multiplication_parts, negation_part, subtraction_parts, unfolds, walked_before, walked_now}
 use Rattle.geo_conditions.proofs.condition_list.ConditionList.+expressions.Goals as goal
 
 -- the derived `==` is equality
