@@ -42,7 +42,6 @@ pub mod JudgedWhole
 pub mod DefinedBytes
 pub mod PrintedValues
 pub mod AcceptedBytes
-pub mod Midpoints
 pub mod AlikeSteps
 pub mod AlikeLogs
 pub mod VersionNumbers
@@ -50,7 +49,6 @@ pub mod OneSubject
 pub mod Judged
 pub mod AlikeRefusals
 pub mod OneStop
-pub mod AlteredLogs
 pub mod Writing
 pub mod DueChains
 pub mod DueMoves

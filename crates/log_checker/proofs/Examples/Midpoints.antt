@@ -53,7 +53,7 @@ use Rattle.geo_logs.proofs.Examples.{at}
 use Rattle.log_checker.specs.Accepted.{Accepts}
 use Rattle.log_checker.specs.Subjects.{IsSubjectOf}
 use Rattle.log_checker.proofs.AcceptedBytes.{accepted_bytes_mean}
-use Rattle.log_checker.proofs.Examples.{letter_name, letter_point, letters_apart, none_in, only_in, term}
+use Rattle.log_checker.proofs.Examples.Logs.{letter_name, letter_point, letters_apart, none_in, only_in, term}
 use Rattle.log_checker.proofs.Places.{below}
 
 -- THE PROGRAM

@@ -27,9 +27,9 @@ use Rattle.geo_logs.proofs.Examples.{at}
 use Rattle.geo_logs.proofs.OneNext.{not_stopped}
 use Rattle.log_checker.specs.Judged.{IsFirstStop, IsProgramOver}
 use Rattle.log_checker.specs.Subjects.{source_lines}
-use Rattle.log_checker.proofs.Midpoints.{midpoint, midpoint_about, midpoint_chain, midpoint_chain_accepted, midpoint_construction}
-use Rattle.log_checker.proofs.Midpoints.{midpoint_sample_accepted, midpoint_source, midpoint_well_formed, moved, sign_cut, some_term}
-use Rattle.log_checker.proofs.Midpoints.{started, times, zeros}
+use Rattle.log_checker.proofs.Examples.Midpoints.{midpoint, midpoint_about, midpoint_chain, midpoint_chain_accepted, midpoint_construction}
+use Rattle.log_checker.proofs.Examples.Midpoints.{midpoint_sample_accepted, midpoint_source, midpoint_well_formed, moved, sign_cut, some_term}
+use Rattle.log_checker.proofs.Examples.Midpoints.{started, times, zeros}
 
 -- what is read: the program, and then this
 abbrev with_rest : List (Option Line) → List (Option Line)
