@@ -14,7 +14,7 @@ use Rattle.geo_figure.proofs.OneDrawing.{one_drawing}
 use Rattle.geo_place.specs.declared.errors.PlaceError.{PlaceError}
 use Rattle.geo_place.specs.declared.errors.PlaceError.TheVariants as placing
 use Rattle.geo_place.specs.declared.placed.Placed.{Placed}
-use Rattle.geo_place.specs.Placing.{IsAnswer, values_wanted}
+use Rattle.geo_place.specs.Placing.{AnswersValues, values_wanted}
 use Rattle.geo_place.proofs.SameEvaluation.{same_answer}
 use Rattle.geo_place.proofs.ValueLists.{values_once}
 use Rattle.geo_program.specs.declared.program_type.Program.{Program}
@@ -208,7 +208,7 @@ one_values drawn p q values due other s w h g = by h g
     by (inr h) (inr g) =
         let frees = g.frees ∙ ap length (sym (same_frees (source_of p) (source_of q) s)) in
         let v : h.v ≡ g.v = sym (values_once (source_of p) values h.v h.frees h.are) ∙ values_once (source_of p) values g.v frees g.are in
-        let same = same_answer (source_of p) (source_of q) s w g.v h.answer g.answer (subst (λ (z : ProgramValues). IsAnswer (source_of p) z h.answer) v h.given) g.given
+        let same = same_answer (source_of p) (source_of q) s w g.v h.answer g.answer (subst (λ (z : ProgramValues). AnswersValues (source_of p) z h.answer) v h.given) g.given
         (answer_memory drawn h.answer due h.is) (answer_memory drawn g.answer other g.is) in
         one_told drawn g.answer due other (subst (λ (a : Result Placed PlaceError). TellsAnswer drawn a due) same h.is) g.is
 

@@ -24,7 +24,7 @@ use Rattle.geo_logs.specs.Moves.{Stop, spent, too_large}
 use Rattle.geo_place.specs.declared.errors.PlaceError.{PlaceError}
 use Rattle.geo_place.specs.declared.errors.PlaceError.TheVariants as placing
 use Rattle.geo_place.specs.declared.placed.Placed.{Placed}
-use Rattle.geo_place.specs.Placing.{IsAnswer, Places, PlacesNothing}
+use Rattle.geo_place.specs.Placing.{AnswersValues, Places, PlacesNothing}
 use Rattle.geo_poly.specs.declared.limits.Which.TheVariants.{Norm}
 use Rattle.geo_program.specs.declared.program_type.Program.{Program}
 use Rattle.geo_program.specs.Programs.{Spells, source_of}
@@ -105,7 +105,7 @@ module _ (words : List (List ℕ)) (left left' held held' : Option (List ℕ)) (
     drawing_here placed (Err drawing.NoMemory) d h places with = absurd h
 
   module _ (p : Program) (v : ProgramValues) (reads : ReadsValues drawn words left left' p v) (due : Due) where
-    answer_done : (answer : Result Placed PlaceError) → IsAnswer (source_of p) v answer → (b : Bool) → b ≡ drawn
+    answer_done : (answer : Result Placed PlaceError) → AnswersValues (source_of p) v answer → (b : Bool) → b ≡ drawn
         → TellsAnswer b answer due → due.status ≡ status.Done → Grows held due.text held'
         → PlacesInput drawn words left left' held held'
     answer_done (Ok placed) given false is tells done written =
@@ -126,7 +126,7 @@ module _ (words : List (List ℕ)) (left left' held held' : Option (List ℕ)) (
         not_unmet k (status.TooLarge line Norm) _ (sym (ap (λ (x : Due). x.status) tells) ∙ says) (omega arith)
     drawing_unmet k (Err drawing.NoMemory) tells says = absurd tells
 
-    answer_unmet : (k : ℕ) (answer : Result Placed PlaceError) → IsAnswer (source_of p) v answer → (b : Bool) → TellsAnswer b answer due
+    answer_unmet : (k : ℕ) (answer : Result Placed PlaceError) → AnswersValues (source_of p) v answer → (b : Bool) → TellsAnswer b answer due
         → due.status ≡ status.Unmet k → PlacesNone words left left' k
     answer_unmet k (Ok placed) given false tells says =
         not_unmet k status.Done _ (sym (ap (λ (x : Due). x.status) tells) ∙ says) (omega arith)

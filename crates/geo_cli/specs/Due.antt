@@ -27,7 +27,7 @@ use Rattle.geo_parser.specs.Refusals.{IsRefused}
 use Rattle.geo_place.specs.declared.errors.PlaceError.{PlaceError}
 use Rattle.geo_place.specs.declared.errors.PlaceError.TheVariants as placing
 use Rattle.geo_place.specs.declared.placed.Placed.{Placed}
-use Rattle.geo_place.specs.Placing.{IsAnswer, text_of, values_wanted}
+use Rattle.geo_place.specs.Placing.{AnswersValues, points_text, values_wanted}
 use Rattle.geo_poly.specs.declared.limits.Which.TheVariants.{Norm}
 use Rattle.geo_program.specs.CanonicalText.{canonical_text}
 use Rattle.geo_program.specs.declared.program_type.Program.{Program}
@@ -156,7 +156,7 @@ TellsDrawing (Err drawing.NoMemory) due = ⊥
 
 -- placed points as text, or drawn
 abbrev pub TellsPoints : Bool → Placed → Due → Type 0
-TellsPoints false placed due = due ≡ record { text = text_of placed; status = Done }
+TellsPoints false placed due = due ≡ record { text = points_text placed; status = Done }
 TellsPoints true placed due = (answer : Result Written DrawError) × IsDrawn placed answer × TellsDrawing answer due
 
 -- what is answered for the values
@@ -173,7 +173,7 @@ pub record IsPlacedDue (drawn : Bool) (program : Program) (values : List ℤ) (d
   pub frees : length v.coordinates ≡ length (free_points 0 program.commands)
   pub are : integers_of v ≡ values
   pub answer : Result Placed PlaceError
-  pub given : IsAnswer (source_of program) v answer
+  pub given : AnswersValues (source_of program) v answer
   pub is : TellsAnswer drawn answer due
 
 -- what values and a program call for: a refusal where the program has not so many values

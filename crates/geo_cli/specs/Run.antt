@@ -14,7 +14,7 @@ use Rattle.geo_logs.specs.Ends.{ends_with}
 use Rattle.geo_lowering.specs.Lowering.{IsLowered, LoweredForm}
 use Rattle.geo_lowering.specs.declared.version.Version.TheVariants.{Two}
 use Rattle.geo_place.specs.declared.placed.Placed.{Placed}
-use Rattle.geo_place.specs.Placing.{Places, PlacesNothing, text_of}
+use Rattle.geo_place.specs.Placing.{Places, PlacesNothing, points_text}
 use Rattle.geo_program.specs.declared.program_type.Program.{Program}
 use Rattle.geo_program.specs.Programs.{Spells, source_of}
 use Rattle.geo_program.specs.WellFormed.{Source}
@@ -111,7 +111,7 @@ IsPlaceOf true = IsFigure
 
 -- placed points as text, or drawn
 abbrev pub shown : Bool → Placed → List ℕ
-shown false placed = text_of placed
+shown false placed = points_text placed
 shown true placed = drawing placed
 
 -- the words are `place` or `figure`, the source gave these bytes and no more, and they are values and a program

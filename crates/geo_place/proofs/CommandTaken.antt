@@ -17,7 +17,7 @@ use Rattle.geo_place.specs.declared.evaluation.Progress.{Progress}
 use Rattle.geo_place.specs.declared.positions.Position.{Position}
 use Rattle.geo_place.specs.declared.sketch.Sketch.{Sketch}
 use Rattle.geo_place.specs.declared.triples.Triple.{Triple}
-use Rattle.geo_place.specs.Evaluation.{LineTurn, Passes, at_line, makes, turns_of}
+use Rattle.geo_place.specs.Evaluation.{LineTurn, Succeeds, at_line, makes, turns_of}
 use Rattle.geo_place.specs.Inner.{FirstFails, IsItemMet, IsPassed, IsRun, IsSketchOf, IsTaken, IsTripleStop, Run, Stops, TellsTriple}
 use Rattle.geo_place.proofs.CommandTurns.{E, K, n}
 use Rattle.geo_place.proofs.Taking.{Ends, IsTold, before_list, count, early_fail, early_held, early_pass, first, first_items, get_some}
@@ -31,7 +31,7 @@ module _ (run : Run) (problem : Problem) (ints : List ℤ) (h : IsRun run proble
   p = run.program
 
   abbrev Passed : List LineTurn → Type 0
-  Passed ts = AllByRecursion (Passes p run.placed) ts
+  Passed ts = AllByRecursion (Succeeds p run.placed) ts
 
   abbrev past : ℕ
   past = next_point Two (n p h.formed k c at) c

@@ -33,7 +33,7 @@ use Rattle.geo_conditions.proofs.ConditionScopes.{AreOver, at_line as found_line
 use Rattle.geo_conditions.proofs.Listings.{held, listed_hold, listed_once}
 use Rattle.geo_conditions.specs.Truth.{ProgramValues}
 use Rattle.geo_place.specs.declared.errors.PlaceError.{PlaceError}
-use Rattle.geo_place.specs.Evaluation.{LineTurn, Passes, at_line, command_turns, judge, makes, test, turns_from, turns_of, write}
+use Rattle.geo_place.specs.Evaluation.{LineTurn, Succeeds, at_line, command_turns, judge, makes, test, turns_from, turns_of, write}
 use Rattle.geo_place.specs.Inner.{Run, Stops}
 use Rattle.geo_place.proofs.ListParts.{fresh_hold, listed_front, listed_join, listed_split, none_fresh, one_fresh}
 use Rattle.geo_place.proofs.MakeTurns.{line_append, stops_in, drop_next, take_next}
@@ -277,7 +277,7 @@ module _ (p : Source) (w : IsWellFormed p) (k : ℕ) (c : Command) (at : slice_g
     run = record { program = p; values = v; placed = placed; conditions = conditions }
 
     abbrev P : LineTurn → Type 0
-    P t = Passes run.program run.placed t
+    P t = Succeeds run.program run.placed t
 
     module _ (e : PlaceError) (d : AllByRecursion P done) where
       command_stop : Stops run (E ++ K ++ W ++ L) e → Stops run (turns_of p) e

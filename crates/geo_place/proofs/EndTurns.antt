@@ -27,7 +27,7 @@ use Rattle.geo_conditions.proofs.Listings.{all_hold, listed_once}
 use Rattle.geo_place.specs.declared.errors.PlaceError.{PlaceError}
 use Rattle.geo_place.specs.declared.errors.PlaceError.TheVariants.{NoMemory, TooLarge, Unmet}
 use Rattle.geo_place.specs.declared.sketch.Sketch.{Sketch}
-use Rattle.geo_place.specs.Evaluation.{ComesUp, EndsAs, IsReckoned, IsRight, IsTooLarge, LineTurn, Passes, Turn, at_line, judge, placed_all, test, too_large, turns_from, turns_of}
+use Rattle.geo_place.specs.Evaluation.{ComesUp, EndsAs, IsReckoned, IsRight, TurnOverflows, LineTurn, Succeeds, Turn, at_line, judge, placed_all, test, too_large, turns_from, turns_of}
 use Rattle.geo_place.specs.Formulas.{reckoned}
 use Rattle.geo_place.specs.Inner.{EndsWith, GoalsCome, IsItemMet, IsItemNull, Run, StopsGoals, Stops, item_reckoned, placement_of}
 use Rattle.geo_place.specs.Reckonings.{Overflows, number}
@@ -49,9 +49,9 @@ ends_with run (Unmet k) s =
           before = s.before;
           after = s.after;
           parts = s.parts ∙ ap (λ (t : LineTurn). s.before ++ t ∷ s.after) same;
-          passed = All-from_recursion (Passes run.program run.placed) s.before s.passed;
+          passed = All-from_recursion (Succeeds run.program run.placed) s.before s.passed;
         },
-        subst (λ (t : Turn). IsTooLarge run.program run.placed t → ⊥) s.stops.1 s.stops.3,
+        subst (λ (t : Turn). TurnOverflows run.program run.placed t → ⊥) s.stops.1 s.stops.3,
         subst (λ (t : Turn). IsRight run.program run.placed t → ⊥) s.stops.1 s.stops.4,
       ),
       s.stops.2,
@@ -62,7 +62,7 @@ ends_with run (TooLarge line) s = (
     before = s.before;
     after = s.after;
     parts = s.parts ∙ ap (λ (i : ℕ). s.before ++ record { line = i; turn = s.turn.turn } ∷ s.after) s.stops.0;
-    passed = All-from_recursion (Passes run.program run.placed) s.before s.passed;
+    passed = All-from_recursion (Succeeds run.program run.placed) s.before s.passed;
   },
   s.stops.1,
 )
@@ -92,7 +92,7 @@ module _ (p : Source) (w : IsWellFormed p) (v : ProgramValues) (placed : Placeme
   judge_part = at_line last (map judge (statement_goals p.nodes p.statement))
 
   abbrev P : LineTurn → Type 0
-  P t = Passes p placed t
+  P t = Succeeds p placed t
 
   abbrev O : LineTurn → Type 0
   O t = TurnOver p w v placed r t.turn
@@ -144,7 +144,7 @@ module _ (p : Source) (w : IsWellFormed p) (v : ProgramValues) (placed : Placeme
 
     -- the goal passes its turn
     abbrev Judged : Statement → Type 0
-    Judged s = (IsTooLarge p placed (judge s) → ⊥) × IsRight p placed (judge s)
+    Judged s = (TurnOverflows p placed (judge s) → ⊥) × IsRight p placed (judge s)
 
     null_there : (item : Item) (s : Statement) → item_form nodes item ≡ goal_item Two p s → GoalOver s → IsItemNull sketch nodes item → Judged s
     null_there item s e o h =

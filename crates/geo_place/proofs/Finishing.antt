@@ -18,7 +18,7 @@ use Rattle.geo_conditions.specs.Lists.{AreStoredGoals, Found, IsListed, ItemForm
 use Rattle.geo_conditions.specs.Statements.{statement_conditions}
 use Rattle.geo_place.specs.declared.errors.PlaceError.{PlaceError}
 use Rattle.geo_place.specs.declared.evaluation.Progress.{Progress}
-use Rattle.geo_place.specs.Evaluation.{Passes, at_line, test, turns_from}
+use Rattle.geo_place.specs.Evaluation.{Succeeds, at_line, test, turns_from}
 use Rattle.geo_place.specs.Inner.{EndsWith, FirstFails, GoalsCome, IsItemMet, IsRun, IsTaken, Run, placement_of}
 use Rattle.geo_place.proofs.EndTurns.{GoalsEnd, Stated, ends_with, goals_end, stated_here, stated_stop, stated_terms}
 use Rattle.geo_place.proofs.TestTurns.{tests_pass, tests_stop}
@@ -47,8 +47,8 @@ module _ (run : Run) (problem : Problem) (ints : List ℤ) (h : IsRun run proble
       subst (λ (i : ℕ). SamePlacement i M (placement_of progress.sketch) run.placed) points_long
       (subst (λ (j : ℕ). SamePlacement (length progress.sketch.points.items) j (placement_of progress.sketch) run.placed) t.sketch.numbers t.sketch.same)
 
-  commands_pass : AllByRecursion (Passes p run.placed) (turns_from p 1 0 0 0 p.commands)
-  commands_pass = subst (λ cs. AllByRecursion (Passes p run.placed) (turns_from p 1 0 0 0 cs)) all_commands t.passed
+  commands_pass : AllByRecursion (Succeeds p run.placed) (turns_from p 1 0 0 0 p.commands)
+  commands_pass = subst (λ cs. AllByRecursion (Succeeds p run.placed) (turns_from p 1 0 0 0 cs)) all_commands t.passed
 
   old : List Found
   old = take progress.tested run.conditions
@@ -72,9 +72,9 @@ module _ (run : Run) (problem : Problem) (ints : List ℤ) (h : IsRun run proble
     these = ap (λ (is : List Item). map (item_form nodes) is) e ∙ rest_items
 
     pub stated_pass : AllByRecursion (IsItemMet progress.sketch nodes) items
-        → AllByRecursion (Passes p run.placed) (turns_from p 1 0 0 0 p.commands ++ at_line (suc (length p.commands)) (map test (statement_conditions p.nodes p.statement)))
+        → AllByRecursion (Succeeds p run.placed) (turns_from p 1 0 0 0 p.commands ++ at_line (suc (length p.commands)) (map test (statement_conditions p.nodes p.statement)))
     stated_pass m =
-        each_append (Passes p run.placed) (turns_from p 1 0 0 0 p.commands) (at_line (suc (length p.commands)) (map test (statement_conditions p.nodes p.statement))) commands_pass
+        each_append (Succeeds p run.placed) (turns_from p 1 0 0 0 p.commands) (at_line (suc (length p.commands)) (map test (statement_conditions p.nodes p.statement))) commands_pass
         (tests_pass run progress.sketch nodes N M same (suc (length p.commands)) (statement_conditions p.nodes p.statement) (take progress.tested run.conditions) stated.more stated.listed t.held
         (stated_terms p h.formed run.values run.placed h.reckoned run.conditions) items these m)
 

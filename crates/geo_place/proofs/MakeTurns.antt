@@ -20,7 +20,7 @@ use Rattle.geo_place.specs.declared.errors.PlaceError.{PlaceError}
 use Rattle.geo_place.specs.declared.errors.PlaceError.TheVariants.{NoMemory, TooLarge, Unmet}
 use Rattle.geo_place.specs.declared.positions.Position.{Position}
 use Rattle.geo_place.specs.declared.sketch.Sketch.{Sketch}
-use Rattle.geo_place.specs.Evaluation.{AreAt, IsTooLarge, LineTurn, Passes, Turn, at_line, make, makes}
+use Rattle.geo_place.specs.Evaluation.{AreAt, TurnOverflows, LineTurn, Succeeds, Turn, at_line, make, makes}
 use Rattle.geo_place.specs.Formulas.{IsAt, Spot, step_spot}
 use Rattle.geo_place.specs.Inner.{IsSketchOf, Run, Stop, Stops, free_places, placement_of, point_at}
 use Rattle.geo_place.specs.Reckonings.{Overflows, IsResult, number}
@@ -31,18 +31,18 @@ use Rattle.geo_place.proofs.Sketches.{own_position, point_found, position_same}
 use Rattle.geo_place.proofs.TestTurns.{agree_back, agree_of}
 
 -- STOPS AMONG MORE TURNS
-pub stop_in : (run : Run) (all xs ys zs : List LineTurn) (e : PlaceError) → all ≡ xs ++ ys ++ zs → AllByRecursion (Passes run.program run.placed) xs → Stop run ys e → Stop run all e
+pub stop_in : (run : Run) (all xs ys zs : List LineTurn) (e : PlaceError) → all ≡ xs ++ ys ++ zs → AllByRecursion (Succeeds run.program run.placed) xs → Stop run ys e → Stop run all e
 stop_in run all xs ys zs e parts h s = record {
   before = xs ++ s.before;
   turn = s.turn;
   after = s.after ++ zs;
   parts = parts ∙ ap (λ (ts : List LineTurn). xs ++ ts ++ zs) s.parts ∙ ap (λ (ts : List LineTurn). ts ++ zs) (sym (append_assoc xs s.before (s.turn ∷ s.after)))
       ∙ append_assoc (xs ++ s.before) (s.turn ∷ s.after) zs;
-  passed = each_append (Passes run.program run.placed) xs s.before h s.passed;
+  passed = each_append (Succeeds run.program run.placed) xs s.before h s.passed;
   stops = s.stops;
 }
 
-pub stops_in : (run : Run) (all xs ys zs : List LineTurn) (e : PlaceError) → all ≡ xs ++ ys ++ zs → AllByRecursion (Passes run.program run.placed) xs → Stops run ys e → Stops run all e
+pub stops_in : (run : Run) (all xs ys zs : List LineTurn) (e : PlaceError) → all ≡ xs ++ ys ++ zs → AllByRecursion (Succeeds run.program run.placed) xs → Stops run ys e → Stops run all e
 stops_in run all xs ys zs (Unmet k) parts h s = stop_in run all xs ys zs (Unmet k) parts h s
 stops_in run all xs ys zs (TooLarge k) parts h s = stop_in run all xs ys zs (TooLarge k) parts h s
 stops_in run all xs ys zs NoMemory parts h s = tt
@@ -222,7 +222,7 @@ module _ (n m : ℕ) (p p' : Placement) (g : SamePlacement n m p p') (f : StepFo
 -- the first i of these steps
 module _ (run : Run) (line n : ℕ) (fs : List StepForm) where
   abbrev Pass : LineTurn → Type 0
-  Pass t = Passes run.program run.placed t
+  Pass t = Succeeds run.program run.placed t
 
   abbrev pub made : ℕ → List LineTurn
   made i = at_line line (makes n (take i fs))
@@ -234,7 +234,7 @@ module _ (run : Run) (line n : ℕ) (fs : List StepForm) where
       ap (λ (gs : List StepForm). at_line line (makes n gs)) (take_next i fs f e) ∙ ap (λ (ts : List Turn). at_line line ts) (makes_append n (take i fs) (f ∷ []))
       ∙ line_append line (makes n (take i fs)) (make (n + length (take i fs)) f ∷ []) ∙ ap (λ (k : ℕ). made i ++ record { line = line; turn = make (n + k) f } ∷ []) long
 
-  pub pass_next : (i : ℕ) (f : StepForm) → slice_get fs i ≡ Some f → AllByRecursion Pass (made i) → (IsTooLarge run.program run.placed (make (n + i) f) → ⊥) → AllByRecursion Pass (made (suc i))
+  pub pass_next : (i : ℕ) (f : StepForm) → slice_get fs i ≡ Some f → AllByRecursion Pass (made i) → (TurnOverflows run.program run.placed (make (n + i) f) → ⊥) → AllByRecursion Pass (made (suc i))
   pass_next i f e h p = subst (λ ts. AllByRecursion Pass ts) (sym (made_next i f e)) (each_append Pass (made i) (record { line = line; turn = make (n + i) f } ∷ []) h ((p, tt), tt))
 
   pub stop_next : (i : ℕ) (f : StepForm) (e : PlaceError) → slice_get fs i ≡ Some f → AllByRecursion Pass (made i)

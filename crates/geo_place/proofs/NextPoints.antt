@@ -24,7 +24,7 @@ use Rattle.geo_place.specs.declared.positions.Position.{Position}
 use Rattle.geo_place.specs.declared.positions.Reckoned.{Reckoned}
 use Rattle.geo_place.specs.declared.sketch.Sketch.{Sketch}
 use Rattle.geo_place.specs.Formulas.{IsAt, Spot, step_spot}
-use Rattle.geo_place.specs.Evaluation.{IsTooLarge, at_line, make}
+use Rattle.geo_place.specs.Evaluation.{TurnOverflows, at_line, make}
 use Rattle.geo_place.specs.Reckonings.{Overflows, IsResult}
 use Rattle.geo_place.specs.Inner.{AreResults, HasNumber, IsPosition, IsRun, IsSketchOf, Run, Stops, free_places, placement_of, point_at}
 use Rattle.geo_place.proofs.Existence.{program_places}
@@ -169,7 +169,7 @@ module _ (run : Run) (problem : Problem) (ints : List ℤ) (h : IsRun run proble
   -- what a step that is no free point answers, on this line
   pub record NextIs (line : ℕ) (r : Result Position PlaceError) : Type 0 where
     pub position : IfOk r (λ q. SamePoint (point_at q) (run.placed.point n))
-    pub passed : OnOk r (IsTooLarge run.program run.placed (make n form) → ⊥)
+    pub passed : OnOk r (TurnOverflows run.program run.placed (make n form) → ⊥)
     pub stops : IfErr r (Stops run (at_line line (make n form ∷ [])))
 
   pub next_reckoned : (form ≡ free → ⊥) → (line : ℕ) (k : ℕ) → k ≡ n → (reckoned : Reckoned) → AreResults reckoned (step_spot (placement_of sketch) k form) → (r : Result Position PlaceError)

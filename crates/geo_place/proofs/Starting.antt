@@ -19,7 +19,7 @@ use Rattle.geo_conditions.specs.Truth.{is_free}
 use Rattle.geo_place.specs.declared.evaluation.Progress.{Progress}
 use Rattle.geo_place.specs.declared.positions.Position.{Position}
 use Rattle.geo_place.specs.declared.triples.Triple.{Triple}
-use Rattle.geo_place.specs.Evaluation.{Passes, turns_from}
+use Rattle.geo_place.specs.Evaluation.{Succeeds, turns_from}
 use Rattle.geo_place.specs.Inner.{IsPassed, IsRun, IsSketchOf, IsTaken, IsTripleOf, Run, free_places, placement_of}
 use Rattle.geo_place.proofs.ListParts.{get_before, get_behind, take_zero}
 use Rattle.geo_place.proofs.Sketches.{number_found, number_same}
@@ -106,5 +106,5 @@ module _ (run : Run) (problem : Problem) (ints : List ℤ) (h : IsRun run proble
       held = subst (λ (fs : List Found). AllByRecursion (λ f. IsPassed run f.condition) fs) (sym conditions_none) tt;
       told = ap (λ (us : List Triple). length us) triples ∙ sym (ap (λ (cs : List Command). points_from 0 cs) commands_none);
       triples = no_triple progress.triples.items triples;
-      passed = subst (λ (cs : List Command). AllByRecursion (Passes run.program run.placed) (turns_from run.program 1 0 0 0 cs)) (sym commands_none) tt;
+      passed = subst (λ (cs : List Command). AllByRecursion (Succeeds run.program run.placed) (turns_from run.program 1 0 0 0 cs)) (sym commands_none) tt;
     }

@@ -29,7 +29,7 @@ use Rattle.geo_place.specs.declared.evaluation.Progress.{Progress}
 use Rattle.geo_place.specs.declared.positions.Position.{Position}
 use Rattle.geo_place.specs.declared.sketch.Sketch.{Sketch}
 use Rattle.geo_place.specs.declared.triples.Triple.{Triple}
-use Rattle.geo_place.specs.Evaluation.{IsTriplePast, Passes, at_line, makes, turns_of, write}
+use Rattle.geo_place.specs.Evaluation.{IsTriplePast, Succeeds, at_line, makes, turns_of, write}
 use Rattle.geo_place.specs.Inner.{FirstFails, IsItemMet, IsPassed, IsRun, IsSketchOf, IsTaken, IsTripleOf, IsTripleStop, Run, Stops, TellsTriple, point_at}
 use Rattle.geo_place.proofs.CommandTurns.{E, K, L, Listed, W, after_at, all_pass, early, early_stop, early_terms, laid, late, late_stop}
 use Rattle.geo_place.proofs.CommandTurns.{late_terms, listed_here, make_stop, n, named_next, past_next, points_few, points_up, steps}
@@ -229,7 +229,7 @@ module _ (run : Run) (problem : Problem) (ints : List ℤ) (h : IsRun run proble
     pub early_held : AllByRecursion (IsItemMet old.sketch nodes) items → AllByRecursion (λ f. IsPassed run f.condition) (before_list ++ first)
     early_held m = tests_held run old.sketch nodes N (length old.sketch.numbers.items) t.sketch.same (suc k) (early p w k c at) before_list first parts.early_listed t.held early_over items e m
 
-    pub early_pass : AllByRecursion (IsItemMet old.sketch nodes) items → AllByRecursion (Passes p run.placed) (E p w k c at)
+    pub early_pass : AllByRecursion (IsItemMet old.sketch nodes) items → AllByRecursion (Succeeds p run.placed) (E p w k c at)
     early_pass m = tests_pass run old.sketch nodes N (length old.sketch.numbers.items) t.sketch.same (suc k) (early p w k c at) before_list first parts.early_listed t.held early_over items e m
 
     pub early_fail : (error : PlaceError) → FirstFails old.sketch nodes items old.tested error → Stops run (turns_of p) error
@@ -250,13 +250,13 @@ module _ (run : Run) (problem : Problem) (ints : List ℤ) (h : IsRun run proble
   make_line =
       ap (λ (fs : List StepForm). at_line (suc k) (makes (length old.sketch.points.items) fs)) step_turns ∙ ap (λ (i : ℕ). at_line (suc k) (makes i (steps p w k c at))) t.points
 
-  pub make_pass : AllByRecursion (Passes p run.placed)
+  pub make_pass : AllByRecursion (Succeeds p run.placed)
       (at_line (suc k) (makes (length old.sketch.points.items)
       (take (next_point Two (n p w k c at) c - length old.sketch.points.items) (drop (length old.sketch.points.items) (steps_of Two p)))))
-      → AllByRecursion (Passes p run.placed) (K p w k c at)
-  make_pass h = subst (λ ts. AllByRecursion (Passes p run.placed) ts) make_line h
+      → AllByRecursion (Succeeds p run.placed) (K p w k c at)
+  make_pass h = subst (λ ts. AllByRecursion (Succeeds p run.placed) ts) make_line h
 
-  pub make_fail : (error : PlaceError) → AllByRecursion (Passes p run.placed) (E p w k c at)
+  pub make_fail : (error : PlaceError) → AllByRecursion (Succeeds p run.placed) (E p w k c at)
       → Stops run (at_line (suc k) (makes (length old.sketch.points.items)
       (take (next_point Two (n p w k c at) c - length old.sketch.points.items)
       (drop (length old.sketch.points.items) (steps_of Two p))))) error
@@ -310,9 +310,9 @@ module _ (run : Run) (problem : Problem) (ints : List ℤ) (h : IsRun run proble
             point_trans _ _ _ (of_path (sym (point_found new (further (n p w k c at) (hidden Two c)) q f)))
             (s.same.same_points (further (n p w k c at) (hidden Two c)) (let a = next_is in omega (arith, a, made)))
 
-        pub write_pass : (IsTriplePast (point_at q) → ⊥) → AllByRecursion (Passes p run.placed) (W p w k c at)
+        pub write_pass : (IsTriplePast (point_at q) → ⊥) → AllByRecursion (Succeeds p run.placed) (W p w k c at)
         write_pass f =
-            subst (λ ts. AllByRecursion (Passes p run.placed) ts) (sym write_line)
+            subst (λ ts. AllByRecursion (Succeeds p run.placed) ts) (sym write_line)
             ((λ (z : IsTriplePast (run.placed.point (further (n p w k c at) (hidden Two c)))). f (z.0, z.1, point_trans _ _ _ z.2 (flip_point _ _ there), z.3), tt), tt)
 
         pub triple_is : (u : Triple) → IsTripleOf u (point_at q) → IsTripleOf u (run.placed.point (point_place Two p.commands (x p w k c at)))
@@ -329,8 +329,8 @@ module _ (run : Run) (problem : Problem) (ints : List ℤ) (h : IsRun run proble
               short_y = z.short_y;
             })
 
-        pub write_fail : (error : PlaceError) → AllByRecursion (Passes p run.placed) (E p w k c at)
-            → AllByRecursion (Passes p run.placed) (K p w k c at) → IsTripleStop q (suc k) error → Stops run (turns_of p) error
+        pub write_fail : (error : PlaceError) → AllByRecursion (Succeeds p run.placed) (E p w k c at)
+            → AllByRecursion (Succeeds p run.placed) (K p w k c at) → IsTripleStop q (suc k) error → Stops run (turns_of p) error
         write_fail (Unmet j) a b' z = absurd z
         write_fail NoMemory a b' z = tt
         write_fail (TooLarge l) a b' z =
@@ -345,14 +345,14 @@ module _ (run : Run) (problem : Problem) (ints : List ℤ) (h : IsRun run proble
               stops = (sym z.0, (z.1.0, z.1.1, point_trans _ _ _ z.1.2 there, z.1.3));
             }))
 
-    no_write : is_made kind.Point (named c) ≡ false → AllByRecursion (Passes p run.placed) (W p w k c at)
+    no_write : is_made kind.Point (named c) ≡ false → AllByRecursion (Succeeds p run.placed) (W p w k c at)
     no_write b =
-        subst (λ ts. AllByRecursion (Passes p run.placed) ts)
+        subst (λ ts. AllByRecursion (Succeeds p run.placed) ts)
         (sym (ap (λ (z : Bool). at_line (suc k) (elim z [ true ↦ write (further (n p w k c at) (hidden Two c)) ∷ [] | false ↦ [] ])) b)) tt
 
     -- what is told of the command: the triple of its point, where it names one
     pub record IsTold (told : List Triple) : Type 0 where
-      pub written : AllByRecursion (Passes p run.placed) (W p w k c at)
+      pub written : AllByRecursion (Succeeds p run.placed) (W p w k c at)
       pub long : length told ≡ counted kind.Point (named c) (x p w k c at)
       pub triples : (a : ℕ) (u : Triple) → slice_get told a ≡ Some u → IsTripleOf u (run.placed.point (point_place Two p.commands a))
 
@@ -394,13 +394,13 @@ module _ (run : Run) (problem : Problem) (ints : List ℤ) (h : IsRun run proble
           tests_held run new nodes (length new.points.items) (length new.numbers.items) s.same (suc k) (late p w k c at)
           (before_list ++ first) second parts.late_listed held late_over items e m
 
-      late_pass : AllByRecursion (IsItemMet new nodes) items → AllByRecursion (Passes p run.placed) (L p w k c at)
+      late_pass : AllByRecursion (IsItemMet new nodes) items → AllByRecursion (Succeeds p run.placed) (L p w k c at)
       late_pass m =
           tests_pass run new nodes (length new.points.items) (length new.numbers.items) s.same (suc k) (late p w k c at)
           (before_list ++ first) second parts.late_listed held late_over items e m
 
-      pub late_fail : (error : PlaceError) → AllByRecursion (Passes p run.placed) (E p w k c at)
-          → AllByRecursion (Passes p run.placed) (K p w k c at) → AllByRecursion (Passes p run.placed) (W p w k c at)
+      pub late_fail : (error : PlaceError) → AllByRecursion (Succeeds p run.placed) (E p w k c at)
+          → AllByRecursion (Succeeds p run.placed) (K p w k c at) → AllByRecursion (Succeeds p run.placed) (W p w k c at)
           → FirstFails new nodes items middle error → Stops run (turns_of p) error
       late_fail error a b d f =
           late_stop p w k c at run.values run.placed run.conditions error t.passed a b d
@@ -411,7 +411,7 @@ module _ (run : Run) (problem : Problem) (ints : List ℤ) (h : IsRun run proble
           let v : middle ≡ length (before_list ++ first) = omega (arith, q, r) in v) f))
 
       -- all is done for the command
-      pub taken_next : (told : List Triple) → IsTold told → AllByRecursion (Passes p run.placed) (E p w k c at) → AllByRecursion (Passes p run.placed) (K p w k c at)
+      pub taken_next : (told : List Triple) → IsTold told → AllByRecursion (Succeeds p run.placed) (E p w k c at) → AllByRecursion (Succeeds p run.placed) (K p w k c at)
           → AllByRecursion (IsItemMet new nodes) items → (progress : Progress) → progress.sketch ≡ new → progress.tested ≡ count → progress.triples.items ≡ told → IsTaken run (suc k) progress
       taken_next told v a b m progress ps pt pu =
           let lists : take progress.tested run.conditions ≡ (before_list ++ first) ++ second =

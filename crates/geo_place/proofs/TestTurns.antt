@@ -20,7 +20,7 @@ use Rattle.geo_conditions.specs.Terms.{condition_term}
 use Rattle.geo_place.specs.declared.errors.PlaceError.{PlaceError}
 use Rattle.geo_place.specs.declared.errors.PlaceError.TheVariants.{NoMemory, TooLarge, Unmet}
 use Rattle.geo_place.specs.declared.sketch.Sketch.{Sketch}
-use Rattle.geo_place.specs.Evaluation.{LineTurn, Passes, at_line, test}
+use Rattle.geo_place.specs.Evaluation.{LineTurn, Succeeds, at_line, test}
 use Rattle.geo_place.specs.Formulas.{reckoned}
 use Rattle.geo_place.specs.Inner.{FailsItem, FirstFails, IsItemMet, IsPassed, Run, Stop, StopsAt, Stops, placement_of}
 use Rattle.geo_place.specs.Reckonings.{Overflows, number}
@@ -57,7 +57,7 @@ tests_found line (c ∷ cs) = ap (λ (ts : List LineTurn). record { line = line;
 
 module _ (run : Run) where
   abbrev Pass : LineTurn → Type 0
-  Pass t = Passes run.program run.placed t
+  Pass t = Succeeds run.program run.placed t
 
   found_pass : (fs : List Found) → AllByRecursion (λ f. IsPassed run f.condition) fs → AllByRecursion Pass (map found_turn fs)
   found_pass [] h = tt

@@ -29,7 +29,7 @@ use Rattle.geo_place.specs.declared.positions.Position.{Position}
 use Rattle.geo_place.specs.declared.positions.Reckoned.{Reckoned}
 use Rattle.geo_place.specs.declared.sketch.Sketch.{Sketch}
 use Rattle.geo_place.specs.declared.triples.Triple.{Triple}
-use Rattle.geo_place.specs.Evaluation.{EndsAs, IsLeast, IsListedAt, IsReckoned, IsRight, IsTooLarge, IsTriplePast, LineTurn, Passes, test, too_large, turns_from, unmet}
+use Rattle.geo_place.specs.Evaluation.{EndsAs, IsLeast, IsListedAt, IsReckoned, IsRight, TurnOverflows, IsTriplePast, LineTurn, Succeeds, test, too_large, turns_from, unmet}
 use Rattle.geo_place.specs.Formulas.{Spot, reckoned}
 use Rattle.geo_place.specs.Reckonings.{HasResult, Overflows, Reckoning, number}
 
@@ -160,9 +160,9 @@ pub record IsSketchOf (run : Run) (sketch : Sketch) : Type 0 where
 -- the turn stops evaluation with this error
 abbrev pub StopsAt : Run → LineTurn → PlaceError → Type 0
 StopsAt run t (Unmet k) =
-    (c : Condition) × (t.turn ≡ test c) × IsListedAt run.program c k × (IsTooLarge run.program run.placed t.turn → ⊥)
+    (c : Condition) × (t.turn ≡ test c) × IsListedAt run.program c k × (TurnOverflows run.program run.placed t.turn → ⊥)
     × (IsRight run.program run.placed t.turn → ⊥)
-StopsAt run t (TooLarge line) = (t.line ≡ line) × IsTooLarge run.program run.placed t.turn
+StopsAt run t (TooLarge line) = (t.line ≡ line) × TurnOverflows run.program run.placed t.turn
 StopsAt run t NoMemory = ⊥
 
 -- one of these turns stops evaluation with this error, and all before it pass
@@ -171,7 +171,7 @@ pub record Stop (run : Run) (turns : List LineTurn) (error : PlaceError) : Type 
   pub turn : LineTurn
   pub after : List LineTurn
   pub parts : turns ≡ before ++ turn ∷ after
-  pub passed : AllByRecursion (Passes run.program run.placed) before
+  pub passed : AllByRecursion (Succeeds run.program run.placed) before
   pub stops : StopsAt run turn error
 
 -- evaluation stops with this error, unless memory is wanting
@@ -181,7 +181,7 @@ Stops run turns error = Stop run turns error
 
 -- the condition passes its test
 abbrev pub IsPassed : Run → Condition → Type 0
-IsPassed run c = (IsTooLarge run.program run.placed (test c) → ⊥) × IsRight run.program run.placed (test c)
+IsPassed run c = (TurnOverflows run.program run.placed (test c) → ⊥) × IsRight run.program run.placed (test c)
 
 -- the first k commands are evaluated, and all their turns pass
 pub record IsTaken (run : Run) (k : ℕ) (progress : Progress) : Type 0 where
@@ -194,7 +194,7 @@ pub record IsTaken (run : Run) (k : ℕ) (progress : Progress) : Type 0 where
   pub told : length progress.triples.items ≡ points_from 0 (take k run.program.commands)
   pub triples : (a : ℕ) (t : Triple) → slice_get progress.triples.items a ≡ Some t
       → IsTripleOf t (run.placed.point (point_place Two run.program.commands a))
-  pub passed : AllByRecursion (Passes run.program run.placed) (turns_from run.program 1 0 0 0 (take k run.program.commands))
+  pub passed : AllByRecursion (Succeeds run.program run.placed) (turns_from run.program 1 0 0 0 (take k run.program.commands))
 
 -- evaluation ends with this error, unless memory is wanting
 abbrev pub EndsWith : Run → PlaceError → Type 0

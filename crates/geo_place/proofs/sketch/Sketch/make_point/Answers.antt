@@ -1,7 +1,7 @@
 use Rattle.std.proofs.Common.{◌≡◌, ◌+◌, length, arith, refl, sym, ◌∙◌, ap, subst}
 use Rattle.std.specs.Prelude.{Option, Some, None, slice_get}
 use Rattle.geo_lowering.specs.StepForms.{StepForm, step_form}
-use Rattle.geo_place.specs.Evaluation.{IsTooLarge, make}
+use Rattle.geo_place.specs.Evaluation.{TurnOverflows, make}
 use Rattle.geo_place.proofs.MakeTurns.{sketch_next}
 use Rattle.geo_place.proofs.NextPoints.{at_form, free_few}
 use Rattle.geo_place.proofs.sketch.Sketch.make_point.Goals as goal
@@ -35,4 +35,4 @@ returns-clause-passed g c = λ f e.
     let at : slice_get q.steps.steps (length old.points.items) ≡ Some c.step-step.result = subst
     (λ i. slice_get q.steps.steps i ≡ Some c.step-step.result) (c.len.ensures ∙ c.args.self.now.points.ok.0) c.step-step.ensures in
     let same : form ≡ f = ap (λ (o : Option StepForm). elim o [ None ↦ form | Some z ↦ z ]) (sym (at_form g.run q c.args.values.now c.requires.0 old c.requires.1.0 c.step-step.result at) ∙ e) in
-    subst (λ z. IsTooLarge g.run.program g.run.placed (make (length old.points.items) z) → ⊥) same c.in_ok-position.ensures.passed
+    subst (λ z. TurnOverflows g.run.program g.run.placed (make (length old.points.items) z) → ⊥) same c.in_ok-position.ensures.passed
