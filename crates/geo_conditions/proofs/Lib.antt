@@ -23,3 +23,4 @@ pub mod StillLowered
 pub mod Sights
 pub mod Sightings
 pub mod SamePrograms
+pub mod RelationItems

@@ -15,6 +15,7 @@ pub mod laws;
 mod problem;
 mod program_conditions;
 mod program_items;
+mod relation_items;
 mod renaming;
 
 pub use condition_items::condition_text;
@@ -24,4 +25,5 @@ pub use items::{Conditions, Goals, Item};
 pub use problem::{Problem, list};
 pub use program_conditions::{list_program, next_point};
 pub use program_items::list_items;
+pub use relation_items::relation_item;
 pub use renaming::{point_at, rename_terms};

@@ -20,9 +20,6 @@ pub spaced_one : (lexeme : Lexeme) → spaced_text (lexeme ∷ []) ≡ 32 ∷ le
 unfolding spaced_text
 spaced_one lexeme = append-nil (32 ∷ lexeme_text lexeme)
 
-unfolding spaced_text
-spaced-nil = refl
-
 -- a line is its first lexeme and the others with spaces before them
 pub line_text-spaced : (lexeme : Lexeme) (lexemes : List Lexeme) → line_text (lexeme ∷ lexemes) ≡ lexeme_text lexeme ++ spaced_text lexemes
 unfolding spaced_text
