@@ -4,7 +4,8 @@ use Rattle.std.specs.Prelude.{slice_index_or}
 use Rattle.geo_points.specs.declared.ids.PointId.{PointId}
 use Rattle.geo_terms.specs.Stores.{Store}
 use Rattle.geo_program.specs.declared.statements.Statement.{Statement}
-use Rattle.geo_program.specs.declared.statements.Statement.TheVariants.{Equal, Collinear, Parallel, Perpendicular, Identical, Midpoint, SameLength, Harmonic, Concyclic}
+use Rattle.geo_program.specs.declared.statements.Statement.TheVariants.{Equal, Collinear, Parallel, Perpendicular, Identical, Midpoint}
+use Rattle.geo_program.specs.declared.statements.Statement.TheVariants.{SameLength, Harmonic, Concyclic}
 use Rattle.geo_program.specs.Relations.{IsRelation}
 use Rattle.geo_program.specs.WellFormed.{Source}
 use Rattle.geo_lowering.specs.Counting.{param_places}
@@ -16,9 +17,14 @@ use Rattle.geo_conditions.specs.Terms.{goal_term}
 module _ (version : Version) (p : Source) where
   -- with these places of points
   abbrev layout_with : List ℕ → Layout
-  layout_with places = record { point = λ a. slice_index_or places a 0; line = line_place version p.commands; param = param_place p.commands }
+  layout_with places = record {
+    point = λ a. slice_index_or places a 0;
+    line = line_place version p.commands;
+    param = param_place p.commands;
+  }
 
-  term_with : (points : List PointId) (nodes : Store) (s : Statement) → IsRelation s → item_tree nodes (goal_item_term points [] s) ≡ goal_term (layout_with (map (λ a. a.0) points)) p.nodes s
+  term_with : (points : List PointId) (nodes : Store) (s : Statement) → IsRelation s
+      → item_tree nodes (goal_item_term points [] s) ≡ goal_term (layout_with (map (λ a. a.0) points)) p.nodes s
   term_with points nodes (Equal e f) r = absurd r
   term_with points nodes (Collinear a b c) r = refl
   term_with points nodes (Parallel a b c d) r = refl
@@ -29,9 +35,11 @@ module _ (version : Version) (p : Source) where
   term_with points nodes (Harmonic a b c d) r = refl
   term_with points nodes (Concyclic a b c d) r = refl
 
-  pub relation_term : (points : List PointId) (nodes : Store) (s : Statement) → IsRelation s → map (λ a. a.0) points ≡ point_places version 0 p.commands
+  pub relation_term : (points : List PointId) (nodes : Store) (s : Statement) → IsRelation s
+      → map (λ a. a.0) points ≡ point_places version 0 p.commands
       → item_tree nodes (goal_item_term points [] s) ≡ goal_term (layout_of version p.commands) p.nodes s
-  relation_term points nodes s r places = term_with points nodes s r ∙ ap (λ (xs : List ℕ). goal_term (layout_with xs) p.nodes s) places
+  relation_term points nodes s r places =
+      term_with points nodes s r ∙ ap (λ (xs : List ℕ). goal_term (layout_with xs) p.nodes s) places
 
 -- relations have no sides, and their terms none that stand in a store
 pub no_sides : (n : ℕ) (s : Statement) → IsRelation s → AreSidesWithin n s
