@@ -71,7 +71,7 @@ IsNumberAt-run bytes start end run decimal =
     }
 
 -- a digit with the digits after it is a number
-number_of_digit : (bytes : List ℕ) (start end : ℕ) → start < length bytes → is_digit (get_or bytes start 0) ≡ true → IsRun is_digit bytes (start + 1) end → IsDecimal (slice_range bytes start end)
+pub number_of_digit : (bytes : List ℕ) (start end : ℕ) → start < length bytes → is_digit (get_or bytes start 0) ≡ true → IsRun is_digit bytes (start + 1) end → IsDecimal (slice_range bytes start end)
 number_of_digit bytes start end inside digit run =
     let onward = run.onward in
     let rest = slice_range bytes (start + 1) end in
@@ -79,7 +79,7 @@ number_of_digit bytes start end inside digit run =
     (decimal_digits (get_or bytes start 0) rest digit (list_all-from_AllPass is_digit rest run.all))
 
 -- and so is a `-` with one or more digits after it
-number_of_minus : (bytes : List ℕ) (start end : ℕ) → start < length bytes → get_or bytes start 0 ≡ 45 → start + 1 < end → IsRun is_digit bytes (start + 1) end → IsDecimal (slice_range bytes start end)
+pub number_of_minus : (bytes : List ℕ) (start end : ℕ) → start < length bytes → get_or bytes start 0 ≡ 45 → start + 1 < end → IsRun is_digit bytes (start + 1) end → IsDecimal (slice_range bytes start end)
 number_of_minus bytes start end inside minus more run =
     let within = run.within in
     let rest = slice_range bytes (start + 1) end in
@@ -88,7 +88,7 @@ number_of_minus bytes start end inside minus more run =
     (decimal_minus (get_or bytes start 0) rest minus some (list_all-from_AllPass is_digit rest run.all))
 
 -- a `-` whose run of digits is empty begins nothing
-bare_minus : (bytes : List ℕ) (start : ℕ) → start < length bytes → get_or bytes start 0 ≡ 45 → StopsAt is_digit bytes (start + 1) → BeginsNothing bytes start
+pub bare_minus : (bytes : List ℕ) (start : ℕ) → start < length bytes → get_or bytes start 0 ≡ 45 → StopsAt is_digit bytes (start + 1) → BeginsNothing bytes start
 bare_minus bytes start inside minus stops = record {
   within = inside;
   no_word = rw minus refl;

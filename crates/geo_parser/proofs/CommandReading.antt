@@ -1,6 +1,6 @@
 -- Reading the words and the names of commands.
 use Rattle.std.proofs.Common.{◌≡◌, true≢false, ℕ, zero, suc, ◌+◌, ◌<◌, ◌≤◌, Bool, true, false, cond, List, [], ◌∷◌, ◌++◌, length, get_or}
-use Rattle.std.proofs.Common.{map, Some, None, is_some, codes, refl, sym, ap, ◌∙◌, subst, subst₂, arith, length-append}
+use Rattle.std.proofs.Common.{map, Some, None, is_some, codes, refl, sym, ap, ◌∙◌, subst, arith, length-append}
 use Rattle.std.specs.Prelude.{All, Contains, Option, find, if◌then◌else◌, nat_le, option_map}
 use Rattle.std.specs.List.{flat_map}
 use Rattle.std.proofs.lemmas.List.{append-nil, length-map}
@@ -147,7 +147,7 @@ undeclared : (names : List Name) (word : List ℕ) → name_of names word ≡ No
 undeclared names word none there = undeclared_at names word none there.0 (omega (arith, there.1, length-map names (λ (n : Name). n.text))) there.2
 
 -- what is due behind the word of a command with a new name
-due_named : (word : CommandWord) (kind : NameKind) → command_kind word ≡ Some kind → command_due word ≡ new_name_slot kind (command_points word) ∷ command_slots word
+pub due_named : (word : CommandWord) (kind : NameKind) → command_kind word ≡ Some kind → command_due word ≡ new_name_slot kind (command_points word) ∷ command_slots word
 due_named word kind h = ap (λ k. elim k [ None ↦ command_slots word | Some kind ↦ new_name_slot kind (command_points word) ∷ command_slots word ]) h
 
 -- the kinds that the form of a command makes
@@ -210,7 +210,7 @@ points_unnamed Point h = absurd (true≢false (ap is_some h))
 points_unnamed _ h = absurd (true≢false (ap is_some h))
 
 module _ (word : CommandWord) (has : command_kind word ≡ None) (a : Reader) where
-  due_unnamed : command_slots word ≡ command_due word
+  pub due_unnamed : command_slots word ≡ command_due word
   due_unnamed = ap (λ k. elim k [ None ↦ command_slots word | Some kind ↦ new_name_slot kind (command_points word) ∷ command_slots word ]) (sym has)
 
   pub Refuses-unnamed : (f : Fault) → Refuses (command_slots word) a f → Refuses (command_due word) a f

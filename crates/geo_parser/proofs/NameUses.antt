@@ -1,5 +1,5 @@
 -- What comes of a word where a name is due.
-use Rattle.std.proofs.Common.{◌≡◌, ℕ, ◌+◌, Bool, false, List, [], ◌∷◌, Some, None, ap, ◌∙◌}
+use Rattle.std.proofs.Common.{◌≡◌, ℕ, ◌+◌, Bool, true, false, List, [], ◌∷◌, Some, None, ap, ◌∙◌}
 use Rattle.std.specs.Prelude.{Option, if◌then◌else◌, nat_le}
 use Rattle.geo_program.specs.declared.names.Name.{Name}
 use Rattle.geo_program.specs.declared.names.NameKind.{NameKind}
@@ -23,6 +23,9 @@ declared_name_lem : (r : Reading) (names : List Name) (word : List ℕ) (o : Opt
 declared_name_lem r names word o e h = ap (λ ns. name_of ns word) e ∙ h
 
 module _ (r : Reading) (names : List Name) (same : r.declared ≡ names) (kind : NameKind) (word : List ℕ) (rest : List Slot) where
+  pub use_name-reserved : is_reserved word ≡ true → use_name r kind word rest ≡ refused 4
+  use_name-reserved h = ap (λ b. by_reserved b (declared_name r word) r kind rest) h
+
   pub use_name-unknown : is_reserved word ≡ false → name_of names word ≡ None → use_name r kind word rest ≡ refused 5
   use_name-unknown h none =
       ap (λ b. by_reserved b (declared_name r word) r kind rest) h
@@ -51,6 +54,9 @@ begun r kind points word = record r { begun = (record { text = word; kind = kind
 module _ (r : Reading) (names : List Name) (same : r.declared ≡ names) (kind : NameKind) (points : ℕ) (word : List ℕ) (rest : List Slot) where
   abbrev few : Bool
   few = nat_le (r.points + points) 512
+
+  pub begin_name-reserved : is_reserved word ≡ true → begin_name r kind points word rest ≡ refused 4
+  begin_name-reserved h = ap (λ b. by_free b (declared_name r word) few (begun r kind points word) rest) h
 
   pub begin_name-declared : (name : Name) → is_reserved word ≡ false → name_of names word ≡ Some name → begin_name r kind points word rest ≡ refused 6
   begin_name-declared name h some =

@@ -43,7 +43,7 @@ first_fault-taken r r' slots rest (t ∷ ts) end stop l is may =
     ap (λ (o : Outcome). elim o [ refused refusal ↦ Some (fault_at t.1 refusal) | taken s more ↦ first_fault s more ts end stop ]) (ap (next r slots) same ∙ may)
 
 -- where it may not, it is refused
-first_fault-refused : (r : Reading) (slots : List Slot) (tokens : List (Lexeme × ℕ)) (end : ℕ) (stop : Option Fault) (l : Lexeme) (n : ℕ) → next_lexeme tokens ≡ Some l → next r slots l ≡ refused n
+pub first_fault-refused : (r : Reading) (slots : List Slot) (tokens : List (Lexeme × ℕ)) (end : ℕ) (stop : Option Fault) (l : Lexeme) (n : ℕ) → next_lexeme tokens ≡ Some l → next r slots l ≡ refused n
     → first_fault r slots tokens end stop ≡ Some (fault_here n tokens end stop)
 first_fault-refused r slots [] end stop l n is may = cc
 first_fault-refused r slots (t ∷ ts) end stop l n is may =
