@@ -58,14 +58,14 @@ begins (b ∷ bs) false = by (is_blank b) refl (is_comment_start b) refl (begins
     by true blank y comment outer inner =
         more_gap b bs false false
         (λ open_end front h.
-            ap (λ x. (x && is_gap open_end false front) || (is_comment_start b && is_gap open_end true front)) blank
-            ∙ ap (λ p. p || (is_comment_start b && is_gap open_end true front)) h)
+        ap (λ x. (x && is_gap open_end false front) || (is_comment_start b && is_gap open_end true front)) blank
+        ∙ ap (λ p. p || (is_comment_start b && is_gap open_end true front)) h)
         outer
     by false blank true comment outer inner =
         more_gap b bs false true
         (λ open_end front h.
-            ap (λ x. (x && is_gap open_end false front) || (is_comment_start b && is_gap open_end true front)) blank
-            ∙ ap (λ y. y && is_gap open_end true front) comment ∙ h)
+        ap (λ x. (x && is_gap open_end false front) || (is_comment_start b && is_gap open_end true front)) blank
+        ∙ ap (λ y. y && is_gap open_end true front) comment ∙ h)
         inner
     by false blank false comment outer inner =
         inr (record { front = []; next = b; rest = bs; split = refl; gap = refl; no_blank = blank; no_comment = comment })

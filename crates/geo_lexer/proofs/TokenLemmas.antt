@@ -79,7 +79,8 @@ number_of_digit bytes start end inside digit run =
     (decimal_digits (get_or bytes start 0) rest digit (list_all-from_AllPass is_digit rest run.all))
 
 -- and so is a `-` with one or more digits after it
-pub number_of_minus : (bytes : List ℕ) (start end : ℕ) → start < length bytes → get_or bytes start 0 ≡ 45 → start + 1 < end → IsRun is_digit bytes (start + 1) end → IsDecimal (slice_range bytes start end)
+pub number_of_minus : (bytes : List ℕ) (start end : ℕ) → start < length bytes → get_or bytes start 0 ≡ 45 → start + 1 < end
+    → IsRun is_digit bytes (start + 1) end → IsDecimal (slice_range bytes start end)
 number_of_minus bytes start end inside minus more run =
     let within = run.within in
     let rest = slice_range bytes (start + 1) end in

@@ -41,7 +41,9 @@ use Rattle.geo_parser.proofs.FormReading.{ReadsArguments-number, ReadsForm-made,
 use Rattle.geo_parser.proofs.NameUses.{begin_name-declared, begin_name-new, begin_name-reserved}
 use Rattle.geo_parser.proofs.Reading.{Extends-self, ReadsArguments-then, Reads-behind, Reads-token, advanced}
 use Rattle.geo_parser.proofs.Reserved.{not_reserved}
-use Rattle.geo_parser.proofs.Unrefused.{Unrefused, Unrefused-behind, Unrefused-past, Unrefused-then, four_points_read, line_read, never_refused, next_may_stand, next_there, point_read, three_points_read, two_points_read, word_there}
+use Rattle.geo_parser.proofs.Unrefused.{Unrefused, Unrefused-behind, Unrefused-past, Unrefused-then, four_points_read, line_read}
+use Rattle.geo_parser.proofs.Unrefused.{never_refused, next_may_stand, next_there, point_read, three_points_read, two_points_read}
+use Rattle.geo_parser.proofs.Unrefused.{word_there}
 use Rattle.geo_parser.proofs.UnrefusedExpressions.{number_read}
 
 -- TWO NUMBERS

@@ -1,5 +1,6 @@
 -- An expression is read where nothing is refused.
-use Rattle.std.proofs.Common.{◌≡◌, true≢false, ℕ, zero, suc, ◌+◌, ◌<◌, ◌≤◌, Bool, true, false, not, ◌&&◌, IsTrue, List, [], ◌∷◌, ◌++◌, length, map, ℤ, Option, Some, None, codes, refl, sym, ap, ◌∙◌, subst, arith}
+use Rattle.std.proofs.Common.{◌≡◌, true≢false, ℕ, zero, suc, ◌+◌, ◌<◌, ◌≤◌, Bool, true, false, not, ◌&&◌, IsTrue, List, [], ◌∷◌, ◌++◌}
+use Rattle.std.proofs.Common.{length, map, ℤ, Option, Some, None, codes, refl, sym, ap, ◌∙◌, subst, arith}
 use Rattle.std.specs.Prelude.{if◌then◌else◌, option_map}
 use Rattle.std.proofs.lemmas.List.{length_push}
 use Rattle.geo_points.specs.declared.ids.TermId.{TermId}
@@ -27,7 +28,8 @@ use Rattle.geo_parser.proofs.CommandsReading.{at_some}
 use Rattle.geo_parser.proofs.ExpressionReading.{ReadsFormed-area, ReadsFormed-difference, ReadsFormed-ratio, ReadsNode-form, ReadsNode-parameter, begin_expression-form, begin_expression-name}
 use Rattle.geo_parser.proofs.Finding.{due_behind-dues, is_text_self, text_found}
 use Rattle.geo_parser.proofs.Reading.{Extends-then, Reads-then, Reads-token, advanced, length-tail}
-use Rattle.geo_parser.proofs.Unrefused.{ReadsName-word, Unrefused, Unrefused-behind, Unrefused-then, close_read, four_points_read, never_refused, next_may_stand, next_there, numbered_word, open_read, three_points_read}
+use Rattle.geo_parser.proofs.Unrefused.{ReadsName-word, Unrefused, Unrefused-behind, Unrefused-then, close_read, four_points_read}
+use Rattle.geo_parser.proofs.Unrefused.{never_refused, next_may_stand, next_there, numbered_word, open_read, three_points_read}
 
 -- PARTS
 

@@ -1,5 +1,6 @@
 -- A program is read where nothing is refused: each text spells one, or it is refused.
-use Rattle.std.proofs.Common.{◌≡◌, true≢false, ℕ, zero, suc, ◌<◌, ◌≤◌, ◌⊎◌, Bool, true, false, List, [], ◌∷◌, ◌++◌, length, map, Option, Some, None, is_some, codes, refl, sym, ap, ◌∙◌, subst, inl, inr, arith}
+use Rattle.std.proofs.Common.{◌≡◌, true≢false, ℕ, zero, suc, ◌<◌, ◌≤◌, ◌⊎◌, Bool, true, false, List, [], ◌∷◌, ◌++◌, length, map, Option}
+use Rattle.std.proofs.Common.{Some, None, is_some, codes, refl, sym, ap, ◌∙◌, subst, inl, inr, arith}
 use Rattle.std.specs.Prelude.{All, option_map}
 use Rattle.std.specs.List.{flat_map}
 use Rattle.std.proofs.lemmas.List.{append-nil}
@@ -42,7 +43,9 @@ use Rattle.geo_parser.specs.declared.statement_words.TripleStatement.TheVariants
 use Rattle.geo_parser.specs.Forms.{Slot, close_slot, command_slot, commands, condition_slot, conditions, due_behind, end_slot, naming_commands, open_slot, side, statement_slot, statements}
 use Rattle.geo_parser.specs.Inner.Coming.{next_lexeme}
 use Rattle.geo_parser.specs.Inner.CommandWords.{command_condition, command_due, command_text, condition_slots, condition_text}
-use Rattle.geo_parser.specs.Inner.Reads.{Passes, Reads, ReadsAllCommands, ReadsArguments, ReadsCommands, ReadsCondition, ReadsPart, ReadsProve, ReadsStated, ReadsStatement, ReadsStatementWord, ReadsWord, fault_of, reading, scope, statement_slots}
+use Rattle.geo_parser.specs.Inner.Reads.{Passes, Reads, ReadsAllCommands, ReadsArguments, ReadsCommands, ReadsCondition, ReadsPart}
+use Rattle.geo_parser.specs.Inner.Reads.{ReadsProve, ReadsStated, ReadsStatement, ReadsStatementWord, ReadsWord, fault_of, reading, scope}
+use Rattle.geo_parser.specs.Inner.Reads.{statement_slots}
 use Rattle.geo_parser.specs.Inner.StatementWords.{statement_due, statement_text}
 use Rattle.geo_parser.specs.Laws.{TextsSpellOrAreRefused}
 use Rattle.geo_parser.specs.Refusals.{IsRefused, first_fault, placed_lexemes}
@@ -54,7 +57,8 @@ use Rattle.geo_parser.proofs.Finding.{due_behind-dues, same_text, text_found}
 use Rattle.geo_parser.proofs.FormReading.{ReadsStated-made, ReadsStatement-made}
 use Rattle.geo_parser.proofs.ProgramReading.{first_reader, lexemes-whole_text, read_source, refused_at, spelt, spelt_short}
 use Rattle.geo_parser.proofs.Reading.{Passes-then, Passes-token, ReadsArguments-then, advanced, first_fault-taken}
-use Rattle.geo_parser.proofs.Unrefused.{Unrefused, Unrefused-behind, Unrefused-past, Unrefused-then, close_read, four_points_read, never_refused, open_read, three_points_read, two_points_read, word_there}
+use Rattle.geo_parser.proofs.Unrefused.{Unrefused, Unrefused-behind, Unrefused-past, Unrefused-then, close_read, four_points_read}
+use Rattle.geo_parser.proofs.Unrefused.{never_refused, open_read, three_points_read, two_points_read, word_there}
 use Rattle.geo_parser.proofs.UnrefusedCommands.{command_read}
 use Rattle.geo_parser.proofs.UnrefusedExpressions.{part_read}
 use Rattle.geo_parser.proofs.Walks.{fault_on}
