@@ -1,6 +1,8 @@
 -- Each text has a lexing: from each place on there are tokens, up to the end or to a fault.
-use Rattle.std.proofs.Common.{◌≡◌, ◌≢◌, ◌==◌, ℕ, zero, suc, ◌+◌, ◌-◌, ◌<◌, ◌≤◌, ◌^◌, ◌⊎◌, Bool, true, false, ◌&&◌, ◌||◌, not, Option, Some, None, List, [], ◌∷◌, ◌++◌}
-use Rattle.std.proofs.Common.{length, take, drop, get_or, slice_range, refl, sym, ap, ◌∙◌, subst, inl, inr, arith, take_at, get_or-drop, length-drop, length-append}
+use Rattle.std.proofs.Common.{◌≡◌, ◌≢◌, ◌==◌, ℕ, zero, suc, ◌+◌, ◌-◌, ◌<◌, ◌≤◌, ◌^◌, ◌⊎◌, Bool, true}
+use Rattle.std.proofs.Common.{false, ◌&&◌, ◌||◌, not, Option, Some, None, List, [], ◌∷◌, ◌++◌}
+use Rattle.std.proofs.Common.{length, take, drop, get_or, slice_range, refl, sym, ap, ◌∙◌, subst, inl}
+use Rattle.std.proofs.Common.{inr, arith, take_at, get_or-drop, length-drop, length-append}
 use Rattle.std.specs.Prelude.{nat_le}
 use Rattle.std.specs.List.{prefix_len}
 use Rattle.std.proofs.Math.Nat.{eq-or-lt_of_le}
@@ -58,14 +60,14 @@ begins (b ∷ bs) false = by (is_blank b) refl (is_comment_start b) refl (begins
     by true blank y comment outer inner =
         more_gap b bs false false
         (λ open_end front h.
-            ap (λ x. (x && is_gap open_end false front) || (is_comment_start b && is_gap open_end true front)) blank
-            ∙ ap (λ p. p || (is_comment_start b && is_gap open_end true front)) h)
+        ap (λ x. (x && is_gap open_end false front) || (is_comment_start b && is_gap open_end true front)) blank
+        ∙ ap (λ p. p || (is_comment_start b && is_gap open_end true front)) h)
         outer
     by false blank true comment outer inner =
         more_gap b bs false true
         (λ open_end front h.
-            ap (λ x. (x && is_gap open_end false front) || (is_comment_start b && is_gap open_end true front)) blank
-            ∙ ap (λ y. y && is_gap open_end true front) comment ∙ h)
+        ap (λ x. (x && is_gap open_end false front) || (is_comment_start b && is_gap open_end true front)) blank
+        ∙ ap (λ y. y && is_gap open_end true front) comment ∙ h)
         inner
     by false blank false comment outer inner =
         inr (record { front = []; next = b; rest = bs; split = refl; gap = refl; no_blank = blank; no_comment = comment })
@@ -171,7 +173,8 @@ module _ (bytes : List ℕ) (start : ℕ) (inside : start < length bytes) where
       b : ℕ
       b = get_or bytes start 0
 
-      by : (letter : Bool) → is_letter b ≡ letter → (digit : Bool) → is_digit b ≡ digit → (minus : Bool) → (b == 45) ≡ minus → (opens : Bool) → (b == 123) ≡ opens
+      by : (letter : Bool) → is_letter b ≡ letter → (digit : Bool) → is_digit b ≡ digit → (minus : Bool) → (b == 45) ≡ minus
+          → (opens : Bool) → (b == 123) ≡ opens
           → (closes : Bool) → (b == 125) ≡ closes → IsTokenOrFault bytes start
       by true h digit k minus l opens m closes n = word_there h
       by false h true k minus l opens m closes n = number_there (number_of_digit bytes start digits_end inside k digits)
