@@ -3,6 +3,7 @@ pub mod OrderLemmas
 pub mod FaultPlaces
 pub mod ValuesDue
 pub mod OneDue
+pub mod SomeDue
 pub mod Answered
 pub mod ReadLogs
 pub mod Reported

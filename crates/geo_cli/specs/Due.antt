@@ -10,7 +10,7 @@ use Rattle.geo_cli.specs.Input.{IsInput, IsLong, log_limit, program_limit}
 use Rattle.geo_cli.specs.Orders.{IsOrder}
 use Rattle.geo_cli.specs.Status.{ending_status, refusal_status, verdict_status}
 use Rattle.geo_cli.specs.Values.{HasNoValuesLine, HasValuesLine, values_line}
-use Rattle.geo_cli.specs.Words.{IsNoCommand}
+use Rattle.geo_cli.specs.Words.{IsCheck, IsNoCommand, IsProve, IsText}
 use Rattle.geo_base.specs.declared.texts.Text.{Text as Written}
 use Rattle.geo_conditions.specs.Lists.{AreConditionItems, ItemForm}
 use Rattle.geo_conditions.specs.Truth.{ProgramValues, free_points, integers_of}
@@ -281,3 +281,10 @@ IsCommandCall (Bench number) steps left due = IsBenchDue number steps due
 -- what the words call for then
 abbrev pub IsCalledFor : List (List ℕ) → Option (List ℕ) → Due → Type 0
 IsCalledFor words left due = (order : Order) × IsOrder words order × IsCommandCall order.command order.steps left due
+
+-- the words are `prove`, `check` or `text`, with so many steps, and the source tells the bytes that it has left
+pub record AsksForLog (words : List (List ℕ)) (left : Option (List ℕ)) : Type 0 where
+  pub steps : ℕ
+  pub command : IsProve words steps ⊎ (IsCheck words steps ⊎ IsText words steps)
+  pub bytes : List ℕ
+  pub told : left ≡ Some bytes

@@ -1,7 +1,7 @@
 //! A run of the program, over any source and sink.
 ghost use Rattle.std.specs.Prelude.{◌≡◌, ◌≢◌, ◌≤◌, ◌⊎◌, ℕ};
 ghost use Rattle.geo_base.specs.Devices.{Grows, HasRisen};
-ghost use Rattle.geo_cli.specs.Due.{Due, IsCalledFor};
+ghost use Rattle.geo_cli.specs.Due.{AsksForLog, Due, IsCalledFor};
 ghost use Rattle.geo_cli.specs.Inner.Answering.{AnswersCommand, HasNumber};
 ghost use Rattle.geo_cli.specs.Enough.{AsksForFirstForm, IsDecisive};
 ghost use Rattle.geo_cli.specs.Input.{Takes, limit_of};
@@ -66,6 +66,8 @@ pub fn run<S: Source, K: Sink>(
         → IsCalledFor (bytes_of_words words.now.items) (S.left source.old) due
         → IsCalledFor (bytes_of_words words.now.items) (S.left source.old) other
         → due ≡ other }
+    ensures some { AsksForLog (bytes_of_words words.now.items) (S.left source.old)
+        → (due : Due) × IsCalledFor (bytes_of_words words.now.items) (S.left source.old) due }
     ensures taken { (order : Order) → IsOrder (bytes_of_words words.now.items) order
         → Takes (limit_of order.command) (S.left source.old) (S.left source.new) }
     ensures unread { ReadsNothing (bytes_of_words words.now.items) → source.new ≡ source.old }

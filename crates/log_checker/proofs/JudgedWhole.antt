@@ -9,7 +9,7 @@ use Rattle.proof_log.specs.declared.log.Line.{Line}
 use Rattle.proof_log.specs.declared.log.Line.TheVariants.{Header, Program as ProgramLine}
 use Rattle.proof_log.specs.declared.log.Verdict.{Verdict}
 use Rattle.proof_log.specs.Lines.{line_text, log_text}
-use Rattle.proof_log.specs.Writable.{AllWritable}
+use Rattle.proof_log.specs.Writable.{AllWritable, HasNoLineFeed}
 use Rattle.elim_apply.specs.LemmaTable.{lemma_table}
 use Rattle.geo_logs.specs.Chains.{IsAcceptedChain, LeadsTo}
 use Rattle.geo_logs.specs.Judging.{IsFirstRefusal, IsGoodSoFar, IsGoodToEnd, IsRefused, Refusal, bad_line, number_after, rejected, unfinished, wrong_line, wrong_program}
@@ -18,13 +18,14 @@ use Rattle.geo_logs.specs.Places.{Place}
 use Rattle.geo_logs.specs.Samples.{IsAcceptedSample}
 use Rattle.log_checker.specs.Accepted.{Accepts, IsShortProgram}
 use Rattle.log_checker.specs.Judged.{AcceptedWhereNotRefused, AreRead, BeginsWithProgram, BytesAreJudged, GoesOnWith, IsFirstStop, IsJudged}
-use Rattle.log_checker.specs.Judged.{IsOfProgramOrNone, IsProgramOver, IsReadable, Refuses, RestsAreJudged}
+use Rattle.log_checker.specs.Judged.{IsProgramOver, IsReadable, Refuses, RestsAreJudged}
 use Rattle.log_checker.specs.Subjects.{IsSubjectOf, source_lines}
 use Rattle.log_checker.proofs.AcceptedBytes.{programs_have_subjects, text_of_lines}
 use Rattle.log_checker.proofs.VersionNumbers.{version_told}
 use Rattle.log_checker.proofs.Judged.{accepted_bytes_are_not_refused}
 use Rattle.log_checker.proofs.ReadLines.{bytes_are_read}
 use Rattle.log_checker.proofs.Onwards.{conditions_start}
+use Rattle.log_checker.proofs.ProgramTexts.{IsOfProgramOrNone, of_program_or_none}
 use Rattle.log_checker.proofs.Stepping.{Ends, closed, lines_go_on_or_are_refused}
 
 -- BEHIND THE PROGRAM
@@ -220,26 +221,31 @@ rest_readable : (texts : List (List ℕ)) (rest : List (Option Line)) → AllByR
 rest_readable [] rest h = h
 rest_readable (t ∷ ts) rest h = rest_readable ts rest h.1
 
-judged_reads : (bytes : List ℕ) (steps : ℕ) (reads : List (Option Line)) → AreRead bytes reads → length bytes ≤ 268435456
-    → ((first : BeginsWithProgram reads) → IsOfProgramOrNone first.texts) → Outcome bytes steps
-judged_reads bytes steps reads are small decided = go reads are decided
+-- and each text of them has no line feed
+texts_readable : (texts : List (List ℕ)) (rest : List (Option Line)) → AllByRecursion IsReadable (map (λ text. Some (ProgramLine text)) texts ++ rest) → AllByRecursion HasNoLineFeed texts
+texts_readable [] rest h = tt
+texts_readable (t ∷ ts) rest h = (h.0, texts_readable ts rest h.1)
+
+judged_reads : (bytes : List ℕ) (steps : ℕ) (reads : List (Option Line)) → AreRead bytes reads → length bytes ≤ 268435456 → Outcome bytes steps
+judged_reads bytes steps reads are small = go reads are
   where
-    go : (rs : List (Option Line)) → AreRead bytes rs → ((first : BeginsWithProgram rs) → IsOfProgramOrNone first.texts) → Outcome bytes steps
-    go [] h d = stop bytes steps [] 1 (rejected unfinished) h (inl (refl, refl))
-    go (None ∷ rs) h d = stop bytes steps (None ∷ rs) 1 (rejected bad_line) h (inl (refl, refl))
-    go (Some (Header version) ∷ rs) h d =
+    go : (rs : List (Option Line)) → AreRead bytes rs → Outcome bytes steps
+    go [] h = stop bytes steps [] 1 (rejected unfinished) h (inl (refl, refl))
+    go (None ∷ rs) h = stop bytes steps (None ∷ rs) 1 (rejected bad_line) h (inl (refl, refl))
+    go (Some (Header version) ∷ rs) h =
         let parts = parted rs in
         let first : BeginsWithProgram (Some (Header version) ∷ rs) =
         record { version = version; texts = parts.texts; rest = parts.rest; split = ap (λ (ys : List (Option Line)). Some (Header version) ∷ ys) parts.split; over = parts.over } in
-        let all = (readable bytes (Some (Header version) ∷ rs) h).1 in
-        behind_program bytes steps (Some (Header version) ∷ rs) h first small parts.rest refl (d first) (rest_readable parts.texts parts.rest (subst (AllByRecursion IsReadable) parts.split all))
-    go (Some line ∷ rs) h d = stop bytes steps (Some line ∷ rs) 1 (rejected wrong_line) h (inl (refl, refl))
+        let all = subst (AllByRecursion IsReadable) parts.split (readable bytes (Some (Header version) ∷ rs) h).1 in
+        let known = of_program_or_none parts.texts (texts_readable parts.texts parts.rest all) in
+        behind_program bytes steps (Some (Header version) ∷ rs) h first small parts.rest refl known (rest_readable parts.texts parts.rest all)
+    go (Some line ∷ rs) h = stop bytes steps (Some line ∷ rs) 1 (rejected wrong_line) h (inl (refl, refl))
 
 pub bytes_are_judged : BytesAreJudged
-bytes_are_judged bytes steps small known = let read = bytes_are_read bytes in judged_reads bytes steps read.0 read.1 small (known read.0 read.1)
+bytes_are_judged bytes steps small = let read = bytes_are_read bytes in judged_reads bytes steps read.0 read.1 small
 
 pub accepted_where_not_refused : AcceptedWhereNotRefused
-accepted_where_not_refused bytes steps small known = (only, (λ none. where_not (bytes_are_judged bytes steps small known) none))
+accepted_where_not_refused bytes steps small = (only, (λ none. where_not (bytes_are_judged bytes steps small) none))
   where
     only : (p : Source) × (verdict : Verdict) × Accepts bytes steps p verdict → (number : ℕ) (refusal : Refusal) → Refuses bytes steps number refusal → ⊥
     only (p, verdict, a) number refusal r = accepted_bytes_are_not_refused bytes steps number p verdict refusal a r
