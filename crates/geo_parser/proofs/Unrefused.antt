@@ -1,5 +1,6 @@
 -- What is read where nothing is refused: the next token, names, points and braces.
-use Rattle.std.proofs.Common.{◌≡◌, true≢false, ℕ, suc, ◌<◌, ◌≤◌, Bool, true, false, cond, List, [], ◌∷◌, ◌++◌, length, get_or, ℤ, Option, Some, None, is_some, refl, sym, ap, ◌∙◌, subst, arith}
+use Rattle.std.proofs.Common.{◌≡◌, true≢false, ℕ, suc, ◌<◌, ◌≤◌, Bool, true, false, cond, List, [], ◌∷◌, ◌++◌, length}
+use Rattle.std.proofs.Common.{get_or, ℤ, Option, Some, None, is_some, refl, sym, ap, ◌∙◌, subst, arith}
 use Rattle.std.specs.Prelude.{All, if◌then◌else◌, nat_le, option_map}
 use Rattle.std.specs.List.{cons_option}
 use Rattle.std.proofs.lemmas.Bool.Decides.{nat_tests}
@@ -23,7 +24,8 @@ use Rattle.geo_parser.specs.Slots.{Reading, is_reserved, next, refusal_at_end, r
 use Rattle.geo_parser.specs.Texts.{is_text}
 use Rattle.geo_parser.proofs.Finding.{same_text}
 use Rattle.geo_parser.proofs.NameUses.{use_name-known, use_name-reserved, use_name-unknown}
-use Rattle.geo_parser.proofs.Reading.{ReadsArguments-line, ReadsArguments-point, ReadsArguments-then, Reads-token, advanced, first_fault-refused, first_fault-taken, length-tail, lexemes_past}
+use Rattle.geo_parser.proofs.Reading.{ReadsArguments-line, ReadsArguments-point, ReadsArguments-then, Reads-token}
+use Rattle.geo_parser.proofs.Reading.{advanced, first_fault-refused, first_fault-taken, length-tail, lexemes_past}
 
 -- all that is to come may stand in a text, and where these things are due nothing of it is refused
 pub record Unrefused (s : Reader) (begun : List Name) (slots : List Slot) : Type 0 where
@@ -36,14 +38,16 @@ all_behind [] more h = h
 all_behind (l ∷ ls) more h = all_behind ls more (All-tail MayStand l (ls ++ more) h)
 
 -- behind what is read nothing is refused
-pub Unrefused-then : (due : List Slot) (s t : Reader) (ls : List Lexeme) (begun : List Name) (rest : List Slot) → Reads due s t ls → Unrefused s begun (due ++ rest) → Unrefused t begun rest
+pub Unrefused-then : (due : List Slot) (s t : Reader) (ls : List Lexeme) (begun : List Name) (rest : List Slot) → Reads due s t ls
+    → Unrefused s begun (due ++ rest) → Unrefused t begun rest
 Unrefused-then due s t ls begun rest h u = record {
   may = all_behind ls (lexemes_of t.cursor) (subst (All MayStand) h.passes.spelt u.may);
   none = sym (h.follows begun rest) ∙ u.none;
 }
 
 -- the same, by what is passed and how the search for a fault goes on
-pub Unrefused-past : (s t : Reader) (ls : List Lexeme) (begun begun' : List Name) (slots rest : List Slot) → Passes s t ls → fault_of s begun slots ≡ fault_of t begun' rest
+pub Unrefused-past : (s t : Reader) (ls : List Lexeme) (begun begun' : List Name) (slots rest : List Slot) → Passes s t ls
+    → fault_of s begun slots ≡ fault_of t begun' rest
     → Unrefused s begun slots → Unrefused t begun' rest
 Unrefused-past s t ls begun begun' slots rest h follows u = record {
   may = all_behind ls (lexemes_of t.cursor) (subst (All MayStand) h.spelt u.may);
@@ -98,13 +102,15 @@ pub record HasNumber (names : List Name) (kind : NameKind) (word : List ℕ) : T
   pub within : number < length (names_of kind names)
   pub text : name_text kind names number ≡ word
 
-has_number : (names : List Name) (kind : NameKind) (word : List ℕ) (name : Name) → name_of names word ≡ Some name → is_kind name.kind kind ≡ true → HasNumber names kind word
+has_number : (names : List Name) (kind : NameKind) (word : List ℕ) (name : Name) → name_of names word ≡ Some name → is_kind name.kind kind ≡ true
+    → HasNumber names kind word
 has_number [] kind word name h of_kind = absurd (true≢false (sym (ap is_some h)))
 has_number (n ∷ names) kind word name h of_kind = by (is_text n.text word) refl (is_kind n.kind kind) refl h (λ k. has_number names kind word name k of_kind)
   where
     here : (c : Bool) → is_kind n.kind kind ≡ c → c ≡ true → is_text n.text word ≡ true → HasNumber (n ∷ names) kind word
     here c kinds passed same =
-        let front : names_of kind (n ∷ names) ≡ n.text ∷ names_of kind names = ap (λ b. cons_option (if b then Some n.text else None) (names_of kind names)) (kinds ∙ passed) in record {
+        let front : names_of kind (n ∷ names) ≡ n.text ∷ names_of kind names =
+        ap (λ b. cons_option (if b then Some n.text else None) (names_of kind names)) (kinds ∙ passed) in record {
           number = 0;
           within = omega (arith, ap length front);
           text = ap (λ texts. get_or texts 0 []) front ∙ same_text n.text word same;
@@ -112,7 +118,8 @@ has_number (n ∷ names) kind word name h of_kind = by (is_text n.text word) ref
 
     later : (c : Bool) → is_kind n.kind kind ≡ c → HasNumber names kind word → HasNumber (n ∷ names) kind word
     later true kinds rest =
-        let front : names_of kind (n ∷ names) ≡ n.text ∷ names_of kind names = ap (λ b. cons_option (if b then Some n.text else None) (names_of kind names)) kinds in record {
+        let front : names_of kind (n ∷ names) ≡ n.text ∷ names_of kind names =
+        ap (λ b. cons_option (if b then Some n.text else None) (names_of kind names)) kinds in record {
           number = suc rest.number;
           within = omega (arith, ap length front, rest.within);
           text = ap (λ texts. get_or texts (suc rest.number) []) front ∙ rest.text;
@@ -139,7 +146,8 @@ numbered_word names begun points kind word rest never = by (is_reserved word) re
     r : Reading
     r = reading names begun points
 
-    of : is_reserved word ≡ false → (name : Name) → name_of names word ≡ Some name → (c : Bool) → is_kind name.kind kind ≡ c → (k : ℕ) × IsNumbered names kind word k
+    of : is_reserved word ≡ false → (name : Name) → name_of names word ≡ Some name → (c : Bool) → is_kind name.kind kind ≡ c
+        → (k : ℕ) × IsNumbered names kind word k
     of free name found true kinds =
         let h = has_number names kind word name found kinds in (
           h.number,
@@ -157,7 +165,8 @@ numbered_word names begun points kind word rest never = by (is_reserved word) re
     by false free (Some name) found = of free name found (is_kind name.kind kind) refl
 
 -- such a word is read
-pub ReadsName-word : (s : Reader) (kind : NameKind) (word : List ℕ) → next_lexeme s.cursor.tokens ≡ Some (word_lexeme word) → (k : ℕ) → IsNumbered s.names kind word k → ReadsName kind s (advanced s) k
+pub ReadsName-word : (s : Reader) (kind : NameKind) (word : List ℕ) → next_lexeme s.cursor.tokens ≡ Some (word_lexeme word) → (k : ℕ)
+    → IsNumbered s.names kind word k → ReadsName kind s (advanced s) k
 ReadsName-word s kind word is k found =
     let due = name_slot kind ∷ [] in
     let read = Reads-token due s (word_lexeme word) is (λ begun rest. found.may_stand (reading s.names begun s.points) rest refl) in
@@ -168,17 +177,20 @@ ReadsName-word s kind word is k found =
 -- WHAT IS READ WHERE IT IS DUE
 
 -- a declared name
-pub name_read : (kind : NameKind) (s : Reader) (begun : List Name) (rest : List Slot) → Unrefused s begun (name_slot kind ∷ rest) → (t : Reader) × (k : ℕ) × ReadsName kind s t k
+pub name_read : (kind : NameKind) (s : Reader) (begun : List Name) (rest : List Slot) → Unrefused s begun (name_slot kind ∷ rest)
+    → (t : Reader) × (k : ℕ) × ReadsName kind s t k
 name_read kind s begun rest u =
     let w = word_there s begun (name_slot kind ∷ rest) u 4 refl (λ z. refl) refl refl in
     let found = numbered_word s.names begun s.points kind w.0 rest (never_refused s begun (name_slot kind ∷ rest) u (word_lexeme w.0) w.1) in
     (advanced s, found.0, ReadsName-word s kind w.0 w.1 found.0 found.1)
 
 -- one point, or as many as are due
-pub point_read : (s : Reader) (begun : List Name) (rest : List Slot) → Unrefused s begun (a_point ∷ rest) → (t : Reader) × (a : PointId) × ReadsArguments (point_argument a ∷ []) s t
+pub point_read : (s : Reader) (begun : List Name) (rest : List Slot) → Unrefused s begun (a_point ∷ rest)
+    → (t : Reader) × (a : PointId) × ReadsArguments (point_argument a ∷ []) s t
 point_read s begun rest u = let n = name_read Point s begun rest u in (n.0, record { 0 = n.1 }, ReadsArguments-point s n.0 n.1 n.2)
 
-pub line_read : (s : Reader) (begun : List Name) (rest : List Slot) → Unrefused s begun (a_line ∷ rest) → (t : Reader) × (a : LineId) × ReadsArguments (line_argument a ∷ []) s t
+pub line_read : (s : Reader) (begun : List Name) (rest : List Slot) → Unrefused s begun (a_line ∷ rest)
+    → (t : Reader) × (a : LineId) × ReadsArguments (line_argument a ∷ []) s t
 line_read s begun rest u = let n = name_read Line s begun rest u in (n.0, record { 0 = n.1 }, ReadsArguments-line s n.0 n.1 n.2)
 
 pub two_points_read : (s : Reader) (begun : List Name) (rest : List Slot) → Unrefused s begun (a_point ∷ a_point ∷ rest)
@@ -196,7 +208,8 @@ three_points_read s begun rest u =
     (q.0, p.1, q.1, q.2, ReadsArguments-then (point_argument p.1 ∷ []) (point_argument q.1 ∷ point_argument q.2 ∷ []) s p.0 q.0 p.2 q.3)
 
 pub four_points_read : (s : Reader) (begun : List Name) (rest : List Slot) → Unrefused s begun (a_point ∷ a_point ∷ a_point ∷ a_point ∷ rest)
-    → (t : Reader) × (a : PointId) × (b : PointId) × (c : PointId) × (d : PointId) × ReadsArguments (point_argument a ∷ point_argument b ∷ point_argument c ∷ point_argument d ∷ []) s t
+    → (t : Reader) × (a : PointId) × (b : PointId) × (c : PointId) × (d : PointId)
+    × ReadsArguments (point_argument a ∷ point_argument b ∷ point_argument c ∷ point_argument d ∷ []) s t
 four_points_read s begun rest u =
     let p = point_read s begun (a_point ∷ a_point ∷ a_point ∷ rest) u in
     let q = three_points_read p.0 begun rest (Unrefused-then (a_point ∷ []) s p.0 _ begun (a_point ∷ a_point ∷ a_point ∷ rest) p.2.reads u) in
@@ -225,7 +238,8 @@ open_read level s begun rest u = let found = next_there s begun (open_slot level
     by close_brace is = absurd (never_refused s begun (open_slot level ∷ rest) u close_brace is 4 refl)
 
 -- `}`
-pub close_read : (s : Reader) (begun : List Name) (rest : List Slot) → Unrefused s begun (close_slot ∷ rest) → (t : Reader) × Reads (close_slot ∷ []) s t (close_brace ∷ [])
+pub close_read : (s : Reader) (begun : List Name) (rest : List Slot) → Unrefused s begun (close_slot ∷ rest)
+    → (t : Reader) × Reads (close_slot ∷ []) s t (close_brace ∷ [])
 close_read s begun rest u = let found = next_there s begun (close_slot ∷ rest) u 4 refl in by found.0 found.1
   where
     by : (l : Lexeme) → next_lexeme s.cursor.tokens ≡ Some l → (t : Reader) × Reads (close_slot ∷ []) s t (close_brace ∷ [])

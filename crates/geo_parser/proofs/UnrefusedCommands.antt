@@ -1,5 +1,6 @@
 -- Commands are read where nothing is refused.
-use Rattle.std.proofs.Common.{◌≡◌, true≢false, ℕ, ◌+◌, ◌<◌, ◌≤◌, Bool, true, false, List, [], ◌∷◌, ◌++◌, length, ℤ, Option, Some, None, is_some, refl, sym, ap, ◌∙◌, subst, inr, arith}
+use Rattle.std.proofs.Common.{◌≡◌, true≢false, ℕ, ◌+◌, ◌<◌, ◌≤◌, Bool, true, false, List, [], ◌∷◌, ◌++◌, length, ℤ}
+use Rattle.std.proofs.Common.{Option, Some, None, is_some, refl, sym, ap, ◌∙◌, subst, inr, arith}
 use Rattle.std.specs.Prelude.{nat_le}
 use Rattle.std.proofs.lemmas.Bool.Decides.{nat_tests}
 use Rattle.std.proofs.lemmas.List.Elements.{All-nil}
@@ -41,9 +42,8 @@ use Rattle.geo_parser.proofs.FormReading.{ReadsArguments-number, ReadsForm-made,
 use Rattle.geo_parser.proofs.NameUses.{begin_name-declared, begin_name-new, begin_name-reserved}
 use Rattle.geo_parser.proofs.Reading.{Extends-self, ReadsArguments-then, Reads-behind, Reads-token, advanced}
 use Rattle.geo_parser.proofs.Reserved.{not_reserved}
-use Rattle.geo_parser.proofs.Unrefused.{Unrefused, Unrefused-behind, Unrefused-past, Unrefused-then, four_points_read, line_read}
-use Rattle.geo_parser.proofs.Unrefused.{never_refused, next_may_stand, next_there, point_read, three_points_read, two_points_read}
-use Rattle.geo_parser.proofs.Unrefused.{word_there}
+use Rattle.geo_parser.proofs.Unrefused.{Unrefused, Unrefused-behind, Unrefused-past, Unrefused-then, four_points_read, line_read, never_refused}
+use Rattle.geo_parser.proofs.Unrefused.{next_may_stand, next_there, point_read, three_points_read, two_points_read, word_there}
 use Rattle.geo_parser.proofs.UnrefusedExpressions.{number_read}
 
 -- TWO NUMBERS
@@ -60,7 +60,8 @@ Reads-nothing s = record {
 }
 
 -- where no number is to come, the two numbers are passed over
-unsketched : (r : Reading) (rest : List Slot) (tokens : List (Lexeme × ℕ)) (end : ℕ) (stop : Option Fault) → ((z : ℤ) → next_lexeme tokens ≡ Some (number_lexeme z) → ⊥)
+unsketched : (r : Reading) (rest : List Slot) (tokens : List (Lexeme × ℕ)) (end : ℕ) (stop : Option Fault)
+    → ((z : ℤ) → next_lexeme tokens ≡ Some (number_lexeme z) → ⊥)
     → first_fault r (sketch_slot ∷ rest) tokens end stop ≡ first_fault r rest tokens end stop
 unsketched r rest [] end (Some f) none = refl
 unsketched r rest [] end None none = refl
@@ -102,11 +103,13 @@ sketch_read s begun rest u = by (next_lexeme s.cursor.tokens) refl
   where
     by : (o : Option Lexeme) → next_lexeme s.cursor.tokens ≡ o → (t : Reader) × ReadsSketch s t
     by None is = (s, ReadsSketch-none s (λ z e. true≢false (ap is_some (sym e ∙ is))))
-    by (Some (word_lexeme word)) is = (s, ReadsSketch-none s (λ z e. let same : ◌≡◌ {A = Option Lexeme} (Some (word_lexeme word)) (Some (number_lexeme z)) = sym is ∙ e in cc))
+    by (Some (word_lexeme word)) is =
+        (s, ReadsSketch-none s (λ z e. let same : ◌≡◌ {A = Option Lexeme} (Some (word_lexeme word)) (Some (number_lexeme z)) = sym is ∙ e in cc))
     by (Some open_brace) is = (s, ReadsSketch-none s (λ z e. let same : ◌≡◌ {A = Option Lexeme} (Some open_brace) (Some (number_lexeme z)) = sym is ∙ e in cc))
     by (Some close_brace) is = (s, ReadsSketch-none s (λ z e. let same : ◌≡◌ {A = Option Lexeme} (Some close_brace) (Some (number_lexeme z)) = sym is ∙ e in cc))
     by (Some (number_lexeme z)) is =
-        let second = second_read (advanced s) begun rest (Unrefused-behind s begun (sketch_slot ∷ rest) u (number_lexeme z) is begun (second_number_slot ∷ rest) refl) in (
+        let second =
+        second_read (advanced s) begun rest (Unrefused-behind s begun (sketch_slot ∷ rest) u (number_lexeme z) is begun (second_number_slot ∷ rest) refl) in (
           advanced (advanced s),
           record {
             sketch = Some (z, second.0);
@@ -126,7 +129,8 @@ pair_made Symmetric a b = (command.Symmetric a b, λ nodes. refl, λ nodes. tt)
 pair_made Oncircle a b = (command.Oncircle a b, λ nodes. refl, λ nodes. tt)
 
 triple_made : (word : TripleWord) (a b c : PointId) → (k : Command)
-    × ((nodes : Store) → command_form nodes k ≡ form_of (Triple word) (point_argument a ∷ point_argument b ∷ point_argument c ∷ [])) × ((nodes : Store) → IsStored nodes k)
+    × ((nodes : Store) → command_form nodes k ≡ form_of (Triple word) (point_argument a ∷ point_argument b ∷ point_argument c ∷ []))
+    × ((nodes : Store) → IsStored nodes k)
 triple_made Foot a b c = (command.Foot a b c, λ nodes. refl, λ nodes. tt)
 triple_made Translate a b c = (command.Translate a b c, λ nodes. refl, λ nodes. tt)
 triple_made Reflect a b c = (command.Reflect a b c, λ nodes. refl, λ nodes. tt)
@@ -162,7 +166,9 @@ module _ (s : Reader) (begun : List Name) (rest : List Slot) where
       let points = point_argument p.1 ∷ point_argument p.2 ∷ point_argument p.3 ∷ [] in
       let P : Tree → Type 0 = λ e. ReadsArguments (number_argument e ∷ []) p.0 m.0 in
       let first = subst P (sym kept) (ReadsArguments-number p.0 m.0 m.1 m.2) in
-      let numbers = ReadsArguments-then (number_argument (tree_of nodes m.1) ∷ []) (number_argument (tree_of nodes n.1) ∷ []) p.0 m.0 n.0 first (ReadsArguments-number m.0 n.0 n.1 n.2) in
+      let numbers =
+      ReadsArguments-then (number_argument (tree_of nodes m.1) ∷ []) (number_argument (tree_of nodes n.1) ∷ []) p.0 m.0 n.0 first
+      (ReadsArguments-number m.0 n.0 n.1 n.2) in
       let read = ReadsArguments-then points (number_argument (tree_of nodes m.1) ∷ number_argument (tree_of nodes n.1) ∷ []) s p.0 n.0 p.4 numbers in
       (n.0, command.Weights p.1 p.2 p.3 m.1 n.1, ReadsForm-made Weights _ s n.0 _ read refl refl (omega (arith, m.2.stored, later.longer), n.2.stored))
 
@@ -256,10 +262,12 @@ new_name_read kind points s begun rest u =
     let w = word_there s begun (new_name_slot kind points ∷ rest) u 4 refl (λ z. refl) refl refl in
     by w.0 w.1 (is_reserved w.0) refl (name_of s.names w.0) refl (nat_le (s.points + points) 512) refl
   where
-    by : (word : List ℕ) → next_lexeme s.cursor.tokens ≡ Some (word_lexeme word) → (b : Bool) → is_reserved word ≡ b → (o : Option Name) → name_of s.names word ≡ o
+    by : (word : List ℕ) → next_lexeme s.cursor.tokens ≡ Some (word_lexeme word) → (b : Bool) → is_reserved word ≡ b
+        → (o : Option Name) → name_of s.names word ≡ o
         → (few : Bool) → nat_le (s.points + points) 512 ≡ few → (t : Reader) × (text : List ℕ) × ReadsNewName points s t text
     by word is true reserved o found few h =
-        absurd (never_refused s begun (new_name_slot kind points ∷ rest) u (word_lexeme word) is 4 (begin_name-reserved (reading s.names begun s.points) s.names refl kind points word rest reserved))
+        absurd (never_refused s begun (new_name_slot kind points ∷ rest) u (word_lexeme word) is 4
+        (begin_name-reserved (reading s.names begun s.points) s.names refl kind points word rest reserved))
     by word is false free (Some name) found few h =
         absurd (never_refused s begun (new_name_slot kind points ∷ rest) u (word_lexeme word) is 6
         (begin_name-declared (reading s.names begun s.points) s.names refl kind points word rest name free found))
@@ -291,5 +299,7 @@ command_read word s few u = by (command_kind word) refl
         let v = subst (λ due. Unrefused s [] (due ++ command_slot ∷ [])) (due_named word kind has) u in
         let n = new_name_read kind points s [] behind v in
         let own = a_name n.1 kind ∷ [] in
-        let a = form_read n.0 own (command_slot ∷ []) word (Unrefused-past s n.0 _ [] own (new_name_slot kind points ∷ behind) behind n.2.passes (n.2.follows kind [] behind) v) in
+        let a =
+        form_read n.0 own (command_slot ∷ []) word
+        (Unrefused-past s n.0 _ [] own (new_name_slot kind points ∷ behind) behind n.2.passes (n.2.follows kind [] behind) v) in
         (record a.0 { names = a.0.names ++ own }, a.1, ReadsCommand-made word kind has points refl s n.0 n.1 n.2 a.0 a.1 a.2)

@@ -1,6 +1,6 @@
 -- An expression is read where nothing is refused.
-use Rattle.std.proofs.Common.{◌≡◌, true≢false, ℕ, zero, suc, ◌+◌, ◌<◌, ◌≤◌, Bool, true, false, not, ◌&&◌, IsTrue, List, [], ◌∷◌, ◌++◌}
-use Rattle.std.proofs.Common.{length, map, ℤ, Option, Some, None, codes, refl, sym, ap, ◌∙◌, subst, arith}
+use Rattle.std.proofs.Common.{◌≡◌, true≢false, ℕ, zero, suc, ◌+◌, ◌<◌, ◌≤◌, Bool, true, false, not, ◌&&◌, IsTrue, List, [], ◌∷◌}
+use Rattle.std.proofs.Common.{◌++◌, length, map, ℤ, Option, Some, None, codes, refl, sym, ap, ◌∙◌, subst, arith}
 use Rattle.std.specs.Prelude.{if◌then◌else◌, option_map}
 use Rattle.std.proofs.lemmas.List.{length_push}
 use Rattle.geo_points.specs.declared.ids.TermId.{TermId}
@@ -25,7 +25,8 @@ use Rattle.geo_parser.specs.Inner.StatementWords.{expression_due, expression_tex
 use Rattle.geo_parser.specs.Slots.{begin_expression, refused, taken, use_name}
 use Rattle.geo_parser.specs.Texts.{found, is_text}
 use Rattle.geo_parser.proofs.CommandsReading.{at_some}
-use Rattle.geo_parser.proofs.ExpressionReading.{ReadsFormed-area, ReadsFormed-difference, ReadsFormed-ratio, ReadsNode-form, ReadsNode-parameter, begin_expression-form, begin_expression-name}
+use Rattle.geo_parser.proofs.ExpressionReading.{ReadsFormed-area, ReadsFormed-difference, ReadsFormed-ratio, ReadsNode-form}
+use Rattle.geo_parser.proofs.ExpressionReading.{ReadsNode-parameter, begin_expression-form, begin_expression-name}
 use Rattle.geo_parser.proofs.Finding.{due_behind-dues, is_text_self, text_found}
 use Rattle.geo_parser.proofs.Reading.{Extends-then, Reads-then, Reads-token, advanced, length-tail}
 use Rattle.geo_parser.proofs.Unrefused.{ReadsName-word, Unrefused, Unrefused-behind, Unrefused-then, close_read, four_points_read}
@@ -41,12 +42,14 @@ IsTree-same level ratios a b tree same h = record {
 }
 
 -- two parts one after another
-ReadsParts-both : (level : ℕ) (first second : Bool) (a b c : Reader) (e f : TermId) → ReadsPart level first a b e → ReadsPart level second b c f → ReadsParts level first second a c e f
+ReadsParts-both : (level : ℕ) (first second : Bool) (a b c : Reader) (e f : TermId) → ReadsPart level first a b e → ReadsPart level second b c f
+    → ReadsParts level first second a c e f
 ReadsParts-both level first second a b c e f h k =
     let kept : tree_of c.terms e ≡ tree_of b.terms e = k.reads.terms.others e h.stored in
     let one = open_slot level ∷ expression_slot level first ∷ close_slot ∷ [] in
     let other = open_slot level ∷ expression_slot level second ∷ close_slot ∷ [] in
-    let P : Tree → List Name → Type 0 = λ tree ns. Reads (one ++ other) a c (braced (expression_lexemes a.names tree) ++ braced (expression_lexemes ns (tree_of c.terms f))) in
+    let P : Tree → List Name → Type 0 =
+    λ tree ns. Reads (one ++ other) a c (braced (expression_lexemes a.names tree) ++ braced (expression_lexemes ns (tree_of c.terms f))) in
     let both = Reads-then one other a b _ h.reads c _ k.reads in record {
       reads = subst (λ tree. P tree a.names) (sym kept) (subst (P (tree_of b.terms e)) h.reads.names both);
       stored = omega (arith, h.stored, k.reads.terms.longer);
@@ -62,7 +65,8 @@ ReadsPart-made level ratios a b c d e o h k =
     let kept : tree_of d.terms e ≡ tree_of c.terms e = k.terms.others e h.stored in
     let all = Reads-then (open_slot level ∷ []) (expression_slot level ratios ∷ close_slot ∷ []) a b _ o d _
     (Reads-then (expression_slot level ratios ∷ []) (close_slot ∷ []) b c _ h.reads d _ k) in
-    let P : Tree → List Name → Type 0 = λ tree ns. Reads (open_slot level ∷ expression_slot level ratios ∷ close_slot ∷ []) a d (braced (expression_lexemes ns tree)) in record {
+    let P : Tree → List Name → Type 0 =
+    λ tree ns. Reads (open_slot level ∷ expression_slot level ratios ∷ close_slot ∷ []) a d (braced (expression_lexemes ns tree)) in record {
       reads = subst (λ tree. P tree a.names) (sym kept) (subst (P (tree_of c.terms e)) o.names all);
       stored = omega (arith, h.stored, k.terms.longer);
       tree = subst (IsTree level ratios a) (sym kept) (IsTree-same level ratios a b (tree_of c.terms e) o.names h.tree);
@@ -161,7 +165,8 @@ module _ (level : ℕ) (shallow : level ≤ 128) (part_read : PartRead (level + 
         )
 
 -- where `sratio` is not refused, ratios may stand
-ratio_allowed : (form : ExpressionWord) (ratios : Bool) (word : List ℕ) → expression_text form ≡ word → is_text word (codes "sratio") && not ratios ≡ false → form ≡ Ratio → IsTrue ratios
+ratio_allowed : (form : ExpressionWord) (ratios : Bool) (word : List ℕ) → expression_text form ≡ word → is_text word (codes "sratio") && not ratios ≡ false
+    → form ≡ Ratio → IsTrue ratios
 ratio_allowed form true word text h same = refl
 ratio_allowed form false word text h same =
     let is : word ≡ codes "sratio" = sym text ∙ ap expression_text same in
@@ -190,7 +195,8 @@ module _ (level : ℕ) (shallow : level ≤ 128) (part_read : PartRead (level + 
     name_node none =
         let named = numbered_word s.names begun s.points Param word rest
         (λ n e. never n (begin_expression-name (reading s.names begun s.points) level ratios word rest none ∙ e)) in
-        (advanced s, node.Param (record { 0 = named.0 }), ReadsNode-parameter s level ratios word is none (advanced s) named.0 shallow (ReadsName-word s Param word is named.0 named.1))
+        let read = ReadsName-word s Param word is named.0 named.1 in
+        (advanced s, node.Param (record { 0 = named.0 }), ReadsNode-parameter s level ratios word is none (advanced s) named.0 shallow read)
 
     -- an expression that begins with this word
     form_node : (form : ExpressionWord) → expression_text form ≡ word → Some (expression_due level ratios form) ≡ due_behind word (expressions level ratios)
@@ -262,7 +268,8 @@ ReadsExpression-node level ratios s t n h =
       tree = subst (IsTree level ratios s) (sym unfolds) h.tree;
     }
 
-expression_within : (level : ℕ) → level ≤ 128 → PartRead (level + 1) → (ratios : Bool) (s : Reader) (begun : List Name) (rest : List Slot) → Unrefused s begun (expression_slot level ratios ∷ rest)
+expression_within : (level : ℕ) → level ≤ 128 → PartRead (level + 1) → (ratios : Bool) (s : Reader) (begun : List Name) (rest : List Slot)
+    → Unrefused s begun (expression_slot level ratios ∷ rest)
     → (t : Reader) × (e : TermId) × ReadsExpression level ratios s t e
 expression_within level shallow part_read ratios s begun rest u =
     let n = node_read level shallow part_read ratios s begun rest u in
@@ -287,5 +294,6 @@ part_read zero level few = part_within level (part_too_deep (level + 1) (omega a
 part_read (suc n) level few = part_within level (part_read n (level + 1) (omega arith))
 
 -- the number of a step
-pub number_read : (s : Reader) (begun : List Name) (rest : List Slot) → Unrefused s begun (expression_slot 0 false ∷ rest) → (t : Reader) × (e : TermId) × ReadsExpression 0 false s t e
+pub number_read : (s : Reader) (begun : List Name) (rest : List Slot) → Unrefused s begun (expression_slot 0 false ∷ rest)
+    → (t : Reader) × (e : TermId) × ReadsExpression 0 false s t e
 number_read s begun rest u = expression_within 0 (omega arith) (part_read 128 1 (omega arith)) false s begun rest u

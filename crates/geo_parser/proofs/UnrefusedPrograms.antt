@@ -1,6 +1,6 @@
 -- A program is read where nothing is refused: each text spells one, or it is refused.
-use Rattle.std.proofs.Common.{◌≡◌, true≢false, ℕ, zero, suc, ◌<◌, ◌≤◌, ◌⊎◌, Bool, true, false, List, [], ◌∷◌, ◌++◌, length, map, Option}
-use Rattle.std.proofs.Common.{Some, None, is_some, codes, refl, sym, ap, ◌∙◌, subst, inl, inr, arith}
+use Rattle.std.proofs.Common.{◌≡◌, true≢false, ℕ, zero, suc, ◌<◌, ◌≤◌, ◌⊎◌, Bool, true, false, List, [], ◌∷◌, ◌++◌, length}
+use Rattle.std.proofs.Common.{map, Option, Some, None, is_some, codes, refl, sym, ap, ◌∙◌, subst, inl, inr, arith}
 use Rattle.std.specs.Prelude.{All, option_map}
 use Rattle.std.specs.List.{flat_map}
 use Rattle.std.proofs.lemmas.List.{append-nil}
@@ -40,12 +40,12 @@ use Rattle.geo_parser.specs.declared.statement_words.StatementWord.TheVariants.{
 use Rattle.geo_parser.specs.declared.statement_words.TheConstants.{STATEMENTS}
 use Rattle.geo_parser.specs.declared.statement_words.TripleStatement.{TripleStatement}
 use Rattle.geo_parser.specs.declared.statement_words.TripleStatement.TheVariants.{Collinear, Midpoint}
-use Rattle.geo_parser.specs.Forms.{Slot, close_slot, command_slot, commands, condition_slot, conditions, due_behind, end_slot, naming_commands, open_slot, side, statement_slot, statements}
+use Rattle.geo_parser.specs.Forms.{Slot, close_slot, command_slot, commands, condition_slot, conditions, due_behind}
+use Rattle.geo_parser.specs.Forms.{end_slot, naming_commands, open_slot, side, statement_slot, statements}
 use Rattle.geo_parser.specs.Inner.Coming.{next_lexeme}
 use Rattle.geo_parser.specs.Inner.CommandWords.{command_condition, command_due, command_text, condition_slots, condition_text}
-use Rattle.geo_parser.specs.Inner.Reads.{Passes, Reads, ReadsAllCommands, ReadsArguments, ReadsCommands, ReadsCondition, ReadsPart}
-use Rattle.geo_parser.specs.Inner.Reads.{ReadsProve, ReadsStated, ReadsStatement, ReadsStatementWord, ReadsWord, fault_of, reading, scope}
-use Rattle.geo_parser.specs.Inner.Reads.{statement_slots}
+use Rattle.geo_parser.specs.Inner.Reads.{Passes, Reads, ReadsAllCommands, ReadsArguments, ReadsCommands, ReadsCondition, ReadsPart, ReadsProve}
+use Rattle.geo_parser.specs.Inner.Reads.{ReadsStated, ReadsStatement, ReadsStatementWord, ReadsWord, fault_of, reading, scope, statement_slots}
 use Rattle.geo_parser.specs.Inner.StatementWords.{statement_due, statement_text}
 use Rattle.geo_parser.specs.Laws.{TextsSpellOrAreRefused}
 use Rattle.geo_parser.specs.Refusals.{IsRefused, first_fault, placed_lexemes}
@@ -124,7 +124,8 @@ module _ (s : Reader) (u : Unrefused s [] (command_slot ∷ [])) (word : List �
   assume_word : word ≡ codes "assume" → IsCommandOrProve s
   assume_word same =
       let goes : (rest : List Slot) → begin_command (reading s.names [] s.points) word rest ≡ taken (reading s.names [] s.points) (condition_slot ∷ command_slot ∷ rest) =
-      λ rest. ap (λ w. begin_command (reading s.names [] s.points) w rest) same ∙ ap (λ r. taken r (condition_slot ∷ command_slot ∷ rest)) (completed_none s.names s.points) in
+      λ rest. ap (λ w. begin_command (reading s.names [] s.points) w rest) same
+      ∙ ap (λ r. taken r (condition_slot ∷ command_slot ∷ rest)) (completed_none s.names s.points) in
       let k = condition_read (advanced s) (Unrefused-behind s [] (command_slot ∷ []) u (word_lexeme word) is [] (condition_slot ∷ command_slot ∷ []) (goes [])) in
       let P : List ℕ → Type 0 = λ w. Passes s (advanced s) (word_lexeme w ∷ []) in (
         advanced (advanced s),
@@ -178,7 +179,8 @@ command_word_read s u =
     let w = word_there s [] (command_slot ∷ []) u 11 refl (λ z. refl) refl refl in
     by w.0 w.1 (is_text w.0 (codes "prove")) refl (is_text w.0 (codes "assume")) refl
   where
-    by : (word : List ℕ) → next_lexeme s.cursor.tokens ≡ Some (word_lexeme word) → (p : Bool) → is_text word (codes "prove") ≡ p → (a : Bool) → is_text word (codes "assume") ≡ a
+    by : (word : List ℕ) → next_lexeme s.cursor.tokens ≡ Some (word_lexeme word) → (p : Bool) → is_text word (codes "prove") ≡ p → (a : Bool)
+        → is_text word (codes "assume") ≡ a
         → IsCommandOrProve s
     by word is true proved a assumed = prove_word s u word is proved
     by word is false other true assumed = assume_word s u word is (same_text word (codes "assume") assumed)
@@ -192,7 +194,8 @@ IsAllRead a = (c : Reader) × (cs : List Command) × ReadsAllCommands a c cs × 
 
 -- one command, and then the others
 next_command : (a b : Reader) (cs : List Command) → ReadsCommands a b cs → Unrefused b [] (command_slot ∷ [])
-    → ((d : Reader) (more : List Command) → length d.cursor.tokens < length b.cursor.tokens → ReadsCommands a d more → Unrefused d [] (command_slot ∷ []) → IsAllRead a) → IsAllRead a
+    → ((d : Reader) (more : List Command) → length d.cursor.tokens < length b.cursor.tokens → ReadsCommands a d more → Unrefused d [] (command_slot ∷ [])
+    → IsAllRead a) → IsAllRead a
 next_command a b cs h u onward = let w = command_word_read b u in by w.0 w.1
   where
     by : (t : Reader) → ReadsProve b t ⊎ ((word : CommandWord) × ReadsWord word b t) → IsAllRead a
@@ -228,7 +231,8 @@ ReadsCommands-none a no_names no_points = record {
 
 -- THE STATEMENT
 
-statement_word_read : (s : Reader) (begun : List Name) (rest : List Slot) → Unrefused s begun (statement_slot ∷ rest) → (word : StatementWord) × ReadsStatementWord word s (advanced s)
+statement_word_read : (s : Reader) (begun : List Name) (rest : List Slot) → Unrefused s begun (statement_slot ∷ rest)
+    → (word : StatementWord) × ReadsStatementWord word s (advanced s)
 statement_word_read s begun rest u =
     let w = word_there s begun (statement_slot ∷ rest) u 4 refl (λ z. refl) refl refl in
     by w.0 w.1 (found statement_table w.0) refl
@@ -265,7 +269,8 @@ ReadsArguments-side a b e h =
 
 -- statements on points, whatever the store
 triple_stated : (word : TripleStatement) (a b c : PointId) → (k : Statement)
-    × ((nodes : Store) → statement_form nodes k ≡ record { word = statement_text (Triple word); arguments = point_argument a ∷ point_argument b ∷ point_argument c ∷ [] })
+    × ((nodes : Store) → statement_form nodes k
+    ≡ record { word = statement_text (Triple word); arguments = point_argument a ∷ point_argument b ∷ point_argument c ∷ [] })
     × ((nodes : Store) → AreSidesStored nodes k)
 triple_stated Collinear a b c = (statement.Collinear a b c, λ nodes. refl, λ nodes. tt)
 triple_stated Midpoint a b c = (statement.Midpoint a b c, λ nodes. refl, λ nodes. tt)
@@ -291,7 +296,8 @@ module _ (s : Reader) (begun : List Name) (rest : List Slot) where
       let kept : tree_of nodes e.1 ≡ tree_of e.0.terms e.1 = later.others e.1 e.2.stored in
       let P : Tree → Type 0 = λ tree. ReadsArguments (side_argument tree ∷ []) s e.0 in
       let first = subst P (sym kept) (ReadsArguments-side s e.0 e.1 e.2) in
-      let read = ReadsArguments-then (side_argument (tree_of nodes e.1) ∷ []) (side_argument (tree_of nodes f.1) ∷ []) s e.0 f.0 first (ReadsArguments-side e.0 f.0 f.1 f.2) in
+      let read =
+      ReadsArguments-then (side_argument (tree_of nodes e.1) ∷ []) (side_argument (tree_of nodes f.1) ∷ []) s e.0 f.0 first (ReadsArguments-side e.0 f.0 f.1 f.2) in
       (f.0, statement.Equal e.1 f.1, ReadsStated-made Equal _ s f.0 _ read refl refl refl (omega (arith, e.2.stored, later.longer), f.2.stored))
 
   stated_read : (word : StatementWord) → Unrefused s begun (statement_due word ++ rest) → (t : Reader) × (k : Statement) × ReadsStated word s t k
@@ -312,7 +318,8 @@ module _ (s : Reader) (begun : List Name) (rest : List Slot) where
 -- THE END
 
 -- where only the end may come, nothing is to come
-ended : (r : Reading) (tokens : List (Lexeme × ℕ)) (end : ℕ) (stop : Option Fault) → first_fault r (end_slot ∷ []) tokens end stop ≡ None → (tokens ≡ []) × (stop ≡ None)
+ended : (r : Reading) (tokens : List (Lexeme × ℕ)) (end : ℕ) (stop : Option Fault) → first_fault r (end_slot ∷ []) tokens end stop ≡ None
+    → (tokens ≡ []) × (stop ≡ None)
 ended r [] end (Some f) none = absurd (true≢false (ap is_some none))
 ended r [] end None none = (refl, refl)
 ended r (t ∷ ts) end stop none = absurd (true≢false (ap is_some none))
@@ -366,7 +373,8 @@ pub texts_spell_or_are_refused : TextsSpellOrAreRefused
 texts_spell_or_are_refused bytes =
     let l = texts_are_lexed bytes in by l.0 l.1 l.2 (fault_of (first_reader bytes l.0 l.1) [] (command_slot ∷ [])) refl
   where
-    by : (tokens : List Token) (stop : Option Fault) → IsLexed bytes tokens stop → (o : Option Fault) → fault_of (first_reader bytes tokens stop) [] (command_slot ∷ []) ≡ o
+    by : (tokens : List Token) (stop : Option Fault) → IsLexed bytes tokens stop → (o : Option Fault)
+        → fault_of (first_reader bytes tokens stop) [] (command_slot ∷ []) ≡ o
         → ((p : Source) × SpellsSource bytes p) ⊎ ((fault : Fault) × IsRefused bytes fault)
     by tokens stop lexed None none = inl (unrefused_spells bytes tokens stop lexed none)
     by tokens stop lexed (Some f) some = inr (f, refused_at bytes tokens stop lexed f some)
