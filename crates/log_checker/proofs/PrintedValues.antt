@@ -1,14 +1,13 @@
 -- The last two lines of an accepted text, where they are a sample and a verdict.
-use Rattle.std.proofs.Common.{◌≡◌, ℕ, List, [], ◌∷◌, ◌++◌, map, refl, sym, ◌∙◌, ap, subst}
+use Rattle.std.proofs.Common.{◌≡◌, ℕ, List, [], ◌∷◌, ◌++◌, sym, ◌∙◌, ap, subst}
 use Rattle.std.specs.Prelude.{codes}
 use Rattle.std.specs.List.{flat_map}
 use Rattle.std.proofs.lemmas.Grind.{flat_map-append}
 use Rattle.std.proofs.lemmas.List.{append_assoc, append-nil}
 use Rattle.geo_program.specs.WellFormed.{Source}
 use Rattle.geo_conditions.specs.Truth.{ProgramValues}
-use Rattle.geo_logs.specs.Logs.{Subject}
 use Rattle.proof_log.specs.declared.log.Line.{Line}
-use Rattle.proof_log.specs.declared.log.Line.TheVariants.{Header, Program as ProgramLine, Sample, Verdict as VerdictLine}
+use Rattle.proof_log.specs.declared.log.Line.TheVariants.{Header, Sample, Verdict as VerdictLine}
 use Rattle.proof_log.specs.declared.log.Verdict.{Verdict}
 use Rattle.proof_log.specs.Lines.{line_text, log_text, value_text, verdict_text}
 use Rattle.log_checker.specs.Accepted.{Accepts, PrintsValues}
