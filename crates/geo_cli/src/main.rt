@@ -14,6 +14,7 @@ mod acceptance;
 mod answers;
 mod benching;
 mod checking;
+mod citing;
 mod judging;
 mod numbers;
 mod order;

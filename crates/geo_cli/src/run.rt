@@ -16,6 +16,7 @@ ghost use Rattle.proof_log.specs.declared.log.Verdict.{Verdict};
 use crate::answers::{USAGE, answer};
 use crate::benching::run_bench;
 use crate::checking::run_check;
+use crate::citing::run_cite;
 use crate::order::{Command, Order, order_of};
 use crate::placing::run_place;
 use crate::printing::run_text;
@@ -109,6 +110,7 @@ fn carry_out<S: Source, K: Sink>(
         Command::Text => run_text(alloc, order.steps, source, sink),
         Command::Place => run_place(alloc, false, source, sink),
         Command::Figure => run_place(alloc, true, source, sink),
+        Command::Cite => run_cite(alloc, order.steps, source, sink),
         Command::Bench(number) => run_bench(alloc, number, order.steps, sink),
     }
 }
