@@ -158,7 +158,6 @@ fewer steps left l reader reader' checker line h counts within =
 
 -- THE END
 module _ (steps : ℕ) (left l l' : Option (List ℕ)) (reader reader' : ReaderState) (checker : CheckerValue) (h : IsReading steps left l reader checker) where
-
   -- what finishing answers
   pub record Finishes (rest : List ℕ) (answer : Result Accepted CheckError) : Type 0 where
     pub accepted : (pieces : List (List ℕ)) → StandsFor checker pieces → IfOk answer (IsAnswer (with_feeds pieces ++ rest) checker.steps)

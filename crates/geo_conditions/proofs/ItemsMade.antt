@@ -18,7 +18,6 @@ use Rattle.geo_conditions.specs.Lists.{ItemForm, item_form}
 use Rattle.geo_conditions.proofs.TermsInterned.{still_stored}
 
 module _ (terms nodes : Store) (places : Places) (h : ArePlaced terms nodes places) where
-
   pub condition_stored : (c : Condition) → IsTermWithin (length places.terms.now) c → IsItemStored nodes (condition_item_term places.points.now places.lines.now places.terms.now c)
   condition_stored (condition.Different a b) k = tt
   condition_stored (condition.NotCollinear a b c) k = tt

@@ -49,7 +49,6 @@ line_same points line =
 
 -- THE DRAWING
 module _ (placed : Placed) where
-
   pub all_drawn : (cells : List Cell) → cells ≡ map (cell_at placed.points) placed.points → AllByRecursion IsPassed (draw_turns placed.points) → (text : Text)
       → text ≡ flat_map (cell_line cells) (first_numbers 21) ++ text_of placed → IsDrawn placed (Ok text)
   all_drawn cells same passed text e = (

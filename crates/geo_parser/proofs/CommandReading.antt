@@ -55,7 +55,6 @@ pub completed_none : (names : List Name) (points : ℕ) → completed (reading n
 completed_none names points = ap (λ ns. reading ns [] points) (append-nil names)
 
 module _ (s : Reader) (word : List ℕ) (is : next_lexeme s.cursor.tokens ≡ Some (word_lexeme word)) where
-
   pub Refuses-no_command : is_text word (codes "prove") ≡ false → is_text word (codes "assume") ≡ false
       → None ≡ due_behind word naming_commands → Refuses (command_slot ∷ []) s (fault_here 4 s.cursor.tokens s.cursor.end s.cursor.stop)
   Refuses-no_command h no_assume none =

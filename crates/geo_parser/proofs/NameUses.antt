@@ -23,7 +23,6 @@ declared_name_lem : (r : Reading) (names : List Name) (word : List ℕ) (o : Opt
 declared_name_lem r names word o e h = ap (λ ns. name_of ns word) e ∙ h
 
 module _ (r : Reading) (names : List Name) (same : r.declared ≡ names) (kind : NameKind) (word : List ℕ) (rest : List Slot) where
-
   pub use_name-unknown : is_reserved word ≡ false → name_of names word ≡ None → use_name r kind word rest ≡ refused 5
   use_name-unknown h none =
       ap (λ b. by_reserved b (declared_name r word) r kind rest) h

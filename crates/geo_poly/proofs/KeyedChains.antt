@@ -21,7 +21,6 @@ use Rattle.geo_poly.proofs.PolynomialLaws.{unsigned_abs-add-le}
 use Rattle.geo_poly.proofs.Told.{IsIndex-kept, powers_at-kept}
 
 module _ (vars : List Var) (rising : IsStrictlySortedBy var_cmp vars) (links : Links) where
-
   -- a key stands before others in a chain where its monomial does in the polynomial
   before-keys : (k : ℕ) (ts : Pairs) → IsKey vars links k → AllKeys (IsKey vars links) ts → IsBefore term_cmp (powers_at vars links (record { 0 = k })) (keyed_terms vars links ts)
       → IsBefore (flip_args (index_cmp links)) k ts

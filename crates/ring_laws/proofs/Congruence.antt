@@ -7,7 +7,6 @@ module _ (R : Ring) where
   open R use {carrier, same as ◌≈◌}
 
   infix 4 ◌≈◌
-
   pub value-same : (v w : ℕ → carrier) → ((k : ℕ) → v k ≈ w k) → (e : Expression) → value R v e ≈ value R w e
   value-same v w h (variable x) = h x
   value-same v w h (numeral k) = R.same_refl _
