@@ -10,3 +10,4 @@ pub mod Benched
 pub mod Ended
 pub mod Decisive
 pub mod Placed
+pub mod Uncited
