@@ -2,6 +2,7 @@ pub mod ValueLines
 pub mod OrderLemmas
 pub mod FaultPlaces
 pub mod ValuesDue
+pub mod CitationsDue
 pub mod OneDue
 pub mod Answered
 pub mod ReadLogs

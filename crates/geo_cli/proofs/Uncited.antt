@@ -25,6 +25,9 @@ same_line j k e = ap number e
     number (status.NotInstance i) = i
     number other = j
 
+lower : (s : Status) → status_number s < 13 → status_number s < 16
+lower s low = omega (arith, low)
+
 module _ (words : List (List ℕ)) (left left' : Option (List ℕ)) (line : ℕ) where
   -- no other status tells it
   not_missed : (s : Status) (P : Type 0) → s ≡ status.NotInstance line → status_number s < 16 → P
@@ -36,8 +39,8 @@ module _ (words : List (List ℕ)) (left left' : Option (List ℕ)) (line : ℕ)
   -- nothing is cited
   uncited_missed : (steps : ℕ) → IsCite words steps → (bytes : List ℕ) → IsInput log_limit left bytes left' → (error : CiteError) (due : Due)
       → TellsRefusal bytes steps error → TellsUncited error due → due.status ≡ status.NotInstance line → CitesNone words left left' line
-  uncited_missed steps given bytes input (citing.NotInstance at) due refused tells is =
-      let same = same_line at line (sym (ap (λ (d : Due). d.status) tells) ∙ is) in
+  uncited_missed steps given bytes input (citing.NotInstance j) due refused tells is =
+      let same = same_line j line (sym (ap (λ (d : Due). d.status) tells) ∙ is) in
       record {
         steps = steps;
         command = given;
@@ -45,27 +48,27 @@ module _ (words : List (List ℕ)) (left left' : Option (List ℕ)) (line : ℕ)
         input = input;
         misses = subst (λ (n : ℕ). Misses bytes steps (no_instance n)) same refused;
       }
-  uncited_missed steps given bytes input (citing.Rejected at reason) due refused tells is = low_missed due _ _ tells is (omega arith)
+  uncited_missed steps given bytes input (citing.Rejected j reason) due refused tells is = low_missed due _ _ tells is (omega arith)
   uncited_missed steps given bytes input (citing.Syntax fault) due refused tells is = low_missed due _ _ tells is (omega arith)
-  uncited_missed steps given bytes input (citing.TooLarge at which) due refused tells is = low_missed due _ _ tells is (omega arith)
-  uncited_missed steps given bytes input (citing.Spent at) due refused tells is = low_missed due _ _ tells is (omega arith)
+  uncited_missed steps given bytes input (citing.TooLarge j which) due refused tells is = low_missed due _ _ tells is (omega arith)
+  uncited_missed steps given bytes input (citing.Spent j) due refused tells is = low_missed due _ _ tells is (omega arith)
   uncited_missed steps given bytes input citing.NoMemory due refused tells is = absurd tells
 
   command_missed : (command : Command) (steps : ℕ) → IsOrder words (record { command = command; steps = steps }) → (due : Due)
       → due.status ≡ status.NotInstance line → IsCommandDue command steps left left' due → CitesNone words left left' line
   command_missed Prove steps given due is (inl h) = low_missed due _ _ h.1 is (omega arith)
   command_missed Prove steps given due is (inr (bytes, input, inl h)) =
-      low_missed due _ _ h.is is (let low = ending_low h.lines h.ending in omega (arith, low))
+      low_missed due _ _ h.is is (lower _ (ending_low h.lines h.ending))
   command_missed Prove steps given due is (inr (bytes, input, inr h)) = low_missed due _ _ h.is is (omega arith)
   command_missed Check steps given due is (inl h) = low_missed due _ _ h.1 is (omega arith)
   command_missed Check steps given due is (inr (bytes, input, inl h)) =
-      low_missed due _ _ h.is is (let low = verdict_low h.verdict in omega (arith, low))
+      low_missed due _ _ h.is is (lower _ (verdict_low h.verdict))
   command_missed Check steps given due is (inr (bytes, input, inr h)) =
-      low_missed due _ _ h.is is (let low = refusal_low h.number h.refusal in omega (arith, low))
+      low_missed due _ _ h.is is (lower _ (refusal_low h.number h.refusal))
   command_missed Text steps given due is (inl h) = low_missed due _ _ h.1 is (omega arith)
   command_missed Text steps given due is (inr (bytes, input, inl h)) = low_missed due _ _ h.is is (omega arith)
   command_missed Text steps given due is (inr (bytes, input, inr h)) =
-      low_missed due _ _ h.is is (let low = refusal_low h.number h.refusal in omega (arith, low))
+      low_missed due _ _ h.is is (lower _ (refusal_low h.number h.refusal))
   command_missed Place steps given due is (inl h) = low_missed due _ _ h.1 is (omega arith)
   command_missed Place steps given due is (inr (bytes, input, h)) = not_missed due.status _ is (values_number false bytes due h).1
   command_missed Figure steps given due is (inl h) = low_missed due _ _ h.1 is (omega arith)
@@ -74,7 +77,7 @@ module _ (words : List (List ℕ)) (left left' : Option (List ℕ)) (line : ℕ)
   command_missed Cite steps given due is (inr (bytes, input, inl h)) = low_missed due _ _ h.is is (omega arith)
   command_missed Cite steps given due is (inr (bytes, input, inr h)) = uncited_missed steps given bytes input h.error due h.refused h.is is
   command_missed (Bench number) steps given due is (unread, h) =
-      low_missed due _ _ h.is is (let low = ending_low h.lines h.ending in omega (arith, low))
+      low_missed due _ _ h.is is (lower _ (ending_low h.lines h.ending))
 
   due_missed : (due : Due) → IsDue words left left' due → due.status ≡ status.NotInstance line → CitesNone words left left' line
   due_missed due (inl h) is = low_missed due _ _ h.is is (omega arith)
