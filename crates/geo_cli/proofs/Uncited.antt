@@ -1,5 +1,5 @@
 -- A run that answers that a line of the cited program asks what is not so.
-use Rattle.std.proofs.Common.{◌≡◌, inl, inr, ℕ, ◌<◌, List, Option, sym, ◌∙◌, ap, subst, arith}
+use Rattle.std.proofs.Common.{◌≡◌, inl, inr, ℕ, ◌<◌, true, false, List, Option, sym, ◌∙◌, ap, subst, arith}
 use Rattle.geo_cli.specs.declared.order.Command.{Command}
 use Rattle.geo_cli.specs.declared.order.Command.TheVariants.{Bench, Check, Cite, Figure, Place, Prove, Text}
 use Rattle.geo_cli.specs.declared.status.Status.{Status}

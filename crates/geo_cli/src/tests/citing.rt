@@ -49,12 +49,7 @@ fn statements_are_cited(rt: HostRuntime) -> Result<(), Fail> {
     const ASSUMED: &[u8] = b"with P Q N\npoint P point Q midpoint N P Q assume different P Q \
         prove { collinear P Q N }\n";
     let table: [Citation; 2] = [
-        (
-            MIDPOINT_LOG,
-            HALF,
-            Status::Done,
-            b"cited collinear P N Q\n",
-        ),
+        (MIDPOINT_LOG, HALF, Status::Done, b"cited collinear P N Q\n"),
         (
             ON_LINE_LOG,
             ASSUMED,
@@ -84,12 +79,7 @@ fn what_cites_nothing_is_told(rt: HostRuntime) -> Result<(), Fail> {
             rejected(11, 33),
             b"rejected 11 33\n",
         ),
-        (
-            LINES_LOG,
-            b"any rest",
-            rejected(4, 34),
-            b"rejected 4 34\n",
-        ),
+        (LINES_LOG, b"any rest", rejected(4, 34), b"rejected 4 34\n"),
         (b"", b"", rejected(1, 32), b"rejected 1 32\n"),
         (MIDPOINT_LOG, b"", syntax(15, 192), b"syntax 15 at 192\n"),
         (
@@ -113,12 +103,7 @@ fn what_cites_nothing_is_told(rt: HostRuntime) -> Result<(), Fail> {
 
 #[test]
 fn steps_of_the_log_and_of_the_chains_are_counted(rt: HostRuntime) -> Result<(), Fail> {
-    let paid: Citation = (
-        MIDPOINT_LOG,
-        HALF,
-        Status::Done,
-        b"cited collinear P N Q\n",
-    );
+    let paid: Citation = (MIDPOINT_LOG, HALF, Status::Done, b"cited collinear P N Q\n");
     expect_citation(&rt, &["cite", "--steps", "116"], &paid)?;
     let spent: Citation = (
         MIDPOINT_LOG,
