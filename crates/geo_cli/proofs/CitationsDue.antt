@@ -4,7 +4,7 @@ use Rattle.std.specs.Prelude.{IfOk}
 use Rattle.geo_points.specs.declared.memory.NoMemory.{NoMemory}
 use Rattle.geo_cli.specs.declared.benching.Report.{Report}
 use Rattle.geo_cli.specs.declared.status.Status.TheVariants.{Done}
-use Rattle.geo_cli.specs.Due.{Due, IsDueForCitation, TellsUncited, cited_line}
+use Rattle.geo_cli.specs.Due.{IsDueForCitation, TellsUncited, cited_line}
 use Rattle.geo_cli.specs.Inner.Telling.{due_of}
 use Rattle.geo_cli.proofs.ValuesDue.{weaker}
 use Rattle.geo_library.specs.declared.errors.CiteError.{CiteError}
