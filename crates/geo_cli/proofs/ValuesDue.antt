@@ -16,7 +16,7 @@ use Rattle.geo_program.specs.declared.program_type.Program.{Program}
 use Rattle.geo_program.specs.Programs.{Spells, source_of}
 
 -- a property of what is told goes over to what is called for
-weaker : (P Q : Due → Type 0) → ((due : Due) → P due → Q due) → (r : Result Report NoMemory) → IfOk r (λ x. P (due_of x))
+pub weaker : (P Q : Due → Type 0) → ((due : Due) → P due → Q due) → (r : Result Report NoMemory) → IfOk r (λ x. P (due_of x))
     → IfOk r (λ x. Q (due_of x))
 weaker P Q more (Ok x) h = more (due_of x) h
 weaker P Q more (Err e) h = tt
