@@ -2,7 +2,6 @@
 use Rattle.std.proofs.Common.{◌≡◌, ℕ, ◌<◌, ◌≤◌, ◌⊎◌, Bool, true, false, List, [], map, length, Option, Some, refl, sym, subst, inl, inr, arith}
 use Rattle.std.specs.Prelude.{nat_le}
 use Rattle.std.proofs.lemmas.Bool.Decides.{nat_tests}
-use Rattle.geo_cli.specs.declared.order.Command.{Command}
 use Rattle.geo_cli.specs.declared.order.Command.TheVariants.{Check, Prove, Text}
 use Rattle.geo_cli.specs.declared.status.Status.TheVariants.{Done, Syntax, TooLong}
 use Rattle.geo_cli.specs.Due.{AsksForLog, Due, IsCalledFor, IsDueFor, IsDueForLog, IsDueForText, IsReadCall, IsRejectionDue}
@@ -10,7 +9,7 @@ use Rattle.geo_cli.specs.Due.{accepted_text, refusal_line, syntax_line, too_long
 use Rattle.geo_cli.specs.Input.{log_limit, program_limit}
 use Rattle.geo_cli.specs.Status.{ending_status, refusal_status, verdict_status}
 use Rattle.geo_cli.specs.Words.{IsCheck, IsProve, IsText}
-use Rattle.geo_conditions.specs.Lists.{AreConditionItems, ItemForm, condition_item}
+use Rattle.geo_conditions.specs.Lists.{condition_item}
 use Rattle.geo_conditions.proofs.Decisions.{lists_exist}
 use Rattle.geo_lexer.specs.declared.token_types.Fault.{Fault}
 use Rattle.geo_logs.specs.Judging.{Refusal}
@@ -78,7 +77,8 @@ program_due steps bytes few = by (texts_spell_or_are_refused bytes)
 -- A LOG
 
 -- the line that tells where it is refused
-rejected : (steps : ℕ) (bytes : List ℕ) → (number : ℕ) × (refusal : Refusal) × Refuses bytes steps number refusal → (due : Due) × IsRejectionDue steps bytes due
+rejected : (steps : ℕ) (bytes : List ℕ) → (number : ℕ) × (refusal : Refusal) × Refuses bytes steps number refusal
+    → (due : Due) × IsRejectionDue steps bytes due
 rejected steps bytes (number, refusal, refused) = (
   record { text = refusal_line number refusal; status = refusal_status number refusal },
   record { number = number; refusal = refusal; refused = refused; is = refl },
@@ -132,7 +132,7 @@ text_due steps bytes few = by (bytes_are_judged bytes steps (omega (arith, few))
 -- THE WORDS
 pub some_is_called : (words : List (List ℕ)) (left : Option (List ℕ)) → AsksForLog words left → (due : Due) × IsCalledFor words left due
 some_is_called words left asks =
-    subst (λ bytes. (due : Due) × IsCalledFor words bytes due) (sym asks.told) (by asks.command)
+    let P : Option (List ℕ) → Type 0 = λ o. (due : Due) × IsCalledFor words o due in subst P (sym asks.told) (by asks.command)
   where
     by : IsProve words asks.steps ⊎ (IsCheck words asks.steps ⊎ IsText words asks.steps) → (due : Due) × IsCalledFor words (Some asks.bytes) due
     by (inl given) =
