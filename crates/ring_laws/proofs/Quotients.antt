@@ -57,6 +57,10 @@ root : (k : ℕ) → k * k ≡ 0 → k ≡ 0
 root zero e = refl
 root (suc k) e = let h : 0 < suc k * suc k = mul-pos (zero-lt-suc k) (zero-lt-suc k) in absurd (omega arith)
 
+to_ℕ : ℤ → ℕ
+to_ℕ (pos n) = n
+to_ℕ (negsuc n) = n
+
 pub both_null : (a b : ℤ) → a *ℤ a +ℤ b *ℤ b ≡ pos 0 → (a ≡ pos 0) × (b ≡ pos 0)
 unfolding to_ℕ
 both_null a b e =
