@@ -1,11 +1,11 @@
 -- What is over a program's names is over other names of the same kinds.
-use Rattle.std.proofs.Common.{◌≡◌, ℕ, ◌<◌, List, [], ◌∷◌, map, length, sym, ◌∙◌, ap, subst}
+use Rattle.std.proofs.Common.{◌≡◌, ◌<◌, true, List, [], ◌∷◌, sym, ◌∙◌, ap, subst, subst₂}
 use Rattle.std.specs.List.{AllByRecursion}
 use Rattle.std.proofs.lemmas.List.Elements.{recursion_from_All}
 use Rattle.geo_program.specs.declared.commands.Command.{Command}
 use Rattle.geo_program.specs.declared.names.Name.{Name}
 use Rattle.geo_program.specs.Expressions.{IsExpression}
-use Rattle.geo_program.specs.Forms.{Argument, IsStored, command_form, statement_form}
+use Rattle.geo_program.specs.Forms.{AreSidesStored, IsStored, command_form, statement_form}
 use Rattle.geo_program.specs.Inner.Printing.{whole_scope}
 use Rattle.geo_program.specs.WellFormed.{AreCommands, IsArgument, IsWellFormed, Scope, Source, empty_scope, later_names, own_names, scope_of}
 use Rattle.geo_terms.specs.Stores.{Store, tree_of}
@@ -43,16 +43,15 @@ module _ (given names : List Name) (nodes : Store) (e : whole_scope given ≡ wh
   all_printable [] h = tt
   all_printable (i ∷ rows) h = (printable i.condition h.0, all_printable rows h.1)
 
-  -- ARGUMENTS
-  pub all_named : (arguments : List Argument) → AllByRecursion (IsArgument (whole_scope names)) arguments → AllByRecursion (IsArgument (whole_scope given)) arguments
-  all_named arguments h = in_scope (λ s. AllByRecursion (IsArgument s) arguments) h
+-- THE STATEMENT
+module _ (p : Source) (names : List Name) (terms : Store) (w : IsWellFormed p) (y : terms ≡ p.nodes) where
+  pub statement_named : whole_scope names ≡ whole_scope p.names → AllByRecursion (IsArgument (whole_scope names)) (statement_form terms p.statement).arguments
+  statement_named e =
+      subst₂ (λ (s : Scope) (ts : Store). AllByRecursion (IsArgument s) (statement_form ts p.statement).arguments) (sym e) (sym y)
+      (recursion_from_All (IsArgument (whole_scope p.names)) (statement_form p.nodes p.statement).arguments w.statement)
 
--- the arguments of the statement are over the names that are given
-pub statement_named : (p : Source) (given : List Name) → IsWellFormed p → whole_scope given ≡ whole_scope p.names
-    → AllByRecursion (IsArgument (whole_scope given)) (statement_form p.nodes p.statement).arguments
-statement_named p given w e =
-    all_named given p.names p.nodes e (statement_form p.nodes p.statement).arguments
-    (recursion_from_All (IsArgument (whole_scope p.names)) (statement_form p.nodes p.statement).arguments w.statement)
+  pub sides_stored : AreSidesStored terms p.statement
+  sides_stored = subst (λ (ts : Store). AreSidesStored ts p.statement) (sym y) w.sides
 
 -- THE STORE
 stored_from : (nodes : Store) (s : Scope) (names : List Name) (cs : List Command) → AreCommands nodes s names cs → AllByRecursion (IsStored nodes) cs

@@ -40,12 +40,12 @@ module _ (bytes log : List ℕ) (steps : ℕ) (a : Accepted) (is : IsAnswer log 
   p = source_of a.program
 
   -- the same lines are accepted with Proved
-  proved : (b : Accepts log steps p Proved) × (b.lines ≡ is.accepts.lines) × (b.accepted.left ≡ is.accepts.accepted.left)
+  abbrev proved : (b : Accepts log steps p Proved) × (b.lines ≡ is.accepts.lines) × (b.accepted.left ≡ is.accepts.accepted.left)
   proved =
       subst (λ (v : Verdict). (b : Accepts log steps p v) × (b.lines ≡ is.accepts.lines) × (b.accepted.left ≡ is.accepts.accepted.left)) e
       (is.accepts, refl, refl)
 
-  theorem : (rest : List ℕ) → BeginsWithLog bytes log rest → HasTheorem bytes steps
+  abbrev theorem : (rest : List ℕ) → BeginsWithLog bytes log rest → HasTheorem bytes steps
   theorem rest b = record { log = log; rest = rest; begins = b; program = p; accepts = proved.0 }
 
   -- NAMES
@@ -79,10 +79,10 @@ module _ (bytes log : List ℕ) (steps : ℕ) (a : Accepted) (is : IsAnswer log 
   now = record { lines = a.lines; left = steps - a.charge }
 
   module _ (texts : List (List ℕ)) (q : Source) (input : IsInput bytes log texts q) where
-    here : HasTheorem bytes steps
+    abbrev here : HasTheorem bytes steps
     here = theorem input.rest input.begins
 
-    case : HasCase input.rest
+    abbrev case : HasCase input.rest
     case = record { texts = texts; written = input.written; named = input.named; program = q; spelt = input.spelt }
 
     behind : behind_log here ≡ now
@@ -95,7 +95,7 @@ module _ (bytes log : List ℕ) (steps : ℕ) (a : Accepted) (is : IsAnswer log 
     wrong_names n = inl (refl, inr (record { theorem = here; no_lines = no; case = case; wrong = n; placed = refl }))
 
     module _ (r : Renaming) (ren : IsRenaming p.names q.names texts r) (given : List Name) (g : given ≡ given_names p.names texts) where
-      parts : (figure : Figure) → IsFigureOf q figure → HasParts bytes steps
+      abbrev parts : (figure : Figure) → IsFigureOf q figure → HasParts bytes steps
       parts figure drawn = record {
         theorem = here;
         no_lines = no;

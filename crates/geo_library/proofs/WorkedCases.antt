@@ -1,11 +1,15 @@
 -- What the parts of the work show of the citing program.
-use Rattle.std.proofs.Common.{◌≡◌, ◌≢◌, ℕ, suc, ◌<◌, Option, None, List, length, map, refl, sym, subst}
+use Rattle.std.proofs.Common.{◌≡◌, ◌≢◌, ℕ, suc, ◌<◌, Option, None, Result, Ok, Err, List, length, map, refl, sym, ◌∙◌, ap, subst}
 use Rattle.std.specs.List.{AllByRecursion}
+use Rattle.std.specs.Result.{IfOk, OnOk}
 use Rattle.std.proofs.lemmas.List.Elements.{recursion_from_All}
+use Rattle.geo_points.specs.declared.ids.ParamId.{ParamId}
+use Rattle.geo_points.specs.declared.ids.PointId.{PointId}
 use Rattle.geo_poly.specs.declared.variables.Var.{Var}
 use Rattle.geo_terms.specs.Constructions.{Construction}
-use Rattle.geo_terms.specs.Stores.{tree_of}
+use Rattle.geo_terms.specs.Stores.{Store, tree_of}
 use Rattle.geo_terms.specs.TermBounds.{IsTermBelow}
+use Rattle.geo_program.specs.declared.commands.Command.{Command}
 use Rattle.geo_program.specs.declared.names.Name.{Name}
 use Rattle.geo_program.specs.Forms.{statement_form}
 use Rattle.geo_program.specs.FormTexts.{form_text}
@@ -13,20 +17,23 @@ use Rattle.geo_program.specs.WellFormed.{IsWellFormed, Source}
 use Rattle.geo_lowering.specs.Lowering.{IsLowered, LoweredForm}
 use Rattle.geo_lowering.specs.declared.version.Version.TheVariants.{Two}
 use Rattle.geo_conditions.specs.declared.items.Item.{Item}
+use Rattle.geo_conditions.specs.Inner.ItemTerms.{terms_layout}
 use Rattle.geo_conditions.specs.Lists.{AreConditions, AreStoredConditions, Found, all_found, condition_item, item_form}
 use Rattle.geo_library.specs.Figures.{Figure, IsFigureOf, known_variables}
 use Rattle.geo_library.specs.declared.asking.AskedGoal.{AskedGoal}
-use Rattle.geo_library.specs.Inner.Asking.{AreAsked, GoalForm, asked_form}
+use Rattle.geo_library.specs.Inner.Asking.{AreAsked, GoalForm, asked_form, goals_from}
 use Rattle.geo_library.specs.Inner.Cases.{IsMissed, IsRenamedBy, IsWorked, image_forms_from}
 use Rattle.geo_library.specs.Inner.GoalsWorked.{AreGoalsZero, IsFirstGoalMiss}
 use Rattle.geo_library.specs.Inner.Knowing.{AreKnown, IsReadyItem}
+use Rattle.geo_library.specs.Inner.Naming.{AreImages}
 use Rattle.geo_library.specs.Inner.Missing.{IsFirstNotFound}
 use Rattle.geo_library.specs.Instances.{all_asked, condition_texts, statement_text}
-use Rattle.geo_library.specs.Renamings.{Renaming}
+use Rattle.geo_library.specs.Renamings.{IsRenaming, Renaming}
 use Rattle.geo_library.specs.Working.{IsFirstMiss, Miss, Progress, no_instance}
 use Rattle.geo_library.proofs.AllTexts.{first_of_program}
 use Rattle.geo_library.proofs.FirstMisses.{all_missed, all_passed, statement_missed}
 use Rattle.geo_library.proofs.GoalsInside.{asked_inside}
+use Rattle.geo_library.proofs.ImagesPlaced.{program_placed}
 use Rattle.geo_library.proofs.KnownByText.{all_alike, all_ready}
 
 -- THE CONDITIONS
@@ -46,6 +53,21 @@ module _ (q : Source) (old : LoweredForm) (items : List Item) (h : AreStoredCond
   first_missing given wanted missing k = first_of_program q old.construction.nodes items found given wanted missing h.are.listed h.are.written k
 
 -- GOALS
+-- asked over the places of their images, the goals are asked where their images stand
+pub asked_there : (p q : Source) (texts : List (List ℕ)) (r : Renaming) → IsWellFormed p → IsWellFormed q → IsRenaming p.names q.names texts r → (form : LoweredForm) → IsLowered Two q form
+    → (places : List PointId) (numbers : List ParamId) → form.points ≡ places → form.params ≡ numbers → (points : List PointId) (params : List ParamId)
+    → AreImages (map (λ a. a.0) places) r.points (map (λ a. a.0) points) → AreImages (map (λ t. t.0) numbers) r.params (map (λ t. t.0) params)
+    → (cs : List Command) → cs ≡ p.commands → (nodes : Store) (asked : List AskedGoal) → AreAsked nodes asked (goals_from p.nodes (terms_layout points params) 0 1 cs)
+    → AreAsked nodes asked (image_forms_from q r p.nodes 0 1 p.commands)
+asked_there p q texts r wp wq ren form low places numbers x y points params at_points at_params cs same nodes asked h = record {
+  stored = h.stored;
+  are = h.are
+      ∙ ap (λ (ks : List Command). goals_from p.nodes (terms_layout points params) 0 1 ks) same
+      ∙ program_placed p q texts r wp wq ren form low points params
+      (subst (λ (ps : List PointId). AreImages (map (λ a. a.0) ps) r.points (map (λ a. a.0) points)) (sym x) at_points)
+      (subst (λ (ts : List ParamId). AreImages (map (λ t. t.0) ts) r.params (map (λ t. t.0) params)) (sym y) at_params);
+}
+
 module _ (p q : Source) (given : List Name) (r : Renaming) (wp : IsWellFormed p) (wq : IsWellFormed q) (renamed : IsRenamedBy p q given r) (old : LoweredForm) (new : Construction)
     (low : IsLowered Two q (record old { construction = new })) (asked : List AskedGoal) (h : AreAsked new.nodes asked (image_forms_from q r p.nodes 0 1 p.commands)) where
   -- the goals stand among the new steps
@@ -123,3 +145,8 @@ module _ (p q : Source) (given : List Name) (r : Renaming) (now : Progress) (c :
     first = subst (λ (x : Miss). IsFirstMiss q figure now (all_asked given r p) x) (sym m)
         (statement_missed q figure given r p now (none_missing e) (goals_zero z) other);
   }
+
+-- where an answer is Ok, both are so of it
+pub both_told : {T E : Type 0} (result : Result T E) (A : Type 0) (B C : T → Type 0) → OnOk result A → IfOk result B → ((x : T) → A → B x → C x) → IfOk result C
+both_told (Ok x) A B C a b f = f x a b
+both_told (Err e) A B C a b f = tt

@@ -103,13 +103,16 @@ fn asked_texts(
 {
     // `len` also says that the store is valid.
     let _ = theorem.terms.len();
+    let names = NameTable::new(alloc, given)?;
     let printer = Printer {
-        names: NameTable::new(alloc, given)?,
+        names,
         terms: &theorem.terms,
     };
     let commands = theorem.commands.as_slice();
     let conditions = list_program(alloc, &theorem.terms, commands, theorem.statement)?;
-    let missing = missing_condition(alloc, &printer, &conditions.items, listed.items.as_slice())?;
+    let rows = conditions.items.as_slice();
+    let items = listed.items.as_slice();
+    let missing = missing_condition(alloc, &printer, rows, items)?;
     let statement = printer.statement_text(alloc, theorem.statement)?;
     Ok(AskedTexts { missing, statement })
 }

@@ -1,4 +1,4 @@
-use Rattle.std.proofs.Common.{List, ℕ, arith}
+use Rattle.std.proofs.Common.{arith}
 use Rattle.std.proofs.lemmas.Result.{IfOk-weaker}
 use Rattle.log_checker.proofs.PassedOn.{passed_on}
 use Rattle.geo_library.specs.Citations.{IsCitation}
@@ -13,7 +13,7 @@ theorem_of-requires c =
 
 pub returns-in_err-theorem-clause-refused : goal.returns-in_err-theorem-clause-refused
 returns-in_err-theorem-clause-refused c =
-    passed_on c.from_residual-in_err-theorem.result c.in_err-theorem.field-0.0 (TellsRefusal c.args.bytes.now c.args.steps) c.from_residual-in_err-theorem.ensures.1
+    passed_on c.from_residual.result c.in_err-theorem.field-0.0 (TellsRefusal c.args.bytes.now c.args.steps) c.from_residual.ensures.1
     (c.in_err-theorem.ensures.refused c.args.bytes.now c.cut_log.result.1.now c.cut_log.ensures)
 
 pub cite_theorem-requires-clause-short : goal.cite_theorem-requires-clause-short
