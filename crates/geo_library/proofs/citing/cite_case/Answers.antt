@@ -1,10 +1,8 @@
-use Rattle.std.proofs.Common.{◌≡◌, ◌-◌, List, map, sym, ◌∙◌, ap, subst}
+use Rattle.std.proofs.Common.{List, map, sym, ◌∙◌, ap, subst}
 use Rattle.std.proofs.lemmas.Result.{IfErr-weaker, IfOk-weaker}
 use Rattle.geo_program.specs.declared.names.Name.{Name}
 use Rattle.geo_program.specs.Programs.{source_of}
 use Rattle.geo_library.specs.Citations.{IsCitation}
-use Rattle.geo_library.specs.Inner.Cases.{IsMissed, IsWorked}
-use Rattle.geo_library.specs.Inner.GoalsWorked.{TellsMiss}
 use Rattle.geo_library.specs.Inner.Naming.{HasNoRenaming, renaming_form}
 use Rattle.geo_library.specs.Renamings.{IsRenaming, given_names}
 use Rattle.geo_library.specs.Told.{TellsRefusal}
@@ -29,9 +27,9 @@ returns-clause-cited c = λ bytes input.
     let r = renaming_form c.in-Some.renaming in
     let given = c.deref.result.now in
     let ren = subst (λ (ns : List Name). IsRenaming ns q.names texts r) c.as_slice-cited.ensures
-        (subst (λ (ns : List Name). IsRenaming c.as_slice-cited.result.now ns texts r) c.as_slice-citing.ensures c.in-Some.ensures) in
+    (subst (λ (ns : List Name). IsRenaming c.as_slice-cited.result.now ns texts r) c.as_slice-citing.ensures c.in-Some.ensures) in
     let names = c.deref.ensures.value ∙ c.in_ok-given.ensures ∙ ap (λ (ns : List Name). given_names ns texts) c.as_slice-cited.ensures in
-    IfOk-weaker c.work.result (IsWorked p q given r (record { lines = a.lines; left = c.args.steps - a.charge })) (IsCitation bytes c.args.steps)
+    IfOk-weaker c.work.result _ (IsCitation bytes c.args.steps)
     (λ text w. cites bytes c.args.log.now c.args.steps a c.requires.accepted c.requires.proved c.requires.no_lines texts q input r ren given names text w)
     c.work.ensures.worked
 
@@ -44,8 +42,8 @@ returns-clause-refused c = λ bytes input.
     let r = renaming_form c.in-Some.renaming in
     let given = c.deref.result.now in
     let ren = subst (λ (ns : List Name). IsRenaming ns q.names texts r) c.as_slice-cited.ensures
-        (subst (λ (ns : List Name). IsRenaming c.as_slice-cited.result.now ns texts r) c.as_slice-citing.ensures c.in-Some.ensures) in
+    (subst (λ (ns : List Name). IsRenaming c.as_slice-cited.result.now ns texts r) c.as_slice-citing.ensures c.in-Some.ensures) in
     let names = c.deref.ensures.value ∙ c.in_ok-given.ensures ∙ ap (λ (ns : List Name). given_names ns texts) c.as_slice-cited.ensures in
-    IfErr-weaker c.work.result (TellsMiss (IsMissed p q given r (record { lines = a.lines; left = c.args.steps - a.charge }))) (TellsRefusal bytes c.args.steps)
+    IfErr-weaker c.work.result _ (TellsRefusal bytes c.args.steps)
     (λ error m. misses bytes c.args.log.now c.args.steps a c.requires.accepted c.requires.proved c.requires.no_lines texts q input r ren given names error m)
     c.work.ensures.missed

@@ -64,7 +64,7 @@ returns-in_err-work_goals-clause-missed c =
     let asked = c.in_ok-goals.ensures.goals q old c.requires.texts (program_well_formed c.args.case.now) c.in_ok-problem.ensures.lowered refl refl c.requires.renames in
     let these = subst (λ (gs : List AskedGoal). AreAsked new.nodes gs (image_forms_from q r p.nodes 0 1 p.commands)) (sym c.deref.ensures.value) asked in
     let under = under_work p q given r old c.in_ok-problem.problem.conditions c.in_ok-problem.ensures.conditions new low vars c.in_ok-known.ensures missing
-        c.in_ok-asked.ensures.missing c.deref.result.now these in
+    c.in_ok-asked.ensures.missing c.deref.result.now these in
     passed_on c.from_residual-in_err-work_goals.result c.in_err-work_goals.field-0.0 (TellsMiss (IsMissed p q given r now)) c.from_residual-in_err-work_goals.ensures.1
     (miss_weaker (IsFirstGoalMiss new vars missing now.lines now.left forms) (IsMissed p q given r now) (missed p q given r now new vars missing forms under)
     c.in_err-work_goals.field-0.0 c.in_err-work_goals.ensures.missed)
@@ -86,7 +86,7 @@ returns-clause-worked c =
     let asked = c.in_ok-goals.ensures.goals q old c.requires.texts (program_well_formed c.args.case.now) c.in_ok-problem.ensures.lowered refl refl c.requires.renames in
     let these = subst (λ (gs : List AskedGoal). AreAsked new.nodes gs (image_forms_from q r p.nodes 0 1 p.commands)) (sym c.deref.ensures.value) asked in
     let under = under_work p q given r old c.in_ok-problem.problem.conditions c.in_ok-problem.ensures.conditions new low vars c.in_ok-known.ensures missing
-        c.in_ok-asked.ensures.missing c.deref.result.now these in
+    c.in_ok-asked.ensures.missing c.deref.result.now these in
     both_told c.cited_statement.result (statement ≡ statement_text q) (λ text. text ≡ statement_text q) (IsWorked p q given r now)
     c.cited_statement.ensures.same c.cited_statement.ensures.cited
     (λ text a b. worked p q given r now new vars missing forms under text c.in_ok-work_goals.ensures.given c.in_ok-work_goals.ensures.zero
@@ -109,7 +109,7 @@ returns-clause-missed c =
     let asked = c.in_ok-goals.ensures.goals q old c.requires.texts (program_well_formed c.args.case.now) c.in_ok-problem.ensures.lowered refl refl c.requires.renames in
     let these = subst (λ (gs : List AskedGoal). AreAsked new.nodes gs (image_forms_from q r p.nodes 0 1 p.commands)) (sym c.deref.ensures.value) asked in
     let under = under_work p q given r old c.in_ok-problem.problem.conditions c.in_ok-problem.ensures.conditions new low vars c.in_ok-known.ensures missing
-        c.in_ok-asked.ensures.missing c.deref.result.now these in
+    c.in_ok-asked.ensures.missing c.deref.result.now these in
     IfErr-weaker c.cited_statement.result (TellsMiss (λ miss. (miss ≡ no_instance (suc (length p.commands))) × (statement ≡ statement_text q → ⊥))) (TellsMiss (IsMissed p q given r now))
     (λ error h. miss_weaker (λ miss. (miss ≡ no_instance (suc (length p.commands))) × (statement ≡ statement_text q → ⊥)) (IsMissed p q given r now)
     (λ miss k. another p q given r now new vars missing forms under miss c.in_ok-work_goals.ensures.given c.in_ok-work_goals.ensures.zero
