@@ -1,5 +1,6 @@
 -- What is told of an input that has a theorem.
-use Rattle.std.proofs.Common.{◌≡◌, ℕ, ◌+◌, ◌-◌, inl, inr, List, ◌++◌, length, refl, sym, ◌∙◌, ap, subst, arith}
+use Rattle.std.proofs.Common.{◌≡◌, ℕ, ◌+◌, ◌-◌, inl, inr, Option, Some, None, List, ◌++◌, length, refl, sym, ◌∙◌, ap, subst, arith}
+use Rattle.std.specs.Prelude.{MatchOption}
 use Rattle.std.proofs.lemmas.List.{length-append}
 use Rattle.geo_program.specs.declared.names.Name.{Name}
 use Rattle.geo_program.specs.Programs.{source_of}
@@ -24,6 +25,13 @@ use Rattle.geo_library.specs.Instances.{all_asked}
 use Rattle.geo_library.specs.Renamings.{IsRenaming, Renaming, given_names}
 use Rattle.geo_library.specs.Told.{TellsRefusal}
 use Rattle.geo_library.specs.Working.{ArePassed, IsFirstMiss, Miss, Progress, no_instance, stopped_at}
+
+-- what is so of an option is so of what it is
+pub at_none : {A : Type 0} (o : Option A) (P : Type 0) (Q : A → Type 0) → o ≡ None → MatchOption o P Q → P
+at_none {A} o P Q e h = subst (λ (m : Option A). MatchOption m P Q) e h
+
+pub at_some : {A : Type 0} (o : Option A) (P : Type 0) (Q : A → Type 0) (x : A) → o ≡ Some x → MatchOption o P Q → Q x
+at_some {A} o P Q x e h = subst (λ (m : Option A). MatchOption m P Q) e h
 
 -- the length of an input is that of its parts
 pub parts_length : (bytes log rest : List ℕ) → BeginsWithLog bytes log rest → length bytes ≡ length log + length rest
