@@ -15,7 +15,7 @@ returns-in_default-clause-refused c = λ bytes input.
     let texts = map (λ t. t.now) c.args.texts.now in
     let cited = c.as_slice-cited.result.now in
     let citing = c.as_slice-citing.result.now in
-    let none = at_none c.in_ok-renaming_of.field-0 (HasNoRenaming cited citing texts) (λ x. IsRenaming cited citing texts (renaming_form x)) c.in_default.is c.in_ok-renaming_of.ensures in
+    let none = at_none _ (HasNoRenaming cited citing texts) (λ x. IsRenaming cited citing texts (renaming_form x)) c.in_default.is c.in_ok-renaming.ensures in
     subst (TellsRefusal bytes c.args.steps) (sym c.wrong_names.ensures)
     (wrong_names bytes c.args.log.now c.args.steps c.args.theorem.now c.requires.accepted c.requires.proved c.requires.no_lines texts q input
     (subst (λ (ns : List Name). HasNoRenaming ns q.names texts) c.as_slice-cited.ensures
@@ -31,8 +31,8 @@ returns-clause-cited c = λ bytes input.
     let given = c.deref.result.now in
     let cited = c.as_slice-cited.result.now in
     let citing = c.as_slice-citing.result.now in
-    let some = at_some c.in_ok-renaming_of.field-0 (HasNoRenaming cited citing texts) (λ x. IsRenaming cited citing texts (renaming_form x)) c.in-Some.renaming c.in-Some.is
-    c.in_ok-renaming_of.ensures in
+    let some = at_some _ (HasNoRenaming cited citing texts) (λ x. IsRenaming cited citing texts (renaming_form x)) c.in-Some.renaming c.in-Some.is
+    c.in_ok-renaming.ensures in
     let ren = subst (λ (ns : List Name). IsRenaming ns q.names texts r) c.as_slice-cited.ensures
     (subst (λ (ns : List Name). IsRenaming c.as_slice-cited.result.now ns texts r) c.as_slice-citing.ensures some) in
     let names = c.deref.ensures.value ∙ c.in_ok-given.ensures ∙ ap (λ (ns : List Name). given_names ns texts) c.as_slice-cited.ensures in
@@ -50,8 +50,8 @@ returns-clause-refused c = λ bytes input.
     let given = c.deref.result.now in
     let cited = c.as_slice-cited.result.now in
     let citing = c.as_slice-citing.result.now in
-    let some = at_some c.in_ok-renaming_of.field-0 (HasNoRenaming cited citing texts) (λ x. IsRenaming cited citing texts (renaming_form x)) c.in-Some.renaming c.in-Some.is
-    c.in_ok-renaming_of.ensures in
+    let some = at_some _ (HasNoRenaming cited citing texts) (λ x. IsRenaming cited citing texts (renaming_form x)) c.in-Some.renaming c.in-Some.is
+    c.in_ok-renaming.ensures in
     let ren = subst (λ (ns : List Name). IsRenaming ns q.names texts r) c.as_slice-cited.ensures
     (subst (λ (ns : List Name). IsRenaming c.as_slice-cited.result.now ns texts r) c.as_slice-citing.ensures some) in
     let names = c.deref.ensures.value ∙ c.in_ok-given.ensures ∙ ap (λ (ns : List Name). given_names ns texts) c.as_slice-cited.ensures in
