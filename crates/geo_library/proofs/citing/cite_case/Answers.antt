@@ -2,6 +2,7 @@ use Rattle.std.proofs.Common.{List, map, sym, ◌∙◌, ap, subst}
 use Rattle.std.proofs.lemmas.Result.{IfErr-weaker, IfOk-weaker}
 use Rattle.geo_program.specs.declared.names.Name.{Name}
 use Rattle.geo_program.specs.Programs.{source_of}
+use Rattle.geo_library.specs.declared.renaming.Renaming.{Renaming as Numbers}
 use Rattle.geo_library.specs.Citations.{IsCitation}
 use Rattle.geo_library.specs.Inner.Naming.{HasNoRenaming, renaming_form}
 use Rattle.geo_library.specs.Renamings.{IsRenaming, given_names}
@@ -15,7 +16,7 @@ returns-in_default-clause-refused c = λ bytes input.
     let texts = map (λ t. t.now) c.args.texts.now in
     let cited = c.as_slice-cited.result.now in
     let citing = c.as_slice-citing.result.now in
-    let none = at_none _ (HasNoRenaming cited citing texts) (λ x. IsRenaming cited citing texts (renaming_form x)) c.in_default.is c.in_ok-renaming.ensures in
+    let none = at_none _ (HasNoRenaming cited citing texts) (λ (x : Numbers). IsRenaming cited citing texts (renaming_form x)) c.in_default.is c.in_ok-renaming.ensures in
     subst (TellsRefusal bytes c.args.steps) (sym c.wrong_names.ensures)
     (wrong_names bytes c.args.log.now c.args.steps c.args.theorem.now c.requires.accepted c.requires.proved c.requires.no_lines texts q input
     (subst (λ (ns : List Name). HasNoRenaming ns q.names texts) c.as_slice-cited.ensures
@@ -31,7 +32,7 @@ returns-clause-cited c = λ bytes input.
     let given = c.deref.result.now in
     let cited = c.as_slice-cited.result.now in
     let citing = c.as_slice-citing.result.now in
-    let some = at_some _ (HasNoRenaming cited citing texts) (λ x. IsRenaming cited citing texts (renaming_form x)) c.in-Some.renaming c.in-Some.is
+    let some = at_some _ (HasNoRenaming cited citing texts) (λ (x : Numbers). IsRenaming cited citing texts (renaming_form x)) c.in-Some.renaming c.in-Some.is
     c.in_ok-renaming.ensures in
     let ren = subst (λ (ns : List Name). IsRenaming ns q.names texts r) c.as_slice-cited.ensures
     (subst (λ (ns : List Name). IsRenaming c.as_slice-cited.result.now ns texts r) c.as_slice-citing.ensures some) in
@@ -50,7 +51,7 @@ returns-clause-refused c = λ bytes input.
     let given = c.deref.result.now in
     let cited = c.as_slice-cited.result.now in
     let citing = c.as_slice-citing.result.now in
-    let some = at_some _ (HasNoRenaming cited citing texts) (λ x. IsRenaming cited citing texts (renaming_form x)) c.in-Some.renaming c.in-Some.is
+    let some = at_some _ (HasNoRenaming cited citing texts) (λ (x : Numbers). IsRenaming cited citing texts (renaming_form x)) c.in-Some.renaming c.in-Some.is
     c.in_ok-renaming.ensures in
     let ren = subst (λ (ns : List Name). IsRenaming ns q.names texts r) c.as_slice-cited.ensures
     (subst (λ (ns : List Name). IsRenaming c.as_slice-cited.result.now ns texts r) c.as_slice-citing.ensures some) in
