@@ -7,6 +7,7 @@ use Rattle.geo_program.specs.FormTexts.{form_text}
 use Rattle.geo_program.specs.WellFormed.{Source}
 use Rattle.geo_lowering.specs.Conditions.{Condition}
 use Rattle.geo_conditions.specs.declared.conditions.ListedCondition.{ListedCondition}
+use Rattle.geo_conditions.specs.declared.items.Item.{Item}
 use Rattle.geo_conditions.specs.Inner.ConditionLists.{found_of}
 use Rattle.geo_conditions.specs.Lists.{AreConditions, Found, IsListed, all_found, condition_form}
 use Rattle.geo_library.specs.Inner.Listing.{IsFirstMissing, asked_text}
@@ -46,3 +47,13 @@ module _ (listed : List (List ℕ)) (given : List Name) where
   pub first_of_all : (p : Source) (items : List ListedCondition) (missing : Option ℕ) → AreConditions p (map (found_of p.nodes) items)
       → IsFirstMissing listed (asked_text given p.nodes) items missing → First (all_found p) missing
   first_of_all p items missing k h = first_of_list missing [] (all_found p) (map (found_of p.nodes) items) k (first_of_items p.nodes items missing h)
+
+-- so it is by other names for the same lists
+pub listed_missing : (p : Source) (given names : List Name) → names ≡ given → (listed items : List Item) → items ≡ listed → (conditions rows : List ListedCondition) → rows ≡ conditions
+    → AreConditions p (map (found_of p.nodes) conditions) → (missing : Option ℕ) → IsFirstMissing (map (λ i. i.text) items) (asked_text names p.nodes) rows missing
+    → IsFirstNotFound (map (λ i. i.text) listed) given (all_found p) missing
+listed_missing p given names x listed items y conditions rows z are missing h =
+    first_of_all (map (λ i. i.text) listed) given p conditions missing are
+    (subst (λ (ns : List Name). IsFirstMissing (map (λ i. i.text) listed) (asked_text ns p.nodes) conditions missing) x
+    (subst (λ (is : List Item). IsFirstMissing (map (λ i. i.text) is) (asked_text names p.nodes) conditions missing) y
+    (subst (λ (rs : List ListedCondition). IsFirstMissing (map (λ i. i.text) items) (asked_text names p.nodes) rs missing) z h)))

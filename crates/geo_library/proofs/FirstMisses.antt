@@ -15,29 +15,18 @@ use Rattle.geo_program.specs.FormTexts.{form_text}
 use Rattle.geo_program.specs.WellFormed.{Source}
 use Rattle.geo_lowering.specs.Conditions.{Condition, command_conditions}
 use Rattle.geo_lowering.specs.Counting.{counted, named}
-use Rattle.geo_lowering.specs.Lowering.{layout_of, renamed}
-use Rattle.geo_lowering.specs.declared.version.Version.TheVariants.{Two}
 use Rattle.geo_lowering.proofs.ConditionValues.{each_append}
 use Rattle.geo_conditions.specs.Lists.{Found, all_found, condition_form, found_at, found_from}
 use Rattle.geo_conditions.specs.Statements.{statement_conditions}
 use Rattle.geo_library.specs.CitedGoals.{command_goals}
 use Rattle.geo_library.specs.Figures.{Figure}
 use Rattle.geo_library.specs.Inner.Asking.{GoalForm}
+use Rattle.geo_library.specs.Inner.Cases.{image_forms, image_forms_from}
 use Rattle.geo_library.specs.Inner.GoalsWorked.{AreGoalsZero, IsBefore, IsFirstGoalMiss, IsMissing}
 use Rattle.geo_library.specs.Inner.Missing.{IsFirstNotFound, IsFound}
 use Rattle.geo_library.specs.Instances.{Asked, AskedAt, all_asked, asked_at, asks_goal, asks_statement, command_asked, commands_asked, condition_texts, conditions_asked, statement_asked, statement_text}
 use Rattle.geo_library.specs.Renamings.{Renaming, image}
 use Rattle.geo_library.specs.Working.{ArePassed, IsFirstMiss, Miss, Progress, no_instance}
-
-module _ (q : Source) (r : Renaming) where
-  -- the images of terms, asked at a line
-  abbrev pub image_forms : ℕ → List Tree → List GoalForm
-  image_forms line es = map (λ e. record { line = line; term = renamed (layout_of Two q.commands) (image r e) }) es
-
-  -- of the goals of commands
-  abbrev pub image_forms_from : Store → ℕ → ℕ → List Command → List GoalForm
-  image_forms_from nodes x line [] = []
-  image_forms_from nodes x line (c ∷ cs) = image_forms line (command_goals nodes (record { 0 = x }) c) ++ image_forms_from nodes (counted kind.Point (named c) x) (suc line) cs
 
 module _ (q : Source) (figure : Figure) (given : List Name) (r : Renaming) where
   abbrev listed : List (List ℕ)

@@ -22,8 +22,8 @@ use Rattle.geo_lowering.proofs.Values.{IsOver, over_renamed}
 use Rattle.geo_library.specs.CitedGoals.{command_goals}
 use Rattle.geo_library.specs.declared.asking.AskedGoal.{AskedGoal}
 use Rattle.geo_library.specs.Inner.Asking.{AreAsked, GoalForm, asked_form}
+use Rattle.geo_library.specs.Inner.Cases.{image_forms, image_forms_from}
 use Rattle.geo_library.specs.Renamings.{IsRenaming, Renaming, image, places_in}
-use Rattle.geo_library.proofs.FirstMisses.{image_forms, image_forms_from}
 use Rattle.geo_library.proofs.Given.{maps_into}
 use Rattle.geo_library.proofs.ImagesPlaced.{AreGoalsOver, goals_named}
 

@@ -20,11 +20,11 @@ use Rattle.geo_conditions.proofs.ConditionScopes.{params-up, points-up}
 use Rattle.geo_conditions.specs.Inner.ItemTerms.{terms_layout}
 use Rattle.geo_library.specs.CitedGoals.{command_goals}
 use Rattle.geo_library.specs.Inner.Asking.{GoalForm, goal_forms, goals_from}
+use Rattle.geo_library.specs.Inner.Cases.{image_forms, image_forms_from}
 use Rattle.geo_library.specs.Inner.Naming.{AreImages}
 use Rattle.geo_library.specs.Renamings.{IsRenaming, Renaming, image}
 use Rattle.geo_library.proofs.Given.{params_counted, points_counted}
 use Rattle.geo_library.proofs.GoalScopes.{goals_over}
-use Rattle.geo_library.proofs.FirstMisses.{image_forms, image_forms_from}
 
 -- one layout behind another, below n points and m parameters
 pub renamed_twice : (n m : ℕ) (c k l : Layout) → ((a : ℕ) → a < n → c.point a ≡ l.point (k.point a)) → ((t : ℕ) → t < m → c.param t ≡ l.param (k.param t))

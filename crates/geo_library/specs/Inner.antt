@@ -9,3 +9,4 @@ pub mod Naming
 pub mod Knowing
 pub mod GoalsWorked
 pub mod Missing
+pub mod Cases
