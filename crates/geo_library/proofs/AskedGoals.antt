@@ -1,5 +1,6 @@
 -- Goals are asked one after another.
-use Rattle.std.proofs.Common.{◌≡◌, ℕ, suc, ◌+◌, ◌<◌, ◌≤◌, Option, Some, None, List, [], ◌∷◌, ◌++◌, drop, get_or, length, map, refl, sym, ◌∙◌, ap, ap₂, subst, subst₂, add-one, append-nil, append_assoc, drop-cons, arith}
+use Rattle.std.proofs.Common.{◌≡◌, ℕ, suc, ◌+◌, ◌<◌, ◌≤◌, Option, Some, None, List, [], ◌∷◌, ◌++◌, drop, get_or, length, map, refl, sym}
+use Rattle.std.proofs.Common.{◌∙◌, ap, ap₂, subst, subst₂, add-one, append-nil, append_assoc, drop-cons, arith}
 use Rattle.std.specs.List.{AllByRecursion}
 use Rattle.std.specs.Option.{option_to_list}
 use Rattle.std.proofs.lemmas.List.{map_push}
@@ -88,7 +89,8 @@ still_placed terms places one two keeps h = record {
 }
 
 -- ASKED GOALS
-same_forms : (one two : Construction) (asked : List AskedGoal) → Keeps one two → AllByRecursion (λ i. i.term.0 < length one.nodes) asked → map (asked_form two.nodes) asked ≡ map (asked_form one.nodes) asked
+same_forms : (one two : Construction) (asked : List AskedGoal) → Keeps one two → AllByRecursion (λ i. i.term.0 < length one.nodes) asked
+    → map (asked_form two.nodes) asked ≡ map (asked_form one.nodes) asked
 same_forms one two [] keeps h = refl
 same_forms one two (x ∷ xs) keeps h = λ i. record { line = x.line; term = keeps.trees x.term h.0 i } ∷ same_forms one two xs keeps h.1 i
 

@@ -39,7 +39,8 @@ weaker S T q f (asks_condition text) h = h
 weaker S T q f (asks_goal e) h = f e h
 weaker S T q f (asks_statement text) h = h
 
-all_weaker : (S T : Tree → Type 0) (q : Source) → ((e : Tree) → S e → T e) → (asked : List AskedAt) → AllByRecursion (λ a. IsAnswered S q a.asked) asked → AllByRecursion (λ a. IsAnswered T q a.asked) asked
+all_weaker : (S T : Tree → Type 0) (q : Source) → ((e : Tree) → S e → T e) → (asked : List AskedAt)
+    → AllByRecursion (λ a. IsAnswered S q a.asked) asked → AllByRecursion (λ a. IsAnswered T q a.asked) asked
 all_weaker S T q f [] h = tt
 all_weaker S T q f (a ∷ asked) h = (weaker S T q f a.asked h.0, all_weaker S T q f asked h.1)
 

@@ -53,14 +53,17 @@ use Rattle.geo_conditions.proofs.ConditionScopes.{AreOver, FoundOver, params-up,
 use Rattle.geo_conditions.proofs.Extensions.{extension_agrees, met_program}
 use Rattle.geo_conditions.proofs.Listings.{held, unmapped}
 use Rattle.geo_library.specs.CitedGoals.{command_goals, has_lines}
-use Rattle.geo_library.specs.Instances.{Asked, AskedAt, IsAnswered, IsInstance, all_asked, asks_condition, asks_goal, asks_statement, asked_at, command_asked, commands_asked, condition_texts, conditions_asked, statement_asked, statement_text}
+use Rattle.geo_library.specs.Instances.{Asked, AskedAt, IsAnswered, IsInstance, all_asked, asks_condition, asks_goal, asks_statement}
+use Rattle.geo_library.specs.Instances.{asked_at, command_asked, commands_asked, condition_texts, conditions_asked, statement_asked}
+use Rattle.geo_library.specs.Instances.{statement_text}
 use Rattle.geo_library.specs.Laws.{IsZeroOver, ZeroGoalsCite}
 use Rattle.geo_library.specs.Renamings.{Renaming, given_names, image, places_in}
 use Rattle.geo_library.proofs.CommandGoals.{AreZero, MayOwn, command_met}
 use Rattle.geo_library.proofs.ConditionTexts.{IsOverNames, same, same_lexemes}
 use Rattle.geo_library.proofs.Given.{declared_scope, maps_into, names_images}
 use Rattle.geo_library.proofs.GoalScopes.{OnNumber, goals_over, goals_valued, lines_kept}
-use Rattle.geo_library.proofs.Images.{MapsInto, NamesImages, arguments_over, image_arguments_are, image_condition, image_condition_text, image_conditions, image_expression, image_form, image_kinds, image_over, image_point, image_text}
+use Rattle.geo_library.proofs.Images.{MapsInto, NamesImages, arguments_over, image_arguments_are, image_condition, image_condition_text}
+use Rattle.geo_library.proofs.Images.{image_conditions, image_expression, image_form, image_kinds, image_over, image_point, image_text}
 use Rattle.geo_library.proofs.OwnNumbers.{AreOwn, AreReady, numbers_exist, params_read}
 
 -- what is asked, at its line
@@ -72,7 +75,8 @@ mapped : {A B : Type 0} (f : A → B) (P : B → Type 0) (xs : List A) → AllBy
 mapped f P [] h = tt
 mapped f P (x ∷ xs) h = (h.0, mapped f P xs h.1)
 
-module _ (version : Version) (p q : Source) (l : LoweredForm) (texts : List (List ℕ)) (wp : IsWellFormed p) (wq : IsWellFormed q) (low : IsLowered version q l) (ins : IsInstance (IsZeroOver version q l) p q texts) (V : Placement) (meets : Meets q V) where
+module _ (version : Version) (p q : Source) (l : LoweredForm) (texts : List (List ℕ)) (wp : IsWellFormed p) (wq : IsWellFormed q)
+    (low : IsLowered version q l) (ins : IsInstance (IsZeroOver version q l) p q texts) (V : Placement) (meets : Meets q V) where
   abbrev r : Renaming
   r = ins.renaming
 
@@ -140,7 +144,8 @@ module _ (version : Version) (p q : Source) (l : LoweredForm) (texts : List (Lis
       let d = value_down version q V L N M J agrees (renamed m e) (over_renamed m X Y N M into.points into.params e o) (to_image e h) in
       (h, subst (λ f. Same f (whole (pos 0))) (renamed-value m R e) (fractions.same_trans _ _ _ d.1 (z L met_steps d.0)))
 
-  terms_zero : (es : List Tree) → AllByRecursion (IsOver X Y) es → AllByRecursion (HasTreeValue W0) es → AllByRecursion (λ e. IsZeroOver version q l (image r e)) es → AllByRecursion (HasZeroValue W0) es
+  terms_zero : (es : List Tree) → AllByRecursion (IsOver X Y) es → AllByRecursion (HasTreeValue W0) es
+      → AllByRecursion (λ e. IsZeroOver version q l (image r e)) es → AllByRecursion (HasZeroValue W0) es
   terms_zero [] o h z = tt
   terms_zero (e ∷ es) o h z = (term_zero e o.0 h.0 z.0, terms_zero es o.1 h.1 z.1)
 
@@ -234,7 +239,8 @@ module _ (version : Version) (p q : Source) (l : LoweredForm) (texts : List (Lis
       let conditions = command_conditions p.nodes at c in
       let asked = command_asked given r p.nodes at c in
       let rest = commands_asked given r p.nodes x' (suc line) cs in
-      let here : AllByRecursion Answer asked = unmapped (λ (a : Asked). at_line line a) (λ (a : AskedAt). Answer a.asked) asked (each_front (λ (a : AskedAt). Answer a.asked) (asked_at line asked) rest h) in
+      let here : AllByRecursion Answer asked = unmapped (λ (a : Asked). at_line line a) (λ (a : AskedAt). Answer a.asked) asked
+      (each_front (λ (a : AskedAt). Answer a.asked) (asked_at line asked) rest h) in
       let goals_here = command_goals p.nodes at c in
       let over = over_of_line line conditions (each_front (λ (f : Found). IsConditionOver X Y 0 f.condition) (found_at line conditions) (found_from p.nodes x' (suc line) cs) o) in
       let holds = conditions_held conditions over (each_front Answer (conditions_asked given r conditions) (map (λ e. asks_goal (image r e)) goals_here) here) in
@@ -449,7 +455,8 @@ module _ (version : Version) (p q : Source) (l : LoweredForm) (texts : List (Lis
       let x : at a ≡ e = cc in let y : at b ≡ f = cc in let z : at c ≡ g = cc in let w : at d ≡ k = cc in
       subst (StatementHolds q V) (λ i. Concyclic (x i) (y i) (z i) (w i)) h
   statement_back s t o is h =
-      let places : place_of (statement_form p.nodes s).word statement_words ≡ place_of (statement_form q.nodes t).word statement_words = ap (λ (f : StatementForm). place_of f.word statement_words) is in
+      let places : place_of (statement_form p.nodes s).word statement_words ≡ place_of (statement_form q.nodes t).word statement_words = ap
+      (λ (f : StatementForm). place_of f.word statement_words) is in
       absurd (omega arith)
 
   pub citing_holds : ((placed : Placement) → Meets p placed → Holds p placed) → Holds q V

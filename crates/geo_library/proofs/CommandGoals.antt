@@ -16,7 +16,10 @@ use Rattle.geo_terms.specs.Stores.{Store, tree_of}
 use Rattle.geo_terms.specs.Trees.{Tree}
 use Rattle.geo_terms.specs.Values.{tree_value}
 use Rattle.geo_program.specs.declared.commands.Command.{Command}
-use Rattle.geo_program.specs.declared.commands.Command.TheVariants.{Point, Param, Line, Parallel, Perp, Med, Intersec, Inter, Foot, Pratio, Tratio, Online, Lratio, Midpoint, Translate, Symmetric, Reflect, Circumcenter, Orthocenter, Centroid, Oncircle, Second, Cc, Inverse, Weights, AssumeDifferent, AssumeNotCollinear, AssumeNotParallel}
+use Rattle.geo_program.specs.declared.commands.Command.TheVariants.{Point, Param, Line, Parallel, Perp, Med, Intersec, Inter, Foot, Pratio}
+use Rattle.geo_program.specs.declared.commands.Command.TheVariants.{Tratio, Online, Lratio, Midpoint, Translate, Symmetric, Reflect}
+use Rattle.geo_program.specs.declared.commands.Command.TheVariants.{Circumcenter, Orthocenter, Centroid, Oncircle, Second, Cc, Inverse}
+use Rattle.geo_program.specs.declared.commands.Command.TheVariants.{Weights, AssumeDifferent, AssumeNotCollinear, AssumeNotParallel}
 use Rattle.geo_program.specs.WellFormed.{Source}
 use Rattle.geo_lowering.specs.CommandsMet.{IsCommandMet, reading}
 use Rattle.geo_lowering.specs.Conditions.{IsConditionMet, command_conditions}
@@ -31,8 +34,12 @@ use Rattle.geo_library.proofs.PointGoals.{along_is, halfway, inverted, on_line, 
 -- O is the middle of A and X
 symmetric_is : (X A O : Triple) → IsMidpoint O A X → IsSymmetric X A O
 symmetric_is X A O m = record {
-  by_x = geo_combination (X ∷ A ∷ O ∷ []) [] (fact (opposite' (whole_number 1)) (whole_number 2 *' abscissa 2) (abscissa 1 +' abscissa 0) ∷ []) (abscissa 0 -' abscissa 2) (abscissa 2 -' abscissa 1) (m.by_x, tt) tt;
-  by_y = geo_combination (X ∷ A ∷ O ∷ []) [] (fact (opposite' (whole_number 1)) (whole_number 2 *' ordinate 2) (ordinate 1 +' ordinate 0) ∷ []) (ordinate 0 -' ordinate 2) (ordinate 2 -' ordinate 1) (m.by_y, tt) tt;
+  by_x = geo_combination (X ∷ A ∷ O ∷ []) []
+      (fact (opposite' (whole_number 1)) (whole_number 2 *' abscissa 2) (abscissa 1 +' abscissa 0) ∷ []) (abscissa 0 -' abscissa 2)
+      (abscissa 2 -' abscissa 1) (m.by_x, tt) tt;
+  by_y = geo_combination (X ∷ A ∷ O ∷ []) []
+      (fact (opposite' (whole_number 1)) (whole_number 2 *' ordinate 2) (ordinate 1 +' ordinate 0) ∷ []) (ordinate 0 -' ordinate 2)
+      (ordinate 2 -' ordinate 1) (m.by_y, tt) tt;
 }
 
 -- OWN NUMBERS

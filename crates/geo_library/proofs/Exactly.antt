@@ -34,7 +34,8 @@ accepted_bytes_leave_one_number bytes steps p q a b =
     let same : a.lines ≡ b.lines = logs_told a.lines b.lines a.writable b.writable (sym a.written ∙ b.written) in
     let first = conditions_first _ _ a.accepted.subject.goals [] [] 1 steps a.accepted.subject.conditions log.rest Proved a.accepted.left log.worked in
     let second = conditions_first _ _ b.accepted.subject.goals [] [] 1 steps b.accepted.subject.conditions other.rest Proved b.accepted.left other.worked in
-    let whole : ◌≡◌ {A = List Line} (Header a.accepted.subject.version ∷ (map ProgramLine a.accepted.subject.program ++ log.rest)) (Header b.accepted.subject.version ∷ (map ProgramLine b.accepted.subject.program ++ other.rest)) =
+    let whole : ◌≡◌ {A = List Line} (Header a.accepted.subject.version ∷ (map ProgramLine a.accepted.subject.program ++ log.rest))
+    (Header b.accepted.subject.version ∷ (map ProgramLine b.accepted.subject.program ++ other.rest)) =
     sym log.split ∙ same ∙ other.split in
     let header : Header a.accepted.subject.version ≡ Header b.accepted.subject.version = cc in
     let version : a.accepted.subject.version ≡ b.accepted.subject.version = cc in
@@ -42,7 +43,8 @@ accepted_bytes_leave_one_number bytes steps p q a b =
     let parts = same_beginning a.accepted.subject.program b.accepted.subject.program log.rest other.rest tail first.0 second.0 in
     let lines = sym a.accepted.about.same_program ∙ parts.0 ∙ b.accepted.about.same_program in
     let moved : IsAccepted lemma_table b.accepted.subject steps a.lines Proved a.accepted.left =
-    subjects_agree.accepted p q a.accepted.subject b.accepted.subject a.accepted.well_formed b.accepted.well_formed lines a.accepted.about b.accepted.about version steps a.accepted.left a.lines Proved log in (
+    subjects_agree.accepted p q a.accepted.subject b.accepted.subject a.accepted.well_formed b.accepted.well_formed lines a.accepted.about
+    b.accepted.about version steps a.accepted.left a.lines Proved log in (
       same,
       accepted_logs_leave_one_number lemma_table b.accepted.subject steps a.accepted.left b.accepted.left b.lines Proved (looks_at_no_point b.accepted.subject.construction)
           (subst (λ (ls : List Line). IsAccepted lemma_table b.accepted.subject steps ls Proved a.accepted.left) same moved) other,

@@ -41,7 +41,8 @@ AreStopped c known left e lines stop =
     (place : Place) × IsBegunChain (LeadsBySteps lemma_table c) (IsDefinedChain lemma_table c) (IsLeastSample c) counted_header known left e lines place
     × IsNext lemma_table c place (stops stop)
 
-stopped_alike : (c d : Construction) (known : List Var) (left : ℕ) (e : Tree) (lines : List Line) (stop : Stop) → AlikeConstructions c d → AreStopped c known left e lines stop → AreStopped d known left e lines stop
+stopped_alike : (c d : Construction) (known : List Var) (left : ℕ) (e : Tree) (lines : List Line) (stop : Stop) → AlikeConstructions c d
+    → AreStopped c known left e lines stop → AreStopped d known left e lines stop
 stopped_alike c d known left e lines stop a h = (h.0, by h.1, next_line_alike c d a h.0 (stops stop) h.2)
   where
     by : IsBegunChain (LeadsBySteps lemma_table c) (IsDefinedChain lemma_table c) (IsLeastSample c) counted_header known left e lines h.0

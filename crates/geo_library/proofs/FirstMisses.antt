@@ -24,7 +24,8 @@ use Rattle.geo_library.specs.Inner.Asking.{GoalForm}
 use Rattle.geo_library.specs.Inner.Cases.{image_forms, image_forms_from}
 use Rattle.geo_library.specs.Inner.GoalsWorked.{AreGoalsZero, IsBefore, IsFirstGoalMiss, IsMissing}
 use Rattle.geo_library.specs.Inner.Missing.{IsFirstNotFound, IsFound}
-use Rattle.geo_library.specs.Instances.{Asked, AskedAt, all_asked, asked_at, asks_goal, asks_statement, command_asked, commands_asked, condition_texts, conditions_asked, statement_asked, statement_text}
+use Rattle.geo_library.specs.Instances.{Asked, AskedAt, all_asked, asked_at, asks_goal, asks_statement, command_asked, commands_asked}
+use Rattle.geo_library.specs.Instances.{condition_texts, conditions_asked, statement_asked, statement_text}
 use Rattle.geo_library.specs.Renamings.{Renaming, image}
 use Rattle.geo_library.specs.Working.{ArePassed, IsFirstMiss, Miss, Progress, no_instance}
 
@@ -103,7 +104,8 @@ module _ (q : Source) (figure : Figure) (given : List Name) (r : Renaming) where
   pushed line [] vs ws = refl
   pushed line (u ∷ us) vs ws = ap (λ (zs : List AskedAt). record { line = line; asked = u } ∷ zs) (pushed line us vs ws)
 
-  line_split : (line : ℕ) (cds : List Condition) (es : List Tree) (others behind : List AskedAt) → (asked_at line (conditions_asked given r cds ++ map (λ e. asks_goal (image r e)) es) ++ others) ++ behind
+  line_split : (line : ℕ) (cds : List Condition) (es : List Tree) (others behind : List AskedAt)
+      → (asked_at line (conditions_asked given r cds ++ map (λ e. asks_goal (image r e)) es) ++ others) ++ behind
       ≡ asked_at line (conditions_asked given r cds) ++ (asked_at line (map (λ e. asks_goal (image r e)) es) ++ (others ++ behind))
   line_split line cds es others behind =
       append_assoc (asked_at line (conditions_asked given r cds ++ map (λ e. asks_goal (image r e)) es)) others behind
@@ -210,7 +212,8 @@ module _ (q : Source) (figure : Figure) (given : List Name) (r : Renaming) where
     split_last : all_asked given r p ≡ but_last ++ (record { line = end_line; asked = asks_statement wanted } ∷ [])
     split_last =
         ap (λ (zs : List AskedAt). commands_asked given r p.nodes 0 1 p.commands ++ zs) (both_asked end_line (conditions_asked given r last_conditions) (asks_statement wanted ∷ []))
-        ∙ sym (append_assoc (commands_asked given r p.nodes 0 1 p.commands) (asked_at end_line (conditions_asked given r last_conditions)) (record { line = end_line; asked = asks_statement wanted } ∷ []))
+        ∙ sym (append_assoc (commands_asked given r p.nodes 0 1 p.commands) (asked_at end_line (conditions_asked given r last_conditions))
+        (record { line = end_line; asked = asks_statement wanted } ∷ []))
 
     ends_at : (cds : List Condition) → AllByRecursion (λ f. 1 + length p.commands ≤ f.line) (found_at end_line cds)
     ends_at cds = at_line end_line (1 + length p.commands) (omega arith) cds
@@ -228,7 +231,8 @@ module _ (q : Source) (figure : Figure) (given : List Name) (r : Renaming) where
         (λ e. absurd (some_none m.0 missing e m.1))))
 
     -- all but the statement is so
-    but_last_passed : (now : Progress) → IsFirstNotFound listed given (all_found p) None → AreGoalsZero C figure.known now.lines now.left (image_forms_from q r p.nodes 0 1 p.commands) → Passed now but_last
+    but_last_passed : (now : Progress) → IsFirstNotFound listed given (all_found p) None
+        → AreGoalsZero C figure.known now.lines now.left (image_forms_from q r p.nodes 0 1 p.commands) → Passed now but_last
     but_last_passed now h g =
         commands_passed p.nodes 0 1 now p.commands (found_at end_line last_conditions) (asked_at end_line (conditions_asked given r last_conditions)) h g
         (λ then k.

@@ -7,7 +7,10 @@ use Rattle.geo_terms.specs.Stores.{Store, tree_of}
 use Rattle.geo_terms.specs.Trees.{Tree}
 use Rattle.geo_terms.specs.Values.{HasTreeValue}
 use Rattle.geo_program.specs.declared.commands.Command.{Command}
-use Rattle.geo_program.specs.declared.commands.Command.TheVariants.{Point, Param, Line, Parallel, Perp, Med, Intersec, Inter, Foot, Pratio, Tratio, Online, Lratio, Midpoint, Translate, Symmetric, Reflect, Circumcenter, Orthocenter, Centroid, Oncircle, Second, Cc, Inverse, Weights, AssumeDifferent, AssumeNotCollinear, AssumeNotParallel}
+use Rattle.geo_program.specs.declared.commands.Command.TheVariants.{Point, Param, Line, Parallel, Perp, Med, Intersec, Inter, Foot, Pratio}
+use Rattle.geo_program.specs.declared.commands.Command.TheVariants.{Tratio, Online, Lratio, Midpoint, Translate, Symmetric, Reflect}
+use Rattle.geo_program.specs.declared.commands.Command.TheVariants.{Circumcenter, Orthocenter, Centroid, Oncircle, Second, Cc, Inverse}
+use Rattle.geo_program.specs.declared.commands.Command.TheVariants.{Weights, AssumeDifferent, AssumeNotCollinear, AssumeNotParallel}
 use Rattle.geo_program.specs.declared.names.NameKind.TheVariants as kind
 use Rattle.geo_program.specs.Expressions.{IsExpression}
 use Rattle.geo_lowering.specs.Counting.{counted, named}
@@ -142,7 +145,8 @@ pointed nodes x P (AssumeNotCollinear a b c) h = tt
 pointed nodes x P (AssumeNotParallel a b c d) h = tt
 pointed nodes x P c h = h (λ i. Some kind.Point)
 
-pub goals_over : (nodes : Store) (x y j X Y : ℕ) (c : Command) → counted kind.Point (named c) x ≤ X → y ≤ Y → IsNamed nodes x y j c → AllByRecursion (IsOver X Y) (command_goals nodes (record { 0 = x }) c)
+pub goals_over : (nodes : Store) (x y j X Y : ℕ) (c : Command) → counted kind.Point (named c) x ≤ X → y ≤ Y → IsNamed nodes x y j c
+    → AllByRecursion (IsOver X Y) (command_goals nodes (record { 0 = x }) c)
 goals_over nodes x y j X Y c xs ys k =
     pointed nodes (record { 0 = x }) (IsOver X Y) c
     (λ e. here_goals nodes x y j X Y (let u : suc x ≤ X = subst (λ n. counted kind.Point n x ≤ X) e xs in omega (arith, u)) ys c k)

@@ -43,7 +43,8 @@ past_length : (n : ℕ) (fs : List StepForm) → past n fs ≡ n + length fs
 past_length n [] = omega arith
 past_length n (f ∷ fs) = let e = past_length (suc n) fs in omega (arith, e)
 
-module _ (p q : Source) (texts : List (List ℕ)) (r : Renaming) (wp : IsWellFormed p) (wq : IsWellFormed q) (ren : IsRenaming p.names q.names texts r) (form : LoweredForm) (low : IsLowered Two q form) where
+module _ (p q : Source) (texts : List (List ℕ)) (r : Renaming) (wp : IsWellFormed p) (wq : IsWellFormed q)
+    (ren : IsRenaming p.names q.names texts r) (form : LoweredForm) (low : IsLowered Two q form) where
   abbrev X : ℕ
   X = points_from 0 p.commands
 
@@ -86,7 +87,8 @@ module _ (p q : Source) (texts : List (List ℕ)) (r : Renaming) (wp : IsWellFor
   unfolded nodes (g ∷ gs) h = (h.0, unfolded nodes gs h.1)
 
   -- so do the goals that are asked of the images
-  pub asked_inside : (nodes : Store) (asked : List AskedGoal) → AreAsked nodes asked (image_forms_from q r p.nodes 0 1 p.commands) → AllByRecursion (λ g. IsTermBelow (length form.construction.steps) form.construction.params (tree_of nodes g.term)) asked
+  pub asked_inside : (nodes : Store) (asked : List AskedGoal) → AreAsked nodes asked (image_forms_from q r p.nodes 0 1 p.commands)
+      → AllByRecursion (λ g. IsTermBelow (length form.construction.steps) form.construction.params (tree_of nodes g.term)) asked
   asked_inside nodes asked h =
       unfolded nodes asked
       (subst (λ (fs : List GoalForm). AllByRecursion (λ g. IsInside g.term) fs) (sym h.are)

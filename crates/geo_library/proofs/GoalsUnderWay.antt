@@ -28,7 +28,9 @@ pub no_memory_missed : (One : Miss → Type 0) (error : CiteError) → error ≡
 no_memory_missed One error e = subst (TellsMiss One) (sym e) tt
 
 -- a stop is a miss
-pub stop_missed : (IsStop : ℕ → Stop → Type 0) (One : Miss → Type 0) → ((number : ℕ) (stop : Stop) → IsStop number stop → One (stopped_at number stop)) → (error : CiteError) → TellsStop IsStop error → TellsMiss One error
+pub stop_missed : (IsStop : ℕ → Stop → Type 0) (One : Miss → Type 0)
+    → ((number : ℕ) (stop : Stop) → IsStop number stop → One (stopped_at number stop)) → (error : CiteError) → TellsStop IsStop error
+    → TellsMiss One error
 stop_missed IsStop One f (cite.Spent number) h = f number spent h
 stop_missed IsStop One f (cite.TooLarge number which) h = f number (too_large which) h
 stop_missed IsStop One f cite.NoMemory h = tt
@@ -53,7 +55,8 @@ module _ (c : Construction) (known : List Var) where
       stop_missed (IsChainHalted c known lines left g.term) (IsGoalMissed c known lines left g) (λ number stop k. inr (number, stop, k, refl)) error h
 
   -- it ends in another polynomial
-  pub not_zero : (lines left : ℕ) (g : GoalForm) (lines' left' : ℕ) (end : Summands) → IsChainWorked c known lines left g.term lines' left' end → (end ≡ [] → ⊥) → IsGoalMissed c known lines left g (no_instance g.line)
+  pub not_zero : (lines left : ℕ) (g : GoalForm) (lines' left' : ℕ) (end : Summands)
+      → IsChainWorked c known lines left g.term lines' left' end → (end ≡ [] → ⊥) → IsGoalMissed c known lines left g (no_instance g.line)
   not_zero lines left g lines' left' end h n = inl (lines', left', end, h, n, refl)
 
   -- ONE AFTER ANOTHER

@@ -75,7 +75,8 @@ module _ (q : Source) (form : LoweredForm) (low : IsLowered Two q form) (r : Ren
   forms_placed line [] h = refl
   forms_placed line (e ∷ es) h = λ i. record { line = line; term = image_placed e h.0 i } ∷ forms_placed line es h.1 i
 
-  pub goals_placed : (nodes : Store) (x line : ℕ) (cs : List Command) → AreGoalsOver (length r.points) (length r.params) nodes x cs → goals_from nodes (terms_layout points params) x line cs ≡ image_forms_from q r nodes x line cs
+  pub goals_placed : (nodes : Store) (x line : ℕ) (cs : List Command) → AreGoalsOver (length r.points) (length r.params) nodes x cs
+      → goals_from nodes (terms_layout points params) x line cs ≡ image_forms_from q r nodes x line cs
   goals_placed nodes x line [] h = refl
   goals_placed nodes x line (c ∷ cs) h =
       ap₂ (λ (fs gs : List GoalForm). fs ++ gs) (forms_placed line (command_goals nodes (record { 0 = x }) c) h.0) (goals_placed nodes (counted kind.Point (named c) x) (suc line) cs h.1)

@@ -55,7 +55,8 @@ module _ (q : Source) where
   is_quantity (nonzero t) e = absurd (false_true e)
 
   -- ONE ITEM
-  one_known : (nodes : Store) (i : Item) (c : Condition) (vars : List Var) → i.text ≡ text c → tree_of nodes i.term ≡ condition_term (layout_of Two q.commands) c → IsKnownBy nodes i vars → vars ≡ variables c
+  one_known : (nodes : Store) (i : Item) (c : Condition) (vars : List Var) → i.text ≡ text c
+      → tree_of nodes i.term ≡ condition_term (layout_of Two q.commands) c → IsKnownBy nodes i vars → vars ≡ variables c
   one_known nodes i c vars t is h = by (tells_quantity c) refl h
     where
       chosen : (b : Bool) → tells_quantity c ≡ b → (if b then variables_of (start_of (condition_term (layout_of Two q.commands) c)) else []) ≡ variables c
@@ -75,16 +76,20 @@ module _ (q : Source) where
       by false e h = absurd (not_told c e h)
 
   -- ALL OF THEM
-  pub all_alike : (nodes : Store) (items : List Item) (fs : List Found) (vars : List Var) → map (item_form nodes) items ≡ map (condition_item Two q) fs → AreKnown nodes items vars → vars ≡ known_variables q fs
+  pub all_alike : (nodes : Store) (items : List Item) (fs : List Found) (vars : List Var)
+      → map (item_form nodes) items ≡ map (condition_item Two q) fs → AreKnown nodes items vars → vars ≡ known_variables q fs
   all_alike nodes [] [] vars e h = h
   all_alike nodes [] (f ∷ fs) vars e h = absurd (let l : ◌≡◌ {A = ℕ} 0 (suc (length (map (condition_item Two q) fs))) = ap length e in omega (arith, l))
   all_alike nodes (i ∷ items) [] vars e h = absurd (let l : ◌≡◌ {A = ℕ} (suc (length (map (item_form nodes) items))) 0 = ap length e in omega (arith, l))
   all_alike nodes (i ∷ items) (f ∷ fs) vars e h =
       let heads : item_form nodes i ≡ condition_item Two q f = cc in
       let tails : map (item_form nodes) items ≡ map (condition_item Two q) fs = cc in
-      h.4 ∙ ap₂ (λ (xs ys : List Var). xs ++ ys) (one_known nodes i f.condition h.0 (ap (λ (x : ItemForm). x.text) heads) (ap (λ (x : ItemForm). x.term) heads) h.2) (all_alike nodes items fs h.1 tails h.3)
+      h.4 ∙ ap₂ (λ (xs ys : List Var). xs ++ ys)
+      (one_known nodes i f.condition h.0 (ap (λ (x : ItemForm). x.text) heads) (ap (λ (x : ItemForm). x.term) heads) h.2)
+      (all_alike nodes items fs h.1 tails h.3)
 
-  pub all_ready : (nodes : Store) (items : List Item) (fs : List Found) → map (item_form nodes) items ≡ map (condition_item Two q) fs → AllByRecursion (λ i. i.term.0 < length nodes) items → AllByRecursion (IsReadyItem nodes) items
+  pub all_ready : (nodes : Store) (items : List Item) (fs : List Found) → map (item_form nodes) items ≡ map (condition_item Two q) fs
+      → AllByRecursion (λ i. i.term.0 < length nodes) items → AllByRecursion (IsReadyItem nodes) items
   all_ready nodes [] fs e h = tt
   all_ready nodes (i ∷ items) [] e h = absurd (let l : ◌≡◌ {A = ℕ} (suc (length (map (item_form nodes) items))) 0 = ap length e in omega (arith, l))
   all_ready nodes (i ∷ items) (f ∷ fs) e h =

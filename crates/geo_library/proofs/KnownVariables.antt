@@ -1,5 +1,7 @@
 -- The variables that conditions make known.
-use Rattle.std.proofs.Common.{◌≡◌, ◌==◌, Bool, true, false, cond, unsigned_abs, ℕ, zero, suc, ◌+◌, ◌<◌, inl, inr, ℤ, Option, Some, None, List, [], ◌∷◌, ◌++◌, drop, get_or, length, refl, sym, ◌∙◌, ap, subst, drop-cons, add-one, append-nil, append_assoc, slice_get}
+use Rattle.std.proofs.Common.{◌≡◌, ◌==◌, Bool, true, false, cond, unsigned_abs, ℕ, zero, suc, ◌+◌, ◌<◌, inl, inr, ℤ, Option, Some, None}
+use Rattle.std.proofs.Common.{List, [], ◌∷◌, ◌++◌, drop, get_or, length, refl, sym, ◌∙◌, ap, subst, drop-cons, add-one, append-nil}
+use Rattle.std.proofs.Common.{append_assoc, slice_get}
 use Rattle.std.specs.Prelude.{codes}
 use Rattle.std.specs.Option.{option_to_list}
 use Rattle.geo_points.specs.declared.ids.TermId.{TermId}

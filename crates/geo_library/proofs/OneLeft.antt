@@ -9,7 +9,9 @@ use Rattle.geo_sample.specs.Tries.{charge_of, single_tries}
 use Rattle.geo_terms.specs.Constructions.{Construction}
 use Rattle.geo_terms.specs.Trees.{Tree}
 use Rattle.proof_log.specs.declared.log.Line.{Line}
-use Rattle.proof_log.specs.declared.log.Line.TheVariants.{Header, Program as ProgramLine, Condition, Goal, Start, Ratio as RatioLine, Point as PointLine, Coords as CoordsLine, Cut, End, Sample, Verdict as VerdictLine}
+use Rattle.proof_log.specs.declared.log.Line.TheVariants.{Header, Program as ProgramLine, Condition, Goal, Start, Ratio as RatioLine}
+use Rattle.proof_log.specs.declared.log.Line.TheVariants.{Point as PointLine, Coords as CoordsLine, Cut, End, Sample}
+use Rattle.proof_log.specs.declared.log.Line.TheVariants.{Verdict as VerdictLine}
 use Rattle.proof_log.specs.declared.log.Verdict.{Verdict}
 use Rattle.proof_log.specs.declared.log.Verdict.TheVariants.{Proved, False}
 use Rattle.geo_logs.specs.declared.moves.Move.{Move}
@@ -122,8 +124,10 @@ module _ (table : Table) (c : Construction) (ignores : LooksAtNoPoint table c) w
   conditions_left goals known listed n left (item ∷ items) lines verdict l k (a, inr x) (b, inr y) =
       let s = one_chain (Condition n item.text) known left item.term a.chain b.chain a.after b.after a.rest b.rest a.works b.works (sym a.split ∙ b.split) in
       conditions_left goals (known ++ known_by (item ∷ [])) (listed ++ a.chain.end ∷ []) (suc n) a.after items a.rest verdict l k x.1
-      (subst (λ (z : Summands). AreConditionsWorked (IsAcceptedChain table c) (IsAcceptedSample c) goals (known ++ known_by (item ∷ [])) (listed ++ z ∷ []) (suc n) a.after items a.rest verdict k) (sym s.1)
-      (subst₂ (λ (m : ℕ) (ls : List Line). AreConditionsWorked (IsAcceptedChain table c) (IsAcceptedSample c) goals (known ++ known_by (item ∷ [])) (listed ++ b.chain.end ∷ []) (suc n) m items ls verdict k) (sym s.0) (sym s.2) y.1))
+      (subst (λ (z : Summands). AreConditionsWorked (IsAcceptedChain table c) (IsAcceptedSample c) goals (known ++ known_by (item ∷ []))
+      (listed ++ z ∷ []) (suc n) a.after items a.rest verdict k) (sym s.1)
+      (subst₂ (λ (m : ℕ) (ls : List Line). AreConditionsWorked (IsAcceptedChain table c) (IsAcceptedSample c) goals
+      (known ++ known_by (item ∷ [])) (listed ++ b.chain.end ∷ []) (suc n) m items ls verdict k) (sym s.0) (sym s.2) y.1))
 
 -- what follows the same lines is the same
 same_rest : (xs : List (List ℕ)) (r s : List Line) → map ProgramLine xs ++ r ≡ map ProgramLine xs ++ s → r ≡ s

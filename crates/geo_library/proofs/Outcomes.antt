@@ -49,7 +49,8 @@ module _ (q : Source) (figure : Figure) where
   passed_or_failed now after (asks_statement text) h g = g h.0
 
   -- a chain that is stopped, by what comes next
-  by_next : (left : ℕ) (e : Tree) (lines : List Line) (stop : Stop) → IsChainStopped q figure left e lines stop → IsBegunChain lemma_table c counted_header figure.known left (term e) lines (stops stop)
+  by_next : (left : ℕ) (e : Tree) (lines : List Line) (stop : Stop) → IsChainStopped q figure left e lines stop
+      → IsBegunChain lemma_table c counted_header figure.known left (term e) lines (stops stop)
   by_next left e lines stop h = by h.begun
     where
       moved : (place : Place) → h.place ≡ place → IsNext lemma_table c place (stops stop)
@@ -88,7 +89,8 @@ module _ (q : Source) (figure : Figure) where
   same_stop lines others stop other (inr (inl h)) = no_stop_ahead lines stop others h
   same_stop lines others stop other (inr (inr h)) = no_stop_ahead others other lines h
 
-  stopped_once : (now : Progress) (a : Asked) (number count : ℕ) (stop other : Stop) → IsStoppedAt q figure now a number stop → IsStoppedAt q figure now a count other → stopped_at number stop ≡ stopped_at count other
+  stopped_once : (now : Progress) (a : Asked) (number count : ℕ) (stop other : Stop) → IsStoppedAt q figure now a number stop
+      → IsStoppedAt q figure now a count other → stopped_at number stop ≡ stopped_at count other
   stopped_once now (asks_condition text) number count stop other h g = absurd h
   stopped_once now (asks_goal e) number count stop other h g =
       let same = same_stop h.0 g.0 stop other

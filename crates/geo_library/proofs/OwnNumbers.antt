@@ -55,7 +55,9 @@ module _ (nodes : Store) (R : Placement) where
       by (has_number c) refl x' y' rest
     where
       by : (b : Bool) → has_number c ≡ b → (x' y' : ℕ) → ((ns : List Fraction) × ((look : ℕ → Fraction) (m : ℕ) → IsFrom look m ns → AreOwn look x' y' m cs))
-          → (ns : List Fraction) × ((look : ℕ → Fraction) (m : ℕ) → IsFrom look m ns → ((named c ≡ Some kind.Param → look m ≡ R.number y) × IsOwn R.point (R.point x) (look m) c) × AreOwn look x' y' (next_number m c) cs)
+          → (ns : List Fraction) × ((look : ℕ → Fraction) (m : ℕ) → IsFrom look m ns
+          → ((named c ≡ Some kind.Param → look m ≡ R.number y) × IsOwn R.point (R.point x) (look m) c)
+          × AreOwn look x' y' (next_number m c) cs)
       by true e x' y' rest =
           let own = number_of x y c h.0.0 h.0.1 in (
             own.0 ∷ rest.0,
@@ -79,7 +81,8 @@ module _ (nodes : Store) (R : Placement) where
   params_read version l look [] x x' y j n m d o t low high = absurd (omega arith)
   params_read version l look (c ∷ cs) x x' y j n m d o t low high =
       by (named c) refl
-      (λ up. params_read version l look cs (counted kind.Point (named c) x) (counted kind.Point (named c) x') (counted kind.Param (named c) y) (counted kind.Line (named c) j) (next_point version n c) (next_number m c) d.1 o.1 t up high)
+      (λ up. params_read version l look cs (counted kind.Point (named c) x) (counted kind.Point (named c) x')
+      (counted kind.Param (named c) y) (counted kind.Line (named c) j) (next_point version n c) (next_number m c) d.1 o.1 t up high)
     where
       by : (k : Option NameKind) → named c ≡ k → (counted kind.Param (named c) y ≤ t → look (l.param t) ≡ R.number t) → look (l.param t) ≡ R.number t
       by None e rest = rest (subst (λ k. counted kind.Param k y ≤ t) (sym e) low)

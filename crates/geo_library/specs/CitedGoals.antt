@@ -4,7 +4,9 @@ use Rattle.geo_points.specs.declared.ids.PointId.{PointId}
 use Rattle.geo_terms.specs.Stores.{Store, tree_of}
 use Rattle.geo_terms.specs.Trees.{Tree, integer_leaf, area_leaf, pythagoras_leaf, addition, subtraction, multiplication}
 use Rattle.geo_program.specs.declared.commands.Command.{Command}
-use Rattle.geo_program.specs.declared.commands.Command.TheVariants.{Line, Parallel, Perp, Med, Intersec, Inter, Foot, Pratio, Tratio, Online, Lratio, Midpoint, Translate, Symmetric, Reflect, Circumcenter, Orthocenter, Centroid, Oncircle, Second, Cc, Inverse, Weights}
+use Rattle.geo_program.specs.declared.commands.Command.TheVariants.{Line, Parallel, Perp, Med, Intersec, Inter, Foot, Pratio, Tratio}
+use Rattle.geo_program.specs.declared.commands.Command.TheVariants.{Online, Lratio, Midpoint, Translate, Symmetric, Reflect, Circumcenter}
+use Rattle.geo_program.specs.declared.commands.Command.TheVariants.{Orthocenter, Centroid, Oncircle, Second, Cc, Inverse, Weights}
 use Rattle.geo_conditions.specs.Terms.{midpoint_term}
 
 -- P_XWX + r r P_UVU - 2 r (P_XUV - P_WUV), which is twice the square of the length of X - W - r (V - U)

@@ -29,7 +29,9 @@ ask-requires-in-loop-k-clause-within c =
 
 pub ask-requires-in-loop-k-clause-placed : goal.ask-requires-in-loop-k-clause-placed
 ask-requires-in-loop-k-clause-placed c =
-    still_placed c.args.terms.now c.args.places.now c.args.steps.now c.ask.new.steps (keeps_both c.args.steps.now c.loop-k.steps c.ask.new.steps c.loop-k.invariant.asked.keeps c.in_ok-ask.ensures.keeps) c.requires.placed
+    still_placed c.args.terms.now c.args.places.now c.args.steps.now c.ask.new.steps
+    (keeps_both c.args.steps.now c.loop-k.steps c.ask.new.steps c.loop-k.invariant.asked.keeps c.in_ok-ask.ensures.keeps)
+    c.requires.placed
 
 pub next_point-x-requires : goal.next_point-x-requires
 next_point-x-requires c =

@@ -14,7 +14,8 @@ loop-last-init c = record {
 pub loop-last-preserved : goal.loop-last-preserved
 loop-last-preserved c = record {
   way = goes_on c.args.steps.now c.args.known.now c.args.now.now.lines c.args.now.now.budget.left c.args.first c.loop-last.now.lines c.loop-last.now.budget.left c.loop-last.last
-      c.in_ok-line.line c.line_after.new.now.lines c.line_after.new.now.budget.left c.in-Some.poly c.loop-last.invariant.way c.in_ok-line.ensures.line (sym c.in-Some.ensures) c.in_ok-line.ensures.counted;
+      c.in_ok-line.line c.line_after.new.now.lines c.line_after.new.now.budget.left c.in-Some.poly c.loop-last.invariant.way
+      c.in_ok-line.ensures.line (sym c.in-Some.ensures) c.in_ok-line.ensures.counted;
   points = line_points _ c.in_ok-line.line c.in-Some.poly (sym c.in-Some.ensures) c.in_ok-line.ensures.points;
   numbers = c.line_after.ensures.numbers;
 }

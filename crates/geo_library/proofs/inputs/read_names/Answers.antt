@@ -42,4 +42,5 @@ loop-next-preserved c =
 
 pub returns : goal.returns
 returns c =
-    undone c.args.rest.now (map (λ t. t.now) c.loop-next.texts.items) c.loop-next.left.now c.loop-next.invariant (λ more e. c.in_default-behind.ensures.none more e) (λ more e. c.in-None.ensures.none more e)
+    undone c.args.rest.now (map (λ t. t.now) c.loop-next.texts.items) c.loop-next.left.now c.loop-next.invariant
+    (λ more e. c.in_default-behind.ensures.none more e) (λ more e. c.in-None.ensures.none more e)
