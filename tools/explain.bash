@@ -75,7 +75,7 @@ explain_spent() {
   local limit=${taken[1]-100000000} remedy
   if [ "$limit" = "$most" ]; then
     remedy="there are no more steps than these: say it in another way (docs/GUIDE.md)"
-  elif [ "$2" = check ] || [ "$2" = text ]; then
+  elif [ "$2" = check ] || [ "$2" = text ] || [ "$2" = cite ]; then
     remedy="a log that was made with more steps needs as many here: give --steps $most, the most"
   else
     remedy="try --steps $most, the most: it bounds the work, and is mostly far above it; else say it in another way (docs/GUIDE.md)"
@@ -83,6 +83,7 @@ explain_spent() {
   case $2 in
     decide) echo "$1: $remedy" ;;
     check | text) echo "$1: the log needs more steps than $limit"; hint "$remedy" ;;
+    cite) echo "$1: the log and what is asked of the figure need more steps than $limit"; hint "$remedy" ;;
     *) echo "$1: undecided: its log needs more steps than $limit"; hint "$remedy" ;;
   esac
 }
@@ -106,7 +107,7 @@ explain() {
       ;;
     7:*) explain_spent "$1" "$3" ;;
     12:*)
-      if [ "$3" = check ] || [ "$3" = text ] || [ "$(wc -c <"$2")" -gt 1048576 ]; then
+      if [ "$3" = check ] || [ "$3" = text ] || [ "$3" = cite ] || [ "$(wc -c <"$2")" -gt 1048576 ]; then
         echo "$1: too long: a program has at most 1,048,576 bytes, a log at most 67,108,864"
       else
         echo "$1: undecided: its log would be longer than 67,108,864 bytes"

@@ -11,7 +11,8 @@ use Rattle.geo_poly.specs.declared.replacement.Row.{Row}
 use Rattle.geo_poly.specs.declared.variables.Var.{Var}
 use Rattle.geo_poly.specs.Monomials.{Powers, degree_of}
 use Rattle.geo_poly.specs.Polynomials.{Summands}
-use Rattle.geo_poly.specs.Replace.{degree_bound, degree_row, degree_rows, denominators, kept, most_denominators, others, power_in, replaced_degree, replaced_weight, row_of, term_degree, term_weight, weight_of, weight_row, weight_rows}
+use Rattle.geo_poly.specs.Replace.{degree_bound, degree_row, degree_rows, denominators, kept, most_denominators, others, power_in}
+use Rattle.geo_poly.specs.Replace.{replaced_degree, replaced_weight, row_of, term_degree, term_weight, weight_of, weight_row, weight_rows}
 use Rattle.geo_poly.specs.Variables.{var_cmp}
 use Rattle.geo_poly.proofs.Capped.{cap_left, cap_right, cap_weights, same_degrees}
 use Rattle.geo_logs.specs.declared.moves.Replacement.{Replacement}
@@ -201,7 +202,8 @@ module _ (rows : List Row) (den : Piece) where
   degree_bound-capped : (top : ℕ) (q : Summands) → min (degree_bound (capped_rows rows) (capped_piece den) top q) (2 ^ 128 - 1) ≡ min (degree_bound rows den top q) (2 ^ 128 - 1)
   degree_bound-capped top [] = refl
   degree_bound-capped top (t ∷ ts) =
-      both (term_degree (capped_rows rows) (capped_piece den) top t) (term_degree rows den top t) (degree_bound (capped_rows rows) (capped_piece den) top ts) (degree_bound rows den top ts) (2 ^ 128 - 1)
+      both (term_degree (capped_rows rows) (capped_piece den) top t) (term_degree rows den top t)
+      (degree_bound (capped_rows rows) (capped_piece den) top ts) (degree_bound rows den top ts) (2 ^ 128 - 1)
       (term_degree-capped top t) (degree_bound-capped top ts)
     where
       both : (a b c d m : ℕ) → min a m ≡ min b m → min c m ≡ min d m → min (max a c) m ≡ min (max b d) m
@@ -235,7 +237,8 @@ module _ (rows : List Row) (den : Piece) where
     pub move_charge-capped : (q : Summands) → min (move_charge capped_move q) (2 ^ 128 - 1) ≡ min (move_charge whole_move q) (2 ^ 128 - 1)
     move_charge-capped q =
         let f : Row → ℕ = λ r. r.num.count in
-        ap (λ top. min (capped_number charge + 4 * (sum_by f (capped_rows rows) + capped_number den.count) + sum_by (λ (t : Powers × ℤ). term_charge capped_move top t.0) q) (2 ^ 128 - 1)) (most-capped rows q)
+        ap (λ top. min (capped_number charge + 4 * (sum_by f (capped_rows rows) + capped_number den.count)
+        + sum_by (λ (t : Powers × ℤ). term_charge capped_move top t.0) q) (2 ^ 128 - 1)) (most-capped rows q)
         ∙ whole charge (sum_by f (capped_rows rows)) (sum_by f rows) den.count (sum_by (λ (t : Powers × ℤ). term_charge capped_move (most_denominators rows q) t.0) q)
         (sum_by (λ (t : Powers × ℤ). term_charge whole_move (most_denominators rows q) t.0) q) (2 ^ 128 - 1) (row_counts-capped rows)
         (sum-capped (λ (t : Powers × ℤ). term_charge capped_move (most_denominators rows q) t.0) (λ (t : Powers × ℤ). term_charge whole_move (most_denominators rows q) t.0)

@@ -48,4 +48,6 @@ module _ (c : Construction) (move : Move) where
         let most = replaced_weight rows (lemma_table.denominator c move) q in
         let top = replaced_degree rows (lemma_table.denominator c move) q in
         rows_each row own (NumeratorFits c move) (variables_of q)
-        (each_fits most top weight degree (variables_of q) (each-variables (Within rows bounded most top) q (line_within rows bounded (lemma_table.denominator c move) (denominator_bounded c move) q valid)))
+        (each_fits most top weight degree (variables_of q)
+        (each-variables (Within rows bounded most top) q
+        (line_within rows bounded (lemma_table.denominator c move) (denominator_bounded c move) q valid)))

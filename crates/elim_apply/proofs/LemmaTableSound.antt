@@ -5,7 +5,7 @@ use Rattle.std.specs.Ordering.{is_eq}
 use Rattle.std.proofs.Common.{◌≡◌, ℕ, ◌<◌, ◌&&◌, Bool, true, false, cond, eqb, pos, Option, Some, None, refl, sym, ap, subst, arith}
 use Rattle.std.proofs.lemmas.Bool.{eqb-true}
 use Rattle.fraction_poly.specs.Forms.{Form, integer}
-use Rattle.fraction_poly.specs.TableRows.{TableRow, made_row, HasVariable}
+use Rattle.fraction_poly.specs.TableRows.{TableRow, HasVariable}
 use Rattle.geo_points.specs.declared.ids.PointId.{PointId}
 use Rattle.geo_points.specs.declared.ids.TermId.{TermId}
 use Rattle.geo_points.specs.Placements.{Placement}
@@ -29,7 +29,6 @@ use Rattle.geo_logs.specs.declared.moves.Move.TheVariants.{Ratio, Point, Coords}
 use Rattle.geo_logs.specs.Naming.{IsNamed}
 use Rattle.geo_terms.specs.TermBounds.{IsTermBelow}
 use Rattle.fraction_poly.specs.StepForms.{step_denominator, step_row}
-use Rattle.geo_poly.specs.declared.replacement.Row.{Row}
 use Rattle.elim_area.specs.AreaTable.{area_numerator, area_table, points_after}
 use Rattle.elim_pyth.specs.declared.pyth_rows.Reading.{Reading}
 use Rattle.elim_pyth.specs.declared.pyth_rows.Reading.TheVariants.{Linear, Quadratic}
@@ -124,7 +123,8 @@ module _ (c : Construction) (placed : Placement) (y i j d e : PointId) (has : Ha
       along h =
           let value = tree_value placed (tree_of c.nodes r) in
           canonical_ratio-defined placed.point placed.number a w u v
-          (ratio-pratio (placed.point a.0) (placed.point w.0) (placed.point u.0) (placed.point v.0) (placed.point y.0) value value (whole (pos 1)) (met (Pratio w u v r) is).1 (fractions.mul-one value) h).0
+          (ratio-pratio (placed.point a.0) (placed.point w.0) (placed.point u.0) (placed.point v.0) (placed.point y.0) value value
+          (whole (pos 1)) (met (Pratio w u v r) is).1 (fractions.mul-one value) h).0
 
       across : eqb d.0 v.0 ≡ true → eqb e.0 u.0 ≡ true → HasVariable placed (sorted_ratio (HasVariable placed) a w u v)
       across dv eu =
@@ -144,10 +144,6 @@ module _ (c : Construction) (placed : Placement) (y i j d e : PointId) (has : Ha
 -- OPTIONS
 pub some_of : {A : Type 0} (o : Option A) (r : A) (Q : A → Type 0) → o ≡ Some r → IfSome o Q → Q r
 some_of {A} o r Q e h = subst (λ (x : Option A). IfSome x Q) e h
-
-mapped_row : (o : Option TableRow) (v : Var) (Q : Row → Type 0) → IfSome o (λ t. Q (made_row v t).0) → IfSome (option_map (λ t. (made_row v t).0) o) Q
-mapped_row None v Q h = tt
-mapped_row (Some t) v Q h = h
 
 pub both_some : (o : Option TableRow) (Q U : TableRow → Type 0) → IfSome o Q → IfSome o U → IfSome o (λ t. Q t × U t)
 both_some None Q U h g = tt
@@ -176,7 +172,9 @@ module _ (c : Construction) where
       after step (Some ab) = mapped_den step (area_numerator c.nodes step ab.0 ab.1)
 
       go : (o : Option Step)
-          → IfSome (option_and_then (λ step. option_and_then (λ ab. option_map (step_row c.nodes step 1) (area_numerator c.nodes step ab.0 ab.1)) (points_after y i j k)) o) (λ t. t.den ≡ point_denominator c o)
+          → IfSome (option_and_then (λ step. option_and_then
+          (λ ab. option_map (step_row c.nodes step 1) (area_numerator c.nodes step ab.0 ab.1)) (points_after y i j k)) o)
+          (λ t. t.den ≡ point_denominator c o)
       go None = tt
       go (Some step) = after step (points_after y i j k)
 

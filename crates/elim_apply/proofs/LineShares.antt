@@ -132,15 +132,6 @@ pub record IsShare (rows : List Row) (m : Powers) (k : ℕ) (share : Share) : Ty
   pub weight : share.weight ≡ min (weight_rows rows m k) (2 ^ 128 - 1)
   pub degree : share.degree ≡ min (degree_rows rows m (degree_of (others rows m))) (2 ^ 128 - 1)
 
-pub whole_share : (rows : List Row) (m : Powers) (k : ℕ) (share : Share) → IsShareSoFar rows m k [] share → IsShare rows m k share
-whole_share rows m k share h = record {
-  exponents = omega (arith, h.exponents);
-  denominators-are = omega (arith, h.denominators-are);
-  count = omega (arith, h.count, h.count_fits);
-  weight = omega (arith, h.weight, h.weight_fits);
-  degree = omega (arith, h.degree, h.degree_fits);
-}
-
 -- TERMS BY THEIR PLACES
 pub monomial_at : (q : Summands) (i : ℕ) → AllKeys IsMonomial q → i < length q → IsMonomial (term_at q i).0
 monomial_at [] i h lt = absurd (omega arith)

@@ -117,10 +117,12 @@ module _ (made : Replacement) (top : ℕ) where
       record {
         charge-is = more charge charge' c (f t) (sum_by f (t ∷ left)) (sum_by f left) (start + sum_by f q) (2 ^ 128 - 1) is.charge-is ch (sum_by-cons f t left) so_far.charge-is;
         charge_fits = omega (arith, ch);
-        weight-is = more weight weight' w (term_weight made.rows made.den top t) (weight_of made.rows made.den top (t ∷ left)) (weight_of made.rows made.den top left) (weight_of made.rows made.den top q) (2 ^ 128 - 1)
+        weight-is = more weight weight' w (term_weight made.rows made.den top t) (weight_of made.rows made.den top (t ∷ left))
+            (weight_of made.rows made.den top left) (weight_of made.rows made.den top q) (2 ^ 128 - 1)
             is.weight-is we (sum_by-cons (term_weight made.rows made.den top) t left) so_far.weight-is;
         weight_fits = omega (arith, we);
-        degree-is = most degree degree' d (term_degree made.rows made.den top t) (degree_bound made.rows made.den top left) (degree_bound made.rows made.den top q) (2 ^ 128 - 1) is.degree-is de so_far.degree-is;
+        degree-is = most degree degree' d (term_degree made.rows made.den top t) (degree_bound made.rows made.den top left)
+            (degree_bound made.rows made.den top q) (2 ^ 128 - 1) is.degree-is de so_far.degree-is;
         degree_fits = omega (arith, de, is.degree-is, so_far.degree_fits);
       }
 

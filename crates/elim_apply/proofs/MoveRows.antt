@@ -109,7 +109,9 @@ module _ (c : Construction) (Good : PointId → Type 0) (Holds : Var → Type 0)
       go false false true mj mi mk = found (same y k mk K)
       go false false false mj mi mk =
           let none : reading y i j k ≡ None =
-          ap (λ (b : Bool). cond {A = Option Reading} b (Some (Quadratic i k)) (cond (eqb i.0 y.0) (Some (cond (eqb k.0 y.0) (Quadratic j j) (Linear k j))) (cond (eqb k.0 y.0) (Some (Linear i j)) None))) mj
+          ap (λ (b : Bool). cond {A = Option Reading} b (Some (Quadratic i k))
+          (cond (eqb i.0 y.0) (Some (cond (eqb k.0 y.0) (Quadratic j j) (Linear k j))) (cond (eqb k.0 y.0) (Some (Linear i j)) None)))
+          mj
           ∙ ap (λ (b : Bool). cond {A = Option Reading} b (Some (cond (eqb k.0 y.0) (Quadratic j j) (Linear k j))) (cond (eqb k.0 y.0) (Some (Linear i j)) None)) mi
           ∙ ap (λ (b : Bool). cond {A = Option Reading} b (Some (Linear i j)) None) mk in
           subst (λ (o : Option Reading). IfSome (option_and_then (λ step. option_and_then (difference_row c.nodes step) o) (slice_get c.steps y.0)) (Both (Some y))) (sym none)
@@ -130,10 +132,14 @@ module _ (c : Construction) (Good : PointId → Type 0) (Holds : Var → Type 0)
   ratio_place (suc lemma) y i j d e I J = go (eqb j.0 y.0) (eqb i.0 y.0) refl refl
     where
       rest : end_at y i j ≡ None → (z : Bool) → eqb (suc lemma) 0 ≡ z
-          → IfSome (cond {A = Option TableRow} z (Some (pythagoras_row i j d e)) (option_and_then (λ step. option_and_then (λ (end : PointId × Bool). lemma_row (suc lemma) c.nodes y step end.0 end.1 d e) (end_at y i j)) (slice_get c.steps y.0))) (λ t. Good y)
+          → IfSome (cond {A = Option TableRow} z (Some (pythagoras_row i j d e))
+          (option_and_then (λ step. option_and_then (λ (end : PointId × Bool). lemma_row (suc lemma) c.nodes y step end.0 end.1 d e)
+          (end_at y i j)) (slice_get c.steps y.0))) (λ t. Good y)
       rest at true z = absurd (let zero : suc lemma ≡ 0 = eqb-true (suc lemma) 0 z in omega (arith, zero))
       rest at false z =
-          subst (λ (o : Option (PointId × Bool)). IfSome (option_and_then (λ step. option_and_then (λ (end : PointId × Bool). lemma_row (suc lemma) c.nodes y step end.0 end.1 d e) o) (slice_get c.steps y.0)) (λ t. Good y)) (sym at)
+          subst (λ (o : Option (PointId × Bool)). IfSome
+          (option_and_then (λ step. option_and_then (λ (end : PointId × Bool). lemma_row (suc lemma) c.nodes y step end.0 end.1 d e) o)
+          (slice_get c.steps y.0)) (λ t. Good y)) (sym at)
           (none_end (slice_get c.steps y.0) (λ step end. lemma_row (suc lemma) c.nodes y step end.0 end.1 d e) (λ t. Good y))
 
       go : (p q : Bool) → eqb j.0 y.0 ≡ p → eqb i.0 y.0 ≡ q → IfSome (ratio_table (suc lemma) c y (R i j d e)) (λ t. Good y)
@@ -344,7 +350,9 @@ module _ (c : Construction) (valid : IsConstruction c) where
       let told : RowHolds placed (made_row v t).0 (made_row v t).1 = some_of (row_of_move c move v) t (λ t. RowHolds placed (made_row v t).0 (made_row v t).1) e (row_told c placed move v met has) in
       record {
         nonzero = subst (λ (f : Form). IsNonzero (polynomial_value placed (piece_of f).poly)) den told.nonzero;
-        tells = subst (λ (f : Form). Same (times (variable_value placed.point placed.number v) (power fractions (polynomial_value placed (piece_of f).poly) t.power)) (polynomial_value placed (piece_of t.num).poly)) den told.equation;
+        tells = subst (λ (f : Form). Same
+            (times (variable_value placed.point placed.number v) (power fractions (polynomial_value placed (piece_of f).poly) t.power))
+            (polynomial_value placed (piece_of t.num).poly)) den told.equation;
         numerator = of-form (HasVariable placed) t.num fits.1.num;
         denominator = subst (λ (f : Form). AllVariables (HasVariable placed) (piece_of f).poly) den (of-form (HasVariable placed) t.den fits.1.den);
       }

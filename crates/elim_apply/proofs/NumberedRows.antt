@@ -127,9 +127,6 @@ module _ (c : Construction) (move : Move) where
   pub none_made : (vs : List Var) → filter_map (numbered_row c move) vs ≡ [] → filter_map row vs ≡ []
   none_made vs e = no_rows (filter_map row vs) (sym (sketches_are vs) ∙ ap sketches e)
 
-  pub none_numbered : (vs : List Var) → filter_map row vs ≡ [] → filter_map (numbered_row c move) vs ≡ []
-  none_numbered vs e = no_sketches (filter_map (numbered_row c move) vs) (sketches_are vs ∙ ap capped_rows e)
-
   -- the bounds of the rows
   pub rows_bounded : (vs : List Var) → AllBounded (filter_map row vs)
   rows_bounded [] = tt

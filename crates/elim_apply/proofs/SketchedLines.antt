@@ -21,7 +21,8 @@ use Rattle.elim_apply.proofs.NumberedRows.{HasDenominator, sketches_are}
 
 pub sketched_line : (c : Construction) (move : Move) (q : Summands) (rows : List NumberedRow) (first : NumberedRow) (size : LineSize)
     → rows ≡ filter_map (numbered_row c move) (variables_of q) → HasDenominator c move first
-    → IsSizeOf size (move_charge (sketch rows first.numbers) q) (replaced_weight (sketches rows) (sketched_denominator first.numbers) q) (replaced_degree (sketches rows) (sketched_denominator first.numbers) q)
+    → IsSizeOf size (move_charge (sketch rows first.numbers) q) (replaced_weight (sketches rows) (sketched_denominator first.numbers) q)
+    (replaced_degree (sketches rows) (sketched_denominator first.numbers) q)
     → IsSizeOf size (move_charge (replacement lemma_table c move q) q) (replaced_weight (replacement lemma_table c move q).rows (replacement lemma_table c move q).den q)
     (replaced_degree (replacement lemma_table c move q).rows (replacement lemma_table c move q).den q)
 sketched_line c move q rows first size are one h =

@@ -42,7 +42,9 @@ module _ (c : Construction) where
       after step (Some ab) = mapped_charge step (area_numerator c.nodes step ab.0 ab.1)
 
       go : (o : Option Step)
-          → IfSome (option_and_then (λ step. option_and_then (λ ab. option_map (step_row c.nodes step 1) (area_numerator c.nodes step ab.0 ab.1)) (points_after y i j k)) o) (λ t. t.charge ≡ point_charge c o)
+          → IfSome (option_and_then (λ step. option_and_then
+          (λ ab. option_map (step_row c.nodes step 1) (area_numerator c.nodes step ab.0 ab.1)) (points_after y i j k)) o)
+          (λ t. t.charge ≡ point_charge c o)
       go None = tt
       go (Some step) = after step (points_after y i j k)
 

@@ -33,20 +33,35 @@ module _ (placed : Placement) (nodes : Store) (y : PointId) where
 
   -- the numerator of S_ABY has the value of the area times the denominator
   numerator_is : (step : Step) → IsStepMet placed nodes y.0 step → (a b : PointId)
-      → IfSome (area_numerator nodes step a b) (λ num. (has_no_ratio num ≡ true) × Same (times (signed_area (at a.0) (at b.0) (at y.0)) (form_value placed (step_denominator nodes step))) (form_value placed num))
+      → IfSome (area_numerator nodes step a b)
+      (λ num. (has_no_ratio num ≡ true)
+      × Same (times (signed_area (at a.0) (at b.0) (at y.0)) (form_value placed (step_denominator nodes step))) (form_value placed num))
   numerator_is Point met a b = tt
   numerator_is (Inter u v p q) met a b = (refl, inter-signed_area (at a.0) (at b.0) (at u.0) (at v.0) (at p.0) (at q.0) (at y.0) met)
   numerator_is (Foot p u v) met a b = (refl, foot-signed_area (at a.0) (at b.0) (at p.0) (at u.0) (at v.0) (at y.0) met)
   numerator_is (Pratio w u v r) met a b =
-      let e = tree_of nodes r in
-      (refl, pratio-signed_area (at a.0) (at b.0) (at w.0) (at u.0) (at v.0) (at y.0) (tree_value placed e) (polynomial_value placed (multiplied_out e).0) (polynomial_value placed (multiplied_out e).1) met.1 (number_over placed nodes r met.0).same)
+      let e = tree_of nodes r in (
+        refl,
+        pratio-signed_area (at a.0) (at b.0) (at w.0) (at u.0) (at v.0) (at y.0) (tree_value placed e)
+            (polynomial_value placed (multiplied_out e).0) (polynomial_value placed (multiplied_out e).1) met.1
+            (number_over placed nodes r met.0).same,
+      )
   numerator_is (Tratio u v r) met a b =
-      let e = tree_of nodes r in
-      (refl, tratio-signed_area (at a.0) (at b.0) (at u.0) (at v.0) (at y.0) (tree_value placed e) (polynomial_value placed (multiplied_out e).0) (polynomial_value placed (multiplied_out e).1) met.1 (number_over placed nodes r met.0).same)
+      let e = tree_of nodes r in (
+        refl,
+        tratio-signed_area (at a.0) (at b.0) (at u.0) (at v.0) (at y.0) (tree_value placed e)
+            (polynomial_value placed (multiplied_out e).0) (polynomial_value placed (multiplied_out e).1) met.1
+            (number_over placed nodes r met.0).same,
+      )
   numerator_is (Weights o u v r s) met a b =
       let e = tree_of nodes r in
-      let f = tree_of nodes s in
-      (refl, weights-signed_area (at a.0) (at b.0) (at o.0) (at u.0) (at v.0) (at y.0) (tree_value placed e) (tree_value placed f) (polynomial_value placed (multiplied_out e).0) (polynomial_value placed (multiplied_out e).1) (polynomial_value placed (multiplied_out f).0) (polynomial_value placed (multiplied_out f).1) met.2 (number_over placed nodes r met.0).same (number_over placed nodes s met.1).same)
+      let f = tree_of nodes s in (
+        refl,
+        weights-signed_area (at a.0) (at b.0) (at o.0) (at u.0) (at v.0) (at y.0) (tree_value placed e) (tree_value placed f)
+            (polynomial_value placed (multiplied_out e).0) (polynomial_value placed (multiplied_out e).1)
+            (polynomial_value placed (multiplied_out f).0) (polynomial_value placed (multiplied_out f).1) met.2
+            (number_over placed nodes r met.0).same (number_over placed nodes s met.1).same,
+      )
 
   -- the row of an area whose corners are a, b and y in a cyclic order
   row_holds : (i j k : PointId) (step : Step) → IsStepMet placed nodes y.0 step → (a b : PointId)
@@ -54,11 +69,14 @@ module _ (placed : Placement) (nodes : Store) (y : PointId) where
       → IfSome (option_map (step_row nodes step 1) (area_numerator nodes step a b)) (Holds placed (S i j k))
   row_holds i j k step met a b turned = go (area_numerator nodes step a b) (numerator_is step met a b)
     where
-      go : (o : Option Form) → IfSome o (λ num. (has_no_ratio num ≡ true) × Same (times (signed_area (at a.0) (at b.0) (at y.0)) (form_value placed (step_denominator nodes step))) (form_value placed num))
+      go : (o : Option Form) → IfSome o
+          (λ num. (has_no_ratio num ≡ true)
+          × Same (times (signed_area (at a.0) (at b.0) (at y.0)) (form_value placed (step_denominator nodes step))) (form_value placed num))
           → IfSome (option_map (step_row nodes step 1) o) (Holds placed (S i j k))
       go None h = tt
       go (Some num) h =
-          holds_one placed (S i j k) num (step_denominator nodes step) (step_charge nodes step) (no_ratios placed num h.0) (denominator_defined placed nodes step) (denominator_nonzero placed nodes y.0 step met)
+          holds_one placed (S i j k) num (step_denominator nodes step) (step_charge nodes step) (no_ratios placed num h.0)
+          (denominator_defined placed nodes step) (denominator_nonzero placed nodes y.0 step met)
           (products turned self ∘ h.1)
 
   -- by the corner that is y
@@ -67,7 +85,9 @@ module _ (placed : Placement) (nodes : Store) (y : PointId) where
   reading_holds i j k step met = go (eqb i.0 y.0) (eqb j.0 y.0) (eqb k.0 y.0) refl refl refl
     where
       go : (p q r : Bool) → eqb i.0 y.0 ≡ p → eqb j.0 y.0 ≡ q → eqb k.0 y.0 ≡ r
-          → IfSome (option_and_then (λ (ab : PointId × PointId). option_map (step_row nodes step 1) (area_numerator nodes step ab.0 ab.1)) (cond {A = Option (PointId × PointId)} p (Some (j, k)) (cond q (Some (k, i)) (cond r (Some (i, j)) None)))) (Holds placed (S i j k))
+          → IfSome (option_and_then (λ (ab : PointId × PointId). option_map (step_row nodes step 1) (area_numerator nodes step ab.0 ab.1))
+          (cond {A = Option (PointId × PointId)} p (Some (j, k)) (cond q (Some (k, i)) (cond r (Some (i, j)) None))))
+          (Holds placed (S i j k))
       go true q r e f g =
           row_holds i j k step met j k
           (subst (λ n. Same (signed_area (at i.0) (at j.0) (at k.0)) (signed_area (at j.0) (at k.0) (at n))) (eqb-true i.0 y.0 e) (flip (signed_area-turn (at i.0) (at j.0) (at k.0))))
@@ -113,7 +133,9 @@ area_row-light c y i j k = go (slice_get c.steps y.0)
     read step (Some ab) = numerator_light c.nodes step ab.0 ab.1
 
     go : (o : Option Step)
-        → IfSome (option_and_then (λ step. option_and_then (λ ab. option_map (step_row c.nodes step 1) (area_numerator c.nodes step ab.0 ab.1)) (points_after y i j k)) o) (λ r. AreLight (row_numbers r))
+        → IfSome (option_and_then (λ step. option_and_then
+        (λ ab. option_map (step_row c.nodes step 1) (area_numerator c.nodes step ab.0 ab.1)) (points_after y i j k)) o)
+        (λ r. AreLight (row_numbers r))
     go None = tt
     go (Some step) = read step (points_after y i j k)
 

@@ -5,7 +5,8 @@ use Rattle.std.specs.Option.{option_and_then, option_map}
 use Rattle.std.proofs.lemmas.Bool.{eqb-true}
 use Rattle.elim_pyth.specs.declared.pyth_rows.Reading.{Reading}
 use Rattle.elim_pyth.specs.declared.pyth_rows.Reading.TheVariants.{Linear, Quadratic}
-use Rattle.elim_pyth.specs.DifferenceTable.{reading, linear_numerator, quadratic_numerator, quadratic_power, difference_row, difference_table, crossing_square, foot_square, along_square, turned_square, weights_square}
+use Rattle.elim_pyth.specs.DifferenceTable.{reading, linear_numerator, quadratic_numerator, quadratic_power, difference_row}
+use Rattle.elim_pyth.specs.DifferenceTable.{difference_table, crossing_square, foot_square, along_square, turned_square, weights_square}
 use Rattle.fraction_poly.specs.Forms.{Form, pythagoras, ◌⊞◌, ◌⊟◌, ◌⊠◌, piece_of}
 use Rattle.fraction_poly.specs.Laws.{polynomial_value}
 use Rattle.fraction_poly.specs.Measures.{numbers_of}
@@ -39,20 +40,36 @@ module _ (placed : Placement) (nodes : Store) (y : PointId) where
 
   -- the numerator of P_ABY has the value of the difference times the denominator
   numerator_is : (step : Step) → IsStepMet placed nodes y.0 step → (a b : PointId)
-      → IfSome (linear_numerator nodes step a b) (λ num. (has_no_ratio num ≡ true) × Same (times (pythagoras_difference (at a.0) (at b.0) (at y.0)) (form_value placed (step_denominator nodes step))) (form_value placed num))
+      → IfSome (linear_numerator nodes step a b)
+      (λ num. (has_no_ratio num ≡ true)
+      × Same (times (pythagoras_difference (at a.0) (at b.0) (at y.0)) (form_value placed (step_denominator nodes step)))
+      (form_value placed num))
   numerator_is Point met a b = tt
   numerator_is (Inter u v p q) met a b = (refl, inter-pythagoras_difference (at a.0) (at b.0) (at u.0) (at v.0) (at p.0) (at q.0) (at y.0) met)
   numerator_is (Foot p u v) met a b = (refl, foot-pythagoras_difference (at a.0) (at b.0) (at p.0) (at u.0) (at v.0) (at y.0) met)
   numerator_is (Pratio w u v r) met a b =
-      let e = tree_of nodes r in
-      (refl, pratio-pythagoras_difference (at a.0) (at b.0) (at w.0) (at u.0) (at v.0) (at y.0) (tree_value placed e) (polynomial_value placed (multiplied_out e).0) (polynomial_value placed (multiplied_out e).1) met.1 (number_over placed nodes r met.0).same)
+      let e = tree_of nodes r in (
+        refl,
+        pratio-pythagoras_difference (at a.0) (at b.0) (at w.0) (at u.0) (at v.0) (at y.0) (tree_value placed e)
+            (polynomial_value placed (multiplied_out e).0) (polynomial_value placed (multiplied_out e).1) met.1
+            (number_over placed nodes r met.0).same,
+      )
   numerator_is (Tratio u v r) met a b =
-      let e = tree_of nodes r in
-      (refl, tratio-pythagoras_difference (at a.0) (at b.0) (at u.0) (at v.0) (at y.0) (tree_value placed e) (polynomial_value placed (multiplied_out e).0) (polynomial_value placed (multiplied_out e).1) met.1 (number_over placed nodes r met.0).same)
+      let e = tree_of nodes r in (
+        refl,
+        tratio-pythagoras_difference (at a.0) (at b.0) (at u.0) (at v.0) (at y.0) (tree_value placed e)
+            (polynomial_value placed (multiplied_out e).0) (polynomial_value placed (multiplied_out e).1) met.1
+            (number_over placed nodes r met.0).same,
+      )
   numerator_is (Weights o u v r s) met a b =
       let e = tree_of nodes r in
-      let f = tree_of nodes s in
-      (refl, weights-pythagoras_difference (at a.0) (at b.0) (at o.0) (at u.0) (at v.0) (at y.0) (tree_value placed e) (tree_value placed f) (polynomial_value placed (multiplied_out e).0) (polynomial_value placed (multiplied_out e).1) (polynomial_value placed (multiplied_out f).0) (polynomial_value placed (multiplied_out f).1) met.2 (number_over placed nodes r met.0).same (number_over placed nodes s met.1).same)
+      let f = tree_of nodes s in (
+        refl,
+        weights-pythagoras_difference (at a.0) (at b.0) (at o.0) (at u.0) (at v.0) (at y.0) (tree_value placed e) (tree_value placed f)
+            (polynomial_value placed (multiplied_out e).0) (polynomial_value placed (multiplied_out e).1)
+            (polynomial_value placed (multiplied_out f).0) (polynomial_value placed (multiplied_out f).1) met.2
+            (number_over placed nodes r met.0).same (number_over placed nodes s met.1).same,
+      )
 
   module _ (i j k : PointId) where
     abbrev difference : Fraction
@@ -62,11 +79,15 @@ module _ (placed : Placement) (nodes : Store) (y : PointId) where
         → IfSome (option_map (step_row nodes step 1) (linear_numerator nodes step a b)) (Holds placed (P i j k))
     linear_holds step met a b turned = go (linear_numerator nodes step a b) (numerator_is step met a b)
       where
-        go : (o : Option Form) → IfSome o (λ num. (has_no_ratio num ≡ true) × Same (times (pythagoras_difference (at a.0) (at b.0) (at y.0)) (form_value placed (step_denominator nodes step))) (form_value placed num))
+        go : (o : Option Form) → IfSome o
+            (λ num. (has_no_ratio num ≡ true)
+            × Same (times (pythagoras_difference (at a.0) (at b.0) (at y.0)) (form_value placed (step_denominator nodes step)))
+            (form_value placed num))
             → IfSome (option_map (step_row nodes step 1) o) (Holds placed (P i j k))
         go None h = tt
         go (Some num) h =
-            holds_one placed (P i j k) num (step_denominator nodes step) (step_charge nodes step) (no_ratios placed num h.0) (denominator_defined placed nodes step) (denominator_nonzero placed nodes y.0 step met)
+            holds_one placed (P i j k) num (step_denominator nodes step) (step_charge nodes step) (no_ratios placed num h.0)
+            (denominator_defined placed nodes step) (denominator_nonzero placed nodes y.0 step met)
             (products turned self ∘ h.1)
 
     quadratic_holds : (step : Step) → IsStepMet placed nodes y.0 step → (a b : PointId) → Same difference (pythagoras_difference (at a.0) (at y.0) (at b.0))
@@ -86,37 +107,49 @@ module _ (placed : Placement) (nodes : Store) (y : PointId) where
         let step = Pratio w u v r in
         let e = tree_of nodes r in
         let num = along_square w u v (numerator_at nodes r) (denominator_at nodes r) a b in
-        holds_two placed (P i j k) num (step_denominator nodes step) (step_charge nodes step) (no_ratios placed num refl) (denominator_defined placed nodes step) (denominator_nonzero placed nodes y.0 step met)
+        holds_two placed (P i j k) num (step_denominator nodes step) (step_charge nodes step) (no_ratios placed num refl)
+        (denominator_defined placed nodes step) (denominator_nonzero placed nodes y.0 step met)
         (products turned self
-        ∘ pratio-quadratic (at a.0) (at b.0) (at w.0) (at u.0) (at v.0) (at y.0) (tree_value placed e) (polynomial_value placed (multiplied_out e).0) (polynomial_value placed (multiplied_out e).1) met.1 (number_over placed nodes r met.0).same)
+        ∘ pratio-quadratic (at a.0) (at b.0) (at w.0) (at u.0) (at v.0) (at y.0) (tree_value placed e)
+        (polynomial_value placed (multiplied_out e).0) (polynomial_value placed (multiplied_out e).1) met.1
+        (number_over placed nodes r met.0).same)
     quadratic_holds (Tratio u v r) met a b turned =
         let step = Tratio u v r in
         let e = tree_of nodes r in
         let num = turned_square u v (numerator_at nodes r) (denominator_at nodes r) a b in
-        holds_two placed (P i j k) num (step_denominator nodes step) (step_charge nodes step) (no_ratios placed num refl) (denominator_defined placed nodes step) (denominator_nonzero placed nodes y.0 step met)
+        holds_two placed (P i j k) num (step_denominator nodes step) (step_charge nodes step) (no_ratios placed num refl)
+        (denominator_defined placed nodes step) (denominator_nonzero placed nodes y.0 step met)
         (products turned self
-        ∘ tratio-quadratic (at a.0) (at b.0) (at u.0) (at v.0) (at y.0) (tree_value placed e) (polynomial_value placed (multiplied_out e).0) (polynomial_value placed (multiplied_out e).1) met.1 (number_over placed nodes r met.0).same)
+        ∘ tratio-quadratic (at a.0) (at b.0) (at u.0) (at v.0) (at y.0) (tree_value placed e) (polynomial_value placed (multiplied_out e).0)
+        (polynomial_value placed (multiplied_out e).1) met.1 (number_over placed nodes r met.0).same)
     quadratic_holds (Weights o u v r s) met a b turned =
         let step = Weights o u v r s in
         let e = tree_of nodes r in
         let f = tree_of nodes s in
         let num = weights_square o u v (numerator_at nodes r) (denominator_at nodes r) (numerator_at nodes s) (denominator_at nodes s) a b in
-        holds_two placed (P i j k) num (step_denominator nodes step) (step_charge nodes step) (no_ratios placed num refl) (denominator_defined placed nodes step) (denominator_nonzero placed nodes y.0 step met)
+        holds_two placed (P i j k) num (step_denominator nodes step) (step_charge nodes step) (no_ratios placed num refl)
+        (denominator_defined placed nodes step) (denominator_nonzero placed nodes y.0 step met)
         (products turned self
-        ∘ weights-quadratic (at a.0) (at b.0) (at o.0) (at u.0) (at v.0) (at y.0) (tree_value placed e) (tree_value placed f) (polynomial_value placed (multiplied_out e).0) (polynomial_value placed (multiplied_out e).1) (polynomial_value placed (multiplied_out f).0) (polynomial_value placed (multiplied_out f).1) met.2 (number_over placed nodes r met.0).same (number_over placed nodes s met.1).same)
+        ∘ weights-quadratic (at a.0) (at b.0) (at o.0) (at u.0) (at v.0) (at y.0) (tree_value placed e) (tree_value placed f)
+        (polynomial_value placed (multiplied_out e).0) (polynomial_value placed (multiplied_out e).1)
+        (polynomial_value placed (multiplied_out f).0) (polynomial_value placed (multiplied_out f).1) met.2
+        (number_over placed nodes r met.0).same (number_over placed nodes s met.1).same)
 
     -- by the place of y
     reading_holds : (step : Step) → IsStepMet placed nodes y.0 step → IfSome (option_and_then (difference_row nodes step) (reading y i j k)) (Holds placed (P i j k))
     reading_holds step met = go (eqb j.0 y.0) (eqb i.0 y.0) (eqb k.0 y.0) refl refl refl
       where
         go : (q p r : Bool) → eqb j.0 y.0 ≡ q → eqb i.0 y.0 ≡ p → eqb k.0 y.0 ≡ r
-            → IfSome (option_and_then (difference_row nodes step) (cond {A = Option Reading} q (Some (Quadratic i k)) (cond p (Some (cond r (Quadratic j j) (Linear k j))) (cond r (Some (Linear i j)) None)))) (Holds placed (P i j k))
+            → IfSome (option_and_then (difference_row nodes step)
+            (cond {A = Option Reading} q (Some (Quadratic i k))
+            (cond p (Some (cond r (Quadratic j j) (Linear k j))) (cond r (Some (Linear i j)) None)))) (Holds placed (P i j k))
         go true p r e f g =
             quadratic_holds step met i k (subst (λ n. Same difference (pythagoras_difference (at i.0) (at n) (at k.0))) (eqb-true j.0 y.0 e) self)
         go false true true e f g =
             quadratic_holds step met j j
             (subst (λ n. Same difference (pythagoras_difference (at j.0) (at n) (at j.0))) (eqb-true i.0 y.0 f)
-            (subst (λ n. Same (pythagoras_difference (at i.0) (at j.0) (at n)) (pythagoras_difference (at j.0) (at i.0) (at j.0))) (same_ends (eqb-true i.0 y.0 f) (eqb-true k.0 y.0 g)) (pythagoras_difference-length (at i.0) (at j.0))))
+            (subst (λ n. Same (pythagoras_difference (at i.0) (at j.0) (at n)) (pythagoras_difference (at j.0) (at i.0) (at j.0)))
+            (same_ends (eqb-true i.0 y.0 f) (eqb-true k.0 y.0 g)) (pythagoras_difference-length (at i.0) (at j.0))))
           where
             same_ends : {a b c : ℕ} → a ≡ b → c ≡ b → a ≡ c
             same_ends p q = cc

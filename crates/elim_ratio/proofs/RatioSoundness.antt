@@ -196,7 +196,8 @@ module _ (placed : Placement) (nodes : Store) (y i j k l : PointId) (has : HasRa
           ]
 
       go : (o : Option (PointId × Bool)) → IfSome o (λ e. IsEnd y k l e.0 e.1)
-          → IfSome (option_and_then (λ (e : PointId × Bool). cond (is_point e.0 U || is_point e.0 V) (Some (plain_row (with_sign s e.1 (area A P' Q)) (area e.0 P' Q))) None) o) (Holds placed (R i j k l))
+          → IfSome (option_and_then (λ (e : PointId × Bool). cond (is_point e.0 U || is_point e.0 V)
+          (Some (plain_row (with_sign s e.1 (area A P' Q)) (area e.0 P' Q))) None) o) (Holds placed (R i j k l))
       go None other = tt
       go (Some e) other = by_side e.0 e.1 (reads at i j k l A y e.0 y s e.1 has end (end_line y k l e.0 e.1 other)) (is_point e.0 U || is_point e.0 V) refl
 
@@ -210,13 +211,20 @@ module _ (placed : Placement) (nodes : Store) (y i j k l : PointId) (has : HasRa
   along_holds (Pratio w u v r) met A s end = go (same_line u v k l) (line_is u v k l)
     where
       go : (o : Option Bool) → IfSome o (λ t. IsLine u v k l t)
-          → IfSome (option_map (λ other. record { power = 1; num = with_sign s other (denominator_at nodes r ⊠ ratio A w u v ⊞ numerator_at nodes r); den = denominator_at nodes r; charge = (numbers_of (tree_of nodes r)).charge }) o) (Holds placed (R i j k l))
+          → IfSome (option_map (λ other.
+          record {
+            power = 1;
+            num = with_sign s other (denominator_at nodes r ⊠ ratio A w u v ⊞ numerator_at nodes r);
+            den = denominator_at nodes r;
+            charge = (numbers_of (tree_of nodes r)).charge;
+          }) o) (Holds placed (R i j k l))
       go None line = tt
       go (Some t) line =
           let read = reads at i j k l A y u v s t has end line in
           let e = tree_of nodes r in
           let over = number_over placed nodes r met.0 in
-          let row = ratio-pratio (at A.0) (at w.0) (at u.0) (at v.0) (at y.0) (tree_value placed e) (polynomial_value placed (multiplied_out e).0) (polynomial_value placed (multiplied_out e).1) met.1 over.same read.has in
+          let row = ratio-pratio (at A.0) (at w.0) (at u.0) (at v.0) (at y.0) (tree_value placed e)
+          (polynomial_value placed (multiplied_out e).0) (polynomial_value placed (multiplied_out e).1) met.1 over.same read.has in
           signed_row A u v s t (denominator_at nodes r ⊠ ratio A w u v ⊞ numerator_at nodes r) (denominator_at nodes r) (numbers_of e).charge read ((tt, row.0), tt) refl over.nonzero row.1
 
   foot_holds : (step : Step) → IsStepMet placed nodes y.0 step → (A : PointId) (s : Bool) → IsEnd y i j A s
@@ -267,7 +275,11 @@ module _ (placed : Placement) (nodes : Store) (y i j k l : PointId) (has : HasRa
       shared u v p q = shared_row y u v p q A s k l
 
       go : (a b c d e f : Bool)
-          → IfSome (cond {A = Option TableRow} a (first_line step (λ u v p q. crossing_row u v p q A s k l)) (cond b (second_line step (λ u v p q. crossing_row u v p q A s k l)) (cond c (first_line step (λ u v p q. shared_row y u v p q A s k l)) (cond d (second_line step (λ u v p q. shared_row y u v p q A s k l)) (cond e (along_row nodes step A s k l) (cond f (foot_row step A s k l) None)))))) (Holds placed (R i j k l))
+          → IfSome (cond {A = Option TableRow} a (first_line step (λ u v p q. crossing_row u v p q A s k l))
+          (cond b (second_line step (λ u v p q. crossing_row u v p q A s k l))
+          (cond c (first_line step (λ u v p q. shared_row y u v p q A s k l))
+          (cond d (second_line step (λ u v p q. shared_row y u v p q A s k l))
+          (cond e (along_row nodes step A s k l) (cond f (foot_row step A s k l) None)))))) (Holds placed (R i j k l))
       go true b c d e f = first_holds step met (λ u v p q. crossing_row u v p q A s k l) (λ U V P' Q is. crossing_holds U V P' Q A s is end)
       go false true c d e f = second_holds step met (λ u v p q. crossing_row u v p q A s k l) (λ U V P' Q is. crossing_holds U V P' Q A s is end)
       go false false true d e f = first_holds step met (λ u v p q. shared_row y u v p q A s k l) (λ U V P' Q is. shared_holds U V P' Q A s is end)
@@ -291,7 +303,9 @@ ratio_row-holds lemma c y i j k l placed met has = go (eqb lemma 0) (slice_get c
     read step met (Some e) end = lemma_holds placed c.nodes y i j k l has lemma step met e.0 e.1 end
 
     go : (b : Bool) (o : Option Step) → ((step : Step) → o ≡ Some step → IsStepMet placed c.nodes y.0 step)
-        → IfSome (cond {A = Option TableRow} b (Some (pythagoras_row i j k l)) (option_and_then (λ step. option_and_then (λ end. lemma_row lemma c.nodes y step end.0 end.1 k l) (end_at y i j)) o)) (Holds placed (R i j k l))
+        → IfSome (cond {A = Option TableRow} b (Some (pythagoras_row i j k l))
+        (option_and_then (λ step. option_and_then (λ end. lemma_row lemma c.nodes y step end.0 end.1 k l) (end_at y i j)) o))
+        (Holds placed (R i j k l))
     go true o met = pythagoras_holds placed c.nodes y i j k l has
     go false None met = tt
     go false (Some step) met = read step (met step refl) (end_at y i j) (end_is y i j)
@@ -358,7 +372,9 @@ shared_light y u v p q a s k l = go (end_at y k l)
     test e true = light_row s e.1 (area a p q) (area e.0 p q) 0 (omega arith) (omega arith)
     test e false = tt
 
-    go : (o : Option (PointId × Bool)) → IfSome (option_and_then (λ (e : PointId × Bool). cond (is_point e.0 u || is_point e.0 v) (Some (plain_row (with_sign s e.1 (area a p q)) (area e.0 p q))) None) o) (λ r. AreLight (row_numbers r))
+    go : (o : Option (PointId × Bool))
+        → IfSome (option_and_then (λ (e : PointId × Bool). cond (is_point e.0 u || is_point e.0 v)
+        (Some (plain_row (with_sign s e.1 (area a p q)) (area e.0 p q))) None) o) (λ r. AreLight (row_numbers r))
     go None = tt
     go (Some e) = test e (is_point e.0 u || is_point e.0 v)
 
@@ -371,7 +387,13 @@ along_light nodes (Weights o u v r t) a s k l = tt
 along_light nodes (Pratio w u v r) a s k l = go (same_line u v k l)
   where
     go : (o : Option Bool)
-        → IfSome (option_map (λ other. record { power = 1; num = with_sign s other (denominator_at nodes r ⊠ ratio a w u v ⊞ numerator_at nodes r); den = denominator_at nodes r; charge = (numbers_of (tree_of nodes r)).charge }) o) (λ r. AreLight (row_numbers r))
+        → IfSome (option_map (λ other.
+        record {
+          power = 1;
+          num = with_sign s other (denominator_at nodes r ⊠ ratio a w u v ⊞ numerator_at nodes r);
+          den = denominator_at nodes r;
+          charge = (numbers_of (tree_of nodes r)).charge;
+        }) o) (λ r. AreLight (row_numbers r))
     go None = tt
     go (Some t) = light_row s t (denominator_at nodes r ⊠ ratio a w u v ⊞ numerator_at nodes r) (denominator_at nodes r) (numbers_of (tree_of nodes r)).charge (omega arith) (omega arith)
 
@@ -409,7 +431,11 @@ lemma_light : (lemma : ℕ) (nodes : Store) (y : PointId) (step : Step) (a : Poi
 lemma_light lemma nodes y step A s k l = go (eqb lemma 11) (eqb lemma 12) (eqb lemma 21) (eqb lemma 22) (eqb lemma 3) (eqb lemma 4)
   where
     go : (a b c d e f : Bool)
-        → IfSome (cond {A = Option TableRow} a (first_line step (λ u v p q. crossing_row u v p q A s k l)) (cond b (second_line step (λ u v p q. crossing_row u v p q A s k l)) (cond c (first_line step (λ u v p q. shared_row y u v p q A s k l)) (cond d (second_line step (λ u v p q. shared_row y u v p q A s k l)) (cond e (along_row nodes step A s k l) (cond f (foot_row step A s k l) None)))))) (λ r. AreLight (row_numbers r))
+        → IfSome (cond {A = Option TableRow} a (first_line step (λ u v p q. crossing_row u v p q A s k l))
+        (cond b (second_line step (λ u v p q. crossing_row u v p q A s k l))
+        (cond c (first_line step (λ u v p q. shared_row y u v p q A s k l))
+        (cond d (second_line step (λ u v p q. shared_row y u v p q A s k l))
+        (cond e (along_row nodes step A s k l) (cond f (foot_row step A s k l) None)))))) (λ r. AreLight (row_numbers r))
     go true b c d e f = first_light step (λ u v p q. crossing_row u v p q A s k l) (λ u v p q. crossing_light u v p q A s k l)
     go false true c d e f = second_light step (λ u v p q. crossing_row u v p q A s k l) (λ u v p q. crossing_light u v p q A s k l)
     go false false true d e f = first_light step (λ u v p q. shared_row y u v p q A s k l) (λ u v p q. shared_light y u v p q A s k l)
@@ -426,7 +452,9 @@ ratio_row-light lemma c y i j k l = go (eqb lemma 0) (slice_get c.steps y.0)
     read step (Some e) = lemma_light lemma c.nodes y step e.0 e.1 k l
 
     go : (b : Bool) (o : Option Step)
-        → IfSome (cond {A = Option TableRow} b (Some (pythagoras_row i j k l)) (option_and_then (λ step. option_and_then (λ end. lemma_row lemma c.nodes y step end.0 end.1 k l) (end_at y i j)) o)) (λ r. AreLight (row_numbers r))
+        → IfSome (cond {A = Option TableRow} b (Some (pythagoras_row i j k l))
+        (option_and_then (λ step. option_and_then (λ end. lemma_row lemma c.nodes y step end.0 end.1 k l) (end_at y i j)) o))
+        (λ r. AreLight (row_numbers r))
     go true o = record { power = omega arith; weight = omega arith; degree = omega arith }
     go false None = tt
     go false (Some step) = read step (end_at y i j)

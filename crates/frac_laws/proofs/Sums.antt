@@ -62,10 +62,6 @@ product_is a b c d n m e f k l hn hm h se sf =
     both : (e ≡ pos 0 → ⊥) → (f ≡ pos 0 → ⊥) → e *ℤ f ≡ pos 0 → ⊥
     both se sf h = product_some e f (some e se) (some f sf) h
 
--- a natural denominator
-pos_size : (d : ℤ) → d ≡ pos (unsigned_abs d) → (b : ℕ) → b ≡ unsigned_abs d → pos b ≡ d
-pos_size d h b e = ap pos e ∙ sym h
-
 -- ONE ANSWER OR THE OTHER
 pub exactly : {A E P : Type 0} (r : Result A E) → (IsErr r → P) → IfOk r (λ (x : A). P → ⊥) → IsErr r ↔ P
 exactly (Ok x) h g = (h, λ p. absurd (g p))

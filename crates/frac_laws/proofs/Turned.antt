@@ -30,7 +30,9 @@ turned (pos (suc k)) a b d h e =
     by_combination integers (entry_at integers (pos (suc k) ∷ a ∷ b ∷ pos d ∷ [])) (given (numeral 1) (v 1 ⊠ v 0) (v 3 ⊠ v 2) ∷ []) (v 1 ⊠ (numeral 1 ⊠ v 0)) (numeral 1 ⊠ v 3 ⊠ v 2) (e, tt) tt
 turned (negsuc k) a b d h e =
     let v = variable in
-    by_combination integers (entry_at integers (pos (suc k) ∷ a ∷ b ∷ pos d ∷ [])) (given (opposite (numeral 1)) (v 1 ⊠ opposite (v 0)) (v 3 ⊠ v 2) ∷ []) (v 1 ⊠ (numeral 1 ⊠ v 0)) (opposite (numeral 1) ⊠ v 3 ⊠ v 2) (e, tt) tt
+    by_combination integers (entry_at integers (pos (suc k) ∷ a ∷ b ∷ pos d ∷ []))
+    (given (opposite (numeral 1)) (v 1 ⊠ opposite (v 0)) (v 3 ⊠ v 2) ∷ []) (v 1 ⊠ (numeral 1 ⊠ v 0)) (opposite (numeral 1) ⊠ v 3 ⊠ v 2)
+    (e, tt) tt
 
 pub inverse_number : (f r : Frac) → (f.num ≡ pos 0 → ⊥) → r.num *ℤ f.num ≡ f.den *ℤ r.den → IsNumber r (quotient (whole (pos 1)) (fraction_of f))
 unfolding fraction_of quotient

@@ -28,10 +28,6 @@ capped-crossed a d b c =
     ∙ ap₂ (λ x y. capped_number (x + y)) (capped-times a d) (capped-times b c)
     ∙ capped-plus (a * d) (b * c)
 
-pub capped-charge : (h g kn kd x y : ℕ) → capped_number kn ≡ capped_number x → capped_number kd ≡ capped_number y
-    → capped_number (capped_number h + capped_number g + kn + kd) ≡ capped_number (h + g + x + y)
-capped-charge h g kn kd x y e f = omega (arith, e, f)
-
 -- numbers are the same where each of them is
 same_numbers : (a b : Numbers) → a.wn ≡ b.wn → a.wd ≡ b.wd → a.kn ≡ b.kn → a.kd ≡ b.kd → a.gn ≡ b.gn → a.gd ≡ b.gd → a.charge ≡ b.charge → a ≡ b
 same_numbers a b wn wd kn kd gn gd charge = λ i. record { wn = wn i; wd = wd i; kn = kn i; kd = kd i; gn = gn i; gd = gd i; charge = charge i }
@@ -64,7 +60,8 @@ numbers_at trees parts e n h at =
     let is : slice_get parts e.0 ≡ Some (capped (numbers_of (tree_at trees e))) = h.each e (slice_get_within parts e.0 n at) in cc
 
 -- the numbers of one tree more
-pub AreNumbersOf-push : (trees : List Tree) (parts : List Numbers) (n : Numbers) → AreNumbersOf trees parts → n ≡ capped (numbers_of (tree_at trees (record { 0 = length parts }))) → AreNumbersOf trees (parts ++ n ∷ [])
+pub AreNumbersOf-push : (trees : List Tree) (parts : List Numbers) (n : Numbers) → AreNumbersOf trees parts
+    → n ≡ capped (numbers_of (tree_at trees (record { 0 = length parts }))) → AreNumbersOf trees (parts ++ n ∷ [])
 AreNumbersOf-push trees parts n h is = record { each = each }
   where
     each : (e : TermId) → e.0 < length (parts ++ n ∷ []) → slice_get (parts ++ n ∷ []) e.0 ≡ Some (capped (numbers_of (tree_at trees e)))

@@ -1,13 +1,13 @@
 -- Cutting the nodes that a term reaches out of a store, parts first.
-use Rattle.std.proofs.Common.{◌≡◌, ℕ, ◌+◌, ◌<◌, ◌≤◌, ◌⊎◌, inl, inr, Bool, true, false, cond, Contains, HashMap, List, [], ◌∷◌, ◌++◌, length, slice_get, nat_eq, Some, None, Option, IsSome, unwrap_or, refl, sym, ap, ap₂, subst, ◌∙◌, arith}
+use Rattle.std.proofs.Common.{◌≡◌, ℕ, ◌+◌, ◌<◌, ◌≤◌, ◌⊎◌, inl, inr, Bool, true, false, cond, Contains, HashMap, List, [], ◌∷◌, ◌++◌, length}
+use Rattle.std.proofs.Common.{slice_get, nat_eq, Some, Option, IsSome, unwrap_or, refl, sym, ap, ap₂, subst, ◌∙◌, arith}
 use Rattle.std.proofs.lemmas.Bool.{cases_lt}
 use Rattle.std.proofs.lemmas.Option.{slice_get_within}
 use Rattle.std.specs.HashMap.{Updates}
-use Rattle.std.specs.Map.{lookup}
 use Rattle.geo_points.specs.declared.ids.TermId.{TermId}
 use Rattle.geo_terms.specs.declared.nodes.Node.{Node}
 use Rattle.geo_terms.specs.declared.nodes.Node.TheVariants.{Int, Param, S, P, R, Neg, Add, Sub, Mul, Div}
-use Rattle.geo_terms.specs.Stores.{Store, HasChildrenBelow, HasShortInteger, IsStore, node_tree, tree_at, trees_of, tree_of}
+use Rattle.geo_terms.specs.Stores.{Store, HasChildrenBelow, IsStore, node_tree, tree_at, trees_of, tree_of}
 use Rattle.geo_terms.specs.Trees.{Tree, negation, addition, subtraction, multiplication, division}
 use Rattle.geo_terms.proofs.Trees.{tree_of-node}
 use Rattle.fraction_poly.specs.Inner.Parts.{AreReached, CanMultiplyOut, DoAllFit, IsPart, StandsFrom, over_parts, place_at, place_in}
@@ -40,19 +40,6 @@ over_parts-below k f (Add e g) h = (h e (inl refl), h g (inr refl))
 over_parts-below k f (Sub e g) h = (h e (inl refl), h g (inr refl))
 over_parts-below k f (Mul e g) h = (h e (inl refl), h g (inr refl))
 over_parts-below k f (Div e g) h = (h e (inl refl), h g (inr refl))
-
--- its integer stays
-pub over_parts-integer : (f : TermId → TermId) (node : Node) → HasShortInteger node → HasShortInteger (over_parts f node)
-over_parts-integer f (Int n) h = h
-over_parts-integer f (Param t) h = tt
-over_parts-integer f (S x y z) h = tt
-over_parts-integer f (P x y z) h = tt
-over_parts-integer f (R x y z w) h = tt
-over_parts-integer f (Neg e) h = tt
-over_parts-integer f (Add e g) h = tt
-over_parts-integer f (Sub e g) h = tt
-over_parts-integer f (Mul e g) h = tt
-over_parts-integer f (Div e g) h = tt
 
 -- A MAP OF PLACES
 eq_at : (a b : ℕ) → nat_eq a b ≡ true → a ≡ b
@@ -100,20 +87,6 @@ pub record IsInterned (old new : Store) (node : Node) (place : TermId) : Type 0 
   pub one_more : length new ≤ length old + 1
   pub valid : IsStore new
 
--- nothing is cut out
-pub cut-none : {S : Type 0} (nodes : Store) (id : TermId) (order : List TermId) (places : HashMap ℕ TermId S) (cut : Store) → places.entries ≡ [] → cut ≡ [] → IsStore cut → IsCut nodes id order (length order) places cut
-cut-none nodes id order places cut empty none store = record {
-  store = store;
-  count = omega (arith, ap length none);
-  placed = λ c from. absurd (let within = slice_get_within order from.0 c from.2 in let past = from.1 in omega arith);
-  stands = λ c is. absurd (nowhere c is);
-  tree = λ c is. absurd (nowhere c is);
-  fit = λ fits. record { each = λ c within. absurd (let empty = ap length none in omega arith) };
-}
-  where
-    nowhere : (c : TermId) → IsSome (place_at places c) → ⊥
-    nowhere c is = let absent : place_at places c ≡ None = ap (lookup (nat_eq c.0)) empty in cc
-
 module _ {S : Type 0} (nodes : Store) (store : IsStore nodes) (id : TermId) (order : List TermId) (reached : AreReached nodes id order)
     (k i : ℕ) (next : k ≡ i + 1) (index : TermId) (node : Node) (here : slice_get order i ≡ Some index) (at : slice_get nodes index.0 ≡ Some node)
     (places : HashMap ℕ TermId S) (cut : Store) (h : IsCut nodes id order k places cut) where
@@ -123,9 +96,6 @@ module _ {S : Type 0} (nodes : Store) (store : IsStore nodes) (id : TermId) (ord
 
   pub moved_below : HasChildrenBelow (length cut) (over_parts (place_in places) node)
   moved_below = over_parts-below (length cut) (place_in places) node (λ c part. h.stands c (part_placed c part))
-
-  pub moved_integer : HasShortInteger (over_parts (place_in places) node)
-  moved_integer = over_parts-integer (place_in places) node (store.integers index.0 node at)
 
   module _ (place : TermId) (longer : Store) (interned : IsInterned cut longer (over_parts (place_in places) node) place)
       (more : HashMap ℕ TermId S) (updates : Updates nat_eq places more index.0 (Some place)) where

@@ -4,7 +4,8 @@ use Rattle.fraction_poly.specs.Forms.{Form, integer, area, pythagoras, ratio, ab
 use Rattle.fraction_poly.specs.Laws.{polynomial_value}
 use Rattle.fraction_poly.specs.MultipliedOut.{multiplied_out}
 use Rattle.fraction_poly.specs.TableRows.{TableRow, RowHolds, made_row}
-use Rattle.fraction_poly.proofs.PolynomialValues.{◌∘◌, flip, self, sums, products, opposites, one_times, minus_is, constant_is, variable_is, area_is, pythagoras_is, ratio_is, negated_is, sum_is, difference_is, product_is}
+use Rattle.fraction_poly.proofs.PolynomialValues.{◌∘◌, flip, self, sums, products, opposites, one_times, minus_is, constant_is, variable_is}
+use Rattle.fraction_poly.proofs.PolynomialValues.{area_is, pythagoras_is, ratio_is, negated_is, sum_is, difference_is, product_is}
 use Rattle.fraction_poly.proofs.TermValues.{nonzero_same}
 use Rattle.ring_laws.proofs.Fractions.{fractions}
 use Rattle.ring_laws.specs.Fraction.{Fraction, IsNonzero, Same, whole, plus, minus, negated, times}

@@ -50,17 +50,22 @@ module _ (nodes : Store) (parts : List (Summands × Summands)) (id : TermId) whe
     right_is : (node : Node) → IsAtNode nodes parts id node → IsPart node f → y ≡ multiplied_out (tree_of nodes f)
     right_is node h part = part_is nodes parts id node h f y part at_f
 
-    both_along : (P : Summands × Summands → Summands × Summands → Type 0) → x ≡ multiplied_out (tree_of nodes e) → y ≡ multiplied_out (tree_of nodes f) → P (multiplied_out (tree_of nodes e)) (multiplied_out (tree_of nodes f)) → P x y
+    both_along : (P : Summands × Summands → Summands × Summands → Type 0) → x ≡ multiplied_out (tree_of nodes e)
+        → y ≡ multiplied_out (tree_of nodes f) → P (multiplied_out (tree_of nodes e)) (multiplied_out (tree_of nodes f)) → P x y
     both_along P left right p = subst (λ (a : Summands × Summands). P a y) (sym left) (subst (P (multiplied_out (tree_of nodes e))) (sym right) p)
 
     pub addition_fits : IsAtNode nodes parts id (Add e f) → SumFits x y
-    addition_fits h = both_along SumFits (left_is (Add e f) h (inl refl)) (right_is (Add e f) h (inr refl)) (sum_fits_addition (tree_of nodes e) (tree_of nodes f) (node_fits nodes parts id (Add e f) h))
+    addition_fits h =
+        both_along SumFits (left_is (Add e f) h (inl refl)) (right_is (Add e f) h (inr refl))
+        (sum_fits_addition (tree_of nodes e) (tree_of nodes f) (node_fits nodes parts id (Add e f) h))
 
     pub addition_is : IsAtNode nodes parts id (Add e f) → fraction_sum x y ≡ multiplied_out (tree_of nodes id)
     addition_is h = node_result nodes parts id (Add e f) h _ (ap₂ fraction_sum (left_is (Add e f) h (inl refl)) (right_is (Add e f) h (inr refl)))
 
     pub subtraction_fits : IsAtNode nodes parts id (Sub e f) → SumFits x y
-    subtraction_fits h = both_along SumFits (left_is (Sub e f) h (inl refl)) (right_is (Sub e f) h (inr refl)) (sum_fits_subtraction (tree_of nodes e) (tree_of nodes f) (node_fits nodes parts id (Sub e f) h))
+    subtraction_fits h =
+        both_along SumFits (left_is (Sub e f) h (inl refl)) (right_is (Sub e f) h (inr refl))
+        (sum_fits_subtraction (tree_of nodes e) (tree_of nodes f) (node_fits nodes parts id (Sub e f) h))
 
     pub subtraction_is : IsAtNode nodes parts id (Sub e f) → fraction_difference x y ≡ multiplied_out (tree_of nodes id)
     subtraction_is h = node_result nodes parts id (Sub e f) h _ (ap₂ fraction_difference (left_is (Sub e f) h (inl refl)) (right_is (Sub e f) h (inr refl)))

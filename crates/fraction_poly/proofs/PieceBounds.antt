@@ -10,9 +10,12 @@ use Rattle.fraction_poly.specs.declared.drafts.Operation.TheVariants.{Sum, Diffe
 use Rattle.fraction_poly.specs.declared.measures.Numbers.{Numbers}
 use Rattle.fraction_poly.specs.declared.step_numbers.StepNumber.{StepNumber}
 use Rattle.fraction_poly.specs.Inner.Drafts.{AllFit, IsBoundedNumber, by_number, combined_form, combined_piece, drafted_piece, form_of}
-use Rattle.fraction_poly.specs.Forms.{Form, integer, area, pythagoras, ratio, abscissa, ordinate, numerator, denominator, ◌⊞◌, ◌⊟◌, ◌⊠◌, opposite, PieceFits, step_number, integer_piece, variable_piece, piece_sum, piece_difference, piece_product, piece_opposite, piece_of}
+use Rattle.fraction_poly.specs.Forms.{Form, integer, area, pythagoras, ratio, abscissa, ordinate, numerator, denominator, ◌⊞◌, ◌⊟◌, ◌⊠◌}
+use Rattle.fraction_poly.specs.Forms.{opposite, PieceFits, step_number, integer_piece, variable_piece, piece_sum, piece_difference}
+use Rattle.fraction_poly.specs.Forms.{piece_product, piece_opposite, piece_of}
 use Rattle.fraction_poly.specs.Measures.{numbers_of, sum_numbers, product_numbers, turned_numbers}
-use Rattle.fraction_poly.proofs.Sizes.{IsWithin, IsWithin-sum, IsWithin-difference, IsWithin-product, IsWithin-negated, IsWithin-constant, IsWithin-variable, IsWithin-area, IsWithin-pythagoras, IsWithin-ratio}
+use Rattle.fraction_poly.proofs.Sizes.{IsWithin, IsWithin-sum, IsWithin-difference, IsWithin-product, IsWithin-negated, IsWithin-constant}
+use Rattle.fraction_poly.proofs.Sizes.{IsWithin-variable, IsWithin-area, IsWithin-pythagoras, IsWithin-ratio}
 use Rattle.fraction_poly.proofs.TermBounds.{bounds, positive}
 use Rattle.geo_poly.specs.declared.replacement.Piece.{Piece}
 use Rattle.geo_poly.specs.declared.variables.Var.TheVariants.{X, Y}

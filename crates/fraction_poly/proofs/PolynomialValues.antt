@@ -99,7 +99,8 @@ module _ (placed : Placement) where
   area_is a b c = canon_is (canonical_area a b c) ∘ flip (canonical_area-value placed.point placed.number a b c)
 
   -- that of a canonical Pythagoras difference is the difference
-  pub pythagoras_is : (a b c : PointId) → Same (polynomial_value placed (canon_polynomial (canonical_difference a b c))) (pythagoras_difference (placed.point a.0) (placed.point b.0) (placed.point c.0))
+  pub pythagoras_is : (a b c : PointId) → Same (polynomial_value placed (canon_polynomial (canonical_difference a b c)))
+      (pythagoras_difference (placed.point a.0) (placed.point b.0) (placed.point c.0))
   pythagoras_is a b c = canon_is (canonical_difference a b c) ∘ flip (canonical_difference-value placed.point placed.number a b c)
 
   -- that of a canonical ratio is the ratio, where this is defined

@@ -1,5 +1,7 @@
 -- Which indices a term reaches, from the greatest down.
-use Rattle.std.proofs.Common.{◌≡◌, ℕ, suc, ◌+◌, ◌<◌, ◌≤◌, ◌⊎◌, inl, inr, max, Bool, true, false, cond, ◌||◌, List, [], ◌∷◌, ◌++◌, length, slice_get, Some, BTreeSet, nat_cmp, is_eq, is_lt, Ordering, Less, Equal, Greater, refl, sym, ap, subst, ◌∙◌, arith}
+use Rattle.std.proofs.Common.{◌≡◌, ℕ, suc, ◌+◌, ◌<◌, ◌≤◌, ◌⊎◌, inl, inr, max, Bool, true, false, cond, ◌||◌, List, [], ◌∷◌, ◌++◌, length}
+use Rattle.std.proofs.Common.{slice_get, Some, BTreeSet, nat_cmp, is_eq, is_lt, Ordering, Less, Equal, Greater, refl, sym, ap, subst, ◌∙◌}
+use Rattle.std.proofs.Common.{arith}
 use Rattle.std.proofs.lemmas.Bool.{cases_lt}
 use Rattle.std.proofs.lemmas.Cmp.{ranked}
 use Rattle.std.proofs.lemmas.List.{length_push}
@@ -214,7 +216,8 @@ module _ (nodes : Store) (store : IsStore nodes) (id : TermId) where
         let within : stands.0 < length more = slice_get_within more stands.0 c stands.2 in
         elim (place_cases stands.0 (length order) (omega (arith, length_push order index))) [
           | inl before ↦ inl (inr (stands.0, stands.1, sym (slice_get-front order (index ∷ []) stands.0 before) ∙ stands.2))
-          | inr last ↦ inl (inl (let same : index ≡ c = let here : slice_get more stands.0 ≡ Some index = slice_get-end order index stands.0 last in cc in subst (λ (d : TermId). Has old d.0) same takes.member))
+          | inr last ↦ inl (inl (let same : index ≡ c = let here : slice_get more stands.0 ≡ Some index = slice_get-end order index stands.0
+              last in cc in subst (λ (d : TermId). Has old d.0) same takes.member))
         ]
 
     node_below : HasChildrenBelow index.0 node

@@ -5,7 +5,8 @@ use Rattle.std.specs.Ordering.{nat_cmp}
 use Rattle.geo_points.specs.declared.ids.PointId.{PointId}
 use Rattle.geo_poly.specs.declared.variables.Var.{Var}
 use Rattle.geo_poly.specs.declared.variables.Var.TheVariants.{R}
-use Rattle.geo_poly.specs.Canonical.{canonical_area, canonical_difference, canonical_ratio, higher, is_point, is_same_pair, lower, pair_sign, permutation_sign, signed_variable, sorted_area, sorted_difference}
+use Rattle.geo_poly.specs.Canonical.{canonical_area, canonical_difference, canonical_ratio, higher, is_point, is_same_pair, lower}
+use Rattle.geo_poly.specs.Canonical.{pair_sign, permutation_sign, signed_variable, sorted_area, sorted_difference}
 use Rattle.geo_poly.proofs.SortedForms.{small_product, small_sign}
 use Rattle.fraction_poly.specs.Inner.Drafts.{HasSign}
 

@@ -40,7 +40,8 @@ module _ (placed : Placement) (nodes : Store) where
   denominator_nonzero k (Pratio w u v r) met = (number_over r met.0).nonzero
   denominator_nonzero k (Tratio u v r) met = nonzero_times (whole (pos 4)) (polynomial_value placed (multiplied_out (tree_of nodes r)).1) nonzero_four (number_over r met.0).nonzero
   denominator_nonzero k (Weights o u v r s) met =
-      nonzero_times (polynomial_value placed (multiplied_out (tree_of nodes r)).1) (polynomial_value placed (multiplied_out (tree_of nodes s)).1) (number_over r met.0).nonzero (number_over s met.1).nonzero
+      nonzero_times (polynomial_value placed (multiplied_out (tree_of nodes r)).1)
+      (polynomial_value placed (multiplied_out (tree_of nodes s)).1) (number_over r met.0).nonzero (number_over s met.1).nonzero
 
   -- no denominator has a ratio
   pub denominator_defined : (step : Step) → RatiosDefined placed (step_denominator nodes step)

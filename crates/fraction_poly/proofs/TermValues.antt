@@ -15,7 +15,8 @@ use Rattle.geo_terms.specs.Trees.{Tree, integer_leaf, parameter_leaf, area_leaf,
 use Rattle.geo_terms.specs.Values.{HasTreeValue, tree_value}
 use Rattle.fraction_poly.specs.Laws.{polynomial_value, MultipliedOutHasTheValue}
 use Rattle.fraction_poly.specs.MultipliedOut.{multiplied_out, canon_polynomial, variable_polynomial, fraction_sum, fraction_difference, fraction_product, fraction_quotient}
-use Rattle.fraction_poly.proofs.PolynomialValues.{◌∘◌, flip, self, sums, products, one_times, minus_is, opposites, constant_is, variable_is, area_is, pythagoras_is, ratio_is, negated_is, sum_is, difference_is, product_is}
+use Rattle.fraction_poly.proofs.PolynomialValues.{◌∘◌, flip, self, sums, products, one_times, minus_is, opposites, constant_is, variable_is}
+use Rattle.fraction_poly.proofs.PolynomialValues.{area_is, pythagoras_is, ratio_is, negated_is, sum_is, difference_is, product_is}
 
 -- NONZERO
 pub nonzero_same : (a b : Fraction) → Same a b → IsNonzero b → IsNonzero a

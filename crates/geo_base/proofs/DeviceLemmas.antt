@@ -1,14 +1,8 @@
 -- What several calls in a row lose, gain and count.
-use Rattle.std.proofs.Common.{◌≡◌, ℕ, ◌+◌, ◌-◌, ◌≤◌, List, [], ◌++◌, Option, None, Some, refl, ap, sym, ◌∙◌, inl, inr, ⊎_elim, take, drop, length, append_assoc, append-nil, arith}
-use Rattle.std.proofs.Math.Nat.{eq-or-lt_of_le}
+use Rattle.std.proofs.Common.{◌≡◌, ℕ, ◌+◌, ◌-◌, ◌≤◌, List, [], ◌++◌, Option, None, Some, refl, ap, sym, ◌∙◌, ⊎_elim, take, drop, length, append_assoc, append-nil}
 use Rattle.std.proofs.Math.Seq.{take-add}
 use Rattle.std.proofs.lemmas.List.{take_rest, take_at, take-append-drop, drop-drop, length-take-le}
-use Rattle.geo_base.specs.Devices.{HasRisen, Loses, Grows}
-
--- a call that takes nothing loses nothing
-pub Loses-nothing : (left : Option (List ℕ)) → Loses left [] left
-Loses-nothing None = refl
-Loses-nothing (Some bytes) = refl
+use Rattle.geo_base.specs.Devices.{Loses, Grows}
 
 -- two losses in a row are one
 pub Loses-append : (before middle after : Option (List ℕ)) (xs ys : List ℕ) → Loses before xs middle → Loses middle ys after → Loses before (xs ++ ys) after
@@ -26,23 +20,14 @@ Grows-append None middle after xs ys p q = rw p at q
 Grows-append (Some held) middle after xs ys p q = (rw p at q) ∙ ap Some (append_assoc held xs ys)
 
 -- the first n bytes, and then the first m of the rest, are the first n + m
-pub Grows-take : (before middle after : Option (List ℕ)) (bytes : List ℕ) (n m : ℕ) → Grows before (take n bytes) middle → Grows middle (take m (take (length bytes - n) (drop n bytes))) after → Grows before (take (n + m) bytes) after
+pub Grows-take : (before middle after : Option (List ℕ)) (bytes : List ℕ) (n m : ℕ) → Grows before (take n bytes) middle
+    → Grows middle (take m (take (length bytes - n) (drop n bytes))) after → Grows before (take (n + m) bytes) after
 Grows-take before middle after bytes n m p q =
     rw (take-add n m bytes) (Grows-append before middle after (take n bytes) (take m (drop n bytes)) p (rw (take_rest bytes n) at q))
 
--- a count that rose after it stood at least as high rose over both
-pub HasRisen-after : (before middle after : ℕ) → before ≤ middle → HasRisen middle after → HasRisen before after
-HasRisen-after before middle after low (inl risen) = inl (omega arith)
-HasRisen-after before middle after low (inr last) = inr last
-
--- a count that rose and then did not fall rose over both
-pub HasRisen-before : (before middle after : ℕ) → before ≤ middle → HasRisen before middle → middle ≤ after → HasRisen before after
-HasRisen-before before middle after low (inl risen) high = inl (omega arith)
-HasRisen-before before middle after low (inr last) high =
-    ⊎_elim (λ same. inr (sym same ∙ last)) (λ more. inl (omega arith)) (eq-or-lt_of_le high)
-
 -- what a read from memory takes: the bytes that it copied into the front of the buffer
-pub piece_taken : (left bytes written tail : List ℕ) (at n : ℕ) → left ≡ drop at bytes → n ≤ length (drop at bytes) → written ≡ take n (drop at bytes) → left ≡ take n (written ++ tail) ++ drop (at + n) bytes
+pub piece_taken : (left bytes written tail : List ℕ) (at n : ℕ) → left ≡ drop at bytes → n ≤ length (drop at bytes)
+    → written ≡ take n (drop at bytes) → left ≡ take n (written ++ tail) ++ drop (at + n) bytes
 piece_taken left bytes written tail at n is fits copied =
     let front : take n (written ++ tail) ≡ take n (drop at bytes) =
     rw copied (take_at (take n (drop at bytes)) tail n (length-take-le n (drop at bytes) fits)) in

@@ -11,7 +11,8 @@ skip-range xs i j n fits =
     rw (parts, drop-take n (j - (i + n)) (drop i xs), drop-drop n i xs)
 
 -- the first bytes read, in a list over which the buffer was written
-pub Loses-written : (before after : Option (List ℕ)) (buffer old : List ℕ) (len n : ℕ) → n ≤ length buffer → n ≤ len → Loses before (take n buffer) after → Loses before (take (n - 0) (drop 0 (take len (buffer ++ old)))) after
+pub Loses-written : (before after : Option (List ℕ)) (buffer old : List ℕ) (len n : ℕ) → n ≤ length buffer → n ≤ len
+    → Loses before (take n buffer) after → Loses before (take (n - 0) (drop 0 (take len (buffer ++ old)))) after
 Loses-written before after buffer old len n fits within lost =
     let start : n - 0 ≡ n = omega arith in
     rw (start, take-take n len (buffer ++ old) within, take-append-le n buffer old fits) lost
@@ -28,11 +29,14 @@ Contains-moved line waiting first x moved same none has =
     none (subst (λ (xs : List ℕ). Contains xs x) (sym same ∙ sym moved) has)
 
 -- the bytes add up when a piece is taken
-pub length-taken : (first waiting piece : List ℕ) (before taken after : ℕ) → length first + taken ≡ before + length waiting → after ≡ taken + length piece → length first + after ≡ before + length (waiting ++ piece)
+pub length-taken : (first waiting piece : List ℕ) (before taken after : ℕ) → length first + taken ≡ before + length waiting
+    → after ≡ taken + length piece → length first + after ≡ before + length (waiting ++ piece)
 length-taken first waiting piece before taken after counted more =
     omega (arith, length-append waiting piece)
 
 -- the bytes add up when a line is handed out
-pub length-line : (first waiting line rest : List ℕ) (feed before taken after : ℕ) → waiting ≡ line ++ feed ∷ rest → length first + taken ≡ before + length waiting → after ≡ taken → length first + after ≡ before + length (line ++ feed ∷ []) + length rest
+pub length-line : (first waiting line rest : List ℕ) (feed before taken after : ℕ) → waiting ≡ line ++ feed ∷ rest
+    → length first + taken ≡ before + length waiting → after ≡ taken → length first + after ≡ before + length (line ++ feed ∷ [])
+    + length rest
 length-line first waiting line rest feed before taken after found counted same =
     omega (arith, ap length found, length-append line (feed ∷ rest), length-append line (feed ∷ []))

@@ -1,6 +1,6 @@
 -- What follows from a verdict that is told, and from a proof that is written.
 use Rattle.std.proofs.Common.{◌≡◌, inl, inr, ℕ, ◌<◌, ◌≤◌, ◌^◌, List, refl, sym, ◌∙◌, ap, subst, arith}
-use Rattle.geo_c.specs.Answers.{Answers, Due, Holds, Tells, TellsVerdict}
+use Rattle.geo_c.specs.Answers.{Answers, Due, HoldsText, TellsDue, TellsVerdict}
 use Rattle.geo_c.specs.Calls.{Checks, Prints, Proves}
 use Rattle.geo_c.specs.declared.answers.Answer.{Answer}
 use Rattle.geo_c.specs.Due.{IsAcceptedDue, IsCheckDue, IsLogDue, IsProofDue, IsReadableDue, IsTextDue, accepted_text}
@@ -55,18 +55,18 @@ refusal_number n (stopped (too_large which)) = (omega arith, omega arith)
 
 module _ (bytes : List ℕ) (steps : ℕ) (before after : List ℕ) (answer : Answer) (number : ℕ) where
   -- what is told of something that is due
-  told_number : (due other : Due) → due ≡ other → Tells due before after answer number → status_number other.status ≡ number
+  told_number : (due other : Due) → due ≡ other → TellsDue due before after answer number → status_number other.status ≡ number
   told_number due other is told = sym (told.status ∙ ap (λ (d : Due). status_number d.status) is)
 
-  told_at : (due other : Due) → due ≡ other → Tells due before after answer number → status_at other.status ≡ answer.at
+  told_at : (due other : Due) → due ≡ other → TellsDue due before after answer number → status_at other.status ≡ answer.at
   told_at due other is told = sym (told.at_told ∙ ap (λ (d : Due). status_at d.status) is)
 
-  told_text : (due other : Due) → due ≡ other → Tells due before after answer number → Holds other.text before after answer
-  told_text due other is told = subst (λ (d : Due). Holds d.text before after answer) is told.text
+  told_text : (due other : Due) → due ≡ other → TellsDue due before after answer number → HoldsText other.text before after answer
+  told_text due other is told = subst (λ (d : Due). HoldsText d.text before after answer) is told.text
 
   module _ (verdict : Verdict) (says : TellsVerdict verdict answer number) where
     -- a log that was written
-    log_proves : (due : Due) → IsLogDue bytes steps due → steps < 2 ^ 127 → Tells due before after answer number
+    log_proves : (due : Due) → IsLogDue bytes steps due → steps < 2 ^ 127 → TellsDue due before after answer number
         → Proves bytes steps before after answer verdict
     log_proves due log small told =
         let ends = ends_so verdict log.lines log.ending (told_number due _ log.is told ∙ says.0) (told_at due _ log.is told ∙ says.1) in
@@ -91,7 +91,7 @@ module _ (bytes : List ℕ) (steps : ℕ) (before after : List ℕ) (answer : An
     proves small (inr told) = no_verdict verdict 10 _ (sym told.status ∙ says.0) (omega arith)
 
     -- a log that is accepted
-    accepted_checks : (due : Due) → IsAcceptedDue bytes steps due → Tells due before after answer number
+    accepted_checks : (due : Due) → IsAcceptedDue bytes steps due → TellsDue due before after answer number
         → Checks bytes steps before after answer verdict
     accepted_checks due h told =
         let same = same_verdict h.verdict verdict (told_number due _ h.is told ∙ says.0) (told_at due _ h.is told ∙ says.1) in
@@ -102,7 +102,7 @@ module _ (bytes : List ℕ) (steps : ℕ) (before after : List ℕ) (answer : An
           means = accepted_bytes_mean bytes steps h.program verdict accepted;
           conditions = h.conditions;
           listed = h.listed;
-          held = subst (λ (v : Verdict). Holds (accepted_text h.program h.conditions v) before after answer) same (told_text due _ h.is told);
+          held = subst (λ (v : Verdict). HoldsText (accepted_text h.program h.conditions v) before after answer) same (told_text due _ h.is told);
         }
 
     -- the verdict of a log
@@ -115,7 +115,7 @@ module _ (bytes : List ℕ) (steps : ℕ) (before after : List ℕ) (answer : An
     checks (inr told) = no_verdict verdict 10 _ (sym told.status ∙ says.0) (omega arith)
 
   -- a readable proof that was written
-  readable_prints : (due : Due) → IsReadableDue bytes steps due → Tells due before after answer number → Prints bytes steps before after answer
+  readable_prints : (due : Due) → IsReadableDue bytes steps due → TellsDue due before after answer number → Prints bytes steps before after answer
   readable_prints due h told = record { text = h.text; readable = h.readable; held = told_text due _ h.is told }
 
   other_number : (n : ℕ) (P : Type 0) → n ≡ number → number ≡ 13 → n ≤ 12 → P

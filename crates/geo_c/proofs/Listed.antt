@@ -2,7 +2,7 @@
 use Rattle.std.proofs.Common.{◌≡◌, ℕ, suc, ◌+◌, ◌<◌, ◌≤◌, inl, inr, List, [], ◌∷◌, ◌++◌, length, get_or, drop, map, codes, sym, ap, refl, ◌∙◌, append_assoc, append-nil, arith}
 use Rattle.std.proofs.lemmas.List.{drop_all, drop_more}
 use Rattle.std.specs.Fmt.{decimal}
-use Rattle.geo_c.specs.Answers.{Answers, Tells}
+use Rattle.geo_c.specs.Answers.{Answers, TellsDue}
 use Rattle.geo_c.specs.declared.answers.Answer.{Answer}
 use Rattle.geo_c.specs.declared.status.Status.{Status}
 use Rattle.geo_c.specs.Due.{IsCheckDue, conditions_text}
@@ -55,7 +55,7 @@ lines_all items i out whole done is =
 module _ (bytes : List ℕ) (steps : ℕ) (before after : List ℕ) (answer : Answer) (number : ℕ) where
   -- an accepted log was told
   pub acceptance_told : (p : Source) (verdict : Verdict) (text : List ℕ) (status : Status) → length bytes ≤ 67108864 → Accepts bytes steps p verdict → IsAcceptedText p verdict text
-      → status ≡ verdict_status verdict → Tells (record { text = text; status = status }) before after answer number
+      → status ≡ verdict_status verdict → TellsDue (record { text = text; status = status }) before after answer number
       → Answers (IsCheckDue bytes steps) before after answer number
   acceptance_told p verdict text status short accepted told same answered =
       inl (

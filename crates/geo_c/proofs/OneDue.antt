@@ -1,6 +1,6 @@
 -- One thing is due at most for bytes, so it is what is told.
 use Rattle.std.proofs.Common.{◌≡◌, ◌⊎◌, ℕ, inl, inr, List, [], ◌∷◌, ◌++◌, map, codes, sym, ap, subst, ◌∙◌, arith}
-use Rattle.geo_c.specs.Answers.{Answers, Due, Tells}
+use Rattle.geo_c.specs.Answers.{Answers, Due, TellsDue}
 use Rattle.geo_c.specs.declared.answers.Answer.{Answer}
 use Rattle.geo_c.specs.declared.status.Status.TheVariants.{Done, Syntax}
 use Rattle.geo_c.specs.Due.{IsAcceptedDue, IsCheckDue, IsDueWithin, IsLogDue, IsProofDue, IsReadableDue, IsRefusalDue, IsRejectionDue, IsTextDue, conditions_text}
@@ -129,24 +129,24 @@ module _ (limit : ℕ) (For : List ℕ → ℕ → Due → Type 0)
   -- what is due was told, or memory ran out
   told_within : (bytes : List ℕ) (steps : ℕ) (before after : List ℕ) (answer : Answer) (number : ℕ)
       → Answers (IsDueWithin limit For bytes steps) before after answer number → (due : Due) → IsDueWithin limit For bytes steps due
-      → (number ≡ 10) ⊎ Tells due before after answer number
+      → (number ≡ 10) ⊎ TellsDue due before after answer number
   told_within bytes steps before after answer number (inl (other, is, told)) due h =
-      inr (subst (λ (d : Due). Tells d before after answer number) (one_within bytes steps other due is h) told)
+      inr (subst (λ (d : Due). TellsDue d before after answer number) (one_within bytes steps other due is h) told)
   told_within bytes steps before after answer number (inr told) due h = inl told.status
 
 module _ (bytes : List ℕ) (steps : ℕ) (before after : List ℕ) (answer : Answer) (number : ℕ) where
   pub proof_told : Answers (IsProofDue bytes steps) before after answer number → (due : Due) → IsProofDue bytes steps due
-      → (number ≡ 10) ⊎ Tells due before after answer number
+      → (number ≡ 10) ⊎ TellsDue due before after answer number
   proof_told = told_within 1048576 (λ bytes steps due. IsLogDue bytes steps due ⊎ IsRefusalDue bytes due) one_proof bytes steps before after answer number
 
   pub check_told : Answers (IsCheckDue bytes steps) before after answer number → (due : Due) → IsCheckDue bytes steps due
-      → (number ≡ 10) ⊎ Tells due before after answer number
+      → (number ≡ 10) ⊎ TellsDue due before after answer number
   check_told =
       told_within 67108864 (λ bytes steps due. IsAcceptedDue bytes steps due ⊎ IsRejectionDue bytes steps due) one_check bytes steps before after answer
       number
 
   pub text_told : Answers (IsTextDue bytes steps) before after answer number → (due : Due) → IsTextDue bytes steps due
-      → (number ≡ 10) ⊎ Tells due before after answer number
+      → (number ≡ 10) ⊎ TellsDue due before after answer number
   text_told =
       told_within 67108864 (λ bytes steps due. IsReadableDue bytes steps due ⊎ IsRejectionDue bytes steps due) one_print bytes steps before after answer
       number

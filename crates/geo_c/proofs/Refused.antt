@@ -1,6 +1,6 @@
 -- Logs and programs that are refused.
 use Rattle.std.proofs.Common.{◌≡◌, ℕ, ◌≤◌, length, inl, inr, List, [], refl, subst}
-use Rattle.geo_c.specs.Answers.{Answers, Due, Tells}
+use Rattle.geo_c.specs.Answers.{Answers, Due, TellsDue}
 use Rattle.geo_c.specs.declared.answers.Answer.{Answer}
 use Rattle.geo_c.specs.declared.status.Status.{Status}
 use Rattle.geo_c.specs.declared.status.Status.TheVariants.{Rejected, Spent, Syntax, TooLarge}
@@ -20,7 +20,7 @@ use Rattle.log_checker.specs.declared.errors.CheckError.TheVariants as error
 module _ (Of : Due → Type 0) (bytes : List ℕ) (before after : List ℕ) (answer : Answer) (number : ℕ) where
   -- the refusal of a log is told
   told_error : (steps : ℕ) → ((due : Due) → IsRejectionDue bytes steps due → Of due) → (e : CheckError)
-      → TellsStop (Refuses bytes steps) e → Tells (record { text = []; status = error_status e }) before after answer number
+      → TellsStop (Refuses bytes steps) e → TellsDue (record { text = []; status = error_status e }) before after answer number
       → Answers Of before after answer number
   told_error steps due (error.Rejected line reason) (r, same, h) told =
       inl (
@@ -44,10 +44,10 @@ module _ (Of : Due → Type 0) (bytes : List ℕ) (before after : List ℕ) (ans
 
   -- and so it is where the status is the error's
   pub error_told : (steps : ℕ) → ((due : Due) → IsRejectionDue bytes steps due → Of due) → (e : CheckError) (status : Status)
-      → TellsStop (Refuses bytes steps) e → status ≡ error_status e → Tells (record { text = []; status = status }) before after answer number
+      → TellsStop (Refuses bytes steps) e → status ≡ error_status e → TellsDue (record { text = []; status = status }) before after answer number
       → Answers Of before after answer number
   error_told steps due e status h same told =
-      told_error steps due e h (subst (λ (s : Status). Tells (record { text = []; status = s }) before after answer number) same told)
+      told_error steps due e h (subst (λ (s : Status). TellsDue (record { text = []; status = s }) before after answer number) same told)
 
 -- the bytes spell no program, and nothing was written
 pub refusal_due : (bytes : List ℕ) (steps : ℕ) (fault : Fault) (text : List ℕ) (status : Status) → text ≡ []

@@ -16,22 +16,22 @@ abbrev pub filled : List ℕ → List ℕ → List ℕ
 filled before text = take (length before) text ++ drop (length text) before
 
 -- the buffer, which was `before`, holds this text, and the answer tells how long it is
-pub record Holds (text before after : List ℕ) (answer : Answer) : Type 0 where
+pub record HoldsText (text before after : List ℕ) (answer : Answer) : Type 0 where
   pub length_told : answer.length ≡ length text
   pub written : after ≡ filled before text
 
 -- the status is told by three numbers, and the text by its length and in the buffer
-pub record Tells (due : Due) (before after : List ℕ) (answer : Answer) (number : ℕ) : Type 0 where
+pub record TellsDue (due : Due) (before after : List ℕ) (answer : Answer) (number : ℕ) : Type 0 where
   pub status : number ≡ status_number due.status
   pub at_told : answer.at ≡ status_at due.status
   pub reason_told : answer.reason ≡ status_reason due.status
-  pub text : Holds due.text before after answer
+  pub text : HoldsText due.text before after answer
 
 -- something that is due was told; or memory ran out, and no text is due
 abbrev pub Answers : (Due → Type 0) → List ℕ → List ℕ → Answer → ℕ → Type 0
 Answers Of before after answer number =
-    ((due : Due) × Of due × Tells due before after answer number)
-    ⊎ Tells (record { text = []; status = NoMemory }) before after answer number
+    ((due : Due) × Of due × TellsDue due before after answer number)
+    ⊎ TellsDue (record { text = []; status = NoMemory }) before after answer number
 
 -- the status is that of this verdict: 0 for Proved, 1 and the goal for False, 2 and the condition for Impossible
 abbrev pub TellsVerdict : Verdict → Answer → ℕ → Type 0

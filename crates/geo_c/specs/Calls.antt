@@ -1,6 +1,6 @@
 -- What a verdict means of the bytes that were given. A buffer was `before` when the call began, and is `after` at its end.
 use Rattle.std.specs.Prelude.{ℕ, List}
-use Rattle.geo_c.specs.Answers.{Holds}
+use Rattle.geo_c.specs.Answers.{HoldsText}
 use Rattle.geo_c.specs.declared.answers.Answer.{Answer}
 use Rattle.geo_c.specs.Due.{accepted_text}
 use Rattle.geo_conditions.specs.Lists.{AreConditionItems, ItemForm}
@@ -18,7 +18,7 @@ pub record Proves (bytes : List ℕ) (steps : ℕ) (before after : List ℕ) (an
   pub program : Program
   pub spelt : Spells bytes program
   pub log : List ℕ
-  pub held : Holds log before after answer
+  pub held : HoldsText log before after answer
   pub accepted : Accepts log steps (source_of program) verdict
   pub means : BytesMean log (source_of program) verdict
 
@@ -30,10 +30,10 @@ pub record Checks (bytes : List ℕ) (steps : ℕ) (before after : List ℕ) (an
   pub means : BytesMean bytes program verdict
   pub conditions : List ItemForm
   pub listed : AreConditionItems Two program conditions
-  pub held : Holds (accepted_text program conditions verdict) before after answer
+  pub held : HoldsText (accepted_text program conditions verdict) before after answer
 
 -- the bytes, whoever wrote them, are an accepted log, and the buffer holds its readable proof
 pub record Prints (bytes : List ℕ) (steps : ℕ) (before after : List ℕ) (answer : Answer) : Type 0 where
   pub text : List ℕ
   pub readable : IsReadableProof bytes steps text
-  pub held : Holds text before after answer
+  pub held : HoldsText text before after answer

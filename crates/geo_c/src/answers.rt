@@ -1,6 +1,6 @@
 //! What a call hands back: a status, three numbers, and the bytes of a text.
 ghost use Rattle.std.specs.Prelude.{◌≡◌};
-ghost use Rattle.geo_c.specs.Answers.{Tells, filled};
+ghost use Rattle.geo_c.specs.Answers.{TellsDue, filled};
 
 use crate::status::Status;
 
@@ -20,7 +20,7 @@ pub struct Answer {
 
 /// Hands back a text and a status: the number of the status is answered.
 pub fn tell(text: &[u8], status: Status, buffer: &mut [u8], answer: &mut Answer) -> u32
-    ensures { Tells (record { text = text.now; status = status })
+    ensures { TellsDue (record { text = text.now; status = status })
         buffer.old buffer.new answer.new result }
 {
     fill(buffer, text);

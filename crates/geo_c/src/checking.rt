@@ -1,6 +1,6 @@
 //! The call that checks a log.
 ghost use Rattle.std.specs.Prelude.{◌≡◌, ◌≤◌, ◌⊎◌, ℕ, List, length};
-ghost use Rattle.geo_c.specs.Answers.{Answers, Due, Tells, TellsVerdict};
+ghost use Rattle.geo_c.specs.Answers.{Answers, Due, TellsDue, TellsVerdict};
 ghost use Rattle.geo_c.specs.Due.{IsCheckDue};
 ghost use Rattle.geo_c.specs.Calls.{Checks};
 ghost use Rattle.geo_program.specs.Programs.{source_of};
@@ -35,7 +35,7 @@ pub extern "C" fn geo_check(
     ensures decides { (verdict : Verdict) → TellsVerdict verdict answer.new result
         → Checks log.now steps told.old told.new answer.new verdict }
     ensures complete { (due : Due) → IsCheckDue log.now steps due
-        → (result ≡ 10) ⊎ Tells due told.old told.new answer.new result }
+        → (result ≡ 10) ⊎ TellsDue due told.old told.new answer.new result }
     ensures answers { Answers (IsCheckDue log.now steps) told.old told.new answer.new result }
 {
     check_log(alloc, log, steps, told, answer)
@@ -54,7 +54,7 @@ fn check_log(alloc: Global, log: &[u8], steps: u64, told: &mut [u8], answer: &mu
     }
 }
 
-/// Tells an accepted log.
+/// TellsDue an accepted log.
 fn accept(
     alloc: Global,
     program: &Program,

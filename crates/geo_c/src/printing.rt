@@ -1,6 +1,6 @@
 //! The call that writes a log as a proof that a person reads.
 ghost use Rattle.std.specs.Prelude.{◌≡◌, ◌⊎◌};
-ghost use Rattle.geo_c.specs.Answers.{Answers, Due, Tells};
+ghost use Rattle.geo_c.specs.Answers.{Answers, Due, TellsDue};
 ghost use Rattle.geo_c.specs.Due.{IsTextDue};
 ghost use Rattle.geo_c.specs.Calls.{Prints};
 
@@ -26,7 +26,7 @@ pub extern "C" fn geo_text(
 ) -> u32
     ensures prints { result ≡ 13 → Prints log.now steps proof.old proof.new answer.new }
     ensures complete { (due : Due) → IsTextDue log.now steps due
-        → (result ≡ 10) ⊎ Tells due proof.old proof.new answer.new result }
+        → (result ≡ 10) ⊎ TellsDue due proof.old proof.new answer.new result }
     ensures answers { Answers (IsTextDue log.now steps) proof.old proof.new answer.new result }
 {
     print_log(alloc, log, steps, proof, answer)

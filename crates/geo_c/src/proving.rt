@@ -1,6 +1,6 @@
 //! The call that proves a program.
 ghost use Rattle.std.specs.Prelude.{◌≡◌, ◌≢◌, ◌⊎◌, [], ℕ, List, length};
-ghost use Rattle.geo_c.specs.Answers.{Answers, Due, Tells, TellsVerdict};
+ghost use Rattle.geo_c.specs.Answers.{Answers, Due, TellsDue, TellsVerdict};
 ghost use Rattle.geo_c.specs.Due.{IsLogDue, IsProofDue};
 ghost use Rattle.geo_c.specs.Calls.{Proves};
 ghost use Rattle.geo_program.specs.Programs.{Spells};
@@ -33,7 +33,7 @@ pub extern "C" fn geo_prove(
     ensures decides { (verdict : Verdict) → TellsVerdict verdict answer.new result
         → Proves text.now steps log.old log.new answer.new verdict }
     ensures complete { (due : Due) → IsProofDue text.now steps due
-        → (result ≡ 10) ⊎ Tells due log.old log.new answer.new result }
+        → (result ≡ 10) ⊎ TellsDue due log.old log.new answer.new result }
     ensures answers { Answers (IsProofDue text.now steps) log.old log.new answer.new result }
 {
     prove_text(alloc, text, steps, log, answer)

@@ -56,7 +56,8 @@ module _ (s : Construction) where
   more one rest all x y z part back there h g =
       both IsNoHigher by_height (λ p. IsConstructed s p × IsTrue (rest p)) (λ p. IsConstructed s p × IsTrue (one p)) (λ p. IsConstructed s p × IsTrue (all p)) x y z
       (λ p k. (k.0, back p k.1)) (λ p k. (k.0, there p k.1))
-      (λ p k. ⊎_elim (λ (t : IsTrue (rest p)). let r : (IsConstructed s p × IsTrue (rest p)) ⊎ (IsConstructed s p × IsTrue (one p)) = inl (k.0, t) in r) (λ (t : IsTrue (one p)). inr (k.0, t)) (part p k.1)) h g
+      (λ p k. ⊎_elim (λ (t : IsTrue (rest p)). let r : (IsConstructed s p × IsTrue (rest p))
+      ⊎ (IsConstructed s p × IsTrue (one p)) = inl (k.0, t) in r) (λ (t : IsTrue (one p)). inr (k.0, t)) (part p k.1)) h g
 
   pub of_three : (a b c : PointId) (x y z w : Option PointId) → Over (is_point c) x y → Over (is_point b) y z → Over (is_point a) z w
       → Over (λ p. is_point a p || is_point b p || is_point c p) x w

@@ -59,7 +59,8 @@ module _ {A : Type 0} (NoBetter : A → A → Type 0) (order : IsOrder NoBetter)
       → ((a : A) → First a → Third a) → ((a : A) → Second a → Third a) → ((a : A) → Third a → First a ⊎ Second a)
       → Improves NoBetter First x y → Improves NoBetter Second y z → Improves NoBetter Third x z
   both First Second Third x y z one two parts h g = record {
-    from = ⊎_elim (λ (e : z ≡ y). ⊎_elim (λ (d : y ≡ x). let r : (z ≡ x) ⊎ ((a : A) × (z ≡ Some a) × Third a) = inl (e ∙ d) in r) (λ (f : (a : A) × (y ≡ Some a) × First a). inr (f.0, e ∙ f.1, one f.0 f.2)) h.from)
+    from = ⊎_elim (λ (e : z ≡ y). ⊎_elim (λ (d : y ≡ x). let r : (z ≡ x) ⊎ ((a : A) × (z ≡ Some a) × Third a) = inl (e ∙ d) in r)
+        (λ (f : (a : A) × (y ≡ Some a) × First a). inr (f.0, e ∙ f.1, one f.0 f.2)) h.from)
         (λ (f : (a : A) × (z ≡ Some a) × Second a). inr (f.0, f.1, two f.0 f.2)) g.from;
     keeps = λ a e. still y z a (h.keeps a e) g.keeps;
     reaches = λ a t. ⊎_elim (λ (f : First a). still y z a (h.reaches a f) g.keeps) (λ (s : Second a). g.reaches a s) (parts a t);

@@ -9,11 +9,12 @@ use Rattle.geo_place.specs.declared.errors.PlaceError.{PlaceError}
 use Rattle.geo_place.specs.declared.errors.PlaceError.TheVariants as placing
 use Rattle.geo_place.specs.declared.placed.Placed.{Placed}
 use Rattle.geo_cli.specs.declared.order.Command.{Command}
-use Rattle.geo_cli.specs.declared.order.Command.TheVariants.{Bench, Check, Figure, Place, Prove, Text}
+use Rattle.geo_cli.specs.declared.order.Command.TheVariants.{Bench, Check, Cite, Figure, Place, Prove, Text}
 use Rattle.geo_cli.specs.declared.order.Order.{Order}
 use Rattle.geo_cli.specs.declared.status.Status.{Status}
 use Rattle.geo_cli.specs.declared.status.Status.TheVariants as status
-use Rattle.geo_cli.specs.Due.{Due, IsAcceptedDue, IsBenchDue, IsCalledFor, IsCommandDue, IsDue, IsDueForValues, IsLogDue, IsRestDue, TellsAnswer, TellsDrawing, bench_text, usage_line}
+use Rattle.geo_cli.specs.Due.{Due, IsAcceptedDue, IsBenchDue, IsCalledFor, IsCommandDue, IsDue, IsDueForValues, IsLogDue, IsRestDue}
+use Rattle.geo_cli.specs.Due.{TellsAnswer, TellsDrawing, TellsUncited, bench_text, usage_line}
 use Rattle.geo_cli.specs.Inner.Answering.{AnswersCommand, HasNumber}
 use Rattle.geo_cli.specs.Input.{IsInput, Takes, limit_of, log_limit, program_limit}
 use Rattle.geo_cli.specs.Orders.{IsOrder, IsRow, TellsSteps}
@@ -21,6 +22,8 @@ use Rattle.geo_cli.specs.Run.{BenchesLog, ChecksLog, Ends, IsAnswered, IsCutShor
 use Rattle.geo_cli.specs.Status.{ending_status, refusal_status, status_number, verdict_status}
 use Rattle.geo_cli.specs.Words.{IsBenchOf, IsCheck, IsNoCommand, IsProve, ReadsNothing}
 use Rattle.geo_cli.proofs.OneDue.{GivesOne, called_is_due}
+use Rattle.geo_library.specs.declared.errors.CiteError.{CiteError}
+use Rattle.geo_library.specs.declared.errors.CiteError.TheVariants as citing
 use Rattle.geo_logs.specs.Ends.{Ending, ends_by, ends_with, too_long}
 use Rattle.geo_logs.specs.Judging.{Refusal, rejected, stopped}
 use Rattle.geo_logs.specs.Moves.{spent, too_large}
@@ -90,27 +93,55 @@ no_refusal v n (rejected reason) P says = no_verdict v (refusal_status n (reject
 no_refusal v n (stopped spent) P says = no_verdict v (refusal_status n (stopped spent)) P says (omega arith)
 no_refusal v n (stopped (too_large which)) P says = no_verdict v (refusal_status n (stopped (too_large which))) P says (omega arith)
 
--- values and a program call for no verdict
-drawing_number : (answer : Result Written DrawError) (due : Due) → TellsDrawing answer due → 3 ≤ status_number due.status
-drawing_number (Ok text) due h = subst (λ (d : Due). 3 ≤ status_number d.status) (sym h) (omega arith)
-drawing_number (Err (drawing.TooLarge line)) due h = subst (λ (d : Due). 3 ≤ status_number d.status) (sym h) (omega arith)
+-- values and a program call for no verdict, and tell nothing of instances
+abbrev IsBetween : Due → Type 0
+IsBetween due = (3 ≤ status_number due.status) × (status_number due.status < 16)
+
+between : (due other : Due) → due ≡ other → IsBetween other → IsBetween due
+between due other is h = subst IsBetween (sym is) h
+
+drawing_number : (answer : Result Written DrawError) (due : Due) → TellsDrawing answer due → IsBetween due
+drawing_number (Ok text) due h = between due _ h (omega arith, omega arith)
+drawing_number (Err (drawing.TooLarge line)) due h = between due _ h (omega arith, omega arith)
 drawing_number (Err drawing.NoMemory) due h = absurd h
 
-answer_number : (drawn : Bool) (answer : Result Placed PlaceError) (due : Due) → TellsAnswer drawn answer due → 3 ≤ status_number due.status
-answer_number false (Ok placed) due h = subst (λ (d : Due). 3 ≤ status_number d.status) (sym h) (omega arith)
+answer_number : (drawn : Bool) (answer : Result Placed PlaceError) (due : Due) → TellsAnswer drawn answer due → IsBetween due
+answer_number false (Ok placed) due h = between due _ h (omega arith, omega arith)
 answer_number true (Ok placed) due (answer, d, h) = drawing_number answer due h
-answer_number drawn (Err (placing.Unmet k)) due h = subst (λ (d : Due). 3 ≤ status_number d.status) (sym h) (omega arith)
-answer_number drawn (Err (placing.TooLarge line)) due h = subst (λ (d : Due). 3 ≤ status_number d.status) (sym h) (omega arith)
+answer_number drawn (Err (placing.Unmet k)) due h = between due _ h (omega arith, omega arith)
+answer_number drawn (Err (placing.TooLarge line)) due h = between due _ h (omega arith, omega arith)
 answer_number drawn (Err placing.NoMemory) due h = absurd h
 
-rest_number : (drawn : Bool) (values : List ℤ) (rest : List ℕ) (due : Due) → IsRestDue drawn values rest due → 3 ≤ status_number due.status
-rest_number drawn values rest due (inl (fault, none, is)) = subst (λ (d : Due). 3 ≤ status_number d.status) (sym is) (omega arith)
-rest_number drawn values rest due (inr (p, spelt, inl h)) = subst (λ (d : Due). 3 ≤ status_number d.status) (sym h.1) (omega arith)
+rest_number : (drawn : Bool) (values : List ℤ) (rest : List ℕ) (due : Due) → IsRestDue drawn values rest due → IsBetween due
+rest_number drawn values rest due (inl (fault, none, is)) = between due _ is (omega arith, omega arith)
+rest_number drawn values rest due (inr (p, spelt, inl h)) = between due _ h.1 (omega arith, omega arith)
 rest_number drawn values rest due (inr (p, spelt, inr h)) = answer_number drawn h.answer due h.is
 
-values_number : (drawn : Bool) (bytes : List ℕ) (due : Due) → IsDueForValues drawn bytes due → 3 ≤ status_number due.status
-values_number drawn bytes due (inl h) = subst (λ (d : Due). 3 ≤ status_number d.status) (sym h.1) (omega arith)
+pub values_number : (drawn : Bool) (bytes : List ℕ) (due : Due) → IsDueForValues drawn bytes due → IsBetween due
+values_number drawn bytes due (inl h) = between due _ h.1 (omega arith, omega arith)
 values_number drawn bytes due (inr h) = rest_number drawn h.values h.rest due h.of_rest
+
+-- where nothing is cited, no verdict is told, nothing is said to be written, and no condition is said not to be met
+pub record IsApart (due : Due) : Type 0 where
+  pub verdict : 3 ≤ status_number due.status
+  pub done : status_number due.status ≡ 13 → ⊥
+  pub unmet : status_number due.status ≡ 15 → ⊥
+
+apart : (due other : Due) → due ≡ other → IsApart other → IsApart due
+apart due other is h = subst IsApart (sym is) h
+
+pub uncited_number : (error : CiteError) (due : Due) → TellsUncited error due → IsApart due
+uncited_number (citing.Rejected line reason) due h =
+    apart due _ h (record { verdict = omega arith; done = λ e. omega (arith, e); unmet = λ e. omega (arith, e) })
+uncited_number (citing.Syntax fault) due h =
+    apart due _ h (record { verdict = omega arith; done = λ e. omega (arith, e); unmet = λ e. omega (arith, e) })
+uncited_number (citing.NotInstance line) due h =
+    apart due _ h (record { verdict = omega arith; done = λ e. omega (arith, e); unmet = λ e. omega (arith, e) })
+uncited_number (citing.TooLarge line which) due h =
+    apart due _ h (record { verdict = omega arith; done = λ e. omega (arith, e); unmet = λ e. omega (arith, e) })
+uncited_number (citing.Spent line) due h =
+    apart due _ h (record { verdict = omega arith; done = λ e. omega (arith, e); unmet = λ e. omega (arith, e) })
+uncited_number citing.NoMemory due h = absurd h
 
 -- the status that is due, where it is that of the run
 pub due_says : (due other : Due) (s t : Status) → s ≡ due.status → due ≡ other → s ≡ t → other.status ≡ t
@@ -214,11 +245,17 @@ module _ (words : List (List ℕ)) (left left' held held' : Option (List ℕ)) (
   command_decides Place steps given due s answered written says (inl h) =
       no_verdict verdict status.TooLong _ (due_says due _ s _ answered h.1 says) (omega arith)
   command_decides Place steps given due s answered written says (inr (bytes, input, h)) =
-      no_verdict verdict due.status _ (sym answered ∙ says) (values_number false bytes due h)
+      no_verdict verdict due.status _ (sym answered ∙ says) (values_number false bytes due h).0
   command_decides Figure steps given due s answered written says (inl h) =
       no_verdict verdict status.TooLong _ (due_says due _ s _ answered h.1 says) (omega arith)
   command_decides Figure steps given due s answered written says (inr (bytes, input, h)) =
-      no_verdict verdict due.status _ (sym answered ∙ says) (values_number true bytes due h)
+      no_verdict verdict due.status _ (sym answered ∙ says) (values_number true bytes due h).0
+  command_decides Cite steps given due s answered written says (inl h) =
+      no_verdict verdict status.TooLong _ (due_says due _ s _ answered h.1 says) (omega arith)
+  command_decides Cite steps given due s answered written says (inr (bytes, input, inl h)) =
+      no_verdict verdict status.Done _ (due_says due _ s _ answered h.is says) (omega arith)
+  command_decides Cite steps given due s answered written says (inr (bytes, input, inr h)) =
+      no_verdict verdict due.status _ (sym answered ∙ says) (uncited_number h.error due h.is).verdict
   command_decides (Bench number) steps given due s answered written says (unread, h) =
       inr (inr (log_benches number steps given due h (due_says due _ s _ answered h.is says) written))
 
@@ -295,6 +332,7 @@ has_number words Check row = tt
 has_number words Text row = tt
 has_number words Place row = tt
 has_number words Figure row = tt
+has_number words Cite row = tt
 has_number words (Bench number) (text, is, written, some, few) = (some, few)
 
 module _ (words : List (List ℕ)) (one : GivesOne words) (order : Order) (given : IsOrder words order) where

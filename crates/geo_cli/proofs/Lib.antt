@@ -2,7 +2,9 @@ pub mod ValueLines
 pub mod OrderLemmas
 pub mod FaultPlaces
 pub mod ValuesDue
+pub mod CitationsDue
 pub mod OneDue
+pub mod SomeDue
 pub mod Answered
 pub mod ReadLogs
 pub mod Reported
@@ -10,3 +12,4 @@ pub mod Benched
 pub mod Ended
 pub mod Decisive
 pub mod Placed
+pub mod Uncited

@@ -1,5 +1,6 @@
 -- One thing is due at most for words and for a source that tells its bytes.
-use Rattle.std.proofs.Common.{◌≡◌, ℕ, zero, suc, ◌+◌, ◌*◌, ◌<◌, Bool, true, false, ℤ, inl, inr, List, [], ◌∷◌, ◌++◌, map, length, codes, Option, Some, None, refl, sym, ap, subst, ◌∙◌, append-nil, length-append, arith}
+use Rattle.std.proofs.Common.{◌≡◌, ℕ, zero, suc, ◌+◌, ◌*◌, ◌<◌, Bool, true, false, ℤ, inl, inr, List, [], ◌∷◌, ◌++◌, map, length, codes}
+use Rattle.std.proofs.Common.{Option, Some, None, refl, sym, ap, subst, ◌∙◌, append-nil, length-append, arith}
 use Rattle.std.specs.Prelude.{Result, Ok, Err}
 use Rattle.std.proofs.lemmas.List.{length-map, map-append}
 use Rattle.geo_base.specs.declared.texts.Text.{Text as Written}
@@ -13,15 +14,18 @@ use Rattle.geo_figure.proofs.OneDrawing.{one_drawing}
 use Rattle.geo_place.specs.declared.errors.PlaceError.{PlaceError}
 use Rattle.geo_place.specs.declared.errors.PlaceError.TheVariants as placing
 use Rattle.geo_place.specs.declared.placed.Placed.{Placed}
-use Rattle.geo_place.specs.Placing.{IsAnswer, values_wanted}
+use Rattle.geo_place.specs.Placing.{AnswersValues, values_wanted}
 use Rattle.geo_place.proofs.SameEvaluation.{same_answer}
 use Rattle.geo_place.proofs.ValueLists.{values_once}
 use Rattle.geo_program.specs.declared.program_type.Program.{Program}
 use Rattle.geo_cli.specs.declared.order.Command.{Command}
-use Rattle.geo_cli.specs.declared.order.Command.TheVariants.{Bench, Check, Figure, Place, Prove, Text}
+use Rattle.geo_cli.specs.declared.order.Command.TheVariants.{Bench, Check, Cite, Figure, Place, Prove, Text}
 use Rattle.geo_cli.specs.declared.order.Order.{Order}
 use Rattle.geo_cli.specs.declared.status.Status.TheVariants.{Done, Syntax}
-use Rattle.geo_cli.specs.Due.{Due, IsAcceptedDue, IsBenchDue, IsCalledFor, IsCommandCall, IsCommandDue, IsDue, IsDueFor, IsDueForLog, IsDueForText, IsDueForValues, IsLogDue, IsReadCall, IsReadDue, IsReadableDue, IsRefusalDue, IsRejectionDue, IsRestDue, IsValuesDue, TellsAnswer, TellsDrawing, bench_text, conditions_text, fault_due, refusal_line, syntax_line}
+use Rattle.geo_cli.specs.Due.{Due, IsAcceptedDue, IsBenchDue, IsCalledFor, IsCommandCall, IsCommandDue, IsDue, IsDueFor, IsDueForCitation}
+use Rattle.geo_cli.specs.Due.{IsDueForLog, IsDueForText, IsDueForValues, IsLogDue, IsReadCall, IsReadDue, IsReadableDue, IsRefusalDue}
+use Rattle.geo_cli.specs.Due.{IsRejectionDue, IsRestDue, IsValuesDue, TellsAnswer, TellsDrawing, TellsUncited, bench_text, cited_line}
+use Rattle.geo_cli.specs.Due.{conditions_text, fault_due, refusal_line, syntax_line}
 use Rattle.geo_cli.specs.Input.{IsInput, IsLong, log_limit, program_limit}
 use Rattle.geo_cli.specs.Orders.{IsOrder}
 use Rattle.geo_cli.specs.Status.{ending_status, refusal_status, verdict_status}
@@ -33,6 +37,11 @@ use Rattle.geo_logs.specs.Ends.{Ending}
 use Rattle.geo_logs.proofs.OneList.{defined_log_unique}
 use Rattle.elim_apply.specs.LemmaTable.{lemma_table}
 use Rattle.geo_parser.proofs.SpeltTexts.{one_refusal}
+use Rattle.geo_library.specs.declared.errors.CiteError.{CiteError}
+use Rattle.geo_library.specs.declared.errors.CiteError.TheVariants as citing
+use Rattle.geo_library.proofs.Exactly.{cited_or_missed}
+use Rattle.geo_library.proofs.NotRefused.{citations_are_not_refused}
+use Rattle.geo_library.proofs.RefusedOnce.{inputs_are_refused_once}
 use Rattle.geo_lowering.specs.StepForms.{step_form}
 use Rattle.geo_lowering.proofs.Alike.{lowered_forms_agree, same_programs_lower_alike}
 use Rattle.geo_program.specs.CanonicalText.{line_text}
@@ -204,7 +213,7 @@ one_values drawn p q values due other s w h g = by h g
     by (inr h) (inr g) =
         let frees = g.frees ∙ ap length (sym (same_frees (source_of p) (source_of q) s)) in
         let v : h.v ≡ g.v = sym (values_once (source_of p) values h.v h.frees h.are) ∙ values_once (source_of p) values g.v frees g.are in
-        let same = same_answer (source_of p) (source_of q) s w g.v h.answer g.answer (subst (λ (z : ProgramValues). IsAnswer (source_of p) z h.answer) v h.given) g.given
+        let same = same_answer (source_of p) (source_of q) s w g.v h.answer g.answer (subst (λ (z : ProgramValues). AnswersValues (source_of p) z h.answer) v h.given) g.given
         (answer_memory drawn h.answer due h.is) (answer_memory drawn g.answer other g.is) in
         one_told drawn g.answer due other (subst (λ (a : Result Placed PlaceError). TellsAnswer drawn a due) same h.is) g.is
 
@@ -226,6 +235,35 @@ one_due_for_values drawn bytes due other (inr h) (inr g) =
     let same = one_line bytes h.values g.values h.rest g.rest h.line g.line in
     one_rest drawn g.values g.rest due other
     (subst (λ (zs : List ℤ). IsRestDue drawn zs g.rest due) same.0 (subst (λ (r : List ℕ). IsRestDue drawn h.values r due) same.1 h.of_rest)) g.of_rest
+
+-- WHAT A LOG, NAMES AND A PROGRAM CALL FOR
+
+-- an error calls for one text
+one_uncited : (error : CiteError) (due other : Due) → TellsUncited error due → TellsUncited error other → due ≡ other
+one_uncited (citing.Rejected line reason) due other h g = h ∙ sym g
+one_uncited (citing.Syntax fault) due other h g = h ∙ sym g
+one_uncited (citing.NotInstance line) due other h g = h ∙ sym g
+one_uncited (citing.TooLarge line which) due other h g = h ∙ sym g
+one_uncited (citing.Spent line) due other h g = h ∙ sym g
+one_uncited citing.NoMemory due other h g = absurd h
+
+-- want of memory calls for nothing
+uncited_memory : (error : CiteError) (due : Due) → TellsUncited error due → error ≡ citing.NoMemory → ⊥
+uncited_memory error due h e = subst (λ (x : CiteError). TellsUncited x due) e h
+
+-- one thing is due at most for a log, names and a program
+one_due_for_citation : (steps : ℕ) (bytes : List ℕ) (due other : Due) → IsDueForCitation steps bytes due → IsDueForCitation steps bytes other → due ≡ other
+one_due_for_citation steps bytes due other (inl h) (inl g) =
+    let same : h.text ≡ g.text = cited_or_missed.cited bytes steps h.text g.text h.cites g.cites in
+    h.is ∙ (λ i. record { text = cited_line (same i); status = Done }) ∙ sym g.is
+one_due_for_citation steps bytes due other (inl h) (inr g) =
+    absurd (uncited_memory g.error other g.is (citations_are_not_refused bytes steps h.text g.error h.cites g.refused))
+one_due_for_citation steps bytes due other (inr h) (inl g) =
+    absurd (uncited_memory h.error due h.is (citations_are_not_refused bytes steps g.text h.error g.cites h.refused))
+one_due_for_citation steps bytes due other (inr h) (inr g) =
+    let same : h.error ≡ g.error = inputs_are_refused_once bytes steps h.error g.error (uncited_memory h.error due h.is)
+    (uncited_memory g.error other g.is) h.refused g.refused in
+    one_uncited g.error due other (subst (λ (x : CiteError). TellsUncited x due) same h.is) g.is
 
 -- WHAT A NUMBER CALLS FOR
 
@@ -293,6 +331,7 @@ one_command Check steps left left' due other h g = one_read log_limit (IsDueForL
 one_command Text steps left left' due other h g = one_read log_limit (IsDueForText steps) (one_due_for_text steps) left left' due other h g
 one_command Place steps left left' due other h g = one_read program_limit (IsDueForValues false) (one_due_for_values false) left left' due other h g
 one_command Figure steps left left' due other h g = one_read program_limit (IsDueForValues true) (one_due_for_values true) left left' due other h g
+one_command Cite steps left left' due other h g = one_read log_limit (IsDueForCitation steps) (one_due_for_citation steps) left left' due other h g
 one_command (Bench number) steps left left' due other h g = one_bench_due number steps due other h g.1
 
 -- two things that a command calls for are one
@@ -311,6 +350,7 @@ calls_one Check steps left due other h g = one_call log_limit (IsDueForLog steps
 calls_one Text steps left due other h g = one_call log_limit (IsDueForText steps) (one_due_for_text steps) left due other h g
 calls_one Place steps left due other h g = one_call program_limit (IsDueForValues false) (one_due_for_values false) left due other h g
 calls_one Figure steps left due other h g = one_call program_limit (IsDueForValues true) (one_due_for_values true) left due other h g
+calls_one Cite steps left due other h g = one_call log_limit (IsDueForCitation steps) (one_due_for_citation steps) left due other h g
 calls_one (Bench number) steps left due other h g = one_bench_due number steps due other h g
 
 -- two things that are called for are one

@@ -1,5 +1,6 @@
 -- Where the words of an order are cut.
-use Rattle.std.proofs.Common.{◌≡◌, ℕ, zero, suc, ◌<◌, ◌≤◌, Bool, true, false, List, [], ◌∷◌, ◌++◌, refl, sym, ◌∙◌, ap, subst, get_or, length, take, drop, codes, Option, Some, append-nil, length-append, arith}
+use Rattle.std.proofs.Common.{◌≡◌, ℕ, zero, suc, ◌<◌, ◌≤◌, Bool, true, false, List, [], ◌∷◌, ◌++◌, refl, sym, ◌∙◌, ap, subst, get_or}
+use Rattle.std.proofs.Common.{length, take, drop, codes, Option, Some, append-nil, length-append, arith}
 use Rattle.std.proofs.Common.{String}
 use Rattle.std.specs.List.{position_or_len}
 use Rattle.std.specs.Str.Parse.{IsNumeral, starts_with_minus}
@@ -9,7 +10,7 @@ use Rattle.std.proofs.lemmas.Bool.{ne_eqb}
 use Rattle.std.proofs.lemmas.List.{get_or_append_left, get_or_at, get_or-map, take-append-drop, take_at, drop_at, take_all, drop_all, take-map, drop-map, length-map}
 use Rattle.std.proofs.lemmas.List.Sums.{position_or_len_is}
 use Rattle.geo_cli.specs.declared.order.Command.{Command}
-use Rattle.geo_cli.specs.declared.order.Command.TheVariants.{Prove, Check, Text, Bench, Figure, Place}
+use Rattle.geo_cli.specs.declared.order.Command.TheVariants.{Prove, Check, Text, Bench, Cite, Figure, Place}
 use Rattle.geo_cli.specs.declared.order.Order.{Order}
 use Rattle.geo_cli.specs.Inner.OrderParts.{SplitsOff, front_of, tail_of}
 use Rattle.geo_cli.specs.Orders.{IsOrder, IsRow, TellsSteps}
@@ -41,6 +42,7 @@ row_no_option words Check row = one_word words (codes "check") refl row
 row_no_option words Text row = one_word words (codes "text") refl row
 row_no_option words Place row = one_word words (codes "place") refl row
 row_no_option words Figure row = one_word words (codes "figure") refl row
+row_no_option words Cite row = one_word words (codes "cite") refl row
 row_no_option words (Bench number) (text, is, writes, low, high) =
     two_words words (codes "bench") text refl (numeral_no_minus text writes.digits) is
 
@@ -51,19 +53,25 @@ length-row words Check row = rw row (omega arith)
 length-row words Text row = rw row (omega arith)
 length-row words Place row = rw row (omega arith)
 length-row words Figure row = rw row (omega arith)
+length-row words Cite row = rw row (omega arith)
 length-row words (Bench number) (text, is, writes, low, high) = rw is (omega arith)
 
 -- words that are cut at the first that begins with `-`
-pub cut_here : {Z : Type 0} (words : List (String Z)) (i : ℕ) → i ≤ length words → ((k : ℕ) → k < i → starts_with_minus (get_or (bytes_of_words words) k []) ≡ false) → (i < length words → starts_with_minus (get_or (bytes_of_words words) i []) ≡ true) → (bytes_of_words (take i words) ≡ front_of (bytes_of_words words)) × (bytes_of_words (drop i words) ≡ tail_of (bytes_of_words words))
+pub cut_here : {Z : Type 0} (words : List (String Z)) (i : ℕ) → i ≤ length words
+    → ((k : ℕ) → k < i → starts_with_minus (get_or (bytes_of_words words) k []) ≡ false)
+    → (i < length words → starts_with_minus (get_or (bytes_of_words words) i []) ≡ true)
+    → (bytes_of_words (take i words) ≡ front_of (bytes_of_words words)) × (bytes_of_words (drop i words) ≡ tail_of (bytes_of_words words))
 cut_here words i within before here =
     let size : length (bytes_of_words words) ≡ length words = length-map words string_bytes in
     let place = position_or_len_is starts_with_minus (bytes_of_words words) i [] (rw size within) before (rw size here) in
     (rw (place, take-map) refl, rw (place, drop-map) refl)
 
 -- where the words before have no option, the first option stands behind them
-place_behind : (front rest : List (List ℕ)) (word : List ℕ) → ((k : ℕ) → k < length front → starts_with_minus (get_or front k []) ≡ false) → starts_with_minus word ≡ true → position_or_len starts_with_minus (front ++ word ∷ rest) ≡ length front
+place_behind : (front rest : List (List ℕ)) (word : List ℕ) → ((k : ℕ) → k < length front → starts_with_minus (get_or front k []) ≡ false)
+    → starts_with_minus word ≡ true → position_or_len starts_with_minus (front ++ word ∷ rest) ≡ length front
 place_behind front rest word none option =
-    position_or_len_is starts_with_minus (front ++ word ∷ rest) (length front) [] (omega (arith, length-append front (word ∷ rest))) (λ k low. rw get_or_append_left (none k low)) (λ _. rw (get_or_at front word rest [] (length front) refl) option)
+    position_or_len_is starts_with_minus (front ++ word ∷ rest) (length front) [] (omega (arith, length-append front (word ∷ rest)))
+    (λ k low. rw get_or_append_left (none k low)) (λ _. rw (get_or_at front word rest [] (length front) refl) option)
 
 -- words with no option are all cut off in front
 place_none : (words : List (List ℕ)) → HasNoOption words → position_or_len starts_with_minus words ≡ length words
@@ -82,7 +90,8 @@ option_word word [] steps (text, is, writes) = rw is refl
 option_word word (text ∷ []) steps told = rw told.0 refl
 option_word word (text ∷ more ∷ words) steps told = absurd told
 
-cut_at : (words front option back : List (List ℕ)) (order : Order) → words ≡ front ++ (option ++ back) → TellsSteps option order.steps → IsRow (front ++ back) order.command → IsCut (front_of words) (tail_of words) order
+cut_at : (words front option back : List (List ℕ)) (order : Order) → words ≡ front ++ (option ++ back) → TellsSteps option order.steps
+    → IsRow (front ++ back) order.command → IsCut (front_of words) (tail_of words) order
 cut_at words front [] back order placed told row =
     let none : position_or_len starts_with_minus words ≡ length words =
     place_none words (rw placed (row_no_option _ _ row)) in
@@ -111,33 +120,42 @@ cut_at words front (word ∷ option) back order placed told row =
     }
 
 -- the words of an order are cut so, and those that are read are the same
-pub order_cut : {Z : Type 0} (read words : List (String Z)) (front tail : List (List ℕ)) (order : Order) → read ≡ words → front ≡ front_of (bytes_of_words read) → tail ≡ tail_of (bytes_of_words read) → IsOrder (bytes_of_words words) order → IsCut front tail order
+pub order_cut : {Z : Type 0} (read words : List (String Z)) (front tail : List (List ℕ)) (order : Order) → read ≡ words
+    → front ≡ front_of (bytes_of_words read) → tail ≡ tail_of (bytes_of_words read) → IsOrder (bytes_of_words words) order
+    → IsCut front tail order
 order_cut read words front tail order same before behind is =
     rw (before, behind, same) (cut_at (bytes_of_words words) is.front is.option is.back order is.placed is.steps is.row)
 
 -- a row of three words or more is none
-pub too_many : {Z : Type 0} (name : String Z) (front rest back : List (String Z)) (command : Command) → front ≡ name ∷ rest → 0 < length rest → 0 < length back → IsRow (bytes_of_words front ++ bytes_of_words back) command → ⊥
+pub too_many : {Z : Type 0} (name : String Z) (front rest back : List (String Z)) (command : Command) → front ≡ name ∷ rest
+    → 0 < length rest → 0 < length back → IsRow (bytes_of_words front ++ bytes_of_words back) command → ⊥
 too_many name front rest back command is some more row =
     omega (arith, length-row _ _ row, length-append (bytes_of_words front) (bytes_of_words back), length-map front string_bytes, length-map back string_bytes, ap length is)
 
 -- the words of a numbered row
-pub numbered_words : {Z : Type 0} (name text : List ℕ) (number : String Z) (words rest : List (String Z)) → name ≡ codes "bench" → words ≡ number ∷ rest → length rest ≡ 0 → text ≡ string_bytes number → name ∷ bytes_of_words words ≡ codes "bench" ∷ text ∷ []
+pub numbered_words : {Z : Type 0} (name text : List ℕ) (number : String Z) (words rest : List (String Z)) → name ≡ codes "bench"
+    → words ≡ number ∷ rest → length rest ≡ 0 → text ≡ string_bytes number → name ∷ bytes_of_words words ≡ codes "bench" ∷ text ∷ []
 numbered_words name text number words [] named is none read = rw (named, is, read) refl
 numbered_words name text number words (more ∷ rest) named is none read = absurd (omega arith)
 
 -- the words of an option in two words, and those behind it
-pub option_words : {Z : Type 0} (word number : String Z) (text : List ℕ) (words rest back : List (String Z)) → words ≡ word ∷ rest → rest ≡ number ∷ back → text ≡ string_bytes number → bytes_of_words words ≡ string_bytes word ∷ text ∷ bytes_of_words back
+pub option_words : {Z : Type 0} (word number : String Z) (text : List ℕ) (words rest back : List (String Z)) → words ≡ word ∷ rest
+    → rest ≡ number ∷ back → text ≡ string_bytes number → bytes_of_words words ≡ string_bytes word ∷ text ∷ bytes_of_words back
 option_words word number text words rest back is more read = rw (is, more, read) refl
 
 -- a word's bytes tell whether it begins with `-`
-pub word_at : {Z : Type 0} (words : List (String Z)) (i : ℕ) (word : String Z) (bytes : List ℕ) (b : Bool) → i < length words → word ≡ get_or words i word → bytes ≡ string_bytes word → starts_with_minus bytes ≡ b → starts_with_minus (get_or (bytes_of_words words) i []) ≡ b
+pub word_at : {Z : Type 0} (words : List (String Z)) (i : ℕ) (word : String Z) (bytes : List ℕ) (b : Bool) → i < length words
+    → word ≡ get_or words i word → bytes ≡ string_bytes word → starts_with_minus bytes ≡ b
+    → starts_with_minus (get_or (bytes_of_words words) i []) ≡ b
 word_at words i word bytes b low is read test =
     let there : get_or (bytes_of_words words) i [] ≡ string_bytes (get_or words i word) =
     get_or-map string_bytes words i word [] low in
     ap starts_with_minus (there ∙ (ap string_bytes (sym is) ∙ sym read)) ∙ test
 
 -- words with no option are all in front
-pub cut_none : {Z : Type 0} (words : List (String Z)) → ((k : ℕ) → k < length words → starts_with_minus (get_or (bytes_of_words words) k []) ≡ false) → (bytes_of_words words ≡ front_of (bytes_of_words words)) × ([] ≡ tail_of (bytes_of_words words))
+pub cut_none : {Z : Type 0} (words : List (String Z))
+    → ((k : ℕ) → k < length words → starts_with_minus (get_or (bytes_of_words words) k []) ≡ false)
+    → (bytes_of_words words ≡ front_of (bytes_of_words words)) × ([] ≡ tail_of (bytes_of_words words))
 cut_none words none =
     let here = cut_here words (length words) (omega arith) none (λ low. absurd (omega arith)) in (
       ap bytes_of_words (sym (take_all (length words) words (omega arith))) ∙ here.0,
@@ -147,7 +165,8 @@ cut_none words none =
 -- the words are those in front, the option, and those behind it
 pub placed_of : (words front tail option back : List (List ℕ)) → front ≡ front_of words → tail ≡ tail_of words → tail ≡ option ++ back → words ≡ front ++ (option ++ back)
 placed_of words front tail option back before behind joined =
-    sym (take-append-drop (position_or_len starts_with_minus words) words) ∙ (ap (λ (xs : List (List ℕ)). xs ++ tail_of words) (sym before) ∙ ap (λ (xs : List (List ℕ)). front ++ xs) (sym behind ∙ joined))
+    sym (take-append-drop (position_or_len starts_with_minus words) words)
+    ∙ (ap (λ (xs : List (List ℕ)). xs ++ tail_of words) (sym before) ∙ ap (λ (xs : List (List ℕ)). front ++ xs) (sym behind ∙ joined))
 
 -- two orders with the same command and steps are one
 pub same_order : (command : Command) (steps : ℕ) (order : Order) → Some command ≡ Some order.command → steps ≡ order.steps → Some (record { command = command; steps = steps }) ≡ Some order

@@ -4,7 +4,7 @@ use Rattle.std.specs.Prelude.{Bool, true, false, ℤ, Result, Ok, Err}
 use Rattle.geo_base.specs.Devices.{Grows}
 use Rattle.geo_base.specs.declared.texts.Text.{Text as Written}
 use Rattle.geo_cli.specs.declared.order.Command.{Command}
-use Rattle.geo_cli.specs.declared.order.Command.TheVariants.{Bench, Check, Figure, Place, Prove, Text}
+use Rattle.geo_cli.specs.declared.order.Command.TheVariants.{Bench, Check, Cite, Figure, Place, Prove, Text}
 use Rattle.geo_cli.specs.declared.status.Status.{Status}
 use Rattle.geo_cli.specs.declared.status.Status.TheVariants as status
 use Rattle.geo_cli.specs.Due.{Due, IsCommandDue, IsDue, IsDueForValues, IsRestDue, TellsAnswer, TellsDrawing}
@@ -13,18 +13,19 @@ use Rattle.geo_cli.specs.Orders.{IsOrder}
 use Rattle.geo_cli.specs.Run.{DoneTells, Ends, IsAnswered, IsCutShort, IsPlaceOf, PlacesInput, PlacesNone, ReadsValues, shown}
 use Rattle.geo_cli.specs.Status.{ending_status, refusal_status, status_number, stop_status, verdict_status}
 use Rattle.geo_cli.specs.Values.{HasValuesLine}
-use Rattle.geo_cli.proofs.Ended.{differ}
-use Rattle.geo_conditions.specs.Truth.{ProgramValues}
+use Rattle.geo_cli.proofs.Ended.{differ, uncited_number}
+use Rattle.geo_conditions.specs.Truth.{ProgramValues, integers_of}
 use Rattle.geo_figure.specs.declared.errors.DrawError.{DrawError}
 use Rattle.geo_figure.specs.declared.errors.DrawError.TheVariants as drawing
 use Rattle.geo_figure.specs.Drawing.{IsDrawn}
+use Rattle.geo_library.proofs.Chained.{citations_hold}
 use Rattle.geo_logs.specs.Ends.{Ending, ends_by, ends_with, too_long}
 use Rattle.geo_logs.specs.Judging.{Refusal, rejected, stopped}
 use Rattle.geo_logs.specs.Moves.{Stop, spent, too_large}
 use Rattle.geo_place.specs.declared.errors.PlaceError.{PlaceError}
 use Rattle.geo_place.specs.declared.errors.PlaceError.TheVariants as placing
 use Rattle.geo_place.specs.declared.placed.Placed.{Placed}
-use Rattle.geo_place.specs.Placing.{IsAnswer, Places, PlacesNothing, integers_of}
+use Rattle.geo_place.specs.Placing.{AnswersValues, Places, PlacesNothing}
 use Rattle.geo_poly.specs.declared.limits.Which.TheVariants.{Norm}
 use Rattle.geo_program.specs.declared.program_type.Program.{Program}
 use Rattle.geo_program.specs.Programs.{Spells, source_of}
@@ -37,7 +38,7 @@ use Rattle.proof_log.specs.declared.log.Verdict.TheVariants.{Proved, False, Impo
 not_done : (s : Status) (P : Type 0) → s ≡ status.Done → status_number s < 13 → P
 not_done s P is low = differ s status.Done P is (λ e. omega (arith, e, low))
 
-verdict_low : (v : Verdict) → status_number (verdict_status v) < 13
+pub verdict_low : (v : Verdict) → status_number (verdict_status v) < 13
 verdict_low Proved = omega arith
 verdict_low (False g) = omega arith
 verdict_low (Impossible k) = omega arith
@@ -46,12 +47,12 @@ stop_low : (n : ℕ) (stop : Stop) → status_number (stop_status n stop) < 13
 stop_low n spent = omega arith
 stop_low n (too_large which) = omega arith
 
-ending_low : (lines : List Line) (ending : Ending) → status_number (ending_status lines ending) < 13
+pub ending_low : (lines : List Line) (ending : Ending) → status_number (ending_status lines ending) < 13
 ending_low lines (ends_with v left) = verdict_low v
 ending_low lines (ends_by stop) = stop_low (length lines) stop
 ending_low lines too_long = omega arith
 
-refusal_low : (n : ℕ) (r : Refusal) → status_number (refusal_status n r) < 13
+pub refusal_low : (n : ℕ) (r : Refusal) → status_number (refusal_status n r) < 13
 refusal_low n (rejected reason) = omega arith
 refusal_low n (stopped stop) = stop_low n stop
 
@@ -105,7 +106,7 @@ module _ (words : List (List ℕ)) (left left' held held' : Option (List ℕ)) (
     drawing_here placed (Err drawing.NoMemory) d h places with = absurd h
 
   module _ (p : Program) (v : ProgramValues) (reads : ReadsValues drawn words left left' p v) (due : Due) where
-    answer_done : (answer : Result Placed PlaceError) → IsAnswer (source_of p) v answer → (b : Bool) → b ≡ drawn
+    answer_done : (answer : Result Placed PlaceError) → AnswersValues (source_of p) v answer → (b : Bool) → b ≡ drawn
         → TellsAnswer b answer due → due.status ≡ status.Done → Grows held due.text held'
         → PlacesInput drawn words left left' held held'
     answer_done (Ok placed) given false is tells done written =
@@ -126,7 +127,7 @@ module _ (words : List (List ℕ)) (left left' held held' : Option (List ℕ)) (
         not_unmet k (status.TooLarge line Norm) _ (sym (ap (λ (x : Due). x.status) tells) ∙ says) (omega arith)
     drawing_unmet k (Err drawing.NoMemory) tells says = absurd tells
 
-    answer_unmet : (k : ℕ) (answer : Result Placed PlaceError) → IsAnswer (source_of p) v answer → (b : Bool) → TellsAnswer b answer due
+    answer_unmet : (k : ℕ) (answer : Result Placed PlaceError) → AnswersValues (source_of p) v answer → (b : Bool) → TellsAnswer b answer due
         → due.status ≡ status.Unmet k → PlacesNone words left left' k
     answer_unmet k (Ok placed) given false tells says =
         not_unmet k status.Done _ (sym (ap (λ (x : Due). x.status) tells) ∙ says) (omega arith)
@@ -198,7 +199,21 @@ module _ (words : List (List ℕ)) (left left' held held' : Option (List ℕ)) w
       inr (inl (values_done words left left' held held' false steps given bytes input due h is written))
   command_done Figure steps given due is written (inl h) = not_done _ _ (sym (ap (λ (d : Due). d.status) h.1) ∙ is) (omega arith)
   command_done Figure steps given due is written (inr (bytes, input, h)) =
-      inr (inr (values_done words left left' held held' true steps given bytes input due h is written))
+      inr (inr (inl (values_done words left left' held held' true steps given bytes input due h is written)))
+  command_done Cite steps given due is written (inl h) = not_done _ _ (sym (ap (λ (d : Due). d.status) h.1) ∙ is) (omega arith)
+  command_done Cite steps given due is written (inr (bytes, input, inl h)) =
+      inr (inr (inr (record {
+        steps = steps;
+        command = given;
+        bytes = bytes;
+        input = input;
+        text = h.text;
+        cites = h.cites;
+        written = subst (λ (d : Due). Grows held d.text held') h.is written;
+        holds = citations_hold bytes steps h.text h.cites;
+      })))
+  command_done Cite steps given due is written (inr (bytes, input, inr h)) =
+      differ due.status status.Done _ is (uncited_number h.error due h.is).done
   command_done (Bench number) steps given due is written (unread, h) =
       not_done _ _ (sym (ap (λ (d : Due). d.status) h.is) ∙ is) (ending_low h.lines h.ending)
 
@@ -250,6 +265,11 @@ module _ (words : List (List ℕ)) (left left' held held' : Option (List ℕ)) (
   command_unmet Figure steps given due is (inl h) = low_unmet due _ _ (ap (λ (d : Due). d.status) h.1) is (omega arith)
   command_unmet Figure steps given due is (inr (bytes, input, h)) =
       values_unmet words left left' held held' true steps given bytes input due k h is
+  command_unmet Cite steps given due is (inl h) = low_unmet due _ _ (ap (λ (d : Due). d.status) h.1) is (omega arith)
+  command_unmet Cite steps given due is (inr (bytes, input, inl h)) =
+      not_unmet k status.Done _ (sym (ap (λ (d : Due). d.status) h.is) ∙ is) (omega arith)
+  command_unmet Cite steps given due is (inr (bytes, input, inr h)) =
+      differ due.status (status.Unmet k) _ is (uncited_number h.error due h.is).unmet
   command_unmet (Bench number) steps given due is (unread, h) =
       low_unmet due _ _ (ap (λ (d : Due). d.status) h.is) is (ending_low h.lines h.ending)
 

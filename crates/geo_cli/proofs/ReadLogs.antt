@@ -1,5 +1,6 @@
 -- A log that is read line by line, and the checker that takes its lines.
-use Rattle.std.proofs.Common.{◌≡◌, ◌⊎◌, ℕ, ◌+◌, ◌-◌, ◌<◌, ◌≤◌, inl, inr, false, List, [], ◌∷◌, ◌++◌, length, Option, Some, None, Result, Ok, Err, Contains, refl, sym, ap, subst, ◌∙◌, append-nil, append_assoc, length-append, arith}
+use Rattle.std.proofs.Common.{◌≡◌, ◌⊎◌, ℕ, ◌+◌, ◌-◌, ◌<◌, ◌≤◌, inl, inr, false, List, [], ◌∷◌, ◌++◌, length, Option, Some, None, Result, Ok}
+use Rattle.std.proofs.Common.{Err, Contains, refl, sym, ap, subst, ◌∙◌, append-nil, append_assoc, length-append, arith}
 use Rattle.std.specs.Prelude.{IfErr, IfOk, OnErr, OnOk}
 use Rattle.std.proofs.lemmas.List.Elements.{Contains-append_right, Contains-get_or}
 use Rattle.geo_base.specs.Devices.{HasEnded, Loses}
@@ -118,30 +119,6 @@ pub record IsReading (steps : ℕ) (left left' : Option (List ℕ)) (reader : Re
   pub steps_are : checker.steps ≡ steps
   pub has_taken : HasTaken steps pieces checker
 
--- before the first line
-pub reading_none : (steps : ℕ) (left : Option (List ℕ)) (reader : ReaderState) (checker : CheckerValue)
-    → reader ≡ record { limit = 67108864; taken = 0; waiting = []; ended = false } → StandsFor checker [] → checker.steps ≡ steps → checker.taken ≡ 0
-    → IsReading steps left left reader checker
-reading_none steps left reader checker is stands same none =
-    let waiting : reader.waiting ≡ [] = ap (λ (r : ReaderState). r.waiting) is in
-    let taken : reader.taken ≡ 0 = ap (λ (r : ReaderState). r.taken) is in
-    let length_waiting : length reader.waiting ≡ 0 = ap length waiting in
-    record {
-      pieces = [];
-      opened = nothing_lost left (open_bytes reader.waiting left) (open_none reader.waiting left waiting);
-      counted = omega (arith, taken, length_waiting);
-      limit = ap (λ (r : ReaderState). r.limit) is;
-      within = omega (arith, taken);
-      is_open = ap (λ (r : ReaderState). r.ended) is;
-      few = omega (arith, none);
-      steps_are = same;
-      has_taken = inl stands;
-    }
-  where
-    nothing_lost : (l m : Option (List ℕ)) → m ≡ l → Loses l [] m
-    nothing_lost l None e = sym e
-    nothing_lost l (Some bytes) e = sym e
-
 -- what a call that hands out these bytes counts
 pub record Counts (reader reader' : ReaderState) (handed : List ℕ) : Type 0 where
   pub counted : length reader.waiting + reader'.taken ≡ reader.taken + length handed + length reader'.waiting
@@ -170,14 +147,6 @@ reading_next steps left l l' reader reader' checker checker' line answer h took 
       has_taken = taken_next steps h.pieces checker checker' line answer h.steps_are took h.has_taken;
     }
 
--- there is room for the line
-pub room_for_line : (steps : ℕ) (left l : Option (List ℕ)) (reader reader' : ReaderState) (checker : CheckerValue) (line : List ℕ)
-    → IsReading steps left l reader checker → Counts reader reader' (line ++ 10 ∷ []) → reader'.taken ≤ reader'.limit → checker.taken + length line + 1 ≤ 67108864
-room_for_line steps left l reader reader' checker line h counts within =
-    let feed : length (line ++ 10 ∷ []) ≡ length line + 1 = length-append line (10 ∷ []) in
-    let c = counts.counted in let d = counts.limit in let e = h.counted in let f = h.limit in let g = h.few in
-    omega (arith, c, d, e, f, g, feed, within)
-
 -- the lines that may still come are fewer
 pub fewer : (steps : ℕ) (left l : Option (List ℕ)) (reader reader' : ReaderState) (checker : CheckerValue) (line : List ℕ)
     → IsReading steps left l reader checker → Counts reader reader' (line ++ 10 ∷ []) → reader'.taken ≤ reader'.limit
@@ -189,12 +158,6 @@ fewer steps left l reader reader' checker line h counts within =
 
 -- THE END
 module _ (steps : ℕ) (left l l' : Option (List ℕ)) (reader reader' : ReaderState) (checker : CheckerValue) (h : IsReading steps left l reader checker) where
-  -- there is room for the rest
-  pub room_for_rest : (rest : List ℕ) → Counts reader reader' rest → reader'.taken ≤ reader'.limit → checker.taken + length rest ≤ 67108864
-  room_for_rest rest counts within =
-      let c = counts.counted in let d = counts.limit in let e = h.counted in let f = h.limit in let g = h.few in
-      omega (arith, c, d, e, f, g, within)
-
   -- what finishing answers
   pub record Finishes (rest : List ℕ) (answer : Result Accepted CheckError) : Type 0 where
     pub accepted : (pieces : List (List ℕ)) → StandsFor checker pieces → IfOk answer (IsAnswer (with_feeds pieces ++ rest) checker.steps)

@@ -6,17 +6,17 @@ use Rattle.geo_cli.specs.declared.benching.Report.{Report}
 use Rattle.geo_cli.specs.Due.{Due, IsRestDue, IsValuesDue, SpellsNone, TellsAnswer, fault_due}
 use Rattle.geo_cli.specs.Inner.Telling.{due_of}
 use Rattle.geo_cli.specs.Values.{values_line}
-use Rattle.geo_conditions.specs.Truth.{ProgramValues, free_points}
+use Rattle.geo_conditions.specs.Truth.{ProgramValues, free_points, integers_of}
 use Rattle.geo_lexer.specs.declared.token_types.Fault.{Fault}
 use Rattle.geo_place.specs.declared.errors.PlaceError.{PlaceError}
 use Rattle.geo_place.specs.declared.placed.Placed.{Placed}
-use Rattle.geo_place.specs.Placing.{IsAnswer, integers_of, values_wanted}
+use Rattle.geo_place.specs.Placing.{AnswersValues, values_wanted}
 use Rattle.geo_place.proofs.ValueLists.{values_are, values_of}
 use Rattle.geo_program.specs.declared.program_type.Program.{Program}
 use Rattle.geo_program.specs.Programs.{Spells, source_of}
 
 -- a property of what is told goes over to what is called for
-weaker : (P Q : Due → Type 0) → ((due : Due) → P due → Q due) → (r : Result Report NoMemory) → IfOk r (λ x. P (due_of x))
+pub weaker : (P Q : Due → Type 0) → ((due : Due) → P due → Q due) → (r : Result Report NoMemory) → IfOk r (λ x. P (due_of x))
     → IfOk r (λ x. Q (due_of x))
 weaker P Q more (Ok x) h = more (due_of x) h
 weaker P Q more (Err e) h = tt
@@ -39,7 +39,7 @@ module _ (drawn : Bool) where
   module _ (program : Program) (values : List ℤ) where
     -- the program has so many values, and this is the answer
     pub answer_told : length values ≡ values_wanted (source_of program) → (got answer : Result Placed PlaceError) → got ≡ answer
-        → ((v : ProgramValues) → length v.coordinates ≡ length (free_points 0 program.commands) → integers_of v ≡ values → IsAnswer (source_of program) v got)
+        → ((v : ProgramValues) → length v.coordinates ≡ length (free_points 0 program.commands) → integers_of v ≡ values → AnswersValues (source_of program) v got)
         → (r : Result Report NoMemory) → IfOk r (λ x. TellsAnswer drawn answer (due_of x))
         → IfOk r (λ x. IsValuesDue drawn program values (due_of x))
     answer_told count got answer same gives =
@@ -52,6 +52,6 @@ module _ (drawn : Bool) where
           frees = are.1;
           are = are.0;
           answer = answer;
-          given = subst (λ (a : Result Placed PlaceError). IsAnswer (source_of program) v a) same (gives v are.1 are.0);
+          given = subst (λ (a : Result Placed PlaceError). AnswersValues (source_of program) v a) same (gives v are.1 are.0);
           is = h;
         }))

@@ -1,33 +1,38 @@
 -- What a run is to write and to answer, and the cause of it.
-use Rattle.std.specs.Prelude.{◌≡◌, ◌≢◌, ◌⊎◌, ℕ, suc, ◌+◌, ◌-◌, ◌<◌, ◌≤◌, Bool, true, false, ℤ, List, [], ◌∷◌, ◌++◌, length, Option, None, Some, Result, Ok, Err, codes}
+use Rattle.std.specs.Prelude.{◌≡◌, ◌≢◌, ◌⊎◌, ℕ, suc, ◌+◌, ◌-◌, ◌<◌, ◌≤◌, Bool, true, false, ℤ, List, [], ◌∷◌, ◌++◌, length}
+use Rattle.std.specs.Prelude.{Option, None, Some, Result, Ok, Err, codes}
 use Rattle.std.specs.Fmt.{decimal}
 use Rattle.geo_cli.specs.declared.order.Command.{Command}
-use Rattle.geo_cli.specs.declared.order.Command.TheVariants.{Bench, Check, Figure, Place, Prove, Text}
+use Rattle.geo_cli.specs.declared.order.Command.TheVariants.{Bench, Check, Cite, Figure, Place, Prove, Text}
 use Rattle.geo_cli.specs.declared.order.Order.{Order}
 use Rattle.geo_cli.specs.declared.status.Status.{Status}
-use Rattle.geo_cli.specs.declared.status.Status.TheVariants.{Done, Usage, Syntax, TooLarge, TooLong, Unmet}
+use Rattle.geo_cli.specs.declared.status.Status.TheVariants.{Done, NotInstance, Rejected, Usage, Syntax, TooLong, Unmet}
 use Rattle.geo_cli.specs.Input.{IsInput, IsLong, log_limit, program_limit}
 use Rattle.geo_cli.specs.Orders.{IsOrder}
-use Rattle.geo_cli.specs.Status.{ending_status, refusal_status, verdict_status}
+use Rattle.geo_cli.specs.Status.{ending_status, refusal_status, stop_status, verdict_status}
 use Rattle.geo_cli.specs.Values.{HasNoValuesLine, HasValuesLine, values_line}
-use Rattle.geo_cli.specs.Words.{IsNoCommand}
+use Rattle.geo_cli.specs.Words.{IsCheck, IsNoCommand, IsProve, IsText}
 use Rattle.geo_base.specs.declared.texts.Text.{Text as Written}
 use Rattle.geo_conditions.specs.Lists.{AreConditionItems, ItemForm}
-use Rattle.geo_conditions.specs.Truth.{ProgramValues, free_points}
+use Rattle.geo_conditions.specs.Truth.{ProgramValues, free_points, integers_of}
 use Rattle.geo_figure.specs.declared.errors.DrawError.{DrawError}
 use Rattle.geo_figure.specs.declared.errors.DrawError.TheVariants as drawing
 use Rattle.geo_figure.specs.Drawing.{IsDrawn}
 use Rattle.geo_lexer.specs.declared.token_types.Fault.{Fault}
+use Rattle.geo_library.specs.declared.errors.CiteError.{CiteError}
+use Rattle.geo_library.specs.declared.errors.CiteError.TheVariants as citing
+use Rattle.geo_library.specs.Citations.{IsCitation}
+use Rattle.geo_library.specs.Told.{TellsRefusal}
 use Rattle.geo_logs.specs.Ends.{Ending, ends_by, ends_with, stop_line, too_long}
 use Rattle.geo_logs.specs.Judging.{Refusal, number_of, rejected, stopped}
 use Rattle.geo_lowering.specs.Lowering.{IsLowered, LoweredForm}
 use Rattle.geo_lowering.specs.declared.version.Version.TheVariants.{Two}
-use Rattle.geo_logs.specs.Moves.{too_large}
+use Rattle.geo_logs.specs.Moves.{Stop, spent, too_large}
 use Rattle.geo_parser.specs.Refusals.{IsRefused}
 use Rattle.geo_place.specs.declared.errors.PlaceError.{PlaceError}
 use Rattle.geo_place.specs.declared.errors.PlaceError.TheVariants as placing
 use Rattle.geo_place.specs.declared.placed.Placed.{Placed}
-use Rattle.geo_place.specs.Placing.{IsAnswer, integers_of, text_of, values_wanted}
+use Rattle.geo_place.specs.Placing.{AnswersValues, points_text, values_wanted}
 use Rattle.geo_poly.specs.declared.limits.Which.TheVariants.{Norm}
 use Rattle.geo_program.specs.CanonicalText.{canonical_text}
 use Rattle.geo_program.specs.declared.program_type.Program.{Program}
@@ -60,6 +65,14 @@ too_long_line = codes "too long" ++ 10 ∷ []
 -- the input spells no program: the number of the refusal, and the place of the token that is refused
 abbrev pub syntax_line : Fault → List ℕ
 syntax_line fault = codes "syntax " ++ decimal fault.refusal ++ codes " at " ++ decimal fault.place ++ 10 ∷ []
+
+-- a refusal, and its place among all bytes
+abbrev pub fault_due : ℕ → ℕ → Due
+fault_due refusal place = record { text = syntax_line (record { refusal = refusal; place = place }); status = Syntax refusal place }
+
+-- a stop at the line of this number
+abbrev pub stop_due : ℕ → Stop → Due
+stop_due number stop = record { text = line_text (stop_line number stop) ++ 10 ∷ []; status = stop_status number stop }
 
 -- WHAT AN INPUT CALLS FOR
 
@@ -109,9 +122,13 @@ pub record IsAcceptedDue (steps : ℕ) (bytes : List ℕ) (due : Due) : Type 0 w
   pub listed : AreConditionItems Two program conditions
   pub is : due ≡ record { text = accepted_text program conditions verdict; status = verdict_status verdict }
 
+-- `rejected 25 27`
+abbrev pub rejected_line : ℕ → ℕ → List ℕ
+rejected_line number reason = codes "rejected " ++ decimal number ++ codes " " ++ decimal reason ++ 10 ∷ []
+
 -- the line that tells the refusal of a line
 abbrev pub refusal_line : ℕ → Refusal → List ℕ
-refusal_line number (rejected reason) = codes "rejected " ++ decimal number ++ codes " " ++ decimal (number_of reason) ++ 10 ∷ []
+refusal_line number (rejected reason) = rejected_line number (number_of reason)
 refusal_line number (stopped stop) = line_text (stop_line number stop) ++ 10 ∷ []
 
 -- the bytes are refused, at the line of this number
@@ -141,29 +158,25 @@ abbrev pub unmet_line : ℕ → List ℕ
 unmet_line k = codes "unmet " ++ decimal k ++ 10 ∷ []
 
 -- a number is too large at this line of the canonical program
-abbrev pub stop_due : ℕ → Due
-stop_due line = record { text = line_text (stop_line line (too_large Norm)) ++ 10 ∷ []; status = TooLarge line Norm }
-
--- a refusal, and its place among all bytes
-abbrev pub fault_due : ℕ → ℕ → Due
-fault_due refusal place = record { text = syntax_line (record { refusal = refusal; place = place }); status = Syntax refusal place }
+abbrev pub large_due : ℕ → Due
+large_due line = stop_due line (too_large Norm)
 
 -- the drawing, or the line at which a number of it is too large
 abbrev pub TellsDrawing : Result Written DrawError → Due → Type 0
 TellsDrawing (Ok text) due = due ≡ record { text = text; status = Done }
-TellsDrawing (Err (drawing.TooLarge line)) due = due ≡ stop_due line
+TellsDrawing (Err (drawing.TooLarge line)) due = due ≡ large_due line
 TellsDrawing (Err drawing.NoMemory) due = ⊥
 
 -- placed points as text, or drawn
 abbrev pub TellsPoints : Bool → Placed → Due → Type 0
-TellsPoints false placed due = due ≡ record { text = text_of placed; status = Done }
+TellsPoints false placed due = due ≡ record { text = points_text placed; status = Done }
 TellsPoints true placed due = (answer : Result Written DrawError) × IsDrawn placed answer × TellsDrawing answer due
 
 -- what is answered for the values
 abbrev pub TellsAnswer : Bool → Result Placed PlaceError → Due → Type 0
 TellsAnswer drawn (Ok placed) due = TellsPoints drawn placed due
 TellsAnswer drawn (Err (placing.Unmet k)) due = due ≡ record { text = unmet_line k; status = Unmet k }
-TellsAnswer drawn (Err (placing.TooLarge line)) due = due ≡ stop_due line
+TellsAnswer drawn (Err (placing.TooLarge line)) due = due ≡ large_due line
 TellsAnswer drawn (Err placing.NoMemory) due = ⊥
 
 -- the values are the program's, and this is answered for them
@@ -173,7 +186,7 @@ pub record IsPlacedDue (drawn : Bool) (program : Program) (values : List ℤ) (d
   pub frees : length v.coordinates ≡ length (free_points 0 program.commands)
   pub are : integers_of v ≡ values
   pub answer : Result Placed PlaceError
-  pub given : IsAnswer (source_of program) v answer
+  pub given : AnswersValues (source_of program) v answer
   pub is : TellsAnswer drawn answer due
 
 -- what values and a program call for: a refusal where the program has not so many values
@@ -197,6 +210,40 @@ pub record IsLineDue (drawn : Bool) (bytes : List ℕ) (due : Due) : Type 0 wher
 -- what `place` is to write of these bytes, or `figure`, which draws
 abbrev pub IsDueForValues : Bool → List ℕ → Due → Type 0
 IsDueForValues drawn bytes due = (HasNoValuesLine bytes × (due ≡ fault_due 13 0)) ⊎ IsLineDue drawn bytes due
+
+-- WHAT A LOG, NAMES AND A PROGRAM CALL FOR
+-- the statement that is cited
+abbrev pub cited_line : List ℕ → List ℕ
+cited_line text = codes "cited " ++ text ++ 10 ∷ []
+
+-- `no instance 3`
+abbrev pub no_instance_line : ℕ → List ℕ
+no_instance_line line = codes "no instance " ++ decimal line ++ 10 ∷ []
+
+-- they cite this statement
+pub record IsCitedDue (steps : ℕ) (bytes : List ℕ) (due : Due) : Type 0 where
+  pub text : List ℕ
+  pub cites : IsCitation bytes steps text
+  pub is : due ≡ record { text = cited_line text; status = Done }
+
+-- why nothing is cited
+abbrev pub TellsUncited : CiteError → Due → Type 0
+TellsUncited (citing.Rejected line reason) due = due ≡ record { text = rejected_line line reason; status = Rejected line reason }
+TellsUncited (citing.Syntax fault) due = due ≡ fault_due fault.refusal fault.place
+TellsUncited (citing.NotInstance line) due = due ≡ record { text = no_instance_line line; status = NotInstance line }
+TellsUncited (citing.TooLarge line which) due = due ≡ stop_due line (too_large which)
+TellsUncited (citing.Spent line) due = due ≡ stop_due line spent
+TellsUncited citing.NoMemory due = ⊥
+
+-- they cite nothing, for the first thing that is refused
+pub record IsUncitedDue (steps : ℕ) (bytes : List ℕ) (due : Due) : Type 0 where
+  pub error : CiteError
+  pub refused : TellsRefusal bytes steps error
+  pub is : TellsUncited error due
+
+-- what `cite` is to write of these bytes
+abbrev pub IsDueForCitation : ℕ → List ℕ → Due → Type 0
+IsDueForCitation steps bytes due = IsCitedDue steps bytes due ⊎ IsUncitedDue steps bytes due
 
 -- WHAT A NUMBER CALLS FOR
 
@@ -251,6 +298,7 @@ IsCommandDue Check steps left left' due = IsReadDue log_limit (IsDueForLog steps
 IsCommandDue Text steps left left' due = IsReadDue log_limit (IsDueForText steps) left left' due
 IsCommandDue Place steps left left' due = IsReadDue program_limit (IsDueForValues false) left left' due
 IsCommandDue Figure steps left left' due = IsReadDue program_limit (IsDueForValues true) left left' due
+IsCommandDue Cite steps left left' due = IsReadDue log_limit (IsDueForCitation steps) left left' due
 IsCommandDue (Bench number) steps left left' due = (left' ≡ left) × IsBenchDue number steps due
 
 -- they give an order
@@ -276,8 +324,16 @@ IsCommandCall Check steps left due = IsReadCall log_limit (IsDueForLog steps) le
 IsCommandCall Text steps left due = IsReadCall log_limit (IsDueForText steps) left due
 IsCommandCall Place steps left due = IsReadCall program_limit (IsDueForValues false) left due
 IsCommandCall Figure steps left due = IsReadCall program_limit (IsDueForValues true) left due
+IsCommandCall Cite steps left due = IsReadCall log_limit (IsDueForCitation steps) left due
 IsCommandCall (Bench number) steps left due = IsBenchDue number steps due
 
 -- what the words call for then
 abbrev pub IsCalledFor : List (List ℕ) → Option (List ℕ) → Due → Type 0
 IsCalledFor words left due = (order : Order) × IsOrder words order × IsCommandCall order.command order.steps left due
+
+-- the words are `prove`, `check` or `text`, with so many steps, and the source tells the bytes that it has left
+pub record AsksForLog (words : List (List ℕ)) (left : Option (List ℕ)) : Type 0 where
+  pub steps : ℕ
+  pub command : IsProve words steps ⊎ (IsCheck words steps ⊎ IsText words steps)
+  pub bytes : List ℕ
+  pub told : left ≡ Some bytes

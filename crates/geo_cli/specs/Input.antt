@@ -2,13 +2,13 @@
 use Rattle.std.specs.Prelude.{◌≡◌, ℕ, ◌+◌, ◌≤◌, List, length, Option}
 use Rattle.geo_base.specs.Devices.{HasEnded, Loses}
 use Rattle.geo_cli.specs.declared.order.Command.{Command}
-use Rattle.geo_cli.specs.declared.order.Command.TheVariants.{Bench, Check, Figure, Place, Prove, Text}
+use Rattle.geo_cli.specs.declared.order.Command.TheVariants.{Bench, Check, Cite, Figure, Place, Prove, Text}
 
 -- the most bytes of a program
 abbrev pub program_limit : ℕ
 program_limit = 1048576
 
--- the most bytes of a log
+-- the most bytes of a log, and of a log, names and a program
 abbrev pub log_limit : ℕ
 log_limit = 67108864
 
@@ -19,6 +19,7 @@ limit_of Check = log_limit
 limit_of Text = log_limit
 limit_of Place = program_limit
 limit_of Figure = program_limit
+limit_of Cite = log_limit
 limit_of (Bench number) = 0
 
 -- all bytes of the source were read, and they are within the limit

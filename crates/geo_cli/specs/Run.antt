@@ -4,17 +4,20 @@ use Rattle.std.specs.Prelude.{◌≡◌, ◌⊎◌, ℕ, Bool, true, false, List
 use Rattle.geo_base.specs.Devices.{Grows, HasRisen}
 use Rattle.geo_cli.specs.declared.status.Status.{Status}
 use Rattle.geo_cli.specs.declared.status.Status.TheVariants.{NoMemory, ReadFault, WriteFault}
-use Rattle.geo_cli.specs.Due.{Due, IsDue, bench_text}
+use Rattle.geo_cli.specs.Due.{Due, IsDue, bench_text, cited_line}
 use Rattle.geo_cli.specs.Input.{IsInput, log_limit, program_limit}
 use Rattle.geo_cli.specs.Values.{HasValuesLine}
-use Rattle.geo_cli.specs.Words.{IsBenchOf, IsCheck, IsFigure, IsPlace, IsProve, IsText, ReadsNothing}
-use Rattle.geo_conditions.specs.Truth.{ProgramValues}
+use Rattle.geo_cli.specs.Words.{IsBenchOf, IsCheck, IsCite, IsFigure, IsPlace, IsProve, IsText, ReadsNothing}
+use Rattle.geo_conditions.specs.Truth.{Holds, Meets, ProgramValues, integers_of}
 use Rattle.geo_figure.specs.Drawing.{drawing}
+use Rattle.geo_library.specs.Citations.{IsCitation, Misses}
+use Rattle.geo_library.specs.Working.{no_instance}
 use Rattle.geo_logs.specs.Ends.{ends_with}
 use Rattle.geo_lowering.specs.Lowering.{IsLowered, LoweredForm}
 use Rattle.geo_lowering.specs.declared.version.Version.TheVariants.{Two}
 use Rattle.geo_place.specs.declared.placed.Placed.{Placed}
-use Rattle.geo_place.specs.Placing.{Places, PlacesNothing, integers_of, text_of}
+use Rattle.geo_place.specs.Placing.{Places, PlacesNothing, points_text}
+use Rattle.geo_points.specs.Placements.{Placement}
 use Rattle.geo_program.specs.declared.program_type.Program.{Program}
 use Rattle.geo_program.specs.Programs.{Spells, source_of}
 use Rattle.geo_program.specs.WellFormed.{Source}
@@ -111,7 +114,7 @@ IsPlaceOf true = IsFigure
 
 -- placed points as text, or drawn
 abbrev pub shown : Bool → Placed → List ℕ
-shown false placed = text_of placed
+shown false placed = points_text placed
 shown true placed = drawing placed
 
 -- the words are `place` or `figure`, the source gave these bytes and no more, and they are values and a program
@@ -141,10 +144,32 @@ pub record PlacesNone (words : List (List ℕ)) (left left' : Option (List ℕ))
   pub reads : ReadsValues drawn words left left' program v
   pub none : PlacesNothing (source_of program) v k
 
--- what is told where all is written: a readable proof, placed points, or a drawing
+-- the words are `cite` with so many steps, the source gave these bytes and no more, they cite this statement, and the sink holds its line
+-- besides; and it holds in every placement that meets the citing program. That some placement meets this is not said
+pub record Cites (words : List (List ℕ)) (left left' held held' : Option (List ℕ)) : Type 0 where
+  pub steps : ℕ
+  pub command : IsCite words steps
+  pub bytes : List ℕ
+  pub input : IsInput log_limit left bytes left'
+  pub text : List ℕ
+  pub cites : IsCitation bytes steps text
+  pub written : Grows held (cited_line text) held'
+  pub holds : (placed : Placement) → Meets cites.parts.case.program placed → Holds cites.parts.case.program placed
+
+-- the words are `cite` with so many steps, the source gave these bytes and no more, and of all that the cited program asks of the citing
+-- one, what its line of this number asks is the first that is not so
+pub record CitesNone (words : List (List ℕ)) (left left' : Option (List ℕ)) (line : ℕ) : Type 0 where
+  pub steps : ℕ
+  pub command : IsCite words steps
+  pub bytes : List ℕ
+  pub input : IsInput log_limit left bytes left'
+  pub misses : Misses bytes steps (no_instance line)
+
+-- what is told where all is written: a readable proof, placed points, a drawing, or a statement that is cited
 abbrev pub DoneTells : List (List ℕ) → Option (List ℕ) → Option (List ℕ) → Option (List ℕ) → Option (List ℕ) → Type 0
 DoneTells words left left' held held' =
-    Prints words left left' held held' ⊎ (PlacesInput false words left left' held held' ⊎ PlacesInput true words left left' held held')
+    Prints words left left' held held'
+    ⊎ (PlacesInput false words left left' held held' ⊎ (PlacesInput true words left left' held held' ⊎ Cites words left left' held held'))
 
 -- THE ENDS OF A RUN
 -- writing was cut short: a write failed, or memory ran out

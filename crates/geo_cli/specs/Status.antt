@@ -1,7 +1,7 @@
 -- How a run ended.
 use Rattle.std.specs.Prelude.{ℕ, List, length}
 use Rattle.geo_cli.specs.declared.status.Status.{Status}
-use Rattle.geo_cli.specs.declared.status.Status.TheVariants.{Proved, False, Impossible, Usage, Syntax, TooLarge, Spent, Unmet}
+use Rattle.geo_cli.specs.declared.status.Status.TheVariants.{Proved, False, Impossible, Usage, Syntax, TooLarge, Spent, Unmet, NotInstance}
 use Rattle.geo_cli.specs.declared.status.Status.TheVariants.{ReadFault, WriteFault, NoMemory, Rejected, TooLong, Done}
 use Rattle.geo_logs.specs.Ends.{Ending, ends_by, ends_with, too_long}
 use Rattle.geo_logs.specs.Judging.{Refusal, number_of, rejected, stopped}
@@ -26,6 +26,7 @@ status_number (Rejected line reason) = 11
 status_number TooLong = 12
 status_number Done = 13
 status_number (Unmet k) = 15
+status_number (NotInstance line) = 16
 
 -- the answer that tells a verdict
 abbrev pub verdict_status : Verdict → Status

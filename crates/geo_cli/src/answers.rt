@@ -1,7 +1,7 @@
 //! The texts that a run writes besides logs.
-ghost use Rattle.std.specs.Prelude.{◌≡◌, ◌≢◌, ◌≤◌, ◌∷◌, ◌++◌, [], codes, IfOk, OnOk};
+ghost use Rattle.std.specs.Prelude.{◌≡◌, ◌≢◌, ◌≤◌, ◌∷◌, ◌++◌, [], IfOk, OnOk};
 ghost use Rattle.std.specs.Fmt.{decimal};
-ghost use Rattle.geo_cli.specs.Due.{count_line, syntax_line};
+ghost use Rattle.geo_cli.specs.Due.{count_line, rejected_line, syntax_line};
 ghost use Rattle.geo_cli.specs.Run.{IsAnswered};
 ghost use Rattle.proof_log.specs.Lines.{verdict_text};
 
@@ -47,8 +47,7 @@ pub fn syntax_line(alloc: Global, fault: Fault) -> Result<Text, NoMemory>
 
 /// The line that tells at which line a log is rejected, and the number of the reason.
 pub fn rejected_line(alloc: Global, line: u64, reason: u32) -> Result<Text, NoMemory>
-    ensures { IfOk result (λ text.
-        text ≡ codes "rejected " ++ decimal line ++ codes " " ++ decimal reason ++ 10 ∷ []) }
+    ensures { IfOk result (λ text. text ≡ rejected_line line reason) }
 {
     let mut bytes = Vec::from_slice(alloc, b"rejected ")?;
     push_decimal(alloc, &mut bytes, line as i128).map_err(|_| NoMemory)?;

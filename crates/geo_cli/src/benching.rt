@@ -103,7 +103,7 @@ fn tell_summary(alloc: Global, summary: Summary) -> Result<Report, NoMemory>
 }
 
 /// How a log ends by a stop, which has this line and this status.
-fn tell_stop(alloc: Global, stop: &Line, status: Status) -> Result<Report, NoMemory>
+pub fn tell_stop(alloc: Global, stop: &Line, status: Status) -> Result<Report, NoMemory>
     requires { IsWritable stop.now }
     ensures { IfOk result (λ report. report ≡ stop_report stop.now status) }
 {

@@ -1,6 +1,7 @@
 //! Proves a statement of plane geometry that standard input spells, and writes the log of the
 //! proof; or checks a log that standard input gives, or writes it as a proof that a person reads;
-//! or proves a generated program; or places or draws the points of a program at given values.
+//! or proves a generated program; or places or draws the points of a program at given values; or
+//! cites the theorem of a log at another figure.
 #![tactic(auto)]
 
 use crate::run::run;
@@ -14,6 +15,7 @@ mod acceptance;
 mod answers;
 mod benching;
 mod checking;
+mod citing;
 mod judging;
 mod numbers;
 mod order;

@@ -27,6 +27,8 @@ pub enum Command {
     Place,
     /// Draw the points of a program at values.
     Figure,
+    /// Cite the theorem of a log at a program.
+    Cite,
     /// Prove the generated program of this number, from 1 to 60.
     Bench(u32),
 }
@@ -165,6 +167,7 @@ fn plain_command(name: &str) -> Option<Command>
         "text" => Some(Command::Text),
         "place" => Some(Command::Place),
         "figure" => Some(Command::Figure),
+        "cite" => Some(Command::Cite),
         _ => None,
     }
 }

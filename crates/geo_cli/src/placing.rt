@@ -3,7 +3,7 @@
 ghost use Rattle.std.specs.Prelude.{◌≡◌, ◌≢◌, ◌+◌, ◌≤◌, ◌<◌, ◌^◌, All, IfOk, length, true};
 ghost use Rattle.std.specs.Prelude.{unsigned_abs};
 ghost use Rattle.geo_cli.specs.Due.{IsDueForValues, IsRestDue, IsValuesDue, TellsPoints};
-ghost use Rattle.geo_cli.specs.Due.{fault_due, stop_due, unmet_line};
+ghost use Rattle.geo_cli.specs.Due.{fault_due, large_due, unmet_line};
 ghost use Rattle.geo_cli.specs.Inner.Answering.{AnswersDue, AnswersInput};
 ghost use Rattle.geo_cli.specs.Inner.Telling.{due_of};
 ghost use Rattle.geo_cli.specs.Input.{Takes, program_limit};
@@ -155,7 +155,7 @@ fn report_drawing(alloc: Global, placed: &Placed) -> Result<Report, NoMemory>
 }
 
 /// What is to be written for a refusal at this place.
-fn report_fault(alloc: Global, refusal: u32, place: u64) -> Result<Report, NoMemory>
+pub fn report_fault(alloc: Global, refusal: u32, place: u64) -> Result<Report, NoMemory>
     ensures { IfOk result (λ r. due_of r ≡ fault_due refusal place) }
 {
     Ok(Report {
@@ -180,7 +180,7 @@ fn report_unmet(alloc: Global, number: u32) -> Result<Report, NoMemory>
 
 /// What is to be written for a number that is too large, at this line.
 fn report_stop(alloc: Global, line: u64) -> Result<Report, NoMemory>
-    ensures { IfOk result (λ r. due_of r ≡ stop_due line) }
+    ensures { IfOk result (λ r. due_of r ≡ large_due line) }
 {
     let which = Which::Norm;
     Ok(Report {

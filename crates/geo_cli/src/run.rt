@@ -1,14 +1,15 @@
 //! A run of the program, over any source and sink.
 ghost use Rattle.std.specs.Prelude.{◌≡◌, ◌≢◌, ◌≤◌, ◌⊎◌, ℕ};
 ghost use Rattle.geo_base.specs.Devices.{Grows, HasRisen};
-ghost use Rattle.geo_cli.specs.Due.{Due, IsCalledFor};
+ghost use Rattle.geo_cli.specs.Due.{AsksForLog, Due, IsCalledFor};
 ghost use Rattle.geo_cli.specs.Inner.Answering.{AnswersCommand, HasNumber};
 ghost use Rattle.geo_cli.specs.Enough.{AsksForFirstForm, IsDecisive};
 ghost use Rattle.geo_cli.specs.Input.{Takes, limit_of};
 ghost use Rattle.geo_cli.specs.Orders.{IsOrder};
 ghost use Rattle.geo_cli.specs.declared.order.Command.TheVariants.{Bench};
 ghost use Rattle.geo_cli.specs.declared.order.Order.{Order};
-ghost use Rattle.geo_cli.specs.Run.{DoneTells, Ends, PlacesNone, VerdictAccepted, VerdictTells};
+ghost use Rattle.geo_cli.specs.Run.{CitesNone, DoneTells, Ends, PlacesNone};
+ghost use Rattle.geo_cli.specs.Run.{VerdictAccepted, VerdictTells};
 ghost use Rattle.geo_cli.specs.Status.{verdict_status};
 ghost use Rattle.geo_cli.specs.Words.{ReadsNothing, bytes_of_words};
 ghost use Rattle.proof_log.specs.declared.log.Verdict.{Verdict};
@@ -16,6 +17,7 @@ ghost use Rattle.proof_log.specs.declared.log.Verdict.{Verdict};
 use crate::answers::{USAGE, answer};
 use crate::benching::run_bench;
 use crate::checking::run_check;
+use crate::citing::run_cite;
 use crate::order::{Command, Order, order_of};
 use crate::placing::run_place;
 use crate::printing::run_text;
@@ -28,8 +30,9 @@ use std::alloc::Global;
 /// its end, and writes its log to the sink, each line when it is made. For `check` and `text` it
 /// reads a log to its end, and then writes what it tells, or the log as a proof that a person
 /// reads. For `place` and `figure` it reads values and a program to their end, and then writes
-/// the program's points at these values, or draws them. For `bench` it reads nothing. It writes
-/// nothing before the words and the reading are done.
+/// the program's points at these values, or draws them. For `cite` it reads a log, names and a
+/// program to the end, and then writes the statement that they cite. For `bench` it reads nothing.
+/// It writes nothing before the words and the reading are done.
 pub fn run<S: Source, K: Sink>(
     alloc: Global,
     words: &Vec<String>,
@@ -48,6 +51,8 @@ pub fn run<S: Source, K: Sink>(
     ensures unmet { (number : ℕ) → result ≡ Status.Unmet number
         → PlacesNone (bytes_of_words words.now.items) (S.left source.old) (S.left source.new)
         number }
+    ensures no_instance { (line : ℕ) → result ≡ Status.NotInstance line
+        → CitesNone (bytes_of_words words.now.items) (S.left source.old) (S.left source.new) line }
     ensures ends { Ends (bytes_of_words words.now.items) (S.left source.old) (S.left source.new)
         (S.faults source.old) (S.faults source.new) (K.faults sink.old) (K.faults sink.new)
         (K.held sink.old) (K.held sink.new) result }
@@ -66,6 +71,8 @@ pub fn run<S: Source, K: Sink>(
         → IsCalledFor (bytes_of_words words.now.items) (S.left source.old) due
         → IsCalledFor (bytes_of_words words.now.items) (S.left source.old) other
         → due ≡ other }
+    ensures some { AsksForLog (bytes_of_words words.now.items) (S.left source.old)
+        → (due : Due) × IsCalledFor (bytes_of_words words.now.items) (S.left source.old) due }
     ensures taken { (order : Order) → IsOrder (bytes_of_words words.now.items) order
         → Takes (limit_of order.command) (S.left source.old) (S.left source.new) }
     ensures unread { ReadsNothing (bytes_of_words words.now.items) → source.new ≡ source.old }
@@ -109,6 +116,7 @@ fn carry_out<S: Source, K: Sink>(
         Command::Text => run_text(alloc, order.steps, source, sink),
         Command::Place => run_place(alloc, false, source, sink),
         Command::Figure => run_place(alloc, true, source, sink),
+        Command::Cite => run_cite(alloc, order.steps, source, sink),
         Command::Bench(number) => run_bench(alloc, number, order.steps, sink),
     }
 }

@@ -52,10 +52,15 @@ pub enum Status {
     },
     /// The input, or the log, is longer than its limit.
     TooLong,
-    /// A readable proof, placed points or a drawing is written.
+    /// A readable proof, placed points or a drawing is written, or a statement is cited.
     Done,
     /// No placement with the values meets the program: the number of the condition that is not met.
     Unmet(u32),
+    /// The citing program is no instance of the cited one.
+    NotInstance {
+        /// The line of the cited program that asks what is not so, from 1.
+        line: u64,
+    },
 }
 
 impl Status {
@@ -78,6 +83,7 @@ impl Status {
             Status::TooLong => 12,
             Status::Done => 13,
             Status::Unmet(_) => 15,
+            Status::NotInstance { .. } => 16,
         }
     }
 

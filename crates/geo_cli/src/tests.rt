@@ -7,6 +7,7 @@ use std::process::Abort;
 use std::test::Fail;
 
 mod checking;
+mod citing;
 mod placing;
 mod printing;
 mod stated_budget;

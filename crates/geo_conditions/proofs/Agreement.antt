@@ -24,7 +24,8 @@ use Rattle.geo_points.proofs.Same.{flip_point, minus-same}
 use Rattle.geo_lowering.proofs.Up.{AllStand, AllSame}
 use Rattle.geo_lowering.proofs.Values.{AgreeBelow, IsOver, over_expression, seen, renamed-has, renamed-value, value-same}
 use Rattle.geo_points.proofs.Zeros.{is_nonzero, not_same}
-use Rattle.geo_lowering.proofs.ZeroTerms.{collinear-is, parallel-is, perpendicular-is, identical-is, midpoint-is, same_length-is, concyclic-is, equal-is, different-is, not_collinear-is, not_parallel-is}
+use Rattle.geo_lowering.proofs.ZeroTerms.{collinear-is, parallel-is, perpendicular-is, identical-is, midpoint-is, same_length-is}
+use Rattle.geo_lowering.proofs.ZeroTerms.{concyclic-is, equal-is, different-is, not_collinear-is, not_parallel-is}
 use Rattle.geo_conditions.specs.Statements.{StatementHolds, ratio_goals, statement_goals}
 use Rattle.geo_conditions.specs.Terms.{condition_term, goal_term, HasNonzeroValue, HasZeroValue}
 
@@ -32,7 +33,8 @@ pub nonzero-same : (a b : Fraction) → Same a b → IsNonzero a → IsNonzero b
 nonzero-same a b h n = is_nonzero b (λ z. not_same a n (fractions.same_trans _ _ _ h z))
 
 -- the same values are 0 together
-pub zero-same : {A : Type 0} → (a b : Fraction) → Same a b → (A → Same a (whole (pos 0))) × (Same a (whole (pos 0)) → A) → (A → Unit {0} × Same b (whole (pos 0))) × (Unit {0} × Same b (whole (pos 0)) → A)
+pub zero-same : {A : Type 0} → (a b : Fraction) → Same a b → (A → Same a (whole (pos 0))) × (Same a (whole (pos 0)) → A)
+    → (A → Unit {0} × Same b (whole (pos 0))) × (Unit {0} × Same b (whole (pos 0)) → A)
 zero-same a b h e = (λ x. (tt, fractions.same_trans _ _ _ (fractions.same_sym _ _ h) (e.0 x)), λ x. e.1 (fractions.same_trans _ _ _ h x.1))
 
 -- and not 0 together
@@ -99,7 +101,8 @@ module _ (version : Version) (p : Source) (V L : Placement) (x y j : ℕ) where
         denied-same _ _ (signed_area-same _ _ _ _ _ _ (g.points a.0 o.0) (g.points b.0 o.1) (g.points c.0 o.2)) (not_collinear-is (V.point a.0) (V.point b.0) (V.point c.0))
     condition_is (not_parallel a b c d) o =
         let e = denied-same _ _
-        (minus-same _ _ _ _ (signed_area-same _ _ _ _ _ _ (g.points a.0 o.0) (g.points c.0 o.2) (g.points d.0 o.3)) (signed_area-same _ _ _ _ _ _ (g.points b.0 o.1) (g.points c.0 o.2) (g.points d.0 o.3)))
+        (minus-same _ _ _ _ (signed_area-same _ _ _ _ _ _ (g.points a.0 o.0) (g.points c.0 o.2) (g.points d.0 o.3))
+        (signed_area-same _ _ _ _ _ _ (g.points b.0 o.1) (g.points c.0 o.2) (g.points d.0 o.3)))
         (not_parallel-is (V.point a.0) (V.point b.0) (V.point c.0) (V.point d.0)) in (λ h. ((tt, tt), (e.0 h).1), λ h. e.1 (tt, h.1))
     condition_is (crossing a b) o =
         let e = crossing-is _ _ _ _ _ _ (g.lines a.0 o.0) (g.lines b.0 o.1) in (λ h. ((tt, tt), e.0 h), λ h. e.1 h.1)
@@ -111,7 +114,9 @@ module _ (version : Version) (p : Source) (V L : Placement) (x y j : ℕ) where
     -- GOALS
     pub parallel_zero : (a b c d : ℕ) → a < x → b < x → c < x → d < x
         → (cross_product (V.point a) (V.point b) (V.point c) (V.point d) ≡ pos 0)
-        ↔ ((Unit {0} × Unit {0}) × Same (minus (signed_area (L.point (l.point a)) (L.point (l.point c)) (L.point (l.point d))) (signed_area (L.point (l.point b)) (L.point (l.point c)) (L.point (l.point d)))) (whole (pos 0)))
+        ↔ ((Unit {0} × Unit {0}) × Same
+        (minus (signed_area (L.point (l.point a)) (L.point (l.point c)) (L.point (l.point d)))
+        (signed_area (L.point (l.point b)) (L.point (l.point c)) (L.point (l.point d)))) (whole (pos 0)))
     parallel_zero a b c d ha hb hc hd =
         let e = zero-same _ _
         (minus-same _ _ _ _ (signed_area-same _ _ _ _ _ _ (g.points a ha) (g.points c hc) (g.points d hd)) (signed_area-same _ _ _ _ _ _ (g.points b hb) (g.points c hc) (g.points d hd)))
@@ -183,18 +188,21 @@ module _ (version : Version) (p : Source) (V L : Placement) (x y j : ℕ) where
         let e = zero-same _ _ (areas a.0 b.0 c.0 o.0 o.1 o.2) (collinear-is (V.point a.0) (V.point b.0) (V.point c.0)) in (λ h. (e.0 h, tt), λ h. e.1 h.0)
     statement_is (Parallel a b c d) o = let e = parallel_zero a.0 b.0 c.0 d.0 o.0 o.1 o.2 o.3 in (λ h. (e.0 h, tt), λ h. e.1 h.0)
     statement_is (Perpendicular a b c d) o =
-        let e = zero-same _ _ (minus-same _ _ _ _ (differences a.0 c.0 d.0 o.0 o.2 o.3) (differences b.0 c.0 d.0 o.1 o.2 o.3)) (perpendicular-is (V.point a.0) (V.point b.0) (V.point c.0) (V.point d.0)) in
+        let e = zero-same _ _ (minus-same _ _ _ _ (differences a.0 c.0 d.0 o.0 o.2 o.3) (differences b.0 c.0 d.0 o.1 o.2 o.3))
+        (perpendicular-is (V.point a.0) (V.point b.0) (V.point c.0) (V.point d.0)) in
         (λ h. (((tt, tt), (e.0 h).1), tt), λ h. e.1 (tt, h.0.1))
     statement_is (Identical a b) o =
         let e = zero-same _ _ (differences a.0 b.0 a.0 o.0 o.1 o.0) (identical-is (V.point a.0) (V.point b.0)) in (λ h. (e.0 h, tt), λ h. e.1 h.0)
     statement_is (Midpoint m a b) o =
         let two = fractions.same_refl (whole (pos 2)) in
         let e = zero-same _ _
-        (minus-same _ _ _ _ (F.plus-same _ _ _ _ (F.times-same _ _ _ _ two (differences a.0 m.0 a.0 o.1 o.0 o.1)) (F.times-same _ _ _ _ two (differences b.0 m.0 b.0 o.2 o.0 o.2))) (differences a.0 b.0 a.0 o.1 o.2 o.1))
+        (minus-same _ _ _ _ (F.plus-same _ _ _ _ (F.times-same _ _ _ _ two (differences a.0 m.0 a.0 o.1 o.0 o.1))
+        (F.times-same _ _ _ _ two (differences b.0 m.0 b.0 o.2 o.0 o.2))) (differences a.0 b.0 a.0 o.1 o.2 o.1))
         (midpoint-is (V.point m.0) (V.point a.0) (V.point b.0)) in
         (λ h. (((((tt, tt), (tt, tt)), tt), (e.0 h).1), tt), λ h. e.1 (tt, h.0.1))
     statement_is (SameLength a b c d) o =
-        let e = zero-same _ _ (minus-same _ _ _ _ (differences a.0 b.0 a.0 o.0 o.1 o.0) (differences c.0 d.0 c.0 o.2 o.3 o.2)) (same_length-is (V.point a.0) (V.point b.0) (V.point c.0) (V.point d.0)) in
+        let e = zero-same _ _ (minus-same _ _ _ _ (differences a.0 b.0 a.0 o.0 o.1 o.0) (differences c.0 d.0 c.0 o.2 o.3 o.2))
+        (same_length-is (V.point a.0) (V.point b.0) (V.point c.0) (V.point d.0)) in
         (λ h. (((tt, tt), (e.0 h).1), tt), λ h. e.1 (tt, h.0.1))
     statement_is (Harmonic a b c d) o =
         let A = g.points a.0 o.0 in let B = g.points b.0 o.1 in let C = g.points c.0 o.2 in let D = g.points d.0 o.3 in
@@ -215,6 +223,7 @@ module _ (version : Version) (p : Source) (V L : Placement) (x y j : ℕ) where
         )
     statement_is (Concyclic a b c d) o =
         let e = zero-same _ _
-        (minus-same _ _ _ _ (F.times-same _ _ _ _ (areas c.0 a.0 d.0 o.2 o.0 o.3) (differences c.0 b.0 d.0 o.2 o.1 o.3)) (F.times-same _ _ _ _ (differences c.0 a.0 d.0 o.2 o.0 o.3) (areas c.0 b.0 d.0 o.2 o.1 o.3)))
+        (minus-same _ _ _ _ (F.times-same _ _ _ _ (areas c.0 a.0 d.0 o.2 o.0 o.3) (differences c.0 b.0 d.0 o.2 o.1 o.3))
+        (F.times-same _ _ _ _ (differences c.0 a.0 d.0 o.2 o.0 o.3) (areas c.0 b.0 d.0 o.2 o.1 o.3)))
         (concyclic-is (V.point a.0) (V.point b.0) (V.point c.0) (V.point d.0)) in
         (λ h. ((((tt, tt), (tt, tt)), (e.0 h).1), tt), λ h. e.1 (tt, h.0.1))

@@ -1,5 +1,6 @@
 -- Conditions and goals are equal or not, so each list is there.
-use Rattle.std.proofs.Common.{◌≡◌, ℕ, zero, suc, ◌<◌, Bool, true, false, ◌⊎◌, inl, inr, ⊎_elim, ℤ, pos, negsuc, Contains, List, [], ◌∷◌, ◌++◌, length, get_or, map, refl, sym, ap, subst, ◌∙◌, true≢false, rules, arith}
+use Rattle.std.proofs.Common.{◌≡◌, ℕ, zero, suc, ◌<◌, Bool, true, false, ◌⊎◌, inl, inr, ⊎_elim, ℤ, pos, negsuc, Contains, List, [], ◌∷◌}
+use Rattle.std.proofs.Common.{◌++◌, length, get_or, map, refl, sym, ap, subst, ◌∙◌, true≢false, rules, arith}
 use Rattle.std.proofs.lemmas.Bool.Decides.{eqb_tells}
 use Rattle.std.proofs.lemmas.List.Elements.{Contains-append_right, Contains-get_or}
 use Rattle.geo_points.specs.declared.ids.PointId.{PointId}
@@ -74,7 +75,9 @@ same_tree (ratio_leaf a b c d) (ratio_leaf p q r s) =
 same_tree (negation e) (negation f) = decided_by (ap negation) (λ h. let k : e ≡ f = cc in k) (same_tree e f)
 same_tree (addition e f) (addition g h) = decided_by (λ k i. addition (k.0 i) (k.1 i)) (λ k. let x : e ≡ g = cc in let y : f ≡ h = cc in (x, y)) (and_also (same_tree e g) (same_tree f h))
 same_tree (subtraction e f) (subtraction g h) = decided_by (λ k i. subtraction (k.0 i) (k.1 i)) (λ k. let x : e ≡ g = cc in let y : f ≡ h = cc in (x, y)) (and_also (same_tree e g) (same_tree f h))
-same_tree (multiplication e f) (multiplication g h) = decided_by (λ k i. multiplication (k.0 i) (k.1 i)) (λ k. let x : e ≡ g = cc in let y : f ≡ h = cc in (x, y)) (and_also (same_tree e g) (same_tree f h))
+same_tree (multiplication e f) (multiplication g h) =
+    decided_by (λ k i. multiplication (k.0 i) (k.1 i)) (λ k. let x : e ≡ g = cc in let y : f ≡ h = cc in (x, y))
+    (and_also (same_tree e g) (same_tree f h))
 same_tree (division e f) (division g h) = decided_by (λ k i. division (k.0 i) (k.1 i)) (λ k. let x : e ≡ g = cc in let y : f ≡ h = cc in (x, y)) (and_also (same_tree e g) (same_tree f h))
 same_tree s t = inr (λ e. let kinds : tree_kind s ≡ tree_kind t = ap tree_kind e in absurd (omega arith))
 

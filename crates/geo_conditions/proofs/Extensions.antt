@@ -28,7 +28,8 @@ use Rattle.geo_conditions.specs.Lists.{Found, found_at, found_from, all_found}
 use Rattle.geo_conditions.specs.Statements.{statement_conditions}
 
 -- all lines stand on their pairs
-stands_all : (version : Version) (s : Source) (V L : Placement) (cs : List Command) (x y j n m : ℕ) → AllSame version (layout_of version s.commands) s.nodes V L (lines_of V s.commands) (points_from x cs)
+stands_all : (version : Version) (s : Source) (V L : Placement) (cs : List Command) (x y j n m : ℕ)
+    → AllSame version (layout_of version s.commands) s.nodes V L (lines_of V s.commands) (points_from x cs)
     → AreNamed s.nodes x y j cs → AreLaid version (layout_of version s.commands) x y j n m cs → AreDrawn V (lines_of V s.commands) j cs
     → AllStand version (layout_of version s.commands) s.nodes V L (lines_of V s.commands) j → AreFormsMet L n (steps_from version (layout_of version s.commands) s.nodes n m cs)
     → AllStand version (layout_of version s.commands) s.nodes V L (lines_of V s.commands) (lines_past j cs)
@@ -72,9 +73,12 @@ module _ (s : Source) (V : Placement) where
   met_commands (c ∷ cs) x line h =
       let here = found_at line (command_conditions s.nodes (record { 0 = x }) c) in
       let rest = found_from s.nodes (counted kind.Point (named c) x) (suc line) cs in (
-        All-from_recursion (IsConditionMet s V) (command_conditions s.nodes (record { 0 = x }) c) (of_line line (command_conditions s.nodes (record { 0 = x }) c) (each_front (λ f. IsConditionMet s V f.condition) here rest h)),
+        All-from_recursion (IsConditionMet s V) (command_conditions s.nodes (record { 0 = x }) c)
+            (of_line line (command_conditions s.nodes (record { 0 = x }) c) (each_front (λ f. IsConditionMet s V f.condition) here rest h)),
         met_commands cs _ (suc line) (each_back (λ f. IsConditionMet s V f.condition) here rest h),
       )
 
   pub met_program : Met (all_found s) → AreConditionsMet s V 0 s.commands
-  met_program h = met_commands s.commands 0 1 (each_front (λ f. IsConditionMet s V f.condition) (found_from s.nodes 0 1 s.commands) (found_at (suc (length s.commands)) (statement_conditions s.nodes s.statement)) h)
+  met_program h =
+      met_commands s.commands 0 1 (each_front (λ f. IsConditionMet s V f.condition) (found_from s.nodes 0 1 s.commands)
+      (found_at (suc (length s.commands)) (statement_conditions s.nodes s.statement)) h)

@@ -96,7 +96,8 @@ module _ (p : Source) (w : IsWellFormed p) where
 
   pairs : (s : Statement) → IsStatementOver p.nodes N (whole_scope p.names).params s → AllByRecursion IsGoal (pair_goals p.nodes s)
   pairs (statement.Equal e f) o =
-      each_append IsGoal (ratio_goals (tree_of p.nodes e)) (ratio_goals (tree_of p.nodes f)) (ratios (whole_scope p.names).params (tree_of p.nodes e) o.0) (ratios (whole_scope p.names).params (tree_of p.nodes f) o.1)
+      each_append IsGoal (ratio_goals (tree_of p.nodes e)) (ratio_goals (tree_of p.nodes f))
+      (ratios (whole_scope p.names).params (tree_of p.nodes e) o.0) (ratios (whole_scope p.names).params (tree_of p.nodes f) o.1)
   pairs (statement.Harmonic a b c d) o =
       (record { arguments = (o.0, (o.2, (o.2, (o.1, tt)))); sides = tt }, (record { arguments = (o.0, (o.3, (o.1, (o.3, tt)))); sides = tt }, tt))
   pairs (statement.Collinear a b c) o = tt
@@ -110,7 +111,8 @@ module _ (p : Source) (w : IsWellFormed p) where
   all_printable : AllByRecursion IsGoal (statement_goals p.nodes p.statement)
   all_printable =
       let own : IsGoal p.statement = record { arguments = recursion_from_All (IsArgument (whole_scope p.names)) (statement_form p.nodes p.statement).arguments w.statement; sides = w.sides } in
-      let over : IsStatementOver p.nodes N (whole_scope p.names).params p.statement = subst (λ (s : Scope). IsStatementOver p.nodes s.points s.params p.statement) (sym whole) (program_statement_over p w) in
+      let over : IsStatementOver p.nodes N (whole_scope p.names).params p.statement = subst
+      (λ (s : Scope). IsStatementOver p.nodes s.points s.params p.statement) (sym whole) (program_statement_over p w) in
       each_append IsGoal (pair_goals p.nodes p.statement) (p.statement ∷ []) (pairs p.statement over) (own, tt)
 
   pub goals_printable : (goals : List Statement) → AreGoals p goals → AllByRecursion IsGoal goals
@@ -141,7 +143,8 @@ module _ (p : Source) (store : IsStore p.nodes) (w : IsWellFormed p) where
   printable : (s : Scope) → whole_scope p.names ≡ s → (c : Condition) → IsConditionOver s.points s.params s.lines (condition_of p.nodes c) → IsKept p.nodes c → IsPrintableCondition p.names p.nodes c
   printable s e c o k = by c (subst (λ (t : Scope). IsConditionOver t.points t.params t.lines (condition_of p.nodes c)) (sym e) o) k
     where
-      by : (c : Condition) → IsConditionOver (whole_scope p.names).points (whole_scope p.names).params (whole_scope p.names).lines (condition_of p.nodes c) → IsKept p.nodes c → IsPrintableCondition p.names p.nodes c
+      by : (c : Condition) → IsConditionOver (whole_scope p.names).points (whole_scope p.names).params (whole_scope p.names).lines
+          (condition_of p.nodes c) → IsKept p.nodes c → IsPrintableCondition p.names p.nodes c
       by (Different a b) o k = (o.0, (o.1, tt))
       by (NotCollinear a b c) o k = (o.0, (o.1, (o.2, tt)))
       by (NotParallel a b c d) o k = (o.0, (o.1, (o.2, (o.3, tt))))

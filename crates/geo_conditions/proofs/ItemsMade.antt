@@ -4,7 +4,6 @@ use Rattle.std.specs.List.{AllByRecursion}
 use Rattle.std.proofs.lemmas.List.{map_push}
 use Rattle.geo_terms.specs.Constructions.{Construction}
 use Rattle.geo_terms.specs.Stores.{Store}
-use Rattle.geo_terms.specs.Trees.{Tree, subtraction}
 use Rattle.geo_program.specs.declared.statements.Statement.{Statement}
 use Rattle.geo_program.specs.declared.statements.Statement.TheVariants as statement
 use Rattle.geo_lowering.specs.Inner.Renaming.{item_at}
@@ -13,42 +12,18 @@ use Rattle.geo_conditions.specs.declared.conditions.Condition.{Condition}
 use Rattle.geo_conditions.specs.declared.conditions.Condition.TheVariants as condition
 use Rattle.geo_conditions.specs.declared.items.Item.{Item}
 use Rattle.geo_conditions.specs.declared.item_terms.Places.{Places}
-use Rattle.geo_conditions.specs.Inner.ConditionLists.{condition_of}
-use Rattle.geo_conditions.specs.Inner.ItemForms.{AreItems, ArePlaced, HasItem, places_layout}
-use Rattle.geo_conditions.specs.Inner.ItemTerms.{AreSidesWithin, HasTerm, IsItemStored, IsTermWithin, Keeps, condition_item_term, goal_item_term, item_tree}
+use Rattle.geo_conditions.specs.Inner.ItemForms.{AreItems, ArePlaced, HasItem}
+use Rattle.geo_conditions.specs.Inner.ItemTerms.{AreSidesWithin, IsItemStored, IsTermWithin, Keeps, condition_item_term, goal_item_term}
 use Rattle.geo_conditions.specs.Lists.{ItemForm, item_form}
-use Rattle.geo_conditions.specs.Terms.{condition_term, goal_term}
 use Rattle.geo_conditions.proofs.TermsInterned.{still_stored}
 
 module _ (terms nodes : Store) (places : Places) (h : ArePlaced terms nodes places) where
-  -- the term that is made for a condition is the condition's
-  pub condition_tree : (c : Condition) → IsTermWithin (length places.terms.now) c
-      → item_tree nodes (condition_item_term places.points.now places.lines.now places.terms.now c) ≡ condition_term (places_layout places) (condition_of terms c)
-  condition_tree (condition.Different a b) k = refl
-  condition_tree (condition.NotCollinear a b c) k = refl
-  condition_tree (condition.NotParallel a b c d) k = refl
-  condition_tree (condition.Crossing a b) k = refl
-  condition_tree (condition.Nonzero e) k = h.renamed.trees e.0 k
-
   pub condition_stored : (c : Condition) → IsTermWithin (length places.terms.now) c → IsItemStored nodes (condition_item_term places.points.now places.lines.now places.terms.now c)
   condition_stored (condition.Different a b) k = tt
   condition_stored (condition.NotCollinear a b c) k = tt
   condition_stored (condition.NotParallel a b c d) k = tt
   condition_stored (condition.Crossing a b) k = tt
   condition_stored (condition.Nonzero e) k = h.renamed.stored e.0 k
-
-  -- the term that is made for a goal is the goal's
-  pub goal_tree : (g : Statement) → AreSidesWithin (length places.terms.now) g
-      → item_tree nodes (goal_item_term places.points.now places.terms.now g) ≡ goal_term (places_layout places) terms g
-  goal_tree (statement.Equal e f) k = λ i. subtraction (h.renamed.trees e.0 k.0 i) (h.renamed.trees f.0 k.1 i)
-  goal_tree (statement.Collinear a b c) k = refl
-  goal_tree (statement.Parallel a b c d) k = refl
-  goal_tree (statement.Perpendicular a b c d) k = refl
-  goal_tree (statement.Identical a b) k = refl
-  goal_tree (statement.Midpoint m a b) k = refl
-  goal_tree (statement.SameLength a b c d) k = refl
-  goal_tree (statement.Harmonic a b c d) k = refl
-  goal_tree (statement.Concyclic a b c d) k = refl
 
   pub goal_stored : (g : Statement) → AreSidesWithin (length places.terms.now) g → IsItemStored nodes (goal_item_term places.points.now places.terms.now g)
   goal_stored (statement.Equal e f) k = (h.renamed.stored e.0 k.0, h.renamed.stored f.0 k.1)
@@ -69,15 +44,6 @@ still_placed terms places one two keeps h = record {
     stored = λ k b. still_stored one two (item_at places.terms.now (record { 0 = k })) keeps (h.renamed.stored k b);
     trees = λ k b. keeps.trees (item_at places.terms.now (record { 0 = k })) (h.renamed.stored k b) ∙ h.renamed.trees k b;
   };
-}
-
--- an item of a text and of a term
-pub made_item : (old new : Construction) (item : Item) (text : List ℕ) (made wanted : Tree) → item.text ≡ text → HasTerm old new item.term made → made ≡ wanted
-    → HasItem old new item (record { text = text; term = wanted; line = item.line })
-made_item old new item text made wanted spelt h is = record {
-  keeps = h.keeps;
-  stored = h.stored;
-  is = λ i. record { text = spelt i; term = (h.is ∙ is) i; line = item.line };
 }
 
 -- items stay what they are

@@ -169,7 +169,8 @@ module _ (nodes : Store) where
     pub walked_before : (list : ConditionList) (e : TermId) (line : ℕ) → IsConditionList nodes list → list_any (eq e) list.walked.keys ≡ true → Lists nodes list list (conditions_at line e)
     walked_before list e line h there =
         let items = list.items.items in
-        let all : IsWalked items e = held (λ f. f) (IsWalked items) list.walked.keys e h.walked (subst (λ es. Contains es e) (map_same list.walked.keys) (Contains-list_any eq same list.walked.keys e there)) in
+        let all : IsWalked items e = held (λ f. f) (IsWalked items) list.walked.keys e h.walked
+        (subst (λ es. Contains es e) (map_same list.walked.keys) (Contains-list_any eq same list.walked.keys e there)) in
         record { valid = h; leads = leads_known key (found items) (conditions_at line e) (at_line line (Contains (map key (found items))) (expression_conditions (tree_of nodes e)) all) }
       where
         map_same : (es : List TermId) → es ≡ map (λ f. f) es
@@ -221,7 +222,8 @@ module _ (nodes : Store) where
     pub second : HasBraces nodes g
     pub falls : max (nesting (tree_of nodes f)) (nesting (tree_of nodes g)) < nesting (tree_of nodes e)
 
-  two_parts : (e f g : TermId) → HasBraces nodes e → (f.0 < length nodes) × (g.0 < length nodes) → nesting (tree_of nodes e) ≡ suc (max (nesting (tree_of nodes f)) (nesting (tree_of nodes g))) → HasParts e f g
+  two_parts : (e f g : TermId) → HasBraces nodes e → (f.0 < length nodes) × (g.0 < length nodes)
+      → nesting (tree_of nodes e) ≡ suc (max (nesting (tree_of nodes f)) (nesting (tree_of nodes g))) → HasParts e f g
   two_parts e f g h within is =
       let shallow : nesting (tree_of nodes e) ≤ 128 = h.1 in
       record { first = (within.0, omega arith); second = (within.1, omega arith); falls = omega arith }

@@ -125,5 +125,6 @@ module _ (nodes : Store) where
   listed_goals start one two three xs ys all g none f h k is =
       let ends : IsListed itself start.goals.keys (((xs ++ ys) ++ g ∷ []) ++ []) three.goals.keys =
       (lists_both start two three (xs ++ ys) (g ∷ []) (lists_both start one two xs ys f h) k).leads [] three.goals.keys refl in
-      let whole : IsListed itself start.goals.keys ((xs ++ ys) ++ g ∷ []) three.goals.keys = subst (λ l. IsListed itself start.goals.keys l three.goals.keys) (append-nil ((xs ++ ys) ++ g ∷ [])) ends in
+      let whole : IsListed itself start.goals.keys ((xs ++ ys) ++ g ∷ []) three.goals.keys = subst
+      (λ l. IsListed itself start.goals.keys l three.goals.keys) (append-nil ((xs ++ ys) ++ g ∷ [])) ends in
       subst₂ (λ l m. IsListed itself l (m ++ g ∷ []) three.goals.keys) none (sym is) whole

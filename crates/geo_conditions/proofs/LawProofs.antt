@@ -71,7 +71,8 @@ pub conditions_are_terms : ConditionsAreTerms
 conditions_are_terms version p l V L conditions i c =
     let h = to_forms version p l L i.form i.steps in
     All-from_recursion (λ f. IsConditionMet p V f.condition ↔ IsNonzeroCondition version p L f.condition) conditions
-    (listed_hold (λ f. f.condition) (λ k. IsConditionMet p V k ↔ IsNonzeroCondition version p L k) (all_found p) [] conditions c tt (are_both version p V L i.well_formed i.extends h (all_found p) (over version p V L i.well_formed i.extends h)))
+    (listed_hold (λ f. f.condition) (λ k. IsConditionMet p V k ↔ IsNonzeroCondition version p L k) (all_found p) [] conditions c tt
+    (are_both version p V L i.well_formed i.extends h (all_found p) (over version p V L i.well_formed i.extends h)))
 
 pub placements_lower : PlacementsLower
 placements_lower version p l V conditions w i c m =
@@ -126,7 +127,8 @@ module _ (version : Version) (p : Source) (given : Placement) (w : IsWellFormed 
         lines = stands_behind version p given L before (c ∷ rest) 0 0 0 0 0 k d r (λ i b. absurd (omega arith)) h;
       }
 
-  early_met : (V L : Placement) (x y j : ℕ) → Agrees version p V L x y j → (cs : List Condition) → AreOver x y j cs → AllByRecursion (IsNonzeroCondition version p L) cs → AllByRecursion (IsConditionMet p V) cs
+  early_met : (V L : Placement) (x y j : ℕ) → Agrees version p V L x y j → (cs : List Condition) → AreOver x y j cs
+      → AllByRecursion (IsNonzeroCondition version p L) cs → AllByRecursion (IsConditionMet p V) cs
   early_met V L x y j g [] o h = tt
   early_met V L x y j g (c ∷ cs) o h = ((condition_is version p V L x y j g c o.0).1 h.0, early_met V L x y j g cs o.1 h.1)
 

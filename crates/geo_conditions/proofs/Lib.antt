@@ -4,7 +4,7 @@ pub mod Extensions
 pub mod LawProofs
 pub mod Listings
 pub mod Ordering
-pub mod Samples
+pub mod Examples
 pub mod TermsInTurn
 pub mod Verdicts
 pub mod TermValues

@@ -22,7 +22,8 @@ use Rattle.geo_conditions.specs.Lists.{AreConditions, AreGoals, AreStoredConditi
 use Rattle.geo_conditions.proofs.ItemScopes.{named_few}
 
 -- the lists' layout is the program's
-pub same_layout : (version : Version) (cs : List Command) (places : Places) → map (λ a. a.0) places.points.now ≡ point_places version 0 cs → map pair_numbers places.lines.now ≡ line_places version (point_place version cs) 0 cs
+pub same_layout : (version : Version) (cs : List Command) (places : Places) → map (λ a. a.0) places.points.now ≡ point_places version 0 cs
+    → map pair_numbers places.lines.now ≡ line_places version (point_place version cs) 0 cs
     → map (λ t. t.0) places.params.now ≡ param_places 0 cs → places_layout places ≡ layout_of version cs
 same_layout version cs places x y z = λ i. record {
   point = λ a. slice_index_or (x i) a 0;
@@ -66,16 +67,21 @@ stored_goals version p nodes items goals are h = record {
 
 -- the printer's names and terms are the program's
 module _ (p : Source) (names : List Name) (terms : Store) (x : names ≡ p.names) (y : terms ≡ p.nodes) where
-  pub rows_by_names : (rows : List ListedCondition) → AllByRecursion (λ i. IsPrintableCondition p.names p.nodes i.condition) rows → AllByRecursion (λ i. IsPrintableCondition names terms i.condition) rows
+  pub rows_by_names : (rows : List ListedCondition) → AllByRecursion (λ i. IsPrintableCondition p.names p.nodes i.condition) rows
+      → AllByRecursion (λ i. IsPrintableCondition names terms i.condition) rows
   rows_by_names rows h = subst₂ (λ (ns : List Name) (ts : Store). AllByRecursion (λ i. IsPrintableCondition ns ts i.condition) rows) (sym x) (sym y) h
 
   pub goals_by_names : (goals : List Statement) → AllByRecursion (IsPrintableGoal p.names p.nodes) goals → AllByRecursion (IsPrintableGoal names terms) goals
   goals_by_names goals h = subst₂ (λ (ns : List Name) (ts : Store). AllByRecursion (IsPrintableGoal ns ts) goals) (sym x) (sym y) h
 
-  pub conditions_by : (version : Version) (l : Layout) (nodes : Store) (items : List Item) (rows listed : List ListedCondition) → l ≡ layout_of version p.commands → rows ≡ listed → AreConditions p (map (found_of p.nodes) listed)
+  pub conditions_by : (version : Version) (l : Layout) (nodes : Store) (items : List Item) (rows listed : List ListedCondition)
+      → l ≡ layout_of version p.commands → rows ≡ listed → AreConditions p (map (found_of p.nodes) listed)
       → AreItems nodes items (map (condition_item_form names terms l) rows) → AreStoredConditions version p nodes items
-  conditions_by version l nodes items rows listed z r are h = stored_conditions version p nodes items listed are (subst (AreItems nodes items) (λ i. map (condition_item_form (x i) (y i) (z i)) (r i)) h)
+  conditions_by version l nodes items rows listed z r are h =
+      stored_conditions version p nodes items listed are
+      (subst (AreItems nodes items) (λ i. map (condition_item_form (x i) (y i) (z i)) (r i)) h)
 
-  pub goals_by : (version : Version) (l : Layout) (line : ℕ) (nodes : Store) (items : List Item) (rows goals : List Statement) → l ≡ layout_of version p.commands → line ≡ suc (length p.commands) → rows ≡ goals → AreGoals p goals
+  pub goals_by : (version : Version) (l : Layout) (line : ℕ) (nodes : Store) (items : List Item) (rows goals : List Statement)
+      → l ≡ layout_of version p.commands → line ≡ suc (length p.commands) → rows ≡ goals → AreGoals p goals
       → AreItems nodes items (map (goal_item_form names terms l line) rows) → AreStoredGoals version p nodes items
   goals_by version l line nodes items rows goals z n r are h = stored_goals version p nodes items goals are (subst (AreItems nodes items) (λ i. map (goal_item_form (x i) (y i) (z i) (n i)) (r i)) h)

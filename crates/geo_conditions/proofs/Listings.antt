@@ -21,7 +21,8 @@ module _ {A B : Type 0} (key : A → B) (P : B → Type 0) where
   listed_hold [] listed result e h k = subst Each (sym e) h
   listed_hold (x ∷ xs) listed result e h k =
       ⊎_elim (λ (c : Contains (map key listed) (key x) × IsListed key listed xs result). listed_hold xs listed result c.1 h k.1)
-      (λ (c : (Contains (map key listed) (key x) → ⊥) × IsListed key (listed ++ x ∷ []) xs result). listed_hold xs (listed ++ x ∷ []) result c.1 (each_append (λ a. P (key a)) listed (x ∷ []) h (k.0, tt)) k.1) e
+      (λ (c : (Contains (map key listed) (key x) → ⊥) × IsListed key (listed ++ x ∷ []) xs result). listed_hold xs
+      (listed ++ x ∷ []) result c.1 (each_append (λ a. P (key a)) listed (x ∷ []) h (k.0, tt)) k.1) e
 
   -- and what holds of those that are listed holds of all
   pub all_hold : (xs listed result : List A) → IsListed key listed xs result → Each result → Each listed × Each xs

@@ -23,7 +23,8 @@ module _ (old new : Construction) (keeps : Keeps old new) where
   same_steps m [] h = refl
   same_steps m (s ∷ steps) h = λ i. same_step (h 0 s refl).0 m s (h 0 s refl).1 i ∷ same_steps m steps (λ k t e. h (suc k) t e) i
 
-pub still_lowered : (version : Version) (p : Source) (l : LoweredForm) (new : Construction) → IsLowered version p l → Keeps l.construction new → IsConstruction new → IsLowered version p (record l { construction = new })
+pub still_lowered : (version : Version) (p : Source) (l : LoweredForm) (new : Construction) → IsLowered version p l
+    → Keeps l.construction new → IsConstruction new → IsLowered version p (record l { construction = new })
 still_lowered version p l new h keeps valid = record {
   valid = valid;
   steps = ap (map (step_form new.nodes)) keeps.steps

@@ -43,14 +43,17 @@ module _ (version : Version) (p : Source) (V L : Placement) (x y j : ℕ) (g : A
   zero_terms [] h = tt
   zero_terms (s ∷ gs) h = (h.0.0, zero_terms gs h.1)
 
-  statement_term : (s : Statement) → IsStatementOver p.nodes x y s → AllByRecursion (IsConditionMet p V) (statement_conditions p.nodes s) → AllByRecursion (IsZeroGoal version p L) (pair_goals p.nodes s) → HasTerm s
+  statement_term : (s : Statement) → IsStatementOver p.nodes x y s → AllByRecursion (IsConditionMet p V) (statement_conditions p.nodes s)
+      → AllByRecursion (IsZeroGoal version p L) (pair_goals p.nodes s) → HasTerm s
   statement_term (Equal e f) o m z =
       let E = tree_of p.nodes e in let G = tree_of p.nodes f in
       let C = IsConditionMet p V in let Z = IsZeroGoal version p L in (
         (value_down version p V L x y j g E (over_expression x y true E o.0)
-            (has_value p V x y true E o.0 (each_front C (expression_conditions E) (expression_conditions G) m) (zero_ratios version p V L x y j g true E o.0 (each_front Z (ratio_goals E) (ratio_goals G) z)))).0,
+            (has_value p V x y true E o.0 (each_front C (expression_conditions E) (expression_conditions G) m)
+            (zero_ratios version p V L x y j g true E o.0 (each_front Z (ratio_goals E) (ratio_goals G) z)))).0,
         (value_down version p V L x y j g G (over_expression x y true G o.1)
-            (has_value p V x y true G o.1 (each_back C (expression_conditions E) (expression_conditions G) m) (zero_ratios version p V L x y j g true G o.1 (each_back Z (ratio_goals E) (ratio_goals G) z)))).0,
+            (has_value p V x y true G o.1 (each_back C (expression_conditions E) (expression_conditions G) m)
+            (zero_ratios version p V L x y j g true G o.1 (each_back Z (ratio_goals E) (ratio_goals G) z)))).0,
       )
   statement_term (Collinear a b c) o m z = tt
   statement_term (Parallel a b c d) o m z = (tt, tt)

@@ -78,4 +78,6 @@ terms_in_turn version p L before after f w c m =
     let H : Condition → Type 0 = IsNonzeroCondition version p L in
     let V : Tree → Type 0 = λ e. HasTreeValue L (renamed (layout_of version p.commands) e) in
     let ordered = listed_ordered p H V (renamed_value version p L) (all_found p) [] [] (before ++ f ∷ after) c (λ h. tt) (all_ordered p H V (renamed_value version p L) w) tt in
-    asked_value version p L f.condition (ordered_at p H V (renamed_value version p L) [] before after f ordered tt (recursion_from_All (λ (g : Found). IsNonzeroCondition version p L g.condition) before m))
+    asked_value version p L f.condition
+    (ordered_at p H V (renamed_value version p L) [] before after f ordered tt
+    (recursion_from_All (λ (g : Found). IsNonzeroCondition version p L g.condition) before m))

@@ -44,7 +44,11 @@ module _ (p : Source) (w : IsWellFormed p) where
   stands : (c : Condition) → IsOverNames c → MayAllStand (lexemes c)
   stands (different a b) o = (IsWord-tested (codes "different") refl, arguments_stand p.names w.names (point_argument a ∷ point_argument b ∷ []) (o.0, (o.1, tt)))
   stands (not_collinear a b c) o = (IsWord-tested (codes "not_collinear") refl, arguments_stand p.names w.names (point_argument a ∷ point_argument b ∷ point_argument c ∷ []) (o.0, (o.1, (o.2, tt))))
-  stands (not_parallel a b c d) o = (IsWord-tested (codes "not_parallel") refl, arguments_stand p.names w.names (point_argument a ∷ point_argument b ∷ point_argument c ∷ point_argument d ∷ []) (o.0, (o.1, (o.2, (o.3, tt)))))
+  stands (not_parallel a b c d) o = (
+    IsWord-tested (codes "not_parallel") refl,
+    arguments_stand p.names w.names (point_argument a ∷ point_argument b ∷ point_argument c ∷ point_argument d ∷ [])
+        (o.0, (o.1, (o.2, (o.3, tt)))),
+  )
   stands (crossing a b) o = (IsWord-tested (codes "crossing") refl, arguments_stand p.names w.names (line_argument a ∷ line_argument b ∷ []) (o.0, (o.1, tt)))
   stands (nonzero e) o =
       let inner = expression_lexemes p.names e in
@@ -77,7 +81,8 @@ module _ (p : Source) (w : IsWellFormed p) where
   same (not_parallel a b c d) (not_parallel e f g h') o u h =
       let xs = point_argument a ∷ point_argument b ∷ point_argument c ∷ point_argument d ∷ [] in let ys = point_argument e ∷ point_argument f ∷ point_argument g ∷ point_argument h' ∷ [] in
       let tails : spelling xs ≡ spelling ys = cc in
-      let k : xs ≡ ys = (arguments_read p.names w.names w.differ xs ys [] [] refl (all_named xs (o.0, (o.1, (o.2, (o.3, tt))))) (all_named ys (u.0, (u.1, (u.2, (u.3, tt))))) (ap (λ t. t ++ []) tails)).same in
+      let k : xs ≡ ys = (arguments_read p.names w.names w.differ xs ys [] [] refl (all_named xs (o.0, (o.1, (o.2, (o.3, tt)))))
+      (all_named ys (u.0, (u.1, (u.2, (u.3, tt))))) (ap (λ t. t ++ []) tails)).same in
       let x : a ≡ e = cc in let y : b ≡ f = cc in let z : c ≡ g = cc in let v : d ≡ h' = cc in λ i. not_parallel (x i) (y i) (z i) (v i)
   same (crossing a b) (crossing c d) o u h =
       let xs = line_argument a ∷ line_argument b ∷ [] in let ys = line_argument c ∷ line_argument d ∷ [] in

@@ -1,5 +1,6 @@
 -- Truth of programs over placements. Nothing here knows a step, a polynomial, a lemma or a log.
-use Rattle.std.specs.Prelude.{◌≡◌, ℕ, ◌<◌, Bool, true, false, All, ℤ, pos, List, [], ◌∷◌, length, slice_index_or}
+use Rattle.std.specs.Prelude.{◌≡◌, ℕ, ◌<◌, Bool, true, false, All, ℤ, pos, List, [], ◌∷◌, ◌++◌, length, slice_index_or}
+use Rattle.std.specs.List.{flat_map}
 use Rattle.std.proofs.Common.{lit<}
 use Rattle.ring_laws.specs.Fraction.{Same, whole}
 use Rattle.geo_points.specs.Placements.{Placement, SamePlacement, SamePoint}
@@ -38,6 +39,10 @@ IsImpossible p = (placed : Placement) → Meets p placed → ⊥
 pub record ProgramValues : Type 0 where
   pub coordinates : List (ℤ × ℤ)
   pub numbers : List ℤ
+
+-- the values of a program, one after another
+abbrev pub integers_of : ProgramValues → List ℤ
+integers_of v = flat_map (λ xy. xy.0 ∷ xy.1 ∷ []) v.coordinates ++ v.numbers
 
 -- the command is `point`
 abbrev pub is_free : Command → Bool

@@ -20,8 +20,12 @@ use geo_program::Printer;
 use geo_terms::Steps;
 use std::alloc::Global;
 
-// The text of a condition.
-fn condition_text(alloc: Global, printer: &Printer, condition: Condition) -> Result<Text, NoMemory>
+/// The text of a condition.
+pub fn condition_text(
+    alloc: Global,
+    printer: &Printer,
+    condition: Condition,
+) -> Result<Text, NoMemory>
     requires { IsPrintableCondition printer.now.names printer.now.terms.now condition }
     ensures { IfOk result (λ text. text ≡ form_text printer.now.names
         (condition_form (condition_of printer.now.terms.now condition))) }

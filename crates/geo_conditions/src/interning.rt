@@ -14,8 +14,8 @@ use crate::item_terms::ItemTerm;
 use geo_points::{NoMemory, PointId, TermId};
 use geo_terms::{Node, Steps};
 
-// The index of a node.
-fn intern(steps: &mut Steps, node: Node) -> Result<TermId, NoMemory>
+/// The index of a node.
+pub fn intern(steps: &mut Steps, node: Node) -> Result<TermId, NoMemory>
     requires children { HasChildrenBelow (length steps.old.nodes) node }
     requires integer { HasShortInteger node }
     ensures { IfOk result (λ id.
@@ -34,15 +34,15 @@ fn two(steps: &mut Steps) -> Result<TermId, NoMemory>
     intern(steps, Node::Int(2))
 }
 
-// S_ABC.
-fn area(steps: &mut Steps, a: PointId, b: PointId, c: PointId) -> Result<TermId, NoMemory>
+/// `S_ABC`.
+pub fn area(steps: &mut Steps, a: PointId, b: PointId, c: PointId) -> Result<TermId, NoMemory>
     ensures { IfOk result (λ id. HasTerm steps.old steps.new id (area_leaf a b c)) }
 {
     intern(steps, Node::S(a, b, c))
 }
 
-// P_ABC.
-fn pythagoras(steps: &mut Steps, a: PointId, b: PointId, c: PointId) -> Result<TermId, NoMemory>
+/// `P_ABC`.
+pub fn pythagoras(steps: &mut Steps, a: PointId, b: PointId, c: PointId) -> Result<TermId, NoMemory>
     ensures { IfOk result (λ id. HasTerm steps.old steps.new id (pythagoras_leaf a b c)) }
 {
     intern(steps, Node::P(a, b, c))
@@ -61,8 +61,8 @@ fn ratio(
     intern(steps, Node::R(a, b, c, d))
 }
 
-// The sum of two terms.
-fn sum(steps: &mut Steps, e: TermId, f: TermId) -> Result<TermId, NoMemory>
+/// The sum of two terms.
+pub fn sum(steps: &mut Steps, e: TermId, f: TermId) -> Result<TermId, NoMemory>
     requires first { e.0 < length steps.old.nodes }
     requires second { f.0 < length steps.old.nodes }
     ensures { IfOk result (λ id. HasTerm steps.old steps.new id
@@ -71,8 +71,8 @@ fn sum(steps: &mut Steps, e: TermId, f: TermId) -> Result<TermId, NoMemory>
     intern(steps, Node::Add(e, f))
 }
 
-// A term less another.
-fn difference(steps: &mut Steps, e: TermId, f: TermId) -> Result<TermId, NoMemory>
+/// A term less another.
+pub fn difference(steps: &mut Steps, e: TermId, f: TermId) -> Result<TermId, NoMemory>
     requires first { e.0 < length steps.old.nodes }
     requires second { f.0 < length steps.old.nodes }
     ensures { IfOk result (λ id. HasTerm steps.old steps.new id
@@ -81,8 +81,8 @@ fn difference(steps: &mut Steps, e: TermId, f: TermId) -> Result<TermId, NoMemor
     intern(steps, Node::Sub(e, f))
 }
 
-// The product of two terms.
-fn product(steps: &mut Steps, e: TermId, f: TermId) -> Result<TermId, NoMemory>
+/// The product of two terms.
+pub fn product(steps: &mut Steps, e: TermId, f: TermId) -> Result<TermId, NoMemory>
     requires first { e.0 < length steps.old.nodes }
     requires second { f.0 < length steps.old.nodes }
     ensures { IfOk result (λ id. HasTerm steps.old steps.new id
@@ -106,8 +106,8 @@ fn parallel(
     difference(steps, first, second)
 }
 
-// P_ACD - P_BCD.
-fn perpendicular(
+/// `P_ACD - P_BCD`.
+pub fn perpendicular(
     steps: &mut Steps,
     a: PointId,
     b: PointId,
@@ -122,8 +122,8 @@ fn perpendicular(
     difference(steps, first, second)
 }
 
-// P_ABA - P_CDC.
-fn same_length(
+/// `P_ABA - P_CDC`.
+pub fn same_length(
     steps: &mut Steps,
     a: PointId,
     b: PointId,
@@ -175,8 +175,8 @@ fn twice_squares(steps: &mut Steps, m: PointId, a: PointId, b: PointId) -> Resul
     sum(steps, first, second)
 }
 
-// 2 P_AMA + 2 P_BMB - P_ABA.
-fn midpoint(steps: &mut Steps, m: PointId, a: PointId, b: PointId) -> Result<TermId, NoMemory>
+/// `2 P_AMA + 2 P_BMB - P_ABA`.
+pub fn midpoint(steps: &mut Steps, m: PointId, a: PointId, b: PointId) -> Result<TermId, NoMemory>
     ensures { IfOk result (λ id. HasTerm steps.old steps.new id (midpoint_term m.0 a.0 b.0)) }
 {
     let first = twice_squares(steps, m, a, b)?;

@@ -27,8 +27,8 @@ fn names_point(command: Command) -> bool
     matches!(command.makes(), Some(NameKind::Point))
 }
 
-// The number of the next named point after a command, where it is x before.
-fn next_point(x: u32, command: Command) -> u32
+/// The number of the next named point after a command, where it is x before.
+pub fn next_point(x: u32, command: Command) -> u32
     requires { x < 4294967295 }
     ensures { result ≡ counted kind.Point (named command) x }
 {

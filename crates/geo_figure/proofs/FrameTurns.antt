@@ -10,7 +10,7 @@ use Rattle.ring_laws.specs.Fraction.{Fraction}
 use Rattle.frac_laws.specs.declared.frac.Frac.{Frac}
 use Rattle.frac_laws.specs.declared.frac.FracTooLarge.{FracTooLarge}
 use Rattle.frac_laws.specs.Numbers.{IsNumber}
-use Rattle.geo_place.specs.Reckonings.{IsRefused, Reckoning, known, ◌⊖◌}
+use Rattle.geo_place.specs.Reckonings.{Overflows, Reckoning, known, ◌⊖◌}
 use Rattle.geo_place.specs.declared.placed.At.{At}
 use Rattle.geo_figure.specs.declared.bounds.Bounds.{Bounds}
 use Rattle.geo_figure.specs.declared.bounds.Frame.{Frame}
@@ -24,7 +24,7 @@ use Rattle.geo_figure.proofs.BoundLaws.{greatest_next, least_next}
 
 -- ALL OF TWO LISTS
 abbrev Kept : Reckoning → Type 0
-Kept e = IsRefused e → ⊥
+Kept e = Overflows e → ⊥
 
 pub kept_both : (xs ys : List Reckoning) → AreKept xs → AreKept ys → AreKept (xs ++ ys)
 kept_both xs ys h k = All-from_recursion Kept (xs ++ ys) (each_append Kept xs ys (recursion_from_All Kept xs h) (recursion_from_All Kept ys k))
@@ -36,19 +36,17 @@ pub kept_right : (xs ys : List Reckoning) → AreKept (xs ++ ys) → AreKept ys
 kept_right xs ys h = All-from_recursion Kept ys (each_back Kept xs ys (recursion_from_All Kept (xs ++ ys) h))
 
 -- BOUNDS
-no_error : {A : Type 0} (t : A) (e : FracTooLarge) → Err e ≡ Ok t → ⊥
-no_error t e h = cc
 
 module _ (bounds : Bounds) (xs : List Fraction) (a : Fraction) (n : xs ≢ []) where
   two_kept : (ys : List Fraction) → Kept (known a ⊖ known (least ys)) → Kept (known a ⊖ known (greatest ys)) → AreKept (differences ys a)
   two_kept [] p q = All-from_recursion Kept [] tt
   two_kept (y ∷ ys) p q = All-from_recursion Kept (differences (y ∷ ys) a) (p, (q, tt))
 
-  first_refused : (ys : List Fraction) → ys ≢ [] → IsRefused (known a ⊖ known (least ys)) → AreKept (differences ys a) → ⊥
+  first_refused : (ys : List Fraction) → ys ≢ [] → Overflows (known a ⊖ known (least ys)) → AreKept (differences ys a) → ⊥
   first_refused [] n r k = n refl
   first_refused (y ∷ ys) n r k = (recursion_from_All Kept (differences (y ∷ ys) a) k).0 r
 
-  second_refused : (ys : List Fraction) → ys ≢ [] → IsRefused (known a ⊖ known (greatest ys)) → AreKept (differences ys a) → ⊥
+  second_refused : (ys : List Fraction) → ys ≢ [] → Overflows (known a ⊖ known (greatest ys)) → AreKept (differences ys a) → ⊥
   second_refused [] n r k = n refl
   second_refused (y ∷ ys) n r k = (recursion_from_All Kept (differences (y ∷ ys) a) k).1.0 r
 

@@ -15,7 +15,7 @@ use Rattle.frac_laws.specs.Numbers.{IsNumber, IsSameNumber, fraction_of}
 use Rattle.geo_points.specs.Points.{is_null}
 use Rattle.geo_points.proofs.Ratios.{null-true}
 use Rattle.geo_points.proofs.Zeros.{same_of_minus}
-use Rattle.geo_place.specs.Reckonings.{IsRefused, IsResult, Reckoning, number}
+use Rattle.geo_place.specs.Reckonings.{Overflows, IsResult, Reckoning, number}
 use Rattle.geo_place.proofs.ResultLaws.{same_of}
 use Rattle.geo_figure.specs.declared.bounds.Bounds.{Bounds}
 use Rattle.geo_figure.specs.Bounds.{greatest, least}
@@ -58,7 +58,8 @@ module _ (b : Bounds) (xs : List Fraction) (h : AreBounds b xs) where
   unfolding fraction_of
   same_bounds s =
       let e : Same (fraction_of b.greatest) (fraction_of b.least) = record {
-        crossed = subst (λ z. b.greatest.num *ℤ z ≡ b.least.num *ℤ pos (unsigned_abs b.greatest.den)) b.least.positive (subst (λ z. b.greatest.num *ℤ b.least.den ≡ b.least.num *ℤ z) b.greatest.positive (sym s));
+        crossed = subst (λ z. b.greatest.num *ℤ z ≡ b.least.num *ℤ pos (unsigned_abs b.greatest.den)) b.least.positive
+            (subst (λ z. b.greatest.num *ℤ b.least.den ≡ b.least.num *ℤ z) b.greatest.positive (sym s));
       } in
       fractions.same_trans _ _ _ (fractions.same_sym _ _ (same_of b.greatest (greatest xs) h.greatest)) (fractions.same_trans _ _ _ e (same_of b.least (least xs) h.least))
 
@@ -66,7 +67,8 @@ module _ (b : Bounds) (xs : List Fraction) (h : AreBounds b xs) where
   unfolding fraction_of
   bounds_same s =
       let e = fractions.same_trans _ _ _ (same_of b.greatest (greatest xs) h.greatest) (fractions.same_trans _ _ _ s (fractions.same_sym _ _ (same_of b.least (least xs) h.least))) in
-      sym (subst (λ z. b.greatest.num *ℤ z ≡ b.least.num *ℤ b.greatest.den) (sym b.least.positive) (subst (λ z. b.greatest.num *ℤ pos (unsigned_abs b.least.den) ≡ b.least.num *ℤ z) (sym b.greatest.positive) e.crossed))
+      sym (subst (λ z. b.greatest.num *ℤ z ≡ b.least.num *ℤ b.greatest.den) (sym b.least.positive)
+      (subst (λ z. b.greatest.num *ℤ pos (unsigned_abs b.least.den) ≡ b.least.num *ℤ z) (sym b.greatest.positive) e.crossed))
 
   minus_null : Same (greatest xs) (least xs) → (minus (greatest xs) (least xs)).numerator ≡ pos 0
   unfolding minus
@@ -84,7 +86,7 @@ module _ (b : Bounds) (xs : List Fraction) (h : AreBounds b xs) where
 
 -- STEPS
 abbrev Kept : Reckoning → Type 0
-Kept e = IsRefused e → ⊥
+Kept e = Overflows e → ⊥
 
 module _ (last : ℕ) (xs : List Fraction) (a : Fraction) where
   -- where all coordinates are the same
@@ -105,7 +107,7 @@ module _ (last : ℕ) (xs : List Fraction) (a : Fraction) where
       subst (λ (es : List Reckoning). AreKept es) (sym shares_are) (All-from_recursion Kept (share last xs a ∷ []) (h.kept, tt)),
     )
 
-    pub share_refused : (refusal : FracTooLarge) → IsRefused (share last xs a) → IsStep last xs a (Err refusal)
+    pub share_refused : (refusal : FracTooLarge) → Overflows (share last xs a) → IsStep last xs a (Err refusal)
     share_refused refusal r = λ k. (recursion_from_All Kept (share last xs a ∷ []) (subst (λ (es : List Reckoning). AreKept es) shares_are k)).0 r
 
 -- the number of steps as a fraction

@@ -8,8 +8,8 @@ use Rattle.geo_figure.specs.declared.errors.DrawError.{DrawError}
 use Rattle.geo_figure.specs.declared.errors.DrawError.TheVariants.{NoMemory, TooLarge}
 use Rattle.geo_place.specs.declared.placed.At.{At}
 use Rattle.geo_place.specs.declared.placed.Placed.{Placed}
-use Rattle.geo_place.specs.Placing.{text_of}
-use Rattle.geo_place.specs.Reckonings.{IsRefused, Reckoning, known, number, ◌⊖◌, ◌⊗◌, ◌⊘◌}
+use Rattle.geo_place.specs.Placing.{points_text}
+use Rattle.geo_place.specs.Reckonings.{Overflows, Reckoning, known, number, ◌⊖◌, ◌⊗◌, ◌⊘◌}
 use Rattle.geo_figure.specs.Bounds.{greatest, least}
 
 -- SHARES
@@ -56,7 +56,7 @@ picture_line points line = map (λ column. mark (filter (stands_in points column
 
 -- the picture, and then the points as text
 abbrev pub drawing : Placed → List ℕ
-drawing placed = flat_map (picture_line placed.points) (first_numbers 21) ++ text_of placed
+drawing placed = flat_map (picture_line placed.points) (first_numbers 21) ++ points_text placed
 
 -- NUMBERS THAT ARE TOO LARGE
 -- what is reckoned of a point, and the line of its command
@@ -98,7 +98,7 @@ draw_turns points = bound_turns [] points ++ map (share_turn points) points
 
 -- no number of the turn is too large
 abbrev pub IsPassed : DrawTurn → Type 0
-IsPassed t = All (λ e. IsRefused e → ⊥) t.reckonings
+IsPassed t = All (λ e. Overflows e → ⊥) t.reckonings
 
 -- this is the line of the first turn of which a number is too large
 pub record IsTooLargeAt (points : List At) (line : ℕ) : Type 0 where

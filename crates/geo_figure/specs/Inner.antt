@@ -12,7 +12,7 @@ use Rattle.geo_figure.specs.declared.errors.DrawError.{DrawError}
 use Rattle.geo_figure.specs.declared.errors.DrawError.TheVariants.{NoMemory, TooLarge}
 use Rattle.geo_figure.specs.Bounds.{greater, greatest, least, lesser}
 use Rattle.geo_figure.specs.Drawing.{DrawTurn, IsPassed, bound_turn, differences, first_numbers, share_turn, shares, step_of, x_of, y_of}
-use Rattle.geo_place.specs.Reckonings.{IsRefused, Reckoning, known, ◌⊖◌}
+use Rattle.geo_place.specs.Reckonings.{Overflows, Reckoning, known, ◌⊖◌}
 use Rattle.geo_place.specs.declared.placed.At.{At}
 
 -- one of these turns is the first that does not pass, and it belongs to the line
@@ -42,17 +42,17 @@ pub record IsFrame (f : Frame) (points : List At) : Type 0 where
 
 -- what comes of the lesser of two numbers, of which the difference is reckoned
 abbrev pub IsLesser : Fraction → Fraction → Result Frac FracTooLarge → Type 0
-IsLesser a b (Ok r) = IsNumber r (lesser a b) × (IsRefused (known b ⊖ known a) → ⊥)
-IsLesser a b (Err refusal) = IsRefused (known b ⊖ known a)
+IsLesser a b (Ok r) = IsNumber r (lesser a b) × (Overflows (known b ⊖ known a) → ⊥)
+IsLesser a b (Err refusal) = Overflows (known b ⊖ known a)
 
 -- and of the greater
 abbrev pub IsGreater : Fraction → Fraction → Result Frac FracTooLarge → Type 0
-IsGreater a b (Ok r) = IsNumber r (greater a b) × (IsRefused (known b ⊖ known a) → ⊥)
-IsGreater a b (Err refusal) = IsRefused (known b ⊖ known a)
+IsGreater a b (Ok r) = IsNumber r (greater a b) × (Overflows (known b ⊖ known a) → ⊥)
+IsGreater a b (Err refusal) = Overflows (known b ⊖ known a)
 
 -- no reckoning is refused
 abbrev pub AreKept : List Reckoning → Type 0
-AreKept es = All (λ e. IsRefused e → ⊥) es
+AreKept es = All (λ e. Overflows e → ⊥) es
 
 -- what comes of the bounds of some numbers and one more
 abbrev pub AreWider : List Fraction → Fraction → Result Bounds FracTooLarge → Type 0

@@ -1,5 +1,6 @@
 -- Gaps, byte by byte and joined.
-use Rattle.std.proofs.Common.{◌≡◌, ℕ, ◌+◌, ◌-◌, ◌≤◌, ◌==◌, Bool, true, false, ◌&&◌, ◌||◌, not, Option, Some, None, List, [], ◌∷◌, ◌++◌, length, take, drop, slice_range, refl, sym, ap, ◌∙◌, arith, append-nil}
+use Rattle.std.proofs.Common.{◌≡◌, ℕ, ◌+◌, ◌-◌, ◌≤◌, ◌==◌, Bool, true, false, ◌&&◌, ◌||◌, not, Option, Some, None, List, [], ◌∷◌, ◌++◌}
+use Rattle.std.proofs.Common.{length, take, drop, slice_range, refl, sym, ap, ◌∙◌, arith, append-nil}
 use Rattle.std.proofs.lemmas.Bool.{and_parts, false≢true, not-true}
 use Rattle.std.proofs.lemmas.Bool.Decides.{nat_tests}
 use Rattle.std.proofs.Math.Nat.{le_trans}
@@ -44,7 +45,8 @@ or-false true = refl
 or-false false = refl
 
 -- one of two tests passes, and what hangs on it is the same either way
-one_of : (blank comment : Bool) (p q x y r : Bool) → (blank && comment) ≡ false → ((blank && p) || (comment && q)) ≡ true → (p ≡ true → x ≡ r) → (q ≡ true → y ≡ r) → ((blank && x) || (comment && y)) ≡ r
+one_of : (blank comment : Bool) (p q x y r : Bool) → (blank && comment) ≡ false → ((blank && p) || (comment && q)) ≡ true
+    → (p ≡ true → x ≡ r) → (q ≡ true → y ≡ r) → ((blank && x) || (comment && y)) ≡ r
 one_of true true p q x y r apart passes left right = absurd (false≢true (sym apart))
 one_of true false p q x y r apart passes left right = or-false x ∙ left (sym (or-false p) ∙ passes)
 one_of false true p q x y r apart passes left right = right passes
@@ -60,7 +62,8 @@ is_gap-append open_end true [] more gap = absurd (false≢true gap)
 is_gap-append open_end false [] more gap = refl
 is_gap-append open_end true (b ∷ bs) more gap = is_gap-append open_end (not (b == 10)) bs more gap
 is_gap-append open_end false (b ∷ bs) more gap =
-    one_of (is_blank b) (is_comment_start b) (is_gap false false bs) (is_gap false true bs) (is_gap open_end false (bs ++ more)) (is_gap open_end true (bs ++ more)) (is_gap open_end false more) (never_both b) gap
+    one_of (is_blank b) (is_comment_start b) (is_gap false false bs) (is_gap false true bs) (is_gap open_end false (bs ++ more))
+    (is_gap open_end true (bs ++ more)) (is_gap open_end false more) (never_both b) gap
     (λ blank. is_gap-append open_end false bs more blank)
     (λ comment. is_gap-append open_end true bs more comment)
 
@@ -70,7 +73,8 @@ is_gap-line open_end true [] more gap = refl
 is_gap-line open_end false [] more gap = or-false (is_gap open_end false more)
 is_gap-line open_end true (b ∷ bs) more gap = is_gap-line open_end (not (b == 10)) bs more gap
 is_gap-line open_end false (b ∷ bs) more gap =
-    one_of (is_blank b) (is_comment_start b) (is_gap true false bs) (is_gap true true bs) (is_gap open_end false (bs ++ 10 ∷ more)) (is_gap open_end true (bs ++ 10 ∷ more)) (is_gap open_end false more) (never_both b) gap
+    one_of (is_blank b) (is_comment_start b) (is_gap true false bs) (is_gap true true bs) (is_gap open_end false (bs ++ 10 ∷ more))
+    (is_gap open_end true (bs ++ 10 ∷ more)) (is_gap open_end false more) (never_both b) gap
     (λ blank. is_gap-line open_end false bs more blank)
     (λ comment. is_gap-line open_end true bs more comment)
 

@@ -1,5 +1,6 @@
 -- The lexemes of a text that is put together from parts.
-use Rattle.std.proofs.Common.{◌≡◌, ℕ, ◌+◌, ◌-◌, ◌<◌, ◌≤◌, ◌^◌, true, false, not, ℤ, None, Option, List, [], ◌∷◌, ◌++◌, map, length, drop, get_or, slice_range, refl, ap, sym, ◌∙◌, subst, inl, arith, append_assoc, length-append, length-drop}
+use Rattle.std.proofs.Common.{◌≡◌, ℕ, ◌+◌, ◌-◌, ◌<◌, ◌≤◌, ◌^◌, true, false, not, ℤ, None, Option, List, [], ◌∷◌, ◌++◌, map, length, drop}
+use Rattle.std.proofs.Common.{get_or, slice_range, refl, ap, sym, ◌∙◌, subst, inl, arith, append_assoc, length-append, length-drop}
 use Rattle.std.specs.Prelude.{unsigned_abs}
 use Rattle.std.specs.Fmt.{signed_decimal}
 use Rattle.std.specs.List.{AllPass}
@@ -23,7 +24,8 @@ use Rattle.std.proofs.lemmas.Bool.{false≢true}
 -- ---- two parts with a byte between them
 
 -- tokens, a gap and the tokens after it
-IsLexed-append : (bytes : List ℕ) (end place far : ℕ) (ts us : List Token) (fault : Option Fault) → AreTokens bytes 0 ts end → IsGap bytes end place → AreTokens bytes place us far → IsLexedEnd bytes far fault → IsLexed bytes (ts ++ us) fault
+IsLexed-append : (bytes : List ℕ) (end place far : ℕ) (ts us : List Token) (fault : Option Fault) → AreTokens bytes 0 ts end
+    → IsGap bytes end place → AreTokens bytes place us far → IsLexedEnd bytes far fault → IsLexed bytes (ts ++ us) fault
 IsLexed-append bytes end place far ts [] fault before gap after ends = record {
   end = end;
   tokens_are = AreTokens-append bytes 0 end end ts [] before refl;

@@ -156,7 +156,8 @@ IsGap-after front bytes start end gap =
 abbrev pub moved : ℕ → Token → Token
 moved n t = record { kind = t.kind; start = n + t.start; end = n + t.end }
 
-pub AreTokens-after : (front bytes : List ℕ) (start end : ℕ) (ts : List Token) → AreTokens bytes start ts end → AreTokens (front ++ bytes) (length front + start) (map (moved (length front)) ts) (length front + end)
+pub AreTokens-after : (front bytes : List ℕ) (start end : ℕ) (ts : List Token) → AreTokens bytes start ts end
+    → AreTokens (front ++ bytes) (length front + start) (map (moved (length front)) ts) (length front + end)
 AreTokens-after front bytes start end [] are = ap (λ n. length front + n) are
 AreTokens-after front bytes start end (t ∷ ts) are = (
   IsGap-after front bytes start t.start are.0,

@@ -1,5 +1,5 @@
 -- Texts without comments, put together from words, numbers and braces.
-use Rattle.std.proofs.Common.{◌≡◌, ℕ, suc, ◌<◌, ◌≤◌, ◌^◌, true, not, ℤ, pos, negsuc, List, [], ◌∷◌, ◌++◌, get_or, All, refl, sym, subst, arith, append_assoc, append-nil}
+use Rattle.std.proofs.Common.{◌≡◌, ℕ, suc, ◌<◌, ◌≤◌, ◌^◌, true, not, ℤ, pos, negsuc, List, [], ◌∷◌, ◌++◌, get_or, All, refl, sym, subst, arith, append_assoc}
 use Rattle.std.specs.Prelude.{unsigned_abs}
 use Rattle.std.specs.Fmt.{signed_decimal, decimal}
 use Rattle.std.specs.List.{flat_map}
@@ -74,17 +74,16 @@ Spells-line text more xs ys first second = record {
   plain = joined_is_plain text more 10 refl first.plain second.plain;
 }
 
--- a line feed at the end adds nothing
-pub Spells-end : (text : List ℕ) (xs : List Lexeme) → Spells text xs → Spells (text ++ 10 ∷ []) xs
-Spells-end text xs spells = subst (Spells (text ++ 10 ∷ [])) (append-nil xs) (Spells-line text [] xs [] spells Spells-nil)
-
 -- a line, and then the text that follows it
 pub Spells-next : (line text : List ℕ) (xs ys : List Lexeme) → Spells line xs → Spells text ys → Spells ((line ++ 10 ∷ []) ++ text) (xs ++ ys)
 Spells-next line text xs ys first second =
     subst (λ (t : List ℕ). Spells t (xs ++ ys)) (sym (append_assoc line (10 ∷ []) text)) (Spells-line line text xs ys first second)
 
 -- any number of lines, each with a line feed after it
-pub Spells-lines : {A : Type 0} (line : A → List ℕ) (lexemes : A → List Lexeme) (items : List A) → All (λ a. Spells (line a) (lexemes a)) items → Spells (flat_map (λ a. line a ++ 10 ∷ []) items) (flat_map lexemes items)
+pub Spells-lines : {A : Type 0} (line : A → List ℕ) (lexemes : A → List Lexeme) (items : List A)
+    → All (λ a. Spells (line a) (lexemes a)) items → Spells (flat_map (λ a. line a ++ 10 ∷ []) items) (flat_map lexemes items)
 Spells-lines line lexemes [] all = Spells-nil
 Spells-lines line lexemes (a ∷ items) all =
-    Spells-next (line a) (flat_map (λ b. line b ++ 10 ∷ []) items) (lexemes a) (flat_map lexemes items) (All-head (λ b. Spells (line b) (lexemes b)) a items all) (Spells-lines line lexemes items (All-tail (λ b. Spells (line b) (lexemes b)) a items all))
+    Spells-next (line a) (flat_map (λ b. line b ++ 10 ∷ []) items) (lexemes a) (flat_map lexemes items)
+    (All-head (λ b. Spells (line b) (lexemes b)) a items all)
+    (Spells-lines line lexemes items (All-tail (λ b. Spells (line b) (lexemes b)) a items all))

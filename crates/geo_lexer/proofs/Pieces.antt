@@ -1,5 +1,6 @@
 -- What stands at a place is of one kind, and ends at one place.
-use Rattle.std.proofs.Common.{◌≡◌, ◌==◌, ℕ, ◌+◌, ◌-◌, ◌<◌, ◌≤◌, ◌^◌, ◌⊎◌, Bool, true, false, cond, List, length, drop, get_or, slice_range, refl, ap, sym, ◌∙◌, subst, inl, inr, ⊎_elim, arith, length-drop, get_or-drop}
+use Rattle.std.proofs.Common.{◌≡◌, ◌==◌, ℕ, ◌+◌, ◌-◌, ◌<◌, ◌≤◌, ◌^◌, ◌⊎◌, Bool, true, false, cond, List, length, drop, get_or, slice_range}
+use Rattle.std.proofs.Common.{refl, ap, sym, ◌∙◌, subst, inl, inr, ⊎_elim, arith, length-drop, get_or-drop}
 use Rattle.std.specs.Str.Parse.{IsNumeral}
 use Rattle.std.proofs.lemmas.Bool.{cases_Bool, cases_order, eq-eqb, eqb-true, false≢true}
 use Rattle.std.proofs.lemmas.Bool.Decides.{nat_tests}
@@ -147,7 +148,8 @@ pub record IsSamePiece (kind other : Kind) (end far : ℕ) : Type 0 where
 
 pub same_piece : (bytes : List ℕ) (kind other : Kind) (start end far : ℕ) → IsPieceAt bytes kind start end → IsPieceAt bytes other start far → IsSamePiece kind other end far
 same_piece bytes kind other start end far at too =
-    let kinds : kind ≡ other = sym (kind_is kind (get_or bytes start 0) (first_of_piece bytes kind start end at)) ∙ kind_is other (get_or bytes start 0) (first_of_piece bytes other start far too) in record {
+    let kinds : kind ≡ other = sym (kind_is kind (get_or bytes start 0) (first_of_piece bytes kind start end at))
+    ∙ kind_is other (get_or bytes start 0) (first_of_piece bytes other start far too) in record {
       kinds = kinds;
       ends = same_end bytes other start end far (subst (λ (k : Kind). IsPieceAt bytes k start end) kinds at) too;
     }

@@ -1,5 +1,6 @@
 -- Runs: the bytes from a place on that pass a test, as many as there are.
-use Rattle.std.proofs.Common.{◌≡◌, ℕ, ◌+◌, ◌-◌, ◌<◌, ◌≤◌, Bool, true, List, length, drop, get_or, slice_range, ap, sym, ◌∙◌, inl, inr, ⊎_elim, arith, length-drop, get_or-drop, get_or-take, length-take}
+use Rattle.std.proofs.Common.{◌≡◌, ℕ, ◌+◌, ◌-◌, ◌<◌, ◌≤◌, Bool, true, List, length, drop, get_or, slice_range, ap, sym, ◌∙◌, inl, inr}
+use Rattle.std.proofs.Common.{⊎_elim, arith, length-drop, get_or-drop, get_or-take, length-take}
 use Rattle.std.specs.List.{AllPass, prefix_len}
 use Rattle.std.proofs.Math.Nat.{eq-or-lt_of_le}
 use Rattle.std.proofs.lemmas.List.Elements.{All-from_get_or}

@@ -1,5 +1,6 @@
 -- Words and numbers, by the runs that they are made of.
-use Rattle.std.proofs.Common.{◌≡◌, ◌==◌, ℕ, ◌+◌, ◌-◌, ◌<◌, ◌⊎◌, IsTrue, Bool, true, false, List, ◌∷◌, length, drop, get_or, slice_index, slice_range, refl, ap, sym, ◌∙◌, subst, inl, inr, ⊎_elim, arith, length-drop, length-take}
+use Rattle.std.proofs.Common.{◌≡◌, ◌==◌, ℕ, ◌+◌, ◌-◌, ◌<◌, ◌⊎◌, IsTrue, Bool, true, false, List, ◌∷◌, length, drop, get_or, slice_index}
+use Rattle.std.proofs.Common.{slice_range, refl, ap, sym, ◌∙◌, subst, inl, inr, ⊎_elim, arith, length-drop, length-take}
 use Rattle.std.specs.List.{list_all}
 use Rattle.std.proofs.Math.Nat.{eq-or-lt_of_le}
 use Rattle.std.proofs.lemmas.Bool.{and_from}
@@ -41,7 +42,8 @@ IsWordAt-run bytes start end inside letter run = record {
 }
 
 -- a token of a kind from one place to another is what was asked of it
-pub token_is : (bytes : List ℕ) (t : Token) (kind : Kind) (start end : ℕ) → t.kind ≡ kind → t.start ≡ start → t.end ≡ end → IsTokenAt bytes kind start end → (t.start ≡ start) × IsTokenAt bytes t.kind t.start t.end
+pub token_is : (bytes : List ℕ) (t : Token) (kind : Kind) (start end : ℕ) → t.kind ≡ kind → t.start ≡ start → t.end ≡ end
+    → IsTokenAt bytes kind start end → (t.start ≡ start) × IsTokenAt bytes t.kind t.start t.end
 token_is bytes t kind start end kind_is start_is end_is at = (start_is, rw (kind_is, start_is, end_is) at)
 
 -- a fault at a place is what was asked of it
@@ -69,7 +71,7 @@ IsNumberAt-run bytes start end run decimal =
     }
 
 -- a digit with the digits after it is a number
-number_of_digit : (bytes : List ℕ) (start end : ℕ) → start < length bytes → is_digit (get_or bytes start 0) ≡ true → IsRun is_digit bytes (start + 1) end → IsDecimal (slice_range bytes start end)
+pub number_of_digit : (bytes : List ℕ) (start end : ℕ) → start < length bytes → is_digit (get_or bytes start 0) ≡ true → IsRun is_digit bytes (start + 1) end → IsDecimal (slice_range bytes start end)
 number_of_digit bytes start end inside digit run =
     let onward = run.onward in
     let rest = slice_range bytes (start + 1) end in
@@ -77,7 +79,8 @@ number_of_digit bytes start end inside digit run =
     (decimal_digits (get_or bytes start 0) rest digit (list_all-from_AllPass is_digit rest run.all))
 
 -- and so is a `-` with one or more digits after it
-number_of_minus : (bytes : List ℕ) (start end : ℕ) → start < length bytes → get_or bytes start 0 ≡ 45 → start + 1 < end → IsRun is_digit bytes (start + 1) end → IsDecimal (slice_range bytes start end)
+pub number_of_minus : (bytes : List ℕ) (start end : ℕ) → start < length bytes → get_or bytes start 0 ≡ 45 → start + 1 < end
+    → IsRun is_digit bytes (start + 1) end → IsDecimal (slice_range bytes start end)
 number_of_minus bytes start end inside minus more run =
     let within = run.within in
     let rest = slice_range bytes (start + 1) end in
@@ -86,7 +89,7 @@ number_of_minus bytes start end inside minus more run =
     (decimal_minus (get_or bytes start 0) rest minus some (list_all-from_AllPass is_digit rest run.all))
 
 -- a `-` whose run of digits is empty begins nothing
-bare_minus : (bytes : List ℕ) (start : ℕ) → start < length bytes → get_or bytes start 0 ≡ 45 → StopsAt is_digit bytes (start + 1) → BeginsNothing bytes start
+pub bare_minus : (bytes : List ℕ) (start : ℕ) → start < length bytes → get_or bytes start 0 ≡ 45 → StopsAt is_digit bytes (start + 1) → BeginsNothing bytes start
 bare_minus bytes start inside minus stops = record {
   within = inside;
   no_word = rw minus refl;
@@ -98,7 +101,9 @@ bare_minus bytes start inside minus stops = record {
 }
 
 -- a digit or a `-` that begins no decimal text begins nothing
-pub BeginsNothing-run : (bytes : List ℕ) (start end : ℕ) → start < length bytes → IsTrue (is_digit (slice_index bytes start)) ⊎ (slice_index bytes start ≡ 45) → IsRun is_digit bytes (start + 1) end → ¬ (IsDecimal (slice_range bytes start end)) → BeginsNothing bytes start
+pub BeginsNothing-run : (bytes : List ℕ) (start end : ℕ) → start < length bytes → IsTrue (is_digit (slice_index bytes start))
+    ⊎ (slice_index bytes start ≡ 45) → IsRun is_digit bytes (start + 1) end → ¬ (IsDecimal (slice_range bytes start end))
+    → BeginsNothing bytes start
 BeginsNothing-run bytes start end inside (inl digit) run none =
     absurd (none (number_of_digit bytes start end inside digit run))
 BeginsNothing-run bytes start end inside (inr minus) run none =

@@ -16,7 +16,8 @@ AreTokens-append bytes start middle end (t ∷ ts) us before after =
     (before.0, before.1, AreTokens-append bytes t.end middle end ts us before.2 after)
 
 -- one more token, after a gap
-pub AreTokens-push : (bytes : List ℕ) (start end place : ℕ) (ts : List Token) (t : Token) → AreTokens bytes start ts end → IsGap bytes end place → t.start ≡ place → IsTokenAt bytes t.kind t.start t.end → AreTokens bytes start (ts ++ t ∷ []) t.end
+pub AreTokens-push : (bytes : List ℕ) (start end place : ℕ) (ts : List Token) (t : Token) → AreTokens bytes start ts end
+    → IsGap bytes end place → t.start ≡ place → IsTokenAt bytes t.kind t.start t.end → AreTokens bytes start (ts ++ t ∷ []) t.end
 AreTokens-push bytes start end place ts t before gap is at =
     AreTokens-append bytes start end t.end ts (t ∷ []) before (subst (IsGap bytes end) (sym is) gap, at, refl)
 

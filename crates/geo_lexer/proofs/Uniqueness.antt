@@ -134,10 +134,13 @@ end_is_no_token bytes end (Some f) t ends gap at =
 same_token : (bytes : List ℕ) (start : ℕ) (t u : Token) → IsGap bytes start t.start → IsTokenAt bytes t.kind t.start t.end → IsGap bytes start u.start → IsTokenAt bytes u.kind u.start u.end → t ≡ u
 same_token bytes start t u gap at other too =
     let starts : t.start ≡ u.start = same_place bytes start t.start u.start gap (EndsGap-token bytes t.kind t.start t.end at) other (EndsGap-token bytes u.kind u.start u.end too) in
-    let same = same_piece bytes t.kind u.kind u.start t.end u.end (subst (λ (s : ℕ). IsPieceAt bytes t.kind s t.end) starts (IsPieceAt-token bytes t.kind t.start t.end at).0) (IsPieceAt-token bytes u.kind u.start u.end too).0 in
+    let same = same_piece bytes t.kind u.kind u.start t.end u.end
+    (subst (λ (s : ℕ). IsPieceAt bytes t.kind s t.end) starts (IsPieceAt-token bytes t.kind t.start t.end at).0)
+    (IsPieceAt-token bytes u.kind u.start u.end too).0 in
     λ i. record { kind = same.kinds i; start = starts i; end = same.ends i }
 
-one_from : (bytes : List ℕ) (start end far : ℕ) (ts us : List Token) (f g : Option Fault) → AreTokens bytes start ts end → IsLexedEnd bytes end f → AreTokens bytes start us far → IsLexedEnd bytes far g → (ts ≡ us) × (f ≡ g)
+one_from : (bytes : List ℕ) (start end far : ℕ) (ts us : List Token) (f g : Option Fault) → AreTokens bytes start ts end
+    → IsLexedEnd bytes end f → AreTokens bytes start us far → IsLexedEnd bytes far g → (ts ≡ us) × (f ≡ g)
 one_from bytes start end far [] [] f g a ends b others =
     (refl, same_fault bytes start f g (subst (λ (n : ℕ). IsLexedEnd bytes n f) (sym a) ends) (subst (λ (n : ℕ). IsLexedEnd bytes n g) (sym b) others))
 one_from bytes start end far [] (u ∷ us) f g a ends b others =

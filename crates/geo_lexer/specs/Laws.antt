@@ -11,6 +11,10 @@ LexingIsUnique =
     (bytes : List ℕ) (ts us : List Token) (f g : Option Fault)
     → IsLexed bytes ts f → IsLexed bytes us g → (ts ≡ us) × (f ≡ g)
 
+-- each text has a lexing
+abbrev pub TextsAreLexed : Type 0
+TextsAreLexed = (bytes : List ℕ) → (tokens : List Token) × (fault : Option Fault) × IsLexed bytes tokens fault
+
 -- a text has one list of lexemes
 abbrev pub LexemesAreUnique : Type 0
 LexemesAreUnique =

@@ -1,11 +1,16 @@
 //! What is proved of tokens. The functions do nothing: what each says is its contract.
 
 ghost use Rattle.geo_lexer.specs.Laws.{LexemesAreSmall, LexemesAreUnique, LexingIsUnique};
-ghost use Rattle.geo_lexer.specs.Laws.{TokensAreWithin};
+ghost use Rattle.geo_lexer.specs.Laws.{TextsAreLexed, TokensAreWithin};
 
 /// A text has one lexing: its tokens and its fault are the same in any two.
 pub fn lexing_is_unique()
     ensures { LexingIsUnique }
+{}
+
+/// Each text has a lexing.
+pub fn texts_are_lexed()
+    ensures { TextsAreLexed }
 {}
 
 /// The tokens of a lexing stand in the text, one after another, and before its fault.

@@ -36,7 +36,8 @@ pub start_apart : (placed : Placement) (c : Construction) (e : Tree) → IsSound
 start_apart placed c e sound holds h =
     apart (tree_value placed e) holds.nonzero (term_null placed c e sound holds.has_value h)
 
-module _ (table : Table) (c : Construction) (sound : IsSoundTable table c) (known : List Var) (left : ℕ) (e : Tree) (chain : Chain) (left' : ℕ) (accepted : IsAcceptedChain table c known left e chain left') (term : IsSoundTerm c e) where
+module _ (table : Table) (c : Construction) (sound : IsSoundTable table c) (known : List Var) (left : ℕ) (e : Tree) (chain : Chain)
+    (left' : ℕ) (accepted : IsAcceptedChain table c known left e chain left') (term : IsSoundTerm c e) where
   -- a chain that ends in 0: the term is 0 where it has a value
   pub ended_in_zero : chain.end ≡ [] → (placed : Placement) → MeetsSteps placed c → HasTreeValue placed e → Same (tree_value placed e) zero_fraction
   ended_in_zero z placed met has_value =

@@ -125,7 +125,8 @@ module _ (table : Table) (c : Construction) where
     goals_accepted known listed k left [] lines verdict left' named fit small h =
         let end = concluded listed left lines Proved left' fit small h.1 in (end.0, end.1, (h.0, end.2))
     goals_accepted known listed k left (item ∷ items) lines verdict left' named fit small (first, inl ended) =
-        let rest = goals_accepted known listed (suc k) first.after items first.rest verdict left' (λ i other at. named (suc i) other at) fit (spent_by known left item first.chain first.after first.works small) ended.1 in
+        let rest = goals_accepted known listed (suc k) first.after items first.rest verdict left' (λ i other at. named (suc i) other at) fit
+        (spent_by known left item first.chain first.after first.works small) ended.1 in
         (rest.0, rest.1, (begins (Goal k item.text) known left item lines first, inl (ended.0, rest.2)))
     goals_accepted known listed k left (item ∷ items) lines verdict left' named fit small (first, inr failed) =
         let own = named 0 item refl in
@@ -144,7 +145,8 @@ module _ (table : Table) (c : Construction) where
         (left', omega arith, (begins (Condition k item.text) known left item lines first, inl ended))
     conditions_accepted goals known listed k left (item ∷ items) lines verdict left' ends named fit small (first, inr more) =
         let own = named 0 item refl in
-        let rest = conditions_accepted goals (known ++ known_by (item ∷ [])) (listed ++ first.chain.end ∷ []) (suc k) first.after items first.rest verdict left' ends (λ i other at. named (suc i) other at)
+        let rest = conditions_accepted goals (known ++ known_by (item ∷ [])) (listed ++ first.chain.end ∷ [])
+        (suc k) first.after items first.rest verdict left' ends (λ i other at. named (suc i) other at)
         (fit_push listed first.chain.end fit (end_polynomial known left item.term first.chain first.after first.works) more.0
         (end_contained known left item.term first.chain first.after first.works own.0 own.1)) (spent_by known left item first.chain first.after first.works small) more.1 in
         (rest.0, rest.1, (begins (Condition k item.text) known left item lines first, inr (more.0, rest.2)))

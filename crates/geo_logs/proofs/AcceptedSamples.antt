@@ -218,7 +218,8 @@ module _ (Works : Chains) (IsChosen : Samples) where
         each values some rest (suc i) condition at = later known item items i values condition.term (rest i condition at)
 
 -- THE LAW
-module _ (table : Table) (subject : Subject) (sound : IsSoundTable table subject.construction) (values : List (Var × ℤ)) (ordered : map (λ (v : Var × ℤ). v.0) values ≡ sample_variables subject.construction) where
+module _ (table : Table) (subject : Subject) (sound : IsSoundTable table subject.construction) (values : List (Var × ℤ))
+    (ordered : map (λ (v : Var × ℤ). v.0) values ≡ sample_variables subject.construction) where
   abbrev Worked : ℕ → Tree → Type 0
   Worked i e = IsWorkedAt (IsAcceptedChain table subject.construction) (IsAcceptedSample subject.construction) [] subject.conditions i values e
 

@@ -1,6 +1,5 @@
 pub mod TermVariables
 pub mod MoveValues
-pub mod ChainParts
 pub mod ChainPolynomials
 pub mod ChainValues
 pub mod SampleVariables

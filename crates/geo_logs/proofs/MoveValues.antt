@@ -163,7 +163,9 @@ module _ (placed : Placement) where
   apart_monomial : (known : List Var) (m : Powers) → ((v : Var) → Contains known v → IsApart (at_variable v)) → AllKeys (λ v. Contains known v) m
       → IsApart (monomial_value fractions at_variable m)
   apart_monomial known [] n h = one_apart
-  apart_monomial known (p ∷ m) n h = apart_times (power fractions (at_variable p.0) p.1) (monomial_value fractions at_variable m) (apart_power (at_variable p.0) p.1 (n p.0 h.0)) (apart_monomial known m n h.1)
+  apart_monomial known (p ∷ m) n h =
+      apart_times (power fractions (at_variable p.0) p.1) (monomial_value fractions at_variable m)
+      (apart_power (at_variable p.0) p.1 (n p.0 h.0)) (apart_monomial known m n h.1)
 
   null_of_abs : (z : ℤ) → (unsigned_abs z ≡ 0 → ⊥) → z ≡ pos 0 → ⊥
   null_of_abs z n e = n (subst (λ (y : ℤ). unsigned_abs y ≡ 0) (sym e) refl)

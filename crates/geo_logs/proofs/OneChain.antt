@@ -85,9 +85,13 @@ module _ (table : Table) (c : Construction) where
       let same = one_conclusion listed left lines other Proved l l' h.1 g.1 in (same.0, h.0 ∙ sym g.0, same.1)
   one_goals known listed k left (item ∷ items) lines other v w l l' (first, more) (first', more') =
       let same = one_chain table c known left item.term first.chain first'.chain first.after first'.after first.works first'.works in
-      go (λ after rest rest' h g. one_goals known listed (suc k) after items rest rest' v w l l' h g) first.chain first'.chain first.after first'.after same.0 same.1 first.rest first'.rest first.split first'.split more more'
+      go (λ after rest rest' h g. one_goals known listed (suc k) after items rest rest' v w l l' h g) first.chain first'.chain first.after
+      first'.after same.0 same.1 first.rest first'.rest first.split first'.split more more'
     where
-      go : ((after : ℕ) (rest rest' : List Line) → AreGoalsWorked (IsDefinedChain table c) (IsLeastSample c) known listed (suc k) after items rest v l → AreGoalsWorked (IsDefinedChain table c) (IsLeastSample c) known listed (suc k) after items rest' w l' → (rest ≡ rest') × (v ≡ w) × (l ≡ l'))
+      go : ((after : ℕ) (rest rest' : List Line)
+          → AreGoalsWorked (IsDefinedChain table c) (IsLeastSample c) known listed (suc k) after items rest v l
+          → AreGoalsWorked (IsDefinedChain table c) (IsLeastSample c) known listed (suc k) after items rest' w l' → (rest ≡ rest') × (v ≡ w)
+          × (l ≡ l'))
           → (chain chain' : Chain) (after after' : ℕ) → chain ≡ chain' → after ≡ after' → (rest rest' : List Line)
           → lines ≡ chain_lines (Goal k item.text) item.term chain ++ rest → other ≡ chain_lines (Goal k item.text) item.term chain' ++ rest'
           → ((chain.end ≡ []) × AreGoalsWorked (IsDefinedChain table c) (IsLeastSample c) known listed (suc k) after items rest v l
@@ -114,9 +118,14 @@ module _ (table : Table) (c : Construction) where
   one_conditions goals known listed k left [] lines other v w l l' h g = one_goals known listed 1 left goals lines other v w l l' h g
   one_conditions goals known listed k left (item ∷ items) lines other v w l l' (first, more) (first', more') =
       let same = one_chain table c known left item.term first.chain first'.chain first.after first'.after first.works first'.works in
-      go (λ end after rest rest' h g. one_conditions goals (known ++ known_by (item ∷ [])) (listed ++ end ∷ []) (suc k) after items rest rest' v w l l' h g) first.chain first'.chain first.after first'.after same.0 same.1 first.rest first'.rest first.split first'.split more more'
+      go (λ end after rest rest' h g. one_conditions goals (known ++ known_by (item ∷ [])) (listed ++ end ∷ [])
+      (suc k) after items rest rest' v w l l' h g) first.chain first'.chain first.after first'.after same.0 same.1 first.rest
+      first'.rest first.split first'.split more more'
     where
-      go : ((end : Summands) (after : ℕ) (rest rest' : List Line) → AreConditionsWorked (IsDefinedChain table c) (IsLeastSample c) goals (known ++ known_by (item ∷ [])) (listed ++ end ∷ []) (suc k) after items rest v l → AreConditionsWorked (IsDefinedChain table c) (IsLeastSample c) goals (known ++ known_by (item ∷ [])) (listed ++ end ∷ []) (suc k) after items rest' w l' → (rest ≡ rest') × (v ≡ w) × (l ≡ l'))
+      go : ((end : Summands) (after : ℕ) (rest rest' : List Line)
+          → AreConditionsWorked (IsDefinedChain table c) (IsLeastSample c) goals (known ++ known_by (item ∷ [])) (listed ++ end ∷ [])
+          (suc k) after items rest v l → AreConditionsWorked (IsDefinedChain table c) (IsLeastSample c) goals
+          (known ++ known_by (item ∷ [])) (listed ++ end ∷ []) (suc k) after items rest' w l' → (rest ≡ rest') × (v ≡ w) × (l ≡ l'))
           → (chain chain' : Chain) (after after' : ℕ) → chain ≡ chain' → after ≡ after' → (rest rest' : List Line)
           → lines ≡ chain_lines (Condition k item.text) item.term chain ++ rest → other ≡ chain_lines (Condition k item.text) item.term chain' ++ rest'
           → ((chain.end ≡ []) × (v ≡ Impossible k) × (rest ≡ VerdictLine (Impossible k) ∷ []) × (after ≡ l)
@@ -134,8 +143,10 @@ module _ (table : Table) (c : Construction) where
       go again chain chain' after after' same_chain same_after rest rest' split split' (inl ended) (inr more) = absurd (more.0 (ap (λ (x : Chain). x.end) (sym same_chain) ∙ ended.0))
       go again chain chain' after after' same_chain same_after rest rest' split split' (inr more) (inl ended) = absurd (more.0 (ap (λ (x : Chain). x.end) same_chain ∙ ended.0))
       go again chain chain' after after' same_chain same_after rest rest' split split' (inr more) (inr more') =
-          let goes = subst (λ n. AreConditionsWorked (IsDefinedChain table c) (IsLeastSample c) goals (known ++ known_by (item ∷ [])) (listed ++ chain.end ∷ []) (suc k) n items rest' w l') (sym same_after)
-          (subst (λ (x : Chain). AreConditionsWorked (IsDefinedChain table c) (IsLeastSample c) goals (known ++ known_by (item ∷ [])) (listed ++ x.end ∷ []) (suc k) after' items rest' w l') (sym same_chain) more'.1) in
+          let goes = subst (λ n. AreConditionsWorked (IsDefinedChain table c) (IsLeastSample c) goals (known ++ known_by (item ∷ []))
+          (listed ++ chain.end ∷ []) (suc k) n items rest' w l') (sym same_after)
+          (subst (λ (x : Chain). AreConditionsWorked (IsDefinedChain table c) (IsLeastSample c) goals (known ++ known_by (item ∷ []))
+          (listed ++ x.end ∷ []) (suc k) after' items rest' w l') (sym same_chain) more'.1) in
           let tail = again chain.end after rest rest' more.1 goes in
           (split ∙ ap₂ (λ (x : Chain) (xs : List Line). chain_lines (Condition k item.text) item.term x ++ xs) same_chain tail.0 ∙ sym split', tail.1, tail.2)
 

@@ -56,8 +56,12 @@ module _ (table : Table) (c : Construction) (head : Line) (known : List Var) (le
       → IsAhead xs n (chain_lines head e chain ++ rest)
   begun_within xs n chain left' rest (inl h) g =
       (head, Start (start_of e) ∷ map line_of chain.steps ++ End ∷ [] ++ rest, h.1, ap (λ (ws : List Line). ws ++ (chain_lines head e chain ++ rest)) (sym h.0))
-  begun_within xs n chain left' rest (inr (inl h)) g =
-      (Start (start_of e), map line_of chain.steps ++ End ∷ [] ++ rest, start_comes left e n g.started h.1, ap (λ (ws : List Line). ws ++ (Start (start_of e) ∷ map line_of chain.steps ++ End ∷ [] ++ rest)) (sym h.0))
+  begun_within xs n chain left' rest (inr (inl h)) g = (
+    Start (start_of e),
+    map line_of chain.steps ++ End ∷ [] ++ rest,
+    start_comes left e n g.started h.1,
+    ap (λ (ws : List Line). ws ++ (Start (start_of e) ∷ map line_of chain.steps ++ End ∷ [] ++ rest)) (sym h.0),
+  )
   begun_within xs n chain left' rest (inr (inr h)) g =
       let found = path_within table c known (left - start_charge e) (start_of e) h.steps chain.steps h.after left' h.last chain.end n rest h.leads h.follows g.leads g.no_cut g.ended in
       let both = ahead_behind (head ∷ Start (start_of e) ∷ []) (map line_of h.steps) n (map line_of chain.steps ++ End ∷ rest) found in

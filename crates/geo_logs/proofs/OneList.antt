@@ -77,7 +77,8 @@ module _ (table : Table) (c : Construction) where
       let goes = subst (λ (x : Chain). IsBegunEnd c (listed ++ x.end ∷ []) (False k) second.after first.rest n) same.chain
       (subst (λ j. IsBegunEnd c (listed ++ first.chain.end ∷ []) (False k) j first.rest n) same.after h.1) in
       compared_as xs (chain_lines head item.term second.chain ++ first.rest) ys (chain_lines head item.term second.chain ++ second.rest) n m same.split second.split
-      (compared_behind (chain_lines head item.term second.chain) first.rest n second.rest m (ends_compared c (listed ++ second.chain.end ∷ []) second.after (False k) first.rest second.rest n m goes g.1))
+      (compared_behind (chain_lines head item.term second.chain) first.rest n second.rest m
+      (ends_compared c (listed ++ second.chain.end ∷ []) second.after (False k) first.rest second.rest n m goes g.1))
 
   goals_within : (known : List Var) (listed : List Summands) (k left : ℕ) (items : List Item) (xs ys : List Line) (n : Next) (verdict : Verdict) (left' : ℕ)
       → AreGoalsBegun table c known listed k left items xs n → AreGoalsWorked (IsDefinedChain table c) (IsLeastSample c) known listed k left items ys verdict left' → IsAhead xs n ys
@@ -255,7 +256,9 @@ module _ (table : Table) (subject : Subject) (steps : ℕ) where
   one_list xs ys (ends_with v l) too_long h (a, begun, fits, long) = not_long_and_whole ys xs a h.1 long (begun_in_whole table subject steps ys xs (comes a) v l (on ys (comes a) begun) h.0)
   one_list xs ys (ends_by s) (ends_with v l) (before, e, begun, fits) h = no_stop_ahead before s ys (begun_in_whole table subject steps before ys (stops s) v l (on before (stops s) begun) h.0)
   one_list xs ys (ends_by s) (ends_by s') (before, e, begun, fits) (before', e', begun', fits') =
-      let both = stopped_alike before before' s s' (begun_all table subject steps before before' (stops s) (stops s') (on before (stops s) begun) (on before' (stops s') begun')) in (e ∙ both.0 ∙ sym e', both.1)
+      let both = stopped_alike before before' s s'
+      (begun_all table subject steps before before' (stops s) (stops s') (on before (stops s) begun) (on before' (stops s') begun')) in
+      (e ∙ both.0 ∙ sym e', both.1)
   one_list xs ys (ends_by s) too_long (before, e, begun, fits) (a, begun', fits', long) =
       not_long_and_stopped before ys s a fits long (begun_all table subject steps before ys (stops s) (comes a) (on before (stops s) begun) (on ys (comes a) begun'))
   one_list xs ys too_long (ends_with v l) (a, begun, fits, long) h = not_long_and_whole xs ys a h.1 long (begun_in_whole table subject steps xs ys (comes a) v l (on xs (comes a) begun) h.0)

@@ -133,8 +133,11 @@ pub end_apart : (placed : Placement) (c : Construction) (n : ℕ) (values : List
 end_apart placed c n values ordered h e valid plain named some z =
     let at_sample : Var → Fraction = λ v. whole (value_in values v) in
     let here : Same (at_placement placed e) (whole (value integers (value_in values) e)) =
-    whole-value (at_variable placed) (value_in values) e (of-both IsPlain (IsNamed c n) (λ v. Same (at_variable placed v) (whole (value_in values v))) (plain_value placed c n values h) e plain named) in
-    let there : Same (value fractions at_sample e) (whole (value integers (value_in values) e)) = whole-value at_sample (value_in values) e (of-any (λ v. Same (at_sample v) (whole (value_in values v))) (λ v. self) e) in
+    whole-value (at_variable placed) (value_in values) e
+    (of-both IsPlain (IsNamed c n) (λ v. Same (at_variable placed v) (whole (value_in values v)))
+    (plain_value placed c n values h) e plain named) in
+    let there : Same (value fractions at_sample e) (whole (value integers (value_in values) e)) = whole-value at_sample (value_in values) e
+    (of-any (λ v. Same (at_sample v) (whole (value_in values v))) (λ v. self) e) in
     let contained : AllVariables (λ v. Contains (map (λ (y : Var × ℤ). y.0) values) v) e =
     subst (λ (vs : List Var). AllVariables (λ v. Contains vs v) e) (sym ordered) (of-both IsPlain (IsNamed c n) (λ v. Contains (sample_variables c) v) (plain_contained c n) e plain named) in
     let apart_there = not_zero values (e ∷ []) at_sample

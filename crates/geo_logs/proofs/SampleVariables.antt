@@ -52,11 +52,16 @@ free_coordinates k (Foot p u v ∷ steps) zero e = absurd (let q : ◌≡◌ {A 
 free_coordinates k (Pratio w u v r ∷ steps) zero e = absurd (let q : ◌≡◌ {A = Option Step} (Some (Pratio w u v r)) (Some Point) = e in cc)
 free_coordinates k (Tratio u v r ∷ steps) zero e = absurd (let q : ◌≡◌ {A = Option Step} (Some (Tratio u v r)) (Some Point) = e in cc)
 free_coordinates k (Weights o u v r t ∷ steps) zero e = absurd (let q : ◌≡◌ {A = Option Step} (Some (Weights o u v r t)) (Some Point) = e in cc)
-free_coordinates k (Inter u v p q ∷ steps) (suc i) e = let there : suc k + i ≡ k + suc i = omega arith in subst (HasCoordinates (coordinates_from (suc k) steps)) there (free_coordinates (suc k) steps i e)
-free_coordinates k (Foot p u v ∷ steps) (suc i) e = let there : suc k + i ≡ k + suc i = omega arith in subst (HasCoordinates (coordinates_from (suc k) steps)) there (free_coordinates (suc k) steps i e)
-free_coordinates k (Pratio w u v r ∷ steps) (suc i) e = let there : suc k + i ≡ k + suc i = omega arith in subst (HasCoordinates (coordinates_from (suc k) steps)) there (free_coordinates (suc k) steps i e)
-free_coordinates k (Tratio u v r ∷ steps) (suc i) e = let there : suc k + i ≡ k + suc i = omega arith in subst (HasCoordinates (coordinates_from (suc k) steps)) there (free_coordinates (suc k) steps i e)
-free_coordinates k (Weights o u v r t ∷ steps) (suc i) e = let there : suc k + i ≡ k + suc i = omega arith in subst (HasCoordinates (coordinates_from (suc k) steps)) there (free_coordinates (suc k) steps i e)
+free_coordinates k (Inter u v p q ∷ steps) (suc i) e = let there : suc k + i ≡ k + suc i = omega arith in
+    subst (HasCoordinates (coordinates_from (suc k) steps)) there (free_coordinates (suc k) steps i e)
+free_coordinates k (Foot p u v ∷ steps) (suc i) e = let there : suc k + i ≡ k + suc i = omega arith in
+    subst (HasCoordinates (coordinates_from (suc k) steps)) there (free_coordinates (suc k) steps i e)
+free_coordinates k (Pratio w u v r ∷ steps) (suc i) e = let there : suc k + i ≡ k + suc i = omega arith in
+    subst (HasCoordinates (coordinates_from (suc k) steps)) there (free_coordinates (suc k) steps i e)
+free_coordinates k (Tratio u v r ∷ steps) (suc i) e = let there : suc k + i ≡ k + suc i = omega arith in
+    subst (HasCoordinates (coordinates_from (suc k) steps)) there (free_coordinates (suc k) steps i e)
+free_coordinates k (Weights o u v r t ∷ steps) (suc i) e = let there : suc k + i ≡ k + suc i = omega arith in
+    subst (HasCoordinates (coordinates_from (suc k) steps)) there (free_coordinates (suc k) steps i e)
 
 each_parameter : (k n i : ℕ) → i < n → Contains (parameters_from k n) (T (record { 0 = k + i }))
 each_parameter k zero i lt = absurd (omega arith)

@@ -58,7 +58,9 @@ module _ (Holds : Var → Type 0) where
   pub of-ratio : (a b c d : PointId) → Holds (sorted_ratio a b c d) → AllVariables Holds (canon_polynomial (canonical_ratio a b c d))
   of-ratio a b c d h = go (is_same_pair a b c d)
     where
-      go : (t : Bool) → AllVariables Holds (canon_polynomial (if t then record { sign = pair_sign a b *ℤ pair_sign c d; var = None } else signed_variable (pair_sign a b *ℤ pair_sign c d) (sorted_ratio a b c d)))
+      go : (t : Bool) → AllVariables Holds
+          (canon_polynomial (if t then record { sign = pair_sign a b *ℤ pair_sign c d; var = None } else signed_variable
+          (pair_sign a b *ℤ pair_sign c d) (sorted_ratio a b c d)))
       go true = of-constant_of (pair_sign a b *ℤ pair_sign c d)
       go false = of-signed (pair_sign a b *ℤ pair_sign c d) (sorted_ratio a b c d) h
 

@@ -6,7 +6,10 @@ use Rattle.geo_points.specs.declared.ids.PointId.{PointId}
 use Rattle.geo_terms.specs.Stores.{Store}
 use Rattle.geo_terms.specs.Trees.{Tree}
 use Rattle.geo_program.specs.declared.commands.Command.{Command}
-use Rattle.geo_program.specs.declared.commands.Command.TheVariants.{Point, Param, Line, Parallel, Perp, Med, Intersec, Inter, Foot, Pratio, Tratio, Online, Lratio, Midpoint, Translate, Symmetric, Reflect, Circumcenter, Orthocenter, Centroid, Oncircle, Second, Cc, Inverse, Weights, AssumeDifferent, AssumeNotCollinear, AssumeNotParallel}
+use Rattle.geo_program.specs.declared.commands.Command.TheVariants.{Point, Param, Line, Parallel, Perp, Med, Intersec, Inter, Foot, Pratio}
+use Rattle.geo_program.specs.declared.commands.Command.TheVariants.{Tratio, Online, Lratio, Midpoint, Translate, Symmetric, Reflect}
+use Rattle.geo_program.specs.declared.commands.Command.TheVariants.{Circumcenter, Orthocenter, Centroid, Oncircle, Second, Cc, Inverse}
+use Rattle.geo_program.specs.declared.commands.Command.TheVariants.{Weights, AssumeDifferent, AssumeNotCollinear, AssumeNotParallel}
 use Rattle.geo_program.specs.declared.names.NameKind.{NameKind}
 use Rattle.geo_program.specs.declared.names.NameKind.TheVariants as kind
 use Rattle.geo_program.specs.Forms.{Argument, CommandForm, point_argument, line_argument, number_argument, command_form}
@@ -15,7 +18,8 @@ use Rattle.geo_program.specs.WellFormed.{Source}
 use Rattle.geo_lowering.specs.declared.version.Version.{Version}
 use Rattle.geo_lowering.specs.Counting.{named, hidden, has_number, further, counted, gathered, next_point, next_number, numbers_from, param_places, weights_points}
 use Rattle.geo_lowering.specs.Laws.{LoweredFormsAgree, SameProgramsLowerAlike}
-use Rattle.geo_lowering.specs.Lowering.{Layout, Pair, command_steps, layout_of, line_places, pair_numbers, pair_of, point_place, point_places, points_after, renamed, steps_from, steps_of, weights_steps}
+use Rattle.geo_lowering.specs.Lowering.{Layout, Pair, command_steps, layout_of, line_places, pair_numbers, pair_of, point_place}
+use Rattle.geo_lowering.specs.Lowering.{point_places, points_after, renamed, steps_from, steps_of, weights_steps}
 use Rattle.geo_lowering.specs.StepForms.{StepForm, along, turned_along}
 
 -- what lowering sees of a command
@@ -78,7 +82,8 @@ seen_by version word (suc zero) (point_argument a ∷ point_argument b ∷ numbe
     then numbered (λ l r. turned_along (l.point a.0) (l.point b.0) r) e
     else numbered (λ l r. along (l.point a.0) (l.point a.0) (l.point b.0) r) e
 seen_by version word (suc zero) (point_argument a ∷ point_argument b ∷ []) = sight version [] (by_letter word 111 (Online a b) (by_letter word 109 (Midpoint a b) (Symmetric a b)))
-seen_by version word (suc zero) (point_argument a ∷ point_argument b ∷ point_argument c ∷ []) = sight version [] (by_letter word 102 (Foot a b c) (by_letter word 116 (Translate a b c) (Inverse a b c)))
+seen_by version word (suc zero) (point_argument a ∷ point_argument b ∷ point_argument c ∷ []) =
+    sight version [] (by_letter word 102 (Foot a b c) (by_letter word 116 (Translate a b c) (Inverse a b c)))
 seen_by version word (suc (suc zero)) (point_argument a ∷ point_argument b ∷ point_argument c ∷ []) =
     sight version []
     (by_letter word 114 (Reflect a b c)

@@ -29,13 +29,6 @@ use Rattle.geo_lowering.proofs.Laying.{AreLaid, AreNamed, laid_program, named_pr
 
 -- TERMS THAT STAY
 
-pub kept_trans : (a b c : Construction) → KeepsTerms a b → KeepsTerms b c → KeepsTerms a c
-kept_trans a b c h k = record {
-  steps = k.steps ∙ h.steps;
-  longer = let x : length a.nodes ≤ length b.nodes = h.longer in let y : length b.nodes ≤ length c.nodes = k.longer in omega arith;
-  trees = λ id w. let x : length a.nodes ≤ length b.nodes = h.longer in k.trees id (omega arith) ∙ h.trees id w;
-}
-
 pub kept_term : (a b : Construction) → KeepsTerms a b → (e : _) (id : TermId) → IsTerm a.nodes e id → IsTerm b.nodes e id
 kept_term a b h e id t = record {
   stored = let x : length a.nodes ≤ length b.nodes = h.longer in let w : id.0 < length a.nodes = t.stored in omega arith;
@@ -142,7 +135,9 @@ begun_first version p l c terms f w few same empty nothing renamed fractions =
       named_lines = 0;
       bounds = no_bounds_at l (length c.steps) c.params;
       names = named_program p w;
-      laid = subst (λ i. AreLaid version l 0 0 0 i c.params p.commands) (sym none) (subst (λ i. AreLaid version l 0 0 0 0 i p.commands) (sym nothing) (subst (λ k. AreLaid version k 0 0 0 0 0 p.commands) (sym same) (laid_program version p.commands)));
+      laid = subst (λ i. AreLaid version l 0 0 0 i c.params p.commands) (sym none)
+          (subst (λ i. AreLaid version l 0 0 0 0 i p.commands) (sym nothing)
+          (subst (λ k. AreLaid version k 0 0 0 0 0 p.commands) (sym same) (laid_program version p.commands)));
       stored = stored_program p w;
       steps = λ i. map (step_form c.nodes) (empty i) ++ steps_from version l p.nodes (none i) (nothing i) p.commands;
       params = ap (λ i. numbers_from i p.commands) nothing;
@@ -161,7 +156,8 @@ number_below version p l c terms f rest h few =
     let up : c.params ≤ numbers_from c.params rest = numbers_from-up c.params rest in
     let all : numbers_from c.params rest ≡ numbers_had p.commands = h.params in omega arith
 
-module _ (version : Version) (p : Source) (l : Layout) (terms : List TermId) (f : Fractions) (k : Command) (rest : List Command) (old : Construction) (h : IsBegun version p l old terms f (k ∷ rest)) where
+module _ (version : Version) (p : Source) (l : Layout) (terms : List TermId) (f : Fractions) (k : Command) (rest : List Command)
+    (old : Construction) (h : IsBegun version p l old terms f (k ∷ rest)) where
   -- after the number of the command, and the list of its steps
   module _ (mid : Construction) (kept : KeepsTerms old mid) (params : mid.params ≡ next_number old.params k) (list : List Step)
       (forms : HaveForms mid.nodes (command_steps version l p.nodes (length old.steps) old.params k) list) where
@@ -195,7 +191,12 @@ module _ (version : Version) (p : Source) (l : Layout) (terms : List TermId) (f 
     -- the steps are pushed
     module _ (valid : IsConstruction old) (new : Construction) (more : HasMore mid new (map (step_form mid.nodes) list)) where
       kept_all : KeepsTerms mid (record new { steps = mid.steps })
-      kept_all = record { steps = refl; longer = let e : length new.nodes ≡ length mid.nodes = ap length more.nodes in omega arith; trees = λ id w. ap (λ (nodes : Store). tree_of nodes id) more.nodes }
+      kept_all = record {
+        steps = refl;
+        longer = let e : length new.nodes ≡ length mid.nodes = ap length more.nodes in
+            omega arith;
+        trees = λ id w. ap (λ (nodes : Store). tree_of nodes id) more.nodes;
+      }
 
       new_forms : map (step_form new.nodes) new.steps ≡ map (step_form old.nodes) old.steps ++ command_steps version l p.nodes (length old.steps) old.params k
       new_forms =

@@ -2,7 +2,10 @@
 use Rattle.std.proofs.Common.{◌≡◌, ℕ, zero, suc, ◌-◌, ◌<◌, ◌≤◌, ⊎_elim, Option, Some, None, List, [], ◌∷◌, refl, sym, subst, arith}
 use Rattle.std.proofs.Math.Nat.{eq-or-lt_of_le}
 use Rattle.geo_program.specs.declared.commands.Command.{Command}
-use Rattle.geo_program.specs.declared.commands.Command.TheVariants.{Point, Param, Line, Parallel, Perp, Med, Intersec, Inter, Foot, Pratio, Tratio, Online, Lratio, Midpoint, Translate, Symmetric, Reflect, Circumcenter, Orthocenter, Centroid, Oncircle, Second, Cc, Inverse, Weights, AssumeDifferent, AssumeNotCollinear, AssumeNotParallel}
+use Rattle.geo_program.specs.declared.commands.Command.TheVariants.{Point, Param, Line, Parallel, Perp, Med, Intersec, Inter, Foot, Pratio}
+use Rattle.geo_program.specs.declared.commands.Command.TheVariants.{Tratio, Online, Lratio, Midpoint, Translate, Symmetric, Reflect}
+use Rattle.geo_program.specs.declared.commands.Command.TheVariants.{Circumcenter, Orthocenter, Centroid, Oncircle, Second, Cc, Inverse}
+use Rattle.geo_program.specs.declared.commands.Command.TheVariants.{Weights, AssumeDifferent, AssumeNotCollinear, AssumeNotParallel}
 use Rattle.geo_program.specs.declared.names.NameKind.{NameKind}
 use Rattle.geo_program.specs.declared.names.NameKind.TheVariants as kind
 use Rattle.geo_program.specs.WellFormed.{IsWellFormed, Source}
@@ -130,25 +133,83 @@ module _ (version : Version) (l : Layout) (nodes : Store) where
   command_over x y j n m M (Line a b) B f h = tt
   command_over x y j n m M (Parallel p b) B f h = let p' : l.point p.0 < n = B.points p.0 h.0 in let q' = B.lines b.0 h.1.0 in ((p', q'.0, q'.1, tt), tt)
   command_over x y j n m M (Perp p b) B f h = let p' : l.point p.0 < n = B.points p.0 h.0 in let q' = B.lines b.0 h.1.0 in ((p', q'.0, q'.1, tt), ((omega arith, omega arith, tt), tt))
-  command_over x y j n m M (Med a b) B f h = let a' : l.point a.0 < n = B.points a.0 h.0 in let b' : l.point b.0 < n = B.points b.0 h.1.0 in ((a', a', b', (tt, tt)), ((omega arith, omega arith, tt), tt))
+  command_over x y j n m M (Med a b) B f h = let a' : l.point a.0 < n = B.points a.0 h.0 in let b' : l.point b.0 < n = B.points b.0 h.1.0 in
+      ((a', a', b', (tt, tt)), ((omega arith, omega arith, tt), tt))
   command_over x y j n m M (Intersec a b) B f h = let p' = B.lines a.0 h.0 in let q' = B.lines b.0 h.1.0 in ((p'.0, p'.1, q'.0, q'.1), tt)
-  command_over x y j n m M (Inter a b c d) B f h = let a' : l.point a.0 < n = B.points a.0 h.0 in let b' : l.point b.0 < n = B.points b.0 h.1.0 in let c' : l.point c.0 < n = B.points c.0 h.1.1.0 in let d' : l.point d.0 < n = B.points d.0 h.1.1.1.0 in ((a', b', c', d'), tt)
-  command_over x y j n m M (Foot p a b) B f h = let p' : l.point p.0 < n = B.points p.0 h.0 in let a' : l.point a.0 < n = B.points a.0 h.1.0 in let b' : l.point b.0 < n = B.points b.0 h.1.1.0 in ((p', a', b'), tt)
-  command_over x y j n m M (Pratio w u v r) B f h = let w' : l.point w.0 < n = B.points w.0 h.0 in let u' : l.point u.0 < n = B.points u.0 h.1.0 in let v' : l.point v.0 < n = B.points v.0 h.1.1.0 in ((w', u', v', number_renamed l x y n M B.points (λ t e. let w : l.param t < m = B.params t e in omega arith) (tree_of nodes r) (number_expression x y (tree_of nodes r) h.1.1.1.0.0)), tt)
-  command_over x y j n m M (Tratio u v r) B f h = let u' : l.point u.0 < n = B.points u.0 h.0 in let v' : l.point v.0 < n = B.points v.0 h.1.0 in ((u', v', number_renamed l x y n M B.points (λ t e. let w : l.param t < m = B.params t e in omega arith) (tree_of nodes r) (number_expression x y (tree_of nodes r) h.1.1.0.0)), tt)
+  command_over x y j n m M (Inter a b c d) B f h = let a' : l.point a.0 < n = B.points a.0 h.0 in
+      let b' : l.point b.0 < n = B.points b.0 h.1.0 in let c' : l.point c.0 < n = B.points c.0 h.1.1.0 in
+      let d' : l.point d.0 < n = B.points d.0 h.1.1.1.0 in ((a', b', c', d'), tt)
+  command_over x y j n m M (Foot p a b) B f h = let p' : l.point p.0 < n = B.points p.0 h.0 in
+      let a' : l.point a.0 < n = B.points a.0 h.1.0 in let b' : l.point b.0 < n = B.points b.0 h.1.1.0 in ((p', a', b'), tt)
+  command_over x y j n m M (Pratio w u v r) B f h = let w' : l.point w.0 < n = B.points w.0 h.0 in
+      let u' : l.point u.0 < n = B.points u.0 h.1.0 in let v' : l.point v.0 < n = B.points v.0 h.1.1.0 in (
+        (
+          w',
+          u',
+          v',
+          number_renamed l x y n M B.points (λ t e. let w : l.param t < m = B.params t e in omega arith) (tree_of nodes r)
+              (number_expression x y (tree_of nodes r) h.1.1.1.0.0),
+        ),
+        tt,
+      )
+  command_over x y j n m M (Tratio u v r) B f h = let u' : l.point u.0 < n = B.points u.0 h.0 in
+      let v' : l.point v.0 < n = B.points v.0 h.1.0 in (
+        (
+          u',
+          v',
+          number_renamed l x y n M B.points (λ t e. let w : l.param t < m = B.params t e in omega arith) (tree_of nodes r)
+              (number_expression x y (tree_of nodes r) h.1.1.0.0),
+        ),
+        tt,
+      )
   command_over x y j n m M (Online a b) B f h = let a' : l.point a.0 < n = B.points a.0 h.0 in let b' : l.point b.0 < n = B.points b.0 h.1.0 in ((a', a', b', omega arith), tt)
-  command_over x y j n m M (Lratio a b r) B f h = let a' : l.point a.0 < n = B.points a.0 h.0 in let b' : l.point b.0 < n = B.points b.0 h.1.0 in ((a', a', b', number_renamed l x y n M B.points (λ t e. let w : l.param t < m = B.params t e in omega arith) (tree_of nodes r) (number_expression x y (tree_of nodes r) h.1.1.0.0)), tt)
+  command_over x y j n m M (Lratio a b r) B f h = let a' : l.point a.0 < n = B.points a.0 h.0 in
+      let b' : l.point b.0 < n = B.points b.0 h.1.0 in (
+        (
+          a',
+          a',
+          b',
+          number_renamed l x y n M B.points (λ t e. let w : l.param t < m = B.params t e in omega arith) (tree_of nodes r)
+              (number_expression x y (tree_of nodes r) h.1.1.0.0),
+        ),
+        tt,
+      )
   command_over x y j n m M (Midpoint a b) B f h = let a' : l.point a.0 < n = B.points a.0 h.0 in let b' : l.point b.0 < n = B.points b.0 h.1.0 in ((a', a', b', (tt, tt)), tt)
-  command_over x y j n m M (Translate a b c) B f h = let a' : l.point a.0 < n = B.points a.0 h.0 in let b' : l.point b.0 < n = B.points b.0 h.1.0 in let c' : l.point c.0 < n = B.points c.0 h.1.1.0 in ((c', a', b', tt), tt)
+  command_over x y j n m M (Translate a b c) B f h = let a' : l.point a.0 < n = B.points a.0 h.0 in
+      let b' : l.point b.0 < n = B.points b.0 h.1.0 in let c' : l.point c.0 < n = B.points c.0 h.1.1.0 in ((c', a', b', tt), tt)
   command_over x y j n m M (Symmetric a o) B f h = let a' : l.point a.0 < n = B.points a.0 h.0 in let o' : l.point o.0 < n = B.points o.0 h.1.0 in ((o', a', o', tt), tt)
-  command_over x y j n m M (Reflect a p q) B f h = let a' : l.point a.0 < n = B.points a.0 h.0 in let p' : l.point p.0 < n = B.points p.0 h.1.0 in let q' : l.point q.0 < n = B.points q.0 h.1.1.0 in ((a', p', q'), ((omega arith, omega arith, omega arith, tt), tt))
-  command_over x y j n m M (Circumcenter a b c) B f h = let a' : l.point a.0 < n = B.points a.0 h.0 in let b' : l.point b.0 < n = B.points b.0 h.1.0 in let c' : l.point c.0 < n = B.points c.0 h.1.1.0 in ((a', a', b', (tt, tt)), ((omega arith, omega arith, tt), ((omega arith, omega arith, omega arith, (tt, tt)), ((omega arith, omega arith, tt), ((omega arith, omega arith, omega arith, omega arith), tt)))))
-  command_over x y j n m M (Orthocenter a b c) B f h = let a' : l.point a.0 < n = B.points a.0 h.0 in let b' : l.point b.0 < n = B.points b.0 h.1.0 in let c' : l.point c.0 < n = B.points c.0 h.1.1.0 in ((a', b', c'), ((omega arith, omega arith, omega arith), ((omega arith, omega arith, omega arith, omega arith), tt)))
-  command_over x y j n m M (Centroid a b c) B f h = let a' : l.point a.0 < n = B.points a.0 h.0 in let b' : l.point b.0 < n = B.points b.0 h.1.0 in let c' : l.point c.0 < n = B.points c.0 h.1.1.0 in ((b', b', c', (tt, tt)), ((omega arith, omega arith, omega arith, (tt, tt)), tt))
-  command_over x y j n m M (Oncircle o a) B f h = let o' : l.point o.0 < n = B.points o.0 h.0 in let a' : l.point a.0 < n = B.points a.0 h.1.0 in ((o', a', omega arith), ((omega arith, omega arith, omega arith), ((omega arith, omega arith, omega arith, tt), tt)))
-  command_over x y j n m M (Second a b o) B f h = let a' : l.point a.0 < n = B.points a.0 h.0 in let b' : l.point b.0 < n = B.points b.0 h.1.0 in let o' : l.point o.0 < n = B.points o.0 h.1.1.0 in ((o', a', b'), ((omega arith, omega arith, omega arith, tt), tt))
-  command_over x y j n m M (Cc o p a) B f h = let o' : l.point o.0 < n = B.points o.0 h.0 in let p' : l.point p.0 < n = B.points p.0 h.1.0 in let a' : l.point a.0 < n = B.points a.0 h.1.1.0 in ((a', o', p'), ((omega arith, omega arith, omega arith, tt), tt))
-  command_over x y j n m M (Inverse p o a) B f h = let p' : l.point p.0 < n = B.points p.0 h.0 in let o' : l.point o.0 < n = B.points o.0 h.1.0 in let a' : l.point a.0 < n = B.points a.0 h.1.1.0 in ((o', o', p', ((o', a', o'), (o', p', o'))), tt)
+  command_over x y j n m M (Reflect a p q) B f h = let a' : l.point a.0 < n = B.points a.0 h.0 in
+      let p' : l.point p.0 < n = B.points p.0 h.1.0 in let q' : l.point q.0 < n = B.points q.0 h.1.1.0 in
+      ((a', p', q'), ((omega arith, omega arith, omega arith, tt), tt))
+  command_over x y j n m M (Circumcenter a b c) B f h = let a' : l.point a.0 < n = B.points a.0 h.0 in
+      let b' : l.point b.0 < n = B.points b.0 h.1.0 in let c' : l.point c.0 < n = B.points c.0 h.1.1.0 in (
+        (a', a', b', (tt, tt)),
+        (
+          (omega arith, omega arith, tt),
+          (
+            (omega arith, omega arith, omega arith, (tt, tt)),
+            ((omega arith, omega arith, tt), ((omega arith, omega arith, omega arith, omega arith), tt)),
+          ),
+        ),
+      )
+  command_over x y j n m M (Orthocenter a b c) B f h = let a' : l.point a.0 < n = B.points a.0 h.0 in
+      let b' : l.point b.0 < n = B.points b.0 h.1.0 in let c' : l.point c.0 < n = B.points c.0 h.1.1.0 in
+      ((a', b', c'), ((omega arith, omega arith, omega arith), ((omega arith, omega arith, omega arith, omega arith), tt)))
+  command_over x y j n m M (Centroid a b c) B f h = let a' : l.point a.0 < n = B.points a.0 h.0 in
+      let b' : l.point b.0 < n = B.points b.0 h.1.0 in let c' : l.point c.0 < n = B.points c.0 h.1.1.0 in
+      ((b', b', c', (tt, tt)), ((omega arith, omega arith, omega arith, (tt, tt)), tt))
+  command_over x y j n m M (Oncircle o a) B f h = let o' : l.point o.0 < n = B.points o.0 h.0 in
+      let a' : l.point a.0 < n = B.points a.0 h.1.0 in
+      ((o', a', omega arith), ((omega arith, omega arith, omega arith), ((omega arith, omega arith, omega arith, tt), tt)))
+  command_over x y j n m M (Second a b o) B f h = let a' : l.point a.0 < n = B.points a.0 h.0 in
+      let b' : l.point b.0 < n = B.points b.0 h.1.0 in let o' : l.point o.0 < n = B.points o.0 h.1.1.0 in
+      ((o', a', b'), ((omega arith, omega arith, omega arith, tt), tt))
+  command_over x y j n m M (Cc o p a) B f h = let o' : l.point o.0 < n = B.points o.0 h.0 in
+      let p' : l.point p.0 < n = B.points p.0 h.1.0 in let a' : l.point a.0 < n = B.points a.0 h.1.1.0 in
+      ((a', o', p'), ((omega arith, omega arith, omega arith, tt), tt))
+  command_over x y j n m M (Inverse p o a) B f h = let p' : l.point p.0 < n = B.points p.0 h.0 in
+      let o' : l.point o.0 < n = B.points o.0 h.1.0 in let a' : l.point a.0 < n = B.points a.0 h.1.1.0 in
+      ((o', o', p', ((o', a', o'), (o', p', o'))), tt)
   command_over x y j n m M (Weights a b c r s) B f h =
       let a' : l.point a.0 < n = B.points a.0 h.0 in
       let b' : l.point b.0 < n = B.points b.0 h.1.0 in

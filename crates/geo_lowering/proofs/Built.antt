@@ -187,7 +187,12 @@ list_forms [] h old s room = record {
 }
 list_forms (free ∷ fs) h old s room =
     let r = list_forms fs h.1 old s (omega arith) in
-    record { nodes = r.nodes; grown = grown_zero old r.nodes (forms_size fs) r.grown; steps = step.Point ∷ r.steps; forms = record { formed = ap (λ xs. free ∷ xs) r.forms.formed; stored = (tt, r.forms.stored) } }
+    record {
+      nodes = r.nodes;
+      grown = grown_zero old r.nodes (forms_size fs) r.grown;
+      steps = step.Point ∷ r.steps;
+      forms = record { formed = ap (λ xs. free ∷ xs) r.forms.formed; stored = (tt, r.forms.stored) };
+    }
 list_forms (crossing_of u v p q ∷ fs) h old s room =
     let r = list_forms fs h.1 old s (omega arith) in record {
       nodes = r.nodes;

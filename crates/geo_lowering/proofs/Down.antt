@@ -49,7 +49,8 @@ module _ (version : Version) (s : Source) (V : Placement) where
     pub met : AreFormsMet (with_points made) n (steps_from version l s.nodes n m cs)
 
   -- lines stand where points are put in behind them
-  stands_kept : (at : ℕ → Triple) (x y j n m : ℕ) (As : List Triple) → Bounds l x y j n m → AllStand version l s.nodes V (with_points at) lines j → AllStand version l s.nodes V (with_points (puts at n As)) lines j
+  stands_kept : (at : ℕ → Triple) (x y j n m : ℕ) (As : List Triple) → Bounds l x y j n m
+      → AllStand version l s.nodes V (with_points at) lines j → AllStand version l s.nodes V (with_points (puts at n As)) lines j
   stands_kept at x y j n m As B w i b =
       stands-same _ _ _ _ _ (of_path (sym (puts_below at n As _ (B.lines i b).0))) (of_path (sym (puts_below at n As _ (B.lines i b).1))) (w i b)
 
@@ -80,7 +81,8 @@ module _ (version : Version) (s : Source) (V : Placement) where
       }
 
 -- the extension of a whole program
-pub extension : (version : Version) (s : Source) (V : Placement) → IsWellFormed s → MeetsCommands s V → AreConditionsMet s V 0 s.commands → (lowered : Placement) × Extends version s V lowered × AreFormsMet lowered 0 (steps_of version s)
+pub extension : (version : Version) (s : Source) (V : Placement) → IsWellFormed s → MeetsCommands s V → AreConditionsMet s V 0 s.commands
+    → (lowered : Placement) × Extends version s V lowered × AreFormsMet lowered 0 (steps_of version s)
 extension version s V w h z =
     let d = down version s V s.commands 0 0 0 0 0 V.point (named_program s w) (laid_program version s.commands) (drawn_program s V w) (no_bounds (layout_of version s.commands))
     (λ a b. absurd (omega arith)) (λ i b. absurd (omega arith)) h z in (

@@ -10,7 +10,10 @@ use Rattle.geo_terms.specs.Constructions.{IsStep}
 use Rattle.geo_terms.specs.Stores.{Store, tree_of}
 use Rattle.geo_terms.specs.Trees.{Tree, integer_leaf, parameter_leaf, area_leaf, pythagoras_leaf, ratio_leaf, negation, addition, subtraction, multiplication, division}
 use Rattle.geo_program.specs.declared.commands.Command.{Command}
-use Rattle.geo_program.specs.declared.commands.Command.TheVariants.{Point, Param, Line, Parallel, Perp, Med, Intersec, Inter, Foot, Pratio, Tratio, Online, Lratio, Midpoint, Translate, Symmetric, Reflect, Circumcenter, Orthocenter, Centroid, Oncircle, Second, Cc, Inverse, Weights, AssumeDifferent, AssumeNotCollinear, AssumeNotParallel}
+use Rattle.geo_program.specs.declared.commands.Command.TheVariants.{Point, Param, Line, Parallel, Perp, Med, Intersec, Inter, Foot, Pratio}
+use Rattle.geo_program.specs.declared.commands.Command.TheVariants.{Tratio, Online, Lratio, Midpoint, Translate, Symmetric, Reflect}
+use Rattle.geo_program.specs.declared.commands.Command.TheVariants.{Circumcenter, Orthocenter, Centroid, Oncircle, Second, Cc, Inverse}
+use Rattle.geo_program.specs.declared.commands.Command.TheVariants.{Weights, AssumeDifferent, AssumeNotCollinear, AssumeNotParallel}
 use Rattle.geo_program.specs.declared.names.Name.{Name}
 use Rattle.geo_program.specs.declared.statements.Statement.{Statement}
 use Rattle.geo_program.specs.CanonicalText.{argument_lexemes, canonical_text, command_lexemes, commands_lexemes, condition_lexemes, lexeme_text, no_sketches, statement_lexemes}
@@ -251,7 +254,9 @@ programs_have_lowered_forms version p w short =
     let M = numbers_had p.commands in
     let over = are_steps r.nodes 0 M r.steps (subst (λ gs. AreFormsOver 0 M gs) (sym r.forms.formed) (program_over version p w)) r.forms.stored in
     let count : length r.steps ≡ points_past version 0 p.commands =
-    sym (length-map r.steps (step_form r.nodes)) ∙ ap length r.forms.formed ∙ (let q : length fs ≡ past 0 fs = let e : past 0 fs ≡ 0 + length fs = past-length 0 fs in omega arith in q) ∙ past_all version p p.commands 0 0 in
+    sym (length-map r.steps (step_form r.nodes)) ∙ ap length r.forms.formed
+    ∙ (let q : length fs ≡ past 0 fs = let e : past 0 fs ≡ 0 + length fs = past-length 0 fs in omega arith in q)
+    ∙ past_all version p p.commands 0 0 in
     let points : points_past version 0 p.commands ≤ 512 = points_within version p w in (
       record {
         construction = record { nodes = r.nodes; steps = r.steps; params = M };

@@ -28,7 +28,9 @@ use Rattle.geo_lowering.proofs.Values.{AgreeBelow}
 pub points_past-up : (version : Version) (n : ℕ) (cs : List Command) → n ≤ points_past version n cs
 points_past-up version n [] = omega arith
 points_past-up version n (c ∷ cs) =
-    let h : n ≤ next_point version n c = next_point-up version n c in let k : next_point version n c ≤ points_past version (next_point version n c) cs = points_past-up version (next_point version n c) cs in omega arith
+    let h : n ≤ next_point version n c = next_point-up version n c in
+    let k : next_point version n c ≤ points_past version (next_point version n c) cs = points_past-up version
+    (next_point version n c) cs in omega arith
 
 -- the number after the parameters, and after the lines
 abbrev pub params_past : ℕ → List Command → ℕ

@@ -22,14 +22,8 @@ along_number r s e W U V Y h = along-same _ _ _ _ _ _ _ _ _ _ (self_point W) (se
 pub from_half : (W U V Y : Point) → IsAlong W U V (quotient (whole (pos 1)) (whole (pos 2))) Y → IsAlong W U V half Y
 from_half = along_number _ _ (fractions.same_sym _ _ half-is)
 
-pub to_half : (W U V Y : Point) → IsAlong W U V half Y → IsAlong W U V (quotient (whole (pos 1)) (whole (pos 2))) Y
-to_half = along_number _ _ half-is
-
 pub from_two_thirds : (W U V Y : Point) → IsAlong W U V (quotient (whole (pos 2)) (whole (pos 3))) Y → IsAlong W U V two_thirds Y
 from_two_thirds = along_number _ _ (fractions.same_sym _ _ two_thirds-is)
-
-pub to_two_thirds : (W U V Y : Point) → IsAlong W U V two_thirds Y → IsAlong W U V (quotient (whole (pos 2)) (whole (pos 3))) Y
-to_two_thirds = along_number _ _ two_thirds-is
 
 pub three_nonzero : IsNonzero three
 unfolding whole

@@ -33,7 +33,9 @@ points_sum version nodes n (c ∷ cs) =
     let all : sum_by counts (c ∷ cs) ≡ counts c + sum_by counts cs = sum_by-cons counts c cs in omega arith
 
 pub points_within : (version : Version) (p : Source) → IsWellFormed p → points_past version 0 p.commands ≤ 512
-points_within version p w = let e : points_past version 0 p.commands ≤ 0 + sum_by (λ c. (command_form p.nodes c).points) p.commands = points_sum version p.nodes 0 p.commands in let few = w.few in omega arith
+points_within version p w =
+    let e : points_past version 0 p.commands ≤ 0
+    + sum_by (λ c. (command_form p.nodes c).points) p.commands = points_sum version p.nodes 0 p.commands in let few = w.few in omega arith
 
 -- at most one number for each command
 next_number-few : (m : ℕ) (c : Command) → next_number m c ≤ suc m

@@ -44,17 +44,48 @@ times_nonzero a b m n = is_nonzero (times a b) (λ h. not_same a m (cancel_fract
 
 pub line_stands : (A B : Point) → Stands (through A B) A B
 line_stands A B =
-    record { factor = one; nonzero = one_nonzero; by_x = geo_combination (A ∷ B ∷ []) [] [] (abscissa 1 -' abscissa 0) (whole_number 1 *' (abscissa 1 -' abscissa 0)) tt tt; by_y = geo_combination (A ∷ B ∷ []) [] [] (ordinate 1 -' ordinate 0) (whole_number 1 *' (ordinate 1 -' ordinate 0)) tt tt; down = λ X h. h; up = λ X h. h }
+    record {
+      factor = one;
+      nonzero = one_nonzero;
+      by_x = geo_combination (A ∷ B ∷ []) [] [] (abscissa 1 -' abscissa 0)
+          (whole_number 1 *' (abscissa 1 -' abscissa 0)) tt tt;
+      by_y =
+          geo_combination (A ∷ B ∷ []) [] [] (ordinate 1 -' ordinate 0) (whole_number 1 *' (ordinate 1 -' ordinate 0)) tt tt;
+      down =
+          λ X h. h;
+      up = λ X h. h;
+    }
 
 pub parallel_stands : (P : Point) (l : DrawnLine) (C D E : Point) → Stands l C D → IsAlong P C D one E → Stands (alongside P l) P E
 parallel_stands P l C D E s e =
     record {
       factor = s.factor;
       nonzero = s.nonzero;
-      by_x = geo_combination (P ∷ C ∷ D ∷ E ∷ []) ((direction l).right ∷ (direction l).upwards ∷ s.factor ∷ []) (fact (whole_number 1) (given_number 0) (given_number 2 *' (abscissa 2 -' abscissa 1)) ∷ fact (opposite' (given_number 2)) (abscissa 3 -' abscissa 0) (whole_number 1 *' (abscissa 2 -' abscissa 1)) ∷ []) (given_number 0) (given_number 2 *' (abscissa 3 -' abscissa 0)) (s.by_x, (along-x P C D one E e, tt)) tt;
-      by_y = geo_combination (P ∷ C ∷ D ∷ E ∷ []) ((direction l).right ∷ (direction l).upwards ∷ s.factor ∷ []) (fact (whole_number 1) (given_number 1) (given_number 2 *' (ordinate 2 -' ordinate 1)) ∷ fact (opposite' (given_number 2)) (ordinate 3 -' ordinate 0) (whole_number 1 *' (ordinate 2 -' ordinate 1)) ∷ []) (given_number 1) (given_number 2 *' (ordinate 3 -' ordinate 0)) (s.by_y, (along-y P C D one E e, tt)) tt;
-      down = λ X o. cross_null P E P X (geo_cancel (P ∷ C ∷ D ∷ E ∷ X ∷ []) ((direction l).right ∷ (direction l).upwards ∷ s.factor ∷ []) (fact (opposite' (whole_number 1)) ((abscissa 4 -' abscissa 0) *' given_number 1 -' (ordinate 4 -' ordinate 0) *' given_number 0) (whole_number 0) ∷ fact (ordinate 0 -' ordinate 4) (given_number 0) (given_number 2 *' (abscissa 2 -' abscissa 1)) ∷ fact (abscissa 4 -' abscissa 0) (given_number 1) (given_number 2 *' (ordinate 2 -' ordinate 1)) ∷ fact (opposite' (given_number 2 *' (ordinate 0 -' ordinate 4))) (abscissa 3 -' abscissa 0) (whole_number 1 *' (abscissa 2 -' abscissa 1)) ∷ fact (given_number 2 *' (abscissa 0 -' abscissa 4)) (ordinate 3 -' ordinate 0) (whole_number 1 *' (ordinate 2 -' ordinate 1)) ∷ []) (cross' 0 3 0 4) (whole_number 0) (given_number 2) s.nonzero (o, (s.by_x, (s.by_y, (along-x P C D one E e, (along-y P C D one E e, tt))))) tt);
-      up = λ X o. geo_combination (P ∷ C ∷ D ∷ E ∷ X ∷ []) ((direction l).right ∷ (direction l).upwards ∷ s.factor ∷ []) (fact (opposite' (given_number 2)) (cross' 0 3 0 4) (whole_number 0) ∷ fact (ordinate 0 -' ordinate 4) (given_number 0) (given_number 2 *' (abscissa 2 -' abscissa 1)) ∷ fact (abscissa 4 -' abscissa 0) (given_number 1) (given_number 2 *' (ordinate 2 -' ordinate 1)) ∷ fact (opposite' (given_number 2 *' (ordinate 0 -' ordinate 4))) (abscissa 3 -' abscissa 0) (whole_number 1 *' (abscissa 2 -' abscissa 1)) ∷ fact (given_number 2 *' (abscissa 0 -' abscissa 4)) (ordinate 3 -' ordinate 0) (whole_number 1 *' (ordinate 2 -' ordinate 1)) ∷ []) ((abscissa 4 -' abscissa 0) *' given_number 1 -' (ordinate 4 -' ordinate 0) *' given_number 0) (whole_number 0) (cross_product-is P E P X o, (s.by_x, (s.by_y, (along-x P C D one E e, (along-y P C D one E e, tt))))) tt;
+      by_x = geo_combination (P ∷ C ∷ D ∷ E ∷ []) ((direction l).right ∷ (direction l).upwards ∷ s.factor ∷ [])
+          (fact (whole_number 1) (given_number 0) (given_number 2 *' (abscissa 2 -' abscissa 1)) ∷ fact (opposite' (given_number 2))
+          (abscissa 3 -' abscissa 0) (whole_number 1 *' (abscissa 2 -' abscissa 1)) ∷ []) (given_number 0)
+          (given_number 2 *' (abscissa 3 -' abscissa 0)) (s.by_x, (along-x P C D one E e, tt)) tt;
+      by_y = geo_combination (P ∷ C ∷ D ∷ E ∷ []) ((direction l).right ∷ (direction l).upwards ∷ s.factor ∷ [])
+          (fact (whole_number 1) (given_number 1) (given_number 2 *' (ordinate 2 -' ordinate 1)) ∷ fact (opposite' (given_number 2))
+          (ordinate 3 -' ordinate 0) (whole_number 1 *' (ordinate 2 -' ordinate 1)) ∷ []) (given_number 1)
+          (given_number 2 *' (ordinate 3 -' ordinate 0)) (s.by_y, (along-y P C D one E e, tt)) tt;
+      down = λ X o. cross_null P E P X
+          (geo_cancel (P ∷ C ∷ D ∷ E ∷ X ∷ []) ((direction l).right ∷ (direction l).upwards ∷ s.factor ∷ [])
+          (fact (opposite' (whole_number 1)) ((abscissa 4 -' abscissa 0) *' given_number 1 -' (ordinate 4 -' ordinate 0) *' given_number 0)
+          (whole_number 0) ∷ fact (ordinate 0 -' ordinate 4) (given_number 0) (given_number 2 *' (abscissa 2 -' abscissa 1))
+          ∷ fact (abscissa 4 -' abscissa 0) (given_number 1) (given_number 2 *' (ordinate 2 -' ordinate 1))
+          ∷ fact (opposite' (given_number 2 *' (ordinate 0 -' ordinate 4))) (abscissa 3 -' abscissa 0)
+          (whole_number 1 *' (abscissa 2 -' abscissa 1)) ∷ fact (given_number 2 *' (abscissa 0 -' abscissa 4)) (ordinate 3 -' ordinate 0)
+          (whole_number 1 *' (ordinate 2 -' ordinate 1)) ∷ []) (cross' 0 3 0 4) (whole_number 0) (given_number 2) s.nonzero
+          (o, (s.by_x, (s.by_y, (along-x P C D one E e, (along-y P C D one E e, tt))))) tt);
+      up = λ X o. geo_combination (P ∷ C ∷ D ∷ E ∷ X ∷ []) ((direction l).right ∷ (direction l).upwards ∷ s.factor ∷ [])
+          (fact (opposite' (given_number 2)) (cross' 0 3 0 4) (whole_number 0) ∷ fact (ordinate 0 -' ordinate 4) (given_number 0)
+          (given_number 2 *' (abscissa 2 -' abscissa 1)) ∷ fact (abscissa 4 -' abscissa 0) (given_number 1)
+          (given_number 2 *' (ordinate 2 -' ordinate 1)) ∷ fact (opposite' (given_number 2 *' (ordinate 0 -' ordinate 4)))
+          (abscissa 3 -' abscissa 0) (whole_number 1 *' (abscissa 2 -' abscissa 1)) ∷ fact (given_number 2 *' (abscissa 0 -' abscissa 4))
+          (ordinate 3 -' ordinate 0) (whole_number 1 *' (ordinate 2 -' ordinate 1)) ∷ [])
+          ((abscissa 4 -' abscissa 0) *' given_number 1 -' (ordinate 4 -' ordinate 0) *' given_number 0) (whole_number 0)
+          (cross_product-is P E P X o, (s.by_x, (s.by_y, (along-x P C D one E e, (along-y P C D one E e, tt))))) tt;
     }
 
 pub perp_stands : (P : Point) (l : DrawnLine) (C D E G : Point) → Stands l C D → IsAlong P C D one E → IsTurned P E one G → Stands (upright P l) P G
@@ -62,10 +93,46 @@ perp_stands P l C D E G s e g =
     record {
       factor = s.factor;
       nonzero = s.nonzero;
-      by_x = geo_combination (P ∷ C ∷ D ∷ E ∷ G ∷ []) ((direction l).right ∷ (direction l).upwards ∷ s.factor ∷ []) (fact (opposite' (whole_number 1)) (given_number 1) (given_number 2 *' (ordinate 2 -' ordinate 1)) ∷ fact (opposite' (given_number 2)) (abscissa 4 -' abscissa 0) (opposite' (whole_number 1 *' (ordinate 3 -' ordinate 0))) ∷ fact (given_number 2) (ordinate 3 -' ordinate 0) (whole_number 1 *' (ordinate 2 -' ordinate 1)) ∷ []) (opposite' (given_number 1)) (given_number 2 *' (abscissa 4 -' abscissa 0)) (s.by_y, (turned-x P E one G g, (along-y P C D one E e, tt))) tt;
-      by_y = geo_combination (P ∷ C ∷ D ∷ E ∷ G ∷ []) ((direction l).right ∷ (direction l).upwards ∷ s.factor ∷ []) (fact (whole_number 1) (given_number 0) (given_number 2 *' (abscissa 2 -' abscissa 1)) ∷ fact (opposite' (given_number 2)) (ordinate 4 -' ordinate 0) (whole_number 1 *' (abscissa 3 -' abscissa 0)) ∷ fact (opposite' (given_number 2)) (abscissa 3 -' abscissa 0) (whole_number 1 *' (abscissa 2 -' abscissa 1)) ∷ []) (given_number 0) (given_number 2 *' (ordinate 4 -' ordinate 0)) (s.by_x, (turned-y P E one G g, (along-x P C D one E e, tt))) tt;
-      down = λ X o. cross_null P G P X (geo_cancel (P ∷ C ∷ D ∷ E ∷ G ∷ X ∷ []) ((direction l).right ∷ (direction l).upwards ∷ s.factor ∷ []) (fact (opposite' (whole_number 1)) ((abscissa 5 -' abscissa 0) *' given_number 0 +' (ordinate 5 -' ordinate 0) *' given_number 1) (whole_number 0) ∷ fact (abscissa 5 -' abscissa 0) (given_number 0) (given_number 2 *' (abscissa 2 -' abscissa 1)) ∷ fact (ordinate 5 -' ordinate 0) (given_number 1) (given_number 2 *' (ordinate 2 -' ordinate 1)) ∷ fact (opposite' (given_number 2 *' (ordinate 0 -' ordinate 5))) (abscissa 4 -' abscissa 0) (opposite' (whole_number 1 *' (ordinate 3 -' ordinate 0))) ∷ fact (given_number 2 *' (abscissa 0 -' abscissa 5)) (ordinate 4 -' ordinate 0) (whole_number 1 *' (abscissa 3 -' abscissa 0)) ∷ fact (given_number 2 *' (abscissa 0 -' abscissa 5)) (abscissa 3 -' abscissa 0) (whole_number 1 *' (abscissa 2 -' abscissa 1)) ∷ fact (given_number 2 *' (ordinate 0 -' ordinate 5)) (ordinate 3 -' ordinate 0) (whole_number 1 *' (ordinate 2 -' ordinate 1)) ∷ []) (cross' 0 4 0 5) (whole_number 0) (given_number 2) s.nonzero (o, (s.by_x, (s.by_y, (turned-x P E one G g, (turned-y P E one G g, (along-x P C D one E e, (along-y P C D one E e, tt))))))) tt);
-      up = λ X o. geo_combination (P ∷ C ∷ D ∷ E ∷ G ∷ X ∷ []) ((direction l).right ∷ (direction l).upwards ∷ s.factor ∷ []) (fact (opposite' (given_number 2)) (cross' 0 4 0 5) (whole_number 0) ∷ fact (abscissa 5 -' abscissa 0) (given_number 0) (given_number 2 *' (abscissa 2 -' abscissa 1)) ∷ fact (ordinate 5 -' ordinate 0) (given_number 1) (given_number 2 *' (ordinate 2 -' ordinate 1)) ∷ fact (opposite' (given_number 2 *' (ordinate 0 -' ordinate 5))) (abscissa 4 -' abscissa 0) (opposite' (whole_number 1 *' (ordinate 3 -' ordinate 0))) ∷ fact (given_number 2 *' (abscissa 0 -' abscissa 5)) (ordinate 4 -' ordinate 0) (whole_number 1 *' (abscissa 3 -' abscissa 0)) ∷ fact (given_number 2 *' (abscissa 0 -' abscissa 5)) (abscissa 3 -' abscissa 0) (whole_number 1 *' (abscissa 2 -' abscissa 1)) ∷ fact (given_number 2 *' (ordinate 0 -' ordinate 5)) (ordinate 3 -' ordinate 0) (whole_number 1 *' (ordinate 2 -' ordinate 1)) ∷ []) ((abscissa 5 -' abscissa 0) *' given_number 0 +' (ordinate 5 -' ordinate 0) *' given_number 1) (whole_number 0) (cross_product-is P G P X o, (s.by_x, (s.by_y, (turned-x P E one G g, (turned-y P E one G g, (along-x P C D one E e, (along-y P C D one E e, tt))))))) tt;
+      by_x = geo_combination (P ∷ C ∷ D ∷ E ∷ G ∷ []) ((direction l).right ∷ (direction l).upwards ∷ s.factor ∷ [])
+          (fact (opposite' (whole_number 1)) (given_number 1) (given_number 2 *' (ordinate 2 -' ordinate 1))
+          ∷ fact (opposite' (given_number 2)) (abscissa 4 -' abscissa 0) (opposite' (whole_number 1 *' (ordinate 3 -' ordinate 0)))
+          ∷ fact (given_number 2) (ordinate 3 -' ordinate 0) (whole_number 1 *' (ordinate 2 -' ordinate 1)) ∷ [])
+          (opposite' (given_number 1)) (given_number 2 *' (abscissa 4 -' abscissa 0))
+          (s.by_y, (turned-x P E one G g, (along-y P C D one E e, tt))) tt;
+      by_y = geo_combination (P ∷ C ∷ D ∷ E ∷ G ∷ []) ((direction l).right ∷ (direction l).upwards ∷ s.factor ∷ [])
+          (fact (whole_number 1) (given_number 0) (given_number 2 *' (abscissa 2 -' abscissa 1)) ∷ fact (opposite' (given_number 2))
+          (ordinate 4 -' ordinate 0) (whole_number 1 *' (abscissa 3 -' abscissa 0)) ∷ fact (opposite' (given_number 2))
+          (abscissa 3 -' abscissa 0) (whole_number 1 *' (abscissa 2 -' abscissa 1)) ∷ []) (given_number 0)
+          (given_number 2 *' (ordinate 4 -' ordinate 0)) (s.by_x, (turned-y P E one G g, (along-x P C D one E e, tt))) tt;
+      down = λ X o. cross_null P G P X
+          (geo_cancel (P ∷ C ∷ D ∷ E ∷ G ∷ X ∷ []) ((direction l).right ∷ (direction l).upwards ∷ s.factor ∷ [])
+          (fact (opposite' (whole_number 1)) ((abscissa 5 -' abscissa 0) *' given_number 0 +' (ordinate 5 -' ordinate 0) *' given_number 1)
+          (whole_number 0) ∷ fact (abscissa 5 -' abscissa 0) (given_number 0) (given_number 2 *' (abscissa 2 -' abscissa 1))
+          ∷ fact (ordinate 5 -' ordinate 0) (given_number 1) (given_number 2 *' (ordinate 2 -' ordinate 1))
+          ∷ fact (opposite' (given_number 2 *' (ordinate 0 -' ordinate 5))) (abscissa 4 -' abscissa 0)
+          (opposite' (whole_number 1 *' (ordinate 3 -' ordinate 0))) ∷ fact (given_number 2 *' (abscissa 0 -' abscissa 5))
+          (ordinate 4 -' ordinate 0) (whole_number 1 *' (abscissa 3 -' abscissa 0)) ∷ fact (given_number 2 *' (abscissa 0 -' abscissa 5))
+          (abscissa 3 -' abscissa 0) (whole_number 1 *' (abscissa 2 -' abscissa 1)) ∷ fact (given_number 2 *' (ordinate 0 -' ordinate 5))
+          (ordinate 3 -' ordinate 0) (whole_number 1 *' (ordinate 2 -' ordinate 1)) ∷ []) (cross' 0 4 0 5) (whole_number 0)
+          (given_number 2) s.nonzero (
+            o,
+            (s.by_x, (s.by_y, (turned-x P E one G g, (turned-y P E one G g, (along-x P C D one E e, (along-y P C D one E e, tt)))))),
+          ) tt);
+      up = λ X o. geo_combination (P ∷ C ∷ D ∷ E ∷ G ∷ X ∷ []) ((direction l).right ∷ (direction l).upwards ∷ s.factor ∷ [])
+          (fact (opposite' (given_number 2)) (cross' 0 4 0 5) (whole_number 0) ∷ fact (abscissa 5 -' abscissa 0) (given_number 0)
+          (given_number 2 *' (abscissa 2 -' abscissa 1)) ∷ fact (ordinate 5 -' ordinate 0) (given_number 1)
+          (given_number 2 *' (ordinate 2 -' ordinate 1)) ∷ fact (opposite' (given_number 2 *' (ordinate 0 -' ordinate 5)))
+          (abscissa 4 -' abscissa 0) (opposite' (whole_number 1 *' (ordinate 3 -' ordinate 0)))
+          ∷ fact (given_number 2 *' (abscissa 0 -' abscissa 5)) (ordinate 4 -' ordinate 0) (whole_number 1 *' (abscissa 3 -' abscissa 0))
+          ∷ fact (given_number 2 *' (abscissa 0 -' abscissa 5)) (abscissa 3 -' abscissa 0) (whole_number 1 *' (abscissa 2 -' abscissa 1))
+          ∷ fact (given_number 2 *' (ordinate 0 -' ordinate 5)) (ordinate 3 -' ordinate 0) (whole_number 1 *' (ordinate 2 -' ordinate 1))
+          ∷ []) ((abscissa 5 -' abscissa 0) *' given_number 0 +' (ordinate 5 -' ordinate 0) *' given_number 1) (whole_number 0) (
+            cross_product-is P G P X o,
+            (
+              s.by_x,
+              (s.by_y, (turned-x P E one G g, (turned-y P E one G g, (along-x P C D one E e, (along-y P C D one E e, tt))))),
+            ),
+          ) tt;
     }
 
 pub med_stands : (A B D E : Point) → IsAlong A A B half D → IsTurned D B one E → Stands (bisector A B) D E
@@ -73,17 +140,41 @@ med_stands A B D E d e =
     record {
       factor = two;
       nonzero = two_nonzero;
-      by_x = geo_combination (A ∷ B ∷ D ∷ E ∷ []) [] (fact (opposite' (whole_number 2)) (abscissa 3 -' abscissa 2) (opposite' (whole_number 1 *' (ordinate 1 -' ordinate 2))) ∷ fact (opposite' (whole_number 2)) (ordinate 2 -' ordinate 0) (one_half *' (ordinate 1 -' ordinate 0)) ∷ fact (ordinate 0 -' ordinate 1) (whole_number 2 *' one_half) (whole_number 1) ∷ []) (opposite' (ordinate 1 -' ordinate 0)) (whole_number 2 *' (abscissa 3 -' abscissa 2)) (turned-x D B one E e, (along-y A A B half D d, (two_halves, tt))) tt;
-      by_y = geo_combination (A ∷ B ∷ D ∷ E ∷ []) [] (fact (opposite' (whole_number 2)) (ordinate 3 -' ordinate 2) (whole_number 1 *' (abscissa 1 -' abscissa 2)) ∷ fact (whole_number 2) (abscissa 2 -' abscissa 0) (one_half *' (abscissa 1 -' abscissa 0)) ∷ fact (abscissa 1 -' abscissa 0) (whole_number 2 *' one_half) (whole_number 1) ∷ []) (abscissa 1 -' abscissa 0) (whole_number 2 *' (ordinate 3 -' ordinate 2)) (turned-y D B one E e, (along-x A A B half D d, (two_halves, tt))) tt;
+      by_x = geo_combination (A ∷ B ∷ D ∷ E ∷ []) []
+          (fact (opposite' (whole_number 2)) (abscissa 3 -' abscissa 2) (opposite' (whole_number 1 *' (ordinate 1 -' ordinate 2)))
+          ∷ fact (opposite' (whole_number 2)) (ordinate 2 -' ordinate 0) (one_half *' (ordinate 1 -' ordinate 0))
+          ∷ fact (ordinate 0 -' ordinate 1) (whole_number 2 *' one_half) (whole_number 1) ∷ []) (opposite' (ordinate 1 -' ordinate 0))
+          (whole_number 2 *' (abscissa 3 -' abscissa 2)) (turned-x D B one E e, (along-y A A B half D d, (two_halves, tt))) tt;
+      by_y = geo_combination (A ∷ B ∷ D ∷ E ∷ []) []
+          (fact (opposite' (whole_number 2)) (ordinate 3 -' ordinate 2) (whole_number 1 *' (abscissa 1 -' abscissa 2))
+          ∷ fact (whole_number 2) (abscissa 2 -' abscissa 0) (one_half *' (abscissa 1 -' abscissa 0)) ∷ fact (abscissa 1 -' abscissa 0)
+          (whole_number 2 *' one_half) (whole_number 1) ∷ []) (abscissa 1 -' abscissa 0) (whole_number 2 *' (ordinate 3 -' ordinate 2))
+          (turned-y D B one E e, (along-x A A B half D d, (two_halves, tt))) tt;
       down = λ X o. bisector_down A B X D E d e o;
       up = λ X o. bisector_up A B X D E d e o;
     }
 
 pub directions-are : (l m : DrawnLine) (C D E G : Point) → Stands l C D → Stands m E G
-    → (Same (cross_direction (direction l) (direction m)) (whole (pos 0)) → cross_product C D E G ≡ pos 0) × (cross_product C D E G ≡ pos 0 → Same (cross_direction (direction l) (direction m)) (whole (pos 0)))
+    → (Same (cross_direction (direction l) (direction m)) (whole (pos 0)) → cross_product C D E G ≡ pos 0)
+    × (cross_product C D E G ≡ pos 0 → Same (cross_direction (direction l) (direction m)) (whole (pos 0)))
 directions-are l m C D E G s u = (
-  λ h. cross_null C D E G (geo_cancel (C ∷ D ∷ E ∷ G ∷ []) ((direction l).right ∷ (direction l).upwards ∷ s.factor ∷ (direction m).right ∷ (direction m).upwards ∷ u.factor ∷ []) (fact (whole_number 1) (given_number 0 *' given_number 4 -' given_number 1 *' given_number 3) (whole_number 0) ∷ fact (opposite' (given_number 4)) (given_number 0) (given_number 2 *' (abscissa 1 -' abscissa 0)) ∷ fact (given_number 3) (given_number 1) (given_number 2 *' (ordinate 1 -' ordinate 0)) ∷ fact (opposite' (given_number 2 *' (ordinate 0 -' ordinate 1))) (given_number 3) (given_number 5 *' (abscissa 3 -' abscissa 2)) ∷ fact (given_number 2 *' (abscissa 0 -' abscissa 1)) (given_number 4) (given_number 5 *' (ordinate 3 -' ordinate 2)) ∷ []) (cross' 0 1 2 3) (whole_number 0) (given_number 2 *' given_number 5) (times_nonzero s.factor u.factor s.nonzero u.nonzero) (h, (s.by_x, (s.by_y, (u.by_x, (u.by_y, tt))))) tt),
-  λ h. geo_combination (C ∷ D ∷ E ∷ G ∷ []) ((direction l).right ∷ (direction l).upwards ∷ s.factor ∷ (direction m).right ∷ (direction m).upwards ∷ u.factor ∷ []) (fact (given_number 2 *' given_number 5) (cross' 0 1 2 3) (whole_number 0) ∷ fact (given_number 4) (given_number 0) (given_number 2 *' (abscissa 1 -' abscissa 0)) ∷ fact (opposite' (given_number 3)) (given_number 1) (given_number 2 *' (ordinate 1 -' ordinate 0)) ∷ fact (given_number 2 *' (ordinate 0 -' ordinate 1)) (given_number 3) (given_number 5 *' (abscissa 3 -' abscissa 2)) ∷ fact (opposite' (given_number 2 *' (abscissa 0 -' abscissa 1))) (given_number 4) (given_number 5 *' (ordinate 3 -' ordinate 2)) ∷ []) (given_number 0 *' given_number 4 -' given_number 1 *' given_number 3) (whole_number 0) (cross_product-is C D E G h, (s.by_x, (s.by_y, (u.by_x, (u.by_y, tt))))) tt,
+  λ h. cross_null C D E G (geo_cancel (C ∷ D ∷ E ∷ G ∷ [])
+      ((direction l).right ∷ (direction l).upwards ∷ s.factor ∷ (direction m).right ∷ (direction m).upwards ∷ u.factor ∷ [])
+      (fact (whole_number 1) (given_number 0 *' given_number 4 -' given_number 1 *' given_number 3) (whole_number 0)
+      ∷ fact (opposite' (given_number 4)) (given_number 0) (given_number 2 *' (abscissa 1 -' abscissa 0))
+      ∷ fact (given_number 3) (given_number 1) (given_number 2 *' (ordinate 1 -' ordinate 0))
+      ∷ fact (opposite' (given_number 2 *' (ordinate 0 -' ordinate 1))) (given_number 3) (given_number 5 *' (abscissa 3 -' abscissa 2))
+      ∷ fact (given_number 2 *' (abscissa 0 -' abscissa 1)) (given_number 4) (given_number 5 *' (ordinate 3 -' ordinate 2)) ∷ [])
+      (cross' 0 1 2 3) (whole_number 0) (given_number 2 *' given_number 5) (times_nonzero s.factor u.factor s.nonzero u.nonzero)
+      (h, (s.by_x, (s.by_y, (u.by_x, (u.by_y, tt))))) tt),
+  λ h. geo_combination (C ∷ D ∷ E ∷ G ∷ [])
+      ((direction l).right ∷ (direction l).upwards ∷ s.factor ∷ (direction m).right ∷ (direction m).upwards ∷ u.factor ∷ [])
+      (fact (given_number 2 *' given_number 5) (cross' 0 1 2 3) (whole_number 0) ∷ fact (given_number 4) (given_number 0)
+      (given_number 2 *' (abscissa 1 -' abscissa 0)) ∷ fact (opposite' (given_number 3)) (given_number 1)
+      (given_number 2 *' (ordinate 1 -' ordinate 0)) ∷ fact (given_number 2 *' (ordinate 0 -' ordinate 1)) (given_number 3)
+      (given_number 5 *' (abscissa 3 -' abscissa 2)) ∷ fact (opposite' (given_number 2 *' (abscissa 0 -' abscissa 1))) (given_number 4)
+      (given_number 5 *' (ordinate 3 -' ordinate 2)) ∷ []) (given_number 0 *' given_number 4 -' given_number 1 *' given_number 3)
+      (whole_number 0) (cross_product-is C D E G h, (s.by_x, (s.by_y, (u.by_x, (u.by_y, tt))))) tt,
 )
 
 pub crossing-is : (l m : DrawnLine) (C D E G : Point) → Stands l C D → Stands m E G

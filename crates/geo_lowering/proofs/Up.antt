@@ -10,7 +10,10 @@ use Rattle.geo_terms.specs.Stores.{Store, tree_of}
 use Rattle.geo_terms.specs.Trees.{Tree}
 use Rattle.geo_terms.specs.Values.{HasTreeValue, tree_value}
 use Rattle.geo_program.specs.declared.commands.Command.{Command}
-use Rattle.geo_program.specs.declared.commands.Command.TheVariants.{Point, Param, Line, Parallel, Perp, Med, Intersec, Inter, Foot, Pratio, Tratio, Online, Lratio, Midpoint, Translate, Symmetric, Reflect, Circumcenter, Orthocenter, Centroid, Oncircle, Second, Cc, Inverse, Weights, AssumeDifferent, AssumeNotCollinear, AssumeNotParallel}
+use Rattle.geo_program.specs.declared.commands.Command.TheVariants.{Point, Param, Line, Parallel, Perp, Med, Intersec, Inter, Foot, Pratio}
+use Rattle.geo_program.specs.declared.commands.Command.TheVariants.{Tratio, Online, Lratio, Midpoint, Translate, Symmetric, Reflect}
+use Rattle.geo_program.specs.declared.commands.Command.TheVariants.{Circumcenter, Orthocenter, Centroid, Oncircle, Second, Cc, Inverse}
+use Rattle.geo_program.specs.declared.commands.Command.TheVariants.{Weights, AssumeDifferent, AssumeNotCollinear, AssumeNotParallel}
 use Rattle.geo_program.specs.declared.names.NameKind.{NameKind}
 use Rattle.geo_program.specs.declared.names.NameKind.TheVariants as kind
 use Rattle.geo_program.specs.WellFormed.{IsWellFormed, Source}
@@ -79,7 +82,9 @@ module _ (version : Version) (l : Layout) (nodes : Store) (placed lowered : Plac
       (turned-same _ _ _ _ _ _ _ _ (self_point _) B (fractions.same_refl _) (self_point _) h.1.0.1)
   drawn_stands x y j n m _ g s n' h e = cc
 
-  next_stands : (j n : ℕ) (k : Option NameKind) (c : Command) → named c ≡ k → AllStand j → (named c ≡ Some kind.Line → Stands (line_at lines j) (lowered.point (l.line j).left) (lowered.point (l.line j).right)) → AllStand (counted kind.Line k j)
+  next_stands : (j n : ℕ) (k : Option NameKind) (c : Command) → named c ≡ k → AllStand j
+      → (named c ≡ Some kind.Line → Stands (line_at lines j) (lowered.point (l.line j).left) (lowered.point (l.line j).right))
+      → AllStand (counted kind.Line k j)
   next_stands j n (Some kind.Line) c e s d i b =
       ⊎_elim (λ (y : i ≡ j). subst (λ z. Stands (line_at lines z) (lowered.point (l.line z).left) (lowered.point (l.line z).right)) (sym y) (d e)) (λ (u : i < j). s i u) (eq-or-lt_of_le (omega arith))
   next_stands j n (Some kind.Point) c e s d i b = s i b
@@ -141,7 +146,8 @@ module _ (version : Version) (s : Source) (lowered : Placement) where
       → HasTreeValue (reading s V) e × IsTurned U Z (tree_value (reading s V) e) Y
   turned_read e U Z Y h = (subst (λ (A : Type 0). A) (renamed-has l lowered e) h.0, subst (λ r. IsTurned U Z r Y) (renamed-value l lowered e) h.1)
 
-  weighted_read : (e f : Tree) (A B C Y : Triple) → HasTreeValue lowered (renamed l e) × HasTreeValue lowered (renamed l f) × IsWeighted A B C (tree_value lowered (renamed l e)) (tree_value lowered (renamed l f)) Y
+  weighted_read : (e f : Tree) (A B C Y : Triple) → HasTreeValue lowered (renamed l e) × HasTreeValue lowered (renamed l f)
+      × IsWeighted A B C (tree_value lowered (renamed l e)) (tree_value lowered (renamed l f)) Y
       → HasTreeValue (reading s V) e × HasTreeValue (reading s V) f × IsWeighted A B C (tree_value (reading s V) e) (tree_value (reading s V) f) Y
   weighted_read e f A B C Y h = (
     subst (λ (A : Type 0). A) (renamed-has l lowered e) h.0,
@@ -169,9 +175,14 @@ module _ (version : Version) (s : Source) (lowered : Placement) where
   command_up x y j n m (Translate a b c) k e h = translate_up (lowered.point n) (V.point a.0) (V.point b.0) (V.point c.0) h.0.1
   command_up x y j n m (Symmetric a o) k e h = symmetric_up (lowered.point n) (V.point a.0) (V.point o.0) h.0.1
   command_up x y j n m (Reflect a p q) k e h = reflect_up (lowered.point (suc n)) (V.point a.0) (V.point p.0) (V.point q.0) (lowered.point n) h.0 h.1.0.1
-  command_up x y j n m (Circumcenter a b c) k e h = circumcenter_up (lowered.point (suc (suc (suc (suc n))))) (V.point a.0) (V.point b.0) (V.point c.0) (lowered.point n) (lowered.point (suc n)) (lowered.point (suc (suc n))) (lowered.point (suc (suc (suc n)))) (from_half _ _ _ _ h.0.1) h.1.0.1 (from_half _ _ _ _ h.1.1.0.1) h.1.1.1.0.1 h.1.1.1.1.0
+  command_up x y j n m (Circumcenter a b c) k e h =
+      circumcenter_up (lowered.point (suc (suc (suc (suc n))))) (V.point a.0) (V.point b.0) (V.point c.0) (lowered.point n)
+      (lowered.point (suc n)) (lowered.point (suc (suc n))) (lowered.point (suc (suc (suc n)))) (from_half _ _ _ _ h.0.1) h.1.0.1
+      (from_half _ _ _ _ h.1.1.0.1) h.1.1.1.0.1 h.1.1.1.1.0
   command_up x y j n m (Orthocenter a b c) k e h = orthocenter_up (lowered.point (suc (suc n))) (V.point a.0) (V.point b.0) (V.point c.0) (lowered.point n) (lowered.point (suc n)) h.0 h.1.0 h.1.1.0
-  command_up x y j n m (Centroid a b c) k e h = centroid_up (lowered.point (suc n)) (V.point a.0) (V.point b.0) (V.point c.0) (lowered.point n) (from_half _ _ _ _ h.0.1) (from_two_thirds _ _ _ _ h.1.0.1)
+  command_up x y j n m (Centroid a b c) k e h =
+      centroid_up (lowered.point (suc n)) (V.point a.0) (V.point b.0) (V.point c.0) (lowered.point n) (from_half _ _ _ _ h.0.1)
+      (from_two_thirds _ _ _ _ h.1.0.1)
   command_up x y j n m (Oncircle o a) k e h = oncircle_up (lowered.point (suc (suc n))) (V.point o.0) (V.point a.0) (lowered.number m) (lowered.point n) (lowered.point (suc n)) h.0.1 h.1.0 h.1.1.0.1
   command_up x y j n m (Second a b o) k e h = second_up (lowered.point (suc n)) (V.point a.0) (V.point b.0) (V.point o.0) (lowered.point n) h.0 h.1.0.1
   command_up x y j n m (Cc o p a) k e h = cc_up (lowered.point (suc n)) (V.point o.0) (V.point p.0) (V.point a.0) (lowered.point n) h.0 h.1.0.1

@@ -10,13 +10,17 @@ use Rattle.geo_points.specs.Steps.{IsAlong, IsTurned, IsWeighted}
 use Rattle.geo_terms.specs.Stores.{tree_of}
 use Rattle.geo_terms.specs.Values.{HasTreeValue, tree_value}
 use Rattle.geo_program.specs.declared.commands.Command.{Command}
-use Rattle.geo_program.specs.declared.commands.Command.TheVariants.{Point, Param, Line, Parallel, Perp, Med, Intersec, Inter, Foot, Pratio, Tratio, Online, Lratio, Midpoint, Translate, Symmetric, Reflect, Circumcenter, Orthocenter, Centroid, Oncircle, Second, Cc, Inverse, Weights, AssumeDifferent, AssumeNotCollinear, AssumeNotParallel}
+use Rattle.geo_program.specs.declared.commands.Command.TheVariants.{Point, Param, Line, Parallel, Perp, Med, Intersec, Inter, Foot, Pratio}
+use Rattle.geo_program.specs.declared.commands.Command.TheVariants.{Tratio, Online, Lratio, Midpoint, Translate, Symmetric, Reflect}
+use Rattle.geo_program.specs.declared.commands.Command.TheVariants.{Circumcenter, Orthocenter, Centroid, Oncircle, Second, Cc, Inverse}
+use Rattle.geo_program.specs.declared.commands.Command.TheVariants.{Weights, AssumeDifferent, AssumeNotCollinear, AssumeNotParallel}
 use Rattle.geo_program.specs.declared.commands.LineId.{LineId}
 use Rattle.geo_program.specs.declared.names.NameKind.TheVariants as kind
 use Rattle.geo_program.specs.WellFormed.{Source}
 use Rattle.geo_lowering.specs.Counting.{named, counted, next_number, param_place}
 use Rattle.geo_lowering.specs.Lines.{DrawnLine, through, alongside, upright, bisector, line_at, IsOn}
-use Rattle.geo_lowering.specs.Relations.{IsOnBothLines, IsProjection, IsMidpoint, IsTranslate, IsSymmetric, IsReflection, IsCircumcenter, IsOrthocenter, IsCentroid, IsOnCircle, IsOnLineAndCircle, IsOnBothCircles, IsInverse}
+use Rattle.geo_lowering.specs.Relations.{IsOnBothLines, IsProjection, IsMidpoint, IsTranslate, IsSymmetric, IsReflection, IsCircumcenter}
+use Rattle.geo_lowering.specs.Relations.{IsOrthocenter, IsCentroid, IsOnCircle, IsOnLineAndCircle, IsOnBothCircles, IsInverse}
 
 -- the placement as the terms of the program read it: they name parameters alone, and no other number
 abbrev pub reading : Source → Placement → Placement

@@ -8,7 +8,9 @@ use Rattle.geo_terms.specs.Stores.{Store, tree_of}
 use Rattle.geo_terms.specs.Trees.{Tree, integer_leaf, ratio_leaf, negation, addition, subtraction, multiplication, division}
 use Rattle.geo_terms.specs.Values.{HasTreeValue, tree_value}
 use Rattle.geo_program.specs.declared.commands.Command.{Command}
-use Rattle.geo_program.specs.declared.commands.Command.TheVariants.{Line, Med, Intersec, Inter, Foot, Pratio, Tratio, Online, Lratio, Reflect, Circumcenter, Orthocenter, Oncircle, Second, Cc, Inverse, Weights, AssumeDifferent, AssumeNotCollinear, AssumeNotParallel}
+use Rattle.geo_program.specs.declared.commands.Command.TheVariants.{Line, Med, Intersec, Inter, Foot, Pratio, Tratio, Online, Lratio}
+use Rattle.geo_program.specs.declared.commands.Command.TheVariants.{Reflect, Circumcenter, Orthocenter, Oncircle, Second, Cc, Inverse}
+use Rattle.geo_program.specs.declared.commands.Command.TheVariants.{Weights, AssumeDifferent, AssumeNotCollinear, AssumeNotParallel}
 use Rattle.geo_program.specs.declared.commands.LineId.{LineId}
 use Rattle.geo_program.specs.declared.names.NameKind.TheVariants as kind
 use Rattle.geo_program.specs.WellFormed.{Source}

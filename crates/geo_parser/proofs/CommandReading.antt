@@ -1,12 +1,13 @@
 -- Reading the words and the names of commands.
-use Rattle.std.proofs.Common.{◌≡◌, true≢false, ℕ, zero, suc, ◌+◌, ◌<◌, ◌≤◌, Bool, true, false, cond, List, [], ◌∷◌, ◌++◌, length, get_or, map, Some, None, is_some, codes, refl, sym, ap, ◌∙◌, subst, subst₂, arith, length-append}
+use Rattle.std.proofs.Common.{◌≡◌, true≢false, ℕ, zero, suc, ◌+◌, ◌<◌, ◌≤◌, Bool, true, false, cond, List, [], ◌∷◌, ◌++◌, length, get_or}
+use Rattle.std.proofs.Common.{map, Some, None, is_some, codes, refl, sym, ap, ◌∙◌, subst, arith, length-append}
 use Rattle.std.specs.Prelude.{All, Contains, Option, find, if◌then◌else◌, nat_le, option_map}
 use Rattle.std.specs.List.{flat_map}
 use Rattle.std.proofs.lemmas.List.{append-nil, length-map}
 use Rattle.std.proofs.lemmas.List.Elements.{All-cons, All-nil}
 use Rattle.geo_lexer.specs.declared.token_types.Fault.{Fault}
 use Rattle.geo_lexer.specs.Lexemes.{Lexeme, word_lexeme, number_lexeme, open_brace, close_brace}
-use Rattle.geo_program.specs.CanonicalText.{argument_lexemes, condition_lexemes, sketch_lexemes}
+use Rattle.geo_program.specs.CanonicalText.{argument_lexemes, sketch_lexemes}
 use Rattle.geo_program.specs.Forms.{CommandForm, command_form}
 use Rattle.geo_program.specs.WellFormed.{AllDiffer, IsArgument, empty_scope, kinds_made, scope_of}
 use Rattle.geo_program.specs.Words.{IsNameText, reserved_words}
@@ -16,14 +17,13 @@ use Rattle.geo_program.specs.declared.names.NameKind.{NameKind}
 use Rattle.geo_program.proofs.Pushing.{AllDiffer-push}
 use Rattle.geo_parser.specs.declared.command_words.CommandWord.{CommandWord}
 use Rattle.geo_parser.specs.declared.command_words.CommandWord.TheVariants.{Assume, Point}
-use Rattle.geo_parser.specs.declared.command_words.ConditionWord.{ConditionWord}
 use Rattle.geo_parser.specs.declared.reader.Reader.{Reader}
 use Rattle.geo_parser.specs.Inner.Coming.{Coming, fault_from, fault_here, lexemes_of, next_lexeme}
-use Rattle.geo_parser.specs.Inner.CommandWords.{command_condition, command_due, command_kind, command_points, command_slots, command_text}
+use Rattle.geo_parser.specs.Inner.CommandWords.{command_due, command_kind, command_points, command_slots}
 use Rattle.geo_parser.specs.Inner.Dictionaries.{IsNew, IsNoNewName, name_of}
 use Rattle.geo_parser.specs.Forms.{Due, Slot, command_slot, commands, condition_slot, due_behind, naming_commands, new_name_slot}
 use Rattle.geo_parser.specs.Inner.Symbols.{IsWord}
-use Rattle.geo_parser.specs.Inner.Reads.{Passes, ReadsCommand, ReadsCondition, ReadsForm, ReadsNewName, ReadsProve, ReadsWord, Refuses, a_name, extent, fault_of, reading, statement_slots}
+use Rattle.geo_parser.specs.Inner.Reads.{Passes, ReadsCommand, ReadsForm, ReadsNewName, Refuses, a_name, extent, fault_of, reading, statement_slots}
 use Rattle.geo_parser.specs.Refusals.{fault_at, first_fault}
 use Rattle.geo_parser.specs.Slots.{Outcome, Reading, begin_command, completed, follow, next, refused, taken}
 use Rattle.geo_parser.specs.Texts.{is_text}
@@ -41,7 +41,8 @@ module _ (r : Reading) (word : List ℕ) (rest : List Slot) where
   pub begin_command-prove : is_text word (codes "prove") ≡ true → begin_command r word rest ≡ taken (completed r) statement_slots
   begin_command-prove h = ap (λ b. by_word b (due_behind word commands) r rest) h
 
-  pub begin_command-due : (due : Option (List Slot)) → is_text word (codes "prove") ≡ false → due ≡ due_behind word commands → begin_command r word rest ≡ follow (completed r) due (command_slot ∷ rest)
+  pub begin_command-due : (due : Option (List Slot)) → is_text word (codes "prove") ≡ false → due ≡ due_behind word commands
+      → begin_command r word rest ≡ follow (completed r) due (command_slot ∷ rest)
   begin_command-due due h is = ap (λ b. by_word b (due_behind word commands) r rest) h ∙ ap (λ o. follow (completed r) o (command_slot ∷ rest)) (sym is)
 
 -- behind another word than `assume` a new name is due
@@ -54,30 +55,8 @@ pub completed_none : (names : List Name) (points : ℕ) → completed (reading n
 completed_none names points = ap (λ ns. reading ns [] points) (append-nil names)
 
 module _ (s : Reader) (word : List ℕ) (is : next_lexeme s.cursor.tokens ≡ Some (word_lexeme word)) where
-  pub ReadsProve-token : is_text word (codes "prove") ≡ true → word ≡ codes "prove" → ReadsProve s (advanced s)
-  ReadsProve-token h same =
-      let P : List ℕ → Type 0 = λ w. Passes s (advanced s) (word_lexeme w ∷ []) in record {
-        passes = subst P same (Passes-token s (word_lexeme word) is);
-        names = refl;
-        points = refl;
-        terms = refl;
-        follows = λ rest. first_fault-taken _ _ _ _ s.cursor.tokens s.cursor.end s.cursor.stop (word_lexeme word) is
-            (begin_command-prove (reading s.names [] s.points) word rest h ∙ ap (λ r. taken r statement_slots) (completed_none s.names s.points));
-      }
-
-  pub ReadsWord-token : (command : CommandWord) → is_text word (codes "prove") ≡ false → is_text word (codes "assume") ≡ false → Some (command_due command) ≡ due_behind word naming_commands
-      → command_text command ≡ word → command_condition command ≡ None → ReadsWord command s (advanced s)
-  ReadsWord-token command h no_assume due text condition =
-      let P : List ℕ → Option (List ℕ) → Type 0 = λ w o. Passes s (advanced s) (word_lexeme w ∷ condition_lexemes o) in record {
-        passes = subst₂ P (sym text) (sym condition) (Passes-token s (word_lexeme word) is);
-        names = refl;
-        points = refl;
-        terms = refl;
-        follows = λ rest. first_fault-taken _ _ _ _ s.cursor.tokens s.cursor.end s.cursor.stop (word_lexeme word) is
-            (begin_command-due (reading s.names [] s.points) word rest (Some (command_due command)) h (due ∙ sym (due_behind-naming word no_assume)) ∙ ap (λ r. taken r (command_due command ++ command_slot ∷ rest)) (completed_none s.names s.points));
-      }
-
-  pub Refuses-no_command : is_text word (codes "prove") ≡ false → is_text word (codes "assume") ≡ false → None ≡ due_behind word naming_commands → Refuses (command_slot ∷ []) s (fault_here 4 s.cursor.tokens s.cursor.end s.cursor.stop)
+  pub Refuses-no_command : is_text word (codes "prove") ≡ false → is_text word (codes "assume") ≡ false
+      → None ≡ due_behind word naming_commands → Refuses (command_slot ∷ []) s (fault_here 4 s.cursor.tokens s.cursor.end s.cursor.stop)
   Refuses-no_command h no_assume none =
       Refuses-token (command_slot ∷ []) s (word_lexeme word) is 4 (λ begun rest. begin_command-due (reading s.names begun s.points) word rest None h (none ∙ sym (due_behind-naming word no_assume)))
 
@@ -88,23 +67,14 @@ module _ (s : Reader) (word : List ℕ) (is : next_lexeme s.cursor.tokens ≡ So
         first_fault-taken _ _ _ _ s.cursor.tokens s.cursor.end s.cursor.stop (word_lexeme word) is
         (ap (λ w. begin_command (reading s.names [] s.points) w rest) same ∙ ap (λ r. taken r (condition_slot ∷ command_slot ∷ rest)) (completed_none s.names s.points))
 
-    pub ReadsWord-assume : (b : Reader) (condition : ConditionWord) → ReadsCondition condition (advanced s) b → ReadsWord (Assume condition) s b
-    ReadsWord-assume b condition h =
-        let P : List ℕ → Type 0 = λ w. Passes s (advanced s) (word_lexeme w ∷ []) in record {
-          passes = Passes-then s (advanced s) b (word_lexeme (codes "assume") ∷ []) _ (subst P same (Passes-token s (word_lexeme word) is)) h.passes;
-          names = h.names;
-          points = h.points;
-          terms = h.terms;
-          follows = λ rest. assume_goes rest ∙ h.follows [] (command_slot ∷ rest);
-        }
-
     pub Refuses-condition : (f : Fault) → Refuses (condition_slot ∷ []) (advanced s) f → fault_of s [] (command_slot ∷ []) ≡ Some f
     Refuses-condition f h = assume_goes [] ∙ h.first [] (command_slot ∷ [])
 
   -- A NEW NAME
 
   -- a word that can be no new name is refused
-  pub Refuses-no_new_name : (kind : NameKind) (points refusal : ℕ) → IsNoNewName s.names word refusal → Refuses (new_name_slot kind points ∷ []) s (fault_here refusal s.cursor.tokens s.cursor.end s.cursor.stop)
+  pub Refuses-no_new_name : (kind : NameKind) (points refusal : ℕ) → IsNoNewName s.names word refusal
+      → Refuses (new_name_slot kind points ∷ []) s (fault_here refusal s.cursor.tokens s.cursor.end s.cursor.stop)
   Refuses-no_new_name kind points refusal h =
       Refuses-token (new_name_slot kind points ∷ []) s (word_lexeme word) is refusal (λ begun rest. h.may_not (reading s.names begun s.points) kind points rest refl)
 
@@ -112,10 +82,13 @@ module _ (s : Reader) (word : List ℕ) (is : next_lexeme s.cursor.tokens ≡ So
     -- a new name with which there are too many points is refused
     pub Refuses-points : (kind : NameKind) → nat_le (s.points + points) 512 ≡ false → Refuses (new_name_slot kind points ∷ []) s (fault_here 10 s.cursor.tokens s.cursor.end s.cursor.stop)
     Refuses-points kind many =
-        Refuses-token (new_name_slot kind points ∷ []) s (word_lexeme word) is 10 (λ begun rest. begin_name-new (reading s.names begun s.points) s.names refl kind points word rest false new.free new.undeclared many)
+        Refuses-token (new_name_slot kind points ∷ []) s (word_lexeme word) is 10
+        (λ begun rest. begin_name-new (reading s.names begun s.points) s.names refl kind points word rest false new.free new.undeclared
+        many)
 
     -- another one is read
-    pub ReadsNewName-token : nat_le (s.points + points) 512 ≡ true → s.points + points ≤ 512 → IsWord word → (Contains reserved_words word → ⊥) → ReadsNewName points s (record (advanced s) { points = s.points + points }) word
+    pub ReadsNewName-token : nat_le (s.points + points) 512 ≡ true → s.points + points ≤ 512 → IsWord word
+        → (Contains reserved_words word → ⊥) → ReadsNewName points s (record (advanced s) { points = s.points + points }) word
     ReadsNewName-token few below valid free = record {
       passes = record { spelt = (Passes-token s (word_lexeme word) is).spelt; stop = refl };
       names = refl;
@@ -135,17 +108,21 @@ abbrev by_completed : Reading → Bool → Option (List Slot) → List Slot → 
 by_completed r prove due rest = if prove then taken r statement_slots else follow r due (command_slot ∷ rest)
 
 -- where a command is due, the name that is begun may be declared
-next-completed : (names begun : List Name) (points : ℕ) (rest : List Slot) (l : Lexeme) → next (reading names begun points) (command_slot ∷ rest) l ≡ next (reading (names ++ begun) [] points) (command_slot ∷ rest) l
+next-completed : (names begun : List Name) (points : ℕ) (rest : List Slot) (l : Lexeme)
+    → next (reading names begun points) (command_slot ∷ rest) l ≡ next (reading (names ++ begun) [] points) (command_slot ∷ rest) l
 next-completed names begun points rest (word_lexeme word) =
     ap (λ r. by_completed r (is_text word (codes "prove")) (due_behind word commands) rest) (sym (completed_none (names ++ begun) points))
 next-completed names begun points rest (number_lexeme n) = refl
 next-completed names begun points rest open_brace = refl
 next-completed names begun points rest close_brace = refl
 
-fault_from-completed : (names begun : List Name) (points : ℕ) (rest : List Slot) (k : Coming) → fault_from (reading names begun points) (command_slot ∷ rest) k ≡ fault_from (reading (names ++ begun) [] points) (command_slot ∷ rest) k
+fault_from-completed : (names begun : List Name) (points : ℕ) (rest : List Slot) (k : Coming)
+    → fault_from (reading names begun points) (command_slot ∷ rest) k ≡ fault_from (reading (names ++ begun) [] points)
+    (command_slot ∷ rest) k
 fault_from-completed names begun points rest k = by k.tokens
   where
-    by : (tokens : List (Lexeme × ℕ)) → first_fault (reading names begun points) (command_slot ∷ rest) tokens k.end k.stop ≡ first_fault (reading (names ++ begun) [] points) (command_slot ∷ rest) tokens k.end k.stop
+    by : (tokens : List (Lexeme × ℕ)) → first_fault (reading names begun points) (command_slot ∷ rest) tokens k.end k.stop ≡ first_fault
+        (reading (names ++ begun) [] points) (command_slot ∷ rest) tokens k.end k.stop
     by [] = refl
     by (t ∷ ts) =
         ap (λ (o : Outcome). elim o [ refused refusal ↦ Some (fault_at t.1 refusal) | taken s more ↦ first_fault s more ts k.end k.stop ]) (next-completed names begun points rest t.0)
@@ -170,7 +147,7 @@ undeclared : (names : List Name) (word : List ℕ) → name_of names word ≡ No
 undeclared names word none there = undeclared_at names word none there.0 (omega (arith, there.1, length-map names (λ (n : Name). n.text))) there.2
 
 -- what is due behind the word of a command with a new name
-due_named : (word : CommandWord) (kind : NameKind) → command_kind word ≡ Some kind → command_due word ≡ new_name_slot kind (command_points word) ∷ command_slots word
+pub due_named : (word : CommandWord) (kind : NameKind) → command_kind word ≡ Some kind → command_due word ≡ new_name_slot kind (command_points word) ∷ command_slots word
 due_named word kind h = ap (λ k. elim k [ None ↦ command_slots word | Some kind ↦ new_name_slot kind (command_points word) ∷ command_slots word ]) h
 
 -- the kinds that the form of a command makes
@@ -233,7 +210,7 @@ points_unnamed Point h = absurd (true≢false (ap is_some h))
 points_unnamed _ h = absurd (true≢false (ap is_some h))
 
 module _ (word : CommandWord) (has : command_kind word ≡ None) (a : Reader) where
-  due_unnamed : command_slots word ≡ command_due word
+  pub due_unnamed : command_slots word ≡ command_due word
   due_unnamed = ap (λ k. elim k [ None ↦ command_slots word | Some kind ↦ new_name_slot kind (command_points word) ∷ command_slots word ]) (sym has)
 
   pub Refuses-unnamed : (f : Fault) → Refuses (command_slots word) a f → Refuses (command_due word) a f

@@ -4,7 +4,7 @@ use Rattle.std.specs.Prelude.{All, IfNone, IfSome, Option, sum_by}
 use Rattle.std.specs.List.{flat_map}
 use Rattle.std.proofs.lemmas.Grind.{flat_map-append}
 use Rattle.std.proofs.lemmas.List.{append-nil, length-map}
-use Rattle.std.proofs.lemmas.List.Elements.{All-append, All-nil}
+use Rattle.std.proofs.lemmas.List.Elements.{All-append}
 use Rattle.std.proofs.lemmas.List.Sums.{sum_by-cons, sum_by_push}
 use Rattle.geo_lexer.specs.Lexemes.{Lexeme, word_lexeme}
 use Rattle.geo_program.specs.CanonicalText.{argument_lexemes, command_lexemes, commands_lexemes, condition_lexemes, sketch_lexemes}
@@ -32,28 +32,16 @@ points_any nodes wider _ = refl
 pub points_kept : (nodes wider : Store) (commands : List Command) → sum_by (λ c. (command_form wider c).points) commands ≡ sum_by (λ c. (command_form nodes c).points) commands
 points_kept nodes wider [] = refl
 points_kept nodes wider (c ∷ commands) =
-    omega (arith, sum_by-cons (λ (k : Command). (command_form wider k).points) c commands, sum_by-cons (λ (k : Command). (command_form nodes k).points) c commands, points_any nodes wider c, points_kept nodes wider commands)
+    omega (
+      arith,
+      sum_by-cons (λ (k : Command). (command_form wider k).points) c commands,
+      sum_by-cons (λ (k : Command). (command_form nodes k).points) c commands,
+      points_any nodes wider c,
+      points_kept nodes wider commands,
+    )
 
 pub KeepsTrees-extends : (old new : Store) → Extends old new → KeepsTrees old new
 KeepsTrees-extends old new h = record { longer = h.longer; trees = h.others }
-
--- before the first command
-pub ReadsCommands-none : (s : Reader) → s.names ≡ [] → s.points ≡ 0 → ReadsCommands s s []
-ReadsCommands-none s no_names no_points =
-    let P : List Name → Type 0 = λ ns. Passes s s (flat_map (λ line. line) (commands_lexemes ns s.terms ns [] [])) in
-    let none : Passes s s [] = record { spelt = refl; stop = refl } in record {
-      sketches = [];
-      sketched = tt;
-      passes = subst P (sym no_names) none;
-      made = no_names;
-      texts = subst (All (λ n. IsNameText n.text)) (sym no_names) (All-nil (λ n. IsNameText n.text));
-      differ = subst AllDiffer (sym no_names) tt;
-      counted = no_points;
-      few = omega (arith, no_points);
-      room = omega arith;
-      names = omega (arith, ap length no_names);
-      follows = refl;
-    }
 
 module _ (a b c d : Reader) (commands : List Command) (word : CommandWord) (command : Command) (h : ReadsCommands a b commands) (w : ReadsWord word b c) (k : ReadsCommand word c d command) where
   abbrev longer : List Name
@@ -89,7 +77,9 @@ module _ (a b c d : Reader) (commands : List Command) (word : CommandWord) (comm
       (commands_lexemes-kept [] b.names k.own b.names b.terms d.terms commands h.sketches refl (KeepsTrees-extends b.terms d.terms terms_extend) h.made)
       ∙ ap (λ ls. commands_lexemes b.names b.terms b.names commands h.sketches ++ (ls ++ sketch_lexemes k.sketch) ∷ []) (command_lexemes-append b.names k.own d.terms k.own command is_command)
 
-  lexemes_are : flat_map (λ line. line) (commands_lexemes longer d.terms longer (commands ++ command ∷ []) (h.sketches ++ k.sketch ∷ [])) ≡ flat_map (λ line. line) (commands_lexemes b.names b.terms b.names commands h.sketches) ++ own
+  lexemes_are : flat_map (λ line. line)
+      (commands_lexemes longer d.terms longer (commands ++ command ∷ []) (h.sketches ++ k.sketch ∷ [])) ≡ flat_map (λ line. line)
+      (commands_lexemes b.names b.terms b.names commands h.sketches) ++ own
   lexemes_are =
       ap (flat_map (λ line. line)) lines_are
       ∙ flat_map-append (λ (line : List Lexeme). line) (commands_lexemes b.names b.terms b.names commands h.sketches) (own ∷ [])

@@ -22,7 +22,7 @@ use Rattle.geo_parser.specs.Inner.Dictionaries.{IsDictionary, IsMeant, IsMisused
 use Rattle.geo_parser.specs.Slots.{is_reserved}
 use Rattle.geo_parser.specs.Texts.{is_text}
 use Rattle.geo_parser.proofs.Finding.{is_text_lem, is_text_self}
-use Rattle.geo_parser.proofs.NameUses.{begin_name-declared, begin_name-reserved, use_name-known, use_name-reserved, use_name-unknown}
+use Rattle.geo_parser.proofs.NameUses.{begin_name-declared, use_name-known, use_name-unknown}
 
 -- LOOKING A WORD UP
 
@@ -39,14 +39,8 @@ misused_kind names kind word meaning h other = record {
   may_not = λ r rest declared. use_name-known r names declared kind word rest h.name false h.free h.named (ap (λ k. is_kind k kind) h.kind ∙ other);
 }
 
-pub misused_reserved : (names : List Name) (kind : NameKind) (word : List ℕ) → is_reserved word ≡ true → IsMisused names kind word 4
-misused_reserved names kind word h = record { may_not = λ r rest declared. use_name-reserved r names declared kind word rest h }
-
 pub misused_unknown : (names : List Name) (kind : NameKind) (word : List ℕ) → is_reserved word ≡ false → name_of names word ≡ None → IsMisused names kind word 5
 misused_unknown names kind word h none = record { may_not = λ r rest declared. use_name-unknown r names declared kind word rest h none }
-
-pub not_new_reserved : (names : List Name) (word : List ℕ) → is_reserved word ≡ true → IsNoNewName names word 4
-not_new_reserved names word h = record { may_not = λ r kind points rest declared. begin_name-reserved r names declared kind points word rest h }
 
 pub not_new_declared : (names : List Name) (word : List ℕ) (meaning : Meaning) → IsMeant names word meaning → IsNoNewName names word 6
 not_new_declared names word meaning h = record { may_not = λ r kind points rest declared. begin_name-declared r names declared kind points word rest h.name h.free h.named }
@@ -88,7 +82,8 @@ length-names_of kind (name ∷ names) = by (is_kind name.kind kind) (length-name
     by false h = omega arith
 
 -- the counts are those of the kinds
-pub count_of-dictionary : (names : List Name) (look_up : List ℕ → Option Meaning) (counts : Counts) (kind : NameKind) → IsDictionary names look_up counts → count_of counts kind ≡ length (names_of kind names)
+pub count_of-dictionary : (names : List Name) (look_up : List ℕ → Option Meaning) (counts : Counts) (kind : NameKind)
+    → IsDictionary names look_up counts → count_of counts kind ≡ length (names_of kind names)
 count_of-dictionary names look_up counts Point h = h.points
 count_of-dictionary names look_up counts Param h = h.params
 count_of-dictionary names look_up counts Line h = h.lines
@@ -153,7 +148,8 @@ module _ (names : List Name) (word : List ℕ) (kind : NameKind) where
     count_same k n h other = h ∙ ap length (sym (names_of-push_other k names new_name other))
 
 -- with the new word, its kind counted once more, they are a dictionary of the longer list
-pub IsDictionary-declare : (names : List Name) (word : List ℕ) (kind : NameKind) (look_up : List ℕ → Option Meaning) (counts : Counts) (number : ℕ) → IsDictionary names look_up counts → IsNew names word → number ≡ count_of counts kind
+pub IsDictionary-declare : (names : List Name) (word : List ℕ) (kind : NameKind) (look_up : List ℕ → Option Meaning) (counts : Counts)
+    (number : ℕ) → IsDictionary names look_up counts → IsNew names word → number ≡ count_of counts kind
     → IsDictionary (names ++ new_name names word kind ∷ []) (longer names word kind look_up number) (counted counts kind)
 IsDictionary-declare names word Point look_up counts number valid new next = record {
   tells = λ q. tells_more names word Point look_up counts number valid new next q (bytes_eq word q) refl;

@@ -58,7 +58,9 @@ module _ (level : ℕ) (ratios : Bool) (old new : Reader) (shallow : level ≤ 1
         tree = record { valid = (x.0, y.0, z.0); nested = omega arith };
       }
 
-  pub ReadsFormed-ratio : (d : PointId) → IsTrue ratios → ReadsArguments (point_argument a ∷ point_argument b ∷ point_argument c ∷ point_argument d ∷ []) old new → ReadsFormed Ratio level ratios old new (R a b c d)
+  pub ReadsFormed-ratio : (d : PointId) → IsTrue ratios
+      → ReadsArguments (point_argument a ∷ point_argument b ∷ point_argument c ∷ point_argument d ∷ []) old new
+      → ReadsFormed Ratio level ratios old new (R a b c d)
   ReadsFormed-ratio d allowed h =
       let x = all_points old a (point_argument b ∷ point_argument c ∷ point_argument d ∷ []) h.valid in
       let y = all_points old b (point_argument c ∷ point_argument d ∷ []) x.1 in
@@ -72,7 +74,8 @@ module _ (level : ℕ) (ratios : Bool) (old new : Reader) (shallow : level ≤ 1
       }
 
 -- the word is known by an equation
-pub ReadsFormed-at : (form form' : ExpressionWord) (level : ℕ) (ratios : Bool) (old new : Reader) (node : Node) → form ≡ form' → ReadsFormed form' level ratios old new node → ReadsFormed form level ratios old new node
+pub ReadsFormed-at : (form form' : ExpressionWord) (level : ℕ) (ratios : Bool) (old new : Reader) (node : Node) → form ≡ form'
+    → ReadsFormed form' level ratios old new node → ReadsFormed form level ratios old new node
 ReadsFormed-at form form' level ratios old new node e h = let P : ExpressionWord → Type 0 = λ w. ReadsFormed w level ratios old new node in subst P (sym e) h
 
 -- WORDS
@@ -94,7 +97,8 @@ no_ratio level ratios word true h none =
 no_ratio level ratios word false h none = refl
 
 -- such a word is to be a parameter's name
-pub begin_expression-name : (r : Reading) (level : ℕ) (ratios : Bool) (word : List ℕ) (rest : List Slot) → due_behind word (expressions level ratios) ≡ None → begin_expression r level ratios word rest ≡ use_name r Param word rest
+pub begin_expression-name : (r : Reading) (level : ℕ) (ratios : Bool) (word : List ℕ) (rest : List Slot)
+    → due_behind word (expressions level ratios) ≡ None → begin_expression r level ratios word rest ≡ use_name r Param word rest
 begin_expression-name r level ratios word rest none =
     ap (λ b. by_ratio b (due_behind word (expressions level ratios)) r word rest) (no_ratio level ratios word (is_text word (codes "sratio")) refl none)
     ∙ ap (λ o. by_due o r word rest) none
@@ -111,7 +115,9 @@ allowed_word Mult ratios h = refl
 allowed_word Div ratios h = refl
 
 -- behind a word that begins an expression the rest of it is due
-pub begin_expression-form : (r : Reading) (level : ℕ) (ratios : Bool) (form : ExpressionWord) (word : List ℕ) (rest : List Slot) → (form ≡ Ratio → IsTrue ratios) → expression_text form ≡ word → Some (expression_due level ratios form) ≡ due_behind word (expressions level ratios)
+pub begin_expression-form : (r : Reading) (level : ℕ) (ratios : Bool) (form : ExpressionWord) (word : List ℕ) (rest : List Slot)
+    → (form ≡ Ratio → IsTrue ratios) → expression_text form ≡ word
+    → Some (expression_due level ratios form) ≡ due_behind word (expressions level ratios)
     → begin_expression r level ratios word rest ≡ taken r (expression_due level ratios form ++ rest)
 begin_expression-form r level ratios form word rest allowed text due =
     ap (λ b. by_ratio b (due_behind word (expressions level ratios)) r word rest) (ap (λ w. is_text w (codes "sratio") && not ratios) (sym text) ∙ allowed_word form ratios allowed)
@@ -122,11 +128,13 @@ module _ (s : Reader) (level : ℕ) (ratios : Bool) (word : List ℕ) (is : next
     -- a word that begins no expression is read as a parameter's name
     pub Reads-parameter : (new : Reader) (xs : List Lexeme) → Reads (name_slot Param ∷ []) s new xs → Reads (expression_slot level ratios ∷ []) s new xs
     Reads-parameter new xs h =
-        Reads-other (expression_slot level ratios ∷ []) (name_slot Param ∷ []) s (word_lexeme word) is (λ begun rest. begin_expression-name (reading s.names begun s.points) level ratios word rest none) new xs h
+        Reads-other (expression_slot level ratios ∷ []) (name_slot Param ∷ []) s (word_lexeme word) is
+        (λ begun rest. begin_expression-name (reading s.names begun s.points) level ratios word rest none) new xs h
 
     pub Refuses-parameter : (f : Fault) → Refuses (name_slot Param ∷ []) s f → Refuses (expression_slot level ratios ∷ []) s f
     Refuses-parameter f h =
-        Refuses-other (expression_slot level ratios ∷ []) (name_slot Param ∷ []) s (word_lexeme word) is (λ begun rest. begin_expression-name (reading s.names begun s.points) level ratios word rest none) f h
+        Refuses-other (expression_slot level ratios ∷ []) (name_slot Param ∷ []) s (word_lexeme word) is
+        (λ begun rest. begin_expression-name (reading s.names begun s.points) level ratios word rest none) f h
 
     pub ReadsNode-parameter : (new : Reader) (k : ℕ) → level ≤ 128 → ReadsName Param s new k → ReadsNode level ratios s new (node.Param (record { 0 = k }))
     ReadsNode-parameter new k shallow h = record {
@@ -136,15 +144,19 @@ module _ (s : Reader) (level : ℕ) (ratios : Bool) (word : List ℕ) (is : next
       room = h.room;
     }
 
-  module _ (form : ExpressionWord) (allowed : form ≡ Ratio → IsTrue ratios) (text : expression_text form ≡ word) (due : Some (expression_due level ratios form) ≡ due_behind word (expressions level ratios)) where
+  module _ (form : ExpressionWord) (allowed : form ≡ Ratio → IsTrue ratios) (text : expression_text form ≡ word)
+      (due : Some (expression_due level ratios form) ≡ due_behind word (expressions level ratios)) where
     -- a word that begins an expression is read, and the rest of it is due
     pub Refuses-form : (f : Fault) → Refuses (expression_due level ratios form) (advanced s) f → Refuses (expression_slot level ratios ∷ []) s f
     Refuses-form f h =
-        Refuses-behind (expression_slot level ratios ∷ []) (expression_due level ratios form) s (word_lexeme word) is (λ begun rest. begin_expression-form (reading s.names begun s.points) level ratios form word rest allowed text due) f h
+        Refuses-behind (expression_slot level ratios ∷ []) (expression_due level ratios form) s (word_lexeme word) is
+        (λ begun rest. begin_expression-form (reading s.names begun s.points) level ratios form word rest allowed text due) f h
 
     pub ReadsNode-form : (new : Reader) (node : Node) → ReadsFormed form level ratios (advanced s) new node → ReadsNode level ratios s new node
     ReadsNode-form new node h =
-        let read = Reads-behind (expression_slot level ratios ∷ []) (expression_due level ratios form) s (word_lexeme word) is (λ begun rest. begin_expression-form (reading s.names begun s.points) level ratios form word rest allowed text due) new h.lexemes h.reads in
+        let read = Reads-behind (expression_slot level ratios ∷ []) (expression_due level ratios form) s (word_lexeme word) is
+        (λ begun rest. begin_expression-form (reading s.names begun s.points) level ratios form word rest allowed text due) new
+        h.lexemes h.reads in
         let same : expression_lexemes s.names (tree_of_node new node) ≡ word_lexeme word ∷ h.lexemes = h.spelt ∙ ap (λ w. word_lexeme w ∷ h.lexemes) text in
         let P : List Lexeme → Type 0 = λ ls. Reads (expression_slot level ratios ∷ []) s new ls in
         record {

@@ -47,14 +47,17 @@ module _ (names : List Name) (texts : All (λ n. IsNameText n.text) names) (diff
       Goes-then r r r (a_point ∷ []) (a_point ∷ a_point ∷ []) _ _ (Goes-point a x) (Goes-then r r r (a_point ∷ []) (a_point ∷ []) _ _ (Goes-point b y) (Goes-point c z))
 
   -- a word and the rest of an expression
-  Goes-form : (level : ℕ) (ratios : Bool) (form : ExpressionWord) (ls : List Lexeme) → (form ≡ Ratio → IsTrue ratios) → Some (expression_due level ratios form) ≡ due_behind (expression_text form) (expressions level ratios) → Goes r (expression_due level ratios form) ls r
+  Goes-form : (level : ℕ) (ratios : Bool) (form : ExpressionWord) (ls : List Lexeme) → (form ≡ Ratio → IsTrue ratios)
+      → Some (expression_due level ratios form) ≡ due_behind (expression_text form) (expressions level ratios)
+      → Goes r (expression_due level ratios form) ls r
       → Goes r (expression_slot level ratios ∷ []) (word_lexeme (expression_text form) ∷ ls) r
   Goes-form level ratios form ls allowed due h =
       Goes-behind r r r (expression_slot level ratios ∷ []) (expression_due level ratios form) (word_lexeme (expression_text form)) ls
       (λ rest. begin_expression-form r level ratios form (expression_text form) rest allowed refl due) h
 
   -- an expression between braces of this level
-  Goes-braced : (level : ℕ) (ratios : Bool) (ls : List Lexeme) → level ≤ 128 → Goes r (expression_slot level ratios ∷ []) ls r → Goes r (open_slot level ∷ expression_slot level ratios ∷ close_slot ∷ []) (braced ls) r
+  Goes-braced : (level : ℕ) (ratios : Bool) (ls : List Lexeme) → level ≤ 128 → Goes r (expression_slot level ratios ∷ []) ls r
+      → Goes r (open_slot level ∷ expression_slot level ratios ∷ close_slot ∷ []) (braced ls) r
   Goes-braced level ratios ls shallow h =
       let deep : nat_le level 128 ≡ true = grind (arith, nat_tests) in
       let opened = Goes-token r r (open_slot level ∷ []) open_brace (λ rest. ap (λ b. if b then taken r rest else refused 9) deep) in
@@ -67,7 +70,9 @@ module _ (names : List Name) (texts : All (λ n. IsNameText n.text) names) (diff
   Goes-both level ratios ratios' xs ys shallow h k = Goes-then r r r _ _ _ _ (Goes-braced level ratios xs shallow h) (Goes-braced level ratios' ys shallow k)
 
   -- an expression
-  pub Goes-expression : (level : ℕ) (ratios : Bool) (e : Tree) → IsExpression (length (names_of Point names)) (length (names_of Param names)) ratios e → level + nesting e ≤ 128 → Goes r (expression_slot level ratios ∷ []) (expression_lexemes names e) r
+  pub Goes-expression : (level : ℕ) (ratios : Bool) (e : Tree)
+      → IsExpression (length (names_of Point names)) (length (names_of Param names)) ratios e → level + nesting e ≤ 128
+      → Goes r (expression_slot level ratios ∷ []) (expression_lexemes names e) r
   Goes-expression level ratios (integer_leaf n) h deep = Goes-token r r (expression_slot level ratios ∷ []) (number_lexeme n) (λ rest. refl)
   Goes-expression level ratios (parameter_leaf t) h deep =
       let here = known Param names t.0 texts differ h in
@@ -94,7 +99,8 @@ module _ (names : List Name) (texts : All (λ n. IsNameText n.text) names) (diff
       (Goes-both (level + 1) ratios false _ _ (omega arith) (Goes-expression (level + 1) ratios e h.0 (omega arith)) (Goes-expression (level + 1) false f h.1 (omega arith)))
 
   -- an expression over the names
-  Goes-over : (ratios : Bool) (e : Tree) → IsExpression (scope_of empty_scope names).points (scope_of empty_scope names).params ratios e → nesting e ≤ 128 → Goes r (expression_slot 0 ratios ∷ []) (expression_lexemes names e) r
+  Goes-over : (ratios : Bool) (e : Tree) → IsExpression (scope_of empty_scope names).points (scope_of empty_scope names).params ratios e
+      → nesting e ≤ 128 → Goes r (expression_slot 0 ratios ∷ []) (expression_lexemes names e) r
   Goes-over ratios e h deep =
       let P : ℕ → ℕ → Type 0 = λ points params. IsExpression points params ratios e in
       Goes-expression 0 ratios e (subst (P (length (names_of Point names))) (params_declared names) (subst (λ n. P n (scope_of empty_scope names).params) (points_declared names) h)) (omega arith)

@@ -46,15 +46,6 @@ module _ {X : Type 0} (p : X → Bool) where
   pub find_none : (xs : List X) (i : ℕ) → length xs ≤ i → find p (drop i xs) ≡ None
   find_none xs i h = ap (find p) (drop_all i xs h)
 
-  -- an entry that a search finds passes
-  pub passes_found : (xs : List X) (x : X) → find p xs ≡ Some x → p x ≡ true
-  passes_found [] x h = cc
-  passes_found (y ∷ ys) x h = by (p y) refl h (passes_found ys x)
-    where
-      by : (b : Bool) → p y ≡ b → cond b (Some y) (find p ys) ≡ Some x → (find p ys ≡ Some x → p x ≡ true) → p x ≡ true
-      by true e g rest = let same : y ≡ x = cc in ap p (sym same) ∙ e
-      by false e g rest = rest g
-
 -- A TABLE OF WORDS
 
 -- a table, seen through its references

@@ -1,5 +1,5 @@
 -- Reading what stands behind a command's new name and behind a statement's word.
-use Rattle.std.proofs.Common.{◌≡◌, ℕ, ◌≤◌, true, false, List, [], ◌∷◌, length, None, inl, refl, sym, ap, ◌∙◌, subst, arith}
+use Rattle.std.proofs.Common.{◌≡◌, ℕ, false, List, [], ◌∷◌, length, None, inl, refl, sym, ap, ◌∙◌, subst, arith}
 use Rattle.std.specs.Prelude.{All}
 use Rattle.std.specs.List.{flat_map}
 use Rattle.std.proofs.lemmas.List.{append-nil}
@@ -9,7 +9,7 @@ use Rattle.geo_lexer.specs.declared.token_types.Fault.{Fault}
 use Rattle.geo_lexer.specs.Lexemes.{Lexeme, word_lexeme, open_brace, close_brace}
 use Rattle.geo_program.specs.CanonicalText.{argument_lexemes}
 use Rattle.geo_program.specs.Expressions.{braced, expression_lexemes}
-use Rattle.geo_program.specs.Forms.{AreSidesStored, Argument, CommandForm, IsStored, StatementForm, command_form, number_argument, side_argument, statement_form}
+use Rattle.geo_program.specs.Forms.{AreSidesStored, Argument, CommandForm, IsStored, StatementForm, command_form, number_argument, statement_form}
 use Rattle.geo_program.specs.WellFormed.{IsArgument, empty_scope, scope_of}
 use Rattle.geo_program.specs.declared.commands.Command.{Command}
 use Rattle.geo_program.specs.declared.names.Name.{Name}
@@ -20,8 +20,8 @@ use Rattle.geo_parser.specs.declared.command_words.CommandWord.{CommandWord}
 use Rattle.geo_parser.specs.declared.reader.Reader.{Reader}
 use Rattle.geo_parser.specs.declared.statement_words.StatementWord.{StatementWord}
 use Rattle.geo_parser.specs.Inner.CommandWords.{command_condition, command_kind, command_points, command_slots, command_text}
-use Rattle.geo_parser.specs.Forms.{Slot, a_number, close_slot, end_slot, open_slot, side, statement_slot}
-use Rattle.geo_parser.specs.Inner.Reads.{Reads, ReadsArguments, ReadsExpression, ReadsForm, ReadsPart, ReadsStated, ReadsStatement, ReadsStatementWord, Refuses, argument_slots, extent, scope, statement_slots}
+use Rattle.geo_parser.specs.Forms.{Slot, a_number, close_slot, end_slot, open_slot, statement_slot}
+use Rattle.geo_parser.specs.Inner.Reads.{Reads, ReadsArguments, ReadsExpression, ReadsForm, ReadsStated, ReadsStatement, ReadsStatementWord, Refuses, argument_slots, scope, statement_slots}
 use Rattle.geo_parser.specs.Inner.StatementWords.{statement_due, statement_text}
 use Rattle.geo_parser.proofs.CommandReading.{Passes-length}
 use Rattle.geo_parser.proofs.CommandsReading.{KeepsTrees-extends}
@@ -32,14 +32,6 @@ pub ReadsArguments-number : (a b : Reader) (e : TermId) → ReadsExpression 0 fa
 ReadsArguments-number a b e h =
     let P : List Lexeme → Type 0 = λ ls. Reads (a_number ∷ []) a b ls in record {
       reads = subst P (sym (append-nil (expression_lexemes a.names (tree_of b.terms e)))) h.reads;
-      valid = All-cons (IsArgument (scope a)) _ [] (h.tree.valid, omega (arith, h.tree.nested)) (All-nil (IsArgument (scope a)));
-    }
-
--- a side of an equation is an argument
-pub ReadsArguments-side : (a b : Reader) (e : TermId) → ReadsPart 0 true a b e → ReadsArguments (side_argument (tree_of b.terms e) ∷ []) a b
-ReadsArguments-side a b e h =
-    let P : List Lexeme → Type 0 = λ ls. Reads side a b ls in record {
-      reads = subst P (sym (append-nil (braced (expression_lexemes a.names (tree_of b.terms e))))) h.reads;
       valid = All-cons (IsArgument (scope a)) _ [] (h.tree.valid, omega (arith, h.tree.nested)) (All-nil (IsArgument (scope a)));
     }
 
@@ -78,8 +70,10 @@ pub Refuses-at : (word word' : CommandWord) (s : Reader) (f : Fault) → word �
 Refuses-at word word' s f e h = let P : CommandWord → Type 0 = λ w. Refuses (command_slots w) s f in subst P (sym e) h
 
 -- a statement with these arguments
-pub ReadsStated-made : (word : StatementWord) (arguments : List Argument) (old new : Reader) (statement : Statement) → ReadsArguments arguments old new → flat_map argument_slots arguments ≡ statement_due word
-    → (statement_form new.terms statement).word ≡ statement_text word → (statement_form new.terms statement).arguments ≡ arguments → AreSidesStored new.terms statement → ReadsStated word old new statement
+pub ReadsStated-made : (word : StatementWord) (arguments : List Argument) (old new : Reader) (statement : Statement)
+    → ReadsArguments arguments old new → flat_map argument_slots arguments ≡ statement_due word
+    → (statement_form new.terms statement).word ≡ statement_text word → (statement_form new.terms statement).arguments ≡ arguments
+    → AreSidesStored new.terms statement → ReadsStated word old new statement
 ReadsStated-made word arguments old new statement h slots text made stored =
     let P : List Slot → Type 0 = λ F. Reads F old new (flat_map (argument_lexemes old.names) arguments) in
     let Q : List Argument → Type 0 = λ xs. Reads (statement_due word) old new (flat_map (argument_lexemes old.names) xs) in
@@ -113,17 +107,14 @@ module _ (word : StatementWord) (a b : Reader) (w : ReadsStatementWord word a b)
   pub Refuses-statement : (f : Fault) → Refuses (statement_due word) b f → Refuses (statement_slot ∷ []) a f
   Refuses-statement f h = record { first = λ begun rest. w.follows begun rest ∙ h.first begun rest }
 
-  -- there is less to come
-  pub extent-statement : extent b ≤ extent a
-  extent-statement = omega (arith, ap length w.terms, Passes-length a b _ w.passes)
-
 -- what is refused behind the first brace
 pub Refuses-word : (a b : Reader) (f : Fault) → Reads (open_slot 0 ∷ []) a b (open_brace ∷ []) → Refuses (statement_slot ∷ []) b f → Refuses statement_slots a f
 Refuses-word a b f o h =
     Refuses-then (open_slot 0 ∷ []) (statement_slot ∷ close_slot ∷ end_slot ∷ []) a b _ o f (Refuses-first (statement_slot ∷ []) (close_slot ∷ end_slot ∷ []) b f h)
 
 -- `{`, the statement and `}`
-module _ (a b c d : Reader) (word : StatementWord) (statement : Statement) (o : Reads (open_slot 0 ∷ []) a b (open_brace ∷ [])) (w : ReadsStatementWord word b c) (s : ReadsStated word c d statement) where
+module _ (a b c d : Reader) (word : StatementWord) (statement : Statement) (o : Reads (open_slot 0 ∷ []) a b (open_brace ∷ []))
+    (w : ReadsStatementWord word b c) (s : ReadsStated word c d statement) where
   within : Reads (statement_slot ∷ []) b d (word_lexeme (statement_text word) ∷ flat_map (argument_lexemes c.names) (statement_form d.terms statement).arguments)
   within = Reads-statement word b c w d _ s.reads
 
@@ -143,11 +134,13 @@ module _ (a b c d : Reader) (word : StatementWord) (statement : Statement) (o : 
         let all = Reads-then (open_slot 0 ∷ []) (statement_slot ∷ close_slot ∷ []) a b _ o e _ (Reads-then (statement_slot ∷ []) (close_slot ∷ []) b d _ within e _ k) in
         let names : c.names ≡ a.names = w.names ∙ o.names in
         let kept : statement_form e.terms statement ≡ statement_form d.terms statement = statement_form-kept d.terms e.terms (KeepsTrees-extends d.terms e.terms k.terms) statement s.sides in
-        let P : List ℕ → List Name → StatementForm → Type 0 = λ text ns f. Reads (open_slot 0 ∷ statement_slot ∷ close_slot ∷ []) a e (braced (word_lexeme text ∷ flat_map (argument_lexemes ns) f.arguments)) in
+        let P : List ℕ → List Name → StatementForm → Type 0 = λ text ns f. Reads (open_slot 0 ∷ statement_slot ∷ close_slot ∷ []) a e
+        (braced (word_lexeme text ∷ flat_map (argument_lexemes ns) f.arguments)) in
         let Q : StatementForm → Type 0 = λ f. Reads (open_slot 0 ∷ statement_slot ∷ close_slot ∷ []) a e (braced (word_lexeme f.word ∷ flat_map (argument_lexemes a.names) f.arguments)) in
         let R : StatementForm → Type 0 = λ f. All (IsArgument (scope a)) f.arguments in
         record {
-          reads = subst Q (sym kept) (subst (λ text. P text a.names (statement_form d.terms statement)) (sym s.text) (subst (λ ns. P (statement_text word) ns (statement_form d.terms statement)) names all));
+          reads = subst Q (sym kept) (subst (λ text. P text a.names (statement_form d.terms statement)) (sym s.text)
+              (subst (λ ns. P (statement_text word) ns (statement_form d.terms statement)) names all));
           valid = subst R (sym kept) (subst (λ ns. All (IsArgument (scope_of empty_scope ns)) (statement_form d.terms statement).arguments) names s.valid);
           sides = AreSidesStored-kept d.terms e.terms (KeepsTrees-extends d.terms e.terms k.terms) statement s.sides;
           ended = ended;

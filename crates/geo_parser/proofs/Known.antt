@@ -76,7 +76,8 @@ known kind [] k texts differ within = absurd (omega arith)
 known kind (n ∷ names) k texts differ within = by (is_kind n.kind kind) refl k within (λ j lt. known kind names j (All-tail (λ m. IsNameText m.text) n names texts) differ.1 lt)
   where
     by : (b : Bool) → is_kind n.kind kind ≡ b → (k' : ℕ) → k' < length (cons_option (if b then Some n.text else None) (names_of kind names))
-        → ((j : ℕ) → j < length (names_of kind names) → IsKnown names kind (name_text kind names j)) → IsKnown (n ∷ names) kind (get_or (cons_option (if b then Some n.text else None) (names_of kind names)) k' [])
+        → ((j : ℕ) → j < length (names_of kind names) → IsKnown names kind (name_text kind names j))
+        → IsKnown (n ∷ names) kind (get_or (cons_option (if b then Some n.text else None) (names_of kind names)) k' [])
     by true same zero lt rest = record {
       name = n;
       named = ap (λ b. cond b (Some n) (name_of names n.text)) (is_text_self n.text);

@@ -1,5 +1,5 @@
 -- What comes of a word where a name is due.
-use Rattle.std.proofs.Common.{◌≡◌, ℕ, ◌+◌, Bool, true, false, List, [], ◌∷◌, Some, None, refl, ap, ◌∙◌}
+use Rattle.std.proofs.Common.{◌≡◌, ℕ, ◌+◌, Bool, true, false, List, [], ◌∷◌, Some, None, ap, ◌∙◌}
 use Rattle.std.specs.Prelude.{Option, if◌then◌else◌, nat_le}
 use Rattle.geo_program.specs.declared.names.Name.{Name}
 use Rattle.geo_program.specs.declared.names.NameKind.{NameKind}
@@ -17,9 +17,6 @@ by_name o r kind rest = elim o [ None ↦ refused 5 | Some name ↦ by_kind (is_
 
 abbrev by_reserved : Bool → Option Name → Reading → NameKind → List Slot → Outcome
 by_reserved free name r kind rest = if free then refused 4 else by_name name r kind rest
-
-use_name_lem : (r : Reading) (kind : NameKind) (word : List ℕ) (rest : List Slot) → use_name r kind word rest ≡ by_reserved (is_reserved word) (declared_name r word) r kind rest
-use_name_lem r kind word rest = refl
 
 -- the word's name among the names of a reading
 declared_name_lem : (r : Reading) (names : List Name) (word : List ℕ) (o : Option Name) → r.declared ≡ names → name_of names word ≡ o → declared_name r word ≡ o
@@ -66,7 +63,8 @@ module _ (r : Reading) (names : List Name) (same : r.declared ≡ names) (kind :
       ap (λ b. by_free b (declared_name r word) few (begun r kind points word) rest) h
       ∙ ap (λ o. by_new o few (begun r kind points word) rest) (declared_name_lem r names word (Some name) same some)
 
-  pub begin_name-new : (b : Bool) → is_reserved word ≡ false → name_of names word ≡ None → nat_le (r.points + points) 512 ≡ b → begin_name r kind points word rest ≡ by_points b (begun r kind points word) rest
+  pub begin_name-new : (b : Bool) → is_reserved word ≡ false → name_of names word ≡ None → nat_le (r.points + points) 512 ≡ b
+      → begin_name r kind points word rest ≡ by_points b (begun r kind points word) rest
   begin_name-new b h none room =
       ap (λ c. by_free c (declared_name r word) few (begun r kind points word) rest) h
       ∙ ap (λ o. by_new o few (begun r kind points word) rest) (declared_name_lem r names word None same none)

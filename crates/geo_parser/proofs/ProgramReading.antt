@@ -65,6 +65,19 @@ module _ (bytes : List ℕ) (tokens : List Token) (stop : Option Fault) (lexed :
 
 -- A PROGRAM
 
+-- a text that spells a program is not much shorter than the canonical one
+pub spelt_short : (bytes : List ℕ) (p : Source) → SpellsSource bytes p → length (canonical_text p) ≤ 2 * length bytes
+spelt_short bytes p h =
+    let own = h.lexemes in
+    let row = StandInRow-lexed bytes own.tokens None own.lexed in
+    omega (
+      arith,
+      canonical_text_short p h.sketches (AreSketches-length p.commands h.sketches h.sketched),
+      ap (sum_by lexeme_size) own.meant,
+      lexemes_short bytes 0 own.lexed.end own.tokens own.lexed.tokens_are,
+      row.end_within,
+    )
+
 module _ (bytes : List ℕ) (tokens : List Token) (stop : Option Fault) (lexed : IsLexed bytes tokens stop) (c d : Reader) (commands : List Command) (statement : Statement)
     (h : ReadsAllCommands (first_reader bytes tokens stop) c commands) (k : ReadsStatement c d statement) where
   abbrev a : Reader
@@ -143,6 +156,4 @@ module _ (bytes : List ℕ) (tokens : List Token) (stop : Option Fault) (lexed :
 
   -- its canonical text is not much longer
   pub short : length (canonical_text read_source) ≤ 2 * length bytes
-  short =
-      let row = StandInRow-lexed bytes tokens stop lexed in
-      omega (arith, canonical_text_short read_source h.read.sketches (AreSketches-length commands h.read.sketches h.read.sketched), ap (sum_by lexeme_size) meant, lexemes_short bytes 0 lexed.end tokens lexed.tokens_are, row.end_within)
+  short = spelt_short bytes read_source spelt

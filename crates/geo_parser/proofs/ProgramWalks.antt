@@ -48,7 +48,8 @@ sketch_goes r rest None more h = h r rest
 sketch_goes r rest (Some (m, n)) more h = refl
 
 -- what may follow the arguments of a command
-last_goes : (command : Command) (r : Reading) (rest : List Slot) (sketch : Sketch) (more : List Lexeme) → (sketch ≡ None) ⊎ (command ≡ Point) → NoNumber more → walk r (last_slots command ++ rest) (sketch_lexemes sketch ++ more) ≡ walk r rest more
+last_goes : (command : Command) (r : Reading) (rest : List Slot) (sketch : Sketch) (more : List Lexeme) → (sketch ≡ None)
+    ⊎ (command ≡ Point) → NoNumber more → walk r (last_slots command ++ rest) (sketch_lexemes sketch ++ more) ≡ walk r rest more
 last_goes command r rest sketch more only h = by (is_point command) refl only
   where
     by : (b : Bool) → is_point command ≡ b → (sketch ≡ None) ⊎ (command ≡ Point) → walk r (sketch_slots b ++ rest) (sketch_lexemes sketch ++ more) ≡ walk r rest more
@@ -95,7 +96,9 @@ module _ (before : List Name) (texts : All (λ n. IsNameText n.text) before) (di
       → IsDueBehind condition made k (flat_map argument_slots arguments ++ last)
       → map (λ n. n.kind) own ≡ elim made [ None ↦ [] | Some kind ↦ kind ∷ [] ] → All (IsArgument (scope_of empty_scope before)) arguments → points + k ≤ 512
       → All (λ n. IsNameText n.text) (before ++ (own ++ after)) → AllDiffer (before ++ (own ++ after))
-      → walk (reading names begun points) (command_slot ∷ rest) (word_lexeme word ∷ condition_lexemes condition ++ (map (λ name. word_lexeme name.text) own ++ (flat_map (argument_lexemes before) arguments ++ more)))
+      → walk (reading names begun points) (command_slot ∷ rest)
+      (word_lexeme word ∷ condition_lexemes condition
+      ++ (map (λ name. word_lexeme name.text) own ++ (flat_map (argument_lexemes before) arguments ++ more)))
       ≡ walk (reading before own (points + k)) (last ++ command_slot ∷ rest) more
   form_goes word None (Some kind) k arguments (name ∷ []) after last rest more no_prove due behind named valid few right others =
       let is : name.kind ≡ kind = cc in
@@ -107,7 +110,8 @@ module _ (before : List Name) (texts : All (λ n. IsNameText n.text) before) (di
       let slots = flat_map argument_slots arguments ++ last in
       let same : points ≡ points + k = omega (arith, behind.2) in
       word_goes word (condition_slot ∷ []) rest (word_lexeme condition ∷ (flat_map (argument_lexemes before) arguments ++ more)) no_prove due
-      ∙ walk_taken (reading before [] points) (reading before [] points) (condition_slot ∷ command_slot ∷ rest) (slots ++ command_slot ∷ rest) (word_lexeme condition) (flat_map (argument_lexemes before) arguments ++ more)
+      ∙ walk_taken (reading before [] points) (reading before [] points) (condition_slot ∷ command_slot ∷ rest)
+      (slots ++ command_slot ∷ rest) (word_lexeme condition) (flat_map (argument_lexemes before) arguments ++ more)
       (ap (λ o. follow (reading before [] points) o (command_slot ∷ rest)) (sym behind.0))
       ∙ ap (λ n. walk (reading before [] n) (slots ++ command_slot ∷ rest) (flat_map (argument_lexemes before) arguments ++ more)) same
       ∙ arguments_go [] (points + k) arguments last rest more valid
@@ -119,13 +123,15 @@ module _ (before : List Name) (texts : All (λ n. IsNameText n.text) before) (di
 
   -- the whole command
   command_goes : (nodes : Store) (own after : List Name) (command : Command) (sketch : Sketch) (rest : List Slot) (more : List Lexeme) → IsCommand nodes (scope_of empty_scope before) own command
-      → points + (command_form nodes command).points ≤ 512 → All (λ n. IsNameText n.text) (before ++ (own ++ after)) → AllDiffer (before ++ (own ++ after)) → (sketch ≡ None) ⊎ (command ≡ Point) → NoNumber more
+      → points + (command_form nodes command).points ≤ 512 → All (λ n. IsNameText n.text) (before ++ (own ++ after))
+      → AllDiffer (before ++ (own ++ after)) → (sketch ≡ None) ⊎ (command ≡ Point) → NoNumber more
       → walk (reading names begun points) (command_slot ∷ rest) ((command_lexemes before nodes own command ++ sketch_lexemes sketch) ++ more)
       ≡ walk (reading before own (points + (command_form nodes command).points)) (command_slot ∷ rest) more
   command_goes nodes own after command sketch rest more is few right others only none =
       let f = command_form nodes command in
       ap (walk (reading names begun points) (command_slot ∷ rest)) (grouped before own nodes command sketch more)
-      ∙ form_goes f.word f.condition f.made f.points f.arguments own after (last_slots command) rest (sketch_lexemes sketch ++ more) (command_is_no_prove nodes command) (command_due_behind nodes command)
+      ∙ form_goes f.word f.condition f.made f.points f.arguments own after (last_slots command) rest (sketch_lexemes sketch ++ more)
+      (command_is_no_prove nodes command) (command_due_behind nodes command)
       (condition_due_behind nodes command) is.named is.arguments few right others
       ∙ last_goes command (reading before own (points + f.points)) (command_slot ∷ rest) sketch more only none
 
@@ -141,14 +147,16 @@ pub record Behind (r : Reading) (all : List Name) (rest : List Slot) (lexemes mo
 abbrev pub then_prove : List (List Lexeme) → List Lexeme → List Lexeme
 then_prove lines more = flat_map (λ line. line) lines ++ word_lexeme (codes "prove") ∷ more
 
-no_number : (all : List Name) (nodes : Store) (names : List Name) (commands : List Command) (sketches : List Sketch) (more : List Lexeme) → NoNumber (then_prove (commands_lexemes all nodes names commands sketches) more)
+no_number : (all : List Name) (nodes : Store) (names : List Name) (commands : List Command) (sketches : List Sketch) (more : List Lexeme)
+    → NoNumber (then_prove (commands_lexemes all nodes names commands sketches) more)
 no_number all nodes names (command ∷ _) (sketch ∷ sketches) more r rest = refl
 no_number all nodes names [] sketches more r rest = refl
 no_number all nodes names (command ∷ _) [] more r rest = refl
 
 -- the commands one after another
 pub commands_go : (before names all : List Name) (nodes : Store) (commands : List Command) (sketches : List Sketch) (declared begun : List Name) (points : ℕ) (rest : List Slot) (more : List Lexeme)
-    → before ++ names ≡ all → declared ++ begun ≡ before → All (λ n. IsNameText n.text) all → AllDiffer all → AreCommands nodes (scope_of empty_scope before) names commands → AreSketches commands sketches
+    → before ++ names ≡ all → declared ++ begun ≡ before → All (λ n. IsNameText n.text) all → AllDiffer all
+    → AreCommands nodes (scope_of empty_scope before) names commands → AreSketches commands sketches
     → points + sum_by (λ c. (command_form nodes c).points) commands ≤ 512
     → Behind (reading declared begun points) all rest (then_prove (commands_lexemes all nodes names commands sketches) more) (word_lexeme (codes "prove") ∷ more)
 commands_go before names all nodes [] sketches declared begun points rest more whole here texts differ are sketched few = record {
@@ -176,7 +184,8 @@ commands_go before names all nodes (command ∷ commands) (sketch ∷ sketches) 
     let one = command_goes before front (AllDiffer-front before (own ++ later) differ') declared begun here points nodes own later command sketch rest behind are.0 room texts' differ' sketched.0
     (no_number all nodes later commands sketches more) in
     let scopes = sym (scope_of-append empty_scope before own) in
-    let others = commands_go next later all nodes commands sketches before own (points + f.points) rest more joined refl texts differ (subst (λ s. AreCommands nodes s later commands) scopes are.1) sketched.1
+    let others = commands_go next later all nodes commands sketches before own (points + f.points) rest more joined refl texts differ
+    (subst (λ s. AreCommands nodes s later commands) scopes are.1) sketched.1
     (omega (arith, few, sum_by-cons (λ (c : Command). (command_form nodes c).points) command commands)) in record {
       names = others.names;
       begun = others.begun;
@@ -184,7 +193,9 @@ commands_go before names all nodes (command ∷ commands) (sketch ∷ sketches) 
       declared = others.declared;
       goes =
           ap (walk (reading declared begun points) (command_slot ∷ rest))
-          (append_assoc (command_lexemes all nodes own command ++ sketch_lexemes sketch) (flat_map (λ (line : List Lexeme). line) (commands_lexemes all nodes later commands sketches)) (word_lexeme (codes "prove") ∷ more)
+          (append_assoc (command_lexemes all nodes own command ++ sketch_lexemes sketch)
+          (flat_map (λ (line : List Lexeme). line) (commands_lexemes all nodes later commands sketches))
+          (word_lexeme (codes "prove") ∷ more)
           ∙ ap (λ ls. (ls ++ sketch_lexemes sketch) ++ behind) spelling)
           ∙ one ∙ others.goes;
     }
@@ -200,7 +211,8 @@ statement_goes names begun all points nodes statement rest here texts differ val
     let spelling = flat_map (argument_lexemes all) arguments in
     let r = reading all [] points in
     let go = Goes-arguments all texts differ r refl arguments valid in
-    walk_taken (reading names begun points) r (command_slot ∷ rest) statement_slots (word_lexeme (codes "prove")) (open_brace ∷ (word_lexeme (statement_form nodes statement).word ∷ spelling ++ close_brace ∷ []))
+    walk_taken (reading names begun points) r (command_slot ∷ rest) statement_slots (word_lexeme (codes "prove"))
+    (open_brace ∷ (word_lexeme (statement_form nodes statement).word ∷ spelling ++ close_brace ∷ []))
     (begin_command-prove (reading names begun points) (codes "prove") rest refl ∙ ap (λ ns. taken (reading ns [] points) statement_slots) here)
     ∙ walk_taken r r (statement_slot ∷ close_slot ∷ end_slot ∷ []) (slots ++ close_slot ∷ end_slot ∷ []) (word_lexeme (statement_form nodes statement).word) (spelling ++ close_brace ∷ [])
     (ap (λ o. follow r o (close_slot ∷ end_slot ∷ [])) (sym (statement_due_behind nodes statement)))

@@ -34,7 +34,8 @@ abbrev pub advanced : Reader → Reader
 advanced s = record s { cursor = past s.cursor }
 
 -- where a token may stand, the reading goes on behind it
-pub first_fault-taken : (r r' : Reading) (slots rest : List Slot) (tokens : List (Lexeme × ℕ)) (end : ℕ) (stop : Option Fault) (l : Lexeme) → next_lexeme tokens ≡ Some l → next r slots l ≡ taken r' rest
+pub first_fault-taken : (r r' : Reading) (slots rest : List Slot) (tokens : List (Lexeme × ℕ)) (end : ℕ) (stop : Option Fault) (l : Lexeme)
+    → next_lexeme tokens ≡ Some l → next r slots l ≡ taken r' rest
     → first_fault r slots tokens end stop ≡ first_fault r' rest (tail tokens) end stop
 first_fault-taken r r' slots rest [] end stop l is may = cc
 first_fault-taken r r' slots rest (t ∷ ts) end stop l is may =
@@ -42,7 +43,7 @@ first_fault-taken r r' slots rest (t ∷ ts) end stop l is may =
     ap (λ (o : Outcome). elim o [ refused refusal ↦ Some (fault_at t.1 refusal) | taken s more ↦ first_fault s more ts end stop ]) (ap (next r slots) same ∙ may)
 
 -- where it may not, it is refused
-first_fault-refused : (r : Reading) (slots : List Slot) (tokens : List (Lexeme × ℕ)) (end : ℕ) (stop : Option Fault) (l : Lexeme) (n : ℕ) → next_lexeme tokens ≡ Some l → next r slots l ≡ refused n
+pub first_fault-refused : (r : Reading) (slots : List Slot) (tokens : List (Lexeme × ℕ)) (end : ℕ) (stop : Option Fault) (l : Lexeme) (n : ℕ) → next_lexeme tokens ≡ Some l → next r slots l ≡ refused n
     → first_fault r slots tokens end stop ≡ Some (fault_here n tokens end stop)
 first_fault-refused r slots [] end stop l n is may = cc
 first_fault-refused r slots (t ∷ ts) end stop l n is may =
@@ -87,7 +88,8 @@ module _ (due : List Slot) (s : Reader) (l : Lexeme) (is : next_lexeme s.cursor.
   }
 
   -- another is refused
-  pub Refuses-token : (n : ℕ) → ((begun : List Name) (rest : List Slot) → next (reading s.names begun s.points) (due ++ rest) l ≡ refused n) → Refuses due s (fault_here n s.cursor.tokens s.cursor.end s.cursor.stop)
+  pub Refuses-token : (n : ℕ) → ((begun : List Name) (rest : List Slot) → next (reading s.names begun s.points) (due ++ rest) l ≡ refused n)
+      → Refuses due s (fault_here n s.cursor.tokens s.cursor.end s.cursor.stop)
   Refuses-token n may = record {
     first = λ begun rest. first_fault-refused _ _ s.cursor.tokens s.cursor.end s.cursor.stop l n is (may begun rest);
   }
@@ -101,7 +103,8 @@ Passes-then a b c xs ys h k = record {
 }
 
 -- the fault that is answered is the one that was refused
-pub Refuses-answer : {T : Type 0} (due : List Slot) (s : Reader) (x f : Fault) (e : ParseError) → Refuses due s x → e ≡ Syntax x → ◌≡◌ {A = Result T ParseError} (Err e) (Err (Syntax f)) → Refuses due s f
+pub Refuses-answer : {T : Type 0} (due : List Slot) (s : Reader) (x f : Fault) (e : ParseError) → Refuses due s x → e ≡ Syntax x
+    → ◌≡◌ {A = Result T ParseError} (Err e) (Err (Syntax f)) → Refuses due s f
 Refuses-answer due s x f e h is answer = let same : x ≡ f = cc in subst (Refuses due s) same h
 
 -- a fault that `?` answers is the one of the call
@@ -165,7 +168,8 @@ ReadsArguments-line a b k h = record {
 }
 
 -- where a token may stand at two places alike, nothing changes
-first_fault-same : (r : Reading) (F G : List Slot) (tokens : List (Lexeme × ℕ)) (end : ℕ) (stop : Option Fault) (l : Lexeme) → next_lexeme tokens ≡ Some l → next r F l ≡ next r G l → first_fault r F tokens end stop ≡ first_fault r G tokens end stop
+first_fault-same : (r : Reading) (F G : List Slot) (tokens : List (Lexeme × ℕ)) (end : ℕ) (stop : Option Fault) (l : Lexeme)
+    → next_lexeme tokens ≡ Some l → next r F l ≡ next r G l → first_fault r F tokens end stop ≡ first_fault r G tokens end stop
 first_fault-same r F G [] end stop l is same = cc
 first_fault-same r F G (t ∷ ts) end stop l is same =
     let here : t.0 ≡ l = cc in

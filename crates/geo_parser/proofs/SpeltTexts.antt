@@ -42,7 +42,8 @@ one_refusal bytes f g h k =
     cc
 
 -- nothing is refused in the lexemes of a program
-program_goes : (p : Source) (sketches : List Sketch) → IsWellFormed p → AreSketches p.commands sketches → (r : Reading) × (walk beginning (command_slot ∷ []) (flat_map (λ line. line) (line_lexemes sketches p)) ≡ Some (r, end_slot ∷ []))
+program_goes : (p : Source) (sketches : List Sketch) → IsWellFormed p → AreSketches p.commands sketches → (r : Reading)
+    × (walk beginning (command_slot ∷ []) (flat_map (λ line. line) (line_lexemes sketches p)) ≡ Some (r, end_slot ∷ []))
 program_goes p sketches h sketched =
     let lines = commands_lexemes p.names p.nodes p.names p.commands sketches in
     let last = statement_lexemes p.names p.nodes p.statement in

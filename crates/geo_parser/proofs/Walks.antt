@@ -42,8 +42,8 @@ Goes-behind r s t F G l xs h k = record { goes = λ rest more. walk_taken r s (F
 abbrev walk_on : Outcome → List Lexeme → Option (Reading × List Slot)
 walk_on o ls = elim o [ refused n ↦ None | taken s rest ↦ walk s rest ls ]
 
-abbrev fault_on : Outcome → ℕ → List (Lexeme × ℕ) → ℕ → Option Fault
-fault_on o place ts end = elim o [ refused refusal ↦ Some (fault_at place refusal) | taken s rest ↦ first_fault s rest ts end None ]
+abbrev pub fault_on : Outcome → ℕ → List (Lexeme × ℕ) → ℕ → Option Fault → Option Fault
+fault_on o place ts end stop = elim o [ refused refusal ↦ Some (fault_at place refusal) | taken s rest ↦ first_fault s rest ts end stop ]
 
 -- what is due at the end of a walk
 due_at_end : Option (Reading × List Slot) → List Slot
@@ -51,13 +51,14 @@ due_at_end None = []
 due_at_end (Some p) = p.1
 
 -- where no lexeme is refused, only the end may be
-pub first_fault-walk : (r s : Reading) (slots rest : List Slot) (tokens : List (Lexeme × ℕ)) (end : ℕ) → walk r slots (map (λ t. t.0) tokens) ≡ Some (s, rest) → first_fault r slots tokens end None ≡ end_fault rest end None
+pub first_fault-walk : (r s : Reading) (slots rest : List Slot) (tokens : List (Lexeme × ℕ)) (end : ℕ)
+    → walk r slots (map (λ t. t.0) tokens) ≡ Some (s, rest) → first_fault r slots tokens end None ≡ end_fault rest end None
 unfolding due_at_end
 first_fault-walk r s slots rest [] end h = ap (λ o. end_fault (due_at_end o) end None) h
 first_fault-walk r s slots rest (t ∷ ts) end h = by (next r slots t.0) h (λ q more. first_fault-walk q s more rest ts end)
   where
     by : (o : Outcome) → walk_on o (map (λ u. u.0) ts) ≡ Some (s, rest)
         → ((q : Reading) (more : List Slot) → walk q more (map (λ u. u.0) ts) ≡ Some (s, rest) → first_fault q more ts end None ≡ end_fault rest end None)
-        → fault_on o t.1 ts end ≡ end_fault rest end None
+        → fault_on o t.1 ts end None ≡ end_fault rest end None
     by (refused n) missing onward = cc
     by (taken q more) is onward = onward q more is

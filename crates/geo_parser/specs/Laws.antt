@@ -1,5 +1,5 @@
 -- What refusals say of spelling.
-use Rattle.std.specs.Prelude.{◌≡◌, ℕ, List}
+use Rattle.std.specs.Prelude.{◌≡◌, ◌⊎◌, ℕ, List}
 use Rattle.geo_lexer.specs.declared.token_types.Fault.{Fault}
 use Rattle.geo_parser.specs.Refusals.{IsRefused}
 use Rattle.geo_program.specs.Programs.{SameProgram, Spells, program_text}
@@ -10,6 +10,10 @@ use Rattle.geo_program.specs.declared.program_type.Program.{Program}
 -- a text that spells a program is not refused
 abbrev pub SpeltTextsAreNotRefused : Type 0
 SpeltTextsAreNotRefused = (bytes : List ℕ) (p : Source) (fault : Fault) → SpellsSource bytes p → IsRefused bytes fault → ⊥
+
+-- each text spells a program, or it is refused
+abbrev pub TextsSpellOrAreRefused : Type 0
+TextsSpellOrAreRefused = (bytes : List ℕ) → ((p : Source) × SpellsSource bytes p) ⊎ ((fault : Fault) × IsRefused bytes fault)
 
 -- a text has one first refusal
 abbrev pub RefusalsAreUnique : Type 0

@@ -7,7 +7,9 @@ use Rattle.geo_program.specs.declared.names.NameKind.{NameKind}
 use Rattle.geo_program.specs.declared.names.NameKind.TheVariants.{Param}
 use Rattle.geo_program.specs.Names.{is_kind}
 use Rattle.geo_program.specs.Words.{reserved_words}
-use Rattle.geo_parser.specs.Forms.{Slot, command_slot, new_name_slot, condition_slot, sketch_slot, second_number_slot, name_slot, expression_slot, open_slot, close_slot, statement_slot, end_slot, commands, conditions, due_behind, expressions, statements}
+use Rattle.geo_parser.specs.Forms.{Slot, command_slot, new_name_slot, condition_slot, sketch_slot, second_number_slot, name_slot}
+use Rattle.geo_parser.specs.Forms.{expression_slot, open_slot, close_slot, statement_slot, end_slot, commands, conditions, due_behind}
+use Rattle.geo_parser.specs.Forms.{expressions, statements}
 use Rattle.geo_parser.specs.Texts.{is_text}
 
 -- the names that are declared, that of the command which is being read, and how many points the commands make up to it

@@ -2,11 +2,16 @@
 //! contract.
 
 ghost use Rattle.geo_parser.specs.Laws.{PrintedProgramsAreRead, RefusalsAreUnique};
-ghost use Rattle.geo_parser.specs.Laws.{SpeltTextsAreNotRefused};
+ghost use Rattle.geo_parser.specs.Laws.{SpeltTextsAreNotRefused, TextsSpellOrAreRefused};
 
 /// A text that spells a program has no token that may not stand at its place.
 pub fn spelt_texts_are_not_refused()
     ensures { SpeltTextsAreNotRefused }
+{}
+
+/// Each text spells a program, or it has a first token that may not stand at its place.
+pub fn texts_spell_or_are_refused()
+    ensures { TextsSpellOrAreRefused }
 {}
 
 /// A text has one first refusal at most.

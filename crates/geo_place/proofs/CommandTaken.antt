@@ -17,10 +17,12 @@ use Rattle.geo_place.specs.declared.evaluation.Progress.{Progress}
 use Rattle.geo_place.specs.declared.positions.Position.{Position}
 use Rattle.geo_place.specs.declared.sketch.Sketch.{Sketch}
 use Rattle.geo_place.specs.declared.triples.Triple.{Triple}
-use Rattle.geo_place.specs.Evaluation.{LineTurn, Passes, at_line, makes, turns_of}
+use Rattle.geo_place.specs.Evaluation.{LineTurn, Succeeds, at_line, makes, turns_of}
 use Rattle.geo_place.specs.Inner.{FirstFails, IsItemMet, IsPassed, IsRun, IsSketchOf, IsTaken, IsTripleStop, Run, Stops, TellsTriple}
 use Rattle.geo_place.proofs.CommandTurns.{E, K, n}
-use Rattle.geo_place.proofs.Taking.{Ends, IsTold, before_list, count, early_fail, early_held, early_pass, first, first_items, get_some, late_fail, make_fail, make_pass, middle, second, second_items, some_point, taken_next, told_none, told_one, write_fail}
+use Rattle.geo_place.proofs.Taking.{Ends, IsTold, before_list, count, early_fail, early_held, early_pass, first, first_items, get_some}
+use Rattle.geo_place.proofs.Taking.{late_fail, make_fail, make_pass, middle, second, second_items, some_point, taken_next, told_none}
+use Rattle.geo_place.proofs.Taking.{told_one, write_fail}
 
 module _ (run : Run) (problem : Problem) (ints : List ℤ) (h : IsRun run problem ints) (k : ℕ) (c : Command) (at : slice_get run.program.commands k ≡ Some c)
     (old : Progress) (t : IsTaken run k old) (items : List Item) (end late : ℕ) (ends : Ends run problem ints h k c at old t items end late)
@@ -29,7 +31,7 @@ module _ (run : Run) (problem : Problem) (ints : List ℤ) (h : IsRun run proble
   p = run.program
 
   abbrev Passed : List LineTurn → Type 0
-  Passed ts = AllByRecursion (Passes p run.placed) ts
+  Passed ts = AllByRecursion (Succeeds p run.placed) ts
 
   abbrev past : ℕ
   past = next_point Two (n p h.formed k c at) c
@@ -54,7 +56,9 @@ module _ (run : Run) (problem : Problem) (ints : List ℤ) (h : IsRun run proble
   back_items =
       ap (λ (i : ℕ). map (item_form problem.steps.nodes) (take (end - i) (drop i items))) middle_is
       ∙ ap (λ (i : ℕ). map (item_form problem.steps.nodes) (take (i - middle run problem ints h k c at old t) (drop (middle run problem ints h k c at old t) items))) ends.end_same
-      ∙ ap (λ (is : List Item). map (item_form problem.steps.nodes) (take (count run problem ints h k c at old t - middle run problem ints h k c at old t) (drop (middle run problem ints h k c at old t) is))) ends.same
+      ∙ ap (λ (is : List Item). map (item_form problem.steps.nodes)
+      (take (count run problem ints h k c at old t - middle run problem ints h k c at old t)
+      (drop (middle run problem ints h k c at old t) is))) ends.same
       ∙ second_items run problem ints h k c at old t
 
   pub front_fails : (error : PlaceError) → FirstFails old.sketch nodes front old.tested error → Stops run (turns_of p) error

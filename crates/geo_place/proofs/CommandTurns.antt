@@ -7,7 +7,10 @@ use Rattle.geo_points.specs.Placements.{Placement}
 use Rattle.geo_terms.specs.Stores.{Store}
 use Rattle.geo_terms.specs.Trees.{Tree, integer_leaf, parameter_leaf, area_leaf, pythagoras_leaf, ratio_leaf, negation, addition, subtraction, multiplication, division}
 use Rattle.geo_program.specs.declared.commands.Command.{Command}
-use Rattle.geo_program.specs.declared.commands.Command.TheVariants.{Point, Param, Line, Parallel, Perp, Med, Intersec, Inter, Foot, Pratio, Tratio, Online, Lratio, Midpoint, Translate, Symmetric, Reflect, Circumcenter, Orthocenter, Centroid, Oncircle, Second, Cc, Inverse, Weights, AssumeDifferent, AssumeNotCollinear, AssumeNotParallel}
+use Rattle.geo_program.specs.declared.commands.Command.TheVariants.{Point, Param, Line, Parallel, Perp, Med, Intersec, Inter, Foot, Pratio}
+use Rattle.geo_program.specs.declared.commands.Command.TheVariants.{Tratio, Online, Lratio, Midpoint, Translate, Symmetric, Reflect}
+use Rattle.geo_program.specs.declared.commands.Command.TheVariants.{Circumcenter, Orthocenter, Centroid, Oncircle, Second, Cc, Inverse}
+use Rattle.geo_program.specs.declared.commands.Command.TheVariants.{Weights, AssumeDifferent, AssumeNotCollinear, AssumeNotParallel}
 use Rattle.geo_program.specs.declared.names.NameKind.TheVariants as kind
 use Rattle.geo_program.specs.WellFormed.{IsWellFormed, Source}
 use Rattle.geo_lowering.specs.Conditions.{Condition, early_conditions, late_conditions, command_conditions}
@@ -30,7 +33,7 @@ use Rattle.geo_conditions.proofs.ConditionScopes.{AreOver, at_line as found_line
 use Rattle.geo_conditions.proofs.Listings.{held, listed_hold, listed_once}
 use Rattle.geo_conditions.specs.Truth.{ProgramValues}
 use Rattle.geo_place.specs.declared.errors.PlaceError.{PlaceError}
-use Rattle.geo_place.specs.Evaluation.{LineTurn, Passes, at_line, command_turns, judge, makes, test, turns_from, turns_of, write}
+use Rattle.geo_place.specs.Evaluation.{LineTurn, Succeeds, at_line, command_turns, judge, makes, test, turns_from, turns_of, write}
 use Rattle.geo_place.specs.Inner.{Run, Stops}
 use Rattle.geo_place.proofs.ListParts.{fresh_hold, listed_front, listed_join, listed_split, none_fresh, one_fresh}
 use Rattle.geo_place.proofs.MakeTurns.{line_append, stops_in, drop_next, take_next}
@@ -174,9 +177,6 @@ module _ (p : Source) (w : IsWellFormed p) (k : ℕ) (c : Command) (at : slice_g
   pub before_next : take (suc k) p.commands ≡ before ++ c ∷ []
   before_next = take_next k p.commands c at
 
-  commands_next : p.commands ≡ (before ++ c ∷ []) ++ rest
-  commands_next = commands_are ∙ sym (append_assoc before (c ∷ []) rest)
-
   below_all : k < length p.commands
   below_all = go k p.commands at
     where
@@ -245,9 +245,6 @@ module _ (p : Source) (w : IsWellFormed p) (k : ℕ) (c : Command) (at : slice_g
       let e = map test early in let s = makes n steps in let g = gathered kind.Point (named c) (write (further n (hidden Two c))) [] in let f = map test late in
       line_append line (e ++ s ++ g) f ∙ ap (λ (ts : List LineTurn). ts ++ L) (line_append line (e ++ s) g) ∙ ap (λ (ts : List LineTurn). ts ++ W ++ L) (line_append line e s)
 
-  last_line : ℕ
-  last_line = suc (length p.commands)
-
   abbrev others : List LineTurn
   others = turns_from p (suc line) (counted kind.Point (named c) x) (next_point Two n c) (next_number m c) rest
 
@@ -280,14 +277,16 @@ module _ (p : Source) (w : IsWellFormed p) (k : ℕ) (c : Command) (at : slice_g
     run = record { program = p; values = v; placed = placed; conditions = conditions }
 
     abbrev P : LineTurn → Type 0
-    P t = Passes run.program run.placed t
+    P t = Succeeds run.program run.placed t
 
     module _ (e : PlaceError) (d : AllByRecursion P done) where
       command_stop : Stops run (E ++ K ++ W ++ L) e → Stops run (turns_of p) e
       command_stop s = stops_in run (turns_of p) done (E ++ K ++ W ++ L) (others ++ statement_turns ++ goal_turns) e all_turns d s
 
       pub early_stop : Stops run E e → Stops run (turns_of p) e
-      early_stop s = command_stop (stops_in run (E ++ K ++ W ++ L) [] E (K ++ W ++ L) e (append_assoc (E ++ K) W L ∙ append_assoc E K (W ++ L) ∙ ap (λ (ts : List LineTurn). E ++ ts) (sym (append_assoc K W L))) tt s)
+      early_stop s =
+          command_stop (stops_in run (E ++ K ++ W ++ L) [] E (K ++ W ++ L) e
+          (append_assoc (E ++ K) W L ∙ append_assoc E K (W ++ L) ∙ ap (λ (ts : List LineTurn). E ++ ts) (sym (append_assoc K W L))) tt s)
 
       pub make_stop : AllByRecursion P E → Stops run K e → Stops run (turns_of p) e
       make_stop a s = command_stop (stops_in run (E ++ K ++ W ++ L) E K (W ++ L) e (append_assoc (E ++ K) W L) a s)
@@ -306,7 +305,9 @@ module _ (p : Source) (w : IsWellFormed p) (k : ℕ) (c : Command) (at : slice_g
 
   -- SCOPES
   scopes : (placed : Placement) → Behind Two p placed 0 0 0 0 0 before c
-  scopes placed = behind Two p placed before rest c 0 0 0 0 0 (no_bounds l) (subst (λ cs. AreNamed p.nodes 0 0 0 cs) commands_are (named_program p w)) (subst (λ cs. AreLaid Two l 0 0 0 0 0 cs) commands_are (laid_program Two p.commands))
+  scopes placed =
+      behind Two p placed before rest c 0 0 0 0 0 (no_bounds l) (subst (λ cs. AreNamed p.nodes 0 0 0 cs) commands_are (named_program p w))
+      (subst (λ cs. AreLaid Two l 0 0 0 0 0 cs) commands_are (laid_program Two p.commands))
 
   pub laid : IsLaid Two l x y j n m c
   laid = laid_here l before rest c 0 0 0 0 0 (subst (λ cs. AreLaid Two l 0 0 0 0 0 cs) commands_are (laid_program Two p.commands))
@@ -423,7 +424,9 @@ module _ (p : Source) (w : IsWellFormed p) (k : ℕ) (c : Command) (at : slice_g
       let t = listed_split key (found_at line early) (found_at line late ++ found_later) old result (subst (λ fs. IsListed key fs back result) same s.2) in
       let u = listed_split key (found_at line late) found_later (old ++ t.0) result t.2 in
       let v = listed_front key found_later ((old ++ t.0) ++ u.0) result u.2 in
-      let over_old = listed_hold key (IsConditionOver x y j) found_before [] old b tt (found_over p.nodes before 0 0 0 1 (named_front p.nodes before (c ∷ rest) 0 0 0 (subst (λ cs. AreNamed p.nodes 0 0 0 cs) commands_are (named_program p w)))) in
+      let over_old = listed_hold key (IsConditionOver x y j) found_before [] old b tt
+      (found_over p.nodes before 0 0 0 1
+      (named_front p.nodes before (c ∷ rest) 0 0 0 (subst (λ cs. AreNamed p.nodes 0 0 0 cs) commands_are (named_program p w)))) in
       let over_first = fresh_hold key (λ f. IsConditionOver x y j f.condition) (found_at line early) old t.0 t.1 (found_line x y j line early (early_over p.nodes x y j c (names placed))) in
       record {
         first = t.0;
@@ -437,7 +440,9 @@ module _ (p : Source) (w : IsWellFormed p) (k : ℕ) (c : Command) (at : slice_g
         second_lines = fresh_hold key (λ f. f.line ≡ line) (found_at line late) (old ++ t.0) u.0 u.1 (at_one_line line late);
         later_lines = fresh_hold key (λ f. line < f.line) found_later ((old ++ t.0) ++ u.0) v.0 (subst (λ fs. IsListed key ((old ++ t.0) ++ u.0) found_later fs) v.1 u.2)
             (each_append (λ f. line < f.line) (found_from p.nodes (counted kind.Point (named c) x) (suc line) rest) (found_at (suc (length p.commands)) (statement_conditions p.nodes p.statement))
-            (later_from p.nodes rest line (suc line) (counted kind.Point (named c) x) (omega arith)) (later_at line (suc (length p.commands)) (let q = below_all in omega arith) (statement_conditions p.nodes p.statement)));
+            (later_from p.nodes rest line (suc line) (counted kind.Point (named c) x) (omega arith))
+            (later_at line (suc (length p.commands)) (let q = below_all in omega arith) (statement_conditions p.nodes p.statement)));
         next = subst (λ fs. IsListed key [] fs ((old ++ t.0) ++ u.0)) (sym found_next)
-            (listed_join key found_before (found_at line early ++ found_at line late) [] old ((old ++ t.0) ++ u.0) b (listed_join key (found_at line early) (found_at line late) old (old ++ t.0) ((old ++ t.0) ++ u.0) t.1 u.1));
+            (listed_join key found_before (found_at line early ++ found_at line late) [] old ((old ++ t.0) ++ u.0) b
+            (listed_join key (found_at line early) (found_at line late) old (old ++ t.0) ((old ++ t.0) ++ u.0) t.1 u.1));
       }

@@ -27,10 +27,10 @@ use Rattle.geo_conditions.proofs.Listings.{all_hold, listed_once}
 use Rattle.geo_place.specs.declared.errors.PlaceError.{PlaceError}
 use Rattle.geo_place.specs.declared.errors.PlaceError.TheVariants.{NoMemory, TooLarge, Unmet}
 use Rattle.geo_place.specs.declared.sketch.Sketch.{Sketch}
-use Rattle.geo_place.specs.Evaluation.{ComesUp, EndsAs, IsReckoned, IsRight, IsTooLarge, LineTurn, Passes, Turn, at_line, judge, placed_all, test, too_large, turns_from, turns_of}
+use Rattle.geo_place.specs.Evaluation.{ComesUp, EndsAs, IsReckoned, IsRight, TurnOverflows, LineTurn, Succeeds, Turn, at_line, judge, placed_all, test, too_large, turns_from, turns_of}
 use Rattle.geo_place.specs.Formulas.{reckoned}
 use Rattle.geo_place.specs.Inner.{EndsWith, GoalsCome, IsItemMet, IsItemNull, Run, StopsGoals, Stops, item_reckoned, placement_of}
-use Rattle.geo_place.specs.Reckonings.{IsRefused, number}
+use Rattle.geo_place.specs.Reckonings.{Overflows, number}
 use Rattle.geo_place.proofs.ListParts.{Beside, FirstOf, beside, first_fresh, fresh_hold, head_of, listed_split, none_before, tail_of}
 use Rattle.geo_place.proofs.MakeTurns.{stops_in}
 use Rattle.geo_place.proofs.Once.{TurnOver, turns_over}
@@ -49,9 +49,9 @@ ends_with run (Unmet k) s =
           before = s.before;
           after = s.after;
           parts = s.parts ∙ ap (λ (t : LineTurn). s.before ++ t ∷ s.after) same;
-          passed = All-from_recursion (Passes run.program run.placed) s.before s.passed;
+          passed = All-from_recursion (Succeeds run.program run.placed) s.before s.passed;
         },
-        subst (λ (t : Turn). IsTooLarge run.program run.placed t → ⊥) s.stops.1 s.stops.3,
+        subst (λ (t : Turn). TurnOverflows run.program run.placed t → ⊥) s.stops.1 s.stops.3,
         subst (λ (t : Turn). IsRight run.program run.placed t → ⊥) s.stops.1 s.stops.4,
       ),
       s.stops.2,
@@ -62,7 +62,7 @@ ends_with run (TooLarge line) s = (
     before = s.before;
     after = s.after;
     parts = s.parts ∙ ap (λ (i : ℕ). s.before ++ record { line = i; turn = s.turn.turn } ∷ s.after) s.stops.0;
-    passed = All-from_recursion (Passes run.program run.placed) s.before s.passed;
+    passed = All-from_recursion (Succeeds run.program run.placed) s.before s.passed;
   },
   s.stops.1,
 )
@@ -92,16 +92,22 @@ module _ (p : Source) (w : IsWellFormed p) (v : ProgramValues) (placed : Placeme
   judge_part = at_line last (map judge (statement_goals p.nodes p.statement))
 
   abbrev P : LineTurn → Type 0
-  P t = Passes p placed t
+  P t = Succeeds p placed t
 
   abbrev O : LineTurn → Type 0
   O t = TurnOver p w v placed r t.turn
 
   pub stated_terms : AllByRecursion (λ d. IsOver N M (condition_term (layout_of Two p.commands) d)) (statement_conditions p.nodes p.statement)
-  stated_terms = tests O last (statement_conditions p.nodes p.statement) (line_turns O last (map test (statement_conditions p.nodes p.statement)) (each_back O command_part test_part (each_front O (command_part ++ test_part) judge_part (turns_over p w v placed r))))
+  stated_terms =
+      tests O last (statement_conditions p.nodes p.statement)
+      (line_turns O last (map test (statement_conditions p.nodes p.statement))
+      (each_back O command_part test_part (each_front O (command_part ++ test_part) judge_part (turns_over p w v placed r))))
 
   goal_terms : AllByRecursion (λ g. IsOver N M (goal_term (layout_of Two p.commands) p.nodes g)) (statement_goals p.nodes p.statement)
-  goal_terms = judges O last (statement_goals p.nodes p.statement) (line_turns O last (map judge (statement_goals p.nodes p.statement)) (each_back O (command_part ++ test_part) judge_part (turns_over p w v placed r)))
+  goal_terms =
+      judges O last (statement_goals p.nodes p.statement)
+      (line_turns O last (map judge (statement_goals p.nodes p.statement))
+      (each_back O (command_part ++ test_part) judge_part (turns_over p w v placed r)))
 
   -- what is listed for the statement
   pub record Stated (old : List Found) : Type 0 where
@@ -138,12 +144,12 @@ module _ (p : Source) (w : IsWellFormed p) (v : ProgramValues) (placed : Placeme
 
     -- the goal passes its turn
     abbrev Judged : Statement → Type 0
-    Judged s = (IsTooLarge p placed (judge s) → ⊥) × IsRight p placed (judge s)
+    Judged s = (TurnOverflows p placed (judge s) → ⊥) × IsRight p placed (judge s)
 
     null_there : (item : Item) (s : Statement) → item_form nodes item ≡ goal_item Two p s → GoalOver s → IsItemNull sketch nodes item → Judged s
     null_there item s e o h =
         let t = goal_term (layout_of Two p.commands) p.nodes s in
-        let k = subst (λ u. (IsRefused (reckoned (placement_of sketch) u) → ⊥) × Same (number (reckoned (placement_of sketch) u)) (whole (pos 0))) (term_is item s e) h in
+        let k = subst (λ u. (Overflows (reckoned (placement_of sketch) u) → ⊥) × Same (number (reckoned (placement_of sketch) u)) (whole (pos 0))) (term_is item s e) h in
         (λ x. k.0 (refused_here N M (placement_of sketch) placed g t o x), fractions.same_trans _ _ _ (fractions.same_sym _ _ (same_there N M (placement_of sketch) placed g t o)) k.1)
 
     nulls_there : (items : List Item) (ss : List Statement) → map (item_form nodes) items ≡ map (goal_item Two p) ss → AllByRecursion GoalOver ss
@@ -211,7 +217,7 @@ module _ (p : Source) (w : IsWellFormed p) (v : ProgramValues) (placed : Placeme
           let Q : Item → Type 0 = IsItemMet sketch nodes in
           let s = goal Q h in
           let t = goal_term (layout_of Two p.commands) p.nodes s in
-          let k = subst (λ u. (IsRefused (reckoned (placement_of sketch) u) → ⊥) × IsNonzero (number (reckoned (placement_of sketch) u))) (term_is h.item s (goal_item_is Q h)) h.stops in (
+          let k = subst (λ u. (Overflows (reckoned (placement_of sketch) u) → ⊥) × IsNonzero (number (reckoned (placement_of sketch) u))) (term_is h.item s (goal_item_is Q h)) h.stops in (
             last,
             s,
             (
@@ -221,16 +227,16 @@ module _ (p : Source) (w : IsWellFormed p) (v : ProgramValues) (placed : Placeme
             ),
           )
 
-      pub goal_large : (line : ℕ) → StopsGoals sketch nodes items (λ i. (line ≡ i.line) × IsRefused (item_reckoned sketch nodes i)) → EndsAs p placed (too_large line)
+      pub goal_large : (line : ℕ) → StopsGoals sketch nodes items (λ i. (line ≡ i.line) × Overflows (item_reckoned sketch nodes i)) → EndsAs p placed (too_large line)
       goal_large line h =
-          let Q : Item → Type 0 = λ i. (line ≡ i.line) × IsRefused (item_reckoned sketch nodes i) in
+          let Q : Item → Type 0 = λ i. (line ≡ i.line) × Overflows (item_reckoned sketch nodes i) in
           let s = goal Q h in
           let t = goal_term (layout_of Two p.commands) p.nodes s in
           let same : last ≡ line = sym (h.stops.0 ∙ ap (λ (i : ItemForm). i.line) (goal_item_is Q h)) in
           subst (λ (i : ℕ). EndsAs p placed (too_large i)) same (
             judge s,
             comes_up Q h,
-            refused_there N M (placement_of sketch) placed g t (goal_over Q h) (subst (λ u. IsRefused (reckoned (placement_of sketch) u)) (term_is h.item s (goal_item_is Q h)) h.stops.1),
+            refused_there N M (placement_of sketch) placed g t (goal_over Q h) (subst (λ u. Overflows (reckoned (placement_of sketch) u)) (term_is h.item s (goal_item_is Q h)) h.stops.1),
           )
 
       -- what comes of the goals is the end

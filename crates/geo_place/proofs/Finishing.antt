@@ -18,7 +18,7 @@ use Rattle.geo_conditions.specs.Lists.{AreStoredGoals, Found, IsListed, ItemForm
 use Rattle.geo_conditions.specs.Statements.{statement_conditions}
 use Rattle.geo_place.specs.declared.errors.PlaceError.{PlaceError}
 use Rattle.geo_place.specs.declared.evaluation.Progress.{Progress}
-use Rattle.geo_place.specs.Evaluation.{Passes, at_line, test, turns_from}
+use Rattle.geo_place.specs.Evaluation.{Succeeds, at_line, test, turns_from}
 use Rattle.geo_place.specs.Inner.{EndsWith, FirstFails, GoalsCome, IsItemMet, IsRun, IsTaken, Run, placement_of}
 use Rattle.geo_place.proofs.EndTurns.{GoalsEnd, Stated, ends_with, goals_end, stated_here, stated_stop, stated_terms}
 use Rattle.geo_place.proofs.TestTurns.{tests_pass, tests_stop}
@@ -47,8 +47,8 @@ module _ (run : Run) (problem : Problem) (ints : List ℤ) (h : IsRun run proble
       subst (λ (i : ℕ). SamePlacement i M (placement_of progress.sketch) run.placed) points_long
       (subst (λ (j : ℕ). SamePlacement (length progress.sketch.points.items) j (placement_of progress.sketch) run.placed) t.sketch.numbers t.sketch.same)
 
-  commands_pass : AllByRecursion (Passes p run.placed) (turns_from p 1 0 0 0 p.commands)
-  commands_pass = subst (λ cs. AllByRecursion (Passes p run.placed) (turns_from p 1 0 0 0 cs)) all_commands t.passed
+  commands_pass : AllByRecursion (Succeeds p run.placed) (turns_from p 1 0 0 0 p.commands)
+  commands_pass = subst (λ cs. AllByRecursion (Succeeds p run.placed) (turns_from p 1 0 0 0 cs)) all_commands t.passed
 
   old : List Found
   old = take progress.tested run.conditions
@@ -62,16 +62,19 @@ module _ (run : Run) (problem : Problem) (ints : List ℤ) (h : IsRun run proble
   rest_items =
       sym (drop-map (item_form nodes) progress.tested problem.conditions) ∙ ap (λ (fs : List ItemForm). drop progress.tested fs) h.written
       ∙ drop-map (condition_item Two p) progress.tested run.conditions
-      ∙ ap (λ (fs : List Found). map (condition_item Two p) fs) (ap (λ (fs : List Found). drop progress.tested fs) stated.whole ∙ drop_at (take progress.tested run.conditions) stated.more progress.tested (length-take-le progress.tested run.conditions t.tested))
+      ∙ ap (λ (fs : List Found). map (condition_item Two p) fs)
+      (ap (λ (fs : List Found). drop progress.tested fs) stated.whole
+      ∙ drop_at (take progress.tested run.conditions) stated.more progress.tested
+      (length-take-le progress.tested run.conditions t.tested))
 
   module _ (items : List Item) (e : items ≡ drop progress.tested problem.conditions) where
     these : map (item_form nodes) items ≡ map (condition_item Two p) stated.more
     these = ap (λ (is : List Item). map (item_form nodes) is) e ∙ rest_items
 
     pub stated_pass : AllByRecursion (IsItemMet progress.sketch nodes) items
-        → AllByRecursion (Passes p run.placed) (turns_from p 1 0 0 0 p.commands ++ at_line (suc (length p.commands)) (map test (statement_conditions p.nodes p.statement)))
+        → AllByRecursion (Succeeds p run.placed) (turns_from p 1 0 0 0 p.commands ++ at_line (suc (length p.commands)) (map test (statement_conditions p.nodes p.statement)))
     stated_pass m =
-        each_append (Passes p run.placed) (turns_from p 1 0 0 0 p.commands) (at_line (suc (length p.commands)) (map test (statement_conditions p.nodes p.statement))) commands_pass
+        each_append (Succeeds p run.placed) (turns_from p 1 0 0 0 p.commands) (at_line (suc (length p.commands)) (map test (statement_conditions p.nodes p.statement))) commands_pass
         (tests_pass run progress.sketch nodes N M same (suc (length p.commands)) (statement_conditions p.nodes p.statement) (take progress.tested run.conditions) stated.more stated.listed t.held
         (stated_terms p h.formed run.values run.placed h.reckoned run.conditions) items these m)
 
@@ -83,7 +86,8 @@ module _ (run : Run) (problem : Problem) (ints : List ℤ) (h : IsRun run proble
         (stated_terms p h.formed run.values run.placed h.reckoned run.conditions) items these [] (stated.whole ∙ sym (append-nil (take progress.tested run.conditions ++ stated.more))) h.listed error
         (subst (λ (i : ℕ). FirstFails progress.sketch nodes items i error) (sym (length-take-le progress.tested run.conditions t.tested)) f)))
 
-    pub all_end : AreStoredGoals Two p nodes problem.goals → AllByRecursion (IsItemMet progress.sketch nodes) items → (result : Result Bool PlaceError) → GoalsCome progress.sketch nodes problem.goals result
+    pub all_end : AreStoredGoals Two p nodes problem.goals → AllByRecursion (IsItemMet progress.sketch nodes) items
+        → (result : Result Bool PlaceError) → GoalsCome progress.sketch nodes problem.goals result
         → GoalsEnd p h.formed run.values run.placed h.reckoned run.conditions result
     all_end g m result c =
         goals_end p h.formed run.values run.placed h.reckoned run.conditions progress.sketch nodes same problem.goals g.are.goals g.are.listed g.are.written (stated_pass m) result c

@@ -1,6 +1,7 @@
 -- The triple of a position with the least denominator: the least common multiple of the denominators of its coordinates.
 use Rattle.std.proofs.lemmas.Bool.{cases_lt}
-use Rattle.std.proofs.Common.{◌≡◌, ℕ, zero, suc, ◌+◌, ◌*◌, ◌^◌, ◌<◌, ◌≤◌, Bool, true, false, ℤ, pos, negsuc, ◌*ℤ◌, unsigned_abs, ◌⊎◌, inl, inr, ⊎_elim, [], ◌∷◌, refl, sym, ◌∙◌, ap, subst, mul-pos, arith}
+use Rattle.std.proofs.Common.{◌≡◌, ℕ, zero, suc, ◌+◌, ◌*◌, ◌^◌, ◌<◌, ◌≤◌, Bool, true, false, ℤ, pos, negsuc, ◌*ℤ◌, unsigned_abs, ◌⊎◌, inl}
+use Rattle.std.proofs.Common.{inr, ⊎_elim, [], ◌∷◌, refl, sym, ◌∙◌, ap, subst, mul-pos, arith}
 use Rattle.std.specs.Prelude.{◌/◌, IfOk, IsErr, Result, Ok, Err}
 use Rattle.frac_laws.specs.declared.frac.FracTooLarge.{FracTooLarge}
 use Rattle.std.specs.Int.{◌∣◌, IsGcd}
@@ -240,7 +241,9 @@ module _ (at : Position) (g : ℕ) (h : IsGcd (unsigned_abs at.x.den) (unsigned_
       go (Err e) made fits past wide X Y = record {
         triple = tt;
         fits = tt;
-        past = λ q. is_past (⊎_elim (λ z. inl (subst IsPast X z)) (λ (z : IsPast (at.y.num *ℤ right) ⊎ IsPast (at.x.den *ℤ left)). inr (⊎_elim (λ y. inl (subst IsPast Y y)) (λ y. inr (subst IsPast wide y)) z)) (past q));
+        past = λ q. is_past (⊎_elim (λ z. inl (subst IsPast X z))
+            (λ (z : IsPast (at.y.num *ℤ right) ⊎ IsPast (at.x.den *ℤ left)). inr
+            (⊎_elim (λ y. inl (subst IsPast Y y)) (λ y. inr (subst IsPast wide y)) z)) (past q));
       }
 
 -- what comes of the products, at other numbers that are the same

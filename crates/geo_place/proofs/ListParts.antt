@@ -166,11 +166,6 @@ pub take_zero : {A : Type 0} (xs : List A) → take 0 xs ≡ []
 take_zero [] = refl
 take_zero (x ∷ xs) = refl
 
-pub some_below : {A : Type 0} (xs : List A) (k : ℕ) (x : A) → slice_get xs k ≡ Some x → k < length xs
-some_below [] k x e = cc
-some_below (y ∷ ys) zero x e = omega arith
-some_below (y ∷ ys) (suc k) x e = let h : k < length ys = some_below ys k x e in omega arith
-
 -- WHAT IS LEFT
 pub left_all : {A : Type 0} (xs : List A) (k : ℕ) → take (length xs - k) (drop k xs) ≡ drop k xs
 left_all xs k = take_all (length xs - k) (drop k xs) (let q = length-drop k xs in omega (arith, q))

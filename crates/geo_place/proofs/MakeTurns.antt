@@ -20,10 +20,10 @@ use Rattle.geo_place.specs.declared.errors.PlaceError.{PlaceError}
 use Rattle.geo_place.specs.declared.errors.PlaceError.TheVariants.{NoMemory, TooLarge, Unmet}
 use Rattle.geo_place.specs.declared.positions.Position.{Position}
 use Rattle.geo_place.specs.declared.sketch.Sketch.{Sketch}
-use Rattle.geo_place.specs.Evaluation.{AreAt, IsTooLarge, LineTurn, Passes, Turn, at_line, make, makes}
+use Rattle.geo_place.specs.Evaluation.{AreAt, TurnOverflows, LineTurn, Succeeds, Turn, at_line, make, makes}
 use Rattle.geo_place.specs.Formulas.{IsAt, Spot, step_spot}
 use Rattle.geo_place.specs.Inner.{IsSketchOf, Run, Stop, Stops, free_places, placement_of, point_at}
-use Rattle.geo_place.specs.Reckonings.{IsRefused, IsResult, number}
+use Rattle.geo_place.specs.Reckonings.{Overflows, IsResult, number}
 use Rattle.geo_place.proofs.Alike.{alike_number, alike_refused, step_alike}
 use Rattle.geo_place.proofs.Existence.{places_append}
 use Rattle.geo_place.proofs.ResultLaws.{moved}
@@ -31,18 +31,18 @@ use Rattle.geo_place.proofs.Sketches.{own_position, point_found, position_same}
 use Rattle.geo_place.proofs.TestTurns.{agree_back, agree_of}
 
 -- STOPS AMONG MORE TURNS
-pub stop_in : (run : Run) (all xs ys zs : List LineTurn) (e : PlaceError) → all ≡ xs ++ ys ++ zs → AllByRecursion (Passes run.program run.placed) xs → Stop run ys e → Stop run all e
+pub stop_in : (run : Run) (all xs ys zs : List LineTurn) (e : PlaceError) → all ≡ xs ++ ys ++ zs → AllByRecursion (Succeeds run.program run.placed) xs → Stop run ys e → Stop run all e
 stop_in run all xs ys zs e parts h s = record {
   before = xs ++ s.before;
   turn = s.turn;
   after = s.after ++ zs;
   parts = parts ∙ ap (λ (ts : List LineTurn). xs ++ ts ++ zs) s.parts ∙ ap (λ (ts : List LineTurn). ts ++ zs) (sym (append_assoc xs s.before (s.turn ∷ s.after)))
       ∙ append_assoc (xs ++ s.before) (s.turn ∷ s.after) zs;
-  passed = each_append (Passes run.program run.placed) xs s.before h s.passed;
+  passed = each_append (Succeeds run.program run.placed) xs s.before h s.passed;
   stops = s.stops;
 }
 
-pub stops_in : (run : Run) (all xs ys zs : List LineTurn) (e : PlaceError) → all ≡ xs ++ ys ++ zs → AllByRecursion (Passes run.program run.placed) xs → Stops run ys e → Stops run all e
+pub stops_in : (run : Run) (all xs ys zs : List LineTurn) (e : PlaceError) → all ≡ xs ++ ys ++ zs → AllByRecursion (Succeeds run.program run.placed) xs → Stops run ys e → Stops run all e
 stops_in run all xs ys zs (Unmet k) parts h s = stop_in run all xs ys zs (Unmet k) parts h s
 stops_in run all xs ys zs (TooLarge k) parts h s = stop_in run all xs ys zs (TooLarge k) parts h s
 stops_in run all xs ys zs NoMemory parts h s = tt
@@ -98,22 +98,6 @@ is_free_step (foot_of p u v) = false
 is_free_step (along w u v r) = false
 is_free_step (turned_along u v r) = false
 is_free_step (weighted o u v r s) = false
-
-pub free_step_is : (f : StepForm) → is_free_step f ≡ true → f ≡ free
-free_step_is free e = refl
-free_step_is (crossing_of u v p q) e = cc
-free_step_is (foot_of p u v) e = cc
-free_step_is (along w u v r) e = cc
-free_step_is (turned_along u v r) e = cc
-free_step_is (weighted o u v r s) e = cc
-
-places_other : (n : ℕ) (f : StepForm) → is_free_step f ≡ false → free_places n (f ∷ []) ≡ []
-places_other n free e = cc
-places_other n (crossing_of u v p q) e = refl
-places_other n (foot_of p u v) e = refl
-places_other n (along w u v r) e = refl
-places_other n (turned_along u v r) e = refl
-places_other n (weighted o u v r s) e = refl
 
 -- the place of a free point among those of all steps
 pub place_at : (n : ℕ) (fs : List StepForm) (i : ℕ) → slice_get fs i ≡ Some free
@@ -224,12 +208,12 @@ module _ (n m : ℕ) (p p' : Placement) (g : SamePlacement n m p p') (f : StepFo
         y = moved s.y (number S.y) _ (fractions.same_trans _ _ _ (alike_number S.y T.y a.1) (fractions.same_sym _ _ at.by_y)) y.is;
       })
 
-  pub not_large : (s : Position) → IsResult s.x S.x → IsResult s.y S.y → IsRefused T.x ⊎ IsRefused T.y → ⊥
+  pub not_large : (s : Position) → IsResult s.x S.x → IsResult s.y S.y → Overflows T.x ⊎ Overflows T.y → ⊥
   not_large s x y h =
       let b = step_alike n m p' p (agree_back n m p p' g) n f (λ e. absurd (d e)) o in
       ⊎_elim (λ r. x.kept (alike_refused T.x S.x b.0 r)) (λ r. y.kept (alike_refused T.y S.y b.1 r)) h
 
-  pub large_there : IsRefused S.x ⊎ IsRefused S.y → IsRefused T.x ⊎ IsRefused T.y
+  pub large_there : Overflows S.x ⊎ Overflows S.y → Overflows T.x ⊎ Overflows T.y
   large_there h =
       let a = step_alike n m p p' (agree_of n m p p' g) n f (λ e. absurd (d e)) o in
       ⊎_elim (λ r. inl (alike_refused S.x T.x a.0 r)) (λ r. inr (alike_refused S.y T.y a.1 r)) h
@@ -238,7 +222,7 @@ module _ (n m : ℕ) (p p' : Placement) (g : SamePlacement n m p p') (f : StepFo
 -- the first i of these steps
 module _ (run : Run) (line n : ℕ) (fs : List StepForm) where
   abbrev Pass : LineTurn → Type 0
-  Pass t = Passes run.program run.placed t
+  Pass t = Succeeds run.program run.placed t
 
   abbrev pub made : ℕ → List LineTurn
   made i = at_line line (makes n (take i fs))
@@ -250,10 +234,11 @@ module _ (run : Run) (line n : ℕ) (fs : List StepForm) where
       ap (λ (gs : List StepForm). at_line line (makes n gs)) (take_next i fs f e) ∙ ap (λ (ts : List Turn). at_line line ts) (makes_append n (take i fs) (f ∷ []))
       ∙ line_append line (makes n (take i fs)) (make (n + length (take i fs)) f ∷ []) ∙ ap (λ (k : ℕ). made i ++ record { line = line; turn = make (n + k) f } ∷ []) long
 
-  pub pass_next : (i : ℕ) (f : StepForm) → slice_get fs i ≡ Some f → AllByRecursion Pass (made i) → (IsTooLarge run.program run.placed (make (n + i) f) → ⊥) → AllByRecursion Pass (made (suc i))
+  pub pass_next : (i : ℕ) (f : StepForm) → slice_get fs i ≡ Some f → AllByRecursion Pass (made i) → (TurnOverflows run.program run.placed (make (n + i) f) → ⊥) → AllByRecursion Pass (made (suc i))
   pass_next i f e h p = subst (λ ts. AllByRecursion Pass ts) (sym (made_next i f e)) (each_append Pass (made i) (record { line = line; turn = make (n + i) f } ∷ []) h ((p, tt), tt))
 
-  pub stop_next : (i : ℕ) (f : StepForm) (e : PlaceError) → slice_get fs i ≡ Some f → AllByRecursion Pass (made i) → Stops run (record { line = line; turn = make (n + i) f } ∷ []) e → Stops run (at_line line (makes n fs)) e
+  pub stop_next : (i : ℕ) (f : StepForm) (e : PlaceError) → slice_get fs i ≡ Some f → AllByRecursion Pass (made i)
+      → Stops run (record { line = line; turn = make (n + i) f } ∷ []) e → Stops run (at_line line (makes n fs)) e
   stop_next i f e at h s =
       let l : i < length fs = get_below fs i f at in
       let long : length (take i fs) ≡ i = length-take-le i fs (omega arith) in

@@ -24,8 +24,8 @@ use Rattle.geo_place.specs.declared.positions.Position.{Position}
 use Rattle.geo_place.specs.declared.positions.Reckoned.{Reckoned}
 use Rattle.geo_place.specs.declared.sketch.Sketch.{Sketch}
 use Rattle.geo_place.specs.Formulas.{IsAt, Spot, step_spot}
-use Rattle.geo_place.specs.Evaluation.{IsTooLarge, at_line, make}
-use Rattle.geo_place.specs.Reckonings.{IsRefused, IsResult}
+use Rattle.geo_place.specs.Evaluation.{TurnOverflows, at_line, make}
+use Rattle.geo_place.specs.Reckonings.{Overflows, IsResult}
 use Rattle.geo_place.specs.Inner.{AreResults, HasNumber, IsPosition, IsRun, IsSketchOf, Run, Stops, free_places, placement_of, point_at}
 use Rattle.geo_place.proofs.Existence.{program_places}
 use Rattle.geo_conditions.specs.Lists.{condition_item, item_form}
@@ -136,7 +136,8 @@ module _ (run : Run) (problem : Problem) (ints : List ℤ) (h : IsRun run proble
     inside =
         let a = below_all in
         let b : length ints ≡ 2 * length run.values.coordinates + length run.values.numbers =
-        ap (λ (zs : List ℤ). length zs) ints_parts ∙ length-append (pairs run.values.coordinates) run.values.numbers ∙ ap (λ (k : ℕ). k + length run.values.numbers) (pairs_length run.values.coordinates) in
+        ap (λ (zs : List ℤ). length zs) ints_parts ∙ length-append (pairs run.values.coordinates) run.values.numbers
+        ∙ ap (λ (k : ℕ). k + length run.values.numbers) (pairs_length run.values.coordinates) in
         omega (arith, a, b)
 
     at_free : point_place Two run.program.commands (slice_index_or frees sketch.free 0) ≡ n
@@ -168,12 +169,12 @@ module _ (run : Run) (problem : Problem) (ints : List ℤ) (h : IsRun run proble
   -- what a step that is no free point answers, on this line
   pub record NextIs (line : ℕ) (r : Result Position PlaceError) : Type 0 where
     pub position : IfOk r (λ q. SamePoint (point_at q) (run.placed.point n))
-    pub passed : OnOk r (IsTooLarge run.program run.placed (make n form) → ⊥)
+    pub passed : OnOk r (TurnOverflows run.program run.placed (make n form) → ⊥)
     pub stops : IfErr r (Stops run (at_line line (make n form ∷ [])))
 
   pub next_reckoned : (form ≡ free → ⊥) → (line : ℕ) (k : ℕ) → k ≡ n → (reckoned : Reckoned) → AreResults reckoned (step_spot (placement_of sketch) k form) → (r : Result Position PlaceError)
       → IfOk r (λ q. (spot : Spot) → AreResults reckoned spot → IsResult q.x spot.x × IsResult q.y spot.y)
-      → IfErr r (λ e. (spot : Spot) → AreResults reckoned spot → (e ≡ TooLarge line) × (IsRefused spot.x ⊎ IsRefused spot.y)) → NextIs line r
+      → IfErr r (λ e. (spot : Spot) → AreResults reckoned spot → (e ≡ TooLarge line) × (Overflows spot.x ⊎ Overflows spot.y)) → NextIs line r
   next_reckoned d line k kn reckoned a r ok err =
       let b : AreResults reckoned (step_spot (placement_of sketch) n form) = subst (λ (i : ℕ). AreResults reckoned (step_spot (placement_of sketch) i form)) kn a in
       go r ok err b
@@ -182,7 +183,7 @@ module _ (run : Run) (problem : Problem) (ints : List ℤ) (h : IsRun run proble
       spot = step_spot (placement_of sketch) n form
 
       go : (r : Result Position PlaceError) → IfOk r (λ q. (spot : Spot) → AreResults reckoned spot → IsResult q.x spot.x × IsResult q.y spot.y)
-          → IfErr r (λ e. (spot : Spot) → AreResults reckoned spot → (e ≡ TooLarge line) × (IsRefused spot.x ⊎ IsRefused spot.y))
+          → IfErr r (λ e. (spot : Spot) → AreResults reckoned spot → (e ≡ TooLarge line) × (Overflows spot.x ⊎ Overflows spot.y))
           → AreResults reckoned (step_spot (placement_of sketch) n form) → NextIs line r
       go (Ok q) ok err b =
           let h = ok spot b in
@@ -206,9 +207,3 @@ module _ (run : Run) (problem : Problem) (ints : List ℤ) (h : IsRun run proble
                   stops = (refl, large_there n (length sketch.numbers.items) (placement_of sketch) run.placed s.same form over d is_at h.1);
                 });
           }
-
-  -- a free point is never too large
-  pub free_passes : form ≡ free → IsTooLarge run.program run.placed (make n form) → ⊥
-  free_passes e h =
-      let k : IsTooLarge run.program run.placed (make n free) = subst (λ (f : StepForm). IsTooLarge run.program run.placed (make n f)) e h in
-      ⊎_elim (λ x. x) (λ x. x) k

@@ -29,7 +29,7 @@ use Rattle.geo_place.specs.declared.placed.Placed.{Placed}
 use Rattle.geo_place.specs.declared.triples.Triple.{Triple}
 use Rattle.geo_place.specs.Evaluation.{EndsAs, IsLeast, IsReckoned, placed_all}
 use Rattle.geo_place.specs.Inner.{EndsWith, IsTripleOf, triple_at}
-use Rattle.geo_place.specs.Placing.{AreTold, IsAnswer, IsDrawable, IsTold, Places, point_lines}
+use Rattle.geo_place.specs.Placing.{AreTold, AnswersValues, IsDrawable, IsTold, Places, point_lines}
 use Rattle.geo_place.proofs.LawProofs.{evaluation_places, unmet_values_place_nothing}
 use Rattle.geo_place.proofs.LeastTriples.{least_once}
 
@@ -76,15 +76,15 @@ module _ (p : Source) (w : IsWellFormed p) (l : LoweredForm) (i : IsLowered Two 
       let k = evaluation_places p l v placed answer.holds w i r e in
       record { reckoned = placed; is_reckoned = r; ends = e; told = t; only = k.0; holds = k.1 }
 
-  pub answer_stopped : (conditions : List Found) (e : PlaceError) → EndsWith (record { program = p; values = v; placed = placed; conditions = conditions }) e → IsAnswer p v (Err e)
+  pub answer_stopped : (conditions : List Found) (e : PlaceError) → EndsWith (record { program = p; values = v; placed = placed; conditions = conditions }) e → AnswersValues p v (Err e)
   answer_stopped conditions (Unmet k) h = record { reckoned = placed; is_reckoned = r; ends = h; none = λ q a b. unmet_values_place_nothing p l v placed k w i r h q a b }
   answer_stopped conditions (TooLarge line) h = record { reckoned = placed; is_reckoned = r; ends = h }
   answer_stopped conditions NoMemory h = tt
 
 -- an error that is passed on
-pub refused_answer : (p : Source) (v : ProgramValues) (r : Result Placed PlaceError) (x : PlaceError) → IsErrAnd r (λ e. e ≡ x) → IsAnswer p v (Err x) → IsAnswer p v r
+pub refused_answer : (p : Source) (v : ProgramValues) (r : Result Placed PlaceError) (x : PlaceError) → IsErrAnd r (λ e. e ≡ x) → AnswersValues p v (Err x) → AnswersValues p v r
 refused_answer p v (Ok t) x h a = absurd h
-refused_answer p v (Err e) x h a = subst (λ (f : PlaceError). IsAnswer p v (Err f)) (sym h) a
+refused_answer p v (Err e) x h a = subst (λ (f : PlaceError). AnswersValues p v (Err f)) (sym h) a
 
 -- POINTS THAT CAN BE DRAWN
 name_some : (text : List ℕ) → IsNameText text → 1 ≤ length text

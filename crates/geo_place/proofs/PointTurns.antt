@@ -9,9 +9,9 @@ use Rattle.geo_lowering.specs.declared.version.Version.TheVariants.{Two}
 use Rattle.geo_conditions.specs.declared.problem.Problem.{Problem}
 use Rattle.geo_place.specs.declared.errors.PlaceError.{PlaceError}
 use Rattle.geo_place.specs.declared.sketch.Sketch.{Sketch}
-use Rattle.geo_place.specs.Evaluation.{IsTooLarge, Passes, at_line, make, makes}
+use Rattle.geo_place.specs.Evaluation.{TurnOverflows, Succeeds, at_line, make, makes}
 use Rattle.geo_place.specs.Inner.{IsRun, IsSketchOf, Run, Stops}
-use Rattle.geo_place.proofs.ListParts.{take_zero, taken_at}
+use Rattle.geo_place.proofs.ListParts.{taken_at}
 use Rattle.geo_place.proofs.MakeTurns.{made, pass_next, stop_next}
 use Rattle.geo_place.proofs.NextPoints.{all_steps}
 use Rattle.geo_place.proofs.Taking.{get_some}
@@ -25,19 +25,10 @@ module _ (run : Run) (n to line : ℕ) where
   pub record AreMade (count : ℕ) (sketch : Sketch) : Type 0 where
     pub sketch_of : IsSketchOf run sketch
     pub count_is : length sketch.points.items ≡ count
-    pub passed : AllByRecursion (Passes run.program run.placed) (made run line n between (count - n))
+    pub passed : AllByRecursion (Succeeds run.program run.placed) (made run line n between (count - n))
 
-  pub made_first : (sketch : Sketch) → IsSketchOf run sketch → length sketch.points.items ≡ n → AreMade n sketch
-  made_first sketch s e = record {
-    sketch_of = s;
-    count_is = e;
-    passed =
-        let q : 0 ≡ n - n = omega arith in
-        subst (λ (i : ℕ). AllByRecursion (Passes run.program run.placed) (made run line n between i)) q
-        (subst (λ (fs : List StepForm). AllByRecursion (Passes run.program run.placed) (at_line line (makes n fs))) (sym (take_zero between)) tt);
-  }
-
-  module _ (problem : Problem) (ints : List ℤ) (h : IsRun run problem ints) (last : to ≤ length problem.steps.steps) (count : ℕ) (sketch : Sketch) (m : AreMade count sketch) (low : n ≤ count) (high : count < to) where
+  module _ (problem : Problem) (ints : List ℤ) (h : IsRun run problem ints) (last : to ≤ length problem.steps.steps) (count : ℕ)
+      (sketch : Sketch) (m : AreMade count sketch) (low : n ≤ count) (high : count < to) where
     pub below : length sketch.points.items < length problem.steps.steps
     below = let a = m.count_is in omega (arith, a, last, high)
 
@@ -56,7 +47,7 @@ module _ (run : Run) (n to line : ℕ) where
     here_now = subst (λ (i : ℕ). slice_get (steps_of Two run.program) i ≡ Some here.0) (sym m.count_is) here.1
 
     pub made_next : (new : Sketch) → IsSketchOf run new → length new.points.items ≡ length sketch.points.items + 1
-        → ((f : StepForm) → slice_get (steps_of Two run.program) (length sketch.points.items) ≡ Some f → IsTooLarge run.program run.placed (make (length sketch.points.items) f) → ⊥)
+        → ((f : StepForm) → slice_get (steps_of Two run.program) (length sketch.points.items) ≡ Some f → TurnOverflows run.program run.placed (make (length sketch.points.items) f) → ⊥)
         → AreMade (count + 1) new
     made_next new s e p =
         let same : length sketch.points.items ≡ n + (count - n) = m.count_is ∙ sym whole in
@@ -64,8 +55,8 @@ module _ (run : Run) (n to line : ℕ) where
         record {
           sketch_of = s;
           count_is = let a = m.count_is in omega (arith, a, e);
-          passed = subst (λ (i : ℕ). AllByRecursion (Passes run.program run.placed) (made run line n between i)) q
-              (pass_next run line n between (count - n) here.0 at m.passed (λ z. p here.0 here_now (subst (λ (i : ℕ). IsTooLarge run.program run.placed (make i here.0)) (sym same) z)));
+          passed = subst (λ (i : ℕ). AllByRecursion (Succeeds run.program run.placed) (made run line n between i)) q
+              (pass_next run line n between (count - n) here.0 at m.passed (λ z. p here.0 here_now (subst (λ (i : ℕ). TurnOverflows run.program run.placed (make i here.0)) (sym same) z)));
         }
 
     pub made_stops : (e : PlaceError)
@@ -75,9 +66,9 @@ module _ (run : Run) (n to line : ℕ) where
         let same : length sketch.points.items ≡ n + (count - n) = m.count_is ∙ sym whole in
         stop_next run line n between (count - n) here.0 e at m.passed (subst (λ (i : ℕ). Stops run (at_line line (make i here.0 ∷ [])) e) same (s here.0 here_now))
 
-  pub made_last : (count : ℕ) (sketch : Sketch) → AreMade count sketch → to ≤ count → AllByRecursion (Passes run.program run.placed) (at_line line (makes n between))
+  pub made_last : (count : ℕ) (sketch : Sketch) → AreMade count sketch → to ≤ count → AllByRecursion (Succeeds run.program run.placed) (at_line line (makes n between))
   made_last count sketch m l =
-      subst (λ (fs : List StepForm). AllByRecursion (Passes run.program run.placed) (at_line line (makes n fs)))
+      subst (λ (fs : List StepForm). AllByRecursion (Succeeds run.program run.placed) (at_line line (makes n fs)))
       (take_all (count - n) between (short (to - n) (drop n (steps_of Two run.program)) (count - n) (omega (arith, l)))) m.passed
     where
       short : {A : Type 0} (i : ℕ) (xs : List A) (j : ℕ) → i ≤ j → length (take i xs) ≤ j

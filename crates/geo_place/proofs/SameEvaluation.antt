@@ -27,10 +27,11 @@ use Rattle.geo_place.specs.declared.errors.PlaceError.{PlaceError}
 use Rattle.geo_place.specs.declared.errors.PlaceError.TheVariants.{NoMemory, TooLarge, Unmet}
 use Rattle.geo_place.specs.declared.placed.At.{At}
 use Rattle.geo_place.specs.declared.placed.Placed.{Placed}
-use Rattle.geo_place.specs.Evaluation.{AreAt, ComesUp, End, EndsAs, IsListedAt, IsReckoned, IsRight, IsTooLarge, IsTriplePast, LineTurn, Passes, Turn, judge, make, placed_all, test, too_large, turns_of, unmet, write}
+use Rattle.geo_place.specs.Evaluation.{AreAt, ComesUp, End, EndsAs, IsListedAt, IsReckoned, IsRight, TurnOverflows, IsTriplePast, LineTurn}
+use Rattle.geo_place.specs.Evaluation.{Succeeds, Turn, judge, make, placed_all, test, too_large, turns_of, unmet, write}
 use Rattle.geo_place.specs.Formulas.{reckoned, step_spot}
-use Rattle.geo_place.specs.Placing.{IsAnswer, Places}
-use Rattle.geo_place.specs.Reckonings.{IsRefused, number}
+use Rattle.geo_place.specs.Placing.{AnswersValues, Places}
+use Rattle.geo_place.specs.Reckonings.{Overflows, number}
 use Rattle.geo_place.proofs.Once.{evaluation_ends_once}
 use Rattle.geo_place.proofs.LeastTriples.{least_once}
 use Rattle.geo_place.proofs.ListParts.{beside, head_of, none_before, tail_of}
@@ -40,10 +41,10 @@ use Rattle.geo_place.proofs.SeenTurns.{LineTask, Task, judges, line_task, makes_
 -- TASKS THAT PASS
 module _ (placed : Placement) (l : Layout) where
   abbrev TaskTooLarge : Task → Type 0
-  TaskTooLarge (tests c) = IsRefused (reckoned placed (condition_term l c))
-  TaskTooLarge (makes_point n f) = IsRefused (step_spot placed n f).x ⊎ IsRefused (step_spot placed n f).y
+  TaskTooLarge (tests c) = Overflows (reckoned placed (condition_term l c))
+  TaskTooLarge (makes_point n f) = Overflows (step_spot placed n f).x ⊎ Overflows (step_spot placed n f).y
   TaskTooLarge (writes n) = IsTriplePast (placed.point n)
-  TaskTooLarge (judges t) = IsRefused (reckoned placed t)
+  TaskTooLarge (judges t) = Overflows (reckoned placed t)
 
   abbrev TaskRight : Task → Type 0
   TaskRight (tests c) = IsNonzero (number (reckoned placed (condition_term l c)))
@@ -55,13 +56,13 @@ module _ (placed : Placement) (p : Source) where
   abbrev Q : LineTurn → LineTask
   Q = line_task (layout_of Two p.commands) p.nodes
 
-  large_to : (t : Turn) → IsTooLarge p placed t → TaskTooLarge placed (layout_of Two p.commands) (task_of (layout_of Two p.commands) p.nodes t)
+  large_to : (t : Turn) → TurnOverflows p placed t → TaskTooLarge placed (layout_of Two p.commands) (task_of (layout_of Two p.commands) p.nodes t)
   large_to (test c) h = h
   large_to (make n f) h = h
   large_to (write n) h = h
   large_to (judge g) h = h
 
-  large_of : (t : Turn) → TaskTooLarge placed (layout_of Two p.commands) (task_of (layout_of Two p.commands) p.nodes t) → IsTooLarge p placed t
+  large_of : (t : Turn) → TaskTooLarge placed (layout_of Two p.commands) (task_of (layout_of Two p.commands) p.nodes t) → TurnOverflows p placed t
   large_of (test c) h = h
   large_of (make n f) h = h
   large_of (write n) h = h
@@ -115,15 +116,17 @@ module _ (p q : Source) (s : SameSource p q) (placed : Placement) where
   abbrev Q' : LineTurn → LineTask
   Q' = line_task (layout_of Two q.commands) q.nodes
 
-  large_there : (t u : LineTurn) → P' t ≡ Q' u → IsTooLarge p placed t.turn → IsTooLarge q placed u.turn
+  large_there : (t u : LineTurn) → P' t ≡ Q' u → TurnOverflows p placed t.turn → TurnOverflows q placed u.turn
   large_there t u e h =
       large_of placed q u.turn
-      (subst (λ (z : LineTask). TaskTooLarge placed (layout_of Two q.commands) z.task) e (subst (λ (l : Layout). TaskTooLarge placed l (P' t).task) (same_layout p q s Two) (large_to placed p t.turn h)))
+      (subst (λ (z : LineTask). TaskTooLarge placed (layout_of Two q.commands) z.task) e
+      (subst (λ (l : Layout). TaskTooLarge placed l (P' t).task) (same_layout p q s Two) (large_to placed p t.turn h)))
 
-  large_here : (t u : LineTurn) → P' t ≡ Q' u → IsTooLarge q placed u.turn → IsTooLarge p placed t.turn
+  large_here : (t u : LineTurn) → P' t ≡ Q' u → TurnOverflows q placed u.turn → TurnOverflows p placed t.turn
   large_here t u e h =
       large_of placed p t.turn
-      (subst (λ (l : Layout). TaskTooLarge placed l (P' t).task) (sym (same_layout p q s Two)) (subst (λ (z : LineTask). TaskTooLarge placed (layout_of Two q.commands) z.task) (sym e) (large_to placed q u.turn h)))
+      (subst (λ (l : Layout). TaskTooLarge placed l (P' t).task) (sym (same_layout p q s Two))
+      (subst (λ (z : LineTask). TaskTooLarge placed (layout_of Two q.commands) z.task) (sym e) (large_to placed q u.turn h)))
 
   right_there : (t u : LineTurn) → P' t ≡ Q' u → IsRight p placed t.turn → IsRight q placed u.turn
   right_there t u e h =
@@ -133,9 +136,10 @@ module _ (p q : Source) (s : SameSource p q) (placed : Placement) where
   right_here : (t u : LineTurn) → P' t ≡ Q' u → IsRight q placed u.turn → IsRight p placed t.turn
   right_here t u e h =
       right_of placed p t.turn
-      (subst (λ (l : Layout). TaskRight placed l (P' t).task) (sym (same_layout p q s Two)) (subst (λ (z : LineTask). TaskRight placed (layout_of Two q.commands) z.task) (sym e) (right_to placed q u.turn h)))
+      (subst (λ (l : Layout). TaskRight placed l (P' t).task) (sym (same_layout p q s Two))
+      (subst (λ (z : LineTask). TaskRight placed (layout_of Two q.commands) z.task) (sym e) (right_to placed q u.turn h)))
 
-  all_there : (ts us : List LineTurn) → map P' ts ≡ map Q' us → AllByRecursion (Passes p placed) ts → AllByRecursion (Passes q placed) us
+  all_there : (ts us : List LineTurn) → map P' ts ≡ map Q' us → AllByRecursion (Succeeds p placed) ts → AllByRecursion (Succeeds q placed) us
   all_there ts [] e h = tt
   all_there [] (u ∷ us) e h = absurd (none_before [] (Q' u) (map Q' us) (sym e))
   all_there (t ∷ ts) (u ∷ us) e h =
@@ -158,7 +162,7 @@ module _ (p q : Source) (s : SameSource p q) (placed : Placement) where
           before = r.before;
           after = r.after;
           parts = r.parts;
-          passed = All-from_recursion (Passes q placed) r.before (all_there h.before r.before r.same_before (recursion_from_All (Passes p placed) h.before h.passed));
+          passed = All-from_recursion (Succeeds q placed) r.before (all_there h.before r.before r.same_before (recursion_from_All (Succeeds p placed) h.before h.passed));
         };
       }
 
@@ -188,7 +192,7 @@ module _ (p q : Source) (s : SameSource p q) (placed : Placement) where
       let there : line ≡ r.turn.line = ap (λ (z : LineTask). z.line) r.same in
       let is : r.turn ≡ record { line = line; turn = r.turn.turn } = λ i. record { line = sym there i; turn = r.turn.turn } in
       (r.turn.turn, subst (λ (u : LineTurn). ComesUp q placed u) is r.comes, large_there t r.turn r.same large)
-  ends_there (placed_all true) h = All-from_recursion (Passes q placed) (turns_of q) (all_there (turns_of p) (turns_of q) (same_tasks p q s) (recursion_from_All (Passes p placed) (turns_of p) h))
+  ends_there (placed_all true) h = All-from_recursion (Succeeds q placed) (turns_of q) (all_there (turns_of p) (turns_of q) (same_tasks p q s) (recursion_from_All (Succeeds p placed) (turns_of p) h))
   ends_there (placed_all false) (line, g, fails) =
       let t : LineTurn = record { line = line; turn = judge g } in
       let r = comes_up t fails.0 in
@@ -207,7 +211,10 @@ module _ (p q : Source) (s : SameSource p q) (placed : Placement) where
   values_there one v h = record {
     points = h.points ∙ ap (λ (xs : List ℕ). length xs) (same_frees p q s);
     numbers = h.numbers ∙ same_numbers p q s;
-    same_points = subst (λ (xs : List ℕ). (k : ℕ) → k < length v.coordinates → SamePoint (one.point (slice_index_or xs k 0)) (whole_point (slice_index_or v.coordinates k (pos 0, pos 0)))) (same_frees p q s) h.same_points;
+    same_points =
+        subst (λ (xs : List ℕ). (k : ℕ) → k < length v.coordinates
+        → SamePoint (one.point (slice_index_or xs k 0)) (whole_point (slice_index_or v.coordinates k (pos 0, pos 0))))
+        (same_frees p q s) h.same_points;
     same_numbers = h.same_numbers;
   }
 
@@ -278,7 +285,7 @@ module _ (p q : Source) (s : SameSource p q) (w : IsWellFormed p) (v : ProgramVa
       record { x = one.x ∙ same.x ∙ sym other.x; y = one.y ∙ same.y ∙ sym other.y; w = one.w ∙ ap pos same.w ∙ sym other.w }) in
       λ i. record { points = points i; holds = hold i }
 
-  pub same_answer : (one other : Result Placed PlaceError) → IsAnswer p v one → IsAnswer q v other → (one ≡ Err NoMemory → ⊥) → (other ≡ Err NoMemory → ⊥) → one ≡ other
+  pub same_answer : (one other : Result Placed PlaceError) → AnswersValues p v one → AnswersValues q v other → (one ≡ Err NoMemory → ⊥) → (other ≡ Err NoMemory → ⊥) → one ≡ other
   same_answer (Ok a) (Ok b) h k m n = ap Ok (same_placed a b h k)
   same_answer (Ok a) (Err (Unmet j)) h k m n =
       let e : placed_all a.holds ≡ unmet j = same_end h.reckoned k.reckoned (placed_all a.holds) (unmet j) h.is_reckoned k.is_reckoned h.ends k.ends in cc

@@ -13,7 +13,7 @@ use Rattle.geo_points.specs.Points.{Point, x_coordinate, y_coordinate}
 use Rattle.geo_place.specs.declared.positions.Position.{Position}
 use Rattle.geo_place.specs.declared.sketch.Sketch.{Sketch}
 use Rattle.geo_place.specs.Inner.{IsPosition, placement_of, point_at}
-use Rattle.geo_place.proofs.ResultLaws.{moved, same_of, of_same}
+use Rattle.geo_place.proofs.ResultLaws.{same_of, of_same}
 
 -- POSITIONS
 coordinate : (a b c d e : ℤ) → b ≡ d → c ≡ e → a *ℤ (b *ℤ c) ≡ a *ℤ e *ℤ d
@@ -39,9 +39,6 @@ number_same r a b h k = fractions.same_trans _ _ _ (fractions.same_sym _ _ (same
 -- two points at one position are the same
 pub position_same : (s : Position) (A B : Point) → IsPosition s A → IsPosition s B → SamePoint A B
 position_same s A B h k = record { by_x = number_same s.x (x_coordinate A) (x_coordinate B) h.x k.x; by_y = number_same s.y (y_coordinate A) (y_coordinate B) h.y k.y }
-
-pub position_moved : (s : Position) (A B : Point) → SamePoint A B → IsPosition s A → IsPosition s B
-position_moved s A B e h = record { x = moved s.x (x_coordinate A) (x_coordinate B) e.by_x h.x; y = moved s.y (y_coordinate A) (y_coordinate B) e.by_y h.y }
 
 own_number : (r : Frac) → IsNumber r (fraction_of r)
 own_number r = of_same r (fraction_of r) (fractions.same_refl (fraction_of r))

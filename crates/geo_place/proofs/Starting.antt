@@ -19,7 +19,7 @@ use Rattle.geo_conditions.specs.Truth.{is_free}
 use Rattle.geo_place.specs.declared.evaluation.Progress.{Progress}
 use Rattle.geo_place.specs.declared.positions.Position.{Position}
 use Rattle.geo_place.specs.declared.triples.Triple.{Triple}
-use Rattle.geo_place.specs.Evaluation.{Passes, turns_from}
+use Rattle.geo_place.specs.Evaluation.{Succeeds, turns_from}
 use Rattle.geo_place.specs.Inner.{IsPassed, IsRun, IsSketchOf, IsTaken, IsTripleOf, Run, free_places, placement_of}
 use Rattle.geo_place.proofs.ListParts.{get_before, get_behind, take_zero}
 use Rattle.geo_place.proofs.Sketches.{number_found, number_same}
@@ -51,7 +51,8 @@ module _ (run : Run) (problem : Problem) (ints : List ℤ) (h : IsRun run proble
   frees_fit =
       let a = frees_are in
       let b : length ints ≡ 2 * length run.values.coordinates + length run.values.numbers =
-      ap (λ (zs : List ℤ). length zs) ints_parts ∙ length-append (pairs run.values.coordinates) run.values.numbers ∙ ap (λ (k : ℕ). k + length run.values.numbers) (pairs_length run.values.coordinates) in
+      ap (λ (zs : List ℤ). length zs) ints_parts ∙ length-append (pairs run.values.coordinates) run.values.numbers
+      ∙ ap (λ (k : ℕ). k + length run.values.numbers) (pairs_length run.values.coordinates) in
       omega (arith, a, b)
 
   behind : drop (2 * frees) ints ≡ run.values.numbers
@@ -78,7 +79,8 @@ module _ (run : Run) (problem : Problem) (ints : List ℤ) (h : IsRun run proble
     first_sketch = record {
       few = let a = none in omega (arith, a);
       numbers = numbers_long ∙ h.reckoned.values.numbers;
-      free = free ∙ sym (ap (λ (i : ℕ). length (free_places 0 (take i (steps_of Two run.program)))) none ∙ ap (λ (fs : List StepForm). length (free_places 0 fs)) (take_zero (steps_of Two run.program)));
+      free = free ∙ sym (ap (λ (i : ℕ). length (free_places 0 (take i (steps_of Two run.program)))) none
+          ∙ ap (λ (fs : List StepForm). length (free_places 0 fs)) (take_zero (steps_of Two run.program)));
       same = record {
         same_points = λ k b. let a = none in absurd (omega (arith, a, b));
         same_numbers = number_same_at;
@@ -104,5 +106,5 @@ module _ (run : Run) (problem : Problem) (ints : List ℤ) (h : IsRun run proble
       held = subst (λ (fs : List Found). AllByRecursion (λ f. IsPassed run f.condition) fs) (sym conditions_none) tt;
       told = ap (λ (us : List Triple). length us) triples ∙ sym (ap (λ (cs : List Command). points_from 0 cs) commands_none);
       triples = no_triple progress.triples.items triples;
-      passed = subst (λ (cs : List Command). AllByRecursion (Passes run.program run.placed) (turns_from run.program 1 0 0 0 cs)) (sym commands_none) tt;
+      passed = subst (λ (cs : List Command). AllByRecursion (Succeeds run.program run.placed) (turns_from run.program 1 0 0 0 cs)) (sym commands_none) tt;
     }

@@ -29,9 +29,11 @@ use Rattle.geo_place.specs.declared.evaluation.Progress.{Progress}
 use Rattle.geo_place.specs.declared.positions.Position.{Position}
 use Rattle.geo_place.specs.declared.sketch.Sketch.{Sketch}
 use Rattle.geo_place.specs.declared.triples.Triple.{Triple}
-use Rattle.geo_place.specs.Evaluation.{IsTriplePast, Passes, at_line, makes, turns_of, write}
+use Rattle.geo_place.specs.Evaluation.{IsTriplePast, Succeeds, at_line, makes, turns_of, write}
 use Rattle.geo_place.specs.Inner.{FirstFails, IsItemMet, IsPassed, IsRun, IsSketchOf, IsTaken, IsTripleOf, IsTripleStop, Run, Stops, TellsTriple, point_at}
-use Rattle.geo_place.proofs.CommandTurns.{E, K, L, Listed, W, after_at, all_pass, early, early_stop, early_terms, laid, late, late_stop, late_terms, listed_here, make_stop, n, named_next, past_next, points_few, points_up, steps, steps_here, write_stop, x}
+use Rattle.geo_place.proofs.CommandTurns.{E, K, L, Listed, W, after_at, all_pass, early, early_stop, early_terms, laid, late, late_stop}
+use Rattle.geo_place.proofs.CommandTurns.{late_terms, listed_here, make_stop, n, named_next, past_next, points_few, points_up, steps}
+use Rattle.geo_place.proofs.CommandTurns.{steps_here, write_stop, x}
 use Rattle.geo_place.proofs.ListParts.{get_before, get_behind, head_of, index_at, none_before, same_length, tail_of}
 use Rattle.geo_place.proofs.Sketches.{point_found}
 use Rattle.geo_lowering.proofs.Puts.{of_path}
@@ -227,7 +229,7 @@ module _ (run : Run) (problem : Problem) (ints : List ℤ) (h : IsRun run proble
     pub early_held : AllByRecursion (IsItemMet old.sketch nodes) items → AllByRecursion (λ f. IsPassed run f.condition) (before_list ++ first)
     early_held m = tests_held run old.sketch nodes N (length old.sketch.numbers.items) t.sketch.same (suc k) (early p w k c at) before_list first parts.early_listed t.held early_over items e m
 
-    pub early_pass : AllByRecursion (IsItemMet old.sketch nodes) items → AllByRecursion (Passes p run.placed) (E p w k c at)
+    pub early_pass : AllByRecursion (IsItemMet old.sketch nodes) items → AllByRecursion (Succeeds p run.placed) (E p w k c at)
     early_pass m = tests_pass run old.sketch nodes N (length old.sketch.numbers.items) t.sketch.same (suc k) (early p w k c at) before_list first parts.early_listed t.held early_over items e m
 
     pub early_fail : (error : PlaceError) → FirstFails old.sketch nodes items old.tested error → Stops run (turns_of p) error
@@ -238,22 +240,26 @@ module _ (run : Run) (problem : Problem) (ints : List ℤ) (h : IsRun run proble
         (subst (λ (i : ℕ). FirstFails old.sketch nodes items i error) (sym before_long) f))
 
   -- THE STEPS
-  pub from_here : length old.sketch.points.items ≡ n p w k c at
-  from_here = t.points
 
   pub step_turns : take (next_point Two (n p w k c at) c - length old.sketch.points.items) (drop (length old.sketch.points.items) (steps_of Two p)) ≡ steps p w k c at
   step_turns = ap (λ (i : ℕ). take (next_point Two (n p w k c at) c - i) (drop i (steps_of Two p))) t.points ∙ steps_here p w k c at
 
-  make_line : at_line (suc k) (makes (length old.sketch.points.items) (take (next_point Two (n p w k c at) c - length old.sketch.points.items) (drop (length old.sketch.points.items) (steps_of Two p)))) ≡ K p w k c at
+  make_line : at_line (suc k) (makes (length old.sketch.points.items)
+      (take (next_point Two (n p w k c at) c - length old.sketch.points.items)
+      (drop (length old.sketch.points.items) (steps_of Two p)))) ≡ K p w k c at
   make_line =
       ap (λ (fs : List StepForm). at_line (suc k) (makes (length old.sketch.points.items) fs)) step_turns ∙ ap (λ (i : ℕ). at_line (suc k) (makes i (steps p w k c at))) t.points
 
-  pub make_pass : AllByRecursion (Passes p run.placed) (at_line (suc k) (makes (length old.sketch.points.items) (take (next_point Two (n p w k c at) c - length old.sketch.points.items) (drop (length old.sketch.points.items) (steps_of Two p)))))
-      → AllByRecursion (Passes p run.placed) (K p w k c at)
-  make_pass h = subst (λ ts. AllByRecursion (Passes p run.placed) ts) make_line h
+  pub make_pass : AllByRecursion (Succeeds p run.placed)
+      (at_line (suc k) (makes (length old.sketch.points.items)
+      (take (next_point Two (n p w k c at) c - length old.sketch.points.items) (drop (length old.sketch.points.items) (steps_of Two p)))))
+      → AllByRecursion (Succeeds p run.placed) (K p w k c at)
+  make_pass h = subst (λ ts. AllByRecursion (Succeeds p run.placed) ts) make_line h
 
-  pub make_fail : (error : PlaceError) → AllByRecursion (Passes p run.placed) (E p w k c at)
-      → Stops run (at_line (suc k) (makes (length old.sketch.points.items) (take (next_point Two (n p w k c at) c - length old.sketch.points.items) (drop (length old.sketch.points.items) (steps_of Two p))))) error
+  pub make_fail : (error : PlaceError) → AllByRecursion (Succeeds p run.placed) (E p w k c at)
+      → Stops run (at_line (suc k) (makes (length old.sketch.points.items)
+      (take (next_point Two (n p w k c at) c - length old.sketch.points.items)
+      (drop (length old.sketch.points.items) (steps_of Two p))))) error
       → Stops run (turns_of p) error
   make_fail error a s = make_stop p w k c at run.values run.placed run.conditions error t.passed a (subst (λ ts. Stops run ts error) make_line s)
 
@@ -304,16 +310,27 @@ module _ (run : Run) (problem : Problem) (ints : List ℤ) (h : IsRun run proble
             point_trans _ _ _ (of_path (sym (point_found new (further (n p w k c at) (hidden Two c)) q f)))
             (s.same.same_points (further (n p w k c at) (hidden Two c)) (let a = next_is in omega (arith, a, made)))
 
-        pub write_pass : (IsTriplePast (point_at q) → ⊥) → AllByRecursion (Passes p run.placed) (W p w k c at)
+        pub write_pass : (IsTriplePast (point_at q) → ⊥) → AllByRecursion (Succeeds p run.placed) (W p w k c at)
         write_pass f =
-            subst (λ ts. AllByRecursion (Passes p run.placed) ts) (sym write_line)
+            subst (λ ts. AllByRecursion (Succeeds p run.placed) ts) (sym write_line)
             ((λ (z : IsTriplePast (run.placed.point (further (n p w k c at) (hidden Two c)))). f (z.0, z.1, point_trans _ _ _ z.2 (flip_point _ _ there), z.3), tt), tt)
 
         pub triple_is : (u : Triple) → IsTripleOf u (point_at q) → IsTripleOf u (run.placed.point (point_place Two p.commands (x p w k c at)))
         triple_is u z =
-            subst (λ (i : ℕ). IsTripleOf u (run.placed.point i)) (sym point_is) (record { told = z.told; x = z.x; y = z.y; w = z.w; least = z.least; same = point_trans _ _ _ z.same there; short_x = z.short_x; short_y = z.short_y })
+            subst (λ (i : ℕ). IsTripleOf u (run.placed.point i)) (sym point_is)
+            (record {
+              told = z.told;
+              x = z.x;
+              y = z.y;
+              w = z.w;
+              least = z.least;
+              same = point_trans _ _ _ z.same there;
+              short_x = z.short_x;
+              short_y = z.short_y;
+            })
 
-        pub write_fail : (error : PlaceError) → AllByRecursion (Passes p run.placed) (E p w k c at) → AllByRecursion (Passes p run.placed) (K p w k c at) → IsTripleStop q (suc k) error → Stops run (turns_of p) error
+        pub write_fail : (error : PlaceError) → AllByRecursion (Succeeds p run.placed) (E p w k c at)
+            → AllByRecursion (Succeeds p run.placed) (K p w k c at) → IsTripleStop q (suc k) error → Stops run (turns_of p) error
         write_fail (Unmet j) a b' z = absurd z
         write_fail NoMemory a b' z = tt
         write_fail (TooLarge l) a b' z =
@@ -328,12 +345,14 @@ module _ (run : Run) (problem : Problem) (ints : List ℤ) (h : IsRun run proble
               stops = (sym z.0, (z.1.0, z.1.1, point_trans _ _ _ z.1.2 there, z.1.3));
             }))
 
-    no_write : is_made kind.Point (named c) ≡ false → AllByRecursion (Passes p run.placed) (W p w k c at)
-    no_write b = subst (λ ts. AllByRecursion (Passes p run.placed) ts) (sym (ap (λ (z : Bool). at_line (suc k) (elim z [ true ↦ write (further (n p w k c at) (hidden Two c)) ∷ [] | false ↦ [] ])) b)) tt
+    no_write : is_made kind.Point (named c) ≡ false → AllByRecursion (Succeeds p run.placed) (W p w k c at)
+    no_write b =
+        subst (λ ts. AllByRecursion (Succeeds p run.placed) ts)
+        (sym (ap (λ (z : Bool). at_line (suc k) (elim z [ true ↦ write (further (n p w k c at) (hidden Two c)) ∷ [] | false ↦ [] ])) b)) tt
 
     -- what is told of the command: the triple of its point, where it names one
     pub record IsTold (told : List Triple) : Type 0 where
-      pub written : AllByRecursion (Passes p run.placed) (W p w k c at)
+      pub written : AllByRecursion (Succeeds p run.placed) (W p w k c at)
       pub long : length told ≡ counted kind.Point (named c) (x p w k c at)
       pub triples : (a : ℕ) (u : Triple) → slice_get told a ≡ Some u → IsTripleOf u (run.placed.point (point_place Two p.commands a))
 
@@ -348,7 +367,8 @@ module _ (run : Run) (problem : Problem) (ints : List ℤ) (h : IsRun run proble
         → (told : List Triple) → TellsTriple old.triples.items told q → IsTold told
     told_one b q e told z = record {
       written = write_pass b q e z.fits;
-      long = ap (λ (us : List Triple). length us) z.pushed ∙ length-append old.triples.items (z.triple ∷ []) ∙ (let r : length old.triples.items + 1 ≡ suc (x p w k c at) = let v = t.told in omega (arith, v) in r)
+      long = ap (λ (us : List Triple). length us) z.pushed ∙ length-append old.triples.items (z.triple ∷ [])
+          ∙ (let r : length old.triples.items + 1 ≡ suc (x p w k c at) = let v = t.told in omega (arith, v) in r)
           ∙ sym (ap (λ (y : Bool). elim y [ true ↦ suc (x p w k c at) | false ↦ x p w k c at ]) b);
       triples = λ a u f. pushed_triple a u (subst (λ (us : List Triple). slice_get us a ≡ Some u) z.pushed f);
     }
@@ -365,30 +385,40 @@ module _ (run : Run) (problem : Problem) (ints : List ℤ) (h : IsRun run proble
     late_over : AllByRecursion (λ d. IsOver (length new.points.items) (length new.numbers.items) (condition_term (layout_of Two p.commands) d)) (late p w k c at)
     late_over =
         subst (λ (i : ℕ). AllByRecursion (λ d. IsOver i (length new.numbers.items) (condition_term (layout_of Two p.commands) d)) (late p w k c at)) (sym made)
-        (subst (λ (j : ℕ). AllByRecursion (λ d. IsOver (next_point Two (n p w k c at) c) j (condition_term (layout_of Two p.commands) d)) (late p w k c at)) (sym s.numbers) (late_terms p w k c at run.placed))
+        (subst (λ (j : ℕ). AllByRecursion (λ d. IsOver (next_point Two (n p w k c at) c) j (condition_term (layout_of Two p.commands) d))
+        (late p w k c at)) (sym s.numbers) (late_terms p w k c at run.placed))
 
     module _ (items : List Item) (e : map (item_form nodes) items ≡ map (condition_item Two p) second) (held : AllByRecursion (λ f. IsPassed run f.condition) (before_list ++ first)) where
       late_held : AllByRecursion (IsItemMet new nodes) items → AllByRecursion (λ f. IsPassed run f.condition) ((before_list ++ first) ++ second)
-      late_held m = tests_held run new nodes (length new.points.items) (length new.numbers.items) s.same (suc k) (late p w k c at) (before_list ++ first) second parts.late_listed held late_over items e m
+      late_held m =
+          tests_held run new nodes (length new.points.items) (length new.numbers.items) s.same (suc k) (late p w k c at)
+          (before_list ++ first) second parts.late_listed held late_over items e m
 
-      late_pass : AllByRecursion (IsItemMet new nodes) items → AllByRecursion (Passes p run.placed) (L p w k c at)
-      late_pass m = tests_pass run new nodes (length new.points.items) (length new.numbers.items) s.same (suc k) (late p w k c at) (before_list ++ first) second parts.late_listed held late_over items e m
+      late_pass : AllByRecursion (IsItemMet new nodes) items → AllByRecursion (Succeeds p run.placed) (L p w k c at)
+      late_pass m =
+          tests_pass run new nodes (length new.points.items) (length new.numbers.items) s.same (suc k) (late p w k c at)
+          (before_list ++ first) second parts.late_listed held late_over items e m
 
-      pub late_fail : (error : PlaceError) → AllByRecursion (Passes p run.placed) (E p w k c at) → AllByRecursion (Passes p run.placed) (K p w k c at) → AllByRecursion (Passes p run.placed) (W p w k c at)
+      pub late_fail : (error : PlaceError) → AllByRecursion (Succeeds p run.placed) (E p w k c at)
+          → AllByRecursion (Succeeds p run.placed) (K p w k c at) → AllByRecursion (Succeeds p run.placed) (W p w k c at)
           → FirstFails new nodes items middle error → Stops run (turns_of p) error
       late_fail error a b d f =
           late_stop p w k c at run.values run.placed run.conditions error t.passed a b d
           (tests_stop run new nodes (length new.points.items) (length new.numbers.items) s.same (suc k) (late p w k c at) (before_list ++ first) second parts.late_listed held late_over items e
           later parts.whole h.listed error
-          (subst (λ (i : ℕ). FirstFails new nodes items i error) (let q = before_long in let r = length-append before_list first in let v : middle ≡ length (before_list ++ first) = omega (arith, q, r) in v) f))
+          (subst (λ (i : ℕ). FirstFails new nodes items i error)
+          (let q = before_long in let r = length-append before_list first in
+          let v : middle ≡ length (before_list ++ first) = omega (arith, q, r) in v) f))
 
       -- all is done for the command
-      pub taken_next : (told : List Triple) → IsTold told → AllByRecursion (Passes p run.placed) (E p w k c at) → AllByRecursion (Passes p run.placed) (K p w k c at)
+      pub taken_next : (told : List Triple) → IsTold told → AllByRecursion (Succeeds p run.placed) (E p w k c at) → AllByRecursion (Succeeds p run.placed) (K p w k c at)
           → AllByRecursion (IsItemMet new nodes) items → (progress : Progress) → progress.sketch ≡ new → progress.tested ≡ count → progress.triples.items ≡ told → IsTaken run (suc k) progress
       taken_next told v a b m progress ps pt pu =
           let lists : take progress.tested run.conditions ≡ (before_list ++ first) ++ second =
           ap (λ (i : ℕ). take i run.conditions) pt ∙ ap (λ (fs : List Found). take count fs) parts.whole
-          ∙ take_at ((before_list ++ first) ++ second) later count (let q = before_long in let r = length-append before_list first in let u = length-append (before_list ++ first) second in omega (arith, q, r, u)) in
+          ∙ take_at ((before_list ++ first) ++ second) later count
+          (let q = before_long in let r = length-append before_list first in let u = length-append (before_list ++ first) second in
+          omega (arith, q, r, u)) in
           record {
             sketch = subst (λ (z : Sketch). IsSketchOf run z) (sym ps) s;
             points = ap (λ (z : Sketch). length z.points.items) ps ∙ made ∙ sym (past_next p w k c at);

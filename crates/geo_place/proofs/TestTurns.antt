@@ -20,10 +20,10 @@ use Rattle.geo_conditions.specs.Terms.{condition_term}
 use Rattle.geo_place.specs.declared.errors.PlaceError.{PlaceError}
 use Rattle.geo_place.specs.declared.errors.PlaceError.TheVariants.{NoMemory, TooLarge, Unmet}
 use Rattle.geo_place.specs.declared.sketch.Sketch.{Sketch}
-use Rattle.geo_place.specs.Evaluation.{LineTurn, Passes, at_line, test}
+use Rattle.geo_place.specs.Evaluation.{LineTurn, Succeeds, at_line, test}
 use Rattle.geo_place.specs.Formulas.{reckoned}
 use Rattle.geo_place.specs.Inner.{FailsItem, FirstFails, IsItemMet, IsPassed, Run, Stop, StopsAt, Stops, placement_of}
-use Rattle.geo_place.specs.Reckonings.{IsRefused, number}
+use Rattle.geo_place.specs.Reckonings.{Overflows, number}
 use Rattle.geo_place.proofs.Alike.{alike_number, alike_refused, term_alike}
 use Rattle.geo_place.proofs.Inverses.{nonzero_same}
 use Rattle.geo_place.proofs.ListParts.{beside, first_fresh, fresh_hold, head_of, none_before, same_length, tail_of}
@@ -38,10 +38,10 @@ agree_back n m p p' g = record { points = λ k b. flip_point _ _ (g.same_points 
 
 -- what comes of a term in one placement comes of it in the other
 module _ (n m : ℕ) (p p' : Placement) (g : SamePlacement n m p p') (t : Tree) (o : IsOver n m t) where
-  pub refused_there : IsRefused (reckoned p t) → IsRefused (reckoned p' t)
+  pub refused_there : Overflows (reckoned p t) → Overflows (reckoned p' t)
   refused_there h = alike_refused (reckoned p t) (reckoned p' t) (term_alike n m p p' (agree_of n m p p' g) t o) h
 
-  pub refused_here : IsRefused (reckoned p' t) → IsRefused (reckoned p t)
+  pub refused_here : Overflows (reckoned p' t) → Overflows (reckoned p t)
   refused_here h = alike_refused (reckoned p' t) (reckoned p t) (term_alike n m p' p (agree_back n m p p' g) t o) h
 
   pub same_there : Same (number (reckoned p t)) (number (reckoned p' t))
@@ -57,7 +57,7 @@ tests_found line (c ∷ cs) = ap (λ (ts : List LineTurn). record { line = line;
 
 module _ (run : Run) where
   abbrev Pass : LineTurn → Type 0
-  Pass t = Passes run.program run.placed t
+  Pass t = Succeeds run.program run.placed t
 
   found_pass : (fs : List Found) → AllByRecursion (λ f. IsPassed run f.condition) fs → AllByRecursion Pass (map found_turn fs)
   found_pass [] h = tt
@@ -79,7 +79,7 @@ module _ (run : Run) where
     item_passes : (item : Item) (f : Found) → item_form nodes item ≡ condition_item Two run.program f → FoundOver f → IsItemMet sketch nodes item → IsPassed run f.condition
     item_passes item f e o h =
         let t = condition_term (layout_of Two run.program.commands) f.condition in
-        let k = subst (λ u. (IsRefused (reckoned (placement_of sketch) u) → ⊥) × IsNonzero (number (reckoned (placement_of sketch) u))) (term_is item f e) h in
+        let k = subst (λ u. (Overflows (reckoned (placement_of sketch) u) → ⊥) × IsNonzero (number (reckoned (placement_of sketch) u))) (term_is item f e) h in
         (λ r. k.0 (refused_here n m (placement_of sketch) run.placed g t o r), nonzero_same _ _ (same_there n m (placement_of sketch) run.placed g t o) k.1)
 
     items_pass : (items : List Item) (fs : List Found) → map (item_form nodes) items ≡ map (condition_item Two run.program) fs → AllByRecursion FoundOver fs
@@ -115,7 +115,7 @@ module _ (run : Run) where
             → k ≡ suc (length (old ++ b)) → (error : PlaceError) → FailsItem sketch nodes item k error → (error ≡ NoMemory → ⊥) → StopsAt run (found_turn f) error
         stop_at item b f a k parts same o place (Unmet j) h d =
             let t = condition_term (layout_of Two run.program.commands) f.condition in
-            let q = subst (λ u. (IsRefused (reckoned (placement_of sketch) u) → ⊥) × Same (number (reckoned (placement_of sketch) u)) (whole (pos 0))) (term_is item f same) h.1 in
+            let q = subst (λ u. (Overflows (reckoned (placement_of sketch) u) → ⊥) × Same (number (reckoned (placement_of sketch) u)) (whole (pos 0))) (term_is item f same) h.1 in
             let split : run.conditions ≡ (old ++ b) ++ f ∷ (a ++ later) =
             all ∙ ap (λ (zs : List Found). (old ++ zs) ++ later) parts ∙ ap (λ (zs : List Found). zs ++ later) (sym (append_assoc old b (f ∷ a))) ∙ append_assoc (old ++ b) (f ∷ a) later in (
               f.condition,
@@ -127,13 +127,14 @@ module _ (run : Run) where
         stop_at item b f a k parts same o place (TooLarge line') h d =
             let t = condition_term (layout_of Two run.program.commands) f.condition in (
               ap (λ (i : ItemForm). i.line) (sym same) ∙ sym h.0,
-              refused_there n m (placement_of sketch) run.placed g t o (subst (λ u. IsRefused (reckoned (placement_of sketch) u)) (term_is item f same) h.1),
+              refused_there n m (placement_of sketch) run.placed g t o (subst (λ u. Overflows (reckoned (placement_of sketch) u)) (term_is item f same) h.1),
             )
         stop_at item b f a k parts same o place NoMemory h d = absurd (d refl)
 
         stop_found : (error : PlaceError) → FirstFails sketch nodes items (length old) error → (error ≡ NoMemory → ⊥) → Stop run (at_line line (map test cs)) error
         stop_found error h d =
-            let s = beside (item_form nodes) (condition_item Two run.program) h.before h.item h.after more (subst (λ is. map (item_form nodes) is ≡ map (condition_item Two run.program) more) h.parts e) in
+            let s = beside (item_form nodes) (condition_item Two run.program) h.before h.item h.after more
+            (subst (λ is. map (item_form nodes) is ≡ map (condition_item Two run.program) more) h.parts e) in
             let over = subst (λ fs. AllByRecursion FoundOver fs) s.parts more_over in
             let b = items_pass h.before s.before s.same_before (each_front FoundOver s.before (s.item ∷ s.after) over) h.met in
             let first = first_fresh key (IsPassed run) (found_at line cs) old s.before s.item s.after (subst (λ fs. IsListed key old (found_at line cs) (old ++ fs)) s.parts l) held b in

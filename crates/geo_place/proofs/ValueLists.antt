@@ -6,9 +6,9 @@ use Rattle.std.proofs.lemmas.List.{length-drop}
 use Rattle.geo_program.specs.declared.commands.Command.{Command}
 use Rattle.geo_program.specs.declared.names.NameKind.TheVariants as kind
 use Rattle.geo_lowering.specs.Counting.{counted, has_number, named, next_number, numbers_from, numbers_had}
-use Rattle.geo_conditions.specs.Truth.{ProgramValues, free_points, is_free}
+use Rattle.geo_conditions.specs.Truth.{ProgramValues, free_points, integers_of, is_free}
 use Rattle.geo_program.specs.WellFormed.{Source}
-use Rattle.geo_place.specs.Placing.{integers_of, values_wanted}
+use Rattle.geo_place.specs.Placing.{values_wanted}
 
 -- COUNTS
 pub frees_counted : (x : ℕ) (cs : List Command) → length (free_points x cs) ≡ length (filter is_free cs)
@@ -103,6 +103,8 @@ values_are p zs e =
 pub values_once : (p : Source) (zs : List ℤ) (v : ProgramValues) → length v.coordinates ≡ length (free_points 0 p.commands) → integers_of v ≡ zs → values_of p zs ≡ v
 values_once p zs v l e =
     let n = length (free_points 0 p.commands) in
-    let a : pairs_of n zs ≡ v.coordinates = ap (λ (ys : List ℤ). pairs_of n ys) (sym e) ∙ ap (λ (i : ℕ). pairs_of i (pairs v.coordinates ++ v.numbers)) (sym l) ∙ pairs_parted v.coordinates v.numbers in
-    let b : drop (2 * n) zs ≡ v.numbers = ap (λ (ys : List ℤ). drop (2 * n) ys) (sym e) ∙ ap (λ (i : ℕ). drop (2 * i) (pairs v.coordinates ++ v.numbers)) (sym l) ∙ numbers_behind v.coordinates v.numbers in
+    let a : pairs_of n zs ≡ v.coordinates = ap (λ (ys : List ℤ). pairs_of n ys) (sym e)
+    ∙ ap (λ (i : ℕ). pairs_of i (pairs v.coordinates ++ v.numbers)) (sym l) ∙ pairs_parted v.coordinates v.numbers in
+    let b : drop (2 * n) zs ≡ v.numbers = ap (λ (ys : List ℤ). drop (2 * n) ys) (sym e)
+    ∙ ap (λ (i : ℕ). drop (2 * i) (pairs v.coordinates ++ v.numbers)) (sym l) ∙ numbers_behind v.coordinates v.numbers in
     λ i. record { coordinates = a i; numbers = b i }

@@ -20,7 +20,7 @@ use Rattle.geo_conditions.specs.declared.items.Item.{Item}
 use Rattle.geo_conditions.specs.declared.problem.Problem.{Problem}
 use Rattle.geo_conditions.specs.Lists.{AreConditions, Found, IsListed, condition_item, found_from, item_form}
 use Rattle.geo_conditions.specs.Problems.{form_of_problem}
-use Rattle.geo_conditions.specs.Truth.{ProgramValues}
+use Rattle.geo_conditions.specs.Truth.{ProgramValues, integers_of}
 use Rattle.geo_place.specs.declared.errors.PlaceError.{PlaceError}
 use Rattle.geo_place.specs.declared.errors.PlaceError.TheVariants.{NoMemory, TooLarge, Unmet}
 use Rattle.geo_place.specs.declared.evaluation.Progress.{Progress}
@@ -29,10 +29,9 @@ use Rattle.geo_place.specs.declared.positions.Position.{Position}
 use Rattle.geo_place.specs.declared.positions.Reckoned.{Reckoned}
 use Rattle.geo_place.specs.declared.sketch.Sketch.{Sketch}
 use Rattle.geo_place.specs.declared.triples.Triple.{Triple}
-use Rattle.geo_place.specs.Evaluation.{EndsAs, IsLeast, IsListedAt, IsReckoned, IsRight, IsTooLarge, IsTriplePast, LineTurn, Passes, test, too_large, turns_from, unmet}
+use Rattle.geo_place.specs.Evaluation.{EndsAs, IsLeast, IsListedAt, IsReckoned, IsRight, TurnOverflows, IsTriplePast, LineTurn, Succeeds, test, too_large, turns_from, unmet}
 use Rattle.geo_place.specs.Formulas.{Spot, reckoned}
-use Rattle.geo_place.specs.Placing.{integers_of}
-use Rattle.geo_place.specs.Reckonings.{HasResult, IsRefused, Reckoning, number}
+use Rattle.geo_place.specs.Reckonings.{HasResult, Overflows, Reckoning, number}
 
 -- POSITIONS
 -- the position is that of the point
@@ -93,17 +92,17 @@ item_reckoned sketch nodes item = reckoned (placement_of sketch) (tree_of nodes 
 
 -- it is reckoned, and is not 0
 abbrev pub IsItemMet : Sketch → Store → Item → Type 0
-IsItemMet sketch nodes item = (IsRefused (item_reckoned sketch nodes item) → ⊥) × IsNonzero (number (item_reckoned sketch nodes item))
+IsItemMet sketch nodes item = (Overflows (item_reckoned sketch nodes item) → ⊥) × IsNonzero (number (item_reckoned sketch nodes item))
 
 -- it is reckoned, and is 0
 abbrev pub IsItemNull : Sketch → Store → Item → Type 0
 IsItemNull sketch nodes item =
-    (IsRefused (item_reckoned sketch nodes item) → ⊥) × Same (number (item_reckoned sketch nodes item)) (whole (pos 0))
+    (Overflows (item_reckoned sketch nodes item) → ⊥) × Same (number (item_reckoned sketch nodes item)) (whole (pos 0))
 
 -- the item, which is the k-th, gives this error
 abbrev pub FailsItem : Sketch → Store → Item → ℕ → PlaceError → Type 0
 FailsItem sketch nodes item k (Unmet j) = (j ≡ k) × IsItemNull sketch nodes item
-FailsItem sketch nodes item k (TooLarge line) = (line ≡ item.line) × IsRefused (item_reckoned sketch nodes item)
+FailsItem sketch nodes item k (TooLarge line) = (line ≡ item.line) × Overflows (item_reckoned sketch nodes item)
 FailsItem sketch nodes item k NoMemory = Unit {0}
 
 -- the first of these items that is not met gives this error, where so many stand before them
@@ -129,7 +128,7 @@ abbrev pub GoalsCome : Sketch → Store → List Item → Result Bool PlaceError
 GoalsCome sketch nodes items (Ok true) = AllByRecursion (IsItemNull sketch nodes) items
 GoalsCome sketch nodes items (Ok false) = StopsGoals sketch nodes items (IsItemMet sketch nodes)
 GoalsCome sketch nodes items (Err (TooLarge line)) =
-    StopsGoals sketch nodes items (λ i. (line ≡ i.line) × IsRefused (item_reckoned sketch nodes i))
+    StopsGoals sketch nodes items (λ i. (line ≡ i.line) × Overflows (item_reckoned sketch nodes i))
 GoalsCome sketch nodes items (Err error) = ⊥
 
 -- RUNS
@@ -161,9 +160,9 @@ pub record IsSketchOf (run : Run) (sketch : Sketch) : Type 0 where
 -- the turn stops evaluation with this error
 abbrev pub StopsAt : Run → LineTurn → PlaceError → Type 0
 StopsAt run t (Unmet k) =
-    (c : Condition) × (t.turn ≡ test c) × IsListedAt run.program c k × (IsTooLarge run.program run.placed t.turn → ⊥)
+    (c : Condition) × (t.turn ≡ test c) × IsListedAt run.program c k × (TurnOverflows run.program run.placed t.turn → ⊥)
     × (IsRight run.program run.placed t.turn → ⊥)
-StopsAt run t (TooLarge line) = (t.line ≡ line) × IsTooLarge run.program run.placed t.turn
+StopsAt run t (TooLarge line) = (t.line ≡ line) × TurnOverflows run.program run.placed t.turn
 StopsAt run t NoMemory = ⊥
 
 -- one of these turns stops evaluation with this error, and all before it pass
@@ -172,7 +171,7 @@ pub record Stop (run : Run) (turns : List LineTurn) (error : PlaceError) : Type 
   pub turn : LineTurn
   pub after : List LineTurn
   pub parts : turns ≡ before ++ turn ∷ after
-  pub passed : AllByRecursion (Passes run.program run.placed) before
+  pub passed : AllByRecursion (Succeeds run.program run.placed) before
   pub stops : StopsAt run turn error
 
 -- evaluation stops with this error, unless memory is wanting
@@ -182,7 +181,7 @@ Stops run turns error = Stop run turns error
 
 -- the condition passes its test
 abbrev pub IsPassed : Run → Condition → Type 0
-IsPassed run c = (IsTooLarge run.program run.placed (test c) → ⊥) × IsRight run.program run.placed (test c)
+IsPassed run c = (TurnOverflows run.program run.placed (test c) → ⊥) × IsRight run.program run.placed (test c)
 
 -- the first k commands are evaluated, and all their turns pass
 pub record IsTaken (run : Run) (k : ℕ) (progress : Progress) : Type 0 where
@@ -195,7 +194,7 @@ pub record IsTaken (run : Run) (k : ℕ) (progress : Progress) : Type 0 where
   pub told : length progress.triples.items ≡ points_from 0 (take k run.program.commands)
   pub triples : (a : ℕ) (t : Triple) → slice_get progress.triples.items a ≡ Some t
       → IsTripleOf t (run.placed.point (point_place Two run.program.commands a))
-  pub passed : AllByRecursion (Passes run.program run.placed) (turns_from run.program 1 0 0 0 (take k run.program.commands))
+  pub passed : AllByRecursion (Succeeds run.program run.placed) (turns_from run.program 1 0 0 0 (take k run.program.commands))
 
 -- evaluation ends with this error, unless memory is wanting
 abbrev pub EndsWith : Run → PlaceError → Type 0

@@ -19,10 +19,6 @@ use Rattle.geo_place.specs.declared.errors.PlaceError.TheVariants.{NoMemory, Too
 use Rattle.geo_place.specs.Evaluation.{EndsAs, IsLeast, IsReckoned, placed_all, too_large, unmet}
 
 -- VALUES
--- the values of a program, one after another
-abbrev pub integers_of : ProgramValues → List ℤ
-integers_of v = flat_map (λ xy. xy.0 ∷ xy.1 ∷ []) v.coordinates ++ v.numbers
-
 -- how many whole numbers are the values of a program: two for each free point, and one for each number
 abbrev pub values_wanted : Source → ℕ
 values_wanted p = 2 * length (free_points 0 p.commands) + numbers_had p.commands
@@ -72,17 +68,17 @@ pub record PlacesNothing (p : Source) (v : ProgramValues) (k : ℕ) : Type 0 whe
   pub none : (placed : Placement) → HasValues p placed v → Meets p placed → ⊥
 
 -- evaluation ends at this line, where a number is too large
-pub record IsStopped (p : Source) (v : ProgramValues) (line : ℕ) : Type 0 where
+pub record ReckonsTooLarge (p : Source) (v : ProgramValues) (line : ℕ) : Type 0 where
   pub reckoned : Placement
   pub is_reckoned : IsReckoned p v reckoned
   pub ends : EndsAs p reckoned (too_large line)
 
 -- what is answered for the values
-abbrev pub IsAnswer : Source → ProgramValues → Result Placed PlaceError → Type 0
-IsAnswer p v (Ok answer) = Places p v answer
-IsAnswer p v (Err (Unmet k)) = PlacesNothing p v k
-IsAnswer p v (Err (TooLarge line)) = IsStopped p v line
-IsAnswer p v (Err NoMemory) = Unit {0}
+abbrev pub AnswersValues : Source → ProgramValues → Result Placed PlaceError → Type 0
+AnswersValues p v (Ok answer) = Places p v answer
+AnswersValues p v (Err (Unmet k)) = PlacesNothing p v k
+AnswersValues p v (Err (TooLarge line)) = ReckonsTooLarge p v line
+AnswersValues p v (Err NoMemory) = Unit {0}
 
 -- the point can be drawn: w is at least 1, no number is the least of 128 bits, and the name is not empty
 pub record IsDrawable (a : At) : Type 0 where
@@ -97,5 +93,5 @@ abbrev pub at_text : At → List ℕ
 at_text a = join_with_byte 32 (a.name ∷ signed_decimal a.x ∷ signed_decimal a.y ∷ signed_decimal a.w ∷ []) ++ 10 ∷ []
 
 -- the points, a line each, and then whether the statement holds
-abbrev pub text_of : Placed → List ℕ
-text_of placed = flat_map at_text placed.points ++ (if placed.holds then codes "holds" else codes "fails") ++ 10 ∷ []
+abbrev pub points_text : Placed → List ℕ
+points_text placed = flat_map at_text placed.points ++ (if placed.holds then codes "holds" else codes "fails") ++ 10 ∷ []

@@ -6,7 +6,7 @@ ghost use Rattle.std.specs.List.{AllByRecursion};
 ghost use Rattle.std.specs.Bool.{MatchBool};
 ghost use Rattle.geo_place.specs.Inner.{FailsItem, FirstFails, GoalsCome, IsItemMet, IsItemNull};
 ghost use Rattle.geo_place.specs.Inner.{item_reckoned};
-ghost use Rattle.geo_place.specs.Reckonings.{IsRefused};
+ghost use Rattle.geo_place.specs.Reckonings.{Overflows};
 
 use crate::errors::PlaceError;
 use crate::sketch::Sketch;
@@ -95,7 +95,7 @@ fn is_null(sketch: &Sketch, terms: &Terms, goal: &Item) -> Result<bool, PlaceErr
     ensures null { IfOk result (λ b. MatchBool b (IsItemNull sketch.now terms.now goal.now)
         (IsItemMet sketch.now terms.now goal.now)) }
     ensures refused { IfErr result (λ e. (e ≡ PlaceError.TooLarge goal.now.line)
-        × IsRefused (item_reckoned sketch.now terms.now goal.now)) }
+        × Overflows (item_reckoned sketch.now terms.now goal.now)) }
 {
     match sketch.term(terms, goal.term) {
         Ok(value) => Ok(is_zero(&value)),

@@ -12,8 +12,8 @@ ghost use Rattle.geo_terms.specs.Stores.{Store};
 ghost use Rattle.ring_laws.specs.Fraction.{whole};
 ghost use Rattle.frac_laws.specs.Numbers.{IsNumber};
 ghost use Rattle.geo_place.specs.Formulas.{Spot};
-ghost use Rattle.geo_place.specs.Reckonings.{IsRefused, IsResult};
-ghost use Rattle.geo_place.specs.Evaluation.{IsTooLarge, Passes, at_line, make, makes};
+ghost use Rattle.geo_place.specs.Reckonings.{Overflows, IsResult};
+ghost use Rattle.geo_place.specs.Evaluation.{TurnOverflows, Succeeds, at_line, make, makes};
 ghost use Rattle.geo_place.specs.Inner.{AreResults, IsRun, IsSketchOf, Run, Stops, free_places};
 ghost use Rattle.geo_place.specs.Inner.{point_at};
 
@@ -42,7 +42,7 @@ fn position_of(reckoned: Reckoned, line: u64) -> Result<Position, PlaceError>
     ensures position { IfOk result (λ s. (spot : Spot) → AreResults reckoned spot
         → IsResult s.x spot.x × IsResult s.y spot.y) }
     ensures refused { IfErr result (λ e. (spot : Spot) → AreResults reckoned spot
-        → (e ≡ PlaceError.TooLarge line) × (IsRefused spot.x ⊎ IsRefused spot.y)) }
+        → (e ≡ PlaceError.TooLarge line) × (Overflows spot.x ⊎ Overflows spot.y)) }
 {
     match (reckoned.x, reckoned.y) {
         (Ok(x), Ok(y)) => Ok(Position { x, y }),
@@ -76,7 +76,7 @@ impl Sketch {
             ≡ Some step }
         ensures position { IfOk result (λ s.
             SamePoint (point_at s) (run.placed.point (length self.now.points.items))) }
-        ensures passed { OnOk result (IsTooLarge run.program run.placed
+        ensures passed { OnOk result (TurnOverflows run.program run.placed
             (make (length self.now.points.items) (step_form problem.now.steps.nodes step)) → ⊥) }
         ensures stops { IfErr result (Stops run (at_line line
             (make (length self.now.points.items) (step_form problem.now.steps.nodes step) ∷ []))) }
@@ -105,7 +105,7 @@ impl Sketch {
             (length self.new.points.items ≡ length self.old.points.items + 1) }
         ensures passed { OnOk result ((f : StepForm)
             → slice_get (steps_of Two run.program) (length self.old.points.items) ≡ Some f
-            → IsTooLarge run.program run.placed (make (length self.old.points.items) f) → ⊥) }
+            → TurnOverflows run.program run.placed (make (length self.old.points.items) f) → ⊥) }
         ensures stops { IfErr result (λ e. (f : StepForm)
             → slice_get (steps_of Two run.program) (length self.old.points.items) ≡ Some f
             → Stops run (at_line line (make (length self.old.points.items) f ∷ [])) e) }
@@ -132,7 +132,7 @@ impl Sketch {
         requires last { to ≤ length problem.now.steps.steps }
         ensures sketch { OnOk result (IsSketchOf run self.new) }
         ensures points { OnOk result (length self.new.points.items ≡ to) }
-        ensures passed { OnOk result (AllByRecursion (Passes run.program run.placed)
+        ensures passed { OnOk result (AllByRecursion (Succeeds run.program run.placed)
             (at_line line (makes (length self.old.points.items)
             (take (to - length self.old.points.items)
             (drop (length self.old.points.items) (steps_of Two run.program)))))) }

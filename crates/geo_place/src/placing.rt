@@ -2,8 +2,8 @@
 
 ghost use Rattle.std.specs.Prelude.{◌≡◌, ◌<◌, ◌^◌, All, IfOk, length, unsigned_abs};
 ghost use Rattle.geo_program.specs.Programs.{source_of};
-ghost use Rattle.geo_conditions.specs.Truth.{ProgramValues, free_points as numbers_of_free_points};
-ghost use Rattle.geo_place.specs.Placing.{IsAnswer, IsDrawable, integers_of};
+ghost use Rattle.geo_conditions.specs.Truth.{ProgramValues, free_points as numbers_of_free_points, integers_of};
+ghost use Rattle.geo_place.specs.Placing.{AnswersValues, IsDrawable};
 ghost use Rattle.geo_place.specs.Placing.{values_wanted};
 
 use crate::errors::PlaceError;
@@ -23,7 +23,7 @@ pub fn place(alloc: Global, program: &Program, values: &Ints) -> Result<Placed, 
     requires short { All (λ z. unsigned_abs z < 2 ^ 127) values.now }
     ensures answer { (v : ProgramValues)
         → length v.coordinates ≡ length (numbers_of_free_points 0 program.now.commands)
-        → integers_of v ≡ values.now → IsAnswer (source_of program.now) v result }
+        → integers_of v ≡ values.now → AnswersValues (source_of program.now) v result }
     ensures drawable { IfOk result (λ answer. All IsDrawable answer.points) }
 {
     let lowered = lower(alloc, program)?;

@@ -2,7 +2,7 @@
 
 ghost use Rattle.std.specs.Prelude.{◌≡◌, ◌∷◌, ◌++◌, IfOk, OnOk};
 ghost use Rattle.std.specs.Fmt.{signed_decimal};
-ghost use Rattle.geo_place.specs.Placing.{at_text, text_of};
+ghost use Rattle.geo_place.specs.Placing.{at_text, points_text};
 
 use crate::placed::{At, Placed};
 use geo_base::{Text, push_decimal};
@@ -31,7 +31,7 @@ fn push_point(alloc: Global, out: &mut Vec<u8>, at: &At) -> Result<(), NoMemory>
 
 /// The points, a line `NAME x y w` each, and then `holds` or `fails`.
 pub fn placed_text(alloc: Global, placed: &Placed) -> Result<Text, NoMemory>
-    ensures { IfOk result (λ text. text ≡ text_of placed.now) }
+    ensures { IfOk result (λ text. text ≡ points_text placed.now) }
 {
     let mut bytes = Vec::new(alloc);
     for at in placed.points.items.iter() {

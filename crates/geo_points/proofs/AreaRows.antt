@@ -29,10 +29,14 @@ pratio-signed_area A B W U V Y' r n d c e =
 -- the area of free points, in their coordinates
 pub free-signed_area : (A B C : Point)
     → Same (times (signed_area A B C) (whole (pos 2)))
-    (minus (plus (plus (minus (minus (times (x_coordinate A) (y_coordinate B)) (times (x_coordinate A) (y_coordinate C))) (times (y_coordinate A) (x_coordinate B))) (times (y_coordinate A) (x_coordinate C))) (times (x_coordinate B) (y_coordinate C)))
+    (minus (plus (plus (minus (minus (times (x_coordinate A) (y_coordinate B)) (times (x_coordinate A) (y_coordinate C)))
+    (times (y_coordinate A) (x_coordinate B))) (times (y_coordinate A) (x_coordinate C))) (times (x_coordinate B) (y_coordinate C)))
     (times (y_coordinate B) (x_coordinate C)))
 free-signed_area A B C =
     geo_combination (A ∷ B ∷ C ∷ []) []
-    (fact (abscissa 0 *' ordinate 1 -' abscissa 0 *' ordinate 2 -' ordinate 0 *' abscissa 1 +' ordinate 0 *' abscissa 2 +' abscissa 1 *' ordinate 2 -' ordinate 1 *' abscissa 2) (whole_number 2 *' one_half) (whole_number 1) ∷ [])
-    (area 0 1 2 *' whole_number 2) (abscissa 0 *' ordinate 1 -' abscissa 0 *' ordinate 2 -' ordinate 0 *' abscissa 1 +' ordinate 0 *' abscissa 2 +' abscissa 1 *' ordinate 2 -' ordinate 1 *' abscissa 2)
+    (fact (abscissa 0 *' ordinate 1 -' abscissa 0 *' ordinate 2 -' ordinate 0 *' abscissa 1 +' ordinate 0 *' abscissa 2
+    +' abscissa 1 *' ordinate 2 -' ordinate 1 *' abscissa 2) (whole_number 2 *' one_half) (whole_number 1) ∷ [])
+    (area 0 1 2 *' whole_number 2)
+    (abscissa 0 *' ordinate 1 -' abscissa 0 *' ordinate 2 -' ordinate 0 *' abscissa 1 +' ordinate 0 *' abscissa 2
+    +' abscissa 1 *' ordinate 2 -' ordinate 1 *' abscissa 2)
     (two_halves, tt) tt

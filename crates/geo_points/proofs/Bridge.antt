@@ -31,7 +31,8 @@ pub signed_area-is : (A B C : Point) → Same (signed_area A B C) (times half (d
 unfolding whole plus negated times minus signed_area pythagoras_difference
 signed_area-is A B C =
     let right : Quotient = as_quotient ratios (variable 6 ⊠ double_area_expression (spot 0 1) (spot 2 3) (spot 4 5)) in
-    let ax = variable 0 in let ay = variable 1 in let aw = variable 2 in let bx = variable 3 in let by = variable 4 in let bw = variable 5 in let cx = variable 6 in let cy = variable 7 in let cw = variable 8 in
+    let ax = variable 0 in let ay = variable 1 in let aw = variable 2 in let bx = variable 3 in let by = variable 4 in
+    let bw = variable 5 in let cx = variable 6 in let cy = variable 7 in let cw = variable 8 in
     record {
       crossed = agree integers (coordinates A B C)
           ((ax ⊠ (by ⊠ cw ⊟ cy ⊠ bw) ⊟ ay ⊠ (bx ⊠ cw ⊟ cx ⊠ bw) ⊞ aw ⊠ (bx ⊠ cy ⊟ cx ⊠ by)) ⊠ right.bottom)
@@ -42,7 +43,8 @@ pub pythagoras_difference-is : (A B C : Point) → Same (pythagoras_difference A
 unfolding whole plus negated times minus signed_area pythagoras_difference
 pythagoras_difference-is A B C =
     let right : Quotient = as_quotient ratios (pythagoras_expression (spot 0 1) (spot 2 3) (spot 4 5)) in
-    let ax = variable 0 in let ay = variable 1 in let aw = variable 2 in let bx = variable 3 in let by = variable 4 in let bw = variable 5 in let cx = variable 6 in let cy = variable 7 in let cw = variable 8 in
+    let ax = variable 0 in let ay = variable 1 in let aw = variable 2 in let bx = variable 3 in let by = variable 4 in
+    let bw = variable 5 in let cx = variable 6 in let cy = variable 7 in let cw = variable 8 in
     record {
       crossed = agree integers (coordinates A B C)
           (numeral 2 ⊠ ((ax ⊠ bw ⊟ bx ⊠ aw) ⊠ (cx ⊠ bw ⊟ bx ⊠ cw) ⊞ (ay ⊠ bw ⊟ by ⊠ aw) ⊠ (cy ⊠ bw ⊟ by ⊠ cw)) ⊠ right.bottom)

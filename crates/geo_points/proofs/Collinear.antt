@@ -13,7 +13,8 @@ coordinates A B C = entry_at integers (A.x ∷ A.y ∷ pos A.w ∷ B.x ∷ B.y �
 -- the cross product of AB and AC is A.w times the determinant
 cross_product-is_determinant : (A B C : Point) → cross_product A B A C ≡ determinant A B C *ℤ pos A.w
 cross_product-is_determinant A B C =
-    let ax = variable 0 in let ay = variable 1 in let aw = variable 2 in let bx = variable 3 in let by = variable 4 in let bw = variable 5 in let cx = variable 6 in let cy = variable 7 in let cw = variable 8 in
+    let ax = variable 0 in let ay = variable 1 in let aw = variable 2 in let bx = variable 3 in let by = variable 4 in
+    let bw = variable 5 in let cx = variable 6 in let cy = variable 7 in let cw = variable 8 in
     agree integers (coordinates A B C)
     ((bx ⊠ aw ⊟ ax ⊠ bw) ⊠ (cy ⊠ aw ⊟ ay ⊠ cw) ⊟ (by ⊠ aw ⊟ ay ⊠ bw) ⊠ (cx ⊠ aw ⊟ ax ⊠ cw))
     ((ax ⊠ (by ⊠ cw ⊟ cy ⊠ bw) ⊟ ay ⊠ (bx ⊠ cw ⊟ cx ⊠ bw) ⊞ aw ⊠ (bx ⊠ cy ⊟ cx ⊠ by)) ⊠ aw) tt

@@ -13,10 +13,14 @@ use Rattle.geo_points.proofs.Steps.{numbers, ratios, difference_of}
 use Rattle.geo_points.specs.Vectors.{run, rise}
 
 abbrev pub cross_of : Point → Point → Point → Point → Fraction
-cross_of A B C D = minus (times (minus (x_coordinate B) (x_coordinate A)) (minus (y_coordinate D) (y_coordinate C))) (times (minus (y_coordinate B) (y_coordinate A)) (minus (x_coordinate D) (x_coordinate C)))
+cross_of A B C D =
+    minus (times (minus (x_coordinate B) (x_coordinate A)) (minus (y_coordinate D) (y_coordinate C)))
+    (times (minus (y_coordinate B) (y_coordinate A)) (minus (x_coordinate D) (x_coordinate C)))
 
 abbrev pub dot_of : Point → Point → Point → Point → Fraction
-dot_of A B C D = plus (times (minus (x_coordinate B) (x_coordinate A)) (minus (x_coordinate D) (x_coordinate C))) (times (minus (y_coordinate B) (y_coordinate A)) (minus (y_coordinate D) (y_coordinate C)))
+dot_of A B C D =
+    plus (times (minus (x_coordinate B) (x_coordinate A)) (minus (x_coordinate D) (x_coordinate C)))
+    (times (minus (y_coordinate B) (y_coordinate A)) (minus (y_coordinate D) (y_coordinate C)))
 
 abbrev pub cross_e : Expression
 cross_e = difference_of 0 2 3 5 ⊠ difference_of 7 8 10 11 ⊟ difference_of 1 2 4 5 ⊠ difference_of 6 8 9 11
@@ -100,11 +104,14 @@ pub square_nonzero : (U V : Point) → (x_difference U V ≡ pos 0 → y_differe
 unfolding whole plus negated times minus signed_area pythagoras_difference
 square_nonzero U V apart z =
     let s : x_difference U V *ℤ x_difference U V +ℤ y_difference U V *ℤ y_difference U V ≡ pos 0 =
-    cancel_factor (x_difference U V *ℤ x_difference U V +ℤ y_difference U V *ℤ y_difference U V) (pos 0) (pos 2) (λ e. let q : suc (suc zero) ≡ zero = ap (λ (t : ℤ). elim t [ pos n ↦ n | negsuc n ↦ n ]) e in cc)
+    cancel_factor (x_difference U V *ℤ x_difference U V +ℤ y_difference U V *ℤ y_difference U V) (pos 0) (pos 2)
+    (λ e. let q : suc (suc zero) ≡ zero = ap (λ (t : ℤ). elim t [ pos n ↦ n | negsuc n ↦ n ]) e in cc)
     (by_combination integers (entry_at integers (U.x ∷ U.y ∷ pos U.w ∷ V.x ∷ V.y ∷ pos V.w ∷ []))
     (given (numeral 1)
-    (numeral 2 ⊠ ((variable 0 ⊠ variable 5 ⊟ variable 3 ⊠ variable 2) ⊠ (variable 0 ⊠ variable 5 ⊟ variable 3 ⊠ variable 2) ⊞ (variable 1 ⊠ variable 5 ⊟ variable 4 ⊠ variable 2) ⊠ (variable 1 ⊠ variable 5 ⊟ variable 4 ⊠ variable 2))) (numeral 0) ∷ [])
-    (((variable 3 ⊠ variable 2 ⊟ variable 0 ⊠ variable 5) ⊠ (variable 3 ⊠ variable 2 ⊟ variable 0 ⊠ variable 5) ⊞ (variable 4 ⊠ variable 2 ⊟ variable 1 ⊠ variable 5) ⊠ (variable 4 ⊠ variable 2 ⊟ variable 1 ⊠ variable 5)) ⊠ numeral 2)
+    (numeral 2 ⊠ ((variable 0 ⊠ variable 5 ⊟ variable 3 ⊠ variable 2) ⊠ (variable 0 ⊠ variable 5 ⊟ variable 3 ⊠ variable 2)
+    ⊞ (variable 1 ⊠ variable 5 ⊟ variable 4 ⊠ variable 2) ⊠ (variable 1 ⊠ variable 5 ⊟ variable 4 ⊠ variable 2))) (numeral 0) ∷ [])
+    (((variable 3 ⊠ variable 2 ⊟ variable 0 ⊠ variable 5) ⊠ (variable 3 ⊠ variable 2 ⊟ variable 0 ⊠ variable 5)
+    ⊞ (variable 4 ⊠ variable 2 ⊟ variable 1 ⊠ variable 5) ⊠ (variable 4 ⊠ variable 2 ⊟ variable 1 ⊠ variable 5)) ⊠ numeral 2)
     (numeral 0 ⊠ numeral 2) (z, tt) tt) in
     let both = both_null (x_difference U V) (y_difference U V) s in
     apart both.0 both.1

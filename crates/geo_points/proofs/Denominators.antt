@@ -26,11 +26,14 @@ pub square_nonzero : (U V : Point) → (x_difference U V ≡ pos 0 → y_differe
 unfolding whole plus negated times minus signed_area pythagoras_difference
 square_nonzero U V apart z =
     let s : x_difference U V *ℤ x_difference U V +ℤ y_difference U V *ℤ y_difference U V ≡ pos 0 =
-    cancel_factor (x_difference U V *ℤ x_difference U V +ℤ y_difference U V *ℤ y_difference U V) (pos 0) (pos 2) (λ e. let q : suc (suc zero) ≡ zero = ap (λ (t : ℤ). elim t [ pos n ↦ n | negsuc n ↦ n ]) e in cc)
+    cancel_factor (x_difference U V *ℤ x_difference U V +ℤ y_difference U V *ℤ y_difference U V) (pos 0) (pos 2)
+    (λ e. let q : suc (suc zero) ≡ zero = ap (λ (t : ℤ). elim t [ pos n ↦ n | negsuc n ↦ n ]) e in cc)
     (by_combination integers (entry_at integers (U.x ∷ U.y ∷ pos U.w ∷ V.x ∷ V.y ∷ pos V.w ∷ []))
     (given (numeral 1)
-    (numeral 2 ⊠ ((variable 0 ⊠ variable 5 ⊟ variable 3 ⊠ variable 2) ⊠ (variable 0 ⊠ variable 5 ⊟ variable 3 ⊠ variable 2) ⊞ (variable 1 ⊠ variable 5 ⊟ variable 4 ⊠ variable 2) ⊠ (variable 1 ⊠ variable 5 ⊟ variable 4 ⊠ variable 2))) (numeral 0) ∷ [])
-    (((variable 3 ⊠ variable 2 ⊟ variable 0 ⊠ variable 5) ⊠ (variable 3 ⊠ variable 2 ⊟ variable 0 ⊠ variable 5) ⊞ (variable 4 ⊠ variable 2 ⊟ variable 1 ⊠ variable 5) ⊠ (variable 4 ⊠ variable 2 ⊟ variable 1 ⊠ variable 5)) ⊠ numeral 2)
+    (numeral 2 ⊠ ((variable 0 ⊠ variable 5 ⊟ variable 3 ⊠ variable 2) ⊠ (variable 0 ⊠ variable 5 ⊟ variable 3 ⊠ variable 2)
+    ⊞ (variable 1 ⊠ variable 5 ⊟ variable 4 ⊠ variable 2) ⊠ (variable 1 ⊠ variable 5 ⊟ variable 4 ⊠ variable 2))) (numeral 0) ∷ [])
+    (((variable 3 ⊠ variable 2 ⊟ variable 0 ⊠ variable 5) ⊠ (variable 3 ⊠ variable 2 ⊟ variable 0 ⊠ variable 5)
+    ⊞ (variable 4 ⊠ variable 2 ⊟ variable 1 ⊠ variable 5) ⊠ (variable 4 ⊠ variable 2 ⊟ variable 1 ⊠ variable 5)) ⊠ numeral 2)
     (numeral 0 ⊠ numeral 2) (z, tt) tt) in
     let both = both_null (x_difference U V) (y_difference U V) s in
     apart both.0 both.1
@@ -57,11 +60,13 @@ side_nonzero_first U V P Q Y' c apart z =
     apart
     (x_difference_null U Y' (cancel_fraction (minus (x_coordinate Y') (x_coordinate U)) (whole (pos 0)) (minus (signed_area U P Q) (signed_area V P Q)) n
     (geo_combination (U ∷ V ∷ Y' ∷ []) (signed_area U P Q ∷ signed_area V P Q ∷ [])
-    (fact (whole_number 1) ((given_number 0 -' given_number 1) *' (abscissa 2 -' abscissa 0)) (given_number 0 *' (abscissa 1 -' abscissa 0)) ∷ fact (abscissa 1 -' abscissa 0) (given_number 0) (whole_number 0) ∷ [])
+    (fact (whole_number 1) ((given_number 0 -' given_number 1) *' (abscissa 2 -' abscissa 0)) (given_number 0 *' (abscissa 1 -' abscissa 0))
+    ∷ fact (abscissa 1 -' abscissa 0) (given_number 0) (whole_number 0) ∷ [])
     ((abscissa 2 -' abscissa 0) *' (given_number 0 -' given_number 1)) (whole_number 0 *' (given_number 0 -' given_number 1)) (m.by_x, (s, tt)) tt)))
     (y_difference_null U Y' (cancel_fraction (minus (y_coordinate Y') (y_coordinate U)) (whole (pos 0)) (minus (signed_area U P Q) (signed_area V P Q)) n
     (geo_combination (U ∷ V ∷ Y' ∷ []) (signed_area U P Q ∷ signed_area V P Q ∷ [])
-    (fact (whole_number 1) ((given_number 0 -' given_number 1) *' (ordinate 2 -' ordinate 0)) (given_number 0 *' (ordinate 1 -' ordinate 0)) ∷ fact (ordinate 1 -' ordinate 0) (given_number 0) (whole_number 0) ∷ [])
+    (fact (whole_number 1) ((given_number 0 -' given_number 1) *' (ordinate 2 -' ordinate 0)) (given_number 0 *' (ordinate 1 -' ordinate 0))
+    ∷ fact (ordinate 1 -' ordinate 0) (given_number 0) (whole_number 0) ∷ [])
     ((ordinate 2 -' ordinate 0) *' (given_number 0 -' given_number 1)) (whole_number 0 *' (given_number 0 -' given_number 1)) (m.by_y, (s, tt)) tt)))
 
 pub side_nonzero_second : (U V P Q Y : Point) → IsCrossing U V P Q Y → (x_difference V Y ≡ pos 0 → y_difference V Y ≡ pos 0 → ⊥) → IsNonzero (signed_area V P Q)
@@ -72,9 +77,11 @@ side_nonzero_second U V P Q Y' c apart z =
     apart
     (x_difference_null V Y' (cancel_fraction (minus (x_coordinate Y') (x_coordinate V)) (whole (pos 0)) (minus (signed_area U P Q) (signed_area V P Q)) n
     (geo_combination (U ∷ V ∷ Y' ∷ []) (signed_area U P Q ∷ signed_area V P Q ∷ [])
-    (fact (whole_number 1) ((given_number 0 -' given_number 1) *' (abscissa 2 -' abscissa 0)) (given_number 0 *' (abscissa 1 -' abscissa 0)) ∷ fact (abscissa 1 -' abscissa 0) (given_number 1) (whole_number 0) ∷ [])
+    (fact (whole_number 1) ((given_number 0 -' given_number 1) *' (abscissa 2 -' abscissa 0)) (given_number 0 *' (abscissa 1 -' abscissa 0))
+    ∷ fact (abscissa 1 -' abscissa 0) (given_number 1) (whole_number 0) ∷ [])
     ((abscissa 2 -' abscissa 1) *' (given_number 0 -' given_number 1)) (whole_number 0 *' (given_number 0 -' given_number 1)) (m.by_x, (s, tt)) tt)))
     (y_difference_null V Y' (cancel_fraction (minus (y_coordinate Y') (y_coordinate V)) (whole (pos 0)) (minus (signed_area U P Q) (signed_area V P Q)) n
     (geo_combination (U ∷ V ∷ Y' ∷ []) (signed_area U P Q ∷ signed_area V P Q ∷ [])
-    (fact (whole_number 1) ((given_number 0 -' given_number 1) *' (ordinate 2 -' ordinate 0)) (given_number 0 *' (ordinate 1 -' ordinate 0)) ∷ fact (ordinate 1 -' ordinate 0) (given_number 1) (whole_number 0) ∷ [])
+    (fact (whole_number 1) ((given_number 0 -' given_number 1) *' (ordinate 2 -' ordinate 0)) (given_number 0 *' (ordinate 1 -' ordinate 0))
+    ∷ fact (ordinate 1 -' ordinate 0) (given_number 1) (whole_number 0) ∷ [])
     ((ordinate 2 -' ordinate 1) *' (given_number 0 -' given_number 1)) (whole_number 0 *' (given_number 0 -' given_number 1)) (m.by_y, (s, tt)) tt)))

@@ -2,7 +2,8 @@
 use Rattle.std.proofs.Common.{◌≡◌, Bool, true, false, ◌*◌, pos, ◌*ℤ◌, refl, [], ◌∷◌, mul-pos}
 use Rattle.ring_laws.specs.Solver.{variable, numeral, ◌⊟◌, ◌⊠◌, entry_at, given}
 use Rattle.ring_laws.specs.Fraction.{Fraction, Same, minus, times, IsNonzero}
-use Rattle.geo_points.specs.Points.{Point, x_coordinate, y_coordinate, x_difference, y_difference, x_component, y_component, cross_product, signed_area, pythagoras_difference, HasRatio, ratio, is_null}
+use Rattle.geo_points.specs.Points.{Point, x_coordinate, y_coordinate, x_difference, y_difference, x_component, y_component, cross_product}
+use Rattle.geo_points.specs.Points.{signed_area, pythagoras_difference, HasRatio, ratio, is_null}
 use Rattle.geo_points.specs.Placements.{SamePoint}
 use Rattle.ring_laws.proofs.Integers.{integers}
 use Rattle.ring_laws.proofs.Combination.{by_combination}
@@ -67,7 +68,8 @@ unfolding times
 crossed_back A B C D h =
     let p = variable 0 in let q = variable 1 in let r = variable 2 in let s = variable 3 in
     let crossed : x_difference A B *ℤ y_difference C D ≡ y_difference A B *ℤ x_difference C D =
-    cancel (x_difference A B *ℤ y_difference C D) (y_difference A B *ℤ x_difference C D) (A.w * B.w * (C.w * D.w)) (mul-pos (mul-pos A.positive B.positive) (mul-pos C.positive D.positive)) h.crossed in
+    cancel (x_difference A B *ℤ y_difference C D) (y_difference A B *ℤ x_difference C D) (A.w * B.w * (C.w * D.w))
+    (mul-pos (mul-pos A.positive B.positive) (mul-pos C.positive D.positive)) h.crossed in
     by_combination integers (entry_at integers (x_difference A B ∷ y_difference A B ∷ x_difference C D ∷ y_difference C D ∷ []))
     (given (numeral 1) (p ⊠ s) (q ⊠ r) ∷ []) (p ⊠ s ⊟ q ⊠ r) (numeral 0) (crossed, tt) tt
 

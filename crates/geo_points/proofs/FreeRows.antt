@@ -9,7 +9,10 @@ use Rattle.geo_points.proofs.Geometry.{geo_combination}
 pub free-pythagoras_difference : (A B C : Point)
     → Same (pythagoras_difference A B C)
     (times (whole (pos 2))
-    (plus (minus (minus (plus (plus (minus (minus (times (x_coordinate A) (x_coordinate C)) (times (x_coordinate A) (x_coordinate B))) (times (x_coordinate B) (x_coordinate C))) (times (x_coordinate B) (x_coordinate B))) (times (y_coordinate A) (y_coordinate C))) (times (y_coordinate A) (y_coordinate B))) (times (y_coordinate B) (y_coordinate C)))
+    (plus (minus (minus (plus (plus
+    (minus (minus (times (x_coordinate A) (x_coordinate C)) (times (x_coordinate A) (x_coordinate B)))
+    (times (x_coordinate B) (x_coordinate C))) (times (x_coordinate B) (x_coordinate B))) (times (y_coordinate A) (y_coordinate C)))
+    (times (y_coordinate A) (y_coordinate B))) (times (y_coordinate B) (y_coordinate C)))
     (times (y_coordinate B) (y_coordinate B))))
 free-pythagoras_difference A B C =
     geo_combination (A ∷ B ∷ C ∷ []) [] [] (pythagoras 0 1 2)

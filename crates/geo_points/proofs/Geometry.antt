@@ -4,7 +4,9 @@ use Rattle.ring_laws.specs.Solver.{◌⊟◌, natural, value, normal_form, is_ze
 use Rattle.ring_laws.specs.Fraction.{Fraction, Same, whole, plus, times, negated, minus}
 use Rattle.geo_points.specs.Points.{Point, signed_area, pythagoras_difference}
 use Rattle.geo_points.proofs.Plane.{Spot, double_area, pythagoras_value}
-use Rattle.geo_points.proofs.Expressions.{Quantity, abscissa, ordinate, area, pythagoras, whole_number, one_half, given_number, ◌+'◌, ◌-'◌, ◌*'◌, opposite', point_at, number_at, x_coordinate, y_coordinate, half, quantity_value, thrice, spread, Fact, fact, spread_facts, FactsHold}
+use Rattle.geo_points.proofs.Expressions.{Quantity, abscissa, ordinate, area, pythagoras, whole_number, one_half, given_number, ◌+'◌, ◌-'◌}
+use Rattle.geo_points.proofs.Expressions.{◌*'◌, opposite', point_at, number_at, x_coordinate, y_coordinate, half, quantity_value, thrice}
+use Rattle.geo_points.proofs.Expressions.{spread, Fact, fact, spread_facts, FactsHold}
 use Rattle.ring_laws.proofs.Fractions as F
 use Rattle.ring_laws.proofs.Fractions.{fractions}
 use Rattle.ring_laws.proofs.Combination.{by_combination}

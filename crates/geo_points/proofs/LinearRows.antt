@@ -28,11 +28,14 @@ inter-signed_area A B U V P' Q Y' c =
     (cross_product-is U V U Y' c.on_first, (cross_product-is P' Q P' Y' c.on_second, tt)) tt
 
 pub inter-pythagoras_difference : (A B U V P Q Y : Point) → IsCrossing U V P Q Y
-    → Same (times (pythagoras_difference A B Y) (minus (signed_area U P Q) (signed_area V P Q))) (minus (times (signed_area U P Q) (pythagoras_difference A B V)) (times (signed_area V P Q) (pythagoras_difference A B U)))
+    → Same (times (pythagoras_difference A B Y) (minus (signed_area U P Q) (signed_area V P Q)))
+    (minus (times (signed_area U P Q) (pythagoras_difference A B V)) (times (signed_area V P Q) (pythagoras_difference A B U)))
 inter-pythagoras_difference A B U V P' Q Y' c =
     geo_combination (A ∷ B ∷ U ∷ V ∷ P' ∷ Q ∷ Y' ∷ []) []
     (fact (whole_number 2 *' one_half *' ((abscissa 0 -' abscissa 1) *' (abscissa 5 -' abscissa 4) +' (ordinate 0 -' ordinate 1) *' (ordinate 5 -' ordinate 4))) (cross' 2 3 2 6) (whole_number 0)
-    ∷ fact (whole_number 2 *' one_half *' ((abscissa 0 -' abscissa 1) *' (abscissa 2 -' abscissa 3) +' (ordinate 0 -' ordinate 1) *' (ordinate 2 -' ordinate 3))) (cross' 4 5 4 6) (whole_number 0) ∷ [])
+    ∷ fact (whole_number 2 *' one_half
+    *' ((abscissa 0 -' abscissa 1) *' (abscissa 2 -' abscissa 3) +' (ordinate 0 -' ordinate 1) *' (ordinate 2 -' ordinate 3)))
+    (cross' 4 5 4 6) (whole_number 0) ∷ [])
     (pythagoras 0 1 6 *' (area 2 4 5 -' area 3 4 5)) (area 2 4 5 *' pythagoras 0 1 3 -' area 3 4 5 *' pythagoras 0 1 2)
     (cross_product-is U V U Y' c.on_first, (cross_product-is P' Q P' Y' c.on_second, tt)) tt
 
@@ -48,7 +51,9 @@ foot-signed_area A B P' U V Y' c =
     (cross_product-is U V U Y' c.on_line, (dot_product-is P' Y' U V c.perpendicular, tt)) tt
 
 pub foot-pythagoras_difference : (A B P U V Y : Point) → IsFoot P U V Y
-    → Same (times (pythagoras_difference A B Y) (pythagoras_difference U V U)) (plus (times (pythagoras_difference P U V) (pythagoras_difference A B V)) (times (pythagoras_difference P V U) (pythagoras_difference A B U)))
+    → Same (times (pythagoras_difference A B Y) (pythagoras_difference U V U))
+    (plus (times (pythagoras_difference P U V) (pythagoras_difference A B V))
+    (times (pythagoras_difference P V U) (pythagoras_difference A B U)))
 foot-pythagoras_difference A B P' U V Y' c =
     let dx = abscissa 4 -' abscissa 3 in let dy = ordinate 4 -' ordinate 3 in
     geo_combination (A ∷ B ∷ P' ∷ U ∷ V ∷ Y' ∷ []) []

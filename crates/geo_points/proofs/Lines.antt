@@ -11,11 +11,15 @@ use Rattle.geo_points.proofs.Steps.{numbers, ratios, difference_of}
 
 -- the cross product of the vectors AB and CD
 abbrev pub cross_of : Point → Point → Point → Point → Fraction
-cross_of A B C D = minus (times (minus (x_coordinate B) (x_coordinate A)) (minus (y_coordinate D) (y_coordinate C))) (times (minus (y_coordinate B) (y_coordinate A)) (minus (x_coordinate D) (x_coordinate C)))
+cross_of A B C D =
+    minus (times (minus (x_coordinate B) (x_coordinate A)) (minus (y_coordinate D) (y_coordinate C)))
+    (times (minus (y_coordinate B) (y_coordinate A)) (minus (x_coordinate D) (x_coordinate C)))
 
 -- their dot product
 abbrev pub dot_of : Point → Point → Point → Point → Fraction
-dot_of A B C D = plus (times (minus (x_coordinate B) (x_coordinate A)) (minus (x_coordinate D) (x_coordinate C))) (times (minus (y_coordinate B) (y_coordinate A)) (minus (y_coordinate D) (y_coordinate C)))
+dot_of A B C D =
+    plus (times (minus (x_coordinate B) (x_coordinate A)) (minus (x_coordinate D) (x_coordinate C)))
+    (times (minus (y_coordinate B) (y_coordinate A)) (minus (y_coordinate D) (y_coordinate C)))
 
 abbrev pub cross_e : Expression
 cross_e = difference_of 0 2 3 5 ⊠ difference_of 7 8 10 11 ⊟ difference_of 1 2 4 5 ⊠ difference_of 6 8 9 11

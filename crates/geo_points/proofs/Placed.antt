@@ -30,8 +30,12 @@ along_exists W U V r =
     let Y = made.0 in (
       Y,
       along_back W U V r Y
-          (geo_combination (W ∷ U ∷ V ∷ Y ∷ []) (r ∷ []) (fact (whole_number 1) (abscissa 3) (abscissa 0 +' given_number 0 *' (abscissa 2 -' abscissa 1)) ∷ []) (abscissa 3 -' abscissa 0) (given_number 0 *' (abscissa 2 -' abscissa 1)) (made.1, tt) tt)
-          (geo_combination (W ∷ U ∷ V ∷ Y ∷ []) (r ∷ []) (fact (whole_number 1) (ordinate 3) (ordinate 0 +' given_number 0 *' (ordinate 2 -' ordinate 1)) ∷ []) (ordinate 3 -' ordinate 0) (given_number 0 *' (ordinate 2 -' ordinate 1)) (made.2, tt) tt),
+          (geo_combination (W ∷ U ∷ V ∷ Y ∷ []) (r ∷ [])
+          (fact (whole_number 1) (abscissa 3) (abscissa 0 +' given_number 0 *' (abscissa 2 -' abscissa 1)) ∷ [])
+          (abscissa 3 -' abscissa 0) (given_number 0 *' (abscissa 2 -' abscissa 1)) (made.1, tt) tt)
+          (geo_combination (W ∷ U ∷ V ∷ Y ∷ []) (r ∷ [])
+          (fact (whole_number 1) (ordinate 3) (ordinate 0 +' given_number 0 *' (ordinate 2 -' ordinate 1)) ∷ [])
+          (ordinate 3 -' ordinate 0) (given_number 0 *' (ordinate 2 -' ordinate 1)) (made.2, tt) tt),
     )
 
 -- the points are W U V Y Z, as 0 to 4
@@ -39,9 +43,11 @@ pub along_unique : (W U V : Point) (r : Fraction) (Y Z : Point) → IsAlong W U 
 along_unique W U V r Y Z h k =
     record {
       by_x = geo_combination (W ∷ U ∷ V ∷ Y ∷ Z ∷ []) (r ∷ [])
-          (fact (whole_number 1) (abscissa 3 -' abscissa 0) (given_number 0 *' (abscissa 2 -' abscissa 1)) ∷ fact (opposite' (whole_number 1)) (abscissa 4 -' abscissa 0) (given_number 0 *' (abscissa 2 -' abscissa 1)) ∷ [])
+          (fact (whole_number 1) (abscissa 3 -' abscissa 0) (given_number 0 *' (abscissa 2 -' abscissa 1))
+          ∷ fact (opposite' (whole_number 1)) (abscissa 4 -' abscissa 0) (given_number 0 *' (abscissa 2 -' abscissa 1)) ∷ [])
           (abscissa 3) (abscissa 4) (along-x W U V r Y h, (along-x W U V r Z k, tt)) tt;
       by_y = geo_combination (W ∷ U ∷ V ∷ Y ∷ Z ∷ []) (r ∷ [])
-          (fact (whole_number 1) (ordinate 3 -' ordinate 0) (given_number 0 *' (ordinate 2 -' ordinate 1)) ∷ fact (opposite' (whole_number 1)) (ordinate 4 -' ordinate 0) (given_number 0 *' (ordinate 2 -' ordinate 1)) ∷ [])
+          (fact (whole_number 1) (ordinate 3 -' ordinate 0) (given_number 0 *' (ordinate 2 -' ordinate 1))
+          ∷ fact (opposite' (whole_number 1)) (ordinate 4 -' ordinate 0) (given_number 0 *' (ordinate 2 -' ordinate 1)) ∷ [])
           (ordinate 3) (ordinate 4) (along-y W U V r Y h, (along-y W U V r Z k, tt)) tt;
     }

@@ -50,7 +50,9 @@ inter-quadratic A B U V P' Q Y' c = moves-quadratic A B U V Y' (signed_area U P'
 
 pub foot-quadratic : (A B P U V Y : Point) → IsFoot P U V Y
     → Same (times (pythagoras_difference A Y B) (pythagoras_difference U V U))
-    (minus (plus (times (pythagoras_difference P U V) (pythagoras_difference A V B)) (times (pythagoras_difference P V U) (pythagoras_difference A U B))) (times (pythagoras_difference P U V) (pythagoras_difference P V U)))
+    (minus (plus (times (pythagoras_difference P U V) (pythagoras_difference A V B))
+    (times (pythagoras_difference P V U) (pythagoras_difference A U B)))
+    (times (pythagoras_difference P U V) (pythagoras_difference P V U)))
 foot-quadratic A B P' U V Y' c =
     let dx = abscissa 4 -' abscissa 3 in let dy = ordinate 4 -' ordinate 3 in
     let sx = (abscissa 0 -' abscissa 3) +' (abscissa 1 -' abscissa 3) in let sy = (ordinate 0 -' ordinate 3) +' (ordinate 1 -' ordinate 3) in
@@ -62,17 +64,23 @@ foot-quadratic A B P' U V Y' c =
 
 pub pratio-quadratic : (A B W U V Y : Point) (r n d : Fraction) → IsAlong W U V r Y → Same (times r d) n
     → Same (times (pythagoras_difference A Y B) (times d d))
-    (minus (plus (times (times d d) (pythagoras_difference A W B)) (times (times n d) (plus (minus (pythagoras_difference A V B) (pythagoras_difference A U B)) (times (whole (pos 2)) (pythagoras_difference W U V)))))
+    (minus (plus (times (times d d) (pythagoras_difference A W B))
+    (times (times n d) (plus (minus (pythagoras_difference A V B) (pythagoras_difference A U B))
+    (times (whole (pos 2)) (pythagoras_difference W U V)))))
     (times (times n (minus d n)) (pythagoras_difference U V U)))
 pratio-quadratic A B W U V Y' r n d c e =
-    let qx = whole_number 2 *' (given_number 2 *' (abscissa 5 -' abscissa 2) +' given_number 1 *' (abscissa 4 -' abscissa 3) -' given_number 2 *' (abscissa 0 -' abscissa 2) -' given_number 2 *' (abscissa 1 -' abscissa 2)) in
-    let qy = whole_number 2 *' (given_number 2 *' (ordinate 5 -' ordinate 2) +' given_number 1 *' (ordinate 4 -' ordinate 3) -' given_number 2 *' (ordinate 0 -' ordinate 2) -' given_number 2 *' (ordinate 1 -' ordinate 2)) in
+    let qx = whole_number 2 *' (given_number 2 *' (abscissa 5 -' abscissa 2) +' given_number 1 *' (abscissa 4 -' abscissa 3)
+    -' given_number 2 *' (abscissa 0 -' abscissa 2) -' given_number 2 *' (abscissa 1 -' abscissa 2)) in
+    let qy = whole_number 2 *' (given_number 2 *' (ordinate 5 -' ordinate 2) +' given_number 1 *' (ordinate 4 -' ordinate 3)
+    -' given_number 2 *' (ordinate 0 -' ordinate 2) -' given_number 2 *' (ordinate 1 -' ordinate 2)) in
     geo_combination (A ∷ B ∷ W ∷ U ∷ V ∷ Y' ∷ []) (r ∷ n ∷ d ∷ [])
     (fact (given_number 2 *' qx) (abscissa 5 -' abscissa 2) (given_number 0 *' (abscissa 4 -' abscissa 3))
     ∷ fact (given_number 2 *' qy) (ordinate 5 -' ordinate 2) (given_number 0 *' (ordinate 4 -' ordinate 3))
     ∷ fact (qx *' (abscissa 4 -' abscissa 3) +' qy *' (ordinate 4 -' ordinate 3)) (given_number 0 *' given_number 2) (given_number 1) ∷ [])
     (pythagoras 0 5 1 *' (given_number 2 *' given_number 2))
-    (given_number 2 *' given_number 2 *' pythagoras 0 2 1 +' given_number 1 *' given_number 2 *' (pythagoras 0 4 1 -' pythagoras 0 3 1 +' whole_number 2 *' pythagoras 2 3 4) -' given_number 1 *' (given_number 2 -' given_number 1) *' pythagoras 3 4 3)
+    (given_number 2 *' given_number 2 *' pythagoras 0 2 1
+    +' given_number 1 *' given_number 2 *' (pythagoras 0 4 1 -' pythagoras 0 3 1 +' whole_number 2 *' pythagoras 2 3 4)
+    -' given_number 1 *' (given_number 2 -' given_number 1) *' pythagoras 3 4 3)
     (along-x W U V r Y' c, (along-y W U V r Y' c, (e, tt))) tt
 
 pub tratio-quadratic : (A B U V Y : Point) (r n d : Fraction) → IsTurned U V r Y → Same (times r d) n
@@ -81,13 +89,17 @@ pub tratio-quadratic : (A B U V Y : Point) (r n d : Fraction) → IsTurned U V r
     (times (times (times (whole (pos 64)) n) d) (plus (signed_area A U V) (signed_area B U V))))
 tratio-quadratic A B U V Y' r n d c e =
     let dx = abscissa 3 -' abscissa 2 in let dy = ordinate 3 -' ordinate 2 in
-    let qx = whole_number 32 *' (given_number 2 *' (abscissa 4 -' abscissa 2) -' given_number 1 *' dy -' given_number 2 *' (abscissa 0 -' abscissa 2) -' given_number 2 *' (abscissa 1 -' abscissa 2)) in
-    let qy = whole_number 32 *' (given_number 2 *' (ordinate 4 -' ordinate 2) +' given_number 1 *' dx -' given_number 2 *' (ordinate 0 -' ordinate 2) -' given_number 2 *' (ordinate 1 -' ordinate 2)) in
+    let qx = whole_number 32 *' (given_number 2 *' (abscissa 4 -' abscissa 2) -' given_number 1 *' dy
+    -' given_number 2 *' (abscissa 0 -' abscissa 2) -' given_number 2 *' (abscissa 1 -' abscissa 2)) in
+    let qy = whole_number 32 *' (given_number 2 *' (ordinate 4 -' ordinate 2) +' given_number 1 *' dx
+    -' given_number 2 *' (ordinate 0 -' ordinate 2) -' given_number 2 *' (ordinate 1 -' ordinate 2)) in
     geo_combination (A ∷ B ∷ U ∷ V ∷ Y' ∷ []) (r ∷ n ∷ d ∷ [])
     (fact (qx *' given_number 2) (abscissa 4 -' abscissa 2) (opposite' (given_number 0 *' dy))
     ∷ fact (qy *' given_number 2) (ordinate 4 -' ordinate 2) (given_number 0 *' dx)
     ∷ fact (qy *' dx -' qx *' dy) (given_number 0 *' given_number 2) (given_number 1)
     ∷ fact (whole_number 32 *' given_number 1 *' given_number 2 *' (twice' 0 2 3 +' twice' 1 2 3)) (whole_number 2 *' one_half) (whole_number 1) ∷ [])
     (pythagoras 0 4 1 *' (whole_number 4 *' given_number 2 *' (whole_number 4 *' given_number 2)))
-    (whole_number 16 *' given_number 2 *' given_number 2 *' pythagoras 0 2 1 +' whole_number 16 *' given_number 1 *' given_number 1 *' pythagoras 2 3 2 -' whole_number 64 *' given_number 1 *' given_number 2 *' (area 0 2 3 +' area 1 2 3))
+    (whole_number 16 *' given_number 2 *' given_number 2 *' pythagoras 0 2 1
+    +' whole_number 16 *' given_number 1 *' given_number 1 *' pythagoras 2 3 2
+    -' whole_number 64 *' given_number 1 *' given_number 2 *' (area 0 2 3 +' area 1 2 3))
     (turned-x U V r Y' c, (turned-y U V r Y' c, (e, (two_halves, tt)))) tt

@@ -17,7 +17,9 @@ pub ratio-zero : (A B C D : Point) → HasRatio A B C D
 ratio-zero A B C D h =
     let k = ratio-is A B C D h in
     geo_combination (A ∷ B ∷ C ∷ D ∷ []) (ratio A B C D ∷ [])
-    (fact (whole_number 2 *' (abscissa 3 -' abscissa 2)) (given_number 0 *' (abscissa 3 -' abscissa 2)) (abscissa 1 -' abscissa 0) ∷ fact (whole_number 2 *' (ordinate 3 -' ordinate 2)) (given_number 0 *' (ordinate 3 -' ordinate 2)) (ordinate 1 -' ordinate 0) ∷ [])
+    (fact (whole_number 2 *' (abscissa 3 -' abscissa 2)) (given_number 0 *' (abscissa 3 -' abscissa 2)) (abscissa 1 -' abscissa 0)
+    ∷ fact (whole_number 2 *' (ordinate 3 -' ordinate 2)) (given_number 0 *' (ordinate 3 -' ordinate 2)) (ordinate 1 -' ordinate 0)
+    ∷ [])
     (given_number 0 *' pythagoras 2 3 2) (pythagoras 1 2 3 -' pythagoras 0 2 3)
     (k.by_x, (k.by_y, tt)) tt
 
@@ -27,20 +29,12 @@ pub ratio-inter_first : (A U V P Q Y : Point) → IsCrossing U V P Q Y → HasRa
 ratio-inter_first A U V P' Q Y' c h =
     let k = ratio-is A Y' U V h in
     geo_combination (A ∷ U ∷ V ∷ P' ∷ Q ∷ Y' ∷ []) (ratio A Y' U V ∷ [])
-    (fact (one_half *' (ordinate 4 -' ordinate 3)) (given_number 0 *' (abscissa 2 -' abscissa 1)) (abscissa 5 -' abscissa 0) ∷ fact (opposite' (one_half *' (abscissa 4 -' abscissa 3))) (given_number 0 *' (ordinate 2 -' ordinate 1)) (ordinate 5 -' ordinate 0)
+    (fact (one_half *' (ordinate 4 -' ordinate 3)) (given_number 0 *' (abscissa 2 -' abscissa 1)) (abscissa 5 -' abscissa 0)
+    ∷ fact (opposite' (one_half *' (abscissa 4 -' abscissa 3))) (given_number 0 *' (ordinate 2 -' ordinate 1))
+    (ordinate 5 -' ordinate 0)
     ∷ fact (opposite' one_half) (cross' 3 4 3 5) (whole_number 0) ∷ [])
     (given_number 0 *' (area 1 3 4 -' area 2 3 4)) (area 0 3 4)
     (k.by_x, (k.by_y, (cross_product-is P' Q P' Y' c.on_second, tt))) tt
-
-pub ratio-inter_second : (A U V P Q Y : Point) → IsCrossing U V P Q Y → HasRatio A Y P Q
-    → Same (times (ratio A Y P Q) (minus (signed_area P U V) (signed_area Q U V))) (signed_area A U V)
-ratio-inter_second A U V P' Q Y' c h =
-    let k = ratio-is A Y' P' Q h in
-    geo_combination (A ∷ U ∷ V ∷ P' ∷ Q ∷ Y' ∷ []) (ratio A Y' P' Q ∷ [])
-    (fact (one_half *' (ordinate 2 -' ordinate 1)) (given_number 0 *' (abscissa 4 -' abscissa 3)) (abscissa 5 -' abscissa 0) ∷ fact (opposite' (one_half *' (abscissa 2 -' abscissa 1))) (given_number 0 *' (ordinate 4 -' ordinate 3)) (ordinate 5 -' ordinate 0)
-    ∷ fact (opposite' one_half) (cross' 1 2 1 5) (whole_number 0) ∷ [])
-    (given_number 0 *' (area 3 1 2 -' area 4 1 2)) (area 0 1 2)
-    (k.by_x, (k.by_y, (cross_product-is U V U Y' c.on_first, tt))) tt
 
 -- the points are A D P Q Y, with Y on PQ
 pub ratio-inter_both : (A D P Q Y : Point) → cross_product P Q P Y ≡ pos 0 → HasRatio A Y D Y
@@ -48,7 +42,9 @@ pub ratio-inter_both : (A D P Q Y : Point) → cross_product P Q P Y ≡ pos 0 �
 ratio-inter_both A D P' Q Y' c h =
     let k = ratio-is A Y' D Y' h in
     geo_combination (A ∷ D ∷ P' ∷ Q ∷ Y' ∷ []) (ratio A Y' D Y' ∷ [])
-    (fact (one_half *' (ordinate 3 -' ordinate 2)) (given_number 0 *' (abscissa 4 -' abscissa 1)) (abscissa 4 -' abscissa 0) ∷ fact (opposite' (one_half *' (abscissa 3 -' abscissa 2))) (given_number 0 *' (ordinate 4 -' ordinate 1)) (ordinate 4 -' ordinate 0)
+    (fact (one_half *' (ordinate 3 -' ordinate 2)) (given_number 0 *' (abscissa 4 -' abscissa 1)) (abscissa 4 -' abscissa 0)
+    ∷ fact (opposite' (one_half *' (abscissa 3 -' abscissa 2))) (given_number 0 *' (ordinate 4 -' ordinate 1))
+    (ordinate 4 -' ordinate 0)
     ∷ fact (one_half *' (given_number 0 -' whole_number 1)) (cross' 2 3 2 4) (whole_number 0) ∷ [])
     (given_number 0 *' area 1 2 3) (area 0 2 3)
     (k.by_x, (k.by_y, (cross_product-is P' Q P' Y' c, tt))) tt
@@ -59,7 +55,8 @@ pub ratio-foot : (A P U V Y : Point) → IsFoot P U V Y → HasRatio A Y U V
 ratio-foot A P' U V Y' c h =
     let k = ratio-is A Y' U V h in
     geo_combination (A ∷ P' ∷ U ∷ V ∷ Y' ∷ []) (ratio A Y' U V ∷ [])
-    (fact (whole_number 2 *' (abscissa 3 -' abscissa 2)) (given_number 0 *' (abscissa 3 -' abscissa 2)) (abscissa 4 -' abscissa 0) ∷ fact (whole_number 2 *' (ordinate 3 -' ordinate 2)) (given_number 0 *' (ordinate 3 -' ordinate 2)) (ordinate 4 -' ordinate 0)
+    (fact (whole_number 2 *' (abscissa 3 -' abscissa 2)) (given_number 0 *' (abscissa 3 -' abscissa 2)) (abscissa 4 -' abscissa 0)
+    ∷ fact (whole_number 2 *' (ordinate 3 -' ordinate 2)) (given_number 0 *' (ordinate 3 -' ordinate 2)) (ordinate 4 -' ordinate 0)
     ∷ fact (whole_number 2) (dot' 1 4 2 3) (whole_number 0) ∷ [])
     (given_number 0 *' pythagoras 2 3 2) (pythagoras 1 2 3 -' pythagoras 0 2 3)
     (k.by_x, (k.by_y, (dot_product-is P' Y' U V c.perpendicular, tt))) tt
@@ -85,8 +82,10 @@ ratio-pratio A W U V Y' r n d c e h =
     let parallel : cross_product A W U V ≡ pos 0 =
     cross_null A W U V
     (geo_combination (A ∷ W ∷ U ∷ V ∷ Y' ∷ []) (ratio A Y' U V ∷ r ∷ [])
-    (fact (opposite' (ordinate 3 -' ordinate 2)) (given_number 0 *' (abscissa 3 -' abscissa 2)) (abscissa 4 -' abscissa 0) ∷ fact (abscissa 3 -' abscissa 2) (given_number 0 *' (ordinate 3 -' ordinate 2)) (ordinate 4 -' ordinate 0)
-    ∷ fact (opposite' (ordinate 3 -' ordinate 2)) (abscissa 4 -' abscissa 1) (given_number 1 *' (abscissa 3 -' abscissa 2)) ∷ fact (abscissa 3 -' abscissa 2) (ordinate 4 -' ordinate 1) (given_number 1 *' (ordinate 3 -' ordinate 2)) ∷ [])
+    (fact (opposite' (ordinate 3 -' ordinate 2)) (given_number 0 *' (abscissa 3 -' abscissa 2)) (abscissa 4 -' abscissa 0)
+    ∷ fact (abscissa 3 -' abscissa 2) (given_number 0 *' (ordinate 3 -' ordinate 2)) (ordinate 4 -' ordinate 0)
+    ∷ fact (opposite' (ordinate 3 -' ordinate 2)) (abscissa 4 -' abscissa 1) (given_number 1 *' (abscissa 3 -' abscissa 2))
+    ∷ fact (abscissa 3 -' abscissa 2) (ordinate 4 -' ordinate 1) (given_number 1 *' (ordinate 3 -' ordinate 2)) ∷ [])
     (cross' 0 1 2 3) (whole_number 0)
     (k.by_x, (k.by_y, (along-x W U V r Y' c, (along-y W U V r Y' c, tt)))) tt) in
     let g : HasRatio A W U V = record { parallel = parallel; apart = h.apart } in
@@ -94,12 +93,14 @@ ratio-pratio A W U V Y' r n d c e h =
       g,
       cancel_vector U V (times (ratio A Y' U V) d) (plus (times d (ratio A W U V)) n) h.apart
           (geo_combination (A ∷ W ∷ U ∷ V ∷ Y' ∷ []) (ratio A Y' U V ∷ ratio A W U V ∷ r ∷ n ∷ d ∷ [])
-          (fact (given_number 4) (given_number 0 *' (abscissa 3 -' abscissa 2)) (abscissa 4 -' abscissa 0) ∷ fact (opposite' (given_number 4)) (given_number 1 *' (abscissa 3 -' abscissa 2)) (abscissa 1 -' abscissa 0)
+          (fact (given_number 4) (given_number 0 *' (abscissa 3 -' abscissa 2)) (abscissa 4 -' abscissa 0)
+          ∷ fact (opposite' (given_number 4)) (given_number 1 *' (abscissa 3 -' abscissa 2)) (abscissa 1 -' abscissa 0)
           ∷ fact (given_number 4) (abscissa 4 -' abscissa 1) (given_number 2 *' (abscissa 3 -' abscissa 2)) ∷ fact (abscissa 3 -' abscissa 2) (given_number 2 *' given_number 4) (given_number 3) ∷ [])
           (given_number 0 *' given_number 4 *' (abscissa 3 -' abscissa 2)) ((given_number 4 *' given_number 1 +' given_number 3) *' (abscissa 3 -' abscissa 2))
           (k.by_x, (l.by_x, (along-x W U V r Y' c, (e, tt)))) tt)
           (geo_combination (A ∷ W ∷ U ∷ V ∷ Y' ∷ []) (ratio A Y' U V ∷ ratio A W U V ∷ r ∷ n ∷ d ∷ [])
-          (fact (given_number 4) (given_number 0 *' (ordinate 3 -' ordinate 2)) (ordinate 4 -' ordinate 0) ∷ fact (opposite' (given_number 4)) (given_number 1 *' (ordinate 3 -' ordinate 2)) (ordinate 1 -' ordinate 0)
+          (fact (given_number 4) (given_number 0 *' (ordinate 3 -' ordinate 2)) (ordinate 4 -' ordinate 0)
+          ∷ fact (opposite' (given_number 4)) (given_number 1 *' (ordinate 3 -' ordinate 2)) (ordinate 1 -' ordinate 0)
           ∷ fact (given_number 4) (ordinate 4 -' ordinate 1) (given_number 2 *' (ordinate 3 -' ordinate 2)) ∷ fact (ordinate 3 -' ordinate 2) (given_number 2 *' given_number 4) (given_number 3) ∷ [])
           (given_number 0 *' given_number 4 *' (ordinate 3 -' ordinate 2)) ((given_number 4 *' given_number 1 +' given_number 3) *' (ordinate 3 -' ordinate 2))
           (k.by_y, (l.by_y, (along-y W U V r Y' c, (e, tt)))) tt),

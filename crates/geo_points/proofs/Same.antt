@@ -110,13 +110,15 @@ pub along-same : (W U V : Point) (r : Fraction) (Y W' U' V' : Point) (r' : Fract
     → SamePoint W W' → SamePoint U U' → SamePoint V V' → Same r r' → SamePoint Y Y' → IsAlong W U V r Y → IsAlong W' U' V' r' Y'
 along-same W U V r C W' U' V' r' C' w u v k c s =
     let moved = geo-moved (W ∷ U ∷ V ∷ C ∷ []) (W' ∷ U' ∷ V' ∷ C' ∷ []) (r ∷ []) (r' ∷ []) (w, (u, (v, (c, tt)))) (k, tt) in
-    along_back W' U' V' r' C' (moved (abscissa 3 -' abscissa 0) (given_number 0 *' (abscissa 2 -' abscissa 1)) (along-x W U V r C s)) (moved (ordinate 3 -' ordinate 0) (given_number 0 *' (ordinate 2 -' ordinate 1)) (along-y W U V r C s))
+    along_back W' U' V' r' C' (moved (abscissa 3 -' abscissa 0) (given_number 0 *' (abscissa 2 -' abscissa 1)) (along-x W U V r C s))
+    (moved (ordinate 3 -' ordinate 0) (given_number 0 *' (ordinate 2 -' ordinate 1)) (along-y W U V r C s))
 
 pub turned-same : (U V : Point) (r : Fraction) (Y U' V' : Point) (r' : Fraction) (Y' : Point)
     → SamePoint U U' → SamePoint V V' → Same r r' → SamePoint Y Y' → IsTurned U V r Y → IsTurned U' V' r' Y'
 turned-same U V r C U' V' r' C' u v k c s =
     let moved = geo-moved (U ∷ V ∷ C ∷ []) (U' ∷ V' ∷ C' ∷ []) (r ∷ []) (r' ∷ []) (u, (v, (c, tt))) (k, tt) in
-    turned_back U' V' r' C' (moved (abscissa 2 -' abscissa 0) (opposite' (given_number 0 *' (ordinate 1 -' ordinate 0))) (turned-x U V r C s)) (moved (ordinate 2 -' ordinate 0) (given_number 0 *' (abscissa 1 -' abscissa 0)) (turned-y U V r C s))
+    turned_back U' V' r' C' (moved (abscissa 2 -' abscissa 0) (opposite' (given_number 0 *' (ordinate 1 -' ordinate 0)))
+    (turned-x U V r C s)) (moved (ordinate 2 -' ordinate 0) (given_number 0 *' (abscissa 1 -' abscissa 0)) (turned-y U V r C s))
 
 pub weighted-same : (O U V : Point) (r s : Fraction) (Y O' U' V' : Point) (r' s' : Fraction) (Y' : Point)
     → SamePoint O O' → SamePoint U U' → SamePoint V V' → Same r r' → Same s s' → SamePoint Y Y' → IsWeighted O U V r s Y → IsWeighted O' U' V' r' s' Y'

@@ -107,8 +107,10 @@ weighted_exists O U V r s =
     let Y = made.0 in (
       Y,
       weighted_back O U V r s Y
-          (geo_combination (O ∷ U ∷ V ∷ Y ∷ []) (r ∷ s ∷ []) (fact (whole_number 1) (abscissa 3) (abscissa 0 +' combination abscissa) ∷ []) (abscissa 3 -' abscissa 0) (combination abscissa) (made.1, tt) tt)
-          (geo_combination (O ∷ U ∷ V ∷ Y ∷ []) (r ∷ s ∷ []) (fact (whole_number 1) (ordinate 3) (ordinate 0 +' combination ordinate) ∷ []) (ordinate 3 -' ordinate 0) (combination ordinate) (made.2, tt) tt),
+          (geo_combination (O ∷ U ∷ V ∷ Y ∷ []) (r ∷ s ∷ []) (fact (whole_number 1) (abscissa 3) (abscissa 0 +' combination abscissa) ∷ [])
+          (abscissa 3 -' abscissa 0) (combination abscissa) (made.1, tt) tt)
+          (geo_combination (O ∷ U ∷ V ∷ Y ∷ []) (r ∷ s ∷ []) (fact (whole_number 1) (ordinate 3) (ordinate 0 +' combination ordinate) ∷ [])
+          (ordinate 3 -' ordinate 0) (combination ordinate) (made.2, tt) tt),
     )
 
 -- the points are O U V Y Z, as 0 to 4

@@ -95,9 +95,11 @@ moved-quadratic A B O U V Y' n d m e w =
     let side-y = second *' (ordinate 3 -' ordinate 2) +' third *' (ordinate 4 -' ordinate 2) in
     geo_combination (A ∷ B ∷ O ∷ U ∷ V ∷ Y' ∷ []) (n ∷ d ∷ m ∷ e ∷ [])
     (fact (whole_number 2 *' (both *' (abscissa 5 -' abscissa 2) +' side-x -' both *' (abscissa 0 -' abscissa 2) -' both *' (abscissa 1 -' abscissa 2))) (both *' (abscissa 5 -' abscissa 2)) side-x
-    ∷ fact (whole_number 2 *' (both *' (ordinate 5 -' ordinate 2) +' side-y -' both *' (ordinate 0 -' ordinate 2) -' both *' (ordinate 1 -' ordinate 2))) (both *' (ordinate 5 -' ordinate 2)) side-y ∷ [])
+    ∷ fact (whole_number 2 *' (both *' (ordinate 5 -' ordinate 2) +' side-y -' both *' (ordinate 0 -' ordinate 2)
+    -' both *' (ordinate 1 -' ordinate 2))) (both *' (ordinate 5 -' ordinate 2)) side-y ∷ [])
     (pythagoras 0 5 1 *' (both *' both))
-    (both *' (first *' pythagoras 0 2 1 +' second *' pythagoras 0 3 1 +' third *' pythagoras 0 4 1) -' first *' second *' pythagoras 2 3 2 -' first *' third *' pythagoras 2 4 2 -' second *' third *' pythagoras 3 4 3)
+    (both *' (first *' pythagoras 0 2 1 +' second *' pythagoras 0 3 1 +' third *' pythagoras 0 4 1) -' first *' second *' pythagoras 2 3 2
+    -' first *' third *' pythagoras 2 4 2 -' second *' third *' pythagoras 3 4 3)
     (w.by_x, (w.by_y, tt)) tt
 
 pub weights-quadratic : (A B O U V Y : Point) (r s n d m e : Fraction) → IsWeighted O U V r s Y → Same (times r d) n → Same (times s e) m

@@ -58,8 +58,10 @@ pub record FootMakesOnePoint : Type 0 where
   pub exists : (P U V : Point) → Differ U V → (Y : Point) × IsFoot P U V Y
   pub unique : (P U V Y Z : Point) → IsFoot P U V Y → IsFoot P U V Z → SamePoint Y Z
 
--- the step Y - U = r J (V - U) makes one point
+-- the step Y - U = r J (V - U) holds just where it holds in both coordinates, and some point meets it, and no other does
 pub record TurnedMakesOnePoint : Type 0 where
+  pub coordinates : (U V : Point) (r : Fraction) (Y : Point) → IsTurned U V r Y
+      ↔ (Same (run U Y) (negated (times r (rise U V))) × Same (rise U Y) (times r (run U V)))
   pub exists : (U V : Point) (r : Fraction) → (Y : Point) × IsTurned U V r Y
   pub unique : (U V : Point) (r : Fraction) (Y Z : Point) → IsTurned U V r Y → IsTurned U V r Z → SamePoint Y Z
 

@@ -85,7 +85,8 @@ module _ (at : ℕ → Point) (number : ℕ → Fraction) (a b c : PointId) wher
   ends e = subst (λ n. Same (signed_area (at a.0) (at b.0) (at n)) (whole (pos 0))) e (twice_ends (at a.0) (at b.0))
 
   -- by the orders of the three pairs
-  by_orders : (o p q : Ordering) → o ≡ nat_cmp a.0 b.0 → p ≡ nat_cmp b.0 c.0 → q ≡ nat_cmp a.0 c.0 → Same area (canon_value at number (signed_variable (ordering_sign o *ℤ ordering_sign p *ℤ ordering_sign q) (sorted_area a b c)))
+  by_orders : (o p q : Ordering) → o ≡ nat_cmp a.0 b.0 → p ≡ nat_cmp b.0 c.0 → q ≡ nat_cmp a.0 c.0
+      → Same area (canon_value at number (signed_variable (ordering_sign o *ℤ ordering_sign p *ℤ ordering_sign q) (sorted_area a b c)))
   by_orders Equal Less Less e f g = first_two (ranked a.0 b.0 Equal e)
   by_orders Equal Less Equal e f g = first_two (ranked a.0 b.0 Equal e)
   by_orders Equal Less Greater e f g = first_two (ranked a.0 b.0 Equal e)

@@ -13,7 +13,8 @@ use Rattle.ring_laws.proofs.Fractions.{fractions}
 use Rattle.geo_points.proofs.RatioSigns.{HasRatio-turned_first, HasRatio-turned_last, ratio-turned_first, ratio-turned_last, ratio-one, ratio-null, x_difference-self, y_difference-self}
 use Rattle.geo_points.proofs.Signs.{pythagoras_difference-swap, pythagoras_difference-length, pythagoras_difference-first, pythagoras_difference-last}
 use Rattle.geo_poly.specs.declared.variables.Var.TheVariants.{R, P}
-use Rattle.geo_poly.specs.Canonical.{ordering_sign, lower, higher, is_same_pair, signed_variable, canonical_difference, canonical_ratio, canon_value, CanonicalDifferenceKeepsValue, CanonicalRatioKeepsValue}
+use Rattle.geo_poly.specs.Canonical.{ordering_sign, lower, higher, is_same_pair, signed_variable, canonical_difference, canonical_ratio}
+use Rattle.geo_poly.specs.Canonical.{canon_value, CanonicalDifferenceKeepsValue, CanonicalRatioKeepsValue}
 
 infixr 3 ◌∘◌
 ◌∘◌ : {a b c : Fraction} → Same a b → Same b c → Same a c
@@ -64,8 +65,11 @@ module _ (at : ℕ → Point) (number : ℕ → Fraction) where
     squared e =
         subst (λ n. Same (pythagoras_difference (at a.0) (at b.0) (at n)) (pythagoras_difference (at (lower a b).0) (at (higher a b).0) (at (lower a b).0))) e
         (elim (orders a.0 b.0) [
-          | inl up ↦ subst (λ (v : Fraction). Same (pythagoras_difference (at a.0) (at b.0) (at a.0)) v) (λ i. pythagoras_difference (at (sym up.low i)) (at (sym up.high i)) (at (sym up.low i))) (fractions.same_refl _)
-          | inr down ↦ subst (λ (v : Fraction). Same (pythagoras_difference (at a.0) (at b.0) (at a.0)) v) (λ i. pythagoras_difference (at (sym down.low i)) (at (sym down.high i)) (at (sym down.low i))) (pythagoras_difference-length (at a.0) (at b.0))
+          | inl up ↦ subst (λ (v : Fraction). Same (pythagoras_difference (at a.0) (at b.0) (at a.0)) v)
+              (λ i. pythagoras_difference (at (sym up.low i)) (at (sym up.high i)) (at (sym up.low i))) (fractions.same_refl _)
+          | inr down ↦ subst (λ (v : Fraction). Same (pythagoras_difference (at a.0) (at b.0) (at a.0)) v)
+              (λ i. pythagoras_difference (at (sym down.low i)) (at (sym down.high i)) (at (sym down.low i)))
+              (pythagoras_difference-length (at a.0) (at b.0))
         ])
 
     -- with its ends sorted
@@ -80,7 +84,9 @@ module _ (at : ℕ → Point) (number : ℕ → Fraction) where
     canonical_difference-value = go (eqb a.0 b.0) (eqb b.0 c.0) (eqb a.0 c.0) refl refl refl
       where
         go : (p q r : Bool) → eqb a.0 b.0 ≡ p → eqb b.0 c.0 ≡ q → eqb a.0 c.0 ≡ r
-            → Same difference (canon_value at number (cond (p || q) (record { sign = pos 0; var = None }) (record { sign = pos 1; var = Some (cond r (P (lower a b) (higher a b) (lower a b)) (P (lower a c) b (higher a c))) })))
+            → Same difference (canon_value at number
+            (cond (p || q) (record { sign = pos 0; var = None })
+            (record { sign = pos 1; var = Some (cond r (P (lower a b) (higher a b) (lower a b)) (P (lower a c) b (higher a c))) })))
         go true q r e f g = subst (λ n. Same (pythagoras_difference (at a.0) (at n) (at c.0)) (whole (pos 0))) (eqb-true a.0 b.0 e) (pythagoras_difference-first (at a.0) (at c.0))
         go false true r e f g = subst (λ n. Same (pythagoras_difference (at a.0) (at b.0) (at n)) (whole (pos 0))) (eqb-true b.0 c.0 f) (pythagoras_difference-last (at a.0) (at b.0))
         go false false true e f g = squared (eqb-true a.0 c.0 g) ∘ plus_one-times _
@@ -165,7 +171,9 @@ module _ (at : ℕ → Point) (number : ℕ → Fraction) where
         has.apart (x_difference-self (at c.0)) (y_difference-self (at c.0))
 
     by_orders : (o p : Ordering) → o ≡ nat_cmp a.0 b.0 → p ≡ nat_cmp c.0 d.0 → (same : Bool) → is_same_pair a b c d ≡ same
-        → Same quotient (canon_value at number (cond same (record { sign = ordering_sign o *ℤ ordering_sign p; var = None }) (signed_variable (ordering_sign o *ℤ ordering_sign p) (R (lower a b) (higher a b) (lower c d) (higher c d)))))
+        → Same quotient (canon_value at number
+        (cond same (record { sign = ordering_sign o *ℤ ordering_sign p; var = None })
+        (signed_variable (ordering_sign o *ℤ ordering_sign p) (R (lower a b) (higher a b) (lower c d) (higher c d)))))
     by_orders Less Equal e f same s = absurd (apart (ranked c.0 d.0 Equal f))
     by_orders Equal Equal e f same s = absurd (apart (ranked c.0 d.0 Equal f))
     by_orders Greater Equal e f same s = absurd (apart (ranked c.0 d.0 Equal f))

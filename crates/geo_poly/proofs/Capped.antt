@@ -29,7 +29,8 @@ pub cap_weights : (rows : List Row) (left : Powers) (w m : ℕ) → min (weight_
 cap_weights rows [] w m = omega arith
 cap_weights rows (v ∷ left) w m = go (row_of rows v.0) (λ k. cap_weights rows left k m)
   where
-    go : (o : Option Row) → ((k : ℕ) → min (weight_rows rows left (min k m)) m ≡ min (weight_rows rows left k) m) → min (weight_rows rows left (weight_row o v.1 (min w m))) m ≡ min (weight_rows rows left (weight_row o v.1 w)) m
+    go : (o : Option Row) → ((k : ℕ) → min (weight_rows rows left (min k m)) m ≡ min (weight_rows rows left k) m)
+        → min (weight_rows rows left (weight_row o v.1 (min w m))) m ≡ min (weight_rows rows left (weight_row o v.1 w)) m
     go None rest = rest w
     go (Some r) rest =
         sym (rest (min w m * r.num.weight ^ v.1)) ∙ ap (λ k. min (weight_rows rows left k) m) (cap_left w (r.num.weight ^ v.1) m) ∙ rest (w * r.num.weight ^ v.1)
@@ -38,7 +39,8 @@ cap_degrees : (rows : List Row) (left : Powers) (d m : ℕ) → min (degree_rows
 cap_degrees rows [] d m = omega arith
 cap_degrees rows (v ∷ left) d m = go (row_of rows v.0) (λ k. cap_degrees rows left k m)
   where
-    go : (o : Option Row) → ((k : ℕ) → min (degree_rows rows left (min k m)) m ≡ min (degree_rows rows left k) m) → min (degree_rows rows left (degree_row o v.1 (min d m))) m ≡ min (degree_rows rows left (degree_row o v.1 d)) m
+    go : (o : Option Row) → ((k : ℕ) → min (degree_rows rows left (min k m)) m ≡ min (degree_rows rows left k) m)
+        → min (degree_rows rows left (degree_row o v.1 (min d m))) m ≡ min (degree_rows rows left (degree_row o v.1 d)) m
     go None rest = rest d
     go (Some r) rest =
         let same : min (min d m + r.num.degree * v.1) m ≡ min (d + r.num.degree * v.1) m = omega arith in
@@ -53,7 +55,8 @@ pub record WeightProgress (rows : List Row) (top : ℕ) (m : Powers) (c : ℤ) (
   pub capped : min (weight_rows rows left weight) (2 ^ 128 - 1) ≡ min (weight_rows rows m (unsigned_abs c)) (2 ^ 128 - 1)
   pub missing-is : missing ≡ denominators rows left + (top - denominators rows m)
 
-pub WeightProgress-none : (rows : List Row) (top : ℕ) (m : Powers) (c : ℤ) (v : Var × ℕ) (left : Powers) (weight missing : ℕ) → row_of rows v.0 ≡ None → WeightProgress rows top m c (v ∷ left) weight missing → WeightProgress rows top m c left weight missing
+pub WeightProgress-none : (rows : List Row) (top : ℕ) (m : Powers) (c : ℤ) (v : Var × ℕ) (left : Powers) (weight missing : ℕ)
+    → row_of rows v.0 ≡ None → WeightProgress rows top m c (v ∷ left) weight missing → WeightProgress rows top m c left weight missing
 WeightProgress-none rows top m c v left weight missing e h = record {
   capped = ap (λ (o : Option Row). min (weight_rows rows left (weight_row o v.1 weight)) (2 ^ 128 - 1)) (sym e) ∙ h.capped;
   missing-is =
@@ -61,7 +64,8 @@ WeightProgress-none rows top m c v left weight missing e h = record {
       omega (arith, at, h.missing-is);
 }
 
-pub WeightProgress-some : (rows : List Row) (top : ℕ) (m : Powers) (c : ℤ) (v : Var × ℕ) (left : Powers) (weight missing : ℕ) (r : Row) → row_of rows v.0 ≡ Some r → WeightProgress rows top m c (v ∷ left) weight missing
+pub WeightProgress-some : (rows : List Row) (top : ℕ) (m : Powers) (c : ℤ) (v : Var × ℕ) (left : Powers) (weight missing : ℕ) (r : Row)
+    → row_of rows v.0 ≡ Some r → WeightProgress rows top m c (v ∷ left) weight missing
     → WeightProgress rows top m c left (min (weight * min (r.num.weight ^ v.1) (2 ^ 128 - 1)) (2 ^ 128 - 1)) (missing - r.power * v.1)
 WeightProgress-some rows top m c v left weight missing r e h =
     let most = 2 ^ 128 - 1 in
@@ -74,9 +78,6 @@ WeightProgress-some rows top m c v left weight missing r e h =
           let at : power_in (row_of rows v.0) * v.1 ≡ r.power * v.1 = ap (λ (o : Option Row). power_in o * v.1) e in
           omega (arith, at, h.missing-is);
     }
-
-pub denominators-at : (rows : List Row) (v : Var × ℕ) (left : Powers) (r : Row) (o : Option Row) → row_of rows v.0 ≡ o → denominators rows (v ∷ left) ≡ power_in o * v.1 + denominators rows left
-denominators-at rows v left r o e = ap (λ (o : Option Row). power_in o * v.1 + denominators rows left) e
 
 -- the weight of the term, from that of its rows
 pub weight_end : (weight x d m : ℕ) → min weight m ≡ min x m → min (weight * min d m) m ≡ min (x * d) m
@@ -117,7 +118,8 @@ degree_none rows v left d x e h =
     same_degrees rows left (min (d + v.1) (2 ^ 128 - 1) + o) (d + degree_of (v ∷ others rows left)) (2 ^ 128 - 1) (omega (arith, more))
     ∙ ap (λ (q : Option Row). min (degree_rows rows left (degree_row q v.1 (d + degree_of (kept q v (others rows left))))) (2 ^ 128 - 1)) (sym e) ∙ h
 
-pub missing_some : (rows : List Row) (v : Var × ℕ) (left : Powers) (r : Row) (missing rest : ℕ) → row_of rows v.0 ≡ Some r → missing ≡ denominators rows (v ∷ left) + rest → missing - r.power * v.1 ≡ denominators rows left + rest
+pub missing_some : (rows : List Row) (v : Var × ℕ) (left : Powers) (r : Row) (missing rest : ℕ) → row_of rows v.0 ≡ Some r
+    → missing ≡ denominators rows (v ∷ left) + rest → missing - r.power * v.1 ≡ denominators rows left + rest
 missing_some rows v left r missing rest e h =
     let at : power_in (row_of rows v.0) * v.1 ≡ r.power * v.1 = ap (λ (o : Option Row). power_in o * v.1) e in
     omega (arith, at, h)

@@ -29,12 +29,6 @@ gave_back old mid new number adds updates = record {
   ];
 }
 
-pub AddsChain-same : (old mid new : Chains) (number : ℕ) → AddsChain old mid number → SameChains mid new → AddsChain old new number
-AddsChain-same old mid new number adds same = record { unused = adds.unused; others = λ n d. same.lists n ∙ adds.others n d }
-
-pub AddsChain-from : (old start new : Chains) (number : ℕ) → ((n : ℕ) → list_of start n ≡ list_of old n) → AddsChain start new number → AddsChain old new number
-AddsChain-from old start new number same adds = record { unused = sym (same number) ∙ adds.unused; others = λ n d. adds.others n d ∙ same n }
-
 pub AddsChain-updates : (old mid new : Chains) (number : ℕ) (list : Option Pairs) → AddsChain old mid number → Updates mid new number list → AddsChain old new number
 AddsChain-updates old mid new number list adds updates = record { unused = adds.unused; others = λ n d. updates.others n d ∙ adds.others n d }
 

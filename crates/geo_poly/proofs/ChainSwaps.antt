@@ -1,6 +1,6 @@
 -- Chains that are spent for others, and the lists that stand for pieces, where a store grows.
-use Rattle.std.proofs.Common.{◌≡◌, ℕ, zero, suc, ◌<◌, get_or, length, arith, inl, inr, Some, None, List, [], ◌∷◌, ◌++◌, refl, sym, ap, subst, ◌∙◌}
-use Rattle.std.specs.Prelude.{slice_get, Result, Ok, Err, IfOk, OnErr}
+use Rattle.std.proofs.Common.{◌≡◌, ℕ, zero, suc, ◌<◌, get_or, length, arith, inl, inr, None, List, [], ◌∷◌, ◌++◌, refl, sym, ap, subst, ◌∙◌}
+use Rattle.std.specs.Prelude.{Result, Ok, Err, IfOk, OnErr}
 use Rattle.mono_store.specs.Stores.{Keeps, Links}
 use Rattle.poly_arena.specs.Chains.{Chains, Updates, list_of}
 use Rattle.geo_poly.specs.declared.replacement.Row.{Row}
@@ -98,23 +98,6 @@ AreStored-push vars links [] [] row list h g = (g, tt)
 AreStored-push vars links [] (other ∷ lists) row list h g = absurd h
 AreStored-push vars links (other ∷ rows) [] row list h g = absurd h
 AreStored-push vars links (other ∷ rows) (first ∷ lists) row list h g = (h.0, AreStored-push vars links rows lists row list h.1 g)
-
-pub AreStored-at : (vars : List Var) (links : Links) (rows : List Row) (lists : List Indices) (i : ℕ) (row : Row) (list : Indices) → AreStored vars links rows lists
-    → slice_get rows i ≡ Some row → slice_get lists i ≡ Some list → IsStoredAs vars links list row.num.poly
-AreStored-at vars links [] lists zero row list h at there = absurd (cc)
-AreStored-at vars links [] lists (suc i) row list h at there = absurd (cc)
-AreStored-at vars links (other ∷ rows) [] i row list h at there = absurd h
-AreStored-at vars links (other ∷ rows) (first ∷ lists) zero row list h at there =
-    let same : other ≡ row = cc in
-    let same_list : first ≡ list = cc in
-    subst (λ (r : Row). IsStoredAs vars links list r.num.poly) same (subst (λ (l : Indices). IsStoredAs vars links l other.num.poly) same_list h.0)
-AreStored-at vars links (other ∷ rows) (first ∷ lists) (suc i) row list h at there = AreStored-at vars links rows lists i row list h.1 at there
-
-pub length-AreStored : (vars : List Var) (links : Links) (rows : List Row) (lists : List Indices) → AreStored vars links rows lists → length lists ≡ length rows
-length-AreStored vars links [] [] h = refl
-length-AreStored vars links [] (list ∷ lists) h = absurd h
-length-AreStored vars links (row ∷ rows) [] h = absurd h
-length-AreStored vars links (row ∷ rows) (list ∷ lists) h = omega (arith, length-AreStored vars links rows lists h.1)
 
 pub IsSet-kept : (setting : Setting) (old new : Links) → Keeps old new → IsSet setting old → IsSet setting new
 IsSet-kept setting old new kept h = record {

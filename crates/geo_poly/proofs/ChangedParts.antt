@@ -75,14 +75,21 @@ module _ (v : Var) (z : ℤ) (p : Summands) where
         (sym (specialised-lacking v z rest (record { in_order = IsCanonical-filter (lacks v) p order; monomials = AllKeys-filter IsMonomial (lacks v) p monomials }) (lacking_degree p)))
         ∙ sum_of-polynomial_of (map (specialised_term v z) rest) (map (specialised_term v z) changing)
         ∙ canonical_same term_cmp coefficients term_order coefficients_add (map (specialised_term v z) rest ++ map (specialised_term v z) changing) (map (specialised_term v z) p)
-        (λ k. amount-append term_cmp coefficients term_order coefficients_add k (map (specialised_term v z) rest) (map (specialised_term v z) changing) ∙ amount_split (lacks v) (specialised_term v z) k p)
+        (λ k. amount-append term_cmp coefficients term_order coefficients_add k (map (specialised_term v z) rest)
+        (map (specialised_term v z) changing) ∙ amount_split (lacks v) (specialised_term v z) k p)
 
   pub having_light : specialised_weight v z p < 2 ^ 127 → specialised_weight v z (filter (has v) p) < 2 ^ 127
   having_light h = omega (arith, h, sum_split (lacks v) (λ (t : Powers × ℤ). unsigned_abs t.1 * unsigned_abs z ^ exponent v t.0) p)
 
   pub both_fit : specialised_weight v z p < 2 ^ 127 → norm_of (filter (lacks v) p) + norm_of (specialised v z (filter (has v) p)) < 2 ^ 127
   both_fit h =
-      omega (arith, h, sum_split (lacks v) (λ (t : Powers × ℤ). unsigned_abs t.1 * unsigned_abs z ^ exponent v t.0) p, weight-lacking v z (filter (lacks v) p) (lacking_degree p), norm_of-specialised-le v z (filter (has v) p))
+      omega (
+        arith,
+        h,
+        sum_split (lacks v) (λ (t : Powers × ℤ). unsigned_abs t.1 * unsigned_abs z ^ exponent v t.0) p,
+        weight-lacking v z (filter (lacks v) p) (lacking_degree p),
+        norm_of-specialised-le v z (filter (has v) p),
+      )
 
 pub IsPolynomial-filter : (f : Powers × ℤ → Bool) (p : Summands) → IsPolynomial p → IsPolynomial (filter f p)
 IsPolynomial-filter f p h = record {
@@ -95,4 +102,6 @@ IsPolynomial-filter f p h = record {
 pub known-specialised : (vars : List Var) (v : Var) (z : ℤ) (p : Summands) → AllVariables (Contains vars) p → AllVariables (Contains vars) (specialised v z p)
 known-specialised vars v z p h =
     AllKeys-specialised (λ m. AllKeys (Contains vars) m) v z p
-    (AllKeys-weaker (λ m. AllKeys (Contains vars) m) (λ m. AllKeys (Contains vars) (without v m)) (λ m k. AllKeys-filter (Contains vars) (λ q. not (Rattle.std.specs.Ordering.is_eq (Rattle.geo_poly.specs.Variables.var_cmp v q.0))) m k) p h)
+    (AllKeys-weaker (λ m. AllKeys (Contains vars) m) (λ m. AllKeys (Contains vars) (without v m))
+    (λ m k. AllKeys-filter (Contains vars)
+    (λ q. not (Rattle.std.specs.Ordering.is_eq (Rattle.geo_poly.specs.Variables.var_cmp v q.0))) m k) p h)

@@ -1,5 +1,6 @@
 -- The greatest divisor of the coefficients, and the least exponents of known variables.
-use Rattle.std.proofs.Common.{◌≡◌, ℕ, zero, suc, ◌+◌, ◌<◌, ◌≤◌, min, eqb, Bool, true, false, cond, ◌⊎◌, inl, inr, ℤ, List, [], ◌∷◌, ◌++◌, take, length, get_or, refl, sym, ap, subst, ◌∙◌, append_assoc, unsigned_abs, All, Any, Contains, arith}
+use Rattle.std.proofs.Common.{◌≡◌, ℕ, zero, suc, ◌+◌, ◌<◌, ◌≤◌, min, eqb, Bool, true, false, cond, ◌⊎◌, inl, inr, ℤ, List, [], ◌∷◌, ◌++◌}
+use Rattle.std.proofs.Common.{take, length, get_or, refl, sym, ap, subst, ◌∙◌, append_assoc, unsigned_abs, All, Any, Contains, arith}
 use Rattle.std.specs.Int.{◌∣◌, IsGcd}
 use Rattle.std.specs.Ordering.{is_eq}
 use Rattle.std.specs.declared.cmp.Ordering.{Ordering}
@@ -30,7 +31,8 @@ All-last P (x ∷ xs) y h = All-last P xs y (All-tail P x (xs ++ y ∷ []) h)
 
 -- THE DIVISOR OF THE COEFFICIENTS
 -- one more coefficient
-pub more_divides : (p : Summands) (i : ℕ) (t : Powers × ℤ) (x a b g : ℕ) → i < length p → t ≡ get_or p i t → IsGcd a b g → a ≡ x → b ≡ unsigned_abs t.1 → DividesAll x (take i p) → DividesAll g (take (i + 1) p)
+pub more_divides : (p : Summands) (i : ℕ) (t : Powers × ℤ) (x a b g : ℕ) → i < length p → t ≡ get_or p i t → IsGcd a b g → a ≡ x
+    → b ≡ unsigned_abs t.1 → DividesAll x (take i p) → DividesAll g (take (i + 1) p)
 more_divides p i t x a b g h at gcd a-is b-is divides =
     let left : g ∣ x = subst (λ n. g ∣ n) a-is gcd.0 in
     let right : g ∣ unsigned_abs t.1 = subst (λ n. g ∣ n) b-is gcd.1 in
@@ -38,7 +40,8 @@ more_divides p i t x a b g h at gcd a-is b-is divides =
     (All-weaker (λ (t : Powers × ℤ). x ∣ unsigned_abs t.1) (λ (t : Powers × ℤ). g ∣ unsigned_abs t.1) (λ u d. dvd_trans g left d) (take i p) divides)
     (subst (λ (u : Powers × ℤ). g ∣ unsigned_abs u.1) at right)
 
-pub more_greatest : (p : Summands) (i : ℕ) (t : Powers × ℤ) (x a b g : ℕ) → i < length p → t ≡ get_or p i t → IsGcd a b g → a ≡ x → b ≡ unsigned_abs t.1 → ((d : ℕ) → DividesAll d (take i p) → d ∣ x) → (d : ℕ) → DividesAll d (take (i + 1) p) → d ∣ g
+pub more_greatest : (p : Summands) (i : ℕ) (t : Powers × ℤ) (x a b g : ℕ) → i < length p → t ≡ get_or p i t → IsGcd a b g → a ≡ x
+    → b ≡ unsigned_abs t.1 → ((d : ℕ) → DividesAll d (take i p) → d ∣ x) → (d : ℕ) → DividesAll d (take (i + 1) p) → d ∣ g
 more_greatest p i t x a b g h at gcd a-is b-is greatest d all =
     let P : Powers × ℤ → Type 0 = λ t. d ∣ unsigned_abs t.1 in
     let parts : All P (take i p ++ get_or p i t ∷ []) = subst (λ (q : Summands). DividesAll d q) (take_more p i t h) all in
@@ -48,14 +51,18 @@ more_greatest p i t x a b g h at gcd a-is b-is greatest d all =
 
 -- THE LEAST EXPONENT
 -- one more monomial
-pub more_at_most : (v : Var) (p : Summands) (i : ℕ) (t : Powers × ℤ) (least next : ℕ) → i < length p → t ≡ get_or p i t → next ≡ min least (exponent v t.0) → All (λ (u : Powers × ℤ). least ≤ exponent v u.0) (take i p) → All (λ (u : Powers × ℤ). next ≤ exponent v u.0) (take (i + 1) p)
+pub more_at_most : (v : Var) (p : Summands) (i : ℕ) (t : Powers × ℤ) (least next : ℕ) → i < length p → t ≡ get_or p i t
+    → next ≡ min least (exponent v t.0) → All (λ (u : Powers × ℤ). least ≤ exponent v u.0) (take i p)
+    → All (λ (u : Powers × ℤ). next ≤ exponent v u.0) (take (i + 1) p)
 more_at_most v p i t least next h at next-is all =
     let last : next ≤ exponent v t.0 = omega (arith, next-is) in
     All-more (λ (u : Powers × ℤ). next ≤ exponent v u.0) p i t h
     (All-weaker (λ (u : Powers × ℤ). least ≤ exponent v u.0) (λ (u : Powers × ℤ). next ≤ exponent v u.0) (λ u le. omega (arith, le, next-is)) (take i p) all)
     (subst (λ (u : Powers × ℤ). next ≤ exponent v u.0) at last)
 
-pub more_reached : (v : Var) (p : Summands) (i : ℕ) (t : Powers × ℤ) (least next : ℕ) → i < length p → t ≡ get_or p i t → next ≡ min least (exponent v t.0) → Any (λ (u : Powers × ℤ). exponent v u.0 ≡ least) p → Any (λ (u : Powers × ℤ). exponent v u.0 ≡ next) p
+pub more_reached : (v : Var) (p : Summands) (i : ℕ) (t : Powers × ℤ) (least next : ℕ) → i < length p → t ≡ get_or p i t
+    → next ≡ min least (exponent v t.0) → Any (λ (u : Powers × ℤ). exponent v u.0 ≡ least) p
+    → Any (λ (u : Powers × ℤ). exponent v u.0 ≡ next) p
 more_reached v p i t least next h at next-is any = elim (either least (exponent v t.0)) [
   | inl e ↦ subst (λ n. Any (λ (u : Powers × ℤ). exponent v u.0 ≡ n) p) (sym (next-is ∙ e)) any
   | inr e ↦ (i, t, h, sym at, sym (next-is ∙ e))
@@ -115,12 +122,14 @@ module _ (f : Var → ℕ) where
   exponent-reduced v (p ∷ m) h le =
       amount-put var_cmp exponents var_order exponents_add v p.0 (f p.0) (reduced m) ∙ go (var_cmp v p.0) refl (exponent-reduced v m h.2) le
     where
-      go : (o : Ordering) → var_cmp v p.0 ≡ o → (f v ≤ exponent v m → exponent v (reduced m) ≡ f v) → f v ≤ cond (is_eq o) p.1 0 + exponent v m → cond (is_eq o) (f p.0) 0 + exponent v (reduced m) ≡ f v
+      go : (o : Ordering) → var_cmp v p.0 ≡ o → (f v ≤ exponent v m → exponent v (reduced m) ≡ f v)
+          → f v ≤ cond (is_eq o) p.1 0 + exponent v m → cond (is_eq o) (f p.0) 0 + exponent v (reduced m) ≡ f v
       go Less e rest le = omega (arith, rest (omega (arith, le)))
       go Greater e rest le = omega (arith, rest (omega (arith, le)))
       go Equal e rest le =
           let same : v ≡ p.0 = var_order.exact v p.0 e in
-          let none : exponent v (reduced m) ≡ 0 = amount-before var_cmp exponents var_order exponents_add v (reduced m) (subst (λ (w : Var). IsBefore var_cmp w (reduced m)) (sym same) (IsBefore-reduced p.0 m h.1)) in
+          let none : exponent v (reduced m) ≡ 0 = amount-before var_cmp exponents var_order exponents_add v (reduced m)
+          (subst (λ (w : Var). IsBefore var_cmp w (reduced m)) (sym same) (IsBefore-reduced p.0 m h.1)) in
           let at : f p.0 ≡ f v = ap f (sym same) in
           omega (arith, none, at)
 
@@ -143,7 +152,8 @@ module _ (f : Var → ℕ) where
           absurd (omega (arith, none, some))
 
   -- the next variable
-  pub next_reduced : (m done : Powers) (p : Var × ℕ) (left : Powers) → IsMonomial m → IsAbove m → eqb (f p.0) 0 ≡ false → done ++ reduced (p ∷ left) ≡ reduced m → IsMonomial (done ++ (p.0, f p.0) ∷ [])
+  pub next_reduced : (m done : Powers) (p : Var × ℕ) (left : Powers) → IsMonomial m → IsAbove m → eqb (f p.0) 0 ≡ false
+      → done ++ reduced (p ∷ left) ≡ reduced m → IsMonomial (done ++ (p.0, f p.0) ∷ [])
   next_reduced m done p left h above e same =
       IsMonomial_front (done ++ (p.0, f p.0) ∷ []) (reduced left)
       (subst IsMonomial (sym same ∙ ap (λ x. done ++ x) (ap (λ (b : Bool). cond b (reduced left) ((p.0, f p.0) ∷ reduced left)) e) ∙ sym (append_assoc done ((p.0, f p.0) ∷ []) (reduced left)))
@@ -213,7 +223,9 @@ under_reached v e (t ∷ ts) = go (least_under v e ts) (either (exponent v t.0) 
     either : (a b : ℕ) → (min a b ≡ a) ⊎ (min a b ≡ b)
     either a b = grind (arith, nat_tests)
 
-    go : (n : ℕ) → (min (exponent v t.0) n ≡ exponent v t.0) ⊎ (min (exponent v t.0) n ≡ n) → (n ≡ e) ⊎ Any (λ (u : Powers × ℤ). exponent v u.0 ≡ n) ts → (min (exponent v t.0) n ≡ e) ⊎ Any (λ (u : Powers × ℤ). exponent v u.0 ≡ min (exponent v t.0) n) (t ∷ ts)
+    go : (n : ℕ) → (min (exponent v t.0) n ≡ exponent v t.0) ⊎ (min (exponent v t.0) n ≡ n) → (n ≡ e)
+        ⊎ Any (λ (u : Powers × ℤ). exponent v u.0 ≡ n) ts → (min (exponent v t.0) n ≡ e)
+        ⊎ Any (λ (u : Powers × ℤ). exponent v u.0 ≡ min (exponent v t.0) n) (t ∷ ts)
     go n (inl q) rest = inr (0, t, omega arith, refl, sym q)
     go n (inr q) (inl r) = inl (q ∙ r)
     go n (inr q) (inr any) = inr (subst (λ k. Any (λ (u : Powers × ℤ). exponent v u.0 ≡ k) (t ∷ ts)) (sym q) (Any-cons (λ (u : Powers × ℤ). exponent v u.0 ≡ n) t ts any))
@@ -267,12 +279,14 @@ pub found_exponent : (ks : List Var) (p : Summands) (v : Var) (e : ℕ) → 0 < 
 found_exponent ks p v e some h least = same_least v p e (least_of v p) least (IsLeastExponent-least_of v p some) ∙ sym (common_exponent-known ks p v h)
 
 -- what the reduced monomial is, known variable by known variable
-pub known_in_reduced : (ks : List Var) (p : Summands) (t : Powers × ℤ) (v : Var) → 0 < length p → t ≡ get_or p 0 t → IsMonomial t.0 → Contains ks v → IsLeastExponent v p (exponent v (reduced (common_exponent ks p) t.0))
+pub known_in_reduced : (ks : List Var) (p : Summands) (t : Powers × ℤ) (v : Var) → 0 < length p → t ≡ get_or p 0 t → IsMonomial t.0
+    → Contains ks v → IsLeastExponent v p (exponent v (reduced (common_exponent ks p) t.0))
 known_in_reduced ks p t v some at monomial h =
     subst (IsLeastExponent v p)
     (sym (exponent-reduced (common_exponent ks p) v t.0 monomial.in_order (common_exponent-le ks p t v some at) ∙ common_exponent-known ks p v h))
     (IsLeastExponent-least_of v p some)
 
-pub other_in_reduced : (ks : List Var) (p : Summands) (t : Powers × ℤ) (v : Var) → 0 < length p → t ≡ get_or p 0 t → IsMonomial t.0 → (Contains ks v → ⊥) → exponent v (reduced (common_exponent ks p) t.0) ≡ 0
+pub other_in_reduced : (ks : List Var) (p : Summands) (t : Powers × ℤ) (v : Var) → 0 < length p → t ≡ get_or p 0 t → IsMonomial t.0
+    → (Contains ks v → ⊥) → exponent v (reduced (common_exponent ks p) t.0) ≡ 0
 other_in_reduced ks p t v some at monomial n =
     exponent-reduced (common_exponent ks p) v t.0 monomial.in_order (common_exponent-le ks p t v some at) ∙ common_exponent-other ks p v n

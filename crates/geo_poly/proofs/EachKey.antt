@@ -1,5 +1,5 @@
 -- What holds of each monomial of a polynomial: it is kept by sums, opposites and differences, and products join it.
-use Rattle.std.proofs.Common.{ℤ, List, [], ◌∷◌, ◌++◌}
+use Rattle.std.proofs.Common.{ℤ, [], ◌∷◌, ◌++◌}
 use Rattle.sparse_lists.specs.SparseLists.{AllKeys}
 use Rattle.sparse_lists.proofs.Sums.{AllKeys-append, AllKeys-canonical}
 use Rattle.geo_poly.specs.Monomials.{Powers, product}

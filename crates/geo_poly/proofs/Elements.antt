@@ -1,9 +1,8 @@
 -- Lists of indices as elements of a ring.
-use Rattle.std.proofs.Common.{◌≡◌, List, refl, sym, subst, ◌∙◌, arith}
+use Rattle.std.proofs.Common.{◌≡◌, List, refl, sym, subst, ◌∙◌}
 use Rattle.std.specs.List.Sorted.{IsStrictlySortedBy}
 use Rattle.sparse_lists.specs.SparseLists.{AllKeys}
 use Rattle.mono_store.specs.Stores.{Links}
-use Rattle.mono_store.proofs.Interning.{Keeps_trans}
 use Rattle.geo_poly.specs.declared.variables.Var.{Var}
 use Rattle.geo_poly.specs.Polynomials.{IsPolynomial, Summands}
 use Rattle.geo_poly.specs.Rings.{Grows, IsElementFor, RingValue}
@@ -24,6 +23,3 @@ element_kept old new p element grows h =
     (indices-kept old.vars old.links new.links element grows.kept h.element_of.indices)
     (terms_of-kept old.vars old.links new.links element grows.kept h.element_of.indices ∙ h.polynomial)
     (subst IsPolynomial h.polynomial h.element_of.polynomial)
-
-pub grows_trans : (a b c : RingValue) → Grows a b → Grows b c → Grows a c
-grows_trans a b c h g = record { vars = g.vars ∙ h.vars; kept = Keeps_trans h.kept g.kept }

@@ -1,6 +1,7 @@
 -- Exact division of whole numbers, and of terms.
 use lib.IntN as IntN
-use Rattle.std.proofs.Common.{◌≡◌, ℕ, zero, suc, ◌+◌, ◌*◌, ◌/◌, ◌^◌, ◌<◌, ◌≤◌, inl, inr, ℤ, pos, negsuc, ◌+ℤ◌, ◌*ℤ◌, neg_ℤ, [], ◌∷◌, ◌++◌, take, length, get_or, refl, sym, ap, ap₂, subst, ◌∙◌, unsigned_abs, FitsSigned, to_z, of_z, arith}
+use Rattle.std.proofs.Common.{◌≡◌, ℕ, zero, suc, ◌+◌, ◌*◌, ◌/◌, ◌^◌, ◌<◌, ◌≤◌, inl, inr, ℤ, pos, negsuc, ◌+ℤ◌, ◌*ℤ◌, neg_ℤ, [], ◌∷◌, ◌++◌}
+use Rattle.std.proofs.Common.{take, length, get_or, refl, sym, ap, ap₂, subst, ◌∙◌, unsigned_abs, FitsSigned, to_z, of_z, arith}
 use Rattle.std.specs.Int.{w128}
 use Rattle.std.specs.Int.RustNames.{int_div, int_rem}
 use Rattle.std.proofs.Math.Nat.{div-le_self, mul-le-mul_left}
@@ -63,16 +64,19 @@ no_remainder c d q n e = go (unsigned_abs (q +ℤ neg_ℤ (int_div c d))) refl
         no_size (int_rem c d) (small (unsigned_abs d) (unsigned_abs (int_rem c d)) k size (rem_below c d positive))
 
 -- A TERM OF A LIST OF MULTIPLES IS A MULTIPLE
-multiple_in : {P : Type 0} (k : Powers × ℤ) (q : Summands) (i : ℕ) (t : Powers × ℤ) → i < length (multiples k q) → t ≡ get_or (multiples k q) i t → ((u : Powers × ℤ) → t ≡ (product k.0 u.0, k.1 *ℤ u.1) → P) → P
+multiple_in : {P : Type 0} (k : Powers × ℤ) (q : Summands) (i : ℕ) (t : Powers × ℤ) → i < length (multiples k q)
+    → t ≡ get_or (multiples k q) i t → ((u : Powers × ℤ) → t ≡ (product k.0 u.0, k.1 *ℤ u.1) → P) → P
 multiple_in k [] i t h e f = absurd (omega arith)
 multiple_in k (u ∷ us) zero t h e f = f u e
 multiple_in k (u ∷ us) (suc i) t h e f = multiple_in k us i t (omega arith) e f
 
-pub multiple_at : {P : Type 0} (k : Powers × ℤ) (q p : Summands) (i : ℕ) (t : Powers × ℤ) → multiples k q ≡ p → i < length p → t ≡ get_or p i t → ((u : Powers × ℤ) → t ≡ (product k.0 u.0, k.1 *ℤ u.1) → P) → P
+pub multiple_at : {P : Type 0} (k : Powers × ℤ) (q p : Summands) (i : ℕ) (t : Powers × ℤ) → multiples k q ≡ p → i < length p
+    → t ≡ get_or p i t → ((u : Powers × ℤ) → t ≡ (product k.0 u.0, k.1 *ℤ u.1) → P) → P
 multiple_at k q p i t e h at f =
     multiple_in k q i t (subst (λ (x : Summands). i < length x) (sym e) h) (at ∙ ap (λ (x : Summands). get_or x i t) (sym e)) f
 
-pub multiples_push : (k : Powers × ℤ) (q p : Summands) (i : ℕ) (t u : Powers × ℤ) → multiples k q ≡ take i p → i < length p → t ≡ get_or p i t → product k.0 u.0 ≡ t.0 → k.1 *ℤ u.1 ≡ t.1 → multiples k (q ++ u ∷ []) ≡ take (i + 1) p
+pub multiples_push : (k : Powers × ℤ) (q p : Summands) (i : ℕ) (t u : Powers × ℤ) → multiples k q ≡ take i p → i < length p
+    → t ≡ get_or p i t → product k.0 u.0 ≡ t.0 → k.1 *ℤ u.1 ≡ t.1 → multiples k (q ++ u ∷ []) ≡ take (i + 1) p
 multiples_push k q p i t u e h at m c =
     map-append (λ (u : Powers × ℤ). (product k.0 u.0, k.1 *ℤ u.1)) q (u ∷ [])
     ∙ ap₂ (λ (xs : Summands) (x : Powers × ℤ). xs ++ x ∷ []) e (ap₂ (λ (a : Powers) (b : ℤ). (a, b)) m c ∙ at)

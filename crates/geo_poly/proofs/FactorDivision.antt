@@ -1,5 +1,6 @@
 -- The factor of a polynomial is unique, and it divides the polynomial.
-use Rattle.std.proofs.Common.{◌≡◌, ℕ, suc, ◌*◌, ◌/◌, ◌%◌, ◌<◌, ◌≤◌, Bool, true, false, ℤ, pos, negsuc, neg_ℤ, ◌*ℤ◌, ◌<ℤ◌, List, [], ◌∷◌, ◌++◌, length, refl, sym, ap, ap₂, ◌∙◌, unsigned_abs, All, Contains, arith}
+use Rattle.std.proofs.Common.{◌≡◌, ℕ, suc, ◌*◌, ◌/◌, ◌%◌, ◌<◌, ◌≤◌, Bool, true, false, ℤ, pos, negsuc, neg_ℤ, ◌*ℤ◌, ◌<ℤ◌, List, [], ◌∷◌}
+use Rattle.std.proofs.Common.{◌++◌, length, refl, sym, ap, ap₂, ◌∙◌, unsigned_abs, All, Contains, arith}
 use Rattle.std.specs.Int.{◌∣◌}
 use Rattle.std.proofs.lemmas.Int.{ints}
 use Rattle.std.proofs.lemmas.Nat.Gcd.{dvd_antisymm, mod-eq-zero_of_dvd}
@@ -81,13 +82,16 @@ record Divided (f : Powers × ℤ) (p : Summands) : Type 0 where
   whole : multiples f rest ≡ p
   monomials : AllKeys IsMonomial rest
 
-divided : (f : Powers × ℤ) (p : Summands) → (unsigned_abs f.1 ≡ 0 → ⊥) → AllKeys IsMonomial p → DividesAll (unsigned_abs f.1) p → ((v : Var) → All (λ (t : Powers × ℤ). exponent v f.0 ≤ exponent v t.0) p) → Divided f p
+divided : (f : Powers × ℤ) (p : Summands) → (unsigned_abs f.1 ≡ 0 → ⊥) → AllKeys IsMonomial p → DividesAll (unsigned_abs f.1) p
+    → ((v : Var) → All (λ (t : Powers × ℤ). exponent v f.0 ≤ exponent v t.0) p) → Divided f p
 divided f [] n g all below = record { rest = []; whole = refl; monomials = tt }
 divided f (t ∷ ts) n g all below =
     let D : Powers × ℤ → Type 0 = λ t. unsigned_abs f.1 ∣ unsigned_abs t.1 in
     let tail : Divided f ts =
     divided f ts n g.1 (All-tail (λ (t : Powers × ℤ). unsigned_abs f.1 ∣ unsigned_abs t.1) t ts all) (λ v. All-tail (λ (t : Powers × ℤ). exponent v f.0 ≤ exponent v t.0) t ts (below v)) in
-    let number = exact_multiple f.1 t.1 (unsigned_abs t.1 / unsigned_abs f.1) (size_divided (unsigned_abs f.1) (unsigned_abs t.1) n (All-head (λ (t : Powers × ℤ). unsigned_abs f.1 ∣ unsigned_abs t.1) t ts all)) in
+    let number = exact_multiple f.1 t.1 (unsigned_abs t.1 / unsigned_abs f.1)
+    (size_divided (unsigned_abs f.1) (unsigned_abs t.1) n
+    (All-head (λ (t : Powers × ℤ). unsigned_abs f.1 ∣ unsigned_abs t.1) t ts all)) in
     let monomial = divided_monomial t.0 f.0 g.0 (λ v. All-head (λ (t : Powers × ℤ). exponent v f.0 ≤ exponent v t.0) t ts (below v)) in
     record {
       rest = (quotient t.0 f.0, number.0) ∷ tail.rest;

@@ -1,5 +1,6 @@
 -- Sums of polynomials over one store, entry by entry.
-use Rattle.std.proofs.Common.{◌≡◌, ℕ, zero, suc, ◌+◌, ◌^◌, ◌<◌, ◌≤◌, eqb, true, false, ℤ, pos, ◌+ℤ◌, ◌-ℤ◌, neg_ℤ, List, [], ◌∷◌, ◌++◌, drop, take, length, get_or, sym, ap, ap₂, subst, ◌∙◌, append_assoc, unsigned_abs, FitsSigned, to_z, of_z, arith}
+use Rattle.std.proofs.Common.{◌≡◌, ℕ, zero, suc, ◌+◌, ◌^◌, ◌<◌, ◌≤◌, eqb, true, false, ℤ, pos, ◌+ℤ◌, ◌-ℤ◌, neg_ℤ, List, [], ◌∷◌, ◌++◌, drop}
+use Rattle.std.proofs.Common.{take, length, get_or, sym, ap, ap₂, subst, ◌∙◌, append_assoc, unsigned_abs, FitsSigned, to_z, of_z, arith}
 use Rattle.std.specs.Int.{w128}
 use Rattle.std.specs.List.Sorted.{IsStrictlySortedBy}
 use Rattle.std.specs.declared.cmp.Ordering.{Ordering}
@@ -83,9 +84,12 @@ module _ (vars : List Var) (links : Links) (left right : Indices) (i j : ℕ) (i
   pub fitting : norm_of (terms_of vars links left) + norm_of (terms_of vars links right) < 2 ^ 127 → FitsSum (item left i).1 (item right j).1
   fitting fits = fits_at p q i j t u (list_within vars links left i i_in) (list_within vars links right j j_in) (list_is vars links left i i_in) (list_is vars links right j j_in) fits
 
-  module _ (rising : IsStrictlySortedBy var_cmp vars) (left_order : IsCanonical term_cmp coefficients (terms_of vars links left)) (right_order : IsCanonical term_cmp coefficients (terms_of vars links right))
+  module _ (rising : IsStrictlySortedBy var_cmp vars) (left_order : IsCanonical term_cmp coefficients (terms_of vars links left))
+      (right_order : IsCanonical term_cmp coefficients (terms_of vars links right))
       (list : Indices) (indices : AllKeys (IsIndex vars links) list)
-      (kept : terms_of vars links list ++ canonical term_cmp coefficients (drop i (terms_of vars links left) ++ drop j (terms_of vars links right)) ≡ sum_of (terms_of vars links left) (terms_of vars links right)) where
+      (kept : terms_of vars links list ++ canonical term_cmp coefficients
+      (drop i (terms_of vars links left) ++ drop j (terms_of vars links right)) ≡ sum_of (terms_of vars links left)
+      (terms_of vars links right)) where
     ordered : (o : Ordering) → numbered_cmp (monomial_of links (item right j).0) (monomial_of links (item left i).0) ≡ o → term_cmp t.0 u.0 ≡ o
     ordered o e = order_is vars links rising (item left i).0 (item right j).0 o (list_index vars links left i i_in left_indices) (list_index vars links right j j_in right_indices) e
 
@@ -93,7 +97,9 @@ module _ (vars : List Var) (links : Links) (left right : Indices) (i j : ℕ) (i
     abbrev pub Goes : Indices → ℕ → ℕ → Type 0
     Goes next k l =
         (AllKeys (IsIndex vars links) next)
-        × (terms_of vars links next ++ canonical term_cmp coefficients (drop k (terms_of vars links left) ++ drop l (terms_of vars links right)) ≡ sum_of (terms_of vars links left) (terms_of vars links right))
+        × (terms_of vars links next ++ canonical term_cmp coefficients
+        (drop k (terms_of vars links left) ++ drop l (terms_of vars links right)) ≡ sum_of (terms_of vars links left)
+        (terms_of vars links right))
 
     pub goes_less : numbered_cmp (monomial_of links (item right j).0) (monomial_of links (item left i).0) ≡ Less → Goes (list ++ item left i ∷ []) (i + 1) j
     goes_less e = (
@@ -132,11 +138,15 @@ module _ (vars : List Var) (links : Links) (left right : Indices) (i j : ℕ) (i
 -- what is left of both goes behind
 pub ends : (vars : List Var) (links : Links) (left right list : Indices) (i j : ℕ)
     → canonical term_cmp coefficients (drop i (terms_of vars links left) ++ drop j (terms_of vars links right)) ≡ drop i (terms_of vars links left) ++ drop j (terms_of vars links right)
-    → terms_of vars links list ++ canonical term_cmp coefficients (drop i (terms_of vars links left) ++ drop j (terms_of vars links right)) ≡ sum_of (terms_of vars links left) (terms_of vars links right)
+    → terms_of vars links list ++ canonical term_cmp coefficients
+    (drop i (terms_of vars links left) ++ drop j (terms_of vars links right)) ≡ sum_of (terms_of vars links left)
+    (terms_of vars links right)
     → terms_of vars links ((list ++ drop i left) ++ drop j right) ≡ sum_of (terms_of vars links left) (terms_of vars links right)
 ends vars links left right list i j rest kept =
     terms-append vars links (list ++ drop i left) (drop j right)
-    ∙ ap₂ (λ (xs ys : Summands). xs ++ ys) (terms-append vars links list (drop i left) ∙ ap (λ (ys : Summands). terms_of vars links list ++ ys) (terms-drop vars links i left)) (terms-drop vars links j right)
+    ∙ ap₂ (λ (xs ys : Summands). xs ++ ys)
+    (terms-append vars links list (drop i left) ∙ ap (λ (ys : Summands). terms_of vars links list ++ ys) (terms-drop vars links i left))
+    (terms-drop vars links j right)
     ∙ append_assoc (terms_of vars links list) (drop i (terms_of vars links left)) (drop j (terms_of vars links right))
     ∙ ap (λ (xs : Summands). terms_of vars links list ++ xs) (sym rest) ∙ kept
 
@@ -149,5 +159,6 @@ pub negated-more : (p : Summands) (i : ℕ) (t : Powers × ℤ) → i < length p
 negated-more p i t within is = ap negated (take_more p i t within is) ∙ map-append (λ (s : Powers × ℤ). (s.0, neg_ℤ s.1)) (take i p) (t ∷ [])
 
 -- a list in a store that has grown
-pub in_grown : (vars : List Var) (old new : Links) (list slice : Indices) (q : Summands) → slice ≡ list → Keeps old new → AllKeys (IsIndex vars old) list → terms_of vars old list ≡ q → terms_of vars new slice ≡ q
+pub in_grown : (vars : List Var) (old new : Links) (list slice : Indices) (q : Summands) → slice ≡ list → Keeps old new
+    → AllKeys (IsIndex vars old) list → terms_of vars old list ≡ q → terms_of vars new slice ≡ q
 in_grown vars old new list slice q e kept indices is = ap (terms_of vars new) e ∙ terms_of-kept vars old new list kept indices ∙ is

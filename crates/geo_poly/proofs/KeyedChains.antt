@@ -6,7 +6,6 @@ use Rattle.std.proofs.lemmas.List.{map-append}
 use Rattle.std.proofs.lemmas.List.Sums.{sum_by-cons}
 use Rattle.sparse_lists.specs.SparseLists.{AllKeys, IsBefore, IsCanonical, canonical}
 use Rattle.sparse_lists.proofs.Sums.{AllKeys-append, AllKeys-canonical}
-use Rattle.mono_store.specs.declared.links.MonoId.{MonoId}
 use Rattle.mono_store.specs.Stores.{Keeps, Links, count, monomial_of}
 use Rattle.poly_arena.specs.Chains.{Pairs}
 use Rattle.poly_arena.specs.Orders.{IsFalling, SumsFit, sum_of as chain_sum}
@@ -22,9 +21,6 @@ use Rattle.geo_poly.proofs.PolynomialLaws.{unsigned_abs-add-le}
 use Rattle.geo_poly.proofs.Told.{IsIndex-kept, powers_at-kept}
 
 module _ (vars : List Var) (rising : IsStrictlySortedBy var_cmp vars) (links : Links) where
-  id_of : ℕ → MonoId
-  id_of k = record { 0 = k }
-
   -- a key stands before others in a chain where its monomial does in the polynomial
   before-keys : (k : ℕ) (ts : Pairs) → IsKey vars links k → AllKeys (IsKey vars links) ts → IsBefore term_cmp (powers_at vars links (record { 0 = k })) (keyed_terms vars links ts)
       → IsBefore (flip_args (index_cmp links)) k ts

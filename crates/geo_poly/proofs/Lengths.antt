@@ -1,14 +1,12 @@
 -- How many monomials sums, differences, products, constants and replacements have.
-use Rattle.std.proofs.Common.{◌≡◌, ℕ, zero, suc, ◌+◌, ◌*◌, ◌^◌, ◌≤◌, max, Bool, true, false, cond, eqb, ℤ, neg_ℤ, ◌*ℤ◌, [], ◌∷◌, ◌++◌, refl, ap, unsigned_abs, length, sum_by, arith}
-use Rattle.std.proofs.Math.Nat.{mul-le-mul, mul-one, pow-suc, pow-zero}
+use Rattle.std.proofs.Common.{◌≡◌, ℕ, ◌+◌, ◌*◌, ◌≤◌, max, ℤ, neg_ℤ, ◌*ℤ◌, [], ◌∷◌, ◌++◌, refl, unsigned_abs, length, sum_by, arith}
 use Rattle.std.proofs.lemmas.Bool.Decides.{nat_tests}
 use Rattle.std.proofs.lemmas.List.{length-append, length-map}
 use Rattle.std.proofs.lemmas.List.Sums.{sum_by-cons}
 use Rattle.sparse_lists.specs.SparseLists.{IsCanonical}
 use Rattle.sparse_lists.proofs.Sums.{sum_by-canonical-le}
 use Rattle.geo_poly.specs.Monomials.{Powers, product}
-use Rattle.geo_poly.specs.Polynomials.{Summands, coefficients, IsPolynomial, constant_of, difference_of, multiples, negated, norm_of, polynomial_of, product_of, products, sum_of, term_cmp}
-use Rattle.geo_poly.specs.Replace.{times_power}
+use Rattle.geo_poly.specs.Polynomials.{Summands, coefficients, IsPolynomial, multiples, negated, norm_of, polynomial_of, product_of, products, sum_of, term_cmp}
 use Rattle.geo_poly.proofs.Orders.{term_order}
 use Rattle.geo_poly.proofs.PolynomialLaws.{coefficients_add}
 
@@ -27,9 +25,6 @@ length-sum_of-le p q = omega (arith, length-polynomial_of-le (p ++ q), length-ap
 pub length-negated : (p : Summands) → length (negated p) ≡ length p
 length-negated p = length-map {B = Powers × ℤ} p (λ (t : Powers × ℤ). (t.0, neg_ℤ t.1))
 
-pub length-difference_of-le : (p q : Summands) → length (difference_of p q) ≤ length p + length q
-length-difference_of-le p q = omega (arith, length-sum_of-le p (negated q), length-negated q)
-
 -- PRODUCTS
 pub length-multiples : (t : Powers × ℤ) (q : Summands) → length (multiples t q) ≡ length q
 length-multiples t q = length-map {B = Powers × ℤ} q (λ (u : Powers × ℤ). (product t.0 u.0, t.1 *ℤ u.1))
@@ -41,20 +36,7 @@ length-products (t ∷ ts) q = omega (arith, length-append (multiples t q) (prod
 pub length-product_of-le : (p q : Summands) → length (product_of p q) ≤ length p * length q
 length-product_of-le p q = omega (arith, length-polynomial_of-le (products p q), length-products p q)
 
--- p times q to the power n
-pub length-times_power-le : (p q : Summands) (k n : ℕ) → length q ≤ k → length (times_power p q n) ≤ length p * k ^ n
-length-times_power-le p q k zero h = rw (pow-zero k, mul-one (length p)) (omega arith)
-length-times_power-le p q k (suc n) h =
-    let before : length (times_power p q n) * length q ≤ length p * k ^ n * k = mul-le-mul (length-times_power-le p q k n h) h in
-    omega (arith, length-product_of-le (times_power p q n) q, before, ap (λ j. length p * j) (pow-suc k n))
-
 -- CONSTANTS AND NORMS
-pub length-constant_of-le : (z : ℤ) → length (constant_of z) ≤ 1
-length-constant_of-le z = go (eqb (unsigned_abs z) 0)
-  where
-    go : (b : Bool) → length {A = Powers × ℤ} (cond b [] (([], z) ∷ [])) ≤ 1
-    go true = omega arith
-    go false = omega arith
 
 -- each coefficient counts at least 1 in the norm
 pub length-le-norm_of : (p : Summands) → IsCanonical term_cmp coefficients p → length p ≤ norm_of p

@@ -48,8 +48,8 @@ pub mod Unions
 pub mod MergedVariables
 pub mod ChainSwaps
 pub mod ChainSums
-pub mod ReplacedHalves
 pub mod ZeroPut
+pub mod ZeroWalks
 pub mod Entries
 pub mod Moved
 pub mod Places
@@ -59,3 +59,10 @@ pub mod Dividing
 pub mod ZeroFactors
 pub mod TickBounds
 pub mod KnownVariables
+pub mod FactoredTerms
+pub mod NestedSums
+pub mod FactorPaths
+pub mod MultipliedIn
+pub mod PendingTerms
+pub mod JoinedParts
+pub mod TermPlaces

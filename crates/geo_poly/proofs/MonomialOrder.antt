@@ -74,7 +74,9 @@ IsEarlier-from_cmp [] (q ∷ n) h g e = absurd (let q : Less ≡ Greater = e in 
 IsEarlier-from_cmp (p ∷ m) [] h g e = earlier_nothing p m h
 IsEarlier-from_cmp (p ∷ m) (q ∷ n) h g e = go (var_cmp q.0 p.0) refl (nat_cmp p.1 q.1) refl e (IsEarlier-from_cmp m n h.2 g.2)
   where
-    go : (o : Ordering) → var_cmp q.0 p.0 ≡ o → (r : Ordering) → nat_cmp p.1 q.1 ≡ r → ordering_then (ordering_then o r) (monomial_cmp m n) ≡ Greater → (monomial_cmp m n ≡ Greater → IsEarlier m n) → IsEarlier (p ∷ m) (q ∷ n)
+    go : (o : Ordering) → var_cmp q.0 p.0 ≡ o → (r : Ordering) → nat_cmp p.1 q.1 ≡ r
+        → ordering_then (ordering_then o r) (monomial_cmp m n) ≡ Greater → (monomial_cmp m n ≡ Greater → IsEarlier m n)
+        → IsEarlier (p ∷ m) (q ∷ n)
     go Less a r b e rec = absurd (let q : Less ≡ Greater = e in cc)
     go Greater a r b e rec = first_before p q m n h g (var_order.flip_back q.0 p.0 a)
     go Equal a Less b e rec = absurd (let q : Less ≡ Greater = e in cc)

@@ -9,7 +9,7 @@ use Rattle.sparse_lists.proofs.Sums.{AllKeys-at}
 use Rattle.sparse_lists.proofs.NaturalAmounts.{natural_order}
 use Rattle.mono_store.specs.declared.links.MonoId.{MonoId}
 use Rattle.mono_store.specs.Monomials.{Powers as NumberedPowers, IsMonomial as IsNumberedMonomial, exponents as numbered_exponents}
-use Rattle.mono_store.specs.Stores.{IsStore, Keeps, Links, count, monomial_of}
+use Rattle.mono_store.specs.Stores.{IsStore, Links, count, monomial_of}
 use Rattle.mono_store.proofs.Numbers.{exponents_add as numbered_add}
 use Rattle.mono_store.proofs.Products.{IsPowerBefore}
 use Rattle.mono_store.proofs.Unfolding.{monomial_of-one}
@@ -17,12 +17,12 @@ use Rattle.geo_poly.specs.declared.shared.Shared.{Shared}
 use Rattle.geo_poly.specs.declared.variables.Var.{Var}
 use Rattle.geo_poly.specs.Monomials.{Powers, IsMonomial, exponents}
 use Rattle.geo_poly.specs.PolynomialVariables.{AllVariables}
-use Rattle.geo_poly.specs.Shared.{AllPlaces, AreParts, IsIndexOf, named, powers_at, told, told_powers, told_term, var_at}
+use Rattle.geo_poly.specs.Shared.{AllPlaces, AreParts, named, powers_at, told, told_powers, told_term, var_at}
 use Rattle.geo_poly.specs.Variables.{var_cmp}
 use Rattle.geo_poly.specs.Inner.Moved.{AreMoved, ArePlaces, IsMovedTo, IsPlaceOf, IsSame}
 use Rattle.geo_poly.proofs.Naming.{IsPowerBefore-named, canonical-rename, degree_of-named, var_at-keeps}
 use Rattle.geo_poly.proofs.Orders.{exponents_add, var_order}
-use Rattle.geo_poly.proofs.Told.{IsIndex-kept, index_at, item, powers_at-kept, told-is, told-within}
+use Rattle.geo_poly.proofs.Told.{index_at, item, told-is, told-within}
 
 -- what holds of each entry, and of one more
 pub each_push : {X : Type 0} (P : ℕ → X → Type 0) (xs : List X) (x d : X) → ((k : ℕ) → k < length xs → P k (get_or xs k d)) → P (length xs) x
@@ -65,19 +65,11 @@ module _ (p : Shared) (vars : List Var) (id next : MonoId) (var exp : ℕ) (unfo
   powers_are : told_powers p id ≡ (var_at p.vars.now var, exp) ∷ told_powers p next
   powers_are = ap (named p.vars.now) unfolds
 
-  next_index : IsIndexOf p id → IsIndexOf p next
-  next_index h = record { within = omega (arith, earlier, within); places = (subst (AllPlaces (length p.vars.now)) unfolds h.places).1 }
-
   pub no_place : (links : Links) (places : List (Option ℕ)) → ArePlaces p.vars.now vars places → get_or places var None ≡ None → IsMovedTo p vars links id None
   no_place links places h e = λ index known.
       let var_in : var < length p.vars.now = (subst (AllPlaces (length p.vars.now)) unfolds index.places).0 in
       let none : IsPlaceOf vars (var_at p.vars.now var) None = subst (IsPlaceOf vars (var_at p.vars.now var)) e (h.each var (omega (arith, var_in, h.whole))) in
       none (subst (AllKeys (Contains vars)) powers_are known).0
-
-  pub no_next : (links : Links) (table : List (Option MonoId)) → AreMoved p vars links table → next.0 < length table → get_or table next.0 None ≡ None → IsMovedTo p vars links id None
-  no_next links table h reached e = λ index known.
-      let none : IsMovedTo p vars links next None = subst (IsMovedTo p vars links next) e (h next.0 reached) in
-      none (next_index index) (subst (AllKeys (Contains vars)) powers_are known).1
 
   pub next_is : (links : Links) (table : List (Option MonoId)) (new : MonoId) → AreMoved p vars links table → next.0 < length table → get_or table next.0 None ≡ Some new → IsSame p vars links next new
   next_is links table new h reached e = subst (IsMovedTo p vars links next) e (h next.0 reached)
@@ -105,23 +97,6 @@ module _ (p : Shared) (vars : List Var) (id next : MonoId) (var exp : ℕ) (unfo
       new_index = record { within = there_in; places = subst (AllPlaces (length vars)) (sym is) (place_is.0, same.new_index.places) };
       powers = ap (named vars) is ∙ ap₂ (λ (v : Var) (rest : Powers). (v, exp) ∷ rest) place_is.1 same.powers ∙ sym powers_are;
     }
-
--- WHERE THE STORE GROWS
-pub IsMovedTo-kept : (p : Shared) (vars : List Var) (old new : Links) (id : MonoId) (o : Option MonoId) → Keeps old new → IsMovedTo p vars old id o → IsMovedTo p vars new id o
-IsMovedTo-kept p vars old new id None h is = is
-IsMovedTo-kept p vars old new id (Some there) h is = record {
-  old_index = is.old_index;
-  new_index = IsIndex-kept vars old new there h is.new_index;
-  powers = powers_at-kept vars old new there h is.new_index ∙ is.powers;
-}
-
-pub AreMoved-kept : (p : Shared) (vars : List Var) (old new : Links) (table : List (Option MonoId)) → Keeps old new → AreMoved p vars old table → AreMoved p vars new table
-AreMoved-kept p vars old new table h are = λ k within. IsMovedTo-kept p vars old new (record { 0 = k }) (get_or table k None) h (are k within)
-
-pub AreMoved-push : (p : Shared) (vars : List Var) (old new : Links) (table : List (Option MonoId)) (o : Option MonoId) (id : MonoId) → Keeps old new → AreMoved p vars old table
-    → id.0 ≡ length table → IsMovedTo p vars new id o → AreMoved p vars new (table ++ o ∷ [])
-AreMoved-push p vars old new table o id h are e is =
-    each_push (λ k x. IsMovedTo p vars new (record { 0 = k }) x) table o None (AreMoved-kept p vars old new table h are) (subst (λ (k : ℕ). IsMovedTo p vars new (record { 0 = k }) o) e is)
 
 -- what the table tells of a term
 module _ (p : Shared) (vars : List Var) (links : Links) (table : List (Option MonoId)) (i : ℕ) (within : i < length p.list.now) (parts : AreParts p)

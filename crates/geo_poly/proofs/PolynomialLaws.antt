@@ -1,5 +1,6 @@
 -- Sums of polynomials.
-use Rattle.std.proofs.Common.{◌≡◌, ℕ, ◌+◌, ◌^◌, ◌<◌, ◌≤◌, eqb, Bool, true, false, ℤ, pos, negsuc, ◌+ℤ◌, ◌++◌, refl, sym, ap, subst, ◌∙◌, unsigned_abs, length, get_or, FitsSigned, to_z, of_z, ap₂, arith}
+use Rattle.std.proofs.Common.{◌≡◌, ℕ, ◌+◌, ◌^◌, ◌<◌, ◌≤◌, eqb, Bool, true, false, ℤ, pos, negsuc, ◌+ℤ◌, ◌++◌, refl, sym, ap, subst, ◌∙◌}
+use Rattle.std.proofs.Common.{unsigned_abs, length, get_or, FitsSigned, to_z, of_z, ap₂, arith}
 use Rattle.std.proofs.lemmas.Int.{ints, to_z-of_z, fits_signed_from_abs}
 use Rattle.std.specs.Int.{w128}
 use Rattle.std.proofs.lemmas.Bool.Decides.{nat_tests}

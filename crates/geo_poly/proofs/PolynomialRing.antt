@@ -120,7 +120,7 @@ products-total : (p r : Summands) → total lists (λ t. multiples t r) p ≡ pr
 products-total [] r = refl
 products-total (t ∷ ts) r = ap (λ x. multiples t r ++ x) (products-total ts r)
 
-products-left : (p r : Summands) → Alike (products (polynomial_of p) r) (products p r)
+pub products-left : (p r : Summands) → Alike (products (polynomial_of p) r) (products p r)
 products-left p r =
     ap polynomial_of (sym (products-total (polynomial_of p) r))
     ∙ total-canonical lists term_cmp coefficients term_order coefficients_add (λ t. multiples t r) (multiples-add r) (multiples-zero r) p
@@ -168,7 +168,9 @@ unfolding IntN.one
 products-one [] h = refl
 products-one (t ∷ ts) h =
     ap₂ (λ (x : Powers × ℤ) (xs : Summands). x ∷ xs)
-    (ap₂ (λ (m : Powers) (z : ℤ). (m, z)) (ap (canonical var_cmp exponents) (append-nil t.0) ∙ canonical_self var_cmp exponents var_order exponents_add t.0 h.0) (IntN.*ℤ-one t.1)) (products-one ts h.1)
+    (ap₂ (λ (m : Powers) (z : ℤ). (m, z))
+    (ap (canonical var_cmp exponents) (append-nil t.0) ∙ canonical_self var_cmp exponents var_order exponents_add t.0 h.0)
+    (IntN.*ℤ-one t.1)) (products-one ts h.1)
 
 pub product_of-one : (p : Summands) → IsNormal p → product_of p one ≡ p
 product_of-one p h = ap polynomial_of (products-one p h.monomials) ∙ canonical_self term_cmp coefficients term_order coefficients_add p h.in_order

@@ -1,5 +1,7 @@
 -- Products of polynomials.
-use Rattle.std.proofs.Common.{◌≡◌, ℕ, zero, suc, ◌+◌, ◌*◌, ◌^◌, ◌<◌, ◌≤◌, max, eqb, Bool, true, false, ℤ, ◌*ℤ◌, [], ◌∷◌, ◌++◌, take, drop, refl, sym, ap, ap₂, subst, ◌∙◌, unsigned_abs, append_assoc, add-one, length, get_or, FitsSigned, to_z, of_z, mul-pos, arith}
+use Rattle.std.proofs.Common.{◌≡◌, ℕ, zero, suc, ◌+◌, ◌*◌, ◌^◌, ◌<◌, ◌≤◌, max, eqb, Bool, true, false, ℤ, ◌*ℤ◌, [], ◌∷◌, ◌++◌, take, drop}
+use Rattle.std.proofs.Common.{refl, sym, ap, ap₂, subst, ◌∙◌, unsigned_abs, append_assoc, add-one, length, get_or, FitsSigned, to_z, of_z}
+use Rattle.std.proofs.Common.{mul-pos, arith}
 use Rattle.std.specs.declared.cmp.Ordering.TheVariants.{Less, Greater}
 use Rattle.std.proofs.lemmas.Int.{unsigned_abs-mul, fits_signed_mul, to_z-of_z}
 use Rattle.std.specs.Int.{w128}
@@ -36,12 +38,25 @@ product_of-append p q r =
 pub norm_of-multiples : (t : Powers × ℤ) (q : Summands) → norm_of (multiples t q) ≡ unsigned_abs t.1 * norm_of q
 norm_of-multiples t [] = omega arith
 norm_of-multiples t (u ∷ us) =
-    omega (arith, sum_by-cons (λ (t : Powers × ℤ). unsigned_abs t.1) (product t.0 u.0, t.1 *ℤ u.1) (multiples t us), sum_by-cons (λ (t : Powers × ℤ). unsigned_abs t.1) u us, unsigned_abs-mul t.1 u.1, norm_of-multiples t us, ap (λ k. unsigned_abs t.1 * k) (sum_by-cons (λ (t : Powers × ℤ). unsigned_abs t.1) u us))
+    omega (
+      arith,
+      sum_by-cons (λ (t : Powers × ℤ). unsigned_abs t.1) (product t.0 u.0, t.1 *ℤ u.1) (multiples t us),
+      sum_by-cons (λ (t : Powers × ℤ). unsigned_abs t.1) u us,
+      unsigned_abs-mul t.1 u.1,
+      norm_of-multiples t us,
+      ap (λ k. unsigned_abs t.1 * k) (sum_by-cons (λ (t : Powers × ℤ). unsigned_abs t.1) u us),
+    )
 
 pub norm_of-products : (p q : Summands) → norm_of (products p q) ≡ norm_of p * norm_of q
 norm_of-products [] q = omega arith
 norm_of-products (t ∷ ts) q =
-    omega (arith, sum_by-append (λ (t : Powers × ℤ). unsigned_abs t.1) (multiples t q) (products ts q), norm_of-multiples t q, norm_of-products ts q, ap (λ k. k * norm_of q) (sum_by-cons (λ (t : Powers × ℤ). unsigned_abs t.1) t ts))
+    omega (
+      arith,
+      sum_by-append (λ (t : Powers × ℤ). unsigned_abs t.1) (multiples t q) (products ts q),
+      norm_of-multiples t q,
+      norm_of-products ts q,
+      ap (λ k. k * norm_of q) (sum_by-cons (λ (t : Powers × ℤ). unsigned_abs t.1) t ts),
+    )
 
 pub norm_of-product_of-le : (p q : Summands) → norm_of (product_of p q) ≤ norm_of p * norm_of q
 norm_of-product_of-le p q = omega (arith, norm_of-polynomial_of-le (products p q), norm_of-products p q)
@@ -96,7 +111,8 @@ nonzero_product a b h g = subst (λ n. eqb n 0 ≡ false) (sym (unsigned_abs-mul
             let none : m * n ≡ 0 = grind (arith, nat_tests) in
             absurd (omega arith)
 
-pub IsCanonical-multiples : (t : Powers × ℤ) (q : Summands) → eqb (unsigned_abs t.1) 0 ≡ false → AllKeys IsMonomial q → IsCanonical term_cmp coefficients q → IsCanonical term_cmp coefficients (multiples t q)
+pub IsCanonical-multiples : (t : Powers × ℤ) (q : Summands) → eqb (unsigned_abs t.1) 0 ≡ false → AllKeys IsMonomial q
+    → IsCanonical term_cmp coefficients q → IsCanonical term_cmp coefficients (multiples t q)
 IsCanonical-multiples t [] h g c = tt
 IsCanonical-multiples t (u ∷ us) h g c =
     (nonzero_product t.1 u.1 h c.0, IsBefore-multiples t u.0 us g.0 g.1 c.1, IsCanonical-multiples t us h g.1 c.2)
@@ -173,14 +189,6 @@ total_degree-more p i t h e = rw add-one (go p i h e)
     go [] i h e = absurd (omega arith)
     go (u ∷ us) zero h e = let same : degree_of t.0 ≡ degree_of u.0 = ap (λ (x : Powers × ℤ). degree_of x.0) e in omega (arith, same)
     go (u ∷ us) (suc i) h e = omega (arith, go us i (omega arith) e)
-
-pub multiples-more : (t : Powers × ℤ) (q : Summands) (i : ℕ) (u : Powers × ℤ) → i < length q → u ≡ get_or q i u → multiples t (take (i + 1) q) ≡ multiples t (take i q) ++ (product t.0 u.0, t.1 *ℤ u.1) ∷ []
-multiples-more t q i u h e = rw add-one (go q i h e)
-  where
-    go : (q : Summands) (i : ℕ) → i < length q → u ≡ get_or q i u → multiples t (take (suc i) q) ≡ multiples t (take i q) ++ (product t.0 u.0, t.1 *ℤ u.1) ∷ []
-    go [] i h e = absurd (omega arith)
-    go (v ∷ vs) zero h e = ap (λ (x : Powers × ℤ). (product t.0 x.0, t.1 *ℤ x.1) ∷ []) (sym e)
-    go (v ∷ vs) (suc i) h e = ap (λ xs. (product t.0 v.0, t.1 *ℤ v.1) ∷ xs) (go vs i (omega arith) e)
 
 pub times_fits : (t : Powers × ℤ) (q : Summands) (i : ℕ) (u : Powers × ℤ) → i < length q → u ≡ get_or q i u → unsigned_abs t.1 * norm_of q < 2 ^ 127 → FitsSigned w128 (t.1 *ℤ u.1)
 times_fits t q i u h e fits =

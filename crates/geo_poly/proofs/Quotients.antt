@@ -38,7 +38,8 @@ exponent-quotient v [] k h = omega arith
 exponent-quotient v (p ∷ m) k h =
     amount-put var_cmp exponents var_order exponents_add v p.0 (p.1 - exponent p.0 k) (quotient m k) ∙ go (var_cmp v p.0) refl (exponent-quotient v m k h.2)
   where
-    go : (o : Ordering) → var_cmp v p.0 ≡ o → exponent v (quotient m k) ≡ exponent v m - exponent v k → cond (is_eq o) (p.1 - exponent p.0 k) 0 + exponent v (quotient m k) ≡ cond (is_eq o) p.1 0 + exponent v m - exponent v k
+    go : (o : Ordering) → var_cmp v p.0 ≡ o → exponent v (quotient m k) ≡ exponent v m - exponent v k
+        → cond (is_eq o) (p.1 - exponent p.0 k) 0 + exponent v (quotient m k) ≡ cond (is_eq o) p.1 0 + exponent v m - exponent v k
     go Less e rest = omega (arith, rest)
     go Greater e rest = omega (arith, rest)
     go Equal e rest =
@@ -75,8 +76,11 @@ no_multiple m k h n q e = n (quotient_is m k q h e)
 pub no_multiple_by_degree : (m k : Powers) → IsMonomial m → (degree_of k + degree_of (quotient m k) ≡ degree_of m → ⊥) → IsNoMultiple k m
 no_multiple_by_degree m k h n = no_multiple m k h (λ e. n (sym (degree_of-product k (quotient m k)) ∙ ap degree_of e))
 
-pub next_power : (m k done : Powers) (p : Var × ℕ) (left : Powers) → IsMonomial m → eqb (p.1 - exponent p.0 k) 0 ≡ false → done ++ quotient (p ∷ left) k ≡ quotient m k → IsMonomial (done ++ (p.0, p.1 - exponent p.0 k) ∷ [])
+pub next_power : (m k done : Powers) (p : Var × ℕ) (left : Powers) → IsMonomial m → eqb (p.1 - exponent p.0 k) 0 ≡ false
+    → done ++ quotient (p ∷ left) k ≡ quotient m k → IsMonomial (done ++ (p.0, p.1 - exponent p.0 k) ∷ [])
 next_power m k done p left h e same =
     IsMonomial_front (done ++ (p.0, p.1 - exponent p.0 k) ∷ []) (quotient left k)
-    (subst IsMonomial (sym same ∙ ap (λ x. done ++ x) (ap (λ (b : Bool). cond b (quotient left k) ((p.0, p.1 - exponent p.0 k) ∷ quotient left k)) e) ∙ sym (append_assoc done ((p.0, p.1 - exponent p.0 k) ∷ []) (quotient left k)))
+    (subst IsMonomial (sym same ∙ ap (λ x. done ++ x)
+    (ap (λ (b : Bool). cond b (quotient left k) ((p.0, p.1 - exponent p.0 k) ∷ quotient left k)) e)
+    ∙ sym (append_assoc done ((p.0, p.1 - exponent p.0 k) ∷ []) (quotient left k)))
     (IsMonomial-quotient m k h))

@@ -1,24 +1,24 @@
 -- The norm, the degree and the order of what a replacement makes.
-use Rattle.std.proofs.Common.{ℕ, zero, suc, ◌+◌, ◌*◌, ◌^◌, ◌<◌, ◌≤◌, [], ◌∷◌, ap, arith}
-use Rattle.std.proofs.Math.Nat.{pow-suc, pow-zero, mul-le-mul, mul-le-mul_left, mul-one, pow-le-pow_right}
-use Rattle.sparse_lists.specs.SparseLists.{AllKeys, IsCanonical}
+use Rattle.std.proofs.Common.{ℕ, zero, suc, ◌+◌, ◌*◌, ◌^◌, ◌≤◌, [], ◌∷◌, ap, arith}
+use Rattle.std.proofs.Math.Nat.{pow-suc, pow-zero, mul-le-mul, mul-one}
+use Rattle.sparse_lists.specs.SparseLists.{AllKeys}
 use Rattle.geo_poly.specs.Monomials.{Powers, IsMonomial, degree_of}
-use Rattle.geo_poly.specs.Polynomials.{Summands, coefficients, term_cmp, norm_of, total_degree, multiples, products, product_of, CanMultiply}
+use Rattle.geo_poly.specs.Polynomials.{Summands, coefficients, term_cmp, norm_of, total_degree, multiples, products, product_of}
 use Rattle.geo_poly.specs.Replace.{times_power}
 use Rattle.sparse_lists.proofs.Sums.{AllKeys-canonical, AllKeys-append}
 use Rattle.geo_poly.proofs.MonomialLaws.{degree_of-product}
-use Rattle.geo_poly.proofs.ProductLaws.{norm_of-product_of-le, monomials_of_products, IsCanonical-product_of}
+use Rattle.geo_poly.proofs.ProductLaws.{norm_of-product_of-le, monomials_of_products}
 
 -- the degree is at most d where that of each monomial is
-UpTo : ℕ → Powers → Type 0
+pub UpTo : ℕ → Powers → Type 0
 UpTo d m = degree_of m ≤ d
 
-up_to : (p : Summands) (d : ℕ) → total_degree p ≤ d → AllKeys (UpTo d) p
+pub up_to : (p : Summands) (d : ℕ) → total_degree p ≤ d → AllKeys (UpTo d) p
 unfolding UpTo
 up_to [] d h = tt
 up_to (t ∷ ts) d h = (omega arith, up_to ts d (omega arith))
 
-from_up_to : (p : Summands) (d : ℕ) → AllKeys (UpTo d) p → total_degree p ≤ d
+pub from_up_to : (p : Summands) (d : ℕ) → AllKeys (UpTo d) p → total_degree p ≤ d
 unfolding UpTo
 from_up_to [] d h = omega arith
 from_up_to (t ∷ ts) d h = omega (arith, h.0, from_up_to ts d h.1)
@@ -48,29 +48,8 @@ total_degree-times_power-le p q g zero h = omega arith
 total_degree-times_power-le p q g (suc n) h =
     omega (arith, total_degree-product_of-le (times_power p q n) q, total_degree-times_power-le p q g n h)
 
-pub IsCanonical-times_power : (p q : Summands) (n : ℕ) → IsCanonical term_cmp coefficients p → IsCanonical term_cmp coefficients (times_power p q n)
-IsCanonical-times_power p q zero h = h
-IsCanonical-times_power p q (suc n) h = IsCanonical-product_of (times_power p q n) q
-
 pub monomials_of_times_power : (p q : Summands) (g n : ℕ) → AllKeys IsMonomial p → total_degree q ≤ g → total_degree p + g * n ≤ 65535 → AllKeys IsMonomial (times_power p q n)
 monomials_of_times_power p q g zero m h fits = m
 monomials_of_times_power p q g (suc n) m h fits =
     AllKeys-canonical term_cmp coefficients IsMonomial (products (times_power p q n) q)
     (monomials_of_products (times_power p q n) q (omega (arith, total_degree-times_power-le p q g n h)))
-
--- one more factor may be multiplied
-pub CanMultiply-times_power : (p q : Summands) (w g k n : ℕ) → IsCanonical term_cmp coefficients p → AllKeys IsMonomial p → IsCanonical term_cmp coefficients q → AllKeys IsMonomial q
-    → norm_of q ≤ w → total_degree q ≤ g → 1 ≤ w → norm_of p * w ^ n < 2 ^ 127 → total_degree p + g * n ≤ 65535 → k < n → CanMultiply (times_power p q k) q
-CanMultiply-times_power p q w g k n p-order p-monomials q-order q-monomials norm degree positive norm_fits degree_fits more =
-    let powers : w ^ suc k ≤ w ^ n = pow-le-pow_right positive (let le : suc k ≤ n = omega arith in le) in
-    let degrees : g * suc k ≤ g * n = mul-le-mul_left g (let le : suc k ≤ n = omega arith in le) in
-    let whole : norm_of p * w ^ suc k ≤ norm_of p * w ^ n = mul-le-mul_left (norm_of p) powers in
-    let part : norm_of (times_power p q k) * norm_of q ≤ norm_of p * w ^ k * w = mul-le-mul (norm_of-times_power-le p q w k norm) norm in
-    record {
-      left_in_order = IsCanonical-times_power p q k p-order;
-      left_monomials = monomials_of_times_power p q g k p-monomials degree (omega arith);
-      right_in_order = q-order;
-      right_monomials = q-monomials;
-      norm_fits = omega (arith, part, whole, ap (λ j. norm_of p * j) (pow-suc w k));
-      degree_fits = omega (arith, total_degree-times_power-le p q g k degree);
-    }

@@ -1,7 +1,6 @@
 -- The parts of a replacement.
-use Rattle.std.proofs.Common.{◌≡◌, ℕ, ◌+◌, ◌*◌, ◌-◌, ◌^◌, ◌<◌, ◌≤◌, max, eqb, false, ℤ, Option, Some, None, List, [], ◌∷◌, ◌++◌, take, drop, refl, sym, ap, subst, ◌∙◌, append_assoc, unsigned_abs, arith}
+use Rattle.std.proofs.Common.{◌≡◌, ℕ, ◌+◌, ◌*◌, ◌-◌, ◌^◌, ◌≤◌, ℤ, Option, Some, None, List, [], ◌∷◌, ◌++◌, refl, sym, ap, ◌∙◌, append_assoc, unsigned_abs, arith}
 use Rattle.std.proofs.Math.Nat.{mul-le-mul_right}
-use Rattle.std.proofs.lemmas.List.{append-nil, take-append-drop}
 use Rattle.std.proofs.lemmas.List.Sums.{sum_by-cons, sum_by-append}
 use Rattle.geo_poly.specs.declared.variables.Var.{Var}
 use Rattle.geo_poly.specs.declared.replacement.Piece.{Piece}
@@ -10,13 +9,14 @@ use Rattle.geo_poly.specs.Variables.{var_cmp}
 use Rattle.sparse_lists.specs.SparseLists.{AllKeys, IsBefore, IsCanonical}
 use Rattle.geo_poly.specs.Monomials.{Powers, exponents, IsMonomial, degree_of}
 use Rattle.geo_poly.specs.Polynomials.{Summands, coefficients, term_cmp, norm_of, total_degree, IsPolynomial, polynomial_of, sum_of}
-use Rattle.geo_poly.specs.Replace.{IsBounded, AllBounded, row_of, denominators, most_denominators, kept, others, times_row, times_rows, replaced_term, replaced_terms, weight_row, weight_rows, term_weight, degree_row, degree_rows, term_degree, weight_of, degree_bound, CanReplace}
+use Rattle.geo_poly.specs.Replace.{IsBounded, AllBounded, row_of, denominators, kept, others, times_row, times_rows, replaced_term}
+use Rattle.geo_poly.specs.Replace.{replaced_terms, weight_row, weight_rows, term_weight, degree_row, degree_rows, term_degree, weight_of}
+use Rattle.geo_poly.specs.Replace.{degree_bound, CanReplace}
 use Rattle.geo_poly.proofs.Orders.{term_order}
-use Rattle.sparse_lists.proofs.Canonical.{IsCanonical-canonical, canonical_self, canonical-canonical_left, canonical_comm}
+use Rattle.sparse_lists.proofs.Canonical.{IsCanonical-canonical, canonical-canonical_left, canonical_comm}
 use Rattle.geo_poly.proofs.PolynomialLaws.{coefficients_add, norm_of-polynomial_of-le}
 use Rattle.sparse_lists.proofs.Sums.{AllKeys-canonical, AllKeys-append}
-use Rattle.geo_poly.proofs.ProductLaws as ProductLaws
-use Rattle.geo_poly.proofs.ReplaceBounds.{norm_of-times_power-le, IsCanonical-times_power, total_degree-times_power-le, monomials_of_times_power}
+use Rattle.geo_poly.proofs.ReplaceBounds.{norm_of-times_power-le, total_degree-times_power-le, monomials_of_times_power}
 use Rattle.geo_poly.proofs.ReplaceLoop.{bounded_row, weight_rows-mono, degree_rows-mono, degree_rows-grows}
 
 -- THE OTHER VARIABLES
@@ -67,17 +67,7 @@ IsMonomial_front m n h = record {
 pub others-none : (rows : List Row) (v : Var × ℕ) (m : Powers) → row_of rows v.0 ≡ None → others rows (v ∷ m) ≡ v ∷ others rows m
 others-none rows v m e = ap (λ (o : Option Row). kept o v (others rows m)) e
 
-pub others-some : (rows : List Row) (v : Var × ℕ) (m : Powers) (r : Row) → row_of rows v.0 ≡ Some r → others rows (v ∷ m) ≡ others rows m
-others-some rows v m r e = ap (λ (o : Option Row). kept o v (others rows m)) e
-
 -- ONE TERM
-IsCanonical-times_rows : (rows : List Row) (m : Powers) (p : Summands) → IsCanonical term_cmp coefficients p → IsCanonical term_cmp coefficients (times_rows rows m p)
-IsCanonical-times_rows rows [] p h = h
-IsCanonical-times_rows rows (v ∷ m) p h = IsCanonical-times_rows rows m (times_row (row_of rows v.0) v.1 p) (go (row_of rows v.0))
-  where
-    go : (o : Option Row) → IsCanonical term_cmp coefficients (times_row o v.1 p)
-    go None = h
-    go (Some r) = IsCanonical-times_power p r.num.poly v.1 h
 
 norm_of-times_rows-le : (rows : List Row) (m : Powers) (p : Summands) → AllBounded rows → norm_of (times_rows rows m p) ≤ weight_rows rows m (norm_of p)
 norm_of-times_rows-le rows [] p h = omega arith
@@ -102,20 +92,21 @@ norm_of-replaced_term-le rows den top t h b =
 pub norm_of-replaced_terms-le : (rows : List Row) (den : Piece) (top : ℕ) (p : Summands) → AllBounded rows → IsBounded den → norm_of (replaced_terms rows den.poly top p) ≤ weight_of rows den top p
 norm_of-replaced_terms-le rows den top [] h b = omega arith
 norm_of-replaced_terms-le rows den top (t ∷ ts) h b =
-    omega (arith, sum_by-append (λ (t : Powers × ℤ). unsigned_abs t.1) (replaced_term rows den.poly top t) (replaced_terms rows den.poly top ts), sum_by-cons (term_weight rows den top) t ts, norm_of-replaced_term-le rows den top t h b, norm_of-replaced_terms-le rows den top ts h b)
-
-pub replaced_of_one : (rows : List Row) (den : Summands) (top : ℕ) (t : Powers × ℤ) → eqb (unsigned_abs t.1) 0 ≡ false → replaced_term rows den top t ≡ polynomial_of (replaced_terms rows den top (t ∷ []))
-replaced_of_one rows den top t h =
-    sym (canonical_self term_cmp coefficients term_order coefficients_add (replaced_term rows den top t)
-    (IsCanonical-times_power (times_rows rows t.0 ((others rows t.0, t.1) ∷ [])) den (top - denominators rows t.0)
-    (IsCanonical-times_rows rows t.0 ((others rows t.0, t.1) ∷ []) (h, tt, tt))))
-    ∙ ap polynomial_of (sym (append-nil (replaced_term rows den top t)))
+    omega (
+      arith,
+      sum_by-append (λ (t : Powers × ℤ). unsigned_abs t.1) (replaced_term rows den.poly top t)
+          (replaced_terms rows den.poly top ts),
+      sum_by-cons (term_weight rows den top) t ts,
+      norm_of-replaced_term-le rows den top t h b,
+      norm_of-replaced_terms-le rows den top ts h b,
+    )
 
 -- PARTS OF A LIST
-replaced_terms-append : (rows : List Row) (den : Summands) (top : ℕ) (p q : Summands) → replaced_terms rows den top (p ++ q) ≡ replaced_terms rows den top p ++ replaced_terms rows den top q
+pub replaced_terms-append : (rows : List Row) (den : Summands) (top : ℕ) (p q : Summands) → replaced_terms rows den top (p ++ q) ≡ replaced_terms rows den top p ++ replaced_terms rows den top q
 replaced_terms-append rows den top [] q = refl
 replaced_terms-append rows den top (t ∷ ts) q =
-    ap (λ x. replaced_term rows den top t ++ x) (replaced_terms-append rows den top ts q) ∙ sym (append_assoc (replaced_term rows den top t) (replaced_terms rows den top ts) (replaced_terms rows den top q))
+    ap (λ x. replaced_term rows den top t ++ x) (replaced_terms-append rows den top ts q)
+    ∙ sym (append_assoc (replaced_term rows den top t) (replaced_terms rows den top ts) (replaced_terms rows den top q))
 
 -- the sum of two canonical lists is the canonical list of both
 pub sum_of-polynomial_of : (p q : Summands) → sum_of (polynomial_of p) (polynomial_of q) ≡ polynomial_of (p ++ q)
@@ -125,82 +116,26 @@ sum_of-polynomial_of p q =
     ∙ canonical-canonical_left term_cmp coefficients term_order coefficients_add q p
     ∙ canonical_comm term_cmp coefficients term_order coefficients_add q p
 
-pub replaced_halves : (rows : List Row) (den : Summands) (top n : ℕ) (p : Summands)
-    → sum_of (polynomial_of (replaced_terms rows den top (take n p))) (polynomial_of (replaced_terms rows den top (drop n p))) ≡ polynomial_of (replaced_terms rows den top p)
-replaced_halves rows den top n p =
-    sum_of-polynomial_of (replaced_terms rows den top (take n p)) (replaced_terms rows den top (drop n p))
-    ∙ ap polynomial_of (sym (replaced_terms-append rows den top (take n p) (drop n p)) ∙ ap (replaced_terms rows den top) (take-append-drop n p))
-
 pub IsCanonical-polynomial_of : (p : Summands) → IsCanonical term_cmp coefficients (polynomial_of p)
 IsCanonical-polynomial_of p = IsCanonical-canonical term_cmp coefficients term_order coefficients_add p
-
-most_append : (rows : List Row) (p q : Summands) → most_denominators rows (p ++ q) ≡ max (most_denominators rows p) (most_denominators rows q)
-most_append rows [] q = omega arith
-most_append rows (t ∷ ts) q = omega (arith, most_append rows ts q)
-
-degree_append : (rows : List Row) (den : Piece) (top : ℕ) (p q : Summands) → degree_bound rows den top (p ++ q) ≡ max (degree_bound rows den top p) (degree_bound rows den top q)
-degree_append rows den top [] q = omega arith
-degree_append rows den top (t ∷ ts) q = omega (arith, degree_append rows den top ts q)
-
-CanReplace-front : (rows : List Row) (den : Piece) (top : ℕ) (p q : Summands) → CanReplace rows den top (p ++ q) → CanReplace rows den top p
-CanReplace-front rows den top p q h = record {
-  rows_bounded = h.rows_bounded;
-  den_bounded = h.den_bounded;
-  in_order = ProductLaws.IsCanonical_front p q h.in_order;
-  monomials = ProductLaws.monomials_front p q h.monomials;
-  top_fits = omega (arith, most_append rows p q, h.top_fits);
-  weight_fits = omega (arith, sum_by-append (term_weight rows den top) p q, h.weight_fits);
-  degree_fits = omega (arith, degree_append rows den top p q, h.degree_fits);
-}
-
-CanReplace-back : (rows : List Row) (den : Piece) (top : ℕ) (p q : Summands) → CanReplace rows den top (p ++ q) → CanReplace rows den top q
-CanReplace-back rows den top p q h = record {
-  rows_bounded = h.rows_bounded;
-  den_bounded = h.den_bounded;
-  in_order = ProductLaws.IsCanonical_back p q h.in_order;
-  monomials = ProductLaws.monomials_back p q h.monomials;
-  top_fits = omega (arith, most_append rows p q, h.top_fits);
-  weight_fits = omega (arith, sum_by-append (term_weight rows den top) p q, h.weight_fits);
-  degree_fits = omega (arith, degree_append rows den top p q, h.degree_fits);
-}
-
-pub CanReplace-take : (rows : List Row) (den : Piece) (top n : ℕ) (p : Summands) → CanReplace rows den top p → CanReplace rows den top (take n p)
-CanReplace-take rows den top n p h = CanReplace-front rows den top (take n p) (drop n p) (subst (CanReplace rows den top) (sym (take-append-drop n p)) h)
-
-pub CanReplace-drop : (rows : List Row) (den : Piece) (top n : ℕ) (p : Summands) → CanReplace rows den top p → CanReplace rows den top (drop n p)
-CanReplace-drop rows den top n p h = CanReplace-back rows den top (take n p) (drop n p) (subst (CanReplace rows den top) (sym (take-append-drop n p)) h)
-
-pub replaced_halves_fit : (rows : List Row) (den : Piece) (top n : ℕ) (p : Summands) → CanReplace rows den top p
-    → norm_of (polynomial_of (replaced_terms rows den.poly top (take n p))) + norm_of (polynomial_of (replaced_terms rows den.poly top (drop n p))) < 2 ^ 127
-replaced_halves_fit rows den top n p h =
-    let whole : weight_of rows den top (take n p) + weight_of rows den top (drop n p) ≡ weight_of rows den top p = sym (sum_by-append (term_weight rows den top) (take n p) (drop n p)) ∙ ap (weight_of rows den top) (take-append-drop n p) in
-    omega (
-      arith,
-      whole,
-      h.weight_fits,
-      norm_of-polynomial_of-le (replaced_terms rows den.poly top (take n p)),
-      norm_of-replaced_terms-le rows den top (take n p) h.rows_bounded h.den_bounded,
-      norm_of-polynomial_of-le (replaced_terms rows den.poly top (drop n p)),
-      norm_of-replaced_terms-le rows den top (drop n p) h.rows_bounded h.den_bounded,
-    )
-
--- a next other variable is a prefix of them all
-pub next_other : (rows : List Row) (m kept_part : Powers) (v : Var × ℕ) (left : Powers) → IsMonomial m → row_of rows v.0 ≡ None → kept_part ++ others rows (v ∷ left) ≡ others rows m → IsMonomial (kept_part ++ v ∷ [])
-next_other rows m kept_part v left h e same =
-    IsMonomial_front (kept_part ++ v ∷ []) (others rows left)
-    (subst IsMonomial (sym same ∙ ap (λ x. kept_part ++ x) (others-none rows v left e) ∙ sym (append_assoc kept_part (v ∷ []) (others rows left))) (IsMonomial-others rows m h))
 
 -- EACH MONOMIAL IS ONE
 total_degree-times_rows-le : (rows : List Row) (m : Powers) (p : Summands) → AllBounded rows → total_degree (times_rows rows m p) ≤ degree_rows rows m (total_degree p)
 total_degree-times_rows-le rows [] p h = omega arith
 total_degree-times_rows-le rows (v ∷ m) p h =
-    omega (arith, total_degree-times_rows-le rows m (times_row (row_of rows v.0) v.1 p) h, degree_rows-mono rows m (total_degree (times_row (row_of rows v.0) v.1 p)) (degree_row (row_of rows v.0) v.1 (total_degree p)) (go (row_of rows v.0) refl))
+    omega (
+      arith,
+      total_degree-times_rows-le rows m (times_row (row_of rows v.0) v.1 p) h,
+      degree_rows-mono rows m (total_degree (times_row (row_of rows v.0) v.1 p)) (degree_row (row_of rows v.0) v.1 (total_degree p))
+          (go (row_of rows v.0) refl),
+    )
   where
     go : (o : Option Row) → row_of rows v.0 ≡ o → total_degree (times_row o v.1 p) ≤ degree_row o v.1 (total_degree p)
     go None e = omega arith
     go (Some r) e = total_degree-times_power-le p r.num.poly r.num.degree v.1 (bounded_row rows v.0 r h e).degree
 
-monomials_of_times_rows : (rows : List Row) (m : Powers) (p : Summands) → AllBounded rows → AllKeys IsMonomial p → degree_rows rows m (total_degree p) ≤ 65535 → AllKeys IsMonomial (times_rows rows m p)
+monomials_of_times_rows : (rows : List Row) (m : Powers) (p : Summands) → AllBounded rows → AllKeys IsMonomial p
+    → degree_rows rows m (total_degree p) ≤ 65535 → AllKeys IsMonomial (times_rows rows m p)
 monomials_of_times_rows rows [] p h g fits = g
 monomials_of_times_rows rows (v ∷ m) p h g fits =
     monomials_of_times_rows rows m (times_row (row_of rows v.0) v.1 p) h
@@ -215,7 +150,8 @@ monomials_of_times_rows rows (v ∷ m) p h g fits =
     ones None e f = g
     ones (Some r) e f = monomials_of_times_power p r.num.poly r.num.degree v.1 g (bounded_row rows v.0 r h e).degree f
 
-monomials_of_replaced_term : (rows : List Row) (den : Piece) (top : ℕ) (t : Powers × ℤ) → AllBounded rows → IsBounded den → IsMonomial t.0 → term_degree rows den top t ≤ 65535 → AllKeys IsMonomial (replaced_term rows den.poly top t)
+monomials_of_replaced_term : (rows : List Row) (den : Piece) (top : ℕ) (t : Powers × ℤ) → AllBounded rows → IsBounded den → IsMonomial t.0
+    → term_degree rows den top t ≤ 65535 → AllKeys IsMonomial (replaced_term rows den.poly top t)
 monomials_of_replaced_term rows den top t h b g fits =
     let one : total_degree ((others rows t.0, t.1) ∷ []) ≡ degree_of (others rows t.0) = omega arith in
     let rowed = total_degree-times_rows-le rows t.0 ((others rows t.0, t.1) ∷ []) h in
@@ -224,7 +160,8 @@ monomials_of_replaced_term rows den top t h b g fits =
     (monomials_of_times_rows rows t.0 ((others rows t.0, t.1) ∷ []) h (IsMonomial-others rows t.0 g, tt) (omega (arith, same, fits)))
     b.degree (omega (arith, rowed, same, fits))
 
-monomials_of_replaced_terms : (rows : List Row) (den : Piece) (top : ℕ) (p : Summands) → AllBounded rows → IsBounded den → AllKeys IsMonomial p → degree_bound rows den top p ≤ 65535 → AllKeys IsMonomial (replaced_terms rows den.poly top p)
+monomials_of_replaced_terms : (rows : List Row) (den : Piece) (top : ℕ) (p : Summands) → AllBounded rows → IsBounded den
+    → AllKeys IsMonomial p → degree_bound rows den top p ≤ 65535 → AllKeys IsMonomial (replaced_terms rows den.poly top p)
 monomials_of_replaced_terms rows den top [] h b g fits = tt
 monomials_of_replaced_terms rows den top (t ∷ ts) h b g fits =
     AllKeys-append IsMonomial (replaced_term rows den.poly top t) (replaced_terms rows den.poly top ts)
@@ -233,6 +170,7 @@ monomials_of_replaced_terms rows den top (t ∷ ts) h b g fits =
 pub IsPolynomial-replaced : (rows : List Row) (den : Piece) (top : ℕ) (p : Summands) → CanReplace rows den top p → IsPolynomial (polynomial_of (replaced_terms rows den.poly top p))
 IsPolynomial-replaced rows den top p h = record {
   in_order = IsCanonical-polynomial_of (replaced_terms rows den.poly top p);
-  monomials = AllKeys-canonical term_cmp coefficients IsMonomial (replaced_terms rows den.poly top p) (monomials_of_replaced_terms rows den top p h.rows_bounded h.den_bounded h.monomials h.degree_fits);
+  monomials = AllKeys-canonical term_cmp coefficients IsMonomial (replaced_terms rows den.poly top p)
+      (monomials_of_replaced_terms rows den top p h.rows_bounded h.den_bounded h.monomials h.degree_fits);
   norm_fits = omega (arith, h.weight_fits, norm_of-polynomial_of-le (replaced_terms rows den.poly top p), norm_of-replaced_terms-le rows den top p h.rows_bounded h.den_bounded);
 }

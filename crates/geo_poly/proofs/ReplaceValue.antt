@@ -60,7 +60,8 @@ module _ (R : Ring) (x : Var → R.carrier) where
     row_holds [] v h r e = absurd (let q : ◌≡◌ {A = Option Row} None (Some r) = e in cc)
     row_holds (s ∷ rows) v h r e = go (is_eq (var_cmp s.var v)) refl e (row_holds rows v h.1 r)
       where
-        go : (b : Bool) → is_eq (var_cmp s.var v) ≡ b → cond b (Some s) (row_of rows v) ≡ Some r → (row_of rows v ≡ Some r → x v * power R d r.power ≈ value R x r.num.poly) → x v * power R d r.power ≈ value R x r.num.poly
+        go : (b : Bool) → is_eq (var_cmp s.var v) ≡ b → cond b (Some s) (row_of rows v) ≡ Some r
+            → (row_of rows v ≡ Some r → x v * power R d r.power ≈ value R x r.num.poly) → x v * power R d r.power ≈ value R x r.num.poly
         go true b e rest =
             let which : s ≡ r = cc in
             subst (λ (r : Row). x v * power R d r.power ≈ value R x r.num.poly) which
@@ -128,7 +129,8 @@ module _ (R : Ring) (x : Var → R.carrier) where
         let n = numerators rows t.0 in
         let all : k +ₙ (top -ₙ k) ≡ top = omega (arith, le) in
         value-times_power (times_rows rows t.0 ((others rows t.0, t.1) ∷ [])) den (top -ₙ k)
-        ∘ times (value-times_rows rows t.0 ((others rows t.0, t.1) ∷ []) ∘ times (R.add-zero (i * o)) self ∘ R.mul_assoc i o n ∘ times self (value-others rows t.0 h)) (power-same R _ _ (top -ₙ k) den-is)
+        ∘ times (value-times_rows rows t.0 ((others rows t.0, t.1) ∷ []) ∘ times (R.add-zero (i * o)) self ∘ R.mul_assoc i o n
+        ∘ times self (value-others rows t.0 h)) (power-same R _ _ (top -ₙ k) den-is)
         ∘ agree R (entry_at R (i ∷ m ∷ power R d k ∷ power R d (top -ₙ k) ∷ [])) (a ⊠ (b ⊠ c) ⊠ e) (a ⊠ b ⊠ (c ⊠ e)) tt
         ∘ times self (flip (power-add R d k (top -ₙ k)) ∘ subst (λ j. power R d j ≈ power R d top) (sym all) self)
 

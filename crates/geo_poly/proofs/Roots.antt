@@ -1,5 +1,6 @@
 -- A polynomial that is not zero becomes zero at few numbers put for a variable.
-use Rattle.std.proofs.Common.{◌≡◌, ℕ, zero, suc, ◌+◌, ◌<◌, ◌≤◌, max, eqb, ltb, unsigned_abs, Bool, true, false, cond, ℤ, pos, ◌+ℤ◌, ◌*ℤ◌, neg_ℤ, List, [], ◌∷◌, length, map, get_or, refl, sym, ap, ap₂, subst, ◌∙◌, arith}
+use Rattle.std.proofs.Common.{◌≡◌, ℕ, zero, suc, ◌+◌, ◌<◌, ◌≤◌, max, eqb, ltb, unsigned_abs, Bool, true, false, cond, ℤ, pos, ◌+ℤ◌, ◌*ℤ◌}
+use Rattle.std.proofs.Common.{neg_ℤ, List, [], ◌∷◌, length, map, get_or, refl, sym, ap, ap₂, subst, ◌∙◌, arith}
 use Rattle.std.specs.Int.{int_pow}
 use Rattle.std.specs.Ordering.{is_eq}
 use Rattle.std.specs.declared.cmp.Ordering.{Ordering}
@@ -90,7 +91,8 @@ at_number-null : (cs : List ℤ) (z : ℤ) → AllNull cs → at_number cs z ≡
 at_number-null [] z h = refl
 at_number-null (c ∷ cs) z h =
     let x = variable 0 in let k = variable 1 in let r = variable 2 in
-    by_combination integers (entry_at integers (z ∷ c ∷ at_number cs z ∷ [])) (given (numeral 1) k (numeral 0) ∷ given x r (numeral 0) ∷ []) (k ⊞ x ⊠ r) (numeral 0) (h.0, (at_number-null cs z h.1, tt)) tt
+    by_combination integers (entry_at integers (z ∷ c ∷ at_number cs z ∷ [])) (given (numeral 1) k (numeral 0) ∷ given x r (numeral 0) ∷ [])
+    (k ⊞ x ⊠ r) (numeral 0) (h.0, (at_number-null cs z h.1, tt)) tt
 
 first_null : (a c v : ℤ) → v ≡ pos 0 → c +ℤ a *ℤ v ≡ pos 0 → c ≡ pos 0
 first_null a c v e h =
@@ -199,7 +201,8 @@ same_monomial v m n h g rest e = same_list var_cmp exponents var_order exponents
   where
     go : (w : Var) (o : Ordering) → var_cmp w v ≡ o → exponent w m ≡ exponent w n
     go w Less f = let n' : var_cmp w v ≡ Equal → ⊥ = λ q. let f' : Less ≡ Equal = sym f ∙ q in cc in sym (exponent-without_other v w m n') ∙ ap (exponent w) rest ∙ exponent-without_other v w n n'
-    go w Greater f = let n' : var_cmp w v ≡ Equal → ⊥ = λ q. let f' : Greater ≡ Equal = sym f ∙ q in cc in sym (exponent-without_other v w m n') ∙ ap (exponent w) rest ∙ exponent-without_other v w n n'
+    go w Greater f = let n' : var_cmp w v ≡ Equal → ⊥ = λ q. let f' : Greater ≡ Equal = sym f ∙ q in cc in
+        sym (exponent-without_other v w m n') ∙ ap (exponent w) rest ∙ exponent-without_other v w n n'
     go w Equal f = subst (λ (u : Var). exponent u m ≡ exponent u n) (sym (var_order.exact w v f)) e
 
 -- no later term has the same place

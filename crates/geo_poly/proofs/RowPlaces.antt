@@ -27,7 +27,8 @@ front_row rows n k d old new inside next update so_far v =
     go false = so_far v ∙ ap (λ (i : ℕ). row_of (drop i rows) v) next
 
 -- the row at a place is the first of a variable where none before it is
-pub first_at : (rows : List Row) (i : ℕ) (d : Row) (v : Var) → i < length rows → is_eq (var_cmp (get_or rows i d).var v) ≡ true → row_of (drop i rows) v ≡ row_of rows v → slice_get rows i ≡ row_of rows v
+pub first_at : (rows : List Row) (i : ℕ) (d : Row) (v : Var) → i < length rows → is_eq (var_cmp (get_or rows i d).var v) ≡ true
+    → row_of (drop i rows) v ≡ row_of rows v → slice_get rows i ≡ row_of rows v
 first_at rows i d v inside same so_far =
     slice_get-get_or rows i d inside
     ∙ sym (ap (λ (b : Bool). cond b (Some (get_or rows i d)) (row_of (drop (i + 1) rows) v)) same)

@@ -1,5 +1,6 @@
 -- The factor that is cut out: the divisor of the coefficients with a sign, and the common monomial.
-use Rattle.std.proofs.Common.{◌≡◌, ℕ, ◌<◌, ◌^◌, eqb, true, false, ◌⊎◌, inl, inr, ℤ, pos, neg_ℤ, ◌-ℤ◌, ◌<ℤ◌, List, [], ◌∷◌, length, get_or, refl, sym, ap, subst, ◌∙◌, unsigned_abs, FitsSigned, to_z, of_z, Contains, arith}
+use Rattle.std.proofs.Common.{◌≡◌, ℕ, ◌<◌, ◌^◌, eqb, true, false, ◌⊎◌, inl, inr, ℤ, pos, neg_ℤ, ◌-ℤ◌, ◌<ℤ◌, List, [], ◌∷◌, length, get_or}
+use Rattle.std.proofs.Common.{refl, sym, ap, subst, ◌∙◌, unsigned_abs, FitsSigned, to_z, of_z, Contains, arith}
 use Rattle.std.specs.Int.{w128, ◌∣◌}
 use Rattle.std.specs.Int.RustNames.{int_lt}
 use Rattle.std.proofs.Math.Nat.{eq-zero_of_zero-dvd}
@@ -46,7 +47,8 @@ signs c D z positive nonzero h = elim h.choice [
     not_negative : (D z : ℤ) → D ≡ pos (unsigned_abs D) → z ≡ D → z <ℤ pos 0 → ⊥
     not_negative D z positive e below = omega (arith, ints, positive, e, below)
 
-pub IsFactor-signed : (p : Summands) (m : Powers) (D z : ℤ) → IsPolynomial p → 0 < length p → DividesAll (unsigned_abs D) p → unsigned_abs D < 2 ^ 127 → IsSigned (leading_coefficient p) D z → IsMonomial m → IsFactor (m, z)
+pub IsFactor-signed : (p : Summands) (m : Powers) (D z : ℤ) → IsPolynomial p → 0 < length p → DividesAll (unsigned_abs D) p
+    → unsigned_abs D < 2 ^ 127 → IsSigned (leading_coefficient p) D z → IsMonomial m → IsFactor (m, z)
 IsFactor-signed p m D z h some divides fits signed monomial = record {
   monomial = monomial;
   nonzero = λ e. nonzero_divisor p (unsigned_abs D) h some divides (sym (size-signed (leading_coefficient p) D z signed) ∙ e);

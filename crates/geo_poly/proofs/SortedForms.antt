@@ -11,7 +11,9 @@ use Rattle.geo_points.specs.declared.ids.PointId.{PointId}
 use Rattle.geo_poly.specs.declared.canonical.Canon.{Canon}
 use Rattle.geo_poly.specs.declared.variables.Var.{Var}
 use Rattle.geo_poly.specs.declared.variables.Var.TheVariants.{R, S, P, X as Abscissa, Y as Ordinate, T as Parameter}
-use Rattle.geo_poly.specs.Canonical.{canonical_area, canonical_difference, canonical_ratio, higher, is_same_pair, lower, ordering_sign, pair_sign, permutation_sign, signed_variable, sorted_area, least_of_three, middle_of_three, greatest_of_three}
+use Rattle.geo_poly.specs.Canonical.{canonical_area, canonical_difference, canonical_ratio, higher, is_same_pair, lower, ordering_sign}
+use Rattle.geo_poly.specs.Canonical.{pair_sign, permutation_sign, signed_variable, sorted_area, least_of_three, middle_of_three}
+use Rattle.geo_poly.specs.Canonical.{greatest_of_three}
 use Rattle.geo_poly.specs.SortedVariables.{CanonicalFormsAreSorted, IsSorted, IsSortedForm, SortedVariablesAreCanonical}
 
 -- SIGNS
@@ -101,7 +103,8 @@ ratio_form a b c d = go (is_same_pair a b c d) refl
     small = small_product (pair_sign a b) (pair_sign c d) (small_sign (nat_cmp a.0 b.0)) (small_sign (nat_cmp c.0 d.0))
 
     go : (same : Bool) → is_same_pair a b c d ≡ same
-        → IsSortedForm (cond same (record { sign = pair_sign a b *ℤ pair_sign c d; var = None }) (signed_variable (pair_sign a b *ℤ pair_sign c d) (R (lower a b) (higher a b) (lower c d) (higher c d))))
+        → IsSortedForm (cond same (record { sign = pair_sign a b *ℤ pair_sign c d; var = None })
+        (signed_variable (pair_sign a b *ℤ pair_sign c d) (R (lower a b) (higher a b) (lower c d) (higher c d))))
     go true e = record { sign = small; variable = tt; nonzero = tt }
     go false e =
         form (pair_sign a b *ℤ pair_sign c d) (R (lower a b) (higher a b) (lower c d) (higher c d)) small

@@ -1,5 +1,7 @@
 -- Numbers put for variables: the order, the bounds, the exponents and the value of what becomes of a polynomial.
-use Rattle.std.proofs.Common.{◌≡◌, ℕ, zero, suc, ◌+◌ as ◌+ₙ◌, ◌*◌ as ◌*ₙ◌, ◌^◌, ◌<◌, ◌≤◌, max, not, cond, eqb, false, length, sum_by, get_or, ℤ, pos, ◌*ℤ◌, [], ◌∷◌, ◌++◌, map, take, drop, refl, sym, ap, ap₂, subst, ◌∙◌, unsigned_abs, FitsSigned, arith}
+use Rattle.std.proofs.Common.{◌≡◌, ℕ, zero, suc, ◌+◌ as ◌+ₙ◌, ◌*◌ as ◌*ₙ◌, ◌^◌, ◌<◌, ◌≤◌, max, not, cond, eqb, false, length, sum_by}
+use Rattle.std.proofs.Common.{get_or, ℤ, pos, ◌*ℤ◌, [], ◌∷◌, ◌++◌, map, take, drop, refl, sym, ap, ap₂, subst, ◌∙◌, unsigned_abs}
+use Rattle.std.proofs.Common.{FitsSigned, arith}
 use Rattle.std.specs.Int.{int_pow, w128}
 use Rattle.std.specs.Ordering.{is_eq}
 use Rattle.std.specs.declared.cmp.Ordering.{Ordering}
@@ -183,7 +185,9 @@ pub weight-more : (v : Var) (z : ℤ) (p : Summands) (i : ℕ) (t : Powers × �
 weight-more v z p i t h e =
     let f : Powers × ℤ → ℕ = λ t. unsigned_abs t.1 *ₙ unsigned_abs z ^ exponent v t.0 in
     ap (specialised_weight v z) (take_more p i t h) ∙ sum_by-append f (take i p) (get_or p i t ∷ [])
-    ∙ (let one : sum_by f (get_or p i t ∷ []) ≡ f t = ap (λ (u : Powers × ℤ). sum_by f (u ∷ [])) (sym e) ∙ (let s : sum_by f (t ∷ []) ≡ f t = omega (arith, sum_by-cons f t []) in s) in ap (λ k. specialised_weight v z (take i p) +ₙ k) one)
+    ∙ (let one : sum_by f (get_or p i t ∷ []) ≡ f t = ap (λ (u : Powers × ℤ). sum_by f (u ∷ [])) (sym e)
+    ∙ (let s : sum_by f (t ∷ []) ≡ f t = omega (arith, sum_by-cons f t []) in s) in
+    ap (λ k. specialised_weight v z (take i p) +ₙ k) one)
 
 pub weight_front : (v : Var) (z : ℤ) (n : ℕ) (p : Summands) → specialised_weight v z p < 2 ^ 127 → specialised_weight v z (take n p) < 2 ^ 127
 weight_front v z n p fits = omega (arith, fits, weight_halves v z n p)
@@ -232,7 +236,8 @@ degree_in-append v (t ∷ ts) q = omega (arith, degree_in-append v ts q)
 pub degree_in-more : (v : Var) (p : Summands) (i : ℕ) (t : Powers × ℤ) → i < length p → t ≡ get_or p i t → degree_in v (take (i +ₙ 1) p) ≡ max (degree_in v (take i p)) (exponent v t.0)
 degree_in-more v p i t h e =
     ap (degree_in v) (take_more p i t h) ∙ degree_in-append v (take i p) (get_or p i t ∷ [])
-    ∙ (let last : max (exponent v (get_or p i t).0) 0 ≡ exponent v t.0 = ap (λ (u : Powers × ℤ). max (exponent v u.0) 0) (sym e) ∙ (let m : max (exponent v t.0) 0 ≡ exponent v t.0 = omega arith in m) in ap (λ k. max (degree_in v (take i p)) k) last)
+    ∙ (let last : max (exponent v (get_or p i t).0) 0 ≡ exponent v t.0 = ap (λ (u : Powers × ℤ). max (exponent v u.0) 0) (sym e)
+    ∙ (let m : max (exponent v t.0) 0 ≡ exponent v t.0 = omega arith in m) in ap (λ k. max (degree_in v (take i p)) k) last)
 
 pub degree_in-specialised_self : (v : Var) (z : ℤ) (p : Summands) → degree_in v (specialised v z p) ≡ 0
 degree_in-specialised_self v z p =

@@ -1,15 +1,15 @@
 -- A loop that looks for a zero among the factors of a term, one variable after the other.
-use Rattle.std.proofs.Common.{◌≡◌, ℕ, zero, suc, ◌+◌, ◌*◌, ◌-◌, ◌<◌, ◌≤◌, ℤ, Option, Some, None, List, [], ◌∷◌, refl, sym, ap, subst, ◌∙◌, arith}
+use Rattle.std.proofs.Common.{◌≡◌, ℕ, zero, suc, ◌+◌, ◌-◌, ◌<◌, ℤ, Option, Some, None, List, [], ◌∷◌, refl, sym, ap, subst, ◌∙◌, arith}
 use Rattle.std.specs.Prelude.{◌≢◌}
 use Rattle.std.proofs.lemmas.Bool.Decides.{nat_tests}
 use Rattle.sparse_lists.specs.SparseLists.{IsCanonical}
 use Rattle.geo_poly.specs.declared.replacement.Piece.{Piece}
 use Rattle.geo_poly.specs.declared.replacement.Row.{Row}
 use Rattle.geo_poly.specs.declared.variables.Var.{Var}
-use Rattle.geo_poly.specs.Inner.TermFactors.{AreNonzeroRows, HasNoZero, IsNonzeroRow}
-use Rattle.geo_poly.specs.Monomials.{IsMonomial, Powers, exponents}
+use Rattle.geo_poly.specs.Inner.TermFactors.{AreNonzeroRows, HasNoZero}
+use Rattle.geo_poly.specs.Monomials.{Powers, exponents}
 use Rattle.geo_poly.specs.Polynomials.{Summands, polynomial_of, product_of, products}
-use Rattle.geo_poly.specs.Replace.{denominators, others, power_in, replaced_term, row_of, times_power, times_row, times_rows}
+use Rattle.geo_poly.specs.Replace.{denominators, others, replaced_term, row_of, times_power, times_row, times_rows}
 use Rattle.geo_poly.specs.Variables.{var_cmp}
 
 -- PRODUCTS WITH ZERO
@@ -41,49 +41,15 @@ pub record Seen (rows : List Row) (top : ℕ) (m left : Powers) (missing : ℕ) 
   pub nonzero : AreNonzeroRows rows left → AreNonzeroRows rows m
   pub missing-is : missing ≡ denominators rows left + (top - denominators rows m)
 
-pub Seen-start : (rows : List Row) (top : ℕ) (m : Powers) → IsMonomial m → denominators rows m ≤ top → Seen rows top m m top
-Seen-start rows top m h fits = record {
-  in_order = h.in_order;
-  lost = λ lost. lost;
-  nonzero = λ nonzero. nonzero;
-  missing-is = omega (arith, fits);
-}
-
--- a variable with no row
-pub Seen-none : (rows : List Row) (top : ℕ) (m : Powers) (v : Var × ℕ) (left : Powers) (missing : ℕ) → row_of rows v.0 ≡ None → Seen rows top m (v ∷ left) missing → Seen rows top m left missing
-Seen-none rows top m v left missing e h = record {
-  in_order = h.in_order.2;
-  lost = λ lost. h.lost (λ q. lost (times_row (row_of rows v.0) v.1 q));
-  nonzero = λ nonzero. h.nonzero (subst IsNonzeroRow (sym e) tt, nonzero);
-  missing-is =
-      let at : power_in (row_of rows v.0) * v.1 ≡ 0 * v.1 = ap (λ (o : Option Row). power_in o * v.1) e in
-      omega (arith, at, h.missing-is);
-}
-
--- a variable whose numerator is not zero
-pub Seen-some : (rows : List Row) (top : ℕ) (m : Powers) (v : Var × ℕ) (left : Powers) (missing : ℕ) (r : Row) → row_of rows v.0 ≡ Some r → r.num.poly ≢ [] → Seen rows top m (v ∷ left) missing
-    → Seen rows top m left (missing - r.power * v.1)
-Seen-some rows top m v left missing r e some h = record {
-  in_order = h.in_order.2;
-  lost = λ lost. h.lost (λ q. lost (times_row (row_of rows v.0) v.1 q));
-  nonzero = λ nonzero. h.nonzero (subst IsNonzeroRow (sym e) some, nonzero);
-  missing-is =
-      let at : power_in (row_of rows v.0) * v.1 ≡ r.power * v.1 = ap (λ (o : Option Row). power_in o * v.1) e in
-      omega (arith, at, h.missing-is);
-}
-
-pub Seen-fits : (rows : List Row) (top : ℕ) (m : Powers) (v : Var × ℕ) (left : Powers) (missing : ℕ) (r : Row) → row_of rows v.0 ≡ Some r → Seen rows top m (v ∷ left) missing → r.power * v.1 ≤ missing
-Seen-fits rows top m v left missing r e h =
-    let at : power_in (row_of rows v.0) * v.1 ≡ r.power * v.1 = ap (λ (o : Option Row). power_in o * v.1) e in
-    omega (arith, at, h.missing-is)
-
 -- WHAT IT FINDS
 -- a zero numerator
-pub zero_numerator : (rows : List Row) (den : Summands) (top : ℕ) (m : Powers) (v : Var × ℕ) (left : Powers) (missing : ℕ) (r : Row) → row_of rows v.0 ≡ Some r → r.num.poly ≡ [] → Seen rows top m (v ∷ left) missing
+pub zero_numerator : (rows : List Row) (den : Summands) (top : ℕ) (m : Powers) (v : Var × ℕ) (left : Powers) (missing : ℕ) (r : Row)
+    → row_of rows v.0 ≡ Some r → r.num.poly ≡ [] → Seen rows top m (v ∷ left) missing
     → (k : ℤ) → replaced_term rows den top (m, k) ≡ []
 zero_numerator rows den top m v left missing r e none h k =
     let some : 0 < v.1 = grind (arith, nat_tests) in
-    let gone : (q : Summands) → times_row (row_of rows v.0) v.1 q ≡ [] = λ q. ap (λ (o : Option Row). times_row o v.1 q) e ∙ ap (λ (p : Summands). times_power q p v.1) none ∙ times_power-by_none q v.1 some in
+    let gone : (q : Summands) → times_row (row_of rows v.0) v.1 q ≡ [] = λ q. ap (λ (o : Option Row). times_row o v.1 q) e
+    ∙ ap (λ (p : Summands). times_power q p v.1) none ∙ times_power-by_none q v.1 some in
     let all = h.lost (λ q. ap (times_rows rows left) (gone q) ∙ times_rows-of_none rows left) in
     ap (λ (p : Summands). times_power p den (top - denominators rows m)) (all ((others rows m, k) ∷ [])) ∙ times_power-of_none den (top - denominators rows m)
 

@@ -1,5 +1,6 @@
 -- With 0 for a variable, what is left of a polynomial is its terms that lack the variable.
-use Rattle.std.proofs.Common.{◌≡◌, ℕ, zero, suc, ◌+◌, ◌*◌ as ◌*ₙ◌, ◌^◌, ◌<◌, eqb, Bool, true, false, cond, ℤ, pos, ◌+ℤ◌, ◌*ℤ◌, [], ◌∷◌, ◌++◌, filter, take, length, get_or, refl, ap, ap₂, ◌∙◌, unsigned_abs, arith}
+use Rattle.std.proofs.Common.{◌≡◌, ℕ, zero, suc, ◌+◌, ◌*◌ as ◌*ₙ◌, ◌^◌, ◌<◌, eqb, Bool, true, false, cond, ℤ, pos, ◌+ℤ◌, ◌*ℤ◌, [], ◌∷◌}
+use Rattle.std.proofs.Common.{◌++◌, filter, take, length, get_or, refl, ap, ap₂, ◌∙◌, unsigned_abs, arith}
 use Rattle.std.specs.Int.{int_pow}
 use Rattle.std.specs.Ordering.{is_eq}
 use Rattle.std.proofs.lemmas.Bool.Decides.{nat_tests}

@@ -6,3 +6,4 @@ pub mod TermFactors
 pub mod Visits
 pub mod Moved
 pub mod Parts
+pub mod Factored

@@ -10,18 +10,21 @@ ghost use Rattle.geo_poly.specs.PolynomialVariables.{AllVariables};
 ghost use Rattle.geo_poly.specs.Polynomials.{IsPolynomial, constant_of, norm_of, term_at};
 ghost use Rattle.geo_poly.specs.Polynomials.{total_degree};
 ghost use Rattle.geo_poly.specs.Shared.{AreParts, IsIndex, IsShared, powers_at, terms_of};
+ghost use Rattle.geo_poly.specs.Specialise.{specialised};
 ghost use Rattle.geo_poly.specs.Variables.{var_cmp};
 ghost use Rattle.mono_store.specs.Stores.{IsStore};
 ghost use Rattle.std.specs.List.Sorted.{IsStrictlySortedBy};
 
 use crate::interning::{indexed, stored_terms};
 use crate::lists::Vars;
+use crate::moving::find_place;
 use crate::polynomial_variables::{mark, variables_of_terms};
 use crate::reading::{count_powers, is_same, norm_at, power_at, terms_at, total_degree_at};
 use crate::shared::{Indexed, Shared};
 use crate::stored::Stored;
 use crate::terms::Term;
 use crate::variables::Var;
+use crate::zeros::keep_lacking;
 use geo_points::NoMemory;
 use mono_store::{MonoId, Monos};
 use poly_arena::{Arena, Chain};
@@ -234,6 +237,16 @@ impl Poly {
         Poly::compact(alloc, vars, monos, list)
     }
 
+    /// Puts 0 for the variable: the terms that lack it stay, over the same store.
+    pub fn put_zero(&mut self, v: Var)
+        ensures { self.new ≡ specialised v (pos 0) self.old }
+    {
+        let vars = self.stored.vars.as_slice();
+        if let Some(number) = find_place(vars, v, 0) {
+            keep_lacking(vars, &self.stored.monos, &mut self.stored.list, number);
+        }
+    }
+
     /// The terms, with monomials of their own.
     pub(crate) fn to_terms(&self, alloc: Global) -> Result<Vec<Term>, NoMemory>
         ensures terms { IfOk result (λ terms. terms.items ≡ self.now) }
@@ -315,7 +328,7 @@ impl Poly {
 }
 
 /// Whether a store has far more links than that many monomials need. Nothing rests on it but time.
-fn is_sparse(monos: &Monos, monomials: usize) -> bool {
+pub(crate) fn is_sparse(monos: &Monos, monomials: usize) -> bool {
     monos.links() / 4 > (monomials as u64).saturating_add(16)
 }
 

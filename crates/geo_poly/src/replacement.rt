@@ -14,10 +14,11 @@ ghost use Rattle.geo_poly.specs.Replace.{most_denominators, replaced_by};
 ghost use Rattle.geo_poly.specs.Replace.{replaced_degree, replaced_weight};
 ghost use Rattle.geo_poly.specs.Variables.{var_cmp};
 
-use crate::chained_replacement::{replaced_chain, stored_rows};
+use crate::chained_replacement::stored_rows;
 use crate::interning::stored_terms;
 use crate::limits::{MAX, MAX_DEGREE, PolyError, Which};
 use crate::lists::Vars;
+use crate::nested::nested_chain;
 use crate::polynomial_variables::union;
 use crate::polynomials::Poly;
 use crate::replacement_bounds::{degree_of_terms, most_denominators_of, weight_of_terms};
@@ -227,8 +228,6 @@ impl Poly {
         let nums = stored_rows(alloc, store, vars, rows.rows())?;
         let list = stored_terms(alloc, store, vars, &den.poly.to_terms(alloc)?)?;
         let p = &self.shared();
-        let mut powers = Vec::new(alloc);
-        let mut numbers = Vec::new(alloc);
         let setting = Setting {
             vars,
             rows,
@@ -239,17 +238,7 @@ impl Poly {
             },
             top,
         };
-        replaced_chain(
-            alloc,
-            &setting,
-            store,
-            arena,
-            p,
-            p.list,
-            &mut powers,
-            &mut numbers,
-            ticks,
-        )
+        nested_chain(alloc, &setting, store, arena, p, ticks)
     }
 }
 

@@ -31,6 +31,24 @@ fn denominators_at(p: &Shared, id: MonoId, rows: &RowTable) -> u32
     denominators
 }
 
+/// How many of so many denominators a monomial does not call for.
+pub(crate) fn lacking_at(p: &Shared, id: MonoId, rows: &RowTable, top: u32) -> u32
+    requires index { IsIndexOf p.now id }
+    requires top { denominators rows.now (told_powers p.now id) ≤ top }
+    requires monomial { IsMonomial (told_powers p.now id) }
+    ensures { result ≡ top - denominators rows.now (told_powers p.now id) }
+{
+    let mut missing = top;
+    let mut rest = id;
+    while let Some(first) = p.first_power(rest) {
+        if let Some(row) = rows.find_row(first.var, first.number) {
+            missing -= row.power * first.exponent;
+        }
+        rest = first.rest;
+    }
+    missing
+}
+
 /// The greatest power of the denominator that a monomial calls for.
 pub(crate) fn most_denominators_of(p: &Shared, rows: &RowTable) -> u32
     requires powers { AllPowersSmall rows.now }

@@ -298,6 +298,36 @@ fn variables_get_numbers(rt: HostRuntime) -> Result<(), Fail> {
     Ok(())
 }
 
+/// The polynomial with 0 put for the variable in its place, which tells before whether it becomes zero.
+fn spelled_at_zero(alloc: Global, mut poly: Poly, v: Var) -> Result<String, Fail> {
+    let vanishes = poly.vanishes_at_zero(v);
+    poly.put_zero(v);
+    if vanishes != poly.is_zero() {
+        return Err(Fail::from("vanishes_at_zero"));
+    }
+    Ok(spelled(alloc, &poly)?)
+}
+
+#[test]
+fn zeros_are_put_in_place(rt: HostRuntime) -> Result<(), Fail> {
+    let alloc = rt.alloc();
+    let x = Var::X(PointId(0));
+    let y = Var::Y(PointId(0));
+    let table = [
+        (x, "-1*y0^2"),
+        (y, "+1*x0^2"),
+        (Var::T(ParamId(0)), "+1*x0^2 -1*y0^2"),
+    ];
+    for (v, text) in table {
+        assert_eq!(rt; spelled_at_zero(alloc, squares(alloc)?, v)?.as_str(), text);
+    }
+    assert_eq!(rt;
+        spelled_at_zero(alloc, linear(alloc, 3, 0)?, x)?.as_str(),
+        "0"
+    );
+    Ok(())
+}
+
 /// The difference of two squares with 3 for both variables, which is 0.
 fn squares_at_three(alloc: Global) -> Result<String, Fail> {
     let at_three = squares(alloc)?.specialise(alloc, Var::X(PointId(0)), 3)?;

@@ -69,7 +69,8 @@ module _ (all : List Name) (nodes : Store) (names : List Name) (commands : List 
       ∙ ap (λ l. (line_text l ++ 10 ∷ []) ++ lines_left all nodes (later_names form names) (drop (k + 1) commands)) (append-nil (command_lexemes all nodes (own_names form names) command))
 
   -- what is written, and then what is left, is the whole
-  pub written_next : (whole before with_line after : List ℕ) (later : List Name) → later ≡ later_names form names → before ++ lines_left all nodes names (drop k commands) ≡ whole → with_line ≡ before ++ line → after ≡ with_line ++ 10 ∷ []
+  pub written_next : (whole before with_line after : List ℕ) (later : List Name) → later ≡ later_names form names
+      → before ++ lines_left all nodes names (drop k commands) ≡ whole → with_line ≡ before ++ line → after ≡ with_line ++ 10 ∷ []
       → after ++ lines_left all nodes later (drop (k + 1) commands) ≡ whole
   written_next whole before with_line after later later_is is line_is feed =
       let rest = lines_left all nodes (later_names form names) (drop (k + 1) commands) in
@@ -80,6 +81,7 @@ module _ (all : List Name) (nodes : Store) (names : List Name) (commands : List 
       ∙ is
 
 -- at the end nothing is left
-pub written_all : (all : List Name) (nodes : Store) (names : List Name) (commands : List Command) (k : ℕ) (whole written : List ℕ) → length commands ≤ k → written ++ lines_left all nodes names (drop k commands) ≡ whole → written ≡ whole
+pub written_all : (all : List Name) (nodes : Store) (names : List Name) (commands : List Command) (k : ℕ) (whole written : List ℕ)
+    → length commands ≤ k → written ++ lines_left all nodes names (drop k commands) ≡ whole → written ≡ whole
 written_all all nodes names commands k whole written done is =
     sym (append-nil written) ∙ ap (λ t. written ++ t) (sym (ap (lines_left all nodes names) (drop_all k commands done))) ∙ is

@@ -43,7 +43,8 @@ length-lines ((lexeme ∷ lexemes) ∷ lines) h =
     )
 
 -- commands, and one more line
-lines_filled : (all : List Name) (nodes : Store) (names : List Name) (commands : List Command) (sketches : List Sketch) (last : List Lexeme) → IsFilled last → AllByRecursion IsFilled (commands_lexemes all nodes names commands sketches ++ last ∷ [])
+lines_filled : (all : List Name) (nodes : Store) (names : List Name) (commands : List Command) (sketches : List Sketch) (last : List Lexeme)
+    → IsFilled last → AllByRecursion IsFilled (commands_lexemes all nodes names commands sketches ++ last ∷ [])
 lines_filled all nodes names (command ∷ commands) (sketch ∷ sketches) last h =
     (tt, lines_filled all nodes (later_names (command_form nodes command) names) commands sketches last h)
 lines_filled all nodes names [] sketches last h = (h, tt)
@@ -64,7 +65,10 @@ unfolding lines_size
 lines_size-cons line lines = sum_by-append lexeme_size line (flat_map (λ (line : List Lexeme). line) lines)
 
 -- without the numbers that may follow points the lines are no longer
-sketches_lengthen : (all : List Name) (nodes : Store) (names : List Name) (commands : List Command) (sketches : List Sketch) (last : List Lexeme) → length commands ≡ length sketches → lines_size (commands_lexemes all nodes names commands (no_sketches commands) ++ last ∷ []) ≤ lines_size (commands_lexemes all nodes names commands sketches ++ last ∷ [])
+sketches_lengthen : (all : List Name) (nodes : Store) (names : List Name) (commands : List Command) (sketches : List Sketch)
+    (last : List Lexeme) → length commands ≡ length sketches
+    → lines_size (commands_lexemes all nodes names commands (no_sketches commands) ++ last ∷ [])
+    ≤ lines_size (commands_lexemes all nodes names commands sketches ++ last ∷ [])
 sketches_lengthen all nodes names [] sketches last h = omega arith
 sketches_lengthen all nodes names (command ∷ commands) [] last h = absurd (omega arith)
 sketches_lengthen all nodes names (command ∷ commands) (sketch ∷ sketches) last h =
@@ -80,7 +84,8 @@ sketches_lengthen all nodes names (command ∷ commands) (sketch ∷ sketches) l
     )
 
 -- the canonical text is not longer than the lexemes of any text of the program, with a byte after each
-pub canonical_text_short : (p : Source) (sketches : List Sketch) → length p.commands ≡ length sketches → length (canonical_text p) ≤ sum_by lexeme_size (flat_map (λ line. line) (line_lexemes sketches p))
+pub canonical_text_short : (p : Source) (sketches : List Sketch) → length p.commands ≡ length sketches
+    → length (canonical_text p) ≤ sum_by lexeme_size (flat_map (λ line. line) (line_lexemes sketches p))
 unfolding lines_size
 canonical_text_short p sketches h =
     omega (arith, length-canonical_text p, sketches_lengthen p.names p.nodes p.names p.commands sketches (statement_lexemes p.names p.nodes p.statement) h)

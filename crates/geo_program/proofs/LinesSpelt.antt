@@ -40,7 +40,9 @@ module _ (all : List Name) (nodes : Store) (valid : All (λ n. IsNameText n.text
   arguments_in : (s : Scope) (arguments : List Argument) → IsWithinScope s (whole_scope all) → All (IsArgument s) arguments → AllByRecursion (IsArgument (whole_scope all)) arguments
   arguments_in s arguments within h = recursion_from_All (IsArgument (whole_scope all)) arguments (arguments_wider s (whole_scope all) arguments within h)
 
-  lines_stand : (s : Scope) (names : List Name) (commands : List Command) (last : List Lexeme) → IsWithinScope (scope_of s names) (whole_scope all) → All (λ n. IsNameText n.text) names → AreCommands nodes s names commands → MayAllStand last → LinesStand (commands_lexemes all nodes names commands (no_sketches commands) ++ last ∷ [])
+  lines_stand : (s : Scope) (names : List Name) (commands : List Command) (last : List Lexeme)
+      → IsWithinScope (scope_of s names) (whole_scope all) → All (λ n. IsNameText n.text) names → AreCommands nodes s names commands
+      → MayAllStand last → LinesStand (commands_lexemes all nodes names commands (no_sketches commands) ++ last ∷ [])
   lines_stand s names [] last within named h end = (end, tt)
   lines_stand s names (command ∷ commands) last within named h end =
       let f = command_form nodes command in

@@ -65,14 +65,18 @@ take-next : (names : List Name) (i : ℕ) (name : Name) → i < length names →
 take-next names i name within at = take_more names i name within ∙ ap (λ n. take i names ++ n ∷ []) (sym at)
 
 -- one more text, of a name of this kind
-pub texts_more : (kind : NameKind) (names : List Name) (i : ℕ) (name : Name) (before : List (List ℕ)) → i < length names → name ≡ get_or names i name → is_kind name.kind kind ≡ true → before ≡ names_of kind (take i names) → before ++ name.text ∷ [] ≡ names_of kind (take (i + 1) names)
+pub texts_more : (kind : NameKind) (names : List Name) (i : ℕ) (name : Name) (before : List (List ℕ)) → i < length names
+    → name ≡ get_or names i name → is_kind name.kind kind ≡ true → before ≡ names_of kind (take i names)
+    → before ++ name.text ∷ [] ≡ names_of kind (take (i + 1) names)
 texts_more kind names i name before within at same is =
     ap (λ texts. texts ++ name.text ∷ []) is
     ∙ sym (names_of-push kind (take i names) name (same_kind name.kind kind same))
     ∙ ap (names_of kind) (sym (take-next names i name within at))
 
 -- none, of a name of another kind
-pub texts_same : (kind : NameKind) (names : List Name) (i : ℕ) (name : Name) (before : List (List ℕ)) → i < length names → name ≡ get_or names i name → is_kind name.kind kind ≡ false → before ≡ names_of kind (take i names) → before ≡ names_of kind (take (i + 1) names)
+pub texts_same : (kind : NameKind) (names : List Name) (i : ℕ) (name : Name) (before : List (List ℕ)) → i < length names
+    → name ≡ get_or names i name → is_kind name.kind kind ≡ false → before ≡ names_of kind (take i names)
+    → before ≡ names_of kind (take (i + 1) names)
 texts_same kind names i name before within at other is =
     is
     ∙ sym (names_of-push_other kind (take i names) name other)

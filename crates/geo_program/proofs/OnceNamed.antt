@@ -20,7 +20,9 @@ text_contained : (kind : NameKind) (names : List Name) (k : ℕ) → k < length 
 text_contained kind [] k within = absurd (omega arith)
 text_contained kind (name ∷ names) k within = by_test (is_kind name.kind kind) refl k within (text_contained kind names)
   where
-    by_test : (b : Bool) → is_kind name.kind kind ≡ b → (j : ℕ) → j < length (names_of kind (name ∷ names)) → ((i : ℕ) → i < length (names_of kind names) → Contains (texts_of names) (name_text kind names i)) → Contains (texts_of (name ∷ names)) (name_text kind (name ∷ names) j)
+    by_test : (b : Bool) → is_kind name.kind kind ≡ b → (j : ℕ) → j < length (names_of kind (name ∷ names))
+        → ((i : ℕ) → i < length (names_of kind names) → Contains (texts_of names) (name_text kind names i))
+        → Contains (texts_of (name ∷ names)) (name_text kind (name ∷ names) j)
     by_test true e zero h rest = rw e (0, omega arith, refl)
     by_test true e (suc j) h rest =
         let below : suc j < suc (length (names_of kind names)) = rw e at h in
@@ -28,12 +30,14 @@ text_contained kind (name ∷ names) k within = by_test (is_kind name.kind kind)
     by_test false e j h rest = rw e (later_contained name names (name_text kind names j) (rest j (rw e at h)))
 
 -- equal texts are those of one number
-pub same_number : (kind : NameKind) (names : List Name) (i j : ℕ) → AllDiffer names → i < length (names_of kind names) → j < length (names_of kind names) → name_text kind names i ≡ name_text kind names j → i ≡ j
+pub same_number : (kind : NameKind) (names : List Name) (i j : ℕ) → AllDiffer names → i < length (names_of kind names)
+    → j < length (names_of kind names) → name_text kind names i ≡ name_text kind names j → i ≡ j
 same_number kind [] i j differ hi hj same = absurd (omega arith)
 same_number kind (name ∷ names) i j differ hi hj same =
     by_test (is_kind name.kind kind) refl i j hi hj same (λ x y. same_number kind names x y differ.1)
   where
-    by_test : (b : Bool) → is_kind name.kind kind ≡ b → (x y : ℕ) → x < length (names_of kind (name ∷ names)) → y < length (names_of kind (name ∷ names)) → name_text kind (name ∷ names) x ≡ name_text kind (name ∷ names) y
+    by_test : (b : Bool) → is_kind name.kind kind ≡ b → (x y : ℕ) → x < length (names_of kind (name ∷ names))
+        → y < length (names_of kind (name ∷ names)) → name_text kind (name ∷ names) x ≡ name_text kind (name ∷ names) y
         → ((u v : ℕ) → u < length (names_of kind names) → v < length (names_of kind names) → name_text kind names u ≡ name_text kind names v → u ≡ v) → x ≡ y
     by_test true e zero zero hx hy is rest = refl
     by_test true e zero (suc y) hx hy is rest =
@@ -54,7 +58,8 @@ same_number kind (name ∷ names) i j differ hi hj same =
 pub AllDiffer-front : (names more : List Name) → AllDiffer (names ++ more) → AllDiffer names
 AllDiffer-front [] more h = tt
 AllDiffer-front (name ∷ names) more h = (
-  λ found. h.0 (subst (λ (texts : List (List ℕ)). Contains texts name.text) (sym (map-append (λ (n : Name). n.text) names more)) (Contains-append_left (texts_of names) (texts_of more) name.text found)),
+  λ found. h.0 (subst (λ (texts : List (List ℕ)). Contains texts name.text) (sym (map-append (λ (n : Name). n.text) names more))
+      (Contains-append_left (texts_of names) (texts_of more) name.text found)),
   AllDiffer-front names more h.1,
 )
 

@@ -52,7 +52,8 @@ module _ (names : List Name) (valid : All (λ n. IsNameText n.text) names) (diff
   argument_read x y r s k hx hy h = absurd (false≢true (eq-eqb (argument_kind x) (argument_kind y) k))
 
   -- arguments of the same kinds are read in one way
-  pub arguments_read : (xs ys : List Argument) (r s : List Lexeme) → map argument_kind xs ≡ map argument_kind ys → All (IsArgument (scope_of empty_scope names)) xs → All (IsArgument (scope_of empty_scope names)) ys
+  pub arguments_read : (xs ys : List Argument) (r s : List Lexeme) → map argument_kind xs ≡ map argument_kind ys
+      → All (IsArgument (scope_of empty_scope names)) xs → All (IsArgument (scope_of empty_scope names)) ys
       → flat_map (argument_lexemes names) xs ++ r ≡ flat_map (argument_lexemes names) ys ++ s → ReadsAlike xs ys r s
   arguments_read [] [] r s k hx hy h = record { same = refl; rest = h }
   arguments_read [] (y ∷ ys) r s k hx hy h = absurd (cc)
@@ -193,7 +194,8 @@ abbrev lines : List Name → Store → List Name → List Command → List Sketc
 lines all nodes names commands sketches s =
     flat_map (λ line. line) (commands_lexemes all nodes names commands sketches ++ statement_lexemes all nodes s ∷ [])
 
-lines_begin : (all : List Name) (nodes : Store) (names : List Name) (commands : List Command) (sketches : List Sketch) (s : Statement) → begins_with_word (lines all nodes names commands sketches s) ≡ true
+lines_begin : (all : List Name) (nodes : Store) (names : List Name) (commands : List Command) (sketches : List Sketch) (s : Statement)
+    → begins_with_word (lines all nodes names commands sketches s) ≡ true
 unfolding begins_with_word
 lines_begin all nodes names (c ∷ commands) (k ∷ sketches) s = refl
 lines_begin all nodes names [] sketches s = refl

@@ -16,7 +16,9 @@ use Rattle.geo_program.proofs.Staying.{command_form-kept, command_lexemes-append
 use Rattle.geo_terms.specs.Stores.{Store}
 
 -- one more command, over what the names before it declare
-pub AreCommands-push : (nodes : Store) (s : Scope) (names : List Name) (commands : List Command) (own : List Name) (command : Command) → AreCommands nodes s names commands → IsCommand nodes (scope_of s names) own command → AreCommands nodes s (names ++ own) (commands ++ command ∷ [])
+pub AreCommands-push : (nodes : Store) (s : Scope) (names : List Name) (commands : List Command) (own : List Name) (command : Command)
+    → AreCommands nodes s names commands → IsCommand nodes (scope_of s names) own command
+    → AreCommands nodes s (names ++ own) (commands ++ command ∷ [])
 AreCommands-push nodes s names [] own command h one =
     let f = command_form nodes command in
     let here : IsCommand nodes s own command = subst (λ (ns : List Name). IsCommand nodes (scope_of s ns) own command) h one in
@@ -37,7 +39,8 @@ AreSketches-length [] (sketch ∷ sketches) h = absurd h
 AreSketches-length (command ∷ commands) [] h = absurd h
 AreSketches-length (command ∷ commands) (sketch ∷ sketches) h = ap suc (AreSketches-length commands sketches h.1)
 
-pub AreSketches-push : (commands : List Command) (sketches : List Sketch) (command : Command) (sketch : Sketch) → AreSketches commands sketches → (sketch ≡ None) ⊎ (command ≡ Point) → AreSketches (commands ++ command ∷ []) (sketches ++ sketch ∷ [])
+pub AreSketches-push : (commands : List Command) (sketches : List Sketch) (command : Command) (sketch : Sketch)
+    → AreSketches commands sketches → (sketch ≡ None) ⊎ (command ≡ Point) → AreSketches (commands ++ command ∷ []) (sketches ++ sketch ∷ [])
 AreSketches-push [] [] command sketch h one = (one, tt)
 AreSketches-push [] (s ∷ sketches) command sketch h one = absurd h
 AreSketches-push (c ∷ commands) [] command sketch h one = absurd h
@@ -66,14 +69,18 @@ AllDiffer-push (n ∷ names) name h new =
 -- THE LEXEMES
 
 -- a command over the first names is spelt the same with more of the others
-command_stays : (before rest more : List Name) (nodes : Store) (own : List Name) (command : Command) → IsCommand nodes (scope_of empty_scope before) own command → command_lexemes ((before ++ rest) ++ more) nodes own command ≡ command_lexemes (before ++ rest) nodes own command
+command_stays : (before rest more : List Name) (nodes : Store) (own : List Name) (command : Command)
+    → IsCommand nodes (scope_of empty_scope before) own command
+    → command_lexemes ((before ++ rest) ++ more) nodes own command ≡ command_lexemes (before ++ rest) nodes own command
 command_stays before rest more nodes own command h =
     ap (λ l. command_lexemes l nodes own command) (append_assoc before rest more)
     ∙ command_lexemes-append before (rest ++ more) nodes own command h
     ∙ sym (command_lexemes-append before rest nodes own command h)
 
 -- the commands are spelt the same with more names and more nodes
-pub commands_lexemes-kept : (before names more all : List Name) (nodes wider : Store) (commands : List Command) (sketches : List Sketch) → all ≡ before ++ names → KeepsTrees nodes wider → AreCommands nodes (scope_of empty_scope before) names commands → commands_lexemes (all ++ more) wider names commands sketches ≡ commands_lexemes all nodes names commands sketches
+pub commands_lexemes-kept : (before names more all : List Name) (nodes wider : Store) (commands : List Command) (sketches : List Sketch)
+    → all ≡ before ++ names → KeepsTrees nodes wider → AreCommands nodes (scope_of empty_scope before) names commands
+    → commands_lexemes (all ++ more) wider names commands sketches ≡ commands_lexemes all nodes names commands sketches
 commands_lexemes-kept before names more all nodes wider [] sketches is kept h = refl
 commands_lexemes-kept before names more all nodes wider (command ∷ commands) [] is kept h = refl
 commands_lexemes-kept before names more all nodes wider (command ∷ commands) (sketch ∷ sketches) is kept h =
@@ -88,7 +95,9 @@ commands_lexemes-kept before names more all nodes wider (command ∷ commands) (
     ∙ ap (λ l. command_lexemes (l ++ more) nodes own command) is
     ∙ command_stays before names more nodes own command h.0
     ∙ ap (λ l. command_lexemes l nodes own command) (sym is) in
-    ap (λ g. (command_lexemes (all ++ more) wider (own_names g names) command ++ sketch_lexemes sketch) ∷ commands_lexemes (all ++ more) wider (later_names g names) commands sketches) (command_form-kept nodes wider kept command h.0.stored)
+    ap (λ g. (command_lexemes (all ++ more) wider (own_names g names) command ++ sketch_lexemes sketch)
+    ∷ commands_lexemes (all ++ more) wider (later_names g names) commands sketches)
+    (command_form-kept nodes wider kept command h.0.stored)
     ∙ ap₂ (λ l lines. (l ++ sketch_lexemes sketch) ∷ lines) one rest
 
 -- one more command is one more line
@@ -101,7 +110,8 @@ commands_lexemes-push all nodes s names [] [] own command sketch h k named =
     ∙ ap (λ ns. (command_lexemes all nodes ns command ++ sketch_lexemes sketch) ∷ []) (own-whole (command_form nodes command) own named)
 commands_lexemes-push all nodes s names (c ∷ commands) (k ∷ sketches) own command sketch h lengths named =
     let f = command_form nodes c in
-    ap₂ (λ ns ms. (command_lexemes all nodes ns c ++ sketch_lexemes k) ∷ commands_lexemes all nodes ms (commands ++ command ∷ []) (sketches ++ sketch ∷ [])) (own-append f names own h.0.named) (later-append f names own h.0.named)
+    ap₂ (λ ns ms. (command_lexemes all nodes ns c ++ sketch_lexemes k) ∷ commands_lexemes all nodes ms (commands ++ command ∷ [])
+    (sketches ++ sketch ∷ [])) (own-append f names own h.0.named) (later-append f names own h.0.named)
     ∙ ap (λ lines. (command_lexemes all nodes (own_names f names) c ++ sketch_lexemes k) ∷ lines)
     (commands_lexemes-push all nodes (scope_of s (own_names f names)) (later_names f names) commands sketches own command sketch h.1 (omega arith) named)
 commands_lexemes-push all nodes s names [] (k ∷ sketches) own command sketch h lengths named = absurd (omega arith)

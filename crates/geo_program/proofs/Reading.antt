@@ -132,7 +132,9 @@ module _ (names : List Name) (valid : All (λ n. IsNameText n.text) names) (diff
       record { same = ap₂ (λ p q. make p q c) pa pb ∙ ap (make x y) pc; rest = rest }
 
   -- the first lexeme tells the form
-  expression_head : (ratios : Bool) (e : Tree) (rest : List Lexeme) → IsExpression (length (names_of Point names)) (length (names_of Param names)) ratios e → first_head (expression_lexemes names e ++ rest) ≡ form_of e
+  expression_head : (ratios : Bool) (e : Tree) (rest : List Lexeme)
+      → IsExpression (length (names_of Point names)) (length (names_of Param names)) ratios e
+      → first_head (expression_lexemes names e ++ rest) ≡ form_of e
   expression_head ratios (integer_leaf n) rest h = refl
   expression_head ratios (parameter_leaf t) rest h = place_of-absent (name_text Param names t.0) expression_words (λ found. free found)
     where
@@ -147,13 +149,17 @@ module _ (names : List Name) (valid : All (λ n. IsNameText n.text) names) (diff
   expression_head ratios (multiplication e f) rest h = refl
   expression_head ratios (division e f) rest h = refl
 
-  same_form : (ratios : Bool) (e f : Tree) (r s : List Lexeme) → IsExpression (length (names_of Point names)) (length (names_of Param names)) ratios e → IsExpression (length (names_of Point names)) (length (names_of Param names)) ratios f
+  same_form : (ratios : Bool) (e f : Tree) (r s : List Lexeme)
+      → IsExpression (length (names_of Point names)) (length (names_of Param names)) ratios e
+      → IsExpression (length (names_of Point names)) (length (names_of Param names)) ratios f
       → expression_lexemes names e ++ r ≡ expression_lexemes names f ++ s → eqb (form_of e) (form_of f) ≡ true
   same_form ratios e f r s he hf h =
       eq-eqb (form_of e) (form_of f) (sym (expression_head ratios e r he) ∙ ap first_head h ∙ expression_head ratios f s hf)
 
   -- an expression is read in one way
-  pub expression_read : (ratios : Bool) (e f : Tree) (r s : List Lexeme) → IsExpression (length (names_of Point names)) (length (names_of Param names)) ratios e → IsExpression (length (names_of Point names)) (length (names_of Param names)) ratios f
+  pub expression_read : (ratios : Bool) (e f : Tree) (r s : List Lexeme)
+      → IsExpression (length (names_of Point names)) (length (names_of Param names)) ratios e
+      → IsExpression (length (names_of Point names)) (length (names_of Param names)) ratios f
       → expression_lexemes names e ++ r ≡ expression_lexemes names f ++ s → ReadsAlike e f r s
   expression_read ratios (integer_leaf m) (integer_leaf n) r s he hf h =
       let same : m ≡ n = cc in

@@ -121,7 +121,9 @@ module _ (names : List Name) (nodes : Store) (commands : List Command) (n : name
       ap₂ (λ x y. record { names = x; nodes = y; commands = commands; statement = midpoint_source.statement }) n t
       ∙ ap (λ z. record { names = midpoint_source.names; nodes = []; commands = z; statement = midpoint_source.statement }) c
 
-  pub sample_spelt : SpellsSource (canonical_text (record { names = names; nodes = nodes; commands = commands; statement = midpoint_source.statement })) (record { names = names; nodes = nodes; commands = commands; statement = midpoint_source.statement })
+  pub sample_spelt : SpellsSource
+      (canonical_text (record { names = names; nodes = nodes; commands = commands; statement = midpoint_source.statement }))
+      (record { names = names; nodes = nodes; commands = commands; statement = midpoint_source.statement })
   unfolding source
   sample_spelt = subst (λ (p : Source). SpellsSource (canonical_text p) p) (sym source_is) (well_formed_is_spelt midpoint_source midpoint_well_formed)
 

@@ -22,9 +22,6 @@ pub scope_of-append : (s : Scope) (names more : List Name) → scope_of s (names
 scope_of-append s [] more = refl
 scope_of-append s (name ∷ names) more = scope_of-append (declare name.kind s) names more
 
-pub scope_of-push : (s : Scope) (names : List Name) (name : Name) → scope_of s (names ++ name ∷ []) ≡ declare name.kind (scope_of s names)
-scope_of-push s names name = scope_of-append s names (name ∷ [])
-
 -- the names of a kind that this kind's name is
 abbrev pub one_of : NameKind → NameKind → ℕ
 one_of kind declared = length (names_of kind (record { text = []; kind = declared } ∷ []))
@@ -70,9 +67,6 @@ pub record IsWithinScope (s wider : Scope) : Type 0 where
   pub params : s.params ≤ wider.params
   pub lines : s.lines ≤ wider.lines
 
-pub IsWithinScope-same : (s : Scope) → IsWithinScope s s
-IsWithinScope-same s = record { points = omega arith; params = omega arith; lines = omega arith }
-
 pub IsWithinScope-trans : (s t u : Scope) → IsWithinScope s t → IsWithinScope t u → IsWithinScope s u
 IsWithinScope-trans s t u h k = record { points = omega arith; params = omega arith; lines = omega arith }
 
@@ -101,7 +95,8 @@ IsExpression-ratios points params ratios (multiplication e f) h = (IsExpression-
 IsExpression-ratios points params ratios (division e f) h = (IsExpression-ratios points params ratios e h.0, h.1)
 
 -- over more points and parameters an expression is one
-pub IsExpression-wider : (points params more_points more_params : ℕ) (ratios : Bool) (e : Tree) → points ≤ more_points → params ≤ more_params → IsExpression points params ratios e → IsExpression more_points more_params ratios e
+pub IsExpression-wider : (points params more_points more_params : ℕ) (ratios : Bool) (e : Tree) → points ≤ more_points
+    → params ≤ more_params → IsExpression points params ratios e → IsExpression more_points more_params ratios e
 IsExpression-wider points params p q ratios (integer_leaf n) hp hq h = h
 IsExpression-wider points params p q ratios (parameter_leaf t) hp hq h = omega arith
 IsExpression-wider points params p q ratios (area_leaf a b c) hp hq h = omega arith

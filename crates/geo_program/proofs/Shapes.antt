@@ -152,9 +152,11 @@ command_is_no_prove nodes c = not_true _ (shapes_pass (λ s. not (same_text s.wo
 tells_condition : (nodes : Store) (c : Command) → tells (command_form nodes c).word (command_form nodes c).condition ≡ true
 tells_condition nodes c = shapes_pass (λ s. tells s.word s.condition) refl refl nodes c
 
-pub same_kind_of_condition : (nodes others : Store) (c d : Command) → (command_form nodes c).word ≡ (command_form others d).word → is_some (command_form nodes c).condition ≡ is_some (command_form others d).condition
+pub same_kind_of_condition : (nodes others : Store) (c d : Command) → (command_form nodes c).word ≡ (command_form others d).word
+    → is_some (command_form nodes c).condition ≡ is_some (command_form others d).condition
 same_kind_of_condition nodes others c d same =
-    by (command_form nodes c).condition (command_form others d).condition (tells_condition nodes c) (subst (λ w. tells w (command_form others d).condition ≡ true) (sym same) (tells_condition others d))
+    by (command_form nodes c).condition (command_form others d).condition (tells_condition nodes c)
+    (subst (λ w. tells w (command_form others d).condition ≡ true) (sym same) (tells_condition others d))
   where
     by : (a b : Option (List ℕ)) → tells (command_form nodes c).word a ≡ true → tells (command_form nodes c).word b ≡ true → is_some a ≡ is_some b
     by None None h k = refl
@@ -186,7 +188,8 @@ statement_shape nodes (statement.SameLength a b c d) = refl
 statement_shape nodes (statement.Harmonic a b c d) = refl
 statement_shape nodes (statement.Concyclic a b c d) = refl
 
-pub same_statement_shape : (nodes others : Store) (s t : Statement) → (statement_form nodes s).word ≡ (statement_form others t).word → map argument_kind (statement_form nodes s).arguments ≡ map argument_kind (statement_form others t).arguments
+pub same_statement_shape : (nodes others : Store) (s t : Statement) → (statement_form nodes s).word ≡ (statement_form others t).word
+    → map argument_kind (statement_form nodes s).arguments ≡ map argument_kind (statement_form others t).arguments
 same_statement_shape nodes others s t same =
     statement_shape nodes s
     ∙ ap (λ word. get_or statement_shapes (place_of word statement_words) []) same

@@ -20,10 +20,6 @@ pub spaced_one : (lexeme : Lexeme) → spaced_text (lexeme ∷ []) ≡ 32 ∷ le
 unfolding spaced_text
 spaced_one lexeme = append-nil (32 ∷ lexeme_text lexeme)
 
-pub spaced-nil : spaced_text [] ≡ []
-unfolding spaced_text
-spaced-nil = refl
-
 -- a line is its first lexeme and the others with spaces before them
 pub line_text-spaced : (lexeme : Lexeme) (lexemes : List Lexeme) → line_text (lexeme ∷ lexemes) ≡ lexeme_text lexeme ++ spaced_text lexemes
 unfolding spaced_text
@@ -67,7 +63,9 @@ pub appends_token : (a b token text : List ℕ) → b ≡ a ++ 32 ∷ token → 
 appends_token a b token text h is = appends_lexeme a b (word_lexeme text) (h ∙ ap (λ t. a ++ 32 ∷ t) is)
 
 -- points and the number of a step, as arguments
-pub flat_map-points : (names : List Name) (points : List PointId) (e : Tree) → map (point_lexeme names) points ++ expression_lexemes names e ≡ flat_map (argument_lexemes names) (map point_argument points ++ number_argument e ∷ [])
+pub flat_map-points : (names : List Name) (points : List PointId) (e : Tree)
+    → map (point_lexeme names) points ++ expression_lexemes names e ≡ flat_map (argument_lexemes names)
+    (map point_argument points ++ number_argument e ∷ [])
 flat_map-points names [] e = sym (append-nil (expression_lexemes names e))
 flat_map-points names (a ∷ points) e = ap (λ l. point_lexeme names a ∷ l) (flat_map-points names points e)
 

@@ -138,7 +138,8 @@ module _ (names : List Name) (valid : All (λ n. IsNameText n.text) names) where
   names_stand [] h = tt
   names_stand (n ∷ own) h = (IsWord-name n.text (All-head (λ n. IsNameText n.text) n own h), names_stand own (All-tail (λ n. IsNameText n.text) n own h))
 
-  pub command_stands : (nodes : Store) (own : List Name) (c : Command) → All (λ n. IsNameText n.text) own → AllByRecursion (IsArgument (whole_scope names)) (command_form nodes c).arguments → MayAllStand (command_lexemes names nodes own c)
+  pub command_stands : (nodes : Store) (own : List Name) (c : Command) → All (λ n. IsNameText n.text) own
+      → AllByRecursion (IsArgument (whole_scope names)) (command_form nodes c).arguments → MayAllStand (command_lexemes names nodes own c)
   command_stands nodes own c named h =
       let f = command_form nodes c in
       let texts = map (λ (name : Name). word_lexeme name.text) own in

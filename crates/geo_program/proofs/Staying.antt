@@ -1,5 +1,5 @@
 -- What stays when names and nodes are added.
-use Rattle.std.proofs.Common.{◌≡◌, ℕ, ◌<◌, ◌≤◌, Bool, true, false, List, [], ◌∷◌, ◌++◌, length, map, refl, sym, ap, ap₂, subst, ◌∙◌, arith, length-append}
+use Rattle.std.proofs.Common.{◌≡◌, ℕ, ◌<◌, ◌≤◌, Bool, true, false, List, [], ◌∷◌, ◌++◌, length, map, refl, sym, ap, ap₂, subst, ◌∙◌, arith}
 use Rattle.std.specs.Prelude.{All, codes}
 use Rattle.std.specs.List.{flat_map}
 use Rattle.std.proofs.lemmas.List.Elements.{All-head, All-tail}
@@ -12,7 +12,7 @@ use Rattle.geo_program.specs.declared.names.Name.{Name}
 use Rattle.geo_program.specs.declared.names.NameKind.TheVariants.{Point, Param, Line}
 use Rattle.geo_program.specs.declared.statements.Statement.{Statement}
 use Rattle.geo_program.specs.declared.statements.Statement.TheVariants as statement
-use Rattle.geo_program.specs.CanonicalText.{argument_lexemes, command_lexemes, condition_lexemes, statement_lexemes}
+use Rattle.geo_program.specs.CanonicalText.{argument_lexemes, command_lexemes, condition_lexemes}
 use Rattle.geo_program.specs.Expressions.{IsExpression, braced, expression_lexemes, point_lexeme}
 use Rattle.geo_program.specs.Forms.{Argument, point_argument, line_argument, number_argument, side_argument, CommandForm, command_form, form, statement_form, IsStored, AreSidesStored}
 use Rattle.geo_program.specs.Names.{names_of}
@@ -21,12 +21,13 @@ use Rattle.geo_program.proofs.NameLemmas.{name_text-append}
 use Rattle.geo_program.proofs.ScopeLemmas.{points_declared, params_declared, lines_declared}
 use Rattle.geo_terms.specs.Stores.{Store, tree_of}
 use Rattle.geo_terms.specs.Trees.{Tree, integer_leaf, parameter_leaf, area_leaf, pythagoras_leaf, ratio_leaf, negation, addition, subtraction, multiplication, division}
-use Rattle.geo_terms.proofs.Trees.{tree_of-append}
 
 -- MORE NAMES
 
 -- what is an expression over a scope is one over its names
-pub over_names : (names : List Name) (ratios : Bool) (e : Tree) → IsExpression (scope_of empty_scope names).points (scope_of empty_scope names).params ratios e → IsExpression (length (names_of Point names)) (length (names_of Param names)) ratios e
+pub over_names : (names : List Name) (ratios : Bool) (e : Tree)
+    → IsExpression (scope_of empty_scope names).points (scope_of empty_scope names).params ratios e
+    → IsExpression (length (names_of Point names)) (length (names_of Param names)) ratios e
 over_names names ratios e h = rw (points_declared names, params_declared names) at h
 
 module _ (names more : List Name) where
@@ -37,7 +38,9 @@ module _ (names more : List Name) where
   parts_kept word x y u v h k = ap₂ (λ p q. word_lexeme word ∷ braced p ++ braced q) h k
 
   -- an expression over the names is spelt the same with more names
-  pub expression_lexemes-append : (ratios : Bool) (e : Tree) → IsExpression (length (names_of Point names)) (length (names_of Param names)) ratios e → expression_lexemes (names ++ more) e ≡ expression_lexemes names e
+  pub expression_lexemes-append : (ratios : Bool) (e : Tree)
+      → IsExpression (length (names_of Point names)) (length (names_of Param names)) ratios e
+      → expression_lexemes (names ++ more) e ≡ expression_lexemes names e
   expression_lexemes-append ratios (integer_leaf n) h = refl
   expression_lexemes-append ratios (parameter_leaf t) h = ap (λ text. word_lexeme text ∷ []) (name_text-append Param names more t.0 h)
   expression_lexemes-append ratios (area_leaf a b c) h =
@@ -64,7 +67,8 @@ module _ (names more : List Name) where
   argument_lexemes-append (number_argument e) h = expression_lexemes-append false e (over_names names false e h.0)
   argument_lexemes-append (side_argument e) h = ap braced (expression_lexemes-append true e (over_names names true e h.0))
 
-  pub arguments_lexemes-append : (arguments : List Argument) → All (IsArgument (scope_of empty_scope names)) arguments → flat_map (argument_lexemes (names ++ more)) arguments ≡ flat_map (argument_lexemes names) arguments
+  pub arguments_lexemes-append : (arguments : List Argument) → All (IsArgument (scope_of empty_scope names)) arguments
+      → flat_map (argument_lexemes (names ++ more)) arguments ≡ flat_map (argument_lexemes names) arguments
   arguments_lexemes-append [] h = refl
   arguments_lexemes-append (x ∷ arguments) h =
       ap₂ (λ l m. l ++ m)
@@ -72,16 +76,12 @@ module _ (names more : List Name) where
       (arguments_lexemes-append arguments (All-tail (IsArgument (scope_of empty_scope names)) x arguments h))
 
 -- a command whose arguments are over these names is spelt the same with more names
-pub command_lexemes-append : (names more : List Name) (nodes : Store) (own : List Name) (command : Command) → IsCommand nodes (scope_of empty_scope names) own command → command_lexemes (names ++ more) nodes own command ≡ command_lexemes names nodes own command
+pub command_lexemes-append : (names more : List Name) (nodes : Store) (own : List Name) (command : Command)
+    → IsCommand nodes (scope_of empty_scope names) own command
+    → command_lexemes (names ++ more) nodes own command ≡ command_lexemes names nodes own command
 command_lexemes-append names more nodes own command h =
     ap (λ l. word_lexeme (command_form nodes command).word ∷ condition_lexemes (command_form nodes command).condition ++ (map (λ (name : Name). word_lexeme name.text) own ++ l))
     (arguments_lexemes-append names more (command_form nodes command).arguments h.arguments)
-
--- the same of a statement
-pub statement_lexemes-append : (names more : List Name) (nodes : Store) (s : Statement) → All (IsArgument (scope_of empty_scope names)) (statement_form nodes s).arguments → statement_lexemes (names ++ more) nodes s ≡ statement_lexemes names nodes s
-statement_lexemes-append names more nodes s h =
-    ap (λ l. word_lexeme (codes "prove") ∷ braced (word_lexeme (statement_form nodes s).word ∷ l))
-    (arguments_lexemes-append names more (statement_form nodes s).arguments h)
 
 -- MORE NODES
 
@@ -89,18 +89,6 @@ statement_lexemes-append names more nodes s h =
 pub record KeepsTrees (nodes wider : Store) : Type 0 where
   pub longer : length nodes ≤ length wider
   pub trees : (id : TermId) → id.0 < length nodes → tree_of wider id ≡ tree_of nodes id
-
-pub KeepsTrees-same : (nodes : Store) → KeepsTrees nodes nodes
-KeepsTrees-same nodes = record { longer = omega arith; trees = λ id h. refl }
-
-pub KeepsTrees-trans : (nodes wider widest : Store) → KeepsTrees nodes wider → KeepsTrees wider widest → KeepsTrees nodes widest
-KeepsTrees-trans nodes wider widest h k = record {
-  longer = omega (arith, h.longer, k.longer);
-  trees = λ id within. k.trees id (omega (arith, h.longer)) ∙ h.trees id within;
-}
-
-pub KeepsTrees-append : (nodes more : Store) → KeepsTrees nodes (nodes ++ more)
-KeepsTrees-append nodes more = record { longer = omega (arith, length-append nodes more); trees = λ id h. tree_of-append nodes more id h }
 
 module _ (nodes wider : Store) (kept : KeepsTrees nodes wider) where
   pub command_form-kept : (command : Command) → IsStored nodes command → command_form wider command ≡ command_form nodes command
@@ -147,7 +135,3 @@ module _ (nodes wider : Store) (kept : KeepsTrees nodes wider) where
   pub command_lexemes-kept : (names own : List Name) (command : Command) → IsStored nodes command → command_lexemes names wider own command ≡ command_lexemes names nodes own command
   command_lexemes-kept names own command h =
       ap (λ f. word_lexeme f.word ∷ condition_lexemes f.condition ++ (map (λ (name : Name). word_lexeme name.text) own ++ flat_map (argument_lexemes names) f.arguments)) (command_form-kept command h)
-
-  pub statement_lexemes-kept : (names : List Name) (s : Statement) → AreSidesStored nodes s → statement_lexemes names wider s ≡ statement_lexemes names nodes s
-  statement_lexemes-kept names s h =
-      ap (λ f. word_lexeme (codes "prove") ∷ braced (word_lexeme f.word ∷ flat_map (argument_lexemes names) f.arguments)) (statement_form-kept s h)

@@ -15,7 +15,8 @@ length-names_of Point names = omega (arith, declared_of-scope_of Point empty_sco
 length-names_of Param names = omega (arith, declared_of-scope_of Param empty_scope names)
 length-names_of Line names = omega (arith, declared_of-scope_of Line empty_scope names)
 
-module _ (kind : NameKind) (names : List Name) (texts : List (Bor (List ℕ))) (same : map (λ text. text.now) texts ≡ names_of kind names) (k : ℕ) (within : k < declared_of kind (whole_scope names)) where
+module _ (kind : NameKind) (names : List Name) (texts : List (Bor (List ℕ))) (same : map (λ text. text.now) texts ≡ names_of kind names)
+    (k : ℕ) (within : k < declared_of kind (whole_scope names)) where
   -- the table has a place for each number
   pub table_within : k < length texts
   table_within =

@@ -50,7 +50,10 @@ module _ (names : List Name) (nodes : Store) (e : TermId) (h : IsPrintableTerm n
       record { first = one; second = one; falls = omega arith }
 
   -- of an operation whose tree is this one of the trees of its parts
-  operation_parts : (node : Node) (f g : TermId) → slice_get nodes e.0 ≡ Some node → (f.0 < length nodes) × (g.0 < length nodes) → nesting (node_tree (trees_of nodes) node) ≡ suc (max (nesting (tree_of nodes f)) (nesting (tree_of nodes g))) → IsExpression (whole_scope names).points (whole_scope names).params true (tree_of nodes f) × IsExpression (whole_scope names).points (whole_scope names).params true (tree_of nodes g) → HasParts f g
+  operation_parts : (node : Node) (f g : TermId) → slice_get nodes e.0 ≡ Some node → (f.0 < length nodes) × (g.0 < length nodes)
+      → nesting (node_tree (trees_of nodes) node) ≡ suc (max (nesting (tree_of nodes f)) (nesting (tree_of nodes g)))
+      → IsExpression (whole_scope names).points (whole_scope names).params true (tree_of nodes f)
+      × IsExpression (whole_scope names).points (whole_scope names).params true (tree_of nodes g) → HasParts f g
   operation_parts node f g at within is expressions =
       let tree = tree_printable node at in
       let shallow : nesting (node_tree (trees_of nodes) node) ≤ 128 = tree.shallow in
@@ -82,7 +85,8 @@ pub integer_kept : (nodes : Store) (k : ℕ) (n : ℤ) → IsStore nodes → sli
 integer_kept nodes k n h at = to_z-of_z w128 n (fits_signed_from_abs w128 n (omega (arith, h.integers k (Int n) at)))
 
 -- the number of a step is printable
-pub number_printable : (names : List Name) (nodes : Store) (r : TermId) → IsStore nodes → r.0 < length nodes → IsArgument (whole_scope names) (number_argument (tree_of nodes r)) → IsPrintableTerm names nodes r
+pub number_printable : (names : List Name) (nodes : Store) (r : TermId) → IsStore nodes → r.0 < length nodes
+    → IsArgument (whole_scope names) (number_argument (tree_of nodes r)) → IsPrintableTerm names nodes r
 number_printable names nodes r store stored h = record {
   store = store;
   stored = stored;

@@ -6,6 +6,7 @@ pub mod WellFormed
 pub mod CanonicalText
 pub mod Spelling
 pub mod Programs
+pub mod Relations
 pub mod Laws
 pub mod FormTexts
 pub mod Inner

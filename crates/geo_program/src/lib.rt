@@ -8,6 +8,7 @@ mod names;
 mod printer;
 mod printing;
 mod program_type;
+mod restating;
 mod statements;
 #[cfg(test)]
 mod tests;

@@ -1,8 +1,10 @@
 //! The names that a program declares.
 
-ghost use Rattle.std.specs.Prelude.{◌≡◌};
+ghost use Rattle.std.specs.Prelude.{◌≡◌, IfOk};
 
 use geo_base::Text;
+use geo_points::NoMemory;
+use std::alloc::Global;
 use std::marker::Model;
 
 /// What a name names.
@@ -32,6 +34,17 @@ impl Name {
     {
         self.text.bytes.as_slice()
     }
+
+    /// The same name.
+    pub fn copy(&self, alloc: Global) -> Result<Name, NoMemory>
+        ensures { IfOk result (λ name. name ≡ self.now) }
+    {
+        let bytes = Vec::from_slice(alloc, &self.text.bytes)?;
+        Ok(Name {
+            text: Text { bytes },
+            kind: self.kind,
+        })
+    }
 }
 
 /// Names, in order of declaration. Points, parameters and lines are each counted from 0. Contracts
@@ -58,4 +71,23 @@ impl Names {
     {
         self.items.as_slice()
     }
+
+    /// The same names.
+    pub fn copy(&self, alloc: Global) -> Result<Names, NoMemory>
+        ensures { IfOk result (λ names. names ≡ self.now) }
+    {
+        let items = copied_names(alloc, &self.items)?;
+        Ok(Names { items })
+    }
+}
+
+// The same names.
+fn copied_names(alloc: Global, names: &[Name]) -> Result<Vec<Name>, NoMemory>
+    ensures { IfOk result (λ copies. copies.items ≡ names.now) }
+{
+    let mut items = Vec::new(alloc);
+    for name in names {
+        items.push(name.copy(alloc)?)?;
+    }
+    Ok(items)
 }

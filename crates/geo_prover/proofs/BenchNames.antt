@@ -142,7 +142,9 @@ quadrangle_of : (n : ℕ) (text : List ℕ) → Contains (texts (quadrangle_name
 quadrangle_of zero text found = let one = corner_of 0 text found in record { letter = one.letter; number = 0; low = omega arith; is = one.is }
 quadrangle_of (suc n) text found =
     cases (quadrangle_of n text)
-    (Contains-append_cases (texts (quadrangle_names n)) (texts (corner_names (suc n))) text (subst (λ (ts : List (List ℕ)). Contains ts text) (map-append (λ (x : Name). x.text) (quadrangle_names n) (corner_names (suc n))) found))
+    (Contains-append_cases (texts (quadrangle_names n)) (texts (corner_names (suc n))) text
+    (subst (λ (ts : List (List ℕ)). Contains ts text)
+    (map-append (λ (x : Name). x.text) (quadrangle_names n) (corner_names (suc n))) found))
   where
     cases : (Contains (texts (quadrangle_names n)) text → IsCorner n text) → Contains (texts (quadrangle_names n)) text ⊎ Contains (texts (corner_names (suc n))) text → IsCorner (suc n) text
     cases before (inl first) = let one = before first in record { letter = one.letter; number = one.number; low = omega (arith, one.low); is = one.is }

@@ -71,7 +71,8 @@ module _ (n : ℕ) (some : 1 ≤ n) (few : n ≤ 60) (nodes : Store) (statement 
     same : ◌≡◌ {A = Source} (record { names = names; nodes = nodes; commands = commands; statement = statement }) stored
     same = λ i. record { names = ns i; nodes = nodes; commands = cs i; statement = statement }
 
-    pub bench_spelt : SpellsSource (canonical_text (record { names = names; nodes = nodes; commands = commands; statement = statement })) (record { names = names; nodes = nodes; commands = commands; statement = statement })
+    pub bench_spelt : SpellsSource (canonical_text (record { names = names; nodes = nodes; commands = commands; statement = statement }))
+        (record { names = names; nodes = nodes; commands = commands; statement = statement })
     bench_spelt = subst (λ (p : Source). SpellsSource (canonical_text p) p) (sym same) (well_formed_is_spelt stored stored_well_formed)
 
     pub bench_short : length (canonical_text (record { names = names; nodes = nodes; commands = commands; statement = statement })) ≤ 268435456

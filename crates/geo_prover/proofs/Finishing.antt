@@ -121,12 +121,14 @@ module _ (p : Source) (problem : Problem) (steps : ℕ) (w : IsWellFormed p) (sm
     conditions =
         All-from_recursion (IsItemReady c) problem.conditions
         (each_of (IsItemReady c) problem.conditions
-        (λ i item at. item_ready item (each_at (λ (x : ListedItem). x.term.0 < length c.nodes) problem.conditions i item (recursion_from_All (λ (x : ListedItem). x.term.0 < length c.nodes) problem.conditions is.conditions.stored) at)
+        (λ i item at. item_ready item (each_at (λ (x : ListedItem). x.term.0 < length c.nodes) problem.conditions i item
+        (recursion_from_All (λ (x : ListedItem). x.term.0 < length c.nodes) problem.conditions is.conditions.stored) at)
         (conditions_named p subject w (parts_of p subject about) i (log_item (item_form c.nodes item)) (listed_at problem.conditions i item at)).0));
     goals =
         All-from_recursion (IsItemReady c) problem.goals
         (each_of (IsItemReady c) problem.goals
-        (λ i item at. item_ready item (each_at (λ (x : ListedItem). x.term.0 < length c.nodes) problem.goals i item (recursion_from_All (λ (x : ListedItem). x.term.0 < length c.nodes) problem.goals is.goals.stored) at)
+        (λ i item at. item_ready item (each_at (λ (x : ListedItem). x.term.0 < length c.nodes) problem.goals i item
+        (recursion_from_All (λ (x : ListedItem). x.term.0 < length c.nodes) problem.goals is.goals.stored) at)
         (goals_named p subject w (parts_of p subject about) i (log_item (item_form c.nodes item)) (listed_at problem.goals i item at)).0));
   }
     where
@@ -177,7 +179,8 @@ module _ (p : Source) (problem : Problem) (steps : ℕ) (w : IsWellFormed p) (sm
     }
 
     -- a beginning of the text of a defined log
-    part : (lines : List Line) (ending : Ending) → IsDefinedLog lemma_table subject steps lines ending → (text rest : List ℕ) → log_text lines ≡ text ++ rest → Grows s.held text t.held → WritesPart p steps s.held t.held
+    part : (lines : List Line) (ending : Ending) → IsDefinedLog lemma_table subject steps lines ending → (text rest : List ℕ)
+        → log_text lines ≡ text ++ rest → Grows s.held text t.held → WritesPart p steps s.held t.held
     part lines ending d text rest e g = record {
       lines = lines;
       ending = ending;
@@ -269,11 +272,13 @@ module _ (p : Source) (problem : Problem) (steps : ℕ) (w : IsWellFormed p) (sm
     pub left_of : (lines : List Line) (verdict : Verdict) (left : ℕ) → IsLogOfProver lemma_table subject steps lines verdict left → left ≤ steps
     left_of lines verdict left h =
         let parts = parts_of p subject about in
-        let found = provers_log_accepted lemma_table subject steps left lines verdict (lemma_table_sound c (valid p subject w parts)) (conditions_named p subject w parts) (goals_named p subject w parts) small h in
+        let found = provers_log_accepted lemma_table subject steps left lines verdict (lemma_table_sound c (valid p subject w parts))
+        (conditions_named p subject w parts) (goals_named p subject w parts) small h in
         let spent_all = charges_spent lemma_table subject steps found.0 lines verdict found.2 in
         let more = found.1 in omega (arith, spent_all, more)
 
-    pub concluded : (summary : Summary) (left : ℕ) → Finishes whole s t summary.verdict left → t.bytes ≤ 67108864 → summary.lines ≡ t.lines → summary.charge ≡ steps - left → Concludes p steps s.held t.held summary
+    pub concluded : (summary : Summary) (left : ℕ) → Finishes whole s t summary.verdict left → t.bytes ≤ 67108864 → summary.lines ≡ t.lines
+        → summary.charge ≡ steps - left → Concludes p steps s.held t.held summary
     concluded summary left h fits counted charged =
         let measured = h.written.measured in
         let defined : IsDefinedLog lemma_table subject steps h.lines (ends_with summary.verdict left) = (h.whole, omega (arith, measured, bytes_none, fits)) in
@@ -311,7 +316,8 @@ faults_kept p steps s t (Err WriteFault) h e = e.2
 faults_kept p steps s t (Err NoMemory) h e = omega (arith, e.1)
 
 -- and they rise only where a fault of the sink is answered
-pub faults_heard : (p : Source) (steps : ℕ) (s t : State) (r : Result Summary ProveError) → OnOk r (t.faults ≡ s.faults) → IfErr r (IsAnswerOf p steps s t) → ¬ (IsErrOf r WriteFault) → t.faults ≡ s.faults
+pub faults_heard : (p : Source) (steps : ℕ) (s t : State) (r : Result Summary ProveError) → OnOk r (t.faults ≡ s.faults)
+    → IfErr r (IsAnswerOf p steps s t) → ¬ (IsErrOf r WriteFault) → t.faults ≡ s.faults
 faults_heard p steps s t (Ok x) h e other = h
 faults_heard p steps s t (Err (TooLarge n which)) h e other = e.1
 faults_heard p steps s t (Err (Spent n)) h e other = e.1

@@ -1,5 +1,6 @@
 -- The lines of a program in its text.
-use Rattle.std.proofs.Common.{◌≡◌, ℕ, suc, ◌+◌, ◌<◌, ◌≤◌, Bool, true, false, not, cond, inl, inr, Some, None, List, [], ◌∷◌, ◌++◌, map, length, take, drop, append-nil, append_assoc, refl, sym, ◌∙◌, ap, subst, arith}
+use Rattle.std.proofs.Common.{◌≡◌, ℕ, suc, ◌+◌, ◌<◌, ◌≤◌, Bool, true, false, not, cond, inl, inr, Some, None, List, [], ◌∷◌, ◌++◌, map}
+use Rattle.std.proofs.Common.{length, take, drop, append-nil, append_assoc, refl, sym, ◌∙◌, ap, subst, arith}
 use Rattle.std.specs.Prelude.{◌==◌, nat_lt}
 use Rattle.std.specs.List.{AllByRecursion, flat_map, position, prefix_len}
 use Rattle.std.proofs.lemmas.Bool.{eqb-false, lt-ltb, ltb-true, ne_eqb}
@@ -19,7 +20,7 @@ use Rattle.geo_prover.specs.declared.errors.ProveError.{ProveError}
 use Rattle.geo_prover.specs.declared.errors.ProveError.TheVariants.{TooLarge, Spent, TooLong, WriteFault, NoMemory}
 use Rattle.geo_prover.specs.Inner.FirstLines.{IsBrokenOffAmong, IsPartAmong, IsTooLongAmong, pieces}
 use Rattle.geo_prover.specs.Inner.Written.{IsCutOff, IsUnwritten, State, Writes}
-use Rattle.geo_prover.proofs.Passing.{log_text-append, text_length-append, writes_more, writes_nothing}
+use Rattle.geo_prover.proofs.Passing.{log_text-append, text_length-append, writes_more}
 
 -- THE FIRST LINE FEED
 abbrev passes : ℕ → Bool
@@ -80,9 +81,6 @@ pub record IsBetween (lines : List (List ℕ)) (rest : List ℕ) (s t : State) :
   pub rest_is : rest ≡ pieces left
   pub one_line : AllByRecursion HasNoLineFeed left
   pub written : Writes (map ProgramLine done) s t
-
-pub at_first : (lines : List (List ℕ)) (text : List ℕ) (s : State) → text ≡ pieces lines → AllByRecursion HasNoLineFeed lines → IsBetween lines text s s
-at_first lines text s e h = record { done = []; left = lines; split = refl; rest_is = e; one_line = h; written = writes_nothing s }
 
 take_front : (xs ys : List ℕ) → take (length xs) (xs ++ ys) ≡ xs
 take_front [] ys = refl

@@ -1,5 +1,6 @@
 -- The chains of conditions and goals, one after another.
-use Rattle.std.proofs.Common.{◌≡◌, ◌≢◌, ℕ, zero, suc, ◌+◌, ◌<◌, ◌≤◌, ◌^◌, inl, inr, Option, Some, None, List, [], ◌∷◌, ◌++◌, length, append-nil, append_assoc, add-one, refl, sym, ◌∙◌, ap, subst, drop, ℤ, arith}
+use Rattle.std.proofs.Common.{◌≡◌, ◌≢◌, ℕ, zero, suc, ◌+◌, ◌<◌, ◌≤◌, ◌^◌, inl, inr, Option, Some, None, List, [], ◌∷◌, ◌++◌, length}
+use Rattle.std.proofs.Common.{append-nil, append_assoc, add-one, refl, sym, ◌∙◌, ap, subst, drop, ℤ, arith}
 use Rattle.std.specs.Prelude.{IfNone, IfSome, slice_get}
 use Rattle.std.specs.List.{cons_option}
 use Rattle.std.proofs.lemmas.List.Elements.{recursion_from_All}
@@ -54,7 +55,8 @@ module _ (c : Construction) where
   goals_start known listed k left [] = (before_sample listed left, inl (refl, refl))
   goals_start known listed k left (item ∷ items) = (before_line (Goal k item.text), inl (inl (refl, refl)))
 
-  pub conditions_start : (goals : List Item) (known : List Var) (listed : List Summands) (k left : ℕ) (items : List Item) → (place : Place) × (conditions_part c goals known listed k left items).begun [] place
+  pub conditions_start : (goals : List Item) (known : List Var) (listed : List Summands) (k left : ℕ) (items : List Item) → (place : Place)
+      × (conditions_part c goals known listed k left items).begun [] place
   conditions_start goals known listed k left [] = goals_start known listed 1 left goals
   conditions_start goals known listed k left (item ∷ items) = (before_line (Condition k item.text), inl (inl (refl, refl)))
 
@@ -249,12 +251,16 @@ module _ (problem : Problem) where
       pub task_chain : (s : State) → IsConditionTask problem.conditions i header id → Passes (conditions_from problem i known listed left) (chain_part c header known left (tree_of c.nodes id)) s s
       task_chain s task =
           subst (λ h. Passes (conditions_from problem i known listed left) (chain_part c h known left (tree_of c.nodes id)) s s) (sym task.header_is)
-          (subst (λ t. Passes (conditions_from problem i known listed left) (chain_part c (Condition (suc i) task.item.text) known left (tree_of c.nodes t)) s s) (sym task.term_is) (condition_chain task.item s task.at))
+          (subst (λ t. Passes (conditions_from problem i known listed left)
+          (chain_part c (Condition (suc i) task.item.text) known left (tree_of c.nodes t)) s s) (sym task.term_is)
+          (condition_chain task.item s task.at))
 
       pub goal_task_chain : (s : State) → IsGoalTask problem.goals i header id → Passes (goals_from problem i known listed left) (chain_part c header known left (tree_of c.nodes id)) s s
       goal_task_chain s task =
           subst (λ h. Passes (goals_from problem i known listed left) (chain_part c h known left (tree_of c.nodes id)) s s) (sym task.header_is)
-          (subst (λ t. Passes (goals_from problem i known listed left) (chain_part c (Goal (suc i) task.item.text) known left (tree_of c.nodes t)) s s) (sym task.term_is) (goal_chain task.item s task.at))
+          (subst (λ t. Passes (goals_from problem i known listed left)
+          (chain_part c (Goal (suc i) task.item.text) known left (tree_of c.nodes t)) s s) (sym task.term_is)
+          (goal_chain task.item s task.at))
 
       module _ (left' : ℕ) (s t : State) (end : Summands) (variable : Option Var) (h : WorksChain c header known left (tree_of c.nodes id) left' s t end variable) where
         works_condition : (task : IsConditionTask problem.conditions i header id) → WorksChain c (Condition (suc i) task.item.text) known left (term task.item) left' s t end variable
@@ -268,7 +274,8 @@ module _ (problem : Problem) where
             (subst (λ l. WorksChain c l known left (tree_of c.nodes id) left' s t end variable) task.header_is h)
 
         -- a condition whose chain does not end in 0
-        pub task_passes : (known' : List Var) (listed' : List Summands) → IsConditionTask problem.conditions i header id → end ≢ [] → known' ≡ known ++ cons_option variable [] → listed' ≡ listed ++ end ∷ []
+        pub task_passes : (known' : List Var) (listed' : List Summands) → IsConditionTask problem.conditions i header id → end ≢ []
+            → known' ≡ known ++ cons_option variable [] → listed' ≡ listed ++ end ∷ []
             → Passes (conditions_from problem i known listed left) (conditions_from problem (i + 1) known' listed' left') s t
         task_passes known' listed' task nonzero k l =
             subst (λ n. Passes (conditions_from problem i known listed left) (conditions_from problem n known' listed' left') s t) (sym (add-one i))
@@ -279,19 +286,22 @@ module _ (problem : Problem) where
         -- one whose chain does
         pub task_impossible : IsConditionTask problem.conditions i header id → end ≡ [] → IsImpossibleAt (conditions_from problem i known listed left) left' s t (i + 1)
         task_impossible task zero_end =
-            subst (λ n. IsImpossibleAt (conditions_from problem i known listed left) left' s t n) (sym (add-one i)) (condition_impossible task.item left' s t end variable task.at (works_condition task) zero_end)
+            subst (λ n. IsImpossibleAt (conditions_from problem i known listed left) left' s t n) (sym (add-one i))
+            (condition_impossible task.item left' s t end variable task.at (works_condition task) zero_end)
 
         -- a goal whose chain ends in 0
         pub goal_task_passes : IsGoalTask problem.goals i header id → end ≡ [] → Passes (goals_from problem i known listed left) (goals_from problem (i + 1) known listed left') s t
         goal_task_passes task zero_end =
-            subst (λ n. Passes (goals_from problem i known listed left) (goals_from problem n known listed left') s t) (sym (add-one i)) (goal_passes task.item left' s t end variable task.at (works_goal task) zero_end)
+            subst (λ n. Passes (goals_from problem i known listed left) (goals_from problem n known listed left') s t) (sym (add-one i))
+            (goal_passes task.item left' s t end variable task.at (works_goal task) zero_end)
 
         -- one whose chain does not
         pub goal_task_fails : (listed' : List Summands) → IsGoalTask problem.goals i header id → end ≢ [] → listed' ≡ listed ++ end ∷ []
             → Passes (goals_from problem i known listed left) (end_part c listed' (False (i + 1)) left') s t
         goal_task_fails listed' task nonzero l =
             subst (λ n. Passes (goals_from problem i known listed left) (end_part c listed' (False n) left') s t) (sym (add-one i))
-            (subst (λ ls. Passes (goals_from problem i known listed left) (end_part c ls (False (suc i)) left') s t) (sym l) (goal_fails task.item left' s t end variable task.at (works_goal task) nonzero))
+            (subst (λ ls. Passes (goals_from problem i known listed left) (end_part c ls (False (suc i)) left') s t) (sym l)
+            (goal_fails task.item left' s t end variable task.at (works_goal task) nonzero))
 
   -- READY ITEMS
   pub condition_ready : (i : ℕ) (head : Line) (id : TermId) → IsReady problem → IsConditionTask problem.conditions i head id → (id.0 < length c.nodes) × IsInside c (tree_of c.nodes id)
@@ -325,7 +335,8 @@ module _ (c : Construction) (listed : List Summands) (verdict : Verdict) (left :
     }
 
 -- what is told of the conditions, where nothing is known yet
-pub at_nothing : (R : Part → Type 0) (problem : Problem) (known : List Var) (listed : List Summands) (left : ℕ) → known ≡ [] → listed ≡ [] → R (conditions_from problem 0 known listed left) → R (conditions_from problem 0 [] [] left)
+pub at_nothing : (R : Part → Type 0) (problem : Problem) (known : List Var) (listed : List Summands) (left : ℕ) → known ≡ [] → listed ≡ []
+    → R (conditions_from problem 0 known listed left) → R (conditions_from problem 0 [] [] left)
 at_nothing R problem known listed left k l h = subst (λ ks. R (conditions_from problem 0 ks [] left)) k (subst (λ ls. R (conditions_from problem 0 known ls left)) l h)
 
 -- the number, if there is one
@@ -350,10 +361,3 @@ impossible_on P Q s t u left k h g = record {
 -- the verdict is due there
 pub at_impossible : (P : Part) (s t : State) (left k : ℕ) → IsImpossibleAt P left s t k → Passes P (here_part (before_line (VerdictLine (Impossible k)))) s t
 at_impossible P s t left k h = reaches P h.lines (before_line (VerdictLine (Impossible k))) s t h.begun h.written
-
-pub ends_impossible : (P : Part) (s t u : State) (left k : ℕ) → IsImpossibleAt P left s t k → Writes (VerdictLine (Impossible k) ∷ []) t u → Finishes P s u (Impossible k) left
-ends_impossible P s t u left k h w = record {
-  lines = h.lines ++ VerdictLine (Impossible k) ∷ [];
-  whole = h.whole;
-  written = writes_more h.lines (VerdictLine (Impossible k) ∷ []) s t u h.written w;
-}

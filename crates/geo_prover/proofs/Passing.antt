@@ -1,5 +1,5 @@
 -- Parts of a log in a row: what was written adds up, a stop behind lines is a stop of the whole.
-use Rattle.std.proofs.Common.{◌≡◌, ℕ, suc, ◌+◌, ◌<◌, ◌≤◌, inl, inr, List, [], ◌∷◌, ◌++◌, length, append-nil, append_assoc, refl, sym, ◌∙◌, ap, subst, take, arith}
+use Rattle.std.proofs.Common.{◌≡◌, ℕ, suc, ◌+◌, ◌≤◌, inl, inr, List, [], ◌∷◌, ◌++◌, length, append-nil, append_assoc, refl, sym, ◌∙◌, ap, subst, take, arith}
 use Rattle.std.proofs.lemmas.List.{length-append}
 use Rattle.std.proofs.lemmas.Grind.{flat_map-append}
 use Rattle.geo_base.specs.Devices.{Grows, HasRisen}
@@ -274,11 +274,3 @@ answered_here c place s t fits SpentThere is_spent is_large is_made e h = stoppe
 answered_here c place s t fits (TooLargeThere which) is_spent is_large is_made e h = stopped_here c place (too_large which) s t (is_large which refl) fits e h
 answered_here c place s t fits NoMemoryThere is_spent is_large is_made e h =
     subst (λ x. Halts c (here_part place) s t x) (sym h.0) (subst (λ u. Halts c (here_part place) s u NoMemory) (sym h.1) (memory_here c place s fits))
-
--- each line has a text
-pub some_text : (line : Line) → 0 < text_length (line ∷ [])
-some_text line =
-    let a : log_text (line ∷ []) ≡ line_text line ++ 10 ∷ [] = append-nil (line_text line ++ 10 ∷ []) in
-    let b : length (line_text line ++ 10 ∷ []) ≡ length (line_text line) + 1 = length-append (line_text line) (10 ∷ []) in
-    let d : text_length (line ∷ []) ≡ length (line_text line ++ 10 ∷ []) = ap length a in
-    omega (arith, b, d)

@@ -1,13 +1,15 @@
 -- What tries change: polynomials that lack the variable stay as they are.
-use Rattle.std.proofs.Common.{◌≡◌, ℕ, zero, suc, ◌+◌, ◌<◌, eqb, cond, Bool, true, false, ℤ, Option, Some, None, List, [], ◌∷◌, length, set, take, drop, get_or, All, refl, sym, ap, ap₂, ◌∙◌, arith}
+use Rattle.std.proofs.Common.{◌≡◌, ℕ, zero, suc, ◌+◌, ◌^◌, ◌<◌, ◌≤◌, pos, unsigned_abs, eqb, cond, Bool, true, false, ℤ, Option, Some, None}
+use Rattle.std.proofs.Common.{List, [], ◌∷◌, ◌++◌, length, set, take, drop, get_or, All, refl, sym, ap, ap₂, subst, ◌∙◌, arith}
 use Rattle.std.specs.Option.{unwrap_or}
 use Rattle.std.proofs.lemmas.Bool.Decides.{nat_tests}
-use Rattle.std.proofs.lemmas.List.Elements.{All-nil, All-cons, All-head, All-tail}
+use Rattle.std.proofs.lemmas.List.Elements.{All-nil, All-cons, All-head, All-push, All-tail, All-weaker}
+use Rattle.std.proofs.lemmas.List.{map-append, take_more}
 use Rattle.sparse_lists.proofs.Merging.{drop_at, get_or_any}
 use Rattle.geo_poly.specs.declared.variables.Var.{Var}
-use Rattle.geo_poly.specs.Polynomials.{Summands}
-use Rattle.geo_poly.specs.Specialise.{specialised, degree_in, IsCollected, NoneZero}
-use Rattle.geo_poly.proofs.SpecialisedLaws.{specialised-lacking}
+use Rattle.geo_poly.specs.Polynomials.{Summands, IsPolynomial}
+use Rattle.geo_poly.specs.Specialise.{specialised, specialised_weight, degree_in, IsCollected, NoneZero}
+use Rattle.geo_poly.proofs.SpecialisedLaws.{small_weight, specialised-lacking}
 use Rattle.geo_sample.specs.Tries.{all_specialised}
 use Rattle.geo_sample.specs.Inner.{NoneBecomesZero, change, changed, changes}
 
@@ -53,18 +55,24 @@ zero_from_becomes v z (p ∷ ps) h some g =
     (not_zero_change v z p (All-head IsCollected p ps h) (All-head (λ (q : Summands). q ≡ [] → ⊥) p ps some) (All-head (λ (c : Option Summands). c ≡ Some [] → ⊥) (change v z p) (changes v z ps) g))
     (zero_from_becomes v z ps (All-tail IsCollected p ps h) (All-tail (λ (q : Summands). q ≡ [] → ⊥) p ps some) (All-tail (λ (c : Option Summands). c ≡ Some [] → ⊥) (change v z p) (changes v z ps) g))
 
+-- no weight at 0 passes the bound of a norm
+pub zero_fits : (v : Var) (ps : List Summands) → All IsPolynomial ps → All (λ p. specialised_weight v (pos 0) p < 2 ^ 127) ps
+zero_fits v ps h =
+    All-weaker IsPolynomial (λ p. specialised_weight v (pos 0) p < 2 ^ 127)
+    (λ p valid. let small : unsigned_abs (pos 0) ≤ 1 = omega arith in omega (arith, small_weight v (pos 0) p small, valid.norm_fits)) ps h
+
+-- what is told of them of what a call was passed
+pub seen : (v : Var) (y z : ℤ) (qs ps : List Summands) (cs : List (Option Summands)) → y ≡ z → qs ≡ ps → cs ≡ changes v y qs → cs ≡ changes v z ps
+seen v y z qs ps cs number polys c = c ∙ ap₂ (λ (k : ℤ) (rs : List Summands). changes v k rs) number polys
+
 -- THE LOOP THAT PUTS TOGETHER
 -- what is put together of polynomials and what they become
-pub put_all : (v : Var) (z : ℤ) (ps before now next : List Summands) (cs : List (Option Summands)) → All IsCollected ps → before ≡ ps → now ≡ ps → cs ≡ changes v z before → next ≡ changed cs now → next ≡ all_specialised v z ps
-put_all v z ps before now next cs h b n c e = e ∙ ap₂ changed (c ∙ ap (changes v z) b) n ∙ changed_all v z ps h
-
-pub length-changed : (cs : List (Option Summands)) (ps : List Summands) → length (changed cs ps) ≡ length ps
-length-changed [] ps = refl
-length-changed (c ∷ cs) [] = refl
-length-changed (c ∷ cs) (p ∷ ps) = omega (arith, length-changed cs ps)
+pub put_all : (v : Var) (z : ℤ) (ps next : List Summands) (cs : List (Option Summands)) → All IsCollected ps → cs ≡ changes v z ps → next ≡ changed cs ps → next ≡ all_specialised v z ps
+put_all v z ps next cs h c e = e ∙ ap (λ (ds : List (Option Summands)). changed ds ps) c ∙ changed_all v z ps h
 
 -- a change that is moved out of what is left of their list
-pub same_left : (now cs : List (Option Summands)) (i : ℕ) (c : Option Summands) → i < length now → i < length cs → c ≡ get_or now i c → drop i now ≡ drop i cs → (get_or cs i None ≡ c) × (drop (i + 1) now ≡ drop (i + 1) cs)
+pub same_left : (now cs : List (Option Summands)) (i : ℕ) (c : Option Summands) → i < length now → i < length cs → c ≡ get_or now i c
+    → drop i now ≡ drop i cs → (get_or cs i None ≡ c) × (drop (i + 1) now ≡ drop (i + 1) cs)
 same_left now cs i c lt below at same =
     let d = get_or cs i None in
     let both : c ∷ drop (i + 1) now ≡ get_or cs i None ∷ drop (i + 1) cs = sym (drop_at now i c lt at) ∙ same ∙ drop_at cs i d below (get_or_any cs i None d below) in
@@ -85,8 +93,27 @@ stays-more (c ∷ cs) [] (suc i) lt none = refl
 stays-more (c ∷ cs) (p ∷ ps) (suc i) lt none = ap (λ (qs : List Summands). unwrap_or c p ∷ qs) (stays-more cs ps i (omega (arith, lt)) none)
 
 -- one more that becomes another
-pub becomes-more : (cs : List (Option Summands)) (ps : List Summands) (i : ℕ) (q : Summands) → i < length cs → length cs ≡ length ps → get_or cs i None ≡ Some q → changed (take (suc i) cs) ps ≡ set (changed (take i cs) ps) i q
+pub becomes-more : (cs : List (Option Summands)) (ps : List Summands) (i : ℕ) (q : Summands) → i < length cs → length cs ≡ length ps
+    → get_or cs i None ≡ Some q → changed (take (suc i) cs) ps ≡ set (changed (take i cs) ps) i q
 becomes-more [] ps i q lt same e = absurd (omega (arith, lt))
 becomes-more (c ∷ cs) [] i q lt same e = absurd (omega (arith, same))
 becomes-more (c ∷ cs) (p ∷ ps) zero q lt same e = ap (λ (d : Option Summands). unwrap_or d p ∷ ps) e
 becomes-more (c ∷ cs) (p ∷ ps) (suc i) q lt same e = ap (λ (qs : List Summands). unwrap_or c p ∷ qs) (becomes-more cs ps i q (omega (arith, lt)) (omega (arith, same)) e)
+
+-- THE NUMBER PUT IN
+-- one of them is zero then
+pub one_vanishes : (v : Var) (z : ℤ) (ps : List Summands) (i : ℕ) (p : Summands) → i < length ps → p ≡ get_or ps i p → specialised v z p ≡ [] → NoneZero (all_specialised v z ps) → ⊥
+one_vanishes v z [] i p lt is gone h = absurd (omega (arith, lt))
+one_vanishes v z (q ∷ qs) zero p lt is gone h =
+    All-head (λ (r : Summands). r ≡ [] → ⊥) (specialised v z q) (all_specialised v z qs) h (ap (specialised v z) (sym is) ∙ gone)
+one_vanishes v z (q ∷ qs) (suc i) p lt is gone h =
+    one_vanishes v z qs i p (omega (arith, lt)) is gone (All-tail (λ (r : Summands). r ≡ [] → ⊥) (specialised v z q) (all_specialised v z qs) h)
+
+-- one more that is not
+pub one_stays : (v : Var) (z : ℤ) (ps : List Summands) (i : ℕ) (p : Summands) → i < length ps → p ≡ get_or ps i p → NoneZero (all_specialised v z (take i ps)) → (specialised v z p ≡ [] → ⊥)
+    → NoneZero (all_specialised v z (take (i + 1) ps))
+one_stays v z ps i p lt is h some =
+    let more : all_specialised v z (take (i + 1) ps) ≡ all_specialised v z (take i ps) ++ specialised v z p ∷ [] =
+    ap (all_specialised v z) (take_more ps i p lt) ∙ map-append (specialised v z) (take i ps) (get_or ps i p ∷ [])
+    ∙ ap (λ (q : Summands). all_specialised v z (take i ps) ++ specialised v z q ∷ []) (sym is) in
+    subst NoneZero (sym more) (All-push (λ (r : Summands). r ≡ [] → ⊥) (all_specialised v z (take i ps)) (specialised v z p) h some)

@@ -110,7 +110,8 @@ All-both P Q R f xs h g k d lt = f (get_or xs k d) (h k d lt) (g k d lt)
 moved : (a b : Fraction) → Same a b → IsNonzero a → IsNonzero b
 moved a b h n e = n (zero_of_same a (fractions.same_trans _ _ _ h (same_of_zero b e)))
 
-pub not_zero : (xs : List (Var × ℤ)) (ps : List Summands) (x : Var → Fraction) → All IsCollected ps → All (HasOnly (map (λ y. y.0) xs)) ps → NoneZero (specialised_by xs ps) → All (λ y. Same (x y.0) (whole y.1)) xs
+pub not_zero : (xs : List (Var × ℤ)) (ps : List Summands) (x : Var → Fraction) → All IsCollected ps → All (HasOnly (map (λ y. y.0) xs)) ps
+    → NoneZero (specialised_by xs ps) → All (λ y. Same (x y.0) (whole y.1)) xs
     → All (λ p. IsNonzero (value fractions x p)) ps
 not_zero [] ps x h only some at =
     All-both (λ p. IsCollected p × (p ≡ [] → ⊥)) (HasOnly []) (λ p. IsNonzero (value fractions x p))
@@ -122,7 +123,9 @@ not_zero [] ps x h only some at =
 not_zero (y ∷ xs) ps x h only some at =
     let here : Same (x y.0) (whole y.1) = All-head (λ (y : Var × ℤ). Same (x y.0) (whole y.1)) y xs at in
     let rest = not_zero xs (all_specialised y.0 y.1 ps) x (collected y.0 y.1 ps h)
-    (All-map (HasOnly (map (λ y. y.0) xs)) (specialised y.0 y.1) ps (All-weaker (HasOnly (y.0 ∷ map (λ y. y.0) xs)) (λ p. HasOnly (map (λ y. y.0) xs) (specialised y.0 y.1 p)) (λ p has. fewer y.0 y.1 (map (λ y. y.0) xs) p has) ps only))
+    (All-map (HasOnly (map (λ y. y.0) xs)) (specialised y.0 y.1) ps
+    (All-weaker (HasOnly (y.0 ∷ map (λ y. y.0) xs)) (λ p. HasOnly (map (λ y. y.0) xs) (specialised y.0 y.1 p))
+    (λ p has. fewer y.0 y.1 (map (λ y. y.0) xs) p has) ps only))
     some (All-tail (λ (y : Var × ℤ). Same (x y.0) (whole y.1)) y xs at) in
     All-weaker (λ p. IsNonzero (value fractions x (specialised y.0 y.1 p))) (λ p. IsNonzero (value fractions x p))
     (λ p n. moved (value fractions x (specialised y.0 y.1 p)) (value fractions x p) (value-specialised fractions x y.0 y.1 (fractions.same_trans _ _ _ here (whole-integer y.1)) p) n) ps

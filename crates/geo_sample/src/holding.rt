@@ -1,15 +1,19 @@
 //! The test of given values.
 
-ghost use Rattle.std.specs.Prelude.{◌≡◌, ◌↔◌, IfOk, IfErr, IsTrue};
-ghost use Rattle.geo_poly.specs.Specialise.{NoneZero};
-ghost use Rattle.geo_sample.specs.Tries.{AreMade, EndIn, single_tries};
+ghost use Rattle.std.specs.Prelude.{◌≡◌, ◌⊎◌, ◌↔◌, ◌^◌, ◌<◌, ◌≤◌, [], ◌∷◌, length, sum_by};
+ghost use Rattle.std.specs.Prelude.{All, Any, IfOk, IfErr, IsTrue};
+ghost use Rattle.geo_poly.specs.Specialise.{NoneZero, specialised_weight};
+ghost use Rattle.geo_sample.specs.Tries.{AreMade, EndIn, all_specialised, single_tries};
 ghost use Rattle.geo_sample.specs.Samples.{specialised_by};
 
+use crate::charges::affordable;
 use crate::errors::SampleError;
-use crate::trying::{are_valid, copies, none_zero, put_together, try_value};
+use crate::lists::{are_valid, copies, none_zero};
+use crate::numbers::put_other;
+use crate::zeros::put_zero;
 use geo_base::Budget;
 use geo_poly::lists::{Polys, Values};
-use geo_poly::{Poly, Var};
+use geo_poly::{Poly, Var, Which};
 use std::alloc::Global;
 
 /// Whether none of the polynomials is zero at the values, which are put in one after another: one
@@ -43,10 +47,59 @@ fn numbers_hold(
         (λ e. EndIn e budget.old.left (single_tries values.now polys.now) budget.new.left) }
 {
     prove!(are_valid(polys));
-    let mut current = copies(alloc, polys)?;
+    if values.is_empty() {
+        return Ok(none_zero(polys));
+    }
+    affordable(polys, budget)?;
+    let mut current = copies(alloc, polys, budget)?;
     for value in values {
-        let changes = try_value(alloc, &current, value, budget)?;
-        current = put_together(current, changes);
+        put_value(alloc, &mut current, value, budget)?;
     }
     Ok(none_zero(&current))
+}
+
+/// A try of a value, which is put in also where a polynomial becomes zero.
+fn put_value(
+    alloc: Global,
+    polys: &mut Vec<Poly>,
+    value: &(Var, i128),
+    budget: &mut Budget,
+) -> Result<(), SampleError>
+    ensures put { IfOk result
+        (λ u. polys.new.items ≡ all_specialised value.now.0 value.now.1 polys.old.items) }
+    ensures made { IfOk result (λ u. AreMade budget.old.left
+        (record { variable = value.now.0; number = value.now.1; polys = polys.old.items } ∷ [])
+        budget.new.left) }
+    ensures stopped { IfErr result (λ e. EndIn e budget.old.left
+        (record { variable = value.now.0; number = value.now.1; polys = polys.old.items } ∷ [])
+        budget.new.left) }
+{
+    let charge = affordable(polys, budget)?;
+    put_number(alloc, polys, value.0, value.1, budget)?;
+    budget.left -= charge;
+    Ok(())
+}
+
+/// Puts the number for the variable.
+fn put_number(
+    alloc: Global,
+    polys: &mut Vec<Poly>,
+    v: Var,
+    number: i128,
+    budget: &Budget,
+) -> Result<(), SampleError>
+    requires paid { sum_by length polys.old.items ≤ budget.now.left }
+    ensures put { IfOk result (λ u. polys.new.items ≡ all_specialised v number polys.old.items) }
+    ensures fit { IfOk result
+        (λ u. All (λ p. specialised_weight v number p < 2 ^ 127) polys.old.items) }
+    ensures stopped { IfErr result (λ e. (e ≡ SampleError.NoMemory)
+        ⊎ ((e ≡ SampleError.TooLarge Which.Norm)
+        × Any (λ p. 2 ^ 127 ≤ specialised_weight v number p) polys.old.items)) }
+{
+    prove!(are_valid(polys));
+    if number == 0 {
+        put_zero(polys, v, budget);
+        return Ok(());
+    }
+    put_other(alloc, polys, v, number, budget)
 }

@@ -3,12 +3,14 @@
 ghost use Rattle.std.specs.Prelude.{◌≡◌, ◌^◌, ◌<◌, ℕ, suc, pos, length, unsigned_abs, All, IfOk};
 ghost use Rattle.std.specs.Prelude.{IfErr};
 ghost use Rattle.geo_poly.specs.Specialise.{IsCollected, NoneZero};
-ghost use Rattle.geo_sample.specs.Tries.{AreMade, EndIn, search_tries, tries_below};
+ghost use Rattle.geo_sample.specs.Tries.{AreMade, EndIn, all_specialised, search_tries};
+ghost use Rattle.geo_sample.specs.Tries.{tries_below};
 ghost use Rattle.geo_sample.specs.Samples.{IsLeastSample, IsLeastValue, SearchEndsIn};
-ghost use Rattle.geo_sample.specs.Inner.{changes};
 
+use crate::charges::affordable;
 use crate::errors::SampleError;
-use crate::trying::{are_valid, copies, none_becomes_zero, put_together, try_natural};
+use crate::lists::{are_valid, copies};
+use crate::trying::try_natural;
 use geo_base::Budget;
 use geo_poly::lists::{Polys, Values, Vars};
 use geo_poly::{Poly, Var};
@@ -50,12 +52,15 @@ fn least_values(
         (λ e. SearchEndsIn e vars.now polys.now budget.old.left budget.new.left) }
 {
     prove!(are_valid(polys));
-    let mut current = copies(alloc, polys)?;
     let mut values = Vec::new(alloc);
+    if vars.is_empty() {
+        return Ok(values);
+    }
+    affordable(polys, budget)?;
+    let mut current = copies(alloc, polys, budget)?;
     for v in vars {
-        let (value, changes) = least_value(alloc, &current, *v, budget)?;
+        let value = put_least_value(alloc, &mut current, *v, budget)?;
         values.push(pair(*v, value))?;
-        current = put_together(current, changes);
     }
     Ok(values)
 }
@@ -68,29 +73,29 @@ fn pair(v: Var, k: u128) -> (Var, i128)
     (v, k as i128)
 }
 
-/// The least number for the variable, and what the polynomials become with it.
-fn least_value(
+/// Puts the least number for the variable at which none of the polynomials is zero, and answers it.
+fn put_least_value(
     alloc: Global,
-    polys: &[Poly],
+    polys: &mut Vec<Poly>,
     v: Var,
     budget: &mut Budget,
-) -> Result<(u128, Vec<Option<Poly>>), SampleError>
-    requires collected { All IsCollected polys.now }
-    requires nonzero { NoneZero polys.now }
-    requires few { length polys.now < 2 ^ 64 }
-    ensures least { IfOk result (λ r. IsLeastValue v polys.now (pos r.0)) }
-    ensures fits { IfOk result (λ r. r.0 < 2 ^ 127) }
-    ensures changes { IfOk result (λ r. r.1.items ≡ changes v (pos r.0) polys.now) }
+) -> Result<u128, SampleError>
+    requires collected { All IsCollected polys.old.items }
+    requires nonzero { NoneZero polys.old.items }
+    requires few { length polys.old.items < 2 ^ 64 }
+    ensures least { IfOk result (λ k. IsLeastValue v polys.old.items (pos k)) }
+    ensures fits { IfOk result (λ k. k < 2 ^ 127) }
+    ensures put { IfOk result (λ k. polys.new.items ≡ all_specialised v (pos k) polys.old.items) }
     ensures made { IfOk result
-        (λ r. AreMade budget.old.left (tries_below (suc r.0) v polys.now) budget.new.left) }
-    ensures stopped { IfErr result (λ e. (k : ℕ) × IsLeastValue v polys.now (pos k)
-        × EndIn e budget.old.left (tries_below (suc k) v polys.now) budget.new.left) }
+        (λ k. AreMade budget.old.left (tries_below (suc k) v polys.old.items) budget.new.left) }
+    ensures stopped { IfErr result (λ e. (k : ℕ) × IsLeastValue v polys.old.items (pos k)
+        × EndIn e budget.old.left (tries_below (suc k) v polys.old.items) budget.new.left) }
 {
     let mut k = 0u128;
     loop {
-        let changes = try_natural(alloc, polys, v, k, budget)?;
-        if none_becomes_zero(&changes) {
-            return Ok((k, changes));
+        let keeps = try_natural(alloc, polys, v, k, budget)?;
+        if keeps {
+            return Ok(k);
         }
         k += 1;
     }

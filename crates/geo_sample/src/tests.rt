@@ -5,8 +5,8 @@ ghost use Rattle.std.specs.Prelude.{◌^◌, ◌<◌, unsigned_abs};
 
 use crate::errors::SampleError;
 use crate::holding::values_hold;
+use crate::lists::none_zero;
 use crate::sample::least_sample;
-use crate::trying::none_zero;
 use geo_base::Budget;
 use geo_points::{ParamId, PointId};
 use geo_poly::lists::{Polys, Values, Vars};

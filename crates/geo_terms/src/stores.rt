@@ -45,6 +45,15 @@ impl Terms {
         })
     }
 
+    /// A store with the same terms.
+    pub fn copy(&self) -> Result<Terms, NoMemory>
+        ensures { IfOk result (λ terms. terms ≡ self.now) }
+    {
+        Ok(Terms {
+            nodes: self.nodes.clone()?,
+        })
+    }
+
     /// The index of the node, which is added at the end where it is new. All other terms stay.
     pub fn intern(&mut self, node: Node) -> Result<TermId, NoMemory>
         requires children { HasChildrenBelow (length self.old) node }

@@ -21,6 +21,7 @@ use Rattle.geo_logs.specs.Chains.{chain_lines}
 use Rattle.geo_logs.specs.Logs.{AreConditionsWorked, AreGoalsWorked, Chains, Item, Samples, known_by}
 use Rattle.log_checker.specs.Accepted.{AcceptedBytesMean, AcceptedBytesTellPrograms, ProgramsHaveDefinedLogs, ProgramsHaveSubjects}
 use Rattle.log_checker.specs.Subjects.{version_number, log_item, source_lines}
+use Rattle.log_checker.proofs.PrintedValues.{accepted_values}
 use Rattle.log_checker.proofs.Realised.{accepted_samples_are_met}
 use Rattle.log_checker.proofs.ThreeVerdicts.{false_breaks, impossible_is_never_met, proved_is_true}
 use Rattle.log_checker.proofs.Reached.{defined_log_exists}
@@ -30,13 +31,13 @@ pub accepted_bytes_mean : AcceptedBytesMean
 accepted_bytes_mean bytes steps p Proved a =
     let met = accepted_samples_are_met p steps a.lines Proved a.accepted tt in (
       proved_is_true p steps a.lines a.accepted,
-      (met.0, record { lines = a.lines; writable = a.writable; written = a.written; ends = met.1 }, met.2),
+      (met.0, accepted_values bytes steps p Proved met.0 a met.1, met.2),
     )
 accepted_bytes_mean bytes steps p (False g) a =
     let broken = false_breaks p steps g a.lines a.accepted in
     let breaks = broken.2 in (
       broken.0,
-      record { lines = a.lines; writable = a.writable; written = a.written; ends = broken.1 },
+      accepted_values bytes steps p (False g) broken.0 a broken.1,
       record { placed = breaks.placed; has = breaks.has; meets = breaks.meets; unique = breaks.unique },
       breaks,
       broken.3,
@@ -74,21 +75,33 @@ module _ (Works : Chains) (IsChosen : Samples) where
   goals_first known listed k left [] lines verdict left' h =
       (subst NoProgramFirst (sym h.1.split) tt, subst (λ ls. EndsIn ls (VerdictLine verdict)) (sym h.1.split) (ap (λ v. VerdictLine v) (sym h.0)))
   goals_first known listed k left (item ∷ items) lines verdict left' (first, inl h) =
-      let rest = goals_first known listed (suc k) first.after items first.rest verdict left' h.1 in
-      (subst NoProgramFirst (sym first.split) tt, subst (λ ls. EndsIn ls (VerdictLine verdict)) (sym first.split) (in_front (chain_lines (Goal k item.text) item.term first.chain) first.rest (VerdictLine verdict) rest.1))
+      let rest = goals_first known listed (suc k) first.after items first.rest verdict left' h.1 in (
+        subst NoProgramFirst (sym first.split) tt,
+        subst (λ ls. EndsIn ls (VerdictLine verdict)) (sym first.split)
+            (in_front (chain_lines (Goal k item.text) item.term first.chain) first.rest (VerdictLine verdict) rest.1),
+      )
   goals_first known listed k left (item ∷ items) lines verdict left' (first, inr h) =
-      let rest : EndsIn first.rest (VerdictLine verdict) = subst (λ ls. EndsIn ls (VerdictLine verdict)) (sym h.2.split) (ap (λ v. VerdictLine v) (sym h.1)) in
-      (subst NoProgramFirst (sym first.split) tt, subst (λ ls. EndsIn ls (VerdictLine verdict)) (sym first.split) (in_front (chain_lines (Goal k item.text) item.term first.chain) first.rest (VerdictLine verdict) rest))
+      let rest : EndsIn first.rest (VerdictLine verdict) = subst (λ ls. EndsIn ls (VerdictLine verdict)) (sym h.2.split) (ap (λ v. VerdictLine v) (sym h.1)) in (
+        subst NoProgramFirst (sym first.split) tt,
+        subst (λ ls. EndsIn ls (VerdictLine verdict)) (sym first.split)
+            (in_front (chain_lines (Goal k item.text) item.term first.chain) first.rest (VerdictLine verdict) rest),
+      )
 
   pub conditions_first : (goals : List Item) (known : List Var) (listed : List Summands) (k left : ℕ) (items : List Item) (lines : List Line) (verdict : Verdict) (left' : ℕ)
       → AreConditionsWorked Works IsChosen goals known listed k left items lines verdict left' → NoProgramFirst lines × EndsIn lines (VerdictLine verdict)
   conditions_first goals known listed k left [] lines verdict left' h = goals_first known listed 1 left goals lines verdict left' h
   conditions_first goals known listed k left (item ∷ items) lines verdict left' (first, inl h) =
-      let rest : EndsIn first.rest (VerdictLine verdict) = subst (λ ls. EndsIn ls (VerdictLine verdict)) (sym h.2) (ap (λ v. VerdictLine v) (sym h.1)) in
-      (subst NoProgramFirst (sym first.split) tt, subst (λ ls. EndsIn ls (VerdictLine verdict)) (sym first.split) (in_front (chain_lines (Condition k item.text) item.term first.chain) first.rest (VerdictLine verdict) rest))
+      let rest : EndsIn first.rest (VerdictLine verdict) = subst (λ ls. EndsIn ls (VerdictLine verdict)) (sym h.2) (ap (λ v. VerdictLine v) (sym h.1)) in (
+        subst NoProgramFirst (sym first.split) tt,
+        subst (λ ls. EndsIn ls (VerdictLine verdict)) (sym first.split)
+            (in_front (chain_lines (Condition k item.text) item.term first.chain) first.rest (VerdictLine verdict) rest),
+      )
   conditions_first goals known listed k left (item ∷ items) lines verdict left' (first, inr h) =
-      let rest = conditions_first goals (known ++ known_by (item ∷ [])) (listed ++ first.chain.end ∷ []) (suc k) first.after items first.rest verdict left' h.1 in
-      (subst NoProgramFirst (sym first.split) tt, subst (λ ls. EndsIn ls (VerdictLine verdict)) (sym first.split) (in_front (chain_lines (Condition k item.text) item.term first.chain) first.rest (VerdictLine verdict) rest.1))
+      let rest = conditions_first goals (known ++ known_by (item ∷ [])) (listed ++ first.chain.end ∷ []) (suc k) first.after items first.rest verdict left' h.1 in (
+        subst NoProgramFirst (sym first.split) tt,
+        subst (λ ls. EndsIn ls (VerdictLine verdict)) (sym first.split)
+            (in_front (chain_lines (Condition k item.text) item.term first.chain) first.rest (VerdictLine verdict) rest.1),
+      )
 
 -- two beginnings of program lines are the same where no program line follows
 pub same_beginning : (xs ys : List (List ℕ)) (r s : List Line) → map ProgramLine xs ++ r ≡ map ProgramLine ys ++ s → NoProgramFirst r → NoProgramFirst s → (xs ≡ ys) × (r ≡ s)
@@ -121,14 +134,16 @@ accepted_bytes_tell_programs bytes steps steps' p q verdict verdict' a b =
     let same : a.lines ≡ b.lines = logs_told a.lines b.lines a.writable b.writable (sym a.written ∙ b.written) in
     let first = conditions_first _ _ a.accepted.subject.goals [] [] 1 steps a.accepted.subject.conditions log.rest verdict a.accepted.left log.worked in
     let second = conditions_first _ _ b.accepted.subject.goals [] [] 1 steps' b.accepted.subject.conditions other.rest verdict' b.accepted.left other.worked in
-    let whole : ◌≡◌ {A = List Line} (Header a.accepted.subject.version ∷ (map ProgramLine a.accepted.subject.program ++ log.rest)) (Header b.accepted.subject.version ∷ (map ProgramLine b.accepted.subject.program ++ other.rest)) =
+    let whole : ◌≡◌ {A = List Line} (Header a.accepted.subject.version ∷ (map ProgramLine a.accepted.subject.program ++ log.rest))
+    (Header b.accepted.subject.version ∷ (map ProgramLine b.accepted.subject.program ++ other.rest)) =
     sym log.split ∙ same ∙ other.split in
     let header : Header a.accepted.subject.version ≡ Header b.accepted.subject.version = cc in
     let version : a.accepted.subject.version ≡ b.accepted.subject.version = cc in
     let tail : map ProgramLine a.accepted.subject.program ++ log.rest ≡ map ProgramLine b.accepted.subject.program ++ other.rest = cc in
     let parts = same_beginning a.accepted.subject.program b.accepted.subject.program log.rest other.rest tail first.0 second.0 in
     let lines = sym a.accepted.about.same_program ∙ parts.0 ∙ b.accepted.about.same_program in
-    let last : VerdictLine verdict ≡ VerdictLine verdict' = one_end other.rest (VerdictLine verdict) (VerdictLine verdict') (subst (λ ls. EndsIn ls (VerdictLine verdict)) parts.1 first.1) second.1 in (
+    let last : VerdictLine verdict ≡ VerdictLine verdict' = one_end other.rest (VerdictLine verdict) (VerdictLine verdict')
+    (subst (λ ls. EndsIn ls (VerdictLine verdict)) parts.1 first.1) second.1 in (
       same_lines_same_program p q a.accepted.well_formed b.accepted.well_formed lines,
       (let verdicts : verdict ≡ verdict' = cc in verdicts),
       version,

@@ -14,7 +14,8 @@ pub accepted_true : AcceptedLogsAreTrue
 accepted_true subject steps left lines verdict valid accepted =
     let sound = lemma_table_sound subject.construction valid in
     record {
-      zero = λ i goal at says placed met has_value. goals_are_zero lemma_table subject steps left lines verdict sound accepted i goal at says (term_sound subject.construction goal.term) placed met has_value;
+      zero = λ i goal at says placed met has_value. goals_are_zero lemma_table subject steps left lines verdict sound accepted i goal at
+          says (term_sound subject.construction goal.term) placed met has_value;
       never = λ k is. never_below subject steps left k lines valid (subst (λ (v : Verdict). IsAccepted lemma_table subject steps lines v left) is accepted);
       sample = sample_realises lemma_table subject steps left lines verdict sound accepted;
     }

@@ -103,11 +103,13 @@ module _ (c d : Construction) (h : AlikeConstructions c d) where
 module _ (W V : Chains) (C D : Samples)
     (chain : (known : List Var) (left : ℕ) (e : Tree) (x : Chain) (left' : ℕ) → W known left e x left' → V known left e x left')
     (sample : (listed : List Summands) (left : ℕ) (values : List (Var × ℤ)) (left' : ℕ) → C listed left values left' → D listed left values left') where
-  abbrev first_alike : (header : Line) (known : List Var) (left : ℕ) (item : Item) (lines : List Line) → BeginsWithChain W C header known left item lines → BeginsWithChain V D header known left item lines
+  abbrev first_alike : (header : Line) (known : List Var) (left : ℕ) (item : Item) (lines : List Line)
+      → BeginsWithChain W C header known left item lines → BeginsWithChain V D header known left item lines
   first_alike header known left item lines a =
       record { chain = a.chain; after = a.after; rest = a.rest; split = a.split; works = chain known left item.term a.chain a.after a.works }
 
-  concluded_alike : (listed : List Summands) (left : ℕ) (lines : List Line) (verdict : Verdict) (left' : ℕ) → IsConcluded W C listed left lines verdict left' → IsConcluded V D listed left lines verdict left'
+  concluded_alike : (listed : List Summands) (left : ℕ) (lines : List Line) (verdict : Verdict) (left' : ℕ)
+      → IsConcluded W C listed left lines verdict left' → IsConcluded V D listed left lines verdict left'
   concluded_alike listed left lines verdict left' a = record { values = a.values; chosen = sample listed left a.values left' a.chosen; split = a.split }
 
   goals_alike : (known : List Var) (listed : List Summands) (k left : ℕ) (items : List Item) (lines : List Line) (verdict : Verdict) (left' : ℕ)

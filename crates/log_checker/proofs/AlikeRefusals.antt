@@ -12,7 +12,8 @@ use Rattle.geo_logs.specs.declared.moves.Replacement.{Replacement}
 use Rattle.elim_apply.specs.LemmaTable.{lemma_table}
 use Rattle.geo_logs.specs.Moves.{IsMoveStopped, Stop}
 use Rattle.geo_logs.specs.Chains.{IsAcceptedChain, LeadsTo, line_of, moves}
-use Rattle.geo_logs.specs.Judging.{IsFirstRefusal, IsGoodSoFar, IsGoodToEnd, IsInnerRefused, IsMoveRefused, IsRefused, IsRefusedAt, IsSampleRefused, Refusal, no_row, rejected, stopped, wrong_polynomial, wrong_sample, wrong_start}
+use Rattle.geo_logs.specs.Judging.{IsFirstRefusal, IsGoodSoFar, IsGoodToEnd, IsInnerRefused, IsMoveRefused, IsRefused, IsRefusedAt}
+use Rattle.geo_logs.specs.Judging.{IsSampleRefused, Refusal, no_row, rejected, stopped, wrong_polynomial, wrong_sample, wrong_start}
 use Rattle.geo_logs.specs.Logs.{Subject}
 use Rattle.geo_logs.specs.Places.{Place, before_line, before_sample, before_start, in_chain}
 use Rattle.geo_logs.specs.Samples.{IsAcceptedSample}

@@ -27,7 +27,8 @@ use Rattle.elim_area.specs.AreaTable.{area_numerator, area_table, points_after}
 use Rattle.elim_pyth.specs.DifferenceTable.{along_square, difference_row, difference_table, linear_numerator, quadratic_numerator, quadratic_power, reading, turned_square, weights_square}
 use Rattle.elim_pyth.specs.declared.pyth_rows.Reading.{Reading}
 use Rattle.elim_pyth.specs.declared.pyth_rows.Reading.TheVariants.{Linear, Quadratic}
-use Rattle.elim_ratio.specs.RatioTable.{along_row, crossing_row, end_at, first_fitting, first_lemma, first_line, foot_row, lemma_row, pythagoras_row, ratio_table, same_line, second_line, shared_row, with_sign}
+use Rattle.elim_ratio.specs.RatioTable.{along_row, crossing_row, end_at, first_fitting, first_lemma, first_line, foot_row, lemma_row}
+use Rattle.elim_ratio.specs.RatioTable.{pythagoras_row, ratio_table, same_line, second_line, shared_row, with_sign}
 use Rattle.geo_logs.specs.declared.moves.Move.{Move}
 use Rattle.geo_logs.specs.declared.moves.Move.TheVariants.{Ratio, Point as PointMove, Coords}
 use Rattle.elim_apply.specs.LemmaTable.{lemma_table, move_denominator, number_charge, point_charge, point_denominator, row_charge, row_denominator, row_of_move}

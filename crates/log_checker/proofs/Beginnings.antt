@@ -1,6 +1,5 @@
 -- What stands in an accepted log behind a beginning of it fits there.
-use Rattle.std.proofs.Common.{◌≡◌, ℕ, zero, suc, ◌-◌, inl, inr, Option, Some, None, List, [], ◌∷◌, ◌++◌, map, append-nil, refl, sym, ◌∙◌, ap, subst}
-use Rattle.std.specs.Prelude.{slice_get, take}
+use Rattle.std.proofs.Common.{◌≡◌, ℕ, suc, ◌-◌, inl, inr, Option, Some, List, [], ◌∷◌, ◌++◌, map, append-nil, refl, sym, ◌∙◌, ap, subst}
 use Rattle.std.proofs.lemmas.List.{append_assoc}
 use Rattle.geo_poly.specs.declared.variables.Var.{Var}
 use Rattle.geo_poly.specs.Polynomials.{Summands}
@@ -31,12 +30,6 @@ module _ {A : Type 0} where
   pub cancelled : (hs xs ys : List A) → hs ++ xs ≡ hs ++ ys → xs ≡ ys
   cancelled [] xs ys e = e
   cancelled (h ∷ hs) xs ys e = cancelled hs xs ys (tail_of h h (hs ++ xs) (hs ++ ys) e)
-
-  -- the item behind the first k ones
-  pub behind_take : (fs : List A) (k : ℕ) (x : A) (rest zs : List A) → slice_get fs k ≡ Some x → fs ++ rest ≡ take k fs ++ zs → (more : List A) × (zs ≡ x ∷ more)
-  behind_take [] k x rest zs at e = absurd (let q : ◌≡◌ {A = Option A} None (Some x) = at in cc)
-  behind_take (f ∷ fs) zero x rest zs at e = (fs ++ rest, sym e ∙ ap (λ y. y ∷ (fs ++ rest)) (let q : ◌≡◌ {A = Option A} (Some f) (Some x) = at in let r : f ≡ x = cc in r))
-  behind_take (f ∷ fs) (suc k) x rest zs at e = behind_take fs k x rest zs at (tail_of f f (fs ++ rest) (take k fs ++ zs) e)
 
   -- a read list that begins with good lines
   pub read_split : (xs good : List A) (more : List (Option A)) → map Some xs ≡ map Some good ++ more → (ys : List A) × (xs ≡ good ++ ys) × (map Some ys ≡ more)
@@ -121,14 +114,20 @@ module _ (c : Construction) where
       all_lines = first.split ∙ ap (λ zs. head ∷ Start (start_of e) ∷ zs) (append_assoc (map line_of first.chain.steps) (End ∷ []) first.rest)
 
       -- a chain that is begun goes on
-      pub chain_goes : (xs zs : List Line) (place : Place) → ws ≡ xs ++ zs → IsBegunChain (LeadsTo lemma_table c) (IsAcceptedChain lemma_table c) (IsAcceptedSample c) head known left e xs place → Goes place zs
+      pub chain_goes : (xs zs : List Line) (place : Place) → ws ≡ xs ++ zs
+          → IsBegunChain (LeadsTo lemma_table c) (IsAcceptedChain lemma_table c) (IsAcceptedSample c) head known left e xs place
+          → Goes place zs
       chain_goes xs zs place same (inl h) =
           goes_at place (before_line head) zs h.1
           (head, Start (start_of e) ∷ (map line_of first.chain.steps ++ End ∷ first.rest), ap (λ ys. ys ++ zs) (sym h.0) ∙ sym same ∙ all_lines, refl)
       chain_goes xs zs place same (inr (inl h)) =
           let both : head ∷ zs ≡ head ∷ Start (start_of e) ∷ (map line_of first.chain.steps ++ End ∷ first.rest) = ap (λ ys. ys ++ zs) (sym h.0) ∙ sym same ∙ all_lines in
-          goes_at place (before_start left e) zs h.1
-          (Start (start_of e), map line_of first.chain.steps ++ End ∷ first.rest, tail_of head head zs (Start (start_of e) ∷ (map line_of first.chain.steps ++ End ∷ first.rest)) both, (refl, first.works.started))
+          goes_at place (before_start left e) zs h.1 (
+            Start (start_of e),
+            map line_of first.chain.steps ++ End ∷ first.rest,
+            tail_of head head zs (Start (start_of e) ∷ (map line_of first.chain.steps ++ End ∷ first.rest)) both,
+            (refl, first.works.started),
+          )
       chain_goes xs zs place same (inr (inr h)) =
           let both : head ∷ Start (start_of e) ∷ (map line_of first.chain.steps ++ End ∷ first.rest) ≡ head ∷ Start (start_of e) ∷ (map line_of h.steps ++ zs) =
           sym all_lines ∙ same ∙ ap (λ ys. ys ++ zs) h.split in
@@ -147,7 +146,9 @@ module _ (c : Construction) where
           let lines = cancelled (head ∷ Start (start_of e) ∷ []) (map line_of first.chain.steps ++ End ∷ first.rest) (map line_of done.chain.steps ++ End ∷ (done.rest ++ zs))
           (sym all_lines ∙ same ∙ other) in
           full_ends done.after done.chain.end first.after first.chain.end first.rest (done.rest ++ zs)
-          (path_rest (left - start_charge e) (start_of e) first.chain.steps first.after first.chain.end done.chain.steps done.after done.chain.end first.rest (End ∷ (done.rest ++ zs)) first.works.leads done.works.leads lines)
+          (path_rest (left - start_charge e)
+          (start_of e) first.chain.steps first.after first.chain.end done.chain.steps done.after done.chain.end first.rest
+          (End ∷ (done.rest ++ zs)) first.works.leads done.works.leads lines)
 
   -- THE END
   module _ (listed : List Summands) (left : ℕ) where

@@ -182,10 +182,6 @@ has_room bytes rest piece behind steps c fits t e =
     let d : length (10 ∷ behind) ≡ suc (length behind) = refl in
     omega (arith, a, b, d, t.stands.taken, fits)
 
-pub has_room_for_rest : (bytes rest : List ℕ) (steps : ℕ) (c : CheckerValue) → length bytes ≤ 67108864 → IsTaken bytes steps c rest → c.taken + length rest ≤ 67108864
-has_room_for_rest bytes rest steps c fits t =
-    let a : length bytes ≡ length (with_feeds t.pieces) + length rest = ap length t.split ∙ length-append (with_feeds t.pieces) rest in omega (arith, a, t.stands.taken, fits)
-
 pub taken_more : (bytes rest piece behind : List ℕ) (steps : ℕ) (c c' : CheckerValue) (t : IsTaken bytes steps c rest) → rest ≡ piece ++ 10 ∷ behind → c'.steps ≡ c.steps
     → StandsFor c' (t.pieces ++ piece ∷ []) → IsTaken bytes steps c' behind
 taken_more bytes rest piece behind steps c c' t e same stands =
@@ -195,4 +191,5 @@ pub stopped : (bytes rest piece behind : List ℕ) (steps : ℕ) (c : CheckerVal
     → TellsStop (StopsAt c.steps (t.pieces ++ piece ∷ [])) e → TellsStop (Refuses bytes steps) e
 stopped bytes rest piece behind steps c t e is h =
     tells_stop_map (StopsAt c.steps (t.pieces ++ piece ∷ [])) (Refuses bytes steps)
-    (λ n r s. stops_early bytes behind (t.pieces ++ piece ∷ []) steps n r (moved_on t.pieces bytes rest piece behind t.split is) (subst (λ k. StopsAt k (t.pieces ++ piece ∷ []) n r) t.steps_are s)) e h
+    (λ n r s. stops_early bytes behind (t.pieces ++ piece ∷ []) steps n r (moved_on t.pieces bytes rest piece behind t.split is)
+    (subst (λ k. StopsAt k (t.pieces ++ piece ∷ []) n r) t.steps_are s)) e h

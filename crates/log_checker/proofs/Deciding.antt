@@ -45,7 +45,8 @@ decided_by f g (inr n) = inr (λ b. n (g b))
 pub numbers_decided : (a b : ℕ) → Decided (a ≡ b)
 numbers_decided a b =
     ⊎_elim
-    (λ (h : a ≤ b). ⊎_elim (λ (g : b ≤ a). let same : Decided (a ≡ b) = inl (omega (arith, h, g)) in same) (λ (g : a < b). let other : Decided (a ≡ b) = inr (λ e. omega (arith, e, g)) in other) (at_most b a))
+    (λ (h : a ≤ b). ⊎_elim (λ (g : b ≤ a). let same : Decided (a ≡ b) = inl (omega (arith, h, g)) in same)
+    (λ (g : a < b). let other : Decided (a ≡ b) = inr (λ e. omega (arith, e, g)) in other) (at_most b a))
     (λ (h : b < a). let other : Decided (a ≡ b) = inr (λ e. omega (arith, e, h)) in other) (at_most a b)
 
 pub variables_decided : (v w : Var) → Decided (v ≡ w)

@@ -1,8 +1,8 @@
 -- What is due behind good lines, line by line.
-use Rattle.std.proofs.Common.{◌≡◌, ◌≢◌, ℕ, zero, suc, ◌-◌, ◌<◌, ◌≤◌, ◌⊎◌, inl, inr, ℤ, Option, Some, None, List, [], ◌∷◌, ◌++◌, map, length, drop, append-nil, append_assoc, refl, sym, ◌∙◌, ap, subst, arith}
+use Rattle.std.proofs.Common.{◌≡◌, ◌≢◌, ℕ, zero, suc, ◌-◌, ◌<◌, ◌⊎◌, inl, inr, ℤ, Option, Some, None, List, [], ◌∷◌, ◌++◌, map, length}
+use Rattle.std.proofs.Common.{drop, append-nil, append_assoc, refl, sym, ◌∙◌, ap, subst, arith}
 use Rattle.std.specs.List.{cons_option}
 use Rattle.std.specs.Option.{option_to_list}
-use Rattle.std.proofs.Math.ListN.{drop_of_length-le}
 use Rattle.geo_poly.specs.declared.variables.Var.{Var}
 use Rattle.geo_poly.specs.Polynomials.{Summands}
 use Rattle.geo_terms.specs.Constructions.{Construction}
@@ -10,7 +10,7 @@ use Rattle.geo_terms.specs.Trees.{Tree}
 use Rattle.proof_log.specs.declared.log.Line.{Line}
 use Rattle.proof_log.specs.declared.log.Line.TheVariants.{Condition as ConditionLine, Goal as GoalLine, Start, End, Sample, Verdict as VerdictLine}
 use Rattle.proof_log.specs.declared.log.Verdict.{Verdict}
-use Rattle.proof_log.specs.declared.log.Verdict.TheVariants.{Proved, False, Impossible}
+use Rattle.proof_log.specs.declared.log.Verdict.TheVariants.{False, Impossible}
 use Rattle.elim_apply.specs.LemmaTable.{lemma_table}
 use Rattle.geo_logs.specs.Chains.{Chain, ChainStep, IsAcceptedChain, IsEnd, LeadsTo, chain_lines, cuts, line_of, moves}
 use Rattle.geo_logs.specs.Judging.{IsGoodSoFar, IsGoodToEnd}
@@ -73,26 +73,6 @@ module _ (subject : Subject) (steps : ℕ) where
   pub all_due : AreConditionsDue subject steps [] [] [] steps 0
   all_due = record { begun = λ more place h. h; worked = λ more verdict left h. h }
 
-  pub goals_due : (good : List Line) (known : List Var) (listed : List Summands) (left index : ℕ) → length subject.conditions ≤ index
-      → AreConditionsDue subject steps good known listed left index → AreGoalsDue subject steps good known listed left 0
-  goals_due good known listed left index over d = record {
-    begun = λ more place h. d.begun more place (subst (λ items. AreConditionsBegun Leads Works Chosen subject.goals known listed (suc index) left items more place) (sym none_left) h);
-    worked = λ more verdict left' h. d.worked more verdict left' (subst (λ items. AreConditionsWorked Works Chosen subject.goals known listed (suc index) left items more verdict left') (sym none_left) h);
-  }
-    where
-      none_left : drop index subject.conditions ≡ []
-      none_left = drop_of_length-le subject.conditions over
-
-  pub sample_due : (good : List Line) (known : List Var) (listed : List Summands) (left index : ℕ) → length subject.goals ≤ index
-      → AreGoalsDue subject steps good known listed left index → IsSampleDue subject steps good listed Proved left
-  sample_due good known listed left index over d = record {
-    begun = λ more place h. d.begun more place (subst (λ items. AreGoalsBegun Leads Works Chosen known listed (suc index) left items more place) (sym none_left) h);
-    worked = λ more left' h. d.worked more Proved left' (subst (λ items. AreGoalsWorked Works Chosen known listed (suc index) left items more Proved left') (sym none_left) (refl, h));
-  }
-    where
-      none_left : drop index subject.goals ≡ []
-      none_left = drop_of_length-le subject.goals over
-
   -- CHAINS
   chain_stands : (good : List Line) (known : List Var) (listed : List Summands) (left : ℕ) (t : Task) (item : Item) (lines : List Line) (place : Place)
       → IsTaskDue subject steps good known listed left t item → Begun (header_of subject steps t item) known left item.term lines place → Good (good ++ lines) place
@@ -127,7 +107,8 @@ module _ (subject : Subject) (steps : ℕ) where
   start_due good known listed left t item d = record { before = good; item = item; due = d; split = refl }
 
   -- the start
-  pub first_step_due : (good : List Line) (known : List Var) (listed : List Summands) (left left' : ℕ) (t : Task) (own : Option Var) (q : Summands) (d : IsStartDue subject steps good known listed left t)
+  pub first_step_due : (good : List Line) (known : List Var) (listed : List Summands) (left left' : ℕ) (t : Task) (own : Option Var)
+      (q : Summands) (d : IsStartDue subject steps good known listed left t)
       → IsStarted left d.item.term → q ≡ start_of d.item.term → left' ≡ left - start_charge d.item.term → own ≡ only_variable q
       → IsStepDue subject steps (good ++ Start q ∷ []) known listed left' t own q
   first_step_due good known listed left left' t own q d started is charged alone =
@@ -330,13 +311,16 @@ module _ (subject : Subject) (steps : ℕ) where
             stands =
                 subst (λ ls. Good ls (before_line (VerdictLine (Impossible (suc index))))) (behind good w.before (chain_lines header w.item.term w.chain) [] same_split ∙ append-nil (good ++ End ∷ []))
                 (w.due.3.begun (chain_lines header w.item.term w.chain ++ []) (before_line (VerdictLine (Impossible (suc index))))
-                (subst (λ items. AreConditionsBegun Leads Works Chosen subject.goals known listed (suc index) w.first items (chain_lines header w.item.term w.chain ++ []) (before_line (VerdictLine (Impossible (suc index)))))
+                (subst (λ items. AreConditionsBegun Leads Works Chosen subject.goals known listed (suc index) w.first items
+                (chain_lines header w.item.term w.chain ++ []) (before_line (VerdictLine (Impossible (suc index)))))
                 (sym (drop_item subject.conditions index w.item w.due.2))
                 (inr (begins header known w.first left w.item w.chain [] w.works, inl (w.ends ∙ none_left, refl, refl)))));
             whole =
-                subst (λ ls. IsWhole subject steps ls (Impossible (suc index)) left) (behind good w.before (chain_lines header w.item.term w.chain) (VerdictLine (Impossible (suc index)) ∷ []) same_split)
+                subst (λ ls. IsWhole subject steps ls (Impossible (suc index)) left)
+                (behind good w.before (chain_lines header w.item.term w.chain) (VerdictLine (Impossible (suc index)) ∷ []) same_split)
                 (w.due.3.worked (chain_lines header w.item.term w.chain ++ VerdictLine (Impossible (suc index)) ∷ []) (Impossible (suc index)) left
-                (subst (λ items. AreConditionsWorked Works Chosen subject.goals known listed (suc index) w.first items (chain_lines header w.item.term w.chain ++ VerdictLine (Impossible (suc index)) ∷ []) (Impossible (suc index)) left)
+                (subst (λ items. AreConditionsWorked Works Chosen subject.goals known listed (suc index) w.first items
+                (chain_lines header w.item.term w.chain ++ VerdictLine (Impossible (suc index)) ∷ []) (Impossible (suc index)) left)
                 (sym (drop_item subject.conditions index w.item w.due.2))
                 (begins header known w.first left w.item w.chain (VerdictLine (Impossible (suc index)) ∷ []) w.works, inl (w.ends ∙ none_left, refl, refl, refl))));
           }
@@ -428,15 +412,6 @@ module _ (subject : Subject) (steps : ℕ) where
   -- THE SAMPLE
   pub sample_stands : (good : List Line) (listed : List Summands) (verdict : Verdict) (left : ℕ) → IsSampleDue subject steps good listed verdict left → Good good (before_sample listed left)
   sample_stands good listed verdict left d = subst (λ ls. Good ls (before_sample listed left)) (append-nil good) (d.begun [] (before_sample listed left) (inl (refl, refl)))
-
-  pub verdict_due : (good : List Line) (listed : List Summands) (verdict : Verdict) (left : ℕ) (values : List (Var × ℤ)) (left' : ℕ) → IsSampleDue subject steps good listed verdict left
-      → IsAcceptedSample C listed left values left' → IsVerdictDue subject steps (good ++ Sample values ∷ []) verdict left'
-  verdict_due good listed verdict left values left' d chosen = record {
-    stands = d.begun (Sample values ∷ []) (before_line (VerdictLine verdict)) (inr (values, left', chosen, refl, refl));
-    whole =
-        subst (λ ls. IsWhole subject steps ls verdict left') (sym (append_assoc good (Sample values ∷ []) (VerdictLine verdict ∷ [])))
-        (d.worked (Sample values ∷ VerdictLine verdict ∷ []) left' (record { values = values; chosen = chosen; split = refl }));
-  }
 
   -- WHERE THE LOG STANDS
   -- before the verdict the log stands at a place

@@ -1,10 +1,9 @@
 -- What is refused where this or that is due.
-use Rattle.std.proofs.Common.{◌≡◌, ◌≢◌, ℕ, suc, ◌==◌, inl, inr, false, ℤ, Option, Some, List, refl, sym, ◌∙◌, subst, arith}
+use Rattle.std.proofs.Common.{◌≡◌, ◌≢◌, ℕ, suc, ◌==◌, inl, inr, false, ℤ, Option, Some, List, refl, sym, subst, arith}
 use Rattle.std.proofs.lemmas.Bool.Decides.{nat_tests}
 use Rattle.geo_poly.specs.declared.variables.Var.{Var}
 use Rattle.geo_poly.specs.Polynomials.{Summands}
 use Rattle.geo_points.specs.declared.ids.TermId.{TermId}
-use Rattle.geo_terms.specs.Constructions.{Construction}
 use Rattle.geo_terms.specs.Stores.{tree_of}
 use Rattle.geo_conditions.specs.declared.problem.Problem.{Problem}
 use Rattle.geo_conditions.specs.declared.items.Item as stored
@@ -66,19 +65,6 @@ pub no_verdict : (line : Line) → ((v : Verdict) → line ≢ VerdictLine v) �
 no_verdict (VerdictLine v) h = absurd (h v refl)
 no_verdict line h = other_kind (kind_of line) verdict_kind refl
 
-pub no_head : (line : Line) → ((k : ℕ) (text : List ℕ) → line ≢ ConditionLine k text) → ((k : ℕ) (text : List ℕ) → line ≢ GoalLine k text) → kind_of line ≢ chain_kind
-no_head (ConditionLine k text) h g = absurd (h k text refl)
-no_head (GoalLine k text) h g = absurd (g k text refl)
-no_head line h g = other_kind (kind_of line) chain_kind refl
-
--- THE VERY LINE
--- at a header of a chain
-pub head_wrong_line : (c : Construction) (due line : Line) → kind_of due ≡ chain_kind → kind_of line ≢ chain_kind → RefusesAt c (before_line due) line (Rejected reason.WrongLine)
-head_wrong_line c due line e n = inl ((λ s. n (s ∙ e)), refl)
-
-pub head_wrong_chain : (c : Construction) (due line : Line) → kind_of due ≡ chain_kind → kind_of line ≡ chain_kind → line ≢ due → RefusesAt c (before_line due) line (Rejected reason.WrongChain)
-head_wrong_chain c due line e f n = inr (f ∙ sym e, (e, n))
-
 -- WHERE THIS IS DUE
 module _ (q : Problem) (e : Evidence) where
   refused_there : (head : Head) (steps : ℕ) (good : List Line) (place : Place) → IsGoodSoFar lemma_table (subject_of head q) steps good place → (line : Line) (stop : Stop)
@@ -130,12 +116,5 @@ module _ (q : Problem) (e : Evidence) where
   pub sample_wrong_line : (v : Verdict) (line : Line) → kind_of line ≢ sample_kind → RefusesWhere q e (due.Sample v) line (Rejected reason.WrongLine)
   sample_wrong_line v line n = sample_refused v line (Rejected reason.WrongLine) (inl (n, refl))
 
-  pub verdict_wrong : (v w : Verdict) → w ≢ v → RefusesWhere q e (due.Verdict v) (VerdictLine w) (Rejected reason.WrongVerdict)
-  verdict_wrong v w n head steps good d =
-      inl (before_line (VerdictLine v), d.stands, inr (refl, (refl, λ (same : VerdictLine w ≡ VerdictLine v). n (let is : w ≡ v = cc in is))))
-
   pub verdict_wrong_line : (v : Verdict) (line : Line) → kind_of line ≢ verdict_kind → RefusesWhere q e (due.Verdict v) line (Rejected reason.WrongLine)
   verdict_wrong_line v line n head steps good d = inl (before_line (VerdictLine v), d.stands, inl (n, refl))
-
-  pub nothing_due : (v : Verdict) (line : Line) → RefusesWhere q e (due.Nothing v) line (Rejected reason.WrongLine)
-  nothing_due v line head steps good d = inr ((v, e.budget.left, d), refl)

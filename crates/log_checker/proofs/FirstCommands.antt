@@ -34,7 +34,8 @@ drawn_front placed lines [] cs j h = tt
 drawn_front placed lines (b ∷ bs) cs j h = (h.0, drawn_front placed lines bs cs _ h.1)
 
 -- all lines stand on their pairs
-stands_first : (version : Version) (s : Source) (V L : Placement) (cs : List Command) (x y j n m : ℕ) → AllSame version (layout_of version s.commands) s.nodes V L (lines_of V s.commands) (points_from x cs)
+stands_first : (version : Version) (s : Source) (V L : Placement) (cs : List Command) (x y j n m : ℕ)
+    → AllSame version (layout_of version s.commands) s.nodes V L (lines_of V s.commands) (points_from x cs)
     → AreNamed s.nodes x y j cs → AreLaid version (layout_of version s.commands) x y j n m cs → AreDrawn V (lines_of V s.commands) j cs
     → AllStand version (layout_of version s.commands) s.nodes V L (lines_of V s.commands) j → AreFormsMet L n (steps_from version (layout_of version s.commands) s.nodes n m cs)
     → AllStand version (layout_of version s.commands) s.nodes V L (lines_of V s.commands) (lines_past j cs)
@@ -85,7 +86,8 @@ module _ (version : Version) (p : Source) (w : IsWellFormed p) (l : LoweredForm)
     pub first_lowered : IsFirstLowered
     first_lowered =
         let drawn = drawn_front V (lines_of V p.commands) first rest 0 (subst (λ bs. AreDrawn V (lines_of V p.commands) 0 bs) e (drawn_program p V w)) in
-        let d = down version p V first 0 0 0 0 0 V.point named_first laid_first drawn (no_bounds (layout_of version p.commands)) (λ a b. absurd (omega arith)) (λ a b. absurd (omega arith)) met conditions in
+        let d = down version p V first 0 0 0 0 0 V.point named_first laid_first drawn (no_bounds (layout_of version p.commands))
+        (λ a b. absurd (omega arith)) (λ a b. absurd (omega arith)) met conditions in
         let L : Placement = record { point = d.made; number = V.number } in
         let same : AllSame version (layout_of version p.commands) p.nodes V L (lines_of V p.commands) X = λ a b. of_path (sym (d.same a b)) in
         let agrees : Agrees version p V L X Y J = record {

@@ -1,5 +1,6 @@
 -- The first line feed of bytes.
-use Rattle.std.proofs.Common.{◌≡◌, ◌≢◌, ℕ, suc, ◌+◌, ◌<◌, ◌≤◌, ◌==◌, nat_lt, Bool, true, false, not, cond, Option, Some, None, List, [], ◌∷◌, ◌++◌, length, take, drop, refl, sym, ◌∙◌, ap, subst, arith}
+use Rattle.std.proofs.Common.{◌≡◌, ◌≢◌, ℕ, suc, ◌+◌, ◌<◌, ◌≤◌, ◌==◌, nat_lt, Bool, true, false, not, cond, Option, Some, None, List, []}
+use Rattle.std.proofs.Common.{◌∷◌, ◌++◌, length, take, drop, refl, sym, ◌∙◌, ap, subst, arith}
 use Rattle.std.specs.Prelude.{position}
 use Rattle.std.specs.List.{position_or_len}
 use Rattle.std.proofs.lemmas.Bool.Decides.{nat_tests}
@@ -43,7 +44,8 @@ front_splits : (xs : List ℕ) → front xs < length xs → xs ≡ take (front x
 front_splits [] l = absurd (omega (arith, l))
 front_splits (x ∷ xs) l = go (λ below. front_splits xs below) (x == 10) refl
   where
-    go : (front xs < length xs → xs ≡ take (front xs) xs ++ 10 ∷ drop (suc (front xs)) xs) → (t : Bool) → (x == 10) ≡ t → x ∷ xs ≡ take (front (x ∷ xs)) (x ∷ xs) ++ 10 ∷ drop (suc (front (x ∷ xs))) (x ∷ xs)
+    go : (front xs < length xs → xs ≡ take (front xs) xs ++ 10 ∷ drop (suc (front xs)) xs) → (t : Bool) → (x == 10) ≡ t
+        → x ∷ xs ≡ take (front (x ∷ xs)) (x ∷ xs) ++ 10 ∷ drop (suc (front (x ∷ xs))) (x ∷ xs)
     go behind true e = subst (λ n. x ∷ xs ≡ take n (x ∷ xs) ++ 10 ∷ drop (suc n) (x ∷ xs)) (sym (front_at x xs e)) (ap (λ b. b ∷ xs) (same_byte x e))
     go behind false e =
         let below : front xs < length xs = omega (arith, l, front_behind x xs e) in

@@ -75,7 +75,8 @@ module _ (nodes : Store) (M : Condition → Type 0) where
     rest = g.rest;
     whole = ap (λ ds. c ∷ ds) g.whole;
     over = g.over;
-    held = each_append (λ (h : Found). M h.condition) (found_at line (command_conditions nodes (record { 0 = x }) c)) (found_from nodes (counted kind.Point (named c) x) (suc line) g.first) here g.held;
+    held = each_append (λ (h : Found). M h.condition) (found_at line (command_conditions nodes (record { 0 = x }) c))
+        (found_from nodes (counted kind.Point (named c) x) (suc line) g.first) here g.held;
     at = ⊎_elim
         (λ (e : f.line ≡ suc line + length g.first).
         let s : f.line ≡ line + suc (length g.first) = omega (arith, e) in inl s)

@@ -115,7 +115,8 @@ module _ (table : Table) (subject : Subject) (steps : ℕ) where
       ⊎_elim (λ (r : (place' : Place) × BegunRest (rest ++ line ∷ []) place'). inl (r.0, inr (rest ++ line ∷ [], here, r.1)))
       (λ (r : (verdict : Verdict) × (l : ℕ) × WorkedRest (rest ++ line ∷ []) verdict l).
       inr (r.0, r.1, record { rest = rest ++ line ∷ []; split = here; worked = r.2 }))
-      (conditions_on (LeadsBySteps table C) (IsDefinedChain table C) (IsLeastSample C) (Ends table C) (closed table C) subject.goals [] [] 1 steps subject.conditions rest place line h (comes_next table C place line n))
+      (conditions_on (LeadsBySteps table C) (IsDefinedChain table C) (IsLeastSample C) (Ends table C) (closed table C) subject.goals []
+      [] 1 steps subject.conditions rest place line h (comes_next table C place line n))
 
   text-more : (xs : List Line) (line : Line) → text_length xs < text_length (xs ++ line ∷ [])
   text-more xs line =

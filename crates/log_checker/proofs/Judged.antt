@@ -101,11 +101,13 @@ pub record IsReadBehind (subject : Subject) (steps version : ℕ) (texts : List 
   pub some : rest ≢ []
   pub good : (number : ℕ) (refusal : Refusal) → IsFirstRefusal lemma_table subject steps rest number refusal → ⊥
 
-read_behind : (subject : Subject) (steps left : ℕ) (lines : List Line) (verdict : Verdict) (version : ℕ) (texts : List (List ℕ)) (rest : List (Option Line)) → IsAccepted lemma_table subject steps lines verdict left
+read_behind : (subject : Subject) (steps left : ℕ) (lines : List Line) (verdict : Verdict) (version : ℕ) (texts : List (List ℕ))
+    (rest : List (Option Line)) → IsAccepted lemma_table subject steps lines verdict left
     → map Some lines ≡ Some (Header version) ∷ map (λ text. Some (ProgramLine text)) texts ++ rest → IsProgramOver rest → IsReadBehind subject steps version texts rest
 read_behind subject steps left lines verdict version texts rest a split over =
     let first = conditions_first _ _ subject.goals [] [] 1 steps subject.conditions a.rest verdict left a.worked in
-    let whole : ◌≡◌ {A = List (Option Line)} (Some (Header subject.version) ∷ map Some (map ProgramLine subject.program ++ a.rest)) (Some (Header version) ∷ (map (λ text. Some (ProgramLine text)) texts ++ rest)) =
+    let whole : ◌≡◌ {A = List (Option Line)} (Some (Header subject.version) ∷ map Some (map ProgramLine subject.program ++ a.rest))
+    (Some (Header version) ∷ (map (λ text. Some (ProgramLine text)) texts ++ rest)) =
     ap (λ (ls : List Line). map Some ls) (sym a.split) ∙ split in
     let read : ◌≡◌ {A = Option Line} (Some (Header subject.version)) (Some (Header version)) = cc in
     let header : Header subject.version ≡ Header version = cc in
@@ -129,7 +131,8 @@ accepted_logs_do_not_stop p steps number lines verdict refusal a (inr (first, in
 accepted_logs_do_not_stop p steps number lines verdict refusal a (inr (first, inr (inr h))) =
     let mine = read_behind a.subject steps a.left lines verdict first.version first.texts first.rest a.accepted first.split first.over in
     let one = alike_subjects p h.program a.subject h.subject a.well_formed h.well_formed (sym a.about.same_program ∙ mine.same ∙ sym h.written) a.about h.about (mine.number ∙ sym h.same_version) in
-    (read_behind h.subject steps a.left lines verdict first.version first.texts first.rest (accepted_alike a.subject h.subject one steps lines verdict a.left a.accepted) first.split first.over).good number refusal h.refused
+    (read_behind h.subject steps a.left lines verdict first.version first.texts first.rest
+    (accepted_alike a.subject h.subject one steps lines verdict a.left a.accepted) first.split first.over).good number refusal h.refused
 
 pub accepted_bytes_are_not_refused : AcceptedBytesAreNotRefused
 accepted_bytes_are_not_refused bytes steps number p verdict refusal a r =

@@ -31,7 +31,8 @@ use Rattle.log_checker.specs.declared.work.Work.{Work}
 use Rattle.log_checker.specs.declared.due.Due.TheVariants as due
 use Rattle.log_checker.proofs.DueChains.{stands_open}
 use Rattle.log_checker.proofs.DueRefusals.{tells_map}
-use Rattle.log_checker.proofs.JudgedNext.{accepted_work, bad_header, bad_next, first_next, no_program, program_next, over_behind, refused_next, unfinished_empty, unfinished_program, unfinished_work, work_next}
+use Rattle.log_checker.proofs.JudgedNext.{accepted_work, bad_header, bad_next, first_next, no_program, program_next, over_behind}
+use Rattle.log_checker.proofs.JudgedNext.{refused_next, unfinished_empty, unfinished_program, unfinished_work, work_next}
 use Rattle.log_checker.proofs.ProgramTexts.{lines_of_text, texts_one_line, texts_shorter}
 
 -- STOPS WITH A NUMBER
@@ -56,7 +57,8 @@ work_tells w steps good read number s h =
 
 -- BEHIND THE PROGRAM
 -- where lines leave the text of a program, it is short enough
-pub program_fits : (version : ℕ) (texts : List (List ℕ)) (lines : List Line) (items : List ℕ) → lines ≡ Header version ∷ map ProgramLine texts → items ≡ with_feeds texts → length (log_text lines) ≤ 67108864
+pub program_fits : (version : ℕ) (texts : List (List ℕ)) (lines : List Line) (items : List ℕ)
+    → lines ≡ Header version ∷ map ProgramLine texts → items ≡ with_feeds texts → length (log_text lines) ≤ 67108864
     → length items ≤ 67108864
 program_fits version texts lines items is e fits =
     let a : length (log_text lines) ≡ length (log_text (Header version ∷ map ProgramLine texts)) = ap (λ (ls : List Line). length (log_text ls)) is in
@@ -65,19 +67,22 @@ program_fits version texts lines items is e fits =
     omega (arith, a, b, c, texts_shorter texts, fits)
 
 -- the lines of the program that was tested
-pub program_lines : (w : Work) (version : ℕ) (texts : List (List ℕ)) (lines : List Line) (items : List ℕ) (steps : ℕ) → AllWritable lines → lines ≡ Header version ∷ map ProgramLine texts → items ≡ with_feeds texts
+pub program_lines : (w : Work) (version : ℕ) (texts : List (List ℕ)) (lines : List Line) (items : List ℕ) (steps : ℕ) → AllWritable lines
+    → lines ≡ Header version ∷ map ProgramLine texts → items ≡ with_feeds texts
     → canonical_text (source_of w.program) ≡ items → IsAtWork w steps [] → source_lines (source_of w.program) ≡ texts
 program_lines w version texts lines items steps writable is e text at =
     lines_of_text (source_of w.program) texts at.well_formed (texts_one_line texts (subst AllWritable is writable).1) (text ∙ e)
 
-first_there : (w : Work) (version : Version) (texts : List (List ℕ)) (lines : List Line) → lines ≡ Header (version_number version) ∷ map ProgramLine texts → w.version ≡ version → source_lines (source_of w.program) ≡ texts
+first_there : (w : Work) (version : Version) (texts : List (List ℕ)) (lines : List Line)
+    → lines ≡ Header (version_number version) ∷ map ProgramLine texts → w.version ≡ version → source_lines (source_of w.program) ≡ texts
     → lines ≡ first_lines (subject_of (head_of w) w.problem) ++ []
 first_there w version texts lines is number same =
     is ∙ ap₂ (λ (v : Version) (ts : List (List ℕ)). Header (version_number v) ∷ map ProgramLine ts) (sym number) (sym same)
     ∙ ap (λ (ls : List Line). Header (version_number w.version) ∷ ls) (sym (append-nil (map ProgramLine (source_lines (source_of w.program)))))
 
 -- what is read behind the program is refused
-pub first_tells : (steps : ℕ) (lines : List Line) (version : Version) (program : Vec ℕ) (read : Option Line) (number : ℕ) (e : CheckError) → Leaves steps lines (state.Program version program) → number ≡ suc (length lines)
+pub first_tells : (steps : ℕ) (lines : List Line) (version : Version) (program : Vec ℕ) (read : Option Line) (number : ℕ) (e : CheckError)
+    → Leaves steps lines (state.Program version program) → number ≡ suc (length lines)
     → ((more : List (Option Line)) → IsProgramOver (read ∷ more)) → TellsStop (IsFirstRefused version program.items steps read number) e → TellsStop (StopsNext steps lines read) e
 first_tells steps lines version program read number e leaves count over h = tells_stop_map (IsFirstRefused version program.items steps read number) (StopsNext steps lines read) (go leaves.left) e h
   where
@@ -88,7 +93,8 @@ first_tells steps lines version program read number e leaves count over h = tell
         refused_next w steps [] lines begun.begun (first_there w version texts lines is begun.version-is there) read number n r count over refused
 
 -- a line behind the program goes on
-pub first_goes : (steps : ℕ) (lines : List Line) (version : Version) (program : Vec ℕ) (line : Line) (w' : Work) → Leaves steps lines (state.Program version program) → ((text : List ℕ) → line ≢ ProgramLine text)
+pub first_goes : (steps : ℕ) (lines : List Line) (version : Version) (program : Vec ℕ) (line : Line) (w' : Work)
+    → Leaves steps lines (state.Program version program) → ((text : List ℕ) → line ≢ ProgramLine text)
     → BeginsWith version program.items steps (Some line) w' → IsNextState steps lines (Some line) (state.Work w')
 first_goes steps lines version program line w' leaves other h = go leaves.left
   where
@@ -113,7 +119,8 @@ pub none_begins : (version : Version) (bytes : List ℕ) (steps : ℕ) (w' : Wor
 none_begins version bytes steps w' h = let q : ◌≡◌ {A = Option Line} None (Some h.goes.line) = h.goes.is_read in cc
 
 -- a line more of the program
-pub line_more : (steps : ℕ) (lines : List Line) (version : Version) (program program' : Vec ℕ) (text : List ℕ) → Leaves steps lines (state.Program version program) → program'.items ≡ program.items ++ (text ++ 10 ∷ [])
+pub line_more : (steps : ℕ) (lines : List Line) (version : Version) (program program' : Vec ℕ) (text : List ℕ)
+    → Leaves steps lines (state.Program version program) → program'.items ≡ program.items ++ (text ++ 10 ∷ [])
     → IsNextState steps lines (Some (ProgramLine text)) (state.Program version program')
 line_more steps lines version program program' text leaves e = go leaves.left
   where
@@ -139,7 +146,8 @@ bad_refused w steps good number at = bad_next w steps good (first_lines (subject
 pub next_tells : (steps : ℕ) (lines : List Line) (w : Work) (read : Option Line) (number : ℕ) (e : CheckError) → IsLeftBy steps (state.Work w) lines → number ≡ suc (length lines)
     → ((good : List Line) → IsAtWork w steps good → TellsStop (IsRefusedWork w steps good read number) e) → TellsStop (StopsNext steps lines read) e
 next_tells steps lines w read number e (good, is, some, over, at) count h =
-    tells_stop_map (IsRefusedWork w steps good read number) (StopsNext steps lines read) (λ n r g. refused_next w steps good lines at is read number n r count (over_behind good some over read) g) e (h good at)
+    tells_stop_map (IsRefusedWork w steps good read number) (StopsNext steps lines read)
+    (λ n r g. refused_next w steps good lines at is read number n r count (over_behind good some over read) g) e (h good at)
 
 pub bad_tells : (steps : ℕ) (lines : List Line) (w : Work) (number : ℕ) → IsLeftBy steps (state.Work w) lines → number ≡ suc (length lines)
     → TellsStop (StopsNext steps lines None) (error.Rejected number 21)
@@ -170,8 +178,12 @@ bad_empty_tells steps lines number is e =
 
 pub unfinished_empty_tells : (steps : ℕ) (lines : List Line) (count : ℕ) → lines ≡ [] → count ≡ length lines → TellsStop (StopsThere steps lines) (error.Rejected (suc count) 32)
 unfinished_empty_tells steps lines count is e =
-    let none : count ≡ 0 = e ∙ ap length is in
-    (unfinished, refl, subst (λ (ls : List Line). StopsThere steps ls (suc count) (rejected unfinished)) (sym is) (subst (λ n. StopsThere steps [] (suc n) (rejected unfinished)) (sym none) (unfinished_empty steps)))
+    let none : count ≡ 0 = e ∙ ap length is in (
+      unfinished,
+      refl,
+      subst (λ (ls : List Line). StopsThere steps ls (suc count) (rejected unfinished)) (sym is)
+          (subst (λ n. StopsThere steps [] (suc n) (rejected unfinished)) (sym none) (unfinished_empty steps)),
+    )
 
 -- THE ANSWER
 -- what is left behind the verdict, and the accepted log

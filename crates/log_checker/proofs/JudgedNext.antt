@@ -46,7 +46,8 @@ programs_read (t ∷ texts) = ap (λ rs. Some (ProgramLine t) ∷ rs) (programs_
 split_read : (version : ℕ) (texts : List (List ℕ)) (good : List Line) (more : List (Option Line))
     → map Some (Header version ∷ map ProgramLine texts ++ good) ++ more ≡ Some (Header version) ∷ (programs texts ++ (map Some good ++ more))
 split_read version texts good more =
-    let lines : map Some (map ProgramLine texts ++ good) ≡ programs texts ++ map Some good = map-append (λ (l : Line). Some l) (map ProgramLine texts) good ∙ ap (λ rs. rs ++ map Some good) (programs_read texts) in
+    let lines : map Some (map ProgramLine texts ++ good) ≡ programs texts ++ map Some good = map-append (λ (l : Line). Some l)
+    (map ProgramLine texts) good ∙ ap (λ rs. rs ++ map Some good) (programs_read texts) in
     ap (λ rs. Some (Header version) ∷ (rs ++ more)) lines ∙ ap (λ rs. Some (Header version) ∷ rs) (append_assoc (programs texts) (map Some good) more)
 
 abbrev begins : (version : ℕ) (texts : List (List ℕ)) (good : List Line) (more : List (Option Line)) → IsProgramOver (map Some good ++ more)
@@ -161,7 +162,8 @@ unfinished_empty steps = inl (refl, refl)
 pub unfinished_program : (steps version : ℕ) (texts : List (List ℕ)) (lines : List Line) (number : ℕ) → lines ≡ Header version ∷ map ProgramLine texts → number ≡ suc (length lines)
     → StopsThere steps lines number (rejected unfinished)
 unfinished_program steps version texts lines number is e =
-    let whole : Some (Header version) ∷ (programs texts ++ []) ≡ map Some lines = ap (λ rs. Some (Header version) ∷ rs) (append-nil (programs texts) ∙ sym (programs_read texts)) ∙ ap (λ (ls : List Line). map Some ls) (sym is) in
+    let whole : Some (Header version) ∷ (programs texts ++ []) ≡ map Some lines = ap (λ rs. Some (Header version) ∷ rs)
+    (append-nil (programs texts) ∙ sym (programs_read texts)) ∙ ap (λ (ls : List Line). map Some ls) (sym is) in
     let count : suc (length lines) ≡ suc (suc (length texts)) = ap (λ (ls : List Line). suc (length ls)) is ∙ ap (λ n. suc (suc n)) (texts_length texts) in
     inr (record { version = version; texts = texts; rest = []; split = sym whole; over = tt }, inl (record { nothing = refl; counted = e ∙ count; refused = refl }))
   where
@@ -196,7 +198,8 @@ work_next steps w w' lines line (good, is, some, over, at) goes =
     )
 
 -- the first line behind a program
-pub first_next : (steps : ℕ) (version : Version) (texts : List (List ℕ)) (w w' : Work) (lines : List Line) (line : Line) → lines ≡ Header (version_number version) ∷ map ProgramLine texts → w.version ≡ version → source_lines (source_of w.program) ≡ texts
+pub first_next : (steps : ℕ) (version : Version) (texts : List (List ℕ)) (w w' : Work) (lines : List Line) (line : Line)
+    → lines ≡ Header (version_number version) ∷ map ProgramLine texts → w.version ≡ version → source_lines (source_of w.program) ≡ texts
     → ((text : List ℕ) → line ≢ ProgramLine text) → IsAtWork w steps [] → GoesOn w line w' → IsLeftBy steps (state.Work w') (lines ++ line ∷ [])
 first_next steps version texts w w' lines line is number program other at goes =
     let same : source_lines (source_of w'.program) ≡ texts = ap (λ q. source_lines (source_of q)) goes.program ∙ program in
@@ -213,7 +216,8 @@ first_next steps version texts w w' lines line is number program other at goes =
     is_over l n = tt
 
 -- one line more of the program
-pub program_next : (steps version : ℕ) (texts : List (List ℕ)) (lines : List Line) (text bytes : List ℕ) → lines ≡ Header version ∷ map ProgramLine texts → bytes ≡ with_feeds texts ++ (text ++ 10 ∷ [])
+pub program_next : (steps version : ℕ) (texts : List (List ℕ)) (lines : List Line) (text bytes : List ℕ)
+    → lines ≡ Header version ∷ map ProgramLine texts → bytes ≡ with_feeds texts ++ (text ++ 10 ∷ [])
     → (ts : List (List ℕ)) × (lines ++ ProgramLine text ∷ [] ≡ Header version ∷ map ProgramLine ts) × (bytes ≡ with_feeds ts)
 program_next steps version texts lines text bytes is e = (
   texts ++ text ∷ [],

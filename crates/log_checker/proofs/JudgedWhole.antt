@@ -9,7 +9,7 @@ use Rattle.proof_log.specs.declared.log.Line.{Line}
 use Rattle.proof_log.specs.declared.log.Line.TheVariants.{Header, Program as ProgramLine}
 use Rattle.proof_log.specs.declared.log.Verdict.{Verdict}
 use Rattle.proof_log.specs.Lines.{line_text, log_text}
-use Rattle.proof_log.specs.Writable.{AllWritable}
+use Rattle.proof_log.specs.Writable.{AllWritable, HasNoLineFeed}
 use Rattle.elim_apply.specs.LemmaTable.{lemma_table}
 use Rattle.geo_logs.specs.Chains.{IsAcceptedChain, LeadsTo}
 use Rattle.geo_logs.specs.Judging.{IsFirstRefusal, IsGoodSoFar, IsGoodToEnd, IsRefused, Refusal, bad_line, number_after, rejected, unfinished, wrong_line, wrong_program}
@@ -17,13 +17,15 @@ use Rattle.geo_logs.specs.Logs.{Subject}
 use Rattle.geo_logs.specs.Places.{Place}
 use Rattle.geo_logs.specs.Samples.{IsAcceptedSample}
 use Rattle.log_checker.specs.Accepted.{Accepts, IsShortProgram}
-use Rattle.log_checker.specs.Judged.{AcceptedWhereNotRefused, AreRead, BeginsWithProgram, BytesAreJudged, GoesOnWith, IsFirstStop, IsJudged, IsOfProgramOrNone, IsProgramOver, IsReadable, Refuses, RestsAreJudged}
+use Rattle.log_checker.specs.Judged.{AcceptedWhereNotRefused, AreRead, BeginsWithProgram, BytesAreJudged, GoesOnWith, IsFirstStop, IsJudged}
+use Rattle.log_checker.specs.Judged.{IsProgramOver, IsReadable, Refuses, RestsAreJudged}
 use Rattle.log_checker.specs.Subjects.{IsSubjectOf, source_lines}
 use Rattle.log_checker.proofs.AcceptedBytes.{programs_have_subjects, text_of_lines}
 use Rattle.log_checker.proofs.VersionNumbers.{version_told}
 use Rattle.log_checker.proofs.Judged.{accepted_bytes_are_not_refused}
 use Rattle.log_checker.proofs.ReadLines.{bytes_are_read}
 use Rattle.log_checker.proofs.Onwards.{conditions_start}
+use Rattle.log_checker.proofs.ProgramTexts.{IsOfProgramOrNone, of_program_or_none}
 use Rattle.log_checker.proofs.Stepping.{Ends, closed, lines_go_on_or_are_refused}
 
 -- BEHIND THE PROGRAM
@@ -41,7 +43,11 @@ module _ (p : Source) (subject : Subject) (steps : ℕ) (w : IsWellFormed p) (s 
   behind_whole good (None ∷ reads) h =
       inr (number_after lemma_table subject steps good, rejected bad_line, inr (inl (record { good = good; read = None; more = reads; split = refl; counted = refl; whole = h; refused = refl })))
   behind_whole good (Some line ∷ reads) h =
-      inr (number_after lemma_table subject steps good, rejected wrong_line, inr (inl (record { good = good; read = Some line; more = reads; split = refl; counted = refl; whole = h; refused = refl })))
+      inr (
+        number_after lemma_table subject steps good,
+        rejected wrong_line,
+        inr (inl (record { good = good; read = Some line; more = reads; split = refl; counted = refl; whole = h; refused = refl })),
+      )
 
   judged_from : (good : List Line) (place : Place) (reads : List (Option Line)) → IsGoodSoFar lemma_table subject steps good place → AllByRecursion IsReadable reads → Judged (map Some good ++ reads)
   judged_from good place [] h r =
@@ -135,8 +141,12 @@ parted (Some line ∷ reads) = record { texts = []; rest = Some line ∷ reads; 
 
 behind_header : (bytes : List ℕ) (line : Line) (header : Option Line) (reads : List (Option Line)) → AreRead bytes (header ∷ reads) → header ≡ Some line
     → (rest : List ℕ) × (length rest ≤ length bytes) × AreRead rest reads
-behind_header bytes line header reads (inl (first, h)) e =
-    (first.rest, (let whole : length bytes ≡ length (first.piece ++ 10 ∷ first.rest) = ap length first.split in let parts = length-append first.piece (10 ∷ first.rest) in omega (arith, whole, parts)), h)
+behind_header bytes line header reads (inl (first, h)) e = (
+  first.rest,
+  (let whole : length bytes ≡ length (first.piece ++ 10 ∷ first.rest) = ap length first.split in
+      let parts = length-append first.piece (10 ∷ first.rest) in omega (arith, whole, parts)),
+  h,
+)
 behind_header bytes line header reads (inr h) e = absurd (let q : ◌≡◌ {A = Option Line} None (Some line) = sym h.2 ∙ e in cc)
 
 -- WHOLE LOGS
@@ -151,12 +161,14 @@ module _ (bytes : List ℕ) (steps : ℕ) where
     -- the texts behind the header are short
     short : (p : Source) → IsWellFormed p → source_lines p ≡ first.texts → IsShortProgram p
     short p w e =
-        let behind = behind_header bytes (Header first.version) (Some (Header first.version)) (map (λ text. Some (ProgramLine text)) first.texts ++ first.rest) (subst (AreRead bytes) first.split are) refl in
+        let behind = behind_header bytes (Header first.version) (Some (Header first.version))
+        (map (λ text. Some (ProgramLine text)) first.texts ++ first.rest) (subst (AreRead bytes) first.split are) refl in
         let fit = texts_fit behind.0 first.texts first.rest behind.2 in
         let text : length (flat_map with_feed first.texts) ≡ length (canonical_text p) = ap length (ap (flat_map with_feed) (sym e) ∙ text_of_lines p) in
         record { well_formed = w; short = let b = behind.1 in omega (arith, b, fit, text, small) }
 
-    accepted : (p : Source) (subject : Subject) (good : List Line) → IsWellFormed p → source_lines p ≡ first.texts → IsSubjectOf p subject → subject.version ≡ first.version → first.rest ≡ map Some good
+    accepted : (p : Source) (subject : Subject) (good : List Line) → IsWellFormed p → source_lines p ≡ first.texts → IsSubjectOf p subject
+        → subject.version ≡ first.version → first.rest ≡ map Some good
         → IsGoodToEnd lemma_table subject steps good → Outcome
     accepted p subject good w e s number same (verdict, left, worked) =
         let lines = Header subject.version ∷ map ProgramLine subject.program ++ good in
@@ -209,26 +221,31 @@ rest_readable : (texts : List (List ℕ)) (rest : List (Option Line)) → AllByR
 rest_readable [] rest h = h
 rest_readable (t ∷ ts) rest h = rest_readable ts rest h.1
 
-judged_reads : (bytes : List ℕ) (steps : ℕ) (reads : List (Option Line)) → AreRead bytes reads → length bytes ≤ 268435456
-    → ((first : BeginsWithProgram reads) → IsOfProgramOrNone first.texts) → Outcome bytes steps
-judged_reads bytes steps reads are small decided = go reads are decided
+-- and each text of them has no line feed
+texts_readable : (texts : List (List ℕ)) (rest : List (Option Line)) → AllByRecursion IsReadable (map (λ text. Some (ProgramLine text)) texts ++ rest) → AllByRecursion HasNoLineFeed texts
+texts_readable [] rest h = tt
+texts_readable (t ∷ ts) rest h = (h.0, texts_readable ts rest h.1)
+
+judged_reads : (bytes : List ℕ) (steps : ℕ) (reads : List (Option Line)) → AreRead bytes reads → length bytes ≤ 268435456 → Outcome bytes steps
+judged_reads bytes steps reads are small = go reads are
   where
-    go : (rs : List (Option Line)) → AreRead bytes rs → ((first : BeginsWithProgram rs) → IsOfProgramOrNone first.texts) → Outcome bytes steps
-    go [] h d = stop bytes steps [] 1 (rejected unfinished) h (inl (refl, refl))
-    go (None ∷ rs) h d = stop bytes steps (None ∷ rs) 1 (rejected bad_line) h (inl (refl, refl))
-    go (Some (Header version) ∷ rs) h d =
+    go : (rs : List (Option Line)) → AreRead bytes rs → Outcome bytes steps
+    go [] h = stop bytes steps [] 1 (rejected unfinished) h (inl (refl, refl))
+    go (None ∷ rs) h = stop bytes steps (None ∷ rs) 1 (rejected bad_line) h (inl (refl, refl))
+    go (Some (Header version) ∷ rs) h =
         let parts = parted rs in
         let first : BeginsWithProgram (Some (Header version) ∷ rs) =
         record { version = version; texts = parts.texts; rest = parts.rest; split = ap (λ (ys : List (Option Line)). Some (Header version) ∷ ys) parts.split; over = parts.over } in
-        let all = (readable bytes (Some (Header version) ∷ rs) h).1 in
-        behind_program bytes steps (Some (Header version) ∷ rs) h first small parts.rest refl (d first) (rest_readable parts.texts parts.rest (subst (AllByRecursion IsReadable) parts.split all))
-    go (Some line ∷ rs) h d = stop bytes steps (Some line ∷ rs) 1 (rejected wrong_line) h (inl (refl, refl))
+        let all = subst (AllByRecursion IsReadable) parts.split (readable bytes (Some (Header version) ∷ rs) h).1 in
+        let known = of_program_or_none parts.texts (texts_readable parts.texts parts.rest all) in
+        behind_program bytes steps (Some (Header version) ∷ rs) h first small parts.rest refl known (rest_readable parts.texts parts.rest all)
+    go (Some line ∷ rs) h = stop bytes steps (Some line ∷ rs) 1 (rejected wrong_line) h (inl (refl, refl))
 
 pub bytes_are_judged : BytesAreJudged
-bytes_are_judged bytes steps small known = let read = bytes_are_read bytes in judged_reads bytes steps read.0 read.1 small (known read.0 read.1)
+bytes_are_judged bytes steps small = let read = bytes_are_read bytes in judged_reads bytes steps read.0 read.1 small
 
 pub accepted_where_not_refused : AcceptedWhereNotRefused
-accepted_where_not_refused bytes steps small known = (only, (λ none. where_not (bytes_are_judged bytes steps small known) none))
+accepted_where_not_refused bytes steps small = (only, (λ none. where_not (bytes_are_judged bytes steps small) none))
   where
     only : (p : Source) × (verdict : Verdict) × Accepts bytes steps p verdict → (number : ℕ) (refusal : Refusal) → Refuses bytes steps number refusal → ⊥
     only (p, verdict, a) number refusal r = accepted_bytes_are_not_refused bytes steps number p verdict refusal a r

@@ -35,9 +35,6 @@ module _ {K V : Type 0} (P : K → Type 0) where
   abbrev pub KeysBelow : ℕ → List (K × V) → Type 0
   KeysBelow n xs = (k : ℕ) (x : K × V) → k < n → At xs k x → P x.0
 
-  pub keys_none : (xs : List (K × V)) → KeysBelow 0 xs
-  keys_none xs k x l e = absurd (omega (arith, l))
-
   pub keys_more : (xs : List (K × V)) (n : ℕ) (y : K × V) → At xs n y → P y.0 → KeysBelow n xs → KeysBelow (n + 1) xs
   keys_more xs n y at p h k x l e = go (same_or_below k n l)
     where

@@ -40,8 +40,8 @@ pub mod ReadTerms
 pub mod ReadLines
 pub mod JudgedWhole
 pub mod DefinedBytes
+pub mod PrintedValues
 pub mod AcceptedBytes
-pub mod Midpoints
 pub mod AlikeSteps
 pub mod AlikeLogs
 pub mod VersionNumbers
@@ -49,7 +49,6 @@ pub mod OneSubject
 pub mod Judged
 pub mod AlikeRefusals
 pub mod OneStop
-pub mod AlteredLogs
 pub mod Writing
 pub mod DueChains
 pub mod DueMoves

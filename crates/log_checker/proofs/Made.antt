@@ -143,7 +143,9 @@ module _ (version : Version) (p : Source) (l : LoweredForm) (i : IsLowered versi
       let ms = more version p l i before rest e in
       subst (λ n. SamePoint (at n) (sample_point values n)) q
       (front_free l.construction.nodes made (sample_placement values) (in_front version p l i before rest e) ms.0 l.construction.steps 0 ms.1
-      (made_free version p values made before 0 0 0 0 0 (laid_front version (layout_of version p.commands) before rest 0 0 0 0 0 (subst (λ cs. AreLaid version (layout_of version p.commands) 0 0 0 0 0 cs) e (laid_program version p.commands))) h) a.0 b is_free)
+      (made_free version p values made before 0 0 0 0 0
+      (laid_front version (layout_of version p.commands) before rest 0 0 0 0 0
+      (subst (λ cs. AreLaid version (layout_of version p.commands) 0 0 0 0 0 cs) e (laid_program version p.commands))) h) a.0 b is_free)
 
   pub has_values : HasValuesBelow made l.construction (points_past version 0 before) values
   unfolding whole

@@ -1,5 +1,6 @@
 -- A polynomial that is not 0 has a factor, and is cut by it where it is not 1.
-use Rattle.std.proofs.Common.{◌≡◌, ◌≢◌, ℕ, zero, suc, ◌%◌, ◌+◌, ◌^◌, eqb, Bool, true, false, cond, ◌<◌, ◌≤◌, ◌⊎◌, inl, inr, ⊎_elim, Contains, unsigned_abs, ℤ, pos, negsuc, neg_ℤ, List, [], ◌∷◌, length, refl, subst, arith}
+use Rattle.std.proofs.Common.{◌≡◌, ◌≢◌, ℕ, zero, suc, ◌%◌, ◌+◌, ◌^◌, eqb, Bool, true, false, cond, ◌<◌, ◌≤◌, ◌⊎◌, inl, inr, ⊎_elim}
+use Rattle.std.proofs.Common.{Contains, unsigned_abs, ℤ, pos, negsuc, neg_ℤ, List, [], ◌∷◌, length, refl, subst, arith}
 use Rattle.std.specs.Int.{◌∣◌, IsGcd}
 use Rattle.std.proofs.Math.Nat.{mod-lt}
 use Rattle.std.proofs.lemmas.Nat.Gcd.{IsGcd-from_mod, IsGcd-from_zero, dvd-zero, dvd_trans, le_of_dvd}
@@ -89,7 +90,8 @@ factor_exists known t ts h =
     let fits : c.content < 2 ^ 127 = let n = h.norm_fits in omega (arith, small, sum, n) in
     record {
       factor = (m, z.0);
-      is = IsFactorOf-signed known p m (pos c.content) z.0 h some refl divides c.greatest z.1 valid (λ v k. known_in_reduced known p t v some refl monomial k) (λ v k. other_in_reduced known p t v some refl monomial k);
+      is = IsFactorOf-signed known p m (pos c.content) z.0 h some refl divides c.greatest z.1 valid
+          (λ v k. known_in_reduced known p t v some refl monomial k) (λ v k. other_in_reduced known p t v some refl monomial k);
       fits = IsFactor-signed p m (pos c.content) z.0 h some divides fits z.1 valid;
       by_known = keys_known known p t.0;
     }

@@ -1,5 +1,6 @@
 -- A polynomial with a quantity of points has a next move, which replaces something.
-use Rattle.std.proofs.Common.{◌≡◌, ◌≢◌, ℕ, zero, suc, ◌<◌, ◌≤◌, ◌||◌, ◌&&◌, ◌⊎◌, inl, inr, ⊎_elim, IsTrue, Bool, true, false, cond, Contains, Option, Some, None, List, [], ◌∷◌, length, refl, sym, ◌∙◌, subst, arith, eq-eqb}
+use Rattle.std.proofs.Common.{◌≡◌, ◌≢◌, ℕ, zero, suc, ◌<◌, ◌≤◌, ◌||◌, ◌&&◌, ◌⊎◌, inl, inr, ⊎_elim, IsTrue, Bool, true, false, cond}
+use Rattle.std.proofs.Common.{Contains, Option, Some, None, List, [], ◌∷◌, length, refl, sym, ◌∙◌, subst, arith, eq-eqb}
 use Rattle.std.specs.Prelude.{slice_get, find, if◌then◌else◌, Any}
 use Rattle.std.specs.List.{cons_option, filter_map}
 use Rattle.std.specs.Option.{is_some, option_and_then, option_map}
@@ -254,7 +255,9 @@ module _ (c : Construction) where
   point_row y made (R a b d e) h n = absurd (n tt)
   point_row y made (S a b d) h n =
       mapped_some (λ r. (made_row (S a b d) r).0) (area_table c y (S a b d))
-      (subst (λ o. IsTrue (is_some (option_and_then (λ step. option_and_then (λ ab. option_map (step_row c.nodes step 1) (area_numerator c.nodes step ab.0 ab.1)) (points_after y a b d)) o))) (sym made.made)
+      (subst (λ o. IsTrue (is_some (option_and_then
+      (λ step. option_and_then (λ ab. option_map (step_row c.nodes step 1) (area_numerator c.nodes step ab.0 ab.1))
+      (points_after y a b d)) o))) (sym made.made)
       (area_some made.step made.not_free (points_after y a b d) (points_some y a b d h)))
   point_row y made (P a b d) h n =
       mapped_some (λ r. (made_row (P a b d) r).0) (difference_table c y (P a b d))
@@ -371,7 +374,8 @@ module _ (c : Construction) where
       area_free : (a b d : PointId) → Contains (variables_of q) (S a b d) → IsTrue (is_some (free_table c (pt 0) (S a b d)))
       area_free a b d st =
           let n = named_at (S a b d) st in
-          go (is_free c a) (is_free c b) (is_free c d) (free_here a n.0 (st.0, S a b d, st.1, st.2, first_of a b d)) (free_here b n.1 (st.0, S a b d, st.1, st.2, second_of a b d)) (free_here d n.2 (st.0, S a b d, st.1, st.2, third_of a b d))
+          go (is_free c a) (is_free c b) (is_free c d) (free_here a n.0 (st.0, S a b d, st.1, st.2, first_of a b d))
+          (free_here b n.1 (st.0, S a b d, st.1, st.2, second_of a b d)) (free_here d n.2 (st.0, S a b d, st.1, st.2, third_of a b d))
         where
           go : (i j k : Bool) → IsTrue i → IsTrue j → IsTrue k
               → IsTrue (is_some {T = TableRow} (if i && j && k then Some (record { power = 1; num = area_in_coordinates a b d; den = integer 2; charge = 0 }) else None))
@@ -383,7 +387,8 @@ module _ (c : Construction) where
       difference_free : (a b d : PointId) → Contains (variables_of q) (P a b d) → IsTrue (is_some (free_table c (pt 0) (P a b d)))
       difference_free a b d st =
           let n = named_at (P a b d) st in
-          go (is_free c a) (is_free c b) (is_free c d) (free_here a n.0 (st.0, P a b d, st.1, st.2, first_of a b d)) (free_here b n.1 (st.0, P a b d, st.1, st.2, second_of a b d)) (free_here d n.2 (st.0, P a b d, st.1, st.2, third_of a b d))
+          go (is_free c a) (is_free c b) (is_free c d) (free_here a n.0 (st.0, P a b d, st.1, st.2, first_of a b d))
+          (free_here b n.1 (st.0, P a b d, st.1, st.2, second_of a b d)) (free_here d n.2 (st.0, P a b d, st.1, st.2, third_of a b d))
         where
           go : (i j k : Bool) → IsTrue i → IsTrue j → IsTrue k
               → IsTrue (is_some {T = TableRow} (if i && j && k then Some (record { power = 0; num = difference_in_coordinates a b d; den = integer 2; charge = 0 }) else None))

@@ -53,19 +53,23 @@ one_reason steps n lines refusal k j a b s t u =
 empty_meets : (steps n : ℕ) (lines : List Line) (refusal : Refusal) → lines ≡ [] → Meets steps lines n refusal → ⊥
 empty_meets steps n lines refusal is s =
     let e : 32 ≡ 21 =
-    one_reason steps n lines refusal (suc (length lines)) (suc (length lines)) 32 21 s (unfinished_empty_tells steps lines (length lines) is refl) (bad_empty_tells steps lines (suc (length lines)) is refl) in
+    one_reason steps n lines refusal (suc (length lines)) (suc (length lines)) 32 21 s
+    (unfinished_empty_tells steps lines (length lines) is refl) (bad_empty_tells steps lines (suc (length lines)) is refl) in
     omega (arith, e)
 
 -- a program that goes on stops one line later
 program_meets : (steps n version : ℕ) (lines : List Line) (refusal : Refusal) (texts : List (List ℕ)) → lines ≡ Header version ∷ map ProgramLine texts → Meets steps lines n refusal → ⊥
 program_meets steps n version lines refusal texts is s =
     let more : List Line = lines ++ ProgramLine [] ∷ [] in
-    let longer : more ≡ Header version ∷ map ProgramLine (texts ++ [] ∷ []) = ap (λ (ls : List Line). ls ++ ProgramLine [] ∷ []) is ∙ ap (λ (ls : List Line). Header version ∷ ls) (sym (map-append ProgramLine texts ([] ∷ []))) in
+    let longer : more ≡ Header version ∷ map ProgramLine (texts ++ [] ∷ []) = ap (λ (ls : List Line). ls ++ ProgramLine [] ∷ []) is
+    ∙ ap (λ (ls : List Line). Header version ∷ ls) (sym (map-append ProgramLine texts ([] ∷ []))) in
     let one : n ≡ suc (length lines) =
-    (first_stop_is_unique steps n (suc (length lines)) (map Some lines) refusal (rejected unfinished) (meets_there steps n lines refusal s) (unfinished_program steps version texts lines (suc (length lines)) is refl)).0 in
+    (first_stop_is_unique steps n (suc (length lines)) (map Some lines) refusal (rejected unfinished) (meets_there steps n lines refusal s)
+    (unfinished_program steps version texts lines (suc (length lines)) is refl)).0 in
     let there : StopsThere steps more n refusal = subst (λ rs. IsFirstStop steps rs n refusal) (sym (map-append (λ (l : Line). Some l) lines (ProgramLine [] ∷ []))) (s (Some (ProgramLine []) ∷ [])) in
     let other : n ≡ suc (length more) =
-    (first_stop_is_unique steps n (suc (length more)) (map Some more) refusal (rejected unfinished) there (unfinished_program steps version (texts ++ [] ∷ []) more (suc (length more)) longer refl)).0 in
+    (first_stop_is_unique steps n (suc (length more)) (map Some more) refusal (rejected unfinished) there
+    (unfinished_program steps version (texts ++ [] ∷ []) more (suc (length more)) longer refl)).0 in
     let count : length more ≡ length lines + 1 = length-append lines (ProgramLine [] ∷ []) in
     omega (arith, one, other, count)
 
@@ -85,7 +89,8 @@ work_meets steps n lines refusal w left s = go (whole_or_open w.due)
     go (inl (v, e)) = accepted_logs_do_not_stop (source_of w.program) steps n lines v refusal (accepted_there steps lines w v e left).0 (meets_there steps n lines refusal s)
     go (inr going) =
         let e : 32 ≡ 21 =
-        one_reason steps n lines refusal (suc (length lines)) (suc (length lines)) 32 21 s (unfinished_tells steps lines w (length lines) going left refl) (bad_tells steps lines w (suc (length lines)) left refl) in
+        one_reason steps n lines refusal (suc (length lines)) (suc (length lines)) 32 21 s
+        (unfinished_tells steps lines w (length lines) going left refl) (bad_tells steps lines w (suc (length lines)) left refl) in
         omega (arith, e)
 
 left_meets : (steps n : ℕ) (lines : List Line) (refusal : Refusal) (s : State) → IsLeftBy steps s lines → Meets steps lines n refusal → ⊥

@@ -13,7 +13,9 @@ use Rattle.geo_logs.specs.declared.moves.Replacement.{Replacement}
 use Rattle.elim_apply.specs.LemmaTable.{lemma_table}
 use Rattle.geo_logs.specs.Moves.{IsMoveStopped, Stop, replacement}
 use Rattle.geo_logs.specs.Chains.{line_of, moves}
-use Rattle.geo_logs.specs.Judging.{IsAfterVerdict, IsByKnown, IsCutRefused, IsInnerRefused, IsMoveRefused, IsOtherLine, IsRefused, IsRefusedAt, IsSampleRefused, Kind, Refusal, chain_kind, kind_of, no_row, rejected, stopped, verdict_kind, wrong_chain, wrong_cut, wrong_polynomial, wrong_sample, wrong_start, wrong_verdict}
+use Rattle.geo_logs.specs.Judging.{IsAfterVerdict, IsByKnown, IsCutRefused, IsInnerRefused, IsMoveRefused, IsOtherLine, IsRefused}
+use Rattle.geo_logs.specs.Judging.{IsRefusedAt, IsSampleRefused, Kind, Refusal, chain_kind, kind_of, no_row, rejected, stopped}
+use Rattle.geo_logs.specs.Judging.{verdict_kind, wrong_chain, wrong_cut, wrong_polynomial, wrong_sample, wrong_start, wrong_verdict}
 use Rattle.geo_logs.specs.Places.{Place, before_line, before_sample, before_start, in_chain}
 use Rattle.geo_logs.proofs.OneEnd as tries
 use Rattle.geo_logs.proofs.OneNext as line

@@ -1,7 +1,8 @@
 -- What is read has one first stop at most.
 use Rattle.std.proofs.Common.{◌≡◌, ℕ, ◌⊎◌, inl, inr, Option, Some, None, List, [], ◌∷◌, ◌++◌, map, refl, sym, ◌∙◌, ap₂, subst}
 use Rattle.proof_log.specs.declared.log.Line.{Line}
-use Rattle.proof_log.specs.declared.log.Line.TheVariants.{Header, Program as ProgramLine, Condition, Goal, Start, Ratio, Point, Coords, Cut, End, Sample, Verdict as VerdictLine, StopTooLarge, StopSpent}
+use Rattle.proof_log.specs.declared.log.Line.TheVariants.{Header, Program as ProgramLine, Condition, Goal, Start, Ratio, Point, Coords, Cut}
+use Rattle.proof_log.specs.declared.log.Line.TheVariants.{End, Sample, Verdict as VerdictLine, StopTooLarge, StopSpent}
 use Rattle.geo_logs.specs.Judging.{Refusal}
 use Rattle.log_checker.proofs.FirstRefusals.{one_first_refusal}
 use Rattle.log_checker.specs.Judged.{BeginsWithProgram, BytesAreRefusedOnce, FirstStopIsUnique, IsFirstStop, IsHeaderRefused, IsProgramAlone, IsProgramOver, IsProgramRefused, IsRestRefused}

@@ -20,10 +20,14 @@ use Rattle.log_checker.proofs.AlikeLogs.{AlikeSubjects, accepted_alike, defined_
 use Rattle.log_checker.proofs.VersionNumbers.{one_version}
 
 one_conditions : (version : Version) (p : Source) (one other : List ItemForm) → AreConditionItems version p one → AreConditionItems version p other → one ≡ other
-one_conditions version p one other h g = h.written ∙ ap (map (condition_item version p)) (listed_once (λ (f : Found). f.condition) (all_found p) [] h.conditions g.conditions h.listed g.listed) ∙ sym g.written
+one_conditions version p one other h g =
+    h.written ∙ ap (map (condition_item version p))
+    (listed_once (λ (f : Found). f.condition) (all_found p) [] h.conditions g.conditions h.listed g.listed) ∙ sym g.written
 
 one_goals : (version : Version) (p : Source) (one other : List ItemForm) → AreGoalItems version p one → AreGoalItems version p other → one ≡ other
-one_goals version p one other h g = h.written ∙ ap (map (goal_item version p)) (listed_once (λ (s : Statement). s) (statement_goals p.nodes p.statement) [] h.goals g.goals h.listed g.listed) ∙ sym g.written
+one_goals version p one other h g =
+    h.written ∙ ap (map (goal_item version p))
+    (listed_once (λ (s : Statement). s) (statement_goals p.nodes p.statement) [] h.goals g.goals h.listed g.listed) ∙ sym g.written
 
 pub alike_subjects : (p q : Source) (one other : Subject) → IsWellFormed p → IsWellFormed q → source_lines p ≡ source_lines q → IsSubjectOf p one → IsSubjectOf q other
     → one.version ≡ other.version → AlikeSubjects one other

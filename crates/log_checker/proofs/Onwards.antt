@@ -123,7 +123,14 @@ module _ (Leads : Paths) (Works : Chains) (Chosen : Samples) (Ends : Endings) (c
   abbrev longer : (head : Line) (known : List Var) (left : ℕ) (item : Item) (xs : List Line) (line : Line) → BeginsWithChain Works Chosen head known left item xs
       → BeginsWithChain Works Chosen head known left item (xs ++ line ∷ [])
   longer head known left item xs line h =
-      record { chain = h.chain; after = h.after; rest = h.rest ++ line ∷ []; split = ap (λ ys. ys ++ line ∷ []) h.split ∙ append_assoc (chain_lines head item.term h.chain) h.rest (line ∷ []); works = h.works }
+      record {
+        chain = h.chain;
+        after = h.after;
+        rest = h.rest ++ line ∷ [];
+        split = ap (λ ys. ys ++ line ∷ []) h.split
+            ∙ append_assoc (chain_lines head item.term h.chain) h.rest (line ∷ []);
+        works = h.works;
+      }
 
   is_zero : (q : Summands) → (q ≡ []) ⊎ (q ≢ [])
   is_zero [] = inl refl

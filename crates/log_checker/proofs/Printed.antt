@@ -8,7 +8,10 @@ use Rattle.ring_laws.proofs.Fractions.{fractions}
 use Rattle.geo_poly.specs.declared.variables.Var.{Var}
 use Rattle.geo_poly.specs.declared.variables.Var.TheVariants.{X as Abscissa, Y as Ordinate, T as Number}
 use Rattle.geo_program.specs.declared.commands.Command.{Command}
-use Rattle.geo_program.specs.declared.commands.Command.TheVariants.{Point, Param, Line, Parallel, Perp, Med, Intersec, Inter, Foot, Pratio, Tratio, Online, Lratio, Midpoint, Translate, Symmetric, Reflect, Circumcenter, Orthocenter, Centroid, Oncircle, Second, Cc, Inverse, Weights, AssumeDifferent, AssumeNotCollinear, AssumeNotParallel}
+use Rattle.geo_program.specs.declared.commands.Command.TheVariants.{Point, Param, Line, Parallel, Perp, Med, Intersec, Inter, Foot, Pratio}
+use Rattle.geo_program.specs.declared.commands.Command.TheVariants.{Tratio, Online, Lratio, Midpoint, Translate, Symmetric, Reflect}
+use Rattle.geo_program.specs.declared.commands.Command.TheVariants.{Circumcenter, Orthocenter, Centroid, Oncircle, Second, Cc, Inverse}
+use Rattle.geo_program.specs.declared.commands.Command.TheVariants.{Weights, AssumeDifferent, AssumeNotCollinear, AssumeNotParallel}
 use Rattle.geo_program.specs.declared.names.NameKind.TheVariants as kind
 use Rattle.geo_program.specs.WellFormed.{Source}
 use Rattle.geo_terms.specs.declared.steps.Step.{Step}
@@ -101,7 +104,8 @@ parameter-item k (suc n) zero v lt = let q : k ≡ k + 0 = omega arith in ap (λ
 parameter-item k (suc n) (suc i) v lt =
     let q : suc k + i ≡ k + suc i = omega arith in parameter-item (suc k) n i v (omega (arith, lt)) ∙ ap (λ j. Number (record { 0 = j })) q
 
-pub has_sample_values : (version : Version) (p : Source) (values : List (Var × ℤ)) (V : Placement) → AreFreesSame V (given_by version p values) 0 p.commands → V.number ≡ (given_by version p values).number
+pub has_sample_values : (version : Version) (p : Source) (values : List (Var × ℤ)) (V : Placement)
+    → AreFreesSame V (given_by version p values) 0 p.commands → V.number ≡ (given_by version p values).number
     → HasValues p V (sample_values version p values)
 has_sample_values version p values V frees numbers =
     let n = numbers_had p.commands in

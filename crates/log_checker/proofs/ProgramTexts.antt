@@ -1,11 +1,15 @@
 -- Texts of programs: with their lines, and of none.
-use Rattle.std.proofs.Common.{◌≡◌, ◌≢◌, ℕ, ◌+◌, ◌≤◌, List, [], ◌∷◌, ◌++◌, map, length, append_assoc, refl, sym, ◌∙◌, ap, subst, arith}
+use Rattle.std.proofs.Common.{◌≡◌, ◌≢◌, true≢false, ℕ, ◌+◌, ◌≤◌, ◌⊎◌, Bool, true, false, List, [], ◌∷◌, ◌++◌}
+use Rattle.std.proofs.Common.{map, length, append_assoc, refl, sym, ◌∙◌, ap, subst, inl, inr, arith}
 use Rattle.std.specs.List.{AllByRecursion}
+use Rattle.std.specs.Str.{bytes_eq}
 use Rattle.std.proofs.lemmas.List.{length-append}
 use Rattle.std.proofs.lemmas.List.Folds.{flat_map-map}
+use Rattle.std.proofs.lemmas.Slice.Eq.{bytes_eq-Decides}
 use Rattle.geo_lexer.specs.declared.token_types.Fault.{Fault}
 use Rattle.geo_parser.specs.Refusals.{IsRefused}
 use Rattle.geo_parser.proofs.SpeltTexts.{spelt_not_refused}
+use Rattle.geo_parser.proofs.UnrefusedPrograms.{texts_spell_or_are_refused}
 use Rattle.geo_program.specs.CanonicalText.{canonical_text, line_lexemes, line_text as lexemes_text, no_sketches}
 use Rattle.geo_program.specs.Spelling.{SpellsSource}
 use Rattle.geo_program.specs.WellFormed.{IsWellFormed, Source}
@@ -64,6 +68,24 @@ lines_of_text p texts w h e = pieces_told (source_lines p) texts (program_one_li
 -- and where it is the text of none, they are the lines of none
 pub lines_of_none : (texts : List (List ℕ)) → ((p : Source) → IsWellFormed p → canonical_text p ≢ with_feeds texts) → (p : Source) → IsWellFormed p → source_lines p ≢ texts
 lines_of_none texts none p w e = none p w (sym (text_of_lines p) ∙ ap with_feeds e)
+
+-- the texts are the lines of a well-formed program, or of none
+abbrev pub IsOfProgramOrNone : List (List ℕ) → Type 0
+IsOfProgramOrNone texts =
+    ((p : Source) × IsWellFormed p × (source_lines p ≡ texts)) ⊎ ((p : Source) → IsWellFormed p → source_lines p ≢ texts)
+
+-- so it is of all texts without line feeds
+pub of_program_or_none : (texts : List (List ℕ)) → AllByRecursion HasNoLineFeed texts → IsOfProgramOrNone texts
+of_program_or_none texts one_line = by (texts_spell_or_are_refused (with_feeds texts))
+  where
+    of : (p : Source) → SpellsSource (with_feeds texts) p → (b : Bool) → bytes_eq (canonical_text p) (with_feeds texts) ≡ b → IsOfProgramOrNone texts
+    of p spelt true same = inl (p, spelt.well_formed, lines_of_text p texts spelt.well_formed one_line ((bytes_eq-Decides (canonical_text p) (with_feeds texts)).0 same))
+    of p spelt false other =
+        inr (lines_of_none texts (differs (with_feeds texts) p spelt (λ e. true≢false (sym ((bytes_eq-Decides (canonical_text p) (with_feeds texts)).1 e) ∙ other))))
+
+    by : ((p : Source) × SpellsSource (with_feeds texts) p) ⊎ ((fault : Fault) × IsRefused (with_feeds texts) fault) → IsOfProgramOrNone texts
+    by (inl (p, spelt)) = of p spelt (bytes_eq (canonical_text p) (with_feeds texts)) refl
+    by (inr (fault, refused)) = inr (lines_of_none texts (not_spelt (with_feeds texts) fault refused))
 
 -- THE LINES OF THE LOG
 pub texts_one_line : (texts : List (List ℕ)) → AllWritable (map ProgramLine texts) → AllByRecursion HasNoLineFeed texts

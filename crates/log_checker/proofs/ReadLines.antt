@@ -16,8 +16,16 @@ use Rattle.proof_log.specs.Inner.Leads.{IsBody, body_text, heads, last_numbers, 
 use Rattle.proof_log.specs.Inner.Reading.{Begins, NoneBegins, factors, naturals, polynomials, value_lists, variables}
 use Rattle.proof_log.specs.Lines.{line_text}
 use Rattle.proof_log.specs.Writable.{HasNoLineFeed, IsVersion, IsWritable}
-use Rattle.proof_log.proofs.Bodies.{head_no_space, head_no_text, head_read, head_unread, head_zero, last_not_ended, last_read, last_unread, lemma_no_at, lemma_no_point, lemma_read, lemma_unread, lemma_zero, line_parts, no_which, result_no_colon, result_read, result_unread, stop_other, stop_read, stop_unread, text_is, version_other, version_unread, whole}
-use Rattle.proof_log.proofs.BodyReading.{condition_read, condition_refused, coords_read, coords_refused, cut_no_factor, cut_no_result, cut_read, end_read, end_refused, false_read, false_refused, goal_read, goal_refused, header_read, header_refused, impossible_read, impossible_refused, point_no_number, point_no_result, point_read, program_read, program_refused, proved_read, proved_refused, ratio_no_by, ratio_no_lemma, ratio_no_ratio, ratio_no_result, ratio_no_variable, ratio_read, sample_read, sample_refused, spent_read, spent_refused, start_read, start_refused, too_large_read, too_large_refused}
+use Rattle.proof_log.proofs.Bodies.{head_no_space, head_no_text, head_read, head_unread, head_zero, last_not_ended, last_read, last_unread}
+use Rattle.proof_log.proofs.Bodies.{lemma_no_at, lemma_no_point, lemma_read, lemma_unread, lemma_zero, line_parts, no_which}
+use Rattle.proof_log.proofs.Bodies.{result_no_colon, result_read, result_unread, stop_other, stop_read, stop_unread, text_is, version_other}
+use Rattle.proof_log.proofs.Bodies.{version_unread, whole}
+use Rattle.proof_log.proofs.BodyReading.{condition_read, condition_refused, coords_read, coords_refused, cut_no_factor, cut_no_result}
+use Rattle.proof_log.proofs.BodyReading.{cut_read, end_read, end_refused, false_read, false_refused, goal_read, goal_refused, header_read}
+use Rattle.proof_log.proofs.BodyReading.{header_refused, impossible_read, impossible_refused, point_no_number, point_no_result, point_read}
+use Rattle.proof_log.proofs.BodyReading.{program_read, program_refused, proved_read, proved_refused, ratio_no_by, ratio_no_lemma}
+use Rattle.proof_log.proofs.BodyReading.{ratio_no_ratio, ratio_no_result, ratio_no_variable, ratio_read, sample_read, sample_refused}
+use Rattle.proof_log.proofs.BodyReading.{spent_read, spent_refused, start_read, start_refused, too_large_read, too_large_refused}
 use Rattle.proof_log.proofs.LineLeads.{anything_follows, due_body, line_from_body}
 use Rattle.log_checker.specs.Judged.{AreRead, BytesAreRead}
 use Rattle.log_checker.proofs.Deciding.{Decided, both_decided, none_decided, numbers_decided, texts_decided}
@@ -190,7 +198,8 @@ body_of : {T : Type 0} (like : Line) (bytes : List ℕ) (A : T → Type 0) (line
 body_of like bytes A line read Refused refuse (inl h) = inl (line h.0, read h.0 h.1)
 body_of like bytes A line read Refused refuse (inr n) = inr (refuse n)
 
-empty_body : (like : Line) (bytes : List ℕ) (line : Line) → (bytes ≡ [] → IsBody (lead_of like) bytes line) → ((bytes ≡ [] → ⊥) → (l : Line) → IsBody (lead_of like) bytes l → ⊥) → IsBodyOrNone like bytes
+empty_body : (like : Line) (bytes : List ℕ) (line : Line) → (bytes ≡ [] → IsBody (lead_of like) bytes line)
+    → ((bytes ≡ [] → ⊥) → (l : Line) → IsBody (lead_of like) bytes l → ⊥) → IsBodyOrNone like bytes
 empty_body like bytes line read refuse = go (none_decided bytes)
   where
     go : Decided (bytes ≡ []) → IsBodyOrNone like bytes

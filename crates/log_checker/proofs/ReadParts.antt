@@ -1,5 +1,6 @@
 -- Numbers, names and powers stand at the beginning of bytes, or none does.
-use Rattle.std.proofs.Common.{◌≡◌, ◌≢◌, ℕ, zero, suc, ◌<◌, ◌≤◌, ◌^◌, ◌⊎◌, inl, inr, ℤ, pos, negsuc, List, [], ◌∷◌, ◌++◌, length, take, drop, unsigned_abs, refl, sym, ◌∙◌, ap, subst, append_assoc, arith, lit≤}
+use Rattle.std.proofs.Common.{◌≡◌, ◌≢◌, ℕ, zero, suc, ◌<◌, ◌≤◌, ◌^◌, ◌⊎◌, inl, inr, ℤ, pos, negsuc, List, [], ◌∷◌, ◌++◌, length, take, drop}
+use Rattle.std.proofs.Common.{unsigned_abs, refl, sym, ◌∙◌, ap, subst, append_assoc, arith, lit≤}
 use Rattle.std.specs.Fmt.{signed_decimal}
 use Rattle.std.specs.List.{prefix_len}
 use Rattle.std.proofs.lemmas.Int.{ints}
@@ -10,10 +11,16 @@ use Rattle.geo_points.specs.declared.ids.PointId.{PointId}
 use Rattle.geo_poly.specs.declared.variables.Var.{Var}
 use Rattle.geo_poly.specs.declared.variables.Var.TheVariants.{R, S, P, X as Abscissa, Y as Ordinate, T as Number}
 use Rattle.geo_poly.specs.SortedVariables.{IsSorted}
-use Rattle.proof_log.specs.Inner.Reading.{Begins, Form, NoneBegins, Passes, StopsAt, coefficients, exponents, integers, is_exponent_byte, is_number_byte, names, naturals, number_lists, single_powers, single_values, variables}
+use Rattle.proof_log.specs.Inner.Reading.{Begins, Form, NoneBegins, Passes, StopsAt, coefficients, exponents, integers, is_exponent_byte}
+use Rattle.proof_log.specs.Inner.Reading.{is_number_byte, names, naturals, number_lists, single_powers, single_values, variables}
 use Rattle.proof_log.specs.Lines.{variable_name}
 use Rattle.proof_log.specs.Writable.{numbers}
-use Rattle.proof_log.proofs.Found.{coefficient_minus, coefficient_not_minus, coefficient_not_plus, coefficient_plus, coefficient_unminus, coefficient_unplus, dotted_no_dot, dotted_no_more, dotted_read, dotted_unread, exponent_none, exponent_read, exponent_unfit, exponent_unread, integer_misspelt, integer_read, name_no_letter, name_nothing, name_unread, natural_read, natural_unfit, natural_unread, one_read, one_unread, power_no_exponent, power_no_star, power_no_variable, value_no_number, value_no_sign, value_no_space, value_no_variable, variable_read, variable_unread, variable_unsorted}
+use Rattle.proof_log.proofs.Found.{coefficient_minus, coefficient_not_minus, coefficient_not_plus, coefficient_plus, coefficient_unminus}
+use Rattle.proof_log.proofs.Found.{coefficient_unplus, dotted_no_dot, dotted_no_more, dotted_read, dotted_unread, exponent_none}
+use Rattle.proof_log.proofs.Found.{exponent_read, exponent_unfit, exponent_unread, integer_misspelt, integer_read, name_no_letter}
+use Rattle.proof_log.proofs.Found.{name_nothing, name_unread, natural_read, natural_unfit, natural_unread, one_read, one_unread}
+use Rattle.proof_log.proofs.Found.{power_no_exponent, power_no_star, power_no_variable, value_no_number, value_no_sign, value_no_space}
+use Rattle.proof_log.proofs.Found.{value_no_variable, variable_read, variable_unread, variable_unsorted}
 use Rattle.proof_log.proofs.Runs.{integer_passes, prefix_passes, same_run, wide}
 use Rattle.proof_log.proofs.Unique.{arity, letter, names_from, not_stopped, power_from}
 use Rattle.log_checker.proofs.Deciding.{Decided, both_decided, decided_by, numbers_decided, tail_same, texts_decided}
@@ -210,7 +217,9 @@ sorted_decided (S a b c) = both_decided (less_decided a.0 b.0) (less_decided b.0
 sorted_decided (P a b c) =
     decided_by
     (λ (h : (a.0 ≤ c.0) × ((b.0 ≢ a.0) × ((b.0 ≢ c.0) × (a.0 ≡ c.0 → a.0 < b.0)))). (h.0, h.1.0, h.1.1.0, h.1.1.1)) (λ (h : IsSorted (P a b c)). (h.0, (h.1, (h.2, h.3))))
-    (both_decided (at_most_decided a.0 c.0) (both_decided (none_of (numbers_decided b.0 a.0)) (both_decided (none_of (numbers_decided b.0 c.0)) (implied (numbers_decided a.0 c.0) (less_decided a.0 b.0)))))
+    (both_decided (at_most_decided a.0 c.0)
+    (both_decided (none_of (numbers_decided b.0 a.0))
+    (both_decided (none_of (numbers_decided b.0 c.0)) (implied (numbers_decided a.0 c.0) (less_decided a.0 b.0)))))
   where
     implied : Decided (a.0 ≡ c.0) → Decided (a.0 < b.0) → Decided (a.0 ≡ c.0 → a.0 < b.0)
     implied (inl e) (inl h) = inl (λ q. h)

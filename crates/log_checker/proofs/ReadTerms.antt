@@ -9,9 +9,15 @@ use Rattle.geo_poly.specs.Monomials.{Powers}
 use Rattle.geo_poly.specs.Polynomials.{Summands, norm_of, term_cmp}
 use Rattle.geo_poly.specs.Variables.{var_cmp}
 use Rattle.proof_log.specs.Inner.Growing.{last_of}
-use Rattle.proof_log.specs.Inner.Reading.{Begins, Form, NoneBegins, StopsAt, BeginsWith, coefficients, factors, integers, is_power_byte, polynomials, powers_after, single_powers, single_values, terms, value_lists}
+use Rattle.proof_log.specs.Inner.Reading.{Begins, Form, NoneBegins, StopsAt, BeginsWith, coefficients, factors, integers, is_power_byte}
+use Rattle.proof_log.specs.Inner.Reading.{polynomials, powers_after, single_powers, single_values, terms, value_lists}
 use Rattle.proof_log.specs.Writable.{CanWritePolynomial}
-use Rattle.proof_log.proofs.Growth.{ArePowersRead, AreTermsRead, AreValuesRead, factor_no_number, factor_no_powers, factor_read, factor_zero, first_term_refused, power_misplaced, power_pushed, power_too_high, powers_begin, powers_end, powers_go_on, powers_refused, powers_step, shorter, term_misplaced, term_no_number, term_no_powers, term_pushed, term_read, term_shorter, term_too_large, terms_begin, terms_end, terms_no_space, terms_refused, terms_step, value_shorter, values_begin, values_end, values_refused, values_step}
+use Rattle.proof_log.proofs.Growth.{ArePowersRead, AreTermsRead, AreValuesRead, factor_no_number, factor_no_powers, factor_read}
+use Rattle.proof_log.proofs.Growth.{factor_zero, first_term_refused, power_misplaced, power_pushed, power_too_high, powers_begin}
+use Rattle.proof_log.proofs.Growth.{powers_end, powers_go_on, powers_refused, powers_step, shorter, term_misplaced, term_no_number}
+use Rattle.proof_log.proofs.Growth.{term_no_powers, term_pushed, term_read, term_shorter, term_too_large, terms_begin, terms_end}
+use Rattle.proof_log.proofs.Growth.{terms_no_space, terms_refused, terms_step, value_shorter, values_begin, values_end, values_refused}
+use Rattle.proof_log.proofs.Growth.{values_step}
 use Rattle.log_checker.proofs.Deciding.{Decided, none_decided, numbers_decided, texts_decided}
 use Rattle.log_checker.proofs.ReadParts.{IsByteOrNone, IsFoundOrNone, at_most_decided, byte_decided, coefficient_decided, integer_decided, less_decided, power_decided, value_decided}
 

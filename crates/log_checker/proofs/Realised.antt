@@ -100,7 +100,8 @@ module _ (p : Source) (subject : Subject) (w : IsWellFormed p) (s : Parts p subj
       let over = listed_hold (λ (g : Found). g.condition) (IsConditionOver X Y J) (all_found p) [] s.found s.listed tt (program_over p w (named_program p w)) in
       let o = each_at (λ (g : Found). IsConditionOver X Y J g.condition) s.found i f.0 over f.1 in (
         subst (λ n. IsTermBelow n subject.construction.params item.term) (sym steps_are)
-            (subst (λ (t : Item). IsTermBelow N subject.construction.params t.term) (sym f.2) (condition_below (layout_of v p.commands) X Y J N M subject.construction.params bounds few f.0.condition o)),
+            (subst (λ (t : Item). IsTermBelow N subject.construction.params t.term) (sym f.2)
+            (condition_below (layout_of v p.commands) X Y J N M subject.construction.params bounds few f.0.condition o)),
         term_sound subject.construction item.term,
       )
 
@@ -143,7 +144,8 @@ module _ (p : Source) (subject : Subject) (w : IsWellFormed p) (s : Parts p subj
 
     module _ (gives : GivesConditions subject values) where
       -- the placement that the sample has
-      pub made : (L : Placement) × MeetsSteps L l.construction × Meets p (forgotten v p L) × AreFreesSame (forgotten v p L) (given_by v p values) 0 p.commands × (L.number ≡ (given_by v p values).number)
+      pub made : (L : Placement) × MeetsSteps L l.construction × Meets p (forgotten v p L)
+          × AreFreesSame (forgotten v p L) (given_by v p values) 0 p.commands × (L.number ≡ (given_by v p values).number)
       made =
           placements_are_realised v p l (given_by v p values) w s.lowered
           (terms_ready v p subject s.found l w s.lowered s.listed s.conditions s.built values gives)

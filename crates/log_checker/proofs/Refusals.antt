@@ -19,7 +19,9 @@ use Rattle.geo_logs.specs.declared.moves.Replacement.{Replacement}
 use Rattle.geo_poly.specs.Cuts.{IsCut}
 use Rattle.geo_logs.specs.Starts.{IsStarted, start_of}
 use Rattle.geo_logs.specs.Chains.{ChainStep, moves, cuts, IsEnd, LeadsTo, line_of}
-use Rattle.geo_logs.specs.Judging.{IsRefused, IsRefusedAt, IsMoveRefused, IsCutRefused, IsOtherLine, IsSampleRefused, Refusal, kind_of, rejected, stopped, no_row, wrong_polynomial, wrong_chain, wrong_verdict, wrong_start, wrong_cut, wrong_sample, inner_kind}
+use Rattle.geo_logs.specs.Judging.{IsRefused, IsRefusedAt, IsMoveRefused, IsCutRefused, IsOtherLine, IsSampleRefused, Refusal, kind_of}
+use Rattle.geo_logs.specs.Judging.{rejected, stopped, no_row, wrong_polynomial, wrong_chain, wrong_verdict, wrong_start, wrong_cut}
+use Rattle.geo_logs.specs.Judging.{wrong_sample, inner_kind}
 use Rattle.elim_apply.specs.LemmaTable.{lemma_table, row_charge, row_denominator}
 use Rattle.geo_poly.specs.PolynomialVariables.{variables_of}
 use Rattle.fraction_poly.specs.Forms.{piece_of}
@@ -107,7 +109,8 @@ module _ (c : Construction) where
   abbrev RefusedAt : Place → Line → Refusal → Type 0
   RefusedAt place line refusal = IsRefusedAt lemma_table c place line refusal
 
-  move_fits : (left : ℕ) (q : Summands) (m n : Move) (r s : Summands) (refusal : Refusal) → IsMoved (replacement lemma_table c m q) left q r → AreOne q m r n s → IsMoveRefused lemma_table c left q n s refusal → ⊥
+  move_fits : (left : ℕ) (q : Summands) (m n : Move) (r s : Summands) (refusal : Refusal) → IsMoved (replacement lemma_table c m q) left q r
+      → AreOne q m r n s → IsMoveRefused lemma_table c left q n s refusal → ⊥
   move_fits left q m n r s (rejected no_row) h one bad = h.replaces (ap (λ (x : Replacement). x.rows) one.0 ∙ bad)
   move_fits left q m n r s (stopped stop) h one bad = not_stopped (replacement lemma_table c n q) left q r stop (subst (λ x. IsMoved x left q r) one.0 h) bad.1
   move_fits left q m n r s (rejected wrong_polynomial) h one bad = bad.2 (sym one.1 ∙ (subst (λ x. IsMoved x left q r) one.0 h).result)
@@ -137,7 +140,8 @@ module _ (c : Construction) where
   start_fits left e (rejected wrong_start) h bad = bad.1 refl
   start_fits left e _ h bad = absurd bad
 
-  sample_fits : (listed : List Summands) (left : ℕ) (values : List (Var × ℤ)) (left' : ℕ) (refusal : Refusal) → IsAcceptedSample c listed left values left' → IsSampleRefused c listed left values refusal → ⊥
+  sample_fits : (listed : List Summands) (left : ℕ) (values : List (Var × ℤ)) (left' : ℕ) (refusal : Refusal)
+      → IsAcceptedSample c listed left values left' → IsSampleRefused c listed left values refusal → ⊥
   sample_fits listed left values left' (rejected wrong_sample) h (inl bad) = bad h.variables
   sample_fits listed left values left' (rejected wrong_sample) h (inr bad) = bad.2 h.nonzero
   sample_fits listed left values left' (stopped stop) h bad = made_not_stopped left _ left' bad.1.0 stop h.made bad.1.1

@@ -1,5 +1,6 @@
 -- The variables of a sample, one after another.
-use Rattle.std.proofs.Common.{◌≡◌, ℕ, zero, suc, ◌+◌, ◌<◌, ℤ, List, [], ◌∷◌, ◌++◌, map, take, length, ◌⊎◌, inl, inr, append_assoc, add-one, Option, Some, Bool, IsTrue, ◌↔◌, ◌^◌, All, unsigned_abs, refl, sym, ◌∙◌, ap, subst, arith}
+use Rattle.std.proofs.Common.{◌≡◌, ℕ, zero, suc, ◌+◌, ◌<◌, ℤ, List, [], ◌∷◌, ◌++◌, map, take, length, ◌⊎◌, inl, inr, append_assoc, add-one}
+use Rattle.std.proofs.Common.{Option, Some, Bool, IsTrue, ◌↔◌, ◌^◌, All, unsigned_abs, refl, sym, ◌∙◌, ap, subst, arith}
 use Rattle.geo_poly.specs.declared.variables.Var.{Var}
 use Rattle.geo_poly.specs.declared.variables.Var.TheVariants.{X, Y, T}
 use Rattle.geo_terms.specs.declared.steps.Step.{Step}
@@ -15,12 +16,6 @@ use Rattle.geo_poly.proofs.Orders.{var_order}
 use Rattle.proof_log.specs.Writable.{CanWriteValues}
 use Rattle.log_checker.proofs.KeysInTurn.{false_not, same_or_below}
 use Rattle.log_checker.proofs.Places.{At, first, none}
-
--- the first items and one more
-take_item : {A : Type 0} (xs : List A) (i : ℕ) (x : A) → At xs i x → take (suc i) xs ≡ take i xs ++ x ∷ []
-take_item [] i x e = none i x e
-take_item (y ∷ xs) zero x e = ap (λ z. z ∷ []) (first y x xs e)
-take_item (y ∷ xs) (suc i) x e = ap (λ zs. y ∷ zs) (take_item xs i x e)
 
 abbrev coordinates_of : Step → ℕ → List Var
 coordinates_of Point j = X (record { 0 = j }) ∷ Y (record { 0 = j }) ∷ []

@@ -1,5 +1,6 @@
 -- A line that is read at a place of a good beginning fits there, or it is refused.
-use Rattle.std.proofs.Common.{◌≡◌, ◌≢◌, ℕ, zero, suc, ◌-◌, ◌^◌, ◌<◌, ◌==◌, ◌⊎◌, inl, inr, ⊎_elim, All, true, false, ℤ, Option, Some, None, List, [], ◌∷◌, ◌++◌, map, length, unsigned_abs, refl, sym, ap, subst, arith}
+use Rattle.std.proofs.Common.{◌≡◌, ◌≢◌, ℕ, zero, suc, ◌-◌, ◌^◌, ◌<◌, ◌==◌, ◌⊎◌, inl, inr, ⊎_elim, All, true, false, ℤ, Option, Some, None}
+use Rattle.std.proofs.Common.{List, [], ◌∷◌, ◌++◌, map, length, unsigned_abs, refl, sym, ap, subst, arith}
 use Rattle.std.proofs.lemmas.Bool.Decides.{nat_tests}
 use Rattle.std.proofs.lemmas.List.Elements.{All-cons, All-nil}
 use Rattle.geo_points.specs.declared.ids.PointId.{PointId}
@@ -24,7 +25,10 @@ use Rattle.geo_logs.specs.declared.moves.Move.TheVariants.{Ratio, Point, Coords}
 use Rattle.geo_logs.specs.declared.moves.Replacement.{Replacement}
 use Rattle.geo_logs.specs.Chains.{Chain, ChainStep, IsAcceptedChain, IsEnd, LeadsTo, cuts, line_of, moves}
 use Rattle.geo_logs.specs.Ends.{IsAfterHeader, Next, comes, stops}
-use Rattle.geo_logs.specs.Judging.{IsByKnown, IsGoodSoFar, IsMoveRefused, IsRefused, IsRefusedAt, Kind, Refusal, chain_kind, header_kind, inner_kind, kind_at, kind_of, no_row, not_ended, program_kind, rejected, sample_kind, start_kind, stop_kind, stopped, verdict_kind, wrong_chain, wrong_cut, wrong_line, wrong_polynomial, wrong_sample, wrong_start, wrong_verdict}
+use Rattle.geo_logs.specs.Judging.{IsByKnown, IsGoodSoFar, IsMoveRefused, IsRefused, IsRefusedAt, Kind, Refusal, chain_kind, header_kind}
+use Rattle.geo_logs.specs.Judging.{inner_kind, kind_at, kind_of, no_row, not_ended, program_kind, rejected, sample_kind, start_kind}
+use Rattle.geo_logs.specs.Judging.{stop_kind, stopped, verdict_kind, wrong_chain, wrong_cut, wrong_line, wrong_polynomial, wrong_sample}
+use Rattle.geo_logs.specs.Judging.{wrong_start, wrong_verdict}
 use Rattle.geo_logs.specs.Logs.{Subject}
 use Rattle.geo_logs.specs.Moves.{IsMoveStopped, IsMoved, Stop, move_charge, replacement}
 use Rattle.geo_logs.specs.Places.{Place, before_line, before_sample, before_start, in_chain}
@@ -32,7 +36,9 @@ use Rattle.geo_logs.specs.Samples.{IsAcceptedSample, sample_variables}
 use Rattle.geo_logs.specs.Starts.{IsStarted, IsStartStopped, start_of}
 use Rattle.geo_logs.proofs.OneNext.{not_stopped}
 use Rattle.log_checker.specs.Judged.{GoesOnWith, LinesGoOnOrAreRefused}
-use Rattle.log_checker.proofs.Deciding.{Decided, both_decided, decided_by, division_decided, end_decided, known_decided, lists_decided, none_decided, nonzero_decided, numbers_decided, polynomials_decided, texts_decided, variables_decided}
+use Rattle.log_checker.proofs.Deciding.{Decided, both_decided, decided_by, division_decided, end_decided, known_decided, lists_decided}
+use Rattle.log_checker.proofs.Deciding.{none_decided, nonzero_decided, numbers_decided, polynomials_decided, texts_decided}
+use Rattle.log_checker.proofs.Deciding.{variables_decided}
 use Rattle.log_checker.proofs.NextStops.{TriesEnd, moved_or_stopped, start_next, tries_end}
 use Rattle.log_checker.proofs.Onwards.{AreClosed, Comes, conditions_on}
 use Rattle.log_checker.proofs.Refusals.{Fits}
@@ -168,12 +174,14 @@ module _ (c : Construction) where
     of_move : (move : Move) (r : Summands) → MoveFitsOrIsRefused move r
     of_move move r = rowless (none_decided (made_by move).rows)
       where
-        moved : (made_by move).rows ≢ [] → IsMoved (made_by move) left q (replaced_by (made_by move).rows (made_by move).den.poly q) → Decided (r ≡ replaced_by (made_by move).rows (made_by move).den.poly q) → MoveFitsOrIsRefused move r
+        moved : (made_by move).rows ≢ [] → IsMoved (made_by move) left q (replaced_by (made_by move).rows (made_by move).den.poly q)
+            → Decided (r ≡ replaced_by (made_by move).rows (made_by move).den.poly q) → MoveFitsOrIsRefused move r
         moved some h (inl e) = inl (subst (IsMoved (made_by move) left q) (sym e) h, (refl, refl))
         moved some h (inr n) =
             inr (rejected wrong_polynomial, (some, (λ stop bad. not_stopped (made_by move) left q (replaced_by (made_by move).rows (made_by move).den.poly q) stop h bad), n))
 
-        paid : (made_by move).rows ≢ [] → IsMoved (made_by move) left q (replaced_by (made_by move).rows (made_by move).den.poly q) ⊎ ((stop : Stop) × IsMoveStopped (made_by move) left q stop) → MoveFitsOrIsRefused move r
+        paid : (made_by move).rows ≢ [] → IsMoved (made_by move) left q (replaced_by (made_by move).rows (made_by move).den.poly q)
+            ⊎ ((stop : Stop) × IsMoveStopped (made_by move) left q stop) → MoveFitsOrIsRefused move r
         paid some (inl h) = moved some h (polynomials_decided r (replaced_by (made_by move).rows (made_by move).den.poly q))
         paid some (inr h) = inr (stopped h.0, (some, h.1))
 

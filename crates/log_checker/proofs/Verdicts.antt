@@ -19,7 +19,7 @@ use Rattle.geo_logs.specs.Logs.{Item, Subject}
 use Rattle.log_checker.proofs.AcceptedLogs.{accepted_true}
 use Rattle.log_checker.specs.Laws.{IsAcceptedLog}
 use Rattle.log_checker.specs.Subjects.{IsSubjectOf, log_item}
-use Rattle.log_checker.proofs.Places.{At, at_map, below, each_of, in_front, of_map, parted}
+use Rattle.log_checker.proofs.Places.{At, at_map, below, each_of, in_front, parted}
 use Rattle.log_checker.proofs.Ready.{log_condition}
 use Rattle.log_checker.proofs.Turns.{goals_in_turn}
 
@@ -73,9 +73,6 @@ module _ (p : Source) (subject : Subject) (w : IsWellFormed p) (s : Parts p subj
 
   goal_at : (k : ℕ) (g : Statement) → At s.goals k g → At subject.goals k (log_goal v p g)
   goal_at k g e = subst (λ items. At items k (log_goal v p g)) (sym s.same_goals) (at_map (log_goal v p) s.goals k g e)
-
-  goal_of : (k : ℕ) (item : Item) → At subject.goals k item → (g : Statement) × At s.goals k g × (item ≡ log_goal v p g)
-  goal_of k item e = of_map (log_goal v p) s.goals k item (subst (λ items. At items k item) s.same_goals e)
 
   module _ (lines : List Line) (verdict : Verdict) (shown : IsShown subject lines verdict) where
     -- ALL GOALS

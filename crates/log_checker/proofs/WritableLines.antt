@@ -1,5 +1,6 @@
 -- Each line of the prover's log may be written.
-use Rattle.std.proofs.Common.{◌≡◌, ℕ, zero, suc, ◌+◌, ◌^◌, ◌<◌, ◌≤◌, inl, inr, Bool, true, false, cond, All, Contains, ℤ, Option, Some, None, List, [], ◌∷◌, ◌++◌, map, length, unsigned_abs, refl, sym, ap, subst, arith, lit<}
+use Rattle.std.proofs.Common.{◌≡◌, ℕ, zero, suc, ◌+◌, ◌^◌, ◌<◌, ◌≤◌, inl, inr, Bool, true, false, cond, All, Contains, ℤ, Option, Some}
+use Rattle.std.proofs.Common.{None, List, [], ◌∷◌, ◌++◌, map, length, unsigned_abs, refl, sym, ap, subst, arith, lit<}
 use Rattle.std.specs.Prelude.{find}
 use Rattle.std.specs.List.{AllByRecursion}
 use Rattle.std.specs.Option.{is_some}
@@ -66,7 +67,9 @@ module _ (c : Construction) (construction : IsConstruction c) where
       record { small = s; point = subst (λ (z : PointId). z.0 < 2 ^ 32) (sym e) few; no_point = ((λ h. let q : true ≡ false = h in absurd (cc)), (λ (h : suc k ≡ 0). absurd (omega (arith, h)))) }
 
   first_small : (y : PointId) (v : Var) → IsRatio v → first_lemma c y v < 2 ^ 32
-  first_small y v h = found_small (λ lemma. is_some (lemma_table.row c (Ratio v lemma y) v)) lemmas (first_lemma c y v) (lit< tt, (lit< tt, (lit< tt, (lit< tt, (lit< tt, (lit< tt, (lit< tt, tt))))))) (first_lemma_has_row c y v h)
+  first_small y v h =
+      found_small (λ lemma. is_some (lemma_table.row c (Ratio v lemma y) v)) lemmas (first_lemma c y v)
+      (lit< tt, (lit< tt, (lit< tt, (lit< tt, (lit< tt, (lit< tt, (lit< tt, tt))))))) (first_lemma_has_row c y v h)
 
   own_variable : (q : Summands) (v : Var) → IsOwn c construction q → Contains (variables_of q) v → IsVariable v
   own_variable q v h st = each-contained IsVariable (variables_of q) v (each-variables IsVariable q (written c construction q h).variables) st
@@ -137,7 +140,8 @@ module _ (c : Construction) (construction : IsConstruction c) where
   due_written steps n (VerdictLine (Impossible k)) few h = omega (arith, h, few)
   due_written steps n _ few h = absurd h
 
-  next_written : (steps n : ℕ) (place : Place) (line : Line) → steps < 2 ^ 127 → n < 2 ^ 32 → IsGood c construction HasNoLineFeed steps n place → IsNext lemma_table c place (comes line) → IsWritable line
+  next_written : (steps n : ℕ) (place : Place) (line : Line) → steps < 2 ^ 127 → n < 2 ^ 32
+      → IsGood c construction HasNoLineFeed steps n place → IsNext lemma_table c place (comes line) → IsWritable line
   next_written steps n (before_line due) line s few h next = subst IsWritable (sym (comes_next lemma_table c (before_line due) line next)) (due_written steps n due few h)
   next_written steps n (before_start left e) line s few h next = subst IsWritable (sym next.0) (written c construction _ (start_own c construction left e h next.1))
   next_written steps n (in_chain known left q) line s few h (inl (step, left', r, leads, is)) = subst IsWritable (sym is) (step_written known left q step left' r h.0 h.1 leads)
@@ -149,7 +153,8 @@ module _ (c : Construction) (construction : IsConstruction c) where
       subst IsWritable (sym is) (values_written values (subst (AllByRecursion IsVariable) (sym same) sample_small) fit)
 
 -- THE FIRST LINES
-first_written : (subject : Subject) → IsVersion subject.version → ((i : ℕ) (text : List ℕ) → At subject.program i text → HasNoLineFeed text) → (k : ℕ) (line : Line) → At (first_lines subject) k line → IsWritable line
+first_written : (subject : Subject) → IsVersion subject.version → ((i : ℕ) (text : List ℕ) → At subject.program i text → HasNoLineFeed text)
+    → (k : ℕ) (line : Line) → At (first_lines subject) k line → IsWritable line
 first_written subject version texts zero line at = subst IsWritable (first (Header subject.version) line (map ProgramLine subject.program) at) version
 first_written subject version texts (suc k) line at =
     let found = of_map ProgramLine subject.program k line at in subst IsWritable (sym found.2) (texts k found.0 found.1)

@@ -93,7 +93,8 @@ module _ (c : Construction) (construction : IsConstruction c) where
     polynomial = chain_polynomial lemma_table c sound [] left q (moves move r ∷ []) (left - move_charge (replacement lemma_table c move q) q) r h.polynomial (m, (refl, refl));
     sorted =
         subst (AllVariables IsSorted) (sym m.result)
-        ((kept_property IsSorted).replacement (replacement lemma_table c move q).rows (piece_of (move_denominator c move)).poly q (numerators move (variables_of q)) (forms_sorted (move_denominator c move))
+        ((kept_property IsSorted).replacement (replacement lemma_table c move q).rows (piece_of (move_denominator c move)).poly q
+        (numerators move (variables_of q)) (forms_sorted (move_denominator c move))
         (all_variables (λ v. row_of (replacement lemma_table c move q).rows v ≡ None → IsSorted v) q
         (λ v st e. each-contained IsSorted (variables_of q) v (each-variables IsSorted q h.sorted) st)));
     named = (move_named lemma_table c sound (length c.steps) move left q r h.named m).names;

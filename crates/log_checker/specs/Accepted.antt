@@ -1,22 +1,23 @@
 -- Accepted logs as bytes, and what each program has: a subject and a defined log.
-use Rattle.std.specs.Prelude.{◌≡◌, ℕ, ◌≤◌, List, length}
-use Rattle.std.specs.List.{AllByRecursion}
+use Rattle.std.specs.Prelude.{◌≡◌, ℕ, ◌≤◌, ℤ, codes, List, [], ◌∷◌, ◌++◌, length}
+use Rattle.std.specs.List.{AllByRecursion, flat_map}
 use Rattle.geo_program.specs.CanonicalText.{canonical_text}
 use Rattle.geo_program.specs.Spelling.{SameSource}
 use Rattle.geo_program.specs.WellFormed.{IsWellFormed, Source}
 use Rattle.geo_lowering.specs.declared.version.Version.{Version}
 use Rattle.geo_conditions.specs.Truth.{Breaks, IsImpossible, IsTrueProgram, ProgramValues}
+use Rattle.geo_poly.specs.declared.variables.Var.{Var}
 use Rattle.proof_log.specs.declared.log.Line.{Line}
 use Rattle.proof_log.specs.declared.log.Line.TheVariants.{Start, Ratio, Point, Coords, Cut}
 use Rattle.proof_log.specs.declared.log.Verdict.{Verdict}
 use Rattle.proof_log.specs.declared.log.Verdict.TheVariants.{Proved, False, Impossible}
-use Rattle.proof_log.specs.Lines.{log_text}
+use Rattle.proof_log.specs.Lines.{log_text, value_text, verdict_text}
 use Rattle.proof_log.specs.Writable.{AllWritable, CanWritePolynomial}
 use Rattle.elim_apply.specs.LemmaTable.{lemma_table}
 use Rattle.geo_logs.specs.Ends.{Ending, IsDefinedLog}
 use Rattle.geo_logs.specs.Logs.{IsAccepted, Subject}
-use Rattle.log_checker.specs.Laws.{EndsWithValues, IsAcceptedLog, IsRealised}
-use Rattle.log_checker.specs.Subjects.{IsSubjectOf, source_lines, version_number}
+use Rattle.log_checker.specs.Laws.{IsAcceptedLog, IsRealised}
+use Rattle.log_checker.specs.Subjects.{AreSampleValues, IsSubjectOf, source_lines, version_number}
 use Rattle.log_checker.specs.VerdictNumbers.{FailsAt, HoldsNowhere}
 
 -- BYTES
@@ -28,12 +29,13 @@ pub record Accepts (bytes : List ℕ) (steps : ℕ) (p : Source) (verdict : Verd
   pub written : bytes ≡ log_text lines
   pub accepted : IsAcceptedLog p steps lines verdict
 
--- the bytes are the text of lines that end with the verdict, and before it with a sample whose integers are these values
+-- the last two lines of the bytes are a sample whose integers are these values, and the verdict
 pub record PrintsValues (bytes : List ℕ) (verdict : Verdict) (v : ProgramValues) : Type 0 where
-  pub lines : List Line
-  pub writable : AllWritable lines
-  pub written : bytes ≡ log_text lines
-  pub ends : EndsWithValues lines verdict v
+  pub before : List ℕ
+  pub sample : List (Var × ℤ)
+  pub split :
+      bytes ≡ before ++ 10 ∷ codes "sample" ++ flat_map value_text sample ++ 10 ∷ codes "verdict " ++ verdict_text verdict ++ 10 ∷ []
+  pub printed : AreSampleValues sample v
 
 -- what accepted bytes with this verdict say of their program. Proved: it is true, and the placement with the printed integers meets it.
 -- False: the printed integers break it, and the goal with this number is the first that fails there. Impossible: no placement meets it, and

@@ -126,27 +126,17 @@ RestsAreJudged =
     (p : Source) (subject : Subject) (steps : ℕ) (reads : List (Option Line)) → IsWellFormed p → IsSubjectOf p subject
     → AllByRecursion IsReadable reads → IsJudged subject steps reads
 
--- the texts are the lines of a well-formed program, or of none
-abbrev pub IsOfProgramOrNone : List (List ℕ) → Type 0
-IsOfProgramOrNone texts =
-    ((p : Source) × IsWellFormed p × (source_lines p ≡ texts)) ⊎ ((p : Source) → IsWellFormed p → source_lines p ≢ texts)
-
--- that is known of the lines of the program that are read of the bytes
-abbrev pub IsProgramKnown : List ℕ → Type 0
-IsProgramKnown bytes =
-    (reads : List (Option Line)) → AreRead bytes reads → (first : BeginsWithProgram reads) → IsOfProgramOrNone first.texts
-
--- then the bytes are an accepted log, or they are refused
+-- bytes are an accepted log, or they are refused
 abbrev pub BytesAreJudged : Type 0
 BytesAreJudged =
-    (bytes : List ℕ) (steps : ℕ) → length bytes ≤ 268435456 → IsProgramKnown bytes
+    (bytes : List ℕ) (steps : ℕ) → length bytes ≤ 268435456
     → ((p : Source) × (verdict : Verdict) × Accepts bytes steps p verdict)
     ⊎ ((number : ℕ) × (refusal : Refusal) × Refuses bytes steps number refusal)
 
 -- so they are accepted exactly where they are refused at no line
 abbrev pub AcceptedWhereNotRefused : Type 0
 AcceptedWhereNotRefused =
-    (bytes : List ℕ) (steps : ℕ) → length bytes ≤ 268435456 → IsProgramKnown bytes
+    (bytes : List ℕ) (steps : ℕ) → length bytes ≤ 268435456
     → ((p : Source) × (verdict : Verdict) × Accepts bytes steps p verdict)
     ↔ ((number : ℕ) (refusal : Refusal) → Refuses bytes steps number refusal → ⊥)
 

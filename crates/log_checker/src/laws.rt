@@ -169,13 +169,12 @@ pub fn bytes_are_read()
     ensures { BytesAreRead }
 {}
 
-/// Bytes of which it is known whether they begin with a program are an accepted log, or they are
-/// refused.
+/// Bytes are an accepted log, or they are refused at a line.
 pub fn bytes_are_judged()
     ensures { BytesAreJudged }
 {}
 
-/// Such bytes are accepted exactly where they are refused at no line.
+/// They are accepted exactly where they are refused at no line.
 pub fn accepted_where_not_refused()
     ensures { AcceptedWhereNotRefused }
 {}

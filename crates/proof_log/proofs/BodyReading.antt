@@ -11,14 +11,20 @@ use Rattle.geo_poly.specs.Polynomials.{Summands}
 use Rattle.proof_log.specs.declared.log.Line.{Line}
 use Rattle.proof_log.specs.declared.log.Line.TheVariants.{Header, Program, Condition, Goal, Start, Ratio, Point, Coords, Cut, End, Sample, Verdict as VerdictLine, StopTooLarge, StopSpent}
 use Rattle.proof_log.specs.declared.log.Verdict.TheVariants.{Proved, False, Impossible}
-use Rattle.proof_log.specs.declared.leads.Lead.TheVariants.{Header as HeaderLead, Program as ProgramLead, Condition as ConditionLead, Goal as GoalLead, Start as StartLead, Ratio as RatioLead, Point as PointLead, Coords as CoordsLead, Cut as CutLead, End as EndLead, Sample as SampleLead, Proved as ProvedLead, False as FalseLead, Impossible as ImpossibleLead, TooLarge as TooLargeLead, Spent as SpentLead}
+use Rattle.proof_log.specs.declared.leads.Lead.TheVariants.{Header as HeaderLead, Program as ProgramLead, Condition as ConditionLead}
+use Rattle.proof_log.specs.declared.leads.Lead.TheVariants.{Goal as GoalLead, Start as StartLead, Ratio as RatioLead, Point as PointLead}
+use Rattle.proof_log.specs.declared.leads.Lead.TheVariants.{Coords as CoordsLead, Cut as CutLead, End as EndLead, Sample as SampleLead}
+use Rattle.proof_log.specs.declared.leads.Lead.TheVariants.{Proved as ProvedLead, False as FalseLead, Impossible as ImpossibleLead}
+use Rattle.proof_log.specs.declared.leads.Lead.TheVariants.{TooLarge as TooLargeLead, Spent as SpentLead}
 use Rattle.proof_log.specs.Lines.{factor_text, place_text, variable_name}
 use Rattle.geo_poly.specs.PolynomialVariables.{IsRatio}
 use Rattle.proof_log.specs.Inner.Reading.{Begins, Form, NoneBegins, factors, naturals, polynomials, value_lists, variables}
 use Rattle.proof_log.specs.Inner.Leads.{IsBody, heads, last_numbers, lemmas, results, stops, texts, versions}
 use Rattle.proof_log.proofs.Unique.{small_unique, variables_unique}
 use Rattle.proof_log.proofs.UniqueTerms.{factors_unique}
-use Rattle.proof_log.proofs.Bodies.{header_body, program_body, condition_body, goal_body, start_body, ratio_body, point_body, coords_body, cut_body, end_body, sample_body, proved_body, false_body, impossible_body, too_large_body, spent_body, lemmas_unique}
+use Rattle.proof_log.proofs.Bodies.{header_body, program_body, condition_body, goal_body, start_body, ratio_body, point_body, coords_body}
+use Rattle.proof_log.proofs.Bodies.{cut_body, end_body, sample_body, proved_body, false_body, impossible_body, too_large_body, spent_body}
+use Rattle.proof_log.proofs.Bodies.{lemmas_unique}
 
 -- all of the bytes are the text
 unwhole : {T : Type 0} (form : Form T) (bytes : List ℕ) (x : T) → Begins form bytes x [] → bytes ≡ form.text x

@@ -1,5 +1,5 @@
 -- What readers of numbers, names and powers have found, and what they refuse.
-use Rattle.std.proofs.Common.{◌≡◌, ℕ, zero, suc, ◌<◌, ◌≤◌, ◌^◌, true, false, cond, eqb, List, [], ◌∷◌, ◌++◌, refl, sym, ap, ◌∙◌, subst, append_assoc, arith, lit≤}
+use Rattle.std.proofs.Common.{◌≡◌, ℕ, suc, ◌<◌, ◌≤◌, ◌^◌, true, false, cond, eqb, List, [], ◌∷◌, ◌++◌, refl, sym, ap, ◌∙◌, subst, append_assoc, arith, lit≤}
 use Rattle.std.specs.Prelude.{ℤ, pos, negsuc, unsigned_abs, slice_get, Option, Some, None, Result, Ok}
 use Rattle.std.specs.Result.{result_ok}
 use Rattle.std.proofs.lemmas.Int.{to_z-of_z}
@@ -13,10 +13,13 @@ use Rattle.geo_base.specs.Decimals.{IsDecimal, decimal_size, decimal_value}
 use Rattle.geo_poly.specs.declared.variables.Var.{Var}
 use Rattle.proof_log.specs.Lines.{numbers_text}
 use Rattle.proof_log.specs.Writable.{IsSorted, numbers}
-use Rattle.proof_log.specs.Inner.Reading.{Begins, NoneBegins, Passes, StopsAt, coefficients, exponent_text, exponents, integers, is_exponent_byte, is_number_byte, names, naturals, number_lists, single_powers, single_values, variables}
+use Rattle.proof_log.specs.Inner.Reading.{Begins, NoneBegins, Passes, StopsAt, coefficients, exponent_text, exponents, integers}
+use Rattle.proof_log.specs.Inner.Reading.{is_exponent_byte, is_number_byte, names, naturals, number_lists, single_powers, single_values}
+use Rattle.proof_log.specs.Inner.Reading.{variables}
 use Rattle.proof_log.proofs.Runs.{integer_passes, integers_unique, natural_integer, naturals_unique, same_run, wide}
 use Rattle.proof_log.proofs.UniqueTerms.{value_parts}
-use Rattle.proof_log.proofs.Unique.{exponent_text-more, letter, arity, name_numbers, names_unique, not_stopped, power_parts, small_unique, unwritten_exponent, variable_name_begins, variables_unique, written_exponent, name_parts}
+use Rattle.proof_log.proofs.Unique.{exponent_text-more, letter, arity, name_numbers, names_unique, not_stopped, power_parts, small_unique}
+use Rattle.proof_log.proofs.Unique.{unwritten_exponent, variable_name_begins, variables_unique, written_exponent, name_parts}
 
 -- WHOLE NUMBERS
 
@@ -68,12 +71,6 @@ natural_unfit bits bytes rest z small h other n r k =
 -- a number of 64 bits is one of 32 where it fits
 widened : (bytes : List ℕ) (n : ℕ) (r : List ℕ) → Begins (naturals 32) bytes n r → Begins (naturals 64) bytes n r
 widened bytes n r h = record { spelt = h.spelt; fits = let fits : n < 2 ^ 32 = h.fits in let room : 2 ^ 32 ≤ 2 ^ 64 = lit≤ tt in omega arith; stops = h.stops }
-
-pub small_read : (bytes rest : List ℕ) (n : ℕ) → n < 2 ^ 32 → Begins (naturals 64) bytes n rest → Begins (naturals 32) bytes n rest
-small_read bytes rest n fits h = record { spelt = h.spelt; fits = fits; stops = h.stops }
-
-pub small_unread : (bytes : List ℕ) → NoneBegins (naturals 64) bytes → NoneBegins (naturals 32) bytes
-small_unread bytes none n r h = none n r (widened bytes n r h)
 
 pub small_unfit : (bytes rest : List ℕ) (n : ℕ) → Begins (naturals 64) bytes n rest → (n < 2 ^ 32 → ⊥) → NoneBegins (naturals 32) bytes
 small_unfit bytes rest n h other m r k =
@@ -311,7 +308,8 @@ pub coefficient_not_plus : (s0 s1 s2 : List ℕ) (number : ℤ) → s0 ≡ 43 �
 coefficient_not_plus s0 s1 s2 number plus read none =
     coefficient_unplus s0 s1 plus (λ z r h n is some. none n ((integers_unique s1 number z s2 r read h).0 ∙ is) some)
 
-pub coefficient_not_minus : (s0 s1 s2 : List ℕ) (number : ℤ) → ((rest : List ℕ) → s0 ≡ 43 ∷ rest → ⊥) → s1 ≡ s0 → Begins integers s1 number s2 → ((n : ℕ) → number ≡ negsuc n → ⊥) → NoneBegins coefficients s0
+pub coefficient_not_minus : (s0 s1 s2 : List ℕ) (number : ℤ) → ((rest : List ℕ) → s0 ≡ 43 ∷ rest → ⊥) → s1 ≡ s0
+    → Begins integers s1 number s2 → ((n : ℕ) → number ≡ negsuc n → ⊥) → NoneBegins coefficients s0
 coefficient_not_minus s0 s1 s2 number no_plus kept read none =
     let P : List ℕ → Type 0 = λ l. Begins integers l number s2 in
     let at = subst P kept read in

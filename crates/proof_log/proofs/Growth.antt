@@ -20,7 +20,9 @@ use Rattle.geo_poly.proofs.MonomialOrder.{IsEarlier-from_cmp, cmp_from_IsEarlier
 use Rattle.geo_poly.proofs.Orders.{term_order, var_order}
 use Rattle.proof_log.specs.Lines.{polynomial_text, power_text, sign_text, term_text, value_text}
 use Rattle.proof_log.specs.Writable.{CanWriteFactor, CanWriteMonomial, CanWritePolynomial, CanWriteValue, CanWriteValues, IsVariable}
-use Rattle.proof_log.specs.Inner.Reading.{coefficients as signed_coefficients, factors, integers, Begins, BeginsWith, NoneBegins, StopsAt, is_byte, is_power_byte, next_term, polynomials, powers_after, single_powers, single_values, terms, terms_after, value_lists}
+use Rattle.proof_log.specs.Inner.Reading.{coefficients as signed_coefficients, factors, integers, Begins, BeginsWith, NoneBegins, StopsAt}
+use Rattle.proof_log.specs.Inner.Reading.{is_byte, is_power_byte, next_term, polynomials, powers_after, single_powers, single_values, terms}
+use Rattle.proof_log.specs.Inner.Reading.{terms_after, value_lists}
 use Rattle.proof_log.specs.Inner.Growing.{PushesPower, PushesTerm, RefusesPower, RefusesTerm, last_of}
 use Rattle.proof_log.specs.declared.errors.LineError.{LineError}
 use Rattle.std.specs.Prelude.{IsErrAnd}
@@ -224,7 +226,8 @@ terms_in_order q h = inner q h.polynomial.in_order h.polynomial.monomials
     inner (t ∷ u ∷ q) h g = ((earlier_first t.0 u.0 g.0 g.1.0).1 h.1.0, inner (u ∷ q) h.2 g.1)
 
 module _ (done : Summands) (t : Powers × ℤ) where
-  pub polynomial_more : CanWritePolynomial done → CanWriteFactor t → norm_of done + unsigned_abs t.1 < 2 ^ 127 → IfSome (last_of done) (λ u. term_cmp u.0 t.0 ≡ Less) → CanWritePolynomial (done ++ t ∷ [])
+  pub polynomial_more : CanWritePolynomial done → CanWriteFactor t → norm_of done + unsigned_abs t.1 < 2 ^ 127
+      → IfSome (last_of done) (λ u. term_cmp u.0 t.0 ≡ Less) → CanWritePolynomial (done ++ t ∷ [])
   polynomial_more h term fits last =
       let some : unsigned_abs t.1 ≢ 0 = term.factor.nonzero in
       let nonzero : eqb (unsigned_abs t.1) 0 ≡ false = grind (arith, nat_tests) in record {
@@ -342,7 +345,8 @@ module _ (s0 now : List ℕ) (list : Summands) (norm : ℕ) (h : AreTermsRead s0
   pub terms_end : now ≡ [] → Begins polynomials s0 list []
   terms_end e =
       let text : polynomial_text list ≡ term_text h.first ++ flat_map next_term.text h.others = ap polynomial_text h.list_is ∙ joined_terms h.first h.others in record {
-        spelt = h.read ∙ ap (λ l. term_text h.first ++ (flat_map next_term.text h.others ++ l)) e ∙ sym (append_assoc (term_text h.first) (flat_map next_term.text h.others) []) ∙ ap (λ l. l ++ []) (sym text);
+        spelt = h.read ∙ ap (λ l. term_text h.first ++ (flat_map next_term.text h.others ++ l)) e
+            ∙ sym (append_assoc (term_text h.first) (flat_map next_term.text h.others) []) ∙ ap (λ l. l ++ []) (sym text);
         fits = h.written;
         stops = tt;
       }
@@ -385,7 +389,8 @@ module _ (s0 now : List ℕ) (items : List (Var × ℤ)) (h : AreValuesRead s0 n
   values_end e = record { spelt = h.read ∙ ap (λ l. flat_map value_text items ++ l) e; fits = h.written; stops = tt }
 
 pub value_shorter : (v : Var × ℤ) (s0 s1 : List ℕ) → Begins single_values s0 v s1 → length s1 < length s0
-value_shorter v s0 s1 h = let n : length s0 ≡ length (value_text v ++ s1) = ap length h.spelt in let m = length-append (value_text v) s1 in let some : 1 ≤ length (value_text v) = omega arith in omega arith
+value_shorter v s0 s1 h = let n : length s0 ≡ length (value_text v ++ s1) = ap length h.spelt in let m = length-append (value_text v) s1 in
+    let some : 1 ≤ length (value_text v) = omega arith in omega arith
 
 -- WHAT `OK_OR` HANDS ON
 
@@ -432,7 +437,14 @@ term_read s0 s1 s2 z f read powers is =
     let at : Begins signed_coefficients s0 f.1 s1 = subst (λ (y : ℤ). Begins signed_coefficients s0 y s1) (sym is) read in
     let front = sign_text f.1 ++ decimal (unsigned_abs f.1) in record {
       spelt = at.spelt ∙ ap (λ l. front ++ l) powers.spelt ∙ sym (append_assoc front (flat_map power_text f.0) s2);
-      fits = record { factor = record { monomial = powers.fits.monomial; nonzero = (λ none. let some : 1 ≤ unsigned_abs f.1 = at.fits.0 in omega arith); fits = at.fits.1 }; variables = powers.fits.variables };
+      fits = record {
+        factor = record {
+          monomial = powers.fits.monomial;
+          nonzero = (λ none. let some : 1 ≤ unsigned_abs f.1 = at.fits.0 in omega arith);
+          fits = at.fits.1;
+        };
+        variables = powers.fits.variables;
+      };
       stops = powers.stops;
     }
 

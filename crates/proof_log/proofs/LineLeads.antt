@@ -8,7 +8,11 @@ use Rattle.proof_log.specs.declared.log.Line.{Line}
 use Rattle.proof_log.specs.declared.log.Line.TheVariants.{Header, Program, Condition, Goal, Start, Ratio, Point, Coords, Cut, Sample, Verdict as VerdictLine, StopTooLarge, StopSpent}
 use Rattle.proof_log.specs.declared.log.Verdict.TheVariants.{False, Impossible}
 use Rattle.proof_log.specs.declared.leads.Lead.{Lead}
-use Rattle.proof_log.specs.declared.leads.Lead.TheVariants.{Header as HeaderLead, Program as ProgramLead, Condition as ConditionLead, Goal as GoalLead, Start as StartLead, Ratio as RatioLead, Point as PointLead, Coords as CoordsLead, Cut as CutLead, End as EndLead, Sample as SampleLead, Proved as ProvedLead, False as FalseLead, Impossible as ImpossibleLead, TooLarge as TooLargeLead, Spent as SpentLead}
+use Rattle.proof_log.specs.declared.leads.Lead.TheVariants.{Header as HeaderLead, Program as ProgramLead, Condition as ConditionLead}
+use Rattle.proof_log.specs.declared.leads.Lead.TheVariants.{Goal as GoalLead, Start as StartLead, Ratio as RatioLead, Point as PointLead}
+use Rattle.proof_log.specs.declared.leads.Lead.TheVariants.{Coords as CoordsLead, Cut as CutLead, End as EndLead, Sample as SampleLead}
+use Rattle.proof_log.specs.declared.leads.Lead.TheVariants.{Proved as ProvedLead, False as FalseLead, Impossible as ImpossibleLead}
+use Rattle.proof_log.specs.declared.leads.Lead.TheVariants.{TooLarge as TooLargeLead, Spent as SpentLead}
 use Rattle.proof_log.specs.Lines.{line_text}
 use Rattle.proof_log.specs.Writable.{IsWritable}
 use Rattle.proof_log.specs.Inner.Reading.{Begins, NoneBegins, StopsAt}
@@ -16,7 +20,10 @@ use Rattle.proof_log.specs.Inner.Leads.{IsBody, body_text, is_no_byte, lead_of, 
 use Rattle.proof_log.proofs.Runs.{Unique}
 use Rattle.proof_log.proofs.Unique.{small_unique, variables_unique}
 use Rattle.proof_log.proofs.UniqueTerms.{factors_unique, polynomials_unique, value_lists_unique}
-use Rattle.proof_log.proofs.Bodies.{IsCutLine, IsPointLine, IsRatioLine, header_body, program_body, condition_body, goal_body, start_body, ratio_body, point_body, coords_body, cut_body, end_body, sample_body, proved_body, false_body, impossible_body, too_large_body, spent_body, heads_unique, last_unique, lemmas_unique, line_parts, results_unique, stops_unique, text_is, versions_unique}
+use Rattle.proof_log.proofs.Bodies.{IsCutLine, IsPointLine, IsRatioLine, header_body, program_body, condition_body, goal_body, start_body}
+use Rattle.proof_log.proofs.Bodies.{ratio_body, point_body, coords_body, cut_body, end_body, sample_body, proved_body, false_body}
+use Rattle.proof_log.proofs.Bodies.{impossible_body, too_large_body, spent_body, heads_unique, last_unique, lemmas_unique, line_parts}
+use Rattle.proof_log.proofs.Bodies.{results_unique, stops_unique, text_is, versions_unique}
 
 -- LEADS
 
@@ -69,7 +76,8 @@ on_some (Some x) Q e h = h
 
 -- the leads, one after another
 abbrev pub all_leads : List Lead
-all_leads = HeaderLead ∷ ProgramLead ∷ ConditionLead ∷ GoalLead ∷ StartLead ∷ RatioLead ∷ PointLead ∷ CoordsLead ∷ CutLead ∷ EndLead ∷ SampleLead ∷ ProvedLead ∷ FalseLead ∷ ImpossibleLead ∷ TooLargeLead ∷ SpentLead ∷ []
+all_leads = HeaderLead ∷ ProgramLead ∷ ConditionLead ∷ GoalLead ∷ StartLead ∷ RatioLead ∷ PointLead ∷ CoordsLead ∷ CutLead ∷ EndLead
+    ∷ SampleLead ∷ ProvedLead ∷ FalseLead ∷ ImpossibleLead ∷ TooLargeLead ∷ SpentLead ∷ []
 
 -- so many of them do not stand at the beginning of the bytes, and the reader is still there
 pub record AreLeadsPassed (s0 now : List ℕ) (items : List Lead) (count : ℕ) : Type 0 where
@@ -80,7 +88,9 @@ pub record AreLeadsPassed (s0 now : List ℕ) (items : List Lead) (count : ℕ) 
 pub leads_begin : (s0 : List ℕ) (items : List Lead) → items ≡ all_leads → AreLeadsPassed s0 s0 items 0
 leads_begin s0 items e = record { same = refl; items_are = e; none = λ k below. absurd (omega arith) }
 
-pub leads_step : (s0 now next : List ℕ) (items : List Lead) (i : ℕ) (lead : Lead) → AreLeadsPassed s0 now items i → lead ≡ get_or items i HeaderLead → next ≡ now → ((rest : List ℕ) → now ≡ lead_text lead ++ rest → ⊥) → AreLeadsPassed s0 next items (i + 1)
+pub leads_step : (s0 now next : List ℕ) (items : List Lead) (i : ℕ) (lead : Lead) → AreLeadsPassed s0 now items i
+    → lead ≡ get_or items i HeaderLead → next ≡ now → ((rest : List ℕ) → now ≡ lead_text lead ++ rest → ⊥)
+    → AreLeadsPassed s0 next items (i + 1)
 leads_step s0 now next items i lead h is kept none = record {
   same = kept ∙ h.same;
   items_are = h.items_are;
@@ -207,6 +217,7 @@ lines_told l m h k e =
     same_body (lead_of l) (body_text l) l m a b
 
 -- a line that is read is the one whose text the bytes are
-pub exact_line : (r : Result Line LineError) (bytes rest : List ℕ) (lead : Lead) (l : Line) → Begins leads bytes lead rest → IfOk r (IsBody lead rest) → IsWritable l → bytes ≡ line_text l → IfOk r (λ m. m ≡ l)
+pub exact_line : (r : Result Line LineError) (bytes rest : List ℕ) (lead : Lead) (l : Line) → Begins leads bytes lead rest
+    → IfOk r (IsBody lead rest) → IsWritable l → bytes ≡ line_text l → IfOk r (λ m. m ≡ l)
 exact_line (Err e) bytes rest lead l h b writable text = tt
 exact_line (Ok m) bytes rest lead l h b writable text = lines_told m l b.writable writable (sym (line_from_body bytes rest lead m h b) ∙ text)

@@ -1,5 +1,7 @@
 -- The one spelling of a number: no zero in front of other digits, and no `-` before 0.
-use Rattle.std.proofs.Common.{◌≡◌, ℕ, zero, suc, ◌+◌, ◌*◌, ◌/◌, ◌%◌, ◌^◌, ◌<◌, ◌≤◌, Bool, true, false, not, eqb, if◌then◌else◌, List, [], ◌∷◌, ◌++◌, length, drop, get_or, refl, sym, ap, subst, ◌∙◌, append-nil, append_assoc, length-append, arith, lit≤, inl, inr}
+use Rattle.std.proofs.Common.{◌≡◌, ℕ, zero, suc, ◌+◌, ◌*◌, ◌/◌, ◌%◌, ◌^◌, ◌<◌, ◌≤◌, Bool, true, false, not, eqb, if◌then◌else◌, List, []}
+use Rattle.std.proofs.Common.{◌∷◌, ◌++◌, length, drop, get_or, refl, sym, ap, subst, ◌∙◌, append-nil, append_assoc, length-append, arith}
+use Rattle.std.proofs.Common.{lit≤, inl, inr}
 use Rattle.std.specs.Prelude.{◌↔◌, IsTrue, ℤ, pos, negsuc, neg_ℤ}
 use Rattle.std.specs.Char.{digit_value}
 use Rattle.std.specs.Fmt.{decimal, signed_decimal}
@@ -81,7 +83,8 @@ positive ds d lead is =
     ] is
 
 -- text of digits, with no `-` before them
-digits_canonical : (text : List ℕ) → starts_with_minus text ≡ false → IsDecimal text → decimal_size text < 2 ^ 127 → (2 ≤ length text → get_or text 0 0 ≡ 48 → ⊥) → signed_decimal (decimal_value text) ≡ text
+digits_canonical : (text : List ℕ) → starts_with_minus text ≡ false → IsDecimal text → decimal_size text < 2 ^ 127
+    → (2 ≤ length text → get_or text 0 0 ≡ 48 → ⊥) → signed_decimal (decimal_value text) ≡ text
 digits_canonical text e d small lone =
     let room : 2 ^ 127 ≤ 10 ^ 64 = lit≤ tt in
     let numeral = plain_numeral text e d in
@@ -92,7 +95,8 @@ digits_canonical text e d small lone =
     ap signed_decimal (plain_value text e) ∙ digits_spelt text numeral lead (omega (arith, plain_size text e))
 
 -- text of a `-` and digits
-minus_canonical : (c : ℕ) (ds : List ℕ) → eqb c 45 ≡ true → IsDecimal (c ∷ ds) → decimal_size (c ∷ ds) < 2 ^ 127 → (2 ≤ length (c ∷ ds) → get_or (c ∷ ds) 0 0 ≡ 45 → get_or (c ∷ ds) 1 0 ≡ 48 → ⊥) → signed_decimal (decimal_value (c ∷ ds)) ≡ c ∷ ds
+minus_canonical : (c : ℕ) (ds : List ℕ) → eqb c 45 ≡ true → IsDecimal (c ∷ ds) → decimal_size (c ∷ ds) < 2 ^ 127
+    → (2 ≤ length (c ∷ ds) → get_or (c ∷ ds) 0 0 ≡ 45 → get_or (c ∷ ds) 1 0 ≡ 48 → ⊥) → signed_decimal (decimal_value (c ∷ ds)) ≡ c ∷ ds
 minus_canonical c ds e d small minus =
     let is : c ≡ 45 = grind (arith, nat_tests, e) in
     let room : 2 ^ 127 ≤ 10 ^ 64 = lit≤ tt in
@@ -151,13 +155,15 @@ pub is_short : (text : List ℕ) → IsDecimal text → decimal_size text < 2 ^ 
 is_short text d small len = (λ t. canonical text d small (λ more is z. omega (arith, more, len)) (λ more z. omega (arith, more, len)), λ e. refl)
 
 -- text that begins with `-`
-pub is_negative : (text : List ℕ) → IsDecimal text → decimal_size text < 2 ^ 127 → 2 ≤ length text → get_or text 0 0 ≡ 45 → IsTrue (not (eqb (get_or text 1 0) 48)) ↔ (signed_decimal (decimal_value text) ≡ text)
+pub is_negative : (text : List ℕ) → IsDecimal text → decimal_size text < 2 ^ 127 → 2 ≤ length text → get_or text 0 0 ≡ 45
+    → IsTrue (not (eqb (get_or text 1 0) 48)) ↔ (signed_decimal (decimal_value text) ≡ text)
 is_negative text d small len minus =
     tested (get_or text 1 0) (signed_decimal (decimal_value text) ≡ text) (λ z e. minus_zero text small len minus z e)
     (λ other. canonical text d small (λ more is z. other z) (λ more z. omega (arith, minus, z)))
 
 -- text that does not
-pub is_plain : (text : List ℕ) → IsDecimal text → decimal_size text < 2 ^ 127 → 2 ≤ length text → (get_or text 0 0 ≡ 45 → ⊥) → IsTrue (not (eqb (get_or text 0 0) 48)) ↔ (signed_decimal (decimal_value text) ≡ text)
+pub is_plain : (text : List ℕ) → IsDecimal text → decimal_size text < 2 ^ 127 → 2 ≤ length text → (get_or text 0 0 ≡ 45 → ⊥)
+    → IsTrue (not (eqb (get_or text 0 0) 48)) ↔ (signed_decimal (decimal_value text) ≡ text)
 is_plain text d small len plain =
     tested (get_or text 0 0) (signed_decimal (decimal_value text) ≡ text) (λ z e. zero_first text small len z e)
     (λ other. canonical text d small (λ more is z. absurd (plain is)) (λ more z. other z))

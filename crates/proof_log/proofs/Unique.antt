@@ -43,7 +43,8 @@ begins_natural n r small stops bytes e = record { spelt = e; fits = small; stops
 pub small_unique : Unique (naturals 32)
 small_unique = naturals_unique 32 (lit≤ tt)
 
-numbers_unique : (xs ys r s : List ℕ) → length xs ≡ length ys → AreSmall xs → AreSmall ys → StopsAt is_number_byte r → StopsAt is_number_byte s → numbers_text xs ++ r ≡ numbers_text ys ++ s → (xs ≡ ys) × (r ≡ s)
+numbers_unique : (xs ys r s : List ℕ) → length xs ≡ length ys → AreSmall xs → AreSmall ys → StopsAt is_number_byte r
+    → StopsAt is_number_byte s → numbers_text xs ++ r ≡ numbers_text ys ++ s → (xs ≡ ys) × (r ≡ s)
 numbers_unique [] [] r s n p q h k e = (refl, e)
 numbers_unique [] (y ∷ ys) r s n p q h k e = absurd (omega arith)
 numbers_unique (x ∷ xs) [] r s n p q h k e = absurd (omega arith)
@@ -211,7 +212,8 @@ exponent_stops e r h =
     elim (eqb e 1) as (λ b. StopsAt is_number_byte (cond b [] (94 ∷ decimal e) ++ r)) [ true ↦ stops_number r h | false ↦ refl ]
 
 -- a power is a variable, and its exponent behind it
-pub power_parts : (bytes : List ℕ) (p : Var × ℕ) (r : List ℕ) → Begins single_powers bytes p r → (rest : List ℕ) × (bytes ≡ 42 ∷ rest) × Begins variables rest p.0 (exponent_text p.1 ++ r) × Begins exponents (exponent_text p.1 ++ r) p.1 r
+pub power_parts : (bytes : List ℕ) (p : Var × ℕ) (r : List ℕ) → Begins single_powers bytes p r → (rest : List ℕ) × (bytes ≡ 42 ∷ rest)
+    × Begins variables rest p.0 (exponent_text p.1 ++ r) × Begins exponents (exponent_text p.1 ++ r) p.1 r
 power_parts bytes p r h = (
   variable_name p.0 ++ (exponent_text p.1 ++ r),
   h.spelt ∙ ap (λ l. 42 ∷ l) (append_assoc (variable_name p.0) (exponent_text p.1) r),

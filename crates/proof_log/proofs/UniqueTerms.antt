@@ -11,7 +11,9 @@ use Rattle.geo_poly.specs.Monomials.{Powers, degree_of}
 use Rattle.geo_poly.specs.Polynomials.{Summands, norm_of}
 use Rattle.proof_log.specs.Lines.{polynomial_text, power_text, sign_text, term_text, variable_name}
 use Rattle.proof_log.specs.Writable.{CanWriteFactor, CanWriteMonomial, CanWritePolynomial, CanWriteValue, CanWriteValues, IsVariable}
-use Rattle.proof_log.specs.Inner.Reading.{Begins, Form, StopsAt, coefficients, exponent_text, factors, integers, is_byte, is_number_byte, is_power_byte, next_term, polynomials, powers_after, single_powers, single_values, terms, terms_after, value_lists, variables}
+use Rattle.proof_log.specs.Inner.Reading.{Begins, Form, StopsAt, coefficients, exponent_text, factors, integers, is_byte, is_number_byte}
+use Rattle.proof_log.specs.Inner.Reading.{is_power_byte, next_term, polynomials, powers_after, single_powers, single_values, terms}
+use Rattle.proof_log.specs.Inner.Reading.{terms_after, value_lists, variables}
 use Rattle.proof_log.proofs.Runs.{Unique, integers_unique}
 use Rattle.proof_log.proofs.Unique.{nothing_stops, single_powers_unique, stops_exponent, stops_number, variables_unique}
 use Rattle.proof_log.proofs.UniqueLists.{AreListed, list_unique, items_stop}
@@ -20,7 +22,11 @@ use Rattle.proof_log.proofs.UniqueLists.{AreListed, list_unique, items_stop}
 
 pub monomial_tail : (p : Var × ℕ) (m : Powers) → CanWriteMonomial (p ∷ m) → CanWriteMonomial m
 monomial_tail p m h = record {
-  monomial = record { in_order = h.monomial.in_order.2; degree_fits = let sum = sum_by-cons (λ (q : Var × ℕ). q.1) p m in let fits : degree_of (p ∷ m) ≤ 65535 = h.monomial.degree_fits in omega arith };
+  monomial = record {
+    in_order = h.monomial.in_order.2;
+    degree_fits = let sum = sum_by-cons (λ (q : Var × ℕ). q.1) p m in
+        let fits : degree_of (p ∷ m) ≤ 65535 = h.monomial.degree_fits in omega arith;
+  };
   variables = h.variables.1;
 }
 
@@ -87,7 +93,8 @@ factor_nonzero : (t : Powers × ℤ) → CanWriteFactor t → 1 ≤ unsigned_abs
 factor_nonzero t h = let nonzero : unsigned_abs t.1 ≢ 0 = h.factor.nonzero in omega arith
 
 -- a term is a coefficient, and powers behind it
-pub term_parts : (bytes : List ℕ) (t : Powers × ℤ) (r : List ℕ) → Begins terms bytes t r → Begins coefficients bytes t.1 (flat_map power_text t.0 ++ r) × Begins (powers_after []) (flat_map power_text t.0 ++ r) t.0 r
+pub term_parts : (bytes : List ℕ) (t : Powers × ℤ) (r : List ℕ) → Begins terms bytes t r
+    → Begins coefficients bytes t.1 (flat_map power_text t.0 ++ r) × Begins (powers_after []) (flat_map power_text t.0 ++ r) t.0 r
 term_parts bytes t r h =
     let powers = flat_map power_text t.0 in (
       record {
@@ -99,7 +106,8 @@ term_parts bytes t r h =
     )
 
 -- a factor is a number, and powers behind it
-pub factor_parts : (bytes : List ℕ) (t : Powers × ℤ) (r : List ℕ) → Begins factors bytes t r → Begins integers bytes t.1 (flat_map power_text t.0 ++ r) × Begins (powers_after []) (flat_map power_text t.0 ++ r) t.0 r
+pub factor_parts : (bytes : List ℕ) (t : Powers × ℤ) (r : List ℕ) → Begins factors bytes t r
+    → Begins integers bytes t.1 (flat_map power_text t.0 ++ r) × Begins (powers_after []) (flat_map power_text t.0 ++ r) t.0 r
 factor_parts bytes t r h = (
   record {
     spelt = h.spelt ∙ append_assoc (signed_decimal t.1) (flat_map power_text t.0) r;
@@ -110,7 +118,8 @@ factor_parts bytes t r h = (
 )
 
 -- the same number and the same powers
-same_parts : (bytes : List ℕ) (N : Form ℤ) (t u : Powers × ℤ) (r s : List ℕ) → Unique N → Begins N bytes t.1 (flat_map power_text t.0 ++ r) × Begins (powers_after []) (flat_map power_text t.0 ++ r) t.0 r
+same_parts : (bytes : List ℕ) (N : Form ℤ) (t u : Powers × ℤ) (r s : List ℕ) → Unique N → Begins N bytes t.1 (flat_map power_text t.0 ++ r)
+    × Begins (powers_after []) (flat_map power_text t.0 ++ r) t.0 r
     → Begins N bytes u.1 (flat_map power_text u.0 ++ s) × Begins (powers_after []) (flat_map power_text u.0 ++ s) u.0 s → (t ≡ u) × (r ≡ s)
 same_parts bytes N t u r s unique a b =
     let one = unique bytes t.1 u.1 (flat_map power_text t.0 ++ r) (flat_map power_text u.0 ++ s) a.0 b.0 in
@@ -181,7 +190,8 @@ joined_terms t [] = sym (append-nil (term_text t))
 joined_terms t (u ∷ ts) = ap (λ l. term_text t ++ (32 ∷ l)) (joined_terms u ts)
 
 -- a polynomial that is not zero is a term, and others behind it
-pub polynomial_parts : (bytes : List ℕ) (t : Powers × ℤ) (ts : Summands) (r : List ℕ) → Begins polynomials bytes (t ∷ ts) r → Begins terms bytes t (flat_map next_term.text ts ++ r) × Begins (terms_after (t ∷ [])) (flat_map next_term.text ts ++ r) ts r
+pub polynomial_parts : (bytes : List ℕ) (t : Powers × ℤ) (ts : Summands) (r : List ℕ) → Begins polynomials bytes (t ∷ ts) r
+    → Begins terms bytes t (flat_map next_term.text ts ++ r) × Begins (terms_after (t ∷ [])) (flat_map next_term.text ts ++ r) ts r
 polynomial_parts bytes t ts r h = (
   record {
     spelt = h.spelt ∙ ap (λ l. l ++ r) (joined_terms t ts) ∙ append_assoc (term_text t) (flat_map next_term.text ts) r;
@@ -216,7 +226,8 @@ polynomials_unique bytes (t ∷ ts) (u ∷ us) r s h k =
 -- VALUES
 
 -- a value is a variable, and a number behind `=`
-pub value_parts : (bytes : List ℕ) (v : Var × ℤ) (r : List ℕ) → Begins single_values bytes v r → (rest : List ℕ) × (bytes ≡ 32 ∷ rest) × Begins variables rest v.0 (61 ∷ (signed_decimal v.1 ++ r)) × Begins integers (signed_decimal v.1 ++ r) v.1 r
+pub value_parts : (bytes : List ℕ) (v : Var × ℤ) (r : List ℕ) → Begins single_values bytes v r → (rest : List ℕ) × (bytes ≡ 32 ∷ rest)
+    × Begins variables rest v.0 (61 ∷ (signed_decimal v.1 ++ r)) × Begins integers (signed_decimal v.1 ++ r) v.1 r
 value_parts bytes v r h = (
   variable_name v.0 ++ (61 ∷ (signed_decimal v.1 ++ r)),
   h.spelt ∙ ap (λ l. 32 ∷ l) (append_assoc (variable_name v.0 ++ codes "=") (signed_decimal v.1) r ∙ append_assoc (variable_name v.0) (codes "=") (signed_decimal v.1 ++ r)),

@@ -1,5 +1,6 @@
 -- Names by place.
-use Rattle.std.proofs.Common.{◌≡◌, ℕ, zero, suc, ◌+◌, ◌<◌, ◌≤◌, false, cond, eqb, eq-eqb, Option, Some, None, List, [], ◌∷◌, ◌++◌, length, get_or, refl, sym, ◌∙◌, ap, arith, take, add-one, inl, inr, below_more, length-append, ltb}
+use Rattle.std.proofs.Common.{◌≡◌, ℕ, zero, suc, ◌+◌, ◌<◌, ◌≤◌, false, cond, eqb, eq-eqb, Option, Some, None, List, [], ◌∷◌, ◌++◌, length}
+use Rattle.std.proofs.Common.{get_or, refl, sym, ◌∙◌, ap, arith, take, add-one, inl, inr, below_more, length-append, ltb}
 use Rattle.std.specs.Prelude.{All, IfSome, is_some, slice_get, unwrap_or}
 use Rattle.std.specs.Borrow.{Bor}
 use Rattle.std.specs.Fmt.{decimal}
@@ -49,9 +50,6 @@ no_line_feed-next (b ∷ bytes) (suc i) h lt other = rw (add-one (suc i)) (h.0, 
 pub record NamedBelow (name : ℕ → List ℕ) (list : List (List ℕ)) (n : ℕ) : Type 0 where
   pub count : length list ≡ n
   pub each : (k : ℕ) → k < n → (d : List ℕ) → get_or list k d ≡ name k
-
-pub named-init : (name : ℕ → List ℕ) → NamedBelow name [] 0
-named-init name = record { count = refl; each = λ k lt d. absurd (omega (arith, lt)) }
 
 pub named-more : (name : ℕ → List ℕ) (list : List (List ℕ)) (n : ℕ) → NamedBelow name list n → NamedBelow name (list ++ name n ∷ []) (n + 1)
 named-more name list n h = record {

@@ -1,11 +1,11 @@
 -- Fractions other than 0, and quotients.
 use native.Mathlib.Nat as NatL
 use borrow.Author.Differences.{up, down, same_in, product_is}
-use Rattle.std.proofs.Common.{◌≡◌, ℕ, zero, suc, Bool, true, false, ◌+◌, ◌*◌, ◌<◌, ℤ, pos, negsuc, ◌+ℤ◌, ◌*ℤ◌, neg_ℤ, nat_abs, refl, sym, ◌∙◌, ap, arith, [], ◌∷◌, zero-lt-suc, mul-pos}
-use Rattle.ring_laws.specs.Solver.{variable, numeral, ◌⊞◌, ◌⊟◌, ◌⊠◌, opposite, entry_at, given}
+use Rattle.std.proofs.Common.{◌≡◌, ℕ, zero, suc, ◌+◌, ◌*◌, ◌<◌, ℤ, pos, negsuc, ◌+ℤ◌, ◌*ℤ◌, neg_ℤ, nat_abs, refl, sym, ◌∙◌, ap, arith, [], ◌∷◌, zero-lt-suc, mul-pos}
+use Rattle.ring_laws.specs.Solver.{variable, numeral, ◌⊠◌, opposite, entry_at, given}
 use Rattle.ring_laws.specs.Fraction.{Fraction, Same, whole, minus, times, IsNonzero, quotient, quotient_at, plus, negated}
 use Rattle.ring_laws.proofs.Integers.{integers}
-use Rattle.ring_laws.proofs.Fractions.{fractions, cancel}
+use Rattle.ring_laws.proofs.Fractions.{cancel}
 use Rattle.ring_laws.proofs.Sound.{agree}
 use Rattle.ring_laws.proofs.Combination.{by_combination}
 

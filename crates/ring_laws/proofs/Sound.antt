@@ -2,7 +2,9 @@
 use native.Mathlib.Nat as NatL
 use Rattle.std.proofs.Common.{◌≡◌, ℕ, zero as zeroₙ, suc, ◌+◌ as ◌+ₙ◌, ◌*◌ as ◌*ₙ◌, Bool, true, false, ◌&&◌, eqb, ltb, T, subst, sym, eqb→eq}
 use Rattle.ring_laws.specs.Ring.{Ring}
-use Rattle.ring_laws.specs.Solver.{Expression, variable, numeral, ◌⊞◌, ◌⊟◌, ◌⊠◌, opposite, Horner, constant, nested, add_constant, join_nested, add_nested, add_horner, scale, times_variable_at, times_variable, times_horner, normal_form, is_zero, agrees, natural, value, horner_value}
+use Rattle.ring_laws.specs.Solver.{Expression, variable, numeral, ◌⊞◌, ◌⊟◌, ◌⊠◌, opposite, Horner, constant, nested, add_constant}
+use Rattle.ring_laws.specs.Solver.{join_nested, add_nested, add_horner, scale, times_variable_at, times_variable, times_horner, normal_form}
+use Rattle.ring_laws.specs.Solver.{is_zero, agrees, natural, value, horner_value}
 use Rattle.ring_laws.proofs.Laws as Laws
 
 module _ (R : Ring) (v : ℕ → R.carrier) where

@@ -1,5 +1,6 @@
 -- The steps of a loop that merges two canonical lists by their indices.
-use Rattle.std.proofs.Common.{◌≡◌, ℕ, zero, suc, ◌+◌, ◌<◌, ◌≤◌, Bool, true, false, cond, List, [], ◌∷◌, ◌++◌, length, get_or, take, drop, ◌-◌, length-drop, refl, sym, ap, ap₂, subst, ◌∙◌, append_assoc, add-one, drop-cons, arith}
+use Rattle.std.proofs.Common.{◌≡◌, ℕ, zero, suc, ◌+◌, ◌<◌, ◌≤◌, Bool, true, false, cond, List, [], ◌∷◌, ◌++◌, length, get_or, take, drop}
+use Rattle.std.proofs.Common.{◌-◌, length-drop, refl, sym, ap, ap₂, subst, ◌∙◌, append_assoc, add-one, drop-cons, arith}
 use Rattle.std.specs.declared.cmp.Ordering.{Ordering}
 use Rattle.std.specs.declared.cmp.Ordering.TheVariants.{Less, Equal, Greater}
 use Rattle.std.proofs.lemmas.List.{take_all}
@@ -37,7 +38,8 @@ module _ {K V : Type 0} (cmp : K → K → Ordering) (A : Amounts V) (order : Is
   pub IsCanonical-at : (ts : List (K × V)) (i : ℕ) (t : K × V) → i < length ts → t ≡ get_or ts i t → IsCanonical cmp A ts → IsCanonical cmp A (t ∷ drop (i + 1) ts)
   IsCanonical-at ts i t lt e h = subst (IsCanonical cmp A) (drop_at ts i t lt e) (IsCanonical-drop ts i h)
 
-  module _ (ls rs : List (K × V)) (i j : ℕ) (t u : K × V) (left_in : i < length ls) (right_in : j < length rs) (t-is : t ≡ get_or ls i t) (u-is : u ≡ get_or rs j u) (left : IsCanonical cmp A ls) (right : IsCanonical cmp A rs) where
+  module _ (ls rs : List (K × V)) (i j : ℕ) (t u : K × V) (left_in : i < length ls) (right_in : j < length rs) (t-is : t ≡ get_or ls i t)
+      (u-is : u ≡ get_or rs j u) (left : IsCanonical cmp A ls) (right : IsCanonical cmp A rs) where
     pub step_less : cmp t.0 u.0 ≡ Less → canonical cmp A (drop i ls ++ drop j rs) ≡ t ∷ canonical cmp A (drop (i + 1) ls ++ drop j rs)
     step_less e =
         ap₂ (λ xs ys. canonical cmp A (xs ++ ys)) (drop_at ls i t left_in t-is) (drop_at rs j u right_in u-is)
@@ -60,17 +62,21 @@ module _ {K V : Type 0} (cmp : K → K → Ordering) (A : Amounts V) (order : Is
     kept_less out goal e kept =
         append_assoc out (t ∷ []) (canonical cmp A (drop (i + 1) ls ++ drop j rs)) ∙ ap (λ xs. out ++ xs) (sym (step_less e)) ∙ kept
 
-    pub kept_greater : (out goal : List (K × V)) → cmp t.0 u.0 ≡ Greater → out ++ canonical cmp A (drop i ls ++ drop j rs) ≡ goal → (out ++ u ∷ []) ++ canonical cmp A (drop i ls ++ drop (j + 1) rs) ≡ goal
+    pub kept_greater : (out goal : List (K × V)) → cmp t.0 u.0 ≡ Greater → out ++ canonical cmp A (drop i ls ++ drop j rs) ≡ goal
+        → (out ++ u ∷ []) ++ canonical cmp A (drop i ls ++ drop (j + 1) rs) ≡ goal
     kept_greater out goal e kept =
         append_assoc out (u ∷ []) (canonical cmp A (drop i ls ++ drop (j + 1) rs)) ∙ ap (λ xs. out ++ xs) (sym (step_greater e)) ∙ kept
 
-    pub kept_equal : (out goal : List (K × V)) → cmp t.0 u.0 ≡ Equal → A.is_zero (A.add t.1 u.1) ≡ false → out ++ canonical cmp A (drop i ls ++ drop j rs) ≡ goal → (out ++ (t.0, A.add t.1 u.1) ∷ []) ++ canonical cmp A (drop (i + 1) ls ++ drop (j + 1) rs) ≡ goal
+    pub kept_equal : (out goal : List (K × V)) → cmp t.0 u.0 ≡ Equal → A.is_zero (A.add t.1 u.1) ≡ false
+        → out ++ canonical cmp A (drop i ls ++ drop j rs) ≡ goal
+        → (out ++ (t.0, A.add t.1 u.1) ∷ []) ++ canonical cmp A (drop (i + 1) ls ++ drop (j + 1) rs) ≡ goal
     kept_equal out goal e nonzero kept =
         let rest = canonical cmp A (drop (i + 1) ls ++ drop (j + 1) rs) in
         append_assoc out ((t.0, A.add t.1 u.1) ∷ []) rest
         ∙ ap (λ xs. out ++ xs) (ap (λ (b : Bool). cond b rest ((t.0, A.add t.1 u.1) ∷ rest)) (sym nonzero) ∙ sym (step_equal e)) ∙ kept
 
-    pub kept_cancel : (out goal : List (K × V)) → cmp t.0 u.0 ≡ Equal → A.is_zero (A.add t.1 u.1) ≡ true → out ++ canonical cmp A (drop i ls ++ drop j rs) ≡ goal → out ++ canonical cmp A (drop (i + 1) ls ++ drop (j + 1) rs) ≡ goal
+    pub kept_cancel : (out goal : List (K × V)) → cmp t.0 u.0 ≡ Equal → A.is_zero (A.add t.1 u.1) ≡ true
+        → out ++ canonical cmp A (drop i ls ++ drop j rs) ≡ goal → out ++ canonical cmp A (drop (i + 1) ls ++ drop (j + 1) rs) ≡ goal
     kept_cancel out goal e is_zero kept =
         let rest = canonical cmp A (drop (i + 1) ls ++ drop (j + 1) rs) in
         ap (λ xs. out ++ xs) (ap (λ (b : Bool). cond b rest ((t.0, A.add t.1 u.1) ∷ rest)) (sym is_zero) ∙ sym (step_equal e)) ∙ kept

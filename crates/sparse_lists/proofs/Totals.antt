@@ -84,7 +84,8 @@ module _ (M : Monoid) where
   total-append f [] ys = flip (unit-op (total M f ys))
   total-append f (x ∷ xs) ys = both self (total-append f xs ys) ∘ flip (M.op_assoc (f x) (total M f xs) (total M f ys))
 
-  module _ {K V : Type 0} (cmp : K → K → Ordering) (A : Amounts V) (order : IsKeyOrder cmp) (adds : IsAdditive A) (f : K × V → carrier) (f-add : (k : K) (a b : V) → f (k, A.add a b) ≈ f (k, a) · f (k, b)) (f-zero : (k : K) → f (k, A.zero) ≈ unit) where
+  module _ {K V : Type 0} (cmp : K → K → Ordering) (A : Amounts V) (order : IsKeyOrder cmp) (adds : IsAdditive A) (f : K × V → carrier)
+      (f-add : (k : K) (a b : V) → f (k, A.add a b) ≈ f (k, a) · f (k, b)) (f-zero : (k : K) → f (k, A.zero) ≈ unit) where
     total-put : (k : K) (a : V) (ts : List (K × V)) → total M f (put A k a ts) ≈ f (k, a) · total M f ts
     total-put k a ts = go (A.is_zero a) refl
       where

@@ -13,7 +13,9 @@ use Rattle.fraction_poly.specs.declared.linear.Linear.{Linear}
 use Rattle.fraction_poly.specs.declared.linear.Linear.TheVariants.{Area as LinearArea, Pythagoras as LinearPythagoras}
 use Rattle.fraction_poly.specs.declared.parts.Part.{Part}
 use Rattle.fraction_poly.specs.declared.step_numbers.StepNumber.{StepNumber}
-use Rattle.fraction_poly.specs.Forms.{Form, integer, area, pythagoras, ratio, abscissa, ordinate, numerator, denominator, ◌⊞◌, ◌⊟◌, ◌⊠◌, opposite, PieceFits, integer_piece, variable_piece, piece_sum, piece_difference, piece_product, piece_opposite}
+use Rattle.fraction_poly.specs.Forms.{Form, integer, area, pythagoras, ratio, abscissa, ordinate, numerator, denominator, ◌⊞◌, ◌⊟◌, ◌⊠◌}
+use Rattle.fraction_poly.specs.Forms.{opposite, PieceFits, integer_piece, variable_piece, piece_sum, piece_difference, piece_product}
+use Rattle.fraction_poly.specs.Forms.{piece_opposite}
 use Rattle.fraction_poly.specs.Measures.{HasRoom, capped_number, numbers_of}
 use Rattle.fraction_poly.specs.MultipliedOut.{canon_polynomial, variable_polynomial}
 use Rattle.fraction_poly.specs.TableRows.{RowFits, TableRow}

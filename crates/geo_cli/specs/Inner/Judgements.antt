@@ -3,7 +3,7 @@ use Rattle.std.specs.Prelude.{◌≡◌, ℕ, suc, List, [], ◌∷◌, ◌++◌
 use Rattle.std.specs.Fmt.{decimal}
 use Rattle.geo_cli.specs.declared.status.Status.{Status}
 use Rattle.geo_cli.specs.declared.status.Status.TheVariants as status
-use Rattle.geo_cli.specs.Due.{accepted_text}
+use Rattle.geo_cli.specs.Due.{accepted_text, rejected_line}
 use Rattle.geo_cli.specs.Input.{IsInput, log_limit}
 use Rattle.geo_conditions.specs.declared.items.Item.{Item}
 use Rattle.geo_conditions.specs.Lists.{AreConditionItems, ItemForm}
@@ -31,7 +31,7 @@ pub record IsJudgedInput (steps : ℕ) (left left' : Option (List ℕ)) (answer 
 -- REFUSALS
 -- the line that tells why a log is refused; want of memory has none
 abbrev pub error_line : CheckError → List ℕ
-error_line (error.Rejected line reason) = codes "rejected " ++ decimal line ++ codes " " ++ decimal reason ++ 10 ∷ []
+error_line (error.Rejected line reason) = rejected_line line reason
 error_line (error.TooLarge line which) = line_text (StopTooLarge line which) ++ 10 ∷ []
 error_line (error.Spent line) = line_text (StopSpent line) ++ 10 ∷ []
 error_line error.NoMemory = []

@@ -27,7 +27,8 @@ use Rattle.geo_parser.specs.declared.statement_words.StatementWord.{StatementWor
 use Rattle.geo_parser.specs.Inner.Coming.{fault_from, lexemes_of}
 use Rattle.geo_parser.specs.Inner.CommandWords.{command_condition, command_due, command_kind, command_points, command_slots, command_text, condition_slots, condition_text}
 use Rattle.geo_parser.specs.Inner.Dictionaries.{IsNew}
-use Rattle.geo_parser.specs.Forms.{Slot, a_line, a_number, a_point, close_slot, command_slot, condition_slot, end_slot, expression_slot, name_slot, new_name_slot, open_slot, second_number_slot, side, sketch_slot, statement_slot}
+use Rattle.geo_parser.specs.Forms.{Slot, a_line, a_number, a_point, close_slot, command_slot, condition_slot, end_slot, expression_slot}
+use Rattle.geo_parser.specs.Forms.{name_slot, new_name_slot, open_slot, second_number_slot, side, sketch_slot, statement_slot}
 use Rattle.geo_parser.specs.Slots.{Reading}
 use Rattle.geo_parser.specs.Inner.StatementWords.{expression_due, expression_text, statement_due, statement_text}
 

@@ -9,7 +9,11 @@ use Rattle.proof_log.specs.declared.log.Line.{Line}
 use Rattle.proof_log.specs.declared.log.Line.TheVariants.{Header, Program, Condition, Goal, Start, Ratio, Point, Coords, Cut, End, Sample, Verdict as VerdictLine, StopTooLarge, StopSpent}
 use Rattle.proof_log.specs.declared.log.Verdict.TheVariants.{Proved, False, Impossible}
 use Rattle.proof_log.specs.declared.leads.Lead.{Lead}
-use Rattle.proof_log.specs.declared.leads.Lead.TheVariants.{Header as HeaderLead, Program as ProgramLead, Condition as ConditionLead, Goal as GoalLead, Start as StartLead, Ratio as RatioLead, Point as PointLead, Coords as CoordsLead, Cut as CutLead, End as EndLead, Sample as SampleLead, Proved as ProvedLead, False as FalseLead, Impossible as ImpossibleLead, TooLarge as TooLargeLead, Spent as SpentLead}
+use Rattle.proof_log.specs.declared.leads.Lead.TheVariants.{Header as HeaderLead, Program as ProgramLead, Condition as ConditionLead}
+use Rattle.proof_log.specs.declared.leads.Lead.TheVariants.{Goal as GoalLead, Start as StartLead, Ratio as RatioLead, Point as PointLead}
+use Rattle.proof_log.specs.declared.leads.Lead.TheVariants.{Coords as CoordsLead, Cut as CutLead, End as EndLead, Sample as SampleLead}
+use Rattle.proof_log.specs.declared.leads.Lead.TheVariants.{Proved as ProvedLead, False as FalseLead, Impossible as ImpossibleLead}
+use Rattle.proof_log.specs.declared.leads.Lead.TheVariants.{TooLarge as TooLargeLead, Spent as SpentLead}
 use Rattle.proof_log.specs.Lines.{factor_text, place_text, polynomial_text, value_text, variable_name, which_text}
 use Rattle.proof_log.specs.Writable.{CanWriteHead, CanWriteLemma, CanWritePolynomial, HasNoLineFeed, IsVersion, IsWritable}
 use Rattle.proof_log.specs.Inner.Reading.{Form, is_byte, is_number_byte}

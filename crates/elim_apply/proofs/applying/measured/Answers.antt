@@ -38,7 +38,9 @@ size_of_line-requires-clause-powers c =
     let vs : c.deref.result.now ≡ variables_of q = c.deref.ensures.value ∙ c.in_ok-variables.ensures in
     let drafts : map (named_draft steps.nodes) c.in_ok-rows.rows.items ≡ filter_map (named_row steps mv) (variables_of q) = c.in_ok-rows.ensures.rows ∙ ap (filter_map (named_row steps mv)) vs in
     let numbers : c.deref-3.result.now ≡ filter_map (numbered_row steps mv) (variables_of q) =
-    c.deref-3.ensures.value ∙ line_numbers steps mv q c.look.result.now c.look.ensures c.in_ok-rows.rows.items drafts c.in_ok-numbered.numbered.items (c.in_ok-numbered.ensures.rows ∙ ap (map (numbered_draft c.look.result.now)) c.deref-2.ensures.value) in
+    c.deref-3.ensures.value ∙ line_numbers steps mv q c.look.result.now c.look.ensures c.in_ok-rows.rows.items drafts
+    c.in_ok-numbered.numbered.items
+    (c.in_ok-numbered.ensures.rows ∙ ap (map (numbered_draft c.look.result.now)) c.deref-2.ensures.value) in
     subst (λ (rs : List NumberedRow). AllPowersSmall (sketches rs)) (sym numbers) (sketches_small steps mv (variables_of q))
 
 pub returns-clause-some : goal.returns-clause-some
@@ -59,10 +61,13 @@ returns-clause-size c =
     let vs : c.deref.result.now ≡ variables_of q = c.deref.ensures.value ∙ c.in_ok-variables.ensures in
     let drafts : map (named_draft steps.nodes) c.in_ok-rows.rows.items ≡ filter_map (named_row steps mv) (variables_of q) = c.in_ok-rows.ensures.rows ∙ ap (filter_map (named_row steps mv)) vs in
     let numbers : c.deref-3.result.now ≡ filter_map (numbered_row steps mv) (variables_of q) =
-    c.deref-3.ensures.value ∙ line_numbers steps mv q c.look.result.now c.look.ensures c.in_ok-rows.rows.items drafts c.in_ok-numbered.numbered.items (c.in_ok-numbered.ensures.rows ∙ ap (map (numbered_draft c.look.result.now)) c.deref-2.ensures.value) in
+    c.deref-3.ensures.value ∙ line_numbers steps mv q c.look.result.now c.look.ensures c.in_ok-rows.rows.items drafts
+    c.in_ok-numbered.numbered.items
+    (c.in_ok-numbered.ensures.rows ∙ ap (map (numbered_draft c.look.result.now)) c.deref-2.ensures.value) in
     let some : c.in_ok-rows.rows.items ≢ [] = search rules in
     let listed : c.deref-3.result.now ≢ [] = λ e. some (some_drafts steps mv (variables_of q) c.in_ok-rows.rows.items drafts (none_made steps mv (variables_of q) (sym numbers ∙ e))) in
     let all : All (HasDenominator steps mv) c.deref-3.result.now = subst (All (HasDenominator steps mv)) (sym numbers) (all_over_one steps mv (variables_of q)) in
     let first : HasDenominator steps mv c.index.result.now =
-    subst (HasDenominator steps mv) (let e : get_or c.deref-3.result.now 0 c.index.result.now ≡ c.index.result.now = search rules in e) (all 0 c.index.result.now (some_length c.deref-3.result.now listed)) in
+    subst (HasDenominator steps mv) (let e : get_or c.deref-3.result.now 0 c.index.result.now ≡ c.index.result.now = search rules in e)
+    (all 0 c.index.result.now (some_length c.deref-3.result.now listed)) in
     sketched_line steps mv q c.deref-3.result.now c.index.result.now c.in_ok-size.size numbers first c.in_ok-size.ensures

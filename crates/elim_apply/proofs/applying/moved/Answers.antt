@@ -17,7 +17,8 @@ use Rattle.elim_apply.proofs.applying.moved.Goals as goal
 
 pub made_rows-requires-clause-rows : goal.made_rows-requires-clause-rows
 made_rows-requires-clause-rows g c =
-    line_can_be_made c.args.steps.now c.args.mv.now c.args.p.now c.look.result.now c.look.ensures c.args.rows.now c.requires.rows c.requires.numbers c.norm.ensures.valid c.requires.weight c.requires.degree
+    line_can_be_made c.args.steps.now c.args.mv.now c.args.p.now c.look.result.now c.look.ensures c.args.rows.now c.requires.rows
+    c.requires.numbers c.norm.ensures.valid c.requires.weight c.requires.degree
 
 pub made_rows-requires-clause-known : goal.made_rows-requires-clause-known
 made_rows-requires-clause-known g c = subst (λ (nodes : Store). IsKnownOf nodes c.args.known.now) (sym c.look.ensures) c.requires.known

@@ -28,8 +28,11 @@ loop-v-preserved c =
             rows =
                 ap (map (named_draft steps.nodes)) items ∙ map-append (named_draft steps.nodes) c.loop-v.rows.items (d ∷ [])
                 ∙ ap (λ (rows : List (Var × TableRow)). rows ++ named_draft steps.nodes d ∷ []) c.loop-v.invariant.rows
-                ∙ sym (rows_some (named_row steps mv) vs i none c.loop-v-test.true (named_draft steps.nodes d) (named_some steps mv (get_or vs i none) _ w.in-Some.row c.in_ok-row.ensures.row w.in-Some.is));
-            numbers = subst (All (HasNumbers steps.nodes)) (sym items) (All-push (HasNumbers steps.nodes) c.loop-v.rows.items d c.loop-v.invariant.numbers (c.in_ok-row.ensures.numbers w.in-Some.row w.in-Some.is));
+                ∙ sym (rows_some (named_row steps mv) vs i none c.loop-v-test.true (named_draft steps.nodes d)
+                (named_some steps mv (get_or vs i none) _ w.in-Some.row c.in_ok-row.ensures.row w.in-Some.is));
+            numbers = subst (All (HasNumbers steps.nodes)) (sym items)
+                (All-push (HasNumbers steps.nodes) c.loop-v.rows.items d c.loop-v.invariant.numbers
+                (c.in_ok-row.ensures.numbers w.in-Some.row w.in-Some.is));
           }
       | in_default w ↦
           let items : c.match-branch-2.rows.items ≡ c.loop-v.rows.items = ap (λ x. x.items) w.rows-is in

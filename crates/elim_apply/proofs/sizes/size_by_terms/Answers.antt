@@ -46,7 +46,9 @@ loop-i-preserved c =
 pub loop-i-init : goal.loop-i-init
 loop-i-init c =
     let made = sketch c.args.rows.now c.args.den in
-    no_size made c.most_denominators-top.result (made.charge + 4 * (sum_by (λ r. r.num.count) made.rows + made.den.count)) c.charge_of_rows-charge.result c.args.poly.now c.charge_of_rows-charge.ensures
+    no_size made c.most_denominators-top.result
+    (made.charge + 4 * (sum_by (λ r. r.num.count) made.rows + made.den.count)) c.charge_of_rows-charge.result c.args.poly.now
+    c.charge_of_rows-charge.ensures
 
 pub returns : goal.returns
 returns c =
@@ -55,4 +57,5 @@ returns c =
     let q = c.args.poly.now in
     let start = made.charge + 4 * (sum_by (λ r. r.num.count) made.rows + made.den.count) in
     line_size made top q c.loop-i.charge c.loop-i.weight c.loop-i.degree c.most_denominators-top.ensures
-    (whole_size made top start q (drop c.loop-i.i q) c.loop-i.charge c.loop-i.weight c.loop-i.degree (drop_all c.loop-i.i q (omega (arith, c.loop-i-test.false, c.terms-i-end.ensures))) c.loop-i.invariant)
+    (whole_size made top start q (drop c.loop-i.i q) c.loop-i.charge c.loop-i.weight c.loop-i.degree
+    (drop_all c.loop-i.i q (omega (arith, c.loop-i-test.false, c.terms-i-end.ensures))) c.loop-i.invariant)

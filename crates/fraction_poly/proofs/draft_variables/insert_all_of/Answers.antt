@@ -5,5 +5,6 @@ use Rattle.fraction_poly.proofs.draft_variables.insert_all_of.Goals as goal
 pub returns-clause-known : goal.returns-clause-known
 returns-clause-known c =
     on_ok_weaker c.insert_all.result
-    (λ more. AllVariables-longer c.vars.result.now c.insert_all.new.variables.keys c.args.poly.now (λ v stands. more v (rw c.as_slice.ensures stands)) (c.vars.ensures.known c.args.poly.now c.deref.ensures))
+    (λ more. AllVariables-longer c.vars.result.now c.insert_all.new.variables.keys c.args.poly.now
+    (λ v stands. more v (rw c.as_slice.ensures stands)) (c.vars.ensures.known c.args.poly.now c.deref.ensures))
     c.insert_all.ensures.known

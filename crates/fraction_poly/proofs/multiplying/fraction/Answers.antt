@@ -6,7 +6,8 @@ use Rattle.geo_poly.specs.Polynomials.{constant_of, negated}
 use Rattle.geo_terms.specs.declared.nodes.Node.TheVariants.{Int, Param, S, P, R, Neg, Add, Sub, Mul, Div}
 use Rattle.geo_terms.specs.Stores.{tree_of}
 use Rattle.fraction_poly.specs.MultipliedOut.{multiplied_out, whole_fraction, fraction_sum, fraction_difference, fraction_product, fraction_quotient}
-use Rattle.fraction_poly.proofs.Nodes.{IsAtNode, node_result, part_stands, integer_fits, negation_is, addition_fits, addition_is, subtraction_fits, subtraction_is, multiplication_fits, multiplication_is, division_fits, division_is}
+use Rattle.fraction_poly.proofs.Nodes.{IsAtNode, node_result, part_stands, integer_fits, negation_is, addition_fits, addition_is}
+use Rattle.fraction_poly.proofs.Nodes.{subtraction_fits, subtraction_is, multiplication_fits, multiplication_is, division_fits, division_is}
 use Rattle.fraction_poly.proofs.multiplying.fraction.Goals as goal
 
 pub constant-requires : goal.constant-requires
@@ -24,14 +25,18 @@ returns-in_ok-constant-in-Int c =
 
 pub returns-in_ok-var-in-Param : goal.returns-in_ok-var-in-Param
 returns-in_ok-var-in-Param c =
-    let h : IsAtNode c.args.terms.now c.args.parts.now c.args.id (Param c.in-Param.t) = record { store = c.requires.valid; at = c.in-Param.ensures; fits = c.requires.fits; ready = c.requires.parts } in
+    let h : IsAtNode c.args.terms.now c.args.parts.now c.args.id
+    (Param c.in-Param.t) =
+    record { store = c.requires.valid; at = c.in-Param.ensures; fits = c.requires.fits; ready = c.requires.parts } in
     IfOk-weaker c.whole-in-Param.result (λ f. f ≡ whole_fraction c.in_ok-var-in-Param.field-0) (λ f. f ≡ multiplied_out (tree_of c.args.terms.now c.args.id))
     (λ f is. node_result c.args.terms.now c.args.parts.now c.args.id (Param c.in-Param.t) h f (is ∙ ap whole_fraction c.in_ok-var-in-Param.ensures))
     c.whole-in-Param.ensures
 
 pub returns-in_ok-area-in-S : goal.returns-in_ok-area-in-S
 returns-in_ok-area-in-S c =
-    let h : IsAtNode c.args.terms.now c.args.parts.now c.args.id (S c.in-S.a c.in-S.b c.in-S.c) = record { store = c.requires.valid; at = c.in-S.ensures; fits = c.requires.fits; ready = c.requires.parts } in
+    let h : IsAtNode c.args.terms.now c.args.parts.now c.args.id
+    (S c.in-S.a c.in-S.b c.in-S.c) =
+    record { store = c.requires.valid; at = c.in-S.ensures; fits = c.requires.fits; ready = c.requires.parts } in
     IfOk-weaker c.whole-in-S.result (λ f. f ≡ whole_fraction c.in_ok-area-in-S.field-0) (λ f. f ≡ multiplied_out (tree_of c.args.terms.now c.args.id))
     (λ f is. node_result c.args.terms.now c.args.parts.now c.args.id (S c.in-S.a c.in-S.b c.in-S.c) h f (is ∙ ap whole_fraction c.in_ok-area-in-S.ensures))
     c.whole-in-S.ensures
@@ -51,112 +56,155 @@ returns-in-Neg c =
 
 pub part-requires-in-Add : goal.part-requires-in-Add
 part-requires-in-Add c =
-    let h : IsAtNode c.args.terms.now c.args.parts.now c.args.id (Add c.in-Add.e c.in-Add.f) = record { store = c.requires.valid; at = c.in-Add.ensures; fits = c.requires.fits; ready = c.requires.parts } in
+    let h : IsAtNode c.args.terms.now c.args.parts.now c.args.id
+    (Add c.in-Add.e c.in-Add.f) =
+    record { store = c.requires.valid; at = c.in-Add.ensures; fits = c.requires.fits; ready = c.requires.parts } in
     part_stands c.args.terms.now c.args.parts.now c.args.id (Add c.in-Add.e c.in-Add.f) h c.in-Add.e (inl refl)
 
 pub part-requires-in-Add-2 : goal.part-requires-in-Add-2
 part-requires-in-Add-2 c =
-    let h : IsAtNode c.args.terms.now c.args.parts.now c.args.id (Add c.in-Add.e c.in-Add.f) = record { store = c.requires.valid; at = c.in-Add.ensures; fits = c.requires.fits; ready = c.requires.parts } in
+    let h : IsAtNode c.args.terms.now c.args.parts.now c.args.id
+    (Add c.in-Add.e c.in-Add.f) =
+    record { store = c.requires.valid; at = c.in-Add.ensures; fits = c.requires.fits; ready = c.requires.parts } in
     part_stands c.args.terms.now c.args.parts.now c.args.id (Add c.in-Add.e c.in-Add.f) h c.in-Add.f (inr refl)
 
 pub sum-requires : goal.sum-requires
 sum-requires c =
-    let h : IsAtNode c.args.terms.now c.args.parts.now c.args.id (Add c.in-Add.e c.in-Add.f) = record { store = c.requires.valid; at = c.in-Add.ensures; fits = c.requires.fits; ready = c.requires.parts } in
+    let h : IsAtNode c.args.terms.now c.args.parts.now c.args.id
+    (Add c.in-Add.e c.in-Add.f) =
+    record { store = c.requires.valid; at = c.in-Add.ensures; fits = c.requires.fits; ready = c.requires.parts } in
     addition_fits c.args.terms.now c.args.parts.now c.args.id c.in-Add.e c.in-Add.f c.part-in-Add.result.now c.part-in-Add-2.result.now c.part-in-Add.ensures c.part-in-Add-2.ensures h
 
 pub returns-in-Add : goal.returns-in-Add
 returns-in-Add c =
-    let h : IsAtNode c.args.terms.now c.args.parts.now c.args.id (Add c.in-Add.e c.in-Add.f) = record { store = c.requires.valid; at = c.in-Add.ensures; fits = c.requires.fits; ready = c.requires.parts } in
+    let h : IsAtNode c.args.terms.now c.args.parts.now c.args.id
+    (Add c.in-Add.e c.in-Add.f) =
+    record { store = c.requires.valid; at = c.in-Add.ensures; fits = c.requires.fits; ready = c.requires.parts } in
     IfOk-weaker c.sum.result (λ f. f ≡ fraction_sum c.part-in-Add.result.now c.part-in-Add-2.result.now) (λ f. f ≡ multiplied_out (tree_of c.args.terms.now c.args.id))
     (λ f is. is ∙ addition_is c.args.terms.now c.args.parts.now c.args.id c.in-Add.e c.in-Add.f c.part-in-Add.result.now c.part-in-Add-2.result.now c.part-in-Add.ensures c.part-in-Add-2.ensures h)
     c.sum.ensures
 
 pub part-requires-in-Sub : goal.part-requires-in-Sub
 part-requires-in-Sub c =
-    let h : IsAtNode c.args.terms.now c.args.parts.now c.args.id (Sub c.in-Sub.e c.in-Sub.f) = record { store = c.requires.valid; at = c.in-Sub.ensures; fits = c.requires.fits; ready = c.requires.parts } in
+    let h : IsAtNode c.args.terms.now c.args.parts.now c.args.id
+    (Sub c.in-Sub.e c.in-Sub.f) =
+    record { store = c.requires.valid; at = c.in-Sub.ensures; fits = c.requires.fits; ready = c.requires.parts } in
     part_stands c.args.terms.now c.args.parts.now c.args.id (Sub c.in-Sub.e c.in-Sub.f) h c.in-Sub.e (inl refl)
 
 pub part-requires-in-Sub-2 : goal.part-requires-in-Sub-2
 part-requires-in-Sub-2 c =
-    let h : IsAtNode c.args.terms.now c.args.parts.now c.args.id (Sub c.in-Sub.e c.in-Sub.f) = record { store = c.requires.valid; at = c.in-Sub.ensures; fits = c.requires.fits; ready = c.requires.parts } in
+    let h : IsAtNode c.args.terms.now c.args.parts.now c.args.id
+    (Sub c.in-Sub.e c.in-Sub.f) =
+    record { store = c.requires.valid; at = c.in-Sub.ensures; fits = c.requires.fits; ready = c.requires.parts } in
     part_stands c.args.terms.now c.args.parts.now c.args.id (Sub c.in-Sub.e c.in-Sub.f) h c.in-Sub.f (inr refl)
 
 pub difference-requires : goal.difference-requires
 difference-requires c =
-    let h : IsAtNode c.args.terms.now c.args.parts.now c.args.id (Sub c.in-Sub.e c.in-Sub.f) = record { store = c.requires.valid; at = c.in-Sub.ensures; fits = c.requires.fits; ready = c.requires.parts } in
+    let h : IsAtNode c.args.terms.now c.args.parts.now c.args.id
+    (Sub c.in-Sub.e c.in-Sub.f) =
+    record { store = c.requires.valid; at = c.in-Sub.ensures; fits = c.requires.fits; ready = c.requires.parts } in
     subtraction_fits c.args.terms.now c.args.parts.now c.args.id c.in-Sub.e c.in-Sub.f c.part-in-Sub.result.now c.part-in-Sub-2.result.now c.part-in-Sub.ensures c.part-in-Sub-2.ensures h
 
 pub returns-in-Sub : goal.returns-in-Sub
 returns-in-Sub c =
-    let h : IsAtNode c.args.terms.now c.args.parts.now c.args.id (Sub c.in-Sub.e c.in-Sub.f) = record { store = c.requires.valid; at = c.in-Sub.ensures; fits = c.requires.fits; ready = c.requires.parts } in
+    let h : IsAtNode c.args.terms.now c.args.parts.now c.args.id
+    (Sub c.in-Sub.e c.in-Sub.f) =
+    record { store = c.requires.valid; at = c.in-Sub.ensures; fits = c.requires.fits; ready = c.requires.parts } in
     IfOk-weaker c.difference.result (λ f. f ≡ fraction_difference c.part-in-Sub.result.now c.part-in-Sub-2.result.now) (λ f. f ≡ multiplied_out (tree_of c.args.terms.now c.args.id))
     (λ f is. is ∙ subtraction_is c.args.terms.now c.args.parts.now c.args.id c.in-Sub.e c.in-Sub.f c.part-in-Sub.result.now c.part-in-Sub-2.result.now c.part-in-Sub.ensures c.part-in-Sub-2.ensures h)
     c.difference.ensures
 
 pub part-requires-in-Mul : goal.part-requires-in-Mul
 part-requires-in-Mul c =
-    let h : IsAtNode c.args.terms.now c.args.parts.now c.args.id (Mul c.in-Mul.e c.in-Mul.f) = record { store = c.requires.valid; at = c.in-Mul.ensures; fits = c.requires.fits; ready = c.requires.parts } in
+    let h : IsAtNode c.args.terms.now c.args.parts.now c.args.id
+    (Mul c.in-Mul.e c.in-Mul.f) =
+    record { store = c.requires.valid; at = c.in-Mul.ensures; fits = c.requires.fits; ready = c.requires.parts } in
     part_stands c.args.terms.now c.args.parts.now c.args.id (Mul c.in-Mul.e c.in-Mul.f) h c.in-Mul.e (inl refl)
 
 pub part-requires-in-Mul-2 : goal.part-requires-in-Mul-2
 part-requires-in-Mul-2 c =
-    let h : IsAtNode c.args.terms.now c.args.parts.now c.args.id (Mul c.in-Mul.e c.in-Mul.f) = record { store = c.requires.valid; at = c.in-Mul.ensures; fits = c.requires.fits; ready = c.requires.parts } in
+    let h : IsAtNode c.args.terms.now c.args.parts.now c.args.id
+    (Mul c.in-Mul.e c.in-Mul.f) =
+    record { store = c.requires.valid; at = c.in-Mul.ensures; fits = c.requires.fits; ready = c.requires.parts } in
     part_stands c.args.terms.now c.args.parts.now c.args.id (Mul c.in-Mul.e c.in-Mul.f) h c.in-Mul.f (inr refl)
 
 pub product-requires-clause-numerators : goal.product-requires-clause-numerators
 product-requires-clause-numerators c =
-    let h : IsAtNode c.args.terms.now c.args.parts.now c.args.id (Mul c.in-Mul.e c.in-Mul.f) = record { store = c.requires.valid; at = c.in-Mul.ensures; fits = c.requires.fits; ready = c.requires.parts } in
-    (multiplication_fits c.args.terms.now c.args.parts.now c.args.id c.in-Mul.e c.in-Mul.f c.part-in-Mul.result.now c.part-in-Mul-2.result.now c.part-in-Mul.ensures c.part-in-Mul-2.ensures h).numerator
+    let h : IsAtNode c.args.terms.now c.args.parts.now c.args.id
+    (Mul c.in-Mul.e c.in-Mul.f) =
+    record { store = c.requires.valid; at = c.in-Mul.ensures; fits = c.requires.fits; ready = c.requires.parts } in
+    (multiplication_fits c.args.terms.now c.args.parts.now c.args.id c.in-Mul.e c.in-Mul.f c.part-in-Mul.result.now
+    c.part-in-Mul-2.result.now c.part-in-Mul.ensures c.part-in-Mul-2.ensures h).numerator
 
 pub product-requires-clause-denominators : goal.product-requires-clause-denominators
 product-requires-clause-denominators c =
-    let h : IsAtNode c.args.terms.now c.args.parts.now c.args.id (Mul c.in-Mul.e c.in-Mul.f) = record { store = c.requires.valid; at = c.in-Mul.ensures; fits = c.requires.fits; ready = c.requires.parts } in
-    (multiplication_fits c.args.terms.now c.args.parts.now c.args.id c.in-Mul.e c.in-Mul.f c.part-in-Mul.result.now c.part-in-Mul-2.result.now c.part-in-Mul.ensures c.part-in-Mul-2.ensures h).denominator
+    let h : IsAtNode c.args.terms.now c.args.parts.now c.args.id
+    (Mul c.in-Mul.e c.in-Mul.f) =
+    record { store = c.requires.valid; at = c.in-Mul.ensures; fits = c.requires.fits; ready = c.requires.parts } in
+    (multiplication_fits c.args.terms.now c.args.parts.now c.args.id c.in-Mul.e c.in-Mul.f c.part-in-Mul.result.now
+    c.part-in-Mul-2.result.now c.part-in-Mul.ensures c.part-in-Mul-2.ensures h).denominator
 
 pub returns-in-Mul : goal.returns-in-Mul
 returns-in-Mul c =
-    let h : IsAtNode c.args.terms.now c.args.parts.now c.args.id (Mul c.in-Mul.e c.in-Mul.f) = record { store = c.requires.valid; at = c.in-Mul.ensures; fits = c.requires.fits; ready = c.requires.parts } in
+    let h : IsAtNode c.args.terms.now c.args.parts.now c.args.id
+    (Mul c.in-Mul.e c.in-Mul.f) =
+    record { store = c.requires.valid; at = c.in-Mul.ensures; fits = c.requires.fits; ready = c.requires.parts } in
     IfOk-weaker c.product.result (λ f. f ≡ fraction_product c.part-in-Mul.result.now c.part-in-Mul-2.result.now) (λ f. f ≡ multiplied_out (tree_of c.args.terms.now c.args.id))
-    (λ f is. is ∙ multiplication_is c.args.terms.now c.args.parts.now c.args.id c.in-Mul.e c.in-Mul.f c.part-in-Mul.result.now c.part-in-Mul-2.result.now c.part-in-Mul.ensures c.part-in-Mul-2.ensures h)
+    (λ f is. is ∙ multiplication_is c.args.terms.now c.args.parts.now c.args.id c.in-Mul.e c.in-Mul.f c.part-in-Mul.result.now
+    c.part-in-Mul-2.result.now c.part-in-Mul.ensures c.part-in-Mul-2.ensures h)
     c.product.ensures
 
 pub part-requires-in-Div : goal.part-requires-in-Div
 part-requires-in-Div c =
-    let h : IsAtNode c.args.terms.now c.args.parts.now c.args.id (Div c.in-Div.e c.in-Div.f) = record { store = c.requires.valid; at = c.in-Div.ensures; fits = c.requires.fits; ready = c.requires.parts } in
+    let h : IsAtNode c.args.terms.now c.args.parts.now c.args.id
+    (Div c.in-Div.e c.in-Div.f) =
+    record { store = c.requires.valid; at = c.in-Div.ensures; fits = c.requires.fits; ready = c.requires.parts } in
     part_stands c.args.terms.now c.args.parts.now c.args.id (Div c.in-Div.e c.in-Div.f) h c.in-Div.e (inl refl)
 
 pub part-requires-in-Div-2 : goal.part-requires-in-Div-2
 part-requires-in-Div-2 c =
-    let h : IsAtNode c.args.terms.now c.args.parts.now c.args.id (Div c.in-Div.e c.in-Div.f) = record { store = c.requires.valid; at = c.in-Div.ensures; fits = c.requires.fits; ready = c.requires.parts } in
+    let h : IsAtNode c.args.terms.now c.args.parts.now c.args.id
+    (Div c.in-Div.e c.in-Div.f) =
+    record { store = c.requires.valid; at = c.in-Div.ensures; fits = c.requires.fits; ready = c.requires.parts } in
     part_stands c.args.terms.now c.args.parts.now c.args.id (Div c.in-Div.e c.in-Div.f) h c.in-Div.f (inr refl)
 
 pub quotient-requires-clause-numerator : goal.quotient-requires-clause-numerator
 quotient-requires-clause-numerator c =
-    let h : IsAtNode c.args.terms.now c.args.parts.now c.args.id (Div c.in-Div.e c.in-Div.f) = record { store = c.requires.valid; at = c.in-Div.ensures; fits = c.requires.fits; ready = c.requires.parts } in
+    let h : IsAtNode c.args.terms.now c.args.parts.now c.args.id
+    (Div c.in-Div.e c.in-Div.f) =
+    record { store = c.requires.valid; at = c.in-Div.ensures; fits = c.requires.fits; ready = c.requires.parts } in
     (division_fits c.args.terms.now c.args.parts.now c.args.id c.in-Div.e c.in-Div.f c.part-in-Div.result.now c.part-in-Div-2.result.now c.part-in-Div.ensures c.part-in-Div-2.ensures h).numerator
 
 pub quotient-requires-clause-denominator : goal.quotient-requires-clause-denominator
 quotient-requires-clause-denominator c =
-    let h : IsAtNode c.args.terms.now c.args.parts.now c.args.id (Div c.in-Div.e c.in-Div.f) = record { store = c.requires.valid; at = c.in-Div.ensures; fits = c.requires.fits; ready = c.requires.parts } in
+    let h : IsAtNode c.args.terms.now c.args.parts.now c.args.id
+    (Div c.in-Div.e c.in-Div.f) =
+    record { store = c.requires.valid; at = c.in-Div.ensures; fits = c.requires.fits; ready = c.requires.parts } in
     (division_fits c.args.terms.now c.args.parts.now c.args.id c.in-Div.e c.in-Div.f c.part-in-Div.result.now c.part-in-Div-2.result.now c.part-in-Div.ensures c.part-in-Div-2.ensures h).denominator
 
 pub returns-in-Div : goal.returns-in-Div
 returns-in-Div c =
-    let h : IsAtNode c.args.terms.now c.args.parts.now c.args.id (Div c.in-Div.e c.in-Div.f) = record { store = c.requires.valid; at = c.in-Div.ensures; fits = c.requires.fits; ready = c.requires.parts } in
+    let h : IsAtNode c.args.terms.now c.args.parts.now c.args.id
+    (Div c.in-Div.e c.in-Div.f) =
+    record { store = c.requires.valid; at = c.in-Div.ensures; fits = c.requires.fits; ready = c.requires.parts } in
     IfOk-weaker c.quotient.result (λ f. f ≡ fraction_quotient c.part-in-Div.result.now c.part-in-Div-2.result.now) (λ f. f ≡ multiplied_out (tree_of c.args.terms.now c.args.id))
     (λ f is. is ∙ division_is c.args.terms.now c.args.parts.now c.args.id c.in-Div.e c.in-Div.f c.part-in-Div.result.now c.part-in-Div-2.result.now c.part-in-Div.ensures c.part-in-Div-2.ensures h)
     c.quotient.ensures
 
 pub returns-in_ok-pythagoras-in-P : goal.returns-in_ok-pythagoras-in-P
 returns-in_ok-pythagoras-in-P c =
-    let h : IsAtNode c.args.terms.now c.args.parts.now c.args.id (P c.in-P.a c.in-P.b c.in-P.c) = record { store = c.requires.valid; at = c.in-P.ensures; fits = c.requires.fits; ready = c.requires.parts } in
+    let h : IsAtNode c.args.terms.now c.args.parts.now c.args.id
+    (P c.in-P.a c.in-P.b c.in-P.c) =
+    record { store = c.requires.valid; at = c.in-P.ensures; fits = c.requires.fits; ready = c.requires.parts } in
     IfOk-weaker c.whole-in-P.result (λ f. f ≡ whole_fraction c.in_ok-pythagoras-in-P.field-0) (λ f. f ≡ multiplied_out (tree_of c.args.terms.now c.args.id))
     (λ f is. node_result c.args.terms.now c.args.parts.now c.args.id (P c.in-P.a c.in-P.b c.in-P.c) h f (is ∙ ap whole_fraction c.in_ok-pythagoras-in-P.ensures))
     c.whole-in-P.ensures
 
 pub returns-in_ok-ratio-in-R : goal.returns-in_ok-ratio-in-R
 returns-in_ok-ratio-in-R c =
-    let h : IsAtNode c.args.terms.now c.args.parts.now c.args.id (R c.in-R.a c.in-R.b c.in-R.c c.in-R.d) = record { store = c.requires.valid; at = c.in-R.ensures; fits = c.requires.fits; ready = c.requires.parts } in
+    let h : IsAtNode c.args.terms.now c.args.parts.now c.args.id
+    (R c.in-R.a c.in-R.b c.in-R.c c.in-R.d) =
+    record { store = c.requires.valid; at = c.in-R.ensures; fits = c.requires.fits; ready = c.requires.parts } in
     IfOk-weaker c.whole-in-R.result (λ f. f ≡ whole_fraction c.in_ok-ratio-in-R.field-0) (λ f. f ≡ multiplied_out (tree_of c.args.terms.now c.args.id))
     (λ f is. node_result c.args.terms.now c.args.parts.now c.args.id (R c.in-R.a c.in-R.b c.in-R.c c.in-R.d) h f (is ∙ ap whole_fraction c.in_ok-ratio-in-R.ensures))
     c.whole-in-R.ensures

@@ -5,7 +5,8 @@ use Rattle.geo_base.proofs.DeviceLemmas.{Loses-append}
 use Rattle.geo_base.proofs.reading.read_all.Goals as goal
 
 -- the bytes that were taken, as the clause on errors tells them
-on_err : {T E : Type 0} (r : Result T E) (before after : Option (List ℕ)) (xs : List ℕ) (most : ℕ) → length xs ≤ most → Loses before xs after → OnErr r ((taken : List ℕ) × (length taken ≤ most) × Loses before taken after)
+on_err : {T E : Type 0} (r : Result T E) (before after : Option (List ℕ)) (xs : List ℕ) (most : ℕ) → length xs ≤ most
+    → Loses before xs after → OnErr r ((taken : List ℕ) × (length taken ≤ most) × Loses before taken after)
 on_err (Ok x) before after xs most short loses = tt
 on_err (Err e) before after xs most short loses = (xs, short, loses)
 

@@ -1,5 +1,5 @@
 use Rattle.std.proofs.Common.{refl}
-use Rattle.geo_cli.proofs.Answered.{by_bench, by_check, by_figure, by_place, by_prove, by_text}
+use Rattle.geo_cli.proofs.Answered.{by_bench, by_check, by_cite, by_figure, by_place, by_prove, by_text}
 use Rattle.geo_cli.proofs.run.carry_out.Goals as goal
 
 pub returns-in-Prove-clause-answers : goal.returns-in-Prove-clause-answers
@@ -19,6 +19,9 @@ returns-in-Place-clause-answers g c = by_place _ _ _ _ _ _ _ _ _ _ _ c.in-Place.
 
 pub returns-in-Figure-clause-answers : goal.returns-in-Figure-clause-answers
 returns-in-Figure-clause-answers g c = by_figure _ _ _ _ _ _ _ _ _ _ _ c.in-Figure.is c.run_place-in-Figure.ensures.answers
+
+pub returns-in-Cite-clause-answers : goal.returns-in-Cite-clause-answers
+returns-in-Cite-clause-answers g c = by_cite _ _ _ _ _ _ _ _ _ _ _ c.in-Cite.is c.run_cite.ensures.answers
 
 pub returns-in-Bench-clause-answers : goal.returns-in-Bench-clause-answers
 returns-in-Bench-clause-answers g c = by_bench _ _ _ _ _ _ _ _ _ _ _ _ c.in-Bench.is refl c.run_bench.ensures.answers

@@ -2,6 +2,8 @@ use Rattle.geo_cli.proofs.Decisive.{decisive}
 use Rattle.geo_cli.proofs.Placed.{done, unmet}
 use Rattle.geo_cli.proofs.Ended.{accepts, completes, decides, ends_in, has_number, misused, no_order, reads_nothing, takes_order}
 use Rattle.geo_cli.proofs.OneDue.{one_is_called}
+use Rattle.geo_cli.proofs.SomeDue.{some_is_called}
+use Rattle.geo_cli.proofs.Uncited.{missed}
 use Rattle.geo_cli.proofs.run.run.Goals as goal
 
 pub carry_out-requires : goal.carry_out-requires
@@ -18,6 +20,10 @@ returns-in-Some-clause-done g c =
 pub returns-in-Some-clause-unmet : goal.returns-in-Some-clause-unmet
 returns-in-Some-clause-unmet g c = λ number.
     unmet _ _ _ _ _ number _ _ _ _ _ (ends_in _ c.order_of.ensures.one _ c.in-Some.ensures.given _ _ _ _ _ _ _ _ _ c.carry_out.ensures.answers)
+
+pub returns-in-Some-clause-no_instance : goal.returns-in-Some-clause-no_instance
+returns-in-Some-clause-no_instance g c = λ line.
+    missed _ _ _ line _ _ _ _ _ _ _ (ends_in _ c.order_of.ensures.one _ c.in-Some.ensures.given _ _ _ _ _ _ _ _ _ c.carry_out.ensures.answers)
 
 pub returns-in-Some-clause-accepted : goal.returns-in-Some-clause-accepted
 returns-in-Some-clause-accepted g c = λ verdict.
@@ -51,6 +57,12 @@ returns-in-None-clause-complete g c = λ due called calm calm'. absurd (no_order
 
 pub returns-in-Some-clause-one : goal.returns-in-Some-clause-one
 returns-in-Some-clause-one g c = λ due other. one_is_called _ c.order_of.ensures.one _ due other
+
+pub returns-in-Some-clause-some : goal.returns-in-Some-clause-some
+returns-in-Some-clause-some g c = some_is_called _ _
+
+pub returns-in-None-clause-some : goal.returns-in-None-clause-some
+returns-in-None-clause-some g c = some_is_called _ _
 
 pub returns-in-Some-clause-taken : goal.returns-in-Some-clause-taken
 returns-in-Some-clause-taken g c = λ order given.

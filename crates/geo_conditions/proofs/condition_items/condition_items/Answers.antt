@@ -8,7 +8,12 @@ use Rattle.geo_conditions.proofs.TermsInterned.{keeps_all, keeps_both}
 use Rattle.geo_conditions.proofs.condition_items.condition_items.Goals as goal
 
 pub loop-condition-init : goal.loop-condition-init
-loop-condition-init c = record { keeps = keeps_all c.args.steps.now; items = subst (λ (items : List Item). AreItems c.args.steps.now.nodes items []) (sym c.new-items.ensures.items) (record { stored = tt; are = refl }) }
+loop-condition-init c =
+    record {
+      keeps = keeps_all c.args.steps.now;
+      items = subst (λ (items : List Item). AreItems c.args.steps.now.nodes items [])
+          (sym c.new-items.ensures.items) (record { stored = tt; are = refl });
+    }
 
 pub condition_item-requires-clause-placed : goal.condition_item-requires-clause-placed
 condition_item-requires-clause-placed c =

@@ -8,7 +8,12 @@ use Rattle.geo_conditions.proofs.TermsInterned.{keeps_all, keeps_both}
 use Rattle.geo_conditions.proofs.goal_items.goal_items.Goals as goal
 
 pub loop-goal-init : goal.loop-goal-init
-loop-goal-init c = record { keeps = keeps_all c.args.steps.now; items = subst (λ (items : List Item). AreItems c.args.steps.now.nodes items []) (sym c.new-items.ensures.items) (record { stored = tt; are = refl }) }
+loop-goal-init c =
+    record {
+      keeps = keeps_all c.args.steps.now;
+      items = subst (λ (items : List Item). AreItems c.args.steps.now.nodes items [])
+          (sym c.new-items.ensures.items) (record { stored = tt; are = refl });
+    }
 
 pub goal_item-requires-clause-placed : goal.goal_item-requires-clause-placed
 goal_item-requires-clause-placed c =

@@ -46,7 +46,9 @@ make_items-requires-clause-rows c =
     let p = source_of c.args.program.now in
     let listed = c.in_ok-listed.listed in
     let h = c.in_ok-listed.ensures in
-    let are = subst (λ (cs : List Command). AreConditions (record { names = p.names; nodes = p.nodes; commands = cs; statement = p.statement }) (map (found_of p.nodes) listed.items.items)) c.as_slice-commands.ensures (h.conditions p.names) in
+    let are = subst (λ (cs : List Command). AreConditions
+    (record { names = p.names; nodes = p.nodes; commands = cs; statement = p.statement }) (map (found_of p.nodes) listed.items.items))
+    c.as_slice-commands.ensures (h.conditions p.names) in
     rows_by_names p c.in_ok-printer.printer.names c.in_ok-printer.printer.terms.now c.in_ok-printer.ensures.names c.in_ok-printer.ensures.terms c.as_slice-rows.result.now
     (subst (λ (rows : List ListedCondition). AllByRecursion (λ i. IsPrintableCondition p.names p.nodes i.condition) rows) (sym c.as_slice-rows.ensures.value)
     (conditions_printable p h.valid.store (program_well_formed c.args.program.now) listed.items.items are h.valid.kept))
@@ -82,9 +84,12 @@ returns-clause-conditions c = λ version has.
     let layouts = same_layout version p.commands places (ap (λ (l : List PointId). map (λ a. a.0) l) x ∙ has.points) (ap (λ (l : List (PointId × PointId)). map pair_numbers l) y ∙ has.lines)
     (ap (λ (l : List ParamId). map (λ t. t.0) l) z ∙ has.params) in
     let listed = c.in_ok-listed.listed in
-    let are = subst (λ (cs : List Command). AreConditions (record { names = p.names; nodes = p.nodes; commands = cs; statement = p.statement }) (map (found_of p.nodes) listed.items.items)) c.as_slice-commands.ensures (c.in_ok-listed.ensures.conditions p.names) in
+    let are = subst (λ (cs : List Command). AreConditions
+    (record { names = p.names; nodes = p.nodes; commands = cs; statement = p.statement }) (map (found_of p.nodes) listed.items.items))
+    c.as_slice-commands.ensures (c.in_ok-listed.ensures.conditions p.names) in
     IfOk-weaker c.make_items.result _ _
-    (λ both h. conditions_by p c.in_ok-printer.printer.names c.in_ok-printer.printer.terms.now c.in_ok-printer.ensures.names c.in_ok-printer.ensures.terms version (places_layout places) c.make_items.new.steps.nodes both.0
+    (λ both h. conditions_by p c.in_ok-printer.printer.names c.in_ok-printer.printer.terms.now c.in_ok-printer.ensures.names
+    c.in_ok-printer.ensures.terms version (places_layout places) c.make_items.new.steps.nodes both.0
     c.as_slice-rows.result.now listed.items.items layouts c.as_slice-rows.ensures.value are h)
     c.make_items.ensures.conditions
 
@@ -101,6 +106,7 @@ returns-clause-goals c = λ version has.
     let lines_are : length commands + 1 ≡ suc (length p.commands) = add-one (length commands) ∙ ap (λ (cs : List Command). suc (length cs)) c.as_slice-commands.ensures in
     let goals = c.in_ok-wanted.wanted.goals.keys in
     IfOk-weaker c.make_items.result _ _
-    (λ both h. goals_by p c.in_ok-printer.printer.names c.in_ok-printer.printer.terms.now c.in_ok-printer.ensures.names c.in_ok-printer.ensures.terms version (places_layout places) (length commands + 1) c.make_items.new.steps.nodes both.1
+    (λ both h. goals_by p c.in_ok-printer.printer.names c.in_ok-printer.printer.terms.now c.in_ok-printer.ensures.names
+    c.in_ok-printer.ensures.terms version (places_layout places) (length commands + 1) c.make_items.new.steps.nodes both.1
     c.as_slice-ratios.result.now goals layouts lines_are c.as_slice-ratios.ensures.keys (c.in_ok-wanted.ensures p.names p.commands) h)
     c.make_items.ensures.goals

@@ -17,5 +17,6 @@ pub loop-at-preserved : goal.loop-at-preserved
 loop-at-preserved c =
     let points = c.args.points.now in
     let k = c.loop-at.at-index in
-    let n = frame_next points k c.at-item.result c.loop-at-test.true c.at-item.is c.in_ok-next_frame.field-0 (c.in_ok-next_frame.ensures (take k points) c.loop-at.invariant.frame) c.loop-at.invariant.passed in
+    let n = frame_next points k c.at-item.result c.loop-at-test.true c.at-item.is c.in_ok-next_frame.field-0
+    (c.in_ok-next_frame.ensures (take k points) c.loop-at.invariant.frame) c.loop-at.invariant.passed in
     record { frame = n.frame; passed = n.passed }

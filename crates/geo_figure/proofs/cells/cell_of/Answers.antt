@@ -13,4 +13,6 @@ returns c = λ points h.
     let first = first_byte at.name letter c.requires.named (c.index.ensures ∙ ap (λ (a : At). slice_index_or a.name 0 letter) c.at.view_is) in
     cell_found points at c.step_of-column.result c.step_of-height.result (c.step_of-column.ensures 40 (map x_of points) (x_of at) refl h.x c.x_of.ensures)
     (c.step_of-height.ensures 20 (map y_of points) (y_of at) refl h.y c.y_of.ensures) letter first c.cell_from.result c.cell_from.ensures.cell
-    (subst (λ (line : ℕ). IfErr c.cell_from.result (λ e. (e ≡ TooLarge line) × (IsErr c.step_of-column.result ⊎ IsErr c.step_of-height.result))) (ap (λ (a : At). a.line) c.at.view_is) c.cell_from.ensures.refused)
+    (subst (λ (line : ℕ). IfErr c.cell_from.result
+    (λ e. (e ≡ TooLarge line) × (IsErr c.step_of-column.result ⊎ IsErr c.step_of-height.result)))
+    (ap (λ (a : At). a.line) c.at.view_is) c.cell_from.ensures.refused)

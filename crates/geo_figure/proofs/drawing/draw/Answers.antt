@@ -1,6 +1,6 @@
 use Rattle.std.proofs.Common.{◌≡◌, ℕ, List, ◌++◌, map, ◌∙◌, ap, subst}
 use Rattle.std.specs.List.{AllByRecursion, flat_map}
-use Rattle.geo_place.specs.Placing.{text_of}
+use Rattle.geo_place.specs.Placing.{points_text}
 use Rattle.geo_place.specs.declared.placed.At.{At}
 use Rattle.geo_place.specs.declared.placed.Placed.{Placed}
 use Rattle.geo_figure.specs.declared.cells.Cell.{Cell}
@@ -20,7 +20,7 @@ returns c =
     let picture : c.push_picture.new.out.items ≡ lines =
     c.in_ok-push_picture.ensures ∙ ap (λ (bytes : List ℕ). bytes ++ flat_map (cell_line c.deref-2.result.now) (first_numbers 21)) c.new-bytes.ensures.items
     ∙ ap (λ (cs : List Cell). flat_map (cell_line cs) (first_numbers 21)) c.deref-2.ensures.value in
-    let text : c.extend_from_slice.new.self.items ≡ lines ++ text_of placed =
+    let text : c.extend_from_slice.new.self.items ≡ lines ++ points_text placed =
     c.in_ok-extend_from_slice.ensures.items ∙ ap (λ (bytes : List ℕ). bytes ++ c.deref-3.result.now) picture
     ∙ ap (λ (bytes : List ℕ). lines ++ bytes) (c.deref-3.ensures.value ∙ c.text.view_is ∙ c.in_ok-text.ensures) in
     all_drawn placed cells same passed c.extend_from_slice.new.self.items text

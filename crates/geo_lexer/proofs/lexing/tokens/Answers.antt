@@ -15,7 +15,9 @@ loop-start-preserved c =
     let token = c.in-Ok.token in
     let at = c.in-Ok.ensures.token in record {
       within = (IsTokenAt-within bytes token.kind token.start token.end at.1).1;
-      tokens = rw c.in_ok-push-in-Ok.ensures.items (AreTokens-push bytes 0 c.loop-start.end c.in-Some.start c.loop-start.items.items token c.loop-start.invariant.tokens c.in-Some.ensures.gap at.0 at.1);
+      tokens = rw c.in_ok-push-in-Ok.ensures.items
+          (AreTokens-push bytes 0 c.loop-start.end c.in-Some.start c.loop-start.items.items token c.loop-start.invariant.tokens
+          c.in-Some.ensures.gap at.0 at.1);
     }
 
 pub returns-in-Err-clause-within : goal.returns-in-Err-clause-within

@@ -13,5 +13,8 @@ pub returns-clause-run : goal.returns-clause-run
 returns-clause-run c =
     let bytes = c.args.bytes.now in
     let rest = take (length bytes - c.args.start) (drop c.args.start bytes) in
-    let count = count_from_yields_List c.take_while-run.result _ c.count.ensures.ran (YieldsList-from_take_while _ is_digit (YieldsList-from_slice rest (cc)) c.take_while-run.ensures.closure c.take_while-run.ensures.done (λ x b q k. search (rules, tests))) ∙ length-prefix_len is_digit rest in
+    let count = count_from_yields_List c.take_while-run.result _ c.count.ensures.ran
+    (YieldsList-from_take_while _ is_digit
+    (YieldsList-from_slice rest (cc)) c.take_while-run.ensures.closure c.take_while-run.ensures.done (λ x b q k. search (rules, tests)))
+    ∙ length-prefix_len is_digit rest in
     ap (λ n. c.args.start + n) (count ∙ ap (prefix_len is_digit) (take_rest bytes c.args.start))

@@ -42,7 +42,9 @@ push_steps-requires-clause-steps c =
     let mid = c.number_of.new.steps in
     let kept = c.in_ok-number.ensures.keeps in
     let number = c.in_ok-number.ensures.term p.nodes begun.renamed c.requires.count begun.stored.0 begun.fractions.one in
-    let second = c.second_number-second.ensures l p.nodes mid.nodes (kept_renamed old mid kept l p.nodes terms begun.renamed) c.requires.count begun.stored.0 (kept_fractions old mid kept c.args.fractions begun.fractions).one in
+    let second = c.second_number-second.ensures l p.nodes mid.nodes
+    (kept_renamed old mid kept l p.nodes terms begun.renamed) c.requires.count begun.stored.0
+    (kept_fractions old mid kept c.args.fractions begun.fractions).one in
     let list = c.in_ok-list.list.items in
     let forms : HaveForms mid.nodes (command_steps c.args.version l p.nodes (length old.steps) old.params k) list =
     subst (λ (n : ℕ). HaveForms mid.nodes (command_steps c.args.version l p.nodes n old.params k) list) c.count-next.ensures.count
@@ -67,7 +69,9 @@ push_steps-requires-clause-room c =
     let mid = c.number_of.new.steps in
     let kept = c.in_ok-number.ensures.keeps in
     let number = c.in_ok-number.ensures.term p.nodes begun.renamed c.requires.count begun.stored.0 begun.fractions.one in
-    let second = c.second_number-second.ensures l p.nodes mid.nodes (kept_renamed old mid kept l p.nodes terms begun.renamed) c.requires.count begun.stored.0 (kept_fractions old mid kept c.args.fractions begun.fractions).one in
+    let second = c.second_number-second.ensures l p.nodes mid.nodes
+    (kept_renamed old mid kept l p.nodes terms begun.renamed) c.requires.count begun.stored.0
+    (kept_fractions old mid kept c.args.fractions begun.fractions).one in
     let list = c.in_ok-list.list.items in
     let forms : HaveForms mid.nodes (command_steps c.args.version l p.nodes (length old.steps) old.params k) list =
     subst (λ (n : ℕ). HaveForms mid.nodes (command_steps c.args.version l p.nodes n old.params k) list) c.count-next.ensures.count
@@ -92,7 +96,9 @@ loop-command-preserved c =
     let mid = c.number_of.new.steps in
     let kept = c.in_ok-number.ensures.keeps in
     let number = c.in_ok-number.ensures.term p.nodes begun.renamed c.requires.count begun.stored.0 begun.fractions.one in
-    let second = c.second_number-second.ensures l p.nodes mid.nodes (kept_renamed old mid kept l p.nodes terms begun.renamed) c.requires.count begun.stored.0 (kept_fractions old mid kept c.args.fractions begun.fractions).one in
+    let second = c.second_number-second.ensures l p.nodes mid.nodes
+    (kept_renamed old mid kept l p.nodes terms begun.renamed) c.requires.count begun.stored.0
+    (kept_fractions old mid kept c.args.fractions begun.fractions).one in
     let list = c.in_ok-list.list.items in
     let forms : HaveForms mid.nodes (command_steps c.args.version l p.nodes (length old.steps) old.params k) list =
     subst (λ (n : ℕ). HaveForms mid.nodes (command_steps c.args.version l p.nodes n old.params k) list) c.count-next.ensures.count

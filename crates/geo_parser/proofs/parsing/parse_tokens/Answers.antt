@@ -29,7 +29,13 @@ commands-requires-clause-room c =
 
 pub statement-requires : goal.statement-requires
 statement-requires c =
-    omega (arith, extent-all c.in_ok-reader.reader c.commands.new.self c.in_ok-commands.commands c.in_ok-commands.ensures.ok, ap extent (first (goal.at.statement-requires c).In_ok-reader), extent-first c.args.bytes.now c.args.tokens.now c.args.stop c.requires.lexed, c.requires.length)
+    omega (
+      arith,
+      extent-all c.in_ok-reader.reader c.commands.new.self c.in_ok-commands.commands c.in_ok-commands.ensures.ok,
+      ap extent (first (goal.at.statement-requires c).In_ok-reader),
+      extent-first c.args.bytes.now c.args.tokens.now c.args.stop c.requires.lexed,
+      c.requires.length,
+    )
 
 pub returns-in_err-statement-clause-refused : goal.returns-in_err-statement-clause-refused
 returns-in_err-statement-clause-refused c = λ f e.
@@ -47,8 +53,10 @@ unfolding parts
 invariant_of-result c =
     let P : Reader → Type 0 = λ a. ReadsAllCommands a c.commands.new.self c.in_ok-commands.commands in
     let all = subst P (first (goal.at.invariant_of-result c).In_ok-reader) c.in_ok-commands.ensures.ok in
-    let text = spelt c.args.bytes.now c.args.tokens.now c.args.stop c.requires.lexed c.commands.new.self c.statement.new.self c.in_ok-commands.commands c.in_ok-statement.statement all c.in_ok-statement.ensures.ok in
-    let size = short c.args.bytes.now c.args.tokens.now c.args.stop c.requires.lexed c.commands.new.self c.statement.new.self c.in_ok-commands.commands c.in_ok-statement.statement all c.in_ok-statement.ensures.ok in
+    let text = spelt c.args.bytes.now c.args.tokens.now c.args.stop c.requires.lexed c.commands.new.self c.statement.new.self
+    c.in_ok-commands.commands c.in_ok-statement.statement all c.in_ok-statement.ensures.ok in
+    let size = short c.args.bytes.now c.args.tokens.now c.args.stop c.requires.lexed c.commands.new.self c.statement.new.self
+    c.in_ok-commands.commands c.in_ok-statement.statement all c.in_ok-statement.ensures.ok in
     let Q : List Name → Type 0 = λ ns. IsWellFormed (parts ns c.statement.new.self.terms c.in_ok-commands.commands c.in_ok-statement.statement) in
     let well_formed : Q c.into_names.result = subst Q (sym c.into_names.ensures) text.well_formed in
     let R : List Name → Type 0 = λ ns. length (canonical_text (parts ns c.statement.new.self.terms c.in_ok-commands.commands c.in_ok-statement.statement)) ≤ 268435456 in
@@ -63,7 +71,8 @@ unfolding parts
 returns-clause-spelt c =
     let P : Reader → Type 0 = λ a. ReadsAllCommands a c.commands.new.self c.in_ok-commands.commands in
     let all = subst P (first (goal.at.returns-clause-spelt c).In_ok-reader) c.in_ok-commands.ensures.ok in
-    let text = spelt c.args.bytes.now c.args.tokens.now c.args.stop c.requires.lexed c.commands.new.self c.statement.new.self c.in_ok-commands.commands c.in_ok-statement.statement all c.in_ok-statement.ensures.ok in
+    let text = spelt c.args.bytes.now c.args.tokens.now c.args.stop c.requires.lexed c.commands.new.self c.statement.new.self
+    c.in_ok-commands.commands c.in_ok-statement.statement all c.in_ok-statement.ensures.ok in
     let Q : List Name → Type 0 = λ ns. SpellsSource c.args.bytes.now (parts ns c.statement.new.self.terms c.in_ok-commands.commands c.in_ok-statement.statement) in
     subst Q (sym c.into_names.ensures) text
 
@@ -72,7 +81,8 @@ unfolding parts
 returns-clause-short c =
     let P : Reader → Type 0 = λ a. ReadsAllCommands a c.commands.new.self c.in_ok-commands.commands in
     let all = subst P (first (goal.at.returns-clause-short c).In_ok-reader) c.in_ok-commands.ensures.ok in
-    let size = short c.args.bytes.now c.args.tokens.now c.args.stop c.requires.lexed c.commands.new.self c.statement.new.self c.in_ok-commands.commands c.in_ok-statement.statement all c.in_ok-statement.ensures.ok in
+    let size = short c.args.bytes.now c.args.tokens.now c.args.stop c.requires.lexed c.commands.new.self c.statement.new.self
+    c.in_ok-commands.commands c.in_ok-statement.statement all c.in_ok-statement.ensures.ok in
     let R : List Name → Type 0 = λ ns. length (canonical_text (parts ns c.statement.new.self.terms c.in_ok-commands.commands c.in_ok-statement.statement)) ≤ 4 * length c.args.bytes.now in
     let small : R c.statement.new.self.names = omega (arith, size) in
     subst R (sym c.into_names.ensures) small

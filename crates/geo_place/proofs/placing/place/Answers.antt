@@ -12,7 +12,7 @@ use Rattle.geo_conditions.specs.Lists.{Found, IsProblem, all_found, condition_it
 use Rattle.geo_conditions.specs.Problems.{form_of_problem}
 use Rattle.geo_place.specs.declared.placed.Placed.{Placed}
 use Rattle.geo_place.specs.declared.triples.Triple.{Triple}
-use Rattle.geo_place.specs.Placing.{IsAnswer, point_lines, values_wanted}
+use Rattle.geo_place.specs.Placing.{AnswersValues, point_lines, values_wanted}
 use Rattle.geo_place.proofs.Existence.{placement_least, placement_reckoned, reckoned_placement}
 use Rattle.geo_place.proofs.PlaceAnswers.{all_drawable, answer_placed, answer_stopped, are_told, lines_counted, names_counted, refused_answer}
 use Rattle.geo_place.proofs.ValueLists.{values_are, values_of, values_once}
@@ -62,7 +62,7 @@ returns-in_err-evaluated-clause-answer c = λ v l e.
     let reckoned = placement_reckoned p w values are.1 are.2 in
     let x = c.in_err-evaluated.field-0.0 in
     refused_answer p v c.from_residual-in_err-evaluated.result x c.from_residual-in_err-evaluated.ensures.1
-    (subst (λ u. IsAnswer p u (Err x)) (values_once p zs v l (e ∙ sym same))
+    (subst (λ u. AnswersValues p u (Err x)) (values_once p zs v l (e ∙ sym same))
     (answer_stopped p w (form_of_problem q) i.lowered values placed reckoned (lists_exist.conditions p).0 x c.in_err-evaluated.ensures.stopped))
 
 pub named_points-requires : goal.named_points-requires
@@ -97,7 +97,7 @@ returns-clause-answer c = λ v l e.
     (told.names ∙ ap (λ (ns : List Name). names_of kind.Point ns) c.as_slice-2.ensures)
     (told.lines ∙ c.deref-2.ensures.value ∙ c.in_ok-lines.ensures ∙ ap (λ (cs : List Command). point_lines 1 cs) c.as_slice.ensures)
     (told.triples ∙ c.deref-3.ensures.value) c.in_ok-evaluated.ensures.triples in
-    subst (λ u. IsAnswer p u (Ok answer)) (values_once p zs v l (e ∙ sym same))
+    subst (λ u. AnswersValues p u (Ok answer)) (values_once p zs v l (e ∙ sym same))
     (answer_placed p w (form_of_problem q) i.lowered values placed reckoned answer c.in_ok-evaluated.ensures.placed told_all)
 
 pub returns-clause-drawable : goal.returns-clause-drawable

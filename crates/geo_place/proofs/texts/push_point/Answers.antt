@@ -10,5 +10,7 @@ returns c =
     let two : c.push_number.new.out.items ≡ c.extend_from_slice.new.self.items ++ 32 ∷ signed_decimal a.x = search rules in
     let three : c.push_number-2.new.out.items ≡ c.push_number.new.out.items ++ 32 ∷ signed_decimal a.y = search rules in
     let four : c.push_number-3.new.out.items ≡ c.push_number-2.new.out.items ++ 32 ∷ signed_decimal a.w = search rules in
-    line_joined c.args.out.now.items a.name (signed_decimal a.x) (signed_decimal a.y) (signed_decimal a.w) c.extend_from_slice.new.self.items c.push_number.new.out.items c.push_number-2.new.out.items c.push_number-3.new.out.items c.push.new.self.items
+    line_joined c.args.out.now.items a.name (signed_decimal a.x) (signed_decimal a.y)
+    (signed_decimal a.w) c.extend_from_slice.new.self.items c.push_number.new.out.items c.push_number-2.new.out.items
+    c.push_number-3.new.out.items c.push.new.self.items
     one two three four c.in_ok-push.ensures.items

@@ -13,7 +13,9 @@ quotient-left-requires-clause-some c =
     let back : FitsSigned w128 common = search rules in
     let g = c.gcd-common.ensures.greatest in
     subst (λ z. 1 ≤ unsigned_abs z) (sym (to_z-of_z w128 common back))
-    (divisor_some (unsigned_abs common) (unsigned_abs f.x.den) f.x.nonzero (subst (λ z. IsGcd (unsigned_abs z) (unsigned_abs (to_z w128 (of_z w128 f.y.den))) (unsigned_abs common)) (to_z-of_z w128 f.x.den left) g).0)
+    (divisor_some (unsigned_abs common) (unsigned_abs f.x.den) f.x.nonzero
+    (subst (λ z. IsGcd (unsigned_abs z) (unsigned_abs (to_z w128 (of_z w128 f.y.den))) (unsigned_abs common))
+    (to_z-of_z w128 f.x.den left) g).0)
 
 pub quotient-right-requires-clause-some : goal.quotient-right-requires-clause-some
 quotient-right-requires-clause-some c =
@@ -23,7 +25,9 @@ quotient-right-requires-clause-some c =
     let back : FitsSigned w128 common = search rules in
     let g = c.gcd-common.ensures.greatest in
     subst (λ z. 1 ≤ unsigned_abs z) (sym (to_z-of_z w128 common back))
-    (divisor_some (unsigned_abs common) (unsigned_abs f.x.den) f.x.nonzero (subst (λ z. IsGcd (unsigned_abs z) (unsigned_abs (to_z w128 (of_z w128 f.y.den))) (unsigned_abs common)) (to_z-of_z w128 f.x.den left) g).0)
+    (divisor_some (unsigned_abs common) (unsigned_abs f.x.den) f.x.nonzero
+    (subst (λ z. IsGcd (unsigned_abs z) (unsigned_abs (to_z w128 (of_z w128 f.y.den))) (unsigned_abs common))
+    (to_z-of_z w128 f.x.den left) g).0)
 
 pub returns : goal.returns
 returns c =
@@ -48,7 +52,8 @@ returns c =
     c.quotient-left.ensures ∙ ap (λ (z : ℤ). pos (unsigned_abs z / unsigned_abs (to_z w128 (of_z w128 common)))) Y ∙ ap (λ (z : ℤ). pos (unsigned_abs f.y.den / unsigned_abs z)) D in
     let right : r ≡ pos (unsigned_abs f.x.den / unsigned_abs common) =
     c.quotient-right.ensures ∙ ap (λ (z : ℤ). pos (unsigned_abs z / unsigned_abs (to_z w128 (of_z w128 common)))) X ∙ ap (λ (z : ℤ). pos (unsigned_abs f.x.den / unsigned_abs z)) D in
-    let t = times_moved c.times.result (to_z w128 (of_z w128 f.x.num)) f.x.num (to_z w128 (of_z w128 f.y.num)) f.y.num (to_z w128 (of_z w128 f.x.den)) f.x.den (to_z w128 (of_z w128 l)) l (to_z w128 (of_z w128 r)) r
+    let t = times_moved c.times.result (to_z w128 (of_z w128 f.x.num)) f.x.num (to_z w128 (of_z w128 f.y.num)) f.y.num
+    (to_z w128 (of_z w128 f.x.den)) f.x.den (to_z w128 (of_z w128 l)) l (to_z w128 (of_z w128 r)) r
     (to_z-of_z w128 f.x.num u) (to_z-of_z w128 f.y.num v) X (to_z-of_z w128 l a) (to_z-of_z w128 r b) (c.times.ensures.triple, c.times.ensures.fits, c.times.ensures.past) in
     let k = triple_result f (unsigned_abs common) g c.times.result l r left right t.0 t.1 t.2 in
     record { triple = k.triple; fits = k.fits; past = k.past }

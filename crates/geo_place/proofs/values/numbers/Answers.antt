@@ -5,4 +5,6 @@ use Rattle.geo_lowering.specs.Counting.{has_number}
 use Rattle.geo_place.proofs.values.numbers.Goals as goal
 
 pub returns : goal.returns
-returns c = count_from_yields_List _ _ c.count.ensures.ran (YieldsList-from_filter _ has_number (YieldsList-from_slice c.args.commands.now cc) c.filter.ensures.closure (λ x b q k. search (rules, tests)))
+returns c = count_from_yields_List _ _ c.count.ensures.ran
+    (YieldsList-from_filter _ has_number (YieldsList-from_slice c.args.commands.now cc) c.filter.ensures.closure
+    (λ x b q k. search (rules, tests)))

@@ -9,44 +9,119 @@ use Rattle.geo_poly.proofs.TickBounds.{halves_products}
 use Rattle.geo_poly.proofs.chained.+chain_by_halves.Goals as goal
 
 pub chain_by_halves-requires : goal.chain_by_halves-requires
-chain_by_halves-requires g t c = λ κs below. (search rules, (below, (c.requires.rising, (front_in c.args.vars.now c.args.store.now c.args.left.now c.args.right.now (length c.args.left.now / 2) c.split_at.result.0.now c.split_at.result.1.now c.split_at.ensures.front c.split_at.ensures.back c.requires.left c.requires.right c.requires.fits, (c.requires.right, front_fits c.args.vars.now c.args.store.now c.args.left.now c.args.right.now (length c.args.left.now / 2) c.split_at.result.0.now c.split_at.result.1.now c.split_at.ensures.front c.split_at.ensures.back c.requires.left c.requires.right c.requires.fits)))))
+chain_by_halves-requires g t c =
+    λ κs below. (
+      search rules,
+      (
+        below,
+        (
+          c.requires.rising,
+          (
+            front_in c.args.vars.now c.args.store.now c.args.left.now c.args.right.now
+                (length c.args.left.now / 2) c.split_at.result.0.now c.split_at.result.1.now c.split_at.ensures.front c.split_at.ensures.back
+                c.requires.left c.requires.right c.requires.fits,
+            (
+              c.requires.right,
+              front_fits c.args.vars.now c.args.store.now c.args.left.now c.args.right.now
+                  (length c.args.left.now / 2) c.split_at.result.0.now c.split_at.result.1.now c.split_at.ensures.front c.split_at.ensures.back
+                  c.requires.left c.requires.right c.requires.fits,
+            ),
+          ),
+        ),
+      ),
+    )
 
 pub chain_by_halves-requires-in_default : goal.chain_by_halves-requires-in_default
-chain_by_halves-requires-in_default g t c = λ κs below. (search rules, (below, (c.requires.rising, (back_later c.args.vars.now c.args.store.now c.args.left.now c.args.right.now (length c.args.left.now / 2) c.split_at.result.0.now c.split_at.result.1.now c.split_at.ensures.front c.split_at.ensures.back c.requires.left c.requires.right c.requires.fits c.chain_by_halves.new.store c.in_ok-sum-in_default.ensures.kept, (right_later c.args.vars.now c.args.store.now c.args.left.now c.args.right.now (length c.args.left.now / 2) c.split_at.result.0.now c.split_at.result.1.now c.split_at.ensures.front c.split_at.ensures.back c.requires.left c.requires.right c.requires.fits c.chain_by_halves.new.store c.in_ok-sum-in_default.ensures.kept, back_fits c.args.vars.now c.args.store.now c.args.left.now c.args.right.now (length c.args.left.now / 2) c.split_at.result.0.now c.split_at.result.1.now c.split_at.ensures.front c.split_at.ensures.back c.requires.left c.requires.right c.requires.fits c.chain_by_halves.new.store c.in_ok-sum-in_default.ensures.kept)))))
+chain_by_halves-requires-in_default g t c =
+    λ κs below. (
+      search rules,
+      (
+        below,
+        (
+          c.requires.rising,
+          (
+            back_later c.args.vars.now c.args.store.now c.args.left.now c.args.right.now
+                (length c.args.left.now / 2) c.split_at.result.0.now c.split_at.result.1.now c.split_at.ensures.front c.split_at.ensures.back
+                c.requires.left c.requires.right c.requires.fits c.chain_by_halves.new.store c.in_ok-sum-in_default.ensures.kept,
+            (
+              right_later c.args.vars.now c.args.store.now c.args.left.now c.args.right.now
+                  (length c.args.left.now / 2) c.split_at.result.0.now c.split_at.result.1.now c.split_at.ensures.front c.split_at.ensures.back
+                  c.requires.left c.requires.right c.requires.fits c.chain_by_halves.new.store c.in_ok-sum-in_default.ensures.kept,
+              back_fits c.args.vars.now c.args.store.now c.args.left.now c.args.right.now
+                  (length c.args.left.now / 2) c.split_at.result.0.now c.split_at.result.1.now c.split_at.ensures.front c.split_at.ensures.back
+                  c.requires.left c.requires.right c.requires.fits c.chain_by_halves.new.store c.in_ok-sum-in_default.ensures.kept,
+            ),
+          ),
+        ),
+      ),
+    )
 
 pub summed-requires-clause-left_keys : goal.summed-requires-clause-left_keys
-summed-requires-clause-left_keys g t c = (stands_first c.args.vars.now c.args.store.now c.args.left.now c.args.right.now (length c.args.left.now / 2) c.split_at.result.0.now c.split_at.result.1.now c.split_at.ensures.front c.split_at.ensures.back c.requires.left c.requires.right c.requires.fits c.chain_by_halves.new.store c.in_ok-sum-in_default.ensures.kept c.chain_by_halves-in_default.new.store c.in-Ok.ensures.kept c.chain_by_halves.new.arena c.chain_by_halves-in_default.new.arena c.in_ok-sum-in_default.sum c.in-Ok.rest c.in_ok-sum-in_default.ensures.chain c.in-Ok.ensures.adds c.in-Ok.ensures.chain).keys
+summed-requires-clause-left_keys g t c =
+    (stands_first c.args.vars.now c.args.store.now c.args.left.now c.args.right.now
+    (length c.args.left.now / 2) c.split_at.result.0.now c.split_at.result.1.now c.split_at.ensures.front c.split_at.ensures.back
+    c.requires.left c.requires.right c.requires.fits c.chain_by_halves.new.store c.in_ok-sum-in_default.ensures.kept
+    c.chain_by_halves-in_default.new.store c.in-Ok.ensures.kept c.chain_by_halves.new.arena c.chain_by_halves-in_default.new.arena
+    c.in_ok-sum-in_default.sum c.in-Ok.rest c.in_ok-sum-in_default.ensures.chain c.in-Ok.ensures.adds c.in-Ok.ensures.chain).keys
 
 pub summed-requires-clause-left_order : goal.summed-requires-clause-left_order
-summed-requires-clause-left_order g t c = first_order c.args.vars.now c.args.store.now c.args.left.now c.args.right.now (length c.args.left.now / 2) c.split_at.result.0.now c.split_at.result.1.now c.split_at.ensures.front c.split_at.ensures.back c.requires.left c.requires.right c.requires.fits c.chain_by_halves.new.store c.in_ok-sum-in_default.ensures.kept c.chain_by_halves-in_default.new.store c.in-Ok.ensures.kept c.chain_by_halves.new.arena c.chain_by_halves-in_default.new.arena c.in_ok-sum-in_default.sum c.in-Ok.rest c.in_ok-sum-in_default.ensures.chain c.in-Ok.ensures.adds c.in-Ok.ensures.chain
+summed-requires-clause-left_order g t c =
+    first_order c.args.vars.now c.args.store.now c.args.left.now c.args.right.now
+    (length c.args.left.now / 2) c.split_at.result.0.now c.split_at.result.1.now c.split_at.ensures.front c.split_at.ensures.back
+    c.requires.left c.requires.right c.requires.fits c.chain_by_halves.new.store c.in_ok-sum-in_default.ensures.kept
+    c.chain_by_halves-in_default.new.store c.in-Ok.ensures.kept c.chain_by_halves.new.arena c.chain_by_halves-in_default.new.arena
+    c.in_ok-sum-in_default.sum c.in-Ok.rest c.in_ok-sum-in_default.ensures.chain c.in-Ok.ensures.adds c.in-Ok.ensures.chain
 
 pub summed-requires-clause-right_order : goal.summed-requires-clause-right_order
-summed-requires-clause-right_order g t c = second_order c.args.vars.now c.args.store.now c.args.left.now c.args.right.now (length c.args.left.now / 2) c.split_at.result.0.now c.split_at.result.1.now c.split_at.ensures.front c.split_at.ensures.back c.requires.left c.requires.right c.requires.fits c.chain_by_halves.new.store c.in_ok-sum-in_default.ensures.kept c.chain_by_halves-in_default.new.store c.in-Ok.ensures.kept c.chain_by_halves.new.arena c.chain_by_halves-in_default.new.arena c.in_ok-sum-in_default.sum c.in-Ok.rest c.in_ok-sum-in_default.ensures.chain c.in-Ok.ensures.adds c.in-Ok.ensures.chain
+summed-requires-clause-right_order g t c =
+    second_order c.args.vars.now c.args.store.now c.args.left.now c.args.right.now
+    (length c.args.left.now / 2) c.split_at.result.0.now c.split_at.result.1.now c.split_at.ensures.front c.split_at.ensures.back
+    c.requires.left c.requires.right c.requires.fits c.chain_by_halves.new.store c.in_ok-sum-in_default.ensures.kept
+    c.chain_by_halves-in_default.new.store c.in-Ok.ensures.kept c.chain_by_halves.new.arena c.chain_by_halves-in_default.new.arena
+    c.in_ok-sum-in_default.sum c.in-Ok.rest c.in_ok-sum-in_default.ensures.chain c.in-Ok.ensures.adds c.in-Ok.ensures.chain
 
 pub summed-requires-clause-fits : goal.summed-requires-clause-fits
-summed-requires-clause-fits g t c = norms_fit c.args.vars.now c.args.store.now c.args.left.now c.args.right.now (length c.args.left.now / 2) c.split_at.result.0.now c.split_at.result.1.now c.split_at.ensures.front c.split_at.ensures.back c.requires.left c.requires.right c.requires.fits c.chain_by_halves.new.store c.in_ok-sum-in_default.ensures.kept c.chain_by_halves-in_default.new.store c.in-Ok.ensures.kept c.chain_by_halves.new.arena c.chain_by_halves-in_default.new.arena c.in_ok-sum-in_default.sum c.in-Ok.rest c.in_ok-sum-in_default.ensures.chain c.in-Ok.ensures.adds c.in-Ok.ensures.chain
+summed-requires-clause-fits g t c =
+    norms_fit c.args.vars.now c.args.store.now c.args.left.now c.args.right.now
+    (length c.args.left.now / 2) c.split_at.result.0.now c.split_at.result.1.now c.split_at.ensures.front c.split_at.ensures.back
+    c.requires.left c.requires.right c.requires.fits c.chain_by_halves.new.store c.in_ok-sum-in_default.ensures.kept
+    c.chain_by_halves-in_default.new.store c.in-Ok.ensures.kept c.chain_by_halves.new.arena c.chain_by_halves-in_default.new.arena
+    c.in_ok-sum-in_default.sum c.in-Ok.rest c.in_ok-sum-in_default.ensures.chain c.in-Ok.ensures.adds c.in-Ok.ensures.chain
 
 pub returns-in-len1-clause-chain : goal.returns-in-len1-clause-chain
 returns-in-len1-clause-chain g t c =
     let vars = c.args.vars.now in
     let s = c.args.store.now in
     IfOk-weaker c.multiples_chain.result _ _
-    (λ v h. subst (λ (x : Summands). StandsFor vars c.multiples_chain.new.store c.multiples_chain.new.arena v x) (multiples_of_lone vars s c.args.left.now (omega arith) c.in-len1.len_below (terms_of vars s c.args.right.now) c.requires.fits) h)
+    (λ v h. subst (λ (x : Summands). StandsFor vars c.multiples_chain.new.store c.multiples_chain.new.arena v x)
+    (multiples_of_lone vars s c.args.left.now (omega arith) c.in-len1.len_below (terms_of vars s c.args.right.now) c.requires.fits) h)
     c.multiples_chain.ensures.chain
 
 pub returns-in-Ok-clause-chain : goal.returns-in-Ok-clause-chain
 returns-in-Ok-clause-chain g t c =
     let vars = c.args.vars.now in
     let s2 = c.chain_by_halves-in_default.new.store in
-    subst (λ (n : ℕ). StandsFor vars s2 c.summed.new.arena n (product_of (terms_of vars c.args.store.now c.args.left.now) (terms_of vars c.args.store.now c.args.right.now))) (sym c.summed.ensures.chain)
-    (subst (λ (p : Summands). StandsFor vars s2 c.summed.new.arena c.in_ok-sum-in_default.sum p) (whole c.args.vars.now c.args.store.now c.args.left.now c.args.right.now (length c.args.left.now / 2) c.split_at.result.0.now c.split_at.result.1.now c.split_at.ensures.front c.split_at.ensures.back c.requires.left c.requires.right c.requires.fits c.chain_by_halves.new.store c.in_ok-sum-in_default.ensures.kept c.chain_by_halves-in_default.new.store c.in-Ok.ensures.kept c.chain_by_halves.new.arena c.chain_by_halves-in_default.new.arena c.in_ok-sum-in_default.sum c.in-Ok.rest c.in_ok-sum-in_default.ensures.chain c.in-Ok.ensures.adds c.in-Ok.ensures.chain) c.summed.ensures.sum)
+    subst (λ (n : ℕ). StandsFor vars s2 c.summed.new.arena n
+    (product_of (terms_of vars c.args.store.now c.args.left.now) (terms_of vars c.args.store.now c.args.right.now)))
+    (sym c.summed.ensures.chain)
+    (subst (λ (p : Summands). StandsFor vars s2 c.summed.new.arena c.in_ok-sum-in_default.sum p)
+    (whole c.args.vars.now c.args.store.now c.args.left.now c.args.right.now
+    (length c.args.left.now / 2) c.split_at.result.0.now c.split_at.result.1.now c.split_at.ensures.front c.split_at.ensures.back
+    c.requires.left c.requires.right c.requires.fits c.chain_by_halves.new.store c.in_ok-sum-in_default.ensures.kept
+    c.chain_by_halves-in_default.new.store c.in-Ok.ensures.kept c.chain_by_halves.new.arena c.chain_by_halves-in_default.new.arena
+    c.in_ok-sum-in_default.sum c.in-Ok.rest c.in_ok-sum-in_default.ensures.chain c.in-Ok.ensures.adds c.in-Ok.ensures.chain)
+    c.summed.ensures.sum)
 
 pub returns-in-Ok-clause-ticks : goal.returns-in-Ok-clause-ticks
 returns-in-Ok-clause-ticks g t c =
-    let whole = halves_products (length c.args.left.now / 2) (length c.args.right.now) c.args.left.now c.split_at.result.0.now c.split_at.result.1.now c.split_at.ensures.front c.split_at.ensures.back in
+    let whole = halves_products (length c.args.left.now / 2)
+    (length c.args.right.now) c.args.left.now c.split_at.result.0.now c.split_at.result.1.now c.split_at.ensures.front
+    c.split_at.ensures.back in
     omega (arith, whole, c.in_ok-sum-in_default.ensures.ticks, c.in-Ok.ensures.ticks)
 
 pub returns-in-Err-clause-ticks : goal.returns-in-Err-clause-ticks
 returns-in-Err-clause-ticks g t c =
-    let whole = halves_products (length c.args.left.now / 2) (length c.args.right.now) c.args.left.now c.split_at.result.0.now c.split_at.result.1.now c.split_at.ensures.front c.split_at.ensures.back in
+    let whole = halves_products (length c.args.left.now / 2)
+    (length c.args.right.now) c.args.left.now c.split_at.result.0.now c.split_at.result.1.now c.split_at.ensures.front
+    c.split_at.ensures.back in
     omega (arith, whole, c.in_ok-sum-in_default.ensures.ticks, c.in-Err.ensures.ticks)

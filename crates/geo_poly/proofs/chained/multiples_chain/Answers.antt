@@ -14,12 +14,15 @@ use Rattle.geo_poly.proofs.chained.multiples_chain.Goals as goal
 pub product-requires-clause-right : goal.product-requires-clause-right
 product-requires-clause-right g c =
     let below : c.loop-i.i - 1 < length c.args.list.now = omega (arith, c.loop-i.invariant.left, c.loop-i-test.true) in
-    (u_now c.args.vars.now c.args.store.now c.args.t c.args.list.now (c.loop-i.i - 1) below c.requires.term c.requires.indices c.requires.fits c.requires.rising c.loop-i.store c.loop-i.invariant.kept).within
+    (u_now c.args.vars.now c.args.store.now c.args.t c.args.list.now
+    (c.loop-i.i - 1) below c.requires.term c.requires.indices c.requires.fits c.requires.rising c.loop-i.store
+    c.loop-i.invariant.kept).within
 
 pub product-requires-clause-degree : goal.product-requires-clause-degree
 product-requires-clause-degree g c =
     let below : c.loop-i.i - 1 < length c.args.list.now = omega (arith, c.loop-i.invariant.left, c.loop-i-test.true) in
-    degrees_fit c.args.vars.now c.args.store.now c.args.t c.args.list.now (c.loop-i.i - 1) below c.requires.term c.requires.indices c.requires.fits c.requires.rising c.loop-i.store c.loop-i.invariant.kept
+    degrees_fit c.args.vars.now c.args.store.now c.args.t c.args.list.now
+    (c.loop-i.i - 1) below c.requires.term c.requires.indices c.requires.fits c.requires.rising c.loop-i.store c.loop-i.invariant.kept
 
 pub overflow_mul-t : goal.overflow_mul-t
 overflow_mul-t g c =
@@ -57,6 +60,10 @@ loop-i-preserved g c =
       chain =
           subst (λ (n : ℕ). StandsFor vars new c.push_front.new.self n (multiples (term_of vars s0 c.args.t) (drop i (terms_of vars s0 list)))) (sym c.push_front.ensures.chain)
           (StandsFor-list vars new c.push_front.new.self chain _ _ c.push_front.ensures.updates.changed
-          (next_keys vars s0 c.args.t list i below c.requires.term c.requires.indices c.requires.fits c.requires.rising s kept new kept2 c.in-Ok.product c.in-Ok.ensures.index c.in-Ok.ensures.product _ coef ps c.loop-i.i rest c.loop-i.invariant.chain.keys c.loop-i.invariant.chain.terms)
-          (next_terms vars s0 c.args.t list i below c.requires.term c.requires.indices c.requires.fits c.requires.rising s kept new kept2 c.in-Ok.product c.in-Ok.ensures.index c.in-Ok.ensures.product _ coef ps c.loop-i.i rest c.loop-i.invariant.chain.keys c.loop-i.invariant.chain.terms));
+          (next_keys vars s0 c.args.t list i below c.requires.term c.requires.indices c.requires.fits c.requires.rising s kept new kept2
+          c.in-Ok.product c.in-Ok.ensures.index c.in-Ok.ensures.product _ coef ps c.loop-i.i rest c.loop-i.invariant.chain.keys
+          c.loop-i.invariant.chain.terms)
+          (next_terms vars s0 c.args.t list i below c.requires.term c.requires.indices c.requires.fits c.requires.rising s kept new kept2
+          c.in-Ok.product c.in-Ok.ensures.index c.in-Ok.ensures.product _ coef ps c.loop-i.i rest c.loop-i.invariant.chain.keys
+          c.loop-i.invariant.chain.terms));
     }

@@ -51,7 +51,9 @@ place_near-requires-clause-known c =
 
 before : (c : goal.After-place_near) → IsPowerBefore c.place_near.result (slice_index_or c.args.powers.now (c.loop-i.i - 1) none).1 (monomial_of c.loop-i.store c.loop-i.id)
 before c =
-    fits c.args.vars.now c.args.rows.now c.args.powers.now (monomial_of c.loop-i.store c.loop-i.id) c.loop-i.i c.place_near.result c.requires.rising c.loop-i-test.true c.loop-i.invariant.left c.requires.monomial
+    fits c.args.vars.now c.args.rows.now c.args.powers.now
+    (monomial_of c.loop-i.store c.loop-i.id) c.loop-i.i c.place_near.result c.requires.rising c.loop-i-test.true c.loop-i.invariant.left
+    c.requires.monomial
     (sym c.in-None.ensures) c.loop-i.invariant.powers c.loop-i.invariant.index.places c.place_near.ensures.within c.place_near.ensures.variable
 
 pub mono-requires-clause-exponent : goal.mono-requires-clause-exponent

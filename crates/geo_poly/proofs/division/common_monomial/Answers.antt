@@ -11,7 +11,8 @@ use Rattle.geo_poly.specs.Factors.{IsLeastExponent}
 use Rattle.geo_poly.specs.declared.shared.Shared.{Shared}
 use Rattle.geo_poly.specs.Shared.{told, told_powers, told_term}
 use Rattle.geo_poly.proofs.Told.{index_at, item, monomial_at, told-is, told-within}
-use Rattle.geo_poly.proofs.Cuts.{reduced, IsAbove, IsMonomial-reduced, next_reduced, next_put, next_left_out, common_exponent, common_exponent-other, IsMonomial-first, IsAbove-first, found_exponent, known_in_reduced, other_in_reduced}
+use Rattle.geo_poly.proofs.Cuts.{reduced, IsAbove, IsMonomial-reduced, next_reduced, next_put, next_left_out, common_exponent}
+use Rattle.geo_poly.proofs.Cuts.{common_exponent-other, IsMonomial-first, IsAbove-first, found_exponent, known_in_reduced, other_in_reduced}
 use Rattle.geo_poly.proofs.division.common_monomial.Goals as goal
 use Rattle.geo_poly.proofs.division.common_monomial.Goals.{then-is_known+then-least-gt0+in_ok-push, then-is_known+else-least-gt0, else-is_known}
 
@@ -35,7 +36,8 @@ nonzero n h = grind (arith, nat_tests)
 IsMonomial-items : (m : Powers) (terms : Summands) (t : Powers × ℤ) → m ≡ (get_or terms 0 t).0 → 0 < length terms → t ≡ get_or terms 0 t → AllKeys IsMonomial terms → IsMonomial m
 IsMonomial-items m terms t is some at all = subst IsMonomial (ap (λ (x : Powers × ℤ). x.0) at ∙ sym is) (IsMonomial-first terms t some at all)
 
-IsAbove-items : (known : List Var) (m : Powers) (terms : Summands) (t : Powers × ℤ) → m ≡ (get_or terms 0 t).0 → 0 < length terms → t ≡ get_or terms 0 t → AllKeys IsMonomial terms → IsAbove (common_exponent known terms) m
+IsAbove-items : (known : List Var) (m : Powers) (terms : Summands) (t : Powers × ℤ) → m ≡ (get_or terms 0 t).0 → 0 < length terms
+    → t ≡ get_or terms 0 t → AllKeys IsMonomial terms → IsAbove (common_exponent known terms) m
 IsAbove-items known m terms t is some at all =
     subst (IsAbove (common_exponent known terms)) (ap (λ (x : Powers × ℤ). x.0) at ∙ sym is) (IsAbove-first known terms t some at (IsMonomial-first terms t some at all))
 
@@ -58,9 +60,14 @@ push-requires c =
     let m = c.powers-v-items.result.now in
     let i = c.loop-v.v-index in
     let p = get_or m i none in
-    let h = IsMonomial-items m (told c.args.p.now) (first c.args.p.now) (first_items c.args.p.now _ _ c.requires.some c.powers-v-items.ensures c.in_ok-first.ensures) (told-within c.args.p.now 0 c.requires.some) (told-is c.args.p.now 0 c.requires.some) c.requires.parts.polynomial.monomials in
-    let above = IsAbove-items c.args.known.now m (told c.args.p.now) (first c.args.p.now) (first_items c.args.p.now _ _ c.requires.some c.powers-v-items.ensures c.in_ok-first.ensures) (told-within c.args.p.now 0 c.requires.some) (told-is c.args.p.now 0 c.requires.some) c.requires.parts.polynomial.monomials in
-    let e = found_exponent c.args.known.now (told c.args.p.now) p.0 c.least_exponent-least.result (told-within c.args.p.now 0 c.requires.some) (c.if-is_known.ensures.0 refl) c.least_exponent-least.ensures in
+    let h = IsMonomial-items m (told c.args.p.now) (first c.args.p.now)
+    (first_items c.args.p.now _ _ c.requires.some c.powers-v-items.ensures c.in_ok-first.ensures)
+    (told-within c.args.p.now 0 c.requires.some) (told-is c.args.p.now 0 c.requires.some) c.requires.parts.polynomial.monomials in
+    let above = IsAbove-items c.args.known.now m (told c.args.p.now) (first c.args.p.now)
+    (first_items c.args.p.now _ _ c.requires.some c.powers-v-items.ensures c.in_ok-first.ensures)
+    (told-within c.args.p.now 0 c.requires.some) (told-is c.args.p.now 0 c.requires.some) c.requires.parts.polynomial.monomials in
+    let e = found_exponent c.args.known.now (told c.args.p.now) p.0 c.least_exponent-least.result
+    (told-within c.args.p.now 0 c.requires.some) (c.if-is_known.ensures.0 refl) c.least_exponent-least.ensures in
     let some : eqb (f p.0) 0 ≡ false = nonzero (f p.0) (subst (λ n. 0 < n) e c.if-least-gt0.true) in
     subst (λ (n : ℕ). IsMonomial (c.loop-v.common ++ (p.0, n) ∷ [])) (sym e)
     (next_reduced f m c.loop-v.common p (drop (i + 1) m) h above some (at_hand f m c.loop-v.common i c.loop-v-test.true c.loop-v.invariant))
@@ -74,13 +81,15 @@ loop-v-preserved c =
     let at = at_hand f m c.loop-v.common i c.loop-v-test.true c.loop-v.invariant in
     elim c.if-is_known.branch [
       | then-is_known+then-least-gt0+in_ok-push w ↦
-          let e = found_exponent c.args.known.now (told c.args.p.now) p.0 w.least_exponent-least.result (told-within c.args.p.now 0 c.requires.some) (w.if-is_known.ensures.0 refl) w.least_exponent-least.ensures in
+          let e = found_exponent c.args.known.now (told c.args.p.now) p.0 w.least_exponent-least.result
+          (told-within c.args.p.now 0 c.requires.some) (w.if-is_known.ensures.0 refl) w.least_exponent-least.ensures in
           let some : eqb (f p.0) 0 ≡ false = nonzero (f p.0) (subst (λ n. 0 < n) e w.if-least-gt0.true) in
           subst (λ (x : Powers). x ++ reduced f (drop (i + 1) m) ≡ reduced f m)
           (sym (w.common-is ∙ w.in_ok-push.ensures.ok ∙ ap (λ (n : ℕ). c.loop-v.common ++ (p.0, n) ∷ []) e))
           (next_put f m c.loop-v.common p (drop (i + 1) m) some at)
       | then-is_known+else-least-gt0 w ↦
-          let e = found_exponent c.args.known.now (told c.args.p.now) p.0 w.least_exponent-least.result (told-within c.args.p.now 0 c.requires.some) (w.if-is_known.ensures.0 refl) w.least_exponent-least.ensures in
+          let e = found_exponent c.args.known.now (told c.args.p.now) p.0 w.least_exponent-least.result
+          (told-within c.args.p.now 0 c.requires.some) (w.if-is_known.ensures.0 refl) w.least_exponent-least.ensures in
           let none-left : f p.0 ≡ 0 = omega (arith, e, w.if-least-gt0.false) in
           subst (λ (x : Powers). x ++ reduced f (drop (i + 1) m) ≡ reduced f m) (sym (w.common-is)) (next_left_out f m c.loop-v.common p (drop (i + 1) m) none-left at)
       | else-is_known w ↦
@@ -93,22 +102,35 @@ pub returns-clause-monomial : goal.returns-clause-monomial
 returns-clause-monomial c =
     let f = common_exponent c.args.known.now (told c.args.p.now) in
     let t = (first c.args.p.now) in
-    let h : IsMonomial (first c.args.p.now).0 = IsMonomial-first (told c.args.p.now) t (told-within c.args.p.now 0 c.requires.some) (told-is c.args.p.now 0 c.requires.some) c.requires.parts.polynomial.monomials in
-    let done : c.loop-v.common ≡ reduced f (first c.args.p.now).0 = whole f _ c.loop-v.common c.loop-v.v-index c.loop-v-test.false c.loop-v.invariant ∙ ap (reduced f) (c.powers-v-items.ensures ∙ c.in_ok-first.ensures) in
-    subst IsMonomial (sym done) (IsMonomial-reduced f t.0 h (IsAbove-first c.args.known.now (told c.args.p.now) t (told-within c.args.p.now 0 c.requires.some) (told-is c.args.p.now 0 c.requires.some) h))
+    let h : IsMonomial (first c.args.p.now).0 = IsMonomial-first (told c.args.p.now) t (told-within c.args.p.now 0 c.requires.some)
+    (told-is c.args.p.now 0 c.requires.some) c.requires.parts.polynomial.monomials in
+    let done : c.loop-v.common ≡ reduced f
+    (first c.args.p.now).0 = whole f _ c.loop-v.common c.loop-v.v-index c.loop-v-test.false c.loop-v.invariant
+    ∙ ap (reduced f) (c.powers-v-items.ensures ∙ c.in_ok-first.ensures) in
+    subst IsMonomial (sym done) (IsMonomial-reduced f t.0 h
+    (IsAbove-first c.args.known.now (told c.args.p.now) t (told-within c.args.p.now 0 c.requires.some)
+    (told-is c.args.p.now 0 c.requires.some) h))
 
 pub returns-clause-known : goal.returns-clause-known
 returns-clause-known c = λ v known.
     let f = common_exponent c.args.known.now (told c.args.p.now) in
     let t = (first c.args.p.now) in
-    let h : IsMonomial (first c.args.p.now).0 = IsMonomial-first (told c.args.p.now) t (told-within c.args.p.now 0 c.requires.some) (told-is c.args.p.now 0 c.requires.some) c.requires.parts.polynomial.monomials in
-    let done : c.loop-v.common ≡ reduced f (first c.args.p.now).0 = whole f _ c.loop-v.common c.loop-v.v-index c.loop-v-test.false c.loop-v.invariant ∙ ap (reduced f) (c.powers-v-items.ensures ∙ c.in_ok-first.ensures) in
-    subst (λ (m : Powers). IsLeastExponent v (told c.args.p.now) (exponent v m)) (sym done) (known_in_reduced c.args.known.now (told c.args.p.now) t v (told-within c.args.p.now 0 c.requires.some) (told-is c.args.p.now 0 c.requires.some) h known)
+    let h : IsMonomial (first c.args.p.now).0 = IsMonomial-first (told c.args.p.now) t (told-within c.args.p.now 0 c.requires.some)
+    (told-is c.args.p.now 0 c.requires.some) c.requires.parts.polynomial.monomials in
+    let done : c.loop-v.common ≡ reduced f
+    (first c.args.p.now).0 = whole f _ c.loop-v.common c.loop-v.v-index c.loop-v-test.false c.loop-v.invariant
+    ∙ ap (reduced f) (c.powers-v-items.ensures ∙ c.in_ok-first.ensures) in
+    subst (λ (m : Powers). IsLeastExponent v (told c.args.p.now) (exponent v m)) (sym done)
+    (known_in_reduced c.args.known.now (told c.args.p.now) t v (told-within c.args.p.now 0 c.requires.some)
+    (told-is c.args.p.now 0 c.requires.some) h known)
 
 pub returns-clause-others : goal.returns-clause-others
 returns-clause-others c = λ v other.
     let f = common_exponent c.args.known.now (told c.args.p.now) in
     let t = (first c.args.p.now) in
-    let h : IsMonomial (first c.args.p.now).0 = IsMonomial-first (told c.args.p.now) t (told-within c.args.p.now 0 c.requires.some) (told-is c.args.p.now 0 c.requires.some) c.requires.parts.polynomial.monomials in
-    let done : c.loop-v.common ≡ reduced f (first c.args.p.now).0 = whole f _ c.loop-v.common c.loop-v.v-index c.loop-v-test.false c.loop-v.invariant ∙ ap (reduced f) (c.powers-v-items.ensures ∙ c.in_ok-first.ensures) in
+    let h : IsMonomial (first c.args.p.now).0 = IsMonomial-first (told c.args.p.now) t (told-within c.args.p.now 0 c.requires.some)
+    (told-is c.args.p.now 0 c.requires.some) c.requires.parts.polynomial.monomials in
+    let done : c.loop-v.common ≡ reduced f
+    (first c.args.p.now).0 = whole f _ c.loop-v.common c.loop-v.v-index c.loop-v-test.false c.loop-v.invariant
+    ∙ ap (reduced f) (c.powers-v-items.ensures ∙ c.in_ok-first.ensures) in
     ap (exponent v) done ∙ other_in_reduced c.args.known.now (told c.args.p.now) t v (told-within c.args.p.now 0 c.requires.some) (told-is c.args.p.now 0 c.requires.some) h other

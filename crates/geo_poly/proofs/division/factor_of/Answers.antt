@@ -35,7 +35,9 @@ signed c =
     let z = to_z w128 c.if-p-lt0.coefficient-bits in
     let fits : FitsSigned w128 c.content-divisor.result = search rules in
     let lead : FitsSigned w128 (item c.args.p.now.list.now 0).1 = search rules in
-    subst (λ (x : ℤ). IsSigned x D z) (sym (leading_coefficient-is (told c.args.p.now) t (some c) ∙ ap (λ (x : Powers × ℤ). x.1) (sym (told-is c.args.p.now 0 (some_entries c.args.p.now c.requires.some)))))
+    subst (λ (x : ℤ). IsSigned x D z)
+    (sym (leading_coefficient-is (told c.args.p.now) t (some c)
+    ∙ ap (λ (x : Powers × ℤ). x.1) (sym (told-is c.args.p.now 0 (some_entries c.args.p.now c.requires.some)))))
     (record {
       choice = elim c.if-p-lt0.branch [
         | then-p-lt0 w ↦ inl (is_negative t.1 lead w.if-p-lt0.true, negated_number D z fits (small c) w.coefficient-is)
@@ -48,8 +50,12 @@ whole c = c.requires.parts.polynomial
 
 pub invariant_of-result : goal.invariant_of-result
 invariant_of-result c =
-    IsFactor-signed (told c.args.p.now) c.in_ok-monomial.monomial c.content-divisor.result (to_z w128 c.if-p-lt0.coefficient-bits) (whole c) (some c) c.content-divisor.ensures.divides (small c) (signed c) c.in_ok-monomial.ensures.monomial
+    IsFactor-signed (told c.args.p.now) c.in_ok-monomial.monomial c.content-divisor.result (to_z w128 c.if-p-lt0.coefficient-bits) (whole c)
+    (some c) c.content-divisor.ensures.divides (small c) (signed c) c.in_ok-monomial.ensures.monomial
 
 pub returns : goal.returns
 returns c =
-    (IsFactorOf-signed c.args.known.now (told c.args.p.now) c.in_ok-monomial.monomial c.content-divisor.result (to_z w128 c.if-p-lt0.coefficient-bits) (whole c) (some c) c.content-divisor.ensures.positive c.content-divisor.ensures.divides c.content-divisor.ensures.greatest (signed c) c.in_ok-monomial.ensures.monomial c.in_ok-monomial.ensures.known c.in_ok-monomial.ensures.others)
+    (IsFactorOf-signed c.args.known.now (told c.args.p.now) c.in_ok-monomial.monomial c.content-divisor.result
+    (to_z w128 c.if-p-lt0.coefficient-bits) (whole c)
+    (some c) c.content-divisor.ensures.positive c.content-divisor.ensures.divides c.content-divisor.ensures.greatest
+    (signed c) c.in_ok-monomial.ensures.monomial c.in_ok-monomial.ensures.known c.in_ok-monomial.ensures.others)

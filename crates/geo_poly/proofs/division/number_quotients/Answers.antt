@@ -23,7 +23,9 @@ exact_quotient-requires-clause-fits c =
     let p = c.args.p.now in
     let i = c.loop-id.id-index in
     let fits = c.requires.parts.polynomial.norm_fits in
-    subst (λ (z : ℤ). unsigned_abs z < 2 ^ 127) (sym (to_z-of_z w128 (item p.list.now i).1 (item_fits p i c.loop-id-test.true c.requires.parts.polynomial.norm_fits))) (item_small p i c.loop-id-test.true c.requires.parts.polynomial.norm_fits)
+    subst (λ (z : ℤ). unsigned_abs z < 2 ^ 127)
+    (sym (to_z-of_z w128 (item p.list.now i).1 (item_fits p i c.loop-id-test.true c.requires.parts.polynomial.norm_fits)))
+    (item_small p i c.loop-id-test.true c.requires.parts.polynomial.norm_fits)
 
 pub returns-in-None-clause-none : goal.returns-in-None-clause-none
 returns-in-None-clause-none c = λ q e.
@@ -45,7 +47,9 @@ loop-id-preserved c =
     let quotient = c.in-Some.quotient in
     let fits : FitsSigned w128 c.in-Some.quotient = search rules in
     let right = item_fits c.args.p.now c.loop-id.id-index c.loop-id-test.true c.requires.parts.polynomial.norm_fits in
-    let number : to_z w128 (of_z w128 c.args.number) *ℤ c.in-Some.quotient ≡ (item c.args.p.now.list.now c.loop-id.id-index).1 = c.in-Some.ensures.some ∙ to_z-of_z w128 (item c.args.p.now.list.now c.loop-id.id-index).1 right in
+    let number : to_z w128 (of_z w128 c.args.number)
+    *ℤ c.in-Some.quotient ≡ (item c.args.p.now.list.now c.loop-id.id-index).1 =
+    c.in-Some.ensures.some ∙ to_z-of_z w128 (item c.args.p.now.list.now c.loop-id.id-index).1 right in
     let one = monomial_at c.args.p.now c.loop-id.id-index c.loop-id-test.true c.requires.parts in
     let behind = map-append (term_of p.vars.now p.monos.now) list ((id, quotient) ∷ []) in
     record {
@@ -55,5 +59,7 @@ loop-id-preserved c =
           c.loop-id.invariant.so_far (told-within p i within) (told-is p i within) (product_none (told_powers p id) one) number);
       indices = rw c.in_ok-push-in-Some.ensures.items (AllKeys-append (IsIndexOf p) list _ c.loop-id.invariant.indices (index_at p i within c.requires.parts, tt));
       monomials = rw (c.in_ok-push-in-Some.ensures.items, to_z-of_z w128 c.in-Some.quotient fits)
-          (subst (λ (q : Summands). AllKeys IsMonomial q) (sym behind) (AllKeys-append IsMonomial (terms_of p.vars.now p.monos.now list) ((told_powers p id, quotient) ∷ []) c.loop-id.invariant.monomials (one, tt)));
+          (subst (λ (q : Summands). AllKeys IsMonomial q) (sym behind)
+          (AllKeys-append IsMonomial (terms_of p.vars.now p.monos.now list)
+          ((told_powers p id, quotient) ∷ []) c.loop-id.invariant.monomials (one, tt)));
     }

@@ -33,6 +33,8 @@ loop-term-preserved c =
     let one : IsMonomial c.in-Some-2.over = rw c.in-Some-2.is at c.in_ok-over.ensures.monomial in
     record {
       so_far = rw (c.in_ok-push-in-Some-2.ensures.items, to_z-of_z w128 c.in-Some.quotient fits)
-          (multiples_push (c.args.monomial.now, to_z w128 (of_z w128 c.args.coefficient)) c.loop-term.rest.items c.args.terms.now c.loop-term.term-index t (c.in-Some-2.over, c.in-Some.quotient) c.loop-term.invariant.so_far c.loop-term-test.true c.term-item.is monomial number);
+          (multiples_push (c.args.monomial.now, to_z w128 (of_z w128 c.args.coefficient)) c.loop-term.rest.items c.args.terms.now
+          c.loop-term.term-index t (c.in-Some-2.over, c.in-Some.quotient) c.loop-term.invariant.so_far c.loop-term-test.true
+          c.term-item.is monomial number);
       monomials = rw c.in_ok-push-in-Some-2.ensures.items (AllKeys-append IsMonomial c.loop-term.rest.items _ c.loop-term.invariant.monomials (one, tt));
     }

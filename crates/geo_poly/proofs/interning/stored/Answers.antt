@@ -42,7 +42,9 @@ place_near-place-requires-clause-known c =
 
 before : (c : goal.After-mono-arg-1) → IsPowerBefore c.place_near-place.result (slice_index_or c.args.powers.now (c.loop-i.i - 1) none).1 (monomial_of c.loop-i.store c.loop-i.id)
 before c =
-    fits c.args.vars.now c.args.powers.now (monomial_of c.loop-i.store c.loop-i.id) c.loop-i.i c.place_near-place.result c.requires.rising c.loop-i-test.true c.loop-i.invariant.left c.requires.monomial
+    fits c.args.vars.now c.args.powers.now
+    (monomial_of c.loop-i.store c.loop-i.id) c.loop-i.i c.place_near-place.result c.requires.rising c.loop-i-test.true
+    c.loop-i.invariant.left c.requires.monomial
     c.loop-i.invariant.powers c.loop-i.invariant.index.places c.place_near-place.ensures.within c.place_near-place.ensures.variable
 
 pub mono-requires-clause-exponent : goal.mono-requires-clause-exponent

@@ -18,7 +18,9 @@ stored-requires-clause-monomial c =
 
 pub stored-requires-clause-known : goal.stored-requires-clause-known
 stored-requires-clause-known c =
-    rw c.powers.ensures (AllKeys-at (λ (m : Powers). AllKeys (Contains c.args.vars.now) m) c.args.terms.now c.loop-term.term-index c.term-item.result c.loop-term-test.true c.term-item.is c.requires.known)
+    rw c.powers.ensures (AllKeys-at
+    (λ (m : Powers). AllKeys (Contains c.args.vars.now) m) c.args.terms.now c.loop-term.term-index c.term-item.result
+    c.loop-term-test.true c.term-item.is c.requires.known)
 
 pub loop-term-preserved : goal.loop-term-preserved
 loop-term-preserved c =
@@ -36,7 +38,8 @@ loop-term-preserved c =
           (AllKeys-append (IsIndex vars new) list _ (indices-kept vars old new list kept c.loop-term.invariant.indices) (c.in_ok-id.ensures.index, tt));
       terms = ap (terms_of vars new) c.in_ok-push.ensures.items
           ∙ map-append (term_of vars new) list _
-          ∙ ap₂ (λ (ts : Summands) (z : ℤ). ts ++ (powers_at vars new c.in_ok-id.id, z) ∷ []) (terms_of-kept vars old new list kept c.loop-term.invariant.indices ∙ c.loop-term.invariant.terms) (to_z-of_z w128 t.1 fits)
+          ∙ ap₂ (λ (ts : Summands) (z : ℤ). ts ++ (powers_at vars new c.in_ok-id.id, z) ∷ [])
+          (terms_of-kept vars old new list kept c.loop-term.invariant.indices ∙ c.loop-term.invariant.terms) (to_z-of_z w128 t.1 fits)
           ∙ ap (λ (m : Powers). take i c.args.terms.now ++ (m, t.1) ∷ []) (c.in_ok-id.ensures.powers ∙ c.powers.ensures)
           ∙ sym (take_more c.args.terms.now i t c.loop-term-test.true c.term-item.is);
     }

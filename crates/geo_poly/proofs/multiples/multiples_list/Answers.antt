@@ -8,11 +8,13 @@ use Rattle.geo_poly.proofs.multiples.multiples_list.Goals as goal
 
 pub product-requires-clause-right : goal.product-requires-clause-right
 product-requires-clause-right c =
-    (u_now c.args.vars.now c.args.store.now c.args.t c.args.list.now c.loop-id.id-index c.loop-id-test.true c.requires.term c.requires.indices c.requires.fits c.requires.rising c.loop-id.store c.loop-id.invariant.kept).within
+    (u_now c.args.vars.now c.args.store.now c.args.t c.args.list.now c.loop-id.id-index c.loop-id-test.true c.requires.term
+    c.requires.indices c.requires.fits c.requires.rising c.loop-id.store c.loop-id.invariant.kept).within
 
 pub product-requires-clause-degree : goal.product-requires-clause-degree
 product-requires-clause-degree c =
-    degrees_fit c.args.vars.now c.args.store.now c.args.t c.args.list.now c.loop-id.id-index c.loop-id-test.true c.requires.term c.requires.indices c.requires.fits c.requires.rising c.loop-id.store c.loop-id.invariant.kept
+    degrees_fit c.args.vars.now c.args.store.now c.args.t c.args.list.now c.loop-id.id-index c.loop-id-test.true c.requires.term
+    c.requires.indices c.requires.fits c.requires.rising c.loop-id.store c.loop-id.invariant.kept
 
 pub overflow_mul-t : goal.overflow_mul-t
 overflow_mul-t c =
@@ -38,6 +40,12 @@ loop-id-preserved c =
     let coef = product_is_kept c.args.t.1 (item list i).1 left right fits in
     record {
       kept = Keeps_trans kept kept2;
-      indices = rw c.in_ok-push.ensures.items (more_indices vars s0 c.args.t list i c.loop-id-test.true c.requires.term c.requires.indices c.requires.fits c.requires.rising s kept new kept2 k c.in_ok-monomial.ensures.index c.in_ok-monomial.ensures.product _ coef c.loop-id.product.items c.loop-id.invariant.indices c.loop-id.invariant.terms);
-      terms = rw c.in_ok-push.ensures.items (more_terms vars s0 c.args.t list i c.loop-id-test.true c.requires.term c.requires.indices c.requires.fits c.requires.rising s kept new kept2 k c.in_ok-monomial.ensures.index c.in_ok-monomial.ensures.product _ coef c.loop-id.product.items c.loop-id.invariant.indices c.loop-id.invariant.terms);
+      indices = rw c.in_ok-push.ensures.items
+          (more_indices vars s0 c.args.t list i c.loop-id-test.true c.requires.term c.requires.indices c.requires.fits c.requires.rising s
+          kept new kept2 k c.in_ok-monomial.ensures.index c.in_ok-monomial.ensures.product _ coef c.loop-id.product.items
+          c.loop-id.invariant.indices c.loop-id.invariant.terms);
+      terms = rw c.in_ok-push.ensures.items
+          (more_terms vars s0 c.args.t list i c.loop-id-test.true c.requires.term c.requires.indices c.requires.fits c.requires.rising s
+          kept new kept2 k c.in_ok-monomial.ensures.index c.in_ok-monomial.ensures.product _ coef c.loop-id.product.items
+          c.loop-id.invariant.indices c.loop-id.invariant.terms);
     }

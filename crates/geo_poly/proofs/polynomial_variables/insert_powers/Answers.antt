@@ -20,14 +20,16 @@ loop-first-init c = record {
 pub returns-then-mark-clause-keys : goal.returns-then-mark-clause-keys
 returns-then-mark-clause-keys c =
     let marked : slice_index_or c.loop-first.visited.items c.loop-first.rest.0 false ≡ true = search rules in
-    Walking-known c.args.p.now c.loop-first.visited.items c.loop-first.variables.keys c.loop-first.rest.0 (with_names c.args.variables.now.keys (told_powers c.args.p.now c.args.id)) c.loop-first.invariant.rising marked
+    Walking-known c.args.p.now c.loop-first.visited.items c.loop-first.variables.keys c.loop-first.rest.0
+    (with_names c.args.variables.now.keys (told_powers c.args.p.now c.args.id)) c.loop-first.invariant.rising marked
     c.loop-first.invariant.whole c.loop-first.invariant.walking
 
 pub returns-then-mark-clause-visited : goal.returns-then-mark-clause-visited
 returns-then-mark-clause-visited c =
     let marked : slice_index_or c.loop-first.visited.items c.loop-first.rest.0 false ≡ true = search rules in
     let whole = with_names c.args.variables.now.keys (told_powers c.args.p.now c.args.id) in
-    let is = Walking-known c.args.p.now c.loop-first.visited.items c.loop-first.variables.keys c.loop-first.rest.0 whole c.loop-first.invariant.rising marked c.loop-first.invariant.whole c.loop-first.invariant.walking in
+    let is = Walking-known c.args.p.now c.loop-first.visited.items c.loop-first.variables.keys c.loop-first.rest.0 whole
+    c.loop-first.invariant.rising marked c.loop-first.invariant.whole c.loop-first.invariant.walking in
     Walking-end c.args.p.now c.loop-first.visited.items c.mark.new.visited.items c.loop-first.variables.keys c.loop-first.rest.0 whole is marked c.mark.ensures.others c.loop-first.invariant.walking
 
 pub loop-first-preserved : goal.loop-first-preserved
@@ -42,6 +44,7 @@ loop-first-preserved c =
       rising = subst (λ (ks : List Var). IsStrictlySortedBy var_cmp ks) (sym grown) (sorted-insert_key keys c.in-Some.first.var c.loop-first.invariant.rising);
       whole = ap (λ (ks : List Var). with_names ks next) grown ∙ ap (λ (m : Powers). with_names keys m) (sym c.in-Some.ensures.power) ∙ c.loop-first.invariant.whole;
       known = c.in_ok-insert_first.ensures.known;
-      walking = Walking-next p c.loop-first.visited.items c.mark.new.visited.items keys c.insert_first.new.variables.keys c.loop-first.rest.0 c.in-Some.first.rest.0 c.in-Some.first.var whole c.in-Some.ensures.earlier c.mark.ensures.others grown
+      walking = Walking-next p c.loop-first.visited.items c.mark.new.visited.items keys c.insert_first.new.variables.keys
+          c.loop-first.rest.0 c.in-Some.first.rest.0 c.in-Some.first.var whole c.in-Some.ensures.earlier c.mark.ensures.others grown
           c.loop-first.invariant.whole c.loop-first.invariant.walking;
     }

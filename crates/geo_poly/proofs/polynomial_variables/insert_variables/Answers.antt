@@ -40,5 +40,6 @@ returns-clause-known c =
     let m = c.args.powers.now in
     let old = c.args.variables.now.keys in
     let over : length c.args.powers.now ≤ c.loop-i.i = omega (arith, c.loop-i-test.false) in
-    let whole : c.loop-i.variables.keys ≡ with_names c.args.variables.now.keys c.args.powers.now = c.loop-i.invariant ∙ ap (λ (p : Powers). with_names c.args.variables.now.keys p) (take_all c.loop-i.i m over) in
+    let whole : c.loop-i.variables.keys ≡ with_names c.args.variables.now.keys c.args.powers.now = c.loop-i.invariant
+    ∙ ap (λ (p : Powers). with_names c.args.variables.now.keys p) (take_all c.loop-i.i m over) in
     all_names c.loop-i.variables.keys m (λ v h. subst (λ (vs : List Var). Contains vs v) (sym whole) (fold_has old (names m) v h))

@@ -19,7 +19,9 @@ use Rattle.geo_poly.proofs.polynomial_variables.variables_at.Goals as goal
 variables-more : (q : Summands) (t : Powers × ℤ) → variables_of (q ++ t ∷ []) ≡ fold (insert_key var_cmp) (variables_of q) (map (λ (p : Var × ℕ). p.0) t.0)
 variables-more q t =
     let f : Powers × ℤ → List Var = λ u. map (λ p. p.0) u.0 in
-    ap (λ (vs : List Var). fold (insert_key var_cmp) [] vs) (flat_map-append (λ (u : Powers × ℤ). map (λ (p : Var × ℕ). p.0) u.0) q (t ∷ []) ∙ ap (λ (xs : List Var). flat_map f q ++ xs) (append-nil (map (λ (p : Var × ℕ). p.0) t.0)))
+    ap (λ (vs : List Var). fold (insert_key var_cmp) [] vs)
+    (flat_map-append (λ (u : Powers × ℤ). map (λ (p : Var × ℕ). p.0) u.0) q (t ∷ [])
+    ∙ ap (λ (xs : List Var). flat_map f q ++ xs) (append-nil (map (λ (p : Var × ℕ). p.0) t.0)))
     ∙ fold-append (insert_key var_cmp) [] (flat_map f q) (map (λ (p : Var × ℕ). p.0) t.0)
 
 pub insert_powers-requires-clause-index : goal.insert_powers-requires-clause-index

@@ -31,7 +31,8 @@ compact-requires c =
 
 pub returns : goal.returns
 returns c =
-    let whole = subst (λ (vs : List Var). terms_of vs c.product_of_moved.new.store c.in_ok-list.list.items ≡ product_of (told c.args.p.now) (told c.args.q.now)) c.as_slice.ensures c.in_ok-list.ensures.product in
+    let whole = subst (λ (vs : List Var). terms_of vs c.product_of_moved.new.store c.in_ok-list.list.items ≡ product_of (told c.args.p.now)
+    (told c.args.q.now)) c.as_slice.ensures c.in_ok-list.ensures.product in
     IfOk-weaker c.compact.result _ _ (λ s h. h ∙ whole) c.compact.ensures
 
 pub product_over-requires-clause-known : goal.product_over-requires-clause-known

@@ -30,7 +30,8 @@ compact-requires c =
     let left = own_terms c.args.p.now c.requires.left c.in_ok-monos.monos s c.in_ok-monos.ensures c.in_ok-right.ensures.kept in
     let right = ap (terms_of vars s) c.deref.ensures.value ∙ c.in_ok-right.ensures.terms in
     let whole : terms_of c.in_ok-items.items.items c.product_list.new.store c.in_ok-list.list.items ≡ product_of (told c.args.p.now) (told c.args.q.now) =
-    subst (λ (vs : List Var). terms_of vs store c.in_ok-list.list.items ≡ product_of (told c.args.p.now) (told c.args.q.now)) (sym c.in_ok-items.ensures.items) (c.in_ok-list.ensures.product ∙ ap₂ product_of left right) in
+    subst (λ (vs : List Var). terms_of vs store c.in_ok-list.list.items ≡ product_of (told c.args.p.now) (told c.args.q.now))
+    (sym c.in_ok-items.ensures.items) (c.in_ok-list.ensures.product ∙ ap₂ product_of left right) in
     record {
       rising = subst (λ (vs : List Var). IsStrictlySortedBy var_cmp vs) (sym c.in_ok-items.ensures.items) c.requires.left.rising;
       indices = subst (λ (vs : List Var). AllKeys (IsIndex vs store) c.in_ok-list.list.items) (sym c.in_ok-items.ensures.items) c.in_ok-list.ensures.indices;
@@ -45,5 +46,6 @@ returns c =
     let left = own_terms c.args.p.now c.requires.left c.in_ok-monos.monos s c.in_ok-monos.ensures c.in_ok-right.ensures.kept in
     let right = ap (terms_of vars s) c.deref.ensures.value ∙ c.in_ok-right.ensures.terms in
     let whole : terms_of c.in_ok-items.items.items c.product_list.new.store c.in_ok-list.list.items ≡ product_of (told c.args.p.now) (told c.args.q.now) =
-    subst (λ (vs : List Var). terms_of vs store c.in_ok-list.list.items ≡ product_of (told c.args.p.now) (told c.args.q.now)) (sym c.in_ok-items.ensures.items) (c.in_ok-list.ensures.product ∙ ap₂ product_of left right) in
+    subst (λ (vs : List Var). terms_of vs store c.in_ok-list.list.items ≡ product_of (told c.args.p.now) (told c.args.q.now))
+    (sym c.in_ok-items.ensures.items) (c.in_ok-list.ensures.product ∙ ap₂ product_of left right) in
     IfOk-weaker c.compact.result _ _ (λ s h. h ∙ whole) c.compact.ensures

@@ -45,6 +45,7 @@ pub returns : goal.returns
 returns c =
     let p = c.args.p.now in
     let past = drop_all c.loop-id.id-index (told p) (omega (arith, length-terms_of p.vars.now p.monos.now p.list.now, c.loop-id-test.false)) in
-    let whole = subst (λ (left : Summands). min (max c.loop-id.degree (degree_bound c.args.rows.now c.args.den.now c.args.top left)) (2 ^ 128 - 1) ≡ min (degree_bound c.args.rows.now c.args.den.now c.args.top (told p)) (2 ^ 128 - 1))
+    let whole = subst (λ (left : Summands). min (max c.loop-id.degree (degree_bound c.args.rows.now c.args.den.now c.args.top left))
+    (2 ^ 128 - 1) ≡ min (degree_bound c.args.rows.now c.args.den.now c.args.top (told p)) (2 ^ 128 - 1))
     past c.loop-id.invariant.so_far in
     omega (arith, whole, c.loop-id.invariant.fits)

@@ -38,6 +38,7 @@ pub returns : goal.returns
 returns c =
     let p = c.args.p.now in
     let past = drop_all c.loop-t.t-index (told p) (omega (arith, length-terms_of p.vars.now p.monos.now p.list.now, c.loop-t-test.false)) in
-    let whole = subst (λ (left : Summands). min (c.loop-t.weight + weight_of c.args.rows.now c.args.den.now c.args.top left) (2 ^ 128 - 1) ≡ min (weight_of c.args.rows.now c.args.den.now c.args.top (told p)) (2 ^ 128 - 1))
+    let whole = subst (λ (left : Summands). min (c.loop-t.weight + weight_of c.args.rows.now c.args.den.now c.args.top left)
+    (2 ^ 128 - 1) ≡ min (weight_of c.args.rows.now c.args.den.now c.args.top (told p)) (2 ^ 128 - 1))
     past c.loop-t.invariant.so_far in
     omega (arith, whole, c.loop-t.invariant.fits)

@@ -44,14 +44,16 @@ loop-i-preserved-in-Greater c =
 
 pub overflow_add-sum : goal.overflow_add-sum
 overflow_add-sum c =
-    let sums = fitting c.args.vars.now c.args.store.now c.args.left.now c.args.right.now c.loop-i.i c.loop-i.j c.loop-i-test.true c.if-j-right.true c.requires.left_indices c.requires.right_indices c.requires.fits in
+    let sums = fitting c.args.vars.now c.args.store.now c.args.left.now c.args.right.now c.loop-i.i c.loop-i.j c.loop-i-test.true
+    c.if-j-right.true c.requires.left_indices c.requires.right_indices c.requires.fits in
     subst (FitsSigned w128) (sym (coded_sum_is (item c.args.left.now c.loop-i.i).1 (item c.args.right.now c.loop-i.j).1 sums)) sums.sum
 
 pub loop-i-preserved : goal.loop-i-preserved
 loop-i-preserved c =
     let a = (item c.args.left.now c.loop-i.i).1 in
     let b = (item c.args.right.now c.loop-i.j).1 in
-    let sums = fitting c.args.vars.now c.args.store.now c.args.left.now c.args.right.now c.loop-i.i c.loop-i.j c.loop-i-test.true c.if-j-right.true c.requires.left_indices c.requires.right_indices c.requires.fits in
+    let sums = fitting c.args.vars.now c.args.store.now c.args.left.now c.args.right.now c.loop-i.i c.loop-i.j c.loop-i-test.true
+    c.if-j-right.true c.requires.left_indices c.requires.right_indices c.requires.fits in
     elim c.if-sum-ne0.branch [
       | then-sum-ne0+in_ok-push-in-Equal w ↦
           let next =
@@ -102,4 +104,5 @@ returns-clause-sum c =
       | then-loop-i-test+else-j-right w ↦ rest_left term_cmp coefficients term_order coefficients_add p q i j c.requires.left (omega (arith, w.if-j-right.false, length-terms_of vars links right))
       | else-loop-i-test w ↦ rest_right term_cmp coefficients term_order coefficients_add p q i j c.requires.right (omega (arith, w.loop-i-test.false, length-terms_of vars links left))
     ] in
-    rw (c.in_ok-extend_from_slice-2.ensures.items, c.in_ok-extend_from_slice.ensures.items, take_rest left i, take_rest right j) (ends vars links left right c.loop-i.list.items i j rest c.loop-i.invariant.kept)
+    rw (c.in_ok-extend_from_slice-2.ensures.items, c.in_ok-extend_from_slice.ensures.items, take_rest left i, take_rest right j)
+    (ends vars links left right c.loop-i.list.items i j rest c.loop-i.invariant.kept)

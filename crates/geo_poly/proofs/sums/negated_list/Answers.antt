@@ -23,7 +23,8 @@ loop-id-preserved c =
     let i = c.loop-id.id-index in
     let done = c.loop-id.opposite.items in
     let id = (item list i).0 in
-    let opposite = negated_number (item list i).1 _ (list_fits vars links list i c.loop-id-test.true c.requires.polynomial.norm_fits) (list_small vars links list i c.loop-id-test.true c.requires.polynomial.norm_fits) refl in
+    let opposite = negated_number (item list i).1 _ (list_fits vars links list i c.loop-id-test.true c.requires.polynomial.norm_fits)
+    (list_small vars links list i c.loop-id-test.true c.requires.polynomial.norm_fits) refl in
     record {
       indices = rw c.in_ok-push.ensures.items (AllKeys-append (IsIndex vars links) done _ c.loop-id.invariant.indices (list_index vars links list i c.loop-id-test.true c.requires.indices, tt));
       terms = ap (terms_of vars links) c.in_ok-push.ensures.items

@@ -15,7 +15,9 @@ merged_lists-requires-clause-left_indices c = own_indices c.args.p.now c.require
 
 pub merged_lists-requires-clause-left : goal.merged_lists-requires-clause-left
 merged_lists-requires-clause-left c =
-    subst (IsCanonical term_cmp coefficients) (sym (own_terms c.args.p.now c.requires.left c.in_ok-monos.monos c.moved.new.store c.in_ok-monos.ensures c.in_ok-right.ensures.kept)) c.requires.left.polynomial.in_order
+    subst (IsCanonical term_cmp coefficients)
+    (sym (own_terms c.args.p.now c.requires.left c.in_ok-monos.monos c.moved.new.store c.in_ok-monos.ensures
+    c.in_ok-right.ensures.kept)) c.requires.left.polynomial.in_order
 
 pub merged_lists-requires-clause-right : goal.merged_lists-requires-clause-right
 merged_lists-requires-clause-right c =
@@ -35,7 +37,8 @@ compact-requires c =
     let left = own_terms c.args.p.now c.requires.left c.in_ok-monos.monos store c.in_ok-monos.ensures c.in_ok-right.ensures.kept in
     let right = ap (terms_of vars store) c.deref.ensures.value ∙ c.in_ok-right.ensures.terms in
     let whole : terms_of c.in_ok-items.items.items c.moved.new.store c.in_ok-list.list.items ≡ sum_of (told c.args.p.now) (told c.args.q.now) =
-    subst (λ (vs : List Var). terms_of vs store c.in_ok-list.list.items ≡ sum_of (told c.args.p.now) (told c.args.q.now)) (sym c.in_ok-items.ensures.items) (c.in_ok-list.ensures.sum ∙ ap₂ sum_of left right) in
+    subst (λ (vs : List Var). terms_of vs store c.in_ok-list.list.items ≡ sum_of (told c.args.p.now) (told c.args.q.now))
+    (sym c.in_ok-items.ensures.items) (c.in_ok-list.ensures.sum ∙ ap₂ sum_of left right) in
     record {
       rising = subst (λ (vs : List Var). IsStrictlySortedBy var_cmp vs) (sym c.in_ok-items.ensures.items) c.requires.left.rising;
       indices = subst (λ (vs : List Var). AllKeys (IsIndex vs store) c.in_ok-list.list.items) (sym c.in_ok-items.ensures.items) c.in_ok-list.ensures.indices;
@@ -49,5 +52,6 @@ returns c =
     let left = own_terms c.args.p.now c.requires.left c.in_ok-monos.monos store c.in_ok-monos.ensures c.in_ok-right.ensures.kept in
     let right = ap (terms_of vars store) c.deref.ensures.value ∙ c.in_ok-right.ensures.terms in
     let whole : terms_of c.in_ok-items.items.items c.moved.new.store c.in_ok-list.list.items ≡ sum_of (told c.args.p.now) (told c.args.q.now) =
-    subst (λ (vs : List Var). terms_of vs store c.in_ok-list.list.items ≡ sum_of (told c.args.p.now) (told c.args.q.now)) (sym c.in_ok-items.ensures.items) (c.in_ok-list.ensures.sum ∙ ap₂ sum_of left right) in
+    subst (λ (vs : List Var). terms_of vs store c.in_ok-list.list.items ≡ sum_of (told c.args.p.now) (told c.args.q.now))
+    (sym c.in_ok-items.ensures.items) (c.in_ok-list.ensures.sum ∙ ap₂ sum_of left right) in
     IfOk-weaker c.compact.result _ _ (λ s h. h ∙ whole) c.compact.ensures

@@ -69,7 +69,8 @@ work_steps-requires-clause-writable g c =
     let written = subst (λ (q : Summands). Writes (c.args.task.now.header ∷ Start q ∷ []) s t) (sym c.in_ok-first-2.ensures.same) both in
     can_write_on c.args.steps.now (chain_part c.args.steps.now c.args.task.now.header c.args.known.now c.args.budget.now.left e)
     (steps_part c.args.steps.now c.args.known.now c.first_polynomial.new.budget.left c.in_ok-first-2.first) s t
-    (past_start c.args.steps.now c.args.known.now c.args.task.now.header c.args.budget.now.left e c.first_polynomial.new.budget.left c.in_ok-first-2.first s t c.in_ok-first.ensures.started c.in_ok-first.ensures.paid
+    (past_start c.args.steps.now c.args.known.now c.args.task.now.header c.args.budget.now.left e c.first_polynomial.new.budget.left
+    c.in_ok-first-2.first s t c.in_ok-first.ensures.started c.in_ok-first.ensures.paid
     (c.in_ok-first-2.ensures.same ∙ c.in_ok-first.ensures.start) written) c.requires.writable
 
 pub returns-in_err-end-clause-err : goal.returns-in_err-end-clause-err
@@ -83,7 +84,8 @@ returns-in_err-end-clause-err g c =
     if_err _ _ c.in_err-end.field-0.0 c.from_residual-in_err-end.ensures.1
     (halts_on c.args.steps.now (chain_part c.args.steps.now c.args.task.now.header c.args.known.now c.args.budget.now.left e)
     (steps_part c.args.steps.now c.args.known.now c.first_polynomial.new.budget.left c.in_ok-first-2.first) s t _
-    (past_start c.args.steps.now c.args.known.now c.args.task.now.header c.args.budget.now.left e c.first_polynomial.new.budget.left c.in_ok-first-2.first s t c.in_ok-first.ensures.started c.in_ok-first.ensures.paid
+    (past_start c.args.steps.now c.args.known.now c.args.task.now.header c.args.budget.now.left e c.first_polynomial.new.budget.left
+    c.in_ok-first-2.first s t c.in_ok-first.ensures.started c.in_ok-first.ensures.paid
     (c.in_ok-first-2.ensures.same ∙ c.in_ok-first.ensures.start) written) c.in_err-end.field-0.0 c.in_err-end.ensures.err)
 
 pub returns-clause-ok : goal.returns-clause-ok

@@ -27,7 +27,9 @@ pub returns-in_err-write-clause-err : goal.returns-in_err-write-clause-err
 returns-in_err-write-clause-err g c =
     let s = state c.args.log.now (g.K.Sink.held c.args.sink.now) (g.K.Sink.faults c.args.sink.now) in
     let t = state c.write.new.self (g.K.Sink.held c.write.new.sink) (g.K.Sink.faults c.write.new.sink) in
-    let cause = subst (λ k. IsUnwritten (Sample c.in_ok-values.values) (state c.args.log.now (g.K.Sink.held k) (g.K.Sink.faults k)) t c.in_err-write.field-0.0) c.in_ok-values.ensures.kept c.in_err-write.ensures.err in
+    let cause = subst (λ k. IsUnwritten (Sample c.in_ok-values.values)
+    (state c.args.log.now (g.K.Sink.held k) (g.K.Sink.faults k)) t c.in_err-write.field-0.0) c.in_ok-values.ensures.kept
+    c.in_err-write.ensures.err in
     if_err _ _ c.in_err-write.field-0.0 c.from_residual-in_err-write.ensures.1
     (halts_on c.args.steps.now (end_part c.args.steps.now c.args.ends.now c.args.verdict c.args.budget.now.left) (here_part (before_sample c.args.ends.now c.args.budget.now.left)) s s t
     (at_sample c.args.steps.now c.args.ends.now c.args.verdict c.args.budget.now.left s) c.in_err-write.field-0.0

@@ -11,15 +11,20 @@ use Rattle.geo_prover.proofs.Passing.{can_write_on, halts_on}
 use Rattle.geo_prover.proofs.goals.work_goal.Goals as goal
 
 pub goal_task-requires-clause-small : goal.goal_task-requires-clause-small
-goal_task-requires-clause-small g c = goal_small c.args.problem.now c.args.i c.args.findings.now.known c.args.findings.now.ends c.args.budget.now.left c.args.log.now.bytes c.requires.writable c.args.log.now.within c.requires.place
+goal_task-requires-clause-small g c =
+    goal_small c.args.problem.now c.args.i c.args.findings.now.known c.args.findings.now.ends c.args.budget.now.left c.args.log.now.bytes
+    c.requires.writable c.args.log.now.within c.requires.place
 
 pub returns-in_err-task-clause-small : goal.returns-in_err-task-clause-small
-returns-in_err-task-clause-small g c = goal_small c.args.problem.now c.args.i c.args.findings.now.known c.args.findings.now.ends c.args.budget.now.left c.args.log.now.bytes c.requires.writable c.args.log.now.within c.requires.place
+returns-in_err-task-clause-small g c =
+    goal_small c.args.problem.now c.args.i c.args.findings.now.known c.args.findings.now.ends c.args.budget.now.left c.args.log.now.bytes
+    c.requires.writable c.args.log.now.within c.requires.place
 
 pub returns-in_err-task-clause-err : goal.returns-in_err-task-clause-err
 returns-in_err-task-clause-err g c =
     if_err _ _ NoMemory c.from_residual.ensures.1
-    (goals_halt c.args.problem.now c.args.i c.args.findings.now.known c.args.findings.now.ends c.args.budget.now.left (state c.args.log.now (g.K.Sink.held c.args.sink.now) (g.K.Sink.faults c.args.sink.now)) c.args.log.now.within)
+    (goals_halt c.args.problem.now c.args.i c.args.findings.now.known c.args.findings.now.ends c.args.budget.now.left
+    (state c.args.log.now (g.K.Sink.held c.args.sink.now) (g.K.Sink.faults c.args.sink.now)) c.args.log.now.within)
 
 pub work_chain-requires-clause-stored : goal.work_chain-requires-clause-stored
 work_chain-requires-clause-stored g c = (goal_ready c.args.problem.now c.args.i c.in_ok-task.task.header c.in_ok-task.task.term c.requires.ready c.in_ok-task.ensures).0
@@ -41,7 +46,8 @@ returns-clause-passes g c =
     let s = state c.args.log.now (g.K.Sink.held c.args.sink.now) (g.K.Sink.faults c.args.sink.now) in
     let t = state c.work_chain.new.log (g.K.Sink.held c.work_chain.new.sink) (g.K.Sink.faults c.work_chain.new.sink) in
     IfOk-weaker c.work_chain.result _ _
-    (λ chain h n. goal_task_passes p c.args.i c.args.findings.now.known c.args.findings.now.ends c.args.budget.now.left c.in_ok-task.task.header c.in_ok-task.task.term c.work_chain.new.budget.left s t chain.end chain.variable h c.in_ok-task.ensures n)
+    (λ chain h n. goal_task_passes p c.args.i c.args.findings.now.known c.args.findings.now.ends c.args.budget.now.left
+    c.in_ok-task.task.header c.in_ok-task.task.term c.work_chain.new.budget.left s t chain.end chain.variable h c.in_ok-task.ensures n)
     c.work_chain.ensures.ok
 
 pub returns-clause-fails : goal.returns-clause-fails
@@ -50,7 +56,9 @@ returns-clause-fails g c =
     let s = state c.args.log.now (g.K.Sink.held c.args.sink.now) (g.K.Sink.faults c.args.sink.now) in
     let t = state c.work_chain.new.log (g.K.Sink.held c.work_chain.new.sink) (g.K.Sink.faults c.work_chain.new.sink) in
     IfOk-weaker c.work_chain.result _ _
-    (λ chain h n. goal_task_fails p c.args.i c.args.findings.now.known c.args.findings.now.ends c.args.budget.now.left c.in_ok-task.task.header c.in_ok-task.task.term c.work_chain.new.budget.left s t chain.end chain.variable h _ c.in_ok-task.ensures n refl)
+    (λ chain h n. goal_task_fails p c.args.i c.args.findings.now.known c.args.findings.now.ends c.args.budget.now.left
+    c.in_ok-task.task.header c.in_ok-task.task.term c.work_chain.new.budget.left s t chain.end chain.variable h _ c.in_ok-task.ensures n
+    refl)
     c.work_chain.ensures.ok
 
 pub returns-clause-err : goal.returns-clause-err

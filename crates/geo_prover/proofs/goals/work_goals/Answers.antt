@@ -55,7 +55,8 @@ returns-then-not-is_zero-clause-ok g c =
     let failed = subst (λ f. Passes (goals_from p c.loop-i.i f.known f.ends c.loop-i.budget.left) (end_part p.steps (f.ends ++ c.in_ok-chain.chain.end ∷ []) (False (c.loop-i.i + 1)) left) t u)
     c.loop-i.invariant.kept (c.in_ok-chain.ensures.fails nonzero) in
     let passed = passes_on first
-    (goals_from c.args.problem.now c.loop-i.i c.args.findings.now.known c.args.findings.now.ends c.loop-i.budget.left) (end_part p.steps ends (False (c.loop-i.i + 1)) left) s t u c.loop-i.invariant.passes failed in
+    (goals_from c.args.problem.now c.loop-i.i c.args.findings.now.known c.args.findings.now.ends c.loop-i.budget.left)
+    (end_part p.steps ends (False (c.loop-i.i + 1)) left) s t u c.loop-i.invariant.passes failed in
     subst (λ qs. Passes first (end_part p.steps qs (False (c.loop-i.i + 1)) left) s u)
     (sym (c.in_ok-add_end.ensures.ends ∙ ap (λ f. f.ends ++ c.in_ok-chain.chain.end ∷ []) c.loop-i.invariant.kept)) passed
 
@@ -67,10 +68,12 @@ loop-i-preserved g c =
     let p = c.args.problem.now in
     let zero : c.in_ok-chain.chain.end ≡ [] = search rules in
     let left = c.work_goal.new.budget.left in
-    let went = subst (λ f. Passes (goals_from p c.loop-i.i f.known f.ends c.loop-i.budget.left) (goals_from p (c.loop-i.i + 1) f.known f.ends left) t u) c.loop-i.invariant.kept (c.in_ok-chain.ensures.passes zero) in
+    let went = subst (λ f. Passes (goals_from p c.loop-i.i f.known f.ends c.loop-i.budget.left)
+    (goals_from p (c.loop-i.i + 1) f.known f.ends left) t u) c.loop-i.invariant.kept (c.in_ok-chain.ensures.passes zero) in
     record {
       passes = passes_on (goals_from c.args.problem.now 0 c.args.findings.now.known c.args.findings.now.ends c.args.budget.now.left)
-          (goals_from c.args.problem.now c.loop-i.i c.args.findings.now.known c.args.findings.now.ends c.loop-i.budget.left) (goals_from p (c.loop-i.i + 1) c.args.findings.now.known c.args.findings.now.ends left) s t u c.loop-i.invariant.passes went;
+          (goals_from c.args.problem.now c.loop-i.i c.args.findings.now.known c.args.findings.now.ends c.loop-i.budget.left)
+          (goals_from p (c.loop-i.i + 1) c.args.findings.now.known c.args.findings.now.ends left) s t u c.loop-i.invariant.passes went;
       kept = c.loop-i.invariant.kept;
       numbers = c.work_goal.ensures.numbers;
     }

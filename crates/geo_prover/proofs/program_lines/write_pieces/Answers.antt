@@ -33,7 +33,8 @@ loop-end-preserved g c = λ lines e h.
     let t = state c.write.new.self (g.K.Sink.held c.write.new.sink) (g.K.Sink.faults c.write.new.sink) in
     let r = state c.args.log.now (g.K.Sink.held c.args.sink.now) (g.K.Sink.faults c.args.sink.now) in
     subst (λ (xs : List ℕ). IsBetween lines xs r t) (sym (take_rest c.loop-end.rest.now (c.in-Some.end + 1)))
-    (one_more lines c.loop-end.rest.now r s (c.loop-end.invariant lines e h) c.in-Some.end t (sym c.in-Some.ensures) (subst (λ (x : List ℕ). Writes (ProgramLine x ∷ []) s t) same c.in_ok-write.ensures.ok))
+    (one_more lines c.loop-end.rest.now r s (c.loop-end.invariant lines e h) c.in-Some.end t (sym c.in-Some.ensures)
+    (subst (λ (x : List ℕ). Writes (ProgramLine x ∷ []) s t) same c.in_ok-write.ensures.ok))
 
 pub returns-clause-ok : goal.returns-clause-ok
 returns-clause-ok g c = λ lines e h. at_last lines c.loop-end.rest.now _ _ (c.loop-end.invariant lines e h) (sym c.in_default.ensures)

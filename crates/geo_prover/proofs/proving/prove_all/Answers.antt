@@ -30,7 +30,8 @@ returns-in_err-write_first_lines-clause-err g c =
     let s = state c.new-log.result (g.K.Sink.held c.args.sink.now) (g.K.Sink.faults c.args.sink.now) in
     let t = state c.write_first_lines.new.log (g.K.Sink.held c.write_first_lines.new.sink) (g.K.Sink.faults c.write_first_lines.new.sink) in
     if_err _ _ c.in_err-write_first_lines.field-0.0 c.from_residual-in_err-write_first_lines.ensures.1
-    (halted_among p c.in_ok-problem.problem c.args.steps w small c.in_ok-problem.ensures s t c.new-log.ensures.lines c.new-log.ensures.bytes c.in_err-write_first_lines.field-0.0 c.in_err-write_first_lines.ensures.err)
+    (halted_among p c.in_ok-problem.problem c.args.steps w small c.in_ok-problem.ensures s t c.new-log.ensures.lines c.new-log.ensures.bytes
+    c.in_err-write_first_lines.field-0.0 c.in_err-write_first_lines.ensures.err)
 
 pub work-requires-clause-ready : goal.work-requires-clause-ready
 work-requires-clause-ready g c =

@@ -20,7 +20,8 @@ returns-in_err-write-clause-err g c =
     let k = c.in-Some.k in
     let left = c.work_conditions.new.budget.left in
     let first = conditions_from p 0 [] [] c.args.budget.now.left in
-    let found = at_nothing (λ part. IsImpossibleAt part left s t k) p c.new-findings.result.known c.new-findings.result.ends c.args.budget.now.left c.new-findings.ensures.known c.new-findings.ensures.ends
+    let found = at_nothing (λ part. IsImpossibleAt part left s t k) p c.new-findings.result.known c.new-findings.result.ends
+    c.args.budget.now.left c.new-findings.ensures.known c.new-findings.ensures.ends
     (at_some _ c.in_ok-k.field-0 k c.in-Some.is c.in_ok-k.ensures.impossible) in
     if_err _ _ c.in_err-write.field-0.0 c.from_residual-in_err-write.ensures.1
     (halts_on p.steps first (here_part (before_line (VerdictLine (Impossible k)))) s t u (at_impossible first s t left k found) c.in_err-write.field-0.0

@@ -40,7 +40,8 @@ returns-in-Coords-clause-refused c =
 
 pub returns-in-Cut-clause-step : goal.returns-in-Cut-clause-step
 returns-in-Cut-clause-step c =
-    cut_goes c.args.steps.now c.args.known.now c.args.budget.now.left c.args.before.now c.after_cut.result c.in-Cut.by c.in-Cut.poly c.args.line c.in-Cut.is c.after_cut.ensures.result c.after_cut.ensures.cut
+    cut_goes c.args.steps.now c.args.known.now c.args.budget.now.left c.args.before.now c.after_cut.result c.in-Cut.by c.in-Cut.poly
+    c.args.line c.in-Cut.is c.after_cut.ensures.result c.after_cut.ensures.cut
 
 pub returns-in-Cut-clause-refused : goal.returns-in-Cut-clause-refused
 returns-in-Cut-clause-refused c =

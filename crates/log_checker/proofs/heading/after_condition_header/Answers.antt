@@ -13,4 +13,5 @@ returns-in_err-task-clause-refused c = λ e.
 
 pub returns-clause-goes : goal.returns-clause-goes
 returns-clause-goes c = λ e.
-    condition_goes c.args.problem.now c.requires.ready e c.args.index c.condition_at-item.result.now c.args.line.now c.in_ok-task.task c.condition_at-item.ensures c.in_ok-task.ensures.line c.in_ok-task.ensures.task
+    condition_goes c.args.problem.now c.requires.ready e c.args.index c.condition_at-item.result.now c.args.line.now c.in_ok-task.task
+    c.condition_at-item.ensures c.in_ok-task.ensures.line c.in_ok-task.ensures.task

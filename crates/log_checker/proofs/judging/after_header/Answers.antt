@@ -12,8 +12,12 @@ returns-in_default c =
     record {
       goes = λ steps. tt;
       refused = λ steps first.
-          subst (TellsStop (StopsNext steps [] c.args.read)) (sym c.at.ensures)
-          (wrong_line, refl, subst (λ o. Stops steps o c.args.number) (sym c.in-Some.is) (subst (Stops steps (Some c.in-Some.line)) (sym first) (no_header steps c.in-Some.line c.in_default.not-Header)));
+          subst (TellsStop (StopsNext steps [] c.args.read)) (sym c.at.ensures) (
+            wrong_line,
+            refl,
+            subst (λ o. Stops steps o c.args.number) (sym c.in-Some.is)
+                (subst (Stops steps (Some c.in-Some.line)) (sym first) (no_header steps c.in-Some.line c.in_default.not-Header)),
+          );
     }
 
 pub returns-in-None-clause-refused : goal.returns-in-None-clause-refused

@@ -29,7 +29,8 @@ returns-in_err-work-in_default c =
       refused = λ lines leaves count.
           passed_on c.from_residual-in_err-work-in_default.result c.in_err-work-in_default.field-0.0 (TellsStop (StopsNext c.args.steps lines read)) c.from_residual-in_err-work-in_default.ensures.1
           (first_tells c.args.steps lines c.args.version c.args.text read c.args.number c.in_err-work-in_default.field-0.0 leaves count (λ more. over_line c.args.line more c.in_default.not-Program)
-          (subst (λ bs. TellsStop (IsFirstRefused c.args.version bs c.args.steps read c.args.number) c.in_err-work-in_default.field-0.0) c.deref-in_default.ensures.value c.in_err-work-in_default.ensures.refused));
+          (subst (λ bs. TellsStop (IsFirstRefused c.args.version bs c.args.steps read c.args.number) c.in_err-work-in_default.field-0.0)
+          c.deref-in_default.ensures.value c.in_err-work-in_default.ensures.refused));
     }
 
 pub returns-in_ok-work-in_default : goal.returns-in_ok-work-in_default

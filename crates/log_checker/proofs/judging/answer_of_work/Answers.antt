@@ -15,5 +15,6 @@ returns-in-Nothing-clause-accepted c = λ lines h count.
 pub returns : goal.returns
 returns c = record {
   accepted = λ lines h count. tt;
-  refused = λ lines h count. subst (TellsStop (StopsThere c.args.steps lines)) (sym c.unfinished.ensures) (unfinished_tells c.args.steps lines c.args.work c.args.count c.in_default.not-Nothing h.left count);
+  refused = λ lines h count. subst (TellsStop (StopsThere c.args.steps lines)) (sym c.unfinished.ensures)
+      (unfinished_tells c.args.steps lines c.args.work c.args.count c.in_default.not-Nothing h.left count);
 }

@@ -16,7 +16,8 @@ refusal_behind_program-requires c =
 
 pub returns-in-Program-clause-refused : goal.returns-in-Program-clause-refused
 returns-in-Program-clause-refused c = λ lines leaves count.
-    first_tells c.args.steps lines c.in-Program.version c.in-Program.text None c.args.number c.refusal_behind_program.result (subst (Leaves c.args.steps lines) c.in-Program.is leaves) count (λ more. tt)
+    first_tells c.args.steps lines c.in-Program.version c.in-Program.text None c.args.number c.refusal_behind_program.result
+    (subst (Leaves c.args.steps lines) c.in-Program.is leaves) count (λ more. tt)
     (subst (λ bs. TellsStop (IsFirstRefused c.in-Program.version bs c.args.steps None c.args.number) c.refusal_behind_program.result) c.deref.ensures.value c.refusal_behind_program.ensures)
 
 pub returns-clause-refused : goal.returns-clause-refused

@@ -33,5 +33,6 @@ returns-clause-monomial c =
     let link : Link = record { var = c.args.var; exp = c.args.exp; next = c.args.next } in
     let power : IsPowerBefore c.args.var c.args.exp (monomial_of c.args.links.now.keys c.args.next) = record { exponent = c.requires.exponent; first = c.requires.first; degree = c.requires.degree } in
     let stored = c.in_ok-index.ensures.stored in
-    monomial_of-interned (is_interned c.args.links.now.keys c.insert_full.new.self.keys link c.in_ok-index.ensures.keys) c.requires.store (record { next = c.requires.next; power = power }) (record { 0 = c.in_ok-index.index + 1 }) c.in_ok-index.index refl
+    monomial_of-interned (is_interned c.args.links.now.keys c.insert_full.new.self.keys link c.in_ok-index.ensures.keys) c.requires.store
+    (record { next = c.requires.next; power = power }) (record { 0 = c.in_ok-index.index + 1 }) c.in_ok-index.index refl
     (stored.1 ∙ ap Some (sym (same link stored.0 stored.2)))

@@ -18,7 +18,9 @@ fits powers m i positive within h is =
     subst (IsPowerBefore x.0 x.1) (sym is) (IsPowerBefore-head x.0 x.1 (drop i powers) (subst IsMonomial next dropped))
 
 pub mono-requires-clause-exponent : goal.mono-requires-clause-exponent
-mono-requires-clause-exponent c = (fits c.args.powers.now (monomial_of c.loop-i.store c.loop-i.id) c.loop-i.i c.loop-i-test.true c.loop-i.invariant.left c.requires c.loop-i.invariant.monomial).exponent
+mono-requires-clause-exponent c =
+    (fits c.args.powers.now (monomial_of c.loop-i.store c.loop-i.id) c.loop-i.i c.loop-i-test.true c.loop-i.invariant.left c.requires
+    c.loop-i.invariant.monomial).exponent
 
 pub mono-requires-clause-first : goal.mono-requires-clause-first
 mono-requires-clause-first c = (fits c.args.powers.now (monomial_of c.loop-i.store c.loop-i.id) c.loop-i.i c.loop-i-test.true c.loop-i.invariant.left c.requires c.loop-i.invariant.monomial).first

@@ -10,7 +10,9 @@ use Rattle.proof_log.proofs.line_reader.read_line.Goals as goal
 pub returns-in_err-lead-clause-bad : goal.returns-in_err-lead-clause-bad
 returns-in_err-lead-clause-bad c = λ _.
     no_lead c.args.bytes.now
-    (subst (λ (l : List ℕ). NoneBegins leads l) c.new-reader.ensures (c.lead.ensures.none (from_err c.lead.result BadLine c.ok_or.result c.in_err-lead.field-0.0 c.ok_or.ensures.value c.in_err-lead.was)))
+    (subst (λ (l : List ℕ). NoneBegins leads l) c.new-reader.ensures
+    (c.lead.ensures.none (from_err c.lead.result BadLine c.ok_or.result c.in_err-lead.field-0.0 c.ok_or.ensures.value
+    c.in_err-lead.was)))
 
 pub returns-clause-exact : goal.returns-clause-exact
 returns-clause-exact c = λ l writable text.

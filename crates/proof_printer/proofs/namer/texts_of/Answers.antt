@@ -27,7 +27,9 @@ loop-name-preserved c =
     let tested = sym (sameb-is_kind name.kind c.args.kind) ∙ sym c.eq.ensures in
     elim c.if-eq.branch [
       | then-eq+in_ok-push w ↦
-          let one = texts_more c.args.kind c.args.names.now c.loop-name.name-index name (map (λ text. text.now) c.loop-name.texts.items) c.loop-name-test.true c.name-item.is (tested ∙ w.if-eq.true) c.loop-name.invariant in
+          let one = texts_more c.args.kind c.args.names.now c.loop-name.name-index name
+          (map (λ text. text.now) c.loop-name.texts.items) c.loop-name-test.true c.name-item.is
+          (tested ∙ w.if-eq.true) c.loop-name.invariant in
           ap (λ texts. map (λ text. text.now) texts.items) w.texts-is
           ∙ ap (map (λ text. text.now)) w.in_ok-push.ensures.items
           ∙ map_push (λ text. text.now) c.loop-name.texts.items w.bytes.result
@@ -35,5 +37,7 @@ loop-name-preserved c =
           ∙ one
       | else-eq w ↦
           ap (λ texts. map (λ text. text.now) texts.items) w.texts-is
-          ∙ texts_same c.args.kind c.args.names.now c.loop-name.name-index name (map (λ text. text.now) c.loop-name.texts.items) c.loop-name-test.true c.name-item.is (tested ∙ w.if-eq.false) c.loop-name.invariant
+          ∙ texts_same c.args.kind c.args.names.now c.loop-name.name-index name
+          (map (λ text. text.now) c.loop-name.texts.items) c.loop-name-test.true c.name-item.is
+          (tested ∙ w.if-eq.false) c.loop-name.invariant
     ]

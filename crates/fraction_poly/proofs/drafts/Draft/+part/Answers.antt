@@ -9,22 +9,32 @@ use Rattle.fraction_poly.proofs.drafts.Draft.+part.Goals as goal
 
 pub combined-requires-clause-left_element : goal.combined-requires-clause-left_element
 combined-requires-clause-left_element t c =
-    (part_kept c.part.new.ring c.part-in-Combined.new.ring (drafted_piece (by_number c.args.first.now c.args.second.now) c.deref.result.now.left) c.in_ok-left-in-Combined.left c.in_ok-right-in-Combined.ensures.grows c.in_ok-left-in-Combined.ensures.part).element_of
+    (part_kept c.part.new.ring c.part-in-Combined.new.ring
+    (drafted_piece (by_number c.args.first.now c.args.second.now) c.deref.result.now.left) c.in_ok-left-in-Combined.left
+    c.in_ok-right-in-Combined.ensures.grows c.in_ok-left-in-Combined.ensures.part).element_of
 
 pub combined-requires-clause-left : goal.combined-requires-clause-left
 combined-requires-clause-left t c =
-    bounded_part (by_number c.args.first.now c.args.second.now) (both_bounded c.args.first.now c.args.second.now c.requires.first c.requires.second) c.deref.result.now.left c.part-in-Combined.new.ring c.in_ok-left-in-Combined.left
-    (part_kept c.part.new.ring c.part-in-Combined.new.ring (drafted_piece (by_number c.args.first.now c.args.second.now) c.deref.result.now.left) c.in_ok-left-in-Combined.left c.in_ok-right-in-Combined.ensures.grows c.in_ok-left-in-Combined.ensures.part)
+    bounded_part (by_number c.args.first.now c.args.second.now)
+    (both_bounded c.args.first.now c.args.second.now c.requires.first c.requires.second) c.deref.result.now.left
+    c.part-in-Combined.new.ring c.in_ok-left-in-Combined.left
+    (part_kept c.part.new.ring c.part-in-Combined.new.ring
+    (drafted_piece (by_number c.args.first.now c.args.second.now) c.deref.result.now.left) c.in_ok-left-in-Combined.left
+    c.in_ok-right-in-Combined.ensures.grows c.in_ok-left-in-Combined.ensures.part)
 
 pub combined-requires-clause-right : goal.combined-requires-clause-right
 combined-requires-clause-right t c =
-    bounded_part (by_number c.args.first.now c.args.second.now) (both_bounded c.args.first.now c.args.second.now c.requires.first c.requires.second) c.deref-in-Combined.result.now.right c.part-in-Combined.new.ring c.in_ok-right-in-Combined.right c.in_ok-right-in-Combined.ensures.part
+    bounded_part (by_number c.args.first.now c.args.second.now)
+    (both_bounded c.args.first.now c.args.second.now c.requires.first c.requires.second) c.deref-in-Combined.result.now.right
+    c.part-in-Combined.new.ring c.in_ok-right-in-Combined.right c.in_ok-right-in-Combined.ensures.part
 
 pub returns-in_ok-right-in-Combined-clause-part : goal.returns-in_ok-right-in-Combined-clause-part
 returns-in_ok-right-in-Combined-clause-part t c =
     let n = (by_number c.args.first.now c.args.second.now) in
     let both = c.in-Combined.both.value in
-    let left = part_kept c.part.new.ring c.part-in-Combined.new.ring (drafted_piece n c.deref.result.now.left) c.in_ok-left-in-Combined.left c.in_ok-right-in-Combined.ensures.grows c.in_ok-left-in-Combined.ensures.part in
+    let left = part_kept c.part.new.ring c.part-in-Combined.new.ring
+    (drafted_piece n c.deref.result.now.left) c.in_ok-left-in-Combined.left c.in_ok-right-in-Combined.ensures.grows
+    c.in_ok-left-in-Combined.ensures.part in
     let right = c.in_ok-right-in-Combined.ensures.part in
     let first = left.piece_is ∙ ap (λ (d : Combination). drafted_piece n d.left) c.deref.ensures in
     let second = right.piece_is ∙ ap (λ (d : Combination). drafted_piece n d.right) c.deref-in-Combined.ensures in

@@ -9,7 +9,8 @@ use Rattle.geo_terms.specs.Stores.{tree_of, trees_of}
 use Rattle.geo_terms.specs.Trees.{addition, division, multiplication, negation, ratio_leaf, subtraction}
 use Rattle.geo_conditions.specs.Inner.ConditionLists.{Lists}
 use Rattle.geo_conditions.specs.Lists.{found_at}
-use Rattle.geo_conditions.proofs.KeptConditions.{addition_parts, division_parts, leaf_conditions, lists_at, lists_none, lists_tree, multiplication_parts, negation_part, subtraction_parts, unfolds, walked_before, walked_now}
+use Rattle.geo_conditions.proofs.KeptConditions.{addition_parts, division_parts, leaf_conditions, lists_at, lists_none, lists_tree}
+use Rattle.geo_conditions.proofs.KeptConditions.{multiplication_parts, negation_part, subtraction_parts, unfolds, walked_before, walked_now}
 use Rattle.geo_conditions.proofs.condition_list.ConditionList.+expressions.Goals as goal
 
 -- the derived `==` is equality
@@ -108,5 +109,6 @@ list_parts-returns-in_default t c =
     let nodes = c.args.terms.now in
     let d = c.in_default in
     let is = unfolds nodes c.requires.list.store c.args.e c.requires.braces c.node.result c.node.ensures in
-    let none : expression_conditions (tree_of nodes c.args.e) ≡ [] = ap expression_conditions is ∙ leaf_conditions nodes (trees_of nodes) c.node.result d.not-R d.not-Neg d.not-Add d.not-Sub d.not-Mul d.not-Div in
+    let none : expression_conditions (tree_of nodes c.args.e) ≡ [] = ap expression_conditions is
+    ∙ leaf_conditions nodes (trees_of nodes) c.node.result d.not-R d.not-Neg d.not-Add d.not-Sub d.not-Mul d.not-Div in
     subst (λ (cs : List Condition). Lists nodes c.args.self.now c.args.self.now (found_at c.args.line cs)) (sym none) (lists_none nodes c.args.self.now c.requires.list)

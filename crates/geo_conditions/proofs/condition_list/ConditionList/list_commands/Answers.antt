@@ -30,6 +30,7 @@ loop-k-preserved c =
     record {
       valid = c.in_ok-list_source-2.ensures.valid;
       ahead = next_command nodes c.args.self.now l.self c.list_source.new.self c.list_source-in-loop-k.new.self commands l.k l.x c.next_point-x.result c.early_source.result c.late_source.result
-          c.loop-k-test.true l.invariant.ahead (c.early_source.ensures.conditions nodes) (c.late_source.ensures.conditions nodes) c.in_ok-list_source.ensures c.in_ok-list_source-2.ensures c.next_point-x.ensures;
+          c.loop-k-test.true l.invariant.ahead (c.early_source.ensures.conditions nodes)
+          (c.late_source.ensures.conditions nodes) c.in_ok-list_source.ensures c.in_ok-list_source-2.ensures c.next_point-x.ensures;
       count = next_count commands l.k l.x c.next_point-x.result c.loop-k-test.true l.invariant.count c.next_point-x.ensures;
     }

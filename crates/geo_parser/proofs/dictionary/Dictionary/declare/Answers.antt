@@ -11,7 +11,14 @@ use Rattle.geo_parser.proofs.dictionary.Dictionary.declare.Goals as goal
 pub with-self-inside-requires : goal.with-self-inside-requires
 with-self-inside-requires c =
     let names = c.self.inside.names.items in
-    omega (arith, count_of-dictionary names (λ w. get_by (λ key. bytes_eq w key.now) c.self.inside.meanings) c.self.inside.counts c.args.kind c.self.invariant, length-names_of c.args.kind names, ap length c.self.view_is, c.requires.room)
+    omega (
+      arith,
+      count_of-dictionary names
+          (λ w. get_by (λ key. bytes_eq w key.now) c.self.inside.meanings) c.self.inside.counts c.args.kind c.self.invariant,
+      length-names_of c.args.kind names,
+      ap length c.self.view_is,
+      c.requires.room,
+    )
 
 pub invariant_of-self-2 : goal.invariant_of-self-2
 invariant_of-self-2 c =

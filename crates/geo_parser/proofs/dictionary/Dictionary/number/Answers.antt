@@ -8,17 +8,23 @@ use Rattle.geo_parser.proofs.dictionary.Dictionary.number.Goals as goal
 
 pub returns-in-Some-clause-number : goal.returns-in-Some-clause-number
 returns-in-Some-clause-number c =
-    let meant = told c.self.inside.names.items (λ w. get_by (λ key. bytes_eq w key.now) c.self.inside.meanings) c.self.inside.counts c.args.self.now c.self.view_is c.self.invariant c.args.word.now c.get.result c.get.ensures.value c.in-Some.meaning c.in-Some.is in
+    let meant = told c.self.inside.names.items
+    (λ w. get_by (λ key. bytes_eq w key.now) c.self.inside.meanings) c.self.inside.counts c.args.self.now c.self.view_is
+    c.self.invariant c.args.word.now c.get.result c.get.ensures.value c.in-Some.meaning c.in-Some.is in
     let kinds : is_kind c.in-Some.meaning.now.kind c.args.kind ≡ true = sym (same_kind_test c.in-Some.meaning.now.kind c.args.kind) ∙ sym c.eq.ensures ∙ c.if-eq.true in
     numbered c.args.self.now c.args.kind c.args.word.now c.in-Some.meaning.now meant (same_kind _ _ kinds)
 
 pub returns-in-Some-2-clause-refused : goal.returns-in-Some-2-clause-refused
 returns-in-Some-2-clause-refused c =
-    let meant = told c.self.inside.names.items (λ w. get_by (λ key. bytes_eq w key.now) c.self.inside.meanings) c.self.inside.counts c.args.self.now c.self.view_is c.self.invariant c.args.word.now c.get.result c.get.ensures.value c.in-Some.meaning c.in-Some.is in
+    let meant = told c.self.inside.names.items
+    (λ w. get_by (λ key. bytes_eq w key.now) c.self.inside.meanings) c.self.inside.counts c.args.self.now c.self.view_is
+    c.self.invariant c.args.word.now c.get.result c.get.ensures.value c.in-Some.meaning c.in-Some.is in
     let kinds : is_kind c.in-Some.meaning.now.kind c.args.kind ≡ false = sym (same_kind_test c.in-Some.meaning.now.kind c.args.kind) ∙ sym c.eq.ensures ∙ c.if-eq.false in
     misused_kind c.args.self.now c.args.kind c.args.word.now c.in-Some.meaning.now meant kinds
 
 pub returns-in-None-2-clause-refused : goal.returns-in-None-2-clause-refused
 returns-in-None-2-clause-refused c =
-    let none = told_none c.self.inside.names.items (λ w. get_by (λ key. bytes_eq w key.now) c.self.inside.meanings) c.self.inside.counts c.args.self.now c.self.view_is c.self.invariant c.args.word.now c.get.result c.get.ensures.value c.in-None-2.is in
+    let none = told_none c.self.inside.names.items
+    (λ w. get_by (λ key. bytes_eq w key.now) c.self.inside.meanings) c.self.inside.counts c.args.self.now c.self.view_is
+    c.self.invariant c.args.word.now c.get.result c.get.ensures.value c.in-None-2.is in
     misused_unknown c.args.self.now c.args.kind c.args.word.now (sym c.is_reserved.ensures ∙ c.if-is_reserved.false) none

@@ -17,16 +17,19 @@ a_part level ratios = open_slot level ∷ expression_slot level ratios ∷ close
 
 pub formed-returns-in_ok-a-in-SignedArea-clause-ok : goal.formed-returns-in_ok-a-in-SignedArea-clause-ok
 formed-returns-in_ok-a-in-SignedArea-clause-ok t c =
-    ReadsFormed-at c.args.form SignedArea c.args.level c.args.ratios _ _ _ c.in-SignedArea.is (ReadsFormed-area c.args.level c.args.ratios _ _ c.requires.level _ _ _ c.in_ok-a-in-SignedArea.ensures.points)
+    ReadsFormed-at c.args.form SignedArea c.args.level c.args.ratios _ _ _ c.in-SignedArea.is
+    (ReadsFormed-area c.args.level c.args.ratios _ _ c.requires.level _ _ _ c.in_ok-a-in-SignedArea.ensures.points)
 
 pub formed-returns-in_ok-a-in-PythagorasDifference-clause-ok : goal.formed-returns-in_ok-a-in-PythagorasDifference-clause-ok
 formed-returns-in_ok-a-in-PythagorasDifference-clause-ok t c =
-    ReadsFormed-at c.args.form PythagorasDifference c.args.level c.args.ratios _ _ _ c.in-PythagorasDifference.is (ReadsFormed-difference c.args.level c.args.ratios _ _ c.requires.level _ _ _ c.in_ok-a-in-PythagorasDifference.ensures.points)
+    ReadsFormed-at c.args.form PythagorasDifference c.args.level c.args.ratios _ _ _ c.in-PythagorasDifference.is
+    (ReadsFormed-difference c.args.level c.args.ratios _ _ c.requires.level _ _ _ c.in_ok-a-in-PythagorasDifference.ensures.points)
 
 pub formed-returns-in_ok-a-in-Ratio-clause-ok : goal.formed-returns-in_ok-a-in-Ratio-clause-ok
 formed-returns-in_ok-a-in-Ratio-clause-ok t c =
     let allowed : IsTrue c.args.ratios = c.requires.allowed c.in-Ratio.is in
-    ReadsFormed-at c.args.form Ratio c.args.level c.args.ratios _ _ _ c.in-Ratio.is (ReadsFormed-ratio c.args.level c.args.ratios _ _ c.requires.level _ _ _ _ allowed c.in_ok-a-in-Ratio.ensures.points)
+    ReadsFormed-at c.args.form Ratio c.args.level c.args.ratios _ _ _ c.in-Ratio.is
+    (ReadsFormed-ratio c.args.level c.args.ratios _ _ c.requires.level _ _ _ _ allowed c.in_ok-a-in-Ratio.ensures.points)
 
 pub node-returns-else-not-may_stand-clause-refused : goal.node-returns-else-not-may_stand-clause-refused
 node-returns-else-not-may_stand-clause-refused t c = λ f e.
@@ -43,7 +46,9 @@ node-returns-else-not-may_stand-clause-ok t c =
     let is = next_piece s.cursor.tokens c.peek.result c.in-Some-Word.field-0 (Word c.in-Some-Word.word) c.peek.ensures.lexeme c.in-Some-Word.is c.in-Some-Word.field-0-is in
     let due = c.in-Some.ensures.due c.args.level c.args.ratios in
     let P : Coming → Type 0 = λ k. IfOk c.formed.result (ReadsFormed c.in-Some.form c.args.level c.args.ratios (record s { cursor = k }) c.formed.new.self) in
-    IfOk-weaker c.formed.result _ _ (ReadsNode-form s c.args.level c.args.ratios c.in-Some-Word.word.now is c.in-Some.form (c.may_stand.ensures.0 c.if-not-may_stand.false) c.in-Some.ensures.text due c.formed.new.self)
+    IfOk-weaker c.formed.result _ _
+    (ReadsNode-form s c.args.level c.args.ratios c.in-Some-Word.word.now is c.in-Some.form
+    (c.may_stand.ensures.0 c.if-not-may_stand.false) c.in-Some.ensures.text due c.formed.new.self)
     (subst P c.advance-in-Some.ensures c.formed.ensures.ok)
 
 pub node-returns-in_err-name-in-None-clause-refused : goal.node-returns-in_err-name-in-None-clause-refused
@@ -74,7 +79,8 @@ part-returns-in_err-term-clause-refused t c = λ f e.
 pub part-returns-in_err-close-clause-refused : goal.part-returns-in_err-close-clause-refused
 part-returns-in_err-close-clause-refused t c = λ f e.
     Refuses-then (open_slot c.args.level ∷ []) (expression_slot c.args.level c.args.ratios ∷ close_slot ∷ []) _ _ _ c.in_ok-open.ensures.read f
-    (Refuses-then (expression_slot c.args.level c.args.ratios ∷ []) (close_slot ∷ []) _ _ _ c.in_ok-term.ensures.ok.reads f (c.in_err-close.ensures.refused f (answered _ _ f c.from_residual-in_err-close.ensures.1 e)))
+    (Refuses-then (expression_slot c.args.level c.args.ratios ∷ []) (close_slot ∷ []) _ _ _ c.in_ok-term.ensures.ok.reads f
+    (c.in_err-close.ensures.refused f (answered _ _ f c.from_residual-in_err-close.ensures.1 e)))
 
 pub two_parts-returns-in_err-e-clause-refused : goal.two_parts-returns-in_err-e-clause-refused
 two_parts-returns-in_err-e-clause-refused t c = λ f e.
@@ -82,4 +88,5 @@ two_parts-returns-in_err-e-clause-refused t c = λ f e.
 
 pub two_parts-returns-in_err-f-clause-refused : goal.two_parts-returns-in_err-f-clause-refused
 two_parts-returns-in_err-f-clause-refused t c = λ f e.
-    Refuses-then (a_part c.args.level c.args.first) (a_part c.args.level c.args.second) _ _ _ c.in_ok-e.ensures.ok.reads f (c.in_err-f.ensures.refused f (answered _ _ f c.from_residual-in_err-f.ensures.1 e))
+    Refuses-then (a_part c.args.level c.args.first) (a_part c.args.level c.args.second) _ _ _ c.in_ok-e.ensures.ok.reads f
+    (c.in_err-f.ensures.refused f (answered _ _ f c.from_residual-in_err-f.ensures.1 e))

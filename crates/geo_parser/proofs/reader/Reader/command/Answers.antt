@@ -13,7 +13,8 @@ returns-in-None-clause-ok c =
     let none : command_kind c.args.word ≡ None = sym c.kind.ensures ∙ c.in-None.is in
     let old = c.args.self.now in
     let new = c.arguments.new.self in
-    IfOk-weaker c.arguments.result (ReadsForm c.args.word old new) (ReadsCommand c.args.word old new) (λ command form. ReadsCommand-unnamed c.args.word none old new command c.requires.few form) c.arguments.ensures.ok
+    IfOk-weaker c.arguments.result (ReadsForm c.args.word old new) (ReadsCommand c.args.word old new)
+    (λ command form. ReadsCommand-unnamed c.args.word none old new command c.requires.few form) c.arguments.ensures.ok
 
 pub returns-in-None-clause-refused : goal.returns-in-None-clause-refused
 returns-in-None-clause-refused c = λ f e.

@@ -29,4 +29,5 @@ loop-items-preserved c =
     let word = at_some c.in_ok-word.field-0 c.in-Some.word (λ w. ReadsWord w c.loop-items.self c.command_word.new.self) c.in-Some.is c.in_ok-word.ensures.command in
     let P : List Command → Type 0 = λ cs. ReadsCommands c.args.self.now c.command.new.self cs in
     subst P (sym c.in_ok-push.ensures.items)
-    (ReadsCommands-more c.args.self.now c.loop-items.self c.command_word.new.self c.command.new.self c.loop-items.items.items c.in-Some.word c.in_ok-command.command c.loop-items.invariant word c.in_ok-command.ensures.ok)
+    (ReadsCommands-more c.args.self.now c.loop-items.self c.command_word.new.self c.command.new.self c.loop-items.items.items c.in-Some.word
+    c.in_ok-command.command c.loop-items.invariant word c.in_ok-command.ensures.ok)

@@ -14,7 +14,9 @@ pub returns-in-Err-clause-refused : goal.returns-in-Err-clause-refused
 returns-in-Err-clause-refused c = λ f e kind.
     let s = c.args.self.now in
     let is = next_piece s.cursor.tokens c.peek.result c.in-Some-Word.field-0 (Word c.in-Some-Word.word) c.peek.ensures.lexeme c.in-Some-Word.is c.in-Some-Word.field-0-is in
-    Refuses-answer _ s _ f c.refuse-in-Err.result (Refuses-no_new_name s c.in-Some-Word.word.now is kind c.args.points (refusal_number c.in-Err.refusal) c.in-Err.ensures.refused) c.refuse-in-Err.ensures e
+    Refuses-answer _ s _ f c.refuse-in-Err.result
+    (Refuses-no_new_name s c.in-Some-Word.word.now is kind c.args.points (refusal_number c.in-Err.refusal) c.in-Err.ensures.refused)
+    c.refuse-in-Err.ensures e
 
 pub returns-then-self-points-gt-MOST_POINTS-clause-refused : goal.returns-then-self-points-gt-MOST_POINTS-clause-refused
 returns-then-self-points-gt-MOST_POINTS-clause-refused c = λ f e kind.

@@ -29,4 +29,5 @@ returns-in_err-end-clause-refused c = λ f e.
 
 pub returns-clause-ok : goal.returns-clause-ok
 returns-clause-ok c =
-    ReadsStatement-made _ _ _ _ c.in_ok-word.word c.in_ok-statement.statement c.in_ok-open.ensures.read c.in_ok-word.ensures.ok c.in_ok-statement.ensures.ok _ c.in_ok-close.ensures.read c.in_ok-end.ensures.ended.0 c.in_ok-end.ensures.ended.1
+    ReadsStatement-made _ _ _ _ c.in_ok-word.word c.in_ok-statement.statement c.in_ok-open.ensures.read c.in_ok-word.ensures.ok
+    c.in_ok-statement.ensures.ok _ c.in_ok-close.ensures.read c.in_ok-end.ensures.ended.0 c.in_ok-end.ensures.ended.1

@@ -196,7 +196,9 @@ tell-requires g c =
     let after = slice_index_or c.as_slice-after.result.now k 0 in
     let behind = ap (λ (ns : List ℕ). slice_index_or ns k 0) (c.as_slice-after.ensures.value ∙ ap (λ (q : Problem). q.after) c.problem.view_is) ∙ after_is g.run Q V h k C at old t in
     let made = c.in_ok-make_points.ensures in
-    last_there g.run Q V h k C at old t items through.result late ends nodes stored (k + 1) next met after behind made.passed c.make_points.new.self made.sketch made.points (sym c.names_point.ensures ∙ c.if-names_point.true)
+    last_there g.run Q V h k C at old t items through.result late ends nodes stored
+    (k + 1) next met after behind made.passed c.make_points.new.self made.sketch made.points
+    (sym c.names_point.ensures ∙ c.if-names_point.true)
 
 pub returns-in_err-tell-clause-stops : goal.returns-in_err-tell-clause-stops
 returns-in_err-tell-clause-stops g c =
@@ -222,7 +224,9 @@ returns-in_err-tell-clause-stops g c =
     let made = c.in_ok-make_points.ensures in
     let e = c.in_err-tell.field-0.0 in
     passed_on c.from_residual-in_err-tell.result e (Stops g.run (turns_of g.run.program)) c.from_residual-in_err-tell.ensures.1
-    (tell_fails g.run Q V h k C at old t items through.result late ends nodes stored (k + 1) next met after behind made.passed c.make_points.new.self made.sketch made.points (sym c.names_point.ensures ∙ c.if-names_point.true) e c.in_err-tell.ensures.stops)
+    (tell_fails g.run Q V h k C at old t items through.result late ends nodes stored
+    (k + 1) next met after behind made.passed c.make_points.new.self made.sketch made.points
+    (sym c.names_point.ensures ∙ c.if-names_point.true) e c.in_err-tell.ensures.stops)
 
 pub returns-in_err-test_conditions-2-clause-stops : goal.returns-in_err-test_conditions-2-clause-stops
 returns-in_err-test_conditions-2-clause-stops g c =
@@ -246,17 +250,30 @@ returns-in_err-test_conditions-2-clause-stops g c =
     let after = slice_index_or c.as_slice-after.result.now k 0 in
     let behind = ap (λ (ns : List ℕ). slice_index_or ns k 0) (c.as_slice-after.ensures.value ∙ ap (λ (q : Problem). q.after) c.problem.view_is) ∙ after_is g.run Q V h k C at old t in
     let made = c.in_ok-make_points.ensures in
-    let told : TellsAll g.run Q V h k C at old t items through.result late ends nodes stored (k + 1) next met after behind made.passed c.make_points.new.self made.sketch made.points c.if-names_point.self.sketch c.if-names_point.self.triples.items = elim c.if-names_point.branch [
+    let told : TellsAll g.run Q V h k C at old t items through.result late ends nodes stored
+    (k + 1) next met after behind made.passed c.make_points.new.self made.sketch made.points c.if-names_point.self.sketch
+    c.if-names_point.self.triples.items = elim c.if-names_point.branch [
       | then-names_point+in_ok-tell w ↦
-          subst (λ z. TellsAll g.run Q V h k C at old t items through.result late ends nodes stored (k + 1) next met after behind made.passed c.make_points.new.self made.sketch made.points z.sketch z.triples.items) (sym w.self-is)
-          (one_told g.run Q V h k C at old t items through.result late ends nodes stored (k + 1) next met after behind made.passed c.make_points.new.self made.sketch made.points (sym c.names_point.ensures ∙ w.if-names_point.true) w.tell.new.self.sketch w.in_ok-tell.ensures.sketch w.tell.new.self.triples.items w.in_ok-tell.ensures.triple)
+          subst (λ z. TellsAll g.run Q V h k C at old t items through.result late ends nodes stored
+          (k + 1) next met after behind made.passed c.make_points.new.self made.sketch made.points z.sketch z.triples.items)
+          (sym w.self-is)
+          (one_told g.run Q V h k C at old t items through.result late ends nodes stored
+          (k + 1) next met after behind made.passed c.make_points.new.self made.sketch made.points
+          (sym c.names_point.ensures ∙ w.if-names_point.true) w.tell.new.self.sketch w.in_ok-tell.ensures.sketch
+          w.tell.new.self.triples.items w.in_ok-tell.ensures.triple)
       | else-names_point w ↦
-          subst (λ z. TellsAll g.run Q V h k C at old t items through.result late ends nodes stored (k + 1) next met after behind made.passed c.make_points.new.self made.sketch made.points z.sketch z.triples.items) (sym w.self-is)
-          (none_told g.run Q V h k C at old t items through.result late ends nodes stored (k + 1) next met after behind made.passed c.make_points.new.self made.sketch made.points (sym c.names_point.ensures ∙ w.if-names_point.false))
+          subst (λ z. TellsAll g.run Q V h k C at old t items through.result late ends nodes stored
+          (k + 1) next met after behind made.passed c.make_points.new.self made.sketch made.points z.sketch z.triples.items)
+          (sym w.self-is)
+          (none_told g.run Q V h k C at old t items through.result late ends nodes stored
+          (k + 1) next met after behind made.passed c.make_points.new.self made.sketch made.points
+          (sym c.names_point.ensures ∙ w.if-names_point.false))
     ] in
     let e = c.in_err-test_conditions-2.field-0.0 in
     passed_on c.from_residual-in_err-test_conditions-2.result e (Stops g.run (turns_of g.run.program)) c.from_residual-in_err-test_conditions-2.ensures.1
-    (back_fails g.run Q V h k C at old t items through.result late ends nodes stored (k + 1) next met after behind made.passed c.make_points.new.self made.sketch made.points c.if-names_point.self.sketch c.if-names_point.self.triples.items told e c.in_err-test_conditions-2.ensures.fails)
+    (back_fails g.run Q V h k C at old t items through.result late ends nodes stored
+    (k + 1) next met after behind made.passed c.make_points.new.self made.sketch made.points c.if-names_point.self.sketch
+    c.if-names_point.self.triples.items told e c.in_err-test_conditions-2.ensures.fails)
 
 pub returns-clause-taken : goal.returns-clause-taken
 returns-clause-taken g c =
@@ -280,13 +297,26 @@ returns-clause-taken g c =
     let after = slice_index_or c.as_slice-after.result.now k 0 in
     let behind = ap (λ (ns : List ℕ). slice_index_or ns k 0) (c.as_slice-after.ensures.value ∙ ap (λ (q : Problem). q.after) c.problem.view_is) ∙ after_is g.run Q V h k C at old t in
     let made = c.in_ok-make_points.ensures in
-    let told : TellsAll g.run Q V h k C at old t items through.result late ends nodes stored (k + 1) next met after behind made.passed c.make_points.new.self made.sketch made.points c.if-names_point.self.sketch c.if-names_point.self.triples.items = elim c.if-names_point.branch [
+    let told : TellsAll g.run Q V h k C at old t items through.result late ends nodes stored
+    (k + 1) next met after behind made.passed c.make_points.new.self made.sketch made.points c.if-names_point.self.sketch
+    c.if-names_point.self.triples.items = elim c.if-names_point.branch [
       | then-names_point+in_ok-tell w ↦
-          subst (λ z. TellsAll g.run Q V h k C at old t items through.result late ends nodes stored (k + 1) next met after behind made.passed c.make_points.new.self made.sketch made.points z.sketch z.triples.items) (sym w.self-is)
-          (one_told g.run Q V h k C at old t items through.result late ends nodes stored (k + 1) next met after behind made.passed c.make_points.new.self made.sketch made.points (sym c.names_point.ensures ∙ w.if-names_point.true) w.tell.new.self.sketch w.in_ok-tell.ensures.sketch w.tell.new.self.triples.items w.in_ok-tell.ensures.triple)
+          subst (λ z. TellsAll g.run Q V h k C at old t items through.result late ends nodes stored
+          (k + 1) next met after behind made.passed c.make_points.new.self made.sketch made.points z.sketch z.triples.items)
+          (sym w.self-is)
+          (one_told g.run Q V h k C at old t items through.result late ends nodes stored
+          (k + 1) next met after behind made.passed c.make_points.new.self made.sketch made.points
+          (sym c.names_point.ensures ∙ w.if-names_point.true) w.tell.new.self.sketch w.in_ok-tell.ensures.sketch
+          w.tell.new.self.triples.items w.in_ok-tell.ensures.triple)
       | else-names_point w ↦
-          subst (λ z. TellsAll g.run Q V h k C at old t items through.result late ends nodes stored (k + 1) next met after behind made.passed c.make_points.new.self made.sketch made.points z.sketch z.triples.items) (sym w.self-is)
-          (none_told g.run Q V h k C at old t items through.result late ends nodes stored (k + 1) next met after behind made.passed c.make_points.new.self made.sketch made.points (sym c.names_point.ensures ∙ w.if-names_point.false))
+          subst (λ z. TellsAll g.run Q V h k C at old t items through.result late ends nodes stored
+          (k + 1) next met after behind made.passed c.make_points.new.self made.sketch made.points z.sketch z.triples.items)
+          (sym w.self-is)
+          (none_told g.run Q V h k C at old t items through.result late ends nodes stored
+          (k + 1) next met after behind made.passed c.make_points.new.self made.sketch made.points
+          (sym c.names_point.ensures ∙ w.if-names_point.false))
     ] in
-    command_taken g.run Q V h k C at old t items through.result late ends nodes stored (k + 1) next met after behind made.passed c.make_points.new.self made.sketch made.points c.if-names_point.self.sketch c.if-names_point.self.triples.items told c.in_ok-test_conditions-2.ensures.met
+    command_taken g.run Q V h k C at old t items through.result late ends nodes stored
+    (k + 1) next met after behind made.passed c.make_points.new.self made.sketch made.points c.if-names_point.self.sketch
+    c.if-names_point.self.triples.items told c.in_ok-test_conditions-2.ensures.met
     (record { sketch = c.if-names_point.self.sketch; tested = through.result; triples = c.if-names_point.self.triples }) refl refl refl

@@ -79,17 +79,21 @@ returns-in-Param t c =
 pub returns-in-S : goal.returns-in-S
 returns-in-S t c =
     of_node (placement_of c.args.self.now) c.args.terms.now c.args.e (node.S c.in-S.a c.in-S.b c.in-S.c) c.area.result c.len.ensures.valid c.in-S.ensures
-    (c.area.ensures ((placement_of c.args.self.now).point c.in-S.a.0) ((placement_of c.args.self.now).point c.in-S.b.0) ((placement_of c.args.self.now).point c.in-S.c.0) c.point.ensures c.point-in-S.ensures c.point-in-S-2.ensures)
+    (c.area.ensures ((placement_of c.args.self.now).point c.in-S.a.0) ((placement_of c.args.self.now).point c.in-S.b.0)
+    ((placement_of c.args.self.now).point c.in-S.c.0) c.point.ensures c.point-in-S.ensures c.point-in-S-2.ensures)
 
 pub returns-in-P : goal.returns-in-P
 returns-in-P t c =
     of_node (placement_of c.args.self.now) c.args.terms.now c.args.e (node.P c.in-P.a c.in-P.b c.in-P.c) c.pythagoras.result c.len.ensures.valid c.in-P.ensures
-    (c.pythagoras.ensures ((placement_of c.args.self.now).point c.in-P.a.0) ((placement_of c.args.self.now).point c.in-P.b.0) ((placement_of c.args.self.now).point c.in-P.c.0) c.point-in-P.ensures c.point-in-P-2.ensures c.point-in-P-3.ensures)
+    (c.pythagoras.ensures ((placement_of c.args.self.now).point c.in-P.a.0) ((placement_of c.args.self.now).point c.in-P.b.0)
+    ((placement_of c.args.self.now).point c.in-P.c.0) c.point-in-P.ensures c.point-in-P-2.ensures c.point-in-P-3.ensures)
 
 pub returns-in-R : goal.returns-in-R
 returns-in-R t c =
     of_node (placement_of c.args.self.now) c.args.terms.now c.args.e (node.R c.in-R.a c.in-R.b c.in-R.c c.in-R.d) c.ratio.result c.len.ensures.valid c.in-R.ensures
-    (c.ratio.ensures ((placement_of c.args.self.now).point c.in-R.a.0) ((placement_of c.args.self.now).point c.in-R.b.0) ((placement_of c.args.self.now).point c.in-R.c.0) ((placement_of c.args.self.now).point c.in-R.d.0) c.point-a.ensures c.point-b.ensures c.point-c.ensures c.point-d.ensures)
+    (c.ratio.ensures ((placement_of c.args.self.now).point c.in-R.a.0) ((placement_of c.args.self.now).point c.in-R.b.0)
+    ((placement_of c.args.self.now).point c.in-R.c.0)
+    ((placement_of c.args.self.now).point c.in-R.d.0) c.point-a.ensures c.point-b.ensures c.point-c.ensures c.point-d.ensures)
 
 pub returns-in-Neg : goal.returns-in-Neg
 returns-in-Neg t c =
@@ -99,19 +103,23 @@ returns-in-Neg t c =
 pub returns-in-Add : goal.returns-in-Add
 returns-in-Add t c =
     of_node (placement_of c.args.self.now) c.args.terms.now c.args.e (node.Add c.in-Add.f c.in-Add.g) c.sum_of.result c.len.ensures.valid c.in-Add.ensures
-    (c.sum_of.ensures (reckoned (placement_of c.args.self.now) (tree_of c.args.terms.now c.in-Add.f)) (reckoned (placement_of c.args.self.now) (tree_of c.args.terms.now c.in-Add.g)) c.term-in-Add.ensures c.term-in-Add-2.ensures)
+    (c.sum_of.ensures (reckoned (placement_of c.args.self.now) (tree_of c.args.terms.now c.in-Add.f))
+    (reckoned (placement_of c.args.self.now) (tree_of c.args.terms.now c.in-Add.g)) c.term-in-Add.ensures c.term-in-Add-2.ensures)
 
 pub returns-in-Sub : goal.returns-in-Sub
 returns-in-Sub t c =
     of_node (placement_of c.args.self.now) c.args.terms.now c.args.e (node.Sub c.in-Sub.f c.in-Sub.g) c.difference_of.result c.len.ensures.valid c.in-Sub.ensures
-    (c.difference_of.ensures (reckoned (placement_of c.args.self.now) (tree_of c.args.terms.now c.in-Sub.f)) (reckoned (placement_of c.args.self.now) (tree_of c.args.terms.now c.in-Sub.g)) c.term-in-Sub.ensures c.term-in-Sub-2.ensures)
+    (c.difference_of.ensures (reckoned (placement_of c.args.self.now) (tree_of c.args.terms.now c.in-Sub.f))
+    (reckoned (placement_of c.args.self.now) (tree_of c.args.terms.now c.in-Sub.g)) c.term-in-Sub.ensures c.term-in-Sub-2.ensures)
 
 pub returns-in-Mul : goal.returns-in-Mul
 returns-in-Mul t c =
     of_node (placement_of c.args.self.now) c.args.terms.now c.args.e (node.Mul c.in-Mul.f c.in-Mul.g) c.product_of.result c.len.ensures.valid c.in-Mul.ensures
-    (c.product_of.ensures (reckoned (placement_of c.args.self.now) (tree_of c.args.terms.now c.in-Mul.f)) (reckoned (placement_of c.args.self.now) (tree_of c.args.terms.now c.in-Mul.g)) c.term-in-Mul.ensures c.term-in-Mul-2.ensures)
+    (c.product_of.ensures (reckoned (placement_of c.args.self.now) (tree_of c.args.terms.now c.in-Mul.f))
+    (reckoned (placement_of c.args.self.now) (tree_of c.args.terms.now c.in-Mul.g)) c.term-in-Mul.ensures c.term-in-Mul-2.ensures)
 
 pub returns-in-Div : goal.returns-in-Div
 returns-in-Div t c =
     of_node (placement_of c.args.self.now) c.args.terms.now c.args.e (node.Div c.in-Div.f c.in-Div.g) c.quotient_of.result c.len.ensures.valid c.in-Div.ensures
-    (c.quotient_of.ensures (reckoned (placement_of c.args.self.now) (tree_of c.args.terms.now c.in-Div.f)) (reckoned (placement_of c.args.self.now) (tree_of c.args.terms.now c.in-Div.g)) c.term-in-Div.ensures c.term-in-Div-2.ensures)
+    (c.quotient_of.ensures (reckoned (placement_of c.args.self.now) (tree_of c.args.terms.now c.in-Div.f))
+    (reckoned (placement_of c.args.self.now) (tree_of c.args.terms.now c.in-Div.g)) c.term-in-Div.ensures c.term-in-Div-2.ensures)

@@ -10,7 +10,11 @@ make_point-requires g c =
     let n = length c.args.self.now.points.items in
     let low : n ≤ c.loop.counter = let a = c.loop.auto.counter in let b = c.len-counter.ensures in let d = c.args.self.now.points.ok.0 in omega (arith, a, b, d) in (
       c.requires.0,
-      (c.loop.invariant.sketch_of, below g.run n c.args.to c.args.line c.args.problem.now c.args.values.now c.requires.0 c.requires.1.1.1 c.loop.counter c.loop.self c.loop.invariant low c.loop-test.true),
+      (
+        c.loop.invariant.sketch_of,
+        below g.run n c.args.to c.args.line c.args.problem.now c.args.values.now c.requires.0 c.requires.1.1.1
+            c.loop.counter c.loop.self c.loop.invariant low c.loop-test.true,
+      ),
     )
 
 pub returns-in_err-make_point-clause-stops : goal.returns-in_err-make_point-clause-stops

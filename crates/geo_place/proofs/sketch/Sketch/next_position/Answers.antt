@@ -22,7 +22,9 @@ returns-in_default g c =
     let a : AreResults c.step.result (step_spot P c.len.result (step_form nodes c.args.step)) =
     subst (λ ns. AreResults c.step.result (step_spot P c.len.result (step_form ns c.args.step))) c.look-terms.ensures c.step.ensures in
     let r = next_reckoned g.run c.args.problem.now c.args.values.now c.requires.0 c.args.self.now c.requires.1.0 c.args.step c.requires.1.1
-    (λ e. c.in_default.not-Point (form_free nodes c.args.step e)) c.args.line c.len.result (c.len.ensures ∙ c.args.self.now.points.ok.0) c.step.result a c.position_of.result c.position_of.ensures.position c.position_of.ensures.refused in
+    (λ e. c.in_default.not-Point (form_free nodes c.args.step e)) c.args.line c.len.result
+    (c.len.ensures ∙ c.args.self.now.points.ok.0) c.step.result a c.position_of.result c.position_of.ensures.position
+    c.position_of.ensures.refused in
     record { position = r.position; passed = r.passed; stops = r.stops }
 
 pub returns-in-Point-clause-position : goal.returns-in-Point-clause-position

@@ -18,7 +18,8 @@ both_more : (a b : ℕ) → nat_cmp (suc a) (suc b) ≡ nat_cmp a b
 both_more a b = grind (arith, nat_tests)
 
 -- where one list has run out, the lengths decide
-by_length : {X : Type 0} (R : X → X → Ordering) (xs ys : List X) (i : ℕ) → i ≤ length xs → i ≤ length ys → (length xs ≤ i) ⊎ (length ys ≤ i) → nat_cmp (length xs) (length ys) ≡ slice_cmp R (drop i xs) (drop i ys)
+by_length : {X : Type 0} (R : X → X → Ordering) (xs ys : List X) (i : ℕ) → i ≤ length xs → i ≤ length ys → (length xs ≤ i) ⊎ (length ys ≤ i)
+    → nat_cmp (length xs) (length ys) ≡ slice_cmp R (drop i xs) (drop i ys)
 by_length R [] [] zero h g past = refl
 by_length R [] (y ∷ ys) zero h g past = below 0 (length (y ∷ ys)) (omega arith)
 by_length R (x ∷ xs) [] zero h g past = above (length (x ∷ xs)) 0 (omega arith)

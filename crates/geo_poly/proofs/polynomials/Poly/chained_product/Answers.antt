@@ -20,7 +20,9 @@ product_chain-requires-clause-left g c =
 
 pub product_chain-requires-clause-fits : goal.product_chain-requires-clause-fits
 product_chain-requires-clause-fits g c =
-    let left = in_grown c.as_slice-vars.result.now c.moved.new.store c.moved-2.new.store c.in_ok-left.left.items c.deref.result.now c.args.self.now c.deref.ensures.value c.in_ok-right.ensures.kept c.in_ok-left.ensures.indices (c.in_ok-left.ensures.terms ∙ c.shared.ensures.terms) in
+    let left = in_grown c.as_slice-vars.result.now c.moved.new.store c.moved-2.new.store c.in_ok-left.left.items c.deref.result.now
+    c.args.self.now c.deref.ensures.value c.in_ok-right.ensures.kept c.in_ok-left.ensures.indices
+    (c.in_ok-left.ensures.terms ∙ c.shared.ensures.terms) in
     let right = ap (terms_of c.as_slice-vars.result.now c.moved-2.new.store) c.deref-2.ensures.value ∙ c.in_ok-right.ensures.terms ∙ c.shared-2.ensures.terms in
     subst (λ (p : Summands). CanMultiply p (terms_of c.as_slice-vars.result.now c.moved-2.new.store c.deref-2.result.now)) (sym left)
     (subst (λ (q : Summands). CanMultiply c.args.self.now q) (sym right) c.requires.fits)
@@ -28,7 +30,9 @@ product_chain-requires-clause-fits g c =
 pub returns-clause-chain : goal.returns-clause-chain
 returns-clause-chain g c =
     let vars = c.as_slice-vars.result.now in
-    let left = in_grown c.as_slice-vars.result.now c.moved.new.store c.moved-2.new.store c.in_ok-left.left.items c.deref.result.now c.args.self.now c.deref.ensures.value c.in_ok-right.ensures.kept c.in_ok-left.ensures.indices (c.in_ok-left.ensures.terms ∙ c.shared.ensures.terms) in
+    let left = in_grown c.as_slice-vars.result.now c.moved.new.store c.moved-2.new.store c.in_ok-left.left.items c.deref.result.now
+    c.args.self.now c.deref.ensures.value c.in_ok-right.ensures.kept c.in_ok-left.ensures.indices
+    (c.in_ok-left.ensures.terms ∙ c.shared.ensures.terms) in
     let right = ap (terms_of c.as_slice-vars.result.now c.moved-2.new.store) c.deref-2.ensures.value ∙ c.in_ok-right.ensures.terms ∙ c.shared-2.ensures.terms in
     IfOk-weaker c.product_chain.result _ _
     (λ v h. subst (λ (vs : List Var). StandsFor vs c.product_chain.new.store c.product_chain.new.arena v (product_of c.args.self.now c.args.other.now)) c.as_slice-vars.ensures

@@ -9,8 +9,8 @@ use Rattle.geo_poly.specs.Variables.{var_cmp}
 use Rattle.geo_poly.proofs.ChainSwaps.{AreStored-kept}
 use Rattle.geo_poly.proofs.polynomials.Poly.chained_replacement.Goals as goal
 
-pub replaced_chain-requires-clause-set : goal.replaced_chain-requires-clause-set
-replaced_chain-requires-clause-set g c =
+pub nested_chain-requires-clause-set : goal.nested_chain-requires-clause-set
+nested_chain-requires-clause-set g c =
     let vars = c.as_slice-vars.result.now in
     let s1 = c.stored_rows.new.store in
     let s2 = c.stored_terms.new.store in

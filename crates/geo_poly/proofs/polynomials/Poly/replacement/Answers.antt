@@ -8,5 +8,6 @@ pub from_chain-requires-clause-polynomial : goal.from_chain-requires-clause-poly
 from_chain-requires-clause-polynomial g c =
     let rows = c.args.rows.now in
     let den = c.args.den.now in
-    let whole = subst (λ (n : ℕ). IsPolynomial (polynomial_of (replaced_terms rows den.poly n c.args.self.now))) c.requires.top (IsPolynomial-replaced rows den c.args.top c.args.self.now c.requires.can) in
+    let whole = subst (λ (n : ℕ). IsPolynomial (polynomial_of (replaced_terms rows den.poly n c.args.self.now))) c.requires.top
+    (IsPolynomial-replaced rows den c.args.top c.args.self.now c.requires.can) in
     subst IsPolynomial (sym c.in_ok-chain.ensures.chain.terms) whole

@@ -11,7 +11,8 @@ pub returns : goal.returns
 returns c =
     let r = c.args.self.now in
     let links = c.self.inside.monos in
-    let whole : record { vars = c.as_slice.result.now; links = c.self.inside.monos } ≡ c.args.self.now = ap (λ (vs : List Var). record { vars = vs; links = links }) c.as_slice.ensures ∙ c.self.view_is in
+    let whole : record { vars = c.as_slice.result.now; links = c.self.inside.monos } ≡ c.args.self.now = ap
+    (λ (vs : List Var). record { vars = vs; links = links }) c.as_slice.ensures ∙ c.self.view_is in
     let left = ap₂ (λ (x : RingValue) (list : Indices). polynomial_in x list) whole (c.deref.ensures.value ∙ c.left.view_is) in
     let right = ap₂ (λ (x : RingValue) (list : Indices). polynomial_in x list) whole (c.deref-2.ensures.value ∙ c.right.view_is) in
     made_element r c.as_slice.result.now links c.in_ok-list.list.items _ whole (rw c.as_slice.ensures c.self.invariant) c.in_ok-list.ensures.indices (c.in_ok-list.ensures.sum ∙ ap₂ sum_of left right)

@@ -11,7 +11,7 @@ use Rattle.geo_poly.specs.declared.stored.Stored.{Stored}
 use Rattle.geo_poly.specs.declared.variables.Var.{Var}
 use Rattle.geo_poly.specs.Monomials.{Powers}
 use Rattle.geo_poly.specs.Polynomials.{term_at}
-use Rattle.geo_poly.specs.Shared.{Indices, IsIndex, IsShared, named, powers_at, term_of, terms_of}
+use Rattle.geo_poly.specs.Shared.{Indices, IsIndex, IsShared, named, powers_at, term_of}
 use Rattle.geo_poly.specs.Stored.{stored_terms}
 use Rattle.geo_poly.proofs.Told.{item, length-terms_of}
 use Rattle.geo_poly.proofs.stored.Stored.mono_at.Goals as goal

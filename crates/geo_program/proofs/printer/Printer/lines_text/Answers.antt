@@ -9,4 +9,6 @@ use Rattle.geo_program.proofs.printer.Printer.lines_text.Goals as goal
 pub returns : goal.returns
 returns c =
     let spelling = flat_map (argument_lexemes c.args.self.now.names) (line_argument c.args.a ∷ line_argument c.args.b ∷ []) in
-    begins_line [] _ _ (word_lexeme c.args.word.now) spelling (c.in_ok-extend_from_slice.ensures.items ∙ ap (λ (l : List ℕ). l ++ c.args.word.now) c.new-bytes.ensures.items) (appends _ _ spelling c.in_ok-push_lines.ensures)
+    begins_line [] _ _ (word_lexeme c.args.word.now) spelling
+    (c.in_ok-extend_from_slice.ensures.items ∙ ap (λ (l : List ℕ). l ++ c.args.word.now) c.new-bytes.ensures.items)
+    (appends _ _ spelling c.in_ok-push_lines.ensures)

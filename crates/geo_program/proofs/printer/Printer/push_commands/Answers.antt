@@ -28,7 +28,8 @@ push_command-requires-clause-arguments c =
 
 pub push_command-requires-clause-stored : goal.push_command-requires-clause-stored
 push_command-requires-clause-stored c =
-    (next_command c.args.names.now c.args.self.now.terms.now c.loop-command.left.now c.args.commands.now c.loop-command.command-index Point c.loop-command.invariant.left c.loop-command-test.true).stored
+    (next_command c.args.names.now c.args.self.now.terms.now c.loop-command.left.now c.args.commands.now c.loop-command.command-index Point
+    c.loop-command.invariant.left c.loop-command-test.true).stored
 
 pub loop-command-preserved : goal.loop-command-preserved
 loop-command-preserved c =
@@ -45,7 +46,8 @@ loop-command-preserved c =
     ∙ ap (λ (all : List Name). c.loop-command.out.items ++ line_text (command_lexemes all nodes c.split_at.result.0.now command)) c.requires.names
     ∙ ap (λ (mine : List Name). c.loop-command.out.items ++ line_text (command_lexemes names nodes mine command)) own in
     record {
-      text = written_next names nodes left commands i Point c.loop-command.invariant.left c.loop-command-test.true _ _ _ _ c.split_at.result.1.now later c.loop-command.invariant.text line c.in_ok-push.ensures.items;
+      text = written_next names nodes left commands i Point c.loop-command.invariant.left c.loop-command-test.true _ _ _ _
+          c.split_at.result.1.now later c.loop-command.invariant.text line c.in_ok-push.ensures.items;
       left = subst (λ (ns : List Name). AreLeft names nodes ns (drop (i + 1) commands)) (sym later)
           (next_left names nodes left commands i Point c.loop-command.invariant.left c.loop-command-test.true);
     }

@@ -9,7 +9,9 @@ use Rattle.proof_log.proofs.reader.Reader.all_terms.Goals as goal
 pub returns-in_err-norm-clause-bad : goal.returns-in_err-norm-clause-bad
 returns-in_err-norm-clause-bad c = λ is.
     let P : Summands → Type 0 = λ l. RefusesTerm c.args.self.now l in
-    first_term_refused c.args.self.now c.requires (subst P c.new.ensures.items (c.in_err-norm.ensures.bad (ap Err (bad_error c.from_residual.result c.in_err-norm.field-0.0 BadLine c.from_residual.ensures.1 is))))
+    first_term_refused c.args.self.now c.requires
+    (subst P c.new.ensures.items (c.in_err-norm.ensures.bad
+    (ap Err (bad_error c.from_residual.result c.in_err-norm.field-0.0 BadLine c.from_residual.ensures.1 is))))
 
 pub loop-alloc-init : goal.loop-alloc-init
 loop-alloc-init c =
@@ -24,14 +26,17 @@ returns-in_err-ok_or-clause-bad c = λ _.
 
 pub returns-in_err-norm-2-clause-bad : goal.returns-in_err-norm-2-clause-bad
 returns-in_err-norm-2-clause-bad c = λ is.
-    let space = from_ok_or (λ _. c.loop-alloc.self ≡ codes " " ++ c.literal.new.self) c.literal.result BadLine c.ok_or.result c.in_ok-ok_or.field-0 c.ok_or.ensures.value c.in_ok-ok_or.was c.literal.ensures.some in
+    let space = from_ok_or (λ _. c.loop-alloc.self ≡ codes " " ++ c.literal.new.self) c.literal.result BadLine c.ok_or.result
+    c.in_ok-ok_or.field-0 c.ok_or.ensures.value c.in_ok-ok_or.was c.literal.ensures.some in
     terms_refused c.args.self.now c.loop-alloc.self c.loop-alloc.list c.loop-alloc.norm c.loop-alloc.invariant c.literal.new.self space
     (c.in_err-norm-2.ensures.bad (ap Err (bad_error c.from_residual-in_err-norm-2.result c.in_err-norm-2.field-0.0 BadLine c.from_residual-in_err-norm-2.ensures.1 is)))
 
 pub loop-alloc-preserved : goal.loop-alloc-preserved
 loop-alloc-preserved c =
-    let space = from_ok_or (λ _. c.loop-alloc.self ≡ codes " " ++ c.literal.new.self) c.literal.result BadLine c.ok_or.result c.in_ok-ok_or.field-0 c.ok_or.ensures.value c.in_ok-ok_or.was c.literal.ensures.some in
-    terms_step c.args.self.now c.loop-alloc.self c.loop-alloc.list c.loop-alloc.norm c.loop-alloc.invariant c.literal.new.self space c.push_term-in-loop-alloc.new.self c.push_term-in-loop-alloc.new.list c.in_ok-norm-2.norm c.in_ok-norm-2.ensures.read
+    let space = from_ok_or (λ _. c.loop-alloc.self ≡ codes " " ++ c.literal.new.self) c.literal.result BadLine c.ok_or.result
+    c.in_ok-ok_or.field-0 c.ok_or.ensures.value c.in_ok-ok_or.was c.literal.ensures.some in
+    terms_step c.args.self.now c.loop-alloc.self c.loop-alloc.list c.loop-alloc.norm c.loop-alloc.invariant c.literal.new.self space
+    c.push_term-in-loop-alloc.new.self c.push_term-in-loop-alloc.new.list c.in_ok-norm-2.norm c.in_ok-norm-2.ensures.read
 
 pub returns-clause-read : goal.returns-clause-read
 returns-clause-read c = terms_end c.args.self.now c.loop-alloc.self c.loop-alloc.list c.loop-alloc.norm c.loop-alloc.invariant (c.is_at_end.ensures.0 c.loop-alloc-test.false)

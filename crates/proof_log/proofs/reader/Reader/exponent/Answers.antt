@@ -3,7 +3,9 @@ use Rattle.std.specs.Prelude.{slice_get, Some}
 use Rattle.proof_log.specs.Inner.Reading.{is_exponent_byte}
 use Rattle.proof_log.proofs.Found.{exponent_unfit, next_is}
 use Rattle.proof_log.proofs.Unique.{not_stopped}
-use Rattle.proof_log.proofs.reader.Reader.exponent.Goals.{then-exponent-lt2-via-then-exponent-lt2, then-exponent-lt2-via-else-exponent-lt2+then-exponent-gt-MAX_DEGREE, then-exponent-lt2-via-else-exponent-lt2+else-exponent-gt-MAX_DEGREE+then-is_next}
+use Rattle.proof_log.proofs.reader.Reader.exponent.Goals.{then-exponent-lt2-via-then-exponent-lt2}
+use Rattle.proof_log.proofs.reader.Reader.exponent.Goals.{then-exponent-lt2-via-else-exponent-lt2+then-exponent-gt-MAX_DEGREE}
+use Rattle.proof_log.proofs.reader.Reader.exponent.Goals.{then-exponent-lt2-via-else-exponent-lt2+else-exponent-gt-MAX_DEGREE+then-is_next}
 use Rattle.proof_log.proofs.reader.Reader.exponent.Goals as goal
 
 pub returns-then-exponent-lt2-clause-none : goal.returns-then-exponent-lt2-clause-none

@@ -7,4 +7,9 @@ use Rattle.proof_log.proofs.Growth.{bad_error, from_ok_or}
 use Rattle.proof_log.proofs.reader.Reader.last_natural.Goals as goal
 
 pub returns-in_err-end-clause-bad : goal.returns-in_err-end-clause-bad
-returns-in_err-end-clause-bad c = λ is. last_not_ended 64 (lit≤ tt) c.args.self.now c.in_ok-number.number c.natural.new.self (from_ok_or (λ z. Begins (naturals 64) c.args.self.now z c.natural.new.self) c.natural.result BadLine c.ok_or.result c.in_ok-number.number c.ok_or.ensures.value c.in_ok-number.was c.natural.ensures.some) (c.in_err-end.ensures.bad (ap Err (bad_error c.from_residual-in_err-end.result c.in_err-end.field-0.0 BadLine c.from_residual-in_err-end.ensures.1 is)))
+returns-in_err-end-clause-bad c =
+    λ is. last_not_ended 64 (lit≤ tt) c.args.self.now c.in_ok-number.number c.natural.new.self
+    (from_ok_or (λ z. Begins (naturals 64) c.args.self.now z c.natural.new.self) c.natural.result BadLine c.ok_or.result
+    c.in_ok-number.number c.ok_or.ensures.value c.in_ok-number.was c.natural.ensures.some)
+    (c.in_err-end.ensures.bad (ap Err
+    (bad_error c.from_residual-in_err-end.result c.in_err-end.field-0.0 BadLine c.from_residual-in_err-end.ensures.1 is)))

@@ -15,4 +15,6 @@ returns-in_err-value-clause-bad c = λ _.
 pub loop-self-preserved : goal.loop-self-preserved
 loop-self-preserved c =
     subst (λ (l : List (Var × ℤ)). AreValuesRead c.args.self.now c.value.new.self l) (sym c.in_ok-push.ensures.items)
-    (values_step c.args.self.now c.loop-self.self c.loop-self.items.items c.loop-self.invariant c.in_ok-value.value c.value.new.self (from_ok_or (λ z. Begins single_values c.loop-self.self z c.value.new.self) c.value.result BadLine c.ok_or.result c.in_ok-value.value c.ok_or.ensures.value c.in_ok-value.was c.value.ensures.some))
+    (values_step c.args.self.now c.loop-self.self c.loop-self.items.items c.loop-self.invariant c.in_ok-value.value c.value.new.self
+    (from_ok_or (λ z. Begins single_values c.loop-self.self z c.value.new.self) c.value.result BadLine c.ok_or.result
+    c.in_ok-value.value c.ok_or.ensures.value c.in_ok-value.was c.value.ensures.some))

@@ -1,0 +1,2 @@
+-- The definitions on programs.
+pub mod Programs

@@ -1,0 +1,148 @@
+-- What a nested sum makes of one term, and of two parts that are added and get what all share.
+use Rattle.std.proofs.Common.{◌≡◌, ℕ, ◌+◌, ◌^◌, ◌<◌, ◌≤◌, ℤ, List, [], ◌∷◌, drop, get_or, length, map, sym, ap, ap₂, subst, ◌∙◌, take, unsigned_abs, arith}
+use Rattle.std.specs.Prelude.{All}
+use Rattle.std.proofs.lemmas.List.{append-nil}
+use Rattle.std.proofs.lemmas.List.Elements.{All-head}
+use Rattle.std.proofs.lemmas.List.Sums.{sum_by-cons}
+use Rattle.sparse_lists.specs.SparseLists.{AllKeys, IsCanonical}
+use Rattle.sparse_lists.proofs.Canonical.{canonical_self}
+use Rattle.mono_store.specs.Stores.{Keeps, Links}
+use Rattle.poly_arena.specs.Chains.{Chains, Merges, Pairs, pairs_of}
+use Rattle.geo_poly.specs.Chained.{AddsChain, StandsFor, keyed_terms}
+use Rattle.geo_poly.specs.declared.pending.Pending.{Pending}
+use Rattle.geo_poly.specs.declared.replacement.Piece.{Piece}
+use Rattle.geo_poly.specs.declared.settings.Setting.{Setting}
+use Rattle.geo_poly.specs.declared.shared.Shared.{Shared}
+use Rattle.geo_poly.specs.declared.variables.Var.{Var}
+use Rattle.geo_poly.specs.Inner.Factored.{Factored, IsPending, degree_with, factored_products, factored_terms, factored_weight, pieces_of, products_with, times_pieces, told_pending, weight_with}
+use Rattle.geo_poly.specs.Inner.Settings.{IsSet}
+use Rattle.geo_poly.specs.Monomials.{IsMonomial, Powers, degree_of}
+use Rattle.geo_poly.specs.Polynomials.{Summands, coefficients, norm_of, polynomial_of, sum_of, term_cmp, total_degree}
+use Rattle.geo_poly.specs.Replace.{others}
+use Rattle.geo_poly.specs.Shared.{told_powers}
+use Rattle.geo_poly.proofs.ChainPowers.{some}
+use Rattle.geo_poly.proofs.ChainSteps.{AddsChain-merges, live-differs}
+use Rattle.geo_poly.proofs.ChainSums.{sum_is}
+use Rattle.geo_poly.proofs.FactoredTerms.{IsCanonical-times_pieces, monomials_of_sum}
+use Rattle.geo_poly.proofs.NestedSums.{all_deeper, all_within, degree_left, good_terms, norm_left, whole_products, whole_sum}
+use Rattle.geo_poly.proofs.Orders.{term_order}
+use Rattle.geo_poly.proofs.PolynomialLaws.{coefficients_add}
+use Rattle.geo_poly.proofs.ReplaceTerms.{IsCanonical-polynomial_of, IsMonomial-others}
+
+-- TWO CHAINS, MERGED INTO THE FIRST
+module _ (vars : List Var) (s1 s2 : Links) (kept : Keeps s1 s2) (a0 a1 a2 a3 : Chains) (sum rest whole : ℕ) (p q w : Summands) (adds : AddsChain a0 a1 sum)
+    (more : AddsChain a1 a2 rest) (stands : StandsFor vars s1 a1 sum p) (second : StandsFor vars s2 a2 rest q) (is : whole ≡ sum) where
+  pub joined_adds : (list : Pairs) → Merges a2 a3 sum rest list → AddsChain a0 a3 whole
+  joined_adds list merges =
+      subst (AddsChain a0 a3) (sym is) (AddsChain-merges a0 a1 a2 a3 sum rest list adds more (live-differs a1 sum rest stands.live more.unused) merges)
+
+  pub joined_stands : StandsFor vars s2 a3 sum (sum_of (keyed_terms vars s2 (pairs_of a2 sum)) (keyed_terms vars s2 (pairs_of a2 rest))) → sum_of p q ≡ w → StandsFor vars s2 a3 whole w
+  joined_stands made e =
+      subst (λ (n : ℕ). StandsFor vars s2 a3 n w) (sym is)
+      (subst (λ (x : Summands). StandsFor vars s2 a3 sum x) (sum_is vars s1 s2 kept a1 a2 sum rest p q stands more second ∙ e) made)
+
+-- WHAT ALL SHARE, MULTIPLIED INTO THE SUM
+module _ (setting : Setting) (links : Links) (set : IsSet setting links) (p : Shared) (depth n : ℕ) (first : List ℕ) (es : List Pending)
+    (share : All (λ (e : Pending). take n (drop depth e.factors.items) ≡ take n first) es) (pending : All (IsPending setting p depth) es)
+    (norm : factored_weight (map (told_pending setting p depth) es) < 2 ^ 127) (long : 1 ≤ length es) (factors : List ℕ) (factors-is : factors ≡ take n first)
+    (base : Summands) (base-is : base ≡ polynomial_of (factored_terms (map (told_pending setting p (depth + n)) es))) where
+  abbrev deep : List Factored
+  deep = map (told_pending setting p (depth + n)) es
+
+  abbrev made : Summands
+  made = polynomial_of (factored_terms deep)
+
+  abbrev pieces : List ℕ → List Piece
+  pieces ks = pieces_of setting.rows.now setting.den.piece.now ks
+
+  pub joined_order : IsCanonical term_cmp coefficients base
+  joined_order = subst (λ (x : Summands). IsCanonical term_cmp coefficients x) (sym base-is) (IsCanonical-polynomial_of (factored_terms deep))
+
+  pub joined_monomials : AllKeys IsMonomial base
+  joined_monomials =
+      subst (λ (x : Summands). AllKeys IsMonomial x) (sym base-is)
+      (monomials_of_sum 65535 deep (omega arith) (good_terms setting links set p (depth + n) es)
+      (all_within setting links set p (depth + n) es (all_deeper setting links set p depth n first es share pending)))
+
+  pub joined_norm : weight_with (pieces_of setting.rows.now setting.den.piece.now factors) (norm_of base) < 2 ^ 127
+  joined_norm =
+      subst (λ (ks : List ℕ). weight_with (pieces ks) (norm_of base) < 2 ^ 127) (sym factors-is)
+      (subst (λ (x : Summands). weight_with (pieces (take n first)) (norm_of x) < 2 ^ 127) (sym base-is) (norm_left setting links set p depth n first es share pending norm))
+
+  pub joined_degree : degree_with (pieces_of setting.rows.now setting.den.piece.now factors) (total_degree base) ≤ 65535
+  joined_degree =
+      subst (λ (ks : List ℕ). degree_with (pieces ks) (total_degree base) ≤ 65535) (sym factors-is)
+      (subst (λ (x : Summands). degree_with (pieces (take n first)) (total_degree x) ≤ 65535) (sym base-is) (degree_left setting links set p depth n first es share pending norm long))
+
+  pub joined_made : times_pieces (pieces_of setting.rows.now setting.den.piece.now factors) base ≡ polynomial_of (factored_terms (map (told_pending setting p depth) es))
+  joined_made =
+      ap₂ (λ (ks : List ℕ) (x : Summands). times_pieces (pieces ks) x) factors-is base-is ∙ whole_sum setting links set p depth n first es share pending norm
+
+  pub joined_products : (size : ℕ) → size ≡ length base
+      → factored_products (map (told_pending setting p (depth + n)) es) + products_with (pieces_of setting.rows.now setting.den.piece.now factors) size
+      ≤ factored_products (map (told_pending setting p depth) es)
+  joined_products size e =
+      subst (λ (ks : List ℕ). factored_products deep + products_with (pieces ks) size ≤ factored_products (map (told_pending setting p depth) es)) (sym factors-is)
+      (whole_products setting links set p depth n first es share pending norm size (let same : size ≡ length made = e ∙ ap length base-is in omega (arith, same)))
+
+-- ONE TERM
+pub alone : (es : List Pending) (e : Pending) → 1 ≤ length es → length es < 2 → e ≡ get_or es 0 e → es ≡ e ∷ []
+alone [] e some few at = absurd (omega arith)
+alone (u ∷ []) e some few at = ap (λ (x : Pending). x ∷ []) (sym at)
+alone (u ∷ w ∷ es) e some few at = absurd (omega arith)
+
+module _ (setting : Setting) (p : Shared) (depth : ℕ) (e : Pending) (es : List Pending) (one : es ≡ e ∷ []) (pending : All (IsPending setting p depth) es) where
+  pub lone_pending : IsPending setting p depth e
+  lone_pending = All-head (IsPending setting p depth) e [] (subst (All (IsPending setting p depth)) one pending)
+
+  abbrev lone_told : List Factored
+  lone_told = map (told_pending setting p depth) es
+
+  abbrev lone_term : Powers × ℤ
+  lone_term = (others setting.rows.now (told_powers p e.id), e.coefficient)
+
+  abbrev lone_pieces : List ℕ → List Piece
+  lone_pieces ks = pieces_of setting.rows.now setting.den.piece.now ks
+
+  told-is : lone_told ≡ (lone_pieces (drop depth e.factors.items), lone_term) ∷ []
+  told-is = ap (map (told_pending setting p depth)) one
+
+  module _ (factors : List ℕ) (factors-is : factors ≡ drop depth e.factors.items) (base : Summands) (base-is : base ≡ (others setting.rows.now (told_powers p e.id), e.coefficient) ∷ []) where
+    lone_canonical : IsCanonical term_cmp coefficients (lone_term ∷ [])
+    lone_canonical = (some (unsigned_abs e.coefficient) lone_pending.nonzero, tt, tt)
+
+    pub lone_order : IsCanonical term_cmp coefficients base
+    lone_order = subst (λ (x : Summands). IsCanonical term_cmp coefficients x) (sym base-is) lone_canonical
+
+    pub lone_monomials : AllKeys IsMonomial base
+    lone_monomials = subst (λ (x : Summands). AllKeys IsMonomial x) (sym base-is) (IsMonomial-others setting.rows.now (told_powers p e.id) lone_pending.monomial, tt)
+
+    pub lone_norm : factored_weight (map (told_pending setting p depth) es) < 2 ^ 127 → weight_with (pieces_of setting.rows.now setting.den.piece.now factors) (norm_of base) < 2 ^ 127
+    lone_norm norm =
+        let size : norm_of base ≡ unsigned_abs e.coefficient = ap norm_of base-is ∙ sum_by-cons (λ (t : Powers × ℤ). unsigned_abs t.1) lone_term [] ∙ omega arith in
+        let all : factored_weight lone_told ≡ weight_with (lone_pieces (drop depth e.factors.items)) (unsigned_abs e.coefficient) =
+        ap factored_weight told-is ∙ sum_by-cons (λ (f : Factored). weight_with f.0 (unsigned_abs f.1.1)) (lone_pieces (drop depth e.factors.items), lone_term) [] ∙ omega arith in
+        let here = ap₂ (λ (ks : List ℕ) (w : ℕ). weight_with (lone_pieces ks) w) factors-is size in
+        omega (arith, norm, all, here)
+
+    pub lone_degree : degree_with (pieces_of setting.rows.now setting.den.piece.now factors) (total_degree base) ≤ 65535
+    lone_degree =
+        let degree : total_degree base ≡ degree_of lone_term.0 = ap total_degree base-is ∙ omega arith in
+        let here = ap₂ (λ (ks : List ℕ) (d : ℕ). degree_with (lone_pieces ks) d) factors-is degree in
+        omega (arith, lone_pending.degree, here)
+
+    pub lone_made : times_pieces (pieces_of setting.rows.now setting.den.piece.now factors) base ≡ polynomial_of (factored_terms (map (told_pending setting p depth) es))
+    lone_made =
+        let qs = lone_pieces (drop depth e.factors.items) in
+        ap₂ (λ (ks : List ℕ) (x : Summands). times_pieces (lone_pieces ks) x) factors-is base-is
+        ∙ sym (canonical_self term_cmp coefficients term_order coefficients_add (times_pieces qs (lone_term ∷ [])) (IsCanonical-times_pieces qs (lone_term ∷ []) lone_canonical))
+        ∙ ap polynomial_of (sym (append-nil (times_pieces qs (lone_term ∷ []))))
+        ∙ ap (λ (fs : List Factored). polynomial_of (factored_terms fs)) (sym told-is)
+
+    pub lone_products : (size : ℕ) → size ≡ length base → products_with (pieces_of setting.rows.now setting.den.piece.now factors) size ≤ factored_products (map (told_pending setting p depth) es)
+    lone_products size size-is =
+        let long : size ≡ 1 = size-is ∙ ap length base-is in
+        let all : factored_products lone_told ≡ products_with (lone_pieces (drop depth e.factors.items)) 1 =
+        ap factored_products told-is ∙ sum_by-cons (λ (f : Factored). products_with f.0 1) (lone_pieces (drop depth e.factors.items), lone_term) [] ∙ omega arith in
+        let here = ap₂ (λ (ks : List ℕ) (k : ℕ). products_with (lone_pieces ks) k) factors-is long in
+        omega (arith, all, here)

@@ -1,0 +1,214 @@
+-- Nested sums: what terms share is multiplied in after they are added.
+use Rattle.std.proofs.Common.{◌≡◌, ℕ, zero, suc, ◌+◌, ◌-◌, ◌^◌, ◌<◌, ◌≤◌, List, [], ◌∷◌, ◌++◌, drop, length, map, refl, sym, ap, ap₂, ◌∙◌, take, unsigned_abs, arith}
+use Rattle.std.specs.Prelude.{All}
+use Rattle.std.proofs.lemmas.List.{drop-drop, map-append, take-append-drop}
+use Rattle.std.proofs.lemmas.List.Elements.{All-cons, All-head, All-nil, All-tail}
+use Rattle.std.proofs.lemmas.List.Sums.{sum_by-append}
+use Rattle.mono_store.specs.Stores.{Links}
+use Rattle.geo_poly.specs.declared.pending.Pending.{Pending}
+use Rattle.geo_poly.specs.declared.replacement.Piece.{Piece}
+use Rattle.geo_poly.specs.declared.replacement.Row.{Row}
+use Rattle.geo_poly.specs.declared.settings.Setting.{Setting}
+use Rattle.geo_poly.specs.declared.shared.Shared.{Shared}
+use Rattle.geo_poly.specs.declared.variables.Var.{Var}
+use Rattle.geo_poly.specs.Inner.Factored.{Factored, IsPending, degree_with, factored_products, factored_terms, factored_weight}
+use Rattle.geo_poly.specs.Inner.Factored.{numerator_at, piece_of, pieces_of, products_with, times_pieces, told_pending, weight_with}
+use Rattle.geo_poly.specs.Inner.Settings.{AreStored, IsSet}
+use Rattle.geo_poly.specs.Monomials.{degree_of}
+use Rattle.geo_poly.specs.Polynomials.{Summands, norm_of, polynomial_of, sum_of, total_degree}
+use Rattle.geo_poly.specs.Replace.{AllBounded, others}
+use Rattle.geo_poly.specs.Shared.{Indices, told_powers}
+use Rattle.geo_poly.proofs.FactoredTerms.{AllGood, AllGoodTerms, AllWithin, IsGood, degree_with-append, degree_with-is, factored_count}
+use Rattle.geo_poly.proofs.FactoredTerms.{length-sum-le, norm_of-sum-le, products_with-mono, shared_products, shared_terms, shared_weight}
+use Rattle.geo_poly.proofs.FactoredTerms.{sum_of_parts, total_degree-sum-le, weight_with-grows, weight_with-mono, with_pieces}
+use Rattle.geo_poly.proofs.ChainPowers.{some}
+use Rattle.geo_poly.proofs.ReplaceTerms.{IsMonomial-others}
+
+-- THE PIECES
+good_numerator : (vars : List Var) (links : Links) (rows : List Row) (lists : List Indices) (den : Piece) → IsGood den → AllBounded rows
+    → AreStored vars links rows lists → (i : ℕ) → IsGood (numerator_at rows den i)
+good_numerator vars links [] lists den good bounded stored i = good
+good_numerator vars links (r ∷ rows) [] den good bounded stored i = absurd stored
+good_numerator vars links (r ∷ rows) (l ∷ lists) den good bounded stored zero = record { bounded = bounded.0; polynomial = stored.0.polynomial }
+good_numerator vars links (r ∷ rows) (l ∷ lists) den good bounded stored (suc i) = good_numerator vars links rows lists den good bounded.1 stored.1 i
+
+module _ (setting : Setting) (links : Links) (set : IsSet setting links) where
+  abbrev rows : List Row
+  rows = setting.rows.now
+
+  abbrev den : Piece
+  den = setting.den.piece.now
+
+  good_den : IsGood setting.den.piece.now
+  good_den = record { bounded = set.den_bounded; polynomial = set.den_stored.polynomial }
+
+  pub good_piece : (k : ℕ) → IsGood (piece_of setting.rows.now setting.den.piece.now k)
+  good_piece zero = good_den
+  good_piece (suc i) = good_numerator setting.vars.now links rows setting.nums.now den good_den set.rows_bounded set.rows_stored i
+
+  pub good_pieces : (ks : List ℕ) → AllGood (pieces_of setting.rows.now setting.den.piece.now ks)
+  good_pieces [] = tt
+  good_pieces (k ∷ ks) = (good_piece k, good_pieces ks)
+
+  module _ (p : Shared) where
+    pub good_terms : (depth : ℕ) (es : List Pending) → AllGoodTerms (map (told_pending setting p depth) es)
+    good_terms depth [] = tt
+    good_terms depth (e ∷ es) = (good_pieces (drop depth e.factors.items), good_terms depth es)
+
+    -- ALL TERMS
+    pub all_within : (depth : ℕ) (es : List Pending) → All (IsPending setting p depth) es → AllWithin 65535 (map (told_pending setting p depth) es)
+    all_within depth [] h = tt
+    all_within depth (e ∷ es) h =
+        let first = All-head (IsPending setting p depth) e es h in (
+          record {
+            nonzero = some (unsigned_abs e.coefficient) first.nonzero;
+            monomial = IsMonomial-others rows (told_powers p e.id) first.monomial;
+            degree = first.degree;
+          },
+          all_within depth es (All-tail (IsPending setting p depth) e es h),
+        )
+
+    -- WHAT ALL SHARE
+    module _ (depth n : ℕ) (first : List ℕ) where
+      abbrev Shares : Pending → Type 0
+      Shares e = take n (drop depth e.factors.items) ≡ take n first
+
+      abbrev shared : List Piece
+      shared = pieces_of rows den (take n first)
+
+      one_shares : (e : Pending) → Shares e → pieces_of rows den (drop depth e.factors.items) ≡ shared ++ pieces_of rows den (drop (depth + n) e.factors.items)
+      one_shares e h =
+          let ks = drop depth e.factors.items in
+          ap (pieces_of rows den) (sym (take-append-drop n ks))
+          ∙ map-append (piece_of rows den) (take n ks) (drop n ks)
+          ∙ ap₂ (λ (x y : List ℕ). pieces_of rows den x ++ pieces_of rows den y) h (drop-drop n depth e.factors.items)
+
+      pub all_share : (es : List Pending) → All (λ (e : Pending). take n (drop depth e.factors.items) ≡ take n first) es
+          → map (told_pending setting p depth) es ≡ map (with_pieces (pieces_of setting.rows.now setting.den.piece.now (take n first))) (map (told_pending setting p (depth + n)) es)
+      all_share [] h = refl
+      all_share (e ∷ es) h =
+          ap₂ (λ (f : Factored) (fs : List Factored). f ∷ fs)
+          (ap (λ (qs : List Piece). (qs, (others rows (told_powers p e.id), e.coefficient))) (one_shares e (All-head Shares e es h)))
+          (all_share es (All-tail Shares e es h))
+
+      deeper_degree : (e : Pending) → Shares e → IsPending setting p depth e
+          → degree_with (pieces_of rows den (drop (depth + n) e.factors.items)) (degree_of (others rows (told_powers p e.id))) + degree_with shared 0 ≤ 65535
+      deeper_degree e h g =
+          let d = degree_of (others rows (told_powers p e.id)) in
+          let rest = pieces_of rows den (drop (depth + n) e.factors.items) in
+          let whole = ap (λ (qs : List Piece). degree_with qs d) (one_shares e h) ∙ degree_with-append shared rest d ∙ degree_with-is shared (degree_with rest d) in
+          omega (arith, whole, g.degree)
+
+      pub all_deeper : (es : List Pending) → All (λ (e : Pending). take n (drop depth e.factors.items) ≡ take n first) es
+          → All (IsPending setting p depth) es → All (IsPending setting p (depth + n)) es
+      all_deeper [] h g = All-nil (IsPending setting p (depth + n))
+      all_deeper (e ∷ es) h g =
+          let here = All-head (IsPending setting p depth) e es g in
+          All-cons (IsPending setting p (depth + n)) e es
+          (record {
+            index = here.index;
+            monomial = here.monomial;
+            known = here.known;
+            nonzero = here.nonzero;
+            degree = omega (arith, deeper_degree e (All-head Shares e es h) here);
+          })
+          (all_deeper es (All-tail Shares e es h) (All-tail (IsPending setting p depth) e es g))
+
+      lower : (es : List Pending) → All Shares es → All (IsPending setting p depth) es → AllWithin (65535 - degree_with shared 0) (map (told_pending setting p (depth + n)) es)
+      lower [] h g = tt
+      lower (e ∷ es) h g =
+          let here = All-head (IsPending setting p depth) e es g in (
+            record {
+              nonzero = some (unsigned_abs e.coefficient) here.nonzero;
+              monomial = IsMonomial-others rows (told_powers p e.id) here.monomial;
+              degree = omega (arith, deeper_degree e (All-head Shares e es h) here);
+            },
+            lower es (All-tail Shares e es h) (All-tail (IsPending setting p depth) e es g),
+          )
+
+      few : (es : List Pending) → 1 ≤ length es → All Shares es → All (IsPending setting p depth) es → degree_with shared 0 ≤ 65535
+      few [] l h g = absurd (omega arith)
+      few (e ∷ es) l h g = omega (arith, deeper_degree e (All-head Shares e es h) (All-head (IsPending setting p depth) e es g))
+
+      module _ (es : List Pending) (share : All (λ (e : Pending). take n (drop depth e.factors.items) ≡ take n first) es) (pending : All (IsPending setting p depth) es)
+          (norm : factored_weight (map (told_pending setting p depth) es) < 2 ^ 127) where
+        abbrev deep : List Factored
+        deep = map (told_pending setting p (depth + n)) es
+
+        abbrev sum : Summands
+        sum = polynomial_of (factored_terms deep)
+
+        weighs : factored_weight (map (told_pending setting p depth) es) ≡ weight_with shared (factored_weight deep)
+        weighs = ap factored_weight (all_share es share) ∙ shared_weight shared deep
+
+        pub deeper_norm : factored_weight (map (told_pending setting p (depth + n)) es) < 2 ^ 127
+        deeper_norm = omega (arith, norm, weighs, weight_with-grows shared (factored_weight deep) (good_pieces (take n first)))
+
+        pub norm_left : weight_with (pieces_of setting.rows.now setting.den.piece.now (take n first)) (norm_of (polynomial_of (factored_terms (map (told_pending setting p (depth + n)) es)))) < 2 ^ 127
+        norm_left = omega (arith, norm, weighs, weight_with-mono shared (norm_of sum) (factored_weight deep) (norm_of-sum-le deep (good_terms (depth + n) es)))
+
+        pub degree_left : 1 ≤ length es → degree_with (pieces_of setting.rows.now setting.den.piece.now (take n first))
+            (total_degree (polynomial_of (factored_terms (map (told_pending setting p (depth + n)) es)))) ≤ 65535
+        degree_left some_term =
+            omega (
+              arith,
+              few es some_term share pending,
+              degree_with-is shared (total_degree sum),
+              total_degree-sum-le (65535 - degree_with shared 0) deep (good_terms (depth + n) es) (lower es share pending),
+            )
+
+        pub whole_sum : times_pieces (pieces_of setting.rows.now setting.den.piece.now (take n first)) (polynomial_of (factored_terms (map (told_pending setting p (depth + n)) es)))
+            ≡ polynomial_of (factored_terms (map (told_pending setting p depth) es))
+        whole_sum = sym (shared_terms shared deep) ∙ ap (λ (fs : List Factored). polynomial_of (factored_terms fs)) (sym (all_share es share))
+
+        pub whole_products : (size : ℕ) → size ≤ length (polynomial_of (factored_terms (map (told_pending setting p (depth + n)) es)))
+            → factored_products (map (told_pending setting p (depth + n)) es) + products_with (pieces_of setting.rows.now setting.den.piece.now (take n first)) size
+            ≤ factored_products (map (told_pending setting p depth) es)
+        whole_products size le =
+            omega (
+              arith,
+              ap factored_products (all_share es share),
+              shared_products shared deep,
+              products_with-mono shared size (factored_count deep) (omega (arith, le, length-sum-le deep (good_terms (depth + n) es))),
+            )
+
+    -- TWO PARTS
+    module _ (depth : ℕ) (es : List Pending) (at : ℕ) (front back : List Pending) (front-is : front ≡ take at es) (back-is : back ≡ drop at es) where
+      abbrev whole : List Factored
+      whole = map (told_pending setting p depth) es
+
+      parts : map (told_pending setting p depth) front ++ map (told_pending setting p depth) back ≡ map (told_pending setting p depth) es
+      parts =
+          sym (map-append (told_pending setting p depth) front back)
+          ∙ ap (map (told_pending setting p depth)) (ap₂ (λ (x y : List Pending). x ++ y) front-is back-is ∙ take-append-drop at es)
+
+      weighs_both : factored_weight (map (told_pending setting p depth) front) + factored_weight (map (told_pending setting p depth) back) ≡ factored_weight (map (told_pending setting p depth) es)
+      weighs_both =
+          sym (sum_by-append (λ (f : Factored). weight_with f.0 (unsigned_abs f.1.1)) (map (told_pending setting p depth) front) (map (told_pending setting p depth) back)) ∙ ap factored_weight parts
+
+      pub front_norm : factored_weight (map (told_pending setting p depth) es) < 2 ^ 127 → factored_weight (map (told_pending setting p depth) front) < 2 ^ 127
+      front_norm h = omega (arith, h, weighs_both)
+
+      pub back_norm : factored_weight (map (told_pending setting p depth) es) < 2 ^ 127 → factored_weight (map (told_pending setting p depth) back) < 2 ^ 127
+      back_norm h = omega (arith, h, weighs_both)
+
+      pub parts_fit : factored_weight (map (told_pending setting p depth) es) < 2 ^ 127
+          → norm_of (polynomial_of (factored_terms (map (told_pending setting p depth) front))) + norm_of (polynomial_of (factored_terms (map (told_pending setting p depth) back))) < 2 ^ 127
+      parts_fit h =
+          omega (
+            arith,
+            h,
+            weighs_both,
+            norm_of-sum-le (map (told_pending setting p depth) front) (good_terms depth front),
+            norm_of-sum-le (map (told_pending setting p depth) back) (good_terms depth back),
+          )
+
+      pub parts_sum : sum_of (polynomial_of (factored_terms (map (told_pending setting p depth) front))) (polynomial_of (factored_terms (map (told_pending setting p depth) back)))
+          ≡ polynomial_of (factored_terms (map (told_pending setting p depth) es))
+      parts_sum =
+          sum_of_parts (map (told_pending setting p depth) front) (map (told_pending setting p depth) back) ∙ ap (λ (fs : List Factored). polynomial_of (factored_terms fs)) parts
+
+      pub parts_products : factored_products (map (told_pending setting p depth) front)
+          + factored_products (map (told_pending setting p depth) back) ≡ factored_products (map (told_pending setting p depth) es)
+      parts_products =
+          sym (sum_by-append (λ (f : Factored). products_with f.0 1) (map (told_pending setting p depth) front) (map (told_pending setting p depth) back)) ∙ ap factored_products parts

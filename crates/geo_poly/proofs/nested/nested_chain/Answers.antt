@@ -1,0 +1,38 @@
+use Rattle.std.proofs.Common.{List, sym, subst, arith}
+use Rattle.std.proofs.lemmas.Result.{IfOk-weaker}
+use Rattle.geo_poly.specs.Chained.{StandsFor}
+use Rattle.geo_poly.specs.declared.pending.Pending.{Pending}
+use Rattle.geo_poly.specs.Inner.Factored.{ArePending}
+use Rattle.geo_poly.specs.Polynomials.{Summands}
+use Rattle.geo_poly.specs.Shared.{told}
+use Rattle.geo_poly.proofs.nested.nested_chain.Goals as goal
+
+pub nested_sum-requires-clause-pending : goal.nested_sum-requires-clause-pending
+nested_sum-requires-clause-pending g c =
+    let setting = c.args.setting.now in
+    let p = c.args.p.now in
+    let found = subst (λ (es : List Pending). ArePending setting p (told p) es) (sym c.deref.ensures.value) c.in_ok-pending.ensures.pending in
+    found.pending
+
+pub nested_sum-requires-clause-norm : goal.nested_sum-requires-clause-norm
+nested_sum-requires-clause-norm g c =
+    let setting = c.args.setting.now in
+    let p = c.args.p.now in
+    let found = subst (λ (es : List Pending). ArePending setting p (told p) es) (sym c.deref.ensures.value) c.in_ok-pending.ensures.pending in
+    omega (arith, found.weight, c.requires.can.weight_fits)
+
+pub returns-clause-chain : goal.returns-clause-chain
+returns-clause-chain g c =
+    let setting = c.args.setting.now in
+    let p = c.args.p.now in
+    let found = subst (λ (es : List Pending). ArePending setting p (told p) es) (sym c.deref.ensures.value) c.in_ok-pending.ensures.pending in
+    IfOk-weaker c.nested_sum.result _ _
+    (λ v h. subst (λ (q : Summands). StandsFor setting.vars.now c.nested_sum.new.store c.nested_sum.new.arena v q) found.terms h)
+    c.nested_sum.ensures.chain
+
+pub returns-clause-ticks : goal.returns-clause-ticks
+returns-clause-ticks g c =
+    let setting = c.args.setting.now in
+    let p = c.args.p.now in
+    let found = subst (λ (es : List Pending). ArePending setting p (told p) es) (sym c.deref.ensures.value) c.in_ok-pending.ensures.pending in
+    omega (arith, found.products, c.nested_sum.ensures.ticks)

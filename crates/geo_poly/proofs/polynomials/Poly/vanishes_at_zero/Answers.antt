@@ -1,0 +1,27 @@
+use Rattle.std.proofs.Common.{◌≡◌, pos, [], filter, sym, ap, subst, ◌∙◌}
+use Rattle.std.specs.Prelude.{◌↔◌, IsTrue}
+use Rattle.geo_poly.specs.Inner.Parts.{lacks}
+use Rattle.geo_poly.specs.declared.variables.Var.{Var}
+use Rattle.geo_poly.specs.Polynomials.{Summands}
+use Rattle.geo_poly.specs.Shared.{told}
+use Rattle.geo_poly.specs.Specialise.{specialised}
+use Rattle.geo_poly.proofs.ZeroPut.{specialised-zero}
+use Rattle.geo_poly.proofs.ZeroWalks.{absent_zero}
+use Rattle.geo_poly.proofs.polynomials.Poly.vanishes_at_zero.Goals as goal
+
+pub returns-in-Some : goal.returns-in-Some
+returns-in-Some c =
+    let p = c.shared.result in
+    let valid = c.shared.ensures.valid.polynomial in
+    let same =
+    ap (λ (w : Var). filter (lacks w) (told p)) c.in-Some.ensures.1 ∙ sym (specialised-zero c.args.v (told p) valid.in_order valid.monomials)
+    ∙ ap (specialised c.args.v (pos 0)) c.shared.ensures.terms in
+    subst (λ (q : Summands). IsTrue c.all_have.result ↔ (q ≡ [])) same c.all_have.ensures
+
+pub returns-in-None : goal.returns-in-None
+returns-in-None c =
+    let p = c.shared.result in
+    let stays =
+    ap (specialised c.args.v (pos 0)) (sym c.shared.ensures.terms) ∙ absent_zero p.vars.now p.monos.now p.list.now c.args.v c.in-None.ensures c.shared.ensures.valid
+    ∙ c.shared.ensures.terms in
+    subst (λ (q : Summands). IsTrue c.is_zero.result ↔ (q ≡ [])) (sym stays) c.is_zero.ensures

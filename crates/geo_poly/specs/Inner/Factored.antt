@@ -1,0 +1,100 @@
+-- Terms with the factors that they are still to get.
+use Rattle.std.specs.Prelude.{◌≡◌, ℕ, zero, suc, ◌≢◌, ◌+◌, ◌*◌, ◌-◌, ◌^◌, ◌≤◌, All, Contains, ℤ, List, [], ◌∷◌, ◌++◌, drop, map, sum_by, unsigned_abs}
+use Rattle.sparse_lists.specs.SparseLists.{AllKeys}
+use Rattle.geo_poly.specs.declared.pending.Pending.{Pending}
+use Rattle.geo_poly.specs.declared.replacement.Piece.{Piece}
+use Rattle.geo_poly.specs.declared.replacement.Row.{Row}
+use Rattle.geo_poly.specs.declared.settings.Setting.{Setting}
+use Rattle.geo_poly.specs.declared.shared.Shared.{Shared}
+use Rattle.geo_poly.specs.Monomials.{IsMonomial, Powers, degree_of}
+use Rattle.geo_poly.specs.Polynomials.{Summands, polynomial_of, product_of}
+use Rattle.geo_poly.specs.Counted.{products_of_terms, term_products}
+use Rattle.geo_poly.specs.Replace.{degree_rows, denominators, others, replaced_terms, times_power, times_rows, weight_of, weight_rows}
+use Rattle.geo_poly.specs.Shared.{IsIndexOf, told_powers}
+
+-- the numerator of the row at a place; past the end, the denominator
+abbrev pub numerator_at : List Row → Piece → ℕ → Piece
+numerator_at [] den i = den
+numerator_at (r ∷ rows) den zero = r.num
+numerator_at (r ∷ rows) den (suc i) = numerator_at rows den i
+
+-- the piece that a number names: 0 the denominator, one more than its place a row
+abbrev pub piece_of : List Row → Piece → ℕ → Piece
+piece_of rows den zero = den
+piece_of rows den (suc i) = numerator_at rows den i
+
+-- the pieces that numbers name
+abbrev pub pieces_of : List Row → Piece → List ℕ → List Piece
+pieces_of rows den ks = map (piece_of rows den) ks
+
+-- p times the pieces, the last one first
+abbrev pub times_pieces : List Piece → Summands → Summands
+times_pieces [] p = p
+times_pieces (q ∷ qs) p = product_of (times_pieces qs p) q.poly
+
+-- w times the weights of the pieces
+abbrev pub weight_with : List Piece → ℕ → ℕ
+weight_with [] w = w
+weight_with (q ∷ qs) w = weight_with qs w * q.weight
+
+-- d plus the degrees of the pieces
+abbrev pub degree_with : List Piece → ℕ → ℕ
+degree_with [] d = d
+degree_with (q ∷ qs) d = degree_with qs d + q.degree
+
+-- n times the counts of the pieces
+abbrev pub count_with : List Piece → ℕ → ℕ
+count_with [] n = n
+count_with (q ∷ qs) n = count_with qs n * q.count
+
+-- how many products of monomials are formed where n monomials are multiplied by the pieces
+abbrev pub products_with : List Piece → ℕ → ℕ
+products_with [] n = 0
+products_with (q ∷ qs) n = products_with qs n + count_with qs n * q.count
+
+-- a term with the pieces that it is to get
+abbrev pub Factored : Type 0
+Factored = List Piece × (Powers × ℤ)
+
+-- what becomes of the terms, one after another
+abbrev pub factored_terms : List Factored → Summands
+factored_terms [] = []
+factored_terms (f ∷ fs) = times_pieces f.0 (f.1 ∷ []) ++ factored_terms fs
+
+-- the sum of their weights
+abbrev pub factored_weight : List Factored → ℕ
+factored_weight fs = sum_by (λ f. weight_with f.0 (unsigned_abs f.1.1)) fs
+
+-- the products of monomials where each is multiplied out for itself
+abbrev pub factored_products : List Factored → ℕ
+factored_products fs = sum_by (λ f. products_with f.0 1) fs
+
+-- a term of the polynomial, with the factors that it is to get from a place on
+abbrev pub told_pending : Setting → Shared → ℕ → Pending → Factored
+told_pending setting p depth e =
+    (pieces_of setting.rows.now setting.den.piece.now (drop depth e.factors.items), (others setting.rows.now (told_powers p e.id), e.coefficient))
+
+-- the term is one of the polynomial, and within the bounds
+pub record IsPending (setting : Setting) (p : Shared) (depth : ℕ) (e : Pending) : Type 0 where
+  pub index : IsIndexOf p e.id
+  pub monomial : IsMonomial (told_powers p e.id)
+  pub known : AllKeys (Contains setting.vars.now) (told_powers p e.id)
+  pub nonzero : unsigned_abs e.coefficient ≢ 0
+  pub degree : degree_with (pieces_of setting.rows.now setting.den.piece.now (drop depth e.factors.items)) (degree_of (others setting.rows.now (told_powers p e.id))) ≤ 65535
+
+-- these factors make of a term what becomes of it
+pub record AreFactors (setting : Setting) (m : Powers) (ks : List ℕ) : Type 0 where
+  pub terms : (p : Summands) → times_pieces (pieces_of setting.rows.now setting.den.piece.now ks) p
+      ≡ times_power (times_rows setting.rows.now m p) setting.den.piece.now.poly (setting.top - denominators setting.rows.now m)
+  pub weight : (w : ℕ) → weight_with (pieces_of setting.rows.now setting.den.piece.now ks) w
+      ≡ weight_rows setting.rows.now m w * setting.den.piece.now.weight ^ (setting.top - denominators setting.rows.now m)
+  pub degree : (d : ℕ) → degree_with (pieces_of setting.rows.now setting.den.piece.now ks) d
+      ≡ degree_rows setting.rows.now m d + setting.den.piece.now.degree * (setting.top - denominators setting.rows.now m)
+  pub products : products_with (pieces_of setting.rows.now setting.den.piece.now ks) 1 ≤ term_products setting.rows.now setting.den.piece.now setting.top m
+
+-- the terms, in any order and with their factors, become what the polynomial q becomes, with no more weight and no more products
+pub record ArePending (setting : Setting) (p : Shared) (q : Summands) (es : List Pending) : Type 0 where
+  pub terms : polynomial_of (factored_terms (map (told_pending setting p 0) es)) ≡ polynomial_of (replaced_terms setting.rows.now setting.den.piece.now.poly setting.top q)
+  pub weight : factored_weight (map (told_pending setting p 0) es) ≤ weight_of setting.rows.now setting.den.piece.now setting.top q
+  pub products : factored_products (map (told_pending setting p 0) es) ≤ products_of_terms setting.rows.now setting.den.piece.now setting.top q
+  pub pending : All (IsPending setting p 0) es

@@ -1,0 +1,46 @@
+//! The number 0 put for a variable of all polynomials, without a copy.
+
+ghost use Rattle.std.specs.Prelude.{pos, ◌≡◌, ◌↔◌, ◌≤◌, false, length, sum_by, true, IsTrue};
+ghost use Rattle.geo_poly.specs.Specialise.{NoneZero};
+ghost use Rattle.geo_sample.specs.Tries.{all_specialised};
+
+use geo_base::Budget;
+use geo_poly::{Poly, Var};
+
+/// Puts 0 for the variable where none of the polynomials is zero then, and answers whether it did.
+/// The budget has the charge.
+pub fn keep_zero(polys: &mut Vec<Poly>, v: Var, budget: &Budget) -> bool
+    requires paid { sum_by length polys.old.items ≤ budget.now.left }
+    ensures keeps { IsTrue result ↔ NoneZero (all_specialised v (pos 0) polys.old.items) }
+    ensures put { result ≡ true → polys.new.items ≡ all_specialised v (pos 0) polys.old.items }
+    ensures kept { result ≡ false → polys.new.items ≡ polys.old.items }
+{
+    if none_vanishes(polys, v) {
+        put_zero(polys, v, budget);
+        return true;
+    }
+    false
+}
+
+/// Whether none of the polynomials is zero with 0 for the variable.
+fn none_vanishes(polys: &[Poly], v: Var) -> bool
+    ensures { IsTrue result ↔ NoneZero (all_specialised v (pos 0) polys.now) }
+{
+    for poly in polys {
+        if poly.vanishes_at_zero(v) {
+            return false;
+        }
+    }
+    true
+}
+
+/// Puts 0 for the variable of each. The budget has the charge.
+pub fn put_zero(polys: &mut Vec<Poly>, v: Var, budget: &Budget)
+    requires paid { sum_by length polys.old.items ≤ budget.now.left }
+    ensures { polys.new.items ≡ all_specialised v (pos 0) polys.old.items }
+{
+    let _ = budget;
+    for place in 0..polys.len() {
+        polys[place].put_zero(v);
+    }
+}
