@@ -5,8 +5,7 @@ use Rattle.std.specs.Prelude.{◌==◌, nat_lt}
 use Rattle.std.specs.List.{AllByRecursion, flat_map, position, prefix_len}
 use Rattle.std.proofs.lemmas.Bool.{eqb-false, lt-ltb, ltb-true, ne_eqb}
 use Rattle.std.proofs.lemmas.List.{length-append, map-append}
-use Rattle.geo_base.specs.Devices.{Grows, HasRisen}
-use Rattle.geo_base.proofs.DeviceLemmas.{Grows-append, Grows-nothing}
+use Rattle.geo_base.specs.Devices.{HasRisen}
 use Rattle.geo_lexer.specs.Lexemes.{Lexeme}
 use Rattle.geo_program.specs.CanonicalText.{canonical_text, line_lexemes, line_text, no_sketches}
 use Rattle.geo_program.specs.WellFormed.{Source}
@@ -16,11 +15,14 @@ use Rattle.proof_log.specs.declared.log.Line.{Line}
 use Rattle.proof_log.specs.declared.log.Line.TheVariants.{Program as ProgramLine}
 use Rattle.proof_log.specs.Lines.{log_text}
 use Rattle.proof_log.specs.Writable.{HasNoLineFeed}
-use Rattle.geo_prover.specs.declared.errors.ProveError.{ProveError}
-use Rattle.geo_prover.specs.declared.errors.ProveError.TheVariants.{TooLarge, Spent, TooLong, WriteFault, NoMemory}
+use Rattle.log_maker.specs.declared.errors.ProveError.{ProveError}
+use Rattle.log_maker.specs.declared.errors.ProveError.TheVariants.{TooLarge, Spent, TooLong, WriteFault, NoMemory}
 use Rattle.geo_prover.specs.Inner.FirstLines.{IsBrokenOffAmong, IsPartAmong, IsTooLongAmong, pieces}
-use Rattle.geo_prover.specs.Inner.Written.{IsCutOff, IsUnwritten, State, Writes}
-use Rattle.geo_prover.proofs.Passing.{log_text-append, text_length-append, writes_more}
+use Rattle.log_maker.specs.declared.size.Size.{Size}
+use Rattle.log_maker.specs.Sizes.{Fits, HoldsText, IsPast, with_text}
+use Rattle.log_maker.specs.Written.{IsCutOff, IsUnwritten, State, Writes}
+use Rattle.log_maker.proofs.Passing.{held_on, log_text-append, sized_on, writes_more}
+use Rattle.log_maker.proofs.Sizing.{fits_none, holds_nothing}
 
 -- THE FIRST LINE FEED
 abbrev passes : ℕ → Bool
@@ -141,8 +143,8 @@ module _ (lines : List (List ℕ)) (rest : List ℕ) (s t : State) (b : IsBetwee
 -- BREAKING OFF
 -- what is told of the lines behind some that were written
 module _ (front : List Line) (s t u : State) (w : Writes front s t) where
-  fits_on : (before : List Line) → t.bytes + text_length before ≤ 67108864 → s.bytes + text_length (front ++ before) ≤ 67108864
-  fits_on before fits = let m = w.measured in let l = text_length-append front before in omega (arith, m, l, fits)
+  fits_on : (before : List Line) → Fits (with_text t.size (text_length before)) → Fits (with_text s.size (text_length (front ++ before)))
+  fits_on before fits = subst Fits (sized_on front s t w before) fits
 
   faults_on : t.faults ≤ u.faults → s.faults ≤ u.faults
   faults_on g = let f = w.faults in omega (arith, f, g)
@@ -165,11 +167,9 @@ module _ (front : List Line) (s t u : State) (w : Writes front s t) where
     split = ap (λ xs. front ++ xs) g.split ∙ sym (append_assoc front g.before (g.line ∷ g.rest));
     fits = fits_on g.before g.fits;
     long =
-        let m = w.measured in
-        let l = text_length-append front (g.before ++ g.line ∷ []) in
-        let same : text_length ((front ++ g.before) ++ g.line ∷ []) ≡ text_length (front ++ (g.before ++ g.line ∷ [])) = ap text_length (append_assoc front g.before (g.line ∷ [])) in
-        let big = g.long in omega (arith, m, l, same, big);
-    written = subst (λ text. Grows s.held text u.held) (sym (log_text-append front g.before)) (Grows-append s.held t.held u.held (log_text front) (log_text g.before) w.written g.written);
+        let same : text_length (front ++ (g.before ++ g.line ∷ [])) ≡ text_length ((front ++ g.before) ++ g.line ∷ []) = ap text_length (sym (append_assoc front g.before (g.line ∷ []))) in
+        subst IsPast (sized_on front s t w (g.before ++ g.line ∷ []) ∙ ap (λ (n : ℕ). with_text s.size n) same) g.long;
+    written = subst (λ text. HoldsText s.size s.held text u.held) (sym (log_text-append front g.before)) (held_on front s t u w (log_text g.before) g.written);
     faults = sound_on g.faults;
   }
 
@@ -181,9 +181,9 @@ module _ (front : List Line) (s t u : State) (w : Writes front s t) where
     split = ap (λ xs. front ++ xs) g.split ∙ sym (append_assoc front g.before g.rest);
     fits = fits_on g.before g.fits;
     written =
-        subst (λ text. Grows s.held text u.held)
+        subst (λ text. HoldsText s.size s.held text u.held)
         (sym (taken (log_text front) (log_text g.before) g.count) ∙ ap (λ text. take (length (log_text front) + g.count) text) (sym (log_text-append front g.before)))
-        (Grows-append s.held t.held u.held (log_text front) (take g.count (log_text g.before)) w.written g.written);
+        (held_on front s t u w (take g.count (log_text g.before)) g.written);
     faults = faults_on g.faults;
   }
 
@@ -195,15 +195,15 @@ module _ (front : List Line) (s t u : State) (w : Writes front s t) where
   broken_on all NoMemory g = (part_on all g.0, sound_on g.1)
 
 -- at once
-module _ (s t : State) (fits : s.bytes ≤ 67108864) where
+module _ (s t : State) (fits : Fits s.size) where
   nothing_among : (all : List Line) → t.held ≡ s.held → s.faults ≤ t.faults → IsPartAmong all s t
   nothing_among all same faults = record {
     before = [];
     rest = all;
     count = 0;
     split = refl;
-    fits = omega (arith, fits);
-    written = subst (λ held. Grows s.held [] held) (sym same) (Grows-nothing s.held);
+    fits = fits_none s.size fits;
+    written = subst (λ held. HoldsText s.size s.held [] held) (sym same) (holds_nothing s.size s.held);
     faults = faults;
   }
 
@@ -219,9 +219,9 @@ module _ (s t : State) (fits : s.bytes ≤ 67108864) where
     line = line;
     rest = rest;
     split = refl;
-    fits = omega (arith, fits);
+    fits = fits_none s.size fits;
     long = h.long;
-    written = subst (λ held. Grows s.held [] held) (sym h.kept) (Grows-nothing s.held);
+    written = subst (λ held. HoldsText s.size s.held [] held) (sym h.kept) (holds_nothing s.size s.held);
     faults = h.faults;
   }
   unwritten_first line rest WriteFault h = (cut_off line rest h.0, h.1)
@@ -231,7 +231,7 @@ module _ (s t : State) (fits : s.bytes ≤ 67108864) where
   memory_first all same faults = (nothing_among all same (omega (arith, faults)), faults)
 
 -- a line of the program is not written
-pub piece_breaks : (lines : List (List ℕ)) (rest : List ℕ) (s t u : State) (n : ℕ) (e : ProveError) → IsBetween lines rest s t → t.bytes ≤ 67108864 → position (λ b. b == 10) rest ≡ Some n
+pub piece_breaks : (lines : List (List ℕ)) (rest : List ℕ) (s t u : State) (n : ℕ) (e : ProveError) → IsBetween lines rest s t → Fits t.size → position (λ b. b == 10) rest ≡ Some n
     → IsUnwritten (ProgramLine (take n rest)) t u e → IsBrokenOffAmong (map ProgramLine lines) s u e
 piece_breaks lines rest s t u n e b fits p h =
     let next = next_piece b.left rest n b.rest_is b.one_line p in
@@ -241,7 +241,7 @@ piece_breaks lines rest s t u n e b fits p h =
     (unwritten_first t u fits (ProgramLine (take n rest)) (map ProgramLine next.later) e h))
 
 -- memory runs out between two lines
-pub memory_between : (lines : List (List ℕ)) (rest : List ℕ) (s t : State) → IsBetween lines rest s t → t.bytes ≤ 67108864 → IsBrokenOffAmong (map ProgramLine lines) s t NoMemory
+pub memory_between : (lines : List (List ℕ)) (rest : List ℕ) (s t : State) → IsBetween lines rest s t → Fits t.size → IsBrokenOffAmong (map ProgramLine lines) s t NoMemory
 memory_between lines rest s t b fits =
     subst (λ xs. IsBrokenOffAmong xs s t NoMemory) (sym (ap (λ xs. map ProgramLine xs) b.split ∙ map-append ProgramLine b.done b.left))
     (broken_on (map ProgramLine b.done) s t t b.written (map ProgramLine b.left) NoMemory (memory_first t t fits (map ProgramLine b.left) refl refl))

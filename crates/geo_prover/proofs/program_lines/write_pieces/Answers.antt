@@ -2,10 +2,11 @@ use Rattle.std.proofs.Common.{◌≡◌, ◌+◌, ℕ, List, [], ◌∷◌, take
 use Rattle.std.proofs.lemmas.List.{take_rest}
 use Rattle.proof_log.specs.declared.log.Line.TheVariants.{Program as ProgramLine}
 use Rattle.proof_log.specs.Writable.{HasNoLineFeed}
-use Rattle.geo_prover.specs.declared.errors.ProveError.TheVariants.{NoMemory}
-use Rattle.geo_prover.specs.Inner.Written.{IsUnwritten, Writes, state}
+use Rattle.log_maker.specs.declared.errors.ProveError.TheVariants.{NoMemory}
+use Rattle.log_maker.specs.Written.{IsUnwritten, Writes, state}
 use Rattle.geo_prover.proofs.FirstLines.{IsBetween, at_last, first_feed, memory_between, one_more, piece_breaks}
-use Rattle.geo_prover.proofs.Handing.{if_err}
+use Rattle.log_maker.proofs.Handing.{if_err}
+use Rattle.log_maker.proofs.Sizing.{takable_of}
 use Rattle.geo_prover.proofs.program_lines.write_pieces.Goals as goal
 
 pub returns-in_err-bytes-clause-err : goal.returns-in_err-bytes-clause-err
@@ -15,7 +16,7 @@ returns-in_err-bytes-clause-err g c =
 pub write-requires : goal.write-requires
 write-requires g c =
     let same : c.in_ok-bytes.bytes.items ≡ take c.in-Some.end c.loop-end.rest.now = search rules in
-    subst HasNoLineFeed (sym same) (first_feed c.loop-end.rest.now c.in-Some.end (sym c.in-Some.ensures)).clean
+    takable_of _ (ProgramLine c.in_ok-bytes.bytes.items) (subst HasNoLineFeed (sym same) (first_feed c.loop-end.rest.now c.in-Some.end (sym c.in-Some.ensures)).clean)
 
 pub returns-in_err-write-clause-err : goal.returns-in_err-write-clause-err
 returns-in_err-write-clause-err g c =
