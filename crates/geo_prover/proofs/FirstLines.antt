@@ -33,12 +33,14 @@ front_length [] more h = refl
 front_length (b ∷ bs) more h =
     let e : (b == 10) ≡ false = ne_eqb b 10 h.0 in
     let r = front_length bs more h.1 in
-    ap (λ (q : Bool). cond (not q) (1 + prefix_len passes (bs ++ 10 ∷ more)) 0) e ∙ (let f : 1 + prefix_len passes (bs ++ 10 ∷ more) ≡ suc (length bs) = omega (arith, r) in f)
+    ap (λ (q : Bool). cond (not q) (1 + prefix_len passes (bs ++ 10 ∷ more)) 0) e
+    ∙ (let f : 1 + prefix_len passes (bs ++ 10 ∷ more) ≡ suc (length bs) = omega (arith, r) in f)
 
 -- behind a text without one
 pub feed_at : (text more : List ℕ) → HasNoLineFeed text → position (λ b. b == 10) (text ++ 10 ∷ more) ≡ Some (length text)
 feed_at text more h =
-    let lt : length text < length (text ++ 10 ∷ more) = let l : length (text ++ 10 ∷ more) ≡ length text + suc (length more) = length-append text (10 ∷ more) in omega (arith, l) in
+    let lt : length text < length (text ++ 10 ∷ more) = let l : length (text ++ 10 ∷ more) ≡ length text + suc
+    (length more) = length-append text (10 ∷ more) in omega (arith, l) in
     ap (λ n. cond (nat_lt n (length (text ++ 10 ∷ more))) (Some n) None) (front_length text more h)
     ∙ ap (λ (q : Bool). cond q (Some (length text)) None) (lt-ltb (length text) (length (text ++ 10 ∷ more)) lt)
 
@@ -46,7 +48,8 @@ front_clean : (text : List ℕ) → HasNoLineFeed (take (prefix_len passes text)
 front_clean [] = tt
 front_clean (b ∷ bs) = go (b == 10) refl (front_clean bs)
   where
-    go : (q : Bool) → (b == 10) ≡ q → HasNoLineFeed (take (prefix_len passes bs) bs) → HasNoLineFeed (take (cond (not q) (1 + prefix_len passes bs) 0) (b ∷ bs))
+    go : (q : Bool) → (b == 10) ≡ q → HasNoLineFeed (take (prefix_len passes bs) bs)
+        → HasNoLineFeed (take (cond (not q) (1 + prefix_len passes bs) 0) (b ∷ bs))
     go true e h = tt
     go false e h =
         let n : suc (prefix_len passes bs) ≡ 1 + prefix_len passes bs = omega arith in
@@ -60,7 +63,8 @@ pub record IsFirstFeed (text : List ℕ) (n : ℕ) : Type 0 where
 pub first_feed : (text : List ℕ) (n : ℕ) → position (λ b. b == 10) text ≡ Some n → IsFirstFeed text n
 first_feed text n e = go (nat_lt (prefix_len passes text) (length text)) refl e
   where
-    go : (q : Bool) → nat_lt (prefix_len passes text) (length text) ≡ q → cond q (Some (prefix_len passes text)) None ≡ Some n → IsFirstFeed text n
+    go : (q : Bool) → nat_lt (prefix_len passes text) (length text) ≡ q → cond q (Some (prefix_len passes text)) None ≡ Some n
+        → IsFirstFeed text n
     go true t s =
         let m = prefix_len passes text in
         let is : m ≡ n = cc in subst (IsFirstFeed text) is (record { inside = ltb-true m (length text) t; clean = front_clean text })
@@ -99,7 +103,8 @@ pub record IsNextPiece (left : List (List ℕ)) (rest : List ℕ) (n : ℕ) : Ty
   pub rest_is : drop (n + 1) rest ≡ pieces later
   pub one_line : AllByRecursion HasNoLineFeed later
 
-next_piece : (left : List (List ℕ)) (rest : List ℕ) (n : ℕ) → rest ≡ pieces left → AllByRecursion HasNoLineFeed left → position (λ b. b == 10) rest ≡ Some n → IsNextPiece left rest n
+next_piece : (left : List (List ℕ)) (rest : List ℕ) (n : ℕ) → rest ≡ pieces left → AllByRecursion HasNoLineFeed left
+    → position (λ b. b == 10) rest ≡ Some n → IsNextPiece left rest n
 next_piece [] rest n e h p = let q : None ≡ Some n = ap (λ xs. position (λ b. b == 10) xs) (sym e) ∙ p in absurd (let f : ⊥ = cc in f)
 next_piece (t ∷ ts) rest n e h p =
     let whole : rest ≡ t ++ 10 ∷ pieces ts = e ∙ append_assoc t (10 ∷ []) (pieces ts) in
@@ -107,20 +112,25 @@ next_piece (t ∷ ts) rest n e h p =
     let is : length t ≡ n = cc in
     record {
       later = ts;
-      split = ap (λ x. x ∷ ts) (sym (ap (λ xs. take n xs) whole ∙ ap (λ k. take k (t ++ 10 ∷ pieces ts)) (sym is) ∙ take_front t (10 ∷ pieces ts)));
-      rest_is = ap (λ xs. drop (n + 1) xs) whole ∙ ap (λ k. drop k (t ++ 10 ∷ pieces ts)) (let f : n + 1 ≡ suc (length t) = omega (arith, is) in f) ∙ drop_front t (pieces ts) 10;
+      split = ap (λ x. x ∷ ts) (sym (ap (λ xs. take n xs) whole ∙ ap (λ k. take k (t ++ 10 ∷ pieces ts)) (sym is) ∙ take_front t
+          (10 ∷ pieces ts)));
+      rest_is = ap (λ xs. drop (n + 1) xs) whole ∙ ap (λ k. drop k (t ++ 10 ∷ pieces ts))
+          (let f : n + 1 ≡ suc (length t) = omega (arith, is) in f) ∙ drop_front t (pieces ts) 10;
       one_line = h.1;
     }
 
-no_piece : (left : List (List ℕ)) (rest : List ℕ) → rest ≡ pieces left → AllByRecursion HasNoLineFeed left → position (λ b. b == 10) rest ≡ None → left ≡ []
+no_piece : (left : List (List ℕ)) (rest : List ℕ) → rest ≡ pieces left → AllByRecursion HasNoLineFeed left
+    → position (λ b. b == 10) rest ≡ None → left ≡ []
 no_piece [] rest e h p = refl
 no_piece (t ∷ ts) rest e h p =
     let whole : rest ≡ t ++ 10 ∷ pieces ts = e ∙ append_assoc t (10 ∷ []) (pieces ts) in
-    let same : Some (length t) ≡ None = sym (feed_at t (pieces ts) h.0) ∙ ap (λ xs. position (λ b. b == 10) xs) (sym whole) ∙ p in absurd (let f : ⊥ = cc in f)
+    let same : Some (length t) ≡ None = sym (feed_at t (pieces ts) h.0) ∙ ap (λ xs. position (λ b. b == 10) xs) (sym whole) ∙ p in absurd
+    (let f : ⊥ = cc in f)
 
 module _ (lines : List (List ℕ)) (rest : List ℕ) (s t : State) (b : IsBetween lines rest s t) where
   -- the next line is written
-  pub one_more : (n : ℕ) (u : State) → position (λ b. b == 10) rest ≡ Some n → Writes (ProgramLine (take n rest) ∷ []) t u → IsBetween lines (drop (n + 1) rest) s u
+  pub one_more : (n : ℕ) (u : State) → position (λ b. b == 10) rest ≡ Some n → Writes (ProgramLine (take n rest) ∷ []) t u
+      → IsBetween lines (drop (n + 1) rest) s u
   one_more n u p w =
       let next = next_piece b.left rest n b.rest_is b.one_line p in
       record {
@@ -167,9 +177,11 @@ module _ (front : List Line) (s t u : State) (w : Writes front s t) where
     split = ap (λ xs. front ++ xs) g.split ∙ sym (append_assoc front g.before (g.line ∷ g.rest));
     fits = fits_on g.before g.fits;
     long =
-        let same : text_length (front ++ (g.before ++ g.line ∷ [])) ≡ text_length ((front ++ g.before) ++ g.line ∷ []) = ap text_length (sym (append_assoc front g.before (g.line ∷ []))) in
+        let same : text_length (front ++ (g.before ++ g.line ∷ [])) ≡ text_length ((front ++ g.before) ++ g.line ∷ []) = ap text_length
+        (sym (append_assoc front g.before (g.line ∷ []))) in
         subst IsPast (sized_on front s t w (g.before ++ g.line ∷ []) ∙ ap (λ (n : ℕ). with_text s.size n) same) g.long;
-    written = subst (λ text. HoldsText s.size s.held text u.held) (sym (log_text-append front g.before)) (held_on front s t u w (log_text g.before) g.written);
+    written = subst (λ text. HoldsText s.size s.held text u.held) (sym (log_text-append front g.before))
+        (held_on front s t u w (log_text g.before) g.written);
     faults = sound_on g.faults;
   }
 
@@ -182,7 +194,8 @@ module _ (front : List Line) (s t u : State) (w : Writes front s t) where
     fits = fits_on g.before g.fits;
     written =
         subst (λ text. HoldsText s.size s.held text u.held)
-        (sym (taken (log_text front) (log_text g.before) g.count) ∙ ap (λ text. take (length (log_text front) + g.count) text) (sym (log_text-append front g.before)))
+        (sym (taken (log_text front) (log_text g.before) g.count) ∙ ap (λ text. take (length (log_text front) + g.count) text)
+        (sym (log_text-append front g.before)))
         (held_on front s t u w (take g.count (log_text g.before)) g.written);
     faults = faults_on g.faults;
   }
@@ -208,7 +221,16 @@ module _ (s t : State) (fits : Fits s.size) where
   }
 
   cut_off : (line : Line) (rest : List Line) → IsCutOff line s t → IsPartAmong (line ∷ rest) s t
-  cut_off line rest (inl h) = record { before = line ∷ []; rest = rest; count = h.1.count; split = refl; fits = h.0; written = h.1.written; faults = h.1.faults }
+  cut_off line rest
+      (inl h) = record {
+        before = line ∷ [];
+        rest = rest;
+        count = h.1.count;
+        split = refl;
+        fits = h.0;
+        written = h.1.written;
+        faults = h.1.faults;
+      }
   cut_off line rest (inr h) = nothing_among (line ∷ rest) h.0 h.1
 
   pub unwritten_first : (line : Line) (rest : List Line) (e : ProveError) → IsUnwritten line s t e → IsBrokenOffAmong (line ∷ rest) s t e
@@ -231,17 +253,21 @@ module _ (s t : State) (fits : Fits s.size) where
   memory_first all same faults = (nothing_among all same (omega (arith, faults)), faults)
 
 -- a line of the program is not written
-pub piece_breaks : (lines : List (List ℕ)) (rest : List ℕ) (s t u : State) (n : ℕ) (e : ProveError) → IsBetween lines rest s t → Fits t.size → position (λ b. b == 10) rest ≡ Some n
+pub piece_breaks : (lines : List (List ℕ)) (rest : List ℕ) (s t u : State) (n : ℕ) (e : ProveError) → IsBetween lines rest s t → Fits t.size
+    → position (λ b. b == 10) rest ≡ Some n
     → IsUnwritten (ProgramLine (take n rest)) t u e → IsBrokenOffAmong (map ProgramLine lines) s u e
 piece_breaks lines rest s t u n e b fits p h =
     let next = next_piece b.left rest n b.rest_is b.one_line p in
     subst (λ xs. IsBrokenOffAmong xs s u e)
-    (sym (ap (λ xs. map ProgramLine xs) (b.split ∙ ap (λ xs. b.done ++ xs) next.split) ∙ map-append ProgramLine b.done (take n rest ∷ next.later)))
+    (sym (ap (λ xs. map ProgramLine xs) (b.split ∙ ap (λ xs. b.done ++ xs) next.split) ∙ map-append ProgramLine b.done
+    (take n rest ∷ next.later)))
     (broken_on (map ProgramLine b.done) s t u b.written (ProgramLine (take n rest) ∷ map ProgramLine next.later) e
     (unwritten_first t u fits (ProgramLine (take n rest)) (map ProgramLine next.later) e h))
 
 -- memory runs out between two lines
-pub memory_between : (lines : List (List ℕ)) (rest : List ℕ) (s t : State) → IsBetween lines rest s t → Fits t.size → IsBrokenOffAmong (map ProgramLine lines) s t NoMemory
+pub memory_between : (lines : List (List ℕ)) (rest : List ℕ) (s t : State) → IsBetween lines rest s t → Fits t.size
+    → IsBrokenOffAmong (map ProgramLine lines) s t NoMemory
 memory_between lines rest s t b fits =
     subst (λ xs. IsBrokenOffAmong xs s t NoMemory) (sym (ap (λ xs. map ProgramLine xs) b.split ∙ map-append ProgramLine b.done b.left))
-    (broken_on (map ProgramLine b.done) s t t b.written (map ProgramLine b.left) NoMemory (memory_first t t fits (map ProgramLine b.left) refl refl))
+    (broken_on (map ProgramLine b.done) s t t b.written (map ProgramLine b.left) NoMemory
+    (memory_first t t fits (map ProgramLine b.left) refl refl))

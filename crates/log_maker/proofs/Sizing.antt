@@ -19,7 +19,8 @@ pub holds_nothing : (z : Size) (held : Option (List ℕ)) → HoldsText z held [
 holds_nothing (Written bytes) held = Grows-nothing held
 holds_nothing Counted held = refl
 
-pub holds_more : (z : Size) (n : ℕ) (a b d : Option (List ℕ)) (xs ys : List ℕ) → HoldsText z a xs b → HoldsText (with_text z n) b ys d → HoldsText z a (xs ++ ys) d
+pub holds_more : (z : Size) (n : ℕ) (a b d : Option (List ℕ)) (xs ys : List ℕ) → HoldsText z a xs b → HoldsText (with_text z n) b ys d
+    → HoldsText z a (xs ++ ys) d
 holds_more (Written bytes) n a b d xs ys h g = Grows-append a b d xs ys h g
 holds_more Counted n a b d xs ys h g = let e : d ≡ b = g in let f : b ≡ a = h in cc
 

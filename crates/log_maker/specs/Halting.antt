@@ -90,7 +90,8 @@ IsAnswered NoMemoryThere s t e = (e ≡ NoMemory) × (t ≡ s)
 
 -- WHAT IS WRITTEN WHOLE
 -- the steps from the polynomial on and the end were written, and the last polynomial is this
-pub record WorksSteps (frame : Frame) (c : Construction) (known : List Var) (left : ℕ) (q : Summands) (left' : ℕ) (s t : State) (end : Summands)
+pub record WorksSteps (frame : Frame) (c : Construction) (known : List Var) (left : ℕ) (q : Summands) (left' : ℕ) (s t : State)
+    (end : Summands)
     : Type 0 where
   pub steps : List ChainStep
   pub leads : leads_in frame c known left q steps left' end
@@ -99,7 +100,8 @@ pub record WorksSteps (frame : Frame) (c : Construction) (known : List Var) (lef
   pub written : Writes (map line_of steps ++ End ∷ []) s t
 
 -- the chain of the term was written; it ends so, and this variable is known then
-pub record WorksChain (frame : Frame) (c : Construction) (header : Line) (known : List Var) (left : ℕ) (e : Tree) (left' : ℕ) (s t : State) (end : Summands)
+pub record WorksChain (frame : Frame) (c : Construction) (header : Line) (known : List Var) (left : ℕ) (e : Tree) (left' : ℕ) (s t : State)
+    (end : Summands)
     (variable : Option Var) : Type 0 where
   pub chain : Chain
   pub works : works_in frame c known left e chain left'

@@ -54,7 +54,8 @@ framed_line _ line = line
 abbrev pub IsNextIn : Frame → Construction → Place → Next → Type 0
 IsNextIn Full c place next = IsNext lemma_table c place next
 IsNextIn Fixed c (in_chain known left q) (comes line) =
-    ((step : ChainStep) × (left' : ℕ) × (r : Summands) × LeadsInFrame lemma_table c known left q (step ∷ []) left' r × (line ≡ line_of step))
+    ((step : ChainStep) × (left' : ℕ) × (r : Summands) × LeadsInFrame lemma_table c known left q (step ∷ []) left' r
+    × (line ≡ line_of step))
     ⊎ (NoCutDue known q × IsEnd q × (line ≡ End))
 IsNextIn Fixed c (before_sample listed left) (comes line) =
     (values : List (Var × ℤ)) × (left' : ℕ) × IsFixedSample c listed left values left' × (line ≡ Sample values)
@@ -63,7 +64,8 @@ IsNextIn Fixed c (before_sample listed left) (stops stop) =
 IsNextIn Fixed c place next = IsNext lemma_table c place next
 
 -- the line is the one that the prover writes after q, in this frame
-pub record IsNextLineIn (frame : Frame) (c : Construction) (known : List Var) (left : ℕ) (q : Summands) (line : Line) (left' : ℕ) : Type 0 where
+pub record IsNextLineIn (frame : Frame) (c : Construction) (known : List Var) (left : ℕ) (q : Summands) (line : Line)
+    (left' : ℕ) : Type 0 where
   pub own : Line
   pub next : IsNextLine c known left q own left'
   pub is : line ≡ framed_line frame own

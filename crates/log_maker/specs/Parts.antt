@@ -33,7 +33,8 @@ abbrev pub here_part : Place → Part
 here_part here = record { begun = λ lines place. (lines ≡ []) × (place ≡ here); whole = λ lines verdict left. ⊥ }
 
 -- some steps lead from the polynomial to another, and these are their lines
-pub record IsBegunSteps (frame : Frame) (c : Construction) (known : List Var) (left : ℕ) (q : Summands) (lines : List Line) (place : Place) : Type 0 where
+pub record IsBegunSteps (frame : Frame) (c : Construction) (known : List Var) (left : ℕ) (q : Summands) (lines : List Line)
+    (place : Place) : Type 0 where
   pub steps : List ChainStep
   pub after : ℕ
   pub last : Summands

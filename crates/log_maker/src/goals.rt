@@ -24,8 +24,9 @@ use geo_terms::Steps;
 use proof_log::{Line, Verdict};
 use std::alloc::Global;
 
-/// Writes the chains of the goals, whose terms stand in the store of `terms`, in order, up to and with the first that does not end in 0, and
-/// answers the verdict. The end that is not 0 is among the findings then.
+/// Writes the chains of the goals, whose terms stand in the store of `terms`, in order, up to and
+/// with the first that does not end in 0, and answers the verdict. The end that is not 0 is among
+/// the findings then.
 pub fn work_goals<K: Sink>(
     alloc: Global,
     frame: Frame,

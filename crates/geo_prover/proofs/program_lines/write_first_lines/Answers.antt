@@ -18,7 +18,8 @@ write-requires g c = takable_of _ (Header 2) (let h : IsWritable (Header 2) = se
 pub returns-in_err-write-clause-err : goal.returns-in_err-write-clause-err
 returns-in_err-write-clause-err g c =
     if_err _ _ c.in_err-write.field-0.0 c.from_residual-in_err-write.ensures.1
-    (unwritten_first _ _ c.args.log.now.within (Header 2) (map ProgramLine (source_lines (source_of c.args.program.now))) c.in_err-write.field-0.0 c.in_err-write.ensures.err)
+    (unwritten_first _ _ c.args.log.now.within (Header 2)
+    (map ProgramLine (source_lines (source_of c.args.program.now))) c.in_err-write.field-0.0 c.in_err-write.ensures.err)
 
 pub returns-clause-ok : goal.returns-clause-ok
 returns-clause-ok g c =

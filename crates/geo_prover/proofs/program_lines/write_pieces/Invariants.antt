@@ -9,7 +9,8 @@ use Rattle.geo_prover.proofs.program_lines.write_pieces.Given as goal
 abbrev pub invariant-loop-end : goal.invariant-loop-end
 invariant-loop-end g l =
     (lines : List (List ℕ)) → l.text ≡ pieces lines → AllByRecursion HasNoLineFeed lines
-    → IsBetween lines l.rest (state l.initial.log (g.K.Sink.held l.initial.sink) (g.K.Sink.faults l.initial.sink)) (state l.log (g.K.Sink.held l.sink) (g.K.Sink.faults l.sink))
+    → IsBetween lines l.rest (state l.initial.log (g.K.Sink.held l.initial.sink) (g.K.Sink.faults l.initial.sink))
+    (state l.log (g.K.Sink.held l.sink) (g.K.Sink.faults l.sink))
 
 abbrev pub decreases-loop-end : goal.decreases-loop-end
 decreases-loop-end g l = length l.rest

@@ -13,4 +13,5 @@ returns-in-Err-clause-err g c =
     let e = tree_of c.args.terms.now.nodes c.args.term in
     answered_here frame steps (before_start left e) _ _ c.args.log.now.within c.in-Err.error
     (λ is. start_stops frame steps left e spent (c.in-Err.ensures.spent (ap Err is)).0)
-    (λ which is. start_stops frame steps left e (too_large which) (c.in-Err.ensures.too_large which (ap Err is)).0) (λ is. c.in-Err.ensures.row (ap Err is)) c.stopped.result c.stopped.ensures
+    (λ which is. start_stops frame steps left e (too_large which) (c.in-Err.ensures.too_large which (ap Err is)).0)
+    (λ is. c.in-Err.ensures.row (ap Err is)) c.stopped.result c.stopped.ensures

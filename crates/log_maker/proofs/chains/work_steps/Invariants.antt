@@ -8,7 +8,9 @@ use Rattle.log_maker.proofs.chains.work_steps.Given as goal
 
 abbrev pub invariant-loop-last : goal.invariant-loop-last
 invariant-loop-last g l = record {
-  way : IsUnderWay l.frame l.steps l.known l.initial.budget.left l.fn.first l.budget.left l.last (state l.initial.log (g.K.Sink.held l.initial.sink) (g.K.Sink.faults l.initial.sink)) (state l.log (g.K.Sink.held l.sink) (g.K.Sink.faults l.sink));
+  way : IsUnderWay l.frame l.steps l.known l.initial.budget.left l.fn.first l.budget.left l.last
+      (state l.initial.log (g.K.Sink.held l.initial.sink) (g.K.Sink.faults l.initial.sink))
+      (state l.log (g.K.Sink.held l.sink) (g.K.Sink.faults l.sink));
   points : AllVariables (HasPointsBelow (length l.steps.steps)) l.last;
   numbers : IsKnownOf l.steps.nodes l.numbers;
 }
