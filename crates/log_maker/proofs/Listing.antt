@@ -1,9 +1,10 @@
 -- The chains of conditions and goals, one after another.
 use Rattle.std.proofs.Common.{◌≡◌, ◌≢◌, ℕ, zero, suc, ◌+◌, ◌<◌, ◌≤◌, ◌^◌, inl, inr, Option, Some, None, List, [], ◌∷◌, ◌++◌, length}
-use Rattle.std.proofs.Common.{append-nil, append_assoc, add-one, refl, sym, ◌∙◌, ap, subst, drop, ℤ, arith}
+use Rattle.std.proofs.Common.{append-nil, append_assoc, add-one, refl, sym, ◌∙◌, ap, subst, take, drop, ℤ, arith}
 use Rattle.std.specs.Prelude.{All, IfNone, IfSome, slice_get}
 use Rattle.std.specs.List.{cons_option}
 use Rattle.std.proofs.lemmas.List.Elements.{recursion_from_All}
+use Rattle.std.proofs.Math.Seq.{take-append_seam, take-length}
 use Rattle.geo_conditions.specs.declared.items.Item.{Item as ListedItem}
 use Rattle.geo_conditions.specs.declared.problem.Problem.{Problem}
 use Rattle.geo_conditions.specs.Lists.{item_form}
@@ -343,6 +344,13 @@ module _ (frame : Frame) (c : Construction) (nodes : Store) (list : List ListedI
 pub nonzero_more : (listed listed' : List Summands) (end : Summands) → NoneZero listed → end ≢ [] → listed' ≡ listed ++ end ∷ []
     → NoneZero listed'
 nonzero_more listed listed' end h n e = subst NoneZero (sym e) (All-push (λ r. r ≢ []) listed end h n)
+
+-- ENDS THAT ARE ONLY ADDED
+pub ends_stay : (listed listed' : List Summands) → listed' ≡ listed → take (length listed) listed' ≡ listed
+ends_stay listed listed' e = ap (λ ls. take (length listed) ls) e ∙ take-length listed
+
+pub ends_grow : (listed listed' more : List Summands) → listed' ≡ listed ++ more → take (length listed) listed' ≡ listed
+ends_grow listed listed' more e = ap (λ ls. take (length listed) ls) e ∙ take-append_seam listed more
 
 -- THE END
 module _ (frame : Frame) (c : Construction) (listed : List Summands) (verdict : Verdict) (left : ℕ) where

@@ -7,7 +7,7 @@ use Rattle.log_maker.specs.Parts.{end_part}
 use Rattle.log_maker.specs.Tasks.{goals_from}
 use Rattle.log_maker.specs.Written.{state}
 use Rattle.log_maker.proofs.Handing.{if_err}
-use Rattle.log_maker.proofs.Listing.{nonzero_more}
+use Rattle.log_maker.proofs.Listing.{ends_grow, ends_stay, nonzero_more}
 use Rattle.log_maker.proofs.Passing.{halts_on, memory_in, passes_at_once, passes_on}
 use Rattle.log_maker.proofs.goals.work_goals.Goals as goal
 
@@ -113,3 +113,34 @@ loop-i-init g c =
       kept = refl;
       numbers = c.requires.numbers;
     }
+
+-- the findings of before stay
+pub returns-in_err-chain-clause-known : goal.returns-in_err-chain-clause-known
+returns-in_err-chain-clause-known g c = ap (λ f. f.known) c.loop-i.invariant.kept
+
+pub returns-in_err-chain-clause-ends : goal.returns-in_err-chain-clause-ends
+returns-in_err-chain-clause-ends g c =
+    ends_stay c.args.findings.now.ends c.loop-i.findings.ends (ap (λ f. f.ends) c.loop-i.invariant.kept)
+
+pub returns-in_err-add_end-clause-known : goal.returns-in_err-add_end-clause-known
+returns-in_err-add_end-clause-known g c = c.add_end.ensures.known ∙ ap (λ f. f.known) c.loop-i.invariant.kept
+
+pub returns-in_err-add_end-clause-ends : goal.returns-in_err-add_end-clause-ends
+returns-in_err-add_end-clause-ends g c =
+    ends_stay c.args.findings.now.ends c.add_end.new.self.ends
+    (c.in_err-add_end.ensures.same ∙ ap (λ f. f.ends) c.loop-i.invariant.kept)
+
+pub returns-then-not-is_zero-clause-known : goal.returns-then-not-is_zero-clause-known
+returns-then-not-is_zero-clause-known g c = c.add_end.ensures.known ∙ ap (λ f. f.known) c.loop-i.invariant.kept
+
+pub returns-then-not-is_zero-clause-ends : goal.returns-then-not-is_zero-clause-ends
+returns-then-not-is_zero-clause-ends g c =
+    ends_grow c.args.findings.now.ends c.add_end.new.self.ends (c.in_ok-chain.chain.end ∷ [])
+    (c.in_ok-add_end.ensures.ends ∙ ap (λ f. f.ends ++ c.in_ok-chain.chain.end ∷ []) c.loop-i.invariant.kept)
+
+pub returns-clause-known : goal.returns-clause-known
+returns-clause-known g c = ap (λ f. f.known) c.loop-i.invariant.kept
+
+pub returns-clause-ends : goal.returns-clause-ends
+returns-clause-ends g c =
+    ends_stay c.args.findings.now.ends c.loop-i.findings.ends (ap (λ f. f.ends) c.loop-i.invariant.kept)
