@@ -17,9 +17,9 @@ use Rattle.elim_apply.specs.LemmaTable.{lemma_table}
 use Rattle.geo_logs.specs.declared.moves.Move.TheVariants.{Ratio, Point, Coords}
 use Rattle.geo_logs.specs.Chains.{Chain, ChainStep, IsEnd, moves, cuts, line_of}
 use Rattle.geo_logs.specs.Defined.{LeadsBySteps, NoCutDue}
-use Rattle.geo_logs.specs.Ends.{IsNext, comes, stops}
+use Rattle.geo_logs.specs.Ends.{comes}
 use Rattle.geo_logs.specs.Logs.{only_variable}
-use Rattle.geo_logs.specs.Moves.{Stop, move_charge, replacement}
+use Rattle.geo_logs.specs.Moves.{move_charge, replacement}
 use Rattle.geo_logs.specs.Naming.{IsNamed}
 use Rattle.geo_logs.specs.Places.{before_line, before_start, in_chain}
 use Rattle.geo_logs.specs.Starts.{IsStarted, start_charge, start_of}

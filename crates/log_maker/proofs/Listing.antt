@@ -1,5 +1,5 @@
 -- The chains of conditions and goals, one after another.
-use Rattle.std.proofs.Common.{◌≡◌, ◌≢◌, ℕ, zero, suc, ◌+◌, ◌<◌, ◌≤◌, ◌^◌, inl, inr, Option, Some, None, List, [], ◌∷◌, ◌++◌, length}
+use Rattle.std.proofs.Common.{◌≡◌, ◌≢◌, ℕ, zero, suc, ◌+◌, ◌<◌, ◌≤◌, inl, inr, Option, Some, None, List, [], ◌∷◌, ◌++◌, length}
 use Rattle.std.proofs.Common.{append-nil, append_assoc, add-one, refl, sym, ◌∙◌, ap, subst, take, drop, ℤ, arith}
 use Rattle.std.specs.Prelude.{All, IfNone, IfSome, slice_get}
 use Rattle.std.specs.List.{cons_option}
@@ -31,7 +31,7 @@ use Rattle.log_maker.specs.InFrame.{chosen_in}
 use Rattle.log_maker.specs.Sizes.{Fits}
 use Rattle.log_maker.specs.Halting.{Finishes, Halts, IsImpossibleAt, Passes, WorksChain}
 use Rattle.log_maker.specs.Parts.{IsInside, Part, chain_part, conditions_part, end_part, goals_part, here_part, items_of}
-use Rattle.log_maker.specs.Tasks.{IsConditionTask, IsGoalTask, IsItemReady, IsReady, conditions_before, conditions_from, goals_from}
+use Rattle.log_maker.specs.Tasks.{IsConditionTask, IsGoalTask, IsItemReady, conditions_before, conditions_from, goals_from}
 use Rattle.log_maker.specs.Written.{State, Writes}
 use Rattle.log_maker.proofs.Passing.{memory_in, passes_at_once, reaches, writes_more, writes_nothing}
 

@@ -4,7 +4,6 @@ use Rattle.geo_poly.specs.declared.variables.Var.{Var}
 use Rattle.geo_poly.specs.Polynomials.{Summands}
 use Rattle.geo_sample.specs.Samples.{SearchEndsIn}
 use Rattle.geo_terms.specs.Constructions.{Construction}
-use Rattle.geo_terms.specs.Trees.{Tree}
 use Rattle.proof_log.specs.declared.log.Line.{Line}
 use Rattle.proof_log.specs.declared.log.Line.TheVariants.{Coords, End, Sample}
 use Rattle.elim_apply.specs.LemmaTable.{lemma_table}

@@ -1,4 +1,4 @@
-use Rattle.std.proofs.Common.{[], ◌∷◌, sym, subst}
+use Rattle.std.proofs.Common.{[], sym, subst}
 use Rattle.std.proofs.lemmas.Result.{IfErr-weaker, IfOk-weaker}
 use Rattle.geo_logs.specs.Places.{before_line}
 use Rattle.proof_log.specs.declared.log.Line.TheVariants.{Verdict as VerdictLine}
