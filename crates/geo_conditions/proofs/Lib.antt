@@ -23,4 +23,3 @@ pub mod StillLowered
 pub mod Sights
 pub mod Sightings
 pub mod SamePrograms
-pub mod RelationItems
