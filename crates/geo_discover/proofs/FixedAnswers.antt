@@ -1,7 +1,8 @@
 -- What the work in the fixed frame tells, of a program's log in that frame.
 use Rattle.std.proofs.Common.{◌≡◌, ℕ, suc, ◌+◌, ◌^◌, ◌<◌, inl, inr, List, [], ◌∷◌, ◌++◌, map, length, refl, sym, ◌∙◌, ap, subst, arith}
-use Rattle.std.proofs.lemmas.List.{length-append, map-append}
-use Rattle.geo_base.specs.Devices.{HasRisen}
+use Rattle.std.specs.Prelude.{IfErr, IsErrAnd, Result}
+use Rattle.std.proofs.lemmas.List.{length-append}
+use Rattle.std.proofs.lemmas.Result.{err_from_is_err_and}
 use Rattle.geo_conditions.specs.declared.problem.Problem.{Problem}
 use Rattle.geo_conditions.specs.Lists.{IsProblem}
 use Rattle.geo_conditions.specs.Problems.{form_of_problem}
@@ -21,9 +22,9 @@ use Rattle.proof_log.specs.declared.log.Line.{Line}
 use Rattle.proof_log.specs.declared.log.Line.TheVariants.{Header, Program as ProgramLine}
 use Rattle.proof_log.specs.declared.log.Verdict.{Verdict}
 use Rattle.elim_apply.specs.LemmaTable.{lemma_table}
-use Rattle.geo_logs.specs.Ends.{ends_by, ends_with, stops, text_length}
+use Rattle.geo_logs.specs.Ends.{ends_by, ends_with, stops}
 use Rattle.geo_logs.specs.Logs.{Subject}
-use Rattle.geo_logs.specs.Moves.{Stop}
+use Rattle.geo_logs.specs.Moves.{Stop, spent, too_large}
 use Rattle.geo_logs.specs.Places.{Place, before_line, before_sample, before_start, first_lines, in_chain}
 use Rattle.log_checker.specs.Laws.{IsDecided}
 use Rattle.log_checker.specs.Subjects.{IsSubjectOf, source_lines}
@@ -32,13 +33,16 @@ use Rattle.log_maker.specs.declared.frame.Frame.TheVariants.{Fixed}
 use Rattle.log_maker.specs.declared.size.Size.{Size}
 use Rattle.log_maker.specs.declared.size.Size.TheVariants.{Counted}
 use Rattle.log_maker.specs.FixedLogs.{IsFixedLog, IsStoppedAt}
-use Rattle.log_maker.specs.Halting.{Finishes, IsStopped, IsTooLong}
+use Rattle.log_maker.specs.declared.errors.ProveError.{ProveError}
+use Rattle.log_maker.specs.declared.errors.ProveError.TheVariants as error
+use Rattle.log_maker.specs.Halting.{Finishes, Halts, IsStopped}
 use Rattle.log_maker.specs.InFrame.{IsNextIn}
 use Rattle.log_maker.specs.Parts.{CanWrite, Part}
-use Rattle.log_maker.specs.Sizes.{IsPast, IsTakable, with_text}
+use Rattle.log_maker.specs.Sizes.{IsTakable}
 use Rattle.log_maker.specs.Tasks.{conditions_from}
 use Rattle.log_maker.specs.Written.{State}
 use Rattle.geo_discover.specs.FixedEnds.{EndsWithVerdict, StopsAtLine}
+use Rattle.geo_discover.specs.Inner.Fixing.{IsFixedStop, fixed_by}
 use Rattle.geo_discover.proofs.Deciding.{fixed_verdicts_decide}
 
 -- LINES
@@ -78,13 +82,11 @@ stopped_at c (before_sample listed left) stop h = h
 pub counted_takes : (c : Construction) (P : Part) (z : Size) → z ≡ Counted → CanWrite Fixed c P z
 counted_takes c P z is lines place line b n fits = subst (λ (x : Size). IsTakable x line) (sym is) tt
 
-pub never_long : (c : Construction) (P : Part) (s t : State) → s.size ≡ Counted → IsTooLong Fixed c P s t → ⊥
-never_long c P s t is h =
-    let none : 67108864 < 0 = subst (λ (x : Size). IsPast (with_text x (text_length (h.lines ++ h.line ∷ [])))) is h.long in omega (arith, none)
-
-pub no_rise : HasRisen 0 0 → ⊥
-no_rise (inl h) = omega (arith, h)
-no_rise (inr h) = let f : ⊥ = omega (arith, h) in f
+-- the error that `?` hands on
+pub if_err : {T E : Type 0} (P : E → Type 0) (r : Result T E) (x : E) → IsErrAnd r (λ e. e ≡ x) → P x → IfErr r P
+if_err {T} {E} P r x h p =
+    let q = err_from_is_err_and r h in
+    let Q : Result T E → Type 0 = λ s. IfErr s P in subst Q (sym q.1) (subst P (sym q.2) p)
 
 -- ANSWERS
 module _ (p : Source) (problem : Problem) (steps : ℕ) (w : IsWellFormed p) (small : steps < 2 ^ 127) (is : IsProblem Two p (form_of_problem problem) problem.conditions problem.goals) where
@@ -127,3 +129,11 @@ module _ (p : Source) (problem : Problem) (steps : ℕ) (w : IsWellFormed p) (sm
         let d = front_count p subject refl in
         omega (arith, a, b, d, before);
   }
+
+  -- where the work stops
+  pub answered : (s t : State) → s.lines ≡ length p.commands + 2 → (e : ProveError) → Halts Fixed c whole s t e → IsFixedStop p steps (fixed_by e)
+  answered s t before (error.Spent n) h = stopped s t spent n before h
+  answered s t before (error.TooLarge n which) h = stopped s t (too_large which) n before h
+  answered s t before error.TooLong h = tt
+  answered s t before error.WriteFault h = tt
+  answered s t before error.NoMemory h = tt

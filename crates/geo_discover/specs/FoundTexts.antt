@@ -14,6 +14,7 @@ use Rattle.geo_logs.specs.Ends.{Ending, ends_by, ends_with, too_long}
 use Rattle.log_checker.specs.Accepted.{Accepts}
 use Rattle.geo_prover.specs.Proving.{IsLogOf}
 use Rattle.geo_discover.specs.Candidates.{candidates}
+use Rattle.geo_discover.specs.TextLines.{text_of_lines}
 use Rattle.geo_program.specs.Relations.{with_statement}
 
 -- FINDINGS
@@ -90,10 +91,6 @@ lines_with None p fs =
 
 abbrev pub found_lines : Source → List Finding → List (List ℕ)
 found_lines p fs = lines_with (first_impossible fs) p fs
-
--- with their line feeds
-abbrev pub text_of_lines : List (List ℕ) → List ℕ
-text_of_lines lines = flat_map (λ line. line ++ 10 ∷ []) lines
 
 -- HOW A SEARCH ENDS
 -- with so many relations; with a condition that is never met; with the end of the first open candidate's log, and the number of its last

@@ -1,9 +1,12 @@
 //! All relations of the stated kinds between the points of a figure.
 
-ghost use Rattle.std.specs.Prelude.{◌≡◌, ◌^◌, ◌<◌, ◌≤◌, ℕ, Err, IfOk, IsErrOf, length};
+ghost use Rattle.std.specs.Prelude.{◌≡◌, ◌≤◌, ℕ, Err, IfErr, IfOk, IsErrOf, OnOk, length};
+ghost use Rattle.std.specs.List.{AllByRecursion};
 ghost use Rattle.geo_base.specs.Devices.{HasRisen};
 ghost use Rattle.geo_discover.specs.FoundTexts.{WritesFound, WritesFoundPart, WritesTooLong};
 ghost use Rattle.geo_discover.specs.FoundTexts.{found, impossible, open_by};
+ghost use Rattle.geo_discover.specs.Candidates.{candidates};
+ghost use Rattle.geo_discover.specs.Inner.Searching.{BreaksSearch, Examines, IsAnswer, IsCandidate, progress};
 ghost use Rattle.geo_logs.specs.Ends.{ends_by};
 ghost use Rattle.geo_logs.specs.Moves.{spent, too_large};
 ghost use Rattle.geo_poly.specs.declared.limits.Which.{Which};
@@ -11,13 +14,11 @@ ghost use Rattle.geo_program.specs.Programs.{program_text, source_of};
 ghost use Rattle.geo_program.specs.WellFormed.{empty_scope, scope_of};
 
 use crate::errors::DiscoverError;
-use crate::found_text::FoundText;
-use crate::quadruples::search_quadruples;
-use crate::search::{Found, Search, put_counts};
-use crate::segments::{Kind, search_segments};
-use crate::triples::{collinear, search_triples};
+use crate::listing::list_candidates;
+use crate::search::{Found, Search};
 use geo_base::Sink;
-use geo_program::{Name, NameKind, Program};
+use geo_points::NoMemory;
+use geo_program::{Name, NameKind, Program, Statement};
 use std::alloc::Global;
 
 /// Writes each relation between the points of the program, each with its log; the candidates that
@@ -55,41 +56,74 @@ pub fn discover<K: Sink>(
         → WritesFoundPart (source_of program.now) steps (K.held sink.old) (K.held sink.new) }
     ensures faults { K.faults sink.old ≤ K.faults sink.new }
 {
-    let points = point_count(program.names.as_slice());
-    if points < 3 {
-        put_counts(alloc, &mut FoundText::new(), 0, 0, sink)?;
-        return Ok(Found { relations: 0 });
-    }
-    let figure = program.with_statement(alloc, collinear(0, 1, 2))?;
-    let mut search = Search::new(alloc, &figure, steps)?;
-    search_all(alloc, &mut search, points, sink)?;
+    discover_all(alloc, program, steps, sink)
+}
+
+/// The same, with all errors in one clause.
+fn discover_all<K: Sink>(
+    alloc: Global,
+    program: &Program,
+    steps: u64,
+    sink: &mut K,
+) -> Result<Found, DiscoverError>
+    requires short { length (program_text program.now) ≤ 67108864 }
+    ensures ok { IfOk result (λ f. WritesFound (source_of program.now) steps
+        (K.held sink.old) (K.held sink.new) (found f.relations)) }
+    ensures err { IfErr result (IsAnswer (source_of program.now) steps
+        (K.held sink.old) (K.held sink.new) (K.faults sink.old) (K.faults sink.new)) }
+    ensures faults { K.faults sink.old ≤ K.faults sink.new }
+{
+    let all = candidates_of(alloc, program)?;
+    let mut search = Search::new();
+    examine_all(alloc, program, steps, &all, &mut search, sink)?;
     search.conclude(alloc, sink)
 }
 
-/// How many of the names are points.
-fn point_count(names: &[Name]) -> u32
-    requires { length names.now < 2 ^ 32 }
-    ensures { result ≡ (scope_of empty_scope names.now).points }
+/// The candidates of the program.
+fn candidates_of(alloc: Global, program: &Program) -> Result<Vec<Statement>, NoMemory>
+    ensures { IfOk result (λ all. all.items ≡ candidates (source_of program.now)) }
+{
+    let points = point_count(program.names.as_slice())?;
+    list_candidates(alloc, points)
+}
+
+/// How many of the names are points. More than a number can tell are answered by want of memory.
+fn point_count(names: &[Name]) -> Result<u32, NoMemory>
+    ensures { IfOk result (λ n. n ≡ (scope_of empty_scope names.now).points) }
 {
     let mut count = 0;
     for name in names {
         if name.kind == NameKind::Point {
+            if count == u32::MAX {
+                return Err(NoMemory);
+            }
             count += 1;
         }
     }
-    count
+    Ok(count)
 }
 
-/// Examines all candidates over so many points, kind by kind.
-fn search_all<K: Sink>(
+/// Examines the candidates in order.
+fn examine_all<K: Sink>(
     alloc: Global,
+    program: &Program,
+    steps: u64,
+    all: &[Statement],
     search: &mut Search,
-    points: u32,
     sink: &mut K,
-) -> Result<(), DiscoverError> {
-    search_triples(alloc, search, points, sink)?;
-    search_segments(alloc, search, Kind::Parallel, points, sink)?;
-    search_segments(alloc, search, Kind::Perpendicular, points, sink)?;
-    search_segments(alloc, search, Kind::SameLength, points, sink)?;
-    search_quadruples(alloc, search, points, sink)
+) -> Result<(), DiscoverError>
+    requires short { length (program_text program.now) ≤ 67108864 }
+    requires candidates { AllByRecursion (IsCandidate (source_of program.now)) all.now }
+    requires none { search.old.examined ≡ 0 }
+    ensures ok { OnOk result (Examines (source_of program.now) steps all.now
+        (progress search.old (K.held sink.old)) (progress search.new (K.held sink.new))) }
+    ensures err { IfErr result (BreaksSearch (source_of program.now) steps all.now
+        (progress search.old (K.held sink.old)) (K.held sink.new)
+        (K.faults sink.old) (K.faults sink.new)) }
+    ensures faults { K.faults sink.old ≤ K.faults sink.new }
+{
+    for statement in all {
+        search.examine(alloc, program, steps, *statement, sink)?;
+    }
+    Ok(())
 }

@@ -2,6 +2,7 @@
 
 use geo_points::NoMemory;
 use geo_poly::Which;
+use log_maker::ProveError;
 use std::alloc::{AllocError, AllocFailed};
 
 /// Why a search does not tell of every candidate whether it is a relation.
@@ -73,5 +74,23 @@ impl From<NoMemory> for FixedError {
 
     fn from(_error: NoMemory) -> FixedError {
         FixedError::NoMemory
+    }
+}
+
+/// The same stop. Lines that are counted are not too long, and no write of them fails.
+impl From<ProveError> for FixedError {
+    ghost use Rattle.std.specs.Prelude.{◌≡◌};
+    ghost use Rattle.geo_discover.specs.Inner.Fixing.{fixed_by};
+
+    ghost from_gives = { λ error e. e ≡ fixed_by error };
+
+    fn from(error: ProveError) -> FixedError {
+        match error {
+            ProveError::Spent { line } => FixedError::Spent { line },
+            ProveError::TooLarge { line, which } => FixedError::TooLarge { line, which },
+            ProveError::TooLong | ProveError::WriteFault | ProveError::NoMemory => {
+                FixedError::NoMemory
+            }
+        }
     }
 }

@@ -1,19 +1,21 @@
 //! What the log of one candidate says of it.
 
-use crate::conditions::{Conditions, Outcome};
-use elim_apply::KnownNumbers;
-use geo_base::{Budget, SureSink};
-use geo_conditions::Goals;
+ghost use Rattle.std.specs.Prelude.{◌≡◌, ◌≤◌, IfOk, length};
+ghost use Rattle.geo_program.specs.Programs.{program_text, source_of};
+ghost use Rattle.geo_discover.specs.Inner.Searching.{IsCandidate, IsJudged, judgement_by};
+
+use geo_base::SureSink;
 use geo_points::NoMemory;
-use geo_terms::Steps;
-use log_maker::{Findings, Frame, LogWriter, ProveError, work_rest, write_impossible};
+use geo_program::{Program, Statement};
+use geo_prover::prove;
+use log_maker::ProveError;
 use proof_log::Verdict;
 use std::alloc::Global;
 
 /// What a log says of its candidate.
 #[derive(Drop)]
 pub(crate) enum Judgement {
-    /// It is a relation. These are the lines of its log behind the conditions.
+    /// It is a relation. This is its log.
     Relation(SureSink),
     /// It is open: its log ends so.
     Open(ProveError),
@@ -23,71 +25,34 @@ pub(crate) enum Judgement {
     Impossible(u32),
 }
 
-/// What the log says of the candidate with these goals, whose terms stand in the store of `terms`,
-/// where so many bytes stand before the conditions' lines.
+/// What its log with so many steps says of a candidate, which takes the place of the program's
+/// statement.
 pub(crate) fn judge(
     alloc: Global,
-    steps: &Steps,
-    terms: &Steps,
-    goals: &Goals,
-    conditions: &mut Conditions,
-    numbers: &mut KnownNumbers,
-    before: u64,
-) -> Result<Judgement, NoMemory> {
-    let Some(mut log) = conditions.writer_behind(before) else {
-        return Ok(Judgement::Open(ProveError::TooLong));
-    };
-    let mut text = SureSink::new(alloc);
-    let ended = match conditions.outcome {
-        Outcome::Met { left } => judge_goal(
-            alloc,
-            steps,
-            terms,
-            goals,
-            &mut conditions.findings,
-            numbers,
-            left,
-            &mut log,
-            &mut text,
-        ),
-        Outcome::Impossible(k) => write_impossible(alloc, k, &mut log, &mut text),
-        Outcome::Stopped(error) => Err(error),
-    };
-    match ended {
-        Ok(Verdict::Proved) => Ok(Judgement::Relation(text)),
-        Ok(Verdict::False(_)) => Ok(Judgement::Fails),
-        Ok(Verdict::Impossible(k)) => Ok(Judgement::Impossible(k)),
+    program: &Program,
+    steps: u64,
+    statement: Statement,
+) -> Result<Judgement, NoMemory>
+    requires candidate { IsCandidate (source_of program.now) statement }
+    requires short { length (program_text program.now) ≤ 67108864 }
+    ensures { IfOk result (IsJudged (source_of program.now) steps statement) }
+{
+    let candidate = program.with_statement(alloc, statement)?;
+    let mut log = SureSink::new(alloc);
+    match prove(alloc, &candidate, steps, &mut log) {
+        Ok(summary) => Ok(judgement_of(summary.verdict, log)),
         Err(ProveError::NoMemory) => Err(NoMemory),
         Err(error) => Ok(Judgement::Open(error)),
     }
 }
 
-/// The verdict on the goals, where the conditions show so much. What they show stays as it is.
-fn judge_goal(
-    alloc: Global,
-    steps: &Steps,
-    terms: &Steps,
-    goals: &Goals,
-    findings: &mut Findings,
-    numbers: &mut KnownNumbers,
-    left: u64,
-    log: &mut LogWriter,
-    text: &mut SureSink,
-) -> Result<Verdict, ProveError> {
-    let shown = findings.ends.items.len();
-    let mut budget = Budget { left };
-    let verdict = work_rest(
-        alloc,
-        Frame::Full,
-        steps,
-        terms,
-        goals,
-        findings,
-        numbers,
-        &mut budget,
-        log,
-        text,
-    );
-    findings.ends.items.truncate(shown);
-    verdict
+/// What is said by a log that ends with this verdict.
+fn judgement_of(verdict: Verdict, log: SureSink) -> Judgement
+    ensures { result ≡ judgement_by verdict log }
+{
+    match verdict {
+        Verdict::Proved => Judgement::Relation(log),
+        Verdict::False(_) => Judgement::Fails,
+        Verdict::Impossible(k) => Judgement::Impossible(k),
+    }
 }

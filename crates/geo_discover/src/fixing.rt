@@ -1,12 +1,12 @@
 //! The verdict in the frame in which the first point is the origin.
 
-ghost use Rattle.std.specs.Prelude.{◌≡◌, ◌≢◌, ◌+◌, ◌^◌, ◌<◌, ℕ, Err, IfOk, length};
+ghost use Rattle.std.specs.Prelude.{◌≡◌, ◌+◌, ◌^◌, ◌<◌, ℕ, Err, IfErr, IfOk, length};
 ghost use Rattle.geo_discover.specs.FixedEnds.{EndsWithVerdict, StopsAtLine};
+ghost use Rattle.geo_discover.specs.Inner.Fixing.{IsFixedStop};
 ghost use Rattle.geo_logs.specs.Moves.{spent, too_large};
 ghost use Rattle.geo_poly.specs.declared.limits.Which.{Which};
 ghost use Rattle.geo_program.specs.Programs.{source_of};
 ghost use Rattle.log_checker.specs.Laws.{IsDecided};
-ghost use Rattle.log_maker.specs.declared.errors.ProveError.{ProveError};
 
 use crate::errors::FixedError;
 use elim_apply::KnownNumbers;
@@ -14,17 +14,9 @@ use geo_base::{Budget, SureSink};
 use geo_lowering::Version;
 use geo_program::Program;
 use log_checker::versions::problem_by;
-use log_maker::{Frame, LogWriter, ProveError, work};
+use log_maker::{Frame, LogWriter, work};
 use proof_log::Verdict;
 use std::alloc::Global;
-
-/// The lines of a log before its chains: the header, the commands, the statement.
-fn lines_before(program: &Program) -> u64
-    ensures count { result ≡ length program.now.commands + 2 }
-    ensures small { result + 1 < 2 ^ 64 }
-{
-    program.commands.as_slice().len() as u64 + 2
-}
 
 /// The verdict of the program's log in the frame in which the first point is the origin. Its lines
 /// are counted, and not written.
@@ -37,12 +29,21 @@ pub fn fixed(alloc: Global, program: &Program, steps: u64) -> Result<Verdict, Fi
         → result ≡ Err (FixedError.TooLarge line which)
         → StopsAtLine (source_of program.now) steps (too_large which) line }
 {
+    fixed_all(alloc, program, steps)
+}
+
+/// The same, with all errors in one clause.
+fn fixed_all(alloc: Global, program: &Program, steps: u64) -> Result<Verdict, FixedError>
+    ensures verdict { IfOk result (EndsWithVerdict (source_of program.now) steps) }
+    ensures decides { IfOk result (IsDecided (source_of program.now)) }
+    ensures err { IfErr result (IsFixedStop (source_of program.now) steps) }
+{
     let problem = problem_by(alloc, Version::Two, program)?;
     let mut numbers = KnownNumbers::new(alloc)?;
     let mut budget = Budget { left: steps };
     let mut log = LogWriter::counting(lines_before(program));
     let mut sink = SureSink::new(alloc);
-    match work(
+    let verdict = work(
         alloc,
         Frame::Fixed,
         &problem,
@@ -50,25 +51,14 @@ pub fn fixed(alloc: Global, program: &Program, steps: u64) -> Result<Verdict, Fi
         &mut budget,
         &mut log,
         &mut sink,
-    ) {
-        Ok(verdict) => Ok(verdict),
-        Err(error) => Err(stopped(error)),
-    }
+    )?;
+    Ok(verdict)
 }
 
-/// The same stop. Lines that are counted are not too long, and no write of them fails.
-fn stopped(error: ProveError) -> FixedError
-    requires long { error ≢ ProveError.TooLong }
-    requires fault { error ≢ ProveError.WriteFault }
-    ensures spent { (line : ℕ) → result ≡ FixedError.Spent line → error ≡ ProveError.Spent line }
-    ensures too_large { (line : ℕ) (which : Which) → result ≡ FixedError.TooLarge line which
-        → error ≡ ProveError.TooLarge line which }
+/// The lines of a log before its chains: the header, the commands, the statement.
+fn lines_before(program: &Program) -> u64
+    ensures count { result ≡ length program.now.commands + 2 }
+    ensures small { result + 1 < 2 ^ 64 }
 {
-    match error {
-        ProveError::Spent { line } => FixedError::Spent { line },
-        ProveError::TooLarge { line, which } => FixedError::TooLarge { line, which },
-        ProveError::NoMemory => FixedError::NoMemory,
-        ProveError::TooLong => unreachable!(),
-        ProveError::WriteFault => unreachable!(),
-    }
+    program.commands.as_slice().len() as u64 + 2
 }

@@ -6,8 +6,8 @@ ghost use Rattle.std.specs.List.{position};
 use crate::errors::DiscoverError;
 use geo_base::{PutError, Sink, write_all};
 
-/// The most bytes of the text, and of a log.
-pub(crate) const TEXT_LIMIT: u64 = 67_108_864;
+/// The most bytes of the text.
+const TEXT_LIMIT: u64 = 67_108_864;
 
 /// How much of the text has been written.
 #[derive(Drop)]
@@ -18,8 +18,11 @@ pub(crate) struct FoundText {
 }
 
 impl FoundText {
-    ghost use Rattle.std.specs.Prelude.{◌≡◌, ◌≤◌, IfErr, OnOk};
-    ghost use Rattle.geo_discover.specs.Inner.Puts.{IsUnput, Puts};
+    ghost use Rattle.std.specs.Prelude.{◌≡◌, ◌≤◌, ◌∷◌, ◌++◌, ℕ, List, [], IfErr, OnOk};
+    ghost use Rattle.std.specs.List.{AllByRecursion};
+    ghost use Rattle.proof_log.specs.Writable.{HasNoLineFeed};
+    ghost use Rattle.geo_discover.specs.Inner.Puts.{BreaksOff, PutsLines};
+    ghost use Rattle.geo_discover.specs.TextLines.{text_of_lines};
 
     /// Nothing has been written.
     pub fn new() -> FoundText
@@ -30,10 +33,12 @@ impl FoundText {
 
     /// Writes a line, which ends with its line feed, where it is within the limit.
     pub fn put<K: Sink>(&mut self, sink: &mut K, line: &[u8]) -> Result<(), DiscoverError>
-        ensures ok { OnOk result (Puts line.now self.old.bytes self.new.bytes
+        ensures ok { OnOk result ((l : List ℕ) → line.now ≡ l ++ 10 ∷ []
+            → PutsLines (l ∷ []) self.old.bytes self.new.bytes
             (K.held sink.old) (K.held sink.new)) }
-        ensures err { IfErr result (IsUnput line.now self.old.bytes (K.held sink.old)
-            (K.held sink.new) (K.faults sink.old) (K.faults sink.new)) }
+        ensures err { IfErr result (λ e. (l : List ℕ) → line.now ≡ l ++ 10 ∷ []
+            → BreaksOff (l ∷ []) self.old.bytes (K.held sink.old) (K.held sink.new)
+            (K.faults sink.old) (K.faults sink.new) e) }
         ensures faults { K.faults sink.old ≤ K.faults sink.new }
     {
         let count = line.len() as u64;
@@ -51,7 +56,16 @@ impl FoundText {
     }
 
     /// Writes the lines of a text, one after another.
-    pub fn put_lines<K: Sink>(&mut self, sink: &mut K, text: &[u8]) -> Result<(), DiscoverError> {
+    pub fn put_lines<K: Sink>(&mut self, sink: &mut K, text: &[u8]) -> Result<(), DiscoverError>
+        ensures ok { OnOk result ((lines : List (List ℕ)) → text.now ≡ text_of_lines lines
+            → AllByRecursion HasNoLineFeed lines
+            → PutsLines lines self.old.bytes self.new.bytes (K.held sink.old) (K.held sink.new)) }
+        ensures err { IfErr result (λ e. (lines : List (List ℕ)) → text.now ≡ text_of_lines lines
+            → AllByRecursion HasNoLineFeed lines
+            → BreaksOff lines self.old.bytes (K.held sink.old) (K.held sink.new)
+            (K.faults sink.old) (K.faults sink.new) e) }
+        ensures faults { K.faults sink.old ≤ K.faults sink.new }
+    {
         let mut rest = text;
         while let Some(end) = first_line_feed(rest) {
             self.put(sink, &rest[..end + 1])?;

@@ -1,18 +1,14 @@
 //! A search: each candidate in order, what it is found to be, and what is written of it.
 
-use crate::conditions::Conditions;
+ghost use Rattle.std.specs.Prelude.{◌+◌, ◌≤◌};
+
+use crate::answers::answer_to;
 use crate::errors::DiscoverError;
 use crate::examining::{Judgement, judge};
+use crate::found_lines::{put_candidate, put_counts, put_impossible};
 use crate::found_text::FoundText;
-use crate::front::{front_text, statement_line};
-use elim_apply::KnownNumbers;
-use geo_base::{Sink, SureSink, Text, push_decimal};
-use geo_conditions::{Goals, Problem, relation_item};
-use geo_lowering::Version;
-use geo_points::NoMemory;
-use geo_program::{Printer, Program, Statement};
-use geo_terms::Steps;
-use log_checker::versions::problem_by;
+use geo_base::{Sink, SureSink};
+use geo_program::{Program, Statement};
 use log_maker::ProveError;
 use std::alloc::Global;
 
@@ -25,152 +21,167 @@ pub struct Found {
 
 /// A search under way.
 #[derive(Drop)]
-pub(crate) struct Search<'a> {
-    /// The printer of the program.
-    printer: Printer<'a>,
-    /// The problem of the program with some relation, whose conditions are those of each.
-    problem: Problem,
-    /// What is known of its terms.
-    numbers: KnownNumbers,
-    /// The terms of the candidates' goals. There are no steps.
-    terms: Steps,
-    /// The lines of each log before the statement.
-    front: Text,
-    /// The line of the statement in the program.
-    line: u64,
-    /// The chains of the conditions.
-    conditions: Conditions,
+pub(crate) struct Search {
     /// The text so far.
-    text: FoundText,
+    pub text: FoundText,
     /// How many candidates were examined.
-    examined: u64,
+    pub examined: u64,
     /// How many of them are relations.
-    relations: u64,
+    pub relations: u64,
     /// How many are open.
-    open: u64,
+    pub open_ones: u64,
     /// How the log of the first open one ends.
-    first_open: Option<ProveError>,
+    pub first_open: Option<ProveError>,
+    ghost few: { relations + open_ones ≤ examined },
 }
 
-impl<'a> Search<'a> {
-    /// Nothing is examined yet. The program has some relation as its statement.
-    pub fn new(alloc: Global, program: &'a Program, steps: u64) -> Result<Search<'a>, NoMemory> {
-        let printer = Printer::new(alloc, program)?;
-        let problem = problem_by(alloc, Version::Two, program)?;
-        let mut numbers = KnownNumbers::new(alloc)?;
-        let front = front_text(alloc, &printer, program)?;
-        let line = program.commands.as_slice().len() as u64 + 1;
-        let bytes = front.bytes.len() as u64 + 1;
-        let conditions = Conditions::work(alloc, &problem, &mut numbers, steps, line + 1, bytes)?;
-        Ok(Search {
-            printer,
-            problem,
-            numbers,
-            terms: Steps::new(alloc)?,
-            front,
-            line,
-            conditions,
+impl Search {
+    ghost use Rattle.std.specs.Prelude.{◌≡◌, ◌+◌, ◌^◌, ◌<◌, ◌≤◌, ◌×◌, ◌∷◌, [], ℕ, IfErr, IfOk, List, None, OnOk, IsOk, length, map, ◌≢◌};
+    ghost use Rattle.std.specs.List.{AllByRecursion};
+    ghost use Rattle.geo_program.specs.Programs.{program_text, source_of};
+    ghost use Rattle.proof_log.specs.declared.log.Line.{Line};
+    ghost use Rattle.proof_log.specs.Lines.{line_text, log_text};
+    ghost use Rattle.proof_log.specs.Writable.{HasNoLineFeed};
+    ghost use Rattle.geo_discover.specs.FoundTexts.{candidate_lines, nothing, open_still, relation, statement_text};
+    ghost use Rattle.geo_discover.specs.Inner.Puts.{BreaksOff, PutsLines};
+    ghost use Rattle.geo_discover.specs.Inner.Searching.{Adds, BreaksSearch, Examines, IsCandidate, IsNeverMet, IsUnsettled};
+    ghost use Rattle.geo_discover.specs.Inner.Searching.{counts_line, first_of, progress};
+
+    /// Nothing is examined yet.
+    pub fn new() -> Search
+        ensures examined { result.examined ≡ 0 }
+        ensures relations { result.relations ≡ 0 }
+        ensures open_ones { result.open_ones ≡ 0 }
+        ensures first { result.first_open ≡ None }
+        ensures bytes { result.text.bytes ≡ 0 }
+    {
+        Search {
             text: FoundText::new(),
             examined: 0,
             relations: 0,
-            open: 0,
+            open_ones: 0,
             first_open: None,
-        })
+        }
     }
 
     /// Examines the next candidate, and writes what it is found to be.
     pub fn examine<K: Sink>(
         &mut self,
         alloc: Global,
+        program: &Program,
+        steps: u64,
         statement: Statement,
         sink: &mut K,
-    ) -> Result<(), DiscoverError> {
-        let goals = self.goals_of(alloc, statement)?;
-        let own = statement_line(alloc, &self.printer, statement)?;
-        let before = (self.front.bytes.len() + own.bytes.len()) as u64;
-        let judgement = judge(
-            alloc,
-            &self.problem.steps,
-            &self.terms,
-            &goals,
-            &mut self.conditions,
-            &mut self.numbers,
-            before,
-        )?;
-        self.examined += 1;
-        match judgement {
-            Judgement::Relation(rest) => self.put_relation(alloc, statement, &own, &rest, sink),
-            Judgement::Open(error) => self.put_open(alloc, statement, error, sink),
-            Judgement::Fails => Ok(()),
-            Judgement::Impossible(k) => self.put_impossible(alloc, k, sink),
+    ) -> Result<(), DiscoverError>
+        requires candidate { IsCandidate (source_of program.now) statement }
+        requires short { length (program_text program.now) ≤ 67108864 }
+        requires few { self.old.examined + 1 < 2 ^ 64 }
+        ensures ok { OnOk result (Examines (source_of program.now) steps (statement ∷ [])
+            (progress self.old (K.held sink.old)) (progress self.new (K.held sink.new))) }
+        ensures err { IfErr result (BreaksSearch (source_of program.now) steps (statement ∷ [])
+            (progress self.old (K.held sink.old)) (K.held sink.new)
+            (K.faults sink.old) (K.faults sink.new)) }
+        ensures faults { K.faults sink.old ≤ K.faults sink.new }
+    {
+        match judge(alloc, program, steps, statement)? {
+            Judgement::Relation(log) => self.add_relation(alloc, program, statement, &log, sink),
+            Judgement::Open(error) => self.add_open(alloc, program, statement, error, sink),
+            Judgement::Fails => self.add_nothing(),
+            Judgement::Impossible(k) => self.add_impossible(alloc, k, sink),
         }
     }
 
-    /// The goals of a candidate: the candidate itself.
-    fn goals_of(&mut self, alloc: Global, statement: Statement) -> Result<Goals, NoMemory> {
-        let item = relation_item(
-            alloc,
-            &self.printer,
-            &self.problem.points,
-            &mut self.terms,
-            statement,
-            self.line,
-        )?;
-        let mut items = Vec::new(alloc);
-        items.push(item)?;
-        Ok(Goals { items })
-    }
-
     /// Writes the line of a relation, and its log.
-    fn put_relation<K: Sink>(
+    fn add_relation<K: Sink>(
         &mut self,
         alloc: Global,
+        program: &Program,
         statement: Statement,
-        own: &Text,
-        rest: &SureSink,
+        log: &SureSink,
         sink: &mut K,
-    ) -> Result<(), DiscoverError> {
-        let line = candidate_line(alloc, &self.printer, b"relation ", statement)?;
-        self.text.put(sink, &line.bytes)?;
-        self.text.put_lines(sink, &self.front.bytes)?;
-        self.text.put(sink, &own.bytes)?;
-        self.text.put_lines(sink, self.conditions.text.bytes())?;
-        self.text.put_lines(sink, rest.bytes())?;
+    ) -> Result<(), DiscoverError>
+        requires candidate { IsCandidate (source_of program.now) statement }
+        requires few { self.old.examined + 1 < 2 ^ 64 }
+        ensures ok { OnOk result ((lines : List Line) → log.now ≡ log_text lines
+            → AllByRecursion HasNoLineFeed (map line_text lines)
+            → Adds relation
+            (candidate_lines relation (statement_text (source_of program.now) statement) lines)
+            self.old.first_open
+            (progress self.old (K.held sink.old)) (progress self.new (K.held sink.new))) }
+        ensures err { IfErr result (λ e. (lines : List Line) → log.now ≡ log_text lines
+            → AllByRecursion HasNoLineFeed (map line_text lines)
+            → BreaksOff
+            (candidate_lines relation (statement_text (source_of program.now) statement) lines)
+            self.old.text.bytes (K.held sink.old) (K.held sink.new)
+            (K.faults sink.old) (K.faults sink.new) e) }
+        ensures faults { K.faults sink.old ≤ K.faults sink.new }
+    {
+        put_candidate(alloc, &mut self.text, program, b"relation ", statement, sink)?;
+        self.text.put_lines(sink, log.bytes())?;
+        self.examined += 1;
         self.relations += 1;
         Ok(())
     }
 
     /// Writes the line of an open candidate.
-    fn put_open<K: Sink>(
+    fn add_open<K: Sink>(
         &mut self,
         alloc: Global,
+        program: &Program,
         statement: Statement,
         error: ProveError,
         sink: &mut K,
-    ) -> Result<(), DiscoverError> {
-        let line = candidate_line(alloc, &self.printer, b"open ", statement)?;
-        self.text.put(sink, &line.bytes)?;
-        self.open += 1;
+    ) -> Result<(), DiscoverError>
+        requires candidate { IsCandidate (source_of program.now) statement }
+        requires few { self.old.examined + 1 < 2 ^ 64 }
+        ensures ok { OnOk result ((lines : List Line) → Adds open_still
+            (candidate_lines open_still (statement_text (source_of program.now) statement) lines)
+            (first_of self.old.first_open error)
+            (progress self.old (K.held sink.old)) (progress self.new (K.held sink.new))) }
+        ensures err { IfErr result (λ e. (lines : List Line) → BreaksOff
+            (candidate_lines open_still (statement_text (source_of program.now) statement) lines)
+            self.old.text.bytes (K.held sink.old) (K.held sink.new)
+            (K.faults sink.old) (K.faults sink.new) e) }
+        ensures faults { K.faults sink.old ≤ K.faults sink.new }
+    {
+        put_candidate(alloc, &mut self.text, program, b"open ", statement, sink)?;
+        self.examined += 1;
+        self.open_ones += 1;
         if self.first_open.is_none() {
             self.first_open = Some(error);
         }
         Ok(())
     }
 
+    /// Counts a candidate of which nothing is written.
+    fn add_nothing(&mut self) -> Result<(), DiscoverError>
+        requires few { self.old.examined + 1 < 2 ^ 64 }
+        ensures ok { IsOk result }
+        ensures added { (held : Option (List ℕ)) → Adds nothing [] self.old.first_open
+            (progress self.old held) (progress self.new held) }
+    {
+        self.examined += 1;
+        Ok(())
+    }
+
     /// Writes that a condition is never met, where the first candidate says so.
-    fn put_impossible<K: Sink>(
+    fn add_impossible<K: Sink>(
         &mut self,
         alloc: Global,
         k: u32,
         sink: &mut K,
-    ) -> Result<(), DiscoverError> {
-        if self.examined != 1 {
-            return Ok(());
+    ) -> Result<(), DiscoverError>
+        requires few { self.old.examined + 1 < 2 ^ 64 }
+        ensures ok { OnOk result (self.old.examined ≢ 0 × Adds nothing [] self.old.first_open
+            (progress self.old (K.held sink.old)) (progress self.new (K.held sink.new))) }
+        ensures err { IfErr result (IsNeverMet k (progress self.old (K.held sink.old))
+            (K.held sink.new) (K.faults sink.old) (K.faults sink.new)) }
+        ensures faults { K.faults sink.old ≤ K.faults sink.new }
+    {
+        if self.examined > 0 {
+            return self.add_nothing();
         }
-        let mut bytes = Vec::from_slice(alloc, b"impossible ")?;
-        push_number(alloc, &mut bytes, k as u64)?;
-        bytes.push(b'\n')?;
-        self.text.put(sink, &bytes)?;
+        put_impossible(alloc, &mut self.text, k, sink)?;
         Err(DiscoverError::Impossible(k))
     }
 
@@ -179,59 +190,21 @@ impl<'a> Search<'a> {
         mut self,
         alloc: Global,
         sink: &mut K,
-    ) -> Result<Found, DiscoverError> {
-        put_counts(alloc, &mut self.text, self.relations, self.open, sink)?;
+    ) -> Result<Found, DiscoverError>
+        ensures ok { IfOk result (λ found. (self.first_open ≡ None)
+            × (found.relations ≡ self.relations) × (after : ℕ)
+            × PutsLines (counts_line self.relations self.open_ones ∷ [])
+            self.text.bytes after (K.held sink.old) (K.held sink.new)) }
+        ensures err { IfErr result (IsUnsettled (progress self (K.held sink.old))
+            (K.held sink.new) (K.faults sink.old) (K.faults sink.new)) }
+        ensures faults { K.faults sink.old ≤ K.faults sink.new }
+    {
+        put_counts(alloc, &mut self.text, self.relations, self.open_ones, sink)?;
         match self.first_open {
             None => Ok(Found {
                 relations: self.relations,
             }),
-            Some(error) => Err(answer_of(error)),
+            Some(error) => Err(answer_to(error)),
         }
-    }
-}
-
-/// Writes the line of the counts.
-pub(crate) fn put_counts<K: Sink>(
-    alloc: Global,
-    text: &mut FoundText,
-    relations: u64,
-    open: u64,
-    sink: &mut K,
-) -> Result<(), DiscoverError> {
-    let mut bytes = Vec::from_slice(alloc, b"relations ")?;
-    push_number(alloc, &mut bytes, relations)?;
-    bytes.extend_from_slice(b" open ")?;
-    push_number(alloc, &mut bytes, open)?;
-    bytes.push(b'\n')?;
-    text.put(sink, &bytes)
-}
-
-/// The line of a candidate behind a word.
-fn candidate_line(
-    alloc: Global,
-    printer: &Printer,
-    word: &[u8],
-    statement: Statement,
-) -> Result<Text, NoMemory> {
-    let text = printer.statement_text(alloc, statement)?;
-    let mut bytes = Vec::from_slice(alloc, word)?;
-    bytes.extend_from_slice(&text.bytes)?;
-    bytes.push(b'\n')?;
-    Ok(Text { bytes })
-}
-
-/// Appends a number.
-fn push_number(alloc: Global, out: &mut Vec<u8>, number: u64) -> Result<(), NoMemory> {
-    push_decimal(alloc, out, number as i128).map_err(|_| NoMemory)
-}
-
-/// What is answered where the log of the first open candidate ends so.
-fn answer_of(error: ProveError) -> DiscoverError {
-    match error {
-        ProveError::Spent { line } => DiscoverError::Spent { line },
-        ProveError::TooLarge { line, which } => DiscoverError::TooLarge { line, which },
-        ProveError::TooLong => DiscoverError::TooLong,
-        ProveError::WriteFault => DiscoverError::WriteFault,
-        ProveError::NoMemory => DiscoverError::NoMemory,
     }
 }

@@ -1,9 +1,11 @@
 //! Candidates of two segments, the earlier first: parallel, perpendicular, of the same length.
 
-use crate::errors::DiscoverError;
-use crate::search::Search;
-use geo_base::Sink;
-use geo_points::PointId;
+ghost use Rattle.std.specs.Prelude.{◌≡◌, ◌+◌, ◌<◌, ◌∷◌, ◌++◌, [], IfOk, OnOk, map};
+ghost use Rattle.std.specs.List.{cons_option, flat_map};
+ghost use Rattle.geo_discover.specs.Candidates.{pairs, share_point};
+ghost use Rattle.geo_discover.specs.Inner.Walks.{points_behind, pt, segment_candidates};
+
+use geo_points::{NoMemory, PointId};
 use geo_program::Statement;
 use std::alloc::Global;
 
@@ -18,128 +20,95 @@ pub(crate) enum Kind {
     SameLength,
 }
 
-/// Two points, the lower first.
-#[derive(Clone, Copy, Debug, PartialEq, Eq)]
-struct Segment {
-    /// The lower one.
-    a: u32,
-    /// The higher one.
-    b: u32,
+/// Each two of so many points, the lower first.
+pub(crate) fn segments(
+    alloc: Global,
+    points: u32,
+) -> Result<Vec<(PointId, PointId)>, NoMemory>
+    ensures { IfOk result (λ segments. segments.items ≡ pairs (points_behind 0 points)) }
+{
+    let mut items = Vec::new(alloc);
+    for a in 0..points {
+        push_segments_from(&mut items, points, a)?;
+    }
+    Ok(items)
 }
 
-impl Segment {
-    /// Whether both segments have a point in common.
-    fn shares_point(self, other: Segment) -> bool {
-        self.a == other.a || self.a == other.b || self.b == other.a || self.b == other.b
+/// Those that begin at this point.
+fn push_segments_from(
+    items: &mut Vec<(PointId, PointId)>,
+    points: u32,
+    a: u32,
+) -> Result<(), NoMemory>
+    requires { a < points }
+    ensures { OnOk result (items.new.items ≡ items.old.items
+        ++ map (λ b. (pt a, b)) (points_behind (a + 1) points)) }
+{
+    for b in a + 1..points {
+        items.push((PointId(a), PointId(b)))?;
     }
+    Ok(())
+}
+
+/// Appends the candidates of this kind: of each two segments one, if they make one.
+pub(crate) fn push_candidates(
+    items: &mut Vec<Statement>,
+    kind: Kind,
+    segments: &[(PointId, PointId)],
+) -> Result<(), NoMemory>
+    ensures { OnOk result (items.new.items ≡ items.old.items
+        ++ flat_map (segment_candidates kind) (pairs segments.now)) }
+{
+    for i in 0..segments.len() {
+        push_behind(items, kind, segments[i], &segments[i + 1..])?;
+    }
+    Ok(())
+}
+
+/// Those of a first segment with each of these.
+fn push_behind(
+    items: &mut Vec<Statement>,
+    kind: Kind,
+    first: (PointId, PointId),
+    later: &[(PointId, PointId)],
+) -> Result<(), NoMemory>
+    ensures { OnOk result (items.new.items ≡ items.old.items
+        ++ flat_map (λ second. segment_candidates kind (first, second)) later.now) }
+{
+    for second in later {
+        if let Some(statement) = kind.candidate(first, *second) {
+            items.push(statement)?;
+        }
+    }
+    Ok(())
+}
+
+/// Whether both segments have a point in common.
+fn shares_point(first: (PointId, PointId), second: (PointId, PointId)) -> bool
+    ensures { result ≡ share_point (first, second) }
+{
+    let (a, b) = first;
+    let (c, d) = second;
+    a.0 == c.0 || a.0 == d.0 || b.0 == c.0 || b.0 == d.0
 }
 
 impl Kind {
     /// The candidate of this kind with these segments, if they make one.
-    fn candidate(self, first: Segment, second: Segment) -> Option<Statement> {
-        if self == Kind::Parallel && first.shares_point(second) {
-            return None;
+    fn candidate(self, first: (PointId, PointId), second: (PointId, PointId)) -> Option<Statement>
+        ensures { cons_option result [] ≡ segment_candidates self (first, second) }
+    {
+        let (a, b) = first;
+        let (c, d) = second;
+        match self {
+            Kind::Parallel => {
+                if shares_point(first, second) {
+                    None
+                } else {
+                    Some(Statement::Parallel { a, b, c, d })
+                }
+            }
+            Kind::Perpendicular => Some(Statement::Perpendicular { a, b, c, d }),
+            Kind::SameLength => Some(Statement::SameLength { a, b, c, d }),
         }
-        let [a, b] = [PointId(first.a), PointId(first.b)];
-        let [c, d] = [PointId(second.a), PointId(second.b)];
-        Some(match self {
-            Kind::Parallel => Statement::Parallel { a, b, c, d },
-            Kind::Perpendicular => Statement::Perpendicular { a, b, c, d },
-            Kind::SameLength => Statement::SameLength { a, b, c, d },
-        })
-    }
-}
-
-/// Examines each two segments between so many points.
-pub(crate) fn search_segments<K: Sink>(
-    alloc: Global,
-    search: &mut Search,
-    kind: Kind,
-    points: u32,
-    sink: &mut K,
-) -> Result<(), DiscoverError> {
-    for a in 0..points {
-        search_from(alloc, search, kind, points, a, sink)?;
-    }
-    Ok(())
-}
-
-/// Those whose first segment begins at this point.
-fn search_from<K: Sink>(
-    alloc: Global,
-    search: &mut Search,
-    kind: Kind,
-    points: u32,
-    a: u32,
-    sink: &mut K,
-) -> Result<(), DiscoverError> {
-    for b in a + 1..points {
-        let first = Segment { a, b };
-        search_beside(alloc, search, kind, points, first, sink)?;
-        search_behind(alloc, search, kind, points, first, sink)?;
-    }
-    Ok(())
-}
-
-/// Those whose second segment begins at the same point as this first one.
-fn search_beside<K: Sink>(
-    alloc: Global,
-    search: &mut Search,
-    kind: Kind,
-    points: u32,
-    first: Segment,
-    sink: &mut K,
-) -> Result<(), DiscoverError> {
-    for d in first.b + 1..points {
-        let second = Segment { a: first.a, b: d };
-        examine(alloc, search, kind, first, second, sink)?;
-    }
-    Ok(())
-}
-
-/// Those whose second segment begins at a later point.
-fn search_behind<K: Sink>(
-    alloc: Global,
-    search: &mut Search,
-    kind: Kind,
-    points: u32,
-    first: Segment,
-    sink: &mut K,
-) -> Result<(), DiscoverError> {
-    for c in first.a + 1..points {
-        search_last(alloc, search, kind, points, first, c, sink)?;
-    }
-    Ok(())
-}
-
-/// Those whose second segment begins at this point.
-fn search_last<K: Sink>(
-    alloc: Global,
-    search: &mut Search,
-    kind: Kind,
-    points: u32,
-    first: Segment,
-    c: u32,
-    sink: &mut K,
-) -> Result<(), DiscoverError> {
-    for d in c + 1..points {
-        let second = Segment { a: c, b: d };
-        examine(alloc, search, kind, first, second, sink)?;
-    }
-    Ok(())
-}
-
-/// Examines the candidate of two segments, if they make one.
-fn examine<K: Sink>(
-    alloc: Global,
-    search: &mut Search,
-    kind: Kind,
-    first: Segment,
-    second: Segment,
-    sink: &mut K,
-) -> Result<(), DiscoverError> {
-    match kind.candidate(first, second) {
-        Some(statement) => search.examine(alloc, statement, sink),
-        None => Ok(()),
     }
 }

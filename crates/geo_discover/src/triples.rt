@@ -1,59 +1,48 @@
 //! Candidates of three points: each three on a line.
 
-use crate::errors::DiscoverError;
-use crate::search::Search;
-use geo_base::Sink;
-use geo_points::PointId;
-use geo_program::Statement;
-use std::alloc::Global;
+ghost use Rattle.std.specs.Prelude.{◌≡◌, ◌+◌, ◌<◌, ◌++◌, OnOk, map};
+ghost use Rattle.geo_program.specs.declared.statements.Statement.TheVariants.{Collinear};
+ghost use Rattle.geo_discover.specs.Candidates.{pairs, triples};
+ghost use Rattle.geo_discover.specs.Inner.Walks.{points_behind, pt};
 
-/// Examines each three of so many points, rising.
-pub(crate) fn search_triples<K: Sink>(
-    alloc: Global,
-    search: &mut Search,
-    points: u32,
-    sink: &mut K,
-) -> Result<(), DiscoverError> {
+use geo_points::{NoMemory, PointId};
+use geo_program::Statement;
+
+/// Appends each three of so many points, rising.
+pub(crate) fn push_triples(items: &mut Vec<Statement>, points: u32) -> Result<(), NoMemory>
+    ensures { OnOk result (items.new.items ≡ items.old.items
+        ++ map (λ t. Collinear t.0 t.1 t.2) (triples (points_behind 0 points))) }
+{
     for a in 0..points {
-        search_from(alloc, search, points, a, sink)?;
+        push_from(items, points, a)?;
     }
     Ok(())
 }
 
 /// Those with this first point.
-fn search_from<K: Sink>(
-    alloc: Global,
-    search: &mut Search,
-    points: u32,
-    a: u32,
-    sink: &mut K,
-) -> Result<(), DiscoverError> {
+fn push_from(items: &mut Vec<Statement>, points: u32, a: u32) -> Result<(), NoMemory>
+    requires { a < points }
+    ensures { OnOk result (items.new.items ≡ items.old.items
+        ++ map (λ p. Collinear (pt a) p.0 p.1) (pairs (points_behind (a + 1) points))) }
+{
     for b in a + 1..points {
-        search_behind(alloc, search, points, a, b, sink)?;
+        push_behind(items, points, a, b)?;
     }
     Ok(())
 }
 
 /// Those with these first two points.
-fn search_behind<K: Sink>(
-    alloc: Global,
-    search: &mut Search,
-    points: u32,
-    a: u32,
-    b: u32,
-    sink: &mut K,
-) -> Result<(), DiscoverError> {
+fn push_behind(items: &mut Vec<Statement>, points: u32, a: u32, b: u32) -> Result<(), NoMemory>
+    requires { b < points }
+    ensures { OnOk result (items.new.items ≡ items.old.items
+        ++ map (λ c. Collinear (pt a) (pt b) c) (points_behind (b + 1) points)) }
+{
     for c in b + 1..points {
-        search.examine(alloc, collinear(a, b, c), sink)?;
+        items.push(Statement::Collinear {
+            a: PointId(a),
+            b: PointId(b),
+            c: PointId(c),
+        })?;
     }
     Ok(())
-}
-
-/// That three points are on a line.
-pub(crate) fn collinear(a: u32, b: u32, c: u32) -> Statement {
-    Statement::Collinear {
-        a: PointId(a),
-        b: PointId(b),
-        c: PointId(c),
-    }
 }
