@@ -1,17 +1,18 @@
 -- Lines that are put one after another.
 use Rattle.std.proofs.Common.{◌≡◌, ℕ, suc, ◌+◌, ◌-◌, ◌<◌, ◌≤◌, inl, inr, Option, Some, None, List, [], ◌∷◌, ◌++◌, append-nil, append_assoc}
 use Rattle.std.proofs.Common.{drop, length, take, refl, sym, ◌∙◌, ap, subst, arith}
-use Rattle.std.specs.Prelude.{◌==◌}
+use Rattle.std.specs.Prelude.{◌==◌, IfErr, IsErrAnd, Result}
 use Rattle.std.specs.List.{AllByRecursion, position}
 use Rattle.std.proofs.lemmas.List.{drop_at, length-append, take_at}
 use Rattle.std.proofs.lemmas.List.Concat.{flat_map-append}
+use Rattle.std.proofs.lemmas.Result.{err_from_is_err_and}
 use Rattle.geo_base.specs.Devices.{Grows, HasRisen}
 use Rattle.geo_base.proofs.DeviceLemmas.{Grows-append, Grows-nothing}
 use Rattle.proof_log.specs.Writable.{HasNoLineFeed}
 use Rattle.geo_prover.proofs.FirstLines.{feed_at}
 use Rattle.geo_discover.specs.declared.errors.DiscoverError.{DiscoverError}
 use Rattle.geo_discover.specs.declared.errors.DiscoverError.TheVariants.{Impossible, Spent, TooLarge, TooLong, WriteFault, NoMemory}
-use Rattle.geo_discover.specs.Inner.Puts.{BreaksOff, IsPieceOf, IsUnput, PutsLines}
+use Rattle.geo_discover.specs.Inner.Puts.{BreaksOff, IsPieceOf, IsTextCut, IsUnput, PutsLines}
 use Rattle.geo_discover.specs.TextLines.{text_of_lines}
 
 -- TEXTS
@@ -122,21 +123,26 @@ no_memory xs a h f g fits = breaks_there xs a h h f g NoMemory fits (inl refl)
 
 -- ONE LINE
 module _ (l line : List ℕ) (a : ℕ) (h k : Option (List ℕ)) (f g : ℕ) (e : line ≡ l ++ 10 ∷ []) (within : a ≤ 67108864) where
-  pub too_long : 67108864 - a < length line → k ≡ h → BreaksOff (l ∷ []) a h k f g TooLong
-  too_long long same =
+  -- it is past the limit
+  pub too_long : (x : DiscoverError) → (x ≡ TooLong) × (67108864 < a + length line) → BreaksOff (l ∷ []) a h h f g x
+  too_long x (is, long) =
       let n : length line ≡ length (l ++ 10 ∷ []) = ap length e in
-      breaks_there (l ∷ []) a h k f g TooLong within (l, [], refl, omega (arith, n, long, within), same)
+      subst (λ (y : DiscoverError). BreaksOff (l ∷ []) a h h f g y) (sym is)
+      (breaks_there (l ∷ []) a h h f g TooLong within (l, [], refl, omega (arith, n, long), refl))
 
-  piece : (n : ℕ) → length line ≤ 67108864 - a → Grows h (take n line) k → IsPieceOf (l ∷ []) a h k
+  piece : (n : ℕ) → a + length line ≤ 67108864 → Grows h (take n line) k → IsPieceOf (l ∷ []) a h k
   piece n fits w =
       let m : length line ≡ length (l ++ 10 ∷ []) = ap length e in
-      inr (l, [], n, refl, omega (arith, m, fits, within), subst (λ (t : List ℕ). Grows h (take n t) k) e w)
+      inr (l, [], n, refl, omega (arith, m, fits), subst (λ (t : List ℕ). Grows h (take n t) k) e w)
 
-  pub fails : (n : ℕ) → length line ≤ 67108864 - a → Grows h (take n line) k → HasRisen f g → BreaksOff (l ∷ []) a h k f g WriteFault
-  fails n fits w r = breaks_there (l ∷ []) a h k f g WriteFault within (piece n fits w, r)
-
-  pub starves : (n : ℕ) → length line ≤ 67108864 - a → Grows h (take n line) k → BreaksOff (l ∷ []) a h k f g NoMemory
-  starves n fits w = breaks_there (l ∷ []) a h k f g NoMemory within (piece n fits w)
+  -- it is not written whole
+  pub cut_off : (x : DiscoverError) → a + length line ≤ 67108864 → IsTextCut line h k f g x → BreaksOff (l ∷ []) a h k f g x
+  cut_off (Impossible i) fits c = absurd c
+  cut_off (Spent i) fits c = absurd c
+  cut_off (TooLarge i which) fits c = absurd c
+  cut_off TooLong fits c = absurd c
+  cut_off WriteFault fits ((n, w), r) = breaks_there (l ∷ []) a h k f g WriteFault within (piece n fits w, r)
+  cut_off NoMemory fits (n, w) = breaks_there (l ∷ []) a h k f g NoMemory within (piece n fits w)
 
 -- LINES OF A TEXT
 -- some lines were put, and the text that is left is that of the others
@@ -227,3 +233,14 @@ at_first lines text a h fits e one = record {
   one_line = one;
   put = puts_none a h fits;
 }
+
+-- THE ERROR THAT `?` HANDS ON
+pub if_err : {T : Type 0} (P : DiscoverError → Type 0) (r : Result T DiscoverError) (x : DiscoverError) → IsErrAnd r (λ e. e ≡ x) → P x
+    → IfErr r P
+if_err {T} P r x h p =
+    let q = err_from_is_err_and r h in
+    let Q : Result T DiscoverError → Type 0 = λ s. IfErr s P in subst Q (sym q.1) (subst P (sym q.2) p)
+
+-- a sum that is within the limit
+pub fits_by : (n m : ℕ) → n ≡ m → n ≤ 67108864 → m ≤ 67108864
+fits_by n m e le = omega (arith, e, le)

@@ -31,7 +31,7 @@ use Rattle.geo_discover.specs.Inner.Searching.{BreaksSearch, EndsSo, Examines, I
 use Rattle.geo_discover.specs.Inner.Searching.{answer_of, counts_line, impossible_line, lines_behind, lines_due, lines_of}
 use Rattle.geo_discover.specs.TextLines.{text_of_lines}
 use Rattle.geo_discover.proofs.Putting.{breaks_behind, puts_both, text_append, text_length-append, text_one}
-use Rattle.geo_discover.proofs.SearchSteps.{are_both, lines_both}
+use Rattle.geo_discover.proofs.SearchSteps.{are_both, lines_both, none_broken}
 
 -- TEXTS
 take_front : (xs ys : List ℕ) → take (length xs) (xs ++ ys) ≡ xs
@@ -331,3 +331,12 @@ module _ (p : Source) (steps : ℕ) (w : IsWellFormed p) (short : length (canoni
           broken_answer fs x.found (lines_of p fs ++ counts ∷ []) [] (all_lines ∙ sym (append-nil (lines_of p fs ++ counts ∷ []))) s.held k n m e
           (breaks_behind (lines_of p fs) (counts ∷ []) 0 t.bytes s.held t.held k n i m e
           (subst (λ (j : ℕ). PutsLines (lines_of p fs) j t.bytes s.held t.held) empty x.put) le w)
+
+-- where nothing is written and memory runs out
+pub nothing_written : (p : Source) (steps : ℕ) (held : Option (List ℕ)) (n m : ℕ) → IsWellFormed p → length (canonical_text p) ≤ 67108864
+    → All (λ s. IsRelation s) (candidates p) → All (λ s. IsWellFormed (with_statement p s)) (candidates p)
+    → IsAnswer p steps held held n m NoMemory
+nothing_written p steps held n m w short related formed =
+    let s : Progress = record { examined = 0; related = 0; unsettled = 0; first = None; bytes = 0; held = held } in
+    stops_so p steps w short related formed s refl refl refl refl refl held n m NoMemory
+    (none_broken p steps (candidates p) s n m (omega arith))

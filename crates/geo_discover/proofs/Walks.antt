@@ -6,7 +6,8 @@ use Rattle.std.proofs.lemmas.List.{drop_all, map-append}
 use Rattle.std.proofs.lemmas.List.Concat.{flat_map-append}
 use Rattle.std.proofs.lemmas.List.Folds.{flat_map-map}
 use Rattle.geo_points.specs.declared.ids.PointId.{PointId}
-use Rattle.geo_discover.specs.Candidates.{pairs, quadruples, triples}
+use Rattle.geo_discover.specs.Candidates.{pairs, points_of, quadruples, triples}
+use Rattle.geo_program.specs.WellFormed.{Source, empty_scope, scope_of}
 use Rattle.geo_program.specs.declared.statements.Statement.{Statement}
 use Rattle.geo_program.specs.declared.statements.Statement.TheVariants as statement
 use Rattle.geo_discover.specs.Candidates.{Segments, share_point}
@@ -125,3 +126,7 @@ two_step k n lt = ap (λ (xs : List PointId). pairs xs) (behind_step k n lt)
 
 pub two_none : (k n : ℕ) → n ≤ k → pairs (points_behind k n) ≡ []
 two_none k n le = ap (λ (xs : List PointId). pairs xs) (behind_none k n le)
+
+-- the points of a program are all points from the first on
+pub points_first : (p : Source) (n : ℕ) → n ≡ (scope_of empty_scope p.names).points → points_behind 0 n ≡ points_of p
+points_first p n e = ap (λ (m : ℕ). map (λ i. pt i) (range_with_len 0 m)) (let k : n - 0 ≡ (scope_of empty_scope p.names).points = omega (arith, e) in k)

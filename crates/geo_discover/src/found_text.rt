@@ -1,13 +1,8 @@
 //! The text of a search, written line by line within its limit.
 
-ghost use Rattle.std.specs.Prelude.{◌≡◌, ◌==◌};
-ghost use Rattle.std.specs.List.{position};
-
 use crate::errors::DiscoverError;
-use geo_base::{PutError, Sink, write_all};
-
-/// The most bytes of the text.
-const TEXT_LIMIT: u64 = 67_108_864;
+use crate::texts::{bytes_with, first_line_feed, write_text};
+use geo_base::Sink;
 
 /// How much of the text has been written.
 #[derive(Drop)]
@@ -41,18 +36,10 @@ impl FoundText {
             (K.faults sink.old) (K.faults sink.new) e) }
         ensures faults { K.faults sink.old ≤ K.faults sink.new }
     {
-        let count = line.len() as u64;
-        if count > TEXT_LIMIT - self.bytes {
-            return Err(DiscoverError::TooLong);
-        }
-        match write_all(sink, line) {
-            Ok(()) => {
-                self.bytes += count;
-                Ok(())
-            }
-            Err(PutError::Failed) => Err(DiscoverError::WriteFault),
-            Err(PutError::NoMemory) => Err(DiscoverError::NoMemory),
-        }
+        let after = bytes_with(self.bytes, line)?;
+        write_text(sink, line)?;
+        self.bytes = after;
+        Ok(())
     }
 
     /// Writes the lines of a text, one after another.
@@ -73,11 +60,4 @@ impl FoundText {
         }
         Ok(())
     }
-}
-
-/// The place of the first line feed.
-fn first_line_feed(text: &[u8]) -> Option<usize>
-    ensures { result ≡ position (λ b. b == 10) text.now }
-{
-    text.iter().position(|b| *b == b'\n')
 }

@@ -11,6 +11,15 @@ pub record PutsLines (lines : List (List ℕ)) (before after : ℕ) (held held' 
   pub fits : after ≤ 67108864
   pub written : Grows held (text_of_lines lines) held'
 
+-- the first bytes of the text were written
+abbrev pub IsTextCut : List ℕ → Option (List ℕ) → Option (List ℕ) → ℕ → ℕ → DiscoverError → Type 0
+IsTextCut text held held' faults faults' (Impossible k) = ⊥
+IsTextCut text held held' faults faults' (Spent n) = ⊥
+IsTextCut text held held' faults faults' (TooLarge n which) = ⊥
+IsTextCut text held held' faults faults' TooLong = ⊥
+IsTextCut text held held' faults faults' WriteFault = ((n : ℕ) × Grows held (take n text) held') × HasRisen faults faults'
+IsTextCut text held held' faults faults' NoMemory = (n : ℕ) × Grows held (take n text) held'
+
 -- nothing was written, or the first bytes of the first of the lines, which is within the limit
 abbrev pub IsPieceOf : List (List ℕ) → ℕ → Option (List ℕ) → Option (List ℕ) → Type 0
 IsPieceOf lines before held held' =
