@@ -1,13 +1,17 @@
 -- Each candidate of a program is a relation of its points.
-use Rattle.std.proofs.Common.{ℕ, All, List, [], ◌∷◌, ◌++◌, not, filter, map}
-use Rattle.std.proofs.lemmas.List.Elements.{All-append, All-cons, All-head, All-map, All-nil, All-tail}
+use Rattle.std.proofs.Common.{◌≡◌, ℕ, All, List, [], ◌∷◌, ◌++◌, not, filter, map, sym, subst}
+use Rattle.std.specs.List.{AllByRecursion}
+use Rattle.std.proofs.lemmas.List.Elements.{All-append, All-cons, All-head, All-map, All-nil, All-tail, recursion_from_All}
 use Rattle.geo_points.specs.declared.ids.PointId.{PointId}
 use Rattle.geo_program.specs.declared.statements.Statement.{Statement}
 use Rattle.geo_program.specs.declared.statements.Statement.TheVariants.{Collinear, Concyclic, Parallel, Perpendicular, SameLength}
 use Rattle.geo_program.specs.declared.statements.Statement.TheVariants as statement
-use Rattle.geo_program.specs.Forms.{AreSidesStored}
+use Rattle.geo_program.specs.declared.names.Name.{Name}
+use Rattle.geo_program.specs.Forms.{AreSidesStored, statement_form}
+use Rattle.geo_program.specs.Inner.Printing.{whole_scope}
+use Rattle.geo_terms.specs.Stores.{Store}
 use Rattle.geo_program.specs.Relations.{IsRelation, with_statement}
-use Rattle.geo_program.specs.WellFormed.{IsWellFormed, Source}
+use Rattle.geo_program.specs.WellFormed.{IsArgument, IsWellFormed, Source, empty_scope, scope_of}
 use Rattle.geo_discover.specs.Candidates.{Segments, candidates, candidates_over, points_of, quadruples, segments_over, share_point, triples}
 use Rattle.geo_discover.specs.Inner.Searching.{IsCandidate}
 use Rattle.geo_discover.proofs.CandidateLaws.{candidates_are_well_formed}
@@ -51,6 +55,18 @@ candidates_are_stated p w =
     both (λ s. IsRelation s) (λ s. IsWellFormed (with_statement p s)) (IsCandidate p) (λ s r v. record { relation = r; points = v.statement })
     (candidates p) (candidates_are_relations p) (candidates_are_well_formed p w)
 
+-- a relation has no sides
+pub no_sides : (nodes : Store) (x : Statement) → IsRelation x → AreSidesStored nodes x
+no_sides nodes (statement.Equal e f) r = absurd r
+no_sides nodes (statement.Collinear a b c) r = tt
+no_sides nodes (statement.Parallel a b c d) r = tt
+no_sides nodes (statement.Perpendicular a b c d) r = tt
+no_sides nodes (statement.Identical a b) r = tt
+no_sides nodes (statement.Midpoint m a b) r = tt
+no_sides nodes (statement.SameLength a b c d) r = tt
+no_sides nodes (statement.Harmonic a b c d) r = tt
+no_sides nodes (statement.Concyclic a b c d) r = tt
+
 -- with it the program is well-formed
 pub candidate_formed : (p : Source) (s : Statement) → IsWellFormed p → IsCandidate p s → IsWellFormed (with_statement p s)
 candidate_formed p s w h = record {
@@ -59,16 +75,13 @@ candidate_formed p s w h = record {
   commands = w.commands;
   few = w.few;
   statement = h.points;
-  sides = no_sides s h.relation;
+  sides = no_sides p.nodes s h.relation;
 }
-  where
-    no_sides : (x : Statement) → IsRelation x → AreSidesStored p.nodes x
-    no_sides (statement.Equal e f) r = absurd r
-    no_sides (statement.Collinear a b c) r = tt
-    no_sides (statement.Parallel a b c d) r = tt
-    no_sides (statement.Perpendicular a b c d) r = tt
-    no_sides (statement.Identical a b) r = tt
-    no_sides (statement.Midpoint m a b) r = tt
-    no_sides (statement.SameLength a b c d) r = tt
-    no_sides (statement.Harmonic a b c d) r = tt
-    no_sides (statement.Concyclic a b c d) r = tt
+
+-- its points can be printed, with the program's names and store
+pub printable_points : (p : Source) (s : Statement) → IsCandidate p s → (names : List Name) (nodes : Store) → names ≡ p.names → nodes ≡ p.nodes
+    → AllByRecursion (IsArgument (whole_scope names)) (statement_form nodes s).arguments
+printable_points p s h names nodes n e =
+    recursion_from_All (IsArgument (whole_scope names)) (statement_form nodes s).arguments
+    (subst (λ (ns : List Name). All (IsArgument (scope_of empty_scope ns)) (statement_form nodes s).arguments) (sym n)
+    (subst (λ (ts : Store). All (IsArgument (scope_of empty_scope p.names)) (statement_form ts s).arguments) (sym e) h.points))

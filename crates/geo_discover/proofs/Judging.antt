@@ -83,3 +83,8 @@ finding_lines p steps f w small is =
 pub log_lines : (lines : List Line) → log_text lines ≡ text_of_lines (map line_text lines)
 log_lines [] = refl
 log_lines (l ∷ ls) = ap (λ (text : List ℕ). (line_text l ++ 10 ∷ []) ++ text) (log_lines ls)
+
+-- a count that stays at 0 has not risen
+pub no_rise : HasRisen 0 0 → ⊥
+no_rise (inl h) = omega (arith, h)
+no_rise (inr h) = let f : ⊥ = omega (arith, h) in f

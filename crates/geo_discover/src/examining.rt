@@ -1,6 +1,6 @@
 //! What the log of one candidate says of it.
 
-ghost use Rattle.std.specs.Prelude.{◌≡◌, ◌≤◌, IfOk, length};
+ghost use Rattle.std.specs.Prelude.{◌≡◌, ◌≢◌, ◌≤◌, ◌×◌, IfOk, length};
 ghost use Rattle.geo_program.specs.Programs.{program_text, source_of};
 ghost use Rattle.geo_discover.specs.Inner.Searching.{IsCandidate, IsJudged, judgement_by};
 
@@ -41,8 +41,7 @@ pub(crate) fn judge(
     let mut log = SureSink::new(alloc);
     match prove(alloc, &candidate, steps, &mut log) {
         Ok(summary) => Ok(judgement_of(summary.verdict, log)),
-        Err(ProveError::NoMemory) => Err(NoMemory),
-        Err(error) => Ok(Judgement::Open(error)),
+        Err(error) => opened(error),
     }
 }
 
@@ -54,5 +53,15 @@ fn judgement_of(verdict: Verdict, log: SureSink) -> Judgement
         Verdict::Proved => Judgement::Relation(log),
         Verdict::False(_) => Judgement::Fails,
         Verdict::Impossible(k) => Judgement::Impossible(k),
+    }
+}
+
+/// What is said by a log that ends so, if it is not for want of memory that it ends.
+fn opened(error: ProveError) -> Result<Judgement, NoMemory>
+    ensures { IfOk result (λ j. (j ≡ Judgement.Open error) × (error ≢ ProveError.NoMemory)) }
+{
+    match error {
+        ProveError::NoMemory => Err(NoMemory),
+        error => Ok(Judgement::Open(error)),
     }
 }

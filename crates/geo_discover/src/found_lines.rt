@@ -71,10 +71,18 @@ pub(crate) fn put_impossible<K: Sink>(
         (K.faults sink.old) (K.faults sink.new)) }
     ensures faults { K.faults sink.old ≤ K.faults sink.new }
 {
+    let bytes = impossible_bytes(alloc, k)?;
+    text.put(sink, &bytes)
+}
+
+/// The line that says that a condition is never met.
+fn impossible_bytes(alloc: Global, k: u32) -> Result<Vec<u8>, NoMemory>
+    ensures { IfOk result (λ line. line.items ≡ impossible_line k ++ 10 ∷ []) }
+{
     let mut bytes = Vec::from_slice(alloc, b"impossible ")?;
     push_number(alloc, &mut bytes, k as u64)?;
     bytes.push(b'\n')?;
-    text.put(sink, &bytes)
+    Ok(bytes)
 }
 
 /// Writes how many candidates are relations, and how many are open.
