@@ -1,9 +1,9 @@
 -- Steps of a search, one after another.
 use Rattle.std.proofs.Common.{◌≡◌, ◌≢◌, ℕ, zero, suc, ◌+◌, ◌≤◌, inl, inr, Option, Some, None, List, [], ◌∷◌, ◌++◌, append-nil, append_assoc}
-use Rattle.std.proofs.Common.{length, map, refl, sym, ◌∙◌, ap, subst, arith}
-use Rattle.std.specs.Prelude.{sum_by}
+use Rattle.std.proofs.Common.{◌<◌, drop, length, refl, sym, ◌∙◌, ap, subst, take, arith}
+use Rattle.std.specs.Prelude.{slice_index_or}
 use Rattle.std.specs.List.{flat_map}
-use Rattle.std.proofs.lemmas.List.{length-append}
+use Rattle.std.proofs.lemmas.List.{length-append, length-take-le, take-append-drop, take_more}
 use Rattle.std.proofs.lemmas.List.Concat.{flat_map-append}
 use Rattle.std.proofs.lemmas.List.Sums.{sum_by-append}
 use Rattle.geo_program.specs.declared.statements.Statement.{Statement}
@@ -272,3 +272,30 @@ breaks_later p steps ss us s t k n i m e a le b = record {
     go TooLong w = behind TooLong w
     go WriteFault w = behind WriteFault w
     go NoMemory w = behind NoMemory w
+
+-- ONE MORE OF A LIST
+pub one_more : (p : Source) (steps : ℕ) (all : List Statement) (k : ℕ) (d : Statement) (s t u : Progress) → k < length all
+    → Examines p steps (take k all) s t → Examines p steps (slice_index_or all k d ∷ []) t u → Examines p steps (take (k + 1) all) s u
+one_more p steps all k d s t u lt a b =
+    subst (λ (ss : List Statement). Examines p steps ss s u) (sym (take_more all k d lt))
+    (examines_both p steps (take k all) (slice_index_or all k d ∷ []) s t u a b)
+
+pub one_breaks : (p : Source) (steps : ℕ) (all : List Statement) (k : ℕ) (d : Statement) (s t : Progress) (h : Option (List ℕ)) (n i m : ℕ)
+    (e : DiscoverError) → k < length all → Examines p steps (take k all) s t → n ≤ i
+    → BreaksSearch p steps (slice_index_or all k d ∷ []) t h i m e → BreaksSearch p steps all s h n m e
+one_breaks p steps all k d s t h n i m e lt a le b =
+    let front = take k all in
+    let one = slice_index_or all k d ∷ [] in
+    let rest = drop (k + 1) all in
+    let split : (front ++ one) ++ rest ≡ all =
+    ap (λ (ss : List Statement). ss ++ rest) (sym (take_more all k d lt)) ∙ take-append-drop (k + 1) all in
+    subst (λ (ss : List Statement). BreaksSearch p steps ss s h n m e) split
+    (breaks_early p steps (front ++ one) rest s h n m e (breaks_later p steps front one s t h n i m e a le b))
+
+-- how many there are so far
+pub counted_so_far : (p : Source) (steps : ℕ) (all : List Statement) (k : ℕ) (s t : Progress) → k < length all → s.examined ≡ 0
+    → Examines p steps (take k all) s t → t.examined ≡ k
+counted_so_far p steps all k s t lt none a =
+    let e = a.examined in
+    let n : length (take k all) ≡ k = length-take-le k all (omega (arith, lt)) in
+    omega (arith, e, n, none)

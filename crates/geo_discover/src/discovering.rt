@@ -6,7 +6,8 @@ ghost use Rattle.geo_base.specs.Devices.{HasRisen};
 ghost use Rattle.geo_discover.specs.FoundTexts.{WritesFound, WritesFoundPart, WritesTooLong};
 ghost use Rattle.geo_discover.specs.FoundTexts.{found, impossible, open_by};
 ghost use Rattle.geo_discover.specs.Candidates.{candidates};
-ghost use Rattle.geo_discover.specs.Inner.Searching.{BreaksSearch, Examines, IsAnswer, IsCandidate, progress};
+ghost use Rattle.geo_discover.specs.Inner.Searching.{BreaksSearch, Examines, IsAnswer, IsCandidate};
+ghost use Rattle.geo_discover.specs.Inner.Searching.{points_with, progress};
 ghost use Rattle.geo_logs.specs.Ends.{ends_by};
 ghost use Rattle.geo_logs.specs.Moves.{spent, too_large};
 ghost use Rattle.geo_poly.specs.declared.limits.Which.{Which};
@@ -93,14 +94,22 @@ fn point_count(names: &[Name]) -> Result<u32, NoMemory>
 {
     let mut count = 0;
     for name in names {
-        if name.kind == NameKind::Point {
-            if count == u32::MAX {
-                return Err(NoMemory);
-            }
-            count += 1;
-        }
+        count = count_with(count, name.kind)?;
     }
     Ok(count)
+}
+
+/// How many points there are with a name of this kind more.
+fn count_with(count: u32, kind: NameKind) -> Result<u32, NoMemory>
+    ensures { IfOk result (λ n. n ≡ points_with kind count) }
+{
+    if kind != NameKind::Point {
+        return Ok(count);
+    }
+    if count == u32::MAX {
+        return Err(NoMemory);
+    }
+    Ok(count + 1)
 }
 
 /// Examines the candidates in order.
