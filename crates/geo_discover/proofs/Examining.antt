@@ -26,7 +26,6 @@ module _ (p : Source) (steps : ℕ) (statement : Statement) where
   abbrev T : List ℕ
   T = statement_text p statement
 
-
   -- what is told of a judgement that is known
   told : (given : Judgement) (j : IsJudged p steps statement given) (known : Judgement) → given ≡ known → Tells j.finding known
   told given j known is = subst (λ (x : Judgement). Tells j.finding x) is j.tells

@@ -89,9 +89,12 @@ module _ (p : Source) (steps : ℕ) (w : IsWellFormed p) (short : length (canoni
     -- lines within the limit begin what is written
     searched_on : (pre post : List (List ℕ)) → found_lines p fs ≡ pre ++ post → length (text_of_lines pre) ≤ 67108864
         → (more : List (List ℕ)) × (end : SearchEnd) × IsSearched p steps (pre ++ more) end
-    searched_on pre [] e fits =
-        ([], whole_end fs, subst (λ (ls : List (List ℕ)). IsSearched p steps ls (whole_end fs)) (sym (append-nil pre))
-        (searched_whole pre (e ∙ append-nil pre) fits))
+    searched_on pre [] e fits = (
+      [],
+      whole_end fs,
+      subst (λ (ls : List (List ℕ)). IsSearched p steps ls (whole_end fs)) (sym (append-nil pre))
+          (searched_whole pre (e ∙ append-nil pre) fits),
+    )
     searched_on pre (l ∷ ls) e fits = go (nat_lt 67108864 (length (text_of_lines (pre ++ l ∷ [])))) refl
       where
         go : (b : Bool) → nat_lt 67108864 (length (text_of_lines (pre ++ l ∷ []))) ≡ b

@@ -116,7 +116,14 @@ impl Search {
             (K.faults sink.old) (K.faults sink.new) e) }
         ensures faults { K.faults sink.old ≤ K.faults sink.new }
     {
-        put_candidate(alloc, &mut self.text, program, b"relation ", statement, sink)?;
+        put_candidate(
+            alloc,
+            &mut self.text,
+            program,
+            b"relation ",
+            statement,
+            sink,
+        )?;
         self.text.put_lines(sink, log.bytes())?;
         self.examined += 1;
         self.relations += 1;
@@ -186,11 +193,7 @@ impl Search {
     }
 
     /// Writes how many candidates are relations and how many are open, behind all of them.
-    pub fn conclude<K: Sink>(
-        mut self,
-        alloc: Global,
-        sink: &mut K,
-    ) -> Result<Found, DiscoverError>
+    pub fn conclude<K: Sink>(mut self, alloc: Global, sink: &mut K) -> Result<Found, DiscoverError>
         ensures ok { IfOk result (λ found. (self.first_open ≡ None)
             × (found.relations ≡ self.relations) × (after : ℕ)
             × PutsLines (counts_line self.relations self.open_ones ∷ [])

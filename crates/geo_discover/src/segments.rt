@@ -21,10 +21,7 @@ pub(crate) enum Kind {
 }
 
 /// Each two of so many points, the lower first.
-pub(crate) fn segments(
-    alloc: Global,
-    points: u32,
-) -> Result<Vec<(PointId, PointId)>, NoMemory>
+pub(crate) fn segments(alloc: Global, points: u32) -> Result<Vec<(PointId, PointId)>, NoMemory>
     ensures { IfOk result (λ segments. segments.items ≡ pairs (points_behind 0 points)) }
 {
     let mut items = Vec::new(alloc);

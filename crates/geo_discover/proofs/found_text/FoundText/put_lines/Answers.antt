@@ -20,10 +20,10 @@ returns-in_err-put-clause-err g c =
 pub loop-end-preserved : goal.loop-end-preserved
 loop-end-preserved g c = (
   (λ lines e one. subst (λ (xs : List ℕ). IsMidway lines xs c.args.self.now.bytes c.put.new.self.bytes (g.K.Sink.held c.args.sink.now)
-  (g.K.Sink.held c.put.new.sink)) (sym (take_rest c.loop-end.rest.now (c.in-Some.end + 1)))
-  (one_more lines c.loop-end.rest.now c.args.self.now.bytes c.loop-end.self.bytes (g.K.Sink.held c.args.sink.now) (g.K.Sink.held c.loop-end.sink)
-  (c.loop-end.invariant.0 lines e one) c.in-Some.end c.put.new.self.bytes (g.K.Sink.held c.put.new.sink) (sym c.in-Some.ensures)
-  c.in_ok-put.ensures.ok)),
+      (g.K.Sink.held c.put.new.sink)) (sym (take_rest c.loop-end.rest.now (c.in-Some.end + 1)))
+      (one_more lines c.loop-end.rest.now c.args.self.now.bytes c.loop-end.self.bytes (g.K.Sink.held c.args.sink.now) (g.K.Sink.held c.loop-end.sink)
+      (c.loop-end.invariant.0 lines e one) c.in-Some.end c.put.new.self.bytes (g.K.Sink.held c.put.new.sink) (sym c.in-Some.ensures)
+      c.in_ok-put.ensures.ok)),
   omega (arith, c.loop-end.invariant.1, c.put.ensures.faults),
 )
 
