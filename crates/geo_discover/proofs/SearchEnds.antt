@@ -49,15 +49,14 @@ front_lines : (p : Source) (fs gs : List Finding) → (more : List (List ℕ)) �
 front_lines p [] gs = (found_lines p gs, refl)
 front_lines p (f ∷ fs) gs = go (impossible_in f.ending)
   where
-    counts : List (List ℕ)
-    counts = (codes "relations " ++ decimal (relations (f ∷ (fs ++ gs))) ++ codes " open " ++ decimal (opens (f ∷ (fs ++ gs)))) ∷ []
-
     go : (o : Option ℕ) → (more : List (List ℕ)) × (lines_with o p (f ∷ (fs ++ gs)) ≡ lines_due o p (f ∷ fs) ++ more)
     go (Some k) = ([], refl)
-    go None = (
-      lines_of p gs ++ counts,
-      ap (λ (ls : List (List ℕ)). ls ++ counts) (lines_both p (f ∷ fs) gs) ∙ append_assoc (lines_of p (f ∷ fs)) (lines_of p gs) counts,
-    )
+    go None =
+        let counts = counts_line (relations (f ∷ (fs ++ gs))) (opens (f ∷ (fs ++ gs))) ∷ [] in (
+          lines_of p gs ++ counts,
+          ap (λ (ls : List (List ℕ)). ls ++ counts) (lines_both p (f ∷ fs) gs)
+              ∙ append_assoc (lines_of p (f ∷ fs)) (lines_of p gs) counts,
+        )
 
 module _ (p : Source) (steps : ℕ) (w : IsWellFormed p) (short : length (canonical_text p) ≤ 67108864) where
   -- each candidate has a finding
@@ -198,67 +197,58 @@ module _ (p : Source) (steps : ℕ) (w : IsWellFormed p) (short : length (canoni
   module _ (relations_all : All (λ s. IsRelation s) (candidates p)) (formed : All (λ s. IsWellFormed (with_statement p s)) (candidates p))
       (s : Progress) (none : s.examined ≡ 0) (empty : s.bytes ≡ 0) (related : s.related ≡ 0) (unsettled : s.unsettled ≡ 0)
       (first : s.first ≡ None) where
+    -- with findings of all others the front's are those of all
+    module _ (k : Option (List ℕ)) (n m : ℕ) (front : List Finding) (others : List Finding)
+        (are : AreFindings p steps (candidates p) (front ++ others)) where
+      broken_so : (x : DiscoverError) → BreaksOff (lines_behind s.examined p front) s.bytes s.held k n m x → IsAnswer p steps s.held k n m x
+      broken_so x w =
+          let lines = front_lines p front others in
+          broken_answer (front ++ others) are (lines_behind 0 p front) lines.0 lines.1 s.held k n m x
+          (subst (λ (i : ℕ). BreaksOff (lines_behind 0 p front) i s.held k n m x) empty
+          (subst (λ (i : ℕ). BreaksOff (lines_behind i p front) s.bytes s.held k n m x) none w))
+
+      -- the first one says that a condition is never met
+      told : (gs : List Finding) (i : ℕ) → first_impossible gs ≡ Some i → first_impossible (gs ++ others) ≡ Some i
+      told [] i is = absurd (let q : None ≡ Some i = is in cc)
+      told (g ∷ gs) i is = is
+
+      answers_so : (x : DiscoverError) → IsBroken p front s k n m x → IsAnswer p steps s.held k n m x
+      answers_so (Impossible i) (zero_there, is, after, put) =
+          let one : first_impossible (front ++ others) ≡ Some i = told front i is in
+          written_whole (front ++ others) are (impossible_line i ∷ []) (ap (λ (o : Option ℕ). lines_with o p (front ++ others)) one) after s.held k
+          (subst (λ (j : ℕ). PutsLines (impossible_line i ∷ []) j after s.held k) empty put)
+          (impossible i) (ap (λ (o : Option ℕ). end_with o (front ++ others)) one)
+      answers_so (Spent i) u = absurd u
+      answers_so (TooLarge i which) u = absurd u
+      answers_so TooLong u = broken_so TooLong u
+      answers_so WriteFault u = broken_so WriteFault u
+      answers_so NoMemory u = broken_so NoMemory u
+
+    rest_of : (P : Statement → Type 0) (xs ys : List Statement) → All P (xs ++ ys) → All P ys
+    rest_of P [] ys h = h
+    rest_of P (x ∷ xs) ys h = rest_of P xs ys (All-tail P x (xs ++ ys) h)
+
     -- some were examined, and then it stopped
     pub stops_so : (k : Option (List ℕ)) (n m : ℕ) (e : DiscoverError) → BreaksSearch p steps (candidates p) s k n m e
         → IsAnswer p steps s.held k n m e
-    stops_so k n m e b = go e b.last
-      where
-        rest_relations : (xs ys : List Statement) → All (λ s. IsRelation s) (xs ++ ys) → All (λ s. IsRelation s) ys
-        rest_relations [] ys h = h
-        rest_relations (x ∷ xs) ys h = rest_relations xs ys (All-tail (λ s. IsRelation s) x (xs ++ ys) h)
-
-        rest_formed : (xs ys : List Statement) → All (λ s. IsWellFormed (with_statement p s)) (xs ++ ys)
-            → All (λ s. IsWellFormed (with_statement p s)) ys
-        rest_formed [] ys h = h
-        rest_formed (x ∷ xs) ys h = rest_formed xs ys (All-tail (λ s. IsWellFormed (with_statement p s)) x (xs ++ ys) h)
-
-        others : (gs : List Finding) × AreFindings p steps b.rest gs
-        others =
-            some_findings b.rest (rest_relations b.front b.rest (subst (λ (xs : List Statement). All (λ s. IsRelation s) xs) b.split relations_all))
-            (rest_formed b.front b.rest (subst (λ (xs : List Statement). All (λ s. IsWellFormed (with_statement p s)) xs) b.split formed))
-
-        fs : List Finding
-        fs = b.findings ++ others.0
-
-        are : AreFindings p steps (candidates p) fs
-        are = subst (λ (xs : List Statement). AreFindings p steps xs fs) (sym b.split)
-            (are_both p steps b.front b.rest b.findings others.0 b.found others.1)
-
-        front : (more : List (List ℕ)) × (found_lines p fs ≡ lines_behind 0 p b.findings ++ more)
-        front = front_lines p b.findings others.0
-
-        broken : (x : DiscoverError) → BreaksOff (lines_behind s.examined p b.findings) s.bytes s.held k n m x → IsAnswer p steps s.held k n m x
-        broken x w =
-            broken_answer fs are (lines_behind 0 p b.findings) front.0 front.1 s.held k n m x
-            (subst (λ (i : ℕ). BreaksOff (lines_behind 0 p b.findings) i s.held k n m x) empty
-            (subst (λ (i : ℕ). BreaksOff (lines_behind i p b.findings) s.bytes s.held k n m x) none w))
-
-        -- the first one says that a condition is never met
-        told : (gs : List Finding) (i : ℕ) → first_impossible gs ≡ Some i → first_impossible (gs ++ others.0) ≡ Some i
-        told [] i is = absurd (let q : None ≡ Some i = is in cc)
-        told (g ∷ gs) i is = is
-
-        go : (x : DiscoverError) → IsBroken p b.findings s k n m x → IsAnswer p steps s.held k n m x
-        go (Impossible i) (zero_there, is, after, put) =
-            let one : first_impossible fs ≡ Some i = told b.findings i is in
-            written_whole fs are (impossible_line i ∷ []) (ap (λ (o : Option ℕ). lines_with o p fs) one) after s.held k
-            (subst (λ (j : ℕ). PutsLines (impossible_line i ∷ []) j after s.held k) empty put)
-            (impossible i) (ap (λ (o : Option ℕ). end_with o fs) one)
-        go (Spent i) u = absurd u
-        go (TooLarge i which) u = absurd u
-        go TooLong u = broken TooLong u
-        go WriteFault u = broken WriteFault u
-        go NoMemory u = broken NoMemory u
+    stops_so k n m e b =
+        let others = some_findings b.rest
+        (rest_of (λ x. IsRelation x) b.front b.rest (subst (λ (xs : List Statement). All (λ x. IsRelation x) xs) b.split relations_all))
+        (rest_of (λ x. IsWellFormed (with_statement p x)) b.front b.rest
+        (subst (λ (xs : List Statement). All (λ x. IsWellFormed (with_statement p x)) xs) b.split formed)) in
+        answers_so k n m b.findings others.0
+        (subst (λ (xs : List Statement). AreFindings p steps xs (b.findings ++ others.0)) (sym b.split)
+        (are_both p steps b.front b.rest b.findings others.0 b.found others.1)) e b.last
 
     -- ALL WERE EXAMINED
     module _ (t : Progress) (x : Examines p steps (candidates p) s t) where
-      fs : List Finding
+      abbrev fs : List Finding
       fs = x.findings
 
       possible : first_impossible fs ≡ None
       possible = x.possible none
 
-      counts : List ℕ
+      abbrev counts : List ℕ
       counts = counts_line t.related t.unsettled
 
       all_lines : found_lines p fs ≡ lines_of p fs ++ counts ∷ []
@@ -288,7 +278,7 @@ module _ (p : Source) (steps : ℕ) (w : IsWellFormed p) (short : length (canoni
           go nothing r = none_open gs o end r e
 
       -- the end of the first open one's log
-      OpensSo : SearchEnd → ProveError → Type 0
+      abbrev OpensSo : SearchEnd → ProveError → Type 0
       OpensSo end i = (f : Finding) × EndsSo f i × (end ≡ open_by f.ending (length f.lines))
 
       one_open_end : (gs : List Finding) (o : Option ProveError) (end : SearchEnd) (i : ProveError) → TellsFirst None gs o → o ≡ Some i

@@ -1,5 +1,5 @@
 -- Steps of a search, one after another.
-use Rattle.std.proofs.Common.{◌≡◌, ◌≢◌, ℕ, zero, suc, ◌+◌, ◌≤◌, inl, inr, Option, Some, None, List, [], ◌∷◌, ◌++◌, append-nil, append_assoc}
+use Rattle.std.proofs.Common.{◌≡◌, ℕ, zero, suc, ◌+◌, ◌≤◌, Option, Some, None, List, [], ◌∷◌, ◌++◌, append-nil, append_assoc}
 use Rattle.std.proofs.Common.{◌<◌, drop, length, refl, sym, ◌∙◌, ap, subst, take, arith}
 use Rattle.std.specs.Prelude.{slice_index_or}
 use Rattle.std.specs.List.{flat_map}
@@ -8,10 +8,8 @@ use Rattle.std.proofs.lemmas.List.Concat.{flat_map-append}
 use Rattle.std.proofs.lemmas.List.Sums.{sum_by-append}
 use Rattle.geo_program.specs.declared.statements.Statement.{Statement}
 use Rattle.geo_program.specs.WellFormed.{Source}
-use Rattle.proof_log.specs.declared.log.Line.{Line}
 use Rattle.log_maker.specs.declared.errors.ProveError.{ProveError}
 use Rattle.log_maker.specs.declared.errors.ProveError.TheVariants as stopped
-use Rattle.geo_logs.specs.Ends.{Ending}
 use Rattle.geo_discover.specs.declared.errors.DiscoverError.{DiscoverError}
 use Rattle.geo_discover.specs.declared.errors.DiscoverError.TheVariants.{Impossible, Spent, TooLarge, TooLong, WriteFault, NoMemory}
 use Rattle.geo_discover.specs.FoundTexts.{AreFindings, Finding, IsFinding, Outcome, candidate_lines, first_impossible, impossible_in, nothing}
@@ -241,26 +239,23 @@ breaks_later p steps ss us s t k n i m e a le b = record {
   last = go e b.last;
 }
   where
-    fs : List Finding
-    fs = a.findings
+    many : length ss ≡ length a.findings
+    many = as_many p steps ss a.findings a.found
 
-    many : length ss ≡ length fs
-    many = as_many p steps ss fs a.found
-
-    counted : t.examined ≡ s.examined + length fs
+    counted : t.examined ≡ s.examined + length a.findings
     counted = let q = a.examined in omega (arith, q, many)
 
     behind : (x : DiscoverError) → BreaksOff (lines_behind t.examined p b.findings) t.bytes t.held k i m x
-        → BreaksOff (lines_behind s.examined p (fs ++ b.findings)) s.bytes s.held k n m x
+        → BreaksOff (lines_behind s.examined p (a.findings ++ b.findings)) s.bytes s.held k n m x
     behind x w =
         subst (λ (ls : List (List ℕ)). BreaksOff ls s.bytes s.held k n m x)
-        (sym (behind_both p s.examined t.examined fs b.findings counted a.possible))
-        (breaks_behind (lines_of p fs) (lines_behind t.examined p b.findings) s.bytes t.bytes s.held t.held k n i m x a.put le w)
+        (sym (behind_both p s.examined t.examined a.findings b.findings counted a.possible))
+        (breaks_behind (lines_of p a.findings) (lines_behind t.examined p b.findings) s.bytes t.bytes s.held t.held k n i m x a.put le w)
 
-    go : (x : DiscoverError) → IsBroken p b.findings t k i m x → IsBroken p (fs ++ b.findings) s k n m x
+    go : (x : DiscoverError) → IsBroken p b.findings t k i m x → IsBroken p (a.findings ++ b.findings) s k n m x
     go (Impossible j) (first, is, after, put) =
         let zero_there : s.examined ≡ 0 = omega (arith, first, counted) in
-        let none : fs ≡ [] = none_found p steps ss fs a.found (omega (arith, first, counted, many)) in (
+        let none : a.findings ≡ [] = none_found p steps ss a.findings a.found (omega (arith, first, counted, many)) in (
           zero_there,
           ap (λ (xs : List Finding). first_impossible (xs ++ b.findings)) none ∙ is,
           after,

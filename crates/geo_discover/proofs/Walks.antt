@@ -8,11 +8,9 @@ use Rattle.std.proofs.lemmas.List.Folds.{flat_map-map}
 use Rattle.geo_points.specs.declared.ids.PointId.{PointId}
 use Rattle.geo_discover.specs.Candidates.{pairs, points_of, quadruples, triples}
 use Rattle.geo_program.specs.WellFormed.{Source, empty_scope, scope_of}
-use Rattle.geo_program.specs.declared.statements.Statement.{Statement}
 use Rattle.geo_program.specs.declared.statements.Statement.TheVariants as statement
 use Rattle.geo_discover.specs.Candidates.{Segments, share_point}
 use Rattle.geo_discover.specs.Inner.Walks.{points_behind, pt, segment_candidates}
-use Rattle.geo_discover.specs.declared.segments.Kind.{Kind}
 use Rattle.geo_discover.specs.declared.segments.Kind.TheVariants.{Parallel, Perpendicular, SameLength}
 
 pub behind_step : (k n : ℕ) → k < n → points_behind k n ≡ pt k ∷ points_behind (k + 1) n
@@ -75,16 +73,13 @@ pub parallel_ones : (xs : List Segments) → flat_map (segment_candidates Parall
 parallel_ones [] = refl
 parallel_ones (x ∷ xs) = go (share_point x) (parallel_ones xs)
   where
-    own : Statement
-    own = statement.Parallel x.0.0 x.0.1 x.1.0 x.1.1
-
     go : (b : Bool) → flat_map (segment_candidates Parallel) xs
         ≡ map (λ s. statement.Parallel s.0.0 s.0.1 s.1.0 s.1.1) (filter (λ s. not (share_point s)) xs)
-        → cond b [] (own ∷ []) ++ flat_map (segment_candidates Parallel) xs
+        → cond b [] (statement.Parallel x.0.0 x.0.1 x.1.0 x.1.1 ∷ []) ++ flat_map (segment_candidates Parallel) xs
         ≡ map (λ s. statement.Parallel s.0.0 s.0.1 s.1.0 s.1.1)
         (cond (not b) (x ∷ filter (λ s. not (share_point s)) xs) (filter (λ s. not (share_point s)) xs))
     go true h = h
-    go false h = ap (λ ys. own ∷ ys) h
+    go false h = ap (λ ys. statement.Parallel x.0.0 x.0.1 x.1.0 x.1.1 ∷ ys) h
 
 pub perpendicular_ones : (xs : List Segments) → flat_map (segment_candidates Perpendicular) xs
     ≡ map (λ s. statement.Perpendicular s.0.0 s.0.1 s.1.0 s.1.1) xs

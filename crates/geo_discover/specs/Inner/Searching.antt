@@ -87,11 +87,11 @@ progress search held = record {
 }
 
 -- one more candidate of this outcome, and its lines
-pub record Adds (o : Outcome) (lines : List (List ℕ)) (first : Option ProveError) (s t : Progress) : Type 0 where
+pub record Adds (o : Outcome) (lines : List (List ℕ)) (ends : Option ProveError) (s t : Progress) : Type 0 where
   pub examined : t.examined ≡ s.examined + 1
   pub related : t.related ≡ s.related + one_relation o
   pub unsettled : t.unsettled ≡ s.unsettled + one_open o
-  pub first : t.first ≡ first
+  pub first : t.first ≡ ends
   pub put : PutsLines lines s.bytes t.bytes s.held t.held
 
 -- the first one, if there was none before
