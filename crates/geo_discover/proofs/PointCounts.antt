@@ -1,12 +1,12 @@
 -- How many of the names of a program are points.
-use Rattle.std.proofs.Common.{◌≡◌, ℕ, suc, ◌+◌, ◌<◌, ◌≤◌, List, [], ◌∷◌, drop, length, refl, sym, ◌∙◌, ap, subst, arith}
+use Rattle.std.proofs.Common.{◌≡◌, ℕ, suc, ◌+◌, ◌<◌, ◌≤◌, List, [], ◌∷◌, drop, length, refl, sym, ◌∙◌, ap, arith}
 use Rattle.std.specs.Prelude.{slice_index_or}
 use Rattle.std.proofs.lemmas.List.{drop_all, drop_more}
 use Rattle.geo_program.specs.declared.names.Name.{Name}
 use Rattle.geo_program.specs.declared.names.NameKind.{NameKind}
 use Rattle.geo_program.specs.declared.names.NameKind.TheVariants.{Line, Param, Point}
 use Rattle.geo_program.specs.WellFormed.{Scope, declare, empty_scope, scope_of}
-use Rattle.geo_discover.specs.Inner.Searching.{points_with}
+use Rattle.geo_discover.specs.Inner.Walks.{points_with}
 
 -- the points of a scope tell those of the scope with the names
 pub points_only : (names : List Name) (s t : Scope) → s.points ≡ t.points → (scope_of s names).points ≡ (scope_of t names).points

@@ -7,19 +7,19 @@ ghost use Rattle.geo_discover.specs.FoundTexts.{WritesFound, WritesFoundPart, Wr
 ghost use Rattle.geo_discover.specs.FoundTexts.{found, impossible, open_by};
 ghost use Rattle.geo_discover.specs.Candidates.{candidates};
 ghost use Rattle.geo_discover.specs.Inner.Searching.{BreaksSearch, Examines, IsAnswer, IsCandidate};
-ghost use Rattle.geo_discover.specs.Inner.Searching.{points_with, progress};
+ghost use Rattle.geo_discover.specs.Inner.Searching.{progress};
 ghost use Rattle.geo_logs.specs.Ends.{ends_by};
 ghost use Rattle.geo_logs.specs.Moves.{spent, too_large};
 ghost use Rattle.geo_poly.specs.declared.limits.Which.{Which};
 ghost use Rattle.geo_program.specs.Programs.{program_text, source_of};
-ghost use Rattle.geo_program.specs.WellFormed.{empty_scope, scope_of};
 
 use crate::errors::DiscoverError;
 use crate::listing::list_candidates;
+use crate::point_counts::point_count;
 use crate::search::{Found, Search};
 use geo_base::Sink;
 use geo_points::NoMemory;
-use geo_program::{Name, NameKind, Program, Statement};
+use geo_program::{Program, Statement};
 use std::alloc::Global;
 
 /// Writes each relation between the points of the program, each with its log; the candidates that
@@ -86,30 +86,6 @@ fn candidates_of(alloc: Global, program: &Program) -> Result<Vec<Statement>, NoM
 {
     let points = point_count(program.names.as_slice())?;
     list_candidates(alloc, points)
-}
-
-/// How many of the names are points. More than a number can tell are answered by want of memory.
-fn point_count(names: &[Name]) -> Result<u32, NoMemory>
-    ensures { IfOk result (λ n. n ≡ (scope_of empty_scope names.now).points) }
-{
-    let mut count = 0;
-    for name in names {
-        count = count_with(count, name.kind)?;
-    }
-    Ok(count)
-}
-
-/// How many points there are with a name of this kind more.
-fn count_with(count: u32, kind: NameKind) -> Result<u32, NoMemory>
-    ensures { IfOk result (λ n. n ≡ points_with kind count) }
-{
-    if kind != NameKind::Point {
-        return Ok(count);
-    }
-    if count == u32::MAX {
-        return Err(NoMemory);
-    }
-    Ok(count + 1)
 }
 
 /// Examines the candidates in order.

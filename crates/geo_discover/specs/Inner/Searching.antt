@@ -1,8 +1,6 @@
 -- How far a search has come, and what it does with its next candidates.
 use Rattle.std.specs.Prelude.{◌≡◌, ◌⊎◌, ℕ, zero, suc, ◌+◌, All, Option, Some, None, List, [], ◌∷◌, ◌++◌, codes, decimal, length}
 use Rattle.std.specs.List.{flat_map}
-use Rattle.geo_program.specs.declared.names.NameKind.{NameKind}
-use Rattle.geo_program.specs.declared.names.NameKind.TheVariants.{Line, Param, Point}
 use Rattle.geo_program.specs.declared.statements.Statement.{Statement}
 use Rattle.geo_program.specs.Forms.{statement_form}
 use Rattle.geo_program.specs.Relations.{IsRelation}
@@ -29,12 +27,6 @@ use Rattle.geo_discover.specs.Inner.Puts.{BreaksOff, PutsLines}
 pub record IsCandidate (p : Source) (s : Statement) : Type 0 where
   pub relation : IsRelation s
   pub points : All (IsArgument (scope_of empty_scope p.names)) (statement_form p.nodes s).arguments
-
--- how many points there are with a name of this kind more
-abbrev pub points_with : NameKind → ℕ → ℕ
-points_with Point n = n + 1
-points_with Param n = n
-points_with Line n = n
 
 -- ONE CANDIDATE
 -- the log of an open candidate ends so

@@ -1,5 +1,5 @@
 use Rattle.geo_discover.proofs.PointCounts.{CountsFrom}
-use Rattle.geo_discover.proofs.discovering.point_count.Given as goal
+use Rattle.geo_discover.proofs.point_counts.point_count.Given as goal
 
 -- with so many points so far, the names that are left give all
 abbrev pub invariant-loop-name : goal.invariant-loop-name

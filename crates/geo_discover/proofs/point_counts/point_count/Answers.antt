@@ -1,6 +1,6 @@
 use Rattle.std.proofs.Common.{arith}
 use Rattle.geo_discover.proofs.PointCounts.{counts_all, counts_first, counts_on}
-use Rattle.geo_discover.proofs.discovering.point_count.Goals as goal
+use Rattle.geo_discover.proofs.point_counts.point_count.Goals as goal
 
 pub loop-name-init : goal.loop-name-init
 loop-name-init c = counts_first c.args.names.now
