@@ -88,9 +88,9 @@ impl From<ProveError> for FixedError {
         match error {
             ProveError::Spent { line } => FixedError::Spent { line },
             ProveError::TooLarge { line, which } => FixedError::TooLarge { line, which },
-            ProveError::TooLong | ProveError::WriteFault | ProveError::NoMemory => {
-                FixedError::NoMemory
-            }
+            ProveError::TooLong => FixedError::NoMemory,
+            ProveError::WriteFault => FixedError::NoMemory,
+            ProveError::NoMemory => FixedError::NoMemory,
         }
     }
 }

@@ -1,6 +1,6 @@
 //! How many points a program names.
 
-ghost use Rattle.std.specs.Prelude.{◌≡◌, IfOk};
+ghost use Rattle.std.specs.Prelude.{◌≡◌, ◌+◌, IfOk};
 ghost use Rattle.geo_program.specs.WellFormed.{empty_scope, scope_of};
 ghost use Rattle.geo_discover.specs.Inner.Walks.{points_with};
 
@@ -22,9 +22,17 @@ pub(crate) fn point_count(names: &[Name]) -> Result<u32, NoMemory>
 fn count_with(count: u32, kind: NameKind) -> Result<u32, NoMemory>
     ensures { IfOk result (λ n. n ≡ points_with kind count) }
 {
-    if kind != NameKind::Point {
-        return Ok(count);
+    match kind {
+        NameKind::Point => one_more(count),
+        NameKind::Param => Ok(count),
+        NameKind::Line => Ok(count),
     }
+}
+
+/// A count with one more.
+fn one_more(count: u32) -> Result<u32, NoMemory>
+    ensures { IfOk result (λ n. n ≡ count + 1) }
+{
     if count == u32::MAX {
         return Err(NoMemory);
     }
