@@ -55,13 +55,13 @@ program_due steps bytes few = by (texts_spell_or_are_refused bytes)
         let q = spelt_program bytes p (omega (arith, few)) spelt in
         let small = spelt_short bytes (source_of q.0) q.1 in
         let log = programs_have_defined_logs Two (source_of q.0) steps (record { well_formed = q.1.well_formed; short = omega (arith, small, few) }) in (
-          record { text = log_text log.3; status = ending_status log.3 log.4 },
+          record { text = log_text log.3.0; status = ending_status log.3.0 log.3.1 },
           inl (record {
             program = q.0;
             spelt = q.1;
-            lines = log.3;
-            ending = log.4;
-            log = record { subject = log.0; about = log.1; version = log.2; defined = log.5 };
+            lines = log.3.0;
+            ending = log.3.1;
+            log = record { subject = log.0; about = log.1; version = log.2; defined = log.3.2 };
             is = refl;
           }),
         )
