@@ -137,10 +137,10 @@ some_is_called words left asks =
     by : IsProve words asks.steps ⊎ (IsCheck words asks.steps ⊎ IsText words asks.steps) → (due : Due) × IsCalledFor words (Some asks.bytes) due
     by (inl given) =
         let due = called_within program_limit (IsDueFor asks.steps) asks.bytes (program_due asks.steps asks.bytes) in
-        (due.0, record { command = Prove; steps = asks.steps }, given, due.1)
+        (due.0, (record { command = Prove; steps = asks.steps }, given, due.1))
     by (inr (inl given)) =
         let due = called_within log_limit (IsDueForLog asks.steps) asks.bytes (log_due asks.steps asks.bytes) in
-        (due.0, record { command = Check; steps = asks.steps }, given, due.1)
+        (due.0, (record { command = Check; steps = asks.steps }, given, due.1))
     by (inr (inr given)) =
         let due = called_within log_limit (IsDueForText asks.steps) asks.bytes (text_due asks.steps asks.bytes) in
-        (due.0, record { command = Text; steps = asks.steps }, given, due.1)
+        (due.0, (record { command = Text; steps = asks.steps }, given, due.1))
