@@ -2,8 +2,6 @@
 #![tactic(auto)]
 
 mod bench;
-#[cfg(test)]
-mod bench_tests;
 mod chains;
 mod conditions;
 mod ending;
@@ -16,8 +14,6 @@ mod program_lines;
 mod proving;
 mod sample_variables;
 mod summary;
-#[cfg(test)]
-mod tests;
 
 pub use bench::bench_program;
 pub use errors::ProveError;
