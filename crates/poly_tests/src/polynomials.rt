@@ -5,7 +5,7 @@ ghost use Rattle.geo_poly.specs.Replace.{AllBounded, AllPowersSmall, IsBounded};
 ghost use Rattle.poly_arena.specs.Chains.{IsLive};
 
 use geo_points::{ParamId, PointId};
-use geo_poly::{Piece, Poly, PolyError, Row, Ticks, Var, Which, union};
+use geo_poly::{Piece, Poly, PolyError, Row, Ticks, Var, Which};
 use mono_store::Monos;
 use poly_arena::{Arena, Chain};
 use std::alloc::{AllocError, Global};
@@ -65,9 +65,9 @@ fn linear(alloc: Global, a: i32, b: i32) -> Result<Poly, PolyError> {
 }
 
 /// The polynomial with its own numbers as bounds.
-#[tactic(auto, using(crate::proofs::Lengths::own_count_is_light))]
 fn piece(poly: Poly) -> Piece
-    ensures { IsBounded result }
+    ensures bounded { IsBounded result }
+    ensures poly { result.poly ≡ poly }
 {
     let weight = (poly.norm() as u128).max(1);
     let count = (poly.terms() as u128).max(1);
@@ -365,64 +365,63 @@ fn spelled_chain(alloc: Global, arena: &mut Arena, chain: Chain) -> Result<Strin
     Ok(text)
 }
 
-/// The chain of a product in a new arena, and the indices of both squares in its store.
-fn product_in_arena(alloc: Global, left: &Poly, right: &Poly) -> Result<(String, String), Fail> {
-    let vars = union(alloc, left.vars().as_slice(), right.vars().as_slice())?;
+/// The chain of a square in a new arena, and what is expected of `(a - b)^2` in its store.
+fn square_in_arena(alloc: Global, poly: &Poly) -> Result<(String, String), Fail> {
+    let vars = poly.vars();
     let mut store = Monos::new(alloc);
     let one = store.one();
     let first = store.mono(0, 2, one)?;
     let second = store.mono(1, 2, one)?;
-    let wanted = format!(in alloc; " {}:+1 {}:-1", first.0, second.0)?;
+    let last = store.mono(1, 1, one)?;
+    let both = store.mono(0, 1, last)?;
+    let wanted = format!(in alloc; " {}:+1 {}:-2 {}:+1", first.0, both.0, second.0)?;
     let mut arena = Arena::new(alloc)?;
-    let chain = left.mul_chain(alloc, right, &vars, &mut store, &mut arena)?;
+    let chain = poly.mul_chain(alloc, poly, vars, &mut store, &mut arena)?;
     Ok((spelled_chain(alloc, &mut arena, chain)?, wanted))
 }
 
 #[test]
 fn products_stand_in_a_callers_arena(rt: HostRuntime) -> Result<(), Fail> {
     let alloc = rt.alloc();
-    let (chain, wanted) = product_in_arena(alloc, &linear(alloc, 1, 1)?, &linear(alloc, 1, -1)?)?;
+    let (chain, wanted) = square_in_arena(alloc, &linear(alloc, 1, -1)?)?;
     assert_eq!(rt; chain.as_str(), wanted.as_str());
     Ok(())
 }
 
-/// The chain of a replacement in a new arena, and three times the second variable in its store.
+/// The chain in a new arena where half of `a + b` is put for `a` in it, and what is expected of it,
+/// `a + 3 b`, in its store.
 fn replacement_in_arena<L: Ledger>(
     alloc: Global,
     poly: &Poly,
-    rows: &[Row],
-    den: &Piece,
     blank: Blank,
 ) -> Result<(String, String), Fail>
-    requires rows { AllBounded rows.now }
-    requires powers { AllPowersSmall rows.now }
-    requires den { IsBounded den.now }
     requires name { blank.name ≡ L.name }
     requires parts { blank.parts ≡ L.parts }
     requires some { 0 < blank.parts }
 {
-    let vars = poly.replacement_vars(alloc, rows, den)?;
+    let rows = [Row {
+        var: Var::X(PointId(0)),
+        power: 1,
+        num: piece(poly.copy(alloc)?),
+    }];
+    let den = piece(Poly::constant(alloc, 2)?);
     let mut store = Monos::new(alloc);
     let one = store.one();
+    let first = store.mono(0, 1, one)?;
     let second = store.mono(1, 1, one)?;
-    let wanted = format!(in alloc; " {}:+3", second.0)?;
+    let wanted = format!(in alloc; " {}:+1 {}:+3", first.0, second.0)?;
     let mut arena = Arena::new(alloc)?;
     let mut ticks = Ticks::<L>::new(blank);
-    let chain = poly.replace_chain(alloc, rows, den, &vars, &mut store, &mut arena, &mut ticks)?;
+    let vars = poly.vars();
+    let chain = poly.replace_chain(alloc, &rows, &den, vars, &mut store, &mut arena, &mut ticks)?;
     Ok((spelled_chain(alloc, &mut arena, chain)?, wanted))
 }
 
 #[test]
 fn replacements_stand_in_a_callers_arena(rt: HostRuntime) -> Result<(), Fail> {
     let alloc = rt.alloc();
-    let rows = [Row {
-        var: Var::X(PointId(0)),
-        power: 1,
-        num: piece(linear(alloc, 0, 1)?),
-    }];
-    let den = piece(Poly::constant(alloc, 2)?);
     let (poly, blank) = (linear(alloc, 1, 1)?, Blank::new(1));
-    let (chain, wanted) = replacement_in_arena::<Brand>(alloc, &poly, &rows, &den, blank)?;
+    let (chain, wanted) = replacement_in_arena::<Brand>(alloc, &poly, blank)?;
     assert_eq!(rt; chain.as_str(), wanted.as_str());
     Ok(())
 }

@@ -7,8 +7,7 @@ use geo_base::Budget;
 use geo_points::{ParamId, PointId};
 use geo_poly::lists::{Polys, Values, Vars};
 use geo_poly::{Poly, Var, Which};
-use geo_sample::lists::none_zero;
-use geo_sample::{SampleError, least_sample, values_hold};
+use geo_sample::{SampleError, least_sample, none_zero, values_hold};
 use std::alloc::Global;
 use std::test::Fail;
 
