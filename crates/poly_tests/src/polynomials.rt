@@ -65,6 +65,7 @@ fn linear(alloc: Global, a: i32, b: i32) -> Result<Poly, PolyError> {
 }
 
 /// The polynomial with its own numbers as bounds.
+#[tactic(auto, using(crate::proofs::Pieces::count_is_light))]
 fn piece(poly: Poly) -> Piece
     ensures bounded { IsBounded result }
     ensures poly { result.poly ≡ poly }
