@@ -1,4 +1,4 @@
-//! Tests of programs, and tests that cross crates: of the calls that make a problem of a program, and
+//! Tests of reading programs, and tests that cross crates: of the calls that make a problem of a program, and
 //! of the moves of a chain, beside what a plain reference makes of the same programs. There is
 //! nothing here but tests.
 #![tactic(auto)]
@@ -25,8 +25,6 @@ mod parsing;
 mod places;
 #[cfg(test)]
 mod problems;
-#[cfg(test)]
-mod programs;
 #[cfg(test)]
 mod ratio_moves_table;
 #[cfg(test)]

@@ -1,5 +1,5 @@
-use Rattle.geo_tests.proofs.Samples.{sample_short, sample_spelt}
-use Rattle.geo_tests.proofs.programs.midpoint_program.Goals as goal
+use Rattle.geo_program.proofs.Samples.{sample_short, sample_spelt}
+use Rattle.geo_program.proofs.tests.midpoint_program.Goals as goal
 
 pub invariant_of-result : goal.invariant_of-result
 invariant_of-result c = record {
