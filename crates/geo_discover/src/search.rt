@@ -36,7 +36,7 @@ pub(crate) struct Search {
 }
 
 impl Search {
-    ghost use Rattle.std.specs.Prelude.{◌≡◌, ◌+◌, ◌^◌, ◌<◌, ◌≤◌, ◌×◌, ◌∷◌, [], ℕ, IfErr, IfOk, List, None, OnOk, IsOk, length, map, ◌≢◌};
+    ghost use Rattle.std.specs.Prelude.{◌≡◌, ◌+◌, ◌^◌, ◌<◌, ◌≤◌, ◌∷◌, [], ℕ, IfErr, IfOk, List, None, OnOk, IsOk, length, map, ◌≢◌};
     ghost use Rattle.std.specs.List.{AllByRecursion};
     ghost use Rattle.geo_program.specs.Programs.{program_text, source_of};
     ghost use Rattle.proof_log.specs.declared.log.Line.{Line};
@@ -202,11 +202,11 @@ impl Search {
             (K.held sink.new) (K.faults sink.old) (K.faults sink.new)) }
         ensures faults { K.faults sink.old ≤ K.faults sink.new }
     {
-        put_counts(alloc, &mut self.text, self.relations, self.open_ones, sink)?;
+        let relations = self.relations;
+        let open_ones = self.open_ones;
+        put_counts(alloc, &mut self.text, relations, open_ones, sink)?;
         match self.first_open {
-            None => Ok(Found {
-                relations: self.relations,
-            }),
+            None => Ok(Found { relations }),
             Some(error) => Err(answer_to(error)),
         }
     }

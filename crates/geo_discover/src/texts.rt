@@ -1,6 +1,6 @@
 //! Texts that are written, and how long they may get.
 
-ghost use Rattle.std.specs.Prelude.{◌≡◌, ◌==◌, ◌+◌, ◌<◌, ◌≤◌, ◌×◌, IfErr, IfOk, OnOk, length};
+ghost use Rattle.std.specs.Prelude.{◌≡◌, ◌==◌, ◌+◌, ◌<◌, ◌≤◌, IfErr, IfOk, OnOk, length};
 ghost use Rattle.std.specs.List.{position};
 ghost use Rattle.geo_base.specs.Devices.{Grows};
 ghost use Rattle.geo_discover.specs.Inner.Puts.{IsTextCut};
