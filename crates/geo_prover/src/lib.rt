@@ -2,20 +2,11 @@
 #![tactic(auto)]
 
 mod bench;
-mod chains;
-mod conditions;
-mod ending;
-mod errors;
-mod findings;
-mod goals;
-mod known;
-mod log_writer;
 mod program_lines;
 mod proving;
-mod sample_variables;
 mod summary;
 
 pub use bench::bench_program;
-pub use errors::ProveError;
+pub use log_maker::ProveError;
 pub use proving::prove;
 pub use summary::Summary;
