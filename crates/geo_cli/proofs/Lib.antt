@@ -3,6 +3,7 @@ pub mod OrderLemmas
 pub mod FaultPlaces
 pub mod ValuesDue
 pub mod CitationsDue
+pub mod FixedDue
 pub mod OneDue
 pub mod SomeDue
 pub mod Answered

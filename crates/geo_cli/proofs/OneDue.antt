@@ -8,6 +8,7 @@ use Rattle.geo_cli.specs.Values.{values_line}
 use Rattle.geo_cli.proofs.ValueLines.{one_line}
 use Rattle.geo_conditions.specs.Truth.{ProgramValues}
 use Rattle.geo_conditions.proofs.Sightings.{same_frees, same_numbers}
+use Rattle.geo_discover.proofs.FixedAlike.{fixed_ends_agree}
 use Rattle.geo_figure.specs.declared.errors.DrawError.{DrawError}
 use Rattle.geo_figure.specs.declared.errors.DrawError.TheVariants as drawing
 use Rattle.geo_figure.proofs.OneDrawing.{one_drawing}
@@ -19,13 +20,13 @@ use Rattle.geo_place.proofs.SameEvaluation.{same_answer}
 use Rattle.geo_place.proofs.ValueLists.{values_once}
 use Rattle.geo_program.specs.declared.program_type.Program.{Program}
 use Rattle.geo_cli.specs.declared.order.Command.{Command}
-use Rattle.geo_cli.specs.declared.order.Command.TheVariants.{Bench, Check, Cite, Figure, Place, Prove, Text}
+use Rattle.geo_cli.specs.declared.order.Command.TheVariants.{Bench, Check, Cite, Figure, Fixed, Place, Prove, Text}
 use Rattle.geo_cli.specs.declared.order.Order.{Order}
 use Rattle.geo_cli.specs.declared.status.Status.TheVariants.{Done, Syntax}
 use Rattle.geo_cli.specs.Due.{Due, IsAcceptedDue, IsBenchDue, IsCalledFor, IsCommandCall, IsCommandDue, IsDue, IsDueFor, IsDueForCitation}
-use Rattle.geo_cli.specs.Due.{IsDueForLog, IsDueForText, IsDueForValues, IsLogDue, IsReadCall, IsReadDue, IsReadableDue, IsRefusalDue}
+use Rattle.geo_cli.specs.Due.{IsDueForFixed, IsDueForLog, IsDueForText, IsDueForValues, IsFixedDue, IsLogDue, IsReadCall, IsReadDue, IsReadableDue, IsRefusalDue}
 use Rattle.geo_cli.specs.Due.{IsRejectionDue, IsRestDue, IsValuesDue, TellsAnswer, TellsDrawing, TellsUncited, bench_text, cited_line}
-use Rattle.geo_cli.specs.Due.{conditions_text, fault_due, refusal_line, syntax_line}
+use Rattle.geo_cli.specs.Due.{TellsFixed, conditions_text, fault_due, fixed_line, refusal_line, stop_due, syntax_line}
 use Rattle.geo_cli.specs.Input.{IsInput, IsLong, log_limit, program_limit}
 use Rattle.geo_cli.specs.Orders.{IsOrder}
 use Rattle.geo_cli.specs.Status.{ending_status, refusal_status, verdict_status}
@@ -265,6 +266,36 @@ one_due_for_citation steps bytes due other (inr h) (inr g) =
     (uncited_memory g.error other g.is) h.refused g.refused in
     one_uncited g.error due other (subst (λ (x : CiteError). TellsUncited x due) same h.is) g.is
 
+-- WHAT A PROGRAM CALLS FOR IN THE FIXED FRAME
+
+-- how the logs of programs with the same lines end calls for one line
+one_fixed : (p q : Source) (steps : ℕ) (due other : Due) → IsWellFormed p → IsWellFormed q → source_lines p ≡ source_lines q
+    → TellsFixed p steps due → TellsFixed q steps other → due ≡ other
+one_fixed p q steps due other w v e (inl (verdict, h, is)) (inl (verdict', g, is')) =
+    let same : verdict ≡ verdict' = fixed_ends_agree.verdicts p q steps w v e verdict verdict' h g in
+    is ∙ (λ i. record { text = fixed_line (same i); status = verdict_status (same i) }) ∙ sym is'
+one_fixed p q steps due other w v e (inl (verdict, h, is)) (inr (stop, n, g, is')) =
+    absurd (fixed_ends_agree.verdict_or_stop p q steps w v e verdict stop n h g)
+one_fixed p q steps due other w v e (inr (stop, n, h, is)) (inl (verdict, g, is')) =
+    absurd (fixed_ends_agree.verdict_or_stop q p steps v w (sym e) verdict stop n g h)
+one_fixed p q steps due other w v e (inr (stop, n, h, is)) (inr (stop', m, g, is')) =
+    let same = fixed_ends_agree.stops p q steps w v e stop stop' n m h g in
+    is ∙ (λ i. stop_due (same.1 i) (same.0 i)) ∙ sym is'
+
+one_fixed_due : (steps : ℕ) (bytes : List ℕ) (due other : Due) → IsFixedDue steps bytes due → IsFixedDue steps bytes other → due ≡ other
+one_fixed_due steps bytes due other h g =
+    let p = source_of h.program in
+    let q = source_of g.program in
+    let same : source_lines p ≡ source_lines q = ap (map line_text) (same_lines p q (spells_one bytes p q h.spelt g.spelt)) in
+    one_fixed p q steps due other h.spelt.well_formed g.spelt.well_formed same h.tells g.tells
+
+-- one thing is due at most for a program
+one_due_for_fixed : (steps : ℕ) (bytes : List ℕ) (due other : Due) → IsDueForFixed steps bytes due → IsDueForFixed steps bytes other → due ≡ other
+one_due_for_fixed steps bytes due other (inl h) (inl g) = one_fixed_due steps bytes due other h g
+one_due_for_fixed steps bytes due other (inl h) (inr g) = absurd (g.no_program.spells_none h.program h.spelt)
+one_due_for_fixed steps bytes due other (inr h) (inl g) = absurd (h.no_program.spells_none g.program g.spelt)
+one_due_for_fixed steps bytes due other (inr h) (inr g) = one_refusal_due bytes due other h g
+
 -- WHAT A NUMBER CALLS FOR
 
 -- the commands have the same forms over any store
@@ -332,6 +363,7 @@ one_command Text steps left left' due other h g = one_read log_limit (IsDueForTe
 one_command Place steps left left' due other h g = one_read program_limit (IsDueForValues false) (one_due_for_values false) left left' due other h g
 one_command Figure steps left left' due other h g = one_read program_limit (IsDueForValues true) (one_due_for_values true) left left' due other h g
 one_command Cite steps left left' due other h g = one_read log_limit (IsDueForCitation steps) (one_due_for_citation steps) left left' due other h g
+one_command Fixed steps left left' due other h g = one_read program_limit (IsDueForFixed steps) (one_due_for_fixed steps) left left' due other h g
 one_command (Bench number) steps left left' due other h g = one_bench_due number steps due other h g.1
 
 -- two things that a command calls for are one
@@ -351,6 +383,7 @@ calls_one Text steps left due other h g = one_call log_limit (IsDueForText steps
 calls_one Place steps left due other h g = one_call program_limit (IsDueForValues false) (one_due_for_values false) left due other h g
 calls_one Figure steps left due other h g = one_call program_limit (IsDueForValues true) (one_due_for_values true) left due other h g
 calls_one Cite steps left due other h g = one_call log_limit (IsDueForCitation steps) (one_due_for_citation steps) left due other h g
+calls_one Fixed steps left due other h g = one_call program_limit (IsDueForFixed steps) (one_due_for_fixed steps) left due other h g
 calls_one (Bench number) steps left due other h g = one_bench_due number steps due other h g
 
 -- two things that are called for are one

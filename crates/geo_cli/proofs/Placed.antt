@@ -4,10 +4,10 @@ use Rattle.std.specs.Prelude.{Bool, true, false, ℤ, Result, Ok, Err}
 use Rattle.geo_base.specs.Devices.{Grows}
 use Rattle.geo_base.specs.declared.texts.Text.{Text as Written}
 use Rattle.geo_cli.specs.declared.order.Command.{Command}
-use Rattle.geo_cli.specs.declared.order.Command.TheVariants.{Bench, Check, Cite, Figure, Place, Prove, Text}
+use Rattle.geo_cli.specs.declared.order.Command.TheVariants.{Bench, Check, Cite, Figure, Fixed, Place, Prove, Text}
 use Rattle.geo_cli.specs.declared.status.Status.{Status}
 use Rattle.geo_cli.specs.declared.status.Status.TheVariants as status
-use Rattle.geo_cli.specs.Due.{Due, IsCommandDue, IsDue, IsDueForValues, IsRestDue, TellsAnswer, TellsDrawing}
+use Rattle.geo_cli.specs.Due.{Due, IsCommandDue, IsDue, IsDueForValues, IsRestDue, TellsAnswer, TellsDrawing, TellsFixed}
 use Rattle.geo_cli.specs.Input.{IsInput, program_limit}
 use Rattle.geo_cli.specs.Orders.{IsOrder}
 use Rattle.geo_cli.specs.Run.{DoneTells, Ends, IsAnswered, IsCutShort, IsPlaceOf, PlacesInput, PlacesNone, ReadsValues, shown}
@@ -29,6 +29,7 @@ use Rattle.geo_place.specs.Placing.{AnswersValues, Places, PlacesNothing}
 use Rattle.geo_poly.specs.declared.limits.Which.TheVariants.{Norm}
 use Rattle.geo_program.specs.declared.program_type.Program.{Program}
 use Rattle.geo_program.specs.Programs.{Spells, source_of}
+use Rattle.geo_program.specs.WellFormed.{Source}
 use Rattle.proof_log.specs.declared.log.Line.{Line}
 use Rattle.proof_log.specs.declared.log.Verdict.{Verdict}
 use Rattle.proof_log.specs.declared.log.Verdict.TheVariants.{Proved, False, Impossible}
@@ -51,6 +52,10 @@ pub ending_low : (lines : List Line) (ending : Ending) → status_number (ending
 ending_low lines (ends_with v left) = verdict_low v
 ending_low lines (ends_by stop) = stop_low (length lines) stop
 ending_low lines too_long = omega arith
+
+pub fixed_low : (p : Source) (steps : ℕ) (due : Due) → TellsFixed p steps due → status_number due.status < 13
+fixed_low p steps due (inl (v, ends, is)) = subst (λ (d : Due). status_number d.status < 13) (sym is) (verdict_low v)
+fixed_low p steps due (inr (stop, n, stops, is)) = subst (λ (d : Due). status_number d.status < 13) (sym is) (stop_low n stop)
 
 pub refusal_low : (n : ℕ) (r : Refusal) → status_number (refusal_status n r) < 13
 refusal_low n (rejected reason) = omega arith
@@ -214,6 +219,11 @@ module _ (words : List (List ℕ)) (left left' held held' : Option (List ℕ)) w
       })))
   command_done Cite steps given due is written (inr (bytes, input, inr h)) =
       differ due.status status.Done _ is (uncited_number h.error due h.is).done
+  command_done Fixed steps given due is written (inl h) = not_done _ _ (sym (ap (λ (d : Due). d.status) h.1) ∙ is) (omega arith)
+  command_done Fixed steps given due is written (inr (bytes, input, inl h)) =
+      not_done due.status _ is (fixed_low (source_of h.program) steps due h.tells)
+  command_done Fixed steps given due is written (inr (bytes, input, inr h)) =
+      not_done _ _ (sym (ap (λ (d : Due). d.status) h.is) ∙ is) (omega arith)
   command_done (Bench number) steps given due is written (unread, h) =
       not_done _ _ (sym (ap (λ (d : Due). d.status) h.is) ∙ is) (ending_low h.lines h.ending)
 
@@ -270,6 +280,10 @@ module _ (words : List (List ℕ)) (left left' held held' : Option (List ℕ)) (
       not_unmet k status.Done _ (sym (ap (λ (d : Due). d.status) h.is) ∙ is) (omega arith)
   command_unmet Cite steps given due is (inr (bytes, input, inr h)) =
       differ due.status (status.Unmet k) _ is (uncited_number h.error due h.is).unmet
+  command_unmet Fixed steps given due is (inl h) = low_unmet due _ _ (ap (λ (d : Due). d.status) h.1) is (omega arith)
+  command_unmet Fixed steps given due is (inr (bytes, input, inl h)) =
+      low_unmet due due.status _ refl is (fixed_low (source_of h.program) steps due h.tells)
+  command_unmet Fixed steps given due is (inr (bytes, input, inr h)) = low_unmet due _ _ (ap (λ (d : Due). d.status) h.is) is (omega arith)
   command_unmet (Bench number) steps given due is (unread, h) =
       low_unmet due _ _ (ap (λ (d : Due). d.status) h.is) is (ending_low h.lines h.ending)
 

@@ -4,11 +4,12 @@ use Rattle.std.specs.Prelude.{◌≡◌, ◌⊎◌, ℕ, Bool, true, false, List
 use Rattle.geo_base.specs.Devices.{Grows, HasRisen}
 use Rattle.geo_cli.specs.declared.status.Status.{Status}
 use Rattle.geo_cli.specs.declared.status.Status.TheVariants.{NoMemory, ReadFault, WriteFault}
-use Rattle.geo_cli.specs.Due.{Due, IsDue, bench_text, cited_line}
+use Rattle.geo_cli.specs.Due.{Due, IsDue, bench_text, cited_line, fixed_line}
 use Rattle.geo_cli.specs.Input.{IsInput, log_limit, program_limit}
 use Rattle.geo_cli.specs.Values.{HasValuesLine}
-use Rattle.geo_cli.specs.Words.{IsBenchOf, IsCheck, IsCite, IsFigure, IsPlace, IsProve, IsText, ReadsNothing}
+use Rattle.geo_cli.specs.Words.{IsBenchOf, IsCheck, IsCite, IsFigure, IsFixed, IsPlace, IsProve, IsText, ReadsNothing}
 use Rattle.geo_conditions.specs.Truth.{Holds, Meets, ProgramValues, integers_of}
+use Rattle.geo_discover.specs.FixedEnds.{EndsWithVerdict}
 use Rattle.geo_figure.specs.Drawing.{drawing}
 use Rattle.geo_library.specs.Citations.{IsCitation, Misses}
 use Rattle.geo_library.specs.Working.{no_instance}
@@ -24,6 +25,7 @@ use Rattle.geo_program.specs.WellFormed.{Source}
 use Rattle.geo_prover.specs.Bench.{IsBench}
 use Rattle.geo_prover.specs.Proving.{IsLogOf}
 use Rattle.log_checker.specs.Accepted.{Accepts, BytesMean}
+use Rattle.log_checker.specs.Laws.{IsDecided}
 use Rattle.proof_log.specs.declared.log.Line.{Line}
 use Rattle.proof_log.specs.declared.log.Verdict.{Verdict}
 use Rattle.proof_log.specs.Lines.{log_text}
@@ -62,10 +64,23 @@ pub record Benches (words : List (List ℕ)) (verdict : Verdict) : Type 0 where
   pub text : List ℕ
   pub means : BytesMean text (source_of program) verdict
 
+-- the words are `fixed` with so many steps, the source gave these bytes and no more, they spell this program, and the sink holds the line of
+-- the verdict besides; and the verdict decides: which of the three holds of the program
+pub record Fixes (words : List (List ℕ)) (left left' held held' : Option (List ℕ)) (verdict : Verdict) : Type 0 where
+  pub steps : ℕ
+  pub command : IsFixed words steps
+  pub bytes : List ℕ
+  pub input : IsInput program_limit left bytes left'
+  pub program : Program
+  pub spelt : Spells bytes program
+  pub written : Grows held (fixed_line verdict) held'
+  pub decided : IsDecided (source_of program) verdict
+
 -- what a verdict that is answered tells, by the command
 abbrev pub VerdictTells : List (List ℕ) → Option (List ℕ) → Option (List ℕ) → Option (List ℕ) → Option (List ℕ) → Verdict → Type 0
 VerdictTells words left left' held held' verdict =
-    Proves words left left' held held' verdict ⊎ (Checks words left left' verdict ⊎ Benches words verdict)
+    Proves words left left' held held' verdict
+    ⊎ (Checks words left left' verdict ⊎ (Benches words verdict ⊎ Fixes words left left' held held' verdict))
 
 -- THE LOG BEHIND A VERDICT
 -- the text is a log of the program that is accepted with these steps and this verdict
@@ -91,10 +106,16 @@ pub record BenchesLog (words : List (List ℕ)) (held held' : Option (List ℕ))
   pub accepted : Accepts benches.text benches.steps (source_of benches.program) verdict
   pub written : Grows held (bench_text benches.number (length form.construction.steps) benches.steps lines (ends_with verdict left)) held'
 
+-- the log of the program in the fixed frame with these steps, which is not written, ends with this verdict
+pub record FixesByLog (words : List (List ℕ)) (left left' held held' : Option (List ℕ)) (verdict : Verdict) : Type 0 where
+  pub fixes : Fixes words left left' held held' verdict
+  pub ends : EndsWithVerdict (source_of fixes.program) fixes.steps verdict
+
 -- which log it is that tells the verdict, by the command
 abbrev pub VerdictAccepted : List (List ℕ) → Option (List ℕ) → Option (List ℕ) → Option (List ℕ) → Option (List ℕ) → Verdict → Type 0
 VerdictAccepted words left left' held held' verdict =
-    ProvesByLog words left left' held held' verdict ⊎ (ChecksLog words left left' verdict ⊎ BenchesLog words held held' verdict)
+    ProvesByLog words left left' held held' verdict
+    ⊎ (ChecksLog words left left' verdict ⊎ (BenchesLog words held held' verdict ⊎ FixesByLog words left left' held held' verdict))
 
 -- the words are `text` with so many steps, the source gave these bytes and no more, they are an accepted log, and the sink holds its
 -- readable proof besides

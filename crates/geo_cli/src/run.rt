@@ -18,6 +18,7 @@ use crate::answers::{USAGE, answer};
 use crate::benching::run_bench;
 use crate::checking::run_check;
 use crate::citing::run_cite;
+use crate::fixing::run_fixed;
 use crate::order::{Command, Order, order_of};
 use crate::placing::run_place;
 use crate::printing::run_text;
@@ -31,8 +32,9 @@ use std::alloc::Global;
 /// reads a log to its end, and then writes what it tells, or the log as a proof that a person
 /// reads. For `place` and `figure` it reads values and a program to their end, and then writes
 /// the program's points at these values, or draws them. For `cite` it reads a log, names and a
-/// program to the end, and then writes the statement that they cite. For `bench` it reads nothing.
-/// It writes nothing before the words and the reading are done.
+/// program to the end, and then writes the statement that they cite. For `fixed` it reads a program
+/// to its end, and then writes the verdict with the first point at the origin. For `bench` it reads
+/// nothing. It writes nothing before the words and the reading are done.
 pub fn run<S: Source, K: Sink>(
     alloc: Global,
     words: &Vec<String>,
@@ -117,6 +119,7 @@ fn carry_out<S: Source, K: Sink>(
         Command::Place => run_place(alloc, false, source, sink),
         Command::Figure => run_place(alloc, true, source, sink),
         Command::Cite => run_cite(alloc, order.steps, source, sink),
+        Command::Fixed => run_fixed(alloc, order.steps, source, sink),
         Command::Bench(number) => run_bench(alloc, number, order.steps, sink),
     }
 }
