@@ -17,4 +17,6 @@ mod printing;
 #[cfg(test)]
 mod proving;
 #[cfg(test)]
+mod searching;
+#[cfg(test)]
 mod workloads;

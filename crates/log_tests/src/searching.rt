@@ -1,7 +1,7 @@
 //! Worked searches, and verdicts in the fixed frame.
 
-use crate::{DiscoverError, FixedError, Found, discover, fixed};
 use geo_base::MemSink;
+use geo_discover::{DiscoverError, FixedError, Found, discover, fixed};
 use geo_parser::parse;
 use proof_log::Verdict;
 use std::alloc::{AllocError, Global};
