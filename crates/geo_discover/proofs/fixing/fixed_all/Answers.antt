@@ -1,4 +1,4 @@
-use Rattle.std.proofs.Common.{◌≡◌, ◌<◌, ◌^◌, ◌∙◌, [], arith}
+use Rattle.std.proofs.Common.{◌<◌, ◌^◌, ◌∙◌, [], arith}
 use Rattle.geo_program.specs.Programs.{source_of}
 use Rattle.geo_program.proofs.Propositions.{program_well_formed}
 use Rattle.geo_prover.proofs.Finishing.{ready}
