@@ -205,13 +205,15 @@ module _ (subject : Subject) (valid : IsConstruction subject.construction) (soun
   abbrev c : Construction
   c = subject.construction
 
-  -- a chain that ends in 0: its term is 0 wherever it has a value
+  -- a chain that ends in 0: its term is 0 wherever it has a value and the steps of the points that it names are met
   ended_in_zero : (known : List Var) (left : ℕ) (e : Tree) (chain : Chain) (left' : ℕ) → IsFixedChain lemma_table c known left e chain left' → chain.end ≡ []
-      → IsTermBelow (length c.steps) c.params e → (placed : Placement) → MeetsSteps placed c → HasTreeValue placed e → Same (tree_value placed e) zero_fraction
-  ended_in_zero known left e chain left' h z below placed met has_value =
+      → IsTermBelow (length c.steps) c.params e → (placed : Placement) (n : ℕ) → MeetsStepsBelow placed c n → IsTermBelow n c.params e
+      → HasTreeValue placed e → Same (tree_value placed e) zero_fraction
+  ended_in_zero known left e chain left' h z all placed n met below has_value =
       let term = term_sound c e in
       term_null placed c e term has_value
-      (fixed_null c valid sound known placed met (left - start_charge e) (start_of e) chain.steps left' chain.end (term.named (length c.steps) below) (start_without e) (term.defined placed has_value) h.leads z)
+      (fixed_null c valid sound known placed n met (left - start_charge e) (start_of e) chain.steps left' chain.end (term.named (length c.steps) all)
+      (term.named n below) (start_without e) (term.defined placed has_value) h.leads z)
 
   module _ (values full : List (Var × ℤ)) (whole_sample : IsFull c valid values full) where
     abbrev Worked : ℕ → Tree → Type 0
@@ -273,7 +275,9 @@ module _ (subject : Subject) (valid : IsConstruction subject.construction) (soun
           → SaysZero verdict i → (placed : Placement) → MeetsSteps placed c → HasTreeValue placed goal.term → Same (tree_value placed goal.term) (whole (pos 0))
       zeros verdict h i goal at says placed met has_value =
           let found = conditions_zero (IsFixedChain lemma_table c) (IsFixedSample c) subject.goals [] [] 1 steps subject.conditions h.rest verdict left h.worked i goal at says in
-          ended_in_zero found.known found.left goal.term found.chain found.after found.works found.zero (named_goals i goal at).0 placed met has_value
+          let below = (named_goals i goal at).0 in
+          ended_in_zero found.known found.left goal.term found.chain found.after found.works found.zero below placed (length c.steps)
+          (λ k step lt. met k step) below has_value
 
       sampled : (verdict : Verdict) → IsLog (IsFixedChain lemma_table c) (IsFixedSample c) subject steps lines verdict left → HasSample verdict
           → (full : List (Var × ℤ)) × (map (λ v. v.0) full ≡ sample_variables c) × GivesConditions subject full × GivesFailure subject full verdict
@@ -315,9 +319,10 @@ module _ (subject : Subject) (valid : IsConstruction subject.construction) (soun
                 found.condition,
                 omega (arith, found.number, same),
                 found.at,
-                λ placed met holds.
+                λ placed n met below holds.
                     apart (tree_value placed found.condition.term) holds.nonzero
-                    (ended_in_zero ends.known ends.left found.condition.term ends.chain ends.after ends.works ends.zero (named_conditions found.place found.condition found.at).0 placed met holds.has_value),
+                    (ended_in_zero ends.known ends.left found.condition.term ends.chain ends.after ends.works ends.zero
+                    (named_conditions found.place found.condition found.at).0 placed n met below holds.has_value),
               );
           sample = λ some. absurd some;
         },

@@ -6,6 +6,7 @@ use Rattle.geo_sample.specs.declared.errors.SampleError.TheVariants.{Spent, TooL
 use Rattle.geo_sample.specs.Samples.{SearchEndsIn}
 use Rattle.geo_sample.specs.Samples as Search
 use Rattle.log_maker.specs.declared.errors.ProveError.TheVariants.{NoMemory}
+use Rattle.log_maker.specs.Written.{state}
 use Rattle.log_maker.proofs.Framing.{chosen_of, sample_stops}
 use Rattle.log_maker.proofs.Handing.{if_err}
 use Rattle.log_maker.proofs.Passing.{memory_here, stopped_here}
@@ -44,3 +45,8 @@ returns-in-Err-TooLarge-clause-err g c =
     (subst (λ (vs : List Var). SearchEndsIn
     (TooLarge which) vs c.args.ends.now c.args.budget.now.left c.least_sample.new.budget.left) c.in_ok-vars.ensures stop))
     c.args.log.now.within c.stop_too_large.result c.stop_too_large.ensures
+
+pub returns-clause-err : goal.returns-clause-err
+returns-clause-err g c =
+    memory_here c.args.frame c.args.steps.now (before_sample c.args.ends.now c.args.budget.now.left)
+    (state c.args.log.now (g.K.Sink.held c.args.sink.now) (g.K.Sink.faults c.args.sink.now)) c.args.log.now.within
