@@ -13,6 +13,7 @@ use Rattle.geo_program.specs.declared.statements.Statement.{Statement}
 use Rattle.geo_program.specs.declared.statements.Statement.TheVariants.{Collinear, Concyclic, Parallel, Perpendicular, SameLength}
 use Rattle.geo_program.specs.Relations.{with_statement}
 use Rattle.geo_program.specs.WellFormed.{IsWellFormed, Source}
+use Rattle.geo_program.proofs.OnceNamed.{All-front}
 use Rattle.geo_terms.specs.Stores.{Store}
 use Rattle.geo_lowering.specs.CommandsMet.{AreCommandsMet, IsCommandMet, MeetsCommands}
 use Rattle.geo_lowering.specs.Conditions.{Condition, IsConditionMet, crossing, different, nonzero, not_collinear, not_parallel}
@@ -23,18 +24,17 @@ use Rattle.geo_conditions.specs.Truth.{IsImpossible, Meets}
 use Rattle.geo_logs.specs.Ends.{Ending, ends_by, ends_with, too_long}
 use Rattle.log_checker.proofs.Decision.{defined_verdicts_decide}
 use Rattle.log_checker.proofs.DefinedBytes.{defined_bytes_are_accepted}
+use Rattle.proof_log.specs.declared.log.Verdict.{Verdict}
 use Rattle.proof_log.specs.declared.log.Verdict.TheVariants.{False, Impossible, Proved}
+use Rattle.proof_log.specs.Lines.{verdict_text}
 use Rattle.geo_prover.specs.Proving.{IsLogOf}
 use Rattle.geo_discover.specs.Candidates.{Segments, candidates, candidates_over, points_of, quadruples, segments_over, share_point, triples}
-use Rattle.geo_discover.specs.FoundTexts.{AreFindings, Finding, FirstIsAccepted, ImpossibleSearchesTell, Outcome, cut, end_at, end_with}
+use Rattle.geo_discover.specs.FoundTexts.{AreFindings, Finding, FirstIsAccepted, ImpossibleSearchesTell, IsSearched, Outcome, cut, end_at}
+use Rattle.geo_discover.specs.FoundTexts.{end_with, lines_with}
 use Rattle.geo_discover.specs.FoundTexts.{first_impossible, first_open, found, found_lines, impossible, impossible_in, nothing, open_by, open_still}
 use Rattle.geo_discover.specs.FoundTexts.{outcome_of, relation, relations, whole_end}
 use Rattle.geo_discover.specs.TextLines.{text_of_lines}
 use Rattle.geo_discover.proofs.CandidateLaws.{candidates_are_well_formed}
-
-all_front : {A : Type 0} (P : A → Type 0) (xs ys : List A) → All P (xs ++ ys) → All P xs
-all_front P [] ys h = All-nil P
-all_front P (x ∷ xs) ys h = All-cons P x xs (All-head P x (xs ++ ys) h) (all_front P xs ys (All-tail P x (xs ++ ys) h))
 
 -- A STATEMENT IN THE PLACE OF ANOTHER
 module _ (p : Source) (s t : Statement) (placed : Placement) where
@@ -86,7 +86,7 @@ module _ (p : Source) (s t : Statement) (placed : Placement) where
   meets_other none h = record {
     commands = commands_met 0 0 p.commands h.commands;
     conditions = All-same Met (all_found (with_statement p t)) given all_given
-        (All-weaker Had Met (λ f. condition_met f.condition) given (all_front Had given (found_at (suc (length p.commands)) (statement_conditions p.nodes s)) h.conditions));
+        (All-weaker Had Met (λ f. condition_met f.condition) given (All-front Had given (found_at (suc (length p.commands)) (statement_conditions p.nodes s)) h.conditions));
   }
     where
       abbrev Had : Found → Type 0
@@ -200,3 +200,50 @@ impossible_searches_tell p steps k lines w few h =
         → first_impossible h.findings ≡ Some k
     says (inl all) = said_first k (first_impossible h.findings) h.findings (sym all.2)
     says (inr part) = absurd (let q : impossible k ≡ cut = part.5 in cc)
+
+-- what is written then is that line
+pub impossible_lines : (p : Source) (steps k : ℕ) (lines : List (List ℕ)) → IsSearched p steps lines (impossible k)
+    → lines ≡ verdict_text (Impossible k) ∷ []
+impossible_lines p steps k lines h = is h.written
+  where
+    is : ((lines ≡ found_lines p h.findings) × (length (text_of_lines lines) ≤ 67108864) × (impossible k ≡ whole_end h.findings))
+        ⊎ ((line : List ℕ) × (more : List (List ℕ)) × (found_lines p h.findings ≡ lines ++ line ∷ more) × (length (text_of_lines lines) ≤ 67108864)
+        × (67108864 < length (text_of_lines (lines ++ line ∷ []))) × (impossible k ≡ cut))
+        → lines ≡ verdict_text (Impossible k) ∷ []
+    is (inl all) =
+        all.0 ∙ ap (λ (o : Option ℕ). lines_with o p h.findings) (said_first k (first_impossible h.findings) h.findings (sym all.2))
+    is (inr part) = absurd (let q : impossible k ≡ cut = part.5 in cc)
+
+-- OPEN CANDIDATES
+-- where a search ends with an open candidate, its log does not end with a verdict
+open_there : (r n : ℕ) (ending : Ending) (fs : List Finding) → first_open (found r) fs ≡ open_by ending n → outcome_of ending ≡ open_still
+open_there r n ending [] e = absurd (let q : found r ≡ open_by ending n = e in cc)
+open_there r n ending (f ∷ fs) e = go (outcome_of f.ending) refl e (open_there r n ending fs)
+  where
+    go : (o : Outcome) → outcome_of f.ending ≡ o → end_at o f (first_open (found r) fs) ≡ open_by ending n
+        → (first_open (found r) fs ≡ open_by ending n → outcome_of ending ≡ open_still) → outcome_of ending ≡ open_still
+    go relation own is rest = rest is
+    go nothing own is rest = rest is
+    go open_still own is rest =
+        let same : f.ending ≡ ending = (let q : open_by f.ending (length f.lines) ≡ open_by ending n = is in cc) in
+        ap outcome_of (sym same) ∙ own
+
+open_first : (n : ℕ) (ending : Ending) (o : Option ℕ) (fs : List Finding) → end_with o fs ≡ open_by ending n → outcome_of ending ≡ open_still
+open_first n ending (Some k) fs e = absurd (let q : impossible k ≡ open_by ending n = e in cc)
+open_first n ending None fs e = open_there (relations fs) n ending fs e
+
+no_verdict_open : (v : Verdict) (l : ℕ) → outcome_of (ends_with v l) ≡ open_still → ⊥
+no_verdict_open Proved l e = let q : relation ≡ open_still = e in cc
+no_verdict_open (False g) l e = let q : nothing ≡ open_still = e in cc
+no_verdict_open (Impossible k) l e = let q : nothing ≡ open_still = e in cc
+
+pub open_ends : (p : Source) (steps n : ℕ) (lines : List (List ℕ)) (ending : Ending) → IsSearched p steps lines (open_by ending n)
+    → (v : Verdict) (l : ℕ) → ending ≡ ends_with v l → ⊥
+open_ends p steps n lines ending h v l e = no_verdict_open v l (ap outcome_of (sym e) ∙ is h.written)
+  where
+    is : ((lines ≡ found_lines p h.findings) × (length (text_of_lines lines) ≤ 67108864) × (open_by ending n ≡ whole_end h.findings))
+        ⊎ ((line : List ℕ) × (more : List (List ℕ)) × (found_lines p h.findings ≡ lines ++ line ∷ more) × (length (text_of_lines lines) ≤ 67108864)
+        × (67108864 < length (text_of_lines (lines ++ line ∷ []))) × (open_by ending n ≡ cut))
+        → outcome_of ending ≡ open_still
+    is (inl all) = open_first n ending (first_impossible h.findings) h.findings (sym all.2)
+    is (inr part) = absurd (let q : open_by ending n ≡ cut = part.5 in cc)
