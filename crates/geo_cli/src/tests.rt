@@ -8,6 +8,7 @@ use std::test::Fail;
 
 mod checking;
 mod citing;
+mod fixing;
 mod placing;
 mod printing;
 mod stated_budget;
