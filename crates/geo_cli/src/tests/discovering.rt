@@ -34,7 +34,7 @@ fn figures_are_searched(rt: HostRuntime) -> Result<(), Fail> {
         discover(CROSSING, Status::Impossible(1), b"impossible 1\n"),
         Row {
             words: &["discover", "--steps", "2"],
-            ..discover(THREE_POINTS, Status::Spent { line: 7 }, ALL_OPEN)
+            ..discover(THREE_POINTS, Status::Spent { line: 8 }, ALL_OPEN)
         },
         Row {
             held: None,
