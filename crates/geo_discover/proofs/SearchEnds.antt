@@ -64,8 +64,8 @@ module _ (p : Source) (steps : ℕ) (w : IsWellFormed p) (short : length (canoni
   some_finding s r v =
       let stated = relations_may_be_stated p s r v short in
       let d = programs_have_defined_logs Two (with_statement p s) steps (record { well_formed = v; short = stated.short }) in
-      let f : Finding = record { statement = s; lines = d.3; ending = d.4 } in
-      (f, (refl, record { subject = d.0; about = d.1; version = d.2; defined = d.5 }, tt))
+      let f : Finding = record { statement = s; lines = d.3.0; ending = d.3.1 } in
+      (f, (refl, record { subject = d.0; about = d.1; version = d.2; defined = d.3.2 }, tt))
 
   some_findings : (ss : List Statement) → All (λ s. IsRelation s) ss → All (λ s. IsWellFormed (with_statement p s)) ss
       → (fs : List Finding) × AreFindings p steps ss fs
@@ -94,19 +94,22 @@ module _ (p : Source) (steps : ℕ) (w : IsWellFormed p) (short : length (canoni
       subst (λ (ls : List (List ℕ)). IsSearched p steps ls (whole_end fs)) (sym (append-nil pre))
           (searched_whole pre (e ∙ append-nil pre) fits),
     )
-    searched_on pre (l ∷ ls) e fits = go (nat_lt 67108864 (length (text_of_lines (pre ++ l ∷ [])))) refl
+    searched_on pre (l ∷ ls) e fits =
+        go (nat_lt 67108864 (length (text_of_lines (pre ++ l ∷ [])))) refl (λ split small. searched_on (pre ++ l ∷ []) ls split small)
       where
         go : (b : Bool) → nat_lt 67108864 (length (text_of_lines (pre ++ l ∷ []))) ≡ b
+            → (found_lines p fs ≡ (pre ++ l ∷ []) ++ ls → length (text_of_lines (pre ++ l ∷ [])) ≤ 67108864
+            → (more : List (List ℕ)) × (end : SearchEnd) × IsSearched p steps ((pre ++ l ∷ []) ++ more) end)
             → (more : List (List ℕ)) × (end : SearchEnd) × IsSearched p steps (pre ++ more) end
-        go true t = (
+        go true t on = (
           [],
           cut,
           subst (λ (xs : List (List ℕ)). IsSearched p steps xs cut) (sym (append-nil pre))
               (searched_cut pre l ls e fits (ltb-true 67108864 (length (text_of_lines (pre ++ l ∷ []))) t)),
         )
-        go false t =
+        go false t on =
             let small = ltb-false 67108864 (length (text_of_lines (pre ++ l ∷ []))) t in
-            let r = searched_on (pre ++ l ∷ []) ls (e ∙ sym (append_assoc pre (l ∷ []) ls)) (omega (arith, small)) in
+            let r = on (e ∙ sym (append_assoc pre (l ∷ []) ls)) (omega (arith, small)) in
             (l ∷ r.0, r.1, subst (λ (xs : List (List ℕ)). IsSearched p steps xs r.1) (append_assoc pre (l ∷ []) r.0) r.2)
 
     -- a text that begins the text of lines
@@ -269,13 +272,13 @@ module _ (p : Source) (steps : ℕ) (w : IsWellFormed p) (short : length (canoni
 
       none_open : (gs : List Finding) (o : Option ProveError) (end : SearchEnd) → TellsFirst None gs o → o ≡ None → first_open end gs ≡ end
       none_open [] o end h e = refl
-      none_open (g ∷ gs) o end h e = go (outcome_of g.ending) h
+      none_open (g ∷ gs) o end h e = go (outcome_of g.ending) (λ r. none_open gs o end r e) h
         where
-          go : (q : Outcome) → IfOpen q ((i : ProveError) × EndsSo g i × (o ≡ Some i)) (TellsFirst None gs o)
+          go : (q : Outcome) → (TellsFirst None gs o → first_open end gs ≡ end) → IfOpen q ((i : ProveError) × EndsSo g i × (o ≡ Some i)) (TellsFirst None gs o)
               → end_at q g (first_open end gs) ≡ end
-          go open_still (i, ends, is) = absurd (let r : None ≡ Some i = sym e ∙ is in cc)
-          go relation r = none_open gs o end r e
-          go nothing r = none_open gs o end r e
+          go open_still on (i, ends, is) = absurd (let r : None ≡ Some i = sym e ∙ is in cc)
+          go relation on r = on r
+          go nothing on r = on r
 
       -- the end of the first open one's log
       abbrev OpensSo : SearchEnd → ProveError → Type 0
@@ -284,13 +287,13 @@ module _ (p : Source) (steps : ℕ) (w : IsWellFormed p) (short : length (canoni
       one_open_end : (gs : List Finding) (o : Option ProveError) (end : SearchEnd) (i : ProveError) → TellsFirst None gs o → o ≡ Some i
           → OpensSo (first_open end gs) i
       one_open_end [] o end i h e = absurd (let r : None ≡ Some i = sym h ∙ e in cc)
-      one_open_end (g ∷ gs) o end i h e = go (outcome_of g.ending) h
+      one_open_end (g ∷ gs) o end i h e = go (outcome_of g.ending) (λ r. one_open_end gs o end i r e) h
         where
-          go : (q : Outcome) → IfOpen q ((j : ProveError) × EndsSo g j × (o ≡ Some j)) (TellsFirst None gs o)
+          go : (q : Outcome) → (TellsFirst None gs o → OpensSo (first_open end gs) i) → IfOpen q ((j : ProveError) × EndsSo g j × (o ≡ Some j)) (TellsFirst None gs o)
               → OpensSo (end_at q g (first_open end gs)) i
-          go open_still (j, ends, is) = (g, subst (λ (y : ProveError). EndsSo g y) (let r : Some j ≡ Some i = sym is ∙ e in cc) ends, refl)
-          go relation r = one_open_end gs o end i r e
-          go nothing r = one_open_end gs o end i r e
+          go open_still on (j, ends, is) = (g, subst (λ (y : ProveError). EndsSo g y) (let r : Some j ≡ Some i = sym is ∙ e in cc) ends, refl)
+          go relation on r = on r
+          go nothing on r = on r
 
       whole : whole_end fs ≡ first_open (found (relations fs)) fs
       whole = ap (λ (o : Option ℕ). end_with o fs) possible

@@ -69,13 +69,13 @@ first_none (Some e) = refl
 first_both : (a b d : Option ProveError) (fs gs : List Finding) → TellsFirst a fs b → TellsFirst b gs d → TellsFirst a (fs ++ gs) d
 first_both (Some e) b d fs gs h k = subst (λ (x : Option ProveError). TellsFirst x gs d) h k
 first_both None b d [] gs h k = subst (λ (x : Option ProveError). TellsFirst x gs d) h k
-first_both None b d (f ∷ fs) gs h k = go (outcome_of f.ending) h
+first_both None b d (f ∷ fs) gs h k = go (outcome_of f.ending) (λ r. first_both None b d fs gs r k) h
   where
-    go : (o : Outcome) → IfOpen o ((e : ProveError) × EndsSo f e × (b ≡ Some e)) (TellsFirst None fs b)
+    go : (o : Outcome) → (TellsFirst None fs b → TellsFirst None (fs ++ gs) d) → IfOpen o ((e : ProveError) × EndsSo f e × (b ≡ Some e)) (TellsFirst None fs b)
         → IfOpen o ((e : ProveError) × EndsSo f e × (d ≡ Some e)) (TellsFirst None (fs ++ gs) d)
-    go open_still (e, ends, is) = (e, ends, subst (λ (x : Option ProveError). TellsFirst x gs d) is k)
-    go relation r = first_both None b d fs gs r k
-    go nothing r = first_both None b d fs gs r k
+    go open_still on (e, ends, is) = (e, ends, subst (λ (x : Option ProveError). TellsFirst x gs d) is k)
+    go relation on r = on r
+    go nothing on r = on r
 
 -- ONE CANDIDATE
 pub open_ends : (f : Finding) (e : ProveError) → EndsSo f e → outcome_of f.ending ≡ open_still
@@ -90,7 +90,8 @@ pub first_kept : (a : Option ProveError) (f : Finding) (o : Outcome) → outcome
 first_kept (Some e) f o is closed = refl
 first_kept None f o is closed = go (outcome_of f.ending) is
   where
-    go : (q : Outcome) → q ≡ o → IfOpen q ((e : ProveError) × EndsSo f e × (None ≡ Some e)) (None ≡ None)
+    go : (q : Outcome) → q ≡ o → IfOpen q ((e : ProveError) × EndsSo f e × (◌≡◌ {A = Option ProveError} None (Some e)))
+        (◌≡◌ {A = Option ProveError} None None)
     go open_still same = absurd (closed (sym same))
     go relation same = refl
     go nothing same = refl

@@ -1,13 +1,15 @@
 -- One step of a walk over the points: the first one, and those that are left.
 use Rattle.std.proofs.Common.{◌≡◌, ℕ, suc, ◌+◌, ◌-◌, ◌<◌, ◌≤◌, Bool, true, false, not, cond, List, [], ◌∷◌, ◌++◌, append-nil, append_assoc}
-use Rattle.std.proofs.Common.{drop, filter, length, map, refl, sym, ◌∙◌, ap, arith}
+use Rattle.std.proofs.Common.{drop, filter, length, map, take, refl, sym, ◌∙◌, ap, ap₂, arith}
 use Rattle.std.specs.List.{flat_map, range_with_len}
-use Rattle.std.proofs.lemmas.List.{drop_all, map-append}
+use Rattle.std.specs.Prelude.{slice_index_or}
+use Rattle.std.proofs.lemmas.List.{drop_all, drop_more, map-append, take_rest}
 use Rattle.std.proofs.lemmas.List.Concat.{flat_map-append}
 use Rattle.std.proofs.lemmas.List.Folds.{flat_map-map}
 use Rattle.geo_points.specs.declared.ids.PointId.{PointId}
-use Rattle.geo_discover.specs.Candidates.{pairs, points_of, quadruples, triples}
+use Rattle.geo_discover.specs.Candidates.{candidates_over, pairs, points_of, quadruples, triples}
 use Rattle.geo_program.specs.WellFormed.{Source, empty_scope, scope_of}
+use Rattle.geo_program.specs.declared.statements.Statement.{Statement}
 use Rattle.geo_program.specs.declared.statements.Statement.TheVariants as statement
 use Rattle.geo_discover.specs.Candidates.{Segments, share_point}
 use Rattle.geo_discover.specs.Inner.Walks.{points_behind, pt, segment_candidates}
@@ -97,6 +99,15 @@ pairs_left f xs i x e =
     ap (λ ys. flat_map f (pairs ys)) e ∙ flat_map-append f (map (λ y. (x, y)) rest) (pairs rest)
     ∙ ap (λ ys. ys ++ flat_map f (pairs rest)) (flat_map-map f (λ y. (x, y)) rest)
 
+-- the same, by the item at the place, with the others as a slice
+pub pairs_at : {A B : Type 0} (f : A × A → List B) (xs : List A) (i : ℕ) (d : A) → i < length xs
+    → flat_map f (pairs (drop i xs))
+    ≡ flat_map (λ y. f (slice_index_or xs i d, y)) (take (length xs - (i + 1)) (drop (i + 1) xs)) ++ flat_map f (pairs (drop (i + 1) xs))
+pairs_at f xs i d lt =
+    let one = slice_index_or xs i d in
+    pairs_left f xs i one (drop_more xs i d lt)
+    ∙ ap (λ ys. flat_map (λ y. f (one, y)) ys ++ flat_map f (pairs (drop (i + 1) xs))) (sym (take_rest xs (i + 1)))
+
 -- no pairs are left behind the last
 pub pairs_none : {A B : Type 0} (f : A × A → List B) (xs : List A) (i : ℕ) → length xs ≤ i → flat_map f (pairs (drop i xs)) ≡ []
 pairs_none f xs i le = ap (λ ys. flat_map f (pairs ys)) (drop_all i xs le)
@@ -125,3 +136,25 @@ two_none k n le = ap (λ (xs : List PointId). pairs xs) (behind_none k n le)
 -- the points of a program are all points from the first on
 pub points_first : (p : Source) (n : ℕ) → n ≡ (scope_of empty_scope p.names).points → points_behind 0 n ≡ points_of p
 points_first p n e = ap (λ (m : ℕ). map (λ i. pt i) (range_with_len 0 m)) (let k : n - 0 ≡ (scope_of empty_scope p.names).points = omega (arith, e) in k)
+
+-- ALL CANDIDATES
+-- the five kinds, one behind another
+pub kind_by_kind : (points : List PointId) (s t u : List (PointId × PointId)) (first second third fourth fifth sixth : List Statement)
+    → s ≡ pairs points → t ≡ pairs points → u ≡ pairs points → first ≡ []
+    → second ≡ first ++ map (λ t. statement.Collinear t.0 t.1 t.2) (triples points)
+    → third ≡ second ++ flat_map (segment_candidates Parallel) (pairs s)
+    → fourth ≡ third ++ flat_map (segment_candidates Perpendicular) (pairs t)
+    → fifth ≡ fourth ++ flat_map (segment_candidates SameLength) (pairs u)
+    → sixth ≡ fifth ++ map (λ q. statement.Concyclic q.0 q.1 q.2 q.3) (quadruples points)
+    → sixth ≡ candidates_over points
+kind_by_kind points s t u first second third fourth fifth sixth s_is t_is u_is none a b d e f =
+    let two : (xs : List (PointId × PointId)) → xs ≡ pairs points → pairs xs ≡ pairs (pairs points) = λ xs is. ap (λ (ys : List (PointId × PointId)). pairs ys) is in
+    let Kinds : List Statement → List Statement → List Statement = λ xs ys. xs ++ ys in
+    let second_is = a ∙ ap (λ xs. xs ++ map (λ t. statement.Collinear t.0 t.1 t.2) (triples points)) none in
+    let third_is = b ∙ ap₂ Kinds second_is (parallel_ones (pairs s)
+    ∙ ap (λ (xs : List Segments). map (λ s. statement.Parallel s.0.0 s.0.1 s.1.0 s.1.1) (filter (λ s. not (share_point s)) xs)) (two s s_is)) in
+    let fourth_is = d ∙ ap₂ Kinds third_is (perpendicular_ones (pairs t)
+    ∙ ap (λ (xs : List Segments). map (λ s. statement.Perpendicular s.0.0 s.0.1 s.1.0 s.1.1) xs) (two t t_is)) in
+    let fifth_is = e ∙ ap₂ Kinds fourth_is (same_length_ones (pairs u)
+    ∙ ap (λ (xs : List Segments). map (λ s. statement.SameLength s.0.0 s.0.1 s.1.0 s.1.1) xs) (two u u_is)) in
+    f ∙ ap (λ xs. xs ++ map (λ q. statement.Concyclic q.0 q.1 q.2 q.3) (quadruples points)) fifth_is

@@ -1,5 +1,7 @@
 //! The text of a search, written line by line within its limit.
 
+ghost use Rattle.std.specs.Prelude.{◌≤◌};
+
 use crate::errors::DiscoverError;
 use crate::texts::{bytes_with, first_line_feed, write_text};
 use geo_base::Sink;

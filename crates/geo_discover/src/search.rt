@@ -36,7 +36,7 @@ pub(crate) struct Search {
 }
 
 impl Search {
-    ghost use Rattle.std.specs.Prelude.{◌≡◌, ◌+◌, ◌^◌, ◌<◌, ◌≤◌, ◌∷◌, [], ℕ, IfErr, IfOk, List, None, OnOk, IsOk, length, map, ◌≢◌};
+    ghost use Rattle.std.specs.Prelude.{◌≡◌, ◌≢◌, ◌+◌, ◌^◌, ◌<◌, ◌≤◌, ◌∷◌, [], ℕ, IfErr, IfOk, IsOk, List, None, OnOk, Option, length, map};
     ghost use Rattle.std.specs.List.{AllByRecursion};
     ghost use Rattle.geo_program.specs.Programs.{program_text, source_of};
     ghost use Rattle.proof_log.specs.declared.log.Line.{Line};
@@ -83,7 +83,8 @@ impl Search {
             (K.faults sink.old) (K.faults sink.new)) }
         ensures faults { K.faults sink.old ≤ K.faults sink.new }
     {
-        match judge(alloc, program, steps, statement)? {
+        let judgement = judge(alloc, program, steps, statement)?;
+        match judgement {
             Judgement::Relation(log) => self.add_relation(alloc, program, statement, &log, sink),
             Judgement::Open(error) => self.add_open(alloc, program, statement, error, sink),
             Judgement::Fails => self.add_nothing(),

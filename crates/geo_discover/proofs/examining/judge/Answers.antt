@@ -20,8 +20,8 @@ returns-in-Ok c =
     (subst (λ (held : List ℕ). Concludes (source_of c.in_ok-candidate.candidate) c.args.steps (Some held) (Some c.prove.new.sink) c.in-Ok.summary)
     c.new-log.ensures c.in-Ok.ensures.verdict))
 
-pub returns-in-Err : goal.returns-in-Err
-returns-in-Err c =
+pub returns : goal.returns
+returns c =
     let p = source_of c.args.program.now in
     IfOk-weaker c.opened.result _ _
     (λ j h. subst (IsJudged p c.args.steps c.args.statement) (sym h.0)

@@ -6,5 +6,5 @@ use Rattle.geo_discover.proofs.quadruples.push_last.Given as goal
 -- what is there, and what is still to come, is the whole
 abbrev pub invariant-loop-d : goal.invariant-loop-d
 invariant-loop-d l =
-    l.items.items ++ map (λ d. Concyclic (pt l.first.0) (pt l.first.1) (pt l.first.2) d) (points_behind l.d l.points)
-    ≡ l.initial.items.items ++ map (λ d. Concyclic (pt l.first.0) (pt l.first.1) (pt l.first.2) d) (points_behind (l.first.2 + 1) l.points)
+    l.items.items ++ map (λ d. Concyclic (pt l.a) (pt l.b) (pt l.c) d) (points_behind l.d l.points)
+    ≡ l.initial.items.items ++ map (λ d. Concyclic (pt l.a) (pt l.b) (pt l.c) d) (points_behind (l.c + 1) l.points)
