@@ -30,13 +30,13 @@ CountsFrom names k n = (s : Scope) → s.points ≡ n → (scope_of s (drop k na
 pub counts_first : (names : List Name) → CountsFrom names 0 0
 counts_first names s e = points_only names s empty_scope e
 
-pub counts_on : (names : List Name) (k n m : ℕ) (d : Name) → k < length names → m ≡ points_with (slice_index_or names k d).kind n
-    → CountsFrom names k n → CountsFrom names (k + 1) m
-counts_on names k n m d lt e h s is =
-    let name = slice_index_or names k d in
+pub counts_on : (names : List Name) (k n m : ℕ) (name : Name) → k < length names → name ≡ slice_index_or names k name
+    → m ≡ points_with name.kind n → CountsFrom names k n → CountsFrom names (k + 1) m
+counts_on names k n m name lt at e h s is =
     let before : Scope = record { points = n; params = 0; lines = 0 } in
     let left : scope_of before (drop k names) ≡ scope_of (declare name.kind before) (drop (k + 1) names) =
-    ap (λ (xs : List Name). scope_of before xs) (drop_more names k d lt) in
+    ap (λ (xs : List Name). scope_of before xs)
+    (drop_more names k name lt ∙ ap (λ (x : Name). x ∷ drop (k + 1) names) (sym at)) in
     points_only (drop (k + 1) names) s (declare name.kind before) (is ∙ e ∙ sym (declared name.kind before))
     ∙ sym (ap (λ (t : Scope). t.points) left) ∙ h before refl
 

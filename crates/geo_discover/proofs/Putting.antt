@@ -1,7 +1,7 @@
 -- Lines that are put one after another.
 use Rattle.std.proofs.Common.{◌≡◌, ℕ, suc, ◌+◌, ◌-◌, ◌<◌, ◌≤◌, inl, inr, Option, Some, None, List, [], ◌∷◌, ◌++◌, append-nil, append_assoc}
 use Rattle.std.proofs.Common.{drop, length, take, refl, sym, ◌∙◌, ap, subst, arith}
-use Rattle.std.specs.Prelude.{◌==◌, IfErr, IsErrAnd, Result}
+use Rattle.std.specs.Prelude.{◌==◌, Err, IfErr, IsErrAnd, Ok, OnOk, Result}
 use Rattle.std.specs.List.{AllByRecursion, position}
 use Rattle.std.proofs.lemmas.List.{drop_at, length-append, take_at}
 use Rattle.std.proofs.lemmas.List.Concat.{flat_map-append}
@@ -240,6 +240,11 @@ pub if_err : {T : Type 0} (P : DiscoverError → Type 0) (r : Result T DiscoverE
 if_err {T} P r x h p =
     let q = err_from_is_err_and r h in
     let Q : Result T DiscoverError → Type 0 = λ s. IfErr s P in subst Q (sym q.1) (subst P (sym q.2) p)
+
+-- what is so is so where there is a value
+pub on_ok : {T : Type 0} (P : Type 0) (r : Result T DiscoverError) → P → OnOk r P
+on_ok P (Ok x) h = h
+on_ok P (Err e) h = tt
 
 -- a sum that is within the limit
 pub fits_by : (n m : ℕ) → n ≡ m → n ≤ 67108864 → m ≤ 67108864

@@ -56,6 +56,8 @@ pub fn discover<K: Sink>(
     ensures memory { IsErrOf result DiscoverError.NoMemory
         → WritesFoundPart (source_of program.now) steps (K.held sink.old) (K.held sink.new) }
     ensures faults { K.faults sink.old ≤ K.faults sink.new }
+    ensures heard { ¬ IsErrOf result DiscoverError.WriteFault
+        → K.faults sink.new ≡ K.faults sink.old }
 {
     discover_all(alloc, program, steps, sink)
 }
@@ -73,6 +75,8 @@ fn discover_all<K: Sink>(
     ensures err { IfErr result (IsAnswer (source_of program.now) steps
         (K.held sink.old) (K.held sink.new) (K.faults sink.old) (K.faults sink.new)) }
     ensures faults { K.faults sink.old ≤ K.faults sink.new }
+    ensures heard { ¬ IsErrOf result DiscoverError.WriteFault
+        → K.faults sink.new ≡ K.faults sink.old }
 {
     let all = candidates_of(alloc, program)?;
     let mut search = Search::new();
@@ -106,6 +110,8 @@ fn examine_all<K: Sink>(
         (progress search.old (K.held sink.old)) (K.held sink.new)
         (K.faults sink.old) (K.faults sink.new)) }
     ensures faults { K.faults sink.old ≤ K.faults sink.new }
+    ensures heard { ¬ IsErrOf result DiscoverError.WriteFault
+        → K.faults sink.new ≡ K.faults sink.old }
 {
     for statement in all {
         search.examine(alloc, program, steps, *statement, sink)?;

@@ -1,6 +1,6 @@
 //! The lines of the text of a search that are not lines of a log.
 
-ghost use Rattle.std.specs.Prelude.{◌≡◌, ◌≤◌, ◌∷◌, ◌++◌, IfErr, IfOk, OnOk, [], decimal};
+ghost use Rattle.std.specs.Prelude.{◌≡◌, ◌≤◌, ◌∷◌, ◌++◌, IfErr, IfOk, IsErrOf, OnOk, [], decimal};
 ghost use Rattle.geo_program.specs.Programs.{source_of};
 ghost use Rattle.geo_discover.specs.FoundTexts.{statement_text};
 ghost use Rattle.geo_discover.specs.Inner.Puts.{BreaksOff, PutsLines};
@@ -31,6 +31,8 @@ pub(crate) fn put_candidate<K: Sink>(
         text.old.bytes (K.held sink.old) (K.held sink.new)
         (K.faults sink.old) (K.faults sink.new)) }
     ensures faults { K.faults sink.old ≤ K.faults sink.new }
+    ensures heard { ¬ IsErrOf result DiscoverError.WriteFault
+        → K.faults sink.new ≡ K.faults sink.old }
 {
     let line = candidate_line(alloc, program, word, statement)?;
     text.put(sink, &line.bytes)
@@ -70,6 +72,8 @@ pub(crate) fn put_impossible<K: Sink>(
         text.old.bytes (K.held sink.old) (K.held sink.new)
         (K.faults sink.old) (K.faults sink.new)) }
     ensures faults { K.faults sink.old ≤ K.faults sink.new }
+    ensures heard { ¬ IsErrOf result DiscoverError.WriteFault
+        → K.faults sink.new ≡ K.faults sink.old }
 {
     let bytes = impossible_bytes(alloc, k)?;
     text.put(sink, &bytes)
@@ -99,6 +103,8 @@ pub(crate) fn put_counts<K: Sink>(
         text.old.bytes (K.held sink.old) (K.held sink.new)
         (K.faults sink.old) (K.faults sink.new)) }
     ensures faults { K.faults sink.old ≤ K.faults sink.new }
+    ensures heard { ¬ IsErrOf result DiscoverError.WriteFault
+        → K.faults sink.new ≡ K.faults sink.old }
 {
     let bytes = counts_bytes(alloc, relations, open_ones)?;
     text.put(sink, &bytes)

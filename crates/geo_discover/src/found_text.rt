@@ -15,7 +15,7 @@ pub(crate) struct FoundText {
 }
 
 impl FoundText {
-    ghost use Rattle.std.specs.Prelude.{◌≡◌, ◌≤◌, ◌∷◌, ◌++◌, ℕ, List, [], IfErr, OnOk};
+    ghost use Rattle.std.specs.Prelude.{◌≡◌, ◌≤◌, ◌∷◌, ◌++◌, ℕ, List, [], IfErr, IsErrOf, OnOk};
     ghost use Rattle.std.specs.List.{AllByRecursion};
     ghost use Rattle.proof_log.specs.Writable.{HasNoLineFeed};
     ghost use Rattle.geo_discover.specs.Inner.Puts.{BreaksOff, PutsLines};
@@ -37,6 +37,8 @@ impl FoundText {
             → BreaksOff (l ∷ []) self.old.bytes (K.held sink.old) (K.held sink.new)
             (K.faults sink.old) (K.faults sink.new) e) }
         ensures faults { K.faults sink.old ≤ K.faults sink.new }
+        ensures heard { ¬ IsErrOf result DiscoverError.WriteFault
+            → K.faults sink.new ≡ K.faults sink.old }
     {
         let after = bytes_with(self.bytes, line)?;
         write_text(sink, line)?;
@@ -54,6 +56,8 @@ impl FoundText {
             → BreaksOff lines self.old.bytes (K.held sink.old) (K.held sink.new)
             (K.faults sink.old) (K.faults sink.new) e) }
         ensures faults { K.faults sink.old ≤ K.faults sink.new }
+        ensures heard { ¬ IsErrOf result DiscoverError.WriteFault
+            → K.faults sink.new ≡ K.faults sink.old }
     {
         let mut rest = text;
         while let Some(end) = first_line_feed(rest) {

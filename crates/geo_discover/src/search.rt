@@ -36,7 +36,7 @@ pub(crate) struct Search {
 }
 
 impl Search {
-    ghost use Rattle.std.specs.Prelude.{◌≡◌, ◌≢◌, ◌+◌, ◌^◌, ◌<◌, ◌≤◌, ◌∷◌, [], ℕ, IfErr, IfOk, IsOk, List, None, OnOk, Option, length, map};
+    ghost use Rattle.std.specs.Prelude.{◌≡◌, ◌≢◌, ◌+◌, ◌^◌, ◌<◌, ◌≤◌, ◌∷◌, [], ℕ, IfErr, IfOk, IsErrOf, IsOk, List, None, OnOk, Option, length, map};
     ghost use Rattle.std.specs.List.{AllByRecursion};
     ghost use Rattle.geo_program.specs.Programs.{program_text, source_of};
     ghost use Rattle.proof_log.specs.declared.log.Line.{Line};
@@ -82,6 +82,8 @@ impl Search {
             (progress self.old (K.held sink.old)) (K.held sink.new)
             (K.faults sink.old) (K.faults sink.new)) }
         ensures faults { K.faults sink.old ≤ K.faults sink.new }
+        ensures heard { ¬ IsErrOf result DiscoverError.WriteFault
+            → K.faults sink.new ≡ K.faults sink.old }
     {
         let judgement = judge(alloc, program, steps, statement)?;
         match judgement {
@@ -116,6 +118,8 @@ impl Search {
             self.old.text.bytes (K.held sink.old) (K.held sink.new)
             (K.faults sink.old) (K.faults sink.new) e) }
         ensures faults { K.faults sink.old ≤ K.faults sink.new }
+        ensures heard { ¬ IsErrOf result DiscoverError.WriteFault
+            → K.faults sink.new ≡ K.faults sink.old }
     {
         put_candidate(
             alloc,
@@ -151,6 +155,8 @@ impl Search {
             self.old.text.bytes (K.held sink.old) (K.held sink.new)
             (K.faults sink.old) (K.faults sink.new) e) }
         ensures faults { K.faults sink.old ≤ K.faults sink.new }
+        ensures heard { ¬ IsErrOf result DiscoverError.WriteFault
+            → K.faults sink.new ≡ K.faults sink.old }
     {
         put_candidate(alloc, &mut self.text, program, b"open ", statement, sink)?;
         self.examined += 1;
@@ -185,6 +191,8 @@ impl Search {
         ensures err { IfErr result (IsNeverMet k (progress self.old (K.held sink.old))
             (K.held sink.new) (K.faults sink.old) (K.faults sink.new)) }
         ensures faults { K.faults sink.old ≤ K.faults sink.new }
+        ensures heard { ¬ IsErrOf result DiscoverError.WriteFault
+            → K.faults sink.new ≡ K.faults sink.old }
     {
         if self.examined > 0 {
             return self.add_nothing();
@@ -202,6 +210,8 @@ impl Search {
         ensures err { IfErr result (IsUnsettled (progress self (K.held sink.old))
             (K.held sink.new) (K.faults sink.old) (K.faults sink.new)) }
         ensures faults { K.faults sink.old ≤ K.faults sink.new }
+        ensures heard { ¬ IsErrOf result DiscoverError.WriteFault
+            → K.faults sink.new ≡ K.faults sink.old }
     {
         let relations = self.relations;
         let open_ones = self.open_ones;

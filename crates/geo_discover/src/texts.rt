@@ -1,6 +1,6 @@
 //! Texts that are written, and how long they may get.
 
-ghost use Rattle.std.specs.Prelude.{◌≡◌, ◌==◌, ◌+◌, ◌<◌, ◌≤◌, IfErr, IfOk, OnOk, length};
+ghost use Rattle.std.specs.Prelude.{◌≡◌, ◌==◌, ◌+◌, ◌^◌, ◌<◌, ◌≤◌, IfErr, IfOk, IfSome, IsErrOf, OnOk, length};
 ghost use Rattle.std.specs.List.{position};
 ghost use Rattle.geo_base.specs.Devices.{Grows};
 ghost use Rattle.geo_discover.specs.Inner.Puts.{IsTextCut};
@@ -32,6 +32,8 @@ pub(crate) fn write_text<K: Sink>(sink: &mut K, text: &[u8]) -> Result<(), Disco
     ensures err { IfErr result (IsTextCut text.now (K.held sink.old) (K.held sink.new)
         (K.faults sink.old) (K.faults sink.new)) }
     ensures faults { K.faults sink.old ≤ K.faults sink.new }
+    ensures heard { ¬ IsErrOf result DiscoverError.WriteFault
+        → K.faults sink.new ≡ K.faults sink.old }
 {
     match write_all(sink, text) {
         Ok(()) => Ok(()),
@@ -42,7 +44,8 @@ pub(crate) fn write_text<K: Sink>(sink: &mut K, text: &[u8]) -> Result<(), Disco
 
 /// The place of the first line feed.
 pub(crate) fn first_line_feed(text: &[u8]) -> Option<usize>
-    ensures { result ≡ position (λ b. b == 10) text.now }
+    ensures value { result ≡ position (λ b. b == 10) text.now }
+    ensures few { IfSome result (λ at. at + 1 < 2 ^ 64) }
 {
     text.iter().position(|b| *b == b'\n')
 }

@@ -16,8 +16,10 @@ pub returns-in_err-all-clause-err : goal.returns-in_err-all-clause-err
 returns-in_err-all-clause-err g c =
     let p = source_of c.args.program.now in
     let w = program_well_formed c.args.program.now in
+    let held = g.K.Sink.held c.args.sink.now in
+    let faults = g.K.Sink.faults c.args.sink.now in
     if_err _ _ _ c.from_residual.ensures.1
-    (nothing_written p c.args.steps _ _ _ w c.requires.short (candidates_are_relations p) (candidates_are_well_formed p w))
+    (nothing_written p c.args.steps held faults faults w c.requires.short (candidates_are_relations p) (candidates_are_well_formed p w))
 
 pub examine_all-requires-clause-candidates : goal.examine_all-requires-clause-candidates
 examine_all-requires-clause-candidates g c =
@@ -31,11 +33,14 @@ returns-in_err-examine_all-clause-err g c =
     let w = program_well_formed c.args.program.now in
     let s = progress c.new-search.result (g.K.Sink.held c.args.sink.now) in
     let e = c.in_err-examine_all.field-0.0 in
+    let held = g.K.Sink.held c.examine_all.new.sink in
+    let before = g.K.Sink.faults c.args.sink.now in
+    let after = g.K.Sink.faults c.examine_all.new.sink in
     if_err _ _ e c.from_residual-in_err-examine_all.ensures.1
     (stops_so p c.args.steps w c.requires.short (candidates_are_relations p) (candidates_are_well_formed p w) s c.new-search.ensures.examined
     c.new-search.ensures.bytes c.new-search.ensures.relations c.new-search.ensures.open_ones c.new-search.ensures.first
-    _ _ _ e
-    (subst (λ ss. BreaksSearch p c.args.steps ss s _ _ _ e) (c.deref.ensures.value ∙ c.in_ok-all.ensures) c.in_err-examine_all.ensures.err))
+    held before after e
+    (subst (λ ss. BreaksSearch p c.args.steps ss s held before after e) (c.deref.ensures.value ∙ c.in_ok-all.ensures) c.in_err-examine_all.ensures.err))
 
 pub returns-clause-ok : goal.returns-clause-ok
 returns-clause-ok g c =

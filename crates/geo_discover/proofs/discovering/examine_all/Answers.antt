@@ -1,4 +1,4 @@
-use Rattle.std.proofs.Common.{arith}
+use Rattle.std.proofs.Common.{◌≡◌, arith, rules}
 use Rattle.geo_program.specs.Programs.{source_of}
 use Rattle.geo_discover.specs.Inner.Searching.{progress}
 use Rattle.geo_discover.proofs.Putting.{if_err}
@@ -21,12 +21,13 @@ pub loop-statement-preserved : goal.loop-statement-preserved
 loop-statement-preserved g c = (
   one_more (source_of c.args.program.now) c.args.steps c.args.all.now c.loop-statement.statement-index _ _ _ _ c.loop-statement-test.true
       c.loop-statement.invariant.0 c.in_ok-examine.ensures.ok,
-  omega (arith, c.loop-statement.invariant.1, c.examine.ensures.faults),
+  (let kept : g.K.Sink.faults c.examine.new.sink ≡ g.K.Sink.faults c.loop-statement.sink = search rules in
+      omega (arith, c.loop-statement.invariant.1, kept)),
 )
 
 pub returns-in_err-examine-clause-err : goal.returns-in_err-examine-clause-err
 returns-in_err-examine-clause-err g c =
     if_err _ _ c.in_err-examine.field-0.0 c.from_residual.ensures.1
     (one_breaks (source_of c.args.program.now) c.args.steps c.args.all.now c.loop-statement.statement-index _ _ _ _ _ _ _
-    c.in_err-examine.field-0.0 c.loop-statement-test.true c.loop-statement.invariant.0 c.loop-statement.invariant.1
+    c.in_err-examine.field-0.0 c.loop-statement-test.true c.loop-statement.invariant.0 (omega (arith, c.loop-statement.invariant.1))
     c.in_err-examine.ensures.err)

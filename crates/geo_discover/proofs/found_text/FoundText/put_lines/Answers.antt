@@ -15,19 +15,19 @@ returns-in_err-put-clause-err g c =
     (λ lines e one. one_breaks lines c.loop-end.rest.now c.args.self.now.bytes c.loop-end.self.bytes (g.K.Sink.held c.args.sink.now)
     (g.K.Sink.held c.loop-end.sink) (c.loop-end.invariant.0 lines e one) c.in-Some.end (g.K.Sink.held c.put.new.sink)
     (g.K.Sink.faults c.args.sink.now) (g.K.Sink.faults c.loop-end.sink) (g.K.Sink.faults c.put.new.sink) c.in_err-put.field-0.0
-    (sym c.in-Some.ensures) c.loop-end.invariant.1 c.in_err-put.ensures.err)
+    (sym c.in-Some.ensures.value) (omega (arith, c.loop-end.invariant.1)) c.in_err-put.ensures.err)
 
 pub loop-end-preserved : goal.loop-end-preserved
 loop-end-preserved g c = (
   (λ lines e one. subst (λ (xs : List ℕ). IsMidway lines xs c.args.self.now.bytes c.put.new.self.bytes (g.K.Sink.held c.args.sink.now)
       (g.K.Sink.held c.put.new.sink)) (sym (take_rest c.loop-end.rest.now (c.in-Some.end + 1)))
       (one_more lines c.loop-end.rest.now c.args.self.now.bytes c.loop-end.self.bytes (g.K.Sink.held c.args.sink.now) (g.K.Sink.held c.loop-end.sink)
-      (c.loop-end.invariant.0 lines e one) c.in-Some.end c.put.new.self.bytes (g.K.Sink.held c.put.new.sink) (sym c.in-Some.ensures)
+      (c.loop-end.invariant.0 lines e one) c.in-Some.end c.put.new.self.bytes (g.K.Sink.held c.put.new.sink) (sym c.in-Some.ensures.value)
       c.in_ok-put.ensures.ok)),
-  omega (arith, c.loop-end.invariant.1, c.put.ensures.faults),
+  (let kept : g.K.Sink.faults c.put.new.sink ≡ g.K.Sink.faults c.loop-end.sink = search rules in omega (arith, c.loop-end.invariant.1, kept)),
 )
 
 pub returns-clause-ok : goal.returns-clause-ok
 returns-clause-ok g c =
     λ lines e one. at_last lines c.loop-end.rest.now c.args.self.now.bytes c.loop-end.self.bytes (g.K.Sink.held c.args.sink.now)
-    (g.K.Sink.held c.loop-end.sink) (c.loop-end.invariant.0 lines e one) (sym c.in_default.ensures)
+    (g.K.Sink.held c.loop-end.sink) (c.loop-end.invariant.0 lines e one) (sym c.in_default.ensures.value)

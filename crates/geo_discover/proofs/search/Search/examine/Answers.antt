@@ -5,7 +5,7 @@ use Rattle.geo_program.proofs.Propositions.{program_well_formed}
 use Rattle.geo_discover.specs.Inner.Searching.{progress}
 use Rattle.geo_discover.proofs.Examined.{fails_examined, impossible_broken, impossible_examined, open_broken, open_examined}
 use Rattle.geo_discover.proofs.Examined.{relation_broken, relation_examined}
-use Rattle.geo_discover.proofs.Putting.{if_err}
+use Rattle.geo_discover.proofs.Putting.{if_err, on_ok}
 use Rattle.geo_discover.proofs.SearchSteps.{none_broken}
 use Rattle.geo_discover.proofs.search.Search.examine.Goals as goal
 
@@ -43,10 +43,9 @@ returns-in-Open-clause-err g c =
 
 pub returns-in-Fails-clause-ok : goal.returns-in-Fails-clause-ok
 returns-in-Fails-clause-ok g c =
-    on_ok_weaker c.add_nothing.result
-    (λ ok. fails_examined (source_of c.args.program.now) c.args.steps c.args.statement _ _ _ c.in_ok-judgement.ensures c.in-Fails.is
+    on_ok _ c.add_nothing.result
+    (fails_examined (source_of c.args.program.now) c.args.steps c.args.statement _ _ _ c.in_ok-judgement.ensures c.in-Fails.is
     (c.add_nothing.ensures.added (g.K.Sink.held c.args.sink.now)))
-    c.add_nothing.ensures.ok
 
 pub returns-in-Impossible-clause-ok : goal.returns-in-Impossible-clause-ok
 returns-in-Impossible-clause-ok g c =
