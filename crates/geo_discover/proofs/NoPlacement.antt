@@ -81,25 +81,23 @@ module _ (p : Source) (s t : Statement) (placed : Placement) where
   condition_met (crossing a b) h = h
   condition_met (nonzero e) h = h
 
+  abbrev Had : Found → Type 0
+  Had f = IsConditionMet (with_statement p s) placed f.condition
+
+  abbrev Met : Found → Type 0
+  Met f = IsConditionMet (with_statement p t) placed f.condition
+
   -- where the other statement gives no condition, what meets the program meets it with that
   meets_other : statement_conditions p.nodes t ≡ [] → Meets (with_statement p s) placed → Meets (with_statement p t) placed
-  meets_other none h = record {
-    commands = commands_met 0 0 p.commands h.commands;
-    conditions = All-same Met (all_found (with_statement p t)) given all_given
-        (All-weaker Had Met (λ f. condition_met f.condition) given (All-front Had given (found_at (suc (length p.commands)) (statement_conditions p.nodes s)) h.conditions));
-  }
-    where
-      abbrev Had : Found → Type 0
-      Had f = IsConditionMet (with_statement p s) placed f.condition
-
-      abbrev Met : Found → Type 0
-      Met f = IsConditionMet (with_statement p t) placed f.condition
-
-      given : List Found
-      given = found_from p.nodes 0 1 p.commands
-
-      all_given : all_found (with_statement p t) ≡ given
-      all_given = ap (λ (cs : List Condition). given ++ found_at (suc (length p.commands)) cs) none ∙ append-nil given
+  meets_other none h =
+      let given : List Found = found_from p.nodes 0 1 p.commands in
+      let all_given : all_found (with_statement p t) ≡ given =
+      ap (λ (cs : List Condition). given ++ found_at (suc (length p.commands)) cs) none ∙ append-nil given in
+      let had : All Had given = All-front Had given (found_at (suc (length p.commands)) (statement_conditions p.nodes s)) h.conditions in
+      record {
+        commands = commands_met 0 0 p.commands h.commands;
+        conditions = All-same Met (all_found (with_statement p t)) given all_given (All-weaker Had Met (λ f. condition_met f.condition) given had);
+      }
 
 -- CANDIDATES GIVE NO CONDITION
 all_of : {A : Type 0} (P : A → Type 0) → ((x : A) → P x) → (xs : List A) → All P xs
@@ -112,6 +110,7 @@ module _ (nodes : Store) where
 
   candidates_give_none : (points : List PointId) → All GivesNone (candidates_over points)
   candidates_give_none points =
+      let none : ◌≡◌ {A = List Condition} [] [] = refl in
       let segments = segments_over points in
       let distinct = filter (λ s. not (share_point s)) segments in
       let A : List Statement = map (λ t. Collinear t.0 t.1 t.2) (triples points) in
@@ -120,15 +119,15 @@ module _ (nodes : Store) where
       let D : List Statement = map (λ s. SameLength s.0.0 s.0.1 s.1.0 s.1.1) segments in
       let E : List Statement = map (λ q. Concyclic q.0 q.1 q.2 q.3) (quadruples points) in
       let a : All GivesNone A = All-map GivesNone (λ t. Collinear t.0 t.1 t.2) (triples points)
-      (all_of (λ t. GivesNone (Collinear t.0 t.1 t.2)) (λ t. refl) (triples points)) in
+      (all_of (λ t. GivesNone (Collinear t.0 t.1 t.2)) (λ t. none) (triples points)) in
       let b : All GivesNone B = All-map GivesNone (λ s. Parallel s.0.0 s.0.1 s.1.0 s.1.1) distinct
-      (all_of (λ s. GivesNone (Parallel s.0.0 s.0.1 s.1.0 s.1.1)) (λ s. refl) distinct) in
+      (all_of (λ s. GivesNone (Parallel s.0.0 s.0.1 s.1.0 s.1.1)) (λ s. none) distinct) in
       let d : All GivesNone C = All-map GivesNone (λ s. Perpendicular s.0.0 s.0.1 s.1.0 s.1.1) segments
-      (all_of (λ s. GivesNone (Perpendicular s.0.0 s.0.1 s.1.0 s.1.1)) (λ s. refl) segments) in
+      (all_of (λ s. GivesNone (Perpendicular s.0.0 s.0.1 s.1.0 s.1.1)) (λ s. none) segments) in
       let e : All GivesNone D = All-map GivesNone (λ s. SameLength s.0.0 s.0.1 s.1.0 s.1.1) segments
-      (all_of (λ s. GivesNone (SameLength s.0.0 s.0.1 s.1.0 s.1.1)) (λ s. refl) segments) in
+      (all_of (λ s. GivesNone (SameLength s.0.0 s.0.1 s.1.0 s.1.1)) (λ s. none) segments) in
       let f : All GivesNone E = All-map GivesNone (λ q. Concyclic q.0 q.1 q.2 q.3) (quadruples points)
-      (all_of (λ q. GivesNone (Concyclic q.0 q.1 q.2 q.3)) (λ q. refl) (quadruples points)) in
+      (all_of (λ q. GivesNone (Concyclic q.0 q.1 q.2 q.3)) (λ q. none) (quadruples points)) in
       All-append GivesNone (A ++ B ++ C ++ D) E
       (All-append GivesNone (A ++ B ++ C) D (All-append GivesNone (A ++ B) C (All-append GivesNone A B a b) d) e) f
 
@@ -183,11 +182,11 @@ module _ (p : Source) (steps k : ℕ) (few : steps < 2 ^ 127) where
 
   of_findings : (ss : List Statement) (fs : List Finding) → candidates p ≡ ss → All Formed ss → All (GivesNone p.nodes) ss → AreFindings p steps ss fs
       → first_impossible fs ≡ Some k → NeverMet
-  of_findings [] [] split formed none found says = absurd (let q : ◌≡◌ {A = Option ℕ} None (Some k) = says in cc)
-  of_findings [] (f ∷ fs) split formed none found says = absurd found
-  of_findings (s ∷ ss) [] split formed none found says = absurd found
-  of_findings (s ∷ ss) (f ∷ fs) split formed none found says =
-      of_log s ss f split (All-head Formed s ss formed) (All-head (GivesNone p.nodes) s ss none) found.0 found.1 (says_so k f.ending says)
+  of_findings [] [] split formed none are says = absurd (let q : ◌≡◌ {A = Option ℕ} None (Some k) = says in cc)
+  of_findings [] (f ∷ fs) split formed none are says = absurd are
+  of_findings (s ∷ ss) [] split formed none are says = absurd are
+  of_findings (s ∷ ss) (f ∷ fs) split formed none are says =
+      of_log s ss f split (All-head Formed s ss formed) (All-head (GivesNone p.nodes) s ss none) are.0 are.1 (says_so k f.ending says)
 
 pub impossible_searches_tell : ImpossibleSearchesTell
 impossible_searches_tell p steps k lines w few h =

@@ -1,5 +1,5 @@
 -- A program's search has one text and one end, and so have programs that are the same.
-use Rattle.std.proofs.Common.{◌≡◌, ℕ, ◌+◌, ◌<◌, ◌≤◌, inl, inr, All, Option, Some, None, List, [], ◌∷◌, ◌++◌, codes, decimal, length, map}
+use Rattle.std.proofs.Common.{◌≡◌, ℕ, ◌+◌, ◌<◌, ◌≤◌, ◌⊎◌, inl, inr, All, Option, Some, None, List, [], ◌∷◌, ◌++◌, codes, decimal, length, map}
 use Rattle.std.proofs.Common.{refl, sym, ap, ap₂, ◌∙◌, subst, arith}
 use Rattle.std.specs.List.{flat_map, range_with_len}
 use Rattle.std.proofs.lemmas.List.Elements.{All-head, All-tail}
@@ -124,24 +124,24 @@ cut_is_longer limit whole xs a more e over fits =
     let same : length (text_of_lines whole) ≡ length (text_of_lines (xs ++ a ∷ more)) = ap (λ ls. length (text_of_lines ls)) e in
     omega (arith, same, text_more xs a more, over, fits)
 
-one_cut : (before limit : ℕ) (xs ys : List (List ℕ)) (a b : List ℕ) (as bs : List (List ℕ)) → xs ++ a ∷ as ≡ ys ++ b ∷ bs
+one_cut : (before limit : ℕ) (xs ys : List (List ℕ)) (a b : List ℕ) (more rest : List (List ℕ)) → xs ++ a ∷ more ≡ ys ++ b ∷ rest
     → before + length (text_of_lines xs) ≤ limit → limit < before + length (text_of_lines (xs ++ a ∷ []))
     → before + length (text_of_lines ys) ≤ limit → limit < before + length (text_of_lines (ys ++ b ∷ [])) → xs ≡ ys
-one_cut before limit [] [] a b as bs e fits over fits' over' = refl
-one_cut before limit [] (y ∷ ys) a b as bs e fits over fits' over' =
+one_cut before limit [] [] a b more rest e fits over fits' over' = refl
+one_cut before limit [] (y ∷ ys) a b more rest e fits over fits' over' =
     let first : a ≡ y = cc in
     let same : length (text_of_lines (a ∷ [])) ≡ length (text_of_lines (y ∷ [])) = ap (λ x. length (text_of_lines (x ∷ []))) first in
     absurd (let no : ⊥ = omega (arith, same, text_length-append (y ∷ []) ys, over, fits') in no)
-one_cut before limit (x ∷ xs) [] a b as bs e fits over fits' over' =
+one_cut before limit (x ∷ xs) [] a b more rest e fits over fits' over' =
     let first : x ≡ b = cc in
     let same : length (text_of_lines (x ∷ [])) ≡ length (text_of_lines (b ∷ [])) = ap (λ z. length (text_of_lines (z ∷ []))) first in
     absurd (let no : ⊥ = omega (arith, same, text_length-append (x ∷ []) xs, over', fits) in no)
-one_cut before limit (x ∷ xs) (y ∷ ys) a b as bs e fits over fits' over' =
+one_cut before limit (x ∷ xs) (y ∷ ys) a b more rest e fits over fits' over' =
     let first : x ≡ y = cc in
-    let rest : xs ++ a ∷ as ≡ ys ++ b ∷ bs = cc in
+    let behind : xs ++ a ∷ more ≡ ys ++ b ∷ rest = cc in
     let same : length (text_of_lines (x ∷ [])) ≡ length (text_of_lines (y ∷ [])) = ap (λ z. length (text_of_lines (z ∷ []))) first in
     let on : ℕ = before + length (text_of_lines (x ∷ [])) in
-    let tail : xs ≡ ys = one_cut on limit xs ys a b as bs rest (omega (arith, text_length-append (x ∷ []) xs, fits))
+    let tail : xs ≡ ys = one_cut on limit xs ys a b more rest behind (omega (arith, text_length-append (x ∷ []) xs, fits))
     (omega (arith, text_length-append (x ∷ []) (xs ++ a ∷ []), over)) (omega (arith, same, text_length-append (y ∷ []) ys, fits'))
     (omega (arith, same, text_length-append (y ∷ []) (ys ++ b ∷ []), over')) in
     ap₂ (λ (z : List ℕ) (zs : List (List ℕ)). z ∷ zs) first tail
@@ -162,7 +162,8 @@ one_text all whole lines other end end' (inl h) (inr (a, more, split, fits, over
 one_text all whole lines other end end' (inr (a, more, split, fits, over, is)) (inl g) =
     absurd (cut_is_longer 67108864 other lines a more (g.0 ∙ split) over g.1)
 one_text all whole lines other end end' (inr (a, more, split, fits, over, is)) (inr (b, more', split', fits', over', is')) =
-    (one_cut 0 67108864 lines other a b more more' (sym split ∙ split') fits over fits' over', is ∙ sym is')
+    (one_cut 0 67108864 lines other a b more more' (sym split ∙ split') (omega (arith, fits)) (omega (arith, over))
+    (omega (arith, fits')) (omega (arith, over')), is ∙ sym is')
 
 pub search_unique : SearchIsUnique
 search_unique p q steps lines other end end' v w same h g =
