@@ -293,9 +293,9 @@ module _ (words : List (List ℕ)) (left left' held held' : Option (List ℕ)) (
 
       ended : (n : ℕ) (ending : Ending) (P : Type 0) → ((v : Verdict) (l : ℕ) → ending ≡ ends_with v l → ⊥)
           → ended_status n ending ≡ verdict_status verdict → P
-      ended n (ends_with v l) P open is = absurd (open v l refl)
-      ended n (ends_by stop) P open is = no_stop verdict n stop P is
-      ended n too_long P open is = no_verdict verdict status.TooLong P is (omega arith)
+      ended n (ends_with v l) P never is = absurd (never v l refl)
+      ended n (ends_by stop) P never is = no_stop verdict n stop P is
+      ended n too_long P never is = no_verdict verdict status.TooLong P is (omega arith)
 
       by : (end : SearchEnd) → IsSearched p steps h.lines end → Grows held (text_of_lines h.lines) held'
           → search_status end ≡ verdict_status verdict → FindsImpossibleByLog words left left' held held' verdict

@@ -14,13 +14,13 @@ use Rattle.geo_discover.proofs.PartlyTold.{searches_tell_in_part}
 use Rattle.geo_program.specs.Programs.{source_of}
 
 module _ (words : List (List ℕ)) (one : GivesOne words) (steps : ℕ) (given : IsDiscover words steps) (left left' held held' : Option (List ℕ))
-    (s : Status) (open : IsUnfinished s) where
+    (s : Status) (unfinished : IsUnfinished s) where
   abbrev Told : Type 0
   Told = SearchesInPart steps left left' held held' s
 
   -- no other status tells it
   finished : {A : Type 0} (other : Status) → s ≡ other → (IsUnfinished other → ⊥) → A
-  finished other is no = absurd (no (subst IsUnfinished is open))
+  finished other is no = absurd (no (subst IsUnfinished is unfinished))
 
   read_in_part : (due : Due) → IsReadDue program_limit (IsDueForSearch steps) left left' due → s ≡ due.status → Grows held due.text held' → Told
   read_in_part due (inl h) is written = inl (h.0, is ∙ ap (λ (d : Due). d.status) h.1)

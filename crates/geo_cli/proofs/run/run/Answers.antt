@@ -31,12 +31,12 @@ returns-in-Some-clause-accepted g c = λ verdict.
     accepts _ _ _ _ _ verdict _ _ _ _ _ (ends_in _ c.order_of.ensures.one _ c.in-Some.ensures.given _ _ _ _ _ _ _ _ _ c.carry_out.ensures.answers)
 
 pub returns-in-Some-clause-in_part : goal.returns-in-Some-clause-in_part
-returns-in-Some-clause-in_part g c = λ steps given open.
-    in_part _ c.order_of.ensures.one steps given _ _ _ _ _ open _ _ _ _
+returns-in-Some-clause-in_part g c = λ steps given unfinished.
+    in_part _ c.order_of.ensures.one steps given _ _ _ _ _ unfinished _ _ _ _
     (ends_in _ c.order_of.ensures.one _ c.in-Some.ensures.given _ _ _ _ _ _ _ _ _ c.carry_out.ensures.answers)
 
 pub returns-in-None-clause-in_part : goal.returns-in-None-clause-in_part
-returns-in-None-clause-in_part g c = λ steps given open. absurd (no_order _ _ c.order_of.ensures.complete c.in-None.is _ given)
+returns-in-None-clause-in_part g c = λ steps given unfinished. absurd (no_order _ _ c.order_of.ensures.complete c.in-None.is _ given)
 
 pub returns-in-Some-clause-ends : goal.returns-in-Some-clause-ends
 returns-in-Some-clause-ends g c = ends_in _ c.order_of.ensures.one _ c.in-Some.ensures.given _ _ _ _ _ _ _ _ _ c.carry_out.ensures.answers
