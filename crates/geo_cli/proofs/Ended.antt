@@ -9,22 +9,26 @@ use Rattle.geo_place.specs.declared.errors.PlaceError.{PlaceError}
 use Rattle.geo_place.specs.declared.errors.PlaceError.TheVariants as placing
 use Rattle.geo_place.specs.declared.placed.Placed.{Placed}
 use Rattle.geo_cli.specs.declared.order.Command.{Command}
-use Rattle.geo_cli.specs.declared.order.Command.TheVariants.{Bench, Check, Cite, Figure, Fixed, Place, Prove, Text}
+use Rattle.geo_cli.specs.declared.order.Command.TheVariants.{Bench, Check, Cite, Discover, Figure, Fixed, Place, Prove, Text}
 use Rattle.geo_cli.specs.declared.order.Order.{Order}
 use Rattle.geo_cli.specs.declared.status.Status.{Status}
 use Rattle.geo_cli.specs.declared.status.Status.TheVariants as status
 use Rattle.geo_cli.specs.Due.{Due, IsAcceptedDue, IsBenchDue, IsCalledFor, IsCommandDue, IsDue, IsDueForValues, IsFixedDue, IsLogDue}
+use Rattle.geo_cli.specs.Due.{IsSearchDue}
 use Rattle.geo_cli.specs.Due.{IsRestDue, TellsAnswer, TellsDrawing, TellsFixed, TellsUncited, bench_text, fixed_line, usage_line}
 use Rattle.geo_cli.specs.Inner.Answering.{AnswersCommand, HasNumber}
 use Rattle.geo_cli.specs.Input.{IsInput, Takes, limit_of, log_limit, program_limit}
 use Rattle.geo_cli.specs.Orders.{IsOrder, IsRow, TellsSteps}
-use Rattle.geo_cli.specs.Run.{BenchesLog, ChecksLog, Ends, FixesByLog, IsAnswered, IsCutShort, ProvesByLog, VerdictAccepted}
+use Rattle.geo_cli.specs.Run.{BenchesLog, ChecksLog, Ends, FindsImpossibleByLog, FixesByLog, IsAnswered, IsCutShort, ProvesByLog, VerdictAccepted}
 use Rattle.geo_cli.specs.Run.{VerdictTells}
-use Rattle.geo_cli.specs.Status.{ending_status, refusal_status, status_number, stop_status, verdict_status}
-use Rattle.geo_cli.specs.Words.{IsBenchOf, IsCheck, IsFixed, IsNoCommand, IsProve, ReadsNothing}
+use Rattle.geo_cli.specs.Status.{ended_status, ending_status, refusal_status, search_status, status_number, stop_status, verdict_status}
+use Rattle.geo_cli.specs.Words.{IsBenchOf, IsCheck, IsDiscover, IsFixed, IsNoCommand, IsProve, ReadsNothing}
 use Rattle.geo_cli.proofs.OneDue.{GivesOne, called_is_due}
 use Rattle.geo_discover.specs.FixedEnds.{EndsWithVerdict}
+use Rattle.geo_discover.specs.FoundTexts.{FirstIsAccepted, IsSearched, SearchEnd, cut, found, impossible, open_by}
+use Rattle.geo_discover.specs.TextLines.{text_of_lines}
 use Rattle.geo_discover.proofs.Deciding.{fixed_verdicts_decide}
+use Rattle.geo_discover.proofs.NoPlacement.{impossible_lines, impossible_searches_tell, open_ends}
 use Rattle.geo_library.specs.declared.errors.CiteError.{CiteError}
 use Rattle.geo_library.specs.declared.errors.CiteError.TheVariants as citing
 use Rattle.geo_logs.specs.Ends.{Ending, ends_by, ends_with, too_long}
@@ -40,7 +44,7 @@ use Rattle.log_checker.proofs.DefinedBytes.{defined_bytes_are_accepted}
 use Rattle.proof_log.specs.declared.log.Line.{Line}
 use Rattle.proof_log.specs.declared.log.Verdict.{Verdict}
 use Rattle.proof_log.specs.declared.log.Verdict.TheVariants.{Proved, False, Impossible}
-use Rattle.proof_log.specs.Lines.{log_text}
+use Rattle.proof_log.specs.Lines.{log_text, verdict_text}
 
 -- STATUSES
 -- two statuses with different numbers are not equal
@@ -73,7 +77,7 @@ few_told (word ∷ []) steps h = h.2.2
 few_told (word ∷ text ∷ []) steps h = h.1.2
 few_told (word ∷ text ∷ more ∷ words) steps h = absurd h
 
-few_steps : (words : List (List ℕ)) (command : Command) (steps : ℕ) → IsOrder words (record { command = command; steps = steps }) → steps < 2 ^ 127
+pub few_steps : (words : List (List ℕ)) (command : Command) (steps : ℕ) → IsOrder words (record { command = command; steps = steps }) → steps < 2 ^ 127
 few_steps words command steps h = let few = few_told h.option steps h.steps in omega (arith, few)
 
 -- VERDICTS
@@ -254,6 +258,52 @@ module _ (words : List (List ℕ)) (left left' held held' : Option (List ℕ)) (
           }
       by (inr (stop, n, stops, is)) = no_stop verdict n stop _ (sym (ap (λ (d : Due). d.status) is) ∙ says)
 
+  -- the search, which says that a condition is never met
+  search_finds : (steps : ℕ) → IsDiscover words steps → (bytes : List ℕ) → IsInput program_limit left bytes left' → (due : Due)
+      (h : IsSearchDue steps bytes due)
+      → due.status ≡ verdict_status verdict → Grows held due.text held' → FindsImpossibleByLog words left left' held held' verdict
+  search_finds steps command bytes input due h says written =
+      by h.end h.searched (subst (λ (d : Due). Grows held d.text held') h.is written) (sym (ap (λ (d : Due). d.status) h.is) ∙ says)
+    where
+      p : Source
+      p = source_of h.program
+
+      finds : (k : ℕ) → IsSearched p steps h.lines (impossible k) → Grows held (text_of_lines h.lines) held' → Impossible k ≡ verdict
+          → FindsImpossibleByLog words left left' held held' verdict
+      finds k searched grown same =
+          let tells = impossible_searches_tell p steps k h.lines h.spelt.well_formed (few_steps words Discover steps command) searched in
+          let lines = impossible_lines p steps k h.lines searched in
+          let one : Grows held (text_of_lines (verdict_text (Impossible k) ∷ [])) held' =
+          subst (λ (ls : List (List ℕ)). Grows held (text_of_lines ls) held') lines grown in
+          record {
+            finds = record {
+              steps = steps;
+              command = command;
+              bytes = bytes;
+              input = input;
+              program = h.program;
+              spelt = h.spelt;
+              number = k;
+              is = sym same;
+              written = subst (λ (v : Verdict). Grows held (text_of_lines (verdict_text v ∷ [])) held') same one;
+              none = tells.1;
+            };
+            first = subst (FirstIsAccepted p steps) same tells.0;
+          }
+
+      ended : (n : ℕ) (ending : Ending) (P : Type 0) → ((v : Verdict) (l : ℕ) → ending ≡ ends_with v l → ⊥)
+          → ended_status n ending ≡ verdict_status verdict → P
+      ended n (ends_with v l) P never is = absurd (never v l refl)
+      ended n (ends_by stop) P never is = no_stop verdict n stop P is
+      ended n too_long P never is = no_verdict verdict status.TooLong P is (omega arith)
+
+      by : (end : SearchEnd) → IsSearched p steps h.lines end → Grows held (text_of_lines h.lines) held'
+          → search_status end ≡ verdict_status verdict → FindsImpossibleByLog words left left' held held' verdict
+      by (found count) searched grown is = no_verdict verdict status.Done _ is (omega arith)
+      by (impossible k) searched grown is = finds k searched grown (same_verdict (Impossible k) verdict is)
+      by (open_by ending n) searched grown is = ended n ending _ (open_ends p steps n h.lines ending searched) is
+      by cut searched grown is = no_verdict verdict status.TooLong _ is (omega arith)
+
   command_decides : (command : Command) (steps : ℕ) → IsOrder words (record { command = command; steps = steps }) → (due : Due) (s : Status)
       → s ≡ due.status → Grows held due.text held' → s ≡ verdict_status verdict → IsCommandDue command steps left left' due → Decided
   command_decides Prove steps given due s answered written says (inl h) =
@@ -291,8 +341,14 @@ module _ (words : List (List ℕ)) (left left' held held' : Option (List ℕ)) (
   command_decides Fixed steps given due s answered written says (inl h) =
       no_verdict verdict status.TooLong _ (due_says due _ s _ answered h.1 says) (omega arith)
   command_decides Fixed steps given due s answered written says (inr (bytes, input, inl h)) =
-      inr (inr (inr (log_fixes steps given bytes input due h (sym answered ∙ says) written)))
+      inr (inr (inr (inl (log_fixes steps given bytes input due h (sym answered ∙ says) written))))
   command_decides Fixed steps given due s answered written says (inr (bytes, input, inr refusal)) =
+      no_verdict verdict (status.Syntax refusal.fault.refusal refusal.fault.place) _ (due_says due _ s _ answered refusal.is says) (omega arith)
+  command_decides Discover steps given due s answered written says (inl h) =
+      no_verdict verdict status.TooLong _ (due_says due _ s _ answered h.1 says) (omega arith)
+  command_decides Discover steps given due s answered written says (inr (bytes, input, inl h)) =
+      inr (inr (inr (inr (search_finds steps given bytes input due h (sym answered ∙ says) written))))
+  command_decides Discover steps given due s answered written says (inr (bytes, input, inr refusal)) =
       no_verdict verdict (status.Syntax refusal.fault.refusal refusal.fault.place) _ (due_says due _ s _ answered refusal.is says) (omega arith)
   command_decides (Bench number) steps given due s answered written says (unread, h) =
       inr (inr (inl (log_benches number steps given due h (due_says due _ s _ answered h.is says) written)))
@@ -324,7 +380,8 @@ module _ (words : List (List ℕ)) (left left' held held' : Option (List ℕ)) (
   tells (inl h) = inl h.proves
   tells (inr (inl h)) = inr (inl h.checks)
   tells (inr (inr (inl h))) = inr (inr (inl h.benches))
-  tells (inr (inr (inr h))) = inr (inr (inr h.fixes))
+  tells (inr (inr (inr (inl h)))) = inr (inr (inr (inl h.fixes)))
+  tells (inr (inr (inr (inr h)))) = inr (inr (inr (inr h.finds)))
 
   pub decides : (source_faults source_faults' faults faults' : ℕ) (s : Status)
       → Ends words left left' source_faults source_faults' faults faults' held held' s → s ≡ verdict_status verdict
@@ -373,6 +430,7 @@ has_number words Place row = tt
 has_number words Figure row = tt
 has_number words Cite row = tt
 has_number words Fixed row = tt
+has_number words Discover row = tt
 has_number words (Bench number) (text, is, written, some, few) = (some, few)
 
 module _ (words : List (List ℕ)) (one : GivesOne words) (order : Order) (given : IsOrder words order) where

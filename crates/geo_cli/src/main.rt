@@ -2,7 +2,7 @@
 //! proof; or checks a log that standard input gives, or writes it as a proof that a person reads;
 //! or proves a generated program; or places or draws the points of a program at given values; or
 //! cites the theorem of a log at another figure; or decides a program with its first point at the
-//! origin.
+//! origin; or writes the relations of its figure, each with its log.
 #![tactic(auto)]
 
 use crate::run::run;
@@ -17,6 +17,7 @@ mod answers;
 mod benching;
 mod checking;
 mod citing;
+mod discovering;
 mod fixing;
 mod judging;
 mod numbers;

@@ -31,6 +31,8 @@ pub enum Command {
     Cite,
     /// Decide a program with its first point at the origin.
     Fixed,
+    /// Write the relations of a figure.
+    Discover,
     /// Prove the generated program of this number, from 1 to 60.
     Bench(u32),
 }
@@ -171,6 +173,7 @@ fn plain_command(name: &str) -> Option<Command>
         "figure" => Some(Command::Figure),
         "cite" => Some(Command::Cite),
         "fixed" => Some(Command::Fixed),
+        "discover" => Some(Command::Discover),
         _ => None,
     }
 }

@@ -8,6 +8,7 @@ use std::test::Fail;
 
 mod checking;
 mod citing;
+mod discovering;
 mod fixing;
 mod placing;
 mod printing;

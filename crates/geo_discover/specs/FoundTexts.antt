@@ -1,13 +1,15 @@
 -- What is written of the relations of a figure, and how the search ends.
-use Rattle.std.specs.Prelude.{◌≡◌, ◌↔◌, ◌⊎◌, ℕ, ◌^◌, ◌<◌, ◌≤◌, Option, Some, None, List, [], ◌∷◌, ◌++◌, codes, decimal, length, map, sum_by, take}
+use Rattle.std.specs.Prelude.{◌≡◌, ◌≢◌, ◌↔◌, ◌⊎◌, ℕ, ◌^◌, ◌<◌, ◌≤◌, Option, Some, None, List, [], ◌∷◌, ◌++◌, codes, decimal, length, map, sum_by, take}
 use Rattle.std.specs.List.{AllByRecursion, flat_map}
 use Rattle.geo_base.specs.Devices.{Grows}
-use Rattle.geo_conditions.specs.Truth.{IsTrueProgram}
+use Rattle.geo_conditions.specs.Truth.{IsImpossible, IsTrueProgram}
 use Rattle.geo_program.specs.declared.statements.Statement.{Statement}
 use Rattle.geo_program.specs.FormTexts.{form_text}
 use Rattle.geo_program.specs.Forms.{statement_form}
+use Rattle.geo_program.specs.Spelling.{SameSource}
 use Rattle.geo_program.specs.WellFormed.{IsWellFormed, Source}
 use Rattle.proof_log.specs.declared.log.Line.{Line}
+use Rattle.proof_log.specs.declared.log.Verdict.{Verdict}
 use Rattle.proof_log.specs.declared.log.Verdict.TheVariants.{False, Impossible, Proved}
 use Rattle.proof_log.specs.Lines.{line_text, log_text}
 use Rattle.geo_logs.specs.Ends.{Ending, ends_by, ends_with, too_long}
@@ -160,6 +162,37 @@ pub record FindingsTell : Type 0 where
 pub record IsTold (p : Source) (steps : ℕ) (f : Finding) : Type 0 where
   pub truth : (outcome_of f.ending ≡ relation) ↔ IsTrueProgram (with_statement p f.statement)
   pub accepted : outcome_of f.ending ≡ relation → Accepts (log_text f.lines) steps (with_statement p f.statement) Proved
+
+-- so it does where its candidate is not open
+abbrev pub IsToldInPart : Source → ℕ → Finding → Type 0
+IsToldInPart p steps f = outcome_of f.ending ≢ open_still → IsTold p steps f
+
+-- so it is of every candidate that is not open, however a search ends
+abbrev pub SearchesTellInPart : Type 0
+SearchesTellInPart =
+    (p : Source) (steps : ℕ) (lines : List (List ℕ)) (end : SearchEnd) → IsWellFormed p → steps < 2 ^ 127 → (h : IsSearched p steps lines end)
+    → AllByRecursion (IsToldInPart p steps) h.findings
+
+-- the first candidate of the program has an accepted log with this verdict
+pub record FirstIsAccepted (p : Source) (steps : ℕ) (verdict : Verdict) : Type 0 where
+  pub statement : Statement
+  pub rest : List Statement
+  pub first : candidates p ≡ statement ∷ rest
+  pub lines : List Line
+  pub accepted : Accepts (log_text lines) steps (with_statement p statement) verdict
+
+-- where a search ends with a condition that is never met, the log of the first candidate says so; and then no placement meets the commands,
+-- whatever the statement is
+abbrev pub ImpossibleSearchesTell : Type 0
+ImpossibleSearchesTell =
+    (p : Source) (steps k : ℕ) (lines : List (List ℕ)) → IsWellFormed p → steps < 2 ^ 127 → IsSearched p steps lines (impossible k)
+    → FirstIsAccepted p steps (Impossible k) × ((statement : Statement) → IsImpossible (with_statement p statement))
+
+-- programs that are the same have one text of a search, and one end
+abbrev pub SearchIsUnique : Type 0
+SearchIsUnique =
+    (p q : Source) (steps : ℕ) (lines other : List (List ℕ)) (end end' : SearchEnd) → IsWellFormed p → IsWellFormed q → SameSource p q
+    → IsSearched p steps lines end → IsSearched q steps other end' → (lines ≡ other) × (end ≡ end')
 
 -- so it is of every candidate where a search ends with a number of relations
 abbrev pub SearchesTell : Type 0
