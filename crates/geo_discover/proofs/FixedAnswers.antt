@@ -15,6 +15,7 @@ use Rattle.geo_program.specs.Forms.{command_form}
 use Rattle.geo_program.specs.WellFormed.{IsWellFormed, Source, later_names}
 use Rattle.geo_terms.specs.Constructions.{Construction}
 use Rattle.geo_terms.specs.Stores.{Store}
+use Rattle.proof_log.specs.declared.log.Line.{Line}
 use Rattle.proof_log.specs.declared.log.Line.TheVariants.{Program as ProgramLine}
 use Rattle.proof_log.specs.declared.log.Verdict.{Verdict}
 use Rattle.elim_apply.specs.LemmaTable.{lemma_table}
@@ -33,7 +34,7 @@ use Rattle.log_maker.specs.declared.errors.ProveError.{ProveError}
 use Rattle.log_maker.specs.declared.errors.ProveError.TheVariants as error
 use Rattle.log_maker.specs.Halting.{Finishes, Halts, IsStopped}
 use Rattle.log_maker.specs.InFrame.{IsNextIn}
-use Rattle.log_maker.specs.Parts.{CanWrite, Part}
+use Rattle.log_maker.specs.Parts.{Part}
 use Rattle.log_maker.specs.Sizes.{IsTakable}
 use Rattle.log_maker.specs.Tasks.{conditions_from}
 use Rattle.log_maker.specs.Written.{State}
@@ -75,8 +76,8 @@ stopped_at c (in_chain known left q) stop h = h
 stopped_at c (before_sample listed left) stop h = h
 
 -- WHERE LINES ARE COUNTED
-pub counted_takes : (c : Construction) (P : Part) (z : Size) → z ≡ Counted → CanWrite Fixed c P z
-counted_takes c P z is lines place line b n fits = subst (λ (x : Size). IsTakable x line) (sym is) tt
+pub counted_takes : (z : Size) (line : Line) → z ≡ Counted → IsTakable z line
+counted_takes z line is = subst (λ (x : Size). IsTakable x line) (sym is) tt
 
 -- the error that `?` hands on
 pub if_err : {T E : Type 0} (P : E → Type 0) (r : Result T E) (x : E) → IsErrAnd r (λ e. e ≡ x) → P x → IfErr r P
