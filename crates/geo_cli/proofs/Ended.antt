@@ -401,8 +401,8 @@ module _ (words : List (List ℕ)) (one : GivesOne words) (left left' held held'
       by_answer : IsAnswered h.due s f f' held held' → (s ≡ status.NoMemory) ⊎ ((s ≡ due.status) × Grows held due.text held')
       by_answer (inl a) =
           inr (a.0 ∙ ap (λ (d : Due). d.status) (sym same), subst (λ (d : Due). Grows held d.text held') (sym same) a.1)
-      by_answer (inr ((inl cut), part)) = absurd (calm' cut.1)
-      by_answer (inr ((inr cut), part)) = inl cut
+      by_answer (inr ((inl short), part)) = absurd (calm' short.1)
+      by_answer (inr ((inr short), part)) = inl short
   completes g g' f f' s (inr (inl h)) due called calm calm' = absurd (calm h.fault)
   completes g g' f f' s (inr (inr h)) due called calm calm' = inl h.is
 

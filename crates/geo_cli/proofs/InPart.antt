@@ -20,7 +20,7 @@ module _ (words : List (List ℕ)) (one : GivesOne words) (steps : ℕ) (given :
 
   -- no other status tells it
   finished : {A : Type 0} (other : Status) → s ≡ other → (IsUnfinished other → ⊥) → A
-  finished other is no = absurd (no (subst IsUnfinished is unfinished))
+  finished other is none = absurd (none (subst IsUnfinished is unfinished))
 
   read_in_part : (due : Due) → IsReadDue program_limit (IsDueForSearch steps) left left' due → s ≡ due.status → Grows held due.text held' → Told
   read_in_part due (inl h) is written = inl (h.0, is ∙ ap (λ (d : Due). d.status) h.1)
@@ -37,7 +37,7 @@ module _ (words : List (List ℕ)) (one : GivesOne words) (steps : ℕ) (given :
         written = subst (λ (d : Due). Grows held d.text held') h.is written;
         told = searches_tell_in_part (source_of h.program) steps h.lines h.end h.spelt.well_formed (few_steps words Discover steps given) h.searched;
       })
-  read_in_part due (inr (bytes, input, inr h)) is written = finished _ (is ∙ ap (λ (d : Due). d.status) h.is) (λ no. no)
+  read_in_part due (inr (bytes, input, inr h)) is written = finished _ (is ∙ ap (λ (d : Due). d.status) h.is) (λ none. none)
 
   due_in_part : (due : Due) → IsDue words left left' due → s ≡ due.status → Grows held due.text held' → Told
   due_in_part due (inl h) is written = absurd (h.no_command _ given)
@@ -50,7 +50,7 @@ module _ (words : List (List ℕ)) (one : GivesOne words) (steps : ℕ) (given :
     where
       by_answer : IsAnswered h.due s f f' held held' → Told
       by_answer (inl a) = due_in_part h.due h.cause a.0 a.1
-      by_answer (inr (inl cut, part)) = finished _ cut.0 (λ no. no)
-      by_answer (inr (inr cut, part)) = finished _ cut (λ no. no)
-  in_part g g' f f' (inr (inl h)) = finished _ h.is (λ no. no)
-  in_part g g' f f' (inr (inr h)) = finished _ h.is (λ no. no)
+      by_answer (inr (inl short, part)) = finished _ short.0 (λ none. none)
+      by_answer (inr (inr short, part)) = finished _ short (λ none. none)
+  in_part g g' f f' (inr (inl h)) = finished _ h.is (λ none. none)
+  in_part g g' f f' (inr (inr h)) = finished _ h.is (λ none. none)
