@@ -1,5 +1,5 @@
 -- Each candidate of a program is a relation of its points.
-use Rattle.std.proofs.Common.{◌≡◌, ℕ, All, List, [], ◌∷◌, ◌++◌, not, filter, map, sym, subst}
+use Rattle.std.proofs.Common.{◌≡◌, All, List, [], ◌∷◌, ◌++◌, not, filter, map, sym, subst}
 use Rattle.std.specs.List.{AllByRecursion}
 use Rattle.std.proofs.lemmas.List.Elements.{All-append, All-cons, All-head, All-map, All-nil, All-tail, recursion_from_All}
 use Rattle.geo_points.specs.declared.ids.PointId.{PointId}
@@ -12,7 +12,7 @@ use Rattle.geo_program.specs.Inner.Printing.{whole_scope}
 use Rattle.geo_terms.specs.Stores.{Store}
 use Rattle.geo_program.specs.Relations.{IsRelation, with_statement}
 use Rattle.geo_program.specs.WellFormed.{IsArgument, IsWellFormed, Source, empty_scope, scope_of}
-use Rattle.geo_discover.specs.Candidates.{Segments, candidates, candidates_over, points_of, quadruples, segments_over, share_point, triples}
+use Rattle.geo_discover.specs.Candidates.{candidates, candidates_over, points_of, quadruples, segments_over, share_point, triples}
 use Rattle.geo_discover.specs.Inner.Searching.{IsCandidate}
 use Rattle.geo_discover.proofs.CandidateLaws.{candidates_are_well_formed}
 

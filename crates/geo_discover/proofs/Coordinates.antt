@@ -1,5 +1,6 @@
 -- The move to coordinates: it replaces each quantity, and leaves coordinates and parameters alone.
-use Rattle.std.proofs.Common.{◌≡◌, ◌≢◌, ℕ, zero, suc, ◌<◌, ◌||◌, ◌&&◌, ◌⊎◌, inl, inr, IsTrue, Bool, true, false, cond, Contains, Option, Some, None, List, [], ◌∷◌, length, refl, sym, ◌∙◌, ap, subst, arith, eq-eqb}
+use Rattle.std.proofs.Common.{◌≡◌, ◌≢◌, ℕ, zero, suc, ◌<◌, ◌||◌, ◌&&◌, ◌⊎◌, inl, inr, IsTrue, Bool, true, false, cond, Contains, Option}
+use Rattle.std.proofs.Common.{Some, None, List, [], ◌∷◌, length, refl, sym, ◌∙◌, ap, subst, arith, eq-eqb}
 use Rattle.std.specs.Prelude.{slice_get, if◌then◌else◌}
 use Rattle.std.specs.List.{cons_option, filter_map}
 use Rattle.std.specs.Option.{is_some, option_map}
@@ -92,7 +93,8 @@ module _ (c : Construction) where
     area_free : (a b d : PointId) → Contains (variables_of q) (S a b d) → IsTrue (is_some (free_table c (pt 0) (S a b d)))
     area_free a b d st =
         let n = named_at (S a b d) st in
-        go (is_free c a) (is_free c b) (is_free c d) (free_here a n.0 (st.0, S a b d, st.1, st.2, first_of a b d)) (free_here b n.1 (st.0, S a b d, st.1, st.2, second_of a b d)) (free_here d n.2 (st.0, S a b d, st.1, st.2, third_of a b d))
+        go (is_free c a) (is_free c b) (is_free c d) (free_here a n.0 (st.0, S a b d, st.1, st.2, first_of a b d))
+        (free_here b n.1 (st.0, S a b d, st.1, st.2, second_of a b d)) (free_here d n.2 (st.0, S a b d, st.1, st.2, third_of a b d))
       where
         go : (i j k : Bool) → IsTrue i → IsTrue j → IsTrue k
             → IsTrue (is_some {T = TableRow} (if i && j && k then Some (record { power = 1; num = area_in_coordinates a b d; den = integer 2; charge = 0 }) else None))
@@ -104,7 +106,8 @@ module _ (c : Construction) where
     difference_free : (a b d : PointId) → Contains (variables_of q) (P a b d) → IsTrue (is_some (free_table c (pt 0) (P a b d)))
     difference_free a b d st =
         let n = named_at (P a b d) st in
-        go (is_free c a) (is_free c b) (is_free c d) (free_here a n.0 (st.0, P a b d, st.1, st.2, first_of a b d)) (free_here b n.1 (st.0, P a b d, st.1, st.2, second_of a b d)) (free_here d n.2 (st.0, P a b d, st.1, st.2, third_of a b d))
+        go (is_free c a) (is_free c b) (is_free c d) (free_here a n.0 (st.0, P a b d, st.1, st.2, first_of a b d))
+        (free_here b n.1 (st.0, P a b d, st.1, st.2, second_of a b d)) (free_here d n.2 (st.0, P a b d, st.1, st.2, third_of a b d))
       where
         go : (i j k : Bool) → IsTrue i → IsTrue j → IsTrue k
             → IsTrue (is_some {T = TableRow} (if i && j && k then Some (record { power = 0; num = difference_in_coordinates a b d; den = integer 2; charge = 0 }) else None))
@@ -126,7 +129,8 @@ module _ (c : Construction) where
   row_found : (vs : List Var) (v : Var) (r : Row) → Contains vs v → Row_of v ≡ Some r → r.var ≡ v → row_of (filter_map Row_of vs) v ≢ None
   row_found [] v r (k, lt, e) h own = absurd (omega (arith, lt))
   row_found (w ∷ vs) v r (zero, lt, e) h own =
-      subst (λ (o : Option Row). row_of (cons_option o (filter_map Row_of vs)) v ≢ None) (sym (ap Row_of e ∙ h)) (here (var_cmp r.var v) (subst (λ (u : Var). var_cmp r.var u ≡ Equal) own (var_order.self r.var)))
+      subst (λ (o : Option Row). row_of (cons_option o (filter_map Row_of vs)) v ≢ None) (sym (ap Row_of e ∙ h))
+      (here (var_cmp r.var v) (subst (λ (u : Var). var_cmp r.var u ≡ Equal) own (var_order.self r.var)))
     where
       here : (o : Ordering) → o ≡ Equal → cond (is_eq o) (Some r) (row_of (filter_map Row_of vs) v) ≢ None
       here Equal s n = let q : ◌≡◌ {A = Option Row} (Some r) None = n in cc
@@ -204,7 +208,8 @@ module _ (c : Construction) where
   quantity_or_plain (Ordinate a) = inr tt
   quantity_or_plain (Number t) = inr tt
 
-  module _ (left : ℕ) (q m : Summands) (next : IsNextMove lemma_table c q Coords) (named : AllVariables (IsNamed c (length c.steps)) q) (moved : IsMoved (replacement lemma_table c Coords q) left q m) where
+  module _ (left : ℕ) (q m : Summands) (next : IsNextMove lemma_table c q Coords) (named : AllVariables (IsNamed c (length c.steps)) q)
+      (moved : IsMoved (replacement lemma_table c Coords q) left q m) where
     stays : (v : Var) → Contains (variables_of q) v → row_of (filter_map Row_of (variables_of q)) v ≡ None → IsPlain v
     stays v st none = go (quantity_or_plain v)
       where

@@ -1,5 +1,5 @@
 -- What the work in the fixed frame tells, of a program's log in that frame.
-use Rattle.std.proofs.Common.{◌≡◌, ℕ, suc, ◌+◌, ◌^◌, ◌<◌, inl, inr, List, [], ◌∷◌, ◌++◌, map, length, refl, sym, ◌∙◌, ap, subst, arith}
+use Rattle.std.proofs.Common.{◌≡◌, ℕ, suc, ◌+◌, ◌^◌, ◌<◌, inr, List, [], ◌∷◌, ◌++◌, map, length, refl, sym, ap, subst, arith}
 use Rattle.std.specs.Prelude.{IfErr, IsErrAnd, Result}
 use Rattle.std.proofs.lemmas.List.{length-append}
 use Rattle.std.proofs.lemmas.Result.{err_from_is_err_and}
@@ -8,8 +8,6 @@ use Rattle.geo_conditions.specs.Lists.{IsProblem}
 use Rattle.geo_conditions.specs.Problems.{form_of_problem}
 use Rattle.geo_lowering.specs.declared.version.Version.TheVariants.{Two}
 use Rattle.geo_lexer.specs.Lexemes.{Lexeme}
-use Rattle.geo_poly.specs.declared.variables.Var.{Var}
-use Rattle.geo_poly.specs.Polynomials.{Summands}
 use Rattle.geo_program.specs.declared.commands.Command.{Command}
 use Rattle.geo_program.specs.declared.names.Name.{Name}
 use Rattle.geo_program.specs.CanonicalText.{commands_lexemes, line_lexemes, line_text, no_sketches, statement_lexemes}
@@ -17,12 +15,11 @@ use Rattle.geo_program.specs.Forms.{command_form}
 use Rattle.geo_program.specs.WellFormed.{IsWellFormed, Source, later_names}
 use Rattle.geo_terms.specs.Constructions.{Construction}
 use Rattle.geo_terms.specs.Stores.{Store}
-use Rattle.geo_terms.specs.Trees.{Tree}
 use Rattle.proof_log.specs.declared.log.Line.{Line}
-use Rattle.proof_log.specs.declared.log.Line.TheVariants.{Header, Program as ProgramLine}
+use Rattle.proof_log.specs.declared.log.Line.TheVariants.{Program as ProgramLine}
 use Rattle.proof_log.specs.declared.log.Verdict.{Verdict}
 use Rattle.elim_apply.specs.LemmaTable.{lemma_table}
-use Rattle.geo_logs.specs.Ends.{ends_by, ends_with, stops}
+use Rattle.geo_logs.specs.Ends.{stops}
 use Rattle.geo_logs.specs.Logs.{Subject}
 use Rattle.geo_logs.specs.Moves.{Stop, spent, too_large}
 use Rattle.geo_logs.specs.Places.{Place, before_line, before_sample, before_start, first_lines, in_chain}
@@ -32,12 +29,12 @@ use Rattle.geo_prover.proofs.Finishing.{about, subject_of}
 use Rattle.log_maker.specs.declared.frame.Frame.TheVariants.{Fixed}
 use Rattle.log_maker.specs.declared.size.Size.{Size}
 use Rattle.log_maker.specs.declared.size.Size.TheVariants.{Counted}
-use Rattle.log_maker.specs.FixedLogs.{IsFixedLog, IsStoppedAt}
+use Rattle.log_maker.specs.FixedLogs.{IsStoppedAt}
 use Rattle.log_maker.specs.declared.errors.ProveError.{ProveError}
 use Rattle.log_maker.specs.declared.errors.ProveError.TheVariants as error
 use Rattle.log_maker.specs.Halting.{Finishes, Halts, IsStopped}
 use Rattle.log_maker.specs.InFrame.{IsNextIn}
-use Rattle.log_maker.specs.Parts.{CanWrite, Part}
+use Rattle.log_maker.specs.Parts.{Part}
 use Rattle.log_maker.specs.Sizes.{IsTakable}
 use Rattle.log_maker.specs.Tasks.{conditions_from}
 use Rattle.log_maker.specs.Written.{State}
@@ -79,8 +76,8 @@ stopped_at c (in_chain known left q) stop h = h
 stopped_at c (before_sample listed left) stop h = h
 
 -- WHERE LINES ARE COUNTED
-pub counted_takes : (c : Construction) (P : Part) (z : Size) → z ≡ Counted → CanWrite Fixed c P z
-counted_takes c P z is lines place line b n fits = subst (λ (x : Size). IsTakable x line) (sym is) tt
+pub counted_takes : (z : Size) (line : Line) → z ≡ Counted → IsTakable z line
+counted_takes z line is = subst (λ (x : Size). IsTakable x line) (sym is) tt
 
 -- the error that `?` hands on
 pub if_err : {T E : Type 0} (P : E → Type 0) (r : Result T E) (x : E) → IsErrAnd r (λ e. e ≡ x) → P x → IfErr r P

@@ -1,5 +1,6 @@
 -- What a log in the fixed frame shows of its subject, and that its verdict decides.
-use Rattle.std.proofs.Common.{◌≡◌, ◌≢◌, ℕ, zero, suc, ◌-◌, ◌<◌, ◌⊎◌, inl, inr, All, Bool, true, false, cond, eqb, not, filter, length, map, ℤ, pos, Some, List, [], ◌∷◌, ◌++◌, refl, sym, ap, ◌∙◌, subst, arith}
+use Rattle.std.proofs.Common.{◌≡◌, ◌≢◌, ℕ, zero, suc, ◌-◌, ◌<◌, ◌⊎◌, inl, inr, All, Bool, true, false, cond, eqb, not, filter, length, map}
+use Rattle.std.proofs.Common.{ℤ, pos, Some, List, [], ◌∷◌, ◌++◌, refl, sym, ap, ◌∙◌, subst, arith}
 use Rattle.std.specs.Prelude.{slice_get}
 use Rattle.std.proofs.Math.Nat.{eq-or-lt_of_le}
 use Rattle.std.proofs.lemmas.Bool.{eqb-true}
@@ -170,7 +171,8 @@ module _ (c : Construction) (valid : IsConstruction c) where
   suits : (listed : List Summands) (left : ℕ) (values : List (Var × ℤ)) (left' : ℕ) → IsKeptSample listed left values left' → All (IsNonzeroAt values) listed
   suits listed left values left' h = each_nonzero values listed (sample_keeps (framed_variables c) listed values h.some h.own.least).keeps
 
-  abbrev begun : (head : Line) (known : List Var) (left : ℕ) (item : Item) (lines : List Line) → BeginsWithChain Works Chosen head known left item lines → BeginsWithChain Works IsKeptSample head known left item lines
+  abbrev begun : (head : Line) (known : List Var) (left : ℕ) (item : Item) (lines : List Line)
+      → BeginsWithChain Works Chosen head known left item lines → BeginsWithChain Works IsKeptSample head known left item lines
   begun head known left item lines first = record { chain = first.chain; after = first.after; rest = first.rest; split = first.split; works = first.works }
 
   concluded : (listed : List Summands) (left : ℕ) (lines : List Line) (verdict : Verdict) (left' : ℕ) → NoneZero listed → IsConcluded Works Chosen listed left lines verdict left'
@@ -201,7 +203,8 @@ module _ (c : Construction) (valid : IsConstruction c) where
   )
 
 -- WHAT A LOG SHOWS
-module _ (subject : Subject) (valid : IsConstruction subject.construction) (sound : IsSoundTable lemma_table subject.construction) (named_conditions : AreNamed subject.construction subject.conditions) (named_goals : AreNamed subject.construction subject.goals) where
+module _ (subject : Subject) (valid : IsConstruction subject.construction) (sound : IsSoundTable lemma_table subject.construction)
+    (named_conditions : AreNamed subject.construction subject.conditions) (named_goals : AreNamed subject.construction subject.goals) where
   abbrev c : Construction
   c = subject.construction
 

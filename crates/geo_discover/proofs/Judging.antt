@@ -1,6 +1,6 @@
 -- What a candidate's log says of it.
-use Rattle.std.proofs.Common.{◌≡◌, ℕ, ◌<◌, ◌^◌, inl, inr, Option, Some, List, [], ◌∷◌, ◌++◌, map, refl, sym, ◌∙◌, ap, subst, arith}
-use Rattle.std.specs.List.{AllByRecursion, flat_map}
+use Rattle.std.proofs.Common.{◌≡◌, ℕ, ◌<◌, ◌^◌, inl, inr, Option, Some, List, [], ◌∷◌, ◌++◌, map, refl, ap, subst, arith}
+use Rattle.std.specs.List.{AllByRecursion}
 use Rattle.geo_base.specs.Devices.{Grows, HasRisen}
 use Rattle.geo_program.specs.declared.statements.Statement.{Statement}
 use Rattle.geo_program.specs.Relations.{with_statement}
@@ -22,7 +22,7 @@ use Rattle.geo_prover.specs.Proving.{Concludes, IsLogOf, StopsAt, WritesLog}
 use Rattle.geo_discover.specs.declared.examining.Judgement.{Judgement}
 use Rattle.geo_discover.specs.declared.examining.Judgement.TheVariants as judged
 use Rattle.geo_discover.specs.FoundTexts.{Finding, IsFinding}
-use Rattle.geo_discover.specs.Inner.Searching.{EndsSo, IsJudged, Tells, judgement_by}
+use Rattle.geo_discover.specs.Inner.Searching.{IsJudged, Tells, judgement_by}
 use Rattle.geo_discover.specs.TextLines.{text_of_lines}
 
 -- what a sink that was empty holds

@@ -1,12 +1,10 @@
 -- From the steps of a search to what it answers.
-use Rattle.std.proofs.Common.{◌≡◌, ℕ, zero, suc, ◌+◌, ◌<◌, ◌≤◌, ◌^◌, All, Bool, true, false, inl, inr, Option, Some, None, List, [], ◌∷◌, ◌++◌}
-use Rattle.std.proofs.Common.{append-nil, append_assoc, codes, decimal, length, map, refl, sym, ◌∙◌, ap, ap₂, subst, take, arith}
+use Rattle.std.proofs.Common.{◌≡◌, ℕ, zero, suc, ◌+◌, ◌<◌, ◌≤◌, All, Bool, true, false, inl, inr, Option, Some, None, List, [], ◌∷◌, ◌++◌}
+use Rattle.std.proofs.Common.{append-nil, append_assoc, length, refl, sym, ◌∙◌, ap, ap₂, subst, take, arith}
 use Rattle.std.specs.Prelude.{nat_lt}
-use Rattle.std.specs.List.{flat_map}
 use Rattle.std.proofs.lemmas.Bool.{ltb-false, ltb-true}
-use Rattle.std.proofs.lemmas.List.{length-append}
 use Rattle.std.proofs.lemmas.List.Elements.{All-head, All-tail}
-use Rattle.geo_base.specs.Devices.{Grows, HasRisen}
+use Rattle.geo_base.specs.Devices.{Grows}
 use Rattle.geo_base.proofs.DeviceLemmas.{Grows-append}
 use Rattle.geo_lowering.specs.declared.version.Version.TheVariants.{Two}
 use Rattle.geo_program.specs.declared.statements.Statement.{Statement}
@@ -22,9 +20,9 @@ use Rattle.log_maker.specs.declared.errors.ProveError.TheVariants as stopped
 use Rattle.geo_discover.specs.declared.errors.DiscoverError.{DiscoverError}
 use Rattle.geo_discover.specs.declared.errors.DiscoverError.TheVariants.{Impossible, Spent, TooLarge, TooLong, WriteFault, NoMemory}
 use Rattle.geo_discover.specs.Candidates.{candidates}
-use Rattle.geo_discover.specs.FoundTexts.{AreFindings, Finding, IsSearched, Outcome, SearchEnd, WritesFound, WritesFoundPart, candidate_lines}
+use Rattle.geo_discover.specs.FoundTexts.{AreFindings, Finding, IsSearched, Outcome, SearchEnd, WritesFound, WritesFoundPart}
 use Rattle.geo_discover.specs.FoundTexts.{cut, end_at, end_with, first_impossible, first_open, found, found_lines, impossible, impossible_in}
-use Rattle.geo_discover.specs.FoundTexts.{lines_with, nothing, open_by, open_still, opens, outcome_of, relation, relations, statement_text}
+use Rattle.geo_discover.specs.FoundTexts.{lines_with, nothing, open_by, open_still, opens, outcome_of, relation, relations}
 use Rattle.geo_discover.specs.FoundTexts.{whole_end}
 use Rattle.geo_discover.specs.Inner.Puts.{BreaksOff, IsPieceOf, IsUnput, PutsLines}
 use Rattle.geo_discover.specs.Inner.Searching.{BreaksSearch, EndsSo, Examines, IfOpen, IsAnswer, IsBroken, IsUnsettled, Progress, TellsFirst}

@@ -20,7 +20,8 @@ use Rattle.geo_terms.specs.Trees.{Tree, IsStepNumber}
 use Rattle.elim_area.specs.AreaTable.{area_numerator, area_table, points_after}
 use Rattle.elim_pyth.specs.declared.pyth_rows.Reading.{Reading}
 use Rattle.elim_pyth.specs.declared.pyth_rows.Reading.TheVariants.{Linear, Quadratic}
-use Rattle.elim_pyth.specs.DifferenceTable.{along_square, crossing_square, difference_row, difference_table, foot_square, linear_numerator, reading, turned_square, quadratic_numerator, quadratic_power, weights_square}
+use Rattle.elim_pyth.specs.DifferenceTable.{along_square, crossing_square, difference_row, difference_table, foot_square, linear_numerator}
+use Rattle.elim_pyth.specs.DifferenceTable.{reading, turned_square, quadratic_numerator, quadratic_power, weights_square}
 use Rattle.elim_ratio.specs.RatioTable.{along_row, crossing_row, end_at, first_line, foot_row, lemma_row, plain_row, pythagoras_row, ratio_table, same_line, second_line, shared_row, with_sign}
 use Rattle.elim_apply.proofs.FormVariables.{OfForm}
 use Rattle.geo_logs.proofs.TermVariables.{OfLeaves, sorted_ratio}
@@ -127,7 +128,9 @@ module _ (c : Construction) (Good : PointId → Type 0) (Holds : Var → Type 0)
         step_fits (Tratio u v r) 2 (turned_square u v (numerator_at c.nodes r) (denominator_at c.nodes r) a b) h
         (((((tt, n), n), D a u b A' U B), (((tt, n), n), D u v u U V U)), (((tt, n), n), (A a u v A' U V, A b u v B U V)))
     quadratic_fits (Weights o u v r s) a b h A' B =
-        let O = E o h.0 in let U = E u h.1 in let V = E v h.2 in let n = N r h.3.number in let m = N s h.4.number in let first : Fits (origin_weight (numerator_at c.nodes r) (denominator_at c.nodes r) (numerator_at c.nodes s) (denominator_at c.nodes s)) = (((n, m), (n, m)), (m, n)) in
+        let O = E o h.0 in let U = E u h.1 in let V = E v h.2 in let n = N r h.3.number in let m = N s h.4.number in
+        let first : Fits (origin_weight (numerator_at c.nodes r) (denominator_at c.nodes r) (numerator_at c.nodes s)
+        (denominator_at c.nodes s)) = (((n, m), (n, m)), (m, n)) in
         step_fits (Weights o u v r s) 2 (weights_square o u v (numerator_at c.nodes r) (denominator_at c.nodes r) (numerator_at c.nodes s) (denominator_at c.nodes s) a b) h
         ((
           (
@@ -152,7 +155,9 @@ module _ (c : Construction) (Good : PointId → Type 0) (Holds : Var → Type 0)
         pair a b A' B = mapped_fits step (area_numerator c.nodes step a b) h (area_fits step a b h A' B)
 
         go : (p q r : Bool)
-            → IfSome (option_and_then (λ (ab : PointId × PointId). option_map (step_row c.nodes step 1) (area_numerator c.nodes step ab.0 ab.1)) (cond {A = Option (PointId × PointId)} p (Some (j, k)) (cond q (Some (k, i)) (cond r (Some (i, j)) None)))) FitsRow
+            → IfSome (option_and_then (λ (ab : PointId × PointId). option_map (step_row c.nodes step 1)
+            (area_numerator c.nodes step ab.0 ab.1))
+            (cond {A = Option (PointId × PointId)} p (Some (j, k)) (cond q (Some (k, i)) (cond r (Some (i, j)) None)))) FitsRow
         go true q r = pair j k J K
         go false true r = pair k i K I
         go false false true = pair i j I J
@@ -176,7 +181,9 @@ module _ (c : Construction) (Good : PointId → Type 0) (Holds : Var → Type 0)
         one read g = read_fits step read h g
 
         go : (q p r : Bool)
-            → IfSome (option_and_then (difference_row c.nodes step) (cond {A = Option Reading} q (Some (Quadratic i k)) (cond p (Some (cond r (Quadratic j j) (Linear k j))) (cond r (Some (Linear i j)) None)))) FitsRow
+            → IfSome (option_and_then (difference_row c.nodes step)
+            (cond {A = Option Reading} q (Some (Quadratic i k))
+            (cond p (Some (cond r (Quadratic j j) (Linear k j))) (cond r (Some (Linear i j)) None)))) FitsRow
         go true p r = one (Quadratic i k) (I, K)
         go false true true = one (Quadratic j j) (J, J)
         go false true false = one (Linear k j) (K, J)
@@ -221,7 +228,9 @@ module _ (c : Construction) (Good : PointId → Type 0) (Holds : Var → Type 0)
     where
       go : (o : Option Bool) → IfSome (option_map (λ other. plain_row (with_sign turned other (area a p q)) (area u p q ⊟ area v p q)) o) FitsRow
       go None = tt
-      go (Some other) = plain_fits (with_sign turned other (area a p q)) (area u p q ⊟ area v p q) (sign_fits turned other (area a p q) (follows.areas a p q A' P' Q)) (follows.areas u p q U P' Q, follows.areas v p q V P' Q)
+      go (Some other) =
+          plain_fits (with_sign turned other (area a p q)) (area u p q ⊟ area v p q)
+          (sign_fits turned other (area a p q) (follows.areas a p q A' P' Q)) (follows.areas u p q U P' Q, follows.areas v p q V P' Q)
 
   shared_row_fits : (y u v p q a : PointId) (turned : Bool) (d e : PointId) → Good p → Good q → Good a → Good d → Good e → IfSome (shared_row y u v p q a turned d e) FitsRow
   shared_row_fits y u v p q a turned d e P' Q A' D' E' = go (eqb e.0 y.0) (eqb d.0 y.0)
@@ -231,7 +240,9 @@ module _ (c : Construction) (Good : PointId → Type 0) (Holds : Var → Type 0)
       one b other false B = tt
 
       go : (r s : Bool)
-          → IfSome (option_and_then (λ (end : PointId × Bool). if is_point end.0 u || is_point end.0 v then Some (plain_row (with_sign turned end.1 (area a p q)) (area end.0 p q)) else None) (cond {A = Option (PointId × Bool)} r (Some (d, false)) (cond s (Some (e, true)) None))) FitsRow
+          → IfSome (option_and_then (λ (end : PointId × Bool). if is_point end.0 u || is_point end.0 v then Some
+          (plain_row (with_sign turned end.1 (area a p q)) (area end.0 p q)) else None)
+          (cond {A = Option (PointId × Bool)} r (Some (d, false)) (cond s (Some (e, true)) None))) FitsRow
       go true s = one d false (is_point d u || is_point d v) D'
       go false true = one e true (is_point e u || is_point e v) E'
       go false false = tt
@@ -355,22 +366,30 @@ module _ (c : Construction) (Good : PointId → Type 0) (Holds : Var → Type 0)
           → IfSome (option_and_then (λ step. option_and_then (λ (end : PointId × Bool). lemma_row lemma c.nodes y step end.0 end.1 d e) (end_at y i j)) (slice_get c.steps y.0)) FitsRow
       looked true q mj mi =
           let at : end_at y i j ≡ Some (i, false) = ap (λ (b : Bool). cond {A = Option (PointId × Bool)} b (Some (i, false)) (cond (eqb i.0 y.0) (Some (j, true)) None)) mj in
-          subst (λ (o : Option (PointId × Bool)). IfSome (option_and_then (λ step. option_and_then (λ (end : PointId × Bool). lemma_row lemma c.nodes y step end.0 end.1 d e) o) (slice_get c.steps y.0)) FitsRow)
+          subst (λ (o : Option (PointId × Bool)). IfSome
+          (option_and_then (λ step. option_and_then (λ (end : PointId × Bool). lemma_row lemma c.nodes y step end.0 end.1 d e) o)
+          (slice_get c.steps y.0)) FitsRow)
           (sym at) (by_end (Some (i, false)) at (same_point y j mj J, I) (slice_get c.steps y.0) refl)
       looked false true mj mi =
           let at : end_at y i j ≡ Some (j, true) =
           ap (λ (b : Bool). cond {A = Option (PointId × Bool)} b (Some (i, false)) (cond (eqb i.0 y.0) (Some (j, true)) None)) mj
           ∙ ap (λ (b : Bool). cond {A = Option (PointId × Bool)} b (Some (j, true)) None) mi in
-          subst (λ (o : Option (PointId × Bool)). IfSome (option_and_then (λ step. option_and_then (λ (end : PointId × Bool). lemma_row lemma c.nodes y step end.0 end.1 d e) o) (slice_get c.steps y.0)) FitsRow)
+          subst (λ (o : Option (PointId × Bool)). IfSome
+          (option_and_then (λ step. option_and_then (λ (end : PointId × Bool). lemma_row lemma c.nodes y step end.0 end.1 d e) o)
+          (slice_get c.steps y.0)) FitsRow)
           (sym at) (by_end (Some (j, true)) at (same_point y i mi I, J) (slice_get c.steps y.0) refl)
       looked false false mj mi =
           let at : end_at y i j ≡ None =
           ap (λ (b : Bool). cond {A = Option (PointId × Bool)} b (Some (i, false)) (cond (eqb i.0 y.0) (Some (j, true)) None)) mj
           ∙ ap (λ (b : Bool). cond {A = Option (PointId × Bool)} b (Some (j, true)) None) mi in
-          subst (λ (o : Option (PointId × Bool)). IfSome (option_and_then (λ step. option_and_then (λ (end : PointId × Bool). lemma_row lemma c.nodes y step end.0 end.1 d e) o) (slice_get c.steps y.0)) FitsRow)
+          subst (λ (o : Option (PointId × Bool)). IfSome
+          (option_and_then (λ step. option_and_then (λ (end : PointId × Bool). lemma_row lemma c.nodes y step end.0 end.1 d e) o)
+          (slice_get c.steps y.0)) FitsRow)
           (sym at) (no_end (slice_get c.steps y.0))
 
       go : (z : Bool)
-          → IfSome (cond {A = Option TableRow} z (Some (pythagoras_row i j d e)) (option_and_then (λ step. option_and_then (λ (end : PointId × Bool). lemma_row lemma c.nodes y step end.0 end.1 d e) (end_at y i j)) (slice_get c.steps y.0))) FitsRow
+          → IfSome (cond {A = Option TableRow} z (Some (pythagoras_row i j d e))
+          (option_and_then (λ step. option_and_then (λ (end : PointId × Bool). lemma_row lemma c.nodes y step end.0 end.1 d e)
+          (end_at y i j)) (slice_get c.steps y.0))) FitsRow
       go true = pythagoras_row_fits i j d e I J D' E'
       go false = looked (eqb j.0 y.0) (eqb i.0 y.0) refl refl

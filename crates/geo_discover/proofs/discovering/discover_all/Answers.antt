@@ -1,4 +1,4 @@
-use Rattle.std.proofs.Common.{◌≤◌, All, sym, ◌∙◌, subst, arith}
+use Rattle.std.proofs.Common.{sym, ◌∙◌, subst}
 use Rattle.std.specs.List.{AllByRecursion}
 use Rattle.std.proofs.lemmas.List.Elements.{recursion_from_All}
 use Rattle.std.proofs.lemmas.Result.{IfErr-weaker, IfOk-weaker}

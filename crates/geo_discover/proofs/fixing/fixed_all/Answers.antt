@@ -1,9 +1,7 @@
-use Rattle.std.proofs.Common.{◌≡◌, ◌<◌, ◌^◌, ◌∙◌, [], arith}
+use Rattle.std.proofs.Common.{◌<◌, ◌^◌, ◌∙◌, arith}
 use Rattle.geo_program.specs.Programs.{source_of}
 use Rattle.geo_program.proofs.Propositions.{program_well_formed}
 use Rattle.geo_prover.proofs.Finishing.{ready}
-use Rattle.log_maker.specs.declared.frame.Frame.TheVariants.{Fixed}
-use Rattle.log_maker.specs.Tasks.{conditions_from}
 use Rattle.geo_discover.specs.Inner.Fixing.{fixed_by}
 use Rattle.geo_discover.proofs.FixedAnswers.{answered, counted_takes, decided, ended, if_err}
 use Rattle.geo_discover.proofs.fixing.fixed_all.Goals as goal
@@ -16,8 +14,7 @@ work-requires-clause-ready c =
 
 pub work-requires-clause-writable : goal.work-requires-clause-writable
 work-requires-clause-writable c =
-    let problem = c.in_ok-problem.problem in
-    counted_takes problem.steps (conditions_from Fixed problem 0 [] [] c.args.steps) c.counting-log.result.size c.counting-log.ensures.size
+    λ lines place line begun next fits. counted_takes c.counting-log.result.size line c.counting-log.ensures.size
 
 pub returns-in_err-verdict-clause-err : goal.returns-in_err-verdict-clause-err
 returns-in_err-verdict-clause-err c =

@@ -1,7 +1,3 @@
-use Rattle.std.proofs.Common.{sym, subst}
-use Rattle.std.specs.List.{AllByRecursion}
-use Rattle.std.proofs.lemmas.List.Elements.{recursion_from_All}
-use Rattle.geo_program.specs.declared.statements.Statement.{Statement}
 use Rattle.geo_program.specs.Programs.{source_of}
 use Rattle.geo_discover.proofs.CandidateForms.{no_sides, printable_points}
 use Rattle.geo_discover.proofs.found_lines.candidate_line.Goals as goal

@@ -1,7 +1,7 @@
-use Rattle.std.proofs.Common.{◌≡◌, ◌+◌, ◌++◌, map}
+use Rattle.std.proofs.Common.{◌≡◌, ◌++◌, map}
 use Rattle.geo_program.specs.declared.statements.Statement.TheVariants.{Concyclic}
 use Rattle.geo_discover.specs.Candidates.{quadruples}
-use Rattle.geo_discover.specs.Inner.Walks.{points_behind, pt}
+use Rattle.geo_discover.specs.Inner.Walks.{points_behind}
 use Rattle.geo_discover.proofs.quadruples.push_quadruples.Given as goal
 
 -- what is there, and what is still to come, is the whole

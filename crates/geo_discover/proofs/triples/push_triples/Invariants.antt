@@ -1,7 +1,7 @@
-use Rattle.std.proofs.Common.{◌≡◌, ◌+◌, ◌++◌, map}
+use Rattle.std.proofs.Common.{◌≡◌, ◌++◌, map}
 use Rattle.geo_program.specs.declared.statements.Statement.TheVariants.{Collinear}
 use Rattle.geo_discover.specs.Candidates.{triples}
-use Rattle.geo_discover.specs.Inner.Walks.{points_behind, pt}
+use Rattle.geo_discover.specs.Inner.Walks.{points_behind}
 use Rattle.geo_discover.proofs.triples.push_triples.Given as goal
 
 -- what is there, and what is still to come, is the whole

@@ -1,4 +1,4 @@
-use Rattle.std.proofs.Common.{◌≡◌, ◌+◌, ℕ, List, [], ◌∷◌, ◌++◌, drop, take, sym, ◌∙◌, subst, arith, rules}
+use Rattle.std.proofs.Common.{◌≡◌, ◌+◌, ℕ, List, sym, subst, arith, rules}
 use Rattle.std.proofs.lemmas.List.{take_rest}
 use Rattle.geo_discover.proofs.Putting.{IsMidway, at_first, at_last, if_err, one_breaks, one_more}
 use Rattle.geo_discover.proofs.found_text.FoundText.put_lines.Goals as goal

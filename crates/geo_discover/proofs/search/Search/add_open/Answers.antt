@@ -1,4 +1,3 @@
-use Rattle.std.proofs.Common.{refl, arith}
 use Rattle.geo_discover.proofs.Putting.{if_err}
 use Rattle.geo_discover.proofs.search.Search.add_open.Goals as goal
 

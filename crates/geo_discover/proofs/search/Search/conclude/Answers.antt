@@ -1,4 +1,4 @@
-use Rattle.std.proofs.Common.{inl, inr, refl}
+use Rattle.std.proofs.Common.{inl, inr}
 use Rattle.geo_discover.proofs.Putting.{if_err}
 use Rattle.geo_discover.proofs.search.Search.conclude.Goals as goal
 

@@ -1,8 +1,7 @@
-use Rattle.std.proofs.Common.{◌<◌, ◌^◌, None, refl, sym, ◌∙◌, ap, subst, arith}
+use Rattle.std.proofs.Common.{◌<◌, ◌^◌, arith}
 use Rattle.std.proofs.lemmas.Result.{IfErr-weaker, on_ok_weaker}
 use Rattle.geo_program.specs.Programs.{source_of}
 use Rattle.geo_program.proofs.Propositions.{program_well_formed}
-use Rattle.geo_discover.specs.Inner.Searching.{progress}
 use Rattle.geo_discover.proofs.Examined.{fails_examined, impossible_broken, impossible_examined, open_broken, open_examined}
 use Rattle.geo_discover.proofs.Examined.{relation_broken, relation_examined}
 use Rattle.geo_discover.proofs.Putting.{if_err, on_ok}
