@@ -60,12 +60,7 @@ fn discover_bytes<K: Sink>(alloc: Global, bytes: &[u8], steps: u64, sink: &mut K
 }
 
 /// Searches the figure of a program.
-fn discover_program<K: Sink>(
-    alloc: Global,
-    program: &Program,
-    steps: u64,
-    sink: &mut K,
-) -> Status
+fn discover_program<K: Sink>(alloc: Global, program: &Program, steps: u64, sink: &mut K) -> Status
     requires { length (program_text program.now) ≤ 67108864 }
     ensures answers { (bytes : List ℕ) → Spells bytes program.now
         → AnswersDue (IsDueForSearch steps bytes) (K.faults sink.old) (K.faults sink.new)

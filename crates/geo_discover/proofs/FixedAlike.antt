@@ -92,8 +92,8 @@ module _ (s t : Subject) (h : AlikeSubjects s t) (steps : ℕ) where
         rest,
         split,
         begun_alike (IsFixedChain lemma_table c) (IsFixedChain lemma_table d) (IsFixedSample c) (IsFixedSample d) (chains_alike c d h.steps)
-        (samples_alike c d h.steps) (LeadsInFrame lemma_table c) (LeadsInFrame lemma_table d) (paths_alike c d h.steps) s.goals [] [] 1 steps
-        s.conditions rest place b,
+            (samples_alike c d h.steps) (LeadsInFrame lemma_table c) (LeadsInFrame lemma_table d) (paths_alike c d h.steps) s.goals [] [] 1 steps
+            s.conditions rest place b,
       )
 
   fixed_alike : (lines : List Line) (ending : Ending) → IsFixedLog lemma_table s steps lines ending → IsFixedLog lemma_table t steps lines ending

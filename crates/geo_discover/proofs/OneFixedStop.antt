@@ -64,7 +64,7 @@ module _ (table : Table) (c : Construction) (known : List Var) where
       let step : x ≡ y = is ∙ ap framed same ∙ sym is' in (
         step,
         subst (λ (k : ℕ). LeadsInFrame table c known k (after_step x) ys l r) (sym kept)
-        (subst (λ (z : ChainStep). LeadsInFrame table c known after' (after_step z) ys l r) (sym step) rest),
+            (subst (λ (z : ChainStep). LeadsInFrame table c known after' (after_step z) ys l r) (sym step) rest),
       )
 
   stopped_paths : (left : ℕ) (q : Summands) (xs ys : List ChainStep) (l l' : ℕ) (r r' : Summands) (s s' : Stop)

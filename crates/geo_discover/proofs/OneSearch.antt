@@ -161,9 +161,11 @@ one_text all whole lines other end end' (inl h) (inr (a, more, split, fits, over
     absurd (cut_is_longer 67108864 lines other a more (h.0 ∙ split) over h.1)
 one_text all whole lines other end end' (inr (a, more, split, fits, over, is)) (inl g) =
     absurd (cut_is_longer 67108864 other lines a more (g.0 ∙ split) over g.1)
-one_text all whole lines other end end' (inr (a, more, split, fits, over, is)) (inr (b, more', split', fits', over', is')) =
-    (one_cut 0 67108864 lines other a b more more' (sym split ∙ split') (omega (arith, fits)) (omega (arith, over))
-    (omega (arith, fits')) (omega (arith, over')), is ∙ sym is')
+one_text all whole lines other end end' (inr (a, more, split, fits, over, is)) (inr (b, more', split', fits', over', is')) = (
+  one_cut 0 67108864 lines other a b more more' (sym split ∙ split') (omega (arith, fits)) (omega (arith, over))
+      (omega (arith, fits')) (omega (arith, over')),
+  is ∙ sym is',
+)
 
 pub search_unique : SearchIsUnique
 search_unique p q steps lines other end end' v w same h g =
