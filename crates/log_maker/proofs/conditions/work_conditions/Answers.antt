@@ -87,7 +87,7 @@ returns-then-is_zero-clause-impossible g c =
     (conditions_before c.args.frame c.args.problem.now.steps c.args.problem.now.steps.nodes c.args.problem.now.conditions goals 0
     c.args.findings.now.known c.args.findings.now.ends c.args.budget.now.left)
     (conditions_before c.args.frame c.args.problem.now.steps c.args.problem.now.steps.nodes c.args.problem.now.conditions goals c.loop-i.i
-    c.loop-i.findings.known c.loop-i.findings.ends c.loop-i.budget.left) s t u c.work_condition.new.budget.left (c.loop-i.i + 1)
+    c.loop-i.findings.known c.loop-i.findings.ends c.loop-i.budget.left) s t u c.work_condition.new.budget.left _
     (c.loop-i.invariant.passes goals)
     (c.in_ok-chain.ensures.impossible goals (c.is_zero.ensures.0 c.if-is_zero.true))
 

@@ -19,7 +19,7 @@ returns-in_err-vars-clause-err g c =
 
 pub returns-in-Ok-clause-least : goal.returns-in-Ok-clause-least
 returns-in-Ok-clause-least g c =
-    chosen_of c.args.frame c.args.steps.now c.args.ends.now c.args.budget.now.left c.in-Ok.values c.least_sample.new.budget.left
+    chosen_of c.args.frame c.args.steps.now c.args.ends.now c.args.budget.now.left c.in-Ok.values _
     (subst (λ (vs : List Var). Search.IsLeastSample vs c.args.ends.now c.in-Ok.values) c.in_ok-vars.ensures c.in-Ok.ensures.least)
     c.in-Ok.ensures.made
 
