@@ -71,8 +71,8 @@ pub record Benches (words : List (List ℕ)) (verdict : Verdict) : Type 0 where
   pub text : List ℕ
   pub means : BytesMean text (source_of program) verdict
 
--- the words are `fixed` with so many steps, the source gave these bytes and no more, they spell this program, and the sink holds the line of
--- the verdict besides; and the verdict decides: which of the three holds of the program
+-- the words are `fixed` with so many steps, the source gave these bytes and no more, they spell this program, and the sink holds the line
+-- of the verdict besides; and the verdict decides: which of the three holds of the program
 pub record Fixes (words : List (List ℕ)) (left left' held held' : Option (List ℕ)) (verdict : Verdict) : Type 0 where
   pub steps : ℕ
   pub command : IsFixed words steps
@@ -215,9 +215,9 @@ pub record CitesNone (words : List (List ℕ)) (left left' : Option (List ℕ)) 
   pub input : IsInput log_limit left bytes left'
   pub misses : Misses bytes steps (no_instance line)
 
--- the words are `discover` with so many steps, the source gave these bytes and no more, they spell this program, and the sink holds the text
--- of its search besides, in which no candidate is open; and every candidate is told: it has a relation line just where the program with it
--- is true, and the log behind that line is accepted
+-- the words are `discover` with so many steps, the source gave these bytes and no more, they spell this program, and the sink holds the
+-- text of its search besides, in which no candidate is open; and every candidate is told: it has a relation line just where the program
+-- with it is true, and the log behind that line is accepted
 pub record Finds (words : List (List ℕ)) (left left' held held' : Option (List ℕ)) : Type 0 where
   pub steps : ℕ
   pub command : IsDiscover words steps
@@ -245,8 +245,8 @@ IsUnfinished (TooLarge line which) = Unit {0}
 IsUnfinished TooLong = Unit {0}
 IsUnfinished _ = ⊥
 
--- the source gave these bytes and no more, they spell this program, and the sink holds the text of its search besides, as far as it goes; and
--- so is told every candidate that is not open
+-- the source gave these bytes and no more, they spell this program, and the sink holds the text of its search besides, as far as it goes;
+-- and so is told every candidate that is not open
 pub record FindsInPart (steps : ℕ) (left left' held held' : Option (List ℕ)) (status : Status) : Type 0 where
   pub bytes : List ℕ
   pub input : IsInput program_limit left bytes left'
