@@ -14,7 +14,7 @@ _geo_complete() {
   done
   case $current:$word in
     -*:*) mapfile -t COMPREPLY < <(compgen -W '--steps --quiet --help --version' -- "$current") ;;
-    *:) mapfile -t COMPREPLY < <(compgen -W 'prove decide check text place figure cite page bench explain help' -- "$current") ;;
+    *:) mapfile -t COMPREPLY < <(compgen -W 'prove decide check text place figure cite discover fixed page bench explain help' -- "$current") ;;
     *:explain) mapfile -t COMPREPLY < <(compgen -W 'syntax rejected status stop' -- "$current") ;;
     *:bench | *:help) ;;
     *)

@@ -83,6 +83,7 @@ explain_spent() {
   case $2 in
     decide) echo "$1: $remedy" ;;
     check | text) echo "$1: the log needs more steps than $limit"; hint "$remedy" ;;
+    discover) echo "$1: some candidates are open: their logs need more steps than $limit"; hint "$remedy" ;;
     cite) echo "$1: the log and what is asked of the figure need more steps than $limit"; hint "$remedy" ;;
     *) echo "$1: undecided: its log needs more steps than $limit"; hint "$remedy" ;;
   esac
@@ -102,6 +103,10 @@ explain() {
         hint "smaller numbers in the line 'at' may help"
         return
       fi
+      if [ "$3" = discover ]; then
+        echo "$1: some candidates are open: in the log of the first a number or a degree would pass the limit"
+        return
+      fi
       echo "$1: undecided: a number or a degree would pass the limit"
       hint "more steps do not help: say it in another way (docs/GUIDE.md)"
       ;;
@@ -109,6 +114,8 @@ explain() {
     12:*)
       if [ "$3" = check ] || [ "$3" = text ] || [ "$3" = cite ] || [ "$(wc -c <"$2")" -gt 1048576 ]; then
         echo "$1: too long: a program has at most 1,048,576 bytes, a log at most 67,108,864"
+      elif [ "$3" = discover ]; then
+        echo "$1: the text, or the log of the first open candidate, would be longer than 67,108,864 bytes"
       else
         echo "$1: undecided: its log would be longer than 67,108,864 bytes"
         hint "more steps do not help: say it in another way (docs/GUIDE.md)"

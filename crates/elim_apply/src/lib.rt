@@ -11,8 +11,6 @@ mod numbered;
 mod replacing;
 mod sizes;
 mod starting;
-#[cfg(test)]
-mod tests;
 mod variables;
 
 pub use applying::{apply, apply_known};

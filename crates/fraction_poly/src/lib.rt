@@ -16,8 +16,6 @@ mod reaching;
 mod step_numbers;
 mod store_numbers;
 mod table;
-#[cfg(test)]
-mod tests;
 
 pub use drafts::{Draft, Number, RowDraft, StepTerms};
 pub use known_numbers::KnownNumbers;

@@ -6,8 +6,6 @@ mod cutting;
 mod first;
 mod highest;
 mod lines;
-#[cfg(test)]
-mod tests;
 
 pub use choosing::next_move;
 pub use lines::{next_line, next_line_known};

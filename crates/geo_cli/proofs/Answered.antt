@@ -2,11 +2,11 @@
 use Rattle.std.proofs.Common.{◌≡◌, ℕ, true, false, inl, inr, List, Option, refl, sym, ap, subst, length}
 use Rattle.geo_base.specs.Devices.{HasRisen}
 use Rattle.geo_cli.specs.declared.order.Command.{Command}
-use Rattle.geo_cli.specs.declared.order.Command.TheVariants.{Bench, Check, Cite, Figure, Place, Prove, Text}
+use Rattle.geo_cli.specs.declared.order.Command.TheVariants.{Bench, Check, Cite, Discover, Figure, Fixed, Place, Prove, Text}
 use Rattle.geo_cli.specs.declared.status.Status.{Status}
 use Rattle.geo_cli.specs.declared.status.Status.TheVariants.{ReadFault, TooLarge, Spent, TooLong}
 use Rattle.geo_cli.specs.Due.{Due, IsBenchDue, IsCommandDue, IsDueFor, IsDueForCitation, IsDueForLog, IsDueForText, IsDueForValues}
-use Rattle.geo_cli.specs.Due.{IsReadDue, too_long_line}
+use Rattle.geo_cli.specs.Due.{IsDueForFixed, IsDueForSearch, IsReadDue, too_long_line}
 use Rattle.geo_cli.specs.Inner.Answering.{AnswersBytes, AnswersCommand, AnswersDue, AnswersInput}
 use Rattle.geo_cli.specs.Input.{IsInput, IsLong, log_limit, program_limit}
 use Rattle.geo_cli.specs.Run.{IsAnswered, IsCutShort}
@@ -124,6 +124,12 @@ module _ (steps : ℕ) (left left' held held' : Option (List ℕ)) (g g' f f' : 
 
   pub by_cite : (command : Command) → command ≡ Cite → AnswersInput log_limit (IsDueForCitation steps) left left' g g' f f' held held' s → Carried command
   by_cite command is h = subst Carried (sym is) (by_reading Cite log_limit (IsDueForCitation steps) (λ number no. absurd (cc)) (λ due d. d) h)
+
+  pub by_fixed : (command : Command) → command ≡ Fixed → AnswersInput program_limit (IsDueForFixed steps) left left' g g' f f' held held' s → Carried command
+  by_fixed command is h = subst Carried (sym is) (by_reading Fixed program_limit (IsDueForFixed steps) (λ number no. absurd (cc)) (λ due d. d) h)
+
+  pub by_discover : (command : Command) → command ≡ Discover → AnswersInput program_limit (IsDueForSearch steps) left left' g g' f f' held held' s → Carried command
+  by_discover command is h = subst Carried (sym is) (by_reading Discover program_limit (IsDueForSearch steps) (λ number no. absurd (cc)) (λ due d. d) h)
 
   pub by_bench : (command : Command) (number : ℕ) → command ≡ Bench number → left' ≡ left
       → AnswersDue (IsBenchDue number steps) f f' held held' s → Carried command

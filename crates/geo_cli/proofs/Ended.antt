@@ -9,24 +9,31 @@ use Rattle.geo_place.specs.declared.errors.PlaceError.{PlaceError}
 use Rattle.geo_place.specs.declared.errors.PlaceError.TheVariants as placing
 use Rattle.geo_place.specs.declared.placed.Placed.{Placed}
 use Rattle.geo_cli.specs.declared.order.Command.{Command}
-use Rattle.geo_cli.specs.declared.order.Command.TheVariants.{Bench, Check, Cite, Figure, Place, Prove, Text}
+use Rattle.geo_cli.specs.declared.order.Command.TheVariants.{Bench, Check, Cite, Discover, Figure, Fixed, Place, Prove, Text}
 use Rattle.geo_cli.specs.declared.order.Order.{Order}
 use Rattle.geo_cli.specs.declared.status.Status.{Status}
 use Rattle.geo_cli.specs.declared.status.Status.TheVariants as status
-use Rattle.geo_cli.specs.Due.{Due, IsAcceptedDue, IsBenchDue, IsCalledFor, IsCommandDue, IsDue, IsDueForValues, IsLogDue, IsRestDue}
-use Rattle.geo_cli.specs.Due.{TellsAnswer, TellsDrawing, TellsUncited, bench_text, usage_line}
+use Rattle.geo_cli.specs.Due.{Due, IsAcceptedDue, IsBenchDue, IsCalledFor, IsCommandDue, IsDue, IsDueForValues, IsFixedDue, IsLogDue}
+use Rattle.geo_cli.specs.Due.{IsSearchDue}
+use Rattle.geo_cli.specs.Due.{IsRestDue, TellsAnswer, TellsDrawing, TellsFixed, TellsUncited, bench_text, fixed_line, usage_line}
 use Rattle.geo_cli.specs.Inner.Answering.{AnswersCommand, HasNumber}
 use Rattle.geo_cli.specs.Input.{IsInput, Takes, limit_of, log_limit, program_limit}
 use Rattle.geo_cli.specs.Orders.{IsOrder, IsRow, TellsSteps}
-use Rattle.geo_cli.specs.Run.{BenchesLog, ChecksLog, Ends, IsAnswered, IsCutShort, ProvesByLog, VerdictAccepted, VerdictTells}
-use Rattle.geo_cli.specs.Status.{ending_status, refusal_status, status_number, verdict_status}
-use Rattle.geo_cli.specs.Words.{IsBenchOf, IsCheck, IsNoCommand, IsProve, ReadsNothing}
+use Rattle.geo_cli.specs.Run.{BenchesLog, ChecksLog, Ends, FindsImpossibleByLog, FixesByLog, IsAnswered, IsCutShort, ProvesByLog, VerdictAccepted}
+use Rattle.geo_cli.specs.Run.{VerdictTells}
+use Rattle.geo_cli.specs.Status.{ended_status, ending_status, refusal_status, search_status, status_number, stop_status, verdict_status}
+use Rattle.geo_cli.specs.Words.{IsBenchOf, IsCheck, IsDiscover, IsFixed, IsNoCommand, IsProve, ReadsNothing}
 use Rattle.geo_cli.proofs.OneDue.{GivesOne, called_is_due}
+use Rattle.geo_discover.specs.FixedEnds.{EndsWithVerdict}
+use Rattle.geo_discover.specs.FoundTexts.{FirstIsAccepted, IsSearched, SearchEnd, cut, found, impossible, open_by}
+use Rattle.geo_discover.specs.TextLines.{text_of_lines}
+use Rattle.geo_discover.proofs.Deciding.{fixed_verdicts_decide}
+use Rattle.geo_discover.proofs.NoPlacement.{impossible_lines, impossible_searches_tell, open_ends}
 use Rattle.geo_library.specs.declared.errors.CiteError.{CiteError}
 use Rattle.geo_library.specs.declared.errors.CiteError.TheVariants as citing
 use Rattle.geo_logs.specs.Ends.{Ending, ends_by, ends_with, too_long}
 use Rattle.geo_logs.specs.Judging.{Refusal, rejected, stopped}
-use Rattle.geo_logs.specs.Moves.{spent, too_large}
+use Rattle.geo_logs.specs.Moves.{Stop, spent, too_large}
 use Rattle.geo_program.specs.Programs.{source_of}
 use Rattle.geo_program.specs.WellFormed.{IsWellFormed, Source}
 use Rattle.geo_program.proofs.Propositions.{program_well_formed}
@@ -37,7 +44,7 @@ use Rattle.log_checker.proofs.DefinedBytes.{defined_bytes_are_accepted}
 use Rattle.proof_log.specs.declared.log.Line.{Line}
 use Rattle.proof_log.specs.declared.log.Verdict.{Verdict}
 use Rattle.proof_log.specs.declared.log.Verdict.TheVariants.{Proved, False, Impossible}
-use Rattle.proof_log.specs.Lines.{log_text}
+use Rattle.proof_log.specs.Lines.{log_text, verdict_text}
 
 -- STATUSES
 -- two statuses with different numbers are not equal
@@ -70,7 +77,7 @@ few_told (word ∷ []) steps h = h.2.2
 few_told (word ∷ text ∷ []) steps h = h.1.2
 few_told (word ∷ text ∷ more ∷ words) steps h = absurd h
 
-few_steps : (words : List (List ℕ)) (command : Command) (steps : ℕ) → IsOrder words (record { command = command; steps = steps }) → steps < 2 ^ 127
+pub few_steps : (words : List (List ℕ)) (command : Command) (steps : ℕ) → IsOrder words (record { command = command; steps = steps }) → steps < 2 ^ 127
 few_steps words command steps h = let few = few_told h.option steps h.steps in omega (arith, few)
 
 -- VERDICTS
@@ -87,11 +94,15 @@ ends_so verdict lines (ends_by (too_large which)) says =
     no_verdict verdict (ending_status lines (ends_by (too_large which))) _ says (omega arith)
 ends_so verdict lines too_long says = no_verdict verdict (ending_status lines too_long) _ says (omega arith)
 
+-- a stop tells no verdict
+no_stop : (v : Verdict) (n : ℕ) (stop : Stop) (P : Type 0) → stop_status n stop ≡ verdict_status v → P
+no_stop v n spent P says = no_verdict v (stop_status n spent) P says (omega arith)
+no_stop v n (too_large which) P says = no_verdict v (stop_status n (too_large which)) P says (omega arith)
+
 -- a refusal tells no verdict
 no_refusal : (v : Verdict) (n : ℕ) (r : Refusal) (P : Type 0) → refusal_status n r ≡ verdict_status v → P
 no_refusal v n (rejected reason) P says = no_verdict v (refusal_status n (rejected reason)) P says (omega arith)
-no_refusal v n (stopped spent) P says = no_verdict v (refusal_status n (stopped spent)) P says (omega arith)
-no_refusal v n (stopped (too_large which)) P says = no_verdict v (refusal_status n (stopped (too_large which))) P says (omega arith)
+no_refusal v n (stopped stop) P says = no_stop v n stop P says
 
 -- values and a program call for no verdict, and tell nothing of instances
 abbrev IsBetween : Due → Type 0
@@ -222,6 +233,77 @@ module _ (words : List (List ℕ)) (left left' held held' : Option (List ℕ)) (
         written = subst (λ (e : Ending). Grows held (bench_text number points steps h.lines e) held') ends.1 grown;
       }
 
+  -- the log in the fixed frame, which ends with this verdict
+  log_fixes : (steps : ℕ) → IsFixed words steps → (bytes : List ℕ) → IsInput program_limit left bytes left' → (due : Due) (h : IsFixedDue steps bytes due)
+      → due.status ≡ verdict_status verdict → Grows held due.text held' → FixesByLog words left left' held held' verdict
+  log_fixes steps command bytes input due h says written = by h.tells
+    where
+      by : TellsFixed (source_of h.program) steps due → FixesByLog words left left' held held' verdict
+      by (inl (v, ends, is)) =
+          let same : v ≡ verdict = same_verdict v verdict (sym (ap (λ (d : Due). d.status) is) ∙ says) in
+          let here : EndsWithVerdict (source_of h.program) steps verdict = subst (EndsWithVerdict (source_of h.program) steps) same ends in
+          let grown : Grows held (fixed_line v) held' = subst (λ (d : Due). Grows held d.text held') is written in
+          record {
+            fixes = record {
+              steps = steps;
+              command = command;
+              bytes = bytes;
+              input = input;
+              program = h.program;
+              spelt = h.spelt;
+              written = subst (λ (x : Verdict). Grows held (fixed_line x) held') same grown;
+              decided = fixed_verdicts_decide (source_of h.program) here.subject steps here.left here.lines verdict h.spelt.well_formed here.about here.log;
+            };
+            ends = here;
+          }
+      by (inr (stop, n, stops, is)) = no_stop verdict n stop _ (sym (ap (λ (d : Due). d.status) is) ∙ says)
+
+  -- the search, which says that a condition is never met
+  search_finds : (steps : ℕ) → IsDiscover words steps → (bytes : List ℕ) → IsInput program_limit left bytes left' → (due : Due)
+      (h : IsSearchDue steps bytes due)
+      → due.status ≡ verdict_status verdict → Grows held due.text held' → FindsImpossibleByLog words left left' held held' verdict
+  search_finds steps command bytes input due h says written =
+      by h.end h.searched (subst (λ (d : Due). Grows held d.text held') h.is written) (sym (ap (λ (d : Due). d.status) h.is) ∙ says)
+    where
+      p : Source
+      p = source_of h.program
+
+      finds : (k : ℕ) → IsSearched p steps h.lines (impossible k) → Grows held (text_of_lines h.lines) held' → Impossible k ≡ verdict
+          → FindsImpossibleByLog words left left' held held' verdict
+      finds k searched grown same =
+          let tells = impossible_searches_tell p steps k h.lines h.spelt.well_formed (few_steps words Discover steps command) searched in
+          let lines = impossible_lines p steps k h.lines searched in
+          let one : Grows held (text_of_lines (verdict_text (Impossible k) ∷ [])) held' =
+          subst (λ (ls : List (List ℕ)). Grows held (text_of_lines ls) held') lines grown in
+          record {
+            finds = record {
+              steps = steps;
+              command = command;
+              bytes = bytes;
+              input = input;
+              program = h.program;
+              spelt = h.spelt;
+              number = k;
+              is = sym same;
+              written = subst (λ (v : Verdict). Grows held (text_of_lines (verdict_text v ∷ [])) held') same one;
+              none = tells.1;
+            };
+            first = subst (FirstIsAccepted p steps) same tells.0;
+          }
+
+      ended : (n : ℕ) (ending : Ending) (P : Type 0) → ((v : Verdict) (l : ℕ) → ending ≡ ends_with v l → ⊥)
+          → ended_status n ending ≡ verdict_status verdict → P
+      ended n (ends_with v l) P never is = absurd (never v l refl)
+      ended n (ends_by stop) P never is = no_stop verdict n stop P is
+      ended n too_long P never is = no_verdict verdict status.TooLong P is (omega arith)
+
+      by : (end : SearchEnd) → IsSearched p steps h.lines end → Grows held (text_of_lines h.lines) held'
+          → search_status end ≡ verdict_status verdict → FindsImpossibleByLog words left left' held held' verdict
+      by (found count) searched grown is = no_verdict verdict status.Done _ is (omega arith)
+      by (impossible k) searched grown is = finds k searched grown (same_verdict (Impossible k) verdict is)
+      by (open_by ending n) searched grown is = ended n ending _ (open_ends p steps n h.lines ending searched) is
+      by cut searched grown is = no_verdict verdict status.TooLong _ is (omega arith)
+
   command_decides : (command : Command) (steps : ℕ) → IsOrder words (record { command = command; steps = steps }) → (due : Due) (s : Status)
       → s ≡ due.status → Grows held due.text held' → s ≡ verdict_status verdict → IsCommandDue command steps left left' due → Decided
   command_decides Prove steps given due s answered written says (inl h) =
@@ -256,8 +338,20 @@ module _ (words : List (List ℕ)) (left left' held held' : Option (List ℕ)) (
       no_verdict verdict status.Done _ (due_says due _ s _ answered h.is says) (omega arith)
   command_decides Cite steps given due s answered written says (inr (bytes, input, inr h)) =
       no_verdict verdict due.status _ (sym answered ∙ says) (uncited_number h.error due h.is).verdict
+  command_decides Fixed steps given due s answered written says (inl h) =
+      no_verdict verdict status.TooLong _ (due_says due _ s _ answered h.1 says) (omega arith)
+  command_decides Fixed steps given due s answered written says (inr (bytes, input, inl h)) =
+      inr (inr (inr (inl (log_fixes steps given bytes input due h (sym answered ∙ says) written))))
+  command_decides Fixed steps given due s answered written says (inr (bytes, input, inr refusal)) =
+      no_verdict verdict (status.Syntax refusal.fault.refusal refusal.fault.place) _ (due_says due _ s _ answered refusal.is says) (omega arith)
+  command_decides Discover steps given due s answered written says (inl h) =
+      no_verdict verdict status.TooLong _ (due_says due _ s _ answered h.1 says) (omega arith)
+  command_decides Discover steps given due s answered written says (inr (bytes, input, inl h)) =
+      inr (inr (inr (inr (search_finds steps given bytes input due h (sym answered ∙ says) written))))
+  command_decides Discover steps given due s answered written says (inr (bytes, input, inr refusal)) =
+      no_verdict verdict (status.Syntax refusal.fault.refusal refusal.fault.place) _ (due_says due _ s _ answered refusal.is says) (omega arith)
   command_decides (Bench number) steps given due s answered written says (unread, h) =
-      inr (inr (log_benches number steps given due h (due_says due _ s _ answered h.is says) written))
+      inr (inr (inl (log_benches number steps given due h (due_says due _ s _ answered h.is says) written)))
 
   due_decides : (due : Due) (s : Status) → IsDue words left left' due → s ≡ due.status → Grows held due.text held' → s ≡ verdict_status verdict → Decided
   due_decides due s (inl h) answered written says =
@@ -285,7 +379,9 @@ module _ (words : List (List ℕ)) (left left' held held' : Option (List ℕ)) (
   tells : Decided → VerdictTells words left left' held held' verdict
   tells (inl h) = inl h.proves
   tells (inr (inl h)) = inr (inl h.checks)
-  tells (inr (inr h)) = inr (inr h.benches)
+  tells (inr (inr (inl h))) = inr (inr (inl h.benches))
+  tells (inr (inr (inr (inl h)))) = inr (inr (inr (inl h.fixes)))
+  tells (inr (inr (inr (inr h)))) = inr (inr (inr (inr h.finds)))
 
   pub decides : (source_faults source_faults' faults faults' : ℕ) (s : Status)
       → Ends words left left' source_faults source_faults' faults faults' held held' s → s ≡ verdict_status verdict
@@ -305,8 +401,8 @@ module _ (words : List (List ℕ)) (one : GivesOne words) (left left' held held'
       by_answer : IsAnswered h.due s f f' held held' → (s ≡ status.NoMemory) ⊎ ((s ≡ due.status) × Grows held due.text held')
       by_answer (inl a) =
           inr (a.0 ∙ ap (λ (d : Due). d.status) (sym same), subst (λ (d : Due). Grows held d.text held') (sym same) a.1)
-      by_answer (inr ((inl cut), part)) = absurd (calm' cut.1)
-      by_answer (inr ((inr cut), part)) = inl cut
+      by_answer (inr ((inl short), part)) = absurd (calm' short.1)
+      by_answer (inr ((inr short), part)) = inl short
   completes g g' f f' s (inr (inl h)) due called calm calm' = absurd (calm h.fault)
   completes g g' f f' s (inr (inr h)) due called calm calm' = inl h.is
 
@@ -333,6 +429,8 @@ has_number words Text row = tt
 has_number words Place row = tt
 has_number words Figure row = tt
 has_number words Cite row = tt
+has_number words Fixed row = tt
+has_number words Discover row = tt
 has_number words (Bench number) (text, is, written, some, few) = (some, few)
 
 module _ (words : List (List ℕ)) (one : GivesOne words) (order : Order) (given : IsOrder words order) where

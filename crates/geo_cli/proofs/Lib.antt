@@ -3,6 +3,8 @@ pub mod OrderLemmas
 pub mod FaultPlaces
 pub mod ValuesDue
 pub mod CitationsDue
+pub mod FixedDue
+pub mod SearchDue
 pub mod OneDue
 pub mod SomeDue
 pub mod Answered
@@ -13,3 +15,4 @@ pub mod Ended
 pub mod Decisive
 pub mod Placed
 pub mod Uncited
+pub mod InPart

@@ -8,6 +8,9 @@ use Rattle.geo_cli.specs.Values.{values_line}
 use Rattle.geo_cli.proofs.ValueLines.{one_line}
 use Rattle.geo_conditions.specs.Truth.{ProgramValues}
 use Rattle.geo_conditions.proofs.Sightings.{same_frees, same_numbers}
+use Rattle.geo_discover.proofs.FixedAlike.{fixed_ends_agree}
+use Rattle.geo_discover.proofs.OneSearch.{one_log, search_unique}
+use Rattle.geo_discover.specs.TextLines.{text_of_lines}
 use Rattle.geo_figure.specs.declared.errors.DrawError.{DrawError}
 use Rattle.geo_figure.specs.declared.errors.DrawError.TheVariants as drawing
 use Rattle.geo_figure.proofs.OneDrawing.{one_drawing}
@@ -19,23 +22,20 @@ use Rattle.geo_place.proofs.SameEvaluation.{same_answer}
 use Rattle.geo_place.proofs.ValueLists.{values_once}
 use Rattle.geo_program.specs.declared.program_type.Program.{Program}
 use Rattle.geo_cli.specs.declared.order.Command.{Command}
-use Rattle.geo_cli.specs.declared.order.Command.TheVariants.{Bench, Check, Cite, Figure, Place, Prove, Text}
+use Rattle.geo_cli.specs.declared.order.Command.TheVariants.{Bench, Check, Cite, Discover, Figure, Fixed, Place, Prove, Text}
 use Rattle.geo_cli.specs.declared.order.Order.{Order}
 use Rattle.geo_cli.specs.declared.status.Status.TheVariants.{Done, Syntax}
 use Rattle.geo_cli.specs.Due.{Due, IsAcceptedDue, IsBenchDue, IsCalledFor, IsCommandCall, IsCommandDue, IsDue, IsDueFor, IsDueForCitation}
-use Rattle.geo_cli.specs.Due.{IsDueForLog, IsDueForText, IsDueForValues, IsLogDue, IsReadCall, IsReadDue, IsReadableDue, IsRefusalDue}
+use Rattle.geo_cli.specs.Due.{IsDueForFixed, IsDueForLog, IsDueForSearch, IsDueForText, IsDueForValues, IsFixedDue, IsLogDue, IsReadCall, IsReadDue, IsReadableDue, IsRefusalDue, IsSearchDue}
 use Rattle.geo_cli.specs.Due.{IsRejectionDue, IsRestDue, IsValuesDue, TellsAnswer, TellsDrawing, TellsUncited, bench_text, cited_line}
-use Rattle.geo_cli.specs.Due.{conditions_text, fault_due, refusal_line, syntax_line}
+use Rattle.geo_cli.specs.Due.{TellsFixed, conditions_text, fault_due, fixed_line, refusal_line, stop_due, syntax_line}
 use Rattle.geo_cli.specs.Input.{IsInput, IsLong, log_limit, program_limit}
 use Rattle.geo_cli.specs.Orders.{IsOrder}
-use Rattle.geo_cli.specs.Status.{ending_status, refusal_status, verdict_status}
+use Rattle.geo_cli.specs.Status.{ending_status, refusal_status, search_status, verdict_status}
 use Rattle.geo_lowering.specs.declared.version.Version.TheVariants.{Two}
 use Rattle.geo_conditions.specs.Lists.{AreConditionItems, Found, ItemForm, all_found, condition_item}
 use Rattle.geo_conditions.proofs.Listings.{listed_once}
 use Rattle.geo_conditions.proofs.SamePrograms.{same_programs_mean_the_same}
-use Rattle.geo_logs.specs.Ends.{Ending}
-use Rattle.geo_logs.proofs.OneList.{defined_log_unique}
-use Rattle.elim_apply.specs.LemmaTable.{lemma_table}
 use Rattle.geo_parser.proofs.SpeltTexts.{one_refusal}
 use Rattle.geo_library.specs.declared.errors.CiteError.{CiteError}
 use Rattle.geo_library.specs.declared.errors.CiteError.TheVariants as citing
@@ -54,13 +54,10 @@ use Rattle.geo_program.proofs.OneProgram.{spells_one}
 use Rattle.geo_program.proofs.OneText.{same_lines, same_text}
 use Rattle.geo_program.proofs.Propositions.{program_well_formed}
 use Rattle.geo_prover.specs.Bench.{IsBench, bench_commands, corner, middles, quadrangle_commands}
-use Rattle.geo_prover.specs.Proving.{IsLogOf}
 use Rattle.log_checker.specs.Subjects.{source_lines}
 use Rattle.log_checker.proofs.AcceptedBytes.{accepted_bytes_tell_programs}
 use Rattle.log_checker.proofs.Judged.{accepted_bytes_are_not_refused}
 use Rattle.log_checker.proofs.OneStop.{bytes_are_refused_once}
-use Rattle.log_checker.proofs.OneSubject.{subjects_agree}
-use Rattle.proof_log.specs.declared.log.Line.{Line}
 use Rattle.proof_log.specs.Lines.{log_text, verdict_text}
 use Rattle.proof_printer.proofs.OneProof.{readable_proof_is_unique}
 use Rattle.geo_terms.specs.Stores.{Store}
@@ -90,13 +87,6 @@ not_past limit bytes input left' h long =
     omega (arith, size, h.short, long)
 
 -- WHAT THE BYTES OF A PROGRAM CALL FOR
-
--- programs with the same lines have one defined log
-one_log : (p q : Source) (steps : ℕ) (lines other : List Line) (ending ending' : Ending) → IsWellFormed p → IsWellFormed q
-    → source_lines p ≡ source_lines q → IsLogOf p steps lines ending → IsLogOf q steps other ending' → (lines ≡ other) × (ending ≡ ending')
-one_log p q steps lines other ending ending' v w e h g =
-    defined_log_unique lemma_table g.subject steps lines other ending ending'
-    (subjects_agree.defined p q h.subject g.subject v w e h.about g.about (h.version ∙ sym g.version) steps lines ending h.defined) g.defined
 
 -- bytes call for one log at most
 one_log_due : (steps : ℕ) (bytes : List ℕ) (due other : Due) → IsLogDue steps bytes due → IsLogDue steps bytes other → due ≡ other
@@ -265,6 +255,54 @@ one_due_for_citation steps bytes due other (inr h) (inr g) =
     (uncited_memory g.error other g.is) h.refused g.refused in
     one_uncited g.error due other (subst (λ (x : CiteError). TellsUncited x due) same h.is) g.is
 
+-- WHAT A PROGRAM CALLS FOR IN THE FIXED FRAME
+
+-- how the logs of programs with the same lines end calls for one line
+one_fixed : (p q : Source) (steps : ℕ) (due other : Due) → IsWellFormed p → IsWellFormed q → source_lines p ≡ source_lines q
+    → TellsFixed p steps due → TellsFixed q steps other → due ≡ other
+one_fixed p q steps due other w v e (inl (verdict, h, is)) (inl (verdict', g, is')) =
+    let same : verdict ≡ verdict' = fixed_ends_agree.verdicts p q steps w v e verdict verdict' h g in
+    is ∙ (λ i. record { text = fixed_line (same i); status = verdict_status (same i) }) ∙ sym is'
+one_fixed p q steps due other w v e (inl (verdict, h, is)) (inr (stop, n, g, is')) =
+    absurd (fixed_ends_agree.verdict_or_stop p q steps w v e verdict stop n h g)
+one_fixed p q steps due other w v e (inr (stop, n, h, is)) (inl (verdict, g, is')) =
+    absurd (fixed_ends_agree.verdict_or_stop q p steps v w (sym e) verdict stop n g h)
+one_fixed p q steps due other w v e (inr (stop, n, h, is)) (inr (stop', m, g, is')) =
+    let same = fixed_ends_agree.stops p q steps w v e stop stop' n m h g in
+    is ∙ (λ i. stop_due (same.1 i) (same.0 i)) ∙ sym is'
+
+one_fixed_due : (steps : ℕ) (bytes : List ℕ) (due other : Due) → IsFixedDue steps bytes due → IsFixedDue steps bytes other → due ≡ other
+one_fixed_due steps bytes due other h g =
+    let p = source_of h.program in
+    let q = source_of g.program in
+    let same : source_lines p ≡ source_lines q = ap (map line_text) (same_lines p q (spells_one bytes p q h.spelt g.spelt)) in
+    one_fixed p q steps due other h.spelt.well_formed g.spelt.well_formed same h.tells g.tells
+
+-- one thing is due at most for a program
+one_due_for_fixed : (steps : ℕ) (bytes : List ℕ) (due other : Due) → IsDueForFixed steps bytes due → IsDueForFixed steps bytes other → due ≡ other
+one_due_for_fixed steps bytes due other (inl h) (inl g) = one_fixed_due steps bytes due other h g
+one_due_for_fixed steps bytes due other (inl h) (inr g) = absurd (g.no_program.spells_none h.program h.spelt)
+one_due_for_fixed steps bytes due other (inr h) (inl g) = absurd (h.no_program.spells_none g.program g.spelt)
+one_due_for_fixed steps bytes due other (inr h) (inr g) = one_refusal_due bytes due other h g
+
+-- WHAT A PROGRAM CALLS FOR WHOSE RELATIONS ARE SOUGHT
+
+one_search_due : (steps : ℕ) (bytes : List ℕ) (due other : Due) → IsSearchDue steps bytes due → IsSearchDue steps bytes other → due ≡ other
+one_search_due steps bytes due other h g =
+    let p = source_of h.program in
+    let q = source_of g.program in
+    let same = search_unique p q steps h.lines g.lines h.end g.end h.spelt.well_formed g.spelt.well_formed
+    (spells_one bytes p q h.spelt g.spelt) h.searched g.searched in
+    h.is ∙ (λ i. record { text = text_of_lines (same.0 i); status = search_status (same.1 i) }) ∙ sym g.is
+
+-- one thing is due at most for a program
+one_due_for_search : (steps : ℕ) (bytes : List ℕ) (due other : Due) → IsDueForSearch steps bytes due → IsDueForSearch steps bytes other
+    → due ≡ other
+one_due_for_search steps bytes due other (inl h) (inl g) = one_search_due steps bytes due other h g
+one_due_for_search steps bytes due other (inl h) (inr g) = absurd (g.no_program.spells_none h.program h.spelt)
+one_due_for_search steps bytes due other (inr h) (inl g) = absurd (h.no_program.spells_none g.program g.spelt)
+one_due_for_search steps bytes due other (inr h) (inr g) = one_refusal_due bytes due other h g
+
 -- WHAT A NUMBER CALLS FOR
 
 -- the commands have the same forms over any store
@@ -332,6 +370,9 @@ one_command Text steps left left' due other h g = one_read log_limit (IsDueForTe
 one_command Place steps left left' due other h g = one_read program_limit (IsDueForValues false) (one_due_for_values false) left left' due other h g
 one_command Figure steps left left' due other h g = one_read program_limit (IsDueForValues true) (one_due_for_values true) left left' due other h g
 one_command Cite steps left left' due other h g = one_read log_limit (IsDueForCitation steps) (one_due_for_citation steps) left left' due other h g
+one_command Fixed steps left left' due other h g = one_read program_limit (IsDueForFixed steps) (one_due_for_fixed steps) left left' due other h g
+one_command Discover steps left left' due other h g =
+    one_read program_limit (IsDueForSearch steps) (one_due_for_search steps) left left' due other h g
 one_command (Bench number) steps left left' due other h g = one_bench_due number steps due other h g.1
 
 -- two things that a command calls for are one
@@ -351,6 +392,8 @@ calls_one Text steps left due other h g = one_call log_limit (IsDueForText steps
 calls_one Place steps left due other h g = one_call program_limit (IsDueForValues false) (one_due_for_values false) left due other h g
 calls_one Figure steps left due other h g = one_call program_limit (IsDueForValues true) (one_due_for_values true) left due other h g
 calls_one Cite steps left due other h g = one_call log_limit (IsDueForCitation steps) (one_due_for_citation steps) left due other h g
+calls_one Fixed steps left due other h g = one_call program_limit (IsDueForFixed steps) (one_due_for_fixed steps) left due other h g
+calls_one Discover steps left due other h g = one_call program_limit (IsDueForSearch steps) (one_due_for_search steps) left due other h g
 calls_one (Bench number) steps left due other h g = one_bench_due number steps due other h g
 
 -- two things that are called for are one

@@ -10,7 +10,7 @@ use Rattle.std.proofs.lemmas.Bool.{ne_eqb}
 use Rattle.std.proofs.lemmas.List.{get_or_append_left, get_or_at, get_or-map, take-append-drop, take_at, drop_at, take_all, drop_all, take-map, drop-map, length-map}
 use Rattle.std.proofs.lemmas.List.Sums.{position_or_len_is}
 use Rattle.geo_cli.specs.declared.order.Command.{Command}
-use Rattle.geo_cli.specs.declared.order.Command.TheVariants.{Prove, Check, Text, Bench, Cite, Figure, Place}
+use Rattle.geo_cli.specs.declared.order.Command.TheVariants.{Prove, Check, Text, Bench, Cite, Discover, Figure, Fixed, Place}
 use Rattle.geo_cli.specs.declared.order.Order.{Order}
 use Rattle.geo_cli.specs.Inner.OrderParts.{SplitsOff, front_of, tail_of}
 use Rattle.geo_cli.specs.Orders.{IsOrder, IsRow, TellsSteps}
@@ -43,6 +43,8 @@ row_no_option words Text row = one_word words (codes "text") refl row
 row_no_option words Place row = one_word words (codes "place") refl row
 row_no_option words Figure row = one_word words (codes "figure") refl row
 row_no_option words Cite row = one_word words (codes "cite") refl row
+row_no_option words Fixed row = one_word words (codes "fixed") refl row
+row_no_option words Discover row = one_word words (codes "discover") refl row
 row_no_option words (Bench number) (text, is, writes, low, high) =
     two_words words (codes "bench") text refl (numeral_no_minus text writes.digits) is
 
@@ -54,6 +56,8 @@ length-row words Text row = rw row (omega arith)
 length-row words Place row = rw row (omega arith)
 length-row words Figure row = rw row (omega arith)
 length-row words Cite row = rw row (omega arith)
+length-row words Fixed row = rw row (omega arith)
+length-row words Discover row = rw row (omega arith)
 length-row words (Bench number) (text, is, writes, low, high) = rw is (omega arith)
 
 -- words that are cut at the first that begins with `-`

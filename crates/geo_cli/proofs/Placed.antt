@@ -4,17 +4,22 @@ use Rattle.std.specs.Prelude.{Bool, true, false, ℤ, Result, Ok, Err}
 use Rattle.geo_base.specs.Devices.{Grows}
 use Rattle.geo_base.specs.declared.texts.Text.{Text as Written}
 use Rattle.geo_cli.specs.declared.order.Command.{Command}
-use Rattle.geo_cli.specs.declared.order.Command.TheVariants.{Bench, Check, Cite, Figure, Place, Prove, Text}
+use Rattle.geo_cli.specs.declared.order.Command.TheVariants.{Bench, Check, Cite, Discover, Figure, Fixed, Place, Prove, Text}
 use Rattle.geo_cli.specs.declared.status.Status.{Status}
 use Rattle.geo_cli.specs.declared.status.Status.TheVariants as status
-use Rattle.geo_cli.specs.Due.{Due, IsCommandDue, IsDue, IsDueForValues, IsRestDue, TellsAnswer, TellsDrawing}
+use Rattle.geo_cli.specs.Due.{Due, IsCommandDue, IsDue, IsDueForValues, IsRestDue, IsSearchDue, TellsAnswer, TellsDrawing}
+use Rattle.geo_cli.specs.Due.{TellsFixed}
 use Rattle.geo_cli.specs.Input.{IsInput, program_limit}
 use Rattle.geo_cli.specs.Orders.{IsOrder}
-use Rattle.geo_cli.specs.Run.{DoneTells, Ends, IsAnswered, IsCutShort, IsPlaceOf, PlacesInput, PlacesNone, ReadsValues, shown}
-use Rattle.geo_cli.specs.Status.{ending_status, refusal_status, status_number, stop_status, verdict_status}
+use Rattle.geo_cli.specs.Run.{DoneTells, Ends, Finds, IsAnswered, IsCutShort, IsPlaceOf, PlacesInput, PlacesNone, ReadsValues, shown}
+use Rattle.geo_cli.specs.Status.{ended_status, ending_status, refusal_status, search_status, status_number, stop_status, verdict_status}
 use Rattle.geo_cli.specs.Values.{HasValuesLine}
-use Rattle.geo_cli.proofs.Ended.{differ, uncited_number}
+use Rattle.geo_cli.specs.Words.{IsDiscover}
+use Rattle.geo_cli.proofs.Ended.{differ, few_steps, uncited_number}
 use Rattle.geo_conditions.specs.Truth.{ProgramValues, integers_of}
+use Rattle.geo_discover.specs.FoundTexts.{IsSearched, SearchEnd, cut, found, impossible, open_by}
+use Rattle.geo_discover.specs.TextLines.{text_of_lines}
+use Rattle.geo_discover.proofs.Findings.{searches_tell}
 use Rattle.geo_figure.specs.declared.errors.DrawError.{DrawError}
 use Rattle.geo_figure.specs.declared.errors.DrawError.TheVariants as drawing
 use Rattle.geo_figure.specs.Drawing.{IsDrawn}
@@ -29,6 +34,7 @@ use Rattle.geo_place.specs.Placing.{AnswersValues, Places, PlacesNothing}
 use Rattle.geo_poly.specs.declared.limits.Which.TheVariants.{Norm}
 use Rattle.geo_program.specs.declared.program_type.Program.{Program}
 use Rattle.geo_program.specs.Programs.{Spells, source_of}
+use Rattle.geo_program.specs.WellFormed.{Source}
 use Rattle.proof_log.specs.declared.log.Line.{Line}
 use Rattle.proof_log.specs.declared.log.Verdict.{Verdict}
 use Rattle.proof_log.specs.declared.log.Verdict.TheVariants.{Proved, False, Impossible}
@@ -47,10 +53,24 @@ stop_low : (n : ℕ) (stop : Stop) → status_number (stop_status n stop) < 13
 stop_low n spent = omega arith
 stop_low n (too_large which) = omega arith
 
+ended_low : (n : ℕ) (ending : Ending) → status_number (ended_status n ending) < 13
+ended_low n (ends_with v left) = verdict_low v
+ended_low n (ends_by stop) = stop_low n stop
+ended_low n too_long = omega arith
+
 pub ending_low : (lines : List Line) (ending : Ending) → status_number (ending_status lines ending) < 13
-ending_low lines (ends_with v left) = verdict_low v
-ending_low lines (ends_by stop) = stop_low (length lines) stop
-ending_low lines too_long = omega arith
+ending_low lines ending = ended_low (length lines) ending
+
+-- a search tells that all is written, or has a lower status
+pub search_low : (end : SearchEnd) → status_number (search_status end) < 14
+search_low (found count) = omega arith
+search_low (impossible k) = omega arith
+search_low (open_by ending n) = omega (arith, ended_low n ending)
+search_low cut = omega arith
+
+pub fixed_low : (p : Source) (steps : ℕ) (due : Due) → TellsFixed p steps due → status_number due.status < 13
+fixed_low p steps due (inl (v, ends, is)) = subst (λ (d : Due). status_number d.status < 13) (sym is) (verdict_low v)
+fixed_low p steps due (inr (stop, n, stops, is)) = subst (λ (d : Due). status_number d.status < 13) (sym is) (stop_low n stop)
 
 pub refusal_low : (n : ℕ) (r : Refusal) → status_number (refusal_status n r) < 13
 refusal_low n (rejected reason) = omega arith
@@ -168,6 +188,32 @@ module _ (words : List (List ℕ)) (left left' held held' : Option (List ℕ)) (
 
 -- THE RUN
 module _ (words : List (List ℕ)) (left left' held held' : Option (List ℕ)) where
+  -- a search in which no candidate is open
+  search_done : (steps : ℕ) → IsDiscover words steps → (bytes : List ℕ) → IsInput program_limit left bytes left' → (due : Due)
+      (h : IsSearchDue steps bytes due)
+      → due.status ≡ status.Done → Grows held due.text held' → Finds words left left' held held'
+  search_done steps command bytes input due h is written =
+      by h.end h.searched (subst (λ (d : Due). Grows held d.text held') h.is written) (sym (ap (λ (d : Due). d.status) h.is) ∙ is)
+    where
+      by : (end : SearchEnd) → IsSearched (source_of h.program) steps h.lines end → Grows held (text_of_lines h.lines) held'
+          → search_status end ≡ status.Done → Finds words left left' held held'
+      by (found count) searched grown same = record {
+        steps = steps;
+        command = command;
+        bytes = bytes;
+        input = input;
+        program = h.program;
+        spelt = h.spelt;
+        lines = h.lines;
+        count = count;
+        searched = searched;
+        written = grown;
+        told = searches_tell (source_of h.program) steps count h.lines h.spelt.well_formed (few_steps words Discover steps command) searched;
+      }
+      by (impossible k) searched grown same = not_done _ _ same (omega arith)
+      by (open_by ending n) searched grown same = not_done _ _ same (ended_low n ending)
+      by cut searched grown same = not_done _ _ same (omega arith)
+
   command_done : (command : Command) (steps : ℕ) → IsOrder words (record { command = command; steps = steps }) → (due : Due)
       → due.status ≡ status.Done
       → Grows held due.text held' → IsCommandDue command steps left left' due → DoneTells words left left' held held'
@@ -202,7 +248,7 @@ module _ (words : List (List ℕ)) (left left' held held' : Option (List ℕ)) w
       inr (inr (inl (values_done words left left' held held' true steps given bytes input due h is written)))
   command_done Cite steps given due is written (inl h) = not_done _ _ (sym (ap (λ (d : Due). d.status) h.1) ∙ is) (omega arith)
   command_done Cite steps given due is written (inr (bytes, input, inl h)) =
-      inr (inr (inr (record {
+      inr (inr (inr (inl (record {
         steps = steps;
         command = given;
         bytes = bytes;
@@ -211,9 +257,19 @@ module _ (words : List (List ℕ)) (left left' held held' : Option (List ℕ)) w
         cites = h.cites;
         written = subst (λ (d : Due). Grows held d.text held') h.is written;
         holds = citations_hold bytes steps h.text h.cites;
-      })))
+      }))))
   command_done Cite steps given due is written (inr (bytes, input, inr h)) =
       differ due.status status.Done _ is (uncited_number h.error due h.is).done
+  command_done Fixed steps given due is written (inl h) = not_done _ _ (sym (ap (λ (d : Due). d.status) h.1) ∙ is) (omega arith)
+  command_done Fixed steps given due is written (inr (bytes, input, inl h)) =
+      not_done due.status _ is (fixed_low (source_of h.program) steps due h.tells)
+  command_done Fixed steps given due is written (inr (bytes, input, inr h)) =
+      not_done _ _ (sym (ap (λ (d : Due). d.status) h.is) ∙ is) (omega arith)
+  command_done Discover steps given due is written (inl h) = not_done _ _ (sym (ap (λ (d : Due). d.status) h.1) ∙ is) (omega arith)
+  command_done Discover steps given due is written (inr (bytes, input, inl h)) =
+      inr (inr (inr (inr (search_done steps given bytes input due h is written))))
+  command_done Discover steps given due is written (inr (bytes, input, inr h)) =
+      not_done _ _ (sym (ap (λ (d : Due). d.status) h.is) ∙ is) (omega arith)
   command_done (Bench number) steps given due is written (unread, h) =
       not_done _ _ (sym (ap (λ (d : Due). d.status) h.is) ∙ is) (ending_low h.lines h.ending)
 
@@ -270,6 +326,14 @@ module _ (words : List (List ℕ)) (left left' held held' : Option (List ℕ)) (
       not_unmet k status.Done _ (sym (ap (λ (d : Due). d.status) h.is) ∙ is) (omega arith)
   command_unmet Cite steps given due is (inr (bytes, input, inr h)) =
       differ due.status (status.Unmet k) _ is (uncited_number h.error due h.is).unmet
+  command_unmet Fixed steps given due is (inl h) = low_unmet due _ _ (ap (λ (d : Due). d.status) h.1) is (omega arith)
+  command_unmet Fixed steps given due is (inr (bytes, input, inl h)) =
+      low_unmet due due.status _ refl is (fixed_low (source_of h.program) steps due h.tells)
+  command_unmet Fixed steps given due is (inr (bytes, input, inr h)) = low_unmet due _ _ (ap (λ (d : Due). d.status) h.is) is (omega arith)
+  command_unmet Discover steps given due is (inl h) = low_unmet due _ _ (ap (λ (d : Due). d.status) h.1) is (omega arith)
+  command_unmet Discover steps given due is (inr (bytes, input, inl h)) =
+      not_unmet k (search_status h.end) _ (sym (ap (λ (d : Due). d.status) h.is) ∙ is) (omega (arith, search_low h.end))
+  command_unmet Discover steps given due is (inr (bytes, input, inr h)) = low_unmet due _ _ (ap (λ (d : Due). d.status) h.is) is (omega arith)
   command_unmet (Bench number) steps given due is (unread, h) =
       low_unmet due _ _ (ap (λ (d : Due). d.status) h.is) is (ending_low h.lines h.ending)
 

@@ -1,7 +1,7 @@
 -- A run that answers that a line of the cited program asks what is not so.
 use Rattle.std.proofs.Common.{◌≡◌, inl, inr, ℕ, ◌<◌, true, false, List, Option, sym, ◌∙◌, ap, subst, arith}
 use Rattle.geo_cli.specs.declared.order.Command.{Command}
-use Rattle.geo_cli.specs.declared.order.Command.TheVariants.{Bench, Check, Cite, Figure, Place, Prove, Text}
+use Rattle.geo_cli.specs.declared.order.Command.TheVariants.{Bench, Check, Cite, Discover, Figure, Fixed, Place, Prove, Text}
 use Rattle.geo_cli.specs.declared.status.Status.{Status}
 use Rattle.geo_cli.specs.declared.status.Status.TheVariants as status
 use Rattle.geo_cli.specs.Due.{Due, IsCommandDue, IsDue, TellsUncited}
@@ -11,12 +11,13 @@ use Rattle.geo_cli.specs.Run.{CitesNone, Ends, IsAnswered, IsCutShort}
 use Rattle.geo_cli.specs.Status.{status_number}
 use Rattle.geo_cli.specs.Words.{IsCite}
 use Rattle.geo_cli.proofs.Ended.{differ, values_number}
-use Rattle.geo_cli.proofs.Placed.{ending_low, refusal_low, verdict_low}
+use Rattle.geo_cli.proofs.Placed.{ending_low, fixed_low, refusal_low, search_low, verdict_low}
 use Rattle.geo_library.specs.declared.errors.CiteError.{CiteError}
 use Rattle.geo_library.specs.declared.errors.CiteError.TheVariants as citing
 use Rattle.geo_library.specs.Citations.{Misses}
 use Rattle.geo_library.specs.Told.{TellsRefusal}
 use Rattle.geo_library.specs.Working.{no_instance}
+use Rattle.geo_program.specs.Programs.{source_of}
 
 same_line : (j k : ℕ) → status.NotInstance j ≡ status.NotInstance k → j ≡ k
 same_line j k e = ap number e
@@ -76,6 +77,13 @@ module _ (words : List (List ℕ)) (left left' : Option (List ℕ)) (line : ℕ)
   command_missed Cite steps given due is (inl h) = low_missed due _ _ h.1 is (omega arith)
   command_missed Cite steps given due is (inr (bytes, input, inl h)) = low_missed due _ _ h.is is (omega arith)
   command_missed Cite steps given due is (inr (bytes, input, inr h)) = uncited_missed steps given bytes input h.error due h.refused h.is is
+  command_missed Fixed steps given due is (inl h) = low_missed due _ _ h.1 is (omega arith)
+  command_missed Fixed steps given due is (inr (bytes, input, inl h)) =
+      not_missed due.status _ is (lower _ (fixed_low (source_of h.program) steps due h.tells))
+  command_missed Fixed steps given due is (inr (bytes, input, inr h)) = low_missed due _ _ h.is is (omega arith)
+  command_missed Discover steps given due is (inl h) = low_missed due _ _ h.1 is (omega arith)
+  command_missed Discover steps given due is (inr (bytes, input, inl h)) = low_missed due _ _ h.is is (omega (arith, search_low h.end))
+  command_missed Discover steps given due is (inr (bytes, input, inr h)) = low_missed due _ _ h.is is (omega arith)
   command_missed (Bench number) steps given due is (unread, h) =
       low_missed due _ _ h.is is (lower _ (ending_low h.lines h.ending))
 

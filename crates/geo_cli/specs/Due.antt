@@ -3,18 +3,21 @@ use Rattle.std.specs.Prelude.{◌≡◌, ◌≢◌, ◌⊎◌, ℕ, suc, ◌+◌
 use Rattle.std.specs.Prelude.{Option, None, Some, Result, Ok, Err, codes}
 use Rattle.std.specs.Fmt.{decimal}
 use Rattle.geo_cli.specs.declared.order.Command.{Command}
-use Rattle.geo_cli.specs.declared.order.Command.TheVariants.{Bench, Check, Cite, Figure, Place, Prove, Text}
+use Rattle.geo_cli.specs.declared.order.Command.TheVariants.{Bench, Check, Cite, Discover, Figure, Fixed, Place, Prove, Text}
 use Rattle.geo_cli.specs.declared.order.Order.{Order}
 use Rattle.geo_cli.specs.declared.status.Status.{Status}
 use Rattle.geo_cli.specs.declared.status.Status.TheVariants.{Done, NotInstance, Rejected, Usage, Syntax, TooLong, Unmet}
 use Rattle.geo_cli.specs.Input.{IsInput, IsLong, log_limit, program_limit}
 use Rattle.geo_cli.specs.Orders.{IsOrder}
-use Rattle.geo_cli.specs.Status.{ending_status, refusal_status, stop_status, verdict_status}
+use Rattle.geo_cli.specs.Status.{ending_status, refusal_status, search_status, stop_status, verdict_status}
 use Rattle.geo_cli.specs.Values.{HasNoValuesLine, HasValuesLine, values_line}
 use Rattle.geo_cli.specs.Words.{IsCheck, IsNoCommand, IsProve, IsText}
 use Rattle.geo_base.specs.declared.texts.Text.{Text as Written}
 use Rattle.geo_conditions.specs.Lists.{AreConditionItems, ItemForm}
 use Rattle.geo_conditions.specs.Truth.{ProgramValues, free_points, integers_of}
+use Rattle.geo_discover.specs.FixedEnds.{EndsWithVerdict, StopsAtLine}
+use Rattle.geo_discover.specs.FoundTexts.{IsSearched, SearchEnd}
+use Rattle.geo_discover.specs.TextLines.{text_of_lines}
 use Rattle.geo_figure.specs.declared.errors.DrawError.{DrawError}
 use Rattle.geo_figure.specs.declared.errors.DrawError.TheVariants as drawing
 use Rattle.geo_figure.specs.Drawing.{IsDrawn}
@@ -245,6 +248,41 @@ pub record IsUncitedDue (steps : ℕ) (bytes : List ℕ) (due : Due) : Type 0 wh
 abbrev pub IsDueForCitation : ℕ → List ℕ → Due → Type 0
 IsDueForCitation steps bytes due = IsCitedDue steps bytes due ⊎ IsUncitedDue steps bytes due
 
+-- WHAT A PROGRAM CALLS FOR IN THE FIXED FRAME
+-- `fixed proved`
+abbrev pub fixed_line : Verdict → List ℕ
+fixed_line verdict = codes "fixed " ++ verdict_text verdict ++ 10 ∷ []
+
+-- the program's log in the fixed frame ends with this verdict, or at this stop
+abbrev pub TellsFixed : Source → ℕ → Due → Type 0
+TellsFixed p steps due =
+    ((verdict : Verdict) × EndsWithVerdict p steps verdict × (due ≡ record { text = fixed_line verdict; status = verdict_status verdict }))
+    ⊎ ((stop : Stop) × (number : ℕ) × StopsAtLine p steps stop number × (due ≡ stop_due number stop))
+
+-- the bytes spell a program: how its log in the fixed frame, with so many steps, ends
+pub record IsFixedDue (steps : ℕ) (bytes : List ℕ) (due : Due) : Type 0 where
+  pub program : Program
+  pub spelt : Spells bytes program
+  pub tells : TellsFixed (source_of program) steps due
+
+-- what `fixed` is to write of these bytes
+abbrev pub IsDueForFixed : ℕ → List ℕ → Due → Type 0
+IsDueForFixed steps bytes due = IsFixedDue steps bytes due ⊎ IsRefusalDue bytes due
+
+-- WHAT A PROGRAM CALLS FOR WHOSE RELATIONS ARE SOUGHT
+-- the bytes spell a program: the text of its search, with so many steps for each candidate
+pub record IsSearchDue (steps : ℕ) (bytes : List ℕ) (due : Due) : Type 0 where
+  pub program : Program
+  pub spelt : Spells bytes program
+  pub lines : List (List ℕ)
+  pub end : SearchEnd
+  pub searched : IsSearched (source_of program) steps lines end
+  pub is : due ≡ record { text = text_of_lines lines; status = search_status end }
+
+-- what `discover` is to write of these bytes
+abbrev pub IsDueForSearch : ℕ → List ℕ → Due → Type 0
+IsDueForSearch steps bytes due = IsSearchDue steps bytes due ⊎ IsRefusalDue bytes due
+
 -- WHAT A NUMBER CALLS FOR
 
 -- `points 10`
@@ -299,6 +337,8 @@ IsCommandDue Text steps left left' due = IsReadDue log_limit (IsDueForText steps
 IsCommandDue Place steps left left' due = IsReadDue program_limit (IsDueForValues false) left left' due
 IsCommandDue Figure steps left left' due = IsReadDue program_limit (IsDueForValues true) left left' due
 IsCommandDue Cite steps left left' due = IsReadDue log_limit (IsDueForCitation steps) left left' due
+IsCommandDue Fixed steps left left' due = IsReadDue program_limit (IsDueForFixed steps) left left' due
+IsCommandDue Discover steps left left' due = IsReadDue program_limit (IsDueForSearch steps) left left' due
 IsCommandDue (Bench number) steps left left' due = (left' ≡ left) × IsBenchDue number steps due
 
 -- they give an order
@@ -325,6 +365,8 @@ IsCommandCall Text steps left due = IsReadCall log_limit (IsDueForText steps) le
 IsCommandCall Place steps left due = IsReadCall program_limit (IsDueForValues false) left due
 IsCommandCall Figure steps left due = IsReadCall program_limit (IsDueForValues true) left due
 IsCommandCall Cite steps left due = IsReadCall log_limit (IsDueForCitation steps) left due
+IsCommandCall Fixed steps left due = IsReadCall program_limit (IsDueForFixed steps) left due
+IsCommandCall Discover steps left due = IsReadCall program_limit (IsDueForSearch steps) left due
 IsCommandCall (Bench number) steps left due = IsBenchDue number steps due
 
 -- what the words call for then

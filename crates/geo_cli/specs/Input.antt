@@ -2,7 +2,7 @@
 use Rattle.std.specs.Prelude.{◌≡◌, ℕ, ◌+◌, ◌≤◌, List, length, Option}
 use Rattle.geo_base.specs.Devices.{HasEnded, Loses}
 use Rattle.geo_cli.specs.declared.order.Command.{Command}
-use Rattle.geo_cli.specs.declared.order.Command.TheVariants.{Bench, Check, Cite, Figure, Place, Prove, Text}
+use Rattle.geo_cli.specs.declared.order.Command.TheVariants.{Bench, Check, Cite, Discover, Figure, Fixed, Place, Prove, Text}
 
 -- the most bytes of a program
 abbrev pub program_limit : ℕ
@@ -20,6 +20,8 @@ limit_of Text = log_limit
 limit_of Place = program_limit
 limit_of Figure = program_limit
 limit_of Cite = log_limit
+limit_of Fixed = program_limit
+limit_of Discover = program_limit
 limit_of (Bench number) = 0
 
 -- all bytes of the source were read, and they are within the limit

@@ -2,7 +2,7 @@
 use Rattle.std.specs.Prelude.{◌≡◌, ℕ, ◌≤◌, List, [], ◌∷◌, ◌++◌, codes}
 use Rattle.geo_cli.specs.Numbers.{Writes}
 use Rattle.geo_cli.specs.declared.order.Command.{Command}
-use Rattle.geo_cli.specs.declared.order.Command.TheVariants.{Prove, Check, Text, Place, Figure, Cite, Bench}
+use Rattle.geo_cli.specs.declared.order.Command.TheVariants.{Prove, Check, Text, Place, Figure, Cite, Fixed, Discover, Bench}
 use Rattle.geo_cli.specs.declared.order.Order.{Order}
 
 -- the words are the row of the command
@@ -13,6 +13,8 @@ IsRow words Text = words ≡ codes "text" ∷ []
 IsRow words Place = words ≡ codes "place" ∷ []
 IsRow words Figure = words ≡ codes "figure" ∷ []
 IsRow words Cite = words ≡ codes "cite" ∷ []
+IsRow words Fixed = words ≡ codes "fixed" ∷ []
+IsRow words Discover = words ≡ codes "discover" ∷ []
 IsRow words (Bench number) =
     (text : List ℕ) × (words ≡ codes "bench" ∷ text ∷ []) × Writes text number × (1 ≤ number) × (number ≤ 60)
 

@@ -1,14 +1,19 @@
 -- How a run ends, by its words, the bytes that the source has still to give, the bytes that the sink holds, and the counts of faults of
 -- both. A name with a prime is the same after the run.
-use Rattle.std.specs.Prelude.{◌≡◌, ◌⊎◌, ℕ, Bool, true, false, List, length, take, Option}
+use Rattle.std.specs.Prelude.{◌≡◌, ◌⊎◌, ℕ, Bool, true, false, List, [], ◌∷◌, length, take, Option}
+use Rattle.std.specs.List.{AllByRecursion}
 use Rattle.geo_base.specs.Devices.{Grows, HasRisen}
 use Rattle.geo_cli.specs.declared.status.Status.{Status}
-use Rattle.geo_cli.specs.declared.status.Status.TheVariants.{NoMemory, ReadFault, WriteFault}
-use Rattle.geo_cli.specs.Due.{Due, IsDue, bench_text, cited_line}
-use Rattle.geo_cli.specs.Input.{IsInput, log_limit, program_limit}
+use Rattle.geo_cli.specs.declared.status.Status.TheVariants.{NoMemory, ReadFault, Spent, TooLarge, TooLong, WriteFault}
+use Rattle.geo_cli.specs.Due.{Due, IsDue, bench_text, cited_line, fixed_line}
+use Rattle.geo_cli.specs.Input.{IsInput, IsLong, log_limit, program_limit}
+use Rattle.geo_cli.specs.Status.{search_status}
 use Rattle.geo_cli.specs.Values.{HasValuesLine}
-use Rattle.geo_cli.specs.Words.{IsBenchOf, IsCheck, IsCite, IsFigure, IsPlace, IsProve, IsText, ReadsNothing}
-use Rattle.geo_conditions.specs.Truth.{Holds, Meets, ProgramValues, integers_of}
+use Rattle.geo_cli.specs.Words.{IsBenchOf, IsCheck, IsCite, IsDiscover, IsFigure, IsFixed, IsPlace, IsProve, IsText, ReadsNothing}
+use Rattle.geo_conditions.specs.Truth.{Holds, IsImpossible, Meets, ProgramValues, integers_of}
+use Rattle.geo_discover.specs.FixedEnds.{EndsWithVerdict}
+use Rattle.geo_discover.specs.FoundTexts.{FirstIsAccepted, IsSearched, IsTold, IsToldInPart, SearchEnd, found}
+use Rattle.geo_discover.specs.TextLines.{text_of_lines}
 use Rattle.geo_figure.specs.Drawing.{drawing}
 use Rattle.geo_library.specs.Citations.{IsCitation, Misses}
 use Rattle.geo_library.specs.Working.{no_instance}
@@ -19,14 +24,18 @@ use Rattle.geo_place.specs.declared.placed.Placed.{Placed}
 use Rattle.geo_place.specs.Placing.{Places, PlacesNothing, points_text}
 use Rattle.geo_points.specs.Placements.{Placement}
 use Rattle.geo_program.specs.declared.program_type.Program.{Program}
+use Rattle.geo_program.specs.declared.statements.Statement.{Statement}
 use Rattle.geo_program.specs.Programs.{Spells, source_of}
+use Rattle.geo_program.specs.Relations.{with_statement}
 use Rattle.geo_program.specs.WellFormed.{Source}
 use Rattle.geo_prover.specs.Bench.{IsBench}
 use Rattle.geo_prover.specs.Proving.{IsLogOf}
 use Rattle.log_checker.specs.Accepted.{Accepts, BytesMean}
+use Rattle.log_checker.specs.Laws.{IsDecided}
 use Rattle.proof_log.specs.declared.log.Line.{Line}
 use Rattle.proof_log.specs.declared.log.Verdict.{Verdict}
-use Rattle.proof_log.specs.Lines.{log_text}
+use Rattle.proof_log.specs.declared.log.Verdict.TheVariants.{Impossible}
+use Rattle.proof_log.specs.Lines.{log_text, verdict_text}
 use Rattle.proof_printer.specs.Proofs.{IsReadableProof}
 
 -- THE MAIN CLAUSE
@@ -62,10 +71,38 @@ pub record Benches (words : List (List ℕ)) (verdict : Verdict) : Type 0 where
   pub text : List ℕ
   pub means : BytesMean text (source_of program) verdict
 
+-- the words are `fixed` with so many steps, the source gave these bytes and no more, they spell this program, and the sink holds the line
+-- of the verdict besides; and the verdict decides: which of the three holds of the program
+pub record Fixes (words : List (List ℕ)) (left left' held held' : Option (List ℕ)) (verdict : Verdict) : Type 0 where
+  pub steps : ℕ
+  pub command : IsFixed words steps
+  pub bytes : List ℕ
+  pub input : IsInput program_limit left bytes left'
+  pub program : Program
+  pub spelt : Spells bytes program
+  pub written : Grows held (fixed_line verdict) held'
+  pub decided : IsDecided (source_of program) verdict
+
+-- the words are `discover` with so many steps, the source gave these bytes and no more, they spell this program, and the sink holds the one
+-- line `impossible k` besides; and no placement meets the commands, whatever the statement is
+pub record FindsImpossible (words : List (List ℕ)) (left left' held held' : Option (List ℕ)) (verdict : Verdict) : Type 0 where
+  pub steps : ℕ
+  pub command : IsDiscover words steps
+  pub bytes : List ℕ
+  pub input : IsInput program_limit left bytes left'
+  pub program : Program
+  pub spelt : Spells bytes program
+  pub number : ℕ
+  pub is : verdict ≡ Impossible number
+  pub written : Grows held (text_of_lines (verdict_text verdict ∷ [])) held'
+  pub none : (statement : Statement) → IsImpossible (with_statement (source_of program) statement)
+
 -- what a verdict that is answered tells, by the command
 abbrev pub VerdictTells : List (List ℕ) → Option (List ℕ) → Option (List ℕ) → Option (List ℕ) → Option (List ℕ) → Verdict → Type 0
 VerdictTells words left left' held held' verdict =
-    Proves words left left' held held' verdict ⊎ (Checks words left left' verdict ⊎ Benches words verdict)
+    Proves words left left' held held' verdict
+    ⊎ (Checks words left left' verdict
+    ⊎ (Benches words verdict ⊎ (Fixes words left left' held held' verdict ⊎ FindsImpossible words left left' held held' verdict)))
 
 -- THE LOG BEHIND A VERDICT
 -- the text is a log of the program that is accepted with these steps and this verdict
@@ -91,10 +128,23 @@ pub record BenchesLog (words : List (List ℕ)) (held held' : Option (List ℕ))
   pub accepted : Accepts benches.text benches.steps (source_of benches.program) verdict
   pub written : Grows held (bench_text benches.number (length form.construction.steps) benches.steps lines (ends_with verdict left)) held'
 
+-- the log of the program in the fixed frame with these steps, which is not written, ends with this verdict
+pub record FixesByLog (words : List (List ℕ)) (left left' held held' : Option (List ℕ)) (verdict : Verdict) : Type 0 where
+  pub fixes : Fixes words left left' held held' verdict
+  pub ends : EndsWithVerdict (source_of fixes.program) fixes.steps verdict
+
+-- so does an accepted log of the first candidate, which is not written
+pub record FindsImpossibleByLog (words : List (List ℕ)) (left left' held held' : Option (List ℕ)) (verdict : Verdict) : Type 0 where
+  pub finds : FindsImpossible words left left' held held' verdict
+  pub first : FirstIsAccepted (source_of finds.program) finds.steps verdict
+
 -- which log it is that tells the verdict, by the command
 abbrev pub VerdictAccepted : List (List ℕ) → Option (List ℕ) → Option (List ℕ) → Option (List ℕ) → Option (List ℕ) → Verdict → Type 0
 VerdictAccepted words left left' held held' verdict =
-    ProvesByLog words left left' held held' verdict ⊎ (ChecksLog words left left' verdict ⊎ BenchesLog words held held' verdict)
+    ProvesByLog words left left' held held' verdict
+    ⊎ (ChecksLog words left left' verdict
+    ⊎ (BenchesLog words held held' verdict
+    ⊎ (FixesByLog words left left' held held' verdict ⊎ FindsImpossibleByLog words left left' held held' verdict)))
 
 -- the words are `text` with so many steps, the source gave these bytes and no more, they are an accepted log, and the sink holds its
 -- readable proof besides
@@ -165,11 +215,54 @@ pub record CitesNone (words : List (List ℕ)) (left left' : Option (List ℕ)) 
   pub input : IsInput log_limit left bytes left'
   pub misses : Misses bytes steps (no_instance line)
 
--- what is told where all is written: a readable proof, placed points, a drawing, or a statement that is cited
+-- the words are `discover` with so many steps, the source gave these bytes and no more, they spell this program, and the sink holds the
+-- text of its search besides, in which no candidate is open; and every candidate is told: it has a relation line just where the program
+-- with it is true, and the log behind that line is accepted
+pub record Finds (words : List (List ℕ)) (left left' held held' : Option (List ℕ)) : Type 0 where
+  pub steps : ℕ
+  pub command : IsDiscover words steps
+  pub bytes : List ℕ
+  pub input : IsInput program_limit left bytes left'
+  pub program : Program
+  pub spelt : Spells bytes program
+  pub lines : List (List ℕ)
+  pub count : ℕ
+  pub searched : IsSearched (source_of program) steps lines (found count)
+  pub written : Grows held (text_of_lines lines) held'
+  pub told : AllByRecursion (IsTold (source_of program) steps) searched.findings
+
+-- what is told where all is written: a readable proof, placed points, a drawing, a statement that is cited, or the relations of a figure
 abbrev pub DoneTells : List (List ℕ) → Option (List ℕ) → Option (List ℕ) → Option (List ℕ) → Option (List ℕ) → Type 0
 DoneTells words left left' held held' =
     Prints words left left' held held'
-    ⊎ (PlacesInput false words left left' held held' ⊎ (PlacesInput true words left left' held held' ⊎ Cites words left left' held held'))
+    ⊎ (PlacesInput false words left left' held held'
+    ⊎ (PlacesInput true words left left' held held' ⊎ (Cites words left left' held held' ⊎ Finds words left left' held held')))
+
+-- the status tells a stop, or a text that is too long
+abbrev pub IsUnfinished : Status → Type 0
+IsUnfinished (Spent line) = Unit {0}
+IsUnfinished (TooLarge line which) = Unit {0}
+IsUnfinished TooLong = Unit {0}
+IsUnfinished _ = ⊥
+
+-- the source gave these bytes and no more, they spell this program, and the sink holds the text of its search besides, as far as it goes;
+-- and so is told every candidate that is not open
+pub record FindsInPart (steps : ℕ) (left left' held held' : Option (List ℕ)) (status : Status) : Type 0 where
+  pub bytes : List ℕ
+  pub input : IsInput program_limit left bytes left'
+  pub program : Program
+  pub spelt : Spells bytes program
+  pub lines : List (List ℕ)
+  pub end : SearchEnd
+  pub searched : IsSearched (source_of program) steps lines end
+  pub is : status ≡ search_status end
+  pub written : Grows held (text_of_lines lines) held'
+  pub told : AllByRecursion (IsToldInPart (source_of program) steps) searched.findings
+
+-- what `discover` with so many steps tells then, unless the input is too long
+abbrev pub SearchesInPart : ℕ → Option (List ℕ) → Option (List ℕ) → Option (List ℕ) → Option (List ℕ) → Status → Type 0
+SearchesInPart steps left left' held held' status =
+    (IsLong program_limit left left' × (status ≡ TooLong)) ⊎ FindsInPart steps left left' held held' status
 
 -- THE ENDS OF A RUN
 -- writing was cut short: a write failed, or memory ran out

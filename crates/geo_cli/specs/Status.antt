@@ -3,6 +3,7 @@ use Rattle.std.specs.Prelude.{ℕ, List, length}
 use Rattle.geo_cli.specs.declared.status.Status.{Status}
 use Rattle.geo_cli.specs.declared.status.Status.TheVariants.{Proved, False, Impossible, Usage, Syntax, TooLarge, Spent, Unmet, NotInstance}
 use Rattle.geo_cli.specs.declared.status.Status.TheVariants.{ReadFault, WriteFault, NoMemory, Rejected, TooLong, Done}
+use Rattle.geo_discover.specs.FoundTexts.{SearchEnd, cut, found, impossible, open_by}
 use Rattle.geo_logs.specs.Ends.{Ending, ends_by, ends_with, too_long}
 use Rattle.geo_logs.specs.Judging.{Refusal, number_of, rejected, stopped}
 use Rattle.geo_logs.specs.Moves.{Stop, spent, too_large}
@@ -39,11 +40,22 @@ abbrev pub stop_status : ℕ → Stop → Status
 stop_status number spent = Spent number
 stop_status number (too_large which) = TooLarge number which
 
--- the answer that tells how a log of these lines ends; a stop is told with the number of its line, the last
+-- the answer that tells how a log ends; a stop is told with the number of its line
+abbrev pub ended_status : ℕ → Ending → Status
+ended_status number (ends_with v left) = verdict_status v
+ended_status number (ends_by stop) = stop_status number stop
+ended_status number too_long = TooLong
+
+-- the answer that tells how a log of these lines ends; the line of a stop is the last
 abbrev pub ending_status : List Line → Ending → Status
-ending_status lines (ends_with v left) = verdict_status v
-ending_status lines (ends_by stop) = stop_status (length lines) stop
-ending_status lines too_long = TooLong
+ending_status lines ending = ended_status (length lines) ending
+
+-- the answer that tells how a search for relations ends
+abbrev pub search_status : SearchEnd → Status
+search_status (found count) = Done
+search_status (impossible k) = Impossible k
+search_status (open_by ending number) = ended_status number ending
+search_status cut = TooLong
 
 -- the answer that tells why a log is refused at the line of this number
 abbrev pub refusal_status : ℕ → Refusal → Status

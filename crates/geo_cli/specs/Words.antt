@@ -2,7 +2,7 @@
 use Rattle.std.specs.Prelude.{ℕ, ◌⊎◌, List, map}
 use Rattle.std.specs.String.{string_bytes}
 use Rattle.std.specs.declared.string.String.{String}
-use Rattle.geo_cli.specs.declared.order.Command.TheVariants.{Bench, Check, Cite, Figure, Place, Prove, Text}
+use Rattle.geo_cli.specs.declared.order.Command.TheVariants.{Bench, Check, Cite, Discover, Figure, Fixed, Place, Prove, Text}
 use Rattle.geo_cli.specs.declared.order.Order.{Order}
 use Rattle.geo_cli.specs.Orders.{IsOrder}
 
@@ -33,6 +33,14 @@ IsFigure words steps = IsOrder words (record { command = Figure; steps = steps }
 -- the words are `cite`, with so many steps
 abbrev pub IsCite : List (List ℕ) → ℕ → Type 0
 IsCite words steps = IsOrder words (record { command = Cite; steps = steps })
+
+-- the words are `fixed`, with so many steps
+abbrev pub IsFixed : List (List ℕ) → ℕ → Type 0
+IsFixed words steps = IsOrder words (record { command = Fixed; steps = steps })
+
+-- the words are `discover`, with so many steps
+abbrev pub IsDiscover : List (List ℕ) → ℕ → Type 0
+IsDiscover words steps = IsOrder words (record { command = Discover; steps = steps })
 
 -- the words are `bench` and this number, with so many steps
 abbrev pub IsBenchOf : List (List ℕ) → ℕ → ℕ → Type 0

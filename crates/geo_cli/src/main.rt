@@ -1,7 +1,8 @@
 //! Proves a statement of plane geometry that standard input spells, and writes the log of the
 //! proof; or checks a log that standard input gives, or writes it as a proof that a person reads;
 //! or proves a generated program; or places or draws the points of a program at given values; or
-//! cites the theorem of a log at another figure.
+//! cites the theorem of a log at another figure; or decides a program with its first point at the
+//! origin; or writes the relations of its figure, each with its log.
 #![tactic(auto)]
 
 use crate::run::run;
@@ -16,6 +17,8 @@ mod answers;
 mod benching;
 mod checking;
 mod citing;
+mod discovering;
+mod fixing;
 mod judging;
 mod numbers;
 mod order;

@@ -29,6 +29,10 @@ pub enum Command {
     Figure,
     /// Cite the theorem of a log at a program.
     Cite,
+    /// Decide a program with its first point at the origin.
+    Fixed,
+    /// Write the relations of a figure.
+    Discover,
     /// Prove the generated program of this number, from 1 to 60.
     Bench(u32),
 }
@@ -168,6 +172,8 @@ fn plain_command(name: &str) -> Option<Command>
         "place" => Some(Command::Place),
         "figure" => Some(Command::Figure),
         "cite" => Some(Command::Cite),
+        "fixed" => Some(Command::Fixed),
+        "discover" => Some(Command::Discover),
         _ => None,
     }
 }

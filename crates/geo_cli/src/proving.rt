@@ -1,7 +1,7 @@
 //! The command `prove`: a program is read, and its log written.
 ghost use Rattle.std.specs.Prelude.{◌≡◌, ◌≢◌, ◌≤◌, ℕ, List, length};
-ghost use Rattle.geo_cli.specs.Due.{IsDueFor, SpellsNone};
-ghost use Rattle.geo_cli.specs.Inner.Answering.{AnswersBytes, AnswersInput};
+ghost use Rattle.geo_cli.specs.Due.{IsDueFor, IsRefusalDue, SpellsNone};
+ghost use Rattle.geo_cli.specs.Inner.Answering.{AnswersBytes, AnswersDue, AnswersInput};
 ghost use Rattle.geo_cli.specs.Input.{Takes, program_limit};
 ghost use Rattle.geo_program.specs.Programs.{Spells};
 
@@ -63,9 +63,9 @@ fn prove_bytes<K: Sink>(alloc: Global, bytes: &[u8], steps: u64, sink: &mut K) -
 }
 
 /// Tells why bytes spell no program.
-fn refuse<K: Sink>(alloc: Global, fault: Fault, sink: &mut K) -> Status
-    ensures answers { (bytes : List ℕ) → SpellsNone bytes fault → (steps : ℕ)
-        → AnswersBytes steps bytes (K.faults sink.old) (K.faults sink.new)
+pub fn refuse<K: Sink>(alloc: Global, fault: Fault, sink: &mut K) -> Status
+    ensures answers { (bytes : List ℕ) → SpellsNone bytes fault
+        → AnswersDue (IsRefusalDue bytes) (K.faults sink.old) (K.faults sink.new)
         (K.held sink.old) (K.held sink.new) result }
     ensures reads { result ≢ Status.ReadFault }
     ensures faults { K.faults sink.old ≤ K.faults sink.new }

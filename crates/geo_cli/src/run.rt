@@ -8,16 +8,19 @@ ghost use Rattle.geo_cli.specs.Input.{Takes, limit_of};
 ghost use Rattle.geo_cli.specs.Orders.{IsOrder};
 ghost use Rattle.geo_cli.specs.declared.order.Command.TheVariants.{Bench};
 ghost use Rattle.geo_cli.specs.declared.order.Order.{Order};
-ghost use Rattle.geo_cli.specs.Run.{CitesNone, DoneTells, Ends, PlacesNone};
+ghost use Rattle.geo_cli.specs.Run.{CitesNone, DoneTells, Ends, IsUnfinished, PlacesNone};
+ghost use Rattle.geo_cli.specs.Run.{SearchesInPart};
 ghost use Rattle.geo_cli.specs.Run.{VerdictAccepted, VerdictTells};
 ghost use Rattle.geo_cli.specs.Status.{verdict_status};
-ghost use Rattle.geo_cli.specs.Words.{ReadsNothing, bytes_of_words};
+ghost use Rattle.geo_cli.specs.Words.{IsDiscover, ReadsNothing, bytes_of_words};
 ghost use Rattle.proof_log.specs.declared.log.Verdict.{Verdict};
 
 use crate::answers::{USAGE, answer};
 use crate::benching::run_bench;
 use crate::checking::run_check;
 use crate::citing::run_cite;
+use crate::discovering::run_discover;
+use crate::fixing::run_fixed;
 use crate::order::{Command, Order, order_of};
 use crate::placing::run_place;
 use crate::printing::run_text;
@@ -31,8 +34,10 @@ use std::alloc::Global;
 /// reads a log to its end, and then writes what it tells, or the log as a proof that a person
 /// reads. For `place` and `figure` it reads values and a program to their end, and then writes
 /// the program's points at these values, or draws them. For `cite` it reads a log, names and a
-/// program to the end, and then writes the statement that they cite. For `bench` it reads nothing.
-/// It writes nothing before the words and the reading are done.
+/// program to the end, and then writes the statement that they cite. For `fixed` it reads a program
+/// to its end, and then writes the verdict with the first point at the origin. For `discover` it
+/// reads a program to its end, and writes the relations of its figure, each when it is found. For
+/// `bench` it reads nothing. It writes nothing before the words and the reading are done.
 pub fn run<S: Source, K: Sink>(
     alloc: Global,
     words: &Vec<String>,
@@ -53,6 +58,10 @@ pub fn run<S: Source, K: Sink>(
         number }
     ensures no_instance { (line : ℕ) → result ≡ Status.NotInstance line
         → CitesNone (bytes_of_words words.now.items) (S.left source.old) (S.left source.new) line }
+    ensures in_part { (steps : ℕ) → IsDiscover (bytes_of_words words.now.items) steps
+        → IsUnfinished result
+        → SearchesInPart steps (S.left source.old) (S.left source.new)
+        (K.held sink.old) (K.held sink.new) result }
     ensures ends { Ends (bytes_of_words words.now.items) (S.left source.old) (S.left source.new)
         (S.faults source.old) (S.faults source.new) (K.faults sink.old) (K.faults sink.new)
         (K.held sink.old) (K.held sink.new) result }
@@ -117,6 +126,8 @@ fn carry_out<S: Source, K: Sink>(
         Command::Place => run_place(alloc, false, source, sink),
         Command::Figure => run_place(alloc, true, source, sink),
         Command::Cite => run_cite(alloc, order.steps, source, sink),
+        Command::Fixed => run_fixed(alloc, order.steps, source, sink),
+        Command::Discover => run_discover(alloc, order.steps, source, sink),
         Command::Bench(number) => run_bench(alloc, number, order.steps, sink),
     }
 }

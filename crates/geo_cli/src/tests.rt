@@ -8,6 +8,8 @@ use std::test::Fail;
 
 mod checking;
 mod citing;
+mod discovering;
+mod fixing;
 mod placing;
 mod printing;
 mod stated_budget;

@@ -15,8 +15,6 @@ mod reader;
 mod statement;
 mod statement_words;
 mod tables;
-#[cfg(test)]
-mod tests;
 
 pub use errors::ParseError;
 pub use parsing::parse;

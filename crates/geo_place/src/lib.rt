@@ -15,8 +15,6 @@ mod quantities;
 mod results;
 mod sketch;
 mod spots;
-#[cfg(test)]
-mod tests;
 mod texts;
 mod triples;
 mod values;

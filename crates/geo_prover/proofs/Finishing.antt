@@ -1,5 +1,6 @@
 -- From the parts of a log to the log of a program.
-use Rattle.std.proofs.Common.{◌≡◌, ℕ, zero, suc, ◌+◌, ◌-◌, ◌<◌, ◌≤◌, ◌^◌, inl, inr, Some, Ok, Err, List, [], ◌∷◌, ◌++◌, map, length, append-nil, append_assoc, refl, sym, ◌∙◌, ap, subst, take, arith}
+use Rattle.std.proofs.Common.{◌≡◌, ℕ, zero, suc, ◌+◌, ◌-◌, ◌<◌, ◌≤◌, ◌^◌, inl, inr, Some, Ok, Err, List, [], ◌∷◌, ◌++◌, map, length}
+use Rattle.std.proofs.Common.{append-nil, append_assoc, refl, sym, ◌∙◌, ap, subst, take, arith}
 use Rattle.std.specs.Prelude.{IfErr, IsErrOf, OnOk, Result, slice_get}
 use Rattle.std.proofs.lemmas.List.{length-append}
 use Rattle.std.proofs.lemmas.List.Elements.{All-from_recursion, recursion_from_All}
@@ -35,18 +36,23 @@ use Rattle.log_checker.proofs.Reached.{beginnings_go_on}
 use Rattle.log_checker.proofs.Realised.{conditions_named, goals_named}
 use Rattle.log_checker.proofs.Verdicts.{parts_of, valid}
 use Rattle.log_checker.proofs.WritableLines.{next_lines_are_writable}
-use Rattle.geo_prover.specs.declared.errors.ProveError.{ProveError}
-use Rattle.geo_prover.specs.declared.errors.ProveError.TheVariants.{TooLarge, Spent, TooLong, WriteFault, NoMemory}
+use Rattle.log_maker.specs.declared.errors.ProveError.{ProveError}
+use Rattle.log_maker.specs.declared.errors.ProveError.TheVariants.{TooLarge, Spent, TooLong, WriteFault, NoMemory}
 use Rattle.geo_prover.specs.declared.summary.Summary.{Summary}
 use Rattle.geo_prover.specs.Proving.{Concludes, IsLogOf, StopsAt, WritesLog, WritesPart}
 use Rattle.geo_prover.specs.Inner.Answers.{IsAnswerOf}
 use Rattle.geo_prover.specs.Inner.FirstLines.{IsBrokenOffAmong, IsPartAmong}
-use Rattle.geo_prover.specs.Inner.Halting.{Finishes, Halts, IsBrokenOff, IsPieceOfNext, IsStopped, IsTooLong, Passes}
-use Rattle.geo_prover.specs.Inner.Parts.{CanWrite, IsInside, Part, items_of, log_part}
-use Rattle.geo_prover.specs.Inner.Tasks.{IsItemReady, IsReady, conditions_from}
-use Rattle.geo_prover.specs.Inner.Written.{State, Writes}
-use Rattle.geo_prover.proofs.Listing.{conditions_start}
-use Rattle.geo_prover.proofs.Passing.{log_text-append, text_length-append}
+use Rattle.log_maker.specs.declared.frame.Frame.TheVariants.{Full}
+use Rattle.log_maker.specs.declared.size.Size.{Size}
+use Rattle.log_maker.specs.declared.size.Size.TheVariants.{Written}
+use Rattle.log_maker.specs.Sizes.{Fits, HoldsText, IsPast, with_text}
+use Rattle.log_maker.specs.Halting.{Finishes, Halts, IsBrokenOff, IsPieceOfNext, IsStopped, IsTooLong, Passes}
+use Rattle.log_maker.specs.Parts.{CanWrite, IsInside, Part, items_of, log_part}
+use Rattle.log_maker.specs.Tasks.{IsItemReady, IsReady, conditions_from}
+use Rattle.log_maker.specs.Written.{State, Writes}
+use Rattle.log_maker.proofs.Listing.{conditions_start}
+use Rattle.log_maker.proofs.Passing.{log_text-append, text_length-append}
+use Rattle.log_maker.proofs.Sizing.{takable_of, with_both}
 
 -- FRONTS
 take_front : (xs ys : List ℕ) → take (length xs) (xs ++ ys) ≡ xs
@@ -86,7 +92,8 @@ take_length : (before rest : List Line) → before ≡ take (length before) (bef
 take_length [] rest = refl
 take_length (x ∷ xs) rest = ap (λ ys. x ∷ ys) (take_length xs rest)
 
-module _ (p : Source) (problem : Problem) (steps : ℕ) (w : IsWellFormed p) (small : steps < 2 ^ 127) (is : IsProblem Two p (form_of_problem problem) problem.conditions problem.goals) where
+module _ (p : Source) (problem : Problem) (steps : ℕ) (w : IsWellFormed p) (small : steps < 2 ^ 127)
+    (is : IsProblem Two p (form_of_problem problem) problem.conditions problem.goals) where
   abbrev c : Construction
   c = problem.steps
 
@@ -94,7 +101,7 @@ module _ (p : Source) (problem : Problem) (steps : ℕ) (w : IsWellFormed p) (sm
   subject = subject_of p problem
 
   abbrev whole : Part
-  whole = log_part subject steps
+  whole = log_part Full subject steps
 
   pub about : IsSubjectOf p subject
   about = record {
@@ -113,34 +120,41 @@ module _ (p : Source) (problem : Problem) (steps : ℕ) (w : IsWellFormed p) (sm
   }
 
   -- ITEMS
-  item_ready : (item : ListedItem) → item.term.0 < length c.nodes → IsInside c (tree_of c.nodes item.term) → IsItemReady c item
+  item_ready : (item : ListedItem) → item.term.0 < length c.nodes → IsInside c (tree_of c.nodes item.term) → IsItemReady c c.nodes item
   item_ready item stored inside = record { stored = stored; inside = inside }
 
   pub ready : IsReady problem
   ready = record {
     conditions =
-        All-from_recursion (IsItemReady c) problem.conditions
-        (each_of (IsItemReady c) problem.conditions
+        All-from_recursion (IsItemReady c c.nodes) problem.conditions
+        (each_of (IsItemReady c c.nodes) problem.conditions
         (λ i item at. item_ready item (each_at (λ (x : ListedItem). x.term.0 < length c.nodes) problem.conditions i item
         (recursion_from_All (λ (x : ListedItem). x.term.0 < length c.nodes) problem.conditions is.conditions.stored) at)
-        (conditions_named p subject w (parts_of p subject about) i (log_item (item_form c.nodes item)) (listed_at problem.conditions i item at)).0));
+        (conditions_named p subject w (parts_of p subject about) i (log_item (item_form c.nodes item))
+        (listed_at problem.conditions i item at)).0));
     goals =
-        All-from_recursion (IsItemReady c) problem.goals
-        (each_of (IsItemReady c) problem.goals
+        All-from_recursion (IsItemReady c c.nodes) problem.goals
+        (each_of (IsItemReady c c.nodes) problem.goals
         (λ i item at. item_ready item (each_at (λ (x : ListedItem). x.term.0 < length c.nodes) problem.goals i item
         (recursion_from_All (λ (x : ListedItem). x.term.0 < length c.nodes) problem.goals is.goals.stored) at)
         (goals_named p subject w (parts_of p subject about) i (log_item (item_form c.nodes item)) (listed_at problem.goals i item at)).0));
   }
     where
-      listed_at : (items : List ListedItem) (i : ℕ) (item : ListedItem) → At items i item → At (items_of c.nodes items) i (log_item (item_form c.nodes item))
-      listed_at items i item at = at_map log_item (map (item_form c.nodes) items) i (item_form c.nodes item) (at_map (item_form c.nodes) items i item at)
+      listed_at : (items : List ListedItem) (i : ℕ) (item : ListedItem) → At items i item
+          → At (items_of c.nodes items) i (log_item (item_form c.nodes item))
+      listed_at items i item at = at_map log_item (map (item_form c.nodes) items) i (item_form c.nodes item)
+          (at_map (item_form c.nodes) items i item at)
 
   -- WRITING
-  pub can_write : (bytes : ℕ) → bytes ≡ 0 → CanWrite c whole bytes
-  can_write bytes none lines place line b n fits = next_lines_are_writable p subject steps lines place line w about small b (omega (arith, none, fits)) n
+  pub can_write : (z : Size) → z ≡ Written 0 → CanWrite Full c whole z
+  can_write z none lines place line b n fits =
+      takable_of z line (next_lines_are_writable p subject steps lines place line w about small b
+      (let small_text : 0 + text_length lines ≤ 67108864 = subst (λ (x : Size). Fits (with_text x (text_length lines))) none fits in omega
+      (arith, small_text)) n)
 
   -- behind the header and the program come the conditions
-  pub past_program : (s t : State) → Writes (Header 2 ∷ map ProgramLine (source_lines p)) s t → Passes whole (conditions_from problem 0 [] [] steps) s t
+  pub past_program : (s t : State) → Writes (Header 2 ∷ map ProgramLine (source_lines p)) s t
+      → Passes whole (conditions_from Full problem 0 [] [] steps) s t
   past_program s t h = record {
     lines = first_lines subject;
     continues = record {
@@ -154,28 +168,45 @@ module _ (p : Source) (problem : Problem) (steps : ℕ) (w : IsWellFormed p) (sm
   log_of : (lines : List Line) (ending : Ending) → IsDefinedLog lemma_table subject steps lines ending → IsLogOf p steps lines ending
   log_of lines ending h = record { subject = subject; about = about; version = refl; defined = h }
 
-  module _ (s t : State) (lines_none : s.lines ≡ 0) (bytes_none : s.bytes ≡ 0) where
-    within : (n : ℕ) → s.bytes + n ≤ 67108864 → n ≤ 67108864
-    within n h = omega (arith, bytes_none, h)
+  module _ (s t : State) (lines_none : s.lines ≡ 0) (size_none : s.size ≡ Written 0) where
+    within : (n : ℕ) → Fits (with_text s.size n) → n ≤ 67108864
+    within n h = let f : 0 + n ≤ 67108864 = subst (λ (z : Size). Fits (with_text z n)) size_none h in omega (arith, f)
 
-    stopped : (stop : Stop) (n : ℕ) → IsStopped c whole s t stop n → StopsAt p steps s.held t.held stop n
+    past : (n : ℕ) → IsPast (with_text s.size n) → 67108864 < n
+    past n h = let f : 67108864 < 0 + n = subst (λ (z : Size). IsPast (with_text z n)) size_none h in omega (arith, f)
+
+    grown : (text : List ℕ) → HoldsText s.size s.held text t.held → Grows s.held text t.held
+    grown text h = subst (λ (z : Size). HoldsText z s.held text t.held) size_none h
+
+    stopped : (stop : Stop) (n : ℕ) → IsStopped Full c whole s t stop n → StopsAt p steps s.held t.held stop n
     stopped stop n h =
         let counted : n ≡ suc (length h.lines) = let l = h.last in omega (arith, lines_none, l) in
         let lines = h.lines ++ stop_line n stop ∷ [] in
         record {
           whole = record {
             lines = lines;
-            log = log_of lines (ends_by stop) (h.lines, ap (λ m. h.lines ++ stop_line m stop ∷ []) counted, (h.place, h.begun, h.next), within (text_length h.lines) h.fits);
-            written = h.written;
+            log = log_of lines (ends_by stop) (
+              h.lines,
+              ap (λ m. h.lines ++ stop_line m stop ∷ []) counted,
+              (h.place, h.begun, h.next),
+              within (text_length h.lines) h.fits,
+            );
+            written = grown (log_text lines) h.written;
           };
           last = let l : length lines ≡ length h.lines + 1 = length-append h.lines (stop_line n stop ∷ []) in omega (arith, counted, l);
         }
 
-    left_out : IsTooLong c whole s t → WritesLog p steps s.held t.held too_long
+    left_out : IsTooLong Full c whole s t → WritesLog p steps s.held t.held too_long
     left_out h = record {
       lines = h.lines;
-      log = log_of h.lines too_long (h.line, (h.place, h.begun, h.next), within (text_length h.lines) h.fits, (let l = h.long in omega (arith, bytes_none, l)));
-      written = h.written;
+      log = log_of h.lines too_long (
+        h.line,
+        (h.place, h.begun, h.next),
+        within (text_length h.lines) h.fits,
+        past
+            (text_length (h.lines ++ h.line ∷ [])) h.long,
+      );
+      written = grown (log_text h.lines) h.written;
     }
 
     -- a beginning of the text of a defined log
@@ -189,34 +220,41 @@ module _ (p : Source) (problem : Problem) (steps : ℕ) (w : IsWellFormed p) (sm
       written = subst (λ xs. Grows s.held xs t.held) (front_of text rest (log_text lines) e) g;
     }
 
-    broken : IsBrokenOff c whole s t → WritesPart p steps s.held t.held
+    broken : IsBrokenOff Full c whole s t → WritesPart p steps s.held t.held
     broken h = go h.next
       where
         fits : text_length h.lines ≤ 67108864
         fits = within (text_length h.lines) h.fits
 
-        go : IsPieceOfNext c h.place (s.lines + length h.lines) (s.bytes + text_length h.lines) h.piece → WritesPart p steps s.held t.held
+        go : IsPieceOfNext Full c h.place (s.lines + length h.lines) (with_text s.size (text_length h.lines)) h.piece
+            → WritesPart p steps s.held t.held
         go (inl none) =
             let d = beginnings_go_on.begun p subject steps h.lines h.place w about h.begun fits in
             part (h.lines ++ d.0) d.1 d.2 (log_text h.lines ++ h.piece) (log_text d.0)
-            (log_text-append h.lines d.0 ∙ ap (λ xs. xs ++ log_text d.0) (sym (ap (λ xs. log_text h.lines ++ xs) none ∙ append-nil (log_text h.lines)))) h.written
+            (log_text-append h.lines d.0 ∙ ap (λ xs. xs ++ log_text d.0)
+            (sym (ap (λ xs. log_text h.lines ++ xs) none ∙ append-nil (log_text h.lines))))
+            (grown (log_text h.lines ++ h.piece) h.written)
         go (inr (inl (line, count, next, small_line, same))) =
             let xs = h.lines ++ line ∷ [] in
             let d = beginnings_go_on.next p subject steps h.lines h.place line w about h.begun next
-            (let l = text_length-append h.lines (line ∷ []) in omega (arith, l, small_line, bytes_none)) in
+            (within (text_length xs)
+            (subst Fits (with_both s.size (text_length h.lines) (text_length (line ∷ [])) ∙ ap (λ (n : ℕ). with_text s.size n)
+            (sym (text_length-append h.lines (line ∷ [])))) small_line)) in
             let r = take_all count (log_text (line ∷ [])) in
             part (xs ++ d.0) d.1 d.2 (log_text h.lines ++ h.piece) (r.0 ++ log_text d.0)
-            (log_text-append xs d.0 ∙ ap (λ ys. ys ++ log_text d.0) (log_text-append h.lines (line ∷ []) ∙ split (log_text h.lines) (log_text (line ∷ [])) count r.0 h.piece r.1 same)
-            ∙ append_assoc (log_text h.lines ++ h.piece) r.0 (log_text d.0)) h.written
+            (log_text-append xs d.0 ∙ ap (λ ys. ys ++ log_text d.0)
+            (log_text-append h.lines (line ∷ []) ∙ split (log_text h.lines) (log_text (line ∷ [])) count r.0 h.piece r.1 same)
+            ∙ append_assoc (log_text h.lines ++ h.piece) r.0 (log_text d.0)) (grown (log_text h.lines ++ h.piece) h.written)
         go (inr (inr (stop, count, next, same))) =
             let n : suc (s.lines + length h.lines) ≡ suc (length h.lines) = omega (arith, lines_none) in
             let last = stop_line (suc (length h.lines)) stop ∷ [] in
             let same' : h.piece ≡ take count (log_text last) = same ∙ ap (λ m. take count (log_text (stop_line m stop ∷ []))) n in
             let r = take_all count (log_text last) in
             part (h.lines ++ last) (ends_by stop) (h.lines, refl, (h.place, h.begun, next), fits) (log_text h.lines ++ h.piece) r.0
-            (log_text-append h.lines last ∙ split (log_text h.lines) (log_text last) count r.0 h.piece r.1 same') h.written
+            (log_text-append h.lines last ∙ split (log_text h.lines) (log_text last) count r.0 h.piece r.1 same')
+            (grown (log_text h.lines ++ h.piece) h.written)
 
-    pub halted : (e : ProveError) → Halts c whole s t e → IsAnswerOf p steps s t e
+    pub halted : (e : ProveError) → Halts Full c whole s t e → IsAnswerOf p steps s t e
     halted (TooLarge n which) h = (stopped (too_large which) n h, h.faults)
     halted (Spent n) h = (stopped spent n h, h.faults)
     halted TooLong h = (left_out h, h.faults)
@@ -224,7 +262,8 @@ module _ (p : Source) (problem : Problem) (steps : ℕ) (w : IsWellFormed p) (sm
     halted NoMemory h = (broken h.0, h.1)
 
     -- AMONG THE FIRST LINES
-    begun_before : (before : List Line) (line : Line) (rest : List Line) → first_lines subject ≡ before ++ line ∷ rest → whole.begun before (before_line line)
+    begun_before : (before : List Line) (line : Line) (rest : List Line) → first_lines subject ≡ before ++ line ∷ rest
+        → whole.begun before (before_line line)
     begun_before before line rest e =
         inl (
           length before,
@@ -236,7 +275,7 @@ module _ (p : Source) (problem : Problem) (steps : ℕ) (w : IsWellFormed p) (sm
 
     begun_among : (before rest : List Line) → first_lines subject ≡ before ++ rest → (place : Place) × whole.begun before place
     begun_among before [] e =
-        let start = conditions_start c subject.goals [] [] 1 steps subject.conditions in
+        let start = conditions_start Full c subject.goals [] [] 1 steps subject.conditions in
         (start.0, inr ([], sym (e ∙ append-nil before) ∙ sym (append-nil (first_lines subject)), start.1))
     begun_among before (line ∷ rest) e = (before_line line, begun_before before line rest e)
 
@@ -246,7 +285,8 @@ module _ (p : Source) (problem : Problem) (steps : ℕ) (w : IsWellFormed p) (sm
         let d = beginnings_go_on.begun p subject steps h.before place.0 w about place.1 (within (text_length h.before) h.fits) in
         let r = take_all h.count (log_text h.before) in
         part (h.before ++ d.0) d.1 d.2 (take h.count (log_text h.before)) (r.0 ++ log_text d.0)
-        (log_text-append h.before d.0 ∙ ap (λ xs. xs ++ log_text d.0) r.1 ∙ append_assoc (take h.count (log_text h.before)) r.0 (log_text d.0)) h.written
+        (log_text-append h.before d.0 ∙ ap (λ xs. xs ++ log_text d.0) r.1 ∙ append_assoc (take h.count (log_text h.before)) r.0
+        (log_text d.0)) (grown (take h.count (log_text h.before)) h.written)
 
     pub halted_among : (e : ProveError) → IsBrokenOffAmong (first_lines subject) s t e → IsAnswerOf p steps s t e
     halted_among (TooLarge n which) h = absurd h
@@ -269,7 +309,8 @@ module _ (p : Source) (problem : Problem) (steps : ℕ) (w : IsWellFormed p) (sm
     halted_among NoMemory h = (part_among h.0, h.1)
 
     -- THE WHOLE LOG
-    pub left_of : (lines : List Line) (verdict : Verdict) (left : ℕ) → IsLogOfProver lemma_table subject steps lines verdict left → left ≤ steps
+    pub left_of : (lines : List Line) (verdict : Verdict) (left : ℕ) → IsLogOfProver lemma_table subject steps lines verdict left
+        → left ≤ steps
     left_of lines verdict left h =
         let parts = parts_of p subject about in
         let found = provers_log_accepted lemma_table subject steps left lines verdict (lemma_table_sound c (valid p subject w parts))
@@ -277,23 +318,24 @@ module _ (p : Source) (problem : Problem) (steps : ℕ) (w : IsWellFormed p) (sm
         let spent_all = charges_spent lemma_table subject steps found.0 lines verdict found.2 in
         let more = found.1 in omega (arith, spent_all, more)
 
-    pub concluded : (summary : Summary) (left : ℕ) → Finishes whole s t summary.verdict left → t.bytes ≤ 67108864 → summary.lines ≡ t.lines
+    pub concluded : (summary : Summary) (left : ℕ) → Finishes whole s t summary.verdict left → Fits t.size → summary.lines ≡ t.lines
         → summary.charge ≡ steps - left → Concludes p steps s.held t.held summary
     concluded summary left h fits counted charged =
-        let measured = h.written.measured in
-        let defined : IsDefinedLog lemma_table subject steps h.lines (ends_with summary.verdict left) = (h.whole, omega (arith, measured, bytes_none, fits)) in
+        let defined : IsDefinedLog lemma_table subject steps h.lines
+        (ends_with summary.verdict left) = (h.whole, within (text_length h.lines) (subst Fits h.written.measured fits)) in
         record {
           lines = h.lines;
           left = left;
           log = log_of h.lines (ends_with summary.verdict left) defined;
-          written = h.written.written;
+          written = grown (log_text h.lines) h.written.written;
           accepted = defined_bytes_are_accepted p subject steps left h.lines summary.verdict w about small defined;
           counted = let n = h.written.counted in omega (arith, n, lines_none, counted);
           charged = let l = left_of h.lines summary.verdict left h.whole in omega (arith, charged, l);
         }
 
 -- where nothing was written
-pub nothing_written : (p : Source) (steps : ℕ) → IsShortProgram p → (s t : State) → t.held ≡ s.held → t.faults ≡ s.faults → IsAnswerOf p steps s t NoMemory
+pub nothing_written : (p : Source) (steps : ℕ) → IsShortProgram p → (s t : State) → t.held ≡ s.held → t.faults ≡ s.faults
+    → IsAnswerOf p steps s t NoMemory
 nothing_written p steps short s t same faults =
     let log = programs_have_defined_logs Two p steps short in (
       record {
@@ -307,7 +349,8 @@ nothing_written p steps short s t same faults =
     )
 
 -- faults never fall
-pub faults_kept : (p : Source) (steps : ℕ) (s t : State) (r : Result Summary ProveError) → OnOk r (t.faults ≡ s.faults) → IfErr r (IsAnswerOf p steps s t) → s.faults ≤ t.faults
+pub faults_kept : (p : Source) (steps : ℕ) (s t : State) (r : Result Summary ProveError) → OnOk r (t.faults ≡ s.faults)
+    → IfErr r (IsAnswerOf p steps s t) → s.faults ≤ t.faults
 faults_kept p steps s t (Ok x) h e = omega (arith, h)
 faults_kept p steps s t (Err (TooLarge n which)) h e = omega (arith, e.1)
 faults_kept p steps s t (Err (Spent n)) h e = omega (arith, e.1)

@@ -5,8 +5,7 @@ use Rattle.std.specs.Prelude.{◌==◌, nat_lt}
 use Rattle.std.specs.List.{AllByRecursion, flat_map, position, prefix_len}
 use Rattle.std.proofs.lemmas.Bool.{eqb-false, lt-ltb, ltb-true, ne_eqb}
 use Rattle.std.proofs.lemmas.List.{length-append, map-append}
-use Rattle.geo_base.specs.Devices.{Grows, HasRisen}
-use Rattle.geo_base.proofs.DeviceLemmas.{Grows-append, Grows-nothing}
+use Rattle.geo_base.specs.Devices.{HasRisen}
 use Rattle.geo_lexer.specs.Lexemes.{Lexeme}
 use Rattle.geo_program.specs.CanonicalText.{canonical_text, line_lexemes, line_text, no_sketches}
 use Rattle.geo_program.specs.WellFormed.{Source}
@@ -16,11 +15,13 @@ use Rattle.proof_log.specs.declared.log.Line.{Line}
 use Rattle.proof_log.specs.declared.log.Line.TheVariants.{Program as ProgramLine}
 use Rattle.proof_log.specs.Lines.{log_text}
 use Rattle.proof_log.specs.Writable.{HasNoLineFeed}
-use Rattle.geo_prover.specs.declared.errors.ProveError.{ProveError}
-use Rattle.geo_prover.specs.declared.errors.ProveError.TheVariants.{TooLarge, Spent, TooLong, WriteFault, NoMemory}
+use Rattle.log_maker.specs.declared.errors.ProveError.{ProveError}
+use Rattle.log_maker.specs.declared.errors.ProveError.TheVariants.{TooLarge, Spent, TooLong, WriteFault, NoMemory}
 use Rattle.geo_prover.specs.Inner.FirstLines.{IsBrokenOffAmong, IsPartAmong, IsTooLongAmong, pieces}
-use Rattle.geo_prover.specs.Inner.Written.{IsCutOff, IsUnwritten, State, Writes}
-use Rattle.geo_prover.proofs.Passing.{log_text-append, text_length-append, writes_more}
+use Rattle.log_maker.specs.Sizes.{Fits, HoldsText, IsPast, with_text}
+use Rattle.log_maker.specs.Written.{IsCutOff, IsUnwritten, State, Writes}
+use Rattle.log_maker.proofs.Passing.{held_on, log_text-append, sized_on, writes_more}
+use Rattle.log_maker.proofs.Sizing.{fits_none, holds_nothing}
 
 -- THE FIRST LINE FEED
 abbrev passes : ℕ → Bool
@@ -31,12 +32,14 @@ front_length [] more h = refl
 front_length (b ∷ bs) more h =
     let e : (b == 10) ≡ false = ne_eqb b 10 h.0 in
     let r = front_length bs more h.1 in
-    ap (λ (q : Bool). cond (not q) (1 + prefix_len passes (bs ++ 10 ∷ more)) 0) e ∙ (let f : 1 + prefix_len passes (bs ++ 10 ∷ more) ≡ suc (length bs) = omega (arith, r) in f)
+    ap (λ (q : Bool). cond (not q) (1 + prefix_len passes (bs ++ 10 ∷ more)) 0) e
+    ∙ (let f : 1 + prefix_len passes (bs ++ 10 ∷ more) ≡ suc (length bs) = omega (arith, r) in f)
 
 -- behind a text without one
 pub feed_at : (text more : List ℕ) → HasNoLineFeed text → position (λ b. b == 10) (text ++ 10 ∷ more) ≡ Some (length text)
 feed_at text more h =
-    let lt : length text < length (text ++ 10 ∷ more) = let l : length (text ++ 10 ∷ more) ≡ length text + suc (length more) = length-append text (10 ∷ more) in omega (arith, l) in
+    let lt : length text < length (text ++ 10 ∷ more) = let l : length (text ++ 10 ∷ more) ≡ length text + suc
+    (length more) = length-append text (10 ∷ more) in omega (arith, l) in
     ap (λ n. cond (nat_lt n (length (text ++ 10 ∷ more))) (Some n) None) (front_length text more h)
     ∙ ap (λ (q : Bool). cond q (Some (length text)) None) (lt-ltb (length text) (length (text ++ 10 ∷ more)) lt)
 
@@ -44,7 +47,8 @@ front_clean : (text : List ℕ) → HasNoLineFeed (take (prefix_len passes text)
 front_clean [] = tt
 front_clean (b ∷ bs) = go (b == 10) refl (front_clean bs)
   where
-    go : (q : Bool) → (b == 10) ≡ q → HasNoLineFeed (take (prefix_len passes bs) bs) → HasNoLineFeed (take (cond (not q) (1 + prefix_len passes bs) 0) (b ∷ bs))
+    go : (q : Bool) → (b == 10) ≡ q → HasNoLineFeed (take (prefix_len passes bs) bs)
+        → HasNoLineFeed (take (cond (not q) (1 + prefix_len passes bs) 0) (b ∷ bs))
     go true e h = tt
     go false e h =
         let n : suc (prefix_len passes bs) ≡ 1 + prefix_len passes bs = omega arith in
@@ -58,7 +62,8 @@ pub record IsFirstFeed (text : List ℕ) (n : ℕ) : Type 0 where
 pub first_feed : (text : List ℕ) (n : ℕ) → position (λ b. b == 10) text ≡ Some n → IsFirstFeed text n
 first_feed text n e = go (nat_lt (prefix_len passes text) (length text)) refl e
   where
-    go : (q : Bool) → nat_lt (prefix_len passes text) (length text) ≡ q → cond q (Some (prefix_len passes text)) None ≡ Some n → IsFirstFeed text n
+    go : (q : Bool) → nat_lt (prefix_len passes text) (length text) ≡ q → cond q (Some (prefix_len passes text)) None ≡ Some n
+        → IsFirstFeed text n
     go true t s =
         let m = prefix_len passes text in
         let is : m ≡ n = cc in subst (IsFirstFeed text) is (record { inside = ltb-true m (length text) t; clean = front_clean text })
@@ -97,7 +102,8 @@ pub record IsNextPiece (left : List (List ℕ)) (rest : List ℕ) (n : ℕ) : Ty
   pub rest_is : drop (n + 1) rest ≡ pieces later
   pub one_line : AllByRecursion HasNoLineFeed later
 
-next_piece : (left : List (List ℕ)) (rest : List ℕ) (n : ℕ) → rest ≡ pieces left → AllByRecursion HasNoLineFeed left → position (λ b. b == 10) rest ≡ Some n → IsNextPiece left rest n
+next_piece : (left : List (List ℕ)) (rest : List ℕ) (n : ℕ) → rest ≡ pieces left → AllByRecursion HasNoLineFeed left
+    → position (λ b. b == 10) rest ≡ Some n → IsNextPiece left rest n
 next_piece [] rest n e h p = let q : None ≡ Some n = ap (λ xs. position (λ b. b == 10) xs) (sym e) ∙ p in absurd (let f : ⊥ = cc in f)
 next_piece (t ∷ ts) rest n e h p =
     let whole : rest ≡ t ++ 10 ∷ pieces ts = e ∙ append_assoc t (10 ∷ []) (pieces ts) in
@@ -105,20 +111,25 @@ next_piece (t ∷ ts) rest n e h p =
     let is : length t ≡ n = cc in
     record {
       later = ts;
-      split = ap (λ x. x ∷ ts) (sym (ap (λ xs. take n xs) whole ∙ ap (λ k. take k (t ++ 10 ∷ pieces ts)) (sym is) ∙ take_front t (10 ∷ pieces ts)));
-      rest_is = ap (λ xs. drop (n + 1) xs) whole ∙ ap (λ k. drop k (t ++ 10 ∷ pieces ts)) (let f : n + 1 ≡ suc (length t) = omega (arith, is) in f) ∙ drop_front t (pieces ts) 10;
+      split = ap (λ x. x ∷ ts) (sym (ap (λ xs. take n xs) whole ∙ ap (λ k. take k (t ++ 10 ∷ pieces ts)) (sym is) ∙ take_front t
+          (10 ∷ pieces ts)));
+      rest_is = ap (λ xs. drop (n + 1) xs) whole ∙ ap (λ k. drop k (t ++ 10 ∷ pieces ts))
+          (let f : n + 1 ≡ suc (length t) = omega (arith, is) in f) ∙ drop_front t (pieces ts) 10;
       one_line = h.1;
     }
 
-no_piece : (left : List (List ℕ)) (rest : List ℕ) → rest ≡ pieces left → AllByRecursion HasNoLineFeed left → position (λ b. b == 10) rest ≡ None → left ≡ []
+no_piece : (left : List (List ℕ)) (rest : List ℕ) → rest ≡ pieces left → AllByRecursion HasNoLineFeed left
+    → position (λ b. b == 10) rest ≡ None → left ≡ []
 no_piece [] rest e h p = refl
 no_piece (t ∷ ts) rest e h p =
     let whole : rest ≡ t ++ 10 ∷ pieces ts = e ∙ append_assoc t (10 ∷ []) (pieces ts) in
-    let same : Some (length t) ≡ None = sym (feed_at t (pieces ts) h.0) ∙ ap (λ xs. position (λ b. b == 10) xs) (sym whole) ∙ p in absurd (let f : ⊥ = cc in f)
+    let same : Some (length t) ≡ None = sym (feed_at t (pieces ts) h.0) ∙ ap (λ xs. position (λ b. b == 10) xs) (sym whole) ∙ p in absurd
+    (let f : ⊥ = cc in f)
 
 module _ (lines : List (List ℕ)) (rest : List ℕ) (s t : State) (b : IsBetween lines rest s t) where
   -- the next line is written
-  pub one_more : (n : ℕ) (u : State) → position (λ b. b == 10) rest ≡ Some n → Writes (ProgramLine (take n rest) ∷ []) t u → IsBetween lines (drop (n + 1) rest) s u
+  pub one_more : (n : ℕ) (u : State) → position (λ b. b == 10) rest ≡ Some n → Writes (ProgramLine (take n rest) ∷ []) t u
+      → IsBetween lines (drop (n + 1) rest) s u
   one_more n u p w =
       let next = next_piece b.left rest n b.rest_is b.one_line p in
       record {
@@ -141,8 +152,8 @@ module _ (lines : List (List ℕ)) (rest : List ℕ) (s t : State) (b : IsBetwee
 -- BREAKING OFF
 -- what is told of the lines behind some that were written
 module _ (front : List Line) (s t u : State) (w : Writes front s t) where
-  fits_on : (before : List Line) → t.bytes + text_length before ≤ 67108864 → s.bytes + text_length (front ++ before) ≤ 67108864
-  fits_on before fits = let m = w.measured in let l = text_length-append front before in omega (arith, m, l, fits)
+  fits_on : (before : List Line) → Fits (with_text t.size (text_length before)) → Fits (with_text s.size (text_length (front ++ before)))
+  fits_on before fits = subst Fits (sized_on front s t w before) fits
 
   faults_on : t.faults ≤ u.faults → s.faults ≤ u.faults
   faults_on g = let f = w.faults in omega (arith, f, g)
@@ -165,11 +176,11 @@ module _ (front : List Line) (s t u : State) (w : Writes front s t) where
     split = ap (λ xs. front ++ xs) g.split ∙ sym (append_assoc front g.before (g.line ∷ g.rest));
     fits = fits_on g.before g.fits;
     long =
-        let m = w.measured in
-        let l = text_length-append front (g.before ++ g.line ∷ []) in
-        let same : text_length ((front ++ g.before) ++ g.line ∷ []) ≡ text_length (front ++ (g.before ++ g.line ∷ [])) = ap text_length (append_assoc front g.before (g.line ∷ [])) in
-        let big = g.long in omega (arith, m, l, same, big);
-    written = subst (λ text. Grows s.held text u.held) (sym (log_text-append front g.before)) (Grows-append s.held t.held u.held (log_text front) (log_text g.before) w.written g.written);
+        let same : text_length (front ++ (g.before ++ g.line ∷ [])) ≡ text_length ((front ++ g.before) ++ g.line ∷ []) = ap text_length
+        (sym (append_assoc front g.before (g.line ∷ []))) in
+        subst IsPast (sized_on front s t w (g.before ++ g.line ∷ []) ∙ ap (λ (n : ℕ). with_text s.size n) same) g.long;
+    written = subst (λ text. HoldsText s.size s.held text u.held) (sym (log_text-append front g.before))
+        (held_on front s t u w (log_text g.before) g.written);
     faults = sound_on g.faults;
   }
 
@@ -181,9 +192,10 @@ module _ (front : List Line) (s t u : State) (w : Writes front s t) where
     split = ap (λ xs. front ++ xs) g.split ∙ sym (append_assoc front g.before g.rest);
     fits = fits_on g.before g.fits;
     written =
-        subst (λ text. Grows s.held text u.held)
-        (sym (taken (log_text front) (log_text g.before) g.count) ∙ ap (λ text. take (length (log_text front) + g.count) text) (sym (log_text-append front g.before)))
-        (Grows-append s.held t.held u.held (log_text front) (take g.count (log_text g.before)) w.written g.written);
+        subst (λ text. HoldsText s.size s.held text u.held)
+        (sym (taken (log_text front) (log_text g.before) g.count) ∙ ap (λ text. take (length (log_text front) + g.count) text)
+        (sym (log_text-append front g.before)))
+        (held_on front s t u w (take g.count (log_text g.before)) g.written);
     faults = faults_on g.faults;
   }
 
@@ -195,20 +207,29 @@ module _ (front : List Line) (s t u : State) (w : Writes front s t) where
   broken_on all NoMemory g = (part_on all g.0, sound_on g.1)
 
 -- at once
-module _ (s t : State) (fits : s.bytes ≤ 67108864) where
+module _ (s t : State) (fits : Fits s.size) where
   nothing_among : (all : List Line) → t.held ≡ s.held → s.faults ≤ t.faults → IsPartAmong all s t
   nothing_among all same faults = record {
     before = [];
     rest = all;
     count = 0;
     split = refl;
-    fits = omega (arith, fits);
-    written = subst (λ held. Grows s.held [] held) (sym same) (Grows-nothing s.held);
+    fits = fits_none s.size fits;
+    written = subst (λ held. HoldsText s.size s.held [] held) (sym same) (holds_nothing s.size s.held);
     faults = faults;
   }
 
   cut_off : (line : Line) (rest : List Line) → IsCutOff line s t → IsPartAmong (line ∷ rest) s t
-  cut_off line rest (inl h) = record { before = line ∷ []; rest = rest; count = h.1.count; split = refl; fits = h.0; written = h.1.written; faults = h.1.faults }
+  cut_off line rest
+      (inl h) = record {
+        before = line ∷ [];
+        rest = rest;
+        count = h.1.count;
+        split = refl;
+        fits = h.0;
+        written = h.1.written;
+        faults = h.1.faults;
+      }
   cut_off line rest (inr h) = nothing_among (line ∷ rest) h.0 h.1
 
   pub unwritten_first : (line : Line) (rest : List Line) (e : ProveError) → IsUnwritten line s t e → IsBrokenOffAmong (line ∷ rest) s t e
@@ -219,9 +240,9 @@ module _ (s t : State) (fits : s.bytes ≤ 67108864) where
     line = line;
     rest = rest;
     split = refl;
-    fits = omega (arith, fits);
+    fits = fits_none s.size fits;
     long = h.long;
-    written = subst (λ held. Grows s.held [] held) (sym h.kept) (Grows-nothing s.held);
+    written = subst (λ held. HoldsText s.size s.held [] held) (sym h.kept) (holds_nothing s.size s.held);
     faults = h.faults;
   }
   unwritten_first line rest WriteFault h = (cut_off line rest h.0, h.1)
@@ -231,17 +252,21 @@ module _ (s t : State) (fits : s.bytes ≤ 67108864) where
   memory_first all same faults = (nothing_among all same (omega (arith, faults)), faults)
 
 -- a line of the program is not written
-pub piece_breaks : (lines : List (List ℕ)) (rest : List ℕ) (s t u : State) (n : ℕ) (e : ProveError) → IsBetween lines rest s t → t.bytes ≤ 67108864 → position (λ b. b == 10) rest ≡ Some n
+pub piece_breaks : (lines : List (List ℕ)) (rest : List ℕ) (s t u : State) (n : ℕ) (e : ProveError) → IsBetween lines rest s t → Fits t.size
+    → position (λ b. b == 10) rest ≡ Some n
     → IsUnwritten (ProgramLine (take n rest)) t u e → IsBrokenOffAmong (map ProgramLine lines) s u e
 piece_breaks lines rest s t u n e b fits p h =
     let next = next_piece b.left rest n b.rest_is b.one_line p in
     subst (λ xs. IsBrokenOffAmong xs s u e)
-    (sym (ap (λ xs. map ProgramLine xs) (b.split ∙ ap (λ xs. b.done ++ xs) next.split) ∙ map-append ProgramLine b.done (take n rest ∷ next.later)))
+    (sym (ap (λ xs. map ProgramLine xs) (b.split ∙ ap (λ xs. b.done ++ xs) next.split) ∙ map-append ProgramLine b.done
+    (take n rest ∷ next.later)))
     (broken_on (map ProgramLine b.done) s t u b.written (ProgramLine (take n rest) ∷ map ProgramLine next.later) e
     (unwritten_first t u fits (ProgramLine (take n rest)) (map ProgramLine next.later) e h))
 
 -- memory runs out between two lines
-pub memory_between : (lines : List (List ℕ)) (rest : List ℕ) (s t : State) → IsBetween lines rest s t → t.bytes ≤ 67108864 → IsBrokenOffAmong (map ProgramLine lines) s t NoMemory
+pub memory_between : (lines : List (List ℕ)) (rest : List ℕ) (s t : State) → IsBetween lines rest s t → Fits t.size
+    → IsBrokenOffAmong (map ProgramLine lines) s t NoMemory
 memory_between lines rest s t b fits =
     subst (λ xs. IsBrokenOffAmong xs s t NoMemory) (sym (ap (λ xs. map ProgramLine xs) b.split ∙ map-append ProgramLine b.done b.left))
-    (broken_on (map ProgramLine b.done) s t t b.written (map ProgramLine b.left) NoMemory (memory_first t t fits (map ProgramLine b.left) refl refl))
+    (broken_on (map ProgramLine b.done) s t t b.written (map ProgramLine b.left) NoMemory
+    (memory_first t t fits (map ProgramLine b.left) refl refl))

@@ -1,9 +1,4 @@
-pub mod Handing
-pub mod Passing
 pub mod FirstLines
-pub mod Chaining
-pub mod Listing
-pub mod Sampling
 pub mod Finishing
 pub mod BenchPrograms
 pub mod BenchLengths

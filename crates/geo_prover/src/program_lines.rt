@@ -7,12 +7,11 @@ ghost use Rattle.log_checker.specs.Subjects.{source_lines};
 ghost use Rattle.proof_log.specs.declared.log.Line.TheVariants.{Header, Program as ProgramLine};
 ghost use Rattle.proof_log.specs.Writable.{HasNoLineFeed};
 ghost use Rattle.geo_prover.specs.Inner.FirstLines.{IsBrokenOffAmong, pieces};
-ghost use Rattle.geo_prover.specs.Inner.Written.{Writes, state};
+ghost use Rattle.log_maker.specs.Written.{Writes, state};
 
-use crate::errors::ProveError;
-use crate::log_writer::LogWriter;
 use geo_base::{Sink, Text};
 use geo_program::{Program, print};
+use log_maker::{LogWriter, ProveError};
 use proof_log::Line;
 use std::alloc::Global;
 

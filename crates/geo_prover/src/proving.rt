@@ -1,34 +1,23 @@
 //! The log of a program.
 
-ghost use Rattle.std.specs.Prelude.{◌≡◌, ◌≤◌, ℕ, [], IfErr, IfOk, IsErrOf, OnOk};
-ghost use Rattle.fraction_poly.specs.Inner.Known.{IsKnownOf};
+ghost use Rattle.std.specs.Prelude.{◌≡◌, ◌≤◌, ℕ, IfErr, IfOk, IsErrOf, OnOk};
 ghost use Rattle.geo_base.specs.Devices.{HasRisen};
 ghost use Rattle.geo_logs.specs.Ends.{too_long};
 ghost use Rattle.geo_logs.specs.Moves.{spent, too_large};
 ghost use Rattle.geo_poly.specs.declared.limits.Which.{Which};
 ghost use Rattle.geo_program.specs.Programs.{source_of};
-ghost use Rattle.geo_prover.specs.Inner.Halting.{Finishes, Halts};
-ghost use Rattle.geo_prover.specs.Inner.Parts.{CanWrite};
-ghost use Rattle.geo_prover.specs.Inner.Tasks.{IsReady, conditions_from};
-ghost use Rattle.geo_prover.specs.Inner.Written.{first_state, state};
+ghost use Rattle.log_maker.specs.Written.{first_state};
 ghost use Rattle.geo_prover.specs.Inner.Answers.{IsAnswerOf};
 ghost use Rattle.geo_prover.specs.Proving.{Concludes, StopsAt, WritesLog, WritesPart};
 
-use crate::conditions::work_conditions;
-use crate::ending::conclude;
-use crate::errors::ProveError;
-use crate::findings::Findings;
-use crate::goals::work_goals;
-use crate::log_writer::LogWriter;
 use crate::program_lines::write_first_lines;
 use crate::summary::Summary;
 use elim_apply::KnownNumbers;
 use geo_base::{Budget, Sink};
-use geo_conditions::Problem;
 use geo_lowering::Version;
 use geo_program::Program;
 use log_checker::versions::problem_by;
-use proof_log::{Line, Verdict};
+use log_maker::{Frame, LogWriter, ProveError, work};
 use std::alloc::Global;
 
 /// Writes the defined log of the program, each line as soon as it is made: the header, the program,
@@ -85,51 +74,18 @@ fn prove_all<K: Sink>(
     let mut budget = Budget { left: steps };
     let mut log = LogWriter::new();
     write_first_lines(alloc, program, &mut log, sink)?;
-    let verdict = work(alloc, &problem, &mut numbers, &mut budget, &mut log, sink)?;
+    let verdict = work(
+        alloc,
+        Frame::Full,
+        &problem,
+        &mut numbers,
+        &mut budget,
+        &mut log,
+        sink,
+    )?;
     Ok(Summary {
         verdict,
         lines: log.lines,
         charge: steps - budget.left,
     })
-}
-
-/// Writes the chains, and what follows them.
-fn work<K: Sink>(
-    alloc: Global,
-    problem: &Problem,
-    numbers: &mut KnownNumbers,
-    budget: &mut Budget,
-    log: &mut LogWriter,
-    sink: &mut K,
-) -> Result<Verdict, ProveError>
-    requires ready { IsReady problem.now }
-    requires numbers { IsKnownOf problem.now.steps.nodes numbers.old }
-    requires writable { CanWrite problem.now.steps
-        (conditions_from problem.now 0 [] [] budget.old.left) log.old.bytes }
-    ensures ok { IfOk result (λ verdict. Finishes
-        (conditions_from problem.now 0 [] [] budget.old.left)
-        (state log.old (K.held sink.old) (K.faults sink.old))
-        (state log.new (K.held sink.new) (K.faults sink.new)) verdict budget.new.left) }
-    ensures err { IfErr result (Halts problem.now.steps
-        (conditions_from problem.now 0 [] [] budget.old.left)
-        (state log.old (K.held sink.old) (K.faults sink.old))
-        (state log.new (K.held sink.new) (K.faults sink.new))) }
-{
-    let mut findings = Findings::new(alloc);
-    if let Some(k) = work_conditions(alloc, problem, &mut findings, numbers, budget, log, sink)? {
-        let verdict = Verdict::Impossible(k);
-        log.write(alloc, sink, &Line::Verdict(verdict))?;
-        return Ok(verdict);
-    }
-    let verdict = work_goals(alloc, problem, &mut findings, numbers, budget, log, sink)?;
-    conclude(
-        alloc,
-        &problem.steps,
-        &findings.ends,
-        verdict,
-        budget,
-        log,
-        sink,
-    )?;
-    Ok(verdict)
 }

@@ -1,6 +1,6 @@
-//! Tests that cross crates. There is nothing here but tests: of the calls that make a problem of a
-//! program, and of the
-//! moves of a chain, beside what a plain reference makes of the same programs.
+//! Tests of reading programs, and tests that cross crates: of the calls that make a problem of a
+//! program, and of the moves of a chain, beside what a plain reference makes of the same programs.
+//! There is nothing here but tests.
 #![tactic(auto)]
 
 #[cfg(test)]
@@ -19,6 +19,8 @@ mod move_texts;
 mod moves;
 #[cfg(test)]
 mod moves_table;
+#[cfg(test)]
+mod parsing;
 #[cfg(test)]
 mod places;
 #[cfg(test)]

@@ -35,6 +35,24 @@ const PLACED: &[(&str, &[i64], Result<&str, PlaceError>)] = &[
         &[1, 0, 4, 1, 0, 5],
         Ok("A 1 0 1\nB 4 1 1\nC 0 5 1\nX 13 13 6\nfails\n"),
     ),
+    // The denominator of a triple is the least common one of the two coordinates.
+    (
+        "point A point B point C weights X A B C div { 1 } { 2 } div { 1 } { 3 } \
+         prove { collinear A B C }",
+        &[0, 0, 1, 0, 0, 1],
+        Ok("A 0 0 1\nB 1 0 1\nC 0 1 1\nX 3 2 6\nfails\n"),
+    ),
+    (
+        "point A point B point C weights X A B C div { 1 } { 6 } div { -5 } { 4 } \
+         prove { collinear A B C }",
+        &[0, 0, 1, 0, 0, 1],
+        Ok("A 0 0 1\nB 1 0 1\nC 0 1 1\nX 2 -15 12\nfails\n"),
+    ),
+    (
+        "point A point B point C weights X A B C 0 7 prove { collinear A C X }",
+        &[0, 0, 1, 0, 0, 1],
+        Ok("A 0 0 1\nB 1 0 1\nC 0 1 1\nX 0 7 1\nholds\n"),
+    ),
     // An assumption is a condition of its line, and makes no point.
     (
         "point A point B assume different A B point C prove { collinear A B C }",

@@ -21,8 +21,6 @@ mod sampling;
 mod starting;
 mod state;
 mod stops;
-#[cfg(test)]
-mod tests;
 pub mod versions;
 mod work;
 

@@ -9,8 +9,6 @@ mod line_reader;
 mod log;
 mod reader;
 mod terms;
-#[cfg(test)]
-mod tests;
 mod writer;
 
 pub use errors::LineError;

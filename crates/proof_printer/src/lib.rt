@@ -12,7 +12,5 @@ mod pieces;
 mod polynomials;
 mod printer;
 mod printing;
-#[cfg(test)]
-mod tests;
 
 pub use printing::text;

@@ -26,6 +26,8 @@ fn reads_orders(rt: HostRuntime) -> Result<(), Fail> {
         ("place", Command::Place, 100_000_000),
         ("--steps 5 figure", Command::Figure, 5),
         ("cite --steps 5", Command::Cite, 5),
+        ("fixed --steps=5", Command::Fixed, 5),
+        ("--steps 5 discover", Command::Discover, 5),
         ("--steps=5 text", Command::Text, 5),
         ("--steps 7 bench 6", Command::Bench(6), 7),
         ("bench --steps 7 6", Command::Bench(6), 7),

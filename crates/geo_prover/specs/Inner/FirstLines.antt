@@ -1,13 +1,14 @@
 -- The header and the lines of the program.
-use Rattle.std.specs.Prelude.{◌≡◌, ℕ, ◌+◌, ◌<◌, ◌≤◌, List, [], ◌∷◌, ◌++◌, take}
+use Rattle.std.specs.Prelude.{◌≡◌, ℕ, ◌≤◌, List, [], ◌∷◌, ◌++◌, take}
 use Rattle.std.specs.List.{flat_map}
-use Rattle.geo_base.specs.Devices.{Grows, HasRisen}
+use Rattle.geo_base.specs.Devices.{HasRisen}
 use Rattle.geo_logs.specs.Ends.{text_length}
 use Rattle.proof_log.specs.declared.log.Line.{Line}
 use Rattle.proof_log.specs.Lines.{log_text}
-use Rattle.geo_prover.specs.declared.errors.ProveError.{ProveError}
-use Rattle.geo_prover.specs.declared.errors.ProveError.TheVariants.{TooLarge, Spent, TooLong, WriteFault, NoMemory}
-use Rattle.geo_prover.specs.Inner.Written.{State}
+use Rattle.log_maker.specs.declared.errors.ProveError.{ProveError}
+use Rattle.log_maker.specs.declared.errors.ProveError.TheVariants.{TooLarge, Spent, TooLong, WriteFault, NoMemory}
+use Rattle.log_maker.specs.Sizes.{Fits, HoldsText, IsPast, with_text}
+use Rattle.log_maker.specs.Written.{State}
 
 -- texts, each with its line feed
 abbrev pub pieces : List (List ℕ) → List ℕ
@@ -19,9 +20,9 @@ pub record IsTooLongAmong (all : List Line) (s t : State) : Type 0 where
   pub line : Line
   pub rest : List Line
   pub split : all ≡ before ++ line ∷ rest
-  pub fits : s.bytes + text_length before ≤ 67108864
-  pub long : 67108864 < s.bytes + text_length (before ++ line ∷ [])
-  pub written : Grows s.held (log_text before) t.held
+  pub fits : Fits (with_text s.size (text_length before))
+  pub long : IsPast (with_text s.size (text_length (before ++ line ∷ [])))
+  pub written : HoldsText s.size s.held (log_text before) t.held
   pub faults : t.faults ≡ s.faults
 
 -- some of the lines were written, within the limit, the last of them perhaps in part
@@ -30,8 +31,8 @@ pub record IsPartAmong (all : List Line) (s t : State) : Type 0 where
   pub rest : List Line
   pub count : ℕ
   pub split : all ≡ before ++ rest
-  pub fits : s.bytes + text_length before ≤ 67108864
-  pub written : Grows s.held (take count (log_text before)) t.held
+  pub fits : Fits (with_text s.size (text_length before))
+  pub written : HoldsText s.size s.held (take count (log_text before)) t.held
   pub faults : s.faults ≤ t.faults
 
 -- where the writing of lines breaks off, and why

@@ -1,6 +1,7 @@
 use Rattle.geo_cli.proofs.Decisive.{decisive}
 use Rattle.geo_cli.proofs.Placed.{done, unmet}
 use Rattle.geo_cli.proofs.Ended.{accepts, completes, decides, ends_in, has_number, misused, no_order, reads_nothing, takes_order}
+use Rattle.geo_cli.proofs.InPart.{in_part}
 use Rattle.geo_cli.proofs.OneDue.{one_is_called}
 use Rattle.geo_cli.proofs.SomeDue.{some_is_called}
 use Rattle.geo_cli.proofs.Uncited.{missed}
@@ -28,6 +29,14 @@ returns-in-Some-clause-no_instance g c = λ line.
 pub returns-in-Some-clause-accepted : goal.returns-in-Some-clause-accepted
 returns-in-Some-clause-accepted g c = λ verdict.
     accepts _ _ _ _ _ verdict _ _ _ _ _ (ends_in _ c.order_of.ensures.one _ c.in-Some.ensures.given _ _ _ _ _ _ _ _ _ c.carry_out.ensures.answers)
+
+pub returns-in-Some-clause-in_part : goal.returns-in-Some-clause-in_part
+returns-in-Some-clause-in_part g c = λ steps given unfinished.
+    in_part _ c.order_of.ensures.one steps given _ _ _ _ _ unfinished _ _ _ _
+    (ends_in _ c.order_of.ensures.one _ c.in-Some.ensures.given _ _ _ _ _ _ _ _ _ c.carry_out.ensures.answers)
+
+pub returns-in-None-clause-in_part : goal.returns-in-None-clause-in_part
+returns-in-None-clause-in_part g c = λ steps given unfinished. absurd (no_order _ _ c.order_of.ensures.complete c.in-None.is _ given)
 
 pub returns-in-Some-clause-ends : goal.returns-in-Some-clause-ends
 returns-in-Some-clause-ends g c = ends_in _ c.order_of.ensures.one _ c.in-Some.ensures.given _ _ _ _ _ _ _ _ _ c.carry_out.ensures.answers

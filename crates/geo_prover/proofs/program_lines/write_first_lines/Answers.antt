@@ -4,16 +4,22 @@ use Rattle.geo_program.specs.Programs.{program_text, source_of}
 use Rattle.geo_program.proofs.Propositions.{program_well_formed}
 use Rattle.log_checker.specs.Subjects.{source_lines}
 use Rattle.log_checker.proofs.LineFeeds.{program_one_line}
+use Rattle.proof_log.specs.Writable.{IsWritable}
 use Rattle.proof_log.specs.declared.log.Line.TheVariants.{Header, Program as ProgramLine}
 use Rattle.geo_prover.proofs.FirstLines.{broken_on, program_pieces, unwritten_first}
-use Rattle.geo_prover.proofs.Handing.{if_err}
-use Rattle.geo_prover.proofs.Passing.{writes_more}
+use Rattle.log_maker.proofs.Handing.{if_err}
+use Rattle.log_maker.proofs.Passing.{writes_more}
+use Rattle.log_maker.proofs.Sizing.{takable_of}
 use Rattle.geo_prover.proofs.program_lines.write_first_lines.Goals as goal
+
+pub write-requires : goal.write-requires
+write-requires g c = takable_of _ (Header 2) (let h : IsWritable (Header 2) = search rules in h)
 
 pub returns-in_err-write-clause-err : goal.returns-in_err-write-clause-err
 returns-in_err-write-clause-err g c =
     if_err _ _ c.in_err-write.field-0.0 c.from_residual-in_err-write.ensures.1
-    (unwritten_first _ _ c.args.log.now.within (Header 2) (map ProgramLine (source_lines (source_of c.args.program.now))) c.in_err-write.field-0.0 c.in_err-write.ensures.err)
+    (unwritten_first _ _ c.args.log.now.within (Header 2)
+    (map ProgramLine (source_lines (source_of c.args.program.now))) c.in_err-write.field-0.0 c.in_err-write.ensures.err)
 
 pub returns-clause-ok : goal.returns-clause-ok
 returns-clause-ok g c =

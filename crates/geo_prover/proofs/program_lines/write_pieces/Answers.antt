@@ -2,20 +2,23 @@ use Rattle.std.proofs.Common.{◌≡◌, ◌+◌, ℕ, List, [], ◌∷◌, take
 use Rattle.std.proofs.lemmas.List.{take_rest}
 use Rattle.proof_log.specs.declared.log.Line.TheVariants.{Program as ProgramLine}
 use Rattle.proof_log.specs.Writable.{HasNoLineFeed}
-use Rattle.geo_prover.specs.declared.errors.ProveError.TheVariants.{NoMemory}
-use Rattle.geo_prover.specs.Inner.Written.{IsUnwritten, Writes, state}
+use Rattle.log_maker.specs.declared.errors.ProveError.TheVariants.{NoMemory}
+use Rattle.log_maker.specs.Written.{IsUnwritten, Writes, state}
 use Rattle.geo_prover.proofs.FirstLines.{IsBetween, at_last, first_feed, memory_between, one_more, piece_breaks}
-use Rattle.geo_prover.proofs.Handing.{if_err}
+use Rattle.log_maker.proofs.Handing.{if_err}
+use Rattle.log_maker.proofs.Sizing.{takable_of}
 use Rattle.geo_prover.proofs.program_lines.write_pieces.Goals as goal
 
 pub returns-in_err-bytes-clause-err : goal.returns-in_err-bytes-clause-err
 returns-in_err-bytes-clause-err g c =
-    if_err _ _ NoMemory c.from_residual.ensures.1 (λ lines e h. memory_between lines c.loop-end.rest.now _ _ (c.loop-end.invariant lines e h) c.loop-end.log.within)
+    if_err _ _ NoMemory c.from_residual.ensures.1 (λ lines e h. memory_between lines c.loop-end.rest.now _ _
+    (c.loop-end.invariant lines e h) c.loop-end.log.within)
 
 pub write-requires : goal.write-requires
 write-requires g c =
     let same : c.in_ok-bytes.bytes.items ≡ take c.in-Some.end c.loop-end.rest.now = search rules in
-    subst HasNoLineFeed (sym same) (first_feed c.loop-end.rest.now c.in-Some.end (sym c.in-Some.ensures)).clean
+    takable_of _ (ProgramLine c.in_ok-bytes.bytes.items)
+    (subst HasNoLineFeed (sym same) (first_feed c.loop-end.rest.now c.in-Some.end (sym c.in-Some.ensures)).clean)
 
 pub returns-in_err-write-clause-err : goal.returns-in_err-write-clause-err
 returns-in_err-write-clause-err g c =
@@ -23,7 +26,8 @@ returns-in_err-write-clause-err g c =
     let s = state c.loop-end.log (g.K.Sink.held c.loop-end.sink) (g.K.Sink.faults c.loop-end.sink) in
     let t = state c.write.new.self (g.K.Sink.held c.write.new.sink) (g.K.Sink.faults c.write.new.sink) in
     if_err _ _ c.in_err-write.field-0.0 c.from_residual-in_err-write.ensures.1
-    (λ lines e h. piece_breaks lines c.loop-end.rest.now _ s t c.in-Some.end c.in_err-write.field-0.0 (c.loop-end.invariant lines e h) c.loop-end.log.within (sym c.in-Some.ensures)
+    (λ lines e h. piece_breaks lines c.loop-end.rest.now _ s t c.in-Some.end c.in_err-write.field-0.0
+    (c.loop-end.invariant lines e h) c.loop-end.log.within (sym c.in-Some.ensures)
     (subst (λ (x : List ℕ). IsUnwritten (ProgramLine x) s t c.in_err-write.field-0.0) same c.in_err-write.ensures.err))
 
 pub loop-end-preserved : goal.loop-end-preserved

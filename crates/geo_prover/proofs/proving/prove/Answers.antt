@@ -1,6 +1,6 @@
 use Rattle.std.proofs.lemmas.Result.{IfErr-at_err}
 use Rattle.geo_program.specs.Programs.{source_of}
-use Rattle.geo_prover.specs.Inner.Written.{first_state}
+use Rattle.log_maker.specs.Written.{first_state}
 use Rattle.geo_prover.proofs.Finishing.{faults_heard, faults_kept}
 use Rattle.geo_prover.proofs.proving.prove.Goals as goal
 
@@ -22,9 +22,11 @@ returns-clause-memory g c = λ e. (IfErr-at_err _ e c.prove_all.ensures.err).0
 pub returns-clause-faults : goal.returns-clause-faults
 returns-clause-faults g c =
     faults_kept (source_of c.args.program.now) c.args.steps (first_state (g.K.Sink.held c.args.sink.now) (g.K.Sink.faults c.args.sink.now))
-    (first_state (g.K.Sink.held c.prove_all.new.sink) (g.K.Sink.faults c.prove_all.new.sink)) c.prove_all.result c.prove_all.ensures.faults c.prove_all.ensures.err
+    (first_state (g.K.Sink.held c.prove_all.new.sink)
+    (g.K.Sink.faults c.prove_all.new.sink)) c.prove_all.result c.prove_all.ensures.faults c.prove_all.ensures.err
 
 pub returns-clause-heard : goal.returns-clause-heard
 returns-clause-heard g c =
     faults_heard (source_of c.args.program.now) c.args.steps (first_state (g.K.Sink.held c.args.sink.now) (g.K.Sink.faults c.args.sink.now))
-    (first_state (g.K.Sink.held c.prove_all.new.sink) (g.K.Sink.faults c.prove_all.new.sink)) c.prove_all.result c.prove_all.ensures.faults c.prove_all.ensures.err
+    (first_state (g.K.Sink.held c.prove_all.new.sink)
+    (g.K.Sink.faults c.prove_all.new.sink)) c.prove_all.result c.prove_all.ensures.faults c.prove_all.ensures.err

@@ -1,4 +1,0 @@
-use Rattle.elim_apply.proofs.tests.applied.Given as goal
-
-abbrev pub ghosts-applied_in : goal.ghosts-applied_in
-ghosts-applied_in a = record { name = a.blank.name; parts = a.blank.parts }

@@ -1,0 +1,18 @@
+use Rattle.std.proofs.Common.{◌≡◌}
+use Rattle.fraction_poly.specs.Inner.Known.{IsKnownOf}
+use Rattle.log_maker.specs.Halting.{Passes}
+use Rattle.log_maker.specs.Tasks.{goals_from}
+use Rattle.log_maker.specs.Written.{state}
+use Rattle.log_maker.proofs.goals.work_goals.Given as goal
+
+-- the goals before were written, and the findings stay
+abbrev pub invariant-loop-i : goal.invariant-loop-i
+invariant-loop-i g l = record {
+  passes : Passes
+      (goals_from l.frame l.steps l.terms.nodes l.goals 0 l.initial.findings.known l.initial.findings.ends l.initial.budget.left)
+      (goals_from l.frame l.steps l.terms.nodes l.goals l.i l.initial.findings.known l.initial.findings.ends l.budget.left)
+      (state l.initial.log (g.K.Sink.held l.initial.sink) (g.K.Sink.faults l.initial.sink))
+      (state l.log (g.K.Sink.held l.sink) (g.K.Sink.faults l.sink));
+  kept : l.findings ≡ l.initial.findings;
+  numbers : IsKnownOf l.steps.nodes l.numbers;
+}

@@ -1,0 +1,12 @@
+//! Tests of polynomials, of what is made of them, and of samples. There is nothing here but tests, and
+//! they use public calls alone.
+#![tactic(auto)]
+
+#[cfg(test)]
+mod factors;
+#[cfg(test)]
+mod fractions;
+#[cfg(test)]
+mod polynomials;
+#[cfg(test)]
+mod samples;
