@@ -1,5 +1,5 @@
 -- The parts of a replacement.
-use Rattle.std.proofs.Common.{◌≡◌, ℕ, ◌+◌, ◌*◌, ◌-◌, ◌^◌, ◌≤◌, ℤ, Option, Some, None, List, [], ◌∷◌, ◌++◌, refl, ap, ◌∙◌, unsigned_abs, arith}
+use Rattle.std.proofs.Common.{◌≡◌, ℕ, ◌+◌, ◌*◌, ◌-◌, ◌≤◌, ℤ, Option, Some, None, List, [], ◌∷◌, ◌++◌, refl, ap, ◌∙◌, unsigned_abs, arith}
 use Rattle.std.proofs.Math.Nat.{mul-le-mul, mul-le-mul_left}
 use Rattle.std.proofs.lemmas.List.Sums.{sum_by-cons, sum_by-append}
 use Rattle.geo_poly.specs.declared.variables.Var.{Var}

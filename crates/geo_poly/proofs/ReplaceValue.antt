@@ -130,7 +130,7 @@ module _ (R : Ring) (x : Var → R.carrier) where
         let m = monomial_value R x t.0 in
         let o = monomial_value R x (others rows t.0) in
         let n = rows_value rows t.0 in
-        let start = (others rows t.0, t.1) ∷ [] in
+        let start : Summands = (others rows t.0, t.1) ∷ [] in
         let all : k +ₙ (top -ₙ k) ≡ top = omega (arith, le) in
         value-product_of R x (product_of start (numerators rows t.0)) (power_of den (top -ₙ k))
         ∘ times (value-product_of R x start (numerators rows t.0) ∘ times (R.add-zero (i * o)) (value-numerators rows t.0) ∘ R.mul_assoc i o n
