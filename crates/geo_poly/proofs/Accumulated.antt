@@ -57,8 +57,8 @@ accumulated_term-is rows den top t h =
     ∙ ap (λ x. product_of x (power_of den lacking)) (times_rows-is rows t.0 start h)
 
 -- THE LAW: of a polynomial both make the same
-pub accumulated_is_replaced : (rows : List Row) (den : Summands) (top : ℕ) (p : Summands) → IsCanonical term_cmp coefficients p → AllKeys IsMonomial p
-    → accumulated_terms rows den top p ≡ replaced_terms rows den top p
+pub accumulated_is_replaced : (rows : List Row) (den : Summands) (top : ℕ) (p : Summands)
+    → IsCanonical term_cmp coefficients p → AllKeys IsMonomial p → accumulated_terms rows den top p ≡ replaced_terms rows den top p
 accumulated_is_replaced rows den top [] c h = refl
 accumulated_is_replaced rows den top (t ∷ ts) c h =
     let start : IsNormal ((others rows t.0, t.1) ∷ []) =

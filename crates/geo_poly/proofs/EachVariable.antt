@@ -13,7 +13,8 @@ use Rattle.geo_poly.specs.declared.replacement.Row.{Row}
 use Rattle.geo_poly.specs.declared.variables.Var.{Var}
 use Rattle.geo_poly.specs.Monomials.{Powers, IsMonomial, exponent, exponents, product}
 use Rattle.geo_poly.specs.Polynomials.{Summands, coefficients, term_cmp, polynomial_of, multiples, products, product_of}
-use Rattle.geo_poly.specs.Replace.{denominators, kept, most_denominators, numerator_power, numerators, others, power_of, replaced_by, replaced_term, replaced_terms, row_of}
+use Rattle.geo_poly.specs.Replace.{denominators, kept, most_denominators, numerator_power, numerators, others, power_of}
+use Rattle.geo_poly.specs.Replace.{replaced_by, replaced_term, replaced_terms, row_of}
 use Rattle.geo_poly.specs.Variables.{var_cmp}
 use Rattle.geo_poly.proofs.FactorLaws.{multiples-product}
 use Rattle.geo_poly.proofs.MonomialOrder.{exponent-product}
@@ -76,14 +77,17 @@ module _ (Holds : Var → Type 0) where
   of-numerators : (rows : List Row) (m : Powers) → OfNumerators rows → AllVariables Holds (numerators rows m)
   of-numerators rows [] h = (tt, tt)
   of-numerators rows (v ∷ m) h =
-      of-product_of (numerator_power (row_of rows v.0) v.1) (numerators rows m) (of-numerator_power (row_of rows v.0) v.1 (of-row rows v.0 h)) (of-numerators rows m h)
+      let o = row_of rows v.0 in
+      of-product_of (numerator_power o v.1) (numerators rows m) (of-numerator_power o v.1 (of-row rows v.0 h)) (of-numerators rows m h)
 
-  pub of-term : (rows : List Row) (den : Summands) (top : ℕ) (t : Powers × ℤ) → OfNumerators rows → AllVariables Holds den → OfMonomial (others rows t.0)
-      → AllVariables Holds (replaced_term rows den top t)
+  pub of-term : (rows : List Row) (den : Summands) (top : ℕ) (t : Powers × ℤ) → OfNumerators rows → AllVariables Holds den
+      → OfMonomial (others rows t.0) → AllVariables Holds (replaced_term rows den top t)
   of-term rows den top t g d h =
       let start = (others rows t.0, t.1) ∷ [] in
-      let front = of-product_of start (numerators rows t.0) (h, tt) (of-numerators rows t.0 g) in
-      of-product_of (product_of start (numerators rows t.0)) (power_of den (top - denominators rows t.0)) front (of-power_of den (top - denominators rows t.0) d)
+      let nums = numerators rows t.0 in
+      let lacking = top - denominators rows t.0 in
+      let front = of-product_of start nums (h, tt) (of-numerators rows t.0 g) in
+      of-product_of (product_of start nums) (power_of den lacking) front (of-power_of den lacking d)
 
   of-others : (rows : List Row) (m : Powers) → OfMonomial m → OfMonomial (others rows m)
   of-others rows [] h = tt
@@ -97,7 +101,8 @@ module _ (Holds : Var → Type 0) where
       → AllVariables Holds (replaced_terms rows den top q)
   of-replaced_terms rows den top [] g d h = tt
   of-replaced_terms rows den top (t ∷ ts) g d h =
-      of-append (replaced_term rows den top t) (replaced_terms rows den top ts) (of-term rows den top t g d (of-others rows t.0 h.0)) (of-replaced_terms rows den top ts g d h.1)
+      of-append (replaced_term rows den top t) (replaced_terms rows den top ts)
+      (of-term rows den top t g d (of-others rows t.0 h.0)) (of-replaced_terms rows den top ts g d h.1)
 
   pub of-replaced_by : (rows : List Row) (den q : Summands) → OfNumerators rows → AllVariables Holds den → AllVariables Holds q
       → AllVariables Holds (replaced_by rows den q)

@@ -46,7 +46,8 @@ module _ (Holds : Var → Type 0) where
       → AllVariables Holds (replaced_terms rows den top p)
   of-terms rows den top [] g d h = tt
   of-terms rows den top (t ∷ ts) g d h =
-      of-append Holds (replaced_term rows den top t) (replaced_terms rows den top ts) (of-term Holds rows den top t g d (of-others rows t.0 h.0)) (of-terms rows den top ts g d h.1)
+      of-append Holds (replaced_term rows den top t) (replaced_terms rows den top ts)
+      (of-term Holds rows den top t g d (of-others rows t.0 h.0)) (of-terms rows den top ts g d h.1)
 
   pub of-replacement : (rows : List Row) (den p : Summands) → AllNumerators Holds rows → AllVariables Holds den → AllVariables (Stays rows) p
       → AllVariables Holds (replaced_by rows den p)

@@ -75,21 +75,28 @@ norm_of-numerators-le rows (v ∷ m) w h =
     let o = row_of rows v.0 in
     let first = numerator_power o v.1 in
     let product = mul-le-mul_left w (norm_of-product_of-le first (numerators rows m)) in
-    omega (arith, product, norm_of-numerators-le rows m (w * norm_of first) h, weight_rows-mono rows m (w * norm_of first) (weight_row o v.1 w) (go o refl))
+    omega (
+      arith,
+      product,
+      norm_of-numerators-le rows m (w * norm_of first) h,
+      weight_rows-mono rows m (w * norm_of first) (weight_row o v.1 w) (go o refl),
+    )
   where
     go : (o : Option Row) → row_of rows v.0 ≡ o → w * norm_of (numerator_power o v.1) ≤ weight_row o v.1 w
     go None e = omega arith
     go (Some r) e = mul-le-mul_left w (norm_of-power_of-le r.num.poly r.num.weight v.1 (bounded_row rows v.0 r h e).norm)
 
-norm_of-replaced_term-le : (rows : List Row) (den : Piece) (top : ℕ) (t : Powers × ℤ) → AllBounded rows → IsBounded den → norm_of (replaced_term rows den.poly top t) ≤ term_weight rows den top t
+norm_of-replaced_term-le : (rows : List Row) (den : Piece) (top : ℕ) (t : Powers × ℤ) → AllBounded rows → IsBounded den
+    → norm_of (replaced_term rows den.poly top t) ≤ term_weight rows den top t
 norm_of-replaced_term-le rows den top t h b =
     let start = (others rows t.0, t.1) ∷ [] in
     let nums = numerators rows t.0 in
-    let power = power_of den.poly (top - denominators rows t.0) in
+    let lacking = top - denominators rows t.0 in
     let one : norm_of start ≡ unsigned_abs t.1 = omega arith in
     let front : norm_of (product_of start nums) ≤ weight_rows rows t.0 (unsigned_abs t.1) =
     omega (arith, norm_of-product_of-le start nums, ap (λ n. n * norm_of nums) one, norm_of-numerators-le rows t.0 (unsigned_abs t.1) h) in
-    omega (arith, norm_of-product_of-le (product_of start nums) power, mul-le-mul front (norm_of-power_of-le den.poly den.weight (top - denominators rows t.0) b.norm))
+    let whole = mul-le-mul front (norm_of-power_of-le den.poly den.weight lacking b.norm) in
+    omega (arith, norm_of-product_of-le (product_of start nums) (power_of den.poly lacking), whole)
 
 pub norm_of-replaced_terms-le : (rows : List Row) (den : Piece) (top : ℕ) (p : Summands) → AllBounded rows → IsBounded den → norm_of (replaced_terms rows den.poly top p) ≤ weight_of rows den top p
 norm_of-replaced_terms-le rows den top [] h b = omega arith
@@ -116,7 +123,8 @@ pub IsCanonical-polynomial_of : (p : Summands) → IsCanonical term_cmp coeffici
 IsCanonical-polynomial_of p = IsCanonical-canonical term_cmp coefficients term_order coefficients_add p
 
 -- EACH MONOMIAL IS ONE
-total_degree-numerators-le : (rows : List Row) (m : Powers) (d : ℕ) → AllBounded rows → d + total_degree (numerators rows m) ≤ degree_rows rows m d
+total_degree-numerators-le : (rows : List Row) (m : Powers) (d : ℕ) → AllBounded rows
+    → d + total_degree (numerators rows m) ≤ degree_rows rows m d
 total_degree-numerators-le rows [] d h = omega arith
 total_degree-numerators-le rows (v ∷ m) d h =
     let o = row_of rows v.0 in
@@ -137,13 +145,13 @@ monomials_of_replaced_term : (rows : List Row) (den : Piece) (top : ℕ) (t : Po
 monomials_of_replaced_term rows den top t h b fits =
     let start = (others rows t.0, t.1) ∷ [] in
     let nums = numerators rows t.0 in
-    let power = power_of den.poly (top - denominators rows t.0) in
+    let lacking = top - denominators rows t.0 in
     let one : total_degree start ≡ degree_of (others rows t.0) = omega arith in
     let front = total_degree-product_of-le start nums in
     let rows-fit = total_degree-numerators-le rows t.0 (degree_of (others rows t.0)) h in
-    let power-fits = total_degree-power_of-le den.poly den.degree (top - denominators rows t.0) b.degree in
-    AllKeys-canonical term_cmp coefficients IsMonomial (products (product_of start nums) power)
-    (monomials_of_products (product_of start nums) power (omega (arith, one, front, rows-fit, power-fits, fits)))
+    let power-fits = total_degree-power_of-le den.poly den.degree lacking b.degree in
+    AllKeys-canonical term_cmp coefficients IsMonomial (products (product_of start nums) (power_of den.poly lacking))
+    (monomials_of_products (product_of start nums) (power_of den.poly lacking) (omega (arith, one, front, rows-fit, power-fits, fits)))
 
 monomials_of_replaced_terms : (rows : List Row) (den : Piece) (top : ℕ) (p : Summands) → AllBounded rows → IsBounded den
     → degree_bound rows den top p ≤ 65535 → AllKeys IsMonomial (replaced_terms rows den.poly top p)

@@ -18,7 +18,8 @@ use Rattle.geo_poly.specs.Values.{integer, monomial_value, value}
 use Rattle.ring_laws.proofs.Fractions.{fractions}
 use Rattle.ring_laws.specs.Fraction.{Fraction}
 use Rattle.geo_poly.specs.ReplacementLaws.{ReplacementHasTheValue, RowsTell}
-use Rattle.geo_poly.specs.Replace.{row_of, power_in, denominators, most_denominators, kept, others, power_of, numerator_power, numerators, replaced_term, replaced_terms, replaced_by}
+use Rattle.geo_poly.specs.Replace.{row_of, power_in, denominators, most_denominators, kept, others, power_of}
+use Rattle.geo_poly.specs.Replace.{numerator_power, numerators, replaced_term, replaced_terms, replaced_by}
 use Rattle.geo_poly.proofs.Orders.{var_order}
 use Rattle.geo_poly.proofs.Values.{value-append, value-polynomial_of, value-product_of}
 
@@ -103,7 +104,8 @@ module _ (R : Ring) (x : Var → R.carrier) where
       where
         go : (o : Option Row) → row_of rows v.0 ≡ o
             → monomial_value R x (others rows m) * rows_value rows m ≈ monomial_value R x m * power R d (denominators rows m)
-            → monomial_value R x (kept o v (others rows m)) * (row_value o v.1 * rows_value rows m) ≈ power R (x v.0) v.1 * monomial_value R x m * power R d (power_in o *ₙ v.1 +ₙ denominators rows m)
+            → monomial_value R x (kept o v (others rows m)) * (row_value o v.1 * rows_value rows m)
+            ≈ power R (x v.0) v.1 * monomial_value R x m * power R d (power_in o *ₙ v.1 +ₙ denominators rows m)
         go None o rest =
             let a = variable 0 in let b = variable 1 in let c = variable 2 in
             let none : 0 *ₙ v.1 +ₙ denominators rows m ≡ denominators rows m = omega arith in

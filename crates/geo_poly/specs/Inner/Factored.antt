@@ -95,7 +95,8 @@ pub record AreFactors (setting : Setting) (m : Powers) (ks : List ℕ) : Type 0 
 
 -- the terms, in any order and with their factors, become what the polynomial q becomes, with no more weight and no more products
 pub record ArePending (setting : Setting) (p : Shared) (q : Summands) (es : List Pending) : Type 0 where
-  pub terms : polynomial_of (factored_terms (map (told_pending setting p 0) es)) ≡ polynomial_of (accumulated_terms setting.rows.now setting.den.piece.now.poly setting.top q)
+  pub terms : polynomial_of (factored_terms (map (told_pending setting p 0) es))
+      ≡ polynomial_of (accumulated_terms setting.rows.now setting.den.piece.now.poly setting.top q)
   pub weight : factored_weight (map (told_pending setting p 0) es) ≤ weight_of setting.rows.now setting.den.piece.now setting.top q
   pub products : factored_products (map (told_pending setting p 0) es) ≤ products_of_terms setting.rows.now setting.den.piece.now setting.top q
   pub pending : All (IsPending setting p 0) es

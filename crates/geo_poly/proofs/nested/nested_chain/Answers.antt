@@ -28,7 +28,9 @@ returns-clause-chain g c =
     let p = c.args.p.now in
     let found = subst (λ (es : List Pending). ArePending setting p (told p) es) (sym c.deref.ensures.value) c.in_ok-pending.ensures.pending in
     let can = c.requires.can in
-    let terms = found.terms ∙ ap polynomial_of (accumulated_is_replaced setting.rows.now setting.den.piece.now.poly setting.top (told p) can.in_order can.monomials) in
+    let den = setting.den.piece.now.poly in
+    let same = accumulated_is_replaced setting.rows.now den setting.top (told p) can.in_order can.monomials in
+    let terms = found.terms ∙ ap polynomial_of same in
     IfOk-weaker c.nested_sum.result _ _
     (λ v h. subst (λ (q : Summands). StandsFor setting.vars.now c.nested_sum.new.store c.nested_sum.new.arena v q) terms h)
     c.nested_sum.ensures.chain
