@@ -15,11 +15,11 @@ pub loop-first-init : goal.loop-first-init
 loop-first-init c =
     let rows = sketches c.args.rows.now in
     let t = term_at c.args.poly.now c.args.i in
-    let is : told_term c.shared-p.result c.term-rest.result ≡ t = c.term-rest.ensures.term
+    let is : told_term c.shared-p.result c.term.result ≡ t = c.term.ensures.term
     ∙ ap (λ (q : Summands). term_at q c.args.i) c.shared-p.ensures.terms in
     let monomial = monomial_at c.args.poly.now c.args.i c.requires.valid.monomials c.requires.term in
     record {
-      index = c.term-rest.ensures.index;
+      index = c.term.ensures.index;
       so_far = ap (λ (u : Powers × ℤ). denominators rows u.0) is;
       small = omega (arith, denominators-le rows t.0 c.requires.powers, monomial.degree_fits);
     }
