@@ -20,6 +20,6 @@ loop-first-init c =
     let monomial = monomial_at c.args.poly.now c.args.i c.requires.valid.monomials c.requires.term in
     record {
       index = c.term.ensures.index;
-      so_far = ap (λ (u : Powers × ℤ). denominators rows u.0) is;
+      so_far = omega (arith, ap (λ (u : Powers × ℤ). denominators rows u.0) is);
       small = omega (arith, denominators-le rows t.0 c.requires.powers, monomial.degree_fits);
     }
