@@ -12,12 +12,12 @@ use Rattle.geo_chain.proofs.highest.highest_in_term.Goals as goal
 
 pub loop-power-init : goal.loop-power-init
 loop-power-init c =
-    let is : told_term c.shared-p.result c.term-id.result ≡ term_at c.args.poly.now c.args.i = c.term-id.ensures.term
+    let is : told_term c.shared-p.result c.term.result ≡ term_at c.args.poly.now c.args.i = c.term.ensures.term
     ∙ ap (λ (q : Summands). term_at q c.args.i) c.shared-p.ensures.terms in
     record {
-      index = c.term-id.ensures.index;
+      index = c.term.ensures.index;
       walked = begun IsNoHigher by_height (MakesPoint c.args.steps.now) (term_at c.args.poly.now c.args.i).0 c.args.before
-          (told_powers c.shared-p.result c.term-id.result.0) (ap (λ (u : Powers × ℤ). u.0) is);
+          (told_powers c.shared-p.result c.term.result.0) (ap (λ (u : Powers × ℤ). u.0) is);
     }
 
 pub highest_with-highest-requires : goal.highest_with-highest-requires
