@@ -1,12 +1,10 @@
-use Rattle.std.proofs.Common.{◌≡◌, ℕ, ap, sym, subst, ◌∙◌, arith}
+use Rattle.std.proofs.Common.{◌≡◌, ap, ◌∙◌, arith}
 use Rattle.std.specs.Prelude.{ℤ}
-use Rattle.elim_apply.specs.Inner.Sketches.{sketched, sketches}
-use Rattle.geo_poly.specs.declared.replacement.Row.{Row}
-use Rattle.geo_poly.specs.declared.variables.Var.{Var}
+use Rattle.elim_apply.specs.Inner.Sketches.{sketches}
 use Rattle.geo_poly.specs.Monomials.{Powers}
 use Rattle.geo_poly.specs.Polynomials.{Summands, term_at}
-use Rattle.geo_poly.specs.Replace.{denominators, power_in}
-use Rattle.geo_poly.specs.Shared.{told_powers, told_term}
+use Rattle.geo_poly.specs.Replace.{denominators}
+use Rattle.geo_poly.specs.Shared.{told_term}
 use Rattle.geo_poly.proofs.Capped.{denominators-le}
 use Rattle.elim_apply.proofs.LineShares.{monomial_at}
 use Rattle.elim_apply.proofs.sizes.denominators_of.Goals as goal
