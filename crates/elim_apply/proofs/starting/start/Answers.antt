@@ -10,9 +10,12 @@ pay_start-requires c = c.in_ok-numbers.ensures ∙ ap (λ (nodes : Store). cappe
 
 pub returns-in_err-pay_start-clause-spent : goal.returns-in_err-pay_start-clause-spent
 returns-in_err-pay_start-clause-spent c = λ h.
-    c.in_err-pay_start.ensures.spent (ap Err (handed_on c.from_residual-in_err-pay_start.result c.in_err-pay_start.field-0.0 Spent c.from_residual-in_err-pay_start.ensures.1 h))
+    c.in_err-pay_start.ensures.spent
+    (ap Err (handed_on c.from_residual-in_err-pay_start.result c.in_err-pay_start.field-0.0 Spent
+    c.from_residual-in_err-pay_start.ensures.1 h))
 
 pub returns-in_err-pay_start-clause-too_large : goal.returns-in_err-pay_start-clause-too_large
 returns-in_err-pay_start-clause-too_large c = λ which h.
     c.in_err-pay_start.ensures.too_large which
-    (ap Err (handed_on c.from_residual-in_err-pay_start.result c.in_err-pay_start.field-0.0 (TooLarge which) c.from_residual-in_err-pay_start.ensures.1 h))
+    (ap Err (handed_on c.from_residual-in_err-pay_start.result c.in_err-pay_start.field-0.0 (TooLarge which)
+    c.from_residual-in_err-pay_start.ensures.1 h))
