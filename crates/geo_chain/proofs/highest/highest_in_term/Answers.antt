@@ -1,4 +1,4 @@
-use Rattle.std.proofs.Common.{◌≡◌, ℕ, ap, ◌∙◌}
+use Rattle.std.proofs.Common.{◌≡◌, ap, ◌∙◌}
 use Rattle.std.specs.Prelude.{ℤ}
 use Rattle.fraction_poly.specs.TableRows.{HasPointsBelow}
 use Rattle.geo_chain.proofs.Places.{variable_at}
