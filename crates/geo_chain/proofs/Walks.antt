@@ -15,8 +15,11 @@ record IsNext {X : Type 0} (xs : List X) (j : ℕ) (x : X) (rest : List X) : Typ
 next : {X : Type 0} (xs : List X) (j : ℕ) (x : X) (rest : List X) → drop j xs ≡ x ∷ rest → IsNext xs j x rest
 next [] zero x rest e = absurd (cc)
 next [] (suc j) x rest e = absurd (cc)
-next (y ∷ ys) zero x rest e = let same : y ≡ x = cc in let left : ys ≡ rest = cc in record { stands = ap Some same; behind = left; within = omega arith }
-next (y ∷ ys) (suc j) x rest e = let h = next ys j x rest e in record { stands = h.stands; behind = h.behind; within = omega (arith, h.within) }
+next (y ∷ ys) zero x rest e =
+    let same : y ≡ x = cc in
+    let left : ys ≡ rest = cc in record { stands = ap Some same; behind = left; within = omega arith }
+next (y ∷ ys) (suc j) x rest e =
+    let h = next ys j x rest e in record { stands = h.stands; behind = h.behind; within = omega (arith, h.within) }
 
 -- the powers before those that are left have been searched
 pub record Walked {A : Type 0} (NoBetter : A → A → Type 0) (Brings : Var → A → Type 0) (m left : Powers) (before after : Option A) : Type 0 where
@@ -25,11 +28,13 @@ pub record Walked {A : Type 0} (NoBetter : A → A → Type 0) (Brings : Var →
   pub left-is : drop place m ≡ left
   pub found : Improves NoBetter (IsMetIn Brings m place) before after
 
-module _ {A : Type 0} (NoBetter : A → A → Type 0) (order : IsOrder NoBetter) (Brings : Var → A → Type 0) (m : Powers) (x : Option A) where
+module _ {A : Type 0} (NoBetter : A → A → Type 0) (order : IsOrder NoBetter) (Brings : Var → A → Type 0)
+    (m : Powers) (x : Option A) where
   pub begun : (left : Powers) → left ≡ m → Walked NoBetter Brings m left x x
   begun left e = record { place = 0; within = omega arith; left-is = sym e; found = no_place NoBetter order Brings m x }
 
-  pub next_stands : (left rest : Powers) (p : Var × ℕ) (y : Option A) → left ≡ p ∷ rest → (h : Walked NoBetter Brings m left x y) → slice_get m h.place ≡ Some p
+  pub next_stands : (left rest : Powers) (p : Var × ℕ) (y : Option A) → left ≡ p ∷ rest → (h : Walked NoBetter Brings m left x y)
+      → slice_get m h.place ≡ Some p
   next_stands left rest p y e h = (next m h.place p rest (h.left-is ∙ e)).stands
 
   pub walked_on : (left rest : Powers) (p : Var × ℕ) (y z : Option A) → left ≡ p ∷ rest → Walked NoBetter Brings m left x y
@@ -49,5 +54,6 @@ module _ {A : Type 0} (NoBetter : A → A → Type 0) (order : IsOrder NoBetter)
   no_more (suc j) [] e = omega arith
   no_more (suc j) (p ∷ xs) e = let h = no_more j xs e in omega (arith, h)
 
-  pub walked : (left : Powers) (y : Option A) → left ≡ [] → Walked NoBetter Brings m left x y → Improves NoBetter (IsMetIn Brings m (length m)) x y
+  pub walked : (left : Powers) (y : Option A) → left ≡ [] → Walked NoBetter Brings m left x y
+      → Improves NoBetter (IsMetIn Brings m (length m)) x y
   walked left y e h = all_places NoBetter order Brings m h.place x y (no_more h.place m (h.left-is ∙ e)) h.within h.found
