@@ -1,0 +1,17 @@
+-- Names that were made before, and the names of variables.
+use Rattle.std.proofs.Common.{◌≡◌, ℕ, inl, inr, List, [], map, slice_get, Option, Some, refl, sym, ap, subst, ◌∙◌}
+use Rattle.std.specs.Prelude.{IfSome}
+use Rattle.std.specs.Option.{option_map}
+use Rattle.std.proofs.lemmas.Option.{slice_get-map}
+use Rattle.geo_poly.specs.declared.variables.Var.{Var}
+use Rattle.proof_log.specs.Lines.{variable_name}
+use Rattle.proof_log.specs.Inner.Names.{AreNames}
+
+-- where there is a name at the place of a variable, it is that of the variable
+pub name_there : (vars : List Var) (names : List (List ℕ)) (k : ℕ) (v : Var) → AreNames vars names → slice_get vars k ≡ Some v
+    → IfSome (slice_get names k) (λ name. name ≡ variable_name v)
+name_there vars names k v (inl none) at =
+    subst (λ (ns : List (List ℕ)). IfSome (slice_get ns k) (λ name. name ≡ variable_name v)) (sym none) tt
+name_there vars names k v (inr all) at =
+    subst (λ (o : Option (List ℕ)). IfSome o (λ name. name ≡ variable_name v))
+    (sym (ap (λ (ns : List (List ℕ)). slice_get ns k) all ∙ slice_get-map variable_name vars k ∙ ap (option_map variable_name) at)) refl
