@@ -133,6 +133,7 @@ impl<'a> Reader<'a> {
     }
 
     // A number of one digit, where such a one stands next.
+    #[tactic(auto, using(crate::proofs::Found::digit_read))]
     fn lone_digit(&mut self) -> Option<u32>
         ensures some { IfSome result (λ n. Begins (naturals 32) self.old n self.new) }
         ensures kept { IsNone result → self.new ≡ self.old }
