@@ -1,11 +1,13 @@
 //! Links of monomials, and the walks over them.
 
 ghost use Rattle.std.specs.Prelude.{◌≡◌, ◌<◌, ◌≤◌, ◌+◌, ◌-◌, ◌∷◌, [], ◌++◌};
-ghost use Rattle.std.specs.Prelude.{IfOk, IfSome, IfNone, Some, slice_get};
-ghost use Rattle.mono_store.specs.Monomials.{degree_of, monomial_cmp, product};
-ghost use Rattle.mono_store.specs.Stores.{IsStore, count, monomial_of};
+ghost use Rattle.std.specs.Prelude.{IfOk, IfSome, IfNone, OnErr, Some, slice_get};
+ghost use Rattle.mono_store.specs.Monomials.{ComesFirst, IsMonomial, degree_of};
+ghost use Rattle.mono_store.specs.Monomials.{monomial_cmp, product};
+ghost use Rattle.mono_store.specs.Stores.{IsStore, Keeps, count, monomial_of};
 
 use crate::memory::NoMemory;
+use indexmap::IndexSet;
 use std::cmp::Ordering;
 
 /// The index of a monomial in its store.
@@ -37,6 +39,30 @@ pub fn link_at(links: &[Link], id: MonoId) -> Option<Link>
         return None;
     }
     Some(links[(id.0 - 1) as usize])
+}
+
+/// The index of the monomial that has the power before those of `next`.
+pub fn interned(
+    links: &mut IndexSet<Link>,
+    var: u64,
+    exp: u32,
+    next: MonoId,
+) -> Result<MonoId, NoMemory>
+    requires store { IsStore links.old.keys }
+    requires next { next.0 < count links.old.keys }
+    requires exponent { 1 ≤ exp }
+    requires first { ComesFirst var (monomial_of links.old.keys next) }
+    requires degree { exp + degree_of (monomial_of links.old.keys next) ≤ 65535 }
+    ensures index { IfOk result (λ id. id.0 < count links.new.keys) }
+    ensures monomial { IfOk result
+        (λ id. monomial_of links.new.keys id ≡ (var, exp) ∷ monomial_of links.old.keys next) }
+    ensures kept { Keeps links.old.keys links.new.keys }
+    ensures valid { IsStore links.new.keys }
+    ensures err { OnErr result (links.new.keys ≡ links.old.keys) }
+{
+    let (index, _) = links.insert_full(Link { var, exp, next })?;
+    prove!(links.len() < usize::MAX);
+    Ok(MonoId(index as u64 + 1))
 }
 
 /// Puts the first powers of the product of two monomials into `powers`, and answers the index of
@@ -81,6 +107,31 @@ pub fn first_powers(
             (None, _) => return Ok(right),
         }
     }
+}
+
+/// The index of the monomial that has these powers before those of `rest`.
+pub fn before(
+    links: &mut IndexSet<Link>,
+    powers: &[(u64, u32)],
+    rest: MonoId,
+) -> Result<MonoId, NoMemory>
+    requires store { IsStore links.old.keys }
+    requires rest { rest.0 < count links.old.keys }
+    requires monomial { IsMonomial (powers.now ++ monomial_of links.old.keys rest) }
+    ensures index { IfOk result (λ id. id.0 < count links.new.keys) }
+    ensures monomial { IfOk result
+        (λ id. monomial_of links.new.keys id ≡ powers.now ++ monomial_of links.old.keys rest) }
+    ensures kept { Keeps links.old.keys links.new.keys }
+    ensures valid { IsStore links.new.keys }
+{
+    let mut id = rest;
+    let mut i = powers.len();
+    while i > 0 {
+        i -= 1;
+        let (var, exp) = powers[i];
+        id = interned(links, var, exp, id)?;
+    }
+    Ok(id)
 }
 
 /// `Greater` where the first is the earlier monomial.

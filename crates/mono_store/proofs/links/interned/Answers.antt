@@ -5,7 +5,7 @@ use Rattle.mono_store.specs.declared.links.Link.{Link}
 use Rattle.mono_store.specs.Stores.{Links, monomial_of}
 use Rattle.mono_store.proofs.Products.{IsPowerBefore}
 use Rattle.mono_store.proofs.Interning.{IsInterned, interned, IsStore-interned, Keeps-interned, monomial_of-interned}
-use Rattle.mono_store.proofs.inserting.inserted.Goals as goal
+use Rattle.mono_store.proofs.links.interned.Goals as goal
 
 -- the derived `==` is equality
 same : (x y : Link) → (eq-value).it x y ≡ true → x ≡ y
