@@ -1,5 +1,5 @@
 -- Names that were made before, and the names of variables.
-use Rattle.std.proofs.Common.{◌≡◌, ℕ, inl, inr, List, [], map, slice_get, Option, Some, refl, sym, ap, subst, ◌∙◌}
+use Rattle.std.proofs.Common.{◌≡◌, ℕ, inl, inr, List, [], ◌∷◌, ◌++◌, map, slice_get, Option, Some, refl, sym, ap, subst, ◌∙◌, append_assoc}
 use Rattle.std.specs.Prelude.{IfSome}
 use Rattle.std.specs.Option.{option_map}
 use Rattle.std.proofs.lemmas.Option.{slice_get-map}
@@ -15,3 +15,12 @@ name_there vars names k v (inl none) at =
 name_there vars names k v (inr all) at =
     subst (λ (o : Option (List ℕ)). IfSome o (λ name. name ≡ variable_name v))
     (sym (ap (λ (ns : List (List ℕ)). slice_get ns k) all ∙ slice_get-map variable_name vars k ∙ ap (option_map variable_name) at)) refl
+
+-- a text that has grown by `*`, a name and what stands behind it
+pub behind_star : (before grown bytes name behind : List ℕ) → grown ≡ (before ++ 42 ∷ []) ++ bytes → bytes ≡ name
+    → grown ++ behind ≡ before ++ 42 ∷ (name ++ behind)
+behind_star before grown bytes name behind is same =
+    ap (λ (l : List ℕ). l ++ behind) is
+    ∙ append_assoc (before ++ 42 ∷ []) bytes behind
+    ∙ append_assoc before (42 ∷ []) (bytes ++ behind)
+    ∙ ap (λ (l : List ℕ). before ++ 42 ∷ (l ++ behind)) same
