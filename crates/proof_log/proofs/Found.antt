@@ -51,7 +51,8 @@ module _ (bytes run rest : List ℕ) (split : bytes ≡ run ++ rest) (all : Pass
       other (ap signed_decimal same ∙ is)
 
 -- a digit that stands alone is a number
-pub digit_read : (bytes rest : List ℕ) (b : ℕ) → bytes ≡ b ∷ rest → 48 ≤ b → b ≤ 57 → StopsAt is_number_byte rest → Begins (naturals 32) bytes (b - 48) rest
+pub digit_read : (bytes rest : List ℕ) (b : ℕ) → bytes ≡ b ∷ rest → 48 ≤ b → b ≤ 57 → StopsAt is_number_byte rest
+    → Begins (naturals 32) bytes (b - 48) rest
 digit_read bytes rest b is low high stops =
     let digit : decimal (b - 48) ≡ b ∷ [] = decimal_digit (b - 48) (omega arith) ∙ ap (λ (x : ℕ). x ∷ []) (omega arith) in
     let room : 10 ≤ 2 ^ 32 = lit≤ tt in

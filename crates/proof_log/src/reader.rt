@@ -2,7 +2,7 @@
 
 ghost use Rattle.std.specs.Prelude.{◌≡◌, ◌+◌, ◌^◌, ◌<◌, ◌≤◌, ◌↔◌, ℕ, ℤ, List, [], ◌∷◌, ◌++◌};
 ghost use Rattle.std.specs.Prelude.{length, unsigned_abs, slice_get, IsTrue, IsNone, IfSome};
-ghost use Rattle.std.specs.Prelude.{OnSome, Some};
+ghost use Rattle.std.specs.Prelude.{OnSome, Some, false};
 ghost use Rattle.std.specs.List.{prefix_len};
 ghost use Rattle.geo_base.specs.Decimals.{IsDecimal, decimal_size, decimal_value};
 ghost use Rattle.geo_poly.specs.Monomials.{degree_of};
