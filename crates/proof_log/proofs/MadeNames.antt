@@ -1,5 +1,5 @@
 -- Names that were made before, and the names of variables.
-use Rattle.std.proofs.Common.{◌≡◌, ℕ, true, inl, inr, List, [], ◌∷◌, ◌++◌, length, get_or, map, slice_get, ltb, Option, Some}
+use Rattle.std.proofs.Common.{◌≡◌, ℕ, true, inl, inr, List, [], ◌∷◌, ◌++◌, length, get_or, slice_get, ltb, Option, Some}
 use Rattle.std.proofs.Common.{refl, sym, ap, subst, ◌∙◌, append_assoc}
 use Rattle.std.specs.Prelude.{IfSome}
 use Rattle.std.specs.Option.{option_map}
