@@ -10,7 +10,7 @@ returns-in_ok-extend_from_slice-in-Some c =
     let first = c.args.first.now in
     let name = c.in-Some.name.now in
     let lookup = c.in-Some.ensures.lookup in
-    let named = name_read c.args.names.now first.number name (variable_name first.var) lookup.0 lookup.1 c.requires in
+    let named = name_read c.args.names.now _ name (variable_name first.var) lookup.0 lookup.1 c.requires in
     let bytes : c.deref.result.now ≡ name = search rules in
     let grew : c.extend_from_slice.new.self.items ≡ (c.args.out.now.items ++ 42 ∷ []) ++ c.deref.result.now = search rules in
     let exponent : List ℕ = cond (first.exponent == 1) [] (94 ∷ decimal first.exponent) in
