@@ -1,7 +1,8 @@
 -- What readers of numbers, names and powers have found, and what they refuse.
-use Rattle.std.proofs.Common.{◌≡◌, ℕ, suc, ◌<◌, ◌≤◌, ◌^◌, true, false, cond, eqb, List, [], ◌∷◌, ◌++◌, refl, sym, ap, ◌∙◌, subst, append_assoc, arith, lit≤}
+use Rattle.std.proofs.Common.{◌≡◌, ℕ, suc, ◌-◌, ◌<◌, ◌≤◌, ◌^◌, true, false, cond, eqb, List, [], ◌∷◌, ◌++◌, refl, sym, ap, ◌∙◌, subst, append_assoc, arith, lit≤}
 use Rattle.std.specs.Prelude.{ℤ, pos, negsuc, unsigned_abs, slice_get, Option, Some, None, Result, Ok}
 use Rattle.std.specs.Result.{result_ok}
+use Rattle.std.proofs.lemmas.Fmt.{decimal_digit}
 use Rattle.std.proofs.lemmas.Int.{to_z-of_z}
 use mir.Val.{to_z, of_z}
 use mir.Syntax.{w128}
@@ -48,6 +49,14 @@ module _ (bytes run rest : List ℕ) (split : bytes ≡ run ++ rest) (all : Pass
       let is = due_integer z r h in
       let same : n ≡ z = value ∙ ap decimal_value (sym is) ∙ (signed_decimal_writes z (wide _ h.fits)).value in
       other (ap signed_decimal same ∙ is)
+
+-- a digit that stands alone is a number
+pub digit_read : (bytes rest : List ℕ) (b : ℕ) → bytes ≡ b ∷ rest → 48 ≤ b → b ≤ 57 → StopsAt is_number_byte rest
+    → Begins (naturals 32) bytes (b - 48) rest
+digit_read bytes rest b is low high stops =
+    let digit : decimal (b - 48) ≡ b ∷ [] = decimal_digit (b - 48) (omega arith) ∙ ap (λ (x : ℕ). x ∷ []) (omega arith) in
+    let room : 10 ≤ 2 ^ 32 = lit≤ tt in
+    record { spelt = is ∙ ap (λ (l : List ℕ). l ++ rest) (sym digit); fits = omega arith; stops = stops }
 
 pub unfold_mag : (z : ℤ) → mag z ≤ unsigned_abs z
 unfold_mag (pos n) = omega arith

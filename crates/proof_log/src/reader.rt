@@ -2,7 +2,7 @@
 
 ghost use Rattle.std.specs.Prelude.{◌≡◌, ◌+◌, ◌^◌, ◌<◌, ◌≤◌, ◌↔◌, ℕ, ℤ, List, [], ◌∷◌, ◌++◌};
 ghost use Rattle.std.specs.Prelude.{length, unsigned_abs, slice_get, IsTrue, IsNone, IfSome};
-ghost use Rattle.std.specs.Prelude.{OnSome, Some};
+ghost use Rattle.std.specs.Prelude.{OnSome, Some, false};
 ghost use Rattle.std.specs.List.{prefix_len};
 ghost use Rattle.geo_base.specs.Decimals.{IsDecimal, decimal_size, decimal_value};
 ghost use Rattle.geo_poly.specs.Monomials.{degree_of};
@@ -121,8 +121,33 @@ impl<'a> Reader<'a> {
         }
     }
 
-    /// A number of 32 bits.
+    /// A number of 32 bits. Most have one digit.
     pub fn small(&mut self) -> Option<u32>
+        ensures some { IfSome result (λ n. Begins (naturals 32) self.old n self.new) }
+        ensures none { IsNone result → NoneBegins (naturals 32) self.old }
+    {
+        match self.lone_digit() {
+            Some(number) => Some(number),
+            None => self.longer(),
+        }
+    }
+
+    // A number of one digit, where such a one stands next.
+    #[tactic(auto, using(crate::proofs::Found::digit_read))]
+    fn lone_digit(&mut self) -> Option<u32>
+        ensures some { IfSome result (λ n. Begins (naturals 32) self.old n self.new) }
+        ensures kept { IsNone result → self.new ≡ self.old }
+    {
+        let (first, rest) = self.bytes.split_first()?;
+        if !first.is_ascii_digit() || begins_with_number_byte(rest) {
+            return None;
+        }
+        self.bytes = rest;
+        Some((*first - b'0') as u32)
+    }
+
+    // A number of 32 bits, of any length.
+    fn longer(&mut self) -> Option<u32>
         ensures some { IfSome result (λ n. Begins (naturals 32) self.old n self.new) }
         ensures none { IsNone result → NoneBegins (naturals 32) self.old }
     {
@@ -273,6 +298,16 @@ fn is_number_byte(byte: u8) -> bool
     ensures { result ≡ is_number_byte byte }
 {
     byte == b'-' || byte.is_ascii_digit()
+}
+
+// Whether the bytes begin with a digit or `-`.
+fn begins_with_number_byte(bytes: &[u8]) -> bool
+    ensures { result ≡ false → StopsAt is_number_byte bytes.now }
+{
+    match bytes {
+        [first, ..] => is_number_byte(*first),
+        [] => false,
+    }
 }
 
 /// Whether a byte is a digit, `-`, `^` or `*`.
