@@ -2,7 +2,7 @@
 
 ghost use Rattle.std.specs.Prelude.{◌≡◌, ◌+◌, ◌^◌, ◌<◌, ◌≤◌, ◌↔◌, ℕ, ℤ, List, [], ◌∷◌, ◌++◌};
 ghost use Rattle.std.specs.Prelude.{length, unsigned_abs, slice_get, IsTrue, IsNone, IfSome};
-ghost use Rattle.std.specs.Prelude.{OnSome, Some, false};
+ghost use Rattle.std.specs.Prelude.{OnSome, Some};
 ghost use Rattle.std.specs.List.{prefix_len};
 ghost use Rattle.geo_base.specs.Decimals.{IsDecimal, decimal_size, decimal_value};
 ghost use Rattle.geo_poly.specs.Monomials.{degree_of};
@@ -13,6 +13,7 @@ ghost use Rattle.proof_log.specs.Inner.Reading.{exponents, integers, is_number_b
 ghost use Rattle.proof_log.specs.Inner.Reading.{names, naturals, number_lists, single_powers};
 ghost use Rattle.proof_log.specs.Inner.Reading.{variables};
 
+use crate::digits::{lone_digit, lone_digits};
 use geo_base::read_decimal;
 use geo_points::{ParamId, PointId};
 use geo_poly::{MAX_DEGREE, Var};
@@ -121,29 +122,16 @@ impl<'a> Reader<'a> {
         }
     }
 
-    /// A number of 32 bits. Most have one digit.
+    /// A number of 32 bits.
     pub fn small(&mut self) -> Option<u32>
         ensures some { IfSome result (λ n. Begins (naturals 32) self.old n self.new) }
         ensures none { IsNone result → NoneBegins (naturals 32) self.old }
     {
-        match self.lone_digit() {
-            Some(number) => Some(number),
-            None => self.longer(),
+        if let Some((number, rest)) = lone_digit(self.bytes) {
+            self.bytes = rest;
+            return Some(number);
         }
-    }
-
-    // A number of one digit, where such a one stands next.
-    #[tactic(auto, using(crate::proofs::Found::digit_read))]
-    fn lone_digit(&mut self) -> Option<u32>
-        ensures some { IfSome result (λ n. Begins (naturals 32) self.old n self.new) }
-        ensures kept { IsNone result → self.new ≡ self.old }
-    {
-        let (first, rest) = self.bytes.split_first()?;
-        if !first.is_ascii_digit() || begins_with_number_byte(rest) {
-            return None;
-        }
-        self.bytes = rest;
-        Some((*first - b'0') as u32)
+        self.longer()
     }
 
     // A number of 32 bits, of any length.
@@ -181,6 +169,19 @@ impl<'a> Reader<'a> {
 
     // Three numbers with dots between them.
     fn three(&mut self) -> Option<(u32, u32, u32)>
+        ensures some { IfSome result (λ p.
+            Begins (number_lists 3) self.old (p.0 ∷ p.1 ∷ p.2 ∷ []) self.new) }
+        ensures none { IsNone result → NoneBegins (number_lists 3) self.old }
+    {
+        if let Some((a, b, c, rest)) = lone_digits(self.bytes) {
+            self.bytes = rest;
+            return Some((a, b, c));
+        }
+        self.longer_three()
+    }
+
+    // Three numbers of any length with dots between them.
+    fn longer_three(&mut self) -> Option<(u32, u32, u32)>
         ensures some { IfSome result (λ p.
             Begins (number_lists 3) self.old (p.0 ∷ p.1 ∷ p.2 ∷ []) self.new) }
         ensures none { IsNone result → NoneBegins (number_lists 3) self.old }
@@ -293,21 +294,11 @@ impl<'a> Reader<'a> {
     }
 }
 
-// Whether a byte is a digit or `-`.
-fn is_number_byte(byte: u8) -> bool
+/// Whether a byte is a digit or `-`.
+pub(crate) fn is_number_byte(byte: u8) -> bool
     ensures { result ≡ is_number_byte byte }
 {
     byte == b'-' || byte.is_ascii_digit()
-}
-
-// Whether the bytes begin with a digit or `-`.
-fn begins_with_number_byte(bytes: &[u8]) -> bool
-    ensures { result ≡ false → StopsAt is_number_byte bytes.now }
-{
-    match bytes {
-        [first, ..] => is_number_byte(*first),
-        [] => false,
-    }
 }
 
 /// Whether a byte is a digit, `-`, `^` or `*`.

@@ -353,15 +353,13 @@ fn push_exponent(alloc: Global, out: &mut Vec<u8>, exponent: u32) -> Result<(), 
     Ok(())
 }
 
-/// A polynomial of fewer terms is written without names that are made before.
-const FEW_TERMS: usize = 4;
-
-/// The names of the variables, each made once for all its powers; none where the terms are few.
+/// The names of the variables, each made once for all its powers; none where there are fewer terms
+/// than variables.
 fn names_of(alloc: Global, p: &Shared) -> Result<Vec<Text>, NoMemory>
     ensures { IfOk result (λ names. AreNames p.now.vars.now names.items) }
 {
     let mut names = Vec::new(alloc);
-    if p.list.len() < FEW_TERMS {
+    if p.list.len() < p.vars.len() {
         return Ok(names);
     }
     for v in p.vars {
