@@ -18,7 +18,7 @@ pub(crate) fn lone_digit(bytes: &[u8]) -> Option<(u32, &[u8])>
     Some(((*first - b'0') as u32, rest))
 }
 
-/// A number of one digit with a dot behind it, and what is behind the dot.
+// A number of one digit with a dot behind it, and what is behind the dot.
 fn dotted_digit(bytes: &[u8]) -> Option<(u32, &[u8])>
     ensures { IfSome result (λ p. Begins (naturals 32) bytes.now p.0 (46 ∷ p.1.now)) }
 {
