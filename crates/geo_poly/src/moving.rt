@@ -9,6 +9,7 @@ ghost use Rattle.geo_poly.specs.Shared.{AreParts, IsIndex, terms_of, told};
 ghost use Rattle.geo_poly.specs.Variables.{var_cmp};
 ghost use Rattle.geo_poly.specs.Inner.Moved.{AreMoved, ArePlaces, IsMovedTo, IsPlaceOf};
 
+use crate::polynomial_variables::mark;
 use crate::shared::{Indexed, Shared};
 use crate::variables::Var;
 use geo_points::NoMemory;
@@ -30,8 +31,32 @@ pub(crate) fn moved(
     ensures terms { IfOk result (λ list. terms_of vars.now store.new list.items ≡ told p.now) }
     ensures kept { Keeps store.old store.new }
 {
-    let table = moved_monomials(alloc, store, vars, p)?;
+    let reached = reached_links(alloc, p)?;
+    let table = moved_monomials(alloc, store, vars, p, &reached)?;
     looked_up(alloc, vars, store, p, &table)
+}
+
+/// Which links the monomials of the list reach, by their indices. Nothing rests on it but time.
+fn reached_links(alloc: Global, p: &Shared) -> Result<Vec<bool>, NoMemory> {
+    let mut reached = Vec::new(alloc);
+    reached.resize((p.monos.links() as usize).saturating_add(1), false)?;
+    // every store says of itself that it is one
+    let _one = p.monos.one();
+    for (id, _) in p.list {
+        reach(&mut reached, p, *id);
+    }
+    Ok(reached)
+}
+
+/// Marks the links of a monomial, up to a part that is marked.
+fn reach(reached: &mut Vec<bool>, p: &Shared, id: MonoId) {
+    let mut rest = id;
+    while let Some(link) = p.monos.link(rest) {
+        if mark(reached, rest.0 as usize) {
+            return;
+        }
+        rest = link.next;
+    }
 }
 
 /// The list with the indices that the table tells.
@@ -68,6 +93,7 @@ fn moved_monomials(
     store: &mut Monos,
     vars: &[Var],
     p: &Shared,
+    reached: &[bool],
 ) -> Result<Vec<Option<MonoId>>, NoMemory>
     requires rising { IsStrictlySortedBy var_cmp vars.now }
     requires parts { AreParts p.now }
@@ -80,7 +106,11 @@ fn moved_monomials(
     let mut table = Vec::with_capacity(alloc, (n as usize).saturating_add(1))?;
     table.push(Some(store.one()))?;
     for k in 0..n {
-        let new = moved_monomial(store, vars, p, &places, &table, MonoId(k + 1))?;
+        let id = MonoId(k + 1);
+        let new = match reached.get(id.0 as usize) {
+            Some(true) => moved_monomial(store, vars, p, &places, &table, id)?,
+            _ => None,
+        };
         table.push(new)?;
     }
     Ok(table)
