@@ -87,21 +87,22 @@ module _ (p : Shared) (vars : List Var) (id next : MonoId) (var exp : ℕ) (unfo
     }
 
 -- what the table tells of an index
-pub entry_same : (p : Shared) (vars : List Var) (links : Links) (table : List (Option MonoId)) (id new : MonoId) → AreMoved p vars links table → get_or table id.0 None ≡ Some new
-    → IsSame p vars links id new
+pub entry_same : (p : Shared) (vars : List Var) (links : Links) (table : List (Option MonoId)) (id new : MonoId) → AreMoved p vars links table
+    → get_or table id.0 None ≡ Some new → IsSame p vars links id new
 entry_same p vars links table id new are e = subst (IsMovedTo p vars links id) e (are id.0 (some_within table id.0 new e))
 
 -- where the store grows, the table stays right
-IsMovedTo-kept : (p : Shared) (vars : List Var) (old new : Links) (id : MonoId) (entry : Option MonoId) → Keeps old new → IsMovedTo p vars old id entry → IsMovedTo p vars new id entry
-IsMovedTo-kept p vars old new id None h is = tt
-IsMovedTo-kept p vars old new id (Some there) h is = record {
-  old_index = is.old_index;
-  new_index = IsIndex-kept vars old new there h is.new_index;
-  powers = powers_at-kept vars old new there h is.new_index ∙ is.powers;
-}
+module _ (p : Shared) (vars : List Var) (old new : Links) (kept : Keeps old new) where
+  IsMovedTo-kept : (id : MonoId) (entry : Option MonoId) → IsMovedTo p vars old id entry → IsMovedTo p vars new id entry
+  IsMovedTo-kept id None is = tt
+  IsMovedTo-kept id (Some there) is = record {
+    old_index = is.old_index;
+    new_index = IsIndex-kept vars old new there kept is.new_index;
+    powers = powers_at-kept vars old new there kept is.new_index ∙ is.powers;
+  }
 
-pub AreMoved-kept : (p : Shared) (vars : List Var) (old new : Links) (table : List (Option MonoId)) → Keeps old new → AreMoved p vars old table → AreMoved p vars new table
-AreMoved-kept p vars old new table h are = λ k within. IsMovedTo-kept p vars old new (record { 0 = k }) (get_or table k None) h (are k within)
+  pub AreMoved-kept : (table : List (Option MonoId)) → AreMoved p vars old table → AreMoved p vars new table
+  AreMoved-kept table are = λ k within. IsMovedTo-kept (record { 0 = k }) (get_or table k None) (are k within)
 
 -- the table of the monomial with no variable
 pub first_moved : (p : Shared) (vars : List Var) (links : Links) (table : List (Option MonoId)) (new : MonoId) → table ≡ [] → new.0 ≡ 0 → AreMoved p vars links (table ++ Some new ∷ [])

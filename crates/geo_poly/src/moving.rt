@@ -20,8 +20,8 @@ use geo_points::NoMemory;
 use mono_store::{MonoId, Monos};
 use std::alloc::Global;
 
-/// The indices of the monomials in another store, with their coefficients. Each link is looked at
-/// once.
+/// The indices of the monomials in another store, with their coefficients. Each link that they reach
+/// is looked at once, and no other is moved.
 pub(crate) fn moved(
     alloc: Global,
     store: &mut Monos,
@@ -65,7 +65,7 @@ fn reach(reached: &mut Vec<bool>, p: &Shared, id: MonoId)
     }
 }
 
-/// The list with the indices that the table tells.
+/// The list with the indices in another store.
 fn looked_up(
     alloc: Global,
     store: &mut Monos,

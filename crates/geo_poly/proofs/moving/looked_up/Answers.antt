@@ -39,13 +39,15 @@ loop-id-preserved c =
     let fits = item_fits p i c.loop-id-test.true c.requires.parts.polynomial.norm_fits in
     record {
       kept = Keeps_trans c.loop-id.invariant.kept kept;
-      table = AreMoved-kept p vars old new c.args.table.now kept c.loop-id.invariant.table;
+      table = AreMoved-kept p vars old new kept c.args.table.now c.loop-id.invariant.table;
       indices = rw c.in_ok-push.ensures.items
-          (AllKeys-append (IsIndex vars new) list _ (indices-kept vars old new list kept c.loop-id.invariant.indices) (c.in_ok-new.ensures.index, tt));
+          (AllKeys-append (IsIndex vars new) list _ (indices-kept vars old new list kept c.loop-id.invariant.indices)
+          (c.in_ok-new.ensures.index, tt));
       terms = ap (terms_of vars new) c.in_ok-push.ensures.items
           ∙ map-append (term_of vars new) list _
           ∙ ap₂ (λ (ts : Summands) (z : ℤ). ts ++ (powers_at vars new c.in_ok-new.new, z) ∷ [])
-          (terms_of-kept vars old new list kept c.loop-id.invariant.indices ∙ c.loop-id.invariant.terms) (to_z-of_z w128 (item p.list.now i).1 fits)
+          (terms_of-kept vars old new list kept c.loop-id.invariant.indices ∙ c.loop-id.invariant.terms)
+          (to_z-of_z w128 (item p.list.now i).1 fits)
           ∙ ap (λ (m : Powers). take i (told p) ++ (m, (item p.list.now i).1) ∷ []) c.in_ok-new.ensures.powers
           ∙ sym (told-take p i c.loop-id-test.true);
     }
