@@ -1,7 +1,7 @@
 //! The rows of a line, found by the numbers that a polynomial's variables have.
 
 ghost use Rattle.std.specs.Prelude.{◌≡◌, All, IfOk};
-ghost use Rattle.std.specs.Option.{option_map};
+ghost use Rattle.std.specs.Option.{option_copied, option_map};
 ghost use Rattle.elim_apply.specs.Inner.Sketches.{IsKnown, sketched, sketches};
 ghost use Rattle.geo_poly.specs.Replace.{row_of};
 
@@ -38,33 +38,33 @@ pub(crate) fn known_rows(
 fn known_row(rows: &[NumberedRow], v: Var) -> KnownRow
     ensures { IsKnown rows.now result }
 {
-    let row = first_row(rows, v);
+    let row = first_row(rows, v).copied();
     KnownRow { var: v, row }
 }
 
 /// The first row of the variable, which is mostly the one of that number.
-pub(crate) fn find_row(
-    rows: &[NumberedRow],
-    known: &[KnownRow],
+pub(crate) fn find_row<'a>(
+    rows: &'a [NumberedRow],
+    known: &'a [KnownRow],
     v: Var,
     number: u64,
-) -> Option<NumberedRow>
+) -> Option<&'a NumberedRow>
     requires { All (IsKnown rows.now) known.now }
-    ensures { option_map sketched result ≡ row_of (sketches rows.now) v }
+    ensures { option_map sketched (option_copied result) ≡ row_of (sketches rows.now) v }
 {
     match known.get(number as usize) {
-        Some(known) if known.var == v => known.row,
+        Some(known) if known.var == v => known.row.as_ref(),
         _ => first_row(rows, v),
     }
 }
 
 /// The first row of the variable.
-fn first_row(rows: &[NumberedRow], v: Var) -> Option<NumberedRow>
-    ensures { option_map sketched result ≡ row_of (sketches rows.now) v }
+fn first_row(rows: &[NumberedRow], v: Var) -> Option<&NumberedRow>
+    ensures { option_map sketched (option_copied result) ≡ row_of (sketches rows.now) v }
 {
     for row in rows {
         if row.var == v {
-            return Some(*row);
+            return Some(row);
         }
     }
     None

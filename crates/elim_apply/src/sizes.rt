@@ -87,9 +87,39 @@ fn most_denominators(rows: &[NumberedRow], known: &[KnownRow], poly: &Poly) -> u
 {
     let mut most = 0;
     for i in 0..poly.terms() {
-        most = most.max(share_of(rows, known, poly, i).denominators);
+        most = most.max(denominators_of(rows, known, poly, i));
     }
     most
+}
+
+/// The denominators that the monomial of the term at place i calls for.
+fn denominators_of(rows: &[NumberedRow], known: &[KnownRow], poly: &Poly, i: u64) -> u32
+    requires term { i < length poly.now }
+    requires powers { AllPowersSmall (sketches rows.now) }
+    requires known { All (IsKnown rows.now) known.now }
+    requires valid { IsPolynomial poly.now }
+    ensures { result ≡ denominators (sketches rows.now) (term_at poly.now i).0 }
+{
+    let p = poly.shared();
+    let (mut rest, _) = p.term(i);
+    let mut denominators = 0;
+    while let Some(first) = p.first_power(rest) {
+        if let Some(row) = find_row(rows, known, first.var, first.number) {
+            denominators += row.numbers.power * first.exponent;
+        }
+        rest = first.rest;
+    }
+    denominators
+}
+
+/// The power, or the greatest number where it passes that. The exponent is mostly 1.
+fn capped_power(base: u128, exponent: u32) -> u128
+    ensures { result ≡ min (base ^ exponent) (2 ^ 128 - 1) }
+{
+    if exponent == 1 {
+        return base;
+    }
+    base.saturating_pow(exponent)
 }
 
 /// What becomes of a term, but for the denominators that it lacks.
@@ -109,23 +139,23 @@ struct Share {
 
 impl Share {
     /// With one more variable that is replaced, to the power `e`.
-    fn replacing(self, numbers: RowNumbers, e: u32) -> Share
+    fn replacing(self, numbers: &RowNumbers, e: u32) -> Share
         requires exponents { self.exponents + e < 2 ^ 32 }
-        requires denominators { self.denominators + numbers.power * e < 2 ^ 32 }
+        requires denominators { self.denominators + numbers.now.power * e < 2 ^ 32 }
         ensures exponents { result.exponents ≡ self.exponents + e }
-        ensures denominators { result.denominators ≡ self.denominators + numbers.power * e }
+        ensures denominators { result.denominators ≡ self.denominators + numbers.now.power * e }
         ensures count { result.count
-            ≡ min (self.count * min (numbers.ka ^ e) (2 ^ 128 - 1)) (2 ^ 128 - 1) }
+            ≡ min (self.count * min (numbers.now.ka ^ e) (2 ^ 128 - 1)) (2 ^ 128 - 1) }
         ensures weight { result.weight
-            ≡ min (self.weight * min (numbers.wa ^ e) (2 ^ 128 - 1)) (2 ^ 128 - 1) }
+            ≡ min (self.weight * min (numbers.now.wa ^ e) (2 ^ 128 - 1)) (2 ^ 128 - 1) }
         ensures degree { result.degree
-            ≡ min (self.degree + min (numbers.ga * e) (2 ^ 128 - 1)) (2 ^ 128 - 1) }
+            ≡ min (self.degree + min (numbers.now.ga * e) (2 ^ 128 - 1)) (2 ^ 128 - 1) }
     {
         Share {
             exponents: self.exponents + e,
             denominators: self.denominators + numbers.power * e,
-            count: self.count.saturating_mul(numbers.ka.saturating_pow(e)),
-            weight: self.weight.saturating_mul(numbers.wa.saturating_pow(e)),
+            count: self.count.saturating_mul(capped_power(numbers.ka, e)),
+            weight: self.weight.saturating_mul(capped_power(numbers.wa, e)),
             degree: self
                 .degree
                 .saturating_add(numbers.ga.saturating_mul(e as u128)),
@@ -208,7 +238,7 @@ fn share_of(rows: &[NumberedRow], known: &[KnownRow], poly: &Poly, i: u64) -> Sh
     let mut rest = id;
     while let Some(first) = p.first_power(rest) {
         share = match find_row(rows, known, first.var, first.number) {
-            Some(row) => share.replacing(row.numbers, first.exponent),
+            Some(row) => share.replacing(&row.numbers, first.exponent),
             None => share.keeping(first.exponent),
         };
         rest = first.rest;

@@ -14,7 +14,7 @@ use crate::errors::ApplyError;
 use crate::limits::LineSize;
 use fraction_poly::{Numbers, measure, multiply_out};
 use geo_base::Budget;
-use geo_points::TermId;
+use geo_points::{NoMemory, TermId};
 use geo_poly::Poly;
 use geo_terms::Steps;
 use std::alloc::Global;
@@ -44,7 +44,47 @@ pub fn start(
         ⊎ (budget.new.left ≡ budget.old.left - start_charge (tree_of steps.now.nodes id)) }
 {
     let numbers = measure(alloc, steps.look(), id)?;
-    size_of_start(numbers).spend(budget)?;
+    let left = budget.left;
+    pay_start(steps, id, numbers, budget)?;
+    Ok(paid_numerator(alloc, steps, id, left, budget)?)
+}
+
+/// Takes the charge of the start from the budget, and then tests its weight and its degree.
+fn pay_start(
+    steps: &Steps,
+    id: TermId,
+    numbers: Numbers,
+    budget: &mut Budget,
+) -> Result<(), ApplyError>
+    requires { numbers ≡ capped (numbers_of (tree_of steps.now.nodes id)) }
+    ensures started { OnOk result (IsStarted budget.old.left (tree_of steps.now.nodes id)) }
+    ensures paid { OnOk result
+        (budget.new.left ≡ budget.old.left - start_charge (tree_of steps.now.nodes id)) }
+    ensures row { result ≢ Err ApplyError.NoRow }
+    ensures spent { IsErrOf result ApplyError.Spent
+        → IsStartStopped budget.old.left (tree_of steps.now.nodes id) spent
+        × (budget.new ≡ budget.old) }
+    ensures too_large { (which : Which) → IsErrOf result (ApplyError.TooLarge which)
+        → IsStartStopped budget.old.left (tree_of steps.now.nodes id) (too_large which)
+        × (budget.new.left ≡ budget.old.left - start_charge (tree_of steps.now.nodes id)) }
+    ensures memory { result ≢ Err ApplyError.NoMemory }
+{
+    size_of_start(numbers).spend(budget)
+}
+
+/// The numerator of the term, whose charge has been taken from what was left before.
+fn paid_numerator(
+    alloc: Global,
+    steps: &Steps,
+    id: TermId,
+    left: u64,
+    budget: &Budget,
+) -> Result<Poly, NoMemory>
+    requires stored { id.0 < length steps.now.nodes }
+    requires started { IsStarted left (tree_of steps.now.nodes id) }
+    requires paid { budget.now.left ≡ left - start_charge (tree_of steps.now.nodes id) }
+    ensures { IfOk result (λ q. q ≡ start_of (tree_of steps.now.nodes id)) }
+{
     let (numerator, _) = multiply_out(alloc, steps.look(), id)?;
     Ok(numerator)
 }

@@ -1,4 +1,5 @@
 pub mod Searches
+pub mod Walks
 pub mod Places
 pub mod Points
 pub mod Moves

@@ -48,15 +48,18 @@ pub(crate) fn first_fitting(p: &Poly, sought: Sought) -> Option<Var>
 }
 
 /// The first such variable of the term at place i and of what was there before.
-fn first_in_term(p: &Poly, sought: Sought, i: u64, before: Option<Var>) -> Option<Var>
-    requires { i < length p.now }
-    ensures { let m = (term_at p.now i).0 in
+fn first_in_term(poly: &Poly, sought: Sought, i: u64, before: Option<Var>) -> Option<Var>
+    requires { i < length poly.now }
+    ensures { let m = (term_at poly.now i).0 in
         Improves IsNoEarlier (IsMetIn (FitsItself sought) m (length m)) before result }
 {
+    let p = poly.shared();
+    let (id, _) = p.term(i);
+    let mut rest = id;
     let mut first = before;
-    for j in 0..p.powers(i) {
-        let (v, _) = p.power(i, j);
-        first = earlier(sought, v, first);
+    while let Some(power) = p.first_power(rest) {
+        first = earlier(sought, power.var, first);
+        rest = power.rest;
     }
     first
 }

@@ -25,16 +25,19 @@ pub(crate) fn highest_constructed(steps: &Steps, p: &Poly) -> Option<PointId>
 }
 
 /// The highest constructed point of the term at place i and of what was there before.
-fn highest_in_term(steps: &Steps, p: &Poly, i: u64, before: Option<PointId>) -> Option<PointId>
-    requires points { AllVariables (HasPointsBelow (length steps.now.steps)) p.now }
-    requires term { i < length p.now }
-    ensures { let m = (term_at p.now i).0 in
+fn highest_in_term(steps: &Steps, poly: &Poly, i: u64, before: Option<PointId>) -> Option<PointId>
+    requires points { AllVariables (HasPointsBelow (length steps.now.steps)) poly.now }
+    requires term { i < length poly.now }
+    ensures { let m = (term_at poly.now i).0 in
         Improves IsNoHigher (IsMetIn (MakesPoint steps.now) m (length m)) before result }
 {
+    let p = poly.shared();
+    let (id, _) = p.term(i);
+    let mut rest = id;
     let mut highest = before;
-    for j in 0..p.powers(i) {
-        let (v, _) = p.power(i, j);
-        highest = highest_with(steps, v, highest);
+    while let Some(power) = p.first_power(rest) {
+        highest = highest_with(steps, power.var, highest);
+        rest = power.rest;
     }
     highest
 }

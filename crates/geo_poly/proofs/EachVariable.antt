@@ -13,7 +13,8 @@ use Rattle.geo_poly.specs.declared.replacement.Row.{Row}
 use Rattle.geo_poly.specs.declared.variables.Var.{Var}
 use Rattle.geo_poly.specs.Monomials.{Powers, IsMonomial, exponent, exponents, product}
 use Rattle.geo_poly.specs.Polynomials.{Summands, coefficients, term_cmp, polynomial_of, multiples, products, product_of}
-use Rattle.geo_poly.specs.Replace.{denominators, kept, most_denominators, others, replaced_by, replaced_term, replaced_terms, row_of, times_power, times_row, times_rows}
+use Rattle.geo_poly.specs.Replace.{denominators, kept, most_denominators, numerator_power, numerators, others, power_of}
+use Rattle.geo_poly.specs.Replace.{replaced_by, replaced_term, replaced_terms, row_of}
 use Rattle.geo_poly.specs.Variables.{var_cmp}
 use Rattle.geo_poly.proofs.FactorLaws.{multiples-product}
 use Rattle.geo_poly.proofs.MonomialOrder.{exponent-product}
@@ -48,9 +49,9 @@ module _ (Holds : Var → Type 0) where
   of-product_of p q h g = of-polynomial_of (products p q) (of-products p q h g)
 
   -- REPLACEMENTS
-  pub of-times_power : (p q : Summands) (n : ℕ) → AllVariables Holds p → AllVariables Holds q → AllVariables Holds (times_power p q n)
-  of-times_power p q zero h g = h
-  of-times_power p q (suc n) h g = of-product_of (times_power p q n) q (of-times_power p q n h g) g
+  of-power_of : (q : Summands) (n : ℕ) → AllVariables Holds q → AllVariables Holds (power_of q n)
+  of-power_of q zero h = (tt, tt)
+  of-power_of q (suc n) h = of-product_of q (power_of q n) h (of-power_of q n h)
 
   -- each variable of each numerator
   abbrev pub OfNumerators : List Row → Type 0
@@ -69,14 +70,24 @@ module _ (Holds : Var → Type 0) where
       go true rest = h.0
       go false rest = rest
 
-  of-times_row : (o : Option Row) (n : ℕ) (p : Summands) → OfNumerator o → AllVariables Holds p → AllVariables Holds (times_row o n p)
-  of-times_row None n p g h = h
-  of-times_row (Some r) n p g h = of-times_power p r.num.poly n h g
+  of-numerator_power : (o : Option Row) (n : ℕ) → OfNumerator o → AllVariables Holds (numerator_power o n)
+  of-numerator_power None n h = (tt, tt)
+  of-numerator_power (Some r) n h = of-power_of r.num.poly n h
 
-  pub of-times_rows : (rows : List Row) (m : Powers) (p : Summands) → OfNumerators rows → AllVariables Holds p → AllVariables Holds (times_rows rows m p)
-  of-times_rows rows [] p g h = h
-  of-times_rows rows (v ∷ m) p g h =
-      of-times_rows rows m (times_row (row_of rows v.0) v.1 p) g (of-times_row (row_of rows v.0) v.1 p (of-row rows v.0 g) h)
+  of-numerators : (rows : List Row) (m : Powers) → OfNumerators rows → AllVariables Holds (numerators rows m)
+  of-numerators rows [] h = (tt, tt)
+  of-numerators rows (v ∷ m) h =
+      let o = row_of rows v.0 in
+      of-product_of (numerator_power o v.1) (numerators rows m) (of-numerator_power o v.1 (of-row rows v.0 h)) (of-numerators rows m h)
+
+  pub of-term : (rows : List Row) (den : Summands) (top : ℕ) (t : Powers × ℤ) → OfNumerators rows → AllVariables Holds den
+      → OfMonomial (others rows t.0) → AllVariables Holds (replaced_term rows den top t)
+  of-term rows den top t g d h =
+      let start = (others rows t.0, t.1) ∷ [] in
+      let nums = numerators rows t.0 in
+      let lacking = top - denominators rows t.0 in
+      let front = of-product_of start nums (h, tt) (of-numerators rows t.0 g) in
+      of-product_of (product_of start nums) (power_of den lacking) front (of-power_of den lacking d)
 
   of-others : (rows : List Row) (m : Powers) → OfMonomial m → OfMonomial (others rows m)
   of-others rows [] h = tt
@@ -86,17 +97,12 @@ module _ (Holds : Var → Type 0) where
       go None rest = (h.0, rest)
       go (Some r) rest = rest
 
-  of-replaced_term : (rows : List Row) (den : Summands) (top : ℕ) (t : Powers × ℤ) → OfNumerators rows → AllVariables Holds den → OfMonomial t.0
-      → AllVariables Holds (replaced_term rows den top t)
-  of-replaced_term rows den top t g d h =
-      of-times_power (times_rows rows t.0 ((others rows t.0, t.1) ∷ [])) den (top - denominators rows t.0)
-      (of-times_rows rows t.0 ((others rows t.0, t.1) ∷ []) g (of-others rows t.0 h, tt)) d
-
   of-replaced_terms : (rows : List Row) (den : Summands) (top : ℕ) (q : Summands) → OfNumerators rows → AllVariables Holds den → AllVariables Holds q
       → AllVariables Holds (replaced_terms rows den top q)
   of-replaced_terms rows den top [] g d h = tt
   of-replaced_terms rows den top (t ∷ ts) g d h =
-      of-append (replaced_term rows den top t) (replaced_terms rows den top ts) (of-replaced_term rows den top t g d h.0) (of-replaced_terms rows den top ts g d h.1)
+      of-append (replaced_term rows den top t) (replaced_terms rows den top ts)
+      (of-term rows den top t g d (of-others rows t.0 h.0)) (of-replaced_terms rows den top ts g d h.1)
 
   pub of-replaced_by : (rows : List Row) (den q : Summands) → OfNumerators rows → AllVariables Holds den → AllVariables Holds q
       → AllVariables Holds (replaced_by rows den q)

@@ -8,11 +8,12 @@ use Rattle.geo_poly.specs.declared.replacement.Piece.{Piece}
 use Rattle.geo_poly.specs.declared.replacement.Row.{Row}
 use Rattle.geo_poly.specs.declared.settings.Setting.{Setting}
 use Rattle.geo_poly.specs.declared.variables.Var.{Var}
+use Rattle.geo_poly.specs.Inner.Accumulated.{times_power, times_row, times_rows}
 use Rattle.geo_poly.specs.Inner.Factored.{AreFactors, count_with, degree_with, numerator_at, piece_of, pieces_of, products_with, times_pieces, weight_with}
 use Rattle.geo_poly.specs.Inner.TermFactors.{AreNonzeroRows, HasNoZero, IsNonzeroRow}
 use Rattle.geo_poly.specs.Monomials.{Powers}
 use Rattle.geo_poly.specs.Polynomials.{Summands, product_of}
-use Rattle.geo_poly.specs.Replace.{AllBounded, IsBounded, degree_row, degree_rows, denominators, row_of, times_power, times_row, times_rows, weight_row, weight_rows}
+use Rattle.geo_poly.specs.Replace.{AllBounded, IsBounded, degree_row, degree_rows, denominators, row_of, weight_row, weight_rows}
 use Rattle.geo_poly.proofs.FactoredTerms.{count_with-append, degree_with-append, degree_with-is, times_pieces-append, weight_with-append}
 use Rattle.geo_poly.proofs.PolynomialRing.{product_of-assoc}
 use Rattle.geo_poly.proofs.ProductOrder.{product_of_comm}

@@ -1,5 +1,5 @@
 -- What holds of each variable is kept by sums, differences, products, replacements, cuts and numbers put for variables.
-use Rattle.std.proofs.Common.{◌≡◌, ℕ, ◌-◌, Bool, true, false, cond, ℤ, Option, Some, None, List, [], ◌∷◌, ◌++◌, map, refl}
+use Rattle.std.proofs.Common.{◌≡◌, ℕ, Bool, true, false, cond, ℤ, Option, Some, None, List, [], ◌∷◌, ◌++◌, map, refl}
 use Rattle.std.specs.Prelude.{not}
 use Rattle.std.specs.Ordering.{is_eq}
 use Rattle.sparse_lists.specs.SparseLists.{AllKeys}
@@ -9,10 +9,10 @@ use Rattle.geo_poly.specs.KeptVariables.{AllNumerators, KeepsVariables}
 use Rattle.geo_poly.specs.Monomials.{Powers}
 use Rattle.geo_poly.specs.Polynomials.{Summands, difference_of, negated, sum_of}
 use Rattle.geo_poly.specs.PolynomialVariables.{AllVariables}
-use Rattle.geo_poly.specs.Replace.{denominators, kept, most_denominators, others, replaced_by, replaced_term, replaced_terms, row_of, times_rows}
+use Rattle.geo_poly.specs.Replace.{kept, most_denominators, others, replaced_by, replaced_term, replaced_terms, row_of}
 use Rattle.geo_poly.specs.Specialise.{specialised, specialised_term, without}
 use Rattle.geo_poly.specs.Variables.{var_cmp}
-use Rattle.geo_poly.proofs.EachVariable.{OfNumerators, of-append, of-cut, of-polynomial_of, of-product_of, of-times_power, of-times_rows}
+use Rattle.geo_poly.proofs.EachVariable.{OfNumerators, of-append, of-cut, of-polynomial_of, of-product_of, of-term}
 
 module _ (Holds : Var → Type 0) where
   pub of-sum_of : (p q : Summands) → AllVariables Holds p → AllVariables Holds q → AllVariables Holds (sum_of p q)
@@ -42,17 +42,12 @@ module _ (Holds : Var → Type 0) where
       go None e rest = (h.0 e, rest)
       go (Some r) e rest = rest
 
-  of-term : (rows : List Row) (den : Summands) (top : ℕ) (t : Powers × ℤ) → OfNumerators Holds rows → AllVariables Holds den → AllKeys (Stays rows) t.0
-      → AllVariables Holds (replaced_term rows den top t)
-  of-term rows den top t g d h =
-      of-times_power Holds (times_rows rows t.0 ((others rows t.0, t.1) ∷ [])) den (top - denominators rows t.0)
-      (of-times_rows Holds rows t.0 ((others rows t.0, t.1) ∷ []) g (of-others rows t.0 h, tt)) d
-
   of-terms : (rows : List Row) (den : Summands) (top : ℕ) (p : Summands) → OfNumerators Holds rows → AllVariables Holds den → AllVariables (Stays rows) p
       → AllVariables Holds (replaced_terms rows den top p)
   of-terms rows den top [] g d h = tt
   of-terms rows den top (t ∷ ts) g d h =
-      of-append Holds (replaced_term rows den top t) (replaced_terms rows den top ts) (of-term rows den top t g d h.0) (of-terms rows den top ts g d h.1)
+      of-append Holds (replaced_term rows den top t) (replaced_terms rows den top ts)
+      (of-term Holds rows den top t g d (of-others rows t.0 h.0)) (of-terms rows den top ts g d h.1)
 
   pub of-replacement : (rows : List Row) (den p : Summands) → AllNumerators Holds rows → AllVariables Holds den → AllVariables (Stays rows) p
       → AllVariables Holds (replaced_by rows den p)

@@ -31,7 +31,7 @@ pub mod EachKey
 pub mod SortedForms
 pub mod KeptVariables
 pub mod PolynomialRing
-pub mod ReplacementSums
+pub mod Accumulated
 pub mod VariablesInOrder
 pub mod RowPlaces
 pub mod ProductOrder

@@ -1,28 +1,25 @@
 -- Monomials of one store put into another, link by link.
 use Rattle.std.proofs.Common.{◌≡◌, ℕ, zero, suc, ◌<◌, List, [], ◌∷◌, ◌++◌, get_or, length, Option, None, Some, refl, sym, ap, ap₂, subst, ◌∙◌, arith}
-use Rattle.std.specs.Prelude.{Contains}
 use Rattle.std.specs.List.Sorted.{IsStrictlySortedBy}
 use Rattle.std.specs.Ordering.{nat_cmp}
-use Rattle.sparse_lists.specs.SparseLists.{AllKeys, IsCanonical}
+use Rattle.sparse_lists.specs.SparseLists.{IsCanonical}
 use Rattle.sparse_lists.proofs.Canonical.{IsCanonical-canonical, canonical_self}
-use Rattle.sparse_lists.proofs.Sums.{AllKeys-at}
 use Rattle.sparse_lists.proofs.NaturalAmounts.{natural_order}
 use Rattle.mono_store.specs.declared.links.MonoId.{MonoId}
 use Rattle.mono_store.specs.Monomials.{Powers as NumberedPowers, IsMonomial as IsNumberedMonomial, exponents as numbered_exponents}
-use Rattle.mono_store.specs.Stores.{IsStore, Links, count, monomial_of}
+use Rattle.mono_store.specs.Stores.{IsStore, Keeps, Links, count, monomial_of}
 use Rattle.mono_store.proofs.Numbers.{exponents_add as numbered_add}
 use Rattle.mono_store.proofs.Products.{IsPowerBefore}
 use Rattle.mono_store.proofs.Unfolding.{monomial_of-one}
 use Rattle.geo_poly.specs.declared.shared.Shared.{Shared}
 use Rattle.geo_poly.specs.declared.variables.Var.{Var}
 use Rattle.geo_poly.specs.Monomials.{Powers, IsMonomial, exponents}
-use Rattle.geo_poly.specs.PolynomialVariables.{AllVariables}
-use Rattle.geo_poly.specs.Shared.{AllPlaces, AreParts, named, powers_at, told, told_powers, told_term, var_at}
+use Rattle.geo_poly.specs.Shared.{AllPlaces, named, powers_at, told_powers, var_at}
 use Rattle.geo_poly.specs.Variables.{var_cmp}
 use Rattle.geo_poly.specs.Inner.Moved.{AreMoved, ArePlaces, IsMovedTo, IsPlaceOf, IsSame}
 use Rattle.geo_poly.proofs.Naming.{IsPowerBefore-named, canonical-rename, degree_of-named, var_at-keeps}
 use Rattle.geo_poly.proofs.Orders.{exponents_add, var_order}
-use Rattle.geo_poly.proofs.Told.{index_at, item, told-is, told-within}
+use Rattle.geo_poly.proofs.Told.{IsIndex-kept, powers_at-kept}
 
 -- what holds of each entry, and of one more
 pub each_push : {X : Type 0} (P : ℕ → X → Type 0) (xs : List X) (x d : X) → ((k : ℕ) → k < length xs → P k (get_or xs k d)) → P (length xs) x
@@ -65,15 +62,6 @@ module _ (p : Shared) (vars : List Var) (id next : MonoId) (var exp : ℕ) (unfo
   powers_are : told_powers p id ≡ (var_at p.vars.now var, exp) ∷ told_powers p next
   powers_are = ap (named p.vars.now) unfolds
 
-  pub no_place : (links : Links) (places : List (Option ℕ)) → ArePlaces p.vars.now vars places → get_or places var None ≡ None → IsMovedTo p vars links id None
-  no_place links places h e = λ index known.
-      let var_in : var < length p.vars.now = (subst (AllPlaces (length p.vars.now)) unfolds index.places).0 in
-      let none : IsPlaceOf vars (var_at p.vars.now var) None = subst (IsPlaceOf vars (var_at p.vars.now var)) e (h.each var (omega (arith, var_in, h.whole))) in
-      none (subst (AllKeys (Contains vars)) powers_are known).0
-
-  pub next_is : (links : Links) (table : List (Option MonoId)) (new : MonoId) → AreMoved p vars links table → next.0 < length table → get_or table next.0 None ≡ Some new → IsSame p vars links next new
-  next_is links table new h reached e = subst (IsMovedTo p vars links next) e (h next.0 reached)
-
   module _ (links : Links) (places : List (Option ℕ)) (k : ℕ) (new : MonoId) (are : ArePlaces p.vars.now vars places) (at : get_or places var None ≡ Some k) (same : IsSame p vars links next new) where
     var_in : var < length p.vars.now
     var_in = omega (arith, some_within places var k at, are.whole)
@@ -98,21 +86,23 @@ module _ (p : Shared) (vars : List Var) (id next : MonoId) (var exp : ℕ) (unfo
       powers = ap (named vars) is ∙ ap₂ (λ (v : Var) (rest : Powers). (v, exp) ∷ rest) place_is.1 same.powers ∙ sym powers_are;
     }
 
--- what the table tells of a term
-module _ (p : Shared) (vars : List Var) (links : Links) (table : List (Option MonoId)) (i : ℕ) (within : i < length p.list.now) (parts : AreParts p)
-    (are : AreMoved p vars links table) (whole : length table ≡ count p.monos.now) where
-  entry_is : (o : Option MonoId) → get_or table (item p.list.now i).0.0 None ≡ o → IsMovedTo p vars links (item p.list.now i).0 o
-  entry_is o e =
-      let index = index_at p i within parts in
-      subst (IsMovedTo p vars links (item p.list.now i).0) e (are (item p.list.now i).0.0 (omega (arith, index.within, whole)))
+-- what the table tells of an index
+pub entry_same : (p : Shared) (vars : List Var) (links : Links) (table : List (Option MonoId)) (id new : MonoId) → AreMoved p vars links table
+    → get_or table id.0 None ≡ Some new → IsSame p vars links id new
+entry_same p vars links table id new are e = subst (IsMovedTo p vars links id) e (are id.0 (some_within table id.0 new e))
 
-  pub entry_same : (new : MonoId) → get_or table (item p.list.now i).0.0 None ≡ Some new → IsSame p vars links (item p.list.now i).0 new
-  entry_same new e = entry_is (Some new) e
+-- where the store grows, the table stays right
+module _ (p : Shared) (vars : List Var) (old new : Links) (kept : Keeps old new) where
+  IsMovedTo-kept : (id : MonoId) (entry : Option MonoId) → IsMovedTo p vars old id entry → IsMovedTo p vars new id entry
+  IsMovedTo-kept id None is = tt
+  IsMovedTo-kept id (Some there) is = record {
+    old_index = is.old_index;
+    new_index = IsIndex-kept vars old new there kept is.new_index;
+    powers = powers_at-kept vars old new there kept is.new_index ∙ is.powers;
+  }
 
-  pub entry_there : AllVariables (Contains vars) (told p) → get_or table (item p.list.now i).0.0 None ≡ None → ⊥
-  entry_there known e =
-      entry_is None e (index_at p i within parts)
-      (AllKeys-at (λ (m : Powers). AllKeys (Contains vars) m) (told p) i (told_term p (item p.list.now i)) (told-within p i within) (told-is p i within) known)
+  pub AreMoved-kept : (table : List (Option MonoId)) → AreMoved p vars old table → AreMoved p vars new table
+  AreMoved-kept table are = λ k within. IsMovedTo-kept (record { 0 = k }) (get_or table k None) (are k within)
 
 -- the table of the monomial with no variable
 pub first_moved : (p : Shared) (vars : List Var) (links : Links) (table : List (Option MonoId)) (new : MonoId) → table ≡ [] → new.0 ≡ 0 → AreMoved p vars links (table ++ Some new ∷ [])

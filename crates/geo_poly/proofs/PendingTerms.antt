@@ -13,17 +13,18 @@ use Rattle.geo_poly.specs.declared.replacement.Piece.{Piece}
 use Rattle.geo_poly.specs.declared.replacement.Row.{Row}
 use Rattle.geo_poly.specs.declared.settings.Setting.{Setting}
 use Rattle.geo_poly.specs.declared.shared.Shared.{Shared}
+use Rattle.geo_poly.specs.Inner.Accumulated.{accumulated_term, accumulated_terms}
 use Rattle.geo_poly.specs.Inner.Factored.{AreFactors, ArePending, Factored, IsPending, factored_products, factored_terms, factored_weight, products_with, times_pieces, told_pending, weight_with}
 use Rattle.geo_poly.specs.Monomials.{IsMonomial, Powers, degree_of}
 use Rattle.geo_poly.specs.Polynomials.{Summands, polynomial_of}
-use Rattle.geo_poly.specs.Replace.{others, replaced_term, replaced_terms, term_degree, term_weight, weight_of}
+use Rattle.geo_poly.specs.Replace.{others, term_degree, term_weight, weight_of}
 use Rattle.geo_poly.specs.Shared.{IsIndexOf, told_powers}
 use Rattle.geo_poly.proofs.FactoredTerms.{any_order, factored_terms-append}
-use Rattle.geo_poly.proofs.ReplaceTerms.{replaced_terms-append}
+use Rattle.geo_poly.proofs.Accumulated.{accumulated_terms-append}
 
 -- the first terms q of the polynomial, those that become zero left out
 pub record Made (setting : Setting) (p : Shared) (q : Summands) (es : List Pending) : Type 0 where
-  pub terms : factored_terms (map (told_pending setting p 0) es) ≡ replaced_terms setting.rows.now setting.den.piece.now.poly setting.top q
+  pub terms : factored_terms (map (told_pending setting p 0) es) ≡ accumulated_terms setting.rows.now setting.den.piece.now.poly setting.top q
   pub weight : factored_weight (map (told_pending setting p 0) es) ≤ weight_of setting.rows.now setting.den.piece.now setting.top q
   pub products : factored_products (map (told_pending setting p 0) es) ≤ products_of_terms setting.rows.now setting.den.piece.now setting.top q
   pub pending : All (IsPending setting p 0) es
@@ -46,11 +47,11 @@ module _ (setting : Setting) (p : Shared) where
 
   -- a term that becomes zero
   pub Made-zero : (q : Summands) (t : Powers × ℤ) (es : List Pending)
-      → replaced_term setting.rows.now setting.den.piece.now.poly setting.top t ≡ [] → Made setting p q es → Made setting p (q ++ t ∷ []) es
+      → accumulated_term setting.rows.now setting.den.piece.now.poly setting.top t ≡ [] → Made setting p q es → Made setting p (q ++ t ∷ []) es
   Made-zero q t es zero h = record {
     terms =
-        h.terms ∙ sym (append-nil (replaced_terms rows den.poly top q)) ∙ ap (λ (x : Summands). replaced_terms rows den.poly top q ++ x) (ap (λ (x : Summands). x ++ []) (sym zero))
-        ∙ sym (replaced_terms-append rows den.poly top q (t ∷ []));
+        h.terms ∙ sym (append-nil (accumulated_terms rows den.poly top q)) ∙ ap (λ (x : Summands). accumulated_terms rows den.poly top q ++ x) (ap (λ (x : Summands). x ++ []) (sym zero))
+        ∙ sym (accumulated_terms-append rows den.poly top q (t ∷ []));
     weight = omega (arith, h.weight, sum_by-append (term_weight rows den top) q (t ∷ []));
     products = omega (arith, h.products, sum_by-append (λ (u : Powers × ℤ). term_products rows den top u.0) q (t ∷ []));
     pending = h.pending;
@@ -63,8 +64,8 @@ module _ (setting : Setting) (p : Shared) where
     here : AreFactors setting (told_powers p e.id) e.factors.items
     here = subst (λ (n : Powers). AreFactors setting n e.factors.items) (sym (ap (λ (u : Powers × ℤ). u.0) term-is)) factors
 
-    one_value : times_pieces (told_pending setting p 0 e).0 ((told_pending setting p 0 e).1 ∷ []) ≡ replaced_term rows den.poly top t
-    one_value = here.terms ((others rows m, e.coefficient) ∷ []) ∙ ap (replaced_term rows den.poly top) term-is
+    one_value : times_pieces (told_pending setting p 0 e).0 ((told_pending setting p 0 e).1 ∷ []) ≡ accumulated_term rows den.poly top t
+    one_value = here.terms ((others rows m, e.coefficient) ∷ []) ∙ ap (accumulated_term rows den.poly top) term-is
 
     one_weight : weight_with (told_pending setting p 0 e).0 (unsigned_abs e.coefficient) ≡ term_weight rows den top t
     one_weight = here.weight (unsigned_abs e.coefficient) ∙ ap (term_weight rows den top) term-is
@@ -94,7 +95,7 @@ module _ (setting : Setting) (p : Shared) where
           terms =
               ap factored_terms pushed ∙ factored_terms-append (map told es) (told e ∷ [])
               ∙ ap₂ (λ (x y : Summands). x ++ (y ++ [])) h.terms one_value
-              ∙ sym (replaced_terms-append rows den.poly top q (t ∷ []));
+              ∙ sym (accumulated_terms-append rows den.poly top q (t ∷ []));
           weight =
               let whole = ap factored_weight pushed ∙ sum_by_push (λ (f : Factored). weight_with f.0 (unsigned_abs f.1.1)) (map told es) (told e) in
               omega (arith, whole, h.weight, one_weight, sum_by_push (term_weight rows den top) q t);

@@ -1,5 +1,5 @@
 -- Products of polynomials: they are associative, and 1 is their unit.
-use Rattle.std.proofs.Common.{◌≡◌, ℕ, zero, suc, Bool, true, false, cond, ℤ, pos, ◌+ℤ◌, ◌*ℤ◌, List, [], ◌∷◌, ◌++◌, refl, sym, ap, ap₂, ◌∙◌, append_assoc, arith}
+use Rattle.std.proofs.Common.{◌≡◌, ℕ, zero, suc, Bool, true, false, cond, ℤ, pos, ◌+ℤ◌, ◌*ℤ◌, [], ◌∷◌, ◌++◌, refl, sym, ap, ap₂, ◌∙◌, append_assoc, arith}
 use Rattle.std.proofs.lemmas.Int.{ints}
 use Rattle.std.proofs.lemmas.List.{append-nil}
 use Rattle.std.proofs.Math.IntN as IntN
@@ -11,7 +11,7 @@ use Rattle.sparse_lists.proofs.Sums.{AllKeys-append, AllKeys-canonical}
 use Rattle.sparse_lists.proofs.Totals.{Monoid, total, total-canonical}
 use Rattle.geo_poly.specs.Monomials.{Powers, exponents, product}
 use Rattle.geo_poly.specs.Polynomials.{Summands, coefficients, constant_of, multiples, polynomial_of, product_of, products, term_cmp}
-use Rattle.geo_poly.specs.ReplacementLaws.{power_of, product_of_all}
+use Rattle.geo_poly.specs.Replace.{power_of}
 use Rattle.geo_poly.specs.Variables.{var_cmp}
 use Rattle.geo_poly.proofs.Orders.{exponents_add, term_order, var_order}
 use Rattle.geo_poly.proofs.PolynomialLaws.{coefficients_add}
@@ -127,7 +127,7 @@ products-left p r =
     ∙ ap polynomial_of (products-total p r)
 
 -- ASSOCIATIVITY
-product_assoc : (a b c : Powers) → product (product a b) c ≡ product a (product b c)
+pub product_assoc : (a b c : Powers) → product (product a b) c ≡ product a (product b c)
 product_assoc a b c =
     canonical-canonical_left var_cmp exponents var_order exponents_add (a ++ b) c
     ∙ ap (canonical var_cmp exponents) (append_assoc a b c) ∙ canonical_comm var_cmp exponents var_order exponents_add a (b ++ c)
@@ -200,11 +200,7 @@ IsNormal-product_of p q = record {
   monomials = AllKeys-canonical term_cmp coefficients (λ m. IsCanonical var_cmp exponents m) (products p q) (normal_products p q);
 }
 
--- POWERS AND PRODUCTS OF LISTS
+-- POWERS
 pub power_of-comm : (q : Summands) (n : ℕ) → product_of (power_of q n) q ≡ product_of q (power_of q n)
 power_of-comm q zero = product_of-one_comm q
 power_of-comm q (suc n) = product_of-assoc q (power_of q n) q ∙ ap (product_of q) (power_of-comm q n)
-
-pub product_of_all-push : (ps : List Summands) (q : Summands) → product_of_all (ps ++ q ∷ []) ≡ product_of (product_of_all ps) q
-product_of_all-push [] q = sym (product_of-one_comm q)
-product_of_all-push (p ∷ ps) q = ap (product_of p) (product_of_all-push ps q) ∙ sym (product_of-assoc p (product_of_all ps) q)

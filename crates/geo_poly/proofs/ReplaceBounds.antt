@@ -1,13 +1,13 @@
 -- The norm, the degree and the order of what a replacement makes.
-use Rattle.std.proofs.Common.{ℕ, zero, suc, ◌+◌, ◌*◌, ◌^◌, ◌≤◌, [], ◌∷◌, ap, arith}
-use Rattle.std.proofs.Math.Nat.{pow-suc, pow-zero, mul-le-mul, mul-one}
+use Rattle.std.proofs.Common.{ℕ, zero, suc, ◌+◌, ◌*◌, ◌^◌, ◌≤◌, [], ◌∷◌, arith}
+use Rattle.std.proofs.Math.Nat.{pow-suc, pow-zero, mul-le-mul}
 use Rattle.sparse_lists.specs.SparseLists.{AllKeys}
-use Rattle.geo_poly.specs.Monomials.{Powers, IsMonomial, degree_of}
+use Rattle.geo_poly.specs.Monomials.{Powers, degree_of}
 use Rattle.geo_poly.specs.Polynomials.{Summands, coefficients, term_cmp, norm_of, total_degree, multiples, products, product_of}
-use Rattle.geo_poly.specs.Replace.{times_power}
+use Rattle.geo_poly.specs.Replace.{power_of}
 use Rattle.sparse_lists.proofs.Sums.{AllKeys-canonical, AllKeys-append}
 use Rattle.geo_poly.proofs.MonomialLaws.{degree_of-product}
-use Rattle.geo_poly.proofs.ProductLaws.{norm_of-product_of-le, monomials_of_products}
+use Rattle.geo_poly.proofs.ProductLaws.{norm_of-product_of-le}
 
 -- the degree is at most d where that of each monomial is
 pub UpTo : ℕ → Powers → Type 0
@@ -37,19 +37,12 @@ total_degree-product_of-le p q =
     let d = total_degree p + total_degree q in
     from_up_to (product_of p q) d (AllKeys-canonical term_cmp coefficients (UpTo d) (products p q) (up_to_products p q d (omega arith)))
 
-pub norm_of-times_power-le : (p q : Summands) (w n : ℕ) → norm_of q ≤ w → norm_of (times_power p q n) ≤ norm_of p * w ^ n
-norm_of-times_power-le p q w zero h = rw (pow-zero w, mul-one (norm_of p)) (omega arith)
-norm_of-times_power-le p q w (suc n) h =
-    let before : norm_of (times_power p q n) * norm_of q ≤ norm_of p * w ^ n * w = mul-le-mul (norm_of-times_power-le p q w n h) h in
-    omega (arith, norm_of-product_of-le (times_power p q n) q, before, ap (λ k. norm_of p * k) (pow-suc w n))
+pub norm_of-power_of-le : (q : Summands) (w n : ℕ) → norm_of q ≤ w → norm_of (power_of q n) ≤ w ^ n
+norm_of-power_of-le q w zero h = rw (pow-zero w) (omega arith)
+norm_of-power_of-le q w (suc n) h =
+    let both : norm_of q * norm_of (power_of q n) ≤ w * w ^ n = mul-le-mul h (norm_of-power_of-le q w n h) in
+    omega (arith, norm_of-product_of-le q (power_of q n), both, pow-suc w n)
 
-pub total_degree-times_power-le : (p q : Summands) (g n : ℕ) → total_degree q ≤ g → total_degree (times_power p q n) ≤ total_degree p + g * n
-total_degree-times_power-le p q g zero h = omega arith
-total_degree-times_power-le p q g (suc n) h =
-    omega (arith, total_degree-product_of-le (times_power p q n) q, total_degree-times_power-le p q g n h)
-
-pub monomials_of_times_power : (p q : Summands) (g n : ℕ) → AllKeys IsMonomial p → total_degree q ≤ g → total_degree p + g * n ≤ 65535 → AllKeys IsMonomial (times_power p q n)
-monomials_of_times_power p q g zero m h fits = m
-monomials_of_times_power p q g (suc n) m h fits =
-    AllKeys-canonical term_cmp coefficients IsMonomial (products (times_power p q n) q)
-    (monomials_of_products (times_power p q n) q (omega (arith, total_degree-times_power-le p q g n h)))
+pub total_degree-power_of-le : (q : Summands) (g n : ℕ) → total_degree q ≤ g → total_degree (power_of q n) ≤ g * n
+total_degree-power_of-le q g zero h = omega arith
+total_degree-power_of-le q g (suc n) h = omega (arith, total_degree-product_of-le q (power_of q n), h, total_degree-power_of-le q g n h)

@@ -1,23 +1,12 @@
--- A loop that multiplies a term by its numerators, one variable after the other.
-use Rattle.std.proofs.Common.{◌≡◌, ℕ, ◌+◌, ◌-◌, ◌^◌, ◌≤◌, Bool, true, false, cond, ℤ, Option, Some, None, List, [], ◌∷◌, subst, unsigned_abs, arith}
+-- The bounds of the row of a variable, and weights and degrees that only grow.
+use Rattle.std.proofs.Common.{◌≡◌, ℕ, ◌^◌, ◌≤◌, Bool, true, false, cond, Option, Some, None, List, [], ◌∷◌, subst, arith}
 use Rattle.std.proofs.Math.Nat.{mul-le-mul_right}
 use Rattle.std.specs.Ordering.{is_eq}
 use Rattle.geo_poly.specs.declared.variables.Var.{Var}
 use Rattle.geo_poly.specs.declared.replacement.Row.{Row}
 use Rattle.geo_poly.specs.Variables.{var_cmp}
-use Rattle.sparse_lists.specs.SparseLists.{AllKeys, IsCanonical}
-use Rattle.geo_poly.specs.Monomials.{Powers, IsMonomial, degree_of}
-use Rattle.geo_poly.specs.Polynomials.{Summands, coefficients, term_cmp, norm_of, total_degree}
-use Rattle.geo_poly.specs.Replace.{IsBounded, AllBounded, row_of, denominators, others, times_rows, weight_row, weight_rows, degree_row, degree_rows}
-
--- p is what the variables before those of `left` have made
-pub record Progress (rows : List Row) (top : ℕ) (m : Powers) (c : ℤ) (left : Powers) (p : Summands) (missing : ℕ) : Type 0 where
-  pub kept : times_rows rows left p ≡ times_rows rows m ((others rows m, c) ∷ [])
-  pub in_order : IsCanonical term_cmp coefficients p
-  pub monomials : AllKeys IsMonomial p
-  pub norm : weight_rows rows left (norm_of p) ≤ weight_rows rows m (unsigned_abs c)
-  pub degree : degree_rows rows left (total_degree p) ≤ degree_rows rows m (degree_of (others rows m))
-  pub missing-is : missing ≡ denominators rows left + (top - denominators rows m)
+use Rattle.geo_poly.specs.Monomials.{Powers}
+use Rattle.geo_poly.specs.Replace.{IsBounded, AllBounded, row_of, weight_row, weight_rows, degree_row, degree_rows}
 
 pub bounded_row : (rows : List Row) (v : Var) (r : Row) → AllBounded rows → row_of rows v ≡ Some r → IsBounded r.num
 bounded_row [] v r h e = absurd (let q : ◌≡◌ {A = Option Row} None (Some r) = e in cc)
@@ -27,7 +16,7 @@ bounded_row (s ∷ rows) v r h e = go (is_eq (var_cmp s.var v)) e (bounded_row r
     go true e rest = let which : s ≡ r = cc in subst (λ (r : Row). IsBounded r.num) which h.0
     go false e rest = rest e
 
--- the weights and degrees only grow
+-- WEIGHTS AND DEGREES
 weight_row-mono : (o : Option Row) (n w w' : ℕ) → w ≤ w' → weight_row o n w ≤ weight_row o n w'
 weight_row-mono None n w w' h = h
 weight_row-mono (Some r) n w w' h = mul-le-mul_right (r.num.weight ^ n) h
@@ -43,12 +32,3 @@ degree_row-mono (Some r) n d d' h = omega (arith, h)
 pub degree_rows-mono : (rows : List Row) (m : Powers) (d d' : ℕ) → d ≤ d' → degree_rows rows m d ≤ degree_rows rows m d'
 degree_rows-mono rows [] d d' h = h
 degree_rows-mono rows (v ∷ m) d d' h = degree_rows-mono rows m _ _ (degree_row-mono (row_of rows v.0) v.1 d d' h)
-
-degree_row-grows : (o : Option Row) (n d : ℕ) → d ≤ degree_row o n d
-degree_row-grows None n d = omega arith
-degree_row-grows (Some r) n d = omega arith
-
-pub degree_rows-grows : (rows : List Row) (m : Powers) (d : ℕ) → d ≤ degree_rows rows m d
-degree_rows-grows rows [] d = omega arith
-degree_rows-grows rows (v ∷ m) d =
-    omega (arith, degree_row-grows (row_of rows v.0) v.1 d, degree_rows-grows rows m (degree_row (row_of rows v.0) v.1 d))

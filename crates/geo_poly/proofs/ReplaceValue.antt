@@ -1,5 +1,5 @@
 -- A replacement multiplies the value by a power of the denominator.
-use Rattle.std.proofs.Common.{◌≡◌, ℕ, zero as zeroₙ, suc, ◌+◌ as ◌+ₙ◌, ◌*◌ as ◌*ₙ◌, ◌-◌ as ◌-ₙ◌, ◌≤◌, Bool, true, false, cond, ℤ, Option, Some, None, List, [], ◌∷◌, refl, subst, sym, arith}
+use Rattle.std.proofs.Common.{◌≡◌, ℕ, zero as zeroₙ, suc, ◌+◌ as ◌+ₙ◌, ◌*◌ as ◌*ₙ◌, ◌-◌ as ◌-ₙ◌, ◌≤◌, Bool, true, false, cond, ℤ, pos, Option, Some, None, List, [], ◌∷◌, refl, subst, sym, arith}
 use Rattle.std.specs.Ordering.{is_eq}
 use Rattle.std.specs.declared.cmp.Ordering.{Ordering}
 use Rattle.std.specs.declared.cmp.Ordering.TheVariants.{Less, Equal, Greater}
@@ -13,12 +13,13 @@ use Rattle.geo_poly.specs.declared.variables.Var.{Var}
 use Rattle.geo_poly.specs.declared.replacement.Row.{Row}
 use Rattle.geo_poly.specs.Variables.{var_cmp}
 use Rattle.geo_poly.specs.Monomials.{Powers}
-use Rattle.geo_poly.specs.Polynomials.{Summands}
+use Rattle.geo_poly.specs.Polynomials.{Summands, constant_of, product_of}
 use Rattle.geo_poly.specs.Values.{integer, monomial_value, value}
 use Rattle.ring_laws.proofs.Fractions.{fractions}
 use Rattle.ring_laws.specs.Fraction.{Fraction}
 use Rattle.geo_poly.specs.ReplacementLaws.{ReplacementHasTheValue, RowsTell}
-use Rattle.geo_poly.specs.Replace.{row_of, power_in, denominators, most_denominators, kept, others, times_power, times_row, times_rows, replaced_term, replaced_terms, replaced_by}
+use Rattle.geo_poly.specs.Replace.{row_of, power_in, denominators, most_denominators, kept, others, power_of}
+use Rattle.geo_poly.specs.Replace.{numerator_power, numerators, replaced_term, replaced_terms, replaced_by}
 use Rattle.geo_poly.proofs.Orders.{var_order}
 use Rattle.geo_poly.proofs.Values.{value-append, value-polynomial_of, value-product_of}
 
@@ -44,10 +45,13 @@ module _ (R : Ring) (x : Var → R.carrier) where
   val : Summands → carrier
   val = value R x
 
-  pub value-times_power : (p q : Summands) (n : ℕ) → value R x (times_power p q n) ≈ value R x p * power R (value R x q) n
-  value-times_power p q zeroₙ = flip (R.mul-one (value R x p))
-  value-times_power p q (suc n) =
-      value-product_of R x (times_power p q n) q ∘ times (value-times_power p q n) self ∘ R.mul_assoc (value R x p) (power R (value R x q) n) (value R x q)
+  value-one : value R x (constant_of (pos 1)) ≈ one
+  value-one = R.add-zero _ ∘ R.mul-one _ ∘ Laws.zero-add R one
+
+  value-power_of : (q : Summands) (n : ℕ) → value R x (power_of q n) ≈ power R (value R x q) n
+  value-power_of q zeroₙ = value-one
+  value-power_of q (suc n) =
+      value-product_of R x q (power_of q n) ∘ R.mul_comm (value R x q) (value R x (power_of q n)) ∘ times (value-power_of q n) self
 
   -- each row tells the value of its variable, over the denominator
   abbrev pub RowsHold : carrier → List Row → Type 0
@@ -72,48 +76,49 @@ module _ (R : Ring) (x : Var → R.carrier) where
     one_row : (v : Var) (r : Row) (n : ℕ) → x v * power R d r.power ≈ value R x r.num.poly → power R (x v) n * power R d (r.power *ₙ n) ≈ power R (value R x r.num.poly) n
     one_row v r n h = times self (flip (power-power R d r.power n)) ∘ flip (power-times R (x v) (power R d r.power) n) ∘ power-same R _ _ n h
 
-    numerator : Option Row → ℕ → carrier
-    numerator None n = one
-    numerator (Some r) n = power R (value R x r.num.poly) n
+    row_value : Option Row → ℕ → carrier
+    row_value None n = one
+    row_value (Some r) n = power R (value R x r.num.poly) n
 
-    numerators : List Row → Powers → carrier
-    numerators rows [] = one
-    numerators rows (v ∷ m) = numerator (row_of rows v.0) v.1 * numerators rows m
+    rows_value : List Row → Powers → carrier
+    rows_value rows [] = one
+    rows_value rows (v ∷ m) = row_value (row_of rows v.0) v.1 * rows_value rows m
 
-    value-times_row : (o : Option Row) (n : ℕ) (p : Summands) → value R x (times_row o n p) ≈ value R x p * numerator o n
-    unfolding numerator
-    value-times_row None n p = flip (R.mul-one (value R x p))
-    value-times_row (Some r) n p = value-times_power p r.num.poly n
+    value-numerator_power : (o : Option Row) (n : ℕ) → value R x (numerator_power o n) ≈ row_value o n
+    unfolding row_value
+    value-numerator_power None n = value-one
+    value-numerator_power (Some r) n = value-power_of r.num.poly n
 
-    value-times_rows : (rows : List Row) (m : Powers) (p : Summands) → value R x (times_rows rows m p) ≈ value R x p * numerators rows m
-    unfolding numerators
-    value-times_rows rows [] p = flip (R.mul-one (value R x p))
-    value-times_rows rows (v ∷ m) p =
-        value-times_rows rows m (times_row (row_of rows v.0) v.1 p) ∘ times (value-times_row (row_of rows v.0) v.1 p) self
-        ∘ R.mul_assoc (value R x p) (numerator (row_of rows v.0) v.1) (numerators rows m)
+    value-numerators : (rows : List Row) (m : Powers) → value R x (numerators rows m) ≈ rows_value rows m
+    unfolding rows_value
+    value-numerators rows [] = value-one
+    value-numerators rows (v ∷ m) =
+        value-product_of R x (numerator_power (row_of rows v.0) v.1) (numerators rows m)
+        ∘ times (value-numerator_power (row_of rows v.0) v.1) (value-numerators rows m)
 
     -- the other variables and the numerators are the monomial and its denominators
-    value-others : (rows : List Row) (m : Powers) → RowsHold d rows → monomial_value R x (others rows m) * numerators rows m ≈ monomial_value R x m * power R d (denominators rows m)
-    unfolding numerators numerator
+    value-others : (rows : List Row) (m : Powers) → RowsHold d rows → monomial_value R x (others rows m) * rows_value rows m ≈ monomial_value R x m * power R d (denominators rows m)
+    unfolding rows_value row_value
     value-others rows [] h = self
     value-others rows (v ∷ m) h = go (row_of rows v.0) refl (value-others rows m h)
       where
         go : (o : Option Row) → row_of rows v.0 ≡ o
-            → monomial_value R x (others rows m) * numerators rows m ≈ monomial_value R x m * power R d (denominators rows m)
-            → monomial_value R x (kept o v (others rows m)) * (numerator o v.1 * numerators rows m) ≈ power R (x v.0) v.1 * monomial_value R x m * power R d (power_in o *ₙ v.1 +ₙ denominators rows m)
+            → monomial_value R x (others rows m) * rows_value rows m ≈ monomial_value R x m * power R d (denominators rows m)
+            → monomial_value R x (kept o v (others rows m)) * (row_value o v.1 * rows_value rows m)
+            ≈ power R (x v.0) v.1 * monomial_value R x m * power R d (power_in o *ₙ v.1 +ₙ denominators rows m)
         go None o rest =
             let a = variable 0 in let b = variable 1 in let c = variable 2 in
             let none : 0 *ₙ v.1 +ₙ denominators rows m ≡ denominators rows m = omega arith in
-            subst (λ k. power R (x v.0) v.1 * monomial_value R x (others rows m) * (one * numerators rows m) ≈ power R (x v.0) v.1 * monomial_value R x m * power R d k) (sym none)
-            (times self (R.mul_comm one (numerators rows m) ∘ R.mul-one (numerators rows m))
-            ∘ R.mul_assoc (power R (x v.0) v.1) (monomial_value R x (others rows m)) (numerators rows m) ∘ times self rest
+            subst (λ k. power R (x v.0) v.1 * monomial_value R x (others rows m) * (one * rows_value rows m) ≈ power R (x v.0) v.1 * monomial_value R x m * power R d k) (sym none)
+            (times self (R.mul_comm one (rows_value rows m) ∘ R.mul-one (rows_value rows m))
+            ∘ R.mul_assoc (power R (x v.0) v.1) (monomial_value R x (others rows m)) (rows_value rows m) ∘ times self rest
             ∘ flip (R.mul_assoc (power R (x v.0) v.1) (monomial_value R x m) (power R d (denominators rows m))))
         go (Some r) o rest =
             let a = variable 0 in let b = variable 1 in let c = variable 2 in let e = variable 3 in
             let p = power R (x v.0) v.1 in
             let n = power R (value R x r.num.poly) v.1 in
             let k = power R d (r.power *ₙ v.1) in
-            agree R (entry_at R (monomial_value R x (others rows m) ∷ n ∷ numerators rows m ∷ [])) (a ⊠ (b ⊠ c)) (b ⊠ (a ⊠ c)) tt
+            agree R (entry_at R (monomial_value R x (others rows m) ∷ n ∷ rows_value rows m ∷ [])) (a ⊠ (b ⊠ c)) (b ⊠ (a ⊠ c)) tt
             ∘ times (flip (one_row v.0 r v.1 (row_holds rows v.0 h r o))) rest
             ∘ agree R (entry_at R (p ∷ k ∷ monomial_value R x m ∷ power R d (denominators rows m) ∷ [])) (a ⊠ b ⊠ (c ⊠ e)) (a ⊠ c ⊠ (b ⊠ e)) tt
             ∘ times self (flip (power-add R d (r.power *ₙ v.1) (denominators rows m)))
@@ -126,11 +131,12 @@ module _ (R : Ring) (x : Var → R.carrier) where
         let i = integer R t.1 in
         let m = monomial_value R x t.0 in
         let o = monomial_value R x (others rows t.0) in
-        let n = numerators rows t.0 in
+        let n = rows_value rows t.0 in
+        let start : Summands = (others rows t.0, t.1) ∷ [] in
         let all : k +ₙ (top -ₙ k) ≡ top = omega (arith, le) in
-        value-times_power (times_rows rows t.0 ((others rows t.0, t.1) ∷ [])) den (top -ₙ k)
-        ∘ times (value-times_rows rows t.0 ((others rows t.0, t.1) ∷ []) ∘ times (R.add-zero (i * o)) self ∘ R.mul_assoc i o n
-        ∘ times self (value-others rows t.0 h)) (power-same R _ _ (top -ₙ k) den-is)
+        value-product_of R x (product_of start (numerators rows t.0)) (power_of den (top -ₙ k))
+        ∘ times (value-product_of R x start (numerators rows t.0) ∘ times (R.add-zero (i * o)) (value-numerators rows t.0) ∘ R.mul_assoc i o n
+        ∘ times self (value-others rows t.0 h)) (value-power_of den (top -ₙ k) ∘ power-same R _ _ (top -ₙ k) den-is)
         ∘ agree R (entry_at R (i ∷ m ∷ power R d k ∷ power R d (top -ₙ k) ∷ [])) (a ⊠ (b ⊠ c) ⊠ e) (a ⊠ b ⊠ (c ⊠ e)) tt
         ∘ times self (flip (power-add R d k (top -ₙ k)) ∘ subst (λ j. power R d j ≈ power R d top) (sym all) self)
 

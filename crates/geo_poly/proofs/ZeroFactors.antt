@@ -6,10 +6,11 @@ use Rattle.sparse_lists.specs.SparseLists.{IsCanonical}
 use Rattle.geo_poly.specs.declared.replacement.Piece.{Piece}
 use Rattle.geo_poly.specs.declared.replacement.Row.{Row}
 use Rattle.geo_poly.specs.declared.variables.Var.{Var}
+use Rattle.geo_poly.specs.Inner.Accumulated.{accumulated_term, times_power, times_row, times_rows}
 use Rattle.geo_poly.specs.Inner.TermFactors.{AreNonzeroRows, HasNoZero}
 use Rattle.geo_poly.specs.Monomials.{Powers, exponents}
 use Rattle.geo_poly.specs.Polynomials.{Summands, polynomial_of, product_of, products}
-use Rattle.geo_poly.specs.Replace.{denominators, others, replaced_term, row_of, times_power, times_row, times_rows}
+use Rattle.geo_poly.specs.Replace.{denominators, others, row_of}
 use Rattle.geo_poly.specs.Variables.{var_cmp}
 
 -- PRODUCTS WITH ZERO
@@ -45,7 +46,7 @@ pub record Seen (rows : List Row) (top : ℕ) (m left : Powers) (missing : ℕ) 
 -- a zero numerator
 pub zero_numerator : (rows : List Row) (den : Summands) (top : ℕ) (m : Powers) (v : Var × ℕ) (left : Powers) (missing : ℕ) (r : Row)
     → row_of rows v.0 ≡ Some r → r.num.poly ≡ [] → Seen rows top m (v ∷ left) missing
-    → (k : ℤ) → replaced_term rows den top (m, k) ≡ []
+    → (k : ℤ) → accumulated_term rows den top (m, k) ≡ []
 zero_numerator rows den top m v left missing r e none h k =
     let some : 0 < v.1 = grind (arith, nat_tests) in
     let gone : (q : Summands) → times_row (row_of rows v.0) v.1 q ≡ [] = λ q. ap (λ (o : Option Row). times_row o v.1 q) e
@@ -55,7 +56,7 @@ zero_numerator rows den top m v left missing r e none h k =
 
 -- a zero denominator
 pub zero_denominator : (rows : List Row) (den : Summands) (top : ℕ) (m left : Powers) (missing : ℕ) → left ≡ [] → den ≡ [] → 0 < missing → Seen rows top m left missing
-    → (k : ℤ) → replaced_term rows den top (m, k) ≡ []
+    → (k : ℤ) → accumulated_term rows den top (m, k) ≡ []
 zero_denominator rows den top m left missing none zero_den some h k =
     let lacking : 0 < top - denominators rows m = omega (arith, some, h.missing-is, ap (denominators rows) none) in
     let p = times_rows rows m ((others rows m, k) ∷ []) in

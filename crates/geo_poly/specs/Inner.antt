@@ -7,3 +7,4 @@ pub mod Visits
 pub mod Moved
 pub mod Parts
 pub mod Factored
+pub mod Accumulated

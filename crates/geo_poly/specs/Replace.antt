@@ -1,5 +1,6 @@
 -- What becomes of a polynomial when variables are replaced at once, each by a numerator over a power of one denominator.
-use Rattle.std.specs.Prelude.{ℕ, zero, suc, ◌+◌, ◌*◌, ◌-◌, ◌^◌, ◌<◌, ◌≤◌, max, ℤ, Option, Some, None, List, [], ◌∷◌, ◌++◌, find, length, sum_by, unsigned_abs}
+use Rattle.std.specs.Prelude.{ℕ, zero, suc, ◌+◌, ◌*◌, ◌-◌, ◌^◌, ◌<◌, ◌≤◌, max, ℤ, pos, Option, Some, None, List, [], ◌∷◌, ◌++◌}
+use Rattle.std.specs.Prelude.{find, length, sum_by, unsigned_abs}
 use Rattle.std.specs.Ordering.{is_eq}
 use Rattle.geo_poly.specs.declared.variables.Var.{Var}
 use Rattle.geo_poly.specs.declared.replacement.Piece.{Piece}
@@ -7,7 +8,7 @@ use Rattle.geo_poly.specs.declared.replacement.Row.{Row}
 use Rattle.geo_poly.specs.Variables.{var_cmp}
 use Rattle.sparse_lists.specs.SparseLists.{AllKeys, IsCanonical}
 use Rattle.geo_poly.specs.Monomials.{Powers, IsMonomial, degree_of}
-use Rattle.geo_poly.specs.Polynomials.{Summands, coefficients, term_cmp, polynomial_of, norm_of, total_degree, product_of}
+use Rattle.geo_poly.specs.Polynomials.{Summands, coefficients, term_cmp, constant_of, polynomial_of, norm_of, total_degree, product_of}
 
 -- the bounds that a piece tells are such, and its count is at most its weight, as each monomial has a coefficient of at least 1
 pub record IsBounded (piece : Piece) : Type 0 where
@@ -46,31 +47,32 @@ abbrev pub others : List Row → Powers → Powers
 others rows [] = []
 others rows (p ∷ m) = kept (row_of rows p.0) p (others rows m)
 
--- p times q to the power n
-abbrev pub times_power : Summands → Summands → ℕ → Summands
-times_power p q zero = p
-times_power p q (suc n) = product_of (times_power p q n) q
+-- q to the power n
+abbrev pub power_of : Summands → ℕ → Summands
+power_of q zero = constant_of (pos 1)
+power_of q (suc n) = product_of q (power_of q n)
 
--- times the row's numerator to the power n
-abbrev pub times_row : Option Row → ℕ → Summands → Summands
-times_row None n p = p
-times_row (Some r) n p = times_power p r.num.poly n
+-- the row's numerator to the power n, 1 where there is no row
+abbrev pub numerator_power : Option Row → ℕ → Summands
+numerator_power None n = constant_of (pos 1)
+numerator_power (Some r) n = power_of r.num.poly n
 
--- times the numerators of the replaced variables, each to its exponent
-abbrev pub times_rows : List Row → Powers → Summands → Summands
-times_rows rows [] p = p
-times_rows rows (v ∷ m) p = times_rows rows m (times_row (row_of rows v.0) v.1 p)
+-- the product of the numerators of the replaced variables, each to its exponent
+abbrev pub numerators : List Row → Powers → Summands
+numerators rows [] = constant_of (pos 1)
+numerators rows (p ∷ m) = product_of (numerator_power (row_of rows p.0) p.1) (numerators rows m)
 
--- a term: its coefficient and other variables, its numerators, and the denominators that it lacks
+-- a term: its coefficient and other variables, times the numerators, times the denominators that it lacks
 abbrev pub replaced_term : List Row → Summands → ℕ → Powers × ℤ → Summands
-replaced_term rows den top t = times_power (times_rows rows t.0 ((others rows t.0, t.1) ∷ [])) den (top - denominators rows t.0)
+replaced_term rows den top t =
+    product_of (product_of ((others rows t.0, t.1) ∷ []) (numerators rows t.0)) (power_of den (top - denominators rows t.0))
 
 -- what becomes of each term, one after another
 abbrev pub replaced_terms : List Row → Summands → ℕ → Summands → Summands
 replaced_terms rows den top [] = []
 replaced_terms rows den top (t ∷ ts) = replaced_term rows den top t ++ replaced_terms rows den top ts
 
--- what becomes of the polynomial
+-- what becomes of the polynomial: the sum over its terms, with the denominators of the one that calls for most
 abbrev pub replaced_by : List Row → Summands → Summands → Summands
 replaced_by rows den p = polynomial_of (replaced_terms rows den (most_denominators rows p) p)
 

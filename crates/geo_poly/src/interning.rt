@@ -41,7 +41,7 @@ pub(crate) fn number_at(numbers: &[u64], i: usize) -> u64 {
 
 /// The index of the monomial with these powers. The places of its variables are put down as guesses
 /// for the next monomial, which has mostly the same.
-fn stored(
+pub(crate) fn stored(
     store: &mut Monos,
     vars: &[Var],
     powers: &[(Var, u32)],

@@ -7,7 +7,7 @@ ghost use Rattle.geo_poly.specs.KeptVariables.{SortedVariablesAreKept, Variables
 ghost use Rattle.geo_poly.specs.Laws.{OrderIsByExponents, OrderTellsVariables};
 ghost use Rattle.geo_poly.specs.Laws.{PolynomialHasCoefficients, ProductAddsExponents};
 ghost use Rattle.geo_poly.specs.Laws.{SumAddsCoefficients};
-ghost use Rattle.geo_poly.specs.ReplacementLaws.{ReplacedByIsTheSum, ReplacementHasTheValue};
+ghost use Rattle.geo_poly.specs.ReplacementLaws.{ReplacementHasTheValue};
 ghost use Rattle.geo_poly.specs.SortedVariables.{CanonicalFormsAreSorted};
 ghost use Rattle.geo_poly.specs.SortedVariables.{SortedVariablesAreCanonical};
 ghost use Rattle.geo_poly.specs.Specialise.{SmallNumbersKeepTheNorm, SomeNumberKeepsAll};
@@ -113,12 +113,6 @@ pub fn variables_are_kept()
 /// Where all variables of some polynomials are sorted, so are those of what is made of them.
 pub fn sorted_variables_are_kept()
     ensures { SortedVariablesAreKept }
-{}
-
-/// What a replacement makes is the sum over the terms of what stays of the term, times the
-/// numerators and the denominator to the powers that the term calls for.
-pub fn replaced_by_is_the_sum()
-    ensures { ReplacedByIsTheSum }
 {}
 
 /// A replacement multiplies the value by the denominator, to the power of the term that calls for

@@ -1,22 +1,27 @@
 //! The monomials of a polynomial put into another store, whose variables have other numbers.
 
-ghost use Rattle.std.specs.Prelude.{◌≡◌, ◌<◌, ◌≤◌, Contains, None, IfOk, length, slice_index_or};
+ghost use Rattle.std.specs.Prelude.{◌≡◌, ◌<◌, Contains, None, IfOk, slice_index_or};
 ghost use Rattle.std.specs.List.Sorted.{IsStrictlySortedBy};
 ghost use Rattle.sparse_lists.specs.SparseLists.{AllKeys};
 ghost use Rattle.mono_store.specs.Stores.{Keeps, count};
+ghost use Rattle.geo_poly.specs.Monomials.{IsMonomial};
 ghost use Rattle.geo_poly.specs.PolynomialVariables.{AllVariables};
-ghost use Rattle.geo_poly.specs.Shared.{AreParts, IsIndex, terms_of, told};
+ghost use Rattle.geo_poly.specs.Shared.{AreParts, IsIndex, IsIndexOf};
+ghost use Rattle.geo_poly.specs.Shared.{powers_at, terms_of, told, told_powers};
 ghost use Rattle.geo_poly.specs.Variables.{var_cmp};
 ghost use Rattle.geo_poly.specs.Inner.Moved.{AreMoved, ArePlaces, IsMovedTo, IsPlaceOf};
 
+use crate::interning::stored;
+use crate::polynomial_variables::mark;
+use crate::reading::monomial_at;
 use crate::shared::{Indexed, Shared};
 use crate::variables::Var;
 use geo_points::NoMemory;
 use mono_store::{MonoId, Monos};
 use std::alloc::Global;
 
-/// The indices of the monomials in another store, with their coefficients. Each link is looked at
-/// once.
+/// The indices of the monomials in another store, with their coefficients. Each link that they reach
+/// is looked at once, and no other is moved.
 pub(crate) fn moved(
     alloc: Global,
     store: &mut Monos,
@@ -30,49 +35,99 @@ pub(crate) fn moved(
     ensures terms { IfOk result (λ list. terms_of vars.now store.new list.items ≡ told p.now) }
     ensures kept { Keeps store.old store.new }
 {
-    let table = moved_monomials(alloc, store, vars, p)?;
-    looked_up(alloc, vars, store, p, &table)
+    let reached = reached_links(alloc, p)?;
+    let table = moved_monomials(alloc, store, vars, p, &reached)?;
+    looked_up(alloc, store, vars, p, &table)
 }
 
-/// The list with the indices that the table tells.
+/// Which links the monomials of the list reach, by their indices. Nothing rests on it but time.
+fn reached_links(alloc: Global, p: &Shared) -> Result<Vec<bool>, NoMemory>
+    requires { AreParts p.now }
+{
+    let mut reached = Vec::new(alloc);
+    reached.resize((p.monos.links() as usize).saturating_add(1), false)?;
+    for (id, _) in p.list {
+        reach(&mut reached, p, *id);
+    }
+    Ok(reached)
+}
+
+/// Marks the links of a monomial, up to a part that is marked.
+fn reach(reached: &mut Vec<bool>, p: &Shared, id: MonoId)
+    requires { id.0 < count p.now.monos.now }
+{
+    let mut rest = id;
+    while let Some(link) = p.monos.link(rest) {
+        if mark(reached, rest.0 as usize) {
+            return;
+        }
+        rest = link.next;
+    }
+}
+
+/// The list with the indices in another store.
 fn looked_up(
     alloc: Global,
+    store: &mut Monos,
     vars: &[Var],
-    store: &Monos,
     p: &Shared,
     table: &[Option<MonoId>],
 ) -> Result<Vec<Indexed>, NoMemory>
+    requires rising { IsStrictlySortedBy var_cmp vars.now }
     requires parts { AreParts p.now }
     requires known { AllVariables (Contains vars.now) (told p.now) }
-    requires table { AreMoved p.now vars.now store.now table.now }
-    requires whole { length table.now ≡ count p.now.monos.now }
-    ensures indices { IfOk result (λ list. AllKeys (IsIndex vars.now store.now) list.items) }
-    ensures terms { IfOk result (λ list. terms_of vars.now store.now list.items ≡ told p.now) }
+    requires table { AreMoved p.now vars.now store.old table.now }
+    ensures indices { IfOk result (λ list. AllKeys (IsIndex vars.now store.new) list.items) }
+    ensures terms { IfOk result (λ list. terms_of vars.now store.new list.items ≡ told p.now) }
+    ensures kept { Keeps store.old store.new }
 {
-    let _ = vars;
-    let _ = store;
     let mut list = Vec::with_capacity(alloc, p.list.len())?;
     for (id, coefficient) in p.list {
-        match new_index(table, *id) {
-            Some(new) => list.push((new, *coefficient))?,
-            None => unreachable!(),
-        }
+        let new = index_in(alloc, store, vars, p, table, *id)?;
+        list.push((new, *coefficient))?;
     }
     Ok(list)
 }
 
-/// The index in another store of each monomial, in the order of the indices, where its variables
-/// stand in the list.
+/// The index in another store of a monomial: that of the table, or else it is read and stored.
+fn index_in(
+    alloc: Global,
+    store: &mut Monos,
+    vars: &[Var],
+    p: &Shared,
+    table: &[Option<MonoId>],
+    id: MonoId,
+) -> Result<MonoId, NoMemory>
+    requires rising { IsStrictlySortedBy var_cmp vars.now }
+    requires index { IsIndexOf p.now id }
+    requires monomial { IsMonomial (told_powers p.now id) }
+    requires known { AllKeys (Contains vars.now) (told_powers p.now id) }
+    requires table { AreMoved p.now vars.now store.old table.now }
+    ensures index { IfOk result (IsIndex vars.now store.new) }
+    ensures powers { IfOk result
+        (λ new. powers_at vars.now store.new new ≡ told_powers p.now id) }
+    ensures kept { Keeps store.old store.new }
+{
+    if let Some(new) = new_index(table, id) {
+        return Ok(new);
+    }
+    let monomial = monomial_at(alloc, p, id)?;
+    let mut guesses = Vec::new(alloc);
+    stored(store, vars, monomial.powers(), &mut guesses)
+}
+
+/// The index in another store of each monomial, in the order of the indices, where it is marked and
+/// its variables stand in the list.
 fn moved_monomials(
     alloc: Global,
     store: &mut Monos,
     vars: &[Var],
     p: &Shared,
+    reached: &[bool],
 ) -> Result<Vec<Option<MonoId>>, NoMemory>
     requires rising { IsStrictlySortedBy var_cmp vars.now }
     requires parts { AreParts p.now }
     ensures moved { IfOk result (λ table. AreMoved p.now vars.now store.new table.items) }
-    ensures whole { IfOk result (λ table. length table.items ≡ count p.now.monos.now) }
     ensures kept { Keeps store.old store.new }
 {
     let places = places_in(alloc, p.vars, vars)?;
@@ -80,7 +135,11 @@ fn moved_monomials(
     let mut table = Vec::with_capacity(alloc, (n as usize).saturating_add(1))?;
     table.push(Some(store.one()))?;
     for k in 0..n {
-        let new = moved_monomial(store, vars, p, &places, &table, MonoId(k + 1))?;
+        let id = MonoId(k + 1);
+        let new = match reached.get(id.0 as usize) {
+            Some(true) => moved_monomial(store, vars, p, &places, &table, id)?,
+            _ => None,
+        };
         table.push(new)?;
     }
     Ok(table)
@@ -100,7 +159,6 @@ fn moved_monomial(
     requires places { ArePlaces p.now.vars.now vars.now places.now }
     requires table { AreMoved p.now vars.now store.old table.now }
     requires index { id.0 < count p.now.monos.now }
-    requires reached { id.0 ≤ length table.now }
     ensures moved { IfOk result (IsMovedTo p.now vars.now store.new id) }
     ensures kept { Keeps store.old store.new }
 {

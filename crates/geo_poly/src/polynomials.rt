@@ -9,7 +9,7 @@ ghost use Rattle.geo_poly.specs.Monomials.{IsMonomial};
 ghost use Rattle.geo_poly.specs.PolynomialVariables.{AllVariables};
 ghost use Rattle.geo_poly.specs.Polynomials.{IsPolynomial, constant_of, norm_of, term_at};
 ghost use Rattle.geo_poly.specs.Polynomials.{total_degree};
-ghost use Rattle.geo_poly.specs.Shared.{AreParts, IsIndex, IsShared, powers_at, terms_of};
+ghost use Rattle.geo_poly.specs.Shared.{AreParts, IsIndex, IsShared, powers_at, terms_of, told};
 ghost use Rattle.geo_poly.specs.Specialise.{specialised};
 ghost use Rattle.geo_poly.specs.Variables.{var_cmp};
 ghost use Rattle.mono_store.specs.Stores.{IsStore};
@@ -17,8 +17,8 @@ ghost use Rattle.std.specs.List.Sorted.{IsStrictlySortedBy};
 
 use crate::interning::{indexed, stored_terms};
 use crate::lists::Vars;
-use crate::moving::find_place;
-use crate::polynomial_variables::{mark, variables_of_terms};
+use crate::moving::{find_place, moved};
+use crate::polynomial_variables::{mark, variables_at, variables_of_terms};
 use crate::reading::{count_powers, is_same, norm_at, power_at, terms_at, total_degree_at};
 use crate::shared::{Indexed, Shared};
 use crate::stored::Stored;
@@ -183,8 +183,7 @@ impl Poly {
             list: list.as_slice(),
         };
         if is_sparse(part.monos, list.len()) || is_stale(alloc, &part)? {
-            let terms = terms_at(alloc, &part)?;
-            return Poly::from_terms(alloc, &terms);
+            return Poly::carried(alloc, &part);
         }
         let stored = Stored { vars, monos, list };
         Ok(Poly { stored })
@@ -203,7 +202,19 @@ impl Poly {
             monos: p.monos,
             list: list.as_slice(),
         };
-        Poly::from_terms(alloc, &terms_at(alloc, &part)?)
+        Poly::carried(alloc, &part)
+    }
+
+    /// The polynomial of a list, over a new store with the links that it reaches.
+    fn carried(alloc: Global, p: &Shared) -> Result<Poly, NoMemory>
+        requires { AreParts p.now }
+        ensures { IfOk result (λ q. q ≡ told p.now) }
+    {
+        let vars = variables_at(alloc, p)?;
+        let mut monos = Monos::with_capacity(alloc, p.list.len() as u64)?;
+        let list = moved(alloc, &mut monos, vars.as_slice(), p)?;
+        let stored = Stored { vars, monos, list };
+        Ok(Poly { stored })
     }
 
     /// The polynomial of these terms.

@@ -4,8 +4,9 @@ ghost use Rattle.std.specs.Prelude.{min, ◌-◌, ◌≡◌, ◌^◌, ◌≤◌,
 ghost use Rattle.geo_poly.specs.Monomials.{IsMonomial};
 ghost use Rattle.geo_poly.specs.Replace.{AllBounded, AllPowersSmall, IsBounded};
 ghost use Rattle.geo_poly.specs.Replace.{degree_bound, denominators, most_denominators};
+ghost use Rattle.geo_poly.specs.Inner.Accumulated.{accumulated_term};
 ghost use Rattle.geo_poly.specs.Inner.TermFactors.{HasNoZero};
-ghost use Rattle.geo_poly.specs.Replace.{replaced_term, term_degree, term_weight, weight_of};
+ghost use Rattle.geo_poly.specs.Replace.{term_degree, term_weight, weight_of};
 ghost use Rattle.geo_poly.specs.Shared.{AreParts, IsIndexOf, told, told_powers};
 
 use crate::replacement::Piece;
@@ -151,7 +152,7 @@ pub(crate) fn has_zero(p: &Shared, id: MonoId, rows: &RowTable, den: &Piece, top
     requires top { denominators rows.now (told_powers p.now id) ≤ top }
     requires monomial { IsMonomial (told_powers p.now id) }
     ensures zero { IsTrue result → (k : ℤ)
-        → replaced_term rows.now den.now.poly top (told_powers p.now id, k) ≡ [] }
+        → accumulated_term rows.now den.now.poly top (told_powers p.now id, k) ≡ [] }
     ensures nonzero { IsFalse result
         → HasNoZero rows.now den.now top (told_powers p.now id) }
 {

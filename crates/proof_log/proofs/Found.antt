@@ -1,7 +1,9 @@
 -- What readers of numbers, names and powers have found, and what they refuse.
-use Rattle.std.proofs.Common.{◌≡◌, ℕ, suc, ◌<◌, ◌≤◌, ◌^◌, true, false, cond, eqb, List, [], ◌∷◌, ◌++◌, refl, sym, ap, ◌∙◌, subst, append_assoc, arith, lit≤}
+use Rattle.std.proofs.Common.{◌≡◌, ℕ, suc, ◌-◌, ◌<◌, ◌≤◌, ◌^◌, true, false, cond, eqb, List, [], ◌∷◌, ◌++◌}
+use Rattle.std.proofs.Common.{refl, sym, ap, ◌∙◌, subst, append_assoc, arith, lit≤}
 use Rattle.std.specs.Prelude.{ℤ, pos, negsuc, unsigned_abs, slice_get, Option, Some, None, Result, Ok}
 use Rattle.std.specs.Result.{result_ok}
+use Rattle.std.proofs.lemmas.Fmt.{decimal_digit}
 use Rattle.std.proofs.lemmas.Int.{to_z-of_z}
 use mir.Val.{to_z, of_z}
 use mir.Syntax.{w128}
@@ -48,6 +50,20 @@ module _ (bytes run rest : List ℕ) (split : bytes ≡ run ++ rest) (all : Pass
       let is = due_integer z r h in
       let same : n ≡ z = value ∙ ap decimal_value (sym is) ∙ (signed_decimal_writes z (wide _ h.fits)).value in
       other (ap signed_decimal same ∙ is)
+
+-- a digit that stands alone is a number
+pub digit_read : (bytes rest : List ℕ) (b : ℕ) → bytes ≡ b ∷ rest → 48 ≤ b → b ≤ 57 → StopsAt is_number_byte rest
+    → Begins (naturals 32) bytes (b - 48) rest
+digit_read bytes rest b is low high stops =
+    let digit : decimal (b - 48) ≡ b ∷ [] = decimal_digit (b - 48) (omega arith) ∙ ap (λ (x : ℕ). x ∷ []) (omega arith) in
+    let room : 10 ≤ 2 ^ 32 = lit≤ tt in
+    record { spelt = is ∙ ap (λ (l : List ℕ). l ++ rest) (sym digit); fits = omega arith; stops = stops }
+
+-- a digit with a dot behind it
+pub dotted_digit_read : (bytes more rest : List ℕ) (b dot : ℕ) → bytes ≡ b ∷ more → more ≡ dot ∷ rest → dot ≡ 46 → 48 ≤ b → b ≤ 57
+    → Begins (naturals 32) bytes (b - 48) (46 ∷ rest)
+dotted_digit_read bytes more rest b dot is behind point low high =
+    digit_read bytes (46 ∷ rest) b (is ∙ ap (λ (l : List ℕ). b ∷ l) (behind ∙ ap (λ (d : ℕ). d ∷ rest) point)) low high refl
 
 pub unfold_mag : (z : ℤ) → mag z ≤ unsigned_abs z
 unfold_mag (pos n) = omega arith
@@ -133,6 +149,13 @@ module _ (k : ℕ) (s0 : List ℕ) where
         fits = (let n = h.fits.0 in omega arith, (first.fits, h.fits.1));
         stops = h.stops;
       }
+
+-- three digits with dots between them
+pub lone_digits_read : (s0 s1 s2 rest : List ℕ) (a b c : ℕ) → Begins (naturals 32) s0 a (46 ∷ s1) → Begins (naturals 32) s1 b (46 ∷ s2)
+    → Begins (naturals 32) s2 c rest → Begins (number_lists 3) s0 (a ∷ b ∷ c ∷ []) rest
+lone_digits_read s0 s1 s2 rest a b c first second third =
+    dotted_read 1 s0 a (46 ∷ s1) first s1 refl (b ∷ c ∷ []) rest
+    (dotted_read 0 s1 b (46 ∷ s2) second s2 refl (c ∷ []) rest (one_read s2 rest c third))
 
 -- NAMES
 

@@ -1,4 +1,5 @@
--- What private functions speak of: how the pieces of a line are read. No public contract cites it.
+-- What private functions speak of: how the pieces of a line are read, and names made before. No public contract cites it.
 pub mod Reading
 pub mod Leads
 pub mod Growing
+pub mod Names

@@ -2,6 +2,7 @@
 //! is read back.
 #![tactic(auto)]
 
+mod digits;
 mod errors;
 pub mod laws;
 mod leads;

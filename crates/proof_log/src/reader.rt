@@ -13,6 +13,7 @@ ghost use Rattle.proof_log.specs.Inner.Reading.{exponents, integers, is_number_b
 ghost use Rattle.proof_log.specs.Inner.Reading.{names, naturals, number_lists, single_powers};
 ghost use Rattle.proof_log.specs.Inner.Reading.{variables};
 
+use crate::digits::{lone_digit, lone_digits};
 use geo_base::read_decimal;
 use geo_points::{ParamId, PointId};
 use geo_poly::{MAX_DEGREE, Var};
@@ -126,6 +127,18 @@ impl<'a> Reader<'a> {
         ensures some { IfSome result (λ n. Begins (naturals 32) self.old n self.new) }
         ensures none { IsNone result → NoneBegins (naturals 32) self.old }
     {
+        if let Some((number, rest)) = lone_digit(self.bytes) {
+            self.bytes = rest;
+            return Some(number);
+        }
+        self.longer()
+    }
+
+    // A number of 32 bits, of any length.
+    fn longer(&mut self) -> Option<u32>
+        ensures some { IfSome result (λ n. Begins (naturals 32) self.old n self.new) }
+        ensures none { IsNone result → NoneBegins (naturals 32) self.old }
+    {
         let number = self.natural()?;
         if number <= u32::MAX as u64 {
             Some(number as u32)
@@ -156,6 +169,19 @@ impl<'a> Reader<'a> {
 
     // Three numbers with dots between them.
     fn three(&mut self) -> Option<(u32, u32, u32)>
+        ensures some { IfSome result (λ p.
+            Begins (number_lists 3) self.old (p.0 ∷ p.1 ∷ p.2 ∷ []) self.new) }
+        ensures none { IsNone result → NoneBegins (number_lists 3) self.old }
+    {
+        if let Some((a, b, c, rest)) = lone_digits(self.bytes) {
+            self.bytes = rest;
+            return Some((a, b, c));
+        }
+        self.longer_three()
+    }
+
+    // Three numbers of any length with dots between them.
+    fn longer_three(&mut self) -> Option<(u32, u32, u32)>
         ensures some { IfSome result (λ p.
             Begins (number_lists 3) self.old (p.0 ∷ p.1 ∷ p.2 ∷ []) self.new) }
         ensures none { IsNone result → NoneBegins (number_lists 3) self.old }
@@ -268,8 +294,8 @@ impl<'a> Reader<'a> {
     }
 }
 
-// Whether a byte is a digit or `-`.
-fn is_number_byte(byte: u8) -> bool
+/// Whether a byte is a digit or `-`.
+pub(crate) fn is_number_byte(byte: u8) -> bool
     ensures { result ≡ is_number_byte byte }
 {
     byte == b'-' || byte.is_ascii_digit()

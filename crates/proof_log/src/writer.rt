@@ -1,9 +1,11 @@
 //! Writing a line.
 
-ghost use Rattle.std.specs.Prelude.{codes, ◌≡◌, ◌<◌, [], ◌∷◌, ◌++◌, length, unsigned_abs, IfOk};
-ghost use Rattle.std.specs.Prelude.{OnOk};
+ghost use Rattle.std.specs.Prelude.{codes, cond, ◌≡◌, ◌==◌, ◌<◌, [], ◌∷◌, ◌++◌};
+ghost use Rattle.std.specs.Prelude.{IfOk, IfSome, OnOk, length, slice_get, unsigned_abs};
 ghost use Rattle.std.specs.Fmt.{decimal, signed_decimal};
 ghost use Rattle.geo_poly.specs.Polynomials.{term_at};
+ghost use Rattle.geo_poly.specs.Shared.{AreParts, told};
+ghost use Rattle.proof_log.specs.Inner.Names.{AreNames};
 ghost use Rattle.proof_log.specs.Writable.{IsWritable};
 ghost use Rattle.proof_log.specs.Lines.{factor_text, line_text, numbers_text, place_text};
 ghost use Rattle.proof_log.specs.Lines.{polynomial_text, power_text, sign_text, term_text};
@@ -13,7 +15,7 @@ use crate::log::{Line, Verdict};
 use geo_base::Text;
 use geo_points::{NoMemory, PointId};
 use geo_poly::lists::Values;
-use geo_poly::{Factor, Poly, Var, Which};
+use geo_poly::{Factor, FirstPower, Poly, Shared, Var, Which};
 use std::alloc::Global;
 
 /// The text of a line, with its line feed.
@@ -248,27 +250,58 @@ fn push_polynomial(alloc: Global, out: &mut Vec<u8>, poly: &Poly) -> Result<(), 
         out.push(b'0')?;
         return Ok(());
     }
-    push_term(alloc, out, poly, 0)?;
+    let p = &poly.shared();
+    let names = names_of(alloc, p)?;
+    push_term(alloc, out, p, &names, 0)?;
     for i in 1..poly.terms() {
         out.push(b' ')?;
-        push_term(alloc, out, poly, i)?;
+        push_term(alloc, out, p, &names, i)?;
     }
     Ok(())
 }
 
 /// Appends the term at place i: its coefficient, which always has a sign, and its powers.
-fn push_term(alloc: Global, out: &mut Vec<u8>, poly: &Poly, i: u64) -> Result<(), NoMemory>
-    requires { i < length poly.now }
-    ensures { OnOk result (out.new.items ≡ out.old.items ++ term_text (term_at poly.now i)) }
+fn push_term(
+    alloc: Global,
+    out: &mut Vec<u8>,
+    p: &Shared,
+    names: &[Text],
+    i: u64,
+) -> Result<(), NoMemory>
+    requires parts { AreParts p.now }
+    requires names { AreNames p.now.vars.now names.now }
+    requires place { i < length (told p.now) }
+    ensures { OnOk result (out.new.items ≡ out.old.items ++ term_text (term_at (told p.now) i)) }
 {
-    push_coefficient(alloc, out, poly.coefficient(i))?;
-    let p = poly.shared();
-    let (mut rest, _) = p.term(i);
+    let (mut rest, coefficient) = p.term(i);
+    push_coefficient(alloc, out, coefficient)?;
     while let Some(first) = p.first_power(rest) {
-        push_power(alloc, out, first.var, first.exponent)?;
+        push_named_power(alloc, out, names, &first)?;
         rest = first.rest;
     }
     Ok(())
+}
+
+/// Appends `*`, a variable, by its name where there are names, and its exponent where that is not 1.
+fn push_named_power(
+    alloc: Global,
+    out: &mut Vec<u8>,
+    names: &[Text],
+    first: &FirstPower,
+) -> Result<(), NoMemory>
+    requires { IfSome (slice_get names.now first.now.number)
+        (λ name. name ≡ variable_name first.now.var) }
+    ensures { OnOk result (out.new.items
+        ≡ out.old.items ++ power_text (first.now.var, first.now.exponent)) }
+{
+    match names.get(first.number as usize) {
+        Some(name) => {
+            out.push(b'*')?;
+            out.extend_from_slice(&name.bytes)?;
+            push_exponent(alloc, out, first.exponent)
+        }
+        None => push_power(alloc, out, first.var, first.exponent),
+    }
 }
 
 /// Appends a sign, also `+`, and the absolute value.
@@ -303,13 +336,45 @@ fn push_power(
 ) -> Result<(), NoMemory>
     ensures { OnOk result (out.new.items ≡ out.old.items ++ power_text (variable, exponent)) }
 {
-    out.extend_from_slice(b"*")?;
+    out.push(b'*')?;
     push_variable(alloc, out, variable)?;
+    push_exponent(alloc, out, exponent)
+}
+
+/// Appends an exponent where it is not 1.
+fn push_exponent(alloc: Global, out: &mut Vec<u8>, exponent: u32) -> Result<(), NoMemory>
+    ensures { OnOk result (out.new.items
+        ≡ out.old.items ++ cond (exponent == 1) [] (codes "^" ++ decimal exponent)) }
+{
     if exponent != 1 {
-        out.extend_from_slice(b"^")?;
+        out.push(b'^')?;
         push_number(alloc, out, exponent)?;
     }
     Ok(())
+}
+
+/// The names of the variables, each made once for all its powers; none where there are fewer terms
+/// than variables.
+fn names_of(alloc: Global, p: &Shared) -> Result<Vec<Text>, NoMemory>
+    ensures { IfOk result (λ names. AreNames p.now.vars.now names.items) }
+{
+    let mut names = Vec::new(alloc);
+    if p.list.len() < p.vars.len() {
+        return Ok(names);
+    }
+    for v in p.vars {
+        names.push(name_of(alloc, *v)?)?;
+    }
+    Ok(names)
+}
+
+/// The name of a variable.
+fn name_of(alloc: Global, variable: Var) -> Result<Text, NoMemory>
+    ensures { IfOk result (λ name. name ≡ variable_name variable) }
+{
+    let mut bytes = Vec::new(alloc);
+    push_variable(alloc, &mut bytes, variable)?;
+    Ok(Text { bytes })
 }
 
 /// Appends the name of a variable.

@@ -9,7 +9,8 @@ use Rattle.geo_poly.specs.declared.shared.Shared.{Shared}
 use Rattle.geo_poly.specs.Monomials.{IsMonomial, Powers, degree_of}
 use Rattle.geo_poly.specs.Polynomials.{Summands, polynomial_of, product_of}
 use Rattle.geo_poly.specs.Counted.{products_of_terms, term_products}
-use Rattle.geo_poly.specs.Replace.{degree_rows, denominators, others, replaced_terms, times_power, times_rows, weight_of, weight_rows}
+use Rattle.geo_poly.specs.Inner.Accumulated.{accumulated_terms, times_power, times_rows}
+use Rattle.geo_poly.specs.Replace.{degree_rows, denominators, others, weight_of, weight_rows}
 use Rattle.geo_poly.specs.Shared.{IsIndexOf, told_powers}
 
 -- the numerator of the row at a place; past the end, the denominator
@@ -94,7 +95,8 @@ pub record AreFactors (setting : Setting) (m : Powers) (ks : List ℕ) : Type 0 
 
 -- the terms, in any order and with their factors, become what the polynomial q becomes, with no more weight and no more products
 pub record ArePending (setting : Setting) (p : Shared) (q : Summands) (es : List Pending) : Type 0 where
-  pub terms : polynomial_of (factored_terms (map (told_pending setting p 0) es)) ≡ polynomial_of (replaced_terms setting.rows.now setting.den.piece.now.poly setting.top q)
+  pub terms : polynomial_of (factored_terms (map (told_pending setting p 0) es))
+      ≡ polynomial_of (accumulated_terms setting.rows.now setting.den.piece.now.poly setting.top q)
   pub weight : factored_weight (map (told_pending setting p 0) es) ≤ weight_of setting.rows.now setting.den.piece.now setting.top q
   pub products : factored_products (map (told_pending setting p 0) es) ≤ products_of_terms setting.rows.now setting.den.piece.now setting.top q
   pub pending : All (IsPending setting p 0) es

@@ -1,6 +1,5 @@
 -- Monomials of one store put into another: where each of them stands then.
 use Rattle.std.specs.Prelude.{◌≡◌, ℕ, ◌<◌, List, Option, None, Some, Contains, length, slice_index_or}
-use Rattle.sparse_lists.specs.SparseLists.{AllKeys}
 use Rattle.mono_store.specs.declared.links.MonoId.{MonoId}
 use Rattle.mono_store.specs.Stores.{Links}
 use Rattle.geo_poly.specs.declared.shared.Shared.{Shared}
@@ -23,12 +22,12 @@ pub record IsSame (p : Shared) (vars : List Var) (links : Links) (id new : MonoI
   pub new_index : IsIndex vars links new
   pub powers : powers_at vars links new ≡ told_powers p id
 
--- the index of the monomial in the other store; none only where one of its variables does not stand in the list
+-- the index of the monomial in the other store; where it is none, nothing is said
 abbrev pub IsMovedTo : Shared → List Var → Links → MonoId → Option MonoId → Type 0
 IsMovedTo p vars links id (Some new) = IsSame p vars links id new
-IsMovedTo p vars links id None = IsIndexOf p id → AllKeys (Contains vars) (told_powers p id) → ⊥
+IsMovedTo p vars links id None = Unit {0}
 
--- the index of each of the first monomials
+-- the index of each of the first monomials, where the table has one
 abbrev pub AreMoved : Shared → List Var → Links → List (Option MonoId) → Type 0
 AreMoved p vars links table =
     (k : ℕ) → k < length table → IsMovedTo p vars links (record { 0 = k }) (slice_index_or table k None)

@@ -15,5 +15,6 @@ loop-i-preserved c =
     let lt : i < length q = omega (arith, c.loop-i-test.true, c.terms-i-end.ensures) in
     let shown : most_denominators rows (drop i q) ≡ max (denominators rows (term_at q i).0) (most_denominators rows (drop (i + 1) q)) =
     ap (most_denominators rows) (term_shown q i lt) in
-    let most : c.max-most.result ≡ max c.loop-i.most c.share_of.result.denominators = c.max-most.ensures ∙ greater c.loop-i.most c.share_of.result.denominators in
-    omega (arith, c.loop-i.invariant, shown, c.share_of.ensures.denominators, most)
+    let most : c.max-most.result ≡ max c.loop-i.most c.denominators_of.result = c.max-most.ensures
+    ∙ greater c.loop-i.most c.denominators_of.result in
+    omega (arith, c.loop-i.invariant, shown, c.denominators_of.ensures, most)

@@ -36,7 +36,8 @@ replacing-share-requires-clause-exponents c =
     let t = term_at c.args.poly.now c.args.i in
     let left = told_powers c.shared-p.result c.in-Some.first.rest in
     let here = subst (λ (left : Powers). IsShareSoFar rows t.0 (unsigned_abs t.1) left c.loop-first.share) c.in-Some.ensures.power c.loop-first.invariant.share in
-    (share_fits rows t.0 (unsigned_abs t.1) (c.in-Some.first.var, c.in-Some.first.exponent) left c.loop-first.share (sketched c.in-Some-find_row.row) (sym c.in-Some-find_row.ensures) here).exponents
+    (share_fits rows t.0 (unsigned_abs t.1) (c.in-Some.first.var, c.in-Some.first.exponent) left c.loop-first.share
+    (sketched c.in-Some-find_row.row.now) (sym c.in-Some-find_row.ensures) here).exponents
 
 pub replacing-share-requires-clause-denominators : goal.replacing-share-requires-clause-denominators
 replacing-share-requires-clause-denominators c =
@@ -45,7 +46,7 @@ replacing-share-requires-clause-denominators c =
     let left = told_powers c.shared-p.result c.in-Some.first.rest in
     let here = subst (λ (left : Powers). IsShareSoFar rows t.0 (unsigned_abs t.1) left c.loop-first.share) c.in-Some.ensures.power c.loop-first.invariant.share in
     (share_fits rows t.0 (unsigned_abs t.1) (c.in-Some.first.var, c.in-Some.first.exponent) left c.loop-first.share
-    (sketched c.in-Some-find_row.row) (sym c.in-Some-find_row.ensures) here).denominators-are
+    (sketched c.in-Some-find_row.row.now) (sym c.in-Some-find_row.ensures) here).denominators-are
 
 pub loop-first-preserved : goal.loop-first-preserved
 loop-first-preserved c =
@@ -58,7 +59,8 @@ loop-first-preserved c =
       | in-Some-find_row w ↦ record {
         index = c.in-Some.ensures.index;
         share = rw w.share-is
-            (share_replacing rows t.0 (unsigned_abs t.1) first left c.loop-first.share w.replacing-share.result (sketched w.in-Some-find_row.row) (sym w.in-Some-find_row.ensures)
+            (share_replacing rows t.0 (unsigned_abs t.1) first left c.loop-first.share w.replacing-share.result
+            (sketched w.in-Some-find_row.row.now) (sym w.in-Some-find_row.ensures)
             (record {
               exponents = w.replacing-share.ensures.exponents;
               denominators-are = w.replacing-share.ensures.denominators;

@@ -1,6 +1,14 @@
 use Rattle.geo_poly.specs.Polynomials.{term_at}
-use Rattle.geo_chain.specs.Inner.Searches.{Improves, IsMetIn, IsNoHigher, MakesPoint}
+use Rattle.geo_poly.specs.Shared.{IsIndexOf, told_powers}
+use Rattle.geo_chain.specs.Inner.Searches.{IsNoHigher, MakesPoint}
+use Rattle.geo_chain.proofs.Walks.{Walked}
 use Rattle.geo_chain.proofs.highest.highest_in_term.Given as goal
 
-abbrev pub invariant-loop-j : goal.invariant-loop-j
-invariant-loop-j l = Improves IsNoHigher (IsMetIn (MakesPoint l.steps) (term_at l.p l.i).0 l.j) l.fn.before l.highest
+abbrev pub invariant-loop-power : goal.invariant-loop-power
+invariant-loop-power l = record {
+  index : IsIndexOf l.p l.rest;
+  walked : Walked IsNoHigher (MakesPoint l.steps) (term_at l.poly l.i).0 (told_powers l.p l.rest) l.fn.before l.highest;
+}
+
+abbrev pub decreases-loop-power : goal.decreases-loop-power
+decreases-loop-power l = l.rest.0

@@ -1,38 +1,53 @@
 use Rattle.std.proofs.Common.{ℤ, [], ◌∷◌, ◌++◌, take, sym, ap, ap₂, ◌∙◌}
 use Rattle.std.specs.Int.{w128}
+use Rattle.std.specs.Prelude.{Contains}
 use Rattle.std.proofs.lemmas.Int.{to_z-of_z}
 use Rattle.std.proofs.lemmas.List.{map-append}
-use Rattle.sparse_lists.proofs.Sums.{AllKeys-append}
+use Rattle.sparse_lists.specs.SparseLists.{AllKeys}
+use Rattle.sparse_lists.proofs.Sums.{AllKeys-append, AllKeys-at}
+use Rattle.mono_store.proofs.Interning.{Keeps_trans}
 use Rattle.geo_poly.specs.Monomials.{Powers}
 use Rattle.geo_poly.specs.Polynomials.{Summands}
-use Rattle.geo_poly.specs.Shared.{IsIndex, powers_at, term_of, terms_of, told}
+use Rattle.geo_poly.specs.Shared.{IsIndex, powers_at, term_of, terms_of, told, told_term}
 use Rattle.geo_poly.proofs.Entries.{item_fits}
-use Rattle.geo_poly.proofs.Moved.{entry_same, entry_there}
-use Rattle.geo_poly.proofs.Told.{item, told-take}
+use Rattle.geo_poly.proofs.Moved.{AreMoved-kept}
+use Rattle.geo_poly.proofs.Told.{index_at, indices-kept, item, monomial_at, terms_of-kept, told-is, told-take, told-within}
 use Rattle.geo_poly.proofs.moving.looked_up.Goals as goal
 
-pub unreachable-requires : goal.unreachable-requires
-unreachable-requires c =
-    entry_there c.args.p.now c.args.vars.now c.args.store.now c.args.table.now c.loop-id.id-index c.loop-id-test.true c.requires.parts c.requires.table c.requires.whole
-    c.requires.known (sym c.new_index.ensures ∙ c.in-None.is)
+pub index_in-requires-clause-index : goal.index_in-requires-clause-index
+index_in-requires-clause-index c = index_at c.args.p.now c.loop-id.id-index c.loop-id-test.true c.requires.parts
+
+pub index_in-requires-clause-monomial : goal.index_in-requires-clause-monomial
+index_in-requires-clause-monomial c = monomial_at c.args.p.now c.loop-id.id-index c.loop-id-test.true c.requires.parts
+
+pub index_in-requires-clause-known : goal.index_in-requires-clause-known
+index_in-requires-clause-known c =
+    let p = c.args.p.now in
+    let i = c.loop-id.id-index in
+    AllKeys-at (λ (m : Powers). AllKeys (Contains c.args.vars.now) m) (told p) i (told_term p (item p.list.now i))
+    (told-within p i c.loop-id-test.true) (told-is p i c.loop-id-test.true) c.requires.known
 
 pub loop-id-preserved : goal.loop-id-preserved
 loop-id-preserved c =
     let p = c.args.p.now in
     let vars = c.args.vars.now in
-    let links = c.args.store.now in
+    let old = c.loop-id.store in
+    let new = c.index_in.new.store in
     let i = c.loop-id.id-index in
     let list = c.loop-id.list.items in
-    let new = c.in-Some.new in
+    let kept = c.in_ok-new.ensures.kept in
     let fits = item_fits p i c.loop-id-test.true c.requires.parts.polynomial.norm_fits in
-    let same =
-    entry_same c.args.p.now c.args.vars.now c.args.store.now c.args.table.now i c.loop-id-test.true c.requires.parts c.requires.table c.requires.whole
-    c.in-Some.new (sym c.new_index.ensures ∙ c.in-Some.is) in
     record {
-      indices = rw c.in_ok-push-in-Some.ensures.items (AllKeys-append (IsIndex vars links) list _ c.loop-id.invariant.indices (same.new_index, tt));
-      terms = ap (terms_of vars links) c.in_ok-push-in-Some.ensures.items
-          ∙ map-append (term_of vars links) list _
-          ∙ ap₂ (λ (ts : Summands) (z : ℤ). ts ++ (powers_at vars links new, z) ∷ []) c.loop-id.invariant.terms (to_z-of_z w128 (item p.list.now i).1 fits)
-          ∙ ap (λ (m : Powers). take i (told p) ++ (m, (item p.list.now i).1) ∷ []) same.powers
+      kept = Keeps_trans c.loop-id.invariant.kept kept;
+      table = AreMoved-kept p vars old new kept c.args.table.now c.loop-id.invariant.table;
+      indices = rw c.in_ok-push.ensures.items
+          (AllKeys-append (IsIndex vars new) list _ (indices-kept vars old new list kept c.loop-id.invariant.indices)
+          (c.in_ok-new.ensures.index, tt));
+      terms = ap (terms_of vars new) c.in_ok-push.ensures.items
+          ∙ map-append (term_of vars new) list _
+          ∙ ap₂ (λ (ts : Summands) (z : ℤ). ts ++ (powers_at vars new c.in_ok-new.new, z) ∷ [])
+          (terms_of-kept vars old new list kept c.loop-id.invariant.indices ∙ c.loop-id.invariant.terms)
+          (to_z-of_z w128 (item p.list.now i).1 fits)
+          ∙ ap (λ (m : Powers). take i (told p) ++ (m, (item p.list.now i).1) ∷ []) c.in_ok-new.ensures.powers
           ∙ sym (told-take p i c.loop-id-test.true);
     }

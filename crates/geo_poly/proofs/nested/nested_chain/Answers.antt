@@ -1,10 +1,11 @@
-use Rattle.std.proofs.Common.{List, sym, subst, arith}
+use Rattle.std.proofs.Common.{List, ap, sym, subst, ◌∙◌, arith}
 use Rattle.std.proofs.lemmas.Result.{IfOk-weaker}
 use Rattle.geo_poly.specs.Chained.{StandsFor}
 use Rattle.geo_poly.specs.declared.pending.Pending.{Pending}
 use Rattle.geo_poly.specs.Inner.Factored.{ArePending}
-use Rattle.geo_poly.specs.Polynomials.{Summands}
+use Rattle.geo_poly.specs.Polynomials.{Summands, polynomial_of}
 use Rattle.geo_poly.specs.Shared.{told}
+use Rattle.geo_poly.proofs.Accumulated.{accumulated_is_replaced}
 use Rattle.geo_poly.proofs.nested.nested_chain.Goals as goal
 
 pub nested_sum-requires-clause-pending : goal.nested_sum-requires-clause-pending
@@ -26,8 +27,12 @@ returns-clause-chain g c =
     let setting = c.args.setting.now in
     let p = c.args.p.now in
     let found = subst (λ (es : List Pending). ArePending setting p (told p) es) (sym c.deref.ensures.value) c.in_ok-pending.ensures.pending in
+    let can = c.requires.can in
+    let den = setting.den.piece.now.poly in
+    let same = accumulated_is_replaced setting.rows.now den setting.top (told p) can.in_order can.monomials in
+    let terms = found.terms ∙ ap polynomial_of same in
     IfOk-weaker c.nested_sum.result _ _
-    (λ v h. subst (λ (q : Summands). StandsFor setting.vars.now c.nested_sum.new.store c.nested_sum.new.arena v q) found.terms h)
+    (λ v h. subst (λ (q : Summands). StandsFor setting.vars.now c.nested_sum.new.store c.nested_sum.new.arena v q) terms h)
     c.nested_sum.ensures.chain
 
 pub returns-clause-ticks : goal.returns-clause-ticks
