@@ -1,18 +1,22 @@
 //! Polynomials, factors and values with the names of a program.
 
-ghost use Rattle.std.specs.Prelude.{◌≡◌, ◌<◌, ◌++◌, length, unsigned_abs, OnOk};
+ghost use Rattle.std.specs.Prelude.{◌≡◌, ◌<◌, ◌++◌, length, unsigned_abs, IfOk, IfSome, OnOk};
+ghost use Rattle.std.specs.Prelude.{slice_get};
 ghost use Rattle.std.specs.Fmt.{decimal};
 ghost use Rattle.std.specs.List.{flat_map};
 ghost use Rattle.geo_poly.specs.Polynomials.{term_at};
+ghost use Rattle.geo_poly.specs.Shared.{AreParts, told};
 ghost use Rattle.proof_log.specs.Lines.{sign_text};
-ghost use Rattle.proof_printer.specs.Inner.Names.{naming_in};
+ghost use Rattle.proof_printer.specs.Inner.Names.{AreNames, naming_in};
+ghost use Rattle.proof_printer.specs.Naming.{variable_text};
 ghost use Rattle.proof_printer.specs.Polynomials.{exponent_text, factor_text, polynomial_text};
 ghost use Rattle.proof_printer.specs.Polynomials.{power_text, term_text, value_text};
 
 use crate::namer::Namer;
 use crate::numbers::{push_integer, push_number};
+use geo_base::Text;
 use geo_points::NoMemory;
-use geo_poly::{Factor, Poly, Var};
+use geo_poly::{Factor, FirstPower, Poly, Shared, Var};
 use std::alloc::Global;
 
 impl Namer {
@@ -30,10 +34,12 @@ impl Namer {
             out.push(b'0')?;
             return Ok(());
         }
-        self.push_term(alloc, out, poly, 0)?;
+        let p = &poly.shared();
+        let names = self.names_of(alloc, p)?;
+        self.push_term(alloc, out, p, &names, 0)?;
         for i in 1..poly.terms() {
             out.push(b' ')?;
-            self.push_term(alloc, out, poly, i)?;
+            self.push_term(alloc, out, p, &names, i)?;
         }
         Ok(())
     }
@@ -43,19 +49,71 @@ impl Namer {
         &self,
         alloc: Global,
         out: &mut Vec<u8>,
-        poly: &Poly,
+        p: &Shared,
+        names: &[Text],
         i: u64,
     ) -> Result<(), NoMemory>
-        requires { i < length poly.now }
+        requires parts { AreParts p.now }
+        requires names { AreNames (naming_in self.now) p.now.vars.now names.now }
+        requires place { i < length (told p.now) }
         ensures { OnOk result (out.new.items
-            ≡ out.old.items ++ term_text (naming_in self.now) (term_at poly.now i)) }
+            ≡ out.old.items ++ term_text (naming_in self.now) (term_at (told p.now) i)) }
     {
-        push_coefficient(alloc, out, poly.coefficient(i))?;
-        for j in 0..poly.powers(i) {
-            let (variable, exponent) = poly.power(i, j);
-            self.push_power(alloc, out, variable, exponent)?;
+        let (mut rest, coefficient) = p.term(i);
+        push_coefficient(alloc, out, coefficient)?;
+        while let Some(first) = p.first_power(rest) {
+            self.push_named_power(alloc, out, names, &first)?;
+            rest = first.rest;
         }
         Ok(())
+    }
+
+    /// Appends `*`, a variable, by its name where there are names, and its exponent where that is
+    /// not 1.
+    fn push_named_power(
+        &self,
+        alloc: Global,
+        out: &mut Vec<u8>,
+        names: &[Text],
+        first: &FirstPower,
+    ) -> Result<(), NoMemory>
+        requires { IfSome (slice_get names.now first.now.number)
+            (λ name. name ≡ variable_text (naming_in self.now) first.now.var) }
+        ensures { OnOk result (out.new.items
+            ≡ out.old.items ++ power_text (naming_in self.now) (first.now.var, first.now.exponent)) }
+    {
+        match names.get(first.number as usize) {
+            Some(name) => {
+                out.push(b'*')?;
+                out.extend_from_slice(&name.bytes)?;
+                push_exponent(alloc, out, first.exponent)
+            }
+            None => self.push_power(alloc, out, first.var, first.exponent),
+        }
+    }
+
+    /// The names of the variables, each made once for all its powers; none where there are fewer
+    /// terms than variables.
+    fn names_of(&self, alloc: Global, p: &Shared) -> Result<Vec<Text>, NoMemory>
+        ensures { IfOk result (λ names. AreNames (naming_in self.now) p.now.vars.now names.items) }
+    {
+        let mut names = Vec::new(alloc);
+        if p.list.len() < p.vars.len() {
+            return Ok(names);
+        }
+        for v in p.vars {
+            names.push(self.name_of(alloc, *v)?)?;
+        }
+        Ok(names)
+    }
+
+    /// The name of a variable.
+    fn name_of(&self, alloc: Global, variable: Var) -> Result<Text, NoMemory>
+        ensures { IfOk result (λ name. name ≡ variable_text (naming_in self.now) variable) }
+    {
+        let mut bytes = Vec::new(alloc);
+        self.push_variable(alloc, &mut bytes, variable)?;
+        Ok(Text { bytes })
     }
 
     /// Appends the number and the powers of a factor.
@@ -87,7 +145,7 @@ impl Namer {
         ensures { OnOk result (out.new.items
             ≡ out.old.items ++ power_text (naming_in self.now) (variable, exponent)) }
     {
-        out.extend_from_slice(b"*")?;
+        out.push(b'*')?;
         self.push_variable(alloc, out, variable)?;
         push_exponent(alloc, out, exponent)
     }
@@ -131,7 +189,7 @@ pub(crate) fn push_exponent(alloc: Global, out: &mut Vec<u8>, exponent: u32) -> 
     ensures { OnOk result (out.new.items ≡ out.old.items ++ exponent_text exponent) }
 {
     if exponent != 1 {
-        out.extend_from_slice(b"^")?;
+        out.push(b'^')?;
         push_number(alloc, out, exponent)?;
     }
     Ok(())

@@ -1,9 +1,10 @@
 -- The names that the printer holds.
-use Rattle.std.specs.Prelude.{ℕ, ◌++◌, List, slice_get, unwrap_or}
+use Rattle.std.specs.Prelude.{◌≡◌, ◌⊎◌, ℕ, ◌++◌, List, [], map, slice_get, unwrap_or}
 use Rattle.std.specs.Fmt.{decimal}
+use Rattle.geo_poly.specs.declared.variables.Var.{Var}
 use Rattle.proof_printer.specs.declared.name_list.NameList.{NameList}
 use Rattle.proof_printer.specs.declared.namer.Namer.{Namer}
-use Rattle.proof_printer.specs.Naming.{Naming}
+use Rattle.proof_printer.specs.Naming.{Naming, variable_text}
 
 -- the name of a number
 abbrev pub name_in : NameList → ℕ → List ℕ
@@ -12,3 +13,7 @@ name_in l n = unwrap_or (slice_get l.names.items n) (l.mark ++ decimal n)
 -- the names of points and of parameters
 abbrev pub naming_in : Namer → Naming
 naming_in namer = record { point = name_in namer.points; param = name_in namer.params }
+
+-- the names of all the variables of a polynomial, in their order, or none
+abbrev pub AreNames : Naming → List Var → List (List ℕ) → Type 0
+AreNames n vars names = (names ≡ []) ⊎ (names ≡ map (variable_text n) vars)

@@ -8,5 +8,6 @@ pub loop-i-preserved : goal.loop-i-preserved
 loop-i-preserved c =
     let within : c.loop-i.i < length c.args.poly.now = omega arith in
     let next = joined_next 32 (term_text (naming_in c.args.self.now)) c.args.poly.now c.loop-i.i ([], pos 0) (omega arith) within in
-    let grew = after_byte _ _ _ _ 32 c.in_ok-push-2.ensures.items c.in_ok-push_term-2.ensures in
+    let term = rw c.shared.ensures.terms at c.in_ok-push_term-2.ensures in
+    let grew = after_byte _ _ _ _ 32 c.in_ok-push-2.ensures.items term in
     grown _ _ _ _ _ _ c.loop-i.invariant grew next

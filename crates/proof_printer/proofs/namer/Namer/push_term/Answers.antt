@@ -1,14 +1,8 @@
-use Rattle.std.proofs.Common.{◌++◌, unsigned_abs}
-use Rattle.std.specs.Fmt.{decimal}
-use Rattle.geo_poly.specs.Polynomials.{term_at}
-use Rattle.proof_log.specs.Lines.{sign_text}
 use Rattle.proof_printer.specs.Inner.Names.{naming_in}
-use Rattle.proof_printer.specs.Polynomials.{power_text}
-use Rattle.proof_log.proofs.Joined.{appended_next, grown}
+use Rattle.proof_printer.proofs.MadeNames.{name_there}
 use Rattle.proof_printer.proofs.namer.Namer.push_term.Goals as goal
 
-pub loop-j-preserved : goal.loop-j-preserved
-loop-j-preserved c =
-    let t = term_at c.args.poly.now c.args.i in
-    let next = appended_next (sign_text t.1 ++ decimal (unsigned_abs t.1)) (power_text (naming_in c.args.self.now)) t.0 c.loop-j.j c.power-variable.result c.power-variable.ensures in
-    grown _ _ _ _ _ _ c.loop-j.invariant c.in_ok-push_power.ensures next
+pub push_named_power-requires : goal.push_named_power-requires
+push_named_power-requires c =
+    let first = c.in-Some.first in
+    name_there (naming_in c.args.self.now) c.args.p.now.vars.now c.args.names.now first.number first.var c.requires.names c.in-Some.ensures.number
