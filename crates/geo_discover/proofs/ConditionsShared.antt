@@ -1,0 +1,91 @@
+-- What the chains of the conditions came to serves all candidates.
+use Rattle.std.proofs.Common.{◌≡◌, ℕ, suc, ◌+◌, ◌-◌, ◌≤◌, Ok, Err, Some, None, List, [], ◌∷◌, ◌++◌, length, refl, sym, ◌∙◌, ap, subst, arith}
+use Rattle.std.proofs.lemmas.List.{length-append}
+use Rattle.geo_conditions.specs.declared.problem.Problem.{Problem}
+use Rattle.geo_logs.specs.Ends.{stop_line, text_length}
+use Rattle.geo_logs.specs.Logs.{Item}
+use Rattle.geo_logs.specs.Moves.{Stop, spent, too_large}
+use Rattle.geo_poly.specs.declared.variables.Var.{Var}
+use Rattle.geo_poly.specs.Polynomials.{Summands}
+use Rattle.geo_terms.specs.Constructions.{Construction}
+use Rattle.proof_log.specs.Lines.{log_text}
+use Rattle.log_maker.specs.declared.errors.ProveError.{ProveError}
+use Rattle.log_maker.specs.declared.errors.ProveError.TheVariants as stopped
+use Rattle.log_maker.specs.declared.frame.Frame.TheVariants.{Full}
+use Rattle.log_maker.specs.declared.size.Size.{Size}
+use Rattle.log_maker.specs.declared.size.Size.TheVariants.{Written}
+use Rattle.log_maker.specs.Halting.{Halts, IsStopped, Passes}
+use Rattle.log_maker.specs.Parts.{Part, conditions_part, goals_part, items_of}
+use Rattle.log_maker.specs.Sizes.{HoldsText}
+use Rattle.log_maker.specs.Tasks.{conditions_before}
+use Rattle.log_maker.specs.Written.{State}
+use Rattle.log_maker.proofs.Passing.{text_length-append}
+use Rattle.geo_discover.specs.declared.figure.Worked.{Worked}
+use Rattle.geo_discover.specs.Inner.Sharing.{AreMet, AreWorked, IsStoppedBy, IsStoppedThere, from_conditions, stopped_by}
+use Rattle.geo_discover.proofs.Judging.{held_is}
+
+module _ (problem : Problem) (steps : ℕ) (known : List Var) (ends : List Summands) (no_known : known ≡ []) (no_ends : ends ≡ []) where
+  abbrev c : Construction
+  c = problem.steps
+
+  abbrev conditions : List Item
+  conditions = items_of problem.steps.nodes problem.conditions
+
+  -- nothing is known before them
+  pub from_nothing : (R : Part → Type 0) (goals : List Item)
+      → R (conditions_before Full c problem.steps.nodes problem.conditions goals 0 known ends steps)
+      → R (from_conditions c conditions steps goals)
+  from_nothing R goals h =
+      subst (λ ks. R (conditions_before Full c problem.steps.nodes problem.conditions goals 0 ks [] steps)) no_known
+      (subst (λ ls. R (conditions_before Full c problem.steps.nodes problem.conditions goals 0 known ls steps)) no_ends h)
+
+  -- what was written into an empty sink
+  module _ (s t : State) (text : List ℕ) (bytes : ℕ) (size : s.size ≡ Written bytes) (none : s.held ≡ Some []) (some : t.held ≡ Some text) where
+    text_of : (written : List ℕ) → HoldsText s.size s.held written t.held → text ≡ written
+    text_of written h =
+        held_is text written (subst (λ x. HoldsText (Written bytes) (Some []) written x) some
+        (subst (λ x. HoldsText (Written bytes) x written t.held) none (subst (λ (z : Size). HoldsText z s.held written t.held) size h)))
+
+    -- all are met
+    pub met_shared : (known' : List Var) (ends' : List Summands) (left : ℕ) (goals : List Item)
+        → Passes (conditions_before Full c problem.steps.nodes problem.conditions goals 0 known ends steps)
+        (goals_part Full c known' ends' 1 left goals) s t
+        → AreMet c conditions steps known' ends' text (t.lines - s.lines) left goals
+    met_shared known' ends' left goals h =
+        let own = from_nothing (λ part. Passes part (goals_part Full c known' ends' 1 left goals) s t) goals h in
+        record {
+          lines = own.lines;
+          continues = own.continues;
+          text_is = text_of (log_text own.lines) own.written.written;
+          counted = let n = own.written.counted in omega (arith, n);
+        }
+
+    -- or a stop is due
+    stop_shared : (stop : Stop) (n : ℕ) (goals : List Item) → IsStopped Full c (from_conditions c conditions steps goals) s t stop n
+        → IsStoppedThere c conditions steps s.lines (length text) stop n goals
+    stop_shared stop n goals h = record {
+      lines = h.lines;
+      place = h.place;
+      begun = h.begun;
+      next = h.next;
+      last = h.last;
+      short =
+          let all : length text ≡ text_length (h.lines ++ stop_line n stop ∷ []) = ap length (text_of (log_text (h.lines ++ stop_line n stop ∷ []))
+          h.written) in
+          let sum : text_length (h.lines ++ stop_line n stop ∷ []) ≡ text_length h.lines + text_length (stop_line n stop ∷ []) = text_length-append
+          h.lines (stop_line n stop ∷ []) in
+          omega (arith, all, sum);
+    }
+
+    pub halt_shared : (e : ProveError) (known' : List Var) (ends' : List Summands)
+        → ((goals : List Item) → Halts Full c (conditions_before Full c problem.steps.nodes problem.conditions goals 0 known ends steps) s t e)
+        → AreWorked c conditions steps s.lines known' ends' (stopped_by e (length text))
+    halt_shared (stopped.Spent n) known' ends' h =
+        λ goals. stop_shared spent n goals
+        (from_nothing (λ part. IsStopped Full c part s t spent n) goals (h goals))
+    halt_shared (stopped.TooLarge n which) known' ends' h =
+        λ goals. stop_shared (too_large which) n goals
+        (from_nothing (λ part. IsStopped Full c part s t (too_large which) n) goals (h goals))
+    halt_shared stopped.TooLong known' ends' h = tt
+    halt_shared stopped.WriteFault known' ends' h = tt
+    halt_shared stopped.NoMemory known' ends' h = tt
