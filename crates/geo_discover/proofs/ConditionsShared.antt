@@ -1,13 +1,21 @@
 -- What the chains of the conditions came to serves all candidates.
-use Rattle.std.proofs.Common.{◌≡◌, ℕ, suc, ◌+◌, ◌-◌, ◌≤◌, Ok, Err, Some, None, List, [], ◌∷◌, ◌++◌, length, refl, sym, ◌∙◌, ap, subst, arith}
-use Rattle.std.proofs.lemmas.List.{length-append}
+use Rattle.std.proofs.Common.{◌≡◌, ℕ, ◌+◌, ◌-◌, ◌<◌, ◌≤◌, ◌^◌, Some, List, [], ◌∷◌, ◌++◌, length, refl, sym, ap, subst, arith}
+use Rattle.fraction_poly.specs.declared.known_numbers.KnownNumbers.{KnownNumbers}
+use Rattle.fraction_poly.specs.Inner.Known.{IsKnownOf}
 use Rattle.geo_conditions.specs.declared.problem.Problem.{Problem}
+use Rattle.geo_conditions.specs.Lists.{IsProblem}
+use Rattle.geo_conditions.specs.Problems.{form_of_problem}
+use Rattle.geo_lowering.specs.declared.version.Version.TheVariants.{Two}
 use Rattle.geo_logs.specs.Ends.{stop_line, text_length}
 use Rattle.geo_logs.specs.Logs.{Item}
 use Rattle.geo_logs.specs.Moves.{Stop, spent, too_large}
 use Rattle.geo_poly.specs.declared.variables.Var.{Var}
 use Rattle.geo_poly.specs.Polynomials.{Summands}
+use Rattle.geo_program.specs.declared.statements.Statement.{Statement}
+use Rattle.geo_program.specs.Relations.{with_statement}
+use Rattle.geo_program.specs.WellFormed.{Source}
 use Rattle.geo_terms.specs.Constructions.{Construction}
+use Rattle.proof_log.specs.declared.log.Line.{Line}
 use Rattle.proof_log.specs.Lines.{log_text}
 use Rattle.log_maker.specs.declared.errors.ProveError.{ProveError}
 use Rattle.log_maker.specs.declared.errors.ProveError.TheVariants as stopped
@@ -15,13 +23,17 @@ use Rattle.log_maker.specs.declared.frame.Frame.TheVariants.{Full}
 use Rattle.log_maker.specs.declared.size.Size.{Size}
 use Rattle.log_maker.specs.declared.size.Size.TheVariants.{Written}
 use Rattle.log_maker.specs.Halting.{Halts, IsStopped, Passes}
-use Rattle.log_maker.specs.Parts.{Part, conditions_part, goals_part, items_of}
+use Rattle.log_maker.specs.Parts.{Part, goals_part, items_of}
 use Rattle.log_maker.specs.Sizes.{HoldsText}
-use Rattle.log_maker.specs.Tasks.{conditions_before}
-use Rattle.log_maker.specs.Written.{State}
+use Rattle.log_maker.specs.Tasks.{conditions_before, conditions_from}
+use Rattle.log_maker.specs.Written.{State, Writes, first_state}
+use Rattle.log_maker.specs.declared.findings.Findings.{Findings}
 use Rattle.log_maker.proofs.Passing.{text_length-append}
-use Rattle.geo_discover.specs.declared.figure.Worked.{Worked}
-use Rattle.geo_discover.specs.Inner.Sharing.{AreMet, AreWorked, IsStoppedBy, IsStoppedThere, from_conditions, stopped_by}
+use Rattle.geo_prover.proofs.Finishing.{subject_with}
+use Rattle.geo_discover.specs.declared.figure.Figure.{Figure}
+use Rattle.geo_discover.specs.Inner.Searching.{IsCandidate}
+use Rattle.geo_discover.specs.Inner.Sharing.{AreMet, AreWorked, IsFigureOf, IsStoppedThere, from_conditions, program_lines, stopped_by}
+use Rattle.geo_discover.proofs.FixedAnswers.{front_count}
 use Rattle.geo_discover.proofs.Judging.{held_is}
 
 module _ (problem : Problem) (steps : ℕ) (known : List Var) (ends : List Summands) (no_known : known ≡ []) (no_ends : ends ≡ []) where
@@ -38,6 +50,11 @@ module _ (problem : Problem) (steps : ℕ) (known : List Var) (ends : List Summa
   from_nothing R goals h =
       subst (λ ks. R (conditions_before Full c problem.steps.nodes problem.conditions goals 0 ks [] steps)) no_known
       (subst (λ ls. R (conditions_before Full c problem.steps.nodes problem.conditions goals 0 known ls steps)) no_ends h)
+
+  pub to_nothing : (R : Part → Type 0) → R (conditions_from Full problem 0 [] [] steps) → R (conditions_from Full problem 0 known ends steps)
+  to_nothing R h =
+      subst (λ ks. R (conditions_from Full problem 0 ks ends steps)) (sym no_known)
+      (subst (λ ls. R (conditions_from Full problem 0 [] ls steps)) (sym no_ends) h)
 
   -- what was written into an empty sink
   module _ (s t : State) (text : List ℕ) (bytes : ℕ) (size : s.size ≡ Written bytes) (none : s.held ≡ Some []) (some : t.held ≡ Some text) where
@@ -89,3 +106,53 @@ module _ (problem : Problem) (steps : ℕ) (known : List Var) (ends : List Summa
     halt_shared stopped.TooLong known' ends' h = tt
     halt_shared stopped.WriteFault known' ends' h = tt
     halt_shared stopped.NoMemory known' ends' h = tt
+
+-- THE FIGURE
+-- the lines before the chains
+pub lines_before : (q : Source) (c : Construction) (xs ys : List Item) (s t : State) → s.lines ≡ 0 → Writes (program_lines q) s t
+    → t.lines ≡ length q.commands + 2
+lines_before q c xs ys s t none h =
+    let n = h.counted in
+    let k : length (program_lines q) ≡ length q.commands + 2 = front_count q (subject_with q c xs ys) refl in
+    omega (arith, n, k, none)
+
+-- a log is begun in an empty sink
+pub begun_new : (xs : List Line) (lines : ℕ) (size : Size) (held : List ℕ) (t : State) → lines ≡ 0 → size ≡ Written 0 → held ≡ []
+    → Writes xs (record { lines = lines; size = size; held = Some held; faults = 0 }) t → Writes xs (first_state (Some []) 0) t
+begun_new xs lines size held t a b d h =
+    subst (λ (s : State). Writes xs s t) (λ i. record { lines = a i; size = b i; held = Some (d i); faults = 0 }) h
+
+pub figure_is : (p : Source) (s : Statement) (q : Source) (figure : Figure) → q ≡ with_statement p s → figure.steps < 2 ^ 127 → IsCandidate p s
+    → IsProblem Two q (form_of_problem figure.problem) figure.problem.conditions figure.problem.goals
+    → IsKnownOf figure.problem.steps.nodes figure.numbers
+    → AreWorked figure.problem.steps (items_of figure.problem.steps.nodes figure.problem.conditions) figure.steps (length q.commands + 2)
+    figure.findings.known figure.findings.ends figure.conditions
+    → IsFigureOf p figure
+figure_is p s q figure same small candidate problem numbers worked = record {
+  small = small;
+  first = s;
+  candidate = candidate;
+  problem = subst (λ (x : Source). IsProblem Two x (form_of_problem figure.problem) figure.problem.conditions figure.problem.goals) same
+      problem;
+  numbers = numbers;
+  worked =
+      subst (λ (x : Source). AreWorked figure.problem.steps (items_of figure.problem.steps.nodes figure.problem.conditions) figure.steps
+      (length x.commands + 2) figure.findings.known figure.findings.ends figure.conditions) same worked;
+}
+
+-- it stays so where no more is found, and other numbers are known
+pub figure_kept : (p : Source) (figure : Figure) (numbers : KnownNumbers) (findings : Findings) → IsFigureOf p figure
+    → findings.known ≡ figure.findings.known → findings.ends ≡ figure.findings.ends → IsKnownOf figure.problem.steps.nodes numbers
+    → IsFigureOf p (record figure { numbers = numbers; findings = findings })
+figure_kept p figure numbers findings h known ends k = record {
+  small = h.small;
+  first = h.first;
+  candidate = h.candidate;
+  problem = h.problem;
+  numbers = k;
+  worked =
+      let c = figure.problem.steps in
+      let xs = items_of c.nodes figure.problem.conditions in
+      subst (λ ks. AreWorked c xs figure.steps (length p.commands + 2) ks findings.ends figure.conditions) (sym known)
+      (subst (λ ls. AreWorked c xs figure.steps (length p.commands + 2) figure.findings.known ls figure.conditions) (sym ends) h.worked);
+}

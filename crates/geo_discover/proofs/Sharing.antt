@@ -1,19 +1,18 @@
 -- A candidate's log, put together from what all candidates have in common.
-use Rattle.std.proofs.Common.{◌≡◌, ◌≢◌, ◌⊎◌, ℕ, suc, ◌+◌, ◌-◌, ◌<◌, ◌≤◌, ◌^◌, inl, inr, Some, Contains, List, [], ◌∷◌, ◌++◌, map, length}
-use Rattle.std.proofs.Common.{append_assoc, refl, sym, ◌∙◌, ap, subst, arith}
+use Rattle.std.proofs.Common.{◌≡◌, ◌≢◌, ◌⊎◌, All, ℕ, suc, ◌+◌, ◌-◌, ◌<◌, ◌≤◌, ◌^◌, inl, inr, Some, Contains, List, [], ◌∷◌, ◌++◌, map, length}
+use Rattle.std.proofs.Common.{refl, sym, ◌∙◌, ap, subst, arith}
 use Rattle.std.proofs.lemmas.List.{length-append}
 use Rattle.geo_conditions.specs.declared.items.Item.{Item as ListedItem}
 use Rattle.geo_base.specs.Devices.{HasRisen}
-use Rattle.geo_conditions.specs.Lists.{Found, IsListed, IsProblem, ItemForm, condition_item, found_at, found_from, goal_item, item_form}
+use Rattle.geo_conditions.specs.Lists.{Found, IsListed, IsProblem, found_at, found_from, goal_item, item_form}
 use Rattle.geo_conditions.specs.Statements.{statement_conditions}
 use Rattle.geo_lowering.specs.Conditions.{Condition}
-use Rattle.geo_lowering.specs.Lowering.{IsLowered, LoweredForm}
+use Rattle.geo_lowering.specs.Lowering.{LoweredForm}
 use Rattle.geo_lowering.specs.declared.version.Version.TheVariants.{Two}
 use Rattle.geo_logs.specs.Ends.{stop_line, text_length}
-use Rattle.geo_logs.specs.Logs.{Item, Subject}
+use Rattle.geo_logs.specs.Logs.{Item}
 use Rattle.geo_logs.specs.Moves.{Stop, spent, too_large}
 use Rattle.geo_logs.specs.Places.{first_lines}
-use Rattle.geo_poly.specs.declared.limits.Which.{Which}
 use Rattle.geo_poly.specs.declared.variables.Var.{Var}
 use Rattle.geo_poly.specs.Polynomials.{Summands}
 use Rattle.geo_program.specs.declared.statements.Statement.{Statement}
@@ -22,28 +21,30 @@ use Rattle.geo_program.specs.WellFormed.{IsWellFormed, Source}
 use Rattle.geo_terms.specs.Constructions.{Construction}
 use Rattle.geo_terms.specs.Stores.{Store}
 use Rattle.proof_log.specs.declared.log.Line.{Line}
-use Rattle.proof_log.specs.declared.log.Line.TheVariants.{Header, Program as ProgramLine}
 use Rattle.proof_log.specs.declared.log.Verdict.{Verdict}
 use Rattle.proof_log.specs.Lines.{log_text}
-use Rattle.log_checker.specs.Subjects.{IsSubjectOf, log_item, source_lines}
+use Rattle.log_checker.specs.Subjects.{IsSubjectOf, log_item}
+use Rattle.log_checker.proofs.Realised.{goals_named}
+use Rattle.log_checker.proofs.Verdicts.{parts_of}
 use Rattle.log_maker.specs.declared.errors.ProveError.{ProveError}
 use Rattle.log_maker.specs.declared.errors.ProveError.TheVariants as stopped
 use Rattle.log_maker.specs.declared.frame.Frame.TheVariants.{Full}
 use Rattle.log_maker.specs.declared.size.Size.{Size}
 use Rattle.log_maker.specs.declared.size.Size.TheVariants.{Written}
 use Rattle.log_maker.specs.Halting.{Finishes, Halts, IsStopped, Passes}
-use Rattle.log_maker.specs.Parts.{CanWrite, Continues, Part, goals_part, items_of, log_part}
-use Rattle.log_maker.specs.Sizes.{Fits, HoldsText, with_text}
+use Rattle.log_maker.specs.Parts.{CanWrite, Part, goals_part, items_of, log_part}
+use Rattle.log_maker.specs.Sizes.{Fits, with_text}
+use Rattle.log_maker.specs.Tasks.{IsItemReady}
 use Rattle.log_maker.specs.Written.{State, Writes, first_state}
-use Rattle.log_maker.proofs.Passing.{can_write_on, finishes_on, halts_on, log_text-append, passes_on, text_length-append}
+use Rattle.log_maker.proofs.Passing.{can_write_on, finishes_on, halts_on, passes_on, text_length-append}
 use Rattle.geo_prover.specs.declared.summary.Summary.{Summary}
 use Rattle.geo_prover.specs.Inner.Answers.{IsAnswerOf}
 use Rattle.geo_prover.specs.Proving.{Concludes}
-use Rattle.geo_prover.proofs.Finishing.{can_write, concluded, halted, past_program, subject_with}
+use Rattle.geo_prover.proofs.Finishing.{can_write, concluded, halted, items_ready, past_program, subject_with}
 use Rattle.geo_discover.specs.declared.examining.Judgement.{Judgement}
 use Rattle.geo_discover.specs.declared.examining.Judgement.TheVariants as judged
 use Rattle.geo_discover.specs.Inner.Searching.{IsCandidate, IsJudged, judgement_by}
-use Rattle.geo_discover.specs.Inner.Sharing.{AreMet, IsSaid, IsStoppedBy, IsStoppedThere, from_conditions}
+use Rattle.geo_discover.specs.Inner.Sharing.{AreMet, IsSaid, IsStoppedBy, IsStoppedThere, from_conditions, program_lines}
 use Rattle.geo_discover.proofs.FixedAnswers.{front_count}
 use Rattle.geo_discover.proofs.Judging.{judged_error, judged_verdict, no_rise}
 
@@ -61,10 +62,9 @@ module _ (p : Source) (first s : Statement) (l : LoweredForm) (cs gs : List List
       (a.unconditional ∙ sym b.unconditional)
 
   -- with the goal of another candidate this is its subject
-  pub shared_about : (nodes : Store) (goals : List ListedItem) → map (item_form nodes) goals ≡ goal_item Two p s ∷ []
-      → IsSubjectOf (with_statement p s)
-      (subject_with (with_statement p s) l.construction (items_of l.construction.nodes cs) (items_of nodes goals))
-  shared_about nodes goals e = record {
+  pub shared_about : (goals : List Item) → goals ≡ log_item (goal_item Two p s) ∷ []
+      → IsSubjectOf (with_statement p s) (subject_with (with_statement p s) l.construction (items_of l.construction.nodes cs) goals)
+  shared_about goals e = record {
     version = Two;
     form = l;
     conditions = map (item_form l.construction.nodes) cs;
@@ -93,8 +93,16 @@ module _ (p : Source) (first s : Statement) (l : LoweredForm) (cs gs : List List
     same_program = refl;
     same_construction = refl;
     same_conditions = refl;
-    same_goals = ap (map log_item) e;
+    same_goals = e;
   }
+
+-- the goal's term names what the construction has
+pub goal_ready : (q : Source) (c : Construction) (conditions : List Item) (nodes : Store) (items : List ListedItem) → IsWellFormed q
+    → IsSubjectOf q (subject_with q c conditions (items_of nodes items)) → All (λ x. x.term.0 < length nodes) items
+    → All (IsItemReady c nodes) items
+goal_ready q c conditions nodes items w about stored =
+    let subject = subject_with q c conditions (items_of nodes items) in
+    items_ready c nodes items stored (λ i item at. (goals_named q subject w (parts_of q subject about) i item at).0)
 
 -- THE LOG
 module _ (p : Source) (s : Statement) (c : Construction) (conditions goals : List Item) (steps : ℕ)
@@ -108,7 +116,7 @@ module _ (p : Source) (s : Statement) (c : Construction) (conditions goals : Lis
 
   -- behind the first lines and the conditions
   pub past_conditions : (known : List Var) (ends : List Summands) (text : List ℕ) (count left : ℕ) (r t u : State)
-      → Writes (Header 2 ∷ map ProgramLine (source_lines q)) r t
+      → Writes (program_lines q) r t
       → AreMet c conditions steps known ends text count left goals
       → ((lines : List Line) → text ≡ log_text lines → count ≡ length lines → Writes lines t u)
       → Passes whole (goals_part Full c known ends 1 left goals) r u

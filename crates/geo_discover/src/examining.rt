@@ -1,15 +1,16 @@
 //! What the log of one candidate says of it.
 
-ghost use Rattle.std.specs.Prelude.{◌≡◌, ◌≢◌, ◌≤◌, All, IfOk, IfSome, OnOk, Some, length};
+ghost use Rattle.std.specs.Prelude.{◌≡◌, ◌≢◌, ◌≤◌, [], All, IfOk, IfSome, OnOk, Some, length};
 ghost use Rattle.fraction_poly.specs.Inner.Known.{IsKnownOf};
 ghost use Rattle.geo_poly.specs.Specialise.{NoneZero};
 ghost use Rattle.geo_program.specs.Programs.{program_text, source_of};
+ghost use Rattle.geo_program.specs.Relations.{with_statement};
 ghost use Rattle.log_maker.specs.Parts.{CanWrite};
 ghost use Rattle.log_maker.specs.Tasks.{IsItemReady, goals_from};
-ghost use Rattle.log_maker.specs.Written.{state};
+ghost use Rattle.log_maker.specs.Written.{Writes, first_state, state};
 ghost use Rattle.log_maker.specs.declared.frame.Frame.TheVariants.{Full};
 ghost use Rattle.geo_discover.specs.Inner.Searching.{IsCandidate, IsJudged, judgement_by};
-ghost use Rattle.geo_discover.specs.Inner.Sharing.{IsFigureOf, IsSaid};
+ghost use Rattle.geo_discover.specs.Inner.Sharing.{IsFigureOf, IsSaid, program_lines};
 
 use crate::figure::{Figure, Worked};
 use crate::goal::{Goal, goal_of};
@@ -95,31 +96,52 @@ fn judge_shared(
     let candidate = program.with_statement(alloc, statement)?;
     let mut log = LogWriter::new();
     let mut text = SureSink::new(alloc);
-    if write_first_lines(alloc, &candidate, &mut log, &mut text).is_err() {
-        return Ok(None);
+    match write_first_lines(alloc, &candidate, &mut log, &mut text) {
+        Ok(()) => judge_behind(alloc, program, figure, statement, log, text),
+        Err(_) => Ok(None),
     }
+}
+
+/// The same, where its first lines are written.
+fn judge_behind(
+    alloc: Global,
+    program: &Program,
+    figure: &mut Figure,
+    statement: Statement,
+    mut log: LogWriter,
+    mut text: SureSink,
+) -> Result<Option<Judgement>, NoMemory>
+    requires candidate { IsCandidate (source_of program.now) statement }
+    requires figure { IsFigureOf (source_of program.now) figure.old }
+    requires first { Writes (program_lines (with_statement (source_of program.now) statement))
+        (first_state (Some []) 0) (state log (Some text) 0) }
+    ensures judged { IfOk result (λ judgement. IfSome judgement
+        (IsJudged (source_of program.now) figure.old.steps statement)) }
+    ensures figure { OnOk result (IsFigureOf (source_of program.now) figure.new) }
+    ensures steps { figure.new.steps ≡ figure.old.steps }
+{
     match &figure.conditions {
         Worked::Met {
             text: again,
             lines,
             left,
-        } => {
-            if log.write_again(&mut text, *lines, again.bytes()).is_err() {
-                return Ok(None);
+        } => match log.write_again(&mut text, *lines, again.bytes()) {
+            Ok(()) => {
+                let goal = goal_of(alloc, program, &figure.problem.points, statement)?;
+                let judgement = judge_goal(
+                    alloc,
+                    &figure.problem.steps,
+                    &goal,
+                    *left,
+                    &mut figure.findings,
+                    &mut figure.numbers,
+                    log,
+                    text,
+                )?;
+                Ok(Some(judgement))
             }
-            let goal = goal_of(alloc, program, &figure.problem.points, statement)?;
-            let judgement = judge_goal(
-                alloc,
-                &figure.problem.steps,
-                &goal,
-                *left,
-                &mut figure.findings,
-                &mut figure.numbers,
-                log,
-                text,
-            )?;
-            Ok(Some(judgement))
-        }
+            Err(_) => Ok(None),
+        },
         Worked::Stopped { error, bytes } if log.has_room(*bytes) => {
             Ok(Some(Judgement::Open(*error)))
         }

@@ -1,5 +1,5 @@
 -- What all candidates of a search have in common, and what the log of one is put together from.
-use Rattle.std.specs.Prelude.{◌≡◌, ◌≢◌, ◌⊎◌, ℕ, suc, ◌+◌, ◌<◌, ◌≤◌, ◌^◌, Some, List, [], length}
+use Rattle.std.specs.Prelude.{◌≡◌, ◌≢◌, ◌⊎◌, ℕ, suc, ◌+◌, ◌<◌, ◌≤◌, ◌^◌, Some, List, [], ◌∷◌, length, map}
 use Rattle.fraction_poly.specs.Inner.Known.{IsKnownOf}
 use Rattle.geo_conditions.specs.Lists.{IsProblem}
 use Rattle.geo_conditions.specs.Problems.{form_of_problem}
@@ -16,7 +16,9 @@ use Rattle.geo_program.specs.Relations.{with_statement}
 use Rattle.geo_program.specs.WellFormed.{Source}
 use Rattle.geo_terms.specs.Constructions.{Construction}
 use Rattle.proof_log.specs.declared.log.Line.{Line}
+use Rattle.proof_log.specs.declared.log.Line.TheVariants.{Header, Program as ProgramLine}
 use Rattle.proof_log.specs.declared.log.Verdict.{Verdict}
+use Rattle.log_checker.specs.Subjects.{source_lines}
 use Rattle.proof_log.specs.Lines.{log_text}
 use Rattle.log_maker.specs.declared.errors.ProveError.{ProveError}
 use Rattle.log_maker.specs.declared.errors.ProveError.TheVariants as stopped
@@ -91,6 +93,10 @@ pub record IsFigureOf (p : Source) (figure : Figure) : Type 0 where
       figure.findings.known figure.findings.ends figure.conditions
 
 -- ONE CANDIDATE
+-- the lines of a log that come before its chains
+abbrev pub program_lines : Source → List Line
+program_lines p = Header 2 ∷ map ProgramLine (source_lines p)
+
 -- what is said of a candidate whose log was written so far and goes on as this part: its verdict, or why it has none
 pub record IsSaid (c : Construction) (part : Part) (s : State) (judgement : Judgement) : Type 0 where
   pub after : State
