@@ -78,6 +78,7 @@ impl LogWriter {
 
     /// Writes so many lines by their text, where it is within the limit. It may be that of lines
     /// of another log.
+    #[tactic(auto, using(crate::proofs::Again::written_again, crate::proofs::Again::none_again))]
     pub fn write_again<K: Sink>(
         &mut self,
         sink: &mut K,
@@ -96,7 +97,8 @@ impl LogWriter {
         if lines >= u64::MAX - 1 - self.lines {
             return Err(ProveError::NoMemory);
         }
-        self.size = put_again(sink, self.size, text)?;
+        let size = put_again(sink, self.size, text)?;
+        self.size = size;
         self.lines += lines;
         Ok(())
     }

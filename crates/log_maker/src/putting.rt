@@ -85,15 +85,29 @@ pub(crate) fn put_again<K: Sink>(
         (record { lines = lines; size = size; held = K.held sink.new; faults = K.faults sink.new })) }
     ensures faults { OnOk result (K.faults sink.new ≡ K.faults sink.old) }
 {
-    let Size::Written(bytes) = size else {
-        return Ok(Size::Counted);
-    };
+    match size {
+        Size::Written(bytes) => Ok(Size::Written(put_bytes(sink, bytes, text)?)),
+        Size::Counted => Ok(Size::Counted),
+    }
+}
+
+/// Writes a text behind so many bytes, within the limit, and answers how many there are then.
+fn put_bytes<K: Sink>(sink: &mut K, bytes: u64, text: &[u8]) -> Result<u64, ProveError>
+    requires fits { bytes ≤ 67108864 }
+    ensures sum { IfOk result (λ n. n ≡ bytes + length text.now) }
+    ensures fits { IfOk result (λ n. n ≤ 67108864) }
+    ensures ok { OnOk result (Grows (K.held sink.old) text.now (K.held sink.new)) }
+    ensures err { (lines : ℕ) → IfErr result (IsTextUnwritten text.now
+        (record { lines = lines; size = Size.Written bytes; held = K.held sink.old; faults = K.faults sink.old })
+        (record { lines = lines; size = Size.Written bytes; held = K.held sink.new; faults = K.faults sink.new })) }
+    ensures faults { OnOk result (K.faults sink.new ≡ K.faults sink.old) }
+{
     let count = text.len() as u64;
     if count > LOG_LIMIT - bytes {
         return Err(ProveError::TooLong);
     }
     put(sink, text)?;
-    Ok(Size::Written(bytes + count))
+    Ok(bytes + count)
 }
 
 /// Whether so many more bytes are within the limit.
