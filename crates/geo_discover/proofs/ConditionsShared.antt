@@ -1,5 +1,6 @@
 -- What the chains of the conditions came to serves all candidates.
-use Rattle.std.proofs.Common.{◌≡◌, ℕ, ◌+◌, ◌-◌, ◌<◌, ◌≤◌, ◌^◌, Some, List, [], ◌∷◌, ◌++◌, length, refl, sym, ap, subst, arith}
+use Rattle.std.proofs.Common.{◌≡◌, ℕ, ◌+◌, ◌-◌, ◌<◌, ◌≤◌, ◌^◌, Option, None, Some, List, [], ◌∷◌, ◌++◌, length, refl, sym, ap, subst, arith}
+use Rattle.std.specs.Prelude.{IfNone}
 use Rattle.fraction_poly.specs.declared.known_numbers.KnownNumbers.{KnownNumbers}
 use Rattle.fraction_poly.specs.Inner.Known.{IsKnownOf}
 use Rattle.geo_conditions.specs.declared.problem.Problem.{Problem}
@@ -106,6 +107,10 @@ module _ (problem : Problem) (steps : ℕ) (known : List Var) (ends : List Summa
     halt_shared stopped.TooLong known' ends' h = tt
     halt_shared stopped.WriteFault known' ends' h = tt
     halt_shared stopped.NoMemory known' ends' h = tt
+
+-- there is none
+pub at_none_is : {A : Type 0} (P : Type 0) (o : Option A) → o ≡ None → IfNone o P → P
+at_none_is P o e h = let Q : Option _ → Type 0 = λ q. IfNone q P in subst Q e h
 
 -- THE FIGURE
 -- the lines before the chains

@@ -1,6 +1,6 @@
 //! What all candidates of a search have in common, worked once, before the first of them.
 
-ghost use Rattle.std.specs.Prelude.{◌≡◌, ◌+◌, ◌<◌, ◌≤◌, ◌^◌, [], IfOk, List, length};
+ghost use Rattle.std.specs.Prelude.{◌≡◌, ◌+◌, ◌≤◌, ℕ, [], IfOk, length};
 ghost use Rattle.fraction_poly.specs.Inner.Known.{IsKnownOf};
 ghost use Rattle.geo_conditions.specs.Lists.{IsProblem};
 ghost use Rattle.geo_conditions.specs.Problems.{form_of_problem};
@@ -20,7 +20,7 @@ use geo_points::NoMemory;
 use geo_program::{Program, Statement};
 use geo_prover::write_first_lines;
 use log_checker::versions::problem_by;
-use log_maker::{Findings, Frame, LogWriter, ProveError, work_conditions};
+use log_maker::{Findings, Frame, LogWriter, ProveError, Size, work_conditions};
 use std::alloc::Global;
 
 /// What all candidates have in common.
@@ -69,7 +69,7 @@ pub(crate) fn figure_of(
     let problem = problem_by(alloc, Version::Two, &candidate)?;
     let mut numbers = KnownNumbers::new(alloc)?;
     let mut findings = Findings::new(alloc);
-    let conditions = worked(
+    let conditions = conditions_of(
         alloc,
         &candidate,
         &problem,
@@ -87,7 +87,7 @@ pub(crate) fn figure_of(
 }
 
 /// What the chains of the conditions come to, behind the first lines of a candidate's log.
-fn worked(
+fn conditions_of(
     alloc: Global,
     candidate: &Program,
     problem: &Problem,
@@ -108,13 +108,13 @@ fn worked(
     let mut log = LogWriter::new();
     let mut front = SureSink::new(alloc);
     match write_first_lines(alloc, candidate, &mut log, &mut front) {
-        Ok(()) => worked_behind(alloc, problem, steps, findings, numbers, log),
+        Ok(()) => conditions_behind(alloc, problem, steps, findings, numbers, log),
         Err(_) => Worked::Unshared,
     }
 }
 
 /// The same, where these lines are written.
-fn worked_behind(
+fn conditions_behind(
     alloc: Global,
     problem: &Problem,
     steps: u64,
@@ -125,6 +125,7 @@ fn worked_behind(
     requires ready { IsReady problem.now }
     requires writable { CanWrite Full problem.now.steps
         (conditions_from Full problem.now 0 [] [] steps) log.size }
+    requires written { (bytes : ℕ) × (log.size ≡ Size.Written bytes) }
     requires numbers { IsKnownOf problem.now.steps.nodes numbers.old }
     requires known { findings.old.known ≡ [] }
     requires ends { findings.old.ends ≡ [] }
@@ -152,12 +153,12 @@ fn worked_behind(
             left: budget.left,
         },
         Ok(Some(_)) => Worked::Unshared,
-        Err(error) => stopped(error, text.bytes().len() as u64),
+        Err(error) => shared_stop(error, text.bytes().len() as u64),
     }
 }
 
 /// What serves all candidates where a condition stops so, behind so many bytes.
-fn stopped(error: ProveError, bytes: u64) -> Worked
+fn shared_stop(error: ProveError, bytes: u64) -> Worked
     ensures { result ≡ stopped_by error bytes }
 {
     match error {

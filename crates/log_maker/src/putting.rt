@@ -1,6 +1,6 @@
 //! The text of one line, put into a sink.
 
-ghost use Rattle.std.specs.Prelude.{◌≡◌, ◌+◌, ◌≤◌, ℕ, [], ◌∷◌, length, take, IfErr, IfOk, IsErrOf, OnErr, OnOk};
+ghost use Rattle.std.specs.Prelude.{◌≡◌, ◌+◌, ◌≤◌, ℕ, [], ◌∷◌, length, take, IfErr, IfOk, IsErrOf, OnErr, OnOk, T};
 ghost use Rattle.geo_base.specs.Devices.{Grows, HasRisen};
 ghost use Rattle.geo_logs.specs.Ends.{text_length};
 ghost use Rattle.log_maker.specs.Causes.{IsOfSink};
