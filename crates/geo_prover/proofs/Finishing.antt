@@ -1,5 +1,5 @@
 -- From the parts of a log to the log of a program.
-use Rattle.std.proofs.Common.{◌≡◌, ℕ, zero, suc, ◌+◌, ◌-◌, ◌<◌, ◌≤◌, ◌^◌, inl, inr, Some, Ok, Err, List, [], ◌∷◌, ◌++◌, map, length}
+use Rattle.std.proofs.Common.{◌≡◌, All, ℕ, zero, suc, ◌+◌, ◌-◌, ◌<◌, ◌≤◌, ◌^◌, inl, inr, Some, Ok, Err, List, [], ◌∷◌, ◌++◌, map, length}
 use Rattle.std.proofs.Common.{append-nil, append_assoc, refl, sym, ◌∙◌, ap, subst, take, arith}
 use Rattle.std.specs.Prelude.{IfErr, IsErrOf, OnOk, Result, slice_get}
 use Rattle.std.proofs.lemmas.List.{length-append}
@@ -22,7 +22,7 @@ use Rattle.elim_apply.specs.LemmaTable.{lemma_table}
 use Rattle.elim_apply.proofs.MoveRows.{lemma_table_sound}
 use Rattle.geo_logs.specs.Ends.{Ending, IsDefinedLog, ends_by, ends_with, stop_line, text_length, too_long}
 use Rattle.geo_logs.specs.Defined.{IsLogOfProver}
-use Rattle.geo_logs.specs.Logs.{Subject}
+use Rattle.geo_logs.specs.Logs.{Item, Subject}
 use Rattle.geo_logs.specs.Moves.{Stop, spent, too_large}
 use Rattle.geo_logs.specs.Places.{Place, before_line, first_lines}
 use Rattle.geo_logs.proofs.AcceptedProvers.{provers_log_accepted}
