@@ -176,7 +176,7 @@ module _ (p : Source) (s : Statement) (c : Construction) (conditions goals : Lis
     stopped_judged_at : (stop : Stop) (n : ℕ) (e : ProveError) → e ≢ stopped.NoMemory
         → ((t : State) → IsStopped Full c whole (first_state (Some []) 0) t stop n → Halts Full c whole (first_state (Some []) 0) t e)
         → IsStoppedThere c conditions steps (length p.commands + 2) bytes stop n goals → IsJudged p steps s (judged.Open e)
-    stopped_judged_at stop n e other as h =
+    stopped_judged_at stop n e other halts h =
         let all : List Line = front ++ h.lines in
         let r : State = first_state (Some []) 0 in
         let text : List ℕ = log_text (all ++ stop_line n stop ∷ []) in
@@ -189,7 +189,7 @@ module _ (p : Source) (s : Statement) (c : Construction) (conditions goals : Lis
         let there : (0 + text_length front) + bytes ≤ 67108864 = subst (λ (z : Size). Fits (with_text z bytes)) measured room in
         judged_answer r t e refl refl other
         (halted q c conditions goals steps w small about r t refl refl e
-        (as t (record {
+        (halts t (record {
           lines = all;
           place = h.place;
           begun = inr (h.lines, refl, h.begun);
