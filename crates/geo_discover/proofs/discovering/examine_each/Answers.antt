@@ -1,8 +1,8 @@
-use Rattle.std.proofs.Common.{◌≡◌, ◌∙◌, ℕ, refl, subst, arith, rules}
+use Rattle.std.proofs.Common.{◌≡◌, ◌∙◌, refl, arith, rules}
 use Rattle.geo_program.specs.Programs.{source_of}
-use Rattle.geo_discover.specs.Inner.Searching.{BreaksSearch, Examines, progress}
+use Rattle.geo_discover.specs.Inner.Searching.{progress}
 use Rattle.geo_discover.proofs.Putting.{if_err}
-use Rattle.geo_discover.proofs.SearchSteps.{counted_so_far, examines_none, one_breaks, one_more}
+use Rattle.geo_discover.proofs.SearchSteps.{breaks_with, counted_so_far, examines_none, examines_with, one_breaks, one_more}
 use Rattle.geo_discover.proofs.discovering.examine_each.Goals as goal
 
 pub loop-statement-init : goal.loop-statement-init
@@ -24,7 +24,7 @@ pub loop-statement-preserved : goal.loop-statement-preserved
 loop-statement-preserved g c = (
   one_more (source_of c.args.program.now) c.args.figure.now.steps c.args.all.now c.loop-statement.statement-index _ _ _ _
       c.loop-statement-test.true c.loop-statement.invariant.0
-      (subst (λ (n : ℕ). Examines (source_of c.args.program.now) n _ _ _) c.loop-statement.invariant.2 c.in_ok-examine.ensures.ok),
+      (let examined = examines_with c.loop-statement.invariant.2 c.in_ok-examine.ensures.ok in examined),
   (let kept : g.K.Sink.faults c.examine.new.sink ≡ g.K.Sink.faults c.loop-statement.sink = search rules in
       omega (arith, c.loop-statement.invariant.1, kept)),
   c.examine.ensures.steps ∙ c.loop-statement.invariant.2,
@@ -33,7 +33,8 @@ loop-statement-preserved g c = (
 
 pub returns-in_err-examine-clause-err : goal.returns-in_err-examine-clause-err
 returns-in_err-examine-clause-err g c =
+    let broken = breaks_with c.loop-statement.invariant.2 c.in_err-examine.ensures.err in
     if_err _ _ c.in_err-examine.field-0.0 c.from_residual.ensures.1
     (one_breaks (source_of c.args.program.now) c.args.figure.now.steps c.args.all.now c.loop-statement.statement-index _ _ _ _ _ _ _
     c.in_err-examine.field-0.0 c.loop-statement-test.true c.loop-statement.invariant.0 (omega (arith, c.loop-statement.invariant.1))
-    (subst (λ (n : ℕ). BreaksSearch (source_of c.args.program.now) n _ _ _ _ _ _) c.loop-statement.invariant.2 c.in_err-examine.ensures.err))
+    broken)
