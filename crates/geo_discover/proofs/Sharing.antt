@@ -156,7 +156,7 @@ module _ (p : Source) (s : Statement) (c : Construction) (conditions goals : Lis
             let summary : Summary = record { verdict = verdict; lines = h.after.lines; charge = steps - left } in
             let all = finishes_on whole part r u h.after verdict left passed finished in
             let done : Concludes q steps r.held h.after.held summary =
-                concluded q c conditions goals steps w small about r h.after lines_none size_none summary left all fits refl refl in
+            concluded q c conditions goals steps w small about r h.after lines_none size_none summary left all fits refl refl in
             subst (IsJudged p steps s) (sym is)
             (judged_verdict p q s steps refl summary log
             (subst (λ x. Concludes q steps (Some []) x summary) held (subst (λ x. Concludes q steps x h.after.held summary) held_none done)))

@@ -48,7 +48,10 @@ pub(crate) enum Worked {
         left: u64,
     },
     /// A stop, and how many bytes the text has up to it and with its line.
-    Stopped { error: ProveError, bytes: u64 },
+    Stopped {
+        error: ProveError,
+        bytes: u64,
+    },
     /// Nothing that serves all candidates: one is never met, or a text is too long.
     Unshared,
 }

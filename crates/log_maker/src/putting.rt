@@ -71,11 +71,7 @@ fn put_text<K: Sink>(
 }
 
 /// Writes a text where lines are written, within its limit, and answers the size then.
-pub(crate) fn put_again<K: Sink>(
-    sink: &mut K,
-    size: Size,
-    text: &[u8],
-) -> Result<Size, ProveError>
+pub(crate) fn put_again<K: Sink>(sink: &mut K, size: Size, text: &[u8]) -> Result<Size, ProveError>
     requires fits { Fits size }
     ensures size { IfOk result (λ new. new ≡ with_text size (length text.now)) }
     ensures fits { IfOk result Fits }
@@ -87,7 +83,7 @@ pub(crate) fn put_again<K: Sink>(
 {
     match size {
         Size::Written(bytes) => Ok(Size::Written(put_bytes(sink, bytes, text)?)),
-        Size::Counted => Ok(Size::Counted),
+        Size::Counted => Ok(size),
     }
 }
 

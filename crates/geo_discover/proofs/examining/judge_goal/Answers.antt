@@ -18,7 +18,7 @@ returns-clause-said c =
     let t = state c.work_rest-verdict.new.log (Some c.work_rest-verdict.new.sink) 0 in
     let Said : Result Judgement NoMemory → Type 0 = λ r. IfOk r (IsSaid c.args.steps.now part s) in
     elim c.match-verdict.branch [
-      in-Ok w ↦ subst Said (sym w.result-is) (record {
+      | in-Ok w ↦ subst Said (sym w.result-is) (record {
         after = t;
         said = inl (
           w.in-Ok.verdict,
@@ -30,8 +30,8 @@ returns-clause-said c =
           IfOk-at_ok _ w.in-Ok.is c.work_rest-verdict.ensures.ok,
         );
       })
-    | in-Err w ↦ subst Said (sym w.result-is)
-      (IfOk-weaker w.opened.result _ _
-      (λ j h. record { after = t; said = inr (w.in-Err.error, h.0, h.1, refl, IfErr-at_err _ w.in-Err.is c.work_rest-verdict.ensures.err) })
-      w.opened.ensures)
+      | in-Err w ↦ subst Said (sym w.result-is)
+          (IfOk-weaker w.opened.result _ _
+          (λ j h. record { after = t; said = inr (w.in-Err.error, h.0, h.1, refl, IfErr-at_err _ w.in-Err.is c.work_rest-verdict.ensures.err) })
+          w.opened.ensures)
     ]
