@@ -1,7 +1,8 @@
 -- Each candidate of a program is a relation of its points.
-use Rattle.std.proofs.Common.{◌≡◌, All, List, [], ◌∷◌, ◌++◌, not, filter, map, sym, subst}
+use Rattle.std.proofs.Common.{◌≡◌, All, List, [], ◌∷◌, ◌++◌, not, filter, map, refl, sym, subst}
 use Rattle.std.specs.List.{AllByRecursion}
 use Rattle.std.proofs.lemmas.List.Elements.{All-append, All-cons, All-head, All-map, All-nil, All-tail, recursion_from_All}
+use Rattle.geo_conditions.specs.Statements.{statement_conditions, statement_goals}
 use Rattle.geo_points.specs.declared.ids.PointId.{PointId}
 use Rattle.geo_program.specs.declared.statements.Statement.{Statement}
 use Rattle.geo_program.specs.declared.statements.Statement.TheVariants.{Collinear, Concyclic, Parallel, Perpendicular, SameLength}
@@ -20,31 +21,43 @@ all_of : {A : Type 0} (P : A → Type 0) → ((x : A) → P x) → (xs : List A)
 all_of P h [] = All-nil P
 all_of P h (x ∷ xs) = All-cons P x xs (h x) (all_of P h xs)
 
-abbrev Relates : Statement → Type 0
-Relates s = IsRelation s
-
-relations_over : (points : List PointId) → All Relates (candidates_over points)
-relations_over points =
-    let segments = segments_over points in
-    let distinct = filter (λ s. not (share_point s)) segments in
-    let A : List Statement = map (λ t. Collinear t.0 t.1 t.2) (triples points) in
-    let B : List Statement = map (λ s. Parallel s.0.0 s.0.1 s.1.0 s.1.1) distinct in
-    let C : List Statement = map (λ s. Perpendicular s.0.0 s.0.1 s.1.0 s.1.1) segments in
-    let D : List Statement = map (λ s. SameLength s.0.0 s.0.1 s.1.0 s.1.1) segments in
-    let E : List Statement = map (λ q. Concyclic q.0 q.1 q.2 q.3) (quadruples points) in
-    let a : All Relates A = All-map Relates (λ t. Collinear t.0 t.1 t.2) (triples points) (all_of (λ t. Relates (Collinear t.0 t.1 t.2)) (λ t. tt) (triples points)) in
-    let b : All Relates B = All-map Relates (λ s. Parallel s.0.0 s.0.1 s.1.0 s.1.1) distinct
-    (all_of (λ s. Relates (Parallel s.0.0 s.0.1 s.1.0 s.1.1)) (λ s. tt) distinct) in
-    let d : All Relates C = All-map Relates (λ s. Perpendicular s.0.0 s.0.1 s.1.0 s.1.1) segments
-    (all_of (λ s. Relates (Perpendicular s.0.0 s.0.1 s.1.0 s.1.1)) (λ s. tt) segments) in
-    let e : All Relates D = All-map Relates (λ s. SameLength s.0.0 s.0.1 s.1.0 s.1.1) segments
-    (all_of (λ s. Relates (SameLength s.0.0 s.0.1 s.1.0 s.1.1)) (λ s. tt) segments) in
-    let f : All Relates E = All-map Relates (λ q. Concyclic q.0 q.1 q.2 q.3) (quadruples points)
-    (all_of (λ q. Relates (Concyclic q.0 q.1 q.2 q.3)) (λ q. tt) (quadruples points)) in
-    All-append Relates (A ++ B ++ C ++ D) E (All-append Relates (A ++ B ++ C) D (All-append Relates (A ++ B) C (All-append Relates A B a b) d) e) f
+-- what holds of each statement of the five kinds holds of all candidates
+module _ (P : Statement → Type 0) (on_line : (a b d : PointId) → P (Collinear a b d)) (parallel : (a b d e : PointId) → P (Parallel a b d e))
+    (square : (a b d e : PointId) → P (Perpendicular a b d e)) (long : (a b d e : PointId) → P (SameLength a b d e))
+    (round : (a b d e : PointId) → P (Concyclic a b d e)) where
+  all_over : (points : List PointId) → All P (candidates_over points)
+  all_over points =
+      let segments = segments_over points in
+      let distinct = filter (λ s. not (share_point s)) segments in
+      let A : List Statement = map (λ t. Collinear t.0 t.1 t.2) (triples points) in
+      let B : List Statement = map (λ s. Parallel s.0.0 s.0.1 s.1.0 s.1.1) distinct in
+      let C : List Statement = map (λ s. Perpendicular s.0.0 s.0.1 s.1.0 s.1.1) segments in
+      let D : List Statement = map (λ s. SameLength s.0.0 s.0.1 s.1.0 s.1.1) segments in
+      let E : List Statement = map (λ q. Concyclic q.0 q.1 q.2 q.3) (quadruples points) in
+      let a : All P A = All-map P (λ t. Collinear t.0 t.1 t.2) (triples points)
+      (all_of (λ t. P (Collinear t.0 t.1 t.2)) (λ t. on_line t.0 t.1 t.2) (triples points)) in
+      let b : All P B = All-map P (λ s. Parallel s.0.0 s.0.1 s.1.0 s.1.1) distinct
+      (all_of (λ s. P (Parallel s.0.0 s.0.1 s.1.0 s.1.1)) (λ s. parallel s.0.0 s.0.1 s.1.0 s.1.1) distinct) in
+      let d : All P C = All-map P (λ s. Perpendicular s.0.0 s.0.1 s.1.0 s.1.1) segments
+      (all_of (λ s. P (Perpendicular s.0.0 s.0.1 s.1.0 s.1.1)) (λ s. square s.0.0 s.0.1 s.1.0 s.1.1) segments) in
+      let e : All P D = All-map P (λ s. SameLength s.0.0 s.0.1 s.1.0 s.1.1) segments
+      (all_of (λ s. P (SameLength s.0.0 s.0.1 s.1.0 s.1.1)) (λ s. long s.0.0 s.0.1 s.1.0 s.1.1) segments) in
+      let f : All P E = All-map P (λ q. Concyclic q.0 q.1 q.2 q.3) (quadruples points)
+      (all_of (λ q. P (Concyclic q.0 q.1 q.2 q.3)) (λ q. round q.0 q.1 q.2 q.3) (quadruples points)) in
+      All-append P (A ++ B ++ C ++ D) E (All-append P (A ++ B ++ C) D (All-append P (A ++ B) C (All-append P A B a b) d) e) f
 
 pub candidates_are_relations : (p : Source) → All (λ s. IsRelation s) (candidates p)
-candidates_are_relations p = relations_over (points_of p)
+candidates_are_relations p =
+    all_over (λ s. IsRelation s) (λ a b d. tt) (λ a b d e. tt) (λ a b d e. tt) (λ a b d e. tt) (λ a b d e. tt) (points_of p)
+
+-- it is a relation without conditions of its own, and its only goal
+abbrev IsPlain : Store → Statement → Type 0
+IsPlain nodes s = IsRelation s × (statement_conditions nodes s ≡ []) × (statement_goals nodes s ≡ s ∷ [])
+
+candidates_are_plain : (p : Source) → All (IsPlain p.nodes) (candidates p)
+candidates_are_plain p =
+    all_over (IsPlain p.nodes) (λ a b d. (tt, refl, refl)) (λ a b d e. (tt, refl, refl)) (λ a b d e. (tt, refl, refl))
+    (λ a b d e. (tt, refl, refl)) (λ a b d e. (tt, refl, refl)) (points_of p)
 
 both : {A : Type 0} (P Q R : A → Type 0) → ((x : A) → P x → Q x → R x) → (xs : List A) → All P xs → All Q xs → All R xs
 both P Q R f [] a b = All-nil R
@@ -52,8 +65,9 @@ both P Q R f (x ∷ xs) a b = All-cons R x xs (f x (All-head P x xs a) (All-head
 
 pub candidates_are_stated : (p : Source) → IsWellFormed p → All (IsCandidate p) (candidates p)
 candidates_are_stated p w =
-    both (λ s. IsRelation s) (λ s. IsWellFormed (with_statement p s)) (IsCandidate p) (λ s r v. record { relation = r; points = v.statement })
-    (candidates p) (candidates_are_relations p) (candidates_are_well_formed p w)
+    both (IsPlain p.nodes) (λ s. IsWellFormed (with_statement p s)) (IsCandidate p)
+    (λ s r v. record { relation = r.0; unconditional = r.1; one_goal = r.2; points = v.statement })
+    (candidates p) (candidates_are_plain p) (candidates_are_well_formed p w)
 
 -- a relation has no sides
 pub no_sides : (nodes : Store) (x : Statement) → IsRelation x → AreSidesStored nodes x

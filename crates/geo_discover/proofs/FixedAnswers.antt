@@ -97,7 +97,7 @@ module _ (p : Source) (problem : Problem) (steps : ℕ) (w : IsWellFormed p) (sm
   whole = conditions_from Fixed problem 0 [] [] steps
 
   own : IsSubjectOf p subject
-  own = about p problem steps w small is
+  own = about p problem w is
 
   pub ended : (s t : State) (verdict : Verdict) (left : ℕ) → Finishes whole s t verdict left → EndsWithVerdict p steps verdict
   ended s t verdict left h = record {

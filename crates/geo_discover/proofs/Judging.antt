@@ -26,7 +26,7 @@ use Rattle.geo_discover.specs.Inner.Searching.{IsJudged, Tells, judgement_by}
 use Rattle.geo_discover.specs.TextLines.{text_of_lines}
 
 -- what a sink that was empty holds
-held_is : (log text : List ℕ) → Grows (Some []) text (Some log) → log ≡ text
+pub held_is : (log text : List ℕ) → Grows (Some []) text (Some log) → log ≡ text
 held_is log text g = let e : Some log ≡ Some text = g in cc
 
 module _ (p q : Source) (s : Statement) (steps : ℕ) (same : q ≡ with_statement p s) where

@@ -1,7 +1,7 @@
 -- Steps of a search, one after another.
 use Rattle.std.proofs.Common.{◌≡◌, ℕ, zero, suc, ◌+◌, ◌≤◌, Option, Some, None, List, [], ◌∷◌, ◌++◌, append-nil, append_assoc}
 use Rattle.std.proofs.Common.{◌<◌, drop, length, refl, sym, ◌∙◌, ap, subst, take, arith}
-use Rattle.std.specs.Prelude.{slice_index_or}
+use Rattle.std.specs.Prelude.{slice_get, slice_index_or}
 use Rattle.std.proofs.lemmas.List.{length-append, length-take-le, take-append-drop, take_more}
 use Rattle.std.proofs.lemmas.List.Concat.{flat_map-append}
 use Rattle.std.proofs.lemmas.List.Sums.{sum_by-append}
@@ -294,3 +294,20 @@ counted_so_far p steps all k s t lt none a =
     let e = a.examined in
     let n : length (take k all) ≡ k = length-take-le k all (omega (arith, lt)) in
     omega (arith, e, n, none)
+
+-- OTHER NAMES OF THE STEPS
+pub examines_with : {p : Source} {n m : ℕ} {ss : List Statement} {s t : Progress} → n ≡ m → Examines p n ss s t → Examines p m ss s t
+examines_with {p} {n} {m} {ss} {s} {t} e h = subst (λ (k : ℕ). Examines p k ss s t) e h
+
+pub breaks_with : {p : Source} {n m : ℕ} {ss : List Statement} {s : Progress} {held : Option (List ℕ)} {a b : ℕ} {e : DiscoverError} → n ≡ m
+    → BreaksSearch p n ss s held a b e → BreaksSearch p m ss s held a b e
+breaks_with {p} {n} {m} {ss} {s} {held} {a} {b} {e} same h = subst (λ (k : ℕ). BreaksSearch p k ss s held a b e) same h
+
+-- WHERE THERE IS NO CANDIDATE
+pub is_none : {A : Type 0} (o : Option A) → ((x : A) → o ≡ Some x → ⊥) → o ≡ None
+is_none None n = refl
+is_none (Some x) n = absurd (n x refl)
+
+pub no_first : {A : Type 0} (xs : List A) → slice_get xs 0 ≡ None → xs ≡ []
+no_first [] e = refl
+no_first (x ∷ xs) e = absurd (let f : Some x ≡ None = e in let g : ⊥ = cc in g)

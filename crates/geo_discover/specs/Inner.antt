@@ -2,4 +2,5 @@
 pub mod Puts
 pub mod Walks
 pub mod Searching
+pub mod Sharing
 pub mod Fixing

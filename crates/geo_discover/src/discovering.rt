@@ -8,12 +8,14 @@ ghost use Rattle.geo_discover.specs.FoundTexts.{found, impossible, open_by};
 ghost use Rattle.geo_discover.specs.Candidates.{candidates};
 ghost use Rattle.geo_discover.specs.Inner.Searching.{BreaksSearch, Examines, IsAnswer, IsCandidate};
 ghost use Rattle.geo_discover.specs.Inner.Searching.{progress};
+ghost use Rattle.geo_discover.specs.Inner.Sharing.{IsFigureOf};
 ghost use Rattle.geo_logs.specs.Ends.{ends_by};
 ghost use Rattle.geo_logs.specs.Moves.{spent, too_large};
 ghost use Rattle.geo_poly.specs.declared.limits.Which.{Which};
 ghost use Rattle.geo_program.specs.Programs.{program_text, source_of};
 
 use crate::errors::DiscoverError;
+use crate::figure::{Figure, figure_of};
 use crate::listing::list_candidates;
 use crate::point_counts::point_count;
 use crate::search::{Found, Search};
@@ -113,8 +115,37 @@ fn examine_all<K: Sink>(
     ensures heard { ¬ IsErrOf result DiscoverError.WriteFault
         → K.faults sink.new ≡ K.faults sink.old }
 {
+    let Some(first) = all.first() else {
+        return Ok(());
+    };
+    let mut figure = figure_of(alloc, program, steps, *first)?;
+    examine_each(alloc, program, &mut figure, all, search, sink)
+}
+
+/// The same, with what they have in common.
+fn examine_each<K: Sink>(
+    alloc: Global,
+    program: &Program,
+    figure: &mut Figure,
+    all: &[Statement],
+    search: &mut Search,
+    sink: &mut K,
+) -> Result<(), DiscoverError>
+    requires short { length (program_text program.now) ≤ 67108864 }
+    requires figure { IsFigureOf (source_of program.now) figure.old }
+    requires candidates { AllByRecursion (IsCandidate (source_of program.now)) all.now }
+    requires none { search.old.examined ≡ 0 }
+    ensures ok { OnOk result (Examines (source_of program.now) figure.old.steps all.now
+        (progress search.old (K.held sink.old)) (progress search.new (K.held sink.new))) }
+    ensures err { IfErr result (BreaksSearch (source_of program.now) figure.old.steps all.now
+        (progress search.old (K.held sink.old)) (K.held sink.new)
+        (K.faults sink.old) (K.faults sink.new)) }
+    ensures faults { K.faults sink.old ≤ K.faults sink.new }
+    ensures heard { ¬ IsErrOf result DiscoverError.WriteFault
+        → K.faults sink.new ≡ K.faults sink.old }
+{
     for statement in all {
-        search.examine(alloc, program, steps, *statement, sink)?;
+        search.examine(alloc, program, figure, *statement, sink)?;
     }
     Ok(())
 }

@@ -1,14 +1,26 @@
 //! What the log of one candidate says of it.
 
-ghost use Rattle.std.specs.Prelude.{◌≡◌, ◌≢◌, ◌≤◌, IfOk, length};
+ghost use Rattle.std.specs.Prelude.{◌≡◌, ◌≢◌, ◌≤◌, [], All, IfOk, IfSome, OnOk, Some, length};
+ghost use Rattle.fraction_poly.specs.Inner.Known.{IsKnownOf};
+ghost use Rattle.geo_poly.specs.Specialise.{NoneZero};
 ghost use Rattle.geo_program.specs.Programs.{program_text, source_of};
+ghost use Rattle.geo_program.specs.Relations.{with_statement};
+ghost use Rattle.log_maker.specs.Parts.{CanWrite};
+ghost use Rattle.log_maker.specs.Tasks.{IsItemReady, goals_from};
+ghost use Rattle.log_maker.specs.Written.{Writes, first_state, state};
+ghost use Rattle.log_maker.specs.declared.frame.Frame.TheVariants.{Full};
 ghost use Rattle.geo_discover.specs.Inner.Searching.{IsCandidate, IsJudged, judgement_by};
+ghost use Rattle.geo_discover.specs.Inner.Sharing.{IsFigureOf, IsSaid, program_lines};
 
-use geo_base::SureSink;
+use crate::figure::{Figure, Worked};
+use crate::goal::{Goal, goal_of};
+use elim_apply::KnownNumbers;
+use geo_base::{Budget, SureSink};
 use geo_points::NoMemory;
 use geo_program::{Program, Statement};
-use geo_prover::prove;
-use log_maker::ProveError;
+use geo_prover::{prove, write_first_lines};
+use geo_terms::Steps;
+use log_maker::{Findings, Frame, LogWriter, ProveError, work_rest};
 use proof_log::Verdict;
 use std::alloc::Global;
 
@@ -25,9 +37,29 @@ pub(crate) enum Judgement {
     Impossible(u32),
 }
 
-/// What its log with so many steps says of a candidate, which takes the place of the program's
-/// statement.
+/// What its log says of a candidate, which takes the place of the program's statement.
 pub(crate) fn judge(
+    alloc: Global,
+    program: &Program,
+    figure: &mut Figure,
+    statement: Statement,
+) -> Result<Judgement, NoMemory>
+    requires candidate { IsCandidate (source_of program.now) statement }
+    requires short { length (program_text program.now) ≤ 67108864 }
+    requires figure { IsFigureOf (source_of program.now) figure.old }
+    ensures judged { IfOk result
+        (IsJudged (source_of program.now) figure.old.steps statement) }
+    ensures figure { OnOk result (IsFigureOf (source_of program.now) figure.new) }
+    ensures steps { figure.new.steps ≡ figure.old.steps }
+{
+    match judge_shared(alloc, program, figure, statement)? {
+        Some(judgement) => Ok(judgement),
+        None => judge_alone(alloc, program, figure.steps, statement),
+    }
+}
+
+/// What is said by a log that is made from the beginning.
+fn judge_alone(
     alloc: Global,
     program: &Program,
     steps: u64,
@@ -41,6 +73,123 @@ pub(crate) fn judge(
     let mut log = SureSink::new(alloc);
     match prove(alloc, &candidate, steps, &mut log) {
         Ok(summary) => Ok(judgement_of(summary.verdict, log)),
+        Err(error) => opened(error),
+    }
+}
+
+/// What is said by a log that is put together from what the figure has, where that is enough and
+/// within the limit of its text.
+fn judge_shared(
+    alloc: Global,
+    program: &Program,
+    figure: &mut Figure,
+    statement: Statement,
+) -> Result<Option<Judgement>, NoMemory>
+    requires candidate { IsCandidate (source_of program.now) statement }
+    requires short { length (program_text program.now) ≤ 67108864 }
+    requires figure { IsFigureOf (source_of program.now) figure.old }
+    ensures judged { IfOk result (λ judgement. IfSome judgement
+        (IsJudged (source_of program.now) figure.old.steps statement)) }
+    ensures figure { OnOk result (IsFigureOf (source_of program.now) figure.new) }
+    ensures steps { figure.new.steps ≡ figure.old.steps }
+{
+    let candidate = program.with_statement(alloc, statement)?;
+    let mut log = LogWriter::new();
+    let mut text = SureSink::new(alloc);
+    match write_first_lines(alloc, &candidate, &mut log, &mut text) {
+        Ok(()) => judge_behind(alloc, program, figure, statement, log, text),
+        Err(_) => Ok(None),
+    }
+}
+
+/// The same, where its first lines are written.
+fn judge_behind(
+    alloc: Global,
+    program: &Program,
+    figure: &mut Figure,
+    statement: Statement,
+    mut log: LogWriter,
+    mut text: SureSink,
+) -> Result<Option<Judgement>, NoMemory>
+    requires candidate { IsCandidate (source_of program.now) statement }
+    requires figure { IsFigureOf (source_of program.now) figure.old }
+    requires first { Writes (program_lines (with_statement (source_of program.now) statement))
+        (first_state (Some []) 0) (state log (Some text) 0) }
+    ensures judged { IfOk result (λ judgement. IfSome judgement
+        (IsJudged (source_of program.now) figure.old.steps statement)) }
+    ensures figure { OnOk result (IsFigureOf (source_of program.now) figure.new) }
+    ensures steps { figure.new.steps ≡ figure.old.steps }
+{
+    match &figure.conditions {
+        Worked::Met {
+            text: again,
+            lines,
+            left,
+        } => match log.write_again(&mut text, *lines, again.bytes()) {
+            Ok(()) => {
+                let goal = goal_of(alloc, program, &figure.problem.points, statement)?;
+                let judgement = judge_goal(
+                    alloc,
+                    &figure.problem.steps,
+                    &goal,
+                    *left,
+                    &mut figure.findings,
+                    &mut figure.numbers,
+                    log,
+                    text,
+                )?;
+                Ok(Some(judgement))
+            }
+            Err(_) => Ok(None),
+        },
+        Worked::Stopped { error, bytes } if log.has_room(*bytes) => {
+            Ok(Some(Judgement::Open(*error)))
+        }
+        _ => Ok(None),
+    }
+}
+
+/// What is said of a goal behind the lines that are written, where so many steps are left. What the
+/// chains of the conditions have shown stays as it is.
+fn judge_goal(
+    alloc: Global,
+    steps: &Steps,
+    goal: &Goal,
+    left: u64,
+    findings: &mut Findings,
+    numbers: &mut KnownNumbers,
+    mut log: LogWriter,
+    mut text: SureSink,
+) -> Result<Judgement, NoMemory>
+    requires ready { All (IsItemReady steps.now goal.now.terms.nodes) goal.now.goals }
+    requires numbers { IsKnownOf steps.now.nodes numbers.old }
+    requires nonzero { NoneZero findings.old.ends }
+    requires writable { CanWrite Full steps.now (goals_from Full steps.now goal.now.terms.nodes
+        goal.now.goals 0 findings.old.known findings.old.ends left) log.size }
+    ensures said { IfOk result (IsSaid steps.now (goals_from Full steps.now goal.now.terms.nodes
+        goal.now.goals 0 findings.old.known findings.old.ends left)
+        (state log (Some text) 0)) }
+    ensures numbers { IsKnownOf steps.now.nodes numbers.new }
+    ensures known { findings.new.known ≡ findings.old.known }
+    ensures ends { findings.new.ends ≡ findings.old.ends }
+{
+    let shown = findings.ends.items.len();
+    let mut budget = Budget { left };
+    let verdict = work_rest(
+        alloc,
+        Frame::Full,
+        steps,
+        &goal.terms,
+        &goal.goals,
+        findings,
+        numbers,
+        &mut budget,
+        &mut log,
+        &mut text,
+    );
+    findings.ends.items.truncate(shown);
+    match verdict {
+        Ok(verdict) => Ok(judgement_of(verdict, text)),
         Err(error) => opened(error),
     }
 }

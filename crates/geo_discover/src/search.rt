@@ -5,6 +5,7 @@ ghost use Rattle.std.specs.Prelude.{◌+◌, ◌≤◌};
 use crate::answers::answer_to;
 use crate::errors::DiscoverError;
 use crate::examining::{Judgement, judge};
+use crate::figure::Figure;
 use crate::found_lines::{put_candidate, put_counts, put_impossible};
 use crate::found_text::FoundText;
 use geo_base::{Sink, SureSink};
@@ -45,6 +46,7 @@ impl Search {
     ghost use Rattle.geo_discover.specs.FoundTexts.{candidate_lines, nothing, open_still, relation, statement_text};
     ghost use Rattle.geo_discover.specs.Inner.Puts.{BreaksOff, PutsLines};
     ghost use Rattle.geo_discover.specs.Inner.Searching.{Adds, BreaksSearch, Examines, IsCandidate, IsNeverMet, IsUnsettled};
+    ghost use Rattle.geo_discover.specs.Inner.Sharing.{IsFigureOf};
     ghost use Rattle.geo_discover.specs.Inner.Searching.{counts_line, first_of, progress};
 
     /// Nothing is examined yet.
@@ -69,23 +71,27 @@ impl Search {
         &mut self,
         alloc: Global,
         program: &Program,
-        steps: u64,
+        figure: &mut Figure,
         statement: Statement,
         sink: &mut K,
     ) -> Result<(), DiscoverError>
         requires candidate { IsCandidate (source_of program.now) statement }
         requires short { length (program_text program.now) ≤ 67108864 }
+        requires figure { IsFigureOf (source_of program.now) figure.old }
         requires few { self.old.examined + 1 < 2 ^ 64 }
-        ensures ok { OnOk result (Examines (source_of program.now) steps (statement ∷ [])
+        ensures ok { OnOk result (Examines (source_of program.now) figure.old.steps
+            (statement ∷ [])
             (progress self.old (K.held sink.old)) (progress self.new (K.held sink.new))) }
-        ensures err { IfErr result (BreaksSearch (source_of program.now) steps (statement ∷ [])
-            (progress self.old (K.held sink.old)) (K.held sink.new)
+        ensures err { IfErr result (BreaksSearch (source_of program.now) figure.old.steps
+            (statement ∷ []) (progress self.old (K.held sink.old)) (K.held sink.new)
             (K.faults sink.old) (K.faults sink.new)) }
+        ensures figure { OnOk result (IsFigureOf (source_of program.now) figure.new) }
+        ensures steps { figure.new.steps ≡ figure.old.steps }
         ensures faults { K.faults sink.old ≤ K.faults sink.new }
         ensures heard { ¬ IsErrOf result DiscoverError.WriteFault
             → K.faults sink.new ≡ K.faults sink.old }
     {
-        let judgement = judge(alloc, program, steps, statement)?;
+        let judgement = judge(alloc, program, figure, statement)?;
         match judgement {
             Judgement::Relation(log) => self.add_relation(alloc, program, statement, &log, sink),
             Judgement::Open(error) => self.add_open(alloc, program, statement, error, sink),

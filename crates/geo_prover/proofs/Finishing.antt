@@ -1,5 +1,5 @@
 -- From the parts of a log to the log of a program.
-use Rattle.std.proofs.Common.{◌≡◌, ℕ, zero, suc, ◌+◌, ◌-◌, ◌<◌, ◌≤◌, ◌^◌, inl, inr, Some, Ok, Err, List, [], ◌∷◌, ◌++◌, map, length}
+use Rattle.std.proofs.Common.{◌≡◌, All, ℕ, zero, suc, ◌+◌, ◌-◌, ◌<◌, ◌≤◌, ◌^◌, inl, inr, Some, Ok, Err, List, [], ◌∷◌, ◌++◌, map, length}
 use Rattle.std.proofs.Common.{append-nil, append_assoc, refl, sym, ◌∙◌, ap, subst, take, arith}
 use Rattle.std.specs.Prelude.{IfErr, IsErrOf, OnOk, Result, slice_get}
 use Rattle.std.proofs.lemmas.List.{length-append}
@@ -13,7 +13,7 @@ use Rattle.geo_conditions.specs.Lists.{IsProblem, item_form}
 use Rattle.geo_conditions.specs.Problems.{form_of_problem}
 use Rattle.geo_program.specs.WellFormed.{IsWellFormed, Source}
 use Rattle.geo_terms.specs.Constructions.{Construction}
-use Rattle.geo_terms.specs.Stores.{tree_of}
+use Rattle.geo_terms.specs.Stores.{Store}
 use Rattle.proof_log.specs.declared.log.Line.{Line}
 use Rattle.proof_log.specs.declared.log.Line.TheVariants.{Header, Program as ProgramLine}
 use Rattle.proof_log.specs.declared.log.Verdict.{Verdict}
@@ -22,7 +22,7 @@ use Rattle.elim_apply.specs.LemmaTable.{lemma_table}
 use Rattle.elim_apply.proofs.MoveRows.{lemma_table_sound}
 use Rattle.geo_logs.specs.Ends.{Ending, IsDefinedLog, ends_by, ends_with, stop_line, text_length, too_long}
 use Rattle.geo_logs.specs.Defined.{IsLogOfProver}
-use Rattle.geo_logs.specs.Logs.{Subject}
+use Rattle.geo_logs.specs.Logs.{Item, Subject}
 use Rattle.geo_logs.specs.Moves.{Stop, spent, too_large}
 use Rattle.geo_logs.specs.Places.{Place, before_line, first_lines}
 use Rattle.geo_logs.proofs.AcceptedProvers.{provers_log_accepted}
@@ -41,14 +41,14 @@ use Rattle.log_maker.specs.declared.errors.ProveError.TheVariants.{TooLarge, Spe
 use Rattle.geo_prover.specs.declared.summary.Summary.{Summary}
 use Rattle.geo_prover.specs.Proving.{Concludes, IsLogOf, StopsAt, WritesLog, WritesPart}
 use Rattle.geo_prover.specs.Inner.Answers.{IsAnswerOf}
-use Rattle.geo_prover.specs.Inner.FirstLines.{IsBrokenOffAmong, IsPartAmong}
+use Rattle.geo_prover.specs.FirstLines.{IsBrokenOffAmong, IsPartAmong}
 use Rattle.log_maker.specs.declared.frame.Frame.TheVariants.{Full}
 use Rattle.log_maker.specs.declared.size.Size.{Size}
 use Rattle.log_maker.specs.declared.size.Size.TheVariants.{Written}
 use Rattle.log_maker.specs.Sizes.{Fits, HoldsText, IsPast, with_text}
 use Rattle.log_maker.specs.Halting.{Finishes, Halts, IsBrokenOff, IsPieceOfNext, IsStopped, IsTooLong, Passes}
-use Rattle.log_maker.specs.Parts.{CanWrite, IsInside, Part, items_of, log_part}
-use Rattle.log_maker.specs.Tasks.{IsItemReady, IsReady, conditions_from}
+use Rattle.log_maker.specs.Parts.{CanWrite, IsInside, Part, conditions_part, items_of, log_part}
+use Rattle.log_maker.specs.Tasks.{IsItemReady, IsReady}
 use Rattle.log_maker.specs.Written.{State, Writes}
 use Rattle.log_maker.proofs.Listing.{conditions_start}
 use Rattle.log_maker.proofs.Passing.{log_text-append, text_length-append}
@@ -74,14 +74,19 @@ split xs ys n rest piece e same =
     ap (λ zs. xs ++ zs) (e ∙ ap (λ zs. zs ++ rest) (sym same)) ∙ sym (append_assoc xs piece rest)
 
 -- THE SUBJECT
-abbrev pub subject_of : Source → Problem → Subject
-subject_of p problem = record {
+-- a program's subject, with this construction and these items
+abbrev pub subject_with : Source → Construction → List Item → List Item → Subject
+subject_with p c conditions goals = record {
   version = 2;
   program = source_lines p;
-  construction = problem.steps;
-  conditions = items_of problem.steps.nodes problem.conditions;
-  goals = items_of problem.steps.nodes problem.goals;
+  construction = c;
+  conditions = conditions;
+  goals = goals;
 }
+
+abbrev pub subject_of : Source → Problem → Subject
+subject_of p problem =
+    subject_with p problem.steps (items_of problem.steps.nodes problem.conditions) (items_of problem.steps.nodes problem.goals)
 
 -- LINES IN A ROW
 at_length : (before : List Line) (line : Line) (rest : List Line) → slice_get (before ++ line ∷ rest) (length before) ≡ Some line
@@ -92,18 +97,28 @@ take_length : (before rest : List Line) → before ≡ take (length before) (bef
 take_length [] rest = refl
 take_length (x ∷ xs) rest = ap (λ ys. x ∷ ys) (take_length xs rest)
 
-module _ (p : Source) (problem : Problem) (steps : ℕ) (w : IsWellFormed p) (small : steps < 2 ^ 127)
+-- listed items whose terms name what the construction has
+pub items_ready : (c : Construction) (nodes : Store) (items : List ListedItem) → All (λ x. x.term.0 < length nodes) items
+    → ((i : ℕ) (item : Item) → At (items_of nodes items) i item → IsInside c item.term) → All (IsItemReady c nodes) items
+items_ready c nodes items stored named =
+    All-from_recursion (IsItemReady c nodes) items
+    (each_of (IsItemReady c nodes) items
+    (λ i item at. record {
+      stored = each_at (λ (x : ListedItem). x.term.0 < length nodes) items i item
+          (recursion_from_All (λ (x : ListedItem). x.term.0 < length nodes) items stored) at;
+      inside = named i (log_item (item_form nodes item)) (listed_at i item at);
+    }))
+  where
+    listed_at : (i : ℕ) (item : ListedItem) → At items i item → At (items_of nodes items) i (log_item (item_form nodes item))
+    listed_at i item at = at_map log_item (map (item_form nodes) items) i (item_form nodes item) (at_map (item_form nodes) items i item at)
+
+-- OF A PROBLEM
+module _ (p : Source) (problem : Problem) (w : IsWellFormed p)
     (is : IsProblem Two p (form_of_problem problem) problem.conditions problem.goals) where
   abbrev c : Construction
   c = problem.steps
 
-  abbrev subject : Subject
-  subject = subject_of p problem
-
-  abbrev whole : Part
-  whole = log_part Full subject steps
-
-  pub about : IsSubjectOf p subject
+  pub about : IsSubjectOf p (subject_of p problem)
   about = record {
     version = Two;
     form = form_of_problem problem;
@@ -119,31 +134,24 @@ module _ (p : Source) (problem : Problem) (steps : ℕ) (w : IsWellFormed p) (sm
     same_goals = refl;
   }
 
-  -- ITEMS
-  item_ready : (item : ListedItem) → item.term.0 < length c.nodes → IsInside c (tree_of c.nodes item.term) → IsItemReady c c.nodes item
-  item_ready item stored inside = record { stored = stored; inside = inside }
-
   pub ready : IsReady problem
   ready = record {
     conditions =
-        All-from_recursion (IsItemReady c c.nodes) problem.conditions
-        (each_of (IsItemReady c c.nodes) problem.conditions
-        (λ i item at. item_ready item (each_at (λ (x : ListedItem). x.term.0 < length c.nodes) problem.conditions i item
-        (recursion_from_All (λ (x : ListedItem). x.term.0 < length c.nodes) problem.conditions is.conditions.stored) at)
-        (conditions_named p subject w (parts_of p subject about) i (log_item (item_form c.nodes item))
-        (listed_at problem.conditions i item at)).0));
+        items_ready c c.nodes problem.conditions is.conditions.stored
+        (λ i item at. (conditions_named p (subject_of p problem) w (parts_of p (subject_of p problem) about) i item at).0);
     goals =
-        All-from_recursion (IsItemReady c c.nodes) problem.goals
-        (each_of (IsItemReady c c.nodes) problem.goals
-        (λ i item at. item_ready item (each_at (λ (x : ListedItem). x.term.0 < length c.nodes) problem.goals i item
-        (recursion_from_All (λ (x : ListedItem). x.term.0 < length c.nodes) problem.goals is.goals.stored) at)
-        (goals_named p subject w (parts_of p subject about) i (log_item (item_form c.nodes item)) (listed_at problem.goals i item at)).0));
+        items_ready c c.nodes problem.goals is.goals.stored
+        (λ i item at. (goals_named p (subject_of p problem) w (parts_of p (subject_of p problem) about) i item at).0);
   }
-    where
-      listed_at : (items : List ListedItem) (i : ℕ) (item : ListedItem) → At items i item
-          → At (items_of c.nodes items) i (log_item (item_form c.nodes item))
-      listed_at items i item at = at_map log_item (map (item_form c.nodes) items) i (item_form c.nodes item)
-          (at_map (item_form c.nodes) items i item at)
+
+-- OF A SUBJECT
+module _ (p : Source) (c : Construction) (conditions goals : List Item) (steps : ℕ) (w : IsWellFormed p) (small : steps < 2 ^ 127)
+    (about : IsSubjectOf p (subject_with p c conditions goals)) where
+  abbrev subject : Subject
+  subject = subject_with p c conditions goals
+
+  abbrev whole : Part
+  whole = log_part Full subject steps
 
   -- WRITING
   pub can_write : (z : Size) → z ≡ Written 0 → CanWrite Full c whole z
@@ -154,7 +162,7 @@ module _ (p : Source) (problem : Problem) (steps : ℕ) (w : IsWellFormed p) (sm
 
   -- behind the header and the program come the conditions
   pub past_program : (s t : State) → Writes (Header 2 ∷ map ProgramLine (source_lines p)) s t
-      → Passes whole (conditions_from Full problem 0 [] [] steps) s t
+      → Passes whole (conditions_part Full c goals [] [] 1 steps conditions) s t
   past_program s t h = record {
     lines = first_lines subject;
     continues = record {

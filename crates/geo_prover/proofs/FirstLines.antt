@@ -17,7 +17,7 @@ use Rattle.proof_log.specs.Lines.{log_text}
 use Rattle.proof_log.specs.Writable.{HasNoLineFeed}
 use Rattle.log_maker.specs.declared.errors.ProveError.{ProveError}
 use Rattle.log_maker.specs.declared.errors.ProveError.TheVariants.{TooLarge, Spent, TooLong, WriteFault, NoMemory}
-use Rattle.geo_prover.specs.Inner.FirstLines.{IsBrokenOffAmong, IsPartAmong, IsTooLongAmong, pieces}
+use Rattle.geo_prover.specs.FirstLines.{IsBrokenOffAmong, IsPartAmong, IsTooLongAmong, pieces}
 use Rattle.log_maker.specs.Sizes.{Fits, HoldsText, IsPast, with_text}
 use Rattle.log_maker.specs.Written.{IsCutOff, IsUnwritten, State, Writes}
 use Rattle.log_maker.proofs.Passing.{held_on, log_text-append, sized_on, writes_more}

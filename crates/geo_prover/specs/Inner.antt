@@ -1,3 +1,2 @@
--- What private functions speak of: the first lines, and all answers in one. No public contract cites it.
-pub mod FirstLines
+-- What private functions speak of: all answers in one. No public contract cites it.
 pub mod Answers

@@ -1,3 +1,4 @@
+pub mod FirstLines
 pub mod Proving
 pub mod Inner
 pub mod Bench

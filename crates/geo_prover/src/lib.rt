@@ -8,5 +8,6 @@ mod summary;
 
 pub use bench::bench_program;
 pub use log_maker::ProveError;
+pub use program_lines::write_first_lines;
 pub use proving::prove;
 pub use summary::Summary;

@@ -6,7 +6,7 @@ ghost use Rattle.geo_program.specs.Programs.{source_of};
 ghost use Rattle.log_checker.specs.Subjects.{source_lines};
 ghost use Rattle.proof_log.specs.declared.log.Line.TheVariants.{Header, Program as ProgramLine};
 ghost use Rattle.proof_log.specs.Writable.{HasNoLineFeed};
-ghost use Rattle.geo_prover.specs.Inner.FirstLines.{IsBrokenOffAmong, pieces};
+ghost use Rattle.geo_prover.specs.FirstLines.{IsBrokenOffAmong, pieces};
 ghost use Rattle.log_maker.specs.Written.{Writes, state};
 
 use geo_base::{Sink, Text};

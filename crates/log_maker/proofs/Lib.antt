@@ -5,3 +5,4 @@ pub mod Framing
 pub mod Chaining
 pub mod Listing
 pub mod Sampling
+pub mod Again

@@ -59,6 +59,14 @@ IsUnwritten line s t TooLong = IsLeftOut line s t
 IsUnwritten line s t WriteFault = IsCutOff line s t × HasRisen s.faults t.faults
 IsUnwritten line s t NoMemory = IsCutOff line s t × (t.faults ≡ s.faults)
 
+-- why the text was not written: it is past the limit; or the first bytes of it were written
+abbrev pub IsTextUnwritten : List ℕ → State → State → ProveError → Type 0
+IsTextUnwritten text s t (TooLarge n which) = ⊥
+IsTextUnwritten text s t (Spent n) = ⊥
+IsTextUnwritten text s t TooLong = IsPast (with_text s.size (length text)) × (t.held ≡ s.held) × (t.faults ≡ s.faults)
+IsTextUnwritten text s t WriteFault = WritesSome text s t × HasRisen s.faults t.faults
+IsTextUnwritten text s t NoMemory = WritesSome text s t × (t.faults ≡ s.faults)
+
 -- the line of the stop was written, or would be next, and has this number
 pub record IsStopWritten (stop : Stop) (number : ℕ) (s t : State) : Type 0 where
   pub last : number ≡ suc s.lines

@@ -1,11 +1,13 @@
 //! Writes a log line by line, within the limit of its text; or counts its lines.
 
-ghost use Rattle.std.specs.Prelude.{◌≡◌, ◌+◌, ◌*◌, ◌^◌, ◌<◌, [], ◌∷◌, IfErr, OnOk};
+ghost use Rattle.std.specs.Prelude.{◌≡◌, ◌+◌, ◌*◌, ◌^◌, ◌<◌, [], ◌∷◌, IfErr, List, OnOk, T, length};
 ghost use Rattle.geo_logs.specs.Moves.{spent, too_large};
-ghost use Rattle.log_maker.specs.Sizes.{Fits, IsTakable};
+ghost use Rattle.log_maker.specs.Sizes.{Fits, IsTakable, with_text};
+ghost use Rattle.proof_log.specs.declared.log.Line.{Line};
+ghost use Rattle.proof_log.specs.Lines.{log_text};
 
 use crate::errors::ProveError;
-use crate::putting::{put_line, put_within};
+use crate::putting::{has_room, put_again, put_line, put_within};
 use crate::size::Size;
 use geo_base::Sink;
 use geo_poly::Which;
@@ -24,7 +26,7 @@ pub struct LogWriter {
 }
 
 impl LogWriter {
-    ghost use Rattle.log_maker.specs.Written.{HasStopped, IsUnwritten, Writes, state};
+    ghost use Rattle.log_maker.specs.Written.{HasStopped, IsTextUnwritten, IsUnwritten, Writes, state};
 
     /// Nothing has been written.
     pub fn new() -> LogWriter
@@ -72,6 +74,40 @@ impl LogWriter {
         self.size = size;
         self.lines += 1;
         Ok(())
+    }
+
+    /// Writes so many lines by their text, where it is within the limit. It may be that of lines
+    /// of another log.
+    #[tactic(auto, using(crate::proofs::Again::written_again, crate::proofs::Again::none_again))]
+    pub fn write_again<K: Sink>(
+        &mut self,
+        sink: &mut K,
+        lines: u64,
+        text: &[u8],
+    ) -> Result<(), ProveError>
+        ensures ok { (again : List Line) → text.now ≡ log_text again → lines ≡ length again
+            → OnOk result (Writes again
+            (state self.old (K.held sink.old) (K.faults sink.old))
+            (state self.new (K.held sink.new) (K.faults sink.new))) }
+        ensures err { IfErr result (IsTextUnwritten text.now
+            (state self.old (K.held sink.old) (K.faults sink.old))
+            (state self.new (K.held sink.new) (K.faults sink.new))) }
+    {
+        // More lines than a number can tell are answered by want of memory.
+        if lines >= u64::MAX - 1 - self.lines {
+            return Err(ProveError::NoMemory);
+        }
+        let size = put_again(sink, self.size, text)?;
+        self.size = size;
+        self.lines += lines;
+        Ok(())
+    }
+
+    /// Whether so many more bytes of text are within the limit.
+    pub fn has_room(&self, bytes: u64) -> bool
+        ensures { T result → Fits (with_text self.now.size bytes) }
+    {
+        has_room(self.size, bytes)
     }
 
     /// Writes the line of a stop whose charge is not paid, and answers the stop.

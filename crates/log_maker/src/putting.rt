@@ -1,11 +1,11 @@
 //! The text of one line, put into a sink.
 
-ghost use Rattle.std.specs.Prelude.{◌≡◌, ◌+◌, ◌≤◌, ℕ, [], ◌∷◌, take, IfErr, IfOk, IsErrOf, OnErr, OnOk};
+ghost use Rattle.std.specs.Prelude.{◌≡◌, ◌+◌, ◌≤◌, ℕ, [], ◌∷◌, length, take, IfErr, IfOk, IsErrOf, OnErr, OnOk, T};
 ghost use Rattle.geo_base.specs.Devices.{Grows, HasRisen};
 ghost use Rattle.geo_logs.specs.Ends.{text_length};
 ghost use Rattle.log_maker.specs.Causes.{IsOfSink};
 ghost use Rattle.log_maker.specs.Sizes.{Fits, HoldsText, IsTakable, with_text};
-ghost use Rattle.log_maker.specs.Written.{IsUnwritten};
+ghost use Rattle.log_maker.specs.Written.{IsTextUnwritten, IsUnwritten};
 ghost use Rattle.proof_log.specs.Lines.{log_text};
 ghost use Rattle.proof_log.specs.Writable.{IsWritable};
 
@@ -68,6 +68,53 @@ fn put_text<K: Sink>(
     }
     put(sink, &text.bytes)?;
     Ok(bytes + count)
+}
+
+/// Writes a text where lines are written, within its limit, and answers the size then.
+pub(crate) fn put_again<K: Sink>(sink: &mut K, size: Size, text: &[u8]) -> Result<Size, ProveError>
+    requires fits { Fits size }
+    ensures size { IfOk result (λ new. new ≡ with_text size (length text.now)) }
+    ensures fits { IfOk result Fits }
+    ensures ok { OnOk result (HoldsText size (K.held sink.old) text.now (K.held sink.new)) }
+    ensures err { (lines : ℕ) → IfErr result (IsTextUnwritten text.now
+        (record { lines = lines; size = size; held = K.held sink.old; faults = K.faults sink.old })
+        (record { lines = lines; size = size; held = K.held sink.new; faults = K.faults sink.new })) }
+    ensures faults { OnOk result (K.faults sink.new ≡ K.faults sink.old) }
+{
+    match size {
+        Size::Written(bytes) => Ok(Size::Written(put_bytes(sink, bytes, text)?)),
+        Size::Counted => Ok(size),
+    }
+}
+
+/// Writes a text behind so many bytes, within the limit, and answers how many there are then.
+fn put_bytes<K: Sink>(sink: &mut K, bytes: u64, text: &[u8]) -> Result<u64, ProveError>
+    requires fits { bytes ≤ 67108864 }
+    ensures sum { IfOk result (λ n. n ≡ bytes + length text.now) }
+    ensures fits { IfOk result (λ n. n ≤ 67108864) }
+    ensures ok { OnOk result (Grows (K.held sink.old) text.now (K.held sink.new)) }
+    ensures err { (lines : ℕ) → IfErr result (IsTextUnwritten text.now
+        (record { lines = lines; size = Size.Written bytes; held = K.held sink.old; faults = K.faults sink.old })
+        (record { lines = lines; size = Size.Written bytes; held = K.held sink.new; faults = K.faults sink.new })) }
+    ensures faults { OnOk result (K.faults sink.new ≡ K.faults sink.old) }
+{
+    let count = text.len() as u64;
+    if count > LOG_LIMIT - bytes {
+        return Err(ProveError::TooLong);
+    }
+    put(sink, text)?;
+    Ok(bytes + count)
+}
+
+/// Whether so many more bytes are within the limit.
+pub(crate) fn has_room(size: Size, bytes: u64) -> bool
+    requires { Fits size }
+    ensures { T result → Fits (with_text size bytes) }
+{
+    match size {
+        Size::Written(before) => bytes <= LOG_LIMIT - before,
+        Size::Counted => true,
+    }
 }
 
 /// Writes a line, whatever the limit.

@@ -5,6 +5,7 @@ use Rattle.geo_program.specs.declared.statements.Statement.{Statement}
 use Rattle.geo_program.specs.Forms.{statement_form}
 use Rattle.geo_program.specs.Relations.{IsRelation}
 use Rattle.geo_program.specs.WellFormed.{IsArgument, Source, empty_scope, scope_of}
+use Rattle.geo_conditions.specs.Statements.{statement_conditions, statement_goals}
 use Rattle.geo_logs.specs.Ends.{ends_by, ends_with, too_long}
 use Rattle.geo_logs.specs.Moves.{spent, too_large}
 use Rattle.proof_log.specs.declared.log.Verdict.{Verdict}
@@ -23,9 +24,11 @@ use Rattle.geo_discover.specs.FoundTexts.{candidate_lines, first_impossible, imp
 use Rattle.geo_discover.specs.FoundTexts.{opens, outcome_of, relation, relations, statement_text}
 use Rattle.geo_discover.specs.Inner.Puts.{BreaksOff, PutsLines}
 
--- a relation of points that the program declares
+-- a relation of points that the program declares, without conditions of its own, and one goal
 pub record IsCandidate (p : Source) (s : Statement) : Type 0 where
   pub relation : IsRelation s
+  pub unconditional : statement_conditions p.nodes s ≡ []
+  pub one_goal : statement_goals p.nodes s ≡ s ∷ []
   pub points : All (IsArgument (scope_of empty_scope p.names)) (statement_form p.nodes s).arguments
 
 -- ONE CANDIDATE

@@ -1,33 +1,21 @@
-use Rattle.std.proofs.Common.{◌≡◌, arith, rules}
+use Rattle.std.proofs.Common.{◌≡◌, ◌∙◌, None, List, sym, ap, subst}
+use Rattle.std.specs.Option.{option_copied}
+use Rattle.std.specs.Prelude.{slice_get}
+use Rattle.geo_program.specs.declared.statements.Statement.{Statement}
 use Rattle.geo_program.specs.Programs.{source_of}
-use Rattle.geo_discover.specs.Inner.Searching.{progress}
+use Rattle.geo_discover.specs.Inner.Searching.{Examines, progress}
 use Rattle.geo_discover.proofs.Putting.{if_err}
-use Rattle.geo_discover.proofs.SearchSteps.{counted_so_far, examines_none, one_breaks, one_more}
+use Rattle.geo_discover.proofs.SearchSteps.{examines_none, is_none, no_first, none_broken}
 use Rattle.geo_discover.proofs.discovering.examine_all.Goals as goal
 
-pub loop-statement-init : goal.loop-statement-init
-loop-statement-init g c = (
-  examines_none (source_of c.args.program.now) c.args.steps (progress c.args.search.now (g.K.Sink.held c.args.sink.now)) c.args.search.now.text.within,
-  omega arith,
-)
+pub returns-in_default-clause-ok : goal.returns-in_default-clause-ok
+returns-in_default-clause-ok g c =
+    let s = progress c.args.search.now (g.K.Sink.held c.args.sink.now) in
+    let none : slice_get c.args.all.now 0 ≡ None =
+    sym c.first.ensures.value ∙ ap (λ o. option_copied o) (is_none c.first.result c.in_default.not-Some) in
+    subst (λ (xs : List Statement). Examines (source_of c.args.program.now) c.args.steps xs s s) (sym (no_first c.args.all.now none))
+    (examines_none (source_of c.args.program.now) c.args.steps s c.args.search.now.text.within)
 
-pub examine-requires-clause-few : goal.examine-requires-clause-few
-examine-requires-clause-few g c =
-    let n = counted_so_far (source_of c.args.program.now) c.args.steps c.args.all.now c.loop-statement.statement-index _ _ c.loop-statement-test.true
-    c.requires.none c.loop-statement.invariant.0 in
-    omega (arith, n, c.loop-statement-test.true)
-
-pub loop-statement-preserved : goal.loop-statement-preserved
-loop-statement-preserved g c = (
-  one_more (source_of c.args.program.now) c.args.steps c.args.all.now c.loop-statement.statement-index _ _ _ _ c.loop-statement-test.true
-      c.loop-statement.invariant.0 c.in_ok-examine.ensures.ok,
-  (let kept : g.K.Sink.faults c.examine.new.sink ≡ g.K.Sink.faults c.loop-statement.sink = search rules in
-      omega (arith, c.loop-statement.invariant.1, kept)),
-)
-
-pub returns-in_err-examine-clause-err : goal.returns-in_err-examine-clause-err
-returns-in_err-examine-clause-err g c =
-    if_err _ _ c.in_err-examine.field-0.0 c.from_residual.ensures.1
-    (one_breaks (source_of c.args.program.now) c.args.steps c.args.all.now c.loop-statement.statement-index _ _ _ _ _ _ _
-    c.in_err-examine.field-0.0 c.loop-statement-test.true c.loop-statement.invariant.0 (omega (arith, c.loop-statement.invariant.1))
-    c.in_err-examine.ensures.err)
+pub returns-in_err-figure-clause-err : goal.returns-in_err-figure-clause-err
+returns-in_err-figure-clause-err g c =
+    if_err _ _ _ c.from_residual.ensures.1 (none_broken _ _ _ _ _ _ c.args.search.now.text.within)

@@ -8,9 +8,7 @@ use Rattle.geo_discover.proofs.fixing.fixed_all.Goals as goal
 
 pub work-requires-clause-ready : goal.work-requires-clause-ready
 work-requires-clause-ready c =
-    let small : c.args.steps < 2 ^ 127 = omega (arith, c.ranges.steps) in
-    ready (source_of c.args.program.now) c.in_ok-problem.problem c.args.steps
-    (program_well_formed c.args.program.now) small c.in_ok-problem.ensures
+    ready (source_of c.args.program.now) c.in_ok-problem.problem (program_well_formed c.args.program.now) c.in_ok-problem.ensures
 
 pub work-requires-clause-writable : goal.work-requires-clause-writable
 work-requires-clause-writable c =

@@ -1,7 +1,7 @@
 use Rattle.std.proofs.Common.{◌≡◌, ℕ, List, length}
 use Rattle.std.specs.List.{AllByRecursion}
 use Rattle.proof_log.specs.Writable.{HasNoLineFeed}
-use Rattle.geo_prover.specs.Inner.FirstLines.{pieces}
+use Rattle.geo_prover.specs.FirstLines.{pieces}
 use Rattle.log_maker.specs.Written.{state}
 use Rattle.geo_prover.proofs.FirstLines.{IsBetween}
 use Rattle.geo_prover.proofs.program_lines.write_pieces.Given as goal

@@ -1,4 +1,3 @@
-use Rattle.std.proofs.Common.{◌<◌, ◌^◌, arith}
 use Rattle.std.proofs.lemmas.Result.{IfErr-weaker, on_ok_weaker}
 use Rattle.geo_program.specs.Programs.{source_of}
 use Rattle.geo_program.proofs.Propositions.{program_well_formed}
@@ -14,48 +13,46 @@ returns-in_err-judgement-clause-err g c =
 
 pub returns-in-Relation-clause-ok : goal.returns-in-Relation-clause-ok
 returns-in-Relation-clause-ok g c =
-    let small : c.args.steps < 2 ^ 127 = omega (arith, c.ranges.steps) in
     on_ok_weaker c.add_relation.result
-    (λ added. relation_examined (source_of c.args.program.now) c.args.steps c.args.statement _ _ _ _ (program_well_formed c.args.program.now) small
-    c.requires.candidate c.in_ok-judgement.ensures c.in-Relation.is added)
+    (λ added. relation_examined (source_of c.args.program.now) c.args.figure.now.steps c.args.statement _ _ _ _ (program_well_formed c.args.program.now) c.requires.figure.small
+    c.requires.candidate c.in_ok-judgement.ensures.judged c.in-Relation.is added)
     c.add_relation.ensures.ok
 
 pub returns-in-Relation-clause-err : goal.returns-in-Relation-clause-err
 returns-in-Relation-clause-err g c =
-    let small : c.args.steps < 2 ^ 127 = omega (arith, c.ranges.steps) in
     IfErr-weaker c.add_relation.result _ _
-    (λ e broken. relation_broken (source_of c.args.program.now) c.args.steps c.args.statement _ _ _ _ _ _ e
-    (program_well_formed c.args.program.now) small c.requires.candidate c.in_ok-judgement.ensures c.in-Relation.is broken)
+    (λ e broken. relation_broken (source_of c.args.program.now) c.args.figure.now.steps c.args.statement _ _ _ _ _ _ e
+    (program_well_formed c.args.program.now) c.requires.figure.small c.requires.candidate c.in_ok-judgement.ensures.judged c.in-Relation.is broken)
     c.add_relation.ensures.err
 
 pub returns-in-Open-clause-ok : goal.returns-in-Open-clause-ok
 returns-in-Open-clause-ok g c =
     on_ok_weaker c.add_open.result
-    (λ added. open_examined (source_of c.args.program.now) c.args.steps c.args.statement _ _ _ _ c.in_ok-judgement.ensures c.in-Open.is added)
+    (λ added. open_examined (source_of c.args.program.now) c.args.figure.now.steps c.args.statement _ _ _ _ c.in_ok-judgement.ensures.judged c.in-Open.is added)
     c.add_open.ensures.ok
 
 pub returns-in-Open-clause-err : goal.returns-in-Open-clause-err
 returns-in-Open-clause-err g c =
     IfErr-weaker c.add_open.result _ _
-    (λ e broken. open_broken (source_of c.args.program.now) c.args.steps c.args.statement _ _ _ _ _ _ e c.in_ok-judgement.ensures c.in-Open.is broken)
+    (λ e broken. open_broken (source_of c.args.program.now) c.args.figure.now.steps c.args.statement _ _ _ _ _ _ e c.in_ok-judgement.ensures.judged c.in-Open.is broken)
     c.add_open.ensures.err
 
 pub returns-in-Fails-clause-ok : goal.returns-in-Fails-clause-ok
 returns-in-Fails-clause-ok g c =
     on_ok _ c.add_nothing.result
-    (fails_examined (source_of c.args.program.now) c.args.steps c.args.statement _ _ _ c.in_ok-judgement.ensures c.in-Fails.is
+    (fails_examined (source_of c.args.program.now) c.args.figure.now.steps c.args.statement _ _ _ c.in_ok-judgement.ensures.judged c.in-Fails.is
     (c.add_nothing.ensures.added (g.K.Sink.held c.args.sink.now)))
 
 pub returns-in-Impossible-clause-ok : goal.returns-in-Impossible-clause-ok
 returns-in-Impossible-clause-ok g c =
     on_ok_weaker c.add_impossible.result
-    (λ added. impossible_examined (source_of c.args.program.now) c.args.steps c.args.statement _ _ _ _ c.in_ok-judgement.ensures c.in-Impossible.is
+    (λ added. impossible_examined (source_of c.args.program.now) c.args.figure.now.steps c.args.statement _ _ _ _ c.in_ok-judgement.ensures.judged c.in-Impossible.is
     added)
     c.add_impossible.ensures.ok
 
 pub returns-in-Impossible-clause-err : goal.returns-in-Impossible-clause-err
 returns-in-Impossible-clause-err g c =
     IfErr-weaker c.add_impossible.result _ _
-    (λ e broken. impossible_broken (source_of c.args.program.now) c.args.steps c.args.statement _ _ _ _ _ _ e c.in_ok-judgement.ensures
+    (λ e broken. impossible_broken (source_of c.args.program.now) c.args.figure.now.steps c.args.statement _ _ _ _ _ _ e c.in_ok-judgement.ensures.judged
     c.in-Impossible.is broken)
     c.add_impossible.ensures.err

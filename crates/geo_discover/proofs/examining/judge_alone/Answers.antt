@@ -4,7 +4,7 @@ use Rattle.geo_program.specs.Programs.{source_of}
 use Rattle.geo_prover.specs.Proving.{Concludes}
 use Rattle.geo_discover.specs.Inner.Searching.{IsJudged}
 use Rattle.geo_discover.proofs.Judging.{judged_error, judged_verdict, no_rise}
-use Rattle.geo_discover.proofs.examining.judge.Goals as goal
+use Rattle.geo_discover.proofs.examining.judge_alone.Goals as goal
 
 pub with_statement-requires-clause-relation : goal.with_statement-requires-clause-relation
 with_statement-requires-clause-relation c = c.requires.candidate.relation

@@ -1,0 +1,212 @@
+-- A candidate's log, put together from what all candidates have in common.
+use Rattle.std.proofs.Common.{◌≡◌, ◌≢◌, ◌⊎◌, All, ℕ, suc, ◌+◌, ◌-◌, ◌<◌, ◌≤◌, ◌^◌, inl, inr, Some, Contains, List, [], ◌∷◌, ◌++◌, map, length}
+use Rattle.std.proofs.Common.{refl, sym, ◌∙◌, ap, subst, arith}
+use Rattle.std.proofs.lemmas.List.{length-append}
+use Rattle.geo_conditions.specs.declared.items.Item.{Item as ListedItem}
+use Rattle.geo_base.specs.Devices.{HasRisen}
+use Rattle.geo_conditions.specs.Lists.{Found, IsListed, IsProblem, found_at, found_from, goal_item, item_form}
+use Rattle.geo_conditions.specs.Statements.{statement_conditions}
+use Rattle.geo_lowering.specs.Conditions.{Condition}
+use Rattle.geo_lowering.specs.Lowering.{LoweredForm}
+use Rattle.geo_lowering.specs.declared.version.Version.TheVariants.{Two}
+use Rattle.geo_logs.specs.Ends.{stop_line, text_length}
+use Rattle.geo_logs.specs.Logs.{Item}
+use Rattle.geo_logs.specs.Moves.{Stop, spent, too_large}
+use Rattle.geo_logs.specs.Places.{first_lines}
+use Rattle.geo_poly.specs.declared.variables.Var.{Var}
+use Rattle.geo_poly.specs.Polynomials.{Summands}
+use Rattle.geo_program.specs.declared.statements.Statement.{Statement}
+use Rattle.geo_program.specs.Relations.{with_statement}
+use Rattle.geo_program.specs.WellFormed.{IsWellFormed, Source}
+use Rattle.geo_terms.specs.Constructions.{Construction}
+use Rattle.geo_terms.specs.Stores.{Store}
+use Rattle.proof_log.specs.declared.log.Line.{Line}
+use Rattle.proof_log.specs.declared.log.Verdict.{Verdict}
+use Rattle.proof_log.specs.Lines.{log_text}
+use Rattle.log_checker.specs.Subjects.{IsSubjectOf, log_item}
+use Rattle.log_checker.proofs.Realised.{goals_named}
+use Rattle.log_checker.proofs.Verdicts.{parts_of}
+use Rattle.log_maker.specs.declared.errors.ProveError.{ProveError}
+use Rattle.log_maker.specs.declared.errors.ProveError.TheVariants as stopped
+use Rattle.log_maker.specs.declared.frame.Frame.TheVariants.{Full}
+use Rattle.log_maker.specs.declared.size.Size.{Size}
+use Rattle.log_maker.specs.declared.size.Size.TheVariants.{Written}
+use Rattle.log_maker.specs.Halting.{Finishes, Halts, IsStopped, Passes}
+use Rattle.log_maker.specs.Parts.{CanWrite, Part, goals_part, items_of, log_part}
+use Rattle.log_maker.specs.Sizes.{Fits, with_text}
+use Rattle.log_maker.specs.Tasks.{IsItemReady}
+use Rattle.log_maker.specs.Written.{State, Writes, first_state}
+use Rattle.log_maker.proofs.Passing.{can_write_on, finishes_on, halts_on, passes_on, text_length-append}
+use Rattle.geo_prover.specs.declared.summary.Summary.{Summary}
+use Rattle.geo_prover.specs.Inner.Answers.{IsAnswerOf}
+use Rattle.geo_prover.specs.Proving.{Concludes}
+use Rattle.geo_prover.proofs.Finishing.{can_write, concluded, halted, items_ready, past_program, subject_with}
+use Rattle.geo_discover.specs.declared.examining.Judgement.{Judgement}
+use Rattle.geo_discover.specs.declared.examining.Judgement.TheVariants as judged
+use Rattle.geo_discover.specs.Inner.Searching.{IsCandidate, IsJudged, judgement_by}
+use Rattle.geo_discover.specs.Inner.Sharing.{AreMet, IsSaid, IsStoppedBy, IsStoppedThere, from_conditions, program_lines}
+use Rattle.geo_discover.proofs.FixedAnswers.{front_count}
+use Rattle.geo_discover.proofs.Judging.{judged_error, judged_verdict, no_rise}
+
+-- THE SUBJECT
+nothing_contained : {A : Type 0} (x : A) → Contains [] x → ⊥
+nothing_contained x h = omega (arith, h.1)
+
+module _ (p : Source) (first s : Statement) (l : LoweredForm) (cs gs : List ListedItem) (a : IsCandidate p first) (b : IsCandidate p s)
+    (h : IsProblem Two (with_statement p first) l cs gs) where
+  -- the conditions are those of the commands
+  same_conditions : found_from p.nodes 0 1 p.commands ++ found_at (suc (length p.commands)) (statement_conditions p.nodes first)
+      ≡ found_from p.nodes 0 1 p.commands ++ found_at (suc (length p.commands)) (statement_conditions p.nodes s)
+  same_conditions =
+      ap (λ (xs : List Condition). found_from p.nodes 0 1 p.commands ++ found_at (suc (length p.commands)) xs)
+      (a.unconditional ∙ sym b.unconditional)
+
+  -- with the goal of another candidate this is its subject
+  pub shared_about : (goals : List Item) → goals ≡ log_item (goal_item Two p s) ∷ []
+      → IsSubjectOf (with_statement p s) (subject_with (with_statement p s) l.construction (items_of l.construction.nodes cs) goals)
+  shared_about goals e = record {
+    version = Two;
+    form = l;
+    conditions = map (item_form l.construction.nodes) cs;
+    goals = goal_item Two p s ∷ [];
+    lowered = record {
+      valid = h.lowered.valid;
+      steps = h.lowered.steps;
+      numbers = h.lowered.numbers;
+      points = h.lowered.points;
+      lines = h.lowered.lines;
+      params = h.lowered.params;
+      after = h.lowered.after;
+    };
+    listed_conditions = record {
+      conditions = h.conditions.are.conditions;
+      listed = subst (λ (xs : List Found). IsListed (λ f. f.condition) [] xs h.conditions.are.conditions) same_conditions
+          h.conditions.are.listed;
+      written = h.conditions.are.written;
+    };
+    listed_goals = record {
+      goals = s ∷ [];
+      listed = subst (λ (xs : List Statement). IsListed (λ g. g) [] xs (s ∷ [])) (sym b.one_goal) (inr (nothing_contained s, refl));
+      written = refl;
+    };
+    same_version = refl;
+    same_program = refl;
+    same_construction = refl;
+    same_conditions = refl;
+    same_goals = e;
+  }
+
+-- the goal's term names what the construction has
+pub goal_ready : (q : Source) (c : Construction) (conditions : List Item) (nodes : Store) (items : List ListedItem) → IsWellFormed q
+    → IsSubjectOf q (subject_with q c conditions (items_of nodes items)) → All (λ x. x.term.0 < length nodes) items
+    → All (IsItemReady c nodes) items
+goal_ready q c conditions nodes items w about stored =
+    let subject = subject_with q c conditions (items_of nodes items) in
+    items_ready c nodes items stored (λ i item at. (goals_named q subject w (parts_of q subject about) i item at).0)
+
+-- THE LOG
+module _ (p : Source) (s : Statement) (c : Construction) (conditions goals : List Item) (steps : ℕ)
+    (w : IsWellFormed (with_statement p s)) (small : steps < 2 ^ 127)
+    (about : IsSubjectOf (with_statement p s) (subject_with (with_statement p s) c conditions goals)) where
+  abbrev q : Source
+  q = with_statement p s
+
+  abbrev whole : Part
+  whole = log_part Full (subject_with q c conditions goals) steps
+
+  -- behind the first lines and the conditions
+  pub past_conditions : (known : List Var) (ends : List Summands) (text : List ℕ) (count left : ℕ) (r t u : State)
+      → Writes (program_lines q) r t
+      → AreMet c conditions steps known ends text count left goals
+      → ((lines : List Line) → text ≡ log_text lines → count ≡ length lines → Writes lines t u)
+      → Passes whole (goals_part Full c known ends 1 left goals) r u
+  past_conditions known ends text count left r t u h met again =
+      passes_on whole (from_conditions c conditions steps goals) (goals_part Full c known ends 1 left goals) r t u
+      (past_program q c conditions goals steps w small about r t h)
+      (record { lines = met.lines; continues = met.continues; written = again met.lines met.text_is met.counted })
+
+  pub goal_writable : (part : Part) (r u : State) → r.size ≡ Written 0 → Passes whole part r u → CanWrite Full c part u.size
+  goal_writable part r u none h =
+      can_write_on Full c whole part r u h (can_write q c conditions goals steps w small about r.size none)
+
+  -- ANSWERS
+  judged_answer : (r t : State) (e : ProveError) → r.faults ≡ 0 → t.faults ≡ r.faults → e ≢ stopped.NoMemory → IsAnswerOf q steps r t e
+      → IsJudged p steps s (judged.Open e)
+  judged_answer r t e zero_there same other h =
+      judged_error p q s steps refl e r.held t.held (λ line is. (told (stopped.Spent line) is).0)
+      (λ line which is. (told (stopped.TooLarge line which) is).0) (λ is. (told stopped.TooLong is).0)
+      (λ is. let z : t.faults ≡ 0 = same ∙ zero_there in
+      no_rise (subst (λ n. HasRisen n 0) zero_there (subst (λ n. HasRisen r.faults n) z (told stopped.WriteFault is).0)))
+      other
+    where
+      told : (x : ProveError) → e ≡ x → IsAnswerOf q steps r t x
+      told x is = subst (λ y. IsAnswerOf q steps r t y) is h
+
+  -- what is said of the rest is what the whole log says
+  module _ (r : State) (lines_none : r.lines ≡ 0) (size_none : r.size ≡ Written 0) (held_none : r.held ≡ Some []) (faults_none : r.faults ≡ 0) where
+    pub said_judged : (part : Part) (u : State) (judgement : Judgement) → Passes whole part r u → u.faults ≡ r.faults
+        → IsSaid c part u judgement → IsJudged p steps s judgement
+    said_judged part u judgement passed sound h = go h.said
+      where
+        go : ((verdict : Verdict) × (left : ℕ) × (log : List ℕ) × (judgement ≡ judgement_by verdict log) × (h.after.held ≡ Some log)
+            × Fits h.after.size × Finishes part u h.after verdict left)
+            ⊎ ((error : ProveError) × (judgement ≡ judged.Open error) × (error ≢ stopped.NoMemory) × (h.after.faults ≡ u.faults)
+            × Halts Full c part u h.after error) → IsJudged p steps s judgement
+        go (inl (verdict, left, log, is, held, fits, finished)) =
+            let summary : Summary = record { verdict = verdict; lines = h.after.lines; charge = steps - left } in
+            let all = finishes_on whole part r u h.after verdict left passed finished in
+            let done : Concludes q steps r.held h.after.held summary =
+            concluded q c conditions goals steps w small about r h.after lines_none size_none summary left all fits refl refl in
+            subst (IsJudged p steps s) (sym is)
+            (judged_verdict p q s steps refl summary log
+            (subst (λ x. Concludes q steps (Some []) x summary) held (subst (λ x. Concludes q steps x h.after.held summary) held_none done)))
+        go (inr (error, is, other, same, halts)) =
+            subst (IsJudged p steps s) (sym is)
+            (judged_answer r h.after error faults_none (same ∙ sound) other
+            (halted q c conditions goals steps w small about r h.after lines_none size_none error
+            (halts_on Full c whole part r u h.after passed error halts)))
+
+  -- STOPS
+  -- a stop in the conditions is one of the whole log
+  module _ (bytes : ℕ) (size : Size) (room : Fits (with_text size bytes))
+      (measured : size ≡ with_text (Written 0) (text_length (first_lines (subject_with q c conditions goals)))) where
+    abbrev front : List Line
+    front = first_lines (subject_with q c conditions goals)
+
+    stopped_judged_at : (stop : Stop) (n : ℕ) (e : ProveError) → e ≢ stopped.NoMemory
+        → ((t : State) → IsStopped Full c whole (first_state (Some []) 0) t stop n → Halts Full c whole (first_state (Some []) 0) t e)
+        → IsStoppedThere c conditions steps (length p.commands + 2) bytes stop n goals → IsJudged p steps s (judged.Open e)
+    stopped_judged_at stop n e other halts h =
+        let all : List Line = front ++ h.lines in
+        let r : State = first_state (Some []) 0 in
+        let text : List ℕ = log_text (all ++ stop_line n stop ∷ []) in
+        let t : State = record { lines = 0; size = Written 0; held = Some text; faults = 0 } in
+        let k : length front ≡ length p.commands + 2 = front_count q (subject_with q c conditions goals) refl in
+        let l : length all ≡ length front + length h.lines = length-append front h.lines in
+        let last = h.last in
+        let short = h.short in
+        let sum : text_length all ≡ text_length front + text_length h.lines = text_length-append front h.lines in
+        let there : (0 + text_length front) + bytes ≤ 67108864 = subst (λ (z : Size). Fits (with_text z bytes)) measured room in
+        judged_answer r t e refl refl other
+        (halted q c conditions goals steps w small about r t refl refl e
+        (halts t (record {
+          lines = all;
+          place = h.place;
+          begun = inr (h.lines, refl, h.begun);
+          next = h.next;
+          fits = omega (arith, sum, there, short);
+          last = omega (arith, last, k, l);
+          written = refl;
+          faults = refl;
+        })))
+
+    pub stopped_judged : (e : ProveError) → IsStoppedBy c conditions steps (length p.commands + 2) bytes e goals
+        → IsJudged p steps s (judged.Open e)
+    stopped_judged (stopped.Spent n) h =
+        stopped_judged_at spent n (stopped.Spent n) (λ e. let f : stopped.Spent n ≡ stopped.NoMemory = e in cc) (λ t x. x) h
+    stopped_judged (stopped.TooLarge n which) h =
+        stopped_judged_at (too_large which) n (stopped.TooLarge n which)
+        (λ e. let f : stopped.TooLarge n which ≡ stopped.NoMemory = e in cc) (λ t x. x) h
+    stopped_judged stopped.TooLong h = absurd h
+    stopped_judged stopped.WriteFault h = absurd h
+    stopped_judged stopped.NoMemory h = absurd h
