@@ -1,43 +1,27 @@
 //! The highest constructed point of a polynomial.
 
-ghost use Rattle.std.specs.Prelude.{◌<◌, ◌↔◌, ◌||◌, IfNone, IfSome, IsTrue, length};
+ghost use Rattle.std.specs.Prelude.{◌≡◌, ◌<◌, ◌↔◌, ◌||◌, All, IfNone, IfSome, IsTrue, length};
 ghost use Rattle.fraction_poly.specs.TableRows.{HasPointsBelow};
-ghost use Rattle.geo_chain.specs.Inner.Searches.{Improves, IsMetIn, IsNoHigher, MakesPoint};
+ghost use Rattle.geo_chain.specs.Inner.Searches.{Improves, IsNoHigher, MakesPoint};
 ghost use Rattle.geo_logs.specs.Defined.{HasFreePointsAlone, IsConstructed, IsHighest, is_point};
-ghost use Rattle.geo_poly.specs.PolynomialVariables.{AllVariables};
-ghost use Rattle.geo_poly.specs.Polynomials.{term_at};
+ghost use Rattle.geo_poly.specs.Polynomials.{Summands};
+ghost use Rattle.geo_poly.specs.PolynomialVariables.{variables_of};
 
 use geo_points::PointId;
-use geo_poly::{Poly, Var};
+use geo_poly::Var;
 use geo_terms::{Step, Steps};
 
-/// The constructed point of the highest number in the quantities of the polynomial.
-pub(crate) fn highest_constructed(steps: &Steps, p: &Poly) -> Option<PointId>
-    requires { AllVariables (HasPointsBelow (length steps.now.steps)) p.now }
-    ensures some { IfSome result (λ y. IsHighest steps.now y p.now) }
-    ensures none { IfNone result (HasFreePointsAlone steps.now p.now) }
+/// The constructed point of the highest number in the quantities among the variables.
+pub(crate) fn highest_constructed(steps: &Steps, variables: &[Var]) -> Option<PointId>
+    requires { All (HasPointsBelow (length steps.now.steps)) variables.now }
+    ensures some { IfSome result (λ y. (q : Summands) → variables.now ≡ variables_of q
+        → IsHighest steps.now y q) }
+    ensures none { IfNone result ((q : Summands) → variables.now ≡ variables_of q
+        → HasFreePointsAlone steps.now q) }
 {
     let mut highest = None;
-    for i in 0..p.terms() {
-        highest = highest_in_term(steps, p, i, highest);
-    }
-    highest
-}
-
-/// The highest constructed point of the term at place i and of what was there before.
-fn highest_in_term(steps: &Steps, poly: &Poly, i: u64, before: Option<PointId>) -> Option<PointId>
-    requires points { AllVariables (HasPointsBelow (length steps.now.steps)) poly.now }
-    requires term { i < length poly.now }
-    ensures { let m = (term_at poly.now i).0 in
-        Improves IsNoHigher (IsMetIn (MakesPoint steps.now) m (length m)) before result }
-{
-    let p = poly.shared();
-    let (id, _) = p.term(i);
-    let mut rest = id;
-    let mut highest = before;
-    while let Some(power) = p.first_power(rest) {
-        highest = highest_with(steps, power.var, highest);
-        rest = power.rest;
+    for v in variables {
+        highest = highest_with(steps, *v, highest);
     }
     highest
 }
