@@ -1,7 +1,7 @@
 //! The next move.
 
-ghost use Rattle.std.specs.Prelude.{◌≡◌, ◌<◌, IfNone, IfOk, IfSome, None, Option, length};
-ghost use Rattle.geo_logs.specs.declared.moves.Move.{Move};
+ghost use Rattle.std.specs.Prelude.{◌≡◌, ◌<◌, All, IfNone, IfOk, IfSome, length};
+ghost use Rattle.std.specs.List.Sorted.{IsStrictlySortedBy};
 ghost use Rattle.geo_logs.specs.declared.moves.Move.TheVariants.{Ratio};
 ghost use Rattle.elim_apply.specs.LemmaTable.{lemma_table};
 ghost use Rattle.elim_ratio.specs.RatioTable.{first_lemma};
@@ -10,6 +10,7 @@ ghost use Rattle.geo_logs.specs.Chains.{IsEnd};
 ghost use Rattle.geo_logs.specs.Defined.{HasFreePointsAlone, IsHighest, IsNextMove, named_point};
 ghost use Rattle.geo_poly.specs.Polynomials.{Summands};
 ghost use Rattle.geo_poly.specs.PolynomialVariables.{AllVariables, variables_of};
+ghost use Rattle.geo_poly.specs.Variables.{var_cmp};
 ghost use Rattle.geo_terms.specs.Constructions.{Construction};
 
 use crate::first::{Sought, first_fitting};
@@ -37,6 +38,11 @@ pub fn next_move(alloc: Global, steps: &Steps, p: &Poly) -> Result<Option<Move>,
 
 /// The next move on a polynomial of these variables.
 fn move_among(steps: &Steps, variables: &[Var]) -> Option<Move>
+    requires points { All (HasPointsBelow (length steps.now.steps)) variables.now }
+    requires rising { IsStrictlySortedBy var_cmp variables.now }
+    ensures some { IfSome result (λ mv. (q : Summands) → variables.now ≡ variables_of q
+        → IsNextMove lemma_table steps.now q mv) }
+    ensures none { IfNone result ((q : Summands) → variables.now ≡ variables_of q → IsEnd q) }
 {
     match highest_constructed(steps, variables) {
         Some(y) => Some(move_at(steps, variables, y)),
@@ -46,6 +52,12 @@ fn move_among(steps: &Steps, variables: &[Var]) -> Option<Move>
 
 /// The next move where this is the highest constructed point.
 fn move_at(steps: &Steps, variables: &[Var], y: PointId) -> Move
+    requires below { y.0 < length steps.now.steps }
+    requires rising { IsStrictlySortedBy var_cmp variables.now }
+    requires highest { (q : Summands) → variables.now ≡ variables_of q
+        → IsHighest steps.now y q }
+    ensures { (q : Summands) → variables.now ≡ variables_of q
+        → IsNextMove lemma_table steps.now q result }
 {
     match first_fitting(variables, Sought::RatioWith(y)) {
         Some(var) => ratio_move(steps, var, y),
@@ -66,6 +78,11 @@ fn ratio_move(steps: &Steps, var: Var, y: PointId) -> Move
 
 /// The next move where no constructed point is left.
 fn move_of_free(variables: &[Var]) -> Option<Move>
+    requires rising { IsStrictlySortedBy var_cmp variables.now }
+    ensures some { IfSome result (λ mv. (c : Construction) (q : Summands)
+        → variables.now ≡ variables_of q → HasFreePointsAlone c q
+        → IsNextMove lemma_table c q mv) }
+    ensures none { IfNone result ((q : Summands) → variables.now ≡ variables_of q → IsEnd q) }
 {
     if let Some(var) = first_fitting(variables, Sought::AnyRatio) {
         let (lemma, at) = (0, PointId(0));
