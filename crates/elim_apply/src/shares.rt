@@ -163,12 +163,7 @@ pub(crate) fn shares_of(
 }
 
 /// The share of the monomial at an index, where those before it have theirs.
-fn next_share(
-    p: &Shared,
-    known: &[Option<NumberedRow>],
-    shares: &[Share],
-    id: MonoId,
-) -> Share
+fn next_share(p: &Shared, known: &[Option<NumberedRow>], shares: &[Share], id: MonoId) -> Share
     requires { id.0 < count p.now.monos.now }
     ensures { (rows : List Row) → AllPowersSmall rows → AreKnown rows p.now.vars.now known.now
         → HaveShares rows p.now shares.now → length shares.now ≡ id.0

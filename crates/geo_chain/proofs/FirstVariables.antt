@@ -58,6 +58,6 @@ module _ (sought : Sought) (vs : List Var) where
           elim (cases_lt k i) [
             | inl before ↦ none k w before s f
             | inr from ↦ ⊎_elim (λ (d : i ≡ k). self w (same k i w v (sym d) s e) less)
-            (λ (d : i < k). not_less v w
-            (sym (ap₂ var_cmp (get_or_from_slice_get vs i v plain e) (get_or_from_slice_get vs k w plain s)) ∙ rising_at vs i k rising d lt) less) (eq-or-lt_of_le from)
+                (λ (d : i < k). not_less v w
+                (sym (ap₂ var_cmp (get_or_from_slice_get vs i v plain e) (get_or_from_slice_get vs k w plain s)) ∙ rising_at vs i k rising d lt) less) (eq-or-lt_of_le from)
           ]

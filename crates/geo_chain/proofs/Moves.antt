@@ -67,7 +67,7 @@ module _ (q : Summands) (vs : List Var) (is : vs ≡ variables_of q) where
         (free, (λ w s ratio. none w (back w s) ratio, (s.0, (v, (s.1, (s.2, f.fits))))))
 
 -- what holds where there is nothing
-pub none_then : {A P Q : Type 0} (o : Option A) → IfNone o P → (P → Q) → IfNone o Q
+pub none_then : {A First Second : Type 0} (o : Option A) → IfNone o First → (First → Second) → IfNone o Second
 none_then None h f = f h
 none_then (Some a) h f = tt
 
