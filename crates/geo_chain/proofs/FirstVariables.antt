@@ -25,8 +25,8 @@ module _ (sought : Sought) (vs : List Var) where
       let q : ◌≡◌ {A = Option Var} (Some w) (Some v) = sym at ∙ e in cc
 
   pub one_more : (i : ℕ) (v : Var) → slice_get vs i ≡ Some v → (Fits sought v → ⊥) → NoneBefore i → NoneBefore (i + 1)
-  one_more i v e no none k w lt s f =
-      ⊎_elim (λ (d : k ≡ i). no (subst (Fits sought) (same k i w v d s e) f)) (λ (d : k < i). none k w d s f) (eq-or-lt_of_le (omega (arith, lt)))
+  one_more i v e unfit none k w lt s f =
+      ⊎_elim (λ (d : k ≡ i). unfit (subst (Fits sought) (same k i w v d s e) f)) (λ (d : k < i). none k w d s f) (eq-or-lt_of_le (omega (arith, lt)))
 
   pub none_at : (i : ℕ) → length vs ≤ i → NoneBefore i → NoneFits sought vs
   none_at i past none w (k, lt, at) f = none k w (omega (arith, past, lt)) (slice_get_read vs (length vs) k w refl lt (sym at)) f

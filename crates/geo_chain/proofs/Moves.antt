@@ -64,7 +64,7 @@ module _ (q : Summands) (vs : List Var) (is : vs ≡ variables_of q) where
     pub coords_next : (v : Var) → HasFreePointsAlone c q → NoneFits AnyRatio vs → IsFirstFitting AnyQuantity vs v → IsNextMove lemma_table c q Coords
     coords_next v free none f =
         let s = there v f.stands in
-        (free, (λ w s ratio. none w (back w s) ratio, (s.0, (v, (s.1, (s.2, f.fits))))))
+        (free, λ w s ratio. none w (back w s) ratio, (s.0, v, s.1, s.2, f.fits))
 
 -- what holds where there is nothing
 pub none_then : {A First Second : Type 0} (o : Option A) → IfNone o First → (First → Second) → IfNone o Second
