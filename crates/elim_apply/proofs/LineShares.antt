@@ -4,7 +4,7 @@ use Rattle.std.specs.Prelude.{slice_get}
 use Rattle.std.specs.Option.{option_map}
 use Rattle.std.proofs.lemmas.List.Sums.{sum_by-cons}
 use Rattle.mono_store.specs.declared.links.MonoId.{MonoId}
-use Rattle.mono_store.specs.Stores.{IsStore, Links, count, monomial_of}
+use Rattle.mono_store.specs.Stores.{IsStore, monomial_of}
 use Rattle.mono_store.proofs.Unfolding.{monomial_of-one}
 use Rattle.geo_poly.specs.declared.replacement.Row.{Row}
 use Rattle.geo_poly.specs.declared.shared.Shared.{Shared}

@@ -1,10 +1,9 @@
-use Rattle.std.proofs.Common.{◌≡◌, ◌<◌, ◌≤◌, Option, Some, None, [], ◌∷◌, length, refl, sym, ap, subst, ◌∙◌, arith, rules}
+use Rattle.std.proofs.Common.{length, refl, sym, ap, subst, ◌∙◌, arith}
 use Rattle.std.specs.Option.{option_map}
 use Rattle.std.proofs.lemmas.Bool.{ltb-false, ltb-true}
 use Rattle.std.proofs.lemmas.Option.{slice_get_read}
 use Rattle.geo_poly.specs.Monomials.{Powers}
 use Rattle.geo_poly.specs.Shared.{told_powers, var_at}
-use Rattle.elim_apply.specs.declared.numbered.NumberedRow.{NumberedRow}
 use Rattle.elim_apply.specs.Inner.Shares.{IsShareOf}
 use Rattle.elim_apply.specs.Inner.Sketches.{sketched}
 use Rattle.elim_apply.proofs.LineShares.{degree_fits, known_within, next_index, powers_are, powers_of_one, row_known, share_keeping, share_replacing, var_within}

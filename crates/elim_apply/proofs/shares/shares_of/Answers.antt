@@ -1,4 +1,4 @@
-use Rattle.std.proofs.Common.{◌≡◌, ◌+◌, List, [], ◌∷◌, ◌++◌, length, refl, subst, ap, ◌∙◌, sym, arith, rules}
+use Rattle.std.proofs.Common.{◌≡◌, ◌+◌, [], ◌∷◌, length, subst, ap, ◌∙◌, sym, rules}
 use Rattle.mono_store.specs.declared.links.MonoId.{MonoId}
 use Rattle.elim_apply.specs.Inner.Shares.{HaveShares}
 use Rattle.elim_apply.specs.Inner.Sketches.{AreKnown, sketches}

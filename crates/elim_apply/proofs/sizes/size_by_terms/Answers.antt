@@ -1,4 +1,4 @@
-use Rattle.std.proofs.Common.{◌≡◌, ◌+◌, ◌*◌, ◌≤◌, drop, length, subst, ap, ◌∙◌, unsigned_abs, FitsSigned, arith, rules}
+use Rattle.std.proofs.Common.{◌+◌, ◌*◌, ◌≤◌, drop, length, subst, ap, ◌∙◌, unsigned_abs, FitsSigned, arith, rules}
 use Rattle.std.specs.Int.{w128}
 use Rattle.std.specs.Prelude.{sum_by}
 use Rattle.std.proofs.lemmas.Int.{to_z-of_z}
@@ -6,7 +6,6 @@ use Rattle.std.proofs.lemmas.List.{drop_all}
 use Rattle.elim_apply.specs.Inner.Shares.{IsShareOf}
 use Rattle.elim_apply.specs.Inner.Sketches.{sketch, sketches}
 use Rattle.geo_poly.specs.Polynomials.{Summands}
-use Rattle.geo_poly.specs.Replace.{most_denominators}
 use Rattle.geo_poly.specs.Shared.{told, told_powers, told_term}
 use Rattle.geo_poly.proofs.Told.{index_at, item, length-terms_of, told-drop}
 use Rattle.elim_apply.proofs.LineSizes.{IsSizeSoFar, line_size, no_size, size_more, whole_size, within_top}

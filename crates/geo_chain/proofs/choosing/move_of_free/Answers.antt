@@ -1,4 +1,4 @@
-use Rattle.geo_chain.proofs.Moves.{coords_next, end_of, free_ratio_next}
+use Rattle.geo_chain.proofs.Moves.{end_of, free_ratio_next}
 use Rattle.geo_chain.proofs.choosing.move_of_free.Goals as goal
 
 pub returns-in-None-clause-none : goal.returns-in-None-clause-none
