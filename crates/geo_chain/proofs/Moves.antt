@@ -9,7 +9,7 @@ use Rattle.geo_poly.specs.PolynomialVariables.{IsPlain, IsQuantity, variables_of
 use Rattle.geo_poly.proofs.EachVariable.{all_variables}
 use Rattle.geo_terms.specs.Constructions.{Construction}
 use Rattle.geo_logs.specs.declared.moves.Move.{Move}
-use Rattle.geo_logs.specs.declared.moves.Move.TheVariants.{Ratio, Point, Coords}
+use Rattle.geo_logs.specs.declared.moves.Move.TheVariants.{Ratio, Point}
 use Rattle.geo_logs.specs.Chains.{IsEnd}
 use Rattle.geo_logs.specs.Defined.{HasFreePointsAlone, IsHighest, IsNextMove, named_point}
 use Rattle.elim_ratio.specs.RatioTable.{first_lemma}
@@ -60,11 +60,6 @@ module _ (q : Summands) (vs : List Var) (is : vs ≡ variables_of q) where
       refl,
       refl,
     )
-
-    pub coords_next : (v : Var) → HasFreePointsAlone c q → NoneFits AnyRatio vs → IsFirstFitting AnyQuantity vs v → IsNextMove lemma_table c q Coords
-    coords_next v free none f =
-        let s = there v f.stands in
-        (free, λ w s ratio. none w (back w s) ratio, (s.0, v, s.1, s.2, f.fits))
 
 -- what holds where there is nothing
 pub none_then : {A First Second : Type 0} (o : Option A) → IfNone o First → (First → Second) → IfNone o Second
