@@ -6,6 +6,6 @@ use Rattle.geo_poly.proofs.moving.moved_monomials.Given as goal
 abbrev pub invariant-loop-k : goal.invariant-loop-k
 invariant-loop-k l = record {
   kept : Keeps l.fn.store l.store;
-  moved : AreMoved l.p l.vars l.store l.table.items;
+  moved : AreMoved l.p l.rows l.vars l.store l.table.items;
   reached : length l.table.items ≡ l.k + 1;
 }
