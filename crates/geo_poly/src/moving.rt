@@ -123,8 +123,8 @@ pub(crate) fn index_in(
     stored_others(store, vars, rows, monomial.powers())
 }
 
-/// The index in another store of what is left of each monomial without the variables of the rows, in
-/// the order of the indices, where the list reaches the monomial and its variables stand there.
+/// The index in another store of what is left of each monomial without the variables of the rows,
+/// where the list reaches the monomial and its variables stand there.
 pub(crate) fn moved_monomials(
     alloc: Global,
     store: &mut Monos,
@@ -139,6 +139,25 @@ pub(crate) fn moved_monomials(
     ensures kept { Keeps store.old store.new }
 {
     let reached = reached_links(alloc, p)?;
+    moved_links(alloc, store, vars, rows, p, &reached)
+}
+
+/// The index in another store of what is left of each monomial, in the order of the indices, where it
+/// is marked and its variables stand there.
+fn moved_links(
+    alloc: Global,
+    store: &mut Monos,
+    vars: &[Var],
+    rows: &RowTable,
+    p: &Shared,
+    reached: &[bool],
+) -> Result<Vec<Option<MonoId>>, NoMemory>
+    requires rising { IsStrictlySortedBy var_cmp vars.now }
+    requires parts { AreParts p.now }
+    ensures moved { IfOk result
+        (λ table. AreMoved p.now rows.now vars.now store.new table.items) }
+    ensures kept { Keeps store.old store.new }
+{
     let places = places_in(alloc, p.vars, vars)?;
     let n = p.monos.links();
     let mut table = Vec::with_capacity(alloc, (n as usize).saturating_add(1))?;

@@ -107,8 +107,8 @@ impl Poly {
     {
         let p = &self.shared();
         let table = RowTable::new(alloc, rows, p.vars);
-        let top = most_denominators_of(p, &table);
-        self.replacement(alloc, &table, den, top, ticks)
+        let most = most_denominators_of(p, &table);
+        self.replacement(alloc, &table, den, most, ticks)
     }
 
     /// The chain of the replacement, in an arena and over a store that are given; variables have

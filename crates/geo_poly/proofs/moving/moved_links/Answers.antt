@@ -1,6 +1,6 @@
 use Rattle.std.proofs.Common.{◌≡◌, [], refl, rules, arith}
 use Rattle.geo_poly.proofs.Moved.{first_moved}
-use Rattle.geo_poly.proofs.moving.moved_monomials.Goals as goal
+use Rattle.geo_poly.proofs.moving.moved_links.Goals as goal
 
 pub loop-k-init : goal.loop-k-init
 loop-k-init c =

@@ -1,7 +1,7 @@
 use Rattle.std.proofs.Common.{◌≡◌, ◌+◌, length}
 use Rattle.mono_store.specs.Stores.{Keeps}
 use Rattle.geo_poly.specs.Inner.Moved.{AreMoved}
-use Rattle.geo_poly.proofs.moving.moved_monomials.Given as goal
+use Rattle.geo_poly.proofs.moving.moved_links.Given as goal
 
 abbrev pub invariant-loop-k : goal.invariant-loop-k
 invariant-loop-k l = record {
