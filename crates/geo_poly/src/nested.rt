@@ -238,5 +238,7 @@ pub(crate) fn nested_chain<L: Ledger>(
 {
     let pending = sorted_pending(alloc, setting, p)?;
     let table = moved_monomials(alloc, store, setting.vars, setting.rows, p)?;
-    nested_sum(alloc, setting, store, arena, p, &table, &pending, 0, 0, ticks)
+    nested_sum(
+        alloc, setting, store, arena, p, &table, &pending, 0, 0, ticks,
+    )
 }

@@ -152,11 +152,7 @@ fn pending_term(
 }
 
 /// The terms that do not become zero, each with its factors.
-fn pending_terms(
-    alloc: Global,
-    setting: &Setting,
-    p: &Shared,
-) -> Result<Vec<Pending>, NoMemory>
+fn pending_terms(alloc: Global, setting: &Setting, p: &Shared) -> Result<Vec<Pending>, NoMemory>
     requires parts { AreParts p.now }
     requires known { AllVariables (Contains setting.now.vars.now) (told p.now) }
     requires can { CanReplace setting.now.rows.now setting.now.den.piece.now setting.now.top

@@ -40,14 +40,14 @@ nested_sum-requires g t c =
           (
             c.requires.table,
             (
-            subst (λ (xs : List Pending). All (IsPending setting p (c.args.depth + n)) xs) (sym c.split_at.ensures.front)
-                (All-take (IsPending setting p (c.args.depth + n)) at es
-                (all_deeper setting c.args.store.now c.requires.set p c.args.depth n first es c.shared_factors-shared.ensures.shared
-                c.requires.pending)),
-            front_norm setting c.args.store.now c.requires.set p
-                (c.args.depth + n) es at front back c.split_at.ensures.front c.split_at.ensures.back
-                (deeper_norm setting c.args.store.now c.requires.set p c.args.depth n first es c.shared_factors-shared.ensures.shared
-                c.requires.pending c.requires.norm),
+              subst (λ (xs : List Pending). All (IsPending setting p (c.args.depth + n)) xs) (sym c.split_at.ensures.front)
+                  (All-take (IsPending setting p (c.args.depth + n)) at es
+                  (all_deeper setting c.args.store.now c.requires.set p c.args.depth n first es c.shared_factors-shared.ensures.shared
+                  c.requires.pending)),
+              front_norm setting c.args.store.now c.requires.set p
+                  (c.args.depth + n) es at front back c.split_at.ensures.front c.split_at.ensures.back
+                  (deeper_norm setting c.args.store.now c.requires.set p c.args.depth n first es c.shared_factors-shared.ensures.shared
+                  c.requires.pending c.requires.norm),
             ),
           ),
         ),
@@ -73,14 +73,14 @@ nested_sum-requires-in_default g t c =
           (
             AreMoved-kept p setting.rows.now setting.vars.now c.args.store.now c.nested_sum.new.store c.in_ok-sum-in_default.ensures.kept c.args.table.now c.requires.table,
             (
-            subst (λ (xs : List Pending). All (IsPending setting p (c.args.depth + n)) xs) (sym c.split_at.ensures.back)
-                (All-drop (IsPending setting p (c.args.depth + n)) at es
-                (all_deeper setting c.args.store.now c.requires.set p c.args.depth n first es c.shared_factors-shared.ensures.shared
-                c.requires.pending)),
-            back_norm setting c.args.store.now c.requires.set p
-                (c.args.depth + n) es at front back c.split_at.ensures.front c.split_at.ensures.back
-                (deeper_norm setting c.args.store.now c.requires.set p c.args.depth n first es c.shared_factors-shared.ensures.shared
-                c.requires.pending c.requires.norm),
+              subst (λ (xs : List Pending). All (IsPending setting p (c.args.depth + n)) xs) (sym c.split_at.ensures.back)
+                  (All-drop (IsPending setting p (c.args.depth + n)) at es
+                  (all_deeper setting c.args.store.now c.requires.set p c.args.depth n first es c.shared_factors-shared.ensures.shared
+                  c.requires.pending)),
+              back_norm setting c.args.store.now c.requires.set p
+                  (c.args.depth + n) es at front back c.split_at.ensures.front c.split_at.ensures.back
+                  (deeper_norm setting c.args.store.now c.requires.set p c.args.depth n first es c.shared_factors-shared.ensures.shared
+                  c.requires.pending c.requires.norm),
             ),
           ),
         ),
