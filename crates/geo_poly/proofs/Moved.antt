@@ -138,7 +138,8 @@ module _ (p : Shared) (rows : List Row) (vars : List Var) (old new : Links) (kep
   AreMoved-kept table are = λ k within. IsMovedTo-kept (record { 0 = k }) (get_or table k None) (are k within)
 
 -- the table of the monomial with no variable
-pub first_moved : (p : Shared) (rows : List Row) (vars : List Var) (links : Links) (table : List (Option MonoId)) (new : MonoId) → table ≡ [] → new.0 ≡ 0 → AreMoved p rows vars links (table ++ Some new ∷ [])
+pub first_moved : (p : Shared) (rows : List Row) (vars : List Var) (links : Links) (table : List (Option MonoId)) (new : MonoId) → table ≡ [] → new.0 ≡ 0
+    → AreMoved p rows vars links (table ++ Some new ∷ [])
 first_moved p rows vars links table new e f =
     subst (λ (xs : List (Option MonoId)). AreMoved p rows vars links (xs ++ Some new ∷ [])) (sym e)
     (each_push (λ k x. IsMovedTo p rows vars links (record { 0 = k }) x) [] (Some new) None (λ k none. absurd (omega (arith, none))) (one_is_moved p rows vars links (record { 0 = 0 }) new refl f))
