@@ -2,7 +2,7 @@ use Rattle.std.proofs.Common.{◌≡◌, [], sym, subst}
 use Rattle.geo_poly.specs.Monomials.{Powers}
 use Rattle.geo_poly.specs.Shared.{told_powers}
 use Rattle.geo_poly.proofs.ZeroFactors.{Seen, zero_denominator, zero_numerator}
-use Rattle.geo_poly.proofs.replacement_bounds.has_zero.Goals as goal
+use Rattle.geo_poly.proofs.replacement_bounds.lacking_at.Goals as goal
 
 pub returns-then-is_zero-clause-zero : goal.returns-then-is_zero-clause-zero
 returns-then-is_zero-clause-zero c =
