@@ -66,3 +66,5 @@ pub mod MultipliedIn
 pub mod PendingTerms
 pub mod JoinedParts
 pub mod TermPlaces
+pub mod WordOrder
+pub mod WordFields
