@@ -68,3 +68,4 @@ pub mod JoinedParts
 pub mod TermPlaces
 pub mod WordOrder
 pub mod WordFields
+pub mod FieldLists

@@ -2,7 +2,8 @@
 
 ghost use Rattle.std.specs.Prelude.{◌≡◌, ◌+◌, ◌*◌, ◌/◌, ◌%◌, ◌^◌, ◌<◌, ◌≤◌, ◌∷◌, []};
 ghost use Rattle.std.specs.Prelude.{All, IfNone, IfOk, IfSome, length, sum, sum_by};
-ghost use Rattle.mono_store.specs.Monomials.{degree_of};
+ghost use Rattle.sparse_lists.specs.SparseLists.{put};
+ghost use Rattle.mono_store.specs.Monomials.{ComesFirst, degree_of, exponents};
 ghost use Rattle.mono_store.specs.Stores.{Keeps, count, monomial_of};
 ghost use Rattle.geo_poly.specs.Inner.Words.{FitsFields, bits_from, bits_of, fields_of};
 ghost use Rattle.geo_poly.specs.Inner.Words.{powers_of_word, width, widths_of, word};
@@ -75,6 +76,7 @@ impl Fields {
         ensures narrow { result.width ≤ 32 }
         ensures shift { result.shift ≡ bits_from self.now (var + 1) }
         ensures fits { result.width + result.shift ≤ 63 }
+        ensures bits { sum self.now ≤ 63 }
     {
         self.fields[var as usize]
     }
@@ -83,7 +85,8 @@ impl Fields {
     pub(crate) fn power(&self, var: u64, exp: u32) -> u64
         requires known { var < length self.now }
         requires fits { exp < 2 ^ width self.now var }
-        ensures { result ≡ word self.now ((var, exp) ∷ []) }
+        ensures word { result ≡ word self.now ((var, exp) ∷ []) }
+        ensures bits { sum self.now ≤ 63 }
     {
         (exp as u64) << self.field(var).shift
     }
@@ -104,6 +107,8 @@ impl Fields {
         ensures word { result ≡ word self.now (monomial_of store.now id) }
         ensures below { result < 2 ^ sum self.now }
     {
+        // the invariant of the store, which `valid` hands on
+        let _one = store.one();
         let mut word = 0;
         let mut at = id;
         while let Some(link) = store.link(at) {
@@ -125,13 +130,31 @@ impl Fields {
         let mut var = self.count() as u64;
         while var > 0 {
             var -= 1;
-            let exponent = self.exponent(word, var);
-            if exponent > 0 {
-                id = store.mono(var, exponent, id)?;
-            }
+            id = put_before(store, var, self.exponent(word, var), id)?;
         }
         Ok(id)
     }
+}
+
+/// The index of the monomial with the power before those of `next`, where the exponent is not 0.
+fn put_before(
+    store: &mut Monos,
+    var: u64,
+    exponent: u32,
+    next: MonoId,
+) -> Result<MonoId, NoMemory>
+    requires next { next.0 < count store.old }
+    requires first { ComesFirst var (monomial_of store.old next) }
+    requires degree { exponent + degree_of (monomial_of store.old next) ≤ 65535 }
+    ensures index { IfOk result (λ id. id.0 < count store.new) }
+    ensures monomial { IfOk result (λ id. monomial_of store.new id
+        ≡ put exponents var exponent (monomial_of store.old next)) }
+    ensures kept { Keeps store.old store.new }
+{
+    if exponent == 0 {
+        return Ok(next);
+    }
+    Ok(store.mono(var, exponent, next)?)
 }
 
 /// How many bits a number has.
