@@ -69,3 +69,4 @@ pub mod TermPlaces
 pub mod WordOrder
 pub mod WordFields
 pub mod FieldLists
+pub mod Gradings
