@@ -70,3 +70,4 @@ pub mod WordOrder
 pub mod WordFields
 pub mod FieldLists
 pub mod Gradings
+pub mod WordKeys
