@@ -1,5 +1,6 @@
 -- Fields of words: what the lists of them say, and the walk over them from the last to the first.
-use Rattle.std.proofs.Common.{◌≡◌, ℕ, zero, suc, ◌+◌, ◌*◌, ◌/◌, ◌%◌, ◌^◌, ◌<◌, ◌≤◌, inl, inr, List, [], ◌∷◌, drop, length, map, refl, sym, ap, ap₂, subst, ◌∙◌, add-one, arith}
+use Rattle.std.proofs.Common.{◌≡◌, ℕ, zero, suc, ◌+◌, ◌/◌, ◌%◌, ◌^◌, ◌<◌, ◌≤◌, inl, inr, List, [], ◌∷◌, drop, length, refl, sym, ap, subst}
+use Rattle.std.proofs.Common.{◌∙◌, add-one, arith}
 use Rattle.std.specs.Prelude.{All, slice_index_or, sum, sum_by}
 use Rattle.std.specs.Ordering.{nat_cmp}
 use Rattle.std.proofs.lemmas.Bool.{cases_lt}
@@ -9,7 +10,8 @@ use Rattle.sparse_lists.specs.SparseLists.{IsBefore, put}
 use Rattle.mono_store.specs.Monomials.{ComesFirst, Powers, degree_of, exponents}
 use Rattle.mono_store.proofs.Numbers.{is_below}
 use Rattle.geo_poly.specs.declared.words.Field.{Field}
-use Rattle.geo_poly.specs.Inner.Words.{AreFields, Widths, bits_from, bits_of, field_widths, fields_of, widths_of, powers_from, powers_of_word, width}
+use Rattle.geo_poly.specs.Inner.Words.{AreFields, Widths, bits_from, bits_of, field_widths, fields_of, widths_of, powers_from}
+use Rattle.geo_poly.specs.Inner.Words.{powers_of_word, width}
 use Rattle.geo_poly.proofs.WordFields.{IsBefore-powers_from, degree_of-powers_from}
 use Rattle.geo_poly.proofs.WordOrder.{bits_from-le, bits_from-step}
 
@@ -19,7 +21,8 @@ pub field_widths-fields_of : (bs : Widths) → field_widths (fields_of bs) ≡ b
 field_widths-fields_of [] = refl
 field_widths-fields_of (b ∷ bs) = ap (λ (xs : Widths). b ∷ xs) (field_widths-fields_of bs)
 
-fields_of-at : (bs : Widths) (v : ℕ) (d : Field) → v < length bs → slice_index_or (fields_of bs) v d ≡ record { width = width bs v; shift = bits_from bs (v + 1) }
+fields_of-at : (bs : Widths) (v : ℕ) (d : Field) → v < length bs
+    → slice_index_or (fields_of bs) v d ≡ record { width = width bs v; shift = bits_from bs (v + 1) }
 fields_of-at [] v d h = absurd (omega arith)
 fields_of-at (b ∷ bs) zero d h = refl
 fields_of-at (b ∷ bs) (suc v) d h =
@@ -54,15 +57,18 @@ sum-widths_of [] = refl
 sum-widths_of (limit ∷ limits) =
     omega (arith, sum_by-cons (λ (x : ℕ). x) (bits_of limit) (widths_of limits), sum_by-cons bits_of limit limits, sum-widths_of limits)
 
-pub field_widths-are : (limits : List ℕ) (fields : List Field) → fields ≡ fields_of (widths_of limits) → field_widths fields ≡ widths_of limits
+pub field_widths-are : (limits : List ℕ) (fields : List Field) → fields ≡ fields_of (widths_of limits)
+    → field_widths fields ≡ widths_of limits
 field_widths-are limits fields e = ap field_widths e ∙ field_widths-fields_of (widths_of limits)
 
 narrow_bits : (limits : List ℕ) → All (λ b. b ≤ 32) (widths_of limits)
 narrow_bits limits v d h =
     let within : v < length limits = omega (arith, length-map limits bits_of) in
-    subst (λ (b : ℕ). b ≤ 32) (sym (get_or-map bits_of limits v 0 d within)) (let most : bits_of (slice_index_or limits v 0) ≤ 32 = omega arith in most)
+    subst (λ (b : ℕ). b ≤ 32) (sym (get_or-map bits_of limits v 0 d within))
+    (let most : bits_of (slice_index_or limits v 0) ≤ 32 = omega arith in most)
 
-pub AreFields-of : (limits : List ℕ) (fields : List Field) → fields ≡ fields_of (widths_of limits) → sum_by bits_of limits ≤ 63 → AreFields fields
+pub AreFields-of : (limits : List ℕ) (fields : List Field) → fields ≡ fields_of (widths_of limits) → sum_by bits_of limits ≤ 63
+    → AreFields fields
 AreFields-of limits fields e h =
     let widths = field_widths-are limits fields e in
     record {
@@ -75,13 +81,16 @@ AreFields-of limits fields e h =
 
 -- the powers from a field on are that of the field before those of the later ones
 pub powers_from-step : (widths : Widths) (v w : ℕ) → v < length widths
-    → powers_from v (drop v widths) w ≡ put exponents v (w / 2 ^ bits_from widths (v + 1) % 2 ^ width widths v) (powers_from (v + 1) (drop (v + 1) widths) w)
+    → powers_from v (drop v widths) w ≡ put exponents v (w / 2 ^ bits_from widths (v + 1) % 2 ^ width widths v)
+    (powers_from (v + 1) (drop (v + 1) widths) w)
 powers_from-step widths v w h = ap (λ (bs : Widths). powers_from v bs w) (drop_more widths v 0 h)
 
 pub degree_of-step : (widths : Widths) (v w : ℕ) → v < length widths
-    → degree_of (powers_from v (drop v widths) w) ≡ w / 2 ^ bits_from widths (v + 1) % 2 ^ width widths v + degree_of (powers_from (v + 1) (drop (v + 1) widths) w)
+    → degree_of (powers_from v (drop v widths) w) ≡ w / 2 ^ bits_from widths (v + 1) % 2 ^ width widths v
+    + degree_of (powers_from (v + 1) (drop (v + 1) widths) w)
 degree_of-step widths v w h =
-    ap (λ (bs : Widths). degree_of (powers_from v bs w)) (drop_more widths v 0 h) ∙ degree_of-powers_from v (width widths v) (drop (v + 1) widths) w
+    ap (λ (bs : Widths). degree_of (powers_from v bs w)) (drop_more widths v 0 h)
+    ∙ degree_of-powers_from v (width widths v) (drop (v + 1) widths) w
 
 pub degree_of-le : (widths : Widths) (v w : ℕ) → degree_of (powers_from v (drop v widths) w) ≤ degree_of (powers_of_word widths w)
 degree_of-le widths zero w = omega arith

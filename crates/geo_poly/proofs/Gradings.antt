@@ -8,7 +8,8 @@ use Rattle.geo_poly.specs.declared.replacement.Piece.{Piece}
 use Rattle.geo_poly.specs.declared.variables.Var.{Var}
 use Rattle.geo_poly.specs.Inner.Factored.{Factored, degree_with, factored_terms, times_pieces}
 use Rattle.geo_poly.specs.Monomials.{Powers, degree_of, exponent, exponents, product}
-use Rattle.geo_poly.specs.Polynomials.{Summands, coefficients, multiples, polynomial_of, product_of, products, sum_of, term_cmp, total_degree}
+use Rattle.geo_poly.specs.Polynomials.{Summands, coefficients, multiples, polynomial_of, product_of, products, sum_of, term_cmp}
+use Rattle.geo_poly.specs.Polynomials.{total_degree}
 use Rattle.geo_poly.specs.Replace.{power_of}
 use Rattle.geo_poly.specs.Variables.{var_cmp}
 use Rattle.geo_poly.proofs.MonomialLaws.{degree_of-product}
@@ -31,7 +32,8 @@ pub grade_with-is : (bound : Piece → ℕ) (qs : List Piece) (g : ℕ) → grad
 grade_with-is bound [] g = omega arith
 grade_with-is bound (q ∷ qs) g = omega (arith, grade_with-is bound qs g)
 
-pub grade_with-append : (bound : Piece → ℕ) (qs rs : List Piece) (g : ℕ) → grade_with bound (qs ++ rs) g ≡ grade_with bound qs (grade_with bound rs g)
+pub grade_with-append : (bound : Piece → ℕ) (qs rs : List Piece) (g : ℕ)
+    → grade_with bound (qs ++ rs) g ≡ grade_with bound qs (grade_with bound rs g)
 grade_with-append bound [] rs g = refl
 grade_with-append bound (q ∷ qs) rs g = ap (λ x. x + bound q) (grade_with-append bound qs rs g)
 
@@ -69,12 +71,14 @@ module _ (grade : Powers → ℕ) where
     graded_products : (p q : Summands) (g : ℕ) → top_grade grade p + top_grade grade q ≤ g → AllKeys (HasGrade g) (products p q)
     graded_products [] q g h = tt
     graded_products (t ∷ ts) q g h =
-        AllKeys-append (HasGrade g) (multiples t q) (products ts q) (graded_multiples t q g (omega arith)) (graded_products ts q g (omega arith))
+        AllKeys-append (HasGrade g) (multiples t q) (products ts q) (graded_multiples t q g (omega arith))
+        (graded_products ts q g (omega arith))
 
     pub top_grade-product_of-le : (p q : Summands) → top_grade grade (product_of p q) ≤ top_grade grade p + top_grade grade q
     top_grade-product_of-le p q =
         let g = top_grade grade p + top_grade grade q in
-        top_grade-from (product_of p q) g (AllKeys-canonical term_cmp coefficients (HasGrade g) (products p q) (graded_products p q g (omega arith)))
+        top_grade-from (product_of p q) g
+        (AllKeys-canonical term_cmp coefficients (HasGrade g) (products p q) (graded_products p q g (omega arith)))
 
     pub grade-none : grade [] ≡ 0
     grade-none = let twice : grade [] ≡ grade [] + grade [] = grading.adds [] [] in omega arith
@@ -95,10 +99,16 @@ module _ (grade : Powers → ℕ) where
       AllGradedTerms [] = Unit {0}
       AllGradedTerms (f ∷ fs) = AllGraded f.0 × AllGradedTerms fs
 
-      pub top_grade-times_pieces-le : (qs : List Piece) (p : Summands) → AllGraded qs → top_grade grade (times_pieces qs p) ≤ grade_with bound qs (top_grade grade p)
+      pub top_grade-times_pieces-le : (qs : List Piece) (p : Summands) → AllGraded qs
+          → top_grade grade (times_pieces qs p) ≤ grade_with bound qs (top_grade grade p)
       top_grade-times_pieces-le [] p h = omega arith
       top_grade-times_pieces-le (q ∷ qs) p h =
-          omega (arith, top_grade-product_of-le (times_pieces qs p) q.poly, top_grade-times_pieces-le qs p h.1, top_grade-from q.poly (bound q) h.0)
+          omega (
+            arith,
+            top_grade-product_of-le (times_pieces qs p) q.poly,
+            top_grade-times_pieces-le qs p h.1,
+            top_grade-from q.poly (bound q) h.0,
+          )
 
       -- the grade of what becomes of the term is at most g
       pub record IsGradedWithin (g : ℕ) (f : Factored) : Type 0 where
@@ -112,19 +122,23 @@ module _ (grade : Powers → ℕ) where
       graded_terms g [] h k = tt
       graded_terms g (f ∷ fs) h k =
           let one : top_grade grade (f.1 ∷ []) ≡ grade f.1.0 = omega arith in
-          let same : grade_with bound f.0 (top_grade grade (f.1 ∷ [])) ≡ grade_with bound f.0 (grade f.1.0) = ap (grade_with bound f.0) one in
+          let same : grade_with bound f.0 (top_grade grade (f.1 ∷ [])) ≡ grade_with bound f.0 (grade f.1.0) =
+          ap (grade_with bound f.0) one in
           AllKeys-append (HasGrade g) (times_pieces f.0 (f.1 ∷ [])) (factored_terms fs)
           (graded (times_pieces f.0 (f.1 ∷ [])) g (omega (arith, top_grade-times_pieces-le f.0 (f.1 ∷ []) h.0, same, k.0.most)))
           (graded_terms g fs h.1 k.1)
 
-      pub top_grade-sum-le : (g : ℕ) (fs : List Factored) → AllGradedTerms fs → AllGradedWithin g fs → top_grade grade (polynomial_of (factored_terms fs)) ≤ g
+      pub top_grade-sum-le : (g : ℕ) (fs : List Factored) → AllGradedTerms fs → AllGradedWithin g fs
+          → top_grade grade (polynomial_of (factored_terms fs)) ≤ g
       top_grade-sum-le g fs h k =
-          top_grade-from (polynomial_of (factored_terms fs)) g (AllKeys-canonical term_cmp coefficients (HasGrade g) (factored_terms fs) (graded_terms g fs h k))
+          top_grade-from (polynomial_of (factored_terms fs)) g
+          (AllKeys-canonical term_cmp coefficients (HasGrade g) (factored_terms fs) (graded_terms g fs h k))
 
 -- THE GRADINGS
 
 pub exponent-product : (v : Var) (m n : Powers) → exponent v (product m n) ≡ exponent v m + exponent v n
-exponent-product v m n = amount-canonical var_cmp exponents var_order exponents_add v (m ++ n) ∙ amount-append var_cmp exponents var_order exponents_add v m n
+exponent-product v m n =
+    amount-canonical var_cmp exponents var_order exponents_add v (m ++ n) ∙ amount-append var_cmp exponents var_order exponents_add v m n
 
 -- the exponent of a variable
 pub exponent_grading : (v : Var) → IsGrading (exponent v)

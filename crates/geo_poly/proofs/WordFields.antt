@@ -1,5 +1,6 @@
 -- Words and the monomials that they stand for: each gives the other back, and the word of a product is the sum.
-use Rattle.std.proofs.Common.{◌≡◌, ℕ, zero, suc, ◌+◌, ◌*◌, ◌/◌, ◌%◌, ◌^◌, ◌<◌, ◌≤◌, eqb, Bool, true, false, cond, inl, inr, List, [], ◌∷◌, ◌++◌, length, drop, refl, sym, ap, ap₂, subst, ◌∙◌, arith}
+use Rattle.std.proofs.Common.{◌≡◌, ℕ, ◌+◌, ◌*◌, ◌/◌, ◌%◌, ◌^◌, ◌<◌, ◌≤◌, eqb, Bool, true, false, cond, inl, inr, [], ◌∷◌, ◌++◌, length}
+use Rattle.std.proofs.Common.{drop, refl, sym, ap, ap₂, subst, ◌∙◌, arith}
 use Rattle.std.specs.Prelude.{sum, sum_by}
 use Rattle.std.specs.Ordering.{nat_cmp, is_eq}
 use Rattle.std.specs.declared.cmp.Ordering.{Ordering}
@@ -14,7 +15,7 @@ use Rattle.sparse_lists.specs.SparseLists.{IsBefore, IsCanonical, put}
 use Rattle.sparse_lists.proofs.Canonical.{IsBefore-put, IsCanonical-put, amount-before, amount-put}
 use Rattle.sparse_lists.proofs.NaturalAmounts.{natural_order}
 use Rattle.sparse_lists.proofs.Sums.{sum_by-canonical}
-use Rattle.mono_store.specs.Monomials.{Powers, degree_of, exponent, exponents, monomial_cmp, product}
+use Rattle.mono_store.specs.Monomials.{Powers, degree_of, exponent, exponents, product}
 use Rattle.mono_store.proofs.Numbers.{below, exponents_add, monomial_exact}
 use Rattle.mono_store.proofs.Products.{exponent-product}
 use Rattle.geo_poly.specs.Inner.Words.{Widths, FitsFields, bits_from, powers_from, powers_of_word, width, word}
@@ -30,11 +31,13 @@ word-product widths m n =
     (λ v. zero-mul (2 ^ bits_from widths (v + 1))) (m ++ n)
     ∙ sum_by-append f m n
 
-pub FitsFields-product : (widths : Widths) (m n : Powers) → ((v : ℕ) → exponent v m + exponent v n < 2 ^ width widths v) → FitsFields widths (product m n)
+pub FitsFields-product : (widths : Widths) (m n : Powers) → ((v : ℕ) → exponent v m + exponent v n < 2 ^ width widths v)
+    → FitsFields widths (product m n)
 FitsFields-product widths m n h = record { exponents = λ v. omega (arith, h v, exponent-product v m n) }
 
 -- the variables of a monomial that fits have fields
-pub number-within : {widths : Widths} {p : ℕ × ℕ} {m : Powers} → IsCanonical nat_cmp exponents (p ∷ m) → FitsFields widths (p ∷ m) → p.0 < length widths
+pub number-within : {widths : Widths} {p : ℕ × ℕ} {m : Powers} → IsCanonical nat_cmp exponents (p ∷ m) → FitsFields widths (p ∷ m)
+    → p.0 < length widths
 number-within {widths} {p} {m} h f = elim (cases_lt p.0 (length widths)) [ inl within ↦ within | inr past ↦ absurd (none past) ]
   where
     none : length widths ≤ p.0 → ⊥
@@ -65,7 +68,8 @@ width-here v b bs widths e =
     ap (width widths) (let e : v ≡ v + 0 = omega arith in e) ∙ sym (get_or-drop v widths 0 0) ∙ ap (λ (xs : Widths). width xs 0) e
 
 -- the word of what the lowest fields hold is what is in their bits
-pub word-powers_from : (widths : Widths) (v : ℕ) (bs : Widths) (w : ℕ) → drop v widths ≡ bs → word widths (powers_from v bs w) ≡ w % 2 ^ sum bs
+pub word-powers_from : (widths : Widths) (v : ℕ) (bs : Widths) (w : ℕ) → drop v widths ≡ bs
+    → word widths (powers_from v bs w) ≡ w % 2 ^ sum bs
 word-powers_from widths v [] w e = omega arith
 word-powers_from widths v (b ∷ bs) w e =
     let later : drop (v + 1) widths ≡ bs = drop-rest v b bs widths e in
@@ -88,9 +92,11 @@ IsCanonical-powers_from v (b ∷ bs) w =
     IsCanonical-put nat_cmp exponents natural_order exponents_add v (w / 2 ^ sum bs % 2 ^ b) (powers_from (v + 1) bs w)
     (IsBefore-powers_from v (v + 1) bs w (omega arith)) (IsCanonical-powers_from (v + 1) bs w)
 
-exponent-powers_from : (widths : Widths) (v : ℕ) (bs : Widths) (w u : ℕ) → drop v widths ≡ bs → exponent u (powers_from v bs w) < 2 ^ width widths u
+exponent-powers_from : (widths : Widths) (v : ℕ) (bs : Widths) (w u : ℕ) → drop v widths ≡ bs
+    → exponent u (powers_from v bs w) < 2 ^ width widths u
 exponent-powers_from widths v [] w u e = pow_pos (width widths u)
-exponent-powers_from widths v (b ∷ bs) w u e = go (nat_cmp u v) refl (exponent-powers_from widths (v + 1) bs w u (drop-rest v b bs widths e))
+exponent-powers_from widths v (b ∷ bs) w u e =
+    go (nat_cmp u v) refl (exponent-powers_from widths (v + 1) bs w u (drop-rest v b bs widths e))
   where
     field : ℕ
     field = w / 2 ^ sum bs % 2 ^ b
@@ -106,9 +112,11 @@ exponent-powers_from widths v (b ∷ bs) w u e = go (nat_cmp u v) refl (exponent
 
     fits : u ≡ v → field < 2 ^ width widths u
     fits same =
-        subst (λ (k : ℕ). field < 2 ^ k) (sym (ap (width widths) same ∙ width-here v b bs widths e)) (mod_below (w / 2 ^ sum bs) (2 ^ b) (pow_pos b))
+        subst (λ (k : ℕ). field < 2 ^ k) (sym (ap (width widths) same ∙ width-here v b bs widths e))
+        (mod_below (w / 2 ^ sum bs) (2 ^ b) (pow_pos b))
 
-    go : (o : Ordering) → nat_cmp u v ≡ o → exponent u rest < 2 ^ width widths u → exponent u (put exponents v field rest) < 2 ^ width widths u
+    go : (o : Ordering) → nat_cmp u v ≡ o → exponent u rest < 2 ^ width widths u
+        → exponent u (put exponents v field rest) < 2 ^ width widths u
     go Less a rec = omega (arith, whole ∙ ap (λ (o : Ordering). cond (is_eq o) field 0 + exponent u rest) a)
     go Greater a rec = omega (arith, whole ∙ ap (λ (o : Ordering). cond (is_eq o) field 0 + exponent u rest) a)
     go Equal a rec =
@@ -135,7 +143,8 @@ pub word-below_all : (widths : Widths) (m : Powers) → IsCanonical nat_cmp expo
 word-below_all widths m h f = word-below widths 0 m h (StartsAt-zero m) f
 
 -- and its word stands for it
-pub powers_of_word-word : (widths : Widths) (m : Powers) → IsCanonical nat_cmp exponents m → FitsFields widths m → powers_of_word widths (word widths m) ≡ m
+pub powers_of_word-word : (widths : Widths) (m : Powers) → IsCanonical nat_cmp exponents m → FitsFields widths m
+    → powers_of_word widths (word widths m) ≡ m
 powers_of_word-word widths m h f =
     same_word widths (powers_of_word widths (word widths m)) m (IsCanonical-powers_from 0 widths (word widths m)) h
     (FitsFields-powers_of_word widths (word widths m)) f

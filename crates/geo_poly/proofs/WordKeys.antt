@@ -1,14 +1,14 @@
 -- Words as keys: where the limits fit, a sum of words stands for the product, and words are in the order of what they stand for.
-use Rattle.std.proofs.Common.{◌≡◌, ℕ, ◌+◌, ◌*◌, ◌^◌, ◌<◌, ◌≤◌, cond, inl, inr, List, [], ◌∷◌, ◌++◌, length, refl, sym, ap, ap₂, subst, ◌∙◌, arith}
+use Rattle.std.proofs.Common.{◌≡◌, ℕ, ◌+◌, ◌*◌, ◌^◌, ◌<◌, ◌≤◌, cond, inl, inr, List, [], ◌∷◌, ◌++◌, length, refl, sym, ap, ap₂, subst, ◌∙◌}
+use Rattle.std.proofs.Common.{arith}
 use Rattle.std.specs.Prelude.{All, slice_index_or, sum}
 use Rattle.std.specs.List.Sorted.{IsStrictlySortedBy}
 use Rattle.std.specs.Ordering.{is_eq, nat_cmp}
 use Rattle.std.specs.declared.cmp.Ordering.{Ordering}
 use Rattle.std.proofs.lemmas.Bool.{cases_lt}
-use Rattle.std.proofs.lemmas.Cmp.{ranked}
-use Rattle.std.proofs.lemmas.List.{get_or-map, get_or_past, length-map}
+use Rattle.std.proofs.lemmas.List.{get_or-map, get_or_past}
 use Rattle.std.proofs.lemmas.Nat.{leading_length, pow_pos}
-use Rattle.sparse_lists.specs.SparseLists.{AllKeys, IsCanonical}
+use Rattle.sparse_lists.specs.SparseLists.{IsCanonical}
 use Rattle.sparse_lists.proofs.Canonical.{IsCanonical-canonical}
 use Rattle.sparse_lists.proofs.NaturalAmounts.{natural_order}
 use Rattle.mono_store.specs.Monomials.{Powers as NumberedPowers, exponent as numbered_exponent, exponents, monomial_cmp, product}
@@ -19,7 +19,8 @@ use Rattle.geo_poly.specs.Monomials.{exponent}
 use Rattle.geo_poly.specs.Shared.{AllPlaces, named, var_at}
 use Rattle.geo_poly.specs.Variables.{var_cmp}
 use Rattle.geo_poly.proofs.Naming.{var_at-keeps}
-use Rattle.geo_poly.proofs.WordFields.{FitsFields-powers_of_word, IsCanonical-powers_from, number-within, powers_of_word-word, word-powers_of_word, word-product}
+use Rattle.geo_poly.proofs.WordFields.{FitsFields-powers_of_word, IsCanonical-powers_from, number-within, powers_of_word-word}
+use Rattle.geo_poly.proofs.WordFields.{word-powers_of_word, word-product}
 use Rattle.geo_poly.proofs.WordOrder.{FitsFields-rest, monomial_cmp-word}
 
 -- KEYS
@@ -40,12 +41,14 @@ powers_of_word-add widths a b h g f =
 pub monomial_cmp-powers_of_word : (widths : Widths) (a b : ℕ) → a < 2 ^ sum widths → b < 2 ^ sum widths
     → monomial_cmp (powers_of_word widths a) (powers_of_word widths b) ≡ nat_cmp a b
 monomial_cmp-powers_of_word widths a b h g =
-    monomial_cmp-word widths (powers_of_word widths a) (powers_of_word widths b) (IsCanonical-powers_from 0 widths a) (IsCanonical-powers_from 0 widths b)
+    monomial_cmp-word widths (powers_of_word widths a) (powers_of_word widths b) (IsCanonical-powers_from 0 widths a)
+    (IsCanonical-powers_from 0 widths b)
     (FitsFields-powers_of_word widths a) (FitsFields-powers_of_word widths b)
     ∙ ap₂ nat_cmp (word-powers_of_word widths a h) (word-powers_of_word widths b g)
 
 -- the variables of a monomial that fits have fields
-pub AllPlaces-fits : (widths : Widths) (m : NumberedPowers) → IsCanonical nat_cmp exponents m → FitsFields widths m → AllPlaces (length widths) m
+pub AllPlaces-fits : (widths : Widths) (m : NumberedPowers) → IsCanonical nat_cmp exponents m → FitsFields widths m
+    → AllPlaces (length widths) m
 AllPlaces-fits widths [] h f = tt
 AllPlaces-fits widths (p ∷ m) h f = (number-within h f, AllPlaces-fits widths m h.2 (FitsFields-rest f))
 
@@ -69,7 +72,8 @@ FitsFields-limits limits m small within = record { exponents = each }
           | inl known ↦
               let room = (below_bits (slice_index_or limits v 0) (small v 0 known)).0 in
               let here : width (widths_of limits) v ≡ bits_of (slice_index_or limits v 0) = get_or-map bits_of limits v 0 0 known in
-              let fits : slice_index_or limits v 0 < 2 ^ width (widths_of limits) v = subst (λ (b : ℕ). slice_index_or limits v 0 < 2 ^ b) (sym here) room in
+              let fits : slice_index_or limits v 0 < 2 ^ width (widths_of limits) v =
+              subst (λ (b : ℕ). slice_index_or limits v 0 < 2 ^ b) (sym here) room in
               omega (arith, within v)
           | inr past ↦ omega (arith, within v, get_or_past limits v 0 past, pow_pos (width (widths_of limits) v))
         ]
@@ -78,7 +82,8 @@ FitsFields-limits limits m small within = record { exponents = each }
 
 module _ (vars : List Var) (rising : IsStrictlySortedBy var_cmp vars) where
   -- the exponent of a variable is that of its number
-  pub exponent-named : (v : ℕ) (m : NumberedPowers) → v < length vars → AllPlaces (length vars) m → exponent (var_at vars v) (named vars m) ≡ numbered_exponent v m
+  pub exponent-named : (v : ℕ) (m : NumberedPowers) → v < length vars → AllPlaces (length vars) m
+      → exponent (var_at vars v) (named vars m) ≡ numbered_exponent v m
   exponent-named v [] h places = refl
   exponent-named v (p ∷ m) h places =
       ap₂ (λ (o : Ordering) (e : ℕ). cond (is_eq o) p.1 0 + e) (var_at-keeps vars rising v p.0 h places.0) (exponent-named v m h places.1)

@@ -137,12 +137,7 @@ impl Fields {
 }
 
 /// The index of the monomial with the power before those of `next`, where the exponent is not 0.
-fn put_before(
-    store: &mut Monos,
-    var: u64,
-    exponent: u32,
-    next: MonoId,
-) -> Result<MonoId, NoMemory>
+fn put_before(store: &mut Monos, var: u64, exponent: u32, next: MonoId) -> Result<MonoId, NoMemory>
     requires next { next.0 < count store.old }
     requires first { ComesFirst var (monomial_of store.old next) }
     requires degree { exponent + degree_of (monomial_of store.old next) ≤ 65535 }

@@ -1,4 +1,4 @@
-use Rattle.std.proofs.Common.{◌≡◌, ℕ, ◌+◌, ◌*◌, ◌^◌, ◌<◌, ◌≤◌, ◌∷◌, [], sum, sym, ap, subst, ◌∙◌, arith}
+use Rattle.std.proofs.Common.{◌≡◌, ℕ, ◌+◌, ◌*◌, ◌^◌, ◌<◌, ◌≤◌, ◌∷◌, [], sum, ap, subst, ◌∙◌, arith}
 use Rattle.std.specs.Ordering.{nat_cmp}
 use Rattle.std.proofs.Math.Nat.{pow-le-pow_right}
 use Rattle.sparse_lists.specs.SparseLists.{IsCanonical}
@@ -16,7 +16,8 @@ power-word-requires-clause-known c =
     (subst (FitsFields c.args.self.now) m c.loop-link.invariant.fits)
 
 pub power-word-requires-clause-fits : goal.power-word-requires-clause-fits
-power-word-requires-clause-fits c = FitsFields-first (subst (FitsFields c.args.self.now) c.in-Some.ensures.monomial c.loop-link.invariant.fits)
+power-word-requires-clause-fits c =
+    FitsFields-first (subst (FitsFields c.args.self.now) c.in-Some.ensures.monomial c.loop-link.invariant.fits)
 
 next : (widths : Widths) (so_far power whole : ℕ) (p : ℕ × ℕ) (m rest : Powers) → m ≡ p ∷ rest → power ≡ word widths (p ∷ [])
     → so_far + word widths m ≡ whole → so_far + power + word widths rest ≡ whole
@@ -35,9 +36,14 @@ overflow_add-word c =
     let widths = c.args.self.now in
     let power : ℕ × ℕ = (c.in-Some.link.var, c.in-Some.link.exp) in
     let whole = monomial_of c.args.store.now c.args.id in
-    let all : word widths whole < 2 ^ 63 = below widths whole (c.one-one.ensures.valid.monomials c.args.id) c.requires.fits c.power-word.ensures.bits in
-    omega (arith, all, next widths c.loop-link.word c.power-word.result (word widths whole) power (monomial_of c.args.store.now c.loop-link.at)
-    (monomial_of c.args.store.now c.in-Some.link.next) c.in-Some.ensures.monomial c.power-word.ensures.word c.loop-link.invariant.sum)
+    let all : word widths whole < 2 ^ 63 = below widths whole
+    (c.one-one.ensures.valid.monomials c.args.id) c.requires.fits c.power-word.ensures.bits in
+    omega (
+      arith,
+      all,
+      next widths c.loop-link.word c.power-word.result (word widths whole) power (monomial_of c.args.store.now c.loop-link.at)
+          (monomial_of c.args.store.now c.in-Some.link.next) c.in-Some.ensures.monomial c.power-word.ensures.word c.loop-link.invariant.sum,
+    )
 
 pub loop-link-preserved : goal.loop-link-preserved
 loop-link-preserved c =
@@ -52,5 +58,6 @@ loop-link-preserved c =
 pub returns-clause-below : goal.returns-clause-below
 returns-clause-below c =
     let whole : word c.args.self.now (monomial_of c.args.store.now c.args.id) < 2 ^ sum c.args.self.now =
-    word-below_all c.args.self.now (monomial_of c.args.store.now c.args.id) (c.one-one.ensures.valid.monomials c.args.id).in_order c.requires.fits in
+    word-below_all c.args.self.now (monomial_of c.args.store.now c.args.id)
+    (c.one-one.ensures.valid.monomials c.args.id).in_order c.requires.fits in
     omega (arith, whole, c.loop-link.invariant.sum)

@@ -6,7 +6,8 @@ use Rattle.geo_poly.proofs.FieldLists.{ComesFirst-powers_from, degree_of-le, deg
 use Rattle.geo_poly.proofs.words.Fields.unpack.Goals as goal
 
 -- what is made so far, by the number of the variable before it
-rest : (c : goal.After-exponent) → monomial_of c.loop-var.store c.loop-var.id ≡ powers_from (c.loop-var.var - 1 + 1) (drop (c.loop-var.var - 1 + 1) c.args.self.now) c.args.word
+rest : (c : goal.After-exponent) → monomial_of c.loop-var.store c.loop-var.id ≡ powers_from (c.loop-var.var - 1 + 1)
+    (drop (c.loop-var.var - 1 + 1) c.args.self.now) c.args.word
 rest c =
     let same : c.loop-var.var ≡ c.loop-var.var - 1 + 1 = omega arith in
     c.loop-var.invariant.monomial ∙ ap (λ (v : ℕ). powers_from v (drop v c.args.self.now) c.args.word) same
