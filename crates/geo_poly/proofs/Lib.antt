@@ -71,3 +71,4 @@ pub mod WordFields
 pub mod FieldLists
 pub mod Gradings
 pub mod WordKeys
+pub mod WordChains
