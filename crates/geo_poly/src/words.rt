@@ -1,7 +1,7 @@
 //! Monomials as words of 64 bits, where the exponents of all variables fit into one.
 
-ghost use Rattle.std.specs.Prelude.{◌≡◌, ◌+◌, ◌*◌, ◌/◌, ◌%◌, ◌^◌, ◌<◌, ◌≤◌, ◌∷◌, []};
-ghost use Rattle.std.specs.Prelude.{All, IfNone, IfOk, IfSome, length, sum, sum_by};
+ghost use Rattle.std.specs.Prelude.{◌≡◌, ◌+◌, ◌/◌, ◌%◌, ◌^◌, ◌<◌, ◌≤◌, ◌∷◌, []};
+ghost use Rattle.std.specs.Prelude.{IfNone, IfOk, IfSome, length, sum, sum_by};
 ghost use Rattle.sparse_lists.specs.SparseLists.{put};
 ghost use Rattle.mono_store.specs.Monomials.{ComesFirst, degree_of, exponents};
 ghost use Rattle.mono_store.specs.Stores.{Keeps, count, monomial_of};
@@ -13,7 +13,7 @@ use mono_store::{MonoId, Monos};
 use std::alloc::Global;
 use std::marker::Model;
 
-/// The sum of two words is below 2 to the 64, so that it can be told that a field runs over.
+/// A word has so many bits at most, so that the sum of two words does not wrap.
 const MOST_BITS: u32 = 63;
 
 /// The bits of a word in which the exponent of one variable stands.
@@ -48,7 +48,8 @@ impl Model for Fields {
 }
 
 impl Fields {
-    /// Fields in which each variable has room for its limit, and `None` where no word has them all.
+    /// Fields in which each variable has room for its limit, and `None` where that takes more bits
+    /// than a word has.
     pub(crate) fn new(alloc: Global, limits: &[u32]) -> Result<Option<Fields>, NoMemory>
         ensures fields { IfOk result (λ found. IfSome found (λ f. f ≡ widths_of limits.now)) }
         ensures none { IfOk result (λ found. IfNone found (63 < sum (widths_of limits.now))) }
