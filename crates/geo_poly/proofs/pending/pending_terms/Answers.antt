@@ -24,11 +24,11 @@ lacking_at-lacking-requires-clause-top c = (replaceable_at c.args.setting.now c.
 pub lacking_at-lacking-requires-clause-monomial : goal.lacking_at-lacking-requires-clause-monomial
 lacking_at-lacking-requires-clause-monomial c = (replaceable_at c.args.setting.now c.args.p.now c.loop-term.term-index c.loop-term-test.true c.requires.known c.requires.can).monomial
 
-pub pending_term-made-requires-clause-index : goal.pending_term-made-requires-clause-index
-pending_term-made-requires-clause-index c = index_at c.args.p.now c.loop-term.term-index c.loop-term-test.true c.requires.parts
+pub pending_term-requires-clause-index : goal.pending_term-requires-clause-index
+pending_term-requires-clause-index c = index_at c.args.p.now c.loop-term.term-index c.loop-term-test.true c.requires.parts
 
-pub pending_term-made-requires-clause-monomial : goal.pending_term-made-requires-clause-monomial
-pending_term-made-requires-clause-monomial c = (replaceable_at c.args.setting.now c.args.p.now c.loop-term.term-index c.loop-term-test.true c.requires.known c.requires.can).monomial
+pub pending_term-requires-clause-monomial : goal.pending_term-requires-clause-monomial
+pending_term-requires-clause-monomial c = (replaceable_at c.args.setting.now c.args.p.now c.loop-term.term-index c.loop-term-test.true c.requires.known c.requires.can).monomial
 
 pub loop-term-preserved : goal.loop-term-preserved
 loop-term-preserved c =
