@@ -37,6 +37,7 @@ pub mod RowPlaces
 pub mod ProductOrder
 pub mod Naming
 pub mod Told
+pub mod KeysKept
 pub mod KeyedChains
 pub mod ChainSteps
 pub mod ChainHalves

@@ -6,13 +6,15 @@ ghost use Rattle.std.specs.List.Sorted.{IsStrictlySortedBy};
 ghost use Rattle.sparse_lists.specs.SparseLists.{AllKeys, IsCanonical};
 ghost use Rattle.mono_store.specs.Stores.{Keeps};
 ghost use Rattle.poly_arena.specs.Chains.{IsLive, Merges, pairs_of};
-ghost use Rattle.geo_poly.specs.Chained.{AddsChain, IsKey, SameChains, StandsFor, keyed_terms};
+ghost use Rattle.geo_poly.specs.Chained.{AddsChain, SameChains, StandsFor, StandsUnder};
+ghost use Rattle.geo_poly.specs.Chained.{keyed_terms_under};
+ghost use Rattle.geo_poly.specs.Keys.{IsKeyUnder};
 ghost use Rattle.geo_poly.specs.Polynomials.{CanMultiply, coefficients, multiples, norm_of};
 ghost use Rattle.geo_poly.specs.Polynomials.{product_of, sum_of, term_cmp};
 ghost use Rattle.geo_poly.specs.Shared.{IsIndex, term_of, terms_of};
 ghost use Rattle.geo_poly.specs.Variables.{var_cmp};
 
-use crate::index_order::ByMonomial;
+use crate::monomial_keys::MonomialKeys;
 use crate::shared::Indexed;
 use crate::ticks::Ticks;
 use crate::variables::Var;
@@ -22,8 +24,8 @@ use poly_arena::{Arena, Chain};
 use std::sync::ledger::Ledger;
 
 /// The chain of the sum of two. It takes no memory.
-pub(crate) fn summed(
-    store: &Monos,
+pub(crate) fn summed<K: MonomialKeys>(
+    keys: &K,
     arena: &mut Arena,
     vars: &[Var],
     mut left: Chain,
@@ -33,22 +35,24 @@ pub(crate) fn summed(
     requires left { IsLive arena.old left }
     requires right { IsLive arena.old right }
     requires differ { left ≢ right }
-    requires left_keys { AllKeys (IsKey vars.now store.now) (pairs_of arena.old left) }
-    requires right_keys { AllKeys (IsKey vars.now store.now) (pairs_of arena.old right) }
+    requires left_keys { AllKeys (IsKeyUnder vars.now (K.keys keys.now)) (pairs_of arena.old left) }
+    requires right_keys { AllKeys (IsKeyUnder vars.now (K.keys keys.now))
+        (pairs_of arena.old right) }
     requires left_order { IsCanonical term_cmp coefficients
-        (keyed_terms vars.now store.now (pairs_of arena.old left)) }
+        (keyed_terms_under vars.now (K.keys keys.now) (pairs_of arena.old left)) }
     requires right_order { IsCanonical term_cmp coefficients
-        (keyed_terms vars.now store.now (pairs_of arena.old right)) }
-    requires fits { norm_of (keyed_terms vars.now store.now (pairs_of arena.old left))
-        + norm_of (keyed_terms vars.now store.now (pairs_of arena.old right)) < 2 ^ 127 }
+        (keyed_terms_under vars.now (K.keys keys.now) (pairs_of arena.old right)) }
+    requires fits { norm_of (keyed_terms_under vars.now (K.keys keys.now) (pairs_of arena.old left))
+        + norm_of (keyed_terms_under vars.now (K.keys keys.now) (pairs_of arena.old right))
+        < 2 ^ 127 }
     ensures chain { result ≡ left }
     ensures merges { Merges arena.old arena.new left right (pairs_of arena.new left) }
-    ensures sum { StandsFor vars.now store.now arena.new left
-        (sum_of (keyed_terms vars.now store.now (pairs_of arena.old left))
-        (keyed_terms vars.now store.now (pairs_of arena.old right))) }
+    ensures sum { StandsUnder vars.now (K.keys keys.now) arena.new left
+        (sum_of (keyed_terms_under vars.now (K.keys keys.now) (pairs_of arena.old left))
+        (keyed_terms_under vars.now (K.keys keys.now) (pairs_of arena.old right))) }
 {
     let _ = vars;
-    arena.merge_into(&ByMonomial::new(store), &mut left, right);
+    keys.merge(arena, &mut left, right);
     left
 }
 
