@@ -38,6 +38,7 @@ pub mod ProductOrder
 pub mod Naming
 pub mod Told
 pub mod KeysKept
+pub mod InReach
 pub mod KeyedChains
 pub mod ChainSteps
 pub mod ChainHalves
