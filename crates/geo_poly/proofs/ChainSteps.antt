@@ -3,13 +3,15 @@ use Rattle.std.proofs.Common.{◌≡◌, ℕ, zero, suc, ◌⊎◌, inl, inr, So
 use Rattle.std.specs.Prelude.{Option, IsSome, ◌≢◌, unwrap_or}
 use Rattle.std.proofs.lemmas.Bool.{false≢true}
 use Rattle.sparse_lists.specs.SparseLists.{AllKeys}
+use Rattle.mono_store.specs.Stores.{Keeps, Links}
 use Rattle.poly_arena.specs.Chains.{Chains, IsLive, Merges, Pairs, Updates, list_of, pairs_of}
 use Rattle.geo_poly.specs.declared.variables.Var.{Var}
-use Rattle.geo_poly.specs.Chained.{AddsChain, SameChains, StandsUnder, keyed_terms_under}
+use Rattle.geo_poly.specs.Chained.{AddsChain, IsKey, SameChains, StandsFor, StandsUnder, keyed_terms, keyed_terms_under}
 use Rattle.geo_poly.specs.Inner.Keyed.{KeepsKeys}
-use Rattle.geo_poly.specs.Keys.{IsKeyUnder, Keys}
+use Rattle.geo_poly.specs.Keys.{IsKeyUnder, Keys, store_keys}
 use Rattle.geo_poly.specs.Polynomials.{Summands}
 use Rattle.geo_poly.proofs.KeyedChains.{keyed_terms-kept, keys-kept}
+use Rattle.geo_poly.proofs.KeysKept.{keeps_keys}
 
 pub same_or : (m n : ℕ) → (m ≡ n) ⊎ (m ≢ n)
 same_or zero zero = inl refl
@@ -68,3 +70,13 @@ StandsUnder-list vars keys arena number list p is within terms =
       keys = subst (λ (ts : Pairs). AllKeys (IsKeyUnder vars keys) ts) (sym pairs) within;
       terms = ap (keyed_terms_under vars keys) pairs ∙ terms;
     }
+
+-- the same under the indices of a store
+pub StandsFor-kept : (vars : List Var) (old new : Links) (before after : Chains) (number : ℕ) (p : Summands) → Keeps old new → list_of after number ≡ list_of before number
+    → StandsFor vars old before number p → StandsFor vars new after number p
+StandsFor-kept vars old new before after number p kept same h =
+    StandsUnder-kept vars (store_keys old) (store_keys new) before after number p (keeps_keys old new kept) same h
+
+pub StandsFor-list : (vars : List Var) (links : Links) (arena : Chains) (number : ℕ) (list : Pairs) (p : Summands) → list_of arena number ≡ Some list
+    → AllKeys (IsKey vars links) list → keyed_terms vars links list ≡ p → StandsFor vars links arena number p
+StandsFor-list vars links arena number list p is keys terms = StandsUnder-list vars (store_keys links) arena number list p is keys terms

@@ -9,8 +9,9 @@ use Rattle.std.proofs.lemmas.Bool.{cases_lt}
 use Rattle.std.proofs.lemmas.Cmp.{ranked}
 use Rattle.sparse_lists.specs.SparseLists.{AllKeys}
 use Rattle.mono_store.specs.Monomials.{Powers as NumberedPowers, exponent as numbered_exponent}
+use Rattle.geo_poly.specs.declared.replacement.Row.{Row}
 use Rattle.geo_poly.specs.declared.variables.Var.{Var}
-use Rattle.geo_poly.specs.Inner.Keyed.{AreInReach, IsInReach, greatest_exponent}
+use Rattle.geo_poly.specs.Inner.Keyed.{AreInReach, AreWithinLimits, IsInReach, IsWithinLimits, greatest_exponent, greatest_of_rows}
 use Rattle.geo_poly.specs.Keys.{Keys}
 use Rattle.geo_poly.specs.Monomials.{Powers, exponent, exponents}
 use Rattle.geo_poly.specs.Polynomials.{Summands}
@@ -109,3 +110,21 @@ AreInReach-kept vars old new p q same h =
 pub IsInReach-kept : (old new : Keys) (m n : NumberedPowers) → new.limits ≡ old.limits → IsInReach old m n → IsInReach new m n
 IsInReach-kept old new m n same h =
     subst (λ (o : Option (ℕ → ℕ)). IfSome o (λ limit. (v : ℕ) → numbered_exponent v m + numbered_exponent v n ≤ limit v)) (sym same) h
+
+-- THE NUMERATORS
+
+row_at-le : (v : Var) (rows : List Row) (i : ℕ) (row : Row) → i < length rows → row ≡ get_or rows i row → greatest_exponent v row.num.poly ≤ greatest_of_rows v rows
+row_at-le v [] i row h e = absurd (omega arith)
+row_at-le v (r ∷ rows) zero row h e =
+    let same : greatest_exponent v row.num.poly ≡ greatest_exponent v r.num.poly = ap (λ (x : Row). greatest_exponent v x.num.poly) e in omega (arith, same)
+row_at-le v (r ∷ rows) (suc i) row h e = omega (arith, row_at-le v rows i row (omega arith) e)
+
+pub row_within : (vars : List Var) (old new : Keys) (rows : List Row) (i : ℕ) (row : Row) → i < length rows → row ≡ get_or rows i row → new.limits ≡ old.limits
+    → AreWithinLimits vars old rows → IsWithinLimits vars new row.num.poly
+row_within vars old new rows i row below is same h = go new.limits
+    (subst (λ (o : Option (ℕ → ℕ)). IfSome o (λ limit. (k : ℕ) → k < length vars → greatest_of_rows (var_at vars k) rows ≤ limit k)) (sym same) h)
+  where
+    go : (o : Option (ℕ → ℕ)) → IfSome o (λ limit. (k : ℕ) → k < length vars → greatest_of_rows (var_at vars k) rows ≤ limit k)
+        → IfSome o (λ limit. (k : ℕ) → k < length vars → greatest_exponent (var_at vars k) row.num.poly ≤ limit k)
+    go None g = tt
+    go (Some limit) g = λ k within. omega (arith, g k within, row_at-le (var_at vars k) rows i row below is)

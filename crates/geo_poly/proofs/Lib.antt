@@ -62,6 +62,8 @@ pub mod ZeroFactors
 pub mod TickBounds
 pub mod KnownVariables
 pub mod FactoredTerms
+pub mod GoodPieces
+pub mod PieceReach
 pub mod NestedSums
 pub mod FactorPaths
 pub mod MultipliedIn

@@ -1,17 +1,26 @@
 //! Keys of chains that stand for monomials.
 
-ghost use Rattle.std.specs.Prelude.{◌≡◌, ◌≢◌, ◌+◌, ◌<◌, ◌≤◌, ◌∷◌, [], IfOk, IfSome};
+ghost use Rattle.std.specs.Prelude.{◌≡◌, ◌≢◌, ◌+◌, ◌<◌, ◌≤◌, ◌∷◌, [], Contains, IfOk, IfSome};
+ghost use Rattle.std.specs.List.Sorted.{IsStrictlySortedBy};
 ghost use Rattle.sparse_lists.specs.SparseLists.{AllKeys};
 ghost use Rattle.mono_store.specs.Monomials.{ComesFirst, degree_of, product};
 ghost use Rattle.poly_arena.specs.Chains.{IsLive, Merges, pairs_of};
 ghost use Rattle.poly_arena.specs.Orders.{IsFalling, SumsFit, sum_of};
 ghost use Rattle.geo_poly.specs.Keys.{Keys};
-ghost use Rattle.geo_poly.specs.Inner.Keyed.{IsInReach, KeepsKeys, key_cmp};
+ghost use Rattle.geo_poly.specs.Inner.Keyed.{IsInReach, IsIndexUnder, IsWithinLimits, KeepsKeys};
+ghost use Rattle.geo_poly.specs.Inner.Keyed.{key_cmp, terms_under};
+ghost use Rattle.geo_poly.specs.PolynomialVariables.{AllVariables};
+ghost use Rattle.geo_poly.specs.Shared.{AreParts, told};
+ghost use Rattle.geo_poly.specs.Variables.{var_cmp};
 
 use crate::index_order::ByMonomial;
+use crate::moving::moved;
+use crate::shared::{Indexed, Shared};
+use crate::variables::Var;
 use geo_points::NoMemory;
 use mono_store::{MonoId, Monos};
 use poly_arena::{Arena, Chain};
+use std::alloc::Global;
 
 /// Keys of chains that stand for monomials in numbered variables: the indices of a store, or what
 /// else is multiplied and compared more quickly.
@@ -20,8 +29,8 @@ pub(crate) trait MonomialKeys {
 
     /// The key of the monomial with no variable.
     fn one(&self) -> u64
-        ensures within { result < (keys self.now).count }
-        ensures powers { (keys self.now).powers result ≡ [] };
+        ensures is { result ≡ 0 }
+        ensures within { 0 < (keys self.now).count };
 
     /// The key of the monomial that has the power before those of `next`.
     fn power_before(&mut self, var: u64, exp: u32, next: u64) -> Result<u64, NoMemory>
@@ -33,6 +42,18 @@ pub(crate) trait MonomialKeys {
         ensures within { IfOk result (λ k. k < (keys self.new).count) }
         ensures powers { IfOk result
             (λ k. (keys self.new).powers k ≡ (var, exp) ∷ (keys self.old).powers next) }
+        ensures kept { KeepsKeys (keys self.old) (keys self.new) };
+
+    /// The keys of the monomials of a polynomial, with their coefficients.
+    fn keyed(&mut self, alloc: Global, vars: &[Var], p: &Shared) -> Result<Vec<Indexed>, NoMemory>
+        requires rising { IsStrictlySortedBy var_cmp vars.now }
+        requires parts { AreParts p.now }
+        requires known { AllVariables (Contains vars.now) (told p.now) }
+        requires reach { IsWithinLimits vars.now (keys self.old) (told p.now) }
+        ensures indices { IfOk result
+            (λ list. AllKeys (IsIndexUnder vars.now (keys self.new)) list.items) }
+        ensures terms { IfOk result
+            (λ list. terms_under vars.now (keys self.new) list.items ≡ told p.now) }
         ensures kept { KeepsKeys (keys self.old) (keys self.new) };
 
     /// The key of the product of two monomials. Without memory, other monomials may have been
@@ -64,10 +85,15 @@ pub(crate) trait MonomialKeys {
         ensures merges { Merges arena.old arena.new kept.old spent (sum_of (key_cmp (keys self.now))
             (pairs_of arena.old kept.old) (pairs_of arena.old spent)) }
         ensures chain { kept.new ≡ kept.old };
+
+    ghost first: { (s : Self) → (keys s).powers 0 ≡ [] };
 }
 
 impl MonomialKeys for Monos {
     ghost use Rattle.geo_poly.specs.Keys.{store_keys};
+
+    ghost use Rattle.mono_store.proofs.Unfolding.{monomial_of-one};
+    ghost use Rattle.std.proofs.Common.{refl};
 
     ghost keys = { store_keys };
 
@@ -80,6 +106,10 @@ impl MonomialKeys for Monos {
         Ok(id.0)
     }
 
+    fn keyed(&mut self, alloc: Global, vars: &[Var], p: &Shared) -> Result<Vec<Indexed>, NoMemory> {
+        moved(alloc, self, vars, p)
+    }
+
     fn times(&mut self, a: u64, b: u64) -> Result<u64, NoMemory> {
         let id = self.product(MonoId(a), MonoId(b))?;
         Ok(id.0)
@@ -88,4 +118,6 @@ impl MonomialKeys for Monos {
     fn merge(&self, arena: &mut Arena, kept: &mut Chain, spent: Chain) {
         arena.merge_into(&ByMonomial::new(self), kept, spent);
     }
+
+    ghost first = { λ links. monomial_of-one links (record { 0 = 0 }) refl };
 }

@@ -4,15 +4,18 @@ ghost use Rattle.std.specs.Prelude.{◌≡◌, ◌≢◌, ◌+◌, ◌*◌, ◌^
 ghost use Rattle.std.specs.Prelude.{IfOk, None, OnErr, length, map, unsigned_abs};
 ghost use Rattle.std.specs.List.Sorted.{IsStrictlySortedBy};
 ghost use Rattle.sparse_lists.specs.SparseLists.{AllKeys, IsCanonical};
-ghost use Rattle.mono_store.specs.Stores.{Keeps, Links};
+ghost use Rattle.mono_store.specs.Stores.{Keeps};
 ghost use Rattle.poly_arena.specs.Chains.{IsLive, Updates, pairs_of};
-ghost use Rattle.geo_poly.specs.Chained.{AddsChain, IsKey, SameChains, StandsFor, keyed_terms};
+ghost use Rattle.geo_poly.specs.Chained.{AddsChain, SameChains, StandsFor, StandsUnder};
+ghost use Rattle.geo_poly.specs.Chained.{keyed_terms_under};
 ghost use Rattle.geo_poly.specs.Counted.{products_of_terms};
 ghost use Rattle.geo_poly.specs.Inner.Factored.{IsPending, degree_with, factored_products};
 ghost use Rattle.geo_poly.specs.Inner.Factored.{factored_terms, factored_weight, piece_of};
 ghost use Rattle.geo_poly.specs.Inner.Factored.{pieces_of, products_with, times_pieces};
 ghost use Rattle.geo_poly.specs.Inner.Factored.{told_pending, weight_with};
-ghost use Rattle.geo_poly.specs.Inner.Settings.{IsSet, IsStoredAs, Swaps};
+ghost use Rattle.geo_poly.specs.Inner.Keyed.{AreInReach, ArePiecesInReach, KeepsKeys};
+ghost use Rattle.geo_poly.specs.Inner.Settings.{IsSet, IsSetUnder, IsStoredUnder, Swaps};
+ghost use Rattle.geo_poly.specs.Keys.{IsKeyUnder, Keys};
 ghost use Rattle.geo_poly.specs.Monomials.{IsMonomial};
 ghost use Rattle.geo_poly.specs.Polynomials.{CanMultiply, coefficients, norm_of, polynomial_of};
 ghost use Rattle.geo_poly.specs.Polynomials.{product_of, term_cmp, total_degree};
@@ -23,6 +26,7 @@ ghost use Rattle.geo_poly.specs.Variables.{var_cmp};
 
 use crate::chained::summed;
 use crate::chained_replacement::{is_one, list_at, one_term_chain, stored_others, times_list};
+use crate::monomial_keys::MonomialKeys;
 use crate::pending::{Pending, front_of, sorted_pending};
 use crate::reading::read_powers;
 use crate::settings::Setting;
@@ -36,10 +40,10 @@ use poly_arena::{Arena, Chain};
 use std::alloc::Global;
 use std::sync::ledger::Ledger;
 
-/// The indices of the polynomial of a factor.
+/// The list of the polynomial of a factor.
 fn list_of_factor<'a>(setting: &Setting<'a>, factor: usize) -> &'a [Indexed]
-    ensures { (links : Links) → IsSet setting.now links
-        → IsStoredAs setting.now.vars.now links result.now
+    ensures { (keys : Keys) → IsSetUnder setting.now keys
+        → IsStoredUnder setting.now.vars.now keys result.now
         (piece_of setting.now.rows.now setting.now.den.piece.now factor).poly }
 {
     if factor == 0 || factor > setting.nums.len() {
@@ -50,27 +54,32 @@ fn list_of_factor<'a>(setting: &Setting<'a>, factor: usize) -> &'a [Indexed]
 
 /// The chain times the factor; it is not multiplied by 1. The chain is spent, also where there is no
 /// memory.
-fn times_factor<L: Ledger>(
+fn times_factor<K: MonomialKeys, L: Ledger>(
     alloc: Global,
     setting: &Setting,
-    store: &mut Monos,
+    keys: &mut K,
     arena: &mut Arena,
     chain: Chain,
     factor: usize,
     ticks: &mut Ticks<L>,
 ) -> Result<Chain, NoMemory>
-    requires set { IsSet setting.now store.old }
+    requires set { IsSetUnder setting.now (K.keys keys.old) }
     requires live { IsLive arena.old chain }
-    requires keys { AllKeys (IsKey setting.now.vars.now store.old) (pairs_of arena.old chain) }
-    requires fits { CanMultiply (keyed_terms setting.now.vars.now store.old
+    requires keys { AllKeys (IsKeyUnder setting.now.vars.now (K.keys keys.old))
+        (pairs_of arena.old chain) }
+    requires fits { CanMultiply (keyed_terms_under setting.now.vars.now (K.keys keys.old)
         (pairs_of arena.old chain))
         (piece_of setting.now.rows.now setting.now.den.piece.now factor).poly }
-    ensures chain { IfOk result (λ c. StandsFor setting.now.vars.now store.new arena.new c
-        (product_of (keyed_terms setting.now.vars.now store.old (pairs_of arena.old chain))
+    requires reach { AreInReach setting.now.vars.now (K.keys keys.old)
+        (keyed_terms_under setting.now.vars.now (K.keys keys.old) (pairs_of arena.old chain))
+        (piece_of setting.now.rows.now setting.now.den.piece.now factor).poly }
+    ensures chain { IfOk result (λ c. StandsUnder setting.now.vars.now (K.keys keys.new) arena.new c
+        (product_of
+        (keyed_terms_under setting.now.vars.now (K.keys keys.old) (pairs_of arena.old chain))
         (piece_of setting.now.rows.now setting.now.den.piece.now factor).poly)) }
     ensures swaps { IfOk result (Swaps arena.old arena.new chain) }
     ensures err { OnErr result (Updates arena.old arena.new chain None) }
-    ensures kept { Keeps store.old store.new }
+    ensures kept { KeepsKeys (K.keys keys.old) (K.keys keys.new) }
     ensures ticks { ticks.new ≤ ticks.old + length (pairs_of arena.old chain)
         * length (piece_of setting.now.rows.now setting.now.den.piece.now factor).poly }
 {
@@ -78,41 +87,47 @@ fn times_factor<L: Ledger>(
     if is_one(list) {
         return Ok(chain);
     }
-    times_list(alloc, store, arena, setting.vars, chain, list, ticks)
+    times_list(alloc, keys, arena, setting.vars, chain, list, ticks)
 }
 
 /// The chain times these factors, the last one first. The chain is spent, also where there is no
 /// memory.
-fn times_factors<L: Ledger>(
+fn times_factors<K: MonomialKeys, L: Ledger>(
     alloc: Global,
     setting: &Setting,
-    store: &mut Monos,
+    keys: &mut K,
     arena: &mut Arena,
     chain: Chain,
     factors: &[usize],
     ticks: &mut Ticks<L>,
 ) -> Result<Chain, NoMemory>
-    requires set { IsSet setting.now store.old }
+    requires set { IsSetUnder setting.now (K.keys keys.old) }
     requires live { IsLive arena.old chain }
-    requires keys { AllKeys (IsKey setting.now.vars.now store.old) (pairs_of arena.old chain) }
+    requires keys { AllKeys (IsKeyUnder setting.now.vars.now (K.keys keys.old))
+        (pairs_of arena.old chain) }
     requires in_order { IsCanonical term_cmp coefficients
-        (keyed_terms setting.now.vars.now store.old (pairs_of arena.old chain)) }
+        (keyed_terms_under setting.now.vars.now (K.keys keys.old) (pairs_of arena.old chain)) }
     requires monomials { AllKeys IsMonomial
-        (keyed_terms setting.now.vars.now store.old (pairs_of arena.old chain)) }
+        (keyed_terms_under setting.now.vars.now (K.keys keys.old) (pairs_of arena.old chain)) }
     requires norm { weight_with
         (pieces_of setting.now.rows.now setting.now.den.piece.now factors.now)
-        (norm_of (keyed_terms setting.now.vars.now store.old (pairs_of arena.old chain)))
+        (norm_of
+        (keyed_terms_under setting.now.vars.now (K.keys keys.old) (pairs_of arena.old chain)))
         < 2 ^ 127 }
     requires degree { degree_with
         (pieces_of setting.now.rows.now setting.now.den.piece.now factors.now)
-        (total_degree (keyed_terms setting.now.vars.now store.old (pairs_of arena.old chain)))
+        (total_degree
+        (keyed_terms_under setting.now.vars.now (K.keys keys.old) (pairs_of arena.old chain)))
         ≤ 65535 }
-    ensures chain { IfOk result (λ c. StandsFor setting.now.vars.now store.new arena.new c
+    requires reach { ArePiecesInReach setting.now.vars.now (K.keys keys.old)
+        (pieces_of setting.now.rows.now setting.now.den.piece.now factors.now)
+        (keyed_terms_under setting.now.vars.now (K.keys keys.old) (pairs_of arena.old chain)) }
+    ensures chain { IfOk result (λ c. StandsUnder setting.now.vars.now (K.keys keys.new) arena.new c
         (times_pieces (pieces_of setting.now.rows.now setting.now.den.piece.now factors.now)
-        (keyed_terms setting.now.vars.now store.old (pairs_of arena.old chain)))) }
+        (keyed_terms_under setting.now.vars.now (K.keys keys.old) (pairs_of arena.old chain)))) }
     ensures swaps { IfOk result (Swaps arena.old arena.new chain) }
     ensures err { OnErr result (Updates arena.old arena.new chain None) }
-    ensures kept { Keeps store.old store.new }
+    ensures kept { KeepsKeys (K.keys keys.old) (K.keys keys.new) }
     ensures ticks { ticks.new ≤ ticks.old + products_with
         (pieces_of setting.now.rows.now setting.now.den.piece.now factors.now)
         (length (pairs_of arena.old chain)) }
@@ -121,7 +136,7 @@ fn times_factors<L: Ledger>(
     let mut i = factors.len();
     while i > 0 {
         i -= 1;
-        product = times_factor(alloc, setting, store, arena, product, factors[i], ticks)?;
+        product = times_factor(alloc, setting, keys, arena, product, factors[i], ticks)?;
     }
     Ok(product)
 }
@@ -156,6 +171,7 @@ fn lone_chain(
 
 /// The chain of the sum of the terms, each with its factors from a place on. The lists of powers and
 /// of numbers are for reading one monomial after the other.
+#[tactic(auto, using(crate::proofs::KeysKept::keeps_links))]
 fn nested_sum<L: Ledger>(
     alloc: Global,
     setting: &Setting,

@@ -199,6 +199,7 @@ impl Poly {
     }
 
     /// The chain of the replacement, which fits.
+    #[tactic(auto, using(crate::proofs::KeysKept::keeps_links))]
     fn chained_replacement<L: Ledger>(
         &self,
         alloc: Global,

@@ -3,6 +3,8 @@ use Rattle.std.specs.Prelude.{◌≡◌, ℕ, ◌+◌, ◌<◌, ◌≤◌, max, 
 use Rattle.std.specs.declared.cmp.Ordering.{Ordering}
 use Rattle.mono_store.specs.declared.links.MonoId.{MonoId}
 use Rattle.mono_store.specs.Monomials.{Powers as NumberedPowers, exponent as numbered_exponent, monomial_cmp}
+use Rattle.geo_poly.specs.declared.replacement.Piece.{Piece}
+use Rattle.geo_poly.specs.declared.replacement.Row.{Row}
 use Rattle.geo_poly.specs.declared.variables.Var.{Var}
 use Rattle.geo_poly.specs.Keys.{IsKeyUnder, Keys}
 use Rattle.geo_poly.specs.Monomials.{Powers, exponent}
@@ -32,6 +34,29 @@ greatest_exponent v (t ∷ ts) = max (exponent v t.0) (greatest_exponent v ts)
 abbrev pub AreInReach : List Var → Keys → Summands → Summands → Type 0
 AreInReach vars keys p q =
     IfSome keys.limits (λ limit. (i : ℕ) → i < length vars → greatest_exponent (var_at vars i) p + greatest_exponent (var_at vars i) q ≤ limit i)
+
+-- no monomial has an exponent above its limit
+abbrev pub IsWithinLimits : List Var → Keys → Summands → Type 0
+IsWithinLimits vars keys p = IfSome keys.limits (λ limit. (i : ℕ) → i < length vars → greatest_exponent (var_at vars i) p ≤ limit i)
+
+-- the greatest exponent of the variable in the numerators, 0 where there is none
+abbrev pub greatest_of_rows : Var → List Row → ℕ
+greatest_of_rows v [] = 0
+greatest_of_rows v (row ∷ rows) = max (greatest_exponent v row.num.poly) (greatest_of_rows v rows)
+
+-- no monomial of the numerators has an exponent above its limit
+abbrev pub AreWithinLimits : List Var → Keys → List Row → Type 0
+AreWithinLimits vars keys rows = IfSome keys.limits (λ limit. (i : ℕ) → i < length vars → greatest_of_rows (var_at vars i) rows ≤ limit i)
+
+-- e plus the greatest exponents of the variable in the pieces
+abbrev pub exponent_with : Var → List Piece → ℕ → ℕ
+exponent_with v [] e = e
+exponent_with v (q ∷ qs) e = exponent_with v qs e + greatest_exponent v q.poly
+
+-- p times the pieces has no exponent above its limit
+abbrev pub ArePiecesInReach : List Var → Keys → List Piece → Summands → Type 0
+ArePiecesInReach vars keys qs p =
+    IfSome keys.limits (λ limit. (i : ℕ) → i < length vars → exponent_with (var_at vars i) qs (greatest_exponent (var_at vars i) p) ≤ limit i)
 
 -- the entry of a list is a key, which stands there as an index does
 abbrev pub IsIndexUnder : List Var → Keys → MonoId → Type 0
