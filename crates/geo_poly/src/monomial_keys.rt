@@ -91,7 +91,6 @@ pub(crate) trait MonomialKeys {
 
 impl MonomialKeys for Monos {
     ghost use Rattle.geo_poly.specs.Keys.{store_keys};
-
     ghost use Rattle.mono_store.proofs.Unfolding.{monomial_of-one};
     ghost use Rattle.std.proofs.Common.{refl};
 

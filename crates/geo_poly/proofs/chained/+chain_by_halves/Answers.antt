@@ -17,23 +17,23 @@ chain_by_halves-requires g t c =
         (
           below.1,
           (
-          c.requires.rising,
-          (
-            front_in c.args.vars.now (g.K.MonomialKeys.keys c.args.keys.now) c.args.left.now c.args.right.now
-                (length c.args.left.now / 2) c.split_at.result.0.now c.split_at.result.1.now c.split_at.ensures.front c.split_at.ensures.back
-                c.requires.left c.requires.right c.requires.fits,
+            c.requires.rising,
             (
-              c.requires.right,
-              (
-                front_fits c.args.vars.now (g.K.MonomialKeys.keys c.args.keys.now) c.args.left.now c.args.right.now
+              front_in c.args.vars.now (g.K.MonomialKeys.keys c.args.keys.now) c.args.left.now c.args.right.now
                   (length c.args.left.now / 2) c.split_at.result.0.now c.split_at.result.1.now c.split_at.ensures.front c.split_at.ensures.back
                   c.requires.left c.requires.right c.requires.fits,
-                front_reach c.args.vars.now (g.K.MonomialKeys.keys c.args.keys.now) c.args.left.now c.args.right.now
-                  (length c.args.left.now / 2) c.split_at.result.0.now c.split_at.result.1.now c.split_at.ensures.front c.split_at.ensures.back
-                  c.requires.left c.requires.right c.requires.fits c.requires.reach,
+              (
+                c.requires.right,
+                (
+                  front_fits c.args.vars.now (g.K.MonomialKeys.keys c.args.keys.now) c.args.left.now c.args.right.now
+                      (length c.args.left.now / 2) c.split_at.result.0.now c.split_at.result.1.now c.split_at.ensures.front c.split_at.ensures.back
+                      c.requires.left c.requires.right c.requires.fits,
+                  front_reach c.args.vars.now (g.K.MonomialKeys.keys c.args.keys.now) c.args.left.now c.args.right.now
+                      (length c.args.left.now / 2) c.split_at.result.0.now c.split_at.result.1.now c.split_at.ensures.front c.split_at.ensures.back
+                      c.requires.left c.requires.right c.requires.fits c.requires.reach,
+                ),
               ),
             ),
-          ),
           ),
         ),
       ),
@@ -48,25 +48,25 @@ chain_by_halves-requires-in_default g t c =
         (
           below.1,
           (
-          c.requires.rising,
-          (
-            back_later c.args.vars.now (g.K.MonomialKeys.keys c.args.keys.now) c.args.left.now c.args.right.now
-                (length c.args.left.now / 2) c.split_at.result.0.now c.split_at.result.1.now c.split_at.ensures.front c.split_at.ensures.back
-                c.requires.left c.requires.right c.requires.fits (g.K.MonomialKeys.keys c.chain_by_halves.new.keys) c.in_ok-sum-in_default.ensures.kept,
+            c.requires.rising,
             (
-              right_later c.args.vars.now (g.K.MonomialKeys.keys c.args.keys.now) c.args.left.now c.args.right.now
+              back_later c.args.vars.now (g.K.MonomialKeys.keys c.args.keys.now) c.args.left.now c.args.right.now
                   (length c.args.left.now / 2) c.split_at.result.0.now c.split_at.result.1.now c.split_at.ensures.front c.split_at.ensures.back
                   c.requires.left c.requires.right c.requires.fits (g.K.MonomialKeys.keys c.chain_by_halves.new.keys) c.in_ok-sum-in_default.ensures.kept,
               (
-                back_fits c.args.vars.now (g.K.MonomialKeys.keys c.args.keys.now) c.args.left.now c.args.right.now
-                  (length c.args.left.now / 2) c.split_at.result.0.now c.split_at.result.1.now c.split_at.ensures.front c.split_at.ensures.back
-                  c.requires.left c.requires.right c.requires.fits (g.K.MonomialKeys.keys c.chain_by_halves.new.keys) c.in_ok-sum-in_default.ensures.kept,
-                back_reach c.args.vars.now (g.K.MonomialKeys.keys c.args.keys.now) c.args.left.now c.args.right.now
-                  (length c.args.left.now / 2) c.split_at.result.0.now c.split_at.result.1.now c.split_at.ensures.front c.split_at.ensures.back
-                  c.requires.left c.requires.right c.requires.fits (g.K.MonomialKeys.keys c.chain_by_halves.new.keys) c.in_ok-sum-in_default.ensures.kept c.requires.reach,
+                right_later c.args.vars.now (g.K.MonomialKeys.keys c.args.keys.now) c.args.left.now c.args.right.now
+                    (length c.args.left.now / 2) c.split_at.result.0.now c.split_at.result.1.now c.split_at.ensures.front c.split_at.ensures.back
+                    c.requires.left c.requires.right c.requires.fits (g.K.MonomialKeys.keys c.chain_by_halves.new.keys) c.in_ok-sum-in_default.ensures.kept,
+                (
+                  back_fits c.args.vars.now (g.K.MonomialKeys.keys c.args.keys.now) c.args.left.now c.args.right.now
+                      (length c.args.left.now / 2) c.split_at.result.0.now c.split_at.result.1.now c.split_at.ensures.front c.split_at.ensures.back
+                      c.requires.left c.requires.right c.requires.fits (g.K.MonomialKeys.keys c.chain_by_halves.new.keys) c.in_ok-sum-in_default.ensures.kept,
+                  back_reach c.args.vars.now (g.K.MonomialKeys.keys c.args.keys.now) c.args.left.now c.args.right.now
+                      (length c.args.left.now / 2) c.split_at.result.0.now c.split_at.result.1.now c.split_at.ensures.front c.split_at.ensures.back
+                      c.requires.left c.requires.right c.requires.fits (g.K.MonomialKeys.keys c.chain_by_halves.new.keys) c.in_ok-sum-in_default.ensures.kept c.requires.reach,
+                ),
               ),
             ),
-          ),
           ),
         ),
       ),
