@@ -1,6 +1,6 @@
 //! Writes a log line by line, within the limit of its text; or counts its lines.
 
-ghost use Rattle.std.specs.Prelude.{◌≡◌, ◌+◌, ◌*◌, ◌^◌, ◌<◌, [], ◌∷◌, IfErr, List, OnOk, T, length};
+ghost use Rattle.std.specs.Prelude.{◌≡◌, ◌↔◌, ◌+◌, ◌*◌, ◌^◌, ◌<◌, [], ◌∷◌, IfErr, IsTrue, List, OnOk, length};
 ghost use Rattle.geo_logs.specs.Moves.{spent, too_large};
 ghost use Rattle.log_maker.specs.Sizes.{Fits, IsTakable, with_text};
 ghost use Rattle.proof_log.specs.declared.log.Line.{Line};
@@ -105,7 +105,7 @@ impl LogWriter {
 
     /// Whether so many more bytes of text are within the limit.
     pub fn has_room(&self, bytes: u64) -> bool
-        ensures { T result → Fits (with_text self.now.size bytes) }
+        ensures { IsTrue result ↔ Fits (with_text self.now.size bytes) }
     {
         has_room(self.size, bytes)
     }

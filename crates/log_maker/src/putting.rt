@@ -1,6 +1,7 @@
 //! The text of one line, put into a sink.
 
-ghost use Rattle.std.specs.Prelude.{◌≡◌, ◌+◌, ◌≤◌, ℕ, [], ◌∷◌, length, take, IfErr, IfOk, IsErrOf, OnErr, OnOk, T};
+ghost use Rattle.std.specs.Prelude.{◌≡◌, ◌↔◌, ◌+◌, ◌≤◌, ℕ, [], ◌∷◌, length, take, IfErr, IfOk};
+ghost use Rattle.std.specs.Prelude.{IsErrOf, IsTrue, OnErr, OnOk};
 ghost use Rattle.geo_base.specs.Devices.{Grows, HasRisen};
 ghost use Rattle.geo_logs.specs.Ends.{text_length};
 ghost use Rattle.log_maker.specs.Causes.{IsOfSink};
@@ -109,7 +110,7 @@ fn put_bytes<K: Sink>(sink: &mut K, bytes: u64, text: &[u8]) -> Result<u64, Prov
 /// Whether so many more bytes are within the limit.
 pub(crate) fn has_room(size: Size, bytes: u64) -> bool
     requires { Fits size }
-    ensures { T result → Fits (with_text size bytes) }
+    ensures { IsTrue result ↔ Fits (with_text size bytes) }
 {
     match size {
         Size::Written(before) => bytes <= LOG_LIMIT - before,
