@@ -29,7 +29,7 @@ use fraction_poly::KnownNumbers;
 use geo_base::Budget;
 use geo_logs::Move;
 use geo_points::NoMemory;
-use geo_poly::{Poly, PolyError, Ticks, Which};
+use geo_poly::{Poly, Ticks};
 use geo_terms::Steps;
 use std::alloc::Global;
 use std::sync::ledger::Ledger;
@@ -195,19 +195,5 @@ fn moved<L: Ledger>(
     // From here on it is known that the polynomial is in order and within its bounds.
     prove!(p.norm() >= 0);
     let (rows, den) = made_rows(alloc, steps.look(), known, rows)?;
-    within_bounds(p.replace(alloc, &rows.items, &den, ticks))
-}
-
-/// The polynomial of a call that passes no bound.
-fn within_bounds(answer: Result<Poly, PolyError>) -> Result<Poly, NoMemory>
-    requires norm { answer ≢ Err (PolyError.TooLarge Which.Norm) }
-    requires degree { answer ≢ Err (PolyError.TooLarge Which.Degree) }
-    ensures { IfOk result (λ p. answer ≡ Ok p) }
-{
-    match answer {
-        Ok(poly) => Ok(poly),
-        Err(PolyError::NoMemory) => Err(NoMemory),
-        Err(PolyError::TooLarge(Which::Norm)) => unreachable!(),
-        Err(PolyError::TooLarge(Which::Degree)) => unreachable!(),
-    }
+    p.replace_within(alloc, &rows.items, &den, ticks)
 }

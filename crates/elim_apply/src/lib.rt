@@ -9,6 +9,7 @@ pub mod laws;
 mod limits;
 mod numbered;
 mod replacing;
+mod shares;
 mod sizes;
 mod starting;
 mod variables;

@@ -66,3 +66,9 @@ pub mod MultipliedIn
 pub mod PendingTerms
 pub mod JoinedParts
 pub mod TermPlaces
+pub mod WordOrder
+pub mod WordFields
+pub mod FieldLists
+pub mod Gradings
+pub mod WordKeys
+pub mod WordChains

@@ -8,3 +8,4 @@ pub mod Moved
 pub mod Parts
 pub mod Factored
 pub mod Accumulated
+pub mod Words

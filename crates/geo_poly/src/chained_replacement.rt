@@ -18,7 +18,7 @@ ghost use Rattle.geo_poly.specs.Shared.{IsIndex, powers_at, terms_of};
 ghost use Rattle.geo_poly.specs.Variables.{var_cmp};
 
 use crate::chained::{multiples_chain, product_chain};
-use crate::interning::{indexed, number_at, place_near};
+use crate::interning::{indexed, place_near};
 use crate::moving::moved;
 use crate::polynomials::Poly;
 use crate::replacement::Row;
@@ -170,13 +170,12 @@ pub(crate) fn list_at(lists: &[IndexList], i: usize) -> &[Indexed]
     lists[i].as_slice()
 }
 
-/// The index of the monomial of the variables with no row. The numbers tell where to look first.
+/// The index of the monomial of the variables with no row.
 pub(crate) fn stored_others(
     store: &mut Monos,
     vars: &[Var],
     rows: &RowTable,
     powers: &[(Var, u32)],
-    numbers: &[u64],
 ) -> Result<MonoId, NoMemory>
     requires rising { IsStrictlySortedBy var_cmp vars.now }
     requires monomial { IsMonomial powers.now }
@@ -191,10 +190,10 @@ pub(crate) fn stored_others(
     while i > 0 {
         i -= 1;
         let (v, exponent) = powers[i];
-        let number = number_at(numbers, i);
-        match rows.find_row(v, number) {
+        let guess = i as u64;
+        match rows.find_row(v, guess) {
             Some(_) => {}
-            None => id = store.mono(place_near(vars, v, number), exponent, id)?,
+            None => id = store.mono(place_near(vars, v, guess), exponent, id)?,
         }
     }
     Ok(id)

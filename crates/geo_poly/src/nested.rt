@@ -12,6 +12,7 @@ ghost use Rattle.geo_poly.specs.Inner.Factored.{IsPending, degree_with, factored
 ghost use Rattle.geo_poly.specs.Inner.Factored.{factored_terms, factored_weight, piece_of};
 ghost use Rattle.geo_poly.specs.Inner.Factored.{pieces_of, products_with, times_pieces};
 ghost use Rattle.geo_poly.specs.Inner.Factored.{told_pending, weight_with};
+ghost use Rattle.geo_poly.specs.Inner.Moved.{AreMoved};
 ghost use Rattle.geo_poly.specs.Inner.Settings.{IsSet, IsStoredAs, Swaps};
 ghost use Rattle.geo_poly.specs.Monomials.{IsMonomial};
 ghost use Rattle.geo_poly.specs.Polynomials.{CanMultiply, coefficients, norm_of, polynomial_of};
@@ -22,16 +23,15 @@ ghost use Rattle.geo_poly.specs.Shared.{AreParts, IsIndexOf, told, told_powers};
 ghost use Rattle.geo_poly.specs.Variables.{var_cmp};
 
 use crate::chained::summed;
-use crate::chained_replacement::{is_one, list_at, one_term_chain, stored_others, times_list};
+use crate::chained_replacement::{is_one, list_at, one_term_chain, times_list};
+use crate::moving::{index_in, moved_monomials};
 use crate::pending::{Pending, front_of, sorted_pending};
-use crate::reading::read_powers;
 use crate::settings::Setting;
 use crate::shared::{Indexed, Shared};
 use crate::sharing::{shared_factors, split_place};
 use crate::ticks::Ticks;
-use crate::variables::Var;
 use geo_points::NoMemory;
-use mono_store::Monos;
+use mono_store::{MonoId, Monos};
 use poly_arena::{Arena, Chain};
 use std::alloc::Global;
 use std::sync::ledger::Ledger;
@@ -128,15 +128,16 @@ fn times_factors<L: Ledger>(
 
 /// The chain of a term without its factors: its other variables, with its coefficient.
 fn lone_chain(
+    alloc: Global,
     setting: &Setting,
     store: &mut Monos,
     arena: &mut Arena,
     p: &Shared,
+    table: &[Option<MonoId>],
     term: &Pending,
-    powers: &mut Vec<(Var, u32)>,
-    numbers: &mut Vec<u64>,
 ) -> Result<Chain, NoMemory>
     requires rising { IsStrictlySortedBy var_cmp setting.now.vars.now }
+    requires table { AreMoved p.now setting.now.rows.now setting.now.vars.now store.old table.now }
     requires index { IsIndexOf p.now term.now.id }
     requires monomial { IsMonomial (told_powers p.now term.now.id) }
     requires known { AllKeys (Contains setting.now.vars.now) (told_powers p.now term.now.id) }
@@ -147,29 +148,26 @@ fn lone_chain(
     ensures err { OnErr result (SameChains arena.old arena.new) }
     ensures kept { Keeps store.old store.new }
 {
-    read_powers(p, term.id, powers, numbers)?;
-    let powers = powers.as_slice();
-    let numbers = numbers.as_slice();
-    let rest = stored_others(store, setting.vars, setting.rows, powers, numbers)?;
+    let rest = index_in(alloc, store, setting.vars, setting.rows, p, table, term.id)?;
     one_term_chain(arena, rest.0, term.coefficient)
 }
 
-/// The chain of the sum of the terms, each with its factors from a place on. The lists of powers and
-/// of numbers are for reading one monomial after the other.
+/// The chain of the sum of the terms, each with its factors from a place on. The table has the indices
+/// of what is left of their monomials.
 fn nested_sum<L: Ledger>(
     alloc: Global,
     setting: &Setting,
     store: &mut Monos,
     arena: &mut Arena,
     p: &Shared,
+    table: &[Option<MonoId>],
     pending: &[Pending],
     depth: usize,
     splits: u32,
-    powers: &mut Vec<(Var, u32)>,
-    numbers: &mut Vec<u64>,
     ticks: &mut Ticks<L>,
 ) -> Result<Chain, NoMemory>
     requires set { IsSet setting.now store.old }
+    requires table { AreMoved p.now setting.now.rows.now setting.now.vars.now store.old table.now }
     requires pending { All (IsPending setting.now p.now depth) pending.now }
     requires norm { factored_weight (map (told_pending setting.now p.now depth) pending.now)
         < 2 ^ 127 }
@@ -185,7 +183,7 @@ fn nested_sum<L: Ledger>(
     match pending {
         [] => Ok(arena.chain()?),
         [term] => {
-            let chain = lone_chain(setting, store, arena, p, term, powers, numbers)?;
+            let chain = lone_chain(alloc, setting, store, arena, p, table, term)?;
             let factors = term.factors_from(depth);
             times_factors(alloc, setting, store, arena, chain, factors, ticks)
         }
@@ -196,10 +194,10 @@ fn nested_sum<L: Ledger>(
             let more = splits.saturating_add(1);
             let (front, back) = pending.split_at(split_place(pending, deeper, splits));
             let sum = nested_sum(
-                alloc, setting, store, arena, p, front, deeper, more, powers, numbers, ticks,
+                alloc, setting, store, arena, p, table, front, deeper, more, ticks,
             )?;
             match nested_sum(
-                alloc, setting, store, arena, p, back, deeper, more, powers, numbers, ticks,
+                alloc, setting, store, arena, p, table, back, deeper, more, ticks,
             ) {
                 Ok(rest) => {
                     let whole = summed(store, arena, setting.vars, sum, rest);
@@ -238,20 +236,9 @@ pub(crate) fn nested_chain<L: Ledger>(
     ensures ticks { ticks.new ≤ ticks.old + products_of_terms setting.now.rows.now
         setting.now.den.piece.now setting.now.top (told p.now) }
 {
-    let mut powers = Vec::new(alloc);
-    let mut numbers = Vec::new(alloc);
-    let pending = sorted_pending(alloc, setting, p, &mut powers, &mut numbers)?;
+    let pending = sorted_pending(alloc, setting, p)?;
+    let table = moved_monomials(alloc, store, setting.vars, setting.rows, p)?;
     nested_sum(
-        alloc,
-        setting,
-        store,
-        arena,
-        p,
-        &pending,
-        0,
-        0,
-        &mut powers,
-        &mut numbers,
-        ticks,
+        alloc, setting, store, arena, p, &table, &pending, 0, 0, ticks,
     )
 }

@@ -88,6 +88,29 @@ impl Poly {
         Ok(self.replacement(alloc, &table, den, top, ticks)?)
     }
 
+    /// The replacement of `replace`, where it is known that it fits.
+    pub fn replace_within<L: Ledger>(
+        &self,
+        alloc: Global,
+        rows: &[Row],
+        den: &Piece,
+        ticks: &mut Ticks<L>,
+    ) -> Result<Poly, NoMemory>
+        requires rows { AllBounded rows.now }
+        requires powers { AllPowersSmall rows.now }
+        requires den { IsBounded den.now }
+        requires norm { replaced_weight rows.now den.now self.now < 2 ^ 127 }
+        requires degree { replaced_degree rows.now den.now self.now ≤ 65535 }
+        ensures replaced { IfOk result (λ p. p ≡ replaced_by rows.now den.now.poly self.now) }
+        ensures ticks { ticks.new ≤ ticks.old
+            + replacement_products rows.now den.now self.now }
+    {
+        let p = &self.shared();
+        let table = RowTable::new(alloc, rows, p.vars);
+        let most = most_denominators_of(p, &table);
+        self.replacement(alloc, &table, den, most, ticks)
+    }
+
     /// The chain of the replacement, in an arena and over a store that are given; variables have
     /// the places in `vars` as their numbers. It is refused as `replace` is.
     pub fn replace_chain<L: Ledger>(

@@ -13,7 +13,6 @@ use Rattle.geo_terms.specs.Stores.{Store}
 use Rattle.geo_logs.specs.declared.moves.Move.{Move}
 use Rattle.geo_logs.specs.declared.moves.Replacement.{Replacement}
 use Rattle.elim_apply.specs.declared.drafted.DraftedRow.{DraftedRow}
-use Rattle.elim_apply.specs.declared.known_rows.KnownRow.{KnownRow}
 use Rattle.elim_apply.specs.declared.numbered.NumberedRow.{NumberedRow}
 use Rattle.elim_apply.specs.LemmaTable.{row_of_move}
 
@@ -65,6 +64,6 @@ sketches rows = map sketched rows
 abbrev pub sketch : List NumberedRow → RowNumbers → Replacement
 sketch rows den = record { rows = sketches rows; den = sketched_denominator den; charge = den.charge }
 
--- the row is the first of the variable, where it has one
-abbrev pub IsKnown : List NumberedRow → KnownRow → Type 0
-IsKnown rows known = option_map sketched known.row ≡ row_of (sketches rows) known.var
+-- the rows that the variables have, each where it has one
+abbrev pub AreKnown : List Row → List Var → List (Option NumberedRow) → Type 0
+AreKnown rows vars known = map (option_map sketched) known ≡ map (row_of rows) vars

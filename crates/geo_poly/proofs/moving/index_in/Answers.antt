@@ -3,9 +3,9 @@ use Rattle.geo_poly.specs.Inner.Moved.{IsSame}
 use Rattle.geo_poly.proofs.Moved.{entry_same}
 use Rattle.geo_poly.proofs.moving.index_in.Goals as goal
 
-same : (c : goal.In-Some) → IsSame c.args.p.now c.args.vars.now c.args.store.now c.args.id c.in-Some.new
+same : (c : goal.In-Some) → IsSame c.args.p.now c.args.rows.now c.args.vars.now c.args.store.now c.args.id c.in-Some.new
 same c =
-    entry_same c.args.p.now c.args.vars.now c.args.store.now c.args.table.now c.args.id c.in-Some.new
+    entry_same c.args.p.now c.args.rows.now c.args.vars.now c.args.store.now c.args.table.now c.args.id c.in-Some.new
     c.requires.table (sym c.new_index.ensures ∙ c.in-Some.is)
 
 pub returns-in-Some-clause-index : goal.returns-in-Some-clause-index

@@ -8,9 +8,9 @@ use Rattle.sparse_lists.proofs.Sums.{AllKeys-append, AllKeys-at}
 use Rattle.mono_store.proofs.Interning.{Keeps_trans}
 use Rattle.geo_poly.specs.Monomials.{Powers}
 use Rattle.geo_poly.specs.Polynomials.{Summands}
-use Rattle.geo_poly.specs.Shared.{IsIndex, powers_at, term_of, terms_of, told, told_term}
+use Rattle.geo_poly.specs.Shared.{IsIndex, powers_at, term_of, terms_of, told, told_powers, told_term}
 use Rattle.geo_poly.proofs.Entries.{item_fits}
-use Rattle.geo_poly.proofs.Moved.{AreMoved-kept}
+use Rattle.geo_poly.proofs.Moved.{AreMoved-kept, others-all}
 use Rattle.geo_poly.proofs.Told.{index_at, indices-kept, item, monomial_at, terms_of-kept, told-is, told-take, told-within}
 use Rattle.geo_poly.proofs.moving.looked_up.Goals as goal
 
@@ -39,7 +39,7 @@ loop-id-preserved c =
     let fits = item_fits p i c.loop-id-test.true c.requires.parts.polynomial.norm_fits in
     record {
       kept = Keeps_trans c.loop-id.invariant.kept kept;
-      table = AreMoved-kept p vars old new kept c.args.table.now c.loop-id.invariant.table;
+      table = AreMoved-kept p c.args.rows.now vars old new kept c.args.table.now c.loop-id.invariant.table;
       indices = rw c.in_ok-push.ensures.items
           (AllKeys-append (IsIndex vars new) list _ (indices-kept vars old new list kept c.loop-id.invariant.indices)
           (c.in_ok-new.ensures.index, tt));
@@ -48,6 +48,7 @@ loop-id-preserved c =
           ∙ ap₂ (λ (ts : Summands) (z : ℤ). ts ++ (powers_at vars new c.in_ok-new.new, z) ∷ [])
           (terms_of-kept vars old new list kept c.loop-id.invariant.indices ∙ c.loop-id.invariant.terms)
           (to_z-of_z w128 (item p.list.now i).1 fits)
-          ∙ ap (λ (m : Powers). take i (told p) ++ (m, (item p.list.now i).1) ∷ []) c.in_ok-new.ensures.powers
+          ∙ ap (λ (m : Powers). take i (told p) ++ (m, (item p.list.now i).1) ∷ [])
+          (c.in_ok-new.ensures.powers ∙ others-all c.args.rows.now (told_powers p (item p.list.now i).0) c.requires.no_rows)
           ∙ sym (told-take p i c.loop-id-test.true);
     }

@@ -15,6 +15,7 @@ use Rattle.geo_poly.proofs.ChainSums.{first_order, first_still, norms_fit, secon
 use Rattle.geo_poly.proofs.ChainSwaps.{AddsChain-swaps, IsSet-kept}
 use Rattle.geo_poly.proofs.JoinedParts.{alone, joined_adds, joined_degree, joined_made, joined_monomials, joined_norm, joined_order, joined_products, joined_stands}
 use Rattle.geo_poly.proofs.JoinedParts.{lone_degree, lone_made, lone_monomials, lone_norm, lone_order, lone_pending, lone_products}
+use Rattle.geo_poly.proofs.Moved.{AreMoved-kept}
 use Rattle.geo_poly.proofs.NestedSums.{all_deeper, back_norm, deeper_norm, front_norm, parts_fit, parts_products, parts_sum}
 use Rattle.geo_poly.proofs.ReplaceTerms.{IsCanonical-polynomial_of}
 use Rattle.geo_poly.proofs.nested.+nested_sum.Goals as goal
@@ -37,14 +38,17 @@ nested_sum-requires g t c =
         (
           c.requires.set,
           (
-            subst (λ (xs : List Pending). All (IsPending setting p (c.args.depth + n)) xs) (sym c.split_at.ensures.front)
-                (All-take (IsPending setting p (c.args.depth + n)) at es
-                (all_deeper setting c.args.store.now c.requires.set p c.args.depth n first es c.shared_factors-shared.ensures.shared
-                c.requires.pending)),
-            front_norm setting c.args.store.now c.requires.set p
-                (c.args.depth + n) es at front back c.split_at.ensures.front c.split_at.ensures.back
-                (deeper_norm setting c.args.store.now c.requires.set p c.args.depth n first es c.shared_factors-shared.ensures.shared
-                c.requires.pending c.requires.norm),
+            c.requires.table,
+            (
+              subst (λ (xs : List Pending). All (IsPending setting p (c.args.depth + n)) xs) (sym c.split_at.ensures.front)
+                  (All-take (IsPending setting p (c.args.depth + n)) at es
+                  (all_deeper setting c.args.store.now c.requires.set p c.args.depth n first es c.shared_factors-shared.ensures.shared
+                  c.requires.pending)),
+              front_norm setting c.args.store.now c.requires.set p
+                  (c.args.depth + n) es at front back c.split_at.ensures.front c.split_at.ensures.back
+                  (deeper_norm setting c.args.store.now c.requires.set p c.args.depth n first es c.shared_factors-shared.ensures.shared
+                  c.requires.pending c.requires.norm),
+            ),
           ),
         ),
       ),
@@ -67,14 +71,17 @@ nested_sum-requires-in_default g t c =
         (
           IsSet-kept setting c.args.store.now c.nested_sum.new.store c.in_ok-sum-in_default.ensures.kept c.requires.set,
           (
-            subst (λ (xs : List Pending). All (IsPending setting p (c.args.depth + n)) xs) (sym c.split_at.ensures.back)
-                (All-drop (IsPending setting p (c.args.depth + n)) at es
-                (all_deeper setting c.args.store.now c.requires.set p c.args.depth n first es c.shared_factors-shared.ensures.shared
-                c.requires.pending)),
-            back_norm setting c.args.store.now c.requires.set p
-                (c.args.depth + n) es at front back c.split_at.ensures.front c.split_at.ensures.back
-                (deeper_norm setting c.args.store.now c.requires.set p c.args.depth n first es c.shared_factors-shared.ensures.shared
-                c.requires.pending c.requires.norm),
+            AreMoved-kept p setting.rows.now setting.vars.now c.args.store.now c.nested_sum.new.store c.in_ok-sum-in_default.ensures.kept c.args.table.now c.requires.table,
+            (
+              subst (λ (xs : List Pending). All (IsPending setting p (c.args.depth + n)) xs) (sym c.split_at.ensures.back)
+                  (All-drop (IsPending setting p (c.args.depth + n)) at es
+                  (all_deeper setting c.args.store.now c.requires.set p c.args.depth n first es c.shared_factors-shared.ensures.shared
+                  c.requires.pending)),
+              back_norm setting c.args.store.now c.requires.set p
+                  (c.args.depth + n) es at front back c.split_at.ensures.front c.split_at.ensures.back
+                  (deeper_norm setting c.args.store.now c.requires.set p c.args.depth n first es c.shared_factors-shared.ensures.shared
+                  c.requires.pending c.requires.norm),
+            ),
           ),
         ),
       ),

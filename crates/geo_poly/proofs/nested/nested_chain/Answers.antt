@@ -1,32 +1,38 @@
 use Rattle.std.proofs.Common.{List, ap, sym, subst, ◌∙◌, arith}
 use Rattle.std.proofs.lemmas.Result.{IfOk-weaker}
+use Rattle.mono_store.proofs.Interning.{Keeps_trans}
 use Rattle.geo_poly.specs.Chained.{StandsFor}
 use Rattle.geo_poly.specs.declared.pending.Pending.{Pending}
 use Rattle.geo_poly.specs.Inner.Factored.{ArePending}
 use Rattle.geo_poly.specs.Polynomials.{Summands, polynomial_of}
 use Rattle.geo_poly.specs.Shared.{told}
 use Rattle.geo_poly.proofs.Accumulated.{accumulated_is_replaced}
+use Rattle.geo_poly.proofs.ChainSwaps.{IsSet-kept}
 use Rattle.geo_poly.proofs.nested.nested_chain.Goals as goal
+
+pub nested_sum-requires-clause-set : goal.nested_sum-requires-clause-set
+nested_sum-requires-clause-set g c =
+    IsSet-kept c.args.setting.now c.args.store.now c.moved_monomials.new.store c.in_ok-table.ensures.kept c.requires.set
 
 pub nested_sum-requires-clause-pending : goal.nested_sum-requires-clause-pending
 nested_sum-requires-clause-pending g c =
     let setting = c.args.setting.now in
     let p = c.args.p.now in
-    let found = subst (λ (es : List Pending). ArePending setting p (told p) es) (sym c.deref.ensures.value) c.in_ok-pending.ensures.pending in
+    let found = subst (λ (es : List Pending). ArePending setting p (told p) es) (sym c.deref-2.ensures.value) c.in_ok-pending.ensures.pending in
     found.pending
 
 pub nested_sum-requires-clause-norm : goal.nested_sum-requires-clause-norm
 nested_sum-requires-clause-norm g c =
     let setting = c.args.setting.now in
     let p = c.args.p.now in
-    let found = subst (λ (es : List Pending). ArePending setting p (told p) es) (sym c.deref.ensures.value) c.in_ok-pending.ensures.pending in
+    let found = subst (λ (es : List Pending). ArePending setting p (told p) es) (sym c.deref-2.ensures.value) c.in_ok-pending.ensures.pending in
     omega (arith, found.weight, c.requires.can.weight_fits)
 
 pub returns-clause-chain : goal.returns-clause-chain
 returns-clause-chain g c =
     let setting = c.args.setting.now in
     let p = c.args.p.now in
-    let found = subst (λ (es : List Pending). ArePending setting p (told p) es) (sym c.deref.ensures.value) c.in_ok-pending.ensures.pending in
+    let found = subst (λ (es : List Pending). ArePending setting p (told p) es) (sym c.deref-2.ensures.value) c.in_ok-pending.ensures.pending in
     let can = c.requires.can in
     let den = setting.den.piece.now.poly in
     let same = accumulated_is_replaced setting.rows.now den setting.top (told p) can.in_order can.monomials in
@@ -39,5 +45,8 @@ pub returns-clause-ticks : goal.returns-clause-ticks
 returns-clause-ticks g c =
     let setting = c.args.setting.now in
     let p = c.args.p.now in
-    let found = subst (λ (es : List Pending). ArePending setting p (told p) es) (sym c.deref.ensures.value) c.in_ok-pending.ensures.pending in
+    let found = subst (λ (es : List Pending). ArePending setting p (told p) es) (sym c.deref-2.ensures.value) c.in_ok-pending.ensures.pending in
     omega (arith, found.products, c.nested_sum.ensures.ticks)
+
+pub returns-clause-kept : goal.returns-clause-kept
+returns-clause-kept g c = Keeps_trans c.in_ok-table.ensures.kept c.nested_sum.ensures.kept
