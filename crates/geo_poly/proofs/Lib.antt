@@ -37,6 +37,8 @@ pub mod RowPlaces
 pub mod ProductOrder
 pub mod Naming
 pub mod Told
+pub mod KeysKept
+pub mod InReach
 pub mod KeyedChains
 pub mod ChainSteps
 pub mod ChainHalves
@@ -60,6 +62,8 @@ pub mod ZeroFactors
 pub mod TickBounds
 pub mod KnownVariables
 pub mod FactoredTerms
+pub mod GoodPieces
+pub mod PieceReach
 pub mod NestedSums
 pub mod FactorPaths
 pub mod MultipliedIn

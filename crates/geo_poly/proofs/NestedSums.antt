@@ -13,7 +13,8 @@ use Rattle.geo_poly.specs.declared.shared.Shared.{Shared}
 use Rattle.geo_poly.specs.declared.variables.Var.{Var}
 use Rattle.geo_poly.specs.Inner.Factored.{Factored, IsPending, degree_with, factored_products, factored_terms, factored_weight}
 use Rattle.geo_poly.specs.Inner.Factored.{numerator_at, piece_of, pieces_of, products_with, times_pieces, told_pending, weight_with}
-use Rattle.geo_poly.specs.Inner.Settings.{AreStored, IsSet}
+use Rattle.geo_poly.specs.Inner.Settings.{IsSet}
+use Rattle.geo_poly.specs.Keys.{store_keys}
 use Rattle.geo_poly.specs.Monomials.{degree_of}
 use Rattle.geo_poly.specs.Polynomials.{Summands, norm_of, polynomial_of, sum_of, total_degree}
 use Rattle.geo_poly.specs.Replace.{AllBounded, others}
@@ -21,16 +22,9 @@ use Rattle.geo_poly.specs.Shared.{Indices, told_powers}
 use Rattle.geo_poly.proofs.FactoredTerms.{AllGood, AllGoodTerms, AllWithin, IsGood, degree_with-append, degree_with-is, factored_count}
 use Rattle.geo_poly.proofs.FactoredTerms.{length-sum-le, norm_of-sum-le, products_with-mono, shared_products, shared_terms, shared_weight}
 use Rattle.geo_poly.proofs.FactoredTerms.{sum_of_parts, total_degree-sum-le, weight_with-grows, weight_with-mono, with_pieces}
+use Rattle.geo_poly.proofs.GoodPieces.{good_pieces}
 use Rattle.geo_poly.proofs.ChainPowers.{some}
 use Rattle.geo_poly.proofs.ReplaceTerms.{IsMonomial-others}
-
--- THE PIECES
-good_numerator : (vars : List Var) (links : Links) (rows : List Row) (lists : List Indices) (den : Piece) → IsGood den → AllBounded rows
-    → AreStored vars links rows lists → (i : ℕ) → IsGood (numerator_at rows den i)
-good_numerator vars links [] lists den good bounded stored i = good
-good_numerator vars links (r ∷ rows) [] den good bounded stored i = absurd stored
-good_numerator vars links (r ∷ rows) (l ∷ lists) den good bounded stored zero = record { bounded = bounded.0; polynomial = stored.0.polynomial }
-good_numerator vars links (r ∷ rows) (l ∷ lists) den good bounded stored (suc i) = good_numerator vars links rows lists den good bounded.1 stored.1 i
 
 module _ (setting : Setting) (links : Links) (set : IsSet setting links) where
   abbrev rows : List Row
@@ -39,21 +33,13 @@ module _ (setting : Setting) (links : Links) (set : IsSet setting links) where
   abbrev den : Piece
   den = setting.den.piece.now
 
-  good_den : IsGood setting.den.piece.now
-  good_den = record { bounded = set.den_bounded; polynomial = set.den_stored.polynomial }
-
-  pub good_piece : (k : ℕ) → IsGood (piece_of setting.rows.now setting.den.piece.now k)
-  good_piece zero = good_den
-  good_piece (suc i) = good_numerator setting.vars.now links rows setting.nums.now den good_den set.rows_bounded set.rows_stored i
-
-  pub good_pieces : (ks : List ℕ) → AllGood (pieces_of setting.rows.now setting.den.piece.now ks)
-  good_pieces [] = tt
-  good_pieces (k ∷ ks) = (good_piece k, good_pieces ks)
+  good : (ks : List ℕ) → AllGood (pieces_of setting.rows.now setting.den.piece.now ks)
+  good ks = good_pieces setting (store_keys links) set ks
 
   module _ (p : Shared) where
     pub good_terms : (depth : ℕ) (es : List Pending) → AllGoodTerms (map (told_pending setting p depth) es)
     good_terms depth [] = tt
-    good_terms depth (e ∷ es) = (good_pieces (drop depth e.factors.items), good_terms depth es)
+    good_terms depth (e ∷ es) = (good (drop depth e.factors.items), good_terms depth es)
 
     -- ALL TERMS
     pub all_within : (depth : ℕ) (es : List Pending) → All (IsPending setting p depth) es → AllWithin 65535 (map (told_pending setting p depth) es)
@@ -142,7 +128,7 @@ module _ (setting : Setting) (links : Links) (set : IsSet setting links) where
         weighs = ap factored_weight (all_share es share) ∙ shared_weight shared deep
 
         pub deeper_norm : factored_weight (map (told_pending setting p (depth + n)) es) < 2 ^ 127
-        deeper_norm = omega (arith, norm, weighs, weight_with-grows shared (factored_weight deep) (good_pieces (take n first)))
+        deeper_norm = omega (arith, norm, weighs, weight_with-grows shared (factored_weight deep) (good (take n first)))
 
         pub norm_left : weight_with (pieces_of setting.rows.now setting.den.piece.now (take n first)) (norm_of (polynomial_of (factored_terms (map (told_pending setting p (depth + n)) es)))) < 2 ^ 127
         norm_left = omega (arith, norm, weighs, weight_with-mono shared (norm_of sum) (factored_weight deep) (norm_of-sum-le deep (good_terms (depth + n) es)))

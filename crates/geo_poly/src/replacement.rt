@@ -5,8 +5,10 @@ ghost use Rattle.std.specs.List.Sorted.{IsStrictlySortedBy};
 ghost use Rattle.mono_store.specs.Stores.{Keeps};
 ghost use Rattle.geo_poly.specs.declared.limits.Which.{Which};
 ghost use Rattle.geo_poly.specs.declared.variables.Var.{Var};
-ghost use Rattle.geo_poly.specs.Chained.{AddsChain, SameChains, StandsFor};
+ghost use Rattle.geo_poly.specs.Chained.{AddsChain, SameChains, StandsFor, StandsUnder};
 ghost use Rattle.geo_poly.specs.Counted.{replacement_products};
+ghost use Rattle.geo_poly.specs.Inner.Keyed.{AreWithinLimits, IsWithinLimits, KeepsKeys};
+ghost use Rattle.geo_poly.specs.Inner.ReplacedExponents.{IsReplacedInReach};
 ghost use Rattle.geo_poly.specs.KeptVariables.{AllNumerators};
 ghost use Rattle.geo_poly.specs.PolynomialVariables.{AllVariables};
 ghost use Rattle.geo_poly.specs.Replace.{AllBounded, AllPowersSmall, CanReplace, IsBounded};
@@ -14,10 +16,10 @@ ghost use Rattle.geo_poly.specs.Replace.{most_denominators, replaced_by};
 ghost use Rattle.geo_poly.specs.Replace.{replaced_degree, replaced_weight};
 ghost use Rattle.geo_poly.specs.Variables.{var_cmp};
 
-use crate::chained_replacement::stored_rows;
-use crate::interning::stored_terms;
+use crate::chained_replacement::{stored_poly, stored_rows};
 use crate::limits::{MAX, MAX_DEGREE, PolyError, Which};
 use crate::lists::Vars;
+use crate::monomial_keys::MonomialKeys;
 use crate::nested::nested_chain;
 use crate::polynomial_variables::union;
 use crate::polynomials::Poly;
@@ -222,6 +224,7 @@ impl Poly {
     }
 
     /// The chain of the replacement, which fits.
+    #[tactic(auto, using(crate::proofs::KeysKept::keeps_links))]
     fn chained_replacement<L: Ledger>(
         &self,
         alloc: Global,
@@ -247,9 +250,43 @@ impl Poly {
         ensures ticks { ticks.new ≤ ticks.old
             + replacement_products rows.now den.now self.now }
     {
-        let vars = vars.as_slice();
-        let nums = stored_rows(alloc, store, vars, rows.rows())?;
-        let list = stored_terms(alloc, store, vars, &den.poly.to_terms(alloc)?)?;
+        self.keyed_replacement(
+            alloc, rows, den, top, vars.as_slice(), store, arena, ticks,
+        )
+    }
+
+    /// The chain of the replacement, which fits, under any keys that have room.
+    fn keyed_replacement<K: MonomialKeys, L: Ledger>(
+        &self,
+        alloc: Global,
+        rows: &RowTable,
+        den: &Piece,
+        top: u32,
+        vars: &[Var],
+        keys: &mut K,
+        arena: &mut Arena,
+        ticks: &mut Ticks<L>,
+    ) -> Result<Chain, NoMemory>
+        requires top { top ≡ most_denominators rows.now self.now }
+        requires can { CanReplace rows.now den.now top self.now }
+        requires rising { IsStrictlySortedBy var_cmp vars.now }
+        requires known { AllVariables (Contains vars.now) self.now }
+        requires rows_known { AllNumerators (Contains vars.now) rows.now }
+        requires den_known { AllVariables (Contains vars.now) den.now.poly }
+        requires rows_reach { AreWithinLimits vars.now (K.keys keys.old) rows.now }
+        requires den_reach { IsWithinLimits vars.now (K.keys keys.old) den.now.poly }
+        requires reach { IsReplacedInReach vars.now (K.keys keys.old) rows.now den.now top
+            self.now }
+        ensures chain { IfOk result (λ c. StandsUnder vars.now (K.keys keys.new) arena.new c
+            (replaced_by rows.now den.now.poly self.now)) }
+        ensures adds { IfOk result (AddsChain arena.old arena.new) }
+        ensures err { OnErr result (SameChains arena.old arena.new) }
+        ensures kept { KeepsKeys (K.keys keys.old) (K.keys keys.new) }
+        ensures ticks { ticks.new ≤ ticks.old
+            + replacement_products rows.now den.now self.now }
+    {
+        let nums = stored_rows(alloc, keys, vars, rows.rows())?;
+        let list = stored_poly(alloc, keys, vars, &den.poly)?;
         let p = &self.shared();
         let setting = Setting {
             vars,
@@ -261,7 +298,7 @@ impl Poly {
             },
             top,
         };
-        nested_chain(alloc, &setting, store, arena, p, ticks)
+        nested_chain(alloc, &setting, keys, arena, p, ticks)
     }
 }
 

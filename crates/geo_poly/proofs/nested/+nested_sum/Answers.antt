@@ -13,6 +13,7 @@ use Rattle.geo_poly.specs.Polynomials.{Summands, polynomial_of}
 use Rattle.geo_poly.proofs.ChainSteps.{gave_back}
 use Rattle.geo_poly.proofs.ChainSums.{first_order, first_still, norms_fit, second_order}
 use Rattle.geo_poly.proofs.ChainSwaps.{AddsChain-swaps, IsSet-kept}
+use Rattle.geo_poly.proofs.KeysKept.{keeps_links}
 use Rattle.geo_poly.proofs.JoinedParts.{alone, joined_adds, joined_degree, joined_made, joined_monomials, joined_norm, joined_order, joined_products, joined_stands}
 use Rattle.geo_poly.proofs.JoinedParts.{lone_degree, lone_made, lone_monomials, lone_norm, lone_order, lone_pending, lone_products}
 use Rattle.geo_poly.proofs.Moved.{AreMoved-kept}
@@ -294,7 +295,7 @@ returns-in-Ok-clause-chain g t c =
     (parts_sum setting c.args.store.now c.requires.set p
     (c.args.depth + n) es at front back c.split_at.ensures.front c.split_at.ensures.back) in
     IfOk-weaker c.times_factors-in-Ok.result _ _
-    (λ v h. subst (λ (q : Summands). StandsFor setting.vars.now c.times_factors-in-Ok.new.store c.times_factors-in-Ok.new.arena v q)
+    (λ v h. subst (λ (q : Summands). StandsFor setting.vars.now c.times_factors-in-Ok.new.keys c.times_factors-in-Ok.new.arena v q)
     (joined_made setting c.args.store.now c.requires.set p c.args.depth n first es c.shared_factors-shared.ensures.shared
     c.requires.pending c.requires.norm
     (omega (arith, c.split_place.ensures.some, c.split_place.ensures.within)) c.front_of-factors.result.now c.front_of-factors.ensures
@@ -341,7 +342,7 @@ returns-in-Ok-clause-err g t c =
 
 pub returns-in-Ok-clause-kept : goal.returns-in-Ok-clause-kept
 returns-in-Ok-clause-kept g t c =
-    Keeps_trans (Keeps_trans c.in_ok-sum-in_default.ensures.kept c.in-Ok.ensures.kept) c.times_factors-in-Ok.ensures.kept
+    Keeps_trans (Keeps_trans c.in_ok-sum-in_default.ensures.kept c.in-Ok.ensures.kept) (keeps_links c.nested_sum-in_default.new.store c.times_factors-in-Ok.new.keys c.times_factors-in-Ok.ensures.kept)
 
 pub returns-in-Ok-clause-ticks : goal.returns-in-Ok-clause-ticks
 returns-in-Ok-clause-ticks g t c =
@@ -504,7 +505,7 @@ returns-in_ok-chain-in-len1-clause-chain g t c =
     let e = c.term-item.result in
     let one : es ≡ e ∷ [] = alone es e c.in-len1.len_at_least c.in-len1.len_below c.term-item.is in
     IfOk-weaker c.times_factors.result _ _
-    (λ v h. subst (λ (q : Summands). StandsFor setting.vars.now c.times_factors.new.store c.times_factors.new.arena v q)
+    (λ v h. subst (λ (q : Summands). StandsFor setting.vars.now c.times_factors.new.keys c.times_factors.new.arena v q)
     (lone_made setting p c.args.depth e es one c.requires.pending c.factors_from-factors.result.now c.factors_from-factors.ensures
     (keyed_terms setting.vars.now c.lone_chain.new.store (pairs_of c.lone_chain.new.arena c.in_ok-chain-in-len1.chain)) c.in_ok-chain-in-len1.ensures.chain.terms) h)
     c.times_factors.ensures.chain

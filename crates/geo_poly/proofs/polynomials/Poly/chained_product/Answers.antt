@@ -35,6 +35,6 @@ returns-clause-chain g c =
     (c.in_ok-left.ensures.terms ∙ c.shared.ensures.terms) in
     let right = ap (terms_of c.as_slice-vars.result.now c.moved-2.new.store) c.deref-2.ensures.value ∙ c.in_ok-right.ensures.terms ∙ c.shared-2.ensures.terms in
     IfOk-weaker c.product_chain.result _ _
-    (λ v h. subst (λ (vs : List Var). StandsFor vs c.product_chain.new.store c.product_chain.new.arena v (product_of c.args.self.now c.args.other.now)) c.as_slice-vars.ensures
-    (subst (λ (p : Summands). StandsFor vars c.product_chain.new.store c.product_chain.new.arena v p) (ap₂ product_of left right) h))
+    (λ v h. subst (λ (vs : List Var). StandsFor vs c.product_chain.new.keys c.product_chain.new.arena v (product_of c.args.self.now c.args.other.now)) c.as_slice-vars.ensures
+    (subst (λ (p : Summands). StandsFor vars c.product_chain.new.keys c.product_chain.new.arena v p) (ap₂ product_of left right) h))
     c.product_chain.ensures.chain

@@ -12,7 +12,7 @@ use Rattle.geo_poly.proofs.polynomials.Poly.chained_replacement.Goals as goal
 pub nested_chain-requires-clause-set : goal.nested_chain-requires-clause-set
 nested_chain-requires-clause-set g c =
     let vars = c.as_slice-vars.result.now in
-    let s1 = c.stored_rows.new.store in
+    let s1 = c.stored_rows.new.keys in
     let s2 = c.stored_terms.new.store in
     let rows = c.args.rows.now in
     let nums = c.in_ok-nums.nums.items in
