@@ -23,7 +23,9 @@ use crate::reading::{count_powers, is_same, norm_at, power_at, terms_at, total_d
 use crate::shared::{Indexed, Shared};
 use crate::stored::Stored;
 use crate::terms::Term;
+use crate::unpacking::unpacked;
 use crate::variables::Var;
+use crate::words::Fields;
 use crate::zeros::keep_lacking;
 use geo_points::NoMemory;
 use mono_store::{MonoId, Monos};
@@ -245,6 +247,21 @@ impl Poly {
     {
         let pairs = arena.into_list(alloc, chain)?;
         let list = indexed(alloc, &pairs)?;
+        Poly::compact(alloc, vars, monos, list)
+    }
+
+    /// The polynomial that a chain of words stands for. The chain and its arena are spent.
+    pub(crate) fn from_words(
+        alloc: Global,
+        vars: Vars,
+        words: &Fields,
+        arena: Arena,
+        chain: Chain,
+    ) -> Result<Poly, NoMemory>
+    {
+        let pairs = arena.into_list(alloc, chain)?;
+        let mut monos = Monos::with_capacity(alloc, pairs.len() as u64)?;
+        let list = unpacked(alloc, words, &mut monos, vars.as_slice(), &pairs)?;
         Poly::compact(alloc, vars, monos, list)
     }
 

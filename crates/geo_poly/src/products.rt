@@ -13,16 +13,18 @@ ghost use Rattle.sparse_lists.specs.SparseLists.{AllKeys};
 ghost use Rattle.geo_poly.specs.Variables.{var_cmp};
 
 use crate::chained::product_chain;
+use crate::exponent_limits::product_fields;
 use crate::interning::indexed;
 use crate::limits::{MAX, MAX_DEGREE, PolyError, Which};
 use crate::lists::Vars;
-use crate::moving::moved;
+use crate::moving::{keyed, moved};
 use crate::multiples::multiples_list;
 use crate::polynomial_variables::{has_all, union};
 use crate::polynomials::Poly;
 use crate::shared::{Indexed, Shared};
 use crate::ticks::Ticks;
 use crate::variables::Var;
+use crate::words::Fields;
 use geo_points::NoMemory;
 use mono_store::Monos;
 use poly_arena::{Arena, Chain};
@@ -143,9 +145,28 @@ fn product(alloc: Global, p: &Shared, q: &Shared) -> Result<Poly, NoMemory>
         return product_over(alloc, q, p);
     }
     let vars = union(alloc, p.vars, q.vars)?;
+    match product_fields(alloc, vars.as_slice(), p, q)? {
+        Some(words) => packed_product(alloc, vars, words, p, q),
+        None => stored_product(alloc, vars, p, q),
+    }
+}
+
+/// The product, which fits, over a store.
+fn stored_product(alloc: Global, vars: Vars, p: &Shared, q: &Shared) -> Result<Poly, NoMemory> {
     let mut monos = Monos::with_capacity(alloc, product_room(p, q))?;
     let list = product_of_moved(alloc, &mut monos, vars.as_slice(), p, q)?;
     Poly::compact(alloc, vars, monos, list)
+}
+
+/// The product, which fits, by words.
+fn packed_product(alloc: Global, vars: Vars, words: Fields, p: &Shared, q: &Shared) -> Result<Poly, NoMemory> {
+    let mut words = words;
+    let left = keyed(alloc, &mut words, vars.as_slice(), p)?;
+    let right = keyed(alloc, &mut words, vars.as_slice(), q)?;
+    let mut arena = Arena::new(alloc)?;
+    let mut ticks = Ticks::<Brand>::new(Blank::new(1));
+    let chain = product_chain(&mut words, &mut arena, vars.as_slice(), &left, &right, &mut ticks)?;
+    Poly::from_words(alloc, vars, &words, arena, chain)
 }
 
 /// Room for the links of a product. Nothing rests on it but time.

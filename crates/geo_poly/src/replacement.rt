@@ -17,6 +17,7 @@ ghost use Rattle.geo_poly.specs.Replace.{replaced_degree, replaced_weight};
 ghost use Rattle.geo_poly.specs.Variables.{var_cmp};
 
 use crate::chained_replacement::{stored_poly, stored_rows};
+use crate::exponent_limits::replacement_fields;
 use crate::limits::{MAX, MAX_DEGREE, PolyError, Which};
 use crate::lists::Vars;
 use crate::monomial_keys::MonomialKeys;
@@ -28,6 +29,7 @@ use crate::row_table::RowTable;
 use crate::settings::{Setting, StoredPiece};
 use crate::ticks::Ticks;
 use crate::variables::Var;
+use crate::words::Fields;
 use geo_points::NoMemory;
 use mono_store::Monos;
 use poly_arena::{Arena, Chain};
@@ -199,12 +201,48 @@ impl Poly {
             + replacement_products rows.now den.now self.now }
     {
         let vars = self.replacement_vars(alloc, rows.rows(), den)?;
+        let fields = replacement_fields(alloc, vars.as_slice(), &self.shared(), rows, den, top)?;
+        match fields {
+            Some(words) => self.packed_replacement(alloc, rows, den, top, vars, words, ticks),
+            None => self.stored_replacement(alloc, rows, den, top, vars, ticks),
+        }
+    }
+
+    /// The replacement, which fits, with a store and an arena of its own.
+    fn stored_replacement<L: Ledger>(
+        &self,
+        alloc: Global,
+        rows: &RowTable,
+        den: &Piece,
+        top: u32,
+        vars: Vars,
+        ticks: &mut Ticks<L>,
+    ) -> Result<Poly, NoMemory> {
         let mut store = Monos::with_capacity(alloc, self.monos().links())?;
         let mut arena = Arena::new(alloc)?;
         let chain = self.chained_replacement(
             alloc, rows, den, top, &vars, &mut store, &mut arena, ticks,
         )?;
         Poly::from_chain(alloc, vars, store, arena, chain)
+    }
+
+    /// The replacement, which fits, by words.
+    fn packed_replacement<L: Ledger>(
+        &self,
+        alloc: Global,
+        rows: &RowTable,
+        den: &Piece,
+        top: u32,
+        vars: Vars,
+        words: Fields,
+        ticks: &mut Ticks<L>,
+    ) -> Result<Poly, NoMemory> {
+        let mut words = words;
+        let mut arena = Arena::new(alloc)?;
+        let chain = self.keyed_replacement(
+            alloc, rows, den, top, vars.as_slice(), &mut words, &mut arena, ticks,
+        )?;
+        Poly::from_words(alloc, vars, &words, arena, chain)
     }
 
     /// The variables of all that the replacement is made of.

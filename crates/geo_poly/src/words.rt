@@ -1,7 +1,7 @@
 //! Monomials as words of 64 bits, where the exponents of all variables fit into one.
 
 ghost use Rattle.std.specs.Prelude.{◌≡◌, ◌+◌, ◌/◌, ◌%◌, ◌^◌, ◌<◌, ◌≤◌, ◌∷◌, []};
-ghost use Rattle.std.specs.Prelude.{IfNone, IfOk, IfSome, length, sum, sum_by};
+ghost use Rattle.std.specs.Prelude.{IfNone, IfOk, IfSome, IsTrue, length, sum, sum_by};
 ghost use Rattle.sparse_lists.specs.SparseLists.{put};
 ghost use Rattle.mono_store.specs.Monomials.{ComesFirst, degree_of, exponents};
 ghost use Rattle.mono_store.specs.Stores.{Keeps, count, monomial_of};
@@ -23,6 +23,17 @@ pub(crate) struct Field {
     pub width: u32,
     /// How many are below them.
     pub shift: u32,
+}
+
+/// The first power of a word, and the word of the others.
+#[derive(Clone, Copy)]
+pub(crate) struct WordPower {
+    /// The number of the variable.
+    pub var: u64,
+    /// Its exponent.
+    pub exp: u32,
+    /// The word of the rest.
+    pub rest: u64,
 }
 
 /// The fields of the variables, by their numbers: the first variable has the highest.
@@ -99,6 +110,31 @@ impl Fields {
     {
         let field = self.field(var);
         ((word >> field.shift) & ((1 << field.width) - 1)) as u32
+    }
+
+    /// Whether the exponent has room in the field of its variable.
+    pub(crate) fn has_room(&self, var: u64, exp: u32) -> bool
+        ensures { IsTrue result → exp < 2 ^ width self.now var }
+    {
+        var < self.count() as u64 && (exp as u64) >> self.field(var).width == 0
+    }
+
+    /// The first power of a word that is not 0.
+    pub(crate) fn first_power(&self, word: u64) -> WordPower
+        requires some { 0 < word }
+        requires within { word < 2 ^ sum self.now }
+        ensures powers { powers_of_word self.now word
+            ≡ (result.var, result.exp) ∷ powers_of_word self.now result.rest }
+        ensures rest { result.rest < word }
+    {
+        let place = self.fields.partition_point(|field: &Field| word >> field.shift == 0);
+        let var = place as u64;
+        let field = self.field(var);
+        WordPower {
+            var,
+            exp: (word >> field.shift) as u32,
+            rest: word & ((1 << field.shift) - 1),
+        }
     }
 
     /// The word of a monomial of a store.

@@ -1,5 +1,7 @@
 -- Monomials in numbered variables as words: each variable has a field of some bits for its exponent, the first variable the highest.
-use Rattle.std.specs.Prelude.{◌≡◌, ℕ, ◌+◌, ◌-◌, ◌*◌, ◌/◌, ◌%◌, ◌^◌, ◌<◌, ◌≤◌, All, List, [], ◌∷◌, drop, map, sum, sum_by, slice_index_or}
+use Rattle.std.specs.Prelude.{◌≡◌, ℕ, ◌+◌, ◌-◌, ◌*◌, ◌/◌, ◌%◌, ◌^◌, ◌<◌, ◌≤◌, All, List, [], ◌∷◌, Some, drop, map, refl, sum, sum_by}
+use Rattle.std.specs.Prelude.{ap, slice_index_or, ◌∙◌}
+use Rattle.std.proofs.Math.Nat.{zero-div, zero-mod}
 use Rattle.std.specs.Ordering.{nat_cmp}
 use Rattle.std.specs.Int.{w32, leading_zeros}
 use Rattle.sparse_lists.specs.SparseLists.{put}
@@ -7,6 +9,7 @@ use Rattle.sparse_lists.proofs.NaturalAmounts.{natural_order}
 use Rattle.mono_store.specs.Monomials.{Powers, exponent, exponents}
 use Rattle.poly_arena.specs.Orders.{IsOrderBelow}
 use Rattle.geo_poly.specs.declared.words.Field.{Field}
+use Rattle.geo_poly.specs.Keys.{Keys}
 
 -- how many bits the field of each variable has, by the number of the variable
 abbrev pub Widths : Type 0
@@ -36,6 +39,11 @@ powers_from v (b ∷ bs) w = put exponents v (w / 2 ^ sum bs % 2 ^ b) (powers_fr
 -- the monomial of a word
 abbrev pub powers_of_word : Widths → ℕ → Powers
 powers_of_word widths w = powers_from 0 widths w
+
+-- words as keys: the limit of an exponent is the greatest one that its field has room for
+abbrev pub word_keys : Widths → Keys
+word_keys widths =
+    record { count = 2 ^ sum widths; powers = powers_of_word widths; limits = Some (λ v. 2 ^ width widths v - 1) }
 
 -- FIELDS
 
@@ -71,3 +79,17 @@ word_order = record {
   flip_back = λ a b a_in b_in e. natural_order.flip_back a b e;
   trans = λ a b c a_in b_in c_in e f. natural_order.trans a b c e f;
 }
+
+zero_exponents : (v e : ℕ) (m : Powers) → e ≡ 0 → put exponents v e m ≡ m
+zero_exponents v e m none = ap (λ (k : ℕ). put exponents v k m) none
+
+powers_from-zero : (v : ℕ) (bs : Widths) → powers_from v bs 0 ≡ []
+powers_from-zero v [] = refl
+powers_from-zero v (b ∷ bs) =
+    zero_exponents v (0 / 2 ^ sum bs % 2 ^ b) (powers_from (v + 1) bs 0)
+    (ap (λ (k : ℕ). k % 2 ^ b) (zero-div (2 ^ sum bs)) ∙ zero-mod (2 ^ b))
+    ∙ powers_from-zero (v + 1) bs
+
+-- the word 0 stands for the monomial with no variable
+pub powers_of_word-zero : (widths : Widths) → powers_of_word widths 0 ≡ []
+powers_of_word-zero widths = powers_from-zero 0 widths
