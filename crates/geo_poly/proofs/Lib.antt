@@ -76,3 +76,5 @@ pub mod FieldLists
 pub mod Gradings
 pub mod WordKeys
 pub mod WordChains
+pub mod WordInstance
+pub mod FirstPowers

@@ -1,4 +1,17 @@
-//! The greatest exponents that products and replacements can have, before anything is multiplied out.
+//! Words in which products and replacements have room, by bounds of the exponents that are known before
+//! anything is multiplied out.
+
+ghost use Rattle.std.specs.Prelude.{◌≡◌, ◌+◌, ◌*◌, ◌^◌, ◌<◌, ◌≤◌, max, min, ℕ, ◌-◌};
+ghost use Rattle.std.specs.Prelude.{IfOk, IfSome, OnOk, length, slice_index_or};
+ghost use Rattle.std.specs.List.Sorted.{IsStrictlySortedBy};
+ghost use Rattle.geo_poly.specs.declared.variables.Var.{Var};
+ghost use Rattle.geo_poly.specs.Inner.Keyed.{greatest_exponent, greatest_of_rows};
+ghost use Rattle.geo_poly.specs.Inner.Limits.{AreBounds, AreLimits, HaveRoom, exponents_of_rows};
+ghost use Rattle.geo_poly.specs.Inner.ReplacedExponents.{replaced_exponents};
+ghost use Rattle.geo_poly.specs.Monomials.{exponent};
+ghost use Rattle.geo_poly.specs.Replace.{others};
+ghost use Rattle.geo_poly.specs.Shared.{AreParts, told};
+ghost use Rattle.geo_poly.specs.Variables.{var_cmp};
 
 use crate::moving::find_place;
 use crate::replacement::{Piece, Row};
@@ -10,71 +23,26 @@ use geo_points::NoMemory;
 use mono_store::MonoId;
 use std::alloc::Global;
 
-/// The greatest exponents in the links of a polynomial, by the numbers of its variables.
-fn greatest_exponents(alloc: Global, p: &Shared) -> Result<Vec<u32>, NoMemory> {
-    let mut greatest = Vec::new(alloc);
-    greatest.resize(p.vars.len(), 0)?;
-    for k in 0..p.monos.links() {
-        if let Some(link) = p.monos.link(MonoId(k + 1)) {
-            raise(&mut greatest, link.var as usize, link.exp);
-        }
-    }
-    Ok(greatest)
-}
-
-/// Makes the number at a place no less than that.
-fn raise(greatest: &mut [u32], place: usize, least: u32) {
-    if place < greatest.len() && greatest[place] < least {
-        greatest[place] = least;
-    }
-}
-
-/// Adds to the number at a place, up to the greatest one.
-fn add_at(limits: &mut [u32], place: u64, more: u32) {
-    if place < limits.len() as u64 {
-        limits[place as usize] = limits[place as usize].saturating_add(more);
-    }
-}
-
-/// Adds the exponents, so many times, to those of the same variables.
-fn add_exponents(limits: &mut [u32], vars: &[Var], own: &[Var], exponents: &[u32], times: u32) {
-    let mut guess = 0u64;
-    for (v, exponent) in own.iter().zip(exponents) {
-        if let Some(place) = find_place(vars, *v, guess) {
-            add_at(limits, place, exponent.saturating_mul(times));
-            guess = place.saturating_add(1);
-        }
-    }
-}
-
-/// Adds the greatest exponents of a polynomial, so many times.
-fn add_greatest(alloc: Global, limits: &mut [u32], vars: &[Var], p: &Shared, times: u32) -> Result<(), NoMemory> {
-    let exponents = greatest_exponents(alloc, p)?;
-    add_exponents(limits, vars, p.vars, &exponents, times);
-    Ok(())
-}
-
-/// Limits of 0 for all variables.
-fn no_limits(alloc: Global, vars: &[Var]) -> Result<Vec<u32>, NoMemory> {
-    let mut limits = Vec::new(alloc);
-    limits.resize(vars.len(), 0)?;
-    Ok(limits)
-}
-
-/// Fields in which the product has room.
+/// Words in which the product has room, where there are such.
 pub(crate) fn product_fields(
     alloc: Global,
     vars: &[Var],
     p: &Shared,
     q: &Shared,
-) -> Result<Option<Fields>, NoMemory> {
+) -> Result<Option<Fields>, NoMemory>
+    requires rising { IsStrictlySortedBy var_cmp vars.now }
+    requires left { AreParts p.now }
+    requires right { AreParts q.now }
+    ensures { IfOk result (λ found. IfSome found (λ f. HaveRoom vars.now f
+        (λ v. greatest_exponent v (told p.now) + greatest_exponent v (told q.now)))) }
+{
     let mut limits = no_limits(alloc, vars)?;
-    add_greatest(alloc, &mut limits, vars, p, 1)?;
-    add_greatest(alloc, &mut limits, vars, q, 1)?;
-    Fields::new(alloc, &limits)
+    add_polynomial(alloc, &mut limits, vars, p, 1)?;
+    add_polynomial(alloc, &mut limits, vars, q, 1)?;
+    fields_for(alloc, vars, &limits)
 }
 
-/// Fields in which the replacement has room.
+/// Words in which the replacement has room, where there are such.
 pub(crate) fn replacement_fields(
     alloc: Global,
     vars: &[Var],
@@ -82,40 +50,170 @@ pub(crate) fn replacement_fields(
     rows: &RowTable,
     den: &Piece,
     top: u32,
-) -> Result<Option<Fields>, NoMemory> {
+) -> Result<Option<Fields>, NoMemory>
+    requires rising { IsStrictlySortedBy var_cmp vars.now }
+    requires parts { AreParts p.now }
+    ensures { IfOk result (λ found. IfSome found (λ f. HaveRoom vars.now f
+        (λ v. max (replaced_exponents v rows.now den.now top (told p.now))
+        (max (greatest_of_rows v rows.now) (greatest_exponent v den.now.poly))))) }
+{
     let mut limits = no_limits(alloc, vars)?;
     let own = greatest_exponents(alloc, p)?;
-    let stay = without_rows(alloc, p, rows, &own)?;
-    add_exponents(&mut limits, vars, p.vars, &stay, 1);
-    add_greatest(alloc, &mut limits, vars, &den.poly.shared(), top.max(1))?;
-    for row in rows.rows() {
-        let times = exponent_of(p.vars, row.var, &own);
-        add_greatest(alloc, &mut limits, vars, &row.num.poly.shared(), times.max(1))?;
-    }
-    Fields::new(alloc, &limits)
+    let stay = without_rows(alloc, rows, &own)?;
+    add_exponents(&mut limits, vars, &stay, 1);
+    add_polynomial(alloc, &mut limits, vars, &den.poly.shared(), top.max(1))?;
+    add_rows(alloc, &mut limits, vars, rows.rows(), &own)?;
+    fields_for(alloc, vars, &limits)
 }
 
-/// The exponents of variables with no row, 0 for the others.
-fn without_rows(alloc: Global, p: &Shared, rows: &RowTable, own: &[u32]) -> Result<Vec<u32>, NoMemory> {
-    let mut stay = Vec::with_capacity(alloc, own.len())?;
-    for i in 0..own.len() {
-        let exponent = own[i];
-        let left = match p.vars.get(i) {
-            Some(v) => if rows.find_place(*v, i as u64).is_some() { 0 } else { exponent },
-            None => 0,
-        };
-        stay.push(left)?;
+/// Words in which exponents up to these limits have room, where there are such. A limit that is the
+/// greatest number says nothing.
+fn fields_for(alloc: Global, vars: &[Var], limits: &[u32]) -> Result<Option<Fields>, NoMemory>
+    ensures { (bound : Var → ℕ) → AreLimits vars.now bound limits.now
+        → IfOk result (λ found. IfSome found (λ f. HaveRoom vars.now f bound)) }
+{
+    let _ = vars;
+    if limits.contains(&u32::MAX) {
+        return Ok(None);
+    }
+    Fields::new(alloc, limits)
+}
+
+/// Limits of 0 for all variables.
+fn no_limits(alloc: Global, vars: &[Var]) -> Result<Vec<u32>, NoMemory>
+    ensures { IfOk result (λ limits. AreLimits vars.now (λ _. 0) limits.items) }
+{
+    let mut limits = Vec::new(alloc);
+    limits.resize(vars.len(), 0)?;
+    Ok(limits)
+}
+
+/// The greatest exponents in the links of a polynomial, each with its variable.
+fn greatest_exponents(alloc: Global, p: &Shared) -> Result<Vec<(Var, u32)>, NoMemory>
+    requires { AreParts p.now }
+    ensures { IfOk result (λ bounds. AreBounds (told p.now) bounds.items) }
+{
+    let numbered = numbered_exponents(alloc, p)?;
+    let mut bounds = Vec::with_capacity(alloc, p.vars.len())?;
+    for i in 0..p.vars.len() {
+        bounds.push((p.vars[i], numbered[i]))?;
+    }
+    Ok(bounds)
+}
+
+/// The greatest exponents in the links of a polynomial, by the numbers of the variables.
+fn numbered_exponents(alloc: Global, p: &Shared) -> Result<Vec<u32>, NoMemory>
+{
+    let mut greatest = Vec::new(alloc);
+    greatest.resize(p.vars.len(), 0)?;
+    // every store says of itself that it is one
+    let _one = p.monos.one();
+    for k in 0..p.monos.links() {
+        if let Some(link) = p.monos.link(MonoId(k + 1)) {
+            raise(&mut greatest, link.var, link.exp);
+        }
+    }
+    Ok(greatest)
+}
+
+/// Makes the number at a place no less than that.
+fn raise(numbers: &mut [u32], place: u64, least: u32)
+    ensures place { place < length numbers.old → least ≤ slice_index_or numbers.new place 0 }
+    ensures kept { (i : ℕ) → slice_index_or numbers.old i 0 ≤ slice_index_or numbers.new i 0 }
+{
+    if place < numbers.len() as u64 && numbers[place as usize] < least {
+        numbers[place as usize] = least;
+    }
+}
+
+/// The exponents of the variables with no row.
+fn without_rows(
+    alloc: Global,
+    rows: &RowTable,
+    exponents: &[(Var, u32)],
+) -> Result<Vec<(Var, u32)>, NoMemory>
+    ensures { IfOk result (λ stay. stay.items ≡ others rows.now exponents.now) }
+{
+    let mut stay = Vec::with_capacity(alloc, exponents.len())?;
+    for i in 0..exponents.len() {
+        let (v, exponent) = exponents[i];
+        if rows.find_place(v, i as u64).is_none() {
+            stay.push((v, exponent))?;
+        }
     }
     Ok(stay)
 }
 
-/// The exponent of a variable among those of the variables of a polynomial.
-fn exponent_of(vars: &[Var], v: Var, exponents: &[u32]) -> u32 {
-    match find_place(vars, v, 0) {
-        Some(place) => match exponents.get(place as usize) {
-            Some(exponent) => *exponent,
-            None => 0,
-        },
-        None => 0,
+/// Adds exponents to the limits of their variables, each so many times.
+fn add_exponents(limits: &mut [u32], vars: &[Var], exponents: &[(Var, u32)], times: u32)
+    requires rising { IsStrictlySortedBy var_cmp vars.now }
+    ensures { (bound : Var → ℕ) → AreLimits vars.now bound limits.old
+        → AreLimits vars.now (λ v. bound v + exponent v exponents.now * times) limits.new }
+{
+    let mut guess = 0u64;
+    for (v, exponent) in exponents {
+        if let Some(place) = find_place(vars, *v, guess) {
+            add_at(limits, place, exponent.saturating_mul(times));
+            guess = place.saturating_add(1);
+        }
     }
+}
+
+/// Adds to the number at a place, up to the greatest number.
+fn add_at(numbers: &mut [u32], place: u64, more: u32) {
+    if place < numbers.len() as u64 {
+        let number = &mut numbers[place as usize];
+        *number = number.saturating_add(more);
+    }
+}
+
+/// Adds the greatest exponents of a polynomial to the limits, each so many times.
+fn add_polynomial(
+    alloc: Global,
+    limits: &mut [u32],
+    vars: &[Var],
+    p: &Shared,
+    times: u32,
+) -> Result<(), NoMemory>
+    requires rising { IsStrictlySortedBy var_cmp vars.now }
+    requires parts { AreParts p.now }
+    ensures { OnOk result ((bound : Var → ℕ) → AreLimits vars.now bound limits.old
+        → AreLimits vars.now (λ v. bound v + greatest_exponent v (told p.now) * times) limits.new) }
+{
+    let bounds = greatest_exponents(alloc, p)?;
+    add_exponents(limits, vars, &bounds, times);
+    Ok(())
+}
+
+/// Adds the greatest exponents of the numerators to the limits, each as often as the exponent of its
+/// row's variable says.
+fn add_rows(
+    alloc: Global,
+    limits: &mut [u32],
+    vars: &[Var],
+    rows: &[Row],
+    own: &[(Var, u32)],
+) -> Result<(), NoMemory>
+    requires rising { IsStrictlySortedBy var_cmp vars.now }
+    ensures { OnOk result ((bound : Var → ℕ) → AreLimits vars.now bound limits.old
+        → AreLimits vars.now (λ v. bound v + exponents_of_rows v rows.now own.now) limits.new) }
+{
+    for row in rows {
+        let times = exponent_in(own, row.var);
+        add_polynomial(alloc, limits, vars, &row.num.poly.shared(), times.max(1))?;
+    }
+    Ok(())
+}
+
+/// The exponent of a variable, or the greatest number where it passes that.
+fn exponent_in(exponents: &[(Var, u32)], v: Var) -> u32
+    ensures { result ≡ min (exponent v exponents.now) (2 ^ 32 - 1) }
+{
+    let mut total = 0u32;
+    for (w, exponent) in exponents {
+        if *w == v {
+            total = total.saturating_add(*exponent);
+        }
+    }
+    total
 }

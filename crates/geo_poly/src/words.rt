@@ -127,7 +127,8 @@ impl Fields {
             ≡ (result.var, result.exp) ∷ powers_of_word self.now result.rest }
         ensures rest { result.rest < word }
     {
-        let place = self.fields.partition_point(|field: &Field| word >> field.shift == 0);
+        let bits = u64::BITS - word.leading_zeros();
+        let place = self.fields.partition_point(|field: &Field| bits <= field.shift);
         let var = place as u64;
         let field = self.field(var);
         WordPower {

@@ -1,6 +1,7 @@
 -- Monomials in numbered variables as words: each variable has a field of some bits for its exponent, the first variable the highest.
 use Rattle.std.specs.Prelude.{◌≡◌, ℕ, ◌+◌, ◌-◌, ◌*◌, ◌/◌, ◌%◌, ◌^◌, ◌<◌, ◌≤◌, All, List, [], ◌∷◌, Some, drop, map, refl, sum, sum_by}
-use Rattle.std.specs.Prelude.{ap, slice_index_or, ◌∙◌}
+use Rattle.std.specs.Prelude.{slice_index_or}
+use Rattle.std.proofs.Common.{ap, ◌∙◌}
 use Rattle.std.proofs.Math.Nat.{zero-div, zero-mod}
 use Rattle.std.specs.Ordering.{nat_cmp}
 use Rattle.std.specs.Int.{w32, leading_zeros}
