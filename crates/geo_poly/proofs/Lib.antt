@@ -78,3 +78,5 @@ pub mod WordKeys
 pub mod WordChains
 pub mod WordInstance
 pub mod FirstPowers
+pub mod UnpackedWords
+pub mod ExponentLimits

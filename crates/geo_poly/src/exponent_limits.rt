@@ -1,12 +1,14 @@
 //! Words in which products and replacements have room, by bounds of the exponents that are known before
 //! anything is multiplied out.
 
-ghost use Rattle.std.specs.Prelude.{◌≡◌, ◌+◌, ◌*◌, ◌^◌, ◌<◌, ◌≤◌, max, min, ℕ, ◌-◌};
-ghost use Rattle.std.specs.Prelude.{IfOk, IfSome, OnOk, length, slice_index_or};
+ghost use Rattle.std.specs.Prelude.{◌≡◌, ◌≢◌, ◌+◌, ◌*◌, ◌^◌, ◌<◌, ◌≤◌, max, min, ℕ, ◌-◌};
+ghost use Rattle.std.specs.Prelude.{IfOk, IfSome, IsFalse, OnOk, length, slice_index_or};
 ghost use Rattle.std.specs.List.Sorted.{IsStrictlySortedBy};
+ghost use Rattle.mono_store.specs.Stores.{count};
 ghost use Rattle.geo_poly.specs.declared.variables.Var.{Var};
 ghost use Rattle.geo_poly.specs.Inner.Keyed.{greatest_exponent, greatest_of_rows};
-ghost use Rattle.geo_poly.specs.Inner.Limits.{AreBounds, AreLimits, HaveRoom, exponents_of_rows};
+ghost use Rattle.geo_poly.specs.Inner.Limits.{AreBounds, AreGreatest, AreLimits};
+ghost use Rattle.geo_poly.specs.Inner.Limits.{HaveRoom, exponents_of_rows};
 ghost use Rattle.geo_poly.specs.Inner.ReplacedExponents.{replaced_exponents};
 ghost use Rattle.geo_poly.specs.Monomials.{exponent};
 ghost use Rattle.geo_poly.specs.Replace.{others};
@@ -73,10 +75,23 @@ fn fields_for(alloc: Global, vars: &[Var], limits: &[u32]) -> Result<Option<Fiel
         → IfOk result (λ found. IfSome found (λ f. HaveRoom vars.now f bound)) }
 {
     let _ = vars;
-    if limits.contains(&u32::MAX) {
+    if is_saturated(limits) {
         return Ok(None);
     }
     Fields::new(alloc, limits)
+}
+
+/// Whether some number is the greatest one.
+fn is_saturated(numbers: &[u32]) -> bool
+    ensures { IsFalse result → (i : ℕ) → i < length numbers.now
+        → slice_index_or numbers.now i 0 < 2 ^ 32 - 1 }
+{
+    for number in numbers {
+        if *number == u32::MAX {
+            return true;
+        }
+    }
+    false
 }
 
 /// Limits of 0 for all variables.
@@ -103,6 +118,9 @@ fn greatest_exponents(alloc: Global, p: &Shared) -> Result<Vec<(Var, u32)>, NoMe
 
 /// The greatest exponents in the links of a polynomial, by the numbers of the variables.
 fn numbered_exponents(alloc: Global, p: &Shared) -> Result<Vec<u32>, NoMemory>
+    ensures whole { IfOk result (λ numbers. length numbers.items ≡ length p.now.vars.now) }
+    ensures greatest { IfOk result (λ numbers. AreGreatest (count p.now.monos.now)
+        (length p.now.vars.now) p.now.monos.now numbers.items) }
 {
     let mut greatest = Vec::new(alloc);
     greatest.resize(p.vars.len(), 0)?;
@@ -118,6 +136,7 @@ fn numbered_exponents(alloc: Global, p: &Shared) -> Result<Vec<u32>, NoMemory>
 
 /// Makes the number at a place no less than that.
 fn raise(numbers: &mut [u32], place: u64, least: u32)
+    ensures whole { length numbers.new ≡ length numbers.old }
     ensures place { place < length numbers.old → least ≤ slice_index_or numbers.new place 0 }
     ensures kept { (i : ℕ) → slice_index_or numbers.old i 0 ≤ slice_index_or numbers.new i 0 }
 {
@@ -137,8 +156,9 @@ fn without_rows(
     let mut stay = Vec::with_capacity(alloc, exponents.len())?;
     for i in 0..exponents.len() {
         let (v, exponent) = exponents[i];
-        if rows.find_place(v, i as u64).is_none() {
-            stay.push((v, exponent))?;
+        match rows.find_row(v, i as u64) {
+            Some(_) => {}
+            None => stay.push((v, exponent))?,
         }
     }
     Ok(stay)
@@ -160,7 +180,13 @@ fn add_exponents(limits: &mut [u32], vars: &[Var], exponents: &[(Var, u32)], tim
 }
 
 /// Adds to the number at a place, up to the greatest number.
-fn add_at(numbers: &mut [u32], place: u64, more: u32) {
+fn add_at(numbers: &mut [u32], place: u64, more: u32)
+    ensures whole { length numbers.new ≡ length numbers.old }
+    ensures place { place < length numbers.old → slice_index_or numbers.new place 0
+        ≡ min (slice_index_or numbers.old place 0 + more) (2 ^ 32 - 1) }
+    ensures others { (i : ℕ) → i ≢ place
+        → slice_index_or numbers.new i 0 ≡ slice_index_or numbers.old i 0 }
+{
     if place < numbers.len() as u64 {
         let number = &mut numbers[place as usize];
         *number = number.saturating_add(more);

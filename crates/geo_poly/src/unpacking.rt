@@ -1,13 +1,13 @@
 //! Words as monomials of a store. What several words have in common behind their first power is put
 //! there once.
 
-ghost use Rattle.std.specs.Prelude.{◌≡◌, ◌^◌, ◌<◌, ◌≤◌, IfOk, sum};
+ghost use Rattle.std.specs.Prelude.{◌≡◌, ◌^◌, ◌<◌, ◌≤◌, IfOk, IfSome, sum};
 ghost use Rattle.sparse_lists.specs.SparseLists.{AllKeys};
 ghost use Rattle.mono_store.specs.Monomials.{degree_of};
-ghost use Rattle.mono_store.specs.Stores.{Keeps, count, monomial_of};
+ghost use Rattle.mono_store.specs.Stores.{Keeps, Links};
 ghost use Rattle.geo_poly.specs.Chained.{keyed_terms_under};
-ghost use Rattle.geo_poly.specs.Inner.Unpacked.{AreStoredWords};
-ghost use Rattle.geo_poly.specs.Inner.Words.{powers_of_word, word_keys};
+ghost use Rattle.geo_poly.specs.Inner.Unpacked.{AreStoredWords, IsStoredWord};
+ghost use Rattle.geo_poly.specs.Inner.Words.{Widths, powers_of_word, word_keys};
 ghost use Rattle.geo_poly.specs.Keys.{IsKeyUnder};
 ghost use Rattle.geo_poly.specs.Monomials.{IsMonomial};
 ghost use Rattle.geo_poly.specs.Shared.{IsIndex, terms_of};
@@ -47,25 +47,32 @@ pub(crate) fn unpacked(
         ≡ keyed_terms_under vars.now (word_keys fields.now) pairs.now) }
 {
     let _ = vars;
-    let mut table = new_table(alloc, store, pairs.len())?;
+    let mut table = new_table(alloc, fields, store, pairs.len())?;
     let mut list = Vec::with_capacity(alloc, pairs.len())?;
-    for (word, coefficient) in pairs {
-        let id = stored_term(fields, store, &mut table, *word)?;
-        list.push((id, *coefficient))?;
+    for pair in pairs {
+        let id = stored_term(fields, store, &mut table, pair.0)?;
+        list.push((id, pair.1))?;
     }
     Ok(list)
 }
 
 /// A table that has the monomial with no variable at each place.
-fn new_table(alloc: Global, store: &Monos, words: usize) -> Result<Vec<StoredWord>, NoMemory>
-    ensures { (fields : Widths) → IfOk result (λ table. AreStoredWords fields store.now table.items) }
+fn new_table(
+    alloc: Global,
+    fields: &Fields,
+    store: &Monos,
+    words: usize,
+) -> Result<Vec<StoredWord>, NoMemory>
+    ensures { IfOk result (λ table. AreStoredWords fields.now store.now table.items) }
 {
+    let _ = fields;
     let one = StoredWord {
         word: 0,
         id: store.one(),
     };
+    let places = words.min(MOST_PLACES).next_power_of_two();
     let mut table = Vec::new(alloc);
-    table.resize(words.min(MOST_PLACES).next_power_of_two(), one)?;
+    table.resize(places, one)?;
     Ok(table)
 }
 
@@ -77,6 +84,8 @@ fn place_of(word: u64, size: usize) -> usize {
 
 /// The index of the monomial of a word that is in the table.
 fn known_index(table: &[StoredWord], word: u64) -> Option<MonoId>
+    ensures { (widths : Widths) → (links : Links) → AreStoredWords widths links table.now
+        → IfSome result (λ id. IsStoredWord widths links (record { word = word; id = id })) }
 {
     match table.get(place_of(word, table.len())) {
         Some(known) if known.word == word => Some(known.id),
@@ -85,7 +94,11 @@ fn known_index(table: &[StoredWord], word: u64) -> Option<MonoId>
 }
 
 /// Puts the index of the monomial of a word into the table.
-fn remember(table: &mut [StoredWord], word: u64, id: MonoId) {
+fn remember(table: &mut [StoredWord], word: u64, id: MonoId)
+    ensures { (widths : Widths) → (links : Links) → AreStoredWords widths links table.old
+        → IsStoredWord widths links (record { word = word; id = id })
+        → AreStoredWords widths links table.new }
+{
     let place = place_of(word, table.len());
     if place < table.len() {
         table[place] = StoredWord { word, id };
@@ -96,9 +109,17 @@ fn remember(table: &mut [StoredWord], word: u64, id: MonoId) {
 fn stored_term(
     fields: &Fields,
     store: &mut Monos,
-    table: &mut [StoredWord],
+    table: &mut Vec<StoredWord>,
     word: u64,
-) -> Result<MonoId, NoMemory> {
+) -> Result<MonoId, NoMemory>
+    requires within { word < 2 ^ sum fields.now }
+    requires degree { degree_of (powers_of_word fields.now word) ≤ 65535 }
+    requires table { AreStoredWords fields.now store.old table.old.items }
+    ensures index { IfOk result
+        (λ id. IsStoredWord fields.now store.new (record { word = word; id = id })) }
+    ensures kept { Keeps store.old store.new }
+    ensures table { IfOk result (λ _. AreStoredWords fields.now store.new table.new.items) }
+{
     if word == 0 {
         return Ok(store.one());
     }
@@ -111,18 +132,26 @@ fn stored_term(
 fn stored_word(
     fields: &Fields,
     store: &mut Monos,
-    table: &mut [StoredWord],
+    table: &mut Vec<StoredWord>,
     word: u64,
-) -> Result<MonoId, NoMemory> {
+) -> Result<MonoId, NoMemory>
+    requires within { word < 2 ^ sum fields.now }
+    requires degree { degree_of (powers_of_word fields.now word) ≤ 65535 }
+    requires table { AreStoredWords fields.now store.old table.old.items }
+    ensures index { IfOk result
+        (λ id. IsStoredWord fields.now store.new (record { word = word; id = id })) }
+    ensures kept { Keeps store.old store.new }
+    ensures table { IfOk result (λ _. AreStoredWords fields.now store.new table.new.items) }
+{
     if word == 0 {
         return Ok(store.one());
     }
-    if let Some(id) = known_index(table, word) {
+    if let Some(id) = known_index(table.as_slice(), word) {
         return Ok(id);
     }
     let first = fields.first_power(word);
     let next = stored_word(fields, store, table, first.rest)?;
     let id = store.mono(first.var, first.exp, next)?;
-    remember(table, word, id);
+    remember(table.as_mut_slice(), word, id);
     Ok(id)
 }

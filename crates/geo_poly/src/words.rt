@@ -116,7 +116,11 @@ impl Fields {
     pub(crate) fn has_room(&self, var: u64, exp: u32) -> bool
         ensures { IsTrue result → exp < 2 ^ width self.now var }
     {
-        var < self.count() as u64 && (exp as u64) >> self.field(var).width == 0
+        if var >= self.count() as u64 {
+            return false;
+        }
+        let field = self.field(var);
+        (exp as u64) >> field.width == 0
     }
 
     /// The first power of a word that is not 0.

@@ -1,5 +1,8 @@
 -- Bounds of the exponents that products and replacements can have, which are known before anything is multiplied out.
 use Rattle.std.specs.Prelude.{◌≡◌, ℕ, ◌+◌, ◌-◌, ◌*◌, ◌^◌, ◌<◌, ◌≤◌, max, min, List, [], ◌∷◌, length, slice_index_or}
+use Rattle.mono_store.specs.declared.links.MonoId.{MonoId}
+use Rattle.mono_store.specs.Monomials.{exponent as numbered_exponent}
+use Rattle.mono_store.specs.Stores.{Links, monomial_of}
 use Rattle.geo_poly.specs.declared.replacement.Row.{Row}
 use Rattle.geo_poly.specs.declared.variables.Var.{Var}
 use Rattle.geo_poly.specs.Inner.Keyed.{greatest_exponent}
