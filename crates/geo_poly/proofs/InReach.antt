@@ -9,9 +9,11 @@ use Rattle.std.proofs.lemmas.Bool.{cases_lt}
 use Rattle.std.proofs.lemmas.Cmp.{ranked}
 use Rattle.sparse_lists.specs.SparseLists.{AllKeys}
 use Rattle.mono_store.specs.Monomials.{Powers as NumberedPowers, exponent as numbered_exponent}
+use Rattle.geo_poly.specs.declared.replacement.Piece.{Piece}
 use Rattle.geo_poly.specs.declared.replacement.Row.{Row}
 use Rattle.geo_poly.specs.declared.variables.Var.{Var}
-use Rattle.geo_poly.specs.Inner.Keyed.{AreInReach, AreWithinLimits, IsInReach, IsWithinLimits, greatest_exponent, greatest_of_rows}
+use Rattle.geo_poly.specs.Inner.Keyed.{AreInReach, AreWithinLimits, HasRoom, IsInReach, IsWithinLimits, greatest_exponent, greatest_of_rows}
+use Rattle.geo_poly.specs.Inner.ReplacedExponents.{IsReplacedInReach, exponent_bound}
 use Rattle.geo_poly.specs.Keys.{Keys}
 use Rattle.geo_poly.specs.Monomials.{Powers, exponent, exponents}
 use Rattle.geo_poly.specs.Polynomials.{Summands}
@@ -53,7 +55,39 @@ drop-le v zero p = omega arith
 drop-le v (suc n) [] = omega arith
 drop-le v (suc n) (t ∷ ts) = omega (arith, drop-le v n ts)
 
+-- what is less is within the limits too, also of other keys with the same ones
+pub less_within : (vars : List Var) (old new : Keys) (most few : Var → ℕ) → new.limits ≡ old.limits → ((v : Var) → few v ≤ most v)
+    → IfSome old.limits (λ limit. (i : ℕ) → i < length vars → most (var_at vars i) ≤ limit i)
+    → IfSome new.limits (λ limit. (i : ℕ) → i < length vars → few (var_at vars i) ≤ limit i)
+less_within vars old new most few same less h =
+    subst (λ (o : Option (ℕ → ℕ)). IfSome o (λ limit. (i : ℕ) → i < length vars → few (var_at vars i) ≤ limit i)) (sym same) (go old.limits h)
+  where
+    go : (o : Option (ℕ → ℕ)) → IfSome o (λ limit. (i : ℕ) → i < length vars → most (var_at vars i) ≤ limit i)
+        → IfSome o (λ limit. (i : ℕ) → i < length vars → few (var_at vars i) ≤ limit i)
+    go None g = tt
+    go (Some limit) g = λ i within. omega (arith, g i within, less (var_at vars i))
+
 -- IN REACH
+
+pub IsReplacedInReach-kept : (vars : List Var) (old new : Keys) (rows : List Row) (den : Piece) (top : ℕ) (p : Summands) → new.limits ≡ old.limits
+    → IsReplacedInReach vars old rows den top p → IsReplacedInReach vars new rows den top p
+IsReplacedInReach-kept vars old new rows den top p same h =
+    less_within vars old new (λ v. exponent_bound v rows den top p) (λ v. exponent_bound v rows den top p) same (λ v. omega arith) h
+
+-- what is at most the exponent of a variable is within its limit
+pub room_for : (vars : List Var) (old new : Keys) (m : Powers) (k e : ℕ) → k < length vars → new.limits ≡ old.limits → e ≤ exponent (var_at vars k) m → HasRoom vars old m
+    → IfSome new.limits (λ limit. e ≤ limit k)
+room_for vars old new m k e within same few h = subst (λ (o : Option (ℕ → ℕ)). IfSome o (λ limit. e ≤ limit k)) (sym same) (go old.limits h)
+  where
+    go : (o : Option (ℕ → ℕ)) → IfSome o (λ limit. (i : ℕ) → i < length vars → exponent (var_at vars i) m ≤ limit i) → IfSome o (λ limit. e ≤ limit k)
+    go None g = tt
+    go (Some limit) g = omega (arith, g k within, few)
+
+-- no monomial of a polynomial has more than it
+pub room_at : (vars : List Var) (old new : Keys) (p : Summands) (i : ℕ) (t : Powers × ℤ) → i < length p → t ≡ get_or p i t → new.limits ≡ old.limits
+    → IsWithinLimits vars old p → HasRoom vars new t.0
+room_at vars old new p i t within is same h =
+    less_within vars old new (λ v. greatest_exponent v p) (λ v. exponent v t.0) same (λ v. exponent_at-le v p i t within is) h
 
 module _ (vars : List Var) (keys : Keys) (p q : Summands) (reach : AreInReach vars keys p q) where
   fewer : (p2 q2 : Summands) → ((v : Var) → greatest_exponent v p2 ≤ greatest_exponent v p) → ((v : Var) → greatest_exponent v q2 ≤ greatest_exponent v q) → AreInReach vars keys p2 q2

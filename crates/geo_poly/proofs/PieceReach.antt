@@ -18,7 +18,7 @@ module _ (v : Var) where
   AtMost e m = exponent v m ≤ e
 
   -- the greatest exponent is the least bound of all
-  least : (e : ℕ) (p : Summands) → AllKeys (AtMost e) p → greatest_exponent v p ≤ e
+  pub least : (e : ℕ) (p : Summands) → AllKeys (λ m. exponent v m ≤ e) p → greatest_exponent v p ≤ e
   least e [] h = omega arith
   least e (t ∷ ts) h = omega (arith, h.0, least e ts h.1)
 
@@ -36,17 +36,25 @@ module _ (v : Var) where
       let e = greatest_exponent v p + greatest_exponent v q in
       least e (product_of p q) (AllKeys-canonical term_cmp coefficients (AtMost e) (products p q) (products-most p q e (omega arith)))
 
-  times_pieces-le : (qs : List Piece) (p : Summands) → greatest_exponent v (times_pieces qs p) ≤ exponent_with v qs (greatest_exponent v p)
+  pub times_pieces-le : (qs : List Piece) (p : Summands) → greatest_exponent v (times_pieces qs p) ≤ exponent_with v qs (greatest_exponent v p)
   times_pieces-le [] p = omega arith
   times_pieces-le (q ∷ qs) p = omega (arith, product-le (times_pieces qs p) q.poly, times_pieces-le qs p)
 
-  with-append : (qs rs : List Piece) (e : ℕ) → exponent_with v (qs ++ rs) e ≡ exponent_with v qs (exponent_with v rs e)
+  pub with-append : (qs rs : List Piece) (e : ℕ) → exponent_with v (qs ++ rs) e ≡ exponent_with v qs (exponent_with v rs e)
   with-append [] rs e = refl
   with-append (q ∷ qs) rs e = ap (λ x. x + greatest_exponent v q.poly) (with-append qs rs e)
 
-  with-grows : (qs : List Piece) (e : ℕ) → e ≤ exponent_with v qs e
+  pub with-grows : (qs : List Piece) (e : ℕ) → e ≤ exponent_with v qs e
   with-grows [] e = omega arith
   with-grows (q ∷ qs) e = omega (arith, with-grows qs e)
+
+  pub with-is : (qs : List Piece) (e : ℕ) → exponent_with v qs e ≡ e + exponent_with v qs 0
+  with-is [] e = omega arith
+  with-is (q ∷ qs) e = omega (arith, with-is qs e)
+
+  pub all_at_most : (p : Summands) (e : ℕ) → greatest_exponent v p ≤ e → AllKeys (λ m. exponent v m ≤ e) p
+  all_at_most [] e h = tt
+  all_at_most (t ∷ ts) e h = (omega (arith, h), all_at_most ts e (omega (arith, h)))
 
 -- the later pieces alone have less
 pub later_reach : (vars : List Var) (keys : Keys) (qs rs : List Piece) (p : Summands) → ArePiecesInReach vars keys (qs ++ rs) p → ArePiecesInReach vars keys rs p
