@@ -1,6 +1,5 @@
 -- Exponents of what is multiplied by pieces.
-use Rattle.std.proofs.Common.{◌≡◌, ℕ, ◌+◌, ◌<◌, ◌≤◌, ℤ, Option, Some, None, List, [], ◌∷◌, ◌++◌, length, refl, ap, arith}
-use Rattle.std.specs.Prelude.{IfSome}
+use Rattle.std.proofs.Common.{◌≡◌, ℕ, ◌+◌, ◌≤◌, ℤ, List, [], ◌∷◌, ◌++◌, refl, ap, arith}
 use Rattle.sparse_lists.specs.SparseLists.{AllKeys}
 use Rattle.sparse_lists.proofs.Sums.{AllKeys-append, AllKeys-canonical}
 use Rattle.geo_poly.specs.declared.replacement.Piece.{Piece}
@@ -10,7 +9,7 @@ use Rattle.geo_poly.specs.Inner.Keyed.{AreInReach, ArePiecesInReach, exponent_wi
 use Rattle.geo_poly.specs.Keys.{Keys}
 use Rattle.geo_poly.specs.Monomials.{Powers, exponent}
 use Rattle.geo_poly.specs.Polynomials.{Summands, coefficients, multiples, product_of, products, term_cmp}
-use Rattle.geo_poly.specs.Shared.{var_at}
+use Rattle.geo_poly.proofs.InReach.{less_within}
 use Rattle.geo_poly.proofs.MonomialOrder.{exponent-product}
 
 module _ (v : Var) where
@@ -58,24 +57,13 @@ module _ (v : Var) where
 
 -- the later pieces alone have less
 pub later_reach : (vars : List Var) (keys : Keys) (qs rs : List Piece) (p : Summands) → ArePiecesInReach vars keys (qs ++ rs) p → ArePiecesInReach vars keys rs p
-later_reach vars keys qs rs p h = go keys.limits h
-  where
-    go : (o : Option (ℕ → ℕ))
-        → IfSome o (λ limit. (i : ℕ) → i < length vars → exponent_with (var_at vars i) (qs ++ rs) (greatest_exponent (var_at vars i) p) ≤ limit i)
-        → IfSome o (λ limit. (i : ℕ) → i < length vars → exponent_with (var_at vars i) rs (greatest_exponent (var_at vars i) p) ≤ limit i)
-    go None g = tt
-    go (Some limit) g = λ i within.
-        let v = var_at vars i in
-        let e = exponent_with (var_at vars i) rs (greatest_exponent (var_at vars i) p) in
-        omega (arith, g i within, with-append v qs rs (greatest_exponent v p), with-grows v qs e)
+later_reach vars keys qs rs p h =
+    less_within vars keys keys (λ v. exponent_with v (qs ++ rs) (greatest_exponent v p)) (λ v. exponent_with v rs (greatest_exponent v p)) refl
+    (λ v. omega (arith, with-append v qs rs (greatest_exponent v p), with-grows v qs (exponent_with v rs (greatest_exponent v p)))) h
 
 -- one more piece may be multiplied in
 pub piece_in_reach : (vars : List Var) (keys : Keys) (q : Piece) (qs : List Piece) (p : Summands) → ArePiecesInReach vars keys (q ∷ qs) p
     → AreInReach vars keys (times_pieces qs p) q.poly
-piece_in_reach vars keys q qs p h = go keys.limits h
-  where
-    go : (o : Option (ℕ → ℕ))
-        → IfSome o (λ limit. (i : ℕ) → i < length vars → exponent_with (var_at vars i) (q ∷ qs) (greatest_exponent (var_at vars i) p) ≤ limit i)
-        → IfSome o (λ limit. (i : ℕ) → i < length vars → greatest_exponent (var_at vars i) (times_pieces qs p) + greatest_exponent (var_at vars i) q.poly ≤ limit i)
-    go None g = tt
-    go (Some limit) g = λ i within. omega (arith, g i within, times_pieces-le (var_at vars i) qs p)
+piece_in_reach vars keys q qs p h =
+    less_within vars keys keys (λ v. exponent_with v (q ∷ qs) (greatest_exponent v p)) (λ v. greatest_exponent v (times_pieces qs p) + greatest_exponent v q.poly) refl
+    (λ v. omega (arith, times_pieces-le v qs p)) h
