@@ -9,9 +9,11 @@ use Rattle.std.proofs.lemmas.Bool.{cases_lt}
 use Rattle.std.proofs.lemmas.Cmp.{ranked}
 use Rattle.sparse_lists.specs.SparseLists.{AllKeys}
 use Rattle.mono_store.specs.Monomials.{Powers as NumberedPowers, exponent as numbered_exponent}
+use Rattle.geo_poly.specs.declared.replacement.Piece.{Piece}
 use Rattle.geo_poly.specs.declared.replacement.Row.{Row}
 use Rattle.geo_poly.specs.declared.variables.Var.{Var}
-use Rattle.geo_poly.specs.Inner.Keyed.{AreInReach, AreWithinLimits, IsInReach, IsWithinLimits, greatest_exponent, greatest_of_rows}
+use Rattle.geo_poly.specs.Inner.Keyed.{AreInReach, AreWithinLimits, HasRoom, IsInReach, IsWithinLimits, greatest_exponent, greatest_of_rows}
+use Rattle.geo_poly.specs.Inner.ReplacedExponents.{IsReplacedInReach, exponent_bound}
 use Rattle.geo_poly.specs.Keys.{Keys}
 use Rattle.geo_poly.specs.Monomials.{Powers, exponent, exponents}
 use Rattle.geo_poly.specs.Polynomials.{Summands}
@@ -53,17 +55,48 @@ drop-le v zero p = omega arith
 drop-le v (suc n) [] = omega arith
 drop-le v (suc n) (t ∷ ts) = omega (arith, drop-le v n ts)
 
+-- what is less is within the limits too, also of other keys with the same ones
+pub less_within : (vars : List Var) (old new : Keys) (most few : Var → ℕ) → new.limits ≡ old.limits → ((v : Var) → few v ≤ most v)
+    → IfSome old.limits (λ limit. (i : ℕ) → i < length vars → most (var_at vars i) ≤ limit i)
+    → IfSome new.limits (λ limit. (i : ℕ) → i < length vars → few (var_at vars i) ≤ limit i)
+less_within vars old new most few same less h =
+    subst (λ (o : Option (ℕ → ℕ)). IfSome o (λ limit. (i : ℕ) → i < length vars → few (var_at vars i) ≤ limit i)) (sym same) (go old.limits h)
+  where
+    go : (o : Option (ℕ → ℕ)) → IfSome o (λ limit. (i : ℕ) → i < length vars → most (var_at vars i) ≤ limit i)
+        → IfSome o (λ limit. (i : ℕ) → i < length vars → few (var_at vars i) ≤ limit i)
+    go None g = tt
+    go (Some limit) g = λ i within. omega (arith, g i within, less (var_at vars i))
+
 -- IN REACH
+
+pub IsReplacedInReach-kept : (vars : List Var) (old new : Keys) (rows : List Row) (den : Piece) (top : ℕ) (p : Summands) → new.limits ≡ old.limits
+    → IsReplacedInReach vars old rows den top p → IsReplacedInReach vars new rows den top p
+IsReplacedInReach-kept vars old new rows den top p same h =
+    less_within vars old new (λ v. exponent_bound v rows den top p) (λ v. exponent_bound v rows den top p) same (λ v. omega arith) h
+
+-- what is at most the exponent of a variable is within its limit
+pub room_for : (vars : List Var) (old new : Keys) (m : Powers) (k e : ℕ) → k < length vars → new.limits ≡ old.limits → e ≤ exponent (var_at vars k) m → HasRoom vars old m
+    → IfSome new.limits (λ limit. e ≤ limit k)
+room_for vars old new m k e within same few h = subst (λ (o : Option (ℕ → ℕ)). IfSome o (λ limit. e ≤ limit k)) (sym same) (go old.limits h)
+  where
+    go : (o : Option (ℕ → ℕ)) → IfSome o (λ limit. (i : ℕ) → i < length vars → exponent (var_at vars i) m ≤ limit i) → IfSome o (λ limit. e ≤ limit k)
+    go None g = tt
+    go (Some limit) g = omega (arith, g k within, few)
+
+pub IsWithinLimits-kept : (vars : List Var) (old new : Keys) (p : Summands) → new.limits ≡ old.limits → IsWithinLimits vars old p → IsWithinLimits vars new p
+IsWithinLimits-kept vars old new p same h = less_within vars old new (λ v. greatest_exponent v p) (λ v. greatest_exponent v p) same (λ v. omega arith) h
+
+-- no monomial of a polynomial has more than it
+pub room_at : (vars : List Var) (old new : Keys) (p : Summands) (i : ℕ) (t : Powers × ℤ) → i < length p → t ≡ get_or p i t → new.limits ≡ old.limits
+    → IsWithinLimits vars old p → HasRoom vars new t.0
+room_at vars old new p i t within is same h =
+    less_within vars old new (λ v. greatest_exponent v p) (λ v. exponent v t.0) same (λ v. exponent_at-le v p i t within is) h
 
 module _ (vars : List Var) (keys : Keys) (p q : Summands) (reach : AreInReach vars keys p q) where
   fewer : (p2 q2 : Summands) → ((v : Var) → greatest_exponent v p2 ≤ greatest_exponent v p) → ((v : Var) → greatest_exponent v q2 ≤ greatest_exponent v q) → AreInReach vars keys p2 q2
-  fewer p2 q2 left right = go keys.limits reach
-    where
-      go : (o : Option (ℕ → ℕ))
-          → IfSome o (λ limit. (i : ℕ) → i < length vars → greatest_exponent (var_at vars i) p + greatest_exponent (var_at vars i) q ≤ limit i)
-          → IfSome o (λ limit. (i : ℕ) → i < length vars → greatest_exponent (var_at vars i) p2 + greatest_exponent (var_at vars i) q2 ≤ limit i)
-      go None h = tt
-      go (Some limit) h = λ i within. omega (arith, h i within, left (var_at vars i), right (var_at vars i))
+  fewer p2 q2 left right =
+      less_within vars keys keys (λ v. greatest_exponent v p + greatest_exponent v q) (λ v. greatest_exponent v p2 + greatest_exponent v q2) refl
+      (λ v. omega (arith, left v, right v)) reach
 
   pub AreInReach-take : (n : ℕ) → AreInReach vars keys (take n p) q
   AreInReach-take n = fewer (take n p) q (λ v. take-le v n p) (λ v. omega arith)
@@ -72,13 +105,8 @@ module _ (vars : List Var) (keys : Keys) (p q : Summands) (reach : AreInReach va
   AreInReach-drop n = fewer (drop n p) q (λ v. drop-le v n p) (λ v. omega arith)
 
   pub AreInReach-flip : AreInReach vars keys q p
-  AreInReach-flip = go keys.limits reach
-    where
-      go : (o : Option (ℕ → ℕ))
-          → IfSome o (λ limit. (i : ℕ) → i < length vars → greatest_exponent (var_at vars i) p + greatest_exponent (var_at vars i) q ≤ limit i)
-          → IfSome o (λ limit. (i : ℕ) → i < length vars → greatest_exponent (var_at vars i) q + greatest_exponent (var_at vars i) p ≤ limit i)
-      go None h = tt
-      go (Some limit) h = λ i within. omega (arith, h i within)
+  AreInReach-flip =
+      less_within vars keys keys (λ v. greatest_exponent v p + greatest_exponent v q) (λ v. greatest_exponent v q + greatest_exponent v p) refl (λ v. omega arith) reach
 
   -- a monomial of each
   pub in_reach : IsStrictlySortedBy var_cmp vars → (m n : NumberedPowers) → AllPlaces (length vars) m → AllPlaces (length vars) n
@@ -104,8 +132,7 @@ module _ (vars : List Var) (keys : Keys) (p q : Summands) (reach : AreInReach va
 
 pub AreInReach-kept : (vars : List Var) (old new : Keys) (p q : Summands) → new.limits ≡ old.limits → AreInReach vars old p q → AreInReach vars new p q
 AreInReach-kept vars old new p q same h =
-    subst (λ (o : Option (ℕ → ℕ)). IfSome o (λ limit. (i : ℕ) → i < length vars → greatest_exponent (var_at vars i) p + greatest_exponent (var_at vars i) q ≤ limit i))
-    (sym same) h
+    let sum = λ (v : Var). greatest_exponent v p + greatest_exponent v q in less_within vars old new sum sum same (λ v. omega arith) h
 
 pub IsInReach-kept : (old new : Keys) (m n : NumberedPowers) → new.limits ≡ old.limits → IsInReach old m n → IsInReach new m n
 IsInReach-kept old new m n same h =
@@ -121,10 +148,5 @@ row_at-le v (r ∷ rows) (suc i) row h e = omega (arith, row_at-le v rows i row 
 
 pub row_within : (vars : List Var) (old new : Keys) (rows : List Row) (i : ℕ) (row : Row) → i < length rows → row ≡ get_or rows i row → new.limits ≡ old.limits
     → AreWithinLimits vars old rows → IsWithinLimits vars new row.num.poly
-row_within vars old new rows i row below is same h = go new.limits
-    (subst (λ (o : Option (ℕ → ℕ)). IfSome o (λ limit. (k : ℕ) → k < length vars → greatest_of_rows (var_at vars k) rows ≤ limit k)) (sym same) h)
-  where
-    go : (o : Option (ℕ → ℕ)) → IfSome o (λ limit. (k : ℕ) → k < length vars → greatest_of_rows (var_at vars k) rows ≤ limit k)
-        → IfSome o (λ limit. (k : ℕ) → k < length vars → greatest_exponent (var_at vars k) row.num.poly ≤ limit k)
-    go None g = tt
-    go (Some limit) g = λ k within. omega (arith, g k within, row_at-le (var_at vars k) rows i row below is)
+row_within vars old new rows i row below is same h =
+    less_within vars old new (λ v. greatest_of_rows v rows) (λ v. greatest_exponent v row.num.poly) same (λ v. row_at-le v rows i row below is) h

@@ -1,4 +1,5 @@
 pub mod Orders
+pub mod OthersLeft
 pub mod MonomialLaws
 pub mod PolynomialLaws
 pub mod Lengths

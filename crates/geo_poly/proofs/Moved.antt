@@ -1,4 +1,4 @@
--- Monomials of one store put into another without the variables that have rows, link by link.
+-- Monomials of a store put under other keys without the variables that have rows, link by link.
 use Rattle.std.proofs.Common.{◌≡◌, ℕ, zero, suc, ◌<◌, List, [], ◌∷◌, ◌++◌, get_or, length, Option, None, Some, refl, sym, ap, ap₂, subst, ◌∙◌, arith}
 use Rattle.std.specs.Prelude.{◌≢◌}
 use Rattle.std.specs.List.Sorted.{IsStrictlySortedBy}
@@ -8,7 +8,7 @@ use Rattle.sparse_lists.proofs.Canonical.{IsCanonical-canonical, canonical_self}
 use Rattle.sparse_lists.proofs.NaturalAmounts.{natural_order}
 use Rattle.mono_store.specs.declared.links.MonoId.{MonoId}
 use Rattle.mono_store.specs.Monomials.{Powers as NumberedPowers, IsMonomial as IsNumberedMonomial, exponents as numbered_exponents}
-use Rattle.mono_store.specs.Stores.{IsStore, Keeps, Links, count, monomial_of}
+use Rattle.mono_store.specs.Stores.{IsStore, count, monomial_of}
 use Rattle.mono_store.proofs.Numbers.{exponents_add as numbered_add}
 use Rattle.mono_store.proofs.Products.{IsPowerBefore}
 use Rattle.mono_store.proofs.Unfolding.{monomial_of-one}
@@ -17,13 +17,15 @@ use Rattle.geo_poly.specs.declared.shared.Shared.{Shared}
 use Rattle.geo_poly.specs.declared.variables.Var.{Var}
 use Rattle.geo_poly.specs.Monomials.{Powers, IsMonomial, exponents}
 use Rattle.geo_poly.specs.Replace.{kept, others, row_of}
-use Rattle.geo_poly.specs.Shared.{AllPlaces, named, powers_at, told_powers, var_at}
+use Rattle.geo_poly.specs.Keys.{Keys}
+use Rattle.geo_poly.specs.Shared.{AllPlaces, named, told_powers, var_at}
 use Rattle.geo_poly.specs.Variables.{var_cmp}
+use Rattle.geo_poly.specs.Inner.Keyed.{KeepsKeys}
 use Rattle.geo_poly.specs.Inner.Moved.{AreMoved, ArePlaces, IsMovedTo, IsPlaceOf, IsSame}
+use Rattle.geo_poly.proofs.KeysKept.{IsKeyUnder-kept}
 use Rattle.geo_poly.proofs.Naming.{IsPowerBefore-named, canonical-rename, degree_of-named, var_at-keeps}
 use Rattle.geo_poly.proofs.Orders.{exponents_add, var_order}
 use Rattle.geo_poly.proofs.ReplaceTerms.{IsMonomial-others, others-none}
-use Rattle.geo_poly.proofs.Told.{IsIndex-kept, powers_at-kept}
 
 -- what holds of each entry, and of one more
 pub each_push : {X : Type 0} (P : ℕ → X → Type 0) (xs : List X) (x d : X) → ((k : ℕ) → k < length xs → P k (get_or xs k d)) → P (length xs) x
@@ -63,13 +65,14 @@ kept-some None v m some = absurd (some refl)
 kept-some (Some r) v m some = refl
 
 -- THE MONOMIAL WITH NO VARIABLE
-pub one_is_moved : (p : Shared) (rows : List Row) (vars : List Var) (links : Links) (id new : MonoId) → id.0 ≡ 0 → new.0 ≡ 0 → IsSame p rows vars links id new
-one_is_moved p rows vars links id new e f =
+pub one_is_moved : (p : Shared) (rows : List Row) (vars : List Var) (keys : Keys) (id new : MonoId) → keys.powers 0 ≡ [] → 0 < keys.count → id.0 ≡ 0 → new.0 ≡ 0
+    → IsSame p rows vars keys id new
+one_is_moved p rows vars keys id new first some e f =
     let old_is = monomial_of-one p.monos.now id e in
-    let new_is = monomial_of-one links new f in
+    let new_is : keys.powers new.0 ≡ [] = ap keys.powers f ∙ first in
     record {
       old_index = record { within = omega (arith, e); places = subst (AllPlaces (length p.vars.now)) (sym old_is) tt };
-      new_index = record { within = omega (arith, f); places = subst (AllPlaces (length vars)) (sym new_is) tt };
+      new_index = record { within = omega (arith, f, some); places = subst (AllPlaces (length vars)) (sym new_is) tt };
       powers = ap (named vars) new_is ∙ ap (λ (m : NumberedPowers). others rows (named p.vars.now m)) (sym old_is);
     }
 
@@ -79,12 +82,12 @@ module _ (p : Shared) (rows : List Row) (vars : List Var) (id next : MonoId) (va
   powers_are : told_powers p id ≡ (var_at p.vars.now var, exp) ∷ told_powers p next
   powers_are = ap (named p.vars.now) unfolds
 
-  module _ (links : Links) (new : MonoId) (same : IsSame p rows vars links next new) (var_in : var < length p.vars.now) where
+  module _ (keys : Keys) (new : MonoId) (same : IsSame p rows vars keys next new) (var_in : var < length p.vars.now) where
     places_of : AllPlaces (length p.vars.now) (monomial_of p.monos.now id)
     places_of = subst (AllPlaces (length p.vars.now)) (sym unfolds) (var_in, same.old_index.places)
 
     -- the variable has a row
-    pub is_left : row_of rows (var_at p.vars.now var) ≢ None → IsSame p rows vars links id new
+    pub is_left : row_of rows (var_at p.vars.now var) ≢ None → IsSame p rows vars keys id new
     is_left some = record {
       old_index = record { within = within; places = places_of };
       new_index = same.new_index;
@@ -99,17 +102,18 @@ module _ (p : Shared) (rows : List Row) (vars : List Var) (id next : MonoId) (va
       place_is : IsPlaceOf vars (var_at p.vars.now var) (Some k)
       place_is = subst (IsPlaceOf vars (var_at p.vars.now var)) at (are.each var (some_within places var k at))
 
-      left_are : others rows (told_powers p id) ≡ (var_at vars k, exp) ∷ powers_at vars links new
+      left_are : others rows (told_powers p id) ≡ (var_at vars k, exp) ∷ named vars (keys.powers new.0)
       left_are = ap (others rows) powers_are ∙ others-none rows (var_at p.vars.now var, exp) (told_powers p next) none
           ∙ ap₂ (λ (v : Var) (rest : Powers). (v, exp) ∷ rest) (sym place_is.1) (sym same.powers)
 
-      pub power_before : IsStrictlySortedBy var_cmp vars → IsStrictlySortedBy var_cmp p.vars.now → IsStore p.monos.now → IsPowerBefore k exp (monomial_of links new)
+      pub power_before : IsStrictlySortedBy var_cmp vars → IsStrictlySortedBy var_cmp p.vars.now → IsStore p.monos.now → IsPowerBefore k exp (keys.powers new.0)
       power_before rising old_rising store =
-          IsPowerBefore-named vars rising k exp (monomial_of links new) place_is.0 same.new_index.places
+          IsPowerBefore-named vars rising k exp (keys.powers new.0) place_is.0 same.new_index.places
           (subst IsMonomial left_are (IsMonomial-others rows (told_powers p id) (IsMonomial-named p.vars.now (monomial_of p.monos.now id) old_rising places_of (store.monomials id))))
 
-      pub is_moved : (longer : Links) (there : MonoId) → there.0 < count longer → monomial_of longer there ≡ (k, exp) ∷ monomial_of links new → IsSame p rows vars longer id there
-      is_moved longer there there_in is = record {
+      pub is_moved : (more : Keys) (there : ℕ) → there < more.count → more.powers there ≡ (k, exp) ∷ keys.powers new.0
+          → IsSame p rows vars more id (record { 0 = there })
+      is_moved more there there_in is = record {
         old_index = record { within = within; places = places_of };
         new_index = record { within = there_in; places = subst (AllPlaces (length vars)) (sym is) (place_is.0, same.new_index.places) };
         powers = ap (named vars) is ∙ sym left_are;
@@ -120,26 +124,27 @@ pub var_within : (old vars : List Var) (places : List (Option ℕ)) (var k : ℕ
 var_within old vars places var k are at = omega (arith, some_within places var k at, are.whole)
 
 -- what the table tells of an index
-pub entry_same : (p : Shared) (rows : List Row) (vars : List Var) (links : Links) (table : List (Option MonoId)) (id new : MonoId) → AreMoved p rows vars links table
-    → get_or table id.0 None ≡ Some new → IsSame p rows vars links id new
-entry_same p rows vars links table id new are e = subst (IsMovedTo p rows vars links id) e (are id.0 (some_within table id.0 new e))
+pub entry_same : (p : Shared) (rows : List Row) (vars : List Var) (keys : Keys) (table : List (Option MonoId)) (id new : MonoId) → AreMoved p rows vars keys table
+    → get_or table id.0 None ≡ Some new → IsSame p rows vars keys id new
+entry_same p rows vars keys table id new are e = subst (IsMovedTo p rows vars keys id) e (are id.0 (some_within table id.0 new e))
 
--- where the store grows, the table stays right
-module _ (p : Shared) (rows : List Row) (vars : List Var) (old new : Links) (kept : Keeps old new) where
+-- where keys are added, the table stays right
+module _ (p : Shared) (rows : List Row) (vars : List Var) (old new : Keys) (kept : KeepsKeys old new) where
   IsMovedTo-kept : (id : MonoId) (entry : Option MonoId) → IsMovedTo p rows vars old id entry → IsMovedTo p rows vars new id entry
   IsMovedTo-kept id None is = tt
   IsMovedTo-kept id (Some there) is = record {
     old_index = is.old_index;
-    new_index = IsIndex-kept vars old new there kept is.new_index;
-    powers = powers_at-kept vars old new there kept is.new_index ∙ is.powers;
+    new_index = IsKeyUnder-kept vars old new there.0 kept is.new_index;
+    powers = ap (named vars) (kept.powers there.0 is.new_index.within) ∙ is.powers;
   }
 
   pub AreMoved-kept : (table : List (Option MonoId)) → AreMoved p rows vars old table → AreMoved p rows vars new table
   AreMoved-kept table are = λ k within. IsMovedTo-kept (record { 0 = k }) (get_or table k None) (are k within)
 
 -- the table of the monomial with no variable
-pub first_moved : (p : Shared) (rows : List Row) (vars : List Var) (links : Links) (table : List (Option MonoId)) (new : MonoId) → table ≡ [] → new.0 ≡ 0
-    → AreMoved p rows vars links (table ++ Some new ∷ [])
-first_moved p rows vars links table new e f =
-    subst (λ (xs : List (Option MonoId)). AreMoved p rows vars links (xs ++ Some new ∷ [])) (sym e)
-    (each_push (λ k x. IsMovedTo p rows vars links (record { 0 = k }) x) [] (Some new) None (λ k none. absurd (omega (arith, none))) (one_is_moved p rows vars links (record { 0 = 0 }) new refl f))
+pub first_moved : (p : Shared) (rows : List Row) (vars : List Var) (keys : Keys) (table : List (Option MonoId)) (new : MonoId) → keys.powers 0 ≡ [] → 0 < keys.count
+    → table ≡ [] → new.0 ≡ 0 → AreMoved p rows vars keys (table ++ Some new ∷ [])
+first_moved p rows vars keys table new first some e f =
+    subst (λ (xs : List (Option MonoId)). AreMoved p rows vars keys (xs ++ Some new ∷ [])) (sym e)
+    (each_push (λ k x. IsMovedTo p rows vars keys (record { 0 = k }) x) [] (Some new) None (λ k none. absurd (omega (arith, none)))
+    (one_is_moved p rows vars keys (record { 0 = 0 }) new first some refl f))

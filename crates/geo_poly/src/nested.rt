@@ -13,7 +13,7 @@ ghost use Rattle.geo_poly.specs.Inner.Factored.{pieces_of, products_with, times_
 ghost use Rattle.geo_poly.specs.Inner.Factored.{told_pending, weight_with};
 ghost use Rattle.geo_poly.specs.Inner.Keyed.{AreInReach, ArePiecesInReach, HasRoom, KeepsKeys};
 ghost use Rattle.geo_poly.specs.Inner.Moved.{AreMoved};
-ghost use Rattle.geo_poly.specs.Inner.ReplacedExponents.{IsPendingInReach, IsReplacedInReach};
+ghost use Rattle.geo_poly.specs.Inner.ReplacedExponents.{IsReplacedInReach};
 ghost use Rattle.geo_poly.specs.Inner.Settings.{IsSetUnder, IsStoredUnder, Swaps};
 ghost use Rattle.geo_poly.specs.Keys.{IsKeyUnder, Keys};
 ghost use Rattle.geo_poly.specs.Monomials.{IsMonomial};
@@ -189,7 +189,8 @@ fn nested_sum<K: MonomialKeys, L: Ledger>(
     requires pending { All (IsPending setting.now p.now depth) pending.now }
     requires norm { factored_weight (map (told_pending setting.now p.now depth) pending.now)
         < 2 ^ 127 }
-    requires reach { All (IsPendingInReach setting.now p.now (K.keys keys.old) depth) pending.now }
+    requires reach { IsReplacedInReach setting.now.vars.now (K.keys keys.old) setting.now.rows.now
+        setting.now.den.piece.now setting.now.top (told p.now) }
     ensures chain { IfOk result (λ c. StandsUnder setting.now.vars.now (K.keys keys.new) arena.new c
         (polynomial_of (factored_terms (map (told_pending setting.now p.now depth)
         pending.now)))) }

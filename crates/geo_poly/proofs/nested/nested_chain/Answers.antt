@@ -1,18 +1,25 @@
 use Rattle.std.proofs.Common.{List, ap, sym, subst, ◌∙◌, arith}
 use Rattle.std.proofs.lemmas.Result.{IfOk-weaker}
-use Rattle.mono_store.proofs.Interning.{Keeps_trans}
-use Rattle.geo_poly.specs.Chained.{StandsFor}
+use Rattle.geo_poly.specs.Chained.{StandsUnder}
 use Rattle.geo_poly.specs.declared.pending.Pending.{Pending}
 use Rattle.geo_poly.specs.Inner.Factored.{ArePending}
 use Rattle.geo_poly.specs.Polynomials.{Summands, polynomial_of}
 use Rattle.geo_poly.specs.Shared.{told}
 use Rattle.geo_poly.proofs.Accumulated.{accumulated_is_replaced}
-use Rattle.geo_poly.proofs.ChainSwaps.{IsSet-kept}
+use Rattle.geo_poly.proofs.ChainSwaps.{IsSetUnder-kept}
+use Rattle.geo_poly.proofs.InReach.{IsReplacedInReach-kept}
+use Rattle.geo_poly.proofs.KeysKept.{KeepsKeys-trans}
 use Rattle.geo_poly.proofs.nested.nested_chain.Goals as goal
 
 pub nested_sum-requires-clause-set : goal.nested_sum-requires-clause-set
 nested_sum-requires-clause-set g c =
-    IsSet-kept c.args.setting.now c.args.store.now c.moved_monomials.new.store c.in_ok-table.ensures.kept c.requires.set
+    IsSetUnder-kept c.args.setting.now (g.K.MonomialKeys.keys c.args.keys.now) (g.K.MonomialKeys.keys c.moved_monomials.new.keys) c.in_ok-table.ensures.kept c.requires.set
+
+pub nested_sum-requires-clause-reach : goal.nested_sum-requires-clause-reach
+nested_sum-requires-clause-reach g c =
+    let setting = c.args.setting.now in
+    IsReplacedInReach-kept setting.vars.now (g.K.MonomialKeys.keys c.args.keys.now) (g.K.MonomialKeys.keys c.moved_monomials.new.keys) setting.rows.now setting.den.piece.now setting.top (told c.args.p.now)
+    c.in_ok-table.ensures.kept.limits c.requires.reach
 
 pub nested_sum-requires-clause-pending : goal.nested_sum-requires-clause-pending
 nested_sum-requires-clause-pending g c =
@@ -38,7 +45,7 @@ returns-clause-chain g c =
     let same = accumulated_is_replaced setting.rows.now den setting.top (told p) can.in_order can.monomials in
     let terms = found.terms ∙ ap polynomial_of same in
     IfOk-weaker c.nested_sum.result _ _
-    (λ v h. subst (λ (q : Summands). StandsFor setting.vars.now c.nested_sum.new.store c.nested_sum.new.arena v q) terms h)
+    (λ v h. subst (λ (q : Summands). StandsUnder setting.vars.now (g.K.MonomialKeys.keys c.nested_sum.new.keys) c.nested_sum.new.arena v q) terms h)
     c.nested_sum.ensures.chain
 
 pub returns-clause-ticks : goal.returns-clause-ticks
@@ -49,4 +56,5 @@ returns-clause-ticks g c =
     omega (arith, found.products, c.nested_sum.ensures.ticks)
 
 pub returns-clause-kept : goal.returns-clause-kept
-returns-clause-kept g c = Keeps_trans c.in_ok-table.ensures.kept c.nested_sum.ensures.kept
+returns-clause-kept g c =
+    KeepsKeys-trans (g.K.MonomialKeys.keys c.args.keys.now) (g.K.MonomialKeys.keys c.moved_monomials.new.keys) (g.K.MonomialKeys.keys c.nested_sum.new.keys) c.in_ok-table.ensures.kept c.nested_sum.ensures.kept

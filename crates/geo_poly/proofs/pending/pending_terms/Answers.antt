@@ -47,7 +47,7 @@ loop-term-preserved c =
           let made = w.in_ok-made.ensures in
           rw (w.pending-is, w.in_ok-push.ensures.items, told-take p i c.loop-term-test.true)
           (Made-more setting p e t (ap₂ (λ n (z : ℤ). (told_powers p n, z)) made.index made.coefficient) made.factors q es
-          (subst (IsIndexOf p) (sym made.index) index) here.monomial here.known here.nonzero here.degree c.loop-term.invariant)
+          (subst (IsIndexOf p) (sym made.index) index) here.monomial here.known here.nonzero here.degree here.exponents c.loop-term.invariant)
     ]
 
 pub returns : goal.returns
