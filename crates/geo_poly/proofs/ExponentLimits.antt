@@ -1,5 +1,5 @@
 -- Limits of exponents: what is added to them, what fields have room for them, and what they bound.
-use Rattle.std.proofs.Common.{◌≡◌, ℕ, zero, suc, ◌+◌, ◌-◌, ◌*◌, ◌^◌, ◌<◌, ◌≤◌, max, min, eqb, false, cond, Bool, true, inl, inr, ◌⊎◌, List, [], ◌∷◌, ◌++◌, length, map}
+use Rattle.std.proofs.Common.{◌≡◌, ℕ, zero, suc, ◌+◌, ◌-◌, ◌*◌, ◌^◌, ◌<◌, ◌≤◌, max, min, eqb, false, cond, Bool, true, inl, inr, ◌⊎◌, ℤ, List, [], ◌∷◌, ◌++◌, length, map}
 use Rattle.std.proofs.Common.{Option, Some, None, get_or, take, refl, sym, ap, ap₂, subst, ◌∙◌, arith}
 use Rattle.std.specs.Prelude.{All, Contains, slice_index_or}
 use Rattle.std.specs.List.Sorted.{IsStrictlySortedBy}
@@ -23,8 +23,8 @@ use Rattle.geo_poly.specs.declared.replacement.Piece.{Piece}
 use Rattle.geo_poly.specs.declared.replacement.Row.{Row}
 use Rattle.geo_poly.specs.declared.variables.Var.{Var}
 use Rattle.geo_poly.specs.Inner.Keyed.{greatest_exponent, greatest_of_rows}
-use Rattle.geo_poly.specs.Inner.Limits.{AreBounds, AreGreatest, AreLimits, HaveRoom, exponents_of_rows}
-use Rattle.geo_poly.specs.Inner.ReplacedExponents.{exponent_row, exponent_rows, replaced_exponent, replaced_exponents}
+use Rattle.geo_poly.specs.Inner.Limits.{AreBounds, AreGreatest, AreLimits, HaveRoom, exponent_anywhere, exponents_of_rows}
+use Rattle.geo_poly.specs.Inner.ReplacedExponents.{exponent_bound, exponent_in_row, exponent_in_rows, term_exponent}
 use Rattle.geo_poly.specs.Inner.Words.{bits_of, width, widths_of}
 use Rattle.geo_poly.specs.Monomials.{Powers, exponent, exponents}
 use Rattle.geo_poly.specs.Polynomials.{Summands}
@@ -290,23 +290,23 @@ others-le v rows m own le = go (row_of rows v) (exponent-others v rows m) (expon
 
 -- NUMERATORS
 
-rows-plus : (v : Var) (rows : List Row) (m : Powers) (e : ℕ) → exponent_rows v rows m e ≡ e + exponent_rows v rows m 0
+rows-plus : (v : Var) (rows : List Row) (m : Powers) (e : ℕ) → exponent_in_rows v rows m e ≡ e + exponent_in_rows v rows m 0
 rows-plus v rows [] e = omega arith
 rows-plus v rows (p ∷ m) e = go (row_of rows p.0) (rows-plus v rows m)
   where
-    go : (o : Option Row) → ((e : ℕ) → exponent_rows v rows m e ≡ e + exponent_rows v rows m 0)
-        → exponent_rows v rows m (exponent_row v o p.1 e) ≡ e + exponent_rows v rows m (exponent_row v o p.1 0)
+    go : (o : Option Row) → ((e : ℕ) → exponent_in_rows v rows m e ≡ e + exponent_in_rows v rows m 0)
+        → exponent_in_rows v rows m (exponent_in_row v o p.1 e) ≡ e + exponent_in_rows v rows m (exponent_in_row v o p.1 0)
     go None rec = rec e
     go (Some r) rec =
         omega (arith, rec (e + greatest_exponent v r.num.poly * p.1), rec (0 + greatest_exponent v r.num.poly * p.1))
 
-no_rows : (v : Var) (m : Powers) → exponent_rows v [] m 0 ≡ 0
+no_rows : (v : Var) (m : Powers) → exponent_in_rows v [] m 0 ≡ 0
 no_rows v [] = refl
 no_rows v (p ∷ m) = no_rows v m
 
 -- the first row adds at most its exponent as often as its variable is there
 rows-first : (v : Var) (r : Row) (rs : List Row) (m : Powers)
-    → exponent_rows v (r ∷ rs) m 0 ≤ greatest_exponent v r.num.poly * exponent r.var m + exponent_rows v rs m 0
+    → exponent_in_rows v (r ∷ rs) m 0 ≤ greatest_exponent v r.num.poly * exponent r.var m + exponent_in_rows v rs m 0
 rows-first v r rs [] = omega arith
 rows-first v r rs (p ∷ m) = go (is_eq (var_cmp r.var p.0)) (row_of rs p.0)
   where
@@ -314,25 +314,25 @@ rows-first v r rs (p ∷ m) = go (is_eq (var_cmp r.var p.0)) (row_of rs p.0)
     g = greatest_exponent v r.num.poly
 
     go : (z : Bool) (o : Option Row)
-        → exponent_rows v (r ∷ rs) m (exponent_row v (cond z (Some r) o) p.1 0)
-        ≤ g * (cond z p.1 0 + exponent r.var m) + exponent_rows v rs m (exponent_row v o p.1 0)
+        → exponent_in_rows v (r ∷ rs) m (exponent_in_row v (cond z (Some r) o) p.1 0)
+        ≤ g * (cond z p.1 0 + exponent r.var m) + exponent_in_rows v rs m (exponent_in_row v o p.1 0)
     go true o =
         omega (
           arith,
           rows-plus v (r ∷ rs) m (0 + g * p.1),
           rows-first v r rs m,
-          rows-plus v rs m (exponent_row v o p.1 0),
+          rows-plus v rs m (exponent_in_row v o p.1 0),
         )
     go false o =
         omega (
           arith,
-          rows-plus v (r ∷ rs) m (exponent_row v o p.1 0),
+          rows-plus v (r ∷ rs) m (exponent_in_row v o p.1 0),
           rows-first v r rs m,
-          rows-plus v rs m (exponent_row v o p.1 0),
+          rows-plus v rs m (exponent_in_row v o p.1 0),
         )
 
 numerators-le : (v : Var) (rows : List Row) (m own : Powers) → ((u : Var) → exponent u m ≤ exponent u own)
-    → exponent_rows v rows m 0 ≤ exponents_of_rows v rows own
+    → exponent_in_rows v rows m 0 ≤ exponents_of_rows v rows own
 numerators-le v [] m own le = omega (arith, no_rows v m)
 numerators-le v (r ∷ rs) m own le =
     let few : exponent r.var m ≤ max 1 (exponent r.var own) = omega (arith, le r.var) in
@@ -360,27 +360,27 @@ module _ (v : Var) (rows : List Row) (den : Piece) (top : ℕ) (own : Powers) wh
   den_times : (k : ℕ) → greatest_exponent v den.poly * (top - k) ≤ greatest_exponent v den.poly * max top 1
   den_times k = mul-le-mul_left (greatest_exponent v den.poly) (let few : top - k ≤ max top 1 = omega arith in few)
 
-  term-le : (m : Powers) → ((u : Var) → exponent u m ≤ exponent u own) → replaced_exponent v rows den top m ≤ replaced_limit
-  term-le m le =
+  term-le : (t : Powers × ℤ) → ((u : Var) → exponent u t.0 ≤ exponent u own) → term_exponent v rows den top t ≤ replaced_limit
+  term-le t le =
       omega (
         arith,
-        rows-plus v rows m (exponent v (others rows m)),
-        others-le v rows m own (le v),
-        numerators-le v rows m own le,
-        den_times (denominators rows m),
+        rows-plus v rows t.0 (exponent v (others rows t.0)),
+        others-le v rows t.0 own (le v),
+        numerators-le v rows t.0 own le,
+        den_times (denominators rows t.0),
       )
 
-  terms-le : (p : Summands) → ((u : Var) → greatest_exponent u p ≤ exponent u own) → replaced_exponents v rows den top p ≤ replaced_limit
+  terms-le : (p : Summands) → ((u : Var) → greatest_exponent u p ≤ exponent u own) → exponent_bound v rows den top p ≤ replaced_limit
   terms-le [] le = omega arith
   terms-le (t ∷ ts) le =
       omega (
         arith,
-        term-le t.0 (λ u. let most : greatest_exponent u (t ∷ ts) ≤ exponent u own = le u in omega (arith, most)),
+        term-le t (λ u. let most : greatest_exponent u (t ∷ ts) ≤ exponent u own = le u in omega (arith, most)),
         terms-le ts (λ u. let most : greatest_exponent u (t ∷ ts) ≤ exponent u own = le u in omega (arith, most)),
       )
 
   pub replaced-le : (p : Summands) → AreBounds p own
-      → max (replaced_exponents v rows den top p) (max (greatest_of_rows v rows) (greatest_exponent v den.poly)) ≤ replaced_limit
+      → exponent_anywhere v rows den top p ≤ replaced_limit
   replaced-le p h =
       let once : 1 ≤ max top 1 = omega arith in
       omega (

@@ -1,13 +1,13 @@
 -- The first power of a word: the field that has its highest bit, and what is below that field.
-use Rattle.std.proofs.Common.{◌≡◌, ℕ, zero, suc, ◌+◌, ◌-◌, ◌*◌, ◌/◌, ◌%◌, ◌^◌, ◌<◌, ◌≤◌, Bool, eqb, eqb-true, leb, le-leb, leb-false, leb-true, true, false, inl, inr, List, [], ◌∷◌, drop, length, refl, sym}
+use Rattle.std.proofs.Common.{◌≡◌, ℕ, zero, suc, ◌+◌, ◌-◌, ◌*◌, ◌/◌, ◌%◌, ◌^◌, ◌<◌, ◌≤◌, Bool, bit_and, leb, le-leb, leb-false, leb-true, true, false, inl, inr, List, [], ◌∷◌, drop, length, refl, sym}
 use Rattle.std.proofs.Common.{add-one, ap, ap₂, subst, ◌∙◌, arith}
 use Rattle.std.specs.Prelude.{slice_index_or, sum}
 use Rattle.std.specs.Int.{leading_zeros, w64}
 use Rattle.std.specs.List.Sorted.{AllWithin, IsPartitionPoint, IsPartitionedBy}
 use Rattle.std.proofs.Math.Nat.{div-eq_of_lt, pow-le-pow_right, zero-mod}
 use Rattle.std.proofs.lemmas.Bool.{cases_lt}
-use Rattle.std.proofs.lemmas.List.{drop_all, get_or_past, length-map}
-use Rattle.std.proofs.lemmas.Nat.{div-add-mod', leading_length, le-div, mod_below, pow-add, pow_pos, shr_below}
+use Rattle.std.proofs.lemmas.List.{drop_all, length-map}
+use Rattle.std.proofs.lemmas.Nat.{and_mask, div-add-mod', leading_length, le-div, mod_below, one_shl, pow-add, pow_pos, shr_below}
 use Rattle.sparse_lists.specs.SparseLists.{put}
 use Rattle.sparse_lists.proofs.Merging.{get_or_any}
 use Rattle.mono_store.specs.Monomials.{ComesFirst, Powers, exponents}
@@ -38,25 +38,6 @@ powers_of_word-low widths (suc v) w known low =
     powers_of_word-low widths v w (omega arith) (omega (arith, wider, low))
     ∙ powers_from-low widths v w (omega arith) (subst (λ (k : ℕ). w < 2 ^ bits_from widths k) next low)
     ∙ ap (λ (k : ℕ). powers_from k (drop k widths) w) (sym next)
-
--- ROOM
-
--- what is gone when it is shifted by the bits of a field has room there
-pub fits-shift : (e b : ℕ) → eqb (e / 2 ^ b) 0 ≡ true → e < 2 ^ b
-fits-shift e b t =
-    let none : e / 2 ^ b ≡ 0 = eqb-true _ _ t in
-    elim (cases_lt e (2 ^ b)) [
-      | inl fits ↦ fits
-      | inr past ↦ absurd (omega (arith, none, le-div 1 e (2 ^ b) (pow_pos b) (omega (arith, past))))
-    ]
-
--- a variable that has room for an exponent has a field
-pub known-room : (widths : Widths) (v e : ℕ) → 1 ≤ e → e ≤ 2 ^ width widths v - 1 → v < length widths
-known-room widths v e some fits =
-    elim (cases_lt v (length widths)) [
-      | inl known ↦ known
-      | inr past ↦ absurd (omega (arith, some, fits, ap (λ (b : ℕ). 2 ^ b) (get_or_past widths v 0 past)))
-    ]
 
 -- THE FIRST POWER
 
@@ -101,6 +82,29 @@ module _ (widths : Widths) (w v : ℕ) (above : w < 2 ^ bits_from widths v) (her
       ap (powers_of_word widths) parts
       ∙ power_before-powers widths v (w / 2 ^ bits_from widths (v + 1)) (w % 2 ^ bits_from widths (v + 1)) (omega (arith, first-rest, within))
       first-some comes_first first-fits
+
+-- the same by the shift of the field, as it is reckoned
+module _ (widths : Widths) (w v shift : ℕ) (above : w < 2 ^ bits_from widths v) (here : 2 ^ bits_from widths (v + 1) ≤ w)
+    (is : shift ≡ bits_from widths (v + 1)) (small : shift < 64) where
+  rest_is : bit_and w (1 * 2 ^ shift % 2 ^ 64 - 1) ≡ w % 2 ^ bits_from widths (v + 1)
+  rest_is =
+      ap (λ (m : ℕ). bit_and w (m - 1)) (one_shl shift 64 small) ∙ and_mask w shift ∙ ap (λ (s : ℕ). w % 2 ^ s) is
+
+  pub power-parts : w < 2 ^ sum widths
+      → powers_of_word widths w ≡ (v, w / 2 ^ shift) ∷ powers_of_word widths (bit_and w (1 * 2 ^ shift % 2 ^ 64 - 1))
+  power-parts within =
+      first-powers widths w v above here within
+      ∙ ap₂ (λ (e r : ℕ). (v, e) ∷ powers_of_word widths r) (ap (λ (s : ℕ). w / 2 ^ s) (sym is)) (sym rest_is)
+
+  pub power-rest : bit_and w (1 * 2 ^ shift % 2 ^ 64 - 1) < w
+  power-rest = subst (λ (r : ℕ). r < w) (sym rest_is) (first-rest widths w v above here)
+
+  pub power-narrow : width widths v ≤ 32 → w / 2 ^ shift < 2 ^ 32
+  power-narrow narrow =
+      let wide : 2 ^ width widths v ≤ 2 ^ 32 = pow-le-pow_right (omega arith) narrow in
+      let fits : w / 2 ^ shift < 2 ^ width widths v =
+      subst (λ (s : ℕ). w / 2 ^ s < 2 ^ width widths v) (sym is) (first-fits widths w v above here) in
+      omega (arith, fits, wide)
 
 -- THE SEARCH
 
@@ -173,3 +177,19 @@ module _ (fields : List Field) (h : AreFields fields) (bits : ℕ) where
             let twice : 2 ^ (bits_from widths (v + 1) + 1) ≤ 2 ^ bits =
             pow-le-pow_right (omega arith) (omega (arith, shift, shift_at v none within)) in
             omega (arith, twice, pow-add 2 (bits_from widths (v + 1)) 1, tight)
+
+-- what the search finds is the field of the highest bit
+pub searched : (fields : List Field) (widths : Widths) (w v : ℕ) → field_widths fields ≡ widths → AreFields fields → 0 < w
+    → w < 2 ^ sum widths → v ≤ length fields
+    → IsPartitionPoint (λ f. is_above (64 - leading_zeros w64 w) f ≡ true) (λ f. is_above (64 - leading_zeros w64 w) f ≡ false) fields v
+    → (w < 2 ^ bits_from widths v) × (2 ^ bits_from widths (v + 1) ≤ w)
+searched fields widths w v same h some within known point =
+    let bits = 64 - leading_zeros w64 w in
+    let within_fields : w < 2 ^ sum (field_widths fields) = subst (λ (bs : Widths). w < 2 ^ sum bs) (sym same) within in
+    let most : 2 ^ sum (field_widths fields) ≤ 2 ^ 64 = pow-le-pow_right (omega arith) (omega (arith, h.bits)) in
+    let found = word_bits w bits (omega (arith, within_fields, most)) refl in (
+      subst (λ (bs : Widths). w < 2 ^ bits_from bs v) same
+          (search-above fields h bits w v some within_fields found.0 found.1 known point),
+      subst (λ (bs : Widths). 2 ^ bits_from bs (v + 1) ≤ w) same
+          (search-here fields h bits w v some within_fields found.0 found.1 known point),
+    )

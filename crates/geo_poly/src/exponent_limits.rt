@@ -6,10 +6,9 @@ ghost use Rattle.std.specs.Prelude.{IfOk, IfSome, IsFalse, OnOk, length, slice_i
 ghost use Rattle.std.specs.List.Sorted.{IsStrictlySortedBy};
 ghost use Rattle.mono_store.specs.Stores.{count};
 ghost use Rattle.geo_poly.specs.declared.variables.Var.{Var};
-ghost use Rattle.geo_poly.specs.Inner.Keyed.{greatest_exponent, greatest_of_rows};
+ghost use Rattle.geo_poly.specs.Inner.Keyed.{greatest_exponent};
 ghost use Rattle.geo_poly.specs.Inner.Limits.{AreBounds, AreGreatest, AreLimits};
-ghost use Rattle.geo_poly.specs.Inner.Limits.{HaveRoom, exponents_of_rows};
-ghost use Rattle.geo_poly.specs.Inner.ReplacedExponents.{replaced_exponents};
+ghost use Rattle.geo_poly.specs.Inner.Limits.{HaveRoom, exponent_anywhere, exponents_of_rows};
 ghost use Rattle.geo_poly.specs.Monomials.{exponent};
 ghost use Rattle.geo_poly.specs.Replace.{others};
 ghost use Rattle.geo_poly.specs.Shared.{AreParts, told};
@@ -56,8 +55,7 @@ pub(crate) fn replacement_fields(
     requires rising { IsStrictlySortedBy var_cmp vars.now }
     requires parts { AreParts p.now }
     ensures { IfOk result (λ found. IfSome found (λ f. HaveRoom vars.now f
-        (λ v. max (replaced_exponents v rows.now den.now top (told p.now))
-        (max (greatest_of_rows v rows.now) (greatest_exponent v den.now.poly))))) }
+        (λ v. exponent_anywhere v rows.now den.now top (told p.now)))) }
 {
     let mut limits = no_limits(alloc, vars)?;
     let own = greatest_exponents(alloc, p)?;

@@ -4,7 +4,9 @@ ghost use Rattle.std.specs.Prelude.{◌≡◌, ◌≢◌, ◌↔◌, ◌^◌, �
 ghost use Rattle.std.specs.Prelude.{unsigned_abs, slice_get, Contains, IfOk, IsTrue};
 ghost use Rattle.sparse_lists.specs.SparseLists.{AllKeys};
 ghost use Rattle.poly_arena.specs.Chains.{IsLive, pairs_of};
-ghost use Rattle.geo_poly.specs.Chained.{IsKey, keyed_terms};
+ghost use Rattle.geo_poly.specs.Chained.{IsKey, keyed_terms, keyed_terms_under};
+ghost use Rattle.geo_poly.specs.Inner.Words.{word_keys};
+ghost use Rattle.geo_poly.specs.Keys.{IsKeyUnder};
 ghost use Rattle.geo_poly.specs.Monomials.{IsMonomial};
 ghost use Rattle.geo_poly.specs.PolynomialVariables.{AllVariables};
 ghost use Rattle.geo_poly.specs.Polynomials.{IsPolynomial, constant_of, norm_of, term_at};
@@ -258,6 +260,13 @@ impl Poly {
         arena: Arena,
         chain: Chain,
     ) -> Result<Poly, NoMemory>
+        requires rising { IsStrictlySortedBy var_cmp vars }
+        requires live { IsLive arena chain }
+        requires keys { AllKeys (IsKeyUnder vars (word_keys words.now)) (pairs_of arena chain) }
+        requires polynomial { IsPolynomial
+            (keyed_terms_under vars (word_keys words.now) (pairs_of arena chain)) }
+        ensures { IfOk result
+            (λ p. p ≡ keyed_terms_under vars (word_keys words.now) (pairs_of arena chain)) }
     {
         let pairs = arena.into_list(alloc, chain)?;
         let mut monos = Monos::with_capacity(alloc, pairs.len() as u64)?;

@@ -9,6 +9,7 @@ ghost use Rattle.geo_poly.specs.Chained.{AddsChain, SameChains, StandsFor, Stand
 ghost use Rattle.geo_poly.specs.Counted.{replacement_products};
 ghost use Rattle.geo_poly.specs.Inner.Keyed.{AreWithinLimits, IsWithinLimits, KeepsKeys};
 ghost use Rattle.geo_poly.specs.Inner.ReplacedExponents.{IsReplacedInReach};
+ghost use Rattle.geo_poly.specs.Inner.Limits.{HaveRoom, exponent_anywhere};
 ghost use Rattle.geo_poly.specs.KeptVariables.{AllNumerators};
 ghost use Rattle.geo_poly.specs.PolynomialVariables.{AllVariables};
 ghost use Rattle.geo_poly.specs.Replace.{AllBounded, AllPowersSmall, CanReplace, IsBounded};
@@ -201,14 +202,14 @@ impl Poly {
             + replacement_products rows.now den.now self.now }
     {
         let vars = self.replacement_vars(alloc, rows.rows(), den)?;
-        let fields = replacement_fields(alloc, vars.as_slice(), &self.shared(), rows, den, top)?;
-        match fields {
+        let p = &self.shared();
+        match replacement_fields(alloc, vars.as_slice(), p, rows, den, top)? {
             Some(words) => self.packed_replacement(alloc, rows, den, top, vars, words, ticks),
             None => self.stored_replacement(alloc, rows, den, top, vars, ticks),
         }
     }
 
-    /// The replacement, which fits, with a store and an arena of its own.
+    /// The replacement, which fits, over a store.
     fn stored_replacement<L: Ledger>(
         &self,
         alloc: Global,
@@ -217,7 +218,17 @@ impl Poly {
         top: u32,
         vars: Vars,
         ticks: &mut Ticks<L>,
-    ) -> Result<Poly, NoMemory> {
+    ) -> Result<Poly, NoMemory>
+        requires top { top ≡ most_denominators rows.now self.now }
+        requires can { CanReplace rows.now den.now top self.now }
+        requires rising { IsStrictlySortedBy var_cmp vars }
+        requires known { AllVariables (Contains vars) self.now }
+        requires rows_known { AllNumerators (Contains vars) rows.now }
+        requires den_known { AllVariables (Contains vars) den.now.poly }
+        ensures replaced { IfOk result (λ p. p ≡ replaced_by rows.now den.now.poly self.now) }
+        ensures ticks { ticks.new ≤ ticks.old
+            + replacement_products rows.now den.now self.now }
+    {
         let mut store = Monos::with_capacity(alloc, self.monos().links())?;
         let mut arena = Arena::new(alloc)?;
         let chain = self.chained_replacement(
@@ -226,7 +237,7 @@ impl Poly {
         Poly::from_chain(alloc, vars, store, arena, chain)
     }
 
-    /// The replacement, which fits, by words.
+    /// The replacement, which fits, by words that have room for it.
     fn packed_replacement<L: Ledger>(
         &self,
         alloc: Global,
@@ -234,13 +245,25 @@ impl Poly {
         den: &Piece,
         top: u32,
         vars: Vars,
-        words: Fields,
+        mut words: Fields,
         ticks: &mut Ticks<L>,
-    ) -> Result<Poly, NoMemory> {
-        let mut words = words;
+    ) -> Result<Poly, NoMemory>
+        requires top { top ≡ most_denominators rows.now self.now }
+        requires can { CanReplace rows.now den.now top self.now }
+        requires rising { IsStrictlySortedBy var_cmp vars }
+        requires known { AllVariables (Contains vars) self.now }
+        requires rows_known { AllNumerators (Contains vars) rows.now }
+        requires den_known { AllVariables (Contains vars) den.now.poly }
+        requires room { HaveRoom vars words
+            (λ v. exponent_anywhere v rows.now den.now top self.now) }
+        ensures replaced { IfOk result (λ p. p ≡ replaced_by rows.now den.now.poly self.now) }
+        ensures ticks { ticks.new ≤ ticks.old
+            + replacement_products rows.now den.now self.now }
+    {
         let mut arena = Arena::new(alloc)?;
+        let names = vars.as_slice();
         let chain = self.keyed_replacement(
-            alloc, rows, den, top, vars.as_slice(), &mut words, &mut arena, ticks,
+            alloc, rows, den, top, names, &mut words, &mut arena, ticks,
         )?;
         Poly::from_words(alloc, vars, &words, arena, chain)
     }

@@ -13,11 +13,11 @@ merge_into-requires-clause-spent_falls c =
 
 pub merge_into-requires-clause-kept_keys : goal.merge_into-requires-clause-kept_keys
 merge_into-requires-clause-kept_keys c =
-    words-below c.args.self.now c.count-_count.ensures.bits (pairs_of c.args.arena.now c.args.kept.now) c.requires.kept_keys
+    words-below c.args.self.now c.count-count.ensures.bits (pairs_of c.args.arena.now c.args.kept.now) c.requires.kept_keys
 
 pub merge_into-requires-clause-spent_keys : goal.merge_into-requires-clause-spent_keys
 merge_into-requires-clause-spent_keys c =
-    words-below c.args.self.now c.count-_count.ensures.bits (pairs_of c.args.arena.now c.args.spent) c.requires.spent_keys
+    words-below c.args.self.now c.count-count.ensures.bits (pairs_of c.args.arena.now c.args.spent) c.requires.spent_keys
 
 pub returns-clause-merges : goal.returns-clause-merges
 returns-clause-merges c =

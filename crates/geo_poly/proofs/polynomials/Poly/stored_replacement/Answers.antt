@@ -2,7 +2,7 @@ use Rattle.std.proofs.Common.{ℕ, sym, subst}
 use Rattle.geo_poly.specs.Polynomials.{IsPolynomial, polynomial_of}
 use Rattle.geo_poly.specs.Replace.{replaced_terms}
 use Rattle.geo_poly.proofs.ReplaceTerms.{IsPolynomial-replaced}
-use Rattle.geo_poly.proofs.polynomials.Poly.replacement.Goals as goal
+use Rattle.geo_poly.proofs.polynomials.Poly.stored_replacement.Goals as goal
 
 pub from_chain-requires-clause-polynomial : goal.from_chain-requires-clause-polynomial
 from_chain-requires-clause-polynomial g c =
