@@ -1,4 +1,4 @@
--- Limits of exponents: what is added to them, what fields have room for them, and what they bound.
+-- Limits of exponents: what is added to them, what digits have room for them, and what they bound.
 use Rattle.std.proofs.Common.{◌≡◌, ℕ, zero, suc, ◌+◌, ◌-◌, ◌*◌, ◌^◌, ◌<◌, ◌≤◌, max, min, eqb, false, cond, Bool, true, inl, inr, ◌⊎◌, ℤ, List, [], ◌∷◌, ◌++◌, length, map}
 use Rattle.std.proofs.Common.{Option, Some, None, get_or, take, refl, sym, ap, ap₂, subst, ◌∙◌, arith}
 use Rattle.std.specs.Prelude.{All, Contains, slice_index_or}
@@ -25,7 +25,6 @@ use Rattle.geo_poly.specs.declared.variables.Var.{Var}
 use Rattle.geo_poly.specs.Inner.Keyed.{greatest_exponent, greatest_of_rows}
 use Rattle.geo_poly.specs.Inner.Limits.{AreBounds, AreGreatest, AreLimits, HaveRoom, exponent_anywhere, exponents_of_rows}
 use Rattle.geo_poly.specs.Inner.ReplacedExponents.{exponent_bound, exponent_in_row, exponent_in_rows, term_exponent}
-use Rattle.geo_poly.specs.Inner.Words.{bits_of, width, widths_of}
 use Rattle.geo_poly.specs.Monomials.{Powers, exponent, exponents}
 use Rattle.geo_poly.specs.Polynomials.{Summands}
 use Rattle.geo_poly.specs.Replace.{denominators, kept, others, row_of}
@@ -33,7 +32,7 @@ use Rattle.geo_poly.specs.Shared.{AllPlaces, Indices, IsIndex, named, powers_at,
 use Rattle.geo_poly.specs.Variables.{var_cmp}
 use Rattle.geo_poly.proofs.Naming.{var_at-keeps}
 use Rattle.geo_poly.proofs.Orders.{exponents_add, var_order}
-use Rattle.geo_poly.proofs.WordKeys.{below_bits, exponent-named}
+use Rattle.geo_poly.proofs.WordKeys.{exponent-named}
 
 -- LIMITS
 
@@ -42,20 +41,11 @@ pub AreLimits-less : (vars : List Var) (b c : Var → ℕ) (limits : List ℕ) �
     → AreLimits vars c limits
 AreLimits-less vars b c limits le h = record { whole = h.whole; each = λ i known. omega (arith, h.each i known, le (var_at vars i)) }
 
--- fields of the bits of the limits have room, where no limit is the greatest number
+-- digits of the limits have room, where no limit is the greatest number
 pub HaveRoom-limits : (vars : List Var) (bound : Var → ℕ) (limits : List ℕ)
-    → ((i : ℕ) → i < length limits → slice_index_or limits i 0 < 2 ^ 32 - 1) → AreLimits vars bound limits
-    → HaveRoom vars (widths_of limits) bound
-HaveRoom-limits vars bound limits small h = record { whole = length-map limits bits_of ∙ h.whole; each = each }
-  where
-    each : (i : ℕ) → i < length vars → bound (var_at vars i) ≤ 2 ^ width (widths_of limits) i - 1
-    each i known =
-        let within : i < length limits = omega (arith, known, h.whole) in
-        let limit = slice_index_or limits i 0 in
-        let here : width (widths_of limits) i ≡ bits_of limit = get_or-map bits_of limits i 0 0 within in
-        let room : limit < 2 ^ width (widths_of limits) i =
-        subst (λ (b : ℕ). limit < 2 ^ b) (sym here) (below_bits limit (omega (arith, small i within))).0 in
-        omega (arith, h.each i known, small i within, room)
+    → ((i : ℕ) → i < length limits → slice_index_or limits i 0 < 2 ^ 32 - 1) → AreLimits vars bound limits → HaveRoom vars limits bound
+HaveRoom-limits vars bound limits small h =
+    record { whole = h.whole; each = λ i known. omega (arith, h.each i known, small i (omega (arith, known, h.whole))) }
 
 -- ADDED EXPONENTS
 

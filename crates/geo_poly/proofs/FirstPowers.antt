@@ -1,195 +1,149 @@
--- The first power of a word: the field that has its highest bit, and what is below that field.
-use Rattle.std.proofs.Common.{◌≡◌, ℕ, zero, suc, ◌+◌, ◌-◌, ◌*◌, ◌/◌, ◌%◌, ◌^◌, ◌<◌, ◌≤◌, Bool, bit_and, leb, le-leb, leb-false, leb-true, true, false, inl, inr, List, [], ◌∷◌, drop, length, refl, sym}
-use Rattle.std.proofs.Common.{add-one, ap, ap₂, subst, ◌∙◌, arith}
-use Rattle.std.specs.Prelude.{slice_index_or, sum}
-use Rattle.std.specs.Int.{leading_zeros, w64}
-use Rattle.std.specs.List.Sorted.{AllWithin, IsPartitionPoint, IsPartitionedBy}
-use Rattle.std.proofs.Math.Nat.{div-eq_of_lt, pow-le-pow_right, zero-mod}
-use Rattle.std.proofs.lemmas.Bool.{cases_lt}
+-- The first power of a word: the highest digit that is not 0, and what is below that digit.
+use Rattle.std.proofs.Common.{◌≡◌, ℕ, zero, suc, ◌+◌, ◌*◌, ◌/◌, ◌%◌, ◌^◌, ◌<◌, ◌≤◌, Bool, ltb, true, false, inl, inr, List, [], ◌∷◌, drop, length}
+use Rattle.std.proofs.Common.{refl, sym, ap, subst, ◌∙◌, arith}
+use Rattle.std.specs.Prelude.{slice_index_or}
+use Rattle.std.specs.List.{AllWithin}
+use Rattle.std.specs.List.Sorted.{IsPartitionPoint, IsPartitionedBy}
+use Rattle.std.proofs.Math.Nat.{div-eq_of_lt, zero-mod}
+use Rattle.std.proofs.lemmas.Bool.{cases_lt, lt-ltb, ltb-false, ltb-true}
 use Rattle.std.proofs.lemmas.List.{drop_all, length-map}
-use Rattle.std.proofs.lemmas.Nat.{and_mask, div-add-mod', leading_length, le-div, mod_below, one_shl, pow-add, pow_pos, shr_below}
+use Rattle.std.proofs.lemmas.Nat.{div-add-mod', div_below, le-div, mod_below}
 use Rattle.sparse_lists.specs.SparseLists.{put}
 use Rattle.sparse_lists.proofs.Merging.{get_or_any}
 use Rattle.mono_store.specs.Monomials.{ComesFirst, Powers, exponents}
-use Rattle.geo_poly.specs.declared.words.Field.{Field}
-use Rattle.geo_poly.specs.Inner.Words.{AreFields, Widths, bits_from, field_widths, powers_from, powers_of_word, width, word}
-use Rattle.geo_poly.proofs.FieldLists.{ComesFirst-powers_from, IsField, IsField-at, powers_from-step}
+use Rattle.geo_poly.specs.declared.words.Digit.{Digit}
+use Rattle.geo_poly.specs.Inner.Words.{AreDigits, Limits, count_from, digit_limits, limit, powers_from, powers_of_word, word, word_count}
+use Rattle.geo_poly.proofs.DigitLists.{ComesFirst-powers_from, IsDigit, IsDigit-at, powers_from-step}
 use Rattle.geo_poly.proofs.WordInstance.{power_before-powers}
-use Rattle.geo_poly.proofs.WordOrder.{bits_from-le, bits_from-step, word-cons}
+use Rattle.geo_poly.proofs.WordOrder.{count_from-le, count_from-some, count_from-step, word-cons}
 
 -- LOW WORDS
 
--- no variable up to the one has a power in a word that is below its field
-powers_from-low : (widths : Widths) (v w : ℕ) → v < length widths → w < 2 ^ bits_from widths (v + 1)
-    → powers_from v (drop v widths) w ≡ powers_from (v + 1) (drop (v + 1) widths) w
-powers_from-low widths v w known low =
-    let rest = powers_from (v + 1) (drop (v + 1) widths) w in
-    let none : w / 2 ^ bits_from widths (v + 1) % 2 ^ width widths v ≡ 0 =
-    ap (λ (k : ℕ). k % 2 ^ width widths v) (div-eq_of_lt low) ∙ zero-mod (2 ^ width widths v) in
-    powers_from-step widths v w known ∙ ap (λ (k : ℕ). put exponents v k rest) none
+-- no variable up to the one has a power in a word that is below its digit
+powers_from-low : (limits : Limits) (v w : ℕ) → v < length limits → w < count_from limits (v + 1)
+    → powers_from v (drop v limits) w ≡ powers_from (v + 1) (drop (v + 1) limits) w
+powers_from-low limits v w known low =
+    let rest = powers_from (v + 1) (drop (v + 1) limits) w in
+    let none : w / count_from limits (v + 1) % (limit limits v + 1) ≡ 0 =
+    ap (λ (k : ℕ). k % (limit limits v + 1)) (div-eq_of_lt low) ∙ zero-mod (limit limits v + 1) in
+    powers_from-step limits v w known ∙ ap (λ (k : ℕ). put exponents v k rest) none
 
-pub powers_of_word-low : (widths : Widths) (v w : ℕ) → v ≤ length widths → w < 2 ^ bits_from widths v
-    → powers_of_word widths w ≡ powers_from v (drop v widths) w
-powers_of_word-low widths zero w known low = refl
-powers_of_word-low widths (suc v) w known low =
-    let wider : 2 ^ bits_from widths (suc v) ≤ 2 ^ bits_from widths v =
-    pow-le-pow_right (omega arith) (bits_from-le widths v (suc v) (omega arith)) in
+pub powers_of_word-low : (limits : Limits) (v w : ℕ) → v ≤ length limits → w < count_from limits v
+    → powers_of_word limits w ≡ powers_from v (drop v limits) w
+powers_of_word-low limits zero w known low = refl
+powers_of_word-low limits (suc v) w known low =
     let next : suc v ≡ v + 1 = omega arith in
-    powers_of_word-low widths v w (omega arith) (omega (arith, wider, low))
-    ∙ powers_from-low widths v w (omega arith) (subst (λ (k : ℕ). w < 2 ^ bits_from widths k) next low)
-    ∙ ap (λ (k : ℕ). powers_from k (drop k widths) w) (sym next)
+    powers_of_word-low limits v w (omega arith) (omega (arith, count_from-le limits v (suc v) (omega arith), low))
+    ∙ powers_from-low limits v w (omega arith) (subst (λ (k : ℕ). w < count_from limits k) next low)
+    ∙ ap (λ (k : ℕ). powers_from k (drop k limits) w) (sym next)
 
 -- THE FIRST POWER
 
-module _ (widths : Widths) (w v : ℕ) (above : w < 2 ^ bits_from widths v) (here : 2 ^ bits_from widths (v + 1) ≤ w) where
-  below : ℕ
-  below = 2 ^ bits_from widths (v + 1)
-
-  pub first-known : v < length widths
+module _ (limits : Limits) (w v : ℕ) (above : w < count_from limits v) (here : count_from limits (v + 1) ≤ w) where
+  pub first-known : v < length limits
   first-known =
-      elim (cases_lt v (length widths)) [
+      elim (cases_lt v (length limits)) [
         | inl known ↦ known
         | inr past ↦
-            let none : bits_from widths v ≡ 0 = ap sum (drop_all v widths past) in
-            let one : w < 1 = subst (λ (k : ℕ). w < 2 ^ k) none above in
-            absurd (omega (arith, here, pow_pos (bits_from widths (v + 1))))
+            let none : count_from limits v ≡ 1 = ap word_count (drop_all v limits past) in
+            absurd (omega (arith, above, here, count_from-some limits (v + 1)))
       ]
 
-  pub first-fits : w / 2 ^ bits_from widths (v + 1) < 2 ^ width widths v
-  first-fits = shr_below w (width widths v) (bits_from widths (v + 1)) (subst (λ (k : ℕ). w < 2 ^ k) (bits_from-step widths v) above)
+  pub first-fits : w / count_from limits (v + 1) ≤ limit limits v
+  first-fits =
+      let below : w / count_from limits (v + 1) < limit limits v + 1 =
+      div_below w (count_from limits (v + 1)) (limit limits v + 1) (count_from-some limits (v + 1)) (omega (arith, above, count_from-step limits v)) in
+      omega arith
 
-  pub first-some : 1 ≤ w / 2 ^ bits_from widths (v + 1)
-  first-some = le-div 1 w below (pow_pos (bits_from widths (v + 1))) (omega (arith, here))
+  pub first-some : 1 ≤ w / count_from limits (v + 1)
+  first-some = le-div 1 w (count_from limits (v + 1)) (count_from-some limits (v + 1)) (omega (arith, here))
 
-  low : w % 2 ^ bits_from widths (v + 1) < 2 ^ bits_from widths (v + 1)
-  low = mod_below w below (pow_pos (bits_from widths (v + 1)))
+  low : w % count_from limits (v + 1) < count_from limits (v + 1)
+  low = mod_below w (count_from limits (v + 1)) (count_from-some limits (v + 1))
 
-  pub first-rest : w % 2 ^ bits_from widths (v + 1) < w
+  pub first-rest : w % count_from limits (v + 1) < w
   first-rest = omega (arith, low, here)
 
-  comes_first : ComesFirst v (powers_of_word widths (w % 2 ^ bits_from widths (v + 1)))
+  comes_first : ComesFirst v (powers_of_word limits (w % count_from limits (v + 1)))
   comes_first =
       subst (ComesFirst v)
-      (sym (powers_of_word-low widths (v + 1) (w % 2 ^ bits_from widths (v + 1)) (omega (arith, first-known)) low))
-      (ComesFirst-powers_from v (drop (v + 1) widths) (w % 2 ^ bits_from widths (v + 1)))
+      (sym (powers_of_word-low limits (v + 1) (w % count_from limits (v + 1)) (omega (arith, first-known)) low))
+      (ComesFirst-powers_from v (drop (v + 1) limits) (w % count_from limits (v + 1)))
 
-  parts : w ≡ w % 2 ^ bits_from widths (v + 1) + word widths ((v, w / 2 ^ bits_from widths (v + 1)) ∷ [])
-  parts = omega (arith, div-add-mod' w (2 ^ bits_from widths (v + 1)), word-cons widths (v, w / 2 ^ bits_from widths (v + 1)) [])
+  parts : w ≡ w % count_from limits (v + 1) + word limits ((v, w / count_from limits (v + 1)) ∷ [])
+  parts = omega (arith, div-add-mod' w (count_from limits (v + 1)), word-cons limits (v, w / count_from limits (v + 1)) [])
 
-  pub first-powers : w < 2 ^ sum widths
-      → powers_of_word widths w ≡ (v, w / 2 ^ bits_from widths (v + 1)) ∷ powers_of_word widths (w % 2 ^ bits_from widths (v + 1))
+  pub first-powers : w < word_count limits
+      → powers_of_word limits w ≡ (v, w / count_from limits (v + 1)) ∷ powers_of_word limits (w % count_from limits (v + 1))
   first-powers within =
-      ap (powers_of_word widths) parts
-      ∙ power_before-powers widths v (w / 2 ^ bits_from widths (v + 1)) (w % 2 ^ bits_from widths (v + 1)) (omega (arith, first-rest, within))
+      ap (powers_of_word limits) parts
+      ∙ power_before-powers limits v (w / count_from limits (v + 1)) (w % count_from limits (v + 1)) (omega (arith, first-rest, within))
       first-some comes_first first-fits
-
--- the same by the shift of the field, as it is reckoned
-module _ (widths : Widths) (w v shift : ℕ) (above : w < 2 ^ bits_from widths v) (here : 2 ^ bits_from widths (v + 1) ≤ w)
-    (is : shift ≡ bits_from widths (v + 1)) (small : shift < 64) where
-  rest_is : bit_and w (1 * 2 ^ shift % 2 ^ 64 - 1) ≡ w % 2 ^ bits_from widths (v + 1)
-  rest_is =
-      ap (λ (m : ℕ). bit_and w (m - 1)) (one_shl shift 64 small) ∙ and_mask w shift ∙ ap (λ (s : ℕ). w % 2 ^ s) is
-
-  pub power-parts : w < 2 ^ sum widths
-      → powers_of_word widths w ≡ (v, w / 2 ^ shift) ∷ powers_of_word widths (bit_and w (1 * 2 ^ shift % 2 ^ 64 - 1))
-  power-parts within =
-      first-powers widths w v above here within
-      ∙ ap₂ (λ (e r : ℕ). (v, e) ∷ powers_of_word widths r) (ap (λ (s : ℕ). w / 2 ^ s) (sym is)) (sym rest_is)
-
-  pub power-rest : bit_and w (1 * 2 ^ shift % 2 ^ 64 - 1) < w
-  power-rest = subst (λ (r : ℕ). r < w) (sym rest_is) (first-rest widths w v above here)
-
-  pub power-narrow : width widths v ≤ 32 → w / 2 ^ shift < 2 ^ 32
-  power-narrow narrow =
-      let wide : 2 ^ width widths v ≤ 2 ^ 32 = pow-le-pow_right (omega arith) narrow in
-      let fits : w / 2 ^ shift < 2 ^ width widths v =
-      subst (λ (s : ℕ). w / 2 ^ s < 2 ^ width widths v) (sym is) (first-fits widths w v above here) in
-      omega (arith, fits, wide)
 
 -- THE SEARCH
 
--- how many bits a word has
-pub word_bits : (w bits : ℕ) → w < 2 ^ 64 → bits ≡ 64 - leading_zeros w64 w → (w < 2 ^ bits) × (2 ^ bits ≤ 2 * w + 1)
-word_bits w bits h is =
-    let found = leading_length 64 w h in
-    let same : found.0 ≡ bits = omega (arith, found.1, is) in
-    (subst (λ (k : ℕ). w < 2 ^ k) same found.2, subst (λ (k : ℕ). 2 ^ k ≤ 2 * w + 1) same found.3)
+-- the word has nothing in the digit
+abbrev pub is_above : ℕ → Digit → Bool
+is_above w d = ltb w d.unit
 
--- so many bits are below the field
-abbrev pub is_above : ℕ → Field → Bool
-is_above bits f = leb bits f.shift
+module _ (digits : List Digit) (h : AreDigits digits) (w : ℕ) where
+  abbrev limits : Limits
+  limits = digit_limits digits
 
-module _ (fields : List Field) (h : AreFields fields) (bits : ℕ) where
-  widths : Widths
-  widths = field_widths fields
+  abbrev none : Digit
+  none = record { limit = 0; unit = 0 }
 
-  none : Field
-  none = record { width = 0; shift = 0 }
+  within_limits : (i : ℕ) → i < length digits → i < length limits
+  within_limits i known = omega (arith, known, length-map digits (λ (d : Digit). d.limit))
 
-  within_widths : (i : ℕ) → i < length fields → i < length widths
-  within_widths i known = omega (arith, known, length-map fields (λ (f : Field). f.width))
+  unit_at : (i : ℕ) (d : Digit) → i < length digits → (slice_index_or digits i d).unit ≡ count_from limits (i + 1)
+  unit_at i d known =
+      (IsDigit-at digits i (slice_index_or digits i d) h (within_limits i known)
+      (get_or_any digits i d (slice_index_or digits i d) known)).unit
 
-  shift_at : (i : ℕ) (d : Field) → i < length fields → (slice_index_or fields i d).shift ≡ bits_from widths (i + 1)
-  shift_at i d known =
-      (IsField-at fields i (slice_index_or fields i d) h (within_widths i known)
-      (get_or_any fields i d (slice_index_or fields i d) known)).shift
-
-  pub fields-parted : IsPartitionedBy (is_above bits) fields
-  fields-parted i j d le known e =
-      let at_j : bits ≤ (slice_index_or fields j d).shift = leb-true _ _ e in
-      le-leb _ _
+  pub digits-parted : IsPartitionedBy (is_above w) digits
+  digits-parted i j d le known e =
+      let at_j : w < (slice_index_or digits j d).unit = ltb-true _ _ e in
+      lt-ltb _ _
       (omega (
         arith,
         at_j,
-        shift_at i d (omega (arith, le, known)),
-        shift_at j d known,
-        bits_from-le widths (i + 1) (j + 1) (omega (arith, le)),
+        unit_at i d (omega (arith, le, known)),
+        unit_at j d known,
+        count_from-le limits (i + 1) (j + 1) (omega (arith, le)),
       ))
 
-  module _ (w v : ℕ) (some : 0 < w) (within : w < 2 ^ sum widths) (room : w < 2 ^ bits) (tight : 2 ^ bits ≤ 2 * w + 1) (known : v ≤ length fields)
-      (point : IsPartitionPoint (λ f. is_above bits f ≡ true) (λ f. is_above bits f ≡ false) fields v) where
-    pub search-above : w < 2 ^ bits_from widths v
+  module _ (v : ℕ) (some : 0 < w) (within : w < word_count limits) (known : v ≤ length digits)
+      (point : IsPartitionPoint (λ d. is_above w d ≡ true) (λ d. is_above w d ≡ false) digits v) where
+    pub search-above : w < count_from limits v
     search-above = go v known point.0
       where
-        go : (v : ℕ) → v ≤ length fields → AllWithin (λ f. is_above bits f ≡ true) fields 0 v → w < 2 ^ bits_from widths v
+        go : (v : ℕ) → v ≤ length digits → AllWithin (λ d. is_above w d ≡ true) digits 0 v → w < count_from limits v
         go zero known all = within
         go (suc v) known all =
-            let shift : bits ≤ (slice_index_or fields v none).shift = leb-true _ _ (all v none (omega arith) (omega arith)) in
+            let at : w < (slice_index_or digits v none).unit = ltb-true _ _ (all v none (omega arith) (omega arith)) in
             let next : v + 1 ≡ suc v = omega arith in
-            let wider : 2 ^ bits ≤ 2 ^ bits_from widths (v + 1) =
-            pow-le-pow_right (omega arith) (omega (arith, shift, shift_at v none (omega (arith, known)))) in
-            subst (λ (k : ℕ). w < 2 ^ bits_from widths k) next (omega (arith, room, wider))
+            subst (λ (k : ℕ). w < count_from limits k) next (omega (arith, at, unit_at v none (omega (arith, known))))
 
-    pub search-here : 2 ^ bits_from widths (v + 1) ≤ w
+    pub search-here : count_from limits (v + 1) ≤ w
     search-here =
-        elim (cases_lt v (length fields)) [
-          | inl within ↦ inside within
+        elim (cases_lt v (length digits)) [
+          | inl inside ↦
+              let at : (slice_index_or digits v none).unit ≤ w = ltb-false _ _ (point.1 v none (omega arith) inside) in
+              omega (arith, at, unit_at v none inside)
           | inr past ↦
-              let none : bits_from widths (v + 1) ≡ 0 =
-              ap sum (drop_all (v + 1) widths (omega (arith, past, length-map fields (λ (f : Field). f.width)))) in
-              let one : 2 ^ bits_from widths (v + 1) ≡ 1 = ap (λ (k : ℕ). 2 ^ k) none in
+              let one : count_from limits (v + 1) ≡ 1 =
+              ap word_count (drop_all (v + 1) limits (omega (arith, past, length-map digits (λ (d : Digit). d.limit)))) in
               omega (arith, one, some)
         ]
-      where
-        inside : v < length fields → 2 ^ bits_from widths (v + 1) ≤ w
-        inside within =
-            let shift : (slice_index_or fields v none).shift < bits = leb-false _ _ (point.1 v none (omega arith) within) in
-            let twice : 2 ^ (bits_from widths (v + 1) + 1) ≤ 2 ^ bits =
-            pow-le-pow_right (omega arith) (omega (arith, shift, shift_at v none within)) in
-            omega (arith, twice, pow-add 2 (bits_from widths (v + 1)) 1, tight)
 
--- what the search finds is the field of the highest bit
-pub searched : (fields : List Field) (widths : Widths) (w v : ℕ) → field_widths fields ≡ widths → AreFields fields → 0 < w
-    → w < 2 ^ sum widths → v ≤ length fields
-    → IsPartitionPoint (λ f. is_above (64 - leading_zeros w64 w) f ≡ true) (λ f. is_above (64 - leading_zeros w64 w) f ≡ false) fields v
-    → (w < 2 ^ bits_from widths v) × (2 ^ bits_from widths (v + 1) ≤ w)
-searched fields widths w v same h some within known point =
-    let bits = 64 - leading_zeros w64 w in
-    let within_fields : w < 2 ^ sum (field_widths fields) = subst (λ (bs : Widths). w < 2 ^ sum bs) (sym same) within in
-    let most : 2 ^ sum (field_widths fields) ≤ 2 ^ 64 = pow-le-pow_right (omega arith) (omega (arith, h.bits)) in
-    let found = word_bits w bits (omega (arith, within_fields, most)) refl in (
-      subst (λ (bs : Widths). w < 2 ^ bits_from bs v) same
-          (search-above fields h bits w v some within_fields found.0 found.1 known point),
-      subst (λ (bs : Widths). 2 ^ bits_from bs (v + 1) ≤ w) same
-          (search-here fields h bits w v some within_fields found.0 found.1 known point),
+-- what the search finds is the highest digit that is not 0
+pub searched : (digits : List Digit) (limits : Limits) (w v : ℕ) → digit_limits digits ≡ limits → AreDigits digits → 0 < w
+    → w < word_count limits → v ≤ length digits
+    → IsPartitionPoint (λ d. is_above w d ≡ true) (λ d. is_above w d ≡ false) digits v
+    → (w < count_from limits v) × (count_from limits (v + 1) ≤ w)
+searched digits limits w v same h some within known point =
+    let within_digits : w < word_count (digit_limits digits) = subst (λ (ns : Limits). w < word_count ns) (sym same) within in (
+      subst (λ (ns : Limits). w < count_from ns v) same (search-above digits h w v some within_digits known point),
+      subst (λ (ns : Limits). count_from ns (v + 1) ≤ w) same (search-here digits h w v some within_digits known point),
     )

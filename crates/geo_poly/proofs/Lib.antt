@@ -72,8 +72,8 @@ pub mod PendingTerms
 pub mod JoinedParts
 pub mod TermPlaces
 pub mod WordOrder
-pub mod WordFields
-pub mod FieldLists
+pub mod WordDigits
+pub mod DigitLists
 pub mod Gradings
 pub mod WordKeys
 pub mod WordChains

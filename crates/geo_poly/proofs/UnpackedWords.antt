@@ -11,8 +11,8 @@ use Rattle.mono_store.specs.Stores.{Keeps, Links, count, monomial_of}
 use Rattle.mono_store.proofs.Numbers.{is_below}
 use Rattle.geo_poly.specs.declared.unpacking.StoredWord.{StoredWord}
 use Rattle.geo_poly.specs.Inner.Unpacked.{AreStoredWords, IsStoredWord}
-use Rattle.geo_poly.specs.Inner.Words.{Widths, powers_of_word, powers_of_word-zero}
-use Rattle.geo_poly.proofs.WordFields.{IsCanonical-powers_from}
+use Rattle.geo_poly.specs.Inner.Words.{Limits, powers_of_word, powers_of_word-zero}
+use Rattle.geo_poly.proofs.WordDigits.{IsCanonical-powers_from}
 
 -- TABLES
 
@@ -41,39 +41,39 @@ All-set P (y ∷ ys) (suc i) x all h = later
 
 -- STORES
 
-pub IsStoredWord-kept : (widths : Widths) (old new : Links) (s : StoredWord) → Keeps old new → IsStoredWord widths old s
-    → IsStoredWord widths new s
-IsStoredWord-kept widths old new s h is = record {
+pub IsStoredWord-kept : (limits : Limits) (old new : Links) (s : StoredWord) → Keeps old new → IsStoredWord limits old s
+    → IsStoredWord limits new s
+IsStoredWord-kept limits old new s h is = record {
   index = omega (arith, h.longer, is.index);
   monomial = h.monomials s.id is.index ∙ is.monomial;
 }
 
-pub AreStoredWords-kept : (widths : Widths) (old new : Links) (table : List StoredWord) → Keeps old new → AreStoredWords widths old table
-    → AreStoredWords widths new table
-AreStoredWords-kept widths old new table h all = λ k d within. IsStoredWord-kept widths old new (get_or table k d) h (all k d within)
+pub AreStoredWords-kept : (limits : Limits) (old new : Links) (table : List StoredWord) → Keeps old new → AreStoredWords limits old table
+    → AreStoredWords limits new table
+AreStoredWords-kept limits old new table h all = λ k d within. IsStoredWord-kept limits old new (get_or table k d) h (all k d within)
 
 -- the word 0 and the monomial with no variable
-pub IsStoredWord-one : (widths : Widths) (links : Links) (word : ℕ) (id : MonoId) → word ≡ 0 → id.0 ≡ 0 → monomial_of links id ≡ []
-    → IsStoredWord widths links (record { word = word; id = id })
-IsStoredWord-one widths links word id none first one = record {
+pub IsStoredWord-one : (limits : Limits) (links : Links) (word : ℕ) (id : MonoId) → word ≡ 0 → id.0 ≡ 0 → monomial_of links id ≡ []
+    → IsStoredWord limits links (record { word = word; id = id })
+IsStoredWord-one limits links word id none first one = record {
   index = omega (arith, first);
-  monomial = one ∙ sym (ap (powers_of_word widths) none ∙ powers_of_word-zero widths);
+  monomial = one ∙ sym (ap (powers_of_word limits) none ∙ powers_of_word-zero limits);
 }
 
 -- the monomial of a word is its first power before that of its rest
-pub IsStoredWord-power : (widths : Widths) (old new : Links) (word rest var exp : ℕ) (next id : MonoId)
-    → powers_of_word widths word ≡ (var, exp) ∷ powers_of_word widths rest → IsStoredWord widths old (record { word = rest; id = next })
-    → id.0 < count new → monomial_of new id ≡ (var, exp) ∷ monomial_of old next → IsStoredWord widths new (record { word = word; id = id })
-IsStoredWord-power widths old new word rest var exp next id parts is within made = record {
+pub IsStoredWord-power : (limits : Limits) (old new : Links) (word rest var exp : ℕ) (next id : MonoId)
+    → powers_of_word limits word ≡ (var, exp) ∷ powers_of_word limits rest → IsStoredWord limits old (record { word = rest; id = next })
+    → id.0 < count new → monomial_of new id ≡ (var, exp) ∷ monomial_of old next → IsStoredWord limits new (record { word = word; id = id })
+IsStoredWord-power limits old new word rest var exp next id parts is within made = record {
   index = within;
   monomial = made ∙ ap (λ (m : Powers). (var, exp) ∷ m) is.monomial ∙ sym parts;
 }
 
 -- THE PARTS OF A WORD
 
-module _ (widths : Widths) (word rest var exp : ℕ) (parts : powers_of_word widths word ≡ (var, exp) ∷ powers_of_word widths rest) where
-  in_order : IsCanonical nat_cmp exponents ((var, exp) ∷ powers_of_word widths rest)
-  in_order = subst (IsCanonical nat_cmp exponents) parts (IsCanonical-powers_from 0 widths word)
+module _ (limits : Limits) (word rest var exp : ℕ) (parts : powers_of_word limits word ≡ (var, exp) ∷ powers_of_word limits rest) where
+  in_order : IsCanonical nat_cmp exponents ((var, exp) ∷ powers_of_word limits rest)
+  in_order = subst (IsCanonical nat_cmp exponents) parts (IsCanonical-powers_from 0 limits word)
 
   pub part-some : 1 ≤ exp
   part-some = let nonzero : eqb exp 0 ≡ false = in_order.0 in grind (arith, nat_tests)
@@ -82,8 +82,8 @@ module _ (widths : Widths) (word rest var exp : ℕ) (parts : powers_of_word wid
   comes_before [] h = tt
   comes_before (p ∷ m) h = is_below var p.0 h.0
 
-  pub part-first : ComesFirst var (powers_of_word widths rest)
-  part-first = comes_before (powers_of_word widths rest) in_order.1
+  pub part-first : ComesFirst var (powers_of_word limits rest)
+  part-first = comes_before (powers_of_word limits rest) in_order.1
 
-  pub part-degree : degree_of (powers_of_word widths word) ≡ exp + degree_of (powers_of_word widths rest)
-  part-degree = ap degree_of parts ∙ sum_by-cons (λ (p : ℕ × ℕ). p.1) (var, exp) (powers_of_word widths rest)
+  pub part-degree : degree_of (powers_of_word limits word) ≡ exp + degree_of (powers_of_word limits rest)
+  part-degree = ap degree_of parts ∙ sum_by-cons (λ (p : ℕ × ℕ). p.1) (var, exp) (powers_of_word limits rest)

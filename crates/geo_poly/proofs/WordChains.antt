@@ -3,7 +3,6 @@
 use Rattle.std.proofs.Common.{◌≡◌, ℕ, zero, suc, ◌+◌, ◌^◌, ◌<◌, ◌≤◌, ℤ, ◌*ℤ◌, unsigned_abs, List, [], ◌∷◌, ◌++◌, get_or, length, map, refl}
 use Rattle.std.proofs.Common.{sym}
 use Rattle.std.proofs.Common.{ap, ap₂, subst, ◌∙◌, arith}
-use Rattle.std.specs.Prelude.{sum}
 use Rattle.std.specs.List.Sorted.{IsStrictlySortedBy}
 use Rattle.std.specs.Ordering.{flip_args, nat_cmp}
 use Rattle.std.specs.declared.cmp.Ordering.{Ordering}
@@ -18,7 +17,7 @@ use Rattle.mono_store.proofs.Numbers.{exponents_add}
 use Rattle.poly_arena.specs.Chains.{Pairs}
 use Rattle.poly_arena.specs.Orders.{IsFalling, SumsFit, sum_of as chain_sum}
 use Rattle.geo_poly.specs.declared.variables.Var.{Var}
-use Rattle.geo_poly.specs.Inner.Words.{FitsFields, Widths, powers_of_word, width, word}
+use Rattle.geo_poly.specs.Inner.Words.{FitsLimits, Limits, limit, powers_of_word, word, word_count}
 use Rattle.geo_poly.specs.Monomials.{Powers, exponent, product}
 use Rattle.geo_poly.specs.Polynomials.{Summands, coefficients, multiples, norm_of, sum_of, term_cmp}
 use Rattle.geo_poly.specs.Shared.{AllPlaces, named, var_at}
@@ -26,9 +25,9 @@ use Rattle.geo_poly.specs.Variables.{var_cmp}
 use Rattle.geo_poly.proofs.Gradings.{exponent_grading, top_grade}
 use Rattle.geo_poly.proofs.Naming.{canonical-rename, cmp-named, places-product, product-named}
 use Rattle.geo_poly.proofs.PolynomialLaws.{unsigned_abs-add-le}
-use Rattle.geo_poly.proofs.WordFields.{FitsFields-powers_of_word, IsCanonical-powers_from, word-below_all, word-powers_of_word}
-use Rattle.geo_poly.proofs.WordFields.{word-product}
-use Rattle.geo_poly.proofs.WordKeys.{AllPlaces-fits, FitsFields-named, monomial_cmp-powers_of_word, powers_of_word-add}
+use Rattle.geo_poly.proofs.WordDigits.{FitsLimits-powers_of_word, IsCanonical-powers_from, word-below_all, word-powers_of_word}
+use Rattle.geo_poly.proofs.WordDigits.{word-product}
+use Rattle.geo_poly.proofs.WordKeys.{AllPlaces-fits, FitsLimits-named, monomial_cmp-powers_of_word, powers_of_word-add}
 
 -- KEYS THAT STAND FOR MONOMIALS
 
@@ -98,69 +97,69 @@ module _ (vars : List Var) (powers : ℕ → NumberedPowers) where
 
 -- WORDS
 
--- the number is within the bits of the fields
-pub record IsWord (widths : Widths) (w : ℕ) : Type 0 where
-  pub below : w < 2 ^ sum widths
+-- the number is below the number of words
+pub record IsWord (limits : Limits) (w : ℕ) : Type 0 where
+  pub below : w < word_count limits
 
-pub places_of_words : (vars : List Var) (widths : Widths) → length widths ≡ length vars → (w : ℕ)
-    → AllPlaces (length vars) (powers_of_word widths w)
-places_of_words vars widths same w =
-    subst (λ (n : ℕ). AllPlaces n (powers_of_word widths w)) same
-    (AllPlaces-fits widths (powers_of_word widths w) (IsCanonical-powers_from 0 widths w) (FitsFields-powers_of_word widths w))
+pub places_of_words : (vars : List Var) (limits : Limits) → length limits ≡ length vars → (w : ℕ)
+    → AllPlaces (length vars) (powers_of_word limits w)
+places_of_words vars limits same w =
+    subst (λ (n : ℕ). AllPlaces n (powers_of_word limits w)) same
+    (AllPlaces-fits limits (powers_of_word limits w) (IsCanonical-powers_from 0 limits w) (FitsLimits-powers_of_word limits w))
 
-pub words_are_keys : (vars : List Var) (widths : Widths) → length widths ≡ length vars
-    → AreKeys vars (powers_of_word widths) nat_cmp (IsWord widths)
-words_are_keys vars widths same = record {
-  places = λ w h. places_of_words vars widths same w;
-  order = λ a b h g. monomial_cmp-powers_of_word widths a b h.below g.below;
+pub words_are_keys : (vars : List Var) (limits : Limits) → length limits ≡ length vars
+    → AreKeys vars (powers_of_word limits) nat_cmp (IsWord limits)
+words_are_keys vars limits same = record {
+  places = λ w h. places_of_words vars limits same w;
+  order = λ a b h g. monomial_cmp-powers_of_word limits a b h.below g.below;
 }
 
-module _ (vars : List Var) (rising : IsStrictlySortedBy var_cmp vars) (widths : Widths) (same : length widths ≡ length vars) where
+module _ (vars : List Var) (rising : IsStrictlySortedBy var_cmp vars) (limits : Limits) (same : length limits ≡ length vars) where
   -- the exponents of a variable in what a word stands for
   abbrev exponent_in : ℕ → ℕ → ℕ
-  exponent_in v w = exponent (var_at vars v) (named vars (powers_of_word widths w))
+  exponent_in v w = exponent (var_at vars v) (named vars (powers_of_word limits w))
 
   -- the product of what two words stand for fits, where the sums of the exponents do
-  pub FitsFields-times : (a b : ℕ) → ((v : ℕ) → v < length vars → exponent_in v a + exponent_in v b < 2 ^ width widths v)
-      → FitsFields widths (numbered_product (powers_of_word widths a) (powers_of_word widths b))
-  FitsFields-times a b fits = FitsFields-named vars rising widths (numbered_product m n) (places-product vars rising m n at_a at_b) each
+  pub FitsLimits-times : (a b : ℕ) → ((v : ℕ) → v < length vars → exponent_in v a + exponent_in v b ≤ limit limits v)
+      → FitsLimits limits (numbered_product (powers_of_word limits a) (powers_of_word limits b))
+  FitsLimits-times a b fits = FitsLimits-named vars rising limits (numbered_product m n) (places-product vars rising m n at_a at_b) each
     where
       m : NumberedPowers
-      m = powers_of_word widths a
+      m = powers_of_word limits a
 
       n : NumberedPowers
-      n = powers_of_word widths b
+      n = powers_of_word limits b
 
       at_a : AllPlaces (length vars) m
-      at_a = places_of_words vars widths same a
+      at_a = places_of_words vars limits same a
 
       at_b : AllPlaces (length vars) n
-      at_b = places_of_words vars widths same b
+      at_b = places_of_words vars limits same b
 
-      each : (v : ℕ) → v < length vars → exponent (var_at vars v) (named vars (numbered_product m n)) < 2 ^ width widths v
+      each : (v : ℕ) → v < length vars → exponent (var_at vars v) (named vars (numbered_product m n)) ≤ limit limits v
       each v known =
           let whole = ap (exponent (var_at vars v)) (sym (product-named vars rising m n at_a at_b)) in
           omega (arith, whole, (exponent_grading (var_at vars v)).adds (named vars m) (named vars n), fits v known)
 
   -- the sum of two words stands for the product
-  pub named-times : (a b : ℕ) → IsWord widths a → IsWord widths b
-      → ((v : ℕ) → v < length vars → exponent_in v a + exponent_in v b < 2 ^ width widths v)
-      → named vars (powers_of_word widths (a + b)) ≡ product (named vars (powers_of_word widths a)) (named vars (powers_of_word widths b))
+  pub named-times : (a b : ℕ) → IsWord limits a → IsWord limits b
+      → ((v : ℕ) → v < length vars → exponent_in v a + exponent_in v b ≤ limit limits v)
+      → named vars (powers_of_word limits (a + b)) ≡ product (named vars (powers_of_word limits a)) (named vars (powers_of_word limits b))
   named-times a b h g fits =
-      ap (named vars) (powers_of_word-add widths a b h.below g.below (FitsFields-times a b fits))
-      ∙ sym (product-named vars rising (powers_of_word widths a) (powers_of_word widths b) (places_of_words vars widths same a)
-      (places_of_words vars widths same b))
+      ap (named vars) (powers_of_word-add limits a b h.below g.below (FitsLimits-times a b fits))
+      ∙ sym (product-named vars rising (powers_of_word limits a) (powers_of_word limits b) (places_of_words vars limits same a)
+      (places_of_words vars limits same b))
 
-  pub IsWord-times : (a b : ℕ) → IsWord widths a → IsWord widths b
-      → ((v : ℕ) → v < length vars → exponent_in v a + exponent_in v b < 2 ^ width widths v) → IsWord widths (a + b)
+  pub IsWord-times : (a b : ℕ) → IsWord limits a → IsWord limits b
+      → ((v : ℕ) → v < length vars → exponent_in v a + exponent_in v b ≤ limit limits v) → IsWord limits (a + b)
   IsWord-times a b h g fits =
-      let m = powers_of_word widths a in
-      let n = powers_of_word widths b in
+      let m = powers_of_word limits a in
+      let n = powers_of_word limits b in
       let canonical_product = IsCanonical-canonical nat_cmp exponents natural_order exponents_add (m ++ n) in
-      let below : word widths (numbered_product m n) < 2 ^ sum widths =
-      word-below_all widths (numbered_product m n) canonical_product (FitsFields-times a b fits) in
+      let below : word limits (numbered_product m n) < word_count limits =
+      word-below_all limits (numbered_product m n) canonical_product (FitsLimits-times a b fits) in
       record {
-        below = omega (arith, below, word-product widths m n, word-powers_of_word widths a h.below, word-powers_of_word widths b g.below);
+        below = omega (arith, below, word-product limits m n, word-powers_of_word limits a h.below, word-powers_of_word limits b g.below);
       }
 
   -- each word with its coefficient times the one
@@ -170,26 +169,26 @@ module _ (vars : List Var) (rising : IsStrictlySortedBy var_cmp vars) (widths : 
   -- the exponents of the one and of each of the others have room together
   pub record HaveRoom (t : ℕ × ℤ) (us : Pairs) : Type 0 where
     pub exponents : (v : ℕ) → v < length vars
-        → exponent_in v t.0 + top_grade (exponent (var_at vars v)) (terms_by vars (powers_of_word widths) us) < 2 ^ width widths v
+        → exponent_in v t.0 + top_grade (exponent (var_at vars v)) (terms_by vars (powers_of_word limits) us) ≤ limit limits v
 
   HaveRoom-first : (t u : ℕ × ℤ) (us : Pairs) → HaveRoom t (u ∷ us)
-      → (v : ℕ) → v < length vars → exponent_in v t.0 + exponent_in v u.0 < 2 ^ width widths v
+      → (v : ℕ) → v < length vars → exponent_in v t.0 + exponent_in v u.0 ≤ limit limits v
   HaveRoom-first t u us room v known = omega (arith, room.exponents v known)
 
   HaveRoom-rest : (t u : ℕ × ℤ) (us : Pairs) → HaveRoom t (u ∷ us) → HaveRoom t us
   HaveRoom-rest t u us room = record { exponents = λ v known. omega (arith, room.exponents v known) }
 
   -- they stand for the multiples of the terms
-  pub terms_by-multiples : (t : ℕ × ℤ) (us : Pairs) → IsWord widths t.0 → AllKeys (IsWord widths) us → HaveRoom t us
-      → terms_by vars (powers_of_word widths) (word_multiples t us)
-      ≡ multiples (term_by vars (powers_of_word widths) t) (terms_by vars (powers_of_word widths) us)
+  pub terms_by-multiples : (t : ℕ × ℤ) (us : Pairs) → IsWord limits t.0 → AllKeys (IsWord limits) us → HaveRoom t us
+      → terms_by vars (powers_of_word limits) (word_multiples t us)
+      ≡ multiples (term_by vars (powers_of_word limits) t) (terms_by vars (powers_of_word limits) us)
   terms_by-multiples t [] h g room = refl
   terms_by-multiples t (u ∷ us) h g room =
       ap₂ (λ (m : Powers) (rest : Summands). (m, t.1 *ℤ u.1) ∷ rest) (named-times t.0 u.0 h g.0 (HaveRoom-first t u us room))
       (terms_by-multiples t us h g.1 (HaveRoom-rest t u us room))
 
-  pub words-multiples : (t : ℕ × ℤ) (us : Pairs) → IsWord widths t.0 → AllKeys (IsWord widths) us → HaveRoom t us
-      → AllKeys (IsWord widths) (word_multiples t us)
+  pub words-multiples : (t : ℕ × ℤ) (us : Pairs) → IsWord limits t.0 → AllKeys (IsWord limits) us → HaveRoom t us
+      → AllKeys (IsWord limits) (word_multiples t us)
   words-multiples t [] h g room = tt
   words-multiples t (u ∷ us) h g room =
       (IsWord-times t.0 u.0 h g.0 (HaveRoom-first t u us room), words-multiples t us h g.1 (HaveRoom-rest t u us room))

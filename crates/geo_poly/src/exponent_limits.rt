@@ -19,18 +19,18 @@ use crate::replacement::{Piece, Row};
 use crate::row_table::RowTable;
 use crate::shared::Shared;
 use crate::variables::Var;
-use crate::words::Fields;
+use crate::words::Digits;
 use geo_points::NoMemory;
 use mono_store::MonoId;
 use std::alloc::Global;
 
 /// Words in which the product has room, where there are such.
-pub(crate) fn product_fields(
+pub(crate) fn product_digits(
     alloc: Global,
     vars: &[Var],
     p: &Shared,
     q: &Shared,
-) -> Result<Option<Fields>, NoMemory>
+) -> Result<Option<Digits>, NoMemory>
     requires rising { IsStrictlySortedBy var_cmp vars.now }
     requires left { AreParts p.now }
     requires right { AreParts q.now }
@@ -40,18 +40,18 @@ pub(crate) fn product_fields(
     let mut limits = no_limits(alloc, vars)?;
     add_polynomial(alloc, &mut limits, vars, p, 1)?;
     add_polynomial(alloc, &mut limits, vars, q, 1)?;
-    fields_for(alloc, vars, &limits)
+    digits_for(alloc, vars, &limits)
 }
 
 /// Words in which the replacement has room, where there are such.
-pub(crate) fn replacement_fields(
+pub(crate) fn replacement_digits(
     alloc: Global,
     vars: &[Var],
     p: &Shared,
     rows: &RowTable,
     den: &Piece,
     top: u32,
-) -> Result<Option<Fields>, NoMemory>
+) -> Result<Option<Digits>, NoMemory>
     requires rising { IsStrictlySortedBy var_cmp vars.now }
     requires parts { AreParts p.now }
     ensures { IfOk result (λ found. IfSome found (λ f. HaveRoom vars.now f
@@ -63,12 +63,12 @@ pub(crate) fn replacement_fields(
     add_exponents(&mut limits, vars, &stay, 1);
     add_polynomial(alloc, &mut limits, vars, &den.poly.shared(), top.max(1))?;
     add_rows(alloc, &mut limits, vars, rows.rows(), &own)?;
-    fields_for(alloc, vars, &limits)
+    digits_for(alloc, vars, &limits)
 }
 
 /// Words in which exponents up to these limits have room, where there are such. A limit that is the
 /// greatest number says nothing.
-fn fields_for(alloc: Global, vars: &[Var], limits: &[u32]) -> Result<Option<Fields>, NoMemory>
+fn digits_for(alloc: Global, vars: &[Var], limits: &[u32]) -> Result<Option<Digits>, NoMemory>
     ensures { (bound : Var → ℕ) → AreLimits vars.now bound limits.now
         → IfOk result (λ found. IfSome found (λ f. HaveRoom vars.now f bound)) }
 {
@@ -76,7 +76,7 @@ fn fields_for(alloc: Global, vars: &[Var], limits: &[u32]) -> Result<Option<Fiel
     if is_saturated(limits) {
         return Ok(None);
     }
-    Fields::new(alloc, limits)
+    Digits::new(alloc, limits)
 }
 
 /// Whether some number is the greatest one.

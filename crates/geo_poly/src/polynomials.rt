@@ -27,7 +27,7 @@ use crate::stored::Stored;
 use crate::terms::Term;
 use crate::unpacking::unpacked;
 use crate::variables::Var;
-use crate::words::Fields;
+use crate::words::Digits;
 use crate::zeros::keep_lacking;
 use geo_points::NoMemory;
 use mono_store::{MonoId, Monos};
@@ -256,7 +256,7 @@ impl Poly {
     pub(crate) fn from_words(
         alloc: Global,
         vars: Vars,
-        words: &Fields,
+        words: &Digits,
         arena: Arena,
         chain: Chain,
     ) -> Result<Poly, NoMemory>

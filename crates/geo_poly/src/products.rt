@@ -15,7 +15,7 @@ ghost use Rattle.sparse_lists.specs.SparseLists.{AllKeys};
 ghost use Rattle.geo_poly.specs.Variables.{var_cmp};
 
 use crate::chained::product_chain;
-use crate::exponent_limits::product_fields;
+use crate::exponent_limits::product_digits;
 use crate::interning::indexed;
 use crate::limits::{MAX, MAX_DEGREE, PolyError, Which};
 use crate::lists::Vars;
@@ -27,7 +27,7 @@ use crate::polynomials::Poly;
 use crate::shared::{Indexed, Shared};
 use crate::ticks::Ticks;
 use crate::variables::Var;
-use crate::words::Fields;
+use crate::words::Digits;
 use geo_points::NoMemory;
 use mono_store::Monos;
 use poly_arena::{Arena, Chain};
@@ -148,7 +148,7 @@ fn product(alloc: Global, p: &Shared, q: &Shared) -> Result<Poly, NoMemory>
         return product_over(alloc, q, p);
     }
     let vars = union(alloc, p.vars, q.vars)?;
-    match product_fields(alloc, vars.as_slice(), p, q)? {
+    match product_digits(alloc, vars.as_slice(), p, q)? {
         Some(words) => packed_product(alloc, vars, words, p, q),
         None => stored_product(alloc, vars, p, q),
     }
@@ -173,7 +173,7 @@ fn stored_product(alloc: Global, vars: Vars, p: &Shared, q: &Shared) -> Result<P
 fn packed_product(
     alloc: Global,
     vars: Vars,
-    mut words: Fields,
+    mut words: Digits,
     p: &Shared,
     q: &Shared,
 ) -> Result<Poly, NoMemory>

@@ -18,7 +18,7 @@ ghost use Rattle.geo_poly.specs.Replace.{replaced_degree, replaced_weight};
 ghost use Rattle.geo_poly.specs.Variables.{var_cmp};
 
 use crate::chained_replacement::{stored_poly, stored_rows};
-use crate::exponent_limits::replacement_fields;
+use crate::exponent_limits::replacement_digits;
 use crate::limits::{MAX, MAX_DEGREE, PolyError, Which};
 use crate::lists::Vars;
 use crate::monomial_keys::MonomialKeys;
@@ -30,7 +30,7 @@ use crate::row_table::RowTable;
 use crate::settings::{Setting, StoredPiece};
 use crate::ticks::Ticks;
 use crate::variables::Var;
-use crate::words::Fields;
+use crate::words::Digits;
 use geo_points::NoMemory;
 use mono_store::Monos;
 use poly_arena::{Arena, Chain};
@@ -203,7 +203,7 @@ impl Poly {
     {
         let vars = self.replacement_vars(alloc, rows.rows(), den)?;
         let p = &self.shared();
-        match replacement_fields(alloc, vars.as_slice(), p, rows, den, top)? {
+        match replacement_digits(alloc, vars.as_slice(), p, rows, den, top)? {
             Some(words) => self.packed_replacement(alloc, rows, den, top, vars, words, ticks),
             None => self.stored_replacement(alloc, rows, den, top, vars, ticks),
         }
@@ -245,7 +245,7 @@ impl Poly {
         den: &Piece,
         top: u32,
         vars: Vars,
-        mut words: Fields,
+        mut words: Digits,
         ticks: &mut Ticks<L>,
     ) -> Result<Poly, NoMemory>
         requires top { top ≡ most_denominators rows.now self.now }
@@ -311,9 +311,7 @@ impl Poly {
         ensures ticks { ticks.new ≤ ticks.old
             + replacement_products rows.now den.now self.now }
     {
-        self.keyed_replacement(
-            alloc, rows, den, top, vars.as_slice(), store, arena, ticks,
-        )
+        self.keyed_replacement(alloc, rows, den, top, vars.as_slice(), store, arena, ticks)
     }
 
     /// The chain of the replacement, which fits, under any keys that have room.

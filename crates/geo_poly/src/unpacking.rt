@@ -7,14 +7,14 @@ ghost use Rattle.mono_store.specs.Monomials.{degree_of};
 ghost use Rattle.mono_store.specs.Stores.{Keeps, Links};
 ghost use Rattle.geo_poly.specs.Chained.{keyed_terms_under};
 ghost use Rattle.geo_poly.specs.Inner.Unpacked.{AreStoredWords, IsStoredWord};
-ghost use Rattle.geo_poly.specs.Inner.Words.{Widths, powers_of_word, word_keys};
+ghost use Rattle.geo_poly.specs.Inner.Words.{Limits, powers_of_word, word_keys};
 ghost use Rattle.geo_poly.specs.Keys.{IsKeyUnder};
 ghost use Rattle.geo_poly.specs.Monomials.{IsMonomial};
 ghost use Rattle.geo_poly.specs.Shared.{IsIndex, terms_of};
 
 use crate::shared::Indexed;
 use crate::variables::Var;
-use crate::words::Fields;
+use crate::words::Digits;
 use geo_points::NoMemory;
 use mono_store::{MonoId, Monos};
 use std::alloc::Global;
@@ -34,23 +34,23 @@ pub(crate) struct StoredWord {
 /// The indices of the monomials of these words, with their coefficients.
 pub(crate) fn unpacked(
     alloc: Global,
-    fields: &Fields,
+    digits: &Digits,
     store: &mut Monos,
     vars: &[Var],
     pairs: &[(u64, i128)],
 ) -> Result<Vec<Indexed>, NoMemory>
-    requires keys { AllKeys (IsKeyUnder vars.now (word_keys fields.now)) pairs.now }
+    requires keys { AllKeys (IsKeyUnder vars.now (word_keys digits.now)) pairs.now }
     requires monomials { AllKeys IsMonomial
-        (keyed_terms_under vars.now (word_keys fields.now) pairs.now) }
+        (keyed_terms_under vars.now (word_keys digits.now) pairs.now) }
     ensures indices { IfOk result (λ list. AllKeys (IsIndex vars.now store.new) list.items) }
     ensures terms { IfOk result (λ list. terms_of vars.now store.new list.items
-        ≡ keyed_terms_under vars.now (word_keys fields.now) pairs.now) }
+        ≡ keyed_terms_under vars.now (word_keys digits.now) pairs.now) }
 {
     let _ = vars;
-    let mut table = new_table(alloc, fields, store, pairs.len())?;
+    let mut table = new_table(alloc, digits, store, pairs.len())?;
     let mut list = Vec::with_capacity(alloc, pairs.len())?;
     for pair in pairs {
-        let id = stored_term(fields, store, &mut table, pair.0)?;
+        let id = stored_term(digits, store, &mut table, pair.0)?;
         list.push((id, pair.1))?;
     }
     Ok(list)
@@ -59,13 +59,13 @@ pub(crate) fn unpacked(
 /// A table that has the monomial with no variable at each place.
 fn new_table(
     alloc: Global,
-    fields: &Fields,
+    digits: &Digits,
     store: &Monos,
     words: usize,
 ) -> Result<Vec<StoredWord>, NoMemory>
-    ensures { IfOk result (λ table. AreStoredWords fields.now store.now table.items) }
+    ensures { IfOk result (λ table. AreStoredWords digits.now store.now table.items) }
 {
-    let _ = fields;
+    let _ = digits;
     let one = StoredWord {
         word: 0,
         id: store.one(),
@@ -84,8 +84,8 @@ fn place_of(word: u64, size: usize) -> usize {
 
 /// The index of the monomial of a word that is in the table.
 fn known_index(table: &[StoredWord], word: u64) -> Option<MonoId>
-    ensures { (widths : Widths) → (links : Links) → AreStoredWords widths links table.now
-        → IfSome result (λ id. IsStoredWord widths links (record { word = word; id = id })) }
+    ensures { (limits : Limits) → (links : Links) → AreStoredWords limits links table.now
+        → IfSome result (λ id. IsStoredWord limits links (record { word = word; id = id })) }
 {
     match table.get(place_of(word, table.len())) {
         Some(known) if known.word == word => Some(known.id),
@@ -95,9 +95,9 @@ fn known_index(table: &[StoredWord], word: u64) -> Option<MonoId>
 
 /// Puts the index of the monomial of a word into the table.
 fn remember(table: &mut [StoredWord], word: u64, id: MonoId)
-    ensures { (widths : Widths) → (links : Links) → AreStoredWords widths links table.old
-        → IsStoredWord widths links (record { word = word; id = id })
-        → AreStoredWords widths links table.new }
+    ensures { (limits : Limits) → (links : Links) → AreStoredWords limits links table.old
+        → IsStoredWord limits links (record { word = word; id = id })
+        → AreStoredWords limits links table.new }
 {
     let place = place_of(word, table.len());
     if place < table.len() {
@@ -107,41 +107,41 @@ fn remember(table: &mut [StoredWord], word: u64, id: MonoId)
 
 /// The index of the monomial of a word, which is not put into the table.
 fn stored_term(
-    fields: &Fields,
+    digits: &Digits,
     store: &mut Monos,
     table: &mut Vec<StoredWord>,
     word: u64,
 ) -> Result<MonoId, NoMemory>
-    requires within { word < 2 ^ sum fields.now }
-    requires degree { degree_of (powers_of_word fields.now word) ≤ 65535 }
-    requires table { AreStoredWords fields.now store.old table.old.items }
+    requires within { word < word_count digits.now }
+    requires degree { degree_of (powers_of_word digits.now word) ≤ 65535 }
+    requires table { AreStoredWords digits.now store.old table.old.items }
     ensures index { IfOk result
-        (λ id. IsStoredWord fields.now store.new (record { word = word; id = id })) }
+        (λ id. IsStoredWord digits.now store.new (record { word = word; id = id })) }
     ensures kept { Keeps store.old store.new }
-    ensures table { IfOk result (λ _. AreStoredWords fields.now store.new table.new.items) }
+    ensures table { IfOk result (λ _. AreStoredWords digits.now store.new table.new.items) }
 {
     if word == 0 {
         return Ok(store.one());
     }
-    let first = fields.first_power(word);
-    let next = stored_word(fields, store, table, first.rest)?;
+    let first = digits.first_power(word);
+    let next = stored_word(digits, store, table, first.rest)?;
     Ok(store.mono(first.var, first.exp, next)?)
 }
 
 /// The index of the monomial of a word.
 fn stored_word(
-    fields: &Fields,
+    digits: &Digits,
     store: &mut Monos,
     table: &mut Vec<StoredWord>,
     word: u64,
 ) -> Result<MonoId, NoMemory>
-    requires within { word < 2 ^ sum fields.now }
-    requires degree { degree_of (powers_of_word fields.now word) ≤ 65535 }
-    requires table { AreStoredWords fields.now store.old table.old.items }
+    requires within { word < word_count digits.now }
+    requires degree { degree_of (powers_of_word digits.now word) ≤ 65535 }
+    requires table { AreStoredWords digits.now store.old table.old.items }
     ensures index { IfOk result
-        (λ id. IsStoredWord fields.now store.new (record { word = word; id = id })) }
+        (λ id. IsStoredWord digits.now store.new (record { word = word; id = id })) }
     ensures kept { Keeps store.old store.new }
-    ensures table { IfOk result (λ _. AreStoredWords fields.now store.new table.new.items) }
+    ensures table { IfOk result (λ _. AreStoredWords digits.now store.new table.new.items) }
 {
     if word == 0 {
         return Ok(store.one());
@@ -149,8 +149,8 @@ fn stored_word(
     if let Some(id) = known_index(table.as_slice(), word) {
         return Ok(id);
     }
-    let first = fields.first_power(word);
-    let next = stored_word(fields, store, table, first.rest)?;
+    let first = digits.first_power(word);
+    let next = stored_word(digits, store, table, first.rest)?;
     let id = store.mono(first.var, first.exp, next)?;
     remember(table.as_mut_slice(), word, id);
     Ok(id)

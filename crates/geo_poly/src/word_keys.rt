@@ -2,11 +2,11 @@
 
 use crate::monomial_keys::MonomialKeys;
 use crate::word_order::ByWord;
-use crate::words::Fields;
+use crate::words::Digits;
 use geo_points::NoMemory;
 use poly_arena::{Arena, Chain};
 
-impl MonomialKeys for Fields {
+impl MonomialKeys for Digits {
     ghost use Rattle.geo_poly.specs.Inner.Words.{powers_of_word-zero, word_keys};
 
     ghost keys = { word_keys };

@@ -11,7 +11,7 @@ impl KeyOrder for ByWord {
     ghost use Rattle.std.specs.Ordering.{nat_cmp};
     ghost use Rattle.geo_poly.specs.Inner.Words.{word_order};
 
-    ghost keys = { λ _. 2 ^ 63 };
+    ghost keys = { λ _. 2 ^ 64 };
 
     ghost cmp = { λ _. nat_cmp };
 

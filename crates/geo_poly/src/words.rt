@@ -1,28 +1,21 @@
-//! Monomials as words of 64 bits, where the exponents of all variables fit into one.
+//! Monomials as words of 64 bits: numbers in a mixed radix, whose digits are the exponents.
 
-ghost use Rattle.std.specs.Prelude.{◌≡◌, ◌+◌, ◌/◌, ◌%◌, ◌^◌, ◌<◌, ◌≤◌, ◌∷◌, []};
-ghost use Rattle.std.specs.Prelude.{IfNone, IfOk, IfSome, IsTrue, length, sum, sum_by};
-ghost use Rattle.sparse_lists.specs.SparseLists.{put};
-ghost use Rattle.mono_store.specs.Monomials.{ComesFirst, degree_of, exponents};
-ghost use Rattle.mono_store.specs.Stores.{Keeps, count, monomial_of};
-ghost use Rattle.geo_poly.specs.Inner.Words.{FitsFields, bits_from, bits_of, fields_of};
-ghost use Rattle.geo_poly.specs.Inner.Words.{powers_of_word, width, widths_of, word};
+ghost use Rattle.std.specs.Prelude.{◌≡◌, ◌+◌, ◌^◌, ◌<◌, ◌≤◌, ◌∷◌, []};
+ghost use Rattle.std.specs.Prelude.{IfNone, IfOk, IfSome, IsTrue, length};
+ghost use Rattle.geo_poly.specs.Inner.Words.{count_from, digits_of, limit, powers_of_word};
+ghost use Rattle.geo_poly.specs.Inner.Words.{word, word_count};
 
 use geo_points::NoMemory;
-use mono_store::{MonoId, Monos};
 use std::alloc::Global;
 use std::marker::Model;
 
-/// A word has so many bits at most, so that the sum of two words does not wrap.
-const MOST_BITS: u32 = 63;
-
-/// The bits of a word in which the exponent of one variable stands.
+/// The digit in which the exponent of one variable stands.
 #[derive(Clone, Copy)]
-pub(crate) struct Field {
-    /// How many they are.
-    pub width: u32,
-    /// How many are below them.
-    pub shift: u32,
+pub(crate) struct Digit {
+    /// The greatest exponent that it has room for.
+    pub limit: u32,
+    /// What an exponent of 1 counts.
+    pub unit: u64,
 }
 
 /// The first power of a word, and the word of the others.
@@ -36,199 +29,138 @@ pub(crate) struct WordPower {
     pub rest: u64,
 }
 
-/// The fields of the variables, by their numbers: the first variable has the highest.
-pub(crate) struct Fields {
-    fields: Vec<Field>,
+/// The digits of the variables, by their numbers: the first variable has the highest.
+pub(crate) struct Digits {
+    digits: Vec<Digit>,
 }
 
 /// By hand, so that a caller's proof sees one call where they are let go.
-impl Drop for Fields {
+impl Drop for Digits {
     fn drop(self) {
-        let Fields { fields: _ } = self;
+        let Digits { digits: _ } = self;
     }
 }
 
-impl Model for Fields {
-    ghost use Rattle.geo_poly.specs.Inner.Words.{Widths, AreFields, field_widths};
+impl Model for Digits {
+    ghost use Rattle.geo_poly.specs.Inner.Words.{AreDigits, Limits, digit_limits};
 
-    ghost Value = { Widths };
+    ghost Value = { Limits };
 
-    ghost view = { λ f. field_widths f.fields.items };
+    ghost view = { λ d. digit_limits d.digits.items };
 
-    ghost invariant = { λ f. AreFields f.fields.items };
+    ghost invariant = { λ d. AreDigits d.digits.items };
 }
 
-impl Fields {
-    /// Fields in which each variable has room for its limit, and `None` where that takes more bits
-    /// than a word has.
-    pub(crate) fn new(alloc: Global, limits: &[u32]) -> Result<Option<Fields>, NoMemory>
-        ensures fields { IfOk result (λ found. IfSome found (λ f. f ≡ widths_of limits.now)) }
-        ensures none { IfOk result (λ found. IfNone found (63 < sum (widths_of limits.now))) }
+impl Digits {
+    /// Digits that have room for these exponents, and `None` where there are too many words for 64
+    /// bits.
+    pub(crate) fn new(alloc: Global, limits: &[u32]) -> Result<Option<Digits>, NoMemory>
+        ensures digits { IfOk result (λ found. IfSome found (λ d. d ≡ limits.now)) }
+        ensures none { IfOk result (λ found. IfNone found (2 ^ 64 ≤ word_count limits.now)) }
     {
-        match total_bits(limits) {
-            Some(total) => Ok(Some(Fields {
-                fields: fields_below(alloc, limits, total)?,
+        match count_words(limits) {
+            Some(count) => Ok(Some(Digits {
+                digits: digits_below(alloc, limits, count)?,
             })),
             None => Ok(None),
         }
     }
 
-    /// How many variables have fields.
+    /// How many variables have digits.
     pub(crate) fn count(&self) -> usize
         ensures count { result ≡ length self.now }
-        ensures bits { sum self.now ≤ 63 }
+        ensures words { word_count self.now < 2 ^ 64 }
     {
-        self.fields.len()
+        self.digits.len()
     }
 
-    /// The field of a variable.
-    fn field(&self, var: u64) -> Field
+    /// The digit of a variable.
+    fn digit(&self, var: u64) -> Digit
         requires { var < length self.now }
-        ensures width { result.width ≡ width self.now var }
-        ensures narrow { result.width ≤ 32 }
-        ensures shift { result.shift ≡ bits_from self.now (var + 1) }
-        ensures fits { result.width + result.shift ≤ 63 }
-        ensures bits { sum self.now ≤ 63 }
+        ensures limit { result.limit ≡ limit self.now var }
+        ensures unit { result.unit ≡ count_from self.now (var + 1) }
+        ensures words { word_count self.now < 2 ^ 64 }
     {
-        self.fields[var as usize]
+        self.digits[var as usize]
     }
 
     /// The word of one power.
     pub(crate) fn power(&self, var: u64, exp: u32) -> u64
         requires known { var < length self.now }
-        requires fits { exp < 2 ^ width self.now var }
+        requires fits { exp ≤ limit self.now var }
         ensures word { result ≡ word self.now ((var, exp) ∷ []) }
-        ensures bits { sum self.now ≤ 63 }
+        ensures words { word_count self.now < 2 ^ 64 }
     {
-        (exp as u64) << self.field(var).shift
+        exp as u64 * self.digit(var).unit
     }
 
-    /// The exponent of a variable in a word.
-    fn exponent(&self, word: u64, var: u64) -> u32
-        requires { var < length self.now }
-        ensures { result ≡ word / 2 ^ bits_from self.now (var + 1) % 2 ^ width self.now var }
-    {
-        let field = self.field(var);
-        ((word >> field.shift) & ((1 << field.width) - 1)) as u32
-    }
-
-    /// Whether the exponent has room in the field of its variable.
+    /// Whether the exponent has room in the digit of its variable.
     pub(crate) fn has_room(&self, var: u64, exp: u32) -> bool
-        ensures { IsTrue result → exp < 2 ^ width self.now var }
+        ensures { IsTrue result → exp ≤ limit self.now var }
     {
-        if var >= self.count() as u64 {
-            return false;
-        }
-        let field = self.field(var);
-        (exp as u64) >> field.width == 0
+        var < self.count() as u64 && exp <= self.digit(var).limit
+    }
+
+    /// The number of the first variable in a word that is not 0.
+    fn first_var(&self, word: u64) -> u64
+        requires some { 0 < word }
+        requires within { word < word_count self.now }
+        ensures known { result < length self.now }
+        ensures above { word < count_from self.now result }
+        ensures here { count_from self.now (result + 1) ≤ word }
+    {
+        let place = self
+            .digits
+            .partition_point(|digit: &Digit| word < digit.unit);
+        place as u64
     }
 
     /// The first power of a word that is not 0.
     pub(crate) fn first_power(&self, word: u64) -> WordPower
         requires some { 0 < word }
-        requires within { word < 2 ^ sum self.now }
+        requires within { word < word_count self.now }
         ensures powers { powers_of_word self.now word
             ≡ (result.var, result.exp) ∷ powers_of_word self.now result.rest }
         ensures rest { result.rest < word }
     {
-        let bits = u64::BITS - word.leading_zeros();
-        let place = self.fields.partition_point(|field: &Field| bits <= field.shift);
-        let var = place as u64;
-        let field = self.field(var);
+        let var = self.first_var(word);
+        let digit = self.digit(var);
         WordPower {
             var,
-            exp: (word >> field.shift) as u32,
-            rest: word & ((1 << field.shift) - 1),
+            exp: (word / digit.unit) as u32,
+            rest: word % digit.unit,
         }
-    }
-
-    /// The word of a monomial of a store.
-    pub(crate) fn pack(&self, store: &Monos, id: MonoId) -> u64
-        requires index { id.0 < count store.now }
-        requires fits { FitsFields self.now (monomial_of store.now id) }
-        ensures word { result ≡ word self.now (monomial_of store.now id) }
-        ensures below { result < 2 ^ sum self.now }
-    {
-        // the invariant of the store, which `valid` hands on
-        let _one = store.one();
-        let mut word = 0;
-        let mut at = id;
-        while let Some(link) = store.link(at) {
-            word += self.power(link.var, link.exp);
-            at = link.next;
-        }
-        word
-    }
-
-    /// The index of the monomial of a word.
-    pub(crate) fn unpack(&self, store: &mut Monos, word: u64) -> Result<MonoId, NoMemory>
-        requires { degree_of (powers_of_word self.now word) ≤ 65535 }
-        ensures index { IfOk result (λ id. id.0 < count store.new) }
-        ensures monomial { IfOk result
-            (λ id. monomial_of store.new id ≡ powers_of_word self.now word) }
-        ensures kept { Keeps store.old store.new }
-    {
-        let mut id = store.one();
-        let mut var = self.count() as u64;
-        while var > 0 {
-            var -= 1;
-            id = put_before(store, var, self.exponent(word, var), id)?;
-        }
-        Ok(id)
     }
 }
 
-/// The index of the monomial with the power before those of `next`, where the exponent is not 0.
-fn put_before(store: &mut Monos, var: u64, exponent: u32, next: MonoId) -> Result<MonoId, NoMemory>
-    requires next { next.0 < count store.old }
-    requires first { ComesFirst var (monomial_of store.old next) }
-    requires degree { exponent + degree_of (monomial_of store.old next) ≤ 65535 }
-    ensures index { IfOk result (λ id. id.0 < count store.new) }
-    ensures monomial { IfOk result (λ id. monomial_of store.new id
-        ≡ put exponents var exponent (monomial_of store.old next)) }
-    ensures kept { Keeps store.old store.new }
+/// How many words there are within the limits, where they are so few that each has 64 bits.
+fn count_words(limits: &[u32]) -> Option<u64>
+    ensures count { IfSome result (λ count. count ≡ word_count limits.now) }
+    ensures none { IfNone result (2 ^ 64 ≤ word_count limits.now) }
 {
-    if exponent == 0 {
-        return Ok(next);
-    }
-    Ok(store.mono(var, exponent, next)?)
-}
-
-/// How many bits a number has.
-fn bits(number: u32) -> u32
-    ensures bits { result ≡ bits_of number }
-    ensures most { result ≤ 32 }
-{
-    u32::BITS - number.leading_zeros()
-}
-
-/// The bits of all limits, where they are so few that one word has them.
-fn total_bits(limits: &[u32]) -> Option<u32>
-    ensures total { IfSome result (λ total. total ≡ sum_by bits_of limits.now) }
-    ensures most { IfSome result (λ total. total ≤ 63) }
-    ensures none { IfNone result (63 < sum_by bits_of limits.now) }
-{
-    let mut total = 0;
+    let mut count = 1u64;
     for limit in limits {
-        total += bits(*limit);
-        if total > MOST_BITS {
-            return None;
+        match count.checked_mul(*limit as u64 + 1) {
+            Some(more) => count = more,
+            None => return None,
         }
     }
-    Some(total)
+    Some(count)
 }
 
-/// The fields of these limits, the first of which ends below that bit.
-fn fields_below(alloc: Global, limits: &[u32], total: u32) -> Result<Vec<Field>, NoMemory>
-    requires { total ≡ sum_by bits_of limits.now }
-    ensures { IfOk result (λ fields. fields.items ≡ fields_of (widths_of limits.now)) }
+/// The digits of these limits, where so many words are within them.
+fn digits_below(alloc: Global, limits: &[u32], count: u64) -> Result<Vec<Digit>, NoMemory>
+    requires { count ≡ word_count limits.now }
+    ensures { IfOk result (λ digits. digits.items ≡ digits_of limits.now) }
 {
-    let mut fields = Vec::with_capacity(alloc, limits.len())?;
-    let mut shift = total;
+    let mut digits = Vec::with_capacity(alloc, limits.len())?;
+    let mut unit = count;
     for limit in limits {
-        let width = bits(*limit);
-        shift -= width;
-        fields.push(Field { width, shift })?;
+        unit /= *limit as u64 + 1;
+        digits.push(Digit {
+            limit: *limit,
+            unit,
+        })?;
     }
-    Ok(fields)
+    Ok(digits)
 }

@@ -8,7 +8,7 @@ use Rattle.geo_poly.specs.declared.replacement.Row.{Row}
 use Rattle.geo_poly.specs.declared.variables.Var.{Var}
 use Rattle.geo_poly.specs.Inner.Keyed.{greatest_exponent, greatest_of_rows}
 use Rattle.geo_poly.specs.Inner.ReplacedExponents.{exponent_bound}
-use Rattle.geo_poly.specs.Inner.Words.{Widths, width}
+use Rattle.geo_poly.specs.Inner.Words.{Limits, limit}
 use Rattle.geo_poly.specs.Monomials.{Powers, exponent}
 use Rattle.geo_poly.specs.Polynomials.{Summands}
 use Rattle.geo_poly.specs.Shared.{var_at}
@@ -36,6 +36,6 @@ pub record AreLimits (vars : List Var) (bound : Var → ℕ) (limits : List ℕ)
   pub each : (i : ℕ) → i < length vars → min (bound (var_at vars i)) (2 ^ 32 - 1) ≤ slice_index_or limits i 0
 
 -- the field of each variable has room for its bound
-pub record HaveRoom (vars : List Var) (widths : Widths) (bound : Var → ℕ) : Type 0 where
-  pub whole : length widths ≡ length vars
-  pub each : (i : ℕ) → i < length vars → bound (var_at vars i) ≤ 2 ^ width widths i - 1
+pub record HaveRoom (vars : List Var) (limits : Limits) (bound : Var → ℕ) : Type 0 where
+  pub whole : length limits ≡ length vars
+  pub each : (i : ℕ) → i < length vars → bound (var_at vars i) ≤ limit limits i

@@ -1,78 +1,72 @@
--- Monomials in numbered variables as words: each variable has a field of some bits for its exponent, the first variable the highest.
-use Rattle.std.specs.Prelude.{◌≡◌, ℕ, ◌+◌, ◌-◌, ◌*◌, ◌/◌, ◌%◌, ◌^◌, ◌<◌, ◌≤◌, All, List, [], ◌∷◌, Some, drop, map, refl, sum, sum_by}
+-- Monomials in numbered variables as words: numbers in a mixed radix, whose digits are the exponents, that of the first variable the highest.
+use Rattle.std.specs.Prelude.{◌≡◌, ℕ, ◌+◌, ◌*◌, ◌/◌, ◌%◌, ◌^◌, ◌<◌, ◌≤◌, List, [], ◌∷◌, Some, drop, map, refl, sum_by}
 use Rattle.std.specs.Prelude.{slice_index_or}
 use Rattle.std.proofs.Common.{ap, ◌∙◌}
 use Rattle.std.proofs.Math.Nat.{zero-div, zero-mod}
 use Rattle.std.specs.Ordering.{nat_cmp}
-use Rattle.std.specs.Int.{w32, leading_zeros}
 use Rattle.sparse_lists.specs.SparseLists.{put}
 use Rattle.sparse_lists.proofs.NaturalAmounts.{natural_order}
 use Rattle.mono_store.specs.Monomials.{Powers, exponent, exponents}
 use Rattle.poly_arena.specs.Orders.{IsOrderBelow}
-use Rattle.geo_poly.specs.declared.words.Field.{Field}
+use Rattle.geo_poly.specs.declared.words.Digit.{Digit}
 use Rattle.geo_poly.specs.Keys.{Keys}
 
--- how many bits the field of each variable has, by the number of the variable
-abbrev pub Widths : Type 0
-Widths = List ℕ
+-- the greatest exponent of each variable, by the number of the variable
+abbrev pub Limits : Type 0
+Limits = List ℕ
 
--- the bits of one variable, none past the end
-abbrev pub width : Widths → ℕ → ℕ
-width widths v = slice_index_or widths v 0
+-- that of one variable, 0 past the end
+abbrev pub limit : Limits → ℕ → ℕ
+limit limits v = slice_index_or limits v 0
 
--- the bits of all variables from v on
-abbrev pub bits_from : Widths → ℕ → ℕ
-bits_from widths v = sum (drop v widths)
+-- how many monomials are within the limits, and so how many words there are
+abbrev pub word_count : Limits → ℕ
+word_count [] = 1
+word_count (n ∷ ns) = (n + 1) * word_count ns
 
--- each exponent in the field of its variable, above the fields of all later ones
-abbrev pub word : Widths → Powers → ℕ
-word widths m = sum_by (λ p. p.1 * 2 ^ bits_from widths (p.0 + 1)) m
+-- how many words the variables from v on have, which is what 1 counts in the digit before them
+abbrev pub count_from : Limits → ℕ → ℕ
+count_from limits v = word_count (drop v limits)
 
--- each exponent has room in the field of its variable
-pub record FitsFields (widths : Widths) (m : Powers) : Type 0 where
-  pub exponents : (v : ℕ) → exponent v m < 2 ^ width widths v
+-- each exponent times what 1 counts in the digit of its variable
+abbrev pub word : Limits → Powers → ℕ
+word limits m = sum_by (λ p. p.1 * count_from limits (p.0 + 1)) m
 
--- the powers in the lowest fields of a word, whose widths these are, and whose variables are numbered from v on
-abbrev pub powers_from : ℕ → Widths → ℕ → Powers
+-- no exponent is above its limit
+pub record FitsLimits (limits : Limits) (m : Powers) : Type 0 where
+  pub exponents : (v : ℕ) → exponent v m ≤ limit limits v
+
+-- the powers in the lowest digits of a word, whose limits these are, and whose variables are numbered from v on
+abbrev pub powers_from : ℕ → Limits → ℕ → Powers
 powers_from v [] w = []
-powers_from v (b ∷ bs) w = put exponents v (w / 2 ^ sum bs % 2 ^ b) (powers_from (v + 1) bs w)
+powers_from v (n ∷ ns) w = put exponents v (w / word_count ns % (n + 1)) (powers_from (v + 1) ns w)
 
 -- the monomial of a word
-abbrev pub powers_of_word : Widths → ℕ → Powers
-powers_of_word widths w = powers_from 0 widths w
+abbrev pub powers_of_word : Limits → ℕ → Powers
+powers_of_word limits w = powers_from 0 limits w
 
--- words as keys: the limit of an exponent is the greatest one that its field has room for
-abbrev pub word_keys : Widths → Keys
-word_keys widths =
-    record { count = 2 ^ sum widths; powers = powers_of_word widths; limits = Some (λ v. 2 ^ width widths v - 1) }
+-- words as keys
+abbrev pub word_keys : Limits → Keys
+word_keys limits = record { count = word_count limits; powers = powers_of_word limits; limits = Some (limit limits) }
 
--- FIELDS
+-- DIGITS
 
--- how many bits a number below 2 ^ 32 has
-abbrev pub bits_of : ℕ → ℕ
-bits_of n = 32 - leading_zeros w32 n
+-- the limits of digits
+abbrev pub digit_limits : List Digit → Limits
+digit_limits digits = map (λ d. d.limit) digits
 
--- as many bits as each limit has
-abbrev pub widths_of : List ℕ → Widths
-widths_of limits = map bits_of limits
+-- the digits of these limits: 1 in each counts as many as there are words in the later variables
+abbrev pub digits_of : Limits → List Digit
+digits_of [] = []
+digits_of (n ∷ ns) = record { limit = n; unit = word_count ns } ∷ digits_of ns
 
--- the widths of fields
-abbrev pub field_widths : List Field → Widths
-field_widths fields = map (λ f. f.width) fields
-
--- the fields of these widths, each above those of the later variables
-abbrev pub fields_of : Widths → List Field
-fields_of [] = []
-fields_of (b ∷ bs) = record { width = b; shift = sum bs } ∷ fields_of bs
-
--- each field is above those of the later variables, and all are in one word
-pub record AreFields (fields : List Field) : Type 0 where
-  pub placed : fields ≡ fields_of (field_widths fields)
-  pub narrow : All (λ b. b ≤ 32) (field_widths fields)
-  pub bits : sum (field_widths fields) ≤ 63
+-- the digits are those of their limits, and each word has 64 bits
+pub record AreDigits (digits : List Digit) : Type 0 where
+  pub ordered : digits ≡ digits_of (digit_limits digits)
+  pub words : word_count (digit_limits digits) < 2 ^ 64
 
 -- words are in the order of numbers
-pub word_order : IsOrderBelow (2 ^ 63) nat_cmp
+pub word_order : IsOrderBelow (2 ^ 64) nat_cmp
 word_order = record {
   self = λ a within. natural_order.self a;
   exact = λ a b a_in b_in e. natural_order.exact a b e;
@@ -84,13 +78,13 @@ word_order = record {
 zero_exponents : (v e : ℕ) (m : Powers) → e ≡ 0 → put exponents v e m ≡ m
 zero_exponents v e m none = ap (λ (k : ℕ). put exponents v k m) none
 
-powers_from-zero : (v : ℕ) (bs : Widths) → powers_from v bs 0 ≡ []
+powers_from-zero : (v : ℕ) (ns : Limits) → powers_from v ns 0 ≡ []
 powers_from-zero v [] = refl
-powers_from-zero v (b ∷ bs) =
-    zero_exponents v (0 / 2 ^ sum bs % 2 ^ b) (powers_from (v + 1) bs 0)
-    (ap (λ (k : ℕ). k % 2 ^ b) (zero-div (2 ^ sum bs)) ∙ zero-mod (2 ^ b))
-    ∙ powers_from-zero (v + 1) bs
+powers_from-zero v (n ∷ ns) =
+    zero_exponents v (0 / word_count ns % (n + 1)) (powers_from (v + 1) ns 0)
+    (ap (λ (k : ℕ). k % (n + 1)) (zero-div (word_count ns)) ∙ zero-mod (n + 1))
+    ∙ powers_from-zero (v + 1) ns
 
 -- the word 0 stands for the monomial with no variable
-pub powers_of_word-zero : (widths : Widths) → powers_of_word widths 0 ≡ []
-powers_of_word-zero widths = powers_from-zero 0 widths
+pub powers_of_word-zero : (limits : Limits) → powers_of_word limits 0 ≡ []
+powers_of_word-zero limits = powers_from-zero 0 limits

@@ -8,7 +8,7 @@ use Rattle.geo_poly.proofs.unpacking.unpacked.Given as goal
 
 abbrev pub invariant-loop-pair : goal.invariant-loop-pair
 invariant-loop-pair l = record {
-  table : AreStoredWords l.fields l.store l.table.items;
+  table : AreStoredWords l.digits l.store l.table.items;
   indices : AllKeys (IsIndex l.vars l.store) l.list.items;
-  terms : terms_of l.vars l.store l.list.items ≡ keyed_terms_under l.vars (word_keys l.fields) (take l.pair-index l.pairs);
+  terms : terms_of l.vars l.store l.list.items ≡ keyed_terms_under l.vars (word_keys l.digits) (take l.pair-index l.pairs);
 }

@@ -1,7 +1,7 @@
 use Rattle.std.proofs.Common.{sym, subst}
 use Rattle.poly_arena.specs.Chains.{Merges, Pairs, pairs_of}
 use Rattle.geo_poly.proofs.WordInstance.{words-below, words-fall, words-sum}
-use Rattle.geo_poly.proofs.word_keys.FieldsMonomialKeys.merge.Goals as goal
+use Rattle.geo_poly.proofs.word_keys.DigitsMonomialKeys.merge.Goals as goal
 
 pub merge_into-requires-clause-kept_falls : goal.merge_into-requires-clause-kept_falls
 merge_into-requires-clause-kept_falls c =
@@ -13,11 +13,11 @@ merge_into-requires-clause-spent_falls c =
 
 pub merge_into-requires-clause-kept_keys : goal.merge_into-requires-clause-kept_keys
 merge_into-requires-clause-kept_keys c =
-    words-below c.args.self.now c.count-count.ensures.bits (pairs_of c.args.arena.now c.args.kept.now) c.requires.kept_keys
+    words-below c.args.self.now c.count-count.ensures.words (pairs_of c.args.arena.now c.args.kept.now) c.requires.kept_keys
 
 pub merge_into-requires-clause-spent_keys : goal.merge_into-requires-clause-spent_keys
 merge_into-requires-clause-spent_keys c =
-    words-below c.args.self.now c.count-count.ensures.bits (pairs_of c.args.arena.now c.args.spent) c.requires.spent_keys
+    words-below c.args.self.now c.count-count.ensures.words (pairs_of c.args.arena.now c.args.spent) c.requires.spent_keys
 
 pub returns-clause-merges : goal.returns-clause-merges
 returns-clause-merges c =
