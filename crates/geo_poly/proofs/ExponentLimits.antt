@@ -131,27 +131,24 @@ pub AreGreatest-more : (n places : ℕ) (links : Links) (old new : List ℕ) (id
     → AreGreatest n places links old → AreGreatest (n + 1) places links new
 AreGreatest-more n places links old new id next var exp is earlier parts in_order least kept h = record { each = each }
   where
-    rest : NumberedPowers
-    rest = monomial_of links next
-
-    whole : IsCanonical nat_cmp numbered_exponents ((var, exp) ∷ rest)
+    whole : IsCanonical nat_cmp numbered_exponents ((var, exp) ∷ (monomial_of links next))
     whole = subst (IsCanonical nat_cmp numbered_exponents) parts in_order
 
-    here : (v : ℕ) → v < places → (o : Ordering) → nat_cmp v var ≡ o → numbered_exponent v ((var, exp) ∷ rest) ≤ slice_index_or new v 0
+    here : (v : ℕ) → v < places → (o : Ordering) → nat_cmp v var ≡ o → numbered_exponent v ((var, exp) ∷ (monomial_of links next)) ≤ slice_index_or new v 0
     here v known Less a =
-        let is : numbered_exponent v ((var, exp) ∷ rest) ≡ numbered_exponent v rest =
-        ap (λ (o : Ordering). cond (is_eq o) exp 0 + numbered_exponent v rest) a in
+        let is : numbered_exponent v ((var, exp) ∷ (monomial_of links next)) ≡ numbered_exponent v (monomial_of links next) =
+        ap (λ (o : Ordering). cond (is_eq o) exp 0 + numbered_exponent v (monomial_of links next)) a in
         omega (arith, is, h.each next earlier v known, kept v)
     here v known Greater a =
-        let is : numbered_exponent v ((var, exp) ∷ rest) ≡ numbered_exponent v rest =
-        ap (λ (o : Ordering). cond (is_eq o) exp 0 + numbered_exponent v rest) a in
+        let is : numbered_exponent v ((var, exp) ∷ (monomial_of links next)) ≡ numbered_exponent v (monomial_of links next) =
+        ap (λ (o : Ordering). cond (is_eq o) exp 0 + numbered_exponent v (monomial_of links next)) a in
         omega (arith, is, h.each next earlier v known, kept v)
     here v known Equal a =
         let same : v ≡ var = natural_order.exact v var a in
-        let is : numbered_exponent v ((var, exp) ∷ rest) ≡ exp + numbered_exponent v rest =
-        ap (λ (o : Ordering). cond (is_eq o) exp 0 + numbered_exponent v rest) a in
-        let none : numbered_exponent v rest ≡ 0 =
-        ap (λ (u : ℕ). numbered_exponent u rest) same ∙ amount-before nat_cmp numbered_exponents natural_order numbered_exponents_add var rest whole.1 in
+        let is : numbered_exponent v ((var, exp) ∷ (monomial_of links next)) ≡ exp + numbered_exponent v (monomial_of links next) =
+        ap (λ (o : Ordering). cond (is_eq o) exp 0 + numbered_exponent v (monomial_of links next)) a in
+        let none : numbered_exponent v (monomial_of links next) ≡ 0 =
+        ap (λ (u : ℕ). numbered_exponent u (monomial_of links next)) same ∙ amount-before nat_cmp numbered_exponents natural_order numbered_exponents_add var (monomial_of links next) whole.1 in
         let most : exp ≤ slice_index_or new v 0 =
         subst (λ (u : ℕ). exp ≤ slice_index_or new u 0) (sym same) (least (omega (arith, same, known))) in
         omega (arith, is, none, most)
@@ -162,7 +159,7 @@ AreGreatest-more n places links old new id next var exp is earlier parts in_orde
           | inl before ↦ omega (arith, h.each other before v known, kept v)
           | inr last ↦
               let same : other.0 ≡ id.0 = omega (arith, within, last, is) in
-              let equal : monomial_of links other ≡ (var, exp) ∷ rest = ap (λ (k : ℕ). monomial_of links (record { 0 = k })) same ∙ parts in
+              let equal : monomial_of links other ≡ (var, exp) ∷ (monomial_of links next) = ap (λ (k : ℕ). monomial_of links (record { 0 = k })) same ∙ parts in
               omega (arith, ap (numbered_exponent v) equal, here v known (nat_cmp v var) refl)
         ]
 
@@ -308,26 +305,24 @@ no_rows v (p ∷ m) = no_rows v m
 rows-first : (v : Var) (r : Row) (rs : List Row) (m : Powers)
     → exponent_in_rows v (r ∷ rs) m 0 ≤ greatest_exponent v r.num.poly * exponent r.var m + exponent_in_rows v rs m 0
 rows-first v r rs [] = omega arith
-rows-first v r rs (p ∷ m) = go (is_eq (var_cmp r.var p.0)) (row_of rs p.0)
+rows-first v r rs (p ∷ m) = go (is_eq (var_cmp r.var p.0)) (row_of rs p.0) (rows-first v r rs m)
   where
-    g : ℕ
-    g = greatest_exponent v r.num.poly
-
     go : (z : Bool) (o : Option Row)
+        → exponent_in_rows v (r ∷ rs) m 0 ≤ greatest_exponent v r.num.poly * exponent r.var m + exponent_in_rows v rs m 0
         → exponent_in_rows v (r ∷ rs) m (exponent_in_row v (cond z (Some r) o) p.1 0)
-        ≤ g * (cond z p.1 0 + exponent r.var m) + exponent_in_rows v rs m (exponent_in_row v o p.1 0)
-    go true o =
+        ≤ greatest_exponent v r.num.poly * (cond z p.1 0 + exponent r.var m) + exponent_in_rows v rs m (exponent_in_row v o p.1 0)
+    go true o rec =
         omega (
           arith,
-          rows-plus v (r ∷ rs) m (0 + g * p.1),
-          rows-first v r rs m,
+          rec,
+          rows-plus v (r ∷ rs) m (exponent_in_row v (Some r) p.1 0),
           rows-plus v rs m (exponent_in_row v o p.1 0),
         )
-    go false o =
+    go false o rec =
         omega (
           arith,
+          rec,
           rows-plus v (r ∷ rs) m (exponent_in_row v o p.1 0),
-          rows-first v r rs m,
           rows-plus v rs m (exponent_in_row v o p.1 0),
         )
 

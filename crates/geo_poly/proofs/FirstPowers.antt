@@ -42,7 +42,7 @@ powers_of_word-low widths (suc v) w known low =
 -- THE FIRST POWER
 
 module _ (widths : Widths) (w v : ℕ) (above : w < 2 ^ bits_from widths v) (here : 2 ^ bits_from widths (v + 1) ≤ w) where
-  below : ℕ
+  abbrev below : ℕ
   below = 2 ^ bits_from widths (v + 1)
 
   pub first-known : v < length widths
@@ -120,10 +120,10 @@ abbrev pub is_above : ℕ → Field → Bool
 is_above bits f = leb bits f.shift
 
 module _ (fields : List Field) (h : AreFields fields) (bits : ℕ) where
-  widths : Widths
+  abbrev widths : Widths
   widths = field_widths fields
 
-  none : Field
+  abbrev none : Field
   none = record { width = 0; shift = 0 }
 
   within_widths : (i : ℕ) → i < length fields → i < length widths

@@ -7,7 +7,6 @@ use Rattle.std.specs.declared.cmp.Ordering.{Ordering}
 use Rattle.std.specs.declared.cmp.Ordering.TheVariants.{Less, Equal, Greater}
 use Rattle.std.proofs.Math.Nat.{pow-le-pow_right}
 use Rattle.std.proofs.lemmas.Bool.Decides.{nat_tests}
-use Rattle.std.proofs.lemmas.List.{map-id}
 use Rattle.sparse_lists.specs.SparseLists.{AllKeys, IsBefore, IsCanonical, canonical}
 use Rattle.sparse_lists.proofs.Canonical.{IsCanonical-canonical, amount-before}
 use Rattle.sparse_lists.proofs.NaturalAmounts.{natural_order}
@@ -31,19 +30,22 @@ below_63 widths w bits h = let most : 2 ^ sum widths ≤ 2 ^ 63 = pow-le-pow_rig
 
 -- POWERS
 
+nonzero : (e : ℕ) → 1 ≤ e → eqb e 0 ≡ false
+nonzero e some = grind (arith, nat_tests)
+
 module _ (widths : Widths) (v e w : ℕ) (within : w < 2 ^ sum widths) (some : 1 ≤ e) (first : ComesFirst v (powers_of_word widths w))
     (fits : e < 2 ^ width widths v) where
-  rest : Powers
+  abbrev rest : Powers
   rest = powers_of_word widths w
 
-  whole : Powers
+  abbrev whole : Powers
   whole = (v, e) ∷ rest
 
   before : IsBefore nat_cmp v rest
   before = IsBefore-first v rest first (IsCanonical-powers_from 0 widths w)
 
   in_order : IsCanonical nat_cmp exponents whole
-  in_order = let nonzero : eqb e 0 ≡ false = grind (arith, nat_tests) in (nonzero, (before, IsCanonical-powers_from 0 widths w))
+  in_order = (nonzero e some, (before, IsCanonical-powers_from 0 widths w))
 
   whole_fits : FitsFields widths whole
   whole_fits = record { exponents = λ u. go u (nat_cmp u v) refl }
@@ -123,7 +125,8 @@ module _ (widths : Widths) where
   words-below bits (t ∷ ts) g = (below_63 widths t.0 bits g.0, words-below bits ts g.1)
 
   unchanged : (ts : Pairs) → map (λ (t : ℕ × ℤ). (t.0, t.1)) ts ≡ ts
-  unchanged ts = map-id ts
+  unchanged [] = refl
+  unchanged (t ∷ ts) = ap (λ (us : Pairs). t ∷ us) (unchanged ts)
 
   -- the merged sum in the order of words is that in the order of monomials
   pub words-sum : (xs ys : Pairs) → AllKeys Within xs → AllKeys Within ys
