@@ -113,7 +113,7 @@ module _ (vars : List Var) (rising : IsStrictlySortedBy var_cmp vars) (w : Var) 
           go Greater a = nothing (ap (λ (o : Ordering). cond (is_eq o) e 0) a)
           go Equal a =
               let same : var_at vars i ≡ w = var_order.exact (var_at vars i) w a in
-              absurd (none (i, (i_in, get_or_any vars i w _ i_in ∙ same)))
+              absurd (none (i, i_in, get_or_any vars i w _ i_in ∙ same))
 
 -- NUMBERED EXPONENTS
 
@@ -131,21 +131,21 @@ pub AreGreatest-more : (n places : ℕ) (links : Links) (old new : List ℕ) (id
     → AreGreatest n places links old → AreGreatest (n + 1) places links new
 AreGreatest-more n places links old new id next var exp is earlier parts in_order least kept h = record { each = each }
   where
-    whole : IsCanonical nat_cmp numbered_exponents ((var, exp) ∷ (monomial_of links next))
+    whole : IsCanonical nat_cmp numbered_exponents ((var, exp) ∷ monomial_of links next)
     whole = subst (IsCanonical nat_cmp numbered_exponents) parts in_order
 
-    here : (v : ℕ) → v < places → (o : Ordering) → nat_cmp v var ≡ o → numbered_exponent v ((var, exp) ∷ (monomial_of links next)) ≤ slice_index_or new v 0
+    here : (v : ℕ) → v < places → (o : Ordering) → nat_cmp v var ≡ o → numbered_exponent v ((var, exp) ∷ monomial_of links next) ≤ slice_index_or new v 0
     here v known Less a =
-        let is : numbered_exponent v ((var, exp) ∷ (monomial_of links next)) ≡ numbered_exponent v (monomial_of links next) =
+        let is : numbered_exponent v ((var, exp) ∷ monomial_of links next) ≡ 0 + numbered_exponent v (monomial_of links next) =
         ap (λ (o : Ordering). cond (is_eq o) exp 0 + numbered_exponent v (monomial_of links next)) a in
         omega (arith, is, h.each next earlier v known, kept v)
     here v known Greater a =
-        let is : numbered_exponent v ((var, exp) ∷ (monomial_of links next)) ≡ numbered_exponent v (monomial_of links next) =
+        let is : numbered_exponent v ((var, exp) ∷ monomial_of links next) ≡ 0 + numbered_exponent v (monomial_of links next) =
         ap (λ (o : Ordering). cond (is_eq o) exp 0 + numbered_exponent v (monomial_of links next)) a in
         omega (arith, is, h.each next earlier v known, kept v)
     here v known Equal a =
         let same : v ≡ var = natural_order.exact v var a in
-        let is : numbered_exponent v ((var, exp) ∷ (monomial_of links next)) ≡ exp + numbered_exponent v (monomial_of links next) =
+        let is : numbered_exponent v ((var, exp) ∷ monomial_of links next) ≡ exp + numbered_exponent v (monomial_of links next) =
         ap (λ (o : Ordering). cond (is_eq o) exp 0 + numbered_exponent v (monomial_of links next)) a in
         let none : numbered_exponent v (monomial_of links next) ≡ 0 =
         ap (λ (u : ℕ). numbered_exponent u (monomial_of links next)) same ∙ amount-before nat_cmp numbered_exponents natural_order numbered_exponents_add var (monomial_of links next) whole.1 in
@@ -204,7 +204,7 @@ module _ (vars : List Var) (rising : IsStrictlySortedBy var_cmp vars) where
           → (exponent v (named vars (p ∷ m)) ≡ 0) ⊎ ((j : ℕ) × (j < length vars) × (v ≡ var_at vars j))
       go Less a rec = skip (ap (λ (o : Ordering). cond (is_eq o) p.1 0) a) rec
       go Greater a rec = skip (ap (λ (o : Ordering). cond (is_eq o) p.1 0) a) rec
-      go Equal a rec = inr (p.0, (places.0, var_order.exact v (var_at vars p.0) a))
+      go Equal a rec = inr (p.0, places.0, var_order.exact v (var_at vars p.0) a)
 
   module _ (links : Links) (numbers : List ℕ) (bounds : Powers) (greatest : AreGreatest (count links) (length vars) links numbers)
       (names : AreNamed vars numbers (length vars) bounds) where
@@ -254,11 +254,11 @@ exponent-others v rows (p ∷ m) = go (var_cmp v p.0) refl (row_of rows p.0) ref
     differ : exponent_of v p.0 p.1 ≡ 0 → (o : Option Row) → exponent v (others rows m) ≡ stays (row_of rows v) (exponent v m)
         → exponent v (kept o p (others rows m)) ≡ stays (row_of rows v) (exponent v (p ∷ m))
     differ none None rec =
-        let first : exponent v (p ∷ others rows m) ≡ exponent v (others rows m) = ap (λ (k : ℕ). k + exponent v (others rows m)) none in
-        let second : exponent v m ≡ exponent v (p ∷ m) = sym (ap (λ (k : ℕ). k + exponent v m) none) in
+        let first : exponent v (p ∷ others rows m) ≡ exponent v (others rows m) = omega (arith, none) in
+        let second : exponent v m ≡ exponent v (p ∷ m) = omega (arith, none) in
         first ∙ rec ∙ after (row_of rows v) (exponent v m) (exponent v (p ∷ m)) second
     differ none (Some r) rec =
-        let second : exponent v m ≡ exponent v (p ∷ m) = sym (ap (λ (k : ℕ). k + exponent v m) none) in
+        let second : exponent v m ≡ exponent v (p ∷ m) = omega (arith, none) in
         rec ∙ after (row_of rows v) (exponent v m) (exponent v (p ∷ m)) second
 
     same_row : v ≡ p.0 → (o : Option Row) → row_of rows p.0 ≡ o → row_of rows v ≡ o

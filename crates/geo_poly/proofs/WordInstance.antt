@@ -45,17 +45,17 @@ module _ (widths : Widths) (v e w : ℕ) (within : w < 2 ^ sum widths) (some : 1
   before = IsBefore-first v rest first (IsCanonical-powers_from 0 widths w)
 
   in_order : IsCanonical nat_cmp exponents whole
-  in_order = (nonzero e some, (before, IsCanonical-powers_from 0 widths w))
+  in_order = (nonzero e some, before, IsCanonical-powers_from 0 widths w)
 
   whole_fits : FitsFields widths whole
   whole_fits = record { exponents = λ u. go u (nat_cmp u v) refl }
     where
       go : (u : ℕ) (o : Ordering) → nat_cmp u v ≡ o → exponent u whole < 2 ^ width widths u
       go u Less a =
-          let here : exponent u whole ≡ exponent u rest = ap (λ (o : Ordering). cond (is_eq o) e 0 + exponent u rest) a in
+          let here : exponent u whole ≡ 0 + exponent u rest = ap (λ (o : Ordering). cond (is_eq o) e 0 + exponent u rest) a in
           omega (arith, here, (FitsFields-powers_of_word widths w).exponents u)
       go u Greater a =
-          let here : exponent u whole ≡ exponent u rest = ap (λ (o : Ordering). cond (is_eq o) e 0 + exponent u rest) a in
+          let here : exponent u whole ≡ 0 + exponent u rest = ap (λ (o : Ordering). cond (is_eq o) e 0 + exponent u rest) a in
           omega (arith, here, (FitsFields-powers_of_word widths w).exponents u)
       go u Equal a =
           let same : u ≡ v = natural_order.exact u v a in
