@@ -103,7 +103,7 @@ module _ (vars : List Var) (rising : IsStrictlySortedBy var_cmp vars) (w : Var) 
           go Greater a = nothing (ap (λ (o : Ordering). cond (is_eq o) e 0) a)
           go Equal a =
               let same : var_at vars i ≡ w = var_order.exact (var_at vars i) w a in
-              absurd (none (i, (i_in, get_or_any vars i w _ i_in ∙ same)))
+              absurd (none (i, i_in, get_or_any vars i w _ i_in ∙ same))
 
 -- NUMBERED EXPONENTS
 
@@ -121,27 +121,24 @@ pub AreGreatest-more : (n places : ℕ) (links : Links) (old new : List ℕ) (id
     → AreGreatest n places links old → AreGreatest (n + 1) places links new
 AreGreatest-more n places links old new id next var exp is earlier parts in_order least kept h = record { each = each }
   where
-    rest : NumberedPowers
-    rest = monomial_of links next
-
-    whole : IsCanonical nat_cmp numbered_exponents ((var, exp) ∷ rest)
+    whole : IsCanonical nat_cmp numbered_exponents ((var, exp) ∷ monomial_of links next)
     whole = subst (IsCanonical nat_cmp numbered_exponents) parts in_order
 
-    here : (v : ℕ) → v < places → (o : Ordering) → nat_cmp v var ≡ o → numbered_exponent v ((var, exp) ∷ rest) ≤ slice_index_or new v 0
+    here : (v : ℕ) → v < places → (o : Ordering) → nat_cmp v var ≡ o → numbered_exponent v ((var, exp) ∷ monomial_of links next) ≤ slice_index_or new v 0
     here v known Less a =
-        let is : numbered_exponent v ((var, exp) ∷ rest) ≡ numbered_exponent v rest =
-        ap (λ (o : Ordering). cond (is_eq o) exp 0 + numbered_exponent v rest) a in
+        let is : numbered_exponent v ((var, exp) ∷ monomial_of links next) ≡ 0 + numbered_exponent v (monomial_of links next) =
+        ap (λ (o : Ordering). cond (is_eq o) exp 0 + numbered_exponent v (monomial_of links next)) a in
         omega (arith, is, h.each next earlier v known, kept v)
     here v known Greater a =
-        let is : numbered_exponent v ((var, exp) ∷ rest) ≡ numbered_exponent v rest =
-        ap (λ (o : Ordering). cond (is_eq o) exp 0 + numbered_exponent v rest) a in
+        let is : numbered_exponent v ((var, exp) ∷ monomial_of links next) ≡ 0 + numbered_exponent v (monomial_of links next) =
+        ap (λ (o : Ordering). cond (is_eq o) exp 0 + numbered_exponent v (monomial_of links next)) a in
         omega (arith, is, h.each next earlier v known, kept v)
     here v known Equal a =
         let same : v ≡ var = natural_order.exact v var a in
-        let is : numbered_exponent v ((var, exp) ∷ rest) ≡ exp + numbered_exponent v rest =
-        ap (λ (o : Ordering). cond (is_eq o) exp 0 + numbered_exponent v rest) a in
-        let none : numbered_exponent v rest ≡ 0 =
-        ap (λ (u : ℕ). numbered_exponent u rest) same ∙ amount-before nat_cmp numbered_exponents natural_order numbered_exponents_add var rest whole.1 in
+        let is : numbered_exponent v ((var, exp) ∷ monomial_of links next) ≡ exp + numbered_exponent v (monomial_of links next) =
+        ap (λ (o : Ordering). cond (is_eq o) exp 0 + numbered_exponent v (monomial_of links next)) a in
+        let none : numbered_exponent v (monomial_of links next) ≡ 0 =
+        ap (λ (u : ℕ). numbered_exponent u (monomial_of links next)) same ∙ amount-before nat_cmp numbered_exponents natural_order numbered_exponents_add var (monomial_of links next) whole.1 in
         let most : exp ≤ slice_index_or new v 0 =
         subst (λ (u : ℕ). exp ≤ slice_index_or new u 0) (sym same) (least (omega (arith, same, known))) in
         omega (arith, is, none, most)
@@ -152,7 +149,7 @@ AreGreatest-more n places links old new id next var exp is earlier parts in_orde
           | inl before ↦ omega (arith, h.each other before v known, kept v)
           | inr last ↦
               let same : other.0 ≡ id.0 = omega (arith, within, last, is) in
-              let equal : monomial_of links other ≡ (var, exp) ∷ rest = ap (λ (k : ℕ). monomial_of links (record { 0 = k })) same ∙ parts in
+              let equal : monomial_of links other ≡ (var, exp) ∷ (monomial_of links next) = ap (λ (k : ℕ). monomial_of links (record { 0 = k })) same ∙ parts in
               omega (arith, ap (numbered_exponent v) equal, here v known (nat_cmp v var) refl)
         ]
 
@@ -197,7 +194,7 @@ module _ (vars : List Var) (rising : IsStrictlySortedBy var_cmp vars) where
           → (exponent v (named vars (p ∷ m)) ≡ 0) ⊎ ((j : ℕ) × (j < length vars) × (v ≡ var_at vars j))
       go Less a rec = skip (ap (λ (o : Ordering). cond (is_eq o) p.1 0) a) rec
       go Greater a rec = skip (ap (λ (o : Ordering). cond (is_eq o) p.1 0) a) rec
-      go Equal a rec = inr (p.0, (places.0, var_order.exact v (var_at vars p.0) a))
+      go Equal a rec = inr (p.0, places.0, var_order.exact v (var_at vars p.0) a)
 
   module _ (links : Links) (numbers : List ℕ) (bounds : Powers) (greatest : AreGreatest (count links) (length vars) links numbers)
       (names : AreNamed vars numbers (length vars) bounds) where
@@ -247,11 +244,11 @@ exponent-others v rows (p ∷ m) = go (var_cmp v p.0) refl (row_of rows p.0) ref
     differ : exponent_of v p.0 p.1 ≡ 0 → (o : Option Row) → exponent v (others rows m) ≡ stays (row_of rows v) (exponent v m)
         → exponent v (kept o p (others rows m)) ≡ stays (row_of rows v) (exponent v (p ∷ m))
     differ none None rec =
-        let first : exponent v (p ∷ others rows m) ≡ exponent v (others rows m) = ap (λ (k : ℕ). k + exponent v (others rows m)) none in
-        let second : exponent v m ≡ exponent v (p ∷ m) = sym (ap (λ (k : ℕ). k + exponent v m) none) in
+        let first : exponent v (p ∷ others rows m) ≡ exponent v (others rows m) = omega (arith, none) in
+        let second : exponent v m ≡ exponent v (p ∷ m) = omega (arith, none) in
         first ∙ rec ∙ after (row_of rows v) (exponent v m) (exponent v (p ∷ m)) second
     differ none (Some r) rec =
-        let second : exponent v m ≡ exponent v (p ∷ m) = sym (ap (λ (k : ℕ). k + exponent v m) none) in
+        let second : exponent v m ≡ exponent v (p ∷ m) = omega (arith, none) in
         rec ∙ after (row_of rows v) (exponent v m) (exponent v (p ∷ m)) second
 
     same_row : v ≡ p.0 → (o : Option Row) → row_of rows p.0 ≡ o → row_of rows v ≡ o
@@ -298,26 +295,24 @@ no_rows v (p ∷ m) = no_rows v m
 rows-first : (v : Var) (r : Row) (rs : List Row) (m : Powers)
     → exponent_in_rows v (r ∷ rs) m 0 ≤ greatest_exponent v r.num.poly * exponent r.var m + exponent_in_rows v rs m 0
 rows-first v r rs [] = omega arith
-rows-first v r rs (p ∷ m) = go (is_eq (var_cmp r.var p.0)) (row_of rs p.0)
+rows-first v r rs (p ∷ m) = go (is_eq (var_cmp r.var p.0)) (row_of rs p.0) (rows-first v r rs m)
   where
-    g : ℕ
-    g = greatest_exponent v r.num.poly
-
     go : (z : Bool) (o : Option Row)
+        → exponent_in_rows v (r ∷ rs) m 0 ≤ greatest_exponent v r.num.poly * exponent r.var m + exponent_in_rows v rs m 0
         → exponent_in_rows v (r ∷ rs) m (exponent_in_row v (cond z (Some r) o) p.1 0)
-        ≤ g * (cond z p.1 0 + exponent r.var m) + exponent_in_rows v rs m (exponent_in_row v o p.1 0)
-    go true o =
+        ≤ greatest_exponent v r.num.poly * (cond z p.1 0 + exponent r.var m) + exponent_in_rows v rs m (exponent_in_row v o p.1 0)
+    go true o rec =
         omega (
           arith,
-          rows-plus v (r ∷ rs) m (0 + g * p.1),
-          rows-first v r rs m,
+          rec,
+          rows-plus v (r ∷ rs) m (exponent_in_row v (Some r) p.1 0),
           rows-plus v rs m (exponent_in_row v o p.1 0),
         )
-    go false o =
+    go false o rec =
         omega (
           arith,
+          rec,
           rows-plus v (r ∷ rs) m (exponent_in_row v o p.1 0),
-          rows-first v r rs m,
           rows-plus v rs m (exponent_in_row v o p.1 0),
         )
 

@@ -9,7 +9,7 @@ ghost use Rattle.geo_poly.specs.Chained.{keyed_terms_under};
 ghost use Rattle.geo_poly.specs.Inner.Unpacked.{AreStoredWords, IsStoredWord};
 ghost use Rattle.geo_poly.specs.Inner.Words.{Limits, powers_of_word, word_keys};
 ghost use Rattle.geo_poly.specs.Keys.{IsKeyUnder};
-ghost use Rattle.geo_poly.specs.Monomials.{IsMonomial};
+ghost use Rattle.geo_poly.specs.Polynomials.{IsPolynomial};
 ghost use Rattle.geo_poly.specs.Shared.{IsIndex, terms_of};
 
 use crate::shared::Indexed;
@@ -40,7 +40,7 @@ pub(crate) fn unpacked(
     pairs: &[(u64, i128)],
 ) -> Result<Vec<Indexed>, NoMemory>
     requires keys { AllKeys (IsKeyUnder vars.now (word_keys digits.now)) pairs.now }
-    requires monomials { AllKeys IsMonomial
+    requires polynomial { IsPolynomial
         (keyed_terms_under vars.now (word_keys digits.now) pairs.now) }
     ensures indices { IfOk result (λ list. AllKeys (IsIndex vars.now store.new) list.items) }
     ensures terms { IfOk result (λ list. terms_of vars.now store.new list.items
@@ -94,10 +94,10 @@ fn known_index(table: &[StoredWord], word: u64) -> Option<MonoId>
 }
 
 /// Puts the index of the monomial of a word into the table.
-fn remember(table: &mut [StoredWord], word: u64, id: MonoId)
-    ensures { (limits : Limits) → (links : Links) → AreStoredWords limits links table.old
+fn remember(table: &mut Vec<StoredWord>, word: u64, id: MonoId)
+    ensures { (limits : Limits) → (links : Links) → AreStoredWords limits links table.old.items
         → IsStoredWord limits links (record { word = word; id = id })
-        → AreStoredWords limits links table.new }
+        → AreStoredWords limits links table.new.items }
 {
     let place = place_of(word, table.len());
     if place < table.len() {
@@ -152,6 +152,6 @@ fn stored_word(
     let first = digits.first_power(word);
     let next = stored_word(digits, store, table, first.rest)?;
     let id = store.mono(first.var, first.exp, next)?;
-    remember(table.as_mut_slice(), word, id);
+    remember(table, word, id);
     Ok(id)
 }

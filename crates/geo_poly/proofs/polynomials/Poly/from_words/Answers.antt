@@ -12,8 +12,8 @@ use Rattle.geo_poly.proofs.polynomials.Poly.from_words.Goals as goal
 pub unpacked-requires-clause-keys : goal.unpacked-requires-clause-keys
 unpacked-requires-clause-keys c = rw (c.as_slice.ensures, c.deref.ensures.value, c.in_ok-pairs.ensures) c.requires.keys
 
-pub unpacked-requires-clause-monomials : goal.unpacked-requires-clause-monomials
-unpacked-requires-clause-monomials c = rw (c.as_slice.ensures, c.deref.ensures.value, c.in_ok-pairs.ensures) c.requires.polynomial.monomials
+pub unpacked-requires-clause-polynomial : goal.unpacked-requires-clause-polynomial
+unpacked-requires-clause-polynomial c = rw (c.as_slice.ensures, c.deref.ensures.value, c.in_ok-pairs.ensures) c.requires.polynomial
 
 pub compact-requires : goal.compact-requires
 compact-requires c =
