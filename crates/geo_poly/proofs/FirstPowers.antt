@@ -187,7 +187,8 @@ pub searched : (fields : List Field) (widths : Widths) (w v : ℕ) → field_wid
 searched fields widths w v same h some within known point =
     let bits = 64 - leading_zeros w64 w in
     let within_fields : w < 2 ^ sum (field_widths fields) = subst (λ (bs : Widths). w < 2 ^ sum bs) (sym same) within in
-    let most : 2 ^ sum (field_widths fields) ≤ 2 ^ 64 = pow-le-pow_right (omega arith) (omega (arith, h.bits)) in
+    let few : sum (field_widths fields) ≤ 64 = omega (arith, h.bits) in
+    let most : 2 ^ sum (field_widths fields) ≤ 2 ^ 64 = pow-le-pow_right (omega arith) few in
     let found = word_bits w bits (omega (arith, within_fields, most)) refl in (
       subst (λ (bs : Widths). w < 2 ^ bits_from bs v) same
           (search-above fields h bits w v some within_fields found.0 found.1 known point),

@@ -1,7 +1,7 @@
 //! Words in which products and replacements have room, by bounds of the exponents that are known before
 //! anything is multiplied out.
 
-ghost use Rattle.std.specs.Prelude.{◌≡◌, ◌≢◌, ◌+◌, ◌*◌, ◌^◌, ◌<◌, ◌≤◌, max, min, ℕ, ◌-◌};
+ghost use Rattle.std.specs.Prelude.{◌≡◌, ◌≢◌, ◌∷◌, [], ◌+◌, ◌*◌, ◌^◌, ◌<◌, ◌≤◌, max, min, ℕ, ◌-◌};
 ghost use Rattle.std.specs.Prelude.{IfOk, IfSome, IsFalse, OnOk, length, slice_index_or};
 ghost use Rattle.std.specs.List.Sorted.{IsStrictlySortedBy};
 ghost use Rattle.mono_store.specs.Stores.{count};
@@ -122,21 +122,36 @@ fn numbered_exponents(alloc: Global, p: &Shared) -> Result<Vec<u32>, NoMemory>
 {
     let mut greatest = Vec::new(alloc);
     greatest.resize(p.vars.len(), 0)?;
-    // every store says of itself that it is one
-    let _one = p.monos.one();
     for k in 0..p.monos.links() {
-        if let Some(link) = p.monos.link(MonoId(k + 1)) {
-            raise(&mut greatest, link.var, link.exp);
-        }
+        raise_by(&mut greatest, p, MonoId(k + 1));
     }
     Ok(greatest)
 }
 
+/// Makes the number of the first variable of a monomial no less than its exponent.
+fn raise_by(numbers: &mut Vec<u32>, p: &Shared, id: MonoId)
+    requires index { id.0 < count p.now.monos.now }
+    requires whole { length numbers.old.items ≡ length p.now.vars.now }
+    requires seen { AreGreatest id.0 (length p.now.vars.now) p.now.monos.now numbers.old.items }
+    ensures whole { length numbers.new.items ≡ length p.now.vars.now }
+    ensures seen { AreGreatest (id.0 + 1) (length p.now.vars.now) p.now.monos.now
+        numbers.new.items }
+{
+    // every store says of itself that it is one
+    let _one = p.monos.one();
+    match p.monos.link(id) {
+        Some(link) => raise(numbers, link.var, link.exp),
+        None => {}
+    }
+}
+
 /// Makes the number at a place no less than that.
-fn raise(numbers: &mut [u32], place: u64, least: u32)
-    ensures whole { length numbers.new ≡ length numbers.old }
-    ensures place { place < length numbers.old → least ≤ slice_index_or numbers.new place 0 }
-    ensures kept { (i : ℕ) → slice_index_or numbers.old i 0 ≤ slice_index_or numbers.new i 0 }
+fn raise(numbers: &mut Vec<u32>, place: u64, least: u32)
+    ensures whole { length numbers.new.items ≡ length numbers.old.items }
+    ensures place { place < length numbers.old.items
+        → least ≤ slice_index_or numbers.new.items place 0 }
+    ensures kept { (i : ℕ)
+        → slice_index_or numbers.old.items i 0 ≤ slice_index_or numbers.new.items i 0 }
 {
     if place < numbers.len() as u64 && numbers[place as usize] < least {
         numbers[place as usize] = least;
@@ -168,12 +183,31 @@ fn add_exponents(limits: &mut [u32], vars: &[Var], exponents: &[(Var, u32)], tim
     ensures { (bound : Var → ℕ) → AreLimits vars.now bound limits.old
         → AreLimits vars.now (λ v. bound v + exponent v exponents.now * times) limits.new }
 {
-    let mut guess = 0u64;
-    for (v, exponent) in exponents {
-        if let Some(place) = find_place(vars, *v, guess) {
-            add_at(limits, place, exponent.saturating_mul(times));
-            guess = place.saturating_add(1);
+    let mut guess = 0;
+    for power in exponents {
+        guess = add_exponent(limits, vars, *power, times, guess);
+    }
+}
+
+/// Adds an exponent to the limit of its variable, so many times, and answers where the next variable
+/// may stand.
+fn add_exponent(
+    limits: &mut [u32],
+    vars: &[Var],
+    power: (Var, u32),
+    times: u32,
+    guess: u64,
+) -> u64
+    requires rising { IsStrictlySortedBy var_cmp vars.now }
+    ensures { (bound : Var → ℕ) → AreLimits vars.now bound limits.old
+        → AreLimits vars.now (λ v. bound v + exponent v (power ∷ []) * times) limits.new }
+{
+    match find_place(vars, power.0, guess) {
+        Some(place) => {
+            add_at(limits, place, power.1.saturating_mul(times));
+            place.saturating_add(1)
         }
+        None => guess,
     }
 }
 

@@ -29,8 +29,11 @@ overflow_cast-result-2 c =
     (c.partition_point-place.ensures.partitioned (is_above bits) (always_returns_same _ _ _ (λ a r f k. search (rules, of_calls))) parted) in
     let known = subst (λ (fs : List Field). place ≤ length fs) c.deref.ensures.value c.partition_point-place.ensures.bound in
     let found = searched fields c.args.self.now c.args.word place c.self.view_is c.self.invariant c.requires.some c.requires.within known point in
-    power-narrow c.args.self.now c.args.word place c.field-field.result.shift found.0 found.1 c.field-field.ensures.shift (omega (arith, c.field-field.ensures.fits))
-    (subst (λ (b : ℕ). b ≤ 32) c.field-field.ensures.width c.field-field.ensures.narrow)
+    omega (
+      arith,
+      power-narrow c.args.self.now c.args.word place c.field-field.result.shift found.0 found.1 c.field-field.ensures.shift (omega (arith, c.field-field.ensures.fits))
+          (subst (λ (b : ℕ). b ≤ 32) c.field-field.ensures.width c.field-field.ensures.narrow),
+    )
 
 pub returns-clause-powers : goal.returns-clause-powers
 returns-clause-powers c =
