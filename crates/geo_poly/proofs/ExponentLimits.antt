@@ -429,6 +429,17 @@ capped_times b g e t is =
         let once : 1 * t ≤ suc g * t = mul-le-mul_right t (let one : 1 ≤ suc g = omega arith in one) in
         omega (arith, most, once)
 
+-- limits to which exponents were added, a capped number of times
+pub AreLimits-capped : (vars : List Var) (bound g total : Var → ℕ) (e t : ℕ) (limits : List ℕ)
+    → ((v : Var) → total v ≡ bound v + g v * max 1 e) → t ≡ max (min e (2 ^ 32 - 1)) 1 → AreLimits vars (λ v. bound v + g v * t) limits
+    → AreLimits vars total limits
+AreLimits-capped vars bound g total e t limits is capped h = record {
+  whole = h.whole;
+  each = λ i known.
+      let v = var_at vars i in
+      omega (arith, is v, capped_times (bound v) (g v) e t capped, h.each i known);
+}
+
 -- others of a list, and one more power
 pub others-append : (rows : List Row) (ps qs : Powers) → others rows (ps ++ qs) ≡ others rows ps ++ others rows qs
 others-append rows [] qs = refl

@@ -178,10 +178,10 @@ fn without_rows(
 }
 
 /// Adds exponents to the limits of their variables, each so many times.
-fn add_exponents(limits: &mut [u32], vars: &[Var], exponents: &[(Var, u32)], times: u32)
+fn add_exponents(limits: &mut Vec<u32>, vars: &[Var], exponents: &[(Var, u32)], times: u32)
     requires rising { IsStrictlySortedBy var_cmp vars.now }
-    ensures { (bound : Var → ℕ) → AreLimits vars.now bound limits.old
-        → AreLimits vars.now (λ v. bound v + exponent v exponents.now * times) limits.new }
+    ensures { (bound : Var → ℕ) → AreLimits vars.now bound limits.old.items
+        → AreLimits vars.now (λ v. bound v + exponent v exponents.now * times) limits.new.items }
 {
     let mut guess = 0;
     for power in exponents {
@@ -192,15 +192,15 @@ fn add_exponents(limits: &mut [u32], vars: &[Var], exponents: &[(Var, u32)], tim
 /// Adds an exponent to the limit of its variable, so many times, and answers where the next variable
 /// may stand.
 fn add_exponent(
-    limits: &mut [u32],
+    limits: &mut Vec<u32>,
     vars: &[Var],
     power: (Var, u32),
     times: u32,
     guess: u64,
 ) -> u64
     requires rising { IsStrictlySortedBy var_cmp vars.now }
-    ensures { (bound : Var → ℕ) → AreLimits vars.now bound limits.old
-        → AreLimits vars.now (λ v. bound v + exponent v (power ∷ []) * times) limits.new }
+    ensures { (bound : Var → ℕ) → AreLimits vars.now bound limits.old.items
+        → AreLimits vars.now (λ v. bound v + exponent v (power ∷ []) * times) limits.new.items }
 {
     match find_place(vars, power.0, guess) {
         Some(place) => {
@@ -212,12 +212,12 @@ fn add_exponent(
 }
 
 /// Adds to the number at a place, up to the greatest number.
-fn add_at(numbers: &mut [u32], place: u64, more: u32)
-    ensures whole { length numbers.new ≡ length numbers.old }
-    ensures place { place < length numbers.old → slice_index_or numbers.new place 0
-        ≡ min (slice_index_or numbers.old place 0 + more) (2 ^ 32 - 1) }
+fn add_at(numbers: &mut Vec<u32>, place: u64, more: u32)
+    ensures whole { length numbers.new.items ≡ length numbers.old.items }
+    ensures place { place < length numbers.old.items → slice_index_or numbers.new.items place 0
+        ≡ min (slice_index_or numbers.old.items place 0 + more) (2 ^ 32 - 1) }
     ensures others { (i : ℕ) → i ≢ place
-        → slice_index_or numbers.new i 0 ≡ slice_index_or numbers.old i 0 }
+        → slice_index_or numbers.new.items i 0 ≡ slice_index_or numbers.old.items i 0 }
 {
     if place < numbers.len() as u64 {
         let number = &mut numbers[place as usize];
@@ -228,15 +228,15 @@ fn add_at(numbers: &mut [u32], place: u64, more: u32)
 /// Adds the greatest exponents of a polynomial to the limits, each so many times.
 fn add_polynomial(
     alloc: Global,
-    limits: &mut [u32],
+    limits: &mut Vec<u32>,
     vars: &[Var],
     p: &Shared,
     times: u32,
 ) -> Result<(), NoMemory>
     requires rising { IsStrictlySortedBy var_cmp vars.now }
     requires parts { AreParts p.now }
-    ensures { OnOk result ((bound : Var → ℕ) → AreLimits vars.now bound limits.old
-        → AreLimits vars.now (λ v. bound v + greatest_exponent v (told p.now) * times) limits.new) }
+    ensures { OnOk result ((bound : Var → ℕ) → AreLimits vars.now bound limits.old.items
+        → AreLimits vars.now (λ v. bound v + greatest_exponent v (told p.now) * times) limits.new.items) }
 {
     let bounds = greatest_exponents(alloc, p)?;
     add_exponents(limits, vars, &bounds, times);
@@ -247,14 +247,14 @@ fn add_polynomial(
 /// row's variable says.
 fn add_rows(
     alloc: Global,
-    limits: &mut [u32],
+    limits: &mut Vec<u32>,
     vars: &[Var],
     rows: &[Row],
     own: &[(Var, u32)],
 ) -> Result<(), NoMemory>
     requires rising { IsStrictlySortedBy var_cmp vars.now }
-    ensures { OnOk result ((bound : Var → ℕ) → AreLimits vars.now bound limits.old
-        → AreLimits vars.now (λ v. bound v + exponents_of_rows v rows.now own.now) limits.new) }
+    ensures { OnOk result ((bound : Var → ℕ) → AreLimits vars.now bound limits.old.items
+        → AreLimits vars.now (λ v. bound v + exponents_of_rows v rows.now own.now) limits.new.items) }
 {
     for row in rows {
         let times = exponent_in(own, row.var);

@@ -7,7 +7,7 @@ use Rattle.geo_poly.proofs.exponent_limits.add_polynomial.Goals as goal
 pub returns : goal.returns
 returns c = λ bound h.
     let ps = c.in_ok-bounds.bounds.items in
-    AreLimits-less c.args.vars.now _ _ c.add_exponents.new.limits
+    AreLimits-less c.args.vars.now _ _ c.add_exponents.new.limits.items
     (λ v. omega (
       arith,
       mul-le-mul_right c.args.times (c.in_ok-bounds.ensures.each v),
