@@ -132,7 +132,9 @@ impl Fields {
         ensures rest { result.rest < word }
     {
         let bits = u64::BITS - word.leading_zeros();
-        let place = self.fields.partition_point(|field: &Field| bits <= field.shift);
+        let place = self
+            .fields
+            .partition_point(|field: &Field| bits <= field.shift);
         let var = place as u64;
         let field = self.field(var);
         WordPower {
