@@ -1,6 +1,7 @@
 -- The first power of a word: the field that has its highest bit, and what is below that field.
-use Rattle.std.proofs.Common.{◌≡◌, ℕ, zero, suc, ◌+◌, ◌-◌, ◌*◌, ◌/◌, ◌%◌, ◌^◌, ◌<◌, ◌≤◌, Bool, bit_and, leb, le-leb, leb-false, leb-true, true, false, inl, inr, List, [], ◌∷◌, drop, length, refl, sym}
-use Rattle.std.proofs.Common.{add-one, ap, ap₂, subst, ◌∙◌, arith}
+use Rattle.std.proofs.Common.{◌≡◌, ℕ, zero, suc, ◌+◌, ◌-◌, ◌*◌, ◌/◌, ◌%◌, ◌^◌, ◌<◌, ◌≤◌, Bool, bit_and, leb, le-leb, leb-false, leb-true}
+use Rattle.std.proofs.Common.{true, false, inl, inr, List, [], ◌∷◌, drop, length, refl, sym}
+use Rattle.std.proofs.Common.{ap, ap₂, subst, ◌∙◌, arith}
 use Rattle.std.specs.Prelude.{slice_index_or, sum}
 use Rattle.std.specs.Int.{leading_zeros, w64}
 use Rattle.std.specs.List.{AllWithin}
@@ -11,10 +12,10 @@ use Rattle.std.proofs.lemmas.List.{drop_all, length-map}
 use Rattle.std.proofs.lemmas.Nat.{and_mask, div-add-mod', leading_length, le-div, mod_below, one_shl, pow-add, pow_pos, shr_below}
 use Rattle.sparse_lists.specs.SparseLists.{put}
 use Rattle.sparse_lists.proofs.Merging.{get_or_any}
-use Rattle.mono_store.specs.Monomials.{ComesFirst, Powers, exponents}
+use Rattle.mono_store.specs.Monomials.{ComesFirst, exponents}
 use Rattle.geo_poly.specs.declared.words.Field.{Field}
 use Rattle.geo_poly.specs.Inner.Words.{AreFields, Widths, bits_from, field_widths, powers_from, powers_of_word, width, word}
-use Rattle.geo_poly.proofs.FieldLists.{ComesFirst-powers_from, IsField, IsField-at, powers_from-step}
+use Rattle.geo_poly.proofs.FieldLists.{ComesFirst-powers_from, IsField-at, powers_from-step}
 use Rattle.geo_poly.proofs.WordInstance.{power_before-powers}
 use Rattle.geo_poly.proofs.WordOrder.{bits_from-le, bits_from-step, word-cons}
 

@@ -1,5 +1,6 @@
 -- Words whose monomials are in a store: what stays where the store grows, and the index of a word by that of its rest.
-use Rattle.std.proofs.Common.{◌≡◌, ℕ, zero, suc, ◌+◌, ◌<◌, ◌≤◌, eqb, false, List, [], ◌∷◌, ◌++◌, get_or, pos, replicate, take, ℤ, unsigned_abs, FitsSigned, length, refl, sym, ap, subst, ◌∙◌, arith}
+use Rattle.std.proofs.Common.{◌≡◌, ℕ, zero, suc, ◌+◌, ◌<◌, ◌≤◌, eqb, false, List, [], ◌∷◌, ◌++◌, get_or, pos, replicate, take, ℤ}
+use Rattle.std.proofs.Common.{unsigned_abs, FitsSigned, length, sym, ap, subst, ◌∙◌, arith}
 use Rattle.std.specs.Prelude.{All}
 use Rattle.std.specs.Int.{w128}
 use Rattle.std.specs.Ordering.{nat_cmp}

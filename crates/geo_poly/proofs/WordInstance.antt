@@ -1,5 +1,5 @@
 -- What words promise as keys of chains: powers put before a word, products within limits, and merges in the order of words.
-use Rattle.std.proofs.Common.{◌≡◌, ℕ, ◌+◌, ◌-◌, ◌*◌, ◌^◌, ◌<◌, ◌≤◌, eqb, false, cond, ℤ, List, [], ◌∷◌, ◌++◌, length, map, refl, sym, ap, ap₂, subst}
+use Rattle.std.proofs.Common.{◌≡◌, ℕ, ◌+◌, ◌-◌, ◌^◌, ◌<◌, ◌≤◌, eqb, false, cond, ℤ, [], ◌∷◌, ◌++◌, map, refl, sym, ap, subst}
 use Rattle.std.proofs.Common.{◌∙◌, arith}
 use Rattle.std.specs.Prelude.{sum}
 use Rattle.std.specs.Ordering.{flip_args, is_eq, nat_cmp}
@@ -11,7 +11,7 @@ use Rattle.sparse_lists.specs.SparseLists.{AllKeys, IsBefore, IsCanonical, canon
 use Rattle.sparse_lists.proofs.Canonical.{IsCanonical-canonical, amount-before}
 use Rattle.sparse_lists.proofs.NaturalAmounts.{natural_order}
 use Rattle.sparse_lists.proofs.Sums.{AllKeys-append}
-use Rattle.mono_store.specs.Monomials.{ComesFirst, Powers, exponent, exponents, monomial_cmp, product}
+use Rattle.mono_store.specs.Monomials.{ComesFirst, Powers, exponent, exponents, product}
 use Rattle.mono_store.proofs.Numbers.{exponents_add}
 use Rattle.mono_store.proofs.Products.{IsBefore-first}
 use Rattle.poly_arena.specs.Chains.{Pairs}
@@ -19,7 +19,8 @@ use Rattle.poly_arena.specs.Orders.{IsFalling, coefficients, sum_of}
 use Rattle.geo_poly.specs.Inner.Keyed.{IsInReach, key_cmp}
 use Rattle.geo_poly.specs.Inner.Words.{FitsFields, Widths, powers_of_word, width, word, word_keys}
 use Rattle.geo_poly.proofs.Naming.{canonical-rename}
-use Rattle.geo_poly.proofs.WordFields.{FitsFields-powers_of_word, FitsFields-product, IsCanonical-powers_from, powers_of_word-word, word-below_all}
+use Rattle.geo_poly.proofs.WordFields.{FitsFields-powers_of_word, FitsFields-product, IsCanonical-powers_from, powers_of_word-word}
+use Rattle.geo_poly.proofs.WordFields.{word-below_all}
 use Rattle.geo_poly.proofs.WordFields.{word-powers_of_word, word-product}
 use Rattle.geo_poly.proofs.WordKeys.{monomial_cmp-powers_of_word, powers_of_word-add}
 use Rattle.geo_poly.proofs.WordOrder.{word-cons}
