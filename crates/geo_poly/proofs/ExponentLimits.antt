@@ -1,16 +1,17 @@
 -- Limits of exponents: what is added to them, what digits have room for them, and what they bound.
-use Rattle.std.proofs.Common.{◌≡◌, ℕ, zero, suc, ◌+◌, ◌-◌, ◌*◌, ◌^◌, ◌<◌, ◌≤◌, max, min, eqb, false, cond, Bool, true, inl, inr, ◌⊎◌, ℤ, List, [], ◌∷◌, ◌++◌, length, map}
-use Rattle.std.proofs.Common.{Option, Some, None, get_or, take, refl, sym, ap, ap₂, subst, ◌∙◌, arith}
-use Rattle.std.specs.Prelude.{All, Contains, slice_index_or}
+use Rattle.std.proofs.Common.{◌≡◌, ◌≢◌, ℕ, zero, suc, ◌+◌, ◌-◌, ◌*◌, ◌^◌, ◌<◌, ◌≤◌, max, min, false, cond, Bool, true, inl, inr, ◌⊎◌, ℤ}
+use Rattle.std.proofs.Common.{List, [], ◌∷◌, ◌++◌, length}
+use Rattle.std.proofs.Common.{Option, Some, None, get_or, take, refl, sym, ap, subst, ◌∙◌, arith}
+use Rattle.std.specs.Prelude.{Contains, IfSome, slice_index_or}
 use Rattle.std.specs.List.Sorted.{IsStrictlySortedBy}
 use Rattle.std.specs.Ordering.{is_eq, nat_cmp}
 use Rattle.std.specs.declared.cmp.Ordering.{Ordering}
 use Rattle.std.specs.declared.cmp.Ordering.TheVariants.{Less, Equal, Greater}
-use Rattle.std.proofs.Math.Nat.{mul-le-mul_left}
+use Rattle.std.proofs.Math.Nat.{mul-le-mul_left, mul-le-mul_right}
 use Rattle.std.proofs.lemmas.Bool.{cases_lt}
 use Rattle.std.proofs.lemmas.Cmp.{ranked}
 use Rattle.std.proofs.lemmas.List.{get_or-map, length-map}
-use Rattle.sparse_lists.specs.SparseLists.{AllKeys, IsBefore, IsCanonical}
+use Rattle.sparse_lists.specs.SparseLists.{AllKeys, IsCanonical}
 use Rattle.sparse_lists.proofs.Canonical.{amount-append, amount-before}
 use Rattle.sparse_lists.proofs.Merging.{get_or_any}
 use Rattle.sparse_lists.proofs.NaturalAmounts.{natural_order}
@@ -32,6 +33,7 @@ use Rattle.geo_poly.specs.Shared.{AllPlaces, Indices, IsIndex, named, powers_at,
 use Rattle.geo_poly.specs.Variables.{var_cmp}
 use Rattle.geo_poly.proofs.Naming.{var_at-keeps}
 use Rattle.geo_poly.proofs.Orders.{exponents_add, var_order}
+use Rattle.geo_poly.proofs.Told.{take_more}
 use Rattle.geo_poly.proofs.WordKeys.{exponent-named}
 
 -- LIMITS
@@ -62,11 +64,12 @@ module _ (vars : List Var) (rising : IsStrictlySortedBy var_cmp vars) (w : Var) 
   more v = bound v + exponent_of v w e * times
 
   -- the limit of the variable is raised
-  pub AreLimits-at : (old new : List ℕ) (place : ℕ) → place < length vars → var_at vars place ≡ w
-      → slice_index_or new place 0 ≡ min (slice_index_or old place 0 + min (e * times) (2 ^ 32 - 1)) (2 ^ 32 - 1)
+  pub AreLimits-at : (old new : List ℕ) (place added : ℕ) → place < length vars → var_at vars place ≡ w
+      → added ≡ min (e * times) (2 ^ 32 - 1)
+      → slice_index_or new place 0 ≡ min (slice_index_or old place 0 + added) (2 ^ 32 - 1)
       → ((i : ℕ) → i ≢ place → slice_index_or new i 0 ≡ slice_index_or old i 0) → length new ≡ length old → AreLimits vars bound old
       → AreLimits vars more new
-  AreLimits-at old new place known at here others whole h = record { whole = whole ∙ h.whole; each = each }
+  AreLimits-at old new place added known at sum here others whole h = record { whole = whole ∙ h.whole; each = each }
     where
       each : (i : ℕ) → i < length vars → min (more (var_at vars i)) (2 ^ 32 - 1) ≤ slice_index_or new i 0
       each i i_in = go (nat_cmp i place) refl
@@ -83,10 +86,10 @@ module _ (vars : List Var) (rising : IsStrictlySortedBy var_cmp vars) (w : Var) 
               other (λ same. omega (arith, same, ranked i place Greater (sym a))) (ap (λ (o : Ordering). cond (is_eq o) e 0) (order ∙ a))
           go Equal a =
               let same : i ≡ place = natural_order.exact i place a in
-              let now : slice_index_or new i 0 ≡ min (slice_index_or old i 0 + min (e * times) (2 ^ 32 - 1)) (2 ^ 32 - 1) =
-              subst (λ (k : ℕ). slice_index_or new k 0 ≡ min (slice_index_or old k 0 + min (e * times) (2 ^ 32 - 1)) (2 ^ 32 - 1)) (sym same) here in
+              let now : slice_index_or new i 0 ≡ min (slice_index_or old i 0 + added) (2 ^ 32 - 1) =
+              subst (λ (k : ℕ). slice_index_or new k 0 ≡ min (slice_index_or old k 0 + added) (2 ^ 32 - 1)) (sym same) here in
               let is : exponent_of (var_at vars i) w e ≡ e = ap (λ (o : Ordering). cond (is_eq o) e 0) (order ∙ a) in
-              omega (arith, now, h.each i i_in, ap (λ (k : ℕ). k * times) is)
+              omega (arith, now, sum, h.each i i_in, ap (λ (k : ℕ). k * times) is)
 
   -- a variable that has no place raises no limit
   pub AreLimits-none : (limits : List ℕ) → (Contains vars w → ⊥) → AreLimits vars bound limits → AreLimits vars more limits
@@ -104,6 +107,18 @@ module _ (vars : List Var) (rising : IsStrictlySortedBy var_cmp vars) (w : Var) 
           go Equal a =
               let same : var_at vars i ≡ w = var_order.exact (var_at vars i) w a in
               absurd (none (i, i_in, get_or_any vars i w _ i_in ∙ same))
+
+-- a power of a list, and one that says nothing past its end
+abbrev pub power_at : Powers → ℕ → Var × ℕ
+power_at ps i = slice_index_or ps i (var_at [] 0, 0)
+
+-- the exponents of the first powers, and of one more
+pub exponent-take : (v : Var) (ps : Powers) (i : ℕ) → i < length ps
+    → exponent v (take (i + 1) ps) ≡ exponent v (take i ps) + exponent v (power_at ps i ∷ [])
+exponent-take v ps i within =
+    let p = power_at ps i in
+    ap (exponent v) (take_more ps i p within (get_or_any ps i (var_at [] 0, 0) p within))
+    ∙ amount-append var_cmp exponents var_order exponents_add v (take i ps) (p ∷ [])
 
 -- NUMBERED EXPONENTS
 
@@ -374,3 +389,65 @@ module _ (v : Var) (rows : List Row) (den : Piece) (top : ℕ) (own : Powers) wh
         rows-within v rows own,
         mul-le-mul_left (greatest_exponent v den.poly) once,
       )
+
+-- the rows, and one more
+pub exponents_of_rows-take : (v : Var) (rows : List Row) (own : Powers) (i : ℕ) (r : Row) → i < length rows → r ≡ get_or rows i r
+    → exponents_of_rows v (take (i + 1) rows) own
+    ≡ exponents_of_rows v (take i rows) own + greatest_exponent v r.num.poly * max 1 (exponent r.var own)
+exponents_of_rows-take v rows own i r within at =
+    ap (λ (rs : List Row). exponents_of_rows v rs own) (take_more rows i r within at) ∙ joined (take i rows)
+  where
+    joined : (rs : List Row) → exponents_of_rows v (rs ++ r ∷ []) own
+        ≡ exponents_of_rows v rs own + greatest_exponent v r.num.poly * max 1 (exponent r.var own)
+    joined [] = omega arith
+    joined (s ∷ rs) = omega (arith, joined rs)
+
+-- a multiplier that is capped makes no difference where the sum is
+pub capped_times : (b g e t : ℕ) → t ≡ max (min e (2 ^ 32 - 1)) 1
+    → min (b + g * max 1 e) (2 ^ 32 - 1) ≤ min (b + g * t) (2 ^ 32 - 1)
+capped_times b g e t is =
+    elim (cases_lt (2 ^ 32 - 1) e) [
+      | inl big ↦ by_g g
+      | inr small ↦
+          let same : t ≡ max 1 e = omega (arith, is, small) in
+          omega (arith, ap (λ (k : ℕ). g * k) same)
+    ]
+  where
+    by_g : (g : ℕ) → min (b + g * max 1 e) (2 ^ 32 - 1) ≤ min (b + g * t) (2 ^ 32 - 1)
+    by_g zero = omega arith
+    by_g (suc g) =
+        let most : 2 ^ 32 - 1 ≤ t = omega (arith, is) in
+        let once : 1 * t ≤ suc g * t = mul-le-mul_right t (let one : 1 ≤ suc g = omega arith in one) in
+        omega (arith, most, once)
+
+-- limits to which exponents were added, a capped number of times
+pub AreLimits-capped : (vars : List Var) (bound g total : Var → ℕ) (e t : ℕ) (limits : List ℕ)
+    → ((v : Var) → total v ≡ bound v + g v * max 1 e) → t ≡ max (min e (2 ^ 32 - 1)) 1 → AreLimits vars (λ v. bound v + g v * t) limits
+    → AreLimits vars total limits
+AreLimits-capped vars bound g total e t limits is capped h = record {
+  whole = h.whole;
+  each = λ i known.
+      let v = var_at vars i in
+      omega (arith, is v, capped_times (bound v) (g v) e t capped, h.each i known);
+}
+
+-- others of a list, and one more power
+pub others-append : (rows : List Row) (ps qs : Powers) → others rows (ps ++ qs) ≡ others rows ps ++ others rows qs
+others-append rows [] qs = refl
+others-append rows (p ∷ ps) qs = go (row_of rows p.0) (others-append rows ps qs)
+  where
+    go : (o : Option Row) → others rows (ps ++ qs) ≡ others rows ps ++ others rows qs
+        → kept o p (others rows (ps ++ qs)) ≡ kept o p (others rows ps) ++ others rows qs
+    go None rec = ap (λ (rs : Powers). p ∷ rs) rec
+    go (Some r) rec = rec
+
+pub others-take : (rows : List Row) (ps : Powers) (i : ℕ) → i < length ps
+    → others rows (take (i + 1) ps) ≡ others rows (take i ps) ++ kept (row_of rows (power_at ps i).0) (power_at ps i) []
+others-take rows ps i within =
+    let p = power_at ps i in
+    ap (others rows) (take_more ps i p within (get_or_any ps i (var_at [] 0, 0) p within)) ∙ others-append rows (take i ps) (p ∷ [])
+
+-- what is so of whatever an option has
+pub some_weaker : {X : Type 0} (o : Option X) (P Q : X → Type 0) → ((x : X) → P x → Q x) → IfSome o P → IfSome o Q
+some_weaker None P Q f h = tt
+some_weaker (Some x) P Q f h = f x h

@@ -1,5 +1,6 @@
 -- Words whose monomials are in a store: what stays where the store grows, and the index of a word by that of its rest.
-use Rattle.std.proofs.Common.{◌≡◌, ℕ, zero, suc, ◌+◌, ◌<◌, ◌≤◌, eqb, false, List, [], ◌∷◌, ◌++◌, get_or, pos, replicate, set, take, ℤ, unsigned_abs, FitsSigned, slice_get, Some, length, refl, sym, ap, subst, ◌∙◌, arith}
+use Rattle.std.proofs.Common.{◌≡◌, ℕ, zero, suc, ◌+◌, ◌<◌, ◌≤◌, eqb, false, List, [], ◌∷◌, ◌++◌, get_or, pos, replicate, take, ℤ}
+use Rattle.std.proofs.Common.{unsigned_abs, FitsSigned, length, sym, ap, subst, ◌∙◌, arith}
 use Rattle.std.specs.Prelude.{All}
 use Rattle.std.specs.Int.{w128}
 use Rattle.std.specs.Ordering.{nat_cmp}
@@ -29,29 +30,6 @@ use Rattle.geo_poly.proofs.Told.{take_more}
 use Rattle.geo_poly.proofs.WordDigits.{IsCanonical-powers_from}
 
 -- TABLES
-
-pub entry_at : {X : Type 0} (P : X → Type 0) (xs : List X) (i : ℕ) (x : X) → All P xs → slice_get xs i ≡ Some x → P x
-entry_at P [] zero x all e = absurd (cc)
-entry_at P [] (suc i) x all e = absurd (cc)
-entry_at P (y ∷ ys) zero x all e = let same : y ≡ x = cc in subst P same (all 0 y (omega arith))
-entry_at P (y ∷ ys) (suc i) x all e = entry_at P ys i x (λ k d h. all (suc k) d (omega (arith, h))) e
-
-pub All-set : {X : Type 0} (P : X → Type 0) (xs : List X) (i : ℕ) (x : X) → All P xs → P x → All P (set xs i x)
-All-set P [] zero x all h = all
-All-set P [] (suc i) x all h = all
-All-set P (y ∷ ys) zero x all h = first
-  where
-    first : All P (x ∷ ys)
-    first zero d within = h
-    first (suc k) d within = all (suc k) d within
-All-set P (y ∷ ys) (suc i) x all h = later
-  where
-    rest : All P (set ys i x)
-    rest = All-set P ys i x (λ k d within. all (suc k) d (omega (arith, within))) h
-
-    later : All P (y ∷ set ys i x)
-    later zero d within = all 0 d (omega arith)
-    later (suc k) d within = rest k d (omega (arith, within))
 
 filled : {X : Type 0} (P : X → Type 0) (m : ℕ) (x : X) → P x → All P (replicate m x)
 filled P zero x h k d within = absurd (omega arith)

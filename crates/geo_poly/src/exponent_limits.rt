@@ -1,7 +1,7 @@
 //! Words in which products and replacements have room, by bounds of the exponents that are known before
 //! anything is multiplied out.
 
-ghost use Rattle.std.specs.Prelude.{◌≡◌, ◌≢◌, ◌+◌, ◌*◌, ◌^◌, ◌<◌, ◌≤◌, max, min, ℕ, ◌-◌};
+ghost use Rattle.std.specs.Prelude.{◌≡◌, ◌≢◌, ◌∷◌, [], ◌+◌, ◌*◌, ◌^◌, ◌<◌, ◌≤◌, max, min, ℕ, ◌-◌};
 ghost use Rattle.std.specs.Prelude.{IfOk, IfSome, IsFalse, OnOk, length, slice_index_or};
 ghost use Rattle.std.specs.List.Sorted.{IsStrictlySortedBy};
 ghost use Rattle.mono_store.specs.Stores.{count};
@@ -122,21 +122,36 @@ fn numbered_exponents(alloc: Global, p: &Shared) -> Result<Vec<u32>, NoMemory>
 {
     let mut greatest = Vec::new(alloc);
     greatest.resize(p.vars.len(), 0)?;
-    // every store says of itself that it is one
-    let _one = p.monos.one();
     for k in 0..p.monos.links() {
-        if let Some(link) = p.monos.link(MonoId(k + 1)) {
-            raise(&mut greatest, link.var, link.exp);
-        }
+        raise_by(&mut greatest, p, MonoId(k + 1));
     }
     Ok(greatest)
 }
 
+/// Makes the number of the first variable of a monomial no less than its exponent.
+fn raise_by(numbers: &mut Vec<u32>, p: &Shared, id: MonoId)
+    requires index { id.0 < count p.now.monos.now }
+    requires whole { length numbers.old.items ≡ length p.now.vars.now }
+    requires seen { AreGreatest id.0 (length p.now.vars.now) p.now.monos.now numbers.old.items }
+    ensures whole { length numbers.new.items ≡ length p.now.vars.now }
+    ensures seen { AreGreatest (id.0 + 1) (length p.now.vars.now) p.now.monos.now
+        numbers.new.items }
+{
+    // every store says of itself that it is one
+    let _one = p.monos.one();
+    match p.monos.link(id) {
+        Some(link) => raise(numbers, link.var, link.exp),
+        None => {}
+    }
+}
+
 /// Makes the number at a place no less than that.
-fn raise(numbers: &mut [u32], place: u64, least: u32)
-    ensures whole { length numbers.new ≡ length numbers.old }
-    ensures place { place < length numbers.old → least ≤ slice_index_or numbers.new place 0 }
-    ensures kept { (i : ℕ) → slice_index_or numbers.old i 0 ≤ slice_index_or numbers.new i 0 }
+fn raise(numbers: &mut Vec<u32>, place: u64, least: u32)
+    ensures whole { length numbers.new.items ≡ length numbers.old.items }
+    ensures place { place < length numbers.old.items
+        → least ≤ slice_index_or numbers.new.items place 0 }
+    ensures kept { (i : ℕ)
+        → slice_index_or numbers.old.items i 0 ≤ slice_index_or numbers.new.items i 0 }
 {
     if place < numbers.len() as u64 && numbers[place as usize] < least {
         numbers[place as usize] = least;
@@ -163,27 +178,46 @@ fn without_rows(
 }
 
 /// Adds exponents to the limits of their variables, each so many times.
-fn add_exponents(limits: &mut [u32], vars: &[Var], exponents: &[(Var, u32)], times: u32)
+fn add_exponents(limits: &mut Vec<u32>, vars: &[Var], exponents: &[(Var, u32)], times: u32)
     requires rising { IsStrictlySortedBy var_cmp vars.now }
-    ensures { (bound : Var → ℕ) → AreLimits vars.now bound limits.old
-        → AreLimits vars.now (λ v. bound v + exponent v exponents.now * times) limits.new }
+    ensures { (bound : Var → ℕ) → AreLimits vars.now bound limits.old.items
+        → AreLimits vars.now (λ v. bound v + exponent v exponents.now * times) limits.new.items }
 {
-    let mut guess = 0u64;
-    for (v, exponent) in exponents {
-        if let Some(place) = find_place(vars, *v, guess) {
-            add_at(limits, place, exponent.saturating_mul(times));
-            guess = place.saturating_add(1);
+    let mut guess = 0;
+    for power in exponents {
+        guess = add_exponent(limits, vars, *power, times, guess);
+    }
+}
+
+/// Adds an exponent to the limit of its variable, so many times, and answers where the next variable
+/// may stand.
+fn add_exponent(
+    limits: &mut Vec<u32>,
+    vars: &[Var],
+    power: (Var, u32),
+    times: u32,
+    guess: u64,
+) -> u64
+    requires rising { IsStrictlySortedBy var_cmp vars.now }
+    ensures { (bound : Var → ℕ) → AreLimits vars.now bound limits.old.items
+        → AreLimits vars.now (λ v. bound v + exponent v (power ∷ []) * times) limits.new.items }
+{
+    match find_place(vars, power.0, guess) {
+        Some(place) => {
+            add_at(limits, place, power.1.saturating_mul(times));
+            place.saturating_add(1)
         }
+        None => guess,
     }
 }
 
 /// Adds to the number at a place, up to the greatest number.
-fn add_at(numbers: &mut [u32], place: u64, more: u32)
-    ensures whole { length numbers.new ≡ length numbers.old }
-    ensures place { place < length numbers.old → slice_index_or numbers.new place 0
-        ≡ min (slice_index_or numbers.old place 0 + more) (2 ^ 32 - 1) }
+fn add_at(numbers: &mut Vec<u32>, place: u64, more: u32)
+    ensures whole { length numbers.new.items ≡ length numbers.old.items }
+    ensures place { place < length numbers.old.items → slice_index_or numbers.new.items place 0
+        ≡ min (slice_index_or numbers.old.items place 0 + more) (2 ^ 32 - 1) }
     ensures others { (i : ℕ) → i ≢ place
-        → slice_index_or numbers.new i 0 ≡ slice_index_or numbers.old i 0 }
+        → slice_index_or numbers.new.items i 0 ≡ slice_index_or numbers.old.items i 0 }
 {
     if place < numbers.len() as u64 {
         let number = &mut numbers[place as usize];
@@ -194,15 +228,15 @@ fn add_at(numbers: &mut [u32], place: u64, more: u32)
 /// Adds the greatest exponents of a polynomial to the limits, each so many times.
 fn add_polynomial(
     alloc: Global,
-    limits: &mut [u32],
+    limits: &mut Vec<u32>,
     vars: &[Var],
     p: &Shared,
     times: u32,
 ) -> Result<(), NoMemory>
     requires rising { IsStrictlySortedBy var_cmp vars.now }
     requires parts { AreParts p.now }
-    ensures { OnOk result ((bound : Var → ℕ) → AreLimits vars.now bound limits.old
-        → AreLimits vars.now (λ v. bound v + greatest_exponent v (told p.now) * times) limits.new) }
+    ensures { OnOk result ((bound : Var → ℕ) → AreLimits vars.now bound limits.old.items
+        → AreLimits vars.now (λ v. bound v + greatest_exponent v (told p.now) * times) limits.new.items) }
 {
     let bounds = greatest_exponents(alloc, p)?;
     add_exponents(limits, vars, &bounds, times);
@@ -213,14 +247,14 @@ fn add_polynomial(
 /// row's variable says.
 fn add_rows(
     alloc: Global,
-    limits: &mut [u32],
+    limits: &mut Vec<u32>,
     vars: &[Var],
     rows: &[Row],
     own: &[(Var, u32)],
 ) -> Result<(), NoMemory>
     requires rising { IsStrictlySortedBy var_cmp vars.now }
-    ensures { OnOk result ((bound : Var → ℕ) → AreLimits vars.now bound limits.old
-        → AreLimits vars.now (λ v. bound v + exponents_of_rows v rows.now own.now) limits.new) }
+    ensures { OnOk result ((bound : Var → ℕ) → AreLimits vars.now bound limits.old.items
+        → AreLimits vars.now (λ v. bound v + exponents_of_rows v rows.now own.now) limits.new.items) }
 {
     for row in rows {
         let times = exponent_in(own, row.var);

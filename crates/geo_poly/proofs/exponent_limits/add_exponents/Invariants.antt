@@ -4,7 +4,7 @@ use Rattle.geo_poly.specs.Inner.Limits.{AreLimits}
 use Rattle.geo_poly.specs.Monomials.{exponent}
 use Rattle.geo_poly.proofs.exponent_limits.add_exponents.Given as goal
 
-abbrev pub invariant-loop-v : goal.invariant-loop-v
-invariant-loop-v l =
-    (bound : Var → ℕ) → AreLimits l.vars bound l.initial.limits
-    → AreLimits l.vars (λ v. bound v + exponent v (take l.v-index l.exponents) * l.times) l.limits
+abbrev pub invariant-loop-power : goal.invariant-loop-power
+invariant-loop-power l =
+    (bound : Var → ℕ) → AreLimits l.vars bound l.initial.limits.items.items
+    → AreLimits l.vars (λ v. bound v + exponent v (take l.power-index l.exponents) * l.times) l.limits.items
