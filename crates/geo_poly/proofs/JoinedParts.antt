@@ -157,9 +157,9 @@ module _ (setting : Setting) (p : Shared) (depth : ℕ) (e : Pending) (es : List
         less_within setting.vars.now keys later (λ v. exponent_bound v setting.rows.now setting.den.piece.now setting.top (told p))
         (λ v. exponent_with v (lone_pieces factors) (greatest_exponent v base)) same
         (λ v.
-          let most : greatest_exponent v base ≡ exponent v lone_term.0 = ap (greatest_exponent v) base-is ∙ omega arith in
-          let here = ap₂ (λ (ks : List ℕ) (k : ℕ). exponent_with v (lone_pieces ks) k) factors-is most in
-          omega (arith, lone_pending.exponents v, here)) reach
+        let most : greatest_exponent v base ≡ exponent v lone_term.0 = ap (greatest_exponent v) base-is ∙ omega arith in
+        let here = ap₂ (λ (ks : List ℕ) (k : ℕ). exponent_with v (lone_pieces ks) k) factors-is most in
+        omega (arith, lone_pending.exponents v, here)) reach
 
     pub lone_made : times_pieces (pieces_of setting.rows.now setting.den.piece.now factors) base ≡ polynomial_of (factored_terms (map (told_pending setting p depth) es))
     lone_made =

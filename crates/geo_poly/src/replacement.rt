@@ -250,9 +250,7 @@ impl Poly {
         ensures ticks { ticks.new ≤ ticks.old
             + replacement_products rows.now den.now self.now }
     {
-        self.keyed_replacement(
-            alloc, rows, den, top, vars.as_slice(), store, arena, ticks,
-        )
+        self.keyed_replacement(alloc, rows, den, top, vars.as_slice(), store, arena, ticks)
     }
 
     /// The chain of the replacement, which fits, under any keys that have room.
