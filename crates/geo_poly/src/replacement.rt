@@ -250,7 +250,7 @@ impl Poly {
         ensures ticks { ticks.new ≤ ticks.old
             + replacement_products rows.now den.now self.now }
     {
-        self.keyed_replacement(alloc, rows, den, top, vars.as_slice(), store, arena, ticks)
+        self.keyed_replacement(alloc, rows, den, top, vars, store, arena, ticks)
     }
 
     /// The chain of the replacement, which fits, under any keys that have room.
@@ -260,7 +260,7 @@ impl Poly {
         rows: &RowTable,
         den: &Piece,
         top: u32,
-        vars: &[Var],
+        vars: &Vars,
         keys: &mut K,
         arena: &mut Arena,
         ticks: &mut Ticks<L>,
@@ -283,6 +283,7 @@ impl Poly {
         ensures ticks { ticks.new ≤ ticks.old
             + replacement_products rows.now den.now self.now }
     {
+        let vars = vars.as_slice();
         let nums = stored_rows(alloc, keys, vars, rows.rows())?;
         let list = stored_poly(alloc, keys, vars, &den.poly)?;
         let p = &self.shared();
