@@ -10,6 +10,7 @@ ghost use Rattle.geo_poly.specs.Counted.{replacement_products};
 ghost use Rattle.geo_poly.specs.Inner.Keyed.{AreWithinLimits, IsWithinLimits, KeepsKeys};
 ghost use Rattle.geo_poly.specs.Inner.ReplacedExponents.{IsReplacedInReach};
 ghost use Rattle.geo_poly.specs.Inner.Limits.{HaveRoom, exponent_anywhere};
+ghost use Rattle.geo_poly.specs.Inner.Settings.{AreStoredUnder, IsStoredUnder};
 ghost use Rattle.geo_poly.specs.KeptVariables.{AllNumerators};
 ghost use Rattle.geo_poly.specs.PolynomialVariables.{AllVariables};
 ghost use Rattle.geo_poly.specs.Replace.{AllBounded, AllPowersSmall, CanReplace, IsBounded};
@@ -27,7 +28,7 @@ use crate::polynomial_variables::union;
 use crate::polynomials::Poly;
 use crate::replacement_bounds::{degree_of_terms, most_denominators_of, weight_of_terms};
 use crate::row_table::RowTable;
-use crate::settings::{Setting, StoredPiece};
+use crate::settings::{IndexList, Setting, StoredPiece};
 use crate::ticks::Ticks;
 use crate::variables::Var;
 use crate::words::Digits;
@@ -346,15 +347,49 @@ impl Poly {
     {
         let nums = stored_rows(alloc, keys, vars, rows.rows())?;
         let list = stored_poly(alloc, keys, vars, &den.poly)?;
+        let den = StoredPiece {
+            piece: den,
+            list: &list,
+        };
+        self.listed_replacement(alloc, rows, &nums, &den, top, vars, keys, arena, ticks)
+    }
+
+    /// The chain of the replacement, which fits, by lists of keys of the pieces.
+    fn listed_replacement<'a, K: MonomialKeys, L: Ledger>(
+        &self,
+        alloc: Global,
+        rows: &'a RowTable<'a>,
+        nums: &'a [IndexList],
+        den: &'a StoredPiece<'a>,
+        top: u32,
+        vars: &'a [Var],
+        keys: &mut K,
+        arena: &mut Arena,
+        ticks: &mut Ticks<L>,
+    ) -> Result<Chain, NoMemory>
+        requires top { top ≡ most_denominators rows.now self.now }
+        requires can { CanReplace rows.now den.now.piece.now top self.now }
+        requires rising { IsStrictlySortedBy var_cmp vars.now }
+        requires known { AllVariables (Contains vars.now) self.now }
+        requires rows_stored { AreStoredUnder vars.now (K.keys keys.old) rows.now nums.now }
+        requires den_stored { IsStoredUnder vars.now (K.keys keys.old) den.now.list.now
+            den.now.piece.now.poly }
+        requires reach { IsReplacedInReach vars.now (K.keys keys.old) rows.now den.now.piece.now
+            top self.now }
+        ensures chain { IfOk result (λ c. StandsUnder vars.now (K.keys keys.new) arena.new c
+            (replaced_by rows.now den.now.piece.now.poly self.now)) }
+        ensures adds { IfOk result (AddsChain arena.old arena.new) }
+        ensures err { OnErr result (SameChains arena.old arena.new) }
+        ensures kept { KeepsKeys (K.keys keys.old) (K.keys keys.new) }
+        ensures ticks { ticks.new ≤ ticks.old
+            + replacement_products rows.now den.now.piece.now self.now }
+    {
         let p = &self.shared();
         let setting = Setting {
             vars,
             rows,
-            nums: &nums,
-            den: StoredPiece {
-                piece: den,
-                list: &list,
-            },
+            nums,
+            den: *den,
             top,
         };
         nested_chain(alloc, &setting, keys, arena, p, ticks)

@@ -88,7 +88,9 @@ nested_sum-requires-in_default g t c =
                     (All-drop (IsPending setting p (c.args.depth + n)) at es deeper),
                 (
                   back_norm setting keys c.requires.set p (c.args.depth + n) es at front back c.split_at.ensures.front c.split_at.ensures.back norm,
-                  IsReplacedInReach-kept setting.vars.now keys (g.K.MonomialKeys.keys c.nested_sum.new.keys) setting.rows.now setting.den.piece.now setting.top (told p) c.in_ok-sum-in_default.ensures.kept.limits c.requires.reach,
+                  IsReplacedInReach-kept setting.vars.now keys
+                      (g.K.MonomialKeys.keys c.nested_sum.new.keys) setting.rows.now setting.den.piece.now setting.top
+                      (told p) c.in_ok-sum-in_default.ensures.kept.limits c.requires.reach,
                 ),
               ),
             ),
@@ -100,7 +102,9 @@ nested_sum-requires-in_default g t c =
 pub summed-whole-requires-clause-left_keys : goal.summed-whole-requires-clause-left_keys
 summed-whole-requires-clause-left_keys g t c =
     let setting = c.args.setting.now in
-    (first_still setting.vars.now (g.K.MonomialKeys.keys c.nested_sum.new.keys) (g.K.MonomialKeys.keys c.nested_sum-in_default.new.keys) c.in-Ok.ensures.kept c.nested_sum.new.arena c.nested_sum-in_default.new.arena
+    (first_still setting.vars.now (g.K.MonomialKeys.keys c.nested_sum.new.keys)
+    (g.K.MonomialKeys.keys c.nested_sum-in_default.new.keys) c.in-Ok.ensures.kept c.nested_sum.new.arena
+    c.nested_sum-in_default.new.arena
     c.in_ok-sum-in_default.sum c.in-Ok.rest _ _ c.in_ok-sum-in_default.ensures.chain c.in-Ok.ensures.adds c.in-Ok.ensures.chain).keys
 
 pub summed-whole-requires-clause-left_order : goal.summed-whole-requires-clause-left_order
@@ -113,7 +117,9 @@ summed-whole-requires-clause-left_order g t c =
     let at = c.split_place.result in
     let front = c.split_at.result.0.now in
     let back = c.split_at.result.1.now in
-    first_order setting.vars.now (g.K.MonomialKeys.keys c.nested_sum.new.keys) (g.K.MonomialKeys.keys c.nested_sum-in_default.new.keys) c.in-Ok.ensures.kept c.nested_sum.new.arena c.nested_sum-in_default.new.arena
+    first_order setting.vars.now (g.K.MonomialKeys.keys c.nested_sum.new.keys)
+    (g.K.MonomialKeys.keys c.nested_sum-in_default.new.keys) c.in-Ok.ensures.kept c.nested_sum.new.arena
+    c.nested_sum-in_default.new.arena
     c.in_ok-sum-in_default.sum c.in-Ok.rest _ _ c.in_ok-sum-in_default.ensures.chain c.in-Ok.ensures.adds c.in-Ok.ensures.chain
     (IsCanonical-polynomial_of (factored_terms (map (told_pending setting p (c.args.depth + n)) front)))
 
@@ -127,7 +133,9 @@ summed-whole-requires-clause-right_order g t c =
     let at = c.split_place.result in
     let front = c.split_at.result.0.now in
     let back = c.split_at.result.1.now in
-    second_order setting.vars.now (g.K.MonomialKeys.keys c.nested_sum.new.keys) (g.K.MonomialKeys.keys c.nested_sum-in_default.new.keys) c.in-Ok.ensures.kept c.nested_sum.new.arena c.nested_sum-in_default.new.arena
+    second_order setting.vars.now (g.K.MonomialKeys.keys c.nested_sum.new.keys)
+    (g.K.MonomialKeys.keys c.nested_sum-in_default.new.keys) c.in-Ok.ensures.kept c.nested_sum.new.arena
+    c.nested_sum-in_default.new.arena
     c.in_ok-sum-in_default.sum c.in-Ok.rest _ _ c.in_ok-sum-in_default.ensures.chain c.in-Ok.ensures.adds c.in-Ok.ensures.chain
     (IsCanonical-polynomial_of (factored_terms (map (told_pending setting p (c.args.depth + n)) back)))
 
@@ -141,7 +149,9 @@ summed-whole-requires-clause-fits g t c =
     let at = c.split_place.result in
     let front = c.split_at.result.0.now in
     let back = c.split_at.result.1.now in
-    norms_fit setting.vars.now (g.K.MonomialKeys.keys c.nested_sum.new.keys) (g.K.MonomialKeys.keys c.nested_sum-in_default.new.keys) c.in-Ok.ensures.kept c.nested_sum.new.arena c.nested_sum-in_default.new.arena
+    norms_fit setting.vars.now (g.K.MonomialKeys.keys c.nested_sum.new.keys)
+    (g.K.MonomialKeys.keys c.nested_sum-in_default.new.keys) c.in-Ok.ensures.kept c.nested_sum.new.arena
+    c.nested_sum-in_default.new.arena
     c.in_ok-sum-in_default.sum c.in-Ok.rest _ _ c.in_ok-sum-in_default.ensures.chain c.in-Ok.ensures.adds c.in-Ok.ensures.chain
     (parts_fit setting (g.K.MonomialKeys.keys c.args.keys.now) c.requires.set p
     (c.args.depth + n) es at front back c.split_at.ensures.front c.split_at.ensures.back
@@ -151,7 +161,9 @@ summed-whole-requires-clause-fits g t c =
 -- WHAT ALL SHARE, MULTIPLIED IN
 pub times_factors-requires-in-Ok-clause-set : goal.times_factors-requires-in-Ok-clause-set
 times_factors-requires-in-Ok-clause-set g t c =
-    IsSetUnder-kept c.args.setting.now (g.K.MonomialKeys.keys c.args.keys.now) (g.K.MonomialKeys.keys c.nested_sum-in_default.new.keys) (KeepsKeys-trans (g.K.MonomialKeys.keys c.args.keys.now) (g.K.MonomialKeys.keys c.nested_sum.new.keys) (g.K.MonomialKeys.keys c.nested_sum-in_default.new.keys) c.in_ok-sum-in_default.ensures.kept c.in-Ok.ensures.kept) c.requires.set
+    IsSetUnder-kept c.args.setting.now (g.K.MonomialKeys.keys c.args.keys.now) (g.K.MonomialKeys.keys c.nested_sum-in_default.new.keys)
+    (KeepsKeys-trans (g.K.MonomialKeys.keys c.args.keys.now) (g.K.MonomialKeys.keys c.nested_sum.new.keys)
+    (g.K.MonomialKeys.keys c.nested_sum-in_default.new.keys) c.in_ok-sum-in_default.ensures.kept c.in-Ok.ensures.kept) c.requires.set
 
 pub times_factors-requires-in-Ok-clause-live : goal.times_factors-requires-in-Ok-clause-live
 times_factors-requires-in-Ok-clause-live g t c =
@@ -376,7 +388,8 @@ returns-in-Ok-clause-err g t c =
 pub returns-in-Ok-clause-kept : goal.returns-in-Ok-clause-kept
 returns-in-Ok-clause-kept g t c =
     KeepsKeys-trans (g.K.MonomialKeys.keys c.args.keys.now) (g.K.MonomialKeys.keys c.nested_sum-in_default.new.keys) (g.K.MonomialKeys.keys c.times_factors-in-Ok.new.keys)
-    (KeepsKeys-trans (g.K.MonomialKeys.keys c.args.keys.now) (g.K.MonomialKeys.keys c.nested_sum.new.keys) (g.K.MonomialKeys.keys c.nested_sum-in_default.new.keys) c.in_ok-sum-in_default.ensures.kept c.in-Ok.ensures.kept)
+    (KeepsKeys-trans (g.K.MonomialKeys.keys c.args.keys.now) (g.K.MonomialKeys.keys c.nested_sum.new.keys)
+    (g.K.MonomialKeys.keys c.nested_sum-in_default.new.keys) c.in_ok-sum-in_default.ensures.kept c.in-Ok.ensures.kept)
     c.times_factors-in-Ok.ensures.kept
 
 pub returns-in-Ok-clause-ticks : goal.returns-in-Ok-clause-ticks
@@ -397,7 +410,8 @@ returns-in-Ok-clause-ticks g t c =
     c.in_ok-sum-in_default.ensures.chain c.in-Ok.ensures.chain c.summed-whole.ensures.chain c.summed-whole.ensures.sum
     (parts_sum setting (g.K.MonomialKeys.keys c.args.keys.now) c.requires.set p
     (c.args.depth + n) es at front back c.split_at.ensures.front c.split_at.ensures.back) in
-    let size = sym (length-map {B = Powers × ℤ} (pairs_of c.summed-whole.new.arena c.summed-whole.result) (keyed_term_under setting.vars.now (g.K.MonomialKeys.keys c.nested_sum-in_default.new.keys))) in
+    let size = sym (length-map {B = Powers × ℤ} (pairs_of c.summed-whole.new.arena c.summed-whole.result)
+    (keyed_term_under setting.vars.now (g.K.MonomialKeys.keys c.nested_sum-in_default.new.keys))) in
     let whole = joined_products setting (g.K.MonomialKeys.keys c.args.keys.now) c.requires.set p c.args.depth n first es c.shared_factors-shared.ensures.shared
     c.requires.pending c.requires.norm
     (omega (arith, c.split_place.ensures.some, c.split_place.ensures.within)) c.front_of-factors.result.now c.front_of-factors.ensures
@@ -529,7 +543,8 @@ times_factors-requires-clause-norm g t c =
     let e = c.term-item.result in
     let one : es ≡ e ∷ [] = alone es e c.in-len1.len_at_least c.in-len1.len_below c.term-item.is in
     lone_norm setting p c.args.depth e es one c.requires.pending c.factors_from-factors.result.now c.factors_from-factors.ensures
-    (keyed_terms_under setting.vars.now (g.K.MonomialKeys.keys c.lone_chain.new.keys) (pairs_of c.lone_chain.new.arena c.in_ok-chain-in-len1.chain)) c.in_ok-chain-in-len1.ensures.chain.terms c.requires.norm
+    (keyed_terms_under setting.vars.now (g.K.MonomialKeys.keys c.lone_chain.new.keys)
+    (pairs_of c.lone_chain.new.arena c.in_ok-chain-in-len1.chain)) c.in_ok-chain-in-len1.ensures.chain.terms c.requires.norm
 
 pub times_factors-requires-clause-degree : goal.times_factors-requires-clause-degree
 times_factors-requires-clause-degree g t c =

@@ -21,7 +21,8 @@ returns-then-is_one-clause-chain g c =
     let stored = c.list_of_factor-list.ensures s c.requires.set in
     let poly = (piece_of c.args.setting.now.rows.now c.args.setting.now.den.piece.now c.args.factor).poly in
     subst (λ (p : Summands). StandsUnder vars s a c.args.chain p)
-    (sym (product_by_one vars s c.list_of_factor-list.result.now poly base (g.met.K.MonomialKeys.first c.args.keys.now) (c.is_one.ensures c.if-is_one.true) stored.terms c.requires.fits.left_in_order c.requires.fits.left_monomials))
+    (sym (product_by_one vars s c.list_of_factor-list.result.now poly base (g.met.K.MonomialKeys.first c.args.keys.now)
+    (c.is_one.ensures c.if-is_one.true) stored.terms c.requires.fits.left_in_order c.requires.fits.left_monomials))
     (StandsUnder-self vars s a c.args.chain c.requires.live c.requires.keys)
 
 pub returns-then-is_one-clause-swaps : goal.returns-then-is_one-clause-swaps

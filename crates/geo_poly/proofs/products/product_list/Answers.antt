@@ -21,5 +21,6 @@ returns-in_default-len1-clause-product g c =
     let left = terms_of vars s c.args.left.now in
     let right = terms_of vars s c.args.right.now in
     IfOk-weaker c.multiples_list-in_default-len1.result _ _
-    (λ list h. h ∙ multiples_of_lone vars (store_keys s) c.args.right.now c.in_default-len1.len_at_least c.in_default-len1.len_below left (CanMultiply-flip left right c.requires.fits) ∙ product_of_comm right left)
+    (λ list h. h ∙ multiples_of_lone vars (store_keys s) c.args.right.now c.in_default-len1.len_at_least c.in_default-len1.len_below left
+    (CanMultiply-flip left right c.requires.fits) ∙ product_of_comm right left)
     c.multiples_list-in_default-len1.ensures.terms
