@@ -17,8 +17,8 @@ stored_poly-requires-clause-reach g c =
     IsWithinLimits-kept c.args.vars.now (g.K.MonomialKeys.keys c.args.keys.now) (g.K.MonomialKeys.keys c.stored_rows.new.keys) c.args.den.now.poly
     c.stored_rows.ensures.kept.limits c.requires.den_reach
 
-pub stored_replacement-requires-clause-rows_stored : goal.stored_replacement-requires-clause-rows_stored
-stored_replacement-requires-clause-rows_stored g c =
+pub listed_replacement-requires-clause-rows_stored : goal.listed_replacement-requires-clause-rows_stored
+listed_replacement-requires-clause-rows_stored g c =
     let vars = c.args.vars.now in
     let s1 = g.K.MonomialKeys.keys c.stored_rows.new.keys in
     let s2 = g.K.MonomialKeys.keys c.stored_poly.new.keys in
@@ -28,13 +28,13 @@ stored_replacement-requires-clause-rows_stored g c =
     subst (λ (lists : List Indices). AreStoredUnder vars s2 rows lists) (sym c.deref-2.ensures.value)
     (AreStoredUnder-kept vars s1 s2 rows nums c.in_ok-list.ensures.kept stored)
 
-pub stored_replacement-requires-clause-den_stored : goal.stored_replacement-requires-clause-den_stored
-stored_replacement-requires-clause-den_stored g c =
+pub listed_replacement-requires-clause-den_stored : goal.listed_replacement-requires-clause-den_stored
+listed_replacement-requires-clause-den_stored g c =
     subst (λ (list : Indices). IsStoredUnder c.args.vars.now (g.K.MonomialKeys.keys c.stored_poly.new.keys) list c.args.den.now.poly) (sym c.deref.ensures.value)
     c.in_ok-list.ensures.stored
 
-pub stored_replacement-requires-clause-reach : goal.stored_replacement-requires-clause-reach
-stored_replacement-requires-clause-reach g c =
+pub listed_replacement-requires-clause-reach : goal.listed_replacement-requires-clause-reach
+listed_replacement-requires-clause-reach g c =
     let s0 = g.K.MonomialKeys.keys c.args.keys.now in
     let s1 = g.K.MonomialKeys.keys c.stored_rows.new.keys in
     let s2 = g.K.MonomialKeys.keys c.stored_poly.new.keys in
@@ -46,5 +46,5 @@ returns-clause-kept g c =
     let s0 = g.K.MonomialKeys.keys c.args.keys.now in
     let s1 = g.K.MonomialKeys.keys c.stored_rows.new.keys in
     let s2 = g.K.MonomialKeys.keys c.stored_poly.new.keys in
-    KeepsKeys-trans s0 s2 (g.K.MonomialKeys.keys c.stored_replacement.new.keys) (KeepsKeys-trans s0 s1 s2 c.stored_rows.ensures.kept c.stored_poly.ensures.kept)
-    c.stored_replacement.ensures.kept
+    KeepsKeys-trans s0 s2 (g.K.MonomialKeys.keys c.listed_replacement.new.keys) (KeepsKeys-trans s0 s1 s2 c.stored_rows.ensures.kept c.stored_poly.ensures.kept)
+    c.listed_replacement.ensures.kept
