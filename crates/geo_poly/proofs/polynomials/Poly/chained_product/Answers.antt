@@ -18,6 +18,9 @@ pub product_chain-requires-clause-left : goal.product_chain-requires-clause-left
 product_chain-requires-clause-left g c =
     rw c.deref.ensures.value (indices-kept c.as_slice-vars.result.now c.moved.new.store c.moved-2.new.store c.in_ok-left.left.items c.in_ok-right.ensures.kept c.in_ok-left.ensures.indices)
 
+pub product_chain-requires-clause-right : goal.product_chain-requires-clause-right
+product_chain-requires-clause-right g c = rw c.deref-2.ensures.value c.in_ok-right.ensures.indices
+
 pub product_chain-requires-clause-fits : goal.product_chain-requires-clause-fits
 product_chain-requires-clause-fits g c =
     let left = in_grown c.as_slice-vars.result.now c.moved.new.store c.moved-2.new.store c.in_ok-left.left.items c.deref.result.now
