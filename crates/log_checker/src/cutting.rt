@@ -11,6 +11,26 @@ use geo_poly::lists::Vars;
 use geo_poly::{Factor, Poly, Var};
 use std::alloc::Global;
 
+/// The polynomial after a cut by this factor.
+pub(crate) fn cut_result(
+    alloc: Global,
+    known: &Vars,
+    before: &Poly,
+    by: &Factor,
+) -> Result<Poly, Stop>
+    ensures { IfOk result (IsCut known.now by.now before.now) }
+{
+    // From here on it is known that the factor is one.
+    prove!(by.coef() != 0);
+    if !is_by_known(&known.items, by) {
+        return Err(Stop::Rejected(Reason::WrongCut));
+    }
+    match before.divide(alloc, by)? {
+        Some(quotient) => Ok(quotient),
+        None => Err(Stop::Rejected(Reason::WrongCut)),
+    }
+}
+
 /// The polynomial after a cut line with this factor and this polynomial.
 pub(crate) fn after_cut(
     alloc: Global,

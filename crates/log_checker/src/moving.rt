@@ -20,6 +20,51 @@ use std::alloc::Global;
 use std::marker::Brand;
 use std::sync::ledger::{Blank, Ledger};
 
+/// The polynomial after a move.
+pub(crate) fn move_result(
+    alloc: Global,
+    steps: &Steps,
+    before: &Poly,
+    mv: &Move,
+    budget: &mut Budget,
+) -> Result<Poly, Stop>
+    requires { IsNamedBy steps.now before.now }
+    ensures moved { let made = replacement lemma_table steps.now mv.now before.now in
+        IfOk result (IsMoved made budget.old.left before.now) }
+    ensures paid { let made = replacement lemma_table steps.now mv.now before.now in
+        OnOk result (budget.new.left ≡ budget.old.left - move_charge made before.now) }
+{
+    move_result_in::<Brand>(alloc, steps, before, mv, budget, Blank::new(1))
+}
+
+/// The polynomial, by a move with a counter of its own.
+fn move_result_in<L: Ledger>(
+    alloc: Global,
+    steps: &Steps,
+    before: &Poly,
+    mv: &Move,
+    budget: &mut Budget,
+    blank: Blank,
+) -> Result<Poly, Stop>
+    requires name { blank.name ≡ L.name }
+    requires parts { blank.parts ≡ L.parts }
+    requires some { 0 < blank.parts }
+    requires named { IsNamedBy steps.now before.now }
+    ensures moved { let made = replacement lemma_table steps.now mv.now before.now in
+        IfOk result (IsMoved made budget.old.left before.now) }
+    ensures paid { let made = replacement lemma_table steps.now mv.now before.now in
+        OnOk result (budget.new.left ≡ budget.old.left - move_charge made before.now) }
+{
+    // From here on it is known that the steps are a construction.
+    prove!(steps.count() <= 512);
+    if !has_place(steps, mv) {
+        return Err(Stop::Rejected(Reason::NoRow));
+    }
+    let mut ticks = Ticks::<L>::new(blank);
+    let moved = apply(alloc, steps, before, mv, budget, &mut ticks)?;
+    Ok(moved)
+}
+
 /// The polynomial after a move line with this polynomial.
 pub(crate) fn after_move(
     alloc: Global,
