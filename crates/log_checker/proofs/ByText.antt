@@ -1,6 +1,8 @@
 -- Lines of moves and cuts that are judged by their text.
-use Rattle.std.proofs.Common.{◌≡◌, ℕ, ◌+◌, ◌-◌, Option, Some, List, [], ◌∷◌, ◌++◌, take, length, refl, sym, ap, ◌∙◌, ℤ, arith}
-use Rattle.std.proofs.lemmas.List.{length-append}
+use Rattle.std.proofs.Common.{◌≡◌, ℕ, ◌+◌, ◌-◌, Option, Some, None, List, [], ◌∷◌, ◌++◌, take, length, refl, sym, ap, ◌∙◌, ℤ, arith}
+use Rattle.std.specs.Prelude.{MatchOption}
+use Rattle.std.specs.Option.{option_to_list}
+use Rattle.std.proofs.lemmas.List.{append-nil, length-append}
 use Rattle.geo_poly.specs.declared.variables.Var.{Var}
 use Rattle.geo_poly.specs.Cuts.{IsCut}
 use Rattle.geo_poly.specs.Monomials.{Powers}
@@ -58,7 +60,7 @@ module _ (c : Construction) (construction : IsConstruction c) (known : List Var)
 -- THE POLYNOMIAL BEFORE IT
 module _ (q : Problem) (ready : IsReady q) where
   pub step_written : (e : Evidence) (t : Task) (own : Option Var) (r : Summands) → IsReached q e (due.Step t own r) → CanWritePolynomial r
-  step_written e t own r (head, steps, good, d) =
+  step_written e t alone r (head, steps, good, d) =
       let c = q.steps in
       let construction = construction_valid q ready in
       let term = d.item.term in
@@ -73,8 +75,18 @@ take_front [] m = refl
 take_front (x ∷ l) m = ap (λ (k : List ℕ). x ∷ k) (take_front l m)
 
 -- without its last byte
-pub all_but_last : (l : List ℕ) (b : ℕ) → take (length (l ++ b ∷ []) - 1) (l ++ b ∷ []) ≡ l
+all_but_last : (l : List ℕ) (b : ℕ) → take (length (l ++ b ∷ []) - 1) (l ++ b ∷ []) ≡ l
 all_but_last l b =
     let longer : length (l ++ b ∷ []) ≡ length l + 1 = length-append l (b ∷ []) in
     let same : length (l ++ b ∷ []) - 1 ≡ length l = omega (arith, longer) in
     ap (λ (n : ℕ). take n (l ++ b ∷ [])) same ∙ take_front l (b ∷ [])
+
+-- what is left where the last byte is taken off
+pub feed_off : (l m : List ℕ) (b : ℕ) (o : Option ℕ) (n k : ℕ) → l ++ b ∷ [] ≡ m ++ option_to_list o → length m ≡ n
+    → MatchOption o ((k ≡ 0) × (n ≡ 0)) (λ _. n + 1 ≡ k) → l ≡ m
+feed_off l m b None n k e len (old, new) =
+    let longer : length (l ++ b ∷ []) ≡ length l + 1 = length-append l (b ∷ []) in
+    let same : length (l ++ b ∷ []) ≡ length (m ++ []) = ap length e in
+    let nothing : length (m ++ []) ≡ length m = ap length (append-nil m) in
+    absurd (omega (arith, longer, same, nothing, len, new))
+feed_off l m b (Some x) n k e len h = sym (all_but_last l b) ∙ ap (λ (t : List ℕ). take (length t - 1) t) e ∙ all_but_last m x

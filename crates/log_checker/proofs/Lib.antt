@@ -59,6 +59,7 @@ pub mod PassedOn
 pub mod DueSteps
 pub mod DueProblems
 pub mod ByText
+pub mod PassingWork
 pub mod ProgramTexts
 pub mod JudgedNext
 pub mod JudgedAnswers

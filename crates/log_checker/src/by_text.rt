@@ -123,7 +123,14 @@ fn is_text_of(alloc: Global, bytes: &[u8], line: &Line) -> Result<bool, NoMemory
 {
     let mut text = write_line(alloc, line)?;
     let _feed = text.bytes.pop();
-    Ok(text.bytes.as_slice() == bytes)
+    Ok(is_same(text.bytes.as_slice(), bytes))
+}
+
+/// Whether both are the same bytes.
+fn is_same(left: &[u8], right: &[u8]) -> bool
+    ensures { IsTrue result → left.now ≡ right.now }
+{
+    left == right
 }
 
 /// The polynomial of the line of a move or of a cut.

@@ -20,11 +20,7 @@ use std::alloc::Global;
 
 /// Whether the line with these bytes is that of a move or of a cut which goes on. The state is then
 /// the one behind it, else as it was.
-pub(crate) fn state_passes(
-    alloc: Global,
-    state: &mut State,
-    bytes: &[u8],
-) -> Result<bool, NoMemory>
+pub(crate) fn state_passes(alloc: Global, state: &mut State, bytes: &[u8]) -> Result<bool, NoMemory>
     requires { (steps : ℕ) × IsReachedState steps state.old }
     ensures { IfOk result (StateGoesOn state.old bytes.now state.new) }
 {
@@ -67,9 +63,9 @@ fn step_passes(
     let left = evidence.budget.left;
     let found = step_by_text(alloc, steps, &evidence.known, left, poly, bytes)?;
     match found {
-        Some((next, left)) => {
+        Some((next, after)) => {
             *poly = next;
-            evidence.budget.left = left;
+            evidence.budget.left = after;
             Ok(true)
         }
         None => Ok(false),
