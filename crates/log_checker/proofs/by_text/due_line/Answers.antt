@@ -35,4 +35,4 @@ pub returns-in-Cut : goal.returns-in-Cut
 returns-in-Cut c =
     let fits = subst IsWritable c.in-Cut.is c.requires.writable in
     cut_to c.args.steps.now c.count.ensures.valid c.args.known.now c.args.budget.now.left c.args.before.now c.requires.named c.requires.written
-    c.in-Cut.by c.in_ok-poly-in-Cut.poly c.in_ok-poly-in-Cut.ensures fits.0
+    c.in-Cut.by c.in_ok-poly-in-Cut.poly c.in_ok-poly-in-Cut.ensures.cut fits.0
