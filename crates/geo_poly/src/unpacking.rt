@@ -7,7 +7,7 @@ ghost use Rattle.mono_store.specs.Monomials.{degree_of};
 ghost use Rattle.mono_store.specs.Stores.{Keeps, Links};
 ghost use Rattle.geo_poly.specs.Chained.{keyed_terms_under};
 ghost use Rattle.geo_poly.specs.Inner.Unpacked.{AreStoredWords, IsStoredWord};
-ghost use Rattle.geo_poly.specs.Inner.Words.{Limits, powers_of_word, word_keys};
+ghost use Rattle.geo_poly.specs.Inner.Words.{Limits, powers_of_word, word_count, word_keys};
 ghost use Rattle.geo_poly.specs.Keys.{IsKeyUnder};
 ghost use Rattle.geo_poly.specs.Polynomials.{IsPolynomial};
 ghost use Rattle.geo_poly.specs.Shared.{IsIndex, terms_of};
