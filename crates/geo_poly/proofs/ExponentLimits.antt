@@ -1,7 +1,7 @@
 -- Limits of exponents: what is added to them, what digits have room for them, and what they bound.
-use Rattle.std.proofs.Common.{◌≡◌, ◌≢◌, ℕ, zero, suc, ◌+◌, ◌-◌, ◌*◌, ◌^◌, ◌<◌, ◌≤◌, max, min, false, cond, Bool, true, inl, inr, ◌⊎◌, ℤ}
+use Rattle.std.proofs.Common.{ap₂, ◌≡◌, ◌≢◌, ℕ, zero, suc, ◌+◌, ◌-◌, ◌*◌, ◌^◌, ◌<◌, ◌≤◌, max, min, false, cond, Bool, true, inl, inr, ◌⊎◌, ℤ}
 use Rattle.std.proofs.Common.{List, [], ◌∷◌, ◌++◌, length}
-use Rattle.std.proofs.Common.{Option, Some, None, get_or, take, refl, sym, ap, subst, ◌∙◌, arith}
+use Rattle.std.proofs.Common.{Option, Some, None, drop, get_or, take, refl, sym, ap, subst, ◌∙◌, arith}
 use Rattle.std.specs.Prelude.{Contains, IfSome, slice_index_or}
 use Rattle.std.specs.List.Sorted.{IsStrictlySortedBy}
 use Rattle.std.specs.Ordering.{is_eq, nat_cmp}
@@ -10,7 +10,7 @@ use Rattle.std.specs.declared.cmp.Ordering.TheVariants.{Less, Equal, Greater}
 use Rattle.std.proofs.Math.Nat.{mul-le-mul_left, mul-le-mul_right}
 use Rattle.std.proofs.lemmas.Bool.{cases_lt}
 use Rattle.std.proofs.lemmas.Cmp.{ranked}
-use Rattle.std.proofs.lemmas.List.{get_or-map, length-map}
+use Rattle.std.proofs.lemmas.List.{drop_more, get_or-map, length-map}
 use Rattle.sparse_lists.specs.SparseLists.{AllKeys, IsCanonical}
 use Rattle.sparse_lists.proofs.Canonical.{amount-append, amount-before}
 use Rattle.sparse_lists.proofs.Merging.{get_or_any}
@@ -407,16 +407,16 @@ pub capped_times : (b g e t : ℕ) → t ≡ max (min e (2 ^ 32 - 1)) 1
     → min (b + g * max 1 e) (2 ^ 32 - 1) ≤ min (b + g * t) (2 ^ 32 - 1)
 capped_times b g e t is =
     elim (cases_lt (2 ^ 32 - 1) e) [
-      | inl big ↦ by_g g
+      | inl big ↦ by_g big g
       | inr small ↦
           let same : t ≡ max 1 e = omega (arith, is, small) in
           omega (arith, ap (λ (k : ℕ). g * k) same)
     ]
   where
-    by_g : (g : ℕ) → min (b + g * max 1 e) (2 ^ 32 - 1) ≤ min (b + g * t) (2 ^ 32 - 1)
-    by_g zero = omega arith
-    by_g (suc g) =
-        let most : 2 ^ 32 - 1 ≤ t = omega (arith, is) in
+    by_g : 2 ^ 32 - 1 < e → (g : ℕ) → min (b + g * max 1 e) (2 ^ 32 - 1) ≤ min (b + g * t) (2 ^ 32 - 1)
+    by_g big zero = omega arith
+    by_g big (suc g) =
+        let most : 2 ^ 32 - 1 ≤ t = omega (arith, is, big) in
         let once : 1 * t ≤ suc g * t = mul-le-mul_right t (let one : 1 ≤ suc g = omega arith in one) in
         omega (arith, most, once)
 
@@ -451,3 +451,40 @@ others-take rows ps i within =
 pub some_weaker : {X : Type 0} (o : Option X) (P Q : X → Type 0) → ((x : X) → P x → Q x) → IfSome o P → IfSome o Q
 some_weaker None P Q f h = tt
 some_weaker (Some x) P Q f h = f x h
+
+-- others of a list without its last power, which is kept or not
+pub others-next : (rows : List Row) (ps : Powers) (i : ℕ) (o : Option Row) (stay : Powers) → i < length ps → o ≡ row_of rows (power_at ps i).0
+    → stay ≡ others rows (take i ps) → stay ++ kept o (power_at ps i) [] ≡ others rows (take (i + 1) ps)
+others-next rows ps i o stay within found is =
+    ap₂ (λ (s : Powers) (r : Option Row). s ++ kept r (power_at ps i) []) is found ∙ sym (others-take rows ps i within)
+
+-- the exponents from a place on, by the power there
+exponent-drop : (v : Var) (ps : Powers) (i : ℕ) (p : Var × ℕ) → i < length ps
+    → exponent v (drop i ps) ≡ exponent_of v (slice_index_or ps i p).0 (slice_index_or ps i p).1 + exponent v (drop (i + 1) ps)
+exponent-drop v ps i p within = ap (exponent v) (drop_more ps i p within)
+
+-- the exponent that a power has of a variable, by whether they are equal
+exponent-ordered : (v w : Var) (e : ℕ) (o : Ordering) → var_cmp w v ≡ o → exponent_of v w e ≡ cond (is_eq o) e 0
+exponent-ordered v w e Less a = ap (λ (o : Ordering). cond (is_eq o) e 0) (var_order.flip w v a)
+exponent-ordered v w e Greater a = ap (λ (o : Ordering). cond (is_eq o) e 0) (var_order.flip_back w v a)
+exponent-ordered v w e Equal a =
+    ap (λ (x : Var). cond (is_eq (var_cmp v x)) e 0) (var_order.exact w v a) ∙ ap (λ (o : Ordering). cond (is_eq o) e 0) (var_order.self v)
+
+-- the sum of the exponents from a place on, by the test of the power there
+pub exponent-step : (v : Var) (ps : Powers) (i total : ℕ) (p : Var × ℕ) (b : Bool) → i < length ps → p ≡ slice_index_or ps i p
+    → b ≡ is_eq (var_cmp p.0 v) → min (total + exponent v (drop i ps)) (2 ^ 32 - 1)
+    ≡ min (cond b (min (total + p.1) (2 ^ 32 - 1)) total + exponent v (drop (i + 1) ps)) (2 ^ 32 - 1)
+exponent-step v ps i total p b within at is = go b (ap (λ (c : Bool). cond c p.1 0) (sym is))
+  where
+    whole : exponent v (drop i ps) ≡ exponent_of v p.0 p.1 + exponent v (drop (i + 1) ps)
+    whole = ap (exponent v) (drop_more ps i p within)
+        ∙ ap (λ (x : Var × ℕ). exponent_of v x.0 x.1 + exponent v (drop (i + 1) ps)) (sym at)
+
+    here : exponent_of v p.0 p.1 ≡ cond (is_eq (var_cmp p.0 v)) p.1 0
+    here = exponent-ordered v p.0 p.1 (var_cmp p.0 v) refl
+
+    go : (b : Bool) → cond (is_eq (var_cmp p.0 v)) p.1 0 ≡ cond b p.1 0
+        → min (total + exponent v (drop i ps)) (2 ^ 32 - 1)
+        ≡ min (cond b (min (total + p.1) (2 ^ 32 - 1)) total + exponent v (drop (i + 1) ps)) (2 ^ 32 - 1)
+    go true e = omega (arith, whole, here, e)
+    go false e = omega (arith, whole, here, e)

@@ -120,8 +120,7 @@ fn numbered_exponents(alloc: Global, p: &Shared) -> Result<Vec<u32>, NoMemory>
     ensures greatest { IfOk result (λ numbers. AreGreatest (count p.now.monos.now)
         (length p.now.vars.now) p.now.monos.now numbers.items) }
 {
-    let mut greatest = Vec::new(alloc);
-    greatest.resize(p.vars.len(), 0)?;
+    let mut greatest = no_limits(alloc, p.vars)?;
     for k in 0..p.monos.links() {
         raise_by(&mut greatest, p, MonoId(k + 1));
     }

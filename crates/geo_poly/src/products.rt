@@ -149,7 +149,7 @@ fn product(alloc: Global, p: &Shared, q: &Shared) -> Result<Poly, NoMemory>
     }
     let vars = union(alloc, p.vars, q.vars)?;
     match product_digits(alloc, vars.as_slice(), p, q)? {
-        Some(words) => packed_product(alloc, vars, words, p, q),
+        Some(words) => packed_product::<Brand>(alloc, vars, words, p, q, Blank::new(1)),
         None => stored_product(alloc, vars, p, q),
     }
 }
@@ -170,13 +170,17 @@ fn stored_product(alloc: Global, vars: Vars, p: &Shared, q: &Shared) -> Result<P
 }
 
 /// The product, which fits, by words that have room for it.
-fn packed_product(
+fn packed_product<L: Ledger>(
     alloc: Global,
     vars: Vars,
     mut words: Digits,
     p: &Shared,
     q: &Shared,
+    blank: Blank,
 ) -> Result<Poly, NoMemory>
+    requires name { blank.name ≡ L.name }
+    requires parts { blank.parts ≡ L.parts }
+    requires some { 0 < blank.parts }
     requires rising { IsStrictlySortedBy var_cmp vars }
     requires left { AreParts p.now }
     requires right { AreParts q.now }
@@ -189,7 +193,7 @@ fn packed_product(
 {
     let mut arena = Arena::new(alloc)?;
     let names = vars.as_slice();
-    let mut ticks = Ticks::<Brand>::new(Blank::new(1));
+    let mut ticks = Ticks::<L>::new(blank);
     let chain = keyed_product(alloc, &mut words, &mut arena, names, p, q, &mut ticks)?;
     Poly::from_words(alloc, vars, &words, arena, chain)
 }

@@ -1,4 +1,6 @@
-use Rattle.std.proofs.Common.{ℕ, ◌+◌, ◌*◌, max, take, ap, arith, ◌∙◌}
+use Rattle.std.proofs.Common.{ℕ, List, ◌+◌, ◌*◌, max, take, ap, arith, ◌∙◌}
+use Rattle.std.proofs.lemmas.List.{take_all}
+use Rattle.geo_poly.specs.declared.replacement.Row.{Row}
 use Rattle.geo_poly.specs.declared.variables.Var.{Var}
 use Rattle.geo_poly.specs.Inner.Keyed.{greatest_exponent}
 use Rattle.geo_poly.specs.Inner.Limits.{exponents_of_rows}
@@ -23,3 +25,10 @@ loop-row-preserved c = λ bound h.
     (AreLimits-less vars _ (λ v. so_far v + greatest_exponent v r.num.poly * t) limits
     (λ v. omega (arith, ap (λ (q : Summands). greatest_exponent v q * t) c.shared.ensures.terms))
     (c.in_ok-add_polynomial.ensures so_far (c.loop-row.invariant bound h)))
+
+pub returns : goal.returns
+returns c = λ bound h.
+    let own = c.args.own.now in
+    AreLimits-less c.args.vars.now _ _ c.loop-row.limits.items
+    (λ v. omega (arith, ap (λ (rs : List Row). exponents_of_rows v rs own) (take_all c.loop-row.row-index c.args.rows.now (omega arith))))
+    (c.loop-row.invariant bound h)

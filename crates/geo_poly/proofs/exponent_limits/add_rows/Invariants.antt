@@ -5,5 +5,5 @@ use Rattle.geo_poly.proofs.exponent_limits.add_rows.Given as goal
 
 abbrev pub invariant-loop-row : goal.invariant-loop-row
 invariant-loop-row l =
-    (bound : Var → ℕ) → AreLimits l.vars bound l.initial.limits.items.items
+    (bound : Var → ℕ) → AreLimits l.vars bound l.initial.limits.items
     → AreLimits l.vars (λ v. bound v + exponents_of_rows v (take l.row-index l.rows) l.own) l.limits.items
