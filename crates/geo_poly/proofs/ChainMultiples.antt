@@ -11,9 +11,9 @@ use Rattle.mono_store.specs.Monomials.{Powers as NumberedPowers, degree_of as nu
 use Rattle.poly_arena.specs.Chains.{Pairs}
 use Rattle.geo_poly.specs.declared.variables.Var.{Var}
 use Rattle.geo_poly.specs.Chained.{keyed_terms_under}
-use Rattle.geo_poly.specs.Inner.Keyed.{AreInReach, IsInReach, IsIndexUnder, KeepsKeys, greatest_exponent, term_under, terms_under}
+use Rattle.geo_poly.specs.Inner.Keyed.{AreInReach, IsInReach, IsIndexUnder, KeepsKeys, term_under, terms_under}
 use Rattle.geo_poly.specs.Keys.{IsKeyUnder, Keys}
-use Rattle.geo_poly.specs.Monomials.{Powers, degree_of, exponent, product}
+use Rattle.geo_poly.specs.Monomials.{Powers, degree_of, product}
 use Rattle.geo_poly.specs.Polynomials.{CanMultiply, Summands, multiples, norm_of}
 use Rattle.geo_poly.specs.Shared.{AllPlaces, Indices, named}
 use Rattle.geo_poly.specs.Variables.{var_cmp}

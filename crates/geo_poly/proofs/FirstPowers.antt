@@ -1,5 +1,5 @@
 -- The first power of a word: the highest digit that is not 0, and what is below that digit.
-use Rattle.std.proofs.Common.{◌≡◌, ℕ, zero, suc, ◌+◌, ◌*◌, ◌/◌, ◌%◌, ◌^◌, ◌<◌, ◌≤◌, Bool, ltb, true, false, inl, inr, List, [], ◌∷◌, drop, length}
+use Rattle.std.proofs.Common.{◌≡◌, ℕ, zero, suc, ◌+◌, ◌/◌, ◌%◌, ◌<◌, ◌≤◌, Bool, ltb, true, false, inl, inr, List, [], ◌∷◌, drop, length}
 use Rattle.std.proofs.Common.{refl, sym, ap, subst, ◌∙◌, arith}
 use Rattle.std.specs.Prelude.{slice_index_or}
 use Rattle.std.specs.List.{AllWithin}
@@ -10,10 +10,10 @@ use Rattle.std.proofs.lemmas.List.{drop_all, length-map}
 use Rattle.std.proofs.lemmas.Nat.{div-add-mod', div_below, le-div, mod_below}
 use Rattle.sparse_lists.specs.SparseLists.{put}
 use Rattle.sparse_lists.proofs.Merging.{get_or_any}
-use Rattle.mono_store.specs.Monomials.{ComesFirst, Powers, exponents}
+use Rattle.mono_store.specs.Monomials.{ComesFirst, exponents}
 use Rattle.geo_poly.specs.declared.words.Digit.{Digit}
 use Rattle.geo_poly.specs.Inner.Words.{AreDigits, Limits, count_from, digit_limits, limit, powers_from, powers_of_word, word, word_count}
-use Rattle.geo_poly.proofs.DigitLists.{ComesFirst-powers_from, IsDigit, IsDigit-at, powers_from-step}
+use Rattle.geo_poly.proofs.DigitLists.{ComesFirst-powers_from, IsDigit-at, powers_from-step}
 use Rattle.geo_poly.proofs.WordInstance.{power_before-powers}
 use Rattle.geo_poly.proofs.WordOrder.{count_from-le, count_from-some, count_from-step, word-cons}
 

@@ -1,5 +1,5 @@
 -- Nested sums: what terms share is multiplied in after they are added.
-use Rattle.std.proofs.Common.{◌≡◌, ℕ, zero, suc, ◌+◌, ◌-◌, ◌^◌, ◌<◌, ◌≤◌, List, [], ◌∷◌, ◌++◌, drop, length, map, refl, sym, ap, ap₂, ◌∙◌, take, unsigned_abs, arith}
+use Rattle.std.proofs.Common.{◌≡◌, ℕ, ◌+◌, ◌-◌, ◌^◌, ◌<◌, ◌≤◌, List, [], ◌∷◌, ◌++◌, drop, length, map, refl, sym, ap, ap₂, ◌∙◌, take, unsigned_abs, arith}
 use Rattle.std.specs.Prelude.{All}
 use Rattle.std.proofs.lemmas.List.{drop-drop, map-append, take-append-drop}
 use Rattle.std.proofs.lemmas.List.Elements.{All-cons, All-head, All-nil, All-tail}
@@ -22,7 +22,7 @@ use Rattle.geo_poly.specs.Monomials.{Powers, degree_of, exponent}
 use Rattle.geo_poly.specs.Polynomials.{Summands, coefficients, norm_of, polynomial_of, sum_of, term_cmp, total_degree}
 use Rattle.geo_poly.specs.Replace.{others}
 use Rattle.geo_poly.specs.Shared.{told, told_powers}
-use Rattle.geo_poly.proofs.FactoredTerms.{AllGood, AllGoodTerms, AllWithin, IsGood, degree_with-append, degree_with-is, factored_count}
+use Rattle.geo_poly.proofs.FactoredTerms.{AllGood, AllGoodTerms, AllWithin, degree_with-append, degree_with-is, factored_count}
 use Rattle.geo_poly.proofs.FactoredTerms.{length-sum-le, norm_of-sum-le, products_with-mono, shared_products, shared_terms, shared_weight}
 use Rattle.geo_poly.proofs.FactoredTerms.{sum_of_parts, total_degree-sum-le, weight_with-grows, weight_with-mono, with_pieces}
 use Rattle.geo_poly.proofs.GoodPieces.{good_pieces}

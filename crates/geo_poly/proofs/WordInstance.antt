@@ -1,5 +1,5 @@
 -- What words promise as keys of chains: powers put before a word, products within limits, and merges in the order of words.
-use Rattle.std.proofs.Common.{◌≡◌, ℕ, ◌+◌, ◌-◌, ◌*◌, ◌^◌, ◌<◌, ◌≤◌, eqb, false, cond, ℤ, List, [], ◌∷◌, ◌++◌, length, map, refl, sym, ap, ap₂, subst}
+use Rattle.std.proofs.Common.{◌≡◌, ℕ, ◌+◌, ◌^◌, ◌<◌, ◌≤◌, eqb, false, cond, ℤ, [], ◌∷◌, ◌++◌, map, refl, sym, ap, subst}
 use Rattle.std.proofs.Common.{◌∙◌, arith}
 use Rattle.std.specs.Ordering.{flip_args, is_eq, nat_cmp}
 use Rattle.std.specs.declared.cmp.Ordering.{Ordering}
@@ -9,7 +9,7 @@ use Rattle.sparse_lists.specs.SparseLists.{AllKeys, IsBefore, IsCanonical, canon
 use Rattle.sparse_lists.proofs.Canonical.{IsCanonical-canonical, amount-before}
 use Rattle.sparse_lists.proofs.NaturalAmounts.{natural_order}
 use Rattle.sparse_lists.proofs.Sums.{AllKeys-append}
-use Rattle.mono_store.specs.Monomials.{ComesFirst, Powers, exponent, exponents, monomial_cmp, product}
+use Rattle.mono_store.specs.Monomials.{ComesFirst, Powers, exponent, exponents, product}
 use Rattle.mono_store.proofs.Numbers.{exponents_add}
 use Rattle.mono_store.proofs.Products.{IsBefore-first}
 use Rattle.poly_arena.specs.Chains.{Pairs}

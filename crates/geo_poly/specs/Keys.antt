@@ -1,5 +1,5 @@
 -- Keys that stand for monomials in numbered variables. The indices of a store are such keys.
-use Rattle.std.specs.Prelude.{◌≡◌, ℕ, ◌<◌, ◌≤◌, Option, None, List, length}
+use Rattle.std.specs.Prelude.{ℕ, ◌<◌, Option, None, List, length}
 use Rattle.sparse_lists.specs.SparseLists.{AllKeys}
 use Rattle.mono_store.specs.Monomials.{Powers as NumberedPowers}
 use Rattle.mono_store.specs.Stores.{Links, count, monomial_of}

@@ -1,5 +1,5 @@
 -- A polynomial over a store of monomials in numbered variables: the number of a variable is its place in a list of variables.
-use Rattle.std.specs.Prelude.{ℕ, ◌<◌, ℤ, List, map, length, slice_index_or}
+use Rattle.std.specs.Prelude.{ℕ, ◌<◌, ℤ, List, map, slice_index_or}
 use Rattle.std.specs.List.Sorted.{IsStrictlySortedBy}
 use Rattle.sparse_lists.specs.SparseLists.{AllKeys}
 use Rattle.mono_store.specs.declared.links.MonoId.{MonoId}

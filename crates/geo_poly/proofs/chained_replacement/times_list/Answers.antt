@@ -4,7 +4,7 @@ use Rattle.std.proofs.lemmas.Int.{to_z-of_z}
 use Rattle.std.proofs.lemmas.Result.{IfOk-weaker}
 use Rattle.geo_poly.specs.Chained.{StandsUnder, keyed_terms_under}
 use Rattle.geo_poly.specs.Polynomials.{CanMultiply, Summands, multiples, product_of}
-use Rattle.geo_poly.specs.Inner.Keyed.{AreInReach, term_under, terms_under}
+use Rattle.geo_poly.specs.Inner.Keyed.{term_under, terms_under}
 use Rattle.geo_poly.proofs.ProductLaws.{product_of_one}
 use Rattle.geo_poly.proofs.chained_replacement.times_list.Goals as goal
 

@@ -1,4 +1,4 @@
-use Rattle.std.proofs.Common.{List, ℕ, ◌+◌, ◌*◌, max, sym, ap, ap₂, subst, ◌∙◌, arith}
+use Rattle.std.proofs.Common.{List, ℕ, ◌*◌, sym, ap, ap₂, subst, ◌∙◌, arith}
 use Rattle.geo_poly.specs.declared.replacement.Row.{Row}
 use Rattle.geo_poly.specs.declared.variables.Var.{Var}
 use Rattle.geo_poly.specs.Inner.Keyed.{greatest_exponent}

@@ -1,4 +1,4 @@
-use Rattle.std.proofs.Common.{◌≡◌, ◌++◌, [], ap, sym, ◌∙◌}
+use Rattle.std.proofs.Common.{ap, sym, ◌∙◌}
 use Rattle.std.proofs.lemmas.List.{append-nil}
 use Rattle.geo_poly.proofs.ExponentLimits.{others-next}
 use Rattle.geo_poly.proofs.exponent_limits.without_rows.Goals as goal

@@ -1,4 +1,4 @@
-use Rattle.std.proofs.Common.{List, sym, subst, arith}
+use Rattle.std.proofs.Common.{sym, subst, arith}
 use Rattle.mono_store.specs.Monomials.{ComesFirst}
 use Rattle.geo_poly.proofs.UnpackedWords.{IsStoredWord-one, part-first, part-some}
 use Rattle.geo_poly.proofs.unpacking.stored_term.Goals as goal

@@ -1,7 +1,6 @@
 use Rattle.std.proofs.Common.{◌≡◌, List, sym, ap, subst, ◌∙◌}
 use Rattle.std.proofs.lemmas.Result.{IfOk-weaker}
 use Rattle.sparse_lists.specs.SparseLists.{AllKeys}
-use Rattle.poly_arena.specs.Chains.{Pairs, pairs_of}
 use Rattle.geo_poly.specs.declared.variables.Var.{Var}
 use Rattle.geo_poly.specs.Chained.{keyed_terms_under}
 use Rattle.geo_poly.specs.Inner.Words.{word_keys}

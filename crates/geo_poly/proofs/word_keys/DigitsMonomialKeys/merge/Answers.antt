@@ -1,4 +1,4 @@
-use Rattle.std.proofs.Common.{sym, subst}
+use Rattle.std.proofs.Common.{subst}
 use Rattle.poly_arena.specs.Chains.{Merges, Pairs, pairs_of}
 use Rattle.geo_poly.proofs.WordInstance.{words-below, words-fall, words-sum}
 use Rattle.geo_poly.proofs.word_keys.DigitsMonomialKeys.merge.Goals as goal

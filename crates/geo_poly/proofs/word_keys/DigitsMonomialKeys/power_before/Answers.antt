@@ -1,4 +1,4 @@
-use Rattle.std.proofs.Common.{◌≡◌, ℕ, ◌+◌, ◌<◌, ◌∷◌, sym, ap, subst, ◌∙◌, arith}
+use Rattle.std.proofs.Common.{ℕ, ◌+◌, ◌<◌, sym, ap, subst, ◌∙◌, arith}
 use Rattle.geo_poly.specs.Inner.Words.{powers_of_word, word_count}
 use Rattle.geo_poly.proofs.WordInstance.{power_before-below, power_before-powers}
 use Rattle.geo_poly.proofs.word_keys.DigitsMonomialKeys.power_before.Goals as goal
