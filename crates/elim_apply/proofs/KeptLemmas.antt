@@ -1,0 +1,35 @@
+-- Rows that are kept.
+use Rattle.std.proofs.Common.{◌≡◌, ℕ, ◌<◌, Option, Some, None, List, get_or, length, set, refl, sym, ap, subst, ◌∙◌}
+use Rattle.std.specs.Prelude.{All, IfSome, IsSomeAnd, slice_get}
+use Rattle.std.specs.Option.{option_map}
+use Rattle.std.proofs.lemmas.List.Elements.{All-push, All-set}
+use Rattle.std.proofs.lemmas.Option.{get_or_from_slice_get, slice_get_within}
+use Rattle.fraction_poly.specs.declared.drafts.RowDraft.{RowDraft}
+use Rattle.fraction_poly.specs.Forms.{piece_of}
+use Rattle.fraction_poly.specs.Inner.Drafts.{row_of_draft}
+use Rattle.fraction_poly.specs.TableRows.{RowFits, TableRow, made_row}
+use Rattle.geo_poly.specs.declared.replacement.Piece.{Piece}
+use Rattle.geo_poly.specs.declared.replacement.Row.{Row}
+use Rattle.geo_poly.specs.declared.variables.Var.{Var}
+use Rattle.geo_terms.specs.Constructions.{Construction}
+use Rattle.geo_terms.specs.Stores.{Store}
+use Rattle.geo_logs.specs.declared.moves.Move.{Move}
+use Rattle.elim_apply.specs.declared.kept_row.KeptRow.{KeptRow}
+use Rattle.elim_apply.specs.Kept.{IsKept}
+use Rattle.elim_apply.specs.LemmaTable.{lemma_table, row_of_move}
+use Rattle.elim_apply.proofs.TableCharges.{denominators_agree}
+
+module _ (c : Construction) (move : Move) (v : Var) (t : TableRow) (is : row_of_move c move v ≡ Some t) where
+  -- what is made of the row is the row of the table, over its denominator
+  pub made_is : (r : Row) → r ≡ (made_row v t).0 → lemma_table.row c move v ≡ Some r
+  made_is r e = ap (option_map (λ t. (made_row v t).0)) is ∙ ap (λ (r : Row). let o : Option Row = Some r in o) (sym e)
+
+  pub den_is : (f : Piece) → f ≡ piece_of t.den → f ≡ lemma_table.denominator c move
+  den_is f e = e ∙ ap piece_of (denominators_agree c move v t is).0
+
+  pub row_fits : IsSomeAnd (row_of_move c move v) RowFits → RowFits t
+  row_fits h = subst (λ (o : Option TableRow). IsSomeAnd o RowFits) is h
+
+-- the kept row at a place
+pub kept_at : (c : Construction) (rows : List KeptRow) (i : ℕ) (kept : KeptRow) → slice_get rows i ≡ Some kept → All (IsKept c) rows → IsKept c kept
+kept_at c rows i kept at all = subst (IsKept c) (get_or_from_slice_get rows i kept kept at) (all i kept (slice_get_within rows i kept at))
