@@ -187,8 +187,7 @@ impl KnownRows {
 }
 
 /// A number that mostly differs where the move or the variable does.
-fn key(mv: &Move, var: Var) -> u64
-{
+fn key(mv: &Move, var: Var) -> u64 {
     let of_move = match *mv {
         Move::Ratio { lemma, at, .. } => packed([1, lemma, at.0, 0]),
         Move::Point(at) => packed([0, 0, at.0, 1]),
@@ -205,15 +204,13 @@ fn key(mv: &Move, var: Var) -> u64
 }
 
 /// The four numbers in one, where each is less than 1024.
-fn packed(numbers: [u32; 4]) -> u64
-{
+fn packed(numbers: [u32; 4]) -> u64 {
     let [a, b, c, d] = numbers;
     let (high, low) = (pair(a, b), pair(c, d));
     high.wrapping_mul(1_048_576).wrapping_add(low)
 }
 
 /// Two numbers in one.
-fn pair(a: u32, b: u32) -> u64
-{
+fn pair(a: u32, b: u32) -> u64 {
     (a as u64).wrapping_mul(1024).wrapping_add(b as u64)
 }

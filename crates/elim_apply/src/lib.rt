@@ -19,7 +19,7 @@ mod variables;
 
 pub use applying::{apply, apply_known};
 pub use errors::ApplyError;
-pub use kept_rows::KnownRows;
 pub use geo_logs::{Move, Replacement, RowList};
+pub use kept_rows::KnownRows;
 pub use replacing::replacement_of;
 pub use starting::start;
