@@ -1,5 +1,5 @@
 -- Rows that are kept.
-use Rattle.std.proofs.Common.{◌≡◌, ℕ, ◌<◌, Option, Some, None, List, get_or, length, set, refl, sym, ap, subst, ◌∙◌}
+use Rattle.std.proofs.Common.{◌≡◌, ℕ, ◌<◌, Option, Some, None, List, get_or, length, set, refl, sym, ap, ap₂, subst, ◌∙◌}
 use Rattle.std.specs.Prelude.{All, IfSome, IsSomeAnd, slice_get}
 use Rattle.std.specs.Option.{option_map}
 use Rattle.std.proofs.lemmas.List.Elements.{All-push, All-set}
@@ -33,3 +33,17 @@ module _ (c : Construction) (move : Move) (v : Var) (t : TableRow) (is : row_of_
 -- the kept row at a place
 pub kept_at : (c : Construction) (rows : List KeptRow) (i : ℕ) (kept : KeptRow) → slice_get rows i ≡ Some kept → All (IsKept c) rows → IsKept c kept
 kept_at c rows i kept at all = subst (IsKept c) (get_or_from_slice_get rows i kept kept at) (all i kept (slice_get_within rows i kept at))
+
+module _ (c : Construction) (kept : KeptRow) (k : IsKept c kept) where
+  -- what is put into it or taken out
+  pub with_made : (o : Option Row) → IfSome o (λ r. lemma_table.row c kept.mv kept.var ≡ Some r)
+      → IsKept c (record { mv = kept.mv; var = kept.var; draft = kept.draft; numbers = kept.numbers; made = o; den = kept.den })
+  with_made o h = record { row = k.row; stored = k.stored; numbers = k.numbers; made = h; den = k.den }
+
+  pub with_den : (o : Option Piece) → IfSome o (λ f. f ≡ lemma_table.denominator c kept.mv)
+      → IsKept c (record { mv = kept.mv; var = kept.var; draft = kept.draft; numbers = kept.numbers; made = kept.made; den = o })
+  with_den o h = record { row = k.row; stored = k.stored; numbers = k.numbers; made = k.made; den = h }
+
+  -- the row of the same move and variable
+  pub its_row : (move : Move) (v : Var) (o : Option Row) → kept.mv ≡ move → kept.var ≡ v → lemma_table.row c move v ≡ o → lemma_table.row c kept.mv kept.var ≡ o
+  its_row move v o m e h = ap₂ (λ (m : Move) (v : Var). lemma_table.row c m v) m e ∙ h

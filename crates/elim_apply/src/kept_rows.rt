@@ -170,9 +170,10 @@ impl KnownRows {
         ensures { (c : Construction) → AreKnownRows c self.old → IsRowOf c mv.now row
             → AreKnownRows c self.new }
     {
-        if let Some(i) = self.place(mv, row.var) {
-            self.rows[i].made = Some(row);
-        }
+        let Some(i) = self.place(mv, row.var) else {
+            return;
+        };
+        self.rows[i].made = Some(row);
     }
 
     /// Takes the denominator back, where it was that of the row of the variable.
@@ -180,9 +181,10 @@ impl KnownRows {
         ensures { (c : Construction) → AreKnownRows c self.old
             → den ≡ lemma_table.denominator c mv.now → AreKnownRows c self.new }
     {
-        if let Some(i) = self.place(mv, var) {
-            self.rows[i].den = Some(den);
-        }
+        let Some(i) = self.place(mv, var) else {
+            return;
+        };
+        self.rows[i].den = Some(den);
     }
 }
 
