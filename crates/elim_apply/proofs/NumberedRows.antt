@@ -47,7 +47,7 @@ all_some {A} (x ∷ xs) [] e = absurd (let z : ◌≡◌ {A = List (Option A)} (
 all_some {A} (x ∷ xs) (y ∷ ys) e =
     let z : ◌≡◌ {A = List (Option A)} (Some x ∷ map Some xs) (Some y ∷ map Some ys) = e in
     let left : map Some xs ≡ map Some ys = cc in
-    let first : x ≡ y = cc in ap₂ (λ (a : A) (as : List A). a ∷ as) first (all_some xs ys left)
+    let first : x ≡ y = cc in ap₂ (λ (a : A) (rest : List A). a ∷ rest) first (all_some xs ys left)
 
 module _ (c : Construction) (move : Move) where
   abbrev row : Var → Option Row
