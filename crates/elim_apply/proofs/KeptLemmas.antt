@@ -5,9 +5,10 @@ use Rattle.std.specs.Option.{option_map}
 use Rattle.std.proofs.lemmas.List.Elements.{All-push, All-set}
 use Rattle.std.proofs.lemmas.Option.{get_or_from_slice_get, slice_get_within}
 use Rattle.fraction_poly.specs.declared.drafts.RowDraft.{RowDraft}
+use Rattle.fraction_poly.specs.declared.table.RowNumbers.{RowNumbers}
 use Rattle.fraction_poly.specs.Forms.{piece_of}
-use Rattle.fraction_poly.specs.Inner.Drafts.{row_of_draft}
-use Rattle.fraction_poly.specs.TableRows.{RowFits, TableRow, made_row}
+use Rattle.fraction_poly.specs.Inner.Drafts.{HasItsNumbers, row_of_draft}
+use Rattle.fraction_poly.specs.TableRows.{RowFits, TableRow, made_row, row_numbers}
 use Rattle.geo_poly.specs.declared.replacement.Piece.{Piece}
 use Rattle.geo_poly.specs.declared.replacement.Row.{Row}
 use Rattle.geo_poly.specs.declared.variables.Var.{Var}
@@ -47,3 +48,28 @@ module _ (c : Construction) (kept : KeptRow) (k : IsKept c kept) where
   -- the row of the same move and variable
   pub its_row : (move : Move) (v : Var) (o : Option Row) → kept.mv ≡ move → kept.var ≡ v → lemma_table.row c move v ≡ o → lemma_table.row c kept.mv kept.var ≡ o
   its_row move v o m e h = ap₂ (λ (m : Move) (v : Var). lemma_table.row c m v) m e ∙ h
+
+  pub its_fit : (move : Move) (v : Var) → kept.mv ≡ move → kept.var ≡ v → IsSomeAnd (row_of_move c move v) RowFits → IsSomeAnd (row_of_move c kept.mv kept.var) RowFits
+  its_fit move v m e = subst (λ (o : Option TableRow). IsSomeAnd o RowFits) (sym (ap₂ (row_of_move c) m e))
+
+  pub its_numbers : (move : Move) (v : Var) → kept.mv ≡ move → kept.var ≡ v → Some kept.numbers ≡ option_map row_numbers (row_of_move c move v)
+  its_numbers move v m e =
+      ap (λ (n : RowNumbers). let o : Option RowNumbers = Some n in o) k.numbers ∙ sym (ap (option_map row_numbers) k.row)
+      ∙ ap₂ (λ (m : Move) (v : Var). option_map row_numbers (row_of_move c m v)) m e
+
+-- a row that is drafted
+module _ (c : Construction) (move : Move) (v : Var) (o : Option RowDraft) (is : option_map (row_of_draft c.nodes) o ≡ row_of_move c move v) where
+  pub drafted : (draft : RowDraft) → o ≡ Some draft → row_of_move c move v ≡ Some (row_of_draft c.nodes draft)
+  drafted draft e = sym is ∙ ap (option_map (row_of_draft c.nodes)) e
+
+  pub drafted_numbers : (draft : RowDraft) → o ≡ Some draft → (n : RowNumbers) → n ≡ row_numbers (row_of_draft c.nodes draft)
+      → Some n ≡ option_map row_numbers (row_of_move c move v)
+  drafted_numbers draft e n h =
+      ap (λ (n : RowNumbers). let o : Option RowNumbers = Some n in o) h ∙ sym (ap (option_map row_numbers) (drafted draft e))
+
+  pub drafted_kept : (draft : RowDraft) → o ≡ Some draft → HasItsNumbers c.nodes draft → (n : RowNumbers) → n ≡ row_numbers (row_of_draft c.nodes draft)
+      → IsKept c (record { mv = move; var = v; draft = draft; numbers = n; made = None; den = None })
+  drafted_kept draft e stored n h = record { row = drafted draft e; stored = stored; numbers = h; made = tt; den = tt }
+
+  pub undrafted : o ≡ None → option_map row_numbers (row_of_move c move v) ≡ None
+  undrafted e = ap (option_map row_numbers) (sym is ∙ ap (option_map (row_of_draft c.nodes)) e)
