@@ -84,14 +84,14 @@ module _ (c : Construction) (move : Move) where
       → numbered_row c move v ≡ Some (record { var = v; numbers = n })
   numbered_some v n o is some = go (row_of_move c move v) (sym is ∙ some)
     where
-      go : (t : Option TableRow) → option_map row_numbers t ≡ Some n → option_map {B = NumberedRow} (λ t. record { var = v; numbers = row_numbers t }) t ≡ Some (record { var = v; numbers = n })
+      go : (t : Option TableRow) → option_map row_numbers t ≡ Some n → option_map {U = NumberedRow} (λ t. record { var = v; numbers = row_numbers t }) t ≡ Some (record { var = v; numbers = n })
       go None e = absurd (let z : ◌≡◌ {A = Option RowNumbers} None (Some n) = e in cc)
       go (Some t) e = let same : row_numbers t ≡ n = cc in ap (λ (n : RowNumbers). let r : Option NumberedRow = Some (record { var = v; numbers = n }) in r) same
 
   pub numbered_none : (v : Var) (o : Option RowNumbers) → o ≡ option_map row_numbers (row_of_move c move v) → o ≡ None → numbered_row c move v ≡ None
   numbered_none v o is none = go (row_of_move c move v) (sym is ∙ none)
     where
-      go : (t : Option TableRow) → option_map row_numbers t ≡ None → option_map {B = NumberedRow} (λ t. record { var = v; numbers = row_numbers t }) t ≡ None
+      go : (t : Option TableRow) → option_map row_numbers t ≡ None → option_map {U = NumberedRow} (λ t. record { var = v; numbers = row_numbers t }) t ≡ None
       go None e = refl
       go (Some t) e = absurd (let z : ◌≡◌ {A = Option RowNumbers} (Some (row_numbers t)) None = e in cc)
 
@@ -222,19 +222,12 @@ module _ {B : Type 0} (f : Var → Option B) (vs : List Var) (i : ℕ) (d : Var)
   pub rows_none : f (get_or vs i d) ≡ None → filter_map f (take (i + 1) vs) ≡ filter_map f (take i vs)
   rows_none e = rows_more ∙ ap (λ (o : Option B). filter_map f (take i vs) ++ cons_option o []) e ∙ append-nil (filter_map f (take i vs))
 
--- one more element's image
-mapped_more : {A B : Type 0} (f : A → B) (xs : List A) (i : ℕ) (x : A) → i < length xs → x ≡ get_or xs i x → map f (take (i + 1) xs) ≡ map f (take i xs) ++ f x ∷ []
-mapped_more {A} {B} f xs i x lt is =
-    ap (map f) (take_more xs i x lt) ∙ map-append f (take i xs) (get_or xs i x ∷ []) ∙ ap (λ (y : A). map f (take i xs) ++ f y ∷ []) (sym is)
-
--- and where it is pushed
-pub mapped_push : {A B : Type 0} (f : A → B) (xs : List A) (i : ℕ) (x : A) → i < length xs → x ≡ get_or xs i x
-    → (before after : List B) (y : B) → after ≡ before ++ y ∷ [] → before ≡ map f (take i xs) → y ≡ f x → after ≡ map f (take (i + 1) xs)
-mapped_push {A} {B} f xs i x lt is before after y pushed images image = pushed ∙ ap₂ (λ (ys : List B) (z : B). ys ++ z ∷ []) images image ∙ sym (mapped_more f xs i x lt is)
-
--- what holds of each element holds of one that is read
-pub read_at : {A : Type 0} (Holds : A → Type 0) (xs : List A) (i : ℕ) (x : A) → i < length xs → x ≡ get_or xs i x → All Holds xs → Holds x
-read_at Holds xs i x lt is all = subst Holds (sym is) (all i x lt)
+-- one more element's image is pushed
+pub mapped_push : {A B : Type 0} (f : A → B) (xs : List A) (i : ℕ) (d : A) → i < length xs
+    → (before after : List B) (y : B) → after ≡ before ++ y ∷ [] → before ≡ map f (take i xs) → y ≡ f (get_or xs i d) → after ≡ map f (take (i + 1) xs)
+mapped_push {A} {B} f xs i d lt before after y pushed images image =
+    pushed ∙ ap₂ (λ (ys : List B) (z : B). ys ++ z ∷ []) images image
+    ∙ sym (ap (map f) (take_more xs i d lt) ∙ map-append f (take i xs) (get_or xs i d ∷ []))
 
 -- a list with elements
 pub some_length : {A : Type 0} (xs : List A) → (xs ≡ [] → ⊥) → 0 < length xs

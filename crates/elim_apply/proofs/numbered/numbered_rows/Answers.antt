@@ -28,5 +28,5 @@ loop-v-preserved c =
             ∙ sym (rows_none (numbered_row steps mv) vs i none c.loop-v-test.true
             (numbered_none steps mv (get_or vs i none) _ c.in_ok-row_numbers.ensures.numbers w.in_default.is))
       ];
-      known = ?;
+      known = c.in_ok-row_numbers.ensures.known;
     }
