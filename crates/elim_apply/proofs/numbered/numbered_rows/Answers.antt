@@ -22,11 +22,11 @@ loop-v-preserved c =
             let n : NumberedRow = record { var = get_or vs i none; numbers = w.in-Some.numbers } in
             ap (λ x. x.items) w.numbered-is ∙ w.in_ok-push.ensures.items ∙ ap (λ (ns : List NumberedRow). ns ++ n ∷ []) c.loop-v.invariant.rows
             ∙ sym (rows_some (numbered_row steps mv) vs i none c.loop-v-test.true n
-            (numbered_some steps mv (get_or vs i none) w.in-Some.numbers _ c.in_ok-row_numbers.ensures.numbers w.in-Some.is))
+            (numbered_some steps mv (get_or vs i none) w.in-Some.numbers _ c.in_ok-numbers.ensures.numbers w.in-Some.is))
         | in_default w ↦
             ap (λ x. x.items) w.numbered-is ∙ c.loop-v.invariant.rows
             ∙ sym (rows_none (numbered_row steps mv) vs i none c.loop-v-test.true
-            (numbered_none steps mv (get_or vs i none) _ c.in_ok-row_numbers.ensures.numbers w.in_default.is))
+            (numbered_none steps mv (get_or vs i none) _ c.in_ok-numbers.ensures.numbers w.in_default.is))
       ];
-      known = c.in_ok-row_numbers.ensures.known;
+      known = c.in_ok-numbers.ensures.known;
     }
