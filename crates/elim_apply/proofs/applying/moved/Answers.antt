@@ -94,7 +94,7 @@ returns-clause-known g c =
     let listed : c.deref.result.now ≡ c.in_ok-rows.rows = search rules in
     let rows : c.deref.result.now ≡ made.rows = line_made steps mv q c.args.rows.now c.requires.rows c.deref.result.now (ap (map Some) listed ∙ c.in_ok-rows.ensures.rows) in
     let den : c.in_ok-rows.den ≡ made.den = c.in_ok-rows.ensures.den in
-    c.put_back.ensures steps c.in_ok-rows.ensures.known (line_own steps mv q c.in_ok-rows.rows (sym listed ∙ rows)) den
+    c.put_back.ensures steps c.in_ok-rows.ensures.known (line_own steps mv q c.args.rows.now c.requires.rows c.in_ok-rows.rows (sym listed ∙ rows)) den
 
 pub returns-clause-ticks : goal.returns-clause-ticks
 returns-clause-ticks g c =
