@@ -1,8 +1,7 @@
 -- Rows that are kept.
-use Rattle.std.proofs.Common.{◌≡◌, ℕ, ◌<◌, Option, Some, None, List, get_or, length, set, refl, sym, ap, ap₂, subst, ◌∙◌}
+use Rattle.std.proofs.Common.{◌≡◌, ℕ, Option, Some, None, List, sym, ap, ap₂, subst, ◌∙◌}
 use Rattle.std.specs.Prelude.{All, IfSome, IsSomeAnd, slice_get}
 use Rattle.std.specs.Option.{option_map}
-use Rattle.std.proofs.lemmas.List.Elements.{All-push, All-set}
 use Rattle.std.proofs.lemmas.Option.{get_or_from_slice_get, slice_get_within}
 use Rattle.fraction_poly.specs.declared.drafts.RowDraft.{RowDraft}
 use Rattle.fraction_poly.specs.declared.table.RowNumbers.{RowNumbers}
@@ -13,7 +12,6 @@ use Rattle.geo_poly.specs.declared.replacement.Piece.{Piece}
 use Rattle.geo_poly.specs.declared.replacement.Row.{Row}
 use Rattle.geo_poly.specs.declared.variables.Var.{Var}
 use Rattle.geo_terms.specs.Constructions.{Construction}
-use Rattle.geo_terms.specs.Stores.{Store}
 use Rattle.geo_logs.specs.declared.moves.Move.{Move}
 use Rattle.elim_apply.specs.declared.kept_row.KeptRow.{KeptRow}
 use Rattle.elim_apply.specs.Kept.{IsKept}

@@ -1,9 +1,8 @@
-use Rattle.std.proofs.Common.{◌≡◌, Some, sym, ap, subst, ◌∙◌}
+use Rattle.std.proofs.Common.{◌≡◌, Some, sym, subst, ◌∙◌}
 use Rattle.std.proofs.lemmas.List.Elements.{All-set}
 use Rattle.std.proofs.lemmas.Option.{get_or_from_slice_get}
 use Rattle.elim_apply.specs.declared.kept_row.KeptRow.{KeptRow}
 use Rattle.elim_apply.specs.Kept.{IsKept}
-use Rattle.elim_apply.specs.LemmaTable.{lemma_table}
 use Rattle.elim_apply.proofs.KeptLemmas.{its_row, kept_at, with_made}
 use Rattle.elim_apply.proofs.kept_rows.KnownRows.put_row.Goals as goal
 
