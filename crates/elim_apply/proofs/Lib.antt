@@ -14,4 +14,5 @@ pub mod FirstRows
 pub mod HandedOn
 pub mod SketchedLines
 pub mod AppliedMoves
-pub mod DraftedLines
+pub mod MadeLines
+pub mod KeptLemmas

@@ -1,35 +1,27 @@
 -- What a loop over the terms of a polynomial knows of the size of a line.
-use Rattle.std.proofs.Common.{◌≡◌, ℕ, ◌+◌, ◌*◌, ◌-◌, ◌^◌, ◌≤◌, min, max, nat_cmp, ℤ, Option, Some, None, List, [], ◌∷◌, refl, sym, ap, ◌∙◌, subst, unsigned_abs, arith}
+use Rattle.std.proofs.Common.{◌≡◌, ℕ, ◌+◌, ◌*◌, ◌-◌, ◌^◌, ◌<◌, ◌≤◌, min, max, length, nat_cmp, ℤ, zero, suc, drop, List, [], ◌∷◌, sym, ap, ◌∙◌, subst, unsigned_abs, arith}
 use Rattle.std.specs.Prelude.{sum_by}
 use Rattle.std.specs.Ordering.{ord_max}
 use Rattle.std.proofs.lemmas.Bool.Decides.{nat_tests}
 use Rattle.std.proofs.lemmas.List.Sums.{sum_by-cons}
 use Rattle.geo_poly.specs.declared.replacement.Row.{Row}
+use Rattle.geo_poly.specs.declared.shared.Shared.{Shared}
 use Rattle.geo_poly.specs.Monomials.{Powers, degree_of}
 use Rattle.geo_poly.specs.Polynomials.{Summands}
-use Rattle.geo_poly.specs.Replace.{degree_bound, degree_rows, denominators, most_denominators, others, replaced_degree, replaced_weight, row_of, term_degree, term_weight, weight_of, weight_rows}
+use Rattle.geo_poly.specs.Replace.{degree_bound, degree_rows, denominators, most_denominators, others, replaced_degree, replaced_weight, term_degree, term_weight, weight_of, weight_rows}
+use Rattle.geo_poly.specs.Shared.{told, told_powers, told_term}
 use Rattle.geo_poly.proofs.Capped.{cap_left, cap_right}
+use Rattle.geo_poly.proofs.Told.{item, told-drop}
 use Rattle.geo_logs.specs.declared.moves.Replacement.{Replacement}
-use Rattle.elim_apply.specs.declared.sizes.Share.{Share}
+use Rattle.elim_apply.specs.declared.shares.Share.{Share}
 use Rattle.geo_logs.specs.Moves.{move_charge, term_charge}
-use Rattle.geo_poly.specs.Counted.{count_row, count_rows, replaced_exponents}
+use Rattle.geo_poly.specs.Counted.{count_rows, replaced_exponents}
 use Rattle.elim_apply.specs.Inner.Sizes.{IsSizeOf as HasSize}
-use Rattle.elim_apply.proofs.LineShares.{IsShare}
+use Rattle.elim_apply.specs.Inner.Shares.{IsShareOf}
+use Rattle.elim_apply.proofs.LineShares.{count_rows-times}
 
 pub greater : (a b : ℕ) → ord_max nat_cmp a b ≡ max a b
 greater a b = grind (arith, nat_tests)
-
-count_rows-times : (rows : List Row) (m : Powers) (k p : ℕ) → count_rows rows m (k * p) ≡ count_rows rows m k * p
-count_rows-times rows [] k p = refl
-count_rows-times rows (v ∷ m) k p = go (row_of rows v.0) (λ j. count_rows-times rows m j p)
-  where
-    swap : (a b c : ℕ) → a * b * c ≡ a * c * b
-    swap a b c = omega arith
-
-    go : (o : Option Row) → ((j : ℕ) → count_rows rows m (j * p) ≡ count_rows rows m j * p)
-        → count_rows rows m (count_row o v.1 (k * p)) ≡ count_rows rows m (count_row o v.1 k) * p
-    go None rest = rest k
-    go (Some r) rest = ap (count_rows rows m) (swap k p (r.num.count ^ v.1)) ∙ rest (k * r.num.count ^ v.1)
 
 -- what the code multiplies
 capped_charge : (rows : List Row) (m : Powers) (a p n : ℕ) → min (a * (min (count_rows rows m 1) n * p)) n ≡ min (a * count_rows rows m p) n
@@ -37,6 +29,23 @@ capped_charge rows m a p n =
     let one : count_rows rows m 1 * p ≡ count_rows rows m p = sym (count_rows-times rows m 1 p) ∙ ap (count_rows rows m) (let e : 1 * p ≡ p = omega arith in e) in
     sym (cap_right a (min (count_rows rows m 1) n * p) n) ∙ ap (λ k. min (a * k) n) (cap_left (count_rows rows m 1) p n ∙ ap (λ k. min k n) one)
     ∙ cap_right a (count_rows rows m p) n
+
+-- a term calls for no more denominators than the one that calls for most
+denominators_among : (rows : List Row) (q : Summands) (i : ℕ) (t : Powers × ℤ) (rest : Summands) → drop i q ≡ t ∷ rest
+    → denominators rows t.0 ≤ most_denominators rows q
+denominators_among rows [] zero t rest e = absurd (cc)
+denominators_among rows [] (suc i) t rest e = absurd (cc)
+denominators_among rows (u ∷ us) zero t rest e =
+    let same : u ≡ t = cc in
+    let here : denominators rows u.0 ≡ denominators rows t.0 = ap (λ (x : Powers × ℤ). denominators rows x.0) same in omega (arith, here)
+denominators_among rows (u ∷ us) (suc i) t rest e = omega (arith, denominators_among rows us i t rest e)
+
+pub within_top : (rows : List Row) (p : Shared) (i k : ℕ) (share : Share) (top : ℕ) → i < length p.list.now
+    → IsShareOf rows (told_powers p (item p.list.now i).0) k share → top ≡ most_denominators rows (told p) → share.denominators ≤ top
+within_top rows p i k share top within is most =
+    let among = denominators_among rows (told p) i (told_term p (item p.list.now i)) (drop (i + 1) (told p)) (told-drop p i within) in
+    let here = is.denominators-are in
+    omega (arith, among, here, most)
 
 -- the numbers of a term over the denominator, from its share
 pub record IsTermSize (made : Replacement) (top : ℕ) (share : Share) (charge weight degree : ℕ) : Type 0 where
@@ -51,7 +60,7 @@ module _ (made : Replacement) (top : ℕ) where
     weight-is : weight ≡ min (term_weight made.rows made.den top t) (2 ^ 128 - 1)
     degree-is : degree ≡ min (term_degree made.rows made.den top t) (2 ^ 128 - 1)
 
-  size_of_term : (t : Powers × ℤ) (share : Share) (charge weight degree : ℕ) → IsShare made.rows t.0 (unsigned_abs t.1) share
+  size_of_term : (t : Powers × ℤ) (share : Share) (charge weight degree : ℕ) → IsShareOf made.rows t.0 (unsigned_abs t.1) share
       → IsTermSize made top share charge weight degree → IsSizeOf t charge weight degree
   size_of_term t share charge weight degree s h =
       let rows = made.rows in
@@ -60,18 +69,18 @@ module _ (made : Replacement) (top : ℕ) where
         charge-is =
             h.charge-is
             ∙ ap (λ d. min ((share.exponents + (top - d) + 1) * (share.count * made.den.count ^ (top - d))) (2 ^ 128 - 1)) s.denominators-are
-            ∙ ap (λ e. min ((e + n + 1) * (share.count * made.den.count ^ n)) (2 ^ 128 - 1)) s.exponents
-            ∙ ap (λ k. min ((replaced_exponents rows t.0 + n + 1) * (k * made.den.count ^ n)) (2 ^ 128 - 1)) s.count
+            ∙ ap (λ e. min ((e + n + 1) * (share.count * made.den.count ^ n)) (2 ^ 128 - 1)) s.exponents-are
+            ∙ ap (λ k. min ((replaced_exponents rows t.0 + n + 1) * (k * made.den.count ^ n)) (2 ^ 128 - 1)) s.count-is
             ∙ capped_charge rows t.0 (replaced_exponents rows t.0 + n + 1) (made.den.count ^ n) (2 ^ 128 - 1);
         weight-is =
             h.weight-is
             ∙ ap (λ d. min (share.weight * made.den.weight ^ (top - d)) (2 ^ 128 - 1)) s.denominators-are
-            ∙ ap (λ k. min (k * made.den.weight ^ n) (2 ^ 128 - 1)) s.weight
+            ∙ ap (λ k. min (k * made.den.weight ^ n) (2 ^ 128 - 1)) s.weight-is
             ∙ cap_left (weight_rows rows t.0 (unsigned_abs t.1)) (made.den.weight ^ n) (2 ^ 128 - 1);
         degree-is =
             h.degree-is
             ∙ ap (λ d. min (share.degree + made.den.degree * (top - d)) (2 ^ 128 - 1)) s.denominators-are
-            ∙ sum share.degree (degree_rows rows t.0 (degree_of (others rows t.0))) (made.den.degree * n) (2 ^ 128 - 1) s.degree;
+            ∙ sum share.degree (degree_rows rows t.0 (degree_of (others rows t.0))) (made.den.degree * n) (2 ^ 128 - 1) s.degree-is;
       }
     where
       sum : (d x y m : ℕ) → d ≡ min x m → min (d + y) m ≡ min (x + y) m
@@ -108,7 +117,7 @@ module _ (made : Replacement) (top : ℕ) where
   most a after one term rest all m p q s = omega (arith, p, q, s)
 
   pub size_more : (start : ℕ) (q : Summands) (t : Powers × ℤ) (left : Summands) (share : Share) (charge weight degree c w d charge' weight' degree' : ℕ)
-      → IsShare made.rows t.0 (unsigned_abs t.1) share → IsTermSize made top share c w d
+      → IsShareOf made.rows t.0 (unsigned_abs t.1) share → IsTermSize made top share c w d
       → charge' ≡ min (charge + c) (2 ^ 128 - 1) → weight' ≡ min (weight + w) (2 ^ 128 - 1) → degree' ≡ max degree d
       → IsSizeSoFar start q (t ∷ left) charge weight degree → IsSizeSoFar start q left charge' weight' degree'
   size_more start q t left share charge weight degree c w d charge' weight' degree' s h ch we de so_far =

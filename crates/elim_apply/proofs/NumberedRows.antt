@@ -4,12 +4,11 @@ use Rattle.std.specs.Prelude.{All, IfSome, IsSomeAnd}
 use Rattle.std.specs.List.{cons_option, filter_map}
 use Rattle.std.specs.Option.{option_map}
 use Rattle.std.proofs.lemmas.List.{append-nil, map-append, take_more}
-use Rattle.std.proofs.lemmas.List.Elements.{All-cons, All-head, All-nil, All-tail, filter_map-append}
-use Rattle.fraction_poly.specs.declared.drafts.RowDraft.{RowDraft}
-use Rattle.fraction_poly.specs.Inner.Drafts.{row_of_draft}
+use Rattle.std.proofs.lemmas.List.Elements.{All-cons, All-nil, filter_map-append}
+use Rattle.fraction_poly.specs.declared.table.RowNumbers.{RowNumbers}
 use Rattle.fraction_poly.specs.Forms.{Form, piece_of}
 use Rattle.fraction_poly.specs.Measures.{capped_number}
-use Rattle.fraction_poly.specs.TableRows.{AreLight, RowFits, TableRow, made_row, row_numbers}
+use Rattle.fraction_poly.specs.TableRows.{AreLight, HasPointsBelow, RowFits, TableRow, made_row, row_numbers}
 use Rattle.fraction_poly.proofs.PieceBounds.{bounded_form}
 use Rattle.fraction_poly.proofs.TableLemmas.{fits_of_numbers}
 use Rattle.geo_poly.specs.declared.replacement.Row.{Row}
@@ -28,10 +27,10 @@ use Rattle.elim_ratio.proofs.RatioSoundness.{ratio_rows_light}
 use Rattle.elim_ratio.specs.RatioTable.{ratio_table}
 use Rattle.geo_logs.specs.declared.moves.Move.{Move}
 use Rattle.geo_logs.specs.declared.moves.Move.TheVariants.{Ratio, Point, Coords}
-use Rattle.elim_apply.specs.declared.drafted.DraftedRow.{DraftedRow}
 use Rattle.elim_apply.specs.declared.numbered.NumberedRow.{NumberedRow}
+use Rattle.elim_apply.specs.Kept.{CanBeMade, IsRowOf}
 use Rattle.elim_apply.specs.LemmaTable.{lemma_table, move_denominator, row_of_move}
-use Rattle.elim_apply.specs.Inner.Sketches.{CanMakeRow, HasNumbers, made_draft, named_draft, named_row, numbered_draft, numbered_row, sketched_denominator, sketches}
+use Rattle.elim_apply.specs.Inner.Sketches.{numbered_row, sketched_denominator, sketches}
 use Rattle.elim_apply.proofs.CappedRows.{capped_piece, capped_row, capped_rows}
 use Rattle.elim_apply.proofs.LemmaTableSound.{by_own, some_of}
 use Rattle.elim_apply.proofs.TableCharges.{denominators_agree}
@@ -40,19 +39,15 @@ each_row : (o : Option TableRow) (Q : TableRow → Type 0) → ((t : TableRow) �
 each_row None Q h = tt
 each_row (Some t) Q h = h t refl
 
-map_map : {A B C : Type 0} (g : B → C) (f : A → B) (xs : List A) → map g (map f xs) ≡ map (λ x. g (f x)) xs
-map_map g f [] = refl
-map_map g f (x ∷ xs) = ap (λ ys. g (f x) ∷ ys) (map_map g f xs)
-
--- what holds of each image holds of the things
-pub unmapped : {A B : Type 0} (f : A → B) (Holds : B → Type 0) (xs : List A) → All Holds (map f xs) → All (λ x. Holds (f x)) xs
-unmapped f Holds [] h = All-nil (λ x. Holds (f x))
-unmapped f Holds (x ∷ xs) h = All-cons (λ x. Holds (f x)) x xs (All-head Holds (f x) (map f xs) h) (unmapped f Holds xs (All-tail Holds (f x) (map f xs) h))
-
-both_all : {A : Type 0} (Holds Also : A → Type 0) (xs : List A) → All Holds xs → All Also xs → All (λ x. Holds x × Also x) xs
-both_all Holds Also [] h g = All-nil (λ x. Holds x × Also x)
-both_all Holds Also (x ∷ xs) h g =
-    All-cons (λ x. Holds x × Also x) x xs (All-head Holds x xs h, All-head Also x xs g) (both_all Holds Also xs (All-tail Holds x xs h) (All-tail Also x xs g))
+-- a list is known by the list of its options
+all_some : {A : Type 0} (xs ys : List A) → map Some xs ≡ map Some ys → xs ≡ ys
+all_some [] [] e = refl
+all_some {A} [] (y ∷ ys) e = absurd (let z : ◌≡◌ {A = List (Option A)} [] (Some y ∷ map Some ys) = e in cc)
+all_some {A} (x ∷ xs) [] e = absurd (let z : ◌≡◌ {A = List (Option A)} (Some x ∷ map Some xs) [] = e in cc)
+all_some {A} (x ∷ xs) (y ∷ ys) e =
+    let z : ◌≡◌ {A = List (Option A)} (Some x ∷ map Some xs) (Some y ∷ map Some ys) = e in
+    let left : map Some xs ≡ map Some ys = cc in
+    let first : x ≡ y = cc in ap₂ (λ (a : A) (rest : List A). a ∷ rest) first (all_some xs ys left)
 
 module _ (c : Construction) (move : Move) where
   abbrev row : Var → Option Row
@@ -84,36 +79,21 @@ module _ (c : Construction) (move : Move) where
       go None h = h
       go (Some t) h = ap (λ (rs : List Row). capped_row (made_row v t).0 ∷ rs) h
 
-  -- the rows with their variables tell the numbers, and the rows
-  pub numbers_named : (vs : List Var)
-      → map {B = NumberedRow} (λ (p : Var × TableRow). record { var = p.0; numbers = row_numbers p.1 }) (filter_map (named_row c move) vs) ≡ filter_map (numbered_row c move) vs
-  numbers_named [] = refl
-  numbers_named (v ∷ vs) = go (row_of_move c move v) (numbers_named vs)
+  -- the numbers of the row of one variable
+  pub numbered_some : (v : Var) (n : RowNumbers) (o : Option RowNumbers) → o ≡ option_map row_numbers (row_of_move c move v) → o ≡ Some n
+      → numbered_row c move v ≡ Some (record { var = v; numbers = n })
+  numbered_some v n o is some = go (row_of_move c move v) (sym is ∙ some)
     where
-      go : (o : Option TableRow)
-          → map {B = NumberedRow} (λ (p : Var × TableRow). record { var = p.0; numbers = row_numbers p.1 }) (filter_map (named_row c move) vs) ≡ filter_map (numbered_row c move) vs
-          → map {B = NumberedRow} (λ (p : Var × TableRow). record { var = p.0; numbers = row_numbers p.1 }) (cons_option (option_map (λ t. (v, t)) o) (filter_map (named_row c move) vs))
-          ≡ cons_option (option_map (λ t. record { var = v; numbers = row_numbers t }) o) (filter_map (numbered_row c move) vs)
-      go None h = h
-      go (Some t) h = ap (λ (ns : List NumberedRow). record { var = v; numbers = row_numbers t } ∷ ns) h
+      go : (t : Option TableRow) → option_map row_numbers t ≡ Some n → option_map {U = NumberedRow} (λ t. record { var = v; numbers = row_numbers t }) t ≡ Some (record { var = v; numbers = n })
+      go None e = absurd (let z : ◌≡◌ {A = Option RowNumbers} None (Some n) = e in cc)
+      go (Some t) e = let same : row_numbers t ≡ n = cc in ap (λ (n : RowNumbers). let r : Option NumberedRow = Some (record { var = v; numbers = n }) in r) same
 
-  pub rows_named : (vs : List Var) → map (λ (p : Var × TableRow). (made_row p.0 p.1).0) (filter_map (named_row c move) vs) ≡ filter_map row vs
-  rows_named [] = refl
-  rows_named (v ∷ vs) = go (row_of_move c move v) (rows_named vs)
+  pub numbered_none : (v : Var) (o : Option RowNumbers) → o ≡ option_map row_numbers (row_of_move c move v) → o ≡ None → numbered_row c move v ≡ None
+  numbered_none v o is none = go (row_of_move c move v) (sym is ∙ none)
     where
-      go : (o : Option TableRow) → map (λ (p : Var × TableRow). (made_row p.0 p.1).0) (filter_map (named_row c move) vs) ≡ filter_map row vs
-          → map (λ (p : Var × TableRow). (made_row p.0 p.1).0) (cons_option (option_map (λ t. (v, t)) o) (filter_map (named_row c move) vs))
-          ≡ cons_option (option_map (λ t. (made_row v t).0) o) (filter_map row vs)
-      go None h = h
-      go (Some t) h = ap (λ (rs : List Row). (made_row v t).0 ∷ rs) h
-
-  -- the row of one variable
-  pub named_some : (v : Var) (o : Option RowDraft) (d : RowDraft) → option_map (row_of_draft c.nodes) o ≡ row_of_move c move v → o ≡ Some d
-      → named_row c move v ≡ Some (v, row_of_draft c.nodes d)
-  named_some v o d is some = ap (option_map (λ t. (v, t))) (sym is ∙ ap (option_map (row_of_draft c.nodes)) some)
-
-  pub named_none : (v : Var) (o : Option RowDraft) → option_map (row_of_draft c.nodes) o ≡ row_of_move c move v → o ≡ None → named_row c move v ≡ None
-  named_none v o is none = ap (option_map (λ t. (v, t))) (sym is ∙ ap (option_map (row_of_draft c.nodes)) none)
+      go : (t : Option TableRow) → option_map row_numbers t ≡ None → option_map {U = NumberedRow} (λ t. record { var = v; numbers = row_numbers t }) t ≡ None
+      go None e = refl
+      go (Some t) e = absurd (let z : ◌≡◌ {A = Option RowNumbers} (Some (row_numbers t)) None = e in cc)
 
   -- where there are no numbers there are no rows
   no_rows : (rows : List Row) → capped_rows rows ≡ [] → rows ≡ []
@@ -126,6 +106,9 @@ module _ (c : Construction) (move : Move) where
 
   pub none_made : (vs : List Var) → filter_map (numbered_row c move) vs ≡ [] → filter_map row vs ≡ []
   none_made vs e = no_rows (filter_map row vs) (sym (sketches_are vs) ∙ ap sketches e)
+
+  pub some_numbered : (vs : List Var) → filter_map row vs ≡ [] → filter_map (numbered_row c move) vs ≡ []
+  some_numbered vs e = no_sketches (filter_map (numbered_row c move) vs) (sketches_are vs ∙ ap capped_rows e)
 
   -- the bounds of the rows
   pub rows_bounded : (vs : List Var) → AllBounded (filter_map row vs)
@@ -182,61 +165,45 @@ module _ (c : Construction) (move : Move) where
   abbrev pub HasFittingRow : Var → Type 0
   HasFittingRow v = (r : Row) → row v ≡ Some r → NumeratorFits r
 
-  pub named_fit : (vs : List Var) → EachIn HasFittingRow vs → All (λ (p : Var × TableRow). RowFits p.1) (filter_map (named_row c move) vs)
-  named_fit [] fits = All-nil (λ (p : Var × TableRow). RowFits p.1)
-  named_fit (v ∷ vs) fits = go (row_of_move c move v) refl (named_fit vs fits.1)
+  pub numbered_fit : (vs : List Var) → EachIn HasFittingRow vs → EachIn (HasPointsBelow (length c.steps)) vs
+      → All (λ (n : NumberedRow). CanBeMade c move n.var) (filter_map (numbered_row c move) vs)
+  numbered_fit [] fits points = All-nil (λ (n : NumberedRow). CanBeMade c move n.var)
+  numbered_fit (v ∷ vs) fits points = go (row_of_move c move v) refl (numbered_fit vs fits.1 points.1)
     where
-      go : (o : Option TableRow) → row_of_move c move v ≡ o → All (λ (p : Var × TableRow). RowFits p.1) (filter_map (named_row c move) vs)
-          → All (λ (p : Var × TableRow). RowFits p.1) (cons_option (option_map (λ t. (v, t)) o) (filter_map (named_row c move) vs))
+      go : (o : Option TableRow) → row_of_move c move v ≡ o → All (λ (n : NumberedRow). CanBeMade c move n.var) (filter_map (numbered_row c move) vs)
+          → All (λ (n : NumberedRow). CanBeMade c move n.var)
+          (cons_option (option_map (λ t. record { var = v; numbers = row_numbers t }) o) (filter_map (numbered_row c move) vs))
       go None e h = h
       go (Some t) e h =
           let light : AreLight (row_numbers t) = some_of (row_of_move c move v) t (λ t. AreLight (row_numbers t)) e (light_rows v) in
           let fit : NumeratorFits (made_row v t).0 = fits.0 (made_row v t).0 (ap (option_map (λ t. (made_row v t).0)) e) in
           let row : IsSomeAnd (Some t) RowFits = fits_of_numbers (Some t) (row_numbers t) refl (omega (arith, fit.weight)) (omega (arith, fit.degree)) light in
-          All-cons (λ (p : Var × TableRow). RowFits p.1) (v, t) (filter_map (named_row c move) vs) row h
+          All-cons (λ (n : NumberedRow). CanBeMade c move n.var) (record { var = v; numbers = row_numbers t }) (filter_map (numbered_row c move) vs)
+          (points.0, subst (λ (o : Option TableRow). IsSomeAnd o RowFits) (sym e) row) h
 
-  -- all over one denominator
-  pub named_over_one : (vs : List Var) → All (λ (p : Var × TableRow). p.1.den ≡ move_denominator c move) (filter_map (named_row c move) vs)
-  named_over_one [] = All-nil (λ (p : Var × TableRow). p.1.den ≡ move_denominator c move)
-  named_over_one (v ∷ vs) = go (row_of_move c move v) refl (named_over_one vs)
+  -- THE ROWS MULTIPLIED OUT
+  rows_numbered : (vs : List Var) → map (λ (n : NumberedRow). row n.var) (filter_map (numbered_row c move) vs) ≡ map Some (filter_map row vs)
+  rows_numbered [] = refl
+  rows_numbered (v ∷ vs) = go (row_of_move c move v) refl (rows_numbered vs)
     where
-      go : (o : Option TableRow) → row_of_move c move v ≡ o → All (λ (p : Var × TableRow). p.1.den ≡ move_denominator c move) (filter_map (named_row c move) vs)
-          → All (λ (p : Var × TableRow). p.1.den ≡ move_denominator c move) (cons_option (option_map (λ t. (v, t)) o) (filter_map (named_row c move) vs))
+      go : (o : Option TableRow) → row_of_move c move v ≡ o → map (λ (n : NumberedRow). row n.var) (filter_map (numbered_row c move) vs) ≡ map Some (filter_map row vs)
+          → map (λ (n : NumberedRow). row n.var) (cons_option (option_map (λ t. record { var = v; numbers = row_numbers t }) o) (filter_map (numbered_row c move) vs))
+          ≡ map Some (cons_option (option_map (λ t. (made_row v t).0) o) (filter_map row vs))
       go None e h = h
-      go (Some t) e h = All-cons (λ (p : Var × TableRow). p.1.den ≡ move_denominator c move) (v, t) (filter_map (named_row c move) vs) (denominators_agree c move v t e).0 h
+      go (Some t) e h = ap₂ (λ (r : Option Row) (rs : List (Option Row)). r ∷ rs) (ap (option_map (λ t. (made_row v t).0)) e) h
 
-  -- THE DRAFTS OF A LINE, which are the rows of its variables
-  module _ (vs : List Var) (drafts : List DraftedRow) (are : map (named_draft c.nodes) drafts ≡ filter_map (named_row c move) vs) where
-    pub drafts_numbered : map (numbered_draft c.nodes) drafts ≡ filter_map (numbered_row c move) vs
-    drafts_numbered =
-        sym (map_map (λ (p : Var × TableRow). let n : NumberedRow = record { var = p.0; numbers = row_numbers p.1 } in n) (named_draft c.nodes) drafts)
-        ∙ ap (map (λ (p : Var × TableRow). let n : NumberedRow = record { var = p.0; numbers = row_numbers p.1 } in n)) are ∙ numbers_named vs
+  pub rows_made : (vs : List Var) (rows : List Row) → map Some rows ≡ map (λ (n : NumberedRow). row n.var) (filter_map (numbered_row c move) vs) → rows ≡ filter_map row vs
+  rows_made vs rows e = all_some rows (filter_map row vs) (e ∙ rows_numbered vs)
 
-    pub drafts_made : map (made_draft c.nodes) drafts ≡ filter_map row vs
-    drafts_made =
-        sym (map_map (λ (p : Var × TableRow). (made_row p.0 p.1).0) (named_draft c.nodes) drafts)
-        ∙ ap (map (λ (p : Var × TableRow). (made_row p.0 p.1).0)) are ∙ rows_named vs
-
-    pub no_drafts : drafts ≡ [] → filter_map row vs ≡ []
-    no_drafts e = sym drafts_made ∙ ap (map (made_draft c.nodes)) e
-
-    pub some_drafts : filter_map row vs ≡ [] → drafts ≡ []
-    some_drafts e = go drafts (drafts_made ∙ e)
-      where
-        go : (ds : List DraftedRow) → map (made_draft c.nodes) ds ≡ [] → ds ≡ []
-        go [] h = refl
-        go (d ∷ ds) h = absurd (let z : ◌≡◌ {A = List Row} (made_draft c.nodes d ∷ map (made_draft c.nodes) ds) [] = h in cc)
-
-    pub drafts_fit : EachIn HasFittingRow vs → All (HasNumbers c.nodes) drafts → All (CanMakeRow c.nodes) drafts
-    drafts_fit fits numbers =
-        both_all (HasNumbers c.nodes) (λ d. RowFits (row_of_draft c.nodes d.row)) drafts numbers
-        (unmapped (named_draft c.nodes) (λ (p : Var × TableRow). RowFits p.1) drafts
-        (subst (All (λ (p : Var × TableRow). RowFits p.1)) (sym are) (named_fit vs fits)))
-
-    pub drafts_over_one : All (λ (d : DraftedRow). (row_of_draft c.nodes d.row).den ≡ move_denominator c move) drafts
-    drafts_over_one =
-        unmapped (named_draft c.nodes) (λ (p : Var × TableRow). p.1.den ≡ move_denominator c move) drafts
-        (subst (All (λ (p : Var × TableRow). p.1.den ≡ move_denominator c move)) (sym are) (named_over_one vs))
+  -- each is the row of its variable
+  pub rows_own : (vs : List Var) → All (IsRowOf c move) (filter_map row vs)
+  rows_own [] = All-nil (IsRowOf c move)
+  rows_own (v ∷ vs) = go (row_of_move c move v) refl (rows_own vs)
+    where
+      go : (o : Option TableRow) → row_of_move c move v ≡ o → All (IsRowOf c move) (filter_map row vs)
+          → All (IsRowOf c move) (cons_option (option_map (λ t. (made_row v t).0) o) (filter_map row vs))
+      go None e h = h
+      go (Some t) e h = All-cons (IsRowOf c move) (made_row v t).0 (filter_map row vs) (ap (option_map (λ t. (made_row v t).0)) e) h
 
 -- LISTS
 -- what holds of each variable of a list holds at each place
@@ -255,19 +222,12 @@ module _ {B : Type 0} (f : Var → Option B) (vs : List Var) (i : ℕ) (d : Var)
   pub rows_none : f (get_or vs i d) ≡ None → filter_map f (take (i + 1) vs) ≡ filter_map f (take i vs)
   rows_none e = rows_more ∙ ap (λ (o : Option B). filter_map f (take i vs) ++ cons_option o []) e ∙ append-nil (filter_map f (take i vs))
 
--- one more element's image
-mapped_more : {A B : Type 0} (f : A → B) (xs : List A) (i : ℕ) (x : A) → i < length xs → x ≡ get_or xs i x → map f (take (i + 1) xs) ≡ map f (take i xs) ++ f x ∷ []
-mapped_more {A} {B} f xs i x lt is =
-    ap (map f) (take_more xs i x lt) ∙ map-append f (take i xs) (get_or xs i x ∷ []) ∙ ap (λ (y : A). map f (take i xs) ++ f y ∷ []) (sym is)
-
--- and where it is pushed
-pub mapped_push : {A B : Type 0} (f : A → B) (xs : List A) (i : ℕ) (x : A) → i < length xs → x ≡ get_or xs i x
-    → (before after : List B) (y : B) → after ≡ before ++ y ∷ [] → before ≡ map f (take i xs) → y ≡ f x → after ≡ map f (take (i + 1) xs)
-mapped_push {A} {B} f xs i x lt is before after y pushed images image = pushed ∙ ap₂ (λ (ys : List B) (z : B). ys ++ z ∷ []) images image ∙ sym (mapped_more f xs i x lt is)
-
--- what holds of each element holds of one that is read
-pub read_at : {A : Type 0} (Holds : A → Type 0) (xs : List A) (i : ℕ) (x : A) → i < length xs → x ≡ get_or xs i x → All Holds xs → Holds x
-read_at Holds xs i x lt is all = subst Holds (sym is) (all i x lt)
+-- one more element's image is pushed
+pub mapped_push : {A B : Type 0} (f : A → B) (xs : List A) (i : ℕ) (d : A) → i < length xs
+    → (before after : List B) (y : B) → after ≡ before ++ y ∷ [] → before ≡ map f (take i xs) → y ≡ f (get_or xs i d) → after ≡ map f (take (i + 1) xs)
+mapped_push {A} {B} f xs i d lt before after y pushed images image =
+    pushed ∙ ap₂ (λ (ys : List B) (z : B). ys ++ z ∷ []) images image
+    ∙ sym (ap (map f) (take_more xs i d lt) ∙ map-append f (take i xs) (get_or xs i d ∷ []))
 
 -- a list with elements
 pub some_length : {A : Type 0} (xs : List A) → (xs ≡ [] → ⊥) → 0 < length xs

@@ -9,8 +9,8 @@ ghost use Rattle.geo_logs.specs.Moves.{spent, too_large};
 ghost use Rattle.elim_apply.specs.Multiples.{IsMultiple};
 ghost use Rattle.geo_logs.specs.Naming.{IsPlaceBelow, IsPlaceMet};
 ghost use Rattle.elim_apply.specs.Inner.Sizes.{IsSizeOf};
-ghost use Rattle.elim_apply.specs.Inner.Sketches.{HasNumbers, named_draft, named_row};
-ghost use Rattle.fraction_poly.specs.Inner.Known.{IsKnownOf};
+ghost use Rattle.elim_apply.specs.Inner.Sketches.{numbered_row};
+ghost use Rattle.elim_apply.specs.Kept.{AreKnownRows};
 ghost use Rattle.fraction_poly.specs.TableRows.{HasPointsBelow, HasVariable};
 ghost use Rattle.geo_points.specs.Placements.{Placement};
 ghost use Rattle.geo_poly.specs.Counted.{replacement_products};
@@ -19,17 +19,17 @@ ghost use Rattle.geo_poly.specs.PolynomialVariables.{AllVariables, variables_of}
 ghost use Rattle.geo_poly.specs.Polynomials.{IsPolynomial};
 ghost use Rattle.geo_poly.specs.Replace.{replaced_by, replaced_degree, replaced_weight};
 
-use crate::drafted::{DraftedRow, drafted_rows, made_rows};
 use crate::errors::ApplyError;
+use crate::kept_rows::KnownRows;
 use crate::limits::LineSize;
-use crate::numbered::numbered_rows;
+use crate::made::{made_rows, put_back};
+use crate::numbered::{NumberedRow, numbered_rows};
 use crate::sizes::size_of_line;
 use crate::variables::variables_of;
-use fraction_poly::KnownNumbers;
 use geo_base::Budget;
 use geo_logs::Move;
 use geo_points::NoMemory;
-use geo_poly::{Poly, PolyError, Ticks, Which};
+use geo_poly::{Poly, Ticks};
 use geo_terms::Steps;
 use std::alloc::Global;
 use std::sync::ledger::Ledger;
@@ -74,7 +74,7 @@ pub fn apply<L: Ledger>(
     ensures unworked { (e : ApplyError) → IsErrOf result e → e ≢ ApplyError.NoMemory
         → ticks.new ≡ ticks.old }
 {
-    let mut known = KnownNumbers::new(alloc)?;
+    let mut known = KnownRows::new(alloc)?;
     apply_known(alloc, steps, &mut known, p, mv, budget, ticks)
 }
 
@@ -83,13 +83,13 @@ pub fn apply<L: Ledger>(
 pub fn apply_known<L: Ledger>(
     alloc: Global,
     steps: &Steps,
-    known: &mut KnownNumbers,
+    known: &mut KnownRows,
     p: &Poly,
     mv: &Move,
     budget: &mut Budget,
     ticks: &mut Ticks<L>,
 ) -> Result<Poly, ApplyError>
-    requires known { IsKnownOf steps.now.nodes known.old }
+    requires known { AreKnownRows steps.now known.old }
     requires points { AllVariables (HasPointsBelow (length steps.now.steps)) p.now }
     requires place { IsPlaceBelow (length steps.now.steps) (place_of mv.now) }
     ensures moved { let made = replacement lemma_table steps.now mv.now p.now in
@@ -117,7 +117,7 @@ pub fn apply_known<L: Ledger>(
         (ticks.new + budget.new.left ≤ ticks.old + budget.old.left) }
     ensures unworked { (e : ApplyError) → IsErrOf result e → e ≢ ApplyError.NoMemory
         → ticks.new ≡ ticks.old }
-    ensures known { IsKnownOf steps.now.nodes known.new }
+    ensures known { AreKnownRows steps.now known.new }
 {
     // From here on it is known that the steps are a construction.
     prove!(steps.count() <= 512);
@@ -133,36 +133,33 @@ pub fn apply_known<L: Ledger>(
 fn measured(
     alloc: Global,
     steps: &Steps,
-    known: &mut KnownNumbers,
+    known: &mut KnownRows,
     p: &Poly,
     mv: &Move,
-) -> Result<Option<(Vec<DraftedRow>, LineSize)>, NoMemory>
+) -> Result<Option<(Vec<NumberedRow>, LineSize)>, NoMemory>
     requires points { AllVariables (HasPointsBelow (length steps.now.steps)) p.now }
     requires place { IsPlaceBelow (length steps.now.steps) (place_of mv.now) }
-    requires known { IsKnownOf steps.now.nodes known.old }
+    requires known { AreKnownRows steps.now known.old }
     ensures none { let made = replacement lemma_table steps.now mv.now p.now in
         IfOk result (λ o. IfNone o (made.rows ≡ [])) }
     ensures some { let made = replacement lemma_table steps.now mv.now p.now in
         IfOk result (λ o. IfSome o (λ _. made.rows ≢ [])) }
-    ensures rows { IfOk result (λ o. IfSome o (λ m. map (named_draft steps.now.nodes) m.0.items
-        ≡ filter_map (named_row steps.now mv.now) (variables_of p.now))) }
-    ensures numbers { IfOk result
-        (λ o. IfSome o (λ m. All (HasNumbers steps.now.nodes) m.0.items)) }
+    ensures rows { IfOk result (λ o. IfSome o (λ m. m.0.items
+        ≡ filter_map (numbered_row steps.now mv.now) (variables_of p.now))) }
     ensures size { let made = replacement lemma_table steps.now mv.now p.now in
         IfOk result (λ o. IfSome o (λ m. IsSizeOf m.1 (move_charge made p.now)
         (replaced_weight made.rows made.den p.now) (replaced_degree made.rows made.den p.now))) }
-    ensures known { IsKnownOf steps.now.nodes known.new }
+    ensures known { AreKnownRows steps.now known.new }
 {
     // From here on it is known that the polynomial is in order and within its bounds.
     prove!(p.norm() >= 0);
     let variables = variables_of(alloc, p)?;
-    let rows = drafted_rows(alloc, steps, mv, &variables)?;
+    let rows = numbered_rows(alloc, steps, known, mv, &variables)?;
     if rows.is_empty() {
         return Ok(None);
     }
-    let numbered = numbered_rows(alloc, steps.look(), known, &rows)?;
     // All rows of a move have one denominator and one charge.
-    let size = size_of_line(alloc, &numbered, numbered[0].numbers, p)?;
+    let size = size_of_line(alloc, &rows, rows[0].numbers, p)?;
     Ok(Some((rows, size)))
 }
 
@@ -170,17 +167,17 @@ fn measured(
 fn moved<L: Ledger>(
     alloc: Global,
     steps: &Steps,
-    known: &mut KnownNumbers,
+    known: &mut KnownRows,
     p: &Poly,
     mv: &Move,
-    rows: &[DraftedRow],
+    rows: &[NumberedRow],
     ticks: &mut Ticks<L>,
 ) -> Result<Poly, NoMemory>
     requires points { AllVariables (HasPointsBelow (length steps.now.steps)) p.now }
-    requires known { IsKnownOf steps.now.nodes known.old }
-    requires rows { map (named_draft steps.now.nodes) rows.now
-        ≡ filter_map (named_row steps.now mv.now) (variables_of p.now) }
-    requires numbers { All (HasNumbers steps.now.nodes) rows.now }
+    requires known { AreKnownRows steps.now known.old }
+    requires place { IsPlaceBelow (length steps.now.steps) (place_of mv.now) }
+    requires rows { rows.now
+        ≡ filter_map (numbered_row steps.now mv.now) (variables_of p.now) }
     requires some { rows.now ≢ [] }
     requires weight { let made = replacement lemma_table steps.now mv.now p.now in
         replaced_weight made.rows made.den p.now < 2 ^ 127 }
@@ -190,24 +187,12 @@ fn moved<L: Ledger>(
         IfOk result (λ q. q ≡ replaced_by made.rows made.den.poly p.now) }
     ensures ticks { let made = replacement lemma_table steps.now mv.now p.now in
         ticks.new ≤ ticks.old + replacement_products made.rows made.den p.now }
-    ensures known { IsKnownOf steps.now.nodes known.new }
+    ensures known { AreKnownRows steps.now known.new }
 {
     // From here on it is known that the polynomial is in order and within its bounds.
     prove!(p.norm() >= 0);
-    let (rows, den) = made_rows(alloc, steps.look(), known, rows)?;
-    within_bounds(p.replace(alloc, &rows.items, &den, ticks))
-}
-
-/// The polynomial of a call that passes no bound.
-fn within_bounds(answer: Result<Poly, PolyError>) -> Result<Poly, NoMemory>
-    requires norm { answer ≢ Err (PolyError.TooLarge Which.Norm) }
-    requires degree { answer ≢ Err (PolyError.TooLarge Which.Degree) }
-    ensures { IfOk result (λ p. answer ≡ Ok p) }
-{
-    match answer {
-        Ok(poly) => Ok(poly),
-        Err(PolyError::NoMemory) => Err(NoMemory),
-        Err(PolyError::TooLarge(Which::Norm)) => unreachable!(),
-        Err(PolyError::TooLarge(Which::Degree)) => unreachable!(),
-    }
+    let (rows, den) = made_rows(alloc, steps, known, mv, rows)?;
+    let moved = p.replace_within(alloc, &rows.items, &den, ticks)?;
+    put_back(known, mv, rows, den);
+    Ok(moved)
 }

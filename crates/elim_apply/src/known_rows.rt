@@ -1,8 +1,8 @@
-//! The rows of a line, found by the numbers that a polynomial's variables have.
+//! The rows of a line, by the numbers that a polynomial's variables have.
 
-ghost use Rattle.std.specs.Prelude.{◌≡◌, All, IfOk};
+ghost use Rattle.std.specs.Prelude.{◌≡◌, IfOk};
 ghost use Rattle.std.specs.Option.{option_copied, option_map};
-ghost use Rattle.elim_apply.specs.Inner.Sketches.{IsKnown, sketched, sketches};
+ghost use Rattle.elim_apply.specs.Inner.Sketches.{AreKnown, sketched, sketches};
 ghost use Rattle.geo_poly.specs.Replace.{row_of};
 
 use crate::numbered::NumberedRow;
@@ -10,52 +10,19 @@ use geo_points::NoMemory;
 use geo_poly::Var;
 use std::alloc::Global;
 
-/// A variable, and its row where it is replaced.
-#[derive(Clone, Copy)]
-pub(crate) struct KnownRow {
-    /// The variable.
-    pub var: Var,
-    /// The row.
-    pub row: Option<NumberedRow>,
-}
-
-/// The variables with their rows.
+/// The row of each variable, where it is replaced.
 pub(crate) fn known_rows(
     alloc: Global,
     rows: &[NumberedRow],
     variables: &[Var],
-) -> Result<Vec<KnownRow>, NoMemory>
-    ensures { IfOk result (λ known. All (IsKnown rows.now) known.items) }
+) -> Result<Vec<Option<NumberedRow>>, NoMemory>
+    ensures { IfOk result (λ known. AreKnown (sketches rows.now) variables.now known.items) }
 {
     let mut known = Vec::with_capacity(alloc, variables.len())?;
     for v in variables {
-        known.push(known_row(rows, *v))?;
+        known.push(first_row(rows, *v).copied())?;
     }
     Ok(known)
-}
-
-/// The variable with its row.
-fn known_row(rows: &[NumberedRow], v: Var) -> KnownRow
-    ensures { IsKnown rows.now result }
-{
-    let row = first_row(rows, v).copied();
-    KnownRow { var: v, row }
-}
-
-/// The first row of the variable, which is mostly the one of that number.
-pub(crate) fn find_row<'a>(
-    rows: &'a [NumberedRow],
-    known: &'a [KnownRow],
-    v: Var,
-    number: u64,
-) -> Option<&'a NumberedRow>
-    requires { All (IsKnown rows.now) known.now }
-    ensures { option_map sketched (option_copied result) ≡ row_of (sketches rows.now) v }
-{
-    match known.get(number as usize) {
-        Some(known) if known.var == v => known.row.as_ref(),
-        _ => first_row(rows, v),
-    }
 }
 
 /// The first row of the variable.

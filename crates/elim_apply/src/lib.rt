@@ -4,18 +4,22 @@
 mod applying;
 mod drafted;
 mod errors;
+mod kept_row;
+mod kept_rows;
 mod known_rows;
 pub mod laws;
 mod limits;
+mod made;
 mod numbered;
 mod replacing;
+mod shares;
 mod sizes;
 mod starting;
 mod variables;
 
 pub use applying::{apply, apply_known};
 pub use errors::ApplyError;
-pub use fraction_poly::KnownNumbers;
 pub use geo_logs::{Move, Replacement, RowList};
+pub use kept_rows::KnownRows;
 pub use replacing::replacement_of;
 pub use starting::start;

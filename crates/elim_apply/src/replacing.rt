@@ -8,9 +8,10 @@ ghost use Rattle.geo_logs.specs.Naming.{IsPlaceBelow};
 ghost use Rattle.geo_poly.specs.PolynomialVariables.{AllVariables};
 ghost use Rattle.geo_poly.specs.Replace.{replaced_degree, replaced_weight};
 
-use crate::drafted::{drafted_rows, made_rows};
+use crate::kept_rows::KnownRows;
+use crate::made::made_rows;
+use crate::numbered::numbered_rows;
 use crate::variables::variables_of;
-use fraction_poly::KnownNumbers;
 use geo_logs::{Move, Replacement};
 use geo_points::NoMemory;
 use geo_poly::Poly;
@@ -38,11 +39,10 @@ pub fn replacement_of(
     // From here on it is known that the polynomial is in order and within its bounds.
     prove!(p.norm() >= 0);
     let variables = variables_of(alloc, p)?;
-    let drafted = drafted_rows(alloc, steps, mv, &variables)?;
-    let mut known = KnownNumbers::new(alloc)?;
-    let first = drafted[0].row.numbers(alloc, steps.look(), &mut known)?;
-    let (rows, den) = made_rows(alloc, steps.look(), &mut known, &drafted)?;
+    let mut known = KnownRows::new(alloc)?;
+    let numbered = numbered_rows(alloc, steps, &mut known, mv, &variables)?;
+    let (rows, den) = made_rows(alloc, steps, &mut known, mv, &numbered)?;
     // All rows of a move have one charge.
-    let charge = first.charge;
+    let charge = numbered[0].numbers.charge;
     Ok(Replacement { rows, den, charge })
 }

@@ -1,6 +1,5 @@
 pub mod Searches
-pub mod Walks
-pub mod Places
+pub mod FirstVariables
 pub mod Points
 pub mod Moves
 pub mod DueCuts

@@ -1,15 +1,14 @@
-//! The first variable of a kind in a polynomial.
+//! The first variable of a kind among the variables of a polynomial.
 
-ghost use Rattle.std.specs.Prelude.{◌≡◌, ◌<◌, ◌↔◌, IfNone, IfSome, IsTrue, length};
-ghost use Rattle.geo_chain.specs.Inner.Searches.{Fits, FitsItself, Improves, IsFirstFitting};
-ghost use Rattle.geo_chain.specs.Inner.Searches.{IsMetIn, IsNoEarlier, NoneFits};
+ghost use Rattle.std.specs.Prelude.{◌≡◌, ◌↔◌, IfNone, IfSome, IsTrue};
+ghost use Rattle.std.specs.List.Sorted.{IsStrictlySortedBy};
+ghost use Rattle.geo_chain.specs.Inner.Searches.{Fits, IsFirstFitting, NoneFits};
 ghost use Rattle.geo_logs.specs.Defined.{has_point};
 ghost use Rattle.geo_poly.specs.PolynomialVariables.{IsQuantity, IsRatio};
-ghost use Rattle.geo_poly.specs.Polynomials.{term_at};
+ghost use Rattle.geo_poly.specs.Variables.{var_cmp};
 
 use geo_points::PointId;
-use geo_poly::{Poly, Var};
-use std::cmp::Ordering;
+use geo_poly::Var;
 
 /// A kind of variables.
 #[derive(Clone, Copy, Debug)]
@@ -35,49 +34,18 @@ impl Sought {
     }
 }
 
-/// The first variable of this kind, in the order of variables.
-pub(crate) fn first_fitting(p: &Poly, sought: Sought) -> Option<Var>
-    ensures some { IfSome result (λ v. IsFirstFitting sought p.now v) }
-    ensures none { IfNone result (NoneFits sought p.now) }
+/// The first variable of this kind, where the variables are in order.
+pub(crate) fn first_fitting(variables: &[Var], sought: Sought) -> Option<Var>
+    requires { IsStrictlySortedBy var_cmp variables.now }
+    ensures some { IfSome result (IsFirstFitting sought variables.now) }
+    ensures none { IfNone result (NoneFits sought variables.now) }
 {
-    let mut first = None;
-    for i in 0..p.terms() {
-        first = first_in_term(p, sought, i, first);
+    for v in variables {
+        if sought.fits(*v) {
+            return Some(*v);
+        }
     }
-    first
-}
-
-/// The first such variable of the term at place i and of what was there before.
-fn first_in_term(poly: &Poly, sought: Sought, i: u64, before: Option<Var>) -> Option<Var>
-    requires { i < length poly.now }
-    ensures { let m = (term_at poly.now i).0 in
-        Improves IsNoEarlier (IsMetIn (FitsItself sought) m (length m)) before result }
-{
-    let p = poly.shared();
-    let (id, _) = p.term(i);
-    let mut rest = id;
-    let mut first = before;
-    while let Some(power) = p.first_power(rest) {
-        first = earlier(sought, power.var, first);
-        rest = power.rest;
-    }
-    first
-}
-
-/// The variable, where it fits and stands before what was there; else that.
-fn earlier(sought: Sought, v: Var, before: Option<Var>) -> Option<Var>
-    ensures { Improves IsNoEarlier (FitsItself sought v) before result }
-{
-    if !sought.fits(v) {
-        return before;
-    }
-    let Some(w) = before else {
-        return Some(v);
-    };
-    match v.cmp(&w) {
-        Ordering::Less => Some(v),
-        Ordering::Equal | Ordering::Greater => before,
-    }
+    None
 }
 
 /// Whether the variable is a ratio.

@@ -1,43 +1,28 @@
 //! The highest constructed point of a polynomial.
 
-ghost use Rattle.std.specs.Prelude.{◌<◌, ◌↔◌, ◌||◌, IfNone, IfSome, IsTrue, length};
+ghost use Rattle.std.specs.Prelude.{◌≡◌, ◌<◌, ◌↔◌, ◌||◌, All, IfNone, IfSome, IsTrue, length};
 ghost use Rattle.fraction_poly.specs.TableRows.{HasPointsBelow};
-ghost use Rattle.geo_chain.specs.Inner.Searches.{Improves, IsMetIn, IsNoHigher, MakesPoint};
+ghost use Rattle.geo_chain.specs.Inner.Searches.{Improves, MakesPoint};
 ghost use Rattle.geo_logs.specs.Defined.{HasFreePointsAlone, IsConstructed, IsHighest, is_point};
-ghost use Rattle.geo_poly.specs.PolynomialVariables.{AllVariables};
-ghost use Rattle.geo_poly.specs.Polynomials.{term_at};
+ghost use Rattle.geo_poly.specs.Polynomials.{Summands};
+ghost use Rattle.geo_poly.specs.PolynomialVariables.{variables_of};
 
 use geo_points::PointId;
-use geo_poly::{Poly, Var};
+use geo_poly::Var;
 use geo_terms::{Step, Steps};
 
-/// The constructed point of the highest number in the quantities of the polynomial.
-pub(crate) fn highest_constructed(steps: &Steps, p: &Poly) -> Option<PointId>
-    requires { AllVariables (HasPointsBelow (length steps.now.steps)) p.now }
-    ensures some { IfSome result (λ y. IsHighest steps.now y p.now) }
-    ensures none { IfNone result (HasFreePointsAlone steps.now p.now) }
+/// The constructed point of the highest number in the quantities among the variables.
+pub(crate) fn highest_constructed(steps: &Steps, variables: &[Var]) -> Option<PointId>
+    requires { All (HasPointsBelow (length steps.now.steps)) variables.now }
+    ensures below { IfSome result (λ y. y.0 < length steps.now.steps) }
+    ensures some { IfSome result (λ y. (q : Summands) → variables.now ≡ variables_of q
+        → IsHighest steps.now y q) }
+    ensures none { IfNone result ((q : Summands) → variables.now ≡ variables_of q
+        → HasFreePointsAlone steps.now q) }
 {
     let mut highest = None;
-    for i in 0..p.terms() {
-        highest = highest_in_term(steps, p, i, highest);
-    }
-    highest
-}
-
-/// The highest constructed point of the term at place i and of what was there before.
-fn highest_in_term(steps: &Steps, poly: &Poly, i: u64, before: Option<PointId>) -> Option<PointId>
-    requires points { AllVariables (HasPointsBelow (length steps.now.steps)) poly.now }
-    requires term { i < length poly.now }
-    ensures { let m = (term_at poly.now i).0 in
-        Improves IsNoHigher (IsMetIn (MakesPoint steps.now) m (length m)) before result }
-{
-    let p = poly.shared();
-    let (id, _) = p.term(i);
-    let mut rest = id;
-    let mut highest = before;
-    while let Some(power) = p.first_power(rest) {
-        highest = highest_with(steps, power.var, highest);
-        rest = power.rest;
+    for v in variables {
+        highest = highest_with(steps, *v, highest);
     }
     highest
 }
@@ -45,7 +30,7 @@ fn highest_in_term(steps: &Steps, poly: &Poly, i: u64, before: Option<PointId>) 
 /// The highest constructed point of a variable and of what was there before.
 fn highest_with(steps: &Steps, v: Var, before: Option<PointId>) -> Option<PointId>
     requires { HasPointsBelow (length steps.now.steps) v }
-    ensures { Improves IsNoHigher (MakesPoint steps.now v) before result }
+    ensures { Improves (MakesPoint steps.now v) before result }
 {
     match v {
         Var::R(a, b, c, d) => highest_of_four(steps, a, b, c, d, before),
@@ -67,7 +52,7 @@ fn highest_of_four(
     requires b { b.0 < length steps.now.steps }
     requires c { c.0 < length steps.now.steps }
     requires d { d.0 < length steps.now.steps }
-    ensures { Improves IsNoHigher (λ z. IsConstructed steps.now z
+    ensures { Improves (λ z. IsConstructed steps.now z
         × IsTrue (is_point a z || is_point b z || is_point c z || is_point d z)) before result }
 {
     let third = higher(steps, c, higher(steps, d, before));
@@ -85,7 +70,7 @@ fn highest_of_three(
     requires a { a.0 < length steps.now.steps }
     requires b { b.0 < length steps.now.steps }
     requires c { c.0 < length steps.now.steps }
-    ensures { Improves IsNoHigher (λ z. IsConstructed steps.now z
+    ensures { Improves (λ z. IsConstructed steps.now z
         × IsTrue (is_point a z || is_point b z || is_point c z)) before result }
 {
     higher(steps, a, higher(steps, b, higher(steps, c, before)))
@@ -94,7 +79,7 @@ fn highest_of_three(
 /// The point, where it is constructed and higher than what was there before; else that.
 fn higher(steps: &Steps, y: PointId, before: Option<PointId>) -> Option<PointId>
     requires { y.0 < length steps.now.steps }
-    ensures { Improves IsNoHigher
+    ensures { Improves
         (λ z. IsConstructed steps.now z × IsTrue (is_point y z)) before result }
 {
     if !is_constructed(steps, y) {

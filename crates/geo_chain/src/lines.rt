@@ -5,7 +5,7 @@ ghost use Rattle.geo_logs.specs.Moves.{IsMoveStopped, place_of_lemma, replacemen
 ghost use Rattle.geo_logs.specs.Moves.{too_large};
 ghost use Rattle.elim_apply.specs.LemmaTable.{lemma_table};
 ghost use Rattle.geo_logs.specs.declared.moves.Move.{Move};
-ghost use Rattle.fraction_poly.specs.Inner.Known.{IsKnownOf};
+ghost use Rattle.elim_apply.specs.Kept.{AreKnownRows};
 ghost use Rattle.fraction_poly.specs.TableRows.{HasPointsBelow};
 ghost use Rattle.geo_chain.specs.NextLines.{HasLinePointsBelow, IsMoveDue, IsNextLine, left_after};
 ghost use Rattle.geo_logs.specs.Chains.{line_of, moves};
@@ -14,7 +14,7 @@ ghost use Rattle.geo_poly.specs.PolynomialVariables.{AllVariables};
 
 use crate::choosing::next_move;
 use crate::cutting::cut_line;
-use elim_apply::{ApplyError, KnownNumbers, Move, apply_known};
+use elim_apply::{ApplyError, KnownRows, Move, apply_known};
 use geo_base::Budget;
 use geo_points::PointId;
 use geo_poly::lists::Vars;
@@ -53,7 +53,7 @@ pub fn next_line(
         ⊎ ((mv : Move) × IsMoveDue steps.now known.now p.now mv
         × (budget.new.left ≡ left_after steps.now mv p.now budget.old.left)) }
 {
-    let mut numbers = KnownNumbers::new(alloc)?;
+    let mut numbers = KnownRows::new(alloc)?;
     next_line_known(alloc, steps, &mut numbers, p, known, budget)
 }
 
@@ -61,12 +61,12 @@ pub fn next_line(
 pub fn next_line_known(
     alloc: Global,
     steps: &Steps,
-    numbers: &mut KnownNumbers,
+    numbers: &mut KnownRows,
     p: &Poly,
     known: &Vars,
     budget: &mut Budget,
 ) -> Result<Line, ApplyError>
-    requires numbers { IsKnownOf steps.now.nodes numbers.old }
+    requires numbers { AreKnownRows steps.now numbers.old }
     requires points { AllVariables (HasPointsBelow (length steps.now.steps)) p.now }
     ensures line { IfOk result (λ line.
         IsNextLine steps.now known.now budget.old.left p.now line budget.new.left) }
@@ -84,7 +84,7 @@ pub fn next_line_known(
     ensures memory { IsErrOf result ApplyError.NoMemory → (budget.new ≡ budget.old)
         ⊎ ((mv : Move) × IsMoveDue steps.now known.now p.now mv
         × (budget.new.left ≡ left_after steps.now mv p.now budget.old.left)) }
-    ensures numbers { IsKnownOf steps.now.nodes numbers.new }
+    ensures numbers { AreKnownRows steps.now numbers.new }
 {
     next_line_in::<Brand>(alloc, steps, numbers, p, known, budget, Blank::new(1))
 }
@@ -93,7 +93,7 @@ pub fn next_line_known(
 fn next_line_in<L: Ledger>(
     alloc: Global,
     steps: &Steps,
-    numbers: &mut KnownNumbers,
+    numbers: &mut KnownRows,
     p: &Poly,
     known: &Vars,
     budget: &mut Budget,
@@ -102,7 +102,7 @@ fn next_line_in<L: Ledger>(
     requires name { blank.name ≡ L.name }
     requires parts { blank.parts ≡ L.parts }
     requires some { 0 < blank.parts }
-    requires numbers { IsKnownOf steps.now.nodes numbers.old }
+    requires numbers { AreKnownRows steps.now numbers.old }
     requires points { AllVariables (HasPointsBelow (length steps.now.steps)) p.now }
     ensures line { IfOk result (λ line.
         IsNextLine steps.now known.now budget.old.left p.now line budget.new.left) }
@@ -120,14 +120,14 @@ fn next_line_in<L: Ledger>(
     ensures memory { IsErrOf result ApplyError.NoMemory → (budget.new ≡ budget.old)
         ⊎ ((mv : Move) × IsMoveDue steps.now known.now p.now mv
         × (budget.new.left ≡ left_after steps.now mv p.now budget.old.left)) }
-    ensures numbers { IsKnownOf steps.now.nodes numbers.new }
+    ensures numbers { AreKnownRows steps.now numbers.new }
 {
     // From here on it is known that the steps are a construction.
     prove!(steps.count() <= 512);
     if let Some(line) = cut_line(alloc, p, &known.items)? {
         return Ok(line);
     }
-    let Some(mv) = next_move(steps, p) else {
+    let Some(mv) = next_move(alloc, steps, p)? else {
         return Ok(Line::End);
     };
     let mut ticks = Ticks::<L>::new(blank);

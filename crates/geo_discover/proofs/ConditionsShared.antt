@@ -1,8 +1,8 @@
 -- What the chains of the conditions came to serves all candidates.
 use Rattle.std.proofs.Common.{◌≡◌, ℕ, ◌+◌, ◌-◌, ◌<◌, ◌≤◌, ◌^◌, Option, None, Some, List, [], ◌∷◌, ◌++◌, length, refl, sym, ap, subst, arith}
 use Rattle.std.specs.Prelude.{IfNone}
-use Rattle.fraction_poly.specs.declared.known_numbers.KnownNumbers.{KnownNumbers}
-use Rattle.fraction_poly.specs.Inner.Known.{IsKnownOf}
+use Rattle.elim_apply.specs.declared.kept_rows.KnownRows.{KnownRows}
+use Rattle.elim_apply.specs.Kept.{AreKnownRows}
 use Rattle.geo_conditions.specs.declared.problem.Problem.{Problem}
 use Rattle.geo_conditions.specs.Lists.{IsProblem}
 use Rattle.geo_conditions.specs.Problems.{form_of_problem}
@@ -129,7 +129,7 @@ begun_new xs lines size held t a b d h =
 
 pub figure_is : (p : Source) (s : Statement) (q : Source) (figure : Figure) → q ≡ with_statement p s → figure.steps < 2 ^ 127 → IsCandidate p s
     → IsProblem Two q (form_of_problem figure.problem) figure.problem.conditions figure.problem.goals
-    → IsKnownOf figure.problem.steps.nodes figure.numbers
+    → AreKnownRows figure.problem.steps figure.numbers
     → AreWorked figure.problem.steps (items_of figure.problem.steps.nodes figure.problem.conditions) figure.steps (length q.commands + 2)
     figure.findings.known figure.findings.ends figure.conditions
     → IsFigureOf p figure
@@ -146,8 +146,8 @@ figure_is p s q figure same small candidate problem numbers worked = record {
 }
 
 -- it stays so where no more is found, and other numbers are known
-pub figure_kept : (p : Source) (figure : Figure) (numbers : KnownNumbers) (findings : Findings) → IsFigureOf p figure
-    → findings.known ≡ figure.findings.known → findings.ends ≡ figure.findings.ends → IsKnownOf figure.problem.steps.nodes numbers
+pub figure_kept : (p : Source) (figure : Figure) (numbers : KnownRows) (findings : Findings) → IsFigureOf p figure
+    → findings.known ≡ figure.findings.known → findings.ends ≡ figure.findings.ends → AreKnownRows figure.problem.steps numbers
     → IsFigureOf p (record figure { numbers = numbers; findings = findings })
 figure_kept p figure numbers findings h known ends k = record {
   small = h.small;

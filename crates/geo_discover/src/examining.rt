@@ -1,7 +1,7 @@
 //! What the log of one candidate says of it.
 
 ghost use Rattle.std.specs.Prelude.{◌≡◌, ◌≢◌, ◌≤◌, [], All, IfOk, IfSome, OnOk, Some, length};
-ghost use Rattle.fraction_poly.specs.Inner.Known.{IsKnownOf};
+ghost use Rattle.elim_apply.specs.Kept.{AreKnownRows};
 ghost use Rattle.geo_poly.specs.Specialise.{NoneZero};
 ghost use Rattle.geo_program.specs.Programs.{program_text, source_of};
 ghost use Rattle.geo_program.specs.Relations.{with_statement};
@@ -14,7 +14,7 @@ ghost use Rattle.geo_discover.specs.Inner.Sharing.{IsFigureOf, IsSaid, program_l
 
 use crate::figure::{Figure, Worked};
 use crate::goal::{Goal, goal_of};
-use elim_apply::KnownNumbers;
+use elim_apply::KnownRows;
 use geo_base::{Budget, SureSink};
 use geo_points::NoMemory;
 use geo_program::{Program, Statement};
@@ -157,19 +157,19 @@ fn judge_goal(
     goal: &Goal,
     left: u64,
     findings: &mut Findings,
-    numbers: &mut KnownNumbers,
+    numbers: &mut KnownRows,
     mut log: LogWriter,
     mut text: SureSink,
 ) -> Result<Judgement, NoMemory>
     requires ready { All (IsItemReady steps.now goal.now.terms.nodes) goal.now.goals }
-    requires numbers { IsKnownOf steps.now.nodes numbers.old }
+    requires numbers { AreKnownRows steps.now numbers.old }
     requires nonzero { NoneZero findings.old.ends }
     requires writable { CanWrite Full steps.now (goals_from Full steps.now goal.now.terms.nodes
         goal.now.goals 0 findings.old.known findings.old.ends left) log.size }
     ensures said { IfOk result (IsSaid steps.now (goals_from Full steps.now goal.now.terms.nodes
         goal.now.goals 0 findings.old.known findings.old.ends left)
         (state log (Some text) 0)) }
-    ensures numbers { IsKnownOf steps.now.nodes numbers.new }
+    ensures numbers { AreKnownRows steps.now numbers.new }
     ensures known { findings.new.known ≡ findings.old.known }
     ensures ends { findings.new.ends ≡ findings.old.ends }
 {

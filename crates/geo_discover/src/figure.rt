@@ -1,7 +1,7 @@
 //! What all candidates of a search have in common, worked once, before the first of them.
 
 ghost use Rattle.std.specs.Prelude.{◌≡◌, ◌+◌, ◌≤◌, ℕ, [], IfOk, length};
-ghost use Rattle.fraction_poly.specs.Inner.Known.{IsKnownOf};
+ghost use Rattle.elim_apply.specs.Kept.{AreKnownRows};
 ghost use Rattle.geo_conditions.specs.Lists.{IsProblem};
 ghost use Rattle.geo_conditions.specs.Problems.{form_of_problem};
 ghost use Rattle.geo_lowering.specs.declared.version.Version.TheVariants.{Two};
@@ -12,7 +12,7 @@ ghost use Rattle.log_maker.specs.declared.frame.Frame.TheVariants.{Full};
 ghost use Rattle.geo_discover.specs.Inner.Searching.{IsCandidate};
 ghost use Rattle.geo_discover.specs.Inner.Sharing.{AreWorked, IsFigureOf, stopped_by};
 
-use elim_apply::KnownNumbers;
+use elim_apply::KnownRows;
 use geo_base::{Budget, SureSink};
 use geo_conditions::Problem;
 use geo_lowering::Version;
@@ -31,7 +31,7 @@ pub(crate) struct Figure {
     /// The lowered steps and the conditions. Its goals are those of one candidate.
     pub problem: Problem,
     /// The numbers of the steps, as far as they are known.
-    pub numbers: KnownNumbers,
+    pub numbers: KnownRows,
     /// What the chains of the conditions have shown.
     pub findings: Findings,
     /// What these chains came to.
@@ -70,7 +70,7 @@ pub(crate) fn figure_of(
 {
     let candidate = program.with_statement(alloc, statement)?;
     let problem = problem_by(alloc, Version::Two, &candidate)?;
-    let mut numbers = KnownNumbers::new(alloc)?;
+    let mut numbers = KnownRows::new(alloc)?;
     let mut findings = Findings::new(alloc);
     let conditions = conditions_of(
         alloc,
@@ -96,17 +96,17 @@ fn conditions_of(
     problem: &Problem,
     steps: u64,
     findings: &mut Findings,
-    numbers: &mut KnownNumbers,
+    numbers: &mut KnownRows,
 ) -> Worked
     requires problem { IsProblem Two (source_of candidate.now) (form_of_problem problem.now)
         problem.now.conditions problem.now.goals }
-    requires numbers { IsKnownOf problem.now.steps.nodes numbers.old }
+    requires numbers { AreKnownRows problem.now.steps numbers.old }
     requires known { findings.old.known ≡ [] }
     requires ends { findings.old.ends ≡ [] }
     ensures worked { AreWorked problem.now.steps
         (items_of problem.now.steps.nodes problem.now.conditions) steps
         (length candidate.now.commands + 2) findings.new.known findings.new.ends result }
-    ensures numbers { IsKnownOf problem.now.steps.nodes numbers.new }
+    ensures numbers { AreKnownRows problem.now.steps numbers.new }
 {
     let mut log = LogWriter::new();
     let mut front = SureSink::new(alloc);
@@ -122,20 +122,20 @@ fn conditions_behind(
     problem: &Problem,
     steps: u64,
     findings: &mut Findings,
-    numbers: &mut KnownNumbers,
+    numbers: &mut KnownRows,
     mut log: LogWriter,
 ) -> Worked
     requires ready { IsReady problem.now }
     requires writable { CanWrite Full problem.now.steps
         (conditions_from Full problem.now 0 [] [] steps) log.size }
     requires written { (bytes : ℕ) × (log.size ≡ Size.Written bytes) }
-    requires numbers { IsKnownOf problem.now.steps.nodes numbers.old }
+    requires numbers { AreKnownRows problem.now.steps numbers.old }
     requires known { findings.old.known ≡ [] }
     requires ends { findings.old.ends ≡ [] }
     ensures worked { AreWorked problem.now.steps
         (items_of problem.now.steps.nodes problem.now.conditions) steps log.lines
         findings.new.known findings.new.ends result }
-    ensures numbers { IsKnownOf problem.now.steps.nodes numbers.new }
+    ensures numbers { AreKnownRows problem.now.steps numbers.new }
 {
     let before = log.lines;
     let mut text = SureSink::new(alloc);

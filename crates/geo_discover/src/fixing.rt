@@ -9,7 +9,7 @@ ghost use Rattle.geo_program.specs.Programs.{source_of};
 ghost use Rattle.log_checker.specs.Laws.{IsDecided};
 
 use crate::errors::FixedError;
-use elim_apply::KnownNumbers;
+use elim_apply::KnownRows;
 use geo_base::{Budget, SureSink};
 use geo_lowering::Version;
 use geo_program::Program;
@@ -39,7 +39,7 @@ fn fixed_all(alloc: Global, program: &Program, steps: u64) -> Result<Verdict, Fi
     ensures err { IfErr result (IsFixedStop (source_of program.now) steps) }
 {
     let problem = problem_by(alloc, Version::Two, program)?;
-    let mut numbers = KnownNumbers::new(alloc)?;
+    let mut numbers = KnownRows::new(alloc)?;
     let mut budget = Budget { left: steps };
     let mut log = LogWriter::counting(lines_before(program));
     let mut sink = SureSink::new(alloc);

@@ -2,7 +2,7 @@
 
 ghost use Rattle.std.specs.Prelude.{◌≡◌, ◌≢◌, ◌+◌, ◌-◌, ◌<◌, IfErr, IfOk, OnOk, length};
 ghost use Rattle.elim_apply.specs.declared.errors.ApplyError.TheVariants.{NoRow};
-ghost use Rattle.fraction_poly.specs.Inner.Known.{IsKnownOf};
+ghost use Rattle.elim_apply.specs.Kept.{AreKnownRows};
 ghost use Rattle.fraction_poly.specs.TableRows.{HasPointsBelow};
 ghost use Rattle.geo_chain.specs.NextLines.{HasLinePointsBelow, IsNextLine};
 ghost use Rattle.geo_logs.specs.Places.{before_start, in_chain};
@@ -15,7 +15,7 @@ ghost use Rattle.geo_library.specs.Inner.Counting.{IsChainHalted, IsChainWorked,
 ghost use Rattle.geo_library.specs.Inner.Counting.{TellsStop, error_of_stop, polynomial_on};
 
 use crate::errors::CiteError;
-use elim_apply::{ApplyError, KnownNumbers, start};
+use elim_apply::{ApplyError, KnownRows, start};
 use geo_base::Budget;
 use geo_chain::next_line_known;
 use geo_points::TermId;
@@ -56,19 +56,19 @@ pub fn work_chain(
     alloc: Global,
     steps: &Steps,
     known: &Vars,
-    numbers: &mut KnownNumbers,
+    numbers: &mut KnownRows,
     term: TermId,
     now: &mut Progress,
 ) -> Result<Poly, CiteError>
     requires stored { term.0 < length steps.now.nodes }
     requires inside { IsTermBelow (length steps.now.steps) steps.now.params
         (tree_of steps.now.nodes term) }
-    requires numbers { IsKnownOf steps.now.nodes numbers.old }
+    requires numbers { AreKnownRows steps.now numbers.old }
     ensures ok { IfOk result (IsChainWorked steps.now known.now now.old.lines
         now.old.budget.left (tree_of steps.now.nodes term) now.new.lines now.new.budget.left) }
     ensures err { IfErr result (TellsStop (IsChainHalted steps.now known.now now.old.lines
         now.old.budget.left (tree_of steps.now.nodes term))) }
-    ensures numbers { IsKnownOf steps.now.nodes numbers.new }
+    ensures numbers { AreKnownRows steps.now numbers.new }
 {
     now.count()?;
     let first = first_polynomial(alloc, steps, term, now)?;
@@ -105,17 +105,17 @@ fn work_steps(
     alloc: Global,
     steps: &Steps,
     known: &Vars,
-    numbers: &mut KnownNumbers,
+    numbers: &mut KnownRows,
     first: Poly,
     now: &mut Progress,
 ) -> Result<Poly, CiteError>
-    requires numbers { IsKnownOf steps.now.nodes numbers.old }
+    requires numbers { AreKnownRows steps.now numbers.old }
     requires points { AllVariables (HasPointsBelow (length steps.now.steps)) first }
     ensures ok { IfOk result (AreStepsWorked steps.now known.now now.old.lines
         now.old.budget.left first now.new.lines now.new.budget.left) }
     ensures err { IfErr result (TellsStop (AreStepsStopped steps.now known.now now.old.lines
         now.old.budget.left first)) }
-    ensures numbers { IsKnownOf steps.now.nodes numbers.new }
+    ensures numbers { AreKnownRows steps.now numbers.new }
 {
     let mut last = first;
     loop {
@@ -132,11 +132,11 @@ fn line_after(
     alloc: Global,
     steps: &Steps,
     known: &Vars,
-    numbers: &mut KnownNumbers,
+    numbers: &mut KnownRows,
     last: &Poly,
     now: &mut Progress,
 ) -> Result<Line, CiteError>
-    requires numbers { IsKnownOf steps.now.nodes numbers.old }
+    requires numbers { AreKnownRows steps.now numbers.old }
     requires points { AllVariables (HasPointsBelow (length steps.now.steps)) last.now }
     ensures line { IfOk result (λ line. IsNextLine steps.now known.now now.old.budget.left
         last.now line now.new.budget.left) }
@@ -145,7 +145,7 @@ fn line_after(
     ensures few { OnOk result (now.old.lines < 18446744073709551615) }
     ensures err { IfErr result (TellsStop (IsStopAt steps.now
         (in_chain known.now now.old.budget.left last.now) (now.old.lines + 1))) }
-    ensures numbers { IsKnownOf steps.now.nodes numbers.new }
+    ensures numbers { AreKnownRows steps.now numbers.new }
 {
     now.count()?;
     let number = now.lines;

@@ -2,7 +2,7 @@
 
 ghost use Rattle.std.specs.Prelude.{◌≡◌, ◌<◌, ℕ, None, Some, IfErr, IfOk, MatchBool, OnOk, [], length, map};
 ghost use Rattle.std.specs.List.{AllByRecursion};
-ghost use Rattle.fraction_poly.specs.Inner.Known.{IsKnownOf};
+ghost use Rattle.elim_apply.specs.Kept.{AreKnownRows};
 ghost use Rattle.geo_library.specs.declared.errors.CiteError.TheVariants.{NotInstance};
 ghost use Rattle.geo_library.specs.Inner.Asking.{asked_form};
 ghost use Rattle.geo_library.specs.Inner.Counting.{IsChainWorked};
@@ -14,7 +14,7 @@ ghost use Rattle.geo_terms.specs.TermBounds.{IsTermBelow};
 use crate::asking::AskedGoal;
 use crate::chains::{Progress, work_chain};
 use crate::errors::CiteError;
-use elim_apply::KnownNumbers;
+use elim_apply::KnownRows;
 use geo_poly::lists::Vars;
 use geo_terms::Steps;
 use std::alloc::Global;
@@ -37,7 +37,7 @@ pub fn work_goals(
     ensures missed { IfErr result (TellsMiss (IsFirstGoalMiss steps.now known.now missing now.lines
         now.budget.left (map (asked_form steps.now.nodes) goals.now))) }
 {
-    let mut numbers = KnownNumbers::new(alloc)?;
+    let mut numbers = KnownRows::new(alloc)?;
     let mut now = now;
     for goal in goals {
         if !is_before(missing, goal.line) {
@@ -53,19 +53,19 @@ fn work_goal(
     alloc: Global,
     steps: &Steps,
     known: &Vars,
-    numbers: &mut KnownNumbers,
+    numbers: &mut KnownRows,
     goal: AskedGoal,
     now: &mut Progress,
 ) -> Result<(), CiteError>
     requires stored { goal.term.0 < length steps.now.nodes }
     requires inside { IsTermBelow (length steps.now.steps) steps.now.params
         (tree_of steps.now.nodes goal.term) }
-    requires numbers { IsKnownOf steps.now.nodes numbers.old }
+    requires numbers { AreKnownRows steps.now numbers.old }
     ensures zero { OnOk result (IsChainWorked steps.now known.now now.old.lines
         now.old.budget.left (tree_of steps.now.nodes goal.term) now.new.lines now.new.budget.left []) }
     ensures missed { IfErr result (TellsMiss (IsGoalMissed steps.now known.now now.old.lines
         now.old.budget.left (asked_form steps.now.nodes goal))) }
-    ensures numbers { IsKnownOf steps.now.nodes numbers.new }
+    ensures numbers { AreKnownRows steps.now numbers.new }
 {
     let end = work_chain(alloc, steps, known, numbers, goal.term, now)?;
     if end.is_zero() {

@@ -6,9 +6,12 @@ use Rattle.sparse_lists.specs.SparseLists.{AllKeys}
 use Rattle.mono_store.specs.Stores.{Keeps, Links}
 use Rattle.poly_arena.specs.Chains.{Chains, IsLive, Merges, Pairs, Updates, list_of, pairs_of}
 use Rattle.geo_poly.specs.declared.variables.Var.{Var}
-use Rattle.geo_poly.specs.Chained.{AddsChain, IsKey, SameChains, StandsFor, keyed_terms}
+use Rattle.geo_poly.specs.Chained.{AddsChain, IsKey, SameChains, StandsFor, StandsUnder, keyed_terms, keyed_terms_under}
+use Rattle.geo_poly.specs.Inner.Keyed.{KeepsKeys}
+use Rattle.geo_poly.specs.Keys.{IsKeyUnder, Keys, store_keys}
 use Rattle.geo_poly.specs.Polynomials.{Summands}
 use Rattle.geo_poly.proofs.KeyedChains.{keyed_terms-kept, keys-kept}
+use Rattle.geo_poly.proofs.KeysKept.{keeps_keys}
 
 pub same_or : (m n : ℕ) → (m ≡ n) ⊎ (m ≢ n)
 same_or zero zero = inl refl
@@ -46,24 +49,34 @@ AddsChain-merges old one two new first second list a b differ m = record {
   ];
 }
 
--- a chain that keeps its list stands for what it stood for, where the store grows
-pub StandsFor-kept : (vars : List Var) (old new : Links) (before after : Chains) (number : ℕ) (p : Summands) → Keeps old new → list_of after number ≡ list_of before number
-    → StandsFor vars old before number p → StandsFor vars new after number p
-StandsFor-kept vars old new before after number p kept same h =
+-- a chain that keeps its list stands for what it stood for, where keys are added
+pub StandsUnder-kept : (vars : List Var) (old new : Keys) (before after : Chains) (number : ℕ) (p : Summands) → KeepsKeys old new
+    → list_of after number ≡ list_of before number → StandsUnder vars old before number p → StandsUnder vars new after number p
+StandsUnder-kept vars old new before after number p kept same h =
     let pairs : pairs_of after number ≡ pairs_of before number = ap (λ (o : Option Pairs). unwrap_or o []) same in
     record {
       live = subst IsSome (sym same) h.live;
-      keys = subst (λ (ts : Pairs). AllKeys (IsKey vars new) ts) (sym pairs) (keys-kept vars old new (pairs_of before number) kept h.keys);
-      terms = ap (keyed_terms vars new) pairs ∙ keyed_terms-kept vars old new (pairs_of before number) kept h.keys ∙ h.terms;
+      keys = subst (λ (ts : Pairs). AllKeys (IsKeyUnder vars new) ts) (sym pairs) (keys-kept vars old new (pairs_of before number) kept h.keys);
+      terms = ap (keyed_terms_under vars new) pairs ∙ keyed_terms-kept vars old new (pairs_of before number) kept h.keys ∙ h.terms;
     }
 
 -- a chain that has this list stands for its terms
-pub StandsFor-list : (vars : List Var) (links : Links) (arena : Chains) (number : ℕ) (list : Pairs) (p : Summands) → list_of arena number ≡ Some list
-    → AllKeys (IsKey vars links) list → keyed_terms vars links list ≡ p → StandsFor vars links arena number p
-StandsFor-list vars links arena number list p is keys terms =
+pub StandsUnder-list : (vars : List Var) (keys : Keys) (arena : Chains) (number : ℕ) (list : Pairs) (p : Summands) → list_of arena number ≡ Some list
+    → AllKeys (IsKeyUnder vars keys) list → keyed_terms_under vars keys list ≡ p → StandsUnder vars keys arena number p
+StandsUnder-list vars keys arena number list p is within terms =
     let pairs : pairs_of arena number ≡ list = ap (λ (o : Option Pairs). unwrap_or o []) is in
     record {
       live = subst IsSome (sym is) refl;
-      keys = subst (λ (ts : Pairs). AllKeys (IsKey vars links) ts) (sym pairs) keys;
-      terms = ap (keyed_terms vars links) pairs ∙ terms;
+      keys = subst (λ (ts : Pairs). AllKeys (IsKeyUnder vars keys) ts) (sym pairs) within;
+      terms = ap (keyed_terms_under vars keys) pairs ∙ terms;
     }
+
+-- the same under the indices of a store
+pub StandsFor-kept : (vars : List Var) (old new : Links) (before after : Chains) (number : ℕ) (p : Summands) → Keeps old new → list_of after number ≡ list_of before number
+    → StandsFor vars old before number p → StandsFor vars new after number p
+StandsFor-kept vars old new before after number p kept same h =
+    StandsUnder-kept vars (store_keys old) (store_keys new) before after number p (keeps_keys old new kept) same h
+
+pub StandsFor-list : (vars : List Var) (links : Links) (arena : Chains) (number : ℕ) (list : Pairs) (p : Summands) → list_of arena number ≡ Some list
+    → AllKeys (IsKey vars links) list → keyed_terms vars links list ≡ p → StandsFor vars links arena number p
+StandsFor-list vars links arena number list p is keys terms = StandsUnder-list vars (store_keys links) arena number list p is keys terms

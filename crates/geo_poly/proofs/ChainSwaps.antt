@@ -7,13 +7,15 @@ use Rattle.geo_poly.specs.declared.replacement.Row.{Row}
 use Rattle.geo_poly.specs.declared.settings.Setting.{Setting}
 use Rattle.geo_poly.specs.declared.variables.Var.{Var}
 use Rattle.geo_poly.specs.Chained.{AddsChain, SameChains}
-use Rattle.geo_poly.specs.Inner.Settings.{AreStored, IsSet, IsStoredAs, Swaps}
+use Rattle.geo_poly.specs.Inner.Keyed.{KeepsKeys}
+use Rattle.geo_poly.specs.Inner.Settings.{AreStored, AreStoredUnder, IsSet, IsSetUnder, IsStoredUnder, Swaps}
+use Rattle.geo_poly.specs.Keys.{Keys, store_keys}
 use Rattle.geo_poly.specs.KeptVariables.{AllNumerators}
 use Rattle.geo_poly.specs.Polynomials.{Summands}
 use Rattle.geo_poly.specs.PolynomialVariables.{AllVariables}
 use Rattle.geo_poly.specs.Shared.{Indices}
 use Rattle.geo_poly.proofs.ChainSteps.{same_or}
-use Rattle.geo_poly.proofs.Told.{indices-kept, terms_of-kept}
+use Rattle.geo_poly.proofs.KeysKept.{indices_under-kept, keeps_keys, terms_under-kept}
 
 -- what holds in any case holds where there is an error
 pub on_err : {T E : Type 0} (r : Result T E) (P : Type 0) → P → OnErr r P
@@ -79,34 +81,43 @@ spent_same old mid new gone u same = record { changed = same.lists gone ∙ u.ch
 
 -- WHAT IS STORED
 
-pub IsStoredAs-kept : (vars : List Var) (old new : Links) (list : Indices) (p : Summands) → Keeps old new → IsStoredAs vars old list p → IsStoredAs vars new list p
-IsStoredAs-kept vars old new list p kept h = record {
-  indices = indices-kept vars old new list kept h.indices;
-  terms = terms_of-kept vars old new list kept h.indices ∙ h.terms;
+pub IsStoredUnder-kept : (vars : List Var) (old new : Keys) (list : Indices) (p : Summands) → KeepsKeys old new → IsStoredUnder vars old list p → IsStoredUnder vars new list p
+IsStoredUnder-kept vars old new list p kept h = record {
+  indices = indices_under-kept vars old new list kept h.indices;
+  terms = terms_under-kept vars old new list kept h.indices ∙ h.terms;
   polynomial = h.polynomial;
 }
 
-pub AreStored-kept : (vars : List Var) (old new : Links) (rows : List Row) (lists : List Indices) → Keeps old new → AreStored vars old rows lists → AreStored vars new rows lists
-AreStored-kept vars old new [] [] kept h = tt
-AreStored-kept vars old new [] (list ∷ lists) kept h = h
-AreStored-kept vars old new (row ∷ rows) [] kept h = h
-AreStored-kept vars old new (row ∷ rows) (list ∷ lists) kept h = (IsStoredAs-kept vars old new list row.num.poly kept h.0, AreStored-kept vars old new rows lists kept h.1)
+pub AreStoredUnder-kept : (vars : List Var) (old new : Keys) (rows : List Row) (lists : List Indices) → KeepsKeys old new → AreStoredUnder vars old rows lists
+    → AreStoredUnder vars new rows lists
+AreStoredUnder-kept vars old new [] [] kept h = tt
+AreStoredUnder-kept vars old new [] (list ∷ lists) kept h = h
+AreStoredUnder-kept vars old new (row ∷ rows) [] kept h = h
+AreStoredUnder-kept vars old new (row ∷ rows) (list ∷ lists) kept h =
+    (IsStoredUnder-kept vars old new list row.num.poly kept h.0, AreStoredUnder-kept vars old new rows lists kept h.1)
 
-pub AreStored-push : (vars : List Var) (links : Links) (rows : List Row) (lists : List Indices) (row : Row) (list : Indices) → AreStored vars links rows lists
-    → IsStoredAs vars links list row.num.poly → AreStored vars links (rows ++ row ∷ []) (lists ++ list ∷ [])
-AreStored-push vars links [] [] row list h g = (g, tt)
-AreStored-push vars links [] (other ∷ lists) row list h g = absurd h
-AreStored-push vars links (other ∷ rows) [] row list h g = absurd h
-AreStored-push vars links (other ∷ rows) (first ∷ lists) row list h g = (h.0, AreStored-push vars links rows lists row list h.1 g)
+pub AreStoredUnder-push : (vars : List Var) (keys : Keys) (rows : List Row) (lists : List Indices) (row : Row) (list : Indices) → AreStoredUnder vars keys rows lists
+    → IsStoredUnder vars keys list row.num.poly → AreStoredUnder vars keys (rows ++ row ∷ []) (lists ++ list ∷ [])
+AreStoredUnder-push vars keys [] [] row list h g = (g, tt)
+AreStoredUnder-push vars keys [] (other ∷ lists) row list h g = absurd h
+AreStoredUnder-push vars keys (other ∷ rows) [] row list h g = absurd h
+AreStoredUnder-push vars keys (other ∷ rows) (first ∷ lists) row list h g = (h.0, AreStoredUnder-push vars keys rows lists row list h.1 g)
 
-pub IsSet-kept : (setting : Setting) (old new : Links) → Keeps old new → IsSet setting old → IsSet setting new
-IsSet-kept setting old new kept h = record {
+pub IsSetUnder-kept : (setting : Setting) (old new : Keys) → KeepsKeys old new → IsSetUnder setting old → IsSetUnder setting new
+IsSetUnder-kept setting old new kept h = record {
   rising = h.rising;
   rows_bounded = h.rows_bounded;
   den_bounded = h.den_bounded;
-  rows_stored = AreStored-kept setting.vars.now old new setting.rows.now setting.nums.now kept h.rows_stored;
-  den_stored = IsStoredAs-kept setting.vars.now old new setting.den.list.now setting.den.piece.now.poly kept h.den_stored;
+  rows_stored = AreStoredUnder-kept setting.vars.now old new setting.rows.now setting.nums.now kept h.rows_stored;
+  den_stored = IsStoredUnder-kept setting.vars.now old new setting.den.list.now setting.den.piece.now.poly kept h.den_stored;
 }
+
+-- the same where a store grows
+pub AreStored-kept : (vars : List Var) (old new : Links) (rows : List Row) (lists : List Indices) → Keeps old new → AreStored vars old rows lists → AreStored vars new rows lists
+AreStored-kept vars old new rows lists kept h = AreStoredUnder-kept vars (store_keys old) (store_keys new) rows lists (keeps_keys old new kept) h
+
+pub IsSet-kept : (setting : Setting) (old new : Links) → Keeps old new → IsSet setting old → IsSet setting new
+IsSet-kept setting old new kept h = IsSetUnder-kept setting (store_keys old) (store_keys new) (keeps_keys old new kept) h
 
 -- what each numerator has, that of a row has
 pub AllNumerators-at : (Holds : Var → Type 0) (rows : List Row) (i : ℕ) (row : Row) → i < length rows → row ≡ get_or rows i row → AllNumerators Holds rows → AllVariables Holds row.num.poly

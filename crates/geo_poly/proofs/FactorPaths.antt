@@ -9,12 +9,15 @@ use Rattle.geo_poly.specs.declared.replacement.Row.{Row}
 use Rattle.geo_poly.specs.declared.settings.Setting.{Setting}
 use Rattle.geo_poly.specs.declared.variables.Var.{Var}
 use Rattle.geo_poly.specs.Inner.Accumulated.{times_power, times_row, times_rows}
+use Rattle.geo_poly.specs.Inner.Keyed.{exponent_with, greatest_exponent}
+use Rattle.geo_poly.specs.Inner.ReplacedExponents.{exponent_in_row, exponent_in_rows}
 use Rattle.geo_poly.specs.Inner.Factored.{AreFactors, count_with, degree_with, numerator_at, piece_of, pieces_of, products_with, times_pieces, weight_with}
 use Rattle.geo_poly.specs.Inner.TermFactors.{AreNonzeroRows, HasNoZero, IsNonzeroRow}
 use Rattle.geo_poly.specs.Monomials.{Powers}
 use Rattle.geo_poly.specs.Polynomials.{Summands, product_of}
 use Rattle.geo_poly.specs.Replace.{AllBounded, IsBounded, degree_row, degree_rows, denominators, row_of, weight_row, weight_rows}
 use Rattle.geo_poly.proofs.FactoredTerms.{count_with-append, degree_with-append, degree_with-is, times_pieces-append, weight_with-append}
+use Rattle.geo_poly.proofs.PieceReach.{with-append, with-is}
 use Rattle.geo_poly.proofs.PolynomialRing.{product_of-assoc}
 use Rattle.geo_poly.proofs.ProductOrder.{product_of_comm}
 use Rattle.geo_poly.proofs.TickBounds.{count_rows-scale, counted, counted_row}
@@ -35,6 +38,10 @@ weight_same q (suc n) w = ap (λ x. x * q.weight) (weight_same q n w) ∙ mul_as
 degree_same : (q : Piece) (n d : ℕ) → degree_with (replicate n q) d ≡ d + q.degree * n
 degree_same q zero d = omega arith
 degree_same q (suc n) d = omega (arith, degree_same q n d)
+
+exponent_same : (v : Var) (q : Piece) (n e : ℕ) → exponent_with v (replicate n q) e ≡ e + greatest_exponent v q.poly * n
+exponent_same v q zero e = omega arith
+exponent_same v q (suc n) e = omega (arith, exponent_same v q n e)
 
 count_same : (q : Piece) (n m : ℕ) → count_with (replicate n q) m ≡ m * q.count ^ n
 count_same q zero m = omega (arith, ap (λ x. m * x) (pow-zero q.count))
@@ -68,6 +75,7 @@ pub record Path (rows : List Row) (den : Piece) (done : Powers) (lacking : ℕ) 
   pub terms : (p : Summands) → times_pieces (pieces_of rows den ks) p ≡ times_power (times_rows rows done p) den.poly lacking
   pub weight : (w : ℕ) → weight_with (pieces_of rows den ks) w ≡ weight_rows rows done w * den.weight ^ lacking
   pub degree : (d : ℕ) → degree_with (pieces_of rows den ks) d ≡ degree_rows rows done d + den.degree * lacking
+  pub exponents : (v : Var) (e : ℕ) → exponent_with v (pieces_of rows den ks) e ≡ exponent_in_rows v rows done e + greatest_exponent v den.poly * lacking
   pub counts : (n : ℕ) → count_with (pieces_of rows den ks) n ≡ count_rows rows done n * den.count ^ lacking
   pub some : AllSome (pieces_of rows den ks)
   pub long : length ks ≡ replaced_exponents rows done + lacking
@@ -79,6 +87,7 @@ Path-start rows den lacking h =
       terms = λ p. ap (λ (qs : List Piece). times_pieces qs p) same ∙ times_same den lacking p;
       weight = λ w. ap (λ (qs : List Piece). weight_with qs w) same ∙ weight_same den lacking w;
       degree = λ d. ap (λ (qs : List Piece). degree_with qs d) same ∙ degree_same den lacking d;
+      exponents = λ v e. ap (λ (qs : List Piece). exponent_with v qs e) same ∙ exponent_same v den lacking e;
       counts = λ n. ap (λ (qs : List Piece). count_with qs n) same ∙ count_same den lacking n;
       some = subst AllSome (sym same) (some_same den lacking h);
       long = omega (arith, length-replicate {A = ℕ} lacking 0);
@@ -121,6 +130,11 @@ degrees_push : (rows : List Row) (done : Powers) (v : Var × ℕ) (d : ℕ) → 
 degrees_push rows [] v d = refl
 degrees_push rows (u ∷ done) v d = degrees_push rows done v (degree_row (row_of rows u.0) u.1 d)
 
+in_rows_push : (x : Var) (rows : List Row) (done : Powers) (v : Var × ℕ) (e : ℕ)
+    → exponent_in_rows x rows (done ++ v ∷ []) e ≡ exponent_in_row x (row_of rows v.0) v.1 (exponent_in_rows x rows done e)
+in_rows_push x rows [] v e = refl
+in_rows_push x rows (u ∷ done) v e = in_rows_push x rows done v (exponent_in_row x (row_of rows u.0) u.1 e)
+
 counts_push : (rows : List Row) (done : Powers) (v : Var × ℕ) (n : ℕ) → count_rows rows (done ++ v ∷ []) n ≡ count_row (row_of rows v.0) v.1 (count_rows rows done n)
 counts_push rows [] v n = refl
 counts_push rows (u ∷ done) v n = counts_push rows done v (count_row (row_of rows u.0) u.1 n)
@@ -135,6 +149,8 @@ Path-none rows den v done lacking ks e h = record {
   terms = λ p. h.terms p ∙ ap (λ (x : Summands). times_power x den.poly lacking) (sym (rows_push rows done v p ∙ ap (λ (o : Option Row). times_row o v.1 (times_rows rows done p)) e));
   weight = λ w. h.weight w ∙ ap (λ x. x * den.weight ^ lacking) (sym (weights_push rows done v w ∙ ap (λ (o : Option Row). weight_row o v.1 (weight_rows rows done w)) e));
   degree = λ d. h.degree d ∙ ap (λ x. x + den.degree * lacking) (sym (degrees_push rows done v d ∙ ap (λ (o : Option Row). degree_row o v.1 (degree_rows rows done d)) e));
+  exponents = λ x k. h.exponents x k
+      ∙ ap (λ y. y + greatest_exponent x den.poly * lacking) (sym (in_rows_push x rows done v k ∙ ap (λ (o : Option Row). exponent_in_row x o v.1 (exponent_in_rows x rows done k)) e));
   counts = λ n. h.counts n ∙ ap (λ x. x * den.count ^ lacking) (sym (counts_push rows done v n ∙ ap (λ (o : Option Row). count_row o v.1 (count_rows rows done n)) e));
   some = h.some;
   long = let exponents : exponent_row (row_of rows v.0) v.1 ≡ 0 = ap (λ (o : Option Row). exponent_row o v.1) e in omega (arith, exponents, exponents_push rows done v, h.long);
@@ -169,6 +185,10 @@ Path-some rows den v done lacking ks i r at e counted h =
           let whole = ap (λ (x : List Piece). degree_with x d) same ∙ degree_with-append qs more d ∙ ap (degree_with qs) (degree_same r.num v.1 d) in
           let pushed = degrees_push rows done v d ∙ ap (λ (o : Option Row). degree_row o v.1 (degree_rows rows done d)) e in
           omega (arith, whole, pushed, h.degree d, degree_with-is qs d, degree_with-is qs (d + r.num.degree * v.1));
+      exponents = λ x k.
+          let whole = ap (λ (y : List Piece). exponent_with x y k) same ∙ with-append x qs more k ∙ ap (exponent_with x qs) (exponent_same x r.num v.1 k) in
+          let pushed = in_rows_push x rows done v k ∙ ap (λ (o : Option Row). exponent_in_row x o v.1 (exponent_in_rows x rows done k)) e in
+          omega (arith, whole, pushed, h.exponents x k, with-is x qs k, with-is x qs (k + greatest_exponent x r.num.poly * v.1));
       counts = λ n.
           let whole = ap (λ (x : List Piece). count_with x n) same ∙ count_with-append qs more n
           ∙ ap (count_with qs) (count_same r.num v.1 n) ∙ count_scale qs n (r.num.count ^ v.1)
@@ -191,6 +211,7 @@ Path-end setting m lacking ks e h =
       terms = λ p. h.terms p ∙ ap (times_power (times_rows rows m p) den.poly) e;
       weight = λ w. h.weight w ∙ ap (λ (n : ℕ). weight_rows rows m w * den.weight ^ n) e;
       degree = λ d. h.degree d ∙ ap (λ (n : ℕ). degree_rows rows m d + den.degree * n) e;
+      exponents = λ v k. h.exponents v k ∙ ap (λ (n : ℕ). exponent_in_rows v rows m k + greatest_exponent v den.poly * n) e;
       products =
           let qs = pieces_of rows den ks in
           let d = den.count ^ lacking in

@@ -1,48 +1,52 @@
 -- What a nested sum makes of one term, and of two parts that are added and get what all share.
-use Rattle.std.proofs.Common.{◌≡◌, ℕ, ◌+◌, ◌^◌, ◌<◌, ◌≤◌, ℤ, List, [], ◌∷◌, drop, get_or, length, map, sym, ap, ap₂, subst, ◌∙◌, take, unsigned_abs, arith}
+use Rattle.std.proofs.Common.{◌≡◌, ℕ, ◌+◌, ◌^◌, ◌<◌, ◌≤◌, ℤ, List, [], ◌∷◌, drop, get_or, length, map, refl, sym, ap, ap₂, subst, ◌∙◌, take, unsigned_abs, arith}
 use Rattle.std.specs.Prelude.{All}
 use Rattle.std.proofs.lemmas.List.{append-nil}
 use Rattle.std.proofs.lemmas.List.Elements.{All-head}
 use Rattle.std.proofs.lemmas.List.Sums.{sum_by-cons}
 use Rattle.sparse_lists.specs.SparseLists.{AllKeys, IsCanonical}
 use Rattle.sparse_lists.proofs.Canonical.{canonical_self}
-use Rattle.mono_store.specs.Stores.{Keeps, Links}
 use Rattle.poly_arena.specs.Chains.{Chains, Merges, Pairs, pairs_of}
-use Rattle.geo_poly.specs.Chained.{AddsChain, StandsFor, keyed_terms}
+use Rattle.geo_poly.specs.Chained.{AddsChain, StandsUnder, keyed_terms_under}
 use Rattle.geo_poly.specs.declared.pending.Pending.{Pending}
 use Rattle.geo_poly.specs.declared.replacement.Piece.{Piece}
 use Rattle.geo_poly.specs.declared.settings.Setting.{Setting}
 use Rattle.geo_poly.specs.declared.shared.Shared.{Shared}
 use Rattle.geo_poly.specs.declared.variables.Var.{Var}
 use Rattle.geo_poly.specs.Inner.Factored.{Factored, IsPending, degree_with, factored_products, factored_terms, factored_weight, pieces_of, products_with, times_pieces, told_pending, weight_with}
-use Rattle.geo_poly.specs.Inner.Settings.{IsSet}
-use Rattle.geo_poly.specs.Monomials.{IsMonomial, Powers, degree_of}
+use Rattle.geo_poly.specs.Inner.Settings.{IsSetUnder}
+use Rattle.geo_poly.specs.Inner.Keyed.{ArePiecesInReach, HasRoom, KeepsKeys, exponent_with, greatest_exponent}
+use Rattle.geo_poly.specs.Inner.ReplacedExponents.{IsReplacedInReach, exponent_bound}
+use Rattle.geo_poly.specs.Keys.{Keys}
+use Rattle.geo_poly.specs.Monomials.{IsMonomial, Powers, degree_of, exponent}
 use Rattle.geo_poly.specs.Polynomials.{Summands, coefficients, norm_of, polynomial_of, sum_of, term_cmp, total_degree}
 use Rattle.geo_poly.specs.Replace.{others}
-use Rattle.geo_poly.specs.Shared.{told_powers}
+use Rattle.geo_poly.specs.Shared.{told, told_powers}
 use Rattle.geo_poly.proofs.ChainPowers.{some}
 use Rattle.geo_poly.proofs.ChainSteps.{AddsChain-merges, live-differs}
 use Rattle.geo_poly.proofs.ChainSums.{sum_is}
 use Rattle.geo_poly.proofs.FactoredTerms.{IsCanonical-times_pieces, monomials_of_sum}
-use Rattle.geo_poly.proofs.NestedSums.{all_deeper, all_within, degree_left, good_terms, norm_left, whole_products, whole_sum}
+use Rattle.geo_poly.proofs.InReach.{less_within}
+use Rattle.geo_poly.proofs.NestedSums.{all_deeper, all_within, degree_left, exponents_left, good_terms, norm_left, whole_products, whole_sum}
 use Rattle.geo_poly.proofs.Orders.{term_order}
+use Rattle.geo_poly.proofs.PieceReach.{with-grows}
 use Rattle.geo_poly.proofs.PolynomialLaws.{coefficients_add}
 use Rattle.geo_poly.proofs.ReplaceTerms.{IsCanonical-polynomial_of, IsMonomial-others}
 
 -- TWO CHAINS, MERGED INTO THE FIRST
-module _ (vars : List Var) (s1 s2 : Links) (kept : Keeps s1 s2) (a0 a1 a2 a3 : Chains) (sum rest whole : ℕ) (p q w : Summands) (adds : AddsChain a0 a1 sum)
-    (more : AddsChain a1 a2 rest) (stands : StandsFor vars s1 a1 sum p) (second : StandsFor vars s2 a2 rest q) (is : whole ≡ sum) where
+module _ (vars : List Var) (s1 s2 : Keys) (kept : KeepsKeys s1 s2) (a0 a1 a2 a3 : Chains) (sum rest whole : ℕ) (p q w : Summands) (adds : AddsChain a0 a1 sum)
+    (more : AddsChain a1 a2 rest) (stands : StandsUnder vars s1 a1 sum p) (second : StandsUnder vars s2 a2 rest q) (is : whole ≡ sum) where
   pub joined_adds : (list : Pairs) → Merges a2 a3 sum rest list → AddsChain a0 a3 whole
   joined_adds list merges =
       subst (AddsChain a0 a3) (sym is) (AddsChain-merges a0 a1 a2 a3 sum rest list adds more (live-differs a1 sum rest stands.live more.unused) merges)
 
-  pub joined_stands : StandsFor vars s2 a3 sum (sum_of (keyed_terms vars s2 (pairs_of a2 sum)) (keyed_terms vars s2 (pairs_of a2 rest))) → sum_of p q ≡ w → StandsFor vars s2 a3 whole w
+  pub joined_stands : StandsUnder vars s2 a3 sum (sum_of (keyed_terms_under vars s2 (pairs_of a2 sum)) (keyed_terms_under vars s2 (pairs_of a2 rest))) → sum_of p q ≡ w → StandsUnder vars s2 a3 whole w
   joined_stands made e =
-      subst (λ (n : ℕ). StandsFor vars s2 a3 n w) (sym is)
-      (subst (λ (x : Summands). StandsFor vars s2 a3 sum x) (sum_is vars s1 s2 kept a1 a2 sum rest p q stands more second ∙ e) made)
+      subst (λ (n : ℕ). StandsUnder vars s2 a3 n w) (sym is)
+      (subst (λ (x : Summands). StandsUnder vars s2 a3 sum x) (sum_is vars s1 s2 kept a1 a2 sum rest p q stands more second ∙ e) made)
 
 -- WHAT ALL SHARE, MULTIPLIED INTO THE SUM
-module _ (setting : Setting) (links : Links) (set : IsSet setting links) (p : Shared) (depth n : ℕ) (first : List ℕ) (es : List Pending)
+module _ (setting : Setting) (keys : Keys) (set : IsSetUnder setting keys) (p : Shared) (depth n : ℕ) (first : List ℕ) (es : List Pending)
     (share : All (λ (e : Pending). take n (drop depth e.factors.items) ≡ take n first) es) (pending : All (IsPending setting p depth) es)
     (norm : factored_weight (map (told_pending setting p depth) es) < 2 ^ 127) (long : 1 ≤ length es) (factors : List ℕ) (factors-is : factors ≡ take n first)
     (base : Summands) (base-is : base ≡ polynomial_of (factored_terms (map (told_pending setting p (depth + n)) es))) where
@@ -61,29 +65,38 @@ module _ (setting : Setting) (links : Links) (set : IsSet setting links) (p : Sh
   pub joined_monomials : AllKeys IsMonomial base
   joined_monomials =
       subst (λ (x : Summands). AllKeys IsMonomial x) (sym base-is)
-      (monomials_of_sum 65535 deep (omega arith) (good_terms setting links set p (depth + n) es)
-      (all_within setting links set p (depth + n) es (all_deeper setting links set p depth n first es share pending)))
+      (monomials_of_sum 65535 deep (omega arith) (good_terms setting keys set p (depth + n) es)
+      (all_within setting keys set p (depth + n) es (all_deeper setting keys set p depth n first es share pending)))
 
   pub joined_norm : weight_with (pieces_of setting.rows.now setting.den.piece.now factors) (norm_of base) < 2 ^ 127
   joined_norm =
       subst (λ (ks : List ℕ). weight_with (pieces ks) (norm_of base) < 2 ^ 127) (sym factors-is)
-      (subst (λ (x : Summands). weight_with (pieces (take n first)) (norm_of x) < 2 ^ 127) (sym base-is) (norm_left setting links set p depth n first es share pending norm))
+      (subst (λ (x : Summands). weight_with (pieces (take n first)) (norm_of x) < 2 ^ 127) (sym base-is) (norm_left setting keys set p depth n first es share pending norm))
 
   pub joined_degree : degree_with (pieces_of setting.rows.now setting.den.piece.now factors) (total_degree base) ≤ 65535
   joined_degree =
       subst (λ (ks : List ℕ). degree_with (pieces ks) (total_degree base) ≤ 65535) (sym factors-is)
-      (subst (λ (x : Summands). degree_with (pieces (take n first)) (total_degree x) ≤ 65535) (sym base-is) (degree_left setting links set p depth n first es share pending norm long))
+      (subst (λ (x : Summands). degree_with (pieces (take n first)) (total_degree x) ≤ 65535) (sym base-is) (degree_left setting keys set p depth n first es share pending norm long))
+
+  pub joined_reach : (later : Keys) → later.limits ≡ keys.limits → IsReplacedInReach setting.vars.now keys setting.rows.now setting.den.piece.now setting.top (told p)
+      → ArePiecesInReach setting.vars.now later (pieces_of setting.rows.now setting.den.piece.now factors) base
+  joined_reach later same reach =
+      let most = λ (v : Var). exponent_bound v setting.rows.now setting.den.piece.now setting.top (told p) in
+      less_within setting.vars.now keys later most (λ v. exponent_with v (pieces factors) (greatest_exponent v base)) same
+      (λ v. subst (λ (ks : List ℕ). exponent_with v (pieces ks) (greatest_exponent v base) ≤ most v) (sym factors-is)
+      (subst (λ (x : Summands). exponent_with v (pieces (take n first)) (greatest_exponent v x) ≤ most v) (sym base-is)
+      (exponents_left setting keys set p depth n first es share pending norm long v))) reach
 
   pub joined_made : times_pieces (pieces_of setting.rows.now setting.den.piece.now factors) base ≡ polynomial_of (factored_terms (map (told_pending setting p depth) es))
   joined_made =
-      ap₂ (λ (ks : List ℕ) (x : Summands). times_pieces (pieces ks) x) factors-is base-is ∙ whole_sum setting links set p depth n first es share pending norm
+      ap₂ (λ (ks : List ℕ) (x : Summands). times_pieces (pieces ks) x) factors-is base-is ∙ whole_sum setting keys set p depth n first es share pending norm
 
   pub joined_products : (size : ℕ) → size ≡ length base
       → factored_products (map (told_pending setting p (depth + n)) es) + products_with (pieces_of setting.rows.now setting.den.piece.now factors) size
       ≤ factored_products (map (told_pending setting p depth) es)
   joined_products size e =
       subst (λ (ks : List ℕ). factored_products deep + products_with (pieces ks) size ≤ factored_products (map (told_pending setting p depth) es)) (sym factors-is)
-      (whole_products setting links set p depth n first es share pending norm size (let same : size ≡ length made = e ∙ ap length base-is in omega (arith, same)))
+      (whole_products setting keys set p depth n first es share pending norm size (let same : size ≡ length made = e ∙ ap length base-is in omega (arith, same)))
 
 -- ONE TERM
 pub alone : (es : List Pending) (e : Pending) → 1 ≤ length es → length es < 2 → e ≡ get_or es 0 e → es ≡ e ∷ []
@@ -94,6 +107,13 @@ alone (u ∷ w ∷ es) e some few at = absurd (omega arith)
 module _ (setting : Setting) (p : Shared) (depth : ℕ) (e : Pending) (es : List Pending) (one : es ≡ e ∷ []) (pending : All (IsPending setting p depth) es) where
   pub lone_pending : IsPending setting p depth e
   lone_pending = All-head (IsPending setting p depth) e [] (subst (All (IsPending setting p depth)) one pending)
+
+  pub lone_room : (keys : Keys) → IsReplacedInReach setting.vars.now keys setting.rows.now setting.den.piece.now setting.top (told p)
+      → HasRoom setting.vars.now keys (others setting.rows.now (told_powers p e.id))
+  lone_room keys reach =
+      let m = others setting.rows.now (told_powers p e.id) in
+      less_within setting.vars.now keys keys (λ v. exponent_bound v setting.rows.now setting.den.piece.now setting.top (told p)) (λ v. exponent v m) refl
+      (λ v. omega (arith, lone_pending.exponents v, with-grows v (pieces_of setting.rows.now setting.den.piece.now (drop depth e.factors.items)) (exponent v m))) reach
 
   abbrev lone_told : List Factored
   lone_told = map (told_pending setting p depth) es
@@ -130,6 +150,16 @@ module _ (setting : Setting) (p : Shared) (depth : ℕ) (e : Pending) (es : List
         let degree : total_degree base ≡ degree_of lone_term.0 = ap total_degree base-is ∙ omega arith in
         let here = ap₂ (λ (ks : List ℕ) (d : ℕ). degree_with (lone_pieces ks) d) factors-is degree in
         omega (arith, lone_pending.degree, here)
+
+    pub lone_reach : (keys later : Keys) → later.limits ≡ keys.limits → IsReplacedInReach setting.vars.now keys setting.rows.now setting.den.piece.now setting.top (told p)
+        → ArePiecesInReach setting.vars.now later (pieces_of setting.rows.now setting.den.piece.now factors) base
+    lone_reach keys later same reach =
+        less_within setting.vars.now keys later (λ v. exponent_bound v setting.rows.now setting.den.piece.now setting.top (told p))
+        (λ v. exponent_with v (lone_pieces factors) (greatest_exponent v base)) same
+        (λ v.
+        let most : greatest_exponent v base ≡ exponent v lone_term.0 = ap (greatest_exponent v) base-is ∙ omega arith in
+        let here = ap₂ (λ (ks : List ℕ) (k : ℕ). exponent_with v (lone_pieces ks) k) factors-is most in
+        omega (arith, lone_pending.exponents v, here)) reach
 
     pub lone_made : times_pieces (pieces_of setting.rows.now setting.den.piece.now factors) base ≡ polynomial_of (factored_terms (map (told_pending setting p depth) es))
     lone_made =

@@ -1,5 +1,5 @@
 -- How many monomials sums, differences, products, constants and replacements have.
-use Rattle.std.proofs.Common.{◌≡◌, ℕ, ◌+◌, ◌*◌, ◌≤◌, max, ℤ, neg_ℤ, ◌*ℤ◌, [], ◌∷◌, ◌++◌, refl, unsigned_abs, length, sum_by, arith}
+use Rattle.std.proofs.Common.{◌≡◌, ◌+◌, ◌*◌, ◌≤◌, max, ℤ, neg_ℤ, ◌*ℤ◌, [], ◌∷◌, ◌++◌, refl, unsigned_abs, length, sum_by, arith}
 use Rattle.std.proofs.lemmas.Bool.Decides.{nat_tests}
 use Rattle.std.proofs.lemmas.List.{length-append, length-map}
 use Rattle.std.proofs.lemmas.List.Sums.{sum_by-cons}

@@ -1,4 +1,5 @@
 pub mod Orders
+pub mod OthersLeft
 pub mod MonomialLaws
 pub mod PolynomialLaws
 pub mod Lengths
@@ -37,6 +38,8 @@ pub mod RowPlaces
 pub mod ProductOrder
 pub mod Naming
 pub mod Told
+pub mod KeysKept
+pub mod InReach
 pub mod KeyedChains
 pub mod ChainSteps
 pub mod ChainHalves
@@ -60,9 +63,21 @@ pub mod ZeroFactors
 pub mod TickBounds
 pub mod KnownVariables
 pub mod FactoredTerms
+pub mod GoodPieces
+pub mod PieceReach
 pub mod NestedSums
 pub mod FactorPaths
 pub mod MultipliedIn
 pub mod PendingTerms
 pub mod JoinedParts
 pub mod TermPlaces
+pub mod WordOrder
+pub mod WordDigits
+pub mod DigitLists
+pub mod Gradings
+pub mod WordKeys
+pub mod WordChains
+pub mod WordInstance
+pub mod FirstPowers
+pub mod UnpackedWords
+pub mod ExponentLimits

@@ -1,5 +1,6 @@
--- Monomials of one store put into another, link by link.
+-- Monomials of a store put under other keys without the variables that have rows, link by link.
 use Rattle.std.proofs.Common.{◌≡◌, ℕ, zero, suc, ◌<◌, List, [], ◌∷◌, ◌++◌, get_or, length, Option, None, Some, refl, sym, ap, ap₂, subst, ◌∙◌, arith}
+use Rattle.std.specs.Prelude.{◌≢◌}
 use Rattle.std.specs.List.Sorted.{IsStrictlySortedBy}
 use Rattle.std.specs.Ordering.{nat_cmp}
 use Rattle.sparse_lists.specs.SparseLists.{IsCanonical}
@@ -7,19 +8,24 @@ use Rattle.sparse_lists.proofs.Canonical.{IsCanonical-canonical, canonical_self}
 use Rattle.sparse_lists.proofs.NaturalAmounts.{natural_order}
 use Rattle.mono_store.specs.declared.links.MonoId.{MonoId}
 use Rattle.mono_store.specs.Monomials.{Powers as NumberedPowers, IsMonomial as IsNumberedMonomial, exponents as numbered_exponents}
-use Rattle.mono_store.specs.Stores.{IsStore, Keeps, Links, count, monomial_of}
+use Rattle.mono_store.specs.Stores.{IsStore, count, monomial_of}
 use Rattle.mono_store.proofs.Numbers.{exponents_add as numbered_add}
 use Rattle.mono_store.proofs.Products.{IsPowerBefore}
 use Rattle.mono_store.proofs.Unfolding.{monomial_of-one}
+use Rattle.geo_poly.specs.declared.replacement.Row.{Row}
 use Rattle.geo_poly.specs.declared.shared.Shared.{Shared}
 use Rattle.geo_poly.specs.declared.variables.Var.{Var}
 use Rattle.geo_poly.specs.Monomials.{Powers, IsMonomial, exponents}
-use Rattle.geo_poly.specs.Shared.{AllPlaces, named, powers_at, told_powers, var_at}
+use Rattle.geo_poly.specs.Replace.{kept, others, row_of}
+use Rattle.geo_poly.specs.Keys.{Keys}
+use Rattle.geo_poly.specs.Shared.{AllPlaces, named, told_powers, var_at}
 use Rattle.geo_poly.specs.Variables.{var_cmp}
+use Rattle.geo_poly.specs.Inner.Keyed.{KeepsKeys}
 use Rattle.geo_poly.specs.Inner.Moved.{AreMoved, ArePlaces, IsMovedTo, IsPlaceOf, IsSame}
+use Rattle.geo_poly.proofs.KeysKept.{IsKeyUnder-kept}
 use Rattle.geo_poly.proofs.Naming.{IsPowerBefore-named, canonical-rename, degree_of-named, var_at-keeps}
 use Rattle.geo_poly.proofs.Orders.{exponents_add, var_order}
-use Rattle.geo_poly.proofs.Told.{IsIndex-kept, powers_at-kept}
+use Rattle.geo_poly.proofs.ReplaceTerms.{IsMonomial-others, others-none}
 
 -- what holds of each entry, and of one more
 pub each_push : {X : Type 0} (P : ℕ → X → Type 0) (xs : List X) (x d : X) → ((k : ℕ) → k < length xs → P k (get_or xs k d)) → P (length xs) x
@@ -45,67 +51,100 @@ IsMonomial-named vars m rising places h = record {
   degree_fits = omega (arith, degree_of-named vars m, h.degree_fits);
 }
 
+-- WHAT IS LEFT
+-- with no rows, all of it
+pub others-all : (rows : List Row) (m : Powers) → rows ≡ [] → others rows m ≡ m
+others-all rows m e = ap (λ (rs : List Row). others rs m) e ∙ go m
+  where
+    go : (n : Powers) → others [] n ≡ n
+    go [] = refl
+    go (v ∷ n) = ap (λ (rest : Powers). v ∷ rest) (go n)
+
+kept-some : (o : Option Row) (v : Var × ℕ) (m : Powers) → o ≢ None → kept o v m ≡ m
+kept-some None v m some = absurd (some refl)
+kept-some (Some r) v m some = refl
+
 -- THE MONOMIAL WITH NO VARIABLE
-pub one_is_moved : (p : Shared) (vars : List Var) (links : Links) (id new : MonoId) → id.0 ≡ 0 → new.0 ≡ 0 → IsSame p vars links id new
-one_is_moved p vars links id new e f =
+pub one_is_moved : (p : Shared) (rows : List Row) (vars : List Var) (keys : Keys) (id new : MonoId) → keys.powers 0 ≡ [] → 0 < keys.count → id.0 ≡ 0 → new.0 ≡ 0
+    → IsSame p rows vars keys id new
+one_is_moved p rows vars keys id new first some e f =
     let old_is = monomial_of-one p.monos.now id e in
-    let new_is = monomial_of-one links new f in
+    let new_is : keys.powers new.0 ≡ [] = ap keys.powers f ∙ first in
     record {
       old_index = record { within = omega (arith, e); places = subst (AllPlaces (length p.vars.now)) (sym old_is) tt };
-      new_index = record { within = omega (arith, f); places = subst (AllPlaces (length vars)) (sym new_is) tt };
-      powers = ap (named vars) new_is ∙ ap (named p.vars.now) (sym old_is);
+      new_index = record { within = omega (arith, f, some); places = subst (AllPlaces (length vars)) (sym new_is) tt };
+      powers = ap (named vars) new_is ∙ ap (λ (m : NumberedPowers). others rows (named p.vars.now m)) (sym old_is);
     }
 
 -- A MONOMIAL WITH A FIRST POWER
-module _ (p : Shared) (vars : List Var) (id next : MonoId) (var exp : ℕ) (unfolds : monomial_of p.monos.now id ≡ (var, exp) ∷ monomial_of p.monos.now next)
+module _ (p : Shared) (rows : List Row) (vars : List Var) (id next : MonoId) (var exp : ℕ) (unfolds : monomial_of p.monos.now id ≡ (var, exp) ∷ monomial_of p.monos.now next)
     (earlier : next.0 < id.0) (within : id.0 < count p.monos.now) where
   powers_are : told_powers p id ≡ (var_at p.vars.now var, exp) ∷ told_powers p next
   powers_are = ap (named p.vars.now) unfolds
 
-  module _ (links : Links) (places : List (Option ℕ)) (k : ℕ) (new : MonoId) (are : ArePlaces p.vars.now vars places) (at : get_or places var None ≡ Some k) (same : IsSame p vars links next new) where
-    var_in : var < length p.vars.now
-    var_in = omega (arith, some_within places var k at, are.whole)
-
-    place_is : IsPlaceOf vars (var_at p.vars.now var) (Some k)
-    place_is = subst (IsPlaceOf vars (var_at p.vars.now var)) at (are.each var (some_within places var k at))
-
+  module _ (keys : Keys) (new : MonoId) (same : IsSame p rows vars keys next new) (var_in : var < length p.vars.now) where
     places_of : AllPlaces (length p.vars.now) (monomial_of p.monos.now id)
     places_of = subst (AllPlaces (length p.vars.now)) (sym unfolds) (var_in, same.old_index.places)
 
-    pub power_before : IsStrictlySortedBy var_cmp vars → IsStrictlySortedBy var_cmp p.vars.now → IsStore p.monos.now → IsPowerBefore k exp (monomial_of links new)
-    power_before rising old_rising store =
-        let whole : told_powers p id ≡ (var_at vars k, exp) ∷ powers_at vars links new =
-        powers_are ∙ ap₂ (λ (v : Var) (rest : Powers). (v, exp) ∷ rest) (sym place_is.1) (sym same.powers) in
-        IsPowerBefore-named vars rising k exp (monomial_of links new) place_is.0 same.new_index.places
-        (subst IsMonomial whole (IsMonomial-named p.vars.now (monomial_of p.monos.now id) old_rising places_of (store.monomials id)))
-
-    pub is_moved : (longer : Links) (there : MonoId) → there.0 < count longer → monomial_of longer there ≡ (k, exp) ∷ monomial_of links new → IsSame p vars longer id there
-    is_moved longer there there_in is = record {
+    -- the variable has a row
+    pub is_left : row_of rows (var_at p.vars.now var) ≢ None → IsSame p rows vars keys id new
+    is_left some = record {
       old_index = record { within = within; places = places_of };
-      new_index = record { within = there_in; places = subst (AllPlaces (length vars)) (sym is) (place_is.0, same.new_index.places) };
-      powers = ap (named vars) is ∙ ap₂ (λ (v : Var) (rest : Powers). (v, exp) ∷ rest) place_is.1 same.powers ∙ sym powers_are;
+      new_index = same.new_index;
+      powers =
+          same.powers ∙ sym (ap (others rows) powers_are
+          ∙ kept-some (row_of rows (var_at p.vars.now var)) (var_at p.vars.now var, exp) (others rows (told_powers p next)) some);
     }
 
--- what the table tells of an index
-pub entry_same : (p : Shared) (vars : List Var) (links : Links) (table : List (Option MonoId)) (id new : MonoId) → AreMoved p vars links table
-    → get_or table id.0 None ≡ Some new → IsSame p vars links id new
-entry_same p vars links table id new are e = subst (IsMovedTo p vars links id) e (are id.0 (some_within table id.0 new e))
+    -- the variable has none
+    module _ (places : List (Option ℕ)) (k : ℕ) (are : ArePlaces p.vars.now vars places) (at : get_or places var None ≡ Some k)
+        (none : row_of rows (var_at p.vars.now var) ≡ None) where
+      place_is : IsPlaceOf vars (var_at p.vars.now var) (Some k)
+      place_is = subst (IsPlaceOf vars (var_at p.vars.now var)) at (are.each var (some_within places var k at))
 
--- where the store grows, the table stays right
-module _ (p : Shared) (vars : List Var) (old new : Links) (kept : Keeps old new) where
-  IsMovedTo-kept : (id : MonoId) (entry : Option MonoId) → IsMovedTo p vars old id entry → IsMovedTo p vars new id entry
+      left_are : others rows (told_powers p id) ≡ (var_at vars k, exp) ∷ named vars (keys.powers new.0)
+      left_are = ap (others rows) powers_are ∙ others-none rows (var_at p.vars.now var, exp) (told_powers p next) none
+          ∙ ap₂ (λ (v : Var) (rest : Powers). (v, exp) ∷ rest) (sym place_is.1) (sym same.powers)
+
+      pub power_before : IsStrictlySortedBy var_cmp vars → IsStrictlySortedBy var_cmp p.vars.now → IsStore p.monos.now → IsPowerBefore k exp (keys.powers new.0)
+      power_before rising old_rising store =
+          IsPowerBefore-named vars rising k exp (keys.powers new.0) place_is.0 same.new_index.places
+          (subst IsMonomial left_are (IsMonomial-others rows (told_powers p id) (IsMonomial-named p.vars.now (monomial_of p.monos.now id) old_rising places_of (store.monomials id))))
+
+      pub is_moved : (more : Keys) (there : ℕ) → there < more.count → more.powers there ≡ (k, exp) ∷ keys.powers new.0
+          → IsSame p rows vars more id (record { 0 = there })
+      is_moved more there there_in is = record {
+        old_index = record { within = within; places = places_of };
+        new_index = record { within = there_in; places = subst (AllPlaces (length vars)) (sym is) (place_is.0, same.new_index.places) };
+        powers = ap (named vars) is ∙ sym left_are;
+      }
+
+-- the place of a variable tells that it is one of the polynomial's
+pub var_within : (old vars : List Var) (places : List (Option ℕ)) (var k : ℕ) → ArePlaces old vars places → get_or places var None ≡ Some k → var < length old
+var_within old vars places var k are at = omega (arith, some_within places var k at, are.whole)
+
+-- what the table tells of an index
+pub entry_same : (p : Shared) (rows : List Row) (vars : List Var) (keys : Keys) (table : List (Option MonoId)) (id new : MonoId) → AreMoved p rows vars keys table
+    → get_or table id.0 None ≡ Some new → IsSame p rows vars keys id new
+entry_same p rows vars keys table id new are e = subst (IsMovedTo p rows vars keys id) e (are id.0 (some_within table id.0 new e))
+
+-- where keys are added, the table stays right
+module _ (p : Shared) (rows : List Row) (vars : List Var) (old new : Keys) (kept : KeepsKeys old new) where
+  IsMovedTo-kept : (id : MonoId) (entry : Option MonoId) → IsMovedTo p rows vars old id entry → IsMovedTo p rows vars new id entry
   IsMovedTo-kept id None is = tt
   IsMovedTo-kept id (Some there) is = record {
     old_index = is.old_index;
-    new_index = IsIndex-kept vars old new there kept is.new_index;
-    powers = powers_at-kept vars old new there kept is.new_index ∙ is.powers;
+    new_index = IsKeyUnder-kept vars old new there.0 kept is.new_index;
+    powers = ap (named vars) (kept.powers there.0 is.new_index.within) ∙ is.powers;
   }
 
-  pub AreMoved-kept : (table : List (Option MonoId)) → AreMoved p vars old table → AreMoved p vars new table
+  pub AreMoved-kept : (table : List (Option MonoId)) → AreMoved p rows vars old table → AreMoved p rows vars new table
   AreMoved-kept table are = λ k within. IsMovedTo-kept (record { 0 = k }) (get_or table k None) (are k within)
 
 -- the table of the monomial with no variable
-pub first_moved : (p : Shared) (vars : List Var) (links : Links) (table : List (Option MonoId)) (new : MonoId) → table ≡ [] → new.0 ≡ 0 → AreMoved p vars links (table ++ Some new ∷ [])
-first_moved p vars links table new e f =
-    subst (λ (xs : List (Option MonoId)). AreMoved p vars links (xs ++ Some new ∷ [])) (sym e)
-    (each_push (λ k x. IsMovedTo p vars links (record { 0 = k }) x) [] (Some new) None (λ k none. absurd (omega (arith, none))) (one_is_moved p vars links (record { 0 = 0 }) new refl f))
+pub first_moved : (p : Shared) (rows : List Row) (vars : List Var) (keys : Keys) (table : List (Option MonoId)) (new : MonoId) → keys.powers 0 ≡ [] → 0 < keys.count
+    → table ≡ [] → new.0 ≡ 0 → AreMoved p rows vars keys (table ++ Some new ∷ [])
+first_moved p rows vars keys table new first some e f =
+    subst (λ (xs : List (Option MonoId)). AreMoved p rows vars keys (xs ++ Some new ∷ [])) (sym e)
+    (each_push (λ k x. IsMovedTo p rows vars keys (record { 0 = k }) x) [] (Some new) None (λ k none. absurd (omega (arith, none)))
+    (one_is_moved p rows vars keys (record { 0 = 0 }) new first some refl f))

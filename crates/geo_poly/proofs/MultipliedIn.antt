@@ -5,38 +5,39 @@ use Rattle.std.proofs.Math.Nat.{mul-le-mul}
 use Rattle.std.proofs.lemmas.List.{map-append, take-append-drop}
 use Rattle.sparse_lists.specs.SparseLists.{AllKeys, IsCanonical}
 use Rattle.sparse_lists.proofs.Merging.{drop_at, get_or_any}
-use Rattle.mono_store.specs.Stores.{Links}
-use Rattle.mono_store.proofs.Unfolding.{monomial_of-one}
 use Rattle.geo_poly.specs.declared.replacement.Piece.{Piece}
 use Rattle.geo_poly.specs.declared.replacement.Row.{Row}
 use Rattle.geo_poly.specs.declared.settings.Setting.{Setting}
 use Rattle.geo_poly.specs.declared.variables.Var.{Var}
 use Rattle.geo_poly.specs.Inner.Factored.{count_with, degree_with, numerator_at, piece_of, pieces_of, products_with, times_pieces, weight_with}
-use Rattle.geo_poly.specs.Inner.Settings.{AreStored, IsSet, IsStoredAs}
+use Rattle.geo_poly.specs.Inner.Keyed.{AreInReach, ArePiecesInReach, terms_under}
+use Rattle.geo_poly.specs.Inner.Settings.{AreStoredUnder, IsSetUnder, IsStoredUnder}
+use Rattle.geo_poly.specs.Keys.{Keys}
 use Rattle.geo_poly.specs.Monomials.{IsMonomial, Powers}
 use Rattle.geo_poly.specs.Polynomials.{CanMultiply, Summands, coefficients, norm_of, product_of, term_cmp, total_degree}
-use Rattle.geo_poly.specs.Shared.{Indices, named, powers_at, terms_of}
+use Rattle.geo_poly.specs.Shared.{Indices, named}
 use Rattle.geo_poly.proofs.ChainPowers.{orders}
 use Rattle.geo_poly.proofs.FactoredTerms.{CanMultiply-times_pieces, degree_with-append, degree_with-is, length-times_pieces-le, products_with-append, weight_with-append, weight_with-grows}
-use Rattle.geo_poly.proofs.NestedSums.{good_piece, good_pieces}
+use Rattle.geo_poly.proofs.GoodPieces.{good_piece, good_pieces}
+use Rattle.geo_poly.proofs.PieceReach.{later_reach, piece_in_reach}
 use Rattle.geo_poly.proofs.PolynomialRing.{product_of-one}
 
 -- THE LIST OF A FACTOR
-numerator_stored : (vars : List Var) (links : Links) (rows : List Row) (lists : List Indices) (den : Piece) (i : ℕ) (list : Indices) → AreStored vars links rows lists → slice_get lists i ≡ Some list
-    → IsStoredAs vars links list (numerator_at rows den i).poly
-numerator_stored vars links [] [] den i list h e = absurd (cc)
-numerator_stored vars links [] (l ∷ lists) den i list h e = absurd h
-numerator_stored vars links (r ∷ rows) [] den i list h e = absurd h
-numerator_stored vars links (r ∷ rows) (l ∷ lists) den zero list h e = let same : l ≡ list = cc in subst (λ (x : Indices). IsStoredAs vars links x r.num.poly) same h.0
-numerator_stored vars links (r ∷ rows) (l ∷ lists) den (suc i) list h e = numerator_stored vars links rows lists den i list h.1 e
+numerator_stored : (vars : List Var) (keys : Keys) (rows : List Row) (lists : List Indices) (den : Piece) (i : ℕ) (list : Indices) → AreStoredUnder vars keys rows lists → slice_get lists i ≡ Some list
+    → IsStoredUnder vars keys list (numerator_at rows den i).poly
+numerator_stored vars keys [] [] den i list h e = absurd (cc)
+numerator_stored vars keys [] (l ∷ lists) den i list h e = absurd h
+numerator_stored vars keys (r ∷ rows) [] den i list h e = absurd h
+numerator_stored vars keys (r ∷ rows) (l ∷ lists) den zero list h e = let same : l ≡ list = cc in subst (λ (x : Indices). IsStoredUnder vars keys x r.num.poly) same h.0
+numerator_stored vars keys (r ∷ rows) (l ∷ lists) den (suc i) list h e = numerator_stored vars keys rows lists den i list h.1 e
 
-no_numerator : (vars : List Var) (links : Links) (rows : List Row) (lists : List Indices) (den : Piece) (i : ℕ) → AreStored vars links rows lists → length lists ≤ i → numerator_at rows den i ≡ den
-no_numerator vars links [] lists den i h past = refl
-no_numerator vars links (r ∷ rows) [] den i h past = absurd h
-no_numerator vars links (r ∷ rows) (l ∷ lists) den zero h past = absurd (omega arith)
-no_numerator vars links (r ∷ rows) (l ∷ lists) den (suc i) h past = no_numerator vars links rows lists den i h.1 (omega arith)
+no_numerator : (vars : List Var) (keys : Keys) (rows : List Row) (lists : List Indices) (den : Piece) (i : ℕ) → AreStoredUnder vars keys rows lists → length lists ≤ i → numerator_at rows den i ≡ den
+no_numerator vars keys [] lists den i h past = refl
+no_numerator vars keys (r ∷ rows) [] den i h past = absurd h
+no_numerator vars keys (r ∷ rows) (l ∷ lists) den zero h past = absurd (omega arith)
+no_numerator vars keys (r ∷ rows) (l ∷ lists) den (suc i) h past = no_numerator vars keys rows lists den i h.1 (omega arith)
 
-module _ (setting : Setting) (links : Links) (set : IsSet setting links) where
+module _ (setting : Setting) (keys : Keys) (set : IsSetUnder setting keys) where
   abbrev vars : List Var
   vars = setting.vars.now
 
@@ -47,27 +48,27 @@ module _ (setting : Setting) (links : Links) (set : IsSet setting links) where
   den = setting.den.piece.now
 
   pub stored_there : (factor : ℕ) (list : Indices) → 0 < factor → slice_get setting.nums.now (factor - 1) ≡ Some list
-      → IsStoredAs setting.vars.now links list (piece_of setting.rows.now setting.den.piece.now factor).poly
+      → IsStoredUnder setting.vars.now keys list (piece_of setting.rows.now setting.den.piece.now factor).poly
   stored_there zero list h e = absurd (omega (arith, h))
   stored_there (suc i) list h e =
-      numerator_stored vars links rows setting.nums.now den i list set.rows_stored
+      numerator_stored vars keys rows setting.nums.now den i list set.rows_stored
       (let back : suc i - 1 ≡ i = omega arith in subst (λ (j : ℕ). slice_get setting.nums.now j ≡ Some list) back e)
 
-  pub stored_past : (factor : ℕ) → length setting.nums.now < factor → IsStoredAs setting.vars.now links setting.den.list.now (piece_of setting.rows.now setting.den.piece.now factor).poly
+  pub stored_past : (factor : ℕ) → length setting.nums.now < factor → IsStoredUnder setting.vars.now keys setting.den.list.now (piece_of setting.rows.now setting.den.piece.now factor).poly
   stored_past zero h = absurd (omega (arith, h))
   stored_past (suc i) h =
-      subst (λ (q : Piece). IsStoredAs vars links setting.den.list.now q.poly)
-      (sym (no_numerator vars links rows setting.nums.now den i set.rows_stored (omega (arith, h)))) set.den_stored
+      subst (λ (q : Piece). IsStoredUnder vars keys setting.den.list.now q.poly)
+      (sym (no_numerator vars keys rows setting.nums.now den i set.rows_stored (omega (arith, h)))) set.den_stored
 
-  pub stored_first : (factor : ℕ) → factor ≡ 0 → IsStoredAs setting.vars.now links setting.den.list.now (piece_of setting.rows.now setting.den.piece.now factor).poly
-  stored_first factor e = subst (λ (k : ℕ). IsStoredAs vars links setting.den.list.now (piece_of rows den k).poly) (sym e) set.den_stored
+  pub stored_first : (factor : ℕ) → factor ≡ 0 → IsStoredUnder setting.vars.now keys setting.den.list.now (piece_of setting.rows.now setting.den.piece.now factor).poly
+  stored_first factor e = subst (λ (k : ℕ). IsStoredUnder vars keys setting.den.list.now (piece_of rows den k).poly) (sym e) set.den_stored
 
 -- a polynomial times one that is 1
-pub product_by_one : (vars : List Var) (links : Links) (list : Indices) (poly p : Summands) → list ≡ (record { 0 = 0 }, pos 1) ∷ [] → terms_of vars links list ≡ poly
-    → IsCanonical term_cmp coefficients p → AllKeys IsMonomial p → product_of p poly ≡ p
-product_by_one vars links list poly p e terms in_order monomials =
-    let one : powers_at vars links (record { 0 = 0 }) ≡ [] = ap (named vars) (monomial_of-one links (record { 0 = 0 }) refl) in
-    let is : poly ≡ ([], pos 1) ∷ [] = sym terms ∙ ap (terms_of vars links) e ∙ ap (λ (m : Powers). (m, pos 1) ∷ []) one in
+pub product_by_one : (vars : List Var) (keys : Keys) (list : Indices) (poly p : Summands) → keys.powers 0 ≡ [] → list ≡ (record { 0 = 0 }, pos 1) ∷ []
+    → terms_under vars keys list ≡ poly → IsCanonical term_cmp coefficients p → AllKeys IsMonomial p → product_of p poly ≡ p
+product_by_one vars keys list poly p first e terms in_order monomials =
+    let one : named vars (keys.powers 0) ≡ [] = ap (named vars) first in
+    let is : poly ≡ ([], pos 1) ∷ [] = sym terms ∙ ap (terms_under vars keys) e ∙ ap (λ (m : Powers). (m, pos 1) ∷ []) one in
     ap (product_of p) is ∙ product_of-one p (record { in_order = in_order; monomials = orders p monomials })
 
 -- THE LOOP
@@ -78,7 +79,7 @@ next_factor factors i positive within =
     let one_more : i - 1 + 1 ≡ i = omega arith in
     drop_at factors (i - 1) x below (get_or_any factors (i - 1) 0 x below) ∙ ap (λ k. x ∷ drop k factors) one_more
 
-module _ (setting : Setting) (s0 : Links) (set : IsSet setting s0) (factors : List ℕ) (base : Summands) (order : IsCanonical term_cmp coefficients base) (monomials : AllKeys IsMonomial base)
+module _ (setting : Setting) (s0 : Keys) (set : IsSetUnder setting s0) (factors : List ℕ) (base : Summands) (order : IsCanonical term_cmp coefficients base) (monomials : AllKeys IsMonomial base)
     (norm : weight_with (pieces_of setting.rows.now setting.den.piece.now factors) (norm_of base) < 2 ^ 127)
     (degree : degree_with (pieces_of setting.rows.now setting.den.piece.now factors) (total_degree base) ≤ 65535) where
   abbrev pieces : List ℕ → List Piece
@@ -113,6 +114,17 @@ module _ (setting : Setting) (s0 : Links) (set : IsSet setting s0) (factors : Li
         let w : weight_with (pieces (k ∷ drop i factors)) (norm_of base) < 2 ^ 127 = subst (λ (ks : List ℕ). weight_with (pieces ks) (norm_of base) < 2 ^ 127) shown fits_now.0 in
         let d : degree_with (pieces (k ∷ drop i factors)) (total_degree base) ≤ 65535 = subst (λ (ks : List ℕ). degree_with (pieces ks) (total_degree base) ≤ 65535) shown fits_now.1 in
         CanMultiply-times_pieces (piece_of setting.rows.now setting.den.piece.now k) rest base (good_piece setting s0 set k, good_pieces setting s0 set (drop i factors)) order monomials w d
+
+    pub reaches : ArePiecesInReach setting.vars.now s0 (pieces_of setting.rows.now setting.den.piece.now factors) base
+        → AreInReach setting.vars.now s0 (times_pieces (pieces_of setting.rows.now setting.den.piece.now (drop i factors)) base)
+        (piece_of setting.rows.now setting.den.piece.now (get_or factors (i - 1) 0)).poly
+    reaches reach =
+        let done = take (i - 1) factors in
+        let left = drop (i - 1) factors in
+        let same : pieces factors ≡ pieces done ++ pieces left = ap pieces (sym (take-append-drop (i - 1) factors)) ∙ map-append (piece_of setting.rows.now setting.den.piece.now) done left in
+        let later = later_reach setting.vars.now s0 (pieces done) (pieces left) base (subst (λ (qs : List Piece). ArePiecesInReach setting.vars.now s0 qs base) same reach) in
+        piece_in_reach setting.vars.now s0 (piece_of setting.rows.now setting.den.piece.now k) rest base
+        (subst (λ (ks : List ℕ). ArePiecesInReach setting.vars.now s0 (pieces ks) base) shown later)
 
     pub made_now : product_of (times_pieces (pieces_of setting.rows.now setting.den.piece.now (drop i factors)) base) (piece_of setting.rows.now setting.den.piece.now (get_or factors (i - 1) 0)).poly
         ≡ times_pieces (pieces_of setting.rows.now setting.den.piece.now (drop (i - 1) factors)) base

@@ -2,7 +2,7 @@
 use Rattle.std.proofs.Common.{◌≡◌, ℕ, zero, suc, ◌+◌, ◌<◌, ◌≤◌, eqb, true, false, cond, List, [], ◌∷◌, ◌++◌, length, map, get_or, take, drop, inl, inr, refl, sym, ap, ap₂, subst, ◌∙◌, arith}
 use Rattle.std.specs.List.{AllByRecursion}
 use Rattle.std.specs.List.Sorted.{IsNonDecreasingBy, IsStrictlySortedBy}
-use Rattle.std.specs.Ordering.{nat_cmp, ordering_index, ordering_then}
+use Rattle.std.specs.Ordering.{is_eq, nat_cmp, ordering_index, ordering_then}
 use Rattle.std.specs.declared.cmp.Ordering.{Ordering}
 use Rattle.std.specs.declared.cmp.Ordering.TheVariants.{Less, Equal, Greater}
 use Rattle.std.proofs.lemmas.Cmp.{ranked}
@@ -10,7 +10,7 @@ use Rattle.std.proofs.lemmas.Bool.{cases_lt}
 use Rattle.std.proofs.lemmas.Bool.Decides.{nat_tests}
 use Rattle.std.proofs.lemmas.List.{map-append, take-append-drop}
 use Rattle.std.proofs.lemmas.List.Sums.{sum_by-append, sum_by-cons}
-use Rattle.sparse_lists.specs.SparseLists.{Amounts, AllKeys, IsBefore, canonical, insert, insert_at, put}
+use Rattle.sparse_lists.specs.SparseLists.{Amounts, AllKeys, IsBefore, amount, canonical, insert, insert_at, put}
 use Rattle.sparse_lists.proofs.Sums.{AllKeys-append, AllKeys-canonical}
 use Rattle.sparse_lists.proofs.Merging.{IsCanonical-drop, get_or_any}
 use Rattle.mono_store.specs.Monomials.{Powers as NumberedPowers, ComesFirst, degree_of as numbered_degree, monomial_cmp as numbered_cmp, product as numbered_product}
@@ -50,6 +50,12 @@ module _ {J K V : Type 0} (cmp : J → J → Ordering) (other_cmp : K → K → 
   canonical-rename [] g = refl
   canonical-rename (t ∷ ts) g =
       ap (insert other_cmp A (f t.0) t.1) (canonical-rename ts g.1) ∙ insert-rename t.0 t.1 (canonical cmp A ts) g.0 (AllKeys-canonical cmp A P ts g.1)
+
+  -- the amount at a renamed key is that at the key
+  pub amount-rename : (k : J) (ts : List (J × V)) → P k → AllKeys P ts → amount other_cmp A (f k) (rename ts) ≡ amount cmp A k ts
+  amount-rename k [] h g = refl
+  amount-rename k (t ∷ ts) h g =
+      ap₂ (λ (o : Ordering) (rest : V). A.add (cond (is_eq o) t.1 A.zero) rest) (keeps k t.0 h g.0) (amount-rename k ts h g.1)
 
 -- VARIABLES
 

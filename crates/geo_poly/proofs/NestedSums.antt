@@ -1,10 +1,11 @@
 -- Nested sums: what terms share is multiplied in after they are added.
-use Rattle.std.proofs.Common.{◌≡◌, ℕ, zero, suc, ◌+◌, ◌-◌, ◌^◌, ◌<◌, ◌≤◌, List, [], ◌∷◌, ◌++◌, drop, length, map, refl, sym, ap, ap₂, ◌∙◌, take, unsigned_abs, arith}
+use Rattle.std.proofs.Common.{◌≡◌, ℕ, ◌+◌, ◌-◌, ◌^◌, ◌<◌, ◌≤◌, List, [], ◌∷◌, ◌++◌, drop, length, map, refl, sym, ap, ap₂, ◌∙◌, take, unsigned_abs, arith}
 use Rattle.std.specs.Prelude.{All}
 use Rattle.std.proofs.lemmas.List.{drop-drop, map-append, take-append-drop}
 use Rattle.std.proofs.lemmas.List.Elements.{All-cons, All-head, All-nil, All-tail}
 use Rattle.std.proofs.lemmas.List.Sums.{sum_by-append}
-use Rattle.mono_store.specs.Stores.{Links}
+use Rattle.sparse_lists.specs.SparseLists.{AllKeys}
+use Rattle.sparse_lists.proofs.Sums.{AllKeys-append, AllKeys-canonical}
 use Rattle.geo_poly.specs.declared.pending.Pending.{Pending}
 use Rattle.geo_poly.specs.declared.replacement.Piece.{Piece}
 use Rattle.geo_poly.specs.declared.replacement.Row.{Row}
@@ -12,48 +13,37 @@ use Rattle.geo_poly.specs.declared.settings.Setting.{Setting}
 use Rattle.geo_poly.specs.declared.shared.Shared.{Shared}
 use Rattle.geo_poly.specs.declared.variables.Var.{Var}
 use Rattle.geo_poly.specs.Inner.Factored.{Factored, IsPending, degree_with, factored_products, factored_terms, factored_weight}
-use Rattle.geo_poly.specs.Inner.Factored.{numerator_at, piece_of, pieces_of, products_with, times_pieces, told_pending, weight_with}
-use Rattle.geo_poly.specs.Inner.Settings.{AreStored, IsSet}
-use Rattle.geo_poly.specs.Monomials.{degree_of}
-use Rattle.geo_poly.specs.Polynomials.{Summands, norm_of, polynomial_of, sum_of, total_degree}
-use Rattle.geo_poly.specs.Replace.{AllBounded, others}
-use Rattle.geo_poly.specs.Shared.{Indices, told_powers}
-use Rattle.geo_poly.proofs.FactoredTerms.{AllGood, AllGoodTerms, AllWithin, IsGood, degree_with-append, degree_with-is, factored_count}
+use Rattle.geo_poly.specs.Inner.Factored.{piece_of, pieces_of, products_with, times_pieces, told_pending, weight_with}
+use Rattle.geo_poly.specs.Inner.Settings.{IsSetUnder}
+use Rattle.geo_poly.specs.Keys.{Keys}
+use Rattle.geo_poly.specs.Inner.Keyed.{exponent_with, greatest_exponent}
+use Rattle.geo_poly.specs.Inner.ReplacedExponents.{exponent_bound}
+use Rattle.geo_poly.specs.Monomials.{Powers, degree_of, exponent}
+use Rattle.geo_poly.specs.Polynomials.{Summands, coefficients, norm_of, polynomial_of, sum_of, term_cmp, total_degree}
+use Rattle.geo_poly.specs.Replace.{others}
+use Rattle.geo_poly.specs.Shared.{told, told_powers}
+use Rattle.geo_poly.proofs.FactoredTerms.{AllGood, AllGoodTerms, AllWithin, degree_with-append, degree_with-is, factored_count}
 use Rattle.geo_poly.proofs.FactoredTerms.{length-sum-le, norm_of-sum-le, products_with-mono, shared_products, shared_terms, shared_weight}
 use Rattle.geo_poly.proofs.FactoredTerms.{sum_of_parts, total_degree-sum-le, weight_with-grows, weight_with-mono, with_pieces}
+use Rattle.geo_poly.proofs.GoodPieces.{good_pieces}
+use Rattle.geo_poly.proofs.PieceReach.{all_at_most, least, times_pieces-le, with-append, with-is}
 use Rattle.geo_poly.proofs.ChainPowers.{some}
 use Rattle.geo_poly.proofs.ReplaceTerms.{IsMonomial-others}
 
--- THE PIECES
-good_numerator : (vars : List Var) (links : Links) (rows : List Row) (lists : List Indices) (den : Piece) → IsGood den → AllBounded rows
-    → AreStored vars links rows lists → (i : ℕ) → IsGood (numerator_at rows den i)
-good_numerator vars links [] lists den good bounded stored i = good
-good_numerator vars links (r ∷ rows) [] den good bounded stored i = absurd stored
-good_numerator vars links (r ∷ rows) (l ∷ lists) den good bounded stored zero = record { bounded = bounded.0; polynomial = stored.0.polynomial }
-good_numerator vars links (r ∷ rows) (l ∷ lists) den good bounded stored (suc i) = good_numerator vars links rows lists den good bounded.1 stored.1 i
-
-module _ (setting : Setting) (links : Links) (set : IsSet setting links) where
+module _ (setting : Setting) (keys : Keys) (set : IsSetUnder setting keys) where
   abbrev rows : List Row
   rows = setting.rows.now
 
   abbrev den : Piece
   den = setting.den.piece.now
 
-  good_den : IsGood setting.den.piece.now
-  good_den = record { bounded = set.den_bounded; polynomial = set.den_stored.polynomial }
-
-  pub good_piece : (k : ℕ) → IsGood (piece_of setting.rows.now setting.den.piece.now k)
-  good_piece zero = good_den
-  good_piece (suc i) = good_numerator setting.vars.now links rows setting.nums.now den good_den set.rows_bounded set.rows_stored i
-
-  pub good_pieces : (ks : List ℕ) → AllGood (pieces_of setting.rows.now setting.den.piece.now ks)
-  good_pieces [] = tt
-  good_pieces (k ∷ ks) = (good_piece k, good_pieces ks)
+  good : (ks : List ℕ) → AllGood (pieces_of setting.rows.now setting.den.piece.now ks)
+  good ks = good_pieces setting keys set ks
 
   module _ (p : Shared) where
     pub good_terms : (depth : ℕ) (es : List Pending) → AllGoodTerms (map (told_pending setting p depth) es)
     good_terms depth [] = tt
-    good_terms depth (e ∷ es) = (good_pieces (drop depth e.factors.items), good_terms depth es)
+    good_terms depth (e ∷ es) = (good (drop depth e.factors.items), good_terms depth es)
 
     -- ALL TERMS
     pub all_within : (depth : ℕ) (es : List Pending) → All (IsPending setting p depth) es → AllWithin 65535 (map (told_pending setting p depth) es)
@@ -99,6 +89,17 @@ module _ (setting : Setting) (links : Links) (set : IsSet setting links) where
           let whole = ap (λ (qs : List Piece). degree_with qs d) (one_shares e h) ∙ degree_with-append shared rest d ∙ degree_with-is shared (degree_with rest d) in
           omega (arith, whole, g.degree)
 
+      abbrev bound : Var → ℕ
+      bound v = exponent_bound v rows den setting.top (told p)
+
+      deeper_exponent : (e : Pending) → Shares e → IsPending setting p depth e → (v : Var)
+          → exponent_with v (pieces_of rows den (drop (depth + n) e.factors.items)) (exponent v (others rows (told_powers p e.id))) + exponent_with v shared 0 ≤ bound v
+      deeper_exponent e h g v =
+          let k = exponent v (others rows (told_powers p e.id)) in
+          let rest = pieces_of rows den (drop (depth + n) e.factors.items) in
+          let whole = ap (λ (qs : List Piece). exponent_with v qs k) (one_shares e h) ∙ with-append v shared rest k ∙ with-is v shared (exponent_with v rest k) in
+          omega (arith, whole, g.exponents v)
+
       pub all_deeper : (es : List Pending) → All (λ (e : Pending). take n (drop depth e.factors.items) ≡ take n first) es
           → All (IsPending setting p depth) es → All (IsPending setting p (depth + n)) es
       all_deeper [] h g = All-nil (IsPending setting p (depth + n))
@@ -111,6 +112,7 @@ module _ (setting : Setting) (links : Links) (set : IsSet setting links) where
             known = here.known;
             nonzero = here.nonzero;
             degree = omega (arith, deeper_degree e (All-head Shares e es h) here);
+            exponents = λ v. omega (arith, deeper_exponent e (All-head Shares e es h) here v);
           })
           (all_deeper es (All-tail Shares e es h) (All-tail (IsPending setting p depth) e es g))
 
@@ -130,6 +132,23 @@ module _ (setting : Setting) (links : Links) (set : IsSet setting links) where
       few [] l h g = absurd (omega arith)
       few (e ∷ es) l h g = omega (arith, deeper_degree e (All-head Shares e es h) (All-head (IsPending setting p depth) e es g))
 
+      few_exponents : (v : Var) (es : List Pending) → 1 ≤ length es → All Shares es → All (IsPending setting p depth) es → exponent_with v shared 0 ≤ bound v
+      few_exponents v [] l h g = absurd (omega arith)
+      few_exponents v (e ∷ es) l h g = omega (arith, deeper_exponent e (All-head Shares e es h) (All-head (IsPending setting p depth) e es g) v)
+
+      lower_exponents : (v : Var) (es : List Pending) → All Shares es → All (IsPending setting p depth) es
+          → AllKeys (λ (m : Powers). exponent v m ≤ bound v - exponent_with v shared 0) (factored_terms (map (told_pending setting p (depth + n)) es))
+      lower_exponents v [] h g = tt
+      lower_exponents v (e ∷ es) h g =
+          let f = told_pending setting p (depth + n) e in
+          let most = bound v - exponent_with v shared 0 in
+          let here = deeper_exponent e (All-head Shares e es h) (All-head (IsPending setting p depth) e es g) v in
+          let one : greatest_exponent v (f.1 ∷ []) ≡ exponent v f.1.0 = omega arith in
+          let same = ap (exponent_with v f.0) one in
+          AllKeys-append (λ (m : Powers). exponent v m ≤ most) (times_pieces f.0 (f.1 ∷ [])) (factored_terms (map (told_pending setting p (depth + n)) es))
+          (all_at_most v (times_pieces f.0 (f.1 ∷ [])) most (omega (arith, times_pieces-le v f.0 (f.1 ∷ []), same, here)))
+          (lower_exponents v es (All-tail Shares e es h) (All-tail (IsPending setting p depth) e es g))
+
       module _ (es : List Pending) (share : All (λ (e : Pending). take n (drop depth e.factors.items) ≡ take n first) es) (pending : All (IsPending setting p depth) es)
           (norm : factored_weight (map (told_pending setting p depth) es) < 2 ^ 127) where
         abbrev deep : List Factored
@@ -142,7 +161,7 @@ module _ (setting : Setting) (links : Links) (set : IsSet setting links) where
         weighs = ap factored_weight (all_share es share) ∙ shared_weight shared deep
 
         pub deeper_norm : factored_weight (map (told_pending setting p (depth + n)) es) < 2 ^ 127
-        deeper_norm = omega (arith, norm, weighs, weight_with-grows shared (factored_weight deep) (good_pieces (take n first)))
+        deeper_norm = omega (arith, norm, weighs, weight_with-grows shared (factored_weight deep) (good (take n first)))
 
         pub norm_left : weight_with (pieces_of setting.rows.now setting.den.piece.now (take n first)) (norm_of (polynomial_of (factored_terms (map (told_pending setting p (depth + n)) es)))) < 2 ^ 127
         norm_left = omega (arith, norm, weighs, weight_with-mono shared (norm_of sum) (factored_weight deep) (norm_of-sum-le deep (good_terms (depth + n) es)))
@@ -155,6 +174,18 @@ module _ (setting : Setting) (links : Links) (set : IsSet setting links) where
               few es some_term share pending,
               degree_with-is shared (total_degree sum),
               total_degree-sum-le (65535 - degree_with shared 0) deep (good_terms (depth + n) es) (lower es share pending),
+            )
+
+        pub exponents_left : 1 ≤ length es → (v : Var) → exponent_with v (pieces_of setting.rows.now setting.den.piece.now (take n first))
+            (greatest_exponent v (polynomial_of (factored_terms (map (told_pending setting p (depth + n)) es))))
+            ≤ exponent_bound v setting.rows.now setting.den.piece.now setting.top (told p)
+        exponents_left some_term v =
+            let most = bound v - exponent_with v shared 0 in
+            omega (
+              arith,
+              few_exponents v es some_term share pending,
+              with-is v shared (greatest_exponent v sum),
+              least v most sum (AllKeys-canonical term_cmp coefficients (λ (m : Powers). exponent v m ≤ most) (factored_terms deep) (lower_exponents v es share pending)),
             )
 
         pub whole_sum : times_pieces (pieces_of setting.rows.now setting.den.piece.now (take n first)) (polynomial_of (factored_terms (map (told_pending setting p (depth + n)) es)))

@@ -13,12 +13,14 @@ use Rattle.geo_poly.specs.declared.replacement.Piece.{Piece}
 use Rattle.geo_poly.specs.declared.replacement.Row.{Row}
 use Rattle.geo_poly.specs.declared.settings.Setting.{Setting}
 use Rattle.geo_poly.specs.declared.shared.Shared.{Shared}
+use Rattle.geo_poly.specs.declared.variables.Var.{Var}
 use Rattle.geo_poly.specs.Inner.Accumulated.{accumulated_term, accumulated_terms}
 use Rattle.geo_poly.specs.Inner.Factored.{AreFactors, ArePending, Factored, IsPending, factored_products, factored_terms, factored_weight, products_with, times_pieces, told_pending, weight_with}
-use Rattle.geo_poly.specs.Monomials.{IsMonomial, Powers, degree_of}
+use Rattle.geo_poly.specs.Inner.ReplacedExponents.{exponent_bound, term_exponent}
+use Rattle.geo_poly.specs.Monomials.{IsMonomial, Powers, degree_of, exponent}
 use Rattle.geo_poly.specs.Polynomials.{Summands, polynomial_of}
 use Rattle.geo_poly.specs.Replace.{others, term_degree, term_weight, weight_of}
-use Rattle.geo_poly.specs.Shared.{IsIndexOf, told_powers}
+use Rattle.geo_poly.specs.Shared.{IsIndexOf, told as told_terms, told_powers}
 use Rattle.geo_poly.proofs.FactoredTerms.{any_order, factored_terms-append}
 use Rattle.geo_poly.proofs.Accumulated.{accumulated_terms-append}
 
@@ -73,8 +75,9 @@ module _ (setting : Setting) (p : Shared) where
     one_products : products_with (told_pending setting p 0 e).0 1 ≤ term_products rows den top t.0
     one_products = subst (λ (u : Powers × ℤ). products_with (told_pending setting p 0 e).0 1 ≤ term_products rows den top u.0) term-is here.products
 
-    one_pending : IsIndexOf p e.id → IsMonomial t.0 → AllKeys (Contains setting.vars.now) t.0 → unsigned_abs t.1 ≢ 0 → term_degree rows den top t ≤ 65535 → IsPending setting p 0 e
-    one_pending index monomial known nonzero degree =
+    one_pending : IsIndexOf p e.id → IsMonomial t.0 → AllKeys (Contains setting.vars.now) t.0 → unsigned_abs t.1 ≢ 0 → term_degree rows den top t ≤ 65535
+        → ((v : Var) → term_exponent v rows den top t ≤ exponent_bound v rows den top (told_terms p)) → IsPending setting p 0 e
+    one_pending index monomial known nonzero degree exponents =
         let m-is : told_powers p e.id ≡ t.0 = ap (λ (u : Powers × ℤ). u.0) term-is in
         let c-is : e.coefficient ≡ t.1 = ap (λ (u : Powers × ℤ). u.1) term-is in
         record {
@@ -83,13 +86,16 @@ module _ (setting : Setting) (p : Shared) where
           known = subst (λ (n : Powers). AllKeys (Contains setting.vars.now) n) (sym m-is) known;
           nonzero = λ z. nonzero (ap unsigned_abs (sym c-is) ∙ z);
           degree = let whole = here.degree (degree_of (others rows m)) ∙ ap (λ (u : Powers × ℤ). term_degree rows den top u) term-is in omega (arith, whole, degree);
+          exponents = λ v.
+              let whole = here.exponents v (exponent v (others rows m)) ∙ ap (λ (u : Powers × ℤ). term_exponent v rows den top u) term-is in omega (arith, whole, exponents v);
         }
 
     -- a term that does not
     pub Made-more : (q : Summands) (es : List Pending) → IsIndexOf p e.id → IsMonomial t.0 → AllKeys (Contains setting.vars.now) t.0
         → unsigned_abs t.1 ≢ 0 → term_degree setting.rows.now setting.den.piece.now setting.top t ≤ 65535
+        → ((v : Var) → term_exponent v setting.rows.now setting.den.piece.now setting.top t ≤ exponent_bound v setting.rows.now setting.den.piece.now setting.top (told_terms p))
         → Made setting p q es → Made setting p (q ++ t ∷ []) (es ++ e ∷ [])
-    Made-more q es index monomial known nonzero degree h =
+    Made-more q es index monomial known nonzero degree exponents h =
         let pushed = map_push told es e in
         record {
           terms =
@@ -102,7 +108,7 @@ module _ (setting : Setting) (p : Shared) where
           products =
               let whole = ap factored_products pushed ∙ sum_by_push (λ (f : Factored). products_with f.0 1) (map told es) (told e) in
               omega (arith, whole, h.products, one_products, sum_by_push (λ (u : Powers × ℤ). term_products rows den top u.0) q t);
-          pending = All-push (IsPending setting p 0) es e h.pending (one_pending index monomial known nonzero degree);
+          pending = All-push (IsPending setting p 0) es e h.pending (one_pending index monomial known nonzero degree exponents);
         }
 
   pub Made-all : (q : Summands) (es : List Pending) → Made setting p q es → ArePending setting p q es

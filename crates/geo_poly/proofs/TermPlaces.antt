@@ -8,20 +8,23 @@ use Rattle.geo_poly.specs.declared.replacement.Piece.{Piece}
 use Rattle.geo_poly.specs.declared.replacement.Row.{Row}
 use Rattle.geo_poly.specs.declared.settings.Setting.{Setting}
 use Rattle.geo_poly.specs.declared.shared.Shared.{Shared}
+use Rattle.geo_poly.specs.declared.variables.Var.{Var}
 use Rattle.geo_poly.specs.Monomials.{IsMonomial, Powers}
 use Rattle.geo_poly.specs.PolynomialVariables.{AllVariables}
 use Rattle.geo_poly.specs.Polynomials.{Summands, coefficients, term_cmp}
 use Rattle.geo_poly.specs.Replace.{CanReplace, degree_bound, denominators, most_denominators, term_degree}
 use Rattle.geo_poly.specs.Shared.{told, told_term}
+use Rattle.geo_poly.specs.Inner.ReplacedExponents.{exponent_bound, term_exponent}
 use Rattle.geo_poly.proofs.Told.{item, told-is, told-within}
 
 -- the term may be replaced, and does not vanish by its coefficient
-pub record IsReplaceable (setting : Setting) (t : Powers × ℤ) : Type 0 where
+pub record IsReplaceable (setting : Setting) (q : Summands) (t : Powers × ℤ) : Type 0 where
   pub monomial : IsMonomial t.0
   pub known : AllKeys (Contains setting.vars.now) t.0
   pub nonzero : unsigned_abs t.1 ≢ 0
   pub top : denominators setting.rows.now t.0 ≤ setting.top
   pub degree : term_degree setting.rows.now setting.den.piece.now setting.top t ≤ 65535
+  pub exponents : (v : Var) → term_exponent v setting.rows.now setting.den.piece.now setting.top t ≤ exponent_bound v setting.rows.now setting.den.piece.now setting.top q
 
 top_at : (rows : List Row) (top : ℕ) (q : Summands) (i : ℕ) (t : Powers × ℤ) → i < length q → t ≡ get_or q i t → most_denominators rows q ≤ top → denominators rows t.0 ≤ top
 top_at rows top [] i t within at h = absurd (omega arith)
@@ -39,8 +42,16 @@ counts_at [] i t within at h = absurd (omega arith)
 counts_at (u ∷ q) zero t within at h = subst (λ (x : Powers × ℤ). eqb (unsigned_abs x.1) 0 ≡ false) (sym at) h.0
 counts_at (u ∷ q) (suc i) t within at h = counts_at q i t (omega arith) at h.2
 
+-- no term has a greater exponent than the polynomial
+exponent_at : (x : Var) (rows : List Row) (den : Piece) (top : ℕ) (q : Summands) (i : ℕ) (t : Powers × ℤ) → i < length q → t ≡ get_or q i t
+    → term_exponent x rows den top t ≤ exponent_bound x rows den top q
+exponent_at x rows den top [] i t within at = absurd (omega arith)
+exponent_at x rows den top (u ∷ q) zero t within at =
+    subst (λ (y : Powers × ℤ). term_exponent x rows den top y ≤ exponent_bound x rows den top (u ∷ q)) (sym at) (omega arith)
+exponent_at x rows den top (u ∷ q) (suc i) t within at = omega (arith, exponent_at x rows den top q i t (omega arith) at)
+
 pub replaceable_at : (setting : Setting) (p : Shared) (i : ℕ) → i < length p.list.now → AllVariables (Contains setting.vars.now) (told p)
-    → CanReplace setting.rows.now setting.den.piece.now setting.top (told p) → IsReplaceable setting (told_term p (item p.list.now i))
+    → CanReplace setting.rows.now setting.den.piece.now setting.top (told p) → IsReplaceable setting (told p) (told_term p (item p.list.now i))
 replaceable_at setting p i within known can =
     let t = told_term p (item p.list.now i) in
     let there = told-within p i within in
@@ -51,4 +62,5 @@ replaceable_at setting p i within known can =
       nonzero = λ e. false≢true (sym (counts_at (told p) i t there at can.in_order) ∙ ap (λ (n : ℕ). eqb n 0) e);
       top = top_at setting.rows.now setting.top (told p) i t there at can.top_fits;
       degree = degree_at setting.rows.now setting.den.piece.now setting.top (told p) i t there at can.degree_fits;
+      exponents = λ v. exponent_at v setting.rows.now setting.den.piece.now setting.top (told p) i t there at;
     }

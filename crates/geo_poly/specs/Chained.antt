@@ -7,29 +7,41 @@ use Rattle.poly_arena.specs.Chains.{Chains, IsLive, Pairs, list_of, pairs_of}
 use Rattle.geo_poly.specs.declared.variables.Var.{Var}
 use Rattle.geo_poly.specs.Monomials.{Powers}
 use Rattle.geo_poly.specs.Polynomials.{Summands}
-use Rattle.geo_poly.specs.Shared.{IsIndex, powers_at}
+use Rattle.geo_poly.specs.Keys.{IsKeyUnder, Keys, store_keys}
+use Rattle.geo_poly.specs.Shared.{named}
 
 -- the number is the index of a monomial, whose variables are in the list
 abbrev pub IsKey : List Var → Links → ℕ → Type 0
-IsKey vars links k = IsIndex vars links (record { 0 = k })
+IsKey vars links k = IsKeyUnder vars (store_keys links) k
 
 -- a key with a coefficient as an index with that coefficient
 abbrev pub indexed_pair : ℕ × ℤ → MonoId × ℤ
 indexed_pair t = (record { 0 = t.0 }, t.1)
 
 -- the term that a key with a coefficient stands for
-abbrev pub keyed_term : List Var → Links → ℕ × ℤ → Powers × ℤ
-keyed_term vars links t = (powers_at vars links (record { 0 = t.0 }), t.1)
+abbrev pub keyed_term_under : List Var → Keys → ℕ × ℤ → Powers × ℤ
+keyed_term_under vars keys t = (named vars (keys.powers t.0), t.1)
 
 -- the terms that a list of them stands for
+abbrev pub keyed_terms_under : List Var → Keys → Pairs → Summands
+keyed_terms_under vars keys pairs = map (keyed_term_under vars keys) pairs
+
+-- the same under the indices of a store
+abbrev pub keyed_term : List Var → Links → ℕ × ℤ → Powers × ℤ
+keyed_term vars links = keyed_term_under vars (store_keys links)
+
 abbrev pub keyed_terms : List Var → Links → Pairs → Summands
-keyed_terms vars links pairs = map (keyed_term vars links) pairs
+keyed_terms vars links = keyed_terms_under vars (store_keys links)
+
+-- a live chain has the terms p, each under the key of its monomial
+pub record StandsUnder (vars : List Var) (under : Keys) (arena : Chains) (number : ℕ) (p : Summands) : Type 0 where
+  pub live : IsLive arena number
+  pub keys : AllKeys (IsKeyUnder vars under) (pairs_of arena number)
+  pub terms : keyed_terms_under vars under (pairs_of arena number) ≡ p
 
 -- a live chain has the terms p, each under the index of its monomial
-pub record StandsFor (vars : List Var) (links : Links) (arena : Chains) (number : ℕ) (p : Summands) : Type 0 where
-  pub live : IsLive arena number
-  pub keys : AllKeys (IsKey vars links) (pairs_of arena number)
-  pub terms : keyed_terms vars links (pairs_of arena number) ≡ p
+abbrev pub StandsFor : List Var → Links → Chains → ℕ → Summands → Type 0
+StandsFor vars links arena number p = StandsUnder vars (store_keys links) arena number p
 
 -- a number that no chain had has one, and all other chains have what they had
 pub record AddsChain (old new : Chains) (number : ℕ) : Type 0 where

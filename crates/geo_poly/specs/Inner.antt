@@ -1,6 +1,7 @@
 -- What private functions and proofs speak of: how rows are looked up, and how a replacement is made by chains. No public contract
 -- cites it.
 pub mod RowTables
+pub mod Keyed
 pub mod Settings
 pub mod TermFactors
 pub mod Visits
@@ -8,3 +9,7 @@ pub mod Moved
 pub mod Parts
 pub mod Factored
 pub mod Accumulated
+pub mod ReplacedExponents
+pub mod Words
+pub mod Unpacked
+pub mod Limits

@@ -14,6 +14,7 @@ pub mod Cuts
 pub mod SortedVariables
 pub mod KeptVariables
 pub mod ReplacementLaws
+pub mod Keys
 pub mod Shared
 pub mod Stored
 pub mod StoreOrder

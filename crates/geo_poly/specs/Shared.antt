@@ -1,13 +1,14 @@
 -- A polynomial over a store of monomials in numbered variables: the number of a variable is its place in a list of variables.
-use Rattle.std.specs.Prelude.{ℕ, ◌<◌, ℤ, List, map, length, slice_index_or}
+use Rattle.std.specs.Prelude.{ℕ, ◌<◌, ℤ, List, map, slice_index_or}
 use Rattle.std.specs.List.Sorted.{IsStrictlySortedBy}
 use Rattle.sparse_lists.specs.SparseLists.{AllKeys}
 use Rattle.mono_store.specs.declared.links.MonoId.{MonoId}
 use Rattle.mono_store.specs.Monomials.{Powers as NumberedPowers}
-use Rattle.mono_store.specs.Stores.{Links, count, monomial_of}
+use Rattle.mono_store.specs.Stores.{Links, monomial_of}
 use Rattle.geo_poly.specs.declared.shared.Shared.{Shared}
 use Rattle.geo_poly.specs.declared.variables.Var.{Var}
 use Rattle.geo_poly.specs.declared.variables.Var.TheVariants.{R}
+use Rattle.geo_poly.specs.Keys.{IsKeyUnder, store_keys}
 use Rattle.geo_poly.specs.Variables.{var_cmp}
 use Rattle.geo_poly.specs.Monomials.{Powers}
 use Rattle.geo_poly.specs.Polynomials.{Summands, IsPolynomial}
@@ -29,9 +30,8 @@ abbrev pub AllPlaces : ℕ → NumberedPowers → Type 0
 AllPlaces n m = AllKeys (λ k. k < n) m
 
 -- the index is one of the store, and the variables of its monomial are in the list
-pub record IsIndex (vars : List Var) (links : Links) (id : MonoId) : Type 0 where
-  pub within : id.0 < count links
-  pub places : AllPlaces (length vars) (monomial_of links id)
+abbrev pub IsIndex : List Var → Links → MonoId → Type 0
+IsIndex vars links id = IsKeyUnder vars (store_keys links) id.0
 
 -- indices of monomials, with coefficients
 abbrev pub Indices : Type 0

@@ -5,21 +5,24 @@ ghost use Rattle.std.specs.Prelude.{Contains, IfOk, IsTrue, OnErr, None, Some};
 ghost use Rattle.std.specs.Prelude.{length, pos, slice_get};
 ghost use Rattle.std.specs.List.Sorted.{IsStrictlySortedBy};
 ghost use Rattle.sparse_lists.specs.SparseLists.{AllKeys};
-ghost use Rattle.mono_store.specs.Stores.{Keeps};
 ghost use Rattle.poly_arena.specs.Chains.{IsLive, Updates, list_of, pairs_of};
-ghost use Rattle.geo_poly.specs.Chained.{AddsChain, IsKey, SameChains, StandsFor, keyed_terms};
-ghost use Rattle.geo_poly.specs.Inner.Settings.{AreStored, IsStoredAs, Swaps};
+ghost use Rattle.geo_poly.specs.Chained.{AddsChain, SameChains, StandsUnder, keyed_terms_under};
+ghost use Rattle.geo_poly.specs.Inner.Keyed.{AreInReach, AreWithinLimits, HasRoom, IsIndexUnder};
+ghost use Rattle.geo_poly.specs.Inner.Keyed.{IsWithinLimits, KeepsKeys, terms_under};
+ghost use Rattle.geo_poly.specs.Inner.Settings.{AreStoredUnder, IsStoredUnder, Swaps};
+ghost use Rattle.geo_poly.specs.Keys.{IsKeyUnder};
 ghost use Rattle.geo_poly.specs.KeptVariables.{AllNumerators};
 ghost use Rattle.geo_poly.specs.Monomials.{IsMonomial};
 ghost use Rattle.geo_poly.specs.Polynomials.{CanMultiply, product_of};
 ghost use Rattle.geo_poly.specs.PolynomialVariables.{AllVariables};
 ghost use Rattle.geo_poly.specs.Replace.{others};
-ghost use Rattle.geo_poly.specs.Shared.{IsIndex, powers_at, terms_of};
+ghost use Rattle.geo_poly.specs.Shared.{named};
 ghost use Rattle.geo_poly.specs.Variables.{var_cmp};
 
 use crate::chained::{multiples_chain, product_chain};
-use crate::interning::{indexed, number_at, place_near};
-use crate::moving::moved;
+use crate::interning::{indexed, place_near};
+use crate::monomial_keys::MonomialKeys;
+use crate::moving::keyed;
 use crate::polynomials::Poly;
 use crate::replacement::Row;
 use crate::row_table::RowTable;
@@ -28,41 +31,45 @@ use crate::shared::Indexed;
 use crate::ticks::Ticks;
 use crate::variables::Var;
 use geo_points::NoMemory;
-use mono_store::{MonoId, Monos};
+use mono_store::MonoId;
 use poly_arena::{Arena, Chain};
 use std::alloc::Global;
 use std::sync::ledger::Ledger;
 
-/// The polynomial as indices of the store.
-fn stored_poly(
+/// The polynomial as a list of keys.
+pub(crate) fn stored_poly<K: MonomialKeys>(
     alloc: Global,
-    store: &mut Monos,
+    keys: &mut K,
     vars: &[Var],
     poly: &Poly,
 ) -> Result<Vec<Indexed>, NoMemory>
     requires rising { IsStrictlySortedBy var_cmp vars.now }
     requires known { AllVariables (Contains vars.now) poly.now }
-    ensures stored { IfOk result (λ list. IsStoredAs vars.now store.new list.items poly.now) }
-    ensures kept { Keeps store.old store.new }
+    requires reach { IsWithinLimits vars.now (K.keys keys.old) poly.now }
+    ensures stored { IfOk result
+        (λ list. IsStoredUnder vars.now (K.keys keys.new) list.items poly.now) }
+    ensures kept { KeepsKeys (K.keys keys.old) (K.keys keys.new) }
 {
-    moved(alloc, store, vars, &poly.shared())
+    keyed(alloc, keys, vars, &poly.shared())
 }
 
-/// The numerators of the rows as indices of the store.
-pub(crate) fn stored_rows(
+/// The numerators of the rows as lists of keys.
+pub(crate) fn stored_rows<K: MonomialKeys>(
     alloc: Global,
-    store: &mut Monos,
+    keys: &mut K,
     vars: &[Var],
     rows: &[Row],
 ) -> Result<Vec<IndexList>, NoMemory>
     requires rising { IsStrictlySortedBy var_cmp vars.now }
     requires known { AllNumerators (Contains vars.now) rows.now }
-    ensures stored { IfOk result (λ nums. AreStored vars.now store.new rows.now nums.items) }
-    ensures kept { Keeps store.old store.new }
+    requires reach { AreWithinLimits vars.now (K.keys keys.old) rows.now }
+    ensures stored { IfOk result
+        (λ nums. AreStoredUnder vars.now (K.keys keys.new) rows.now nums.items) }
+    ensures kept { KeepsKeys (K.keys keys.old) (K.keys keys.new) }
 {
     let mut nums = Vec::with_capacity(alloc, rows.len())?;
     for row in rows {
-        let items = stored_poly(alloc, store, vars, &row.num.poly)?;
+        let items = stored_poly(alloc, keys, vars, &row.num.poly)?;
         nums.push(IndexList { items })?;
     }
     Ok(nums)
@@ -86,9 +93,9 @@ pub(crate) fn one_term_chain(
 }
 
 /// The chain times the list. The chain is spent, also where there is no memory.
-pub(crate) fn times_list<L: Ledger>(
+pub(crate) fn times_list<K: MonomialKeys, L: Ledger>(
     alloc: Global,
-    store: &mut Monos,
+    keys: &mut K,
     arena: &mut Arena,
     vars: &[Var],
     chain: Chain,
@@ -97,16 +104,20 @@ pub(crate) fn times_list<L: Ledger>(
 ) -> Result<Chain, NoMemory>
     requires rising { IsStrictlySortedBy var_cmp vars.now }
     requires live { IsLive arena.old chain }
-    requires keys { AllKeys (IsKey vars.now store.old) (pairs_of arena.old chain) }
-    requires indices { AllKeys (IsIndex vars.now store.old) list.now }
-    requires fits { CanMultiply (keyed_terms vars.now store.old (pairs_of arena.old chain))
-        (terms_of vars.now store.old list.now) }
-    ensures chain { IfOk result (λ c. StandsFor vars.now store.new arena.new c
-        (product_of (keyed_terms vars.now store.old (pairs_of arena.old chain))
-        (terms_of vars.now store.old list.now))) }
+    requires keys { AllKeys (IsKeyUnder vars.now (K.keys keys.old)) (pairs_of arena.old chain) }
+    requires indices { AllKeys (IsIndexUnder vars.now (K.keys keys.old)) list.now }
+    requires fits { CanMultiply
+        (keyed_terms_under vars.now (K.keys keys.old) (pairs_of arena.old chain))
+        (terms_under vars.now (K.keys keys.old) list.now) }
+    requires reach { AreInReach vars.now (K.keys keys.old)
+        (keyed_terms_under vars.now (K.keys keys.old) (pairs_of arena.old chain))
+        (terms_under vars.now (K.keys keys.old) list.now) }
+    ensures chain { IfOk result (λ c. StandsUnder vars.now (K.keys keys.new) arena.new c
+        (product_of (keyed_terms_under vars.now (K.keys keys.old) (pairs_of arena.old chain))
+        (terms_under vars.now (K.keys keys.old) list.now))) }
     ensures swaps { IfOk result (Swaps arena.old arena.new chain) }
     ensures err { OnErr result (Updates arena.old arena.new chain None) }
-    ensures kept { Keeps store.old store.new }
+    ensures kept { KeepsKeys (K.keys keys.old) (K.keys keys.new) }
     ensures ticks { ticks.new
         ≤ ticks.old + length (pairs_of arena.old chain) * length list.now }
 {
@@ -114,17 +125,17 @@ pub(crate) fn times_list<L: Ledger>(
         Some((key, coefficient)) => {
             arena.give_back(chain);
             let term = (MonoId(key), coefficient);
-            multiples_chain(store, arena, vars, term, list, ticks)
+            multiples_chain(keys, arena, vars, term, list, ticks)
         }
-        None => times_list_by_halves(alloc, store, arena, vars, chain, list, ticks),
+        None => times_list_by_halves(alloc, keys, arena, vars, chain, list, ticks),
     }
 }
 
 /// The chain times the list, by halves of the shorter. The chain is spent, also where there is no
 /// memory.
-fn times_list_by_halves<L: Ledger>(
+fn times_list_by_halves<K: MonomialKeys, L: Ledger>(
     alloc: Global,
-    store: &mut Monos,
+    keys: &mut K,
     arena: &mut Arena,
     vars: &[Var],
     chain: Chain,
@@ -133,23 +144,27 @@ fn times_list_by_halves<L: Ledger>(
 ) -> Result<Chain, NoMemory>
     requires rising { IsStrictlySortedBy var_cmp vars.now }
     requires live { IsLive arena.old chain }
-    requires keys { AllKeys (IsKey vars.now store.old) (pairs_of arena.old chain) }
-    requires indices { AllKeys (IsIndex vars.now store.old) list.now }
-    requires fits { CanMultiply (keyed_terms vars.now store.old (pairs_of arena.old chain))
-        (terms_of vars.now store.old list.now) }
-    ensures chain { IfOk result (λ c. StandsFor vars.now store.new arena.new c
-        (product_of (keyed_terms vars.now store.old (pairs_of arena.old chain))
-        (terms_of vars.now store.old list.now))) }
+    requires keys { AllKeys (IsKeyUnder vars.now (K.keys keys.old)) (pairs_of arena.old chain) }
+    requires indices { AllKeys (IsIndexUnder vars.now (K.keys keys.old)) list.now }
+    requires fits { CanMultiply
+        (keyed_terms_under vars.now (K.keys keys.old) (pairs_of arena.old chain))
+        (terms_under vars.now (K.keys keys.old) list.now) }
+    requires reach { AreInReach vars.now (K.keys keys.old)
+        (keyed_terms_under vars.now (K.keys keys.old) (pairs_of arena.old chain))
+        (terms_under vars.now (K.keys keys.old) list.now) }
+    ensures chain { IfOk result (λ c. StandsUnder vars.now (K.keys keys.new) arena.new c
+        (product_of (keyed_terms_under vars.now (K.keys keys.old) (pairs_of arena.old chain))
+        (terms_under vars.now (K.keys keys.old) list.now))) }
     ensures swaps { IfOk result (Swaps arena.old arena.new chain) }
     ensures err { OnErr result (Updates arena.old arena.new chain None) }
-    ensures kept { Keeps store.old store.new }
+    ensures kept { KeepsKeys (K.keys keys.old) (K.keys keys.new) }
     ensures ticks { ticks.new
         ≤ ticks.old + length (pairs_of arena.old chain) * length list.now }
 {
     let pairs = arena.to_list(alloc, &chain);
     arena.give_back(chain);
     let left = indexed(alloc, &pairs?)?;
-    product_chain(store, arena, vars, &left, list, ticks)
+    product_chain(keys, arena, vars, &left, list, ticks)
 }
 
 /// Whether the list is that of the polynomial 1.
@@ -170,32 +185,32 @@ pub(crate) fn list_at(lists: &[IndexList], i: usize) -> &[Indexed]
     lists[i].as_slice()
 }
 
-/// The index of the monomial of the variables with no row. The numbers tell where to look first.
-pub(crate) fn stored_others(
-    store: &mut Monos,
+/// The key of the monomial of the variables with no row.
+pub(crate) fn stored_others<K: MonomialKeys>(
+    keys: &mut K,
     vars: &[Var],
     rows: &RowTable,
     powers: &[(Var, u32)],
-    numbers: &[u64],
 ) -> Result<MonoId, NoMemory>
     requires rising { IsStrictlySortedBy var_cmp vars.now }
     requires monomial { IsMonomial powers.now }
     requires known { AllKeys (Contains vars.now) powers.now }
-    ensures index { IfOk result (IsIndex vars.now store.new) }
+    requires reach { HasRoom vars.now (K.keys keys.old) (others rows.now powers.now) }
+    ensures index { IfOk result (IsIndexUnder vars.now (K.keys keys.new)) }
     ensures powers { IfOk result
-        (λ id. powers_at vars.now store.new id ≡ others rows.now powers.now) }
-    ensures kept { Keeps store.old store.new }
+        (λ id. named vars.now ((K.keys keys.new).powers id.0) ≡ others rows.now powers.now) }
+    ensures kept { KeepsKeys (K.keys keys.old) (K.keys keys.new) }
 {
-    let mut id = store.one();
+    let mut key = keys.one();
     let mut i = powers.len();
     while i > 0 {
         i -= 1;
         let (v, exponent) = powers[i];
-        let number = number_at(numbers, i);
-        match rows.find_row(v, number) {
+        let guess = i as u64;
+        match rows.find_row(v, guess) {
             Some(_) => {}
-            None => id = store.mono(place_near(vars, v, number), exponent, id)?,
+            None => key = keys.power_before(place_near(vars, v, guess), exponent, key)?,
         }
     }
-    Ok(id)
+    Ok(MonoId(key))
 }

@@ -1,27 +1,34 @@
-//! The monomials of a polynomial put into another store, whose variables have other numbers.
+//! The monomials of a polynomial under other keys, whose variables have other numbers, without the
+//! variables that are replaced.
 
-ghost use Rattle.std.specs.Prelude.{◌≡◌, ◌<◌, Contains, None, IfOk, slice_index_or};
+ghost use Rattle.std.specs.Prelude.{◌≡◌, ◌≢◌, ◌<◌, [], Contains, None, IfOk};
+ghost use Rattle.std.specs.Prelude.{IsFalse, IsTrue, length, slice_index_or};
 ghost use Rattle.std.specs.List.Sorted.{IsStrictlySortedBy};
 ghost use Rattle.sparse_lists.specs.SparseLists.{AllKeys};
 ghost use Rattle.mono_store.specs.Stores.{Keeps, count};
 ghost use Rattle.geo_poly.specs.Monomials.{IsMonomial};
 ghost use Rattle.geo_poly.specs.PolynomialVariables.{AllVariables};
+ghost use Rattle.geo_poly.specs.Replace.{others, row_of};
 ghost use Rattle.geo_poly.specs.Shared.{AreParts, IsIndex, IsIndexOf};
-ghost use Rattle.geo_poly.specs.Shared.{powers_at, terms_of, told, told_powers};
+ghost use Rattle.geo_poly.specs.Shared.{named, terms_of, told, told_powers, var_at};
 ghost use Rattle.geo_poly.specs.Variables.{var_cmp};
+ghost use Rattle.geo_poly.specs.Inner.Keyed.{HasRoom, IsIndexUnder, IsWithinLimits, KeepsKeys};
+ghost use Rattle.geo_poly.specs.Inner.Keyed.{terms_under};
 ghost use Rattle.geo_poly.specs.Inner.Moved.{AreMoved, ArePlaces, IsMovedTo, IsPlaceOf};
 
-use crate::interning::stored;
+use crate::chained_replacement::stored_others;
+use crate::monomial_keys::MonomialKeys;
 use crate::polynomial_variables::mark;
 use crate::reading::monomial_at;
+use crate::row_table::RowTable;
 use crate::shared::{Indexed, Shared};
 use crate::variables::Var;
 use geo_points::NoMemory;
 use mono_store::{MonoId, Monos};
 use std::alloc::Global;
 
-/// The indices of the monomials in another store, with their coefficients. Each link that they reach
-/// is looked at once, and no other is moved.
+/// The indices of the monomials in another store, with their coefficients.
+#[tactic(auto, using(crate::proofs::KeysKept::keeps_links))]
 pub(crate) fn moved(
     alloc: Global,
     store: &mut Monos,
@@ -35,9 +42,30 @@ pub(crate) fn moved(
     ensures terms { IfOk result (λ list. terms_of vars.now store.new list.items ≡ told p.now) }
     ensures kept { Keeps store.old store.new }
 {
-    let reached = reached_links(alloc, p)?;
-    let table = moved_monomials(alloc, store, vars, p, &reached)?;
-    looked_up(alloc, store, vars, p, &table)
+    keyed(alloc, store, vars, p)
+}
+
+/// The keys of the monomials, with their coefficients. Each link that they reach is looked at once,
+/// and no other is moved.
+pub(crate) fn keyed<K: MonomialKeys>(
+    alloc: Global,
+    keys: &mut K,
+    vars: &[Var],
+    p: &Shared,
+) -> Result<Vec<Indexed>, NoMemory>
+    requires rising { IsStrictlySortedBy var_cmp vars.now }
+    requires parts { AreParts p.now }
+    requires known { AllVariables (Contains vars.now) (told p.now) }
+    requires reach { IsWithinLimits vars.now (K.keys keys.old) (told p.now) }
+    ensures indices { IfOk result
+        (λ list. AllKeys (IsIndexUnder vars.now (K.keys keys.new)) list.items) }
+    ensures terms { IfOk result
+        (λ list. terms_under vars.now (K.keys keys.new) list.items ≡ told p.now) }
+    ensures kept { KeepsKeys (K.keys keys.old) (K.keys keys.new) }
+{
+    let rows = RowTable::new(alloc, &[], &[]);
+    let table = moved_monomials(alloc, keys, vars, &rows, p)?;
+    looked_up(alloc, keys, vars, &rows, p, &table)
 }
 
 /// Which links the monomials of the list reach, by their indices. Nothing rests on it but time.
@@ -65,35 +93,40 @@ fn reach(reached: &mut Vec<bool>, p: &Shared, id: MonoId)
     }
 }
 
-/// The list with the indices in another store.
-fn looked_up(
+/// The list with the keys.
+fn looked_up<K: MonomialKeys>(
     alloc: Global,
-    store: &mut Monos,
+    keys: &mut K,
     vars: &[Var],
+    rows: &RowTable,
     p: &Shared,
     table: &[Option<MonoId>],
 ) -> Result<Vec<Indexed>, NoMemory>
     requires rising { IsStrictlySortedBy var_cmp vars.now }
+    requires no_rows { rows.now ≡ [] }
     requires parts { AreParts p.now }
     requires known { AllVariables (Contains vars.now) (told p.now) }
-    requires table { AreMoved p.now vars.now store.old table.now }
-    ensures indices { IfOk result (λ list. AllKeys (IsIndex vars.now store.new) list.items) }
-    ensures terms { IfOk result (λ list. terms_of vars.now store.new list.items ≡ told p.now) }
-    ensures kept { Keeps store.old store.new }
+    requires table { AreMoved p.now rows.now vars.now (K.keys keys.old) table.now }
+    requires reach { IsWithinLimits vars.now (K.keys keys.old) (told p.now) }
+    ensures indices { IfOk result (λ list. AllKeys (IsIndexUnder vars.now (K.keys keys.new)) list.items) }
+    ensures terms { IfOk result (λ list. terms_under vars.now (K.keys keys.new) list.items ≡ told p.now) }
+    ensures kept { KeepsKeys (K.keys keys.old) (K.keys keys.new) }
 {
     let mut list = Vec::with_capacity(alloc, p.list.len())?;
     for (id, coefficient) in p.list {
-        let new = index_in(alloc, store, vars, p, table, *id)?;
+        let new = index_in(alloc, keys, vars, rows, p, table, *id)?;
         list.push((new, *coefficient))?;
     }
     Ok(list)
 }
 
-/// The index in another store of a monomial: that of the table, or else it is read and stored.
-fn index_in(
+/// The key of what is left of a monomial: that of the table, or else it is read and its powers are
+/// put together.
+pub(crate) fn index_in<K: MonomialKeys>(
     alloc: Global,
-    store: &mut Monos,
+    keys: &mut K,
     vars: &[Var],
+    rows: &RowTable,
     p: &Shared,
     table: &[Option<MonoId>],
     id: MonoId,
@@ -102,42 +135,64 @@ fn index_in(
     requires index { IsIndexOf p.now id }
     requires monomial { IsMonomial (told_powers p.now id) }
     requires known { AllKeys (Contains vars.now) (told_powers p.now id) }
-    requires table { AreMoved p.now vars.now store.old table.now }
-    ensures index { IfOk result (IsIndex vars.now store.new) }
-    ensures powers { IfOk result
-        (λ new. powers_at vars.now store.new new ≡ told_powers p.now id) }
-    ensures kept { Keeps store.old store.new }
+    requires table { AreMoved p.now rows.now vars.now (K.keys keys.old) table.now }
+    requires reach { HasRoom vars.now (K.keys keys.old)
+        (others rows.now (told_powers p.now id)) }
+    ensures index { IfOk result (IsIndexUnder vars.now (K.keys keys.new)) }
+    ensures powers { IfOk result (λ new. named vars.now ((K.keys keys.new).powers new.0)
+        ≡ others rows.now (told_powers p.now id)) }
+    ensures kept { KeepsKeys (K.keys keys.old) (K.keys keys.new) }
 {
     if let Some(new) = new_index(table, id) {
         return Ok(new);
     }
     let monomial = monomial_at(alloc, p, id)?;
-    let mut guesses = Vec::new(alloc);
-    stored(store, vars, monomial.powers(), &mut guesses)
+    stored_others(keys, vars, rows, monomial.powers())
 }
 
-/// The index in another store of each monomial, in the order of the indices, where it is marked and
-/// its variables stand in the list.
-fn moved_monomials(
+/// The key of what is left of each monomial without the variables of the rows, where the list reaches
+/// the monomial, its variables stand there and its exponents have room.
+pub(crate) fn moved_monomials<K: MonomialKeys>(
     alloc: Global,
-    store: &mut Monos,
+    keys: &mut K,
     vars: &[Var],
+    rows: &RowTable,
+    p: &Shared,
+) -> Result<Vec<Option<MonoId>>, NoMemory>
+    requires rising { IsStrictlySortedBy var_cmp vars.now }
+    requires parts { AreParts p.now }
+    ensures moved { IfOk result
+        (λ table. AreMoved p.now rows.now vars.now (K.keys keys.new) table.items) }
+    ensures kept { KeepsKeys (K.keys keys.old) (K.keys keys.new) }
+{
+    let reached = reached_links(alloc, p)?;
+    moved_links(alloc, keys, vars, rows, p, &reached)
+}
+
+/// The key of what is left of each monomial, in the order of the indices, where it is marked, its
+/// variables stand there and its exponents have room.
+fn moved_links<K: MonomialKeys>(
+    alloc: Global,
+    keys: &mut K,
+    vars: &[Var],
+    rows: &RowTable,
     p: &Shared,
     reached: &[bool],
 ) -> Result<Vec<Option<MonoId>>, NoMemory>
     requires rising { IsStrictlySortedBy var_cmp vars.now }
     requires parts { AreParts p.now }
-    ensures moved { IfOk result (λ table. AreMoved p.now vars.now store.new table.items) }
-    ensures kept { Keeps store.old store.new }
+    ensures moved { IfOk result
+        (λ table. AreMoved p.now rows.now vars.now (K.keys keys.new) table.items) }
+    ensures kept { KeepsKeys (K.keys keys.old) (K.keys keys.new) }
 {
     let places = places_in(alloc, p.vars, vars)?;
     let n = p.monos.links();
     let mut table = Vec::with_capacity(alloc, (n as usize).saturating_add(1))?;
-    table.push(Some(store.one()))?;
+    table.push(Some(MonoId(keys.one())))?;
     for k in 0..n {
         let id = MonoId(k + 1);
         let new = match reached.get(id.0 as usize) {
-            Some(true) => moved_monomial(store, vars, p, &places, &table, id)?,
+            Some(true) => moved_monomial(keys, vars, rows, p, &places, &table, id)?,
             _ => None,
         };
         table.push(new)?;
@@ -145,10 +200,11 @@ fn moved_monomials(
     Ok(table)
 }
 
-/// The index in another store of a monomial, where those before it have theirs.
-fn moved_monomial(
-    store: &mut Monos,
+/// The key of what is left of a monomial, where those before it have theirs.
+fn moved_monomial<K: MonomialKeys>(
+    keys: &mut K,
     vars: &[Var],
+    rows: &RowTable,
     p: &Shared,
     places: &[Option<u64>],
     table: &[Option<MonoId>],
@@ -157,28 +213,49 @@ fn moved_monomial(
     requires rising { IsStrictlySortedBy var_cmp vars.now }
     requires parts { AreParts p.now }
     requires places { ArePlaces p.now.vars.now vars.now places.now }
-    requires table { AreMoved p.now vars.now store.old table.now }
+    requires table { AreMoved p.now rows.now vars.now (K.keys keys.old) table.now }
     requires index { id.0 < count p.now.monos.now }
-    ensures moved { IfOk result (IsMovedTo p.now vars.now store.new id) }
-    ensures kept { Keeps store.old store.new }
+    ensures moved { IfOk result (IsMovedTo p.now rows.now vars.now (K.keys keys.new) id) }
+    ensures kept { KeepsKeys (K.keys keys.old) (K.keys keys.new) }
 {
     // every store says of itself that it is one
     let _one = p.monos.one();
     let link = match p.monos.link(id) {
         Some(link) => link,
-        None => return Ok(Some(store.one())),
+        None => return Ok(Some(MonoId(keys.one()))),
     };
+    let next = match new_index(table, link.next) {
+        Some(next) => next,
+        None => return Ok(None),
+    };
+    if is_replaced(rows, p.vars, link.var) {
+        return Ok(Some(next));
+    }
     let place = match place_at(places, link.var) {
         Some(place) => place,
         None => return Ok(None),
     };
-    match new_index(table, link.next) {
-        Some(next) => Ok(Some(store.mono(place, link.exp, next)?)),
-        None => Ok(None),
+    if !keys.fits(place, link.exp) {
+        return Ok(None);
+    }
+    let new = keys.power_before(place, link.exp, next.0)?;
+    Ok(Some(MonoId(new)))
+}
+
+/// Whether the variable of a number has a row.
+fn is_replaced(rows: &RowTable, vars: &[Var], number: u64) -> bool
+    ensures within { IsTrue result → number < length vars.now }
+    ensures replaced { IsTrue result → row_of rows.now (var_at vars.now number) ≢ None }
+    ensures stays { IsFalse result → number < length vars.now
+        → row_of rows.now (var_at vars.now number) ≡ None }
+{
+    match vars.get(number as usize) {
+        Some(v) => rows.find_row(*v, number).is_some(),
+        None => false,
     }
 }
 
-/// The new index of a monomial, where it has one.
+/// The new key of a monomial, where it has one.
 fn new_index(table: &[Option<MonoId>], id: MonoId) -> Option<MonoId>
     ensures { result ≡ slice_index_or table.now id.0 None }
 {

@@ -4,15 +4,18 @@ ghost use Rattle.std.specs.Prelude.{◌≡◌, ◌≢◌, ◌+◌, ◌*◌, ◌^
 ghost use Rattle.std.specs.Prelude.{IfOk, None, OnErr, length, map, unsigned_abs};
 ghost use Rattle.std.specs.List.Sorted.{IsStrictlySortedBy};
 ghost use Rattle.sparse_lists.specs.SparseLists.{AllKeys, IsCanonical};
-ghost use Rattle.mono_store.specs.Stores.{Keeps, Links};
 ghost use Rattle.poly_arena.specs.Chains.{IsLive, Updates, pairs_of};
-ghost use Rattle.geo_poly.specs.Chained.{AddsChain, IsKey, SameChains, StandsFor, keyed_terms};
+ghost use Rattle.geo_poly.specs.Chained.{AddsChain, SameChains, StandsUnder, keyed_terms_under};
 ghost use Rattle.geo_poly.specs.Counted.{products_of_terms};
 ghost use Rattle.geo_poly.specs.Inner.Factored.{IsPending, degree_with, factored_products};
 ghost use Rattle.geo_poly.specs.Inner.Factored.{factored_terms, factored_weight, piece_of};
 ghost use Rattle.geo_poly.specs.Inner.Factored.{pieces_of, products_with, times_pieces};
 ghost use Rattle.geo_poly.specs.Inner.Factored.{told_pending, weight_with};
-ghost use Rattle.geo_poly.specs.Inner.Settings.{IsSet, IsStoredAs, Swaps};
+ghost use Rattle.geo_poly.specs.Inner.Keyed.{AreInReach, ArePiecesInReach, HasRoom, KeepsKeys};
+ghost use Rattle.geo_poly.specs.Inner.Moved.{AreMoved};
+ghost use Rattle.geo_poly.specs.Inner.ReplacedExponents.{IsReplacedInReach};
+ghost use Rattle.geo_poly.specs.Inner.Settings.{IsSetUnder, IsStoredUnder, Swaps};
+ghost use Rattle.geo_poly.specs.Keys.{IsKeyUnder, Keys};
 ghost use Rattle.geo_poly.specs.Monomials.{IsMonomial};
 ghost use Rattle.geo_poly.specs.Polynomials.{CanMultiply, coefficients, norm_of, polynomial_of};
 ghost use Rattle.geo_poly.specs.Polynomials.{product_of, term_cmp, total_degree};
@@ -22,24 +25,24 @@ ghost use Rattle.geo_poly.specs.Shared.{AreParts, IsIndexOf, told, told_powers};
 ghost use Rattle.geo_poly.specs.Variables.{var_cmp};
 
 use crate::chained::summed;
-use crate::chained_replacement::{is_one, list_at, one_term_chain, stored_others, times_list};
+use crate::chained_replacement::{is_one, list_at, one_term_chain, times_list};
+use crate::monomial_keys::MonomialKeys;
+use crate::moving::{index_in, moved_monomials};
 use crate::pending::{Pending, front_of, sorted_pending};
-use crate::reading::read_powers;
 use crate::settings::Setting;
 use crate::shared::{Indexed, Shared};
 use crate::sharing::{shared_factors, split_place};
 use crate::ticks::Ticks;
-use crate::variables::Var;
 use geo_points::NoMemory;
-use mono_store::Monos;
+use mono_store::MonoId;
 use poly_arena::{Arena, Chain};
 use std::alloc::Global;
 use std::sync::ledger::Ledger;
 
-/// The indices of the polynomial of a factor.
+/// The list of the polynomial of a factor.
 fn list_of_factor<'a>(setting: &Setting<'a>, factor: usize) -> &'a [Indexed]
-    ensures { (links : Links) → IsSet setting.now links
-        → IsStoredAs setting.now.vars.now links result.now
+    ensures { (keys : Keys) → IsSetUnder setting.now keys
+        → IsStoredUnder setting.now.vars.now keys result.now
         (piece_of setting.now.rows.now setting.now.den.piece.now factor).poly }
 {
     if factor == 0 || factor > setting.nums.len() {
@@ -50,27 +53,32 @@ fn list_of_factor<'a>(setting: &Setting<'a>, factor: usize) -> &'a [Indexed]
 
 /// The chain times the factor; it is not multiplied by 1. The chain is spent, also where there is no
 /// memory.
-fn times_factor<L: Ledger>(
+fn times_factor<K: MonomialKeys, L: Ledger>(
     alloc: Global,
     setting: &Setting,
-    store: &mut Monos,
+    keys: &mut K,
     arena: &mut Arena,
     chain: Chain,
     factor: usize,
     ticks: &mut Ticks<L>,
 ) -> Result<Chain, NoMemory>
-    requires set { IsSet setting.now store.old }
+    requires set { IsSetUnder setting.now (K.keys keys.old) }
     requires live { IsLive arena.old chain }
-    requires keys { AllKeys (IsKey setting.now.vars.now store.old) (pairs_of arena.old chain) }
-    requires fits { CanMultiply (keyed_terms setting.now.vars.now store.old
+    requires keys { AllKeys (IsKeyUnder setting.now.vars.now (K.keys keys.old))
+        (pairs_of arena.old chain) }
+    requires fits { CanMultiply (keyed_terms_under setting.now.vars.now (K.keys keys.old)
         (pairs_of arena.old chain))
         (piece_of setting.now.rows.now setting.now.den.piece.now factor).poly }
-    ensures chain { IfOk result (λ c. StandsFor setting.now.vars.now store.new arena.new c
-        (product_of (keyed_terms setting.now.vars.now store.old (pairs_of arena.old chain))
+    requires reach { AreInReach setting.now.vars.now (K.keys keys.old)
+        (keyed_terms_under setting.now.vars.now (K.keys keys.old) (pairs_of arena.old chain))
+        (piece_of setting.now.rows.now setting.now.den.piece.now factor).poly }
+    ensures chain { IfOk result (λ c. StandsUnder setting.now.vars.now (K.keys keys.new) arena.new c
+        (product_of
+        (keyed_terms_under setting.now.vars.now (K.keys keys.old) (pairs_of arena.old chain))
         (piece_of setting.now.rows.now setting.now.den.piece.now factor).poly)) }
     ensures swaps { IfOk result (Swaps arena.old arena.new chain) }
     ensures err { OnErr result (Updates arena.old arena.new chain None) }
-    ensures kept { Keeps store.old store.new }
+    ensures kept { KeepsKeys (K.keys keys.old) (K.keys keys.new) }
     ensures ticks { ticks.new ≤ ticks.old + length (pairs_of arena.old chain)
         * length (piece_of setting.now.rows.now setting.now.den.piece.now factor).poly }
 {
@@ -78,41 +86,47 @@ fn times_factor<L: Ledger>(
     if is_one(list) {
         return Ok(chain);
     }
-    times_list(alloc, store, arena, setting.vars, chain, list, ticks)
+    times_list(alloc, keys, arena, setting.vars, chain, list, ticks)
 }
 
 /// The chain times these factors, the last one first. The chain is spent, also where there is no
 /// memory.
-fn times_factors<L: Ledger>(
+fn times_factors<K: MonomialKeys, L: Ledger>(
     alloc: Global,
     setting: &Setting,
-    store: &mut Monos,
+    keys: &mut K,
     arena: &mut Arena,
     chain: Chain,
     factors: &[usize],
     ticks: &mut Ticks<L>,
 ) -> Result<Chain, NoMemory>
-    requires set { IsSet setting.now store.old }
+    requires set { IsSetUnder setting.now (K.keys keys.old) }
     requires live { IsLive arena.old chain }
-    requires keys { AllKeys (IsKey setting.now.vars.now store.old) (pairs_of arena.old chain) }
+    requires keys { AllKeys (IsKeyUnder setting.now.vars.now (K.keys keys.old))
+        (pairs_of arena.old chain) }
     requires in_order { IsCanonical term_cmp coefficients
-        (keyed_terms setting.now.vars.now store.old (pairs_of arena.old chain)) }
+        (keyed_terms_under setting.now.vars.now (K.keys keys.old) (pairs_of arena.old chain)) }
     requires monomials { AllKeys IsMonomial
-        (keyed_terms setting.now.vars.now store.old (pairs_of arena.old chain)) }
+        (keyed_terms_under setting.now.vars.now (K.keys keys.old) (pairs_of arena.old chain)) }
     requires norm { weight_with
         (pieces_of setting.now.rows.now setting.now.den.piece.now factors.now)
-        (norm_of (keyed_terms setting.now.vars.now store.old (pairs_of arena.old chain)))
+        (norm_of
+        (keyed_terms_under setting.now.vars.now (K.keys keys.old) (pairs_of arena.old chain)))
         < 2 ^ 127 }
     requires degree { degree_with
         (pieces_of setting.now.rows.now setting.now.den.piece.now factors.now)
-        (total_degree (keyed_terms setting.now.vars.now store.old (pairs_of arena.old chain)))
+        (total_degree
+        (keyed_terms_under setting.now.vars.now (K.keys keys.old) (pairs_of arena.old chain)))
         ≤ 65535 }
-    ensures chain { IfOk result (λ c. StandsFor setting.now.vars.now store.new arena.new c
+    requires reach { ArePiecesInReach setting.now.vars.now (K.keys keys.old)
+        (pieces_of setting.now.rows.now setting.now.den.piece.now factors.now)
+        (keyed_terms_under setting.now.vars.now (K.keys keys.old) (pairs_of arena.old chain)) }
+    ensures chain { IfOk result (λ c. StandsUnder setting.now.vars.now (K.keys keys.new) arena.new c
         (times_pieces (pieces_of setting.now.rows.now setting.now.den.piece.now factors.now)
-        (keyed_terms setting.now.vars.now store.old (pairs_of arena.old chain)))) }
+        (keyed_terms_under setting.now.vars.now (K.keys keys.old) (pairs_of arena.old chain)))) }
     ensures swaps { IfOk result (Swaps arena.old arena.new chain) }
     ensures err { OnErr result (Updates arena.old arena.new chain None) }
-    ensures kept { Keeps store.old store.new }
+    ensures kept { KeepsKeys (K.keys keys.old) (K.keys keys.new) }
     ensures ticks { ticks.new ≤ ticks.old + products_with
         (pieces_of setting.now.rows.now setting.now.den.piece.now factors.now)
         (length (pairs_of arena.old chain)) }
@@ -121,73 +135,77 @@ fn times_factors<L: Ledger>(
     let mut i = factors.len();
     while i > 0 {
         i -= 1;
-        product = times_factor(alloc, setting, store, arena, product, factors[i], ticks)?;
+        product = times_factor(alloc, setting, keys, arena, product, factors[i], ticks)?;
     }
     Ok(product)
 }
 
 /// The chain of a term without its factors: its other variables, with its coefficient.
-fn lone_chain(
+fn lone_chain<K: MonomialKeys>(
+    alloc: Global,
     setting: &Setting,
-    store: &mut Monos,
+    keys: &mut K,
     arena: &mut Arena,
     p: &Shared,
+    table: &[Option<MonoId>],
     term: &Pending,
-    powers: &mut Vec<(Var, u32)>,
-    numbers: &mut Vec<u64>,
 ) -> Result<Chain, NoMemory>
     requires rising { IsStrictlySortedBy var_cmp setting.now.vars.now }
+    requires table { AreMoved p.now setting.now.rows.now setting.now.vars.now (K.keys keys.old)
+        table.now }
     requires index { IsIndexOf p.now term.now.id }
     requires monomial { IsMonomial (told_powers p.now term.now.id) }
     requires known { AllKeys (Contains setting.now.vars.now) (told_powers p.now term.now.id) }
-    ensures chain { IfOk result (λ c. StandsFor setting.now.vars.now store.new arena.new c
+    requires reach { HasRoom setting.now.vars.now (K.keys keys.old)
+        (others setting.now.rows.now (told_powers p.now term.now.id)) }
+    ensures chain { IfOk result (λ c. StandsUnder setting.now.vars.now (K.keys keys.new) arena.new c
         ((others setting.now.rows.now (told_powers p.now term.now.id), term.now.coefficient)
         ∷ [])) }
     ensures adds { IfOk result (AddsChain arena.old arena.new) }
     ensures err { OnErr result (SameChains arena.old arena.new) }
-    ensures kept { Keeps store.old store.new }
+    ensures kept { KeepsKeys (K.keys keys.old) (K.keys keys.new) }
 {
-    read_powers(p, term.id, powers, numbers)?;
-    let powers = powers.as_slice();
-    let numbers = numbers.as_slice();
-    let rest = stored_others(store, setting.vars, setting.rows, powers, numbers)?;
+    let rest = index_in(alloc, keys, setting.vars, setting.rows, p, table, term.id)?;
     one_term_chain(arena, rest.0, term.coefficient)
 }
 
-/// The chain of the sum of the terms, each with its factors from a place on. The lists of powers and
-/// of numbers are for reading one monomial after the other.
-fn nested_sum<L: Ledger>(
+/// The chain of the sum of the terms, each with its factors from a place on. The table has the keys
+/// of what is left of their monomials.
+fn nested_sum<K: MonomialKeys, L: Ledger>(
     alloc: Global,
     setting: &Setting,
-    store: &mut Monos,
+    keys: &mut K,
     arena: &mut Arena,
     p: &Shared,
+    table: &[Option<MonoId>],
     pending: &[Pending],
     depth: usize,
     splits: u32,
-    powers: &mut Vec<(Var, u32)>,
-    numbers: &mut Vec<u64>,
     ticks: &mut Ticks<L>,
 ) -> Result<Chain, NoMemory>
-    requires set { IsSet setting.now store.old }
+    requires set { IsSetUnder setting.now (K.keys keys.old) }
+    requires table { AreMoved p.now setting.now.rows.now setting.now.vars.now (K.keys keys.old)
+        table.now }
     requires pending { All (IsPending setting.now p.now depth) pending.now }
     requires norm { factored_weight (map (told_pending setting.now p.now depth) pending.now)
         < 2 ^ 127 }
-    ensures chain { IfOk result (λ c. StandsFor setting.now.vars.now store.new arena.new c
+    requires reach { IsReplacedInReach setting.now.vars.now (K.keys keys.old) setting.now.rows.now
+        setting.now.den.piece.now setting.now.top (told p.now) }
+    ensures chain { IfOk result (λ c. StandsUnder setting.now.vars.now (K.keys keys.new) arena.new c
         (polynomial_of (factored_terms (map (told_pending setting.now p.now depth)
         pending.now)))) }
     ensures adds { IfOk result (AddsChain arena.old arena.new) }
     ensures err { OnErr result (SameChains arena.old arena.new) }
-    ensures kept { Keeps store.old store.new }
+    ensures kept { KeepsKeys (K.keys keys.old) (K.keys keys.new) }
     ensures ticks { ticks.new ≤ ticks.old
         + factored_products (map (told_pending setting.now p.now depth) pending.now) }
 {
     match pending {
         [] => Ok(arena.chain()?),
         [term] => {
-            let chain = lone_chain(setting, store, arena, p, term, powers, numbers)?;
+            let chain = lone_chain(alloc, setting, keys, arena, p, table, term)?;
             let factors = term.factors_from(depth);
-            times_factors(alloc, setting, store, arena, chain, factors, ticks)
+            times_factors(alloc, setting, keys, arena, chain, factors, ticks)
         }
         _ => {
             let first = pending[0].factors_from(depth);
@@ -196,15 +214,15 @@ fn nested_sum<L: Ledger>(
             let more = splits.saturating_add(1);
             let (front, back) = pending.split_at(split_place(pending, deeper, splits));
             let sum = nested_sum(
-                alloc, setting, store, arena, p, front, deeper, more, powers, numbers, ticks,
+                alloc, setting, keys, arena, p, table, front, deeper, more, ticks,
             )?;
             match nested_sum(
-                alloc, setting, store, arena, p, back, deeper, more, powers, numbers, ticks,
+                alloc, setting, keys, arena, p, table, back, deeper, more, ticks,
             ) {
                 Ok(rest) => {
-                    let whole = summed(store, arena, setting.vars, sum, rest);
+                    let whole = summed(keys, arena, setting.vars, sum, rest);
                     let factors = front_of(first, shared);
-                    times_factors(alloc, setting, store, arena, whole, factors, ticks)
+                    times_factors(alloc, setting, keys, arena, whole, factors, ticks)
                 }
                 Err(error) => {
                     arena.give_back(sum);
@@ -216,42 +234,33 @@ fn nested_sum<L: Ledger>(
 }
 
 /// The chain of the sum of what becomes of the terms.
-pub(crate) fn nested_chain<L: Ledger>(
+pub(crate) fn nested_chain<K: MonomialKeys, L: Ledger>(
     alloc: Global,
     setting: &Setting,
-    store: &mut Monos,
+    keys: &mut K,
     arena: &mut Arena,
     p: &Shared,
     ticks: &mut Ticks<L>,
 ) -> Result<Chain, NoMemory>
-    requires set { IsSet setting.now store.old }
+    requires set { IsSetUnder setting.now (K.keys keys.old) }
     requires parts { AreParts p.now }
     requires known { AllVariables (Contains setting.now.vars.now) (told p.now) }
     requires can { CanReplace setting.now.rows.now setting.now.den.piece.now setting.now.top
         (told p.now) }
-    ensures chain { IfOk result (λ c. StandsFor setting.now.vars.now store.new arena.new c
+    requires reach { IsReplacedInReach setting.now.vars.now (K.keys keys.old) setting.now.rows.now
+        setting.now.den.piece.now setting.now.top (told p.now) }
+    ensures chain { IfOk result (λ c. StandsUnder setting.now.vars.now (K.keys keys.new) arena.new c
         (polynomial_of (replaced_terms setting.now.rows.now setting.now.den.piece.now.poly
         setting.now.top (told p.now)))) }
     ensures adds { IfOk result (AddsChain arena.old arena.new) }
     ensures err { OnErr result (SameChains arena.old arena.new) }
-    ensures kept { Keeps store.old store.new }
+    ensures kept { KeepsKeys (K.keys keys.old) (K.keys keys.new) }
     ensures ticks { ticks.new ≤ ticks.old + products_of_terms setting.now.rows.now
         setting.now.den.piece.now setting.now.top (told p.now) }
 {
-    let mut powers = Vec::new(alloc);
-    let mut numbers = Vec::new(alloc);
-    let pending = sorted_pending(alloc, setting, p, &mut powers, &mut numbers)?;
+    let pending = sorted_pending(alloc, setting, p)?;
+    let table = moved_monomials(alloc, keys, setting.vars, setting.rows, p)?;
     nested_sum(
-        alloc,
-        setting,
-        store,
-        arena,
-        p,
-        &pending,
-        0,
-        0,
-        &mut powers,
-        &mut numbers,
-        ticks,
+        alloc, setting, keys, arena, p, &table, &pending, 0, 0, ticks,
     )
 }

@@ -12,7 +12,7 @@ ghost use Rattle.geo_poly.specs.Shared.{AreParts, IsIndexOf, told, told_powers};
 use crate::interning::number_at;
 use crate::reading::read_powers;
 use crate::replacement::Row;
-use crate::replacement_bounds::{has_zero, lacking_at};
+use crate::replacement_bounds::lacking_at;
 use crate::settings::Setting;
 use crate::shared::{Indexed, Shared};
 use crate::variables::Var;
@@ -119,6 +119,7 @@ fn pending_term(
     setting: &Setting,
     p: &Shared,
     term: &Indexed,
+    lacking: u32,
     powers: &mut Vec<(Var, u32)>,
     numbers: &mut Vec<u64>,
 ) -> Result<Pending, NoMemory>
@@ -126,17 +127,16 @@ fn pending_term(
     requires den { IsBounded setting.now.den.piece.now }
     requires index { IsIndexOf p.now term.now.0 }
     requires monomial { IsMonomial (told_powers p.now term.now.0) }
-    requires top { denominators setting.now.rows.now (told_powers p.now term.now.0)
-        ≤ setting.now.top }
     requires no_zero { HasNoZero setting.now.rows.now setting.now.den.piece.now
         setting.now.top (told_powers p.now term.now.0) }
+    requires lacking { lacking
+        ≡ setting.now.top - denominators setting.now.rows.now (told_powers p.now term.now.0) }
     ensures index { IfOk result (λ e. e.id ≡ term.now.0) }
     ensures coefficient { IfOk result (λ e. e.coefficient ≡ term.now.1) }
     ensures factors { IfOk result (λ e. AreFactors setting.now (told_powers p.now term.now.0)
         e.factors.items) }
 {
     read_powers(p, term.0, powers, numbers)?;
-    let lacking = lacking_at(p, term.0, setting.rows, setting.top);
     let factors = factors_of(
         alloc,
         setting,
@@ -152,23 +152,21 @@ fn pending_term(
 }
 
 /// The terms that do not become zero, each with its factors.
-fn pending_terms(
-    alloc: Global,
-    setting: &Setting,
-    p: &Shared,
-    powers: &mut Vec<(Var, u32)>,
-    numbers: &mut Vec<u64>,
-) -> Result<Vec<Pending>, NoMemory>
+fn pending_terms(alloc: Global, setting: &Setting, p: &Shared) -> Result<Vec<Pending>, NoMemory>
     requires parts { AreParts p.now }
     requires known { AllVariables (Contains setting.now.vars.now) (told p.now) }
     requires can { CanReplace setting.now.rows.now setting.now.den.piece.now setting.now.top
         (told p.now) }
     ensures pending { IfOk result (λ es. ArePending setting.now p.now (told p.now) es.items) }
 {
+    let mut powers = Vec::new(alloc);
+    let mut numbers = Vec::new(alloc);
     let mut pending = Vec::with_capacity(alloc, p.list.len())?;
     for term in p.list {
-        if !has_zero(p, term.0, setting.rows, setting.den.piece, setting.top) {
-            pending.push(pending_term(alloc, setting, p, term, powers, numbers)?)?;
+        let lacking = lacking_at(p, term.0, setting.rows, setting.den.piece, setting.top);
+        if let Some(lacking) = lacking {
+            let made = pending_term(alloc, setting, p, term, lacking, &mut powers, &mut numbers)?;
+            pending.push(made)?;
         }
     }
     Ok(pending)
@@ -179,8 +177,6 @@ pub(crate) fn sorted_pending(
     alloc: Global,
     setting: &Setting,
     p: &Shared,
-    powers: &mut Vec<(Var, u32)>,
-    numbers: &mut Vec<u64>,
 ) -> Result<Vec<Pending>, NoMemory>
     requires parts { AreParts p.now }
     requires known { AllVariables (Contains setting.now.vars.now) (told p.now) }
@@ -188,7 +184,7 @@ pub(crate) fn sorted_pending(
         (told p.now) }
     ensures pending { IfOk result (λ es. ArePending setting.now p.now (told p.now) es.items) }
 {
-    let mut pending = pending_terms(alloc, setting, p, powers, numbers)?;
+    let mut pending = pending_terms(alloc, setting, p)?;
     pending.sort_by(|a: &Pending, b: &Pending| a.factors.as_slice().cmp(b.factors.as_slice()))?;
     Ok(pending)
 }

@@ -4,7 +4,9 @@ ghost use Rattle.std.specs.Prelude.{◌≡◌, ◌≢◌, ◌↔◌, ◌^◌, �
 ghost use Rattle.std.specs.Prelude.{unsigned_abs, slice_get, Contains, IfOk, IsTrue};
 ghost use Rattle.sparse_lists.specs.SparseLists.{AllKeys};
 ghost use Rattle.poly_arena.specs.Chains.{IsLive, pairs_of};
-ghost use Rattle.geo_poly.specs.Chained.{IsKey, keyed_terms};
+ghost use Rattle.geo_poly.specs.Chained.{IsKey, keyed_terms, keyed_terms_under};
+ghost use Rattle.geo_poly.specs.Inner.Words.{word_keys};
+ghost use Rattle.geo_poly.specs.Keys.{IsKeyUnder};
 ghost use Rattle.geo_poly.specs.Monomials.{IsMonomial};
 ghost use Rattle.geo_poly.specs.PolynomialVariables.{AllVariables};
 ghost use Rattle.geo_poly.specs.Polynomials.{IsPolynomial, constant_of, norm_of, term_at};
@@ -23,7 +25,9 @@ use crate::reading::{count_powers, is_same, norm_at, power_at, terms_at, total_d
 use crate::shared::{Indexed, Shared};
 use crate::stored::Stored;
 use crate::terms::Term;
+use crate::unpacking::unpacked;
 use crate::variables::Var;
+use crate::words::Digits;
 use crate::zeros::keep_lacking;
 use geo_points::NoMemory;
 use mono_store::{MonoId, Monos};
@@ -245,6 +249,28 @@ impl Poly {
     {
         let pairs = arena.into_list(alloc, chain)?;
         let list = indexed(alloc, &pairs)?;
+        Poly::compact(alloc, vars, monos, list)
+    }
+
+    /// The polynomial that a chain of words stands for. The chain and its arena are spent.
+    pub(crate) fn from_words(
+        alloc: Global,
+        vars: Vars,
+        words: &Digits,
+        arena: Arena,
+        chain: Chain,
+    ) -> Result<Poly, NoMemory>
+        requires rising { IsStrictlySortedBy var_cmp vars }
+        requires live { IsLive arena chain }
+        requires keys { AllKeys (IsKeyUnder vars (word_keys words.now)) (pairs_of arena chain) }
+        requires polynomial { IsPolynomial
+            (keyed_terms_under vars (word_keys words.now) (pairs_of arena chain)) }
+        ensures { IfOk result
+            (λ p. p ≡ keyed_terms_under vars (word_keys words.now) (pairs_of arena chain)) }
+    {
+        let pairs = arena.into_list(alloc, chain)?;
+        let mut monos = Monos::with_capacity(alloc, pairs.len() as u64)?;
+        let list = unpacked(alloc, words, &mut monos, vars.as_slice(), &pairs)?;
         Poly::compact(alloc, vars, monos, list)
     }
 

@@ -5,7 +5,9 @@ ghost use Rattle.std.specs.Prelude.{Contains, IfOk, OnErr, OnOk};
 ghost use Rattle.std.specs.List.Sorted.{IsStrictlySortedBy};
 ghost use Rattle.mono_store.specs.Stores.{Keeps};
 ghost use Rattle.geo_poly.specs.declared.limits.Which.{Which};
-ghost use Rattle.geo_poly.specs.Chained.{AddsChain, SameChains, StandsFor};
+ghost use Rattle.geo_poly.specs.Chained.{AddsChain, SameChains, StandsFor, StandsUnder};
+ghost use Rattle.geo_poly.specs.Inner.Keyed.{AreInReach, KeepsKeys, greatest_exponent};
+ghost use Rattle.geo_poly.specs.Inner.Limits.{HaveRoom};
 ghost use Rattle.geo_poly.specs.Polynomials.{CanMultiply, norm_of, product_of, total_degree};
 ghost use Rattle.geo_poly.specs.PolynomialVariables.{AllVariables};
 ghost use Rattle.geo_poly.specs.Shared.{AreParts, IsIndex, terms_of, told};
@@ -13,16 +15,19 @@ ghost use Rattle.sparse_lists.specs.SparseLists.{AllKeys};
 ghost use Rattle.geo_poly.specs.Variables.{var_cmp};
 
 use crate::chained::product_chain;
+use crate::exponent_limits::product_digits;
 use crate::interning::indexed;
 use crate::limits::{MAX, MAX_DEGREE, PolyError, Which};
 use crate::lists::Vars;
-use crate::moving::moved;
+use crate::monomial_keys::MonomialKeys;
+use crate::moving::{keyed, moved};
 use crate::multiples::multiples_list;
 use crate::polynomial_variables::{has_all, union};
 use crate::polynomials::Poly;
 use crate::shared::{Indexed, Shared};
 use crate::ticks::Ticks;
 use crate::variables::Var;
+use crate::words::Digits;
 use geo_points::NoMemory;
 use mono_store::Monos;
 use poly_arena::{Arena, Chain};
@@ -97,6 +102,7 @@ impl Poly {
     }
 
     /// The chain of the product, which fits; its products of monomials are counted for nobody.
+    #[tactic(auto, using(crate::proofs::KeysKept::keeps_links))]
     fn chained_product<L: Ledger>(
         &self,
         alloc: Global,
@@ -142,9 +148,82 @@ fn product(alloc: Global, p: &Shared, q: &Shared) -> Result<Poly, NoMemory>
         return product_over(alloc, q, p);
     }
     let vars = union(alloc, p.vars, q.vars)?;
+    match product_digits(alloc, vars.as_slice(), p, q)? {
+        Some(words) => packed_product::<Brand>(alloc, vars, words, p, q, Blank::new(1)),
+        None => stored_product(alloc, vars, p, q),
+    }
+}
+
+/// The product, which fits, over a store.
+fn stored_product(alloc: Global, vars: Vars, p: &Shared, q: &Shared) -> Result<Poly, NoMemory>
+    requires rising { IsStrictlySortedBy var_cmp vars }
+    requires left { AreParts p.now }
+    requires right { AreParts q.now }
+    requires left_known { AllVariables (Contains vars) (told p.now) }
+    requires right_known { AllVariables (Contains vars) (told q.now) }
+    requires fits { CanMultiply (told p.now) (told q.now) }
+    ensures { IfOk result (λ s. s ≡ product_of (told p.now) (told q.now)) }
+{
     let mut monos = Monos::with_capacity(alloc, product_room(p, q))?;
     let list = product_of_moved(alloc, &mut monos, vars.as_slice(), p, q)?;
     Poly::compact(alloc, vars, monos, list)
+}
+
+/// The product, which fits, by words that have room for it.
+fn packed_product<L: Ledger>(
+    alloc: Global,
+    vars: Vars,
+    mut words: Digits,
+    p: &Shared,
+    q: &Shared,
+    blank: Blank,
+) -> Result<Poly, NoMemory>
+    requires name { blank.name ≡ L.name }
+    requires parts { blank.parts ≡ L.parts }
+    requires some { 0 < blank.parts }
+    requires rising { IsStrictlySortedBy var_cmp vars }
+    requires left { AreParts p.now }
+    requires right { AreParts q.now }
+    requires left_known { AllVariables (Contains vars) (told p.now) }
+    requires right_known { AllVariables (Contains vars) (told q.now) }
+    requires fits { CanMultiply (told p.now) (told q.now) }
+    requires room { HaveRoom vars words
+        (λ v. greatest_exponent v (told p.now) + greatest_exponent v (told q.now)) }
+    ensures { IfOk result (λ s. s ≡ product_of (told p.now) (told q.now)) }
+{
+    let mut arena = Arena::new(alloc)?;
+    let names = vars.as_slice();
+    let mut ticks = Ticks::<L>::new(blank);
+    let chain = keyed_product(alloc, &mut words, &mut arena, names, p, q, &mut ticks)?;
+    Poly::from_words(alloc, vars, &words, arena, chain)
+}
+
+/// The chain of the product, which fits, under any keys that have room.
+fn keyed_product<K: MonomialKeys, L: Ledger>(
+    alloc: Global,
+    keys: &mut K,
+    arena: &mut Arena,
+    vars: &[Var],
+    p: &Shared,
+    q: &Shared,
+    ticks: &mut Ticks<L>,
+) -> Result<Chain, NoMemory>
+    requires rising { IsStrictlySortedBy var_cmp vars.now }
+    requires left { AreParts p.now }
+    requires right { AreParts q.now }
+    requires left_known { AllVariables (Contains vars.now) (told p.now) }
+    requires right_known { AllVariables (Contains vars.now) (told q.now) }
+    requires fits { CanMultiply (told p.now) (told q.now) }
+    requires reach { AreInReach vars.now (K.keys keys.old) (told p.now) (told q.now) }
+    ensures chain { IfOk result (λ c. StandsUnder vars.now (K.keys keys.new) arena.new c
+        (product_of (told p.now) (told q.now))) }
+    ensures adds { IfOk result (AddsChain arena.old arena.new) }
+    ensures err { OnErr result (SameChains arena.old arena.new) }
+    ensures kept { KeepsKeys (K.keys keys.old) (K.keys keys.new) }
+{
+    let left = keyed(alloc, keys, vars, p)?;
+    let right = keyed(alloc, keys, vars, q)?;
+    product_chain(keys, arena, vars, &left, &right, ticks)
 }
 
 /// Room for the links of a product. Nothing rests on it but time.
@@ -222,6 +301,7 @@ pub(crate) fn product_list<L: Ledger>(
 }
 
 /// The list of the product, by chains of an arena.
+#[tactic(auto, using(crate::proofs::KeysKept::keeps_links))]
 fn merged_product<L: Ledger>(
     alloc: Global,
     store: &mut Monos,

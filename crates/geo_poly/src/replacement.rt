@@ -5,8 +5,12 @@ ghost use Rattle.std.specs.List.Sorted.{IsStrictlySortedBy};
 ghost use Rattle.mono_store.specs.Stores.{Keeps};
 ghost use Rattle.geo_poly.specs.declared.limits.Which.{Which};
 ghost use Rattle.geo_poly.specs.declared.variables.Var.{Var};
-ghost use Rattle.geo_poly.specs.Chained.{AddsChain, SameChains, StandsFor};
+ghost use Rattle.geo_poly.specs.Chained.{AddsChain, SameChains, StandsFor, StandsUnder};
 ghost use Rattle.geo_poly.specs.Counted.{replacement_products};
+ghost use Rattle.geo_poly.specs.Inner.Keyed.{AreWithinLimits, IsWithinLimits, KeepsKeys};
+ghost use Rattle.geo_poly.specs.Inner.ReplacedExponents.{IsReplacedInReach};
+ghost use Rattle.geo_poly.specs.Inner.Limits.{HaveRoom, exponent_anywhere};
+ghost use Rattle.geo_poly.specs.Inner.Settings.{AreStoredUnder, IsStoredUnder};
 ghost use Rattle.geo_poly.specs.KeptVariables.{AllNumerators};
 ghost use Rattle.geo_poly.specs.PolynomialVariables.{AllVariables};
 ghost use Rattle.geo_poly.specs.Replace.{AllBounded, AllPowersSmall, CanReplace, IsBounded};
@@ -14,18 +18,20 @@ ghost use Rattle.geo_poly.specs.Replace.{most_denominators, replaced_by};
 ghost use Rattle.geo_poly.specs.Replace.{replaced_degree, replaced_weight};
 ghost use Rattle.geo_poly.specs.Variables.{var_cmp};
 
-use crate::chained_replacement::stored_rows;
-use crate::interning::stored_terms;
+use crate::chained_replacement::{stored_poly, stored_rows};
+use crate::exponent_limits::replacement_digits;
 use crate::limits::{MAX, MAX_DEGREE, PolyError, Which};
 use crate::lists::Vars;
+use crate::monomial_keys::MonomialKeys;
 use crate::nested::nested_chain;
 use crate::polynomial_variables::union;
 use crate::polynomials::Poly;
 use crate::replacement_bounds::{degree_of_terms, most_denominators_of, weight_of_terms};
 use crate::row_table::RowTable;
-use crate::settings::{Setting, StoredPiece};
+use crate::settings::{IndexList, Setting, StoredPiece};
 use crate::ticks::Ticks;
 use crate::variables::Var;
+use crate::words::Digits;
 use geo_points::NoMemory;
 use mono_store::Monos;
 use poly_arena::{Arena, Chain};
@@ -86,6 +92,29 @@ impl Poly {
     {
         let (table, top) = self.test_replacement(alloc, rows, den)?;
         Ok(self.replacement(alloc, &table, den, top, ticks)?)
+    }
+
+    /// The replacement of `replace`, where it is known that it fits.
+    pub fn replace_within<L: Ledger>(
+        &self,
+        alloc: Global,
+        rows: &[Row],
+        den: &Piece,
+        ticks: &mut Ticks<L>,
+    ) -> Result<Poly, NoMemory>
+        requires rows { AllBounded rows.now }
+        requires powers { AllPowersSmall rows.now }
+        requires den { IsBounded den.now }
+        requires norm { replaced_weight rows.now den.now self.now < 2 ^ 127 }
+        requires degree { replaced_degree rows.now den.now self.now ≤ 65535 }
+        ensures replaced { IfOk result (λ p. p ≡ replaced_by rows.now den.now.poly self.now) }
+        ensures ticks { ticks.new ≤ ticks.old
+            + replacement_products rows.now den.now self.now }
+    {
+        let p = &self.shared();
+        let table = RowTable::new(alloc, rows, p.vars);
+        let most = most_denominators_of(p, &table);
+        self.replacement(alloc, &table, den, most, ticks)
     }
 
     /// The chain of the replacement, in an arena and over a store that are given; variables have
@@ -174,12 +203,70 @@ impl Poly {
             + replacement_products rows.now den.now self.now }
     {
         let vars = self.replacement_vars(alloc, rows.rows(), den)?;
+        let p = &self.shared();
+        match replacement_digits(alloc, vars.as_slice(), p, rows, den, top)? {
+            Some(words) => self.packed_replacement(alloc, rows, den, top, vars, words, ticks),
+            None => self.stored_replacement(alloc, rows, den, top, vars, ticks),
+        }
+    }
+
+    /// The replacement, which fits, over a store.
+    fn stored_replacement<L: Ledger>(
+        &self,
+        alloc: Global,
+        rows: &RowTable,
+        den: &Piece,
+        top: u32,
+        vars: Vars,
+        ticks: &mut Ticks<L>,
+    ) -> Result<Poly, NoMemory>
+        requires top { top ≡ most_denominators rows.now self.now }
+        requires can { CanReplace rows.now den.now top self.now }
+        requires rising { IsStrictlySortedBy var_cmp vars }
+        requires known { AllVariables (Contains vars) self.now }
+        requires rows_known { AllNumerators (Contains vars) rows.now }
+        requires den_known { AllVariables (Contains vars) den.now.poly }
+        ensures replaced { IfOk result (λ p. p ≡ replaced_by rows.now den.now.poly self.now) }
+        ensures ticks { ticks.new ≤ ticks.old
+            + replacement_products rows.now den.now self.now }
+    {
         let mut store = Monos::with_capacity(alloc, self.monos().links())?;
         let mut arena = Arena::new(alloc)?;
         let chain = self.chained_replacement(
             alloc, rows, den, top, &vars, &mut store, &mut arena, ticks,
         )?;
         Poly::from_chain(alloc, vars, store, arena, chain)
+    }
+
+    /// The replacement, which fits, by words that have room for it.
+    fn packed_replacement<L: Ledger>(
+        &self,
+        alloc: Global,
+        rows: &RowTable,
+        den: &Piece,
+        top: u32,
+        vars: Vars,
+        mut words: Digits,
+        ticks: &mut Ticks<L>,
+    ) -> Result<Poly, NoMemory>
+        requires top { top ≡ most_denominators rows.now self.now }
+        requires can { CanReplace rows.now den.now top self.now }
+        requires rising { IsStrictlySortedBy var_cmp vars }
+        requires known { AllVariables (Contains vars) self.now }
+        requires rows_known { AllNumerators (Contains vars) rows.now }
+        requires den_known { AllVariables (Contains vars) den.now.poly }
+        requires room { HaveRoom vars words
+            (λ v. exponent_anywhere v rows.now den.now top self.now) }
+        ensures replaced { IfOk result (λ p. p ≡ replaced_by rows.now den.now.poly self.now) }
+        ensures ticks { ticks.new ≤ ticks.old
+            + replacement_products rows.now den.now self.now }
+    {
+        let mut arena = Arena::new(alloc)?;
+        let names = vars.as_slice();
+        let chain = self.keyed_replacement(
+            alloc, rows, den, top, names, &mut words, &mut arena, ticks,
+        )?;
+        Poly::from_words(alloc, vars, &words, arena, chain)
     }
 
     /// The variables of all that the replacement is made of.
@@ -199,6 +286,7 @@ impl Poly {
     }
 
     /// The chain of the replacement, which fits.
+    #[tactic(auto, using(crate::proofs::KeysKept::keeps_links))]
     fn chained_replacement<L: Ledger>(
         &self,
         alloc: Global,
@@ -224,21 +312,87 @@ impl Poly {
         ensures ticks { ticks.new ≤ ticks.old
             + replacement_products rows.now den.now self.now }
     {
-        let vars = vars.as_slice();
-        let nums = stored_rows(alloc, store, vars, rows.rows())?;
-        let list = stored_terms(alloc, store, vars, &den.poly.to_terms(alloc)?)?;
+        self.keyed_replacement(alloc, rows, den, top, vars.as_slice(), store, arena, ticks)
+    }
+
+    /// The chain of the replacement, which fits, under any keys that have room.
+    fn keyed_replacement<K: MonomialKeys, L: Ledger>(
+        &self,
+        alloc: Global,
+        rows: &RowTable,
+        den: &Piece,
+        top: u32,
+        vars: &[Var],
+        keys: &mut K,
+        arena: &mut Arena,
+        ticks: &mut Ticks<L>,
+    ) -> Result<Chain, NoMemory>
+        requires top { top ≡ most_denominators rows.now self.now }
+        requires can { CanReplace rows.now den.now top self.now }
+        requires rising { IsStrictlySortedBy var_cmp vars.now }
+        requires known { AllVariables (Contains vars.now) self.now }
+        requires rows_known { AllNumerators (Contains vars.now) rows.now }
+        requires den_known { AllVariables (Contains vars.now) den.now.poly }
+        requires rows_reach { AreWithinLimits vars.now (K.keys keys.old) rows.now }
+        requires den_reach { IsWithinLimits vars.now (K.keys keys.old) den.now.poly }
+        requires reach { IsReplacedInReach vars.now (K.keys keys.old) rows.now den.now top
+            self.now }
+        ensures chain { IfOk result (λ c. StandsUnder vars.now (K.keys keys.new) arena.new c
+            (replaced_by rows.now den.now.poly self.now)) }
+        ensures adds { IfOk result (AddsChain arena.old arena.new) }
+        ensures err { OnErr result (SameChains arena.old arena.new) }
+        ensures kept { KeepsKeys (K.keys keys.old) (K.keys keys.new) }
+        ensures ticks { ticks.new ≤ ticks.old
+            + replacement_products rows.now den.now self.now }
+    {
+        let nums = stored_rows(alloc, keys, vars, rows.rows())?;
+        let list = stored_poly(alloc, keys, vars, &den.poly)?;
+        let den = StoredPiece {
+            piece: den,
+            list: &list,
+        };
+        self.listed_replacement(alloc, rows, &nums, &den, top, vars, keys, arena, ticks)
+    }
+
+    /// The chain of the replacement, which fits, by lists of keys of the pieces.
+    fn listed_replacement<'a, K: MonomialKeys, L: Ledger>(
+        &self,
+        alloc: Global,
+        rows: &'a RowTable<'a>,
+        nums: &'a [IndexList],
+        den: &'a StoredPiece<'a>,
+        top: u32,
+        vars: &'a [Var],
+        keys: &mut K,
+        arena: &mut Arena,
+        ticks: &mut Ticks<L>,
+    ) -> Result<Chain, NoMemory>
+        requires top { top ≡ most_denominators rows.now self.now }
+        requires can { CanReplace rows.now den.now.piece.now top self.now }
+        requires rising { IsStrictlySortedBy var_cmp vars.now }
+        requires known { AllVariables (Contains vars.now) self.now }
+        requires rows_stored { AreStoredUnder vars.now (K.keys keys.old) rows.now nums.now }
+        requires den_stored { IsStoredUnder vars.now (K.keys keys.old) den.now.list.now
+            den.now.piece.now.poly }
+        requires reach { IsReplacedInReach vars.now (K.keys keys.old) rows.now den.now.piece.now
+            top self.now }
+        ensures chain { IfOk result (λ c. StandsUnder vars.now (K.keys keys.new) arena.new c
+            (replaced_by rows.now den.now.piece.now.poly self.now)) }
+        ensures adds { IfOk result (AddsChain arena.old arena.new) }
+        ensures err { OnErr result (SameChains arena.old arena.new) }
+        ensures kept { KeepsKeys (K.keys keys.old) (K.keys keys.new) }
+        ensures ticks { ticks.new ≤ ticks.old
+            + replacement_products rows.now den.now.piece.now self.now }
+    {
         let p = &self.shared();
         let setting = Setting {
             vars,
             rows,
-            nums: &nums,
-            den: StoredPiece {
-                piece: den,
-                list: &list,
-            },
+            nums,
+            den: *den,
             top,
         };
-        nested_chain(alloc, &setting, store, arena, p, ticks)
+        nested_chain(alloc, &setting, keys, arena, p, ticks)
     }
 }
 

@@ -1,6 +1,6 @@
 //! How large a replacement gets, which is known before it is made, and what of it is zero.
 
-ghost use Rattle.std.specs.Prelude.{min, ◌-◌, ◌≡◌, ◌^◌, ◌≤◌, ℤ, [], IsFalse, IsTrue, pos};
+ghost use Rattle.std.specs.Prelude.{min, ◌-◌, ◌≡◌, ◌^◌, ◌≤◌, ℤ, [], IfNone, IfSome, pos};
 ghost use Rattle.geo_poly.specs.Monomials.{IsMonomial};
 ghost use Rattle.geo_poly.specs.Replace.{AllBounded, AllPowersSmall, IsBounded};
 ghost use Rattle.geo_poly.specs.Replace.{degree_bound, denominators, most_denominators};
@@ -30,24 +30,6 @@ fn denominators_at(p: &Shared, id: MonoId, rows: &RowTable) -> u32
         rest = first.rest;
     }
     denominators
-}
-
-/// How many of so many denominators a monomial does not call for.
-pub(crate) fn lacking_at(p: &Shared, id: MonoId, rows: &RowTable, top: u32) -> u32
-    requires index { IsIndexOf p.now id }
-    requires top { denominators rows.now (told_powers p.now id) ≤ top }
-    requires monomial { IsMonomial (told_powers p.now id) }
-    ensures { result ≡ top - denominators rows.now (told_powers p.now id) }
-{
-    let mut missing = top;
-    let mut rest = id;
-    while let Some(first) = p.first_power(rest) {
-        if let Some(row) = rows.find_row(first.var, first.number) {
-            missing -= row.power * first.exponent;
-        }
-        rest = first.rest;
-    }
-    missing
 }
 
 /// The greatest power of the denominator that a monomial calls for.
@@ -145,27 +127,38 @@ pub(crate) fn degree_of_terms(p: &Shared, rows: &RowTable, den: &Piece, top: u32
     degree
 }
 
-/// Whether a term becomes zero, since a numerator is zero, or the denominator where the term lacks
-/// some.
-pub(crate) fn has_zero(p: &Shared, id: MonoId, rows: &RowTable, den: &Piece, top: u32) -> bool
+/// How many of so many denominators a term lacks. It is none where the term becomes zero, since a
+/// numerator is zero, or the denominator where the term lacks some.
+pub(crate) fn lacking_at(
+    p: &Shared,
+    id: MonoId,
+    rows: &RowTable,
+    den: &Piece,
+    top: u32,
+) -> Option<u32>
     requires index { IsIndexOf p.now id }
     requires top { denominators rows.now (told_powers p.now id) ≤ top }
     requires monomial { IsMonomial (told_powers p.now id) }
-    ensures zero { IsTrue result → (k : ℤ)
-        → accumulated_term rows.now den.now.poly top (told_powers p.now id, k) ≡ [] }
-    ensures nonzero { IsFalse result
-        → HasNoZero rows.now den.now top (told_powers p.now id) }
+    ensures zero { IfNone result ((k : ℤ)
+        → accumulated_term rows.now den.now.poly top (told_powers p.now id, k) ≡ []) }
+    ensures nonzero { IfSome result
+        (λ _. HasNoZero rows.now den.now top (told_powers p.now id)) }
+    ensures lacking { IfSome result
+        (λ lacking. lacking ≡ top - denominators rows.now (told_powers p.now id)) }
 {
     let mut missing = top;
     let mut rest = id;
     while let Some(first) = p.first_power(rest) {
         if let Some(row) = rows.find_row(first.var, first.number) {
             if row.num.poly.is_zero() {
-                return true;
+                return None;
             }
             missing -= row.power * first.exponent;
         }
         rest = first.rest;
     }
-    missing > 0 && den.poly.is_zero()
+    if missing > 0 && den.poly.is_zero() {
+        return None;
+    }
+    Some(missing)
 }

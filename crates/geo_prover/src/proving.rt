@@ -12,7 +12,7 @@ ghost use Rattle.geo_prover.specs.Proving.{Concludes, StopsAt, WritesLog, Writes
 
 use crate::program_lines::write_first_lines;
 use crate::summary::Summary;
-use elim_apply::KnownNumbers;
+use elim_apply::KnownRows;
 use geo_base::{Budget, Sink};
 use geo_lowering::Version;
 use geo_program::Program;
@@ -70,7 +70,7 @@ fn prove_all<K: Sink>(
     ensures faults { OnOk result (K.faults sink.new ≡ K.faults sink.old) }
 {
     let problem = problem_by(alloc, Version::Two, program)?;
-    let mut numbers = KnownNumbers::new(alloc)?;
+    let mut numbers = KnownRows::new(alloc)?;
     let mut budget = Budget { left: steps };
     let mut log = LogWriter::new();
     write_first_lines(alloc, program, &mut log, sink)?;

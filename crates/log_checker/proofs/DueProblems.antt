@@ -65,7 +65,7 @@ module _ (q : Problem) (ready : IsReady q) where
   pub construction_valid : IsConstruction q.steps
   construction_valid = valid p subject ready.well_formed parts
 
-  task_below : (head : Head) (steps : ℕ) (good : List Line) (known : List Var) (listed : List Summands) (left : ℕ) (t : Task) (item : Item)
+  pub task_below : (head : Head) (steps : ℕ) (good : List Line) (known : List Var) (listed : List Summands) (left : ℕ) (t : Task) (item : Item)
       → IsTaskDue (subject_of head q) steps good known listed left t item → IsTermBelow (length q.steps.steps) q.steps.params item.term
   task_below head steps good known listed left (task.Condition k) item (index, e, at, d) = (conditions_named p subject ready.well_formed parts index item at).0
   task_below head steps good known listed left (task.Goal k) item (index, e, at, d) = (goals_named p subject ready.well_formed parts index item at).0

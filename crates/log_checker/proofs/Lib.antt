@@ -58,6 +58,8 @@ pub mod SampleNames
 pub mod PassedOn
 pub mod DueSteps
 pub mod DueProblems
+pub mod ByText
+pub mod PassingWork
 pub mod ProgramTexts
 pub mod JudgedNext
 pub mod JudgedAnswers

@@ -2,3 +2,4 @@
 pub mod Stops
 pub mod Lines
 pub mod Judged
+pub mod ByText

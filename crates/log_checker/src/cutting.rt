@@ -3,6 +3,7 @@
 ghost use Rattle.std.specs.Prelude.{◌≡◌, ◌↔◌, Contains, IfErr, IfOk, IsTrue};
 ghost use Rattle.geo_logs.specs.Judging.{IsByKnown, IsCutRefused};
 ghost use Rattle.geo_poly.specs.Cuts.{IsCut};
+ghost use Rattle.geo_poly.specs.Polynomials.{Summands};
 ghost use Rattle.log_checker.specs.Inner.Lines.{Tells};
 
 use crate::reasons::Reason;
@@ -24,6 +25,25 @@ pub(crate) fn after_cut(
     ensures refused { IfErr result (Tells
         (IsCutRefused known.now before.now by.now poly.now)) }
 {
+    let quotient = cut_result(alloc, known, before, by)?;
+    if !quotient.same(poly) {
+        return Err(Stop::Rejected(Reason::WrongPoly));
+    }
+    Ok(quotient)
+}
+
+/// The polynomial after a cut by this factor. What refuses the cut refuses its line, whatever
+/// polynomial it has.
+pub(crate) fn cut_result(
+    alloc: Global,
+    known: &Vars,
+    before: &Poly,
+    by: &Factor,
+) -> Result<Poly, Stop>
+    ensures cut { IfOk result (IsCut known.now by.now before.now) }
+    ensures refused { (q : Summands) → IfErr result (Tells
+        (IsCutRefused known.now before.now by.now q)) }
+{
     // From here on it is known that the factor is one.
     prove!(by.coef() != 0);
     if !is_by_known(&known.items, by) {
@@ -32,9 +52,6 @@ pub(crate) fn after_cut(
     let Some(quotient) = before.divide(alloc, by)? else {
         return Err(Stop::Rejected(Reason::WrongCut));
     };
-    if !quotient.same(poly) {
-        return Err(Stop::Rejected(Reason::WrongPoly));
-    }
     Ok(quotient)
 }
 

@@ -20,6 +20,7 @@ ghost use Rattle.log_checker.specs.declared.errors.CheckError.{CheckError};
 use crate::accepted::Accepted;
 use crate::due::Due;
 use crate::errors::CheckError;
+use crate::passing::state_passes;
 use crate::reasons::Reason;
 use crate::state::State;
 use crate::stops::Stop;
@@ -35,7 +36,7 @@ pub(crate) fn judged(
     alloc: Global,
     steps: u64,
     number: u64,
-    state: State,
+    mut state: State,
     line: &[u8],
 ) -> Result<State, CheckError>
     requires { IsReachedState steps state }
@@ -44,12 +45,15 @@ pub(crate) fn judged(
     ensures refused { (lines : List Line) → Leaves steps lines state → number ≡ suc (length lines)
         → IfErr result (TellsStop (StopsAtPiece steps lines line.now)) }
 {
+    if state_passes(alloc, &mut state, line)? {
+        return Ok(state);
+    }
     let read = line_of(alloc, line)?;
     state_after(alloc, steps, number, state, read)
 }
 
 /// The line with this text; `None` where there is none.
-fn line_of(alloc: Global, bytes: &[u8]) -> Result<Option<Line>, NoMemory>
+pub(crate) fn line_of(alloc: Global, bytes: &[u8]) -> Result<Option<Line>, NoMemory>
     ensures { IfOk result (IsRead bytes.now) }
 {
     match read_line(alloc, bytes) {

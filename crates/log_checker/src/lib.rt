@@ -3,6 +3,7 @@
 #![tactic(auto)]
 
 mod accepted;
+mod by_text;
 mod chaining;
 pub mod checked_laws;
 mod checker;
@@ -16,6 +17,7 @@ mod heading;
 mod judging;
 pub mod laws;
 mod moving;
+mod passing;
 mod reasons;
 mod sampling;
 mod starting;

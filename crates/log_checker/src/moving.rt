@@ -7,6 +7,7 @@ ghost use Rattle.geo_logs.specs.Moves.{IsMoved, move_charge, place_of, place_of_
 ghost use Rattle.geo_logs.specs.Naming.{IsPlaceBelow};
 ghost use Rattle.geo_logs.specs.declared.moves.Move.TheVariants.{Ratio};
 ghost use Rattle.geo_points.specs.declared.ids.PointId.{PointId};
+ghost use Rattle.geo_poly.specs.Polynomials.{Summands};
 ghost use Rattle.log_checker.specs.Inner.Lines.{IsNamedBy, Tells};
 
 use crate::reasons::Reason;
@@ -38,16 +39,38 @@ pub(crate) fn after_move(
     ensures refused { IfErr result (Tells (IsMoveRefused lemma_table steps.now budget.old.left
         before.now mv.now poly.now)) }
 {
-    after_move_in::<Brand>(alloc, steps, before, mv, poly, budget, Blank::new(1))
+    let moved = move_result(alloc, steps, before, mv, budget)?;
+    if !moved.same(poly) {
+        return Err(Stop::Rejected(Reason::WrongPoly));
+    }
+    Ok(moved)
 }
 
-/// The polynomial, by a move with a counter of its own.
-fn after_move_in<L: Ledger>(
+/// The polynomial after a move. What refuses the move refuses its line, whatever polynomial it has.
+pub(crate) fn move_result(
     alloc: Global,
     steps: &Steps,
     before: &Poly,
     mv: &Move,
-    poly: &Poly,
+    budget: &mut Budget,
+) -> Result<Poly, Stop>
+    requires { IsNamedBy steps.now before.now }
+    ensures moved { let made = replacement lemma_table steps.now mv.now before.now in
+        IfOk result (IsMoved made budget.old.left before.now) }
+    ensures paid { let made = replacement lemma_table steps.now mv.now before.now in
+        OnOk result (budget.new.left ≡ budget.old.left - move_charge made before.now) }
+    ensures refused { (q : Summands) → IfErr result (Tells (IsMoveRefused lemma_table steps.now
+        budget.old.left before.now mv.now q)) }
+{
+    move_result_in::<Brand>(alloc, steps, before, mv, budget, Blank::new(1))
+}
+
+/// The polynomial, by a move with a counter of its own.
+fn move_result_in<L: Ledger>(
+    alloc: Global,
+    steps: &Steps,
+    before: &Poly,
+    mv: &Move,
     budget: &mut Budget,
     blank: Blank,
 ) -> Result<Poly, Stop>
@@ -55,13 +78,12 @@ fn after_move_in<L: Ledger>(
     requires parts { blank.parts ≡ L.parts }
     requires some { 0 < blank.parts }
     requires named { IsNamedBy steps.now before.now }
-    ensures result { IfOk result (λ q. q ≡ poly.now) }
     ensures moved { let made = replacement lemma_table steps.now mv.now before.now in
         IfOk result (IsMoved made budget.old.left before.now) }
     ensures paid { let made = replacement lemma_table steps.now mv.now before.now in
         OnOk result (budget.new.left ≡ budget.old.left - move_charge made before.now) }
-    ensures refused { IfErr result (Tells (IsMoveRefused lemma_table steps.now budget.old.left
-        before.now mv.now poly.now)) }
+    ensures refused { (q : Summands) → IfErr result (Tells (IsMoveRefused lemma_table steps.now
+        budget.old.left before.now mv.now q)) }
 {
     // From here on it is known that the steps are a construction.
     prove!(steps.count() <= 512);
@@ -70,9 +92,6 @@ fn after_move_in<L: Ledger>(
     }
     let mut ticks = Ticks::<L>::new(blank);
     let moved = apply(alloc, steps, before, mv, budget, &mut ticks)?;
-    if !moved.same(poly) {
-        return Err(Stop::Rejected(Reason::WrongPoly));
-    }
     Ok(moved)
 }
 

@@ -5,7 +5,7 @@ ghost use Rattle.geo_chain.specs.NextLines.{HasLinePointsBelow};
 ghost use Rattle.geo_logs.specs.Places.{before_start, in_chain};
 ghost use Rattle.geo_logs.specs.Starts.{IsStarted, start_charge, start_of};
 ghost use Rattle.proof_log.specs.declared.log.Line.TheVariants.{Start};
-ghost use Rattle.fraction_poly.specs.Inner.Known.{IsKnownOf};
+ghost use Rattle.elim_apply.specs.Kept.{AreKnownRows};
 ghost use Rattle.fraction_poly.specs.TableRows.{HasPointsBelow};
 ghost use Rattle.geo_poly.specs.PolynomialVariables.{AllVariables};
 ghost use Rattle.geo_terms.specs.Constructions.{Construction};
@@ -22,7 +22,7 @@ use crate::errors::ProveError;
 use crate::frame::Frame;
 use crate::known::sole_variable;
 use crate::log_writer::LogWriter;
-use elim_apply::{ApplyError, KnownNumbers, start};
+use elim_apply::{ApplyError, KnownRows, start};
 use geo_base::{Budget, Sink};
 use geo_chain::next_line_known;
 use geo_points::{NoMemory, TermId};
@@ -70,7 +70,7 @@ pub fn work_chain<K: Sink>(
     steps: &Steps,
     terms: &Steps,
     known: &Vars,
-    numbers: &mut KnownNumbers,
+    numbers: &mut KnownRows,
     task: &Task,
     budget: &mut Budget,
     log: &mut LogWriter,
@@ -78,7 +78,7 @@ pub fn work_chain<K: Sink>(
 ) -> Result<WorkedChain, ProveError>
     requires stored { task.now.term.0 < length terms.now.nodes }
     requires inside { IsInside steps.now (tree_of terms.now.nodes task.now.term) }
-    requires numbers { IsKnownOf steps.now.nodes numbers.old }
+    requires numbers { AreKnownRows steps.now numbers.old }
     requires writable { CanWrite frame steps.now (chain_part frame steps.now
         task.now.header known.now budget.old.left (tree_of terms.now.nodes task.now.term))
         log.old.size }
@@ -90,7 +90,7 @@ pub fn work_chain<K: Sink>(
         task.now.header known.now budget.old.left (tree_of terms.now.nodes task.now.term))
         (state log.old (K.held sink.old) (K.faults sink.old))
         (state log.new (K.held sink.new) (K.faults sink.new))) }
-    ensures numbers { IsKnownOf steps.now.nodes numbers.new }
+    ensures numbers { AreKnownRows steps.now numbers.new }
 {
     log.write(alloc, sink, &task.header)?;
     let first = first_polynomial(alloc, terms, task.term, budget, log, sink)?;
@@ -160,13 +160,13 @@ fn work_steps<K: Sink>(
     frame: Frame,
     steps: &Steps,
     known: &Vars,
-    numbers: &mut KnownNumbers,
+    numbers: &mut KnownRows,
     first: Poly,
     budget: &mut Budget,
     log: &mut LogWriter,
     sink: &mut K,
 ) -> Result<Poly, ProveError>
-    requires numbers { IsKnownOf steps.now.nodes numbers.old }
+    requires numbers { AreKnownRows steps.now numbers.old }
     requires points { AllVariables (HasPointsBelow (length steps.now.steps)) first }
     requires writable { CanWrite frame steps.now
         (steps_part frame steps.now known.now budget.old.left first) log.old.size }
@@ -177,7 +177,7 @@ fn work_steps<K: Sink>(
         (steps_part frame steps.now known.now budget.old.left first)
         (state log.old (K.held sink.old) (K.faults sink.old))
         (state log.new (K.held sink.new) (K.faults sink.new))) }
-    ensures numbers { IsKnownOf steps.now.nodes numbers.new }
+    ensures numbers { AreKnownRows steps.now numbers.new }
 {
     let mut last = first;
     loop {
@@ -198,13 +198,13 @@ fn line_after<K: Sink>(
     frame: Frame,
     steps: &Steps,
     known: &Vars,
-    numbers: &mut KnownNumbers,
+    numbers: &mut KnownRows,
     last: &Poly,
     budget: &mut Budget,
     log: &LogWriter,
     sink: &mut K,
 ) -> Result<Line, ProveError>
-    requires numbers { IsKnownOf steps.now.nodes numbers.old }
+    requires numbers { AreKnownRows steps.now numbers.old }
     requires points { AllVariables (HasPointsBelow (length steps.now.steps)) last.now }
     ensures line { IfOk result (λ line. IsNextLineIn frame steps.now known.now
         budget.old.left last.now line budget.new.left) }
@@ -214,7 +214,7 @@ fn line_after<K: Sink>(
         (here_part (in_chain known.now budget.old.left last.now))
         (state log.now (K.held sink.old) (K.faults sink.old))
         (state log.now (K.held sink.new) (K.faults sink.new))) }
-    ensures numbers { IsKnownOf steps.now.nodes numbers.new }
+    ensures numbers { AreKnownRows steps.now numbers.new }
 {
     match next_line_known(alloc, steps, numbers, last, known, budget) {
         Ok(line) => Ok(frame.framed(alloc, line)?),

@@ -3,7 +3,7 @@
 ghost use Rattle.std.specs.Prelude.{◌≡◌, ◌≢◌, ◌+◌, ◌^◌, ◌<◌, ◌∷◌, ◌++◌, [], List, length};
 ghost use Rattle.std.specs.Prelude.{IfErr, IfNone, IfOk, IfSome, OnOk};
 ghost use Rattle.std.specs.List.{cons_option};
-ghost use Rattle.fraction_poly.specs.Inner.Known.{IsKnownOf};
+ghost use Rattle.elim_apply.specs.Kept.{AreKnownRows};
 ghost use Rattle.geo_poly.specs.Specialise.{NoneZero};
 ghost use Rattle.log_maker.specs.Halting.{Halts, IsImpossibleAt, Passes};
 ghost use Rattle.geo_logs.specs.Logs.{Item as LogItem};
@@ -17,7 +17,7 @@ use crate::errors::ProveError;
 use crate::findings::Findings;
 use crate::frame::Frame;
 use crate::log_writer::LogWriter;
-use elim_apply::KnownNumbers;
+use elim_apply::KnownRows;
 use geo_base::{Budget, Sink, Text};
 use geo_conditions::Problem;
 use geo_points::NoMemory;
@@ -31,13 +31,13 @@ pub fn work_conditions<K: Sink>(
     frame: Frame,
     problem: &Problem,
     findings: &mut Findings,
-    numbers: &mut KnownNumbers,
+    numbers: &mut KnownRows,
     budget: &mut Budget,
     log: &mut LogWriter,
     sink: &mut K,
 ) -> Result<Option<u32>, ProveError>
     requires ready { IsReady problem.now }
-    requires numbers { IsKnownOf problem.now.steps.nodes numbers.old }
+    requires numbers { AreKnownRows problem.now.steps numbers.old }
     requires nonzero { NoneZero findings.old.ends }
     requires writable { CanWrite frame problem.now.steps (conditions_from frame problem.now 0
         findings.old.known findings.old.ends budget.old.left) log.old.size }
@@ -62,7 +62,7 @@ pub fn work_conditions<K: Sink>(
         findings.old.known findings.old.ends budget.old.left)
         (state log.old (K.held sink.old) (K.faults sink.old))
         (state log.new (K.held sink.new) (K.faults sink.new))) }
-    ensures numbers { IsKnownOf problem.now.steps.nodes numbers.new }
+    ensures numbers { AreKnownRows problem.now.steps numbers.new }
 {
     for i in 0..problem.conditions.items.len() {
         let chain = work_condition(
@@ -83,13 +83,13 @@ fn work_condition<K: Sink>(
     problem: &Problem,
     i: usize,
     findings: &Findings,
-    numbers: &mut KnownNumbers,
+    numbers: &mut KnownRows,
     budget: &mut Budget,
     log: &mut LogWriter,
     sink: &mut K,
 ) -> Result<WorkedChain, ProveError>
     requires ready { IsReady problem.now }
-    requires numbers { IsKnownOf problem.now.steps.nodes numbers.old }
+    requires numbers { AreKnownRows problem.now.steps numbers.old }
     requires place { i < length problem.now.conditions }
     requires writable { CanWrite frame problem.now.steps (conditions_from frame problem.now i
         findings.now.known findings.now.ends budget.old.left) log.old.size }
@@ -116,7 +116,7 @@ fn work_condition<K: Sink>(
         findings.now.known findings.now.ends budget.old.left)
         (state log.old (K.held sink.old) (K.faults sink.old))
         (state log.new (K.held sink.new) (K.faults sink.new))) }
-    ensures numbers { IsKnownOf problem.now.steps.nodes numbers.new }
+    ensures numbers { AreKnownRows problem.now.steps numbers.new }
 {
     let task = condition_task(alloc, problem, i)?;
     work_chain(

@@ -3,7 +3,7 @@
 ghost use Rattle.std.specs.Prelude.{◌≡◌, ◌≢◌, ◌+◌, ◌^◌, ◌<◌, ◌∷◌, ◌++◌, [], All, length, take};
 ghost use Rattle.std.specs.Prelude.{IfErr, IfOk, OnOk};
 ghost use Rattle.proof_log.specs.declared.log.Verdict.TheVariants.{False};
-ghost use Rattle.fraction_poly.specs.Inner.Known.{IsKnownOf};
+ghost use Rattle.elim_apply.specs.Kept.{AreKnownRows};
 ghost use Rattle.geo_poly.specs.Specialise.{NoneZero};
 ghost use Rattle.log_maker.specs.Halting.{Halts, Passes};
 ghost use Rattle.log_maker.specs.Parts.{CanWrite, end_part};
@@ -16,7 +16,7 @@ use crate::errors::ProveError;
 use crate::findings::Findings;
 use crate::frame::Frame;
 use crate::log_writer::LogWriter;
-use elim_apply::KnownNumbers;
+use elim_apply::KnownRows;
 use geo_base::{Budget, Sink};
 use geo_conditions::Goals;
 use geo_points::NoMemory;
@@ -34,13 +34,13 @@ pub fn work_goals<K: Sink>(
     terms: &Steps,
     goals: &Goals,
     findings: &mut Findings,
-    numbers: &mut KnownNumbers,
+    numbers: &mut KnownRows,
     budget: &mut Budget,
     log: &mut LogWriter,
     sink: &mut K,
 ) -> Result<Verdict, ProveError>
     requires ready { All (IsItemReady steps.now terms.now.nodes) goals.now }
-    requires numbers { IsKnownOf steps.now.nodes numbers.old }
+    requires numbers { AreKnownRows steps.now numbers.old }
     requires nonzero { NoneZero findings.old.ends }
     requires writable { CanWrite frame steps.now (goals_from frame steps.now terms.now.nodes goals.now 0
         findings.old.known findings.old.ends budget.old.left) log.old.size }
@@ -56,7 +56,7 @@ pub fn work_goals<K: Sink>(
         (goals_from frame steps.now terms.now.nodes goals.now 0 findings.old.known findings.old.ends budget.old.left)
         (state log.old (K.held sink.old) (K.faults sink.old))
         (state log.new (K.held sink.new) (K.faults sink.new))) }
-    ensures numbers { IsKnownOf steps.now.nodes numbers.new }
+    ensures numbers { AreKnownRows steps.now numbers.new }
 {
     for i in 0..goals.items.len() {
         let chain = work_goal(
@@ -79,13 +79,13 @@ fn work_goal<K: Sink>(
     goals: &Goals,
     i: usize,
     findings: &Findings,
-    numbers: &mut KnownNumbers,
+    numbers: &mut KnownRows,
     budget: &mut Budget,
     log: &mut LogWriter,
     sink: &mut K,
 ) -> Result<WorkedChain, ProveError>
     requires ready { All (IsItemReady steps.now terms.now.nodes) goals.now }
-    requires numbers { IsKnownOf steps.now.nodes numbers.old }
+    requires numbers { AreKnownRows steps.now numbers.old }
     requires place { i < length goals.now }
     requires writable { CanWrite frame steps.now (goals_from frame steps.now terms.now.nodes goals.now i
         findings.now.known findings.now.ends budget.old.left) log.old.size }
@@ -105,7 +105,7 @@ fn work_goal<K: Sink>(
         (goals_from frame steps.now terms.now.nodes goals.now i findings.now.known findings.now.ends budget.old.left)
         (state log.old (K.held sink.old) (K.faults sink.old))
         (state log.new (K.held sink.new) (K.faults sink.new))) }
-    ensures numbers { IsKnownOf steps.now.nodes numbers.new }
+    ensures numbers { AreKnownRows steps.now numbers.new }
 {
     let task = goal_task(alloc, goals, i)?;
     work_chain(

@@ -1,7 +1,7 @@
 //! The chains of a problem, and what follows them.
 
 ghost use Rattle.std.specs.Prelude.{◌≡◌, [], ◌∷◌, All, IfErr, IfOk, length, take};
-ghost use Rattle.fraction_poly.specs.Inner.Known.{IsKnownOf};
+ghost use Rattle.elim_apply.specs.Kept.{AreKnownRows};
 ghost use Rattle.geo_poly.specs.Specialise.{NoneZero};
 ghost use Rattle.log_maker.specs.Halting.{Finishes, Halts};
 ghost use Rattle.log_maker.specs.Parts.{CanWrite};
@@ -18,7 +18,7 @@ use crate::findings::Findings;
 use crate::frame::Frame;
 use crate::goals::work_goals;
 use crate::log_writer::LogWriter;
-use elim_apply::KnownNumbers;
+use elim_apply::KnownRows;
 use geo_base::{Budget, Sink};
 use geo_conditions::{Goals, Problem};
 use geo_terms::Steps;
@@ -30,13 +30,13 @@ pub fn work<K: Sink>(
     alloc: Global,
     frame: Frame,
     problem: &Problem,
-    numbers: &mut KnownNumbers,
+    numbers: &mut KnownRows,
     budget: &mut Budget,
     log: &mut LogWriter,
     sink: &mut K,
 ) -> Result<Verdict, ProveError>
     requires ready { IsReady problem.now }
-    requires numbers { IsKnownOf problem.now.steps.nodes numbers.old }
+    requires numbers { AreKnownRows problem.now.steps numbers.old }
     requires writable { CanWrite frame problem.now.steps
         (conditions_from frame problem.now 0 [] [] budget.old.left) log.old.size }
     ensures ok { IfOk result (λ verdict. Finishes
@@ -104,13 +104,13 @@ pub fn work_rest<K: Sink>(
     terms: &Steps,
     goals: &Goals,
     findings: &mut Findings,
-    numbers: &mut KnownNumbers,
+    numbers: &mut KnownRows,
     budget: &mut Budget,
     log: &mut LogWriter,
     sink: &mut K,
 ) -> Result<Verdict, ProveError>
     requires ready { All (IsItemReady steps.now terms.now.nodes) goals.now }
-    requires numbers { IsKnownOf steps.now.nodes numbers.old }
+    requires numbers { AreKnownRows steps.now numbers.old }
     requires nonzero { NoneZero findings.old.ends }
     requires writable { CanWrite frame steps.now (goals_from frame steps.now terms.now.nodes goals.now 0
         findings.old.known findings.old.ends budget.old.left) log.old.size }
@@ -122,7 +122,7 @@ pub fn work_rest<K: Sink>(
         findings.old.known findings.old.ends budget.old.left)
         (state log.old (K.held sink.old) (K.faults sink.old))
         (state log.new (K.held sink.new) (K.faults sink.new))) }
-    ensures numbers { IsKnownOf steps.now.nodes numbers.new }
+    ensures numbers { AreKnownRows steps.now numbers.new }
     ensures known { findings.new.known ≡ findings.old.known }
     ensures ends { take (length findings.old.ends) findings.new.ends ≡ findings.old.ends }
 {

@@ -1,6 +1,6 @@
 -- What all candidates of a search have in common, and what the log of one is put together from.
 use Rattle.std.specs.Prelude.{◌≡◌, ◌≢◌, ◌⊎◌, ℕ, suc, ◌+◌, ◌<◌, ◌≤◌, ◌^◌, Some, List, [], ◌∷◌, length, map}
-use Rattle.fraction_poly.specs.Inner.Known.{IsKnownOf}
+use Rattle.elim_apply.specs.Kept.{AreKnownRows}
 use Rattle.geo_conditions.specs.Lists.{IsProblem}
 use Rattle.geo_conditions.specs.Problems.{form_of_problem}
 use Rattle.geo_lowering.specs.declared.version.Version.TheVariants.{Two}
@@ -87,7 +87,7 @@ pub record IsFigureOf (p : Source) (figure : Figure) : Type 0 where
   pub candidate : IsCandidate p first
   pub problem :
       IsProblem Two (with_statement p first) (form_of_problem figure.problem) figure.problem.conditions figure.problem.goals
-  pub numbers : IsKnownOf figure.problem.steps.nodes figure.numbers
+  pub numbers : AreKnownRows figure.problem.steps figure.numbers
   pub worked :
       AreWorked figure.problem.steps (items_of figure.problem.steps.nodes figure.problem.conditions) figure.steps (length p.commands + 2)
       figure.findings.known figure.findings.ends figure.conditions

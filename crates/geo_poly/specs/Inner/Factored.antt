@@ -6,12 +6,15 @@ use Rattle.geo_poly.specs.declared.replacement.Piece.{Piece}
 use Rattle.geo_poly.specs.declared.replacement.Row.{Row}
 use Rattle.geo_poly.specs.declared.settings.Setting.{Setting}
 use Rattle.geo_poly.specs.declared.shared.Shared.{Shared}
-use Rattle.geo_poly.specs.Monomials.{IsMonomial, Powers, degree_of}
+use Rattle.geo_poly.specs.declared.variables.Var.{Var}
+use Rattle.geo_poly.specs.Monomials.{IsMonomial, Powers, degree_of, exponent}
 use Rattle.geo_poly.specs.Polynomials.{Summands, polynomial_of, product_of}
 use Rattle.geo_poly.specs.Counted.{products_of_terms, term_products}
 use Rattle.geo_poly.specs.Inner.Accumulated.{accumulated_terms, times_power, times_rows}
+use Rattle.geo_poly.specs.Inner.Keyed.{exponent_with, greatest_exponent}
+use Rattle.geo_poly.specs.Inner.ReplacedExponents.{exponent_bound, exponent_in_rows}
 use Rattle.geo_poly.specs.Replace.{degree_rows, denominators, others, weight_of, weight_rows}
-use Rattle.geo_poly.specs.Shared.{IsIndexOf, told_powers}
+use Rattle.geo_poly.specs.Shared.{IsIndexOf, told, told_powers}
 
 -- the numerator of the row at a place; past the end, the denominator
 abbrev pub numerator_at : List Row → Piece → ℕ → Piece
@@ -82,6 +85,8 @@ pub record IsPending (setting : Setting) (p : Shared) (depth : ℕ) (e : Pending
   pub known : AllKeys (Contains setting.vars.now) (told_powers p e.id)
   pub nonzero : unsigned_abs e.coefficient ≢ 0
   pub degree : degree_with (pieces_of setting.rows.now setting.den.piece.now (drop depth e.factors.items)) (degree_of (others setting.rows.now (told_powers p e.id))) ≤ 65535
+  pub exponents : (v : Var) → exponent_with v (pieces_of setting.rows.now setting.den.piece.now (drop depth e.factors.items)) (exponent v (others setting.rows.now (told_powers p e.id)))
+      ≤ exponent_bound v setting.rows.now setting.den.piece.now setting.top (told p)
 
 -- these factors make of a term what becomes of it
 pub record AreFactors (setting : Setting) (m : Powers) (ks : List ℕ) : Type 0 where
@@ -91,6 +96,8 @@ pub record AreFactors (setting : Setting) (m : Powers) (ks : List ℕ) : Type 0 
       ≡ weight_rows setting.rows.now m w * setting.den.piece.now.weight ^ (setting.top - denominators setting.rows.now m)
   pub degree : (d : ℕ) → degree_with (pieces_of setting.rows.now setting.den.piece.now ks) d
       ≡ degree_rows setting.rows.now m d + setting.den.piece.now.degree * (setting.top - denominators setting.rows.now m)
+  pub exponents : (v : Var) (e : ℕ) → exponent_with v (pieces_of setting.rows.now setting.den.piece.now ks) e
+      ≡ exponent_in_rows v setting.rows.now m e + greatest_exponent v setting.den.piece.now.poly * (setting.top - denominators setting.rows.now m)
   pub products : products_with (pieces_of setting.rows.now setting.den.piece.now ks) 1 ≤ term_products setting.rows.now setting.den.piece.now setting.top m
 
 -- the terms, in any order and with their factors, become what the polynomial q becomes, with no more weight and no more products

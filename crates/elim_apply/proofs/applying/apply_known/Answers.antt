@@ -1,4 +1,4 @@
-use Rattle.std.proofs.Common.{◌≡◌, ◌≢◌, Err, [], map, ap, arith, rules}
+use Rattle.std.proofs.Common.{◌≡◌, ◌≢◌, Err, [], ap, sym, ◌∙◌, arith, rules}
 use Rattle.std.specs.List.{filter_map}
 use Rattle.geo_poly.specs.PolynomialVariables.{variables_of}
 use Rattle.geo_poly.specs.Replace.{replaced_degree, replaced_weight}
@@ -6,11 +6,11 @@ use Rattle.elim_apply.specs.declared.errors.ApplyError.TheVariants.{TooLarge}
 use Rattle.elim_apply.specs.LemmaTable.{lemma_table}
 use Rattle.geo_logs.specs.Moves.{IsMoved, move_charge, replacement}
 use Rattle.elim_apply.specs.Inner.Sizes.{IsSizeOf}
-use Rattle.elim_apply.specs.Inner.Sketches.{named_draft, named_row}
+use Rattle.elim_apply.specs.Inner.Sketches.{numbered_row}
 use Rattle.elim_apply.proofs.AppliedMoves.{stopped_move}
 use Rattle.elim_apply.proofs.HandedOn.{handed_on}
 use Rattle.elim_apply.proofs.KeptValues.{value_kept}
-use Rattle.elim_apply.proofs.NumberedRows.{no_drafts}
+use Rattle.elim_apply.proofs.NumberedRows.{none_made}
 use Rattle.elim_apply.proofs.applying.apply_known.Goals as goal
 
 pub returns-in_err-spend-clause-too_large : goal.returns-in_err-spend-clause-too_large
@@ -29,8 +29,8 @@ moved-requires-clause-some g c =
     let mv = c.args.mv.now in
     let q = c.args.p.now in
     let some : (replacement lemma_table steps mv q).rows ≢ [] = search rules in
-    let rows : map (named_draft steps.nodes) c.deref.result.now ≡ filter_map (named_row steps mv) (variables_of q) = search rules in
-    λ e. some (no_drafts steps mv (variables_of q) c.deref.result.now rows e)
+    let rows : c.deref.result.now ≡ filter_map (numbered_row steps mv) (variables_of q) = search rules in
+    λ e. some (none_made steps mv (variables_of q) (sym rows ∙ e))
 
 pub moved-requires-clause-weight : goal.moved-requires-clause-weight
 moved-requires-clause-weight g c =

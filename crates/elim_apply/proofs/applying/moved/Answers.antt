@@ -1,86 +1,78 @@
-use Rattle.std.proofs.Common.{◌≡◌, ◌∙◌, List, ap₂, subst, sym, arith, rules}
-use Rattle.std.specs.Prelude.{IfOk}
+use Rattle.std.proofs.Common.{◌≡◌, ◌∙◌, List, Some, map, ap, ap₂, subst, sym, arith, rules}
 use Rattle.geo_poly.specs.Counted.{replacement_products}
 use Rattle.geo_poly.specs.declared.replacement.Piece.{Piece}
 use Rattle.geo_poly.specs.declared.replacement.Row.{Row}
-use Rattle.geo_poly.specs.Polynomials.{Summands}
 use Rattle.geo_poly.specs.PolynomialVariables.{variables_of}
 use Rattle.geo_poly.specs.Replace.{AllBounded, AllPowersSmall, IsBounded, replaced_by, replaced_degree, replaced_weight}
-use Rattle.geo_terms.specs.Stores.{Store}
-use Rattle.fraction_poly.specs.Inner.Known.{IsKnownOf}
 use Rattle.elim_apply.specs.LemmaTable.{lemma_table}
 use Rattle.geo_logs.specs.Moves.{replacement}
-use Rattle.elim_apply.proofs.AppliedMoves.{handed_answer}
-use Rattle.elim_apply.proofs.DraftedLines.{line_can_be_made, line_denominator, line_made}
+use Rattle.elim_apply.proofs.MadeLines.{line_can_be_made, line_made, line_own}
 use Rattle.elim_apply.proofs.NumberedRows.{denominator_bounded, rows_bounded, rows_small}
 use Rattle.elim_apply.proofs.applying.moved.Goals as goal
 
 pub made_rows-requires-clause-rows : goal.made_rows-requires-clause-rows
 made_rows-requires-clause-rows g c =
-    line_can_be_made c.args.steps.now c.args.mv.now c.args.p.now c.look.result.now c.look.ensures c.args.rows.now c.requires.rows
-    c.requires.numbers c.norm.ensures.valid c.requires.weight c.requires.degree
+    line_can_be_made c.args.steps.now c.args.mv.now c.args.p.now c.args.rows.now c.requires.rows
+    c.requires.points c.norm.ensures.valid c.requires.weight c.requires.degree
 
-pub made_rows-requires-clause-known : goal.made_rows-requires-clause-known
-made_rows-requires-clause-known g c = subst (λ (nodes : Store). IsKnownOf nodes c.args.known.now) (sym c.look.ensures) c.requires.known
-
-pub replace-requires-clause-rows : goal.replace-requires-clause-rows
-replace-requires-clause-rows g c =
+pub replace_within-requires-clause-rows : goal.replace_within-requires-clause-rows
+replace_within-requires-clause-rows g c =
     let steps = c.args.steps.now in
     let mv = c.args.mv.now in
     let q = c.args.p.now in
     let made = replacement lemma_table steps mv q in
     let listed : c.deref.result.now ≡ c.in_ok-rows.rows = search rules in
-    let rows : c.deref.result.now ≡ made.rows = line_made steps mv q c.look.result.now c.look.ensures c.args.rows.now c.requires.rows c.deref.result.now (listed ∙ c.in_ok-rows.ensures.rows) in
-    let den : c.in_ok-rows.den ≡ made.den = line_denominator steps mv q c.look.result.now c.look.ensures c.args.rows.now c.requires.rows c.in_ok-rows.den c.in_ok-rows.ensures.den in
+    let rows : c.deref.result.now ≡ made.rows = line_made steps mv q c.args.rows.now c.requires.rows c.deref.result.now (ap (map Some) listed ∙ c.in_ok-rows.ensures.rows) in
+    let den : c.in_ok-rows.den ≡ made.den = c.in_ok-rows.ensures.den in
     subst AllBounded (sym rows) (rows_bounded steps mv (variables_of q))
 
-pub replace-requires-clause-powers : goal.replace-requires-clause-powers
-replace-requires-clause-powers g c =
+pub replace_within-requires-clause-powers : goal.replace_within-requires-clause-powers
+replace_within-requires-clause-powers g c =
     let steps = c.args.steps.now in
     let mv = c.args.mv.now in
     let q = c.args.p.now in
     let made = replacement lemma_table steps mv q in
     let listed : c.deref.result.now ≡ c.in_ok-rows.rows = search rules in
-    let rows : c.deref.result.now ≡ made.rows = line_made steps mv q c.look.result.now c.look.ensures c.args.rows.now c.requires.rows c.deref.result.now (listed ∙ c.in_ok-rows.ensures.rows) in
-    let den : c.in_ok-rows.den ≡ made.den = line_denominator steps mv q c.look.result.now c.look.ensures c.args.rows.now c.requires.rows c.in_ok-rows.den c.in_ok-rows.ensures.den in
+    let rows : c.deref.result.now ≡ made.rows = line_made steps mv q c.args.rows.now c.requires.rows c.deref.result.now (ap (map Some) listed ∙ c.in_ok-rows.ensures.rows) in
+    let den : c.in_ok-rows.den ≡ made.den = c.in_ok-rows.ensures.den in
     subst AllPowersSmall (sym rows) (rows_small steps mv (variables_of q))
 
-pub replace-requires-clause-den : goal.replace-requires-clause-den
-replace-requires-clause-den g c =
+pub replace_within-requires-clause-den : goal.replace_within-requires-clause-den
+replace_within-requires-clause-den g c =
     let steps = c.args.steps.now in
     let mv = c.args.mv.now in
     let q = c.args.p.now in
     let made = replacement lemma_table steps mv q in
     let listed : c.deref.result.now ≡ c.in_ok-rows.rows = search rules in
-    let rows : c.deref.result.now ≡ made.rows = line_made steps mv q c.look.result.now c.look.ensures c.args.rows.now c.requires.rows c.deref.result.now (listed ∙ c.in_ok-rows.ensures.rows) in
-    let den : c.in_ok-rows.den ≡ made.den = line_denominator steps mv q c.look.result.now c.look.ensures c.args.rows.now c.requires.rows c.in_ok-rows.den c.in_ok-rows.ensures.den in
+    let rows : c.deref.result.now ≡ made.rows = line_made steps mv q c.args.rows.now c.requires.rows c.deref.result.now (ap (map Some) listed ∙ c.in_ok-rows.ensures.rows) in
+    let den : c.in_ok-rows.den ≡ made.den = c.in_ok-rows.ensures.den in
     subst IsBounded (sym den) (denominator_bounded steps mv)
 
-pub within_bounds-requires-clause-norm : goal.within_bounds-requires-clause-norm
-within_bounds-requires-clause-norm g c = λ e.
+pub replace_within-requires-clause-norm : goal.replace_within-requires-clause-norm
+replace_within-requires-clause-norm g c =
     let steps = c.args.steps.now in
     let mv = c.args.mv.now in
     let q = c.args.p.now in
     let made = replacement lemma_table steps mv q in
     let listed : c.deref.result.now ≡ c.in_ok-rows.rows = search rules in
-    let rows : c.deref.result.now ≡ made.rows = line_made steps mv q c.look.result.now c.look.ensures c.args.rows.now c.requires.rows c.deref.result.now (listed ∙ c.in_ok-rows.ensures.rows) in
-    let den : c.in_ok-rows.den ≡ made.den = line_denominator steps mv q c.look.result.now c.look.ensures c.args.rows.now c.requires.rows c.in_ok-rows.den c.in_ok-rows.ensures.den in
+    let rows : c.deref.result.now ≡ made.rows = line_made steps mv q c.args.rows.now c.requires.rows c.deref.result.now (ap (map Some) listed ∙ c.in_ok-rows.ensures.rows) in
+    let den : c.in_ok-rows.den ≡ made.den = c.in_ok-rows.ensures.den in
     let weight : replaced_weight c.deref.result.now c.in_ok-rows.den q ≡ replaced_weight made.rows made.den q =
     ap₂ (λ (rs : List Row) (d : Piece). replaced_weight rs d q) rows den in
-    omega (arith, c.replace.ensures.norm.0 e, weight, c.requires.weight)
+    omega (arith, weight, c.requires.weight)
 
-pub within_bounds-requires-clause-degree : goal.within_bounds-requires-clause-degree
-within_bounds-requires-clause-degree g c = λ e.
+pub replace_within-requires-clause-degree : goal.replace_within-requires-clause-degree
+replace_within-requires-clause-degree g c =
     let steps = c.args.steps.now in
     let mv = c.args.mv.now in
     let q = c.args.p.now in
     let made = replacement lemma_table steps mv q in
     let listed : c.deref.result.now ≡ c.in_ok-rows.rows = search rules in
-    let rows : c.deref.result.now ≡ made.rows = line_made steps mv q c.look.result.now c.look.ensures c.args.rows.now c.requires.rows c.deref.result.now (listed ∙ c.in_ok-rows.ensures.rows) in
-    let den : c.in_ok-rows.den ≡ made.den = line_denominator steps mv q c.look.result.now c.look.ensures c.args.rows.now c.requires.rows c.in_ok-rows.den c.in_ok-rows.ensures.den in
+    let rows : c.deref.result.now ≡ made.rows = line_made steps mv q c.args.rows.now c.requires.rows c.deref.result.now (ap (map Some) listed ∙ c.in_ok-rows.ensures.rows) in
+    let den : c.in_ok-rows.den ≡ made.den = c.in_ok-rows.ensures.den in
     let degree : replaced_degree c.deref.result.now c.in_ok-rows.den q ≡ replaced_degree made.rows made.den q =
     ap₂ (λ (rs : List Row) (d : Piece). replaced_degree rs d q) rows den in
-    omega (arith, (c.replace.ensures.degree.0 e).1, degree, c.requires.degree)
+    omega (arith, degree, c.requires.degree)
 
 pub returns-clause-moved : goal.returns-clause-moved
 returns-clause-moved g c =
@@ -89,13 +81,20 @@ returns-clause-moved g c =
     let q = c.args.p.now in
     let made = replacement lemma_table steps mv q in
     let listed : c.deref.result.now ≡ c.in_ok-rows.rows = search rules in
-    let rows : c.deref.result.now ≡ made.rows = line_made steps mv q c.look.result.now c.look.ensures c.args.rows.now c.requires.rows c.deref.result.now (listed ∙ c.in_ok-rows.ensures.rows) in
-    let den : c.in_ok-rows.den ≡ made.den = line_denominator steps mv q c.look.result.now c.look.ensures c.args.rows.now c.requires.rows c.in_ok-rows.den c.in_ok-rows.ensures.den in
-    let result : replaced_by c.deref.result.now c.in_ok-rows.den.poly q ≡ replaced_by made.rows made.den.poly q =
-    ap₂ (λ (rs : List Row) (d : Piece). replaced_by rs d.poly q) rows den in
-    let told : IfOk c.replace.result (λ p. p ≡ replaced_by made.rows made.den.poly q) =
-    subst (λ (r : Summands). IfOk c.replace.result (λ p. p ≡ r)) result c.replace.ensures.replaced in
-    handed_answer c.within_bounds.result c.replace.result (λ p. p ≡ replaced_by made.rows made.den.poly q) c.within_bounds.ensures told
+    let rows : c.deref.result.now ≡ made.rows = line_made steps mv q c.args.rows.now c.requires.rows c.deref.result.now (ap (map Some) listed ∙ c.in_ok-rows.ensures.rows) in
+    let den : c.in_ok-rows.den ≡ made.den = c.in_ok-rows.ensures.den in
+    c.in_ok-moved.ensures.replaced ∙ ap₂ (λ (rs : List Row) (d : Piece). replaced_by rs d.poly q) rows den
+
+pub returns-clause-known : goal.returns-clause-known
+returns-clause-known g c =
+    let steps = c.args.steps.now in
+    let mv = c.args.mv.now in
+    let q = c.args.p.now in
+    let made = replacement lemma_table steps mv q in
+    let listed : c.deref.result.now ≡ c.in_ok-rows.rows = search rules in
+    let rows : c.deref.result.now ≡ made.rows = line_made steps mv q c.args.rows.now c.requires.rows c.deref.result.now (ap (map Some) listed ∙ c.in_ok-rows.ensures.rows) in
+    let den : c.in_ok-rows.den ≡ made.den = c.in_ok-rows.ensures.den in
+    c.put_back.ensures steps c.in_ok-rows.ensures.known (line_own steps mv q c.args.rows.now c.requires.rows c.in_ok-rows.rows (sym listed ∙ rows)) den
 
 pub returns-clause-ticks : goal.returns-clause-ticks
 returns-clause-ticks g c =
@@ -104,8 +103,21 @@ returns-clause-ticks g c =
     let q = c.args.p.now in
     let made = replacement lemma_table steps mv q in
     let listed : c.deref.result.now ≡ c.in_ok-rows.rows = search rules in
-    let rows : c.deref.result.now ≡ made.rows = line_made steps mv q c.look.result.now c.look.ensures c.args.rows.now c.requires.rows c.deref.result.now (listed ∙ c.in_ok-rows.ensures.rows) in
-    let den : c.in_ok-rows.den ≡ made.den = line_denominator steps mv q c.look.result.now c.look.ensures c.args.rows.now c.requires.rows c.in_ok-rows.den c.in_ok-rows.ensures.den in
+    let rows : c.deref.result.now ≡ made.rows = line_made steps mv q c.args.rows.now c.requires.rows c.deref.result.now (ap (map Some) listed ∙ c.in_ok-rows.ensures.rows) in
+    let den : c.in_ok-rows.den ≡ made.den = c.in_ok-rows.ensures.den in
     let products : replacement_products c.deref.result.now c.in_ok-rows.den q ≡ replacement_products made.rows made.den q =
     ap₂ (λ (rs : List Row) (d : Piece). replacement_products rs d q) rows den in
-    omega (arith, c.replace.ensures.ticks, products)
+    omega (arith, c.in_ok-moved.ensures.ticks, products)
+
+pub returns-in_err-moved-clause-ticks : goal.returns-in_err-moved-clause-ticks
+returns-in_err-moved-clause-ticks g c =
+    let steps = c.args.steps.now in
+    let mv = c.args.mv.now in
+    let q = c.args.p.now in
+    let made = replacement lemma_table steps mv q in
+    let listed : c.deref.result.now ≡ c.in_ok-rows.rows = search rules in
+    let rows : c.deref.result.now ≡ made.rows = line_made steps mv q c.args.rows.now c.requires.rows c.deref.result.now (ap (map Some) listed ∙ c.in_ok-rows.ensures.rows) in
+    let den : c.in_ok-rows.den ≡ made.den = c.in_ok-rows.ensures.den in
+    let products : replacement_products c.deref.result.now c.in_ok-rows.den q ≡ replacement_products made.rows made.den q =
+    ap₂ (λ (rs : List Row) (d : Piece). replacement_products rs d q) rows den in
+    omega (arith, c.in_err-moved.ensures.ticks, products)

@@ -1,6 +1,9 @@
-use Rattle.std.proofs.Common.{All}
-use Rattle.elim_apply.specs.Inner.Sketches.{IsKnown}
+use Rattle.std.proofs.Common.{◌≡◌, ◌++◌, drop, map}
+use Rattle.std.specs.Option.{option_map}
+use Rattle.elim_apply.specs.Inner.Sketches.{sketched, sketches}
+use Rattle.geo_poly.specs.Replace.{row_of}
 use Rattle.elim_apply.proofs.known_rows.known_rows.Given as goal
 
 abbrev pub invariant-loop-v : goal.invariant-loop-v
-invariant-loop-v l = All (IsKnown l.rows) l.known.items
+invariant-loop-v l =
+    map (option_map sketched) l.known.items ++ map (row_of (sketches l.rows)) (drop l.v-index l.variables) ≡ map (row_of (sketches l.rows)) l.variables

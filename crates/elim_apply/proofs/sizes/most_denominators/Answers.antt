@@ -1,20 +1,31 @@
-use Rattle.std.proofs.Common.{◌≡◌, ◌+◌, ◌<◌, max, drop, ap, ◌∙◌, arith}
-use Rattle.std.specs.Prelude.{length}
-use Rattle.elim_apply.specs.Inner.Sketches.{sketches}
-use Rattle.geo_poly.specs.Polynomials.{term_at}
+use Rattle.std.proofs.Common.{◌≡◌, ◌≤◌, max, length, subst, ap, ◌∙◌, arith}
+use Rattle.std.proofs.lemmas.List.{drop_all}
+use Rattle.geo_poly.specs.Polynomials.{Summands}
 use Rattle.geo_poly.specs.Replace.{denominators, most_denominators}
-use Rattle.elim_apply.proofs.LineShares.{term_shown}
+use Rattle.geo_poly.specs.Shared.{told, told_powers}
+use Rattle.geo_poly.proofs.Told.{index_at, item, length-terms_of, told-drop}
 use Rattle.elim_apply.proofs.LineSizes.{greater}
 use Rattle.elim_apply.proofs.sizes.most_denominators.Goals as goal
 
-pub loop-i-preserved : goal.loop-i-preserved
-loop-i-preserved c =
-    let rows = sketches c.args.rows.now in
-    let q = c.args.poly.now in
-    let i = c.loop-i.i in
-    let lt : i < length q = omega (arith, c.loop-i-test.true, c.terms-i-end.ensures) in
-    let shown : most_denominators rows (drop i q) ≡ max (denominators rows (term_at q i).0) (most_denominators rows (drop (i + 1) q)) =
-    ap (most_denominators rows) (term_shown q i lt) in
-    let most : c.max-most.result ≡ max c.loop-i.most c.denominators_of.result = c.max-most.ensures
-    ∙ greater c.loop-i.most c.denominators_of.result in
-    omega (arith, c.loop-i.invariant, shown, c.denominators_of.ensures, most)
+pub share_at-requires-clause-index : goal.share_at-requires-clause-index
+share_at-requires-clause-index c = index_at c.args.p.now c.loop-id.id-index c.loop-id-test.true c.requires.parts
+
+pub loop-id-preserved : goal.loop-id-preserved
+loop-id-preserved c = λ rows are.
+    let p = c.args.p.now in
+    let i = c.loop-id.id-index in
+    let so_far =
+    subst (λ (left : Summands). max c.loop-id.most (most_denominators rows left) ≡ most_denominators rows (told p)) (told-drop p i c.loop-id-test.true) (c.loop-id.invariant rows are) in
+    let here : c.share_at.result.denominators ≡ denominators rows (told_powers c.args.p.now (item c.args.p.now.list.now c.loop-id.id-index).0) =
+    (c.share_at.ensures rows are.each).denominators-are in
+    let most : c.max-most.result ≡ max c.loop-id.most c.share_at.result.denominators = c.max-most.ensures ∙ greater c.loop-id.most c.share_at.result.denominators in
+    omega (arith, so_far, here, most)
+
+pub returns : goal.returns
+returns c = λ rows are.
+    let p = c.args.p.now in
+    let i = c.loop-id.id-index in
+    let past : length (told c.args.p.now) ≤ c.loop-id.id-index =
+    omega (arith, c.loop-id-test.false, length-terms_of p.vars.now p.monos.now p.list.now) in
+    let none = ap (most_denominators rows) (drop_all i (told p) past) in
+    omega (arith, none, c.loop-id.invariant rows are)

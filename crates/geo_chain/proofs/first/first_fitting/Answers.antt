@@ -1,22 +1,20 @@
-use Rattle.std.proofs.Common.{None, arith}
-use Rattle.geo_chain.specs.Inner.Searches.{FitsItself, IsNoEarlier}
-use Rattle.geo_chain.proofs.Places.{none_first, some_first, whole}
-use Rattle.geo_chain.proofs.Searches.{by_place, one_term}
+use Rattle.std.proofs.Common.{◌≡◌, true, false, arith, rules}
+use Rattle.std.proofs.lemmas.Option.{slice_get-get_or}
+use Rattle.geo_chain.proofs.FirstVariables.{first_at, none_at, one_more}
 use Rattle.geo_chain.proofs.first.first_fitting.Goals as goal
 
-pub loop-i-preserved : goal.loop-i-preserved
-loop-i-preserved c =
-    one_term IsNoEarlier by_place (FitsItself c.args.sought) c.args.p.now c.loop-i.i None c.loop-i.first c.first_in_term-first.result
-    c.loop-i.invariant c.first_in_term-first.ensures
+pub returns-then-fits-clause-some : goal.returns-then-fits-clause-some
+returns-then-fits-clause-some c =
+    let vs = c.args.variables.now in
+    let fitted : c.fits.result ≡ true = search rules in
+    first_at c.args.sought vs c.loop-v.v-index _ c.requires (slice_get-get_or vs c.loop-v.v-index _ c.loop-v-test.true) (c.fits.ensures.0 fitted) c.loop-v.invariant
 
-pub returns-clause-some : goal.returns-clause-some
-returns-clause-some c =
-    some_first c.args.sought c.args.p.now c.loop-i.first
-    (whole IsNoEarlier (FitsItself c.args.sought) c.args.p.now c.loop-i.i c.loop-i.first
-    (omega (arith, c.loop-i-test.false, c.terms-i-end.ensures)) (omega (arith, c.loop-i.auto.i-end, c.terms-i-end.ensures)) c.loop-i.invariant)
+pub loop-v-preserved : goal.loop-v-preserved
+loop-v-preserved c =
+    let vs = c.args.variables.now in
+    let unfit : c.fits.result ≡ false = search rules in
+    one_more c.args.sought vs c.loop-v.v-index _ (slice_get-get_or vs c.loop-v.v-index _ c.loop-v-test.true)
+    (λ f. let fitted = c.fits.ensures.1 f in absurd (cc)) c.loop-v.invariant
 
 pub returns-clause-none : goal.returns-clause-none
-returns-clause-none c =
-    none_first c.args.sought c.args.p.now c.loop-i.first
-    (whole IsNoEarlier (FitsItself c.args.sought) c.args.p.now c.loop-i.i c.loop-i.first
-    (omega (arith, c.loop-i-test.false, c.terms-i-end.ensures)) (omega (arith, c.loop-i.auto.i-end, c.terms-i-end.ensures)) c.loop-i.invariant)
+returns-clause-none c = none_at c.args.sought c.args.variables.now c.loop-v.v-index (omega (arith, c.loop-v-test.false)) c.loop-v.invariant

@@ -1,22 +1,24 @@
-use Rattle.std.proofs.Common.{None, arith}
-use Rattle.geo_chain.specs.Inner.Searches.{IsNoHigher, MakesPoint}
-use Rattle.geo_chain.proofs.Places.{none_highest, some_highest, whole}
-use Rattle.geo_chain.proofs.Searches.{by_height, one_term}
+use Rattle.std.proofs.Common.{arith}
+use Rattle.std.proofs.lemmas.Option.{slice_get-get_or}
+use Rattle.geo_chain.proofs.Searches.{below_steps, no_variable, none_highest, one_variable, some_highest}
 use Rattle.geo_chain.proofs.highest.highest_constructed.Goals as goal
 
-pub loop-i-preserved : goal.loop-i-preserved
-loop-i-preserved c =
-    one_term IsNoHigher by_height (MakesPoint c.args.steps.now) c.args.p.now c.loop-i.i None c.loop-i.highest c.highest_in_term-highest.result
-    c.loop-i.invariant c.highest_in_term-highest.ensures
+pub loop-v-init : goal.loop-v-init
+loop-v-init c = no_variable c.args.steps.now c.args.variables.now
+
+pub loop-v-preserved : goal.loop-v-preserved
+loop-v-preserved c =
+    let vs = c.args.variables.now in
+    one_variable c.args.steps.now vs c.loop-v.v-index _ c.loop-v.highest c.highest_with-highest.result (slice_get-get_or vs c.loop-v.v-index _ c.loop-v-test.true)
+    c.loop-v.invariant c.highest_with-highest.ensures
+
+pub returns-clause-below : goal.returns-clause-below
+returns-clause-below c = below_steps c.args.steps.now c.args.variables.now c.loop-v.v-index c.loop-v.highest c.loop-v.invariant
 
 pub returns-clause-some : goal.returns-clause-some
 returns-clause-some c =
-    some_highest c.args.steps.now c.args.p.now c.loop-i.highest
-    (whole IsNoHigher (MakesPoint c.args.steps.now) c.args.p.now c.loop-i.i c.loop-i.highest
-    (omega (arith, c.loop-i-test.false, c.terms-i-end.ensures)) (omega (arith, c.loop-i.auto.i-end, c.terms-i-end.ensures)) c.loop-i.invariant)
+    some_highest c.args.steps.now c.args.variables.now c.loop-v.v-index c.loop-v.highest (omega (arith, c.loop-v-test.false)) c.loop-v.invariant
 
 pub returns-clause-none : goal.returns-clause-none
 returns-clause-none c =
-    none_highest c.args.steps.now c.args.p.now c.loop-i.highest
-    (whole IsNoHigher (MakesPoint c.args.steps.now) c.args.p.now c.loop-i.i c.loop-i.highest
-    (omega (arith, c.loop-i-test.false, c.terms-i-end.ensures)) (omega (arith, c.loop-i.auto.i-end, c.terms-i-end.ensures)) c.loop-i.invariant)
+    none_highest c.args.steps.now c.args.variables.now c.loop-v.v-index c.loop-v.highest (omega (arith, c.loop-v-test.false)) c.loop-v.invariant

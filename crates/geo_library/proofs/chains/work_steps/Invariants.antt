@@ -1,5 +1,5 @@
 use Rattle.std.proofs.Common.{◌-◌, length}
-use Rattle.fraction_poly.specs.Inner.Known.{IsKnownOf}
+use Rattle.elim_apply.specs.Kept.{AreKnownRows}
 use Rattle.fraction_poly.specs.TableRows.{HasPointsBelow}
 use Rattle.geo_poly.specs.PolynomialVariables.{AllVariables}
 use Rattle.geo_library.proofs.CountedChains.{IsUnderWay}
@@ -9,7 +9,7 @@ abbrev pub invariant-loop-last : goal.invariant-loop-last
 invariant-loop-last l = record {
   way : IsUnderWay l.steps l.known l.initial.now.lines l.initial.now.budget.left l.fn.first l.now.lines l.now.budget.left l.last;
   points : AllVariables (HasPointsBelow (length l.steps.steps)) l.last;
-  numbers : IsKnownOf l.steps.nodes l.numbers;
+  numbers : AreKnownRows l.steps l.numbers;
 }
 
 -- the lines that may still be counted

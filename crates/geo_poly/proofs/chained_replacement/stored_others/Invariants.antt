@@ -1,16 +1,17 @@
 use Rattle.std.proofs.Common.{◌≡◌, ◌≤◌, drop, length}
-use Rattle.mono_store.specs.Stores.{Keeps}
 use Rattle.geo_poly.specs.Replace.{others}
-use Rattle.geo_poly.specs.Shared.{IsIndex, powers_at}
+use Rattle.geo_poly.specs.Inner.Keyed.{KeepsKeys}
+use Rattle.geo_poly.specs.Keys.{IsKeyUnder}
+use Rattle.geo_poly.specs.Shared.{named}
 use Rattle.geo_poly.proofs.chained_replacement.stored_others.Given as goal
 
 abbrev pub invariant-loop-i : goal.invariant-loop-i
-invariant-loop-i l = record {
-  kept : Keeps l.fn.store l.store;
-  index : IsIndex l.vars l.store l.id;
+invariant-loop-i g l = record {
+  kept : KeepsKeys (g.K.MonomialKeys.keys l.fn.keys) (g.K.MonomialKeys.keys l.keys);
+  index : IsKeyUnder l.vars (g.K.MonomialKeys.keys l.keys) l.key;
   left : l.i ≤ length l.powers;
-  powers : powers_at l.vars l.store l.id ≡ others l.rows (drop l.i l.powers);
+  powers : named l.vars ((g.K.MonomialKeys.keys l.keys).powers l.key) ≡ others l.rows (drop l.i l.powers);
 }
 
 abbrev pub decreases-loop-i : goal.decreases-loop-i
-decreases-loop-i l = l.i
+decreases-loop-i g l = l.i

@@ -1,10 +1,10 @@
 use Rattle.std.proofs.Common.{take}
-use Rattle.mono_store.specs.Stores.{Keeps}
-use Rattle.geo_poly.specs.Inner.Settings.{AreStored}
+use Rattle.geo_poly.specs.Inner.Keyed.{KeepsKeys}
+use Rattle.geo_poly.specs.Inner.Settings.{AreStoredUnder}
 use Rattle.geo_poly.proofs.chained_replacement.stored_rows.Given as goal
 
 abbrev pub invariant-loop-row : goal.invariant-loop-row
-invariant-loop-row l = record {
-  kept : Keeps l.fn.store l.store;
-  stored : AreStored l.vars l.store (take l.row-index l.rows) l.nums.items;
+invariant-loop-row g l = record {
+  kept : KeepsKeys (g.K.MonomialKeys.keys l.fn.keys) (g.K.MonomialKeys.keys l.keys);
+  stored : AreStoredUnder l.vars (g.K.MonomialKeys.keys l.keys) (take l.row-index l.rows) l.nums.items;
 }

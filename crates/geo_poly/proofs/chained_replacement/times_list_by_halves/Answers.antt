@@ -1,9 +1,9 @@
 use Rattle.std.proofs.Common.{map, sym, ap, subst, ◌∙◌}
 use Rattle.std.proofs.lemmas.Result.{IfOk-weaker, on_err_weaker}
 use Rattle.poly_arena.specs.Chains.{Pairs, pairs_of}
-use Rattle.geo_poly.specs.Chained.{StandsFor, indexed_pair}
+use Rattle.geo_poly.specs.Chained.{StandsUnder, indexed_pair}
 use Rattle.geo_poly.specs.Polynomials.{CanMultiply, Summands, product_of}
-use Rattle.geo_poly.specs.Shared.{terms_of}
+use Rattle.geo_poly.specs.Inner.Keyed.{AreInReach, terms_under}
 use Rattle.geo_poly.proofs.ChainSwaps.{Swaps-from, spent_same}
 use Rattle.geo_poly.proofs.KeyedChains.{chain_indices, chain_terms}
 use Rattle.geo_poly.proofs.chained_replacement.times_list_by_halves.Goals as goal
@@ -12,23 +12,31 @@ pub product_chain-requires-clause-left : goal.product_chain-requires-clause-left
 product_chain-requires-clause-left g c =
     let pairs = pairs_of c.args.arena.now c.args.chain in
     let same = c.deref-2.ensures.value ∙ c.in_ok-left.ensures ∙ ap (λ (ps : Pairs). map indexed_pair ps) (c.deref.ensures.value ∙ c.in_ok-pairs.ensures) in
-    chain_indices c.args.vars.now c.args.store.now c.deref-2.result.now pairs same c.requires.keys
+    chain_indices c.args.vars.now (g.K.MonomialKeys.keys c.args.keys.now) c.deref-2.result.now pairs same c.requires.keys
 
 pub product_chain-requires-clause-fits : goal.product_chain-requires-clause-fits
 product_chain-requires-clause-fits g c =
     let pairs = pairs_of c.args.arena.now c.args.chain in
     let same = c.deref-2.ensures.value ∙ c.in_ok-left.ensures ∙ ap (λ (ps : Pairs). map indexed_pair ps) (c.deref.ensures.value ∙ c.in_ok-pairs.ensures) in
-    subst (λ (p : Summands). CanMultiply p (terms_of c.args.vars.now c.args.store.now c.args.list.now))
-    (sym (chain_terms c.args.vars.now c.args.store.now c.deref-2.result.now pairs same)) c.requires.fits
+    subst (λ (p : Summands). CanMultiply p (terms_under c.args.vars.now (g.K.MonomialKeys.keys c.args.keys.now) c.args.list.now))
+    (sym (chain_terms c.args.vars.now (g.K.MonomialKeys.keys c.args.keys.now) c.deref-2.result.now pairs same)) c.requires.fits
+
+pub product_chain-requires-clause-reach : goal.product_chain-requires-clause-reach
+product_chain-requires-clause-reach g c =
+    let keys = g.K.MonomialKeys.keys c.args.keys.now in
+    let pairs = pairs_of c.args.arena.now c.args.chain in
+    let same = c.deref-2.ensures.value ∙ c.in_ok-left.ensures ∙ ap (λ (ps : Pairs). map indexed_pair ps) (c.deref.ensures.value ∙ c.in_ok-pairs.ensures) in
+    subst (λ (p : Summands). AreInReach c.args.vars.now keys p (terms_under c.args.vars.now keys c.args.list.now))
+    (sym (chain_terms c.args.vars.now keys c.deref-2.result.now pairs same)) c.requires.reach
 
 pub returns-clause-chain : goal.returns-clause-chain
 returns-clause-chain g c =
     let vars = c.args.vars.now in
-    let s = c.args.store.now in
+    let s = (g.K.MonomialKeys.keys c.args.keys.now) in
     let pairs = pairs_of c.args.arena.now c.args.chain in
     let same = c.deref-2.ensures.value ∙ c.in_ok-left.ensures ∙ ap (λ (ps : Pairs). map indexed_pair ps) (c.deref.ensures.value ∙ c.in_ok-pairs.ensures) in
     IfOk-weaker c.product_chain.result _ _
-    (λ v h. subst (λ (p : Summands). StandsFor vars c.product_chain.new.store c.product_chain.new.arena v (product_of p (terms_of vars s c.args.list.now)))
+    (λ v h. subst (λ (p : Summands). StandsUnder vars (g.K.MonomialKeys.keys c.product_chain.new.keys) c.product_chain.new.arena v (product_of p (terms_under vars s c.args.list.now)))
     (chain_terms vars s c.deref-2.result.now pairs same) h)
     c.product_chain.ensures.chain
 

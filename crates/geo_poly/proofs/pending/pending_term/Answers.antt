@@ -13,7 +13,7 @@ factors_of-requires-clause-no_zero c =
 pub factors_of-requires-clause-lacking : goal.factors_of-requires-clause-lacking
 factors_of-requires-clause-lacking c =
     let setting = c.args.setting.now in
-    c.lacking_at-lacking.ensures ∙ ap (λ (m : Powers). setting.top - denominators setting.rows.now m) (sym (c.as_slice.ensures.value ∙ c.in_ok-read_powers.ensures))
+    c.requires.lacking ∙ ap (λ (m : Powers). setting.top - denominators setting.rows.now m) (sym (c.as_slice.ensures.value ∙ c.in_ok-read_powers.ensures))
 
 pub returns-clause-factors : goal.returns-clause-factors
 returns-clause-factors c =

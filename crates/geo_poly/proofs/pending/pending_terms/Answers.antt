@@ -7,7 +7,7 @@ use Rattle.geo_poly.proofs.PendingTerms.{Made, Made-all, Made-more, Made-none, M
 use Rattle.geo_poly.proofs.TermPlaces.{replaceable_at}
 use Rattle.geo_poly.proofs.Told.{index_at, item, length-terms_of, told-take}
 use Rattle.geo_poly.proofs.pending.pending_terms.Goals as goal
-use Rattle.geo_poly.proofs.pending.pending_terms.Goals.{then-not-has_zero+in_ok-pending_term+in_ok-push, else-not-has_zero}
+use Rattle.geo_poly.proofs.pending.pending_terms.Goals.{in-Some+in_ok-made+in_ok-push, in_default}
 
 pub loop-term-init : goal.loop-term-init
 loop-term-init c =
@@ -15,26 +15,20 @@ loop-term-init c =
     let p = c.args.p.now in
     subst (λ (es : List Pending). Made setting p [] es) (sym c.in_ok-pending.ensures.items) (Made-none setting p)
 
-pub has_zero-requires-clause-index : goal.has_zero-requires-clause-index
-has_zero-requires-clause-index c = index_at c.args.p.now c.loop-term.term-index c.loop-term-test.true c.requires.parts
+pub lacking_at-lacking-requires-clause-index : goal.lacking_at-lacking-requires-clause-index
+lacking_at-lacking-requires-clause-index c = index_at c.args.p.now c.loop-term.term-index c.loop-term-test.true c.requires.parts
 
-pub has_zero-requires-clause-top : goal.has_zero-requires-clause-top
-has_zero-requires-clause-top c = (replaceable_at c.args.setting.now c.args.p.now c.loop-term.term-index c.loop-term-test.true c.requires.known c.requires.can).top
+pub lacking_at-lacking-requires-clause-top : goal.lacking_at-lacking-requires-clause-top
+lacking_at-lacking-requires-clause-top c = (replaceable_at c.args.setting.now c.args.p.now c.loop-term.term-index c.loop-term-test.true c.requires.known c.requires.can).top
 
-pub has_zero-requires-clause-monomial : goal.has_zero-requires-clause-monomial
-has_zero-requires-clause-monomial c = (replaceable_at c.args.setting.now c.args.p.now c.loop-term.term-index c.loop-term-test.true c.requires.known c.requires.can).monomial
+pub lacking_at-lacking-requires-clause-monomial : goal.lacking_at-lacking-requires-clause-monomial
+lacking_at-lacking-requires-clause-monomial c = (replaceable_at c.args.setting.now c.args.p.now c.loop-term.term-index c.loop-term-test.true c.requires.known c.requires.can).monomial
 
 pub pending_term-requires-clause-index : goal.pending_term-requires-clause-index
 pending_term-requires-clause-index c = index_at c.args.p.now c.loop-term.term-index c.loop-term-test.true c.requires.parts
 
-pub pending_term-requires-clause-top : goal.pending_term-requires-clause-top
-pending_term-requires-clause-top c = (replaceable_at c.args.setting.now c.args.p.now c.loop-term.term-index c.loop-term-test.true c.requires.known c.requires.can).top
-
 pub pending_term-requires-clause-monomial : goal.pending_term-requires-clause-monomial
 pending_term-requires-clause-monomial c = (replaceable_at c.args.setting.now c.args.p.now c.loop-term.term-index c.loop-term-test.true c.requires.known c.requires.can).monomial
-
-pub pending_term-requires-clause-no_zero : goal.pending_term-requires-clause-no_zero
-pending_term-requires-clause-no_zero c = c.has_zero.ensures.nonzero c.if-not-has_zero.true
 
 pub loop-term-preserved : goal.loop-term-preserved
 loop-term-preserved c =
@@ -46,14 +40,14 @@ loop-term-preserved c =
     let es = c.loop-term.pending.items in
     let here = replaceable_at setting p i c.loop-term-test.true c.requires.known c.requires.can in
     let index = index_at p i c.loop-term-test.true c.requires.parts in
-    elim c.if-not-has_zero.branch [
-      | else-not-has_zero w ↦ rw (w.pending-is, told-take p i c.loop-term-test.true) (Made-zero setting p q t es (c.has_zero.ensures.zero w.if-not-has_zero.false t.1) c.loop-term.invariant)
-      | then-not-has_zero+in_ok-pending_term+in_ok-push w ↦
-          let e = w.in_ok-pending_term.field-0 in
-          let made = w.in_ok-pending_term.ensures in
+    elim c.match-lacking.branch [
+      | in_default w ↦ rw (w.pending-is, told-take p i c.loop-term-test.true) (Made-zero setting p q t es (w.in_default.ensures.zero t.1) c.loop-term.invariant)
+      | in-Some+in_ok-made+in_ok-push w ↦
+          let e = w.in_ok-made.made in
+          let made = w.in_ok-made.ensures in
           rw (w.pending-is, w.in_ok-push.ensures.items, told-take p i c.loop-term-test.true)
           (Made-more setting p e t (ap₂ (λ n (z : ℤ). (told_powers p n, z)) made.index made.coefficient) made.factors q es
-          (subst (IsIndexOf p) (sym made.index) index) here.monomial here.known here.nonzero here.degree c.loop-term.invariant)
+          (subst (IsIndexOf p) (sym made.index) index) here.monomial here.known here.nonzero here.degree here.exponents c.loop-term.invariant)
     ]
 
 pub returns : goal.returns

@@ -1,12 +1,11 @@
-use Rattle.std.proofs.Common.{◌≡◌, ◌+◌, ◌-◌}
-use Rattle.geo_poly.specs.Replace.{denominators}
 use Rattle.geo_poly.specs.Shared.{IsIndexOf, told_powers}
+use Rattle.geo_poly.proofs.ZeroFactors.{Seen}
 use Rattle.geo_poly.proofs.replacement_bounds.lacking_at.Given as goal
 
 abbrev pub invariant-loop-first : goal.invariant-loop-first
 invariant-loop-first l = record {
   index : IsIndexOf l.p l.rest;
-  missing : l.missing ≡ denominators l.rows (told_powers l.p l.rest) + (l.top - denominators l.rows (told_powers l.p l.fn.id));
+  seen : Seen l.rows l.top (told_powers l.p l.fn.id) (told_powers l.p l.rest) l.missing;
 }
 
 abbrev pub decreases-loop-first : goal.decreases-loop-first

@@ -1,5 +1,5 @@
 use Rattle.std.proofs.Common.{◌-◌, ◌^◌, length}
-use Rattle.fraction_poly.specs.Inner.Known.{IsKnownOf}
+use Rattle.elim_apply.specs.Kept.{AreKnownRows}
 use Rattle.fraction_poly.specs.TableRows.{HasPointsBelow}
 use Rattle.geo_poly.specs.PolynomialVariables.{AllVariables}
 use Rattle.log_maker.specs.Written.{state}
@@ -12,7 +12,7 @@ invariant-loop-last g l = record {
       (state l.initial.log (g.K.Sink.held l.initial.sink) (g.K.Sink.faults l.initial.sink))
       (state l.log (g.K.Sink.held l.sink) (g.K.Sink.faults l.sink));
   points : AllVariables (HasPointsBelow (length l.steps.steps)) l.last;
-  numbers : IsKnownOf l.steps.nodes l.numbers;
+  numbers : AreKnownRows l.steps l.numbers;
 }
 
 -- the lines that may still be counted

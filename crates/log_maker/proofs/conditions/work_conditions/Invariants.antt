@@ -1,5 +1,5 @@
 use Rattle.std.proofs.Common.{List}
-use Rattle.fraction_poly.specs.Inner.Known.{IsKnownOf}
+use Rattle.elim_apply.specs.Kept.{AreKnownRows}
 use Rattle.geo_logs.specs.Logs.{Item}
 use Rattle.geo_poly.specs.Specialise.{NoneZero}
 use Rattle.log_maker.specs.Halting.{Passes}
@@ -18,5 +18,5 @@ invariant-loop-i g l = record {
       (state l.initial.log (g.K.Sink.held l.initial.sink) (g.K.Sink.faults l.initial.sink))
       (state l.log (g.K.Sink.held l.sink) (g.K.Sink.faults l.sink));
   nonzero : NoneZero l.findings.ends;
-  numbers : IsKnownOf l.problem.steps.nodes l.numbers;
+  numbers : AreKnownRows l.problem.steps l.numbers;
 }

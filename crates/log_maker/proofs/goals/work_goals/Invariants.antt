@@ -1,5 +1,5 @@
 use Rattle.std.proofs.Common.{◌≡◌}
-use Rattle.fraction_poly.specs.Inner.Known.{IsKnownOf}
+use Rattle.elim_apply.specs.Kept.{AreKnownRows}
 use Rattle.log_maker.specs.Halting.{Passes}
 use Rattle.log_maker.specs.Tasks.{goals_from}
 use Rattle.log_maker.specs.Written.{state}
@@ -14,5 +14,5 @@ invariant-loop-i g l = record {
       (state l.initial.log (g.K.Sink.held l.initial.sink) (g.K.Sink.faults l.initial.sink))
       (state l.log (g.K.Sink.held l.sink) (g.K.Sink.faults l.sink));
   kept : l.findings ≡ l.initial.findings;
-  numbers : IsKnownOf l.steps.nodes l.numbers;
+  numbers : AreKnownRows l.steps l.numbers;
 }

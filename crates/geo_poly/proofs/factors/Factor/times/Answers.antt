@@ -6,7 +6,7 @@ use Rattle.geo_poly.specs.Monomials.{Powers, IsMonomial, degree_of}
 use Rattle.geo_poly.proofs.FactorLaws.{IsMonomial-push}
 use Rattle.geo_poly.proofs.factors.Factor.times.Goals as goal
 
--- the conditions of a call, at the fields
+-- the conditions of a call, at the digits
 pushed : (m : Powers) (z : ℤ) (f : Powers × ℤ) (v : Var) (e : _) → (m, z) ≡ f → IsMonomial m → 1 ≤ e
     → All (λ (p : Var × _). var_cmp p.0 v ≡ Less) f.0 → degree_of f.0 + e ≤ 65535 → IsMonomial (m ++ (v, e) ∷ [])
 pushed m z f v e same h some later fits =

@@ -18,6 +18,9 @@ pub product_chain-requires-clause-left : goal.product_chain-requires-clause-left
 product_chain-requires-clause-left g c =
     rw c.deref.ensures.value (indices-kept c.as_slice-vars.result.now c.moved.new.store c.moved-2.new.store c.in_ok-left.left.items c.in_ok-right.ensures.kept c.in_ok-left.ensures.indices)
 
+pub product_chain-requires-clause-right : goal.product_chain-requires-clause-right
+product_chain-requires-clause-right g c = rw c.deref-2.ensures.value c.in_ok-right.ensures.indices
+
 pub product_chain-requires-clause-fits : goal.product_chain-requires-clause-fits
 product_chain-requires-clause-fits g c =
     let left = in_grown c.as_slice-vars.result.now c.moved.new.store c.moved-2.new.store c.in_ok-left.left.items c.deref.result.now
@@ -35,6 +38,6 @@ returns-clause-chain g c =
     (c.in_ok-left.ensures.terms ∙ c.shared.ensures.terms) in
     let right = ap (terms_of c.as_slice-vars.result.now c.moved-2.new.store) c.deref-2.ensures.value ∙ c.in_ok-right.ensures.terms ∙ c.shared-2.ensures.terms in
     IfOk-weaker c.product_chain.result _ _
-    (λ v h. subst (λ (vs : List Var). StandsFor vs c.product_chain.new.store c.product_chain.new.arena v (product_of c.args.self.now c.args.other.now)) c.as_slice-vars.ensures
-    (subst (λ (p : Summands). StandsFor vars c.product_chain.new.store c.product_chain.new.arena v p) (ap₂ product_of left right) h))
+    (λ v h. subst (λ (vs : List Var). StandsFor vs c.product_chain.new.keys c.product_chain.new.arena v (product_of c.args.self.now c.args.other.now)) c.as_slice-vars.ensures
+    (subst (λ (p : Summands). StandsFor vars c.product_chain.new.keys c.product_chain.new.arena v p) (ap₂ product_of left right) h))
     c.product_chain.ensures.chain

@@ -1,0 +1,23 @@
+use Rattle.std.proofs.Common.{◌≡◌, Some, sym, ap, subst, ◌∙◌}
+use Rattle.std.proofs.lemmas.List.Elements.{All-set}
+use Rattle.std.proofs.lemmas.Option.{get_or_from_slice_get}
+use Rattle.elim_apply.specs.declared.kept_row.KeptRow.{KeptRow}
+use Rattle.elim_apply.specs.Kept.{IsKept}
+use Rattle.elim_apply.specs.LemmaTable.{lemma_table}
+use Rattle.elim_apply.proofs.KeptLemmas.{kept_at, with_den}
+use Rattle.elim_apply.proofs.kept_rows.KnownRows.put_denominator.Goals as goal
+
+pub returns : goal.returns
+returns c = λ k known own.
+    let rows = c.args.self.now.rows.items in
+    let i = c.in-Some.i in
+    let found = c.in-Some.ensures in
+    let kept = found.0 in
+    let here = kept_at k rows i kept found.1 known.rows in
+    let is : c.index_mut.result.now ≡ kept = c.index_mut.ensures.value ∙ get_or_from_slice_get rows i kept c.index_mut.result.now found.1 in
+    record {
+      numbers = known.numbers;
+      rows = All-set (IsKept k) rows i _
+          (subst (λ (x : KeptRow). IsKept k (record { mv = x.mv; var = x.var; draft = x.draft; numbers = x.numbers; made = x.made; den = Some c.args.den })) (sym is)
+          (with_den k kept here (Some c.args.den) (own ∙ ap (lemma_table.denominator k) (sym found.2)))) known.rows;
+    }

@@ -1,0 +1,9 @@
+use Rattle.std.proofs.Common.{◌+◌, ◌-◌, ◌^◌}
+use Rattle.elim_apply.proofs.CappedRows.{capped_product}
+use Rattle.elim_apply.proofs.shares.Share.charge.Goals as goal
+
+pub returns : goal.returns
+returns c =
+    let lacking = c.args.top - c.args.self.denominators in
+    rw (c.saturating_mul-2.ensures, c.saturating_mul.ensures, c.capped_power.ensures)
+    (capped_product (c.args.self.exponents + lacking + 1) c.args.self.count (c.args.count ^ lacking) (2 ^ 128 - 1))

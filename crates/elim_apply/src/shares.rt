@@ -1,0 +1,187 @@
+//! What becomes of the monomials of a line, each from its rest.
+//! A number past the greatest of its type is given as that.
+
+ghost use Rattle.std.specs.Prelude.{◌≡◌, ◌+◌, ◌-◌, ◌*◌, ◌^◌, ◌<◌, ◌≤◌, [], IfOk, List, length, min};
+ghost use Rattle.elim_apply.specs.Inner.Shares.{AreShares, HaveShares, IsShareOf};
+ghost use Rattle.elim_apply.specs.Inner.Sketches.{AreKnown, sketches};
+ghost use Rattle.geo_poly.specs.declared.replacement.Row.{Row};
+ghost use Rattle.geo_poly.specs.Monomials.{Powers};
+ghost use Rattle.geo_poly.specs.Replace.{AllPowersSmall};
+ghost use Rattle.geo_poly.specs.Shared.{IsIndexOf, told_powers};
+ghost use Rattle.mono_store.specs.Stores.{count};
+
+use crate::known_rows::known_rows;
+use crate::numbered::NumberedRow;
+use fraction_poly::RowNumbers;
+use geo_points::NoMemory;
+use geo_poly::Shared;
+use mono_store::MonoId;
+use std::alloc::Global;
+
+/// What becomes of a monomial, but for the denominators that it lacks.
+#[derive(Clone, Copy)]
+pub(crate) struct Share {
+    /// The sum of the exponents of its replaced variables.
+    pub exponents: u32,
+    /// The denominators that they call for.
+    pub denominators: u32,
+    /// The product of the counts of their numerators.
+    pub count: u128,
+    /// The product of the weights of their numerators, and of the coefficient.
+    pub weight: u128,
+    /// The degree of the other variables, and the degrees of their numerators.
+    pub degree: u128,
+}
+
+impl Share {
+    /// That of the monomial with no variable.
+    fn of_one() -> Share
+        ensures { (rows : List Row) → IsShareOf rows [] 1 result }
+    {
+        Share {
+            exponents: 0,
+            denominators: 0,
+            count: 1,
+            weight: 1,
+            degree: 0,
+        }
+    }
+
+    /// With one more variable that is replaced, to the power `e`.
+    fn replacing(self, numbers: &RowNumbers, e: u32) -> Share
+        ensures exponents { result.exponents ≡ min (self.exponents + e) (2 ^ 32 - 1) }
+        ensures denominators { result.denominators ≡ min (self.denominators
+            + min (numbers.now.power * e) (2 ^ 32 - 1)) (2 ^ 32 - 1) }
+        ensures count { result.count
+            ≡ min (self.count * min (numbers.now.ka ^ e) (2 ^ 128 - 1)) (2 ^ 128 - 1) }
+        ensures weight { result.weight
+            ≡ min (self.weight * min (numbers.now.wa ^ e) (2 ^ 128 - 1)) (2 ^ 128 - 1) }
+        ensures degree { result.degree
+            ≡ min (self.degree + min (numbers.now.ga * e) (2 ^ 128 - 1)) (2 ^ 128 - 1) }
+    {
+        Share {
+            exponents: self.exponents.saturating_add(e),
+            denominators: self
+                .denominators
+                .saturating_add(numbers.power.saturating_mul(e)),
+            count: self.count.saturating_mul(capped_power(numbers.ka, e)),
+            weight: self.weight.saturating_mul(capped_power(numbers.wa, e)),
+            degree: self
+                .degree
+                .saturating_add(numbers.ga.saturating_mul(e as u128)),
+        }
+    }
+
+    /// With one more variable that stays, to the power `e`.
+    fn keeping(self, e: u32) -> Share
+        ensures exponents { result.exponents ≡ self.exponents }
+        ensures denominators { result.denominators ≡ self.denominators }
+        ensures count { result.count ≡ self.count }
+        ensures weight { result.weight ≡ self.weight }
+        ensures degree { result.degree ≡ min (self.degree + e) (2 ^ 128 - 1) }
+    {
+        Share {
+            degree: self.degree.saturating_add(e as u128),
+            ..self
+        }
+    }
+
+    /// With a coefficient of this absolute value.
+    pub(crate) fn times(self, coefficient: u128) -> Share
+        ensures { (rows : List Row) (m : Powers) → IsShareOf rows m 1 self
+            → IsShareOf rows m coefficient result }
+    {
+        Share {
+            weight: self.weight.saturating_mul(coefficient),
+            ..self
+        }
+    }
+
+    /// The charge of the term, where the denominator has so many monomials and is wanted `top`
+    /// times.
+    pub(crate) fn charge(self, count: u128, top: u32) -> u128
+        requires { self.denominators ≤ top }
+        ensures { let lacking = top - self.denominators in
+            result ≡ min ((self.exponents + lacking + 1) * (self.count * count ^ lacking))
+            (2 ^ 128 - 1) }
+    {
+        let lacking = top - self.denominators;
+        let factors = self.exponents as u128 + lacking as u128 + 1;
+        factors.saturating_mul(self.count.saturating_mul(capped_power(count, lacking)))
+    }
+
+    /// The weight of the term over a denominator of this weight, which is wanted `top` times.
+    pub(crate) fn weight_over(self, weight: u128, top: u32) -> u128
+        requires { self.denominators ≤ top }
+        ensures { result ≡ min (self.weight * weight ^ (top - self.denominators)) (2 ^ 128 - 1) }
+    {
+        let lacking = top - self.denominators;
+        self.weight.saturating_mul(capped_power(weight, lacking))
+    }
+
+    /// The degree of the term over a denominator of this degree, which is wanted `top` times.
+    pub(crate) fn degree_over(self, degree: u128, top: u32) -> u128
+        requires { self.denominators ≤ top }
+        ensures { result ≡ min (self.degree + degree * (top - self.denominators)) (2 ^ 128 - 1) }
+    {
+        let lacking = top - self.denominators;
+        self.degree
+            .saturating_add(degree.saturating_mul(lacking as u128))
+    }
+}
+
+/// The power, or the greatest number where it passes that. The exponent is mostly 0 or 1.
+fn capped_power(base: u128, exponent: u32) -> u128
+    ensures { result ≡ min (base ^ exponent) (2 ^ 128 - 1) }
+{
+    match exponent {
+        0 => 1,
+        1 => base,
+        _ => base.saturating_pow(exponent),
+    }
+}
+
+/// The share of each monomial of the store, by its index. One with a variable that the polynomial
+/// lacks has any share.
+pub(crate) fn shares_of(
+    alloc: Global,
+    rows: &[NumberedRow],
+    p: &Shared,
+) -> Result<Vec<Share>, NoMemory>
+    requires { AllPowersSmall (sketches rows.now) }
+    ensures { IfOk result (λ shares. AreShares (sketches rows.now) p.now shares.items) }
+{
+    let known = known_rows(alloc, rows, p.vars)?;
+    let links = p.monos.links();
+    let mut shares = Vec::with_capacity(alloc, (links as usize).saturating_add(1))?;
+    shares.push(Share::of_one())?;
+    for k in 0..links {
+        let share = next_share(p, &known, &shares, MonoId(k + 1));
+        shares.push(share)?;
+    }
+    Ok(shares)
+}
+
+/// The share of the monomial at an index, where those before it have theirs.
+fn next_share(p: &Shared, known: &[Option<NumberedRow>], shares: &[Share], id: MonoId) -> Share
+    requires { id.0 < count p.now.monos.now }
+    ensures { (rows : List Row) → AllPowersSmall rows → AreKnown rows p.now.vars.now known.now
+        → HaveShares rows p.now shares.now → length shares.now ≡ id.0
+        → IsIndexOf p.now id → IsShareOf rows (told_powers p.now id) 1 result }
+{
+    // every store says of itself that it is one
+    let _one = p.monos.one();
+    let Some(link) = p.monos.link(id) else {
+        return Share::of_one();
+    };
+    let Some(rest) = shares.get(link.next.0 as usize) else {
+        return Share::of_one();
+    };
+    let Some(known) = known.get(link.var as usize) else {
+        return Share::of_one();
+    };
+    match known {
+        Some(row) => rest.replacing(&row.numbers, link.exp),
+        None => rest.keeping(link.exp),
+    }
+}

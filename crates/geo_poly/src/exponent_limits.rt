@@ -1,0 +1,276 @@
+//! Words in which products and replacements have room, by bounds of the exponents that are known before
+//! anything is multiplied out.
+
+ghost use Rattle.std.specs.Prelude.{◌≡◌, ◌≢◌, ◌∷◌, [], ◌+◌, ◌*◌, ◌^◌, ◌<◌, ◌≤◌, max, min, ℕ, ◌-◌};
+ghost use Rattle.std.specs.Prelude.{IfOk, IfSome, IsFalse, OnOk, length, slice_index_or};
+ghost use Rattle.std.specs.List.Sorted.{IsStrictlySortedBy};
+ghost use Rattle.mono_store.specs.Stores.{count};
+ghost use Rattle.geo_poly.specs.declared.variables.Var.{Var};
+ghost use Rattle.geo_poly.specs.Inner.Keyed.{greatest_exponent};
+ghost use Rattle.geo_poly.specs.Inner.Limits.{AreBounds, AreGreatest, AreLimits};
+ghost use Rattle.geo_poly.specs.Inner.Limits.{HaveRoom, exponent_anywhere, exponents_of_rows};
+ghost use Rattle.geo_poly.specs.Monomials.{exponent};
+ghost use Rattle.geo_poly.specs.Replace.{others};
+ghost use Rattle.geo_poly.specs.Shared.{AreParts, told};
+ghost use Rattle.geo_poly.specs.Variables.{var_cmp};
+
+use crate::moving::find_place;
+use crate::replacement::{Piece, Row};
+use crate::row_table::RowTable;
+use crate::shared::Shared;
+use crate::variables::Var;
+use crate::words::Digits;
+use geo_points::NoMemory;
+use mono_store::MonoId;
+use std::alloc::Global;
+
+/// Words in which the product has room, where there are such.
+pub(crate) fn product_digits(
+    alloc: Global,
+    vars: &[Var],
+    p: &Shared,
+    q: &Shared,
+) -> Result<Option<Digits>, NoMemory>
+    requires rising { IsStrictlySortedBy var_cmp vars.now }
+    requires left { AreParts p.now }
+    requires right { AreParts q.now }
+    ensures { IfOk result (λ found. IfSome found (λ f. HaveRoom vars.now f
+        (λ v. greatest_exponent v (told p.now) + greatest_exponent v (told q.now)))) }
+{
+    let mut limits = no_limits(alloc, vars)?;
+    add_polynomial(alloc, &mut limits, vars, p, 1)?;
+    add_polynomial(alloc, &mut limits, vars, q, 1)?;
+    digits_for(alloc, vars, &limits)
+}
+
+/// Words in which the replacement has room, where there are such.
+pub(crate) fn replacement_digits(
+    alloc: Global,
+    vars: &[Var],
+    p: &Shared,
+    rows: &RowTable,
+    den: &Piece,
+    top: u32,
+) -> Result<Option<Digits>, NoMemory>
+    requires rising { IsStrictlySortedBy var_cmp vars.now }
+    requires parts { AreParts p.now }
+    ensures { IfOk result (λ found. IfSome found (λ f. HaveRoom vars.now f
+        (λ v. exponent_anywhere v rows.now den.now top (told p.now)))) }
+{
+    let mut limits = no_limits(alloc, vars)?;
+    let own = greatest_exponents(alloc, p)?;
+    let stay = without_rows(alloc, rows, &own)?;
+    add_exponents(&mut limits, vars, &stay, 1);
+    add_polynomial(alloc, &mut limits, vars, &den.poly.shared(), top.max(1))?;
+    add_rows(alloc, &mut limits, vars, rows.rows(), &own)?;
+    digits_for(alloc, vars, &limits)
+}
+
+/// Words in which exponents up to these limits have room, where there are such. A limit that is the
+/// greatest number says nothing.
+fn digits_for(alloc: Global, vars: &[Var], limits: &[u32]) -> Result<Option<Digits>, NoMemory>
+    ensures { (bound : Var → ℕ) → AreLimits vars.now bound limits.now
+        → IfOk result (λ found. IfSome found (λ f. HaveRoom vars.now f bound)) }
+{
+    let _ = vars;
+    if is_saturated(limits) {
+        return Ok(None);
+    }
+    Digits::new(alloc, limits)
+}
+
+/// Whether some number is the greatest one.
+fn is_saturated(numbers: &[u32]) -> bool
+    ensures { IsFalse result → (i : ℕ) → i < length numbers.now
+        → slice_index_or numbers.now i 0 < 2 ^ 32 - 1 }
+{
+    for number in numbers {
+        if *number == u32::MAX {
+            return true;
+        }
+    }
+    false
+}
+
+/// Limits of 0 for all variables.
+fn no_limits(alloc: Global, vars: &[Var]) -> Result<Vec<u32>, NoMemory>
+    ensures { IfOk result (λ limits. AreLimits vars.now (λ _. 0) limits.items) }
+{
+    let mut limits = Vec::new(alloc);
+    limits.resize(vars.len(), 0)?;
+    Ok(limits)
+}
+
+/// The greatest exponents in the links of a polynomial, each with its variable.
+fn greatest_exponents(alloc: Global, p: &Shared) -> Result<Vec<(Var, u32)>, NoMemory>
+    requires { AreParts p.now }
+    ensures { IfOk result (λ bounds. AreBounds (told p.now) bounds.items) }
+{
+    let numbered = numbered_exponents(alloc, p)?;
+    let mut bounds = Vec::with_capacity(alloc, p.vars.len())?;
+    for i in 0..p.vars.len() {
+        bounds.push((p.vars[i], numbered[i]))?;
+    }
+    Ok(bounds)
+}
+
+/// The greatest exponents in the links of a polynomial, by the numbers of the variables.
+fn numbered_exponents(alloc: Global, p: &Shared) -> Result<Vec<u32>, NoMemory>
+    ensures whole { IfOk result (λ numbers. length numbers.items ≡ length p.now.vars.now) }
+    ensures greatest { IfOk result (λ numbers. AreGreatest (count p.now.monos.now)
+        (length p.now.vars.now) p.now.monos.now numbers.items) }
+{
+    let mut greatest = no_limits(alloc, p.vars)?;
+    for k in 0..p.monos.links() {
+        raise_by(&mut greatest, p, MonoId(k + 1));
+    }
+    Ok(greatest)
+}
+
+/// Makes the number of the first variable of a monomial no less than its exponent.
+fn raise_by(numbers: &mut Vec<u32>, p: &Shared, id: MonoId)
+    requires index { id.0 < count p.now.monos.now }
+    requires whole { length numbers.old.items ≡ length p.now.vars.now }
+    requires seen { AreGreatest id.0 (length p.now.vars.now) p.now.monos.now numbers.old.items }
+    ensures whole { length numbers.new.items ≡ length p.now.vars.now }
+    ensures seen { AreGreatest (id.0 + 1) (length p.now.vars.now) p.now.monos.now
+        numbers.new.items }
+{
+    // every store says of itself that it is one
+    let _one = p.monos.one();
+    match p.monos.link(id) {
+        Some(link) => raise(numbers, link.var, link.exp),
+        None => {}
+    }
+}
+
+/// Makes the number at a place no less than that.
+fn raise(numbers: &mut Vec<u32>, place: u64, least: u32)
+    ensures whole { length numbers.new.items ≡ length numbers.old.items }
+    ensures place { place < length numbers.old.items
+        → least ≤ slice_index_or numbers.new.items place 0 }
+    ensures kept { (i : ℕ)
+        → slice_index_or numbers.old.items i 0 ≤ slice_index_or numbers.new.items i 0 }
+{
+    if place < numbers.len() as u64 && numbers[place as usize] < least {
+        numbers[place as usize] = least;
+    }
+}
+
+/// The exponents of the variables with no row.
+fn without_rows(
+    alloc: Global,
+    rows: &RowTable,
+    exponents: &[(Var, u32)],
+) -> Result<Vec<(Var, u32)>, NoMemory>
+    ensures { IfOk result (λ stay. stay.items ≡ others rows.now exponents.now) }
+{
+    let mut stay = Vec::with_capacity(alloc, exponents.len())?;
+    for i in 0..exponents.len() {
+        let (v, exponent) = exponents[i];
+        match rows.find_row(v, i as u64) {
+            Some(_) => {}
+            None => stay.push((v, exponent))?,
+        }
+    }
+    Ok(stay)
+}
+
+/// Adds exponents to the limits of their variables, each so many times.
+fn add_exponents(limits: &mut Vec<u32>, vars: &[Var], exponents: &[(Var, u32)], times: u32)
+    requires rising { IsStrictlySortedBy var_cmp vars.now }
+    ensures { (bound : Var → ℕ) → AreLimits vars.now bound limits.old.items
+        → AreLimits vars.now (λ v. bound v + exponent v exponents.now * times) limits.new.items }
+{
+    let mut guess = 0;
+    for power in exponents {
+        guess = add_exponent(limits, vars, *power, times, guess);
+    }
+}
+
+/// Adds an exponent to the limit of its variable, so many times, and answers where the next variable
+/// may stand.
+fn add_exponent(
+    limits: &mut Vec<u32>,
+    vars: &[Var],
+    power: (Var, u32),
+    times: u32,
+    guess: u64,
+) -> u64
+    requires rising { IsStrictlySortedBy var_cmp vars.now }
+    ensures { (bound : Var → ℕ) → AreLimits vars.now bound limits.old.items
+        → AreLimits vars.now (λ v. bound v + exponent v (power ∷ []) * times) limits.new.items }
+{
+    match find_place(vars, power.0, guess) {
+        Some(place) => {
+            add_at(limits, place, power.1.saturating_mul(times));
+            place.saturating_add(1)
+        }
+        None => guess,
+    }
+}
+
+/// Adds to the number at a place, up to the greatest number.
+fn add_at(numbers: &mut Vec<u32>, place: u64, more: u32)
+    ensures whole { length numbers.new.items ≡ length numbers.old.items }
+    ensures place { place < length numbers.old.items → slice_index_or numbers.new.items place 0
+        ≡ min (slice_index_or numbers.old.items place 0 + more) (2 ^ 32 - 1) }
+    ensures others { (i : ℕ) → i ≢ place
+        → slice_index_or numbers.new.items i 0 ≡ slice_index_or numbers.old.items i 0 }
+{
+    if place < numbers.len() as u64 {
+        let number = &mut numbers[place as usize];
+        *number = number.saturating_add(more);
+    }
+}
+
+/// Adds the greatest exponents of a polynomial to the limits, each so many times.
+fn add_polynomial(
+    alloc: Global,
+    limits: &mut Vec<u32>,
+    vars: &[Var],
+    p: &Shared,
+    times: u32,
+) -> Result<(), NoMemory>
+    requires rising { IsStrictlySortedBy var_cmp vars.now }
+    requires parts { AreParts p.now }
+    ensures { OnOk result ((bound : Var → ℕ) → AreLimits vars.now bound limits.old.items
+        → AreLimits vars.now (λ v. bound v + greatest_exponent v (told p.now) * times) limits.new.items) }
+{
+    let bounds = greatest_exponents(alloc, p)?;
+    add_exponents(limits, vars, &bounds, times);
+    Ok(())
+}
+
+/// Adds the greatest exponents of the numerators to the limits, each as often as the exponent of its
+/// row's variable says.
+fn add_rows(
+    alloc: Global,
+    limits: &mut Vec<u32>,
+    vars: &[Var],
+    rows: &[Row],
+    own: &[(Var, u32)],
+) -> Result<(), NoMemory>
+    requires rising { IsStrictlySortedBy var_cmp vars.now }
+    ensures { OnOk result ((bound : Var → ℕ) → AreLimits vars.now bound limits.old.items
+        → AreLimits vars.now (λ v. bound v + exponents_of_rows v rows.now own.now) limits.new.items) }
+{
+    for row in rows {
+        let times = exponent_in(own, row.var);
+        add_polynomial(alloc, limits, vars, &row.num.poly.shared(), times.max(1))?;
+    }
+    Ok(())
+}
+
+/// The exponent of a variable, or the greatest number where it passes that.
+fn exponent_in(exponents: &[(Var, u32)], v: Var) -> u32
+    ensures { result ≡ min (exponent v exponents.now) (2 ^ 32 - 1) }
+{
+    let mut total = 0u32;
+    for (w, exponent) in exponents {
+        if *w == v {
+            total = total.saturating_add(*exponent);
+        }
+    }
+    total
+}

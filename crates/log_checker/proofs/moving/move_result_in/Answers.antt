@@ -1,0 +1,12 @@
+use Rattle.std.proofs.Common.{length}
+use Rattle.log_checker.proofs.DueMoves.{nothing_past, points_named}
+use Rattle.log_checker.proofs.KeysInTurn.{false_not}
+use Rattle.log_checker.proofs.moving.move_result_in.Goals as goal
+
+pub returns-then-not-has_place-clause-refused : goal.returns-then-not-has_place-clause-refused
+returns-then-not-has_place-clause-refused g c = λ q.
+    nothing_past c.args.steps.now c.count.ensures.valid (length c.args.steps.now.steps) c.args.mv.now
+    (λ below. false_not (c.if-not-has_place.ensures.1 below)) c.args.before.now c.requires.named
+
+pub apply-requires-clause-points : goal.apply-requires-clause-points
+apply-requires-clause-points g c = points_named c.args.steps.now (length c.args.steps.now.steps) c.args.before.now c.requires.named
