@@ -17,7 +17,7 @@ use Rattle.sparse_lists.proofs.Merging.{get_or_any}
 use Rattle.sparse_lists.proofs.NaturalAmounts.{natural_order}
 use Rattle.mono_store.specs.Monomials.{Powers as NumberedPowers, exponent as numbered_exponent, exponents as numbered_exponents}
 use Rattle.mono_store.specs.declared.links.MonoId.{MonoId}
-use Rattle.mono_store.specs.Stores.{Links, count, monomial_of}
+use Rattle.mono_store.specs.Stores.{Store, count, monomial_of}
 use Rattle.mono_store.proofs.Numbers.{exponents_add as numbered_exponents_add, is_below}
 use Rattle.mono_store.proofs.Unfolding.{monomial_of-one}
 use Rattle.geo_poly.specs.declared.replacement.Piece.{Piece}
@@ -122,49 +122,49 @@ exponent-take v ps i within =
 
 -- NUMBERED EXPONENTS
 
-pub AreGreatest-none : (places : ℕ) (links : Links) (numbers : List ℕ) → AreGreatest 1 places links numbers
-AreGreatest-none places links numbers = record {
+pub AreGreatest-none : (places : ℕ) (store : Store) (numbers : List ℕ) → AreGreatest 1 places store numbers
+AreGreatest-none places store numbers = record {
   each = λ id within v known.
-      let none : monomial_of links id ≡ [] = monomial_of-one links id (omega (arith, within)) in
+      let none : monomial_of store id ≡ [] = monomial_of-one store id (omega (arith, within)) in
       omega (arith, ap (numbered_exponent v) none);
 }
 
 -- one more link, whose exponent is not above the number at the place of its variable
-pub AreGreatest-more : (n places : ℕ) (links : Links) (old new : List ℕ) (id next : MonoId) (var exp : ℕ) → id.0 ≡ n → next.0 < n
-    → monomial_of links id ≡ (var, exp) ∷ monomial_of links next → IsCanonical nat_cmp numbered_exponents (monomial_of links id)
+pub AreGreatest-more : (n places : ℕ) (store : Store) (old new : List ℕ) (id next : MonoId) (var exp : ℕ) → id.0 ≡ n → next.0 < n
+    → monomial_of store id ≡ (var, exp) ∷ monomial_of store next → IsCanonical nat_cmp numbered_exponents (monomial_of store id)
     → (var < places → exp ≤ slice_index_or new var 0) → ((v : ℕ) → slice_index_or old v 0 ≤ slice_index_or new v 0)
-    → AreGreatest n places links old → AreGreatest (n + 1) places links new
-AreGreatest-more n places links old new id next var exp is earlier parts in_order least kept h = record { each = each }
+    → AreGreatest n places store old → AreGreatest (n + 1) places store new
+AreGreatest-more n places store old new id next var exp is earlier parts in_order least kept h = record { each = each }
   where
-    whole : IsCanonical nat_cmp numbered_exponents ((var, exp) ∷ monomial_of links next)
+    whole : IsCanonical nat_cmp numbered_exponents ((var, exp) ∷ monomial_of store next)
     whole = subst (IsCanonical nat_cmp numbered_exponents) parts in_order
 
-    here : (v : ℕ) → v < places → (o : Ordering) → nat_cmp v var ≡ o → numbered_exponent v ((var, exp) ∷ monomial_of links next) ≤ slice_index_or new v 0
+    here : (v : ℕ) → v < places → (o : Ordering) → nat_cmp v var ≡ o → numbered_exponent v ((var, exp) ∷ monomial_of store next) ≤ slice_index_or new v 0
     here v known Less a =
-        let is : numbered_exponent v ((var, exp) ∷ monomial_of links next) ≡ 0 + numbered_exponent v (monomial_of links next) =
-        ap (λ (o : Ordering). cond (is_eq o) exp 0 + numbered_exponent v (monomial_of links next)) a in
+        let is : numbered_exponent v ((var, exp) ∷ monomial_of store next) ≡ 0 + numbered_exponent v (monomial_of store next) =
+        ap (λ (o : Ordering). cond (is_eq o) exp 0 + numbered_exponent v (monomial_of store next)) a in
         omega (arith, is, h.each next earlier v known, kept v)
     here v known Greater a =
-        let is : numbered_exponent v ((var, exp) ∷ monomial_of links next) ≡ 0 + numbered_exponent v (monomial_of links next) =
-        ap (λ (o : Ordering). cond (is_eq o) exp 0 + numbered_exponent v (monomial_of links next)) a in
+        let is : numbered_exponent v ((var, exp) ∷ monomial_of store next) ≡ 0 + numbered_exponent v (monomial_of store next) =
+        ap (λ (o : Ordering). cond (is_eq o) exp 0 + numbered_exponent v (monomial_of store next)) a in
         omega (arith, is, h.each next earlier v known, kept v)
     here v known Equal a =
         let same : v ≡ var = natural_order.exact v var a in
-        let is : numbered_exponent v ((var, exp) ∷ monomial_of links next) ≡ exp + numbered_exponent v (monomial_of links next) =
-        ap (λ (o : Ordering). cond (is_eq o) exp 0 + numbered_exponent v (monomial_of links next)) a in
-        let none : numbered_exponent v (monomial_of links next) ≡ 0 =
-        ap (λ (u : ℕ). numbered_exponent u (monomial_of links next)) same ∙ amount-before nat_cmp numbered_exponents natural_order numbered_exponents_add var (monomial_of links next) whole.1 in
+        let is : numbered_exponent v ((var, exp) ∷ monomial_of store next) ≡ exp + numbered_exponent v (monomial_of store next) =
+        ap (λ (o : Ordering). cond (is_eq o) exp 0 + numbered_exponent v (monomial_of store next)) a in
+        let none : numbered_exponent v (monomial_of store next) ≡ 0 =
+        ap (λ (u : ℕ). numbered_exponent u (monomial_of store next)) same ∙ amount-before nat_cmp numbered_exponents natural_order numbered_exponents_add var (monomial_of store next) whole.1 in
         let most : exp ≤ slice_index_or new v 0 =
         subst (λ (u : ℕ). exp ≤ slice_index_or new u 0) (sym same) (least (omega (arith, same, known))) in
         omega (arith, is, none, most)
 
-    each : (other : MonoId) → other.0 < n + 1 → (v : ℕ) → v < places → numbered_exponent v (monomial_of links other) ≤ slice_index_or new v 0
+    each : (other : MonoId) → other.0 < n + 1 → (v : ℕ) → v < places → numbered_exponent v (monomial_of store other) ≤ slice_index_or new v 0
     each other within v known =
         elim (cases_lt other.0 n) [
           | inl before ↦ omega (arith, h.each other before v known, kept v)
           | inr last ↦
               let same : other.0 ≡ id.0 = omega (arith, within, last, is) in
-              let equal : monomial_of links other ≡ (var, exp) ∷ (monomial_of links next) = ap (λ (k : ℕ). monomial_of links (record { 0 = k })) same ∙ parts in
+              let equal : monomial_of store other ≡ (var, exp) ∷ (monomial_of store next) = ap (λ (k : ℕ). monomial_of store (record { 0 = k })) same ∙ parts in
               omega (arith, ap (numbered_exponent v) equal, here v known (nat_cmp v var) refl)
         ]
 
@@ -211,31 +211,31 @@ module _ (vars : List Var) (rising : IsStrictlySortedBy var_cmp vars) where
       go Greater a rec = skip (ap (λ (o : Ordering). cond (is_eq o) p.1 0) a) rec
       go Equal a rec = inr (p.0, places.0, var_order.exact v (var_at vars p.0) a)
 
-  module _ (links : Links) (numbers : List ℕ) (bounds : Powers) (greatest : AreGreatest (count links) (length vars) links numbers)
+  module _ (store : Store) (numbers : List ℕ) (bounds : Powers) (greatest : AreGreatest (count store) (length vars) store numbers)
       (names : AreNamed vars numbers (length vars) bounds) where
-    monomial-bounded : (v : Var) (id : MonoId) → IsIndex vars links id → exponent v (powers_at vars links id) ≤ exponent v bounds
-    monomial-bounded v id is = go (place_or_none v (monomial_of links id) is.places)
+    monomial-bounded : (v : Var) (id : MonoId) → IsIndex vars store id → exponent v (powers_at vars store id) ≤ exponent v bounds
+    monomial-bounded v id is = go (place_or_none v (monomial_of store id) is.places)
       where
-        go : (exponent v (powers_at vars links id) ≡ 0) ⊎ ((j : ℕ) × (j < length vars) × (v ≡ var_at vars j))
-            → exponent v (powers_at vars links id) ≤ exponent v bounds
+        go : (exponent v (powers_at vars store id) ≡ 0) ⊎ ((j : ℕ) × (j < length vars) × (v ≡ var_at vars j))
+            → exponent v (powers_at vars store id) ≤ exponent v bounds
         go (inl none) = omega (arith, none)
         go (inr found) =
             let j = found.0 in
             let known = found.1 in
-            let here : exponent (var_at vars j) (powers_at vars links id) ≤ exponent (var_at vars j) bounds =
+            let here : exponent (var_at vars j) (powers_at vars store id) ≤ exponent (var_at vars j) bounds =
             omega (
               arith,
-              exponent-named vars rising j (monomial_of links id) known is.places,
+              exponent-named vars rising j (monomial_of store id) known is.places,
               greatest.each id is.within j known,
               names.each j known,
             ) in
-            subst (λ (w : Var). exponent w (powers_at vars links id) ≤ exponent w bounds) (sym found.2) here
+            subst (λ (w : Var). exponent w (powers_at vars store id) ≤ exponent w bounds) (sym found.2) here
 
-    terms-bounded : (v : Var) (list : Indices) → AllKeys (IsIndex vars links) list → greatest_exponent v (terms_of vars links list) ≤ exponent v bounds
+    terms-bounded : (v : Var) (list : Indices) → AllKeys (IsIndex vars store) list → greatest_exponent v (terms_of vars store list) ≤ exponent v bounds
     terms-bounded v [] h = omega arith
     terms-bounded v (t ∷ list) h = omega (arith, monomial-bounded v t.0 h.0, terms-bounded v list h.1)
 
-    pub AreBounds-named : (list : Indices) → AllKeys (IsIndex vars links) list → AreBounds (terms_of vars links list) bounds
+    pub AreBounds-named : (list : Indices) → AllKeys (IsIndex vars store) list → AreBounds (terms_of vars store list) bounds
     AreBounds-named list h = record { each = λ v. terms-bounded v list h }
 
 -- VARIABLES WITHOUT ROWS

@@ -71,13 +71,8 @@ pub mod MultipliedIn
 pub mod PendingTerms
 pub mod JoinedParts
 pub mod TermPlaces
-pub mod WordOrder
-pub mod WordDigits
-pub mod DigitLists
 pub mod Gradings
 pub mod WordKeys
 pub mod WordChains
 pub mod WordInstance
-pub mod FirstPowers
-pub mod UnpackedWords
 pub mod ExponentLimits

@@ -6,7 +6,7 @@ use Rattle.std.specs.List.{fold}
 use Rattle.sparse_lists.specs.SparseLists.{AllKeys}
 use Rattle.sparse_lists.proofs.Merging.{get_or_any}
 use Rattle.mono_store.specs.Monomials.{Powers as NumberedPowers}
-use Rattle.mono_store.specs.Stores.{Keeps, Links, monomial_of}
+use Rattle.mono_store.specs.Stores.{Keeps, Store, monomial_of}
 use Rattle.geo_poly.specs.declared.replacement.Row.{Row}
 use Rattle.geo_poly.specs.declared.variables.Var.{Var}
 use Rattle.geo_poly.specs.declared.variables.Var.TheVariants.{R}
@@ -38,9 +38,9 @@ known_powers vars [] h = tt
 known_powers vars (p ∷ m) h =
     ((p.0, h.0, get_or_any vars p.0 (var_at vars p.0) (R (record { 0 = 0 }) (record { 0 = 0 }) (record { 0 = 0 }) (record { 0 = 0 })) h.0), known_powers vars m h.1)
 
-pub known_variables : (vars : List Var) (links : Links) (list : Indices) → AllKeys (IsIndex vars links) list → AllVariables (Contains vars) (terms_of vars links list)
-known_variables vars links [] h = tt
-known_variables vars links (t ∷ list) h = (known_powers vars (monomial_of links t.0) h.0.places, known_variables vars links list h.1)
+pub known_variables : (vars : List Var) (store : Store) (list : Indices) → AllKeys (IsIndex vars store) list → AllVariables (Contains vars) (terms_of vars store list)
+known_variables vars store [] h = tt
+known_variables vars store (t ∷ list) h = (known_powers vars (monomial_of store t.0) h.0.places, known_variables vars store list h.1)
 
 -- the variables of a polynomial are in its list
 pub parts_known : (p : Shared) → AreParts p → AllVariables (Contains p.vars.now) (told p)
@@ -69,9 +69,9 @@ AllNumerators-longer old new [] more h = tt
 AllNumerators-longer old new (r ∷ rows) more h = (AllVariables-longer old new r.num.poly more h.0, AllNumerators-longer old new rows more h.1)
 
 -- the list of a polynomial, over a copy of its store that has grown
-module _ (p : Shared) (parts : AreParts p) (copy grown : Links) (same : copy ≡ p.monos.now) (kept : Keeps copy grown) where
+module _ (p : Shared) (parts : AreParts p) (copy grown : Store) (same : copy ≡ p.monos.now) (kept : Keeps copy grown) where
   own_kept : Keeps p.monos.now grown
-  own_kept = subst (λ (links : Links). Keeps links grown) same kept
+  own_kept = subst (λ (store : Store). Keeps store grown) same kept
 
   pub own_indices : AllKeys (IsIndex p.vars.now grown) p.list.now
   own_indices = indices-kept p.vars.now p.monos.now grown p.list.now own_kept parts.indices

@@ -15,12 +15,13 @@ use Rattle.mono_store.proofs.Products.{IsBefore-first}
 use Rattle.poly_arena.specs.Chains.{Pairs}
 use Rattle.poly_arena.specs.Orders.{IsFalling, coefficients, sum_of}
 use Rattle.geo_poly.specs.Inner.Keyed.{IsInReach, key_cmp}
-use Rattle.geo_poly.specs.Inner.Words.{FitsLimits, Limits, limit, powers_of_word, word, word_count, word_keys}
+use Rattle.mono_store.specs.Words.{FitsLimits, Limits, limit, powers_of_word, word, word_count}
+use Rattle.geo_poly.specs.Inner.Words.{word_keys}
 use Rattle.geo_poly.proofs.Naming.{canonical-rename}
-use Rattle.geo_poly.proofs.WordDigits.{FitsLimits-powers_of_word, FitsLimits-product, IsCanonical-powers_from, powers_of_word-word, word-below_all}
-use Rattle.geo_poly.proofs.WordDigits.{word-powers_of_word, word-product}
+use Rattle.mono_store.proofs.WordDigits.{FitsLimits-powers_of_word, FitsLimits-product, IsCanonical-powers_from, powers_of_word-word, word-below_all}
+use Rattle.mono_store.proofs.WordDigits.{word-powers_of_word, word-product}
 use Rattle.geo_poly.proofs.WordKeys.{monomial_cmp-powers_of_word, powers_of_word-add}
-use Rattle.geo_poly.proofs.WordOrder.{word-cons}
+use Rattle.mono_store.proofs.WordOrder.{word-cons}
 
 -- POWERS
 

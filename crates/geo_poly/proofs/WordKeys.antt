@@ -11,14 +11,14 @@ use Rattle.sparse_lists.proofs.NaturalAmounts.{natural_order}
 use Rattle.mono_store.specs.Monomials.{Powers as NumberedPowers, exponent as numbered_exponent, exponents, monomial_cmp, product}
 use Rattle.mono_store.proofs.Numbers.{below, exponents_add}
 use Rattle.geo_poly.specs.declared.variables.Var.{Var}
-use Rattle.geo_poly.specs.Inner.Words.{FitsLimits, Limits, limit, powers_of_word, word, word_count}
+use Rattle.mono_store.specs.Words.{FitsLimits, Limits, limit, powers_of_word, word, word_count}
 use Rattle.geo_poly.specs.Monomials.{exponent}
 use Rattle.geo_poly.specs.Shared.{AllPlaces, named, var_at}
 use Rattle.geo_poly.specs.Variables.{var_cmp}
 use Rattle.geo_poly.proofs.Naming.{var_at-keeps}
-use Rattle.geo_poly.proofs.WordDigits.{FitsLimits-powers_of_word, IsCanonical-powers_from, number-within, powers_of_word-word}
-use Rattle.geo_poly.proofs.WordDigits.{word-powers_of_word, word-product}
-use Rattle.geo_poly.proofs.WordOrder.{FitsLimits-rest, monomial_cmp-word}
+use Rattle.mono_store.proofs.WordDigits.{FitsLimits-powers_of_word, IsCanonical-powers_from, number-within, powers_of_word-word}
+use Rattle.mono_store.proofs.WordDigits.{word-powers_of_word, word-product}
+use Rattle.mono_store.proofs.WordOrder.{FitsLimits-rest, monomial_cmp-word}
 
 -- KEYS
 

@@ -19,7 +19,7 @@ use crate::replacement::{Piece, Row};
 use crate::row_table::RowTable;
 use crate::shared::Shared;
 use crate::variables::Var;
-use crate::words::Digits;
+use mono_store::Digits;
 use geo_points::NoMemory;
 use mono_store::MonoId;
 use std::alloc::Global;
@@ -101,7 +101,7 @@ fn no_limits(alloc: Global, vars: &[Var]) -> Result<Vec<u32>, NoMemory>
     Ok(limits)
 }
 
-/// The greatest exponents in the links of a polynomial, each with its variable.
+/// The greatest exponents of a polynomial, each with its variable.
 fn greatest_exponents(alloc: Global, p: &Shared) -> Result<Vec<(Var, u32)>, NoMemory>
     requires { AreParts p.now }
     ensures { IfOk result (λ bounds. AreBounds (told p.now) bounds.items) }
@@ -114,33 +114,34 @@ fn greatest_exponents(alloc: Global, p: &Shared) -> Result<Vec<(Var, u32)>, NoMe
     Ok(bounds)
 }
 
-/// The greatest exponents in the links of a polynomial, by the numbers of the variables.
+/// The greatest exponents of a polynomial, by the numbers of the variables.
 fn numbered_exponents(alloc: Global, p: &Shared) -> Result<Vec<u32>, NoMemory>
+    requires { AreParts p.now }
     ensures whole { IfOk result (λ numbers. length numbers.items ≡ length p.now.vars.now) }
-    ensures greatest { IfOk result (λ numbers. AreGreatest (count p.now.monos.now)
-        (length p.now.vars.now) p.now.monos.now numbers.items) }
+    ensures greatest { IfOk result (λ numbers. All (λ t. IsBelow p.now.vars.now t.0 numbers.items)
+        (told p.now)) }
 {
     let mut greatest = no_limits(alloc, p.vars)?;
-    for k in 0..p.monos.links() {
-        raise_by(&mut greatest, p, MonoId(k + 1));
+    for (id, _) in p.list {
+        raise_by(&mut greatest, p, *id);
     }
     Ok(greatest)
 }
 
-/// Makes the number of the first variable of a monomial no less than its exponent.
+/// Makes the numbers of the variables of a monomial no less than its exponents.
 fn raise_by(numbers: &mut Vec<u32>, p: &Shared, id: MonoId)
-    requires index { id.0 < count p.now.monos.now }
+    requires index { IsIndexOf p.now id }
+    requires monomial { IsMonomial (told_powers p.now id) }
     requires whole { length numbers.old.items ≡ length p.now.vars.now }
-    requires seen { AreGreatest id.0 (length p.now.vars.now) p.now.monos.now numbers.old.items }
     ensures whole { length numbers.new.items ≡ length p.now.vars.now }
-    ensures seen { AreGreatest (id.0 + 1) (length p.now.vars.now) p.now.monos.now
-        numbers.new.items }
+    ensures seen { IsBelow p.now.vars.now (told_powers p.now id) numbers.new.items }
+    ensures kept { (i : ℕ)
+        → slice_index_or numbers.old.items i 0 ≤ slice_index_or numbers.new.items i 0 }
 {
-    // every store says of itself that it is one
-    let _one = p.monos.one();
-    match p.monos.link(id) {
-        Some(link) => raise(numbers, link.var, link.exp),
-        None => {}
+    let mut rest = id;
+    while let Some(first) = p.first_power(rest) {
+        raise(numbers, first.number, first.exponent);
+        rest = first.rest;
     }
 }
 

@@ -25,9 +25,8 @@ use crate::reading::{count_powers, is_same, norm_at, power_at, terms_at, total_d
 use crate::shared::{Indexed, Shared};
 use crate::stored::Stored;
 use crate::terms::Term;
-use crate::unpacking::unpacked;
 use crate::variables::Var;
-use crate::words::Digits;
+use mono_store::Digits;
 use crate::zeros::keep_lacking;
 use geo_points::NoMemory;
 use mono_store::{MonoId, Monos};
@@ -252,25 +251,26 @@ impl Poly {
         Poly::compact(alloc, vars, monos, list)
     }
 
-    /// The polynomial that a chain of words stands for. The chain and its arena are spent.
+    /// The polynomial that a chain of words stands for, whose store has these words. The chain and its
+    /// arena are spent.
     pub(crate) fn from_words(
         alloc: Global,
         vars: Vars,
-        words: &Digits,
+        words: Digits,
         arena: Arena,
         chain: Chain,
     ) -> Result<Poly, NoMemory>
         requires rising { IsStrictlySortedBy var_cmp vars }
         requires live { IsLive arena chain }
-        requires keys { AllKeys (IsKeyUnder vars (word_keys words.now)) (pairs_of arena chain) }
+        requires keys { AllKeys (IsKeyUnder vars (word_keys words)) (pairs_of arena chain) }
         requires polynomial { IsPolynomial
-            (keyed_terms_under vars (word_keys words.now) (pairs_of arena chain)) }
+            (keyed_terms_under vars (word_keys words) (pairs_of arena chain)) }
         ensures { IfOk result
-            (λ p. p ≡ keyed_terms_under vars (word_keys words.now) (pairs_of arena chain)) }
+            (λ p. p ≡ keyed_terms_under vars (word_keys words) (pairs_of arena chain)) }
     {
         let pairs = arena.into_list(alloc, chain)?;
-        let mut monos = Monos::with_capacity(alloc, pairs.len() as u64)?;
-        let list = unpacked(alloc, words, &mut monos, vars.as_slice(), &pairs)?;
+        let list = indexed(alloc, &pairs)?;
+        let monos = Monos::of_words(alloc, words);
         Poly::compact(alloc, vars, monos, list)
     }
 

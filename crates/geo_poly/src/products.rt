@@ -27,7 +27,7 @@ use crate::polynomials::Poly;
 use crate::shared::{Indexed, Shared};
 use crate::ticks::Ticks;
 use crate::variables::Var;
-use crate::words::Digits;
+use mono_store::Digits;
 use geo_points::NoMemory;
 use mono_store::Monos;
 use poly_arena::{Arena, Chain};
@@ -195,7 +195,7 @@ fn packed_product<L: Ledger>(
     let names = vars.as_slice();
     let mut ticks = Ticks::<L>::new(blank);
     let chain = keyed_product(alloc, &mut words, &mut arena, names, p, q, &mut ticks)?;
-    Poly::from_words(alloc, vars, &words, arena, chain)
+    Poly::from_words(alloc, vars, words, arena, chain)
 }
 
 /// The chain of the product, which fits, under any keys that have room.

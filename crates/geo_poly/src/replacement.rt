@@ -31,7 +31,7 @@ use crate::row_table::RowTable;
 use crate::settings::{IndexList, Setting, StoredPiece};
 use crate::ticks::Ticks;
 use crate::variables::Var;
-use crate::words::Digits;
+use mono_store::Digits;
 use geo_points::NoMemory;
 use mono_store::Monos;
 use poly_arena::{Arena, Chain};
@@ -266,7 +266,7 @@ impl Poly {
         let chain = self.keyed_replacement(
             alloc, rows, den, top, names, &mut words, &mut arena, ticks,
         )?;
-        Poly::from_words(alloc, vars, &words, arena, chain)
+        Poly::from_words(alloc, vars, words, arena, chain)
     }
 
     /// The variables of all that the replacement is made of.

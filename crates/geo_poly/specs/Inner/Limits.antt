@@ -2,13 +2,13 @@
 use Rattle.std.specs.Prelude.{◌≡◌, ℕ, ◌+◌, ◌-◌, ◌*◌, ◌^◌, ◌<◌, ◌≤◌, max, min, List, [], ◌∷◌, length, slice_index_or}
 use Rattle.mono_store.specs.declared.links.MonoId.{MonoId}
 use Rattle.mono_store.specs.Monomials.{exponent as numbered_exponent}
-use Rattle.mono_store.specs.Stores.{Links, monomial_of}
+use Rattle.mono_store.specs.Stores.{Store, monomial_of}
 use Rattle.geo_poly.specs.declared.replacement.Piece.{Piece}
 use Rattle.geo_poly.specs.declared.replacement.Row.{Row}
 use Rattle.geo_poly.specs.declared.variables.Var.{Var}
 use Rattle.geo_poly.specs.Inner.Keyed.{greatest_exponent, greatest_of_rows}
 use Rattle.geo_poly.specs.Inner.ReplacedExponents.{exponent_bound}
-use Rattle.geo_poly.specs.Inner.Words.{Limits, limit}
+use Rattle.mono_store.specs.Words.{Limits, limit}
 use Rattle.geo_poly.specs.Monomials.{Powers, exponent}
 use Rattle.geo_poly.specs.Polynomials.{Summands}
 use Rattle.geo_poly.specs.Shared.{var_at}
@@ -18,8 +18,8 @@ pub record AreBounds (p : Summands) (bounds : Powers) : Type 0 where
   pub each : (v : Var) → greatest_exponent v p ≤ exponent v bounds
 
 -- no monomial of the store up to an index has a greater exponent than the number at the place of its variable
-pub record AreGreatest (count : ℕ) (places : ℕ) (links : Links) (numbers : List ℕ) : Type 0 where
-  pub each : (id : MonoId) → id.0 < count → (v : ℕ) → v < places → numbered_exponent v (monomial_of links id) ≤ slice_index_or numbers v 0
+pub record AreGreatest (count : ℕ) (places : ℕ) (store : Store) (numbers : List ℕ) : Type 0 where
+  pub each : (id : MonoId) → id.0 < count → (v : ℕ) → v < places → numbered_exponent v (monomial_of store id) ≤ slice_index_or numbers v 0
 
 -- the greatest exponents of the variable in the numerators, each as often as the exponent of its row's variable says, and at least once
 abbrev pub exponents_of_rows : Var → List Row → Powers → ℕ

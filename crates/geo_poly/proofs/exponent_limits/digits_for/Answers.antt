@@ -1,7 +1,7 @@
 use Rattle.std.proofs.Common.{sym, subst}
 use Rattle.std.proofs.lemmas.Result.{IfOk-weaker}
 use Rattle.geo_poly.specs.Inner.Limits.{HaveRoom}
-use Rattle.geo_poly.specs.Inner.Words.{Limits}
+use Rattle.mono_store.specs.Words.{Limits}
 use Rattle.geo_poly.proofs.ExponentLimits.{HaveRoom-limits, some_weaker}
 use Rattle.geo_poly.proofs.exponent_limits.digits_for.Goals as goal
 

@@ -1,5 +1,5 @@
 use Rattle.std.proofs.Common.{ℕ, ◌+◌, ◌<◌, sym, ap, subst, ◌∙◌, arith}
-use Rattle.geo_poly.specs.Inner.Words.{powers_of_word, word_count}
+use Rattle.mono_store.specs.Words.{powers_of_word, word_count}
 use Rattle.geo_poly.proofs.WordInstance.{power_before-below, power_before-powers}
 use Rattle.geo_poly.proofs.word_keys.DigitsMonomialKeys.power_before.Goals as goal
 
