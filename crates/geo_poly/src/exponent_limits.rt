@@ -76,7 +76,7 @@ fn digits_for(alloc: Global, vars: &[Var], limits: &[u32]) -> Result<Option<Digi
     if is_saturated(limits) {
         return Ok(None);
     }
-    Digits::new(alloc, limits)
+    Ok(Digits::new(alloc, limits)?)
 }
 
 /// Whether some number is the greatest one.
