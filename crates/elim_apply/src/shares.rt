@@ -8,13 +8,12 @@ ghost use Rattle.geo_poly.specs.declared.replacement.Row.{Row};
 ghost use Rattle.geo_poly.specs.Monomials.{Powers};
 ghost use Rattle.geo_poly.specs.Replace.{AllPowersSmall};
 ghost use Rattle.geo_poly.specs.Shared.{IsIndexOf, told_powers};
-ghost use Rattle.mono_store.specs.Stores.{count};
 
 use crate::known_rows::known_rows;
 use crate::numbered::NumberedRow;
 use fraction_poly::RowNumbers;
 use geo_points::NoMemory;
-use geo_poly::Shared;
+use geo_poly::{FirstPower, Shared};
 use mono_store::MonoId;
 use std::alloc::Global;
 
@@ -141,47 +140,48 @@ fn capped_power(base: u128, exponent: u32) -> u128
     }
 }
 
-/// The share of each monomial of the store, by its index. One with a variable that the polynomial
-/// lacks has any share.
+/// The shares of the monomials, term by term.
 pub(crate) fn shares_of(
     alloc: Global,
     rows: &[NumberedRow],
     p: &Shared,
 ) -> Result<Vec<Share>, NoMemory>
-    requires { AllPowersSmall (sketches rows.now) }
+    requires powers { AllPowersSmall (sketches rows.now) }
+    requires parts { AreParts p.now }
     ensures { IfOk result (λ shares. AreShares (sketches rows.now) p.now shares.items) }
 {
     let known = known_rows(alloc, rows, p.vars)?;
-    let links = p.monos.links();
-    let mut shares = Vec::with_capacity(alloc, (links as usize).saturating_add(1))?;
-    shares.push(Share::of_one())?;
-    for k in 0..links {
-        let share = next_share(p, &known, &shares, MonoId(k + 1));
-        shares.push(share)?;
+    let mut shares = Vec::with_capacity(alloc, p.list.len())?;
+    for (id, _) in p.list {
+        shares.push(share_of(p, &known, *id))?;
     }
     Ok(shares)
 }
 
-/// The share of the monomial at an index, where those before it have theirs.
-fn next_share(p: &Shared, known: &[Option<NumberedRow>], shares: &[Share], id: MonoId) -> Share
-    requires { id.0 < count p.now.monos.now }
+/// The share of the monomial at an index.
+fn share_of(p: &Shared, known: &[Option<NumberedRow>], id: MonoId) -> Share
+    requires index { IsIndexOf p.now id }
+    requires monomial { IsMonomial (told_powers p.now id) }
     ensures { (rows : List Row) → AllPowersSmall rows → AreKnown rows p.now.vars.now known.now
-        → HaveShares rows p.now shares.now → length shares.now ≡ id.0
-        → IsIndexOf p.now id → IsShareOf rows (told_powers p.now id) 1 result }
+        → IsShareOf rows (told_powers p.now id) 1 result }
 {
-    // every store says of itself that it is one
-    let _one = p.monos.one();
-    let Some(link) = p.monos.link(id) else {
-        return Share::of_one();
-    };
-    let Some(rest) = shares.get(link.next.0 as usize) else {
-        return Share::of_one();
-    };
-    let Some(known) = known.get(link.var as usize) else {
-        return Share::of_one();
-    };
-    match known {
-        Some(row) => rest.replacing(&row.numbers, link.exp),
-        None => rest.keeping(link.exp),
+    let mut share = Share::of_one();
+    let mut rest = id;
+    while let Some(first) = p.first_power(rest) {
+        share = with_power(share, known, &first);
+        rest = first.rest;
+    }
+    share
+}
+
+/// The share with one more power.
+fn with_power(share: Share, known: &[Option<NumberedRow>], first: &FirstPower) -> Share
+    ensures { (rows : List Row) (vars : List Var) → AreKnown rows vars known.now
+        → slice_get vars first.now.number ≡ Some first.now.var
+        → IsWithPower (row_of rows first.now.var) first.now.exponent share result }
+{
+    match known.get(first.number as usize) {
+        Some(Some(row)) => share.replacing(&row.numbers, first.exponent),
+        _ => share.keeping(first.exponent),
     }
 }

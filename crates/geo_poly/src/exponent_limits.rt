@@ -7,7 +7,7 @@ ghost use Rattle.std.specs.List.Sorted.{IsStrictlySortedBy};
 ghost use Rattle.mono_store.specs.Stores.{count};
 ghost use Rattle.geo_poly.specs.declared.variables.Var.{Var};
 ghost use Rattle.geo_poly.specs.Inner.Keyed.{greatest_exponent};
-ghost use Rattle.geo_poly.specs.Inner.Limits.{AreBounds, AreGreatest, AreLimits};
+ghost use Rattle.geo_poly.specs.Inner.Limits.{AreBounds, AreGreatest, AreLimits, IsBelow};
 ghost use Rattle.geo_poly.specs.Inner.Limits.{HaveRoom, exponent_anywhere, exponents_of_rows};
 ghost use Rattle.geo_poly.specs.Monomials.{exponent};
 ghost use Rattle.geo_poly.specs.Replace.{others};
@@ -19,9 +19,8 @@ use crate::replacement::{Piece, Row};
 use crate::row_table::RowTable;
 use crate::shared::Shared;
 use crate::variables::Var;
-use mono_store::Digits;
 use geo_points::NoMemory;
-use mono_store::MonoId;
+use mono_store::{Digits, MonoId};
 use std::alloc::Global;
 
 /// Words in which the product has room, where there are such.
@@ -118,8 +117,8 @@ fn greatest_exponents(alloc: Global, p: &Shared) -> Result<Vec<(Var, u32)>, NoMe
 fn numbered_exponents(alloc: Global, p: &Shared) -> Result<Vec<u32>, NoMemory>
     requires { AreParts p.now }
     ensures whole { IfOk result (λ numbers. length numbers.items ≡ length p.now.vars.now) }
-    ensures greatest { IfOk result (λ numbers. All (λ t. IsBelow p.now.vars.now t.0 numbers.items)
-        (told p.now)) }
+    ensures greatest { IfOk result
+        (λ numbers. AreGreatest p.now.vars.now numbers.items (told p.now)) }
 {
     let mut greatest = no_limits(alloc, p.vars)?;
     for (id, _) in p.list {
@@ -134,7 +133,7 @@ fn raise_by(numbers: &mut Vec<u32>, p: &Shared, id: MonoId)
     requires monomial { IsMonomial (told_powers p.now id) }
     requires whole { length numbers.old.items ≡ length p.now.vars.now }
     ensures whole { length numbers.new.items ≡ length p.now.vars.now }
-    ensures seen { IsBelow p.now.vars.now (told_powers p.now id) numbers.new.items }
+    ensures seen { IsBelow p.now.vars.now numbers.new.items (told_powers p.now id) }
     ensures kept { (i : ℕ)
         → slice_index_or numbers.old.items i 0 ≤ slice_index_or numbers.new.items i 0 }
 {

@@ -26,10 +26,9 @@ use crate::shared::{Indexed, Shared};
 use crate::stored::Stored;
 use crate::terms::Term;
 use crate::variables::Var;
-use mono_store::Digits;
 use crate::zeros::keep_lacking;
 use geo_points::NoMemory;
-use mono_store::{MonoId, Monos};
+use mono_store::{Digits, MonoId, Monos};
 use poly_arena::{Arena, Chain};
 use std::alloc::Global;
 use std::marker::Model;
@@ -377,19 +376,38 @@ fn is_stale(alloc: Global, p: &Shared) -> Result<bool, NoMemory> {
     Ok(used_numbers(alloc, p)? < p.vars.len() / 2)
 }
 
-/// How many of the variables some link of the store has.
+/// How many of the variables have a digit or a link in the store.
 fn used_numbers(alloc: Global, p: &Shared) -> Result<usize, NoMemory> {
     let mut used = Vec::new(alloc);
     used.resize(p.vars.len(), false)?;
+    let digits = marked_digits(&mut used, p);
+    Ok(digits.saturating_add(marked_links(&mut used, p)))
+}
+
+/// Marks the variables whose digits have room, and answers how many were not marked.
+fn marked_digits(used: &mut Vec<bool>, p: &Shared) -> usize {
+    let digits = p.monos.digits();
+    let mut count = 0usize;
+    for var in 0..p.vars.len() {
+        if digits.has_room(var as u64, 1) && !mark(used, var) {
+            count = count.saturating_add(1);
+        }
+    }
+    count
+}
+
+/// Marks the variables of the links, and answers how many were not marked.
+fn marked_links(used: &mut Vec<bool>, p: &Shared) -> usize {
+    let words = p.monos.words();
     let mut count = 0usize;
     // every store says of itself that it is one
     let _one = p.monos.one();
     for k in 0..p.monos.links() {
-        if let Some(link) = p.monos.link(MonoId(k + 1)) {
-            if !mark(&mut used, link.var as usize) {
+        if let Some(link) = p.monos.link(MonoId(words + k)) {
+            if !mark(used, link.var as usize) {
                 count = count.saturating_add(1);
             }
         }
     }
-    Ok(count)
+    count
 }

@@ -2,8 +2,8 @@
 
 use crate::monomial_keys::MonomialKeys;
 use crate::word_order::ByWord;
-use mono_store::Digits;
 use geo_points::NoMemory;
+use mono_store::Digits;
 use poly_arena::{Arena, Chain};
 
 impl MonomialKeys for Digits {

@@ -1,8 +1,5 @@
 -- Bounds of the exponents that products and replacements can have, which are known before anything is multiplied out.
 use Rattle.std.specs.Prelude.{◌≡◌, ℕ, ◌+◌, ◌-◌, ◌*◌, ◌^◌, ◌<◌, ◌≤◌, max, min, List, [], ◌∷◌, length, slice_index_or}
-use Rattle.mono_store.specs.declared.links.MonoId.{MonoId}
-use Rattle.mono_store.specs.Monomials.{exponent as numbered_exponent}
-use Rattle.mono_store.specs.Stores.{Store, monomial_of}
 use Rattle.geo_poly.specs.declared.replacement.Piece.{Piece}
 use Rattle.geo_poly.specs.declared.replacement.Row.{Row}
 use Rattle.geo_poly.specs.declared.variables.Var.{Var}
@@ -17,9 +14,13 @@ use Rattle.geo_poly.specs.Shared.{var_at}
 pub record AreBounds (p : Summands) (bounds : Powers) : Type 0 where
   pub each : (v : Var) → greatest_exponent v p ≤ exponent v bounds
 
--- no monomial of the store up to an index has a greater exponent than the number at the place of its variable
-pub record AreGreatest (count : ℕ) (places : ℕ) (store : Store) (numbers : List ℕ) : Type 0 where
-  pub each : (id : MonoId) → id.0 < count → (v : ℕ) → v < places → numbered_exponent v (monomial_of store id) ≤ slice_index_or numbers v 0
+-- no exponent of the monomial is above the number at the place of its variable
+pub record IsBelow (vars : List Var) (numbers : List ℕ) (m : Powers) : Type 0 where
+  pub each : (i : ℕ) → i < length vars → exponent (var_at vars i) m ≤ slice_index_or numbers i 0
+
+-- nor is one of the polynomial
+pub record AreGreatest (vars : List Var) (numbers : List ℕ) (p : Summands) : Type 0 where
+  pub each : (i : ℕ) → i < length vars → greatest_exponent (var_at vars i) p ≤ slice_index_or numbers i 0
 
 -- the greatest exponents of the variable in the numerators, each as often as the exponent of its row's variable says, and at least once
 abbrev pub exponents_of_rows : Var → List Row → Powers → ℕ
