@@ -73,6 +73,7 @@ pub mod JoinedParts
 pub mod TermPlaces
 pub mod Gradings
 pub mod WordKeys
+pub mod WordStores
 pub mod WordChains
 pub mod WordInstance
 pub mod ExponentLimits

@@ -26,8 +26,8 @@ use Rattle.geo_poly.proofs.Gradings.{exponent_grading, top_grade}
 use Rattle.geo_poly.proofs.Naming.{canonical-rename, cmp-named, places-product, product-named}
 use Rattle.geo_poly.proofs.PolynomialLaws.{unsigned_abs-add-le}
 use Rattle.mono_store.proofs.WordDigits.{FitsLimits-powers_of_word, IsCanonical-powers_from, word-below_all, word-powers_of_word}
-use Rattle.mono_store.proofs.WordDigits.{word-product}
-use Rattle.geo_poly.proofs.WordKeys.{AllPlaces-fits, FitsLimits-named, monomial_cmp-powers_of_word, powers_of_word-add}
+use Rattle.mono_store.proofs.WordDigits.{monomial_cmp-powers_of_word, word-product}
+use Rattle.geo_poly.proofs.WordKeys.{AllPlaces-fits, FitsLimits-named, powers_of_word-add}
 
 -- KEYS THAT STAND FOR MONOMIALS
 

@@ -4,14 +4,13 @@
 ghost use Rattle.std.specs.Prelude.{◌≡◌, ◌≢◌, ◌∷◌, [], ◌+◌, ◌*◌, ◌^◌, ◌<◌, ◌≤◌, max, min, ℕ, ◌-◌};
 ghost use Rattle.std.specs.Prelude.{IfOk, IfSome, IsFalse, OnOk, length, slice_index_or};
 ghost use Rattle.std.specs.List.Sorted.{IsStrictlySortedBy};
-ghost use Rattle.mono_store.specs.Stores.{count};
 ghost use Rattle.geo_poly.specs.declared.variables.Var.{Var};
 ghost use Rattle.geo_poly.specs.Inner.Keyed.{greatest_exponent};
 ghost use Rattle.geo_poly.specs.Inner.Limits.{AreBounds, AreGreatest, AreLimits, IsBelow};
 ghost use Rattle.geo_poly.specs.Inner.Limits.{HaveRoom, exponent_anywhere, exponents_of_rows};
-ghost use Rattle.geo_poly.specs.Monomials.{exponent};
+ghost use Rattle.geo_poly.specs.Monomials.{IsMonomial, exponent};
 ghost use Rattle.geo_poly.specs.Replace.{others};
-ghost use Rattle.geo_poly.specs.Shared.{AreParts, told};
+ghost use Rattle.geo_poly.specs.Shared.{AreParts, IsIndexOf, told, told_powers};
 ghost use Rattle.geo_poly.specs.Variables.{var_cmp};
 
 use crate::moving::find_place;
@@ -129,6 +128,7 @@ fn numbered_exponents(alloc: Global, p: &Shared) -> Result<Vec<u32>, NoMemory>
 
 /// Makes the numbers of the variables of a monomial no less than its exponents.
 fn raise_by(numbers: &mut Vec<u32>, p: &Shared, id: MonoId)
+    requires rising { IsStrictlySortedBy var_cmp p.now.vars.now }
     requires index { IsIndexOf p.now id }
     requires monomial { IsMonomial (told_powers p.now id) }
     requires whole { length numbers.old.items ≡ length p.now.vars.now }

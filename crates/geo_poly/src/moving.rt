@@ -94,8 +94,11 @@ fn reached_links(alloc: Global, p: &Shared) -> Result<Vec<bool>, NoMemory>
 {
     let mut reached = Vec::new(alloc);
     reached.resize(p.monos.links() as usize, false)?;
+    let words = p.monos.words();
     for (id, _) in p.list {
-        reach(&mut reached, p, *id);
+        if words <= id.0 {
+            reach(&mut reached, p, *id);
+        }
     }
     Ok(reached)
 }
@@ -106,14 +109,11 @@ fn reach(reached: &mut Vec<bool>, p: &Shared, id: MonoId)
 {
     let words = p.monos.words();
     let mut rest = id;
-    while words <= rest.0 {
-        if mark(reached, (rest.0 - words) as usize) {
+    while let Some(link) = p.monos.link(rest) {
+        if rest.0 < words || mark(reached, (rest.0 - words) as usize) {
             return;
         }
-        match p.monos.link(rest) {
-            Some(link) => rest = link.next,
-            None => return,
-        }
+        rest = link.next;
     }
 }
 
@@ -169,7 +169,8 @@ pub(crate) fn index_in<K: MonomialKeys>(
         ≡ others rows.now (told_powers p.now id)) }
     ensures kept { KeepsKeys (K.keys keys.old) (K.keys keys.new) }
 {
-    if let Some(new) = new_index(keys, vars, rows, p, &table.places, &table.links, id)? {
+    let found = new_index(keys, vars, rows, p, &table.places, &table.links, id)?;
+    if let Some(new) = found {
         return Ok(new);
     }
     let monomial = monomial_at(alloc, p, id)?;
@@ -219,13 +220,52 @@ fn moved_links<K: MonomialKeys>(
     let mut links = Vec::with_capacity(alloc, p.monos.links() as usize)?;
     for k in 0..p.monos.links() {
         let id = MonoId(words + k);
-        let new = match reached.get(k as usize) {
-            Some(true) => moved_monomial(keys, vars, rows, p, places, &links, id)?,
-            _ => None,
-        };
+        let new = moved_entry(
+            keys,
+            vars,
+            rows,
+            p,
+            places,
+            &links,
+            id,
+            is_marked(reached, k),
+        )?;
         links.push(new)?;
     }
     Ok(links)
+}
+
+/// Whether a number is marked.
+fn is_marked(reached: &[bool], number: u64) -> bool {
+    match reached.get(number as usize) {
+        Some(marked) => *marked,
+        None => false,
+    }
+}
+
+/// The key of what is left of a monomial that is reached, where the links before it have theirs.
+fn moved_entry<K: MonomialKeys>(
+    keys: &mut K,
+    vars: &[Var],
+    rows: &RowTable,
+    p: &Shared,
+    places: &[Option<u64>],
+    links: &[Option<MonoId>],
+    id: MonoId,
+    is_reached: bool,
+) -> Result<Option<MonoId>, NoMemory>
+    requires rising { IsStrictlySortedBy var_cmp vars.now }
+    requires parts { AreParts p.now }
+    requires places { ArePlaces p.now.vars.now vars.now places.now }
+    requires links { AreMovedLinks p.now rows.now vars.now (K.keys keys.old) links.now }
+    requires index { id.0 < count p.now.monos.now }
+    ensures moved { IfOk result (IsMovedTo p.now rows.now vars.now (K.keys keys.new) id) }
+    ensures kept { KeepsKeys (K.keys keys.old) (K.keys keys.new) }
+{
+    if !is_reached {
+        return Ok(None);
+    }
+    moved_monomial(keys, vars, rows, p, places, links, id)
 }
 
 /// The key of what is left of a monomial: that of a word by its digits, that of a link from the
@@ -251,7 +291,8 @@ fn new_index<K: MonomialKeys>(
     if id.0 < words {
         return moved_word(keys, vars, rows, p, places, id);
     }
-    Ok(entry_at(links, id.0 - words))
+    let entry = entry_at(links, id.0 - words);
+    Ok(entry)
 }
 
 /// The key of what is left of the monomial of a word, power by power.
@@ -274,7 +315,8 @@ fn moved_word<K: MonomialKeys>(
         Some(link) => link,
         None => return Ok(Some(MonoId(keys.one()))),
     };
-    match moved_word(keys, vars, rows, p, places, link.next)? {
+    let rest = moved_word(keys, vars, rows, p, places, link.next)?;
+    match rest {
         Some(next) => moved_power(keys, vars, rows, p, places, id, link, next),
         None => Ok(None),
     }
@@ -302,7 +344,8 @@ fn moved_monomial<K: MonomialKeys>(
         Some(link) => link,
         None => return Ok(Some(MonoId(keys.one()))),
     };
-    match new_index(keys, vars, rows, p, places, links, link.next)? {
+    let rest = new_index(keys, vars, rows, p, places, links, link.next)?;
+    match rest {
         Some(next) => moved_power(keys, vars, rows, p, places, id, link, next),
         None => Ok(None),
     }
