@@ -1,13 +1,14 @@
-//! What becomes of the monomials of a line, each from its rest.
+//! What becomes of the monomials of a line, power by power.
 //! A number past the greatest of its type is given as that.
 
-ghost use Rattle.std.specs.Prelude.{◌≡◌, ◌+◌, ◌-◌, ◌*◌, ◌^◌, ◌<◌, ◌≤◌, [], IfOk, List, length, min};
-ghost use Rattle.elim_apply.specs.Inner.Shares.{AreShares, HaveShares, IsShareOf};
+ghost use Rattle.std.specs.Prelude.{◌≡◌, ◌+◌, ◌-◌, ◌*◌, ◌^◌, ◌≤◌, [], IfOk, List, Some, min, slice_get};
+ghost use Rattle.elim_apply.specs.Inner.Shares.{AreShares, IsShareOf, IsWithPower};
 ghost use Rattle.elim_apply.specs.Inner.Sketches.{AreKnown, sketches};
 ghost use Rattle.geo_poly.specs.declared.replacement.Row.{Row};
-ghost use Rattle.geo_poly.specs.Monomials.{Powers};
-ghost use Rattle.geo_poly.specs.Replace.{AllPowersSmall};
-ghost use Rattle.geo_poly.specs.Shared.{IsIndexOf, told_powers};
+ghost use Rattle.geo_poly.specs.declared.variables.Var.{Var};
+ghost use Rattle.geo_poly.specs.Monomials.{IsMonomial, Powers};
+ghost use Rattle.geo_poly.specs.Replace.{AllPowersSmall, row_of};
+ghost use Rattle.geo_poly.specs.Shared.{AreParts, IsIndexOf, told_powers};
 
 use crate::known_rows::known_rows;
 use crate::numbered::NumberedRow;
@@ -180,8 +181,11 @@ fn with_power(share: Share, known: &[Option<NumberedRow>], first: &FirstPower) -
         → slice_get vars first.now.number ≡ Some first.now.var
         → IsWithPower (row_of rows first.now.var) first.now.exponent share result }
 {
-    match known.get(first.number as usize) {
-        Some(Some(row)) => share.replacing(&row.numbers, first.exponent),
-        _ => share.keeping(first.exponent),
+    let Some(entry) = known.get(first.number as usize) else {
+        return share.keeping(first.exponent);
+    };
+    match entry {
+        Some(row) => share.replacing(&row.numbers, first.exponent),
+        None => share.keeping(first.exponent),
     }
 }

@@ -1,17 +1,17 @@
 //! The charge, the weight and the degree of the line of a move, before anything is multiplied out.
 //! A number past `2^128 - 1` is given as `2^128 - 1`.
 
-ghost use Rattle.std.specs.Prelude.{◌≡◌, ◌+◌, ◌-◌, ◌*◌, ◌^◌, IfOk, List, length, min};
+ghost use Rattle.std.specs.Prelude.{◌≡◌, ◌+◌, ◌-◌, ◌*◌, ◌^◌, ◌<◌, IfOk, List, length, min};
 ghost use Rattle.std.specs.Prelude.{sum_by};
 ghost use Rattle.geo_logs.specs.Moves.{move_charge};
 ghost use Rattle.elim_apply.specs.Inner.Shares.{AreShares, HaveShares, IsShareOf};
 ghost use Rattle.elim_apply.specs.Inner.Sketches.{sketch, sketched_denominator, sketches};
 ghost use Rattle.elim_apply.specs.Inner.Sizes.{IsSizeOf};
 ghost use Rattle.geo_poly.specs.declared.replacement.Row.{Row};
-ghost use Rattle.geo_poly.specs.Polynomials.{IsPolynomial};
+ghost use Rattle.geo_poly.specs.Polynomials.{IsPolynomial, term_at};
 ghost use Rattle.geo_poly.specs.Replace.{AllPowersSmall, most_denominators};
 ghost use Rattle.geo_poly.specs.Replace.{replaced_degree, replaced_weight};
-ghost use Rattle.geo_poly.specs.Shared.{AreParts, IsIndexOf, told, told_powers};
+ghost use Rattle.geo_poly.specs.Shared.{AreParts, told};
 
 use crate::limits::LineSize;
 use crate::numbered::NumberedRow;
@@ -53,8 +53,7 @@ fn size_by_terms(rows: &[NumberedRow], den: RowNumbers, p: &Shared, shares: &[Sh
     let mut weight = 0u128;
     let mut degree = 0u128;
     for i in 0..p.list.len() {
-        let (_, coefficient) = p.list[i];
-        let share = share_at(p, shares, i).times(coefficient.unsigned_abs());
+        let share = share_at(p, shares, i).times(p.list[i].1.unsigned_abs());
         charge = charge.saturating_add(share.charge(den.kb, top));
         weight = weight.saturating_add(share.weight_over(den.wb, top));
         degree = degree.max(share.degree_over(den.gb, top));
@@ -96,7 +95,7 @@ fn most_denominators(p: &Shared, shares: &[Share]) -> u32
 fn share_at(p: &Shared, shares: &[Share], i: usize) -> Share
     requires shares { length shares.now ≡ length p.now.list.now }
     requires place { i < length p.now.list.now }
-    ensures { (rows : List Row) → AreShares rows p.now shares.now
+    ensures { (rows : List Row) → HaveShares rows p.now shares.now
         → IsShareOf rows (term_at (told p.now) i).0 1 result }
 {
     let _ = p;
