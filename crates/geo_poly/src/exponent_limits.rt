@@ -113,7 +113,7 @@ fn greatest_exponents(alloc: Global, p: &Shared) -> Result<Vec<(Var, u32)>, NoMe
 }
 
 /// The greatest exponents of a polynomial, by the numbers of the variables.
-fn numbered_exponents(alloc: Global, p: &Shared) -> Result<Vec<u32>, NoMemory>
+pub(crate) fn numbered_exponents(alloc: Global, p: &Shared) -> Result<Vec<u32>, NoMemory>
     requires { AreParts p.now }
     ensures whole { IfOk result (λ numbers. length numbers.items ≡ length p.now.vars.now) }
     ensures greatest { IfOk result
@@ -145,7 +145,7 @@ fn raise_by(numbers: &mut Vec<u32>, p: &Shared, id: MonoId)
 }
 
 /// Makes the number at a place no less than that.
-fn raise(numbers: &mut Vec<u32>, place: u64, least: u32)
+pub(crate) fn raise(numbers: &mut Vec<u32>, place: u64, least: u32)
     ensures whole { length numbers.new.items ≡ length numbers.old.items }
     ensures place { place < length numbers.old.items
         → least ≤ slice_index_or numbers.new.items place 0 }

@@ -22,6 +22,7 @@ use crate::lists::Vars;
 use crate::moving::{find_place, moved};
 use crate::polynomial_variables::{mark, variables_at, variables_of_terms};
 use crate::reading::{count_powers, is_same, norm_at, power_at, terms_at, total_degree_at};
+use crate::roomy_stores::{store_for, store_for_terms};
 use crate::shared::{Indexed, Shared};
 use crate::stored::Stored;
 use crate::terms::Term;
@@ -207,13 +208,13 @@ impl Poly {
         Poly::carried(alloc, &part)
     }
 
-    /// The polynomial of a list, over a new store with the links that it reaches.
+    /// The polynomial of a list, over a new store of its own monomials.
     fn carried(alloc: Global, p: &Shared) -> Result<Poly, NoMemory>
         requires { AreParts p.now }
         ensures { IfOk result (λ q. q ≡ told p.now) }
     {
         let vars = variables_at(alloc, p)?;
-        let mut monos = Monos::with_capacity(alloc, p.list.len() as u64)?;
+        let mut monos = store_for(alloc, &vars, p)?;
         let list = moved(alloc, &mut monos, vars.as_slice(), p)?;
         let stored = Stored { vars, monos, list };
         Ok(Poly { stored })
@@ -225,7 +226,7 @@ impl Poly {
         ensures { IfOk result (λ p. p ≡ terms.now) }
     {
         let vars = variables_of_terms(alloc, terms)?;
-        let mut monos = Monos::with_capacity(alloc, terms.len() as u64)?;
+        let mut monos = store_for_terms(alloc, &vars, terms)?;
         let list = stored_terms(alloc, &mut monos, vars.as_slice(), terms)?;
         let stored = Stored { vars, monos, list };
         Ok(Poly { stored })

@@ -14,6 +14,7 @@ use crate::lists::Vars;
 use crate::moving::moved;
 use crate::polynomial_variables::{has_all, union};
 use crate::polynomials::Poly;
+use crate::roomy_stores::store_for_both;
 use crate::shared::{Indexed, Shared};
 use crate::terms::{Term, append_copies, copy_term};
 use crate::variables::Var;
@@ -65,7 +66,7 @@ fn sum(alloc: Global, p: &Shared, q: &Shared) -> Result<Poly, NoMemory>
         return sum_over(alloc, q, p);
     }
     let vars = union(alloc, p.vars, q.vars)?;
-    let mut monos = Monos::with_capacity(alloc, links_of_both(p, q))?;
+    let mut monos = store_for_both(alloc, &vars, p, q)?;
     let list = sum_list(alloc, &mut monos, vars.as_slice(), p, q)?;
     Poly::compact(alloc, vars, monos, list)
 }
@@ -84,11 +85,6 @@ fn difference(alloc: Global, p: &Shared, q: &Shared) -> Result<Poly, NoMemory>
         list: opposite.as_slice(),
     };
     sum(alloc, p, &negated)
-}
-
-/// Room for the links of both. Nothing rests on it but time.
-fn links_of_both(p: &Shared, q: &Shared) -> u64 {
-    p.monos.links().saturating_add(q.monos.links())
 }
 
 /// The sum, over a copy of the store of the first, which has the variables of both.
