@@ -5,7 +5,7 @@ use Rattle.geo_poly.specs.declared.variables.Var.{Var}
 use Rattle.geo_poly.specs.Polynomials.{Summands}
 use Rattle.geo_poly.specs.Shared.{Indices, IsShared, terms_of}
 
--- the variables, and the links of the store
+-- the variables, and the store
 pub record RingValue : Type 0 where
   pub vars : List Var
   pub store : Store
