@@ -1,5 +1,5 @@
-use Rattle.std.proofs.Common.{ℕ, ◌+◌, ◌<◌, ◌≤◌, sym, ap, subst, ◌∙◌, arith}
-use Rattle.mono_store.specs.Words.{limit, powers_of_word, word_count}
+use Rattle.std.proofs.Common.{ℕ, ◌+◌, ◌<◌, sym, ap, subst, ◌∙◌, arith}
+use Rattle.mono_store.specs.Words.{powers_of_word, word_count}
 use Rattle.mono_store.proofs.WordPowers.{power_before-below, power_before-powers}
 use Rattle.mono_store.proofs.words.Digits.word_before.Goals as goal
 
