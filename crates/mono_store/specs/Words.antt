@@ -1,4 +1,5 @@
--- Monomials in numbered variables as words: numbers in a mixed radix, whose digits are the exponents, that of the first variable the highest.
+-- Monomials in numbered variables as words: numbers in a mixed radix, whose digits are the exponents, that of the first variable the
+-- highest.
 use Rattle.std.specs.Prelude.{◌≡◌, ℕ, ◌+◌, ◌*◌, ◌/◌, ◌%◌, ◌^◌, ◌≤◌, List, [], ◌∷◌, drop, map, sum, sum_by, slice_index_or}
 use Rattle.sparse_lists.specs.SparseLists.{put}
 use Rattle.mono_store.specs.Monomials.{Powers, exponent, exponents}

@@ -82,11 +82,7 @@ pub fn interned(
 }
 
 /// The index of a link that no word has.
-fn linked(
-    digits: &Digits,
-    links: &mut IndexSet<Link>,
-    link: Link,
-) -> Result<MonoId, NoMemory>
+fn linked(digits: &Digits, links: &mut IndexSet<Link>, link: Link) -> Result<MonoId, NoMemory>
     requires store { IsStore (store_of digits.now links.old.keys) }
     requires next { link.next.0 < count (store_of digits.now links.old.keys) }
     requires exponent { 1 ≤ link.exp }

@@ -121,25 +121,37 @@ fn is_so(pair: &Pair, order: Ordering, product: &[(u64, u32)]) -> bool {
 fn monomials_in_one_store(rt: HostRuntime) -> Result<(), Fail> {
     let alloc = rt.alloc();
     // x0 x2^3 and x1^2 x2^4
-    assert!(rt; are_so(
-        alloc,
-        &[(0, 1), (2, 3)],
-        &[(1, 2), (2, 4)],
-        Ordering::Greater,
-        &[(0, 1), (1, 2), (2, 7)],
-    )?);
+    assert!(rt;
+        are_so(
+            alloc,
+            &[(0, 1), (2, 3)],
+            &[(1, 2), (2, 4)],
+            Ordering::Greater,
+            &[(0, 1), (1, 2), (2, 7)],
+        )?
+    );
     // x0 x1 and x0^2
-    assert!(rt; are_so(alloc, &[(0, 1), (1, 1)], &[(0, 2)], Ordering::Less, &[(0, 3), (1, 1)])?);
+    assert!(rt;
+        are_so(
+            alloc,
+            &[(0, 1), (1, 1)],
+            &[(0, 2)],
+            Ordering::Less,
+            &[(0, 3), (1, 1)]
+        )?
+    );
     // x5 and 1
     assert!(rt; are_so(alloc, &[(5, 1)], &[], Ordering::Greater, &[(5, 1)])?);
     // x1^2 x3, twice
-    assert!(rt; are_so(
-        alloc,
-        &[(1, 2), (3, 1)],
-        &[(1, 2), (3, 1)],
-        Ordering::Equal,
-        &[(1, 4), (3, 2)],
-    )?);
+    assert!(rt;
+        are_so(
+            alloc,
+            &[(1, 2), (3, 1)],
+            &[(1, 2), (3, 1)],
+            Ordering::Equal,
+            &[(1, 4), (3, 2)],
+        )?
+    );
     Ok(())
 }
 
@@ -147,15 +159,25 @@ fn monomials_in_one_store(rt: HostRuntime) -> Result<(), Fail> {
 fn monomials_within_limits(rt: HostRuntime) -> Result<(), Fail> {
     let alloc = rt.alloc();
     // x0 x2 and x2^2
-    assert!(rt; are_so(alloc, &[(0, 1), (2, 1)], &[(2, 2)], Ordering::Greater, &[(0, 1), (2, 3)])?);
+    assert!(rt;
+        are_so(
+            alloc,
+            &[(0, 1), (2, 1)],
+            &[(2, 2)],
+            Ordering::Greater,
+            &[(0, 1), (2, 3)]
+        )?
+    );
     // x0^2 x2^3, twice
-    assert!(rt; are_so(
-        alloc,
-        &[(0, 2), (2, 3)],
-        &[(0, 2), (2, 3)],
-        Ordering::Equal,
-        &[(0, 4), (2, 6)],
-    )?);
+    assert!(rt;
+        are_so(
+            alloc,
+            &[(0, 2), (2, 3)],
+            &[(0, 2), (2, 3)],
+            Ordering::Equal,
+            &[(0, 4), (2, 6)],
+        )?
+    );
     // x2^3 and x2^4
     assert!(rt; are_so(alloc, &[(2, 3)], &[(2, 4)], Ordering::Less, &[(2, 7)])?);
     Ok(())

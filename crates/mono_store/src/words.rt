@@ -1,6 +1,6 @@
 //! Monomials as words of 64 bits: numbers in a mixed radix, whose digits are the exponents.
 
-ghost use Rattle.std.specs.Prelude.{◌≡◌, ◌⊎◌, ◌↔◌, ◌+◌, ◌^◌, ◌<◌, ◌≤◌, ◌∷◌, [], min};
+ghost use Rattle.std.specs.Prelude.{◌≡◌, ◌⊎◌, ◌↔◌, ◌+◌, ◌-◌, ◌^◌, ◌<◌, ◌≤◌, ◌∷◌, [], min};
 ghost use Rattle.std.specs.Prelude.{IfNone, IfOk, IfSome, IsTrue, length, sum};
 ghost use Rattle.mono_store.specs.Monomials.{ComesFirst};
 ghost use Rattle.mono_store.specs.Words.{count_from, digits_of, limit, powers_of_word};

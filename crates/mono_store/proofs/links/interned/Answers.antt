@@ -1,4 +1,4 @@
-use Rattle.std.proofs.Common.{◌∷◌, subst}
+use Rattle.std.proofs.Common.{subst}
 use Rattle.mono_store.specs.Monomials.{ComesFirst}
 use Rattle.mono_store.specs.Stores.{store_of}
 use Rattle.mono_store.proofs.Interning.{Keeps_self}

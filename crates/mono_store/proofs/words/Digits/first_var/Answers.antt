@@ -1,4 +1,3 @@
-use Rattle.std.proofs.Common.{◌<◌, length, arith}
 use Rattle.mono_store.proofs.FirstPowers.{above-known}
 use Rattle.mono_store.proofs.words.Digits.first_var.Goals as goal
 
