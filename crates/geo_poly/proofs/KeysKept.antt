@@ -24,8 +24,8 @@ KeepsKeys-trans a b c h g = record {
 pub keeps_keys : (old new : Store) → Keeps old new → KeepsKeys (store_keys old) (store_keys new)
 keeps_keys old new h = record { longer = omega (arith, h.longer); powers = λ k within. h.monomials (record { 0 = k }) within; limits = refl }
 
-pub keeps_links : (old new : Store) → KeepsKeys (store_keys old) (store_keys new) → Keeps old new
-keeps_links old new h = record { longer = omega (arith, h.longer); monomials = λ id within. h.powers id.0 within }
+pub keeps_store : (old new : Store) → KeepsKeys (store_keys old) (store_keys new) → Keeps old new
+keeps_store old new h = record { longer = omega (arith, h.longer); monomials = λ id within. h.powers id.0 within }
 
 pub IsKeyUnder-kept : (vars : List Var) (old new : Keys) (k : ℕ) → KeepsKeys old new → IsKeyUnder vars old k → IsKeyUnder vars new k
 IsKeyUnder-kept vars old new k h is = record {

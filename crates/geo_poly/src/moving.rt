@@ -48,7 +48,7 @@ impl Drop for MovedMonomials {
 }
 
 /// The indices of the monomials in another store, with their coefficients.
-#[tactic(auto, using(crate::proofs::KeysKept::keeps_links))]
+#[tactic(auto, using(crate::proofs::KeysKept::keeps_store))]
 pub(crate) fn moved(
     alloc: Global,
     store: &mut Monos,

@@ -101,7 +101,7 @@ impl Poly {
     }
 
     /// The chain of the product, which fits; its products of monomials are counted for nobody.
-    #[tactic(auto, using(crate::proofs::KeysKept::keeps_links))]
+    #[tactic(auto, using(crate::proofs::KeysKept::keeps_store))]
     fn chained_product<L: Ledger>(
         &self,
         alloc: Global,
@@ -300,7 +300,7 @@ pub(crate) fn product_list<L: Ledger>(
 }
 
 /// The list of the product, by chains of an arena.
-#[tactic(auto, using(crate::proofs::KeysKept::keeps_links))]
+#[tactic(auto, using(crate::proofs::KeysKept::keeps_store))]
 fn merged_product<L: Ledger>(
     alloc: Global,
     store: &mut Monos,

@@ -285,7 +285,7 @@ impl Poly {
     }
 
     /// The chain of the replacement, which fits.
-    #[tactic(auto, using(crate::proofs::KeysKept::keeps_links))]
+    #[tactic(auto, using(crate::proofs::KeysKept::keeps_store))]
     fn chained_replacement<L: Ledger>(
         &self,
         alloc: Global,
