@@ -14,6 +14,7 @@ use Rattle.mono_store.specs.Stores.{IsStore, count, monomial_of, words}
 use Rattle.mono_store.proofs.Numbers.{exponents_add as numbered_add}
 use Rattle.mono_store.proofs.Products.{IsPowerBefore}
 use Rattle.mono_store.proofs.Unfolding.{monomial_of-one}
+use Rattle.mono_store.proofs.WordOrder.{word_count-some}
 use Rattle.geo_poly.specs.declared.replacement.Row.{Row}
 use Rattle.geo_poly.specs.declared.shared.Shared.{Shared}
 use Rattle.geo_poly.specs.declared.variables.Var.{Var}
@@ -74,7 +75,7 @@ one_is_moved p rows vars keys id new first some e f =
     let old_is = monomial_of-one p.monos.now id e in
     let new_is : keys.powers new.0 ≡ [] = ap keys.powers f ∙ first in
     record {
-      old_index = record { within = omega (arith, e); places = subst (AllPlaces (length p.vars.now)) (sym old_is) tt };
+      old_index = record { within = omega (arith, e, word_count-some p.monos.now.limits); places = subst (AllPlaces (length p.vars.now)) (sym old_is) tt };
       new_index = record { within = omega (arith, f, some); places = subst (AllPlaces (length vars)) (sym new_is) tt };
       powers = ap (named vars) new_is ∙ ap (λ (m : NumberedPowers). others rows (named p.vars.now m)) (sym old_is);
     }
