@@ -26,9 +26,9 @@ one_first : (vars : List Var) (store : Store) (id : MonoId) → id.0 ≡ 0 → p
 one_first vars store id e = ap (named vars) (monomial_of-one store id e)
 
 first_one : (vars : List Var) (store : Store) (id : MonoId) → IsStore store → IsIndex vars store id → powers_at vars store id ≡ [] → id.0 ≡ 0
-first_one vars store id store index e =
+first_one vars store id is index e =
     ap (λ (i : MonoId). i.0)
-    (equal_indices store id (record { 0 = 0 }) store index.within (omega (arith, word_count-some store.limits)) (unnamed vars _ e ∙ sym (monomial_of-one store (record { 0 = 0 }) refl)))
+    (equal_indices store id (record { 0 = 0 }) is index.within (omega (arith, word_count-some store.limits)) (unnamed vars _ e ∙ sym (monomial_of-one store (record { 0 = 0 }) refl)))
 
 module _ (s : Stored) (list : Indices) (i : ℕ) (same : list ≡ s.list.items) (within : i < length (stored_terms s)) where
   listed : i < length s.list.items
