@@ -1,4 +1,4 @@
-use Rattle.std.proofs.Common.{◌≡◌, ℕ, ℤ, List, [], ◌∷◌, ◌++◌, map, take, sym, ap, subst, ◌∙◌}
+use Rattle.std.proofs.Common.{rules, ◌≡◌, ℕ, zero, suc, Bool, true, false, true≢false, get_or, replicate, refl, ℤ, List, [], ◌∷◌, ◌++◌, map, take, sym, ap, subst, ◌∙◌}
 use Rattle.std.specs.BTreeSet.{insert_key}
 use Rattle.std.specs.List.{flat_map, fold}
 use Rattle.std.specs.List.Sorted.{IsStrictlySortedBy}
@@ -45,3 +45,27 @@ loop-id-preserved c =
 pub insert_powers-requires-clause-rising : goal.insert_powers-requires-clause-rising
 insert_powers-requires-clause-rising c =
     subst (λ (vs : List Var). IsStrictlySortedBy var_cmp vs) (sym c.loop-id.invariant.variables) (variables_in_order (take c.loop-id.id-index (told c.args.p.now)))
+
+-- where nothing was marked yet
+all_false : (n k : ℕ) → get_or (replicate n false) k false ≡ false
+all_false zero k = refl
+all_false (suc n) zero = refl
+all_false (suc n) (suc k) = all_false n k
+
+none_marked : (old : List Bool) (n m k : ℕ) → old ≡ [] → get_or (take n old ++ replicate m false) k false ≡ false
+none_marked old n m k e = subst (λ (xs : List Bool). get_or (take n xs ++ replicate m false) k false ≡ false) (sym e) (go n)
+  where
+    go : (n : ℕ) → get_or (take n [] ++ replicate m false) k false ≡ false
+    go zero = all_false m k
+    go (suc n) = all_false m k
+
+pub loop-id-init : goal.loop-id-init
+loop-id-init c = record {
+  variables = search rules;
+  visited = λ k e.
+      absurd (true≢false (sym e ∙ ap (λ (xs : List Bool). get_or xs k false) c.in_ok-resize.ensures.items
+      ∙ none_marked c.new-visited.result.items _ _ k c.new-visited.ensures.items));
+  known = λ k e.
+      absurd (true≢false (sym e ∙ ap (λ (xs : List Bool). get_or xs k false) c.in_ok-resize-2.ensures.items
+      ∙ none_marked c.new-known.result.items _ _ k c.new-known.ensures.items));
+}
