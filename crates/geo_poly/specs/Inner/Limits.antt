@@ -35,7 +35,7 @@ pub record AreLimits (vars : List Var) (bound : Var → ℕ) (limits : List ℕ)
   pub whole : length limits ≡ length vars
   pub each : (i : ℕ) → i < length vars → min (bound (var_at vars i)) (2 ^ 32 - 1) ≤ slice_index_or limits i 0
 
--- the field of each variable has room for its bound
+-- the digit of each variable has room for its bound
 pub record HaveRoom (vars : List Var) (limits : Limits) (bound : Var → ℕ) : Type 0 where
   pub whole : length limits ≡ length vars
   pub each : (i : ℕ) → i < length vars → bound (var_at vars i) ≤ limit limits i
