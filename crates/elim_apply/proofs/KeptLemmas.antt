@@ -47,14 +47,6 @@ module _ (c : Construction) (kept : KeptRow) (k : IsKept c kept) where
   pub its_row : (move : Move) (v : Var) (o : Option Row) → kept.mv ≡ move → kept.var ≡ v → lemma_table.row c move v ≡ o → lemma_table.row c kept.mv kept.var ≡ o
   its_row move v o m e h = ap₂ (λ (m : Move) (v : Var). lemma_table.row c m v) m e ∙ h
 
-  pub its_fit : (move : Move) (v : Var) → kept.mv ≡ move → kept.var ≡ v → IsSomeAnd (row_of_move c move v) RowFits → IsSomeAnd (row_of_move c kept.mv kept.var) RowFits
-  its_fit move v m e = subst (λ (o : Option TableRow). IsSomeAnd o RowFits) (sym (ap₂ (row_of_move c) m e))
-
-  pub its_numbers : (move : Move) (v : Var) → kept.mv ≡ move → kept.var ≡ v → Some kept.numbers ≡ option_map row_numbers (row_of_move c move v)
-  its_numbers move v m e =
-      ap (λ (n : RowNumbers). let o : Option RowNumbers = Some n in o) k.numbers ∙ sym (ap (option_map row_numbers) k.row)
-      ∙ ap₂ (λ (m : Move) (v : Var). option_map row_numbers (row_of_move c m v)) m e
-
 -- a row that is drafted
 module _ (c : Construction) (move : Move) (v : Var) (o : Option RowDraft) (is : option_map (row_of_draft c.nodes) o ≡ row_of_move c move v) where
   pub drafted : (draft : RowDraft) → o ≡ Some draft → row_of_move c move v ≡ Some (row_of_draft c.nodes draft)
@@ -68,6 +60,3 @@ module _ (c : Construction) (move : Move) (v : Var) (o : Option RowDraft) (is : 
   pub drafted_kept : (draft : RowDraft) → o ≡ Some draft → HasItsNumbers c.nodes draft → (n : RowNumbers) → n ≡ row_numbers (row_of_draft c.nodes draft)
       → IsKept c (record { mv = move; var = v; draft = draft; numbers = n; made = None; den = None })
   drafted_kept draft e stored n h = record { row = drafted draft e; stored = stored; numbers = h; made = tt; den = tt }
-
-  pub undrafted : o ≡ None → option_map row_numbers (row_of_move c move v) ≡ None
-  undrafted e = ap (option_map row_numbers) (sym is ∙ ap (option_map (row_of_draft c.nodes)) e)

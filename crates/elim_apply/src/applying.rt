@@ -1,7 +1,7 @@
 //! A move on a polynomial.
 
 ghost use Rattle.std.specs.Prelude.{◌≡◌, ◌≢◌, ◌+◌, ◌-◌, ◌^◌, ◌<◌, ◌≤◌, ◌⊎◌, [], IfNone, IfOk, IfSome};
-ghost use Rattle.std.specs.Prelude.{All, IsErrOf, OnOk, length, map};
+ghost use Rattle.std.specs.Prelude.{IsErrOf, OnOk, length};
 ghost use Rattle.std.specs.List.{filter_map};
 ghost use Rattle.elim_apply.specs.LemmaTable.{lemma_table};
 ghost use Rattle.geo_logs.specs.Moves.{IsMoved, IsMoveStopped, move_charge, place_of, replacement};
