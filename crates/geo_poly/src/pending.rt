@@ -1,6 +1,6 @@
 //! Terms of a polynomial that are to be replaced, with the factors that each is to get.
 
-ghost use Rattle.std.specs.Prelude.{◌≡◌, ◌+◌, ◌-◌, ◌<◌, ◌≤◌, ◌++◌, Contains, IfOk, OnOk};
+ghost use Rattle.std.specs.Prelude.{◌≡◌, ◌+◌, ◌-◌, ◌<◌, ◌++◌, Contains, IfOk, OnOk};
 ghost use Rattle.std.specs.Prelude.{drop, length, replicate, take};
 ghost use Rattle.geo_poly.specs.Inner.Factored.{AreFactors, ArePending};
 ghost use Rattle.geo_poly.specs.Inner.TermFactors.{HasNoZero};

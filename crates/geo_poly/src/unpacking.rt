@@ -1,7 +1,7 @@
 //! Words as monomials of a store. What several words have in common behind their first power is put
 //! there once.
 
-ghost use Rattle.std.specs.Prelude.{◌≡◌, ◌^◌, ◌<◌, ◌≤◌, IfOk, IfSome, sum};
+ghost use Rattle.std.specs.Prelude.{◌≡◌, ◌<◌, ◌≤◌, IfOk, IfSome};
 ghost use Rattle.sparse_lists.specs.SparseLists.{AllKeys};
 ghost use Rattle.mono_store.specs.Monomials.{degree_of};
 ghost use Rattle.mono_store.specs.Stores.{Keeps, Links};
