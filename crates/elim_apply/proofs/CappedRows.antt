@@ -102,7 +102,7 @@ others-capped rows (p ∷ m) =
     ap (λ (o : Option Row). kept o p (others (capped_rows rows) m)) (row_of-capped rows p.0) ∙ same_kept (row_of rows p.0) p (others (capped_rows rows) m)
     ∙ ap (λ (n : Powers). kept (row_of rows p.0) p n) (others-capped rows m)
 
-most-capped : (rows : List Row) (q : Summands) → most_denominators (capped_rows rows) q ≡ most_denominators rows q
+pub most-capped : (rows : List Row) (q : Summands) → most_denominators (capped_rows rows) q ≡ most_denominators rows q
 most-capped rows [] = refl
 most-capped rows (t ∷ ts) = ap₂ (λ x y. max x y) (denominators-capped rows t.0) (most-capped rows ts)
 

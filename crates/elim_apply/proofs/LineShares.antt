@@ -1,23 +1,21 @@
--- The share of a monomial in a line, from that of its rest, and the share of a term.
-use Rattle.std.proofs.Common.{◌≡◌, ℕ, zero, suc, ◌+◌, ◌*◌, ◌^◌, ◌-◌, ◌<◌, ◌≤◌, min, Option, Some, None, List, [], ◌∷◌, ◌++◌, get_or, length, map, refl, sym, ap, subst, ◌∙◌, arith}
+-- The share of a monomial in a line, power by power, and the share of a term.
+use Rattle.std.proofs.Common.{◌≡◌, ℕ, zero, suc, ◌+◌, ◌*◌, ◌^◌, ◌-◌, ◌<◌, ◌≤◌, min, ℤ, Option, Some, None, List, [], ◌∷◌, ◌++◌, get_or, length, map, refl, sym, ap, subst, ◌∙◌, arith}
 use Rattle.std.specs.Prelude.{slice_get}
 use Rattle.std.specs.Option.{option_map}
 use Rattle.std.proofs.lemmas.List.Sums.{sum_by-cons}
-use Rattle.mono_store.specs.declared.links.MonoId.{MonoId}
-use Rattle.mono_store.specs.Stores.{IsStore, monomial_of}
-use Rattle.mono_store.proofs.Unfolding.{monomial_of-one}
 use Rattle.geo_poly.specs.declared.replacement.Row.{Row}
 use Rattle.geo_poly.specs.declared.shared.Shared.{Shared}
 use Rattle.geo_poly.specs.declared.variables.Var.{Var}
 use Rattle.geo_poly.specs.Counted.{count_row, count_rows, exponent_row, replaced_exponents}
 use Rattle.geo_poly.specs.Monomials.{Powers, degree_of}
 use Rattle.geo_poly.specs.Replace.{AllPowersSmall, degree_row, degree_rows, denominators, kept, others, power_in, row_of, weight_row, weight_rows}
-use Rattle.geo_poly.specs.Shared.{AllPlaces, IsIndexOf, named, told_powers, var_at}
+use Rattle.geo_poly.specs.Polynomials.{term_at}
+use Rattle.geo_poly.specs.Shared.{told, told_powers}
 use Rattle.geo_poly.proofs.Capped.{cap_left, cap_right, denominators-le}
-use Rattle.geo_poly.proofs.Naming.{degree_of-named}
+use Rattle.geo_poly.proofs.Told.{item, told-within, told_at}
 use Rattle.elim_apply.specs.declared.numbered.NumberedRow.{NumberedRow}
 use Rattle.elim_apply.specs.declared.shares.Share.{Share}
-use Rattle.elim_apply.specs.Inner.Shares.{HaveShares, IsShareOf}
+use Rattle.elim_apply.specs.Inner.Shares.{HaveShares, IsKeeping, IsReplacing, IsShareOf, IsWithPower}
 use Rattle.elim_apply.specs.Inner.Sketches.{AreKnown, sketched}
 
 -- FACTORS MAY STAND APART
@@ -60,11 +58,6 @@ degree_rows-plus rows (v ∷ m) d e = go (row_of rows v.0) (λ j. degree_rows-pl
 one_times : (k : ℕ) → 1 * k ≡ k
 one_times k = omega arith
 
--- times a number, each capped
-capped_times : (share c p : ℕ) → share ≡ min c (2 ^ 128 - 1) → min (share * min p (2 ^ 128 - 1)) (2 ^ 128 - 1) ≡ min (c * p) (2 ^ 128 - 1)
-capped_times share c p is =
-    ap (λ k. min (k * min p (2 ^ 128 - 1)) (2 ^ 128 - 1)) is ∙ cap_left c (min p (2 ^ 128 - 1)) (2 ^ 128 - 1) ∙ cap_right c p (2 ^ 128 - 1)
-
 exponents-le : (rows : List Row) (m : Powers) → replaced_exponents rows m ≤ degree_of m
 exponents-le rows [] = omega arith
 exponents-le rows (v ∷ m) = omega (arith, one (row_of rows v.0), exponents-le rows m, sum_by-cons (λ (p : Var × ℕ). p.1) v m)
@@ -73,62 +66,127 @@ exponents-le rows (v ∷ m) = omega (arith, one (row_of rows v.0), exponents-le 
     one None = omega arith
     one (Some r) = omega arith
 
--- ONE MORE POWER
--- a variable that stays
-pub record IsKeeping (e : ℕ) (share after : Share) : Type 0 where
-  pub exponents : after.exponents ≡ share.exponents
-  pub denominators-are : after.denominators ≡ share.denominators
-  pub count : after.count ≡ share.count
-  pub weight : after.weight ≡ share.weight
-  pub degree : after.degree ≡ min (share.degree + e) (2 ^ 128 - 1)
+-- A WALK
+-- the share of the powers before the rest of a monomial: with what becomes of the rest it is that of the monomial
+pub record IsShareBefore (rows : List Row) (rest m : Powers) (share : Share) : Type 0 where
+  pub exponents-are : share.exponents + replaced_exponents rows rest ≡ replaced_exponents rows m
+  pub denominators-are : share.denominators + denominators rows rest ≡ denominators rows m
+  pub count-is : min (share.count * count_rows rows rest 1) (2 ^ 128 - 1) ≡ min (count_rows rows m 1) (2 ^ 128 - 1)
+  pub weight-is : min (share.weight * weight_rows rows rest 1) (2 ^ 128 - 1) ≡ min (weight_rows rows m 1) (2 ^ 128 - 1)
+  pub degree-is : min (share.degree + degree_rows rows rest (degree_of (others rows rest))) (2 ^ 128 - 1)
+      ≡ min (degree_rows rows m (degree_of (others rows m))) (2 ^ 128 - 1)
+  pub count-fits : share.count ≤ 2 ^ 128 - 1
+  pub weight-fits : share.weight ≤ 2 ^ 128 - 1
+  pub degree-fits : share.degree ≤ 2 ^ 128 - 1
 
--- a variable that is replaced by the row
-pub record IsReplacing (r : Row) (e : ℕ) (share after : Share) : Type 0 where
-  pub exponents : after.exponents ≡ min (share.exponents + e) (2 ^ 32 - 1)
-  pub denominators-are : after.denominators ≡ min (share.denominators + min (r.power * e) (2 ^ 32 - 1)) (2 ^ 32 - 1)
-  pub count : after.count ≡ min (share.count * min (r.num.count ^ e) (2 ^ 128 - 1)) (2 ^ 128 - 1)
-  pub weight : after.weight ≡ min (share.weight * min (r.num.weight ^ e) (2 ^ 128 - 1)) (2 ^ 128 - 1)
-  pub degree : after.degree ≡ min (share.degree + min (r.num.degree * e) (2 ^ 128 - 1)) (2 ^ 128 - 1)
+-- before the first power it is that of the monomial with no variable
+pub no_power : (rows : List Row) (m : Powers) (share : Share) → IsShareOf rows [] 1 share → IsShareBefore rows m m share
+no_power rows m share h =
+    let count : share.count ≡ 1 = omega (arith, h.count-is) in
+    let weight : share.weight ≡ 1 = omega (arith, h.weight-is) in
+    record {
+      exponents-are = omega (arith, h.exponents-are);
+      denominators-are = omega (arith, h.denominators-are);
+      count-is = ap (λ k. min (k * count_rows rows m 1) (2 ^ 128 - 1)) count ∙ ap (λ k. min k (2 ^ 128 - 1)) (one_times (count_rows rows m 1));
+      weight-is = ap (λ k. min (k * weight_rows rows m 1) (2 ^ 128 - 1)) weight ∙ ap (λ k. min k (2 ^ 128 - 1)) (one_times (weight_rows rows m 1));
+      degree-is = omega (arith, h.degree-is);
+      count-fits = omega (arith, count);
+      weight-fits = omega (arith, weight);
+      degree-fits = omega (arith, h.degree-is);
+    }
 
-module _ (rows : List Row) (v : Var) (e : ℕ) (left : Powers) (share after : Share) (h : IsShareOf rows left 1 share) where
-  abbrev m : Powers
-  m = (v, e) ∷ left
+-- behind the last power it is that of the monomial
+pub all_powers : (rows : List Row) (rest m : Powers) (share : Share) → rest ≡ [] → IsShareBefore rows rest m share → IsShareOf rows m 1 share
+all_powers rows rest m share none before =
+    let h = subst (λ (left : Powers). IsShareBefore rows left m share) none before in
+    record {
+      exponents-are = omega (arith, h.exponents-are);
+      denominators-are = omega (arith, h.denominators-are);
+      count-is = omega (arith, h.count-is, h.count-fits);
+      weight-is = omega (arith, h.weight-is, h.weight-fits);
+      degree-is = omega (arith, h.degree-is, h.degree-fits);
+    }
 
-  pub share_keeping : row_of rows v ≡ None → IsKeeping e share after → IsShareOf rows m 1 after
-  share_keeping none is =
+-- a factor of the rest goes over to the share
+factor_over : (share after rest factor whole x : ℕ) → after ≡ min (share * min factor (2 ^ 128 - 1)) (2 ^ 128 - 1) → whole ≡ rest * factor
+    → min (share * whole) (2 ^ 128 - 1) ≡ x → min (after * rest) (2 ^ 128 - 1) ≡ x
+factor_over share after rest factor whole x is parts h =
+    ap (λ k. min (k * rest) (2 ^ 128 - 1)) is ∙ cap_left (share * min factor (2 ^ 128 - 1)) rest (2 ^ 128 - 1)
+    ∙ ap (λ k. min k (2 ^ 128 - 1)) (swapped share (min factor (2 ^ 128 - 1)) rest)
+    ∙ cap_right (share * rest) factor (2 ^ 128 - 1)
+    ∙ ap (λ k. min k (2 ^ 128 - 1)) (joined share rest factor)
+    ∙ ap (λ k. min (share * k) (2 ^ 128 - 1)) (sym parts) ∙ h
+  where
+    swapped : (a b c : ℕ) → a * b * c ≡ a * c * b
+    swapped a b c = omega arith
+
+    joined : (a b c : ℕ) → a * b * c ≡ a * (b * c)
+    joined a b c = omega arith
+
+module _ (rows : List Row) (v : Var) (e : ℕ) (left m : Powers) (share after : Share) (h : IsShareBefore rows ((v, e) ∷ left) m share) where
+  abbrev now : Powers
+  now = (v, e) ∷ left
+
+  power_kept : row_of rows v ≡ None → IsKeeping e share after → IsShareBefore rows left m after
+  power_kept none is =
       let exponent : exponent_row (row_of rows v) e ≡ 0 = ap (λ (o : Option Row). exponent_row o e) none in
       let denominator : power_in (row_of rows v) * e ≡ 0 * e = ap (λ (o : Option Row). power_in o * e) none in
+      let count : count_rows rows now 1 ≡ count_rows rows left 1 = ap (λ (o : Option Row). count_rows rows left (count_row o e 1)) none in
+      let weight : weight_rows rows now 1 ≡ weight_rows rows left 1 = ap (λ (o : Option Row). weight_rows rows left (weight_row o e 1)) none in
       let stays : degree_of ((v, e) ∷ others rows left) ≡ degree_of (others rows left) + e =
       sum_by-cons (λ (p : Var × ℕ). p.1) (v, e) (others rows left) ∙ omega arith in
-      let degree : degree_rows rows m (degree_of (others rows m)) ≡ degree_rows rows left (degree_of (others rows left)) + e =
+      let degree : degree_rows rows now (degree_of (others rows now)) ≡ degree_rows rows left (degree_of (others rows left)) + e =
       ap (λ (o : Option Row). degree_rows rows left (degree_row o e (degree_of (kept o (v, e) (others rows left))))) none
       ∙ ap (degree_rows rows left) stays ∙ degree_rows-plus rows left (degree_of (others rows left)) e in
       record {
         exponents-are = omega (arith, is.exponents, h.exponents-are, exponent);
         denominators-are = omega (arith, is.denominators-are, h.denominators-are, denominator);
-        count-is = is.count ∙ h.count-is ∙ ap (λ (o : Option Row). min (count_rows rows left (count_row o e 1)) (2 ^ 128 - 1)) (sym none);
-        weight-is = is.weight ∙ h.weight-is ∙ ap (λ (o : Option Row). min (weight_rows rows left (weight_row o e 1)) (2 ^ 128 - 1)) (sym none);
+        count-is =
+            ap (λ k. min (k * count_rows rows left 1) (2 ^ 128 - 1)) is.count
+            ∙ ap (λ k. min (share.count * k) (2 ^ 128 - 1)) (sym count) ∙ h.count-is;
+        weight-is =
+            ap (λ k. min (k * weight_rows rows left 1) (2 ^ 128 - 1)) is.weight
+            ∙ ap (λ k. min (share.weight * k) (2 ^ 128 - 1)) (sym weight) ∙ h.weight-is;
         degree-is = omega (arith, is.degree, h.degree-is, degree);
+        count-fits = omega (arith, is.count, h.count-fits);
+        weight-fits = omega (arith, is.weight, h.weight-fits);
+        degree-fits = omega (arith, is.degree);
       }
 
-  pub share_replacing : (r : Row) → row_of rows v ≡ Some r → AllPowersSmall rows → degree_of m ≤ 65535 → IsReplacing r e share after → IsShareOf rows m 1 after
-  share_replacing r some small fits is =
+  power_replaced : (r : Row) → row_of rows v ≡ Some r → AllPowersSmall rows → degree_of m ≤ 65535 → IsReplacing r e share after
+      → IsShareBefore rows left m after
+  power_replaced r some small fits is =
       let exponent : exponent_row (row_of rows v) e ≡ e = ap (λ (o : Option Row). exponent_row o e) some in
       let denominator : power_in (row_of rows v) * e ≡ r.power * e = ap (λ (o : Option Row). power_in o * e) some in
-      let count : count_rows rows m 1 ≡ count_rows rows left 1 * r.num.count ^ e =
+      let count : count_rows rows now 1 ≡ count_rows rows left 1 * r.num.count ^ e =
       ap (λ (o : Option Row). count_rows rows left (count_row o e 1)) some ∙ count_rows-times rows left 1 (r.num.count ^ e) in
-      let weight : weight_rows rows m 1 ≡ weight_rows rows left 1 * r.num.weight ^ e =
+      let weight : weight_rows rows now 1 ≡ weight_rows rows left 1 * r.num.weight ^ e =
       ap (λ (o : Option Row). weight_rows rows left (weight_row o e 1)) some ∙ weight_rows-times rows left 1 (r.num.weight ^ e) in
-      let degree : degree_rows rows m (degree_of (others rows m)) ≡ degree_rows rows left (degree_of (others rows left)) + r.num.degree * e =
+      let degree : degree_rows rows now (degree_of (others rows now)) ≡ degree_rows rows left (degree_of (others rows left)) + r.num.degree * e =
       ap (λ (o : Option Row). degree_rows rows left (degree_row o e (degree_of (kept o (v, e) (others rows left))))) some
       ∙ degree_rows-plus rows left (degree_of (others rows left)) (r.num.degree * e) in
       record {
         exponents-are = omega (arith, is.exponents, h.exponents-are, exponent, exponents-le rows m, fits);
         denominators-are = omega (arith, is.denominators-are, h.denominators-are, denominator, denominators-le rows m small, fits);
-        count-is = is.count ∙ capped_times share.count (count_rows rows left 1) (r.num.count ^ e) h.count-is ∙ ap (λ k. min k (2 ^ 128 - 1)) (sym count);
-        weight-is = is.weight ∙ capped_times share.weight (weight_rows rows left 1) (r.num.weight ^ e) h.weight-is ∙ ap (λ k. min k (2 ^ 128 - 1)) (sym weight);
+        count-is =
+            factor_over share.count after.count (count_rows rows left 1) (r.num.count ^ e) (count_rows rows now 1)
+            (min (count_rows rows m 1) (2 ^ 128 - 1)) is.count count h.count-is;
+        weight-is =
+            factor_over share.weight after.weight (weight_rows rows left 1) (r.num.weight ^ e) (weight_rows rows now 1)
+            (min (weight_rows rows m 1) (2 ^ 128 - 1)) is.weight weight h.weight-is;
         degree-is = omega (arith, is.degree, h.degree-is, degree);
+        count-fits = omega (arith, is.count);
+        weight-fits = omega (arith, is.weight);
+        degree-fits = omega (arith, is.degree);
       }
+
+  -- one more power
+  pub one_power : AllPowersSmall rows → degree_of m ≤ 65535 → IsWithPower (row_of rows v) e share after → IsShareBefore rows left m after
+  one_power small fits is = go (row_of rows v) refl is
+    where
+      go : (o : Option Row) → row_of rows v ≡ o → IsWithPower o e share after → IsShareBefore rows left m after
+      go None at is = power_kept at is
+      go (Some r) at is = power_replaced r at small fits is
 
 -- A TERM
 pub share_times : (rows : List Row) (m : Powers) (k : ℕ) (share after : Share) → after.exponents ≡ share.exponents → after.denominators ≡ share.denominators
@@ -144,30 +202,9 @@ share_times rows m k share after exponents denominators count degree weight h = 
   degree-is = degree ∙ h.degree-is;
 }
 
--- INDICES
--- the monomial with no variable
-pub powers_of_one : (p : Shared) (id : MonoId) → id.0 ≡ 0 → told_powers p id ≡ []
-powers_of_one p id e = ap (named p.vars.now) (monomial_of-one p.monos.now id e)
-
-module _ (p : Shared) (id next : MonoId) (var e : ℕ) (unfolds : monomial_of p.monos.now id ≡ (var, e) ∷ monomial_of p.monos.now next)
-    (earlier : next.0 < id.0) (index : IsIndexOf p id) where
-  pub powers_are : told_powers p id ≡ (var_at p.vars.now var, e) ∷ told_powers p next
-  powers_are = ap (named p.vars.now) unfolds
-
-  places : AllPlaces (length p.vars.now) ((var, e) ∷ monomial_of p.monos.now next)
-  places = subst (AllPlaces (length p.vars.now)) unfolds index.places
-
-  pub var_within : var < length p.vars.now
-  var_within = places.0
-
-  pub next_index : IsIndexOf p next
-  next_index = record { within = (let w = index.within in omega (arith, w, earlier)); places = places.1 }
-
-  pub degree_fits : IsStore p.monos.now → degree_of ((var_at p.vars.now var, e) ∷ told_powers p next) ≤ 65535
-  degree_fits store =
-      let whole : degree_of (told_powers p id) ≤ 65535 =
-      (let fits = (store.monomials id).degree_fits in omega (arith, degree_of-named p.vars.now (monomial_of p.monos.now id), fits)) in
-      subst (λ (m : Powers). degree_of m ≤ 65535) powers_are whole
+-- the monomial of the term at a place
+pub monomial_of_term : (p : Shared) (i : ℕ) → i < length p.list.now → (term_at (told p) i).0 ≡ told_powers p (item p.list.now i).0
+monomial_of_term p i within = ap (λ (t : Powers × ℤ). t.0) (told_at p (told p) i refl (told-within p i within))
 
 -- the row of a variable, by its number
 pub row_known : (rows : List Row) (vars : List Var) (known : List (Option NumberedRow)) (k : ℕ) (o : Option NumberedRow) (d : Var) → AreKnown rows vars known
@@ -198,19 +235,14 @@ push_each {X} P [] x h g (suc k) y e = absurd (let q : ◌≡◌ {A = Option X} 
 push_each P (z ∷ zs) x h g zero y e = h 0 y e
 push_each P (z ∷ zs) x h g (suc k) y e = push_each (λ n w. P (suc n) w) zs x (λ n w f. h (suc n) w f) g k y e
 
-pub one_more_share : (rows : List Row) (p : Shared) (shares : List Share) (share : Share) (id : MonoId) → HaveShares rows p shares → id.0 ≡ length shares
-    → (IsIndexOf p id → IsShareOf rows (told_powers p id) 1 share) → HaveShares rows p (shares ++ share ∷ [])
-one_more_share rows p shares share id h is g other s e =
-    push_each P shares share (λ k y f. h (record { 0 = k }) y f) (subst (λ (k : ℕ). P k share) is g) other.0 s e
-  where
-    P : ℕ → Share → Type 0
-    P k s = IsIndexOf p (record { 0 = k }) → IsShareOf rows (told_powers p (record { 0 = k })) 1 s
+-- THE SHARES OF A LIST
+pub no_shares : (rows : List Row) (p : Shared) (shares : List Share) → shares ≡ [] → HaveShares rows p shares
+no_shares rows p shares none i s e =
+    absurd (let q : ◌≡◌ {A = Option Share} None (Some s) = sym (ap (λ (ss : List Share). slice_get ss i) none) ∙ e in cc)
 
--- the share of the monomial with no variable
-pub first_share : (rows : List Row) (p : Shared) (share : Share) → IsShareOf rows [] 1 share → HaveShares rows p (share ∷ [])
-first_share rows p share h id s e =
-    one_more_share rows p [] share (record { 0 = 0 }) (λ i t f. absurd (none i.0 t f)) refl
-    (λ index. subst (λ (m : Powers). IsShareOf rows m 1 share) (sym (powers_of_one p (record { 0 = 0 }) refl)) h) id s e
-  where
-    none : (k : ℕ) (t : Share) → slice_get [] k ≡ Some t → ⊥
-    none k t f = let q : ◌≡◌ {A = Option Share} None (Some t) = f in cc
+pub one_more_share : (rows : List Row) (p : Shared) (shares : List Share) (share : Share) (i : ℕ) → length shares ≡ i → i < length p.list.now
+    → HaveShares rows p shares → IsShareOf rows (told_powers p (item p.list.now i).0) 1 share → HaveShares rows p (shares ++ share ∷ [])
+one_more_share rows p shares share i size within h is =
+    push_each (λ k s. IsShareOf rows (term_at (told p) k).0 1 s) shares share h
+    (subst (λ (k : ℕ). IsShareOf rows (term_at (told p) k).0 1 share) (sym size)
+    (subst (λ (m : Powers). IsShareOf rows m 1 share) (sym (monomial_of_term p i within)) is))

@@ -159,7 +159,7 @@ module _ (made : Replacement) (top : ℕ) where
 -- the size of the line
 pub line_size : (made : Replacement) (top : ℕ) (q : Summands) (charge weight degree : ℕ) → top ≡ most_denominators made.rows q
     → IsSize made top (made.charge + 4 * (sum_by (λ r. r.num.count) made.rows + made.den.count)) q charge weight degree
-    → HasSize (record { charge = charge; weight = weight; degree = degree }) (move_charge made q) (replaced_weight made.rows made.den q) (replaced_degree made.rows made.den q)
+    → HasSize (record { charge = charge; weight = weight; degree = degree; top = top }) (move_charge made q) (replaced_weight made.rows made.den q) (replaced_degree made.rows made.den q)
 line_size made top q charge weight degree is h =
     let start = made.charge + 4 * (sum_by (λ (r : Row). r.num.count) made.rows + made.den.count) in
     let g = subst (λ n. IsSize made n start q charge weight degree) is h in

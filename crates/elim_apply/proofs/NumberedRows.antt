@@ -122,7 +122,7 @@ module _ (c : Construction) (move : Move) where
   pub denominator_bounded : IsBounded (lemma_table.denominator c move)
   denominator_bounded = bounded_form (move_denominator c move)
 
-  pub rows_small : (vs : List Var) → AllPowersSmall (filter_map row vs)
+  rows_small : (vs : List Var) → AllPowersSmall (filter_map row vs)
   rows_small [] = tt
   rows_small (v ∷ vs) = go (row_of_move c move v) (light_rows v) (rows_small vs)
     where

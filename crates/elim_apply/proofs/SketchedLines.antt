@@ -6,7 +6,7 @@ use Rattle.geo_poly.specs.declared.replacement.Piece.{Piece}
 use Rattle.geo_poly.specs.declared.replacement.Row.{Row}
 use Rattle.geo_poly.specs.Polynomials.{Summands}
 use Rattle.geo_poly.specs.PolynomialVariables.{variables_of}
-use Rattle.geo_poly.specs.Replace.{replaced_degree, replaced_weight}
+use Rattle.geo_poly.specs.Replace.{most_denominators, replaced_degree, replaced_weight}
 use Rattle.geo_terms.specs.Constructions.{Construction}
 use Rattle.elim_apply.specs.declared.limits.LineSize.{LineSize}
 use Rattle.geo_logs.specs.declared.moves.Move.{Move}
@@ -16,7 +16,7 @@ use Rattle.elim_apply.specs.LemmaTable.{lemma_table}
 use Rattle.geo_logs.specs.Moves.{move_charge, replacement}
 use Rattle.elim_apply.specs.Inner.Sizes.{IsSizeOf}
 use Rattle.elim_apply.specs.Inner.Sketches.{numbered_row, sketch, sketched_denominator, sketches}
-use Rattle.elim_apply.proofs.CappedRows.{capped_move, capped_piece, capped_rows, move_charge-capped, replaced_degree-capped, replaced_weight-capped}
+use Rattle.elim_apply.proofs.CappedRows.{capped_move, capped_piece, capped_rows, most-capped, move_charge-capped, replaced_degree-capped, replaced_weight-capped}
 use Rattle.elim_apply.proofs.NumberedRows.{HasDenominator, sketches_are}
 
 pub sketched_line : (c : Construction) (move : Move) (q : Summands) (rows : List NumberedRow) (first : NumberedRow) (size : LineSize)
@@ -36,3 +36,10 @@ sketched_line c move q rows first size are one h =
       weight-is = h.weight-is ∙ ap₂ (λ (rs : List Row) (d : Piece). capped_number (replaced_weight rs d q)) same den ∙ replaced_weight-capped made.rows made.den q;
       degree-is = h.degree-is ∙ ap₂ (λ (rs : List Row) (d : Piece). capped_number (replaced_degree rs d q)) same den ∙ replaced_degree-capped made.rows made.den q;
     }
+
+-- and so is the number of denominators
+pub sketched_top : (c : Construction) (move : Move) (q : Summands) (rows : List NumberedRow) → rows ≡ filter_map (numbered_row c move) (variables_of q)
+    → most_denominators (sketches rows) q ≡ most_denominators (replacement lemma_table c move q).rows q
+sketched_top c move q rows are =
+    ap (λ (rs : List Row). most_denominators rs q) (ap sketches are ∙ sketches_are c move (variables_of q))
+    ∙ most-capped (replacement lemma_table c move q).rows q

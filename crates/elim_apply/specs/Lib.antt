@@ -1,5 +1,6 @@
 pub mod LemmaTable
 pub mod Kept
+pub mod Replacements
 pub mod Multiples
 pub mod FirstLemmas
 pub mod Inner

@@ -17,7 +17,8 @@ ghost use Rattle.geo_poly.specs.Counted.{replacement_products};
 ghost use Rattle.geo_poly.specs.declared.limits.Which.{Which};
 ghost use Rattle.geo_poly.specs.PolynomialVariables.{AllVariables, variables_of};
 ghost use Rattle.geo_poly.specs.Polynomials.{IsPolynomial};
-ghost use Rattle.geo_poly.specs.Replace.{replaced_by, replaced_degree, replaced_weight};
+ghost use Rattle.geo_poly.specs.Replace.{most_denominators, replaced_by};
+ghost use Rattle.geo_poly.specs.Replace.{replaced_degree, replaced_weight};
 
 use crate::errors::ApplyError;
 use crate::kept_rows::KnownRows;
@@ -125,7 +126,7 @@ pub fn apply_known<L: Ledger>(
         return Err(ApplyError::NoRow);
     };
     size.spend(budget)?;
-    Ok(moved(alloc, steps, known, p, mv, &rows, ticks)?)
+    Ok(moved(alloc, steps, known, p, mv, &rows, size.top, ticks)?)
 }
 
 /// The rows that a move has for the polynomial, as they are written, and the size of its line;
@@ -149,6 +150,8 @@ fn measured(
     ensures size { let made = replacement lemma_table steps.now mv.now p.now in
         IfOk result (λ o. IfSome o (λ m. IsSizeOf m.1 (move_charge made p.now)
         (replaced_weight made.rows made.den p.now) (replaced_degree made.rows made.den p.now))) }
+    ensures top { let made = replacement lemma_table steps.now mv.now p.now in
+        IfOk result (λ o. IfSome o (λ m. m.1.top ≡ most_denominators made.rows p.now)) }
     ensures known { AreKnownRows steps.now known.new }
 {
     // From here on it is known that the polynomial is in order and within its bounds.
@@ -171,6 +174,7 @@ fn moved<L: Ledger>(
     p: &Poly,
     mv: &Move,
     rows: &[NumberedRow],
+    top: u32,
     ticks: &mut Ticks<L>,
 ) -> Result<Poly, NoMemory>
     requires points { AllVariables (HasPointsBelow (length steps.now.steps)) p.now }
@@ -179,6 +183,8 @@ fn moved<L: Ledger>(
     requires rows { rows.now
         ≡ filter_map (numbered_row steps.now mv.now) (variables_of p.now) }
     requires some { rows.now ≢ [] }
+    requires top { let made = replacement lemma_table steps.now mv.now p.now in
+        top ≡ most_denominators made.rows p.now }
     requires weight { let made = replacement lemma_table steps.now mv.now p.now in
         replaced_weight made.rows made.den p.now < 2 ^ 127 }
     requires degree { let made = replacement lemma_table steps.now mv.now p.now in
@@ -192,7 +198,7 @@ fn moved<L: Ledger>(
     // From here on it is known that the polynomial is in order and within its bounds.
     prove!(p.norm() >= 0);
     let (rows, den) = made_rows(alloc, steps, known, mv, rows)?;
-    let moved = p.replace_within(alloc, &rows.items, &den, ticks)?;
+    let moved = p.replace_within(alloc, &rows.items, &den, top, ticks)?;
     put_back(known, mv, rows, den);
     Ok(moved)
 }

@@ -2,6 +2,7 @@
 #![tactic(auto)]
 
 mod applying;
+mod capped;
 mod drafted;
 mod errors;
 mod kept_row;

@@ -19,6 +19,8 @@ pub(crate) struct LineSize {
     pub weight: u128,
     /// The degree, which bounds that of the result.
     pub degree: u128,
+    /// How many denominators each term gets; none in a start.
+    pub top: u32,
 }
 
 impl LineSize {

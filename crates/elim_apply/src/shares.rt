@@ -1,20 +1,21 @@
-//! What becomes of the monomials of a line, each from its rest.
+//! What becomes of the monomials of a line, power by power.
 //! A number past the greatest of its type is given as that.
 
-ghost use Rattle.std.specs.Prelude.{◌≡◌, ◌+◌, ◌-◌, ◌*◌, ◌^◌, ◌<◌, ◌≤◌, [], IfOk, List, length, min};
-ghost use Rattle.elim_apply.specs.Inner.Shares.{AreShares, HaveShares, IsShareOf};
+ghost use Rattle.std.specs.Prelude.{◌≡◌, ◌+◌, ◌-◌, ◌*◌, ◌^◌, ◌≤◌, [], IfOk, List, Some, min, slice_get};
+ghost use Rattle.elim_apply.specs.Inner.Shares.{AreShares, IsShareOf, IsWithPower};
 ghost use Rattle.elim_apply.specs.Inner.Sketches.{AreKnown, sketches};
 ghost use Rattle.geo_poly.specs.declared.replacement.Row.{Row};
-ghost use Rattle.geo_poly.specs.Monomials.{Powers};
-ghost use Rattle.geo_poly.specs.Replace.{AllPowersSmall};
-ghost use Rattle.geo_poly.specs.Shared.{IsIndexOf, told_powers};
-ghost use Rattle.mono_store.specs.Stores.{count};
+ghost use Rattle.geo_poly.specs.declared.variables.Var.{Var};
+ghost use Rattle.geo_poly.specs.Monomials.{IsMonomial, Powers};
+ghost use Rattle.geo_poly.specs.Replace.{AllPowersSmall, row_of};
+ghost use Rattle.geo_poly.specs.Shared.{AreParts, IsIndexOf, told_powers};
 
+use crate::capped::{capped_power, capped_product};
 use crate::known_rows::known_rows;
 use crate::numbered::NumberedRow;
 use fraction_poly::RowNumbers;
 use geo_points::NoMemory;
-use geo_poly::Shared;
+use geo_poly::{FirstPower, Shared};
 use mono_store::MonoId;
 use std::alloc::Global;
 
@@ -64,8 +65,8 @@ impl Share {
             denominators: self
                 .denominators
                 .saturating_add(numbers.power.saturating_mul(e)),
-            count: self.count.saturating_mul(capped_power(numbers.ka, e)),
-            weight: self.weight.saturating_mul(capped_power(numbers.wa, e)),
+            count: capped_product(self.count, capped_power(numbers.ka, e)),
+            weight: capped_product(self.weight, capped_power(numbers.wa, e)),
             degree: self
                 .degree
                 .saturating_add(numbers.ga.saturating_mul(e as u128)),
@@ -92,7 +93,7 @@ impl Share {
             → IsShareOf rows m coefficient result }
     {
         Share {
-            weight: self.weight.saturating_mul(coefficient),
+            weight: capped_product(self.weight, coefficient),
             ..self
         }
     }
@@ -107,7 +108,8 @@ impl Share {
     {
         let lacking = top - self.denominators;
         let factors = self.exponents as u128 + lacking as u128 + 1;
-        factors.saturating_mul(self.count.saturating_mul(capped_power(count, lacking)))
+        let products = capped_product(self.count, capped_power(count, lacking));
+        capped_product(factors, products)
     }
 
     /// The weight of the term over a denominator of this weight, which is wanted `top` times.
@@ -116,7 +118,7 @@ impl Share {
         ensures { result ≡ min (self.weight * weight ^ (top - self.denominators)) (2 ^ 128 - 1) }
     {
         let lacking = top - self.denominators;
-        self.weight.saturating_mul(capped_power(weight, lacking))
+        capped_product(self.weight, capped_power(weight, lacking))
     }
 
     /// The degree of the term over a denominator of this degree, which is wanted `top` times.
@@ -130,58 +132,51 @@ impl Share {
     }
 }
 
-/// The power, or the greatest number where it passes that. The exponent is mostly 0 or 1.
-fn capped_power(base: u128, exponent: u32) -> u128
-    ensures { result ≡ min (base ^ exponent) (2 ^ 128 - 1) }
-{
-    match exponent {
-        0 => 1,
-        1 => base,
-        _ => base.saturating_pow(exponent),
-    }
-}
-
-/// The share of each monomial of the store, by its index. One with a variable that the polynomial
-/// lacks has any share.
+/// The shares of the monomials, term by term.
 pub(crate) fn shares_of(
     alloc: Global,
     rows: &[NumberedRow],
     p: &Shared,
 ) -> Result<Vec<Share>, NoMemory>
-    requires { AllPowersSmall (sketches rows.now) }
+    requires powers { AllPowersSmall (sketches rows.now) }
+    requires parts { AreParts p.now }
     ensures { IfOk result (λ shares. AreShares (sketches rows.now) p.now shares.items) }
 {
     let known = known_rows(alloc, rows, p.vars)?;
-    let links = p.monos.links();
-    let mut shares = Vec::with_capacity(alloc, (links as usize).saturating_add(1))?;
-    shares.push(Share::of_one())?;
-    for k in 0..links {
-        let share = next_share(p, &known, &shares, MonoId(k + 1));
-        shares.push(share)?;
+    let mut shares = Vec::with_capacity(alloc, p.list.len())?;
+    for (id, _) in p.list {
+        shares.push(share_of(p, &known, *id))?;
     }
     Ok(shares)
 }
 
-/// The share of the monomial at an index, where those before it have theirs.
-fn next_share(p: &Shared, known: &[Option<NumberedRow>], shares: &[Share], id: MonoId) -> Share
-    requires { id.0 < count p.now.monos.now }
+/// The share of the monomial at an index.
+fn share_of(p: &Shared, known: &[Option<NumberedRow>], id: MonoId) -> Share
+    requires index { IsIndexOf p.now id }
+    requires monomial { IsMonomial (told_powers p.now id) }
     ensures { (rows : List Row) → AllPowersSmall rows → AreKnown rows p.now.vars.now known.now
-        → HaveShares rows p.now shares.now → length shares.now ≡ id.0
-        → IsIndexOf p.now id → IsShareOf rows (told_powers p.now id) 1 result }
+        → IsShareOf rows (told_powers p.now id) 1 result }
 {
-    // every store says of itself that it is one
-    let _one = p.monos.one();
-    let Some(link) = p.monos.link(id) else {
-        return Share::of_one();
+    let mut share = Share::of_one();
+    let mut rest = id;
+    while let Some(first) = p.first_power(rest) {
+        share = with_power(share, known, &first);
+        rest = first.rest;
+    }
+    share
+}
+
+/// The share with one more power.
+fn with_power(share: Share, known: &[Option<NumberedRow>], first: &FirstPower) -> Share
+    ensures { (rows : List Row) (vars : List Var) → AreKnown rows vars known.now
+        → slice_get vars first.now.number ≡ Some first.now.var
+        → IsWithPower (row_of rows first.now.var) first.now.exponent share result }
+{
+    let Some(entry) = known.get(first.number as usize) else {
+        return share.keeping(first.exponent);
     };
-    let Some(rest) = shares.get(link.next.0 as usize) else {
-        return Share::of_one();
-    };
-    let Some(known) = known.get(link.var as usize) else {
-        return Share::of_one();
-    };
-    match known {
-        Some(row) => rest.replacing(&row.numbers, link.exp),
-        None => rest.keeping(link.exp),
+    match entry {
+        Some(row) => share.replacing(&row.numbers, first.exponent),
+        None => share.keeping(first.exponent),
     }
 }

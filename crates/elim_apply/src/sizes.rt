@@ -1,18 +1,17 @@
 //! The charge, the weight and the degree of the line of a move, before anything is multiplied out.
 //! A number past `2^128 - 1` is given as `2^128 - 1`.
 
-ghost use Rattle.std.specs.Prelude.{◌≡◌, ◌+◌, ◌-◌, ◌*◌, ◌^◌, IfOk, List, length, min};
+ghost use Rattle.std.specs.Prelude.{◌≡◌, ◌+◌, ◌-◌, ◌*◌, ◌^◌, ◌<◌, IfOk, List, length, min};
 ghost use Rattle.std.specs.Prelude.{sum_by};
 ghost use Rattle.geo_logs.specs.Moves.{move_charge};
 ghost use Rattle.elim_apply.specs.Inner.Shares.{AreShares, HaveShares, IsShareOf};
 ghost use Rattle.elim_apply.specs.Inner.Sketches.{sketch, sketched_denominator, sketches};
 ghost use Rattle.elim_apply.specs.Inner.Sizes.{IsSizeOf};
 ghost use Rattle.geo_poly.specs.declared.replacement.Row.{Row};
-ghost use Rattle.geo_poly.specs.Polynomials.{IsPolynomial};
+ghost use Rattle.geo_poly.specs.Polynomials.{IsPolynomial, term_at};
 ghost use Rattle.geo_poly.specs.Replace.{AllPowersSmall, most_denominators};
 ghost use Rattle.geo_poly.specs.Replace.{replaced_degree, replaced_weight};
-ghost use Rattle.geo_poly.specs.Shared.{AreParts, IsIndexOf, told, told_powers};
-ghost use Rattle.mono_store.specs.Stores.{count};
+ghost use Rattle.geo_poly.specs.Shared.{AreParts, told};
 
 use crate::limits::LineSize;
 use crate::numbered::NumberedRow;
@@ -20,7 +19,6 @@ use crate::shares::{Share, shares_of};
 use fraction_poly::RowNumbers;
 use geo_points::NoMemory;
 use geo_poly::{Poly, Shared};
-use mono_store::MonoId;
 use std::alloc::Global;
 
 /// The size of the line, where the rows replace their variables and the denominator has the numbers
@@ -33,9 +31,11 @@ pub(crate) fn size_of_line(
 ) -> Result<LineSize, NoMemory>
     requires powers { AllPowersSmall (sketches rows.now) }
     requires valid { IsPolynomial poly.now }
-    ensures { IfOk result (λ size. IsSizeOf size (move_charge (sketch rows.now den) poly.now)
+    ensures size { IfOk result (λ size. IsSizeOf size (move_charge (sketch rows.now den) poly.now)
         (replaced_weight (sketches rows.now) (sketched_denominator den) poly.now)
         (replaced_degree (sketches rows.now) (sketched_denominator den) poly.now)) }
+    ensures top { IfOk result
+        (λ size. size.top ≡ most_denominators (sketches rows.now) poly.now) }
 {
     let p = poly.shared();
     let shares = shares_of(alloc, rows, &p)?;
@@ -46,16 +46,17 @@ pub(crate) fn size_of_line(
 fn size_by_terms(rows: &[NumberedRow], den: RowNumbers, p: &Shared, shares: &[Share]) -> LineSize
     requires parts { AreParts p.now }
     requires shares { AreShares (sketches rows.now) p.now shares.now }
-    ensures { IsSizeOf result (move_charge (sketch rows.now den) (told p.now))
+    ensures size { IsSizeOf result (move_charge (sketch rows.now den) (told p.now))
         (replaced_weight (sketches rows.now) (sketched_denominator den) (told p.now))
         (replaced_degree (sketches rows.now) (sketched_denominator den) (told p.now)) }
+    ensures top { result.top ≡ most_denominators (sketches rows.now) (told p.now) }
 {
     let top = most_denominators(p, shares);
     let mut charge = charge_of_rows(rows, den);
     let mut weight = 0u128;
     let mut degree = 0u128;
-    for (id, coefficient) in p.list {
-        let share = share_at(p, shares, *id).times(coefficient.unsigned_abs());
+    for i in 0..p.list.len() {
+        let share = share_at(p, shares, i).times(p.list[i].1.unsigned_abs());
         charge = charge.saturating_add(share.charge(den.kb, top));
         weight = weight.saturating_add(share.weight_over(den.wb, top));
         degree = degree.max(share.degree_over(den.gb, top));
@@ -64,6 +65,7 @@ fn size_by_terms(rows: &[NumberedRow], den: RowNumbers, p: &Shared, shares: &[Sh
         charge,
         weight,
         degree,
+        top,
     }
 }
 
@@ -82,25 +84,24 @@ fn charge_of_rows(rows: &[NumberedRow], den: RowNumbers) -> u128
 
 /// The greatest number of denominators that a monomial calls for.
 fn most_denominators(p: &Shared, shares: &[Share]) -> u32
-    requires parts { AreParts p.now }
-    requires shares { length shares.now ≡ count p.now.monos.now }
+    requires { length shares.now ≡ length p.now.list.now }
     ensures { (rows : List Row) → AreShares rows p.now shares.now
         → result ≡ most_denominators rows (told p.now) }
 {
     let mut most = 0;
-    for (id, _) in p.list {
-        most = most.max(share_at(p, shares, *id).denominators);
+    for i in 0..p.list.len() {
+        most = most.max(share_at(p, shares, i).denominators);
     }
     most
 }
 
-/// The share of the monomial at an index.
-fn share_at(p: &Shared, shares: &[Share], id: MonoId) -> Share
-    requires index { IsIndexOf p.now id }
-    requires shares { length shares.now ≡ count p.now.monos.now }
+/// The share of the monomial at place i, from 0.
+fn share_at(p: &Shared, shares: &[Share], i: usize) -> Share
+    requires shares { length shares.now ≡ length p.now.list.now }
+    requires place { i < length p.now.list.now }
     ensures { (rows : List Row) → HaveShares rows p.now shares.now
-        → IsShareOf rows (told_powers p.now id) 1 result }
+        → IsShareOf rows (term_at (told p.now) i).0 1 result }
 {
     let _ = p;
-    shares[id.0 as usize]
+    shares[i]
 }

@@ -98,5 +98,6 @@ fn size_of_start(numbers: Numbers) -> LineSize
         charge: numbers.charge,
         weight: numbers.wn.max(numbers.wd),
         degree: numbers.gn.max(numbers.gd),
+        top: 0,
     }
 }

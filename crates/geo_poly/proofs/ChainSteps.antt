@@ -3,7 +3,7 @@ use Rattle.std.proofs.Common.{◌≡◌, ℕ, zero, suc, ◌⊎◌, inl, inr, So
 use Rattle.std.specs.Prelude.{Option, IsSome, ◌≢◌, unwrap_or}
 use Rattle.std.proofs.lemmas.Bool.{false≢true}
 use Rattle.sparse_lists.specs.SparseLists.{AllKeys}
-use Rattle.mono_store.specs.Stores.{Keeps, Links}
+use Rattle.mono_store.specs.Stores.{Keeps, Store}
 use Rattle.poly_arena.specs.Chains.{Chains, IsLive, Merges, Pairs, Updates, list_of, pairs_of}
 use Rattle.geo_poly.specs.declared.variables.Var.{Var}
 use Rattle.geo_poly.specs.Chained.{AddsChain, IsKey, SameChains, StandsFor, StandsUnder, keyed_terms, keyed_terms_under}
@@ -72,11 +72,11 @@ StandsUnder-list vars keys arena number list p is within terms =
     }
 
 -- the same under the indices of a store
-pub StandsFor-kept : (vars : List Var) (old new : Links) (before after : Chains) (number : ℕ) (p : Summands) → Keeps old new → list_of after number ≡ list_of before number
+pub StandsFor-kept : (vars : List Var) (old new : Store) (before after : Chains) (number : ℕ) (p : Summands) → Keeps old new → list_of after number ≡ list_of before number
     → StandsFor vars old before number p → StandsFor vars new after number p
 StandsFor-kept vars old new before after number p kept same h =
     StandsUnder-kept vars (store_keys old) (store_keys new) before after number p (keeps_keys old new kept) same h
 
-pub StandsFor-list : (vars : List Var) (links : Links) (arena : Chains) (number : ℕ) (list : Pairs) (p : Summands) → list_of arena number ≡ Some list
-    → AllKeys (IsKey vars links) list → keyed_terms vars links list ≡ p → StandsFor vars links arena number p
-StandsFor-list vars links arena number list p is keys terms = StandsUnder-list vars (store_keys links) arena number list p is keys terms
+pub StandsFor-list : (vars : List Var) (store : Store) (arena : Chains) (number : ℕ) (list : Pairs) (p : Summands) → list_of arena number ≡ Some list
+    → AllKeys (IsKey vars store) list → keyed_terms vars store list ≡ p → StandsFor vars store arena number p
+StandsFor-list vars store arena number list p is keys terms = StandsUnder-list vars (store_keys store) arena number list p is keys terms

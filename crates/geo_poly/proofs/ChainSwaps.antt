@@ -1,7 +1,7 @@
 -- Chains that are spent for others, and the lists that stand for pieces, where a store grows.
 use Rattle.std.proofs.Common.{◌≡◌, ℕ, zero, suc, ◌<◌, get_or, length, arith, inl, inr, None, List, [], ◌∷◌, ◌++◌, refl, sym, ap, subst, ◌∙◌}
 use Rattle.std.specs.Prelude.{Result, Ok, Err, IfOk, OnErr}
-use Rattle.mono_store.specs.Stores.{Keeps, Links}
+use Rattle.mono_store.specs.Stores.{Keeps, Store}
 use Rattle.poly_arena.specs.Chains.{Chains, Updates, list_of}
 use Rattle.geo_poly.specs.declared.replacement.Row.{Row}
 use Rattle.geo_poly.specs.declared.settings.Setting.{Setting}
@@ -113,10 +113,10 @@ IsSetUnder-kept setting old new kept h = record {
 }
 
 -- the same where a store grows
-pub AreStored-kept : (vars : List Var) (old new : Links) (rows : List Row) (lists : List Indices) → Keeps old new → AreStored vars old rows lists → AreStored vars new rows lists
+pub AreStored-kept : (vars : List Var) (old new : Store) (rows : List Row) (lists : List Indices) → Keeps old new → AreStored vars old rows lists → AreStored vars new rows lists
 AreStored-kept vars old new rows lists kept h = AreStoredUnder-kept vars (store_keys old) (store_keys new) rows lists (keeps_keys old new kept) h
 
-pub IsSet-kept : (setting : Setting) (old new : Links) → Keeps old new → IsSet setting old → IsSet setting new
+pub IsSet-kept : (setting : Setting) (old new : Store) → Keeps old new → IsSet setting old → IsSet setting new
 IsSet-kept setting old new kept h = IsSetUnder-kept setting (store_keys old) (store_keys new) (keeps_keys old new kept) h
 
 -- what each numerator has, that of a row has

@@ -2,7 +2,7 @@
 use Rattle.std.proofs.Common.{ap₂, ◌≡◌, ◌≢◌, ℕ, zero, suc, ◌+◌, ◌-◌, ◌*◌, ◌^◌, ◌<◌, ◌≤◌, max, min, false, cond, Bool, true, inl, inr, ◌⊎◌, ℤ}
 use Rattle.std.proofs.Common.{List, [], ◌∷◌, ◌++◌, length}
 use Rattle.std.proofs.Common.{Option, Some, None, drop, get_or, take, refl, sym, ap, subst, ◌∙◌, arith}
-use Rattle.std.specs.Prelude.{Contains, IfSome, slice_index_or}
+use Rattle.std.specs.Prelude.{Contains, IfSome, slice_get, slice_index_or}
 use Rattle.std.specs.List.Sorted.{IsStrictlySortedBy}
 use Rattle.std.specs.Ordering.{is_eq, nat_cmp}
 use Rattle.std.specs.declared.cmp.Ordering.{Ordering}
@@ -11,20 +11,19 @@ use Rattle.std.proofs.Math.Nat.{mul-le-mul_left, mul-le-mul_right}
 use Rattle.std.proofs.lemmas.Bool.{cases_lt}
 use Rattle.std.proofs.lemmas.Cmp.{ranked}
 use Rattle.std.proofs.lemmas.List.{drop_more}
+use Rattle.std.proofs.lemmas.Option.{get_or_from_slice_get, slice_get_within}
 use Rattle.sparse_lists.specs.SparseLists.{AllKeys, IsCanonical}
 use Rattle.sparse_lists.proofs.Canonical.{amount-append, amount-before}
 use Rattle.sparse_lists.proofs.Merging.{get_or_any}
 use Rattle.sparse_lists.proofs.NaturalAmounts.{natural_order}
-use Rattle.mono_store.specs.Monomials.{Powers as NumberedPowers, exponent as numbered_exponent, exponents as numbered_exponents}
-use Rattle.mono_store.specs.declared.links.MonoId.{MonoId}
-use Rattle.mono_store.specs.Stores.{Links, count, monomial_of}
-use Rattle.mono_store.proofs.Numbers.{exponents_add as numbered_exponents_add, is_below}
-use Rattle.mono_store.proofs.Unfolding.{monomial_of-one}
+use Rattle.mono_store.specs.Monomials.{Powers as NumberedPowers}
+use Rattle.mono_store.specs.Stores.{Store, monomial_of}
+use Rattle.mono_store.proofs.Numbers.{is_below}
 use Rattle.geo_poly.specs.declared.replacement.Piece.{Piece}
 use Rattle.geo_poly.specs.declared.replacement.Row.{Row}
 use Rattle.geo_poly.specs.declared.variables.Var.{Var}
 use Rattle.geo_poly.specs.Inner.Keyed.{greatest_exponent, greatest_of_rows}
-use Rattle.geo_poly.specs.Inner.Limits.{AreBounds, AreGreatest, AreLimits, HaveRoom, exponent_anywhere, exponents_of_rows}
+use Rattle.geo_poly.specs.Inner.Limits.{AreBounds, AreGreatest, AreLimits, HaveRoom, IsBelow, exponent_anywhere, exponents_of_rows}
 use Rattle.geo_poly.specs.Inner.ReplacedExponents.{exponent_bound, exponent_in_row, exponent_in_rows, term_exponent}
 use Rattle.geo_poly.specs.Monomials.{Powers, exponent, exponents}
 use Rattle.geo_poly.specs.Polynomials.{Summands}
@@ -34,7 +33,6 @@ use Rattle.geo_poly.specs.Variables.{var_cmp}
 use Rattle.geo_poly.proofs.Naming.{var_at-keeps}
 use Rattle.geo_poly.proofs.Orders.{exponents_add, var_order}
 use Rattle.geo_poly.proofs.Told.{take_more}
-use Rattle.geo_poly.proofs.WordKeys.{exponent-named}
 
 -- LIMITS
 
@@ -122,51 +120,65 @@ exponent-take v ps i within =
 
 -- NUMBERED EXPONENTS
 
-pub AreGreatest-none : (places : ℕ) (links : Links) (numbers : List ℕ) → AreGreatest 1 places links numbers
-AreGreatest-none places links numbers = record {
-  each = λ id within v known.
-      let none : monomial_of links id ≡ [] = monomial_of-one links id (omega (arith, within)) in
-      omega (arith, ap (numbered_exponent v) none);
+pub AreGreatest-none : (vars : List Var) (numbers : List ℕ) → AreGreatest vars numbers []
+AreGreatest-none vars numbers = record { each = λ i known. omega arith }
+
+greatest-more : (v : Var) (p : Summands) (t : Powers × ℤ) → greatest_exponent v (p ++ t ∷ []) ≡ max (greatest_exponent v p) (exponent v t.0)
+greatest-more v [] t = omega arith
+greatest-more v (u ∷ us) t = omega (arith, greatest-more v us t)
+
+-- one more term, where no number gets lower
+pub AreGreatest-more : (vars : List Var) (old new : List ℕ) (p : Summands) (t : Powers × ℤ)
+    → ((i : ℕ) → slice_index_or old i 0 ≤ slice_index_or new i 0) → IsBelow vars new t.0 → AreGreatest vars old p
+    → AreGreatest vars new (p ++ t ∷ [])
+AreGreatest-more vars old new p t kept below h = record {
+  each = λ i known. omega (arith, h.each i known, kept i, below.each i known, greatest-more (var_at vars i) p t);
 }
 
--- one more link, whose exponent is not above the number at the place of its variable
-pub AreGreatest-more : (n places : ℕ) (links : Links) (old new : List ℕ) (id next : MonoId) (var exp : ℕ) → id.0 ≡ n → next.0 < n
-    → monomial_of links id ≡ (var, exp) ∷ monomial_of links next → IsCanonical nat_cmp numbered_exponents (monomial_of links id)
-    → (var < places → exp ≤ slice_index_or new var 0) → ((v : ℕ) → slice_index_or old v 0 ≤ slice_index_or new v 0)
-    → AreGreatest n places links old → AreGreatest (n + 1) places links new
-AreGreatest-more n places links old new id next var exp is earlier parts in_order least kept h = record { each = each }
+-- no exponent of the monomial is above the number at the place of its variable, but for the rest, which is not seen yet
+pub record IsRaised (vars : List Var) (numbers : List ℕ) (rest m : Powers) : Type 0 where
+  pub each : (i : ℕ) → i < length vars → exponent (var_at vars i) m ≤ max (slice_index_or numbers i 0) (exponent (var_at vars i) rest)
+
+pub IsRaised-none : (vars : List Var) (numbers : List ℕ) (m : Powers) → IsRaised vars numbers m m
+IsRaised-none vars numbers m = record { each = λ i known. omega arith }
+
+-- one power is seen, whose exponent is not above the number at the place of its variable
+pub IsRaised-next : (vars : List Var) (old new : List ℕ) (j e : ℕ) (w : Var) (rest m : Powers) → IsStrictlySortedBy var_cmp vars
+    → slice_get vars j ≡ Some w → IsCanonical var_cmp exponents ((w, e) ∷ rest) → (j < length vars → e ≤ slice_index_or new j 0)
+    → ((i : ℕ) → slice_index_or old i 0 ≤ slice_index_or new i 0) → IsRaised vars old ((w, e) ∷ rest) m → IsRaised vars new rest m
+IsRaised-next vars old new j e w rest m rising at whole least kept h = record { each = λ i known. go i known (nat_cmp i j) refl }
   where
-    whole : IsCanonical nat_cmp numbered_exponents ((var, exp) ∷ monomial_of links next)
-    whole = subst (IsCanonical nat_cmp numbered_exponents) parts in_order
+    within : j < length vars
+    within = slice_get_within vars j w at
 
-    here : (v : ℕ) → v < places → (o : Ordering) → nat_cmp v var ≡ o → numbered_exponent v ((var, exp) ∷ monomial_of links next) ≤ slice_index_or new v 0
-    here v known Less a =
-        let is : numbered_exponent v ((var, exp) ∷ monomial_of links next) ≡ 0 + numbered_exponent v (monomial_of links next) =
-        ap (λ (o : Ordering). cond (is_eq o) exp 0 + numbered_exponent v (monomial_of links next)) a in
-        omega (arith, is, h.each next earlier v known, kept v)
-    here v known Greater a =
-        let is : numbered_exponent v ((var, exp) ∷ monomial_of links next) ≡ 0 + numbered_exponent v (monomial_of links next) =
-        ap (λ (o : Ordering). cond (is_eq o) exp 0 + numbered_exponent v (monomial_of links next)) a in
-        omega (arith, is, h.each next earlier v known, kept v)
-    here v known Equal a =
-        let same : v ≡ var = natural_order.exact v var a in
-        let is : numbered_exponent v ((var, exp) ∷ monomial_of links next) ≡ exp + numbered_exponent v (monomial_of links next) =
-        ap (λ (o : Ordering). cond (is_eq o) exp 0 + numbered_exponent v (monomial_of links next)) a in
-        let none : numbered_exponent v (monomial_of links next) ≡ 0 =
-        ap (λ (u : ℕ). numbered_exponent u (monomial_of links next)) same ∙ amount-before nat_cmp numbered_exponents natural_order numbered_exponents_add var (monomial_of links next) whole.1 in
-        let most : exp ≤ slice_index_or new v 0 =
-        subst (λ (u : ℕ). exp ≤ slice_index_or new u 0) (sym same) (least (omega (arith, same, known))) in
-        omega (arith, is, none, most)
+    named_so : var_at vars j ≡ w
+    named_so = get_or_from_slice_get vars j w _ at
 
-    each : (other : MonoId) → other.0 < n + 1 → (v : ℕ) → v < places → numbered_exponent v (monomial_of links other) ≤ slice_index_or new v 0
-    each other within v known =
-        elim (cases_lt other.0 n) [
-          | inl before ↦ omega (arith, h.each other before v known, kept v)
-          | inr last ↦
-              let same : other.0 ≡ id.0 = omega (arith, within, last, is) in
-              let equal : monomial_of links other ≡ (var, exp) ∷ (monomial_of links next) = ap (λ (k : ℕ). monomial_of links (record { 0 = k })) same ∙ parts in
-              omega (arith, ap (numbered_exponent v) equal, here v known (nat_cmp v var) refl)
-        ]
+    order : (i : ℕ) → i < length vars → var_cmp (var_at vars i) w ≡ nat_cmp i j
+    order i known = ap (var_cmp (var_at vars i)) (sym named_so) ∙ var_at-keeps vars rising i j known within
+
+    go : (i : ℕ) → i < length vars → (o : Ordering) → nat_cmp i j ≡ o
+        → exponent (var_at vars i) m ≤ max (slice_index_or new i 0) (exponent (var_at vars i) rest)
+    go i known Less a =
+        let is : exponent (var_at vars i) ((w, e) ∷ rest) ≡ 0 + exponent (var_at vars i) rest =
+        ap (λ (o : Ordering). cond (is_eq o) e 0 + exponent (var_at vars i) rest) (order i known ∙ a) in
+        omega (arith, is, h.each i known, kept i)
+    go i known Greater a =
+        let is : exponent (var_at vars i) ((w, e) ∷ rest) ≡ 0 + exponent (var_at vars i) rest =
+        ap (λ (o : Ordering). cond (is_eq o) e 0 + exponent (var_at vars i) rest) (order i known ∙ a) in
+        omega (arith, is, h.each i known, kept i)
+    go i known Equal a =
+        let same : i ≡ j = natural_order.exact i j a in
+        let is : exponent (var_at vars i) ((w, e) ∷ rest) ≡ e + exponent (var_at vars i) rest =
+        ap (λ (o : Ordering). cond (is_eq o) e 0 + exponent (var_at vars i) rest) (order i known ∙ a) in
+        let none : exponent (var_at vars i) rest ≡ 0 =
+        ap (λ (u : Var). exponent u rest) (ap (var_at vars) same ∙ named_so)
+        ∙ amount-before var_cmp exponents var_order exponents_add w rest whole.1 in
+        let most : e ≤ slice_index_or new i 0 = subst (λ (u : ℕ). e ≤ slice_index_or new u 0) (sym same) (least within) in
+        omega (arith, is, none, most, h.each i known, kept i)
+
+pub IsRaised-all : (vars : List Var) (numbers : List ℕ) (rest m : Powers) → rest ≡ [] → IsRaised vars numbers rest m → IsBelow vars numbers m
+IsRaised-all vars numbers rest m none h = record { each = λ i known. omega (arith, h.each i known, ap (exponent (var_at vars i)) none) }
 
 -- NAMED EXPONENTS
 
@@ -211,32 +223,33 @@ module _ (vars : List Var) (rising : IsStrictlySortedBy var_cmp vars) where
       go Greater a rec = skip (ap (λ (o : Ordering). cond (is_eq o) p.1 0) a) rec
       go Equal a rec = inr (p.0, places.0, var_order.exact v (var_at vars p.0) a)
 
-  module _ (links : Links) (numbers : List ℕ) (bounds : Powers) (greatest : AreGreatest (count links) (length vars) links numbers)
-      (names : AreNamed vars numbers (length vars) bounds) where
-    monomial-bounded : (v : Var) (id : MonoId) → IsIndex vars links id → exponent v (powers_at vars links id) ≤ exponent v bounds
-    monomial-bounded v id is = go (place_or_none v (monomial_of links id) is.places)
+  module _ (numbers : List ℕ) (bounds : Powers) (names : AreNamed vars numbers (length vars) bounds) where
+    monomial-bounded : (v : Var) (m : NumberedPowers) → AllPlaces (length vars) m → IsBelow vars numbers (named vars m)
+        → exponent v (named vars m) ≤ exponent v bounds
+    monomial-bounded v m places below = go (place_or_none v m places)
       where
-        go : (exponent v (powers_at vars links id) ≡ 0) ⊎ ((j : ℕ) × (j < length vars) × (v ≡ var_at vars j))
-            → exponent v (powers_at vars links id) ≤ exponent v bounds
+        go : (exponent v (named vars m) ≡ 0) ⊎ ((j : ℕ) × (j < length vars) × (v ≡ var_at vars j))
+            → exponent v (named vars m) ≤ exponent v bounds
         go (inl none) = omega (arith, none)
         go (inr found) =
             let j = found.0 in
             let known = found.1 in
-            let here : exponent (var_at vars j) (powers_at vars links id) ≤ exponent (var_at vars j) bounds =
-            omega (
-              arith,
-              exponent-named vars rising j (monomial_of links id) known is.places,
-              greatest.each id is.within j known,
-              names.each j known,
-            ) in
-            subst (λ (w : Var). exponent w (powers_at vars links id) ≤ exponent w bounds) (sym found.2) here
+            let here : exponent (var_at vars j) (named vars m) ≤ exponent (var_at vars j) bounds =
+            omega (arith, below.each j known, names.each j known) in
+            subst (λ (w : Var). exponent w (named vars m) ≤ exponent w bounds) (sym found.2) here
 
-    terms-bounded : (v : Var) (list : Indices) → AllKeys (IsIndex vars links) list → greatest_exponent v (terms_of vars links list) ≤ exponent v bounds
-    terms-bounded v [] h = omega arith
-    terms-bounded v (t ∷ list) h = omega (arith, monomial-bounded v t.0 h.0, terms-bounded v list h.1)
+    terms-bounded : (store : Store) (v : Var) (list : Indices) → AllKeys (IsIndex vars store) list
+        → AreGreatest vars numbers (terms_of vars store list) → greatest_exponent v (terms_of vars store list) ≤ exponent v bounds
+    terms-bounded store v [] h greatest = omega arith
+    terms-bounded store v (t ∷ list) h greatest =
+        let most = greatest.each in
+        let first : IsBelow vars numbers (powers_at vars store t.0) = record { each = λ i known. omega (arith, most i known) } in
+        let others : AreGreatest vars numbers (terms_of vars store list) = record { each = λ i known. omega (arith, most i known) } in
+        omega (arith, monomial-bounded v (monomial_of store t.0) h.0.places first, terms-bounded store v list h.1 others)
 
-    pub AreBounds-named : (list : Indices) → AllKeys (IsIndex vars links) list → AreBounds (terms_of vars links list) bounds
-    AreBounds-named list h = record { each = λ v. terms-bounded v list h }
+    pub AreBounds-named : (store : Store) (list : Indices) → AllKeys (IsIndex vars store) list
+        → AreGreatest vars numbers (terms_of vars store list) → AreBounds (terms_of vars store list) bounds
+    AreBounds-named store list h greatest = record { each = λ v. terms-bounded store v list h greatest }
 
 -- VARIABLES WITHOUT ROWS
 
@@ -292,7 +305,8 @@ others-le v rows m own le = go (row_of rows v) (exponent-others v rows m) (expon
 
 -- NUMERATORS
 
-rows-plus : (v : Var) (rows : List Row) (m : Powers) (e : ℕ) → exponent_in_rows v rows m e ≡ e + exponent_in_rows v rows m 0
+-- what is there before the numerators add up stays
+pub rows-plus : (v : Var) (rows : List Row) (m : Powers) (e : ℕ) → exponent_in_rows v rows m e ≡ e + exponent_in_rows v rows m 0
 rows-plus v rows [] e = omega arith
 rows-plus v rows (p ∷ m) e = go (row_of rows p.0) (rows-plus v rows m)
   where

@@ -2,7 +2,7 @@
 use Rattle.std.proofs.Common.{◌≡◌, ◌<◌, ℕ, List, [], ◌∷◌, length, refl, sym, ap, ap₂, subst, ◌∙◌, arith}
 use Rattle.sparse_lists.specs.SparseLists.{AllKeys}
 use Rattle.mono_store.specs.Monomials.{Powers as NumberedPowers}
-use Rattle.mono_store.specs.Stores.{Keeps, Links}
+use Rattle.mono_store.specs.Stores.{Keeps, Store}
 use Rattle.geo_poly.specs.declared.variables.Var.{Var}
 use Rattle.geo_poly.specs.Inner.Keyed.{IsIndexUnder, KeepsKeys, terms_under}
 use Rattle.geo_poly.specs.Keys.{IsKeyUnder, Keys, store_keys}
@@ -21,11 +21,11 @@ KeepsKeys-trans a b c h g = record {
 }
 
 -- a store that grows keeps its indices
-pub keeps_keys : (old new : Links) → Keeps old new → KeepsKeys (store_keys old) (store_keys new)
+pub keeps_keys : (old new : Store) → Keeps old new → KeepsKeys (store_keys old) (store_keys new)
 keeps_keys old new h = record { longer = omega (arith, h.longer); powers = λ k within. h.monomials (record { 0 = k }) within; limits = refl }
 
-pub keeps_links : (old new : Links) → KeepsKeys (store_keys old) (store_keys new) → Keeps old new
-keeps_links old new h = record { longer = omega (arith, h.longer); monomials = λ id within. h.powers id.0 within }
+pub keeps_store : (old new : Store) → KeepsKeys (store_keys old) (store_keys new) → Keeps old new
+keeps_store old new h = record { longer = omega (arith, h.longer); monomials = λ id within. h.powers id.0 within }
 
 pub IsKeyUnder-kept : (vars : List Var) (old new : Keys) (k : ℕ) → KeepsKeys old new → IsKeyUnder vars old k → IsKeyUnder vars new k
 IsKeyUnder-kept vars old new k h is = record {

@@ -1,6 +1,6 @@
--- Variables that are inserted where they stand already, and a walk over a monomial that marks what it visits.
-use Rattle.std.proofs.Common.{◌≡◌, ℕ, zero, suc, ◌<◌, ◌≤◌, Bool, true, false, List, [], ◌∷◌, map, inl, inr, length, slice_index_or, refl, sym, ap, subst, ◌∙◌, arith}
-use Rattle.std.specs.Prelude.{◌≢◌, ◌⊎◌, Contains, Some, slice_get}
+-- Variables that are inserted where they stand already.
+use Rattle.std.proofs.Common.{◌≡◌, ℕ, zero, suc, ◌<◌, List, [], ◌∷◌, map, inl, inr, length, slice_index_or, refl, sym, ap, subst, arith}
+use Rattle.std.specs.Prelude.{◌⊎◌, Contains, Some, slice_get}
 use Rattle.std.specs.Option.{option_map}
 use Rattle.std.specs.BTreeSet.{insert_key}
 use Rattle.std.specs.List.{fold}
@@ -9,15 +9,10 @@ use Rattle.std.specs.Ordering.{match_ordering}
 use Rattle.std.specs.declared.cmp.Ordering.{Ordering}
 use Rattle.std.specs.declared.cmp.Ordering.TheVariants.{Less, Equal, Greater}
 use Rattle.sparse_lists.specs.SparseLists.{AllKeys}
-use Rattle.geo_poly.specs.declared.shared.Shared.{Shared}
 use Rattle.geo_poly.specs.declared.variables.Var.{Var}
-use Rattle.geo_poly.specs.Inner.Visits.{AreVisited}
 use Rattle.geo_poly.specs.Monomials.{Powers}
-use Rattle.geo_poly.specs.Shared.{told_powers}
 use Rattle.geo_poly.specs.Variables.{var_cmp}
-use Rattle.geo_poly.proofs.ChainSteps.{same_or}
 use Rattle.geo_poly.proofs.Orders.{var_order}
-use Rattle.geo_poly.proofs.Unions.{fold_has, fold_keeps}
 use Rattle.geo_poly.proofs.VariablesInOrder.{IsBelow}
 
 -- the variables of a monomial
@@ -28,14 +23,14 @@ names m = map (λ p. p.0) m
 abbrev pub with_names : List Var → Powers → List Var
 with_names ks m = fold (insert_key var_cmp) ks (names m)
 
-head_or : (x : Var) (xs : List Var) (v : Var) → Contains (x ∷ xs) v → (x ≡ v) ⊎ Contains xs v
+pub head_or : (x : Var) (xs : List Var) (v : Var) → Contains (x ∷ xs) v → (x ≡ v) ⊎ Contains xs v
 head_or x xs v c = go c.0 c.1 c.2
   where
     go : (k : ℕ) → k < length (x ∷ xs) → slice_index_or (x ∷ xs) k v ≡ v → (x ≡ v) ⊎ Contains xs v
     go zero h e = inl e
     go (suc k) h e = inr (k, omega (arith, h), e)
 
-below_known : (x : Var) (xs : List Var) (v : Var) → IsBelow x xs → Contains xs v → var_cmp x v ≡ Less
+pub below_known : (x : Var) (xs : List Var) (v : Var) → IsBelow x xs → Contains xs v → var_cmp x v ≡ Less
 below_known x [] v b c = absurd (omega (arith, c.1))
 below_known x (y ∷ ys) v b c = elim (head_or y ys v c) [
   | inl e ↦ subst (λ (w : Var). var_cmp x w ≡ Less) e b.0
@@ -59,17 +54,13 @@ insert_known (x ∷ xs) v s c = go (var_cmp v x) refl (λ d. insert_known xs v s
       | inr d ↦ let greater : var_cmp v x ≡ Greater = var_order.flip x v (below_known x xs v s.0 d) in absurd (cc)
     ]
 
-pub fold_known : (ks : List Var) (m : Powers) → IsStrictlySortedBy var_cmp ks → AllKeys (Contains ks) m → with_names ks m ≡ ks
-fold_known ks [] s h = refl
-fold_known ks (p ∷ m) s h = ap (λ (js : List Var). with_names js m) (insert_known ks p.0 s h.0) ∙ fold_known ks m s h.1
-
 -- the variable at a place of a monomial whose variables stand there
 pub known_at : (ks : List Var) (m : Powers) (i : ℕ) (v : Var) → AllKeys (Contains ks) m → option_map (λ (p : Var × ℕ). p.0) (slice_get m i) ≡ Some v → Contains ks v
 known_at ks [] i v h e = absurd (cc)
 known_at ks (p ∷ m) zero v h e = let same : p.0 ≡ v = cc in subst (λ (w : Var). Contains ks w) same h.0
 known_at ks (p ∷ m) (suc i) v h e = known_at ks m i v h.1 e
 
--- A WALK
+-- LONGER LISTS
 pub longer : (ks js : List Var) (m : Powers) → ((v : Var) → Contains ks v → Contains js v) → AllKeys (Contains ks) m → AllKeys (Contains js) m
 longer ks js [] more h = tt
 longer ks js (p ∷ m) more h = (more p.0 h.0, longer ks js m more h.1)
@@ -77,48 +68,3 @@ longer ks js (p ∷ m) more h = (more p.0 h.0, longer ks js m more h.1)
 pub all_names : (ws : List Var) (m : Powers) → ((v : Var) → Contains (names m) v → Contains ws v) → AllKeys (Contains ws) m
 all_names ws [] each = tt
 all_names ws (p ∷ m) each = (each p.0 (0, omega arith, refl), all_names ws m (λ v c. each v (suc c.0, omega (arith, c.1), c.2)))
-
--- the marks while the rest of a monomial is still to be walked: what was marked before stands among the keys, and what was marked on
--- the way will
-pub record Walking (p : Shared) (visited : List Bool) (keys : List Var) (rest : ℕ) (whole : List Var) : Type 0 where
-  pub before : (k : ℕ) → k ≤ rest → slice_index_or visited k false ≡ true → AllKeys (Contains keys) (told_powers p (record { 0 = k }))
-  pub soon : AreVisited p visited whole
-
-pub Walking-start : (p : Shared) (visited : List Bool) (keys : List Var) (rest : ℕ) (m : Powers) → AreVisited p visited keys → Walking p visited keys rest (with_names keys m)
-Walking-start p visited keys rest m h = record {
-  before = λ k below marked. h k marked;
-  soon = λ k marked. longer keys (with_names keys m) (told_powers p (record { 0 = k })) (λ v c. fold_keeps keys (names m) v c) (h k marked);
-}
-
--- one link: it is marked, its variable inserted, and the walk goes on with an earlier monomial
-pub Walking-next : (p : Shared) (visited visited' : List Bool) (keys keys' : List Var) (rest next : ℕ) (v : Var) (whole : List Var) → next < rest
-    → ((k : ℕ) → k ≢ rest → slice_index_or visited' k false ≡ slice_index_or visited k false) → keys' ≡ insert_key var_cmp keys v
-    → with_names keys (told_powers p (record { 0 = rest })) ≡ whole → Walking p visited keys rest whole → Walking p visited' keys' next whole
-Walking-next p visited visited' keys keys' rest next v whole earlier others is all h = record {
-  before = λ k below marked.
-      let other : k ≢ rest = λ e. omega (arith, e, below, earlier) in
-      longer keys keys' (told_powers p (record { 0 = k })) (λ w c. subst (λ (ks : List Var). Contains ks w) (sym is) (fold_keeps keys (v ∷ []) w c))
-      (h.before k (omega (arith, below, earlier)) (sym (others k other) ∙ marked));
-  soon = λ k marked. elim (same_or k rest) [
-    | inl e ↦ subst (λ (j : ℕ). AllKeys (Contains whole) (told_powers p (record { 0 = j }))) (sym e)
-        (subst (λ (ws : List Var). AllKeys (Contains ws) (told_powers p (record { 0 = rest }))) all
-        (all_names (with_names keys (told_powers p (record { 0 = rest }))) (told_powers p (record { 0 = rest })) (λ w c. fold_has keys (names (told_powers p (record { 0 = rest }))) w c)))
-    | inr d ↦ h.soon k (sym (others k d) ∙ marked)
-  ];
-}
-
--- a monomial that was marked before
-pub Walking-known : (p : Shared) (visited : List Bool) (keys : List Var) (rest : ℕ) (whole : List Var) → IsStrictlySortedBy var_cmp keys → slice_index_or visited rest false ≡ true
-    → with_names keys (told_powers p (record { 0 = rest })) ≡ whole → Walking p visited keys rest whole → keys ≡ whole
-Walking-known p visited keys rest whole rising marked all h =
-    sym (fold_known keys (told_powers p (record { 0 = rest })) rising (h.before rest (omega arith) marked)) ∙ all
-
--- the marks at the end, where the one that was met is still there
-pub Walking-end : (p : Shared) (visited visited' : List Bool) (keys : List Var) (rest : ℕ) (whole : List Var) → keys ≡ whole → slice_index_or visited rest false ≡ true
-    → ((k : ℕ) → k ≢ rest → slice_index_or visited' k false ≡ slice_index_or visited k false) → Walking p visited keys rest whole → AreVisited p visited' keys
-Walking-end p visited visited' keys rest whole is marked others h = λ k there.
-    let old : slice_index_or visited k false ≡ true = elim (same_or k rest) [
-      | inl e ↦ subst (λ (j : ℕ). slice_index_or visited j false ≡ true) (sym e) marked
-      | inr d ↦ sym (others k d) ∙ there
-    ] in
-    subst (λ (ws : List Var). AllKeys (Contains ws) (told_powers p (record { 0 = k }))) (sym is) (h.soon k old)

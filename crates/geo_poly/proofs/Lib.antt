@@ -45,6 +45,7 @@ pub mod ChainSteps
 pub mod ChainHalves
 pub mod ChainMultiples
 pub mod LoneTerms
+pub mod OneFactor
 pub mod Elements
 pub mod ChainPowers
 pub mod Unions
@@ -62,6 +63,8 @@ pub mod Dividing
 pub mod ZeroFactors
 pub mod TickBounds
 pub mod KnownVariables
+pub mod MarkedVariables
+pub mod DigitVariables
 pub mod FactoredTerms
 pub mod GoodPieces
 pub mod PieceReach
@@ -71,13 +74,10 @@ pub mod MultipliedIn
 pub mod PendingTerms
 pub mod JoinedParts
 pub mod TermPlaces
-pub mod WordOrder
-pub mod WordDigits
-pub mod DigitLists
 pub mod Gradings
 pub mod WordKeys
+pub mod WordStores
 pub mod WordChains
 pub mod WordInstance
-pub mod FirstPowers
-pub mod UnpackedWords
 pub mod ExponentLimits
+pub mod TermLimits

@@ -1,17 +1,20 @@
 -- Monomials of a store put under other keys without the variables that have rows, link by link.
-use Rattle.std.proofs.Common.{◌≡◌, ℕ, zero, suc, ◌<◌, List, [], ◌∷◌, ◌++◌, get_or, length, Option, None, Some, refl, sym, ap, ap₂, subst, ◌∙◌, arith}
+use Rattle.std.proofs.Common.{◌≡◌, ℕ, zero, suc, ◌+◌, ◌<◌, inl, inr, List, [], ◌∷◌, ◌++◌, get_or, length, Option, None, Some, refl, sym, ap, ap₂, subst, ◌∙◌, arith}
 use Rattle.std.specs.Prelude.{◌≢◌}
 use Rattle.std.specs.List.Sorted.{IsStrictlySortedBy}
+use Rattle.std.proofs.lemmas.Bool.{cases_lt}
+use Rattle.std.proofs.lemmas.List.{get_or_past}
 use Rattle.std.specs.Ordering.{nat_cmp}
 use Rattle.sparse_lists.specs.SparseLists.{IsCanonical}
 use Rattle.sparse_lists.proofs.Canonical.{IsCanonical-canonical, canonical_self}
 use Rattle.sparse_lists.proofs.NaturalAmounts.{natural_order}
 use Rattle.mono_store.specs.declared.links.MonoId.{MonoId}
 use Rattle.mono_store.specs.Monomials.{Powers as NumberedPowers, IsMonomial as IsNumberedMonomial, exponents as numbered_exponents}
-use Rattle.mono_store.specs.Stores.{IsStore, count, monomial_of}
+use Rattle.mono_store.specs.Stores.{IsStore, count, monomial_of, words}
 use Rattle.mono_store.proofs.Numbers.{exponents_add as numbered_add}
 use Rattle.mono_store.proofs.Products.{IsPowerBefore}
 use Rattle.mono_store.proofs.Unfolding.{monomial_of-one}
+use Rattle.mono_store.proofs.WordOrder.{word_count-some}
 use Rattle.geo_poly.specs.declared.replacement.Row.{Row}
 use Rattle.geo_poly.specs.declared.shared.Shared.{Shared}
 use Rattle.geo_poly.specs.declared.variables.Var.{Var}
@@ -21,7 +24,8 @@ use Rattle.geo_poly.specs.Keys.{Keys}
 use Rattle.geo_poly.specs.Shared.{AllPlaces, named, told_powers, var_at}
 use Rattle.geo_poly.specs.Variables.{var_cmp}
 use Rattle.geo_poly.specs.Inner.Keyed.{KeepsKeys}
-use Rattle.geo_poly.specs.Inner.Moved.{AreMoved, ArePlaces, IsMovedTo, IsPlaceOf, IsSame}
+use Rattle.geo_poly.specs.declared.moving.MovedMonomials.{MovedMonomials}
+use Rattle.geo_poly.specs.Inner.Moved.{AreMoved, AreMovedLinks, ArePlaces, IsMovedTo, IsPlaceOf, IsSame}
 use Rattle.geo_poly.proofs.KeysKept.{IsKeyUnder-kept}
 use Rattle.geo_poly.proofs.Naming.{IsPowerBefore-named, canonical-rename, degree_of-named, var_at-keeps}
 use Rattle.geo_poly.proofs.Orders.{exponents_add, var_order}
@@ -71,14 +75,14 @@ one_is_moved p rows vars keys id new first some e f =
     let old_is = monomial_of-one p.monos.now id e in
     let new_is : keys.powers new.0 ≡ [] = ap keys.powers f ∙ first in
     record {
-      old_index = record { within = omega (arith, e); places = subst (AllPlaces (length p.vars.now)) (sym old_is) tt };
+      old_index = record { within = omega (arith, e, word_count-some p.monos.now.limits); places = subst (AllPlaces (length p.vars.now)) (sym old_is) tt };
       new_index = record { within = omega (arith, f, some); places = subst (AllPlaces (length vars)) (sym new_is) tt };
       powers = ap (named vars) new_is ∙ ap (λ (m : NumberedPowers). others rows (named p.vars.now m)) (sym old_is);
     }
 
 -- A MONOMIAL WITH A FIRST POWER
 module _ (p : Shared) (rows : List Row) (vars : List Var) (id next : MonoId) (var exp : ℕ) (unfolds : monomial_of p.monos.now id ≡ (var, exp) ∷ monomial_of p.monos.now next)
-    (earlier : next.0 < id.0) (within : id.0 < count p.monos.now) where
+    (within : id.0 < count p.monos.now) where
   powers_are : told_powers p id ≡ (var_at p.vars.now var, exp) ∷ told_powers p next
   powers_are = ap (named p.vars.now) unfolds
 
@@ -123,10 +127,16 @@ module _ (p : Shared) (rows : List Row) (vars : List Var) (id next : MonoId) (va
 pub var_within : (old vars : List Var) (places : List (Option ℕ)) (var k : ℕ) → ArePlaces old vars places → get_or places var None ≡ Some k → var < length old
 var_within old vars places var k are at = omega (arith, some_within places var k at, are.whole)
 
--- what the table tells of an index
-pub entry_same : (p : Shared) (rows : List Row) (vars : List Var) (keys : Keys) (table : List (Option MonoId)) (id new : MonoId) → AreMoved p rows vars keys table
-    → get_or table id.0 None ≡ Some new → IsSame p rows vars keys id new
-entry_same p rows vars keys table id new are e = subst (IsMovedTo p rows vars keys id) e (are id.0 (some_within table id.0 new e))
+-- what a table of links tells of an index
+pub entry_moved : (p : Shared) (rows : List Row) (vars : List Var) (keys : Keys) (links : List (Option MonoId)) (id : MonoId) (k : ℕ) (entry : Option MonoId)
+    → AreMovedLinks p rows vars keys links → id.0 ≡ words p.monos.now + k → entry ≡ get_or links k None → IsMovedTo p rows vars keys id entry
+entry_moved p rows vars keys links id k entry are is at =
+    elim (cases_lt k (length links)) [
+      | inl within ↦
+          subst (λ (n : ℕ). IsMovedTo p rows vars keys (record { 0 = n }) entry) (sym is)
+          (subst (IsMovedTo p rows vars keys (record { 0 = words p.monos.now + k })) (sym at) (are k within))
+      | inr past ↦ subst (IsMovedTo p rows vars keys id) (sym (at ∙ get_or_past links k None past)) tt
+    ]
 
 -- where keys are added, the table stays right
 module _ (p : Shared) (rows : List Row) (vars : List Var) (old new : Keys) (kept : KeepsKeys old new) where
@@ -138,13 +148,24 @@ module _ (p : Shared) (rows : List Row) (vars : List Var) (old new : Keys) (kept
     powers = ap (named vars) (kept.powers there.0 is.new_index.within) ∙ is.powers;
   }
 
-  pub AreMoved-kept : (table : List (Option MonoId)) → AreMoved p rows vars old table → AreMoved p rows vars new table
-  AreMoved-kept table are = λ k within. IsMovedTo-kept (record { 0 = k }) (get_or table k None) (are k within)
+  pub AreMovedLinks-kept : (links : List (Option MonoId)) → AreMovedLinks p rows vars old links → AreMovedLinks p rows vars new links
+  AreMovedLinks-kept links are = λ k within. IsMovedTo-kept (record { 0 = words p.monos.now + k }) (get_or links k None) (are k within)
 
--- the table of the monomial with no variable
-pub first_moved : (p : Shared) (rows : List Row) (vars : List Var) (keys : Keys) (table : List (Option MonoId)) (new : MonoId) → keys.powers 0 ≡ [] → 0 < keys.count
-    → table ≡ [] → new.0 ≡ 0 → AreMoved p rows vars keys (table ++ Some new ∷ [])
-first_moved p rows vars keys table new first some e f =
-    subst (λ (xs : List (Option MonoId)). AreMoved p rows vars keys (xs ++ Some new ∷ [])) (sym e)
-    (each_push (λ k x. IsMovedTo p rows vars keys (record { 0 = k }) x) [] (Some new) None (λ k none. absurd (omega (arith, none)))
-    (one_is_moved p rows vars keys (record { 0 = 0 }) new first some refl f))
+  pub AreMoved-kept : (moved : MovedMonomials) → AreMoved p rows vars old moved → AreMoved p rows vars new moved
+  AreMoved-kept moved are = record {
+    parts = are.parts;
+    places = are.places;
+    links = AreMovedLinks-kept moved.links.items are.links;
+  }
+
+-- with no link there is nothing to tell
+pub no_links : (p : Shared) (rows : List Row) (vars : List Var) (keys : Keys) (links : List (Option MonoId)) → links ≡ [] → AreMovedLinks p rows vars keys links
+no_links p rows vars keys links none = λ k within. absurd (omega (arith, within, ap length none))
+
+-- one more link
+pub AreMovedLinks-push : (p : Shared) (rows : List Row) (vars : List Var) (keys : Keys) (links : List (Option MonoId)) (id : MonoId) (entry : Option MonoId)
+    → id.0 ≡ words p.monos.now + length links → AreMovedLinks p rows vars keys links → IsMovedTo p rows vars keys id entry
+    → AreMovedLinks p rows vars keys (links ++ entry ∷ [])
+AreMovedLinks-push p rows vars keys links id entry is are there =
+    each_push (λ k x. IsMovedTo p rows vars keys (record { 0 = words p.monos.now + k }) x) links entry None are
+    (subst (λ (n : ℕ). IsMovedTo p rows vars keys (record { 0 = n }) entry) is there)

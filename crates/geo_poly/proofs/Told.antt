@@ -6,7 +6,7 @@ use Rattle.sparse_lists.specs.SparseLists.{AllKeys}
 use Rattle.sparse_lists.proofs.Sums.{AllKeys-at}
 use Rattle.sparse_lists.proofs.Merging.{drop_at, get_or_any}
 use Rattle.mono_store.specs.declared.links.MonoId.{MonoId}
-use Rattle.mono_store.specs.Stores.{Links, Keeps}
+use Rattle.mono_store.specs.Stores.{Store, Keeps}
 use Rattle.geo_poly.specs.declared.shared.Shared.{Shared}
 use Rattle.geo_poly.specs.declared.variables.Var.{Var}
 use Rattle.geo_poly.specs.Monomials.{Powers, IsMonomial}
@@ -40,8 +40,8 @@ dropped_get (y ∷ ys) (suc k) x rest e = dropped_get ys k x rest e
 abbrev pub item : Indices → ℕ → MonoId × ℤ
 item list i = get_or list i (record { 0 = 0 }, pos 0)
 
-pub length-terms_of : (vars : List Var) (links : Links) (list : Indices) → length (terms_of vars links list) ≡ length list
-length-terms_of vars links list = length-map list (term_of vars links)
+pub length-terms_of : (vars : List Var) (store : Store) (list : Indices) → length (terms_of vars store list) ≡ length list
+length-terms_of vars store list = length-map list (term_of vars store)
 
 -- WHAT THE PARTS TELL
 
@@ -90,20 +90,20 @@ same_at p q i left right e =
     ∙ get_or_any (told q) i (told_term p (item p.list.now i)) (told_term q (item q.list.now i)) (told-within q i right) ∙ sym (told-is q i right)
 
 -- where the store grows, the indices stand for what they stood for
-pub powers_at-kept : (vars : List Var) (old new : Links) (id : MonoId) → Keeps old new → IsIndex vars old id → powers_at vars new id ≡ powers_at vars old id
+pub powers_at-kept : (vars : List Var) (old new : Store) (id : MonoId) → Keeps old new → IsIndex vars old id → powers_at vars new id ≡ powers_at vars old id
 powers_at-kept vars old new id h is = ap (named vars) (h.monomials id is.within)
 
-pub IsIndex-kept : (vars : List Var) (old new : Links) (id : MonoId) → Keeps old new → IsIndex vars old id → IsIndex vars new id
+pub IsIndex-kept : (vars : List Var) (old new : Store) (id : MonoId) → Keeps old new → IsIndex vars old id → IsIndex vars new id
 IsIndex-kept vars old new id h is = record {
   within = omega (arith, h.longer, is.within);
   places = subst (AllPlaces (length vars)) (sym (h.monomials id is.within)) is.places;
 }
 
-pub indices-kept : (vars : List Var) (old new : Links) (list : Indices) → Keeps old new → AllKeys (IsIndex vars old) list → AllKeys (IsIndex vars new) list
+pub indices-kept : (vars : List Var) (old new : Store) (list : Indices) → Keeps old new → AllKeys (IsIndex vars old) list → AllKeys (IsIndex vars new) list
 indices-kept vars old new [] h g = tt
 indices-kept vars old new (t ∷ list) h g = (IsIndex-kept vars old new t.0 h g.0, indices-kept vars old new list h g.1)
 
-pub terms_of-kept : (vars : List Var) (old new : Links) (list : Indices) → Keeps old new → AllKeys (IsIndex vars old) list → terms_of vars new list ≡ terms_of vars old list
+pub terms_of-kept : (vars : List Var) (old new : Store) (list : Indices) → Keeps old new → AllKeys (IsIndex vars old) list → terms_of vars new list ≡ terms_of vars old list
 terms_of-kept vars old new [] h g = refl
 terms_of-kept vars old new (t ∷ list) h g =
     ap₂ (λ (m : Powers) (ts : Summands). (m, t.1) ∷ ts) (powers_at-kept vars old new t.0 h g.0) (terms_of-kept vars old new list h g.1)

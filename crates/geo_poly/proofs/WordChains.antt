@@ -17,7 +17,7 @@ use Rattle.mono_store.proofs.Numbers.{exponents_add}
 use Rattle.poly_arena.specs.Chains.{Pairs}
 use Rattle.poly_arena.specs.Orders.{IsFalling, SumsFit, sum_of as chain_sum}
 use Rattle.geo_poly.specs.declared.variables.Var.{Var}
-use Rattle.geo_poly.specs.Inner.Words.{FitsLimits, Limits, limit, powers_of_word, word, word_count}
+use Rattle.mono_store.specs.Words.{FitsLimits, Limits, limit, powers_of_word, word, word_count}
 use Rattle.geo_poly.specs.Monomials.{Powers, exponent, product}
 use Rattle.geo_poly.specs.Polynomials.{Summands, coefficients, multiples, norm_of, sum_of, term_cmp}
 use Rattle.geo_poly.specs.Shared.{AllPlaces, named, var_at}
@@ -25,9 +25,9 @@ use Rattle.geo_poly.specs.Variables.{var_cmp}
 use Rattle.geo_poly.proofs.Gradings.{exponent_grading, top_grade}
 use Rattle.geo_poly.proofs.Naming.{canonical-rename, cmp-named, places-product, product-named}
 use Rattle.geo_poly.proofs.PolynomialLaws.{unsigned_abs-add-le}
-use Rattle.geo_poly.proofs.WordDigits.{FitsLimits-powers_of_word, IsCanonical-powers_from, word-below_all, word-powers_of_word}
-use Rattle.geo_poly.proofs.WordDigits.{word-product}
-use Rattle.geo_poly.proofs.WordKeys.{AllPlaces-fits, FitsLimits-named, monomial_cmp-powers_of_word, powers_of_word-add}
+use Rattle.mono_store.proofs.WordDigits.{FitsLimits-powers_of_word, IsCanonical-powers_from, word-below_all, word-powers_of_word}
+use Rattle.mono_store.proofs.WordDigits.{monomial_cmp-powers_of_word, word-product}
+use Rattle.geo_poly.proofs.WordKeys.{AllPlaces-fits, FitsLimits-named, powers_of_word-add}
 
 -- KEYS THAT STAND FOR MONOMIALS
 

@@ -1,72 +1,22 @@
--- What words promise as keys of chains: powers put before a word, products within limits, and merges in the order of words.
-use Rattle.std.proofs.Common.{◌≡◌, ℕ, ◌+◌, ◌^◌, ◌<◌, ◌≤◌, eqb, false, cond, ℤ, [], ◌∷◌, ◌++◌, map, refl, sym, ap, subst}
+-- What words promise as keys of chains: products within limits, and merges in the order of words.
+use Rattle.std.proofs.Common.{◌≡◌, ℕ, ◌+◌, ◌^◌, ◌<◌, ◌≤◌, ℤ, [], ◌∷◌, ◌++◌, map, refl, sym, ap}
 use Rattle.std.proofs.Common.{◌∙◌, arith}
-use Rattle.std.specs.Ordering.{flip_args, is_eq, nat_cmp}
-use Rattle.std.specs.declared.cmp.Ordering.{Ordering}
-use Rattle.std.specs.declared.cmp.Ordering.TheVariants.{Less, Equal, Greater}
-use Rattle.std.proofs.lemmas.Bool.Decides.{nat_tests}
-use Rattle.sparse_lists.specs.SparseLists.{AllKeys, IsBefore, IsCanonical, canonical}
-use Rattle.sparse_lists.proofs.Canonical.{IsCanonical-canonical, amount-before}
+use Rattle.std.specs.Ordering.{flip_args, nat_cmp}
+use Rattle.sparse_lists.specs.SparseLists.{AllKeys, IsBefore, canonical}
+use Rattle.sparse_lists.proofs.Canonical.{IsCanonical-canonical}
 use Rattle.sparse_lists.proofs.NaturalAmounts.{natural_order}
 use Rattle.sparse_lists.proofs.Sums.{AllKeys-append}
-use Rattle.mono_store.specs.Monomials.{ComesFirst, Powers, exponent, exponents, product}
+use Rattle.mono_store.specs.Monomials.{exponents, product}
 use Rattle.mono_store.proofs.Numbers.{exponents_add}
-use Rattle.mono_store.proofs.Products.{IsBefore-first}
 use Rattle.poly_arena.specs.Chains.{Pairs}
 use Rattle.poly_arena.specs.Orders.{IsFalling, coefficients, sum_of}
 use Rattle.geo_poly.specs.Inner.Keyed.{IsInReach, key_cmp}
-use Rattle.geo_poly.specs.Inner.Words.{FitsLimits, Limits, limit, powers_of_word, word, word_count, word_keys}
+use Rattle.mono_store.specs.Words.{FitsLimits, Limits, powers_of_word, word_count}
+use Rattle.geo_poly.specs.Inner.Words.{word_keys}
 use Rattle.geo_poly.proofs.Naming.{canonical-rename}
-use Rattle.geo_poly.proofs.WordDigits.{FitsLimits-powers_of_word, FitsLimits-product, IsCanonical-powers_from, powers_of_word-word, word-below_all}
-use Rattle.geo_poly.proofs.WordDigits.{word-powers_of_word, word-product}
-use Rattle.geo_poly.proofs.WordKeys.{monomial_cmp-powers_of_word, powers_of_word-add}
-use Rattle.geo_poly.proofs.WordOrder.{word-cons}
-
--- POWERS
-
-nonzero : (e : ℕ) → 1 ≤ e → eqb e 0 ≡ false
-nonzero e some = grind (arith, nat_tests)
-
-module _ (limits : Limits) (v e w : ℕ) (within : w < word_count limits) (some : 1 ≤ e) (first : ComesFirst v (powers_of_word limits w))
-    (fits : e ≤ limit limits v) where
-  abbrev rest : Powers
-  rest = powers_of_word limits w
-
-  abbrev whole : Powers
-  whole = (v, e) ∷ rest
-
-  before : IsBefore nat_cmp v rest
-  before = IsBefore-first v rest first (IsCanonical-powers_from 0 limits w)
-
-  in_order : IsCanonical nat_cmp exponents whole
-  in_order = (nonzero e some, before, IsCanonical-powers_from 0 limits w)
-
-  whole_fits : FitsLimits limits whole
-  whole_fits = record { exponents = λ u. go u (nat_cmp u v) refl }
-    where
-      go : (u : ℕ) (o : Ordering) → nat_cmp u v ≡ o → exponent u whole ≤ limit limits u
-      go u Less a =
-          let here = ap (λ (o : Ordering). cond (is_eq o) e 0 + exponent u rest) a in
-          omega (arith, here, (FitsLimits-powers_of_word limits w).exponents u)
-      go u Greater a =
-          let here = ap (λ (o : Ordering). cond (is_eq o) e 0 + exponent u rest) a in
-          omega (arith, here, (FitsLimits-powers_of_word limits w).exponents u)
-      go u Equal a =
-          let same : u ≡ v = natural_order.exact u v a in
-          let here = ap (λ (o : Ordering). cond (is_eq o) e 0 + exponent u rest) a in
-          let none : exponent u rest ≡ 0 =
-          ap (λ (x : ℕ). exponent x rest) same ∙ amount-before nat_cmp exponents natural_order exponents_add v rest before in
-          let room : e ≤ limit limits u = subst (λ (x : ℕ). e ≤ limit limits x) (sym same) fits in
-          omega (arith, here, none, room)
-
-  word_is : word limits whole ≡ w + word limits ((v, e) ∷ [])
-  word_is = omega (arith, word-cons limits (v, e) rest, word-cons limits (v, e) [], word-powers_of_word limits w within)
-
-  pub power_before-below : w + word limits ((v, e) ∷ []) < word_count limits
-  power_before-below = omega (arith, word_is, word-below_all limits whole in_order whole_fits)
-
-  pub power_before-powers : powers_of_word limits (w + word limits ((v, e) ∷ [])) ≡ (v, e) ∷ powers_of_word limits w
-  power_before-powers = ap (powers_of_word limits) (sym word_is) ∙ powers_of_word-word limits whole in_order whole_fits
+use Rattle.mono_store.proofs.WordDigits.{FitsLimits-product, word-below_all}
+use Rattle.mono_store.proofs.WordDigits.{monomial_cmp-powers_of_word, word-powers_of_word, word-product}
+use Rattle.geo_poly.proofs.WordKeys.{powers_of_word-add}
 
 -- PRODUCTS
 
@@ -114,7 +64,7 @@ module _ (limits : Limits) where
   words-fall (t ∷ ts) g f = (falls_before t.0 ts g.0 g.1 f.0, words-fall ts g.1 f.1)
 
   -- words are below 2 ^ 64
-  pub words-below : word_count limits < 2 ^ 64 → (ts : Pairs) → AllKeys Within ts → AllKeys (λ k. k < 2 ^ 64) ts
+  pub words-below : word_count limits ≤ 2 ^ 63 → (ts : Pairs) → AllKeys Within ts → AllKeys (λ k. k < 2 ^ 64) ts
   words-below all [] g = tt
   words-below all (t ∷ ts) g = (omega (arith, all, g.0), words-below all ts g.1)
 

@@ -1,4 +1,4 @@
--- Words as keys: where the limits fit, a sum of words stands for the product, and words are in the order of what they stand for.
+-- Words as keys: where the limits fit, a sum of words stands for the product.
 use Rattle.std.proofs.Common.{◌≡◌, ℕ, ◌+◌, ◌<◌, ◌≤◌, cond, inl, inr, List, [], ◌∷◌, ◌++◌, length, refl, sym, ap, ap₂, ◌∙◌}
 use Rattle.std.proofs.Common.{arith}
 use Rattle.std.specs.List.Sorted.{IsStrictlySortedBy}
@@ -8,17 +8,17 @@ use Rattle.std.proofs.lemmas.Bool.{cases_lt}
 use Rattle.sparse_lists.specs.SparseLists.{IsCanonical}
 use Rattle.sparse_lists.proofs.Canonical.{IsCanonical-canonical}
 use Rattle.sparse_lists.proofs.NaturalAmounts.{natural_order}
-use Rattle.mono_store.specs.Monomials.{Powers as NumberedPowers, exponent as numbered_exponent, exponents, monomial_cmp, product}
+use Rattle.mono_store.specs.Monomials.{Powers as NumberedPowers, exponent as numbered_exponent, exponents, product}
 use Rattle.mono_store.proofs.Numbers.{below, exponents_add}
 use Rattle.geo_poly.specs.declared.variables.Var.{Var}
-use Rattle.geo_poly.specs.Inner.Words.{FitsLimits, Limits, limit, powers_of_word, word, word_count}
+use Rattle.mono_store.specs.Words.{FitsLimits, Limits, limit, powers_of_word, word, word_count}
 use Rattle.geo_poly.specs.Monomials.{exponent}
 use Rattle.geo_poly.specs.Shared.{AllPlaces, named, var_at}
 use Rattle.geo_poly.specs.Variables.{var_cmp}
 use Rattle.geo_poly.proofs.Naming.{var_at-keeps}
-use Rattle.geo_poly.proofs.WordDigits.{FitsLimits-powers_of_word, IsCanonical-powers_from, number-within, powers_of_word-word}
-use Rattle.geo_poly.proofs.WordDigits.{word-powers_of_word, word-product}
-use Rattle.geo_poly.proofs.WordOrder.{FitsLimits-rest, monomial_cmp-word}
+use Rattle.mono_store.proofs.WordDigits.{number-within, powers_of_word-word}
+use Rattle.mono_store.proofs.WordDigits.{word-powers_of_word, word-product}
+use Rattle.mono_store.proofs.WordOrder.{FitsLimits-rest}
 
 -- KEYS
 
@@ -33,15 +33,6 @@ powers_of_word-add limits a b h g f =
     sym (word-product limits m n ∙ ap₂ ◌+◌ (word-powers_of_word limits a h) (word-powers_of_word limits b g)) in
     ap (powers_of_word limits) same
     ∙ powers_of_word-word limits (product m n) (IsCanonical-canonical nat_cmp exponents natural_order exponents_add (m ++ n)) f
-
--- the order of words is that of what they stand for
-pub monomial_cmp-powers_of_word : (limits : Limits) (a b : ℕ) → a < word_count limits → b < word_count limits
-    → monomial_cmp (powers_of_word limits a) (powers_of_word limits b) ≡ nat_cmp a b
-monomial_cmp-powers_of_word limits a b h g =
-    monomial_cmp-word limits (powers_of_word limits a) (powers_of_word limits b) (IsCanonical-powers_from 0 limits a)
-    (IsCanonical-powers_from 0 limits b)
-    (FitsLimits-powers_of_word limits a) (FitsLimits-powers_of_word limits b)
-    ∙ ap₂ nat_cmp (word-powers_of_word limits a h) (word-powers_of_word limits b g)
 
 -- the variables of a monomial that fits have limits
 pub AllPlaces-fits : (limits : Limits) (m : NumberedPowers) → IsCanonical nat_cmp exponents m → FitsLimits limits m

@@ -15,7 +15,7 @@ use Rattle.sparse_lists.specs.SparseLists.{AllKeys, IsCanonical}
 use Rattle.sparse_lists.proofs.Canonical.{IsBefore_trans, amount-before, amount-head}
 use Rattle.sparse_lists.proofs.Sums.{AllKeys-at}
 use Rattle.mono_store.specs.declared.links.MonoId.{MonoId}
-use Rattle.mono_store.specs.Stores.{Links}
+use Rattle.mono_store.specs.Stores.{Store}
 use Rattle.geo_poly.specs.declared.variables.Var.{Var}
 use Rattle.geo_poly.specs.declared.variables.Var.TheVariants.{R}
 use Rattle.geo_poly.specs.Variables.{var_cmp}
@@ -107,16 +107,16 @@ module _ (f : Powers × ℤ → Bool) (p : Summands) (i : ℕ) (t : Powers × �
   left_out fails empty = let rest = filter f (drop (i + 1) p) in ap (filter f) at ∙ ap (λ (b : Bool). cond b (t ∷ rest) rest) fails ∙ empty
 
 -- THEIR INDICES
-pub terms_of-filter : (vars : List Var) (links : Links) (f : Powers × ℤ → Bool) (list : Indices)
-    → terms_of vars links (filter (λ t. f (term_of vars links t)) list) ≡ filter f (terms_of vars links list)
-terms_of-filter vars links f [] = refl
-terms_of-filter vars links f (t ∷ ts) =
-    elim (f (term_of vars links t)) as
-    (λ b. terms_of vars links (cond b (t ∷ filter (λ u. f (term_of vars links u)) ts)
-    (filter (λ u. f (term_of vars links u)) ts)) ≡ cond b (term_of vars links t ∷ filter f (terms_of vars links ts))
-    (filter f (terms_of vars links ts))) [
-      | true ↦ ap (λ (us : Summands). term_of vars links t ∷ us) (terms_of-filter vars links f ts)
-      | false ↦ terms_of-filter vars links f ts
+pub terms_of-filter : (vars : List Var) (store : Store) (f : Powers × ℤ → Bool) (list : Indices)
+    → terms_of vars store (filter (λ t. f (term_of vars store t)) list) ≡ filter f (terms_of vars store list)
+terms_of-filter vars store f [] = refl
+terms_of-filter vars store f (t ∷ ts) =
+    elim (f (term_of vars store t)) as
+    (λ b. terms_of vars store (cond b (t ∷ filter (λ u. f (term_of vars store u)) ts)
+    (filter (λ u. f (term_of vars store u)) ts)) ≡ cond b (term_of vars store t ∷ filter f (terms_of vars store ts))
+    (filter f (terms_of vars store ts))) [
+      | true ↦ ap (λ (us : Summands). term_of vars store t ∷ us) (terms_of-filter vars store f ts)
+      | false ↦ terms_of-filter vars store f ts
     ]
 
 pub AllKeys-filter : (P : MonoId → Type 0) (f : MonoId × ℤ → Bool) (list : Indices) → AllKeys P list → AllKeys P (filter f list)
@@ -133,27 +133,27 @@ same_behind xs ys i t e at =
     let here : i + 0 ≡ i = omega arith in
     at ∙ ap (λ n. get_or ys n t) (sym here) ∙ sym (get_or-drop i ys 0 t) ∙ ap (λ (l : Indices). get_or l 0 t) e ∙ get_or-drop i xs 0 t ∙ ap (λ n. get_or xs n t) here
 
-pub index_in : (vars : List Var) (links : Links) (list : Indices) (i : ℕ) (t : MonoId × ℤ) → i < length list → t ≡ get_or list i t → IsShared vars links list → IsIndex vars links t.0
-index_in vars links list i t within at h = AllKeys-at (IsIndex vars links) list i t within at h.indices
+pub index_in : (vars : List Var) (store : Store) (list : Indices) (i : ℕ) (t : MonoId × ℤ) → i < length list → t ≡ get_or list i t → IsShared vars store list → IsIndex vars store t.0
+index_in vars store list i t within at h = AllKeys-at (IsIndex vars store) list i t within at h.indices
 
-pub monomial_in : (vars : List Var) (links : Links) (list : Indices) (i : ℕ) (t : MonoId × ℤ) → i < length list → t ≡ get_or list i t → IsShared vars links list → IsMonomial (powers_at vars links t.0)
-monomial_in vars links list i t within at h =
-    AllKeys-at IsMonomial (terms_of vars links list) i (term_of vars links t) (omega (arith, within, length-terms_of vars links list))
-    (ap (term_of vars links) at ∙ sym (get_or-map (term_of vars links) list i t (term_of vars links t) within)) h.polynomial.monomials
+pub monomial_in : (vars : List Var) (store : Store) (list : Indices) (i : ℕ) (t : MonoId × ℤ) → i < length list → t ≡ get_or list i t → IsShared vars store list → IsMonomial (powers_at vars store t.0)
+monomial_in vars store list i t within at h =
+    AllKeys-at IsMonomial (terms_of vars store list) i (term_of vars store t) (omega (arith, within, length-terms_of vars store list))
+    (ap (term_of vars store) at ∙ sym (get_or-map (term_of vars store) list i t (term_of vars store t) within)) h.polynomial.monomials
 
 -- the terms that are kept
-pub kept_terms : (vars : List Var) (links : Links) (list : Indices) (v : Var) → IsShared vars links list
-    → terms_of vars links (filter (λ t. lacks v (term_of vars links t)) list) ≡ specialised v (pos 0) (terms_of vars links list)
-kept_terms vars links list v h = terms_of-filter vars links (lacks v) list ∙ sym (specialised-zero v (terms_of vars links list) h.polynomial.in_order h.polynomial.monomials)
+pub kept_terms : (vars : List Var) (store : Store) (list : Indices) (v : Var) → IsShared vars store list
+    → terms_of vars store (filter (λ t. lacks v (term_of vars store t)) list) ≡ specialised v (pos 0) (terms_of vars store list)
+kept_terms vars store list v h = terms_of-filter vars store (lacks v) list ∙ sym (specialised-zero v (terms_of vars store list) h.polynomial.in_order h.polynomial.monomials)
 
-pub kept_shared : (vars : List Var) (links : Links) (list : Indices) (v : Var) → IsShared vars links list → IsShared vars links (filter (λ t. lacks v (term_of vars links t)) list)
-kept_shared vars links list v h =
+pub kept_shared : (vars : List Var) (store : Store) (list : Indices) (v : Var) → IsShared vars store list → IsShared vars store (filter (λ t. lacks v (term_of vars store t)) list)
+kept_shared vars store list v h =
     let small : unsigned_abs (pos 0) ≤ 1 = omega arith in
-    let light : specialised_weight v (pos 0) (terms_of vars links list) < 2 ^ 127 = omega (arith, small_weight v (pos 0) (terms_of vars links list) small, h.polynomial.norm_fits) in
+    let light : specialised_weight v (pos 0) (terms_of vars store list) < 2 ^ 127 = omega (arith, small_weight v (pos 0) (terms_of vars store list) small, h.polynomial.norm_fits) in
     record {
       rising = h.rising;
-      indices = AllKeys-filter (IsIndex vars links) (λ t. lacks v (term_of vars links t)) list h.indices;
-      polynomial = subst IsPolynomial (sym (kept_terms vars links list v h)) (IsPolynomial-specialised v (pos 0) (terms_of vars links list) h.polynomial.monomials light);
+      indices = AllKeys-filter (IsIndex vars store) (λ t. lacks v (term_of vars store t)) list h.indices;
+      polynomial = subst IsPolynomial (sym (kept_terms vars store list v h)) (IsPolynomial-specialised v (pos 0) (terms_of vars store list) h.polynomial.monomials light);
     }
 
 -- A VARIABLE THAT DOES NOT STAND IN THE LIST
@@ -168,11 +168,11 @@ no_degree vars v (t ∷ ts) out h =
     omega (arith, head, no_degree vars v ts out h.1)
 
 -- stands in no monomial
-pub absent : (vars : List Var) (links : Links) (list : Indices) (v : Var) → (Contains vars v → ⊥) → AllKeys (IsIndex vars links) list → degree_in v (terms_of vars links list) ≡ 0
-absent vars links list v out h = no_degree vars v (terms_of vars links list) out (known_variables vars links list h)
+pub absent : (vars : List Var) (store : Store) (list : Indices) (v : Var) → (Contains vars v → ⊥) → AllKeys (IsIndex vars store) list → degree_in v (terms_of vars store list) ≡ 0
+absent vars store list v out h = no_degree vars v (terms_of vars store list) out (known_variables vars store list h)
 
 -- so 0 for it changes nothing
-pub absent_zero : (vars : List Var) (links : Links) (list : Indices) (v : Var) → (Contains vars v → ⊥) → IsShared vars links list
-    → specialised v (pos 0) (terms_of vars links list) ≡ terms_of vars links list
-absent_zero vars links list v out h =
-    specialised-lacking v (pos 0) (terms_of vars links list) (record { in_order = h.polynomial.in_order; monomials = h.polynomial.monomials }) (absent vars links list v out h.indices)
+pub absent_zero : (vars : List Var) (store : Store) (list : Indices) (v : Var) → (Contains vars v → ⊥) → IsShared vars store list
+    → specialised v (pos 0) (terms_of vars store list) ≡ terms_of vars store list
+absent_zero vars store list v out h =
+    specialised-lacking v (pos 0) (terms_of vars store list) (record { in_order = h.polynomial.in_order; monomials = h.polynomial.monomials }) (absent vars store list v out h.indices)

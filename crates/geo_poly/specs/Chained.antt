@@ -2,7 +2,7 @@
 use Rattle.std.specs.Prelude.{◌≡◌, ◌≢◌, ℕ, ℤ, List, map, None}
 use Rattle.sparse_lists.specs.SparseLists.{AllKeys}
 use Rattle.mono_store.specs.declared.links.MonoId.{MonoId}
-use Rattle.mono_store.specs.Stores.{Links}
+use Rattle.mono_store.specs.Stores.{Store}
 use Rattle.poly_arena.specs.Chains.{Chains, IsLive, Pairs, list_of, pairs_of}
 use Rattle.geo_poly.specs.declared.variables.Var.{Var}
 use Rattle.geo_poly.specs.Monomials.{Powers}
@@ -11,8 +11,8 @@ use Rattle.geo_poly.specs.Keys.{IsKeyUnder, Keys, store_keys}
 use Rattle.geo_poly.specs.Shared.{named}
 
 -- the number is the index of a monomial, whose variables are in the list
-abbrev pub IsKey : List Var → Links → ℕ → Type 0
-IsKey vars links k = IsKeyUnder vars (store_keys links) k
+abbrev pub IsKey : List Var → Store → ℕ → Type 0
+IsKey vars store k = IsKeyUnder vars (store_keys store) k
 
 -- a key with a coefficient as an index with that coefficient
 abbrev pub indexed_pair : ℕ × ℤ → MonoId × ℤ
@@ -27,11 +27,11 @@ abbrev pub keyed_terms_under : List Var → Keys → Pairs → Summands
 keyed_terms_under vars keys pairs = map (keyed_term_under vars keys) pairs
 
 -- the same under the indices of a store
-abbrev pub keyed_term : List Var → Links → ℕ × ℤ → Powers × ℤ
-keyed_term vars links = keyed_term_under vars (store_keys links)
+abbrev pub keyed_term : List Var → Store → ℕ × ℤ → Powers × ℤ
+keyed_term vars store = keyed_term_under vars (store_keys store)
 
-abbrev pub keyed_terms : List Var → Links → Pairs → Summands
-keyed_terms vars links = keyed_terms_under vars (store_keys links)
+abbrev pub keyed_terms : List Var → Store → Pairs → Summands
+keyed_terms vars store = keyed_terms_under vars (store_keys store)
 
 -- a live chain has the terms p, each under the key of its monomial
 pub record StandsUnder (vars : List Var) (under : Keys) (arena : Chains) (number : ℕ) (p : Summands) : Type 0 where
@@ -40,8 +40,8 @@ pub record StandsUnder (vars : List Var) (under : Keys) (arena : Chains) (number
   pub terms : keyed_terms_under vars under (pairs_of arena number) ≡ p
 
 -- a live chain has the terms p, each under the index of its monomial
-abbrev pub StandsFor : List Var → Links → Chains → ℕ → Summands → Type 0
-StandsFor vars links arena number p = StandsUnder vars (store_keys links) arena number p
+abbrev pub StandsFor : List Var → Store → Chains → ℕ → Summands → Type 0
+StandsFor vars store arena number p = StandsUnder vars (store_keys store) arena number p
 
 -- a number that no chain had has one, and all other chains have what they had
 pub record AddsChain (old new : Chains) (number : ℕ) : Type 0 where

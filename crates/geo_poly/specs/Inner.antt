@@ -11,5 +11,4 @@ pub mod Factored
 pub mod Accumulated
 pub mod ReplacedExponents
 pub mod Words
-pub mod Unpacked
 pub mod Limits

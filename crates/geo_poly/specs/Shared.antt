@@ -4,7 +4,7 @@ use Rattle.std.specs.List.Sorted.{IsStrictlySortedBy}
 use Rattle.sparse_lists.specs.SparseLists.{AllKeys}
 use Rattle.mono_store.specs.declared.links.MonoId.{MonoId}
 use Rattle.mono_store.specs.Monomials.{Powers as NumberedPowers}
-use Rattle.mono_store.specs.Stores.{Links, monomial_of}
+use Rattle.mono_store.specs.Stores.{Store, monomial_of}
 use Rattle.geo_poly.specs.declared.shared.Shared.{Shared}
 use Rattle.geo_poly.specs.declared.variables.Var.{Var}
 use Rattle.geo_poly.specs.declared.variables.Var.TheVariants.{R}
@@ -22,34 +22,34 @@ abbrev pub named : List Var → NumberedPowers → Powers
 named vars m = map (λ p. (var_at vars p.0, p.1)) m
 
 -- the monomial at an index, with the variables in place of their numbers
-abbrev pub powers_at : List Var → Links → MonoId → Powers
-powers_at vars links id = named vars (monomial_of links id)
+abbrev pub powers_at : List Var → Store → MonoId → Powers
+powers_at vars store id = named vars (monomial_of store id)
 
 -- the number of each variable is a place in a list of n variables
 abbrev pub AllPlaces : ℕ → NumberedPowers → Type 0
 AllPlaces n m = AllKeys (λ k. k < n) m
 
 -- the index is one of the store, and the variables of its monomial are in the list
-abbrev pub IsIndex : List Var → Links → MonoId → Type 0
-IsIndex vars links id = IsKeyUnder vars (store_keys links) id.0
+abbrev pub IsIndex : List Var → Store → MonoId → Type 0
+IsIndex vars store id = IsKeyUnder vars (store_keys store) id.0
 
 -- indices of monomials, with coefficients
 abbrev pub Indices : Type 0
 Indices = List (MonoId × ℤ)
 
 -- the term that an index with a coefficient stands for
-abbrev pub term_of : List Var → Links → MonoId × ℤ → Powers × ℤ
-term_of vars links t = (powers_at vars links t.0, t.1)
+abbrev pub term_of : List Var → Store → MonoId × ℤ → Powers × ℤ
+term_of vars store t = (powers_at vars store t.0, t.1)
 
 -- the terms that a list of them stands for
-abbrev pub terms_of : List Var → Links → Indices → Summands
-terms_of vars links list = map (term_of vars links) list
+abbrev pub terms_of : List Var → Store → Indices → Summands
+terms_of vars store list = map (term_of vars store) list
 
 -- the variables rise, the indices are such, and the terms that they stand for are a polynomial
-pub record IsShared (vars : List Var) (links : Links) (list : Indices) : Type 0 where
+pub record IsShared (vars : List Var) (store : Store) (list : Indices) : Type 0 where
   pub rising : IsStrictlySortedBy var_cmp vars
-  pub indices : AllKeys (IsIndex vars links) list
-  pub polynomial : IsPolynomial (terms_of vars links list)
+  pub indices : AllKeys (IsIndex vars store) list
+  pub polynomial : IsPolynomial (terms_of vars store list)
 
 -- the terms that the parts of a polynomial tell
 abbrev pub told : Shared → Summands

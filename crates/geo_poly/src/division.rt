@@ -123,8 +123,10 @@ fn content(p: &Shared) -> i128
     ensures greatest { (d : ℕ) → DividesAll d (told p.now) → d ∣ unsigned_abs result }
 {
     let mut divisor = 0;
-    for (_, coefficient) in p.list {
-        divisor = gcd(divisor, *coefficient);
+    let mut i = 0;
+    while i < p.list.len() && divisor != 1 {
+        divisor = gcd(divisor, p.list[i].1);
+        i += 1;
     }
     divisor
 }
@@ -165,8 +167,10 @@ fn least_exponent(p: &Shared, v: Var) -> u32
     ensures { IsLeastExponent v (told p.now) result }
 {
     let mut least = exponent_at(p, p.list[0].0, v);
-    for (id, _) in p.list {
-        least = least.min(exponent_at(p, *id, v));
+    let mut i = 0;
+    while i < p.list.len() && least > 0 {
+        least = least.min(exponent_at(p, p.list[i].0, v));
+        i += 1;
     }
     least
 }

@@ -4,14 +4,13 @@
 ghost use Rattle.std.specs.Prelude.{◌≡◌, ◌≢◌, ◌∷◌, [], ◌+◌, ◌*◌, ◌^◌, ◌<◌, ◌≤◌, max, min, ℕ, ◌-◌};
 ghost use Rattle.std.specs.Prelude.{IfOk, IfSome, IsFalse, OnOk, length, slice_index_or};
 ghost use Rattle.std.specs.List.Sorted.{IsStrictlySortedBy};
-ghost use Rattle.mono_store.specs.Stores.{count};
 ghost use Rattle.geo_poly.specs.declared.variables.Var.{Var};
 ghost use Rattle.geo_poly.specs.Inner.Keyed.{greatest_exponent};
-ghost use Rattle.geo_poly.specs.Inner.Limits.{AreBounds, AreGreatest, AreLimits};
+ghost use Rattle.geo_poly.specs.Inner.Limits.{AreBounds, AreGreatest, AreLimits, IsBelow};
 ghost use Rattle.geo_poly.specs.Inner.Limits.{HaveRoom, exponent_anywhere, exponents_of_rows};
-ghost use Rattle.geo_poly.specs.Monomials.{exponent};
+ghost use Rattle.geo_poly.specs.Monomials.{IsMonomial, exponent};
 ghost use Rattle.geo_poly.specs.Replace.{others};
-ghost use Rattle.geo_poly.specs.Shared.{AreParts, told};
+ghost use Rattle.geo_poly.specs.Shared.{AreParts, IsIndexOf, told, told_powers};
 ghost use Rattle.geo_poly.specs.Variables.{var_cmp};
 
 use crate::moving::find_place;
@@ -19,9 +18,8 @@ use crate::replacement::{Piece, Row};
 use crate::row_table::RowTable;
 use crate::shared::Shared;
 use crate::variables::Var;
-use crate::words::Digits;
 use geo_points::NoMemory;
-use mono_store::MonoId;
+use mono_store::{Digits, MonoId};
 use std::alloc::Global;
 
 /// Words in which the product has room, where there are such.
@@ -43,19 +41,19 @@ pub(crate) fn product_digits(
     digits_for(alloc, vars, &limits)
 }
 
-/// Words in which the replacement has room, where there are such.
-pub(crate) fn replacement_digits(
+/// Limits of the exponents that the pieces and the replacement have.
+pub(crate) fn replacement_limits(
     alloc: Global,
     vars: &[Var],
     p: &Shared,
     rows: &RowTable,
     den: &Piece,
     top: u32,
-) -> Result<Option<Digits>, NoMemory>
+) -> Result<Vec<u32>, NoMemory>
     requires rising { IsStrictlySortedBy var_cmp vars.now }
     requires parts { AreParts p.now }
-    ensures { IfOk result (λ found. IfSome found (λ f. HaveRoom vars.now f
-        (λ v. exponent_anywhere v rows.now den.now top (told p.now)))) }
+    ensures { IfOk result (λ limits. AreLimits vars.now
+        (λ v. exponent_anywhere v rows.now den.now top (told p.now)) limits.items) }
 {
     let mut limits = no_limits(alloc, vars)?;
     let own = greatest_exponents(alloc, p)?;
@@ -63,12 +61,16 @@ pub(crate) fn replacement_digits(
     add_exponents(&mut limits, vars, &stay, 1);
     add_polynomial(alloc, &mut limits, vars, &den.poly.shared(), top.max(1))?;
     add_rows(alloc, &mut limits, vars, rows.rows(), &own)?;
-    digits_for(alloc, vars, &limits)
+    Ok(limits)
 }
 
 /// Words in which exponents up to these limits have room, where there are such. A limit that is the
 /// greatest number says nothing.
-fn digits_for(alloc: Global, vars: &[Var], limits: &[u32]) -> Result<Option<Digits>, NoMemory>
+pub(crate) fn digits_for(
+    alloc: Global,
+    vars: &[Var],
+    limits: &[u32],
+) -> Result<Option<Digits>, NoMemory>
     ensures { (bound : Var → ℕ) → AreLimits vars.now bound limits.now
         → IfOk result (λ found. IfSome found (λ f. HaveRoom vars.now f bound)) }
 {
@@ -76,7 +78,7 @@ fn digits_for(alloc: Global, vars: &[Var], limits: &[u32]) -> Result<Option<Digi
     if is_saturated(limits) {
         return Ok(None);
     }
-    Digits::new(alloc, limits)
+    Ok(Digits::new(alloc, limits)?)
 }
 
 /// Whether some number is the greatest one.
@@ -93,7 +95,7 @@ fn is_saturated(numbers: &[u32]) -> bool
 }
 
 /// Limits of 0 for all variables.
-fn no_limits(alloc: Global, vars: &[Var]) -> Result<Vec<u32>, NoMemory>
+pub(crate) fn no_limits(alloc: Global, vars: &[Var]) -> Result<Vec<u32>, NoMemory>
     ensures { IfOk result (λ limits. AreLimits vars.now (λ _. 0) limits.items) }
 {
     let mut limits = Vec::new(alloc);
@@ -101,7 +103,7 @@ fn no_limits(alloc: Global, vars: &[Var]) -> Result<Vec<u32>, NoMemory>
     Ok(limits)
 }
 
-/// The greatest exponents in the links of a polynomial, each with its variable.
+/// The greatest exponents of a polynomial, each with its variable.
 fn greatest_exponents(alloc: Global, p: &Shared) -> Result<Vec<(Var, u32)>, NoMemory>
     requires { AreParts p.now }
     ensures { IfOk result (λ bounds. AreBounds (told p.now) bounds.items) }
@@ -114,38 +116,40 @@ fn greatest_exponents(alloc: Global, p: &Shared) -> Result<Vec<(Var, u32)>, NoMe
     Ok(bounds)
 }
 
-/// The greatest exponents in the links of a polynomial, by the numbers of the variables.
-fn numbered_exponents(alloc: Global, p: &Shared) -> Result<Vec<u32>, NoMemory>
+/// The greatest exponents of a polynomial, by the numbers of the variables.
+pub(crate) fn numbered_exponents(alloc: Global, p: &Shared) -> Result<Vec<u32>, NoMemory>
+    requires { AreParts p.now }
     ensures whole { IfOk result (λ numbers. length numbers.items ≡ length p.now.vars.now) }
-    ensures greatest { IfOk result (λ numbers. AreGreatest (count p.now.monos.now)
-        (length p.now.vars.now) p.now.monos.now numbers.items) }
+    ensures greatest { IfOk result
+        (λ numbers. AreGreatest p.now.vars.now numbers.items (told p.now)) }
 {
     let mut greatest = no_limits(alloc, p.vars)?;
-    for k in 0..p.monos.links() {
-        raise_by(&mut greatest, p, MonoId(k + 1));
+    for (id, _) in p.list {
+        raise_by(&mut greatest, p, *id);
     }
     Ok(greatest)
 }
 
-/// Makes the number of the first variable of a monomial no less than its exponent.
+/// Makes the numbers of the variables of a monomial no less than its exponents.
 fn raise_by(numbers: &mut Vec<u32>, p: &Shared, id: MonoId)
-    requires index { id.0 < count p.now.monos.now }
+    requires rising { IsStrictlySortedBy var_cmp p.now.vars.now }
+    requires index { IsIndexOf p.now id }
+    requires monomial { IsMonomial (told_powers p.now id) }
     requires whole { length numbers.old.items ≡ length p.now.vars.now }
-    requires seen { AreGreatest id.0 (length p.now.vars.now) p.now.monos.now numbers.old.items }
     ensures whole { length numbers.new.items ≡ length p.now.vars.now }
-    ensures seen { AreGreatest (id.0 + 1) (length p.now.vars.now) p.now.monos.now
-        numbers.new.items }
+    ensures seen { IsBelow p.now.vars.now numbers.new.items (told_powers p.now id) }
+    ensures kept { (i : ℕ)
+        → slice_index_or numbers.old.items i 0 ≤ slice_index_or numbers.new.items i 0 }
 {
-    // every store says of itself that it is one
-    let _one = p.monos.one();
-    match p.monos.link(id) {
-        Some(link) => raise(numbers, link.var, link.exp),
-        None => {}
+    let mut rest = id;
+    while let Some(first) = p.first_power(rest) {
+        raise(numbers, first.number, first.exponent);
+        rest = first.rest;
     }
 }
 
 /// Makes the number at a place no less than that.
-fn raise(numbers: &mut Vec<u32>, place: u64, least: u32)
+pub(crate) fn raise(numbers: &mut Vec<u32>, place: u64, least: u32)
     ensures whole { length numbers.new.items ≡ length numbers.old.items }
     ensures place { place < length numbers.old.items
         → least ≤ slice_index_or numbers.new.items place 0 }
@@ -190,7 +194,7 @@ fn add_exponents(limits: &mut Vec<u32>, vars: &[Var], exponents: &[(Var, u32)], 
 
 /// Adds an exponent to the limit of its variable, so many times, and answers where the next variable
 /// may stand.
-fn add_exponent(
+pub(crate) fn add_exponent(
     limits: &mut Vec<u32>,
     vars: &[Var],
     power: (Var, u32),
@@ -211,7 +215,7 @@ fn add_exponent(
 }
 
 /// Adds to the number at a place, up to the greatest number.
-fn add_at(numbers: &mut Vec<u32>, place: u64, more: u32)
+pub(crate) fn add_at(numbers: &mut Vec<u32>, place: u64, more: u32)
     ensures whole { length numbers.new.items ≡ length numbers.old.items }
     ensures place { place < length numbers.old.items → slice_index_or numbers.new.items place 0
         ≡ min (slice_index_or numbers.old.items place 0 + more) (2 ^ 32 - 1) }
@@ -225,7 +229,7 @@ fn add_at(numbers: &mut Vec<u32>, place: u64, more: u32)
 }
 
 /// Adds the greatest exponents of a polynomial to the limits, each so many times.
-fn add_polynomial(
+pub(crate) fn add_polynomial(
     alloc: Global,
     limits: &mut Vec<u32>,
     vars: &[Var],

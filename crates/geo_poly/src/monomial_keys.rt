@@ -101,5 +101,5 @@ impl MonomialKeys for Monos {
         arena.merge_into(&ByMonomial::new(self), kept, spent);
     }
 
-    ghost first = { λ links. monomial_of-one links (record { 0 = 0 }) refl };
+    ghost first = { λ store. monomial_of-one store (record { 0 = 0 }) refl };
 }

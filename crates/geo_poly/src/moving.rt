@@ -1,11 +1,11 @@
 //! The monomials of a polynomial under other keys, whose variables have other numbers, without the
 //! variables that are replaced.
 
-ghost use Rattle.std.specs.Prelude.{◌≡◌, ◌≢◌, ◌<◌, [], Contains, None, IfOk};
+ghost use Rattle.std.specs.Prelude.{◌≡◌, ◌≢◌, ◌<◌, ◌∷◌, [], Contains, None, IfOk};
 ghost use Rattle.std.specs.Prelude.{IsFalse, IsTrue, length, slice_index_or};
 ghost use Rattle.std.specs.List.Sorted.{IsStrictlySortedBy};
 ghost use Rattle.sparse_lists.specs.SparseLists.{AllKeys};
-ghost use Rattle.mono_store.specs.Stores.{Keeps, count};
+ghost use Rattle.mono_store.specs.Stores.{Keeps, count, monomial_of};
 ghost use Rattle.geo_poly.specs.Monomials.{IsMonomial};
 ghost use Rattle.geo_poly.specs.PolynomialVariables.{AllVariables};
 ghost use Rattle.geo_poly.specs.Replace.{others, row_of};
@@ -14,7 +14,8 @@ ghost use Rattle.geo_poly.specs.Shared.{named, terms_of, told, told_powers, var_
 ghost use Rattle.geo_poly.specs.Variables.{var_cmp};
 ghost use Rattle.geo_poly.specs.Inner.Keyed.{HasRoom, IsIndexUnder, IsWithinLimits, KeepsKeys};
 ghost use Rattle.geo_poly.specs.Inner.Keyed.{terms_under};
-ghost use Rattle.geo_poly.specs.Inner.Moved.{AreMoved, ArePlaces, IsMovedTo, IsPlaceOf};
+ghost use Rattle.geo_poly.specs.Inner.Moved.{AreMoved, AreMovedLinks, ArePlaces, IsMovedTo, IsPlaceOf};
+ghost use Rattle.geo_poly.specs.Inner.Moved.{IsSame};
 
 use crate::chained_replacement::stored_others;
 use crate::monomial_keys::MonomialKeys;
@@ -24,11 +25,30 @@ use crate::row_table::RowTable;
 use crate::shared::{Indexed, Shared};
 use crate::variables::Var;
 use geo_points::NoMemory;
-use mono_store::{MonoId, Monos};
+use mono_store::{Link, MonoId, Monos};
 use std::alloc::Global;
 
+/// The keys of what is left of the monomials of a polynomial. Words have none here: they are moved
+/// power by power.
+pub(crate) struct MovedMonomials {
+    /// The place that the variable of each number has, where it has one.
+    places: Vec<Option<u64>>,
+    /// The key of what is left of the monomial of each link, where it has one.
+    links: Vec<Option<MonoId>>,
+}
+
+/// By hand, so that a caller's proof sees one call where it is let go.
+impl Drop for MovedMonomials {
+    fn drop(self) {
+        let MovedMonomials {
+            places: _,
+            links: _,
+        } = self;
+    }
+}
+
 /// The indices of the monomials in another store, with their coefficients.
-#[tactic(auto, using(crate::proofs::KeysKept::keeps_links))]
+#[tactic(auto, using(crate::proofs::KeysKept::keeps_store))]
 pub(crate) fn moved(
     alloc: Global,
     store: &mut Monos,
@@ -68,14 +88,17 @@ pub(crate) fn keyed<K: MonomialKeys>(
     looked_up(alloc, keys, vars, &rows, p, &table)
 }
 
-/// Which links the monomials of the list reach, by their indices. Nothing rests on it but time.
+/// Which links the monomials of the list reach, by their numbers. Nothing rests on it but time.
 fn reached_links(alloc: Global, p: &Shared) -> Result<Vec<bool>, NoMemory>
     requires { AreParts p.now }
 {
     let mut reached = Vec::new(alloc);
-    reached.resize((p.monos.links() as usize).saturating_add(1), false)?;
+    reached.resize(p.monos.links() as usize, false)?;
+    let words = p.monos.words();
     for (id, _) in p.list {
-        reach(&mut reached, p, *id);
+        if words <= id.0 {
+            reach(&mut reached, p, *id);
+        }
     }
     Ok(reached)
 }
@@ -84,9 +107,10 @@ fn reached_links(alloc: Global, p: &Shared) -> Result<Vec<bool>, NoMemory>
 fn reach(reached: &mut Vec<bool>, p: &Shared, id: MonoId)
     requires { id.0 < count p.now.monos.now }
 {
+    let words = p.monos.words();
     let mut rest = id;
     while let Some(link) = p.monos.link(rest) {
-        if mark(reached, rest.0 as usize) {
+        if rest.0 < words || mark(reached, (rest.0 - words) as usize) {
             return;
         }
         rest = link.next;
@@ -100,7 +124,7 @@ fn looked_up<K: MonomialKeys>(
     vars: &[Var],
     rows: &RowTable,
     p: &Shared,
-    table: &[Option<MonoId>],
+    table: &MovedMonomials,
 ) -> Result<Vec<Indexed>, NoMemory>
     requires rising { IsStrictlySortedBy var_cmp vars.now }
     requires no_rows { rows.now ≡ [] }
@@ -108,8 +132,10 @@ fn looked_up<K: MonomialKeys>(
     requires known { AllVariables (Contains vars.now) (told p.now) }
     requires table { AreMoved p.now rows.now vars.now (K.keys keys.old) table.now }
     requires reach { IsWithinLimits vars.now (K.keys keys.old) (told p.now) }
-    ensures indices { IfOk result (λ list. AllKeys (IsIndexUnder vars.now (K.keys keys.new)) list.items) }
-    ensures terms { IfOk result (λ list. terms_under vars.now (K.keys keys.new) list.items ≡ told p.now) }
+    ensures indices { IfOk result
+        (λ list. AllKeys (IsIndexUnder vars.now (K.keys keys.new)) list.items) }
+    ensures terms { IfOk result
+        (λ list. terms_under vars.now (K.keys keys.new) list.items ≡ told p.now) }
     ensures kept { KeepsKeys (K.keys keys.old) (K.keys keys.new) }
 {
     let mut list = Vec::with_capacity(alloc, p.list.len())?;
@@ -120,15 +146,15 @@ fn looked_up<K: MonomialKeys>(
     Ok(list)
 }
 
-/// The key of what is left of a monomial: that of the table, or else it is read and its powers are
-/// put together.
+/// The key of what is left of a monomial, which is read where neither its digits nor the table tell
+/// it.
 pub(crate) fn index_in<K: MonomialKeys>(
     alloc: Global,
     keys: &mut K,
     vars: &[Var],
     rows: &RowTable,
     p: &Shared,
-    table: &[Option<MonoId>],
+    table: &MovedMonomials,
     id: MonoId,
 ) -> Result<MonoId, NoMemory>
     requires rising { IsStrictlySortedBy var_cmp vars.now }
@@ -143,102 +169,222 @@ pub(crate) fn index_in<K: MonomialKeys>(
         ≡ others rows.now (told_powers p.now id)) }
     ensures kept { KeepsKeys (K.keys keys.old) (K.keys keys.new) }
 {
-    if let Some(new) = new_index(table, id) {
+    let found = new_index(keys, vars, rows, p, &table.places, &table.links, id)?;
+    if let Some(new) = found {
         return Ok(new);
     }
     let monomial = monomial_at(alloc, p, id)?;
     stored_others(keys, vars, rows, monomial.powers())
 }
 
-/// The key of what is left of each monomial without the variables of the rows, where the list reaches
-/// the monomial, its variables stand there and its exponents have room.
+/// The keys of what is left of the monomials without the variables of the rows, where the list
+/// reaches the monomial, its variables stand there and its exponents have room.
 pub(crate) fn moved_monomials<K: MonomialKeys>(
     alloc: Global,
     keys: &mut K,
     vars: &[Var],
     rows: &RowTable,
     p: &Shared,
-) -> Result<Vec<Option<MonoId>>, NoMemory>
+) -> Result<MovedMonomials, NoMemory>
     requires rising { IsStrictlySortedBy var_cmp vars.now }
     requires parts { AreParts p.now }
     ensures moved { IfOk result
-        (λ table. AreMoved p.now rows.now vars.now (K.keys keys.new) table.items) }
+        (λ table. AreMoved p.now rows.now vars.now (K.keys keys.new) table) }
     ensures kept { KeepsKeys (K.keys keys.old) (K.keys keys.new) }
 {
     let reached = reached_links(alloc, p)?;
-    moved_links(alloc, keys, vars, rows, p, &reached)
+    let places = places_in(alloc, p.vars, vars)?;
+    let links = moved_links(alloc, keys, vars, rows, p, &places, &reached)?;
+    Ok(MovedMonomials { places, links })
 }
 
-/// The key of what is left of each monomial, in the order of the indices, where it is marked, its
-/// variables stand there and its exponents have room.
+/// The key of what is left of the monomial of each link, in the order of the links, where it is
+/// marked, its variables stand there and its exponents have room.
 fn moved_links<K: MonomialKeys>(
     alloc: Global,
     keys: &mut K,
     vars: &[Var],
     rows: &RowTable,
     p: &Shared,
+    places: &[Option<u64>],
     reached: &[bool],
 ) -> Result<Vec<Option<MonoId>>, NoMemory>
     requires rising { IsStrictlySortedBy var_cmp vars.now }
     requires parts { AreParts p.now }
+    requires places { ArePlaces p.now.vars.now vars.now places.now }
     ensures moved { IfOk result
-        (λ table. AreMoved p.now rows.now vars.now (K.keys keys.new) table.items) }
+        (λ links. AreMovedLinks p.now rows.now vars.now (K.keys keys.new) links.items) }
     ensures kept { KeepsKeys (K.keys keys.old) (K.keys keys.new) }
 {
-    let places = places_in(alloc, p.vars, vars)?;
-    let n = p.monos.links();
-    let mut table = Vec::with_capacity(alloc, (n as usize).saturating_add(1))?;
-    table.push(Some(MonoId(keys.one())))?;
-    for k in 0..n {
-        let id = MonoId(k + 1);
-        let new = match reached.get(id.0 as usize) {
-            Some(true) => moved_monomial(keys, vars, rows, p, &places, &table, id)?,
-            _ => None,
-        };
-        table.push(new)?;
+    let words = p.monos.words();
+    let mut links = Vec::with_capacity(alloc, p.monos.links() as usize)?;
+    for k in 0..p.monos.links() {
+        let id = MonoId(words + k);
+        let new = moved_entry(
+            keys,
+            vars,
+            rows,
+            p,
+            places,
+            &links,
+            id,
+            is_marked(reached, k),
+        )?;
+        links.push(new)?;
     }
-    Ok(table)
+    Ok(links)
 }
 
-/// The key of what is left of a monomial, where those before it have theirs.
+/// Whether a number is marked.
+fn is_marked(reached: &[bool], number: u64) -> bool {
+    match reached.get(number as usize) {
+        Some(marked) => *marked,
+        None => false,
+    }
+}
+
+/// The key of what is left of a monomial that is reached, where the links before it have theirs.
+fn moved_entry<K: MonomialKeys>(
+    keys: &mut K,
+    vars: &[Var],
+    rows: &RowTable,
+    p: &Shared,
+    places: &[Option<u64>],
+    links: &[Option<MonoId>],
+    id: MonoId,
+    is_reached: bool,
+) -> Result<Option<MonoId>, NoMemory>
+    requires rising { IsStrictlySortedBy var_cmp vars.now }
+    requires parts { AreParts p.now }
+    requires places { ArePlaces p.now.vars.now vars.now places.now }
+    requires links { AreMovedLinks p.now rows.now vars.now (K.keys keys.old) links.now }
+    requires index { id.0 < count p.now.monos.now }
+    ensures moved { IfOk result (IsMovedTo p.now rows.now vars.now (K.keys keys.new) id) }
+    ensures kept { KeepsKeys (K.keys keys.old) (K.keys keys.new) }
+{
+    if !is_reached {
+        return Ok(None);
+    }
+    moved_monomial(keys, vars, rows, p, places, links, id)
+}
+
+/// The key of what is left of a monomial: that of a word by its digits, that of a link from the
+/// table.
+fn new_index<K: MonomialKeys>(
+    keys: &mut K,
+    vars: &[Var],
+    rows: &RowTable,
+    p: &Shared,
+    places: &[Option<u64>],
+    links: &[Option<MonoId>],
+    id: MonoId,
+) -> Result<Option<MonoId>, NoMemory>
+    requires rising { IsStrictlySortedBy var_cmp vars.now }
+    requires parts { AreParts p.now }
+    requires places { ArePlaces p.now.vars.now vars.now places.now }
+    requires links { AreMovedLinks p.now rows.now vars.now (K.keys keys.old) links.now }
+    requires index { id.0 < count p.now.monos.now }
+    ensures moved { IfOk result (IsMovedTo p.now rows.now vars.now (K.keys keys.new) id) }
+    ensures kept { KeepsKeys (K.keys keys.old) (K.keys keys.new) }
+{
+    let words = p.monos.words();
+    if id.0 < words {
+        return moved_word(keys, vars, rows, p, places, id);
+    }
+    let entry = entry_at(links, id.0 - words);
+    Ok(entry)
+}
+
+/// The key of what is left of the monomial of a word, power by power.
+fn moved_word<K: MonomialKeys>(
+    keys: &mut K,
+    vars: &[Var],
+    rows: &RowTable,
+    p: &Shared,
+    places: &[Option<u64>],
+    id: MonoId,
+) -> Result<Option<MonoId>, NoMemory>
+    requires rising { IsStrictlySortedBy var_cmp vars.now }
+    requires parts { AreParts p.now }
+    requires places { ArePlaces p.now.vars.now vars.now places.now }
+    requires index { id.0 < count p.now.monos.now }
+    ensures moved { IfOk result (IsMovedTo p.now rows.now vars.now (K.keys keys.new) id) }
+    ensures kept { KeepsKeys (K.keys keys.old) (K.keys keys.new) }
+{
+    let link = match p.monos.link(id) {
+        Some(link) => link,
+        None => return Ok(Some(MonoId(keys.one()))),
+    };
+    let rest = moved_word(keys, vars, rows, p, places, link.next)?;
+    match rest {
+        Some(next) => moved_power(keys, vars, rows, p, places, id, link, next),
+        None => Ok(None),
+    }
+}
+
+/// The key of what is left of a monomial, where the links before it have theirs.
 fn moved_monomial<K: MonomialKeys>(
     keys: &mut K,
     vars: &[Var],
     rows: &RowTable,
     p: &Shared,
     places: &[Option<u64>],
-    table: &[Option<MonoId>],
+    links: &[Option<MonoId>],
     id: MonoId,
 ) -> Result<Option<MonoId>, NoMemory>
     requires rising { IsStrictlySortedBy var_cmp vars.now }
     requires parts { AreParts p.now }
     requires places { ArePlaces p.now.vars.now vars.now places.now }
-    requires table { AreMoved p.now rows.now vars.now (K.keys keys.old) table.now }
+    requires links { AreMovedLinks p.now rows.now vars.now (K.keys keys.old) links.now }
     requires index { id.0 < count p.now.monos.now }
+    ensures moved { IfOk result (IsMovedTo p.now rows.now vars.now (K.keys keys.new) id) }
+    ensures kept { KeepsKeys (K.keys keys.old) (K.keys keys.new) }
+{
+    let link = match p.monos.link(id) {
+        Some(link) => link,
+        None => return Ok(Some(MonoId(keys.one()))),
+    };
+    let rest = new_index(keys, vars, rows, p, places, links, link.next)?;
+    match rest {
+        Some(next) => moved_power(keys, vars, rows, p, places, id, link, next),
+        None => Ok(None),
+    }
+}
+
+/// The key of what is left of a monomial with this first power, by that of what is left of the rest.
+fn moved_power<K: MonomialKeys>(
+    keys: &mut K,
+    vars: &[Var],
+    rows: &RowTable,
+    p: &Shared,
+    places: &[Option<u64>],
+    id: MonoId,
+    first: Link,
+    next: MonoId,
+) -> Result<Option<MonoId>, NoMemory>
+    requires rising { IsStrictlySortedBy var_cmp vars.now }
+    requires parts { AreParts p.now }
+    requires places { ArePlaces p.now.vars.now vars.now places.now }
+    requires index { id.0 < count p.now.monos.now }
+    requires monomial { monomial_of p.now.monos.now id
+        ≡ (first.var, first.exp) ∷ monomial_of p.now.monos.now first.next }
+    requires next { IsSame p.now rows.now vars.now (K.keys keys.old) first.next next }
     ensures moved { IfOk result (IsMovedTo p.now rows.now vars.now (K.keys keys.new) id) }
     ensures kept { KeepsKeys (K.keys keys.old) (K.keys keys.new) }
 {
     // every store says of itself that it is one
     let _one = p.monos.one();
-    let link = match p.monos.link(id) {
-        Some(link) => link,
-        None => return Ok(Some(MonoId(keys.one()))),
-    };
-    let next = match new_index(table, link.next) {
-        Some(next) => next,
-        None => return Ok(None),
-    };
-    if is_replaced(rows, p.vars, link.var) {
+    if is_replaced(rows, p.vars, first.var) {
         return Ok(Some(next));
     }
-    let place = match place_at(places, link.var) {
+    let place = match place_at(places, first.var) {
         Some(place) => place,
         None => return Ok(None),
     };
-    if !keys.fits(place, link.exp) {
+    if !keys.fits(place, first.exp) {
         return Ok(None);
     }
-    let new = keys.power_before(place, link.exp, next.0)?;
+    let new = keys.power_before(place, first.exp, next.0)?;
     Ok(Some(MonoId(new)))
 }
 
@@ -255,18 +401,18 @@ fn is_replaced(rows: &RowTable, vars: &[Var], number: u64) -> bool
     }
 }
 
-/// The new key of a monomial, where it has one.
-fn new_index(table: &[Option<MonoId>], id: MonoId) -> Option<MonoId>
-    ensures { result ≡ slice_index_or table.now id.0 None }
+/// The key at the number of a link, where there is one.
+fn entry_at(links: &[Option<MonoId>], number: u64) -> Option<MonoId>
+    ensures { result ≡ slice_index_or links.now number None }
 {
-    match table.get(id.0 as usize) {
+    match links.get(number as usize) {
         Some(new) => *new,
         None => None,
     }
 }
 
 /// The place that a number has, where it has one.
-fn place_at(places: &[Option<u64>], number: u64) -> Option<u64>
+pub(crate) fn place_at(places: &[Option<u64>], number: u64) -> Option<u64>
     ensures { result ≡ slice_index_or places.now number None }
 {
     match places.get(number as usize) {
@@ -276,7 +422,11 @@ fn place_at(places: &[Option<u64>], number: u64) -> Option<u64>
 }
 
 /// The place of each of the old variables among the others, where it stands there.
-fn places_in(alloc: Global, former: &[Var], vars: &[Var]) -> Result<Vec<Option<u64>>, NoMemory>
+pub(crate) fn places_in(
+    alloc: Global,
+    former: &[Var],
+    vars: &[Var],
+) -> Result<Vec<Option<u64>>, NoMemory>
     requires { IsStrictlySortedBy var_cmp vars.now }
     ensures { IfOk result (λ places. ArePlaces former.now vars.now places.items) }
 {

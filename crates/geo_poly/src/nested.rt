@@ -27,14 +27,13 @@ ghost use Rattle.geo_poly.specs.Variables.{var_cmp};
 use crate::chained::summed;
 use crate::chained_replacement::{is_one, list_at, one_term_chain, times_list};
 use crate::monomial_keys::MonomialKeys;
-use crate::moving::{index_in, moved_monomials};
+use crate::moving::{MovedMonomials, index_in, moved_monomials};
 use crate::pending::{Pending, front_of, sorted_pending};
 use crate::settings::Setting;
 use crate::shared::{Indexed, Shared};
 use crate::sharing::{shared_factors, split_place};
 use crate::ticks::Ticks;
 use geo_points::NoMemory;
-use mono_store::MonoId;
 use poly_arena::{Arena, Chain};
 use std::alloc::Global;
 use std::sync::ledger::Ledger;
@@ -147,7 +146,7 @@ fn lone_chain<K: MonomialKeys>(
     keys: &mut K,
     arena: &mut Arena,
     p: &Shared,
-    table: &[Option<MonoId>],
+    table: &MovedMonomials,
     term: &Pending,
 ) -> Result<Chain, NoMemory>
     requires rising { IsStrictlySortedBy var_cmp setting.now.vars.now }
@@ -177,7 +176,7 @@ fn nested_sum<K: MonomialKeys, L: Ledger>(
     keys: &mut K,
     arena: &mut Arena,
     p: &Shared,
-    table: &[Option<MonoId>],
+    table: &MovedMonomials,
     pending: &[Pending],
     depth: usize,
     splits: u32,

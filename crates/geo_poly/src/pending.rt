@@ -23,9 +23,9 @@ use std::alloc::Global;
 /// A term of a polynomial, and the factors that it is to get: 0 stands for the denominator, and one
 /// more than its place for a row. The factor that is multiplied in last stands first.
 pub(crate) struct Pending {
+    pub(crate) factors: Vec<usize>,
     pub(crate) id: MonoId,
     pub(crate) coefficient: i128,
-    pub(crate) factors: Vec<usize>,
 }
 
 /// By hand, so that a caller's proof sees one call where it is let go.

@@ -1,14 +1,19 @@
 //! The variables of a polynomial.
 
-ghost use Rattle.std.specs.Prelude.{◌≡◌, ◌↔◌, ◌++◌, map, Contains, IfOk, IsTrue, OnOk};
-ghost use Rattle.std.specs.Prelude.{◌≢◌, ℕ, Some, false, slice_get, slice_index_or};
+ghost use Rattle.std.specs.Prelude.{◌≡◌, ◌≢◌, ◌⊎◌, ◌↔◌, ℕ, ℤ, ◌+◌, ◌-◌, ◌%◌, ◌<◌, ◌≤◌, ◌++◌};
+ghost use Rattle.std.specs.Prelude.{List, length, map, replicate, slice_get, slice_index_or};
+ghost use Rattle.std.specs.Prelude.{Any, Contains, IfOk, IsTrue, OnOk, Some, false};
 ghost use Rattle.std.specs.Option.{option_map};
 ghost use Rattle.std.specs.List.{fold};
 ghost use Rattle.std.specs.List.Sorted.{IsStrictlySortedBy};
 ghost use Rattle.std.specs.BTreeSet.{insert_key};
 ghost use Rattle.sparse_lists.specs.SparseLists.{AllKeys};
+ghost use Rattle.mono_store.specs.declared.links.MonoId.{MonoId};
+ghost use Rattle.mono_store.specs.Stores.{monomial_of};
+ghost use Rattle.mono_store.specs.Words.{count_from};
 ghost use Rattle.geo_poly.specs.declared.variables.Var.{Var};
-ghost use Rattle.geo_poly.specs.Inner.Visits.{AreKnown, AreVisited};
+ghost use Rattle.geo_poly.specs.Inner.Visits.{AreKnown, AreMarked, AreNumbersOf, AreVisited};
+ghost use Rattle.geo_poly.specs.Inner.Visits.{Extends, IsMarked, marked};
 ghost use Rattle.geo_poly.specs.Variables.{var_cmp};
 ghost use Rattle.geo_poly.specs.PolynomialVariables.{HasVariable, variables_of};
 ghost use Rattle.geo_poly.specs.Shared.{AreParts, IsIndexOf, told, told_powers};
@@ -16,11 +21,11 @@ ghost use Rattle.geo_poly.specs.Shared.{AreParts, IsIndexOf, told, told_powers};
 use crate::lists::Vars;
 use crate::moving::find_place;
 use crate::polynomials::Poly;
-use crate::shared::{FirstPower, Shared};
+use crate::shared::{Indexed, Shared};
 use crate::terms::Term;
 use crate::variables::Var;
 use geo_points::NoMemory;
-use mono_store::MonoId;
+use mono_store::{Digits, MonoId};
 use std::alloc::Global;
 use std::cmp::Ordering;
 use std::collections::BTreeSet;
@@ -36,76 +41,154 @@ impl Poly {
     }
 }
 
-/// The variables of the monomials. Each link of the store is looked at once.
+/// The variables of the monomials: those of the list whose numbers occur.
 pub(crate) fn variables_at(alloc: Global, p: &Shared) -> Result<Vars, NoMemory>
     requires { AreParts p.now }
     ensures { IfOk result (λ vs. vs ≡ variables_of (told p.now)) }
 {
-    let mut variables = BTreeSet::new(alloc);
-    let mut visited = Vec::new(alloc);
-    visited.resize((p.monos.links() as usize).saturating_add(1), false)?;
-    let mut known = Vec::new(alloc);
-    known.resize(p.vars.len(), false)?;
-    for (id, _) in p.list {
-        insert_powers(&mut variables, &mut visited, &mut known, p, *id)?;
-    }
-    let items = variables.into_iter().collect(alloc)?;
+    let known = known_numbers(alloc, p)?;
+    let items = marked_variables(alloc, p.vars, known.as_slice())?;
     Ok(Vars { items })
 }
 
-/// Inserts the variables of the monomial at an index, up to a part whose variables stand there.
-fn insert_powers(
-    variables: &mut BTreeSet<Var>,
-    visited: &mut Vec<bool>,
-    known: &mut Vec<bool>,
-    p: &Shared,
-    id: MonoId,
-) -> Result<(), NoMemory>
-    requires index { IsIndexOf p.now id }
-    requires rising { IsStrictlySortedBy var_cmp variables.old.keys }
-    requires visited { AreVisited p.now visited.old.items variables.old.keys }
-    requires known { AreKnown p.now known.old.items variables.old.keys }
-    ensures keys { OnOk result (variables.new.keys
-        ≡ fold (insert_key var_cmp) variables.old.keys (map (λ p. p.0) (told_powers p.now id))) }
-    ensures visited { OnOk result (AreVisited p.now visited.new.items variables.new.keys) }
-    ensures known { OnOk result (AreKnown p.now known.new.items variables.new.keys) }
+/// Marks the numbers of the variables that occur.
+fn known_numbers(alloc: Global, p: &Shared) -> Result<Vec<bool>, NoMemory>
+    requires { AreParts p.now }
+    ensures { IfOk result (λ known. AreNumbersOf p.now known.items) }
 {
-    let mut rest = id;
-    while let Some(first) = p.first_power(rest) {
-        if mark(visited, rest.0 as usize) {
-            return Ok(());
-        }
-        insert_first(variables, known, p, &first)?;
-        rest = first.rest;
+    if p.monos.links() == 0 {
+        return numbers_of_words(alloc, p);
     }
-    Ok(())
+    numbers_of_links(alloc, p)
 }
 
-/// Inserts the variable of a power, unless its number tells that it stands there.
-fn insert_first(
-    variables: &mut BTreeSet<Var>,
-    known: &mut Vec<bool>,
-    p: &Shared,
-    first: &FirstPower,
-) -> Result<(), NoMemory>
-    requires rising { IsStrictlySortedBy var_cmp variables.old.keys }
-    requires number { slice_get p.now.vars.now first.now.number ≡ Some first.now.var }
-    requires known { AreKnown p.now known.old.items variables.old.keys }
-    ensures keys { OnOk result
-        (variables.new.keys ≡ insert_key var_cmp variables.old.keys first.now.var) }
-    ensures known { OnOk result (AreKnown p.now known.new.items variables.new.keys) }
+/// Marks the numbers of the variables that occur, where the monomials are words: of each variable
+/// the terms are looked at up to the first one that has it.
+fn numbers_of_words(alloc: Global, p: &Shared) -> Result<Vec<bool>, NoMemory>
+    requires parts { AreParts p.now }
+    requires words { length p.now.monos.now.links ≡ 0 }
+    ensures { IfOk result (λ known. AreNumbersOf p.now known.items) }
 {
-    let _ = p;
-    if mark(known, first.number as usize) {
-        return Ok(());
+    let digits = p.monos.digits();
+    let mut known = Vec::with_capacity(alloc, p.vars.len())?;
+    let mut above = digits.words();
+    for number in 0..p.vars.len() {
+        let unit = unit_below(digits, number as u64, above);
+        known.push(has_digit(p.list, unit, above))?;
+        above = unit;
     }
-    variables.insert(first.var)?;
-    Ok(())
+    Ok(known)
+}
+
+/// What 1 counts in the digit of a variable, and where it has no room, what it counts in the digit
+/// before.
+fn unit_below(digits: &Digits, number: u64, above: u64) -> u64
+    requires { above ≡ count_from digits.now number }
+    ensures { result ≡ count_from digits.now (number + 1) }
+{
+    if digits.has_room(number, 1) {
+        return digits.power(number, 1);
+    }
+    above
+}
+
+/// Whether a word of the list has something in the digit between these units.
+fn has_digit(list: &[Indexed], unit: u64, above: u64) -> bool
+    requires { 0 < above }
+    ensures some { IsTrue result → Any (λ t. unit ≤ t.0.0 % above) list.now }
+    ensures none { result ≡ false → (k : ℕ) (t : MonoId × ℤ) → slice_get list.now k ≡ Some t
+        → t.0.0 % above < unit }
+{
+    if above <= unit {
+        return false;
+    }
+    for (id, _) in list {
+        if unit <= id.0 % above {
+            return true;
+        }
+    }
+    false
+}
+
+/// Marks the numbers of the variables that occur. Each link of the store is looked at once, and the
+/// walk ends where all numbers are marked.
+fn numbers_of_links(alloc: Global, p: &Shared) -> Result<Vec<bool>, NoMemory>
+    requires { AreParts p.now }
+    ensures { IfOk result (λ known. AreNumbersOf p.now known.items) }
+{
+    let mut visited = unmarked(alloc, p.monos.links() as usize)?;
+    let mut known = unmarked(alloc, p.vars.len())?;
+    let mut open = 0;
+    for (id, _) in p.list {
+        open = first_unmarked(known.as_slice(), open);
+        if open >= known.len() {
+            return Ok(known);
+        }
+        mark_powers(&mut visited, &mut known, p, *id);
+    }
+    Ok(known)
+}
+
+/// So many places, and none is marked.
+fn unmarked(alloc: Global, count: usize) -> Result<Vec<bool>, NoMemory>
+    ensures { IfOk result (λ marks. marks.items ≡ replicate count false) }
+{
+    let mut marks = Vec::new(alloc);
+    marks.resize(count, false)?;
+    Ok(marks)
+}
+
+/// The first place from there on that is not marked.
+fn first_unmarked(marks: &[bool], start: usize) -> usize
+    requires { (k : ℕ) → k < start → IsMarked marks.now k }
+    ensures { (k : ℕ) → k < result → IsMarked marks.now k }
+{
+    let mut place = start;
+    while place < marks.len() && marks[place] {
+        place += 1;
+    }
+    place
+}
+
+/// Marks the numbers of the variables of a monomial, up to a link that was visited.
+fn mark_powers(visited: &mut Vec<bool>, known: &mut Vec<bool>, p: &Shared, id: MonoId)
+    requires index { IsIndexOf p.now id }
+    requires room { length known.old.items ≡ length p.now.vars.now }
+    requires visited { AreVisited p.now.monos.now visited.old.items known.old.items }
+    ensures room { length known.new.items ≡ length p.now.vars.now }
+    ensures kept { Extends known.old.items known.new.items }
+    ensures marked { AreMarked known.new.items (monomial_of p.now.monos.now id) }
+    ensures visited { AreVisited p.now.monos.now visited.new.items known.new.items }
+    ensures only { (keys : List Var) → AllKeys (Contains keys) (told_powers p.now id)
+        → AreKnown p.now.vars.now known.old.items keys
+        → AreKnown p.now.vars.now known.new.items keys }
+{
+    let words = p.monos.words();
+    let mut rest = id;
+    while let Some(link) = p.monos.link(rest) {
+        if mark_link(visited, words, rest) {
+            return;
+        }
+        mark(known, link.var as usize);
+        rest = link.next;
+    }
+}
+
+/// Marks a link, and no word. Whether it was marked before.
+fn mark_link(visited: &mut Vec<bool>, words: u64, id: MonoId) -> bool
+    ensures before { IsTrue result
+        → (words ≤ id.0) × IsMarked visited.old.items (id.0 - words) }
+    ensures more { (k : ℕ) → IsMarked visited.new.items k
+        → IsMarked visited.old.items k ⊎ (id.0 ≡ words + k) }
+{
+    words <= id.0 && mark(visited, (id.0 - words) as usize)
 }
 
 /// Marks a place. Whether it was marked before.
 pub(crate) fn mark(visited: &mut Vec<bool>, place: usize) -> bool
+    ensures length { length visited.new.items ≡ length visited.old.items }
     ensures before { result ≡ slice_index_or visited.old.items place false }
+    ensures here { place < length visited.old.items → IsMarked visited.new.items place }
     ensures others { (k : ℕ) → k ≢ place
         → slice_index_or visited.new.items k false ≡ slice_index_or visited.old.items k false }
 {
@@ -117,6 +200,20 @@ pub(crate) fn mark(visited: &mut Vec<bool>, place: usize) -> bool
         }
         None => false,
     }
+}
+
+/// The variables whose numbers are marked.
+fn marked_variables(alloc: Global, vars: &[Var], known: &[bool]) -> Result<Vec<Var>, NoMemory>
+    requires { length known.now ≡ length vars.now }
+    ensures { IfOk result (λ found. found.items ≡ marked vars.now known.now) }
+{
+    let mut found = Vec::new(alloc);
+    for i in 0..vars.len() {
+        if known[i] {
+            found.push(vars[i])?;
+        }
+    }
+    Ok(found)
 }
 
 /// The variables of the monomials, in order and each once.

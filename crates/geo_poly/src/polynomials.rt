@@ -22,15 +22,14 @@ use crate::lists::Vars;
 use crate::moving::{find_place, moved};
 use crate::polynomial_variables::{mark, variables_at, variables_of_terms};
 use crate::reading::{count_powers, is_same, norm_at, power_at, terms_at, total_degree_at};
+use crate::roomy_stores::{store_for, store_for_terms};
 use crate::shared::{Indexed, Shared};
 use crate::stored::Stored;
 use crate::terms::Term;
-use crate::unpacking::unpacked;
 use crate::variables::Var;
-use crate::words::Digits;
 use crate::zeros::keep_lacking;
 use geo_points::NoMemory;
-use mono_store::{MonoId, Monos};
+use mono_store::{Digits, MonoId, Monos};
 use poly_arena::{Arena, Chain};
 use std::alloc::Global;
 use std::marker::Model;
@@ -209,13 +208,13 @@ impl Poly {
         Poly::carried(alloc, &part)
     }
 
-    /// The polynomial of a list, over a new store with the links that it reaches.
+    /// The polynomial of a list, over a new store of its own monomials.
     fn carried(alloc: Global, p: &Shared) -> Result<Poly, NoMemory>
         requires { AreParts p.now }
         ensures { IfOk result (λ q. q ≡ told p.now) }
     {
         let vars = variables_at(alloc, p)?;
-        let mut monos = Monos::with_capacity(alloc, p.list.len() as u64)?;
+        let mut monos = store_for(alloc, &vars, p)?;
         let list = moved(alloc, &mut monos, vars.as_slice(), p)?;
         let stored = Stored { vars, monos, list };
         Ok(Poly { stored })
@@ -227,7 +226,7 @@ impl Poly {
         ensures { IfOk result (λ p. p ≡ terms.now) }
     {
         let vars = variables_of_terms(alloc, terms)?;
-        let mut monos = Monos::with_capacity(alloc, terms.len() as u64)?;
+        let mut monos = store_for_terms(alloc, &vars, terms)?;
         let list = stored_terms(alloc, &mut monos, vars.as_slice(), terms)?;
         let stored = Stored { vars, monos, list };
         Ok(Poly { stored })
@@ -252,25 +251,26 @@ impl Poly {
         Poly::compact(alloc, vars, monos, list)
     }
 
-    /// The polynomial that a chain of words stands for. The chain and its arena are spent.
+    /// The polynomial that a chain of words stands for, whose store has these words. The chain and its
+    /// arena are spent.
     pub(crate) fn from_words(
         alloc: Global,
         vars: Vars,
-        words: &Digits,
+        words: Digits,
         arena: Arena,
         chain: Chain,
     ) -> Result<Poly, NoMemory>
         requires rising { IsStrictlySortedBy var_cmp vars }
         requires live { IsLive arena chain }
-        requires keys { AllKeys (IsKeyUnder vars (word_keys words.now)) (pairs_of arena chain) }
+        requires keys { AllKeys (IsKeyUnder vars (word_keys words)) (pairs_of arena chain) }
         requires polynomial { IsPolynomial
-            (keyed_terms_under vars (word_keys words.now) (pairs_of arena chain)) }
+            (keyed_terms_under vars (word_keys words) (pairs_of arena chain)) }
         ensures { IfOk result
-            (λ p. p ≡ keyed_terms_under vars (word_keys words.now) (pairs_of arena chain)) }
+            (λ p. p ≡ keyed_terms_under vars (word_keys words) (pairs_of arena chain)) }
     {
         let pairs = arena.into_list(alloc, chain)?;
-        let mut monos = Monos::with_capacity(alloc, pairs.len() as u64)?;
-        let list = unpacked(alloc, words, &mut monos, vars.as_slice(), &pairs)?;
+        let list = indexed(alloc, &pairs)?;
+        let monos = Monos::of_words(alloc, words);
         Poly::compact(alloc, vars, monos, list)
     }
 
@@ -377,19 +377,38 @@ fn is_stale(alloc: Global, p: &Shared) -> Result<bool, NoMemory> {
     Ok(used_numbers(alloc, p)? < p.vars.len() / 2)
 }
 
-/// How many of the variables some link of the store has.
+/// How many of the variables have a digit or a link in the store.
 fn used_numbers(alloc: Global, p: &Shared) -> Result<usize, NoMemory> {
     let mut used = Vec::new(alloc);
     used.resize(p.vars.len(), false)?;
+    let digits = marked_digits(&mut used, p);
+    Ok(digits.saturating_add(marked_links(&mut used, p)))
+}
+
+/// Marks the variables whose digits have room, and answers how many were not marked.
+fn marked_digits(used: &mut Vec<bool>, p: &Shared) -> usize {
+    let digits = p.monos.digits();
+    let mut count = 0usize;
+    for var in 0..p.vars.len() {
+        if digits.has_room(var as u64, 1) && !mark(used, var) {
+            count = count.saturating_add(1);
+        }
+    }
+    count
+}
+
+/// Marks the variables of the links, and answers how many were not marked.
+fn marked_links(used: &mut Vec<bool>, p: &Shared) -> usize {
+    let words = p.monos.words();
     let mut count = 0usize;
     // every store says of itself that it is one
     let _one = p.monos.one();
     for k in 0..p.monos.links() {
-        if let Some(link) = p.monos.link(MonoId(k + 1)) {
-            if !mark(&mut used, link.var as usize) {
+        if let Some(link) = p.monos.link(MonoId(words + k)) {
+            if !mark(used, link.var as usize) {
                 count = count.saturating_add(1);
             }
         }
     }
-    Ok(count)
+    count
 }

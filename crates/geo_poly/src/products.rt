@@ -1,20 +1,22 @@
 //! Products of polynomials.
 
-ghost use Rattle.std.specs.Prelude.{◌≡◌, ◌≢◌, ◌↔◌, ◌+◌, ◌*◌, ◌^◌, ◌<◌, ◌≤◌};
-ghost use Rattle.std.specs.Prelude.{Contains, IfOk, OnErr, OnOk};
+ghost use Rattle.std.specs.Prelude.{◌≡◌, ◌≢◌, ◌↔◌, ◌+◌, ◌*◌, ◌^◌, ◌<◌, ◌≤◌, [], ◌∷◌, pos};
+ghost use Rattle.std.specs.Prelude.{Contains, IfOk, IfSome, IsTrue, OnErr, OnOk};
 ghost use Rattle.std.specs.List.Sorted.{IsStrictlySortedBy};
 ghost use Rattle.mono_store.specs.Stores.{Keeps};
 ghost use Rattle.geo_poly.specs.declared.limits.Which.{Which};
 ghost use Rattle.geo_poly.specs.Chained.{AddsChain, SameChains, StandsFor, StandsUnder};
 ghost use Rattle.geo_poly.specs.Inner.Keyed.{AreInReach, KeepsKeys, greatest_exponent};
 ghost use Rattle.geo_poly.specs.Inner.Limits.{HaveRoom};
-ghost use Rattle.geo_poly.specs.Polynomials.{CanMultiply, norm_of, product_of, total_degree};
+ghost use Rattle.geo_poly.specs.Polynomials.{CanMultiply, IsPolynomial, norm_of, product_of};
+ghost use Rattle.geo_poly.specs.Polynomials.{total_degree};
 ghost use Rattle.geo_poly.specs.PolynomialVariables.{AllVariables};
 ghost use Rattle.geo_poly.specs.Shared.{AreParts, IsIndex, terms_of, told};
 ghost use Rattle.sparse_lists.specs.SparseLists.{AllKeys};
 ghost use Rattle.geo_poly.specs.Variables.{var_cmp};
 
 use crate::chained::product_chain;
+use crate::chained_replacement::is_one;
 use crate::exponent_limits::product_digits;
 use crate::interning::indexed;
 use crate::limits::{MAX, MAX_DEGREE, PolyError, Which};
@@ -27,9 +29,8 @@ use crate::polynomials::Poly;
 use crate::shared::{Indexed, Shared};
 use crate::ticks::Ticks;
 use crate::variables::Var;
-use crate::words::Digits;
 use geo_points::NoMemory;
-use mono_store::Monos;
+use mono_store::{Digits, Monos};
 use poly_arena::{Arena, Chain};
 use std::alloc::Global;
 use std::marker::Brand;
@@ -37,7 +38,7 @@ use std::sync::ledger::{Blank, Ledger};
 
 impl Poly {
     /// The product. It is refused by the norms and the degrees of the factors; a product with zero
-    /// has a degree that fits.
+    /// has a degree that fits. Where a factor is 1, it is a copy of the other.
     pub fn mul(&self, alloc: Global, other: &Poly) -> Result<Poly, PolyError>
         ensures product { IfOk result (λ p. p ≡ product_of self.now other.now) }
         ensures norm { (result ≡ Err (PolyError.TooLarge Which.Norm))
@@ -46,6 +47,9 @@ impl Poly {
             ↔ ((norm_of self.now * norm_of other.now < 2 ^ 127)
             × (65535 < total_degree self.now + total_degree other.now)) }
     {
+        if let Some(factor) = self.factor_beside_one(other) {
+            return Ok(factor.copy(alloc)?);
+        }
         self.test_product(other)?;
         Ok(product(alloc, &self.shared(), &other.shared())?)
     }
@@ -81,6 +85,31 @@ impl Poly {
         Ok(self.chained_product::<Brand>(alloc, other, vars, store, arena, blank)?)
     }
 
+    /// The other factor, where one is 1: that is the product, and it fits.
+    fn factor_beside_one<'a>(&'a self, other: &'a Poly) -> Option<&'a Poly>
+        ensures product { IfSome result (λ p. p.now ≡ product_of self.now other.now) }
+        ensures norm { IfSome result (λ _. norm_of self.now * norm_of other.now < 2 ^ 127) }
+        ensures degree { IfSome result
+            (λ _. total_degree self.now + total_degree other.now ≤ 65535) }
+    {
+        match (self.is_one(), other.is_one()) {
+            (_, true) => Some(self),
+            (true, _) => Some(other),
+            _ => None,
+        }
+    }
+
+    /// Whether this is the polynomial 1. Every polynomial meets the clause `valid`.
+    fn is_one(&self) -> bool
+        ensures one { IsTrue result → self.now ≡ ([], pos 1) ∷ [] }
+        ensures valid { IsPolynomial self.now }
+    {
+        let p = self.shared();
+        // every store says of itself that it is one
+        let _one = p.monos.one();
+        is_one(p.list)
+    }
+
     /// Whether the product fits.
     fn test_product(&self, other: &Poly) -> Result<(), PolyError>
         ensures ok { OnOk result (CanMultiply self.now other.now) }
@@ -102,7 +131,7 @@ impl Poly {
     }
 
     /// The chain of the product, which fits; its products of monomials are counted for nobody.
-    #[tactic(auto, using(crate::proofs::KeysKept::keeps_links))]
+    #[tactic(auto, using(crate::proofs::KeysKept::keeps_store))]
     fn chained_product<L: Ledger>(
         &self,
         alloc: Global,
@@ -195,7 +224,7 @@ fn packed_product<L: Ledger>(
     let names = vars.as_slice();
     let mut ticks = Ticks::<L>::new(blank);
     let chain = keyed_product(alloc, &mut words, &mut arena, names, p, q, &mut ticks)?;
-    Poly::from_words(alloc, vars, &words, arena, chain)
+    Poly::from_words(alloc, vars, words, arena, chain)
 }
 
 /// The chain of the product, which fits, under any keys that have room.
@@ -301,7 +330,7 @@ pub(crate) fn product_list<L: Ledger>(
 }
 
 /// The list of the product, by chains of an arena.
-#[tactic(auto, using(crate::proofs::KeysKept::keeps_links))]
+#[tactic(auto, using(crate::proofs::KeysKept::keeps_store))]
 fn merged_product<L: Ledger>(
     alloc: Global,
     store: &mut Monos,

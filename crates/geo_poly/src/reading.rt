@@ -1,4 +1,4 @@
-//! The monomials of a polynomial, read link by link.
+//! The monomials of a polynomial, read power by power.
 
 ghost use Rattle.std.specs.Prelude.{◌≡◌, ◌↔◌, ◌<◌, ◌≤◌, ◌^◌, ◌∷◌, [], length, slice_get};
 ghost use Rattle.std.specs.Prelude.{IfOk, IfSome, IfNone, IsTrue, OnOk, Some};

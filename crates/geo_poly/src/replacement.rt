@@ -19,7 +19,7 @@ ghost use Rattle.geo_poly.specs.Replace.{replaced_degree, replaced_weight};
 ghost use Rattle.geo_poly.specs.Variables.{var_cmp};
 
 use crate::chained_replacement::{stored_poly, stored_rows};
-use crate::exponent_limits::replacement_digits;
+use crate::exponent_limits::{digits_for, replacement_limits};
 use crate::limits::{MAX, MAX_DEGREE, PolyError, Which};
 use crate::lists::Vars;
 use crate::monomial_keys::MonomialKeys;
@@ -27,13 +27,14 @@ use crate::nested::nested_chain;
 use crate::polynomial_variables::union;
 use crate::polynomials::Poly;
 use crate::replacement_bounds::{degree_of_terms, most_denominators_of, weight_of_terms};
+use crate::roomy_stores::roomy_store;
 use crate::row_table::RowTable;
 use crate::settings::{IndexList, Setting, StoredPiece};
+use crate::term_limits::limits_by_terms;
 use crate::ticks::Ticks;
 use crate::variables::Var;
-use crate::words::Digits;
 use geo_points::NoMemory;
-use mono_store::Monos;
+use mono_store::{Digits, Monos};
 use poly_arena::{Arena, Chain};
 use std::alloc::Global;
 use std::sync::ledger::Ledger;
@@ -94,27 +95,27 @@ impl Poly {
         Ok(self.replacement(alloc, &table, den, top, ticks)?)
     }
 
-    /// The replacement of `replace`, where it is known that it fits.
+    /// The replacement of `replace`, where it is known that it fits, and how many denominators a
+    /// term is to get.
     pub fn replace_within<L: Ledger>(
         &self,
         alloc: Global,
         rows: &[Row],
         den: &Piece,
+        top: u32,
         ticks: &mut Ticks<L>,
     ) -> Result<Poly, NoMemory>
         requires rows { AllBounded rows.now }
-        requires powers { AllPowersSmall rows.now }
         requires den { IsBounded den.now }
+        requires top { top ≡ most_denominators rows.now self.now }
         requires norm { replaced_weight rows.now den.now self.now < 2 ^ 127 }
         requires degree { replaced_degree rows.now den.now self.now ≤ 65535 }
         ensures replaced { IfOk result (λ p. p ≡ replaced_by rows.now den.now.poly self.now) }
         ensures ticks { ticks.new ≤ ticks.old
             + replacement_products rows.now den.now self.now }
     {
-        let p = &self.shared();
-        let table = RowTable::new(alloc, rows, p.vars);
-        let most = most_denominators_of(p, &table);
-        self.replacement(alloc, &table, den, most, ticks)
+        let table = RowTable::new(alloc, rows, self.shared().vars);
+        self.replacement(alloc, &table, den, top, ticks)
     }
 
     /// The chain of the replacement, in an arena and over a store that are given; variables have
@@ -204,13 +205,22 @@ impl Poly {
     {
         let vars = self.replacement_vars(alloc, rows.rows(), den)?;
         let p = &self.shared();
-        match replacement_digits(alloc, vars.as_slice(), p, rows, den, top)? {
+        let names = vars.as_slice();
+        let limits = replacement_limits(alloc, names, p, rows, den, top)?;
+        if let Some(words) = digits_for(alloc, names, &limits)? {
+            return self.packed_replacement(alloc, rows, den, top, vars, words, ticks);
+        }
+        let limits = limits_by_terms(alloc, names, p, rows, den, top)?;
+        match digits_for(alloc, names, &limits)? {
             Some(words) => self.packed_replacement(alloc, rows, den, top, vars, words, ticks),
-            None => self.stored_replacement(alloc, rows, den, top, vars, ticks),
+            None => {
+                let store = roomy_store(alloc, &limits)?;
+                self.stored_replacement(alloc, rows, den, top, vars, store, ticks)
+            }
         }
     }
 
-    /// The replacement, which fits, over a store.
+    /// The replacement, which fits, over a given store.
     fn stored_replacement<L: Ledger>(
         &self,
         alloc: Global,
@@ -218,6 +228,7 @@ impl Poly {
         den: &Piece,
         top: u32,
         vars: Vars,
+        mut store: Monos,
         ticks: &mut Ticks<L>,
     ) -> Result<Poly, NoMemory>
         requires top { top ≡ most_denominators rows.now self.now }
@@ -230,7 +241,6 @@ impl Poly {
         ensures ticks { ticks.new ≤ ticks.old
             + replacement_products rows.now den.now self.now }
     {
-        let mut store = Monos::with_capacity(alloc, self.monos().links())?;
         let mut arena = Arena::new(alloc)?;
         let chain = self.chained_replacement(
             alloc, rows, den, top, &vars, &mut store, &mut arena, ticks,
@@ -266,7 +276,7 @@ impl Poly {
         let chain = self.keyed_replacement(
             alloc, rows, den, top, names, &mut words, &mut arena, ticks,
         )?;
-        Poly::from_words(alloc, vars, &words, arena, chain)
+        Poly::from_words(alloc, vars, words, arena, chain)
     }
 
     /// The variables of all that the replacement is made of.
@@ -286,7 +296,7 @@ impl Poly {
     }
 
     /// The chain of the replacement, which fits.
-    #[tactic(auto, using(crate::proofs::KeysKept::keeps_links))]
+    #[tactic(auto, using(crate::proofs::KeysKept::keeps_store))]
     fn chained_replacement<L: Ledger>(
         &self,
         alloc: Global,

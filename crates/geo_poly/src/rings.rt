@@ -43,7 +43,7 @@ impl Model for Ring {
 
     ghost Value = { RingValue };
 
-    ghost view = { λ ring. record { vars = ring.vars; links = ring.monos } };
+    ghost view = { λ ring. record { vars = ring.vars; store = ring.monos } };
 
     ghost invariant = { λ ring. IsStrictlySortedBy var_cmp ring.vars };
 }

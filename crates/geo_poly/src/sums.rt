@@ -1,10 +1,11 @@
 //! Sums and differences of polynomials.
 
-ghost use Rattle.std.specs.Prelude.{◌≡◌, ◌≢◌, ◌↔◌, ◌+◌, ◌^◌, ◌<◌, ◌≤◌, Contains, IfOk};
+ghost use Rattle.std.specs.Prelude.{◌≡◌, ◌≢◌, ◌↔◌, ◌+◌, ◌^◌, ◌<◌, ◌≤◌, Contains, IfOk, IsTrue};
 ghost use Rattle.std.specs.List.Sorted.{IsStrictlySortedBy};
 ghost use Rattle.sparse_lists.specs.SparseLists.{AllKeys, IsCanonical};
-ghost use Rattle.geo_poly.specs.Polynomials.{coefficients, difference_of, negated, norm_of, sum_of};
-ghost use Rattle.geo_poly.specs.Polynomials.{term_cmp};
+ghost use Rattle.mono_store.specs.Stores.{Keeps};
+ghost use Rattle.geo_poly.specs.Polynomials.{IsPolynomial, coefficients, difference_of, negated};
+ghost use Rattle.geo_poly.specs.Polynomials.{norm_of, sum_of, term_cmp};
 ghost use Rattle.geo_poly.specs.PolynomialVariables.{AllVariables};
 ghost use Rattle.geo_poly.specs.Shared.{AreParts, IsIndex, terms_of, told};
 ghost use Rattle.geo_poly.specs.Variables.{var_cmp};
@@ -14,6 +15,7 @@ use crate::lists::Vars;
 use crate::moving::moved;
 use crate::polynomial_variables::{has_all, union};
 use crate::polynomials::Poly;
+use crate::roomy_stores::store_for_both;
 use crate::shared::{Indexed, Shared};
 use crate::terms::{Term, append_copies, copy_term};
 use crate::variables::Var;
@@ -65,7 +67,7 @@ fn sum(alloc: Global, p: &Shared, q: &Shared) -> Result<Poly, NoMemory>
         return sum_over(alloc, q, p);
     }
     let vars = union(alloc, p.vars, q.vars)?;
-    let mut monos = Monos::with_capacity(alloc, links_of_both(p, q))?;
+    let mut monos = store_for_both(alloc, &vars, p, q)?;
     let list = sum_list(alloc, &mut monos, vars.as_slice(), p, q)?;
     Poly::compact(alloc, vars, monos, list)
 }
@@ -86,12 +88,8 @@ fn difference(alloc: Global, p: &Shared, q: &Shared) -> Result<Poly, NoMemory>
     sum(alloc, p, &negated)
 }
 
-/// Room for the links of both. Nothing rests on it but time.
-fn links_of_both(p: &Shared, q: &Shared) -> u64 {
-    p.monos.links().saturating_add(q.monos.links())
-}
-
-/// The sum, over a copy of the store of the first, which has the variables of both.
+/// The sum, over a copy of the store of the first, which has the variables of both. Where the second
+/// has the same words, its list is merged as it is.
 fn sum_over(alloc: Global, p: &Shared, q: &Shared) -> Result<Poly, NoMemory>
     requires left { AreParts p.now }
     requires right { AreParts q.now }
@@ -100,8 +98,35 @@ fn sum_over(alloc: Global, p: &Shared, q: &Shared) -> Result<Poly, NoMemory>
     ensures { IfOk result (λ s. s ≡ sum_of (told p.now) (told q.now)) }
 {
     let mut monos = p.monos.copy(alloc)?;
+    if has_words_of(p, q) {
+        return sum_in(alloc, p, monos, q.list);
+    }
     let right = moved(alloc, &mut monos, p.vars, q)?;
-    let list = merged_lists(alloc, &monos, p.vars, p.list, &right)?;
+    sum_in(alloc, p, monos, &right)
+}
+
+/// Whether the second has the variables and the words of the first, and no links: then its indices
+/// are indices of the first, and stand for the same monomials.
+#[tactic(auto, using(crate::proofs::Unions::same_variables))]
+fn has_words_of(p: &Shared, q: &Shared) -> bool
+    ensures vars { IsTrue result → p.now.vars.now ≡ q.now.vars.now }
+    ensures kept { IsTrue result → Keeps q.now.monos.now p.now.monos.now }
+{
+    p.vars == q.vars && p.monos.has_words_of(q.monos)
+}
+
+/// The sum of a polynomial and of the terms of a list, in a store that has the indices of both.
+fn sum_in(alloc: Global, p: &Shared, monos: Monos, right: &[Indexed]) -> Result<Poly, NoMemory>
+    requires parts { AreParts p.now }
+    requires kept { Keeps p.now.monos.now monos }
+    requires indices { AllKeys (IsIndex p.now.vars.now monos) right.now }
+    requires polynomial { IsPolynomial (terms_of p.now.vars.now monos right.now) }
+    requires fits { norm_of (told p.now) + norm_of (terms_of p.now.vars.now monos right.now)
+        < 2 ^ 127 }
+    ensures { IfOk result
+        (λ s. s ≡ sum_of (told p.now) (terms_of p.now.vars.now monos right.now)) }
+{
+    let list = merged_lists(alloc, &monos, p.vars, p.list, right)?;
     let items = Vec::from_slice(alloc, p.vars)?;
     Poly::compact(alloc, Vars { items }, monos, list)
 }

@@ -2,12 +2,13 @@
 
 use crate::monomial_keys::MonomialKeys;
 use crate::word_order::ByWord;
-use crate::words::Digits;
 use geo_points::NoMemory;
+use mono_store::Digits;
 use poly_arena::{Arena, Chain};
 
 impl MonomialKeys for Digits {
-    ghost use Rattle.geo_poly.specs.Inner.Words.{powers_of_word-zero, word_keys};
+    ghost use Rattle.mono_store.proofs.WordDigits.{powers_of_word-zero};
+    ghost use Rattle.geo_poly.specs.Inner.Words.{word_keys};
 
     ghost keys = { word_keys };
 

@@ -43,7 +43,7 @@ fn all_have(p: &Shared, number: u64) -> bool
     true
 }
 
-/// Whether the monomial has the variable of this number. The numbers rise from link to link, so the
+/// Whether the monomial has the variable of this number. The numbers rise from power to power, so the
 /// walk ends where they pass it.
 fn has_number(p: &Shared, id: MonoId, number: u64) -> bool
     requires rising { IsStrictlySortedBy var_cmp p.now.vars.now }

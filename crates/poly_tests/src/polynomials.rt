@@ -450,11 +450,11 @@ fn index_told(poly: &Poly, i: u64) -> u64
 fn parts_of_a_polynomial_are_told(rt: HostRuntime) -> Result<(), Fail> {
     let alloc = rt.alloc();
     let poly = linear(alloc, 2, -3)?;
-    assert_eq!(rt; spelled_parts(alloc, &poly)?.as_str(), "x0y0 1:+2 2:-3");
+    assert_eq!(rt; spelled_parts(alloc, &poly)?.as_str(), "x0y0 2:+2 1:-3");
     assert_eq!(rt; poly.monos().one().0, 0);
     if poly.terms() == 2 {
-        assert_eq!(rt; index_told(&poly, 0), 1);
-        assert_eq!(rt; index_told(&poly, 1), 2);
+        assert_eq!(rt; index_told(&poly, 0), 2);
+        assert_eq!(rt; index_told(&poly, 1), 1);
     }
     Ok(())
 }

@@ -5,7 +5,7 @@ ghost use Rattle.std.specs.Prelude.{IfOk, IfSome, OnOk, length, slice_get, unsig
 ghost use Rattle.std.specs.Fmt.{decimal, signed_decimal};
 ghost use Rattle.geo_poly.specs.Polynomials.{term_at};
 ghost use Rattle.geo_poly.specs.Shared.{AreParts, told};
-ghost use Rattle.proof_log.specs.Inner.Names.{AreNames};
+ghost use Rattle.proof_log.specs.Inner.Names.{AreNames, starred};
 ghost use Rattle.proof_log.specs.Writable.{IsWritable};
 ghost use Rattle.proof_log.specs.Lines.{factor_text, line_text, numbers_text, place_text};
 ghost use Rattle.proof_log.specs.Lines.{polynomial_text, power_text, sign_text, term_text};
@@ -282,7 +282,7 @@ fn push_term(
     Ok(())
 }
 
-/// Appends `*`, a variable, by its name where there are names, and its exponent where that is not 1.
+/// Appends a power, by what was made of its variable where that was made.
 fn push_named_power(
     alloc: Global,
     out: &mut Vec<u8>,
@@ -290,13 +290,12 @@ fn push_named_power(
     first: &FirstPower,
 ) -> Result<(), NoMemory>
     requires { IfSome (slice_get names.now first.now.number)
-        (λ name. name ≡ variable_name first.now.var) }
+        (λ name. name ≡ starred first.now.var) }
     ensures { OnOk result (out.new.items
         ≡ out.old.items ++ power_text (first.now.var, first.now.exponent)) }
 {
     match names.get(first.number as usize) {
         Some(name) => {
-            out.push(b'*')?;
             out.extend_from_slice(&name.bytes)?;
             push_exponent(alloc, out, first.exponent)
         }
@@ -353,7 +352,7 @@ fn push_exponent(alloc: Global, out: &mut Vec<u8>, exponent: u32) -> Result<(), 
     Ok(())
 }
 
-/// The names of the variables, each made once for all its powers; none where there are fewer terms
+/// `*` and the name of each variable, made once for all its powers; none where there are fewer terms
 /// than variables.
 fn names_of(alloc: Global, p: &Shared) -> Result<Vec<Text>, NoMemory>
     ensures { IfOk result (λ names. AreNames p.now.vars.now names.items) }
@@ -363,16 +362,17 @@ fn names_of(alloc: Global, p: &Shared) -> Result<Vec<Text>, NoMemory>
         return Ok(names);
     }
     for v in p.vars {
-        names.push(name_of(alloc, *v)?)?;
+        names.push(starred_name(alloc, *v)?)?;
     }
     Ok(names)
 }
 
-/// The name of a variable.
-fn name_of(alloc: Global, variable: Var) -> Result<Text, NoMemory>
-    ensures { IfOk result (λ name. name ≡ variable_name variable) }
+/// `*` and the name of a variable.
+fn starred_name(alloc: Global, variable: Var) -> Result<Text, NoMemory>
+    ensures { IfOk result (λ name. name ≡ starred variable) }
 {
     let mut bytes = Vec::new(alloc);
+    bytes.push(b'*')?;
     push_variable(alloc, &mut bytes, variable)?;
     Ok(Text { bytes })
 }

@@ -1,5 +1,10 @@
 pub mod Lookups
 pub mod PrintedLines
+pub mod TokenTexts
+pub mod Tokens
+pub mod PrintedSteps
+pub mod MetNames
+pub mod HeadTexts
 pub mod PrintableLogs
 pub mod AcceptedProofs
 pub mod MadeNames

@@ -33,7 +33,8 @@ use Rattle.proof_log.specs.declared.log.Line.{Line}
 use Rattle.proof_log.specs.declared.log.Line.TheVariants.{Header, Program as ProgramLine, Condition, Goal, End}
 use Rattle.proof_log.specs.declared.log.Verdict.{Verdict}
 use Rattle.proof_log.specs.declared.log.Verdict.TheVariants.{Proved, False}
-use Rattle.proof_printer.specs.Inner.Printing.{CanMove, CanPrint, CanPrintAll}
+use Rattle.elim_apply.specs.Replacements.{CanMove}
+use Rattle.proof_printer.specs.Inner.Printing.{CanPrint, CanPrintAll}
 use Rattle.proof_printer.specs.Readable.{polynomial_after}
 
 module _ (c : Construction) (construction : IsConstruction c) where

@@ -2,8 +2,10 @@
 //! stands for each variable.
 #![tactic(auto)]
 
+mod heads;
 pub mod laws;
 mod lines;
+mod met;
 mod moves;
 mod name_list;
 mod namer;
@@ -12,5 +14,6 @@ mod pieces;
 mod polynomials;
 mod printer;
 mod printing;
+mod reading;
 
 pub use printing::text;

@@ -1,13 +1,16 @@
 //! What a move replaces, line by line.
 
-ghost use Rattle.std.specs.Prelude.{◌≡◌, ◌++◌, OnOk};
+ghost use Rattle.std.specs.Prelude.{◌≡◌, ◌++◌, IfOk, OnOk};
 ghost use Rattle.std.specs.List.{flat_map};
+ghost use Rattle.geo_poly.specs.Polynomials.{Summands};
 ghost use Rattle.proof_printer.specs.Inner.Names.{naming_in};
+ghost use Rattle.proof_printer.specs.Inner.Reading.{IsKept, IsTextOf};
 ghost use Rattle.proof_printer.specs.Readable.{denominator_text, ended};
 ghost use Rattle.proof_printer.specs.Readable.{replacement_lines, row_text};
 
 use crate::namer::Namer;
 use crate::polynomials::push_exponent;
+use crate::reading::Before;
 use geo_logs::Replacement;
 use geo_points::NoMemory;
 use geo_poly::{Poly, Row};
@@ -20,16 +23,18 @@ impl Namer {
         alloc: Global,
         out: &mut Vec<u8>,
         made: &Replacement,
-        poly: &Poly,
-    ) -> Result<(), NoMemory>
-        ensures { OnOk result (out.new.items
-            ≡ out.old.items ++ replacement_lines (naming_in self.now) made.now poly.now) }
+        text: &[u8],
+    ) -> Result<Before, NoMemory>
+        ensures text { (r : Summands) → IsTextOf text.now r → OnOk result (out.new.items
+            ≡ out.old.items ++ replacement_lines (naming_in self.now) made.now r) }
+        ensures kept { (r : Summands) → IsTextOf text.now r
+            → IfOk result (λ after. IsKept after r) }
     {
         self.push_rows(alloc, out, &made.rows.items, &made.den.poly)?;
         out.extend_from_slice(b"  gives ")?;
-        self.push_polynomial(alloc, out, poly)?;
+        let after = self.push_read(alloc, out, text)?;
         out.push(b'\n')?;
-        Ok(())
+        Ok(after)
     }
 
     /// Appends a line for each row.

@@ -7,7 +7,7 @@ ghost use Rattle.std.specs.List.{flat_map};
 ghost use Rattle.geo_poly.specs.Polynomials.{term_at};
 ghost use Rattle.geo_poly.specs.Shared.{AreParts, told};
 ghost use Rattle.proof_log.specs.Lines.{sign_text};
-ghost use Rattle.proof_printer.specs.Inner.Names.{AreNames, naming_in};
+ghost use Rattle.proof_printer.specs.Inner.Names.{AreNames, naming_in, starred};
 ghost use Rattle.proof_printer.specs.Naming.{variable_text};
 ghost use Rattle.proof_printer.specs.Polynomials.{exponent_text, factor_text, polynomial_text};
 ghost use Rattle.proof_printer.specs.Polynomials.{power_text, term_text, value_text};
@@ -68,8 +68,7 @@ impl Namer {
         Ok(())
     }
 
-    /// Appends `*`, a variable, by its name where there are names, and its exponent where that is
-    /// not 1.
+    /// Appends a power, by what was made of its variable where that was made.
     fn push_named_power(
         &self,
         alloc: Global,
@@ -78,13 +77,12 @@ impl Namer {
         first: &FirstPower,
     ) -> Result<(), NoMemory>
         requires { IfSome (slice_get names.now first.now.number)
-            (λ name. name ≡ variable_text (naming_in self.now) first.now.var) }
+            (λ name. name ≡ starred (naming_in self.now) first.now.var) }
         ensures { OnOk result (out.new.items
             ≡ out.old.items ++ power_text (naming_in self.now) (first.now.var, first.now.exponent)) }
     {
         match names.get(first.number as usize) {
             Some(name) => {
-                out.push(b'*')?;
                 out.extend_from_slice(&name.bytes)?;
                 push_exponent(alloc, out, first.exponent)
             }
@@ -92,7 +90,7 @@ impl Namer {
         }
     }
 
-    /// The names of the variables, each made once for all its powers; none where there are fewer
+    /// `*` and the name of each variable, made once for all its powers; none where there are fewer
     /// terms than variables.
     fn names_of(&self, alloc: Global, p: &Shared) -> Result<Vec<Text>, NoMemory>
         ensures { IfOk result (λ names. AreNames (naming_in self.now) p.now.vars.now names.items) }
@@ -102,16 +100,17 @@ impl Namer {
             return Ok(names);
         }
         for v in p.vars {
-            names.push(self.name_of(alloc, *v)?)?;
+            names.push(self.starred_name(alloc, *v)?)?;
         }
         Ok(names)
     }
 
-    /// The name of a variable.
-    fn name_of(&self, alloc: Global, variable: Var) -> Result<Text, NoMemory>
-        ensures { IfOk result (λ name. name ≡ variable_text (naming_in self.now) variable) }
+    /// `*` and the name of a variable.
+    fn starred_name(&self, alloc: Global, variable: Var) -> Result<Text, NoMemory>
+        ensures { IfOk result (λ name. name ≡ starred (naming_in self.now) variable) }
     {
         let mut bytes = Vec::new(alloc);
+        bytes.push(b'*')?;
         self.push_variable(alloc, &mut bytes, variable)?;
         Ok(Text { bytes })
     }

@@ -6,13 +6,13 @@ ghost use Rattle.proof_printer.specs.Inner.Names.{naming_in};
 ghost use Rattle.proof_printer.specs.Inner.Printing.{IsConstructionOf, IsPrintable, IsPrinted};
 ghost use Rattle.proof_printer.specs.Naming.{naming_of};
 
-use crate::lines::polynomial_after;
+use crate::heads::read_head;
 use crate::namer::Namer;
-use crate::pieces::{read_written, split_line};
+use crate::pieces::split_line;
+use crate::reading::Before;
 use geo_base::Text;
 use geo_lowering::{Lowered, Version};
 use geo_points::NoMemory;
-use geo_poly::Poly;
 use geo_program::Program;
 use geo_terms::Steps;
 use log_checker::versions::lower_by;
@@ -55,12 +55,11 @@ impl Printer {
             (IsPrinted (naming_in self.now.namer) self.now.steps bytes.now) }
     {
         let mut out = Vec::new(alloc);
-        let mut before = Poly::zero(alloc);
+        let mut before = Before::zero(alloc);
         let mut rest = bytes;
         while let Some((piece, behind)) = split_line(rest) {
-            let line = read_written(alloc, piece)?;
-            self.push_line(alloc, &mut out, &before, &line)?;
-            before = polynomial_after(before, line);
+            let read = read_head(alloc, piece)?;
+            before = self.push_line(alloc, &mut out, before, &read)?;
             rest = behind;
         }
         Ok(Text { bytes: out })

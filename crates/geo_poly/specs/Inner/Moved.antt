@@ -1,11 +1,13 @@
 -- Monomials of a store under other keys, without the variables that have rows: where each of them stands then.
-use Rattle.std.specs.Prelude.{◌≡◌, ℕ, ◌<◌, List, Option, None, Some, Contains, length, slice_index_or}
+use Rattle.std.specs.Prelude.{◌≡◌, ℕ, ◌+◌, ◌<◌, List, Option, None, Some, Contains, length, slice_index_or}
 use Rattle.mono_store.specs.declared.links.MonoId.{MonoId}
+use Rattle.mono_store.specs.Stores.{words}
+use Rattle.geo_poly.specs.declared.moving.MovedMonomials.{MovedMonomials}
 use Rattle.geo_poly.specs.declared.replacement.Row.{Row}
 use Rattle.geo_poly.specs.declared.shared.Shared.{Shared}
 use Rattle.geo_poly.specs.declared.variables.Var.{Var}
 use Rattle.geo_poly.specs.Replace.{others}
-use Rattle.geo_poly.specs.Shared.{IsIndexOf, named, told_powers, var_at}
+use Rattle.geo_poly.specs.Shared.{AreParts, IsIndexOf, named, told_powers, var_at}
 use Rattle.geo_poly.specs.Keys.{Keys}
 use Rattle.geo_poly.specs.Inner.Keyed.{IsIndexUnder}
 
@@ -30,7 +32,13 @@ abbrev pub IsMovedTo : Shared → List Row → List Var → Keys → MonoId → 
 IsMovedTo p rows vars keys id (Some new) = IsSame p rows vars keys id new
 IsMovedTo p rows vars keys id None = Unit {0}
 
--- the key of what is left of each of the first monomials, where the table has one
-abbrev pub AreMoved : Shared → List Row → List Var → Keys → List (Option MonoId) → Type 0
-AreMoved p rows vars keys table =
-    (k : ℕ) → k < length table → IsMovedTo p rows vars keys (record { 0 = k }) (slice_index_or table k None)
+-- the key of what is left of the monomial of each of the first links, where there is one
+abbrev pub AreMovedLinks : Shared → List Row → List Var → Keys → List (Option MonoId) → Type 0
+AreMovedLinks p rows vars keys links =
+    (k : ℕ) → k < length links → IsMovedTo p rows vars keys (record { 0 = words p.monos.now + k }) (slice_index_or links k None)
+
+-- the places of the variables of a polynomial, and the keys of its links
+pub record AreMoved (p : Shared) (rows : List Row) (vars : List Var) (keys : Keys) (moved : MovedMonomials) : Type 0 where
+  pub parts : AreParts p
+  pub places : ArePlaces p.vars.now vars moved.places.items
+  pub links : AreMovedLinks p rows vars keys moved.links.items

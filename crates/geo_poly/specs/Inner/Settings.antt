@@ -2,7 +2,7 @@
 use Rattle.std.specs.Prelude.{◌≡◌, ◌≢◌, ℕ, None, List, [], ◌∷◌}
 use Rattle.std.specs.List.Sorted.{IsStrictlySortedBy}
 use Rattle.sparse_lists.specs.SparseLists.{AllKeys}
-use Rattle.mono_store.specs.Stores.{Links}
+use Rattle.mono_store.specs.Stores.{Store}
 use Rattle.poly_arena.specs.Chains.{Chains, list_of}
 use Rattle.geo_poly.specs.declared.replacement.Row.{Row}
 use Rattle.geo_poly.specs.declared.settings.Setting.{Setting}
@@ -41,14 +41,14 @@ pub record IsSetUnder (setting : Setting) (keys : Keys) : Type 0 where
   pub den_stored : IsStoredUnder setting.vars.now keys setting.den.list.now setting.den.piece.now.poly
 
 -- the same under the indices of a store
-abbrev pub IsStoredAs : List Var → Links → Indices → Summands → Type 0
-IsStoredAs vars links = IsStoredUnder vars (store_keys links)
+abbrev pub IsStoredAs : List Var → Store → Indices → Summands → Type 0
+IsStoredAs vars store = IsStoredUnder vars (store_keys store)
 
-abbrev pub AreStored : List Var → Links → List Row → List Indices → Type 0
-AreStored vars links = AreStoredUnder vars (store_keys links)
+abbrev pub AreStored : List Var → Store → List Row → List Indices → Type 0
+AreStored vars store = AreStoredUnder vars (store_keys store)
 
-abbrev pub IsSet : Setting → Links → Type 0
-IsSet setting links = IsSetUnder setting (store_keys links)
+abbrev pub IsSet : Setting → Store → Type 0
+IsSet setting store = IsSetUnder setting (store_keys store)
 
 -- one chain is spent and another one made, which may have its number; all others have what they had
 pub record Swaps (old new : Chains) (gone made : ℕ) : Type 0 where

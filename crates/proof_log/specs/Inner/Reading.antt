@@ -1,5 +1,5 @@
 -- What stands at the beginning of bytes.
-use Rattle.std.specs.Prelude.{◌≡◌, ◌^◌, ◌<◌, ◌≤◌, ◌==◌, ℕ, Bool, true, false, ℤ, unsigned_abs, List, [], ◌∷◌, ◌++◌, length, cond, codes}
+use Rattle.std.specs.Prelude.{◌≡◌, ◌^◌, ◌<◌, ◌≤◌, ◌==◌, ℕ, Bool, true, false, ℤ, unsigned_abs, List, [], ◌∷◌, ◌++◌, length, cond, codes, ltb}
 use Rattle.std.specs.Char.{is_ascii_digit}
 use Rattle.std.specs.Fmt.{decimal, signed_decimal}
 use Rattle.std.specs.List.{flat_map}
@@ -53,6 +53,10 @@ is_exponent_byte b = cond (b == 94) true (is_number_byte b)
 -- besides, `*`
 abbrev pub is_power_byte : ℕ → Bool
 is_power_byte b = cond (b == 42) true (is_exponent_byte b)
+
+-- a byte of the text of a polynomial with which no name begins: below `A`, or `^`
+abbrev pub is_plain_byte : ℕ → Bool
+is_plain_byte b = cond (b == 94) true (ltb b 65)
 
 -- any byte
 abbrev pub is_byte : ℕ → Bool

@@ -1,5 +1,5 @@
 -- The names that the printer holds.
-use Rattle.std.specs.Prelude.{◌≡◌, ◌⊎◌, ℕ, ◌++◌, List, [], map, slice_get, unwrap_or}
+use Rattle.std.specs.Prelude.{codes, ◌≡◌, ◌⊎◌, ℕ, ◌++◌, List, [], map, slice_get, unwrap_or}
 use Rattle.std.specs.Fmt.{decimal}
 use Rattle.geo_poly.specs.declared.variables.Var.{Var}
 use Rattle.proof_printer.specs.declared.name_list.NameList.{NameList}
@@ -14,6 +14,10 @@ name_in l n = unwrap_or (slice_get l.names.items n) (l.mark ++ decimal n)
 abbrev pub naming_in : Namer → Naming
 naming_in namer = record { point = name_in namer.points; param = name_in namer.params }
 
--- the names of all the variables of a polynomial, in their order, or none
+-- a variable to the power 1 in a term
+abbrev pub starred : Naming → Var → List ℕ
+starred n v = codes "*" ++ variable_text n v
+
+-- all the variables of a polynomial so, in their order, or none
 abbrev pub AreNames : Naming → List Var → List (List ℕ) → Type 0
-AreNames n vars names = (names ≡ []) ⊎ (names ≡ map (variable_text n) vars)
+AreNames n vars names = (names ≡ []) ⊎ (names ≡ map (starred n) vars)

@@ -1,23 +1,16 @@
 -- Which lines can be printed, and what is printed while a log is read.
-use Rattle.std.specs.Prelude.{◌≡◌, ◌≢◌, ℕ, ◌^◌, ◌<◌, ◌≤◌, List, [], ◌∷◌, ◌++◌, length}
-use Rattle.fraction_poly.specs.TableRows.{HasPointsBelow}
+use Rattle.std.specs.Prelude.{◌≡◌, ℕ, List, [], ◌∷◌, ◌++◌}
 use Rattle.geo_poly.specs.Polynomials.{Summands}
-use Rattle.geo_poly.specs.PolynomialVariables.{AllVariables}
-use Rattle.geo_poly.specs.Replace.{replaced_degree, replaced_weight}
 use Rattle.geo_terms.specs.Constructions.{Construction}
 use Rattle.geo_program.specs.WellFormed.{Source}
 use Rattle.geo_lowering.specs.Lowering.{IsLowered, LoweredForm}
 use Rattle.geo_lowering.specs.declared.version.Version.{Version}
-use Rattle.geo_logs.specs.declared.moves.Move.{Move}
 use Rattle.geo_logs.specs.declared.moves.Move.TheVariants as move
-use Rattle.geo_logs.specs.declared.moves.Replacement.{Replacement}
-use Rattle.geo_logs.specs.Moves.{place_of, replacement}
-use Rattle.geo_logs.specs.Naming.{IsPlaceBelow}
-use Rattle.elim_apply.specs.LemmaTable.{lemma_table}
+use Rattle.elim_apply.specs.Replacements.{CanMove}
 use Rattle.proof_log.specs.declared.log.Line.{Line}
 use Rattle.proof_log.specs.declared.log.Line.TheVariants.{Ratio, Point, Coords}
 use Rattle.proof_log.specs.Lines.{log_text}
-use Rattle.proof_log.specs.Writable.{AllWritable}
+use Rattle.proof_log.specs.Writable.{AllWritable, CanWritePolynomial}
 use Rattle.proof_printer.specs.Naming.{Naming}
 use Rattle.proof_printer.specs.Readable.{polynomial_after, ratio_move, readable}
 
@@ -26,19 +19,6 @@ pub record IsConstructionOf (version : Version) (p : Source) (c : Construction) 
   pub form : LoweredForm
   pub lowered : IsLowered version p form
   pub same : c ≡ form.construction
-
--- the replacement in a polynomial is within its limits
-pub record IsWithin (made : Replacement) (before : Summands) : Type 0 where
-  pub some : made.rows ≢ []
-  pub charge : made.charge < 2 ^ 128
-  pub weight : replaced_weight made.rows made.den before < 2 ^ 127
-  pub degree : replaced_degree made.rows made.den before ≤ 65535
-
--- the rows of the move can be made
-pub record CanMove (c : Construction) (before : Summands) (mv : Move) : Type 0 where
-  pub points : AllVariables (HasPointsBelow (length c.steps)) before
-  pub place : IsPlaceBelow (length c.steps) (place_of mv)
-  pub within : IsWithin (replacement lemma_table c mv before) before
 
 -- the line can be printed behind this polynomial
 abbrev pub CanPrint : Construction → Summands → Line → Type 0
@@ -68,6 +48,7 @@ pub record IsPrinted (n : Naming) (c : Construction) (bytes text : List ℕ) : T
 
 -- of the lines in the bytes those in `rest` are left, behind this polynomial, and `text` is printed of the others
 pub record IsPrinting (n : Naming) (c : Construction) (bytes rest text : List ℕ) (before : Summands) : Type 0 where
+  pub before-writable : CanWritePolynomial before
   pub lines : List Line
   pub writable : AllWritable lines
   pub written : bytes ≡ log_text lines

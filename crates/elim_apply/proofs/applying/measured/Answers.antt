@@ -10,7 +10,7 @@ use Rattle.elim_apply.specs.declared.numbered.NumberedRow.{NumberedRow}
 use Rattle.elim_apply.specs.Inner.Sketches.{numbered_row, sketches}
 use Rattle.elim_apply.proofs.AppliedMoves.{no_length}
 use Rattle.elim_apply.proofs.NumberedRows.{HasDenominator, all_each, all_over_one, none_made, sketches_small, some_length, some_numbered}
-use Rattle.elim_apply.proofs.SketchedLines.{sketched_line}
+use Rattle.elim_apply.proofs.SketchedLines.{sketched_line, sketched_top}
 use Rattle.elim_apply.proofs.applying.measured.Goals as goal
 
 pub numbered_rows-requires-clause-variables : goal.numbered_rows-requires-clause-variables
@@ -71,4 +71,14 @@ returns-clause-size c =
     let first : HasDenominator steps mv c.index.result.now =
     subst (HasDenominator steps mv) (let e : get_or c.deref-2.result.now 0 c.index.result.now ≡ c.index.result.now = search rules in e)
     (all 0 c.index.result.now (some_length c.deref-2.result.now listed)) in
-    sketched_line steps mv q c.deref-2.result.now c.index.result.now c.in_ok-size.size numbers first c.in_ok-size.ensures
+    sketched_line steps mv q c.deref-2.result.now c.index.result.now c.in_ok-size.size numbers first c.in_ok-size.ensures.size
+
+pub returns-clause-top : goal.returns-clause-top
+returns-clause-top c =
+    let steps = c.args.steps.now in
+    let mv = c.args.mv.now in
+    let q = c.args.p.now in
+    let vs : c.deref.result.now ≡ variables_of q = c.deref.ensures.value ∙ c.in_ok-variables.ensures in
+    let numbers : c.deref-2.result.now ≡ filter_map (numbered_row steps mv) (variables_of q) =
+    c.deref-2.ensures.value ∙ c.in_ok-rows.ensures.rows ∙ ap (filter_map (numbered_row steps mv)) vs in
+    c.in_ok-size.ensures.top ∙ sketched_top steps mv q c.deref-2.result.now numbers

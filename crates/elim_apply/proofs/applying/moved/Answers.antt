@@ -3,11 +3,11 @@ use Rattle.geo_poly.specs.Counted.{replacement_products}
 use Rattle.geo_poly.specs.declared.replacement.Piece.{Piece}
 use Rattle.geo_poly.specs.declared.replacement.Row.{Row}
 use Rattle.geo_poly.specs.PolynomialVariables.{variables_of}
-use Rattle.geo_poly.specs.Replace.{AllBounded, AllPowersSmall, IsBounded, replaced_by, replaced_degree, replaced_weight}
+use Rattle.geo_poly.specs.Replace.{AllBounded, IsBounded, most_denominators, replaced_by, replaced_degree, replaced_weight}
 use Rattle.elim_apply.specs.LemmaTable.{lemma_table}
 use Rattle.geo_logs.specs.Moves.{replacement}
 use Rattle.elim_apply.proofs.MadeLines.{line_can_be_made, line_made, line_own}
-use Rattle.elim_apply.proofs.NumberedRows.{denominator_bounded, rows_bounded, rows_small}
+use Rattle.elim_apply.proofs.NumberedRows.{denominator_bounded, rows_bounded}
 use Rattle.elim_apply.proofs.applying.moved.Goals as goal
 
 pub made_rows-requires-clause-rows : goal.made_rows-requires-clause-rows
@@ -26,17 +26,6 @@ replace_within-requires-clause-rows g c =
     let den : c.in_ok-rows.den ≡ made.den = c.in_ok-rows.ensures.den in
     subst AllBounded (sym rows) (rows_bounded steps mv (variables_of q))
 
-pub replace_within-requires-clause-powers : goal.replace_within-requires-clause-powers
-replace_within-requires-clause-powers g c =
-    let steps = c.args.steps.now in
-    let mv = c.args.mv.now in
-    let q = c.args.p.now in
-    let made = replacement lemma_table steps mv q in
-    let listed : c.deref.result.now ≡ c.in_ok-rows.rows = search rules in
-    let rows : c.deref.result.now ≡ made.rows = line_made steps mv q c.args.rows.now c.requires.rows c.deref.result.now (ap (map Some) listed ∙ c.in_ok-rows.ensures.rows) in
-    let den : c.in_ok-rows.den ≡ made.den = c.in_ok-rows.ensures.den in
-    subst AllPowersSmall (sym rows) (rows_small steps mv (variables_of q))
-
 pub replace_within-requires-clause-den : goal.replace_within-requires-clause-den
 replace_within-requires-clause-den g c =
     let steps = c.args.steps.now in
@@ -47,6 +36,16 @@ replace_within-requires-clause-den g c =
     let rows : c.deref.result.now ≡ made.rows = line_made steps mv q c.args.rows.now c.requires.rows c.deref.result.now (ap (map Some) listed ∙ c.in_ok-rows.ensures.rows) in
     let den : c.in_ok-rows.den ≡ made.den = c.in_ok-rows.ensures.den in
     subst IsBounded (sym den) (denominator_bounded steps mv)
+
+pub replace_within-requires-clause-top : goal.replace_within-requires-clause-top
+replace_within-requires-clause-top g c =
+    let steps = c.args.steps.now in
+    let mv = c.args.mv.now in
+    let q = c.args.p.now in
+    let made = replacement lemma_table steps mv q in
+    let listed : c.deref.result.now ≡ c.in_ok-rows.rows = search rules in
+    let rows : c.deref.result.now ≡ made.rows = line_made steps mv q c.args.rows.now c.requires.rows c.deref.result.now (ap (map Some) listed ∙ c.in_ok-rows.ensures.rows) in
+    c.requires.top ∙ ap (λ (rs : List Row). most_denominators rs q) (sym rows)
 
 pub replace_within-requires-clause-norm : goal.replace_within-requires-clause-norm
 replace_within-requires-clause-norm g c =

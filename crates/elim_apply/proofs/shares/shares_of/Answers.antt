@@ -1,34 +1,38 @@
-use Rattle.std.proofs.Common.{◌≡◌, ◌+◌, [], ◌∷◌, length, subst, ap, ◌∙◌, sym, rules}
-use Rattle.mono_store.specs.declared.links.MonoId.{MonoId}
+use Rattle.std.proofs.Common.{◌≡◌, [], length, subst, ap, sym, arith, rules}
 use Rattle.elim_apply.specs.Inner.Shares.{HaveShares}
 use Rattle.elim_apply.specs.Inner.Sketches.{AreKnown, sketches}
-use Rattle.elim_apply.proofs.LineShares.{first_share, one_more_share}
+use Rattle.geo_poly.proofs.Told.{index_at, monomial_at}
+use Rattle.elim_apply.proofs.LineShares.{no_shares, one_more_share}
 use Rattle.elim_apply.proofs.shares.shares_of.Goals as goal
 
-pub loop-k-init : goal.loop-k-init
-loop-k-init c =
-    let rows = sketches c.args.rows.now in
-    let none : c.in_ok-shares.shares.items ≡ [] = search rules in
-    let one : c.push.new.self.items ≡ c.of_one.result ∷ [] = search rules in
-    record {
-      whole = ap length one;
-      each = subst (HaveShares rows c.args.p.now) (sym one) (first_share rows c.args.p.now c.of_one.result (c.of_one.ensures rows));
-    }
+pub share_of-requires-clause-index : goal.share_of-requires-clause-index
+share_of-requires-clause-index c = index_at c.args.p.now c.loop-id.id-index c.loop-id-test.true c.requires.parts
 
-pub loop-k-preserved : goal.loop-k-preserved
-loop-k-preserved c =
+pub share_of-requires-clause-monomial : goal.share_of-requires-clause-monomial
+share_of-requires-clause-monomial c = monomial_at c.args.p.now c.loop-id.id-index c.loop-id-test.true c.requires.parts
+
+pub loop-id-init : goal.loop-id-init
+loop-id-init c =
+    let none : c.in_ok-shares.shares.items ≡ [] = search rules in
+    record { within = omega arith; whole = ap length none; each = no_shares (sketches c.args.rows.now) c.args.p.now c.in_ok-shares.shares.items none }
+
+pub loop-id-preserved : goal.loop-id-preserved
+loop-id-preserved c =
     let rows = sketches c.args.rows.now in
     let p = c.args.p.now in
-    let shares = c.loop-k.shares.items in
+    let shares = c.loop-id.shares.items in
     let known : c.deref.result.now ≡ c.in_ok-known.known.items = search rules in
-    let slice : c.deref-in-loop-k.result.now ≡ c.loop-k.shares.items = search rules in
-    let id : MonoId = record { 0 = c.loop-k.k + 1 } in
-    let before = subst (HaveShares rows p) (sym slice) c.loop-k.invariant.each in
-    let count = ap length slice ∙ c.loop-k.invariant.whole in
+    let are = subst (AreKnown rows p.vars.now) (sym known) c.in_ok-known.ensures in
     record {
+      within = omega (arith, c.loop-id-test.true);
       whole = search rules;
-      each = subst (HaveShares rows p) (sym c.in_ok-push-2.ensures.items)
-          (one_more_share rows p shares c.next_share-share.result id c.loop-k.invariant.each (sym c.loop-k.invariant.whole)
-          (c.next_share-share.ensures rows c.requires
-          (subst (AreKnown rows p.vars.now) (sym known) c.in_ok-known.ensures) before count));
+      each = subst (HaveShares rows p) (sym c.in_ok-push.ensures.items)
+          (one_more_share rows p shares c.share_of.result c.loop-id.id-index c.loop-id.invariant.whole c.loop-id-test.true c.loop-id.invariant.each
+          (c.share_of.ensures rows c.requires.powers are));
     }
+
+pub returns : goal.returns
+returns c = record {
+  whole = omega (arith, c.loop-id.invariant.whole, c.loop-id.invariant.within, c.loop-id-test.false);
+  each = c.loop-id.invariant.each;
+}

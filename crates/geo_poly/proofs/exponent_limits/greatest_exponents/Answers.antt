@@ -17,5 +17,6 @@ pub returns : goal.returns
 returns c =
     let p = c.args.p.now in
     let last : c.loop-i.i ≡ length p.vars.now = omega arith in
-    AreBounds-named p.vars.now c.requires.rising p.monos.now c.in_ok-numbered.numbered.items c.loop-i.bounds.items c.in_ok-numbered.ensures.greatest
-    (subst (λ (n : ℕ). AreNamed p.vars.now c.in_ok-numbered.numbered.items n c.loop-i.bounds.items) last c.loop-i.invariant) p.list.now c.requires.indices
+    AreBounds-named p.vars.now c.requires.rising c.in_ok-numbered.numbered.items c.loop-i.bounds.items
+    (subst (λ (n : ℕ). AreNamed p.vars.now c.in_ok-numbered.numbered.items n c.loop-i.bounds.items) last c.loop-i.invariant) p.monos.now p.list.now
+    c.requires.indices c.in_ok-numbered.ensures.greatest

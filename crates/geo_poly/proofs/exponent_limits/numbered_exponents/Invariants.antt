@@ -1,9 +1,10 @@
-use Rattle.std.proofs.Common.{◌≡◌, ◌+◌, length}
+use Rattle.std.proofs.Common.{◌≡◌, length, take}
 use Rattle.geo_poly.specs.Inner.Limits.{AreGreatest}
+use Rattle.geo_poly.specs.Shared.{told}
 use Rattle.geo_poly.proofs.exponent_limits.numbered_exponents.Given as goal
 
-abbrev pub invariant-loop-k : goal.invariant-loop-k
-invariant-loop-k l = record {
+abbrev pub invariant-loop-id : goal.invariant-loop-id
+invariant-loop-id l = record {
   whole : length l.greatest.items ≡ length l.p.vars.now;
-  greatest : AreGreatest (l.k + 1) (length l.p.vars.now) l.p.monos.now l.greatest.items;
+  greatest : AreGreatest l.p.vars.now l.greatest.items (take l.id-index (told l.p));
 }

@@ -1,4 +1,4 @@
-use Rattle.std.proofs.Common.{◌≡◌, ℕ, ◌+◌, ◌-◌, ◌<◌, ◌≤◌, List, ◌∷◌, ◌∙◌, drop, length, slice_index_or, sym, ap, ap₂, subst, arith}
+use Rattle.std.proofs.Common.{rules, ◌≡◌, ℕ, ◌+◌, ◌-◌, ◌<◌, ◌≤◌, List, ◌∷◌, ◌∙◌, drop, length, slice_index_or, sym, ap, ap₂, subst, arith}
 use Rattle.std.specs.List.Sorted.{IsStrictlySortedBy}
 use Rattle.sparse_lists.proofs.Sums.{AllKeys-at}
 use Rattle.sparse_lists.proofs.Merging.{drop_at, get_or_any}
@@ -55,3 +55,21 @@ mono-requires-clause-first c = (before c).first
 
 pub mono-requires-clause-degree : goal.mono-requires-clause-degree
 mono-requires-clause-degree c = (before c).degree
+
+module _ (vars : List Var) (powers : Powers) (m : NumberedPowers) (i k : ℕ) (positive : 0 < i) (within : i ≤ length powers)
+    (is : named vars m ≡ drop i powers) (k_is : var_at vars k ≡ (slice_index_or powers (i - 1) none).0) where
+  one_more : (var_at vars k, (slice_index_or powers (i - 1) none).1) ∷ named vars m ≡ drop (i - 1) powers
+  one_more =
+      ap₂ (λ (v : Var) (rest : Powers). (v, (slice_index_or powers (i - 1) none).1) ∷ rest) k_is is
+      ∙ sym (next powers i positive within)
+
+pub loop-i-preserved : goal.loop-i-preserved
+loop-i-preserved c = record {
+  kept = search rules;
+  index = search rules;
+  left = search rules;
+  powers =
+      ap (named c.args.vars.now) c.in_ok-id.ensures.monomial
+      ∙ one_more c.args.vars.now c.args.powers.now (monomial_of c.loop-i.store c.loop-i.id) c.loop-i.i c.place_near-place.result
+      c.loop-i-test.true c.loop-i.invariant.left c.loop-i.invariant.powers c.place_near-place.ensures.variable;
+}

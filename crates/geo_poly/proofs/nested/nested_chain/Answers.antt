@@ -26,21 +26,21 @@ pub nested_sum-requires-clause-pending : goal.nested_sum-requires-clause-pending
 nested_sum-requires-clause-pending g c =
     let setting = c.args.setting.now in
     let p = c.args.p.now in
-    let found = subst (λ (es : List Pending). ArePending setting p (told p) es) (sym c.deref-2.ensures.value) c.in_ok-pending.ensures.pending in
+    let found = subst (λ (es : List Pending). ArePending setting p (told p) es) (sym c.deref.ensures.value) c.in_ok-pending.ensures.pending in
     found.pending
 
 pub nested_sum-requires-clause-norm : goal.nested_sum-requires-clause-norm
 nested_sum-requires-clause-norm g c =
     let setting = c.args.setting.now in
     let p = c.args.p.now in
-    let found = subst (λ (es : List Pending). ArePending setting p (told p) es) (sym c.deref-2.ensures.value) c.in_ok-pending.ensures.pending in
+    let found = subst (λ (es : List Pending). ArePending setting p (told p) es) (sym c.deref.ensures.value) c.in_ok-pending.ensures.pending in
     omega (arith, found.weight, c.requires.can.weight_fits)
 
 pub returns-clause-chain : goal.returns-clause-chain
 returns-clause-chain g c =
     let setting = c.args.setting.now in
     let p = c.args.p.now in
-    let found = subst (λ (es : List Pending). ArePending setting p (told p) es) (sym c.deref-2.ensures.value) c.in_ok-pending.ensures.pending in
+    let found = subst (λ (es : List Pending). ArePending setting p (told p) es) (sym c.deref.ensures.value) c.in_ok-pending.ensures.pending in
     let can = c.requires.can in
     let den = setting.den.piece.now.poly in
     let same = accumulated_is_replaced setting.rows.now den setting.top (told p) can.in_order can.monomials in
@@ -53,7 +53,7 @@ pub returns-clause-ticks : goal.returns-clause-ticks
 returns-clause-ticks g c =
     let setting = c.args.setting.now in
     let p = c.args.p.now in
-    let found = subst (λ (es : List Pending). ArePending setting p (told p) es) (sym c.deref-2.ensures.value) c.in_ok-pending.ensures.pending in
+    let found = subst (λ (es : List Pending). ArePending setting p (told p) es) (sym c.deref.ensures.value) c.in_ok-pending.ensures.pending in
     omega (arith, found.products, c.nested_sum.ensures.ticks)
 
 pub returns-clause-kept : goal.returns-clause-kept

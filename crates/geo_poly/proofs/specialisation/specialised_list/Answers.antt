@@ -4,7 +4,7 @@ use Rattle.std.specs.Prelude.{Contains}
 use Rattle.std.proofs.lemmas.Int.{to_z-of_z}
 use Rattle.std.proofs.lemmas.Result.{IfOk-weaker}
 use Rattle.sparse_lists.specs.SparseLists.{AllKeys, IsCanonical}
-use Rattle.mono_store.specs.Stores.{Links}
+use Rattle.mono_store.specs.Stores.{Store}
 use Rattle.geo_poly.specs.Inner.Parts.{has, lacks}
 use Rattle.geo_poly.specs.Monomials.{Powers, IsMonomial}
 use Rattle.geo_poly.specs.Polynomials.{Summands, coefficients, norm_of, sum_of, term_cmp}
@@ -55,15 +55,15 @@ stored_terms-requires-clause-known c =
 pub merged_lists-requires-clause-left_indices : goal.merged_lists-requires-clause-left_indices
 merged_lists-requires-clause-left_indices c =
     rw c.deref-3.ensures.value (indices-kept c.args.p.now.vars.now c.args.store.now c.stored_terms.new.store c.in_ok-rest.rest.items c.in_ok-changed.ensures.kept
-    (subst (λ (links : Links). AllKeys (IsIndex c.args.p.now.vars.now links) c.in_ok-rest.rest.items) (sym c.requires.same) c.in_ok-rest.ensures.parts.indices))
+    (subst (λ (store : Store). AllKeys (IsIndex c.args.p.now.vars.now store) c.in_ok-rest.rest.items) (sym c.requires.same) c.in_ok-rest.ensures.parts.indices))
 
 pub merged_lists-requires-clause-left : goal.merged_lists-requires-clause-left
 merged_lists-requires-clause-left c =
     subst (IsCanonical term_cmp coefficients)
     (sym (in_grown c.args.p.now.vars.now c.args.store.now c.stored_terms.new.store c.in_ok-rest.rest.items c.deref-3.result.now
     (filter (lacks c.args.v) (told c.args.p.now)) c.deref-3.ensures.value c.in_ok-changed.ensures.kept
-    (subst (λ (links : Links). AllKeys (IsIndex c.args.p.now.vars.now links) c.in_ok-rest.rest.items) (sym c.requires.same) c.in_ok-rest.ensures.parts.indices)
-    (subst (λ (links : Links). terms_of c.args.p.now.vars.now links c.in_ok-rest.rest.items ≡ filter (lacks c.args.v) (told c.args.p.now))
+    (subst (λ (store : Store). AllKeys (IsIndex c.args.p.now.vars.now store) c.in_ok-rest.rest.items) (sym c.requires.same) c.in_ok-rest.ensures.parts.indices)
+    (subst (λ (store : Store). terms_of c.args.p.now.vars.now store c.in_ok-rest.rest.items ≡ filter (lacks c.args.v) (told c.args.p.now))
     (sym c.requires.same) (c.in_ok-rest.ensures.terms
     ∙ specialised-zero c.args.v (told c.args.p.now) c.requires.parts.polynomial.in_order c.requires.parts.polynomial.monomials))))
     (IsCanonical-filter (lacks c.args.v) (told c.args.p.now) c.requires.parts.polynomial.in_order)
@@ -85,8 +85,8 @@ merged_lists-requires-clause-fits c =
       arith,
       ap norm_of (in_grown c.args.p.now.vars.now c.args.store.now c.stored_terms.new.store c.in_ok-rest.rest.items c.deref-3.result.now
           (filter (lacks c.args.v) (told c.args.p.now)) c.deref-3.ensures.value c.in_ok-changed.ensures.kept
-          (subst (λ (links : Links). AllKeys (IsIndex c.args.p.now.vars.now links) c.in_ok-rest.rest.items) (sym c.requires.same) c.in_ok-rest.ensures.parts.indices)
-          (subst (λ (links : Links). terms_of c.args.p.now.vars.now links c.in_ok-rest.rest.items ≡ filter (lacks c.args.v)
+          (subst (λ (store : Store). AllKeys (IsIndex c.args.p.now.vars.now store) c.in_ok-rest.rest.items) (sym c.requires.same) c.in_ok-rest.ensures.parts.indices)
+          (subst (λ (store : Store). terms_of c.args.p.now.vars.now store c.in_ok-rest.rest.items ≡ filter (lacks c.args.v)
           (told c.args.p.now)) (sym c.requires.same)
           (c.in_ok-rest.ensures.terms ∙ specialised-zero c.args.v
           (told c.args.p.now) c.requires.parts.polynomial.in_order c.requires.parts.polynomial.monomials))),
@@ -105,8 +105,8 @@ returns-clause-terms c =
     IfOk-weaker c.merged_lists.result _ _
     (λ list h. h ∙ ap₂ sum_of (in_grown c.args.p.now.vars.now c.args.store.now c.stored_terms.new.store c.in_ok-rest.rest.items
     c.deref-3.result.now (filter (lacks c.args.v) (told c.args.p.now)) c.deref-3.ensures.value c.in_ok-changed.ensures.kept
-    (subst (λ (links : Links). AllKeys (IsIndex c.args.p.now.vars.now links) c.in_ok-rest.rest.items) (sym c.requires.same) c.in_ok-rest.ensures.parts.indices)
-    (subst (λ (links : Links). terms_of c.args.p.now.vars.now links c.in_ok-rest.rest.items ≡ filter (lacks c.args.v) (told c.args.p.now))
+    (subst (λ (store : Store). AllKeys (IsIndex c.args.p.now.vars.now store) c.in_ok-rest.rest.items) (sym c.requires.same) c.in_ok-rest.ensures.parts.indices)
+    (subst (λ (store : Store). terms_of c.args.p.now.vars.now store c.in_ok-rest.rest.items ≡ filter (lacks c.args.v) (told c.args.p.now))
     (sym c.requires.same) (c.in_ok-rest.ensures.terms
     ∙ specialised-zero c.args.v (told c.args.p.now) c.requires.parts.polynomial.in_order c.requires.parts.polynomial.monomials)))
     (ap (terms_of c.args.p.now.vars.now c.stored_terms.new.store) c.deref-4.ensures.value ∙ c.in_ok-changed.ensures.terms

@@ -92,17 +92,17 @@ returns-clause-indices c =
 pub returns-clause-sum : goal.returns-clause-sum
 returns-clause-sum c =
     let vars = c.args.vars.now in
-    let links = c.args.store.now in
+    let store = c.args.store.now in
     let left = c.args.left.now in
     let right = c.args.right.now in
     let i = c.loop-i.i in
     let j = c.loop-i.j in
-    let p = terms_of vars links left in
-    let q = terms_of vars links right in
+    let p = terms_of vars store left in
+    let q = terms_of vars store right in
     let rest =
     elim c.loop-i-test.branch as (λ _. canonical term_cmp coefficients (drop i p ++ drop j q) ≡ drop i p ++ drop j q) [
-      | then-loop-i-test+else-j-right w ↦ rest_left term_cmp coefficients term_order coefficients_add p q i j c.requires.left (omega (arith, w.if-j-right.false, length-terms_of vars links right))
-      | else-loop-i-test w ↦ rest_right term_cmp coefficients term_order coefficients_add p q i j c.requires.right (omega (arith, w.loop-i-test.false, length-terms_of vars links left))
+      | then-loop-i-test+else-j-right w ↦ rest_left term_cmp coefficients term_order coefficients_add p q i j c.requires.left (omega (arith, w.if-j-right.false, length-terms_of vars store right))
+      | else-loop-i-test w ↦ rest_right term_cmp coefficients term_order coefficients_add p q i j c.requires.right (omega (arith, w.loop-i-test.false, length-terms_of vars store left))
     ] in
     rw (c.in_ok-extend_from_slice-2.ensures.items, c.in_ok-extend_from_slice.ensures.items, take_rest left i, take_rest right j)
-    (ends vars links left right c.loop-i.list.items i j rest c.loop-i.invariant.kept)
+    (ends vars store left right c.loop-i.list.items i j rest c.loop-i.invariant.kept)

@@ -10,25 +10,25 @@ use Rattle.geo_poly.proofs.sums.negated_list.Goals as goal
 pub overflow_sub-coefficient : goal.overflow_sub-coefficient
 overflow_sub-coefficient c =
     let vars = c.args.p.now.vars.now in
-    let links = c.args.p.now.monos.now in
+    let store = c.args.p.now.monos.now in
     let list = c.args.p.now.list.now in
     let i = c.loop-id.id-index in
-    negation_fits (item list i).1 (list_fits vars links list i c.loop-id-test.true c.requires.polynomial.norm_fits) (list_small vars links list i c.loop-id-test.true c.requires.polynomial.norm_fits)
+    negation_fits (item list i).1 (list_fits vars store list i c.loop-id-test.true c.requires.polynomial.norm_fits) (list_small vars store list i c.loop-id-test.true c.requires.polynomial.norm_fits)
 
 pub loop-id-preserved : goal.loop-id-preserved
 loop-id-preserved c =
     let vars = c.args.p.now.vars.now in
-    let links = c.args.p.now.monos.now in
+    let store = c.args.p.now.monos.now in
     let list = c.args.p.now.list.now in
     let i = c.loop-id.id-index in
     let done = c.loop-id.opposite.items in
     let id = (item list i).0 in
-    let opposite = negated_number (item list i).1 _ (list_fits vars links list i c.loop-id-test.true c.requires.polynomial.norm_fits)
-    (list_small vars links list i c.loop-id-test.true c.requires.polynomial.norm_fits) refl in
+    let opposite = negated_number (item list i).1 _ (list_fits vars store list i c.loop-id-test.true c.requires.polynomial.norm_fits)
+    (list_small vars store list i c.loop-id-test.true c.requires.polynomial.norm_fits) refl in
     record {
-      indices = rw c.in_ok-push.ensures.items (AllKeys-append (IsIndex vars links) done _ c.loop-id.invariant.indices (list_index vars links list i c.loop-id-test.true c.requires.indices, tt));
-      terms = ap (terms_of vars links) c.in_ok-push.ensures.items
-          ∙ terms-append vars links done _
-          ∙ ap₂ (λ (ts : Summands) (z : ℤ). ts ++ (powers_at vars links id, z) ∷ []) c.loop-id.invariant.terms opposite
-          ∙ sym (negated-more (terms_of vars links list) i (term_of vars links (item list i)) (list_within vars links list i c.loop-id-test.true) (list_is vars links list i c.loop-id-test.true));
+      indices = rw c.in_ok-push.ensures.items (AllKeys-append (IsIndex vars store) done _ c.loop-id.invariant.indices (list_index vars store list i c.loop-id-test.true c.requires.indices, tt));
+      terms = ap (terms_of vars store) c.in_ok-push.ensures.items
+          ∙ terms-append vars store done _
+          ∙ ap₂ (λ (ts : Summands) (z : ℤ). ts ++ (powers_at vars store id, z) ∷ []) c.loop-id.invariant.terms opposite
+          ∙ sym (negated-more (terms_of vars store list) i (term_of vars store (item list i)) (list_within vars store list i c.loop-id-test.true) (list_is vars store list i c.loop-id-test.true));
     }

@@ -2,7 +2,8 @@ use Rattle.std.proofs.Common.{◌≡◌, ◌==◌, cond, List, [], ◌∷◌, �
 use Rattle.std.specs.Prelude.{ℕ}
 use Rattle.std.specs.Fmt.{decimal}
 use Rattle.proof_log.specs.Lines.{variable_name}
-use Rattle.proof_log.proofs.MadeNames.{behind_star, name_read}
+use Rattle.proof_log.specs.Inner.Names.{starred}
+use Rattle.proof_log.proofs.MadeNames.{behind_starred, name_read}
 use Rattle.proof_log.proofs.writer.push_named_power.Goals as goal
 
 pub returns-in_ok-extend_from_slice-in-Some : goal.returns-in_ok-extend_from_slice-in-Some
@@ -10,9 +11,9 @@ returns-in_ok-extend_from_slice-in-Some c =
     let first = c.args.first.now in
     let name = c.in-Some.name.now in
     let lookup = c.in-Some.ensures.lookup in
-    let named = name_read c.args.names.now _ name (variable_name first.var) lookup.0 lookup.1 c.requires in
+    let named = name_read c.args.names.now _ name (starred first.var) lookup.0 lookup.1 c.requires in
     let bytes : c.deref.result.now ≡ name = search rules in
-    let grew : c.extend_from_slice.new.self.items ≡ (c.args.out.now.items ++ 42 ∷ []) ++ c.deref.result.now = search rules in
+    let grew : c.extend_from_slice.new.self.items ≡ c.args.out.now.items ++ c.deref.result.now = search rules in
     let exponent : List ℕ = cond (first.exponent == 1) [] (94 ∷ decimal first.exponent) in
-    let whole = behind_star _ _ _ _ exponent grew (bytes ∙ named) in
+    let whole = behind_starred _ _ _ (variable_name first.var) exponent grew (bytes ∙ named) in
     subst (λ (l : List ℕ). OnOk c.push_exponent.result (c.push_exponent.new.out.items ≡ l)) whole c.push_exponent.ensures

@@ -9,6 +9,9 @@ use Rattle.geo_poly.proofs.EachVariable.{all_variables}
 use Rattle.geo_poly.proofs.VariablesInOrder.{variables_in_order}
 use Rattle.geo_poly.proofs.polynomials.Poly.carried.Goals as goal
 
+pub store_for-requires-clause-rising : goal.store_for-requires-clause-rising
+store_for-requires-clause-rising c = rw c.in_ok-vars.ensures (variables_in_order (told c.args.p.now))
+
 pub moved-requires-clause-rising : goal.moved-requires-clause-rising
 moved-requires-clause-rising c = rw (c.as_slice.ensures, c.in_ok-vars.ensures) (variables_in_order (told c.args.p.now))
 

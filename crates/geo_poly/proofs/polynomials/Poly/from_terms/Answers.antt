@@ -9,6 +9,9 @@ use Rattle.geo_poly.proofs.EachVariable.{all_variables}
 use Rattle.geo_poly.proofs.VariablesInOrder.{variables_in_order}
 use Rattle.geo_poly.proofs.polynomials.Poly.from_terms.Goals as goal
 
+pub store_for_terms-requires : goal.store_for_terms-requires
+store_for_terms-requires c = rw c.in_ok-vars.ensures (variables_in_order c.args.terms.now)
+
 pub stored_terms-requires-clause-rising : goal.stored_terms-requires-clause-rising
 stored_terms-requires-clause-rising c = rw (c.as_slice.ensures, c.in_ok-vars.ensures) (variables_in_order c.args.terms.now)
 

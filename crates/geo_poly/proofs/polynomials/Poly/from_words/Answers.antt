@@ -1,39 +1,33 @@
-use Rattle.std.proofs.Common.{◌≡◌, List, sym, ap, subst, ◌∙◌}
-use Rattle.std.proofs.lemmas.Result.{IfOk-weaker}
-use Rattle.sparse_lists.specs.SparseLists.{AllKeys}
-use Rattle.geo_poly.specs.declared.variables.Var.{Var}
-use Rattle.geo_poly.specs.Chained.{keyed_terms_under}
-use Rattle.geo_poly.specs.Inner.Words.{word_keys}
-use Rattle.geo_poly.specs.Polynomials.{IsPolynomial}
-use Rattle.geo_poly.specs.Shared.{IsIndex, terms_of}
+use Rattle.std.proofs.Common.{◌≡◌, [], map, sym, ap, subst, ◌∙◌, length}
+use Rattle.std.specs.Prelude.{IfOk}
+use Rattle.mono_store.specs.Stores.{Store, store_of}
+use Rattle.poly_arena.specs.Chains.{Pairs, pairs_of}
+use Rattle.geo_poly.specs.Chained.{indexed_pair}
+use Rattle.geo_poly.specs.Polynomials.{IsPolynomial, Summands}
+use Rattle.geo_poly.specs.Shared.{IsShared, terms_of}
+use Rattle.geo_poly.proofs.WordStores.{word_indices, word_terms}
 use Rattle.geo_poly.proofs.polynomials.Poly.from_words.Goals as goal
-
-pub unpacked-requires-clause-keys : goal.unpacked-requires-clause-keys
-unpacked-requires-clause-keys c = rw (c.as_slice.ensures, c.deref.ensures.value, c.in_ok-pairs.ensures) c.requires.keys
-
-pub unpacked-requires-clause-polynomial : goal.unpacked-requires-clause-polynomial
-unpacked-requires-clause-polynomial c = rw (c.as_slice.ensures, c.deref.ensures.value, c.in_ok-pairs.ensures) c.requires.polynomial
 
 pub compact-requires : goal.compact-requires
 compact-requires c =
-    let store = c.unpacked.new.store in
+    let vars = c.args.vars in
+    let words = c.args.words in
     let list = c.in_ok-list.list.items in
-    let keys = word_keys c.args.words.now in
-    let pairs = c.deref.ensures.value ∙ c.in_ok-pairs.ensures in
-    let whole = subst (λ (vs : List Var). terms_of vs store list ≡ keyed_terms_under vs keys c.deref.result.now) c.as_slice.ensures c.in_ok-list.ensures.terms
-    ∙ ap (keyed_terms_under c.args.vars keys) pairs in
-    record {
+    let pairs = pairs_of c.args.arena c.args.chain in
+    let same = c.in_ok-list.ensures ∙ ap (λ (ps : Pairs). map indexed_pair ps) (c.deref.ensures.value ∙ c.in_ok-pairs.ensures) in
+    subst (λ (store : Store). IsShared vars store list) (sym c.of_words-monos.ensures)
+    (record {
       rising = c.requires.rising;
-      indices = subst (λ (vs : List Var). AllKeys (IsIndex vs store) list) c.as_slice.ensures c.in_ok-list.ensures.indices;
-      polynomial = subst IsPolynomial (sym whole) c.requires.polynomial;
-    }
+      indices = word_indices vars words list pairs same c.requires.keys;
+      polynomial = subst IsPolynomial (sym (word_terms vars words list pairs same c.requires.keys)) c.requires.polynomial;
+    })
 
 pub returns : goal.returns
 returns c =
-    let store = c.unpacked.new.store in
+    let vars = c.args.vars in
+    let words = c.args.words in
     let list = c.in_ok-list.list.items in
-    let keys = word_keys c.args.words.now in
-    let pairs = c.deref.ensures.value ∙ c.in_ok-pairs.ensures in
-    let whole = subst (λ (vs : List Var). terms_of vs store list ≡ keyed_terms_under vs keys c.deref.result.now) c.as_slice.ensures c.in_ok-list.ensures.terms
-    ∙ ap (keyed_terms_under c.args.vars keys) pairs in
-    IfOk-weaker c.compact.result _ _ (λ p h. h ∙ whole) c.compact.ensures
+    let pairs = pairs_of c.args.arena c.args.chain in
+    let same = c.in_ok-list.ensures ∙ ap (λ (ps : Pairs). map indexed_pair ps) (c.deref.ensures.value ∙ c.in_ok-pairs.ensures) in
+    let stored = ap (λ (store : Store). terms_of vars store list) c.of_words-monos.ensures in
+    subst (λ (q : Summands). IfOk c.compact.result (λ p. p ≡ q)) (stored ∙ word_terms vars words list pairs same c.requires.keys) c.compact.ensures

@@ -3,7 +3,7 @@ use Rattle.geo_poly.proofs.polynomials.Poly.replace_within.Goals as goal
 
 pub replacement-requires-clause-can : goal.replacement-requires-clause-can
 replacement-requires-clause-can g c =
-    rw (c.most_denominators_of-most.ensures, c.new-table.ensures, c.shared.ensures.terms)
+    rw (c.requires.top, c.new-table.ensures)
     (record {
       rows_bounded = c.requires.rows;
       den_bounded = c.requires.den;

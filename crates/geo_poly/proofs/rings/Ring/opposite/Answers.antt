@@ -10,9 +10,9 @@ use Rattle.geo_poly.proofs.rings.Ring.opposite.Goals as goal
 pub returns : goal.returns
 returns c =
     let r = c.args.self.now in
-    let links = c.self.inside.monos in
-    let whole : record { vars = c.as_slice.result.now; links = c.self.inside.monos } ≡ c.args.self.now = ap
-    (λ (vs : List Var). record { vars = vs; links = links }) c.as_slice.ensures ∙ c.self.view_is in
+    let store = c.self.inside.monos in
+    let whole : record { vars = c.as_slice.result.now; store = c.self.inside.monos } ≡ c.args.self.now = ap
+    (λ (vs : List Var). record { vars = vs; store = store }) c.as_slice.ensures ∙ c.self.view_is in
     let same = ap₂ (λ (x : RingValue) (list : Indices). polynomial_in x list) whole (c.as_slice-2.ensures.value ∙ c.element.view_is) in
-    made_element r c.as_slice.result.now links c.in_ok-list.list.items _ whole (rw c.as_slice.ensures c.self.invariant) c.in_ok-list.ensures.indices (c.in_ok-list.ensures.negated ∙ ap negated same)
+    made_element r c.as_slice.result.now store c.in_ok-list.list.items _ whole (rw c.as_slice.ensures c.self.invariant) c.in_ok-list.ensures.indices (c.in_ok-list.ensures.negated ∙ ap negated same)
     (IsPolynomial-negated (polynomial_in r c.args.element.now) c.requires.polynomial)

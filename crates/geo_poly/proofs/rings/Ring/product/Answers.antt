@@ -12,11 +12,11 @@ returns-clause-element c =
     let r = c.args.self.now in
     let old = c.self.inside.monos in
     let new = c.product_list.new.store in
-    let whole : record { vars = c.as_slice.result.now; links = c.self.inside.monos } ≡ c.args.self.now = ap
-    (λ (vs : List Var). record { vars = vs; links = old }) c.as_slice.ensures ∙ c.self.view_is in
+    let whole : record { vars = c.as_slice.result.now; store = c.self.inside.monos } ≡ c.args.self.now = ap
+    (λ (vs : List Var). record { vars = vs; store = old }) c.as_slice.ensures ∙ c.self.view_is in
     let left = ap₂ (λ (x : RingValue) (list : Indices). polynomial_in x list) whole (c.deref.ensures.value ∙ c.left.view_is) in
     let right = ap₂ (λ (x : RingValue) (list : Indices). polynomial_in x list) whole (c.deref-2.ensures.value ∙ c.right.view_is) in
     made_element _ c.as_slice.result.now new c.in_ok-list.list.items _
-    (ap (λ (vs : List Var). record { vars = vs; links = new }) c.as_slice.ensures)
+    (ap (λ (vs : List Var). record { vars = vs; store = new }) c.as_slice.ensures)
     (rw c.as_slice.ensures c.self.invariant) c.in_ok-list.ensures.indices (c.in_ok-list.ensures.product ∙ ap₂ product_of left right)
     (IsPolynomial-product_of (polynomial_in r c.args.left.now) (polynomial_in r c.args.right.now) c.requires.fits.norm_fits c.requires.fits.degree_fits)

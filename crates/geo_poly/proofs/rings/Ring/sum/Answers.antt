@@ -10,10 +10,10 @@ use Rattle.geo_poly.proofs.rings.Ring.sum.Goals as goal
 pub returns : goal.returns
 returns c =
     let r = c.args.self.now in
-    let links = c.self.inside.monos in
-    let whole : record { vars = c.as_slice.result.now; links = c.self.inside.monos } ≡ c.args.self.now = ap
-    (λ (vs : List Var). record { vars = vs; links = links }) c.as_slice.ensures ∙ c.self.view_is in
+    let store = c.self.inside.monos in
+    let whole : record { vars = c.as_slice.result.now; store = c.self.inside.monos } ≡ c.args.self.now = ap
+    (λ (vs : List Var). record { vars = vs; store = store }) c.as_slice.ensures ∙ c.self.view_is in
     let left = ap₂ (λ (x : RingValue) (list : Indices). polynomial_in x list) whole (c.deref.ensures.value ∙ c.left.view_is) in
     let right = ap₂ (λ (x : RingValue) (list : Indices). polynomial_in x list) whole (c.deref-2.ensures.value ∙ c.right.view_is) in
-    made_element r c.as_slice.result.now links c.in_ok-list.list.items _ whole (rw c.as_slice.ensures c.self.invariant) c.in_ok-list.ensures.indices (c.in_ok-list.ensures.sum ∙ ap₂ sum_of left right)
+    made_element r c.as_slice.result.now store c.in_ok-list.list.items _ whole (rw c.as_slice.ensures c.self.invariant) c.in_ok-list.ensures.indices (c.in_ok-list.ensures.sum ∙ ap₂ sum_of left right)
     (IsPolynomial-sum_of (polynomial_in r c.args.left.now) (polynomial_in r c.args.right.now) c.requires.left.polynomial c.requires.right.polynomial c.requires.fits)

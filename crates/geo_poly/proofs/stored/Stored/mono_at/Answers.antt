@@ -4,9 +4,10 @@ use Rattle.sparse_lists.proofs.Merging.{get_or_any}
 use Rattle.sparse_lists.proofs.Sums.{AllKeys-at}
 use Rattle.mono_store.specs.declared.links.MonoId.{MonoId}
 use Rattle.mono_store.specs.Monomials.{Powers as NumberedPowers}
-use Rattle.mono_store.specs.Stores.{IsStore, Links}
+use Rattle.mono_store.specs.Stores.{IsStore, Store}
 use Rattle.mono_store.proofs.EqualIndices.{equal_indices}
 use Rattle.mono_store.proofs.Unfolding.{monomial_of-one}
+use Rattle.mono_store.proofs.WordOrder.{word_count-some}
 use Rattle.geo_poly.specs.declared.stored.Stored.{Stored}
 use Rattle.geo_poly.specs.declared.variables.Var.{Var}
 use Rattle.geo_poly.specs.Monomials.{Powers}
@@ -21,13 +22,13 @@ unnamed vars [] e = refl
 unnamed vars (p ∷ m) e = absurd (cc)
 
 -- the index 0 is that of the monomial with no variable
-one_first : (vars : List Var) (links : Links) (id : MonoId) → id.0 ≡ 0 → powers_at vars links id ≡ []
-one_first vars links id e = ap (named vars) (monomial_of-one links id e)
+one_first : (vars : List Var) (store : Store) (id : MonoId) → id.0 ≡ 0 → powers_at vars store id ≡ []
+one_first vars store id e = ap (named vars) (monomial_of-one store id e)
 
-first_one : (vars : List Var) (links : Links) (id : MonoId) → IsStore links → IsIndex vars links id → powers_at vars links id ≡ [] → id.0 ≡ 0
-first_one vars links id store index e =
+first_one : (vars : List Var) (store : Store) (id : MonoId) → IsStore store → IsIndex vars store id → powers_at vars store id ≡ [] → id.0 ≡ 0
+first_one vars store id is index e =
     ap (λ (i : MonoId). i.0)
-    (equal_indices links id (record { 0 = 0 }) store index.within (omega arith) (unnamed vars _ e ∙ sym (monomial_of-one links (record { 0 = 0 }) refl)))
+    (equal_indices store id (record { 0 = 0 }) is index.within (omega (arith, word_count-some store.limits)) (unnamed vars _ e ∙ sym (monomial_of-one store (record { 0 = 0 }) refl)))
 
 module _ (s : Stored) (list : Indices) (i : ℕ) (same : list ≡ s.list.items) (within : i < length (stored_terms s)) where
   listed : i < length s.list.items

@@ -1,5 +1,5 @@
 use Rattle.std.proofs.Common.{arith}
-use Rattle.geo_poly.proofs.WordOrder.{word_count-some}
+use Rattle.mono_store.proofs.WordOrder.{word_count-some}
 use Rattle.geo_poly.proofs.word_keys.DigitsMonomialKeys.one.Goals as goal
 
 pub returns-clause-within : goal.returns-clause-within

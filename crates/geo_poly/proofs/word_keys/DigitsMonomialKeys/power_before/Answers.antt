@@ -1,7 +1,10 @@
 use Rattle.std.proofs.Common.{ℕ, ◌+◌, ◌<◌, sym, ap, subst, ◌∙◌, arith}
-use Rattle.geo_poly.specs.Inner.Words.{powers_of_word, word_count}
-use Rattle.geo_poly.proofs.WordInstance.{power_before-below, power_before-powers}
+use Rattle.mono_store.specs.Words.{powers_of_word, word_count}
+use Rattle.mono_store.proofs.WordPowers.{known-fits, power_before-below, power_before-powers}
 use Rattle.geo_poly.proofs.word_keys.DigitsMonomialKeys.power_before.Goals as goal
+
+pub power-requires-clause-known : goal.power-requires-clause-known
+power-requires-clause-known c = known-fits c.args.self.now c.args.var c.args.exp c.requires.exponent c.requires.reach
 
 pub overflow_add-result : goal.overflow_add-result
 overflow_add-result c =

@@ -1,9 +1,0 @@
-use Rattle.std.proofs.Common.{◌≡◌, ◌++◌, drop}
-use Rattle.geo_poly.specs.Inner.Words.{digits_of, word_count}
-use Rattle.geo_poly.proofs.words.digits_below.Given as goal
-
-abbrev pub invariant-loop-limit : goal.invariant-loop-limit
-invariant-loop-limit l = record {
-  unit : l.unit ≡ word_count (drop l.limit-index l.limits);
-  whole : l.digits.items ++ digits_of (drop l.limit-index l.limits) ≡ digits_of l.limits;
-}
