@@ -76,22 +76,22 @@ module _ (t : MonoId × ℤ) (list : Indices) (i : ℕ) (within : i < length lis
           (others : (w : ℕ) → w ≢ t.0.0 + (item list i).0.0 → get_or new w (pos 0) ≡ get_or now w (pos 0)) where
         pub sums_more : (w : ℕ) → w < length first → get_or new w (pos 0) ≡ get_or first w (pos 0) +ℤ sum_at w (word_multiples t (take (i + 1) list))
         sums_more w inside =
-            one w inside ∙ coefficients_add.assoc (get_or first w (pos 0)) (sum_at w (word_multiples t (take i list))) (sum_at w (times u ∷ []))
+            one ∙ coefficients_add.assoc (get_or first w (pos 0)) (sum_at w (word_multiples t (take i list))) (sum_at w (times u ∷ []))
             ∙ ap (λ (x : ℤ). get_or first w (pos 0) +ℤ x) (sym (ap (sum_at w) more ∙ sum_at-append w (word_multiples t (take i list)) (times u ∷ [])))
           where
             here : get_or new k (pos 0) ≡ get_or now k (pos 0) +ℤ sum_at k (times u ∷ [])
             here = place ∙ ap (λ (x : ℤ). get_or now k (pos 0) +ℤ x) (z-is ∙ sym (sum_at-here k (t.1 *ℤ u.1)))
 
-            elsewhere : (w : ℕ) → w ≢ k → get_or new w (pos 0) ≡ get_or now w (pos 0) +ℤ sum_at w (times u ∷ [])
-            elsewhere w other =
+            elsewhere : w ≢ k → get_or new w (pos 0) ≡ get_or now w (pos 0) +ℤ sum_at w (times u ∷ [])
+            elsewhere other =
                 others w other ∙ sym (coefficients_add.zero-add (get_or now w (pos 0))) ∙ coefficients_add.comm (pos 0) (get_or now w (pos 0))
                 ∙ ap (λ (x : ℤ). get_or now w (pos 0) +ℤ x) (sym (sum_at-other w k (t.1 *ℤ u.1) other))
 
             by : (o : Ordering) → nat_cmp w k ≡ o → get_or new w (pos 0) ≡ get_or now w (pos 0) +ℤ sum_at w (times u ∷ [])
-            by Less e = elsewhere w (λ same. (let self : Equal ≡ Less = sym (natural_order.self w) ∙ ap (nat_cmp w) same ∙ e in absurd (cc)))
+            by Less e = elsewhere (λ same. (let self : Equal ≡ Less = sym (natural_order.self w) ∙ ap (nat_cmp w) same ∙ e in absurd (cc)))
             by Equal e =
                 subst (λ (v : ℕ). get_or new v (pos 0) ≡ get_or now v (pos 0) +ℤ sum_at v (times u ∷ [])) (sym (natural_order.exact w k e)) here
-            by Greater e = elsewhere w (λ same. (let self : Equal ≡ Greater = sym (natural_order.self w) ∙ ap (nat_cmp w) same ∙ e in absurd (cc)))
+            by Greater e = elsewhere (λ same. (let self : Equal ≡ Greater = sym (natural_order.self w) ∙ ap (nat_cmp w) same ∙ e in absurd (cc)))
 
-            one : (w : ℕ) → w < length first → get_or new w (pos 0) ≡ (get_or first w (pos 0) +ℤ sum_at w (word_multiples t (take i list))) +ℤ sum_at w (times u ∷ [])
-            one w inside = by (nat_cmp w k) refl ∙ ap (λ (x : ℤ). x +ℤ sum_at w (times u ∷ [])) (sums w inside)
+            one : get_or new w (pos 0) ≡ (get_or first w (pos 0) +ℤ sum_at w (word_multiples t (take i list))) +ℤ sum_at w (times u ∷ [])
+            one = by (nat_cmp w k) refl ∙ ap (λ (x : ℤ). x +ℤ sum_at w (times u ∷ [])) (sums w inside)

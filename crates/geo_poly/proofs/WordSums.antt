@@ -1,6 +1,6 @@
 -- Sums of coefficients at the places of their words: those that are not 0 are the canonical list of all that was added.
-use Rattle.std.proofs.Common.{◌≡◌, ℕ, zero, suc, ◌+◌, ◌<◌, ◌≤◌, eqb, Bool, true, false, cond, ℤ, pos, ◌+ℤ◌, List, [], ◌∷◌, ◌++◌, add-one, append_assoc, get_or}
-use Rattle.std.proofs.Common.{inl, inr, length, map, refl, sym, ap, ap₂, ◌∙◌, unsigned_abs, arith}
+use Rattle.std.proofs.Common.{◌≡◌, ℕ, zero, suc, ◌+◌, ◌<◌, ◌≤◌, Bool, true, false, cond, ℤ, pos, ◌+ℤ◌, List, [], ◌∷◌, ◌++◌, get_or}
+use Rattle.std.proofs.Common.{inl, inr, length, refl, sym, ap, ap₂, ◌∙◌, unsigned_abs, arith}
 use Rattle.std.specs.Ordering.{flip_args, is_eq, nat_cmp}
 use Rattle.std.specs.declared.cmp.Ordering.{Ordering}
 use Rattle.std.specs.declared.cmp.Ordering.TheVariants.{Less, Equal, Greater}
@@ -11,10 +11,8 @@ use Rattle.sparse_lists.proofs.Canonical.{IsBefore-put, IsCanonical-canonical, I
 use Rattle.sparse_lists.proofs.NaturalAmounts.{natural_order}
 use Rattle.mono_store.proofs.Numbers.{below}
 use Rattle.poly_arena.specs.Chains.{Pairs}
-use Rattle.geo_poly.specs.Chained.{indexed_pair}
 use Rattle.geo_poly.specs.Inner.WordSums.{AreSums, nonzero_below, size_of, sum_at}
 use Rattle.geo_poly.specs.Polynomials.{coefficients}
-use Rattle.geo_poly.specs.Shared.{Indices}
 use Rattle.geo_poly.proofs.PolynomialLaws.{coefficients_add, unsigned_abs-add-le}
 
 abbrev falling : ℕ → ℕ → Ordering
@@ -89,20 +87,21 @@ module _ (sums : List ℤ) where
   nonzero-at zero w lt = absurd (omega arith)
   nonzero-at (suc n) w lt =
       amount-put falling coefficients falling_order coefficients_add w n (get_or sums n (pos 0)) (nonzero_below sums n)
-      ∙ go (nat_cmp n w) refl
+      ∙ go (λ inside. nonzero-at n w inside) (nat_cmp n w) refl
     where
-      rest : (n ≡ w → ⊥) → pos 0 +ℤ sum_at w (nonzero_below sums n) ≡ get_or sums w (pos 0)
-      rest other =
+      rest : (w < n → sum_at w (nonzero_below sums n) ≡ get_or sums w (pos 0)) → (n ≡ w → ⊥) → pos 0 +ℤ sum_at w (nonzero_below sums n) ≡ get_or sums w (pos 0)
+      rest earlier other =
           coefficients_add.zero-add (sum_at w (nonzero_below sums n))
-          ∙ nonzero-at n w (elim (cases_lt w n) [ inl is ↦ is | inr le ↦ absurd (other (omega (arith, le, lt))) ])
+          ∙ earlier (elim (cases_lt w n) [ inl is ↦ is | inr le ↦ absurd (other (omega (arith, le, lt))) ])
 
-      go : (o : Ordering) → nat_cmp n w ≡ o → cond (is_eq o) (get_or sums n (pos 0)) (pos 0) +ℤ sum_at w (nonzero_below sums n) ≡ get_or sums w (pos 0)
-      go Less e = rest (λ same. (let self : Equal ≡ Less = sym (natural_order.self n) ∙ ap (nat_cmp n) same ∙ e in absurd (cc)))
-      go Equal e =
+      go : (w < n → sum_at w (nonzero_below sums n) ≡ get_or sums w (pos 0)) → (o : Ordering) → nat_cmp n w ≡ o
+          → cond (is_eq o) (get_or sums n (pos 0)) (pos 0) +ℤ sum_at w (nonzero_below sums n) ≡ get_or sums w (pos 0)
+      go earlier Less e = rest earlier (λ same. (let self : Equal ≡ Less = sym (natural_order.self n) ∙ ap (nat_cmp n) same ∙ e in absurd (cc)))
+      go earlier Equal e =
           let same : n ≡ w = natural_order.exact n w e in
           ap₂ ◌+ℤ◌ (ap (λ (k : ℕ). get_or sums k (pos 0)) same) (nonzero-past n w (omega (arith, same)))
           ∙ coefficients_add.comm (get_or sums w (pos 0)) (pos 0) ∙ coefficients_add.zero-add (get_or sums w (pos 0))
-      go Greater e = rest (λ same. (let self : Equal ≡ Greater = sym (natural_order.self n) ∙ ap (nat_cmp n) same ∙ e in absurd (cc)))
+      go earlier Greater e = rest earlier (λ same. (let self : Equal ≡ Greater = sym (natural_order.self n) ∙ ap (nat_cmp n) same ∙ e in absurd (cc)))
 
   pub nonzero_sums : (ps : Pairs) → AreSums ps sums → AllKeys (λ k. k < length sums) ps → nonzero_below sums (length sums) ≡ canonical falling coefficients ps
   nonzero_sums ps are keys =
@@ -116,20 +115,3 @@ module _ (sums : List ℤ) where
             | inl within ↦ nonzero-at (length sums) w within ∙ are.each w within
             | inr past ↦ nonzero-past (length sums) w past ∙ sym (sum_at-past (length sums) w ps keys past)
           ]
-
-  -- a step of the loop from the greatest word down
-  module _ (list goal : Indices) (n k : ℕ) (next : n ≡ k + 1) (kept : list ++ map indexed_pair (nonzero_below sums n) ≡ goal) where
-    abbrev entries : Bool → Indices
-    entries z = map indexed_pair (cond z (nonzero_below sums k) ((k, get_or sums k (pos 0)) ∷ nonzero_below sums k))
-
-    step : (z : Bool) → eqb (unsigned_abs (get_or sums k (pos 0))) 0 ≡ z → list ++ entries z ≡ goal
-    step z e =
-        ap (λ (b : Bool). list ++ entries b) (sym e)
-        ∙ ap (λ (m : ℕ). list ++ map indexed_pair (nonzero_below sums m)) (sym (next ∙ add-one)) ∙ kept
-
-    pub kept_nonzero : eqb (unsigned_abs (get_or sums k (pos 0))) 0 ≡ false
-        → (list ++ (record { 0 = k }, get_or sums k (pos 0)) ∷ []) ++ map indexed_pair (nonzero_below sums k) ≡ goal
-    kept_nonzero e = append_assoc list ((record { 0 = k }, get_or sums k (pos 0)) ∷ []) (map indexed_pair (nonzero_below sums k)) ∙ step false e
-
-    pub kept_zero : eqb (unsigned_abs (get_or sums k (pos 0))) 0 ≡ true → list ++ map indexed_pair (nonzero_below sums k) ≡ goal
-    kept_zero e = step true e
