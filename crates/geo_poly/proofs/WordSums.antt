@@ -1,5 +1,5 @@
 -- Sums of coefficients at the places of their words: those that are not 0 are the canonical list of all that was added.
-use Rattle.std.proofs.Common.{◌≡◌, ℕ, zero, suc, ◌+◌, ◌<◌, ◌≤◌, Bool, true, false, cond, ℤ, pos, ◌+ℤ◌, List, [], ◌∷◌, ◌++◌, get_or}
+use Rattle.std.proofs.Common.{◌≡◌, ℕ, zero, suc, ◌<◌, ◌≤◌, Bool, true, false, cond, ℤ, pos, ◌+ℤ◌, List, [], ◌∷◌, ◌++◌, get_or}
 use Rattle.std.proofs.Common.{inl, inr, length, refl, sym, ap, ap₂, ◌∙◌, unsigned_abs, arith}
 use Rattle.std.specs.Ordering.{flip_args, is_eq, nat_cmp}
 use Rattle.std.specs.declared.cmp.Ordering.{Ordering}
