@@ -81,3 +81,6 @@ pub mod WordChains
 pub mod WordInstance
 pub mod ExponentLimits
 pub mod TermLimits
+pub mod WordSums
+pub mod WordMultiples
+pub mod WordProducts

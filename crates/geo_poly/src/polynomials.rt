@@ -5,6 +5,7 @@ ghost use Rattle.std.specs.Prelude.{unsigned_abs, slice_get, Contains, IfOk, IsT
 ghost use Rattle.sparse_lists.specs.SparseLists.{AllKeys};
 ghost use Rattle.poly_arena.specs.Chains.{IsLive, pairs_of};
 ghost use Rattle.geo_poly.specs.Chained.{IsKey, keyed_terms, keyed_terms_under};
+ghost use Rattle.geo_poly.specs.Inner.Keyed.{IsIndexUnder, terms_under};
 ghost use Rattle.geo_poly.specs.Inner.Words.{word_keys};
 ghost use Rattle.geo_poly.specs.Keys.{IsKeyUnder};
 ghost use Rattle.geo_poly.specs.Monomials.{IsMonomial};
@@ -270,6 +271,21 @@ impl Poly {
     {
         let pairs = arena.into_list(alloc, chain)?;
         let list = indexed(alloc, &pairs)?;
+        Poly::of_words(alloc, vars, words, list)
+    }
+
+    /// The polynomial of a list of words, whose store has these words.
+    pub(crate) fn of_words(
+        alloc: Global,
+        vars: Vars,
+        words: Digits,
+        list: Vec<Indexed>,
+    ) -> Result<Poly, NoMemory>
+        requires rising { IsStrictlySortedBy var_cmp vars }
+        requires indices { AllKeys (IsIndexUnder vars (word_keys words)) list.items }
+        requires polynomial { IsPolynomial (terms_under vars (word_keys words) list.items) }
+        ensures { IfOk result (λ p. p ≡ terms_under vars (word_keys words) list.items) }
+    {
         let monos = Monos::of_words(alloc, words);
         Poly::compact(alloc, vars, monos, list)
     }
