@@ -70,6 +70,7 @@ pub mod GoodPieces
 pub mod PieceReach
 pub mod NestedSums
 pub mod FactorPaths
+pub mod FactorWalks
 pub mod MultipliedIn
 pub mod PendingTerms
 pub mod JoinedParts
@@ -81,3 +82,4 @@ pub mod WordChains
 pub mod WordInstance
 pub mod ExponentLimits
 pub mod TermLimits
+pub mod RoleWalks

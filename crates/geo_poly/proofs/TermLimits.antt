@@ -17,6 +17,10 @@ use Rattle.geo_poly.specs.Replace.{kept, others, row_of}
 use Rattle.geo_poly.specs.Shared.{var_at}
 use Rattle.geo_poly.proofs.Told.{take_more}
 
+-- anything is a limit of 0
+pub AreLimits-any : (vars : List Var) (limits : List ℕ) → length limits ≡ length vars → AreLimits vars (λ _. 0) limits
+AreLimits-any vars limits whole = record { whole = whole; each = λ i known. omega arith }
+
 -- THE GREATER ONES
 
 -- limits that were made no less than others
