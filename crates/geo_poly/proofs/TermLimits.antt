@@ -21,6 +21,17 @@ use Rattle.geo_poly.proofs.Told.{take_more}
 pub AreLimits-any : (vars : List Var) (limits : List ℕ) → length limits ≡ length vars → AreLimits vars (λ _. 0) limits
 AreLimits-any vars limits whole = record { whole = whole; each = λ i known. omega arith }
 
+take_front : (xs ys : List ℕ) → take (length xs) (xs ++ ys) ≡ xs
+take_front [] ys = refl
+take_front (x ∷ xs) ys = ap (λ (zs : List ℕ). x ∷ zs) (take_front xs ys)
+
+-- limits that were written over others
+pub AreLimits-taken : (vars : List Var) (bound : Var → ℕ) (count : ℕ) (new old : List ℕ) → count ≡ length new → AreLimits vars bound new
+    → AreLimits vars bound (take count (new ++ old))
+AreLimits-taken vars bound count new old same h =
+    subst (λ (ns : List ℕ). AreLimits vars bound ns)
+    (sym (ap (λ (n : ℕ). take n (new ++ old)) same ∙ take_front new old)) h
+
 -- THE GREATER ONES
 
 -- limits that were made no less than others

@@ -121,7 +121,8 @@ fn read_factors(
     let mut missing = setting.top;
     let mut rest = id;
     while let Some(first) = p.first_power(rest) {
-        if let Role::Replaced(i) = role_at(roles, first.number) {
+        let role = role_at(roles, first.number);
+        if let Some(i) = role.row_place() {
             let row = setting.rows.row(i);
             if row.num.poly.is_zero() {
                 return Ok(None);

@@ -1,10 +1,12 @@
 //! What becomes of the variables of a polynomial in a replacement, by their numbers.
 
-ghost use Rattle.std.specs.Prelude.{◌≡◌, ◌<◌, IfOk, List, Some, length, slice_get};
+ghost use Rattle.std.specs.Prelude.{◌≡◌, ◌<◌, IfNone, IfOk, IfSome, List, None, Some, length};
+ghost use Rattle.std.specs.Prelude.{slice_get};
 ghost use Rattle.std.specs.List.Sorted.{IsStrictlySortedBy};
 ghost use Rattle.geo_poly.specs.declared.replacement.Row.{Row};
 ghost use Rattle.geo_poly.specs.declared.variables.Var.{Var};
 ghost use Rattle.geo_poly.specs.Inner.Roles.{AreRoles, IsRole};
+ghost use Rattle.geo_poly.specs.Replace.{row_of};
 ghost use Rattle.geo_poly.specs.Variables.{var_cmp};
 
 use crate::moving::find_place;
@@ -25,6 +27,22 @@ pub(crate) enum Role {
 }
 
 impl Role {
+    /// The place of its row, where it is replaced.
+    pub(crate) fn row_place(self) -> Option<usize>
+        ensures within { IfSome result (λ i. (rows : List Row) (vars : List Var) (v : Var)
+            → IsRole rows vars v self → i < length rows) }
+        ensures row { IfSome result (λ i. (rows : List Row) (vars : List Var) (v : Var)
+            → IsRole rows vars v self → slice_get rows i ≡ row_of rows v) }
+        ensures none { IfNone result ((rows : List Row) (vars : List Var) (v : Var)
+            → IsRole rows vars v self → row_of rows v ≡ None) }
+    {
+        match self {
+            Role::Replaced(i) => Some(i),
+            Role::Kept(_) => None,
+            Role::Absent => None,
+        }
+    }
+
     /// Where the next variable may stand.
     fn next_place(self, guess: u64) -> u64 {
         match self {

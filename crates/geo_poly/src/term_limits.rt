@@ -61,7 +61,6 @@ pub(crate) fn limits_by_terms(
     let roles = roles_of(alloc, rows, p.vars, vars)?;
     let mut sum = no_limits(alloc, vars)?;
     let mut limits = Vec::from_slice(alloc, &of_den)?;
-    raise_by_rows(&mut limits, &nums);
     raise_by_terms(
         &mut limits,
         &mut sum,
@@ -117,8 +116,8 @@ fn raise_by_rows(limits: &mut [u32], nums: &[ExponentLimits])
     }
 }
 
-/// Makes the limits no less than those of what becomes of the terms, each of which is summed up in
-/// `sum`.
+/// Makes the limits no less than those of the numerators, and those of what becomes of the terms, each
+/// of which is summed up in `sum`.
 fn raise_by_terms(
     limits: &mut [u32],
     sum: &mut [u32],
@@ -136,11 +135,14 @@ fn raise_by_terms(
     requires nums { AreLimitsOfRows vars.now rows.now nums.now }
     requires roles { AreRoles rows.now vars.now p.now.vars.now roles.now }
     requires whole { length sum.old ≡ length vars.now }
-    ensures { (den : Piece) (bound : Var → ℕ)
+    ensures whole { length limits.new ≡ length limits.old }
+    ensures limits { (den : Piece) (bound : Var → ℕ)
         → AreLimits vars.now (λ v. greatest_exponent v den.poly) of_den.now
-        → AreLimits vars.now bound limits.old → AreLimits vars.now
-        (λ v. max (exponent_bound v rows.now den top (told p.now)) (bound v)) limits.new }
+        → AreLimits vars.now bound limits.old
+        → AreLimits vars.now (λ v. max (exponent_bound v rows.now den top (told p.now))
+        (max (greatest_of_rows v rows.now) (bound v))) limits.new }
 {
+    raise_by_rows(limits, nums);
     for (id, _) in p.list {
         sum_up_term(sum, vars, p, *id, rows, top, of_den, nums, roles);
         raise_all(limits, sum);
@@ -204,7 +206,8 @@ fn add_powers(
     let mut rest = id;
     while let Some(first) = p.first_power(rest) {
         let role = role_at(roles, first.number);
-        missing -= add_power(limits, vars, rows, first.var, first.exponent, role, nums);
+        let called = add_power(limits, vars, rows, first.var, first.exponent, role, nums);
+        missing -= called;
         rest = first.rest;
     }
     missing
@@ -268,11 +271,13 @@ fn add_times(limits: &mut [u32], others: &[u32], times: u32)
         → AreLimits vars more others.now
         → AreLimits vars (λ v. bound v + more v * times) limits.new }
 {
-    match times {
-        0 => {}
-        1 => add_all(limits, others),
-        _ => add_multiples(limits, others, times),
+    if times == 0 {
+        return;
     }
+    if times == 1 {
+        return add_all(limits, others);
+    }
+    add_multiples(limits, others, times);
 }
 
 /// Adds other limits.

@@ -18,12 +18,12 @@ role_at-role-requires c =
     role_known c.args.rows.now c.args.vars.now c.args.p.now.vars.now c.args.roles.now c.in-Some.first.number c.in-Some.first.var c.requires.roles
     c.in-Some.ensures.number
 
-pub add_power-requires-clause-role : goal.add_power-requires-clause-role
-add_power-requires-clause-role c =
+pub add_power-called-requires-clause-role : goal.add_power-called-requires-clause-role
+add_power-called-requires-clause-role c =
     c.role_at-role.ensures c.args.rows.now c.args.vars.now c.args.p.now.vars.now c.in-Some.first.var c.requires.roles c.in-Some.ensures.number
 
-pub add_power-requires-clause-few : goal.add_power-requires-clause-few
-add_power-requires-clause-few c =
+pub add_power-called-requires-clause-few : goal.add_power-called-requires-clause-few
+add_power-called-requires-clause-few c =
     let p = c.args.p.now in
     let f = c.in-Some.first in
     omega (
@@ -38,15 +38,15 @@ loop-first-preserved c =
     let f = c.in-Some.first in
     record {
       index = c.in-Some.ensures.index;
-      whole = c.add_power.ensures.whole;
+      whole = c.add_power-called.ensures.whole;
       missing = omega (
         arith,
-        c.add_power.ensures.denominators,
+        c.add_power-called.ensures.denominators,
         missing_step c.args.rows.now f.var f.exponent (told_powers p c.loop-first.rest) (told_powers p f.rest) c.loop-first.missing _ c.in-Some.ensures.power
         c.loop-first.invariant.missing,
       );
       left = λ bound h. AreLeft-next c.args.vars.now c.args.rows.now (told_powers p c.args.id) (told_powers p c.loop-first.rest) (told_powers p f.rest) f.var f.exponent
-          bound c.loop-first.limits c.add_power.new.limits c.in-Some.ensures.power c.add_power.ensures.limits (c.loop-first.invariant.left bound h);
+          bound c.loop-first.limits c.add_power-called.new.limits c.in-Some.ensures.power c.add_power-called.ensures.limits (c.loop-first.invariant.left bound h);
     }
 
 pub returns-clause-limits : goal.returns-clause-limits

@@ -18,6 +18,16 @@ sum_up_term-requires-clause-top c =
     let fits = subst (λ (left : Summands). most_denominators c.args.rows.now left ≤ c.args.top) shown c.loop-id.invariant.top_fits in
     omega (arith, fits)
 
+pub loop-id-init : goal.loop-id-init
+loop-id-init c = record {
+  room = c.requires.whole;
+  whole = c.raise_by_rows.ensures.whole;
+  top_fits = c.requires.top;
+  so_far = λ den bound h g.
+      AreLimits-less c.args.vars.now _ _ c.raise_by_rows.new.limits (λ v. omega arith)
+      (c.raise_by_rows.ensures.limits c.args.vars.now c.args.rows.now bound c.requires.nums g);
+}
+
 pub loop-id-preserved : goal.loop-id-preserved
 loop-id-preserved c =
     let p = c.args.p.now in
@@ -29,7 +39,8 @@ loop-id-preserved c =
     let shown = told-drop p i c.loop-id-test.true in
     let fits = subst (λ (left : Summands). most_denominators rows left ≤ top) shown c.loop-id.invariant.top_fits in
     record {
-      whole = c.sum_up_term.ensures.whole;
+      room = c.sum_up_term.ensures.whole;
+      whole = c.raise_all.ensures.whole ∙ c.loop-id.invariant.whole;
       top_fits = omega (arith, fits);
       so_far = λ den bound h g.
           AreLimits-less vars _ _ c.raise_all.new.limits
@@ -41,8 +52,8 @@ loop-id-preserved c =
           (c.raise_all.ensures.limits vars _ _ (c.loop-id.invariant.so_far den bound h g) (c.sum_up_term.ensures.limits den t.1 h));
     }
 
-pub returns : goal.returns
-returns c = λ den bound h g.
+pub returns-clause-limits : goal.returns-clause-limits
+returns-clause-limits c = λ den bound h g.
     let p = c.args.p.now in
     let past : length (told p) ≤ c.loop-id.id-index =
     omega (arith, c.loop-id-test.false, length-terms_of p.vars.now p.monos.now p.list.now) in
