@@ -77,6 +77,15 @@ AreLimits-times vars bound more old others new times whole sums h g = record {
       );
 }
 
+-- limits to which others were added once
+pub AreLimits-plus : (vars : List Var) (bound more : Var → ℕ) (old others new : List ℕ) → length new ≡ length old
+    → ((i : ℕ) → i < length old → slice_index_or new i 0 ≡ min (slice_index_or old i 0 + slice_index_or others i 0) (2 ^ 32 - 1))
+    → AreLimits vars bound old → AreLimits vars more others → AreLimits vars (λ v. bound v + more v * 1) new
+AreLimits-plus vars bound more old others new whole sums h g = record {
+  whole = whole ∙ h.whole;
+  each = λ i known. omega (arith, sums i (omega (arith, known, h.whole)), h.each i known, g.each i known);
+}
+
 -- NUMERATORS
 
 -- the row whose limits stand at a place

@@ -89,9 +89,7 @@ fn role_of(rows: &RowTable, v: Var, number: u64, vars: &[Var], guess: u64) -> Ro
 /// The role of the variable of a number.
 pub(crate) fn role_at(roles: &[Role], number: u64) -> Role
     requires { number < length roles.now }
-    ensures { (rows : List Row) (vars former : List Var) (v : Var)
-        → AreRoles rows vars former roles.now → slice_get former number ≡ Some v
-        → IsRole rows vars v result }
+    ensures { slice_get roles.now number ≡ Some result }
 {
     roles[number as usize]
 }

@@ -4,7 +4,7 @@ use Rattle.geo_poly.specs.Monomials.{Powers}
 use Rattle.geo_poly.specs.Replace.{row_of}
 use Rattle.geo_poly.specs.Shared.{told_powers}
 use Rattle.geo_poly.proofs.FactorWalks.{Seen-all, Seen-none, Seen-some, Walked-all, Walked-end, Walked-none, Walked-some}
-use Rattle.geo_poly.proofs.RoleWalks.{role_known}
+use Rattle.geo_poly.proofs.RoleWalks.{role_known, role_there}
 use Rattle.geo_poly.proofs.ZeroFactors.{Seen, zero_denominator, zero_numerator}
 use Rattle.geo_poly.proofs.pending.read_factors.Goals as goal
 use Rattle.geo_poly.proofs.pending.read_factors.Goals.{in-Some-row_place+else-is_zero+in_ok-push, in_default-row_place}
@@ -36,7 +36,8 @@ loop-first-preserved c =
     let left = told_powers p c.loop-first.rest in
     let rest = told_powers p f.rest in
     let power = c.in-Some.ensures.power in
-    let role = c.role_at-role.ensures rows setting.vars.now p.vars.now f.var c.requires.roles c.in-Some.ensures.number in
+    let role = role_there rows setting.vars.now p.vars.now c.args.roles.now f.number f.var c.role_at-role.result c.role_at-role.ensures c.requires.roles
+    c.in-Some.ensures.number in
     let seen = c.loop-first.invariant.seen in
     let walked = c.loop-first.invariant.walked in
     elim c.match-row_place.branch [
@@ -69,7 +70,8 @@ returns-then-is_zero-clause-zero c =
     let f = c.in-Some.first in
     let m = told_powers p c.args.id in
     let left = told_powers p f.rest in
-    let role = c.role_at-role.ensures rows setting.vars.now p.vars.now f.var c.requires.roles c.in-Some.ensures.number in
+    let role = role_there rows setting.vars.now p.vars.now c.args.roles.now f.number f.var c.role_at-role.result c.role_at-role.ensures c.requires.roles
+    c.in-Some.ensures.number in
     let row = c.row-row.result.now in
     let is : row_of rows f.var ≡ Some row = sym (c.in-Some-row_place.ensures.row rows setting.vars.now f.var role) ∙ c.row-row.ensures in
     let none : row.num.poly ≡ [] = c.is_zero.ensures.0 c.if-is_zero.true in

@@ -1,7 +1,7 @@
-use Rattle.std.proofs.Common.{◌≡◌, ◌+◌, ◌*◌, ◌^◌, ◌-◌, ◌<◌, ◌≤◌, ℕ, min, inl, inr, refl, ◌∙◌, subst, sym, arith, length}
+use Rattle.std.proofs.Common.{◌≡◌, ◌+◌, ◌^◌, ◌-◌, ◌<◌, ◌≤◌, ℕ, min, inl, inr, refl, ◌∙◌, subst, sym, arith, length}
 use Rattle.std.proofs.lemmas.Bool.{cases_lt}
 use Rattle.std.specs.Prelude.{slice_index_or}
-use Rattle.geo_poly.proofs.TermLimits.{AreLimits-times}
+use Rattle.geo_poly.proofs.TermLimits.{AreLimits-plus}
 use Rattle.geo_poly.proofs.term_limits.add_all.Goals as goal
 
 pub loop-i-init : goal.loop-i-init
@@ -22,13 +22,13 @@ loop-i-preserved c =
             let same : j ≡ i = omega (arith, lt, past) in
             let here = c.add_at.ensures.place in
             let before = c.loop-i.invariant.kept i (omega arith) in
-            subst (λ (k : ℕ). slice_index_or new k 0 ≡ min (slice_index_or first k 0 + min (slice_index_or others k 0 * 1) (2 ^ 32 - 1)) (2 ^ 32 - 1)) (sym same)
-            (omega (arith, here, before, c.index.ensures, c.index.type_inv))
+            subst (λ (k : ℕ). slice_index_or new k 0 ≡ min (slice_index_or first k 0 + slice_index_or others k 0) (2 ^ 32 - 1)) (sym same)
+            (omega (arith, here, before))
       ];
       kept = λ j le. c.add_at.ensures.others j (λ same. omega (arith, same, le)) ∙ c.loop-i.invariant.kept j (omega (arith, le));
     }
 
 pub returns-clause-limits : goal.returns-clause-limits
 returns-clause-limits c = λ vars bound more h g.
-    AreLimits-times vars bound more c.args.limits.now c.args.others.now c.loop-i.limits 1 c.loop-i.invariant.whole
+    AreLimits-plus vars bound more c.args.limits.now c.args.others.now c.loop-i.limits c.loop-i.invariant.whole
     (λ i known. c.loop-i.invariant.summed i (omega (arith, known, h.whole, g.whole, c.loop-i-test.false, c.min-count.ensures)) known) h g

@@ -1,7 +1,7 @@
 use Rattle.std.proofs.Common.{ap, arith}
 use Rattle.geo_poly.specs.Replace.{denominators}
 use Rattle.geo_poly.specs.Shared.{told_powers}
-use Rattle.geo_poly.proofs.RoleWalks.{missing_step, role_known}
+use Rattle.geo_poly.proofs.RoleWalks.{missing_step, role_known, role_there}
 use Rattle.geo_poly.proofs.TermLimits.{AreLeft-all, AreLeft-next, AreLeft-none}
 use Rattle.geo_poly.proofs.term_limits.add_powers.Goals as goal
 
@@ -20,7 +20,8 @@ role_at-role-requires c =
 
 pub add_power-called-requires-clause-role : goal.add_power-called-requires-clause-role
 add_power-called-requires-clause-role c =
-    c.role_at-role.ensures c.args.rows.now c.args.vars.now c.args.p.now.vars.now c.in-Some.first.var c.requires.roles c.in-Some.ensures.number
+    role_there c.args.rows.now c.args.vars.now c.args.p.now.vars.now c.args.roles.now c.in-Some.first.number c.in-Some.first.var c.role_at-role.result
+    c.role_at-role.ensures c.requires.roles c.in-Some.ensures.number
 
 pub add_power-called-requires-clause-few : goal.add_power-called-requires-clause-few
 add_power-called-requires-clause-few c =
