@@ -36,7 +36,7 @@ Seen-none rows top m v left rest missing is e h = go (subst (λ (n : Powers). Se
       lost = λ gone. g.lost (λ q. gone _);
       nonzero = λ all. g.nonzero (subst IsNonzeroRow (sym e) tt, all);
       missing-is =
-          let none : power_in (row_of rows v.0) * v.1 ≡ 0 = ap (λ (o : Option Row). power_in o * v.1) e in
+          let none : power_in (row_of rows v.0) * v.1 ≡ 0 * v.1 = ap (λ (o : Option Row). power_in o * v.1) e in
           omega (arith, none, g.missing-is);
     }
 

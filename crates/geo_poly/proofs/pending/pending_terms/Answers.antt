@@ -49,7 +49,7 @@ loop-id-preserved c =
       | in-Some+in_ok-factors+in_ok-push w ↦
           let e : Pending = record { factors = w.in_ok-factors.factors; id = (item p.list.now i).0; coefficient = t.1 } in
           let zeros = replicate w.in-Some.lacking 0 in
-          let listed = w.in_ok-factors.ensures ∙ ap (λ (fs : List FactorPower). zeros ++ factors_listed fs) w.deref-2.ensures.value in
+          let listed = w.in_ok-factors.ensures ∙ ap (λ (fs : List FactorPower). zeros ++ factors_listed fs) w.deref-in-Some.ensures.value in
           rw (w.pending-is, w.in_ok-push.ensures.items, told-take p i c.loop-id-test.true)
           (Made-more setting p e t refl (subst (λ (ks : List ℕ). AreFactors setting t.0 ks) (sym listed) w.in-Some.ensures.factors) q es
           index here.monomial here.known here.nonzero here.degree here.exponents c.loop-id.invariant)
