@@ -1,6 +1,6 @@
 -- The factors of a term, read power by power.
 use Rattle.std.proofs.Common.{◌≡◌, ℕ, ◌+◌, ◌*◌, ◌-◌, ◌<◌, ◌≤◌, Option, Some, None, List, [], ◌∷◌, ◌++◌, append_assoc, length, replicate, refl, sym, ap, subst, ◌∙◌, arith}
-use Rattle.std.specs.Prelude.{◌≢◌, slice_get}
+use Rattle.std.specs.Prelude.{◌≢◌, IfSome, slice_get}
 use Rattle.std.proofs.lemmas.List.{append-nil}
 use Rattle.geo_poly.specs.declared.pending.FactorPower.{FactorPower}
 use Rattle.geo_poly.specs.declared.replacement.Row.{Row}
@@ -117,3 +117,9 @@ Walked-end setting m left found missing none bounded some seen h =
     Path-end setting m missing ks lacking
     (subst (λ (n : Powers). Path setting.rows.now setting.den.piece.now n missing ks) all
     (h.path missing (λ more. counted setting.den.piece.now bounded (some more))))
+
+-- the factors, where some are found
+pub factors_found : (setting : Setting) (m : Powers) (fs : List FactorPower) (found : Option ℕ) (lacking : ℕ) → found ≡ Some lacking
+    → IfSome found (λ n. AreFactors setting m (replicate n 0 ++ factors_listed fs)) → AreFactors setting m (replicate lacking 0 ++ factors_listed fs)
+factors_found setting m fs found lacking is h =
+    subst (λ (o : Option ℕ). IfSome o (λ n. AreFactors setting m (replicate n 0 ++ factors_listed fs))) is h

@@ -7,6 +7,7 @@ use Rattle.geo_poly.specs.Inner.Factored.{AreFactors, factors_listed}
 use Rattle.geo_poly.specs.Inner.Roles.{AreRoles}
 use Rattle.geo_poly.specs.Polynomials.{Summands}
 use Rattle.geo_poly.specs.Shared.{told, told_powers, told_term}
+use Rattle.geo_poly.proofs.FactorWalks.{factors_found}
 use Rattle.geo_poly.proofs.PendingTerms.{Made, Made-all, Made-more, Made-none, Made-zero}
 use Rattle.geo_poly.proofs.TermPlaces.{replaceable_at}
 use Rattle.geo_poly.proofs.Told.{index_at, item, length-terms_of, told-take}
@@ -49,9 +50,10 @@ loop-id-preserved c =
       | in-Some+in_ok-factors+in_ok-push w ↦
           let e : Pending = record { factors = w.in_ok-factors.factors; id = (item p.list.now i).0; coefficient = t.1 } in
           let zeros = replicate w.in-Some.lacking 0 in
+          let factors = factors_found setting t.0 _ _ w.in-Some.lacking w.in-Some.is c.in_ok-found.ensures.factors in
           let listed = w.in_ok-factors.ensures ∙ ap (λ (fs : List FactorPower). zeros ++ factors_listed fs) w.deref-in-Some.ensures.value in
           rw (w.pending-is, w.in_ok-push.ensures.items, told-take p i c.loop-id-test.true)
-          (Made-more setting p e t refl (subst (λ (ks : List ℕ). AreFactors setting t.0 ks) (sym listed) w.in-Some.ensures.factors) q es
+          (Made-more setting p e t refl (subst (λ (ks : List ℕ). AreFactors setting t.0 ks) (sym listed) factors) q es
           index here.monomial here.known here.nonzero here.degree here.exponents c.loop-id.invariant)
     ]
 

@@ -1,5 +1,6 @@
 use Rattle.std.proofs.Common.{◌≡◌, ℕ, ◌-◌, ◌*◌, ◌<◌, [], Option, Some, length, rules, sym, ap, subst, ◌∙◌, arith}
 use Rattle.std.specs.Prelude.{◌≢◌}
+use Rattle.std.proofs.lemmas.Bool.{false≢true}
 use Rattle.geo_poly.specs.declared.replacement.Row.{Row}
 use Rattle.geo_poly.specs.declared.variables.Var.{Var}
 use Rattle.geo_poly.specs.Monomials.{Powers}
@@ -48,7 +49,7 @@ loop-first-preserved c =
           let row = w.row-row.result.now in
           let at = w.in-Some-row_place.ensures.row rows setting.vars.now f.var role in
           let is : row_of rows f.var ≡ Some row = sym at ∙ w.row-row.ensures in
-          let nonzero = w.else-is_zero.ensures.1 w.if-is_zero.false in
+          let nonzero : row.num.poly ≢ [] = λ e. false≢true (sym w.if-is_zero.false ∙ w.is_zero.ensures.1 e) in
           record {
             index = c.in-Some.ensures.index;
             seen = Seen-some rows setting.top m v left rest c.loop-first.missing _ row power is nonzero w.missing-is seen;
