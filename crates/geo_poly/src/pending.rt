@@ -15,7 +15,7 @@ ghost use Rattle.geo_poly.specs.Variables.{var_cmp};
 use crate::replacement::Row;
 use crate::roles::{Role, role_at, roles_of};
 use crate::settings::Setting;
-use crate::shared::Shared;
+use crate::shared::{Indexed, Shared};
 use geo_points::NoMemory;
 use mono_store::MonoId;
 use std::alloc::Global;
@@ -166,6 +166,26 @@ fn factors_of(
     Ok(factors)
 }
 
+/// The term with its factors.
+fn pending_term(
+    alloc: Global,
+    term: &Indexed,
+    numerators: &[FactorPower],
+    lacking: u32,
+) -> Result<Pending, NoMemory>
+    ensures index { IfOk result (λ e. e.id ≡ term.now.0) }
+    ensures coefficient { IfOk result (λ e. e.coefficient ≡ term.now.1) }
+    ensures factors { IfOk result
+        (λ e. e.factors.items ≡ replicate lacking 0 ++ factors_listed numerators.now) }
+{
+    let factors = factors_of(alloc, numerators, lacking)?;
+    Ok(Pending {
+        id: term.0,
+        coefficient: term.1,
+        factors,
+    })
+}
+
 /// The terms that do not become zero, each with its factors.
 fn pending_terms(alloc: Global, setting: &Setting, p: &Shared) -> Result<Vec<Pending>, NoMemory>
     requires rising { IsStrictlySortedBy var_cmp setting.now.vars.now }
@@ -178,15 +198,11 @@ fn pending_terms(alloc: Global, setting: &Setting, p: &Shared) -> Result<Vec<Pen
     let roles = roles_of(alloc, setting.rows, p.vars, setting.vars)?;
     let mut numerators = Vec::new(alloc);
     let mut pending = Vec::with_capacity(alloc, p.list.len())?;
-    for (id, coefficient) in p.list {
-        let found = read_factors(setting, p, *id, &roles, &mut numerators)?;
+    for term in p.list {
+        let found = read_factors(setting, p, term.0, &roles, &mut numerators)?;
         if let Some(lacking) = found {
-            let factors = factors_of(alloc, &numerators, lacking)?;
-            pending.push(Pending {
-                factors,
-                id: *id,
-                coefficient: *coefficient,
-            })?;
+            let made = pending_term(alloc, term, &numerators, lacking)?;
+            pending.push(made)?;
         }
     }
     Ok(pending)

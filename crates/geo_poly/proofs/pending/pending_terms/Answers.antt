@@ -1,4 +1,4 @@
-use Rattle.std.proofs.Common.{ℤ, List, ℕ, [], ◌++◌, ◌∷◌, ap, replicate, refl, subst, sym, ◌∙◌, take, arith}
+use Rattle.std.proofs.Common.{ℤ, List, ℕ, [], ◌++◌, ap, ap₂, replicate, subst, sym, ◌∙◌, take, arith}
 use Rattle.std.proofs.lemmas.List.{take_all}
 use Rattle.geo_poly.specs.declared.pending.FactorPower.{FactorPower}
 use Rattle.geo_poly.specs.declared.pending.Pending.{Pending}
@@ -6,16 +6,16 @@ use Rattle.geo_poly.specs.declared.roles.Role.{Role}
 use Rattle.geo_poly.specs.Inner.Factored.{AreFactors, factors_listed}
 use Rattle.geo_poly.specs.Inner.Roles.{AreRoles}
 use Rattle.geo_poly.specs.Polynomials.{Summands}
-use Rattle.geo_poly.specs.Shared.{told, told_powers, told_term}
+use Rattle.geo_poly.specs.Shared.{IsIndexOf, told, told_powers, told_term}
 use Rattle.geo_poly.proofs.FactorWalks.{factors_found}
 use Rattle.geo_poly.proofs.PendingTerms.{Made, Made-all, Made-more, Made-none, Made-zero}
 use Rattle.geo_poly.proofs.TermPlaces.{replaceable_at}
 use Rattle.geo_poly.proofs.Told.{index_at, item, length-terms_of, told-take}
 use Rattle.geo_poly.proofs.pending.pending_terms.Goals as goal
-use Rattle.geo_poly.proofs.pending.pending_terms.Goals.{in-Some+in_ok-factors+in_ok-push, in_default}
+use Rattle.geo_poly.proofs.pending.pending_terms.Goals.{in-Some+in_ok-made+in_ok-push, in_default}
 
-pub loop-id-init : goal.loop-id-init
-loop-id-init c =
+pub loop-term-init : goal.loop-term-init
+loop-term-init c =
     let setting = c.args.setting.now in
     let p = c.args.p.now in
     subst (λ (es : List Pending). Made setting p [] es) (sym c.in_ok-pending.ensures.items) (Made-none setting p)
@@ -26,41 +26,43 @@ read_factors-requires-clause-roles c =
     subst (λ (rs : List Role). AreRoles setting.rows.now setting.vars.now c.args.p.now.vars.now rs) (sym c.deref.ensures.value) c.in_ok-roles.ensures
 
 pub read_factors-requires-clause-index : goal.read_factors-requires-clause-index
-read_factors-requires-clause-index c = index_at c.args.p.now c.loop-id.id-index c.loop-id-test.true c.requires.parts
+read_factors-requires-clause-index c = index_at c.args.p.now c.loop-term.term-index c.loop-term-test.true c.requires.parts
 
 pub read_factors-requires-clause-top : goal.read_factors-requires-clause-top
-read_factors-requires-clause-top c = (replaceable_at c.args.setting.now c.args.p.now c.loop-id.id-index c.loop-id-test.true c.requires.known c.requires.can).top
+read_factors-requires-clause-top c = (replaceable_at c.args.setting.now c.args.p.now c.loop-term.term-index c.loop-term-test.true c.requires.known c.requires.can).top
 
 pub read_factors-requires-clause-monomial : goal.read_factors-requires-clause-monomial
 read_factors-requires-clause-monomial c =
-    (replaceable_at c.args.setting.now c.args.p.now c.loop-id.id-index c.loop-id-test.true c.requires.known c.requires.can).monomial
+    (replaceable_at c.args.setting.now c.args.p.now c.loop-term.term-index c.loop-term-test.true c.requires.known c.requires.can).monomial
 
-pub loop-id-preserved : goal.loop-id-preserved
-loop-id-preserved c =
+pub loop-term-preserved : goal.loop-term-preserved
+loop-term-preserved c =
     let setting = c.args.setting.now in
     let p = c.args.p.now in
-    let i = c.loop-id.id-index in
+    let i = c.loop-term.term-index in
     let t = told_term p (item p.list.now i) in
     let q = take i (told p) in
-    let es = c.loop-id.pending.items in
-    let here = replaceable_at setting p i c.loop-id-test.true c.requires.known c.requires.can in
-    let index = index_at p i c.loop-id-test.true c.requires.parts in
+    let es = c.loop-term.pending.items in
+    let here = replaceable_at setting p i c.loop-term-test.true c.requires.known c.requires.can in
+    let index = index_at p i c.loop-term-test.true c.requires.parts in
     elim c.match-found.branch [
-      | in_default w ↦ rw (w.pending-is, told-take p i c.loop-id-test.true) (Made-zero setting p q t es (w.in_default.ensures.zero t.1) c.loop-id.invariant)
-      | in-Some+in_ok-factors+in_ok-push w ↦
-          let e : Pending = record { factors = w.in_ok-factors.factors; id = (item p.list.now i).0; coefficient = t.1 } in
+      | in_default w ↦ rw (w.pending-is, told-take p i c.loop-term-test.true) (Made-zero setting p q t es (w.in_default.ensures.zero t.1) c.loop-term.invariant)
+      | in-Some+in_ok-made+in_ok-push w ↦
+          let e = w.in_ok-made.made in
+          let made = w.in_ok-made.ensures in
           let zeros = replicate w.in-Some.lacking 0 in
           let factors = factors_found setting t.0 _ _ w.in-Some.lacking w.in-Some.is c.in_ok-found.ensures.factors in
-          let listed = w.in_ok-factors.ensures ∙ ap (λ (fs : List FactorPower). zeros ++ factors_listed fs) w.deref-in-Some.ensures.value in
-          rw (w.pending-is, w.in_ok-push.ensures.items, told-take p i c.loop-id-test.true)
-          (Made-more setting p e t refl (subst (λ (ks : List ℕ). AreFactors setting t.0 ks) (sym listed) factors) q es
-          index here.monomial here.known here.nonzero here.degree here.exponents c.loop-id.invariant)
+          let listed = made.factors ∙ ap (λ (fs : List FactorPower). zeros ++ factors_listed fs) w.deref-in-Some.ensures.value in
+          rw (w.pending-is, w.in_ok-push.ensures.items, told-take p i c.loop-term-test.true)
+          (Made-more setting p e t (ap₂ (λ n (z : ℤ). (told_powers p n, z)) made.index made.coefficient)
+          (subst (λ (ks : List ℕ). AreFactors setting t.0 ks) (sym listed) factors) q es (subst (IsIndexOf p) (sym made.index) index)
+          here.monomial here.known here.nonzero here.degree here.exponents c.loop-term.invariant)
     ]
 
 pub returns : goal.returns
 returns c =
     let setting = c.args.setting.now in
     let p = c.args.p.now in
-    let es = c.loop-id.pending.items in
-    let past = take_all c.loop-id.id-index (told p) (omega (arith, length-terms_of p.vars.now p.monos.now p.list.now, c.loop-id-test.false)) in
-    record { pending = Made-all setting p (told p) es (subst (λ (q : Summands). Made setting p q es) past c.loop-id.invariant) }
+    let es = c.loop-term.pending.items in
+    let past = take_all c.loop-term.term-index (told p) (omega (arith, length-terms_of p.vars.now p.monos.now p.list.now, c.loop-term-test.false)) in
+    record { pending = Made-all setting p (told p) es (subst (λ (q : Summands). Made setting p q es) past c.loop-term.invariant) }
