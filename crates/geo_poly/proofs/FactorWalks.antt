@@ -100,7 +100,7 @@ Walked-some setting m v left rest found more i r is within at e some bounded pus
       let listed : ks ++ replicate v.1 (i + 1) ≡ replicate lacking 0 ++ factors_listed more =
       append_assoc (replicate lacking 0) (factors_listed found) (replicate v.1 (i + 1))
       ∙ ap (λ (xs : List ℕ). replicate lacking 0 ++ xs)
-        (sym (ap factors_listed pushed ∙ factors_listed-push found (record { factor = i + 1; exponent = v.1 }))) in
+      (sym (ap factors_listed pushed ∙ factors_listed-push found (record { factor = i + 1; exponent = v.1 }))) in
       subst (λ (xs : List ℕ). Path rows den (h.done ++ v ∷ []) lacking xs) listed
       (Path-place rows den v h.done lacking ks i within at
       (λ s is_s. counted_row rows v.0 s bounded is_s (subst IsNonzeroRow (sym e) some)) (h.path lacking counts));

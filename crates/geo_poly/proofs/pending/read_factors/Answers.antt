@@ -123,7 +123,7 @@ overflow_mul-missing c =
       arith,
       ap (λ (o : Option Row). power_in o * f.exponent) is,
       missing_step rows f.var f.exponent (told_powers p c.loop-first.rest) (told_powers p f.rest) c.loop-first.missing
-      (setting.top - denominators rows (told_powers p c.args.id)) c.in-Some.ensures.power c.loop-first.invariant.seen.missing-is,
+          (setting.top - denominators rows (told_powers p c.args.id)) c.in-Some.ensures.power c.loop-first.invariant.seen.missing-is,
     )
 
 pub overflow_sub-missing : goal.overflow_sub-missing
@@ -140,7 +140,7 @@ overflow_sub-missing c =
       arith,
       ap (λ (o : Option Row). power_in o * f.exponent) is,
       missing_step rows f.var f.exponent (told_powers p c.loop-first.rest) (told_powers p f.rest) c.loop-first.missing
-      (setting.top - denominators rows (told_powers p c.args.id)) c.in-Some.ensures.power c.loop-first.invariant.seen.missing-is,
+          (setting.top - denominators rows (told_powers p c.args.id)) c.in-Some.ensures.power c.loop-first.invariant.seen.missing-is,
     )
 
 pub returns-clause-factors : goal.returns-clause-factors

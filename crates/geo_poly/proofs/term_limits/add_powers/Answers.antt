@@ -30,7 +30,7 @@ add_power-called-requires-clause-few c =
     omega (
       arith,
       missing_step c.args.rows.now f.var f.exponent (told_powers p c.loop-first.rest) (told_powers p f.rest) c.loop-first.missing _ c.in-Some.ensures.power
-      c.loop-first.invariant.missing,
+          c.loop-first.invariant.missing,
     )
 
 pub loop-first-preserved : goal.loop-first-preserved
@@ -44,7 +44,7 @@ loop-first-preserved c =
         arith,
         c.add_power-called.ensures.denominators,
         missing_step c.args.rows.now f.var f.exponent (told_powers p c.loop-first.rest) (told_powers p f.rest) c.loop-first.missing _ c.in-Some.ensures.power
-        c.loop-first.invariant.missing,
+            c.loop-first.invariant.missing,
       );
       left = λ bound h. AreLeft-next c.args.vars.now c.args.rows.now (told_powers p c.args.id) (told_powers p c.loop-first.rest) (told_powers p f.rest) f.var f.exponent
           bound c.loop-first.limits c.add_power-called.new.limits c.in-Some.ensures.power c.add_power-called.ensures.limits (c.loop-first.invariant.left bound h);
