@@ -1,14 +1,16 @@
 -- The factors of a term, read power by power.
 use Rattle.std.proofs.Common.{◌≡◌, ℕ, ◌+◌, ◌*◌, ◌-◌, ◌<◌, ◌≤◌, Option, Some, None, List, [], ◌∷◌, ◌++◌, append_assoc, length, replicate, refl, sym, ap, subst, ◌∙◌, arith}
-use Rattle.std.specs.Prelude.{◌≢◌, IfSome, slice_get}
+use Rattle.std.specs.Prelude.{◌≢◌, IfNone, IfSome, ℤ, slice_get}
 use Rattle.std.proofs.lemmas.List.{append-nil}
 use Rattle.geo_poly.specs.declared.pending.FactorPower.{FactorPower}
 use Rattle.geo_poly.specs.declared.replacement.Row.{Row}
 use Rattle.geo_poly.specs.declared.settings.Setting.{Setting}
 use Rattle.geo_poly.specs.declared.variables.Var.{Var}
+use Rattle.geo_poly.specs.Inner.Accumulated.{accumulated_term}
 use Rattle.geo_poly.specs.Inner.Factored.{AreFactors, factors_listed}
 use Rattle.geo_poly.specs.Inner.TermFactors.{IsNonzeroRow}
 use Rattle.geo_poly.specs.Monomials.{IsMonomial, Powers}
+use Rattle.geo_poly.specs.Polynomials.{Summands}
 use Rattle.geo_poly.specs.Replace.{AllBounded, IsBounded, denominators, power_in, row_of}
 use Rattle.geo_poly.proofs.FactorPaths.{Path, Path-end, Path-none, Path-place, Path-start}
 use Rattle.geo_poly.proofs.TickBounds.{counted, counted_row}
@@ -123,3 +125,8 @@ pub factors_found : (setting : Setting) (m : Powers) (fs : List FactorPower) (fo
     → IfSome found (λ n. AreFactors setting m (replicate n 0 ++ factors_listed fs)) → AreFactors setting m (replicate lacking 0 ++ factors_listed fs)
 factors_found setting m fs found lacking is h =
     subst (λ (o : Option ℕ). IfSome o (λ n. AreFactors setting m (replicate n 0 ++ factors_listed fs))) is h
+
+-- what becomes of the term is zero, where none are found
+pub zero_found : (rows : List Row) (den : Summands) (top : ℕ) (m : Powers) (found : Option ℕ) → found ≡ None
+    → IfNone found ((k : ℤ) → accumulated_term rows den top (m, k) ≡ []) → (k : ℤ) → accumulated_term rows den top (m, k) ≡ []
+zero_found rows den top m found is h = subst (λ (o : Option ℕ). IfNone o ((k : ℤ) → accumulated_term rows den top (m, k) ≡ [])) is h

@@ -200,9 +200,12 @@ fn pending_terms(alloc: Global, setting: &Setting, p: &Shared) -> Result<Vec<Pen
     let mut pending = Vec::with_capacity(alloc, p.list.len())?;
     for term in p.list {
         let found = read_factors(setting, p, term.0, &roles, &mut numerators)?;
-        if let Some(lacking) = found {
-            let made = pending_term(alloc, term, &numerators, lacking)?;
-            pending.push(made)?;
+        match found {
+            Some(lacking) => {
+                let made = pending_term(alloc, term, &numerators, lacking)?;
+                pending.push(made)?;
+            }
+            None => {}
         }
     }
     Ok(pending)

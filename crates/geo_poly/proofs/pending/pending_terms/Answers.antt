@@ -7,12 +7,12 @@ use Rattle.geo_poly.specs.Inner.Factored.{AreFactors, factors_listed}
 use Rattle.geo_poly.specs.Inner.Roles.{AreRoles}
 use Rattle.geo_poly.specs.Polynomials.{Summands}
 use Rattle.geo_poly.specs.Shared.{IsIndexOf, told, told_powers, told_term}
-use Rattle.geo_poly.proofs.FactorWalks.{factors_found}
+use Rattle.geo_poly.proofs.FactorWalks.{factors_found, zero_found}
 use Rattle.geo_poly.proofs.PendingTerms.{Made, Made-all, Made-more, Made-none, Made-zero}
 use Rattle.geo_poly.proofs.TermPlaces.{replaceable_at}
 use Rattle.geo_poly.proofs.Told.{index_at, item, length-terms_of, told-take}
 use Rattle.geo_poly.proofs.pending.pending_terms.Goals as goal
-use Rattle.geo_poly.proofs.pending.pending_terms.Goals.{in-Some+in_ok-made+in_ok-push, in_default}
+use Rattle.geo_poly.proofs.pending.pending_terms.Goals.{in-Some+in_ok-made+in_ok-push, in-None}
 
 pub loop-term-init : goal.loop-term-init
 loop-term-init c =
@@ -46,7 +46,9 @@ loop-term-preserved c =
     let here = replaceable_at setting p i c.loop-term-test.true c.requires.known c.requires.can in
     let index = index_at p i c.loop-term-test.true c.requires.parts in
     elim c.match-found.branch [
-      | in_default w ↦ rw (w.pending-is, told-take p i c.loop-term-test.true) (Made-zero setting p q t es (w.in_default.ensures.zero t.1) c.loop-term.invariant)
+      | in-None w ↦
+          let zero = zero_found setting.rows.now setting.den.piece.now.poly setting.top t.0 _ w.in-None.is c.in_ok-found.ensures.zero t.1 in
+          rw (w.pending-is, told-take p i c.loop-term-test.true) (Made-zero setting p q t es zero c.loop-term.invariant)
       | in-Some+in_ok-made+in_ok-push w ↦
           let e = w.in_ok-made.made in
           let made = w.in_ok-made.ensures in
