@@ -12,7 +12,7 @@ use Rattle.geo_poly.proofs.PendingTerms.{Made, Made-all, Made-more, Made-none, M
 use Rattle.geo_poly.proofs.TermPlaces.{replaceable_at}
 use Rattle.geo_poly.proofs.Told.{index_at, item, length-terms_of, told-take}
 use Rattle.geo_poly.proofs.pending.pending_terms.Goals as goal
-use Rattle.geo_poly.proofs.pending.pending_terms.Goals.{in-Some+in_ok-made+in_ok-push, in-None}
+use Rattle.geo_poly.proofs.pending.pending_terms.Goals.{in-Some+in_ok-made-in-Some+in_ok-push-in-Some, in-None}
 
 pub loop-term-init : goal.loop-term-init
 loop-term-init c =
@@ -49,13 +49,13 @@ loop-term-preserved c =
       | in-None w ↦
           let zero = zero_found setting.rows.now setting.den.piece.now.poly setting.top t.0 _ w.in-None.is c.in_ok-found.ensures.zero t.1 in
           rw (w.pending-is, told-take p i c.loop-term-test.true) (Made-zero setting p q t es zero c.loop-term.invariant)
-      | in-Some+in_ok-made+in_ok-push w ↦
-          let e = w.in_ok-made.made in
-          let made = w.in_ok-made.ensures in
+      | in-Some+in_ok-made-in-Some+in_ok-push-in-Some w ↦
+          let e = w.in_ok-made-in-Some.made in
+          let made = w.in_ok-made-in-Some.ensures in
           let zeros = replicate w.in-Some.lacking 0 in
           let factors = factors_found setting t.0 _ _ w.in-Some.lacking w.in-Some.is c.in_ok-found.ensures.factors in
           let listed = made.factors ∙ ap (λ (fs : List FactorPower). zeros ++ factors_listed fs) w.deref-in-Some.ensures.value in
-          rw (w.pending-is, w.in_ok-push.ensures.items, told-take p i c.loop-term-test.true)
+          rw (w.pending-is, w.in_ok-push-in-Some.ensures.items, told-take p i c.loop-term-test.true)
           (Made-more setting p e t (ap₂ (λ n (z : ℤ). (told_powers p n, z)) made.index made.coefficient)
           (subst (λ (ks : List ℕ). AreFactors setting t.0 ks) (sym listed) factors) q es (subst (IsIndexOf p) (sym made.index) index)
           here.monomial here.known here.nonzero here.degree here.exponents c.loop-term.invariant)
