@@ -53,7 +53,7 @@ loop-term-preserved c =
           let e = w.in_ok-made-in-Some.made in
           let made = w.in_ok-made-in-Some.ensures in
           let zeros = replicate w.in-Some.lacking 0 in
-          let factors = factors_found setting t.0 _ _ w.in-Some.lacking w.in-Some.is c.in_ok-found.ensures.factors in
+          let factors = factors_found setting t.0 c.read_factors.new.numerators.items _ w.in-Some.lacking w.in-Some.is c.in_ok-found.ensures.factors in
           let listed = made.factors ∙ ap (λ (fs : List FactorPower). zeros ++ factors_listed fs) w.deref-in-Some.ensures.value in
           rw (w.pending-is, w.in_ok-push-in-Some.ensures.items, told-take p i c.loop-term-test.true)
           (Made-more setting p e t (ap₂ (λ n (z : ℤ). (told_powers p n, z)) made.index made.coefficient)
