@@ -70,6 +70,7 @@ pub mod GoodPieces
 pub mod PieceReach
 pub mod NestedSums
 pub mod FactorPaths
+pub mod FactorWalks
 pub mod MultipliedIn
 pub mod PendingTerms
 pub mod JoinedParts
@@ -84,3 +85,4 @@ pub mod TermLimits
 pub mod WordSums
 pub mod WordMultiples
 pub mod WordProducts
+pub mod RoleWalks
