@@ -12,3 +12,4 @@ pub mod Accumulated
 pub mod ReplacedExponents
 pub mod Words
 pub mod Limits
+pub mod Runs
