@@ -1,5 +1,5 @@
 -- Terms with no factors left, each put before those that stand in order already.
-use Rattle.std.proofs.Common.{◌≡◌, ℕ, ◌+◌, ◌<◌, ℤ, Option, Some, List, [], ◌∷◌, ◌++◌, drop, get_or, length, map, refl, sym, ap, ap₂, subst, ◌∙◌, unsigned_abs, arith}
+use Rattle.std.proofs.Common.{◌≡◌, ℕ, ◌+◌, ◌<◌, ℤ, Option, None, Some, List, [], ◌∷◌, ◌++◌, drop, get_or, length, map, refl, sym, ap, ap₂, subst, ◌∙◌, unsigned_abs, arith}
 use Rattle.std.specs.Prelude.{IfSome, unwrap_or}
 use Rattle.std.specs.List.Sorted.{IsStrictlySortedBy}
 use Rattle.std.specs.declared.cmp.Ordering.TheVariants.{Less}
@@ -37,6 +37,11 @@ first_within vars keys first pairs e h = subst (λ (o : Option ℕ). IfSome o (�
     go : (ps : Pairs) → AllKeys (IsKeyUnder vars keys) ps → IfSome (first_key ps) (λ k. k < keys.count)
     go [] g = tt
     go (t ∷ ps) g = g.0.within
+
+-- and stays one
+pub first_kept : (old new : Keys) (first : Option ℕ) → KeepsKeys old new → IfSome first (λ k. k < old.count) → IfSome first (λ k. k < new.count)
+first_kept old new None kept h = tt
+first_kept old new (Some k) kept h = omega (arith, h, kept.longer)
 
 -- that of a pair put before the others
 pub first_pushed : (arena : Chains) (new chain key : ℕ) (z : ℤ) (pairs : Pairs) → new ≡ chain → list_of arena chain ≡ Some ((key, z) ∷ pairs) → Some key ≡ first_key (pairs_of arena new)

@@ -1,6 +1,7 @@
 //! Terms that have no factors, in the order of what is left of their monomials, as one chain.
 
-ghost use Rattle.std.specs.Prelude.{◌≡◌, ◌<◌, All, IfNone, IfOk, IfSome, IsTrue, OnErr, map};
+ghost use Rattle.std.specs.Prelude.{◌≡◌, ◌<◌, [], All, IfNone, IfOk, IfSome, IsFalse, IsTrue};
+ghost use Rattle.std.specs.Prelude.{OnErr, drop, map};
 ghost use Rattle.std.specs.declared.cmp.Ordering.TheVariants.{Less};
 ghost use Rattle.geo_poly.specs.Chained.{AddsChain, SameChains, StandsUnder};
 ghost use Rattle.geo_poly.specs.Inner.Factored.{IsPending, factored_terms, told_pending};
@@ -22,6 +23,13 @@ use geo_points::NoMemory;
 use poly_arena::{Arena, Chain};
 use std::alloc::Global;
 
+/// Whether a term has a factor at a place.
+fn has_factor(term: &Pending, depth: usize) -> bool
+    ensures { IsFalse result → drop depth term.now.factors.items ≡ [] }
+{
+    depth < term.factors.len()
+}
+
 /// Whether the key comes before the first one, where there is one.
 fn is_before<K: MonomialKeys>(keys: &K, key: u64, first: Option<u64>) -> bool
     requires key { key < (K.keys keys.now).count }
@@ -34,8 +42,8 @@ fn is_before<K: MonomialKeys>(keys: &K, key: u64, first: Option<u64>) -> bool
     }
 }
 
-/// The key of what is left of a term that has no factor from a place on, where it comes before the
-/// first one.
+/// The key of what is left of a term, where it has no factor from a place on, its key comes before
+/// the first one and there is memory.
 fn next_key<K: MonomialKeys>(
     alloc: Global,
     setting: &Setting,
@@ -45,7 +53,7 @@ fn next_key<K: MonomialKeys>(
     term: &Pending,
     depth: usize,
     first: Option<u64>,
-) -> Result<Option<u64>, NoMemory>
+) -> Option<u64>
     requires set { IsSetUnder setting.now (K.keys keys.old) }
     requires table { AreMoved p.now setting.now.rows.now setting.now.vars.now (K.keys keys.old)
         table.now }
@@ -53,18 +61,22 @@ fn next_key<K: MonomialKeys>(
     requires reach { IsReplacedInReach setting.now.vars.now (K.keys keys.old) setting.now.rows.now
         setting.now.den.piece.now setting.now.top (told p.now) }
     requires first { IfSome first (λ k. k < (K.keys keys.old).count) }
-    ensures next { IfOk result (λ key. IfSome key (IsNextKey setting.now p.now depth
-        (K.keys keys.new) first term.now)) }
+    ensures next { IfSome result
+        (IsNextKey setting.now p.now depth (K.keys keys.new) first term.now) }
     ensures kept { KeepsKeys (K.keys keys.old) (K.keys keys.new) }
 {
-    if !term.factors_from(depth).is_empty() {
-        return Ok(None);
+    if has_factor(term, depth) {
+        return None;
     }
-    let rest = index_in(alloc, keys, setting.vars, setting.rows, p, table, term.id)?;
-    if is_before(keys, rest.0, first) {
-        return Ok(Some(rest.0));
+    match index_in(alloc, keys, setting.vars, setting.rows, p, table, term.id) {
+        Ok(rest) => {
+            if is_before(keys, rest.0, first) {
+                return Some(rest.0);
+            }
+            None
+        }
+        Err(_) => None,
     }
-    Ok(None)
 }
 
 /// The chain of the sum of terms that have no factor from a place on, where what is left of their
@@ -101,17 +113,13 @@ pub(crate) fn run_chain<K: MonomialKeys>(
         i -= 1;
         let term = &pending[i];
         match next_key(alloc, setting, keys, p, table, term, depth, first) {
-            Ok(Some(key)) => {
+            Some(key) => {
                 arena.push_front(&mut chain, key, term.coefficient);
                 first = Some(key);
             }
-            Ok(None) => {
+            None => {
                 arena.give_back(chain);
                 return Ok(None);
-            }
-            Err(error) => {
-                arena.give_back(chain);
-                return Err(error);
             }
         }
     }
