@@ -254,7 +254,8 @@ fn group_sum<K: MonomialKeys, L: Ledger>(
     ensures ticks { ticks.new ≤ ticks.old
         + factored_products (map (told_pending setting.now p.now depth) pending.now) }
 {
-    match run_chain(alloc, setting, keys, arena, p, table, pending, depth)? {
+    let found = run_chain(alloc, setting, keys, arena, p, table, pending, depth)?;
+    match found {
         Some(run) => Ok(run),
         None => parts_sum(
             alloc, setting, keys, arena, p, table, pending, depth, splits, ticks,

@@ -1,10 +1,10 @@
-use Rattle.std.proofs.Common.{◌≡◌, ◌+◌, ℤ, List, [], ◌∷◌, length, map, refl, rules, sym, ◌∙◌, subst, take, arith}
-use Rattle.std.specs.Prelude.{All}
-use Rattle.std.proofs.lemmas.List.{length-map}
+use Rattle.std.proofs.Common.{◌≡◌, ℕ, ◌+◌, ◌<◌, ℤ, Option, List, [], ◌∷◌, ap, length, length-drop, map, refl, rules, sym, ◌∙◌, subst, take, arith}
+use Rattle.std.specs.Prelude.{All, IfNone, IfSome}
+use Rattle.std.proofs.lemmas.List.{length-map, length-take-le}
 use Rattle.std.proofs.lemmas.List.Elements.{All-drop, All-take}
 use Rattle.std.proofs.lemmas.Result.{IfOk-weaker, on_err_weaker}
 use Rattle.poly_arena.specs.Chains.{pairs_of}
-use Rattle.geo_poly.specs.Chained.{StandsUnder, keyed_term_under, keyed_terms_under}
+use Rattle.geo_poly.specs.Chained.{AddsChain, SameChains, StandsUnder, keyed_term_under, keyed_terms_under}
 use Rattle.geo_poly.specs.declared.pending.Pending.{Pending}
 use Rattle.geo_poly.specs.Inner.Factored.{factored_terms, IsPending, told_pending}
 use Rattle.geo_poly.specs.Monomials.{Powers}
@@ -31,8 +31,10 @@ parts_sum-nested_sum-requires g t c =
     let at = c.split_place.result in
     let front = c.split_at.result.0.now in
     let back = c.split_at.result.1.now in
+    let fewer : length front < length es =
+    omega (arith, ap length c.split_at.ensures.front, length-take-le at es (omega (arith, c.split_place.ensures.within)), c.split_place.ensures.within) in
     λ κs below. (
-      search rules,
+      omega (arith, fewer),
       (
         below.0,
         (
@@ -68,8 +70,10 @@ parts_sum-nested_sum-requires-in_default g t c =
     let keys = g.K.MonomialKeys.keys c.args.keys.now in
     let later = g.K.MonomialKeys.keys c.nested_sum.new.keys in
     let kept = c.in_ok-sum.ensures.kept in
+    let fewer : length back < length es =
+    omega (arith, ap length c.split_at.ensures.back, length-drop at es, c.split_place.ensures.some, c.split_place.ensures.within) in
     λ κs below. (
-      search rules,
+      omega (arith, fewer),
       (
         below.0,
         (
@@ -207,7 +211,7 @@ group_sum-parts_sum-requires g t c =
     let setting = c.args.setting.now in
     let keys = g.K.MonomialKeys.keys c.args.keys.now in
     let later = g.K.MonomialKeys.keys c.run_chain.new.keys in
-    let kept = c.in_ok-run_chain.ensures.kept in
+    let kept = c.in_ok-found.ensures.kept in
     λ κs below. (
       search rules,
       (
@@ -235,23 +239,38 @@ group_sum-parts_sum-requires g t c =
     )
 
 
+pub group_sum-returns-in-Some-clause-chain : goal.group_sum-returns-in-Some-clause-chain
+group_sum-returns-in-Some-clause-chain g t c =
+    let setting = c.args.setting.now in
+    let es = c.args.pending.now in
+    subst (λ (o : Option ℕ). IfSome o (λ n. StandsUnder setting.vars.now (g.K.MonomialKeys.keys c.run_chain.new.keys) c.run_chain.new.arena n
+    (polynomial_of (factored_terms (map (told_pending setting c.args.p.now c.args.depth) es))))) c.in-Some.is c.in_ok-found.ensures.chain
+
+
+pub group_sum-returns-in-Some-clause-adds : goal.group_sum-returns-in-Some-clause-adds
+group_sum-returns-in-Some-clause-adds g t c =
+    subst (λ (o : Option ℕ). IfSome o (AddsChain c.args.arena.now c.run_chain.new.arena)) c.in-Some.is c.in_ok-found.ensures.adds
+
+
 pub group_sum-returns-in-None-clause-adds : goal.group_sum-returns-in-None-clause-adds
 group_sum-returns-in-None-clause-adds g t c =
-    IfOk-weaker c.parts_sum.result _ _
-    (λ v h. AddsChain-same c.args.arena.now c.run_chain.new.arena c.parts_sum.new.arena v c.in-None.ensures.none h)
+    let same : SameChains c.args.arena.now c.run_chain.new.arena =
+    subst (λ (o : Option ℕ). IfNone o (SameChains c.args.arena.now c.run_chain.new.arena)) c.in-None.is c.in_ok-found.ensures.none in
+    IfOk-weaker c.parts_sum.result _ _ (λ v h. AddsChain-same c.args.arena.now c.run_chain.new.arena c.parts_sum.new.arena v same h)
     c.parts_sum.ensures.adds
 
 
 pub group_sum-returns-in-None-clause-err : goal.group_sum-returns-in-None-clause-err
 group_sum-returns-in-None-clause-err g t c =
-    on_err_weaker c.parts_sum.result
-    (SameChains-trans c.args.arena.now c.run_chain.new.arena c.parts_sum.new.arena c.in-None.ensures.none) c.parts_sum.ensures.err
+    let same : SameChains c.args.arena.now c.run_chain.new.arena =
+    subst (λ (o : Option ℕ). IfNone o (SameChains c.args.arena.now c.run_chain.new.arena)) c.in-None.is c.in_ok-found.ensures.none in
+    on_err_weaker c.parts_sum.result (SameChains-trans c.args.arena.now c.run_chain.new.arena c.parts_sum.new.arena same) c.parts_sum.ensures.err
 
 
 pub group_sum-returns-in-None-clause-kept : goal.group_sum-returns-in-None-clause-kept
 group_sum-returns-in-None-clause-kept g t c =
     KeepsKeys-trans (g.K.MonomialKeys.keys c.args.keys.now) (g.K.MonomialKeys.keys c.run_chain.new.keys)
-    (g.K.MonomialKeys.keys c.parts_sum.new.keys) c.in_ok-run_chain.ensures.kept c.parts_sum.ensures.kept
+    (g.K.MonomialKeys.keys c.parts_sum.new.keys) c.in_ok-found.ensures.kept c.parts_sum.ensures.kept
 
 
 -- WHAT ALL SHARE, MULTIPLIED IN
@@ -270,7 +289,7 @@ nested_sum-group_sum-requires g t c =
         (
           below.1,
           (
-            c.in_default.len_at_least,
+            omega arith,
             (
               c.requires.set,
               (
@@ -304,7 +323,7 @@ nested_sum-times_factors-requires-in_default-clause-in_order g t c =
     let first = c.factors_from-first.result.now in
     let n = c.shared_factors-shared.result in
     joined_order setting (g.K.MonomialKeys.keys c.args.keys.now) c.requires.set p c.args.depth n first es c.shared_factors-shared.ensures.shared c.requires.pending
-    c.requires.norm (omega (arith, c.in_default.len_at_least)) c.front_of-factors.result.now c.front_of-factors.ensures
+    c.requires.norm (omega arith) c.front_of-factors.result.now c.front_of-factors.ensures
     (keyed_terms_under setting.vars.now (g.K.MonomialKeys.keys c.group_sum.new.keys) (pairs_of c.group_sum.new.arena c.in_ok-whole-in_default.whole)) c.in_ok-whole-in_default.ensures.chain.terms
 
 
@@ -316,7 +335,7 @@ nested_sum-times_factors-requires-in_default-clause-monomials g t c =
     let first = c.factors_from-first.result.now in
     let n = c.shared_factors-shared.result in
     joined_monomials setting (g.K.MonomialKeys.keys c.args.keys.now) c.requires.set p c.args.depth n first es c.shared_factors-shared.ensures.shared c.requires.pending
-    c.requires.norm (omega (arith, c.in_default.len_at_least)) c.front_of-factors.result.now c.front_of-factors.ensures
+    c.requires.norm (omega arith) c.front_of-factors.result.now c.front_of-factors.ensures
     (keyed_terms_under setting.vars.now (g.K.MonomialKeys.keys c.group_sum.new.keys) (pairs_of c.group_sum.new.arena c.in_ok-whole-in_default.whole)) c.in_ok-whole-in_default.ensures.chain.terms
 
 
@@ -328,7 +347,7 @@ nested_sum-times_factors-requires-in_default-clause-norm g t c =
     let first = c.factors_from-first.result.now in
     let n = c.shared_factors-shared.result in
     joined_norm setting (g.K.MonomialKeys.keys c.args.keys.now) c.requires.set p c.args.depth n first es c.shared_factors-shared.ensures.shared c.requires.pending
-    c.requires.norm (omega (arith, c.in_default.len_at_least)) c.front_of-factors.result.now c.front_of-factors.ensures
+    c.requires.norm (omega arith) c.front_of-factors.result.now c.front_of-factors.ensures
     (keyed_terms_under setting.vars.now (g.K.MonomialKeys.keys c.group_sum.new.keys) (pairs_of c.group_sum.new.arena c.in_ok-whole-in_default.whole)) c.in_ok-whole-in_default.ensures.chain.terms
 
 
@@ -340,7 +359,7 @@ nested_sum-times_factors-requires-in_default-clause-degree g t c =
     let first = c.factors_from-first.result.now in
     let n = c.shared_factors-shared.result in
     joined_degree setting (g.K.MonomialKeys.keys c.args.keys.now) c.requires.set p c.args.depth n first es c.shared_factors-shared.ensures.shared c.requires.pending
-    c.requires.norm (omega (arith, c.in_default.len_at_least)) c.front_of-factors.result.now c.front_of-factors.ensures
+    c.requires.norm (omega arith) c.front_of-factors.result.now c.front_of-factors.ensures
     (keyed_terms_under setting.vars.now (g.K.MonomialKeys.keys c.group_sum.new.keys) (pairs_of c.group_sum.new.arena c.in_ok-whole-in_default.whole)) c.in_ok-whole-in_default.ensures.chain.terms
 
 
@@ -352,7 +371,7 @@ nested_sum-times_factors-requires-in_default-clause-reach g t c =
     let first = c.factors_from-first.result.now in
     let n = c.shared_factors-shared.result in
     joined_reach setting (g.K.MonomialKeys.keys c.args.keys.now) c.requires.set p c.args.depth n first es c.shared_factors-shared.ensures.shared c.requires.pending
-    c.requires.norm (omega (arith, c.in_default.len_at_least)) c.front_of-factors.result.now c.front_of-factors.ensures
+    c.requires.norm (omega arith) c.front_of-factors.result.now c.front_of-factors.ensures
     (keyed_terms_under setting.vars.now (g.K.MonomialKeys.keys c.group_sum.new.keys) (pairs_of c.group_sum.new.arena c.in_ok-whole-in_default.whole)) c.in_ok-whole-in_default.ensures.chain.terms
     (g.K.MonomialKeys.keys c.group_sum.new.keys) c.in_ok-whole-in_default.ensures.kept.limits c.requires.reach
 
@@ -367,7 +386,7 @@ nested_sum-returns-in_ok-whole-in_default-clause-chain g t c =
     IfOk-weaker c.times_factors-in_default.result _ _
     (λ v h. subst (λ (q : Summands). StandsUnder setting.vars.now (g.K.MonomialKeys.keys c.times_factors-in_default.new.keys) c.times_factors-in_default.new.arena v q)
     (joined_made setting (g.K.MonomialKeys.keys c.args.keys.now) c.requires.set p c.args.depth n first es c.shared_factors-shared.ensures.shared c.requires.pending
-    c.requires.norm (omega (arith, c.in_default.len_at_least)) c.front_of-factors.result.now c.front_of-factors.ensures
+    c.requires.norm (omega arith) c.front_of-factors.result.now c.front_of-factors.ensures
     (keyed_terms_under setting.vars.now (g.K.MonomialKeys.keys c.group_sum.new.keys) (pairs_of c.group_sum.new.arena c.in_ok-whole-in_default.whole)) c.in_ok-whole-in_default.ensures.chain.terms) h)
     c.times_factors-in_default.ensures.chain
 
@@ -401,7 +420,7 @@ nested_sum-returns-in_ok-whole-in_default-clause-ticks g t c =
     let chain = pairs_of c.group_sum.new.arena c.in_ok-whole-in_default.whole in
     let size = sym (length-map {B = Powers × ℤ} chain (keyed_term_under setting.vars.now (g.K.MonomialKeys.keys c.group_sum.new.keys))) in
     let whole = joined_products setting (g.K.MonomialKeys.keys c.args.keys.now) c.requires.set p c.args.depth n first es c.shared_factors-shared.ensures.shared c.requires.pending
-    c.requires.norm (omega (arith, c.in_default.len_at_least)) c.front_of-factors.result.now c.front_of-factors.ensures
+    c.requires.norm (omega arith) c.front_of-factors.result.now c.front_of-factors.ensures
     (keyed_terms_under setting.vars.now (g.K.MonomialKeys.keys c.group_sum.new.keys) (pairs_of c.group_sum.new.arena c.in_ok-whole-in_default.whole)) c.in_ok-whole-in_default.ensures.chain.terms (length chain) size in
     omega (arith, c.in_ok-whole-in_default.ensures.ticks, c.times_factors-in_default.ensures.ticks, whole)
 
@@ -414,7 +433,7 @@ nested_sum-returns-in_err-whole-in_default-clause-ticks g t c =
     let first = c.factors_from-first.result.now in
     let n = c.shared_factors-shared.result in
     let whole = joined_products setting (g.K.MonomialKeys.keys c.args.keys.now) c.requires.set p c.args.depth n first es c.shared_factors-shared.ensures.shared c.requires.pending
-    c.requires.norm (omega (arith, c.in_default.len_at_least)) (take n first) refl
+    c.requires.norm (omega arith) (take n first) refl
     (polynomial_of (factored_terms (map (told_pending setting p (c.args.depth + n)) es))) refl _ refl in
     omega (arith, c.in_err-whole-in_default.ensures.ticks, whole)
 

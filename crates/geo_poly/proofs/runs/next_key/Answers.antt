@@ -1,5 +1,4 @@
-use Rattle.std.proofs.Common.{ℕ, ◌<◌, Option, [], ◌∷◌, refl, subst, arith}
-use Rattle.std.specs.Prelude.{IfSome}
+use Rattle.std.proofs.Common.{[], ◌∷◌, refl}
 use Rattle.std.proofs.lemmas.List.Elements.{All-cons, All-nil}
 use Rattle.geo_poly.specs.Inner.Factored.{IsPending}
 use Rattle.geo_poly.proofs.JoinedParts.{lone_room}
@@ -31,7 +30,7 @@ is_before-requires-clause-key g c = c.in-Ok.ensures.index.within
 
 pub is_before-requires-clause-first : goal.is_before-requires-clause-first
 is_before-requires-clause-first g c =
-    first_kept (g.K.MonomialKeys.keys c.args.keys.now) (g.K.MonomialKeys.keys c.index_in.new.keys) c.args.first c.index_in.ensures.kept c.requires.first
+    first_kept (g.K.MonomialKeys.keys c.args.keys.now) (g.K.MonomialKeys.keys c.index_in.new.keys) c.args.first c.in-Ok.ensures.kept c.requires.first
 
 pub returns-then-is_before-clause-next : goal.returns-then-is_before-clause-next
 returns-then-is_before-clause-next g c = record {

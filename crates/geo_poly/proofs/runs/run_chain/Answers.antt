@@ -30,7 +30,7 @@ loop-i-init g c =
     let made = λ (xs : List Pending). factored_terms (map (told_pending setting c.args.p.now c.args.depth) xs) in
     record {
       left = omega arith;
-      room = omega (arith, c.in_ok-chain.ensures.spare, c.reserve.ensures.ok);
+      room = omega (arith, c.in_ok-chain.ensures.spare, c.in_ok-reserve.ensures.ok);
       kept = KeepsKeys-refl keys;
       adds = search rules;
       first = sym (ap (λ (o : Option Pairs). first_key (unwrap_or o [])) c.in_ok-chain.ensures.updates.changed);
@@ -88,7 +88,7 @@ loop-i-preserved g c =
     let ps = pairs_of c.loop-i.arena c.loop-i.chain in
     let arena = c.push_front.new.self in
     let key = c.in-Some.key in
-    let kept = c.next_key.ensures.kept in
+    let kept = c.in-Some.ensures.kept in
     let below : c.loop-i.i - 1 < length c.args.pending.now = omega (arith, c.loop-i.invariant.left, c.loop-i-test.true) in
     let rest : c.loop-i.i ≡ c.loop-i.i - 1 + 1 = omega (arith, c.loop-i-test.true) in
     let pending = subst (IsPending setting p depth) (sym c.index-pending-i.is) (c.requires.pending i e below) in
@@ -119,7 +119,7 @@ returns-in-None-clause-none g c =
 pub returns-in-None-clause-kept : goal.returns-in-None-clause-kept
 returns-in-None-clause-kept g c =
     KeepsKeys-trans (g.K.MonomialKeys.keys c.args.keys.now) (g.K.MonomialKeys.keys c.loop-i.keys)
-    (g.K.MonomialKeys.keys c.next_key.new.keys) c.loop-i.invariant.kept c.next_key.ensures.kept
+    (g.K.MonomialKeys.keys c.next_key.new.keys) c.loop-i.invariant.kept c.in-None.ensures.kept
 
 pub returns-clause-chain : goal.returns-clause-chain
 returns-clause-chain g c =
