@@ -58,7 +58,6 @@ parts_sum-nested_sum-requires g t c =
       ),
     )
 
-
 pub parts_sum-nested_sum-requires-in_default : goal.parts_sum-nested_sum-requires-in_default
 parts_sum-nested_sum-requires-in_default g t c =
     let setting = c.args.setting.now in
@@ -97,13 +96,11 @@ parts_sum-nested_sum-requires-in_default g t c =
       ),
     )
 
-
 pub parts_sum-summed-requires-clause-left_keys : goal.parts_sum-summed-requires-clause-left_keys
 parts_sum-summed-requires-clause-left_keys g t c =
     let setting = c.args.setting.now in
     (first_still setting.vars.now (g.K.MonomialKeys.keys c.nested_sum.new.keys) (g.K.MonomialKeys.keys c.nested_sum-in_default.new.keys) c.in-Ok.ensures.kept c.nested_sum.new.arena c.nested_sum-in_default.new.arena
     c.in_ok-sum.sum c.in-Ok.rest _ _ c.in_ok-sum.ensures.chain c.in-Ok.ensures.adds c.in-Ok.ensures.chain).keys
-
 
 pub parts_sum-summed-requires-clause-left_order : goal.parts_sum-summed-requires-clause-left_order
 parts_sum-summed-requires-clause-left_order g t c =
@@ -116,7 +113,6 @@ parts_sum-summed-requires-clause-left_order g t c =
     c.in_ok-sum.sum c.in-Ok.rest _ _ c.in_ok-sum.ensures.chain c.in-Ok.ensures.adds c.in-Ok.ensures.chain
     (IsCanonical-polynomial_of (factored_terms (map (told_pending setting p c.args.depth) front)))
 
-
 pub parts_sum-summed-requires-clause-right_order : goal.parts_sum-summed-requires-clause-right_order
 parts_sum-summed-requires-clause-right_order g t c =
     let setting = c.args.setting.now in
@@ -124,7 +120,6 @@ parts_sum-summed-requires-clause-right_order g t c =
     second_order setting.vars.now (g.K.MonomialKeys.keys c.nested_sum.new.keys) (g.K.MonomialKeys.keys c.nested_sum-in_default.new.keys) c.in-Ok.ensures.kept c.nested_sum.new.arena c.nested_sum-in_default.new.arena
     c.in_ok-sum.sum c.in-Ok.rest _ _ c.in_ok-sum.ensures.chain c.in-Ok.ensures.adds c.in-Ok.ensures.chain
     (IsCanonical-polynomial_of (factored_terms (map (told_pending setting c.args.p.now c.args.depth) back)))
-
 
 pub parts_sum-summed-requires-clause-fits : goal.parts_sum-summed-requires-clause-fits
 parts_sum-summed-requires-clause-fits g t c =
@@ -137,7 +132,6 @@ parts_sum-summed-requires-clause-fits g t c =
     norms_fit setting.vars.now (g.K.MonomialKeys.keys c.nested_sum.new.keys) (g.K.MonomialKeys.keys c.nested_sum-in_default.new.keys) c.in-Ok.ensures.kept c.nested_sum.new.arena c.nested_sum-in_default.new.arena
     c.in_ok-sum.sum c.in-Ok.rest _ _ c.in_ok-sum.ensures.chain c.in-Ok.ensures.adds c.in-Ok.ensures.chain
     (parts_fit setting (g.K.MonomialKeys.keys c.args.keys.now) c.requires.set p c.args.depth es at front back c.split_at.ensures.front c.split_at.ensures.back c.requires.norm)
-
 
 pub parts_sum-returns-in-Ok-clause-chain : goal.parts_sum-returns-in-Ok-clause-chain
 parts_sum-returns-in-Ok-clause-chain g t c =
@@ -152,7 +146,6 @@ parts_sum-returns-in-Ok-clause-chain g t c =
     c.in_ok-sum.ensures.adds c.in-Ok.ensures.adds c.in_ok-sum.ensures.chain c.in-Ok.ensures.chain c.summed.ensures.chain c.summed.ensures.sum
     (parts_sum setting (g.K.MonomialKeys.keys c.args.keys.now) c.requires.set p c.args.depth es at front back c.split_at.ensures.front c.split_at.ensures.back)
 
-
 pub parts_sum-returns-in-Ok-clause-adds : goal.parts_sum-returns-in-Ok-clause-adds
 parts_sum-returns-in-Ok-clause-adds g t c =
     let setting = c.args.setting.now in
@@ -162,12 +155,10 @@ parts_sum-returns-in-Ok-clause-adds g t c =
     c.in_ok-sum.sum c.in-Ok.rest c.summed.result _ _ (polynomial_of (factored_terms (map (told_pending setting p c.args.depth) es)))
     c.in_ok-sum.ensures.adds c.in-Ok.ensures.adds c.in_ok-sum.ensures.chain c.in-Ok.ensures.chain c.summed.ensures.chain _ c.summed.ensures.merges
 
-
 pub parts_sum-returns-in-Ok-clause-kept : goal.parts_sum-returns-in-Ok-clause-kept
 parts_sum-returns-in-Ok-clause-kept g t c =
     KeepsKeys-trans (g.K.MonomialKeys.keys c.args.keys.now) (g.K.MonomialKeys.keys c.nested_sum.new.keys)
     (g.K.MonomialKeys.keys c.nested_sum-in_default.new.keys) c.in_ok-sum.ensures.kept c.in-Ok.ensures.kept
-
 
 pub parts_sum-returns-in-Ok-clause-ticks : goal.parts_sum-returns-in-Ok-clause-ticks
 parts_sum-returns-in-Ok-clause-ticks g t c =
@@ -180,7 +171,6 @@ parts_sum-returns-in-Ok-clause-ticks g t c =
     let both = parts_products setting (g.K.MonomialKeys.keys c.args.keys.now) c.requires.set p c.args.depth es at front back c.split_at.ensures.front c.split_at.ensures.back in
     omega (arith, c.in_ok-sum.ensures.ticks, c.in-Ok.ensures.ticks, both)
 
-
 pub parts_sum-returns-in-Err-clause-ticks : goal.parts_sum-returns-in-Err-clause-ticks
 parts_sum-returns-in-Err-clause-ticks g t c =
     let setting = c.args.setting.now in
@@ -191,7 +181,6 @@ parts_sum-returns-in-Err-clause-ticks g t c =
     let back = c.split_at.result.1.now in
     let both = parts_products setting (g.K.MonomialKeys.keys c.args.keys.now) c.requires.set p c.args.depth es at front back c.split_at.ensures.front c.split_at.ensures.back in
     omega (arith, c.in_ok-sum.ensures.ticks, c.in-Err.ensures.ticks, both)
-
 
 pub parts_sum-returns-in_err-sum-clause-ticks : goal.parts_sum-returns-in_err-sum-clause-ticks
 parts_sum-returns-in_err-sum-clause-ticks g t c =
@@ -204,7 +193,6 @@ parts_sum-returns-in_err-sum-clause-ticks g t c =
     let both = parts_products setting (g.K.MonomialKeys.keys c.args.keys.now) c.requires.set p c.args.depth es at front back c.split_at.ensures.front c.split_at.ensures.back in
     omega (arith, c.in_err-sum.ensures.ticks, both)
 
-
 -- A GROUP
 pub group_sum-parts_sum-requires : goal.group_sum-parts_sum-requires
 group_sum-parts_sum-requires g t c =
@@ -213,7 +201,7 @@ group_sum-parts_sum-requires g t c =
     let later = g.K.MonomialKeys.keys c.run_chain.new.keys in
     let kept = c.in_ok-found.ensures.kept in
     λ κs below. (
-      search rules,
+      omega arith,
       (
         below.0,
         (
@@ -238,7 +226,6 @@ group_sum-parts_sum-requires g t c =
       ),
     )
 
-
 pub group_sum-returns-in-Some-clause-chain : goal.group_sum-returns-in-Some-clause-chain
 group_sum-returns-in-Some-clause-chain g t c =
     let setting = c.args.setting.now in
@@ -246,11 +233,9 @@ group_sum-returns-in-Some-clause-chain g t c =
     subst (λ (o : Option ℕ). IfSome o (λ n. StandsUnder setting.vars.now (g.K.MonomialKeys.keys c.run_chain.new.keys) c.run_chain.new.arena n
     (polynomial_of (factored_terms (map (told_pending setting c.args.p.now c.args.depth) es))))) c.in-Some.is c.in_ok-found.ensures.chain
 
-
 pub group_sum-returns-in-Some-clause-adds : goal.group_sum-returns-in-Some-clause-adds
 group_sum-returns-in-Some-clause-adds g t c =
     subst (λ (o : Option ℕ). IfSome o (AddsChain c.args.arena.now c.run_chain.new.arena)) c.in-Some.is c.in_ok-found.ensures.adds
-
 
 pub group_sum-returns-in-None-clause-adds : goal.group_sum-returns-in-None-clause-adds
 group_sum-returns-in-None-clause-adds g t c =
@@ -259,19 +244,16 @@ group_sum-returns-in-None-clause-adds g t c =
     IfOk-weaker c.parts_sum.result _ _ (λ v h. AddsChain-same c.args.arena.now c.run_chain.new.arena c.parts_sum.new.arena v same h)
     c.parts_sum.ensures.adds
 
-
 pub group_sum-returns-in-None-clause-err : goal.group_sum-returns-in-None-clause-err
 group_sum-returns-in-None-clause-err g t c =
     let same : SameChains c.args.arena.now c.run_chain.new.arena =
     subst (λ (o : Option ℕ). IfNone o (SameChains c.args.arena.now c.run_chain.new.arena)) c.in-None.is c.in_ok-found.ensures.none in
     on_err_weaker c.parts_sum.result (SameChains-trans c.args.arena.now c.run_chain.new.arena c.parts_sum.new.arena same) c.parts_sum.ensures.err
 
-
 pub group_sum-returns-in-None-clause-kept : goal.group_sum-returns-in-None-clause-kept
 group_sum-returns-in-None-clause-kept g t c =
     KeepsKeys-trans (g.K.MonomialKeys.keys c.args.keys.now) (g.K.MonomialKeys.keys c.run_chain.new.keys)
     (g.K.MonomialKeys.keys c.parts_sum.new.keys) c.in_ok-found.ensures.kept c.parts_sum.ensures.kept
-
 
 -- WHAT ALL SHARE, MULTIPLIED IN
 pub nested_sum-group_sum-requires : goal.nested_sum-group_sum-requires
@@ -283,7 +265,7 @@ nested_sum-group_sum-requires g t c =
     let n = c.shared_factors-shared.result in
     let keys = g.K.MonomialKeys.keys c.args.keys.now in
     λ κs below. (
-      search rules,
+      omega arith,
       (
         below.0,
         (
@@ -308,12 +290,10 @@ nested_sum-group_sum-requires g t c =
       ),
     )
 
-
 pub nested_sum-times_factors-requires-in_default-clause-set : goal.nested_sum-times_factors-requires-in_default-clause-set
 nested_sum-times_factors-requires-in_default-clause-set g t c =
     IsSetUnder-kept c.args.setting.now (g.K.MonomialKeys.keys c.args.keys.now) (g.K.MonomialKeys.keys c.group_sum.new.keys)
     c.in_ok-whole-in_default.ensures.kept c.requires.set
-
 
 pub nested_sum-times_factors-requires-in_default-clause-in_order : goal.nested_sum-times_factors-requires-in_default-clause-in_order
 nested_sum-times_factors-requires-in_default-clause-in_order g t c =
@@ -326,7 +306,6 @@ nested_sum-times_factors-requires-in_default-clause-in_order g t c =
     c.requires.norm (omega arith) c.front_of-factors.result.now c.front_of-factors.ensures
     (keyed_terms_under setting.vars.now (g.K.MonomialKeys.keys c.group_sum.new.keys) (pairs_of c.group_sum.new.arena c.in_ok-whole-in_default.whole)) c.in_ok-whole-in_default.ensures.chain.terms
 
-
 pub nested_sum-times_factors-requires-in_default-clause-monomials : goal.nested_sum-times_factors-requires-in_default-clause-monomials
 nested_sum-times_factors-requires-in_default-clause-monomials g t c =
     let setting = c.args.setting.now in
@@ -337,7 +316,6 @@ nested_sum-times_factors-requires-in_default-clause-monomials g t c =
     joined_monomials setting (g.K.MonomialKeys.keys c.args.keys.now) c.requires.set p c.args.depth n first es c.shared_factors-shared.ensures.shared c.requires.pending
     c.requires.norm (omega arith) c.front_of-factors.result.now c.front_of-factors.ensures
     (keyed_terms_under setting.vars.now (g.K.MonomialKeys.keys c.group_sum.new.keys) (pairs_of c.group_sum.new.arena c.in_ok-whole-in_default.whole)) c.in_ok-whole-in_default.ensures.chain.terms
-
 
 pub nested_sum-times_factors-requires-in_default-clause-norm : goal.nested_sum-times_factors-requires-in_default-clause-norm
 nested_sum-times_factors-requires-in_default-clause-norm g t c =
@@ -350,7 +328,6 @@ nested_sum-times_factors-requires-in_default-clause-norm g t c =
     c.requires.norm (omega arith) c.front_of-factors.result.now c.front_of-factors.ensures
     (keyed_terms_under setting.vars.now (g.K.MonomialKeys.keys c.group_sum.new.keys) (pairs_of c.group_sum.new.arena c.in_ok-whole-in_default.whole)) c.in_ok-whole-in_default.ensures.chain.terms
 
-
 pub nested_sum-times_factors-requires-in_default-clause-degree : goal.nested_sum-times_factors-requires-in_default-clause-degree
 nested_sum-times_factors-requires-in_default-clause-degree g t c =
     let setting = c.args.setting.now in
@@ -361,7 +338,6 @@ nested_sum-times_factors-requires-in_default-clause-degree g t c =
     joined_degree setting (g.K.MonomialKeys.keys c.args.keys.now) c.requires.set p c.args.depth n first es c.shared_factors-shared.ensures.shared c.requires.pending
     c.requires.norm (omega arith) c.front_of-factors.result.now c.front_of-factors.ensures
     (keyed_terms_under setting.vars.now (g.K.MonomialKeys.keys c.group_sum.new.keys) (pairs_of c.group_sum.new.arena c.in_ok-whole-in_default.whole)) c.in_ok-whole-in_default.ensures.chain.terms
-
 
 pub nested_sum-times_factors-requires-in_default-clause-reach : goal.nested_sum-times_factors-requires-in_default-clause-reach
 nested_sum-times_factors-requires-in_default-clause-reach g t c =
@@ -374,7 +350,6 @@ nested_sum-times_factors-requires-in_default-clause-reach g t c =
     c.requires.norm (omega arith) c.front_of-factors.result.now c.front_of-factors.ensures
     (keyed_terms_under setting.vars.now (g.K.MonomialKeys.keys c.group_sum.new.keys) (pairs_of c.group_sum.new.arena c.in_ok-whole-in_default.whole)) c.in_ok-whole-in_default.ensures.chain.terms
     (g.K.MonomialKeys.keys c.group_sum.new.keys) c.in_ok-whole-in_default.ensures.kept.limits c.requires.reach
-
 
 pub nested_sum-returns-in_ok-whole-in_default-clause-chain : goal.nested_sum-returns-in_ok-whole-in_default-clause-chain
 nested_sum-returns-in_ok-whole-in_default-clause-chain g t c =
@@ -390,25 +365,21 @@ nested_sum-returns-in_ok-whole-in_default-clause-chain g t c =
     (keyed_terms_under setting.vars.now (g.K.MonomialKeys.keys c.group_sum.new.keys) (pairs_of c.group_sum.new.arena c.in_ok-whole-in_default.whole)) c.in_ok-whole-in_default.ensures.chain.terms) h)
     c.times_factors-in_default.ensures.chain
 
-
 pub nested_sum-returns-in_ok-whole-in_default-clause-adds : goal.nested_sum-returns-in_ok-whole-in_default-clause-adds
 nested_sum-returns-in_ok-whole-in_default-clause-adds g t c =
     IfOk-weaker c.times_factors-in_default.result _ _
     (λ v h. AddsChain-swaps c.args.arena.now c.group_sum.new.arena c.times_factors-in_default.new.arena c.in_ok-whole-in_default.whole v c.in_ok-whole-in_default.ensures.adds h)
     c.times_factors-in_default.ensures.swaps
 
-
 pub nested_sum-returns-in_ok-whole-in_default-clause-err : goal.nested_sum-returns-in_ok-whole-in_default-clause-err
 nested_sum-returns-in_ok-whole-in_default-clause-err g t c =
     on_err_weaker c.times_factors-in_default.result
     (gave_back c.args.arena.now c.group_sum.new.arena c.times_factors-in_default.new.arena c.in_ok-whole-in_default.whole c.in_ok-whole-in_default.ensures.adds) c.times_factors-in_default.ensures.err
 
-
 pub nested_sum-returns-in_ok-whole-in_default-clause-kept : goal.nested_sum-returns-in_ok-whole-in_default-clause-kept
 nested_sum-returns-in_ok-whole-in_default-clause-kept g t c =
     KeepsKeys-trans (g.K.MonomialKeys.keys c.args.keys.now) (g.K.MonomialKeys.keys c.group_sum.new.keys)
     (g.K.MonomialKeys.keys c.times_factors-in_default.new.keys) c.in_ok-whole-in_default.ensures.kept c.times_factors-in_default.ensures.kept
-
 
 pub nested_sum-returns-in_ok-whole-in_default-clause-ticks : goal.nested_sum-returns-in_ok-whole-in_default-clause-ticks
 nested_sum-returns-in_ok-whole-in_default-clause-ticks g t c =
@@ -424,7 +395,6 @@ nested_sum-returns-in_ok-whole-in_default-clause-ticks g t c =
     (keyed_terms_under setting.vars.now (g.K.MonomialKeys.keys c.group_sum.new.keys) (pairs_of c.group_sum.new.arena c.in_ok-whole-in_default.whole)) c.in_ok-whole-in_default.ensures.chain.terms (length chain) size in
     omega (arith, c.in_ok-whole-in_default.ensures.ticks, c.times_factors-in_default.ensures.ticks, whole)
 
-
 pub nested_sum-returns-in_err-whole-in_default-clause-ticks : goal.nested_sum-returns-in_err-whole-in_default-clause-ticks
 nested_sum-returns-in_err-whole-in_default-clause-ticks g t c =
     let setting = c.args.setting.now in
@@ -436,7 +406,6 @@ nested_sum-returns-in_err-whole-in_default-clause-ticks g t c =
     c.requires.norm (omega arith) (take n first) refl
     (polynomial_of (factored_terms (map (told_pending setting p (c.args.depth + n)) es))) refl _ refl in
     omega (arith, c.in_err-whole-in_default.ensures.ticks, whole)
-
 
 -- ONE TERM
 pub nested_sum-lone_chain-requires-clause-index : goal.nested_sum-lone_chain-requires-clause-index

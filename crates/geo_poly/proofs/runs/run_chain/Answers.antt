@@ -1,6 +1,6 @@
-use Rattle.std.proofs.Common.{◌≡◌, ℕ, ◌+◌, ◌-◌, ◌<◌, List, Option, [], drop, length, map, refl, sym, ap, subst, FitsSigned, rules, arith}
+use Rattle.std.proofs.Common.{◌≡◌, ℕ, ◌+◌, ◌-◌, ◌<◌, List, Option, None, [], drop, length, map, refl, sym, ap, subst, ◌∙◌, FitsSigned, rules, arith}
 use Rattle.std.specs.Int.{w128}
-use Rattle.std.specs.Prelude.{unwrap_or}
+use Rattle.std.specs.Prelude.{slice_index_or, unwrap_or}
 use Rattle.std.proofs.lemmas.Int.{to_z-of_z}
 use Rattle.sparse_lists.specs.SparseLists.{IsCanonical}
 use Rattle.sparse_lists.proofs.Merging.{drop_past}
@@ -32,7 +32,10 @@ loop-i-init g c =
       left = omega arith;
       room = omega (arith, c.in_ok-chain.ensures.spare, c.in_ok-reserve.ensures.ok);
       kept = KeepsKeys-refl keys;
-      adds = search rules;
+      adds = record {
+        unused = ap (λ (ls : List (Option Pairs)). slice_index_or ls chain None) (sym c.in_ok-reserve.ensures.lists) ∙ c.in_ok-chain.ensures.new;
+        others = λ n d. c.in_ok-chain.ensures.updates.others n d ∙ ap (λ (ls : List (Option Pairs)). slice_index_or ls n None) c.in_ok-reserve.ensures.lists;
+      };
       first = sym (ap (λ (o : Option Pairs). first_key (unwrap_or o [])) c.in_ok-chain.ensures.updates.changed);
       order = subst (λ (xs : List Pending). IsCanonical term_cmp coefficients (made xs)) (sym none) tt;
       chain = subst (λ (xs : List Pending). StandsUnder setting.vars.now keys arena chain (made xs)) (sym none)
