@@ -57,7 +57,7 @@ module _ (setting : Setting) (p : Shared) (depth : ℕ) where
   first_term : (es : List Pending) (i : ℕ) (e : Pending) → i < length es → e ≡ get_or es i e → drop depth e.factors.items ≡ []
       → made (drop i es) ≡ (others setting.rows.now (told_powers p e.id), e.coefficient) ∷ made (drop (i + 1) es)
   first_term es i e within is none =
-      let t = (others setting.rows.now (told_powers p e.id), e.coefficient) in
+      let t : Powers × ℤ = (others setting.rows.now (told_powers p e.id), e.coefficient) in
       ap made (drop_at es i e within is)
       ∙ ap (λ (ks : List ℕ). times_pieces (pieces_of setting.rows.now setting.den.piece.now ks) (t ∷ []) ++ made (drop (i + 1) es)) none
 
@@ -73,7 +73,11 @@ module _ (setting : Setting) (p : Shared) (depth : ℕ) where
       let n = named vars (keys.powers u.0) in
       let less : term_cmp m n ≡ Less = subst (λ (x : Powers). term_cmp x n ≡ Less) next.powers
       (cmp-named vars rising (keys.powers u.0) (keys.powers key) within.0.places next.is_key.places ∙ next.before) in
-      (some (unsigned_abs e.coefficient) is.nonzero, ((less, IsBefore_trans term_cmp coefficients term_order coefficients_add m n (keyed_terms_under vars keys us) less order.1), order))
+      (
+        some (unsigned_abs e.coefficient) is.nonzero,
+        (less, IsBefore_trans term_cmp coefficients term_order coefficients_add m n (keyed_terms_under vars keys us) less order.1),
+        order,
+      )
 
   module _ (es : List Pending) (i : ℕ) (e : Pending) (within : i < length es) (is : e ≡ get_or es i e) (old new : Keys) (kept : KeepsKeys old new) (pairs : Pairs) (key : ℕ)
       (next : IsNextKey setting p depth new (first_key pairs) e key) (n : ℕ) (n-is : n ≡ i + 1) (keys : AllKeys (IsKeyUnder setting.vars.now old) pairs)

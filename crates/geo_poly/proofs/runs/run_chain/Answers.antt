@@ -73,7 +73,7 @@ pub push_front-requires-clause-live : goal.push_front-requires-clause-live
 push_front-requires-clause-live g c = c.loop-i.invariant.chain.live
 
 pub give_back-requires : goal.give_back-requires
-give_back-requires g c = c.loop-i.invariant.chain.live
+give_back-requires g c = record { live = c.loop-i.invariant.chain.live }
 
 pub loop-i-preserved : goal.loop-i-preserved
 loop-i-preserved g c =
@@ -110,7 +110,7 @@ loop-i-preserved g c =
           subst (λ (n : ℕ). StandsUnder vars new arena n (factored_terms (map (told_pending setting p depth) (drop i es)))) (sym c.push_front.ensures.chain)
           (StandsUnder-list vars new arena chain _ _ c.push_front.ensures.updates.changed
           (run_keys setting p depth es i e below c.index-pending-i.is s new kept ps key next c.loop-i.i rest
-          c.loop-i.invariant.chain.keys c.loop-i.invariant.chain.terms _)
+          c.loop-i.invariant.chain.keys c.loop-i.invariant.chain.terms e.coefficient)
           (run_terms setting p depth es i e below c.index-pending-i.is s new kept ps key next c.loop-i.i rest
           c.loop-i.invariant.chain.keys c.loop-i.invariant.chain.terms _ (to_z-of_z w128 e.coefficient fits)));
     }
