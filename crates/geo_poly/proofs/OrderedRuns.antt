@@ -1,5 +1,5 @@
 -- Terms with no factors left, each put before those that stand in order already.
-use Rattle.std.proofs.Common.{◌≡◌, ℕ, ◌+◌, ◌<◌, ℤ, Option, None, Some, List, [], ◌∷◌, ◌++◌, drop, get_or, length, map, refl, sym, ap, ap₂, subst, ◌∙◌, unsigned_abs, arith}
+use Rattle.std.proofs.Common.{◌≡◌, ℕ, ◌+◌, ◌<◌, ℤ, Option, None, Some, List, [], ◌∷◌, ◌++◌, drop, get_or, length, map, sym, ap, ap₂, subst, ◌∙◌, unsigned_abs, arith}
 use Rattle.std.specs.Prelude.{IfSome, unwrap_or}
 use Rattle.std.specs.List.Sorted.{IsStrictlySortedBy}
 use Rattle.std.specs.declared.cmp.Ordering.TheVariants.{Less}
@@ -44,7 +44,8 @@ first_kept old new None kept h = tt
 first_kept old new (Some k) kept h = omega (arith, h, kept.longer)
 
 -- that of a pair put before the others
-pub first_pushed : (arena : Chains) (new chain key : ℕ) (z : ℤ) (pairs : Pairs) → new ≡ chain → list_of arena chain ≡ Some ((key, z) ∷ pairs) → Some key ≡ first_key (pairs_of arena new)
+pub first_pushed : (arena : Chains) (new chain key : ℕ) (z : ℤ) (pairs : Pairs) → new ≡ chain → list_of arena chain ≡ Some ((key, z) ∷ pairs)
+    → Some key ≡ first_key (pairs_of arena new)
 first_pushed arena new chain key z pairs e is = sym (ap (λ (o : Option Pairs). first_key (unwrap_or o [])) (ap (list_of arena) e ∙ is))
 
 module _ (setting : Setting) (p : Shared) (depth : ℕ) where
@@ -72,8 +73,7 @@ module _ (setting : Setting) (p : Shared) (depth : ℕ) where
       let m = others setting.rows.now (told_powers p e.id) in
       let n = named vars (keys.powers u.0) in
       let less : term_cmp m n ≡ Less = subst (λ (x : Powers). term_cmp x n ≡ Less) next.powers
-      (cmp-named vars rising (keys.powers u.0) (keys.powers key) within.0.places next.is_key.places ∙ next.before) in
-      (
+      (cmp-named vars rising (keys.powers u.0) (keys.powers key) within.0.places next.is_key.places ∙ next.before) in (
         some (unsigned_abs e.coefficient) is.nonzero,
         (less, IsBefore_trans term_cmp coefficients term_order coefficients_add m n (keyed_terms_under vars keys us) less order.1),
         order,

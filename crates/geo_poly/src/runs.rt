@@ -10,7 +10,6 @@ ghost use Rattle.geo_poly.specs.Inner.Moved.{AreMoved};
 ghost use Rattle.geo_poly.specs.Inner.ReplacedExponents.{IsReplacedInReach};
 ghost use Rattle.geo_poly.specs.Inner.Runs.{IsNextKey};
 ghost use Rattle.geo_poly.specs.Inner.Settings.{IsSetUnder};
-ghost use Rattle.geo_poly.specs.Keys.{Keys};
 ghost use Rattle.geo_poly.specs.Polynomials.{polynomial_of};
 ghost use Rattle.geo_poly.specs.Shared.{told};
 

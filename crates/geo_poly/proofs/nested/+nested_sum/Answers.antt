@@ -1,4 +1,4 @@
-use Rattle.std.proofs.Common.{◌≡◌, ℕ, ◌+◌, ◌<◌, ℤ, Option, List, [], ◌∷◌, ap, length, length-drop, map, refl, rules, sym, ◌∙◌, subst, take, arith}
+use Rattle.std.proofs.Common.{◌≡◌, ℕ, ◌+◌, ◌<◌, ℤ, Option, List, [], ◌∷◌, ap, length, length-drop, map, refl, sym, subst, take, arith}
 use Rattle.std.specs.Prelude.{All, IfNone, IfSome}
 use Rattle.std.proofs.lemmas.List.{length-map, length-take-le}
 use Rattle.std.proofs.lemmas.List.Elements.{All-drop, All-take}
@@ -15,7 +15,8 @@ use Rattle.geo_poly.proofs.ChainSwaps.{AddsChain-swaps, IsSetUnder-kept}
 use Rattle.geo_poly.proofs.KeysKept.{KeepsKeys-trans}
 use Rattle.geo_poly.proofs.InReach.{IsReplacedInReach-kept}
 use Rattle.geo_poly.specs.Shared.{told}
-use Rattle.geo_poly.proofs.JoinedParts.{AddsChain-same, SameChains-trans, alone, joined_adds, joined_degree, joined_made, joined_monomials, joined_norm, joined_order, joined_products, joined_reach, joined_stands}
+use Rattle.geo_poly.proofs.JoinedParts.{AddsChain-same, SameChains-trans, alone}
+use Rattle.geo_poly.proofs.JoinedParts.{joined_adds, joined_degree, joined_made, joined_monomials, joined_norm, joined_order, joined_products, joined_reach, joined_stands}
 use Rattle.geo_poly.proofs.JoinedParts.{lone_degree, lone_made, lone_monomials, lone_norm, lone_order, lone_pending, lone_products, lone_reach, lone_room}
 use Rattle.geo_poly.proofs.Moved.{AreMoved-kept}
 use Rattle.geo_poly.proofs.NestedSums.{all_deeper, back_norm, deeper_norm, front_norm, parts_fit, parts_products, parts_sum}
@@ -58,8 +59,8 @@ parts_sum-nested_sum-requires g t c =
       ),
     )
 
-pub parts_sum-nested_sum-requires-in_default : goal.parts_sum-nested_sum-requires-in_default
-parts_sum-nested_sum-requires-in_default g t c =
+pub parts_sum-nested_sum-requires-2 : goal.parts_sum-nested_sum-requires-2
+parts_sum-nested_sum-requires-2 g t c =
     let setting = c.args.setting.now in
     let p = c.args.p.now in
     let es = c.args.pending.now in
@@ -98,67 +99,87 @@ parts_sum-nested_sum-requires-in_default g t c =
 
 pub parts_sum-summed-requires-clause-left_keys : goal.parts_sum-summed-requires-clause-left_keys
 parts_sum-summed-requires-clause-left_keys g t c =
+    let s1 = g.K.MonomialKeys.keys c.nested_sum.new.keys in
+    let s2 = g.K.MonomialKeys.keys c.nested_sum-2.new.keys in
     let setting = c.args.setting.now in
-    (first_still setting.vars.now (g.K.MonomialKeys.keys c.nested_sum.new.keys) (g.K.MonomialKeys.keys c.nested_sum-in_default.new.keys) c.in-Ok.ensures.kept c.nested_sum.new.arena c.nested_sum-in_default.new.arena
+    (first_still setting.vars.now s1 s2 c.in-Ok.ensures.kept
+    c.nested_sum.new.arena c.nested_sum-2.new.arena
     c.in_ok-sum.sum c.in-Ok.rest _ _ c.in_ok-sum.ensures.chain c.in-Ok.ensures.adds c.in-Ok.ensures.chain).keys
 
 pub parts_sum-summed-requires-clause-left_order : goal.parts_sum-summed-requires-clause-left_order
 parts_sum-summed-requires-clause-left_order g t c =
+    let s1 = g.K.MonomialKeys.keys c.nested_sum.new.keys in
+    let s2 = g.K.MonomialKeys.keys c.nested_sum-2.new.keys in
     let setting = c.args.setting.now in
     let p = c.args.p.now in
     let es = c.args.pending.now in
     let at = c.split_place.result in
     let front = c.split_at.result.0.now in
-    first_order setting.vars.now (g.K.MonomialKeys.keys c.nested_sum.new.keys) (g.K.MonomialKeys.keys c.nested_sum-in_default.new.keys) c.in-Ok.ensures.kept c.nested_sum.new.arena c.nested_sum-in_default.new.arena
+    first_order setting.vars.now s1 s2 c.in-Ok.ensures.kept
+    c.nested_sum.new.arena c.nested_sum-2.new.arena
     c.in_ok-sum.sum c.in-Ok.rest _ _ c.in_ok-sum.ensures.chain c.in-Ok.ensures.adds c.in-Ok.ensures.chain
     (IsCanonical-polynomial_of (factored_terms (map (told_pending setting p c.args.depth) front)))
 
 pub parts_sum-summed-requires-clause-right_order : goal.parts_sum-summed-requires-clause-right_order
 parts_sum-summed-requires-clause-right_order g t c =
+    let s1 = g.K.MonomialKeys.keys c.nested_sum.new.keys in
+    let s2 = g.K.MonomialKeys.keys c.nested_sum-2.new.keys in
     let setting = c.args.setting.now in
     let back = c.split_at.result.1.now in
-    second_order setting.vars.now (g.K.MonomialKeys.keys c.nested_sum.new.keys) (g.K.MonomialKeys.keys c.nested_sum-in_default.new.keys) c.in-Ok.ensures.kept c.nested_sum.new.arena c.nested_sum-in_default.new.arena
+    second_order setting.vars.now s1 s2 c.in-Ok.ensures.kept
+    c.nested_sum.new.arena c.nested_sum-2.new.arena
     c.in_ok-sum.sum c.in-Ok.rest _ _ c.in_ok-sum.ensures.chain c.in-Ok.ensures.adds c.in-Ok.ensures.chain
     (IsCanonical-polynomial_of (factored_terms (map (told_pending setting c.args.p.now c.args.depth) back)))
 
 pub parts_sum-summed-requires-clause-fits : goal.parts_sum-summed-requires-clause-fits
 parts_sum-summed-requires-clause-fits g t c =
+    let s1 = g.K.MonomialKeys.keys c.nested_sum.new.keys in
+    let s2 = g.K.MonomialKeys.keys c.nested_sum-2.new.keys in
     let setting = c.args.setting.now in
     let p = c.args.p.now in
     let es = c.args.pending.now in
     let at = c.split_place.result in
     let front = c.split_at.result.0.now in
     let back = c.split_at.result.1.now in
-    norms_fit setting.vars.now (g.K.MonomialKeys.keys c.nested_sum.new.keys) (g.K.MonomialKeys.keys c.nested_sum-in_default.new.keys) c.in-Ok.ensures.kept c.nested_sum.new.arena c.nested_sum-in_default.new.arena
+    norms_fit setting.vars.now s1 s2 c.in-Ok.ensures.kept
+    c.nested_sum.new.arena c.nested_sum-2.new.arena
     c.in_ok-sum.sum c.in-Ok.rest _ _ c.in_ok-sum.ensures.chain c.in-Ok.ensures.adds c.in-Ok.ensures.chain
     (parts_fit setting (g.K.MonomialKeys.keys c.args.keys.now) c.requires.set p c.args.depth es at front back c.split_at.ensures.front c.split_at.ensures.back c.requires.norm)
 
 pub parts_sum-returns-in-Ok-clause-chain : goal.parts_sum-returns-in-Ok-clause-chain
 parts_sum-returns-in-Ok-clause-chain g t c =
+    let s1 = g.K.MonomialKeys.keys c.nested_sum.new.keys in
+    let s2 = g.K.MonomialKeys.keys c.nested_sum-2.new.keys in
     let setting = c.args.setting.now in
     let p = c.args.p.now in
     let es = c.args.pending.now in
     let at = c.split_place.result in
     let front = c.split_at.result.0.now in
     let back = c.split_at.result.1.now in
-    joined_stands setting.vars.now (g.K.MonomialKeys.keys c.nested_sum.new.keys) (g.K.MonomialKeys.keys c.nested_sum-in_default.new.keys) c.in-Ok.ensures.kept c.args.arena.now c.nested_sum.new.arena c.nested_sum-in_default.new.arena c.summed.new.arena
+    joined_stands setting.vars.now s1 s2 c.in-Ok.ensures.kept
+    c.args.arena.now c.nested_sum.new.arena c.nested_sum-2.new.arena c.summed.new.arena
     c.in_ok-sum.sum c.in-Ok.rest c.summed.result _ _ (polynomial_of (factored_terms (map (told_pending setting p c.args.depth) es)))
     c.in_ok-sum.ensures.adds c.in-Ok.ensures.adds c.in_ok-sum.ensures.chain c.in-Ok.ensures.chain c.summed.ensures.chain c.summed.ensures.sum
     (parts_sum setting (g.K.MonomialKeys.keys c.args.keys.now) c.requires.set p c.args.depth es at front back c.split_at.ensures.front c.split_at.ensures.back)
 
 pub parts_sum-returns-in-Ok-clause-adds : goal.parts_sum-returns-in-Ok-clause-adds
 parts_sum-returns-in-Ok-clause-adds g t c =
+    let s1 = g.K.MonomialKeys.keys c.nested_sum.new.keys in
+    let s2 = g.K.MonomialKeys.keys c.nested_sum-2.new.keys in
     let setting = c.args.setting.now in
     let p = c.args.p.now in
     let es = c.args.pending.now in
-    joined_adds setting.vars.now (g.K.MonomialKeys.keys c.nested_sum.new.keys) (g.K.MonomialKeys.keys c.nested_sum-in_default.new.keys) c.in-Ok.ensures.kept c.args.arena.now c.nested_sum.new.arena c.nested_sum-in_default.new.arena c.summed.new.arena
+    joined_adds setting.vars.now s1 s2 c.in-Ok.ensures.kept
+    c.args.arena.now c.nested_sum.new.arena c.nested_sum-2.new.arena c.summed.new.arena
     c.in_ok-sum.sum c.in-Ok.rest c.summed.result _ _ (polynomial_of (factored_terms (map (told_pending setting p c.args.depth) es)))
     c.in_ok-sum.ensures.adds c.in-Ok.ensures.adds c.in_ok-sum.ensures.chain c.in-Ok.ensures.chain c.summed.ensures.chain _ c.summed.ensures.merges
 
 pub parts_sum-returns-in-Ok-clause-kept : goal.parts_sum-returns-in-Ok-clause-kept
 parts_sum-returns-in-Ok-clause-kept g t c =
-    KeepsKeys-trans (g.K.MonomialKeys.keys c.args.keys.now) (g.K.MonomialKeys.keys c.nested_sum.new.keys)
-    (g.K.MonomialKeys.keys c.nested_sum-in_default.new.keys) c.in_ok-sum.ensures.kept c.in-Ok.ensures.kept
+    let s1 = g.K.MonomialKeys.keys c.nested_sum.new.keys in
+    let s2 = g.K.MonomialKeys.keys c.nested_sum-2.new.keys in
+    KeepsKeys-trans (g.K.MonomialKeys.keys c.args.keys.now) s1
+    s2 c.in_ok-sum.ensures.kept c.in-Ok.ensures.kept
 
 pub parts_sum-returns-in-Ok-clause-ticks : goal.parts_sum-returns-in-Ok-clause-ticks
 parts_sum-returns-in-Ok-clause-ticks g t c =
@@ -302,9 +323,13 @@ nested_sum-times_factors-requires-in_default-clause-in_order g t c =
     let es = c.args.pending.now in
     let first = c.factors_from-first.result.now in
     let n = c.shared_factors-shared.result in
-    joined_order setting (g.K.MonomialKeys.keys c.args.keys.now) c.requires.set p c.args.depth n first es c.shared_factors-shared.ensures.shared c.requires.pending
+    let s = g.K.MonomialKeys.keys c.group_sum.new.keys in
+    let made = c.in_ok-whole-in_default in
+    let base = keyed_terms_under setting.vars.now s (pairs_of c.group_sum.new.arena made.whole) in
+    joined_order setting (g.K.MonomialKeys.keys c.args.keys.now) c.requires.set p c.args.depth n first es c.shared_factors-shared.ensures.shared
+    c.requires.pending
     c.requires.norm (omega arith) c.front_of-factors.result.now c.front_of-factors.ensures
-    (keyed_terms_under setting.vars.now (g.K.MonomialKeys.keys c.group_sum.new.keys) (pairs_of c.group_sum.new.arena c.in_ok-whole-in_default.whole)) c.in_ok-whole-in_default.ensures.chain.terms
+    base made.ensures.chain.terms
 
 pub nested_sum-times_factors-requires-in_default-clause-monomials : goal.nested_sum-times_factors-requires-in_default-clause-monomials
 nested_sum-times_factors-requires-in_default-clause-monomials g t c =
@@ -313,9 +338,13 @@ nested_sum-times_factors-requires-in_default-clause-monomials g t c =
     let es = c.args.pending.now in
     let first = c.factors_from-first.result.now in
     let n = c.shared_factors-shared.result in
-    joined_monomials setting (g.K.MonomialKeys.keys c.args.keys.now) c.requires.set p c.args.depth n first es c.shared_factors-shared.ensures.shared c.requires.pending
+    let s = g.K.MonomialKeys.keys c.group_sum.new.keys in
+    let made = c.in_ok-whole-in_default in
+    let base = keyed_terms_under setting.vars.now s (pairs_of c.group_sum.new.arena made.whole) in
+    joined_monomials setting (g.K.MonomialKeys.keys c.args.keys.now) c.requires.set p c.args.depth n first es c.shared_factors-shared.ensures.shared
+    c.requires.pending
     c.requires.norm (omega arith) c.front_of-factors.result.now c.front_of-factors.ensures
-    (keyed_terms_under setting.vars.now (g.K.MonomialKeys.keys c.group_sum.new.keys) (pairs_of c.group_sum.new.arena c.in_ok-whole-in_default.whole)) c.in_ok-whole-in_default.ensures.chain.terms
+    base made.ensures.chain.terms
 
 pub nested_sum-times_factors-requires-in_default-clause-norm : goal.nested_sum-times_factors-requires-in_default-clause-norm
 nested_sum-times_factors-requires-in_default-clause-norm g t c =
@@ -324,9 +353,13 @@ nested_sum-times_factors-requires-in_default-clause-norm g t c =
     let es = c.args.pending.now in
     let first = c.factors_from-first.result.now in
     let n = c.shared_factors-shared.result in
-    joined_norm setting (g.K.MonomialKeys.keys c.args.keys.now) c.requires.set p c.args.depth n first es c.shared_factors-shared.ensures.shared c.requires.pending
+    let s = g.K.MonomialKeys.keys c.group_sum.new.keys in
+    let made = c.in_ok-whole-in_default in
+    let base = keyed_terms_under setting.vars.now s (pairs_of c.group_sum.new.arena made.whole) in
+    joined_norm setting (g.K.MonomialKeys.keys c.args.keys.now) c.requires.set p c.args.depth n first es c.shared_factors-shared.ensures.shared
+    c.requires.pending
     c.requires.norm (omega arith) c.front_of-factors.result.now c.front_of-factors.ensures
-    (keyed_terms_under setting.vars.now (g.K.MonomialKeys.keys c.group_sum.new.keys) (pairs_of c.group_sum.new.arena c.in_ok-whole-in_default.whole)) c.in_ok-whole-in_default.ensures.chain.terms
+    base made.ensures.chain.terms
 
 pub nested_sum-times_factors-requires-in_default-clause-degree : goal.nested_sum-times_factors-requires-in_default-clause-degree
 nested_sum-times_factors-requires-in_default-clause-degree g t c =
@@ -335,9 +368,13 @@ nested_sum-times_factors-requires-in_default-clause-degree g t c =
     let es = c.args.pending.now in
     let first = c.factors_from-first.result.now in
     let n = c.shared_factors-shared.result in
-    joined_degree setting (g.K.MonomialKeys.keys c.args.keys.now) c.requires.set p c.args.depth n first es c.shared_factors-shared.ensures.shared c.requires.pending
+    let s = g.K.MonomialKeys.keys c.group_sum.new.keys in
+    let made = c.in_ok-whole-in_default in
+    let base = keyed_terms_under setting.vars.now s (pairs_of c.group_sum.new.arena made.whole) in
+    joined_degree setting (g.K.MonomialKeys.keys c.args.keys.now) c.requires.set p c.args.depth n first es c.shared_factors-shared.ensures.shared
+    c.requires.pending
     c.requires.norm (omega arith) c.front_of-factors.result.now c.front_of-factors.ensures
-    (keyed_terms_under setting.vars.now (g.K.MonomialKeys.keys c.group_sum.new.keys) (pairs_of c.group_sum.new.arena c.in_ok-whole-in_default.whole)) c.in_ok-whole-in_default.ensures.chain.terms
+    base made.ensures.chain.terms
 
 pub nested_sum-times_factors-requires-in_default-clause-reach : goal.nested_sum-times_factors-requires-in_default-clause-reach
 nested_sum-times_factors-requires-in_default-clause-reach g t c =
@@ -346,9 +383,13 @@ nested_sum-times_factors-requires-in_default-clause-reach g t c =
     let es = c.args.pending.now in
     let first = c.factors_from-first.result.now in
     let n = c.shared_factors-shared.result in
-    joined_reach setting (g.K.MonomialKeys.keys c.args.keys.now) c.requires.set p c.args.depth n first es c.shared_factors-shared.ensures.shared c.requires.pending
+    let s = g.K.MonomialKeys.keys c.group_sum.new.keys in
+    let made = c.in_ok-whole-in_default in
+    let base = keyed_terms_under setting.vars.now s (pairs_of c.group_sum.new.arena made.whole) in
+    joined_reach setting (g.K.MonomialKeys.keys c.args.keys.now) c.requires.set p c.args.depth n first es c.shared_factors-shared.ensures.shared
+    c.requires.pending
     c.requires.norm (omega arith) c.front_of-factors.result.now c.front_of-factors.ensures
-    (keyed_terms_under setting.vars.now (g.K.MonomialKeys.keys c.group_sum.new.keys) (pairs_of c.group_sum.new.arena c.in_ok-whole-in_default.whole)) c.in_ok-whole-in_default.ensures.chain.terms
+    base made.ensures.chain.terms
     (g.K.MonomialKeys.keys c.group_sum.new.keys) c.in_ok-whole-in_default.ensures.kept.limits c.requires.reach
 
 pub nested_sum-returns-in_ok-whole-in_default-clause-chain : goal.nested_sum-returns-in_ok-whole-in_default-clause-chain
@@ -358,11 +399,15 @@ nested_sum-returns-in_ok-whole-in_default-clause-chain g t c =
     let es = c.args.pending.now in
     let first = c.factors_from-first.result.now in
     let n = c.shared_factors-shared.result in
+    let s = g.K.MonomialKeys.keys c.group_sum.new.keys in
+    let made = c.in_ok-whole-in_default in
+    let base = keyed_terms_under setting.vars.now s (pairs_of c.group_sum.new.arena made.whole) in
     IfOk-weaker c.times_factors-in_default.result _ _
     (λ v h. subst (λ (q : Summands). StandsUnder setting.vars.now (g.K.MonomialKeys.keys c.times_factors-in_default.new.keys) c.times_factors-in_default.new.arena v q)
-    (joined_made setting (g.K.MonomialKeys.keys c.args.keys.now) c.requires.set p c.args.depth n first es c.shared_factors-shared.ensures.shared c.requires.pending
+    (joined_made setting (g.K.MonomialKeys.keys c.args.keys.now) c.requires.set p c.args.depth n first es c.shared_factors-shared.ensures.shared
+    c.requires.pending
     c.requires.norm (omega arith) c.front_of-factors.result.now c.front_of-factors.ensures
-    (keyed_terms_under setting.vars.now (g.K.MonomialKeys.keys c.group_sum.new.keys) (pairs_of c.group_sum.new.arena c.in_ok-whole-in_default.whole)) c.in_ok-whole-in_default.ensures.chain.terms) h)
+    base made.ensures.chain.terms) h)
     c.times_factors-in_default.ensures.chain
 
 pub nested_sum-returns-in_ok-whole-in_default-clause-adds : goal.nested_sum-returns-in_ok-whole-in_default-clause-adds
@@ -388,11 +433,15 @@ nested_sum-returns-in_ok-whole-in_default-clause-ticks g t c =
     let es = c.args.pending.now in
     let first = c.factors_from-first.result.now in
     let n = c.shared_factors-shared.result in
+    let s = g.K.MonomialKeys.keys c.group_sum.new.keys in
+    let made = c.in_ok-whole-in_default in
+    let base = keyed_terms_under setting.vars.now s (pairs_of c.group_sum.new.arena made.whole) in
     let chain = pairs_of c.group_sum.new.arena c.in_ok-whole-in_default.whole in
     let size = sym (length-map {B = Powers × ℤ} chain (keyed_term_under setting.vars.now (g.K.MonomialKeys.keys c.group_sum.new.keys))) in
-    let whole = joined_products setting (g.K.MonomialKeys.keys c.args.keys.now) c.requires.set p c.args.depth n first es c.shared_factors-shared.ensures.shared c.requires.pending
+    let whole = joined_products setting (g.K.MonomialKeys.keys c.args.keys.now) c.requires.set p c.args.depth n first es c.shared_factors-shared.ensures.shared
+    c.requires.pending
     c.requires.norm (omega arith) c.front_of-factors.result.now c.front_of-factors.ensures
-    (keyed_terms_under setting.vars.now (g.K.MonomialKeys.keys c.group_sum.new.keys) (pairs_of c.group_sum.new.arena c.in_ok-whole-in_default.whole)) c.in_ok-whole-in_default.ensures.chain.terms (length chain) size in
+    base made.ensures.chain.terms (length chain) size in
     omega (arith, c.in_ok-whole-in_default.ensures.ticks, c.times_factors-in_default.ensures.ticks, whole)
 
 pub nested_sum-returns-in_err-whole-in_default-clause-ticks : goal.nested_sum-returns-in_err-whole-in_default-clause-ticks
@@ -402,7 +451,8 @@ nested_sum-returns-in_err-whole-in_default-clause-ticks g t c =
     let es = c.args.pending.now in
     let first = c.factors_from-first.result.now in
     let n = c.shared_factors-shared.result in
-    let whole = joined_products setting (g.K.MonomialKeys.keys c.args.keys.now) c.requires.set p c.args.depth n first es c.shared_factors-shared.ensures.shared c.requires.pending
+    let whole = joined_products setting (g.K.MonomialKeys.keys c.args.keys.now) c.requires.set p c.args.depth n first es c.shared_factors-shared.ensures.shared
+    c.requires.pending
     c.requires.norm (omega arith) (take n first) refl
     (polynomial_of (factored_terms (map (told_pending setting p (c.args.depth + n)) es))) refl _ refl in
     omega (arith, c.in_err-whole-in_default.ensures.ticks, whole)
