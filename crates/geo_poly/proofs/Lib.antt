@@ -69,6 +69,7 @@ pub mod FactoredTerms
 pub mod GoodPieces
 pub mod PieceReach
 pub mod NestedSums
+pub mod OrderedRuns
 pub mod FactorPaths
 pub mod FactorWalks
 pub mod MultipliedIn

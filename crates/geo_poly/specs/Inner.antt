@@ -14,3 +14,4 @@ pub mod ReplacedExponents
 pub mod Words
 pub mod Limits
 pub mod WordSums
+pub mod Runs
