@@ -166,11 +166,11 @@ fn least_exponent(p: &Shared, v: Var) -> u32
     requires parts { AreParts p.now }
     ensures { IsLeastExponent v (told p.now) result }
 {
-    let mut least = exponent_at(p, p.list[0].0, v);
-    let mut i = 0;
-    while i < p.list.len() && least > 0 {
+    let mut i = p.list.len() - 1;
+    let mut least = exponent_at(p, p.list[i].0, v);
+    while i > 0 && least > 0 {
+        i -= 1;
         least = least.min(exponent_at(p, p.list[i].0, v));
-        i += 1;
     }
     least
 }
