@@ -11,4 +11,5 @@ pub mod Factored
 pub mod Accumulated
 pub mod ReplacedExponents
 pub mod Words
+pub mod WordDivisors
 pub mod Limits
