@@ -1,5 +1,6 @@
 -- A word over the word of a power: where the digit of the variable holds as much, it is the word of the quotient.
-use Rattle.std.proofs.Common.{◌≡◌, ℕ, zero, suc, ◌+◌, ◌*◌, ◌/◌, ◌%◌, ◌^◌, ◌<◌, ◌≤◌, cond, inl, inr, List, [], ◌∷◌, ◌++◌, drop, length, refl, sym, ap, subst, ◌∙◌, arith}
+use Rattle.std.proofs.Common.{◌≡◌, ℕ, zero, suc, ◌+◌, ◌*◌, ◌/◌, ◌%◌, ◌^◌, ◌<◌, ◌≤◌, cond, inl, inr, [], ◌∷◌, ◌++◌, drop, length}
+use Rattle.std.proofs.Common.{refl, sym, ap, subst, ◌∙◌, arith}
 use Rattle.std.specs.Ordering.{is_eq, nat_cmp}
 use Rattle.std.specs.Prelude.{sum}
 use Rattle.std.specs.declared.cmp.Ordering.{Ordering}
@@ -17,10 +18,10 @@ use Rattle.mono_store.specs.Words.{Limits, count_from, limit, powers_from, power
 use Rattle.mono_store.proofs.DigitLists.{powers_from-step}
 use Rattle.mono_store.proofs.Numbers.{exponents_add}
 use Rattle.mono_store.proofs.Unfolding.{monomial_of-word}
-use Rattle.mono_store.proofs.WordDigits.{FitsLimits-powers_of_word, FitsLimits-product, IsBefore-powers_from, IsMonomial-powers_of_word, powers_of_word-word, word-powers_of_word, word-product}
+use Rattle.mono_store.proofs.WordDigits.{FitsLimits-powers_of_word, FitsLimits-product, IsBefore-powers_from, IsMonomial-powers_of_word}
+use Rattle.mono_store.proofs.WordDigits.{powers_of_word-word, word-powers_of_word, word-product}
 use Rattle.mono_store.proofs.WordOrder.{count_from-le, count_from-some, count_from-step, in_digit, word-cons}
 use Rattle.geo_poly.specs.declared.shared.Shared.{Shared}
-use Rattle.geo_poly.specs.declared.variables.Var.{Var}
 use Rattle.geo_poly.specs.declared.word_division.WordDivisor.{WordDivisor}
 use Rattle.geo_poly.specs.Inner.WordDivisors.{IsWordDivisor, divisor_powers}
 use Rattle.geo_poly.specs.Monomials.{IsMonomial, product}

@@ -1,6 +1,6 @@
 //! Division of monomials that are words by a power of a variable.
 
-ghost use Rattle.std.specs.Prelude.{◌≡◌, ◌≢◌, ◌+◌, ◌%◌, ◌^◌, ◌<◌, ◌≤◌, IfOk, IfSome, length, unsigned_abs};
+ghost use Rattle.std.specs.Prelude.{◌≡◌, ◌≢◌, ◌+◌, ◌%◌, ◌^◌, ◌<◌, ◌≤◌, IfOk, IfSome, unsigned_abs};
 ghost use Rattle.sparse_lists.specs.SparseLists.{AllKeys};
 ghost use Rattle.mono_store.specs.Words.{count_from};
 ghost use Rattle.geo_poly.specs.Inner.WordDivisors.{IsWordDivisor, divisor_powers};

@@ -1,5 +1,5 @@
 -- Powers that divide words.
-use Rattle.std.specs.Prelude.{◌≡◌, ℕ, ◌+◌, ◌*◌, ◌^◌, ◌<◌, ◌≤◌, List, [], ◌∷◌, length, sum}
+use Rattle.std.specs.Prelude.{◌≡◌, ◌+◌, ◌*◌, ◌^◌, ◌<◌, ◌≤◌, [], ◌∷◌, length, sum}
 use Rattle.mono_store.specs.Words.{count_from}
 use Rattle.geo_poly.specs.declared.shared.Shared.{Shared}
 use Rattle.geo_poly.specs.declared.word_division.WordDivisor.{WordDivisor}

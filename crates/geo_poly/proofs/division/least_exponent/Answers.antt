@@ -1,8 +1,7 @@
-use Rattle.std.proofs.Common.{◌≡◌, ℕ, ◌+◌, ◌-◌, ◌<◌, ◌≤◌, min, All, ℤ, drop, length, ap, sym, subst, ◌∙◌, arith}
+use Rattle.std.proofs.Common.{◌≡◌, ℕ, ◌+◌, ◌-◌, ◌<◌, ◌≤◌, min, All, drop, length, ap, sym, subst, ◌∙◌, arith}
 use Rattle.std.proofs.lemmas.List.{drop_all}
 use Rattle.std.proofs.lemmas.List.Elements.{All-nil}
-use Rattle.geo_poly.specs.Polynomials.{Summands}
-use Rattle.geo_poly.specs.Monomials.{Powers, exponent}
+use Rattle.geo_poly.specs.Monomials.{exponent}
 use Rattle.geo_poly.specs.Shared.{told, told_powers, told_term}
 use Rattle.geo_poly.proofs.Told.{index_at, item, length-terms_of, monomial_at, told-drop, told-is, told-within}
 use Rattle.geo_poly.proofs.Cuts.{at_most_before, more_reached}

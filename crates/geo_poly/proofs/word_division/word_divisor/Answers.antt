@@ -1,4 +1,4 @@
-use Rattle.std.proofs.Common.{◌≡◌, ◌+◌, ◌^◌, ◌<◌, ◌≤◌, length, arith, rules}
+use Rattle.std.proofs.Common.{◌≡◌, ◌^◌, ◌<◌, ◌≤◌, length, arith, rules}
 use Rattle.std.specs.Prelude.{sum}
 use Rattle.mono_store.specs.Words.{word_count}
 use Rattle.geo_poly.proofs.DividedWords.{divisor_is}

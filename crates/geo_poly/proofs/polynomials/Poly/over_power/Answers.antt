@@ -1,11 +1,10 @@
-use Rattle.std.proofs.Common.{◌≡◌, ℤ, [], ◌∷◌, sym, ap, subst, ◌∙◌, to_z, of_z, unsigned_abs}
+use Rattle.std.proofs.Common.{◌≡◌, ℤ, [], ◌∷◌, sym, subst, ◌∙◌, to_z, of_z}
 use Rattle.std.specs.Int.{w128}
 use Rattle.sparse_lists.specs.SparseLists.{AllKeys}
 use Rattle.geo_poly.specs.Monomials.{Powers, IsMonomial}
 use Rattle.geo_poly.specs.Polynomials.{Summands, IsPolynomial, multiples, product_of}
 use Rattle.geo_poly.specs.Shared.{IsIndexOf, terms_of, told}
-use Rattle.geo_poly.proofs.Dividing.{found, passed, product_is, quotient_is}
-use Rattle.geo_poly.proofs.FactorLaws.{multiples-product}
+use Rattle.geo_poly.proofs.Dividing.{found, product_is, quotient_is}
 use Rattle.geo_poly.proofs.polynomials.Poly.over_power.Goals as goal
 
 pub over-requires : goal.over-requires
