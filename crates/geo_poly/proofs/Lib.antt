@@ -60,6 +60,7 @@ pub mod Places
 pub mod IndexSums
 pub mod ChangedParts
 pub mod Dividing
+pub mod DividedWords
 pub mod ZeroFactors
 pub mod TickBounds
 pub mod KnownVariables

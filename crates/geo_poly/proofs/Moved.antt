@@ -47,7 +47,7 @@ known_within (y ∷ ys) zero known = omega arith
 known_within (y ∷ ys) (suc i) known = let rest = known_within ys i known in omega (arith, rest)
 
 -- a monomial in numbered variables is one in the variables
-IsMonomial-named : (vars : List Var) (m : NumberedPowers) → IsStrictlySortedBy var_cmp vars → AllPlaces (length vars) m → IsNumberedMonomial m → IsMonomial (named vars m)
+pub IsMonomial-named : (vars : List Var) (m : NumberedPowers) → IsStrictlySortedBy var_cmp vars → AllPlaces (length vars) m → IsNumberedMonomial m → IsMonomial (named vars m)
 IsMonomial-named vars m rising places h = record {
   in_order =
       subst (IsCanonical var_cmp exponents)

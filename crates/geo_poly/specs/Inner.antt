@@ -12,6 +12,7 @@ pub mod Factored
 pub mod Accumulated
 pub mod ReplacedExponents
 pub mod Words
+pub mod WordDivisors
 pub mod Limits
 pub mod WordSums
 pub mod Runs

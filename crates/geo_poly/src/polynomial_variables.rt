@@ -82,7 +82,7 @@ fn numbers_of_words(alloc: Global, p: &Shared) -> Result<Vec<bool>, NoMemory>
 
 /// What 1 counts in the digit of a variable, and where it has no room, what it counts in the digit
 /// before.
-fn unit_below(digits: &Digits, number: u64, above: u64) -> u64
+pub(crate) fn unit_below(digits: &Digits, number: u64, above: u64) -> u64
     requires { above ≡ count_from digits.now number }
     ensures { result ≡ count_from digits.now (number + 1) }
 {
