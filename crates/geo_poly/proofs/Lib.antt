@@ -88,3 +88,4 @@ pub mod WordSums
 pub mod WordMultiples
 pub mod WordProducts
 pub mod RoleWalks
+pub mod NarrowWords

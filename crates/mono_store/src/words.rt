@@ -1,7 +1,7 @@
 //! Monomials as words of 64 bits: numbers in a mixed radix, whose digits are the exponents.
 
 ghost use Rattle.std.specs.Prelude.{◌≡◌, ◌⊎◌, ◌↔◌, ◌+◌, ◌-◌, ◌/◌, ◌%◌, ◌^◌, ◌<◌, ◌≤◌, ◌∷◌, [], min};
-ghost use Rattle.std.specs.Prelude.{IfNone, IfOk, IfSome, IsTrue, length, sum};
+ghost use Rattle.std.specs.Prelude.{IfNone, IfOk, IfSome, IsTrue, filter, length, ltb, map, sum};
 ghost use Rattle.mono_store.specs.Monomials.{ComesFirst};
 ghost use Rattle.mono_store.specs.Words.{count_from, digits_of, limit, powers_of_word};
 ghost use Rattle.mono_store.specs.Words.{word, word_count};
@@ -111,6 +111,26 @@ impl Digits {
             digits: Vec::from_slice(alloc, self.digits.as_slice())?,
             words: self.words,
             starts: Vec::from_slice(alloc, self.starts.as_slice())?,
+        })
+    }
+
+    /// Which variables have digits with room for an exponent.
+    pub fn with_room(&self, alloc: Global) -> Result<Vec<bool>, NoMemory>
+        ensures { IfOk result (λ known. known.items ≡ map (ltb 0) self.now) }
+    {
+        have_room(alloc, self.digits.as_slice())
+    }
+
+    /// The digits without those that have no room, which are 0 in every word: a word is the same in both.
+    pub fn without_empty(&self, alloc: Global) -> Result<Digits, NoMemory>
+        ensures { IfOk result (λ digits. digits ≡ filter (ltb 0) self.now) }
+    {
+        let digits = digits_with_room(alloc, self.digits.as_slice())?;
+        let starts = starts_of(alloc, digits.as_slice())?;
+        Ok(Digits {
+            digits,
+            words: self.words,
+            starts,
         })
     }
 
@@ -231,6 +251,30 @@ impl Digits {
             rest,
         }
     }
+}
+
+/// Which digits have room for an exponent.
+fn have_room(alloc: Global, digits: &[Digit]) -> Result<Vec<bool>, NoMemory>
+    ensures { IfOk result (λ known. known.items ≡ map (λ d. ltb 0 d.limit) digits.now) }
+{
+    let mut known = Vec::with_capacity(alloc, digits.len())?;
+    for digit in digits {
+        known.push(0 < digit.limit)?;
+    }
+    Ok(known)
+}
+
+/// The digits that have room for an exponent.
+fn digits_with_room(alloc: Global, digits: &[Digit]) -> Result<Vec<Digit>, NoMemory>
+    ensures { IfOk result (λ kept. kept.items ≡ filter (λ d. ltb 0 d.limit) digits.now) }
+{
+    let mut kept = Vec::with_capacity(alloc, digits.len())?;
+    for digit in digits {
+        if 0 < digit.limit {
+            kept.push(*digit)?;
+        }
+    }
+    Ok(kept)
 }
 
 /// How often the unit goes into the word, and what is left. It is mostly once or twice, and then
