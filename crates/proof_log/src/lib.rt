@@ -2,6 +2,7 @@
 //! is read back.
 #![tactic(auto)]
 
+mod bounds;
 mod digits;
 mod errors;
 pub mod laws;
@@ -13,6 +14,7 @@ mod reader;
 mod terms;
 mod writer;
 
+pub use bounds::length_bound;
 pub use errors::LineError;
 pub use line_reader::read_line;
 pub use log::{Line, Verdict};

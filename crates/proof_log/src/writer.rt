@@ -30,7 +30,7 @@ pub fn write_line(alloc: Global, line: &Line) -> Result<Text, NoMemory>
 }
 
 /// Appends a line, without its line feed.
-fn push_line(alloc: Global, out: &mut Vec<u8>, line: &Line) -> Result<(), NoMemory>
+pub(crate) fn push_line(alloc: Global, out: &mut Vec<u8>, line: &Line) -> Result<(), NoMemory>
     ensures { OnOk result (out.new.items ≡ out.old.items ++ line_text line.now) }
 {
     match line {
@@ -315,7 +315,7 @@ fn push_coefficient(alloc: Global, out: &mut Vec<u8>, c: i128) -> Result<(), NoM
 }
 
 /// Appends the number and the powers of a factor.
-fn push_factor(alloc: Global, out: &mut Vec<u8>, factor: &Factor) -> Result<(), NoMemory>
+pub(crate) fn push_factor(alloc: Global, out: &mut Vec<u8>, factor: &Factor) -> Result<(), NoMemory>
     ensures { OnOk result (out.new.items ≡ out.old.items ++ factor_text factor.now) }
 {
     push_integer(alloc, out, factor.coef())?;
