@@ -34,6 +34,7 @@ fn text_length(alloc: Global, line: &Line) -> Result<u64, NoMemory>
 }
 
 /// A bound that takes no walk through the terms, where the line has a polynomial.
+#[tactic(auto, using(crate::proofs::Lengths::start_bound, crate::proofs::Lengths::coords_bound, crate::proofs::Lengths::point_bound, crate::proofs::Lengths::ratio_bound, crate::proofs::Lengths::cut_bound))]
 fn quick_bound(alloc: Global, line: &Line) -> Result<Option<u64>, NoMemory>
     ensures { IfOk result (λ bound. IfSome bound
         (λ n. length (log_text (line.now ∷ [])) ≤ n)) }
@@ -80,7 +81,9 @@ fn polynomial_bound(head: u64, poly: &Poly) -> Option<u64>
     let p = &poly.shared();
     let each = powers_bound(p.vars)?.checked_add(41)?;
     let terms = poly.terms().checked_mul(each)?;
-    terms.checked_add(head)?.checked_add(1)
+    let sum = terms.checked_add(head)?;
+    let bound = sum.checked_add(1)?;
+    Some(bound)
 }
 
 /// A bound for a power of each of the variables.
@@ -95,6 +98,7 @@ fn powers_bound(vars: &[Var]) -> Option<u64>
 }
 
 /// A bound for the name of a variable.
+#[tactic(auto, using(crate::proofs::Lengths::ratio_name, crate::proofs::Lengths::area_name, crate::proofs::Lengths::difference_name))]
 fn name_bound(variable: Var) -> u64
     ensures name { length (variable_name variable) ≤ result }
     ensures small { result ≤ 44 }
@@ -112,6 +116,7 @@ fn name_bound(variable: Var) -> u64
 }
 
 /// A bound for the point that a lemma looks at, where it looks at one.
+#[tactic(auto, using(crate::proofs::Lengths::place_short))]
 fn place_bound(at: Option<PointId>) -> u64
     ensures place { length (place_text at) ≤ result }
     ensures small { result ≤ 14 }
