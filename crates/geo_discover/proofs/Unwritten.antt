@@ -1,11 +1,15 @@
 -- A log that is bounded and not written says what the written one would say.
-use Rattle.std.proofs.Common.{◌≡◌, ◌≢◌, ℕ, suc, ◌+◌, ◌≤◌, inl, inr, Some, List, [], ◌∷◌, ◌++◌, length, refl, ap, ◌∙◌, subst, arith}
+use Rattle.std.proofs.Common.{◌≡◌, ℕ, ◌+◌, ◌≤◌, inl, inr, Some, Ok, Err, List, [], ◌∷◌, ◌++◌, refl, sym, subst, arith}
+use Rattle.std.specs.Prelude.{IfErr, IfOk, IfSome, Result}
 use Rattle.geo_logs.specs.Ends.{stop_line, text_length}
 use Rattle.geo_logs.specs.Moves.{Stop, spent, too_large}
 use Rattle.geo_poly.specs.declared.limits.Which.{Which}
+use Rattle.geo_poly.specs.declared.variables.Var.{Var}
+use Rattle.geo_poly.specs.Polynomials.{Summands}
 use Rattle.geo_terms.specs.Constructions.{Construction}
 use Rattle.proof_log.specs.declared.log.Line.{Line}
 use Rattle.proof_log.specs.declared.log.Verdict.{Verdict}
+use Rattle.proof_log.specs.declared.log.Verdict.TheVariants.{False, Impossible, Proved}
 use Rattle.proof_log.specs.Lines.{log_text}
 use Rattle.log_maker.specs.declared.errors.ProveError.{ProveError}
 use Rattle.log_maker.specs.declared.errors.ProveError.TheVariants as stopped
@@ -13,12 +17,12 @@ use Rattle.log_maker.specs.declared.frame.Frame.TheVariants.{Full}
 use Rattle.log_maker.specs.declared.size.Size.{Size}
 use Rattle.log_maker.specs.declared.size.Size.TheVariants.{Written, Counted, Bounded}
 use Rattle.log_maker.specs.Halting.{Finishes, Halts, IsStopped}
-use Rattle.log_maker.specs.Parts.{CanWrite, Part}
+use Rattle.log_maker.specs.Parts.{Part}
 use Rattle.log_maker.specs.Sizes.{Fits, HoldsText, IsSizeAfter, IsTakable, bytes_of, with_text}
 use Rattle.log_maker.specs.Written.{State}
 use Rattle.geo_discover.specs.declared.examining.Judgement.{Judgement}
 use Rattle.geo_discover.specs.declared.examining.Judgement.TheVariants as judged
-use Rattle.geo_discover.specs.Inner.Searching.{judgement_by}
+use Rattle.geo_discover.specs.Inner.Searching.{judgement_by, unwritten_judgement}
 use Rattle.geo_discover.specs.Inner.Sharing.{IsSaid}
 
 -- each line may be taken
@@ -130,3 +134,20 @@ module _ (c : Construction) (part : Part) (s t : State) (z : Size) (held : List 
       stop_there (too_large which) n h,
     );
   }
+
+  -- so what such a log says is what the written one says
+  pub unwritten_said : (r : Result Verdict ProveError) → IfOk r (λ v. (rest : ℕ) × Finishes part s t v rest) → IfErr r (Halts Full c part s t)
+      → Fits t.size → IfSome (unwritten_judgement r) (IsSaid c part before)
+  unwritten_said (Ok Proved) h g fits = tt
+  unwritten_said (Ok (False n)) h g fits = unwritten_verdict (False n) h.0 judged.Fails fits h.1 (λ log. refl)
+  unwritten_said (Ok (Impossible k)) h g fits = tt
+  unwritten_said (Err (stopped.Spent n)) h g fits = unwritten_spent n g
+  unwritten_said (Err (stopped.TooLarge n which)) h g fits = unwritten_large n which g
+  unwritten_said (Err stopped.TooLong) h g fits = tt
+  unwritten_said (Err stopped.WriteFault) h g fits = tt
+  unwritten_said (Err stopped.NoMemory) h g fits = tt
+
+-- what holds of the findings holds of equal ones
+pub along : (P : List Var → List Summands → Type 0) (k k' : List Var) (e e' : List Summands) → k' ≡ k → e' ≡ e → P k e → P k' e'
+along P k k' e e' same_k same_e h =
+    subst (λ (x : List Var). P x e') (sym same_k) (subst (λ (y : List Summands). P k y) (sym same_e) h)

@@ -14,6 +14,7 @@ ghost use Rattle.log_maker.specs.Written.{Writes, first_state, state};
 ghost use Rattle.log_maker.specs.declared.frame.Frame.TheVariants.{Full};
 ghost use Rattle.log_maker.specs.declared.size.Size.{Size};
 ghost use Rattle.geo_discover.specs.Inner.Searching.{IsCandidate, IsJudged, judgement_by};
+ghost use Rattle.geo_discover.specs.Inner.Searching.{unwritten_judgement};
 ghost use Rattle.geo_discover.specs.Inner.Sharing.{IsFigureOf, IsSaid, program_lines};
 
 use crate::figure::{Figure, Worked};
@@ -209,7 +210,23 @@ fn judge_unwritten(
     ensures ends { findings.new.ends ≡ findings.old.ends }
 {
     let mut nothing = SureSink::new(alloc);
-    let verdict = work_goal(alloc, steps, goal, left, findings, numbers, &mut log, &mut nothing);
+    let verdict = work_goal(
+        alloc,
+        steps,
+        goal,
+        left,
+        findings,
+        numbers,
+        &mut log,
+        &mut nothing,
+    );
+    unwritten_judgement(verdict)
+}
+
+/// What is said by a log that is not written, where that needs no text.
+fn unwritten_judgement(verdict: Result<Verdict, ProveError>) -> Option<Judgement>
+    ensures { result ≡ unwritten_judgement verdict }
+{
     match verdict {
         Ok(Verdict::False(_)) => Some(Judgement::Fails),
         Err(ProveError::Spent { line }) => Some(Judgement::Open(ProveError::Spent { line })),
