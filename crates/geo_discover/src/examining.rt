@@ -260,7 +260,9 @@ fn judge_written(
     ensures known { findings.new.known ≡ findings.old.known }
     ensures ends { findings.new.ends ≡ findings.old.ends }
 {
-    match work_goal(alloc, steps, goal, left, findings, numbers, &mut log, &mut text) {
+    match work_goal(
+        alloc, steps, goal, left, findings, numbers, &mut log, &mut text,
+    ) {
         Ok(verdict) => Ok(judgement_of(verdict, text)),
         Err(error) => opened(error),
     }

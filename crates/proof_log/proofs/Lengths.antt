@@ -55,7 +55,9 @@ sign_short (negsuc n) = omega arith
 pub ratio_name : (a b e d : PointId) (w x y z : ℕ) → length (decimal a.0) ≤ w → length (decimal b.0) ≤ x → length (decimal e.0) ≤ y
     → length (decimal d.0) ≤ z → length (variable_name (R a b e d)) ≤ 4 + w + x + y + z
 ratio_name a b e d w x y z g h k l =
-    omega (arith, g, h, k, l, length-append (decimal a.0) (46 ∷ (decimal b.0 ++ (46 ∷ (decimal e.0 ++ (46 ∷ decimal d.0))))), length-append (decimal b.0) (46 ∷ (decimal e.0 ++ (46 ∷ decimal d.0))), length-append (decimal e.0) (46 ∷ decimal d.0))
+    let p = length-append (decimal a.0) (46 ∷ (decimal b.0 ++ (46 ∷ (decimal e.0 ++ (46 ∷ decimal d.0))))) in
+    let q = length-append (decimal b.0) (46 ∷ (decimal e.0 ++ (46 ∷ decimal d.0))) in
+    let r = length-append (decimal e.0) (46 ∷ decimal d.0) in omega (arith, g, h, k, l, p, q, r)
 
 three_numbers : (a b e w x y : ℕ) → length (decimal a) ≤ w → length (decimal b) ≤ x → length (decimal e) ≤ y
     → length (numbers_text (a ∷ b ∷ e ∷ [])) ≤ 2 + w + x + y
@@ -234,6 +236,9 @@ ratio_bound v lemma at q w x y o g k l h =
     let name : List ℕ = variable_name v in
     let number : List ℕ = decimal lemma in
     let place : List ℕ = place_text at in
-    bounds_less o _ _
-    (let a = one_line (line.Ratio v lemma at q) in
-    omega (arith, a, g, k, l, length-append (name ++ codes " by " ++ number ++ place ++ codes " : ") (polynomial_text q), length-append (name ++ codes " by " ++ number ++ place) (codes " : "), length-append (name ++ codes " by " ++ number) place, length-append (name ++ codes " by ") number, length-append name (codes " by "))) h
+    let p = length-append (name ++ codes " by " ++ number ++ place ++ codes " : ") (polynomial_text q) in
+    let r = length-append (name ++ codes " by " ++ number ++ place) (codes " : ") in
+    let s = length-append (name ++ codes " by " ++ number) place in
+    let t = length-append (name ++ codes " by ") number in
+    let u = length-append name (codes " by ") in
+    let a = one_line (line.Ratio v lemma at q) in bounds_less o _ _ (omega (arith, a, g, k, l, p, r, s, t, u)) h
