@@ -11,8 +11,8 @@ use Rattle.geo_discover.specs.Inner.Sharing.{IsSaid}
 use Rattle.geo_discover.proofs.Unwritten.{along}
 use Rattle.geo_discover.proofs.examining.judge_goal.Goals as goal
 
-pub judge_unwritten-requires-clause-bounded : goal.judge_unwritten-requires-clause-bounded
-judge_unwritten-requires-clause-bounded c = (bytes_of c.args.log.size, c.bounding.ensures.size)
+pub judge_unwritten-unwritten-requires-clause-bounded : goal.judge_unwritten-unwritten-requires-clause-bounded
+judge_unwritten-unwritten-requires-clause-bounded c = (bytes_of c.args.log.size, c.bounding.ensures.size)
 
 pub returns-in-Some-clause-said : goal.returns-in-Some-clause-said
 returns-in-Some-clause-said c =

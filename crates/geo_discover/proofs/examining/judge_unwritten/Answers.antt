@@ -8,8 +8,8 @@ use Rattle.geo_discover.specs.Inner.Sharing.{IsSaid}
 use Rattle.geo_discover.proofs.Unwritten.{bounded_takes, unwritten_said}
 use Rattle.geo_discover.proofs.examining.judge_unwritten.Goals as goal
 
-pub work_goal-requires-clause-writable : goal.work_goal-requires-clause-writable
-work_goal-requires-clause-writable c = λ lines place line b n fits. bounded_takes c.args.log.size line c.requires.bounded
+pub work_goal-verdict-requires-clause-writable : goal.work_goal-verdict-requires-clause-writable
+work_goal-verdict-requires-clause-writable c = λ lines place line b n fits. bounded_takes c.args.log.size line c.requires.bounded
 
 pub returns-clause-said : goal.returns-clause-said
 returns-clause-said c =
