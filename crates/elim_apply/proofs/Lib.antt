@@ -6,6 +6,8 @@ pub mod CappedRows
 pub mod KeptValues
 pub mod TableCharges
 pub mod LineShares
+pub mod LineParts
+pub mod LineRuns
 pub mod LineSizes
 pub mod NumberedRows
 pub mod LineBounds

@@ -1,4 +1,6 @@
 -- What private functions and proofs speak of: the size of a line, before anything is multiplied out. No public contract cites it.
 pub mod Sketches
+pub mod Parts
 pub mod Shares
+pub mod Runs
 pub mod Sizes

@@ -1,43 +1,40 @@
-//! What becomes of the monomials of a line, power by power.
+//! What becomes of the replaced variables of a monomial, power by power.
 //! A number past the greatest of its type is given as that.
 
-ghost use Rattle.std.specs.Prelude.{◌≡◌, ◌+◌, ◌-◌, ◌*◌, ◌^◌, ◌≤◌, [], IfOk, List, Some, min, slice_get};
-ghost use Rattle.elim_apply.specs.Inner.Shares.{AreShares, IsShareOf, IsWithPower};
-ghost use Rattle.elim_apply.specs.Inner.Sketches.{AreKnown, sketches};
+ghost use Rattle.std.specs.Prelude.{◌≡◌, ◌+◌, ◌-◌, ◌*◌, ◌^◌, ◌≤◌, [], List, Some, min, slice_get};
+ghost use Rattle.elim_apply.specs.Inner.Shares.{IsShareOf, IsWithPower};
+ghost use Rattle.elim_apply.specs.Inner.Sketches.{AreKnown};
 ghost use Rattle.geo_poly.specs.declared.replacement.Row.{Row};
 ghost use Rattle.geo_poly.specs.declared.variables.Var.{Var};
-ghost use Rattle.geo_poly.specs.Monomials.{IsMonomial, Powers};
+ghost use Rattle.geo_poly.specs.Monomials.{degree_of};
 ghost use Rattle.geo_poly.specs.Replace.{AllPowersSmall, row_of};
-ghost use Rattle.geo_poly.specs.Shared.{AreParts, IsIndexOf, told_powers};
+ghost use Rattle.geo_poly.specs.Shared.{IsIndexOf, told_powers};
 
 use crate::capped::{capped_power, capped_product};
-use crate::known_rows::known_rows;
 use crate::numbered::NumberedRow;
 use fraction_poly::RowNumbers;
-use geo_points::NoMemory;
 use geo_poly::{FirstPower, Shared};
 use mono_store::MonoId;
-use std::alloc::Global;
 
-/// What becomes of a monomial, but for the denominators that it lacks.
+/// What becomes of the replaced variables of a monomial, but for the denominators that it lacks.
 #[derive(Clone, Copy)]
 pub(crate) struct Share {
-    /// The sum of the exponents of its replaced variables.
+    /// The sum of their exponents.
     pub exponents: u32,
     /// The denominators that they call for.
     pub denominators: u32,
     /// The product of the counts of their numerators.
     pub count: u128,
-    /// The product of the weights of their numerators, and of the coefficient.
+    /// The product of the weights of their numerators.
     pub weight: u128,
-    /// The degree of the other variables, and the degrees of their numerators.
+    /// The sum of the degrees of their numerators.
     pub degree: u128,
 }
 
 impl Share {
     /// That of the monomial with no variable.
-    fn of_one() -> Share
-        ensures { (rows : List Row) → IsShareOf rows [] 1 result }
+    pub(crate) fn of_one() -> Share
+        ensures { (rows : List Row) → IsShareOf rows [] result }
     {
         Share {
             exponents: 0,
@@ -69,93 +66,17 @@ impl Share {
             weight: capped_product(self.weight, capped_power(numbers.wa, e)),
             degree: self
                 .degree
-                .saturating_add(numbers.ga.saturating_mul(e as u128)),
+                .saturating_add(capped_product(numbers.ga, e as u128)),
         }
     }
-
-    /// With one more variable that stays, to the power `e`.
-    fn keeping(self, e: u32) -> Share
-        ensures exponents { result.exponents ≡ self.exponents }
-        ensures denominators { result.denominators ≡ self.denominators }
-        ensures count { result.count ≡ self.count }
-        ensures weight { result.weight ≡ self.weight }
-        ensures degree { result.degree ≡ min (self.degree + e) (2 ^ 128 - 1) }
-    {
-        Share {
-            degree: self.degree.saturating_add(e as u128),
-            ..self
-        }
-    }
-
-    /// With a coefficient of this absolute value.
-    pub(crate) fn times(self, coefficient: u128) -> Share
-        ensures { (rows : List Row) (m : Powers) → IsShareOf rows m 1 self
-            → IsShareOf rows m coefficient result }
-    {
-        Share {
-            weight: capped_product(self.weight, coefficient),
-            ..self
-        }
-    }
-
-    /// The charge of the term, where the denominator has so many monomials and is wanted `top`
-    /// times.
-    pub(crate) fn charge(self, count: u128, top: u32) -> u128
-        requires { self.denominators ≤ top }
-        ensures { let lacking = top - self.denominators in
-            result ≡ min ((self.exponents + lacking + 1) * (self.count * count ^ lacking))
-            (2 ^ 128 - 1) }
-    {
-        let lacking = top - self.denominators;
-        let factors = self.exponents as u128 + lacking as u128 + 1;
-        let products = capped_product(self.count, capped_power(count, lacking));
-        capped_product(factors, products)
-    }
-
-    /// The weight of the term over a denominator of this weight, which is wanted `top` times.
-    pub(crate) fn weight_over(self, weight: u128, top: u32) -> u128
-        requires { self.denominators ≤ top }
-        ensures { result ≡ min (self.weight * weight ^ (top - self.denominators)) (2 ^ 128 - 1) }
-    {
-        let lacking = top - self.denominators;
-        capped_product(self.weight, capped_power(weight, lacking))
-    }
-
-    /// The degree of the term over a denominator of this degree, which is wanted `top` times.
-    pub(crate) fn degree_over(self, degree: u128, top: u32) -> u128
-        requires { self.denominators ≤ top }
-        ensures { result ≡ min (self.degree + degree * (top - self.denominators)) (2 ^ 128 - 1) }
-    {
-        let lacking = top - self.denominators;
-        self.degree
-            .saturating_add(degree.saturating_mul(lacking as u128))
-    }
-}
-
-/// The shares of the monomials, term by term.
-pub(crate) fn shares_of(
-    alloc: Global,
-    rows: &[NumberedRow],
-    p: &Shared,
-) -> Result<Vec<Share>, NoMemory>
-    requires powers { AllPowersSmall (sketches rows.now) }
-    requires parts { AreParts p.now }
-    ensures { IfOk result (λ shares. AreShares (sketches rows.now) p.now shares.items) }
-{
-    let known = known_rows(alloc, rows, p.vars)?;
-    let mut shares = Vec::with_capacity(alloc, p.list.len())?;
-    for (id, _) in p.list {
-        shares.push(share_of(p, &known, *id))?;
-    }
-    Ok(shares)
 }
 
 /// The share of the monomial at an index.
-fn share_of(p: &Shared, known: &[Option<NumberedRow>], id: MonoId) -> Share
+pub(crate) fn share_of(p: &Shared, known: &[Option<NumberedRow>], id: MonoId) -> Share
     requires index { IsIndexOf p.now id }
-    requires monomial { IsMonomial (told_powers p.now id) }
+    requires degree { degree_of (told_powers p.now id) ≤ 65535 }
     ensures { (rows : List Row) → AllPowersSmall rows → AreKnown rows p.now.vars.now known.now
-        → IsShareOf rows (told_powers p.now id) 1 result }
+        → IsShareOf rows (told_powers p.now id) result }
 {
     let mut share = Share::of_one();
     let mut rest = id;
@@ -173,10 +94,10 @@ fn with_power(share: Share, known: &[Option<NumberedRow>], first: &FirstPower) -
         → IsWithPower (row_of rows first.now.var) first.now.exponent share result }
 {
     let Some(entry) = known.get(first.number as usize) else {
-        return share.keeping(first.exponent);
+        return share;
     };
     match entry {
         Some(row) => share.replacing(&row.numbers, first.exponent),
-        None => share.keeping(first.exponent),
+        None => share,
     }
 }

@@ -1,24 +1,24 @@
 //! The charge, the weight and the degree of the line of a move, before anything is multiplied out.
 //! A number past `2^128 - 1` is given as `2^128 - 1`.
 
-ghost use Rattle.std.specs.Prelude.{◌≡◌, ◌+◌, ◌-◌, ◌*◌, ◌^◌, ◌<◌, IfOk, List, length, min};
+ghost use Rattle.std.specs.Prelude.{◌≡◌, ◌+◌, ◌-◌, ◌*◌, ◌^◌, ◌<◌, IfOk, List, min};
 ghost use Rattle.std.specs.Prelude.{sum_by};
 ghost use Rattle.geo_logs.specs.Moves.{move_charge};
-ghost use Rattle.elim_apply.specs.Inner.Shares.{AreShares, HaveShares, IsShareOf};
+ghost use Rattle.elim_apply.specs.Inner.Runs.{AreRuns};
 ghost use Rattle.elim_apply.specs.Inner.Sketches.{sketch, sketched_denominator, sketches};
 ghost use Rattle.elim_apply.specs.Inner.Sizes.{IsSizeOf};
 ghost use Rattle.geo_poly.specs.declared.replacement.Row.{Row};
-ghost use Rattle.geo_poly.specs.Polynomials.{IsPolynomial, term_at};
+ghost use Rattle.geo_poly.specs.Polynomials.{IsPolynomial, Summands};
 ghost use Rattle.geo_poly.specs.Replace.{AllPowersSmall, most_denominators};
 ghost use Rattle.geo_poly.specs.Replace.{replaced_degree, replaced_weight};
-ghost use Rattle.geo_poly.specs.Shared.{AreParts, told};
 
 use crate::limits::LineSize;
 use crate::numbered::NumberedRow;
-use crate::shares::{Share, shares_of};
+use crate::known_rows::known_rows;
+use crate::runs::{Run, runs_of};
 use fraction_poly::RowNumbers;
 use geo_points::NoMemory;
-use geo_poly::{Poly, Shared};
+use geo_poly::Poly;
 use std::alloc::Global;
 
 /// The size of the line, where the rows replace their variables and the denominator has the numbers
@@ -38,28 +38,29 @@ pub(crate) fn size_of_line(
         (λ size. size.top ≡ most_denominators (sketches rows.now) poly.now) }
 {
     let p = poly.shared();
-    let shares = shares_of(alloc, rows, &p)?;
-    Ok(size_by_terms(rows, den, &p, &shares))
+    let known = known_rows(alloc, rows, p.vars)?;
+    let runs = runs_of(alloc, &known, &p)?;
+    Ok(size_by_runs(rows, den, &runs))
 }
 
-/// The size of the line, term by term.
-fn size_by_terms(rows: &[NumberedRow], den: RowNumbers, p: &Shared, shares: &[Share]) -> LineSize
-    requires parts { AreParts p.now }
-    requires shares { AreShares (sketches rows.now) p.now shares.now }
-    ensures size { IsSizeOf result (move_charge (sketch rows.now den) (told p.now))
-        (replaced_weight (sketches rows.now) (sketched_denominator den) (told p.now))
-        (replaced_degree (sketches rows.now) (sketched_denominator den) (told p.now)) }
-    ensures top { result.top ≡ most_denominators (sketches rows.now) (told p.now) }
+/// The size of the line, run by run.
+fn size_by_runs(rows: &[NumberedRow], den: RowNumbers, runs: &[Run]) -> LineSize
+    requires { (q : Summands) × AreRuns (sketches rows.now) runs.now q }
+    ensures size { (q : Summands) → AreRuns (sketches rows.now) runs.now q
+        → IsSizeOf result (move_charge (sketch rows.now den) q)
+        (replaced_weight (sketches rows.now) (sketched_denominator den) q)
+        (replaced_degree (sketches rows.now) (sketched_denominator den) q) }
+    ensures top { (q : Summands) → AreRuns (sketches rows.now) runs.now q
+        → result.top ≡ most_denominators (sketches rows.now) q }
 {
-    let top = most_denominators(p, shares);
+    let top = most_denominators(runs);
     let mut charge = charge_of_rows(rows, den);
     let mut weight = 0u128;
     let mut degree = 0u128;
-    for i in 0..p.list.len() {
-        let share = share_at(p, shares, i).times(p.list[i].1.unsigned_abs());
-        charge = charge.saturating_add(share.charge(den.kb, top));
-        weight = weight.saturating_add(share.weight_over(den.wb, top));
-        degree = degree.max(share.degree_over(den.gb, top));
+    for run in runs {
+        charge = charge.saturating_add(run.charge(den.kb, top));
+        weight = weight.saturating_add(run.weight_over(den.wb, top));
+        degree = degree.max(run.degree_over(den.gb, top));
     }
     LineSize {
         charge,
@@ -83,25 +84,13 @@ fn charge_of_rows(rows: &[NumberedRow], den: RowNumbers) -> u128
 }
 
 /// The greatest number of denominators that a monomial calls for.
-fn most_denominators(p: &Shared, shares: &[Share]) -> u32
-    requires { length shares.now ≡ length p.now.list.now }
-    ensures { (rows : List Row) → AreShares rows p.now shares.now
-        → result ≡ most_denominators rows (told p.now) }
+fn most_denominators(runs: &[Run]) -> u32
+    ensures { (rows : List Row) (q : Summands) → AreRuns rows runs.now q
+        → result ≡ most_denominators rows q }
 {
     let mut most = 0;
-    for i in 0..p.list.len() {
-        most = most.max(share_at(p, shares, i).denominators);
+    for run in runs {
+        most = most.max(run.share.denominators);
     }
     most
-}
-
-/// The share of the monomial at place i, from 0.
-fn share_at(p: &Shared, shares: &[Share], i: usize) -> Share
-    requires shares { length shares.now ≡ length p.now.list.now }
-    requires place { i < length p.now.list.now }
-    ensures { (rows : List Row) → HaveShares rows p.now shares.now
-        → IsShareOf rows (term_at (told p.now) i).0 1 result }
-{
-    let _ = p;
-    shares[i]
 }

@@ -21,7 +21,7 @@ loop-first-preserved c =
       so_far = λ rows small known.
           one_power rows f.var f.exponent (told_powers p f.rest) m old c.with_power-share.result
           (subst (λ (left : Powers). IsShareBefore rows left m old) c.in-Some.ensures.power (c.loop-first.invariant.so_far rows small known))
-          small c.requires.monomial.degree_fits (c.with_power-share.ensures rows p.vars.now known c.in-Some.ensures.number);
+          small c.requires.degree (c.with_power-share.ensures rows p.vars.now known c.in-Some.ensures.number);
     }
 
 pub returns : goal.returns

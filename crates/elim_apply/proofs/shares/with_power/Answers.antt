@@ -42,11 +42,4 @@ returns-in-None c = λ rows vars are at.
     let stands = get_or_from_slice_get vars f.number f.var f.var at in
     let row = ap (row_of rows) (sym stands) ∙ row_known rows vars known f.number c.in-Some.entry.now f.var are entry
     ∙ ap (option_map sketched) c.in-None.is in
-    subst (λ (o : Option Row). IsWithPower o f.exponent c.args.share c.keeping-in-None.result) (sym row)
-    (record {
-      exponents = c.keeping-in-None.ensures.exponents;
-      denominators-are = c.keeping-in-None.ensures.denominators;
-      count = c.keeping-in-None.ensures.count;
-      weight = c.keeping-in-None.ensures.weight;
-      degree = c.keeping-in-None.ensures.degree;
-    })
+    subst (λ (o : Option Row). IsWithPower o f.exponent c.args.share c.args.share) (sym row) refl
