@@ -4,6 +4,7 @@
 
 mod digits;
 mod errors;
+mod kept_texts;
 pub mod laws;
 mod leads;
 mod line_reader;
