@@ -11,6 +11,7 @@ use std::alloc::Global;
 const MOST_KEPT: u64 = 4096;
 
 /// The texts of the first and last powers of terms that were written before.
+#[derive(Drop)]
 pub(crate) struct KeptTexts {
     /// How many words the last variables have.
     pub last_words: u64,
