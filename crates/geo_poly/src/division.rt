@@ -17,7 +17,6 @@ use crate::reading::{exponent_at, monomial_at};
 use crate::shared::{Indexed, Shared};
 use crate::terms::Term;
 use crate::variables::Var;
-use crate::word_division::word_quotients;
 use frac_laws::gcd;
 use geo_points::NoMemory;
 use std::alloc::Global;
@@ -46,10 +45,6 @@ impl Poly {
     {
         if by.monomial.powers().is_empty() {
             return self.over_number(alloc, by);
-        }
-        let p = self.shared();
-        if let Some(list) = word_quotients(alloc, &p, by)? {
-            return Ok(Some(Poly::over(alloc, &p, list)?));
         }
         let terms = self.to_terms(alloc)?;
         match quotients(alloc, &terms, &by.monomial, by.coefficient)? {
@@ -210,7 +205,7 @@ fn quotients(
 }
 
 /// What times d is c, where there is such a number.
-pub(crate) fn exact_quotient(c: i128, d: i128) -> Option<i128>
+fn exact_quotient(c: i128, d: i128) -> Option<i128>
     requires nonzero { unsigned_abs d ≢ 0 }
     requires fits { unsigned_abs c < 2 ^ 127 }
     ensures some { IfSome result (λ q. d *ℤ q ≡ c) }

@@ -20,8 +20,7 @@ ghost use Rattle.std.specs.List.Sorted.{IsStrictlySortedBy};
 use crate::interning::{indexed, stored_terms};
 use crate::lists::Vars;
 use crate::moving::{find_place, moved};
-use crate::narrowing::{digits_with_room, limits_with_room};
-use crate::polynomial_variables::{mark, marked_variables, variables_at, variables_of_terms};
+use crate::polynomial_variables::{mark, variables_at, variables_of_terms};
 use crate::reading::{count_powers, is_same, norm_at, power_at, terms_at, total_degree_at};
 use crate::roomy_stores::{store_for, store_for_terms};
 use crate::shared::{Indexed, Shared};
@@ -186,44 +185,9 @@ impl Poly {
             monos: &monos,
             list: list.as_slice(),
         };
-        if is_sparse(part.monos, list.len()) {
+        if is_sparse(part.monos, list.len()) || is_stale(alloc, &part)? {
             return Poly::carried(alloc, &part);
         }
-        if is_stale(alloc, &part)? {
-            return Poly::refreshed(alloc, &part);
-        }
-        let stored = Stored { vars, monos, list };
-        Ok(Poly { stored })
-    }
-
-    /// The polynomial of a list, without variables that do not occur.
-    fn refreshed(alloc: Global, p: &Shared) -> Result<Poly, NoMemory>
-        requires { AreParts p.now }
-        ensures { IfOk result (λ q. q ≡ told p.now) }
-    {
-        if p.monos.links() == 0 && p.monos.digits().count() == p.vars.len() {
-            return Poly::narrowed(alloc, p);
-        }
-        Poly::carried(alloc, p)
-    }
-
-    /// The polynomial of a list of words, without the variables for which they have no room: the words
-    /// are the same without these.
-    fn narrowed(alloc: Global, p: &Shared) -> Result<Poly, NoMemory>
-        requires parts { AreParts p.now }
-        requires words { length p.now.monos.now.links ≡ 0 }
-        requires numbers { length p.now.monos.now.limits ≡ length p.now.vars.now }
-        ensures { IfOk result (λ q. q ≡ told p.now) }
-    {
-        let list = Vec::from_slice(alloc, p.list)?;
-        let limits = limits_with_room(alloc, p.monos.digits())?;
-        let Some(words) = Digits::new(alloc, limits.as_slice())? else {
-            return Poly::over(alloc, p, list);
-        };
-        let known = digits_with_room(alloc, p.monos.digits())?;
-        let items = marked_variables(alloc, p.vars, known.as_slice())?;
-        let vars = Vars { items };
-        let monos = Monos::of_words(alloc, words);
         let stored = Stored { vars, monos, list };
         Ok(Poly { stored })
     }

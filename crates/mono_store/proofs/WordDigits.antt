@@ -60,10 +60,10 @@ sum_by-put f v e m none = go (eqb e 0) refl
         omega arith
     go false is = sum_by-cons f (v, e) m
 
-pub drop-rest : (v n : ℕ) (ns limits : Limits) → drop v limits ≡ n ∷ ns → drop (v + 1) limits ≡ ns
+drop-rest : (v n : ℕ) (ns limits : Limits) → drop v limits ≡ n ∷ ns → drop (v + 1) limits ≡ ns
 drop-rest v n ns limits e = sym (drop-drop 1 v limits) ∙ ap (drop 1) e
 
-pub limit-here : (v n : ℕ) (ns limits : Limits) → drop v limits ≡ n ∷ ns → limit limits v ≡ n
+limit-here : (v n : ℕ) (ns limits : Limits) → drop v limits ≡ n ∷ ns → limit limits v ≡ n
 limit-here v n ns limits e =
     ap (limit limits) (let e : v ≡ v + 0 = omega arith in e) ∙ sym (get_or-drop v limits 0 0) ∙ ap (λ (xs : Limits). limit xs 0) e
 
@@ -195,7 +195,7 @@ same_powers limits a b h g e = sym (word-powers_of_word limits a h) ∙ ap (word
 zero_exponents : (v e : ℕ) (m : Powers) → e ≡ 0 → put exponents v e m ≡ m
 zero_exponents v e m none = ap (λ (k : ℕ). put exponents v k m) none
 
-pub powers_from-zero : (v : ℕ) (ns : Limits) → powers_from v ns 0 ≡ []
+powers_from-zero : (v : ℕ) (ns : Limits) → powers_from v ns 0 ≡ []
 powers_from-zero v [] = refl
 powers_from-zero v (n ∷ ns) =
     zero_exponents v (0 / word_count ns % (n + 1)) (powers_from (v + 1) ns 0)

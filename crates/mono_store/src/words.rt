@@ -1,8 +1,8 @@
 //! Monomials as words of 64 bits: numbers in a mixed radix, whose digits are the exponents.
 
 ghost use Rattle.std.specs.Prelude.{◌≡◌, ◌⊎◌, ◌↔◌, ◌+◌, ◌-◌, ◌/◌, ◌%◌, ◌^◌, ◌<◌, ◌≤◌, ◌∷◌, [], min};
-ghost use Rattle.std.specs.Prelude.{IfNone, IfOk, IfSome, IsTrue, length, sum};
-ghost use Rattle.mono_store.specs.Monomials.{ComesFirst, exponent};
+ghost use Rattle.std.specs.Prelude.{IfNone, IfOk, IfSome, IsTrue, filter, length, ltb, map, sum};
+ghost use Rattle.mono_store.specs.Monomials.{ComesFirst};
 ghost use Rattle.mono_store.specs.Words.{count_from, digits_of, limit, powers_of_word};
 ghost use Rattle.mono_store.specs.Words.{word, word_count};
 
@@ -114,6 +114,26 @@ impl Digits {
         })
     }
 
+    /// Which variables have digits with room for an exponent.
+    pub fn with_room(&self, alloc: Global) -> Result<Vec<bool>, NoMemory>
+        ensures { IfOk result (λ known. known.items ≡ map (ltb 0) self.now) }
+    {
+        have_room(alloc, self.digits.as_slice())
+    }
+
+    /// The digits without those that have no room, which are 0 in every word: a word is the same in both.
+    pub fn without_empty(&self, alloc: Global) -> Result<Digits, NoMemory>
+        ensures { IfOk result (λ digits. digits ≡ filter (ltb 0) self.now) }
+    {
+        let digits = digits_with_room(alloc, self.digits.as_slice())?;
+        let starts = starts_of(alloc, digits.as_slice())?;
+        Ok(Digits {
+            digits,
+            words: self.words,
+            starts,
+        })
+    }
+
     /// Whether both are the same digits.
     pub(crate) fn same(&self, other: &Digits) -> bool
         ensures { IsTrue result → self.now ≡ other.now }
@@ -146,23 +166,6 @@ impl Digits {
         ensures words { word_count self.now ≤ 2 ^ 63 }
     {
         self.digits[var as usize]
-    }
-
-    /// The greatest exponent of a variable for which there is room.
-    pub fn limit(&self, var: u64) -> u32
-        requires { var < length self.now }
-        ensures { result ≡ limit self.now var }
-    {
-        self.digit(var).limit
-    }
-
-    /// The exponent of a variable in the monomial of a word.
-    pub fn exponent(&self, word: u64, var: u64) -> u32
-        requires { var < length self.now }
-        ensures { result ≡ exponent var (powers_of_word self.now word) }
-    {
-        let digit = self.digit(var);
-        (word / digit.unit % (digit.limit as u64 + 1)) as u32
     }
 
     /// The word of one power.
@@ -248,6 +251,30 @@ impl Digits {
             rest,
         }
     }
+}
+
+/// Which digits have room for an exponent.
+fn have_room(alloc: Global, digits: &[Digit]) -> Result<Vec<bool>, NoMemory>
+    ensures { IfOk result (λ known. known.items ≡ map (λ d. ltb 0 d.limit) digits.now) }
+{
+    let mut known = Vec::with_capacity(alloc, digits.len())?;
+    for digit in digits {
+        known.push(0 < digit.limit)?;
+    }
+    Ok(known)
+}
+
+/// The digits that have room for an exponent.
+fn digits_with_room(alloc: Global, digits: &[Digit]) -> Result<Vec<Digit>, NoMemory>
+    ensures { IfOk result (λ kept. kept.items ≡ filter (λ d. ltb 0 d.limit) digits.now) }
+{
+    let mut kept = Vec::with_capacity(alloc, digits.len())?;
+    for digit in digits {
+        if 0 < digit.limit {
+            kept.push(*digit)?;
+        }
+    }
+    Ok(kept)
 }
 
 /// How often the unit goes into the word, and what is left. It is mostly once or twice, and then

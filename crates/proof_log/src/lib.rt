@@ -4,7 +4,6 @@
 
 mod digits;
 mod errors;
-mod kept_texts;
 pub mod laws;
 mod leads;
 mod line_reader;

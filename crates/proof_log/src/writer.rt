@@ -11,13 +11,11 @@ ghost use Rattle.proof_log.specs.Lines.{factor_text, line_text, numbers_text, pl
 ghost use Rattle.proof_log.specs.Lines.{polynomial_text, power_text, sign_text, term_text};
 ghost use Rattle.proof_log.specs.Lines.{value_text, variable_name, which_text};
 
-use crate::kept_texts::KeptTexts;
 use crate::log::{Line, Verdict};
 use geo_base::Text;
 use geo_points::{NoMemory, PointId};
 use geo_poly::lists::Values;
 use geo_poly::{Factor, FirstPower, Poly, Shared, Var, Which};
-use mono_store::MonoId;
 use std::alloc::Global;
 
 /// The text of a line, with its line feed.
@@ -254,11 +252,10 @@ fn push_polynomial(alloc: Global, out: &mut Vec<u8>, poly: &Poly) -> Result<(), 
     }
     let p = &poly.shared();
     let names = names_of(alloc, p)?;
-    let mut kept = KeptTexts::new(alloc, p)?;
-    push_term(alloc, out, p, &names, &mut kept, 0)?;
+    push_term(alloc, out, p, &names, 0)?;
     for i in 1..poly.terms() {
         out.push(b' ')?;
-        push_term(alloc, out, p, &names, &mut kept, i)?;
+        push_term(alloc, out, p, &names, i)?;
     }
     Ok(())
 }
@@ -269,7 +266,6 @@ fn push_term(
     out: &mut Vec<u8>,
     p: &Shared,
     names: &[Text],
-    kept: &mut KeptTexts,
     i: u64,
 ) -> Result<(), NoMemory>
     requires parts { AreParts p.now }
@@ -277,27 +273,8 @@ fn push_term(
     requires place { i < length (told p.now) }
     ensures { OnOk result (out.new.items ≡ out.old.items ++ term_text (term_at (told p.now) i)) }
 {
-    let (id, coefficient) = p.term(i);
-    let (first, last) = p.parts(id, kept.last_words);
+    let (mut rest, coefficient) = p.term(i);
     push_coefficient(alloc, out, coefficient)?;
-    kept.push_first(alloc, out, p, names, first)?;
-    kept.push_last(alloc, out, p, names, last)
-}
-
-/// Appends the powers of a monomial.
-pub(crate) fn push_powers(
-    alloc: Global,
-    out: &mut Vec<u8>,
-    p: &Shared,
-    names: &[Text],
-    id: MonoId,
-) -> Result<(), NoMemory>
-    requires index { IsIndexOf p.now id }
-    requires names { AreNames p.now.vars.now names.now }
-    ensures { OnOk result (out.new.items
-        ≡ out.old.items ++ flat_map power_text (told_powers p.now id)) }
-{
-    let mut rest = id;
     while let Some(first) = p.first_power(rest) {
         push_named_power(alloc, out, names, &first)?;
         rest = first.rest;
