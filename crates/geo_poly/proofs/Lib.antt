@@ -81,3 +81,4 @@ pub mod WordChains
 pub mod WordInstance
 pub mod ExponentLimits
 pub mod TermLimits
+pub mod NarrowWords

@@ -203,7 +203,7 @@ pub(crate) fn mark(visited: &mut Vec<bool>, place: usize) -> bool
 }
 
 /// The variables whose numbers are marked.
-fn marked_variables(alloc: Global, vars: &[Var], known: &[bool]) -> Result<Vec<Var>, NoMemory>
+pub(crate) fn marked_variables(alloc: Global, vars: &[Var], known: &[bool]) -> Result<Vec<Var>, NoMemory>
     requires { length known.now ≡ length vars.now }
     ensures { IfOk result (λ found. found.items ≡ marked vars.now known.now) }
 {

@@ -20,7 +20,7 @@ ghost use Rattle.std.specs.List.Sorted.{IsStrictlySortedBy};
 use crate::interning::{indexed, stored_terms};
 use crate::lists::Vars;
 use crate::moving::{find_place, moved};
-use crate::polynomial_variables::{mark, variables_at, variables_of_terms};
+use crate::polynomial_variables::{mark, marked_variables, variables_at, variables_of_terms};
 use crate::reading::{count_powers, is_same, norm_at, power_at, terms_at, total_degree_at};
 use crate::roomy_stores::{store_for, store_for_terms};
 use crate::shared::{Indexed, Shared};
@@ -251,7 +251,7 @@ impl Poly {
         Poly::compact(alloc, vars, monos, list)
     }
 
-    /// The polynomial that a chain of words stands for, whose store has these words. The chain and its
+    /// The polynomial that a chain of words stands for, over a store of these words. The chain and its
     /// arena are spent.
     pub(crate) fn from_words(
         alloc: Global,
@@ -269,7 +269,44 @@ impl Poly {
             (λ p. p ≡ keyed_terms_under vars (word_keys words) (pairs_of arena chain)) }
     {
         let pairs = arena.into_list(alloc, chain)?;
-        let list = indexed(alloc, &pairs)?;
+        Poly::narrowed(alloc, vars, words, &pairs)
+    }
+
+    /// The polynomial of a list of words, without the digits that have no room, and without their
+    /// variables: the words stay as they are.
+    fn narrowed(
+        alloc: Global,
+        vars: Vars,
+        words: Digits,
+        pairs: &[(u64, i128)],
+    ) -> Result<Poly, NoMemory>
+        requires rising { IsStrictlySortedBy var_cmp vars }
+        requires keys { AllKeys (IsKeyUnder vars (word_keys words)) pairs.now }
+        requires polynomial { IsPolynomial (keyed_terms_under vars (word_keys words) pairs.now) }
+        ensures { IfOk result (λ p. p ≡ keyed_terms_under vars (word_keys words) pairs.now) }
+    {
+        if words.count() != vars.as_slice().len() {
+            return Poly::of_words(alloc, vars, words, pairs);
+        }
+        let known = words.with_room(alloc)?;
+        let items = marked_variables(alloc, vars.as_slice(), known.as_slice())?;
+        let kept = words.without_empty(alloc)?;
+        Poly::of_words(alloc, Vars { items }, kept, pairs)
+    }
+
+    /// The polynomial of a list of words.
+    fn of_words(
+        alloc: Global,
+        vars: Vars,
+        words: Digits,
+        pairs: &[(u64, i128)],
+    ) -> Result<Poly, NoMemory>
+        requires rising { IsStrictlySortedBy var_cmp vars }
+        requires keys { AllKeys (IsKeyUnder vars (word_keys words)) pairs.now }
+        requires polynomial { IsPolynomial (keyed_terms_under vars (word_keys words) pairs.now) }
+        ensures { IfOk result (λ p. p ≡ keyed_terms_under vars (word_keys words) pairs.now) }
+    {
+        let list = indexed(alloc, pairs)?;
         let monos = Monos::of_words(alloc, words);
         Poly::compact(alloc, vars, monos, list)
     }

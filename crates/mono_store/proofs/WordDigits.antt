@@ -60,10 +60,10 @@ sum_by-put f v e m none = go (eqb e 0) refl
         omega arith
     go false is = sum_by-cons f (v, e) m
 
-drop-rest : (v n : ℕ) (ns limits : Limits) → drop v limits ≡ n ∷ ns → drop (v + 1) limits ≡ ns
+pub drop-rest : (v n : ℕ) (ns limits : Limits) → drop v limits ≡ n ∷ ns → drop (v + 1) limits ≡ ns
 drop-rest v n ns limits e = sym (drop-drop 1 v limits) ∙ ap (drop 1) e
 
-limit-here : (v n : ℕ) (ns limits : Limits) → drop v limits ≡ n ∷ ns → limit limits v ≡ n
+pub limit-here : (v n : ℕ) (ns limits : Limits) → drop v limits ≡ n ∷ ns → limit limits v ≡ n
 limit-here v n ns limits e =
     ap (limit limits) (let e : v ≡ v + 0 = omega arith in e) ∙ sym (get_or-drop v limits 0 0) ∙ ap (λ (xs : Limits). limit xs 0) e
 

@@ -2,7 +2,7 @@
 
 ghost use Rattle.std.specs.Prelude.{◌≡◌, ◌⊎◌, ◌↔◌, ◌+◌, ◌-◌, ◌/◌, ◌%◌, ◌^◌, ◌<◌, ◌≤◌, ◌∷◌, [], min};
 ghost use Rattle.std.specs.Prelude.{IfNone, IfOk, IfSome, IsTrue, filter, length, ltb, map, sum};
-ghost use Rattle.mono_store.specs.Monomials.{ComesFirst};
+ghost use Rattle.mono_store.specs.Monomials.{ComesFirst, exponent};
 ghost use Rattle.mono_store.specs.Words.{count_from, digits_of, limit, powers_of_word};
 ghost use Rattle.mono_store.specs.Words.{word, word_count};
 
@@ -166,6 +166,15 @@ impl Digits {
         ensures words { word_count self.now ≤ 2 ^ 63 }
     {
         self.digits[var as usize]
+    }
+
+    /// The exponent of a variable in the monomial of a word.
+    pub fn exponent(&self, word: u64, var: u64) -> u32
+        requires { var < length self.now }
+        ensures { result ≡ exponent var (powers_of_word self.now word) }
+    {
+        let digit = self.digit(var);
+        (word / digit.unit % (digit.limit as u64 + 1)) as u32
     }
 
     /// The word of one power.

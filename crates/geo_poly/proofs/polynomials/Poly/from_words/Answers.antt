@@ -1,33 +1,23 @@
-use Rattle.std.proofs.Common.{◌≡◌, [], map, sym, ap, subst, ◌∙◌, length}
+use Rattle.std.proofs.Common.{◌≡◌, ap, subst, sym, ◌∙◌}
 use Rattle.std.specs.Prelude.{IfOk}
-use Rattle.mono_store.specs.Stores.{Store, store_of}
+use Rattle.sparse_lists.specs.SparseLists.{AllKeys}
 use Rattle.poly_arena.specs.Chains.{Pairs, pairs_of}
-use Rattle.geo_poly.specs.Chained.{indexed_pair}
+use Rattle.geo_poly.specs.Chained.{keyed_terms_under}
+use Rattle.geo_poly.specs.Inner.Words.{word_keys}
+use Rattle.geo_poly.specs.Keys.{IsKeyUnder}
 use Rattle.geo_poly.specs.Polynomials.{IsPolynomial, Summands}
-use Rattle.geo_poly.specs.Shared.{IsShared, terms_of}
-use Rattle.geo_poly.proofs.WordStores.{word_indices, word_terms}
 use Rattle.geo_poly.proofs.polynomials.Poly.from_words.Goals as goal
 
-pub compact-requires : goal.compact-requires
-compact-requires c =
-    let vars = c.args.vars in
-    let words = c.args.words in
-    let list = c.in_ok-list.list.items in
-    let pairs = pairs_of c.args.arena c.args.chain in
-    let same = c.in_ok-list.ensures ∙ ap (λ (ps : Pairs). map indexed_pair ps) (c.deref.ensures.value ∙ c.in_ok-pairs.ensures) in
-    subst (λ (store : Store). IsShared vars store list) (sym c.of_words-monos.ensures)
-    (record {
-      rising = c.requires.rising;
-      indices = word_indices vars words list pairs same c.requires.keys;
-      polynomial = subst IsPolynomial (sym (word_terms vars words list pairs same c.requires.keys)) c.requires.polynomial;
-    })
+pub narrowed-requires-clause-keys : goal.narrowed-requires-clause-keys
+narrowed-requires-clause-keys c =
+    subst (AllKeys (IsKeyUnder c.args.vars (word_keys c.args.words))) (sym (c.deref.ensures.value ∙ c.in_ok-pairs.ensures)) c.requires.keys
+
+pub narrowed-requires-clause-polynomial : goal.narrowed-requires-clause-polynomial
+narrowed-requires-clause-polynomial c =
+    subst (λ (ps : Pairs). IsPolynomial (keyed_terms_under c.args.vars (word_keys c.args.words) ps))
+    (sym (c.deref.ensures.value ∙ c.in_ok-pairs.ensures)) c.requires.polynomial
 
 pub returns : goal.returns
 returns c =
-    let vars = c.args.vars in
-    let words = c.args.words in
-    let list = c.in_ok-list.list.items in
-    let pairs = pairs_of c.args.arena c.args.chain in
-    let same = c.in_ok-list.ensures ∙ ap (λ (ps : Pairs). map indexed_pair ps) (c.deref.ensures.value ∙ c.in_ok-pairs.ensures) in
-    let stored = ap (λ (store : Store). terms_of vars store list) c.of_words-monos.ensures in
-    subst (λ (q : Summands). IfOk c.compact.result (λ p. p ≡ q)) (stored ∙ word_terms vars words list pairs same c.requires.keys) c.compact.ensures
+    let terms = ap (λ (ps : Pairs). keyed_terms_under c.args.vars (word_keys c.args.words) ps) (c.deref.ensures.value ∙ c.in_ok-pairs.ensures) in
+    subst (λ (q : Summands). IfOk c.narrowed.result (λ p. p ≡ q)) terms c.narrowed.ensures
