@@ -2,7 +2,7 @@
 
 ghost use Rattle.std.specs.Prelude.{◌≡◌, ◌⊎◌, ◌↔◌, ◌+◌, ◌-◌, ◌/◌, ◌%◌, ◌^◌, ◌<◌, ◌≤◌, ◌∷◌, [], min};
 ghost use Rattle.std.specs.Prelude.{IfNone, IfOk, IfSome, IsTrue, filter, length, ltb, map, sum};
-ghost use Rattle.mono_store.specs.Monomials.{ComesFirst, exponent};
+ghost use Rattle.mono_store.specs.Monomials.{ComesFirst, exponent, product};
 ghost use Rattle.mono_store.specs.Words.{count_from, digits_of, limit, powers_of_word};
 ghost use Rattle.mono_store.specs.Words.{word, word_count};
 
@@ -175,6 +175,35 @@ impl Digits {
     {
         let digit = self.digit(var);
         (word / digit.unit % (digit.limit as u64 + 1)) as u32
+    }
+
+    /// The word that gives another when multiplied by these powers, where their digits suffice.
+    #[tactic(auto, using(crate::proofs::WordQuotients::product_no_powers))]
+    pub fn over(&self, word: u64, powers: &[(u64, u32)]) -> Option<u64>
+        requires { word < word_count self.now }
+        ensures within { IfSome result (λ rest. rest < word_count self.now) }
+        ensures times { IfSome result (λ rest. product powers.now (powers_of_word self.now rest)
+            ≡ powers_of_word self.now word) }
+    {
+        let mut rest = word;
+        for (var, exp) in powers {
+            rest = self.over_power(rest, *var, *exp)?;
+        }
+        Some(rest)
+    }
+
+    /// The word that gives another when multiplied by a power, where its digit suffices.
+    fn over_power(&self, word: u64, var: u64, exp: u32) -> Option<u64>
+        requires { word < word_count self.now }
+        ensures within { IfSome result (λ rest. rest < word_count self.now) }
+        ensures times { IfSome result
+            (λ rest. product ((var, exp) ∷ []) (powers_of_word self.now rest)
+            ≡ powers_of_word self.now word) }
+    {
+        if exp == 0 || var >= self.count() as u64 || self.exponent(word, var) < exp {
+            return None;
+        }
+        Some(word - self.power(var, exp))
     }
 
     /// The word of one power.
