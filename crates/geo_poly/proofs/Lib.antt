@@ -82,3 +82,4 @@ pub mod WordInstance
 pub mod ExponentLimits
 pub mod TermLimits
 pub mod NarrowWords
+pub mod WordDivision

@@ -45,7 +45,7 @@ some_within (y ∷ ys) zero x e = omega arith
 some_within (y ∷ ys) (suc i) x e = let rest = some_within ys i x e in omega (arith, rest)
 
 -- a monomial in numbered variables is one in the variables
-IsMonomial-named : (vars : List Var) (m : NumberedPowers) → IsStrictlySortedBy var_cmp vars → AllPlaces (length vars) m → IsNumberedMonomial m → IsMonomial (named vars m)
+pub IsMonomial-named : (vars : List Var) (m : NumberedPowers) → IsStrictlySortedBy var_cmp vars → AllPlaces (length vars) m → IsNumberedMonomial m → IsMonomial (named vars m)
 IsMonomial-named vars m rising places h = record {
   in_order =
       subst (IsCanonical var_cmp exponents)

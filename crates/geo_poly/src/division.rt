@@ -46,6 +46,22 @@ impl Poly {
         if by.monomial.powers().is_empty() {
             return self.over_number(alloc, by);
         }
+        match self.over_words(alloc, by)? {
+            Some(quotient) => Ok(Some(quotient)),
+            None => self.over_terms(alloc, by),
+        }
+    }
+
+    /// The same for any factor, by terms with monomials of their own.
+    fn over_terms(&self, alloc: Global, by: &Factor) -> Result<Option<Poly>, NoMemory>
+        ensures some { IfOk result (λ o. IfSome o (λ q. product_of (by.now ∷ []) q ≡ self.now)) }
+        ensures polynomial { IfOk result (λ o. IfSome o IsPolynomial) }
+        ensures none { IfOk result (λ o. IfNone o
+            ((q : Summands) → IsPolynomial q → product_of (by.now ∷ []) q ≡ self.now → ⊥)) }
+        ensures multiples { IfOk result (λ o. IfSome o (λ q. multiples by.now q ≡ self.now)) }
+        ensures no_multiples { IfOk result
+            (λ o. IfNone o ((q : Summands) → multiples by.now q ≡ self.now → ⊥)) }
+    {
         let terms = self.to_terms(alloc)?;
         match quotients(alloc, &terms, &by.monomial, by.coefficient)? {
             Some(quotient) => Ok(Some(Poly::from_terms(alloc, &quotient)?)),
@@ -205,7 +221,7 @@ fn quotients(
 }
 
 /// What times d is c, where there is such a number.
-fn exact_quotient(c: i128, d: i128) -> Option<i128>
+pub(crate) fn exact_quotient(c: i128, d: i128) -> Option<i128>
     requires nonzero { unsigned_abs d ≢ 0 }
     requires fits { unsigned_abs c < 2 ^ 127 }
     ensures some { IfSome result (λ q. d *ℤ q ≡ c) }

@@ -4,7 +4,7 @@ use Rattle.geo_poly.specs.Monomials.{Powers, IsMonomial}
 use Rattle.geo_poly.specs.Polynomials.{Summands, IsPolynomial, multiples, product_of}
 use Rattle.geo_poly.proofs.FactorLaws.{multiples-product}
 use Rattle.geo_poly.proofs.Dividing.{found, passed, product_is, quotient_is}
-use Rattle.geo_poly.proofs.polynomials.Poly.divide.Goals as goal
+use Rattle.geo_poly.proofs.polynomials.Poly.over_terms.Goals as goal
 
 pub from_terms-requires : goal.from_terms-requires
 from_terms-requires c =
