@@ -7,7 +7,7 @@ use Rattle.sparse_lists.proofs.Sums.{AllKeys-append}
 use Rattle.mono_store.specs.Monomials.{product as numbered_product}
 use Rattle.mono_store.specs.Words.{Limits, powers_of_word, word_count}
 use Rattle.mono_store.specs.declared.links.MonoId.{MonoId}
-use Rattle.geo_poly.specs.Monomials.{IsMonomial}
+use Rattle.geo_poly.specs.Monomials.{IsMonomial, Powers}
 use Rattle.geo_poly.specs.Polynomials.{Summands, multiples}
 use Rattle.geo_poly.specs.Shared.{IsIndexOf, named, term_of, terms_of, told, told_powers, told_term}
 use Rattle.geo_poly.proofs.Entries.{item_fits, item_small}
@@ -51,7 +51,7 @@ loop-id-preserved c =
     let right = item_fits p i within c.requires.parts.polynomial.norm_fits in
     let number : to_z w128 (of_z w128 c.args.number) *ℤ c.in-Some.quotient ≡ (item c.args.p.now.list.now c.loop-id.id-index).1 =
     c.in-Some.ensures.some ∙ to_z-of_z w128 (item c.args.p.now.list.now c.loop-id.id-index).1 right in
-    let factor = (named p.vars.now powers, to_z w128 (of_z w128 c.args.number)) in
+    let factor : Powers × ℤ = (named p.vars.now powers, to_z w128 (of_z w128 c.args.number)) in
     let behind = map-append (term_of p.vars.now p.monos.now) list ((left, quotient) ∷ []) in
     record {
       so_far = rw (c.in_ok-push.ensures.items, to_z-of_z w128 c.in-Some.quotient fits)
