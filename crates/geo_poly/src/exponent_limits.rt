@@ -56,7 +56,7 @@ pub(crate) fn replacement_limits(
         (λ v. exponent_anywhere v rows.now den.now top (told p.now)) limits.items) }
 {
     let mut limits = no_limits(alloc, vars)?;
-    let own = greatest_exponents(alloc, p)?;
+    let own = known_exponents(alloc, p)?;
     let stay = without_rows(alloc, rows, &own)?;
     add_exponents(&mut limits, vars, &stay, 1);
     add_polynomial(alloc, &mut limits, vars, &den.poly.shared(), top.max(1))?;
@@ -101,6 +101,20 @@ pub(crate) fn no_limits(alloc: Global, vars: &[Var]) -> Result<Vec<u32>, NoMemor
     let mut limits = Vec::new(alloc);
     limits.resize(vars.len(), 0)?;
     Ok(limits)
+}
+
+/// Bounds.
+fn known_exponents(alloc: Global, p: &Shared) -> Result<Vec<(Var, u32)>, NoMemory>
+{
+    if p.monos.links() > 0 || p.monos.digits().count() != p.vars.len() {
+        return greatest_exponents(alloc, p);
+    }
+    let numbered = p.monos.digits().limits(alloc)?;
+    let mut bounds = Vec::with_capacity(alloc, p.vars.len())?;
+    for i in 0..p.vars.len() {
+        bounds.push((p.vars[i], numbered[i]))?;
+    }
+    Ok(bounds)
 }
 
 /// The greatest exponents of a polynomial, each with its variable.

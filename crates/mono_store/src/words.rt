@@ -84,7 +84,11 @@ impl Digits {
             return Ok(None);
         }
         let digits = digits_below(alloc, limits, words)?;
-        let starts = starts_of(alloc, digits.as_slice())?;
+        let starts = if digits.len() <= 8 {
+            Vec::new(alloc)
+        } else {
+            starts_of(alloc, digits.as_slice())?
+        };
         Ok(Some(Digits {
             digits,
             words,
@@ -147,6 +151,15 @@ impl Digits {
         ensures words { word_count self.now ≤ 2 ^ 63 }
     {
         self.digits.len()
+    }
+
+    /// The limits.
+    pub fn limits(&self, alloc: Global) -> Result<Vec<u32>, NoMemory> {
+        let mut limits = Vec::with_capacity(alloc, self.digits.len())?;
+        for digit in &self.digits {
+            limits.push(digit.limit)?;
+        }
+        Ok(limits)
     }
 
     /// How many words there are.
