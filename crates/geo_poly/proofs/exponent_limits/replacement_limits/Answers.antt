@@ -1,8 +1,8 @@
-use Rattle.std.proofs.Common.{List, ℕ, ◌*◌, sym, ap, ap₂, subst, ◌∙◌, arith}
+use Rattle.std.proofs.Common.{List, ℕ, ◌*◌, ap, ap₂, ◌∙◌, arith}
 use Rattle.geo_poly.specs.declared.replacement.Row.{Row}
 use Rattle.geo_poly.specs.declared.variables.Var.{Var}
 use Rattle.geo_poly.specs.Inner.Keyed.{greatest_exponent}
-use Rattle.geo_poly.specs.Inner.Limits.{AreLimits, exponent_anywhere, exponents_of_rows}
+use Rattle.geo_poly.specs.Inner.Limits.{exponent_anywhere, exponents_of_rows}
 use Rattle.geo_poly.specs.Monomials.{Powers, exponent}
 use Rattle.geo_poly.specs.Polynomials.{Summands}
 use Rattle.geo_poly.specs.Replace.{others}

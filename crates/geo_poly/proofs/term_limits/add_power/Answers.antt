@@ -1,10 +1,9 @@
-use Rattle.std.proofs.Common.{List, ℕ, ◌≡◌, ◌+◌, ◌*◌, Some, ap, sym, subst, ◌∙◌, arith}
+use Rattle.std.proofs.Common.{List, ℕ, ◌+◌, ◌*◌, sym, subst, ◌∙◌, arith}
 use Rattle.std.proofs.lemmas.Option.{get_or_from_slice_get, slice_get_within}
 use Rattle.geo_poly.specs.declared.roles.Role.{Role}
 use Rattle.geo_poly.specs.Inner.Keyed.{greatest_exponent}
 use Rattle.geo_poly.specs.Inner.Limits.{AreLimits}
 use Rattle.geo_poly.specs.Inner.Roles.{IsRole}
-use Rattle.geo_poly.specs.Replace.{power_in, row_of}
 use Rattle.geo_poly.proofs.ExponentLimits.{AreLimits-at, AreLimits-less, AreLimits-none, exponent_of}
 use Rattle.geo_poly.proofs.TermLimits.{AreLimits-kept, AreLimits-replaced, AreLimitsOfRows-count, row_at}
 use Rattle.geo_poly.proofs.term_limits.add_power.Goals as goal

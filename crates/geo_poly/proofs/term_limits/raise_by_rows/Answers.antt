@@ -1,4 +1,4 @@
-use Rattle.std.proofs.Common.{List, ◌≡◌, ℕ, max, take, ap, refl, subst, sym, arith, ◌∙◌}
+use Rattle.std.proofs.Common.{List, ℕ, ap, subst, sym, arith, ◌∙◌}
 use Rattle.std.proofs.lemmas.List.{take_all}
 use Rattle.geo_poly.specs.Inner.Keyed.{greatest_exponent, greatest_of_rows}
 use Rattle.geo_poly.specs.Inner.Limits.{AreLimits}

@@ -1,4 +1,4 @@
-use Rattle.std.proofs.Common.{◌≡◌, ◌∙◌, ◌≤◌, drop, take, ap, subst, arith, length}
+use Rattle.std.proofs.Common.{◌∙◌, ◌≤◌, take, ap, subst, arith, length}
 use Rattle.std.proofs.lemmas.List.{take_all}
 use Rattle.geo_poly.specs.Inner.ReplacedExponents.{exponent_bound}
 use Rattle.geo_poly.specs.Polynomials.{Summands}

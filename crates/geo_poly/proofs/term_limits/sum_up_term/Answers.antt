@@ -1,4 +1,4 @@
-use Rattle.std.proofs.Common.{ℕ, ◌+◌, ◌*◌, ap, sym, ◌∙◌, arith}
+use Rattle.std.proofs.Common.{ℕ, ◌+◌, ◌*◌, ap, ◌∙◌, arith}
 use Rattle.geo_poly.specs.Inner.Keyed.{greatest_exponent}
 use Rattle.geo_poly.specs.Monomials.{exponent}
 use Rattle.geo_poly.specs.Replace.{others}
