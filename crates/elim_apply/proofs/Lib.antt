@@ -5,6 +5,8 @@ pub mod MoveRows
 pub mod CappedRows
 pub mod KeptValues
 pub mod TableCharges
+pub mod SmallNumbers
+pub mod SmallShares
 pub mod LineShares
 pub mod LineSizes
 pub mod NumberedRows

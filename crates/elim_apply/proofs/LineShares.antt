@@ -43,7 +43,7 @@ weight_rows-times rows (v ∷ m) k p = go (row_of rows v.0) (λ j. weight_rows-t
         swapped : (a b c : ℕ) → a * b * c ≡ a * c * b
         swapped a b c = omega arith
 
-degree_rows-plus : (rows : List Row) (m : Powers) (d e : ℕ) → degree_rows rows m (d + e) ≡ degree_rows rows m d + e
+pub degree_rows-plus : (rows : List Row) (m : Powers) (d e : ℕ) → degree_rows rows m (d + e) ≡ degree_rows rows m d + e
 degree_rows-plus rows [] d e = refl
 degree_rows-plus rows (v ∷ m) d e = go (row_of rows v.0) (λ j. degree_rows-plus rows m j e)
   where

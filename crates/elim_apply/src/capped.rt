@@ -1,6 +1,6 @@
 //! Products and powers of numbers, up to the greatest one.
 
-ghost use Rattle.std.specs.Prelude.{◌≡◌, ◌*◌, ◌-◌, ◌^◌, min};
+ghost use Rattle.std.specs.Prelude.{◌≡◌, ◌*◌, ◌-◌, ◌^◌, IfSome, min};
 
 /// The greatest number of half as many bits.
 const HALF: u128 = u64::MAX as u128;
@@ -31,4 +31,23 @@ pub(crate) fn capped_power(base: u128, exponent: u32) -> u128
         1 => base,
         _ => base.saturating_pow(exponent),
     }
+}
+
+/// A number times a power, where all are small.
+pub(crate) fn times_power(a: u64, base: u128, exponent: u32) -> Option<u64>
+    ensures { IfSome result (λ n. n ≡ a * base ^ exponent) }
+{
+    let base = small(base)?;
+    match exponent {
+        1 => a.checked_mul(base),
+        2 => a.checked_mul(base)?.checked_mul(base),
+        _ => a.checked_mul(base.checked_pow(exponent)?),
+    }
+}
+
+/// The number in half as many bits, where it fits.
+pub(crate) fn small(n: u128) -> Option<u64>
+    ensures { IfSome result (λ s. s ≡ n) }
+{
+    if n <= HALF { Some(n as u64) } else { None }
 }

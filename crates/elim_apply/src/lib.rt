@@ -15,6 +15,7 @@ mod numbered;
 mod replacing;
 mod shares;
 mod sizes;
+mod small_shares;
 mod starting;
 mod variables;
 

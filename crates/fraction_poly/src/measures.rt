@@ -1,11 +1,11 @@
 //! How large a term's numerator and denominator may be.
 
-ghost use Rattle.std.specs.Prelude.{◌≡◌, ◌+◌, ◌*◌, ◌<◌, ◌↔◌, IfOk, IsTrue, List, Some, length};
-ghost use Rattle.std.specs.Prelude.{slice_get};
+ghost use Rattle.std.specs.Prelude.{◌≡◌, ◌+◌, ◌*◌, ◌<◌, ◌↔◌, IfOk, IfSome, IsTrue, List, Some};
+ghost use Rattle.std.specs.Prelude.{length, slice_get};
 ghost use Rattle.fraction_poly.specs.Measures.{HasRoom, HaveRoom, capped, capped_number};
 ghost use Rattle.fraction_poly.specs.Measures.{numbers_of};
 ghost use Rattle.fraction_poly.specs.Inner.Parts.{AreNumbersOf};
-ghost use Rattle.geo_terms.specs.Stores.{HasChildrenBelow, node_tree, tree_of};
+ghost use Rattle.geo_terms.specs.Stores.{HasChildrenBelow, IsStore, node_tree, tree_of};
 ghost use Rattle.geo_terms.specs.Trees.{Tree};
 
 use crate::cutting::cut_out;
@@ -156,8 +156,48 @@ pub fn measure(alloc: Global, terms: &Terms, id: TermId) -> Result<Numbers, NoMe
     requires { id.0 < length terms.now }
     ensures { IfOk result (λ numbers. numbers ≡ capped (numbers_of (tree_of terms.now id))) }
 {
+    // From here on it is known that parts stand before their nodes.
+    prove!(id.0 < terms.len());
+    if let Some(numbers) = shallow_numbers(terms, id, SHALLOW) {
+        return Ok(numbers);
+    }
     let (cut, place) = cut_out(alloc, terms, id)?;
     Ok(StoreNumbers::new(alloc, &cut)?.numbers(place))
+}
+
+/// Terms that are no deeper are measured as trees, without a list of their nodes. Nothing rests on
+/// it but time.
+const SHALLOW: u32 = 3;
+
+/// The numbers of a term that is no deeper than that.
+fn shallow_numbers(terms: &Terms, id: TermId, depth: u32) -> Option<Numbers>
+    requires stored { id.0 < length terms.now }
+    requires valid { IsStore terms.now }
+    ensures { IfSome result (λ numbers. numbers ≡ capped (numbers_of (tree_of terms.now id))) }
+{
+    if depth == 0 {
+        return None;
+    }
+    match terms.node(id) {
+        Node::Int(n) => Some(Numbers::of_integer(n)),
+        Node::Param(_) | Node::S(..) | Node::P(..) | Node::R(..) => Some(Numbers::of_variable()),
+        Node::Neg(e) => shallow_numbers(terms, e, depth - 1),
+        Node::Add(e, f) | Node::Sub(e, f) => {
+            let left = shallow_numbers(terms, e, depth - 1)?;
+            let right = shallow_numbers(terms, f, depth - 1)?;
+            Some(left.sum(right))
+        }
+        Node::Mul(e, f) => {
+            let left = shallow_numbers(terms, e, depth - 1)?;
+            let right = shallow_numbers(terms, f, depth - 1)?;
+            Some(left.product(right))
+        }
+        Node::Div(e, f) => {
+            let left = shallow_numbers(terms, e, depth - 1)?;
+            let right = shallow_numbers(terms, f, depth - 1)?;
+            Some(left.product(right.turned()))
+        }
+    }
 }
 
 /// The numbers of a node over those of its parts.

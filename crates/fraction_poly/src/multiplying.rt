@@ -1,9 +1,10 @@
 //! The numerator and the denominator of a term.
 
-ghost use Rattle.std.specs.Prelude.{◌≡◌, ◌<◌, IfOk, Some, length, slice_get};
+ghost use Rattle.std.specs.Prelude.{◌≡◌, ◌<◌, IfOk, IfSome, IsTrue, Some, length, slice_get};
 ghost use Rattle.fraction_poly.specs.Measures.{HasRoom};
 ghost use Rattle.fraction_poly.specs.MultipliedOut.{multiplied_out};
-ghost use Rattle.fraction_poly.specs.Inner.Parts.{CanMultiplyOut, DoAllFit, HasParts};
+ghost use Rattle.fraction_poly.specs.Inner.Parts.{CanMultiplyOut, DoAllFit, HasParts, IsPart};
+ghost use Rattle.geo_points.specs.declared.ids.TermId.{TermId};
 ghost use Rattle.geo_terms.specs.Stores.{IsStore, tree_of};
 
 use crate::cutting::cut_out;
@@ -22,8 +23,52 @@ pub fn multiply_out(alloc: Global, terms: &Terms, id: TermId) -> Result<(Poly, P
     requires room { HasRoom (tree_of terms.now id) }
     ensures { IfOk result (λ polys. polys ≡ multiplied_out (tree_of terms.now id)) }
 {
+    // From here on it is known that parts stand before their nodes.
+    prove!(id.0 < terms.len());
+    if let Some(fraction) = small_fraction(alloc, terms, id)? {
+        return Ok(fraction);
+    }
     let (cut, place) = cut_out(alloc, terms, id)?;
     fraction_of(alloc, &cut, place)
+}
+
+/// The fraction of a leaf or of its opposite, and `None` for all other terms.
+fn small_fraction(alloc: Global, terms: &Terms, id: TermId) -> Result<Option<Fraction>, NoMemory>
+    requires stored { id.0 < length terms.now }
+    requires valid { IsStore terms.now }
+    requires fits { CanMultiplyOut (tree_of terms.now id) }
+    ensures { IfOk result (λ o. IfSome o (λ f. f ≡ multiplied_out (tree_of terms.now id))) }
+{
+    match terms.node(id) {
+        Node::Neg(e) => match leaf_fraction(alloc, terms, e)? {
+            Some(leaf) => Ok(Some(negation(alloc, &leaf)?)),
+            None => Ok(None),
+        },
+        _ => leaf_fraction(alloc, terms, id),
+    }
+}
+
+/// The fraction of a leaf, and `None` for a node that has parts.
+fn leaf_fraction(alloc: Global, terms: &Terms, id: TermId) -> Result<Option<Fraction>, NoMemory>
+    requires stored { id.0 < length terms.now }
+    requires valid { IsStore terms.now }
+    requires fits { CanMultiplyOut (tree_of terms.now id) }
+    ensures { IfOk result (λ o. IfSome o (λ f. f ≡ multiplied_out (tree_of terms.now id))) }
+{
+    if !is_leaf(terms.node(id)) {
+        return Ok(None);
+    }
+    Ok(Some(fraction(alloc, terms, &[], id)?))
+}
+
+/// Whether a node has no parts.
+fn is_leaf(node: Node) -> bool
+    ensures { IsTrue result → (c : TermId) → IsPart node c → ⊥ }
+{
+    match node {
+        Node::Int(_) | Node::Param(_) | Node::S(..) | Node::P(..) | Node::R(..) => true,
+        Node::Neg(_) | Node::Add(..) | Node::Sub(..) | Node::Mul(..) | Node::Div(..) => false,
+    }
 }
 
 /// The fraction of the term at an index, in a store whose terms may all be multiplied out: those up
@@ -35,7 +80,7 @@ fn fraction_of(alloc: Global, terms: &Terms, id: TermId) -> Result<Fraction, NoM
 {
     // From here on it is known that parts stand before their nodes.
     prove!(id.0 < terms.len());
-    let mut parts = Vec::new(alloc);
+    let mut parts = Vec::with_capacity(alloc, id.0 as usize)?;
     for i in 0..id.0 {
         parts.push(fraction(alloc, terms, &parts, TermId(i))?)?;
     }

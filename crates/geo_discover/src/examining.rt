@@ -1,15 +1,20 @@
 //! What the log of one candidate says of it.
 
-ghost use Rattle.std.specs.Prelude.{◌≡◌, ◌≢◌, ◌≤◌, [], All, IfOk, IfSome, OnOk, Some, length};
+ghost use Rattle.std.specs.Prelude.{◌≡◌, ◌≢◌, ◌≤◌, ℕ, [], All, IfErr, IfOk, IfSome, List, OnOk};
+ghost use Rattle.std.specs.Prelude.{Some, length};
 ghost use Rattle.elim_apply.specs.Kept.{AreKnownRows};
 ghost use Rattle.geo_poly.specs.Specialise.{NoneZero};
 ghost use Rattle.geo_program.specs.Programs.{program_text, source_of};
 ghost use Rattle.geo_program.specs.Relations.{with_statement};
+ghost use Rattle.log_maker.specs.Halting.{Finishes, Halts};
 ghost use Rattle.log_maker.specs.Parts.{CanWrite};
+ghost use Rattle.log_maker.specs.Sizes.{bytes_of};
 ghost use Rattle.log_maker.specs.Tasks.{IsItemReady, goals_from};
 ghost use Rattle.log_maker.specs.Written.{Writes, first_state, state};
 ghost use Rattle.log_maker.specs.declared.frame.Frame.TheVariants.{Full};
+ghost use Rattle.log_maker.specs.declared.size.Size.{Size};
 ghost use Rattle.geo_discover.specs.Inner.Searching.{IsCandidate, IsJudged, judgement_by};
+ghost use Rattle.geo_discover.specs.Inner.Searching.{unwritten_judgement};
 ghost use Rattle.geo_discover.specs.Inner.Sharing.{IsFigureOf, IsSaid, program_lines};
 
 use crate::figure::{Figure, Worked};
@@ -150,8 +155,90 @@ fn judge_behind(
 }
 
 /// What is said of a goal behind the lines that are written, where so many steps are left. What the
-/// chains of the conditions have shown stays as it is.
+/// chains of the conditions have shown stays as it is. A log that does not prove the goal is not
+/// written, where its text is surely within the limit.
 fn judge_goal(
+    alloc: Global,
+    steps: &Steps,
+    goal: &Goal,
+    left: u64,
+    findings: &mut Findings,
+    numbers: &mut KnownRows,
+    log: LogWriter,
+    text: SureSink,
+) -> Result<Judgement, NoMemory>
+    requires ready { All (IsItemReady steps.now goal.now.terms.nodes) goal.now.goals }
+    requires numbers { AreKnownRows steps.now numbers.old }
+    requires nonzero { NoneZero findings.old.ends }
+    requires writable { CanWrite Full steps.now (goals_from Full steps.now goal.now.terms.nodes
+        goal.now.goals 0 findings.old.known findings.old.ends left) log.size }
+    ensures said { IfOk result (IsSaid steps.now (goals_from Full steps.now goal.now.terms.nodes
+        goal.now.goals 0 findings.old.known findings.old.ends left)
+        (state log (Some text) 0)) }
+    ensures numbers { AreKnownRows steps.now numbers.new }
+    ensures known { findings.new.known ≡ findings.old.known }
+    ensures ends { findings.new.ends ≡ findings.old.ends }
+{
+    let unwritten = judge_unwritten(alloc, steps, goal, left, findings, numbers, log.bounding());
+    match unwritten {
+        Some(judgement) => Ok(judgement),
+        None => judge_written(alloc, steps, goal, left, findings, numbers, log, text),
+    }
+}
+
+/// The same by a log whose lines are not written, where the goal is not proved and the text is
+/// surely within the limit.
+fn judge_unwritten(
+    alloc: Global,
+    steps: &Steps,
+    goal: &Goal,
+    left: u64,
+    findings: &mut Findings,
+    numbers: &mut KnownRows,
+    mut log: LogWriter,
+) -> Option<Judgement>
+    requires ready { All (IsItemReady steps.now goal.now.terms.nodes) goal.now.goals }
+    requires numbers { AreKnownRows steps.now numbers.old }
+    requires nonzero { NoneZero findings.old.ends }
+    requires bounded { (bytes : ℕ) × (log.size ≡ Size.Bounded bytes) }
+    ensures said { (size : Size) (held : List ℕ) → log.size ≡ Size.Bounded (bytes_of size)
+        → IfSome result (IsSaid steps.now (goals_from Full steps.now goal.now.terms.nodes
+        goal.now.goals 0 findings.old.known findings.old.ends left)
+        (record { lines = log.lines; size = size; held = Some held; faults = 0 })) }
+    ensures numbers { AreKnownRows steps.now numbers.new }
+    ensures known { findings.new.known ≡ findings.old.known }
+    ensures ends { findings.new.ends ≡ findings.old.ends }
+{
+    let mut nothing = SureSink::new(alloc);
+    let verdict = work_goal(
+        alloc,
+        steps,
+        goal,
+        left,
+        findings,
+        numbers,
+        &mut log,
+        &mut nothing,
+    );
+    unwritten_judgement(verdict)
+}
+
+/// What is said by a log that is not written, where that needs no text.
+fn unwritten_judgement(verdict: Result<Verdict, ProveError>) -> Option<Judgement>
+    ensures { result ≡ unwritten_judgement verdict }
+{
+    match verdict {
+        Ok(Verdict::False(_)) => Some(Judgement::Fails),
+        Err(ProveError::Spent { line }) => Some(Judgement::Open(ProveError::Spent { line })),
+        Err(ProveError::TooLarge { line, which }) => {
+            Some(Judgement::Open(ProveError::TooLarge { line, which }))
+        }
+        _ => None,
+    }
+}
+
+/// The same by a log that is written.
+fn judge_written(
     alloc: Global,
     steps: &Steps,
     goal: &Goal,
@@ -173,6 +260,41 @@ fn judge_goal(
     ensures known { findings.new.known ≡ findings.old.known }
     ensures ends { findings.new.ends ≡ findings.old.ends }
 {
+    match work_goal(
+        alloc, steps, goal, left, findings, numbers, &mut log, &mut text,
+    ) {
+        Ok(verdict) => Ok(judgement_of(verdict, text)),
+        Err(error) => opened(error),
+    }
+}
+
+/// Makes the log of a goal behind what it has, where so many steps are left. What the chains of the
+/// conditions have shown stays as it is.
+fn work_goal(
+    alloc: Global,
+    steps: &Steps,
+    goal: &Goal,
+    left: u64,
+    findings: &mut Findings,
+    numbers: &mut KnownRows,
+    log: &mut LogWriter,
+    text: &mut SureSink,
+) -> Result<Verdict, ProveError>
+    requires ready { All (IsItemReady steps.now goal.now.terms.nodes) goal.now.goals }
+    requires numbers { AreKnownRows steps.now numbers.old }
+    requires nonzero { NoneZero findings.old.ends }
+    requires writable { CanWrite Full steps.now (goals_from Full steps.now goal.now.terms.nodes
+        goal.now.goals 0 findings.old.known findings.old.ends left) log.old.size }
+    ensures ok { IfOk result (λ verdict. (rest : ℕ) × Finishes
+        (goals_from Full steps.now goal.now.terms.nodes goal.now.goals 0 findings.old.known findings.old.ends left)
+        (state log.old (Some text.old) 0) (state log.new (Some text.new) 0) verdict rest) }
+    ensures err { IfErr result (Halts Full steps.now
+        (goals_from Full steps.now goal.now.terms.nodes goal.now.goals 0 findings.old.known findings.old.ends left)
+        (state log.old (Some text.old) 0) (state log.new (Some text.new) 0)) }
+    ensures numbers { AreKnownRows steps.now numbers.new }
+    ensures known { findings.new.known ≡ findings.old.known }
+    ensures ends { findings.new.ends ≡ findings.old.ends }
+{
     let shown = findings.ends.items.len();
     let mut budget = Budget { left };
     let verdict = work_rest(
@@ -184,14 +306,11 @@ fn judge_goal(
         findings,
         numbers,
         &mut budget,
-        &mut log,
-        &mut text,
+        log,
+        text,
     );
     findings.ends.items.truncate(shown);
-    match verdict {
-        Ok(verdict) => Ok(judgement_of(verdict, text)),
-        Err(error) => opened(error),
-    }
+    verdict
 }
 
 /// What is said by a log that ends with this verdict.

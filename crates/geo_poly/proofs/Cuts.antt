@@ -1,6 +1,6 @@
 -- The greatest divisor of the coefficients, and the least exponents of known variables.
 use Rattle.std.proofs.Common.{◌≡◌, ℕ, zero, suc, ◌+◌, ◌<◌, ◌≤◌, min, eqb, Bool, true, false, cond, ◌⊎◌, inl, inr, ℤ, List, [], ◌∷◌, ◌++◌}
-use Rattle.std.proofs.Common.{take, length, get_or, refl, sym, ap, subst, ◌∙◌, append_assoc, unsigned_abs, All, Any, Contains, arith}
+use Rattle.std.proofs.Common.{drop, take, length, get_or, refl, sym, ap, subst, ◌∙◌, append_assoc, unsigned_abs, All, Any, Contains, arith}
 use Rattle.std.specs.Int.{◌∣◌, IsGcd}
 use Rattle.std.specs.Ordering.{is_eq}
 use Rattle.std.specs.declared.cmp.Ordering.{Ordering}
@@ -50,15 +50,15 @@ more_greatest p i t x a b g h at gcd a-is b-is greatest d all =
     gcd.2 d (subst (λ n. d ∣ n) (sym a-is) left) (subst (λ n. d ∣ n) (sym b-is) right)
 
 -- THE LEAST EXPONENT
--- one more monomial
-pub more_at_most : (v : Var) (p : Summands) (i : ℕ) (t : Powers × ℤ) (least next : ℕ) → i < length p → t ≡ get_or p i t
-    → next ≡ min least (exponent v t.0) → All (λ (u : Powers × ℤ). least ≤ exponent v u.0) (take i p)
-    → All (λ (u : Powers × ℤ). next ≤ exponent v u.0) (take (i + 1) p)
-more_at_most v p i t least next h at next-is all =
-    let last : next ≤ exponent v t.0 = omega (arith, next-is) in
-    All-more (λ (u : Powers × ℤ). next ≤ exponent v u.0) p i t h
-    (All-weaker (λ (u : Powers × ℤ). least ≤ exponent v u.0) (λ (u : Powers × ℤ). next ≤ exponent v u.0) (λ u le. omega (arith, le, next-is)) (take i p) all)
-    (subst (λ (u : Powers × ℤ). next ≤ exponent v u.0) at last)
+-- one more monomial, from the last one on
+pub at_most_before : (v : Var) (p : Summands) (i : ℕ) (t : Powers × ℤ) (least next : ℕ) → drop i p ≡ t ∷ drop (i + 1) p
+    → next ≤ least → next ≤ exponent v t.0 → All (λ (u : Powers × ℤ). least ≤ exponent v u.0) (drop (i + 1) p)
+    → All (λ (u : Powers × ℤ). next ≤ exponent v u.0) (drop i p)
+at_most_before v p i t least next at less here all =
+    let P : Powers × ℤ → Type 0 = λ u. next ≤ exponent v u.0 in
+    subst (All P) (sym at)
+    (All-cons P t (drop (i + 1) p) here
+    (All-weaker (λ (u : Powers × ℤ). least ≤ exponent v u.0) P (λ u le. omega (arith, le, less)) (drop (i + 1) p) all))
 
 pub more_reached : (v : Var) (p : Summands) (i : ℕ) (t : Powers × ℤ) (least next : ℕ) → i < length p → t ≡ get_or p i t
     → next ≡ min least (exponent v t.0) → Any (λ (u : Powers × ℤ). exponent v u.0 ≡ least) p

@@ -1,5 +1,5 @@
 -- The factors of a term, listed: what they make of it.
-use Rattle.std.proofs.Common.{◌≡◌, ℕ, zero, suc, ◌+◌, ◌*◌, ◌-◌, ◌^◌, ◌<◌, ◌≤◌, add-one, Option, Some, None, List, [], ◌∷◌, ◌++◌, get_or, length, replicate, refl, sym, ap, subst, ◌∙◌, arith}
+use Rattle.std.proofs.Common.{◌≡◌, ℕ, zero, suc, ◌+◌, ◌*◌, ◌-◌, ◌^◌, ◌<◌, ◌≤◌, add-one, Option, Some, None, List, [], ◌∷◌, ◌++◌, length, replicate, refl, sym, ap, subst, ◌∙◌, arith}
 use Rattle.std.specs.Prelude.{slice_get}
 use Rattle.std.proofs.Math.Nat.{mul_assoc, mul_comm, mul-le-mul_left, mul-one, pow-suc, pow-zero}
 use Rattle.std.proofs.lemmas.List.{length-append, length-map, length-replicate, map-append}
@@ -12,15 +12,14 @@ use Rattle.geo_poly.specs.Inner.Accumulated.{times_power, times_row, times_rows}
 use Rattle.geo_poly.specs.Inner.Keyed.{exponent_with, greatest_exponent}
 use Rattle.geo_poly.specs.Inner.ReplacedExponents.{exponent_in_row, exponent_in_rows}
 use Rattle.geo_poly.specs.Inner.Factored.{AreFactors, count_with, degree_with, numerator_at, piece_of, pieces_of, products_with, times_pieces, weight_with}
-use Rattle.geo_poly.specs.Inner.TermFactors.{AreNonzeroRows, HasNoZero, IsNonzeroRow}
 use Rattle.geo_poly.specs.Monomials.{Powers}
 use Rattle.geo_poly.specs.Polynomials.{Summands, product_of}
-use Rattle.geo_poly.specs.Replace.{AllBounded, IsBounded, degree_row, degree_rows, denominators, row_of, weight_row, weight_rows}
+use Rattle.geo_poly.specs.Replace.{degree_row, degree_rows, denominators, row_of, weight_row, weight_rows}
 use Rattle.geo_poly.proofs.FactoredTerms.{count_with-append, degree_with-append, degree_with-is, times_pieces-append, weight_with-append}
 use Rattle.geo_poly.proofs.PieceReach.{with-append, with-is}
 use Rattle.geo_poly.proofs.PolynomialRing.{product_of-assoc}
 use Rattle.geo_poly.proofs.ProductOrder.{product_of_comm}
-use Rattle.geo_poly.proofs.TickBounds.{count_rows-scale, counted, counted_row}
+use Rattle.geo_poly.proofs.TickBounds.{count_rows-scale}
 
 -- ONE PIECE, AS OFTEN AS IS SAID
 pieces_replicate : (rows : List Row) (den : Piece) (n k : ℕ) → pieces_of rows den (replicate n k) ≡ replicate n (piece_of rows den k)
@@ -224,19 +223,6 @@ Path-end setting m lacking ks e h =
           let more : products_with qs 1 ≤ (exponents + lacking + 1) * count_rows rows m d = omega (arith, bound) in
           subst (λ (n : ℕ). products_with qs 1 ≤ (exponents + n + 1) * count_rows rows m (den.count ^ n)) e more;
     }
-
--- the pieces of a term that does not become zero have monomials
-pub counted_denominator : (rows : List Row) (den : Piece) (top : ℕ) (m : Powers) (lacking : ℕ) → lacking ≡ top - denominators rows m
-    → IsBounded den → HasNoZero rows den top m → 0 < lacking → 1 ≤ den.count
-counted_denominator rows den top m lacking e bounded h more = counted den bounded (h.denominator (omega (arith, e, more)))
-
--- the numerator of the variable at a place has a monomial
-pub counted_place : (rows : List Row) (m : Powers) (i : ℕ) (v : Var × ℕ) (r : Row) → i < length m → v ≡ get_or m i v
-    → row_of rows v.0 ≡ Some r → AllBounded rows → AreNonzeroRows rows m → 1 ≤ r.num.count
-counted_place rows [] i v r within at e bounded some = absurd (omega arith)
-counted_place rows (w ∷ m) zero v r within at e bounded some =
-    counted_row rows v.0 r bounded e (subst (λ (x : Var × ℕ). IsNonzeroRow (row_of rows x.0)) (sym at) some.0)
-counted_place rows (w ∷ m) (suc i) v r within at e bounded some = counted_place rows m i v r (omega arith) at e bounded some.1
 
 -- a place within the rows has one
 row_there : (rows : List Row) (i : ℕ) → i < length rows → slice_get rows i ≡ None → ⊥

@@ -7,7 +7,7 @@ use Rattle.std.proofs.lemmas.List.Sums.{sum_by-cons}
 use Rattle.sparse_lists.specs.SparseLists.{AllKeys, IsCanonical}
 use Rattle.sparse_lists.proofs.Canonical.{canonical_self}
 use Rattle.poly_arena.specs.Chains.{Chains, Merges, Pairs, pairs_of}
-use Rattle.geo_poly.specs.Chained.{AddsChain, StandsUnder, keyed_terms_under}
+use Rattle.geo_poly.specs.Chained.{AddsChain, SameChains, StandsUnder, keyed_terms_under}
 use Rattle.geo_poly.specs.declared.pending.Pending.{Pending}
 use Rattle.geo_poly.specs.declared.replacement.Piece.{Piece}
 use Rattle.geo_poly.specs.declared.settings.Setting.{Setting}
@@ -32,6 +32,16 @@ use Rattle.geo_poly.proofs.Orders.{term_order}
 use Rattle.geo_poly.proofs.PieceReach.{with-grows}
 use Rattle.geo_poly.proofs.PolynomialLaws.{coefficients_add}
 use Rattle.geo_poly.proofs.ReplaceTerms.{IsCanonical-polynomial_of, IsMonomial-others}
+
+-- WHERE NO CHAIN CHANGED BEFORE
+pub SameChains-trans : (old mid new : Chains) → SameChains old mid → SameChains mid new → SameChains old new
+SameChains-trans old mid new same h = record { lists = λ n. h.lists n ∙ same.lists n }
+
+pub AddsChain-same : (old mid new : Chains) (number : ℕ) → SameChains old mid → AddsChain mid new number → AddsChain old new number
+AddsChain-same old mid new number same h = record {
+  unused = sym (same.lists number) ∙ h.unused;
+  others = λ n d. h.others n d ∙ same.lists n;
+}
 
 -- TWO CHAINS, MERGED INTO THE FIRST
 module _ (vars : List Var) (s1 s2 : Keys) (kept : KeepsKeys s1 s2) (a0 a1 a2 a3 : Chains) (sum rest whole : ℕ) (p q w : Summands) (adds : AddsChain a0 a1 sum)

@@ -44,6 +44,7 @@ pub mod KeyedChains
 pub mod ChainSteps
 pub mod ChainHalves
 pub mod ChainMultiples
+pub mod LeadingVariables
 pub mod LoneTerms
 pub mod OneFactor
 pub mod Elements
@@ -60,16 +61,20 @@ pub mod Places
 pub mod IndexSums
 pub mod ChangedParts
 pub mod Dividing
+pub mod DividedWords
 pub mod ZeroFactors
 pub mod TickBounds
 pub mod KnownVariables
 pub mod MarkedVariables
+pub mod DigitLimits
 pub mod DigitVariables
 pub mod FactoredTerms
 pub mod GoodPieces
 pub mod PieceReach
 pub mod NestedSums
+pub mod OrderedRuns
 pub mod FactorPaths
+pub mod FactorWalks
 pub mod MultipliedIn
 pub mod PendingTerms
 pub mod JoinedParts
@@ -81,3 +86,8 @@ pub mod WordChains
 pub mod WordInstance
 pub mod ExponentLimits
 pub mod TermLimits
+pub mod WordSums
+pub mod WordMultiples
+pub mod WordProducts
+pub mod RoleWalks
+pub mod NarrowWords

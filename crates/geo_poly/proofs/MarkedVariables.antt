@@ -129,7 +129,7 @@ below_marked u (v ∷ vars) [] h = tt
 below_marked u (v ∷ vars) (true ∷ known) h = (h.0, below_marked u vars known h.1)
 below_marked u (v ∷ vars) (false ∷ known) h = below_marked u vars known h.1
 
-marked_rise : (vars : List Var) (known : List Bool) → IsStrictlySortedBy var_cmp vars → IsStrictlySortedBy var_cmp (marked vars known)
+pub marked_rise : (vars : List Var) (known : List Bool) → IsStrictlySortedBy var_cmp vars → IsStrictlySortedBy var_cmp (marked vars known)
 unfolding IsStrictlySortedBy
 marked_rise [] known h = tt
 marked_rise (v ∷ vars) [] h = tt

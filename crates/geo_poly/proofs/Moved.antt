@@ -24,8 +24,10 @@ use Rattle.geo_poly.specs.Keys.{Keys}
 use Rattle.geo_poly.specs.Shared.{AllPlaces, named, told_powers, var_at}
 use Rattle.geo_poly.specs.Variables.{var_cmp}
 use Rattle.geo_poly.specs.Inner.Keyed.{KeepsKeys}
+use Rattle.geo_poly.specs.declared.moving.Move.{Move}
+use Rattle.geo_poly.specs.declared.moving.Move.TheVariants.{Kept, Unknown}
 use Rattle.geo_poly.specs.declared.moving.MovedMonomials.{MovedMonomials}
-use Rattle.geo_poly.specs.Inner.Moved.{AreMoved, AreMovedLinks, ArePlaces, IsMovedTo, IsPlaceOf, IsSame}
+use Rattle.geo_poly.specs.Inner.Moved.{AreMoved, AreMovedLinks, AreMoves, IsMoveOf, IsMovedTo, IsPlaceOf, IsSame}
 use Rattle.geo_poly.proofs.KeysKept.{IsKeyUnder-kept}
 use Rattle.geo_poly.proofs.Naming.{IsPowerBefore-named, canonical-rename, degree_of-named, var_at-keeps}
 use Rattle.geo_poly.proofs.Orders.{exponents_add, var_order}
@@ -39,13 +41,13 @@ each_push P [] x d h g (suc k) within = absurd (omega (arith, within))
 each_push P (y ∷ ys) x d h g zero within = h 0 (omega arith)
 each_push P (y ∷ ys) x d h g (suc k) within = each_push (λ n z. P (suc n) z) ys x d (λ n in_ys. h (suc n) (omega (arith, in_ys))) g k (omega (arith, within))
 
-some_within : {X : Type 0} (xs : List (Option X)) (i : ℕ) (x : X) → get_or xs i None ≡ Some x → i < length xs
-some_within [] i x e = absurd (cc)
-some_within (y ∷ ys) zero x e = omega arith
-some_within (y ∷ ys) (suc i) x e = let rest = some_within ys i x e in omega (arith, rest)
+known_within : (xs : List Move) (i : ℕ) → get_or xs i Unknown ≢ Unknown → i < length xs
+known_within [] i known = absurd (known refl)
+known_within (y ∷ ys) zero known = omega arith
+known_within (y ∷ ys) (suc i) known = let rest = known_within ys i known in omega (arith, rest)
 
 -- a monomial in numbered variables is one in the variables
-IsMonomial-named : (vars : List Var) (m : NumberedPowers) → IsStrictlySortedBy var_cmp vars → AllPlaces (length vars) m → IsNumberedMonomial m → IsMonomial (named vars m)
+pub IsMonomial-named : (vars : List Var) (m : NumberedPowers) → IsStrictlySortedBy var_cmp vars → AllPlaces (length vars) m → IsNumberedMonomial m → IsMonomial (named vars m)
 IsMonomial-named vars m rising places h = record {
   in_order =
       subst (IsCanonical var_cmp exponents)
@@ -101,10 +103,12 @@ module _ (p : Shared) (rows : List Row) (vars : List Var) (id next : MonoId) (va
     }
 
     -- the variable has none
-    module _ (places : List (Option ℕ)) (k : ℕ) (are : ArePlaces p.vars.now vars places) (at : get_or places var None ≡ Some k)
-        (none : row_of rows (var_at p.vars.now var) ≡ None) where
+    module _ (k : ℕ) (is : IsMoveOf rows vars (var_at p.vars.now var) (Kept k)) where
+      none : row_of rows (var_at p.vars.now var) ≡ None
+      none = is.0
+
       place_is : IsPlaceOf vars (var_at p.vars.now var) (Some k)
-      place_is = subst (IsPlaceOf vars (var_at p.vars.now var)) at (are.each var (some_within places var k at))
+      place_is = is.1
 
       left_are : others rows (told_powers p id) ≡ (var_at vars k, exp) ∷ named vars (keys.powers new.0)
       left_are = ap (others rows) powers_are ∙ others-none rows (var_at p.vars.now var, exp) (told_powers p next) none
@@ -123,9 +127,12 @@ module _ (p : Shared) (rows : List Row) (vars : List Var) (id next : MonoId) (va
         powers = ap (named vars) is ∙ sym left_are;
       }
 
--- the place of a variable tells that it is one of the polynomial's
-pub var_within : (old vars : List Var) (places : List (Option ℕ)) (var k : ℕ) → ArePlaces old vars places → get_or places var None ≡ Some k → var < length old
-var_within old vars places var k are at = omega (arith, some_within places var k at, are.whole)
+-- what is known of a number becomes of its variable, which is one of the polynomial's
+pub move_is : (old : List Var) (rows : List Row) (vars : List Var) (moves : List Move) (var : ℕ) (move : Move) → AreMoves old rows vars moves → get_or moves var Unknown ≡ move
+    → move ≢ Unknown → (var < length old) × IsMoveOf rows vars (var_at old var) move
+move_is old rows vars moves var move are at known =
+    let within : var < length moves = known_within moves var (λ e. known (sym at ∙ e)) in
+    (omega (arith, within, are.whole), subst (IsMoveOf rows vars (var_at old var)) at (are.each var within))
 
 -- what a table of links tells of an index
 pub entry_moved : (p : Shared) (rows : List Row) (vars : List Var) (keys : Keys) (links : List (Option MonoId)) (id : MonoId) (k : ℕ) (entry : Option MonoId)
@@ -154,7 +161,7 @@ module _ (p : Shared) (rows : List Row) (vars : List Var) (old new : Keys) (kept
   pub AreMoved-kept : (moved : MovedMonomials) → AreMoved p rows vars old moved → AreMoved p rows vars new moved
   AreMoved-kept moved are = record {
     parts = are.parts;
-    places = are.places;
+    moves = are.moves;
     links = AreMovedLinks-kept moved.links.items are.links;
   }
 

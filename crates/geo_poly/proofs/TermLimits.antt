@@ -1,5 +1,5 @@
 -- Limits of what becomes of each term, and the greatest ones of several limits.
-use Rattle.std.proofs.Common.{◌≡◌, ◌≢◌, ℕ, zero, suc, ◌+◌, ◌-◌, ◌*◌, ◌^◌, ◌<◌, ◌≤◌, max, min, inl, inr, ℤ, Option, Some, None}
+use Rattle.std.proofs.Common.{◌≡◌, ℕ, zero, suc, ◌+◌, ◌-◌, ◌*◌, ◌^◌, ◌<◌, ◌≤◌, max, min, inl, inr, ℤ, Option, Some, None}
 use Rattle.std.proofs.Common.{List, [], ◌∷◌, ◌++◌, length, get_or, take, refl, sym, ap, subst, ◌∙◌, arith}
 use Rattle.std.specs.Prelude.{slice_get, slice_index_or}
 use Rattle.std.proofs.Math.Nat.{mul-le-mul_left, mul-le-mul_right}
@@ -16,6 +16,21 @@ use Rattle.geo_poly.specs.Polynomials.{Summands}
 use Rattle.geo_poly.specs.Replace.{kept, others, row_of}
 use Rattle.geo_poly.specs.Shared.{var_at}
 use Rattle.geo_poly.proofs.Told.{take_more}
+
+-- anything is a limit of 0
+pub AreLimits-any : (vars : List Var) (limits : List ℕ) → length limits ≡ length vars → AreLimits vars (λ _. 0) limits
+AreLimits-any vars limits whole = record { whole = whole; each = λ i known. omega arith }
+
+take_front : (xs ys : List ℕ) → take (length xs) (xs ++ ys) ≡ xs
+take_front [] ys = refl
+take_front (x ∷ xs) ys = ap (λ (zs : List ℕ). x ∷ zs) (take_front xs ys)
+
+-- limits that were written over others
+pub AreLimits-taken : (vars : List Var) (bound : Var → ℕ) (count : ℕ) (new old : List ℕ) → count ≡ length new → AreLimits vars bound new
+    → AreLimits vars bound (take count (new ++ old))
+AreLimits-taken vars bound count new old same h =
+    subst (λ (ns : List ℕ). AreLimits vars bound ns)
+    (sym (ap (λ (n : ℕ). take n (new ++ old)) same ∙ take_front new old)) h
 
 -- THE GREATER ONES
 
@@ -60,6 +75,15 @@ AreLimits-times vars bound more old others new times whole sums h g = record {
         sums i (omega (arith, known, h.whole)),
         capped_sum (bound v) (more v) (slice_index_or old i 0) (slice_index_or others i 0) times (h.each i known) (g.each i known),
       );
+}
+
+-- limits to which others were added once
+pub AreLimits-plus : (vars : List Var) (bound more : Var → ℕ) (old others new : List ℕ) → length new ≡ length old
+    → ((i : ℕ) → i < length old → slice_index_or new i 0 ≡ min (slice_index_or old i 0 + slice_index_or others i 0) (2 ^ 32 - 1))
+    → AreLimits vars bound old → AreLimits vars more others → AreLimits vars (λ v. bound v + more v * 1) new
+AreLimits-plus vars bound more old others new whole sums h g = record {
+  whole = whole ∙ h.whole;
+  each = λ i known. omega (arith, sums i (omega (arith, known, h.whole)), h.each i known, g.each i known);
 }
 
 -- NUMERATORS

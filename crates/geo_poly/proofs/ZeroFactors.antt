@@ -1,13 +1,11 @@
 -- A loop that looks for a zero among the factors of a term, one variable after the other.
-use Rattle.std.proofs.Common.{◌≡◌, ℕ, zero, suc, ◌+◌, ◌-◌, ◌<◌, ℤ, Option, Some, None, List, [], ◌∷◌, refl, sym, ap, subst, ◌∙◌, arith}
-use Rattle.std.specs.Prelude.{◌≢◌}
+use Rattle.std.proofs.Common.{◌≡◌, ℕ, zero, suc, ◌+◌, ◌-◌, ◌<◌, ℤ, Option, Some, None, List, [], ◌∷◌, refl, ap, ◌∙◌, arith}
 use Rattle.std.proofs.lemmas.Bool.Decides.{nat_tests}
 use Rattle.sparse_lists.specs.SparseLists.{IsCanonical}
-use Rattle.geo_poly.specs.declared.replacement.Piece.{Piece}
 use Rattle.geo_poly.specs.declared.replacement.Row.{Row}
 use Rattle.geo_poly.specs.declared.variables.Var.{Var}
 use Rattle.geo_poly.specs.Inner.Accumulated.{accumulated_term, times_power, times_row, times_rows}
-use Rattle.geo_poly.specs.Inner.TermFactors.{AreNonzeroRows, HasNoZero}
+use Rattle.geo_poly.specs.Inner.TermFactors.{AreNonzeroRows}
 use Rattle.geo_poly.specs.Monomials.{Powers, exponents}
 use Rattle.geo_poly.specs.Polynomials.{Summands, polynomial_of, product_of, products}
 use Rattle.geo_poly.specs.Replace.{denominators, others, row_of}
@@ -61,10 +59,3 @@ zero_denominator rows den top m left missing none zero_den some h k =
     let lacking : 0 < top - denominators rows m = omega (arith, some, h.missing-is, ap (denominators rows) none) in
     let p = times_rows rows m ((others rows m, k) ∷ []) in
     ap (λ (q : Summands). times_power p q (top - denominators rows m)) zero_den ∙ times_power-by_none p (top - denominators rows m) lacking
-
--- no zero
-pub no_zero : (rows : List Row) (den : Piece) (top : ℕ) (m left : Powers) (missing : ℕ) → left ≡ [] → (0 < missing → den.poly ≢ []) → Seen rows top m left missing → HasNoZero rows den top m
-no_zero rows den top m left missing none some h = record {
-  numerators = h.nonzero (subst (AreNonzeroRows rows) (sym none) tt);
-  denominator = λ lacking. some (omega (arith, lacking, h.missing-is));
-}

@@ -28,7 +28,7 @@ use Rattle.geo_poly.specs.Specialise.{degree_in, specialised, specialised_weight
 use Rattle.geo_poly.proofs.EachVariable.{of-exponent}
 use Rattle.geo_poly.proofs.Naming.{rising_at}
 use Rattle.geo_poly.proofs.Orders.{exponents_add, var_order}
-use Rattle.geo_poly.proofs.SpecialisedLaws.{IsPolynomial-specialised, small_weight, specialised-lacking}
+use Rattle.geo_poly.proofs.SpecialisedLaws.{IsPolynomial-specialised, small_weight}
 use Rattle.geo_poly.proofs.Told.{length-terms_of}
 use Rattle.geo_poly.proofs.Unions.{known_variables}
 use Rattle.geo_poly.proofs.ZeroPut.{specialised-zero}
@@ -170,9 +170,3 @@ no_degree vars v (t ∷ ts) out h =
 -- stands in no monomial
 pub absent : (vars : List Var) (store : Store) (list : Indices) (v : Var) → (Contains vars v → ⊥) → AllKeys (IsIndex vars store) list → degree_in v (terms_of vars store list) ≡ 0
 absent vars store list v out h = no_degree vars v (terms_of vars store list) out (known_variables vars store list h)
-
--- so 0 for it changes nothing
-pub absent_zero : (vars : List Var) (store : Store) (list : Indices) (v : Var) → (Contains vars v → ⊥) → IsShared vars store list
-    → specialised v (pos 0) (terms_of vars store list) ≡ terms_of vars store list
-absent_zero vars store list v out h =
-    specialised-lacking v (pos 0) (terms_of vars store list) (record { in_order = h.polynomial.in_order; monomials = h.polynomial.monomials }) (absent vars store list v out h.indices)

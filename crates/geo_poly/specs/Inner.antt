@@ -1,6 +1,7 @@
 -- What private functions and proofs speak of: how rows are looked up, and how a replacement is made by chains. No public contract
 -- cites it.
 pub mod RowTables
+pub mod Roles
 pub mod Keyed
 pub mod Settings
 pub mod TermFactors
@@ -11,4 +12,7 @@ pub mod Factored
 pub mod Accumulated
 pub mod ReplacedExponents
 pub mod Words
+pub mod WordDivisors
 pub mod Limits
+pub mod WordSums
+pub mod Runs

@@ -17,6 +17,7 @@ use crate::reading::{exponent_at, monomial_at};
 use crate::shared::{Indexed, Shared};
 use crate::terms::Term;
 use crate::variables::Var;
+use crate::word_division::{word_divisor, word_quotients};
 use frac_laws::gcd;
 use geo_points::NoMemory;
 use std::alloc::Global;
@@ -46,6 +47,39 @@ impl Poly {
         if by.monomial.powers().is_empty() {
             return self.over_number(alloc, by);
         }
+        if let Some(quotient) = self.over_power(alloc, by)? {
+            return Ok(Some(quotient));
+        }
+        self.over_terms(alloc, by)
+    }
+
+    /// The same for a factor of one power, where the monomials are words and each has a quotient
+    /// that is one. An answer `None` says nothing.
+    fn over_power(&self, alloc: Global, by: &Factor) -> Result<Option<Poly>, NoMemory>
+        ensures some { IfOk result (λ o. IfSome o (λ q. product_of (by.now ∷ []) q ≡ self.now)) }
+        ensures polynomial { IfOk result (λ o. IfSome o IsPolynomial) }
+        ensures multiples { IfOk result (λ o. IfSome o (λ q. multiples by.now q ≡ self.now)) }
+    {
+        let p = self.shared();
+        let Some(divisor) = word_divisor(&p, by.monomial.powers()) else {
+            return Ok(None);
+        };
+        match word_quotients(alloc, &p, divisor, by.coefficient)? {
+            Some(list) => Ok(Some(Poly::over(alloc, &p, list)?)),
+            None => Ok(None),
+        }
+    }
+
+    /// The same term by term.
+    fn over_terms(&self, alloc: Global, by: &Factor) -> Result<Option<Poly>, NoMemory>
+        ensures some { IfOk result (λ o. IfSome o (λ q. product_of (by.now ∷ []) q ≡ self.now)) }
+        ensures polynomial { IfOk result (λ o. IfSome o IsPolynomial) }
+        ensures none { IfOk result (λ o. IfNone o
+            ((q : Summands) → IsPolynomial q → product_of (by.now ∷ []) q ≡ self.now → ⊥)) }
+        ensures multiples { IfOk result (λ o. IfSome o (λ q. multiples by.now q ≡ self.now)) }
+        ensures no_multiples { IfOk result
+            (λ o. IfNone o ((q : Summands) → multiples by.now q ≡ self.now → ⊥)) }
+    {
         let terms = self.to_terms(alloc)?;
         match quotients(alloc, &terms, &by.monomial, by.coefficient)? {
             Some(quotient) => Ok(Some(Poly::from_terms(alloc, &quotient)?)),
@@ -166,11 +200,11 @@ fn least_exponent(p: &Shared, v: Var) -> u32
     requires parts { AreParts p.now }
     ensures { IsLeastExponent v (told p.now) result }
 {
-    let mut least = exponent_at(p, p.list[0].0, v);
-    let mut i = 0;
-    while i < p.list.len() && least > 0 {
+    let mut i = p.list.len() - 1;
+    let mut least = exponent_at(p, p.list[i].0, v);
+    while i > 0 && least > 0 {
+        i -= 1;
         least = least.min(exponent_at(p, p.list[i].0, v));
-        i += 1;
     }
     least
 }
@@ -205,7 +239,7 @@ fn quotients(
 }
 
 /// What times d is c, where there is such a number.
-fn exact_quotient(c: i128, d: i128) -> Option<i128>
+pub(crate) fn exact_quotient(c: i128, d: i128) -> Option<i128>
     requires nonzero { unsigned_abs d ≢ 0 }
     requires fits { unsigned_abs c < 2 ^ 127 }
     ensures some { IfSome result (λ q. d *ℤ q ≡ c) }

@@ -56,10 +56,10 @@ pub(crate) fn replacement_limits(
         (λ v. exponent_anywhere v rows.now den.now top (told p.now)) limits.items) }
 {
     let mut limits = no_limits(alloc, vars)?;
-    let own = greatest_exponents(alloc, p)?;
+    let own = exponent_bounds(alloc, p)?;
     let stay = without_rows(alloc, rows, &own)?;
     add_exponents(&mut limits, vars, &stay, 1);
-    add_polynomial(alloc, &mut limits, vars, &den.poly.shared(), top.max(1))?;
+    add_bounds(alloc, &mut limits, vars, &den.poly.shared(), top.max(1))?;
     add_rows(alloc, &mut limits, vars, rows.rows(), &own)?;
     Ok(limits)
 }
@@ -109,11 +109,45 @@ fn greatest_exponents(alloc: Global, p: &Shared) -> Result<Vec<(Var, u32)>, NoMe
     ensures { IfOk result (λ bounds. AreBounds (told p.now) bounds.items) }
 {
     let numbered = numbered_exponents(alloc, p)?;
+    with_names(alloc, p, &numbered)
+}
+
+/// Bounds of the exponents of a polynomial, each with its variable.
+fn exponent_bounds(alloc: Global, p: &Shared) -> Result<Vec<(Var, u32)>, NoMemory>
+    requires { AreParts p.now }
+    ensures { IfOk result (λ bounds. AreBounds (told p.now) bounds.items) }
+{
+    let numbered = numbered_bounds(alloc, p)?;
+    with_names(alloc, p, &numbered)
+}
+
+/// Bounds of the exponents of a polynomial, each with its variable, from those by number.
+fn with_names(alloc: Global, p: &Shared, numbered: &[u32]) -> Result<Vec<(Var, u32)>, NoMemory>
+    requires parts { AreParts p.now }
+    requires whole { length numbered.now ≡ length p.now.vars.now }
+    requires greatest { AreGreatest p.now.vars.now numbered.now (told p.now) }
+    ensures { IfOk result (λ bounds. AreBounds (told p.now) bounds.items) }
+{
     let mut bounds = Vec::with_capacity(alloc, p.vars.len())?;
     for i in 0..p.vars.len() {
         bounds.push((p.vars[i], numbered[i]))?;
     }
     Ok(bounds)
+}
+
+/// Bounds of the exponents of a polynomial, by the numbers of the variables: the limits of its words, where there
+/// are no links, so that no term is looked at.
+fn numbered_bounds(alloc: Global, p: &Shared) -> Result<Vec<u32>, NoMemory>
+    requires { AreParts p.now }
+    ensures whole { IfOk result (λ numbers. length numbers.items ≡ length p.now.vars.now) }
+    ensures greatest { IfOk result
+        (λ numbers. AreGreatest p.now.vars.now numbers.items (told p.now)) }
+{
+    let digits = p.monos.digits();
+    if p.monos.links() > 0 || digits.count() != p.vars.len() {
+        return numbered_exponents(alloc, p);
+    }
+    Ok(digits.limits(alloc)?)
 }
 
 /// The greatest exponents of a polynomial, by the numbers of the variables.
@@ -246,7 +280,25 @@ pub(crate) fn add_polynomial(
     Ok(())
 }
 
-/// Adds the greatest exponents of the numerators to the limits, each as often as the exponent of its
+/// Adds bounds of the exponents of a polynomial to the limits, each so many times.
+fn add_bounds(
+    alloc: Global,
+    limits: &mut Vec<u32>,
+    vars: &[Var],
+    p: &Shared,
+    times: u32,
+) -> Result<(), NoMemory>
+    requires rising { IsStrictlySortedBy var_cmp vars.now }
+    requires parts { AreParts p.now }
+    ensures { OnOk result ((bound : Var → ℕ) → AreLimits vars.now bound limits.old.items
+        → AreLimits vars.now (λ v. bound v + greatest_exponent v (told p.now) * times) limits.new.items) }
+{
+    let bounds = exponent_bounds(alloc, p)?;
+    add_exponents(limits, vars, &bounds, times);
+    Ok(())
+}
+
+/// Adds bounds of the exponents of the numerators to the limits, each as often as the exponent of its
 /// row's variable says.
 fn add_rows(
     alloc: Global,
@@ -261,7 +313,7 @@ fn add_rows(
 {
     for row in rows {
         let times = exponent_in(own, row.var);
-        add_polynomial(alloc, limits, vars, &row.num.poly.shared(), times.max(1))?;
+        add_bounds(alloc, limits, vars, &row.num.poly.shared(), times.max(1))?;
     }
     Ok(())
 }

@@ -1,6 +1,7 @@
 //! Keys of chains that stand for monomials.
 
 ghost use Rattle.std.specs.Prelude.{◌≡◌, ◌≢◌, ◌+◌, ◌<◌, ◌≤◌, ◌∷◌, [], IfOk, IfSome, IsTrue};
+ghost use Rattle.std.specs.declared.cmp.Ordering.TheVariants.{Less};
 ghost use Rattle.sparse_lists.specs.SparseLists.{AllKeys};
 ghost use Rattle.mono_store.specs.Monomials.{ComesFirst, degree_of, product};
 ghost use Rattle.poly_arena.specs.Chains.{IsLive, Merges, pairs_of};
@@ -12,6 +13,7 @@ use crate::index_order::ByMonomial;
 use geo_points::NoMemory;
 use mono_store::{MonoId, Monos};
 use poly_arena::{Arena, Chain};
+use std::cmp::Ordering;
 
 /// Keys of chains that stand for monomials in numbered variables: the indices of a store, or what
 /// else is multiplied and compared more quickly.
@@ -52,6 +54,12 @@ pub(crate) trait MonomialKeys {
         ensures product { IfOk result (λ k. (keys self.new).powers k
             ≡ product ((keys self.old).powers a) ((keys self.old).powers b)) }
         ensures kept { KeepsKeys (keys self.old) (keys self.new) };
+
+    /// Whether the monomial of `a` comes before that of `b`.
+    fn comes_before(&self, a: u64, b: u64) -> bool
+        requires left { a < (keys self.now).count }
+        requires right { b < (keys self.now).count }
+        ensures { IsTrue result → key_cmp (keys self.now) b a ≡ Less };
 
     /// Puts the sum of both chains into the first, in the order of the monomials, and spends the
     /// second.
@@ -95,6 +103,10 @@ impl MonomialKeys for Monos {
     fn times(&mut self, a: u64, b: u64) -> Result<u64, NoMemory> {
         let id = self.product(MonoId(a), MonoId(b))?;
         Ok(id.0)
+    }
+
+    fn comes_before(&self, a: u64, b: u64) -> bool {
+        self.compare(MonoId(b), MonoId(a)) == Ordering::Less
     }
 
     fn merge(&self, arena: &mut Arena, kept: &mut Chain, spent: Chain) {

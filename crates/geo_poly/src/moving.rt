@@ -1,21 +1,22 @@
 //! The monomials of a polynomial under other keys, whose variables have other numbers, without the
 //! variables that are replaced.
 
-ghost use Rattle.std.specs.Prelude.{◌≡◌, ◌≢◌, ◌<◌, ◌∷◌, [], Contains, None, IfOk};
-ghost use Rattle.std.specs.Prelude.{IsFalse, IsTrue, length, slice_index_or};
+ghost use Rattle.std.specs.Prelude.{◌≡◌, ◌<◌, ◌∷◌, [], Contains, None, IfOk};
+ghost use Rattle.std.specs.Prelude.{slice_index_or};
 ghost use Rattle.std.specs.List.Sorted.{IsStrictlySortedBy};
+ghost use Rattle.geo_poly.specs.declared.moving.Move.TheVariants.{Unknown};
 ghost use Rattle.sparse_lists.specs.SparseLists.{AllKeys};
 ghost use Rattle.mono_store.specs.Stores.{Keeps, count, monomial_of};
 ghost use Rattle.geo_poly.specs.Monomials.{IsMonomial};
 ghost use Rattle.geo_poly.specs.PolynomialVariables.{AllVariables};
-ghost use Rattle.geo_poly.specs.Replace.{others, row_of};
+ghost use Rattle.geo_poly.specs.Replace.{others};
 ghost use Rattle.geo_poly.specs.Shared.{AreParts, IsIndex, IsIndexOf};
-ghost use Rattle.geo_poly.specs.Shared.{named, terms_of, told, told_powers, var_at};
+ghost use Rattle.geo_poly.specs.Shared.{named, terms_of, told, told_powers};
 ghost use Rattle.geo_poly.specs.Variables.{var_cmp};
 ghost use Rattle.geo_poly.specs.Inner.Keyed.{HasRoom, IsIndexUnder, IsWithinLimits, KeepsKeys};
 ghost use Rattle.geo_poly.specs.Inner.Keyed.{terms_under};
-ghost use Rattle.geo_poly.specs.Inner.Moved.{AreMoved, AreMovedLinks, ArePlaces, IsMovedTo, IsPlaceOf};
-ghost use Rattle.geo_poly.specs.Inner.Moved.{IsSame};
+ghost use Rattle.geo_poly.specs.Inner.Moved.{AreMoved, AreMovedLinks, AreMoves, ArePlaces, IsMoveOf, IsMovedTo};
+ghost use Rattle.geo_poly.specs.Inner.Moved.{IsPlaceOf, IsSame};
 
 use crate::chained_replacement::stored_others;
 use crate::monomial_keys::MonomialKeys;
@@ -28,11 +29,22 @@ use geo_points::NoMemory;
 use mono_store::{Link, MonoId, Monos};
 use std::alloc::Global;
 
+/// What becomes of a variable.
+#[derive(Clone, Copy)]
+pub(crate) enum Move {
+    /// It has a row.
+    Replaced,
+    /// It has none, and this place.
+    Kept(u64),
+    /// It has neither.
+    Unknown,
+}
+
 /// The keys of what is left of the monomials of a polynomial. Words have none here: they are moved
 /// power by power.
 pub(crate) struct MovedMonomials {
-    /// The place that the variable of each number has, where it has one.
-    places: Vec<Option<u64>>,
+    /// What becomes of the variable of each number.
+    moves: Vec<Move>,
     /// The key of what is left of the monomial of each link, where it has one.
     links: Vec<Option<MonoId>>,
 }
@@ -40,10 +52,7 @@ pub(crate) struct MovedMonomials {
 /// By hand, so that a caller's proof sees one call where it is let go.
 impl Drop for MovedMonomials {
     fn drop(self) {
-        let MovedMonomials {
-            places: _,
-            links: _,
-        } = self;
+        let MovedMonomials { moves: _, links: _ } = self;
     }
 }
 
@@ -169,7 +178,7 @@ pub(crate) fn index_in<K: MonomialKeys>(
         ≡ others rows.now (told_powers p.now id)) }
     ensures kept { KeepsKeys (K.keys keys.old) (K.keys keys.new) }
 {
-    let found = new_index(keys, vars, rows, p, &table.places, &table.links, id)?;
+    let found = new_index(keys, vars, rows, p, &table.moves, &table.links, id)?;
     if let Some(new) = found {
         return Ok(new);
     }
@@ -193,9 +202,9 @@ pub(crate) fn moved_monomials<K: MonomialKeys>(
     ensures kept { KeepsKeys (K.keys keys.old) (K.keys keys.new) }
 {
     let reached = reached_links(alloc, p)?;
-    let places = places_in(alloc, p.vars, vars)?;
-    let links = moved_links(alloc, keys, vars, rows, p, &places, &reached)?;
-    Ok(MovedMonomials { places, links })
+    let moves = moves_in(alloc, rows, p.vars, vars)?;
+    let links = moved_links(alloc, keys, vars, rows, p, &moves, &reached)?;
+    Ok(MovedMonomials { moves, links })
 }
 
 /// The key of what is left of the monomial of each link, in the order of the links, where it is
@@ -206,12 +215,12 @@ fn moved_links<K: MonomialKeys>(
     vars: &[Var],
     rows: &RowTable,
     p: &Shared,
-    places: &[Option<u64>],
+    moves: &[Move],
     reached: &[bool],
 ) -> Result<Vec<Option<MonoId>>, NoMemory>
     requires rising { IsStrictlySortedBy var_cmp vars.now }
     requires parts { AreParts p.now }
-    requires places { ArePlaces p.now.vars.now vars.now places.now }
+    requires moves { AreMoves p.now.vars.now rows.now vars.now moves.now }
     ensures moved { IfOk result
         (λ links. AreMovedLinks p.now rows.now vars.now (K.keys keys.new) links.items) }
     ensures kept { KeepsKeys (K.keys keys.old) (K.keys keys.new) }
@@ -225,7 +234,7 @@ fn moved_links<K: MonomialKeys>(
             vars,
             rows,
             p,
-            places,
+            moves,
             &links,
             id,
             is_marked(reached, k),
@@ -249,14 +258,14 @@ fn moved_entry<K: MonomialKeys>(
     vars: &[Var],
     rows: &RowTable,
     p: &Shared,
-    places: &[Option<u64>],
+    moves: &[Move],
     links: &[Option<MonoId>],
     id: MonoId,
     is_reached: bool,
 ) -> Result<Option<MonoId>, NoMemory>
     requires rising { IsStrictlySortedBy var_cmp vars.now }
     requires parts { AreParts p.now }
-    requires places { ArePlaces p.now.vars.now vars.now places.now }
+    requires moves { AreMoves p.now.vars.now rows.now vars.now moves.now }
     requires links { AreMovedLinks p.now rows.now vars.now (K.keys keys.old) links.now }
     requires index { id.0 < count p.now.monos.now }
     ensures moved { IfOk result (IsMovedTo p.now rows.now vars.now (K.keys keys.new) id) }
@@ -265,7 +274,7 @@ fn moved_entry<K: MonomialKeys>(
     if !is_reached {
         return Ok(None);
     }
-    moved_monomial(keys, vars, rows, p, places, links, id)
+    moved_monomial(keys, vars, rows, p, moves, links, id)
 }
 
 /// The key of what is left of a monomial: that of a word by its digits, that of a link from the
@@ -275,13 +284,13 @@ fn new_index<K: MonomialKeys>(
     vars: &[Var],
     rows: &RowTable,
     p: &Shared,
-    places: &[Option<u64>],
+    moves: &[Move],
     links: &[Option<MonoId>],
     id: MonoId,
 ) -> Result<Option<MonoId>, NoMemory>
     requires rising { IsStrictlySortedBy var_cmp vars.now }
     requires parts { AreParts p.now }
-    requires places { ArePlaces p.now.vars.now vars.now places.now }
+    requires moves { AreMoves p.now.vars.now rows.now vars.now moves.now }
     requires links { AreMovedLinks p.now rows.now vars.now (K.keys keys.old) links.now }
     requires index { id.0 < count p.now.monos.now }
     ensures moved { IfOk result (IsMovedTo p.now rows.now vars.now (K.keys keys.new) id) }
@@ -289,7 +298,7 @@ fn new_index<K: MonomialKeys>(
 {
     let words = p.monos.words();
     if id.0 < words {
-        return moved_word(keys, vars, rows, p, places, id);
+        return moved_word(keys, vars, rows, p, moves, id);
     }
     let entry = entry_at(links, id.0 - words);
     Ok(entry)
@@ -301,12 +310,12 @@ fn moved_word<K: MonomialKeys>(
     vars: &[Var],
     rows: &RowTable,
     p: &Shared,
-    places: &[Option<u64>],
+    moves: &[Move],
     id: MonoId,
 ) -> Result<Option<MonoId>, NoMemory>
     requires rising { IsStrictlySortedBy var_cmp vars.now }
     requires parts { AreParts p.now }
-    requires places { ArePlaces p.now.vars.now vars.now places.now }
+    requires moves { AreMoves p.now.vars.now rows.now vars.now moves.now }
     requires index { id.0 < count p.now.monos.now }
     ensures moved { IfOk result (IsMovedTo p.now rows.now vars.now (K.keys keys.new) id) }
     ensures kept { KeepsKeys (K.keys keys.old) (K.keys keys.new) }
@@ -315,9 +324,9 @@ fn moved_word<K: MonomialKeys>(
         Some(link) => link,
         None => return Ok(Some(MonoId(keys.one()))),
     };
-    let rest = moved_word(keys, vars, rows, p, places, link.next)?;
+    let rest = moved_word(keys, vars, rows, p, moves, link.next)?;
     match rest {
-        Some(next) => moved_power(keys, vars, rows, p, places, id, link, next),
+        Some(next) => moved_power(keys, vars, rows, p, moves, id, link, next),
         None => Ok(None),
     }
 }
@@ -328,13 +337,13 @@ fn moved_monomial<K: MonomialKeys>(
     vars: &[Var],
     rows: &RowTable,
     p: &Shared,
-    places: &[Option<u64>],
+    moves: &[Move],
     links: &[Option<MonoId>],
     id: MonoId,
 ) -> Result<Option<MonoId>, NoMemory>
     requires rising { IsStrictlySortedBy var_cmp vars.now }
     requires parts { AreParts p.now }
-    requires places { ArePlaces p.now.vars.now vars.now places.now }
+    requires moves { AreMoves p.now.vars.now rows.now vars.now moves.now }
     requires links { AreMovedLinks p.now rows.now vars.now (K.keys keys.old) links.now }
     requires index { id.0 < count p.now.monos.now }
     ensures moved { IfOk result (IsMovedTo p.now rows.now vars.now (K.keys keys.new) id) }
@@ -344,9 +353,9 @@ fn moved_monomial<K: MonomialKeys>(
         Some(link) => link,
         None => return Ok(Some(MonoId(keys.one()))),
     };
-    let rest = new_index(keys, vars, rows, p, places, links, link.next)?;
+    let rest = new_index(keys, vars, rows, p, moves, links, link.next)?;
     match rest {
-        Some(next) => moved_power(keys, vars, rows, p, places, id, link, next),
+        Some(next) => moved_power(keys, vars, rows, p, moves, id, link, next),
         None => Ok(None),
     }
 }
@@ -357,14 +366,14 @@ fn moved_power<K: MonomialKeys>(
     vars: &[Var],
     rows: &RowTable,
     p: &Shared,
-    places: &[Option<u64>],
+    moves: &[Move],
     id: MonoId,
     first: Link,
     next: MonoId,
 ) -> Result<Option<MonoId>, NoMemory>
     requires rising { IsStrictlySortedBy var_cmp vars.now }
     requires parts { AreParts p.now }
-    requires places { ArePlaces p.now.vars.now vars.now places.now }
+    requires moves { AreMoves p.now.vars.now rows.now vars.now moves.now }
     requires index { id.0 < count p.now.monos.now }
     requires monomial { monomial_of p.now.monos.now id
         ≡ (first.var, first.exp) ∷ monomial_of p.now.monos.now first.next }
@@ -374,30 +383,64 @@ fn moved_power<K: MonomialKeys>(
 {
     // every store says of itself that it is one
     let _one = p.monos.one();
-    if is_replaced(rows, p.vars, first.var) {
-        return Ok(Some(next));
+    let _ = rows;
+    match move_at(moves, first.var) {
+        Move::Replaced => Ok(Some(next)),
+        Move::Kept(place) => {
+            if !keys.fits(place, first.exp) {
+                return Ok(None);
+            }
+            let new = keys.power_before(place, first.exp, next.0)?;
+            Ok(Some(MonoId(new)))
+        }
+        Move::Unknown => Ok(None),
     }
-    let place = match place_at(places, first.var) {
-        Some(place) => place,
-        None => return Ok(None),
-    };
-    if !keys.fits(place, first.exp) {
-        return Ok(None);
-    }
-    let new = keys.power_before(place, first.exp, next.0)?;
-    Ok(Some(MonoId(new)))
 }
 
-/// Whether the variable of a number has a row.
-fn is_replaced(rows: &RowTable, vars: &[Var], number: u64) -> bool
-    ensures within { IsTrue result → number < length vars.now }
-    ensures replaced { IsTrue result → row_of rows.now (var_at vars.now number) ≢ None }
-    ensures stays { IsFalse result → number < length vars.now
-        → row_of rows.now (var_at vars.now number) ≡ None }
+/// What becomes of the variable of a number.
+fn move_at(moves: &[Move], number: u64) -> Move
+    ensures { result ≡ slice_index_or moves.now number Unknown }
 {
-    match vars.get(number as usize) {
-        Some(v) => rows.find_row(*v, number).is_some(),
-        None => false,
+    match moves.get(number as usize) {
+        Some(found) => *found,
+        None => Move::Unknown,
+    }
+}
+
+/// What becomes of each of the old variables.
+fn moves_in(
+    alloc: Global,
+    rows: &RowTable,
+    former: &[Var],
+    vars: &[Var],
+) -> Result<Vec<Move>, NoMemory>
+    requires { IsStrictlySortedBy var_cmp vars.now }
+    ensures { IfOk result (λ moves. AreMoves former.now rows.now vars.now moves.items) }
+{
+    let mut moves = Vec::with_capacity(alloc, former.len())?;
+    let mut number = 0u64;
+    let mut guess = 0u64;
+    for v in former {
+        let place = find_place(vars, *v, guess);
+        guess = place.unwrap_or(guess).saturating_add(1);
+        moves.push(move_of(rows, vars, *v, number, place))?;
+        number = number.saturating_add(1);
+    }
+    Ok(moves)
+}
+
+/// What becomes of a variable that has this place. Its row is mostly that of the number.
+fn move_of(rows: &RowTable, vars: &[Var], v: Var, number: u64, place: Option<u64>) -> Move
+    requires { IsPlaceOf vars.now v place }
+    ensures { IsMoveOf rows.now vars.now v result }
+{
+    let _ = vars;
+    if rows.find_row(v, number).is_some() {
+        return Move::Replaced;
+    }
+    match place {
+        Some(place) => Move::Kept(place),
+        None => Move::Unknown,
     }
 }
 

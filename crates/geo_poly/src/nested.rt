@@ -29,6 +29,7 @@ use crate::chained_replacement::{is_one, list_at, one_term_chain, times_list};
 use crate::monomial_keys::MonomialKeys;
 use crate::moving::{MovedMonomials, index_in, moved_monomials};
 use crate::pending::{Pending, front_of, sorted_pending};
+use crate::runs::run_chain;
 use crate::settings::Setting;
 use crate::shared::{Indexed, Shared};
 use crate::sharing::{shared_factors, split_place};
@@ -170,6 +171,7 @@ fn lone_chain<K: MonomialKeys>(
 
 /// The chain of the sum of the terms, each with its factors from a place on. The table has the keys
 /// of what is left of their monomials.
+#[cycle(nested_sum)]
 fn nested_sum<K: MonomialKeys, L: Ledger>(
     alloc: Global,
     setting: &Setting,
@@ -210,24 +212,101 @@ fn nested_sum<K: MonomialKeys, L: Ledger>(
             let first = pending[0].factors_from(depth);
             let shared = shared_factors(first, pending, depth);
             let deeper = depth + shared;
-            let more = splits.saturating_add(1);
-            let (front, back) = pending.split_at(split_place(pending, deeper, splits));
-            let sum = nested_sum(
-                alloc, setting, keys, arena, p, table, front, deeper, more, ticks,
+            let whole = group_sum(
+                alloc, setting, keys, arena, p, table, pending, deeper, splits, ticks,
             )?;
-            match nested_sum(
-                alloc, setting, keys, arena, p, table, back, deeper, more, ticks,
-            ) {
-                Ok(rest) => {
-                    let whole = summed(keys, arena, setting.vars, sum, rest);
-                    let factors = front_of(first, shared);
-                    times_factors(alloc, setting, keys, arena, whole, factors, ticks)
-                }
-                Err(error) => {
-                    arena.give_back(sum);
-                    Err(error)
-                }
-            }
+            let factors = front_of(first, shared);
+            times_factors(alloc, setting, keys, arena, whole, factors, ticks)
+        }
+    }
+}
+
+/// The chain of the sum of terms whose next factors differ, or which have none left: at once where
+/// they are a run, and else of two parts.
+#[cycle(nested_sum)]
+fn group_sum<K: MonomialKeys, L: Ledger>(
+    alloc: Global,
+    setting: &Setting,
+    keys: &mut K,
+    arena: &mut Arena,
+    p: &Shared,
+    table: &MovedMonomials,
+    pending: &[Pending],
+    depth: usize,
+    splits: u32,
+    ticks: &mut Ticks<L>,
+) -> Result<Chain, NoMemory>
+    requires some { 2 ≤ length pending.now }
+    requires set { IsSetUnder setting.now (K.keys keys.old) }
+    requires table { AreMoved p.now setting.now.rows.now setting.now.vars.now (K.keys keys.old)
+        table.now }
+    requires pending { All (IsPending setting.now p.now depth) pending.now }
+    requires norm { factored_weight (map (told_pending setting.now p.now depth) pending.now)
+        < 2 ^ 127 }
+    requires reach { IsReplacedInReach setting.now.vars.now (K.keys keys.old) setting.now.rows.now
+        setting.now.den.piece.now setting.now.top (told p.now) }
+    ensures chain { IfOk result (λ c. StandsUnder setting.now.vars.now (K.keys keys.new) arena.new c
+        (polynomial_of (factored_terms (map (told_pending setting.now p.now depth)
+        pending.now)))) }
+    ensures adds { IfOk result (AddsChain arena.old arena.new) }
+    ensures err { OnErr result (SameChains arena.old arena.new) }
+    ensures kept { KeepsKeys (K.keys keys.old) (K.keys keys.new) }
+    ensures ticks { ticks.new ≤ ticks.old
+        + factored_products (map (told_pending setting.now p.now depth) pending.now) }
+{
+    let found = run_chain(alloc, setting, keys, arena, p, table, pending, depth)?;
+    match found {
+        Some(run) => Ok(run),
+        None => parts_sum(
+            alloc, setting, keys, arena, p, table, pending, depth, splits, ticks,
+        ),
+    }
+}
+
+/// The chain of the sum of the terms, by two parts of them.
+#[cycle(nested_sum)]
+fn parts_sum<K: MonomialKeys, L: Ledger>(
+    alloc: Global,
+    setting: &Setting,
+    keys: &mut K,
+    arena: &mut Arena,
+    p: &Shared,
+    table: &MovedMonomials,
+    pending: &[Pending],
+    depth: usize,
+    splits: u32,
+    ticks: &mut Ticks<L>,
+) -> Result<Chain, NoMemory>
+    requires some { 2 ≤ length pending.now }
+    requires set { IsSetUnder setting.now (K.keys keys.old) }
+    requires table { AreMoved p.now setting.now.rows.now setting.now.vars.now (K.keys keys.old)
+        table.now }
+    requires pending { All (IsPending setting.now p.now depth) pending.now }
+    requires norm { factored_weight (map (told_pending setting.now p.now depth) pending.now)
+        < 2 ^ 127 }
+    requires reach { IsReplacedInReach setting.now.vars.now (K.keys keys.old) setting.now.rows.now
+        setting.now.den.piece.now setting.now.top (told p.now) }
+    ensures chain { IfOk result (λ c. StandsUnder setting.now.vars.now (K.keys keys.new) arena.new c
+        (polynomial_of (factored_terms (map (told_pending setting.now p.now depth)
+        pending.now)))) }
+    ensures adds { IfOk result (AddsChain arena.old arena.new) }
+    ensures err { OnErr result (SameChains arena.old arena.new) }
+    ensures kept { KeepsKeys (K.keys keys.old) (K.keys keys.new) }
+    ensures ticks { ticks.new ≤ ticks.old
+        + factored_products (map (told_pending setting.now p.now depth) pending.now) }
+{
+    let more = splits.saturating_add(1);
+    let (front, back) = pending.split_at(split_place(pending, depth, splits));
+    let sum = nested_sum(
+        alloc, setting, keys, arena, p, table, front, depth, more, ticks,
+    )?;
+    match nested_sum(
+        alloc, setting, keys, arena, p, table, back, depth, more, ticks,
+    ) {
+        Ok(rest) => Ok(summed(keys, arena, setting.vars, sum, rest)),
+        Err(error) => {
+            arena.give_back(sum);
+            Err(error)
         }
     }
 }

@@ -1,21 +1,21 @@
 //! Terms of a polynomial that are to be replaced, with the factors that each is to get.
 
-ghost use Rattle.std.specs.Prelude.{◌≡◌, ◌+◌, ◌-◌, ◌<◌, ◌++◌, Contains, IfOk, OnOk};
-ghost use Rattle.std.specs.Prelude.{drop, length, replicate, take};
-ghost use Rattle.geo_poly.specs.Inner.Factored.{AreFactors, ArePending};
-ghost use Rattle.geo_poly.specs.Inner.TermFactors.{HasNoZero};
+ghost use Rattle.std.specs.Prelude.{◌≡◌, ◌+◌, ◌<◌, ◌≤◌, ◌++◌, [], ℤ, Contains, IfNone, IfOk, IfSome};
+ghost use Rattle.std.specs.Prelude.{OnOk, drop, length, replicate, take};
+ghost use Rattle.std.specs.List.Sorted.{IsStrictlySortedBy};
+ghost use Rattle.geo_poly.specs.Inner.Accumulated.{accumulated_term};
+ghost use Rattle.geo_poly.specs.Inner.Factored.{AreFactors, ArePending, factors_listed};
+ghost use Rattle.geo_poly.specs.Inner.Roles.{AreRoles};
 ghost use Rattle.geo_poly.specs.Monomials.{IsMonomial};
 ghost use Rattle.geo_poly.specs.PolynomialVariables.{AllVariables};
 ghost use Rattle.geo_poly.specs.Replace.{AllBounded, CanReplace, IsBounded, denominators};
 ghost use Rattle.geo_poly.specs.Shared.{AreParts, IsIndexOf, told, told_powers};
+ghost use Rattle.geo_poly.specs.Variables.{var_cmp};
 
-use crate::interning::number_at;
-use crate::reading::read_powers;
 use crate::replacement::Row;
-use crate::replacement_bounds::lacking_at;
+use crate::roles::{Role, role_at, roles_of};
 use crate::settings::Setting;
 use crate::shared::{Indexed, Shared};
-use crate::variables::Var;
 use geo_points::NoMemory;
 use mono_store::MonoId;
 use std::alloc::Global;
@@ -78,6 +78,13 @@ fn push_factor(factors: &mut Vec<usize>, factor: usize, count: u32) -> Result<()
     Ok(())
 }
 
+/// A factor, and how often a term is to get it.
+#[derive(Clone, Copy)]
+pub(crate) struct FactorPower {
+    pub(crate) factor: usize,
+    pub(crate) exponent: u32,
+}
+
 /// The number of the factor that is the numerator of the row at a place.
 fn factor_of_row(rows: &[Row], place: usize) -> usize
     requires { place < length rows.now }
@@ -87,28 +94,74 @@ fn factor_of_row(rows: &[Row], place: usize) -> usize
     place + 1
 }
 
+/// Puts the numerators of a term into the list, in place of what it had, and answers how many
+/// denominators the term lacks. It is none where the term becomes zero, since a numerator is zero, or
+/// the denominator where the term lacks some.
+fn read_factors(
+    setting: &Setting,
+    p: &Shared,
+    id: MonoId,
+    roles: &[Role],
+    numerators: &mut Vec<FactorPower>,
+) -> Result<Option<u32>, NoMemory>
+    requires rows { AllBounded setting.now.rows.now }
+    requires den { IsBounded setting.now.den.piece.now }
+    requires roles { AreRoles setting.now.rows.now setting.now.vars.now p.now.vars.now roles.now }
+    requires index { IsIndexOf p.now id }
+    requires monomial { IsMonomial (told_powers p.now id) }
+    requires top { denominators setting.now.rows.now (told_powers p.now id) ≤ setting.now.top }
+    ensures zero { IfOk result (λ found. IfNone found ((k : ℤ)
+        → accumulated_term setting.now.rows.now setting.now.den.piece.now.poly setting.now.top
+        (told_powers p.now id, k) ≡ [])) }
+    ensures factors { IfOk result (λ found. IfSome found (λ lacking.
+        AreFactors setting.now (told_powers p.now id)
+        (replicate lacking 0 ++ factors_listed numerators.new.items))) }
+{
+    numerators.clear();
+    let mut missing = setting.top;
+    let mut rest = id;
+    while let Some(first) = p.first_power(rest) {
+        let role = role_at(roles, first.number);
+        if let Some(i) = role.row_place() {
+            let row = setting.rows.row(i);
+            if row.num.poly.is_zero() {
+                return Ok(None);
+            }
+            missing -= row.power * first.exponent;
+            let factor = factor_of_row(setting.rows.rows(), i);
+            let exponent = first.exponent;
+            numerators.push(FactorPower { factor, exponent })?;
+        }
+        rest = first.rest;
+    }
+    if missing > 0 && setting.den.piece.poly.is_zero() {
+        return Ok(None);
+    }
+    Ok(Some(missing))
+}
+
+/// How many factors these are, or the greatest number where they are more.
+fn count_factors(numerators: &[FactorPower], lacking: u32) -> usize {
+    let mut count = lacking as usize;
+    for power in numerators {
+        count = count.saturating_add(power.exponent as usize);
+    }
+    count
+}
+
 /// The factors of a term: the denominators that it lacks, and then its numerators in order.
 fn factors_of(
     alloc: Global,
-    setting: &Setting,
-    powers: &[(Var, u32)],
-    numbers: &[u64],
+    numerators: &[FactorPower],
     lacking: u32,
 ) -> Result<Vec<usize>, NoMemory>
-    requires rows { AllBounded setting.now.rows.now }
-    requires den { IsBounded setting.now.den.piece.now }
-    requires no_zero { HasNoZero setting.now.rows.now setting.now.den.piece.now
-        setting.now.top powers.now }
-    requires lacking { lacking ≡ setting.now.top - denominators setting.now.rows.now powers.now }
-    ensures { IfOk result (λ ks. AreFactors setting.now powers.now ks.items) }
+    ensures { IfOk result
+        (λ ks. ks.items ≡ replicate lacking 0 ++ factors_listed numerators.now) }
 {
-    let mut factors = Vec::new(alloc);
+    let mut factors = Vec::with_capacity(alloc, count_factors(numerators, lacking))?;
     push_factor(&mut factors, 0, lacking)?;
-    for k in 0..powers.len() {
-        let (v, e) = powers[k];
-        if let Some(i) = setting.rows.find_place(v, number_at(numbers, k)) {
-            push_factor(&mut factors, factor_of_row(setting.rows.rows(), i), e)?;
-        }
+    for power in numerators {
+        push_factor(&mut factors, power.factor, power.exponent)?;
     }
     Ok(factors)
 }
@@ -116,34 +169,16 @@ fn factors_of(
 /// The term with its factors.
 fn pending_term(
     alloc: Global,
-    setting: &Setting,
-    p: &Shared,
     term: &Indexed,
+    numerators: &[FactorPower],
     lacking: u32,
-    powers: &mut Vec<(Var, u32)>,
-    numbers: &mut Vec<u64>,
 ) -> Result<Pending, NoMemory>
-    requires rows { AllBounded setting.now.rows.now }
-    requires den { IsBounded setting.now.den.piece.now }
-    requires index { IsIndexOf p.now term.now.0 }
-    requires monomial { IsMonomial (told_powers p.now term.now.0) }
-    requires no_zero { HasNoZero setting.now.rows.now setting.now.den.piece.now
-        setting.now.top (told_powers p.now term.now.0) }
-    requires lacking { lacking
-        ≡ setting.now.top - denominators setting.now.rows.now (told_powers p.now term.now.0) }
     ensures index { IfOk result (λ e. e.id ≡ term.now.0) }
     ensures coefficient { IfOk result (λ e. e.coefficient ≡ term.now.1) }
-    ensures factors { IfOk result (λ e. AreFactors setting.now (told_powers p.now term.now.0)
-        e.factors.items) }
+    ensures factors { IfOk result
+        (λ e. e.factors.items ≡ replicate lacking 0 ++ factors_listed numerators.now) }
 {
-    read_powers(p, term.0, powers, numbers)?;
-    let factors = factors_of(
-        alloc,
-        setting,
-        powers.as_slice(),
-        numbers.as_slice(),
-        lacking,
-    )?;
+    let factors = factors_of(alloc, numerators, lacking)?;
     Ok(Pending {
         id: term.0,
         coefficient: term.1,
@@ -153,20 +188,24 @@ fn pending_term(
 
 /// The terms that do not become zero, each with its factors.
 fn pending_terms(alloc: Global, setting: &Setting, p: &Shared) -> Result<Vec<Pending>, NoMemory>
+    requires rising { IsStrictlySortedBy var_cmp setting.now.vars.now }
     requires parts { AreParts p.now }
     requires known { AllVariables (Contains setting.now.vars.now) (told p.now) }
     requires can { CanReplace setting.now.rows.now setting.now.den.piece.now setting.now.top
         (told p.now) }
     ensures pending { IfOk result (λ es. ArePending setting.now p.now (told p.now) es.items) }
 {
-    let mut powers = Vec::new(alloc);
-    let mut numbers = Vec::new(alloc);
+    let roles = roles_of(alloc, setting.rows, p.vars, setting.vars)?;
+    let mut numerators = Vec::new(alloc);
     let mut pending = Vec::with_capacity(alloc, p.list.len())?;
     for term in p.list {
-        let lacking = lacking_at(p, term.0, setting.rows, setting.den.piece, setting.top);
-        if let Some(lacking) = lacking {
-            let made = pending_term(alloc, setting, p, term, lacking, &mut powers, &mut numbers)?;
-            pending.push(made)?;
+        let found = read_factors(setting, p, term.0, &roles, &mut numerators)?;
+        match found {
+            Some(lacking) => {
+                let made = pending_term(alloc, term, &numerators, lacking)?;
+                pending.push(made)?;
+            }
+            None => {}
         }
     }
     Ok(pending)
@@ -178,6 +217,7 @@ pub(crate) fn sorted_pending(
     setting: &Setting,
     p: &Shared,
 ) -> Result<Vec<Pending>, NoMemory>
+    requires rising { IsStrictlySortedBy var_cmp setting.now.vars.now }
     requires parts { AreParts p.now }
     requires known { AllVariables (Contains setting.now.vars.now) (told p.now) }
     requires can { CanReplace setting.now.rows.now setting.now.den.piece.now setting.now.top

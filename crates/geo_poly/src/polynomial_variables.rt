@@ -82,7 +82,7 @@ fn numbers_of_words(alloc: Global, p: &Shared) -> Result<Vec<bool>, NoMemory>
 
 /// What 1 counts in the digit of a variable, and where it has no room, what it counts in the digit
 /// before.
-fn unit_below(digits: &Digits, number: u64, above: u64) -> u64
+pub(crate) fn unit_below(digits: &Digits, number: u64, above: u64) -> u64
     requires { above ≡ count_from digits.now number }
     ensures { result ≡ count_from digits.now (number + 1) }
 {
@@ -203,7 +203,11 @@ pub(crate) fn mark(visited: &mut Vec<bool>, place: usize) -> bool
 }
 
 /// The variables whose numbers are marked.
-fn marked_variables(alloc: Global, vars: &[Var], known: &[bool]) -> Result<Vec<Var>, NoMemory>
+pub(crate) fn marked_variables(
+    alloc: Global,
+    vars: &[Var],
+    known: &[bool],
+) -> Result<Vec<Var>, NoMemory>
     requires { length known.now ≡ length vars.now }
     ensures { IfOk result (λ found. found.items ≡ marked vars.now known.now) }
 {

@@ -5,6 +5,7 @@ ghost use Rattle.std.specs.Prelude.{unsigned_abs, slice_get, Contains, IfOk, IsT
 ghost use Rattle.sparse_lists.specs.SparseLists.{AllKeys};
 ghost use Rattle.poly_arena.specs.Chains.{IsLive, pairs_of};
 ghost use Rattle.geo_poly.specs.Chained.{IsKey, keyed_terms, keyed_terms_under};
+ghost use Rattle.geo_poly.specs.Inner.Keyed.{IsIndexUnder, terms_under};
 ghost use Rattle.geo_poly.specs.Inner.Words.{word_keys};
 ghost use Rattle.geo_poly.specs.Keys.{IsKeyUnder};
 ghost use Rattle.geo_poly.specs.Monomials.{IsMonomial};
@@ -19,8 +20,9 @@ ghost use Rattle.std.specs.List.Sorted.{IsStrictlySortedBy};
 
 use crate::interning::{indexed, stored_terms};
 use crate::lists::Vars;
-use crate::moving::{find_place, moved};
-use crate::polynomial_variables::{mark, variables_at, variables_of_terms};
+use crate::moving::moved;
+use crate::numbering::number_in;
+use crate::polynomial_variables::{mark, marked_variables, variables_at, variables_of_terms};
 use crate::reading::{count_powers, is_same, norm_at, power_at, terms_at, total_degree_at};
 use crate::roomy_stores::{store_for, store_for_terms};
 use crate::shared::{Indexed, Shared};
@@ -251,7 +253,7 @@ impl Poly {
         Poly::compact(alloc, vars, monos, list)
     }
 
-    /// The polynomial that a chain of words stands for, whose store has these words. The chain and its
+    /// The polynomial that a chain of words stands for, over a store of these words. The chain and its
     /// arena are spent.
     pub(crate) fn from_words(
         alloc: Global,
@@ -270,6 +272,43 @@ impl Poly {
     {
         let pairs = arena.into_list(alloc, chain)?;
         let list = indexed(alloc, &pairs)?;
+        Poly::of_words(alloc, vars, words, list)
+    }
+
+    /// The polynomial of a list of words, without the digits that have no room, and without their
+    /// variables: the words stay as they are.
+    pub(crate) fn of_words(
+        alloc: Global,
+        vars: Vars,
+        words: Digits,
+        list: Vec<Indexed>,
+    ) -> Result<Poly, NoMemory>
+        requires rising { IsStrictlySortedBy var_cmp vars }
+        requires indices { AllKeys (IsIndexUnder vars (word_keys words)) list.items }
+        requires polynomial { IsPolynomial (terms_under vars (word_keys words) list.items) }
+        ensures { IfOk result (λ p. p ≡ terms_under vars (word_keys words) list.items) }
+    {
+        if words.count() != vars.as_slice().len() {
+            return Poly::over_words(alloc, vars, words, list);
+        }
+        let known = words.with_room(alloc)?;
+        let items = marked_variables(alloc, vars.as_slice(), known.as_slice())?;
+        let kept = words.without_empty(alloc)?;
+        Poly::over_words(alloc, Vars { items }, kept, list)
+    }
+
+    /// The polynomial of a list of words, whose store has these words.
+    fn over_words(
+        alloc: Global,
+        vars: Vars,
+        words: Digits,
+        list: Vec<Indexed>,
+    ) -> Result<Poly, NoMemory>
+        requires rising { IsStrictlySortedBy var_cmp vars }
+        requires indices { AllKeys (IsIndexUnder vars (word_keys words)) list.items }
+        requires polynomial { IsPolynomial (terms_under vars (word_keys words) list.items) }
+        ensures { IfOk result (λ p. p ≡ terms_under vars (word_keys words) list.items) }
+    {
         let monos = Monos::of_words(alloc, words);
         Poly::compact(alloc, vars, monos, list)
     }
@@ -279,7 +318,12 @@ impl Poly {
         ensures { self.new ≡ specialised v (pos 0) self.old }
     {
         let vars = self.stored.vars.as_slice();
-        if let Some(number) = find_place(vars, v, 0) {
+        let p = Shared {
+            vars,
+            monos: &self.stored.monos,
+            list: self.stored.list.as_slice(),
+        };
+        if let Some(number) = number_in(&p, v) {
             keep_lacking(vars, &self.stored.monos, &mut self.stored.list, number);
         }
     }

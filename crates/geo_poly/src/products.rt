@@ -5,9 +5,11 @@ ghost use Rattle.std.specs.Prelude.{Contains, IfOk, IfSome, IsTrue, OnErr, OnOk}
 ghost use Rattle.std.specs.List.Sorted.{IsStrictlySortedBy};
 ghost use Rattle.mono_store.specs.Stores.{Keeps};
 ghost use Rattle.geo_poly.specs.declared.limits.Which.{Which};
-ghost use Rattle.geo_poly.specs.Chained.{AddsChain, SameChains, StandsFor, StandsUnder};
-ghost use Rattle.geo_poly.specs.Inner.Keyed.{AreInReach, KeepsKeys, greatest_exponent};
+ghost use Rattle.geo_poly.specs.Chained.{AddsChain, SameChains, StandsFor};
+ghost use Rattle.geo_poly.specs.Inner.Keyed.{AreInReach, IsIndexUnder, KeepsKeys};
+ghost use Rattle.geo_poly.specs.Inner.Keyed.{greatest_exponent, terms_under};
 ghost use Rattle.geo_poly.specs.Inner.Limits.{HaveRoom};
+ghost use Rattle.geo_poly.specs.Inner.Words.{word_keys};
 ghost use Rattle.geo_poly.specs.Polynomials.{CanMultiply, IsPolynomial, norm_of, product_of};
 ghost use Rattle.geo_poly.specs.Polynomials.{total_degree};
 ghost use Rattle.geo_poly.specs.PolynomialVariables.{AllVariables};
@@ -17,6 +19,7 @@ ghost use Rattle.geo_poly.specs.Variables.{var_cmp};
 
 use crate::chained::product_chain;
 use crate::chained_replacement::is_one;
+use crate::dense_products::{dense_product, is_dense};
 use crate::exponent_limits::product_digits;
 use crate::interning::indexed;
 use crate::limits::{MAX, MAX_DEGREE, PolyError, Which};
@@ -220,39 +223,66 @@ fn packed_product<L: Ledger>(
         (λ v. greatest_exponent v (told p.now) + greatest_exponent v (told q.now)) }
     ensures { IfOk result (λ s. s ≡ product_of (told p.now) (told q.now)) }
 {
-    let mut arena = Arena::new(alloc)?;
     let names = vars.as_slice();
     let mut ticks = Ticks::<L>::new(blank);
-    let chain = keyed_product(alloc, &mut words, &mut arena, names, p, q, &mut ticks)?;
-    Poly::from_words(alloc, vars, words, arena, chain)
+    let list = keyed_product(alloc, &mut words, names, p, q, &mut ticks)?;
+    Poly::of_words(alloc, vars, words, list)
 }
 
-/// The chain of the product, which fits, under any keys that have room.
-fn keyed_product<K: MonomialKeys, L: Ledger>(
+/// The list of the product, which fits, by words that have room for it.
+fn keyed_product<L: Ledger>(
     alloc: Global,
-    keys: &mut K,
-    arena: &mut Arena,
+    words: &mut Digits,
     vars: &[Var],
     p: &Shared,
     q: &Shared,
     ticks: &mut Ticks<L>,
-) -> Result<Chain, NoMemory>
+) -> Result<Vec<Indexed>, NoMemory>
     requires rising { IsStrictlySortedBy var_cmp vars.now }
     requires left { AreParts p.now }
     requires right { AreParts q.now }
     requires left_known { AllVariables (Contains vars.now) (told p.now) }
     requires right_known { AllVariables (Contains vars.now) (told q.now) }
     requires fits { CanMultiply (told p.now) (told q.now) }
-    requires reach { AreInReach vars.now (K.keys keys.old) (told p.now) (told q.now) }
-    ensures chain { IfOk result (λ c. StandsUnder vars.now (K.keys keys.new) arena.new c
-        (product_of (told p.now) (told q.now))) }
-    ensures adds { IfOk result (AddsChain arena.old arena.new) }
-    ensures err { OnErr result (SameChains arena.old arena.new) }
-    ensures kept { KeepsKeys (K.keys keys.old) (K.keys keys.new) }
+    requires reach { AreInReach vars.now (word_keys words.old) (told p.now) (told q.now) }
+    ensures indices { IfOk result
+        (λ list. AllKeys (IsIndexUnder vars.now (word_keys words.new)) list.items) }
+    ensures product { IfOk result (λ list. terms_under vars.now (word_keys words.new) list.items
+        ≡ product_of (told p.now) (told q.now)) }
 {
-    let left = keyed(alloc, keys, vars, p)?;
-    let right = keyed(alloc, keys, vars, q)?;
-    product_chain(keys, arena, vars, &left, &right, ticks)
+    let left = keyed(alloc, words, vars, p)?;
+    let right = keyed(alloc, words, vars, q)?;
+    word_product(alloc, words, vars, &left, &right, ticks)
+}
+
+/// The list of the product, by words: where these are few by a sum for each, or else by chains.
+fn word_product<L: Ledger>(
+    alloc: Global,
+    words: &mut Digits,
+    vars: &[Var],
+    left: &[Indexed],
+    right: &[Indexed],
+    ticks: &mut Ticks<L>,
+) -> Result<Vec<Indexed>, NoMemory>
+    requires rising { IsStrictlySortedBy var_cmp vars.now }
+    requires left { AllKeys (IsIndexUnder vars.now (word_keys words.old)) left.now }
+    requires right { AllKeys (IsIndexUnder vars.now (word_keys words.old)) right.now }
+    requires fits { CanMultiply (terms_under vars.now (word_keys words.old) left.now)
+        (terms_under vars.now (word_keys words.old) right.now) }
+    requires reach { AreInReach vars.now (word_keys words.old)
+        (terms_under vars.now (word_keys words.old) left.now)
+        (terms_under vars.now (word_keys words.old) right.now) }
+    ensures indices { IfOk result
+        (λ list. AllKeys (IsIndexUnder vars.now (word_keys words.new)) list.items) }
+    ensures product { IfOk result (λ list. terms_under vars.now (word_keys words.new) list.items
+        ≡ product_of (terms_under vars.now (word_keys words.old) left.now)
+        (terms_under vars.now (word_keys words.old) right.now)) }
+{
+    if is_dense(words, left, right) {
+        dense_product(alloc, words, vars, left, right)
+    } else {
+        merged_product(alloc, words, vars, left, right, ticks)
+    }
 }
 
 /// Room for the links of a product. Nothing rests on it but time.
@@ -300,6 +330,7 @@ fn product_of_moved(
 }
 
 /// The list of the product, in a store: over an arena where there are sums.
+#[tactic(auto, using(crate::proofs::KeysKept::keeps_store))]
 pub(crate) fn product_list<L: Ledger>(
     alloc: Global,
     store: &mut Monos,
@@ -330,28 +361,31 @@ pub(crate) fn product_list<L: Ledger>(
 }
 
 /// The list of the product, by chains of an arena.
-#[tactic(auto, using(crate::proofs::KeysKept::keeps_store))]
-fn merged_product<L: Ledger>(
+fn merged_product<K: MonomialKeys, L: Ledger>(
     alloc: Global,
-    store: &mut Monos,
+    keys: &mut K,
     vars: &[Var],
     left: &[Indexed],
     right: &[Indexed],
     ticks: &mut Ticks<L>,
 ) -> Result<Vec<Indexed>, NoMemory>
     requires rising { IsStrictlySortedBy var_cmp vars.now }
-    requires left { AllKeys (IsIndex vars.now store.old) left.now }
-    requires right { AllKeys (IsIndex vars.now store.old) right.now }
-    requires fits { CanMultiply (terms_of vars.now store.old left.now)
-        (terms_of vars.now store.old right.now) }
-    ensures indices { IfOk result (λ list. AllKeys (IsIndex vars.now store.new) list.items) }
-    ensures product { IfOk result (λ list. terms_of vars.now store.new list.items
-        ≡ product_of (terms_of vars.now store.old left.now)
-        (terms_of vars.now store.old right.now)) }
-    ensures kept { Keeps store.old store.new }
+    requires left { AllKeys (IsIndexUnder vars.now (K.keys keys.old)) left.now }
+    requires right { AllKeys (IsIndexUnder vars.now (K.keys keys.old)) right.now }
+    requires fits { CanMultiply (terms_under vars.now (K.keys keys.old) left.now)
+        (terms_under vars.now (K.keys keys.old) right.now) }
+    requires reach { AreInReach vars.now (K.keys keys.old)
+        (terms_under vars.now (K.keys keys.old) left.now)
+        (terms_under vars.now (K.keys keys.old) right.now) }
+    ensures indices { IfOk result
+        (λ list. AllKeys (IsIndexUnder vars.now (K.keys keys.new)) list.items) }
+    ensures product { IfOk result (λ list. terms_under vars.now (K.keys keys.new) list.items
+        ≡ product_of (terms_under vars.now (K.keys keys.old) left.now)
+        (terms_under vars.now (K.keys keys.old) right.now)) }
+    ensures kept { KeepsKeys (K.keys keys.old) (K.keys keys.new) }
 {
     let mut arena = Arena::new(alloc)?;
-    let chain = product_chain(store, &mut arena, vars, left, right, ticks)?;
+    let chain = product_chain(keys, &mut arena, vars, left, right, ticks)?;
     let pairs = arena.into_list(alloc, chain)?;
     indexed(alloc, &pairs)
 }

@@ -1,7 +1,7 @@
 //! The monomials of a polynomial, read power by power.
 
 ghost use Rattle.std.specs.Prelude.{◌≡◌, ◌↔◌, ◌<◌, ◌≤◌, ◌^◌, ◌∷◌, [], length, slice_get};
-ghost use Rattle.std.specs.Prelude.{IfOk, IfSome, IfNone, IsTrue, OnOk, Some};
+ghost use Rattle.std.specs.Prelude.{IfOk, IfSome, IfNone, IsTrue, Some};
 ghost use Rattle.geo_poly.specs.Monomials.{IsMonomial, degree_of, exponent};
 ghost use Rattle.geo_poly.specs.Polynomials.{norm_of, term_at, total_degree};
 ghost use Rattle.geo_poly.specs.Shared.{AreParts, IsIndexOf, told, told_powers, told_term};
@@ -60,27 +60,6 @@ pub(crate) fn monomial_at(alloc: Global, p: &Shared, id: MonoId) -> Result<Monom
         rest = first.rest;
     }
     Ok(Monomial::from_powers(powers))
-}
-
-/// The powers of a monomial, in place of what the list had, and the numbers of their variables.
-pub(crate) fn read_powers(
-    p: &Shared,
-    id: MonoId,
-    powers: &mut Vec<(Var, u32)>,
-    numbers: &mut Vec<u64>,
-) -> Result<(), NoMemory>
-    requires { IsIndexOf p.now id }
-    ensures { OnOk result (powers.new.items ≡ told_powers p.now id) }
-{
-    powers.clear();
-    numbers.clear();
-    let mut rest = id;
-    while let Some(first) = p.first_power(rest) {
-        powers.push((first.var, first.exponent))?;
-        numbers.push(first.number)?;
-        rest = first.rest;
-    }
-    Ok(())
 }
 
 /// The sum of the exponents.

@@ -39,6 +39,10 @@ use poly_arena::{Arena, Chain};
 use std::alloc::Global;
 use std::sync::ledger::Ledger;
 
+/// With more variables than these, limits of their exponents are not reckoned: of the 64 bits of a word each
+/// variable that occurs takes one or more.
+const MOST_NAMES: usize = 128;
+
 /// A polynomial with numbers that bound its size, which are known before it is multiplied out. They
 /// are promised only where a contract says `IsBounded`.
 #[derive(Drop)]
@@ -206,6 +210,9 @@ impl Poly {
         let vars = self.replacement_vars(alloc, rows.rows(), den)?;
         let p = &self.shared();
         let names = vars.as_slice();
+        if names.len() > MOST_NAMES {
+            return self.stored_replacement(alloc, rows, den, top, vars, Monos::new(alloc), ticks);
+        }
         let limits = replacement_limits(alloc, names, p, rows, den, top)?;
         if let Some(words) = digits_for(alloc, names, &limits)? {
             return self.packed_replacement(alloc, rows, den, top, vars, words, ticks);

@@ -1,11 +1,9 @@
-//! How large a replacement gets, which is known before it is made, and what of it is zero.
+//! How large a replacement gets, which is known before it is made.
 
-ghost use Rattle.std.specs.Prelude.{min, ◌-◌, ◌≡◌, ◌^◌, ◌≤◌, ℤ, [], IfNone, IfSome, pos};
+ghost use Rattle.std.specs.Prelude.{min, ◌-◌, ◌≡◌, ◌^◌, ◌≤◌, pos};
 ghost use Rattle.geo_poly.specs.Monomials.{IsMonomial};
 ghost use Rattle.geo_poly.specs.Replace.{AllBounded, AllPowersSmall, IsBounded};
 ghost use Rattle.geo_poly.specs.Replace.{degree_bound, denominators, most_denominators};
-ghost use Rattle.geo_poly.specs.Inner.Accumulated.{accumulated_term};
-ghost use Rattle.geo_poly.specs.Inner.TermFactors.{HasNoZero};
 ghost use Rattle.geo_poly.specs.Replace.{term_degree, term_weight, weight_of};
 ghost use Rattle.geo_poly.specs.Shared.{AreParts, IsIndexOf, told, told_powers};
 
@@ -125,40 +123,4 @@ pub(crate) fn degree_of_terms(p: &Shared, rows: &RowTable, den: &Piece, top: u32
         }
     }
     degree
-}
-
-/// How many of so many denominators a term lacks. It is none where the term becomes zero, since a
-/// numerator is zero, or the denominator where the term lacks some.
-pub(crate) fn lacking_at(
-    p: &Shared,
-    id: MonoId,
-    rows: &RowTable,
-    den: &Piece,
-    top: u32,
-) -> Option<u32>
-    requires index { IsIndexOf p.now id }
-    requires top { denominators rows.now (told_powers p.now id) ≤ top }
-    requires monomial { IsMonomial (told_powers p.now id) }
-    ensures zero { IfNone result ((k : ℤ)
-        → accumulated_term rows.now den.now.poly top (told_powers p.now id, k) ≡ []) }
-    ensures nonzero { IfSome result
-        (λ _. HasNoZero rows.now den.now top (told_powers p.now id)) }
-    ensures lacking { IfSome result
-        (λ lacking. lacking ≡ top - denominators rows.now (told_powers p.now id)) }
-{
-    let mut missing = top;
-    let mut rest = id;
-    while let Some(first) = p.first_power(rest) {
-        if let Some(row) = rows.find_row(first.var, first.number) {
-            if row.num.poly.is_zero() {
-                return None;
-            }
-            missing -= row.power * first.exponent;
-        }
-        rest = first.rest;
-    }
-    if missing > 0 && den.poly.is_zero() {
-        return None;
-    }
-    Some(missing)
 }

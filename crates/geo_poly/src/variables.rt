@@ -30,7 +30,8 @@ pub enum Var {
 }
 
 impl Var {
-    ghost use Rattle.geo_poly.specs.Variables.{rank};
+    ghost use Rattle.std.specs.Prelude.{Some, slice_get};
+    ghost use Rattle.geo_poly.specs.Variables.{rank, var_cmp};
 
     /// The kind, and then the numbers: the coordinates of a point stand together.
     fn rank(self) -> [u32; 5]
@@ -45,6 +46,29 @@ impl Var {
             Var::T(t) => [4, t.0, 0, 0, 0],
         }
     }
+
+    /// The kind, which most variables of different kinds are told by.
+    fn kind(&self) -> u32
+        ensures { slice_get (rank self.now) 0 ≡ Some result }
+    {
+        match self {
+            Var::R(_, _, _, _) => 0,
+            Var::S(_, _, _) => 1,
+            Var::P(_, _, _) => 2,
+            Var::X(_) | Var::Y(_) => 3,
+            Var::T(_) => 4,
+        }
+    }
+
+    /// The order of variables by their ranks.
+    fn cmp_ranks(&self, other: &Var) -> Ordering
+        ensures { result ≡ var_cmp self.now other.now }
+    {
+        match self.kind().cmp(&other.kind()) {
+            Ordering::Equal => self.rank().cmp(&other.rank()),
+            order => order,
+        }
+    }
 }
 
 impl PartialEq for Var {
@@ -55,14 +79,14 @@ impl PartialEq for Var {
     ghost laws = { Prim.search (comparing, rules) };
 
     fn eq(&self, other: &Var) -> bool {
-        match (*self, *other) {
+        match (self, other) {
             (Var::R(a, b, c, d), Var::R(e, f, g, h)) => a == e && b == f && c == g && d == h,
             (Var::S(a, b, c), Var::S(d, e, f)) => a == d && b == e && c == f,
             (Var::P(a, b, c), Var::P(d, e, f)) => a == d && b == e && c == f,
             (Var::X(a), Var::X(b)) => a == b,
             (Var::Y(a), Var::Y(b)) => a == b,
             (Var::T(s), Var::T(t)) => s == t,
-            (v, w) => v.rank() == w.rank(),
+            _ => self.kind() == other.kind() && self.rank() == other.rank(),
         }
     }
 }
@@ -83,16 +107,16 @@ impl Ord for Var {
     ghost matches_eq = { Prim.search (comparing, rules) };
 
     fn cmp(&self, other: &Var) -> Ordering {
-        match (*self, *other) {
-            (Var::R(a, b, c, d), Var::R(e, f, g, h)) => (a, b, c, d).cmp(&(e, f, g, h)),
-            (Var::S(a, b, c), Var::S(d, e, f)) => (a, b, c).cmp(&(d, e, f)),
-            (Var::P(a, b, c), Var::P(d, e, f)) => (a, b, c).cmp(&(d, e, f)),
-            (Var::X(a), Var::X(b)) => a.cmp(&b),
-            (Var::X(a), Var::Y(b)) => a.cmp(&b).then(Ordering::Less),
-            (Var::Y(a), Var::X(b)) => a.cmp(&b).then(Ordering::Greater),
-            (Var::Y(a), Var::Y(b)) => a.cmp(&b),
-            (Var::T(s), Var::T(t)) => s.cmp(&t),
-            (v, w) => v.rank().cmp(&w.rank()),
+        match (self, other) {
+            (Var::R(a, b, c, d), Var::R(e, f, g, h)) => (*a, *b, *c, *d).cmp(&(*e, *f, *g, *h)),
+            (Var::S(a, b, c), Var::S(d, e, f)) => (*a, *b, *c).cmp(&(*d, *e, *f)),
+            (Var::P(a, b, c), Var::P(d, e, f)) => (*a, *b, *c).cmp(&(*d, *e, *f)),
+            (Var::X(a), Var::X(b)) => a.cmp(b),
+            (Var::X(a), Var::Y(b)) => a.cmp(b).then(Ordering::Less),
+            (Var::Y(a), Var::X(b)) => a.cmp(b).then(Ordering::Greater),
+            (Var::Y(a), Var::Y(b)) => a.cmp(b),
+            (Var::T(s), Var::T(t)) => s.cmp(t),
+            _ => self.cmp_ranks(other),
         }
     }
 }

@@ -29,6 +29,10 @@ impl MonomialKeys for Digits {
         Ok(a + b)
     }
 
+    fn comes_before(&self, a: u64, b: u64) -> bool {
+        a > b
+    }
+
     fn merge(&self, arena: &mut Arena, kept: &mut Chain, spent: Chain) {
         let _count = self.count();
         arena.merge_into(&ByWord, kept, spent);

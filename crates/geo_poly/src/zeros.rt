@@ -9,7 +9,7 @@ ghost use Rattle.geo_poly.specs.Shared.{told_powers, var_at};
 ghost use Rattle.geo_poly.specs.Specialise.{specialised};
 ghost use Rattle.geo_poly.specs.Variables.{var_cmp};
 
-use crate::moving::find_place;
+use crate::numbering::number_in;
 use crate::polynomials::Poly;
 use crate::shared::{Indexed, Shared};
 use crate::variables::Var;
@@ -21,7 +21,7 @@ impl Poly {
         ensures { IsTrue result ↔ (specialised v (pos 0) self.now ≡ []) }
     {
         let p = &self.shared();
-        match find_place(p.vars, v, 0) {
+        match number_in(p, v) {
             Some(number) => all_have(p, number),
             None => self.is_zero(),
         }

@@ -45,7 +45,7 @@ use Rattle.geo_prover.specs.FirstLines.{IsBrokenOffAmong, IsPartAmong}
 use Rattle.log_maker.specs.declared.frame.Frame.TheVariants.{Full}
 use Rattle.log_maker.specs.declared.size.Size.{Size}
 use Rattle.log_maker.specs.declared.size.Size.TheVariants.{Written}
-use Rattle.log_maker.specs.Sizes.{Fits, HoldsText, IsPast, with_text}
+use Rattle.log_maker.specs.Sizes.{Fits, HoldsText, IsPast, IsSizeAfter, with_text}
 use Rattle.log_maker.specs.Halting.{Finishes, Halts, IsBrokenOff, IsPieceOfNext, IsStopped, IsTooLong, Passes}
 use Rattle.log_maker.specs.Parts.{CanWrite, IsInside, Part, conditions_part, items_of, log_part}
 use Rattle.log_maker.specs.Tasks.{IsItemReady, IsReady}
@@ -179,6 +179,11 @@ module _ (p : Source) (c : Construction) (conditions goals : List Item) (steps :
   module _ (s t : State) (lines_none : s.lines ≡ 0) (size_none : s.size ≡ Written 0) where
     within : (n : ℕ) → Fits (with_text s.size n) → n ≤ 67108864
     within n h = let f : 0 + n ≤ 67108864 = subst (λ (z : Size). Fits (with_text z n)) size_none h in omega (arith, f)
+
+    whole_within : (n : ℕ) → IsSizeAfter s.size n t.size → Fits t.size → n ≤ 67108864
+    whole_within n h fits =
+        let m : t.size ≡ Written (0 + n) = subst (λ (z : Size). IsSizeAfter z n t.size) size_none h in
+        let f : 0 + n ≤ 67108864 = subst Fits m fits in omega (arith, f)
 
     past : (n : ℕ) → IsPast (with_text s.size n) → 67108864 < n
     past n h = let f : 67108864 < 0 + n = subst (λ (z : Size). IsPast (with_text z n)) size_none h in omega (arith, f)
@@ -330,7 +335,7 @@ module _ (p : Source) (c : Construction) (conditions goals : List Item) (steps :
         → summary.charge ≡ steps - left → Concludes p steps s.held t.held summary
     concluded summary left h fits counted charged =
         let defined : IsDefinedLog lemma_table subject steps h.lines
-        (ends_with summary.verdict left) = (h.whole, within (text_length h.lines) (subst Fits h.written.measured fits)) in
+        (ends_with summary.verdict left) = (h.whole, whole_within (text_length h.lines) h.written.measured fits) in
         record {
           lines = h.lines;
           left = left;

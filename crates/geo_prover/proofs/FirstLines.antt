@@ -20,7 +20,7 @@ use Rattle.log_maker.specs.declared.errors.ProveError.TheVariants.{TooLarge, Spe
 use Rattle.geo_prover.specs.FirstLines.{IsBrokenOffAmong, IsPartAmong, IsTooLongAmong, pieces}
 use Rattle.log_maker.specs.Sizes.{Fits, HoldsText, IsPast, with_text}
 use Rattle.log_maker.specs.Written.{IsCutOff, IsUnwritten, State, Writes}
-use Rattle.log_maker.proofs.Passing.{held_on, log_text-append, sized_on, writes_more}
+use Rattle.log_maker.proofs.Passing.{fits_behind, held_on, log_text-append, past_behind, writes_more}
 use Rattle.log_maker.proofs.Sizing.{fits_none, holds_nothing}
 
 -- THE FIRST LINE FEED
@@ -153,7 +153,7 @@ module _ (lines : List (List ℕ)) (rest : List ℕ) (s t : State) (b : IsBetwee
 -- what is told of the lines behind some that were written
 module _ (front : List Line) (s t u : State) (w : Writes front s t) where
   fits_on : (before : List Line) → Fits (with_text t.size (text_length before)) → Fits (with_text s.size (text_length (front ++ before)))
-  fits_on before fits = subst Fits (sized_on front s t w before) fits
+  fits_on before fits = fits_behind front s t w before fits
 
   faults_on : t.faults ≤ u.faults → s.faults ≤ u.faults
   faults_on g = let f = w.faults in omega (arith, f, g)
@@ -178,7 +178,7 @@ module _ (front : List Line) (s t u : State) (w : Writes front s t) where
     long =
         let same : text_length (front ++ (g.before ++ g.line ∷ [])) ≡ text_length ((front ++ g.before) ++ g.line ∷ []) = ap text_length
         (sym (append_assoc front g.before (g.line ∷ []))) in
-        subst IsPast (sized_on front s t w (g.before ++ g.line ∷ []) ∙ ap (λ (n : ℕ). with_text s.size n) same) g.long;
+        subst (λ (n : ℕ). IsPast (with_text s.size n)) same (past_behind front s t w (g.before ++ g.line ∷ []) g.long);
     written = subst (λ text. HoldsText s.size s.held text u.held) (sym (log_text-append front g.before))
         (held_on front s t u w (log_text g.before) g.written);
     faults = sound_on g.faults;

@@ -1,19 +1,18 @@
 -- Lines that are written by their text.
-use Rattle.std.proofs.Common.{◌≡◌, ℕ, ◌+◌, ◌≤◌, List, length, ◌∙◌, ap, sym, subst, arith}
-use Rattle.std.specs.Prelude.{OnOk, Result}
+use Rattle.std.proofs.Common.{◌≡◌, ℕ, ◌+◌, List, length, ◌∙◌, ap, subst, arith}
 use Rattle.proof_log.specs.declared.log.Line.{Line}
 use Rattle.proof_log.specs.Lines.{log_text}
-use Rattle.log_maker.specs.Sizes.{HoldsText, with_text}
+use Rattle.log_maker.specs.Sizes.{HoldsText, IsSizeAfter}
 use Rattle.log_maker.specs.Written.{State, Writes, WritesSome}
 use Rattle.log_maker.proofs.Sizing.{holds_nothing}
 
 -- their text is written
 pub written_again : (s t : State) (text : List ℕ) (lines : ℕ) (again : List Line) → text ≡ log_text again → lines ≡ length again
-    → t.lines ≡ s.lines + lines → t.size ≡ with_text s.size (length text) → HoldsText s.size s.held text t.held → t.faults ≡ s.faults
+    → t.lines ≡ s.lines + lines → IsSizeAfter s.size (length text) t.size → HoldsText s.size s.held text t.held → t.faults ≡ s.faults
     → Writes again s t
 written_again s t text lines again same count counted measured written faults = record {
   counted = counted ∙ ap (λ (n : ℕ). s.lines + n) count;
-  measured = measured ∙ ap (λ (xs : List ℕ). with_text s.size (length xs)) same;
+  measured = subst (λ (xs : List ℕ). IsSizeAfter s.size (length xs) t.size) same measured;
   written = subst (λ xs. HoldsText s.size s.held xs t.held) same written;
   faults = faults;
 }

@@ -22,9 +22,10 @@ use Rattle.log_maker.specs.declared.size.Size.{Size}
 use Rattle.log_maker.specs.Halting.{Finishes, Halts, IsAnswered, IsBrokenOff, IsPieceOfNext, IsStopped, IsTooLong, Passes}
 use Rattle.log_maker.specs.InFrame.{IsNextIn}
 use Rattle.log_maker.specs.Parts.{CanWrite, Continues, Part, here_part}
-use Rattle.log_maker.specs.Sizes.{Fits, HoldsText, IsPast, IsTakable, with_text}
+use Rattle.log_maker.specs.Sizes.{Fits, HoldsText, IsPast, IsSizeAfter, IsTakable, with_text}
 use Rattle.log_maker.specs.Written.{HasStopped, IsCutOff, IsUnwritten, State, Writes, WritesSome}
-use Rattle.log_maker.proofs.Sizing.{fits_none, holds_more, holds_nothing, takable_then, with_both, with_none}
+use Rattle.log_maker.proofs.Sizing.{fits_none, holds_nothing, size_fits, size_holds, size_more, size_none, size_past, size_takes}
+use Rattle.log_maker.proofs.Sizing.{with_both, with_none}
 
 -- TEXTS
 abbrev piece_of_line : Line → List ℕ
@@ -38,27 +39,33 @@ text_length-append xs ys = ap length (log_text-append xs ys) ∙ length-append (
 
 -- WRITES
 pub writes_nothing : (s : State) → Writes [] s s
-writes_nothing s = record { counted = omega arith; measured = sym (with_none s.size); written = holds_nothing s.size s.held; faults = refl }
+writes_nothing s = record { counted = omega arith; measured = size_none s.size; written = holds_nothing s.size s.held; faults = refl }
 
--- the size behind lines and further ones
-pub sized_on : (xs : List Line) (s t : State) → Writes xs s t → (ys : List Line)
-    → with_text t.size (text_length ys) ≡ with_text s.size (text_length (xs ++ ys))
-sized_on xs s t h ys =
-    ap (λ (z : Size). with_text z (text_length ys)) h.measured ∙ with_both s.size (text_length xs) (text_length ys)
-    ∙ ap (λ (n : ℕ). with_text s.size n) (sym (text_length-append xs ys))
+-- what the size behind lines tells of that behind further ones
+module _ (xs : List Line) (s t : State) (h : Writes xs s t) (ys : List Line) where
+  further : text_length xs + text_length ys ≡ text_length (xs ++ ys)
+  further = sym (text_length-append xs ys)
+
+  pub fits_behind : Fits (with_text t.size (text_length ys)) → Fits (with_text s.size (text_length (xs ++ ys)))
+  fits_behind fits =
+      subst (λ (n : ℕ). Fits (with_text s.size n)) further (size_fits s.size (text_length xs) t.size h.measured (text_length ys) fits)
+
+  pub past_behind : IsPast (with_text t.size (text_length ys)) → IsPast (with_text s.size (text_length (xs ++ ys)))
+  past_behind past =
+      subst (λ (n : ℕ). IsPast (with_text s.size n)) further (size_past s.size (text_length xs) t.size h.measured (text_length ys) past)
 
 -- the text behind lines
 pub held_on : (xs : List Line) (s t u : State) → Writes xs s t → (text : List ℕ) → HoldsText t.size t.held text u.held
     → HoldsText s.size s.held (log_text xs ++ text) u.held
-held_on xs s t u h text g =
-    holds_more s.size (text_length xs) s.held t.held u.held (log_text xs) text h.written
-    (subst (λ (z : Size). HoldsText z t.held text u.held) h.measured g)
+held_on xs s t u h text g = size_holds s.size (text_length xs) t.size h.measured s.held t.held u.held (log_text xs) text h.written g
 
 pub writes_more : (xs ys : List Line) (s t u : State) → Writes xs s t → Writes ys t u → Writes (xs ++ ys) s u
 writes_more xs ys s t u h g = record {
   counted = let a = h.counted in let b = g.counted in let n : length (xs ++ ys) ≡ length xs + length ys = length-append xs ys in omega
       (arith, a, b, n);
-  measured = g.measured ∙ sized_on xs s t h ys;
+  measured =
+      subst (λ (n : ℕ). IsSizeAfter s.size n u.size) (sym (text_length-append xs ys))
+      (size_more s.size (text_length xs) t.size h.measured (text_length ys) u.size g.measured);
   written = subst (λ text. HoldsText s.size s.held text u.held) (sym (log_text-append xs ys)) (held_on xs s t u h (log_text ys) g.written);
   faults = g.faults ∙ h.faults;
 }
@@ -109,9 +116,8 @@ reaches P xs place s t b w = record {
 pub can_write_on : (frame : Frame) (c : Construction) (P Q : Part) (s t : State) → Passes P Q s t → CanWrite frame c P s.size
     → CanWrite frame c Q t.size
 can_write_on frame c P Q s t h can lines place line b n fits =
-    subst (λ (z : Size). IsTakable z line) (sym h.written.measured)
-    (takable_then s.size (text_length h.lines) line
-    (can (h.lines ++ lines) place line (h.continues.begun lines place b) n (subst Fits (sized_on h.lines s t h.written lines) fits)))
+    size_takes s.size (text_length h.lines) t.size h.written.measured line
+    (can (h.lines ++ lines) place line (h.continues.begun lines place b) n (fits_behind h.lines s t h.written lines fits))
 
 -- so the line that comes next at a place may
 pub write_here : (frame : Frame) (c : Construction) (P : Part) (place : Place) (s t : State) → Passes P (here_part place) s t
@@ -123,7 +129,7 @@ write_here frame c P place s t h can fits line n =
 -- STOPS
 module _ (frame : Frame) (c : Construction) (P Q : Part) (s t u : State) (h : Passes P Q s t) where
   fits_on : (lines : List Line) → Fits (with_text t.size (text_length lines)) → Fits (with_text s.size (text_length (h.lines ++ lines)))
-  fits_on lines fits = subst Fits (sized_on h.lines s t h.written lines) fits
+  fits_on lines fits = fits_behind h.lines s t h.written lines fits
 
   faults_on : t.faults ≤ u.faults → s.faults ≤ u.faults
   faults_on g = let f = h.written.faults in omega (arith, f, g)
@@ -165,7 +171,7 @@ module _ (frame : Frame) (c : Construction) (P Q : Part) (s t u : State) (h : Pa
     long =
         let same : text_length (h.lines ++ (g.lines ++ g.line ∷ [])) ≡ text_length ((h.lines ++ g.lines) ++ g.line ∷ []) = ap text_length
         (sym (append_assoc h.lines g.lines (g.line ∷ []))) in
-        subst IsPast (sized_on h.lines s t h.written (g.lines ++ g.line ∷ []) ∙ ap (λ (n : ℕ). with_text s.size n) same) g.long;
+        subst (λ (n : ℕ). IsPast (with_text s.size n)) same (past_behind h.lines s t h.written (g.lines ++ g.line ∷ []) g.long);
     written = written_on g.lines g.written;
     faults = sound_on g.faults;
   }
@@ -173,9 +179,22 @@ module _ (frame : Frame) (c : Construction) (P Q : Part) (s t u : State) (h : Pa
   piece_on : (place : Place) (lines : List Line) (piece : List ℕ)
       → IsPieceOfNext frame c place (t.lines + length lines) (with_text t.size (text_length lines)) piece
       → IsPieceOfNext frame c place (s.lines + length (h.lines ++ lines)) (with_text s.size (text_length (h.lines ++ lines))) piece
-  piece_on place lines piece g =
-      subst (λ (z : Size). IsPieceOfNext frame c place (s.lines + length (h.lines ++ lines)) z piece) (sized_on h.lines s t h.written lines)
-      (subst (λ (n : ℕ). IsPieceOfNext frame c place n (with_text t.size (text_length lines)) piece) (counted_on lines) g)
+  piece_on place lines piece (inl none) = inl none
+  piece_on place lines piece (inr (inl (line, count, next, fits, is))) =
+      let same : text_length (h.lines ++ (lines ++ line ∷ [])) ≡ text_length (h.lines ++ lines) + text_length (line ∷ []) =
+      ap text_length (sym (append_assoc h.lines lines (line ∷ []))) ∙ text_length-append (h.lines ++ lines) (line ∷ []) in
+      inr (inl (
+        line,
+        count,
+        next,
+        subst Fits (ap (λ (n : ℕ). with_text s.size n) same ∙ sym (with_both s.size (text_length (h.lines ++ lines)) (text_length (line ∷ []))))
+            (fits_on (lines ++ line ∷ [])
+            (subst Fits (with_both t.size (text_length lines) (text_length (line ∷ [])) ∙ ap (λ (n : ℕ). with_text t.size n)
+            (sym (text_length-append lines (line ∷ [])))) fits)),
+        is,
+      ))
+  piece_on place lines piece (inr (inr (stop, count, next, is))) =
+      inr (inr (stop, count, next, is ∙ ap (λ (n : ℕ). take count (log_text (stop_line (suc n) stop ∷ []))) (counted_on lines)))
 
   broken_on : IsBrokenOff frame c Q t u → IsBrokenOff frame c P s u
   broken_on g = record {

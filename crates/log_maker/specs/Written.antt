@@ -10,7 +10,7 @@ use Rattle.log_maker.specs.declared.errors.ProveError.TheVariants.{TooLarge, Spe
 use Rattle.log_maker.specs.declared.log_writer.LogWriter.{LogWriter}
 use Rattle.log_maker.specs.declared.size.Size.{Size}
 use Rattle.log_maker.specs.declared.size.Size.TheVariants.{Written}
-use Rattle.log_maker.specs.Sizes.{Fits, HoldsText, IsPast, with_text}
+use Rattle.log_maker.specs.Sizes.{Fits, HoldsText, IsPast, IsSizeAfter, with_text}
 
 -- how many lines of a log there are, the size of their text, the bytes that its sink holds, and the sink's count of faults
 pub record State : Type 0 where
@@ -26,10 +26,10 @@ state log held faults = record { lines = log.lines; size = log.size; held = held
 abbrev pub first_state : Option (List ℕ) → ℕ → State
 first_state held faults = record { lines = 0; size = Written 0; held = held; faults = faults }
 
--- these lines were written, or counted
+-- these lines were written, or counted, or bounded
 pub record Writes (lines : List Line) (s t : State) : Type 0 where
   pub counted : t.lines ≡ s.lines + length lines
-  pub measured : t.size ≡ with_text s.size (text_length lines)
+  pub measured : IsSizeAfter s.size (text_length lines) t.size
   pub written : HoldsText s.size s.held (log_text lines) t.held
   pub faults : t.faults ≡ s.faults
 

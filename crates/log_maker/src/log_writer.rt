@@ -1,14 +1,14 @@
-//! Writes a log line by line, within the limit of its text; or counts its lines.
+//! Writes a log line by line, within the limit of its text; or counts its lines, or bounds its text.
 
 ghost use Rattle.std.specs.Prelude.{◌≡◌, ◌↔◌, ◌+◌, ◌*◌, ◌^◌, ◌<◌, [], ◌∷◌, IfErr, IsTrue, List, OnOk, length};
 ghost use Rattle.geo_logs.specs.Moves.{spent, too_large};
-ghost use Rattle.log_maker.specs.Sizes.{Fits, IsTakable, with_text};
+ghost use Rattle.log_maker.specs.Sizes.{Fits, IsTakable, bytes_of, with_text};
 ghost use Rattle.proof_log.specs.declared.log.Line.{Line};
 ghost use Rattle.proof_log.specs.Lines.{log_text};
 
 use crate::errors::ProveError;
 use crate::putting::{has_room, put_again, put_line, put_within};
-use crate::size::Size;
+use crate::size::{Size, bytes_of, is_written};
 use geo_base::Sink;
 use geo_poly::Which;
 use proof_log::Line;
@@ -48,6 +48,17 @@ impl LogWriter {
         LogWriter {
             lines,
             size: Size::Counted,
+        }
+    }
+
+    /// A log with the same lines and text so far, whose lines to come are not written.
+    pub fn bounding(&self) -> LogWriter
+        ensures lines { result.lines ≡ self.now.lines }
+        ensures size { result.size ≡ Size.Bounded (bytes_of self.now.size) }
+    {
+        LogWriter {
+            lines: self.lines,
+            size: Size::Bounded(bytes_of(self.size)),
         }
     }
 
@@ -116,7 +127,7 @@ impl LogWriter {
             (state self.now (K.held sink.new) (K.faults sink.new)) result }
     {
         let line = self.lines + 1;
-        if self.size == Size::Counted {
+        if !is_written(self.size) {
             return ProveError::Spent { line };
         }
         match put_line(alloc, sink, &Line::StopSpent { line }) {
@@ -132,7 +143,7 @@ impl LogWriter {
             (state self.now (K.held sink.new) (K.faults sink.new)) result }
     {
         let line = self.lines + 1;
-        if self.size == Size::Counted {
+        if !is_written(self.size) {
             return ProveError::TooLarge { line, which };
         }
         match put_line(alloc, sink, &Line::StopTooLarge { line, which }) {

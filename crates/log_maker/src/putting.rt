@@ -5,7 +5,7 @@ ghost use Rattle.std.specs.Prelude.{IsErrOf, IsTrue, OnErr, OnOk};
 ghost use Rattle.geo_base.specs.Devices.{Grows, HasRisen};
 ghost use Rattle.geo_logs.specs.Ends.{text_length};
 ghost use Rattle.log_maker.specs.Causes.{IsOfSink};
-ghost use Rattle.log_maker.specs.Sizes.{Fits, HoldsText, IsTakable, with_text};
+ghost use Rattle.log_maker.specs.Sizes.{Fits, HoldsText, IsSizeAfter, IsTakable, with_text};
 ghost use Rattle.log_maker.specs.Written.{IsTextUnwritten, IsUnwritten};
 ghost use Rattle.proof_log.specs.Lines.{log_text};
 ghost use Rattle.proof_log.specs.Writable.{IsWritable};
@@ -13,7 +13,8 @@ ghost use Rattle.proof_log.specs.Writable.{IsWritable};
 use crate::errors::ProveError;
 use crate::size::Size;
 use geo_base::{PutError, Sink, Text, write_all};
-use proof_log::{Line, write_line};
+use geo_points::NoMemory;
+use proof_log::{Line, length_bound, write_line};
 use std::alloc::Global;
 
 /// The most bytes of a log's text.
@@ -28,7 +29,7 @@ pub(crate) fn put_within<K: Sink>(
 ) -> Result<Size, ProveError>
     requires takable { IsTakable size line.now }
     requires fits { Fits size }
-    ensures size { IfOk result (λ new. new ≡ with_text size (text_length (line.now ∷ []))) }
+    ensures size { IfOk result (IsSizeAfter size (text_length (line.now ∷ []))) }
     ensures fits { IfOk result Fits }
     ensures ok { OnOk result
         (HoldsText size (K.held sink.old) (log_text (line.now ∷ [])) (K.held sink.new)) }
@@ -40,7 +41,23 @@ pub(crate) fn put_within<K: Sink>(
     match size {
         Size::Written(bytes) => Ok(Size::Written(put_text(alloc, sink, bytes, line)?)),
         Size::Counted => Ok(Size::Counted),
+        Size::Bounded(bytes) => Ok(Size::Bounded(bound_text(alloc, bytes, line)?)),
     }
+}
+
+/// How many bytes there are at most behind a line, where there were so many at most before it. A
+/// text that may be past the limit is answered by want of memory.
+fn bound_text(alloc: Global, bytes: u64, line: &Line) -> Result<u64, NoMemory>
+    requires fits { bytes ≤ 67108864 }
+    ensures sum { IfOk result (λ n. bytes + text_length (line.now ∷ []) ≤ n) }
+    ensures fits { IfOk result (λ n. n ≤ 67108864) }
+{
+    let room = LOG_LIMIT - bytes;
+    let count = length_bound(alloc, line, room / 8)?;
+    if count > room {
+        return Err(NoMemory);
+    }
+    Ok(bytes + count)
 }
 
 /// Writes a line behind so many bytes, within the limit of the text, and answers how many there are
@@ -74,7 +91,7 @@ fn put_text<K: Sink>(
 /// Writes a text where lines are written, within its limit, and answers the size then.
 pub(crate) fn put_again<K: Sink>(sink: &mut K, size: Size, text: &[u8]) -> Result<Size, ProveError>
     requires fits { Fits size }
-    ensures size { IfOk result (λ new. new ≡ with_text size (length text.now)) }
+    ensures size { IfOk result (IsSizeAfter size (length text.now)) }
     ensures fits { IfOk result Fits }
     ensures ok { OnOk result (HoldsText size (K.held sink.old) text.now (K.held sink.new)) }
     ensures err { (lines : ℕ) → IfErr result (IsTextUnwritten text.now
@@ -85,7 +102,21 @@ pub(crate) fn put_again<K: Sink>(sink: &mut K, size: Size, text: &[u8]) -> Resul
     match size {
         Size::Written(bytes) => Ok(Size::Written(put_bytes(sink, bytes, text)?)),
         Size::Counted => Ok(size),
+        Size::Bounded(bytes) => Ok(Size::Bounded(bound_bytes(bytes, text)?)),
     }
+}
+
+/// How many bytes there are at most behind a text.
+fn bound_bytes(bytes: u64, text: &[u8]) -> Result<u64, NoMemory>
+    requires fits { bytes ≤ 67108864 }
+    ensures sum { IfOk result (λ n. n ≡ bytes + length text.now) }
+    ensures fits { IfOk result (λ n. n ≤ 67108864) }
+{
+    let count = text.len() as u64;
+    if count > LOG_LIMIT - bytes {
+        return Err(NoMemory);
+    }
+    Ok(bytes + count)
 }
 
 /// Writes a text behind so many bytes, within the limit, and answers how many there are then.
@@ -113,7 +144,7 @@ pub(crate) fn has_room(size: Size, bytes: u64) -> bool
     ensures { IsTrue result ↔ Fits (with_text size bytes) }
 {
     match size {
-        Size::Written(before) => bytes <= LOG_LIMIT - before,
+        Size::Written(before) | Size::Bounded(before) => bytes <= LOG_LIMIT - before,
         Size::Counted => true,
     }
 }

@@ -1,9 +1,9 @@
 //! Monomials as words of 64 bits: numbers in a mixed radix, whose digits are the exponents.
 
 ghost use Rattle.std.specs.Prelude.{◌≡◌, ◌⊎◌, ◌↔◌, ◌+◌, ◌-◌, ◌/◌, ◌%◌, ◌^◌, ◌<◌, ◌≤◌, ◌∷◌, [], min};
-ghost use Rattle.std.specs.Prelude.{IfNone, IfOk, IfSome, IsTrue, length, sum};
+ghost use Rattle.std.specs.Prelude.{IfNone, IfOk, IfSome, IsTrue, filter, length, ltb, map, sum};
 ghost use Rattle.mono_store.specs.Monomials.{ComesFirst};
-ghost use Rattle.mono_store.specs.Words.{count_from, digits_of, limit, powers_of_word};
+ghost use Rattle.mono_store.specs.Words.{count_from, digit_limits, digits_of, limit, powers_of_word};
 ghost use Rattle.mono_store.specs.Words.{word, word_count};
 
 use crate::memory::NoMemory;
@@ -15,6 +15,9 @@ pub const MOST_WORDS: u64 = 1 << 63;
 
 /// The greatest degree of a monomial.
 const MOST_DEGREE: u32 = 65535;
+
+/// So many digits are looked through from the first one on.
+const FEW_DIGITS: usize = 8;
 
 /// The digit in which the exponent of one variable stands.
 #[derive(Clone, Copy, PartialEq, Eq)]
@@ -114,6 +117,26 @@ impl Digits {
         })
     }
 
+    /// Which variables have digits with room for an exponent.
+    pub fn with_room(&self, alloc: Global) -> Result<Vec<bool>, NoMemory>
+        ensures { IfOk result (λ known. known.items ≡ map (ltb 0) self.now) }
+    {
+        have_room(alloc, self.digits.as_slice())
+    }
+
+    /// The digits without those that have no room, which are 0 in every word: a word is the same in both.
+    pub fn without_empty(&self, alloc: Global) -> Result<Digits, NoMemory>
+        ensures { IfOk result (λ digits. digits ≡ filter (ltb 0) self.now) }
+    {
+        let digits = digits_with_room(alloc, self.digits.as_slice())?;
+        let starts = starts_of(alloc, digits.as_slice())?;
+        Ok(Digits {
+            digits,
+            words: self.words,
+            starts,
+        })
+    }
+
     /// Whether both are the same digits.
     pub(crate) fn same(&self, other: &Digits) -> bool
         ensures { IsTrue result → self.now ≡ other.now }
@@ -127,6 +150,13 @@ impl Digits {
         ensures words { word_count self.now ≤ 2 ^ 63 }
     {
         self.digits.len()
+    }
+
+    /// The limit of each variable.
+    pub fn limits(&self, alloc: Global) -> Result<Vec<u32>, NoMemory>
+        ensures { IfOk result (λ limits. limits.items ≡ self.now) }
+    {
+        limits_of(alloc, self.digits.as_slice())
     }
 
     /// How many words there are.
@@ -233,6 +263,41 @@ impl Digits {
     }
 }
 
+/// Which digits have room for an exponent.
+fn have_room(alloc: Global, digits: &[Digit]) -> Result<Vec<bool>, NoMemory>
+    ensures { IfOk result (λ known. known.items ≡ map (λ d. ltb 0 d.limit) digits.now) }
+{
+    let mut known = Vec::with_capacity(alloc, digits.len())?;
+    for digit in digits {
+        known.push(0 < digit.limit)?;
+    }
+    Ok(known)
+}
+
+/// The limits of digits.
+fn limits_of(alloc: Global, digits: &[Digit]) -> Result<Vec<u32>, NoMemory>
+    ensures { IfOk result (λ limits. limits.items ≡ digit_limits digits.now) }
+{
+    let mut limits = Vec::with_capacity(alloc, digits.len())?;
+    for digit in digits {
+        limits.push(digit.limit)?;
+    }
+    Ok(limits)
+}
+
+/// The digits that have room for an exponent.
+fn digits_with_room(alloc: Global, digits: &[Digit]) -> Result<Vec<Digit>, NoMemory>
+    ensures { IfOk result (λ kept. kept.items ≡ filter (λ d. ltb 0 d.limit) digits.now) }
+{
+    let mut kept = Vec::with_capacity(alloc, digits.len())?;
+    for digit in digits {
+        if 0 < digit.limit {
+            kept.push(*digit)?;
+        }
+    }
+    Ok(kept)
+}
+
 /// How often the unit goes into the word, and what is left. It is mostly once or twice, and then
 /// nothing is divided.
 fn divided(word: u64, unit: u64) -> (u64, u64)
@@ -294,8 +359,12 @@ fn digits_below(alloc: Global, limits: &[u32], count: u64) -> Result<Vec<Digit>,
     Ok(digits)
 }
 
-/// For each number of leading zeros the first place whose unit has no fewer.
+/// For each number of leading zeros the first place whose unit has no fewer; nothing where the digits are so few
+/// that they are quickly looked through.
 fn starts_of(alloc: Global, digits: &[Digit]) -> Result<Vec<u64>, NoMemory> {
+    if digits.len() <= FEW_DIGITS {
+        return Ok(Vec::new(alloc));
+    }
     let mut starts = Vec::with_capacity(alloc, 65)?;
     let mut place = 0;
     for zeros in 0..65u32 {

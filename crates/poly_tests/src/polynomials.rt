@@ -324,6 +324,43 @@ fn zeros_are_put_in_place(rt: HostRuntime) -> Result<(), Fail> {
     Ok(())
 }
 
+/// The polynomial with the number put for the variable in its place, which tells before whether it is
+/// refused, and whether it becomes zero.
+fn spelled_in_place(alloc: Global, mut poly: Poly, v: Var, number: i128) -> Result<String, Fail> {
+    if poly.is_too_heavy(v, number) {
+        return Err(Fail::from("is_too_heavy"));
+    }
+    let vanishes = poly.vanishes_at(alloc, v, number)?;
+    poly.put_number(alloc, v, number)?;
+    if vanishes != poly.is_zero() {
+        return Err(Fail::from("vanishes_at"));
+    }
+    Ok(spelled(alloc, &poly)?)
+}
+
+#[test]
+fn numbers_are_put_in_place(rt: HostRuntime) -> Result<(), Fail> {
+    let alloc = rt.alloc();
+    let x = Var::X(PointId(0));
+    let y = Var::Y(PointId(0));
+    let table = [
+        (x, 3, "-1*y0^2 +9"),
+        (y, 2, "+1*x0^2 -4"),
+        (Var::T(ParamId(0)), 7, "+1*x0^2 -1*y0^2"),
+    ];
+    for (v, number, text) in table {
+        assert_eq!(rt;
+            spelled_in_place(alloc, squares(alloc)?, v, number)?.as_str(),
+            text
+        );
+    }
+    assert_eq!(rt;
+        spelled_in_place(alloc, squares(alloc)?.specialise(alloc, x, 3)?, y, -3)?.as_str(),
+        "0"
+    );
+    Ok(())
+}
+
 /// The difference of two squares with 3 for both variables, which is 0.
 fn squares_at_three(alloc: Global) -> Result<String, Fail> {
     let at_three = squares(alloc)?.specialise(alloc, Var::X(PointId(0)), 3)?;

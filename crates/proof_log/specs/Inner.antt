@@ -3,3 +3,4 @@ pub mod Reading
 pub mod Leads
 pub mod Growing
 pub mod Names
+pub mod KeptTexts

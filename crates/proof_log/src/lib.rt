@@ -2,8 +2,10 @@
 //! is read back.
 #![tactic(auto)]
 
+mod bounds;
 mod digits;
 mod errors;
+mod kept_texts;
 pub mod laws;
 mod leads;
 mod line_reader;
@@ -13,6 +15,7 @@ mod reader;
 mod terms;
 mod writer;
 
+pub use bounds::length_bound;
 pub use errors::LineError;
 pub use line_reader::read_line;
 pub use log::{Line, Verdict};

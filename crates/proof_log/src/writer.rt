@@ -1,22 +1,30 @@
 //! Writing a line.
 
-ghost use Rattle.std.specs.Prelude.{codes, cond, ◌≡◌, ◌==◌, ◌<◌, [], ◌∷◌, ◌++◌};
-ghost use Rattle.std.specs.Prelude.{IfOk, IfSome, OnOk, length, slice_get, unsigned_abs};
+ghost use Rattle.std.specs.Prelude.{codes, cond, ◌≡◌, ◌==◌, ◌<◌, ◌≤◌, [], ◌∷◌, ◌++◌};
+ghost use Rattle.std.specs.Prelude.{IfOk, IfSome, IsTrue, OnOk, length, slice_get, unsigned_abs};
 ghost use Rattle.std.specs.Fmt.{decimal, signed_decimal};
+ghost use Rattle.std.specs.List.{flat_map};
+ghost use Rattle.mono_store.specs.Stores.{words};
 ghost use Rattle.geo_poly.specs.Polynomials.{term_at};
-ghost use Rattle.geo_poly.specs.Shared.{AreParts, told};
+ghost use Rattle.geo_poly.specs.Shared.{AreParts, IsIndexOf, told, told_powers};
+ghost use Rattle.proof_log.specs.Inner.KeptTexts.{AreKept};
 ghost use Rattle.proof_log.specs.Inner.Names.{AreNames, starred};
 ghost use Rattle.proof_log.specs.Writable.{IsWritable};
 ghost use Rattle.proof_log.specs.Lines.{factor_text, line_text, numbers_text, place_text};
 ghost use Rattle.proof_log.specs.Lines.{polynomial_text, power_text, sign_text, term_text};
 ghost use Rattle.proof_log.specs.Lines.{value_text, variable_name, which_text};
 
+use crate::kept_texts::KeptTexts;
 use crate::log::{Line, Verdict};
 use geo_base::Text;
 use geo_points::{NoMemory, PointId};
 use geo_poly::lists::Values;
 use geo_poly::{Factor, FirstPower, Poly, Shared, Var, Which};
+use mono_store::MonoId;
 use std::alloc::Global;
+
+/// So many terms share texts.
+const FEW_TERMS: usize = 8;
 
 /// The text of a line, with its line feed.
 pub fn write_line(alloc: Global, line: &Line) -> Result<Text, NoMemory>
@@ -30,7 +38,7 @@ pub fn write_line(alloc: Global, line: &Line) -> Result<Text, NoMemory>
 }
 
 /// Appends a line, without its line feed.
-fn push_line(alloc: Global, out: &mut Vec<u8>, line: &Line) -> Result<(), NoMemory>
+pub(crate) fn push_line(alloc: Global, out: &mut Vec<u8>, line: &Line) -> Result<(), NoMemory>
     ensures { OnOk result (out.new.items ≡ out.old.items ++ line_text line.now) }
 {
     match line {
@@ -252,10 +260,11 @@ fn push_polynomial(alloc: Global, out: &mut Vec<u8>, poly: &Poly) -> Result<(), 
     }
     let p = &poly.shared();
     let names = names_of(alloc, p)?;
-    push_term(alloc, out, p, &names, 0)?;
+    let mut kept = KeptTexts::new(alloc, poly.terms())?;
+    push_term(alloc, out, p, &names, &mut kept, 0)?;
     for i in 1..poly.terms() {
         out.push(b' ')?;
-        push_term(alloc, out, p, &names, i)?;
+        push_term(alloc, out, p, &names, &mut kept, i)?;
     }
     Ok(())
 }
@@ -266,15 +275,51 @@ fn push_term(
     out: &mut Vec<u8>,
     p: &Shared,
     names: &[Text],
+    kept: &mut KeptTexts,
     i: u64,
 ) -> Result<(), NoMemory>
     requires parts { AreParts p.now }
     requires names { AreNames p.now.vars.now names.now }
+    requires kept { AreKept names.now p.now.monos.now.limits kept.old }
     requires place { i < length (told p.now) }
-    ensures { OnOk result (out.new.items ≡ out.old.items ++ term_text (term_at (told p.now) i)) }
+    ensures text { OnOk result (out.new.items
+        ≡ out.old.items ++ term_text (term_at (told p.now) i)) }
+    ensures kept { OnOk result (AreKept names.now p.now.monos.now.limits kept.new) }
 {
-    let (mut rest, coefficient) = p.term(i);
+    let (id, coefficient) = p.term(i);
     push_coefficient(alloc, out, coefficient)?;
+    if is_named_word(p, names, id) {
+        return kept.push_word(alloc, out, p.monos.digits(), names, id.0);
+    }
+    push_powers(alloc, out, p, names, id)
+}
+
+/// Whether the index is a word whose variables have names made for them, and there are other terms
+/// to share texts with.
+fn is_named_word(p: &Shared, names: &[Text], id: MonoId) -> bool
+    ensures { IsTrue result → (0 < length names.now)
+        × (length p.now.monos.now.limits ≤ length names.now) × (id.0 < words p.now.monos.now) }
+{
+    FEW_TERMS <= p.list.len()
+        && !names.is_empty()
+        && p.monos.digits().count() <= names.len()
+        && id.0 < p.monos.words()
+}
+
+/// Appends the powers of a monomial.
+fn push_powers(
+    alloc: Global,
+    out: &mut Vec<u8>,
+    p: &Shared,
+    names: &[Text],
+    id: MonoId,
+) -> Result<(), NoMemory>
+    requires index { IsIndexOf p.now id }
+    requires names { AreNames p.now.vars.now names.now }
+    ensures { OnOk result (out.new.items
+        ≡ out.old.items ++ flat_map power_text (told_powers p.now id)) }
+{
+    let mut rest = id;
     while let Some(first) = p.first_power(rest) {
         push_named_power(alloc, out, names, &first)?;
         rest = first.rest;
@@ -315,7 +360,7 @@ fn push_coefficient(alloc: Global, out: &mut Vec<u8>, c: i128) -> Result<(), NoM
 }
 
 /// Appends the number and the powers of a factor.
-fn push_factor(alloc: Global, out: &mut Vec<u8>, factor: &Factor) -> Result<(), NoMemory>
+pub(crate) fn push_factor(alloc: Global, out: &mut Vec<u8>, factor: &Factor) -> Result<(), NoMemory>
     ensures { OnOk result (out.new.items ≡ out.old.items ++ factor_text factor.now) }
 {
     push_integer(alloc, out, factor.coef())?;
@@ -341,7 +386,7 @@ fn push_power(
 }
 
 /// Appends an exponent where it is not 1.
-fn push_exponent(alloc: Global, out: &mut Vec<u8>, exponent: u32) -> Result<(), NoMemory>
+pub(crate) fn push_exponent(alloc: Global, out: &mut Vec<u8>, exponent: u32) -> Result<(), NoMemory>
     ensures { OnOk result (out.new.items
         ≡ out.old.items ++ cond (exponent == 1) [] (codes "^" ++ decimal exponent)) }
 {

@@ -1,14 +1,15 @@
 -- What becomes of the monomials of a line, before anything is multiplied out.
-use Rattle.std.specs.Prelude.{◌≡◌, ℕ, ◌+◌, ◌-◌, ◌*◌, ◌^◌, min, List, Option, None, Some, length, slice_get}
+use Rattle.std.specs.Prelude.{◌≡◌, ℕ, ◌+◌, ◌-◌, ◌*◌, ◌^◌, min, List, [], ◌∷◌, Option, None, Some, length, slice_get}
 use Rattle.fraction_poly.specs.Measures.{capped_number}
 use Rattle.geo_poly.specs.declared.replacement.Row.{Row}
 use Rattle.geo_poly.specs.declared.shared.Shared.{Shared}
 use Rattle.geo_poly.specs.Counted.{count_rows, replaced_exponents}
 use Rattle.geo_poly.specs.Monomials.{Powers, degree_of}
-use Rattle.geo_poly.specs.Replace.{degree_rows, denominators, others, weight_rows}
+use Rattle.geo_poly.specs.Replace.{degree_rows, denominators, others, row_of, weight_rows}
 use Rattle.geo_poly.specs.Polynomials.{term_at}
 use Rattle.geo_poly.specs.Shared.{told}
 use Rattle.elim_apply.specs.declared.shares.Share.{Share}
+use Rattle.elim_apply.specs.declared.small_shares.SmallShare.{SmallShare}
 
 -- what becomes of the monomial, but for the denominators that it lacks, where its coefficient has the absolute value k
 pub record IsShareOf (rows : List Row) (m : Powers) (k : ℕ) (share : Share) : Type 0 where
@@ -48,3 +49,30 @@ HaveShares rows p shares =
 pub record AreShares (rows : List Row) (p : Shared) (shares : List Share) : Type 0 where
   pub whole : length shares ≡ length p.list.now
   pub each : HaveShares rows p shares
+
+-- IN SMALL NUMBERS
+-- the share of the monomial with no variable
+abbrev pub no_power : SmallShare
+no_power = record { exponents = 0; denominators = 0; count = 1; weight = 1; degree = 0 }
+
+-- the share with one more power, whose variable has this row, where it has one
+abbrev pub with_power : Option Row → ℕ → SmallShare → SmallShare
+with_power None e s = record {
+  exponents = s.exponents;
+  denominators = s.denominators;
+  count = s.count;
+  weight = s.weight;
+  degree = s.degree + e;
+}
+with_power (Some r) e s = record {
+  exponents = s.exponents + e;
+  denominators = s.denominators + r.power * e;
+  count = s.count * r.num.count ^ e;
+  weight = s.weight * r.num.weight ^ e;
+  degree = s.degree + r.num.degree * e;
+}
+
+-- the share with these powers
+abbrev pub with_powers : List Row → Powers → SmallShare → SmallShare
+with_powers rows [] s = s
+with_powers rows (p ∷ m) s = with_powers rows m (with_power (row_of rows p.0) p.1 s)

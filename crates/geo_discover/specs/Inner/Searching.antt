@@ -1,5 +1,5 @@
 -- How far a search has come, and what it does with its next candidates.
-use Rattle.std.specs.Prelude.{◌≡◌, ◌⊎◌, ℕ, zero, suc, ◌+◌, All, Option, Some, None, List, [], ◌∷◌, ◌++◌, codes, decimal, length}
+use Rattle.std.specs.Prelude.{◌≡◌, ◌⊎◌, ℕ, zero, suc, ◌+◌, All, Option, Some, None, Result, Ok, Err, List, [], ◌∷◌, ◌++◌, codes, decimal, length}
 use Rattle.std.specs.List.{flat_map}
 use Rattle.geo_program.specs.declared.statements.Statement.{Statement}
 use Rattle.geo_program.specs.Forms.{statement_form}
@@ -59,6 +59,13 @@ abbrev pub judgement_by : Verdict → List ℕ → Judgement
 judgement_by Proved log = judged.Relation log
 judgement_by (False g) log = judged.Fails
 judgement_by (NeverMet k) log = judged.Impossible k
+
+-- what is said by a log that is not written, where that needs no text
+abbrev pub unwritten_judgement : Result Verdict ProveError → Option Judgement
+unwritten_judgement (Ok (False g)) = Some judged.Fails
+unwritten_judgement (Err (stopped.Spent n)) = Some (judged.Open (stopped.Spent n))
+unwritten_judgement (Err (stopped.TooLarge n which)) = Some (judged.Open (stopped.TooLarge n which))
+unwritten_judgement _ = None
 
 -- PROGRESS
 -- how many candidates were examined, how many are relations and how many are open, how the log of the first open one ends, and what was

@@ -1,6 +1,7 @@
 -- Terms with the factors that they are still to get.
-use Rattle.std.specs.Prelude.{◌≡◌, ℕ, zero, suc, ◌≢◌, ◌+◌, ◌*◌, ◌-◌, ◌^◌, ◌≤◌, All, Contains, ℤ, List, [], ◌∷◌, ◌++◌, drop, map, sum_by, unsigned_abs}
+use Rattle.std.specs.Prelude.{◌≡◌, ℕ, zero, suc, ◌≢◌, ◌+◌, ◌*◌, ◌-◌, ◌^◌, ◌≤◌, All, Contains, ℤ, List, [], ◌∷◌, ◌++◌, drop, map, replicate, sum_by, unsigned_abs}
 use Rattle.sparse_lists.specs.SparseLists.{AllKeys}
+use Rattle.geo_poly.specs.declared.pending.FactorPower.{FactorPower}
 use Rattle.geo_poly.specs.declared.pending.Pending.{Pending}
 use Rattle.geo_poly.specs.declared.replacement.Piece.{Piece}
 use Rattle.geo_poly.specs.declared.replacement.Row.{Row}
@@ -87,6 +88,11 @@ pub record IsPending (setting : Setting) (p : Shared) (depth : ℕ) (e : Pending
   pub degree : degree_with (pieces_of setting.rows.now setting.den.piece.now (drop depth e.factors.items)) (degree_of (others setting.rows.now (told_powers p e.id))) ≤ 65535
   pub exponents : (v : Var) → exponent_with v (pieces_of setting.rows.now setting.den.piece.now (drop depth e.factors.items)) (exponent v (others setting.rows.now (told_powers p e.id)))
       ≤ exponent_bound v setting.rows.now setting.den.piece.now setting.top (told p)
+
+-- the factors, each as often as is said
+abbrev pub factors_listed : List FactorPower → List ℕ
+factors_listed [] = []
+factors_listed (f ∷ fs) = replicate f.exponent f.factor ++ factors_listed fs
 
 -- these factors make of a term what becomes of it
 pub record AreFactors (setting : Setting) (m : Powers) (ks : List ℕ) : Type 0 where

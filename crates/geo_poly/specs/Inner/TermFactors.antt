@@ -1,9 +1,8 @@
 -- The factors of a term that is replaced: whether one is zero, and how many products of monomials their powers take.
-use Rattle.std.specs.Prelude.{◌≢◌, ℕ, zero, suc, ◌+◌, ◌-◌, ◌*◌, ◌^◌, ◌<◌, Option, Some, None, List, [], ◌∷◌}
-use Rattle.geo_poly.specs.declared.replacement.Piece.{Piece}
+use Rattle.std.specs.Prelude.{◌≢◌, ℕ, zero, suc, ◌+◌, ◌*◌, ◌^◌, Option, Some, None, List, [], ◌∷◌}
 use Rattle.geo_poly.specs.declared.replacement.Row.{Row}
 use Rattle.geo_poly.specs.Monomials.{Powers}
-use Rattle.geo_poly.specs.Replace.{denominators, row_of}
+use Rattle.geo_poly.specs.Replace.{row_of}
 
 -- the numerator is not zero, where there is a row
 abbrev pub IsNonzeroRow : Option Row → Type 0
@@ -14,11 +13,6 @@ IsNonzeroRow (Some r) = r.num.poly ≢ []
 abbrev pub AreNonzeroRows : List Row → Powers → Type 0
 AreNonzeroRows rows [] = Unit {0}
 AreNonzeroRows rows (v ∷ m) = IsNonzeroRow (row_of rows v.0) × AreNonzeroRows rows m
-
--- no numerator is zero, nor the denominator where some are lacking
-pub record HasNoZero (rows : List Row) (den : Piece) (top : ℕ) (m : Powers) : Type 0 where
-  pub numerators : AreNonzeroRows rows m
-  pub denominator : 0 < top - denominators rows m → den.poly ≢ []
 
 -- the products of monomials where a polynomial of n monomials is multiplied c times by one of at most k
 abbrev pub power_products : ℕ → ℕ → ℕ → ℕ

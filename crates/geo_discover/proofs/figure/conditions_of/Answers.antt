@@ -1,11 +1,11 @@
-use Rattle.std.proofs.Common.{◌+◌, ◌<◌, ◌^◌, ◌∙◌, Some, [], ap, subst, arith}
+use Rattle.std.proofs.Common.{◌+◌, ◌<◌, ◌^◌, Some, [], subst, arith}
 use Rattle.geo_logs.specs.Ends.{text_length}
 use Rattle.geo_program.specs.Programs.{source_of}
 use Rattle.geo_program.proofs.Propositions.{program_well_formed}
 use Rattle.log_maker.specs.declared.frame.Frame.TheVariants.{Full}
 use Rattle.log_maker.specs.declared.size.Size.{Size}
 use Rattle.log_maker.specs.Parts.{items_of, log_part}
-use Rattle.log_maker.specs.Sizes.{with_text}
+use Rattle.log_maker.specs.Sizes.{IsSizeAfter}
 use Rattle.log_maker.specs.Tasks.{conditions_from}
 use Rattle.log_maker.specs.Written.{state}
 use Rattle.log_maker.proofs.Passing.{can_write_on}
@@ -37,7 +37,7 @@ conditions_behind-requires-clause-writable c =
 pub conditions_behind-requires-clause-written : goal.conditions_behind-requires-clause-written
 conditions_behind-requires-clause-written c =
     let n = text_length (program_lines (source_of c.args.candidate.now)) in
-    (0 + n, c.in-Ok.ensures.ok.measured ∙ ap (λ (z : Size). with_text z n) c.new-log.ensures.size)
+    (0 + n, subst (λ (z : Size). IsSizeAfter z n c.write_first_lines.new.log.size) c.new-log.ensures.size c.in-Ok.ensures.ok.measured)
 
 pub returns-in-Ok-clause-worked : goal.returns-in-Ok-clause-worked
 returns-in-Ok-clause-worked c =

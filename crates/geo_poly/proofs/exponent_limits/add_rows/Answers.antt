@@ -17,14 +17,14 @@ loop-row-preserved c = λ bound h.
     let i = c.loop-row.row-index in
     let r = c.row-item.result in
     let t = c.max.result in
-    let limits = c.add_polynomial.new.limits.items in
+    let limits = c.add_bounds.new.limits.items in
     let so_far = λ (v : Var). bound v + exponents_of_rows v (take i rows) own in
     AreLimits-capped vars so_far (λ v. greatest_exponent v r.num.poly) _ (exponent r.var own) t limits
     (λ v. omega (arith, exponents_of_rows-take v rows own i r c.loop-row-test.true c.row-item.is))
     (c.max.ensures ∙ ap (λ (k : ℕ). max k 1) c.exponent_in-times.ensures)
     (AreLimits-less vars _ (λ v. so_far v + greatest_exponent v r.num.poly * t) limits
     (λ v. omega (arith, ap (λ (q : Summands). greatest_exponent v q * t) c.shared.ensures.terms))
-    (c.in_ok-add_polynomial.ensures so_far (c.loop-row.invariant bound h)))
+    (c.in_ok-add_bounds.ensures so_far (c.loop-row.invariant bound h)))
 
 pub returns : goal.returns
 returns c = λ bound h.

@@ -1,4 +1,4 @@
-use Rattle.std.proofs.Common.{◌≡◌, ◌≤◌, ◌∙◌, length, take, subst, sym, arith}
+use Rattle.std.proofs.Common.{◌≤◌, length, take, subst, sym, arith}
 use Rattle.std.proofs.lemmas.List.{take_all}
 use Rattle.geo_poly.specs.Inner.Limits.{AreGreatest}
 use Rattle.geo_poly.specs.Shared.{told, told_term}

@@ -1,8 +1,8 @@
-use Rattle.std.proofs.Common.{List, ℕ, ◌*◌, sym, ap, ap₂, subst, ◌∙◌, arith}
+use Rattle.std.proofs.Common.{List, ℕ, ◌*◌, ap, ap₂, ◌∙◌, arith}
 use Rattle.geo_poly.specs.declared.replacement.Row.{Row}
 use Rattle.geo_poly.specs.declared.variables.Var.{Var}
 use Rattle.geo_poly.specs.Inner.Keyed.{greatest_exponent}
-use Rattle.geo_poly.specs.Inner.Limits.{AreLimits, exponent_anywhere, exponents_of_rows}
+use Rattle.geo_poly.specs.Inner.Limits.{exponent_anywhere, exponents_of_rows}
 use Rattle.geo_poly.specs.Monomials.{Powers, exponent}
 use Rattle.geo_poly.specs.Polynomials.{Summands}
 use Rattle.geo_poly.specs.Replace.{others}
@@ -20,7 +20,7 @@ returns c =
     let bound = λ (v : Var). exponent_anywhere v rows den top (told c.args.p.now) in
     let stay = c.deref-2.ensures.value ∙ c.in_ok-stay.ensures ∙ ap (others rows) c.deref.ensures.value in
     let first = c.add_exponents.ensures (λ v. 0) c.in_ok-limits.ensures in
-    let second = c.in_ok-add_polynomial.ensures _ first in
+    let second = c.in_ok-add_bounds.ensures _ first in
     let third = c.in_ok-add_rows.ensures _ second in
     AreLimits-less vars _ bound _
     (λ v. omega (

@@ -20,7 +20,7 @@ moved_word-requires g t c = λ κs below. (
     below,
     (
       c.requires.rising,
-      (c.requires.parts, (c.requires.places, (let earlier = c.in-Some.ensures.earlier in omega (arith, earlier, c.requires.index)))),
+      (c.requires.parts, (c.requires.moves, (let earlier = c.in-Some.ensures.earlier in omega (arith, earlier, c.requires.index)))),
     ),
   ),
 )

@@ -1,4 +1,4 @@
-use Rattle.std.proofs.Common.{subst, arith, rules}
+use Rattle.std.proofs.Common.{subst}
 use Rattle.geo_poly.specs.Inner.Moved.{IsMovedTo}
 use Rattle.geo_poly.proofs.Moved.{one_is_moved}
 use Rattle.geo_poly.proofs.moving.moved_monomial.Goals as goal

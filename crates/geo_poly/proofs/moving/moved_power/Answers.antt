@@ -1,13 +1,16 @@
-use Rattle.std.proofs.Common.{sym, ◌∙◌}
-use Rattle.geo_poly.proofs.Moved.{is_left, is_moved, power_before, var_within}
+use Rattle.std.proofs.Common.{◌≡◌, sym, ◌∙◌}
+use Rattle.geo_poly.specs.declared.moving.Move.TheVariants.{Kept, Replaced, Unknown}
+use Rattle.geo_poly.proofs.Moved.{is_left, is_moved, move_is, power_before}
 use Rattle.geo_poly.proofs.moving.moved_power.Goals as goal
 
-pub returns-then-is_replaced-clause-moved : goal.returns-then-is_replaced-clause-moved
-returns-then-is_replaced-clause-moved g c =
+pub returns-in-Replaced-clause-moved : goal.returns-in-Replaced-clause-moved
+returns-in-Replaced-clause-moved g c =
+    let p = c.args.p.now in
     let first = c.args.first in
-    is_left c.args.p.now c.args.rows.now c.args.vars.now c.args.id first.next first.var first.exp c.requires.monomial c.requires.index
-    (g.K.MonomialKeys.keys c.args.keys.now) c.args.next c.requires.next
-    (c.is_replaced.ensures.within c.if-is_replaced.true) (c.is_replaced.ensures.replaced c.if-is_replaced.true)
+    let is = move_is p.vars.now c.args.rows.now c.args.vars.now c.args.moves.now first.var Replaced c.requires.moves (sym c.move_at.ensures ∙ c.in-Replaced.is)
+    (λ e. let false : Replaced ≡ Unknown = e in cc) in
+    is_left p c.args.rows.now c.args.vars.now c.args.id first.next first.var first.exp c.requires.monomial c.requires.index
+    (g.K.MonomialKeys.keys c.args.keys.now) c.args.next c.requires.next is.0 is.1
 
 pub power_before-requires-clause-exponent : goal.power_before-requires-clause-exponent
 power_before-requires-clause-exponent g c =
@@ -16,11 +19,10 @@ power_before-requires-clause-exponent g c =
     let vars = c.args.vars.now in
     let keys = g.K.MonomialKeys.keys c.args.keys.now in
     let first = c.args.first in
-    let at = sym c.place_at.ensures ∙ c.in-Some.is in
-    let within = var_within p.vars.now vars c.args.places.now first.var c.in-Some.place c.requires.places at in
+    let is = move_is p.vars.now rows vars c.args.moves.now first.var (Kept c.in-Kept.place) c.requires.moves (sym c.move_at.ensures ∙ c.in-Kept.is)
+    (λ e. let false : Kept c.in-Kept.place ≡ Unknown = e in cc) in
     (power_before p rows vars c.args.id first.next first.var first.exp c.requires.monomial c.requires.index
-    keys c.args.next c.requires.next within c.args.places.now c.in-Some.place c.requires.places at
-    (c.is_replaced.ensures.stays c.if-is_replaced.false within)
+    keys c.args.next c.requires.next is.0 c.in-Kept.place is.1
     c.requires.rising c.requires.parts.rising c.one-one.ensures.valid).exponent
 
 pub power_before-requires-clause-first : goal.power_before-requires-clause-first
@@ -30,11 +32,10 @@ power_before-requires-clause-first g c =
     let vars = c.args.vars.now in
     let keys = g.K.MonomialKeys.keys c.args.keys.now in
     let first = c.args.first in
-    let at = sym c.place_at.ensures ∙ c.in-Some.is in
-    let within = var_within p.vars.now vars c.args.places.now first.var c.in-Some.place c.requires.places at in
+    let is = move_is p.vars.now rows vars c.args.moves.now first.var (Kept c.in-Kept.place) c.requires.moves (sym c.move_at.ensures ∙ c.in-Kept.is)
+    (λ e. let false : Kept c.in-Kept.place ≡ Unknown = e in cc) in
     (power_before p rows vars c.args.id first.next first.var first.exp c.requires.monomial c.requires.index
-    keys c.args.next c.requires.next within c.args.places.now c.in-Some.place c.requires.places at
-    (c.is_replaced.ensures.stays c.if-is_replaced.false within)
+    keys c.args.next c.requires.next is.0 c.in-Kept.place is.1
     c.requires.rising c.requires.parts.rising c.one-one.ensures.valid).first
 
 pub power_before-requires-clause-degree : goal.power_before-requires-clause-degree
@@ -44,23 +45,21 @@ power_before-requires-clause-degree g c =
     let vars = c.args.vars.now in
     let keys = g.K.MonomialKeys.keys c.args.keys.now in
     let first = c.args.first in
-    let at = sym c.place_at.ensures ∙ c.in-Some.is in
-    let within = var_within p.vars.now vars c.args.places.now first.var c.in-Some.place c.requires.places at in
+    let is = move_is p.vars.now rows vars c.args.moves.now first.var (Kept c.in-Kept.place) c.requires.moves (sym c.move_at.ensures ∙ c.in-Kept.is)
+    (λ e. let false : Kept c.in-Kept.place ≡ Unknown = e in cc) in
     (power_before p rows vars c.args.id first.next first.var first.exp c.requires.monomial c.requires.index
-    keys c.args.next c.requires.next within c.args.places.now c.in-Some.place c.requires.places at
-    (c.is_replaced.ensures.stays c.if-is_replaced.false within)
+    keys c.args.next c.requires.next is.0 c.in-Kept.place is.1
     c.requires.rising c.requires.parts.rising c.one-one.ensures.valid).degree
 
-pub returns-clause-moved : goal.returns-clause-moved
-returns-clause-moved g c =
+pub returns-in_ok-new-in-Kept-clause-moved : goal.returns-in_ok-new-in-Kept-clause-moved
+returns-in_ok-new-in-Kept-clause-moved g c =
     let p = c.args.p.now in
     let rows = c.args.rows.now in
     let vars = c.args.vars.now in
     let keys = g.K.MonomialKeys.keys c.args.keys.now in
     let first = c.args.first in
-    let at = sym c.place_at.ensures ∙ c.in-Some.is in
-    let within = var_within p.vars.now vars c.args.places.now first.var c.in-Some.place c.requires.places at in
+    let is = move_is p.vars.now rows vars c.args.moves.now first.var (Kept c.in-Kept.place) c.requires.moves (sym c.move_at.ensures ∙ c.in-Kept.is)
+    (λ e. let false : Kept c.in-Kept.place ≡ Unknown = e in cc) in
     is_moved p rows vars c.args.id first.next first.var first.exp c.requires.monomial c.requires.index
-    keys c.args.next c.requires.next within c.args.places.now c.in-Some.place c.requires.places at
-    (c.is_replaced.ensures.stays c.if-is_replaced.false within)
-    (g.K.MonomialKeys.keys c.power_before.new.self) c.in_ok-new.new c.in_ok-new.ensures.within c.in_ok-new.ensures.powers
+    keys c.args.next c.requires.next is.0 c.in-Kept.place is.1
+    (g.K.MonomialKeys.keys c.power_before.new.self) c.in_ok-new-in-Kept.new c.in_ok-new-in-Kept.ensures.within c.in_ok-new-in-Kept.ensures.powers

@@ -1,4 +1,4 @@
-use Rattle.std.proofs.Common.{◌≡◌, ◌+◌, ◌-◌, None, ap, get_or, ◌∙◌, arith}
+use Rattle.std.proofs.Common.{◌≡◌, ◌+◌, ◌-◌, arith}
 use Rattle.mono_store.specs.Stores.{words}
 use Rattle.geo_poly.proofs.Moved.{entry_moved}
 use Rattle.geo_poly.proofs.moving.new_index.Goals as goal

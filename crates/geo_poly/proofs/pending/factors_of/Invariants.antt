@@ -1,6 +1,6 @@
-use Rattle.std.proofs.Common.{take}
-use Rattle.geo_poly.proofs.FactorPaths.{Path}
+use Rattle.std.proofs.Common.{◌≡◌, ◌++◌, replicate, take}
+use Rattle.geo_poly.specs.Inner.Factored.{factors_listed}
 use Rattle.geo_poly.proofs.pending.factors_of.Given as goal
 
-abbrev pub invariant-loop-k : goal.invariant-loop-k
-invariant-loop-k l = Path l.setting.rows.now l.setting.den.piece.now (take l.k l.powers) l.lacking l.factors.items
+abbrev pub invariant-loop-power : goal.invariant-loop-power
+invariant-loop-power l = l.factors.items ≡ replicate l.lacking 0 ++ factors_listed (take l.power-index l.numerators)

@@ -1,18 +1,18 @@
 use Rattle.std.proofs.Common.{◌+◌, refl, sym, ap, ap₂, subst, ◌∙◌, arith}
 use Rattle.std.proofs.lemmas.Result.{IfOk-weaker}
-use Rattle.geo_poly.specs.Chained.{StandsUnder}
 use Rattle.geo_poly.specs.Inner.Keyed.{AreInReach, greatest_exponent, terms_under}
+use Rattle.geo_poly.specs.Inner.Words.{word_keys}
 use Rattle.geo_poly.specs.Polynomials.{CanMultiply, Summands, product_of}
 use Rattle.geo_poly.specs.Shared.{told}
 use Rattle.geo_poly.proofs.InReach.{AreInReach-kept, less_within}
-use Rattle.geo_poly.proofs.KeysKept.{KeepsKeys-trans, indices_under-kept, terms_under-kept}
+use Rattle.geo_poly.proofs.KeysKept.{indices_under-kept, terms_under-kept}
 use Rattle.geo_poly.proofs.products.keyed_product.Goals as goal
 
 pub keyed-requires-clause-reach : goal.keyed-requires-clause-reach
 keyed-requires-clause-reach g c =
     let p = told c.args.p.now in
     let q = told c.args.q.now in
-    let keys = g.K.MonomialKeys.keys c.args.keys.now in
+    let keys = word_keys c.args.words.now in
     less_within c.args.vars.now keys keys (λ v. greatest_exponent v p + greatest_exponent v q) (λ v. greatest_exponent v p) refl (λ v. omega arith)
     c.requires.reach
 
@@ -20,33 +20,33 @@ pub keyed-requires-2-clause-reach : goal.keyed-requires-2-clause-reach
 keyed-requires-2-clause-reach g c =
     let p = told c.args.p.now in
     let q = told c.args.q.now in
-    let old = g.K.MonomialKeys.keys c.args.keys.now in
-    let new = g.K.MonomialKeys.keys c.keyed.new.keys in
+    let old = word_keys c.args.words.now in
+    let new = word_keys c.keyed.new.keys in
     less_within c.args.vars.now old new (λ v. greatest_exponent v p + greatest_exponent v q) (λ v. greatest_exponent v q) c.in_ok-left.ensures.kept.limits
     (λ v. omega arith) c.requires.reach
 
-pub product_chain-requires-clause-left : goal.product_chain-requires-clause-left
-product_chain-requires-clause-left g c =
-    rw c.deref.ensures.value (indices_under-kept c.args.vars.now (g.K.MonomialKeys.keys c.keyed.new.keys) (g.K.MonomialKeys.keys c.keyed-2.new.keys)
+pub word_product-requires-clause-left : goal.word_product-requires-clause-left
+word_product-requires-clause-left g c =
+    rw c.deref.ensures.value (indices_under-kept c.args.vars.now (word_keys c.keyed.new.keys) (word_keys c.keyed-2.new.keys)
     c.in_ok-left.left.items c.in_ok-right.ensures.kept c.in_ok-left.ensures.indices)
 
-pub product_chain-requires-clause-fits : goal.product_chain-requires-clause-fits
-product_chain-requires-clause-fits g c =
+pub word_product-requires-clause-fits : goal.word_product-requires-clause-fits
+word_product-requires-clause-fits g c =
     let vars = c.args.vars.now in
-    let first = g.K.MonomialKeys.keys c.keyed.new.keys in
-    let second = g.K.MonomialKeys.keys c.keyed-2.new.keys in
+    let first = word_keys c.keyed.new.keys in
+    let second = word_keys c.keyed-2.new.keys in
     let left = ap (terms_under vars second) c.deref.ensures.value
     ∙ terms_under-kept vars first second c.in_ok-left.left.items c.in_ok-right.ensures.kept c.in_ok-left.ensures.indices ∙ c.in_ok-left.ensures.terms in
     let right = ap (terms_under vars second) c.deref-2.ensures.value ∙ c.in_ok-right.ensures.terms in
     subst (λ (p : Summands). CanMultiply p (terms_under vars second c.deref-2.result.now)) (sym left)
     (subst (λ (q : Summands). CanMultiply (told c.args.p.now) q) (sym right) c.requires.fits)
 
-pub product_chain-requires-clause-reach : goal.product_chain-requires-clause-reach
-product_chain-requires-clause-reach g c =
+pub word_product-requires-clause-reach : goal.word_product-requires-clause-reach
+word_product-requires-clause-reach g c =
     let vars = c.args.vars.now in
-    let old = g.K.MonomialKeys.keys c.args.keys.now in
-    let first = g.K.MonomialKeys.keys c.keyed.new.keys in
-    let second = g.K.MonomialKeys.keys c.keyed-2.new.keys in
+    let old = word_keys c.args.words.now in
+    let first = word_keys c.keyed.new.keys in
+    let second = word_keys c.keyed-2.new.keys in
     let left = ap (terms_under vars second) c.deref.ensures.value
     ∙ terms_under-kept vars first second c.in_ok-left.left.items c.in_ok-right.ensures.kept c.in_ok-left.ensures.indices ∙ c.in_ok-left.ensures.terms in
     let right = ap (terms_under vars second) c.deref-2.ensures.value ∙ c.in_ok-right.ensures.terms in
@@ -55,21 +55,12 @@ product_chain-requires-clause-reach g c =
     (subst (λ (q : Summands). AreInReach vars second (told c.args.p.now) q) (sym right)
     (AreInReach-kept vars old second (told c.args.p.now) (told c.args.q.now) limits c.requires.reach))
 
-pub returns-clause-chain : goal.returns-clause-chain
-returns-clause-chain g c =
+pub returns-clause-product : goal.returns-clause-product
+returns-clause-product g c =
     let vars = c.args.vars.now in
-    let first = g.K.MonomialKeys.keys c.keyed.new.keys in
-    let second = g.K.MonomialKeys.keys c.keyed-2.new.keys in
+    let first = word_keys c.keyed.new.keys in
+    let second = word_keys c.keyed-2.new.keys in
     let left = ap (terms_under vars second) c.deref.ensures.value
     ∙ terms_under-kept vars first second c.in_ok-left.left.items c.in_ok-right.ensures.kept c.in_ok-left.ensures.indices ∙ c.in_ok-left.ensures.terms in
     let right = ap (terms_under vars second) c.deref-2.ensures.value ∙ c.in_ok-right.ensures.terms in
-    IfOk-weaker c.product_chain.result _ _
-    (λ v h. subst (λ (p : Summands). StandsUnder vars (g.K.MonomialKeys.keys c.product_chain.new.keys) c.product_chain.new.arena v p) (ap₂ product_of left right) h)
-    c.product_chain.ensures.chain
-
-pub returns-clause-kept : goal.returns-clause-kept
-returns-clause-kept g c =
-    KeepsKeys-trans (g.K.MonomialKeys.keys c.args.keys.now) (g.K.MonomialKeys.keys c.keyed.new.keys) (g.K.MonomialKeys.keys c.product_chain.new.keys)
-    c.in_ok-left.ensures.kept
-    (KeepsKeys-trans (g.K.MonomialKeys.keys c.keyed.new.keys) (g.K.MonomialKeys.keys c.keyed-2.new.keys) (g.K.MonomialKeys.keys c.product_chain.new.keys)
-    c.in_ok-right.ensures.kept c.product_chain.ensures.kept)
+    IfOk-weaker c.word_product.result _ _ (λ list h. h ∙ ap₂ product_of left right) c.word_product.ensures.product

@@ -1,34 +1,8 @@
-use Rattle.std.proofs.Common.{◌≡◌, ◌+◌, ◌*◌, ◌^◌, ◌-◌, ◌<◌, ◌≤◌, ℕ, min, inl, inr, refl, ◌∙◌, subst, sym, arith, length}
-use Rattle.std.proofs.lemmas.Bool.{cases_lt}
-use Rattle.std.specs.Prelude.{slice_index_or}
-use Rattle.geo_poly.proofs.TermLimits.{AreLimits-times}
+use Rattle.std.proofs.Common.{ℕ, ◌+◌, ◌*◌, ap, arith}
+use Rattle.geo_poly.proofs.ExponentLimits.{AreLimits-less}
 use Rattle.geo_poly.proofs.term_limits.add_times.Goals as goal
 
-pub loop-i-init : goal.loop-i-init
-loop-i-init c = record { whole = refl; summed = λ j lt known. absurd (omega (arith, lt)); kept = λ j le. refl }
-
-pub loop-i-preserved : goal.loop-i-preserved
-loop-i-preserved c =
-    let i = c.loop-i.i in
-    let first = c.args.limits.now.items in
-    let others = c.args.others.now in
-    let new = c.add_at.new.numbers.items in
-    let whole = c.loop-i.invariant.whole in
-    record {
-      whole = c.add_at.ensures.whole ∙ whole;
-      summed = λ j lt known. elim (cases_lt j i) [
-        | inl less ↦ (c.add_at.ensures.others j (λ same. omega (arith, same, less)) ∙ c.loop-i.invariant.summed j less known)
-        | inr past ↦
-            let same : j ≡ i = omega (arith, lt, past) in
-            let here = c.add_at.ensures.place (omega (arith, known, same, whole)) in
-            let before = c.loop-i.invariant.kept i (omega arith) in
-            subst (λ (k : ℕ). slice_index_or new k 0 ≡ min (slice_index_or first k 0 + min (slice_index_or others k 0 * c.args.times) (2 ^ 32 - 1)) (2 ^ 32 - 1)) (sym same)
-            (omega (arith, here, before, c.saturating_mul.ensures))
-      ];
-      kept = λ j le. c.add_at.ensures.others j (λ same. omega (arith, same, le)) ∙ c.loop-i.invariant.kept j (omega (arith, le));
-    }
-
-pub returns : goal.returns
-returns c = λ vars bound more h g.
-    AreLimits-times vars bound more c.args.limits.now.items c.args.others.now c.loop-i.limits.items c.args.times c.loop-i.invariant.whole
-    (λ i known. c.loop-i.invariant.summed i (omega (arith, known, h.whole, g.whole, c.loop-i-test.false)) known) h g
+pub returns-then-times-eq1-clause-limits : goal.returns-then-times-eq1-clause-limits
+returns-then-times-eq1-clause-limits c = λ vars bound more h g.
+    AreLimits-less vars (λ v. bound v + more v * 1) _ c.add_all.new.limits
+    (λ v. omega (arith, ap (λ (n : ℕ). more v * n) c.if-times-eq1.true)) (c.add_all.ensures.limits vars bound more h g)

@@ -1,4 +1,4 @@
-use Rattle.std.proofs.Common.{List, ℕ, ◌++◌, ◌∷◌, [], take, sym, ap, subst, arith}
+use Rattle.std.proofs.Common.{List, ◌++◌, ◌∷◌, [], take, sym, ap, subst, arith}
 use Rattle.geo_poly.specs.declared.replacement.Row.{Row}
 use Rattle.geo_poly.specs.declared.term_limits.ExponentLimits.{ExponentLimits}
 use Rattle.geo_poly.specs.Inner.Keyed.{greatest_exponent}

@@ -4,7 +4,7 @@ use Rattle.geo_poly.proofs.term_limits.raise_all.Given as goal
 
 abbrev pub invariant-loop-i : goal.invariant-loop-i
 invariant-loop-i l = record {
-  whole : length l.limits.items ≡ length l.initial.limits.items;
-  seen : (j : ℕ) → j < l.i → j < length l.initial.limits.items → slice_index_or l.others j 0 ≤ slice_index_or l.limits.items j 0;
-  kept : (j : ℕ) → slice_index_or l.initial.limits.items j 0 ≤ slice_index_or l.limits.items j 0;
+  whole : length l.limits ≡ length l.initial.limits;
+  seen : (j : ℕ) → j < l.i → j < length l.initial.limits → slice_index_or l.others j 0 ≤ slice_index_or l.limits j 0;
+  kept : (j : ℕ) → slice_index_or l.initial.limits j 0 ≤ slice_index_or l.limits j 0;
 }

@@ -1,33 +1,27 @@
-use Rattle.std.proofs.Common.{◌≡◌, [], map, sym, ap, subst, ◌∙◌, length}
+use Rattle.std.proofs.Common.{◌≡◌, map, sym, ap, subst, ◌∙◌}
 use Rattle.std.specs.Prelude.{IfOk}
-use Rattle.mono_store.specs.Stores.{Store, store_of}
 use Rattle.poly_arena.specs.Chains.{Pairs, pairs_of}
 use Rattle.geo_poly.specs.Chained.{indexed_pair}
+use Rattle.geo_poly.specs.Inner.Words.{word_keys}
 use Rattle.geo_poly.specs.Polynomials.{IsPolynomial, Summands}
-use Rattle.geo_poly.specs.Shared.{IsShared, terms_of}
-use Rattle.geo_poly.proofs.WordStores.{word_indices, word_terms}
+use Rattle.geo_poly.proofs.KeyedChains.{chain_indices, chain_terms}
 use Rattle.geo_poly.proofs.polynomials.Poly.from_words.Goals as goal
 
-pub compact-requires : goal.compact-requires
-compact-requires c =
-    let vars = c.args.vars in
-    let words = c.args.words in
-    let list = c.in_ok-list.list.items in
+pub of_words-requires-clause-indices : goal.of_words-requires-clause-indices
+of_words-requires-clause-indices c =
     let pairs = pairs_of c.args.arena c.args.chain in
     let same = c.in_ok-list.ensures ∙ ap (λ (ps : Pairs). map indexed_pair ps) (c.deref.ensures.value ∙ c.in_ok-pairs.ensures) in
-    subst (λ (store : Store). IsShared vars store list) (sym c.of_words-monos.ensures)
-    (record {
-      rising = c.requires.rising;
-      indices = word_indices vars words list pairs same c.requires.keys;
-      polynomial = subst IsPolynomial (sym (word_terms vars words list pairs same c.requires.keys)) c.requires.polynomial;
-    })
+    chain_indices c.args.vars (word_keys c.args.words) c.in_ok-list.list.items pairs same c.requires.keys
+
+pub of_words-requires-clause-polynomial : goal.of_words-requires-clause-polynomial
+of_words-requires-clause-polynomial c =
+    let pairs = pairs_of c.args.arena c.args.chain in
+    let same = c.in_ok-list.ensures ∙ ap (λ (ps : Pairs). map indexed_pair ps) (c.deref.ensures.value ∙ c.in_ok-pairs.ensures) in
+    subst IsPolynomial (sym (chain_terms c.args.vars (word_keys c.args.words) c.in_ok-list.list.items pairs same)) c.requires.polynomial
 
 pub returns : goal.returns
 returns c =
-    let vars = c.args.vars in
-    let words = c.args.words in
-    let list = c.in_ok-list.list.items in
     let pairs = pairs_of c.args.arena c.args.chain in
     let same = c.in_ok-list.ensures ∙ ap (λ (ps : Pairs). map indexed_pair ps) (c.deref.ensures.value ∙ c.in_ok-pairs.ensures) in
-    let stored = ap (λ (store : Store). terms_of vars store list) c.of_words-monos.ensures in
-    subst (λ (q : Summands). IfOk c.compact.result (λ p. p ≡ q)) (stored ∙ word_terms vars words list pairs same c.requires.keys) c.compact.ensures
+    subst (λ (q : Summands). IfOk c.of_words.result (λ p. p ≡ q)) (chain_terms c.args.vars (word_keys c.args.words) c.in_ok-list.list.items pairs same)
+    c.of_words.ensures

@@ -6,7 +6,7 @@ use Rattle.geo_poly.specs.Polynomials.{Summands}
 use Rattle.geo_poly.specs.Shared.{told}
 use Rattle.geo_poly.specs.Specialise.{specialised}
 use Rattle.geo_poly.proofs.ZeroPut.{specialised-zero}
-use Rattle.geo_poly.proofs.ZeroWalks.{absent_zero}
+use Rattle.geo_poly.proofs.LeadingVariables.{lacking_stays}
 use Rattle.geo_poly.proofs.polynomials.Poly.vanishes_at_zero.Goals as goal
 
 pub returns-in-Some : goal.returns-in-Some
@@ -14,14 +14,11 @@ returns-in-Some c =
     let p = c.shared.result in
     let valid = c.shared.ensures.valid.polynomial in
     let same =
-    ap (λ (w : Var). filter (lacks w) (told p)) c.in-Some.ensures.1 ∙ sym (specialised-zero c.args.v (told p) valid.in_order valid.monomials)
+    ap (λ (w : Var). filter (lacks w) (told p)) c.in-Some.ensures.variable ∙ sym (specialised-zero c.args.v (told p) valid.in_order valid.monomials)
     ∙ ap (specialised c.args.v (pos 0)) c.shared.ensures.terms in
     subst (λ (q : Summands). IsTrue c.all_have.result ↔ (q ≡ [])) same c.all_have.ensures
 
 pub returns-in-None : goal.returns-in-None
 returns-in-None c =
-    let p = c.shared.result in
-    let stays =
-    ap (specialised c.args.v (pos 0)) (sym c.shared.ensures.terms) ∙ absent_zero p.vars.now p.monos.now p.list.now c.args.v c.in-None.ensures c.shared.ensures.valid
-    ∙ c.shared.ensures.terms in
+    let stays = lacking_stays c.args.v (pos 0) (told c.shared.result) c.args.self.now c.shared.ensures.terms c.shared.ensures.valid.polynomial c.in-None.ensures.none in
     subst (λ (q : Summands). IsTrue c.is_zero.result ↔ (q ≡ [])) (sym stays) c.is_zero.ensures

@@ -1,0 +1,17 @@
+use Rattle.std.proofs.Common.{◌≡◌, ap, ◌∙◌}
+use Rattle.std.proofs.lemmas.Result.{IfOk-at_ok, IfOk-weaker}
+use Rattle.geo_poly.specs.Polynomials.{difference_of}
+use Rattle.fraction_poly.specs.MultipliedOut.{whole_fraction}
+use Rattle.fraction_poly.proofs.OneDenominators.{difference_over_one}
+use Rattle.fraction_poly.proofs.fractions.difference.Goals as goal
+
+pub returns-then-is_one-2 : goal.returns-then-is_one-2
+returns-then-is_one-2 c =
+    let a = c.args.left.now in
+    let b = c.args.right.now in
+    IfOk-weaker c.whole.result _ _
+    (λ f is. is
+    ∙ ap whole_fraction (IfOk-at_ok (λ p. p ≡ difference_of a.0 b.0) c.in_ok-numerator.ensures c.sub.ensures.difference)
+    ∙ difference_over_one a b (c.is_one.ensures c.if-is_one.true) (c.is_one-then-is_one.ensures c.if-is_one-2.true)
+    c.norm.ensures.valid c.norm-2.ensures.valid)
+    c.whole.ensures

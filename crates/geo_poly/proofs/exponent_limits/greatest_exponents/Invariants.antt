@@ -1,5 +1,0 @@
-use Rattle.geo_poly.proofs.ExponentLimits.{AreNamed}
-use Rattle.geo_poly.proofs.exponent_limits.greatest_exponents.Given as goal
-
-abbrev pub invariant-loop-i : goal.invariant-loop-i
-invariant-loop-i l = AreNamed l.p.vars.now l.numbered.items l.i l.bounds.items

@@ -1,0 +1,15 @@
+use Rattle.std.proofs.Common.{◌^◌, ◌<◌, ◌≤◌, to_z, of_z, sym, subst, ◌∙◌, arith}
+use Rattle.std.specs.Int.{w128}
+use Rattle.std.proofs.lemmas.Bool.{false≢true}
+use Rattle.std.proofs.lemmas.List.Elements.{All-more}
+use Rattle.geo_poly.specs.Polynomials.{Summands}
+use Rattle.geo_poly.specs.Specialise.{specialised_weight}
+use Rattle.geo_sample.proofs.numbers.test_weights.Goals as goal
+
+pub loop-poly-preserved : goal.loop-poly-preserved
+loop-poly-preserved c =
+    let P : Summands → Type 0 = λ p. specialised_weight c.args.v (to_z w128 (of_z w128 c.args.number)) p < 2 ^ 127 in
+    let not_large : 2 ^ 127 ≤ specialised_weight c.args.v (to_z w128 (of_z w128 c.args.number)) c.poly-item.result → ⊥ =
+    λ le. false≢true (sym c.if-is_too_heavy.false ∙ c.is_too_heavy.ensures.1 le) in
+    let small : P c.poly-item.result = omega (arith, not_large) in
+    All-more P c.args.polys.now c.loop-poly.poly-index c.poly-item.result c.loop-poly-test.true c.loop-poly.invariant (subst P c.poly-item.is small)
