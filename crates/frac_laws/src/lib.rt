@@ -7,8 +7,6 @@ mod divisors;
 mod frac;
 mod inverses;
 pub mod laws;
-#[cfg(test)]
-mod tests;
 
 pub use divisors::gcd;
 pub use frac::{Frac, FracTooLarge};

@@ -23,7 +23,5 @@ mod no_memory;
 mod piece;
 mod reading;
 mod sure;
-#[cfg(test)]
-mod tests;
 mod texts;
 mod writing;

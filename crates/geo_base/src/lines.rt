@@ -10,9 +10,6 @@ use crate::texts::Text;
 use std::alloc::Global;
 use std::marker::Model;
 
-#[cfg(test)]
-mod tests;
-
 /// What a reader of lines hands out.
 #[derive(Debug, Drop)]
 pub enum NextLine {

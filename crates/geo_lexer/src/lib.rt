@@ -5,8 +5,6 @@ mod gaps;
 pub mod laws;
 mod lexing;
 mod places;
-#[cfg(test)]
-mod tests;
 mod token_types;
 
 pub use lexing::tokens;

@@ -10,8 +10,6 @@ mod printing;
 mod program_type;
 mod restating;
 mod statements;
-#[cfg(test)]
-mod tests;
 
 pub use commands::{Command, Commands, LineId};
 pub use name_table::NameTable;

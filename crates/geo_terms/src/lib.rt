@@ -7,8 +7,6 @@ pub mod laws;
 mod nodes;
 mod steps;
 mod stores;
-#[cfg(test)]
-mod tests;
 
 pub use nodes::Node;
 pub use steps::{Step, Steps};

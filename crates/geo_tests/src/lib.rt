@@ -4,11 +4,15 @@
 #![tactic(auto)]
 
 #[cfg(test)]
+mod bytes;
+#[cfg(test)]
 mod chains;
 #[cfg(test)]
 mod descriptions;
 #[cfg(test)]
 mod examples;
+#[cfg(test)]
+mod lines;
 #[cfg(test)]
 mod move_degrees;
 #[cfg(test)]
@@ -29,5 +33,9 @@ mod problems;
 mod ratio_moves_table;
 #[cfg(test)]
 mod starts;
+#[cfg(test)]
+mod terms;
+#[cfg(test)]
+mod tokens;
 #[cfg(test)]
 mod weight_moves_table;

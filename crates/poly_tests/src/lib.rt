@@ -3,10 +3,16 @@
 #![tactic(auto)]
 
 #[cfg(test)]
+mod arenas;
+#[cfg(test)]
 mod factors;
 #[cfg(test)]
 mod fractions;
 #[cfg(test)]
+mod numbers;
+#[cfg(test)]
 mod polynomials;
 #[cfg(test)]
 mod samples;
+#[cfg(test)]
+mod stores;

@@ -1,5 +1,0 @@
-use Rattle.std.proofs.Common.{◌≡◌, false}
-use Rattle.geo_base.proofs.lines.tests.all_lines.Given as goal
-
-abbrev pub invariant-loop : goal.invariant-loop
-invariant-loop l = l.reader.ended ≡ false
