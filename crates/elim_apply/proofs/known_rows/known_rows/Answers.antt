@@ -1,4 +1,4 @@
-use Rattle.std.proofs.Common.{◌≡◌, ◌∷◌, ◌+◌, get_or, drop, ◌∙◌, rules}
+use Rattle.std.proofs.Common.{◌+◌, get_or, drop, ◌∙◌, rules}
 use Rattle.std.specs.Option.{option_map}
 use Rattle.sparse_lists.proofs.Merging.{drop_at, get_or_any}
 use Rattle.geo_poly.specs.declared.variables.Var.{Var}
