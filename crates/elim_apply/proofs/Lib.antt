@@ -18,3 +18,4 @@ pub mod SketchedLines
 pub mod AppliedMoves
 pub mod MadeLines
 pub mod KeptLemmas
+pub mod RisingRows

@@ -1,7 +1,7 @@
 -- Which moves have rows that can be made.
 use Rattle.std.specs.Prelude.{◌≢◌, ◌^◌, ◌<◌, ◌≤◌, [], length}
 use Rattle.fraction_poly.specs.TableRows.{HasPointsBelow}
-use Rattle.geo_poly.specs.Polynomials.{IsPolynomial, Summands}
+use Rattle.geo_poly.specs.Polynomials.{Summands}
 use Rattle.geo_poly.specs.PolynomialVariables.{AllVariables}
 use Rattle.geo_poly.specs.Replace.{replaced_degree, replaced_weight}
 use Rattle.geo_terms.specs.Constructions.{Construction}

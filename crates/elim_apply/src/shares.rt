@@ -3,7 +3,7 @@
 
 ghost use Rattle.std.specs.Prelude.{◌≡◌, ◌+◌, ◌-◌, ◌*◌, ◌^◌, ◌≤◌, [], IfOk, List, Some, min, slice_get};
 ghost use Rattle.elim_apply.specs.Inner.Shares.{AreShares, IsShareOf, IsWithPower};
-ghost use Rattle.elim_apply.specs.Inner.Sketches.{AreKnown, sketches};
+ghost use Rattle.elim_apply.specs.Inner.Sketches.{AreKnown, AreRising, sketches};
 ghost use Rattle.geo_poly.specs.declared.replacement.Row.{Row};
 ghost use Rattle.geo_poly.specs.declared.variables.Var.{Var};
 ghost use Rattle.geo_poly.specs.Monomials.{IsMonomial, Powers};
@@ -140,6 +140,7 @@ pub(crate) fn shares_of(
     p: &Shared,
 ) -> Result<Vec<Share>, NoMemory>
     requires powers { AllPowersSmall (sketches rows.now) }
+    requires rising { AreRising rows.now }
     requires parts { AreParts p.now }
     ensures { IfOk result (λ shares. AreShares (sketches rows.now) p.now shares.items) }
 {

@@ -5,7 +5,8 @@ ghost use Rattle.std.specs.Prelude.{◌≡◌, ◌+◌, ◌-◌, ◌*◌, ◌^�
 ghost use Rattle.std.specs.Prelude.{sum_by};
 ghost use Rattle.geo_logs.specs.Moves.{move_charge};
 ghost use Rattle.elim_apply.specs.Inner.Shares.{AreShares, HaveShares, IsShareOf};
-ghost use Rattle.elim_apply.specs.Inner.Sketches.{sketch, sketched_denominator, sketches};
+ghost use Rattle.elim_apply.specs.Inner.Sketches.{AreRising, sketch, sketched_denominator};
+ghost use Rattle.elim_apply.specs.Inner.Sketches.{sketches};
 ghost use Rattle.elim_apply.specs.Inner.Sizes.{IsSizeOf};
 ghost use Rattle.geo_poly.specs.declared.replacement.Row.{Row};
 ghost use Rattle.geo_poly.specs.Polynomials.{IsPolynomial, term_at};
@@ -30,6 +31,7 @@ pub(crate) fn size_of_line(
     poly: &Poly,
 ) -> Result<LineSize, NoMemory>
     requires powers { AllPowersSmall (sketches rows.now) }
+    requires rising { AreRising rows.now }
     requires valid { IsPolynomial poly.now }
     ensures size { IfOk result (λ size. IsSizeOf size (move_charge (sketch rows.now den) poly.now)
         (replaced_weight (sketches rows.now) (sketched_denominator den) poly.now)

@@ -44,10 +44,13 @@ impl SmallShare {
         }
     }
 
-    /// With one more variable that is replaced, to the power `e`.
+    /// With one more variable that is replaced, to the power `e`, which mostly is 1.
     fn replacing(self, row: &NumberedRow, e: u32) -> Option<SmallShare>
         ensures { IfSome result (λ after. after ≡ with_power (Some (sketched row.now)) e self) }
     {
+        if e == 1 {
+            return self.replacing_once(row);
+        }
         let numbers = &row.numbers;
         Some(SmallShare {
             exponents: self.exponents.checked_add(e)?,
@@ -59,6 +62,20 @@ impl SmallShare {
             degree: self
                 .degree
                 .checked_add(small(numbers.ga)?.checked_mul(e as u64)?)?,
+        })
+    }
+
+    /// With one more variable that is replaced.
+    fn replacing_once(self, row: &NumberedRow) -> Option<SmallShare>
+        ensures { IfSome result (λ after. after ≡ with_power (Some (sketched row.now)) 1 self) }
+    {
+        let numbers = &row.numbers;
+        Some(SmallShare {
+            exponents: self.exponents.checked_add(1)?,
+            denominators: self.denominators.checked_add(numbers.power)?,
+            count: self.count.checked_mul(small(numbers.ka)?)?,
+            weight: self.weight.checked_mul(small(numbers.wa)?)?,
+            degree: self.degree.checked_add(small(numbers.ga)?)?,
         })
     }
 

@@ -1,11 +1,13 @@
 -- The rows of a move by their numbers alone, before anything is multiplied out.
 use Rattle.std.specs.Prelude.{◌≡◌, Option, List, [], map}
+use Rattle.std.specs.List.Sorted.{IsStrictlySortedBy}
 use Rattle.std.specs.Option.{option_map}
 use Rattle.fraction_poly.specs.declared.table.RowNumbers.{RowNumbers}
 use Rattle.fraction_poly.specs.TableRows.{row_numbers}
 use Rattle.geo_poly.specs.declared.replacement.Piece.{Piece}
 use Rattle.geo_poly.specs.declared.replacement.Row.{Row}
 use Rattle.geo_poly.specs.Replace.{row_of}
+use Rattle.geo_poly.specs.Variables.{var_cmp}
 use Rattle.geo_poly.specs.declared.variables.Var.{Var}
 use Rattle.geo_terms.specs.Constructions.{Construction}
 use Rattle.geo_logs.specs.declared.moves.Move.{Move}
@@ -40,3 +42,7 @@ sketch rows den = record { rows = sketches rows; den = sketched_denominator den;
 -- the rows that the variables have, each where it has one
 abbrev pub AreKnown : List Row → List Var → List (Option NumberedRow) → Type 0
 AreKnown rows vars known = map (option_map sketched) known ≡ map (row_of rows) vars
+
+-- the rows are in the order of their variables
+abbrev pub AreRising : List NumberedRow → Type 0
+AreRising rows = IsStrictlySortedBy var_cmp (map (λ r. r.var) rows)

@@ -7,9 +7,10 @@ use Rattle.geo_poly.specs.PolynomialVariables.{variables_of}
 use Rattle.geo_poly.specs.Replace.{AllPowersSmall}
 use Rattle.geo_poly.proofs.EachVariable.{each-variables}
 use Rattle.elim_apply.specs.declared.numbered.NumberedRow.{NumberedRow}
-use Rattle.elim_apply.specs.Inner.Sketches.{numbered_row, sketches}
+use Rattle.elim_apply.specs.Inner.Sketches.{AreRising, numbered_row, sketches}
 use Rattle.elim_apply.proofs.AppliedMoves.{no_length}
 use Rattle.elim_apply.proofs.NumberedRows.{HasDenominator, all_each, all_over_one, none_made, sketches_small, some_length, some_numbered}
+use Rattle.elim_apply.proofs.RisingRows.{rows_rise}
 use Rattle.elim_apply.proofs.SketchedLines.{sketched_line, sketched_top}
 use Rattle.elim_apply.proofs.applying.measured.Goals as goal
 
@@ -38,6 +39,16 @@ size_of_line-requires-clause-powers c =
     let numbers : c.deref-2.result.now ≡ filter_map (numbered_row steps mv) (variables_of q) =
     c.deref-2.ensures.value ∙ c.in_ok-rows.ensures.rows ∙ ap (filter_map (numbered_row steps mv)) vs in
     subst (λ (rs : List NumberedRow). AllPowersSmall (sketches rs)) (sym numbers) (sketches_small steps mv (variables_of q))
+
+pub size_of_line-requires-clause-rising : goal.size_of_line-requires-clause-rising
+size_of_line-requires-clause-rising c =
+    let steps = c.args.steps.now in
+    let mv = c.args.mv.now in
+    let q = c.args.p.now in
+    let vs : c.deref.result.now ≡ variables_of q = c.deref.ensures.value ∙ c.in_ok-variables.ensures in
+    let numbers : c.deref-2.result.now ≡ filter_map (numbered_row steps mv) (variables_of q) =
+    c.deref-2.ensures.value ∙ c.in_ok-rows.ensures.rows ∙ ap (filter_map (numbered_row steps mv)) vs in
+    subst AreRising (sym numbers) (rows_rise steps mv q)
 
 pub returns-clause-some : goal.returns-clause-some
 returns-clause-some c =

@@ -13,7 +13,7 @@ use Rattle.elim_apply.proofs.applying.moved.Goals as goal
 pub made_rows-requires-clause-rows : goal.made_rows-requires-clause-rows
 made_rows-requires-clause-rows g c =
     line_can_be_made c.args.steps.now c.args.mv.now c.args.p.now c.args.rows.now c.requires.rows
-    c.requires.points c.norm.ensures.valid c.requires.weight c.requires.degree
+    c.requires.points c.is_valid.ensures.valid c.requires.weight c.requires.degree
 
 pub replace_within-requires-clause-rows : goal.replace_within-requires-clause-rows
 replace_within-requires-clause-rows g c =

@@ -2,8 +2,11 @@ use Rattle.std.proofs.Common.{◌≡◌, ◌++◌, drop, map}
 use Rattle.std.specs.Option.{option_map}
 use Rattle.elim_apply.specs.Inner.Sketches.{sketched, sketches}
 use Rattle.geo_poly.specs.Replace.{row_of}
+use Rattle.elim_apply.proofs.RisingRows.{IsWalk}
 use Rattle.elim_apply.proofs.known_rows.known_rows.Given as goal
 
 abbrev pub invariant-loop-v : goal.invariant-loop-v
-invariant-loop-v l =
-    map (option_map sketched) l.known.items ++ map (row_of (sketches l.rows)) (drop l.v-index l.variables) ≡ map (row_of (sketches l.rows)) l.variables
+invariant-loop-v l = record {
+  so_far : map (option_map sketched) l.known.items ++ map (row_of (sketches l.rows)) (drop l.v-index l.variables) ≡ map (row_of (sketches l.rows)) l.variables;
+  walk : IsWalk l.rows l.left (drop l.v-index l.variables);
+}
