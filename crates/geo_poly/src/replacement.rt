@@ -436,6 +436,11 @@ fn numerator_vars(alloc: Global, rows: &[Row]) -> Result<Vars, NoMemory>
         [row] => Ok(Vars {
             items: Vec::from_slice(alloc, row.num.poly.vars().as_slice())?,
         }),
+        [row, other] => union(
+            alloc,
+            row.num.poly.vars().as_slice(),
+            other.num.poly.vars().as_slice(),
+        ),
         _ => {
             let (front, back) = rows.split_at(rows.len() / 2);
             let left = numerator_vars(alloc, front)?;
