@@ -30,14 +30,14 @@ use mono_store::{Link, MonoId, Monos};
 use std::alloc::Global;
 use std::cmp::Ordering;
 
-/// The links of so many monomials are walked, and no table of them is made.
+/// The links of so many monomials are walked, and no table of them is made,
 const FEW_TERMS: usize = 8;
+
+/// where the store has so few links that no call goes deep.
+const FEW_LINKS: u64 = 64;
 
 /// A variable is looked for at so many places before all are searched.
 const NEAR: usize = 4;
-
-/// A monomial with more powers than these is not walked.
-const MOST_POWERS: u32 = 64;
 
 /// What becomes of a variable.
 #[derive(Clone, Copy)]
@@ -216,8 +216,14 @@ pub(crate) fn moved_monomials<K: MonomialKeys>(
     Ok(MovedMonomials { moves, links })
 }
 
-/// The keys of the links that the list reaches, and none where there are no links, or the list is so
-/// short that its monomials are walked instead.
+/// Whether no table of links is made.
+fn is_walked(p: &Shared) -> bool {
+    let links = p.monos.links();
+    links == 0 || (links <= FEW_LINKS && p.list.len() <= FEW_TERMS)
+}
+
+/// The keys of the links that the list reaches, and none where they are few, as are its monomials,
+/// which are walked instead.
 fn tabled_links<K: MonomialKeys>(
     alloc: Global,
     keys: &mut K,
@@ -233,7 +239,7 @@ fn tabled_links<K: MonomialKeys>(
         (λ links. AreMovedLinks p.now rows.now vars.now (K.keys keys.new) links.items) }
     ensures kept { KeepsKeys (K.keys keys.old) (K.keys keys.new) }
 {
-    if p.list.len() <= FEW_TERMS || p.monos.links() == 0 {
+    if is_walked(p) {
         return Ok(Vec::new(alloc));
     }
     let reached = reached_links(alloc, p)?;
@@ -331,13 +337,13 @@ fn new_index<K: MonomialKeys>(
 {
     let words = p.monos.words();
     if id.0 < words || links.is_empty() {
-        return walked(keys, vars, rows, p, moves, id, MOST_POWERS);
+        return walked(keys, vars, rows, p, moves, id);
     }
     let entry = entry_at(links, id.0 - words);
     Ok(entry)
 }
 
-/// The key of what is left of a monomial, power by power, where it has no more powers than that.
+/// The key of what is left of a monomial, power by power.
 fn walked<K: MonomialKeys>(
     keys: &mut K,
     vars: &[Var],
@@ -345,7 +351,6 @@ fn walked<K: MonomialKeys>(
     p: &Shared,
     moves: &[Move],
     id: MonoId,
-    most: u32,
 ) -> Result<Option<MonoId>, NoMemory>
     requires rising { IsStrictlySortedBy var_cmp vars.now }
     requires parts { AreParts p.now }
@@ -358,10 +363,7 @@ fn walked<K: MonomialKeys>(
         Some(link) => link,
         None => return Ok(Some(MonoId(keys.one()))),
     };
-    if most == 0 {
-        return Ok(None);
-    }
-    let rest = walked(keys, vars, rows, p, moves, link.next, most - 1)?;
+    let rest = walked(keys, vars, rows, p, moves, link.next)?;
     match rest {
         Some(next) => moved_power(keys, vars, rows, p, moves, id, link, next),
         None => Ok(None),
@@ -553,10 +555,11 @@ pub(crate) fn guessed_place(vars: &[Var], v: Var, guess: u64) -> Option<u64>
 
 /// Whether a variable comes after the one before a place.
 fn is_behind(vars: &[Var], place: usize, v: Var) -> bool {
-    place == 0 || match vars.get(place - 1) {
-        Some(w) => *w < v,
-        None => false,
-    }
+    place == 0
+        || match vars.get(place - 1) {
+            Some(w) => *w < v,
+            None => false,
+        }
 }
 
 /// The place of a variable, which stands behind a place, and mostly not far.
