@@ -1,7 +1,7 @@
 //! The monomials of a polynomial under other keys, whose variables have other numbers, without the
 //! variables that are replaced.
 
-ghost use Rattle.std.specs.Prelude.{◌≡◌, ◌<◌, ◌∷◌, [], Contains, None, IfOk};
+ghost use Rattle.std.specs.Prelude.{◌≡◌, ◌<◌, ◌∷◌, [], Contains, None, IfOk, IfSome, Some};
 ghost use Rattle.std.specs.Prelude.{slice_index_or};
 ghost use Rattle.std.specs.List.Sorted.{IsStrictlySortedBy};
 ghost use Rattle.geo_poly.specs.declared.moving.Move.TheVariants.{Unknown};
@@ -28,6 +28,16 @@ use crate::variables::Var;
 use geo_points::NoMemory;
 use mono_store::{Link, MonoId, Monos};
 use std::alloc::Global;
+use std::cmp::Ordering;
+
+/// The links of so many monomials are walked, and no table of them is made,
+const FEW_TERMS: usize = 8;
+
+/// where the store has so few links that no call goes deep.
+const FEW_LINKS: u64 = 64;
+
+/// A variable is looked for at so many places before all are searched.
+const NEAR: usize = 4;
 
 /// What becomes of a variable.
 #[derive(Clone, Copy)]
@@ -201,10 +211,39 @@ pub(crate) fn moved_monomials<K: MonomialKeys>(
         (λ table. AreMoved p.now rows.now vars.now (K.keys keys.new) table) }
     ensures kept { KeepsKeys (K.keys keys.old) (K.keys keys.new) }
 {
-    let reached = reached_links(alloc, p)?;
     let moves = moves_in(alloc, rows, p.vars, vars)?;
-    let links = moved_links(alloc, keys, vars, rows, p, &moves, &reached)?;
+    let links = tabled_links(alloc, keys, vars, rows, p, &moves)?;
     Ok(MovedMonomials { moves, links })
+}
+
+/// Whether no table of links is made.
+fn is_walked(p: &Shared) -> bool {
+    let links = p.monos.links();
+    links == 0 || (links <= FEW_LINKS && p.list.len() <= FEW_TERMS)
+}
+
+/// The keys of the links that the list reaches, and none where they are few, as are its monomials,
+/// which are walked instead.
+fn tabled_links<K: MonomialKeys>(
+    alloc: Global,
+    keys: &mut K,
+    vars: &[Var],
+    rows: &RowTable,
+    p: &Shared,
+    moves: &[Move],
+) -> Result<Vec<Option<MonoId>>, NoMemory>
+    requires rising { IsStrictlySortedBy var_cmp vars.now }
+    requires parts { AreParts p.now }
+    requires moves { AreMoves p.now.vars.now rows.now vars.now moves.now }
+    ensures moved { IfOk result
+        (λ links. AreMovedLinks p.now rows.now vars.now (K.keys keys.new) links.items) }
+    ensures kept { KeepsKeys (K.keys keys.old) (K.keys keys.new) }
+{
+    if is_walked(p) {
+        return Ok(Vec::new(alloc));
+    }
+    let reached = reached_links(alloc, p)?;
+    moved_links(alloc, keys, vars, rows, p, moves, &reached)
 }
 
 /// The key of what is left of the monomial of each link, in the order of the links, where it is
@@ -297,15 +336,15 @@ fn new_index<K: MonomialKeys>(
     ensures kept { KeepsKeys (K.keys keys.old) (K.keys keys.new) }
 {
     let words = p.monos.words();
-    if id.0 < words {
-        return moved_word(keys, vars, rows, p, moves, id);
+    if id.0 < words || links.is_empty() {
+        return walked(keys, vars, rows, p, moves, id);
     }
     let entry = entry_at(links, id.0 - words);
     Ok(entry)
 }
 
-/// The key of what is left of the monomial of a word, power by power.
-fn moved_word<K: MonomialKeys>(
+/// The key of what is left of a monomial, power by power.
+fn walked<K: MonomialKeys>(
     keys: &mut K,
     vars: &[Var],
     rows: &RowTable,
@@ -324,7 +363,7 @@ fn moved_word<K: MonomialKeys>(
         Some(link) => link,
         None => return Ok(Some(MonoId(keys.one()))),
     };
-    let rest = moved_word(keys, vars, rows, p, moves, link.next)?;
+    let rest = walked(keys, vars, rows, p, moves, link.next)?;
     match rest {
         Some(next) => moved_power(keys, vars, rows, p, moves, id, link, next),
         None => Ok(None),
@@ -421,8 +460,8 @@ fn moves_in(
     let mut number = 0u64;
     let mut guess = 0u64;
     for v in former {
-        let place = find_place(vars, *v, guess);
-        guess = place.unwrap_or(guess).saturating_add(1);
+        let place = guessed_place(vars, *v, guess);
+        guess = after(place, guess);
         moves.push(move_of(rows, vars, *v, number, place))?;
         number = number.saturating_add(1);
     }
@@ -431,7 +470,7 @@ fn moves_in(
 
 /// What becomes of a variable that has this place. Its row is mostly that of the number.
 fn move_of(rows: &RowTable, vars: &[Var], v: Var, number: u64, place: Option<u64>) -> Move
-    requires { IsPlaceOf vars.now v place }
+    requires { IfSome place (λ k. IsPlaceOf vars.now v (Some k)) }
     ensures { IsMoveOf rows.now vars.now v result }
 {
     let _ = vars;
@@ -481,6 +520,60 @@ pub(crate) fn places_in(
         places.push(place)?;
     }
     Ok(places)
+}
+
+/// Where the next variable may stand.
+fn after(place: Option<u64>, guess: u64) -> u64 {
+    match place {
+        Some(place) => place.saturating_add(1),
+        None => guess,
+    }
+}
+
+/// The place of a variable in the list, where it stands there and it is found: it is looked for near
+/// the place where it is supposed to stand, and is not searched where it would stand there.
+pub(crate) fn guessed_place(vars: &[Var], v: Var, guess: u64) -> Option<u64>
+    requires { IsStrictlySortedBy var_cmp vars.now }
+    ensures { IfSome result (λ k. IsPlaceOf vars.now v (Some k)) }
+{
+    let place = guess as usize;
+    let order = match vars.get(place) {
+        Some(w) => w.cmp(&v),
+        None => Ordering::Greater,
+    };
+    match order {
+        Ordering::Equal => Some(guess),
+        Ordering::Less => near_place(vars, v, place),
+        Ordering::Greater => {
+            if is_behind(vars, place, v) {
+                return None;
+            }
+            searched_place(vars, v)
+        }
+    }
+}
+
+/// Whether a variable comes after the one before a place.
+fn is_behind(vars: &[Var], place: usize, v: Var) -> bool {
+    place == 0
+        || match vars.get(place - 1) {
+            Some(w) => *w < v,
+            None => false,
+        }
+}
+
+/// The place of a variable, which stands behind a place, and mostly not far.
+fn near_place(vars: &[Var], v: Var, place: usize) -> Option<u64>
+    requires { IsStrictlySortedBy var_cmp vars.now }
+    ensures { IfSome result (λ k. IsPlaceOf vars.now v (Some k)) }
+{
+    let near = place.saturating_add(NEAR).min(vars.len());
+    for i in place..near {
+        if vars[i] == v {
+            return Some(i as u64);
+        }
+    }
+    searched_place(vars, v)
 }
 
 /// The place of a variable in the list, where it stands there. It is looked for first where it is

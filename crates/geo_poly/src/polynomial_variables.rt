@@ -30,6 +30,9 @@ use std::alloc::Global;
 use std::cmp::Ordering;
 use std::collections::BTreeSet;
 
+/// Lists of so many variables are short.
+const FEW_VARIABLES: usize = 64;
+
 impl Poly {
     /// The variables of the monomials, in order and each once.
     pub fn variables(&self, alloc: Global) -> Result<Vars, NoMemory>
@@ -281,6 +284,14 @@ fn has_at(powers: &[(Var, u32)], i: usize, v: Var) -> bool
     }
 }
 
+/// Both lengths together where they are short, and else the longer one.
+fn likely_length(left: &[Var], right: &[Var]) -> usize {
+    if left.len() <= FEW_VARIABLES && right.len() <= FEW_VARIABLES {
+        return left.len() + right.len();
+    }
+    left.len().max(right.len())
+}
+
 /// The variables of both lists, in order and each once.
 pub(crate) fn union(alloc: Global, left: &[Var], right: &[Var]) -> Result<Vars, NoMemory>
     requires left { IsStrictlySortedBy var_cmp left.now }
@@ -289,7 +300,7 @@ pub(crate) fn union(alloc: Global, left: &[Var], right: &[Var]) -> Result<Vars, 
     ensures left { IfOk result (λ vs. (v : Var) → Contains left.now v → Contains vs v) }
     ensures right { IfOk result (λ vs. (v : Var) → Contains right.now v → Contains vs v) }
 {
-    let mut items = Vec::with_capacity(alloc, left.len().max(right.len()))?;
+    let mut items = Vec::with_capacity(alloc, likely_length(left, right))?;
     let mut i = 0;
     let mut j = 0;
     while i < left.len() && j < right.len() {

@@ -436,6 +436,7 @@ fn numerator_vars(alloc: Global, rows: &[Row]) -> Result<Vars, NoMemory>
         [row] => Ok(Vars {
             items: Vec::from_slice(alloc, row.num.poly.vars().as_slice())?,
         }),
+        [row, other] => pair_vars(alloc, row, other),
         _ => {
             let (front, back) = rows.split_at(rows.len() / 2);
             let left = numerator_vars(alloc, front)?;
@@ -443,4 +444,21 @@ fn numerator_vars(alloc: Global, rows: &[Row]) -> Result<Vars, NoMemory>
             union(alloc, left.as_slice(), right.as_slice())
         }
     }
+}
+
+/// The variables of the numerator.
+fn row_vars(row: &Row) -> &[Var]
+    ensures rising { IsStrictlySortedBy var_cmp result.now }
+    ensures known { AllVariables (Contains result.now) row.now.num.poly }
+{
+    row.num.poly.vars().as_slice()
+}
+
+/// The variables of both numerators, in order and each once.
+fn pair_vars(alloc: Global, row: &Row, other: &Row) -> Result<Vars, NoMemory>
+    ensures rising { IfOk result (IsStrictlySortedBy var_cmp) }
+    ensures row { IfOk result (λ vs. AllVariables (Contains vs) row.now.num.poly) }
+    ensures other { IfOk result (λ vs. AllVariables (Contains vs) other.now.num.poly) }
+{
+    union(alloc, row_vars(row), row_vars(other))
 }

@@ -7,7 +7,7 @@ ghost use Rattle.geo_poly.specs.Variables.{var_cmp};
 
 use crate::exponent_limits::{numbered_exponents, raise};
 use crate::lists::Vars;
-use crate::moving::find_place;
+use crate::moving::guessed_place;
 use crate::shared::Shared;
 use crate::terms::Term;
 use crate::variables::Var;
@@ -124,7 +124,7 @@ fn raise_powers(limits: &mut Vec<u32>, vars: &[Var], powers: &[(Var, u32)])
 fn raise_limit(limits: &mut Vec<u32>, vars: &[Var], v: Var, least: u32, guess: u64) -> u64
     requires { IsStrictlySortedBy var_cmp vars.now }
 {
-    match find_place(vars, v, guess) {
+    match guessed_place(vars, v, guess) {
         Some(place) => {
             raise(limits, place, least);
             place.saturating_add(1)

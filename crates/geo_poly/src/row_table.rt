@@ -114,6 +114,9 @@ impl<'a> RowTable<'a> {
         ensures row { IfSome result (λ i. slice_get self.now i ≡ row_of self.now v) }
         ensures none { IfNone result (row_of self.now v ≡ None) }
     {
+        if self.rows.is_empty() {
+            return None;
+        }
         match self.known.get(number as usize) {
             Some(known) if known.var == v => known.place_in(self.rows),
             _ => found_place(self.rows, &self.places, v),

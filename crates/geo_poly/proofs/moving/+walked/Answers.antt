@@ -1,7 +1,7 @@
 use Rattle.std.proofs.Common.{subst, arith, rules}
 use Rattle.geo_poly.specs.Inner.Moved.{IsMovedTo}
 use Rattle.geo_poly.proofs.Moved.{one_is_moved}
-use Rattle.geo_poly.proofs.moving.+moved_word.Goals as goal
+use Rattle.geo_poly.proofs.moving.+walked.Goals as goal
 
 pub returns-in-None-clause-moved : goal.returns-in-None-clause-moved
 returns-in-None-clause-moved g t c =
@@ -10,11 +10,11 @@ returns-in-None-clause-moved g t c =
 
 pub moved_power-requires-clause-next : goal.moved_power-requires-clause-next
 moved_power-requires-clause-next g t c =
-    subst (IsMovedTo c.args.p.now c.args.rows.now c.args.vars.now (g.K.MonomialKeys.keys c.moved_word.new.keys) c.in-Some.link.next) c.in-Some-rest.is
+    subst (IsMovedTo c.args.p.now c.args.rows.now c.args.vars.now (g.K.MonomialKeys.keys c.walked.new.keys) c.in-Some.link.next) c.in-Some-rest.is
     c.in_ok-rest.ensures.moved
 
-pub moved_word-requires : goal.moved_word-requires
-moved_word-requires g t c = λ κs below. (
+pub walked-requires : goal.walked-requires
+walked-requires g t c = λ κs below. (
   search rules,
   (
     below,
