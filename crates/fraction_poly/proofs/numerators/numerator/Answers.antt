@@ -1,14 +1,11 @@
-use Rattle.std.proofs.Common.{inl, inr, ℤ, refl, sym, ap, subst, ◌∙◌, rules, unsigned_abs, ◌<◌, ◌^◌, arith}
+use Rattle.std.proofs.Common.{ℤ, refl, sym, ap, subst, rules, unsigned_abs, ◌<◌, ◌^◌, arith}
 use Rattle.std.specs.Int.{w128}
 use Rattle.std.proofs.lemmas.Int.{to_z-of_z}
-use Rattle.std.proofs.lemmas.Option.{slice_get_within}
 use Rattle.std.proofs.lemmas.Result.{IfOk-weaker}
-use Rattle.geo_points.specs.declared.ids.TermId.{TermId}
 use Rattle.geo_poly.specs.declared.canonical.Canon.{Canon}
 use Rattle.geo_poly.specs.Polynomials.{Summands, constant_of}
 use Rattle.geo_poly.specs.PolynomialVariables.{AllVariables}
 use Rattle.geo_poly.specs.Rings.{IsElementFor}
-use Rattle.geo_poly.specs.Shared.{Indices}
 use Rattle.geo_terms.specs.declared.nodes.Node.TheVariants.{Int, Param, S, P, R, Neg, Add, Sub, Mul, Div}
 use Rattle.geo_terms.specs.Stores.{tree_of}
 use Rattle.std.specs.Prelude.{Contains}

@@ -1,8 +1,5 @@
-use Rattle.std.proofs.Common.{◌≡◌, ◌+◌, List, length, refl, sym, ap, subst, ◌∙◌, rules, arith}
-use Rattle.std.proofs.lemmas.List.{length_push}
+use Rattle.std.proofs.Common.{List, length, sym, subst, rules, arith}
 use Rattle.geo_poly.specs.declared.variables.Var.{Var}
-use Rattle.geo_poly.specs.Shared.{Indices}
-use Rattle.geo_terms.specs.Stores.{tree_of}
 use Rattle.fraction_poly.specs.Inner.Numerators.{AreNumerators, AreWholeOver}
 use Rattle.fraction_poly.proofs.WholeTerms.{numerators_kept, numerators_push}
 use Rattle.fraction_poly.proofs.numerators.numerator_over.Goals as goal

@@ -1,3 +1,4 @@
+use Rattle.std.proofs.Common.{rules}
 use Rattle.fraction_poly.proofs.Leaves.{whole_more}
 use Rattle.fraction_poly.proofs.term_variables.whole_variables.Goals as goal
 
