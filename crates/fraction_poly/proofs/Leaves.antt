@@ -28,7 +28,8 @@ leaves_longer old new n more (Combined' p o f g) h = (leaves_longer old new n mo
 leaves_longer old new n more (Opposite' p f) h = leaves_longer old new n more f h
 
 -- NODES THAT ARE NO QUOTIENTS
-whole_longer : (old new : List Var) → ((v : Var) → Contains old v → Contains new v) → (node : Node) → IsWholeOver (Contains old) node → IsWholeOver (Contains new) node
+whole_longer : (old new : List Var) → ((v : Var) → Contains old v → Contains new v) → (node : Node)
+    → IsWholeOver (Contains old) node → IsWholeOver (Contains new) node
 whole_longer old new more (Int n) h = tt
 whole_longer old new more (Param t) h = more (T t) h
 whole_longer old new more (S a b c) h = AllVariables-longer old new _ more h
@@ -41,7 +42,8 @@ whole_longer old new more (Mul e f) h = tt
 whole_longer old new more (Div e f) h = absurd h
 
 -- one node more, in a longer list
-pub whole_more : (old new : List Var) (nodes : Store) (i : ℕ) (node : Node) → AreWholeOver old nodes i → ((v : Var) → Contains old v → Contains new v)
+pub whole_more : (old new : List Var) (nodes : Store) (i : ℕ) (node : Node) → AreWholeOver old nodes i
+    → ((v : Var) → Contains old v → Contains new v)
     → slice_get nodes i ≡ Some node → IsWholeOver (Contains new) node → AreWholeOver new nodes (i + 1)
 whole_more old new nodes i node h more at last = record {
   each = λ k other below here. elim (place_cases k i (omega arith)) [

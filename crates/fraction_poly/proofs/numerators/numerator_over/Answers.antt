@@ -19,5 +19,5 @@ loop-i-preserved c =
       count = search rules;
       whole = subst (λ (vs : List Var). AreWholeOver vs nodes (length nodes)) (sym grows.vars) c.loop-i.invariant.whole;
       numerators = subst (AreNumerators ring nodes) (sym c.in_ok-push.ensures.items)
-        (numerators_push ring nodes i before _ c.loop-i.invariant.count (numerators_kept old ring nodes before grows c.loop-i.invariant.numerators) c.in_ok-numerator.ensures.numerator);
+          (numerators_push ring nodes i before _ c.loop-i.invariant.count (numerators_kept old ring nodes before grows c.loop-i.invariant.numerators) c.in_ok-numerator.ensures.numerator);
     }
