@@ -23,8 +23,11 @@ pub returns-in-Int-clause-numerator : goal.returns-in-Int-clause-numerator
 returns-in-Int-clause-numerator c =
     IfOk-weaker c.constant.result _ _
     (λ z made. numerator_at c.args.ring.now c.args.terms.now c.args.id (Int c.in-Int.n) z c.requires.valid c.in-Int.ensures
-    (record { numerator = subst (λ (p : Summands). IsElementFor c.args.ring.now p z)
-    (ap constant_of (to_z-of_z w128 c.in-Int.n (search rules))) made; one = refl }))
+    (record {
+      numerator = subst (λ (p : Summands). IsElementFor c.args.ring.now p z)
+          (ap constant_of (to_z-of_z w128 c.in-Int.n (search rules))) made;
+      one = refl;
+    }))
     c.constant.ensures
 
 pub multiple-requires-clause-known : goal.multiple-requires-clause-known
@@ -78,8 +81,9 @@ returns-in-R-clause-numerator c =
     c.canonical-in-R.ensures.element
 
 pub part-requires : goal.part-requires
-part-requires c = let below = c.requires.valid.children c.args.id.0 (Neg c.in-Neg.e) c.in-Neg.ensures
-in omega (arith, below, c.requires.count)
+part-requires c =
+    let below = c.requires.valid.children c.args.id.0 (Neg c.in-Neg.e) c.in-Neg.ensures in
+    omega (arith, below, c.requires.count)
 
 pub opposite-requires : goal.opposite-requires
 opposite-requires c = (c.requires.parts.each c.in-Neg.e c.part.result.now c.part.ensures).numerator.element_of
@@ -140,8 +144,9 @@ pub difference-requires-clause-left : goal.difference-requires-clause-left
 difference-requires-clause-left c = (c.requires.parts.each c.in-Sub.e c.part-in-Sub.result.now c.part-in-Sub.ensures).numerator.element_of
 
 pub difference-requires-clause-right : goal.difference-requires-clause-right
-difference-requires-clause-right c = (c.requires.parts.each c.in-Sub.f c.part-in-Sub-2.result.now
-c.part-in-Sub-2.ensures).numerator.element_of
+difference-requires-clause-right c =
+    (c.requires.parts.each c.in-Sub.f c.part-in-Sub-2.result.now
+    c.part-in-Sub-2.ensures).numerator.element_of
 
 pub difference-requires-clause-fits : goal.difference-requires-clause-fits
 difference-requires-clause-fits c =
