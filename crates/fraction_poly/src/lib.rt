@@ -14,6 +14,7 @@ mod multiplying;
 mod numerators;
 mod parts;
 mod reaching;
+mod simple_drafts;
 mod step_numbers;
 mod store_numbers;
 mod table;
