@@ -3,3 +3,4 @@ pub mod Parts
 pub mod Numerators
 pub mod Drafts
 pub mod Known
+pub mod Simple

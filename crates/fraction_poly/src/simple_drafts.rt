@@ -1,11 +1,13 @@
 //! Drafts that are a sign times a variable, or a number that is a sign: no ring is made for these.
 
-ghost use Rattle.std.specs.Prelude.{◌≡◌, IfOk, IfSome};
+ghost use Rattle.std.specs.Prelude.{◌≡◌, ◌≤◌, ◌<◌, ◌+◌, ◌*◌, ◌^◌, IfOk, IfSome, IsTrue, max};
+ghost use Rattle.std.specs.Prelude.{unsigned_abs};
 ghost use Rattle.fraction_poly.specs.Inner.Drafts.{AllFit, HasSign, IsBoundedNumber, by_number};
 ghost use Rattle.fraction_poly.specs.Inner.Drafts.{combined_piece, drafted_piece};
-ghost use Rattle.fraction_poly.specs.Inner.Simple.{IsSimpleCombined, IsSimpleFor, simple_piece};
-ghost use Rattle.fraction_poly.specs.Forms.{PieceFits, variable_piece};
+ghost use Rattle.fraction_poly.specs.Inner.Simple.{IsCanonFor, IsSimpleFor, simple_piece};
+ghost use Rattle.fraction_poly.specs.Forms.{PieceFits, piece_product, variable_piece};
 ghost use Rattle.fraction_poly.specs.MultipliedOut.{canon_polynomial};
+ghost use Rattle.geo_poly.specs.Polynomials.{constant_of, difference_of, product_of, sum_of};
 ghost use Rattle.geo_poly.specs.Replace.{IsBounded};
 
 use crate::drafts::{Draft, Operation};
@@ -81,7 +83,10 @@ fn number(piece: &Piece) -> Option<Simple>
 }
 
 /// The number that the polynomial is, where that is 0 or 1.
-fn small_number(poly: &Poly) -> Option<i128> {
+fn small_number(poly: &Poly) -> Option<i128>
+    ensures sign { IfSome result (λ n. unsigned_abs n ≤ 1) }
+    ensures number { IfSome result (λ n. constant_of n ≡ poly.now) }
+{
     if poly.is_zero() {
         return Some(0);
     }
@@ -109,7 +114,15 @@ fn combined(operation: Operation, left: Simple, right: Simple) -> Option<Simple>
 }
 
 /// With the numbers of a sum.
-fn added(canon: Canon, left: Simple, right: Simple) -> Simple {
+fn added(canon: Canon, left: Simple, right: Simple) -> Simple
+    requires left { IsBounded (simple_piece left) }
+    requires right { IsBounded (simple_piece right) }
+    requires fits { left.weight + right.weight < 2 ^ 127 }
+    ensures canon { result.canon ≡ canon }
+    ensures weight { result.weight ≡ left.weight + right.weight }
+    ensures count { result.count ≡ left.count + right.count }
+    ensures degree { result.degree ≡ max left.degree right.degree }
+{
     Simple {
         canon,
         weight: left.weight + right.weight,
@@ -119,7 +132,15 @@ fn added(canon: Canon, left: Simple, right: Simple) -> Simple {
 }
 
 /// With the numbers of a product.
-fn multiplied(canon: Canon, left: Simple, right: Simple) -> Simple {
+fn multiplied(canon: Canon, left: Simple, right: Simple) -> Simple
+    requires left { IsBounded (simple_piece left) }
+    requires right { IsBounded (simple_piece right) }
+    requires fits { PieceFits (piece_product (simple_piece left) (simple_piece right)) }
+    ensures canon { result.canon ≡ canon }
+    ensures weight { result.weight ≡ left.weight * right.weight }
+    ensures count { result.count ≡ left.count * right.count }
+    ensures degree { result.degree ≡ left.degree + right.degree }
+{
     Simple {
         canon,
         weight: left.weight * right.weight,
@@ -129,15 +150,27 @@ fn multiplied(canon: Canon, left: Simple, right: Simple) -> Simple {
 }
 
 /// The sum, where one of both is 0.
-fn sum(left: Canon, right: Canon) -> Option<Canon> {
+fn sum(left: Canon, right: Canon) -> Option<Canon>
+    requires left { HasSign left }
+    requires right { HasSign right }
+    ensures { IfSome result
+        (IsCanonFor (sum_of (canon_polynomial left) (canon_polynomial right))) }
+{
     if is_number(left, 0) {
         return Some(right);
     }
-    difference(left, right)
+    if is_number(right, 0) {
+        return Some(left);
+    }
+    None
 }
 
-/// The difference, where the second is 0: the first.
-fn difference(left: Canon, right: Canon) -> Option<Canon> {
+/// The difference, where the second is 0.
+fn difference(left: Canon, right: Canon) -> Option<Canon>
+    requires left { HasSign left }
+    ensures { IfSome result
+        (IsCanonFor (difference_of (canon_polynomial left) (canon_polynomial right))) }
+{
     if is_number(right, 0) {
         return Some(left);
     }
@@ -145,19 +178,32 @@ fn difference(left: Canon, right: Canon) -> Option<Canon> {
 }
 
 /// The product, where one of both is 0 or 1.
-fn product(left: Canon, right: Canon) -> Option<Canon> {
-    if is_number(left, 0) || is_number(right, 1) {
+fn product(left: Canon, right: Canon) -> Option<Canon>
+    requires left { HasSign left }
+    requires right { HasSign right }
+    ensures { IfSome result
+        (IsCanonFor (product_of (canon_polynomial left) (canon_polynomial right))) }
+{
+    if is_number(left, 0) {
         return Some(left);
     }
-    if is_number(right, 0) || is_number(left, 1) {
+    if is_number(left, 1) {
         return Some(right);
+    }
+    if is_number(right, 0) {
+        return Some(right);
+    }
+    if is_number(right, 1) {
+        return Some(left);
     }
     None
 }
 
-/// Whether there is no variable, and the sign is this one.
-fn is_number(canon: Canon, sign: i128) -> bool {
-    canon.var.is_none() && canon.sign == sign
+/// Whether it is this number, with no variable.
+fn is_number(canon: Canon, n: i128) -> bool
+    ensures { IsTrue result → canon_polynomial canon ≡ constant_of n }
+{
+    canon.var.is_none() && canon.sign == n
 }
 
 impl Simple {
