@@ -203,7 +203,10 @@ fn product(left: Canon, right: Canon) -> Option<Canon>
 fn is_number(canon: Canon, n: i128) -> bool
     ensures { IsTrue result → canon_polynomial canon ≡ constant_of n }
 {
-    canon.var.is_none() && canon.sign == n
+    match canon.var {
+        None => canon.sign == n,
+        Some(_) => false,
+    }
 }
 
 impl Simple {
