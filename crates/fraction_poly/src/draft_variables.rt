@@ -64,7 +64,7 @@ impl Draft {
 }
 
 /// Inserts the variable of a sorted form, where it has one.
-fn insert_canon(variables: &mut BTreeSet<Var>, canon: Canon) -> Result<(), NoMemory>
+pub(crate) fn insert_canon(variables: &mut BTreeSet<Var>, canon: Canon) -> Result<(), NoMemory>
     ensures known { OnOk result (IfSome canon.var (Contains variables.new.keys)) }
     ensures kept { OnOk result
         ((v : Var) → Contains variables.old.keys v → Contains variables.new.keys v) }
@@ -76,7 +76,7 @@ fn insert_canon(variables: &mut BTreeSet<Var>, canon: Canon) -> Result<(), NoMem
 }
 
 /// Inserts a variable.
-fn insert(variables: &mut BTreeSet<Var>, v: Var) -> Result<(), NoMemory>
+pub(crate) fn insert(variables: &mut BTreeSet<Var>, v: Var) -> Result<(), NoMemory>
     ensures known { OnOk result (Contains variables.new.keys v) }
     ensures kept { OnOk result
         ((w : Var) → Contains variables.old.keys w → Contains variables.new.keys w) }

@@ -212,7 +212,10 @@ impl Draft {
         match self {
             Draft::Numerator(k) => same_piece(alloc, &k.of(first, second).num),
             Draft::Denominator(k) => same_piece(alloc, &k.of(first, second).den),
-            _ => self.made_piece(alloc, first, second),
+            _ => match self.simple(first, second) {
+                Some(simple) => simple.into_piece(alloc),
+                None => self.made_piece(alloc, first, second),
+            },
         }
     }
 

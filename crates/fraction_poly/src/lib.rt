@@ -11,11 +11,14 @@ pub mod laws;
 mod linear;
 mod measures;
 mod multiplying;
+mod numerators;
 mod parts;
 mod reaching;
+mod simple_drafts;
 mod step_numbers;
 mod store_numbers;
 mod table;
+mod term_variables;
 
 pub use drafts::{Draft, Number, RowDraft, StepTerms};
 pub use known_numbers::KnownNumbers;

@@ -8,7 +8,7 @@ ghost use Rattle.fraction_poly.specs.Inner.Drafts.{HasSign, IsPartFor, combined_
 ghost use Rattle.fraction_poly.specs.MultipliedOut.{canon_polynomial, variable_polynomial};
 ghost use Rattle.geo_poly.specs.PolynomialVariables.{AllVariables};
 ghost use Rattle.geo_poly.specs.Replace.{IsBounded};
-ghost use Rattle.geo_poly.specs.Rings.{Grows, IsElement};
+ghost use Rattle.geo_poly.specs.Rings.{Grows, IsElement, IsElementFor};
 
 use crate::drafts::Operation;
 use geo_points::NoMemory;
@@ -62,16 +62,25 @@ pub(crate) fn quantity(alloc: Global, ring: &mut Ring, canon: Canon) -> Result<P
     ensures part { IfOk result (IsPartFor ring.new (variable_piece (canon_polynomial canon))) }
     ensures grows { Grows ring.old ring.new }
 {
-    let element = match canon.var {
-        None => ring.constant(alloc, canon.sign)?,
-        Some(v) => ring.multiple(alloc, canon.sign, v)?,
-    };
     Ok(Part {
-        element,
+        element: canonical(alloc, ring, canon)?,
         weight: 1,
         count: 1,
         degree: 1,
     })
+}
+
+/// A quantity of points in its sorted form, as an element.
+pub(crate) fn canonical(alloc: Global, ring: &mut Ring, canon: Canon) -> Result<Element, NoMemory>
+    requires sign { HasSign canon }
+    requires known { AllVariables (Contains ring.old.vars) (canon_polynomial canon) }
+    ensures element { IfOk result (IsElementFor ring.new (canon_polynomial canon)) }
+    ensures grows { Grows ring.old ring.new }
+{
+    match canon.var {
+        None => ring.constant(alloc, canon.sign),
+        Some(v) => ring.multiple(alloc, canon.sign, v),
+    }
 }
 
 /// The same piece.
