@@ -5,8 +5,8 @@ ghost use Rattle.std.specs.Prelude.{true, false, All, Any, IfOk, IfErr, IsTrue};
 ghost use Rattle.geo_poly.specs.Specialise.{NoneZero, specialised_weight};
 ghost use Rattle.geo_sample.specs.Tries.{all_specialised};
 
-use crate::putting::{nonzero_changes, put_changes};
 use crate::errors::SampleError;
+use crate::putting::{nonzero_changes, put_changes};
 use geo_base::Budget;
 use geo_points::NoMemory;
 use geo_poly::{Poly, Var, Which};

@@ -1,8 +1,7 @@
 use Rattle.std.proofs.Common.{to_z, of_z, subst}
-use Rattle.std.specs.Prelude.{IfNone, Option}
+use Rattle.std.specs.Prelude.{IfNone}
 use Rattle.std.specs.Int.{w128}
 use Rattle.std.proofs.lemmas.Int.{to_z-of_z}
-use Rattle.geo_poly.specs.Polynomials.{Summands}
 use Rattle.geo_poly.specs.Specialise.{NoneZero}
 use Rattle.geo_sample.specs.Tries.{all_specialised}
 use Rattle.geo_sample.proofs.numbers.keep_other.Goals as goal

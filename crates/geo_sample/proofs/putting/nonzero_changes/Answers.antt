@@ -1,11 +1,11 @@
-use Rattle.std.proofs.Common.{◌≡◌, ◌^◌, ◌<◌, ◌+◌, List, length, take, to_z, of_z, sym, ap, subst, ◌∙◌, arith}
+use Rattle.std.proofs.Common.{◌^◌, ◌<◌, ◌+◌, length, to_z, of_z, sym, ap, subst, ◌∙◌}
 use Rattle.std.specs.Int.{w128}
 use Rattle.std.proofs.lemmas.Bool.{false≢true}
 use Rattle.std.proofs.lemmas.Int.{to_z-of_z}
-use Rattle.std.proofs.lemmas.List.{length_push, take_all}
+use Rattle.std.proofs.lemmas.List.{length_push}
 use Rattle.geo_poly.specs.Polynomials.{Summands, IsPolynomial}
-use Rattle.geo_poly.specs.Specialise.{NoneZero, specialised_weight}
-use Rattle.geo_sample.specs.Tries.{all_specialised, changed_by}
+use Rattle.geo_poly.specs.Specialise.{specialised_weight}
+use Rattle.geo_sample.specs.Tries.{changed_by}
 use Rattle.geo_sample.proofs.Changes.{one_stays, one_vanishes}
 use Rattle.geo_sample.proofs.Puts.{changed-more}
 use Rattle.geo_sample.proofs.putting.nonzero_changes.Goals as goal
