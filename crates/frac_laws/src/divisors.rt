@@ -1,6 +1,6 @@
 //! Greatest common divisors.
 
-ghost use Rattle.std.specs.Prelude.{pos, ◌<◌, ◌^◌, ◌≤ℤ◌, unsigned_abs};
+ghost use Rattle.std.specs.Prelude.{pos, ◌≡◌, ◌<◌, ◌≤◌, ◌%◌, ◌^◌, ◌≤ℤ◌, unsigned_abs};
 ghost use Rattle.std.specs.Int.{IsGcd};
 
 /// The greatest common divisor of two numbers, whatever their signs. That of 0 and a number is the
@@ -25,9 +25,23 @@ pub fn common_divisor(a: u128, b: u128) -> u128
     let mut x = a;
     let mut y = b;
     while y != 0 {
-        let rest = x % y;
+        let rest = remainder(x, y);
         x = y;
         y = rest;
     }
     x
+}
+
+/// The remainder of a division. Most numbers have 64 bits, which are divided quicker.
+fn remainder(a: u128, b: u128) -> u128
+    requires { 1 ≤ b }
+    ensures { result ≡ a % b }
+{
+    if a < b {
+        return a;
+    }
+    if a <= u64::MAX as u128 {
+        return (a as u64 % b as u64) as u128;
+    }
+    a % b
 }

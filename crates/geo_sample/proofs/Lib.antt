@@ -4,3 +4,4 @@ pub mod ValueLaws
 pub mod FoundSamples
 pub mod EveryEnd
 pub mod Changes
+pub mod Puts

@@ -6,6 +6,7 @@ ghost use Rattle.geo_poly.specs.Specialise.{NoneZero, specialised_weight};
 ghost use Rattle.geo_sample.specs.Tries.{all_specialised};
 
 use crate::errors::SampleError;
+use crate::putting::{nonzero_changes, put_changes};
 use geo_base::Budget;
 use geo_points::NoMemory;
 use geo_poly::{Poly, Var, Which};
@@ -35,11 +36,13 @@ pub fn keep_other(
 {
     let _ = budget;
     test_weights(polys, v, number)?;
-    let keeps = none_vanishes(alloc, polys, v, number)?;
-    if keeps {
-        put_each(alloc, polys, v, number)?;
+    match nonzero_changes(alloc, polys, v, number)? {
+        Some(changes) => {
+            put_changes(polys, changes);
+            Ok(true)
+        }
+        None => Ok(false),
     }
-    Ok(keeps)
 }
 
 /// Puts the number for the variable. The budget has the charge.
@@ -76,20 +79,6 @@ fn test_weights(polys: &[Poly], v: Var, number: i128) -> Result<(), SampleError>
         }
     }
     Ok(())
-}
-
-/// Whether none of the polynomials is zero with the number for the variable.
-fn none_vanishes(alloc: Global, polys: &[Poly], v: Var, number: i128) -> Result<bool, NoMemory>
-    requires { All (λ p. specialised_weight v number p < 2 ^ 127) polys.now }
-    ensures { IfOk result (λ b. IsTrue b ↔ NoneZero (all_specialised v number polys.now)) }
-{
-    for poly in polys {
-        let vanishes = poly.vanishes_at(alloc, v, number)?;
-        if vanishes {
-            return Ok(false);
-        }
-    }
-    Ok(true)
 }
 
 /// Puts the number for the variable of each.

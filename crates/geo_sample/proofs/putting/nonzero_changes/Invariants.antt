@@ -1,0 +1,11 @@
+use Rattle.std.proofs.Common.{◌≡◌, length, take}
+use Rattle.geo_poly.specs.Specialise.{NoneZero}
+use Rattle.geo_sample.specs.Tries.{all_specialised, changed_by}
+use Rattle.geo_sample.proofs.putting.nonzero_changes.Given as goal
+
+abbrev pub invariant-loop-poly : goal.invariant-loop-poly
+invariant-loop-poly l = record {
+  changed : changed_by l.changes.items l.polys ≡ all_specialised l.v l.number (take l.poly-index l.polys);
+  long : length l.changes.items ≡ l.poly-index;
+  nonzero : NoneZero (all_specialised l.v l.number (take l.poly-index l.polys));
+}
