@@ -77,6 +77,7 @@ pub mod FactorPaths
 pub mod FactorWalks
 pub mod MultipliedIn
 pub mod NumberedTerms
+pub mod PendingItems
 pub mod PendingTerms
 pub mod WaitingTerms
 pub mod JoinedParts

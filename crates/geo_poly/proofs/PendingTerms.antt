@@ -14,7 +14,8 @@ use Rattle.geo_poly.specs.declared.settings.Setting.{Setting}
 use Rattle.geo_poly.specs.declared.shared.Shared.{Shared}
 use Rattle.geo_poly.specs.declared.variables.Var.{Var}
 use Rattle.geo_poly.specs.Inner.Accumulated.{accumulated_term, accumulated_terms}
-use Rattle.geo_poly.specs.Inner.Factored.{AreFactors, ArePending, Factored, IsNumbered, Numbered, factored_products, factored_terms, factored_weight, products_with, times_pieces, told_numbered, weight_with}
+use Rattle.geo_poly.specs.Inner.Factored.{AreFactors, ArePending, Factored, IsNumbered, Numbered, factored_products, factored_terms}
+use Rattle.geo_poly.specs.Inner.Factored.{factored_weight, products_with, times_pieces, told_numbered, weight_with}
 use Rattle.geo_poly.specs.Inner.ReplacedExponents.{exponent_bound, term_exponent}
 use Rattle.geo_poly.specs.Monomials.{IsMonomial, Powers, degree_of, exponent}
 use Rattle.geo_poly.specs.Polynomials.{Summands, polynomial_of}
