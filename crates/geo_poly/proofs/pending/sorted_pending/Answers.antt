@@ -1,4 +1,4 @@
-use Rattle.std.proofs.Common.{◌≡◌, List, map, subst, sym, ap₂, ◌∙◌}
+use Rattle.std.proofs.Common.{List, map, subst, ap₂, ◌∙◌}
 use Rattle.std.specs.List.Sorted.{IsPermutation}
 use Rattle.std.proofs.lemmas.List.Sorted.{IsPermutation-map}
 use Rattle.geo_poly.specs.Inner.Factored.{Numbered, numbered_of, numbered_terms}

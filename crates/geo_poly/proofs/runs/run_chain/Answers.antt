@@ -7,7 +7,7 @@ use Rattle.sparse_lists.proofs.Merging.{drop_past}
 use Rattle.poly_arena.specs.Chains.{Pairs, pairs_of}
 use Rattle.geo_poly.specs.Chained.{AddsChain, StandsUnder}
 use Rattle.geo_poly.specs.declared.pending.Pending.{Pending}
-use Rattle.geo_poly.specs.Inner.Factored.{IsPending, factored_terms, told_pending}
+use Rattle.geo_poly.specs.Inner.Factored.{factored_terms, told_pending}
 use Rattle.geo_poly.specs.Inner.Runs.{IsNextKey, first_key}
 use Rattle.geo_poly.specs.Polynomials.{Summands, coefficients, term_cmp}
 use Rattle.geo_poly.specs.Shared.{told}
