@@ -57,7 +57,7 @@ module _ (vars : List Var) (s1 s2 : Keys) (kept : KeepsKeys s1 s2) (a0 a1 a2 a3 
 
 -- WHAT ALL SHARE, MULTIPLIED INTO THE SUM
 module _ (setting : Setting) (keys : Keys) (set : IsSetUnder setting keys) (p : Shared) (depth n : ℕ) (first : List ℕ) (es : List Pending)
-    (share : All (λ (e : Pending). take n (drop depth e.factors.items) ≡ take n first) es) (pending : All (IsPending setting p depth) es)
+    (share : All (λ (e : Pending). take n (drop depth e.factors.now) ≡ take n first) es) (pending : All (IsPending setting p depth) es)
     (norm : factored_weight (map (told_pending setting p depth) es) < 2 ^ 127) (long : 1 ≤ length es) (factors : List ℕ) (factors-is : factors ≡ take n first)
     (base : Summands) (base-is : base ≡ polynomial_of (factored_terms (map (told_pending setting p (depth + n)) es))) where
   abbrev deep : List Factored
@@ -123,7 +123,7 @@ module _ (setting : Setting) (p : Shared) (depth : ℕ) (e : Pending) (es : List
   lone_room keys reach =
       let m = others setting.rows.now (told_powers p e.id) in
       less_within setting.vars.now keys keys (λ v. exponent_bound v setting.rows.now setting.den.piece.now setting.top (told p)) (λ v. exponent v m) refl
-      (λ v. omega (arith, lone_pending.exponents v, with-grows v (pieces_of setting.rows.now setting.den.piece.now (drop depth e.factors.items)) (exponent v m))) reach
+      (λ v. omega (arith, lone_pending.exponents v, with-grows v (pieces_of setting.rows.now setting.den.piece.now (drop depth e.factors.now)) (exponent v m))) reach
 
   abbrev lone_told : List Factored
   lone_told = map (told_pending setting p depth) es
@@ -134,10 +134,10 @@ module _ (setting : Setting) (p : Shared) (depth : ℕ) (e : Pending) (es : List
   abbrev lone_pieces : List ℕ → List Piece
   lone_pieces ks = pieces_of setting.rows.now setting.den.piece.now ks
 
-  told-is : lone_told ≡ (lone_pieces (drop depth e.factors.items), lone_term) ∷ []
+  told-is : lone_told ≡ (lone_pieces (drop depth e.factors.now), lone_term) ∷ []
   told-is = ap (map (told_pending setting p depth)) one
 
-  module _ (factors : List ℕ) (factors-is : factors ≡ drop depth e.factors.items) (base : Summands) (base-is : base ≡ (others setting.rows.now (told_powers p e.id), e.coefficient) ∷ []) where
+  module _ (factors : List ℕ) (factors-is : factors ≡ drop depth e.factors.now) (base : Summands) (base-is : base ≡ (others setting.rows.now (told_powers p e.id), e.coefficient) ∷ []) where
     lone_canonical : IsCanonical term_cmp coefficients (lone_term ∷ [])
     lone_canonical = (some (unsigned_abs e.coefficient) lone_pending.nonzero, tt, tt)
 
@@ -150,8 +150,8 @@ module _ (setting : Setting) (p : Shared) (depth : ℕ) (e : Pending) (es : List
     pub lone_norm : factored_weight (map (told_pending setting p depth) es) < 2 ^ 127 → weight_with (pieces_of setting.rows.now setting.den.piece.now factors) (norm_of base) < 2 ^ 127
     lone_norm norm =
         let size : norm_of base ≡ unsigned_abs e.coefficient = ap norm_of base-is ∙ sum_by-cons (λ (t : Powers × ℤ). unsigned_abs t.1) lone_term [] ∙ omega arith in
-        let all : factored_weight lone_told ≡ weight_with (lone_pieces (drop depth e.factors.items)) (unsigned_abs e.coefficient) =
-        ap factored_weight told-is ∙ sum_by-cons (λ (f : Factored). weight_with f.0 (unsigned_abs f.1.1)) (lone_pieces (drop depth e.factors.items), lone_term) [] ∙ omega arith in
+        let all : factored_weight lone_told ≡ weight_with (lone_pieces (drop depth e.factors.now)) (unsigned_abs e.coefficient) =
+        ap factored_weight told-is ∙ sum_by-cons (λ (f : Factored). weight_with f.0 (unsigned_abs f.1.1)) (lone_pieces (drop depth e.factors.now), lone_term) [] ∙ omega arith in
         let here = ap₂ (λ (ks : List ℕ) (w : ℕ). weight_with (lone_pieces ks) w) factors-is size in
         omega (arith, norm, all, here)
 
@@ -173,7 +173,7 @@ module _ (setting : Setting) (p : Shared) (depth : ℕ) (e : Pending) (es : List
 
     pub lone_made : times_pieces (pieces_of setting.rows.now setting.den.piece.now factors) base ≡ polynomial_of (factored_terms (map (told_pending setting p depth) es))
     lone_made =
-        let qs = lone_pieces (drop depth e.factors.items) in
+        let qs = lone_pieces (drop depth e.factors.now) in
         ap₂ (λ (ks : List ℕ) (x : Summands). times_pieces (lone_pieces ks) x) factors-is base-is
         ∙ sym (canonical_self term_cmp coefficients term_order coefficients_add (times_pieces qs (lone_term ∷ [])) (IsCanonical-times_pieces qs (lone_term ∷ []) lone_canonical))
         ∙ ap polynomial_of (sym (append-nil (times_pieces qs (lone_term ∷ []))))
@@ -182,7 +182,7 @@ module _ (setting : Setting) (p : Shared) (depth : ℕ) (e : Pending) (es : List
     pub lone_products : (size : ℕ) → size ≡ length base → products_with (pieces_of setting.rows.now setting.den.piece.now factors) size ≤ factored_products (map (told_pending setting p depth) es)
     lone_products size size-is =
         let long : size ≡ 1 = size-is ∙ ap length base-is in
-        let all : factored_products lone_told ≡ products_with (lone_pieces (drop depth e.factors.items)) 1 =
-        ap factored_products told-is ∙ sum_by-cons (λ (f : Factored). products_with f.0 1) (lone_pieces (drop depth e.factors.items), lone_term) [] ∙ omega arith in
+        let all : factored_products lone_told ≡ products_with (lone_pieces (drop depth e.factors.now)) 1 =
+        ap factored_products told-is ∙ sum_by-cons (λ (f : Factored). products_with f.0 1) (lone_pieces (drop depth e.factors.now), lone_term) [] ∙ omega arith in
         let here = ap₂ (λ (ks : List ℕ) (k : ℕ). products_with (lone_pieces ks) k) factors-is long in
         omega (arith, all, here)

@@ -76,7 +76,10 @@ pub mod OrderedRuns
 pub mod FactorPaths
 pub mod FactorWalks
 pub mod MultipliedIn
+pub mod NumberedTerms
+pub mod PendingItems
 pub mod PendingTerms
+pub mod WaitingTerms
 pub mod JoinedParts
 pub mod TermPlaces
 pub mod Gradings

@@ -43,7 +43,7 @@ module _ (setting : Setting) (keys : Keys) (set : IsSetUnder setting keys) where
   module _ (p : Shared) where
     pub good_terms : (depth : ℕ) (es : List Pending) → AllGoodTerms (map (told_pending setting p depth) es)
     good_terms depth [] = tt
-    good_terms depth (e ∷ es) = (good (drop depth e.factors.items), good_terms depth es)
+    good_terms depth (e ∷ es) = (good (drop depth e.factors.now), good_terms depth es)
 
     -- ALL TERMS
     pub all_within : (depth : ℕ) (es : List Pending) → All (IsPending setting p depth) es → AllWithin 65535 (map (told_pending setting p depth) es)
@@ -61,19 +61,19 @@ module _ (setting : Setting) (keys : Keys) (set : IsSetUnder setting keys) where
     -- WHAT ALL SHARE
     module _ (depth n : ℕ) (first : List ℕ) where
       abbrev Shares : Pending → Type 0
-      Shares e = take n (drop depth e.factors.items) ≡ take n first
+      Shares e = take n (drop depth e.factors.now) ≡ take n first
 
       abbrev shared : List Piece
       shared = pieces_of rows den (take n first)
 
-      one_shares : (e : Pending) → Shares e → pieces_of rows den (drop depth e.factors.items) ≡ shared ++ pieces_of rows den (drop (depth + n) e.factors.items)
+      one_shares : (e : Pending) → Shares e → pieces_of rows den (drop depth e.factors.now) ≡ shared ++ pieces_of rows den (drop (depth + n) e.factors.now)
       one_shares e h =
-          let ks = drop depth e.factors.items in
+          let ks = drop depth e.factors.now in
           ap (pieces_of rows den) (sym (take-append-drop n ks))
           ∙ map-append (piece_of rows den) (take n ks) (drop n ks)
-          ∙ ap₂ (λ (x y : List ℕ). pieces_of rows den x ++ pieces_of rows den y) h (drop-drop n depth e.factors.items)
+          ∙ ap₂ (λ (x y : List ℕ). pieces_of rows den x ++ pieces_of rows den y) h (drop-drop n depth e.factors.now)
 
-      pub all_share : (es : List Pending) → All (λ (e : Pending). take n (drop depth e.factors.items) ≡ take n first) es
+      pub all_share : (es : List Pending) → All (λ (e : Pending). take n (drop depth e.factors.now) ≡ take n first) es
           → map (told_pending setting p depth) es ≡ map (with_pieces (pieces_of setting.rows.now setting.den.piece.now (take n first))) (map (told_pending setting p (depth + n)) es)
       all_share [] h = refl
       all_share (e ∷ es) h =
@@ -82,10 +82,10 @@ module _ (setting : Setting) (keys : Keys) (set : IsSetUnder setting keys) where
           (all_share es (All-tail Shares e es h))
 
       deeper_degree : (e : Pending) → Shares e → IsPending setting p depth e
-          → degree_with (pieces_of rows den (drop (depth + n) e.factors.items)) (degree_of (others rows (told_powers p e.id))) + degree_with shared 0 ≤ 65535
+          → degree_with (pieces_of rows den (drop (depth + n) e.factors.now)) (degree_of (others rows (told_powers p e.id))) + degree_with shared 0 ≤ 65535
       deeper_degree e h g =
           let d = degree_of (others rows (told_powers p e.id)) in
-          let rest = pieces_of rows den (drop (depth + n) e.factors.items) in
+          let rest = pieces_of rows den (drop (depth + n) e.factors.now) in
           let whole = ap (λ (qs : List Piece). degree_with qs d) (one_shares e h) ∙ degree_with-append shared rest d ∙ degree_with-is shared (degree_with rest d) in
           omega (arith, whole, g.degree)
 
@@ -93,14 +93,14 @@ module _ (setting : Setting) (keys : Keys) (set : IsSetUnder setting keys) where
       bound v = exponent_bound v rows den setting.top (told p)
 
       deeper_exponent : (e : Pending) → Shares e → IsPending setting p depth e → (v : Var)
-          → exponent_with v (pieces_of rows den (drop (depth + n) e.factors.items)) (exponent v (others rows (told_powers p e.id))) + exponent_with v shared 0 ≤ bound v
+          → exponent_with v (pieces_of rows den (drop (depth + n) e.factors.now)) (exponent v (others rows (told_powers p e.id))) + exponent_with v shared 0 ≤ bound v
       deeper_exponent e h g v =
           let k = exponent v (others rows (told_powers p e.id)) in
-          let rest = pieces_of rows den (drop (depth + n) e.factors.items) in
+          let rest = pieces_of rows den (drop (depth + n) e.factors.now) in
           let whole = ap (λ (qs : List Piece). exponent_with v qs k) (one_shares e h) ∙ with-append v shared rest k ∙ with-is v shared (exponent_with v rest k) in
           omega (arith, whole, g.exponents v)
 
-      pub all_deeper : (es : List Pending) → All (λ (e : Pending). take n (drop depth e.factors.items) ≡ take n first) es
+      pub all_deeper : (es : List Pending) → All (λ (e : Pending). take n (drop depth e.factors.now) ≡ take n first) es
           → All (IsPending setting p depth) es → All (IsPending setting p (depth + n)) es
       all_deeper [] h g = All-nil (IsPending setting p (depth + n))
       all_deeper (e ∷ es) h g =
@@ -149,7 +149,7 @@ module _ (setting : Setting) (keys : Keys) (set : IsSetUnder setting keys) where
           (all_at_most v (times_pieces f.0 (f.1 ∷ [])) most (omega (arith, times_pieces-le v f.0 (f.1 ∷ []), same, here)))
           (lower_exponents v es (All-tail Shares e es h) (All-tail (IsPending setting p depth) e es g))
 
-      module _ (es : List Pending) (share : All (λ (e : Pending). take n (drop depth e.factors.items) ≡ take n first) es) (pending : All (IsPending setting p depth) es)
+      module _ (es : List Pending) (share : All (λ (e : Pending). take n (drop depth e.factors.now) ≡ take n first) es) (pending : All (IsPending setting p depth) es)
           (norm : factored_weight (map (told_pending setting p depth) es) < 2 ^ 127) where
         abbrev deep : List Factored
         deep = map (told_pending setting p (depth + n)) es

@@ -55,7 +55,7 @@ module _ (setting : Setting) (p : Shared) (depth : ℕ) where
   -- ONE TERM MORE
 
   -- a term with no factor left becomes what is left of it
-  first_term : (es : List Pending) (i : ℕ) (e : Pending) → i < length es → e ≡ get_or es i e → drop depth e.factors.items ≡ []
+  first_term : (es : List Pending) (i : ℕ) (e : Pending) → i < length es → e ≡ get_or es i e → drop depth e.factors.now ≡ []
       → made (drop i es) ≡ (others setting.rows.now (told_powers p e.id), e.coefficient) ∷ made (drop (i + 1) es)
   first_term es i e within is none =
       let t : Powers × ℤ = (others setting.rows.now (told_powers p e.id), e.coefficient) in

@@ -8,14 +8,14 @@ use Rattle.std.proofs.lemmas.List.Sorted.{All-permutation, IsPermutation-map, su
 use Rattle.std.proofs.lemmas.List.Sums.{sum_by-append, sum_by_push}
 use Rattle.sparse_lists.specs.SparseLists.{AllKeys}
 use Rattle.geo_poly.specs.Counted.{products_of_terms, term_products}
-use Rattle.geo_poly.specs.declared.pending.Pending.{Pending}
 use Rattle.geo_poly.specs.declared.replacement.Piece.{Piece}
 use Rattle.geo_poly.specs.declared.replacement.Row.{Row}
 use Rattle.geo_poly.specs.declared.settings.Setting.{Setting}
 use Rattle.geo_poly.specs.declared.shared.Shared.{Shared}
 use Rattle.geo_poly.specs.declared.variables.Var.{Var}
 use Rattle.geo_poly.specs.Inner.Accumulated.{accumulated_term, accumulated_terms}
-use Rattle.geo_poly.specs.Inner.Factored.{AreFactors, ArePending, Factored, IsPending, factored_products, factored_terms, factored_weight, products_with, times_pieces, told_pending, weight_with}
+use Rattle.geo_poly.specs.Inner.Factored.{AreFactors, ArePending, Factored, IsNumbered, Numbered, factored_products, factored_terms}
+use Rattle.geo_poly.specs.Inner.Factored.{factored_weight, products_with, times_pieces, told_numbered, weight_with}
 use Rattle.geo_poly.specs.Inner.ReplacedExponents.{exponent_bound, term_exponent}
 use Rattle.geo_poly.specs.Monomials.{IsMonomial, Powers, degree_of, exponent}
 use Rattle.geo_poly.specs.Polynomials.{Summands, polynomial_of}
@@ -25,11 +25,11 @@ use Rattle.geo_poly.proofs.FactoredTerms.{any_order, factored_terms-append}
 use Rattle.geo_poly.proofs.Accumulated.{accumulated_terms-append}
 
 -- the first terms q of the polynomial, those that become zero left out
-pub record Made (setting : Setting) (p : Shared) (q : Summands) (es : List Pending) : Type 0 where
-  pub terms : factored_terms (map (told_pending setting p 0) es) ≡ accumulated_terms setting.rows.now setting.den.piece.now.poly setting.top q
-  pub weight : factored_weight (map (told_pending setting p 0) es) ≤ weight_of setting.rows.now setting.den.piece.now setting.top q
-  pub products : factored_products (map (told_pending setting p 0) es) ≤ products_of_terms setting.rows.now setting.den.piece.now setting.top q
-  pub pending : All (IsPending setting p 0) es
+pub record Made (setting : Setting) (p : Shared) (q : Summands) (es : List Numbered) : Type 0 where
+  pub terms : factored_terms (map (told_numbered setting p 0) es) ≡ accumulated_terms setting.rows.now setting.den.piece.now.poly setting.top q
+  pub weight : factored_weight (map (told_numbered setting p 0) es) ≤ weight_of setting.rows.now setting.den.piece.now setting.top q
+  pub products : factored_products (map (told_numbered setting p 0) es) ≤ products_of_terms setting.rows.now setting.den.piece.now setting.top q
+  pub pending : All (IsNumbered setting p 0) es
 
 module _ (setting : Setting) (p : Shared) where
   abbrev rows : List Row
@@ -41,14 +41,14 @@ module _ (setting : Setting) (p : Shared) where
   abbrev top : ℕ
   top = setting.top
 
-  abbrev told : Pending → Factored
-  told e = told_pending setting p 0 e
+  abbrev told : Numbered → Factored
+  told e = told_numbered setting p 0 e
 
   pub Made-none : Made setting p [] []
-  Made-none = record { terms = refl; weight = omega arith; products = omega arith; pending = All-nil (IsPending setting p 0) }
+  Made-none = record { terms = refl; weight = omega arith; products = omega arith; pending = All-nil (IsNumbered setting p 0) }
 
   -- a term that becomes zero
-  pub Made-zero : (q : Summands) (t : Powers × ℤ) (es : List Pending)
+  pub Made-zero : (q : Summands) (t : Powers × ℤ) (es : List Numbered)
       → accumulated_term setting.rows.now setting.den.piece.now.poly setting.top t ≡ [] → Made setting p q es → Made setting p (q ++ t ∷ []) es
   Made-zero q t es zero h = record {
     terms =
@@ -59,27 +59,27 @@ module _ (setting : Setting) (p : Shared) where
     pending = h.pending;
   }
 
-  module _ (e : Pending) (t : Powers × ℤ) (term-is : (told_powers p e.id, e.coefficient) ≡ t) (factors : AreFactors setting t.0 e.factors.items) where
+  module _ (e : Numbered) (t : Powers × ℤ) (term-is : (told_powers p e.1.0, e.1.1) ≡ t) (factors : AreFactors setting t.0 e.0) where
     abbrev m : Powers
-    m = told_powers p e.id
+    m = told_powers p e.1.0
 
-    here : AreFactors setting (told_powers p e.id) e.factors.items
-    here = subst (λ (n : Powers). AreFactors setting n e.factors.items) (sym (ap (λ (u : Powers × ℤ). u.0) term-is)) factors
+    here : AreFactors setting (told_powers p e.1.0) e.0
+    here = subst (λ (n : Powers). AreFactors setting n e.0) (sym (ap (λ (u : Powers × ℤ). u.0) term-is)) factors
 
-    one_value : times_pieces (told_pending setting p 0 e).0 ((told_pending setting p 0 e).1 ∷ []) ≡ accumulated_term rows den.poly top t
-    one_value = here.terms ((others rows m, e.coefficient) ∷ []) ∙ ap (accumulated_term rows den.poly top) term-is
+    one_value : times_pieces (told_numbered setting p 0 e).0 ((told_numbered setting p 0 e).1 ∷ []) ≡ accumulated_term rows den.poly top t
+    one_value = here.terms ((others rows m, e.1.1) ∷ []) ∙ ap (accumulated_term rows den.poly top) term-is
 
-    one_weight : weight_with (told_pending setting p 0 e).0 (unsigned_abs e.coefficient) ≡ term_weight rows den top t
-    one_weight = here.weight (unsigned_abs e.coefficient) ∙ ap (term_weight rows den top) term-is
+    one_weight : weight_with (told_numbered setting p 0 e).0 (unsigned_abs e.1.1) ≡ term_weight rows den top t
+    one_weight = here.weight (unsigned_abs e.1.1) ∙ ap (term_weight rows den top) term-is
 
-    one_products : products_with (told_pending setting p 0 e).0 1 ≤ term_products rows den top t.0
-    one_products = subst (λ (u : Powers × ℤ). products_with (told_pending setting p 0 e).0 1 ≤ term_products rows den top u.0) term-is here.products
+    one_products : products_with (told_numbered setting p 0 e).0 1 ≤ term_products rows den top t.0
+    one_products = subst (λ (u : Powers × ℤ). products_with (told_numbered setting p 0 e).0 1 ≤ term_products rows den top u.0) term-is here.products
 
-    one_pending : IsIndexOf p e.id → IsMonomial t.0 → AllKeys (Contains setting.vars.now) t.0 → unsigned_abs t.1 ≢ 0 → term_degree rows den top t ≤ 65535
-        → ((v : Var) → term_exponent v rows den top t ≤ exponent_bound v rows den top (told_terms p)) → IsPending setting p 0 e
+    one_pending : IsIndexOf p e.1.0 → IsMonomial t.0 → AllKeys (Contains setting.vars.now) t.0 → unsigned_abs t.1 ≢ 0 → term_degree rows den top t ≤ 65535
+        → ((v : Var) → term_exponent v rows den top t ≤ exponent_bound v rows den top (told_terms p)) → IsNumbered setting p 0 e
     one_pending index monomial known nonzero degree exponents =
-        let m-is : told_powers p e.id ≡ t.0 = ap (λ (u : Powers × ℤ). u.0) term-is in
-        let c-is : e.coefficient ≡ t.1 = ap (λ (u : Powers × ℤ). u.1) term-is in
+        let m-is : told_powers p e.1.0 ≡ t.0 = ap (λ (u : Powers × ℤ). u.0) term-is in
+        let c-is : e.1.1 ≡ t.1 = ap (λ (u : Powers × ℤ). u.1) term-is in
         record {
           index = index;
           monomial = subst IsMonomial (sym m-is) monomial;
@@ -91,7 +91,7 @@ module _ (setting : Setting) (p : Shared) where
         }
 
     -- a term that does not
-    pub Made-more : (q : Summands) (es : List Pending) → IsIndexOf p e.id → IsMonomial t.0 → AllKeys (Contains setting.vars.now) t.0
+    pub Made-more : (q : Summands) (es : List Numbered) → IsIndexOf p e.1.0 → IsMonomial t.0 → AllKeys (Contains setting.vars.now) t.0
         → unsigned_abs t.1 ≢ 0 → term_degree setting.rows.now setting.den.piece.now setting.top t ≤ 65535
         → ((v : Var) → term_exponent v setting.rows.now setting.den.piece.now setting.top t ≤ exponent_bound v setting.rows.now setting.den.piece.now setting.top (told_terms p))
         → Made setting p q es → Made setting p (q ++ t ∷ []) (es ++ e ∷ [])
@@ -108,19 +108,19 @@ module _ (setting : Setting) (p : Shared) where
           products =
               let whole = ap factored_products pushed ∙ sum_by_push (λ (f : Factored). products_with f.0 1) (map told es) (told e) in
               omega (arith, whole, h.products, one_products, sum_by_push (λ (u : Powers × ℤ). term_products rows den top u.0) q t);
-          pending = All-push (IsPending setting p 0) es e h.pending (one_pending index monomial known nonzero degree exponents);
+          pending = All-push (IsNumbered setting p 0) es e h.pending (one_pending index monomial known nonzero degree exponents);
         }
 
-  pub Made-all : (q : Summands) (es : List Pending) → Made setting p q es → ArePending setting p q es
+  pub Made-all : (q : Summands) (es : List Numbered) → Made setting p q es → ArePending setting p q es
   Made-all q es h = record { terms = ap polynomial_of h.terms; weight = h.weight; products = h.products; pending = h.pending }
 
   -- in any order
-  pub ArePending-sorted : (q : Summands) (es fs : List Pending) → IsPermutation es fs → ArePending setting p q es → ArePending setting p q fs
+  pub ArePending-sorted : (q : Summands) (es fs : List Numbered) → IsPermutation es fs → ArePending setting p q es → ArePending setting p q fs
   ArePending-sorted q es fs moved h =
       let mapped = IsPermutation-map told es fs moved in
       record {
         terms = sym (any_order told es fs moved) ∙ h.terms;
         weight = omega (arith, h.weight, sum_by-IsPermutation (λ (f : Factored). weight_with f.0 (unsigned_abs f.1.1)) (map told es) (map told fs) mapped);
         products = omega (arith, h.products, sum_by-IsPermutation (λ (f : Factored). products_with f.0 1) (map told es) (map told fs) mapped);
-        pending = All-permutation (IsPending setting p 0) es fs moved h.pending;
+        pending = All-permutation (IsNumbered setting p 0) es fs moved h.pending;
       }

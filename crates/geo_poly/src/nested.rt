@@ -28,7 +28,7 @@ use crate::chained::summed;
 use crate::chained_replacement::{is_one, list_at, one_term_chain, times_list};
 use crate::monomial_keys::MonomialKeys;
 use crate::moving::{MovedMonomials, index_in, moved_monomials};
-use crate::pending::{Pending, front_of, sorted_pending};
+use crate::pending::{Pending, front_of, listed_terms, sorted_pending};
 use crate::runs::run_chain;
 use crate::settings::Setting;
 use crate::shared::{Indexed, Shared};
@@ -336,7 +336,8 @@ pub(crate) fn nested_chain<K: MonomialKeys, L: Ledger>(
     ensures ticks { ticks.new ≤ ticks.old + products_of_terms setting.now.rows.now
         setting.now.den.piece.now setting.now.top (told p.now) }
 {
-    let pending = sorted_pending(alloc, setting, p)?;
+    let listing = listed_terms(alloc, setting, p)?;
+    let pending = sorted_pending(alloc, setting.rows.rows(), &listing)?;
     let table = moved_monomials(alloc, keys, setting.vars, setting.rows, p)?;
     nested_sum(
         alloc, setting, keys, arena, p, &table, &pending, 0, 0, ticks,

@@ -1,10 +1,11 @@
 //! Terms of a polynomial that are to be replaced, with the factors that each is to get.
 
 ghost use Rattle.std.specs.Prelude.{◌≡◌, ◌+◌, ◌<◌, ◌≤◌, ◌++◌, [], ℤ, Contains, IfNone, IfOk, IfSome};
-ghost use Rattle.std.specs.Prelude.{OnOk, drop, length, replicate, take};
-ghost use Rattle.std.specs.List.Sorted.{IsStrictlySortedBy};
+ghost use Rattle.std.specs.Prelude.{OnOk, drop, length, map, replicate, take};
+ghost use Rattle.std.specs.List.Sorted.{IsPermutation, IsStrictlySortedBy};
 ghost use Rattle.geo_poly.specs.Inner.Accumulated.{accumulated_term};
 ghost use Rattle.geo_poly.specs.Inner.Factored.{AreFactors, ArePending, factors_listed};
+ghost use Rattle.geo_poly.specs.Inner.Factored.{numbered_of, numbered_terms};
 ghost use Rattle.geo_poly.specs.Inner.Roles.{AreRoles};
 ghost use Rattle.geo_poly.specs.Monomials.{IsMonomial};
 ghost use Rattle.geo_poly.specs.PolynomialVariables.{AllVariables};
@@ -19,32 +20,25 @@ use crate::shared::{Indexed, Shared};
 use geo_points::NoMemory;
 use mono_store::MonoId;
 use std::alloc::Global;
+use std::cmp::Ordering;
 
 /// A term of a polynomial, and the factors that it is to get: 0 stands for the denominator, and one
 /// more than its place for a row. The factor that is multiplied in last stands first.
-pub(crate) struct Pending {
-    pub(crate) factors: Vec<usize>,
+#[derive(Clone, Copy)]
+pub(crate) struct Pending<'a> {
+    pub(crate) factors: &'a [usize],
     pub(crate) id: MonoId,
     pub(crate) coefficient: i128,
+    /// The first of the factors as one number, so that terms are put in order by it.
+    rank: u64,
 }
 
-/// By hand, so that a caller's proof sees one call where it is let go.
-impl Drop for Pending {
-    fn drop(self) {
-        let Pending {
-            id: _,
-            coefficient: _,
-            factors: _,
-        } = self;
-    }
-}
-
-impl Pending {
+impl<'a> Pending<'a> {
     /// The factors from a place on.
     pub(crate) fn factors_from(&self, depth: usize) -> &[usize]
-        ensures { result.now ≡ drop depth self.now.factors.items }
+        ensures { result.now ≡ drop depth self.now.factors.now }
     {
-        behind(self.factors.as_slice(), depth)
+        behind(self.factors, depth)
     }
 }
 
@@ -140,91 +134,153 @@ fn read_factors(
     Ok(Some(missing))
 }
 
-/// How many factors these are, or the greatest number where they are more.
-fn count_factors(numerators: &[FactorPower], lacking: u32) -> usize {
-    let mut count = lacking as usize;
-    for power in numerators {
-        count = count.saturating_add(power.exponent as usize);
-    }
-    count
-}
-
-/// The factors of a term: the denominators that it lacks, and then its numerators in order.
-fn factors_of(
-    alloc: Global,
+/// Adds the factors of a term: the denominators that it lacks, and then its numerators in order.
+/// Answers how many they are.
+fn push_factors(
+    factors: &mut Vec<usize>,
     numerators: &[FactorPower],
     lacking: u32,
-) -> Result<Vec<usize>, NoMemory>
-    ensures { IfOk result
-        (λ ks. ks.items ≡ replicate lacking 0 ++ factors_listed numerators.now) }
+) -> Result<usize, NoMemory>
+    ensures factors { OnOk result (factors.new.items
+        ≡ factors.old.items ++ (replicate lacking 0 ++ factors_listed numerators.now)) }
+    ensures count { IfOk result (λ count.
+        count ≡ length (replicate lacking 0 ++ factors_listed numerators.now)) }
 {
-    let mut factors = Vec::with_capacity(alloc, count_factors(numerators, lacking))?;
-    push_factor(&mut factors, 0, lacking)?;
+    let before = factors.len();
+    push_factor(factors, 0, lacking)?;
     for power in numerators {
-        push_factor(&mut factors, power.factor, power.exponent)?;
+        push_factor(factors, power.factor, power.exponent)?;
     }
-    Ok(factors)
+    Ok(factors.len() - before)
 }
 
-/// The term with its factors.
-fn pending_term(
-    alloc: Global,
-    term: &Indexed,
-    numerators: &[FactorPower],
-    lacking: u32,
-) -> Result<Pending, NoMemory>
-    ensures index { IfOk result (λ e. e.id ≡ term.now.0) }
-    ensures coefficient { IfOk result (λ e. e.coefficient ≡ term.now.1) }
-    ensures factors { IfOk result
-        (λ e. e.factors.items ≡ replicate lacking 0 ++ factors_listed numerators.now) }
-{
-    let factors = factors_of(alloc, numerators, lacking)?;
-    Ok(Pending {
-        id: term.0,
-        coefficient: term.1,
-        factors,
-    })
+/// A term that does not become zero, and how many factors it is to get.
+#[derive(Clone, Copy)]
+pub(crate) struct Listed {
+    pub(crate) id: MonoId,
+    pub(crate) coefficient: i128,
+    pub(crate) count: usize,
+}
+
+/// Terms with their factors, which all stand in one list, term by term.
+pub(crate) struct Listing {
+    pub(crate) terms: Vec<Listed>,
+    pub(crate) factors: Vec<usize>,
+}
+
+/// By hand, so that a caller's proof sees one call where it is let go.
+impl Drop for Listing {
+    fn drop(self) {
+        let Listing {
+            terms: _,
+            factors: _,
+        } = self;
+    }
 }
 
 /// The terms that do not become zero, each with its factors.
-fn pending_terms(alloc: Global, setting: &Setting, p: &Shared) -> Result<Vec<Pending>, NoMemory>
+pub(crate) fn listed_terms(
+    alloc: Global,
+    setting: &Setting,
+    p: &Shared,
+) -> Result<Listing, NoMemory>
     requires rising { IsStrictlySortedBy var_cmp setting.now.vars.now }
     requires parts { AreParts p.now }
     requires known { AllVariables (Contains setting.now.vars.now) (told p.now) }
     requires can { CanReplace setting.now.rows.now setting.now.den.piece.now setting.now.top
         (told p.now) }
-    ensures pending { IfOk result (λ es. ArePending setting.now p.now (told p.now) es.items) }
+    ensures pending { IfOk result (λ listing. ArePending setting.now p.now (told p.now)
+        (numbered_terms listing.factors.items listing.terms.items)) }
 {
     let roles = roles_of(alloc, setting.rows, p.vars, setting.vars)?;
     let mut numerators = Vec::new(alloc);
-    let mut pending = Vec::with_capacity(alloc, p.list.len())?;
+    let mut factors = Vec::new(alloc);
+    let mut terms = Vec::with_capacity(alloc, p.list.len())?;
     for term in p.list {
         let found = read_factors(setting, p, term.0, &roles, &mut numerators)?;
         match found {
             Some(lacking) => {
-                let made = pending_term(alloc, term, &numerators, lacking)?;
-                pending.push(made)?;
+                let count = push_factors(&mut factors, &numerators, lacking)?;
+                terms.push(Listed {
+                    id: term.0,
+                    coefficient: term.1,
+                    count,
+                })?;
             }
             None => {}
         }
     }
+    Ok(Listing { terms, factors })
+}
+
+/// The first factors as one number, each in so many of its bits: of two lists that differ in them, the
+/// one that comes first has the lower number.
+fn rank_of(factors: &[usize], width: u32) -> u64 {
+    let mut rank = 0u64;
+    let mut place = u64::BITS;
+    for factor in factors {
+        if place < width {
+            return rank;
+        }
+        place -= width;
+        rank |= (*factor as u64).wrapping_add(1).wrapping_shl(place);
+    }
+    rank
+}
+
+/// The terms, each with those of the factors that are its own.
+fn with_factors<'a>(
+    alloc: Global,
+    terms: &[Listed],
+    factors: &'a [usize],
+    width: u32,
+) -> Result<Vec<Pending<'a>>, NoMemory>
+    ensures { IfOk result (λ es. map numbered_of es.items ≡ numbered_terms factors.now terms.now) }
+{
+    let mut pending = Vec::with_capacity(alloc, terms.len())?;
+    let mut left = factors;
+    for term in terms {
+        let own = front_of(left, term.count);
+        pending.push(Pending {
+            factors: own,
+            id: term.id,
+            coefficient: term.coefficient,
+            rank: rank_of(own, width),
+        })?;
+        left = behind(left, term.count);
+    }
     Ok(pending)
 }
 
-/// The terms that do not become zero, so that those that share their first factors stand together.
-pub(crate) fn sorted_pending(
-    alloc: Global,
-    setting: &Setting,
-    p: &Shared,
-) -> Result<Vec<Pending>, NoMemory>
-    requires rising { IsStrictlySortedBy var_cmp setting.now.vars.now }
-    requires parts { AreParts p.now }
-    requires known { AllVariables (Contains setting.now.vars.now) (told p.now) }
-    requires can { CanReplace setting.now.rows.now setting.now.den.piece.now setting.now.top
-        (told p.now) }
-    ensures pending { IfOk result (λ es. ArePending setting.now p.now (told p.now) es.items) }
+/// How many bits hold the number of a factor and one more.
+fn width_of(rows: &[Row]) -> u32
+    ensures { 1 ≤ result }
 {
-    let mut pending = pending_terms(alloc, setting, p)?;
-    pending.sort_by(|a: &Pending, b: &Pending| a.factors.as_slice().cmp(b.factors.as_slice()))?;
+    let most = (rows.len() as u64).saturating_add(1);
+    u64::BITS.saturating_sub(most.leading_zeros()).max(1)
+}
+
+/// The order of two terms by their factors. So many of them stand in the ranks.
+fn by_factors(a: &Pending, b: &Pending, ranked: usize) -> Ordering {
+    if a.rank != b.rank {
+        return a.rank.cmp(&b.rank);
+    }
+    a.factors_from(ranked).cmp(b.factors_from(ranked))
+}
+
+/// The terms, so that those that share their first factors stand together.
+pub(crate) fn sorted_pending<'a>(
+    alloc: Global,
+    rows: &[Row],
+    listing: &'a Listing,
+) -> Result<Vec<Pending<'a>>, NoMemory>
+    ensures { IfOk result (λ es. IsPermutation
+        (numbered_terms listing.now.factors.items listing.now.terms.items)
+        (map numbered_of es.items)) }
+{
+    let width = width_of(rows);
+    let ranked = (u64::BITS / width) as usize;
+    let mut pending = with_factors(alloc, &listing.terms, &listing.factors, width)?;
+    pending.sort_by(|a: &Pending, b: &Pending| by_factors(a, b, ranked))?;
     Ok(pending)
 }

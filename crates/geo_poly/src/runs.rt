@@ -24,7 +24,7 @@ use std::alloc::Global;
 
 /// Whether a term has a factor at a place.
 fn has_factor(term: &Pending, depth: usize) -> bool
-    ensures { IsFalse result → drop depth term.now.factors.items ≡ [] }
+    ensures { IsFalse result → drop depth term.now.factors.now ≡ [] }
 {
     depth < term.factors.len()
 }

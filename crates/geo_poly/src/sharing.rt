@@ -22,7 +22,7 @@ fn common_factors(left: &[usize], right: &[usize], most: usize) -> usize
 /// How many of these factors all the terms have at a place and behind it.
 pub(crate) fn shared_factors(first: &[usize], pending: &[Pending], depth: usize) -> usize
     ensures bound { depth + result < 2 ^ 64 }
-    ensures shared { All (λ e. take result (drop depth e.factors.items) ≡ take result first.now)
+    ensures shared { All (λ e. take result (drop depth e.factors.now) ≡ take result first.now)
         pending.now }
 {
     let mut shared = first.len().min(usize::MAX - depth);
@@ -34,7 +34,7 @@ pub(crate) fn shared_factors(first: &[usize], pending: &[Pending], depth: usize)
 
 /// The factor of a term at a place and one more, and 0 where it has none there.
 fn factor_at(term: &Pending, depth: usize) -> usize {
-    match term.factors.as_slice().get(depth) {
+    match term.factors.get(depth) {
         Some(factor) => factor.saturating_add(1),
         None => 0,
     }

@@ -1,7 +1,9 @@
 -- Terms with the factors that they are still to get.
-use Rattle.std.specs.Prelude.{◌≡◌, ℕ, zero, suc, ◌≢◌, ◌+◌, ◌*◌, ◌-◌, ◌^◌, ◌≤◌, All, Contains, ℤ, List, [], ◌∷◌, ◌++◌, drop, map, replicate, sum_by, unsigned_abs}
+use Rattle.std.specs.Prelude.{◌≡◌, ℕ, zero, suc, ◌≢◌, ◌+◌, ◌*◌, ◌-◌, ◌^◌, ◌≤◌, All, Contains, ℤ, List, [], ◌∷◌, ◌++◌, drop, map, replicate, sum_by, take, unsigned_abs}
 use Rattle.sparse_lists.specs.SparseLists.{AllKeys}
+use Rattle.mono_store.specs.declared.links.MonoId.{MonoId}
 use Rattle.geo_poly.specs.declared.pending.FactorPower.{FactorPower}
+use Rattle.geo_poly.specs.declared.pending.Listed.{Listed}
 use Rattle.geo_poly.specs.declared.pending.Pending.{Pending}
 use Rattle.geo_poly.specs.declared.replacement.Piece.{Piece}
 use Rattle.geo_poly.specs.declared.replacement.Row.{Row}
@@ -74,20 +76,38 @@ factored_weight fs = sum_by (λ f. weight_with f.0 (unsigned_abs f.1.1)) fs
 abbrev pub factored_products : List Factored → ℕ
 factored_products fs = sum_by (λ f. products_with f.0 1) fs
 
+-- the numbers of the factors that a term is to get, and its index with its coefficient
+abbrev pub Numbered : Type 0
+Numbered = List ℕ × (MonoId × ℤ)
+
+abbrev pub numbered_of : Pending → Numbered
+numbered_of e = (e.factors.now, (e.id, e.coefficient))
+
+-- the terms, each with so many of the numbers as it counts
+abbrev pub numbered_terms : List ℕ → List Listed → List Numbered
+numbered_terms ks [] = []
+numbered_terms ks (t ∷ ts) = (take t.count ks, (t.id, t.coefficient)) ∷ numbered_terms (drop t.count ks) ts
+
 -- a term of the polynomial, with the factors that it is to get from a place on
+abbrev pub told_numbered : Setting → Shared → ℕ → Numbered → Factored
+told_numbered setting p depth t =
+    (pieces_of setting.rows.now setting.den.piece.now (drop depth t.0), (others setting.rows.now (told_powers p t.1.0), t.1.1))
+
 abbrev pub told_pending : Setting → Shared → ℕ → Pending → Factored
-told_pending setting p depth e =
-    (pieces_of setting.rows.now setting.den.piece.now (drop depth e.factors.items), (others setting.rows.now (told_powers p e.id), e.coefficient))
+told_pending setting p depth e = told_numbered setting p depth (numbered_of e)
 
 -- the term is one of the polynomial, and within the bounds
-pub record IsPending (setting : Setting) (p : Shared) (depth : ℕ) (e : Pending) : Type 0 where
-  pub index : IsIndexOf p e.id
-  pub monomial : IsMonomial (told_powers p e.id)
-  pub known : AllKeys (Contains setting.vars.now) (told_powers p e.id)
-  pub nonzero : unsigned_abs e.coefficient ≢ 0
-  pub degree : degree_with (pieces_of setting.rows.now setting.den.piece.now (drop depth e.factors.items)) (degree_of (others setting.rows.now (told_powers p e.id))) ≤ 65535
-  pub exponents : (v : Var) → exponent_with v (pieces_of setting.rows.now setting.den.piece.now (drop depth e.factors.items)) (exponent v (others setting.rows.now (told_powers p e.id)))
+pub record IsNumbered (setting : Setting) (p : Shared) (depth : ℕ) (t : Numbered) : Type 0 where
+  pub index : IsIndexOf p t.1.0
+  pub monomial : IsMonomial (told_powers p t.1.0)
+  pub known : AllKeys (Contains setting.vars.now) (told_powers p t.1.0)
+  pub nonzero : unsigned_abs t.1.1 ≢ 0
+  pub degree : degree_with (pieces_of setting.rows.now setting.den.piece.now (drop depth t.0)) (degree_of (others setting.rows.now (told_powers p t.1.0))) ≤ 65535
+  pub exponents : (v : Var) → exponent_with v (pieces_of setting.rows.now setting.den.piece.now (drop depth t.0)) (exponent v (others setting.rows.now (told_powers p t.1.0)))
       ≤ exponent_bound v setting.rows.now setting.den.piece.now setting.top (told p)
+
+abbrev pub IsPending : Setting → Shared → ℕ → Pending → Type 0
+IsPending setting p depth e = IsNumbered setting p depth (numbered_of e)
 
 -- the factors, each as often as is said
 abbrev pub factors_listed : List FactorPower → List ℕ
@@ -106,10 +126,10 @@ pub record AreFactors (setting : Setting) (m : Powers) (ks : List ℕ) : Type 0 
       ≡ exponent_in_rows v setting.rows.now m e + greatest_exponent v setting.den.piece.now.poly * (setting.top - denominators setting.rows.now m)
   pub products : products_with (pieces_of setting.rows.now setting.den.piece.now ks) 1 ≤ term_products setting.rows.now setting.den.piece.now setting.top m
 
--- the terms, in any order and with their factors, become what the polynomial q becomes, with no more weight and no more products
-pub record ArePending (setting : Setting) (p : Shared) (q : Summands) (es : List Pending) : Type 0 where
-  pub terms : polynomial_of (factored_terms (map (told_pending setting p 0) es))
+-- the terms with their factors become what the polynomial q becomes, with no more weight and no more products
+pub record ArePending (setting : Setting) (p : Shared) (q : Summands) (ts : List Numbered) : Type 0 where
+  pub terms : polynomial_of (factored_terms (map (told_numbered setting p 0) ts))
       ≡ polynomial_of (accumulated_terms setting.rows.now setting.den.piece.now.poly setting.top q)
-  pub weight : factored_weight (map (told_pending setting p 0) es) ≤ weight_of setting.rows.now setting.den.piece.now setting.top q
-  pub products : factored_products (map (told_pending setting p 0) es) ≤ products_of_terms setting.rows.now setting.den.piece.now setting.top q
-  pub pending : All (IsPending setting p 0) es
+  pub weight : factored_weight (map (told_numbered setting p 0) ts) ≤ weight_of setting.rows.now setting.den.piece.now setting.top q
+  pub products : factored_products (map (told_numbered setting p 0) ts) ≤ products_of_terms setting.rows.now setting.den.piece.now setting.top q
+  pub pending : All (IsNumbered setting p 0) ts

@@ -17,7 +17,7 @@ first_key (t ∷ ts) = Some t.0
 
 -- the term has no factor from the place on, and what is left of its monomial has this key, which comes before the first one
 pub record IsNextKey (setting : Setting) (p : Shared) (depth : ℕ) (keys : Keys) (first : Option ℕ) (e : Pending) (key : ℕ) : Type 0 where
-  pub factors : drop depth e.factors.items ≡ []
+  pub factors : drop depth e.factors.now ≡ []
   pub is_key : IsKeyUnder setting.vars.now keys key
   pub powers : named setting.vars.now (keys.powers key) ≡ others setting.rows.now (told_powers p e.id)
   pub before : IfSome first (λ k. key_cmp keys k key ≡ Less)

@@ -21,6 +21,7 @@ use Rattle.geo_poly.proofs.JoinedParts.{lone_degree, lone_made, lone_monomials, 
 use Rattle.geo_poly.proofs.Moved.{AreMoved-kept}
 use Rattle.geo_poly.proofs.NestedSums.{all_deeper, back_norm, deeper_norm, front_norm, parts_fit, parts_products, parts_sum}
 use Rattle.geo_poly.proofs.ReplaceTerms.{IsCanonical-polynomial_of}
+use Rattle.geo_poly.proofs.PendingItems.{pending_at, pending_at-is}
 use Rattle.geo_poly.proofs.nested.+nested_sum.Goals as goal
 
 -- THE TWO PARTS
@@ -463,8 +464,8 @@ nested_sum-lone_chain-requires-clause-index g t c =
     let setting = c.args.setting.now in
     let p = c.args.p.now in
     let es = c.args.pending.now in
-    let e = c.term-item.result in
-    let one : es ≡ e ∷ [] = alone es e c.in-len1.len_at_least c.in-len1.len_below c.term-item.is in
+    let e = pending_at es 0 in
+    let one : es ≡ e ∷ [] = alone es e c.in-len1.len_at_least c.in-len1.len_below (pending_at-is es 0 (omega (arith, c.in-len1.len_at_least))) in
     (lone_pending setting p c.args.depth e es one c.requires.pending).index
 
 pub nested_sum-lone_chain-requires-clause-monomial : goal.nested_sum-lone_chain-requires-clause-monomial
@@ -472,8 +473,8 @@ nested_sum-lone_chain-requires-clause-monomial g t c =
     let setting = c.args.setting.now in
     let p = c.args.p.now in
     let es = c.args.pending.now in
-    let e = c.term-item.result in
-    let one : es ≡ e ∷ [] = alone es e c.in-len1.len_at_least c.in-len1.len_below c.term-item.is in
+    let e = pending_at es 0 in
+    let one : es ≡ e ∷ [] = alone es e c.in-len1.len_at_least c.in-len1.len_below (pending_at-is es 0 (omega (arith, c.in-len1.len_at_least))) in
     (lone_pending setting p c.args.depth e es one c.requires.pending).monomial
 
 pub nested_sum-lone_chain-requires-clause-known : goal.nested_sum-lone_chain-requires-clause-known
@@ -481,8 +482,8 @@ nested_sum-lone_chain-requires-clause-known g t c =
     let setting = c.args.setting.now in
     let p = c.args.p.now in
     let es = c.args.pending.now in
-    let e = c.term-item.result in
-    let one : es ≡ e ∷ [] = alone es e c.in-len1.len_at_least c.in-len1.len_below c.term-item.is in
+    let e = pending_at es 0 in
+    let one : es ≡ e ∷ [] = alone es e c.in-len1.len_at_least c.in-len1.len_below (pending_at-is es 0 (omega (arith, c.in-len1.len_at_least))) in
     (lone_pending setting p c.args.depth e es one c.requires.pending).known
 
 pub nested_sum-lone_chain-requires-clause-reach : goal.nested_sum-lone_chain-requires-clause-reach
@@ -490,8 +491,8 @@ nested_sum-lone_chain-requires-clause-reach g t c =
     let setting = c.args.setting.now in
     let p = c.args.p.now in
     let es = c.args.pending.now in
-    let e = c.term-item.result in
-    let one : es ≡ e ∷ [] = alone es e c.in-len1.len_at_least c.in-len1.len_below c.term-item.is in
+    let e = pending_at es 0 in
+    let one : es ≡ e ∷ [] = alone es e c.in-len1.len_at_least c.in-len1.len_below (pending_at-is es 0 (omega (arith, c.in-len1.len_at_least))) in
     lone_room setting p c.args.depth e es one c.requires.pending (g.K.MonomialKeys.keys c.args.keys.now) c.requires.reach
 
 pub nested_sum-lone_chain-requires-clause-rising : goal.nested_sum-lone_chain-requires-clause-rising
@@ -507,8 +508,8 @@ nested_sum-times_factors-requires-clause-in_order g t c =
     let setting = c.args.setting.now in
     let p = c.args.p.now in
     let es = c.args.pending.now in
-    let e = c.term-item.result in
-    let one : es ≡ e ∷ [] = alone es e c.in-len1.len_at_least c.in-len1.len_below c.term-item.is in
+    let e = pending_at es 0 in
+    let one : es ≡ e ∷ [] = alone es e c.in-len1.len_at_least c.in-len1.len_below (pending_at-is es 0 (omega (arith, c.in-len1.len_at_least))) in
     lone_order setting p c.args.depth e es one c.requires.pending c.factors_from-factors.result.now c.factors_from-factors.ensures
     (keyed_terms_under setting.vars.now (g.K.MonomialKeys.keys c.lone_chain.new.keys) (pairs_of c.lone_chain.new.arena c.in_ok-chain-in-len1.chain)) c.in_ok-chain-in-len1.ensures.chain.terms
 
@@ -517,8 +518,8 @@ nested_sum-times_factors-requires-clause-monomials g t c =
     let setting = c.args.setting.now in
     let p = c.args.p.now in
     let es = c.args.pending.now in
-    let e = c.term-item.result in
-    let one : es ≡ e ∷ [] = alone es e c.in-len1.len_at_least c.in-len1.len_below c.term-item.is in
+    let e = pending_at es 0 in
+    let one : es ≡ e ∷ [] = alone es e c.in-len1.len_at_least c.in-len1.len_below (pending_at-is es 0 (omega (arith, c.in-len1.len_at_least))) in
     lone_monomials setting p c.args.depth e es one c.requires.pending c.factors_from-factors.result.now c.factors_from-factors.ensures
     (keyed_terms_under setting.vars.now (g.K.MonomialKeys.keys c.lone_chain.new.keys) (pairs_of c.lone_chain.new.arena c.in_ok-chain-in-len1.chain)) c.in_ok-chain-in-len1.ensures.chain.terms
 
@@ -527,8 +528,8 @@ nested_sum-times_factors-requires-clause-norm g t c =
     let setting = c.args.setting.now in
     let p = c.args.p.now in
     let es = c.args.pending.now in
-    let e = c.term-item.result in
-    let one : es ≡ e ∷ [] = alone es e c.in-len1.len_at_least c.in-len1.len_below c.term-item.is in
+    let e = pending_at es 0 in
+    let one : es ≡ e ∷ [] = alone es e c.in-len1.len_at_least c.in-len1.len_below (pending_at-is es 0 (omega (arith, c.in-len1.len_at_least))) in
     lone_norm setting p c.args.depth e es one c.requires.pending c.factors_from-factors.result.now c.factors_from-factors.ensures
     (keyed_terms_under setting.vars.now (g.K.MonomialKeys.keys c.lone_chain.new.keys)
     (pairs_of c.lone_chain.new.arena c.in_ok-chain-in-len1.chain)) c.in_ok-chain-in-len1.ensures.chain.terms c.requires.norm
@@ -538,8 +539,8 @@ nested_sum-times_factors-requires-clause-degree g t c =
     let setting = c.args.setting.now in
     let p = c.args.p.now in
     let es = c.args.pending.now in
-    let e = c.term-item.result in
-    let one : es ≡ e ∷ [] = alone es e c.in-len1.len_at_least c.in-len1.len_below c.term-item.is in
+    let e = pending_at es 0 in
+    let one : es ≡ e ∷ [] = alone es e c.in-len1.len_at_least c.in-len1.len_below (pending_at-is es 0 (omega (arith, c.in-len1.len_at_least))) in
     lone_degree setting p c.args.depth e es one c.requires.pending c.factors_from-factors.result.now c.factors_from-factors.ensures
     (keyed_terms_under setting.vars.now (g.K.MonomialKeys.keys c.lone_chain.new.keys) (pairs_of c.lone_chain.new.arena c.in_ok-chain-in-len1.chain)) c.in_ok-chain-in-len1.ensures.chain.terms
 
@@ -548,8 +549,8 @@ nested_sum-times_factors-requires-clause-reach g t c =
     let setting = c.args.setting.now in
     let p = c.args.p.now in
     let es = c.args.pending.now in
-    let e = c.term-item.result in
-    let one : es ≡ e ∷ [] = alone es e c.in-len1.len_at_least c.in-len1.len_below c.term-item.is in
+    let e = pending_at es 0 in
+    let one : es ≡ e ∷ [] = alone es e c.in-len1.len_at_least c.in-len1.len_below (pending_at-is es 0 (omega (arith, c.in-len1.len_at_least))) in
     lone_reach setting p c.args.depth e es one c.requires.pending c.factors_from-factors.result.now c.factors_from-factors.ensures
     (keyed_terms_under setting.vars.now (g.K.MonomialKeys.keys c.lone_chain.new.keys) (pairs_of c.lone_chain.new.arena c.in_ok-chain-in-len1.chain)) c.in_ok-chain-in-len1.ensures.chain.terms
     (g.K.MonomialKeys.keys c.args.keys.now) (g.K.MonomialKeys.keys c.lone_chain.new.keys) c.in_ok-chain-in-len1.ensures.kept.limits c.requires.reach
@@ -559,8 +560,8 @@ nested_sum-returns-in_ok-chain-in-len1-clause-chain g t c =
     let setting = c.args.setting.now in
     let p = c.args.p.now in
     let es = c.args.pending.now in
-    let e = c.term-item.result in
-    let one : es ≡ e ∷ [] = alone es e c.in-len1.len_at_least c.in-len1.len_below c.term-item.is in
+    let e = pending_at es 0 in
+    let one : es ≡ e ∷ [] = alone es e c.in-len1.len_at_least c.in-len1.len_below (pending_at-is es 0 (omega (arith, c.in-len1.len_at_least))) in
     IfOk-weaker c.times_factors.result _ _
     (λ v h. subst (λ (q : Summands). StandsUnder setting.vars.now (g.K.MonomialKeys.keys c.times_factors.new.keys) c.times_factors.new.arena v q)
     (lone_made setting p c.args.depth e es one c.requires.pending c.factors_from-factors.result.now c.factors_from-factors.ensures
@@ -584,8 +585,8 @@ nested_sum-returns-in_ok-chain-in-len1-clause-ticks g t c =
     let setting = c.args.setting.now in
     let p = c.args.p.now in
     let es = c.args.pending.now in
-    let e = c.term-item.result in
-    let one : es ≡ e ∷ [] = alone es e c.in-len1.len_at_least c.in-len1.len_below c.term-item.is in
+    let e = pending_at es 0 in
+    let one : es ≡ e ∷ [] = alone es e c.in-len1.len_at_least c.in-len1.len_below (pending_at-is es 0 (omega (arith, c.in-len1.len_at_least))) in
     let size = sym (length-map {B = Powers × ℤ} (pairs_of c.lone_chain.new.arena c.in_ok-chain-in-len1.chain) (keyed_term_under setting.vars.now (g.K.MonomialKeys.keys c.lone_chain.new.keys))) in
     let whole = lone_products setting p c.args.depth e es one c.requires.pending c.factors_from-factors.result.now c.factors_from-factors.ensures
     (keyed_terms_under setting.vars.now (g.K.MonomialKeys.keys c.lone_chain.new.keys) (pairs_of c.lone_chain.new.arena c.in_ok-chain-in-len1.chain))

@@ -7,7 +7,7 @@ use Rattle.sparse_lists.proofs.Merging.{drop_past}
 use Rattle.poly_arena.specs.Chains.{Pairs, pairs_of}
 use Rattle.geo_poly.specs.Chained.{AddsChain, StandsUnder}
 use Rattle.geo_poly.specs.declared.pending.Pending.{Pending}
-use Rattle.geo_poly.specs.Inner.Factored.{IsPending, factored_terms, told_pending}
+use Rattle.geo_poly.specs.Inner.Factored.{factored_terms, told_pending}
 use Rattle.geo_poly.specs.Inner.Runs.{IsNextKey, first_key}
 use Rattle.geo_poly.specs.Polynomials.{Summands, coefficients, term_cmp}
 use Rattle.geo_poly.specs.Shared.{told}
@@ -17,6 +17,7 @@ use Rattle.geo_poly.proofs.InReach.{IsReplacedInReach-kept}
 use Rattle.geo_poly.proofs.KeysKept.{KeepsKeys-refl, KeepsKeys-trans}
 use Rattle.geo_poly.proofs.Moved.{AreMoved-kept}
 use Rattle.geo_poly.proofs.OrderedRuns.{first_pushed, first_within, run_keys, run_order, run_terms, run_whole}
+use Rattle.geo_poly.proofs.PendingItems.{past_pending, pending_at, pending_at-is}
 use Rattle.geo_poly.proofs.runs.run_chain.Goals as goal
 
 pub loop-i-init : goal.loop-i-init
@@ -52,11 +53,6 @@ next_key-requires-clause-table g c =
     AreMoved-kept c.args.p.now setting.rows.now setting.vars.now (g.K.MonomialKeys.keys c.args.keys.now)
     (g.K.MonomialKeys.keys c.loop-i.keys) c.loop-i.invariant.kept c.args.table.now c.requires.table
 
-pub next_key-requires-clause-pending : goal.next_key-requires-clause-pending
-next_key-requires-clause-pending g c =
-    let below : c.loop-i.i - 1 < length c.args.pending.now = omega (arith, c.loop-i.invariant.left, c.loop-i-test.true) in
-    subst (IsPending c.args.setting.now c.args.p.now c.args.depth) (sym c.index-pending-i.is) (c.requires.pending (c.loop-i.i - 1) c.index-pending-i.result below)
-
 pub next_key-requires-clause-reach : goal.next_key-requires-clause-reach
 next_key-requires-clause-reach g c =
     let setting = c.args.setting.now in
@@ -83,7 +79,7 @@ loop-i-preserved g c =
     let depth = c.args.depth in
     let es = c.args.pending.now in
     let i = c.loop-i.i - 1 in
-    let e = c.index-pending-i.result in
+    let e = pending_at es i in
     let s0 = g.K.MonomialKeys.keys c.args.keys.now in
     let s = g.K.MonomialKeys.keys c.loop-i.keys in
     let new = g.K.MonomialKeys.keys c.next_key.new.keys in
@@ -93,10 +89,11 @@ loop-i-preserved g c =
     let key = c.in-Some.key in
     let kept = c.in-Some.ensures.kept in
     let below : c.loop-i.i - 1 < length c.args.pending.now = omega (arith, c.loop-i.invariant.left, c.loop-i-test.true) in
+    let at = pending_at-is es i below in
     let rest : c.loop-i.i ≡ c.loop-i.i - 1 + 1 = omega (arith, c.loop-i-test.true) in
-    let pending = subst (IsPending setting p depth) (sym c.index-pending-i.is) (c.requires.pending i e below) in
+    let pending = c.requires.pending i past_pending below in
     let next = subst (λ (o : Option ℕ). IsNextKey setting p depth new o e key) c.loop-i.invariant.first c.in-Some.ensures.next in
-    let fits : FitsSigned w128 c.index-pending-i.result.coefficient = search rules in
+    let fits : FitsSigned w128 e.coefficient = search rules in
     record {
       left = omega (arith, c.loop-i.invariant.left);
       room = omega (arith, c.push_front.ensures.spare, c.loop-i.invariant.room);
@@ -104,14 +101,14 @@ loop-i-preserved g c =
       adds = subst (AddsChain c.args.arena.now arena) (sym c.push_front.ensures.chain)
           (AddsChain-updates c.args.arena.now c.loop-i.arena arena chain _ c.loop-i.invariant.adds c.push_front.ensures.updates);
       first = first_pushed arena c.push_front.new.chain chain key _ ps c.push_front.ensures.chain c.push_front.ensures.updates.changed;
-      order = run_order setting p depth es i e below c.index-pending-i.is s new kept ps key next c.loop-i.i rest
+      order = run_order setting p depth es i e below at s new kept ps key next c.loop-i.i rest
           c.loop-i.invariant.chain.keys c.loop-i.invariant.chain.terms c.requires.set.rising pending c.loop-i.invariant.order;
       chain =
           subst (λ (n : ℕ). StandsUnder vars new arena n (factored_terms (map (told_pending setting p depth) (drop i es)))) (sym c.push_front.ensures.chain)
           (StandsUnder-list vars new arena chain _ _ c.push_front.ensures.updates.changed
-          (run_keys setting p depth es i e below c.index-pending-i.is s new kept ps key next c.loop-i.i rest
+          (run_keys setting p depth es i e below at s new kept ps key next c.loop-i.i rest
           c.loop-i.invariant.chain.keys c.loop-i.invariant.chain.terms e.coefficient)
-          (run_terms setting p depth es i e below c.index-pending-i.is s new kept ps key next c.loop-i.i rest
+          (run_terms setting p depth es i e below at s new kept ps key next c.loop-i.i rest
           c.loop-i.invariant.chain.keys c.loop-i.invariant.chain.terms _ (to_z-of_z w128 e.coefficient fits)));
     }
 

@@ -5,5 +5,5 @@ use Rattle.geo_poly.proofs.sharing.shared_factors.Given as goal
 abbrev pub invariant-loop-term : goal.invariant-loop-term
 invariant-loop-term l = record {
   bound : l.depth + l.shared < 2 ^ 64;
-  shared : All (λ e. take l.shared (drop l.depth e.factors.items) ≡ take l.shared l.first) (take l.term-index l.pending);
+  shared : All (λ e. take l.shared (drop l.depth e.factors.now) ≡ take l.shared l.first) (take l.term-index l.pending);
 }
