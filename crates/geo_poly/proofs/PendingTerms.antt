@@ -1,9 +1,9 @@
 -- The terms of a polynomial with their factors, one after the other, and in any order.
-use Rattle.std.proofs.Common.{◌≡◌, ℕ, ◌≤◌, ℤ, List, [], ◌∷◌, ◌++◌, map, refl, sym, ap, ap₂, subst, ◌∙◌, unsigned_abs, arith}
+use Rattle.std.proofs.Common.{◌≡◌, ℕ, ◌≤◌, ℤ, List, [], ◌∷◌, ◌++◌, map, sym, ap, ap₂, subst, ◌∙◌, unsigned_abs, arith}
 use Rattle.std.specs.Prelude.{All, Contains, ◌≢◌}
 use Rattle.std.specs.List.Sorted.{IsPermutation}
 use Rattle.std.proofs.lemmas.List.{append-nil, map_push}
-use Rattle.std.proofs.lemmas.List.Elements.{All-nil, All-push}
+use Rattle.std.proofs.lemmas.List.Elements.{All-push}
 use Rattle.std.proofs.lemmas.List.Sorted.{All-permutation, IsPermutation-map, sum_by-IsPermutation}
 use Rattle.std.proofs.lemmas.List.Sums.{sum_by-append, sum_by_push}
 use Rattle.sparse_lists.specs.SparseLists.{AllKeys}
@@ -18,7 +18,7 @@ use Rattle.geo_poly.specs.Inner.Factored.{AreFactors, ArePending, Factored, IsNu
 use Rattle.geo_poly.specs.Inner.Factored.{factored_weight, products_with, times_pieces, told_numbered, weight_with}
 use Rattle.geo_poly.specs.Inner.ReplacedExponents.{exponent_bound, term_exponent}
 use Rattle.geo_poly.specs.Monomials.{IsMonomial, Powers, degree_of, exponent}
-use Rattle.geo_poly.specs.Polynomials.{Summands, polynomial_of}
+use Rattle.geo_poly.specs.Polynomials.{Summands}
 use Rattle.geo_poly.specs.Replace.{others, term_degree, term_weight, weight_of}
 use Rattle.geo_poly.specs.Shared.{IsIndexOf, told as told_terms, told_powers}
 use Rattle.geo_poly.proofs.FactoredTerms.{any_order, factored_terms-append}
@@ -43,9 +43,6 @@ module _ (setting : Setting) (p : Shared) where
 
   abbrev told : Numbered → Factored
   told e = told_numbered setting p 0 e
-
-  pub Made-none : Made setting p [] []
-  Made-none = record { terms = refl; weight = omega arith; products = omega arith; pending = All-nil (IsNumbered setting p 0) }
 
   -- a term that becomes zero
   pub Made-zero : (q : Summands) (t : Powers × ℤ) (es : List Numbered)
@@ -110,9 +107,6 @@ module _ (setting : Setting) (p : Shared) where
               omega (arith, whole, h.products, one_products, sum_by_push (λ (u : Powers × ℤ). term_products rows den top u.0) q t);
           pending = All-push (IsNumbered setting p 0) es e h.pending (one_pending index monomial known nonzero degree exponents);
         }
-
-  pub Made-all : (q : Summands) (es : List Numbered) → Made setting p q es → ArePending setting p q es
-  Made-all q es h = record { terms = ap polynomial_of h.terms; weight = h.weight; products = h.products; pending = h.pending }
 
   -- in any order
   pub ArePending-sorted : (q : Summands) (es fs : List Numbered) → IsPermutation es fs → ArePending setting p q es → ArePending setting p q fs
