@@ -11,7 +11,7 @@ use crate::cutting::cut_out;
 use crate::fractions::{
     Fraction, area, difference, negation, product, pythagoras, quotient, ratio, sum, whole,
 };
-use crate::numerators::whole_numerator;
+use crate::numerators::linear_numerator;
 use geo_points::{NoMemory, TermId};
 use geo_poly::{Poly, Var};
 use geo_terms::{Node, Terms};
@@ -30,7 +30,7 @@ pub fn multiply_out(alloc: Global, terms: &Terms, id: TermId) -> Result<(Poly, P
         return Ok(fraction);
     }
     let (cut, place) = cut_out(alloc, terms, id)?;
-    match whole_numerator(alloc, &cut, place)? {
+    match linear_numerator(alloc, &cut, place)? {
         Some(numerator) => whole(alloc, numerator),
         None => fraction_of(alloc, &cut, place),
     }

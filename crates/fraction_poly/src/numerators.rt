@@ -1,8 +1,8 @@
-//! Terms with no quotient, multiplied out in one ring.
+//! Linear terms, which have no product and no quotient, multiplied out in one ring.
 
 ghost use Rattle.std.specs.Prelude.{◌≡◌, ◌<◌, IfOk, IfSome, Some, length, slice_get};
 ghost use Rattle.std.specs.List.Sorted.{IsStrictlySortedBy};
-ghost use Rattle.fraction_poly.specs.Inner.Numerators.{AreNumerators, AreWholeOver, IsNumerator};
+ghost use Rattle.fraction_poly.specs.Inner.Numerators.{AreNumerators, AreLinearOver, IsNumerator};
 ghost use Rattle.fraction_poly.specs.Inner.Parts.{CanMultiplyOut, DoAllFit};
 ghost use Rattle.fraction_poly.specs.MultipliedOut.{multiplied_out, whole_fraction};
 ghost use Rattle.geo_poly.specs.Rings.{Grows};
@@ -10,16 +10,16 @@ ghost use Rattle.geo_poly.specs.Variables.{var_cmp};
 ghost use Rattle.geo_terms.specs.Stores.{IsStore, tree_of};
 
 use crate::parts::canonical;
-use crate::term_variables::whole_variables;
+use crate::term_variables::linear_variables;
 use geo_points::{NoMemory, TermId};
 use geo_poly::lists::Vars;
 use geo_poly::{Element, Poly, Ring, Var, canon_p, canon_r, canon_s};
 use geo_terms::{Node, Terms};
 use std::alloc::Global;
 
-/// The numerator of the term at an index, where no node of the store is a quotient: the denominator
-/// is 1 then. `None` where a node is one.
-pub(crate) fn whole_numerator(
+/// The numerator of the term at an index, where no node of the store is a product or a
+/// quotient: the denominator is 1 then. `None` where a node is one.
+pub(crate) fn linear_numerator(
     alloc: Global,
     terms: &Terms,
     id: TermId,
@@ -31,7 +31,7 @@ pub(crate) fn whole_numerator(
 {
     // From here on it is known that parts stand before their nodes.
     prove!(id.0 < terms.len());
-    match whole_variables(alloc, terms)? {
+    match linear_variables(alloc, terms)? {
         None => Ok(None),
         Some(variables) => Ok(Some(numerator_over(alloc, terms, variables, id)?)),
     }
@@ -48,7 +48,7 @@ fn numerator_over(
     requires valid { IsStore terms.now }
     requires fit { DoAllFit terms.now }
     requires rising { IsStrictlySortedBy var_cmp variables }
-    requires whole { AreWholeOver variables terms.now (length terms.now) }
+    requires linear { AreLinearOver variables terms.now (length terms.now) }
     ensures { IfOk result (λ p. whole_fraction p ≡ multiplied_out (tree_of terms.now id)) }
 {
     let mut ring = Ring::new(alloc, variables)?;
@@ -71,7 +71,7 @@ fn numerator(
     requires stored { id.0 < length terms.now }
     requires valid { IsStore terms.now }
     requires fits { CanMultiplyOut (tree_of terms.now id) }
-    requires whole { AreWholeOver ring.old.vars terms.now (length terms.now) }
+    requires linear { AreLinearOver ring.old.vars terms.now (length terms.now) }
     requires count { length parts.now ≡ id.0 }
     requires parts { AreNumerators ring.old terms.now parts.now }
     ensures numerator { IfOk result (IsNumerator ring.new (tree_of terms.now id)) }
@@ -86,7 +86,7 @@ fn numerator(
         Node::Neg(e) => ring.opposite(alloc, part(parts, e)),
         Node::Add(e, f) => ring.sum(alloc, part(parts, e), part(parts, f)),
         Node::Sub(e, f) => ring.difference(alloc, part(parts, e), part(parts, f)),
-        Node::Mul(e, f) => ring.product(alloc, part(parts, e), part(parts, f)),
+        Node::Mul(..) => unreachable!(),
         Node::Div(..) => unreachable!(),
     }
 }

@@ -10,8 +10,8 @@ use Rattle.geo_terms.specs.declared.nodes.Node.TheVariants.{Int, Param, S, P, R,
 use Rattle.geo_terms.specs.Stores.{tree_of}
 use Rattle.std.specs.Prelude.{Contains}
 use Rattle.fraction_poly.specs.MultipliedOut.{canon_polynomial}
-use Rattle.fraction_poly.proofs.WholeTerms.{difference_fits, node_fits, numerator_at, numerator_difference, numerator_opposite}
-use Rattle.fraction_poly.proofs.WholeTerms.{numerator_product, numerator_sum, product_fits, sum_fits, whole_at}
+use Rattle.fraction_poly.proofs.LinearTerms.{difference_fits, node_fits, numerator_at, numerator_difference, numerator_opposite}
+use Rattle.fraction_poly.proofs.LinearTerms.{numerator_sum, sum_fits, linear_at}
 use Rattle.fraction_poly.proofs.numerators.numerator.Goals as goal
 
 pub constant-requires : goal.constant-requires
@@ -32,7 +32,7 @@ returns-in-Int-clause-numerator c =
 
 pub multiple-requires-clause-known : goal.multiple-requires-clause-known
 multiple-requires-clause-known c =
-    whole_at c.args.ring.now.vars c.args.terms.now c.args.id (Param c.in-Param.t) c.requires.whole c.in-Param.ensures
+    linear_at c.args.ring.now.vars c.args.terms.now c.args.id (Param c.in-Param.t) c.requires.linear c.in-Param.ensures
 
 pub returns-in-Param-clause-numerator : goal.returns-in-Param-clause-numerator
 returns-in-Param-clause-numerator c =
@@ -44,7 +44,7 @@ returns-in-Param-clause-numerator c =
 pub canonical-requires-clause-known : goal.canonical-requires-clause-known
 canonical-requires-clause-known c =
     subst (λ (canon : Canon). AllVariables (Contains c.args.ring.now.vars) (canon_polynomial canon)) (sym c.canon_s.ensures)
-    (whole_at c.args.ring.now.vars c.args.terms.now c.args.id (S c.in-S.a c.in-S.b c.in-S.c) c.requires.whole c.in-S.ensures)
+    (linear_at c.args.ring.now.vars c.args.terms.now c.args.id (S c.in-S.a c.in-S.b c.in-S.c) c.requires.linear c.in-S.ensures)
 
 pub returns-in-S-clause-numerator : goal.returns-in-S-clause-numerator
 returns-in-S-clause-numerator c =
@@ -57,7 +57,7 @@ returns-in-S-clause-numerator c =
 pub canonical-requires-in-P-clause-known : goal.canonical-requires-in-P-clause-known
 canonical-requires-in-P-clause-known c =
     subst (λ (canon : Canon). AllVariables (Contains c.args.ring.now.vars) (canon_polynomial canon)) (sym c.canon_p.ensures)
-    (whole_at c.args.ring.now.vars c.args.terms.now c.args.id (P c.in-P.a c.in-P.b c.in-P.c) c.requires.whole c.in-P.ensures)
+    (linear_at c.args.ring.now.vars c.args.terms.now c.args.id (P c.in-P.a c.in-P.b c.in-P.c) c.requires.linear c.in-P.ensures)
 
 pub returns-in-P-clause-numerator : goal.returns-in-P-clause-numerator
 returns-in-P-clause-numerator c =
@@ -70,7 +70,7 @@ returns-in-P-clause-numerator c =
 pub canonical-requires-in-R-clause-known : goal.canonical-requires-in-R-clause-known
 canonical-requires-in-R-clause-known c =
     subst (λ (canon : Canon). AllVariables (Contains c.args.ring.now.vars) (canon_polynomial canon)) (sym c.canon_r.ensures)
-    (whole_at c.args.ring.now.vars c.args.terms.now c.args.id (R c.in-R.a c.in-R.b c.in-R.c c.in-R.d) c.requires.whole c.in-R.ensures)
+    (linear_at c.args.ring.now.vars c.args.terms.now c.args.id (R c.in-R.a c.in-R.b c.in-R.c c.in-R.d) c.requires.linear c.in-R.ensures)
 
 pub returns-in-R-clause-numerator : goal.returns-in-R-clause-numerator
 returns-in-R-clause-numerator c =
@@ -166,40 +166,10 @@ returns-in-Sub-clause-numerator c =
     (tree_of c.args.terms.now c.in-Sub.f) c.part-in-Sub.result.now c.part-in-Sub-2.result.now left right z made))
     c.difference.ensures
 
-pub part-requires-in-Mul : goal.part-requires-in-Mul
-part-requires-in-Mul c =
-    let below = c.requires.valid.children c.args.id.0 (Mul c.in-Mul.e c.in-Mul.f) c.in-Mul.ensures
-    in omega (arith, below.0, c.requires.count)
-
-pub part-requires-in-Mul-2 : goal.part-requires-in-Mul-2
-part-requires-in-Mul-2 c =
-    let below = c.requires.valid.children c.args.id.0 (Mul c.in-Mul.e c.in-Mul.f) c.in-Mul.ensures
-    in omega (arith, below.1, c.requires.count)
-
-pub product-requires-clause-left : goal.product-requires-clause-left
-product-requires-clause-left c = (c.requires.parts.each c.in-Mul.e c.part-in-Mul.result.now c.part-in-Mul.ensures).numerator.element_of
-
-pub product-requires-clause-right : goal.product-requires-clause-right
-product-requires-clause-right c = (c.requires.parts.each c.in-Mul.f c.part-in-Mul-2.result.now c.part-in-Mul-2.ensures).numerator.element_of
-
-pub product-requires-clause-fits : goal.product-requires-clause-fits
-product-requires-clause-fits c =
-    let left = (c.requires.parts.each c.in-Mul.e c.part-in-Mul.result.now c.part-in-Mul.ensures) in
-    let right = (c.requires.parts.each c.in-Mul.f c.part-in-Mul-2.result.now c.part-in-Mul-2.ensures) in
-    product_fits c.args.ring.now (tree_of c.args.terms.now c.in-Mul.e)
-    (tree_of c.args.terms.now c.in-Mul.f) c.part-in-Mul.result.now c.part-in-Mul-2.result.now left right
-    (node_fits c.args.terms.now c.args.id (Mul c.in-Mul.e c.in-Mul.f) c.requires.valid c.in-Mul.ensures c.requires.fits)
-
-pub returns-in-Mul-clause-numerator : goal.returns-in-Mul-clause-numerator
-returns-in-Mul-clause-numerator c =
-    let left = (c.requires.parts.each c.in-Mul.e c.part-in-Mul.result.now c.part-in-Mul.ensures) in
-    let right = (c.requires.parts.each c.in-Mul.f c.part-in-Mul-2.result.now c.part-in-Mul-2.ensures) in
-    IfOk-weaker c.product.result _ _
-    (λ z made. numerator_at c.product.new.self c.args.terms.now c.args.id (Mul c.in-Mul.e c.in-Mul.f) z c.requires.valid c.in-Mul.ensures
-    (numerator_product c.args.ring.now c.product.new.self (tree_of c.args.terms.now c.in-Mul.e)
-    (tree_of c.args.terms.now c.in-Mul.f) c.part-in-Mul.result.now c.part-in-Mul-2.result.now z left right made))
-    c.product.ensures.element
-
 pub unreachable-requires : goal.unreachable-requires
 unreachable-requires c =
-    whole_at c.args.ring.now.vars c.args.terms.now c.args.id (Div c.in-Div.field-0 c.in-Div.field-1) c.requires.whole c.in-Div.ensures
+    linear_at c.args.ring.now.vars c.args.terms.now c.args.id (Mul c.in-Mul.field-0 c.in-Mul.field-1) c.requires.linear c.in-Mul.ensures
+
+pub unreachable-requires-in-Div : goal.unreachable-requires-in-Div
+unreachable-requires-in-Div c =
+    linear_at c.args.ring.now.vars c.args.terms.now c.args.id (Div c.in-Div.field-0 c.in-Div.field-1) c.requires.linear c.in-Div.ensures

@@ -1,4 +1,4 @@
--- Numerators of terms with no quotient, in a ring.
+-- Numerators of linear terms, in a ring.
 use Rattle.std.proofs.Common.{◌≡◌, ℕ, ◌+◌, ◌^◌, ◌<◌, inl, inr, pos, List, []}
 use Rattle.std.proofs.Common.{◌∷◌, ◌++◌, Some, length, slice_get, sym, ap, ap₂, subst, ◌∙◌, arith}
 use Rattle.std.proofs.lemmas.List.{length_push}
@@ -16,7 +16,7 @@ use Rattle.geo_terms.specs.Stores.{Store, IsStore, node_tree, trees_of, tree_of}
 use Rattle.geo_terms.specs.Trees.{Tree, negation, addition, subtraction, multiplication}
 use Rattle.geo_terms.proofs.Trees.{tree_of-node}
 use Rattle.fraction_poly.specs.MultipliedOut.{multiplied_out}
-use Rattle.fraction_poly.specs.Inner.Numerators.{AreNumerators, AreWholeOver, IsNumerator, IsWholeOver}
+use Rattle.fraction_poly.specs.Inner.Numerators.{AreNumerators, AreLinearOver, IsNumerator, IsLinearOver}
 use Rattle.fraction_poly.specs.Inner.Parts.{CanMultiplyOut, ProductFits, SumFits}
 use Rattle.fraction_poly.proofs.Places.{place_cases, slice_get-end, slice_get-front}
 use Rattle.fraction_poly.proofs.Rooms.{norms_fit, products_fit_multiplication, sum_fits_addition, sum_fits_subtraction}
@@ -55,23 +55,6 @@ module _ (r : RingValue) (e f : Tree) (x y : Indices) (h : IsNumerator r e x) (g
   pub difference_fits : CanMultiplyOut (subtraction e f) → norm_of (polynomial_in r x) + norm_of (polynomial_in r y) < 2 ^ 127
   difference_fits fits = norms (sum_fits_subtraction e f fits)
 
-  pub product_fits : CanMultiplyOut (multiplication e f) → CanMultiply (polynomial_in r x) (polynomial_in r y)
-  product_fits fits =
-      let both = (products_fit_multiplication e f fits).numerator in
-      let p = h.numerator.element_of.polynomial in
-      let q = g.numerator.element_of.polynomial in
-      let a = sym h.numerator.polynomial in
-      let b = sym g.numerator.polynomial in
-      let room = subst (λ (u : Summands). ProductFits u (polynomial_in r y)) a (subst (ProductFits (multiplied_out e).0) b both) in
-      record {
-        left_in_order = p.in_order;
-        left_monomials = p.monomials;
-        right_in_order = q.in_order;
-        right_monomials = q.monomials;
-        norm_fits = room.norm;
-        degree_fits = room.degree;
-      }
-
   pub numerator_sum : (z : Indices) → IsElementFor r (sum_of (polynomial_in r x) (polynomial_in r y)) z
       → IsNumerator r (addition e f) z
   numerator_sum z made = record {
@@ -85,14 +68,6 @@ module _ (r : RingValue) (e f : Tree) (x y : Indices) (h : IsNumerator r e x) (g
     numerator = record { element_of = made.element_of; polynomial = made.polynomial ∙ ap₂ (λ (p q : Summands). sum_of p (negated q)) left right };
     one = denominator;
   }
-
--- the ring grows where a product is made
-pub numerator_product : (old new : RingValue) (e f : Tree) (x y z : Indices) → IsNumerator old e x → IsNumerator old f y
-    → IsElementFor new (product_of (polynomial_in old x) (polynomial_in old y)) z → IsNumerator new (multiplication e f) z
-numerator_product old new e f x y z h g made = record {
-  numerator = record { element_of = made.element_of; polynomial = made.polynomial ∙ ap₂ product_of h.numerator.polynomial g.numerator.polynomial };
-  one = ap₂ product_of h.one g.one;
-}
 
 -- LISTS
 pub numerators_kept : (old new : RingValue) (nodes : Store) (elements : List Indices) → Grows old new
@@ -124,9 +99,9 @@ pub numerator_at : (r : RingValue) (nodes : Store) (id : TermId) (node : Node) (
 numerator_at r nodes id node z store at made = subst (λ (e : Tree). IsNumerator r e z) (sym (tree_of-node nodes id node store at)) made
 
 -- what the list says of the node at an index
-pub whole_at : (vars : List Var) (nodes : Store) (id : TermId) (node : Node) → AreWholeOver vars nodes (length nodes)
-    → slice_get nodes id.0 ≡ Some node → IsWholeOver (Contains vars) node
-whole_at vars nodes id node whole at = whole.each id.0 node (slice_get_within nodes id.0 node at) at
+pub linear_at : (vars : List Var) (nodes : Store) (id : TermId) (node : Node) → AreLinearOver vars nodes (length nodes)
+    → slice_get nodes id.0 ≡ Some node → IsLinearOver (Contains vars) node
+linear_at vars nodes id node whole at = whole.each id.0 node (slice_get_within nodes id.0 node at) at
 
 pub node_fits : (nodes : Store) (id : TermId) (node : Node) → IsStore nodes → slice_get nodes id.0 ≡ Some node
     → CanMultiplyOut (tree_of nodes id) → CanMultiplyOut (node_tree (trees_of nodes) node)
