@@ -30,10 +30,10 @@ use mono_store::{Link, MonoId, Monos};
 use std::alloc::Global;
 use std::cmp::Ordering;
 
-/// The links of so many monomials are walked, and no table of them is made,
+/// So few monomials are walked, and no table of their links is made, where the links are few too.
 const FEW_TERMS: usize = 8;
 
-/// where the store has so few links that no call goes deep.
+/// Among so few links no walk goes deep.
 const FEW_LINKS: u64 = 64;
 
 /// A variable is looked for at so many places before all are searched.
@@ -84,8 +84,8 @@ pub(crate) fn moved(
     keyed(alloc, store, vars, p)
 }
 
-/// The keys of the monomials, with their coefficients. Each link that they reach is looked at once,
-/// and no other is moved.
+/// The keys of the monomials, with their coefficients. No link is moved that they do not reach, and
+/// each is looked at once but where they are few.
 pub(crate) fn keyed<K: MonomialKeys>(
     alloc: Global,
     keys: &mut K,
@@ -216,14 +216,13 @@ pub(crate) fn moved_monomials<K: MonomialKeys>(
     Ok(MovedMonomials { moves, links })
 }
 
-/// Whether no table of links is made.
+/// Whether the monomials are walked, so that no table of links is made.
 fn is_walked(p: &Shared) -> bool {
     let links = p.monos.links();
     links == 0 || (links <= FEW_LINKS && p.list.len() <= FEW_TERMS)
 }
 
-/// The keys of the links that the list reaches, and none where they are few, as are its monomials,
-/// which are walked instead.
+/// The keys of the links that the list reaches, and none where its monomials are walked instead.
 fn tabled_links<K: MonomialKeys>(
     alloc: Global,
     keys: &mut K,
