@@ -6,20 +6,20 @@ use Rattle.std.proofs.lemmas.Option.{slice_get_within}
 use Rattle.geo_points.specs.declared.ids.TermId.{TermId}
 use Rattle.std.specs.Prelude.{Contains}
 use Rattle.geo_poly.specs.declared.variables.Var.{Var}
-use Rattle.geo_poly.specs.Polynomials.{CanMultiply, IsPolynomial, Summands, constant_of, negated, norm_of, product_of, sum_of}
+use Rattle.geo_poly.specs.Polynomials.{IsPolynomial, Summands, constant_of, negated, norm_of, product_of, sum_of}
 use Rattle.geo_poly.specs.Rings.{Grows, IsElementFor, RingValue, polynomial_in}
 use Rattle.geo_poly.specs.Shared.{Indices}
 use Rattle.geo_poly.proofs.Elements.{element_kept}
 use Rattle.geo_poly.proofs.OneFactor.{one_right}
 use Rattle.geo_terms.specs.declared.nodes.Node.{Node}
 use Rattle.geo_terms.specs.Stores.{Store, IsStore, node_tree, trees_of, tree_of}
-use Rattle.geo_terms.specs.Trees.{Tree, negation, addition, subtraction, multiplication}
+use Rattle.geo_terms.specs.Trees.{Tree, negation, addition, subtraction}
 use Rattle.geo_terms.proofs.Trees.{tree_of-node}
 use Rattle.fraction_poly.specs.MultipliedOut.{multiplied_out}
 use Rattle.fraction_poly.specs.Inner.Numerators.{AreNumerators, AreLinearOver, IsNumerator, IsLinearOver}
-use Rattle.fraction_poly.specs.Inner.Parts.{CanMultiplyOut, ProductFits, SumFits}
+use Rattle.fraction_poly.specs.Inner.Parts.{CanMultiplyOut, SumFits}
 use Rattle.fraction_poly.proofs.Places.{place_cases, slice_get-end, slice_get-front}
-use Rattle.fraction_poly.proofs.Rooms.{norms_fit, products_fit_multiplication, sum_fits_addition, sum_fits_subtraction}
+use Rattle.fraction_poly.proofs.Rooms.{norms_fit, sum_fits_addition, sum_fits_subtraction}
 
 -- NODES, over the numerators of their parts
 pub numerator_opposite : (r : RingValue) (e : Tree) (x z : Indices) → IsNumerator r e x
