@@ -187,25 +187,28 @@ fn tree_numbers(
     if depth == 0 || visits.repeat(terms, id) {
         return None;
     }
-    match terms.node(id) {
+    let node = terms.node(id);
+    match node {
         Node::Int(n) => Some(Numbers::of_integer(n)),
         Node::Param(_) | Node::S(..) | Node::P(..) | Node::R(..) => Some(Numbers::of_variable()),
         Node::Neg(e) => tree_numbers(visits, terms, e, depth - 1),
-        Node::Add(e, f) | Node::Sub(e, f) => {
+        Node::Add(e, f) | Node::Sub(e, f) | Node::Mul(e, f) | Node::Div(e, f) => {
             let left = tree_numbers(visits, terms, e, depth - 1)?;
             let right = tree_numbers(visits, terms, f, depth - 1)?;
-            Some(left.sum(right))
+            Some(numbers_over(node, left, right))
         }
-        Node::Mul(e, f) => {
-            let left = tree_numbers(visits, terms, e, depth - 1)?;
-            let right = tree_numbers(visits, terms, f, depth - 1)?;
-            Some(left.product(right))
-        }
-        Node::Div(e, f) => {
-            let left = tree_numbers(visits, terms, e, depth - 1)?;
-            let right = tree_numbers(visits, terms, f, depth - 1)?;
-            Some(left.product(right.turned()))
-        }
+    }
+}
+
+/// The numbers of a node over those of its two parts.
+fn numbers_over(node: Node, left: Numbers, right: Numbers) -> Numbers
+    ensures { (trees : List Tree) → AreNumbersOfParts trees node left right
+        → result ≡ capped (numbers_of (node_tree trees node)) }
+{
+    match node {
+        Node::Mul(..) => left.product(right),
+        Node::Div(..) => left.product(right.turned()),
+        _ => left.sum(right),
     }
 }
 
@@ -219,9 +222,9 @@ pub(crate) fn node_numbers(parts: &[Numbers], node: Node) -> Numbers
         Node::Int(n) => Numbers::of_integer(n),
         Node::Param(_) | Node::S(..) | Node::P(..) | Node::R(..) => Numbers::of_variable(),
         Node::Neg(e) => part(parts, e),
-        Node::Add(e, f) | Node::Sub(e, f) => part(parts, e).sum(part(parts, f)),
-        Node::Mul(e, f) => part(parts, e).product(part(parts, f)),
-        Node::Div(e, f) => part(parts, e).product(part(parts, f).turned()),
+        Node::Add(e, f) | Node::Sub(e, f) | Node::Mul(e, f) | Node::Div(e, f) => {
+            numbers_over(node, part(parts, e), part(parts, f))
+        }
     }
 }
 
