@@ -11,7 +11,6 @@ pub mod laws;
 mod linear;
 mod measures;
 mod multiplying;
-mod nodes;
 mod numerators;
 mod parts;
 mod reaching;

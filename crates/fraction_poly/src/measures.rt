@@ -4,7 +4,7 @@ ghost use Rattle.std.specs.Prelude.{◌≡◌, ◌+◌, ◌*◌, ◌<◌, ◌↔
 ghost use Rattle.std.specs.Prelude.{length, slice_get};
 ghost use Rattle.fraction_poly.specs.Measures.{HasRoom, HaveRoom, capped, capped_number};
 ghost use Rattle.fraction_poly.specs.Measures.{numbers_of};
-ghost use Rattle.fraction_poly.specs.Inner.Parts.{AreNumbersOf};
+ghost use Rattle.fraction_poly.specs.Inner.Parts.{AreNumbersOf, AreNumbersOfParts};
 ghost use Rattle.geo_terms.specs.Stores.{HasChildrenBelow, IsStore, node_tree, tree_of};
 ghost use Rattle.geo_terms.specs.Trees.{Tree};
 
@@ -174,12 +174,7 @@ pub fn measure(alloc: Global, terms: &Terms, id: TermId) -> Result<Numbers, NoMe
 const SHALLOW: u32 = 3;
 
 /// The numbers of a term that is no deeper than that, and in which no node is visited again.
-fn tree_numbers(
-    visits: &mut Visits,
-    terms: &Terms,
-    id: TermId,
-    depth: u32,
-) -> Option<Numbers>
+fn tree_numbers(visits: &mut Visits, terms: &Terms, id: TermId, depth: u32) -> Option<Numbers>
     requires stored { id.0 < length terms.now }
     requires valid { IsStore terms.now }
     ensures { IfSome result (λ numbers. numbers ≡ capped (numbers_of (tree_of terms.now id))) }
@@ -187,15 +182,14 @@ fn tree_numbers(
     if depth == 0 || visits.repeat(terms, id) {
         return None;
     }
-    let node = terms.node(id);
-    match node {
+    match terms.node(id) {
         Node::Int(n) => Some(Numbers::of_integer(n)),
         Node::Param(_) | Node::S(..) | Node::P(..) | Node::R(..) => Some(Numbers::of_variable()),
         Node::Neg(e) => tree_numbers(visits, terms, e, depth - 1),
         Node::Add(e, f) | Node::Sub(e, f) | Node::Mul(e, f) | Node::Div(e, f) => {
             let left = tree_numbers(visits, terms, e, depth - 1)?;
             let right = tree_numbers(visits, terms, f, depth - 1)?;
-            Some(numbers_over(node, left, right))
+            Some(numbers_over(terms.node(id), left, right))
         }
     }
 }

@@ -11,8 +11,8 @@ use crate::cutting::cut_out;
 use crate::fractions::{
     Fraction, area, difference, negation, product, pythagoras, quotient, ratio, sum, whole,
 };
-use crate::nodes::is_leaf;
 use crate::numerators::linear_numerator;
+use crate::visits::is_leaf;
 use geo_points::{NoMemory, TermId};
 use geo_poly::{Poly, Var};
 use geo_terms::{Node, Terms};

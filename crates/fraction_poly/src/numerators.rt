@@ -36,12 +36,7 @@ pub(crate) fn linear_numerator(
 }
 
 /// The numerator of a linear term, in a ring that has its variables.
-fn numerator(
-    alloc: Global,
-    ring: &mut Ring,
-    terms: &Terms,
-    id: TermId,
-) -> Result<Element, NoMemory>
+fn numerator(alloc: Global, ring: &mut Ring, terms: &Terms, id: TermId) -> Result<Element, NoMemory>
     requires stored { id.0 < length terms.now }
     requires valid { IsStore terms.now }
     requires fits { CanMultiplyOut (tree_of terms.now id) }

@@ -1,11 +1,12 @@
 //! The variables of linear terms.
 
-ghost use Rattle.std.specs.Prelude.{◌<◌, Contains, IfOk, IfSome, IsTrue, OnOk, length};
+ghost use Rattle.std.specs.Prelude.{◌<◌, Contains, IfOk, IfSome, IsTrue, List, OnOk, length};
 ghost use Rattle.std.specs.List.Sorted.{IsStrictlySortedBy};
 ghost use Rattle.fraction_poly.specs.Inner.Numerators.{IsLinear};
 ghost use Rattle.geo_poly.specs.declared.variables.Var.{Var};
 ghost use Rattle.geo_poly.specs.Variables.{var_cmp};
-ghost use Rattle.geo_terms.specs.Stores.{IsStore, tree_of};
+ghost use Rattle.geo_terms.specs.Stores.{IsStore, node_tree, tree_of};
+ghost use Rattle.geo_terms.specs.Trees.{Tree};
 
 use crate::sorted_variables::{in_order, push, push_canon};
 use crate::visits::{DEEPEST, Visits};
@@ -56,17 +57,33 @@ fn push_linear(
         return Ok(false);
     }
     match terms.node(id) {
+        Node::Neg(e) => push_linear(variables, visits, terms, e, depth - 1),
+        Node::Add(e, f) | Node::Sub(e, f) => {
+            if !push_linear(variables, visits, terms, e, depth - 1)? {
+                return Ok(false);
+            }
+            push_linear(variables, visits, terms, f, depth - 1)
+        }
+        node => push_leaf(variables, node),
+    }
+}
+
+/// Adds the variable of a leaf, where it has one. `false` for a node that has parts.
+fn push_leaf(variables: &mut Vec<Var>, node: Node) -> Result<bool, NoMemory>
+    ensures linear { IfOk result (λ leaf. IsTrue leaf → (trees : List Tree)
+        → IsLinear (Contains variables.new.items) (node_tree trees node)) }
+    ensures kept { OnOk result
+        ((v : Var) → Contains variables.old.items v → Contains variables.new.items v) }
+{
+    match node {
         Node::Int(_) => {}
         Node::Param(t) => push(variables, Var::T(t))?,
         Node::S(a, b, c) => push_canon(variables, canon_s(a, b, c))?,
         Node::P(a, b, c) => push_canon(variables, canon_p(a, b, c))?,
         Node::R(a, b, c, d) => push_canon(variables, canon_r(a, b, c, d))?,
-        Node::Neg(e) => return push_linear(variables, visits, terms, e, depth - 1),
-        Node::Add(e, f) | Node::Sub(e, f) => {
-            return Ok(push_linear(variables, visits, terms, e, depth - 1)?
-                && push_linear(variables, visits, terms, f, depth - 1)?);
+        Node::Neg(_) | Node::Add(..) | Node::Sub(..) | Node::Mul(..) | Node::Div(..) => {
+            return Ok(false);
         }
-        Node::Mul(..) | Node::Div(..) => return Ok(false),
     }
     Ok(true)
 }

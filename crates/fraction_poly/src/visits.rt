@@ -1,10 +1,11 @@
 //! Which nodes a walk over a term has visited.
 
-ghost use Rattle.std.specs.Prelude.{◌<◌, length};
+ghost use Rattle.std.specs.Prelude.{◌<◌, IsTrue, length};
+ghost use Rattle.fraction_poly.specs.Inner.Parts.{IsPart};
+ghost use Rattle.geo_points.specs.declared.ids.TermId.{TermId};
 
-use crate::nodes::is_leaf;
 use geo_points::{NoMemory, TermId};
-use geo_terms::Terms;
+use geo_terms::{Node, Terms};
 use std::alloc::Global;
 use std::mem;
 
@@ -44,5 +45,15 @@ impl Visits {
             None => false,
             Some(mark) => mem::replace(mark, true),
         }
+    }
+}
+
+/// Whether a node has no parts.
+pub(crate) fn is_leaf(node: Node) -> bool
+    ensures { IsTrue result → (c : TermId) → IsPart node c → ⊥ }
+{
+    match node {
+        Node::Int(_) | Node::Param(_) | Node::S(..) | Node::P(..) | Node::R(..) => true,
+        Node::Neg(_) | Node::Add(..) | Node::Sub(..) | Node::Mul(..) | Node::Div(..) => false,
     }
 }

@@ -1,59 +1,28 @@
-use Rattle.std.proofs.Common.{Some, inl, inr, refl, rules, sym, ap, subst, ◌∙◌}
+use Rattle.std.proofs.Common.{◌≡◌, refl, rules, subst}
 use Rattle.std.proofs.lemmas.Option.{IfSome_then}
 use Rattle.geo_terms.specs.declared.nodes.Node.{Node}
-use Rattle.geo_terms.specs.declared.nodes.Node.TheVariants.{Neg, Add, Sub, Mul, Div}
-use Rattle.geo_terms.specs.Stores.{tree_of}
-use Rattle.fraction_poly.specs.Inner.Parts.{IsPart}
-use Rattle.fraction_poly.specs.Measures.{capped, product_numbers}
-use Rattle.fraction_poly.proofs.SmallTerms.{numbers_are, part_stored, product_is, quotient_is, sum_is}
-use Rattle.fraction_poly.proofs.measures.+shallow_numbers.Goals as goal
+use Rattle.geo_terms.specs.declared.nodes.Node.TheVariants.{Neg}
+use Rattle.geo_terms.specs.Stores.{trees_of}
+use Rattle.fraction_poly.specs.Inner.Parts.{AreNumbersOfParts, IsPart}
+use Rattle.fraction_poly.proofs.SmallTerms.{AreParts, numbers_are, numbers_of_parts, part_stored}
+use Rattle.fraction_poly.proofs.measures.+tree_numbers.Goals as goal
 
-pub shallow_numbers-requires : goal.shallow_numbers-requires
-shallow_numbers-requires t c = (
+pub tree_numbers-requires : goal.tree_numbers-requires
+tree_numbers-requires t c = (
   search rules,
   (part_stored c.args.terms.now c.requires.valid c.args.id (Neg c.in-Neg.e) c.in-Neg.ensures c.in-Neg.e refl, c.requires.valid),
 )
 
-pub shallow_numbers-requires-in-Mul : goal.shallow_numbers-requires-in-Mul
-shallow_numbers-requires-in-Mul t c = (
-  search rules,
-  (part_stored c.args.terms.now c.requires.valid c.args.id (Mul c.in-Mul.e c.in-Mul.f) c.in-Mul.ensures c.in-Mul.e (inl refl), c.requires.valid),
-)
-
-pub shallow_numbers-requires-in-Mul-2 : goal.shallow_numbers-requires-in-Mul-2
-shallow_numbers-requires-in-Mul-2 t c = (
-  search rules,
-  (part_stored c.args.terms.now c.requires.valid c.args.id (Mul c.in-Mul.e c.in-Mul.f) c.in-Mul.ensures c.in-Mul.f (inr refl), c.requires.valid),
-)
-
-pub shallow_numbers-requires-in-Div : goal.shallow_numbers-requires-in-Div
-shallow_numbers-requires-in-Div t c = (
-  search rules,
-  (part_stored c.args.terms.now c.requires.valid c.args.id (Div c.in-Div.e c.in-Div.f) c.in-Div.ensures c.in-Div.e (inl refl), c.requires.valid),
-)
-
-pub shallow_numbers-requires-in-Div-2 : goal.shallow_numbers-requires-in-Div-2
-shallow_numbers-requires-in-Div-2 t c = (
-  search rules,
-  (part_stored c.args.terms.now c.requires.valid c.args.id (Div c.in-Div.e c.in-Div.f) c.in-Div.ensures c.in-Div.f (inr refl), c.requires.valid),
-)
-
-pub shallow_numbers-requires-in-Add : goal.shallow_numbers-requires-in-Add
-shallow_numbers-requires-in-Add t c =
+pub tree_numbers-requires-in-Add : goal.tree_numbers-requires-in-Add
+tree_numbers-requires-in-Add t c =
     let e = c.in-Add.e in
-    let part : IsPart c.node.result e = elim c.in-Add.is [
-      | inl is ↦ subst (λ (n : Node). IsPart n e) (sym is) (inl refl)
-      | inr is ↦ subst (λ (n : Node). IsPart n e) (sym is) (inl refl)
-    ] in
+    let part : IsPart c.node.result e = search rules in
     (search rules, (part_stored c.args.terms.now c.requires.valid c.args.id c.node.result c.node.ensures e part, c.requires.valid))
 
-pub shallow_numbers-requires-in-Add-2 : goal.shallow_numbers-requires-in-Add-2
-shallow_numbers-requires-in-Add-2 t c =
+pub tree_numbers-requires-in-Add-2 : goal.tree_numbers-requires-in-Add-2
+tree_numbers-requires-in-Add-2 t c =
     let f = c.in-Add.f in
-    let part : IsPart c.node.result f = elim c.in-Add.is [
-      | inl is ↦ subst (λ (n : Node). IsPart n f) (sym is) (inr refl)
-      | inr is ↦ subst (λ (n : Node). IsPart n f) (sym is) (inr refl)
-    ] in
+    let part : IsPart c.node.result f = search rules in
     (search rules, (part_stored c.args.terms.now c.requires.valid c.args.id c.node.result c.node.ensures f part, c.requires.valid))
 
 pub returns-in-Int : goal.returns-in-Int
@@ -66,30 +35,18 @@ returns-in-Param t c =
 
 pub returns-in-Neg : goal.returns-in-Neg
 returns-in-Neg t c =
-    IfSome_then c.shallow_numbers.result c.shallow_numbers.ensures
+    IfSome_then c.tree_numbers.result c.tree_numbers.ensures
     (λ n is. numbers_are c.args.terms.now c.requires.valid c.args.id (Neg c.in-Neg.e) c.in-Neg.ensures n is)
-
-pub returns-in_ok-right-in-Mul : goal.returns-in_ok-right-in-Mul
-returns-in_ok-right-in-Mul t c =
-    let nodes = c.args.terms.now in
-    numbers_are nodes c.requires.valid c.args.id (Mul c.in-Mul.e c.in-Mul.f) c.in-Mul.ensures c.product.result
-    (c.product.ensures ∙ product_is (tree_of nodes c.in-Mul.e) (tree_of nodes c.in-Mul.f) c.in_ok-left-in-Mul.left c.in_ok-right-in-Mul.right
-    c.in_ok-left-in-Mul.ensures c.in_ok-right-in-Mul.ensures)
-
-pub returns-in_ok-right-in-Div : goal.returns-in_ok-right-in-Div
-returns-in_ok-right-in-Div t c =
-    let nodes = c.args.terms.now in
-    numbers_are nodes c.requires.valid c.args.id (Div c.in-Div.e c.in-Div.f) c.in-Div.ensures c.product-in-Div.result
-    (c.product-in-Div.ensures ∙ ap (λ n. capped (product_numbers c.in_ok-left-in-Div.left n)) c.turned.ensures
-    ∙ quotient_is (tree_of nodes c.in-Div.e) (tree_of nodes c.in-Div.f) c.in_ok-left-in-Div.left c.in_ok-right-in-Div.right
-    c.in_ok-left-in-Div.ensures c.in_ok-right-in-Div.ensures)
 
 pub returns-in_ok-right-in-Add : goal.returns-in_ok-right-in-Add
 returns-in_ok-right-in-Add t c =
     let nodes = c.args.terms.now in
-    let both = c.sum.ensures ∙ sum_is (tree_of nodes c.in-Add.e) (tree_of nodes c.in-Add.f) c.in_ok-left-in-Add.left c.in_ok-right-in-Add.right
+    let parts : AreParts c.node.result c.in-Add.e c.in-Add.f = search rules in
+    let node = c.node-in-Add.result in
+    let same : c.node.result ≡ node = (let first = c.node.ensures in let again = c.node-in-Add.ensures in cc) in
+    let left = c.in_ok-left-in-Add.left in
+    let right = c.in_ok-right-in-Add.right in
+    let both : AreNumbersOfParts (trees_of nodes) node left right =
+    numbers_of_parts (trees_of nodes) left right node c.in-Add.e c.in-Add.f (subst (λ (n : Node). AreParts n c.in-Add.e c.in-Add.f) same parts)
     c.in_ok-left-in-Add.ensures c.in_ok-right-in-Add.ensures in
-    elim c.in-Add.is [
-      | inl is ↦ numbers_are nodes c.requires.valid c.args.id (Add c.in-Add.e c.in-Add.f) (c.node.ensures ∙ ap Some is) c.sum.result both
-      | inr is ↦ numbers_are nodes c.requires.valid c.args.id (Sub c.in-Add.e c.in-Add.f) (c.node.ensures ∙ ap Some is) c.sum.result both
-    ]
+    numbers_are nodes c.requires.valid c.args.id node c.node-in-Add.ensures c.numbers_over.result (c.numbers_over.ensures (trees_of nodes) both)

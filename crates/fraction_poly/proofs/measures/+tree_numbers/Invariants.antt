@@ -1,4 +1,4 @@
-use Rattle.fraction_poly.proofs.measures.+shallow_numbers.Given as goal
+use Rattle.fraction_poly.proofs.measures.+tree_numbers.Given as goal
 
-abbrev pub decreases-shallow_numbers : goal.decreases-shallow_numbers
-decreases-shallow_numbers l = l.depth
+abbrev pub decreases-tree_numbers : goal.decreases-tree_numbers
+decreases-tree_numbers l = l.depth
