@@ -216,9 +216,9 @@ pub(crate) fn node_numbers(parts: &[Numbers], node: Node) -> Numbers
         Node::Int(n) => Numbers::of_integer(n),
         Node::Param(_) | Node::S(..) | Node::P(..) | Node::R(..) => Numbers::of_variable(),
         Node::Neg(e) => part(parts, e),
-        Node::Add(e, f) | Node::Sub(e, f) | Node::Mul(e, f) | Node::Div(e, f) => {
-            numbers_over(node, part(parts, e), part(parts, f))
-        }
+        Node::Add(e, f) | Node::Sub(e, f) => part(parts, e).sum(part(parts, f)),
+        Node::Mul(e, f) => part(parts, e).product(part(parts, f)),
+        Node::Div(e, f) => part(parts, e).product(part(parts, f).turned()),
     }
 }
 
