@@ -64,7 +64,7 @@ fn push_linear(
             }
             push_linear(variables, visits, terms, f, depth - 1)
         }
-        node => push_leaf(variables, node),
+        _ => push_leaf(variables, terms.node(id)),
     }
 }
 

@@ -82,13 +82,20 @@ returns-in-R-clause-numerator t c =
     c.canonical-in-R.ensures.element
 
 pub numerator-requires : goal.numerator-requires
-numerator-requires t c = (
-  c.requires.valid.children c.args.id.0 (Neg c.in-Neg.e) c.in-Neg.ensures,
-  (part_stored c.args.terms.now c.requires.valid c.args.id (Neg c.in-Neg.e) c.in-Neg.ensures c.in-Neg.e refl,
-  (c.requires.valid,
-  (part_fits c.args.terms.now c.args.id (Neg c.in-Neg.e) c.in-Neg.e c.requires.valid c.in-Neg.ensures c.requires.fits refl,
-  node_linear c.args.terms.now c.args.id (Neg c.in-Neg.e) c.requires.valid c.in-Neg.ensures c.args.ring.now.vars c.requires.linear))),
-)
+numerator-requires t c =
+    let below : c.in-Neg.e.0 < c.args.id.0 = c.requires.valid.children c.args.id.0 (Neg c.in-Neg.e) c.in-Neg.ensures in (
+      omega (arith, below),
+      (
+        part_stored c.args.terms.now c.requires.valid c.args.id (Neg c.in-Neg.e) c.in-Neg.ensures c.in-Neg.e refl,
+        (
+          c.requires.valid,
+          (
+            part_fits c.args.terms.now c.args.id (Neg c.in-Neg.e) c.in-Neg.e c.requires.valid c.in-Neg.ensures c.requires.fits refl,
+            node_linear c.args.terms.now c.args.id (Neg c.in-Neg.e) c.requires.valid c.in-Neg.ensures c.args.ring.now.vars c.requires.linear,
+          ),
+        ),
+      ),
+    )
 
 pub opposite-requires : goal.opposite-requires
 opposite-requires t c = c.in_ok-part-in-Neg.ensures.numerator.numerator.element_of
@@ -102,23 +109,37 @@ returns-in_ok-part-in-Neg-clause-numerator t c =
     c.opposite.ensures
 
 pub numerator-requires-in-Add : goal.numerator-requires-in-Add
-numerator-requires-in-Add t c = (
-  (c.requires.valid.children c.args.id.0 (Add c.in-Add.e c.in-Add.f) c.in-Add.ensures).0,
-  (part_stored c.args.terms.now c.requires.valid c.args.id (Add c.in-Add.e c.in-Add.f) c.in-Add.ensures c.in-Add.e (inl refl),
-  (c.requires.valid,
-  (part_fits c.args.terms.now c.args.id (Add c.in-Add.e c.in-Add.f) c.in-Add.e c.requires.valid c.in-Add.ensures c.requires.fits (inl refl),
-  (node_linear c.args.terms.now c.args.id (Add c.in-Add.e c.in-Add.f) c.requires.valid c.in-Add.ensures c.args.ring.now.vars c.requires.linear).0))),
-)
+numerator-requires-in-Add t c =
+    let below : c.in-Add.e.0 < c.args.id.0 = (c.requires.valid.children c.args.id.0 (Add c.in-Add.e c.in-Add.f) c.in-Add.ensures).0 in (
+      omega (arith, below),
+      (
+        part_stored c.args.terms.now c.requires.valid c.args.id (Add c.in-Add.e c.in-Add.f) c.in-Add.ensures c.in-Add.e (inl refl),
+        (
+          c.requires.valid,
+          (
+            part_fits c.args.terms.now c.args.id (Add c.in-Add.e c.in-Add.f) c.in-Add.e c.requires.valid c.in-Add.ensures c.requires.fits (inl refl),
+            (node_linear c.args.terms.now c.args.id (Add c.in-Add.e c.in-Add.f) c.requires.valid c.in-Add.ensures c.args.ring.now.vars c.requires.linear).0,
+          ),
+        ),
+      ),
+    )
 
 pub numerator-requires-in-Add-2 : goal.numerator-requires-in-Add-2
-numerator-requires-in-Add-2 t c = (
-  (c.requires.valid.children c.args.id.0 (Add c.in-Add.e c.in-Add.f) c.in-Add.ensures).1,
-  (part_stored c.args.terms.now c.requires.valid c.args.id (Add c.in-Add.e c.in-Add.f) c.in-Add.ensures c.in-Add.f (inr refl),
-  (c.requires.valid,
-  (part_fits c.args.terms.now c.args.id (Add c.in-Add.e c.in-Add.f) c.in-Add.f c.requires.valid c.in-Add.ensures c.requires.fits (inr refl),
-  linear_kept c.args.ring.now c.numerator-in-Add.new.ring (tree_of c.args.terms.now c.in-Add.f) c.in_ok-left-in-Add.ensures.grows
-  (node_linear c.args.terms.now c.args.id (Add c.in-Add.e c.in-Add.f) c.requires.valid c.in-Add.ensures c.args.ring.now.vars c.requires.linear).1))),
-)
+numerator-requires-in-Add-2 t c =
+    let below : c.in-Add.f.0 < c.args.id.0 = (c.requires.valid.children c.args.id.0 (Add c.in-Add.e c.in-Add.f) c.in-Add.ensures).1 in (
+      omega (arith, below),
+      (
+        part_stored c.args.terms.now c.requires.valid c.args.id (Add c.in-Add.e c.in-Add.f) c.in-Add.ensures c.in-Add.f (inr refl),
+        (
+          c.requires.valid,
+          (
+            part_fits c.args.terms.now c.args.id (Add c.in-Add.e c.in-Add.f) c.in-Add.f c.requires.valid c.in-Add.ensures c.requires.fits (inr refl),
+            linear_kept c.args.ring.now c.numerator-in-Add.new.ring (tree_of c.args.terms.now c.in-Add.f) c.in_ok-left-in-Add.ensures.grows
+                (node_linear c.args.terms.now c.args.id (Add c.in-Add.e c.in-Add.f) c.requires.valid c.in-Add.ensures c.args.ring.now.vars c.requires.linear).1,
+          ),
+        ),
+      ),
+    )
 
 pub sum-requires-clause-left : goal.sum-requires-clause-left
 sum-requires-clause-left t c =
@@ -155,23 +176,37 @@ returns-in_ok-right-in-Add-clause-numerator t c =
     c.sum.ensures
 
 pub numerator-requires-in-Sub : goal.numerator-requires-in-Sub
-numerator-requires-in-Sub t c = (
-  (c.requires.valid.children c.args.id.0 (Sub c.in-Sub.e c.in-Sub.f) c.in-Sub.ensures).0,
-  (part_stored c.args.terms.now c.requires.valid c.args.id (Sub c.in-Sub.e c.in-Sub.f) c.in-Sub.ensures c.in-Sub.e (inl refl),
-  (c.requires.valid,
-  (part_fits c.args.terms.now c.args.id (Sub c.in-Sub.e c.in-Sub.f) c.in-Sub.e c.requires.valid c.in-Sub.ensures c.requires.fits (inl refl),
-  (node_linear c.args.terms.now c.args.id (Sub c.in-Sub.e c.in-Sub.f) c.requires.valid c.in-Sub.ensures c.args.ring.now.vars c.requires.linear).0))),
-)
+numerator-requires-in-Sub t c =
+    let below : c.in-Sub.e.0 < c.args.id.0 = (c.requires.valid.children c.args.id.0 (Sub c.in-Sub.e c.in-Sub.f) c.in-Sub.ensures).0 in (
+      omega (arith, below),
+      (
+        part_stored c.args.terms.now c.requires.valid c.args.id (Sub c.in-Sub.e c.in-Sub.f) c.in-Sub.ensures c.in-Sub.e (inl refl),
+        (
+          c.requires.valid,
+          (
+            part_fits c.args.terms.now c.args.id (Sub c.in-Sub.e c.in-Sub.f) c.in-Sub.e c.requires.valid c.in-Sub.ensures c.requires.fits (inl refl),
+            (node_linear c.args.terms.now c.args.id (Sub c.in-Sub.e c.in-Sub.f) c.requires.valid c.in-Sub.ensures c.args.ring.now.vars c.requires.linear).0,
+          ),
+        ),
+      ),
+    )
 
 pub numerator-requires-in-Sub-2 : goal.numerator-requires-in-Sub-2
-numerator-requires-in-Sub-2 t c = (
-  (c.requires.valid.children c.args.id.0 (Sub c.in-Sub.e c.in-Sub.f) c.in-Sub.ensures).1,
-  (part_stored c.args.terms.now c.requires.valid c.args.id (Sub c.in-Sub.e c.in-Sub.f) c.in-Sub.ensures c.in-Sub.f (inr refl),
-  (c.requires.valid,
-  (part_fits c.args.terms.now c.args.id (Sub c.in-Sub.e c.in-Sub.f) c.in-Sub.f c.requires.valid c.in-Sub.ensures c.requires.fits (inr refl),
-  linear_kept c.args.ring.now c.numerator-in-Sub.new.ring (tree_of c.args.terms.now c.in-Sub.f) c.in_ok-left-in-Sub.ensures.grows
-  (node_linear c.args.terms.now c.args.id (Sub c.in-Sub.e c.in-Sub.f) c.requires.valid c.in-Sub.ensures c.args.ring.now.vars c.requires.linear).1))),
-)
+numerator-requires-in-Sub-2 t c =
+    let below : c.in-Sub.f.0 < c.args.id.0 = (c.requires.valid.children c.args.id.0 (Sub c.in-Sub.e c.in-Sub.f) c.in-Sub.ensures).1 in (
+      omega (arith, below),
+      (
+        part_stored c.args.terms.now c.requires.valid c.args.id (Sub c.in-Sub.e c.in-Sub.f) c.in-Sub.ensures c.in-Sub.f (inr refl),
+        (
+          c.requires.valid,
+          (
+            part_fits c.args.terms.now c.args.id (Sub c.in-Sub.e c.in-Sub.f) c.in-Sub.f c.requires.valid c.in-Sub.ensures c.requires.fits (inr refl),
+            linear_kept c.args.ring.now c.numerator-in-Sub.new.ring (tree_of c.args.terms.now c.in-Sub.f) c.in_ok-left-in-Sub.ensures.grows
+                (node_linear c.args.terms.now c.args.id (Sub c.in-Sub.e c.in-Sub.f) c.requires.valid c.in-Sub.ensures c.args.ring.now.vars c.requires.linear).1,
+          ),
+        ),
+      ),
+    )
 
 pub difference-requires-clause-left : goal.difference-requires-clause-left
 difference-requires-clause-left t c =

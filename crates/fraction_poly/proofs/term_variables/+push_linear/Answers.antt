@@ -1,9 +1,9 @@
 use Rattle.std.proofs.Common.{Some, inl, inr, refl, rules, sym, ap, subst, ◌∙◌}
 use Rattle.std.specs.Prelude.{Contains, Err, IfOk, Ok, OnOk, Result}
-use Rattle.std.proofs.lemmas.Result.{IfOk-weaker, on_ok_weaker}
+use Rattle.std.proofs.lemmas.Result.{IfOk-weaker}
 use Rattle.geo_terms.specs.declared.nodes.Node.{Node}
 use Rattle.geo_terms.specs.declared.nodes.Node.TheVariants.{Neg, Add, Sub}
-use Rattle.geo_terms.specs.Stores.{tree_of}
+use Rattle.geo_terms.specs.Stores.{tree_of, trees_of}
 use Rattle.fraction_poly.specs.Inner.Numerators.{IsLinear}
 use Rattle.fraction_poly.specs.Inner.Parts.{IsPart}
 use Rattle.fraction_poly.proofs.Leaves.{linear_longer}
@@ -45,8 +45,8 @@ returns-in-Neg-clause-linear t c =
     (λ linear h yes. linear_at c.args.terms.now c.args.id (Neg c.in-Neg.e) c.requires.valid c.in-Neg.ensures c.push_linear.new.variables.items (h yes))
     c.push_linear.ensures.linear
 
-pub returns-in_ok-push_linear-in-Add-clause-linear : goal.returns-in_ok-push_linear-in-Add-clause-linear
-returns-in_ok-push_linear-in-Add-clause-linear t c =
+pub returns-else-not-branch-clause-linear : goal.returns-else-not-branch-clause-linear
+returns-else-not-branch-clause-linear t c =
     let nodes = c.args.terms.now in
     let e = c.in-Add.e in
     let f = c.in-Add.f in
@@ -59,6 +59,10 @@ returns-in_ok-push_linear-in-Add-clause-linear t c =
       | inr is ↦ linear_at nodes c.args.id (Sub e f) c.requires.valid (c.node.ensures ∙ ap Some is) new (linear_longer middle new more (tree_of nodes e) left, right yes)
     ])
 
-pub returns-in_ok-push_linear-in-Add-clause-kept : goal.returns-in_ok-push_linear-in-Add-clause-kept
-returns-in_ok-push_linear-in-Add-clause-kept t c =
-    on_ok_weaker c.push_linear-in-Add-2.result (λ kept v stands. kept v (c.in_ok-push_linear-in-Add.ensures.kept v stands)) c.push_linear-in-Add-2.ensures.kept
+pub returns-in_default-clause-linear : goal.returns-in_default-clause-linear
+returns-in_default-clause-linear t c =
+    let nodes = c.args.terms.now in
+    IfOk-weaker c.push_leaf.result _ _
+    (λ leaf h yes. linear_at nodes c.args.id c.node-in_default.result c.requires.valid c.node-in_default.ensures c.push_leaf.new.variables.items
+    (h yes (trees_of nodes)))
+    c.push_leaf.ensures.linear
