@@ -1,10 +1,7 @@
 -- Numerators of linear terms, in a ring.
-use Rattle.std.proofs.Common.{◌≡◌, ℕ, ◌+◌, ◌^◌, ◌<◌, inl, inr, pos, List, []}
-use Rattle.std.proofs.Common.{◌∷◌, ◌++◌, Some, length, slice_get, sym, ap, ap₂, subst, ◌∙◌, arith}
-use Rattle.std.proofs.lemmas.List.{length_push}
-use Rattle.std.proofs.lemmas.Option.{slice_get_within}
-use Rattle.geo_points.specs.declared.ids.TermId.{TermId}
+use Rattle.std.proofs.Common.{◌≡◌, ◌+◌, ◌^◌, ◌<◌, pos, List, Some, slice_get, sym, ap, ap₂, subst, ◌∙◌, arith}
 use Rattle.std.specs.Prelude.{Contains}
+use Rattle.geo_points.specs.declared.ids.TermId.{TermId}
 use Rattle.geo_poly.specs.declared.variables.Var.{Var}
 use Rattle.geo_poly.specs.Polynomials.{IsPolynomial, Summands, constant_of, negated, norm_of, product_of, sum_of}
 use Rattle.geo_poly.specs.Rings.{Grows, IsElementFor, RingValue, polynomial_in}
@@ -16,9 +13,8 @@ use Rattle.geo_terms.specs.Stores.{Store, IsStore, node_tree, trees_of, tree_of}
 use Rattle.geo_terms.specs.Trees.{Tree, negation, addition, subtraction}
 use Rattle.geo_terms.proofs.Trees.{tree_of-node}
 use Rattle.fraction_poly.specs.MultipliedOut.{multiplied_out}
-use Rattle.fraction_poly.specs.Inner.Numerators.{AreNumerators, AreLinearOver, IsNumerator, IsLinearOver}
+use Rattle.fraction_poly.specs.Inner.Numerators.{IsLinear, IsNumerator}
 use Rattle.fraction_poly.specs.Inner.Parts.{CanMultiplyOut, SumFits}
-use Rattle.fraction_poly.proofs.Places.{place_cases, slice_get-end, slice_get-front}
 use Rattle.fraction_poly.proofs.Rooms.{norms_fit, sum_fits_addition, sum_fits_subtraction}
 
 -- NODES, over the numerators of their parts
@@ -69,40 +65,25 @@ module _ (r : RingValue) (e f : Tree) (x y : Indices) (h : IsNumerator r e x) (g
     one = denominator;
   }
 
--- LISTS
-pub numerators_kept : (old new : RingValue) (nodes : Store) (elements : List Indices) → Grows old new
-    → AreNumerators old nodes elements → AreNumerators new nodes elements
-numerators_kept old new nodes elements grows h = record {
-  each = λ c x at.
-      let before = h.each c x at in
-      record { numerator = element_kept old new (multiplied_out (tree_of nodes c)).0 x grows before.numerator; one = before.one };
-}
+-- RINGS THAT GROW
+pub numerator_kept : (old new : RingValue) (e : Tree) (x : Indices) → Grows old new → IsNumerator old e x → IsNumerator new e x
+numerator_kept old new e x grows h = record { numerator = element_kept old new (multiplied_out e).0 x grows h.numerator; one = h.one }
 
-pub numerators_push : (r : RingValue) (nodes : Store) (i : ℕ) (elements : List Indices) (z : Indices) → length elements ≡ i
-    → AreNumerators r nodes elements
-    → IsNumerator r (tree_of nodes (record { 0 = i })) z → AreNumerators r nodes (elements ++ z ∷ [])
-numerators_push r nodes i elements z count h made = record {
-  each = λ c x at.
-      let within = slice_get_within (elements ++ z ∷ []) c.0 x at in
-      elim (place_cases c.0 (length elements) (omega (arith, within, length_push elements z))) [
-        | inl before ↦ h.each c x (sym (slice_get-front elements (z ∷ []) c.0 before) ∙ at)
-        | inr last ↦
-            let same : z ≡ x = (let there = slice_get-end elements z c.0 last in cc) in
-            let here : tree_of nodes (record { 0 = i }) ≡ tree_of nodes c = ap (λ k. tree_of nodes (record { 0 = k })) (sym count ∙ sym last) in
-            subst (IsNumerator r (tree_of nodes c)) same (subst (λ (e : Tree). IsNumerator r e z) here made)
-      ];
-}
+pub linear_kept : (old new : RingValue) (e : Tree) → Grows old new → IsLinear (Contains old.vars) e → IsLinear (Contains new.vars) e
+linear_kept old new e grows h = subst (λ (vs : List Var). IsLinear (Contains vs) e) (sym grows.vars) h
 
--- what is made for the node at an index is made for the index
-pub numerator_at : (r : RingValue) (nodes : Store) (id : TermId) (node : Node) (z : Indices) → IsStore nodes → slice_get nodes id.0 ≡ Some node
-    → IsNumerator r (node_tree (trees_of nodes) node) z → IsNumerator r (tree_of nodes id) z
-numerator_at r nodes id node z store at made = subst (λ (e : Tree). IsNumerator r e z) (sym (tree_of-node nodes id node store at)) made
+-- A NODE AND ITS INDEX
+module _ (nodes : Store) (id : TermId) (node : Node) (store : IsStore nodes) (at : slice_get nodes id.0 ≡ Some node) where
+  -- what is made for the node is made for the index
+  pub numerator_at : (r : RingValue) (z : Indices) → IsNumerator r (node_tree (trees_of nodes) node) z → IsNumerator r (tree_of nodes id) z
+  numerator_at r z made = subst (λ (e : Tree). IsNumerator r e z) (sym (tree_of-node nodes id node store at)) made
 
--- what the list says of the node at an index
-pub linear_at : (vars : List Var) (nodes : Store) (id : TermId) (node : Node) → AreLinearOver vars nodes (length nodes)
-    → slice_get nodes id.0 ≡ Some node → IsLinearOver (Contains vars) node
-linear_at vars nodes id node whole at = whole.each id.0 node (slice_get_within nodes id.0 node at) at
+  pub linear_at : (vars : List Var) → IsLinear (Contains vars) (node_tree (trees_of nodes) node) → IsLinear (Contains vars) (tree_of nodes id)
+  linear_at vars h = subst (IsLinear (Contains vars)) (sym (tree_of-node nodes id node store at)) h
 
-pub node_fits : (nodes : Store) (id : TermId) (node : Node) → IsStore nodes → slice_get nodes id.0 ≡ Some node
-    → CanMultiplyOut (tree_of nodes id) → CanMultiplyOut (node_tree (trees_of nodes) node)
-node_fits nodes id node store at fits = subst CanMultiplyOut (tree_of-node nodes id node store at) fits
+  -- what holds of the index holds of the node
+  pub node_linear : (vars : List Var) → IsLinear (Contains vars) (tree_of nodes id) → IsLinear (Contains vars) (node_tree (trees_of nodes) node)
+  node_linear vars h = subst (IsLinear (Contains vars)) (tree_of-node nodes id node store at) h
+
+  pub node_fits : CanMultiplyOut (tree_of nodes id) → CanMultiplyOut (node_tree (trees_of nodes) node)
+  node_fits fits = subst CanMultiplyOut (tree_of-node nodes id node store at) fits

@@ -15,10 +15,12 @@ mod numerators;
 mod parts;
 mod reaching;
 mod simple_drafts;
+mod sorted_variables;
 mod step_numbers;
 mod store_numbers;
 mod table;
 mod term_variables;
+mod visits;
 
 pub use drafts::{Draft, Number, RowDraft, StepTerms};
 pub use known_numbers::KnownNumbers;

@@ -4,12 +4,13 @@ ghost use Rattle.std.specs.Prelude.{◌≡◌, ◌+◌, ◌*◌, ◌<◌, ◌↔
 ghost use Rattle.std.specs.Prelude.{length, slice_get};
 ghost use Rattle.fraction_poly.specs.Measures.{HasRoom, HaveRoom, capped, capped_number};
 ghost use Rattle.fraction_poly.specs.Measures.{numbers_of};
-ghost use Rattle.fraction_poly.specs.Inner.Parts.{AreNumbersOf};
+ghost use Rattle.fraction_poly.specs.Inner.Parts.{AreNumbersOf, AreNumbersOfParts};
 ghost use Rattle.geo_terms.specs.Stores.{HasChildrenBelow, IsStore, node_tree, tree_of};
 ghost use Rattle.geo_terms.specs.Trees.{Tree};
 
 use crate::cutting::cut_out;
 use crate::store_numbers::StoreNumbers;
+use crate::visits::{DEEPEST, Visits};
 use geo_points::{NoMemory, TermId};
 use geo_poly::{MAX, MAX_DEGREE};
 use geo_terms::{Node, Terms};
@@ -158,45 +159,50 @@ pub fn measure(alloc: Global, terms: &Terms, id: TermId) -> Result<Numbers, NoMe
 {
     // From here on it is known that parts stand before their nodes.
     prove!(id.0 < terms.len());
-    if let Some(numbers) = shallow_numbers(terms, id, SHALLOW) {
+    if let Some(numbers) = tree_numbers(&mut Visits::unmarked(alloc), terms, id, SHALLOW) {
+        return Ok(numbers);
+    }
+    if let Some(numbers) = tree_numbers(&mut Visits::from(alloc, id)?, terms, id, DEEPEST) {
         return Ok(numbers);
     }
     let (cut, place) = cut_out(alloc, terms, id)?;
     Ok(StoreNumbers::new(alloc, &cut)?.numbers(place))
 }
 
-/// Terms that are no deeper are measured as trees, without a list of their nodes. Nothing rests on
-/// it but time.
+/// Terms that are no deeper are measured as trees, without an account of their nodes. Nothing rests
+/// on it but time.
 const SHALLOW: u32 = 3;
 
-/// The numbers of a term that is no deeper than that.
-fn shallow_numbers(terms: &Terms, id: TermId, depth: u32) -> Option<Numbers>
+/// The numbers of a term that is no deeper than that, and in which no node is visited again.
+fn tree_numbers(visits: &mut Visits, terms: &Terms, id: TermId, depth: u32) -> Option<Numbers>
     requires stored { id.0 < length terms.now }
     requires valid { IsStore terms.now }
     ensures { IfSome result (λ numbers. numbers ≡ capped (numbers_of (tree_of terms.now id))) }
 {
-    if depth == 0 {
+    if depth == 0 || visits.repeat(terms, id) {
         return None;
     }
     match terms.node(id) {
         Node::Int(n) => Some(Numbers::of_integer(n)),
         Node::Param(_) | Node::S(..) | Node::P(..) | Node::R(..) => Some(Numbers::of_variable()),
-        Node::Neg(e) => shallow_numbers(terms, e, depth - 1),
-        Node::Add(e, f) | Node::Sub(e, f) => {
-            let left = shallow_numbers(terms, e, depth - 1)?;
-            let right = shallow_numbers(terms, f, depth - 1)?;
-            Some(left.sum(right))
+        Node::Neg(e) => tree_numbers(visits, terms, e, depth - 1),
+        Node::Add(e, f) | Node::Sub(e, f) | Node::Mul(e, f) | Node::Div(e, f) => {
+            let left = tree_numbers(visits, terms, e, depth - 1)?;
+            let right = tree_numbers(visits, terms, f, depth - 1)?;
+            Some(numbers_over(terms.node(id), left, right))
         }
-        Node::Mul(e, f) => {
-            let left = shallow_numbers(terms, e, depth - 1)?;
-            let right = shallow_numbers(terms, f, depth - 1)?;
-            Some(left.product(right))
-        }
-        Node::Div(e, f) => {
-            let left = shallow_numbers(terms, e, depth - 1)?;
-            let right = shallow_numbers(terms, f, depth - 1)?;
-            Some(left.product(right.turned()))
-        }
+    }
+}
+
+/// The numbers of a node over those of its two parts.
+fn numbers_over(node: Node, left: Numbers, right: Numbers) -> Numbers
+    ensures { (trees : List Tree) → AreNumbersOfParts trees node left right
+        → result ≡ capped (numbers_of (node_tree trees node)) }
+{
+    match node {
+        Node::Mul(..) => left.product(right),
+        Node::Div(..) => left.product(right.turned()),
+        _ => left.sum(right),
     }
 }
 

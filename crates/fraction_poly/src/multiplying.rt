@@ -12,6 +12,7 @@ use crate::fractions::{
     Fraction, area, difference, negation, product, pythagoras, quotient, ratio, sum, whole,
 };
 use crate::numerators::linear_numerator;
+use crate::visits::is_leaf;
 use geo_points::{NoMemory, TermId};
 use geo_poly::{Poly, Var};
 use geo_terms::{Node, Terms};
@@ -29,11 +30,11 @@ pub fn multiply_out(alloc: Global, terms: &Terms, id: TermId) -> Result<(Poly, P
     if let Some(fraction) = small_fraction(alloc, terms, id)? {
         return Ok(fraction);
     }
-    let (cut, place) = cut_out(alloc, terms, id)?;
-    match linear_numerator(alloc, &cut, place)? {
-        Some(numerator) => whole(alloc, numerator),
-        None => fraction_of(alloc, &cut, place),
+    if let Some(numerator) = linear_numerator(alloc, terms, id)? {
+        return whole(alloc, numerator);
     }
+    let (cut, place) = cut_out(alloc, terms, id)?;
+    fraction_of(alloc, &cut, place)
 }
 
 /// The fraction of a leaf or of its opposite, and `None` for all other terms.
@@ -63,16 +64,6 @@ fn leaf_fraction(alloc: Global, terms: &Terms, id: TermId) -> Result<Option<Frac
         return Ok(None);
     }
     Ok(Some(fraction(alloc, terms, &[], id)?))
-}
-
-/// Whether a node has no parts.
-fn is_leaf(node: Node) -> bool
-    ensures { IsTrue result → (c : TermId) → IsPart node c → ⊥ }
-{
-    match node {
-        Node::Int(_) | Node::Param(_) | Node::S(..) | Node::P(..) | Node::R(..) => true,
-        Node::Neg(_) | Node::Add(..) | Node::Sub(..) | Node::Mul(..) | Node::Div(..) => false,
-    }
 }
 
 /// The fraction of the term at an index, in a store whose terms may all be multiplied out: those up

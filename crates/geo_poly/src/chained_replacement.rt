@@ -22,7 +22,7 @@ ghost use Rattle.geo_poly.specs.Variables.{var_cmp};
 use crate::chained::{multiples_chain, product_chain};
 use crate::interning::{indexed, place_near};
 use crate::monomial_keys::MonomialKeys;
-use crate::moving::keyed;
+use crate::moving::{Move, MovedMonomials, keyed, keyed_near};
 use crate::polynomials::Poly;
 use crate::replacement::Row;
 use crate::row_table::RowTable;
@@ -53,6 +53,25 @@ pub(crate) fn stored_poly<K: MonomialKeys>(
     keyed(alloc, keys, vars, &poly.shared())
 }
 
+/// The polynomial as a list of keys, with what became of its variables, which are looked for first
+/// where those of an earlier one are.
+fn stored_near<K: MonomialKeys>(
+    alloc: Global,
+    keys: &mut K,
+    vars: &[Var],
+    poly: &Poly,
+    earlier: &[Move],
+) -> Result<(Vec<Indexed>, MovedMonomials), NoMemory>
+    requires rising { IsStrictlySortedBy var_cmp vars.now }
+    requires known { AllVariables (Contains vars.now) poly.now }
+    requires reach { IsWithinLimits vars.now (K.keys keys.old) poly.now }
+    ensures stored { IfOk result
+        (λ found. IsStoredUnder vars.now (K.keys keys.new) found.0.items poly.now) }
+    ensures kept { KeepsKeys (K.keys keys.old) (K.keys keys.new) }
+{
+    keyed_near(alloc, keys, vars, &poly.shared(), earlier)
+}
+
 /// The numerators of the rows as lists of keys.
 pub(crate) fn stored_rows<K: MonomialKeys>(
     alloc: Global,
@@ -68,8 +87,10 @@ pub(crate) fn stored_rows<K: MonomialKeys>(
     ensures kept { KeepsKeys (K.keys keys.old) (K.keys keys.new) }
 {
     let mut nums = Vec::with_capacity(alloc, rows.len())?;
+    let mut table = MovedMonomials::none(alloc);
     for row in rows {
-        let items = stored_poly(alloc, keys, vars, &row.num.poly)?;
+        let (items, moved) = stored_near(alloc, keys, vars, &row.num.poly, table.moves())?;
+        table = moved;
         nums.push(IndexList { items })?;
     }
     Ok(nums)

@@ -59,6 +59,21 @@ pub(crate) struct MovedMonomials {
     links: Vec<Option<MonoId>>,
 }
 
+impl MovedMonomials {
+    /// Those of no variable.
+    pub(crate) fn none(alloc: Global) -> MovedMonomials {
+        MovedMonomials {
+            moves: Vec::new(alloc),
+            links: Vec::new(alloc),
+        }
+    }
+
+    /// What becomes of the variable of each number.
+    pub(crate) fn moves(&self) -> &[Move] {
+        self.moves.as_slice()
+    }
+}
+
 /// By hand, so that a caller's proof sees one call where it is let go.
 impl Drop for MovedMonomials {
     fn drop(self) {
@@ -102,9 +117,33 @@ pub(crate) fn keyed<K: MonomialKeys>(
         (λ list. terms_under vars.now (K.keys keys.new) list.items ≡ told p.now) }
     ensures kept { KeepsKeys (K.keys keys.old) (K.keys keys.new) }
 {
+    let (list, _table) = keyed_near(alloc, keys, vars, p, &[])?;
+    Ok(list)
+}
+
+/// The keys of the monomials, with their coefficients, and what became of the variables, which are
+/// looked for first where those of an earlier list are.
+pub(crate) fn keyed_near<K: MonomialKeys>(
+    alloc: Global,
+    keys: &mut K,
+    vars: &[Var],
+    p: &Shared,
+    earlier: &[Move],
+) -> Result<(Vec<Indexed>, MovedMonomials), NoMemory>
+    requires rising { IsStrictlySortedBy var_cmp vars.now }
+    requires parts { AreParts p.now }
+    requires known { AllVariables (Contains vars.now) (told p.now) }
+    requires reach { IsWithinLimits vars.now (K.keys keys.old) (told p.now) }
+    ensures indices { IfOk result
+        (λ found. AllKeys (IsIndexUnder vars.now (K.keys keys.new)) found.0.items) }
+    ensures terms { IfOk result
+        (λ found. terms_under vars.now (K.keys keys.new) found.0.items ≡ told p.now) }
+    ensures kept { KeepsKeys (K.keys keys.old) (K.keys keys.new) }
+{
     let rows = RowTable::new(alloc, &[], &[]);
-    let table = moved_monomials(alloc, keys, vars, &rows, p)?;
-    looked_up(alloc, keys, vars, &rows, p, &table)
+    let table = moved_monomials(alloc, keys, vars, &rows, p, earlier)?;
+    let list = looked_up(alloc, keys, vars, &rows, p, &table)?;
+    Ok((list, table))
 }
 
 /// Which links the monomials of the list reach, by their numbers. Nothing rests on it but time.
@@ -204,6 +243,7 @@ pub(crate) fn moved_monomials<K: MonomialKeys>(
     vars: &[Var],
     rows: &RowTable,
     p: &Shared,
+    earlier: &[Move],
 ) -> Result<MovedMonomials, NoMemory>
     requires rising { IsStrictlySortedBy var_cmp vars.now }
     requires parts { AreParts p.now }
@@ -211,7 +251,7 @@ pub(crate) fn moved_monomials<K: MonomialKeys>(
         (λ table. AreMoved p.now rows.now vars.now (K.keys keys.new) table) }
     ensures kept { KeepsKeys (K.keys keys.old) (K.keys keys.new) }
 {
-    let moves = moves_in(alloc, rows, p.vars, vars)?;
+    let moves = moves_in(alloc, rows, p.vars, vars, earlier)?;
     let links = tabled_links(alloc, keys, vars, rows, p, &moves)?;
     Ok(MovedMonomials { moves, links })
 }
@@ -445,12 +485,14 @@ fn move_at(moves: &[Move], number: u64) -> Move
     }
 }
 
-/// What becomes of each of the old variables.
+/// What becomes of each of the old variables, which are looked for first where those of an earlier
+/// list are.
 fn moves_in(
     alloc: Global,
     rows: &RowTable,
     former: &[Var],
     vars: &[Var],
+    earlier: &[Move],
 ) -> Result<Vec<Move>, NoMemory>
     requires { IsStrictlySortedBy var_cmp vars.now }
     ensures { IfOk result (λ moves. AreMoves former.now rows.now vars.now moves.items) }
@@ -459,7 +501,7 @@ fn moves_in(
     let mut number = 0u64;
     let mut guess = 0u64;
     for v in former {
-        let place = guessed_place(vars, *v, guess);
+        let place = guessed_place(vars, *v, earlier_place(earlier, number, guess));
         guess = after(place, guess);
         moves.push(move_of(rows, vars, *v, number, place))?;
         number = number.saturating_add(1);
@@ -519,6 +561,14 @@ pub(crate) fn places_in(
         places.push(place)?;
     }
     Ok(places)
+}
+
+/// Where the variable of a number stood in an earlier list, and else where it may stand.
+fn earlier_place(earlier: &[Move], number: u64, guess: u64) -> u64 {
+    match move_at(earlier, number) {
+        Move::Kept(place) => place,
+        _ => guess,
+    }
 }
 
 /// Where the next variable may stand.

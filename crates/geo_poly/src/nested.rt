@@ -338,7 +338,7 @@ pub(crate) fn nested_chain<K: MonomialKeys, L: Ledger>(
 {
     let listing = listed_terms(alloc, setting, p)?;
     let pending = sorted_pending(alloc, setting.rows.rows(), &listing)?;
-    let table = moved_monomials(alloc, keys, setting.vars, setting.rows, p)?;
+    let table = moved_monomials(alloc, keys, setting.vars, setting.rows, p, &[])?;
     nested_sum(
         alloc, setting, keys, arena, p, &table, &pending, 0, 0, ticks,
     )

@@ -317,6 +317,9 @@ impl Poly {
     pub fn put_zero(&mut self, v: Var)
         ensures { self.new ≡ specialised v (pos 0) self.old }
     {
+        if self.is_number() {
+            return;
+        }
         let vars = self.stored.vars.as_slice();
         let p = Shared {
             vars,

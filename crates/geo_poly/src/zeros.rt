@@ -20,6 +20,9 @@ impl Poly {
     pub fn vanishes_at_zero(&self, v: Var) -> bool
         ensures { IsTrue result ↔ (specialised v (pos 0) self.now ≡ []) }
     {
+        if self.is_number() {
+            return self.is_zero();
+        }
         let p = &self.shared();
         match number_in(p, v) {
             Some(number) => all_have(p, number),

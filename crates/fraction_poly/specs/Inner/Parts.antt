@@ -17,6 +17,18 @@ use Rattle.fraction_poly.specs.MultipliedOut.{multiplied_out}
 pub record AreNumbersOf (trees : List Tree) (numbers : List Numbers) : Type 0 where
   pub each : (e : TermId) → e.0 < length numbers → slice_get numbers e.0 ≡ Some (capped (numbers_of (tree_at trees e)))
 
+-- these are the numbers of two trees
+abbrev pub AreNumbersOfTrees : Tree → Tree → Numbers → Numbers → Type 0
+AreNumbersOfTrees e f left right = (left ≡ capped (numbers_of e)) × (right ≡ capped (numbers_of f))
+
+-- these are the numbers of the two parts of a node
+abbrev pub AreNumbersOfParts : List Tree → Node → Numbers → Numbers → Type 0
+AreNumbersOfParts trees (Add e f) left right = AreNumbersOfTrees (tree_at trees e) (tree_at trees f) left right
+AreNumbersOfParts trees (Sub e f) left right = AreNumbersOfTrees (tree_at trees e) (tree_at trees f) left right
+AreNumbersOfParts trees (Mul e f) left right = AreNumbersOfTrees (tree_at trees e) (tree_at trees f) left right
+AreNumbersOfParts trees (Div e f) left right = AreNumbersOfTrees (tree_at trees e) (tree_at trees f) left right
+AreNumbersOfParts trees _ left right = ⊥
+
 -- BOUNDS
 -- the term may be multiplied out: its numbers have room
 pub record CanMultiplyOut (e : Tree) : Type 0 where

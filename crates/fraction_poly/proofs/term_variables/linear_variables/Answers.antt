@@ -1,8 +1,9 @@
 use Rattle.std.proofs.Common.{rules}
-use Rattle.fraction_poly.proofs.Leaves.{linear_more}
+use Rattle.geo_terms.specs.Stores.{tree_of}
+use Rattle.fraction_poly.proofs.Leaves.{linear_longer}
 use Rattle.fraction_poly.proofs.term_variables.linear_variables.Goals as goal
 
-pub loop-i-preserved : goal.loop-i-preserved
-loop-i-preserved c =
-    linear_more c.loop-i.variables.keys c.insert_leaf.new.variables.keys c.args.terms.now c.loop-i.i c.node.result c.loop-i.invariant
-    c.in_ok-insert_leaf.ensures.kept c.node.ensures (c.in_ok-insert_leaf.ensures.known (search rules))
+pub returns-clause-linear : goal.returns-clause-linear
+returns-clause-linear c =
+    linear_longer c.push_linear.new.variables.items c.in_order.result c.in_order.ensures.known
+    (tree_of c.args.terms.now c.args.id) (c.in_ok-push_linear.ensures.linear (search rules))

@@ -8,12 +8,12 @@ use Rattle.geo_poly.proofs.KeysKept.{KeepsKeys-trans}
 use Rattle.geo_poly.proofs.Told.{take_more}
 use Rattle.geo_poly.proofs.chained_replacement.stored_rows.Goals as goal
 
-pub stored_poly-requires-clause-known : goal.stored_poly-requires-clause-known
-stored_poly-requires-clause-known g c =
+pub stored_near-requires-clause-known : goal.stored_near-requires-clause-known
+stored_near-requires-clause-known g c =
     AllNumerators-at (Contains c.args.vars.now) c.args.rows.now c.loop-row.row-index c.row-item.result c.loop-row-test.true c.row-item.is c.requires.known
 
-pub stored_poly-requires-clause-reach : goal.stored_poly-requires-clause-reach
-stored_poly-requires-clause-reach g c =
+pub stored_near-requires-clause-reach : goal.stored_near-requires-clause-reach
+stored_near-requires-clause-reach g c =
     row_within c.args.vars.now (g.K.MonomialKeys.keys c.args.keys.now) (g.K.MonomialKeys.keys c.loop-row.keys) c.args.rows.now c.loop-row.row-index c.row-item.result
     c.loop-row-test.true c.row-item.is c.loop-row.invariant.kept.limits c.requires.reach
 
@@ -22,7 +22,7 @@ loop-row-preserved g c =
     let vars = c.args.vars.now in
     let first = g.K.MonomialKeys.keys c.args.keys.now in
     let old = g.K.MonomialKeys.keys c.loop-row.keys in
-    let new = g.K.MonomialKeys.keys c.stored_poly.new.keys in
+    let new = g.K.MonomialKeys.keys c.stored_near.new.keys in
     let rows = c.args.rows.now in
     let row = c.row-item.result in
     let i = c.loop-row.row-index in

@@ -1,4 +1,4 @@
-use Rattle.std.proofs.Common.{arith}
+use Rattle.std.proofs.Common.{arith, refl}
 use Rattle.std.specs.Int.{w128}
 use Rattle.std.proofs.lemmas.Bool.{false≢true}
 use Rattle.std.proofs.lemmas.Int.{to_z-of_z}
@@ -16,4 +16,9 @@ returns-in-Some c =
 pub returns-in-None : goal.returns-in-None
 returns-in-None c =
     let light = lacking_light c.args.v c.args.value (told c.shared.result) c.args.self.now c.shared.ensures.terms c.shared.ensures.valid.polynomial c.in-None.ensures.none in
+    (λ f. absurd (false≢true f), λ le. absurd (omega (arith, light, le)))
+
+pub returns-then-is_number : goal.returns-then-is_number
+returns-then-is_number c =
+    let light = lacking_light c.args.v c.args.value c.args.self.now c.args.self.now refl c.is_number.ensures.valid (c.is_number.ensures.lacks c.if-is_number.true c.args.v) in
     (λ f. absurd (false≢true f), λ le. absurd (omega (arith, light, le)))

@@ -1,4 +1,4 @@
-use Rattle.std.proofs.Common.{List, pos, sym, ap, ap₂, ◌∙◌}
+use Rattle.std.proofs.Common.{List, pos, sym, ap, ap₂, ◌∙◌, refl}
 use Rattle.geo_poly.specs.declared.variables.Var.{Var}
 use Rattle.geo_poly.specs.Polynomials.{IsPolynomial, Summands}
 use Rattle.geo_poly.specs.Shared.{Indices, terms_of}
@@ -22,3 +22,7 @@ returns-in_default c =
     ap₂ (λ (vs : List Var) (l : Indices). terms_of vs s.monos l) c.as_slice-vars.ensures c.as_slice.ensures.value ∙ c.self.view_is in
     let whole : IsPolynomial (terms_of vars s.monos list) = rw (c.as_slice-vars.ensures, c.as_slice.ensures.value) c.self.invariant.polynomial in
     sym (lacking_stays c.args.v (pos 0) (terms_of vars s.monos list) _ same whole c.in_default.ensures.none)
+
+pub returns-then-is_number : goal.returns-then-is_number
+returns-then-is_number c =
+    sym (lacking_stays c.args.v (pos 0) _ _ refl c.is_number.ensures.valid (c.is_number.ensures.lacks c.if-is_number.true c.args.v))

@@ -1,4 +1,4 @@
-use Rattle.std.proofs.Common.{◌≡◌, pos, [], filter, sym, ap, subst, ◌∙◌}
+use Rattle.std.proofs.Common.{◌≡◌, pos, [], filter, sym, ap, subst, ◌∙◌, refl}
 use Rattle.std.specs.Prelude.{◌↔◌, IsTrue}
 use Rattle.geo_poly.specs.Inner.Parts.{lacks}
 use Rattle.geo_poly.specs.declared.variables.Var.{Var}
@@ -21,4 +21,9 @@ returns-in-Some c =
 pub returns-in-None : goal.returns-in-None
 returns-in-None c =
     let stays = lacking_stays c.args.v (pos 0) (told c.shared.result) c.args.self.now c.shared.ensures.terms c.shared.ensures.valid.polynomial c.in-None.ensures.none in
+    subst (λ (q : Summands). IsTrue c.is_zero-in-None.result ↔ (q ≡ [])) (sym stays) c.is_zero-in-None.ensures
+
+pub returns-then-is_number : goal.returns-then-is_number
+returns-then-is_number c =
+    let stays = lacking_stays c.args.v (pos 0) c.args.self.now c.args.self.now refl c.is_number.ensures.valid (c.is_number.ensures.lacks c.if-is_number.true c.args.v) in
     subst (λ (q : Summands). IsTrue c.is_zero.result ↔ (q ≡ [])) (sym stays) c.is_zero.ensures
