@@ -26,7 +26,6 @@ use crate::limits::LineSize;
 use crate::made::{made_rows, put_back};
 use crate::numbered::{NumberedRow, numbered_rows};
 use crate::sizes::size_of_line;
-use crate::valid::is_valid;
 use crate::variables::variables_of;
 use geo_base::Budget;
 use geo_logs::Move;
@@ -156,7 +155,7 @@ fn measured(
     ensures known { AreKnownRows steps.now known.new }
 {
     // From here on it is known that the polynomial is in order and within its bounds.
-    prove!(is_valid(p));
+    prove!(p.is_valid());
     let variables = variables_of(alloc, p)?;
     let rows = numbered_rows(alloc, steps, known, mv, &variables)?;
     if rows.is_empty() {
@@ -197,7 +196,7 @@ fn moved<L: Ledger>(
     ensures known { AreKnownRows steps.now known.new }
 {
     // From here on it is known that the polynomial is in order and within its bounds.
-    prove!(is_valid(p));
+    prove!(p.is_valid());
     let (rows, den) = made_rows(alloc, steps, known, mv, rows)?;
     let moved = p.replace_within(alloc, &rows.items, &den, top, ticks)?;
     put_back(known, mv, rows, den);

@@ -17,7 +17,6 @@ mod shares;
 mod sizes;
 mod small_shares;
 mod starting;
-mod valid;
 mod variables;
 
 pub use applying::{apply, apply_known};

@@ -15,7 +15,7 @@ pub(crate) fn cut_line(alloc: Global, p: &Poly, known: &[Var]) -> Result<Option<
     ensures none { IfOk result (λ o. IfNone o (NoCutDue known.now p.now)) }
 {
     // From here on it is known that the polynomial is in order and within its bounds.
-    prove!(p.norm() >= 0);
+    prove!(p.is_valid());
     if p.is_zero() {
         return Ok(None);
     }

@@ -339,6 +339,16 @@ impl Poly {
         terms_at(alloc, &self.shared())
     }
 
+    /// True: every polynomial meets the clause `valid`, which contracts then know. Where it stands in
+    /// a `prove!`, it takes no time, as the norm would.
+    pub fn is_valid(&self) -> bool
+        ensures valid { IsPolynomial self.now }
+        ensures always { IsTrue result }
+    {
+        let _parts = self.shared();
+        true
+    }
+
     /// The sum of the absolute coefficients. Every polynomial meets the clause `valid`.
     pub fn norm(&self) -> i128
         ensures norm { result ≡ pos (norm_of self.now) }

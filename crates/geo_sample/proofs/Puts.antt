@@ -5,7 +5,8 @@ use Rattle.std.proofs.lemmas.List.{drop-set-lt, get_or-drop, map_more}
 use Rattle.geo_poly.specs.declared.variables.Var.{Var}
 use Rattle.geo_poly.specs.Polynomials.{Summands}
 use Rattle.geo_poly.specs.Specialise.{specialised}
-use Rattle.geo_sample.specs.Tries.{all_specialised, changed_by}
+use Rattle.geo_sample.specs.Inner.Changes.{changed_by}
+use Rattle.geo_sample.specs.Tries.{all_specialised}
 
 -- one more that may become another
 pub changed-push : (os : List (Option Summands)) (ps : List Summands) (i : ℕ) (o : Option Summands) (p : Summands) → length os ≡ i → i < length ps → p ≡ get_or ps i p

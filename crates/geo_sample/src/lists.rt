@@ -40,7 +40,7 @@ pub fn are_valid(polys: &[Poly]) -> bool
     ensures always { IsTrue result }
 {
     for poly in polys {
-        let _norm = poly.norm();
+        prove!(poly.is_valid());
     }
     true
 }

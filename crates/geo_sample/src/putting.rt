@@ -4,7 +4,8 @@ ghost use Rattle.std.specs.Prelude.{◌≡◌, ◌↔◌, ◌^◌, ◌<◌, [], 
 ghost use Rattle.std.specs.Prelude.{IsTrue};
 ghost use Rattle.geo_poly.specs.Polynomials.{IsPolynomial};
 ghost use Rattle.geo_poly.specs.Specialise.{NoneZero, specialised, specialised_weight};
-ghost use Rattle.geo_sample.specs.Tries.{all_specialised, changed_by};
+ghost use Rattle.geo_sample.specs.Inner.Changes.{changed_by};
+ghost use Rattle.geo_sample.specs.Tries.{all_specialised};
 
 use crate::lists::are_valid;
 use geo_points::NoMemory;

@@ -325,16 +325,12 @@ fn zeros_are_put_in_place(rt: HostRuntime) -> Result<(), Fail> {
 }
 
 /// The polynomial with the number put for the variable in its place, which tells before whether it is
-/// refused, and whether it becomes zero.
+/// refused.
 fn spelled_in_place(alloc: Global, mut poly: Poly, v: Var, number: i128) -> Result<String, Fail> {
     if poly.is_too_heavy(v, number) {
         return Err(Fail::from("is_too_heavy"));
     }
-    let vanishes = poly.vanishes_at(alloc, v, number)?;
     poly.put_number(alloc, v, number)?;
-    if vanishes != poly.is_zero() {
-        return Err(Fail::from("vanishes_at"));
-    }
     Ok(spelled(alloc, &poly)?)
 }
 

@@ -9,5 +9,5 @@ returns c =
     let p = c.args.poly.now in
     IfOk-weaker c.within_bounds.result (λ (q : Summands). c.sub.result ≡ Ok q) (λ q. q ≡ negated p)
     (λ q is. IfOk-at_ok (λ r. r ≡ difference_of c.zero.result p) is c.sub.ensures.difference
-    ∙ ap (λ (z : Summands). difference_of z p) c.zero.ensures ∙ difference_of-zero p c.norm.ensures.valid)
+    ∙ ap (λ (z : Summands). difference_of z p) c.zero.ensures ∙ difference_of-zero p c.is_valid.ensures.valid)
     c.within_bounds.ensures

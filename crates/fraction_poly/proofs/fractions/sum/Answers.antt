@@ -13,5 +13,5 @@ returns-then-is_one-2 c =
     (λ f is. is
     ∙ ap whole_fraction (IfOk-at_ok (λ p. p ≡ sum_of a.0 b.0) c.in_ok-numerator.ensures c.add.ensures.sum)
     ∙ sum_over_one a b (c.is_one.ensures c.if-is_one.true) (c.is_one-then-is_one.ensures c.if-is_one-2.true)
-    c.norm.ensures.valid c.norm-2.ensures.valid)
+    c.is_valid.ensures.valid c.is_valid-2.ensures.valid)
     c.whole.ensures

@@ -5,7 +5,7 @@ use Rattle.std.proofs.lemmas.Int.{to_z-of_z}
 use Rattle.std.proofs.lemmas.List.{length_push}
 use Rattle.geo_poly.specs.Polynomials.{Summands, IsPolynomial}
 use Rattle.geo_poly.specs.Specialise.{specialised_weight}
-use Rattle.geo_sample.specs.Tries.{changed_by}
+use Rattle.geo_sample.specs.Inner.Changes.{changed_by}
 use Rattle.geo_sample.proofs.Changes.{one_stays, one_vanishes}
 use Rattle.geo_sample.proofs.Puts.{changed-more}
 use Rattle.geo_sample.proofs.putting.nonzero_changes.Goals as goal

@@ -1,6 +1,7 @@
 use Rattle.std.proofs.Common.{◌≡◌, length, take}
 use Rattle.geo_poly.specs.Specialise.{NoneZero}
-use Rattle.geo_sample.specs.Tries.{all_specialised, changed_by}
+use Rattle.geo_sample.specs.Inner.Changes.{changed_by}
+use Rattle.geo_sample.specs.Tries.{all_specialised}
 use Rattle.geo_sample.proofs.putting.nonzero_changes.Given as goal
 
 abbrev pub invariant-loop-poly : goal.invariant-loop-poly

@@ -1,7 +1,7 @@
 use Rattle.std.proofs.Common.{length, arith}
 use Rattle.poly_arena.proofs.Paths.{walk-length}
 use Rattle.poly_arena.proofs.Updating.{path-behind, path-first}
-use Rattle.poly_arena.proofs.nodes.count_from.Goals as goal
+use Rattle.poly_arena.proofs.nodes.chain_length.Goals as goal
 
 pub bounds-nodes-i : goal.bounds-nodes-i
 bounds-nodes-i c = path-first c.args.nodes.now c.loop-place.place c.in-Some.i c.in-Some.is c.loop-place.invariant.path

@@ -1,6 +1,6 @@
 use Rattle.std.proofs.Common.{◌≡◌, ◌+◌, length}
 use Rattle.poly_arena.specs.Nodes.{IsPath, places}
-use Rattle.poly_arena.proofs.nodes.count_from.Given as goal
+use Rattle.poly_arena.proofs.nodes.chain_length.Given as goal
 
 abbrev pub invariant-loop-place : goal.invariant-loop-place
 invariant-loop-place l = record {
