@@ -1,6 +1,6 @@
-//! Tests of reading programs, and tests that cross crates: of the calls that make a problem of a
-//! program, and of the moves of a chain, beside what a plain reference makes of the same programs.
-//! There is nothing here but tests.
+//! Tests of bytes, lines, tokens, terms and the reading of programs, and tests that cross crates: of the
+//! calls that make a problem of a program, and of the moves of a chain, beside what a plain reference
+//! makes of the same programs. There is nothing here but tests.
 #![tactic(auto)]
 
 #[cfg(test)]

@@ -1,5 +1,5 @@
-//! Tests of polynomials, of what is made of them, and of samples. There is nothing here but tests, and
-//! they use public calls alone.
+//! Tests of stores of monomials, arenas of chains, greatest common divisors, polynomials, what is made
+//! of them, and samples. There is nothing here but tests, and they use public calls alone.
 #![tactic(auto)]
 
 #[cfg(test)]
