@@ -162,7 +162,7 @@ pub fn measure(alloc: Global, terms: &Terms, id: TermId) -> Result<Numbers, NoMe
     if let Some(numbers) = tree_numbers(&mut Visits::unmarked(alloc), terms, id, SHALLOW) {
         return Ok(numbers);
     }
-    if let Some(numbers) = tree_numbers(&mut Visits::from(alloc, id)?, terms, id, DEEPEST) {
+    if let Some(numbers) = tree_numbers(&mut Visits::from(alloc, id), terms, id, DEEPEST) {
         return Ok(numbers);
     }
     let (cut, place) = cut_out(alloc, terms, id)?;

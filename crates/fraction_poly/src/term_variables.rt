@@ -29,7 +29,7 @@ pub(crate) fn linear_variables(
     ensures linear { IfOk result (λ o. IfSome o
         (λ vs. IsLinear (Contains vs) (tree_of terms.now id))) }
 {
-    let mut visits = Visits::from(alloc, id)?;
+    let mut visits = Visits::from(alloc, id);
     let mut variables = Vec::new(alloc);
     if !push_linear(&mut variables, &mut visits, terms, id, DEEPEST)? {
         return Ok(None);
