@@ -1,0 +1,2 @@
+-- What private functions and proofs speak of: how a number is put into polynomials. No public contract cites it.
+pub mod Changes
