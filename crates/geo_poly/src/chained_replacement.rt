@@ -20,7 +20,7 @@ ghost use Rattle.geo_poly.specs.Shared.{named};
 ghost use Rattle.geo_poly.specs.Variables.{var_cmp};
 
 use crate::chained::{multiples_chain, product_chain};
-use crate::interning::{indexed, place_near};
+use crate::interning::place_near;
 use crate::monomial_keys::MonomialKeys;
 use crate::moving::{Move, MovedMonomials, keyed, keyed_near};
 use crate::polynomials::Poly;
@@ -182,10 +182,9 @@ fn times_list_by_halves<K: MonomialKeys, L: Ledger>(
     ensures ticks { ticks.new
         ≤ ticks.old + length (pairs_of arena.old chain) * length list.now }
 {
-    let pairs = arena.to_list(alloc, &chain);
+    let left = arena.to_list_of(alloc, &chain, |key, coefficient| (MonoId(key), coefficient));
     arena.give_back(chain);
-    let left = indexed(alloc, &pairs?)?;
-    product_chain(keys, arena, vars, &left, list, ticks)
+    product_chain(keys, arena, vars, &left?, list, ticks)
 }
 
 /// Whether the list is that of the polynomial 1.
