@@ -16,7 +16,7 @@ ghost use Rattle.geo_poly.specs.Variables.{var_cmp};
 ghost use Rattle.geo_poly.specs.Inner.Keyed.{HasRoom, IsIndexUnder, IsWithinLimits, KeepsKeys};
 ghost use Rattle.geo_poly.specs.Inner.Keyed.{terms_under};
 ghost use Rattle.geo_poly.specs.Inner.Moved.{AreMoved, AreMovedLinks, AreMoves, ArePlaces, IsMoveOf, IsMovedTo};
-ghost use Rattle.geo_poly.specs.Inner.Moved.{IsPlaceOf, IsSame};
+ghost use Rattle.geo_poly.specs.Inner.Moved.{IsMovedKey, IsPlaceOf, IsSame};
 
 use crate::chained_replacement::stored_others;
 use crate::monomial_keys::MonomialKeys;
@@ -376,10 +376,68 @@ fn new_index<K: MonomialKeys>(
 {
     let words = p.monos.words();
     if id.0 < words || links.is_empty() {
+        if let Some(sum) = added_up(keys, vars, rows, p, moves, id) {
+            return Ok(Some(MonoId(sum)));
+        }
         return walked(keys, vars, rows, p, moves, id);
     }
     let entry = entry_at(links, id.0 - words);
     Ok(entry)
+}
+
+/// The key of what is left of a monomial, where the amounts of its powers are added up.
+fn added_up<K: MonomialKeys>(
+    keys: &K,
+    vars: &[Var],
+    rows: &RowTable,
+    p: &Shared,
+    moves: &[Move],
+    id: MonoId,
+) -> Option<u64>
+    requires rising { IsStrictlySortedBy var_cmp vars.now }
+    requires parts { AreParts p.now }
+    requires moves { AreMoves p.now.vars.now rows.now vars.now moves.now }
+    requires index { id.0 < count p.now.monos.now }
+    ensures { IfSome result (IsMovedKey p.now rows.now vars.now (K.keys keys.now) id) }
+{
+    let mut sum = keys.one();
+    let mut rest = id;
+    while let Some(link) = p.monos.link(rest) {
+        let amount = moved_amount(keys, vars, rows, p, moves, rest, link)?;
+        sum = sum.checked_add(amount)?;
+        rest = link.next;
+    }
+    Some(sum)
+}
+
+/// What the first power of a monomial adds to the key of what is left of the rest.
+fn moved_amount<K: MonomialKeys>(
+    keys: &K,
+    vars: &[Var],
+    rows: &RowTable,
+    p: &Shared,
+    moves: &[Move],
+    id: MonoId,
+    first: Link,
+) -> Option<u64>
+    requires rising { IsStrictlySortedBy var_cmp vars.now }
+    requires parts { AreParts p.now }
+    requires moves { AreMoves p.now.vars.now rows.now vars.now moves.now }
+    requires index { id.0 < count p.now.monos.now }
+    requires monomial { monomial_of p.now.monos.now id
+        ≡ (first.var, first.exp) ∷ monomial_of p.now.monos.now first.next }
+    ensures { IfSome result (λ amount. (next : ℕ)
+        → IsMovedKey p.now rows.now vars.now (K.keys keys.now) first.next next
+        → IsMovedKey p.now rows.now vars.now (K.keys keys.now) id (next + amount)) }
+{
+    // every store says of itself that it is one
+    let _one = p.monos.one();
+    let _ = rows;
+    match move_at(moves, first.var) {
+        Move::Replaced => Some(0),
+        Move::Kept(place) => keys.amount(place, first.exp),
+        Move::Unknown => None,
+    }
 }
 
 /// The key of what is left of a monomial, power by power.
