@@ -1,7 +1,7 @@
 //! The monomials of a polynomial under other keys, whose variables have other numbers, without the
 //! variables that are replaced.
 
-ghost use Rattle.std.specs.Prelude.{◌≡◌, ◌<◌, ◌∷◌, [], Contains, None, IfOk, IfSome, Some};
+ghost use Rattle.std.specs.Prelude.{◌≡◌, ℕ, ◌+◌, ◌<◌, ◌∷◌, [], Contains, None, IfOk, IfSome, Some};
 ghost use Rattle.std.specs.Prelude.{slice_index_or};
 ghost use Rattle.std.specs.List.Sorted.{IsStrictlySortedBy};
 ghost use Rattle.geo_poly.specs.declared.moving.Move.TheVariants.{Unknown};

@@ -1,4 +1,4 @@
-use Rattle.std.proofs.Common.{◌≡◌, sym, ◌∙◌, arith}
+use Rattle.std.proofs.Common.{◌≡◌, ◌+◌, sym, ◌∙◌, arith}
 use Rattle.geo_poly.specs.declared.moving.Move.TheVariants.{Kept, Replaced, Unknown}
 use Rattle.geo_poly.proofs.Moved.{is_left, move_is}
 use Rattle.geo_poly.proofs.MovedAmounts.{amount_moves, same_key}
@@ -26,4 +26,4 @@ returns-in-Kept g c =
     let is = move_is p.vars.now rows vars c.args.moves.now first.var (Kept c.in-Kept.place) c.requires.moves (sym c.move_at.ensures ∙ c.in-Kept.is)
     (λ e. let false : Kept c.in-Kept.place ≡ Unknown = e in cc) in
     amount_moves p rows vars keys c.args.id first.next first.var first.exp c.requires.monomial c.requires.index is.0 c.in-Kept.place is.1
-    c.requires.rising c.requires.parts.rising c.one.ensures.valid c.amount.result c.amount.ensures
+    c.requires.rising c.requires.parts.rising c.one-one.ensures.valid c.amount.result c.amount.ensures
