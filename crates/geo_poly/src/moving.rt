@@ -227,6 +227,36 @@ pub(crate) fn index_in<K: MonomialKeys>(
         ≡ others rows.now (told_powers p.now id)) }
     ensures kept { KeepsKeys (K.keys keys.old) (K.keys keys.new) }
 {
+    if id.0 < p.monos.words() || table.links.is_empty() {
+        if let Some(key) = added_up(keys, vars, rows, p, &table.moves, id) {
+            return Ok(MonoId(key));
+        }
+    }
+    read_index(alloc, keys, vars, rows, p, table, id)
+}
+
+/// The same where the amounts of the powers of a word are not added up.
+fn read_index<K: MonomialKeys>(
+    alloc: Global,
+    keys: &mut K,
+    vars: &[Var],
+    rows: &RowTable,
+    p: &Shared,
+    table: &MovedMonomials,
+    id: MonoId,
+) -> Result<MonoId, NoMemory>
+    requires rising { IsStrictlySortedBy var_cmp vars.now }
+    requires index { IsIndexOf p.now id }
+    requires monomial { IsMonomial (told_powers p.now id) }
+    requires known { AllKeys (Contains vars.now) (told_powers p.now id) }
+    requires table { AreMoved p.now rows.now vars.now (K.keys keys.old) table.now }
+    requires reach { HasRoom vars.now (K.keys keys.old)
+        (others rows.now (told_powers p.now id)) }
+    ensures index { IfOk result (IsIndexUnder vars.now (K.keys keys.new)) }
+    ensures powers { IfOk result (λ new. named vars.now ((K.keys keys.new).powers new.0)
+        ≡ others rows.now (told_powers p.now id)) }
+    ensures kept { KeepsKeys (K.keys keys.old) (K.keys keys.new) }
+{
     let found = new_index(keys, vars, rows, p, &table.moves, &table.links, id)?;
     if let Some(new) = found {
         return Ok(new);
@@ -376,9 +406,6 @@ fn new_index<K: MonomialKeys>(
 {
     let words = p.monos.words();
     if id.0 < words || links.is_empty() {
-        if let Some(sum) = added_up(keys, vars, rows, p, moves, id) {
-            return Ok(Some(MonoId(sum)));
-        }
         return walked(keys, vars, rows, p, moves, id);
     }
     let entry = entry_at(links, id.0 - words);
