@@ -37,7 +37,7 @@ const FEW_TERMS: usize = 8;
 const FEW_LINKS: u64 = 64;
 
 /// A variable is looked for at so many places before all are searched.
-const NEAR: usize = 4;
+const NEAR: usize = 8;
 
 /// What becomes of a variable.
 #[derive(Clone, Copy)]
@@ -701,8 +701,9 @@ fn near_place(vars: &[Var], v: Var, place: usize) -> Option<u64>
     requires { IsStrictlySortedBy var_cmp vars.now }
     ensures { IfSome result (λ k. IsPlaceOf vars.now v (Some k)) }
 {
-    let near = place.saturating_add(NEAR).min(vars.len());
-    for i in place..near {
+    let first = place.saturating_add(1);
+    let near = first.saturating_add(NEAR).min(vars.len());
+    for i in first..near {
         if vars[i] == v {
             return Some(i as u64);
         }

@@ -25,10 +25,7 @@ impl MonomialKeys for Digits {
     }
 
     fn amount(&self, var: u64, exp: u32) -> Option<u64> {
-        if exp == 0 {
-            return None;
-        }
-        if !self.has_room(var, exp) {
+        if self.count() as u64 <= var || !self.has_room(var, exp) {
             return None;
         }
         Some(self.power(var, exp))

@@ -1,12 +1,7 @@
-use Rattle.std.proofs.Common.{ℕ, ◌+◌, ◌<◌, ◌≤◌, sym, ap, subst, ◌∙◌, arith}
-use Rattle.mono_store.specs.Words.{limit, powers_of_word, word_count}
-use Rattle.mono_store.proofs.WordPowers.{known-fits, power_before-below, power_before-powers}
+use Rattle.std.proofs.Common.{ℕ, ◌+◌, ◌<◌, sym, ap, subst, ◌∙◌}
+use Rattle.mono_store.specs.Words.{powers_of_word, word_count}
+use Rattle.mono_store.proofs.WordPowers.{power_before-below, power_before-powers}
 use Rattle.geo_poly.proofs.word_keys.DigitsMonomialKeys.amount.Goals as goal
-
-pub power-requires-clause-known : goal.power-requires-clause-known
-power-requires-clause-known c =
-    let some : 1 ≤ c.args.exp = omega (arith, c.if-exp-eq0.false) in
-    known-fits c.args.self.now c.args.var c.args.exp some (c.has_room.ensures.0 c.if-not-has_room.false)
 
 pub power-requires-clause-fits : goal.power-requires-clause-fits
 power-requires-clause-fits c = c.has_room.ensures.0 c.if-not-has_room.false
