@@ -57,6 +57,7 @@ pub mod ZeroPut
 pub mod ZeroWalks
 pub mod Entries
 pub mod Moved
+pub mod MovedAmounts
 pub mod Places
 pub mod IndexSums
 pub mod ChangedParts

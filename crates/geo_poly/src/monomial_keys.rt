@@ -7,7 +7,7 @@ ghost use Rattle.mono_store.specs.Monomials.{ComesFirst, degree_of, product};
 ghost use Rattle.poly_arena.specs.Chains.{IsLive, Merges, pairs_of};
 ghost use Rattle.poly_arena.specs.Orders.{IsFalling, SumsFit, sum_of};
 ghost use Rattle.geo_poly.specs.Keys.{Keys};
-ghost use Rattle.geo_poly.specs.Inner.Keyed.{IsInReach, KeepsKeys, key_cmp};
+ghost use Rattle.geo_poly.specs.Inner.Keyed.{IsAmount, IsInReach, KeepsKeys, key_cmp};
 
 use crate::index_order::ByMonomial;
 use geo_points::NoMemory;
@@ -40,6 +40,11 @@ pub(crate) trait MonomialKeys {
         ensures powers { IfOk result
             (λ k. (keys self.new).powers k ≡ (var, exp) ∷ (keys self.old).powers next) }
         ensures kept { KeepsKeys (keys self.old) (keys self.new) };
+
+    /// What a power adds to the key of each monomial that it comes before; none where it has no
+    /// room, or keys are not added up.
+    fn amount(&self, var: u64, exp: u32) -> Option<u64>
+        ensures { IfSome result (IsAmount (keys self.now) var exp) };
 
     /// The key of the product of two monomials. Without memory, other monomials may have been
     /// added.
@@ -98,6 +103,10 @@ impl MonomialKeys for Monos {
     fn power_before(&mut self, var: u64, exp: u32, next: u64) -> Result<u64, NoMemory> {
         let id = self.mono(var, exp, MonoId(next))?;
         Ok(id.0)
+    }
+
+    fn amount(&self, _var: u64, _exp: u32) -> Option<u64> {
+        None
     }
 
     fn times(&mut self, a: u64, b: u64) -> Result<u64, NoMemory> {

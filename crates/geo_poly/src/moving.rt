@@ -1,7 +1,7 @@
 //! The monomials of a polynomial under other keys, whose variables have other numbers, without the
 //! variables that are replaced.
 
-ghost use Rattle.std.specs.Prelude.{◌≡◌, ◌<◌, ◌∷◌, [], Contains, None, IfOk, IfSome, Some};
+ghost use Rattle.std.specs.Prelude.{◌≡◌, ℕ, ◌+◌, ◌<◌, ◌∷◌, [], Contains, None, IfOk, IfSome, Some};
 ghost use Rattle.std.specs.Prelude.{slice_index_or};
 ghost use Rattle.std.specs.List.Sorted.{IsStrictlySortedBy};
 ghost use Rattle.geo_poly.specs.declared.moving.Move.TheVariants.{Unknown};
@@ -16,7 +16,7 @@ ghost use Rattle.geo_poly.specs.Variables.{var_cmp};
 ghost use Rattle.geo_poly.specs.Inner.Keyed.{HasRoom, IsIndexUnder, IsWithinLimits, KeepsKeys};
 ghost use Rattle.geo_poly.specs.Inner.Keyed.{terms_under};
 ghost use Rattle.geo_poly.specs.Inner.Moved.{AreMoved, AreMovedLinks, AreMoves, ArePlaces, IsMoveOf, IsMovedTo};
-ghost use Rattle.geo_poly.specs.Inner.Moved.{IsPlaceOf, IsSame};
+ghost use Rattle.geo_poly.specs.Inner.Moved.{IsMovedKey, IsPlaceOf, IsSame};
 
 use crate::chained_replacement::stored_others;
 use crate::monomial_keys::MonomialKeys;
@@ -37,7 +37,7 @@ const FEW_TERMS: usize = 8;
 const FEW_LINKS: u64 = 64;
 
 /// A variable is looked for at so many places before all are searched.
-const NEAR: usize = 4;
+const NEAR: usize = 8;
 
 /// What becomes of a variable.
 #[derive(Clone, Copy)]
@@ -227,6 +227,36 @@ pub(crate) fn index_in<K: MonomialKeys>(
         ≡ others rows.now (told_powers p.now id)) }
     ensures kept { KeepsKeys (K.keys keys.old) (K.keys keys.new) }
 {
+    if id.0 < p.monos.words() || table.links.is_empty() {
+        if let Some(key) = added_up(keys, vars, rows, p, &table.moves, id) {
+            return Ok(MonoId(key));
+        }
+    }
+    read_index(alloc, keys, vars, rows, p, table, id)
+}
+
+/// The same where the amounts of the powers of a word are not added up.
+fn read_index<K: MonomialKeys>(
+    alloc: Global,
+    keys: &mut K,
+    vars: &[Var],
+    rows: &RowTable,
+    p: &Shared,
+    table: &MovedMonomials,
+    id: MonoId,
+) -> Result<MonoId, NoMemory>
+    requires rising { IsStrictlySortedBy var_cmp vars.now }
+    requires index { IsIndexOf p.now id }
+    requires monomial { IsMonomial (told_powers p.now id) }
+    requires known { AllKeys (Contains vars.now) (told_powers p.now id) }
+    requires table { AreMoved p.now rows.now vars.now (K.keys keys.old) table.now }
+    requires reach { HasRoom vars.now (K.keys keys.old)
+        (others rows.now (told_powers p.now id)) }
+    ensures index { IfOk result (IsIndexUnder vars.now (K.keys keys.new)) }
+    ensures powers { IfOk result (λ new. named vars.now ((K.keys keys.new).powers new.0)
+        ≡ others rows.now (told_powers p.now id)) }
+    ensures kept { KeepsKeys (K.keys keys.old) (K.keys keys.new) }
+{
     let found = new_index(keys, vars, rows, p, &table.moves, &table.links, id)?;
     if let Some(new) = found {
         return Ok(new);
@@ -380,6 +410,61 @@ fn new_index<K: MonomialKeys>(
     }
     let entry = entry_at(links, id.0 - words);
     Ok(entry)
+}
+
+/// The key of what is left of a monomial, where the amounts of its powers are added up.
+fn added_up<K: MonomialKeys>(
+    keys: &K,
+    vars: &[Var],
+    rows: &RowTable,
+    p: &Shared,
+    moves: &[Move],
+    id: MonoId,
+) -> Option<u64>
+    requires rising { IsStrictlySortedBy var_cmp vars.now }
+    requires parts { AreParts p.now }
+    requires moves { AreMoves p.now.vars.now rows.now vars.now moves.now }
+    requires index { id.0 < count p.now.monos.now }
+    ensures { IfSome result (IsMovedKey p.now rows.now vars.now (K.keys keys.now) id) }
+{
+    let mut sum = keys.one();
+    let mut rest = id;
+    while let Some(link) = p.monos.link(rest) {
+        let amount = moved_amount(keys, vars, rows, p, moves, rest, link)?;
+        sum = sum.checked_add(amount)?;
+        rest = link.next;
+    }
+    Some(sum)
+}
+
+/// What the first power of a monomial adds to the key of what is left of the rest.
+fn moved_amount<K: MonomialKeys>(
+    keys: &K,
+    vars: &[Var],
+    rows: &RowTable,
+    p: &Shared,
+    moves: &[Move],
+    id: MonoId,
+    first: Link,
+) -> Option<u64>
+    requires rising { IsStrictlySortedBy var_cmp vars.now }
+    requires parts { AreParts p.now }
+    requires moves { AreMoves p.now.vars.now rows.now vars.now moves.now }
+    requires index { id.0 < count p.now.monos.now }
+    requires monomial { monomial_of p.now.monos.now id
+        ≡ (first.var, first.exp) ∷ monomial_of p.now.monos.now first.next }
+    ensures { IfSome result (λ amount. (next : ℕ)
+        → IsMovedKey p.now rows.now vars.now (K.keys keys.now) first.next next
+        → IsMovedKey p.now rows.now vars.now (K.keys keys.now) id (next + amount)) }
+{
+    // every store says of itself that it is one
+    let _one = p.monos.one();
+    let _ = rows;
+    match move_at(moves, first.var) {
+        Move::Replaced => Some(0),
+        Move::Kept(place) => keys.amount(place, first.exp),
+        Move::Unknown => None,
+    }
 }
 
 /// The key of what is left of a monomial, power by power.
@@ -616,8 +701,9 @@ fn near_place(vars: &[Var], v: Var, place: usize) -> Option<u64>
     requires { IsStrictlySortedBy var_cmp vars.now }
     ensures { IfSome result (λ k. IsPlaceOf vars.now v (Some k)) }
 {
-    let near = place.saturating_add(NEAR).min(vars.len());
-    for i in place..near {
+    let first = place.saturating_add(1);
+    let near = first.saturating_add(NEAR).min(vars.len());
+    for i in first..near {
         if vars[i] == v {
             return Some(i as u64);
         }

@@ -24,6 +24,13 @@ impl MonomialKeys for Digits {
         Ok(next + self.power(var, exp))
     }
 
+    fn amount(&self, var: u64, exp: u32) -> Option<u64> {
+        if self.count() as u64 <= var || !self.has_room(var, exp) {
+            return None;
+        }
+        Some(self.power(var, exp))
+    }
+
     fn times(&mut self, a: u64, b: u64) -> Result<u64, NoMemory> {
         let _count = self.count();
         Ok(a + b)

@@ -2,7 +2,7 @@
 use Rattle.std.specs.Prelude.{◌≡◌, ℕ, ◌+◌, ◌<◌, ◌≤◌, max, IfSome, ℤ, List, [], ◌∷◌, length, map}
 use Rattle.std.specs.declared.cmp.Ordering.{Ordering}
 use Rattle.mono_store.specs.declared.links.MonoId.{MonoId}
-use Rattle.mono_store.specs.Monomials.{Powers as NumberedPowers, exponent as numbered_exponent, monomial_cmp}
+use Rattle.mono_store.specs.Monomials.{ComesFirst, Powers as NumberedPowers, exponent as numbered_exponent, monomial_cmp}
 use Rattle.geo_poly.specs.declared.replacement.Piece.{Piece}
 use Rattle.geo_poly.specs.declared.replacement.Row.{Row}
 use Rattle.geo_poly.specs.declared.variables.Var.{Var}
@@ -34,6 +34,12 @@ greatest_exponent v (t ∷ ts) = max (exponent v t.0) (greatest_exponent v ts)
 abbrev pub AreInReach : List Var → Keys → Summands → Summands → Type 0
 AreInReach vars keys p q =
     IfSome keys.limits (λ limit. (i : ℕ) → i < length vars → greatest_exponent (var_at vars i) p + greatest_exponent (var_at vars i) q ≤ limit i)
+
+-- so much more is the key of the monomial that has the power before those of a key
+abbrev pub IsAmount : Keys → ℕ → ℕ → ℕ → Type 0
+IsAmount keys var exp amount =
+    (next : ℕ) → next < keys.count → 1 ≤ exp → ComesFirst var (keys.powers next)
+    → (next + amount < keys.count) × (keys.powers (next + amount) ≡ (var, exp) ∷ keys.powers next)
 
 -- no exponent of the monomial is above its limit
 abbrev pub HasRoom : List Var → Keys → Powers → Type 0

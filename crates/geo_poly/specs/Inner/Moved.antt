@@ -40,6 +40,10 @@ pub record IsSame (p : Shared) (rows : List Row) (vars : List Var) (keys : Keys)
   pub new_index : IsIndexUnder vars keys new
   pub powers : named vars (keys.powers new.0) ≡ others rows (told_powers p id)
 
+-- the number is the key of what is left of the monomial
+abbrev pub IsMovedKey : Shared → List Row → List Var → Keys → MonoId → ℕ → Type 0
+IsMovedKey p rows vars keys id key = IsSame p rows vars keys id (record { 0 = key })
+
 -- the key of what is left of the monomial; where it is none, nothing is said
 abbrev pub IsMovedTo : Shared → List Row → List Var → Keys → MonoId → Option MonoId → Type 0
 IsMovedTo p rows vars keys id (Some new) = IsSame p rows vars keys id new

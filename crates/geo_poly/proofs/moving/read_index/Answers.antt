@@ -1,6 +1,6 @@
 use Rattle.std.proofs.Common.{subst}
 use Rattle.geo_poly.specs.Inner.Moved.{IsMovedTo}
-use Rattle.geo_poly.proofs.moving.index_in.Goals as goal
+use Rattle.geo_poly.proofs.moving.read_index.Goals as goal
 
 pub returns-in-Some-clause-index : goal.returns-in-Some-clause-index
 returns-in-Some-clause-index g c =
