@@ -19,14 +19,29 @@ fn common_factors(left: &[usize], right: &[usize], most: usize) -> usize
     i
 }
 
+/// How many of these factors the last term has at a place and behind it. Where the terms are in order,
+/// all others have as many.
+fn shared_with_last(first: &[usize], pending: &[Pending], depth: usize) -> usize
+    ensures { depth + result < 2 ^ 64 }
+{
+    let most = first.len().min(usize::MAX - depth);
+    match pending.last() {
+        Some(term) => common_factors(first, term.factors_from(depth), most),
+        None => most,
+    }
+}
+
 /// How many of these factors all the terms have at a place and behind it.
 pub(crate) fn shared_factors(first: &[usize], pending: &[Pending], depth: usize) -> usize
     ensures bound { depth + result < 2 ^ 64 }
     ensures shared { All (λ e. take result (drop depth e.factors.now) ≡ take result first.now)
         pending.now }
 {
-    let mut shared = first.len().min(usize::MAX - depth);
+    let mut shared = shared_with_last(first, pending, depth);
     for term in pending {
+        if shared == 0 {
+            return 0;
+        }
         shared = common_factors(first, term.factors_from(depth), shared);
     }
     shared

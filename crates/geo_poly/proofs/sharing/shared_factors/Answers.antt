@@ -15,7 +15,7 @@ fewer first depth s r es le h =
     (λ e same. sym (take-take r s (drop depth e.factors.now) le) ∙ ap (take r) same ∙ take-take r s first le) es h
 
 pub loop-term-init : goal.loop-term-init
-loop-term-init c = record { bound = omega (arith, c.min-shared.ensures); shared = All-nil _ }
+loop-term-init c = record { bound = c.shared_with_last-shared.ensures; shared = All-nil _ }
 
 pub loop-term-preserved : goal.loop-term-preserved
 loop-term-preserved c =
