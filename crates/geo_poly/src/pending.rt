@@ -154,6 +154,9 @@ fn push_factors(
     Ok(factors.len() - before)
 }
 
+/// Most terms have no more factors.
+const MOSTLY_FACTORS: usize = 4;
+
 /// A term that does not become zero, and how many factors it is to get.
 #[derive(Clone, Copy)]
 pub(crate) struct Listed {
@@ -197,7 +200,7 @@ pub(crate) fn listed_terms(
 {
     let roles = roles_of(alloc, setting.rows, p.vars, setting.vars)?;
     let mut numerators = Vec::new(alloc);
-    let mut factors = Vec::new(alloc);
+    let mut factors = Vec::with_capacity(alloc, p.list.len().saturating_mul(MOSTLY_FACTORS))?;
     let mut terms = Vec::with_capacity(alloc, p.list.len())?;
     let mut most = 0;
     for term in p.list {
@@ -222,16 +225,19 @@ pub(crate) fn listed_terms(
     })
 }
 
-/// The first factors, so many, as one number, each in so many of its bits: of two lists that differ in
-/// them, the one that comes first has the lower number.
-fn rank_of(factors: &[usize], ranked: usize, width: u32) -> u64 {
+/// The first factors as one number, each in so many of its bits: of two lists that differ in them, the
+/// one that comes first has the lower number.
+fn rank_of(factors: &[usize], width: u32) -> u64 {
     let mut rank = 0u64;
     let mut place = u64::BITS;
-    for factor in front_of(factors, ranked) {
-        rank = rank.wrapping_shl(width) | (*factor as u64).wrapping_add(1);
-        place = place.wrapping_sub(width);
+    for factor in factors {
+        if place < width {
+            return rank;
+        }
+        place -= width;
+        rank |= (*factor as u64).wrapping_add(1).wrapping_shl(place);
     }
-    rank.wrapping_shl(place)
+    rank
 }
 
 /// The terms, each with those of the factors that are its own.
@@ -239,7 +245,6 @@ fn with_factors<'a>(
     alloc: Global,
     terms: &[Listed],
     factors: &'a [usize],
-    ranked: usize,
     width: u32,
 ) -> Result<Vec<Pending<'a>>, NoMemory>
     ensures { IfOk result (λ es. map numbered_of es.items ≡ numbered_terms factors.now terms.now) }
@@ -251,7 +256,7 @@ fn with_factors<'a>(
         pending.push(Pending {
             factors: own,
             id: term.id,
-            rank: rank_of(own, ranked, width),
+            rank: rank_of(own, width),
             coefficient: term.coefficient,
         })?;
         left = behind(left, term.count);
@@ -300,7 +305,7 @@ pub(crate) fn sorted_pending<'a>(
 {
     let width = width_of(rows);
     let ranked = (u64::BITS / width) as usize;
-    let mut pending = with_factors(alloc, &listing.terms, &listing.factors, ranked, width)?;
+    let mut pending = with_factors(alloc, &listing.terms, &listing.factors, width)?;
     put_in_order(&mut pending, ranked, listing.most)?;
     Ok(pending)
 }

@@ -1,6 +1,6 @@
 //! What terms that are to be replaced share of their factors, and where to split them.
 
-ghost use Rattle.std.specs.Prelude.{◌≡◌, ◌+◌, ◌^◌, ◌<◌, ◌≤◌, All, drop, length, take};
+ghost use Rattle.std.specs.Prelude.{◌≡◌, ◌+◌, ◌^◌, ◌<◌, ◌≤◌, All, IsTrue, drop, length, take};
 
 use crate::pending::Pending;
 
@@ -19,10 +19,28 @@ fn common_factors(left: &[usize], right: &[usize], most: usize) -> usize
     i
 }
 
+/// Whether the factors at a place and behind it begin with the first of others, so many.
+fn begin_with(factors: &[usize], depth: usize, first: &[usize], count: usize) -> bool
+    requires within { count ≤ length first.now }
+    requires bound { depth + count < 2 ^ 64 }
+    ensures { IsTrue result → take count (drop depth factors.now) ≡ take count first.now }
+{
+    if factors.len() < depth + count {
+        return false;
+    }
+    for i in 0..count {
+        if factors[depth + i] != first[i] {
+            return false;
+        }
+    }
+    true
+}
+
 /// How many of these factors the last term has at a place and behind it. Where the terms are in order,
 /// all others have as many.
 fn shared_with_last(first: &[usize], pending: &[Pending], depth: usize) -> usize
-    ensures { depth + result < 2 ^ 64 }
+    ensures within { result ≤ length first.now }
+    ensures bound { depth + result < 2 ^ 64 }
 {
     let most = first.len().min(usize::MAX - depth);
     match pending.last() {
@@ -42,7 +60,9 @@ pub(crate) fn shared_factors(first: &[usize], pending: &[Pending], depth: usize)
         if shared == 0 {
             return 0;
         }
-        shared = common_factors(first, term.factors_from(depth), shared);
+        if !begin_with(term.factors, depth, first, shared) {
+            shared = common_factors(first, term.factors_from(depth), shared);
+        }
     }
     shared
 }
