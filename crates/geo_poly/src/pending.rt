@@ -28,9 +28,9 @@ use std::cmp::Ordering;
 pub(crate) struct Pending<'a> {
     pub(crate) factors: &'a [usize],
     pub(crate) id: MonoId,
-    pub(crate) coefficient: i128,
     /// The first of the factors as one number, so that terms are put in order by it.
     rank: u64,
+    pub(crate) coefficient: i128,
 }
 
 impl<'a> Pending<'a> {
@@ -154,18 +154,23 @@ fn push_factors(
     Ok(factors.len() - before)
 }
 
+/// Most terms have no more factors.
+const MOSTLY_FACTORS: usize = 4;
+
 /// A term that does not become zero, and how many factors it is to get.
 #[derive(Clone, Copy)]
 pub(crate) struct Listed {
     pub(crate) id: MonoId,
-    pub(crate) coefficient: i128,
     pub(crate) count: usize,
+    pub(crate) coefficient: i128,
 }
 
 /// Terms with their factors, which all stand in one list, term by term.
 pub(crate) struct Listing {
     pub(crate) terms: Vec<Listed>,
     pub(crate) factors: Vec<usize>,
+    /// No term has more factors.
+    most: usize,
 }
 
 /// By hand, so that a caller's proof sees one call where it is let go.
@@ -174,6 +179,7 @@ impl Drop for Listing {
         let Listing {
             terms: _,
             factors: _,
+            most: _,
         } = self;
     }
 }
@@ -194,8 +200,9 @@ pub(crate) fn listed_terms(
 {
     let roles = roles_of(alloc, setting.rows, p.vars, setting.vars)?;
     let mut numerators = Vec::new(alloc);
-    let mut factors = Vec::new(alloc);
+    let mut factors = Vec::with_capacity(alloc, p.list.len().saturating_mul(MOSTLY_FACTORS))?;
     let mut terms = Vec::with_capacity(alloc, p.list.len())?;
+    let mut most = 0;
     for term in p.list {
         let found = read_factors(setting, p, term.0, &roles, &mut numerators)?;
         match found {
@@ -203,14 +210,19 @@ pub(crate) fn listed_terms(
                 let count = push_factors(&mut factors, &numerators, lacking)?;
                 terms.push(Listed {
                     id: term.0,
-                    coefficient: term.1,
                     count,
+                    coefficient: term.1,
                 })?;
+                most = count.max(most);
             }
             None => {}
         }
     }
-    Ok(Listing { terms, factors })
+    Ok(Listing {
+        terms,
+        factors,
+        most,
+    })
 }
 
 /// The first factors as one number, each in so many of its bits: of two lists that differ in them, the
@@ -244,8 +256,8 @@ fn with_factors<'a>(
         pending.push(Pending {
             factors: own,
             id: term.id,
-            coefficient: term.coefficient,
             rank: rank_of(own, width),
+            coefficient: term.coefficient,
         })?;
         left = behind(left, term.count);
     }
@@ -268,6 +280,19 @@ fn by_factors(a: &Pending, b: &Pending, ranked: usize) -> Ordering {
     a.factors_from(ranked).cmp(b.factors_from(ranked))
 }
 
+/// Puts the terms in the order of their factors. So many of them stand in the ranks, and no term has
+/// more than so many.
+fn put_in_order(pending: &mut Vec<Pending>, ranked: usize, most: usize) -> Result<(), NoMemory>
+    ensures { IsPermutation pending.old.items pending.new.items }
+{
+    if most <= ranked {
+        pending.sort_by_cached_key(|term: &Pending| term.rank)?;
+    } else {
+        pending.sort_by(|a: &Pending, b: &Pending| by_factors(a, b, ranked))?;
+    }
+    Ok(())
+}
+
 /// The terms, so that those that share their first factors stand together.
 pub(crate) fn sorted_pending<'a>(
     alloc: Global,
@@ -281,6 +306,6 @@ pub(crate) fn sorted_pending<'a>(
     let width = width_of(rows);
     let ranked = (u64::BITS / width) as usize;
     let mut pending = with_factors(alloc, &listing.terms, &listing.factors, width)?;
-    pending.sort_by(|a: &Pending, b: &Pending| by_factors(a, b, ranked))?;
+    put_in_order(&mut pending, ranked, listing.most)?;
     Ok(pending)
 }

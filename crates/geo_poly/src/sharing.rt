@@ -1,6 +1,6 @@
 //! What terms that are to be replaced share of their factors, and where to split them.
 
-ghost use Rattle.std.specs.Prelude.{◌≡◌, ◌+◌, ◌^◌, ◌<◌, ◌≤◌, All, drop, length, take};
+ghost use Rattle.std.specs.Prelude.{◌≡◌, ◌+◌, ◌^◌, ◌<◌, ◌≤◌, All, IsTrue, drop, length, take};
 
 use crate::pending::Pending;
 
@@ -19,15 +19,50 @@ fn common_factors(left: &[usize], right: &[usize], most: usize) -> usize
     i
 }
 
+/// Whether the factors at a place and behind it begin with the first of others, so many.
+fn begin_with(factors: &[usize], depth: usize, first: &[usize], count: usize) -> bool
+    requires within { count ≤ length first.now }
+    requires bound { depth + count < 2 ^ 64 }
+    ensures { IsTrue result → take count (drop depth factors.now) ≡ take count first.now }
+{
+    if factors.len() < depth + count {
+        return false;
+    }
+    for i in 0..count {
+        if factors[depth + i] != first[i] {
+            return false;
+        }
+    }
+    true
+}
+
+/// How many of these factors the last term has at a place and behind it. Where the terms are in order,
+/// all others have as many.
+fn shared_with_last(first: &[usize], pending: &[Pending], depth: usize) -> usize
+    ensures within { result ≤ length first.now }
+    ensures bound { depth + result < 2 ^ 64 }
+{
+    let most = first.len().min(usize::MAX - depth);
+    match pending.last() {
+        Some(term) => common_factors(first, term.factors_from(depth), most),
+        None => most,
+    }
+}
+
 /// How many of these factors all the terms have at a place and behind it.
 pub(crate) fn shared_factors(first: &[usize], pending: &[Pending], depth: usize) -> usize
     ensures bound { depth + result < 2 ^ 64 }
     ensures shared { All (λ e. take result (drop depth e.factors.now) ≡ take result first.now)
         pending.now }
 {
-    let mut shared = first.len().min(usize::MAX - depth);
+    let mut shared = shared_with_last(first, pending, depth);
     for term in pending {
-        shared = common_factors(first, term.factors_from(depth), shared);
+        if shared == 0 {
+            return 0;
+        }
+        if !begin_with(term.factors, depth, first, shared) {
+            shared = common_factors(first, term.factors_from(depth), shared);
+        }
     }
     shared
 }

@@ -7,6 +7,6 @@ use Rattle.geo_poly.proofs.pending.sorted_pending.Goals as goal
 pub returns : goal.returns
 returns c =
     let es = c.in_ok-pending.pending.items in
-    let sorted = c.sort_by.new.self.items in
+    let sorted = c.put_in_order.new.pending.items in
     let listed = c.in_ok-pending.ensures ∙ ap₂ numbered_terms c.deref-2.ensures.value c.deref.ensures.value in
-    subst (λ (ts : List Numbered). IsPermutation ts (map numbered_of sorted)) listed (IsPermutation-map numbered_of es sorted c.sort_by.ensures.permutation)
+    subst (λ (ts : List Numbered). IsPermutation ts (map numbered_of sorted)) listed (IsPermutation-map numbered_of es sorted c.put_in_order.ensures)

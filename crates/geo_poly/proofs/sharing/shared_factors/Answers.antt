@@ -1,4 +1,4 @@
-use Rattle.std.proofs.Common.{◌≡◌, ℕ, ◌≤◌, List, drop, take, sym, ap, subst, ◌∙◌, arith}
+use Rattle.std.proofs.Common.{◌≡◌, ℕ, ◌+◌, ◌<◌, ◌≤◌, List, drop, length, rules, take, sym, ap, subst, ◌∙◌, arith}
 use Rattle.std.specs.Prelude.{All}
 use Rattle.std.proofs.lemmas.List.{take-take, take_all}
 use Rattle.std.proofs.lemmas.List.Elements.{All-nil, All-push, All-weaker}
@@ -6,6 +6,7 @@ use Rattle.geo_poly.specs.declared.pending.Pending.{Pending}
 use Rattle.geo_poly.proofs.Told.{take_more}
 use Rattle.geo_poly.proofs.PendingItems.{pending_at, pending_at-is}
 use Rattle.geo_poly.proofs.sharing.shared_factors.Goals as goal
+use Rattle.geo_poly.proofs.sharing.shared_factors.Goals.{else-not-begin_with, then-not-begin_with}
 
 fewer : (first : List ℕ) (depth s r : ℕ) (es : List Pending) → r ≤ s
     → All (λ (e : Pending). take s (drop depth e.factors.now) ≡ take s first) es
@@ -15,23 +16,46 @@ fewer first depth s r es le h =
     (λ e same. sym (take-take r s (drop depth e.factors.now) le) ∙ ap (take r) same ∙ take-take r s first le) es h
 
 pub loop-term-init : goal.loop-term-init
-loop-term-init c = record { bound = omega (arith, c.min-shared.ensures); shared = All-nil _ }
+loop-term-init c = record { within = c.shared_with_last-shared.ensures.within; bound = c.shared_with_last-shared.ensures.bound; shared = All-nil _ }
+
+-- one term more shares the first r
+one_more : (first : List ℕ) (depth s r : ℕ) (es : List Pending) (i : ℕ) (within : i < length es) → r ≤ s
+    → take r (drop depth (pending_at es i).factors.now) ≡ take r first
+    → All (λ (e : Pending). take s (drop depth e.factors.now) ≡ take s first) (take i es)
+    → All (λ (e : Pending). take r (drop depth e.factors.now) ≡ take r first) (take (i + 1) es)
+one_more first depth s r es i within le here before =
+    let e = pending_at es i in
+    subst (λ (fs : List Pending). All (λ (e : Pending). take r (drop depth e.factors.now) ≡ take r first) fs)
+    (sym (take_more es i e within (pending_at-is es i within)))
+    (All-push (λ (e : Pending). take r (drop depth e.factors.now) ≡ take r first) (take i es) e (fewer first depth s r (take i es) le before) here)
 
 pub loop-term-preserved : goal.loop-term-preserved
 loop-term-preserved c =
     let first = c.args.first.now in
     let depth = c.args.depth in
-    let r = c.common_factors-shared.result in
+    let es = c.args.pending.now in
     let i = c.loop-term.term-index in
-    let e = pending_at c.args.pending.now i in
-    record {
-      bound = omega (arith, c.loop-term.invariant.bound, c.common_factors-shared.ensures.most);
-      shared =
-          subst (λ (es : List Pending). All (λ (e : Pending). take r (drop depth e.factors.now) ≡ take r first) es) (sym (take_more c.args.pending.now i e c.loop-term-test.true (pending_at-is c.args.pending.now i c.loop-term-test.true)))
-          (All-push (λ (e : Pending). take r (drop depth e.factors.now) ≡ take r first) (take i c.args.pending.now) e
-          (fewer first depth c.loop-term.shared r (take i c.args.pending.now) c.common_factors-shared.ensures.most c.loop-term.invariant.shared)
-          (ap (take r) (sym c.factors_from.ensures) ∙ c.common_factors-shared.ensures.common));
-    }
+    let s = c.loop-term.shared in
+    let before = c.loop-term.invariant in
+    elim c.if-not-begin_with.branch [
+      | then-not-begin_with w ↦
+          let r = w.common_factors-shared.result in
+          let most = w.common_factors-shared.ensures.most in
+          let here = ap (take r) (sym w.factors_from.ensures) ∙ w.common_factors-shared.ensures.common in
+          rw w.shared-is
+          (record {
+            within = omega (arith, before.within, most);
+            bound = omega (arith, before.bound, most);
+            shared = one_more first depth s r es i c.loop-term-test.true most here before.shared;
+          })
+      | else-not-begin_with w ↦
+          rw w.shared-is
+          (record {
+            within = before.within;
+            bound = before.bound;
+            shared = one_more first depth s s es i c.loop-term-test.true (omega arith) (search rules) before.shared;
+          })
+    ]
 
 pub returns-clause-shared : goal.returns-clause-shared
 returns-clause-shared c =
