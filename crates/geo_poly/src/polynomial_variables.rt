@@ -214,7 +214,7 @@ pub(crate) fn marked_variables(
     requires { length known.now ≡ length vars.now }
     ensures { IfOk result (λ found. found.items ≡ marked vars.now known.now) }
 {
-    let mut found = Vec::new(alloc);
+    let mut found = Vec::with_capacity(alloc, vars.len())?;
     for i in 0..vars.len() {
         if known[i] {
             found.push(vars[i])?;
