@@ -2,7 +2,7 @@ use Rattle.std.proofs.Common.{List, ℕ, sym, subst, arith, ◌∙◌}
 use Rattle.geo_poly.specs.Inner.Limits.{AreGreatest}
 use Rattle.geo_poly.specs.Shared.{told}
 use Rattle.geo_poly.proofs.DigitLimits.{AreGreatest-limits}
-use Rattle.geo_poly.proofs.exponent_limits.numbered_bounds.Goals as goal
+use Rattle.geo_poly.proofs.exponent_limits.set_bounds.Goals as goal
 
 pub returns-clause-greatest : goal.returns-clause-greatest
 returns-clause-greatest c =
