@@ -49,38 +49,32 @@ pub(crate) fn variables_at(alloc: Global, p: &Shared) -> Result<Vars, NoMemory>
     requires { AreParts p.now }
     ensures { IfOk result (λ vs. vs ≡ variables_of (told p.now)) }
 {
-    let known = known_numbers(alloc, p)?;
+    if p.monos.links() == 0 {
+        return variables_of_words(alloc, p);
+    }
+    let known = numbers_of_links(alloc, p)?;
     let items = marked_variables(alloc, p.vars, known.as_slice())?;
     Ok(Vars { items })
 }
 
-/// Marks the numbers of the variables that occur.
-fn known_numbers(alloc: Global, p: &Shared) -> Result<Vec<bool>, NoMemory>
-    requires { AreParts p.now }
-    ensures { IfOk result (λ known. AreNumbersOf p.now known.items) }
-{
-    if p.monos.links() == 0 {
-        return numbers_of_words(alloc, p);
-    }
-    numbers_of_links(alloc, p)
-}
-
-/// Marks the numbers of the variables that occur, where the monomials are words: of each variable
-/// the terms are looked at up to the first one that has it.
-fn numbers_of_words(alloc: Global, p: &Shared) -> Result<Vec<bool>, NoMemory>
+/// The variables of the monomials, where these are words: of each variable the terms are looked at up to
+/// the first one that has it.
+fn variables_of_words(alloc: Global, p: &Shared) -> Result<Vars, NoMemory>
     requires parts { AreParts p.now }
     requires words { length p.now.monos.now.links ≡ 0 }
-    ensures { IfOk result (λ known. AreNumbersOf p.now known.items) }
+    ensures { IfOk result (λ vs. vs ≡ variables_of (told p.now)) }
 {
     let digits = p.monos.digits();
-    let mut known = Vec::with_capacity(alloc, p.vars.len())?;
+    let mut items = Vec::with_capacity(alloc, p.vars.len())?;
     let mut above = digits.words();
     for number in 0..p.vars.len() {
         let unit = unit_below(digits, number as u64, above);
-        known.push(has_digit(p.list, unit, above))?;
+        if has_digit(p.list, unit, above) {
+            items.push(p.vars[number])?;
+        }
         above = unit;
     }
-    Ok(known)
+    Ok(Vars { items })
 }
 
 /// What 1 counts in the digit of a variable, and where it has no room, what it counts in the digit
