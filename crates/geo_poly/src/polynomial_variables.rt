@@ -319,6 +319,20 @@ pub(crate) fn union(alloc: Global, left: &[Var], right: &[Var]) -> Result<Vars, 
     Ok(Vars { items })
 }
 
+/// The variables of both lists, in order and each once. The first list is mostly all of them.
+pub(crate) fn with_others(alloc: Global, known: Vars, others: &[Var]) -> Result<Vars, NoMemory>
+    requires known { IsStrictlySortedBy var_cmp known }
+    requires others { IsStrictlySortedBy var_cmp others.now }
+    ensures rising { IfOk result (IsStrictlySortedBy var_cmp) }
+    ensures known { IfOk result (λ vs. (v : Var) → Contains known v → Contains vs v) }
+    ensures others { IfOk result (λ vs. (v : Var) → Contains others.now v → Contains vs v) }
+{
+    if has_all(known.as_slice(), others) {
+        return Ok(known);
+    }
+    union(alloc, known.as_slice(), others)
+}
+
 /// Whether the first list has each variable of the second.
 pub(crate) fn has_all(list: &[Var], others: &[Var]) -> bool
     requires { IsStrictlySortedBy var_cmp list.now }
