@@ -59,7 +59,14 @@ pub(crate) fn replacement_limits(
     let own = exponent_bounds(alloc, p)?;
     add_others(&mut limits, vars, rows, &own);
     let mut numbers = Vec::new(alloc);
-    add_bounds(alloc, &mut limits, vars, &den.poly.shared(), top.max(1), &mut numbers)?;
+    add_bounds(
+        alloc,
+        &mut limits,
+        vars,
+        &den.poly.shared(),
+        top.max(1),
+        &mut numbers,
+    )?;
     add_rows(alloc, &mut limits, vars, rows.rows(), &own, &mut numbers)?;
     Ok(limits)
 }
@@ -332,7 +339,14 @@ fn add_rows(
 {
     for row in rows {
         let times = exponent_in(own, row.var);
-        add_bounds(alloc, limits, vars, &row.num.poly.shared(), times.max(1), numbers)?;
+        add_bounds(
+            alloc,
+            limits,
+            vars,
+            &row.num.poly.shared(),
+            times.max(1),
+            numbers,
+        )?;
     }
     Ok(())
 }

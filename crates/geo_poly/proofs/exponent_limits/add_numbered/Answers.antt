@@ -20,12 +20,11 @@ loop-i-preserved c = λ bound h.
     let found = c.loop-i.invariant bound h in
     let ps = found.0 in
     let v = var_at names i in
-    let e = slice_index_or numbers i 0 in
-    (
+    let e = slice_index_or numbers i 0 in (
       ps ++ (v, e) ∷ [],
       AreNamed-more names numbers i v e ps refl refl found.1,
       AreLimits-less c.args.vars.now _ _ _ (λ w. omega (arith, ap (λ (k : ℕ). k * times) (exponent-more w v e ps)))
-      (c.add_exponent-guess.ensures (λ w. bound w + exponent w ps * times) found.2),
+          (c.add_exponent-guess.ensures (λ w. bound w + exponent w ps * times) found.2),
     )
 
 pub returns : goal.returns

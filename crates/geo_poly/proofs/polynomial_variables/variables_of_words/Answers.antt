@@ -30,7 +30,7 @@ loop-number-preserved c = record {
       let v = var_at c.args.p.now.vars.now c.loop-number.number in
       let unit : c.unit_below-unit.result ≡ count_from c.args.p.now.monos.now.limits (c.loop-number.number + 1) = search rules in
       let pushed : c.if-has_digit.items.items ≡ c.loop-number.items.items
-          ++ cond c.has_digit.result (var_at c.args.p.now.vars.now c.loop-number.number ∷ []) [] =
+      ++ cond c.has_digit.result (var_at c.args.p.now.vars.now c.loop-number.number ∷ []) [] =
       elim c.if-has_digit.branch [
         | then-has_digit+in_ok-push w ↦
             let grown : c.if-has_digit.items.items ≡ c.loop-number.items.items ++ var_at c.args.p.now.vars.now c.loop-number.number ∷ [] = search rules in
@@ -38,11 +38,10 @@ loop-number-preserved c = record {
         | else-has_digit w ↦
             let same : c.if-has_digit.items.items ≡ c.loop-number.items.items = search rules in
             same ∙ sym (append-nil old) ∙ sym (ap (more v) w.if-has_digit.false)
-      ] in
-      (
+      ] in (
         before.0 ++ b ∷ [],
         AreFound-more p before.0 n c.unit_below-unit.result c.loop-number.above b old c.if-has_digit.items.items c.loop-number-test.true
-        unit c.loop-number.invariant.above c.has_digit.ensures.some c.has_digit.ensures.none pushed before.1,
+            unit c.loop-number.invariant.above c.has_digit.ensures.some c.has_digit.ensures.none pushed before.1,
       );
 }
 
