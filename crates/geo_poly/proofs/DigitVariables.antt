@@ -1,11 +1,11 @@
 -- The variables of words, told digit by digit.
 use Rattle.std.proofs.Common.{◌≡◌, ℕ, zero, suc, ◌+◌, ◌*◌, ◌/◌, ◌%◌, ◌<◌, ◌≤◌, eqb, Bool, true, false, cond, ℤ, pos, List, [], ◌∷◌, ◌++◌}
-use Rattle.std.proofs.Common.{inl, inr, drop, length, Some, slice_get, refl, sym, ap, subst, ◌∙◌, arith}
+use Rattle.std.proofs.Common.{inl, inr, drop, take, length, Some, slice_get, refl, sym, ap, subst, ◌∙◌, arith}
 use Rattle.std.specs.Prelude.{Any, Contains, slice_index_or}
 use Rattle.std.proofs.Math.Arith.{mod-mul}
 use Rattle.std.proofs.lemmas.Bool.{cases_lt, false≢true}
 use Rattle.std.proofs.lemmas.Bool.Decides.{nat_tests}
-use Rattle.std.proofs.lemmas.List.{drop_all, get_or_append_left, get_or_push}
+use Rattle.std.proofs.lemmas.List.{drop_all, get_or_append_left, get_or_push, length-append, length-take-le, take_all}
 use Rattle.std.proofs.lemmas.Nat.{mod_below}
 use Rattle.sparse_lists.specs.SparseLists.{AllKeys}
 use Rattle.sparse_lists.proofs.Merging.{get_or_any}
@@ -19,13 +19,13 @@ use Rattle.mono_store.proofs.Unfolding.{monomial_of-word}
 use Rattle.mono_store.proofs.WordOrder.{count_from-some, count_from-step}
 use Rattle.geo_poly.specs.declared.shared.Shared.{Shared}
 use Rattle.geo_poly.specs.declared.variables.Var.{Var}
-use Rattle.geo_poly.specs.Inner.Visits.{AreKnown, AreMarked, AreNumbersOf, IsMarked}
+use Rattle.geo_poly.specs.Inner.Visits.{AreKnown, AreMarked, AreNumbersOf, IsMarked, marked}
 use Rattle.geo_poly.specs.Monomials.{Powers}
 use Rattle.geo_poly.specs.PolynomialVariables.{variables_of}
 use Rattle.geo_poly.specs.Shared.{AllPlaces, AreParts, Indices, named, told, told_term, var_at}
 use Rattle.geo_poly.proofs.EachVariable.{all_variables}
-use Rattle.geo_poly.proofs.MarkedVariables.{each_item}
-use Rattle.geo_poly.proofs.Told.{index_at, item, told-is, told-within}
+use Rattle.geo_poly.proofs.MarkedVariables.{each_item, marked-last, marked_variables_of}
+use Rattle.geo_poly.proofs.Told.{index_at, item, take_more, told-is, told-within}
 
 -- ONE WORD
 
@@ -208,3 +208,38 @@ module _ (p : Shared) (parts : AreParts p) (none : length p.monos.now.links ≡ 
 
   pub words_numbers : AreNumbersOf p known
   words_numbers = record { room = room; all = words_marked; only = words_known }
+
+-- THE VARIABLES OF THE FIRST NUMBERS
+
+-- these are the variables of the first numbers in whose digits a word has something
+pub record AreFound (p : Shared) (known : List Bool) (n : ℕ) (found : List Var) : Type 0 where
+  pub room : length known ≡ n
+  pub tells : (k : ℕ) → k < n → TellsDigit p.monos.now.limits p.list.now known k
+  pub all : found ≡ marked (take n p.vars.now) known
+
+pub AreFound-none : (p : Shared) (found : List Var) → found ≡ [] → AreFound p [] 0 found
+AreFound-none p found is = record { room = refl; tells = λ k within. absurd (omega (arith, within)); all = is }
+
+-- one more number
+pub AreFound-more : (p : Shared) (known : List Bool) (n unit above : ℕ) (b : Bool) (old new : List Var) → n < length p.vars.now
+    → unit ≡ count_from p.monos.now.limits (n + 1) → above ≡ count_from p.monos.now.limits n
+    → (b ≡ true → Any (λ t. unit ≤ t.0.0 % above) p.list.now)
+    → (b ≡ false → (i : ℕ) (t : MonoId × ℤ) → slice_get p.list.now i ≡ Some t → t.0.0 % above < unit)
+    → new ≡ old ++ cond b (var_at p.vars.now n ∷ []) [] → AreFound p known n old → AreFound p (known ++ b ∷ []) (n + 1) new
+AreFound-more p known n unit above b old new within u a some none is h =
+    let vars = p.vars.now in
+    let v = var_at vars n in
+    let size : length known ≡ length (take n p.vars.now) = h.room ∙ sym (length-take-le n vars (omega (arith, within))) in
+    record {
+      room = omega (arith, length-append known (b ∷ []), h.room);
+      tells = TellsDigit-push p.monos.now.limits p.list.now known n unit above b h.room u a h.tells some none;
+      all = is ∙ ap (λ (vs : List Var). vs ++ cond b (v ∷ []) []) h.all ∙ sym (marked-last (take n vars) known v b size)
+          ∙ sym (ap (λ (vs : List Var). marked vs (known ++ b ∷ [])) (take_more vars n v within (get_or_any vars n (var_at [] 0) v within)));
+    }
+
+-- all numbers
+pub AreFound-all : (p : Shared) (known : List Bool) (n : ℕ) (found : List Var) → n ≡ length p.vars.now → AreParts p → length p.monos.now.links ≡ 0
+    → AreFound p known n found → found ≡ variables_of (told p)
+AreFound-all p known n found whole parts none h =
+    let numbers = words_numbers p parts none known (h.room ∙ whole) (λ k within. h.tells k (omega (arith, within, whole))) in
+    h.all ∙ ap (λ (vs : List Var). marked vs known) (take_all n p.vars.now (omega (arith, whole))) ∙ marked_variables_of p known parts numbers

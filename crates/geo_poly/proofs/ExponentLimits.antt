@@ -1,5 +1,5 @@
 -- Limits of exponents: what is added to them, what digits have room for them, and what they bound.
-use Rattle.std.proofs.Common.{ap₂, ◌≡◌, ◌≢◌, ℕ, zero, suc, ◌+◌, ◌-◌, ◌*◌, ◌^◌, ◌<◌, ◌≤◌, max, min, false, cond, Bool, true, inl, inr, ◌⊎◌, ℤ}
+use Rattle.std.proofs.Common.{◌≡◌, ◌≢◌, ℕ, zero, suc, ◌+◌, ◌-◌, ◌*◌, ◌^◌, ◌<◌, ◌≤◌, max, min, false, cond, Bool, true, inl, inr, ◌⊎◌, ℤ}
 use Rattle.std.proofs.Common.{List, [], ◌∷◌, ◌++◌, length}
 use Rattle.std.proofs.Common.{Option, Some, None, drop, get_or, take, refl, sym, ap, subst, ◌∙◌, arith}
 use Rattle.std.specs.Prelude.{Contains, IfSome, slice_get, slice_index_or}
@@ -110,14 +110,6 @@ module _ (vars : List Var) (rising : IsStrictlySortedBy var_cmp vars) (w : Var) 
 abbrev pub power_at : Powers → ℕ → Var × ℕ
 power_at ps i = slice_index_or ps i (var_at [] 0, 0)
 
--- the exponents of the first powers, and of one more
-pub exponent-take : (v : Var) (ps : Powers) (i : ℕ) → i < length ps
-    → exponent v (take (i + 1) ps) ≡ exponent v (take i ps) + exponent v (power_at ps i ∷ [])
-exponent-take v ps i within =
-    let p = power_at ps i in
-    ap (exponent v) (take_more ps i p within (get_or_any ps i (var_at [] 0, 0) p within))
-    ∙ amount-append var_cmp exponents var_order exponents_add v (take i ps) (p ∷ [])
-
 -- NUMBERED EXPONENTS
 
 pub AreGreatest-none : (vars : List Var) (numbers : List ℕ) → AreGreatest vars numbers []
@@ -185,6 +177,9 @@ IsRaised-all vars numbers rest m none h = record { each = λ i known. omega (ari
 -- the numbers of the first variables are among the exponents
 pub record AreNamed (vars : List Var) (numbers : List ℕ) (n : ℕ) (bounds : Powers) : Type 0 where
   pub each : (i : ℕ) → i < n → slice_index_or numbers i 0 ≤ exponent (var_at vars i) bounds
+
+pub AreNamed-none : (vars : List Var) (numbers : List ℕ) → AreNamed vars numbers 0 []
+AreNamed-none vars numbers = record { each = λ i none. omega (arith, none) }
 
 pub AreNamed-more : (vars : List Var) (numbers : List ℕ) (n : ℕ) (v : Var) (e : ℕ) (bounds : Powers) → v ≡ var_at vars n
     → e ≡ slice_index_or numbers n 0 → AreNamed vars numbers n bounds → AreNamed vars numbers (n + 1) (bounds ++ (v, e) ∷ [])
@@ -466,11 +461,15 @@ pub some_weaker : {X : Type 0} (o : Option X) (P Q : X → Type 0) → ((x : X) 
 some_weaker None P Q f h = tt
 some_weaker (Some x) P Q f h = f x h
 
--- others of a list without its last power, which is kept or not
-pub others-next : (rows : List Row) (ps : Powers) (i : ℕ) (o : Option Row) (stay : Powers) → i < length ps → o ≡ row_of rows (power_at ps i).0
-    → stay ≡ others rows (take i ps) → stay ++ kept o (power_at ps i) [] ≡ others rows (take (i + 1) ps)
-others-next rows ps i o stay within found is =
-    ap₂ (λ (s : Powers) (r : Option Row). s ++ kept r (power_at ps i) []) is found ∙ sym (others-take rows ps i within)
+-- the exponents that stay of the first powers, and of one more, which is kept or not
+pub others-more : (v : Var) (rows : List Row) (ps : Powers) (i : ℕ) (o : Option Row) → i < length ps → o ≡ row_of rows (power_at ps i).0
+    → exponent v (others rows (take (i + 1) ps)) ≡ exponent v (others rows (take i ps)) + exponent v (kept o (power_at ps i) [])
+others-more v rows ps i o within found =
+    let stay = others rows (take i ps) in
+    let p = power_at ps i in
+    ap (exponent v) (others-take rows ps i within)
+    ∙ amount-append var_cmp exponents var_order exponents_add v stay (kept (row_of rows p.0) p [])
+    ∙ ap (λ (r : Option Row). exponent v stay + exponent v (kept r p [])) (sym found)
 
 -- the exponents from a place on, by the power there
 exponent-drop : (v : Var) (ps : Powers) (i : ℕ) (p : Var × ℕ) → i < length ps

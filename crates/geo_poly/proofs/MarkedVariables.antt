@@ -1,5 +1,5 @@
 -- A walk over a monomial that marks the numbers of its variables, and the variables that are marked at the end.
-use Rattle.std.proofs.Common.{◌≡◌, ℕ, zero, suc, ◌+◌, ◌-◌, ◌<◌, ◌≤◌, Bool, true, false, List, [], ◌∷◌, ◌++◌, inl, inr, length, drop}
+use Rattle.std.proofs.Common.{◌≡◌, ℕ, zero, suc, ◌+◌, ◌-◌, ◌<◌, ◌≤◌, Bool, true, false, cond, List, [], ◌∷◌, ◌++◌, inl, inr, length, drop}
 use Rattle.std.proofs.Common.{refl, sym, ap, ap₂, subst, ◌∙◌, append_assoc, arith}
 use Rattle.std.specs.Prelude.{◌≢◌, ◌⊎◌, Contains, slice_index_or}
 use Rattle.std.specs.List.Sorted.{IsStrictlySortedBy}
@@ -213,6 +213,15 @@ marked_variables_of p known parts numbers =
     (λ v c. let there = only_marked vars known v c in subst (Contains occur) there.2 (numbers.only there.0 there.1))
     (λ v c. each-contained (Contains (marked vars known)) (variables_of (told p)) v
     (each-variables (Contains (marked vars known)) (told p) (marked_terms vars p.monos.now known p.list.now parts.indices numbers.all)) c)
+
+-- one more variable, which is marked or not
+pub marked-last : (vars : List Var) (known : List Bool) (v : Var) (b : Bool) → length known ≡ length vars
+    → marked (vars ++ v ∷ []) (known ++ b ∷ []) ≡ marked vars known ++ cond b (v ∷ []) []
+marked-last [] [] v b room = refl
+marked-last [] (c ∷ known) v b room = absurd (omega (arith, room))
+marked-last (u ∷ vars) [] v b room = absurd (omega (arith, room))
+marked-last (u ∷ vars) (true ∷ known) v b room = ap (λ (vs : List Var). u ∷ vs) (marked-last vars known v b (omega (arith, room)))
+marked-last (u ∷ vars) (false ∷ known) v b room = marked-last vars known v b (omega (arith, room))
 
 -- the marked variables that are left
 module _ (vars : List Var) (known : List Bool) (i : ℕ) (within : i < length vars) (room : length known ≡ length vars) (found whole : List Var)

@@ -57,10 +57,17 @@ pub(crate) fn replacement_limits(
 {
     let mut limits = no_limits(alloc, vars)?;
     let own = exponent_bounds(alloc, p)?;
-    let stay = without_rows(alloc, rows, &own)?;
-    add_exponents(&mut limits, vars, &stay, 1);
-    add_bounds(alloc, &mut limits, vars, &den.poly.shared(), top.max(1))?;
-    add_rows(alloc, &mut limits, vars, rows.rows(), &own)?;
+    add_others(&mut limits, vars, rows, &own);
+    let mut numbers = Vec::new(alloc);
+    add_bounds(
+        alloc,
+        &mut limits,
+        vars,
+        &den.poly.shared(),
+        top.max(1),
+        &mut numbers,
+    )?;
+    add_rows(alloc, &mut limits, vars, rows.rows(), &own, &mut numbers)?;
     Ok(limits)
 }
 
@@ -103,15 +110,6 @@ pub(crate) fn no_limits(alloc: Global, vars: &[Var]) -> Result<Vec<u32>, NoMemor
     Ok(limits)
 }
 
-/// The greatest exponents of a polynomial, each with its variable.
-fn greatest_exponents(alloc: Global, p: &Shared) -> Result<Vec<(Var, u32)>, NoMemory>
-    requires { AreParts p.now }
-    ensures { IfOk result (λ bounds. AreBounds (told p.now) bounds.items) }
-{
-    let numbered = numbered_exponents(alloc, p)?;
-    with_names(alloc, p, &numbered)
-}
-
 /// Bounds of the exponents of a polynomial, each with its variable.
 fn exponent_bounds(alloc: Global, p: &Shared) -> Result<Vec<(Var, u32)>, NoMemory>
     requires { AreParts p.now }
@@ -135,19 +133,31 @@ fn with_names(alloc: Global, p: &Shared, numbered: &[u32]) -> Result<Vec<(Var, u
     Ok(bounds)
 }
 
-/// Bounds of the exponents of a polynomial, by the numbers of the variables: the limits of its words, where there
-/// are no links, so that no term is looked at.
+/// Bounds of the exponents of a polynomial, by the numbers of the variables.
 fn numbered_bounds(alloc: Global, p: &Shared) -> Result<Vec<u32>, NoMemory>
     requires { AreParts p.now }
     ensures whole { IfOk result (λ numbers. length numbers.items ≡ length p.now.vars.now) }
     ensures greatest { IfOk result
         (λ numbers. AreGreatest p.now.vars.now numbers.items (told p.now)) }
 {
+    let mut numbers = Vec::new(alloc);
+    set_bounds(alloc, &mut numbers, p)?;
+    Ok(numbers)
+}
+
+/// Makes the numbers bounds of the exponents of a polynomial: the limits of its words, where there are no links, so
+/// that no term is looked at.
+fn set_bounds(alloc: Global, numbers: &mut Vec<u32>, p: &Shared) -> Result<(), NoMemory>
+    requires { AreParts p.now }
+    ensures whole { OnOk result (length numbers.new.items ≡ length p.now.vars.now) }
+    ensures greatest { OnOk result (AreGreatest p.now.vars.now numbers.new.items (told p.now)) }
+{
     let digits = p.monos.digits();
     if p.monos.links() > 0 || digits.count() != p.vars.len() {
-        return numbered_exponents(alloc, p);
+        return set_exponents(numbers, p);
     }
-    Ok(digits.limits(alloc)?)
+    *numbers = digits.limits(alloc)?;
+    Ok(())
 }
 
 /// The greatest exponents of a polynomial, by the numbers of the variables.
@@ -157,11 +167,23 @@ pub(crate) fn numbered_exponents(alloc: Global, p: &Shared) -> Result<Vec<u32>, 
     ensures greatest { IfOk result
         (λ numbers. AreGreatest p.now.vars.now numbers.items (told p.now)) }
 {
-    let mut greatest = no_limits(alloc, p.vars)?;
+    let mut numbers = Vec::new(alloc);
+    set_exponents(&mut numbers, p)?;
+    Ok(numbers)
+}
+
+/// Makes the numbers the greatest exponents of a polynomial.
+fn set_exponents(numbers: &mut Vec<u32>, p: &Shared) -> Result<(), NoMemory>
+    requires { AreParts p.now }
+    ensures whole { OnOk result (length numbers.new.items ≡ length p.now.vars.now) }
+    ensures greatest { OnOk result (AreGreatest p.now.vars.now numbers.new.items (told p.now)) }
+{
+    numbers.clear();
+    numbers.resize(p.vars.len(), 0)?;
     for (id, _) in p.list {
-        raise_by(&mut greatest, p, *id);
+        raise_by(numbers, p, *id);
     }
-    Ok(greatest)
+    Ok(())
 }
 
 /// Makes the numbers of the variables of a monomial no less than its exponents.
@@ -195,34 +217,35 @@ pub(crate) fn raise(numbers: &mut Vec<u32>, place: u64, least: u32)
     }
 }
 
-/// The exponents of the variables with no row.
-fn without_rows(
-    alloc: Global,
-    rows: &RowTable,
-    exponents: &[(Var, u32)],
-) -> Result<Vec<(Var, u32)>, NoMemory>
-    ensures { IfOk result (λ stay. stay.items ≡ others rows.now exponents.now) }
-{
-    let mut stay = Vec::with_capacity(alloc, exponents.len())?;
-    for i in 0..exponents.len() {
-        let (v, exponent) = exponents[i];
-        match rows.find_row(v, i as u64) {
-            Some(_) => {}
-            None => stay.push((v, exponent))?,
-        }
-    }
-    Ok(stay)
-}
-
-/// Adds exponents to the limits of their variables, each so many times.
-fn add_exponents(limits: &mut Vec<u32>, vars: &[Var], exponents: &[(Var, u32)], times: u32)
+/// Adds the exponents of the variables with no row to the limits.
+fn add_others(limits: &mut Vec<u32>, vars: &[Var], rows: &RowTable, exponents: &[(Var, u32)])
     requires rising { IsStrictlySortedBy var_cmp vars.now }
     ensures { (bound : Var → ℕ) → AreLimits vars.now bound limits.old.items
-        → AreLimits vars.now (λ v. bound v + exponent v exponents.now * times) limits.new.items }
+        → AreLimits vars.now (λ v. bound v + exponent v (others rows.now exponents.now) * 1) limits.new.items }
 {
     let mut guess = 0;
-    for power in exponents {
-        guess = add_exponent(limits, vars, *power, times, guess);
+    for i in 0..exponents.len() {
+        let power = exponents[i];
+        match rows.find_row(power.0, i as u64) {
+            Some(_) => {}
+            None => guess = add_exponent(limits, vars, power, 1, guess),
+        }
+    }
+}
+
+/// Adds bounds of the exponents of a polynomial, which are given by the numbers of its variables, to the limits, each
+/// so many times.
+fn add_numbered(limits: &mut Vec<u32>, vars: &[Var], p: &Shared, numbers: &[u32], times: u32)
+    requires rising { IsStrictlySortedBy var_cmp vars.now }
+    requires parts { AreParts p.now }
+    requires whole { length numbers.now ≡ length p.now.vars.now }
+    requires greatest { AreGreatest p.now.vars.now numbers.now (told p.now) }
+    ensures { (bound : Var → ℕ) → AreLimits vars.now bound limits.old.items
+        → AreLimits vars.now (λ v. bound v + greatest_exponent v (told p.now) * times) limits.new.items }
+{
+    let mut guess = 0;
+    for i in 0..p.vars.len() {
+        guess = add_exponent(limits, vars, (p.vars[i], numbers[i]), times, guess);
     }
 }
 
@@ -275,26 +298,28 @@ pub(crate) fn add_polynomial(
     ensures { OnOk result ((bound : Var → ℕ) → AreLimits vars.now bound limits.old.items
         → AreLimits vars.now (λ v. bound v + greatest_exponent v (told p.now) * times) limits.new.items) }
 {
-    let bounds = greatest_exponents(alloc, p)?;
-    add_exponents(limits, vars, &bounds, times);
+    let numbers = numbered_exponents(alloc, p)?;
+    add_numbered(limits, vars, p, &numbers, times);
     Ok(())
 }
 
-/// Adds bounds of the exponents of a polynomial to the limits, each so many times.
+/// Adds bounds of the exponents of a polynomial to the limits, each so many times. The bounds stand in a list that is
+/// handed along.
 fn add_bounds(
     alloc: Global,
     limits: &mut Vec<u32>,
     vars: &[Var],
     p: &Shared,
     times: u32,
+    numbers: &mut Vec<u32>,
 ) -> Result<(), NoMemory>
     requires rising { IsStrictlySortedBy var_cmp vars.now }
     requires parts { AreParts p.now }
     ensures { OnOk result ((bound : Var → ℕ) → AreLimits vars.now bound limits.old.items
         → AreLimits vars.now (λ v. bound v + greatest_exponent v (told p.now) * times) limits.new.items) }
 {
-    let bounds = exponent_bounds(alloc, p)?;
-    add_exponents(limits, vars, &bounds, times);
+    set_bounds(alloc, numbers, p)?;
+    add_numbered(limits, vars, p, numbers.as_slice(), times);
     Ok(())
 }
 
@@ -306,6 +331,7 @@ fn add_rows(
     vars: &[Var],
     rows: &[Row],
     own: &[(Var, u32)],
+    numbers: &mut Vec<u32>,
 ) -> Result<(), NoMemory>
     requires rising { IsStrictlySortedBy var_cmp vars.now }
     ensures { OnOk result ((bound : Var → ℕ) → AreLimits vars.now bound limits.old.items
@@ -313,7 +339,14 @@ fn add_rows(
 {
     for row in rows {
         let times = exponent_in(own, row.var);
-        add_bounds(alloc, limits, vars, &row.num.poly.shared(), times.max(1))?;
+        add_bounds(
+            alloc,
+            limits,
+            vars,
+            &row.num.poly.shared(),
+            times.max(1),
+            numbers,
+        )?;
     }
     Ok(())
 }

@@ -49,38 +49,32 @@ pub(crate) fn variables_at(alloc: Global, p: &Shared) -> Result<Vars, NoMemory>
     requires { AreParts p.now }
     ensures { IfOk result (λ vs. vs ≡ variables_of (told p.now)) }
 {
-    let known = known_numbers(alloc, p)?;
+    if p.monos.links() == 0 {
+        return variables_of_words(alloc, p);
+    }
+    let known = numbers_of_links(alloc, p)?;
     let items = marked_variables(alloc, p.vars, known.as_slice())?;
     Ok(Vars { items })
 }
 
-/// Marks the numbers of the variables that occur.
-fn known_numbers(alloc: Global, p: &Shared) -> Result<Vec<bool>, NoMemory>
-    requires { AreParts p.now }
-    ensures { IfOk result (λ known. AreNumbersOf p.now known.items) }
-{
-    if p.monos.links() == 0 {
-        return numbers_of_words(alloc, p);
-    }
-    numbers_of_links(alloc, p)
-}
-
-/// Marks the numbers of the variables that occur, where the monomials are words: of each variable
-/// the terms are looked at up to the first one that has it.
-fn numbers_of_words(alloc: Global, p: &Shared) -> Result<Vec<bool>, NoMemory>
+/// The variables of the monomials, where these are words: of each variable the terms are looked at up to
+/// the first one that has it.
+fn variables_of_words(alloc: Global, p: &Shared) -> Result<Vars, NoMemory>
     requires parts { AreParts p.now }
     requires words { length p.now.monos.now.links ≡ 0 }
-    ensures { IfOk result (λ known. AreNumbersOf p.now known.items) }
+    ensures { IfOk result (λ vs. vs ≡ variables_of (told p.now)) }
 {
     let digits = p.monos.digits();
-    let mut known = Vec::with_capacity(alloc, p.vars.len())?;
+    let mut items = Vec::with_capacity(alloc, p.vars.len())?;
     let mut above = digits.words();
     for number in 0..p.vars.len() {
         let unit = unit_below(digits, number as u64, above);
-        known.push(has_digit(p.list, unit, above))?;
+        if has_digit(p.list, unit, above) {
+            items.push(p.vars[number])?;
+        }
         above = unit;
     }
-    Ok(known)
+    Ok(Vars { items })
 }
 
 /// What 1 counts in the digit of a variable, and where it has no room, what it counts in the digit
@@ -214,7 +208,7 @@ pub(crate) fn marked_variables(
     requires { length known.now ≡ length vars.now }
     ensures { IfOk result (λ found. found.items ≡ marked vars.now known.now) }
 {
-    let mut found = Vec::new(alloc);
+    let mut found = Vec::with_capacity(alloc, vars.len())?;
     for i in 0..vars.len() {
         if known[i] {
             found.push(vars[i])?;
@@ -323,6 +317,20 @@ pub(crate) fn union(alloc: Global, left: &[Var], right: &[Var]) -> Result<Vars, 
     items.extend_from_slice(&left[i..])?;
     items.extend_from_slice(&right[j..])?;
     Ok(Vars { items })
+}
+
+/// The variables of both lists, in order and each once. The first list is mostly all of them.
+pub(crate) fn with_others(alloc: Global, known: Vars, others: &[Var]) -> Result<Vars, NoMemory>
+    requires known { IsStrictlySortedBy var_cmp known }
+    requires others { IsStrictlySortedBy var_cmp others.now }
+    ensures rising { IfOk result (IsStrictlySortedBy var_cmp) }
+    ensures known { IfOk result (λ vs. (v : Var) → Contains known v → Contains vs v) }
+    ensures others { IfOk result (λ vs. (v : Var) → Contains others.now v → Contains vs v) }
+{
+    if has_all(known.as_slice(), others) {
+        return Ok(known);
+    }
+    union(alloc, known.as_slice(), others)
 }
 
 /// Whether the first list has each variable of the second.

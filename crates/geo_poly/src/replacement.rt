@@ -24,7 +24,7 @@ use crate::limits::{MAX, MAX_DEGREE, PolyError, Which};
 use crate::lists::Vars;
 use crate::monomial_keys::MonomialKeys;
 use crate::nested::nested_chain;
-use crate::polynomial_variables::union;
+use crate::polynomial_variables::{union, with_others};
 use crate::polynomials::Poly;
 use crate::replacement_bounds::{degree_of_terms, most_denominators_of, weight_of_terms};
 use crate::roomy_stores::roomy_store;
@@ -298,8 +298,8 @@ impl Poly {
         ensures rows_known { IfOk result (λ vs. AllNumerators (Contains vs) rows.now) }
         ensures den_known { IfOk result (λ vs. AllVariables (Contains vs) den.now.poly) }
     {
-        let own = union(alloc, self.vars().as_slice(), den.poly.vars().as_slice())?;
-        with_rows(alloc, &own, rows)
+        let vars = with_rows(alloc, self.vars(), rows)?;
+        with_others(alloc, vars, den.poly.vars().as_slice())
     }
 
     /// The chain of the replacement, which fits.
