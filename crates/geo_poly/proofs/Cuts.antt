@@ -31,23 +31,23 @@ All-last P (x ∷ xs) y h = All-last P xs y (All-tail P x (xs ++ y ∷ []) h)
 
 -- THE DIVISOR OF THE COEFFICIENTS
 -- one more coefficient
-pub more_divides : (p : Summands) (i : ℕ) (t : Powers × ℤ) (x a b g : ℕ) → i < length p → t ≡ get_or p i t → IsGcd a b g → a ≡ x
+pub more_divides : (p : Summands) (i : ℕ) (t : Powers × ℤ) (x a b g : ℕ) → i < length p → t ≡ get_or p i t → IsGcd b a g → a ≡ x
     → b ≡ unsigned_abs t.1 → DividesAll x (take i p) → DividesAll g (take (i + 1) p)
 more_divides p i t x a b g h at gcd a-is b-is divides =
-    let left : g ∣ x = subst (λ n. g ∣ n) a-is gcd.0 in
-    let right : g ∣ unsigned_abs t.1 = subst (λ n. g ∣ n) b-is gcd.1 in
+    let left : g ∣ x = subst (λ n. g ∣ n) a-is gcd.1 in
+    let right : g ∣ unsigned_abs t.1 = subst (λ n. g ∣ n) b-is gcd.0 in
     All-more (λ (t : Powers × ℤ). g ∣ unsigned_abs t.1) p i t h
     (All-weaker (λ (t : Powers × ℤ). x ∣ unsigned_abs t.1) (λ (t : Powers × ℤ). g ∣ unsigned_abs t.1) (λ u d. dvd_trans g left d) (take i p) divides)
     (subst (λ (u : Powers × ℤ). g ∣ unsigned_abs u.1) at right)
 
-pub more_greatest : (p : Summands) (i : ℕ) (t : Powers × ℤ) (x a b g : ℕ) → i < length p → t ≡ get_or p i t → IsGcd a b g → a ≡ x
+pub more_greatest : (p : Summands) (i : ℕ) (t : Powers × ℤ) (x a b g : ℕ) → i < length p → t ≡ get_or p i t → IsGcd b a g → a ≡ x
     → b ≡ unsigned_abs t.1 → ((d : ℕ) → DividesAll d (take i p) → d ∣ x) → (d : ℕ) → DividesAll d (take (i + 1) p) → d ∣ g
 more_greatest p i t x a b g h at gcd a-is b-is greatest d all =
     let P : Powers × ℤ → Type 0 = λ t. d ∣ unsigned_abs t.1 in
     let parts : All P (take i p ++ get_or p i t ∷ []) = subst (λ (q : Summands). DividesAll d q) (take_more p i t h) all in
     let left : d ∣ x = greatest d (All-front P (take i p) (get_or p i t ∷ []) parts) in
     let right : d ∣ unsigned_abs t.1 = subst P (sym at) (All-last P (take i p) (get_or p i t) parts) in
-    gcd.2 d (subst (λ n. d ∣ n) (sym a-is) left) (subst (λ n. d ∣ n) (sym b-is) right)
+    gcd.2 d (subst (λ n. d ∣ n) (sym b-is) right) (subst (λ n. d ∣ n) (sym a-is) left)
 
 -- THE LEAST EXPONENT
 -- one more monomial, from the last one on

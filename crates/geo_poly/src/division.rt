@@ -159,7 +159,7 @@ fn content(p: &Shared) -> i128
     let mut divisor = 0;
     let mut i = 0;
     while i < p.list.len() && divisor != 1 {
-        divisor = gcd(divisor, p.list[i].1);
+        divisor = gcd(p.list[i].1, divisor);
         i += 1;
     }
     divisor

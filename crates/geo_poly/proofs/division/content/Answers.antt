@@ -14,8 +14,8 @@ use Rattle.geo_poly.proofs.Entries.{item_fits, item_small}
 use Rattle.geo_poly.proofs.Cuts.{more_divides, more_greatest}
 use Rattle.geo_poly.proofs.division.content.Goals as goal
 
-pub gcd-divisor-requires-clause-b_in : goal.gcd-divisor-requires-clause-b_in
-gcd-divisor-requires-clause-b_in c =
+pub gcd-divisor-requires-clause-a_in : goal.gcd-divisor-requires-clause-a_in
+gcd-divisor-requires-clause-a_in c =
     let p = c.args.p.now in
     let i = c.loop-i.i in
     subst (λ (z : ℤ). unsigned_abs z < 2 ^ 127)
