@@ -1,10 +1,10 @@
 -- What a step changes, and where a chain is live in the table.
-use Rattle.std.specs.Prelude.{◌≡◌, ℕ, ◌+◌, Option, Some, None, List, slice_get, slice_set}
+use Rattle.std.specs.Prelude.{◌≡◌, ℕ, ◌+◌, Option, Some, None, List, slice_get, slice_set, [], ◌∷◌, ◌++◌, length}
 use Rattle.poly_arena.specs.declared.nodes.Node.{Node}
 use Rattle.poly_arena.specs.declared.nodes.Free.{Free}
 use Rattle.poly_arena.specs.declared.nodes.Slot.{Slot}
 use Rattle.poly_arena.specs.declared.nodes.Slot.TheVariants.{Live}
-use Rattle.poly_arena.specs.Nodes.{node_at}
+use Rattle.poly_arena.specs.Nodes.{node_at, places}
 
 -- a chain is live at that number, and begins at `first`
 abbrev pub IsLiveSlot : List Slot → ℕ → Type 0
@@ -29,3 +29,14 @@ released nodes free (Some i) = slice_set nodes i (record (node_at nodes i) { nex
 abbrev pub released_free : Free → Option ℕ → Free
 released_free free None = free
 released_free free (Some i) = record { first = Some i; count = free.count + 1 }
+
+-- the last of the list
+abbrev pub IsLast : ℕ → List ℕ → Type 0
+IsLast last is = (front : List ℕ) × (is ≡ front ++ last ∷ [])
+
+-- the chain at `first` stands before the free chain: its last node, where it has one, is linked to what was free
+abbrev pub ReleasesChain : List Node → List Node → Option ℕ → Free → Free → Type 0
+ReleasesChain old new None free new_free = (new ≡ old) × (new_free ≡ free)
+ReleasesChain old new (Some i) free new_free = (last : ℕ) × IsLast last (places old (Some i))
+    × (new ≡ slice_set old last (record (node_at old last) { next = free.first }))
+    × (new_free ≡ record { first = Some i; count = free.count + length (places old (Some i)) })
