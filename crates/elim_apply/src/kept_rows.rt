@@ -1,6 +1,7 @@
 //! The rows of moves that are known already.
 
-ghost use Rattle.std.specs.Prelude.{◌≡◌, ◌<◌, IfOk, IfSome, Some, length, option_map};
+ghost use Rattle.std.specs.Prelude.{◌≡◌, ◌<◌, ◌∷◌, ◌++◌, [], IfOk, IfSome, OnOk, Some, length, map};
+ghost use Rattle.std.specs.Prelude.{option_map};
 ghost use Rattle.std.specs.Prelude.{slice_get};
 ghost use Rattle.elim_apply.specs.declared.kept_row.KeptRow.{KeptRow};
 ghost use Rattle.elim_apply.specs.Kept.{AreKnownRows, CanBeMade, IsKept, IsRowOf};
@@ -147,29 +148,31 @@ impl KnownRows {
         }
     }
 
-    /// The row of the move for the variable, multiplied out, which is handed over. It is probably
-    /// the `nth` row of the line.
+    /// Hands the row of the move for the variable over, multiplied out, as the last of a list. It is
+    /// probably the next row of the line.
     pub(crate) fn take_row(
         &mut self,
         alloc: Global,
         steps: &Steps,
         mv: &Move,
         var: Var,
-        nth: usize,
-    ) -> Result<Row, NoMemory>
+        rows: &mut Vec<Row>,
+    ) -> Result<(), NoMemory>
         requires place { IsPlaceBelow (length steps.now.steps) (place_of mv.now) }
         requires row { CanBeMade steps.now mv.now var }
         requires known { AreKnownRows steps.now self.old }
-        ensures row { IfOk result (λ r. lemma_table.row steps.now mv.now var ≡ Some r) }
+        ensures row { OnOk result (map Some rows.new.items ≡ map Some rows.old.items
+            ++ lemma_table.row steps.now mv.now var ∷ []) }
         ensures known { AreKnownRows steps.now self.new }
     {
-        if let Some(i) = self.recent_place(mv, var, nth) {
-            return self.rows[i].take_row(alloc, steps, &mut self.numbers);
+        if let Some(i) = self.recent_place(mv, var, rows.len()) {
+            return self.rows[i].take_row(alloc, steps, &mut self.numbers, rows);
         }
         match draft_of(alloc, steps, mv, var)? {
-            Some(draft) => draft.row(alloc, steps.look(), &mut self.numbers, var),
+            Some(draft) => rows.push(draft.row(alloc, steps.look(), &mut self.numbers, var)?)?,
             None => unreachable!(),
         }
+        Ok(())
     }
 
     /// The denominator of the move, whose first row is that for the variable.

@@ -34,7 +34,7 @@ pub(crate) fn made_rows(
 {
     let mut items = Vec::with_capacity(alloc, numbered.len())?;
     for row in numbered {
-        items.push(known.take_row(alloc, steps, mv, row.var, items.len())?)?;
+        known.take_row(alloc, steps, mv, row.var, &mut items)?;
     }
     let den = known.take_denominator(alloc, steps, mv, numbered[0].var)?;
     Ok((RowList { items }, den))
