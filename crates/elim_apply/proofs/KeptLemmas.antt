@@ -1,5 +1,6 @@
 -- Rows that are kept.
-use Rattle.std.proofs.Common.{◌≡◌, ℕ, Option, Some, None, List, sym, ap, ap₂, subst, ◌∙◌}
+use Rattle.std.proofs.Common.{◌≡◌, ◌∷◌, ◌++◌, [], ℕ, Option, Some, None, List, map, sym, ap, ap₂, subst, ◌∙◌}
+use Rattle.std.proofs.lemmas.List.{map-append}
 use Rattle.std.specs.Prelude.{All, IfSome, IsSomeAnd, slice_get}
 use Rattle.std.specs.Option.{option_map}
 use Rattle.std.proofs.lemmas.Option.{get_or_from_slice_get, slice_get_within}
@@ -28,6 +29,10 @@ module _ (c : Construction) (move : Move) (v : Var) (t : TableRow) (is : row_of_
 
   pub row_fits : IsSomeAnd (row_of_move c move v) RowFits → RowFits t
   row_fits h = subst (λ (o : Option TableRow). IsSomeAnd o RowFits) is h
+
+-- a row that is handed over
+pub row_pushed : (before after : List Row) (r : Row) (o : Option Row) → after ≡ before ++ r ∷ [] → o ≡ Some r → map Some after ≡ map Some before ++ o ∷ []
+row_pushed before after r o pushed is = ap (map Some) pushed ∙ map-append Some before (r ∷ []) ∙ ap (λ (o : Option Row). map Some before ++ o ∷ []) (sym is)
 
 -- the kept row at a place
 pub kept_at : (c : Construction) (rows : List KeptRow) (i : ℕ) (kept : KeptRow) → slice_get rows i ≡ Some kept → All (IsKept c) rows → IsKept c kept

@@ -1,6 +1,6 @@
 //! Rows of moves that are kept from line to line.
 
-ghost use Rattle.std.specs.Prelude.{◌≡◌, IfOk, IsSomeAnd, IsTrue, Some};
+ghost use Rattle.std.specs.Prelude.{◌≡◌, ◌∷◌, ◌++◌, [], IfOk, IsSomeAnd, IsTrue, OnOk, Some, map};
 ghost use Rattle.elim_apply.specs.Kept.{IsKept};
 ghost use Rattle.elim_apply.specs.LemmaTable.{lemma_table, row_of_move};
 ghost use Rattle.fraction_poly.specs.Inner.Known.{IsKnownOf};
@@ -38,25 +38,27 @@ impl KeptRow {
         self.var == var && is_same(&self.mv, mv)
     }
 
-    /// The row multiplied out, which is handed over.
+    /// Hands the row over, multiplied out, as the last of a list.
     pub fn take_row(
         &mut self,
         alloc: Global,
         steps: &Steps,
         numbers: &mut KnownNumbers,
-    ) -> Result<Row, NoMemory>
+        rows: &mut Vec<Row>,
+    ) -> Result<(), NoMemory>
         requires kept { IsKept steps.now self.old }
         requires fits { IsSomeAnd (row_of_move steps.now self.old.mv self.old.var) RowFits }
         requires known { IsKnownOf steps.now.nodes numbers.old }
-        ensures row { IfOk result
-            (λ r. lemma_table.row steps.now self.old.mv self.old.var ≡ Some r) }
+        ensures row { OnOk result (map Some rows.new.items ≡ map Some rows.old.items
+            ++ lemma_table.row steps.now self.old.mv self.old.var ∷ []) }
         ensures kept { IsKept steps.now self.new }
         ensures known { IsKnownOf steps.now.nodes numbers.new }
     {
         match self.made.take() {
-            Some(row) => Ok(row),
-            None => self.draft.row(alloc, steps.look(), numbers, self.var),
+            Some(row) => rows.push(row)?,
+            None => rows.push(self.draft.row(alloc, steps.look(), numbers, self.var)?)?,
         }
+        Ok(())
     }
 
     /// The denominator multiplied out, which is handed over.

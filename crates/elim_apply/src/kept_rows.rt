@@ -1,6 +1,7 @@
 //! The rows of moves that are known already.
 
-ghost use Rattle.std.specs.Prelude.{◌≡◌, ◌<◌, IfOk, IfSome, Some, length, option_map};
+ghost use Rattle.std.specs.Prelude.{◌≡◌, ◌<◌, ◌∷◌, ◌++◌, [], IfOk, IfSome, OnOk, Some, length, map};
+ghost use Rattle.std.specs.Prelude.{option_map};
 ghost use Rattle.std.specs.Prelude.{slice_get};
 ghost use Rattle.elim_apply.specs.declared.kept_row.KeptRow.{KeptRow};
 ghost use Rattle.elim_apply.specs.Kept.{AreKnownRows, CanBeMade, IsKept, IsRowOf};
@@ -26,6 +27,9 @@ const MOST_ROWS: usize = 4096;
 /// A row whose numerator may have more monomials is not kept.
 const LARGE: u128 = 64;
 
+/// The places of so many rows of a line are remembered.
+const REMEMBERED: usize = 16;
+
 /// The numbers of a construction's steps, and the rows of moves on it. Each is made when it is asked
 /// for first, and then kept, but for rows that are large or very many.
 pub struct KnownRows {
@@ -33,6 +37,8 @@ pub struct KnownRows {
     rows: Vec<KeptRow>,
     /// Where a row probably stands, by the key of its move and its variable.
     places: HashMap<u64, usize>,
+    /// Where the rows of the line probably stand, in their order.
+    recent: [usize; REMEMBERED],
 }
 
 /// By hand, so that a caller's proof sees one call where they are let go.
@@ -42,6 +48,7 @@ impl Drop for KnownRows {
             numbers: _,
             rows: _,
             places: _,
+            recent: _,
         } = self;
     }
 }
@@ -55,16 +62,19 @@ impl KnownRows {
             numbers: KnownNumbers::new(alloc)?,
             rows: Vec::new(alloc),
             places: HashMap::new(alloc),
+            recent: [0; REMEMBERED],
         })
     }
 
-    /// The numbers of the row that the move has for the variable.
+    /// The numbers of the row that the move has for the variable. It is probably the `nth` row of
+    /// the line.
     pub(crate) fn row_numbers(
         &mut self,
         alloc: Global,
         steps: &Steps,
         mv: &Move,
         var: Var,
+        nth: usize,
     ) -> Result<Option<RowNumbers>, NoMemory>
         requires place { IsPlaceBelow (length steps.now.steps) (place_of mv.now) }
         requires var { HasPointsBelow (length steps.now.steps) var }
@@ -74,6 +84,9 @@ impl KnownRows {
         ensures known { AreKnownRows steps.now self.new }
     {
         if let Some(i) = self.place(mv, var) {
+            if let Some(recent) = self.recent.get_mut(nth) {
+                *recent = i;
+            }
             return Ok(Some(self.rows[i].numbers));
         }
         let Some(draft) = draft_of(alloc, steps, mv, var)? else {
@@ -119,30 +132,50 @@ impl KnownRows {
         }
     }
 
-    /// The row of the move for the variable, multiplied out, which is handed over.
+    /// The place of the row of the move for the variable, which is probably the `nth` row of the
+    /// line, where it is kept.
+    fn recent_place(&self, mv: &Move, var: Var, nth: usize) -> Option<usize>
+        ensures { IfSome result (λ i. (kept : KeptRow)
+            × (slice_get self.now.rows.items i ≡ Some kept)
+            × (kept.mv ≡ mv.now) × (kept.var ≡ var)) }
+    {
+        let Some(place) = self.recent.get(nth) else {
+            return self.place(mv, var);
+        };
+        match self.rows.get(*place) {
+            Some(row) if row.is_of(mv, var) => Some(*place),
+            _ => self.place(mv, var),
+        }
+    }
+
+    /// Hands the row of the move for the variable over, multiplied out, as the last of a list. It is
+    /// probably the next row of the line.
     pub(crate) fn take_row(
         &mut self,
         alloc: Global,
         steps: &Steps,
         mv: &Move,
         var: Var,
-    ) -> Result<Row, NoMemory>
+        rows: &mut Vec<Row>,
+    ) -> Result<(), NoMemory>
         requires place { IsPlaceBelow (length steps.now.steps) (place_of mv.now) }
         requires row { CanBeMade steps.now mv.now var }
         requires known { AreKnownRows steps.now self.old }
-        ensures row { IfOk result (λ r. lemma_table.row steps.now mv.now var ≡ Some r) }
+        ensures row { OnOk result (map Some rows.new.items ≡ map Some rows.old.items
+            ++ lemma_table.row steps.now mv.now var ∷ []) }
         ensures known { AreKnownRows steps.now self.new }
     {
-        if let Some(i) = self.place(mv, var) {
-            return self.rows[i].take_row(alloc, steps, &mut self.numbers);
+        if let Some(i) = self.recent_place(mv, var, rows.len()) {
+            return self.rows[i].take_row(alloc, steps, &mut self.numbers, rows);
         }
         match draft_of(alloc, steps, mv, var)? {
-            Some(draft) => draft.row(alloc, steps.look(), &mut self.numbers, var),
+            Some(draft) => rows.push(draft.row(alloc, steps.look(), &mut self.numbers, var)?)?,
             None => unreachable!(),
         }
+        Ok(())
     }
 
-    /// The denominator of the move, which has a row for the variable.
+    /// The denominator of the move, whose first row is that for the variable.
     pub(crate) fn take_denominator(
         &mut self,
         alloc: Global,
@@ -156,7 +189,7 @@ impl KnownRows {
         ensures den { IfOk result (λ f. f ≡ lemma_table.denominator steps.now mv.now) }
         ensures known { AreKnownRows steps.now self.new }
     {
-        if let Some(i) = self.place(mv, var) {
+        if let Some(i) = self.recent_place(mv, var, 0) {
             return self.rows[i].take_denominator(alloc, steps, &mut self.numbers);
         }
         match draft_of(alloc, steps, mv, var)? {
@@ -165,12 +198,12 @@ impl KnownRows {
         }
     }
 
-    /// Takes a row back.
-    pub(crate) fn put_row(&mut self, mv: &Move, row: Row)
+    /// Takes a row back, which is probably the `nth` row of the line.
+    pub(crate) fn put_row(&mut self, mv: &Move, row: Row, nth: usize)
         ensures { (c : Construction) → AreKnownRows c self.old → IsRowOf c mv.now row
             → AreKnownRows c self.new }
     {
-        let Some(i) = self.place(mv, row.var) else {
+        let Some(i) = self.recent_place(mv, row.var, nth) else {
             return;
         };
         self.rows[i].made = Some(row);
@@ -181,7 +214,7 @@ impl KnownRows {
         ensures { (c : Construction) → AreKnownRows c self.old
             → den ≡ lemma_table.denominator c mv.now → AreKnownRows c self.new }
     {
-        let Some(i) = self.place(mv, var) else {
+        let Some(i) = self.recent_place(mv, var, 0) else {
             return;
         };
         self.rows[i].den = Some(den);

@@ -34,7 +34,7 @@ pub(crate) fn made_rows(
 {
     let mut items = Vec::with_capacity(alloc, numbered.len())?;
     for row in numbered {
-        items.push(known.take_row(alloc, steps, mv, row.var)?)?;
+        known.take_row(alloc, steps, mv, row.var, &mut items)?;
     }
     let den = known.take_denominator(alloc, steps, mv, numbered[0].var)?;
     Ok((RowList { items }, den))
@@ -48,7 +48,9 @@ pub(crate) fn put_back(known: &mut KnownRows, mv: &Move, rows: RowList, den: Pie
     if let Some(row) = rows.items.first() {
         known.put_denominator(mv, row.var, den);
     }
+    let mut nth: usize = 0;
     for row in rows.items {
-        known.put_row(mv, row);
+        known.put_row(mv, row, nth);
+        nth = nth.wrapping_add(1);
     }
 }

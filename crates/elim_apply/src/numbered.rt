@@ -43,7 +43,7 @@ pub(crate) fn numbered_rows(
     let mut numbered = Vec::new(alloc);
     for v in variables {
         let var = *v;
-        if let Some(numbers) = known.row_numbers(alloc, steps, mv, var)? {
+        if let Some(numbers) = known.row_numbers(alloc, steps, mv, var, numbered.len())? {
             numbered.push(NumberedRow { var, numbers })?;
         }
     }

@@ -1,5 +1,4 @@
-use Rattle.std.proofs.Common.{Option, Some, map, sym, ap, ◌∙◌}
-use Rattle.std.proofs.lemmas.List.{map-append}
+use Rattle.std.proofs.Common.{Option, Some, map, refl}
 use Rattle.geo_poly.specs.declared.replacement.Row.{Row}
 use Rattle.geo_poly.specs.declared.variables.Var.TheVariants.{R}
 use Rattle.elim_apply.specs.declared.numbered.NumberedRow.{NumberedRow}
@@ -22,8 +21,8 @@ loop-row-preserved c =
     record {
       rows =
           mapped_push row c.args.numbered.now c.loop-row.row-index none c.loop-row-test.true
-          (map Some c.loop-row.items.items) (map Some c.push.new.self.items) (Some c.in_ok-take_row.field-0)
-          (ap (map Some) c.in_ok-push.ensures.items ∙ map-append Some c.loop-row.items.items _) c.loop-row.invariant.rows (sym c.in_ok-take_row.ensures.row);
+          (map Some c.loop-row.items.items) (map Some c.take_row.new.rows.items) _
+          c.in_ok-take_row.ensures.row c.loop-row.invariant.rows refl;
       known = c.in_ok-take_row.ensures.known;
     }
 
