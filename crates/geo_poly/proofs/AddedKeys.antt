@@ -1,12 +1,12 @@
 -- Keys of what is left of monomials, added up power by power where the powers are read with their variables.
-use Rattle.std.proofs.Common.{◌≡◌, ℕ, ◌+◌, ◌<◌, Option, None, Some, List, [], ◌∷◌, get_or, length, sym, subst, ap, ap₂, ◌∙◌, arith}
+use Rattle.std.proofs.Common.{◌≡◌, ℕ, zero, suc, ◌+◌, ◌<◌, Option, None, Some, List, [], ◌∷◌, get_or, length, sym, subst, ap, ap₂, ◌∙◌, arith}
 use Rattle.std.specs.Prelude.{All, IfSome, slice_get}
 use Rattle.std.specs.List.Sorted.{IsStrictlySortedBy}
 use Rattle.std.proofs.lemmas.List.Sums.{sum_by-cons}
 use Rattle.mono_store.specs.declared.links.MonoId.{MonoId}
 use Rattle.geo_poly.specs.declared.pending.Listed.{Listed}
 use Rattle.geo_poly.specs.declared.replacement.Row.{Row}
-use Rattle.geo_poly.specs.declared.roles.Role.TheVariants.{Kept}
+use Rattle.geo_poly.specs.declared.roles.Role.TheVariants.{Kept, Replaced}
 use Rattle.geo_poly.specs.declared.settings.Setting.{Setting}
 use Rattle.geo_poly.specs.declared.shared.Shared.{Shared}
 use Rattle.geo_poly.specs.declared.term_keys.TermKeys.{TermKeys}
@@ -33,6 +33,12 @@ IsMonomial-behind m rest v is h = go (subst IsMonomial is h)
     go : IsMonomial (v ∷ rest) → IsMonomial rest
     go g = record { in_order = g.in_order.2; degree_fits = omega (arith, sum_by-cons (λ (p : Var × ℕ). p.1) v rest, g.degree_fits) }
 
+-- a power whose variable has a row is not left
+replaced : (rows : List Row) (i : ℕ) (o : Option Row) (v : Var × ℕ) (m : Powers) → i < length rows → slice_get rows i ≡ o → kept o v m ≡ m
+replaced [] i o v m within at = absurd (omega (arith, within))
+replaced (r ∷ rows) zero o v m within at = ap (λ (q : Option Row). kept q v m) (sym at)
+replaced (r ∷ rows) (suc i) o v m within at = replaced rows i o v m (omega (arith, within)) at
+
 module _ (p : Shared) (rows : List Row) (vars : List Var) (keys : Keys) where
   -- BEFORE THE FIRST POWER, AND BEHIND THE LAST
   pub AddsUp-none : (id : MonoId) (sum : ℕ) → sum ≡ 0 → AddsUp p rows vars keys id id sum
@@ -57,13 +63,11 @@ module _ (p : Shared) (rows : List Row) (vars : List Var) (keys : Keys) where
   module _ (id : MonoId) (left rest : MonoId) (v : Var) (exp : ℕ) (is : told_powers p left ≡ (v, exp) ∷ told_powers p rest) (index : IsIndexOf p left) (sum : ℕ)
       (adds : AddsUp p rows vars keys id left sum) where
     -- the variable has a row
-    pub AddsUp-replaced : (r : Row) → row_of rows v ≡ Some r → AddsUp p rows vars keys id rest sum
-    AddsUp-replaced r some = λ next same. adds next (record {
+    pub AddsUp-replaced : (i : ℕ) → IsRole rows vars v (Replaced i) → AddsUp p rows vars keys id rest sum
+    AddsUp-replaced i role = λ next same. adds next (record {
       old_index = index;
       new_index = same.new_index;
-      powers =
-          same.powers
-          ∙ sym (ap (others rows) is ∙ ap (λ (o : Option Row). kept o (v, exp) (others rows (told_powers p rest))) some);
+      powers = same.powers ∙ sym (ap (others rows) is ∙ replaced rows i (row_of rows v) (v, exp) (others rows (told_powers p rest)) role.0 role.1);
     })
 
     -- it has none

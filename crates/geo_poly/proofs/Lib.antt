@@ -95,3 +95,4 @@ pub mod WordMultiples
 pub mod WordProducts
 pub mod RoleWalks
 pub mod NarrowWords
+pub mod AddedKeys

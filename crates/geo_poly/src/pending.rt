@@ -178,11 +178,16 @@ fn with_amount<K: MonomialKeys>(
     ensures { IfSome result
         (AddsUp p.now setting.now.rows.now setting.now.vars.now (K.keys keys.now) id first.rest) }
 {
-    let _ = (setting, p, id, left);
+    let _ = setting;
+    let _ = p;
     let sum = sum?;
     match role {
         Role::Replaced(_) => Some(sum),
-        Role::Kept(place) => sum.checked_add(keys.amount(place, first.exponent)?),
+        Role::Kept(place) => {
+            let amount = keys.amount(place, first.exponent)?;
+            let more = sum.checked_add(amount)?;
+            Some(more)
+        }
         Role::Absent => None,
     }
 }
