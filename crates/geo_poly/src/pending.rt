@@ -345,6 +345,7 @@ fn width_of(rows: &[Row]) -> u32
 
 /// Puts the terms in the order of their factors, of which none has more than so many.
 fn put_in_order(pending: &mut Vec<Pending>, width: u32, most: usize) -> Result<(), NoMemory>
+    requires { 1 ≤ width }
     ensures { IsPermutation pending.old.items pending.new.items }
 {
     if most <= (u64::BITS / width) as usize {

@@ -14,7 +14,7 @@ returns-in_ok-more-in-Kept g c =
     let keys = g.K.MonomialKeys.keys c.args.keys.now in
     let left = c.args.left in
     let first = c.args.first in
-    let adds = subst (λ (o : Option ℕ). IfSome o (AddsUp p rows vars keys c.args.id left)) c.in_ok-sum.is c.requires.sum in
+    let adds = subst (λ (o : Option ℕ). IfSome o (AddsUp p rows vars keys c.args.id left)) c.in_ok-sum.was c.requires.sum in
     let role = subst (λ (r : Role). IsRole rows vars first.var r) c.in-Kept.is c.requires.role in
     AddsUp-kept p rows vars keys c.args.id left first.rest first.var first.exponent c.requires.power c.requires.index c.in_ok-sum.sum adds
     c.in-Kept.place role c.requires.rising c.requires.monomial c.in_ok-amount-in-Kept.amount c.in_ok-amount-in-Kept.ensures
