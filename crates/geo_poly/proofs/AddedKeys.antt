@@ -1,10 +1,9 @@
 -- Keys of what is left of monomials, added up power by power where the powers are read with their variables.
 use Rattle.std.proofs.Common.{◌≡◌, ℕ, zero, suc, ◌+◌, ◌<◌, Option, None, Some, List, [], ◌∷◌, get_or, length, sym, subst, ap, ap₂, ◌∙◌, arith}
-use Rattle.std.specs.Prelude.{All, IfSome, slice_get}
+use Rattle.std.specs.Prelude.{IfSome, slice_get}
 use Rattle.std.specs.List.Sorted.{IsStrictlySortedBy}
 use Rattle.std.proofs.lemmas.List.Sums.{sum_by-cons}
 use Rattle.mono_store.specs.declared.links.MonoId.{MonoId}
-use Rattle.geo_poly.specs.declared.pending.Listed.{Listed}
 use Rattle.geo_poly.specs.declared.replacement.Row.{Row}
 use Rattle.geo_poly.specs.declared.roles.Role.TheVariants.{Kept, Replaced}
 use Rattle.geo_poly.specs.declared.settings.Setting.{Setting}
@@ -14,7 +13,7 @@ use Rattle.geo_poly.specs.declared.variables.Var.{Var}
 use Rattle.geo_poly.specs.Inner.Keyed.{IsAmount, KeepsKeys}
 use Rattle.geo_poly.specs.Inner.Moved.{IsMovedKey}
 use Rattle.geo_poly.specs.Inner.Roles.{IsRole}
-use Rattle.geo_poly.specs.Inner.TermKeys.{AddsUp, AreTermKeys, IsKeyed}
+use Rattle.geo_poly.specs.Inner.TermKeys.{AddsUp, AreTermKeys}
 use Rattle.geo_poly.specs.Keys.{Keys}
 use Rattle.geo_poly.specs.Monomials.{IsMonomial, Powers}
 use Rattle.geo_poly.specs.Replace.{kept, others, row_of}

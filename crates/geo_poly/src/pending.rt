@@ -93,7 +93,7 @@ fn factor_of_row(rows: &[Row], place: usize) -> usize
 }
 
 /// What is found of a term: how many denominators it lacks, and the key of what is left of its
-/// monomial.
+/// monomial, where all amounts are known.
 #[derive(Clone, Copy)]
 struct Found {
     lacking: u32,
@@ -101,8 +101,8 @@ struct Found {
 }
 
 /// Puts the numerators of a term into the list, in place of what it had, and answers how many
-/// denominators the term lacks. It is none where the term becomes zero, since a numerator is zero, or
-/// the denominator where the term lacks some.
+/// denominators the term lacks, and the key of what is left of it. It is none where the term becomes
+/// zero, since a numerator is zero, or the denominator where the term lacks some.
 fn read_factors<K: MonomialKeys>(
     setting: &Setting,
     keys: &K,
@@ -155,8 +155,7 @@ fn read_factors<K: MonomialKeys>(
     }))
 }
 
-/// The sum with what the first power of what is left to read adds to the key, where all amounts are
-/// known.
+/// The sum with what the first power of the rest that is left to read adds to the key.
 fn with_amount<K: MonomialKeys>(
     setting: &Setting,
     keys: &K,

@@ -1,9 +1,9 @@
-use Rattle.std.proofs.Common.{ℕ, ◌+◌, Option, subst, arith}
+use Rattle.std.proofs.Common.{ℕ, Option, subst, arith}
 use Rattle.std.specs.Prelude.{IfSome}
 use Rattle.geo_poly.specs.declared.roles.Role.{Role}
 use Rattle.geo_poly.specs.Inner.Roles.{IsRole}
 use Rattle.geo_poly.specs.Inner.TermKeys.{AddsUp}
-use Rattle.geo_poly.proofs.AddedKeys.{AddsUp-kept, AddsUp-replaced}
+use Rattle.geo_poly.proofs.AddedKeys.{AddsUp-kept}
 use Rattle.geo_poly.proofs.pending.with_amount.Goals as goal
 
 pub returns-in_ok-more-in-Kept : goal.returns-in_ok-more-in-Kept
