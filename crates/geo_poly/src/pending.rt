@@ -6,7 +6,6 @@ ghost use Rattle.std.specs.List.Sorted.{IsPermutation, IsStrictlySortedBy};
 ghost use Rattle.geo_poly.specs.Inner.Accumulated.{accumulated_term};
 ghost use Rattle.geo_poly.specs.Inner.Factored.{AreFactors, ArePending, factors_listed};
 ghost use Rattle.geo_poly.specs.Inner.Factored.{numbered_of, numbered_terms};
-ghost use Rattle.geo_poly.specs.Inner.Keyed.{IsAmount};
 ghost use Rattle.geo_poly.specs.Inner.Moved.{IsMovedKey};
 ghost use Rattle.geo_poly.specs.Inner.Roles.{AreRoles, IsRole};
 ghost use Rattle.geo_poly.specs.Inner.TermKeys.{AddsUp, IsKeyed};

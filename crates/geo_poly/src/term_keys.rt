@@ -50,8 +50,7 @@ pub(crate) fn keys_of_terms<'a, K: MonomialKeys>(
 ) -> Result<TermKeys<'a>, NoMemory>
     requires rising { IsStrictlySortedBy var_cmp setting.now.vars.now }
     requires parts { AreParts p.now }
-    requires keyed {
-        All (IsKeyed p.now setting.now.rows.now setting.now.vars.now (K.keys keys.old))
+    requires keyed { All (IsKeyed p.now setting.now.rows.now setting.now.vars.now (K.keys keys.old))
         listing.now.terms.items }
     ensures table { IfOk result (AreTermKeys setting.now p.now (K.keys keys.new)) }
     ensures kept { KeepsKeys (K.keys keys.old) (K.keys keys.new) }
