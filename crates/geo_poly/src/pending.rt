@@ -23,7 +23,6 @@ use crate::shared::{FirstPower, Indexed, Shared};
 use geo_points::NoMemory;
 use mono_store::MonoId;
 use std::alloc::Global;
-use std::cmp::Ordering;
 
 /// A term of a polynomial, and the factors that it is to get: 0 stands for the denominator, and one
 /// more than its place for a row. The factor that is multiplied in last stands first.
