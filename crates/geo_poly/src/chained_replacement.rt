@@ -142,6 +142,71 @@ pub(crate) fn times_list<K: MonomialKeys, L: Ledger>(
     ensures ticks { ticks.new
         ≤ ticks.old + length (pairs_of arena.old chain) * length list.now }
 {
+    match lone_term(keys, list) {
+        Some(term) => Ok(scaled(keys, arena, vars, chain, term, ticks)),
+        None => times_terms(alloc, keys, arena, vars, chain, list, ticks),
+    }
+}
+
+/// The term of a list that has just one, where keys are added up.
+fn lone_term<K: MonomialKeys>(keys: &K, list: &[Indexed]) -> Option<Indexed> {
+    match list {
+        [term] => {
+            if keys.adds_up() {
+                Some(*term)
+            } else {
+                None
+            }
+        }
+        _ => None,
+    }
+}
+
+/// The chain times the term, in its place. It takes no memory.
+fn scaled<K: MonomialKeys, L: Ledger>(
+    keys: &K,
+    arena: &mut Arena,
+    vars: &[Var],
+    chain: Chain,
+    term: Indexed,
+    ticks: &mut Ticks<L>,
+) -> Chain {
+    let _ = (keys, vars);
+    let count = arena.scale(&chain, term.0.0, term.1);
+    ticks.tick_each(count);
+    chain
+}
+
+/// The chain times the list, by the pair of a chain of one. The chain is spent, also where there is
+/// no memory.
+fn times_terms<K: MonomialKeys, L: Ledger>(
+    alloc: Global,
+    keys: &mut K,
+    arena: &mut Arena,
+    vars: &[Var],
+    chain: Chain,
+    list: &[Indexed],
+    ticks: &mut Ticks<L>,
+) -> Result<Chain, NoMemory>
+    requires rising { IsStrictlySortedBy var_cmp vars.now }
+    requires live { IsLive arena.old chain }
+    requires keys { AllKeys (IsKeyUnder vars.now (K.keys keys.old)) (pairs_of arena.old chain) }
+    requires indices { AllKeys (IsIndexUnder vars.now (K.keys keys.old)) list.now }
+    requires fits { CanMultiply
+        (keyed_terms_under vars.now (K.keys keys.old) (pairs_of arena.old chain))
+        (terms_under vars.now (K.keys keys.old) list.now) }
+    requires reach { AreInReach vars.now (K.keys keys.old)
+        (keyed_terms_under vars.now (K.keys keys.old) (pairs_of arena.old chain))
+        (terms_under vars.now (K.keys keys.old) list.now) }
+    ensures chain { IfOk result (λ c. StandsUnder vars.now (K.keys keys.new) arena.new c
+        (product_of (keyed_terms_under vars.now (K.keys keys.old) (pairs_of arena.old chain))
+        (terms_under vars.now (K.keys keys.old) list.now))) }
+    ensures swaps { IfOk result (Swaps arena.old arena.new chain) }
+    ensures err { OnErr result (Updates arena.old arena.new chain None) }
+    ensures kept { KeepsKeys (K.keys keys.old) (K.keys keys.new) }
+    ensures ticks { ticks.new
+        ≤ ticks.old + length (pairs_of arena.old chain) * length list.now }
+{
     match arena.only_pair(&chain) {
         Some((key, coefficient)) => {
             arena.give_back(chain);

@@ -60,6 +60,9 @@ pub(crate) trait MonomialKeys {
             ≡ product ((keys self.old).powers a) ((keys self.old).powers b)) }
         ensures kept { KeepsKeys (keys self.old) (keys self.new) };
 
+    /// Whether the key of a product is the sum of both keys.
+    fn adds_up(&self) -> bool;
+
     /// Whether the monomial of `a` comes before that of `b`.
     fn comes_before(&self, a: u64, b: u64) -> bool
         requires left { a < (keys self.now).count }
@@ -112,6 +115,10 @@ impl MonomialKeys for Monos {
     fn times(&mut self, a: u64, b: u64) -> Result<u64, NoMemory> {
         let id = self.product(MonoId(a), MonoId(b))?;
         Ok(id.0)
+    }
+
+    fn adds_up(&self) -> bool {
+        false
     }
 
     fn comes_before(&self, a: u64, b: u64) -> bool {

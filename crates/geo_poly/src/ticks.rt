@@ -42,4 +42,11 @@ impl<L: Ledger> Ticks<L> {
     {
         self.book.add(&mut self.share, 1);
     }
+
+    /// Counts so many more products.
+    pub fn tick_each(&mut self, count: u64)
+        ensures { self.new ≡ self.old + count }
+    {
+        self.book.add(&mut self.share, count);
+    }
 }
