@@ -1,14 +1,15 @@
 //! Replacements as chains of an arena.
 
 ghost use Rattle.std.specs.Prelude.{◌≡◌, ◌+◌, ◌*◌, ◌<◌, ◌≤◌, ◌∷◌, []};
-ghost use Rattle.std.specs.Prelude.{Contains, IfOk, IsTrue, OnErr, None, Some};
+ghost use Rattle.std.specs.Prelude.{Contains, IfOk, IfSome, IsTrue, OnErr, None, Some};
 ghost use Rattle.std.specs.Prelude.{length, pos, slice_get};
 ghost use Rattle.std.specs.List.Sorted.{IsStrictlySortedBy};
 ghost use Rattle.sparse_lists.specs.SparseLists.{AllKeys};
 ghost use Rattle.poly_arena.specs.Chains.{IsLive, Updates, list_of, pairs_of};
 ghost use Rattle.geo_poly.specs.Chained.{AddsChain, SameChains, StandsUnder, keyed_terms_under};
-ghost use Rattle.geo_poly.specs.Inner.Keyed.{AreInReach, AreWithinLimits, HasRoom, IsIndexUnder};
-ghost use Rattle.geo_poly.specs.Inner.Keyed.{IsWithinLimits, KeepsKeys, terms_under};
+ghost use Rattle.geo_poly.specs.Inner.Keyed.{AddsUp, AreInReach, AreWithinLimits, HasRoom};
+ghost use Rattle.geo_poly.specs.Inner.Keyed.{IsIndexUnder, IsWithinLimits, KeepsKeys, term_under};
+ghost use Rattle.geo_poly.specs.Inner.Keyed.{terms_under};
 ghost use Rattle.geo_poly.specs.Inner.Settings.{AreStoredUnder, IsStoredUnder, Swaps};
 ghost use Rattle.geo_poly.specs.Keys.{IsKeyUnder};
 ghost use Rattle.geo_poly.specs.KeptVariables.{AllNumerators};
@@ -149,15 +150,15 @@ pub(crate) fn times_list<K: MonomialKeys, L: Ledger>(
 }
 
 /// The term of a list that has just one, where keys are added up.
-fn lone_term<K: MonomialKeys>(keys: &K, list: &[Indexed]) -> Option<Indexed> {
+fn lone_term<K: MonomialKeys>(keys: &K, list: &[Indexed]) -> Option<Indexed>
+    ensures adds { IfSome result (λ t. AddsUp (K.keys keys.now)) }
+    ensures list { IfSome result (λ t. list.now ≡ t ∷ []) }
+{
+    if !keys.adds_up() {
+        return None;
+    }
     match list {
-        [term] => {
-            if keys.adds_up() {
-                Some(*term)
-            } else {
-                None
-            }
-        }
+        [term] => Some(*term),
         _ => None,
     }
 }
@@ -170,7 +171,24 @@ fn scaled<K: MonomialKeys, L: Ledger>(
     chain: Chain,
     term: Indexed,
     ticks: &mut Ticks<L>,
-) -> Chain {
+) -> Chain
+    requires rising { IsStrictlySortedBy var_cmp vars.now }
+    requires adds { AddsUp (K.keys keys.now) }
+    requires live { IsLive arena.old chain }
+    requires keys { AllKeys (IsKeyUnder vars.now (K.keys keys.now)) (pairs_of arena.old chain) }
+    requires term { IsIndexUnder vars.now (K.keys keys.now) term.0 }
+    requires fits { CanMultiply
+        (keyed_terms_under vars.now (K.keys keys.now) (pairs_of arena.old chain))
+        (term_under vars.now (K.keys keys.now) term ∷ []) }
+    requires reach { AreInReach vars.now (K.keys keys.now)
+        (keyed_terms_under vars.now (K.keys keys.now) (pairs_of arena.old chain))
+        (term_under vars.now (K.keys keys.now) term ∷ []) }
+    ensures chain { StandsUnder vars.now (K.keys keys.now) arena.new result
+        (product_of (keyed_terms_under vars.now (K.keys keys.now) (pairs_of arena.old chain))
+        (term_under vars.now (K.keys keys.now) term ∷ [])) }
+    ensures swaps { Swaps arena.old arena.new chain result }
+    ensures ticks { ticks.new ≡ ticks.old + length (pairs_of arena.old chain) }
+{
     let _ = (keys, vars);
     let count = arena.scale(&chain, term.0.0, term.1);
     ticks.tick_each(count);

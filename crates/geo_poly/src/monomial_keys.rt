@@ -7,7 +7,7 @@ ghost use Rattle.mono_store.specs.Monomials.{ComesFirst, degree_of, product};
 ghost use Rattle.poly_arena.specs.Chains.{IsLive, Merges, pairs_of};
 ghost use Rattle.poly_arena.specs.Orders.{IsFalling, SumsFit, sum_of};
 ghost use Rattle.geo_poly.specs.Keys.{Keys};
-ghost use Rattle.geo_poly.specs.Inner.Keyed.{IsAmount, IsInReach, KeepsKeys, key_cmp};
+ghost use Rattle.geo_poly.specs.Inner.Keyed.{AddsUp, IsAmount, IsInReach, KeepsKeys, key_cmp};
 
 use crate::index_order::ByMonomial;
 use geo_points::NoMemory;
@@ -61,7 +61,8 @@ pub(crate) trait MonomialKeys {
         ensures kept { KeepsKeys (keys self.old) (keys self.new) };
 
     /// Whether the key of a product is the sum of both keys.
-    fn adds_up(&self) -> bool;
+    fn adds_up(&self) -> bool
+        ensures { IsTrue result → AddsUp (keys self.now) };
 
     /// Whether the monomial of `a` comes before that of `b`.
     fn comes_before(&self, a: u64, b: u64) -> bool

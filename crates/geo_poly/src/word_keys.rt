@@ -37,6 +37,7 @@ impl MonomialKeys for Digits {
     }
 
     fn adds_up(&self) -> bool {
+        let _count = self.count();
         true
     }
 

@@ -1,6 +1,5 @@
-use Rattle.std.proofs.Common.{◌≡◌, ℕ, ℤ, Some, List, length, slice_get, of_z, rules, sym, ap, subst, to_z, arith}
+use Rattle.std.proofs.Common.{◌≡◌, ℤ, Some, List, length, slice_get, of_z, rules, sym, ap, subst, to_z, arith}
 use Rattle.std.specs.Int.{w128}
-use Rattle.std.specs.Prelude.{Option}
 use Rattle.std.proofs.lemmas.Int.{to_z-of_z}
 use Rattle.poly_arena.specs.declared.nodes.Slot.{Slot}
 use Rattle.poly_arena.specs.declared.nodes.Slot.TheVariants.{Live}
