@@ -189,7 +189,8 @@ fn scaled<K: MonomialKeys, L: Ledger>(
     ensures swaps { Swaps arena.old arena.new chain result }
     ensures ticks { ticks.new ≡ ticks.old + length (pairs_of arena.old chain) }
 {
-    let _ = (keys, vars);
+    let _ = keys;
+    let _ = vars;
     let count = arena.scale(&chain, term.0.0, term.1);
     ticks.tick_each(count);
     chain

@@ -6,7 +6,8 @@ use std::marker::Model;
 use std::sync::ledger::{Blank, Book, Ledger, Share};
 
 /// How many products of one monomial, with its coefficient, and another were formed. The counter
-/// takes no bytes and no time, and only `tick` changes it: it lets a contract bound the work.
+/// takes no bytes and no time, and only `tick` and `tick_each` change it: it lets a contract bound
+/// the work.
 #[derive(Drop)]
 pub struct Ticks<L: Ledger> {
     book: Book<L>,
