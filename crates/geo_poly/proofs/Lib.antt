@@ -46,6 +46,7 @@ pub mod ChainHalves
 pub mod ChainMultiples
 pub mod LeadingVariables
 pub mod LoneTerms
+pub mod ScaledChains
 pub mod OneFactor
 pub mod Elements
 pub mod ChainPowers
