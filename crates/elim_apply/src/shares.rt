@@ -13,7 +13,6 @@ ghost use Rattle.geo_poly.specs.Shared.{AreParts, IsIndexOf, told_powers};
 use crate::capped::{capped_power, capped_product};
 use crate::known_rows::known_rows;
 use crate::numbered::NumberedRow;
-use crate::small_shares::small_share_of;
 use fraction_poly::RowNumbers;
 use geo_points::NoMemory;
 use geo_poly::{FirstPower, Shared};
@@ -147,26 +146,13 @@ pub(crate) fn shares_of(
     let known = known_rows(alloc, rows, p.vars)?;
     let mut shares = Vec::with_capacity(alloc, p.list.len())?;
     for (id, _) in p.list {
-        shares.push(share_of(p, &known, *id))?;
+        shares.push(wide_share_of(p, &known, *id))?;
     }
     Ok(shares)
 }
 
-/// The share of the monomial at an index. Mostly it is small.
-fn share_of(p: &Shared, known: &[Option<NumberedRow>], id: MonoId) -> Share
-    requires index { IsIndexOf p.now id }
-    requires monomial { IsMonomial (told_powers p.now id) }
-    ensures { (rows : List Row) → AllPowersSmall rows → AreKnown rows p.now.vars.now known.now
-        → IsShareOf rows (told_powers p.now id) 1 result }
-{
-    match small_share_of(p, known, id) {
-        Some(share) => share,
-        None => wide_share_of(p, known, id),
-    }
-}
-
 /// The share of the monomial at an index, in wide numbers.
-fn wide_share_of(p: &Shared, known: &[Option<NumberedRow>], id: MonoId) -> Share
+pub(crate) fn wide_share_of(p: &Shared, known: &[Option<NumberedRow>], id: MonoId) -> Share
     requires index { IsIndexOf p.now id }
     requires monomial { IsMonomial (told_powers p.now id) }
     ensures { (rows : List Row) → AllPowersSmall rows → AreKnown rows p.now.vars.now known.now

@@ -14,9 +14,12 @@ ghost use Rattle.geo_poly.specs.Replace.{AllPowersSmall, most_denominators};
 ghost use Rattle.geo_poly.specs.Replace.{replaced_degree, replaced_weight};
 ghost use Rattle.geo_poly.specs.Shared.{AreParts, told};
 
+use crate::known_rows::known_rows;
 use crate::limits::LineSize;
 use crate::numbered::NumberedRow;
 use crate::shares::{Share, shares_of};
+use crate::small_rows::small_rows;
+use crate::small_sizes::small_size;
 use fraction_poly::RowNumbers;
 use geo_points::NoMemory;
 use geo_poly::{Poly, Shared};
@@ -40,6 +43,12 @@ pub(crate) fn size_of_line(
         (λ size. size.top ≡ most_denominators (sketches rows.now) poly.now) }
 {
     let p = poly.shared();
+    let known = known_rows(alloc, rows, p.vars)?;
+    if let Some(small) = small_rows(alloc, &known)? {
+    if let Some(size) = small_size(&p, &small, &den) {
+        let charge = charge_of_rows(rows, den).saturating_add(size.charge as u128);
+        return Ok(LineSize { charge, weight: size.weight, degree: size.degree as u128, top: size.top });
+    } }
     let shares = shares_of(alloc, rows, &p)?;
     Ok(size_by_terms(rows, den, &p, &shares))
 }
