@@ -44,12 +44,12 @@ pub(crate) fn size_of_line(
 {
     let p = poly.shared();
     let known = known_rows(alloc, rows, p.vars)?;
-    if let Some(small) = small_rows(alloc, &known)? {
+    let small = small_rows(alloc, &known)?;
     if let Some(size) = small_size(&p, &small, &den) {
         let charge = charge_of_rows(rows, den).saturating_add(size.charge as u128);
         return Ok(LineSize { charge, weight: size.weight, degree: size.degree as u128, top: size.top });
-    } }
-    let shares = shares_of(alloc, rows, &p)?;
+    }
+    let shares = shares_of(alloc, &known, &small, &p)?;
     Ok(size_by_terms(rows, den, &p, &shares))
 }
 

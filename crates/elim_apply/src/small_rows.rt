@@ -19,6 +19,17 @@ pub(crate) struct SmallRow {
     pub degree: u64,
 }
 
+/// What is known of the row of a variable.
+#[derive(Clone, Copy)]
+pub(crate) enum KnownRow {
+    /// There is none, the variable stays.
+    Stays,
+    /// Its numbers, which are small.
+    Small(SmallRow),
+    /// Some of its numbers are not small.
+    Wide,
+}
+
 impl SmallRow {
     /// The numbers, where they are small.
     fn new(numbers: &RowNumbers) -> Option<SmallRow> {
@@ -35,21 +46,21 @@ impl SmallRow {
 pub(crate) fn small_rows(
     alloc: Global,
     known: &[Option<NumberedRow>],
-) -> Result<Option<Vec<Option<SmallRow>>>, NoMemory> {
+) -> Result<Vec<KnownRow>, NoMemory> {
     let mut rows = Vec::with_capacity(alloc, known.len())?;
     for entry in known {
-        let Some(row) = small_entry(entry) else {
-            return Ok(None);
-        };
-        rows.push(row)?;
+        rows.push(known_row(entry))?;
     }
-    Ok(Some(rows))
+    Ok(rows)
 }
 
 /// The numbers of a row, where there is one.
-fn small_entry(entry: &Option<NumberedRow>) -> Option<Option<SmallRow>> {
-    match entry {
-        Some(row) => Some(Some(SmallRow::new(&row.numbers)?)),
-        None => Some(None),
+fn known_row(entry: &Option<NumberedRow>) -> KnownRow {
+    let Some(row) = entry else {
+        return KnownRow::Stays;
+    };
+    match SmallRow::new(&row.numbers) {
+        Some(row) => KnownRow::Small(row),
+        None => KnownRow::Wide,
     }
 }

@@ -10,7 +10,8 @@ ghost use Rattle.geo_poly.specs.Replace.{row_of};
 ghost use Rattle.geo_poly.specs.Shared.{IsIndexOf, told_powers};
 
 use crate::capped::times_power;
-use crate::small_rows::SmallRow;
+use crate::small_rows::{KnownRow, SmallRow};
+use crate::shares::Share;
 use geo_poly::{FirstPower, Shared};
 use mono_store::MonoId;
 
@@ -106,10 +107,25 @@ impl SmallShare {
     }
 }
 
+impl SmallShare {
+    /// The same in wide numbers.
+    pub(crate) fn widened(self) -> Share
+    {
+        Share {
+            exponents: self.exponents,
+            denominators: self.denominators,
+            count: self.count as u128,
+            weight: self.weight as u128,
+            degree: self.degree as u128,
+        }
+    }
+}
+
 /// The share of the monomial at an index, where it is small.
+#[inline(always)]
 pub(crate) fn small_share_of(
     p: &Shared,
-    known: &[Option<SmallRow>],
+    known: &[KnownRow],
     id: MonoId,
 ) -> Option<SmallShare>
     requires { IsIndexOf p.now id }
@@ -128,7 +144,7 @@ pub(crate) fn small_share_of(
 /// The share with one more power.
 fn share_with(
     share: SmallShare,
-    known: &[Option<SmallRow>],
+    known: &[KnownRow],
     first: &FirstPower,
 ) -> Option<SmallShare>
     ensures { (rows : List Row) (vars : List Var) → AreKnown rows vars known.now
@@ -139,7 +155,8 @@ fn share_with(
         return share.keeping(first.exponent);
     };
     match entry {
-        Some(row) => share.replacing(row, first.exponent),
-        None => share.keeping(first.exponent),
+        KnownRow::Small(row) => share.replacing(row, first.exponent),
+        KnownRow::Stays => share.keeping(first.exponent),
+        KnownRow::Wide => None,
     }
 }

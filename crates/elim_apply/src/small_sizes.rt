@@ -1,7 +1,7 @@
 //! The size of the terms of a line, where all of its numbers are small, as they mostly are.
 
 use crate::capped::{small, times_power};
-use crate::small_rows::SmallRow;
+use crate::small_rows::KnownRow;
 use crate::small_shares::{SmallShare, small_share_of};
 use fraction_poly::RowNumbers;
 use geo_poly::Shared;
@@ -88,7 +88,7 @@ impl SmallSize {
 }
 
 /// The size of the terms, where all of its numbers are small.
-pub(crate) fn small_size(p: &Shared, rows: &[Option<SmallRow>], den: &RowNumbers) -> Option<SmallSize> {
+pub(crate) fn small_size(p: &Shared, rows: &[KnownRow], den: &RowNumbers) -> Option<SmallSize> {
     let den = SmallDenominator::new(den)?;
     let mut size = None;
     for (id, coefficient) in p.list {
