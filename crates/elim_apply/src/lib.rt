@@ -15,7 +15,6 @@ mod numbered;
 mod replacing;
 mod shares;
 mod sizes;
-mod small_rows;
 mod small_shares;
 mod small_sizes;
 mod starting;

@@ -11,8 +11,8 @@ ghost use Rattle.geo_poly.specs.Replace.{AllPowersSmall, row_of};
 ghost use Rattle.geo_poly.specs.Shared.{AreParts, IsIndexOf, told_powers};
 
 use crate::capped::{capped_power, capped_product};
+use crate::known_rows::known_rows;
 use crate::numbered::NumberedRow;
-use crate::small_rows::KnownRow;
 use crate::small_shares::small_share_of;
 use fraction_poly::RowNumbers;
 use geo_points::NoMemory;
@@ -136,8 +136,7 @@ impl Share {
 /// The shares of the monomials, term by term.
 pub(crate) fn shares_of(
     alloc: Global,
-    known: &[Option<NumberedRow>],
-    small: &[KnownRow],
+    rows: &[NumberedRow],
     p: &Shared,
 ) -> Result<Vec<Share>, NoMemory>
     requires powers { AllPowersSmall (sketches rows.now) }
@@ -145,17 +144,22 @@ pub(crate) fn shares_of(
     requires parts { AreParts p.now }
     ensures { IfOk result (λ shares. AreShares (sketches rows.now) p.now shares.items) }
 {
+    let known = known_rows(alloc, rows, p.vars)?;
     let mut shares = Vec::with_capacity(alloc, p.list.len())?;
     for (id, _) in p.list {
-        shares.push(share_of(p, known, small, *id))?;
+        shares.push(share_of(p, &known, *id))?;
     }
     Ok(shares)
 }
 
 /// The share of the monomial at an index. Mostly it is small.
-fn share_of(p: &Shared, known: &[Option<NumberedRow>], small: &[KnownRow], id: MonoId) -> Share
+fn share_of(p: &Shared, known: &[Option<NumberedRow>], id: MonoId) -> Share
+    requires index { IsIndexOf p.now id }
+    requires monomial { IsMonomial (told_powers p.now id) }
+    ensures { (rows : List Row) → AllPowersSmall rows → AreKnown rows p.now.vars.now known.now
+        → IsShareOf rows (told_powers p.now id) 1 result }
 {
-    match small_share_of(p, small, id) {
+    match small_share_of(p, known, id) {
         Some(share) => share.widened(),
         None => wide_share_of(p, known, id),
     }

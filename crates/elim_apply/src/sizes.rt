@@ -18,7 +18,6 @@ use crate::known_rows::known_rows;
 use crate::limits::LineSize;
 use crate::numbered::NumberedRow;
 use crate::shares::{Share, shares_of};
-use crate::small_rows::small_rows;
 use crate::small_sizes::small_size;
 use fraction_poly::RowNumbers;
 use geo_points::NoMemory;
@@ -44,12 +43,11 @@ pub(crate) fn size_of_line(
 {
     let p = poly.shared();
     let known = known_rows(alloc, rows, p.vars)?;
-    let small = small_rows(alloc, &known)?;
-    if let Some(size) = small_size(&p, &small, &den) {
+    if let Some(size) = small_size(&p, &known, &den) {
         let charge = charge_of_rows(rows, den).saturating_add(size.charge as u128);
         return Ok(LineSize { charge, weight: size.weight, degree: size.degree as u128, top: size.top });
     }
-    let shares = shares_of(alloc, &known, &small, &p)?;
+    let shares = shares_of(alloc, rows, &p)?;
     Ok(size_by_terms(rows, den, &p, &shares))
 }
 

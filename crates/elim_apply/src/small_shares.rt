@@ -9,8 +9,8 @@ ghost use Rattle.geo_poly.specs.Monomials.{Powers};
 ghost use Rattle.geo_poly.specs.Replace.{row_of};
 ghost use Rattle.geo_poly.specs.Shared.{IsIndexOf, told_powers};
 
-use crate::capped::times_power;
-use crate::small_rows::{KnownRow, SmallRow};
+use crate::capped::{small, times_power};
+use crate::numbered::NumberedRow;
 use crate::shares::Share;
 use geo_poly::{FirstPower, Shared};
 use mono_store::MonoId;
@@ -45,56 +45,37 @@ impl SmallShare {
     }
 
     /// With one more variable that is replaced, to the power `e`, which mostly is 1.
-    fn replacing(self, row: &SmallRow, e: u32) -> Option<SmallShare>
-        ensures { IfSome result (λ after. after ≡ with_power (Some row.now) e self) }
+    fn replacing(self, row: &NumberedRow, e: u32) -> Option<SmallShare>
+        ensures { IfSome result (λ after. after ≡ with_power (Some (sketched row.now)) e self) }
     {
-        match e {
-            1 => self.replacing_once(row),
-            2 => self.replacing_twice(row),
-            _ => self.replacing_often(row, e),
+        if e == 1 {
+            return self.replacing_once(row);
         }
-    }
-
-    /// With one more variable that is replaced, to any power.
-    fn replacing_often(self, row: &SmallRow, e: u32) -> Option<SmallShare>
-        ensures { IfSome result (λ after. after ≡ with_power (Some row.now) e self) }
-    {
+        let numbers = &row.numbers;
         Some(SmallShare {
             exponents: self.exponents.checked_add(e)?,
             denominators: self
                 .denominators
-                .checked_add(row.power.checked_mul(e)?)?,
-            count: times_power(self.count, row.count, e)?,
-            weight: times_power(self.weight, row.weight, e)?,
+                .checked_add(numbers.power.checked_mul(e)?)?,
+            count: times_power(self.count, numbers.ka, e)?,
+            weight: times_power(self.weight, numbers.wa, e)?,
             degree: self
                 .degree
-                .checked_add(row.degree.checked_mul(e as u64)?)?,
+                .checked_add(small(numbers.ga)?.checked_mul(e as u64)?)?,
         })
     }
 
     /// With one more variable that is replaced.
-    fn replacing_once(self, row: &SmallRow) -> Option<SmallShare>
-        ensures { IfSome result (λ after. after ≡ with_power (Some row.now) 1 self) }
+    fn replacing_once(self, row: &NumberedRow) -> Option<SmallShare>
+        ensures { IfSome result (λ after. after ≡ with_power (Some (sketched row.now)) 1 self) }
     {
+        let numbers = &row.numbers;
         Some(SmallShare {
             exponents: self.exponents.checked_add(1)?,
-            denominators: self.denominators.checked_add(row.power)?,
-            count: self.count.checked_mul(row.count)?,
-            weight: self.weight.checked_mul(row.weight)?,
-            degree: self.degree.checked_add(row.degree)?,
-        })
-    }
-
-    /// With one more variable that is replaced, to its square.
-    fn replacing_twice(self, row: &SmallRow) -> Option<SmallShare>
-        ensures { IfSome result (λ after. after ≡ with_power (Some row.now) 2 self) }
-    {
-        Some(SmallShare {
-            exponents: self.exponents.checked_add(2)?,
-            denominators: self.denominators.checked_add(row.power)?.checked_add(row.power)?,
-            count: self.count.checked_mul(row.count)?.checked_mul(row.count)?,
-            weight: self.weight.checked_mul(row.weight)?.checked_mul(row.weight)?,
-            degree: self.degree.checked_add(row.degree)?.checked_add(row.degree)?,
+            denominators: self.denominators.checked_add(numbers.power)?,
+            count: self.count.checked_mul(small(numbers.ka)?)?,
+            weight: self.weight.checked_mul(small(numbers.wa)?)?,
+            degree: self.degree.checked_add(small(numbers.ga)?)?,
         })
     }
 
@@ -105,11 +86,11 @@ impl SmallShare {
         let degree = self.degree.checked_add(e as u64)?;
         Some(SmallShare { degree, ..self })
     }
-}
 
-impl SmallShare {
     /// The same in wide numbers.
     pub(crate) fn widened(self) -> Share
+        ensures { (rows : List Row) (m : Powers) → self ≡ with_powers rows m no_power
+            → IsShareOf rows m 1 result }
     {
         Share {
             exponents: self.exponents,
@@ -122,10 +103,9 @@ impl SmallShare {
 }
 
 /// The share of the monomial at an index, where it is small.
-#[inline(always)]
 pub(crate) fn small_share_of(
     p: &Shared,
-    known: &[KnownRow],
+    known: &[Option<NumberedRow>],
     id: MonoId,
 ) -> Option<SmallShare>
     requires { IsIndexOf p.now id }
@@ -144,7 +124,7 @@ pub(crate) fn small_share_of(
 /// The share with one more power.
 fn share_with(
     share: SmallShare,
-    known: &[KnownRow],
+    known: &[Option<NumberedRow>],
     first: &FirstPower,
 ) -> Option<SmallShare>
     ensures { (rows : List Row) (vars : List Var) → AreKnown rows vars known.now
@@ -155,8 +135,7 @@ fn share_with(
         return share.keeping(first.exponent);
     };
     match entry {
-        KnownRow::Small(row) => share.replacing(row, first.exponent),
-        KnownRow::Stays => share.keeping(first.exponent),
-        KnownRow::Wide => None,
+        Some(row) => share.replacing(row, first.exponent),
+        None => share.keeping(first.exponent),
     }
 }

@@ -1,7 +1,7 @@
 //! The size of the terms of a line, where all of its numbers are small, as they mostly are.
 
-use crate::capped::{small, times_power};
-use crate::small_rows::KnownRow;
+use crate::capped::small;
+use crate::numbered::NumberedRow;
 use crate::small_shares::{SmallShare, small_share_of};
 use fraction_poly::RowNumbers;
 use geo_poly::Shared;
@@ -88,11 +88,11 @@ impl SmallSize {
 }
 
 /// The size of the terms, where all of its numbers are small.
-pub(crate) fn small_size(p: &Shared, rows: &[KnownRow], den: &RowNumbers) -> Option<SmallSize> {
+pub(crate) fn small_size(p: &Shared, known: &[Option<NumberedRow>], den: &RowNumbers) -> Option<SmallSize> {
     let den = SmallDenominator::new(den)?;
     let mut size = None;
     for (id, coefficient) in p.list {
-        let share = small_share_of(p, rows, *id)?;
+        let share = small_share_of(p, known, *id)?;
         let over = over_enough(size, &den, share.denominators)?;
         size = Some(over.with_term(&den, &share, coefficient.unsigned_abs())?);
     }
@@ -118,5 +118,14 @@ fn weight_over(weight: u64, k: u128, base: u64, exponent: u32) -> Option<u128> {
     match small(k) {
         Some(k) => Some(weight as u128 * times_power(k, base, exponent)? as u128),
         None => k.checked_mul(times_power(weight, base, exponent)? as u128),
+    }
+}
+
+/// A number times a power, where all are small.
+fn times_power(a: u64, base: u64, exponent: u32) -> Option<u64> {
+    match exponent {
+        0 => Some(a),
+        1 => a.checked_mul(base),
+        _ => a.checked_mul(base.checked_pow(exponent)?),
     }
 }
