@@ -1,6 +1,6 @@
 -- What a loop over the terms of a polynomial knows of their size in small numbers, over however many denominators they come to stand.
 use Rattle.std.proofs.Common.{◌≡◌, ℕ, ◌+◌, ◌*◌, ◌-◌, ◌^◌, ◌≤◌, max, ℤ, Option, Some, None, List, [], ◌∷◌, sym, ap, ◌∙◌, subst, unsigned_abs, arith, pow-add}
-use Rattle.std.specs.Prelude.{sum_by}
+use Rattle.std.specs.Prelude.{IfSome, sum_by}
 use Rattle.std.proofs.Math.Nat.{pow-zero}
 use Rattle.std.proofs.lemmas.List.Sums.{sum_by-cons}
 use Rattle.geo_poly.specs.Counted.{count_rows, replaced_exponents}
@@ -41,7 +41,7 @@ weight_more : (w powi powj both rest all : ℕ) → both ≡ powi * powj → w *
 weight_more w powi powj both rest all h so_far = let f : w * both ≡ w * (powi * powj) = ap (λ x. w * x) h in omega (arith, f, so_far)
 
 module _ (made : Replacement) where
-  charges : ℕ → Summands → ℕ
+  abbrev charges : ℕ → Summands → ℕ
   charges n q = sum_by (λ (t : Powers × ℤ). term_charge made n t.0) q
 
   -- the terms of q before those of `left` have this size
@@ -182,6 +182,19 @@ module _ (made : Replacement) where
       top : (s d rest all : ℕ) → d ≤ s → max s (max d rest) ≡ all → max s rest ≡ all
       top s d rest all within h = omega (arith, within, h)
 
+  -- with the next term, over the denominators that it calls for
+  pub next_before : (q : Summands) (t : Powers × ℤ) (rest : Summands) (o : Option SmallSize) (den : SmallDenominator) (share : SmallShare) (over after : SmallSize) (k : ℕ)
+      → IsDenominator den → share ≡ with_powers made.rows t.0 no_power → over ≡ over_enough den share.denominators o → share.denominators ≤ over.top
+      → after ≡ with_lacking den (over.top - share.denominators) share k over → k ≡ unsigned_abs t.1 → IsSoFar q (t ∷ rest) o → IsSizeBefore q rest after
+  next_before q t rest o den share over after k is share-is over-is within after-is k-is h =
+      let numbers = numbers_of made.rows t.0 no_power in
+      let d-is : share.denominators ≡ denominators made.rows t.0 = ap (λ (x : SmallShare). x.denominators) share-is ∙ numbers.denominators-are ∙ omega arith in
+      let enough : over ≡ over_enough den (denominators made.rows t.0) o = over-is ∙ ap (λ d. over_enough den d o) d-is in
+      let here = subst (λ (s : SmallSize). IsSizeBefore q (t ∷ rest) s) (sym enough) (enough_before q t rest o den is h) in
+      let same : after ≡ with_lacking den (over.top - share.denominators) share (unsigned_abs t.1) over =
+      after-is ∙ ap (λ x. with_lacking den (over.top - share.denominators) share x over) k-is in
+      subst (λ (s : SmallSize). IsSizeBefore q rest s) (sym same) (term_before q t rest over den share is share-is within here)
+
   -- all terms
   pub all_before : (q left : Summands) (s : SmallSize) → left ≡ [] → IsSizeBefore q left s → IsSizeOfTerms made q s
   all_before q left s none before =
@@ -208,3 +221,7 @@ module _ (made : Replacement) where
 
       most : (d g x all : ℕ) → x ≡ 0 → max (d + g * x) 0 ≡ all → d ≡ all
       most d g x all e h = let f : g * x ≡ g * 0 = ap (λ y. g * y) e in omega (arith, f, h)
+
+  pub whole_so_far : (q left : Summands) (o : Option SmallSize) → left ≡ [] → IsSoFar q left o → IfSome o (IsSizeOfTerms made q)
+  whole_so_far q left None none h = tt
+  whole_so_far q left (Some s) none h = all_before q left s none h
