@@ -71,12 +71,16 @@ impl SmallSize {
         ensures { IfSome result (λ after. after ≡ over_more den.now (top - self.top) self) }
     {
         let more = top - self.top;
-        let raised = self.products.checked_mul(more as u64)?;
+        let count = den.count.checked_pow(more)?;
+        let weight = den.weight.checked_pow(more)?;
+        let charge = self
+            .charge
+            .checked_add(self.products.checked_mul(more as u64)?)?;
         Some(SmallSize {
             top,
-            products: times_small_power(self.products, den.count, more)?,
-            charge: times_small_power(self.charge.checked_add(raised)?, den.count, more)?,
-            weight: weight_over(1, self.weight, den.weight, more)?,
+            products: self.products.checked_mul(count)?,
+            charge: charge.checked_mul(count)?,
+            weight: self.weight.checked_mul(weight as u128)?,
             degree: self
                 .degree
                 .checked_add(den.degree.checked_mul(more as u64)?)?,
