@@ -33,7 +33,7 @@ degree_step d s g l i term rest all h so_far = omega (arith, h, so_far)
 -- more denominators in plain numbers
 charge_more : (c b j i powi powj both rest all : ℕ) → both ≡ powi * powj → (c + b * (i + j)) * both + rest ≡ all
     → ((c + b * j) * powj + b * powj * i) * powi + rest ≡ all
-charge_more c b j i powi powj both rest all h so_far = 
+charge_more c b j i powi powj both rest all h so_far =
     let f : (c + b * (i + j)) * both ≡ (c + b * (i + j)) * (powi * powj) = ap (λ x. (c + b * (i + j)) * x) h in
     omega (arith, f, so_far)
 
