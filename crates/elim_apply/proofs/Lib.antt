@@ -9,6 +9,7 @@ pub mod SmallNumbers
 pub mod SmallShares
 pub mod LineShares
 pub mod LineSizes
+pub mod SmallSizes
 pub mod NumberedRows
 pub mod LineBounds
 pub mod FittingRows

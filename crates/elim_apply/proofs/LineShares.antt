@@ -31,7 +31,7 @@ count_rows-times rows (v ∷ m) k p = go (row_of rows v.0) (λ j. count_rows-tim
         swapped : (a b c : ℕ) → a * b * c ≡ a * c * b
         swapped a b c = omega arith
 
-weight_rows-times : (rows : List Row) (m : Powers) (k p : ℕ) → weight_rows rows m (k * p) ≡ weight_rows rows m k * p
+pub weight_rows-times : (rows : List Row) (m : Powers) (k p : ℕ) → weight_rows rows m (k * p) ≡ weight_rows rows m k * p
 weight_rows-times rows [] k p = refl
 weight_rows-times rows (v ∷ m) k p = go (row_of rows v.0) (λ j. weight_rows-times rows m j p)
   where

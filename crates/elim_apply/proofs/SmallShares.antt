@@ -12,12 +12,12 @@ use Rattle.elim_apply.specs.Inner.Shares.{IsShareOf, no_power, with_power, with_
 use Rattle.elim_apply.proofs.LineShares.{degree_rows-plus}
 
 -- the numbers of a share with these powers
-record HasNumbers (rows : List Row) (m : Powers) (s after : SmallShare) : Type 0 where
-  exponents-are : after.exponents ≡ s.exponents + replaced_exponents rows m
-  denominators-are : after.denominators ≡ s.denominators + denominators rows m
-  count-is : after.count ≡ count_rows rows m s.count
-  weight-is : after.weight ≡ weight_rows rows m s.weight
-  degree-is : after.degree ≡ s.degree + degree_rows rows m (degree_of (others rows m))
+pub record HasNumbers (rows : List Row) (m : Powers) (s after : SmallShare) : Type 0 where
+  pub exponents-are : after.exponents ≡ s.exponents + replaced_exponents rows m
+  pub denominators-are : after.denominators ≡ s.denominators + denominators rows m
+  pub count-is : after.count ≡ count_rows rows m s.count
+  pub weight-is : after.weight ≡ weight_rows rows m s.weight
+  pub degree-is : after.degree ≡ s.degree + degree_rows rows m (degree_of (others rows m))
 
 -- the same where the first power is taken apart from the others
 record HasNumbersFrom (rows : List Row) (o : Option Row) (v : Var × ℕ) (m : Powers) (s after : SmallShare) : Type 0 where
@@ -52,7 +52,7 @@ numbers_from rows (Some r) v m s h =
       degree-is = omega (arith, h.degree-is, degree);
     }
 
-numbers_of : (rows : List Row) (m : Powers) (s : SmallShare) → HasNumbers rows m s (with_powers rows m s)
+pub numbers_of : (rows : List Row) (m : Powers) (s : SmallShare) → HasNumbers rows m s (with_powers rows m s)
 numbers_of rows [] s = record {
   exponents-are = omega arith;
   denominators-are = omega arith;

@@ -2,3 +2,4 @@
 pub mod Sketches
 pub mod Shares
 pub mod Sizes
+pub mod SmallSizes

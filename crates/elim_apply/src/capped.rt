@@ -16,7 +16,7 @@ pub(crate) fn capped_product(a: u128, b: u128) -> u128
 }
 
 /// The product, with all its bits.
-fn whole_product(a: u64, b: u64) -> u128
+pub(crate) fn whole_product(a: u64, b: u64) -> u128
     ensures { result ≡ a * b }
 {
     a as u128 * b as u128
@@ -41,6 +41,17 @@ pub(crate) fn times_power(a: u64, base: u128, exponent: u32) -> Option<u64>
     match exponent {
         1 => a.checked_mul(base),
         2 => a.checked_mul(base)?.checked_mul(base),
+        _ => a.checked_mul(base.checked_pow(exponent)?),
+    }
+}
+
+/// A number times a power of another.
+pub(crate) fn times_small_power(a: u64, base: u64, exponent: u32) -> Option<u64>
+    ensures { IfSome result (λ n. n ≡ a * base ^ exponent) }
+{
+    match exponent {
+        0 => Some(a),
+        1 => a.checked_mul(base),
         _ => a.checked_mul(base.checked_pow(exponent)?),
     }
 }

@@ -16,6 +16,7 @@ mod replacing;
 mod shares;
 mod sizes;
 mod small_shares;
+mod small_sizes;
 mod starting;
 mod variables;
 

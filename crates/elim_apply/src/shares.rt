@@ -160,7 +160,7 @@ fn share_of(p: &Shared, known: &[Option<NumberedRow>], id: MonoId) -> Share
         → IsShareOf rows (told_powers p.now id) 1 result }
 {
     match small_share_of(p, known, id) {
-        Some(share) => share,
+        Some(share) => share.widened(),
         None => wide_share_of(p, known, id),
     }
 }

@@ -8,15 +8,18 @@ ghost use Rattle.elim_apply.specs.Inner.Shares.{AreShares, HaveShares, IsShareOf
 ghost use Rattle.elim_apply.specs.Inner.Sketches.{AreRising, sketch, sketched_denominator};
 ghost use Rattle.elim_apply.specs.Inner.Sketches.{sketches};
 ghost use Rattle.elim_apply.specs.Inner.Sizes.{IsSizeOf};
+ghost use Rattle.elim_apply.specs.Inner.SmallSizes.{IsSizeOfTerms};
 ghost use Rattle.geo_poly.specs.declared.replacement.Row.{Row};
-ghost use Rattle.geo_poly.specs.Polynomials.{IsPolynomial, term_at};
+ghost use Rattle.geo_poly.specs.Polynomials.{IsPolynomial, Summands, term_at};
 ghost use Rattle.geo_poly.specs.Replace.{AllPowersSmall, most_denominators};
 ghost use Rattle.geo_poly.specs.Replace.{replaced_degree, replaced_weight};
 ghost use Rattle.geo_poly.specs.Shared.{AreParts, told};
 
+use crate::known_rows::known_rows;
 use crate::limits::LineSize;
 use crate::numbered::NumberedRow;
 use crate::shares::{Share, shares_of};
+use crate::small_sizes::{SmallSize, small_size};
 use fraction_poly::RowNumbers;
 use geo_points::NoMemory;
 use geo_poly::{Poly, Shared};
@@ -40,8 +43,28 @@ pub(crate) fn size_of_line(
         (λ size. size.top ≡ most_denominators (sketches rows.now) poly.now) }
 {
     let p = poly.shared();
+    let known = known_rows(alloc, rows, p.vars)?;
+    if let Some(size) = small_size(&p, &known, &den) {
+        return Ok(with_rows(rows, den, size));
+    }
     let shares = shares_of(alloc, rows, &p)?;
     Ok(size_by_terms(rows, den, &p, &shares))
+}
+
+/// The size of the line, by that of its terms.
+fn with_rows(rows: &[NumberedRow], den: RowNumbers, terms: SmallSize) -> LineSize
+    ensures size { (q : Summands) → IsSizeOfTerms (sketch rows.now den) q terms
+        → IsSizeOf result (move_charge (sketch rows.now den) q)
+        (replaced_weight (sketches rows.now) (sketched_denominator den) q)
+        (replaced_degree (sketches rows.now) (sketched_denominator den) q) }
+    ensures top { result.top ≡ terms.top }
+{
+    LineSize {
+        charge: charge_of_rows(rows, den).saturating_add(terms.charge as u128),
+        weight: terms.weight,
+        degree: terms.degree as u128,
+        top: terms.top,
+    }
 }
 
 /// The size of the line, term by term.

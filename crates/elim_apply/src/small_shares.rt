@@ -88,7 +88,7 @@ impl SmallShare {
     }
 
     /// The same in wide numbers.
-    fn widened(self) -> Share
+    pub(crate) fn widened(self) -> Share
         ensures { (rows : List Row) (m : Powers) → self ≡ with_powers rows m no_power
             → IsShareOf rows m 1 result }
     {
@@ -103,10 +103,14 @@ impl SmallShare {
 }
 
 /// The share of the monomial at an index, where it is small.
-pub(crate) fn small_share_of(p: &Shared, known: &[Option<NumberedRow>], id: MonoId) -> Option<Share>
+pub(crate) fn small_share_of(
+    p: &Shared,
+    known: &[Option<NumberedRow>],
+    id: MonoId,
+) -> Option<SmallShare>
     requires { IsIndexOf p.now id }
     ensures { (rows : List Row) → AreKnown rows p.now.vars.now known.now
-        → IfSome result (IsShareOf rows (told_powers p.now id) 1) }
+        → IfSome result (λ share. share ≡ with_powers rows (told_powers p.now id) no_power) }
 {
     let mut share = SmallShare::of_one();
     let mut rest = id;
@@ -114,7 +118,7 @@ pub(crate) fn small_share_of(p: &Shared, known: &[Option<NumberedRow>], id: Mono
         share = share_with(share, known, &first)?;
         rest = first.rest;
     }
-    Some(share.widened())
+    Some(share)
 }
 
 /// The share with one more power.

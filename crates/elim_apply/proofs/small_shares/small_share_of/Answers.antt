@@ -24,5 +24,4 @@ loop-first-preserved c =
 
 pub returns : goal.returns
 returns c = λ rows are.
-    c.widened.ensures rows (told_powers c.args.p.now c.args.id)
-    (ap (λ (m : Powers). with_powers rows m c.loop-first.share) (sym c.in_default.ensures.none) ∙ c.loop-first.invariant.so_far rows are)
+    ap (λ (m : Powers). with_powers rows m c.loop-first.share) (sym c.in_default.ensures.none) ∙ c.loop-first.invariant.so_far rows are
