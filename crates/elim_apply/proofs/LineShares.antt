@@ -207,18 +207,18 @@ pub monomial_of_term : (p : Shared) (i : ℕ) → i < length p.list.now → (ter
 monomial_of_term p i within = ap (λ (t : Powers × ℤ). t.0) (told_at p (told p) i refl (told-within p i within))
 
 -- the row of a variable, by its number
-pub row_known : (rows : List Row) (vars : List Var) (known : List (Option NumberedRow)) (k : ℕ) (o : Option NumberedRow) (d : Var) → AreKnown rows vars known
-    → slice_get known k ≡ Some o → row_of rows (get_or vars k d) ≡ option_map sketched o
-row_known rows [] [] k o d are e = absurd (let q : ◌≡◌ {A = Option (Option NumberedRow)} None (Some o) = e in cc)
-row_known rows [] (r ∷ known) k o d are e = absurd (cc)
-row_known rows (v ∷ vars) [] k o d are e = absurd (cc)
-row_known rows (v ∷ vars) (r ∷ known) zero o d are e =
-    let q : ◌≡◌ {A = Option (Option NumberedRow)} (Some r) (Some o) = e in
+pub row_known : {A : Type 0} (f : A → Option Row) (rows : List Row) (vars : List Var) (known : List A) (k : ℕ) (o : A) (d : Var)
+    → map f known ≡ map (row_of rows) vars → slice_get known k ≡ Some o → row_of rows (get_or vars k d) ≡ f o
+row_known {A} f rows [] [] k o d are e = absurd (let q : ◌≡◌ {A = Option A} None (Some o) = e in cc)
+row_known f rows [] (r ∷ known) k o d are e = absurd (cc)
+row_known f rows (v ∷ vars) [] k o d are e = absurd (cc)
+row_known {A} f rows (v ∷ vars) (r ∷ known) zero o d are e =
+    let q : ◌≡◌ {A = Option A} (Some r) (Some o) = e in
     let same : r ≡ o = cc in
-    let first : option_map sketched r ≡ row_of rows v = cc in
-    sym first ∙ ap (option_map sketched) same
-row_known rows (v ∷ vars) (r ∷ known) (suc k) o d are e =
-    let rest : map (option_map sketched) known ≡ map (row_of rows) vars = cc in row_known rows vars known k o d rest e
+    let first : f r ≡ row_of rows v = cc in
+    sym first ∙ ap f same
+row_known f rows (v ∷ vars) (r ∷ known) (suc k) o d are e =
+    let rest : map f known ≡ map (row_of rows) vars = cc in row_known f rows vars known k o d rest e
 
 -- each variable has an entry
 pub known_within : (rows : List Row) (vars : List Var) (known : List (Option NumberedRow)) → AreKnown rows vars known → length known ≡ length vars

@@ -69,17 +69,3 @@ numbers_of rows (v ∷ m) s =
       weight-is = h.weight-is;
       degree-is = h.degree-is;
     }
-
--- with all powers it is the share of the monomial
-pub whole_share : (rows : List Row) (m : Powers) (share : SmallShare) (wide : Share) → share ≡ with_powers rows m no_power
-    → wide.exponents ≡ share.exponents → wide.denominators ≡ share.denominators → wide.count ≡ share.count → wide.weight ≡ share.weight
-    → wide.degree ≡ share.degree → share.count ≤ 2 ^ 64 - 1 → share.weight ≤ 2 ^ 64 - 1 → share.degree ≤ 2 ^ 64 - 1 → IsShareOf rows m 1 wide
-whole_share rows m share wide is exponents denominators count weight degree count_fits weight_fits degree_fits =
-    let h = numbers_of rows m no_power in
-    record {
-      exponents-are = exponents ∙ ap (λ (s : SmallShare). s.exponents) is ∙ h.exponents-are ∙ omega arith;
-      denominators-are = denominators ∙ ap (λ (s : SmallShare). s.denominators) is ∙ h.denominators-are ∙ omega arith;
-      count-is = omega (arith, count, ap (λ (s : SmallShare). s.count) is, h.count-is, count_fits);
-      weight-is = omega (arith, weight, ap (λ (s : SmallShare). s.weight) is, h.weight-is, weight_fits);
-      degree-is = omega (arith, degree, ap (λ (s : SmallShare). s.degree) is, h.degree-is, degree_fits);
-    }

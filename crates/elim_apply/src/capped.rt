@@ -34,10 +34,9 @@ pub(crate) fn capped_power(base: u128, exponent: u32) -> u128
 }
 
 /// A number times a power, where all are small.
-pub(crate) fn times_power(a: u64, base: u128, exponent: u32) -> Option<u64>
+pub(crate) fn times_power(a: u64, base: u64, exponent: u32) -> Option<u64>
     ensures { IfSome result (λ n. n ≡ a * base ^ exponent) }
 {
-    let base = small(base)?;
     match exponent {
         1 => a.checked_mul(base),
         2 => a.checked_mul(base)?.checked_mul(base),

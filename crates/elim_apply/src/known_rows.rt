@@ -37,7 +37,7 @@ pub(crate) fn known_rows(
 }
 
 /// The row of the variable, and the rows that later variables may have.
-fn next_row(rows: &[NumberedRow], v: Var) -> (Option<NumberedRow>, &[NumberedRow])
+pub(crate) fn next_row(rows: &[NumberedRow], v: Var) -> (Option<NumberedRow>, &[NumberedRow])
     requires { AreRising rows.now }
     ensures row { option_map sketched result.0 ≡ row_of (sketches rows.now) v }
     ensures later { (w : Var) → var_cmp v w ≡ Less

@@ -15,6 +15,7 @@ mod numbered;
 mod replacing;
 mod shares;
 mod sizes;
+mod small_rows;
 mod small_shares;
 mod small_sizes;
 mod starting;

@@ -13,7 +13,6 @@ ghost use Rattle.geo_poly.specs.Shared.{AreParts, IsIndexOf, told_powers};
 use crate::capped::{capped_power, capped_product};
 use crate::known_rows::known_rows;
 use crate::numbered::NumberedRow;
-use crate::small_shares::small_share_of;
 use fraction_poly::RowNumbers;
 use geo_points::NoMemory;
 use geo_poly::{FirstPower, Shared};
@@ -152,21 +151,8 @@ pub(crate) fn shares_of(
     Ok(shares)
 }
 
-/// The share of the monomial at an index. Mostly it is small.
+/// The share of the monomial at an index.
 fn share_of(p: &Shared, known: &[Option<NumberedRow>], id: MonoId) -> Share
-    requires index { IsIndexOf p.now id }
-    requires monomial { IsMonomial (told_powers p.now id) }
-    ensures { (rows : List Row) → AllPowersSmall rows → AreKnown rows p.now.vars.now known.now
-        → IsShareOf rows (told_powers p.now id) 1 result }
-{
-    match small_share_of(p, known, id) {
-        Some(share) => share.widened(),
-        None => wide_share_of(p, known, id),
-    }
-}
-
-/// The share of the monomial at an index, in wide numbers.
-fn wide_share_of(p: &Shared, known: &[Option<NumberedRow>], id: MonoId) -> Share
     requires index { IsIndexOf p.now id }
     requires monomial { IsMonomial (told_powers p.now id) }
     ensures { (rows : List Row) → AllPowersSmall rows → AreKnown rows p.now.vars.now known.now

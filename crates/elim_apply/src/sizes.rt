@@ -15,10 +15,10 @@ ghost use Rattle.geo_poly.specs.Replace.{AllPowersSmall, most_denominators};
 ghost use Rattle.geo_poly.specs.Replace.{replaced_degree, replaced_weight};
 ghost use Rattle.geo_poly.specs.Shared.{AreParts, told};
 
-use crate::known_rows::known_rows;
 use crate::limits::LineSize;
 use crate::numbered::NumberedRow;
 use crate::shares::{Share, shares_of};
+use crate::small_rows::known_small_rows;
 use crate::small_sizes::{SmallSize, small_size};
 use fraction_poly::RowNumbers;
 use geo_points::NoMemory;
@@ -43,9 +43,10 @@ pub(crate) fn size_of_line(
         (λ size. size.top ≡ most_denominators (sketches rows.now) poly.now) }
 {
     let p = poly.shared();
-    let known = known_rows(alloc, rows, p.vars)?;
-    if let Some(size) = small_size(&p, &known, &den) {
-        return Ok(with_rows(rows, den, size));
+    if let Some(known) = known_small_rows(alloc, rows, p.vars)? {
+        if let Some(size) = small_size(&p, &known, &den) {
+            return Ok(with_rows(rows, den, size));
+        }
     }
     let shares = shares_of(alloc, rows, &p)?;
     Ok(size_by_terms(rows, den, &p, &shares))

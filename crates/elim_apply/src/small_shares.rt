@@ -1,17 +1,15 @@
 //! What becomes of the monomials of a line, where all of its numbers are small, as they mostly are.
 
 ghost use Rattle.std.specs.Prelude.{◌≡◌, IfSome, List, None, Some, slice_get};
-ghost use Rattle.elim_apply.specs.Inner.Shares.{IsShareOf, no_power, with_power, with_powers};
-ghost use Rattle.elim_apply.specs.Inner.Sketches.{AreKnown, sketched};
+ghost use Rattle.elim_apply.specs.Inner.Shares.{no_power, with_power, with_powers};
+ghost use Rattle.elim_apply.specs.Inner.Sketches.{AreKnownSmall, small_sketched};
 ghost use Rattle.geo_poly.specs.declared.replacement.Row.{Row};
 ghost use Rattle.geo_poly.specs.declared.variables.Var.{Var};
-ghost use Rattle.geo_poly.specs.Monomials.{Powers};
 ghost use Rattle.geo_poly.specs.Replace.{row_of};
 ghost use Rattle.geo_poly.specs.Shared.{IsIndexOf, told_powers};
 
-use crate::capped::{small, times_power};
-use crate::numbered::NumberedRow;
-use crate::shares::Share;
+use crate::capped::times_power;
+use crate::small_rows::SmallRow;
 use geo_poly::{FirstPower, Shared};
 use mono_store::MonoId;
 
@@ -45,37 +43,31 @@ impl SmallShare {
     }
 
     /// With one more variable that is replaced, to the power `e`, which mostly is 1.
-    fn replacing(self, row: &NumberedRow, e: u32) -> Option<SmallShare>
-        ensures { IfSome result (λ after. after ≡ with_power (Some (sketched row.now)) e self) }
+    fn replacing(self, row: &SmallRow, e: u32) -> Option<SmallShare>
+        ensures { IfSome result (λ after. after ≡ with_power (Some (small_sketched row.now)) e self) }
     {
         if e == 1 {
             return self.replacing_once(row);
         }
-        let numbers = &row.numbers;
         Some(SmallShare {
             exponents: self.exponents.checked_add(e)?,
-            denominators: self
-                .denominators
-                .checked_add(numbers.power.checked_mul(e)?)?,
-            count: times_power(self.count, numbers.ka, e)?,
-            weight: times_power(self.weight, numbers.wa, e)?,
-            degree: self
-                .degree
-                .checked_add(small(numbers.ga)?.checked_mul(e as u64)?)?,
+            denominators: self.denominators.checked_add(row.power.checked_mul(e)?)?,
+            count: times_power(self.count, row.count, e)?,
+            weight: times_power(self.weight, row.weight, e)?,
+            degree: self.degree.checked_add(row.degree.checked_mul(e as u64)?)?,
         })
     }
 
     /// With one more variable that is replaced.
-    fn replacing_once(self, row: &NumberedRow) -> Option<SmallShare>
-        ensures { IfSome result (λ after. after ≡ with_power (Some (sketched row.now)) 1 self) }
+    fn replacing_once(self, row: &SmallRow) -> Option<SmallShare>
+        ensures { IfSome result (λ after. after ≡ with_power (Some (small_sketched row.now)) 1 self) }
     {
-        let numbers = &row.numbers;
         Some(SmallShare {
             exponents: self.exponents.checked_add(1)?,
-            denominators: self.denominators.checked_add(numbers.power)?,
-            count: self.count.checked_mul(small(numbers.ka)?)?,
-            weight: self.weight.checked_mul(small(numbers.wa)?)?,
-            degree: self.degree.checked_add(small(numbers.ga)?)?,
+            denominators: self.denominators.checked_add(row.power)?,
+            count: self.count.checked_mul(row.count)?,
+            weight: self.weight.checked_mul(row.weight)?,
+            degree: self.degree.checked_add(row.degree)?,
         })
     }
 
@@ -86,30 +78,16 @@ impl SmallShare {
         let degree = self.degree.checked_add(e as u64)?;
         Some(SmallShare { degree, ..self })
     }
-
-    /// The same in wide numbers.
-    pub(crate) fn widened(self) -> Share
-        ensures { (rows : List Row) (m : Powers) → self ≡ with_powers rows m no_power
-            → IsShareOf rows m 1 result }
-    {
-        Share {
-            exponents: self.exponents,
-            denominators: self.denominators,
-            count: self.count as u128,
-            weight: self.weight as u128,
-            degree: self.degree as u128,
-        }
-    }
 }
 
 /// The share of the monomial at an index, where it is small.
 pub(crate) fn small_share_of(
     p: &Shared,
-    known: &[Option<NumberedRow>],
+    known: &[Option<SmallRow>],
     id: MonoId,
 ) -> Option<SmallShare>
     requires { IsIndexOf p.now id }
-    ensures { (rows : List Row) → AreKnown rows p.now.vars.now known.now
+    ensures { (rows : List Row) → AreKnownSmall rows p.now.vars.now known.now
         → IfSome result (λ share. share ≡ with_powers rows (told_powers p.now id) no_power) }
 {
     let mut share = SmallShare::of_one();
@@ -124,10 +102,10 @@ pub(crate) fn small_share_of(
 /// The share with one more power.
 fn share_with(
     share: SmallShare,
-    known: &[Option<NumberedRow>],
+    known: &[Option<SmallRow>],
     first: &FirstPower,
 ) -> Option<SmallShare>
-    ensures { (rows : List Row) (vars : List Var) → AreKnown rows vars known.now
+    ensures { (rows : List Row) (vars : List Var) → AreKnownSmall rows vars known.now
         → slice_get vars first.now.number ≡ Some first.now.var → IfSome result
         (λ after. after ≡ with_power (row_of rows first.now.var) first.now.exponent share) }
 {

@@ -3,11 +3,12 @@
 ghost use Rattle.std.specs.Prelude.{◌≡◌, ◌-◌, ◌*◌, ◌^◌, ◌≤◌, IfSome, List};
 ghost use Rattle.elim_apply.specs.Inner.SmallSizes.{IsSizeOfTerms, no_terms, over_enough};
 ghost use Rattle.elim_apply.specs.Inner.SmallSizes.{over_more, small_denominator, with_lacking};
-ghost use Rattle.elim_apply.specs.Inner.Sketches.{AreKnown, sketch, sketches};
+ghost use Rattle.elim_apply.specs.Inner.Sketches.{AreKnownSmall, sketch, sketches};
+ghost use Rattle.elim_apply.specs.declared.numbered.NumberedRow.{NumberedRow};
 ghost use Rattle.geo_poly.specs.Shared.{AreParts, told};
 
 use crate::capped::{small, times_small_power, whole_product};
-use crate::numbered::NumberedRow;
+use crate::small_rows::SmallRow;
 use crate::small_shares::{SmallShare, small_share_of};
 use fraction_poly::RowNumbers;
 use geo_poly::Shared;
@@ -113,11 +114,11 @@ impl SmallSize {
 /// The size of the terms, where all of its numbers are small.
 pub(crate) fn small_size(
     p: &Shared,
-    known: &[Option<NumberedRow>],
+    known: &[Option<SmallRow>],
     den: &RowNumbers,
 ) -> Option<SmallSize>
     requires parts { AreParts p.now }
-    ensures { (rows : List NumberedRow) → AreKnown (sketches rows) p.now.vars.now known.now
+    ensures { (rows : List NumberedRow) → AreKnownSmall (sketches rows) p.now.vars.now known.now
         → IfSome result (IsSizeOfTerms (sketch rows den.now) (told p.now)) }
 {
     let numbers = SmallDenominator::new(den)?;

@@ -13,6 +13,7 @@ use Rattle.geo_terms.specs.Constructions.{Construction}
 use Rattle.geo_logs.specs.declared.moves.Move.{Move}
 use Rattle.geo_logs.specs.declared.moves.Replacement.{Replacement}
 use Rattle.elim_apply.specs.declared.numbered.NumberedRow.{NumberedRow}
+use Rattle.elim_apply.specs.declared.small_rows.SmallRow.{SmallRow}
 use Rattle.elim_apply.specs.LemmaTable.{row_of_move}
 
 -- a variable with the numbers of the row that the move has for it
@@ -25,6 +26,14 @@ sketched n = record {
   var = n.var;
   power = n.numbers.power;
   num = record { poly = []; weight = n.numbers.wa; count = n.numbers.ka; degree = n.numbers.ga };
+}
+
+-- the same of a row whose numbers are small
+abbrev pub small_sketched : SmallRow → Row
+small_sketched n = record {
+  var = n.var;
+  power = n.power;
+  num = record { poly = []; weight = n.weight; count = n.count; degree = n.degree };
 }
 
 -- the same of the denominator
@@ -42,6 +51,10 @@ sketch rows den = record { rows = sketches rows; den = sketched_denominator den;
 -- the rows that the variables have, each where it has one
 abbrev pub AreKnown : List Row → List Var → List (Option NumberedRow) → Type 0
 AreKnown rows vars known = map (option_map sketched) known ≡ map (row_of rows) vars
+
+-- the same, where the rows are small
+abbrev pub AreKnownSmall : List Row → List Var → List (Option SmallRow) → Type 0
+AreKnownSmall rows vars known = map (option_map small_sketched) known ≡ map (row_of rows) vars
 
 -- the rows are in the order of their variables
 abbrev pub AreRising : List NumberedRow → Type 0

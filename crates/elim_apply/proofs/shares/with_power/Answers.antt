@@ -22,7 +22,7 @@ returns-in-Some-entry c = λ rows vars are at.
     let read = c.in-Some.ensures.lookup in
     let entry = slice_get_read known (length known) f.number c.in-Some.entry.now refl (ltb-true f.number (length known) (sym read.0)) read.1 in
     let stands = get_or_from_slice_get vars f.number f.var f.var at in
-    let row = ap (row_of rows) (sym stands) ∙ row_known rows vars known f.number c.in-Some.entry.now f.var are entry
+    let row = ap (row_of rows) (sym stands) ∙ row_known (option_map sketched) rows vars known f.number c.in-Some.entry.now f.var are entry
     ∙ ap (option_map sketched) c.in-Some-entry.is in
     subst (λ (o : Option Row). IsWithPower o f.exponent c.args.share c.replacing.result) (sym row)
     (record {
@@ -40,7 +40,7 @@ returns-in-None c = λ rows vars are at.
     let read = c.in-Some.ensures.lookup in
     let entry = slice_get_read known (length known) f.number c.in-Some.entry.now refl (ltb-true f.number (length known) (sym read.0)) read.1 in
     let stands = get_or_from_slice_get vars f.number f.var f.var at in
-    let row = ap (row_of rows) (sym stands) ∙ row_known rows vars known f.number c.in-Some.entry.now f.var are entry
+    let row = ap (row_of rows) (sym stands) ∙ row_known (option_map sketched) rows vars known f.number c.in-Some.entry.now f.var are entry
     ∙ ap (option_map sketched) c.in-None.is in
     subst (λ (o : Option Row). IsWithPower o f.exponent c.args.share c.keeping-in-None.result) (sym row)
     (record {

@@ -2,7 +2,7 @@ use Rattle.std.proofs.Common.{subst}
 use Rattle.geo_poly.specs.Monomials.{Powers}
 use Rattle.geo_poly.specs.Shared.{told_powers}
 use Rattle.elim_apply.proofs.LineShares.{IsShareBefore, all_powers, no_power, one_power}
-use Rattle.elim_apply.proofs.shares.wide_share_of.Goals as goal
+use Rattle.elim_apply.proofs.shares.share_of.Goals as goal
 
 pub loop-first-init : goal.loop-first-init
 loop-first-init c = record {

@@ -4,7 +4,7 @@ use Rattle.geo_poly.specs.Replace.{AllPowersSmall}
 use Rattle.geo_poly.specs.Shared.{IsIndexOf, told_powers}
 use Rattle.elim_apply.specs.Inner.Sketches.{AreKnown}
 use Rattle.elim_apply.proofs.LineShares.{IsShareBefore}
-use Rattle.elim_apply.proofs.shares.wide_share_of.Given as goal
+use Rattle.elim_apply.proofs.shares.share_of.Given as goal
 
 abbrev pub invariant-loop-first : goal.invariant-loop-first
 invariant-loop-first l = record {
