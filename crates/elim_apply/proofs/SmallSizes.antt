@@ -1,5 +1,5 @@
 -- What a loop over the terms of a polynomial knows of their size in small numbers, over however many denominators they come to stand.
-use Rattle.std.proofs.Common.{◌≡◌, ℕ, ◌+◌, ◌*◌, ◌-◌, ◌^◌, ◌≤◌, max, ℤ, Option, Some, None, List, [], ◌∷◌, sym, ap, ◌∙◌, subst, unsigned_abs, arith, pow-add}
+use Rattle.std.proofs.Common.{◌≡◌, ℕ, ◌+◌, ◌*◌, ◌-◌, ◌^◌, ◌≤◌, max, ℤ, Option, Some, None, [], ◌∷◌, sym, ap, ◌∙◌, subst, unsigned_abs, arith, pow-add}
 use Rattle.std.specs.Prelude.{IfSome, sum_by}
 use Rattle.std.proofs.Math.Nat.{pow-zero}
 use Rattle.std.proofs.lemmas.List.Sums.{sum_by-cons}

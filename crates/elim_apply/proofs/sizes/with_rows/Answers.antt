@@ -2,7 +2,7 @@ use Rattle.std.proofs.Common.{◌≡◌, ℕ, ℤ, ◌+◌, ◌-◌, ◌^◌, �
 use Rattle.std.specs.Prelude.{sum_by}
 use Rattle.geo_logs.specs.Moves.{term_charge}
 use Rattle.geo_poly.specs.Monomials.{Powers}
-use Rattle.geo_poly.specs.Replace.{degree_bound, most_denominators, weight_of}
+use Rattle.geo_poly.specs.Replace.{degree_bound, weight_of}
 use Rattle.elim_apply.specs.Inner.Sketches.{sketch}
 use Rattle.elim_apply.proofs.sizes.with_rows.Goals as goal
 
