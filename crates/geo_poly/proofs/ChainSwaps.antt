@@ -1,8 +1,8 @@
 -- Chains that are spent for others, and the lists that stand for pieces, where a store grows.
 use Rattle.std.proofs.Common.{◌≡◌, ℕ, zero, suc, ◌<◌, get_or, length, arith, inl, inr, None, List, [], ◌∷◌, ◌++◌, refl, sym, ap, subst, ◌∙◌}
-use Rattle.std.specs.Prelude.{Result, Ok, Err, IfOk, OnErr}
+use Rattle.std.specs.Prelude.{Option, Result, Ok, Err, IfOk, OnErr}
 use Rattle.mono_store.specs.Stores.{Keeps, Store}
-use Rattle.poly_arena.specs.Chains.{Chains, Updates, list_of}
+use Rattle.poly_arena.specs.Chains.{Chains, Pairs, Updates, list_of}
 use Rattle.geo_poly.specs.declared.replacement.Row.{Row}
 use Rattle.geo_poly.specs.declared.settings.Setting.{Setting}
 use Rattle.geo_poly.specs.declared.variables.Var.{Var}
@@ -47,6 +47,10 @@ Swaps-trans a b c x y z h g = record {
     | inr d ↦ sym (h.others z dzx d) ∙ g.unused d
   ];
 }
+
+-- a chain that is changed in its place
+pub Swaps-updates : (a b : Chains) (n : ℕ) (list : Option Pairs) → Updates a b n list → Swaps a b n n
+Swaps-updates a b n list u = record { others = λ m d e. u.others m d; spent = λ d. absurd (d refl); unused = λ d. absurd (d refl) }
 
 -- where the new chain is spent too, the old one is
 pub Swaps-spent : (a b c : Chains) (x y : ℕ) → Swaps a b x y → Updates b c y None → Updates a c x None

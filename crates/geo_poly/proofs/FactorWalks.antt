@@ -3,6 +3,7 @@ use Rattle.std.proofs.Common.{◌≡◌, ℕ, ◌+◌, ◌*◌, ◌-◌, ◌<◌
 use Rattle.std.specs.Prelude.{◌≢◌, IfNone, IfSome, ℤ, slice_get}
 use Rattle.std.proofs.lemmas.List.{append-nil}
 use Rattle.geo_poly.specs.declared.pending.FactorPower.{FactorPower}
+use Rattle.geo_poly.specs.declared.pending.Found.{Found}
 use Rattle.geo_poly.specs.declared.replacement.Row.{Row}
 use Rattle.geo_poly.specs.declared.settings.Setting.{Setting}
 use Rattle.geo_poly.specs.declared.variables.Var.{Var}
@@ -121,12 +122,12 @@ Walked-end setting m left found missing none bounded some seen h =
     (h.path missing (λ more. counted setting.den.piece.now bounded (some more))))
 
 -- the factors, where some are found
-pub factors_found : (setting : Setting) (m : Powers) (fs : List FactorPower) (found : Option ℕ) (lacking : ℕ) → found ≡ Some lacking
-    → IfSome found (λ n. AreFactors setting m (replicate n 0 ++ factors_listed fs)) → AreFactors setting m (replicate lacking 0 ++ factors_listed fs)
-factors_found setting m fs found lacking is h =
-    subst (λ (o : Option ℕ). IfSome o (λ n. AreFactors setting m (replicate n 0 ++ factors_listed fs))) is h
+pub factors_found : (setting : Setting) (m : Powers) (fs : List FactorPower) (found : Option Found) (f : Found) → found ≡ Some f
+    → IfSome found (λ g. AreFactors setting m (replicate g.lacking 0 ++ factors_listed fs)) → AreFactors setting m (replicate f.lacking 0 ++ factors_listed fs)
+factors_found setting m fs found f is h =
+    subst (λ (o : Option Found). IfSome o (λ g. AreFactors setting m (replicate g.lacking 0 ++ factors_listed fs))) is h
 
 -- what becomes of the term is zero, where none are found
-pub zero_found : (rows : List Row) (den : Summands) (top : ℕ) (m : Powers) (found : Option ℕ) → found ≡ None
+pub zero_found : (rows : List Row) (den : Summands) (top : ℕ) (m : Powers) (found : Option Found) → found ≡ None
     → IfNone found ((k : ℤ) → accumulated_term rows den top (m, k) ≡ []) → (k : ℤ) → accumulated_term rows den top (m, k) ≡ []
-zero_found rows den top m found is h = subst (λ (o : Option ℕ). IfNone o ((k : ℤ) → accumulated_term rows den top (m, k) ≡ [])) is h
+zero_found rows den top m found is h = subst (λ (o : Option Found). IfNone o ((k : ℤ) → accumulated_term rows den top (m, k) ≡ [])) is h

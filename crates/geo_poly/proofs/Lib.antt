@@ -46,6 +46,7 @@ pub mod ChainHalves
 pub mod ChainMultiples
 pub mod LeadingVariables
 pub mod LoneTerms
+pub mod ScaledChains
 pub mod OneFactor
 pub mod Elements
 pub mod ChainPowers
@@ -95,3 +96,4 @@ pub mod WordMultiples
 pub mod WordProducts
 pub mod RoleWalks
 pub mod NarrowWords
+pub mod AddedKeys

@@ -132,7 +132,7 @@ pub move_is : (old : List Var) (rows : List Row) (vars : List Var) (moves : List
     → move ≢ Unknown → (var < length old) × IsMoveOf rows vars (var_at old var) move
 move_is old rows vars moves var move are at known =
     let within : var < length moves = known_within moves var (λ e. known (sym at ∙ e)) in
-    (omega (arith, within, are.whole), subst (IsMoveOf rows vars (var_at old var)) at (are.each var within))
+    (omega (arith, within, are.within), subst (IsMoveOf rows vars (var_at old var)) at (are.each var within))
 
 -- what a table of links tells of an index
 pub entry_moved : (p : Shared) (rows : List Row) (vars : List Var) (keys : Keys) (links : List (Option MonoId)) (id : MonoId) (k : ℕ) (entry : Option MonoId)

@@ -5,7 +5,7 @@ use Rattle.geo_poly.specs.declared.pending.Pending.{Pending}
 
 -- what stands past the end
 abbrev pub past_pending : Pending
-past_pending = record { factors = record { ref_ptr = (0, 0); now = [] }; id = record { 0 = 0 }; coefficient = pos 0; rank = 0 }
+past_pending = record { factors = record { ref_ptr = (0, 0); now = [] }; id = record { 0 = 0 }; place = 0; coefficient = pos 0 }
 
 abbrev pub pending_at : List Pending → ℕ → Pending
 pending_at es i = get_or es i past_pending

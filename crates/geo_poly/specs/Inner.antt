@@ -16,3 +16,4 @@ pub mod WordDivisors
 pub mod Limits
 pub mod WordSums
 pub mod Runs
+pub mod TermKeys

@@ -1,14 +1,15 @@
 //! Replacements as chains of an arena.
 
 ghost use Rattle.std.specs.Prelude.{◌≡◌, ◌+◌, ◌*◌, ◌<◌, ◌≤◌, ◌∷◌, []};
-ghost use Rattle.std.specs.Prelude.{Contains, IfOk, IsTrue, OnErr, None, Some};
+ghost use Rattle.std.specs.Prelude.{Contains, IfOk, IfSome, IsTrue, OnErr, None, Some};
 ghost use Rattle.std.specs.Prelude.{length, pos, slice_get};
 ghost use Rattle.std.specs.List.Sorted.{IsStrictlySortedBy};
 ghost use Rattle.sparse_lists.specs.SparseLists.{AllKeys};
 ghost use Rattle.poly_arena.specs.Chains.{IsLive, Updates, list_of, pairs_of};
 ghost use Rattle.geo_poly.specs.Chained.{AddsChain, SameChains, StandsUnder, keyed_terms_under};
-ghost use Rattle.geo_poly.specs.Inner.Keyed.{AreInReach, AreWithinLimits, HasRoom, IsIndexUnder};
-ghost use Rattle.geo_poly.specs.Inner.Keyed.{IsWithinLimits, KeepsKeys, terms_under};
+ghost use Rattle.geo_poly.specs.Inner.Keyed.{AddsUp, AreInReach, AreWithinLimits, HasRoom};
+ghost use Rattle.geo_poly.specs.Inner.Keyed.{IsIndexUnder, IsWithinLimits, KeepsKeys, term_under};
+ghost use Rattle.geo_poly.specs.Inner.Keyed.{terms_under};
 ghost use Rattle.geo_poly.specs.Inner.Settings.{AreStoredUnder, IsStoredUnder, Swaps};
 ghost use Rattle.geo_poly.specs.Keys.{IsKeyUnder};
 ghost use Rattle.geo_poly.specs.KeptVariables.{AllNumerators};
@@ -115,6 +116,89 @@ pub(crate) fn one_term_chain(
 
 /// The chain times the list. The chain is spent, also where there is no memory.
 pub(crate) fn times_list<K: MonomialKeys, L: Ledger>(
+    alloc: Global,
+    keys: &mut K,
+    arena: &mut Arena,
+    vars: &[Var],
+    chain: Chain,
+    list: &[Indexed],
+    ticks: &mut Ticks<L>,
+) -> Result<Chain, NoMemory>
+    requires rising { IsStrictlySortedBy var_cmp vars.now }
+    requires live { IsLive arena.old chain }
+    requires keys { AllKeys (IsKeyUnder vars.now (K.keys keys.old)) (pairs_of arena.old chain) }
+    requires indices { AllKeys (IsIndexUnder vars.now (K.keys keys.old)) list.now }
+    requires fits { CanMultiply
+        (keyed_terms_under vars.now (K.keys keys.old) (pairs_of arena.old chain))
+        (terms_under vars.now (K.keys keys.old) list.now) }
+    requires reach { AreInReach vars.now (K.keys keys.old)
+        (keyed_terms_under vars.now (K.keys keys.old) (pairs_of arena.old chain))
+        (terms_under vars.now (K.keys keys.old) list.now) }
+    ensures chain { IfOk result (λ c. StandsUnder vars.now (K.keys keys.new) arena.new c
+        (product_of (keyed_terms_under vars.now (K.keys keys.old) (pairs_of arena.old chain))
+        (terms_under vars.now (K.keys keys.old) list.now))) }
+    ensures swaps { IfOk result (Swaps arena.old arena.new chain) }
+    ensures err { OnErr result (Updates arena.old arena.new chain None) }
+    ensures kept { KeepsKeys (K.keys keys.old) (K.keys keys.new) }
+    ensures ticks { ticks.new
+        ≤ ticks.old + length (pairs_of arena.old chain) * length list.now }
+{
+    match lone_term(keys, list) {
+        Some(term) => Ok(scaled(keys, arena, vars, chain, term, ticks)),
+        None => times_terms(alloc, keys, arena, vars, chain, list, ticks),
+    }
+}
+
+/// The term of a list that has just one, where keys are added up.
+fn lone_term<K: MonomialKeys>(keys: &K, list: &[Indexed]) -> Option<Indexed>
+    ensures adds { IfSome result (λ t. AddsUp (K.keys keys.now)) }
+    ensures list { IfSome result (λ t. list.now ≡ t ∷ []) }
+{
+    if !keys.adds_up() {
+        return None;
+    }
+    match list {
+        [term] => Some(*term),
+        _ => None,
+    }
+}
+
+/// The chain times the term, in its place. It takes no memory.
+fn scaled<K: MonomialKeys, L: Ledger>(
+    keys: &K,
+    arena: &mut Arena,
+    vars: &[Var],
+    chain: Chain,
+    term: Indexed,
+    ticks: &mut Ticks<L>,
+) -> Chain
+    requires rising { IsStrictlySortedBy var_cmp vars.now }
+    requires adds { AddsUp (K.keys keys.now) }
+    requires live { IsLive arena.old chain }
+    requires keys { AllKeys (IsKeyUnder vars.now (K.keys keys.now)) (pairs_of arena.old chain) }
+    requires term { IsIndexUnder vars.now (K.keys keys.now) term.0 }
+    requires fits { CanMultiply
+        (keyed_terms_under vars.now (K.keys keys.now) (pairs_of arena.old chain))
+        (term_under vars.now (K.keys keys.now) term ∷ []) }
+    requires reach { AreInReach vars.now (K.keys keys.now)
+        (keyed_terms_under vars.now (K.keys keys.now) (pairs_of arena.old chain))
+        (term_under vars.now (K.keys keys.now) term ∷ []) }
+    ensures chain { StandsUnder vars.now (K.keys keys.now) arena.new result
+        (product_of (keyed_terms_under vars.now (K.keys keys.now) (pairs_of arena.old chain))
+        (term_under vars.now (K.keys keys.now) term ∷ [])) }
+    ensures swaps { Swaps arena.old arena.new chain result }
+    ensures ticks { ticks.new ≡ ticks.old + length (pairs_of arena.old chain) }
+{
+    let _ = keys;
+    let _ = vars;
+    let count = arena.scale(&chain, term.0.0, term.1);
+    ticks.tick_each(count);
+    chain
+}
+
+/// The chain times the list, by the pair of a chain of one. The chain is spent, also where there is
+/// no memory.
+fn times_terms<K: MonomialKeys, L: Ledger>(
     alloc: Global,
     keys: &mut K,
     arena: &mut Arena,

@@ -7,7 +7,7 @@ ghost use Rattle.mono_store.specs.Monomials.{ComesFirst, degree_of, product};
 ghost use Rattle.poly_arena.specs.Chains.{IsLive, Merges, pairs_of};
 ghost use Rattle.poly_arena.specs.Orders.{IsFalling, SumsFit, sum_of};
 ghost use Rattle.geo_poly.specs.Keys.{Keys};
-ghost use Rattle.geo_poly.specs.Inner.Keyed.{IsAmount, IsInReach, KeepsKeys, key_cmp};
+ghost use Rattle.geo_poly.specs.Inner.Keyed.{AddsUp, IsAmount, IsInReach, KeepsKeys, key_cmp};
 
 use crate::index_order::ByMonomial;
 use geo_points::NoMemory;
@@ -59,6 +59,10 @@ pub(crate) trait MonomialKeys {
         ensures product { IfOk result (λ k. (keys self.new).powers k
             ≡ product ((keys self.old).powers a) ((keys self.old).powers b)) }
         ensures kept { KeepsKeys (keys self.old) (keys self.new) };
+
+    /// Whether the key of a product is the sum of both keys.
+    fn adds_up(&self) -> bool
+        ensures { IsTrue result → AddsUp (keys self.now) };
 
     /// Whether the monomial of `a` comes before that of `b`.
     fn comes_before(&self, a: u64, b: u64) -> bool
@@ -112,6 +116,10 @@ impl MonomialKeys for Monos {
     fn times(&mut self, a: u64, b: u64) -> Result<u64, NoMemory> {
         let id = self.product(MonoId(a), MonoId(b))?;
         Ok(id.0)
+    }
+
+    fn adds_up(&self) -> bool {
+        false
     }
 
     fn comes_before(&self, a: u64, b: u64) -> bool {

@@ -2,9 +2,12 @@
 //! variables that are replaced.
 
 ghost use Rattle.std.specs.Prelude.{◌≡◌, ℕ, ◌+◌, ◌<◌, ◌∷◌, [], Contains, None, IfOk, IfSome, Some};
-ghost use Rattle.std.specs.Prelude.{slice_index_or};
+ghost use Rattle.std.specs.Prelude.{List, slice_index_or};
 ghost use Rattle.std.specs.List.Sorted.{IsStrictlySortedBy};
 ghost use Rattle.geo_poly.specs.declared.moving.Move.TheVariants.{Unknown};
+ghost use Rattle.geo_poly.specs.declared.replacement.Row.{Row};
+ghost use Rattle.geo_poly.specs.declared.variables.Var.{Var};
+ghost use Rattle.geo_poly.specs.Keys.{Keys};
 ghost use Rattle.sparse_lists.specs.SparseLists.{AllKeys};
 ghost use Rattle.mono_store.specs.Stores.{Keeps, count, monomial_of};
 ghost use Rattle.geo_poly.specs.Monomials.{IsMonomial};
@@ -61,7 +64,10 @@ pub(crate) struct MovedMonomials {
 
 impl MovedMonomials {
     /// Those of no variable.
-    pub(crate) fn none(alloc: Global) -> MovedMonomials {
+    pub(crate) fn none(alloc: Global) -> MovedMonomials
+        ensures { (p : Shared) (rows : List Row) (vars : List Var) (keys : Keys)
+            → AreParts p → AreMoved p rows vars keys result }
+    {
         MovedMonomials {
             moves: Vec::new(alloc),
             links: Vec::new(alloc),

@@ -12,9 +12,9 @@ ghost use Rattle.geo_poly.specs.Inner.Factored.{factored_terms, factored_weight,
 ghost use Rattle.geo_poly.specs.Inner.Factored.{pieces_of, products_with, times_pieces};
 ghost use Rattle.geo_poly.specs.Inner.Factored.{told_pending, weight_with};
 ghost use Rattle.geo_poly.specs.Inner.Keyed.{AreInReach, ArePiecesInReach, HasRoom, KeepsKeys};
-ghost use Rattle.geo_poly.specs.Inner.Moved.{AreMoved};
 ghost use Rattle.geo_poly.specs.Inner.ReplacedExponents.{IsReplacedInReach};
 ghost use Rattle.geo_poly.specs.Inner.Settings.{IsSetUnder, IsStoredUnder, Swaps};
+ghost use Rattle.geo_poly.specs.Inner.TermKeys.{AreTermKeys};
 ghost use Rattle.geo_poly.specs.Keys.{IsKeyUnder, Keys};
 ghost use Rattle.geo_poly.specs.Monomials.{IsMonomial};
 ghost use Rattle.geo_poly.specs.Polynomials.{CanMultiply, coefficients, norm_of, polynomial_of};
@@ -27,12 +27,12 @@ ghost use Rattle.geo_poly.specs.Variables.{var_cmp};
 use crate::chained::summed;
 use crate::chained_replacement::{is_one, list_at, one_term_chain, times_list};
 use crate::monomial_keys::MonomialKeys;
-use crate::moving::{MovedMonomials, index_in, moved_monomials};
 use crate::pending::{Pending, front_of, listed_terms, sorted_pending};
 use crate::runs::run_chain;
 use crate::settings::Setting;
 use crate::shared::{Indexed, Shared};
 use crate::sharing::{shared_factors, split_place};
+use crate::term_keys::{TermKeys, key_of_term, keys_of_terms};
 use crate::ticks::Ticks;
 use geo_points::NoMemory;
 use poly_arena::{Arena, Chain};
@@ -147,12 +147,11 @@ fn lone_chain<K: MonomialKeys>(
     keys: &mut K,
     arena: &mut Arena,
     p: &Shared,
-    table: &MovedMonomials,
+    table: &TermKeys,
     term: &Pending,
 ) -> Result<Chain, NoMemory>
     requires rising { IsStrictlySortedBy var_cmp setting.now.vars.now }
-    requires table { AreMoved p.now setting.now.rows.now setting.now.vars.now (K.keys keys.old)
-        table.now }
+    requires table { AreTermKeys setting.now p.now (K.keys keys.old) table.now }
     requires index { IsIndexOf p.now term.now.id }
     requires monomial { IsMonomial (told_powers p.now term.now.id) }
     requires known { AllKeys (Contains setting.now.vars.now) (told_powers p.now term.now.id) }
@@ -165,7 +164,7 @@ fn lone_chain<K: MonomialKeys>(
     ensures err { OnErr result (SameChains arena.old arena.new) }
     ensures kept { KeepsKeys (K.keys keys.old) (K.keys keys.new) }
 {
-    let rest = index_in(alloc, keys, setting.vars, setting.rows, p, table, term.id)?;
+    let rest = key_of_term(alloc, setting, keys, p, table, term)?;
     one_term_chain(arena, rest.0, term.coefficient)
 }
 
@@ -178,15 +177,14 @@ fn nested_sum<K: MonomialKeys, L: Ledger>(
     keys: &mut K,
     arena: &mut Arena,
     p: &Shared,
-    table: &MovedMonomials,
+    table: &TermKeys,
     pending: &[Pending],
     depth: usize,
     splits: u32,
     ticks: &mut Ticks<L>,
 ) -> Result<Chain, NoMemory>
     requires set { IsSetUnder setting.now (K.keys keys.old) }
-    requires table { AreMoved p.now setting.now.rows.now setting.now.vars.now (K.keys keys.old)
-        table.now }
+    requires table { AreTermKeys setting.now p.now (K.keys keys.old) table.now }
     requires pending { All (IsPending setting.now p.now depth) pending.now }
     requires norm { factored_weight (map (told_pending setting.now p.now depth) pending.now)
         < 2 ^ 127 }
@@ -230,7 +228,7 @@ fn group_sum<K: MonomialKeys, L: Ledger>(
     keys: &mut K,
     arena: &mut Arena,
     p: &Shared,
-    table: &MovedMonomials,
+    table: &TermKeys,
     pending: &[Pending],
     depth: usize,
     splits: u32,
@@ -238,8 +236,7 @@ fn group_sum<K: MonomialKeys, L: Ledger>(
 ) -> Result<Chain, NoMemory>
     requires some { 2 ≤ length pending.now }
     requires set { IsSetUnder setting.now (K.keys keys.old) }
-    requires table { AreMoved p.now setting.now.rows.now setting.now.vars.now (K.keys keys.old)
-        table.now }
+    requires table { AreTermKeys setting.now p.now (K.keys keys.old) table.now }
     requires pending { All (IsPending setting.now p.now depth) pending.now }
     requires norm { factored_weight (map (told_pending setting.now p.now depth) pending.now)
         < 2 ^ 127 }
@@ -271,7 +268,7 @@ fn parts_sum<K: MonomialKeys, L: Ledger>(
     keys: &mut K,
     arena: &mut Arena,
     p: &Shared,
-    table: &MovedMonomials,
+    table: &TermKeys,
     pending: &[Pending],
     depth: usize,
     splits: u32,
@@ -279,8 +276,7 @@ fn parts_sum<K: MonomialKeys, L: Ledger>(
 ) -> Result<Chain, NoMemory>
     requires some { 2 ≤ length pending.now }
     requires set { IsSetUnder setting.now (K.keys keys.old) }
-    requires table { AreMoved p.now setting.now.rows.now setting.now.vars.now (K.keys keys.old)
-        table.now }
+    requires table { AreTermKeys setting.now p.now (K.keys keys.old) table.now }
     requires pending { All (IsPending setting.now p.now depth) pending.now }
     requires norm { factored_weight (map (told_pending setting.now p.now depth) pending.now)
         < 2 ^ 127 }
@@ -336,9 +332,9 @@ pub(crate) fn nested_chain<K: MonomialKeys, L: Ledger>(
     ensures ticks { ticks.new ≤ ticks.old + products_of_terms setting.now.rows.now
         setting.now.den.piece.now setting.now.top (told p.now) }
 {
-    let listing = listed_terms(alloc, setting, p)?;
+    let listing = listed_terms(alloc, setting, keys, p)?;
     let pending = sorted_pending(alloc, setting.rows.rows(), &listing)?;
-    let table = moved_monomials(alloc, keys, setting.vars, setting.rows, p, &[])?;
+    let table = keys_of_terms(alloc, setting, keys, p, &listing)?;
     nested_sum(
         alloc, setting, keys, arena, p, &table, &pending, 0, 0, ticks,
     )

@@ -6,18 +6,18 @@ ghost use Rattle.std.specs.declared.cmp.Ordering.TheVariants.{Less};
 ghost use Rattle.geo_poly.specs.Chained.{AddsChain, SameChains, StandsUnder};
 ghost use Rattle.geo_poly.specs.Inner.Factored.{IsPending, factored_terms, told_pending};
 ghost use Rattle.geo_poly.specs.Inner.Keyed.{KeepsKeys, key_cmp};
-ghost use Rattle.geo_poly.specs.Inner.Moved.{AreMoved};
 ghost use Rattle.geo_poly.specs.Inner.ReplacedExponents.{IsReplacedInReach};
 ghost use Rattle.geo_poly.specs.Inner.Runs.{IsNextKey};
 ghost use Rattle.geo_poly.specs.Inner.Settings.{IsSetUnder};
+ghost use Rattle.geo_poly.specs.Inner.TermKeys.{AreTermKeys};
 ghost use Rattle.geo_poly.specs.Polynomials.{polynomial_of};
 ghost use Rattle.geo_poly.specs.Shared.{told};
 
 use crate::monomial_keys::MonomialKeys;
-use crate::moving::{MovedMonomials, index_in};
 use crate::pending::Pending;
 use crate::settings::Setting;
 use crate::shared::Shared;
+use crate::term_keys::{TermKeys, key_of_term};
 use geo_points::NoMemory;
 use poly_arena::{Arena, Chain};
 use std::alloc::Global;
@@ -48,14 +48,13 @@ fn next_key<K: MonomialKeys>(
     setting: &Setting,
     keys: &mut K,
     p: &Shared,
-    table: &MovedMonomials,
+    table: &TermKeys,
     term: &Pending,
     depth: usize,
     first: Option<u64>,
 ) -> Option<u64>
     requires set { IsSetUnder setting.now (K.keys keys.old) }
-    requires table { AreMoved p.now setting.now.rows.now setting.now.vars.now (K.keys keys.old)
-        table.now }
+    requires table { AreTermKeys setting.now p.now (K.keys keys.old) table.now }
     requires pending { IsPending setting.now p.now depth term.now }
     requires reach { IsReplacedInReach setting.now.vars.now (K.keys keys.old) setting.now.rows.now
         setting.now.den.piece.now setting.now.top (told p.now) }
@@ -67,7 +66,7 @@ fn next_key<K: MonomialKeys>(
     if has_factor(term, depth) {
         return None;
     }
-    match index_in(alloc, keys, setting.vars, setting.rows, p, table, term.id) {
+    match key_of_term(alloc, setting, keys, p, table, term) {
         Ok(rest) => {
             if is_before(keys, rest.0, first) {
                 return Some(rest.0);
@@ -86,13 +85,12 @@ pub(crate) fn run_chain<K: MonomialKeys>(
     keys: &mut K,
     arena: &mut Arena,
     p: &Shared,
-    table: &MovedMonomials,
+    table: &TermKeys,
     pending: &[Pending],
     depth: usize,
 ) -> Result<Option<Chain>, NoMemory>
     requires set { IsSetUnder setting.now (K.keys keys.old) }
-    requires table { AreMoved p.now setting.now.rows.now setting.now.vars.now (K.keys keys.old)
-        table.now }
+    requires table { AreTermKeys setting.now p.now (K.keys keys.old) table.now }
     requires pending { All (IsPending setting.now p.now depth) pending.now }
     requires reach { IsReplacedInReach setting.now.vars.now (K.keys keys.old) setting.now.rows.now
         setting.now.den.piece.now setting.now.top (told p.now) }

@@ -6,7 +6,8 @@ use std::marker::Model;
 use std::sync::ledger::{Blank, Book, Ledger, Share};
 
 /// How many products of one monomial, with its coefficient, and another were formed. The counter
-/// takes no bytes and no time, and only `tick` changes it: it lets a contract bound the work.
+/// takes no bytes and no time, and only `tick` and `tick_each` change it: it lets a contract bound
+/// the work.
 #[derive(Drop)]
 pub struct Ticks<L: Ledger> {
     book: Book<L>,
@@ -41,5 +42,12 @@ impl<L: Ledger> Ticks<L> {
         ensures { self.new ≡ self.old + 1 }
     {
         self.book.add(&mut self.share, 1);
+    }
+
+    /// Counts so many more products.
+    pub fn tick_each(&mut self, count: u64)
+        ensures { self.new ≡ self.old + count }
+    {
+        self.book.add(&mut self.share, count);
     }
 }

@@ -1,8 +1,8 @@
 -- Keys that products and sums of chains go over: their order, what stays where keys are added, and the terms of lists of them.
-use Rattle.std.specs.Prelude.{◌≡◌, ℕ, ◌+◌, ◌<◌, ◌≤◌, max, IfSome, ℤ, List, [], ◌∷◌, length, map}
+use Rattle.std.specs.Prelude.{◌≡◌, ℕ, ◌+◌, ◌^◌, ◌<◌, ◌≤◌, max, IfSome, ℤ, List, [], ◌∷◌, length, map}
 use Rattle.std.specs.declared.cmp.Ordering.{Ordering}
 use Rattle.mono_store.specs.declared.links.MonoId.{MonoId}
-use Rattle.mono_store.specs.Monomials.{ComesFirst, Powers as NumberedPowers, exponent as numbered_exponent, monomial_cmp}
+use Rattle.mono_store.specs.Monomials.{ComesFirst, Powers as NumberedPowers, exponent as numbered_exponent, monomial_cmp, product as numbered_product}
 use Rattle.geo_poly.specs.declared.replacement.Piece.{Piece}
 use Rattle.geo_poly.specs.declared.replacement.Row.{Row}
 use Rattle.geo_poly.specs.declared.variables.Var.{Var}
@@ -40,6 +40,12 @@ abbrev pub IsAmount : Keys → ℕ → ℕ → ℕ → Type 0
 IsAmount keys var exp amount =
     (next : ℕ) → next < keys.count → 1 ≤ exp → ComesFirst var (keys.powers next)
     → (next + amount < keys.count) × (keys.powers (next + amount) ≡ (var, exp) ∷ keys.powers next)
+
+-- the key of a product is the sum of both keys, and no key passes 64 bits
+pub record AddsUp (keys : Keys) : Type 0 where
+  pub few : keys.count ≤ 2 ^ 64
+  pub sums : (a b : ℕ) → a < keys.count → b < keys.count → IsInReach keys (keys.powers a) (keys.powers b)
+      → (a + b < keys.count) × (keys.powers (a + b) ≡ numbered_product (keys.powers a) (keys.powers b))
 
 -- no exponent of the monomial is above its limit
 abbrev pub HasRoom : List Var → Keys → Powers → Type 0

@@ -1,5 +1,5 @@
 -- Monomials of a store under other keys, without the variables that have rows: where each of them stands then.
-use Rattle.std.specs.Prelude.{◌≡◌, ◌≢◌, ℕ, ◌+◌, ◌<◌, List, Option, None, Some, Contains, length, slice_index_or}
+use Rattle.std.specs.Prelude.{◌≡◌, ◌≢◌, ℕ, ◌+◌, ◌<◌, ◌≤◌, List, Option, None, Some, Contains, length, slice_index_or}
 use Rattle.mono_store.specs.declared.links.MonoId.{MonoId}
 use Rattle.mono_store.specs.Stores.{words}
 use Rattle.geo_poly.specs.declared.moving.Move.{Move}
@@ -29,9 +29,9 @@ IsMoveOf rows vars v Replaced = row_of rows v ≢ None
 IsMoveOf rows vars v (Kept k) = (row_of rows v ≡ None) × IsPlaceOf vars v (Some k)
 IsMoveOf rows vars v Unknown = Unit {0}
 
--- what becomes of each of the old variables
+-- what becomes of the first of the old variables
 pub record AreMoves (old : List Var) (rows : List Row) (vars : List Var) (moves : List Move) : Type 0 where
-  pub whole : length moves ≡ length old
+  pub within : length moves ≤ length old
   pub each : (k : ℕ) → k < length moves → IsMoveOf rows vars (var_at old k) (slice_index_or moves k Unknown)
 
 -- what is left of the monomial has a key

@@ -1,10 +1,10 @@
 -- What a step changes, and where a chain is live in the table.
-use Rattle.std.specs.Prelude.{◌≡◌, ℕ, ◌+◌, Option, Some, None, List, slice_get, slice_set, [], ◌∷◌, ◌++◌, length}
+use Rattle.std.specs.Prelude.{◌≡◌, ℕ, ◌+◌, ◌<◌, ◌≤◌, ℤ, ◌*ℤ◌, Option, Some, None, List, slice_get, slice_set, [], ◌∷◌, ◌++◌, length}
 use Rattle.poly_arena.specs.declared.nodes.Node.{Node}
 use Rattle.poly_arena.specs.declared.nodes.Free.{Free}
 use Rattle.poly_arena.specs.declared.nodes.Slot.{Slot}
 use Rattle.poly_arena.specs.declared.nodes.Slot.TheVariants.{Live}
-use Rattle.poly_arena.specs.Nodes.{node_at, places}
+use Rattle.poly_arena.specs.Nodes.{how_often, node_at, places}
 
 -- a chain is live at that number, and begins at `first`
 abbrev pub IsLiveSlot : List Slot → ℕ → Type 0
@@ -40,3 +40,17 @@ ReleasesChain old new None free new_free = (new ≡ old) × (new_free ≡ free)
 ReleasesChain old new (Some i) free new_free = (last : ℕ) × IsLast last (places old (Some i))
     × (new ≡ slice_set old last (record (node_at old last) { next = free.first }))
     × (new_free ≡ record { first = Some i; count = free.count + length (places old (Some i)) })
+
+-- no node stands twice
+abbrev pub AreOnce : List ℕ → Type 0
+AreOnce is = (i : ℕ) → how_often i is ≤ 1
+
+-- a node with the key added, and its coefficient multiplied
+abbrev pub scaled_node : ℕ → ℤ → Node → Node
+scaled_node key coef node = record { key = key + node.key; next = node.next; coef = coef *ℤ node.coef }
+
+-- the nodes of these places are scaled, and the others are the same
+pub record ScalesNodes (old new : List Node) (is : List ℕ) (key : ℕ) (coef : ℤ) : Type 0 where
+  pub size : length new ≡ length old
+  pub kept : (j : ℕ) → how_often j is ≡ 0 → node_at new j ≡ node_at old j
+  pub scales : (j : ℕ) → 0 < how_often j is → node_at new j ≡ scaled_node key coef (node_at old j)

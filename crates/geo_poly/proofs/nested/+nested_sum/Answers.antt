@@ -9,6 +9,7 @@ use Rattle.geo_poly.specs.declared.pending.Pending.{Pending}
 use Rattle.geo_poly.specs.Inner.Factored.{factored_terms, IsPending, told_pending}
 use Rattle.geo_poly.specs.Monomials.{Powers}
 use Rattle.geo_poly.specs.Polynomials.{Summands, polynomial_of}
+use Rattle.geo_poly.proofs.AddedKeys.{AreTermKeys-kept}
 use Rattle.geo_poly.proofs.ChainSteps.{gave_back}
 use Rattle.geo_poly.proofs.ChainSums.{first_order, first_still, norms_fit, second_order}
 use Rattle.geo_poly.proofs.ChainSwaps.{AddsChain-swaps, IsSetUnder-kept}
@@ -18,7 +19,6 @@ use Rattle.geo_poly.specs.Shared.{told}
 use Rattle.geo_poly.proofs.JoinedParts.{AddsChain-same, SameChains-trans, alone}
 use Rattle.geo_poly.proofs.JoinedParts.{joined_adds, joined_degree, joined_made, joined_monomials, joined_norm, joined_order, joined_products, joined_reach, joined_stands}
 use Rattle.geo_poly.proofs.JoinedParts.{lone_degree, lone_made, lone_monomials, lone_norm, lone_order, lone_pending, lone_products, lone_reach, lone_room}
-use Rattle.geo_poly.proofs.Moved.{AreMoved-kept}
 use Rattle.geo_poly.proofs.NestedSums.{all_deeper, back_norm, deeper_norm, front_norm, parts_fit, parts_products, parts_sum}
 use Rattle.geo_poly.proofs.ReplaceTerms.{IsCanonical-polynomial_of}
 use Rattle.geo_poly.proofs.PendingItems.{pending_at, pending_at-is}
@@ -82,7 +82,7 @@ parts_sum-nested_sum-requires-2 g t c =
           (
             IsSetUnder-kept setting keys later kept c.requires.set,
             (
-              AreMoved-kept p setting.rows.now setting.vars.now keys later kept c.args.table.now c.requires.table,
+              AreTermKeys-kept setting p keys later kept c.args.table.now c.requires.table,
               (
                 subst (λ (xs : List Pending). All (IsPending setting p c.args.depth) xs) (sym c.split_at.ensures.back)
                     (All-drop (IsPending setting p c.args.depth) at es c.requires.pending),
@@ -233,7 +233,7 @@ group_sum-parts_sum-requires g t c =
             (
               IsSetUnder-kept setting keys later kept c.requires.set,
               (
-                AreMoved-kept c.args.p.now setting.rows.now setting.vars.now keys later kept c.args.table.now c.requires.table,
+                AreTermKeys-kept setting c.args.p.now keys later kept c.args.table.now c.requires.table,
                 (
                   c.requires.pending,
                   (

@@ -9,7 +9,7 @@ use Rattle.geo_poly.proofs.nested.lone_chain.Goals as goal
 pub returns-clause-chain : goal.returns-clause-chain
 returns-clause-chain g c =
     let vars = c.args.setting.now.vars.now in
-    let s = g.K.MonomialKeys.keys c.index_in.new.keys in
+    let s = g.K.MonomialKeys.keys c.key_of_term.new.keys in
     let e = c.args.term.now in
     let fits : FitsSigned w128 c.args.term.now.coefficient = search rules in
     IfOk-weaker c.one_term_chain.result _ _

@@ -12,13 +12,13 @@ use Rattle.geo_poly.proofs.nested.nested_chain.Goals as goal
 
 pub nested_sum-requires-clause-set : goal.nested_sum-requires-clause-set
 nested_sum-requires-clause-set g c =
-    IsSetUnder-kept c.args.setting.now (g.K.MonomialKeys.keys c.args.keys.now) (g.K.MonomialKeys.keys c.moved_monomials.new.keys) c.in_ok-table.ensures.kept c.requires.set
+    IsSetUnder-kept c.args.setting.now (g.K.MonomialKeys.keys c.args.keys.now) (g.K.MonomialKeys.keys c.keys_of_terms.new.keys) c.in_ok-table.ensures.kept c.requires.set
 
 pub nested_sum-requires-clause-reach : goal.nested_sum-requires-clause-reach
 nested_sum-requires-clause-reach g c =
     let setting = c.args.setting.now in
     IsReplacedInReach-kept setting.vars.now (g.K.MonomialKeys.keys c.args.keys.now)
-    (g.K.MonomialKeys.keys c.moved_monomials.new.keys) setting.rows.now setting.den.piece.now setting.top (told c.args.p.now)
+    (g.K.MonomialKeys.keys c.keys_of_terms.new.keys) setting.rows.now setting.den.piece.now setting.top (told c.args.p.now)
     c.in_ok-table.ensures.kept.limits c.requires.reach
 
 pub nested_sum-requires-clause-pending : goal.nested_sum-requires-clause-pending
@@ -57,5 +57,5 @@ returns-clause-ticks g c =
 
 pub returns-clause-kept : goal.returns-clause-kept
 returns-clause-kept g c =
-    KeepsKeys-trans (g.K.MonomialKeys.keys c.args.keys.now) (g.K.MonomialKeys.keys c.moved_monomials.new.keys)
+    KeepsKeys-trans (g.K.MonomialKeys.keys c.args.keys.now) (g.K.MonomialKeys.keys c.keys_of_terms.new.keys)
     (g.K.MonomialKeys.keys c.nested_sum.new.keys) c.in_ok-table.ensures.kept c.nested_sum.ensures.kept

@@ -5,20 +5,20 @@ use Rattle.geo_poly.proofs.JoinedParts.{lone_room}
 use Rattle.geo_poly.proofs.OrderedRuns.{first_kept}
 use Rattle.geo_poly.proofs.runs.next_key.Goals as goal
 
-pub index_in-requires-clause-rising : goal.index_in-requires-clause-rising
-index_in-requires-clause-rising g c = c.requires.set.rising
+pub key_of_term-requires-clause-rising : goal.key_of_term-requires-clause-rising
+key_of_term-requires-clause-rising g c = c.requires.set.rising
 
-pub index_in-requires-clause-index : goal.index_in-requires-clause-index
-index_in-requires-clause-index g c = c.requires.pending.index
+pub key_of_term-requires-clause-index : goal.key_of_term-requires-clause-index
+key_of_term-requires-clause-index g c = c.requires.pending.index
 
-pub index_in-requires-clause-monomial : goal.index_in-requires-clause-monomial
-index_in-requires-clause-monomial g c = c.requires.pending.monomial
+pub key_of_term-requires-clause-monomial : goal.key_of_term-requires-clause-monomial
+key_of_term-requires-clause-monomial g c = c.requires.pending.monomial
 
-pub index_in-requires-clause-known : goal.index_in-requires-clause-known
-index_in-requires-clause-known g c = c.requires.pending.known
+pub key_of_term-requires-clause-known : goal.key_of_term-requires-clause-known
+key_of_term-requires-clause-known g c = c.requires.pending.known
 
-pub index_in-requires-clause-reach : goal.index_in-requires-clause-reach
-index_in-requires-clause-reach g c =
+pub key_of_term-requires-clause-reach : goal.key_of_term-requires-clause-reach
+key_of_term-requires-clause-reach g c =
     let setting = c.args.setting.now in
     let p = c.args.p.now in
     let e = c.args.term.now in
@@ -30,7 +30,7 @@ is_before-requires-clause-key g c = c.in-Ok.ensures.index.within
 
 pub is_before-requires-clause-first : goal.is_before-requires-clause-first
 is_before-requires-clause-first g c =
-    first_kept (g.K.MonomialKeys.keys c.args.keys.now) (g.K.MonomialKeys.keys c.index_in.new.keys) c.args.first c.in-Ok.ensures.kept c.requires.first
+    first_kept (g.K.MonomialKeys.keys c.args.keys.now) (g.K.MonomialKeys.keys c.key_of_term.new.keys) c.args.first c.in-Ok.ensures.kept c.requires.first
 
 pub returns-then-is_before-clause-next : goal.returns-then-is_before-clause-next
 returns-then-is_before-clause-next g c = record {

@@ -11,11 +11,11 @@ use Rattle.geo_poly.specs.Inner.Factored.{factored_terms, told_pending}
 use Rattle.geo_poly.specs.Inner.Runs.{IsNextKey, first_key}
 use Rattle.geo_poly.specs.Polynomials.{Summands, coefficients, term_cmp}
 use Rattle.geo_poly.specs.Shared.{told}
+use Rattle.geo_poly.proofs.AddedKeys.{AreTermKeys-kept}
 use Rattle.geo_poly.proofs.ChainSteps.{AddsChain-updates, StandsUnder-list, gave_back}
 use Rattle.geo_poly.proofs.ChainSwaps.{IsSetUnder-kept}
 use Rattle.geo_poly.proofs.InReach.{IsReplacedInReach-kept}
 use Rattle.geo_poly.proofs.KeysKept.{KeepsKeys-refl, KeepsKeys-trans}
-use Rattle.geo_poly.proofs.Moved.{AreMoved-kept}
 use Rattle.geo_poly.proofs.OrderedRuns.{first_pushed, first_within, run_keys, run_order, run_terms, run_whole}
 use Rattle.geo_poly.proofs.PendingItems.{past_pending, pending_at, pending_at-is}
 use Rattle.geo_poly.proofs.runs.run_chain.Goals as goal
@@ -50,7 +50,7 @@ next_key-requires-clause-set g c =
 pub next_key-requires-clause-table : goal.next_key-requires-clause-table
 next_key-requires-clause-table g c =
     let setting = c.args.setting.now in
-    AreMoved-kept c.args.p.now setting.rows.now setting.vars.now (g.K.MonomialKeys.keys c.args.keys.now)
+    AreTermKeys-kept setting c.args.p.now (g.K.MonomialKeys.keys c.args.keys.now)
     (g.K.MonomialKeys.keys c.loop-i.keys) c.loop-i.invariant.kept c.args.table.now c.requires.table
 
 pub next_key-requires-clause-reach : goal.next_key-requires-clause-reach

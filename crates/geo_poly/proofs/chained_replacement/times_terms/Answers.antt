@@ -6,7 +6,7 @@ use Rattle.geo_poly.specs.Chained.{StandsUnder, keyed_terms_under}
 use Rattle.geo_poly.specs.Polynomials.{CanMultiply, Summands, multiples, product_of}
 use Rattle.geo_poly.specs.Inner.Keyed.{term_under, terms_under}
 use Rattle.geo_poly.proofs.ProductLaws.{product_of_one}
-use Rattle.geo_poly.proofs.chained_replacement.times_list.Goals as goal
+use Rattle.geo_poly.proofs.chained_replacement.times_terms.Goals as goal
 
 pub returns-in-Some-clause-chain : goal.returns-in-Some-clause-chain
 returns-in-Some-clause-chain g c =
