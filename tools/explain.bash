@@ -33,6 +33,8 @@ explain_refusal() {
     hint "the line ends with a carriage return, as on Windows: this line has a line feed alone"
   elif [ "$3" = 14 ]; then
     explain_count "$2"
+  elif [ "$3" = 15 ]; then
+    LC_ALL=C awk -v line='' -f "$home/tools/cite.awk" "$2"
   fi
 }
 
@@ -148,6 +150,7 @@ explain() {
       told=$(meaning status "$4")
       echo "$1: ${5:+$5: }${told:-ended with status $4}"
       [ "$4" -ne 15 ] || explain_unmet "$2" "${words[1]}"
+      [ "$4" -ne 16 ] || LC_ALL=C awk -v line="${words[2]}" -f "$home/tools/cite.awk" "$2"
       ;;
   esac
 }
