@@ -23,7 +23,7 @@ behind == 1 {
 # what the figure declares: the word behind a command's word
 behind == 2 {
   sub(/%.*/, "")
-  gsub(/[{}]/, " ")
+  gsub(/[{}\r]/, " ")
   for (k = 1; k <= NF; k++) {
     if ($k == "prove") behind = 3
     if (behind == 2 && last ~ /^[a-z]/ && last != "assume" && last in commands && !($k in declared))

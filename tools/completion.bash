@@ -18,7 +18,12 @@ _geo_complete() {
     *:explain) mapfile -t COMPREPLY < <(compgen -W 'syntax rejected status stop' -- "$current") ;;
     *:bench | *:help) ;;
     *)
-      case $word in check | text) ending=log ;; prove | decide | page) ending=geo ;; esac
+      case $word in
+        check | text) ending=log ;;
+        prove | decide | page | discover | fixed) ending=geo ;;
+        place | figure) ending='@(at|geo)' ;;
+        cite) ending='*' ;;
+      esac
       mapfile -t COMPREPLY < <(compgen -f -X "!*.$ending" -- "$current"; compgen -d -- "$current")
       ;;
   esac
