@@ -2,7 +2,7 @@
 # SPDX-License-Identifier: Apache-2.0
 # shellcheck shell=bash
 _geo_complete() {
-  local current=${COMP_WORDS[COMP_CWORD]} word='' ending='@(geo|log)' k
+  local current=${COMP_WORDS[COMP_CWORD]} word='' endings='geo log' ending k
   COMPREPLY=()
   [ "${COMP_WORDS[0]##*/}" = prove ] && word=prove
   for ((k = 1; k < COMP_CWORD && ${#word} == 0; k++)); do
@@ -17,9 +17,14 @@ _geo_complete() {
     *:) mapfile -t COMPREPLY < <(compgen -W 'prove decide check text place figure cite discover fixed page bench explain help' -- "$current") ;;
     *:explain) mapfile -t COMPREPLY < <(compgen -W 'syntax rejected status stop' -- "$current") ;;
     *:bench | *:help) ;;
+    *:cite) mapfile -t COMPREPLY < <(compgen -f -- "$current") ;;
     *)
-      case $word in check | text) ending=log ;; prove | decide | page) ending=geo ;; esac
-      mapfile -t COMPREPLY < <(compgen -f -X "!*.$ending" -- "$current"; compgen -d -- "$current")
+      case $word in
+        check | text) endings=log ;;
+        prove | decide | page | discover | fixed) endings=geo ;;
+        place | figure) endings='at geo' ;;
+      esac
+      mapfile -t COMPREPLY < <(for ending in $endings; do compgen -f -X "!*.$ending" -- "$current"; done; compgen -d -- "$current")
       ;;
   esac
 }

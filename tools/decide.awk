@@ -43,7 +43,7 @@ END {
     print name ": false" by ": " goal[word[3]]
     if (figure() != "") print "  counterexample " figure()
   } else if (word[1] == "verdict") {
-    print name ": impossible" by ": never " condition[word[3]]
+    print name ": impossible" by ": it is never so that " condition[word[3]]
   } else if (word[1] == "syntax") {
     print name ": no program"
   } else if (last == "too long" || last == "" && NR == 0) {

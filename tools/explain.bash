@@ -29,7 +29,29 @@ explain_refusal() {
     -f "$home/tools/refusal.awk" "$home/tools/forms" -
   if [ "$4" = 0 ] && begins "$2" 'geolog '; then
     hint "this file is a log: geo check takes it"
+  elif [ "$3" = 13 ] && head -n 1 -- "$2" | head -c 1000 | grep -q $'^at .*\r$'; then
+    hint "the line ends with a carriage return, as on Windows: this line has a line feed alone"
+  elif [ "$3" = 14 ]; then
+    explain_count "$2"
+  elif [ "$3" = 15 ]; then
+    LC_ALL=C awk -v line='' -f "$home/tools/cite.awk" "$2"
   fi
+}
+
+# explain_count FILE: how many numbers the line 'at' has, and how many the program behind it wants; the words counted are reserved
+explain_count() {
+  awk '
+    NR == 1 { given = NF - 1; next }
+    { sub(/%.*/, ""); gsub(/[^A-Za-z0-9_]/, " "); for (k = 1; k <= NF; k++) due += $k == "point" ? 2 : $k ~ /^(param|online|oncircle)$/ }
+    END { print "  it has " given ", and " due + 0 " are due: x and y of each point, then one for each param, online and oncircle" }' "$1"
+}
+
+# explain_unmet FILE NUMBER: the text of the condition, from the log of the program behind the line 'at'
+explain_unmet() {
+  local condition
+  [ "$fresh" = yes ] || return 0
+  condition=$(tail -n +2 -- "$1" | "$program" prove 2>/dev/null | grep -m 1 "^condition $2 ")
+  [ -z "$condition" ] || hint "condition $2 is: ${condition#condition "$2" }"
 }
 
 # explain_program NAME FILE: why the program lines of a log are no canonical text of a program
@@ -96,7 +118,10 @@ explain() {
   case $4:${words[0]-} in
     4:syntax) explain_refusal "$1" "$2" "${words[1]}" "${words[3]}" ;;
     11:rejected) explain_rejection "$1" "$2" "${words[1]}" "${words[2]}" ;;
-    3:*) echo "geo: the program has no such words: $3 (geo --help)" ;;
+    3:*)
+      echo "geo: the program has no such words: $3 (geo --help)"
+      case $3 in bench*) hint "behind 'bench' one number from 1 to 60 is due" ;; esac
+      ;;
     6:*)
       if [ "$3" = place ] || [ "$3" = figure ]; then
         echo "$1: not placed: at line ${words[2]-} of the program, written as the program writes it, a number does not fit 128 bits"
@@ -124,6 +149,8 @@ explain() {
     *)
       told=$(meaning status "$4")
       echo "$1: ${5:+$5: }${told:-ended with status $4}"
+      [ "$4" -ne 15 ] || explain_unmet "$2" "${words[1]}"
+      [ "$4" -ne 16 ] || LC_ALL=C awk -v line="${words[2]}" -f "$home/tools/cite.awk" "$2"
       ;;
   esac
 }

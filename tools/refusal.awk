@@ -71,6 +71,7 @@ function take(token,   due) {
   else if (due == "S" || due == "C") {
     shown = form[command " " token]
     push(kinds_of(shown, 3, ""))
+    if (due == "S") shown = "prove { " substr(shown, 7) " }"
   }
 }
 
@@ -99,7 +100,7 @@ function due_words(   due) {
   if (due == "L") return "a line is due"
   if (due == "E") return "an expression is due"
   if (due == "S") return "a statement is due"
-  if (due == "C") return "a condition is due"
+  if (due == "C") return "a condition is due: different, not_collinear or not_parallel"
   return "the brace " due " is due"
 }
 
@@ -115,27 +116,46 @@ function almost(token,   other) {
   return ""
 }
 
+# the last command is complete in this line, and a word more stands behind it
+function is_complete() {
+  return begun == lines && need ~ /^(n|$)/ && command != ""
+}
+
+# what to write for a byte that begins no token; `before` is what stands in front of it in its line
+function spelling(rest, before,   first) {
+  first = substr(rest, 1, 1)
+  if (substr(rest, 1, 3) == "\357\273\277") return "the file begins with a byte order mark: save it as UTF-8 without one"
+  if (substr(rest, 1, 2) ~ /^(\377\376|\376\377)/) return "the file is UTF-16: save it as UTF-8 without a byte order mark"
+  if (first ~ /[.\/]/ && before ~ /[0-9A-Za-z}] *$/) return "numbers are whole: a half is div { 1 } { 2 }"
+  if (first ~ /[#\/]/) return "a comment begins with %"
+  if (first ~ /[][()]/) return "the statement and the parts of an expression stand in braces { }"
+  return "a name has the letters A to Z and a to z, digits and _; a number is whole; blanks part them"
+}
+
 # one more line about the refusal, or nothing
-function advice(rest,   token) {
+function advice(rest, before,   token) {
   token = token_of(rest)
-  if (refusal == 1 && substr(rest, 1, 3) == "\357\273\277") return "the file begins with a byte order mark: save it as UTF-8 without one"
-  if (refusal == 1) return "a name has the letters A to Z and a to z, digits and _; a number is whole; blanks part them"
+  if (refusal == 1) return spelling(rest, before)
   if (refusal == 4 && need ~ /^N/ && token ~ /^[A-Za-z]/) return token " is a word of the language, so it is no name"
   if (refusal == 4 && need ~ /^(n|$)/ && tolower(token) in form) return "commands have small letters: " tolower(token)
+  if (refusal == 4 && is_complete() && token != "") return "in front of " token " the command is complete: " (command == "point" ? "point A" : shown)
   if (refusal == 4 && need ~ /^(n|$)/ && token ~ /^[A-Za-z]/) return token " is no command"
-  if (refusal == 4 && need ~ /^S/ && token ~ /^[A-Za-z]/) return token " is no statement"
+  if (refusal == 4 && need ~ /^S/ && ("prove " tolower(token)) in form) return "statements have small letters: " tolower(token)
+  if (refusal == 4 && need ~ /^S/ && token ~ /^[A-Za-z]/) return token " is no statement; these are:" statements
   if (refusal == 4) return due_here()
   if (refusal == 5 && almost(token) != "") return "declared is " almost(token)
   if (refusal == 5) return due_here()
-  if (refusal == 6) return token " is declared in line " line_of[token] + down
+  if (refusal == 6) return token " is declared in line " line_of[token] + down (command ~ /^(point|param)$/ ? "" : "; the new name comes first: " shown)
   if (refusal == 7) return token " is " kind[token] " (line " line_of[token] + down "); " due_here()
   if (refusal == 11 && carriage && lines == 1) return "the lines end with carriage returns alone, so a comment takes all that follows: save the file with line feeds"
+  if (refusal == 12 && token == "prove") return "a program has one statement: write another program for this one"
   return ""
 }
 
-function report(line, column, text,   before, from, rest) {
+function report(line, column, text,   before, from, rest, front) {
   print name ":" line + down ":" column + 2 * down ": refusal " refusal (meaning == "" ? "" : ": " meaning)
   rest = substr(text, column)
+  front = substr(text, 1, column - 1)
   sub(/\r$/, "", text)
   from = column > 100 ? column - 80 : 1
   before = substr(text, from, column - from)
@@ -146,7 +166,7 @@ function report(line, column, text,   before, from, rest) {
     print "  " shown_line
     print "  " before "^"
   }
-  rest = advice(rest)
+  rest = advice(rest, front)
   if (rest != "") print "  " rest
 }
 
@@ -155,6 +175,7 @@ FNR == NR {
   if ($1 == "prove" || $1 == "assume") {
     form[$1] = $1
     form[$1 " " $2] = $0
+    if ($1 == "prove") statements = statements " " $2
   } else form[$1] = $0
   next
 }
