@@ -12,7 +12,8 @@ use Rattle.proof_log.specs.declared.log.Verdict.{Verdict}
 
 module _ (bytes : List ℕ) (steps : ℕ) (before after : List ℕ) (answer : Answer) (number : ℕ) where
   -- an accepted log was told
-  pub acceptance_told : (p : Source) (verdict : Verdict) (text : List ℕ) (status : Status) → length bytes ≤ 67108864 → Accepts bytes steps p verdict → IsAcceptedText p verdict text
+  pub acceptance_told : (p : Source) (verdict : Verdict) (text : List ℕ) (status : Status) → length bytes ≤ 67108864
+      → Accepts bytes steps p verdict → IsAcceptedText p verdict text
       → status ≡ verdict_status verdict → TellsDue (record { text = text; status = status }) before after answer number
       → AnswersCall (IsCheckDue bytes steps) before after answer number
   acceptance_told p verdict text status short accepted told same answered =

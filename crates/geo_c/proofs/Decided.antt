@@ -31,7 +31,8 @@ module _ (bytes : List ℕ) (steps : ℕ) (before after : List ℕ) (answer : An
     log_proves : (due : Due) → IsLogDue steps bytes due → steps < 2 ^ 127 → TellsDue due before after answer number
         → ProvesBytes bytes steps before after answer verdict
     log_proves due log small told =
-        let ends = ending_of_numbers verdict log.lines log.ending (told_number due _ log.is told ∙ says.0) (told_at due _ log.is told ∙ says.1) in
+        let number_told = told_number due _ log.is told ∙ says.0 in
+        let ends = ending_of_numbers verdict log.lines log.ending number_told (told_at due _ log.is told ∙ says.1) in
         let p = source_of log.program in
         let h : IsLogOf p steps log.lines (ends_with verdict ends.0) = subst (IsLogOf p steps log.lines) ends.1 log.log in
         let accepted = accepted_log p steps ends.0 log.lines verdict log.spelt.well_formed small h in
@@ -45,10 +46,12 @@ module _ (bytes : List ℕ) (steps : ℕ) (before after : List ℕ) (answer : An
         }
 
     -- the verdict of a program
-    pub proves : steps < 2 ^ 127 → AnswersCall (IsProofDue bytes steps) before after answer number → ProvesBytes bytes steps before after answer verdict
+    pub proves : steps < 2 ^ 127 → AnswersCall (IsProofDue bytes steps) before after answer number
+        → ProvesBytes bytes steps before after answer verdict
     proves small (inl (due, inl long, told)) = not_a_verdict verdict 12 _ (told_number due _ long.1 told ∙ says.0) (omega arith)
     proves small (inl (due, inr (short, inl log), told)) = log_proves due log small told
-    proves small (inl (due, inr (short, inr refusal), told)) = not_a_verdict verdict 4 _ (told_number due _ refusal.is told ∙ says.0) (omega arith)
+    proves small (inl (due, inr (short, inr refusal), told)) =
+        not_a_verdict verdict 4 _ (told_number due _ refusal.is told ∙ says.0) (omega arith)
     proves small (inr told) = not_a_verdict verdict 10 _ (sym told.status ∙ says.0) (omega arith)
 
     -- a log that is accepted
@@ -63,7 +66,8 @@ module _ (bytes : List ℕ) (steps : ℕ) (before after : List ℕ) (answer : An
           means = accepted_bytes_mean bytes steps h.program verdict accepted;
           conditions = h.conditions;
           listed = h.listed;
-          held = subst (λ (v : Verdict). HandsBack (accepted_text h.program h.conditions v) before after answer) same (told_text due _ h.is told);
+          held = subst (λ (v : Verdict). HandsBack (accepted_text h.program h.conditions v) before after answer) same
+              (told_text due _ h.is told);
         }
 
     -- the verdict of a log
@@ -76,7 +80,8 @@ module _ (bytes : List ℕ) (steps : ℕ) (before after : List ℕ) (answer : An
     checks (inr told) = not_a_verdict verdict 10 _ (sym told.status ∙ says.0) (omega arith)
 
   -- a readable proof that was written
-  readable_prints : (due : Due) → IsReadableDue steps bytes due → TellsDue due before after answer number → PrintsBytes bytes steps before after answer
+  readable_prints : (due : Due) → IsReadableDue steps bytes due → TellsDue due before after answer number
+      → PrintsBytes bytes steps before after answer
   readable_prints due h told = record { text = h.text; readable = h.readable; held = told_text due _ h.is told }
 
   other_number : (n : ℕ) (P : Type 0) → n ≡ number → number ≡ 13 → n ≤ 12 → P

@@ -69,7 +69,8 @@ module _ (p : Program) (steps : ℕ) (old new : List ℕ) (none : old ≡ []) (b
       }
 
   -- the log before the line with which it would be too long
-  pub long_log : WritesLog (source_of p) steps (Some old) (Some new) too_long → IsLogDue steps bytes (record { text = new; status = TooLong })
+  pub long_log : WritesLog (source_of p) steps (Some old) (Some new) too_long
+      → IsLogDue steps bytes (record { text = new; status = TooLong })
   long_log w =
       let written = all_written old new (log_text w.lines) none w.written in
       record {

@@ -30,7 +30,8 @@ one_proof bytes steps due other (inr h) (inr g) = one_refusal_due bytes due othe
 -- WHAT THE BYTES OF A LOG CALL FOR
 
 -- a log is refused once
-one_rejection_due : (steps : ℕ) (bytes : List ℕ) (due other : Due) → IsBareRejectionDue steps bytes due → IsBareRejectionDue steps bytes other → due ≡ other
+one_rejection_due : (steps : ℕ) (bytes : List ℕ) (due other : Due) → IsBareRejectionDue steps bytes due
+    → IsBareRejectionDue steps bytes other → due ≡ other
 one_rejection_due steps bytes due other h g =
     let same = bytes_are_refused_once bytes steps h.number g.number h.refusal g.refusal h.refused g.refused in
     h.is ∙ (λ i. record { text = []; status = refusal_status (same.0 i) (same.1 i) }) ∙ sym g.is
@@ -77,16 +78,17 @@ module _ (limit : ℕ) (For : List ℕ → ℕ → Due → Type 0)
 module _ (bytes : List ℕ) (steps : ℕ) (before after : List ℕ) (answer : Answer) (number : ℕ) where
   pub proof_told : AnswersCall (IsProofDue bytes steps) before after answer number → (due : Due) → IsProofDue bytes steps due
       → (number ≡ 10) ⊎ TellsDue due before after answer number
-  proof_told = told_within 1048576 (λ bytes steps due. IsLogDue steps bytes due ⊎ IsBareRefusalDue bytes due) one_proof bytes steps before after answer number
+  proof_told =
+      told_within 1048576 (λ bytes steps due. IsLogDue steps bytes due ⊎ IsBareRefusalDue bytes due) one_proof bytes steps before after answer number
 
   pub check_told : AnswersCall (IsCheckDue bytes steps) before after answer number → (due : Due) → IsCheckDue bytes steps due
       → (number ≡ 10) ⊎ TellsDue due before after answer number
   check_told =
-      told_within 67108864 (λ bytes steps due. IsAcceptedDue steps bytes due ⊎ IsBareRejectionDue steps bytes due) one_check bytes steps before after answer
-      number
+      told_within 67108864 (λ bytes steps due. IsAcceptedDue steps bytes due ⊎ IsBareRejectionDue steps bytes due)
+      one_check bytes steps before after answer number
 
   pub text_told : AnswersCall (IsTextDue bytes steps) before after answer number → (due : Due) → IsTextDue bytes steps due
       → (number ≡ 10) ⊎ TellsDue due before after answer number
   text_told =
-      told_within 67108864 (λ bytes steps due. IsReadableDue steps bytes due ⊎ IsBareRejectionDue steps bytes due) one_print bytes steps before after answer
-      number
+      told_within 67108864 (λ bytes steps due. IsReadableDue steps bytes due ⊎ IsBareRejectionDue steps bytes due)
+      one_print bytes steps before after answer number

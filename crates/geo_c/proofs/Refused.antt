@@ -49,7 +49,8 @@ module _ (Of : Due → Type 0) (bytes : List ℕ) (before after : List ℕ) (ans
 
 -- the bytes spell no program, and nothing was written
 pub refusal_due : (bytes : List ℕ) (steps : ℕ) (fault : Fault) (text : List ℕ) (status : Status) → text ≡ []
-    → status ≡ Syntax fault.refusal fault.place → SpellsNone bytes fault → length bytes ≤ 1048576 → IsProofDue bytes steps (record { text = text; status = status })
+    → status ≡ Syntax fault.refusal fault.place → SpellsNone bytes fault → length bytes ≤ 1048576
+    → IsProofDue bytes steps (record { text = text; status = status })
 refusal_due bytes steps fault text status none same no_program short =
     inr (
       short,

@@ -29,9 +29,9 @@ use Rattle.geo_answers.specs.Due.{Due}
 use Rattle.geo_answers.specs.Status.{ending_status, refusal_status, verdict_status}
 use Rattle.geo_answers.proofs.OneDue.{one_accepted_due, one_log_due, one_readable_due}
 use Rattle.geo_cli.specs.Due.{IsBenchDue, IsCalledFor, IsCommandCall, IsCommandDue, IsDue, IsDueFor, IsDueForCitation}
-use Rattle.geo_cli.specs.Due.{IsDueForFixed, IsDueForLog, IsDueForSearch, IsDueForText, IsDueForValues, IsFixedDue, IsReadCall, IsReadDue, IsRefusalDue, IsSearchDue}
-use Rattle.geo_cli.specs.Due.{IsRejectionDue, IsRestDue, IsValuesDue, TellsAnswer, TellsDrawing, TellsUncited, bench_text, cited_line}
-use Rattle.geo_cli.specs.Due.{TellsFixed, fault_due, fixed_line, refusal_line, stop_due, syntax_line}
+use Rattle.geo_cli.specs.Due.{IsDueForFixed, IsDueForLog, IsDueForSearch, IsDueForText, IsDueForValues, IsFixedDue, IsReadCall, IsReadDue}
+use Rattle.geo_cli.specs.Due.{IsRefusalDue, IsRejectionDue, IsRestDue, IsSearchDue, IsValuesDue, TellsAnswer, TellsDrawing, TellsUncited}
+use Rattle.geo_cli.specs.Due.{TellsFixed, bench_text, cited_line, fault_due, fixed_line, refusal_line, stop_due, syntax_line}
 use Rattle.geo_cli.specs.Input.{IsInput, IsLong, log_limit, program_limit}
 use Rattle.geo_cli.specs.Orders.{IsOrder}
 use Rattle.geo_cli.specs.Status.{search_status}
