@@ -50,4 +50,5 @@ refusal_number n (stopped (too_large which)) = (omega arith, omega arith)
 -- the text of a defined log that ends with a verdict is accepted with it
 pub accepted_log : (p : Source) (steps left : ℕ) (lines : List Line) (verdict : Verdict) → IsWellFormed p → steps < 2 ^ 127
     → IsLogOf p steps lines (ends_with verdict left) → Accepts (log_text lines) steps p verdict
-accepted_log p steps left lines verdict w small h = defined_bytes_are_accepted p h.subject steps left lines verdict w h.about small h.defined
+accepted_log p steps left lines verdict w small h =
+    defined_bytes_are_accepted p h.subject steps left lines verdict w h.about small h.defined

@@ -28,7 +28,8 @@ one_log : (p q : Source) (steps : ℕ) (lines other : List Line) (ending ending'
     → source_lines p ≡ source_lines q → IsLogOf p steps lines ending → IsLogOf q steps other ending' → (lines ≡ other) × (ending ≡ ending')
 one_log p q steps lines other ending ending' v w e h g =
     defined_log_unique lemma_table g.subject steps lines other ending ending'
-    (subjects_agree.defined p q h.subject g.subject v w e h.about g.about (h.version ∙ sym g.version) steps lines ending h.defined) g.defined
+    (subjects_agree.defined p q h.subject g.subject v w e h.about g.about (h.version ∙ sym g.version) steps lines ending h.defined)
+    g.defined
 
 -- bytes call for one log at most
 pub one_log_due : (steps : ℕ) (bytes : List ℕ) (due other : Due) → IsLogDue steps bytes due → IsLogDue steps bytes other → due ≡ other
@@ -42,8 +43,8 @@ one_log_due steps bytes due other h g =
 -- a program has one list of conditions
 one_conditions : (p : Source) (one other : List ItemForm) → AreConditionItems Two p one → AreConditionItems Two p other → one ≡ other
 one_conditions p one other h g =
-    h.written ∙ ap (map (condition_item Two p)) (listed_once (λ (f : Found). f.condition) (all_found p) [] h.conditions g.conditions h.listed g.listed)
-    ∙ sym g.written
+    let same = listed_once (λ (f : Found). f.condition) (all_found p) [] h.conditions g.conditions h.listed g.listed in
+    h.written ∙ ap (map (condition_item Two p)) same ∙ sym g.written
 
 -- an accepted log calls for one text
 pub one_accepted_due : (steps : ℕ) (bytes : List ℕ) (due other : Due) → IsAcceptedDue steps bytes due → IsAcceptedDue steps bytes other
