@@ -71,7 +71,7 @@ fn write_log(alloc: Global, text: &[u8], steps: u64, sink: &mut SureSink) -> Sta
 fn prove_program(alloc: Global, program: &Program, steps: u64, sink: &mut SureSink) -> Status
     requires { sink.old ≡ [] }
     ensures { result ≢ Status.NoMemory → (text : List ℕ) → Spells text program.now
-        → IsLogDue text steps (record { text = sink.new; status = result }) }
+        → IsLogDue steps text (record { text = sink.new; status = result }) }
 {
     match prove(alloc, program, steps, sink) {
         Ok(summary) => Status::of_verdict(summary.verdict),
