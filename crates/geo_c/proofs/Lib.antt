@@ -1,5 +1,5 @@
 pub mod Decided
 pub mod Logs
 pub mod Refused
-pub mod Listed
+pub mod Accepted
 pub mod OneDue

@@ -1,10 +1,10 @@
 -- The log of a program that was written into memory.
 use Rattle.std.proofs.Common.{◌≡◌, ℕ, List, [], ◌++◌, Some, ap, ◌∙◌}
 use Rattle.geo_base.specs.Devices.{Grows}
-use Rattle.geo_c.specs.declared.status.Status.{Status}
-use Rattle.geo_c.specs.declared.status.Status.TheVariants.{Spent, TooLarge, TooLong}
-use Rattle.geo_c.specs.Due.{IsLogDue}
-use Rattle.geo_c.specs.Status.{verdict_status}
+use Rattle.geo_answers.specs.declared.status.Status.{Status}
+use Rattle.geo_answers.specs.declared.status.Status.TheVariants.{Spent, TooLarge, TooLong}
+use Rattle.geo_answers.specs.Due.{IsLogDue}
+use Rattle.geo_answers.specs.Status.{verdict_status}
 use Rattle.geo_logs.specs.Ends.{ends_by, ends_with, too_long}
 use Rattle.geo_logs.specs.Moves.{spent, too_large}
 use Rattle.geo_poly.specs.declared.limits.Which.{Which}
@@ -24,7 +24,7 @@ all_written old new text none grown =
 module _ (p : Program) (steps : ℕ) (old new : List ℕ) (none : old ≡ []) (bytes : List ℕ) (spelt : Spells bytes p) where
   -- the whole log
   pub concluded : (summary : Summary) (status : Status) → status ≡ verdict_status summary.verdict
-      → Concludes (source_of p) steps (Some old) (Some new) summary → IsLogDue bytes steps (record { text = new; status = status })
+      → Concludes (source_of p) steps (Some old) (Some new) summary → IsLogDue steps bytes (record { text = new; status = status })
   concluded summary status same h =
       let written = all_written old new (log_text h.lines) none h.written in
       record {
@@ -38,7 +38,7 @@ module _ (p : Program) (steps : ℕ) (old new : List ℕ) (none : old ≡ []) (b
 
   -- the log up to a line that is too large
   pub too_large_line : (line : ℕ) (which : Which) → StopsAt (source_of p) steps (Some old) (Some new) (too_large which) line
-      → IsLogDue bytes steps (record { text = new; status = TooLarge line which })
+      → IsLogDue steps bytes (record { text = new; status = TooLarge line which })
   too_large_line line which h =
       let w = h.whole in
       let written = all_written old new (log_text w.lines) none w.written in
@@ -54,7 +54,7 @@ module _ (p : Program) (steps : ℕ) (old new : List ℕ) (none : old ≡ []) (b
 
   -- the log up to a line that is not paid
   pub spent_line : (line : ℕ) → StopsAt (source_of p) steps (Some old) (Some new) spent line
-      → IsLogDue bytes steps (record { text = new; status = Spent line })
+      → IsLogDue steps bytes (record { text = new; status = Spent line })
   spent_line line h =
       let w = h.whole in
       let written = all_written old new (log_text w.lines) none w.written in
@@ -69,7 +69,8 @@ module _ (p : Program) (steps : ℕ) (old new : List ℕ) (none : old ≡ []) (b
       }
 
   -- the log before the line with which it would be too long
-  pub long_log : WritesLog (source_of p) steps (Some old) (Some new) too_long → IsLogDue bytes steps (record { text = new; status = TooLong })
+  pub long_log : WritesLog (source_of p) steps (Some old) (Some new) too_long
+      → IsLogDue steps bytes (record { text = new; status = TooLong })
   long_log w =
       let written = all_written old new (log_text w.lines) none w.written in
       record {

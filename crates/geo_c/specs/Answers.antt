@@ -1,22 +1,17 @@
 -- What a call hands back.
 use Rattle.std.specs.Prelude.{◌≡◌, ◌⊎◌, ℕ, List, [], ◌++◌, length, take, drop}
+use Rattle.geo_answers.specs.declared.status.Status.TheVariants.{NoMemory}
+use Rattle.geo_answers.specs.Due.{Due}
+use Rattle.geo_answers.specs.Status.{status_at, status_number, status_reason, verdict_status}
 use Rattle.geo_c.specs.declared.answers.Answer.{Answer}
-use Rattle.geo_c.specs.declared.status.Status.{Status}
-use Rattle.geo_c.specs.declared.status.Status.TheVariants.{NoMemory}
-use Rattle.geo_c.specs.Status.{status_at, status_number, status_reason, verdict_status}
 use Rattle.proof_log.specs.declared.log.Verdict.{Verdict}
-
--- a text that is to be handed back, and the status then
-pub record Due : Type 0 where
-  pub text : List ℕ
-  pub status : Status
 
 -- the buffer with the text at its front, or with as much of it as there is room for; behind the text it is as before
 abbrev pub filled : List ℕ → List ℕ → List ℕ
 filled before text = take (length before) text ++ drop (length text) before
 
 -- the buffer, which was `before`, holds this text, and the answer tells how long it is
-pub record HoldsText (text before after : List ℕ) (answer : Answer) : Type 0 where
+pub record HandsBack (text before after : List ℕ) (answer : Answer) : Type 0 where
   pub length_told : answer.length ≡ length text
   pub written : after ≡ filled before text
 
@@ -25,11 +20,11 @@ pub record TellsDue (due : Due) (before after : List ℕ) (answer : Answer) (num
   pub status : number ≡ status_number due.status
   pub at_told : answer.at ≡ status_at due.status
   pub reason_told : answer.reason ≡ status_reason due.status
-  pub text : HoldsText due.text before after answer
+  pub text : HandsBack due.text before after answer
 
 -- something that is due was told; or memory ran out, and no text is due
-abbrev pub Answers : (Due → Type 0) → List ℕ → List ℕ → Answer → ℕ → Type 0
-Answers Of before after answer number =
+abbrev pub AnswersCall : (Due → Type 0) → List ℕ → List ℕ → Answer → ℕ → Type 0
+AnswersCall Of before after answer number =
     ((due : Due) × Of due × TellsDue due before after answer number)
     ⊎ TellsDue (record { text = []; status = NoMemory }) before after answer number
 

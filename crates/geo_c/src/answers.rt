@@ -2,7 +2,7 @@
 ghost use Rattle.std.specs.Prelude.{◌≡◌};
 ghost use Rattle.geo_c.specs.Answers.{TellsDue, filled};
 
-use crate::status::Status;
+use geo_answers::Status;
 
 /// What a call tells besides its status.
 #[repr(C)]
@@ -29,7 +29,7 @@ pub fn tell(text: &[u8], status: Status, buffer: &mut [u8], answer: &mut Answer)
         at: status.at(),
         reason: status.reason(),
     };
-    status.number()
+    status.number() as u32
 }
 
 /// Copies the text, or as much of it as there is room for, to the front of the buffer.

@@ -1,15 +1,15 @@
 //! The call that checks a log.
 ghost use Rattle.std.specs.Prelude.{◌≡◌, ◌≤◌, ◌⊎◌, ℕ, List, length};
-ghost use Rattle.geo_c.specs.Answers.{Answers, Due, TellsDue, TellsVerdict};
+ghost use Rattle.geo_answers.specs.Due.{Due};
+ghost use Rattle.geo_c.specs.Answers.{AnswersCall, TellsDue, TellsVerdict};
 ghost use Rattle.geo_c.specs.Due.{IsCheckDue};
-ghost use Rattle.geo_c.specs.Calls.{Checks};
+ghost use Rattle.geo_c.specs.Calls.{ChecksBytes};
 ghost use Rattle.geo_program.specs.Programs.{source_of};
 ghost use Rattle.log_checker.specs.Accepted.{Accepts};
 ghost use Rattle.proof_log.specs.declared.log.Verdict.{Verdict};
 
-use crate::acceptance::accepted_text;
 use crate::answers::{Answer, tell};
-use crate::status::Status;
+use geo_answers::{Status, accepted_text};
 use geo_program::Program;
 use log_checker::check;
 use proof_log::Verdict;
@@ -33,17 +33,17 @@ pub extern "C" fn geo_check(
     answer: &mut Answer,
 ) -> u32
     ensures decides { (verdict : Verdict) → TellsVerdict verdict answer.new result
-        → Checks log.now steps told.old told.new answer.new verdict }
+        → ChecksBytes log.now steps told.old told.new answer.new verdict }
     ensures complete { (due : Due) → IsCheckDue log.now steps due
         → (result ≡ 10) ⊎ TellsDue due told.old told.new answer.new result }
-    ensures answers { Answers (IsCheckDue log.now steps) told.old told.new answer.new result }
+    ensures answers { AnswersCall (IsCheckDue log.now steps) told.old told.new answer.new result }
 {
     check_log(alloc, log, steps, told, answer)
 }
 
 /// Checks a log, and tells what became of it.
 fn check_log(alloc: Global, log: &[u8], steps: u64, told: &mut [u8], answer: &mut Answer) -> u32
-    ensures { Answers (IsCheckDue log.now steps) told.old told.new answer.new result }
+    ensures { AnswersCall (IsCheckDue log.now steps) told.old told.new answer.new result }
 {
     if log.len() > LOG_LIMIT {
         return tell(&[], Status::TooLong, told, answer);
@@ -54,7 +54,7 @@ fn check_log(alloc: Global, log: &[u8], steps: u64, told: &mut [u8], answer: &mu
     }
 }
 
-/// TellsDue an accepted log.
+/// Tells an accepted log.
 fn accept(
     alloc: Global,
     program: &Program,
@@ -64,7 +64,7 @@ fn accept(
 ) -> u32
     ensures { (bytes : List ℕ) (steps : ℕ) → length bytes ≤ 67108864
         → Accepts bytes steps (source_of program.now) verdict
-        → Answers (IsCheckDue bytes steps) told.old told.new answer.new result }
+        → AnswersCall (IsCheckDue bytes steps) told.old told.new answer.new result }
 {
     match accepted_text(alloc, program, verdict) {
         Ok(text) => tell(&text.bytes, Status::of_verdict(verdict), told, answer),

@@ -3,11 +3,9 @@
 //! and hands out no memory.
 #![tactic(auto)]
 
-mod acceptance;
 pub mod answers;
 pub mod checking;
 pub mod printing;
 pub mod proving;
-mod status;
 #[cfg(test)]
 mod tests;

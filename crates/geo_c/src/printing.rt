@@ -1,12 +1,13 @@
 //! The call that writes a log as a proof that a person reads.
 ghost use Rattle.std.specs.Prelude.{◌≡◌, ◌⊎◌};
-ghost use Rattle.geo_c.specs.Answers.{Answers, Due, TellsDue};
+ghost use Rattle.geo_answers.specs.Due.{Due};
+ghost use Rattle.geo_c.specs.Answers.{AnswersCall, TellsDue};
 ghost use Rattle.geo_c.specs.Due.{IsTextDue};
-ghost use Rattle.geo_c.specs.Calls.{Prints};
+ghost use Rattle.geo_c.specs.Calls.{PrintsBytes};
 
 use crate::answers::{Answer, tell};
 use crate::checking::LOG_LIMIT;
-use crate::status::Status;
+use geo_answers::Status;
 use proof_printer::text;
 use std::alloc::Global;
 
@@ -24,17 +25,17 @@ pub extern "C" fn geo_text(
     proof: &mut [u8],
     answer: &mut Answer,
 ) -> u32
-    ensures prints { result ≡ 13 → Prints log.now steps proof.old proof.new answer.new }
+    ensures prints { result ≡ 13 → PrintsBytes log.now steps proof.old proof.new answer.new }
     ensures complete { (due : Due) → IsTextDue log.now steps due
         → (result ≡ 10) ⊎ TellsDue due proof.old proof.new answer.new result }
-    ensures answers { Answers (IsTextDue log.now steps) proof.old proof.new answer.new result }
+    ensures answers { AnswersCall (IsTextDue log.now steps) proof.old proof.new answer.new result }
 {
     print_log(alloc, log, steps, proof, answer)
 }
 
 /// Writes the readable proof of a log, or tells why there is none.
 fn print_log(alloc: Global, log: &[u8], steps: u64, proof: &mut [u8], answer: &mut Answer) -> u32
-    ensures { Answers (IsTextDue log.now steps) proof.old proof.new answer.new result }
+    ensures { AnswersCall (IsTextDue log.now steps) proof.old proof.new answer.new result }
 {
     if log.len() > LOG_LIMIT {
         return tell(&[], Status::TooLong, proof, answer);

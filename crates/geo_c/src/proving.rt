@@ -1,13 +1,14 @@
 //! The call that proves a program.
 ghost use Rattle.std.specs.Prelude.{◌≡◌, ◌≢◌, ◌⊎◌, [], ℕ, List, length};
-ghost use Rattle.geo_c.specs.Answers.{Answers, Due, TellsDue, TellsVerdict};
-ghost use Rattle.geo_c.specs.Due.{IsLogDue, IsProofDue};
-ghost use Rattle.geo_c.specs.Calls.{Proves};
+ghost use Rattle.geo_answers.specs.Due.{Due, IsLogDue};
+ghost use Rattle.geo_c.specs.Answers.{AnswersCall, TellsDue, TellsVerdict};
+ghost use Rattle.geo_c.specs.Due.{IsProofDue};
+ghost use Rattle.geo_c.specs.Calls.{ProvesBytes};
 ghost use Rattle.geo_program.specs.Programs.{Spells};
 ghost use Rattle.proof_log.specs.declared.log.Verdict.{Verdict};
 
 use crate::answers::{Answer, tell};
-use crate::status::Status;
+use geo_answers::Status;
 use geo_base::SureSink;
 use geo_parser::{ParseError, parse};
 use geo_program::Program;
@@ -31,17 +32,17 @@ pub extern "C" fn geo_prove(
     answer: &mut Answer,
 ) -> u32
     ensures decides { (verdict : Verdict) → TellsVerdict verdict answer.new result
-        → Proves text.now steps log.old log.new answer.new verdict }
+        → ProvesBytes text.now steps log.old log.new answer.new verdict }
     ensures complete { (due : Due) → IsProofDue text.now steps due
         → (result ≡ 10) ⊎ TellsDue due log.old log.new answer.new result }
-    ensures answers { Answers (IsProofDue text.now steps) log.old log.new answer.new result }
+    ensures answers { AnswersCall (IsProofDue text.now steps) log.old log.new answer.new result }
 {
     prove_text(alloc, text, steps, log, answer)
 }
 
 /// Proves the program that a text spells, and tells what became of it.
 fn prove_text(alloc: Global, text: &[u8], steps: u64, log: &mut [u8], answer: &mut Answer) -> u32
-    ensures { Answers (IsProofDue text.now steps) log.old log.new answer.new result }
+    ensures { AnswersCall (IsProofDue text.now steps) log.old log.new answer.new result }
 {
     let mut sink = SureSink::new(alloc);
     match write_log(alloc, text, steps, &mut sink) {
@@ -70,7 +71,7 @@ fn write_log(alloc: Global, text: &[u8], steps: u64, sink: &mut SureSink) -> Sta
 fn prove_program(alloc: Global, program: &Program, steps: u64, sink: &mut SureSink) -> Status
     requires { sink.old ≡ [] }
     ensures { result ≢ Status.NoMemory → (text : List ℕ) → Spells text program.now
-        → IsLogDue text steps (record { text = sink.new; status = result }) }
+        → IsLogDue steps text (record { text = sink.new; status = result }) }
 {
     match prove(alloc, program, steps, sink) {
         Ok(summary) => Status::of_verdict(summary.verdict),

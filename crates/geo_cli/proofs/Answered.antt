@@ -3,14 +3,15 @@ use Rattle.std.proofs.Common.{◌≡◌, ℕ, true, false, inl, inr, List, Optio
 use Rattle.geo_base.specs.Devices.{HasRisen}
 use Rattle.geo_cli.specs.declared.order.Command.{Command}
 use Rattle.geo_cli.specs.declared.order.Command.TheVariants.{Bench, Check, Cite, Discover, Figure, Fixed, Place, Prove, Text}
-use Rattle.geo_cli.specs.declared.status.Status.{Status}
-use Rattle.geo_cli.specs.declared.status.Status.TheVariants.{ReadFault, TooLarge, Spent, TooLong}
-use Rattle.geo_cli.specs.Due.{Due, IsBenchDue, IsCommandDue, IsDueFor, IsDueForCitation, IsDueForLog, IsDueForText, IsDueForValues}
+use Rattle.geo_answers.specs.declared.status.Status.{Status}
+use Rattle.geo_answers.specs.declared.status.Status.TheVariants.{ReadFault, TooLarge, Spent, TooLong}
+use Rattle.geo_answers.specs.Due.{Due}
+use Rattle.geo_answers.specs.Status.{ending_status, verdict_status}
+use Rattle.geo_cli.specs.Due.{IsBenchDue, IsCommandDue, IsDueFor, IsDueForCitation, IsDueForLog, IsDueForText, IsDueForValues}
 use Rattle.geo_cli.specs.Due.{IsDueForFixed, IsDueForSearch, IsReadDue, too_long_line}
 use Rattle.geo_cli.specs.Inner.Answering.{AnswersBytes, AnswersCommand, AnswersDue, AnswersInput}
 use Rattle.geo_cli.specs.Input.{IsInput, IsLong, log_limit, program_limit}
 use Rattle.geo_cli.specs.Run.{IsAnswered, IsCutShort}
-use Rattle.geo_cli.specs.Status.{ending_status, verdict_status}
 use Rattle.geo_logs.specs.Ends.{ends_by, ends_with, too_long}
 use Rattle.geo_logs.specs.Moves.{spent, too_large}
 use Rattle.geo_poly.specs.declared.limits.Which.{Which}

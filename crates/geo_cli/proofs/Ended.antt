@@ -11,9 +11,12 @@ use Rattle.geo_place.specs.declared.placed.Placed.{Placed}
 use Rattle.geo_cli.specs.declared.order.Command.{Command}
 use Rattle.geo_cli.specs.declared.order.Command.TheVariants.{Bench, Check, Cite, Discover, Figure, Fixed, Place, Prove, Text}
 use Rattle.geo_cli.specs.declared.order.Order.{Order}
-use Rattle.geo_cli.specs.declared.status.Status.{Status}
-use Rattle.geo_cli.specs.declared.status.Status.TheVariants as status
-use Rattle.geo_cli.specs.Due.{Due, IsAcceptedDue, IsBenchDue, IsCalledFor, IsCommandDue, IsDue, IsDueForValues, IsFixedDue, IsLogDue}
+use Rattle.geo_answers.specs.declared.status.Status.{Status}
+use Rattle.geo_answers.specs.declared.status.Status.TheVariants as status
+use Rattle.geo_answers.specs.Due.{Due, IsAcceptedDue, IsLogDue}
+use Rattle.geo_answers.specs.Status.{ended_status, ending_status, refusal_status, status_at, status_number, stop_status, verdict_status}
+use Rattle.geo_answers.proofs.Numbers.{accepted_log, ending_of_numbers, not_a_verdict, refusal_number, verdict_of_numbers}
+use Rattle.geo_cli.specs.Due.{IsBenchDue, IsCalledFor, IsCommandDue, IsDue, IsDueForValues, IsFixedDue}
 use Rattle.geo_cli.specs.Due.{IsSearchDue}
 use Rattle.geo_cli.specs.Due.{IsRestDue, TellsAnswer, TellsDrawing, TellsFixed, TellsUncited, bench_text, fixed_line, usage_line}
 use Rattle.geo_cli.specs.Inner.Answering.{AnswersCommand, HasNumber}
@@ -21,7 +24,7 @@ use Rattle.geo_cli.specs.Input.{IsInput, Takes, limit_of, log_limit, program_lim
 use Rattle.geo_cli.specs.Orders.{IsOrder, IsRow, TellsSteps}
 use Rattle.geo_cli.specs.Run.{BenchesLog, ChecksLog, Ends, FindsImpossibleByLog, FixesByLog, IsAnswered, IsCutShort, ProvesByLog, VerdictAccepted}
 use Rattle.geo_cli.specs.Run.{VerdictTells}
-use Rattle.geo_cli.specs.Status.{ended_status, ending_status, refusal_status, search_status, status_number, stop_status, verdict_status}
+use Rattle.geo_cli.specs.Status.{search_status}
 use Rattle.geo_cli.specs.Words.{IsBenchOf, IsCheck, IsDiscover, IsFixed, IsNoCommand, IsProve, ReadsNothing}
 use Rattle.geo_cli.proofs.OneDue.{GivesOne, called_is_due}
 use Rattle.geo_discover.specs.FixedEnds.{EndsWithVerdict}
@@ -32,18 +35,17 @@ use Rattle.geo_discover.proofs.NoPlacement.{impossible_lines, impossible_searche
 use Rattle.geo_library.specs.declared.errors.CiteError.{CiteError}
 use Rattle.geo_library.specs.declared.errors.CiteError.TheVariants as citing
 use Rattle.geo_logs.specs.Ends.{Ending, ends_by, ends_with, too_long}
-use Rattle.geo_logs.specs.Judging.{Refusal, rejected, stopped}
+use Rattle.geo_logs.specs.Judging.{Refusal}
 use Rattle.geo_logs.specs.Moves.{Stop, spent, too_large}
 use Rattle.geo_program.specs.Programs.{source_of}
-use Rattle.geo_program.specs.WellFormed.{IsWellFormed, Source}
+use Rattle.geo_program.specs.WellFormed.{Source}
 use Rattle.geo_program.proofs.Propositions.{program_well_formed}
 use Rattle.geo_prover.specs.Proving.{IsLogOf}
 use Rattle.log_checker.specs.Accepted.{Accepts}
 use Rattle.log_checker.proofs.AcceptedBytes.{accepted_bytes_mean}
-use Rattle.log_checker.proofs.DefinedBytes.{defined_bytes_are_accepted}
 use Rattle.proof_log.specs.declared.log.Line.{Line}
 use Rattle.proof_log.specs.declared.log.Verdict.{Verdict}
-use Rattle.proof_log.specs.declared.log.Verdict.TheVariants.{Proved, False, Impossible}
+use Rattle.proof_log.specs.declared.log.Verdict.TheVariants.{Impossible}
 use Rattle.proof_log.specs.Lines.{log_text, verdict_text}
 
 -- STATUSES
@@ -53,21 +55,11 @@ differ s t P same apart = absurd (apart (ap status_number same))
 
 -- a status that tells no verdict
 no_verdict : (v : Verdict) (s : Status) (P : Type 0) → s ≡ verdict_status v → 3 ≤ status_number s → P
-no_verdict Proved s P is h = differ s (verdict_status Proved) P is (λ e. omega (arith, e, h))
-no_verdict (False g) s P is h = differ s (verdict_status (False g)) P is (λ e. omega (arith, e, h))
-no_verdict (Impossible k) s P is h = differ s (verdict_status (Impossible k)) P is (λ e. omega (arith, e, h))
+no_verdict v s P is h = not_a_verdict v (status_number s) P (ap status_number is) h
 
 -- verdicts are told by their statuses
 same_verdict : (v w : Verdict) → verdict_status v ≡ verdict_status w → v ≡ w
-same_verdict Proved Proved e = refl
-same_verdict Proved (False g) e = differ _ _ _ e (λ n. omega (arith, n))
-same_verdict Proved (Impossible k) e = differ _ _ _ e (λ n. omega (arith, n))
-same_verdict (False g) Proved e = differ _ _ _ e (λ n. omega (arith, n))
-same_verdict (False g) (False h) e = cc
-same_verdict (False g) (Impossible k) e = differ _ _ _ e (λ n. omega (arith, n))
-same_verdict (Impossible k) Proved e = differ _ _ _ e (λ n. omega (arith, n))
-same_verdict (Impossible k) (False g) e = differ _ _ _ e (λ n. omega (arith, n))
-same_verdict (Impossible k) (Impossible l) e = cc
+same_verdict v w e = verdict_of_numbers v w (ap status_number e) (ap status_at e)
 
 -- STEPS
 -- the steps of an order are few
@@ -81,18 +73,10 @@ pub few_steps : (words : List (List ℕ)) (command : Command) (steps : ℕ) → 
 few_steps words command steps h = let few = few_told h.option steps h.steps in omega (arith, few)
 
 -- VERDICTS
-accepted_log : (p : Source) (steps left : ℕ) (lines : List Line) (verdict : Verdict) → IsWellFormed p → steps < 2 ^ 127
-    → IsLogOf p steps lines (ends_with verdict left) → Accepts (log_text lines) steps p verdict
-accepted_log p steps left lines verdict w small h = defined_bytes_are_accepted p h.subject steps left lines verdict w h.about small h.defined
-
 -- an ending that is told by the status of a verdict is that verdict
 ends_so : (verdict : Verdict) (lines : List Line) (ending : Ending) → ending_status lines ending ≡ verdict_status verdict
     → (left : ℕ) × (ending ≡ ends_with verdict left)
-ends_so verdict lines (ends_with v left) says = (left, ap (λ x. ends_with x left) (same_verdict v verdict says))
-ends_so verdict lines (ends_by spent) says = no_verdict verdict (ending_status lines (ends_by spent)) _ says (omega arith)
-ends_so verdict lines (ends_by (too_large which)) says =
-    no_verdict verdict (ending_status lines (ends_by (too_large which))) _ says (omega arith)
-ends_so verdict lines too_long says = no_verdict verdict (ending_status lines too_long) _ says (omega arith)
+ends_so verdict lines ending says = ending_of_numbers verdict lines ending (ap status_number says) (ap status_at says)
 
 -- a stop tells no verdict
 no_stop : (v : Verdict) (n : ℕ) (stop : Stop) (P : Type 0) → stop_status n stop ≡ verdict_status v → P
@@ -101,8 +85,7 @@ no_stop v n (too_large which) P says = no_verdict v (stop_status n (too_large wh
 
 -- a refusal tells no verdict
 no_refusal : (v : Verdict) (n : ℕ) (r : Refusal) (P : Type 0) → refusal_status n r ≡ verdict_status v → P
-no_refusal v n (rejected reason) P says = no_verdict v (refusal_status n (rejected reason)) P says (omega arith)
-no_refusal v n (stopped stop) P says = no_stop v n stop P says
+no_refusal v n r P says = no_verdict v (refusal_status n r) P says (refusal_number n r).0
 
 -- values and a program call for no verdict, and tell nothing of instances
 abbrev IsBetween : Due → Type 0

@@ -3,9 +3,10 @@ use Rattle.std.proofs.Common.{◌≡◌, ℕ, inl, inr, List, Result, Ok, Err, a
 use Rattle.std.specs.Prelude.{IfOk}
 use Rattle.geo_points.specs.declared.memory.NoMemory.{NoMemory}
 use Rattle.geo_cli.specs.declared.benching.Report.{Report}
-use Rattle.geo_cli.specs.Due.{IsDueForFixed, SpellsNone, TellsFixed, fault_due, fixed_line, stop_due}
+use Rattle.geo_answers.specs.Due.{SpellsNone}
+use Rattle.geo_answers.specs.Status.{stop_status, verdict_status}
+use Rattle.geo_cli.specs.Due.{IsDueForFixed, TellsFixed, fault_due, fixed_line, stop_due}
 use Rattle.geo_cli.specs.Inner.Telling.{due_of, stop_report}
-use Rattle.geo_cli.specs.Status.{stop_status, verdict_status}
 use Rattle.geo_cli.proofs.ValuesDue.{weaker}
 use Rattle.geo_discover.specs.FixedEnds.{EndsWithVerdict, StopsAtLine}
 use Rattle.geo_lexer.specs.declared.token_types.Fault.{Fault}

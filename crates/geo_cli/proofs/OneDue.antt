@@ -1,5 +1,5 @@
 -- One thing is due at most for words and for a source that tells its bytes.
-use Rattle.std.proofs.Common.{◌≡◌, ℕ, zero, suc, ◌+◌, ◌*◌, ◌<◌, Bool, true, false, ℤ, inl, inr, List, [], ◌∷◌, ◌++◌, map, length, codes}
+use Rattle.std.proofs.Common.{◌≡◌, ℕ, zero, suc, ◌+◌, ◌*◌, ◌<◌, Bool, true, false, ℤ, inl, inr, List, [], ◌∷◌, ◌++◌, map, length}
 use Rattle.std.proofs.Common.{Option, Some, None, refl, sym, ap, subst, ◌∙◌, append-nil, length-append, arith}
 use Rattle.std.specs.Prelude.{Result, Ok, Err}
 use Rattle.std.proofs.lemmas.List.{length-map, map-append}
@@ -24,18 +24,18 @@ use Rattle.geo_program.specs.declared.program_type.Program.{Program}
 use Rattle.geo_cli.specs.declared.order.Command.{Command}
 use Rattle.geo_cli.specs.declared.order.Command.TheVariants.{Bench, Check, Cite, Discover, Figure, Fixed, Place, Prove, Text}
 use Rattle.geo_cli.specs.declared.order.Order.{Order}
-use Rattle.geo_cli.specs.declared.status.Status.TheVariants.{Done, Syntax}
-use Rattle.geo_cli.specs.Due.{Due, IsAcceptedDue, IsBenchDue, IsCalledFor, IsCommandCall, IsCommandDue, IsDue, IsDueFor, IsDueForCitation}
-use Rattle.geo_cli.specs.Due.{IsDueForFixed, IsDueForLog, IsDueForSearch, IsDueForText, IsDueForValues, IsFixedDue, IsLogDue, IsReadCall, IsReadDue, IsReadableDue, IsRefusalDue, IsSearchDue}
-use Rattle.geo_cli.specs.Due.{IsRejectionDue, IsRestDue, IsValuesDue, TellsAnswer, TellsDrawing, TellsUncited, bench_text, cited_line}
-use Rattle.geo_cli.specs.Due.{TellsFixed, conditions_text, fault_due, fixed_line, refusal_line, stop_due, syntax_line}
+use Rattle.geo_answers.specs.declared.status.Status.TheVariants.{Done, Syntax}
+use Rattle.geo_answers.specs.Due.{Due}
+use Rattle.geo_answers.specs.Status.{ending_status, refusal_status, verdict_status}
+use Rattle.geo_answers.proofs.OneDue.{one_accepted_due, one_log_due, one_readable_due}
+use Rattle.geo_cli.specs.Due.{IsBenchDue, IsCalledFor, IsCommandCall, IsCommandDue, IsDue, IsDueFor, IsDueForCitation}
+use Rattle.geo_cli.specs.Due.{IsDueForFixed, IsDueForLog, IsDueForSearch, IsDueForText, IsDueForValues, IsFixedDue, IsReadCall, IsReadDue}
+use Rattle.geo_cli.specs.Due.{IsRefusalDue, IsRejectionDue, IsRestDue, IsSearchDue, IsValuesDue, TellsAnswer, TellsDrawing, TellsUncited}
+use Rattle.geo_cli.specs.Due.{TellsFixed, bench_text, cited_line, fault_due, fixed_line, refusal_line, stop_due, syntax_line}
 use Rattle.geo_cli.specs.Input.{IsInput, IsLong, log_limit, program_limit}
 use Rattle.geo_cli.specs.Orders.{IsOrder}
-use Rattle.geo_cli.specs.Status.{ending_status, refusal_status, search_status, verdict_status}
+use Rattle.geo_cli.specs.Status.{search_status}
 use Rattle.geo_lowering.specs.declared.version.Version.TheVariants.{Two}
-use Rattle.geo_conditions.specs.Lists.{AreConditionItems, Found, ItemForm, all_found, condition_item}
-use Rattle.geo_conditions.proofs.Listings.{listed_once}
-use Rattle.geo_conditions.proofs.SamePrograms.{same_programs_mean_the_same}
 use Rattle.geo_parser.proofs.SpeltTexts.{one_refusal}
 use Rattle.geo_library.specs.declared.errors.CiteError.{CiteError}
 use Rattle.geo_library.specs.declared.errors.CiteError.TheVariants as citing
@@ -51,15 +51,12 @@ use Rattle.geo_program.specs.Programs.{source_of}
 use Rattle.geo_program.specs.Spelling.{SameSource}
 use Rattle.geo_program.specs.WellFormed.{IsWellFormed, Source}
 use Rattle.geo_program.proofs.OneProgram.{spells_one}
-use Rattle.geo_program.proofs.OneText.{same_lines, same_text}
+use Rattle.geo_program.proofs.OneText.{same_lines}
 use Rattle.geo_program.proofs.Propositions.{program_well_formed}
 use Rattle.geo_prover.specs.Bench.{IsBench, bench_commands, corner, middles, quadrangle_commands}
 use Rattle.log_checker.specs.Subjects.{source_lines}
-use Rattle.log_checker.proofs.AcceptedBytes.{accepted_bytes_tell_programs}
 use Rattle.log_checker.proofs.Judged.{accepted_bytes_are_not_refused}
 use Rattle.log_checker.proofs.OneStop.{bytes_are_refused_once}
-use Rattle.proof_log.specs.Lines.{log_text, verdict_text}
-use Rattle.proof_printer.proofs.OneProof.{readable_proof_is_unique}
 use Rattle.geo_terms.specs.Stores.{Store}
 
 -- THE BYTES OF AN INPUT
@@ -88,16 +85,7 @@ not_past limit bytes input left' h long =
 
 -- WHAT THE BYTES OF A PROGRAM CALL FOR
 
--- bytes call for one log at most
-one_log_due : (steps : ℕ) (bytes : List ℕ) (due other : Due) → IsLogDue steps bytes due → IsLogDue steps bytes other → due ≡ other
-one_log_due steps bytes due other h g =
-    let p = source_of h.program in
-    let q = source_of g.program in
-    let same : source_lines p ≡ source_lines q = ap (map line_text) (same_lines p q (spells_one bytes p q h.spelt g.spelt)) in
-    let one = one_log p q steps h.lines g.lines h.ending g.ending h.spelt.well_formed g.spelt.well_formed same h.log g.log in
-    h.is ∙ (λ i. record { text = log_text (one.0 i); status = ending_status (one.0 i) (one.1 i) }) ∙ sym g.is
-
--- and one refusal
+-- bytes call for one refusal at most
 one_refusal_due : (bytes : List ℕ) (due other : Due) → IsRefusalDue bytes due → IsRefusalDue bytes other → due ≡ other
 one_refusal_due bytes due other h g =
     let same : h.fault ≡ g.fault = one_refusal bytes h.fault g.fault h.no_program.refused g.no_program.refused in
@@ -111,27 +99,6 @@ one_due_for steps bytes due other (inr h) (inl g) = absurd (h.no_program.spells_
 one_due_for steps bytes due other (inr h) (inr g) = one_refusal_due bytes due other h g
 
 -- WHAT THE BYTES OF A LOG CALL FOR
-
--- a program has one list of conditions
-one_conditions : (p : Source) (one other : List ItemForm) → AreConditionItems Two p one → AreConditionItems Two p other → one ≡ other
-one_conditions p one other h g =
-    h.written ∙ ap (map (condition_item Two p)) (listed_once (λ (f : Found). f.condition) (all_found p) [] h.conditions g.conditions h.listed g.listed)
-    ∙ sym g.written
-
--- an accepted log calls for one text
-one_accepted_due : (steps : ℕ) (bytes : List ℕ) (due other : Due) → IsAcceptedDue steps bytes due → IsAcceptedDue steps bytes other → due ≡ other
-one_accepted_due steps bytes due other h g =
-    let told = accepted_bytes_tell_programs bytes steps steps h.program g.program h.verdict g.verdict h.accepted g.accepted in
-    let text = same_text h.program g.program told.0 in
-    let means = same_programs_mean_the_same h.program g.program told.0 in
-    let conditions : h.conditions ≡ g.conditions =
-    one_conditions g.program h.conditions g.conditions ((means.conditions Two h.conditions).0 h.listed) g.listed in
-    h.is
-    ∙ (λ i. record {
-      text = text i ++ conditions_text 1 (conditions i) ++ codes "accepted " ++ verdict_text (told.1 i) ++ 10 ∷ [];
-      status = verdict_status (told.1 i);
-    })
-    ∙ sym g.is
 
 -- a refused log calls for one line
 one_rejection_due : (steps : ℕ) (bytes : List ℕ) (due other : Due) → IsRejectionDue steps bytes due → IsRejectionDue steps bytes other → due ≡ other
@@ -147,12 +114,6 @@ one_due_for_log steps bytes due other (inl h) (inr g) =
 one_due_for_log steps bytes due other (inr h) (inl g) =
     absurd (accepted_bytes_are_not_refused bytes steps h.number g.program g.verdict h.refusal g.accepted h.refused)
 one_due_for_log steps bytes due other (inr h) (inr g) = one_rejection_due steps bytes due other h g
-
--- an accepted log calls for one proof
-one_readable_due : (steps : ℕ) (bytes : List ℕ) (due other : Due) → IsReadableDue steps bytes due → IsReadableDue steps bytes other → due ≡ other
-one_readable_due steps bytes due other h g =
-    let same : h.text ≡ g.text = readable_proof_is_unique bytes steps steps h.text g.text h.readable g.readable in
-    h.is ∙ (λ i. record { text = same i; status = Done }) ∙ sym g.is
 
 -- one thing is due at most for a log that is to be printed
 one_due_for_text : (steps : ℕ) (bytes : List ℕ) (due other : Due) → IsDueForText steps bytes due → IsDueForText steps bytes other → due ≡ other

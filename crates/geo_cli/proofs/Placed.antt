@@ -5,14 +5,17 @@ use Rattle.geo_base.specs.Devices.{Grows}
 use Rattle.geo_base.specs.declared.texts.Text.{Text as Written}
 use Rattle.geo_cli.specs.declared.order.Command.{Command}
 use Rattle.geo_cli.specs.declared.order.Command.TheVariants.{Bench, Check, Cite, Discover, Figure, Fixed, Place, Prove, Text}
-use Rattle.geo_cli.specs.declared.status.Status.{Status}
-use Rattle.geo_cli.specs.declared.status.Status.TheVariants as status
-use Rattle.geo_cli.specs.Due.{Due, IsCommandDue, IsDue, IsDueForValues, IsRestDue, IsSearchDue, TellsAnswer, TellsDrawing}
+use Rattle.geo_answers.specs.declared.status.Status.{Status}
+use Rattle.geo_answers.specs.declared.status.Status.TheVariants as status
+use Rattle.geo_answers.specs.Due.{Due}
+use Rattle.geo_answers.proofs.Numbers.{refusal_number}
+use Rattle.geo_answers.specs.Status.{ended_status, ending_status, refusal_status, status_number, stop_status, verdict_status}
+use Rattle.geo_cli.specs.Due.{IsCommandDue, IsDue, IsDueForValues, IsRestDue, IsSearchDue, TellsAnswer, TellsDrawing}
 use Rattle.geo_cli.specs.Due.{TellsFixed}
 use Rattle.geo_cli.specs.Input.{IsInput, program_limit}
 use Rattle.geo_cli.specs.Orders.{IsOrder}
 use Rattle.geo_cli.specs.Run.{DoneTells, Ends, Finds, IsAnswered, IsCutShort, IsPlaceOf, PlacesInput, PlacesNone, ReadsValues, shown}
-use Rattle.geo_cli.specs.Status.{ended_status, ending_status, refusal_status, search_status, status_number, stop_status, verdict_status}
+use Rattle.geo_cli.specs.Status.{search_status}
 use Rattle.geo_cli.specs.Values.{HasValuesLine}
 use Rattle.geo_cli.specs.Words.{IsDiscover}
 use Rattle.geo_cli.proofs.Ended.{differ, few_steps, uncited_number}
@@ -25,7 +28,7 @@ use Rattle.geo_figure.specs.declared.errors.DrawError.TheVariants as drawing
 use Rattle.geo_figure.specs.Drawing.{IsDrawn}
 use Rattle.geo_library.proofs.Chained.{citations_hold}
 use Rattle.geo_logs.specs.Ends.{Ending, ends_by, ends_with, too_long}
-use Rattle.geo_logs.specs.Judging.{Refusal, rejected, stopped}
+use Rattle.geo_logs.specs.Judging.{Refusal}
 use Rattle.geo_logs.specs.Moves.{Stop, spent, too_large}
 use Rattle.geo_place.specs.declared.errors.PlaceError.{PlaceError}
 use Rattle.geo_place.specs.declared.errors.PlaceError.TheVariants as placing
@@ -73,8 +76,7 @@ fixed_low p steps due (inl (v, ends, is)) = subst (λ (d : Due). status_number d
 fixed_low p steps due (inr (stop, n, stops, is)) = subst (λ (d : Due). status_number d.status < 13) (sym is) (stop_low n stop)
 
 pub refusal_low : (n : ℕ) (r : Refusal) → status_number (refusal_status n r) < 13
-refusal_low n (rejected reason) = omega arith
-refusal_low n (stopped stop) = stop_low n stop
+refusal_low n r = let few = (refusal_number n r).1 in omega (arith, few)
 
 -- no status of a number below 15 tells a condition that is not met
 not_unmet : (k : ℕ) (s : Status) (P : Type 0) → s ≡ status.Unmet k → status_number s < 15 → P

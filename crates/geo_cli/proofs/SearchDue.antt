@@ -1,7 +1,7 @@
 -- What `discover` did with the bytes of a program is what is due for them.
 use Rattle.std.proofs.Common.{◌≡◌, ℕ, inl, inr, List, Option, refl}
-use Rattle.geo_cli.specs.declared.status.Status.{Status}
-use Rattle.geo_cli.specs.declared.status.Status.TheVariants.{TooLong}
+use Rattle.geo_answers.specs.declared.status.Status.{Status}
+use Rattle.geo_answers.specs.declared.status.Status.TheVariants.{TooLong}
 use Rattle.geo_cli.specs.Due.{IsDueForSearch}
 use Rattle.geo_cli.specs.Inner.Answering.{AnswersDue}
 use Rattle.geo_cli.specs.Run.{IsCutShort}

@@ -3,11 +3,12 @@ use Rattle.std.proofs.Common.{◌≡◌, ℕ, ◌<◌, ◌≤◌, ◌⊎◌, Boo
 use Rattle.std.specs.Prelude.{nat_le}
 use Rattle.std.proofs.lemmas.Bool.Decides.{nat_tests}
 use Rattle.geo_cli.specs.declared.order.Command.TheVariants.{Check, Prove, Text}
-use Rattle.geo_cli.specs.declared.status.Status.TheVariants.{Done, Syntax, TooLong}
-use Rattle.geo_cli.specs.Due.{AsksForLog, Due, IsCalledFor, IsDueFor, IsDueForLog, IsDueForText, IsReadCall, IsRejectionDue}
-use Rattle.geo_cli.specs.Due.{accepted_text, refusal_line, syntax_line, too_long_line}
+use Rattle.geo_answers.specs.declared.status.Status.TheVariants.{Done, Syntax, TooLong}
+use Rattle.geo_answers.specs.Due.{Due, accepted_text}
+use Rattle.geo_answers.specs.Status.{ending_status, refusal_status, verdict_status}
+use Rattle.geo_cli.specs.Due.{AsksForLog, IsCalledFor, IsDueFor, IsDueForLog, IsDueForText, IsReadCall, IsRejectionDue}
+use Rattle.geo_cli.specs.Due.{refusal_line, syntax_line, too_long_line}
 use Rattle.geo_cli.specs.Input.{log_limit, program_limit}
-use Rattle.geo_cli.specs.Status.{ending_status, refusal_status, verdict_status}
 use Rattle.geo_cli.specs.Words.{IsCheck, IsProve, IsText}
 use Rattle.geo_conditions.specs.Lists.{condition_item}
 use Rattle.geo_conditions.proofs.Decisions.{lists_exist}

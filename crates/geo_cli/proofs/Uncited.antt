@@ -2,13 +2,14 @@
 use Rattle.std.proofs.Common.{◌≡◌, inl, inr, ℕ, ◌<◌, true, false, List, Option, sym, ◌∙◌, ap, subst, arith}
 use Rattle.geo_cli.specs.declared.order.Command.{Command}
 use Rattle.geo_cli.specs.declared.order.Command.TheVariants.{Bench, Check, Cite, Discover, Figure, Fixed, Place, Prove, Text}
-use Rattle.geo_cli.specs.declared.status.Status.{Status}
-use Rattle.geo_cli.specs.declared.status.Status.TheVariants as status
-use Rattle.geo_cli.specs.Due.{Due, IsCommandDue, IsDue, TellsUncited}
+use Rattle.geo_answers.specs.declared.status.Status.{Status}
+use Rattle.geo_answers.specs.declared.status.Status.TheVariants as status
+use Rattle.geo_answers.specs.Due.{Due}
+use Rattle.geo_answers.specs.Status.{status_number}
+use Rattle.geo_cli.specs.Due.{IsCommandDue, IsDue, TellsUncited}
 use Rattle.geo_cli.specs.Input.{IsInput, log_limit}
 use Rattle.geo_cli.specs.Orders.{IsOrder}
 use Rattle.geo_cli.specs.Run.{CitesNone, Ends, IsAnswered, IsCutShort}
-use Rattle.geo_cli.specs.Status.{status_number}
 use Rattle.geo_cli.specs.Words.{IsCite}
 use Rattle.geo_cli.proofs.Ended.{differ, values_number}
 use Rattle.geo_cli.proofs.Placed.{ending_low, fixed_low, refusal_low, search_low, verdict_low}

@@ -3,7 +3,8 @@ use Rattle.std.proofs.Common.{◌≡◌, ℕ, ◌+◌, Bool, ℤ, inl, inr, List
 use Rattle.std.specs.Prelude.{IfOk}
 use Rattle.geo_points.specs.declared.memory.NoMemory.{NoMemory}
 use Rattle.geo_cli.specs.declared.benching.Report.{Report}
-use Rattle.geo_cli.specs.Due.{Due, IsRestDue, IsValuesDue, SpellsNone, TellsAnswer, fault_due}
+use Rattle.geo_answers.specs.Due.{Due, SpellsNone}
+use Rattle.geo_cli.specs.Due.{IsRestDue, IsValuesDue, TellsAnswer, fault_due}
 use Rattle.geo_cli.specs.Inner.Telling.{due_of}
 use Rattle.geo_cli.specs.Values.{values_line}
 use Rattle.geo_conditions.specs.Truth.{ProgramValues, free_points, integers_of}

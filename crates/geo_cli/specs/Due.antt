@@ -1,19 +1,19 @@
 -- What a run is to write and to answer, and the cause of it.
-use Rattle.std.specs.Prelude.{◌≡◌, ◌≢◌, ◌⊎◌, ℕ, suc, ◌+◌, ◌-◌, ◌<◌, ◌≤◌, Bool, true, false, ℤ, List, [], ◌∷◌, ◌++◌, length}
+use Rattle.std.specs.Prelude.{◌≡◌, ◌≢◌, ◌⊎◌, ℕ, ◌+◌, ◌-◌, ◌<◌, ◌≤◌, Bool, true, false, ℤ, List, [], ◌∷◌, ◌++◌, length}
 use Rattle.std.specs.Prelude.{Option, None, Some, Result, Ok, Err, codes}
 use Rattle.std.specs.Fmt.{decimal}
 use Rattle.geo_cli.specs.declared.order.Command.{Command}
 use Rattle.geo_cli.specs.declared.order.Command.TheVariants.{Bench, Check, Cite, Discover, Figure, Fixed, Place, Prove, Text}
 use Rattle.geo_cli.specs.declared.order.Order.{Order}
-use Rattle.geo_cli.specs.declared.status.Status.{Status}
-use Rattle.geo_cli.specs.declared.status.Status.TheVariants.{Done, NotInstance, Rejected, Usage, Syntax, TooLong, Unmet}
+use Rattle.geo_answers.specs.declared.status.Status.TheVariants.{Done, NotInstance, Rejected, Usage, Syntax, TooLong, Unmet}
 use Rattle.geo_cli.specs.Input.{IsInput, IsLong, log_limit, program_limit}
 use Rattle.geo_cli.specs.Orders.{IsOrder}
-use Rattle.geo_cli.specs.Status.{ending_status, refusal_status, search_status, stop_status, verdict_status}
+use Rattle.geo_answers.specs.Due.{Due, IsAcceptedDue, IsLogDue, IsReadableDue, SpellsNone}
+use Rattle.geo_answers.specs.Status.{ending_status, refusal_status, stop_status, verdict_status}
+use Rattle.geo_cli.specs.Status.{search_status}
 use Rattle.geo_cli.specs.Values.{HasNoValuesLine, HasValuesLine, values_line}
 use Rattle.geo_cli.specs.Words.{IsCheck, IsNoCommand, IsProve, IsText}
 use Rattle.geo_base.specs.declared.texts.Text.{Text as Written}
-use Rattle.geo_conditions.specs.Lists.{AreConditionItems, ItemForm}
 use Rattle.geo_conditions.specs.Truth.{ProgramValues, free_points, integers_of}
 use Rattle.geo_discover.specs.FixedEnds.{EndsWithVerdict, StopsAtLine}
 use Rattle.geo_discover.specs.FoundTexts.{IsSearched, SearchEnd}
@@ -31,29 +31,20 @@ use Rattle.geo_logs.specs.Judging.{Refusal, number_of, rejected, stopped}
 use Rattle.geo_lowering.specs.Lowering.{IsLowered, LoweredForm}
 use Rattle.geo_lowering.specs.declared.version.Version.TheVariants.{Two}
 use Rattle.geo_logs.specs.Moves.{Stop, spent, too_large}
-use Rattle.geo_parser.specs.Refusals.{IsRefused}
 use Rattle.geo_place.specs.declared.errors.PlaceError.{PlaceError}
 use Rattle.geo_place.specs.declared.errors.PlaceError.TheVariants as placing
 use Rattle.geo_place.specs.declared.placed.Placed.{Placed}
 use Rattle.geo_place.specs.Placing.{AnswersValues, points_text, values_wanted}
 use Rattle.geo_poly.specs.declared.limits.Which.TheVariants.{Norm}
-use Rattle.geo_program.specs.CanonicalText.{canonical_text}
 use Rattle.geo_program.specs.declared.program_type.Program.{Program}
 use Rattle.geo_program.specs.Programs.{Spells, source_of}
 use Rattle.geo_program.specs.WellFormed.{Source}
 use Rattle.geo_prover.specs.Bench.{IsBench}
 use Rattle.geo_prover.specs.Proving.{IsLogOf}
-use Rattle.log_checker.specs.Accepted.{Accepts}
 use Rattle.log_checker.specs.Judged.{Refuses}
 use Rattle.proof_log.specs.declared.log.Line.{Line}
 use Rattle.proof_log.specs.declared.log.Verdict.{Verdict}
-use Rattle.proof_log.specs.Lines.{line_text, log_text, verdict_text}
-use Rattle.proof_printer.specs.Proofs.{IsReadableProof}
-
--- a text that is to be written, and the answer then
-pub record Due : Type 0 where
-  pub text : List ℕ
-  pub status : Status
+use Rattle.proof_log.specs.Lines.{line_text, verdict_text}
 
 -- LINES THAT SAY WHY THERE IS NO LOG
 
@@ -79,20 +70,6 @@ stop_due number stop = record { text = line_text (stop_line number stop) ++ 10 �
 
 -- WHAT AN INPUT CALLS FOR
 
--- the bytes spell a program: its log, with so many steps, up to its end
-pub record IsLogDue (steps : ℕ) (bytes : List ℕ) (due : Due) : Type 0 where
-  pub program : Program
-  pub spelt : Spells bytes program
-  pub lines : List Line
-  pub ending : Ending
-  pub log : IsLogOf (source_of program) steps lines ending
-  pub is : due ≡ record { text = log_text lines; status = ending_status lines ending }
-
--- the bytes spell no program, and this is their first refusal
-pub record SpellsNone (bytes : List ℕ) (fault : Fault) : Type 0 where
-  pub refused : IsRefused bytes fault
-  pub spells_none : (program : Program) → Spells bytes program → ⊥
-
 -- the bytes spell no program: the line that tells why
 pub record IsRefusalDue (bytes : List ℕ) (due : Due) : Type 0 where
   pub fault : Fault
@@ -104,26 +81,6 @@ abbrev pub IsDueFor : ℕ → List ℕ → Due → Type 0
 IsDueFor steps bytes due = IsLogDue steps bytes due ⊎ IsRefusalDue bytes due
 
 -- WHAT A LOG CALLS FOR
-
--- `condition 1 TEXT` for each of the conditions, numbered from k on
-abbrev pub conditions_text : ℕ → List ItemForm → List ℕ
-conditions_text k [] = []
-conditions_text k (item ∷ items) =
-    codes "condition " ++ decimal k ++ codes " " ++ item.text ++ 10 ∷ conditions_text (suc k) items
-
--- the program, its conditions, and the verdict
-abbrev pub accepted_text : Source → List ItemForm → Verdict → List ℕ
-accepted_text p conditions verdict =
-    canonical_text p ++ conditions_text 1 conditions ++ codes "accepted " ++ verdict_text verdict ++ 10 ∷ []
-
--- the bytes are an accepted log. Texts of conditions are the same in both versions
-pub record IsAcceptedDue (steps : ℕ) (bytes : List ℕ) (due : Due) : Type 0 where
-  pub program : Source
-  pub verdict : Verdict
-  pub accepted : Accepts bytes steps program verdict
-  pub conditions : List ItemForm
-  pub listed : AreConditionItems Two program conditions
-  pub is : due ≡ record { text = accepted_text program conditions verdict; status = verdict_status verdict }
 
 -- `rejected 25 27`
 abbrev pub rejected_line : ℕ → ℕ → List ℕ
@@ -144,12 +101,6 @@ pub record IsRejectionDue (steps : ℕ) (bytes : List ℕ) (due : Due) : Type 0 
 -- what `check` is to write of these bytes
 abbrev pub IsDueForLog : ℕ → List ℕ → Due → Type 0
 IsDueForLog steps bytes due = IsAcceptedDue steps bytes due ⊎ IsRejectionDue steps bytes due
-
--- the bytes are an accepted log: its readable proof
-pub record IsReadableDue (steps : ℕ) (bytes : List ℕ) (due : Due) : Type 0 where
-  pub text : List ℕ
-  pub readable : IsReadableProof bytes steps text
-  pub is : due ≡ record { text = text; status = Done }
 
 -- what `text` is to write of these bytes
 abbrev pub IsDueForText : ℕ → List ℕ → Due → Type 0

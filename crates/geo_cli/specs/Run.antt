@@ -3,9 +3,10 @@
 use Rattle.std.specs.Prelude.{◌≡◌, ◌⊎◌, ℕ, Bool, true, false, List, [], ◌∷◌, length, take, Option}
 use Rattle.std.specs.List.{AllByRecursion}
 use Rattle.geo_base.specs.Devices.{Grows, HasRisen}
-use Rattle.geo_cli.specs.declared.status.Status.{Status}
-use Rattle.geo_cli.specs.declared.status.Status.TheVariants.{NoMemory, ReadFault, Spent, TooLarge, TooLong, WriteFault}
-use Rattle.geo_cli.specs.Due.{Due, IsDue, bench_text, cited_line, fixed_line}
+use Rattle.geo_answers.specs.declared.status.Status.{Status}
+use Rattle.geo_answers.specs.declared.status.Status.TheVariants.{NoMemory, ReadFault, Spent, TooLarge, TooLong, WriteFault}
+use Rattle.geo_answers.specs.Due.{Due}
+use Rattle.geo_cli.specs.Due.{IsDue, bench_text, cited_line, fixed_line}
 use Rattle.geo_cli.specs.Input.{IsInput, IsLong, log_limit, program_limit}
 use Rattle.geo_cli.specs.Status.{search_status}
 use Rattle.geo_cli.specs.Values.{HasValuesLine}

@@ -1,15 +1,12 @@
 //! The texts that a run writes besides logs.
-ghost use Rattle.std.specs.Prelude.{◌≡◌, ◌≢◌, ◌≤◌, ◌∷◌, ◌++◌, [], IfOk, OnOk};
-ghost use Rattle.std.specs.Fmt.{decimal};
+ghost use Rattle.std.specs.Prelude.{◌≡◌, ◌≢◌, ◌≤◌, ◌++◌, IfOk, OnOk};
 ghost use Rattle.geo_cli.specs.Due.{count_line, rejected_line, syntax_line};
 ghost use Rattle.geo_cli.specs.Run.{IsAnswered};
-ghost use Rattle.proof_log.specs.Lines.{verdict_text};
 
-use crate::status::Status;
+use geo_answers::{Status, push_numbered};
 use geo_base::{PutError, Sink, Text, push_decimal, write_all};
 use geo_lexer::Fault;
 use geo_points::NoMemory;
-use proof_log::Verdict;
 use std::alloc::Global;
 
 /// The line for words that are no command.
@@ -65,32 +62,4 @@ pub fn push_count(alloc: Global, out: &mut Vec<u8>, name: &[u8], count: u64) -> 
     push_numbered(alloc, out, b" ", count)?;
     out.push(b'\n')?;
     Ok(())
-}
-
-/// Appends the line of a verdict.
-pub fn push_verdict(alloc: Global, out: &mut Vec<u8>, verdict: Verdict) -> Result<(), NoMemory>
-    ensures { OnOk result (out.new.items ≡ out.old.items ++ verdict_text verdict ++ 10 ∷ []) }
-{
-    match verdict {
-        Verdict::Proved => out.extend_from_slice(b"proved")?,
-        Verdict::False(goal) => push_numbered(alloc, out, b"false ", goal as u64)?,
-        Verdict::Impossible(condition) => {
-            push_numbered(alloc, out, b"impossible ", condition as u64)?
-        }
-    }
-    out.push(b'\n')?;
-    Ok(())
-}
-
-/// Appends words and a number.
-pub fn push_numbered(
-    alloc: Global,
-    out: &mut Vec<u8>,
-    words: &[u8],
-    number: u64,
-) -> Result<(), NoMemory>
-    ensures { OnOk result (out.new.items ≡ out.old.items ++ words.now ++ decimal number) }
-{
-    out.extend_from_slice(words)?;
-    push_decimal(alloc, out, number as i128).map_err(|_| NoMemory)
 }

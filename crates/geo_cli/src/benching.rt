@@ -6,8 +6,8 @@ ghost use Rattle.geo_cli.specs.Inner.Telling.{TellsEnding, stop_report, summary_
 ghost use Rattle.geo_program.specs.Programs.{source_of};
 ghost use Rattle.proof_log.specs.Writable.{IsWritable};
 
-use crate::answers::{answer, push_count, push_verdict};
-use crate::status::Status;
+use crate::answers::{answer, push_count};
+use geo_answers::{Status, push_verdict};
 use geo_base::{Sink, SureSink, Text};
 use geo_lowering::lower;
 use geo_points::NoMemory;

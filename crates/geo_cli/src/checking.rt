@@ -7,11 +7,10 @@ ghost use Rattle.geo_cli.specs.Input.{Takes, log_limit};
 ghost use Rattle.geo_program.specs.Programs.{source_of};
 ghost use Rattle.log_checker.specs.Accepted.{Accepts};
 
-use crate::acceptance::accepted_text;
 use crate::answers::{TOO_LONG, answer};
 use crate::judging::judge;
 use crate::refusing::refuse;
-use crate::status::Status;
+use geo_answers::{Status, accepted_text};
 use geo_base::{ReadError, Sink, Source};
 use geo_program::Program;
 use log_checker::{Accepted, CheckError};

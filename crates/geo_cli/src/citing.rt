@@ -6,11 +6,11 @@ ghost use Rattle.geo_cli.specs.Inner.Answering.{AnswersDue, AnswersInput};
 ghost use Rattle.geo_cli.specs.Inner.Telling.{due_of};
 ghost use Rattle.geo_cli.specs.Input.{Takes, log_limit};
 
-use crate::answers::{TOO_LONG, answer, push_numbered, rejected_line};
+use crate::answers::{TOO_LONG, answer, rejected_line};
 use crate::benching::{Report, tell_stop};
 use crate::judging::LOG_LIMIT;
 use crate::placing::report_fault;
-use crate::status::Status;
+use geo_answers::{Status, push_numbered};
 use geo_base::{ReadError, Sink, Source, Text, read_all};
 use geo_library::{CiteError, cite};
 use geo_points::NoMemory;

@@ -7,7 +7,7 @@ ghost use Rattle.geo_program.specs.Programs.{Spells, program_text};
 
 use crate::answers::{TOO_LONG, answer};
 use crate::proving::{PROGRAM_LIMIT, refuse};
-use crate::status::Status;
+use geo_answers::Status;
 use geo_base::{ReadError, Sink, Source, read_all};
 use geo_discover::{DiscoverError, discover};
 use geo_parser::{ParseError, parse};

@@ -4,14 +4,14 @@ ghost use Rattle.geo_cli.specs.Due.{IsDueForFixed, TellsFixed, fixed_line};
 ghost use Rattle.geo_cli.specs.Inner.Answering.{AnswersDue, AnswersInput};
 ghost use Rattle.geo_cli.specs.Inner.Telling.{due_of};
 ghost use Rattle.geo_cli.specs.Input.{Takes, program_limit};
-ghost use Rattle.geo_cli.specs.Status.{verdict_status};
+ghost use Rattle.geo_answers.specs.Status.{verdict_status};
 ghost use Rattle.geo_program.specs.Programs.{source_of};
 
-use crate::answers::{TOO_LONG, answer, push_verdict};
+use crate::answers::{TOO_LONG, answer};
 use crate::benching::{Report, tell_stop};
 use crate::placing::report_fault;
 use crate::proving::PROGRAM_LIMIT;
-use crate::status::Status;
+use geo_answers::{Status, push_verdict};
 use geo_base::{ReadError, Sink, Source, Text, read_all};
 use geo_discover::{FixedError, fixed};
 use geo_parser::{ParseError, parse};

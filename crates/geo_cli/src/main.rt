@@ -6,13 +6,12 @@
 #![tactic(auto)]
 
 use crate::run::run;
-use crate::status::Status;
+use geo_answers::Status;
 use geo_base::{ReaderSource, WriterSink};
 use std::env;
 use std::io::ErrorKind;
 use std::process::ExitCode;
 
-mod acceptance;
 mod answers;
 mod benching;
 mod checking;
@@ -27,7 +26,6 @@ mod printing;
 mod proving;
 mod refusing;
 mod run;
-mod status;
 #[cfg(test)]
 mod tests;
 mod values;

@@ -10,11 +10,11 @@ ghost use Rattle.geo_cli.specs.Input.{Takes, program_limit};
 ghost use Rattle.geo_cli.specs.Values.{values_line};
 ghost use Rattle.geo_place.specs.Placing.{IsDrawable};
 
-use crate::answers::{TOO_LONG, answer, push_numbered, syntax_line};
+use crate::answers::{TOO_LONG, answer, syntax_line};
 use crate::benching::Report;
 use crate::proving::PROGRAM_LIMIT;
-use crate::status::Status;
 use crate::values::split_values;
+use geo_answers::{Status, push_numbered};
 use geo_base::{ReadError, Sink, Source, Text, read_all};
 use geo_figure::{DrawError, draw};
 use geo_lexer::Fault;

@@ -7,7 +7,7 @@ ghost use Rattle.geo_cli.specs.Input.{Takes, log_limit};
 use crate::answers::{TOO_LONG, answer};
 use crate::judging::LOG_LIMIT;
 use crate::refusing::refuse;
-use crate::status::Status;
+use geo_answers::Status;
 use geo_base::{ReadError, Sink, Source, read_all};
 use proof_printer::text;
 use std::alloc::Global;

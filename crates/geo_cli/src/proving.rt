@@ -1,12 +1,13 @@
 //! The command `prove`: a program is read, and its log written.
 ghost use Rattle.std.specs.Prelude.{◌≡◌, ◌≢◌, ◌≤◌, ℕ, List, length};
-ghost use Rattle.geo_cli.specs.Due.{IsDueFor, IsRefusalDue, SpellsNone};
+ghost use Rattle.geo_answers.specs.Due.{SpellsNone};
+ghost use Rattle.geo_cli.specs.Due.{IsDueFor, IsRefusalDue};
 ghost use Rattle.geo_cli.specs.Inner.Answering.{AnswersBytes, AnswersDue, AnswersInput};
 ghost use Rattle.geo_cli.specs.Input.{Takes, program_limit};
 ghost use Rattle.geo_program.specs.Programs.{Spells};
 
 use crate::answers::{TOO_LONG, answer, syntax_line};
-use crate::status::Status;
+use geo_answers::Status;
 use geo_base::{ReadError, Sink, Source, read_all};
 use geo_lexer::Fault;
 use geo_parser::{ParseError, parse};

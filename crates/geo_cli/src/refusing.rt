@@ -6,7 +6,7 @@ ghost use Rattle.log_checker.specs.Checked.{TellsStop};
 ghost use Rattle.log_checker.specs.Judged.{Refuses};
 
 use crate::answers::{answer, rejected_line};
-use crate::status::Status;
+use geo_answers::Status;
 use geo_base::{Sink, Text};
 use geo_points::NoMemory;
 use log_checker::CheckError;

@@ -1,7 +1,9 @@
 //! A run of the program, over any source and sink.
 ghost use Rattle.std.specs.Prelude.{◌≡◌, ◌≢◌, ◌≤◌, ◌⊎◌, ℕ};
 ghost use Rattle.geo_base.specs.Devices.{Grows, HasRisen};
-ghost use Rattle.geo_cli.specs.Due.{AsksForLog, Due, IsCalledFor};
+ghost use Rattle.geo_answers.specs.Due.{Due};
+ghost use Rattle.geo_answers.specs.Status.{verdict_status};
+ghost use Rattle.geo_cli.specs.Due.{AsksForLog, IsCalledFor};
 ghost use Rattle.geo_cli.specs.Inner.Answering.{AnswersCommand, HasNumber};
 ghost use Rattle.geo_cli.specs.Enough.{AsksForFirstForm, IsDecisive};
 ghost use Rattle.geo_cli.specs.Input.{Takes, limit_of};
@@ -11,7 +13,6 @@ ghost use Rattle.geo_cli.specs.declared.order.Order.{Order};
 ghost use Rattle.geo_cli.specs.Run.{CitesNone, DoneTells, Ends, IsUnfinished, PlacesNone};
 ghost use Rattle.geo_cli.specs.Run.{SearchesInPart};
 ghost use Rattle.geo_cli.specs.Run.{VerdictAccepted, VerdictTells};
-ghost use Rattle.geo_cli.specs.Status.{verdict_status};
 ghost use Rattle.geo_cli.specs.Words.{IsDiscover, ReadsNothing, bytes_of_words};
 ghost use Rattle.proof_log.specs.declared.log.Verdict.{Verdict};
 
@@ -25,7 +26,7 @@ use crate::order::{Command, Order, order_of};
 use crate::placing::run_place;
 use crate::printing::run_text;
 use crate::proving::run_prove;
-use crate::status::Status;
+use geo_answers::Status;
 use geo_base::{Sink, Source};
 use std::alloc::Global;
 

@@ -1,6 +1,6 @@
 //! Runs over sources and sinks in memory.
 use crate::run::run;
-use crate::status::Status;
+use geo_answers::Status;
 use geo_base::{MemSink, MemSource};
 use geo_poly::Which;
 use std::process::Abort;

@@ -3,9 +3,10 @@ use Rattle.std.specs.Prelude.{◌≡◌, ◌⊎◌, ◌≤◌, ℕ, List, Option
 use Rattle.geo_base.specs.Devices.{HasRisen}
 use Rattle.geo_cli.specs.declared.order.Command.{Command}
 use Rattle.geo_cli.specs.declared.order.Command.TheVariants.{Bench}
-use Rattle.geo_cli.specs.declared.status.Status.{Status}
-use Rattle.geo_cli.specs.declared.status.Status.TheVariants.{ReadFault}
-use Rattle.geo_cli.specs.Due.{Due, IsCommandDue, IsDueFor, IsDueForLog, IsDueForText, IsReadDue, IsRejectionDue}
+use Rattle.geo_answers.specs.declared.status.Status.{Status}
+use Rattle.geo_answers.specs.declared.status.Status.TheVariants.{ReadFault}
+use Rattle.geo_answers.specs.Due.{Due}
+use Rattle.geo_cli.specs.Due.{IsCommandDue, IsDueFor, IsDueForLog, IsDueForText, IsReadDue, IsRejectionDue}
 use Rattle.geo_cli.specs.Run.{IsAnswered, RunsOut}
 
 -- something that is due was answered, or memory ran out before

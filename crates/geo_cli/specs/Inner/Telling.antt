@@ -1,9 +1,10 @@
 -- How the log of a generated program is told.
 use Rattle.std.specs.Prelude.{◌≡◌, ℕ, List, [], ◌∷◌, ◌++◌, codes}
 use Rattle.geo_cli.specs.declared.benching.Report.{Report}
-use Rattle.geo_cli.specs.declared.status.Status.{Status}
-use Rattle.geo_cli.specs.Due.{Due, count_line, ending_text}
-use Rattle.geo_cli.specs.Status.{ending_status, verdict_status}
+use Rattle.geo_answers.specs.declared.status.Status.{Status}
+use Rattle.geo_answers.specs.Due.{Due}
+use Rattle.geo_answers.specs.Status.{ending_status, verdict_status}
+use Rattle.geo_cli.specs.Due.{count_line, ending_text}
 use Rattle.geo_logs.specs.Ends.{Ending}
 use Rattle.geo_program.specs.WellFormed.{Source}
 use Rattle.geo_prover.specs.declared.summary.Summary.{Summary}

@@ -4,7 +4,7 @@ use super::{
     expect_rows,
 };
 use crate::run::run;
-use crate::status::Status;
+use geo_answers::Status;
 use geo_base::{MemSink, MemSource};
 use geo_poly::Which;
 use std::process::Abort;

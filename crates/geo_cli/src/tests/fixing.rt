@@ -1,6 +1,6 @@
 //! Runs of `fixed`. The texts are those of a plain reference.
 use super::{CROSSING, FREE_POINTS, MIDPOINT, QUOTIENTS, Row, TOO_LARGE, expect_row, expect_rows};
-use crate::status::Status;
+use geo_answers::Status;
 use geo_poly::Which;
 use std::test::Fail;
 

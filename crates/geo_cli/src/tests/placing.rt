@@ -1,7 +1,7 @@
 //! Runs of `place` and `figure`. The texts are those of the specification's rows, and of a plain
 //! reference.
 use super::{Row, expect_rows};
-use crate::status::Status;
+use geo_answers::Status;
 use geo_poly::Which;
 use std::test::Fail;
 

@@ -1,7 +1,7 @@
 //! Readable proofs, and what the numbers of generated programs give.
 use super::{FREE_POINTS_LOG, MIDPOINT_LOG, Row, expect_rows};
 use crate::run::run;
-use crate::status::Status;
+use geo_answers::Status;
 use geo_base::{MemSink, MemSource};
 use std::test::Fail;
 

@@ -1,7 +1,7 @@
 use Rattle.std.proofs.Common.{rules, subst}
-use Rattle.geo_c.specs.Inner.Acceptance.{IsAcceptedText}
+use Rattle.geo_answers.specs.Due.{IsAcceptedText}
 use Rattle.geo_program.specs.Programs.{source_of}
-use Rattle.geo_c.proofs.Listed.{acceptance_told}
+use Rattle.geo_c.proofs.Accepted.{acceptance_told}
 use Rattle.geo_c.proofs.checking.accept.Goals as goal
 
 pub returns-in-Ok : goal.returns-in-Ok

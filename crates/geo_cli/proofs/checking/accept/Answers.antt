@@ -1,5 +1,5 @@
 use Rattle.std.proofs.Common.{rules, subst}
-use Rattle.geo_cli.specs.Inner.Judgements.{IsAcceptedText}
+use Rattle.geo_answers.specs.Due.{IsAcceptedText}
 use Rattle.geo_program.specs.Programs.{source_of}
 use Rattle.geo_cli.proofs.Reported.{acceptance_told}
 use Rattle.geo_cli.proofs.checking.accept.Goals as goal

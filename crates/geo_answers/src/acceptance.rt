@@ -1,11 +1,11 @@
 //! The text that tells an accepted log: its program, its conditions, and its verdict.
-ghost use Rattle.std.specs.Prelude.{◌≡◌, ◌∷◌, ◌++◌, [], IfOk, OnOk};
-ghost use Rattle.std.specs.Fmt.{decimal};
-ghost use Rattle.geo_c.specs.Inner.Acceptance.{IsAcceptedText, condition_line, condition_lines};
+ghost use Rattle.std.specs.Prelude.{◌≡◌, ◌++◌, IfOk, OnOk};
+ghost use Rattle.geo_answers.specs.Due.{IsAcceptedText};
+ghost use Rattle.geo_answers.specs.Inner.{condition_line, condition_lines};
 ghost use Rattle.geo_program.specs.Programs.{source_of};
-ghost use Rattle.proof_log.specs.Lines.{verdict_text};
 
-use geo_base::{Text, push_decimal};
+use crate::verdicts::{push_numbered, push_verdict};
+use geo_base::Text;
 use geo_conditions::Item;
 use geo_lowering::Version;
 use geo_points::NoMemory;
@@ -51,32 +51,4 @@ fn push_condition(
     out.extend_from_slice(text)?;
     out.push(b'\n')?;
     Ok(())
-}
-
-/// Appends the words of a verdict, and a line feed.
-fn push_verdict(alloc: Global, out: &mut Vec<u8>, verdict: Verdict) -> Result<(), NoMemory>
-    ensures { OnOk result (out.new.items ≡ out.old.items ++ verdict_text verdict ++ 10 ∷ []) }
-{
-    match verdict {
-        Verdict::Proved => out.extend_from_slice(b"proved")?,
-        Verdict::False(goal) => push_numbered(alloc, out, b"false ", goal as u64)?,
-        Verdict::Impossible(condition) => {
-            push_numbered(alloc, out, b"impossible ", condition as u64)?
-        }
-    }
-    out.push(b'\n')?;
-    Ok(())
-}
-
-/// Appends words and a number.
-fn push_numbered(
-    alloc: Global,
-    out: &mut Vec<u8>,
-    words: &[u8],
-    number: u64,
-) -> Result<(), NoMemory>
-    ensures { OnOk result (out.new.items ≡ out.old.items ++ words.now ++ decimal number) }
-{
-    out.extend_from_slice(words)?;
-    push_decimal(alloc, out, number as i128).map_err(|_| NoMemory)
 }

@@ -1,20 +1,16 @@
 -- The text of an accepted log.
-use Rattle.std.proofs.Common.{◌≡◌, ℕ, suc, ◌+◌, ◌<◌, ◌≤◌, inl, inr, List, [], ◌∷◌, ◌++◌, length, get_or, drop, map, codes, sym, ap, refl, ◌∙◌, append_assoc, append-nil, arith}
+use Rattle.std.proofs.Common.{◌≡◌, ℕ, suc, ◌+◌, ◌<◌, ◌≤◌, List, [], ◌∷◌, ◌++◌, length, get_or, drop, map, codes, sym, ap, refl, ◌∙◌}
+use Rattle.std.proofs.Common.{append_assoc, append-nil, arith}
 use Rattle.std.proofs.lemmas.List.{drop_all, drop_more}
 use Rattle.std.specs.Fmt.{decimal}
-use Rattle.geo_c.specs.Answers.{Answers, TellsDue}
-use Rattle.geo_c.specs.declared.answers.Answer.{Answer}
-use Rattle.geo_c.specs.declared.status.Status.{Status}
-use Rattle.geo_c.specs.Due.{IsCheckDue, conditions_text}
-use Rattle.geo_c.specs.Inner.Acceptance.{IsAcceptedText, condition_line, condition_lines}
-use Rattle.geo_c.specs.Status.{verdict_status}
-use Rattle.geo_lowering.specs.declared.version.Version.TheVariants.{Two}
+use Rattle.geo_answers.specs.Due.{IsAcceptedText, conditions_text}
+use Rattle.geo_answers.specs.Inner.{condition_line, condition_lines}
 use Rattle.geo_conditions.specs.declared.items.Item.{Item}
 use Rattle.geo_conditions.specs.Lists.{AreConditionItems, item_form}
+use Rattle.geo_lowering.specs.declared.version.Version.TheVariants.{Two}
 use Rattle.geo_program.specs.CanonicalText.{canonical_text}
 use Rattle.geo_program.specs.WellFormed.{Source}
 use Rattle.geo_terms.specs.Stores.{Store}
-use Rattle.log_checker.specs.Accepted.{Accepts}
 use Rattle.proof_log.specs.declared.log.Verdict.{Verdict}
 use Rattle.proof_log.specs.Lines.{verdict_text}
 
@@ -51,25 +47,3 @@ pub lines_all : (items : List Item) (i : ℕ) (out whole : List ℕ) → length 
 lines_all items i out whole done is =
     let none : condition_lines (suc i) (drop i items) ≡ [] = ap (condition_lines (suc i)) (drop_all i items done) in
     sym (append-nil out) ∙ ap (λ (t : List ℕ). out ++ t) (sym none) ∙ is
-
-module _ (bytes : List ℕ) (steps : ℕ) (before after : List ℕ) (answer : Answer) (number : ℕ) where
-  -- an accepted log was told
-  pub acceptance_told : (p : Source) (verdict : Verdict) (text : List ℕ) (status : Status) → length bytes ≤ 67108864 → Accepts bytes steps p verdict → IsAcceptedText p verdict text
-      → status ≡ verdict_status verdict → TellsDue (record { text = text; status = status }) before after answer number
-      → Answers (IsCheckDue bytes steps) before after answer number
-  acceptance_told p verdict text status short accepted told same answered =
-      inl (
-        record { text = text; status = status },
-        inr (
-          short,
-          inl (record {
-            program = p;
-            verdict = verdict;
-            accepted = accepted;
-            conditions = told.conditions;
-            listed = told.listed;
-            is = λ i. record { text = told.is i; status = same i };
-          }),
-        ),
-        answered,
-      )

@@ -1,13 +1,14 @@
-//! How a run ended.
+//! How a call ended.
 ghost use Rattle.std.specs.Prelude.{◌≡◌};
-ghost use Rattle.geo_cli.specs.Inner.Judgements.{error_status};
-ghost use Rattle.geo_cli.specs.Status.{status_number, verdict_status};
+ghost use Rattle.geo_answers.specs.Status.{error_status, limit_number, status_at, status_number};
+ghost use Rattle.geo_answers.specs.Status.{status_reason, verdict_status};
 
+use geo_lexer::Fault;
 use geo_poly::Which;
 use log_checker::CheckError;
 use proof_log::Verdict;
 
-/// How a run ended.
+/// How a run of the program ended, or a call of the library, which has not all of these ends.
 #[derive(Clone, Copy, Debug, PartialEq, Eq)]
 pub enum Status {
     /// The statement is true.
@@ -64,7 +65,7 @@ pub enum Status {
 }
 
 impl Status {
-    /// The number that the process ends with.
+    /// The number that the process ends with, and that a call answers.
     pub fn number(&self) -> u8
         ensures { result ≡ status_number self.now }
     {
@@ -87,7 +88,43 @@ impl Status {
         }
     }
 
-    /// The answer that tells a verdict.
+    /// Where: the number of a goal, a condition or a line, or the place of a token; 0 where there is
+    /// none of them.
+    pub fn at(&self) -> u64
+        ensures { result ≡ status_at self.now }
+    {
+        match self {
+            Status::False(number) | Status::Impossible(number) | Status::Unmet(number) => {
+                *number as u64
+            }
+            Status::Syntax { place, .. } => *place,
+            Status::TooLarge { line, .. }
+            | Status::Spent { line }
+            | Status::Rejected { line, .. }
+            | Status::NotInstance { line } => *line,
+            Status::Proved
+            | Status::Usage
+            | Status::ReadFault
+            | Status::WriteFault
+            | Status::NoMemory
+            | Status::TooLong
+            | Status::Done => 0,
+        }
+    }
+
+    /// Why: the number of a refusal, of a limit or of a reason; 0 where there is none of them.
+    pub fn reason(&self) -> u64
+        ensures { result ≡ status_reason self.now }
+    {
+        match self {
+            Status::Syntax { refusal, .. } => *refusal as u64,
+            Status::TooLarge { which, .. } => limit_number(*which),
+            Status::Rejected { reason, .. } => *reason as u64,
+            _ => 0,
+        }
+    }
+
+    /// The status that tells a verdict.
     pub fn of_verdict(verdict: Verdict) -> Status
         ensures { result ≡ verdict_status verdict }
     {
@@ -98,7 +135,17 @@ impl Status {
         }
     }
 
-    /// The answer that tells why a log is refused.
+    /// The status that tells why a text spells no program.
+    pub fn of_fault(fault: Fault) -> Status
+        ensures { result ≡ Status.Syntax fault.refusal fault.place }
+    {
+        Status::Syntax {
+            refusal: fault.refusal,
+            place: fault.place,
+        }
+    }
+
+    /// The status that tells why a log is refused.
     pub fn of_error(error: CheckError) -> Status
         ensures { result ≡ error_status error }
     {
@@ -108,5 +155,15 @@ impl Status {
             CheckError::Spent { line } => Status::Spent { line },
             CheckError::NoMemory => Status::NoMemory,
         }
+    }
+}
+
+/// The number of a limit.
+fn limit_number(which: Which) -> u64
+    ensures { result ≡ limit_number which }
+{
+    match which {
+        Which::Norm => 1,
+        Which::Degree => 2,
     }
 }

@@ -1,6 +1,6 @@
 use Rattle.std.proofs.Common.{◌≡◌, suc, ◌++◌, drop}
-use Rattle.geo_c.specs.Inner.Acceptance.{condition_lines}
-use Rattle.geo_c.proofs.acceptance.push_conditions.Given as goal
+use Rattle.geo_answers.specs.Inner.{condition_lines}
+use Rattle.geo_answers.proofs.acceptance.push_conditions.Given as goal
 
 -- what is written, and then the lines of the conditions that are left
 abbrev pub invariant-loop-i : goal.invariant-loop-i
