@@ -11,7 +11,7 @@ use Rattle.geo_poly.specs.declared.limits.Which.{Which}
 use Rattle.geo_program.specs.declared.program_type.Program.{Program}
 use Rattle.geo_program.specs.Programs.{Spells, source_of}
 use Rattle.geo_prover.specs.declared.summary.Summary.{Summary}
-use Rattle.geo_prover.specs.Proving.{Concludes, StopsAt, WritesLog}
+use Rattle.geo_prover.specs.Proving.{Concludes, WritesToStop, WritesLog}
 use Rattle.proof_log.specs.Lines.{log_text}
 
 -- an empty sink that has grown by a text holds that text
@@ -37,7 +37,7 @@ module _ (p : Program) (steps : ℕ) (old new : List ℕ) (none : old ≡ []) (b
       }
 
   -- the log up to a line that is too large
-  pub too_large_line : (line : ℕ) (which : Which) → StopsAt (source_of p) steps (Some old) (Some new) (too_large which) line
+  pub too_large_line : (line : ℕ) (which : Which) → WritesToStop (source_of p) steps (Some old) (Some new) (too_large which) line
       → IsLogDue steps bytes (record { text = new; status = TooLarge line which })
   too_large_line line which h =
       let w = h.whole in
@@ -53,7 +53,7 @@ module _ (p : Program) (steps : ℕ) (old new : List ℕ) (none : old ≡ []) (b
       }
 
   -- the log up to a line that is not paid
-  pub spent_line : (line : ℕ) → StopsAt (source_of p) steps (Some old) (Some new) spent line
+  pub spent_line : (line : ℕ) → WritesToStop (source_of p) steps (Some old) (Some new) spent line
       → IsLogDue steps bytes (record { text = new; status = Spent line })
   spent_line line h =
       let w = h.whole in

@@ -18,7 +18,7 @@ use Rattle.geo_poly.specs.declared.limits.Which.{Which}
 use Rattle.geo_program.specs.declared.program_type.Program.{Program}
 use Rattle.geo_program.specs.Programs.{Spells, source_of}
 use Rattle.geo_prover.specs.declared.summary.Summary.{Summary}
-use Rattle.geo_prover.specs.Proving.{Concludes, StopsAt, WritesLog, WritesPart}
+use Rattle.geo_prover.specs.Proving.{Concludes, WritesToStop, WritesLog, WritesPart}
 use Rattle.proof_log.specs.Lines.{log_text}
 
 module _ (p : Program) (steps : ℕ) (bytes : List ℕ) (spelt : Spells bytes p) (f f' : ℕ) (held held' : Option (List ℕ)) where
@@ -33,7 +33,7 @@ module _ (p : Program) (steps : ℕ) (bytes : List ℕ) (spelt : Spells bytes p)
       )
 
   -- the log up to a line that is too large
-  pub too_large_line : (line : ℕ) (which : Which) → StopsAt (source_of p) steps held held' (too_large which) line
+  pub too_large_line : (line : ℕ) (which : Which) → WritesToStop (source_of p) steps held held' (too_large which) line
       → AnswersBytes steps bytes f f' held held' (TooLarge line which)
   too_large_line line which h =
       let w = h.whole in
@@ -44,7 +44,7 @@ module _ (p : Program) (steps : ℕ) (bytes : List ℕ) (spelt : Spells bytes p)
       )
 
   -- the log up to a line that is not paid
-  pub spent_line : (line : ℕ) → StopsAt (source_of p) steps held held' spent line → AnswersBytes steps bytes f f' held held' (Spent line)
+  pub spent_line : (line : ℕ) → WritesToStop (source_of p) steps held held' spent line → AnswersBytes steps bytes f f' held held' (Spent line)
   spent_line line h =
       let w = h.whole in
       inl (

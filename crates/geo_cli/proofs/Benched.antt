@@ -15,7 +15,7 @@ use Rattle.geo_program.specs.Programs.{source_of}
 use Rattle.geo_program.specs.WellFormed.{Source}
 use Rattle.geo_prover.specs.Bench.{IsBench}
 use Rattle.geo_prover.specs.declared.summary.Summary.{Summary}
-use Rattle.geo_prover.specs.Proving.{Concludes, StopsAt, WritesLog}
+use Rattle.geo_prover.specs.Proving.{Concludes, WritesToStop, WritesLog}
 use Rattle.proof_log.specs.Lines.{line_text, verdict_text}
 
 module _ (p : Source) (steps : ℕ) (held held' : Option (List ℕ)) where
@@ -33,7 +33,7 @@ module _ (p : Source) (steps : ℕ) (held held' : Option (List ℕ)) where
       }
 
   -- a log that ends by a stop
-  pub stop_told : (stop : Stop) (line : ℕ) → StopsAt p steps held held' stop line
+  pub stop_told : (stop : Stop) (line : ℕ) → WritesToStop p steps held held' stop line
       → TellsEnding p steps (stop_report (stop_line line stop) (stop_status line stop))
   stop_told stop line h = record {
     lines = h.whole.lines;

@@ -29,7 +29,7 @@ use Rattle.geo_cli.specs.Words.{IsBenchOf, IsCheck, IsDiscover, IsFixed, IsNoCom
 use Rattle.geo_cli.proofs.OneDue.{GivesOne, called_is_due}
 use Rattle.geo_discover.specs.FixedEnds.{EndsWithVerdict}
 use Rattle.geo_discover.specs.FoundTexts.{FirstIsAccepted, IsSearched, SearchEnd, cut, found, impossible, open_by}
-use Rattle.geo_discover.specs.TextLines.{text_of_lines}
+use Rattle.log_checker.specs.Checkers.{with_feeds}
 use Rattle.geo_discover.proofs.Deciding.{fixed_verdicts_decide}
 use Rattle.geo_discover.proofs.NoPlacement.{impossible_lines, impossible_searches_tell, open_ends}
 use Rattle.geo_library.specs.declared.errors.CiteError.{CiteError}
@@ -251,13 +251,13 @@ module _ (words : List (List ℕ)) (left left' held held' : Option (List ℕ)) (
       p : Source
       p = source_of h.program
 
-      finds : (k : ℕ) → IsSearched p steps h.lines (impossible k) → Grows held (text_of_lines h.lines) held' → Impossible k ≡ verdict
+      finds : (k : ℕ) → IsSearched p steps h.lines (impossible k) → Grows held (with_feeds h.lines) held' → Impossible k ≡ verdict
           → FindsImpossibleByLog words left left' held held' verdict
       finds k searched grown same =
           let tells = impossible_searches_tell p steps k h.lines h.spelt.well_formed (few_steps words Discover steps command) searched in
           let lines = impossible_lines p steps k h.lines searched in
-          let one : Grows held (text_of_lines (verdict_text (Impossible k) ∷ [])) held' =
-          subst (λ (ls : List (List ℕ)). Grows held (text_of_lines ls) held') lines grown in
+          let one : Grows held (with_feeds (verdict_text (Impossible k) ∷ [])) held' =
+          subst (λ (ls : List (List ℕ)). Grows held (with_feeds ls) held') lines grown in
           record {
             finds = record {
               steps = steps;
@@ -268,7 +268,7 @@ module _ (words : List (List ℕ)) (left left' held held' : Option (List ℕ)) (
               spelt = h.spelt;
               number = k;
               is = sym same;
-              written = subst (λ (v : Verdict). Grows held (text_of_lines (verdict_text v ∷ [])) held') same one;
+              written = subst (λ (v : Verdict). Grows held (with_feeds (verdict_text v ∷ [])) held') same one;
               none = tells.1;
             };
             first = subst (FirstIsAccepted p steps) same tells.0;
@@ -280,7 +280,7 @@ module _ (words : List (List ℕ)) (left left' held held' : Option (List ℕ)) (
       ended n (ends_by stop) P never is = no_stop verdict n stop P is
       ended n too_long P never is = no_verdict verdict status.TooLong P is (omega arith)
 
-      by : (end : SearchEnd) → IsSearched p steps h.lines end → Grows held (text_of_lines h.lines) held'
+      by : (end : SearchEnd) → IsSearched p steps h.lines end → Grows held (with_feeds h.lines) held'
           → search_status end ≡ verdict_status verdict → FindsImpossibleByLog words left left' held held' verdict
       by (found count) searched grown is = no_verdict verdict status.Done _ is (omega arith)
       by (impossible k) searched grown is = finds k searched grown (same_verdict (Impossible k) verdict is)

@@ -7,7 +7,7 @@ use Rattle.geo_answers.specs.declared.status.Status.{Status}
 use Rattle.geo_answers.specs.Due.{Due}
 use Rattle.geo_cli.specs.Due.{IsCommandDue, IsDue, IsDueForSearch, IsReadDue}
 use Rattle.geo_cli.specs.Input.{program_limit}
-use Rattle.geo_cli.specs.Run.{Ends, IsAnswered, IsCutShort, IsUnfinished, SearchesInPart}
+use Rattle.geo_cli.specs.Run.{Ends, IsAnswered, IsCutShort, IsStopStatus, SearchesInPart}
 use Rattle.geo_cli.specs.Words.{IsDiscover}
 use Rattle.geo_cli.proofs.Ended.{few_steps}
 use Rattle.geo_cli.proofs.OneDue.{GivesOne}
@@ -15,13 +15,13 @@ use Rattle.geo_discover.proofs.PartlyTold.{searches_tell_in_part}
 use Rattle.geo_program.specs.Programs.{source_of}
 
 module _ (words : List (List ℕ)) (one : GivesOne words) (steps : ℕ) (given : IsDiscover words steps) (left left' held held' : Option (List ℕ))
-    (s : Status) (unfinished : IsUnfinished s) where
+    (s : Status) (unfinished : IsStopStatus s) where
   abbrev Told : Type 0
   Told = SearchesInPart steps left left' held held' s
 
   -- no other status tells it
-  finished : {A : Type 0} (other : Status) → s ≡ other → (IsUnfinished other → ⊥) → A
-  finished other is none = absurd (none (subst IsUnfinished is unfinished))
+  finished : {A : Type 0} (other : Status) → s ≡ other → (IsStopStatus other → ⊥) → A
+  finished other is none = absurd (none (subst IsStopStatus is unfinished))
 
   read_in_part : (due : Due) → IsReadDue program_limit (IsDueForSearch steps) left left' due → s ≡ due.status → Grows held due.text held' → Told
   read_in_part due (inl h) is written = inl (h.0, is ∙ ap (λ (d : Due). d.status) h.1)

@@ -10,7 +10,7 @@ use Rattle.geo_conditions.specs.Truth.{ProgramValues}
 use Rattle.geo_conditions.proofs.Sightings.{same_frees, same_numbers}
 use Rattle.geo_discover.proofs.FixedAlike.{fixed_ends_agree}
 use Rattle.geo_discover.proofs.OneSearch.{one_log, search_unique}
-use Rattle.geo_discover.specs.TextLines.{text_of_lines}
+use Rattle.log_checker.specs.Checkers.{with_feeds}
 use Rattle.geo_figure.specs.declared.errors.DrawError.{DrawError}
 use Rattle.geo_figure.specs.declared.errors.DrawError.TheVariants as drawing
 use Rattle.geo_figure.proofs.OneDrawing.{one_drawing}
@@ -254,7 +254,7 @@ one_search_due steps bytes due other h g =
     let q = source_of g.program in
     let same = search_unique p q steps h.lines g.lines h.end g.end h.spelt.well_formed g.spelt.well_formed
     (spells_one bytes p q h.spelt g.spelt) h.searched g.searched in
-    h.is ∙ (λ i. record { text = text_of_lines (same.0 i); status = search_status (same.1 i) }) ∙ sym g.is
+    h.is ∙ (λ i. record { text = with_feeds (same.0 i); status = search_status (same.1 i) }) ∙ sym g.is
 
 -- one thing is due at most for a program
 one_due_for_search : (steps : ℕ) (bytes : List ℕ) (due other : Due) → IsDueForSearch steps bytes due → IsDueForSearch steps bytes other

@@ -21,7 +21,7 @@ use Rattle.geo_cli.specs.Words.{IsDiscover}
 use Rattle.geo_cli.proofs.Ended.{differ, few_steps, uncited_number}
 use Rattle.geo_conditions.specs.Truth.{ProgramValues, integers_of}
 use Rattle.geo_discover.specs.FoundTexts.{IsSearched, SearchEnd, cut, found, impossible, open_by}
-use Rattle.geo_discover.specs.TextLines.{text_of_lines}
+use Rattle.log_checker.specs.Checkers.{with_feeds}
 use Rattle.geo_discover.proofs.Findings.{searches_tell}
 use Rattle.geo_figure.specs.declared.errors.DrawError.{DrawError}
 use Rattle.geo_figure.specs.declared.errors.DrawError.TheVariants as drawing
@@ -197,7 +197,7 @@ module _ (words : List (List ℕ)) (left left' held held' : Option (List ℕ)) w
   search_done steps command bytes input due h is written =
       by h.end h.searched (subst (λ (d : Due). Grows held d.text held') h.is written) (sym (ap (λ (d : Due). d.status) h.is) ∙ is)
     where
-      by : (end : SearchEnd) → IsSearched (source_of h.program) steps h.lines end → Grows held (text_of_lines h.lines) held'
+      by : (end : SearchEnd) → IsSearched (source_of h.program) steps h.lines end → Grows held (with_feeds h.lines) held'
           → search_status end ≡ status.Done → Finds words left left' held held'
       by (found count) searched grown same = record {
         steps = steps;

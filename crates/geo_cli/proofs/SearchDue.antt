@@ -7,7 +7,7 @@ use Rattle.geo_cli.specs.Inner.Answering.{AnswersDue}
 use Rattle.geo_cli.specs.Run.{IsCutShort}
 use Rattle.geo_cli.specs.Status.{search_status}
 use Rattle.geo_discover.specs.FoundTexts.{SearchEnd, WritesFound, WritesFoundPart, WritesTooLong, cut, open_by}
-use Rattle.geo_discover.specs.TextLines.{text_of_lines}
+use Rattle.log_checker.specs.Checkers.{with_feeds}
 use Rattle.geo_logs.specs.Ends.{too_long}
 use Rattle.geo_program.specs.declared.program_type.Program.{Program}
 use Rattle.geo_program.specs.Programs.{Spells, source_of}
@@ -20,7 +20,7 @@ module _ (p : Program) (steps : ℕ) (bytes : List ℕ) (spelt : Spells bytes p)
   pub searched : (s : Status) (end : SearchEnd) → s ≡ search_status end → WritesFound (source_of p) steps held held' end → Answers s
   searched s end is h =
       inl (
-        record { text = text_of_lines h.lines; status = search_status end },
+        record { text = with_feeds h.lines; status = search_status end },
         inl (record { program = p; spelt = spelt; lines = h.lines; end = end; searched = h.searched; is = refl }),
         inl (is, h.written),
       )
@@ -34,7 +34,7 @@ module _ (p : Program) (steps : ℕ) (bytes : List ℕ) (spelt : Spells bytes p)
   pub search_part : (s : Status) → IsCutShort s f f' → WritesFoundPart (source_of p) steps held held' → Answers s
   search_part s short h =
       inl (
-        record { text = text_of_lines h.lines; status = search_status h.end },
+        record { text = with_feeds h.lines; status = search_status h.end },
         inl (record { program = p; spelt = spelt; lines = h.lines; end = h.end; searched = h.searched; is = refl }),
         inr (short, (h.count, h.written)),
       )

@@ -17,7 +17,7 @@ use Rattle.geo_base.specs.declared.texts.Text.{Text as Written}
 use Rattle.geo_conditions.specs.Truth.{ProgramValues, free_points, integers_of}
 use Rattle.geo_discover.specs.FixedEnds.{EndsWithVerdict, StopsAtLine}
 use Rattle.geo_discover.specs.FoundTexts.{IsSearched, SearchEnd}
-use Rattle.geo_discover.specs.TextLines.{text_of_lines}
+use Rattle.log_checker.specs.Checkers.{with_feeds}
 use Rattle.geo_figure.specs.declared.errors.DrawError.{DrawError}
 use Rattle.geo_figure.specs.declared.errors.DrawError.TheVariants as drawing
 use Rattle.geo_figure.specs.Drawing.{IsDrawn}
@@ -228,7 +228,7 @@ pub record IsSearchDue (steps : ℕ) (bytes : List ℕ) (due : Due) : Type 0 whe
   pub lines : List (List ℕ)
   pub end : SearchEnd
   pub searched : IsSearched (source_of program) steps lines end
-  pub is : due ≡ record { text = text_of_lines lines; status = search_status end }
+  pub is : due ≡ record { text = with_feeds lines; status = search_status end }
 
 -- what `discover` is to write of these bytes
 abbrev pub IsDueForSearch : ℕ → List ℕ → Due → Type 0

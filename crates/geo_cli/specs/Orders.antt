@@ -1,6 +1,6 @@
 -- The orders that the words of the command line give.
 use Rattle.std.specs.Prelude.{◌≡◌, ℕ, ◌≤◌, List, [], ◌∷◌, ◌++◌, codes}
-use Rattle.geo_cli.specs.Numbers.{Writes}
+use Rattle.geo_cli.specs.Numbers.{WritesDecimal}
 use Rattle.geo_cli.specs.declared.order.Command.{Command}
 use Rattle.geo_cli.specs.declared.order.Command.TheVariants.{Prove, Check, Text, Place, Figure, Cite, Fixed, Discover, Bench}
 use Rattle.geo_cli.specs.declared.order.Order.{Order}
@@ -16,11 +16,11 @@ IsRow words Cite = words ≡ codes "cite" ∷ []
 IsRow words Fixed = words ≡ codes "fixed" ∷ []
 IsRow words Discover = words ≡ codes "discover" ∷ []
 IsRow words (Bench number) =
-    (text : List ℕ) × (words ≡ codes "bench" ∷ text ∷ []) × Writes text number × (1 ≤ number) × (number ≤ 60)
+    (text : List ℕ) × (words ≡ codes "bench" ∷ text ∷ []) × WritesDecimal text number × (1 ≤ number) × (number ≤ 60)
 
 -- the text writes a number of steps
 abbrev pub WritesSteps : List ℕ → ℕ → Type 0
-WritesSteps text steps = Writes text steps × (1 ≤ steps) × (steps ≤ 1000000000000)
+WritesSteps text steps = WritesDecimal text steps × (1 ≤ steps) × (steps ≤ 1000000000000)
 
 -- the words are a steps option with this number, in one word or in two; no words leave the default
 abbrev pub TellsSteps : List (List ℕ) → ℕ → Type 0

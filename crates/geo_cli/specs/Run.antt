@@ -14,7 +14,7 @@ use Rattle.geo_cli.specs.Words.{IsBenchOf, IsCheck, IsCite, IsDiscover, IsFigure
 use Rattle.geo_conditions.specs.Truth.{Holds, IsImpossible, Meets, ProgramValues, integers_of}
 use Rattle.geo_discover.specs.FixedEnds.{EndsWithVerdict}
 use Rattle.geo_discover.specs.FoundTexts.{FirstIsAccepted, IsSearched, IsTold, IsToldInPart, SearchEnd, found}
-use Rattle.geo_discover.specs.TextLines.{text_of_lines}
+use Rattle.log_checker.specs.Checkers.{with_feeds}
 use Rattle.geo_figure.specs.Drawing.{drawing}
 use Rattle.geo_library.specs.Citations.{IsCitation, Misses}
 use Rattle.geo_library.specs.Working.{no_instance}
@@ -95,7 +95,7 @@ pub record FindsImpossible (words : List (List ℕ)) (left left' held held' : Op
   pub spelt : Spells bytes program
   pub number : ℕ
   pub is : verdict ≡ Impossible number
-  pub written : Grows held (text_of_lines (verdict_text verdict ∷ [])) held'
+  pub written : Grows held (with_feeds (verdict_text verdict ∷ [])) held'
   pub none : (statement : Statement) → IsImpossible (with_statement (source_of program) statement)
 
 -- what a verdict that is answered tells, by the command
@@ -229,7 +229,7 @@ pub record Finds (words : List (List ℕ)) (left left' held held' : Option (List
   pub lines : List (List ℕ)
   pub count : ℕ
   pub searched : IsSearched (source_of program) steps lines (found count)
-  pub written : Grows held (text_of_lines lines) held'
+  pub written : Grows held (with_feeds lines) held'
   pub told : AllByRecursion (IsTold (source_of program) steps) searched.findings
 
 -- what is told where all is written: a readable proof, placed points, a drawing, a statement that is cited, or the relations of a figure
@@ -240,11 +240,11 @@ DoneTells words left left' held held' =
     ⊎ (PlacesInput true words left left' held held' ⊎ (Cites words left left' held held' ⊎ Finds words left left' held held')))
 
 -- the status tells a stop, or a text that is too long
-abbrev pub IsUnfinished : Status → Type 0
-IsUnfinished (Spent line) = Unit {0}
-IsUnfinished (TooLarge line which) = Unit {0}
-IsUnfinished TooLong = Unit {0}
-IsUnfinished _ = ⊥
+abbrev pub IsStopStatus : Status → Type 0
+IsStopStatus (Spent line) = Unit {0}
+IsStopStatus (TooLarge line which) = Unit {0}
+IsStopStatus TooLong = Unit {0}
+IsStopStatus _ = ⊥
 
 -- the source gave these bytes and no more, they spell this program, and the sink holds the text of its search besides, as far as it goes;
 -- and so is told every candidate that is not open
@@ -257,7 +257,7 @@ pub record FindsInPart (steps : ℕ) (left left' held held' : Option (List ℕ))
   pub end : SearchEnd
   pub searched : IsSearched (source_of program) steps lines end
   pub is : status ≡ search_status end
-  pub written : Grows held (text_of_lines lines) held'
+  pub written : Grows held (with_feeds lines) held'
   pub told : AllByRecursion (IsToldInPart (source_of program) steps) searched.findings
 
 -- what `discover` with so many steps tells then, unless the input is too long

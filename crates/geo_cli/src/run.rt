@@ -10,7 +10,7 @@ ghost use Rattle.geo_cli.specs.Input.{Takes, limit_of};
 ghost use Rattle.geo_cli.specs.Orders.{IsOrder};
 ghost use Rattle.geo_cli.specs.declared.order.Command.TheVariants.{Bench};
 ghost use Rattle.geo_cli.specs.declared.order.Order.{Order};
-ghost use Rattle.geo_cli.specs.Run.{CitesNone, DoneTells, Ends, IsUnfinished, PlacesNone};
+ghost use Rattle.geo_cli.specs.Run.{CitesNone, DoneTells, Ends, IsStopStatus, PlacesNone};
 ghost use Rattle.geo_cli.specs.Run.{SearchesInPart};
 ghost use Rattle.geo_cli.specs.Run.{VerdictAccepted, VerdictTells};
 ghost use Rattle.geo_cli.specs.Words.{IsDiscover, ReadsNothing, bytes_of_words};
@@ -60,7 +60,7 @@ pub fn run<S: Source, K: Sink>(
     ensures no_instance { (line : ℕ) → result ≡ Status.NotInstance line
         → CitesNone (bytes_of_words words.now.items) (S.left source.old) (S.left source.new) line }
     ensures in_part { (steps : ℕ) → IsDiscover (bytes_of_words words.now.items) steps
-        → IsUnfinished result
+        → IsStopStatus result
         → SearchesInPart steps (S.left source.old) (S.left source.new)
         (K.held sink.old) (K.held sink.new) result }
     ensures ends { Ends (bytes_of_words words.now.items) (S.left source.old) (S.left source.new)

@@ -13,7 +13,7 @@ use Rattle.geo_discover.specs.declared.errors.DiscoverError.{DiscoverError}
 use Rattle.geo_discover.specs.declared.errors.DiscoverError.TheVariants as error
 use Rattle.geo_discover.specs.declared.examining.Judgement.{Judgement}
 use Rattle.geo_discover.specs.declared.examining.Judgement.TheVariants as judged
-use Rattle.geo_discover.specs.FoundTexts.{candidate_lines, first_impossible, impossible_in, nothing, open_still, outcome_of, relation, statement_text}
+use Rattle.geo_discover.specs.FoundTexts.{candidate_lines, first_impossible, impossible_in, nothing, open_still, outcome_of, relation, candidate_text}
 use Rattle.geo_discover.specs.Inner.Puts.{BreaksOff, PutsLines}
 use Rattle.geo_discover.specs.Inner.Searching.{Adds, BreaksSearch, EndsSo, Examines, IsBroken, IsCandidate, IsJudged, IsNeverMet, Progress}
 use Rattle.geo_discover.specs.Inner.Searching.{Tells, first_of, impossible_line, lines_behind, lines_due}
@@ -24,7 +24,7 @@ use Rattle.geo_discover.proofs.SearchSteps.{first_added, first_kept, one_broken,
 module _ (p : Source) (steps : ℕ) (statement : Statement) where
   -- RELATIONS
   abbrev T : List ℕ
-  T = statement_text p statement
+  T = candidate_text p statement
 
   -- what is told of a judgement that is known
   told : (given : Judgement) (j : IsJudged p steps statement given) (known : Judgement) → given ≡ known → Tells j.finding known

@@ -21,7 +21,7 @@ use Rattle.log_checker.specs.Subjects.{source_lines}
 use Rattle.log_checker.proofs.AlikeLogs.{AlikeSubjects, begun_alike, next_line_alike, over, same_over, steps_alike, worked_alike}
 use Rattle.log_checker.proofs.AlikeSteps.{AlikeConstructions, variables_same}
 use Rattle.log_checker.proofs.OneSubject.{alike_subjects}
-use Rattle.log_maker.specs.FixedLogs.{IsFixedChain, IsFixedLog, IsFixedSample, IsStoppedAt, LeadsInFrame}
+use Rattle.log_maker.specs.FixedLogs.{IsFixedChain, IsFixedLog, IsFixedSample, IsStopInFrame, LeadsInFrame}
 use Rattle.log_maker.specs.Frames.{after_step, framed_variables, is_of_first_point}
 use Rattle.geo_discover.specs.FixedEnds.{EndsWithVerdict, StopsAtLine}
 use Rattle.geo_discover.specs.Laws.{FixedEndsAgree}
@@ -57,7 +57,7 @@ module _ (c d : Construction) (h : AlikeConstructions c d) where
   samples_alike listed left values left' a =
       record { least = subst (λ (vs : List Var). Search.IsLeastSample vs listed values) variables_alike a.least; made = a.made }
 
-  stops_alike : (place : Place) (stop : Stop) → IsStoppedAt lemma_table c place stop → IsStoppedAt lemma_table d place stop
+  stops_alike : (place : Place) (stop : Stop) → IsStopInFrame lemma_table c place stop → IsStopInFrame lemma_table d place stop
   stops_alike (before_line line) stop a = a
   stops_alike (before_start left e) stop a = a
   stops_alike (in_chain known left q) stop a = next_line_alike c d h (in_chain known left q) (stops stop) a

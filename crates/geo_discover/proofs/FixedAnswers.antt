@@ -29,7 +29,7 @@ use Rattle.geo_prover.proofs.Finishing.{about, subject_of}
 use Rattle.log_maker.specs.declared.frame.Frame.TheVariants.{Fixed}
 use Rattle.log_maker.specs.declared.size.Size.{Size}
 use Rattle.log_maker.specs.declared.size.Size.TheVariants.{Counted}
-use Rattle.log_maker.specs.FixedLogs.{IsStoppedAt}
+use Rattle.log_maker.specs.FixedLogs.{IsStopInFrame}
 use Rattle.log_maker.specs.declared.errors.ProveError.{ProveError}
 use Rattle.log_maker.specs.declared.errors.ProveError.TheVariants as error
 use Rattle.log_maker.specs.Halting.{Finishes, Halts, IsStopped}
@@ -69,7 +69,7 @@ front_count p subject is =
 
 -- PLACES
 -- a stop in the fixed frame
-stopped_at : (c : Construction) (place : Place) (stop : Stop) → IsNextIn Fixed c place (stops stop) → IsStoppedAt lemma_table c place stop
+stopped_at : (c : Construction) (place : Place) (stop : Stop) → IsNextIn Fixed c place (stops stop) → IsStopInFrame lemma_table c place stop
 stopped_at c (before_line l) stop h = h
 stopped_at c (before_start left e) stop h = h
 stopped_at c (in_chain known left q) stop h = h

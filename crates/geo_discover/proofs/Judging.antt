@@ -18,12 +18,12 @@ use Rattle.log_checker.proofs.WritableLines.{defined_logs_are_writable}
 use Rattle.log_maker.specs.declared.errors.ProveError.{ProveError}
 use Rattle.log_maker.specs.declared.errors.ProveError.TheVariants as stopped
 use Rattle.geo_prover.specs.declared.summary.Summary.{Summary}
-use Rattle.geo_prover.specs.Proving.{Concludes, IsLogOf, StopsAt, WritesLog}
+use Rattle.geo_prover.specs.Proving.{Concludes, IsLogOf, WritesToStop, WritesLog}
 use Rattle.geo_discover.specs.declared.examining.Judgement.{Judgement}
 use Rattle.geo_discover.specs.declared.examining.Judgement.TheVariants as judged
 use Rattle.geo_discover.specs.FoundTexts.{Finding, IsFinding}
 use Rattle.geo_discover.specs.Inner.Searching.{IsJudged, Tells, judgement_by}
-use Rattle.geo_discover.specs.TextLines.{text_of_lines}
+use Rattle.log_checker.specs.Checkers.{with_feeds}
 
 -- what a sink that was empty holds
 pub held_is : (log text : List ℕ) → Grows (Some []) text (Some log) → log ≡ text
@@ -54,8 +54,8 @@ module _ (p q : Source) (s : Statement) (steps : ℕ) (same : q ≡ with_stateme
 
   -- or by a stop, or its text gets too long
   pub judged_error : (e : ProveError) (h k : Option (List ℕ))
-      → ((line : ℕ) → e ≡ stopped.Spent line → StopsAt q steps h k spent line)
-      → ((line : ℕ) (which : Which) → e ≡ stopped.TooLarge line which → StopsAt q steps h k (too_large which) line)
+      → ((line : ℕ) → e ≡ stopped.Spent line → WritesToStop q steps h k spent line)
+      → ((line : ℕ) (which : Which) → e ≡ stopped.TooLarge line which → WritesToStop q steps h k (too_large which) line)
       → (e ≡ stopped.TooLong → WritesLog q steps h k too_long) → (e ≡ stopped.WriteFault → ⊥) → (e ≡ stopped.NoMemory → ⊥)
       → IsJudged p steps s (judged.Open e)
   judged_error (stopped.Spent line) h k a b d f n =
@@ -80,7 +80,7 @@ finding_lines p steps f w small is =
     (defined_logs_are_writable (with_statement p f.statement) is.subject steps f.lines f.ending w is.about small is.defined)
 
 -- a log's text is that of its lines
-pub log_lines : (lines : List Line) → log_text lines ≡ text_of_lines (map line_text lines)
+pub log_lines : (lines : List Line) → log_text lines ≡ with_feeds (map line_text lines)
 log_lines [] = refl
 log_lines (l ∷ ls) = ap (λ (text : List ℕ). (line_text l ++ 10 ∷ []) ++ text) (log_lines ls)
 

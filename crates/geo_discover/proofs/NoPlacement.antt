@@ -29,11 +29,11 @@ use Rattle.proof_log.specs.declared.log.Verdict.TheVariants.{False, Impossible, 
 use Rattle.proof_log.specs.Lines.{verdict_text}
 use Rattle.geo_prover.specs.Proving.{IsLogOf}
 use Rattle.geo_discover.specs.Candidates.{Segments, candidates, candidates_over, points_of, quadruples, segments_over, share_point, triples}
-use Rattle.geo_discover.specs.FoundTexts.{AreFindings, Finding, FirstIsAccepted, ImpossibleSearchesTell, IsSearched, Outcome, cut, end_at}
+use Rattle.geo_discover.specs.FoundTexts.{AreFindings, Finding, FirstIsAccepted, ImpossibleSearchesTell, IsSearched, CandidateOutcome, cut, open_end_at}
 use Rattle.geo_discover.specs.FoundTexts.{end_with, lines_with}
 use Rattle.geo_discover.specs.FoundTexts.{first_impossible, first_open, found, found_lines, impossible, impossible_in, nothing, open_by, open_still}
 use Rattle.geo_discover.specs.FoundTexts.{outcome_of, relation, relations, whole_end}
-use Rattle.geo_discover.specs.TextLines.{text_of_lines}
+use Rattle.log_checker.specs.Checkers.{with_feeds}
 use Rattle.geo_discover.proofs.CandidateLaws.{candidates_are_well_formed}
 
 -- A STATEMENT IN THE PLACE OF ANOTHER
@@ -137,7 +137,7 @@ not_open : (r k : ℕ) (fs : List Finding) → first_open (found r) fs ≡ impos
 not_open r k [] e = let q : found r ≡ impossible k = e in cc
 not_open r k (f ∷ fs) e = go (outcome_of f.ending) e (not_open r k fs)
   where
-    go : (o : Outcome) → end_at o f (first_open (found r) fs) ≡ impossible k → (first_open (found r) fs ≡ impossible k → ⊥) → ⊥
+    go : (o : CandidateOutcome) → open_end_at o f (first_open (found r) fs) ≡ impossible k → (first_open (found r) fs ≡ impossible k → ⊥) → ⊥
     go relation is rest = rest is
     go nothing is rest = rest is
     go open_still is rest = let q : open_by f.ending (length f.lines) ≡ impossible k = is in cc
@@ -193,9 +193,9 @@ impossible_searches_tell p steps k lines w few h =
     of_findings p steps k few (candidates p) h.findings refl (candidates_are_well_formed p w) (candidates_give_none p.nodes (points_of p)) h.found
     (says h.written)
   where
-    says : ((lines ≡ found_lines p h.findings) × (length (text_of_lines lines) ≤ 67108864) × (impossible k ≡ whole_end h.findings))
-        ⊎ ((line : List ℕ) × (more : List (List ℕ)) × (found_lines p h.findings ≡ lines ++ line ∷ more) × (length (text_of_lines lines) ≤ 67108864)
-        × (67108864 < length (text_of_lines (lines ++ line ∷ []))) × (impossible k ≡ cut))
+    says : ((lines ≡ found_lines p h.findings) × (length (with_feeds lines) ≤ 67108864) × (impossible k ≡ whole_end h.findings))
+        ⊎ ((line : List ℕ) × (more : List (List ℕ)) × (found_lines p h.findings ≡ lines ++ line ∷ more) × (length (with_feeds lines) ≤ 67108864)
+        × (67108864 < length (with_feeds (lines ++ line ∷ []))) × (impossible k ≡ cut))
         → first_impossible h.findings ≡ Some k
     says (inl all) = said_first k (first_impossible h.findings) h.findings (sym all.2)
     says (inr part) = absurd (let q : impossible k ≡ cut = part.5 in cc)
@@ -205,9 +205,9 @@ pub impossible_lines : (p : Source) (steps k : ℕ) (lines : List (List ℕ)) �
     → lines ≡ verdict_text (Impossible k) ∷ []
 impossible_lines p steps k lines h = is h.written
   where
-    is : ((lines ≡ found_lines p h.findings) × (length (text_of_lines lines) ≤ 67108864) × (impossible k ≡ whole_end h.findings))
-        ⊎ ((line : List ℕ) × (more : List (List ℕ)) × (found_lines p h.findings ≡ lines ++ line ∷ more) × (length (text_of_lines lines) ≤ 67108864)
-        × (67108864 < length (text_of_lines (lines ++ line ∷ []))) × (impossible k ≡ cut))
+    is : ((lines ≡ found_lines p h.findings) × (length (with_feeds lines) ≤ 67108864) × (impossible k ≡ whole_end h.findings))
+        ⊎ ((line : List ℕ) × (more : List (List ℕ)) × (found_lines p h.findings ≡ lines ++ line ∷ more) × (length (with_feeds lines) ≤ 67108864)
+        × (67108864 < length (with_feeds (lines ++ line ∷ []))) × (impossible k ≡ cut))
         → lines ≡ verdict_text (Impossible k) ∷ []
     is (inl all) =
         all.0 ∙ ap (λ (o : Option ℕ). lines_with o p h.findings) (said_first k (first_impossible h.findings) h.findings (sym all.2))
@@ -219,7 +219,7 @@ open_there : (r n : ℕ) (ending : Ending) (fs : List Finding) → first_open (f
 open_there r n ending [] e = absurd (let q : found r ≡ open_by ending n = e in cc)
 open_there r n ending (f ∷ fs) e = go (outcome_of f.ending) refl e (open_there r n ending fs)
   where
-    go : (o : Outcome) → outcome_of f.ending ≡ o → end_at o f (first_open (found r) fs) ≡ open_by ending n
+    go : (o : CandidateOutcome) → outcome_of f.ending ≡ o → open_end_at o f (first_open (found r) fs) ≡ open_by ending n
         → (first_open (found r) fs ≡ open_by ending n → outcome_of ending ≡ open_still) → outcome_of ending ≡ open_still
     go relation own is rest = rest is
     go nothing own is rest = rest is
@@ -240,9 +240,9 @@ pub open_ends : (p : Source) (steps n : ℕ) (lines : List (List ℕ)) (ending :
     → (v : Verdict) (l : ℕ) → ending ≡ ends_with v l → ⊥
 open_ends p steps n lines ending h v l e = no_verdict_open v l (ap outcome_of (sym e) ∙ is h.written)
   where
-    is : ((lines ≡ found_lines p h.findings) × (length (text_of_lines lines) ≤ 67108864) × (open_by ending n ≡ whole_end h.findings))
-        ⊎ ((line : List ℕ) × (more : List (List ℕ)) × (found_lines p h.findings ≡ lines ++ line ∷ more) × (length (text_of_lines lines) ≤ 67108864)
-        × (67108864 < length (text_of_lines (lines ++ line ∷ []))) × (open_by ending n ≡ cut))
+    is : ((lines ≡ found_lines p h.findings) × (length (with_feeds lines) ≤ 67108864) × (open_by ending n ≡ whole_end h.findings))
+        ⊎ ((line : List ℕ) × (more : List (List ℕ)) × (found_lines p h.findings ≡ lines ++ line ∷ more) × (length (with_feeds lines) ≤ 67108864)
+        × (67108864 < length (with_feeds (lines ++ line ∷ []))) × (open_by ending n ≡ cut))
         → outcome_of ending ≡ open_still
     is (inl all) = open_first n ending (first_impossible h.findings) h.findings (sym all.2)
     is (inr part) = absurd (let q : open_by ending n ≡ cut = part.5 in cc)

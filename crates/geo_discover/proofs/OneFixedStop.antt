@@ -22,7 +22,7 @@ use Rattle.geo_logs.specs.Starts.{start_charge, start_of}
 use Rattle.geo_logs.proofs.OneEnd.{made_not_stopped, one_stop}
 use Rattle.geo_logs.proofs.OneNext.{one_next, one_start_stop, start_not_stopped}
 use Rattle.geo_logs.proofs.OneStep.{no_move}
-use Rattle.log_maker.specs.FixedLogs.{IsFixedChain, IsFixedLog, IsFixedSample, IsStoppedAt, LeadsInFrame}
+use Rattle.log_maker.specs.FixedLogs.{IsFixedChain, IsFixedLog, IsFixedSample, IsStopInFrame, LeadsInFrame}
 use Rattle.log_maker.specs.Frames.{after_step, framed, framed_variables}
 use Rattle.geo_discover.proofs.OneFixedLog.{fixed_verdict_unique, not_over, one_after, one_due, one_fixed_chain}
 use Rattle.geo_discover.specs.Laws.{FixedLogIsUnique}
@@ -113,15 +113,15 @@ module _ (table : Table) (c : Construction) where
   abbrev First : Line → List Var → ℕ → Item → List Line → Type 0
   First = BeginsWithChain (IsFixedChain table c) (IsFixedSample c)
 
-  stopped_as : (place place' : Place) (s : Stop) → place ≡ place' → IsStoppedAt table c place s → IsStoppedAt table c place' s
-  stopped_as place place' s e h = subst (λ (p : Place). IsStoppedAt table c p s) e h
+  stopped_as : (place place' : Place) (s : Stop) → place ≡ place' → IsStopInFrame table c place s → IsStopInFrame table c place' s
+  stopped_as place place' s e h = subst (λ (p : Place). IsStopInFrame table c p s) e h
 
-  line_not_stopped : {A : Type 0} (place : Place) (l : Line) (s : Stop) → place ≡ before_line l → IsStoppedAt table c place s → A
+  line_not_stopped : {A : Type 0} (place : Place) (l : Line) (s : Stop) → place ≡ before_line l → IsStopInFrame table c place s → A
   line_not_stopped place l s e h = no_line l s (stopped_as place (before_line l) s e h)
 
   module _ (header : Line) (known : List Var) (left : ℕ) (e : Tree) where
-    chains_stopped : (xs ys : List Line) (place place' : Place) (s s' : Stop) → ChainBegun header known left e xs place → IsStoppedAt table c place s
-        → ChainBegun header known left e ys place' → IsStoppedAt table c place' s' → (xs ≡ ys) × (s ≡ s')
+    chains_stopped : (xs ys : List Line) (place place' : Place) (s s' : Stop) → ChainBegun header known left e xs place → IsStopInFrame table c place s
+        → ChainBegun header known left e ys place' → IsStopInFrame table c place' s' → (xs ≡ ys) × (s ≡ s')
     chains_stopped xs ys place place' s s' (inl h) a g b = line_not_stopped place header s h.1 a
     chains_stopped xs ys place place' s s' (inr h) a (inl g) b = line_not_stopped place' header s' g.1 b
     chains_stopped xs ys place place' s s' (inr (inl h)) a (inr (inl g)) b =
@@ -137,7 +137,7 @@ module _ (table : Table) (c : Construction) where
         (h.split ∙ ap (λ (zs : List ChainStep). header ∷ Start (start_of e) ∷ map line_of zs) found.0 ∙ sym g.split, found.1)
 
     chain_not_stopped : {A : Type 0} (xs : List Line) (place : Place) (s : Stop) (chain : Chain) (after : ℕ) → ChainBegun header known left e xs place
-        → IsStoppedAt table c place s → IsFixedChain table c known left e chain after → A
+        → IsStopInFrame table c place s → IsFixedChain table c known left e chain after → A
     chain_not_stopped xs place s chain after (inl h) a g = line_not_stopped place header s h.1 a
     chain_not_stopped xs place s chain after (inr (inl h)) a g =
         absurd (start_not_stopped left e s g.started (stopped_as place (before_start left e) s h.1 a))
@@ -148,7 +148,7 @@ module _ (table : Table) (c : Construction) where
   -- THE SAMPLE
   module _ (listed : List Summands) (left : ℕ) where
     abbrev SampleStopped : Stop → Type 0
-    SampleStopped s = IsStoppedAt table c (before_sample listed left) s
+    SampleStopped s = IsStopInFrame table c (before_sample listed left) s
 
     samples_stopped : (s s' : Stop) → SampleStopped s → SampleStopped s' → s ≡ s'
     samples_stopped s s' (rest, (xs, least, ended)) (rest', (ys, least', ended')) =
@@ -163,7 +163,7 @@ module _ (table : Table) (c : Construction) where
         (subst (λ (ys : List (Var × ℤ)). EndIn (error_of s) left (search_tries ys listed) rest) same ended))
 
     ends_stopped : (verdict : Verdict) (xs ys : List Line) (place place' : Place) (s s' : Stop) → EndBegun listed verdict left xs place
-        → IsStoppedAt table c place s → EndBegun listed verdict left ys place' → IsStoppedAt table c place' s' → (xs ≡ ys) × (s ≡ s')
+        → IsStopInFrame table c place s → EndBegun listed verdict left ys place' → IsStopInFrame table c place' s' → (xs ≡ ys) × (s ≡ s')
     ends_stopped verdict xs ys place place' s s' (inl h) a (inl g) b =
         let here = stopped_as place (before_sample listed left) s h.1 a in
         (h.0 ∙ sym g.0, samples_stopped s s' here (stopped_as place' (before_sample listed left) s' g.1 b))
@@ -172,7 +172,7 @@ module _ (table : Table) (c : Construction) where
         line_not_stopped place' (VerdictLine verdict) s' e b
 
     end_not_stopped : {A : Type 0} (verdict : Verdict) (xs ys : List Line) (place : Place) (s : Stop) (left' : ℕ) → EndBegun listed verdict left xs place
-        → IsStoppedAt table c place s → IsConcluded (IsFixedChain table c) (IsFixedSample c) listed left ys verdict left' → A
+        → IsStopInFrame table c place s → IsConcluded (IsFixedChain table c) (IsFixedSample c) listed left ys verdict left' → A
     end_not_stopped verdict xs ys place s left' (inl h) a g =
         sample_not_stopped g.values left' s g.chosen (stopped_as place (before_sample listed left) s h.1 a)
     end_not_stopped verdict xs ys place s left' (inr (values, after, chosen, split, e)) a g = line_not_stopped place (VerdictLine verdict) s e a
@@ -198,8 +198,8 @@ module _ (table : Table) (c : Construction) where
 
   -- GOALS
   goals_stopped : (known : List Var) (listed : List Summands) (k left : ℕ) (items : List Item) (xs ys : List Line) (place place' : Place) (s s' : Stop)
-      → GoalsBegun known listed k left items xs place → IsStoppedAt table c place s → GoalsBegun known listed k left items ys place'
-      → IsStoppedAt table c place' s' → (xs ≡ ys) × (s ≡ s')
+      → GoalsBegun known listed k left items xs place → IsStopInFrame table c place s → GoalsBegun known listed k left items ys place'
+      → IsStopInFrame table c place' s' → (xs ≡ ys) × (s ≡ s')
   goals_stopped known listed k left [] xs ys place place' s s' h a g b = ends_stopped listed left Proved xs ys place place' s s' h a g b
   goals_stopped known listed k left (item ∷ items) xs ys place place' s s' (inl h) a (inl g) b =
       chains_stopped (Goal k item.text) known left item.term xs ys place place' s s' h a g b
@@ -227,7 +227,7 @@ module _ (table : Table) (c : Construction) where
 
   goals_not_stopped : {A : Type 0} (known : List Var) (listed : List Summands) (k left : ℕ) (items : List Item) (xs ys : List Line) (place : Place)
       (s : Stop) (verdict : Verdict) (left' : ℕ)
-      → GoalsBegun known listed k left items xs place → IsStoppedAt table c place s
+      → GoalsBegun known listed k left items xs place → IsStopInFrame table c place s
       → AreGoalsWorked (IsFixedChain table c) (IsFixedSample c) known listed k left items ys verdict left' → A
   goals_not_stopped known listed k left [] xs ys place s verdict left' h a g = end_not_stopped listed left Proved xs ys place s left' h a g.1
   goals_not_stopped known listed k left (item ∷ items) xs ys place s verdict left' (inl h) a (second, g) =
@@ -252,8 +252,8 @@ module _ (table : Table) (c : Construction) where
   module _ (goals : List Item) where
     conditions_stopped : (known : List Var) (listed : List Summands) (k left : ℕ) (items : List Item) (xs ys : List Line) (place place' : Place)
         (s s' : Stop)
-        → ConditionsBegun goals known listed k left items xs place → IsStoppedAt table c place s
-        → ConditionsBegun goals known listed k left items ys place' → IsStoppedAt table c place' s' → (xs ≡ ys) × (s ≡ s')
+        → ConditionsBegun goals known listed k left items xs place → IsStopInFrame table c place s
+        → ConditionsBegun goals known listed k left items ys place' → IsStopInFrame table c place' s' → (xs ≡ ys) × (s ≡ s')
     conditions_stopped known listed k left [] xs ys place place' s s' h a g b =
         goals_stopped known listed 1 left goals xs ys place place' s s' h a g b
     conditions_stopped known listed k left (item ∷ items) xs ys place place' s s' (inl h) a (inl g) b =
@@ -277,7 +277,7 @@ module _ (table : Table) (c : Construction) where
 
     conditions_not_stopped : {A : Type 0} (known : List Var) (listed : List Summands) (k left : ℕ) (items : List Item) (xs ys : List Line) (place : Place)
         (s : Stop) (verdict : Verdict) (left' : ℕ)
-        → ConditionsBegun goals known listed k left items xs place → IsStoppedAt table c place s
+        → ConditionsBegun goals known listed k left items xs place → IsStopInFrame table c place s
         → AreConditionsWorked (IsFixedChain table c) (IsFixedSample c) goals known listed k left items ys verdict left' → A
     conditions_not_stopped known listed k left [] xs ys place s verdict left' h a g =
         goals_not_stopped known listed 1 left goals xs ys place s verdict left' h a g
@@ -303,15 +303,15 @@ module _ (table : Table) (subject : Subject) (steps : ℕ) where
   abbrev Begun : List Line → Place → Type 0
   Begun = IsBegun (LeadsInFrame table c) (IsFixedChain table c) (IsFixedSample c) subject steps
 
-  logs_stopped : (xs ys : List Line) (place place' : Place) (s s' : Stop) → Begun xs place → IsStoppedAt table c place s → Begun ys place'
-      → IsStoppedAt table c place' s' → (xs ≡ ys) × (s ≡ s')
+  logs_stopped : (xs ys : List Line) (place place' : Place) (s s' : Stop) → Begun xs place → IsStopInFrame table c place s → Begun ys place'
+      → IsStopInFrame table c place' s' → (xs ≡ ys) × (s ≡ s')
   logs_stopped xs ys place place' s s' (inl (k, line, at, split, e)) a g b = line_not_stopped table c place line s e a
   logs_stopped xs ys place place' s s' (inr h) a (inl (k, line, at, split, e)) b = line_not_stopped table c place' line s' e b
   logs_stopped xs ys place place' s s' (inr (rest, split, h)) a (inr (rest', split', g)) b =
       let found = conditions_stopped table c subject.goals [] [] 1 steps subject.conditions rest rest' place place' s s' h a g b in
       (split ∙ ap (λ (zs : List Line). first_lines subject ++ zs) found.0 ∙ sym split', found.1)
 
-  log_not_stopped : {A : Type 0} (xs ys : List Line) (place : Place) (s : Stop) (verdict : Verdict) (left : ℕ) → Begun xs place → IsStoppedAt table c place s
+  log_not_stopped : {A : Type 0} (xs ys : List Line) (place : Place) (s : Stop) (verdict : Verdict) (left : ℕ) → Begun xs place → IsStopInFrame table c place s
       → IsFixedLog table subject steps ys (ends_with verdict left) → A
   log_not_stopped xs ys place s verdict left (inl (k, line, at, split, e)) a g = line_not_stopped table c place line s e a
   log_not_stopped xs ys place s verdict left (inr (rest, split, h)) a g =

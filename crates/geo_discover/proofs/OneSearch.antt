@@ -23,9 +23,9 @@ use Rattle.proof_log.specs.declared.log.Line.{Line}
 use Rattle.geo_prover.specs.Proving.{IsLogOf}
 use Rattle.geo_discover.specs.Candidates.{candidates, candidates_over}
 use Rattle.geo_discover.specs.FoundTexts.{AreFindings, Finding, IsSearched, SearchEnd, SearchIsUnique, candidate_lines, cut, first_impossible}
-use Rattle.geo_discover.specs.FoundTexts.{found_lines, lines_with, opens, outcome_of, relations, statement_text, whole_end}
+use Rattle.geo_discover.specs.FoundTexts.{found_lines, lines_with, opens, outcome_of, relations, candidate_text, whole_end}
 use Rattle.geo_discover.specs.Inner.Searching.{counts_line, lines_of}
-use Rattle.geo_discover.specs.TextLines.{text_of_lines}
+use Rattle.log_checker.specs.Checkers.{with_feeds}
 use Rattle.geo_discover.proofs.CandidateForms.{candidates_are_relations}
 use Rattle.geo_discover.proofs.CandidateLaws.{candidates_are_well_formed}
 use Rattle.geo_discover.proofs.Putting.{text_length-append, text_one}
@@ -60,7 +60,7 @@ module _ (p q : Source) (steps : ℕ) (v : IsWellFormed p) (w : IsWellFormed q) 
   same_source : (s : Statement) → IsRelation s → SameSource (with_statement p s) (with_statement q s)
   same_source s r = record { names = same.names; commands = same.commands; statement = same_form s r }
 
-  same_text : (s : Statement) → IsRelation s → statement_text p s ≡ statement_text q s
+  same_text : (s : Statement) → IsRelation s → candidate_text p s ≡ candidate_text q s
   same_text s r = λ i. form_text (same.names i) (same_form s r i)
 
   -- a candidate with its log
@@ -108,7 +108,7 @@ module _ (p q : Source) (steps : ℕ) (v : IsWellFormed p) (w : IsWellFormed q) 
 
 -- WHERE A TEXT IS CUT
 text_more : (xs : List (List ℕ)) (a : List ℕ) (more : List (List ℕ))
-    → length (text_of_lines (xs ++ a ∷ [])) ≤ length (text_of_lines (xs ++ a ∷ more))
+    → length (with_feeds (xs ++ a ∷ [])) ≤ length (with_feeds (xs ++ a ∷ more))
 text_more xs a more =
     omega (
       arith,
@@ -119,28 +119,28 @@ text_more xs a more =
 
 -- a text that is cut goes past the limit
 cut_is_longer : (limit : ℕ) (whole xs : List (List ℕ)) (a : List ℕ) (more : List (List ℕ)) → whole ≡ xs ++ a ∷ more
-    → limit < length (text_of_lines (xs ++ a ∷ [])) → length (text_of_lines whole) ≤ limit → ⊥
+    → limit < length (with_feeds (xs ++ a ∷ [])) → length (with_feeds whole) ≤ limit → ⊥
 cut_is_longer limit whole xs a more e over fits =
-    let same : length (text_of_lines whole) ≡ length (text_of_lines (xs ++ a ∷ more)) = ap (λ ls. length (text_of_lines ls)) e in
+    let same : length (with_feeds whole) ≡ length (with_feeds (xs ++ a ∷ more)) = ap (λ ls. length (with_feeds ls)) e in
     omega (arith, same, text_more xs a more, over, fits)
 
 one_cut : (before limit : ℕ) (xs ys : List (List ℕ)) (a b : List ℕ) (more rest : List (List ℕ)) → xs ++ a ∷ more ≡ ys ++ b ∷ rest
-    → before + length (text_of_lines xs) ≤ limit → limit < before + length (text_of_lines (xs ++ a ∷ []))
-    → before + length (text_of_lines ys) ≤ limit → limit < before + length (text_of_lines (ys ++ b ∷ [])) → xs ≡ ys
+    → before + length (with_feeds xs) ≤ limit → limit < before + length (with_feeds (xs ++ a ∷ []))
+    → before + length (with_feeds ys) ≤ limit → limit < before + length (with_feeds (ys ++ b ∷ [])) → xs ≡ ys
 one_cut before limit [] [] a b more rest e fits over fits' over' = refl
 one_cut before limit [] (y ∷ ys) a b more rest e fits over fits' over' =
     let first : a ≡ y = cc in
-    let same : length (text_of_lines (a ∷ [])) ≡ length (text_of_lines (y ∷ [])) = ap (λ x. length (text_of_lines (x ∷ []))) first in
+    let same : length (with_feeds (a ∷ [])) ≡ length (with_feeds (y ∷ [])) = ap (λ x. length (with_feeds (x ∷ []))) first in
     absurd (let no : ⊥ = omega (arith, same, text_length-append (y ∷ []) ys, over, fits') in no)
 one_cut before limit (x ∷ xs) [] a b more rest e fits over fits' over' =
     let first : x ≡ b = cc in
-    let same : length (text_of_lines (x ∷ [])) ≡ length (text_of_lines (b ∷ [])) = ap (λ z. length (text_of_lines (z ∷ []))) first in
+    let same : length (with_feeds (x ∷ [])) ≡ length (with_feeds (b ∷ [])) = ap (λ z. length (with_feeds (z ∷ []))) first in
     absurd (let no : ⊥ = omega (arith, same, text_length-append (x ∷ []) xs, over', fits) in no)
 one_cut before limit (x ∷ xs) (y ∷ ys) a b more rest e fits over fits' over' =
     let first : x ≡ y = cc in
     let behind : xs ++ a ∷ more ≡ ys ++ b ∷ rest = cc in
-    let same : length (text_of_lines (x ∷ [])) ≡ length (text_of_lines (y ∷ [])) = ap (λ z. length (text_of_lines (z ∷ []))) first in
-    let on : ℕ = before + length (text_of_lines (x ∷ [])) in
+    let same : length (with_feeds (x ∷ [])) ≡ length (with_feeds (y ∷ [])) = ap (λ z. length (with_feeds (z ∷ []))) first in
+    let on : ℕ = before + length (with_feeds (x ∷ [])) in
     let tail : xs ≡ ys = one_cut on limit xs ys a b more rest behind (omega (arith, text_length-append (x ∷ []) xs, fits))
     (omega (arith, text_length-append (x ∷ []) (xs ++ a ∷ []), over)) (omega (arith, same, text_length-append (y ∷ []) ys, fits'))
     (omega (arith, same, text_length-append (y ∷ []) (ys ++ b ∷ []), over')) in
@@ -150,9 +150,9 @@ one_cut before limit (x ∷ xs) (y ∷ ys) a b more rest e fits over fits' over'
 -- the lines are all of these, and this is the end; or they are the first of them, up to the limit, and the end says so
 abbrev Writes : List (List ℕ) → SearchEnd → List (List ℕ) → SearchEnd → Type 0
 Writes all whole lines end =
-    ((lines ≡ all) × (length (text_of_lines lines) ≤ 67108864) × (end ≡ whole))
-    ⊎ ((line : List ℕ) × (more : List (List ℕ)) × (all ≡ lines ++ line ∷ more) × (length (text_of_lines lines) ≤ 67108864)
-    × (67108864 < length (text_of_lines (lines ++ line ∷ []))) × (end ≡ cut))
+    ((lines ≡ all) × (length (with_feeds lines) ≤ 67108864) × (end ≡ whole))
+    ⊎ ((line : List ℕ) × (more : List (List ℕ)) × (all ≡ lines ++ line ∷ more) × (length (with_feeds lines) ≤ 67108864)
+    × (67108864 < length (with_feeds (lines ++ line ∷ []))) × (end ≡ cut))
 
 one_text : (all : List (List ℕ)) (whole : SearchEnd) (lines other : List (List ℕ)) (end end' : SearchEnd) → Writes all whole lines end
     → Writes all whole other end' → (lines ≡ other) × (end ≡ end')

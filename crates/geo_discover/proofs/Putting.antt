@@ -13,16 +13,16 @@ use Rattle.geo_prover.proofs.FirstLines.{feed_at}
 use Rattle.geo_discover.specs.declared.errors.DiscoverError.{DiscoverError}
 use Rattle.geo_discover.specs.declared.errors.DiscoverError.TheVariants.{Impossible, Spent, TooLarge, TooLong, WriteFault, NoMemory}
 use Rattle.geo_discover.specs.Inner.Puts.{BreaksOff, IsPieceOf, IsTextCut, IsUnput, PutsLines}
-use Rattle.geo_discover.specs.TextLines.{text_of_lines}
+use Rattle.log_checker.specs.Checkers.{with_feeds}
 
 -- TEXTS
-pub text_append : (xs ys : List (List ℕ)) → text_of_lines (xs ++ ys) ≡ text_of_lines xs ++ text_of_lines ys
+pub text_append : (xs ys : List (List ℕ)) → with_feeds (xs ++ ys) ≡ with_feeds xs ++ with_feeds ys
 text_append xs ys = flat_map-append (λ (line : List ℕ). line ++ 10 ∷ []) xs ys
 
-pub text_length-append : (xs ys : List (List ℕ)) → length (text_of_lines (xs ++ ys)) ≡ length (text_of_lines xs) + length (text_of_lines ys)
-text_length-append xs ys = ap length (text_append xs ys) ∙ length-append (text_of_lines xs) (text_of_lines ys)
+pub text_length-append : (xs ys : List (List ℕ)) → length (with_feeds (xs ++ ys)) ≡ length (with_feeds xs) + length (with_feeds ys)
+text_length-append xs ys = ap length (text_append xs ys) ∙ length-append (with_feeds xs) (with_feeds ys)
 
-pub text_one : (l : List ℕ) → text_of_lines (l ∷ []) ≡ l ++ 10 ∷ []
+pub text_one : (l : List ℕ) → with_feeds (l ∷ []) ≡ l ++ 10 ∷ []
 text_one l = append-nil (l ++ 10 ∷ [])
 
 -- WHAT IS PUT
@@ -39,13 +39,13 @@ puts_both xs ys a b d h m k p q = record {
       omega (arith, e, p1, q1);
   fits = q.fits;
   written = subst (λ (t : List ℕ). Grows h t k) (sym (text_append xs ys))
-      (Grows-append h m k (text_of_lines xs) (text_of_lines ys) p.written q.written);
+      (Grows-append h m k (with_feeds xs) (with_feeds ys) p.written q.written);
 }
 
 pub puts_one : (l line : List ℕ) (a b : ℕ) (h k : Option (List ℕ)) → line ≡ l ++ 10 ∷ [] → b ≡ a + length line → b ≤ 67108864
     → Grows h line k → PutsLines (l ∷ []) a b h k
 puts_one l line a b h k e n fits g =
-    let same : line ≡ text_of_lines (l ∷ []) = e ∙ sym (text_one l) in
+    let same : line ≡ with_feeds (l ∷ []) = e ∙ sym (text_one l) in
     record {
       measured = n ∙ ap (λ (t : List ℕ). a + length t) same;
       fits = fits;
@@ -150,7 +150,7 @@ pub record IsMidway (lines : List (List ℕ)) (rest : List ℕ) (a b : ℕ) (h k
   pub done : List (List ℕ)
   pub left : List (List ℕ)
   pub split : lines ≡ done ++ left
-  pub rest_is : rest ≡ text_of_lines left
+  pub rest_is : rest ≡ with_feeds left
   pub one_line : AllByRecursion HasNoLineFeed left
   pub put : PutsLines done a b h k
 
@@ -160,33 +160,33 @@ record IsNextLine (left : List (List ℕ)) (rest : List ℕ) (n : ℕ) : Type 0 
   later : List (List ℕ)
   split : left ≡ line ∷ later
   front : take (n + 1) rest ≡ line ++ 10 ∷ []
-  behind : drop (n + 1) rest ≡ text_of_lines later
+  behind : drop (n + 1) rest ≡ with_feeds later
   one_line : AllByRecursion HasNoLineFeed later
 
-next_line : (left : List (List ℕ)) (rest : List ℕ) (n : ℕ) → rest ≡ text_of_lines left → AllByRecursion HasNoLineFeed left
+next_line : (left : List (List ℕ)) (rest : List ℕ) (n : ℕ) → rest ≡ with_feeds left → AllByRecursion HasNoLineFeed left
     → position (λ b. b == 10) rest ≡ Some n → IsNextLine left rest n
 next_line [] rest n e h p = let q : None ≡ Some n = ap (λ (xs : List ℕ). position (λ b. b == 10) xs) (sym e) ∙ p in absurd (let f : ⊥ = cc in f)
 next_line (l ∷ ls) rest n e h p =
     let own = l ++ 10 ∷ [] in
-    let flat : rest ≡ l ++ 10 ∷ text_of_lines ls = e ∙ append_assoc l (10 ∷ []) (text_of_lines ls) in
-    let q : Some (length l) ≡ Some n = sym (feed_at l (text_of_lines ls) h.0) ∙ ap (λ (xs : List ℕ). position (λ b. b == 10) xs) (sym flat) ∙ p in
+    let flat : rest ≡ l ++ 10 ∷ with_feeds ls = e ∙ append_assoc l (10 ∷ []) (with_feeds ls) in
+    let q : Some (length l) ≡ Some n = sym (feed_at l (with_feeds ls) h.0) ∙ ap (λ (xs : List ℕ). position (λ b. b == 10) xs) (sym flat) ∙ p in
     let is : length l ≡ n = cc in
     let m : length own ≡ n + 1 = let k : length own ≡ length l + 1 = length-append l (10 ∷ []) in omega (arith, k, is) in
     record {
       line = l;
       later = ls;
       split = refl;
-      front = ap (λ (xs : List ℕ). take (n + 1) xs) e ∙ take_at own (text_of_lines ls) (n + 1) m;
-      behind = ap (λ (xs : List ℕ). drop (n + 1) xs) e ∙ drop_at own (text_of_lines ls) (n + 1) m;
+      front = ap (λ (xs : List ℕ). take (n + 1) xs) e ∙ take_at own (with_feeds ls) (n + 1) m;
+      behind = ap (λ (xs : List ℕ). drop (n + 1) xs) e ∙ drop_at own (with_feeds ls) (n + 1) m;
       one_line = h.1;
     }
 
-none_left : (left : List (List ℕ)) (rest : List ℕ) → rest ≡ text_of_lines left → AllByRecursion HasNoLineFeed left
+none_left : (left : List (List ℕ)) (rest : List ℕ) → rest ≡ with_feeds left → AllByRecursion HasNoLineFeed left
     → position (λ b. b == 10) rest ≡ None → left ≡ []
 none_left [] rest e h p = refl
 none_left (l ∷ ls) rest e h p =
-    let flat : rest ≡ l ++ 10 ∷ text_of_lines ls = e ∙ append_assoc l (10 ∷ []) (text_of_lines ls) in
-    let q : Some (length l) ≡ None = sym (feed_at l (text_of_lines ls) h.0) ∙ ap (λ (xs : List ℕ). position (λ b. b == 10) xs) (sym flat) ∙ p in
+    let flat : rest ≡ l ++ 10 ∷ with_feeds ls = e ∙ append_assoc l (10 ∷ []) (with_feeds ls) in
+    let q : Some (length l) ≡ None = sym (feed_at l (with_feeds ls) h.0) ∙ ap (λ (xs : List ℕ). position (λ b. b == 10) xs) (sym flat) ∙ p in
     absurd (let f : ⊥ = cc in f)
 
 module _ (lines : List (List ℕ)) (rest : List ℕ) (a b : ℕ) (h m : Option (List ℕ)) (w : IsMidway lines rest a b h m) where
@@ -223,7 +223,7 @@ module _ (lines : List (List ℕ)) (rest : List ℕ) (a b : ℕ) (h m : Option (
       subst (λ (zs : List (List ℕ)). PutsLines zs a b h m) (sym all) w.put
 
 -- nothing is put yet
-pub at_first : (lines : List (List ℕ)) (text : List ℕ) (a : ℕ) (h : Option (List ℕ)) → a ≤ 67108864 → text ≡ text_of_lines lines
+pub at_first : (lines : List (List ℕ)) (text : List ℕ) (a : ℕ) (h : Option (List ℕ)) → a ≤ 67108864 → text ≡ with_feeds lines
     → AllByRecursion HasNoLineFeed lines → IsMidway lines text a a h h
 at_first lines text a h fits e one = record {
   done = [];

@@ -20,14 +20,14 @@ use Rattle.log_maker.specs.declared.errors.ProveError.TheVariants as stopped
 use Rattle.geo_discover.specs.declared.errors.DiscoverError.{DiscoverError}
 use Rattle.geo_discover.specs.declared.errors.DiscoverError.TheVariants.{Impossible, Spent, TooLarge, TooLong, WriteFault, NoMemory}
 use Rattle.geo_discover.specs.Candidates.{candidates}
-use Rattle.geo_discover.specs.FoundTexts.{AreFindings, Finding, IsSearched, Outcome, SearchEnd, WritesFound, WritesFoundPart}
-use Rattle.geo_discover.specs.FoundTexts.{cut, end_at, end_with, first_impossible, first_open, found, found_lines, impossible, impossible_in}
+use Rattle.geo_discover.specs.FoundTexts.{AreFindings, Finding, IsSearched, CandidateOutcome, SearchEnd, WritesFound, WritesFoundPart}
+use Rattle.geo_discover.specs.FoundTexts.{cut, open_end_at, end_with, first_impossible, first_open, found, found_lines, impossible, impossible_in}
 use Rattle.geo_discover.specs.FoundTexts.{lines_with, nothing, open_by, open_still, opens, outcome_of, relation, relations}
 use Rattle.geo_discover.specs.FoundTexts.{whole_end}
 use Rattle.geo_discover.specs.Inner.Puts.{BreaksOff, IsPieceOf, IsUnput, PutsLines}
 use Rattle.geo_discover.specs.Inner.Searching.{BreaksSearch, EndsSo, Examines, IfOpen, IsAnswer, IsBroken, IsUnsettled, Progress, TellsFirst}
 use Rattle.geo_discover.specs.Inner.Searching.{answer_of, counts_line, impossible_line, lines_behind, lines_due, lines_of}
-use Rattle.geo_discover.specs.TextLines.{text_of_lines}
+use Rattle.log_checker.specs.Checkers.{with_feeds}
 use Rattle.geo_discover.proofs.Putting.{breaks_behind, puts_both, text_append, text_length-append, text_one}
 use Rattle.geo_discover.proofs.SearchSteps.{are_both, lines_both, none_broken}
 
@@ -75,16 +75,16 @@ module _ (p : Source) (steps : ℕ) (w : IsWellFormed p) (short : length (canoni
 
   -- THE TEXT, WHOLE OR CUT
   module _ (fs : List Finding) (are : AreFindings p steps (candidates p) fs) where
-    searched_whole : (pre : List (List ℕ)) → found_lines p fs ≡ pre → length (text_of_lines pre) ≤ 67108864
+    searched_whole : (pre : List (List ℕ)) → found_lines p fs ≡ pre → length (with_feeds pre) ≤ 67108864
         → IsSearched p steps pre (whole_end fs)
     searched_whole pre e fits = record { findings = fs; found = are; written = inl (sym e, fits, refl) }
 
     searched_cut : (pre : List (List ℕ)) (line : List ℕ) (more : List (List ℕ)) → found_lines p fs ≡ pre ++ line ∷ more
-        → length (text_of_lines pre) ≤ 67108864 → 67108864 < length (text_of_lines (pre ++ line ∷ [])) → IsSearched p steps pre cut
+        → length (with_feeds pre) ≤ 67108864 → 67108864 < length (with_feeds (pre ++ line ∷ [])) → IsSearched p steps pre cut
     searched_cut pre line more e fits long = record { findings = fs; found = are; written = inr (line, more, e, fits, long, refl) }
 
     -- lines within the limit begin what is written
-    searched_on : (pre post : List (List ℕ)) → found_lines p fs ≡ pre ++ post → length (text_of_lines pre) ≤ 67108864
+    searched_on : (pre post : List (List ℕ)) → found_lines p fs ≡ pre ++ post → length (with_feeds pre) ≤ 67108864
         → (more : List (List ℕ)) × (end : SearchEnd) × IsSearched p steps (pre ++ more) end
     searched_on pre [] e fits = (
       [],
@@ -93,26 +93,26 @@ module _ (p : Source) (steps : ℕ) (w : IsWellFormed p) (short : length (canoni
           (searched_whole pre (e ∙ append-nil pre) fits),
     )
     searched_on pre (l ∷ ls) e fits =
-        go (nat_lt 67108864 (length (text_of_lines (pre ++ l ∷ [])))) refl (λ split small. searched_on (pre ++ l ∷ []) ls split small)
+        go (nat_lt 67108864 (length (with_feeds (pre ++ l ∷ [])))) refl (λ split small. searched_on (pre ++ l ∷ []) ls split small)
       where
-        go : (b : Bool) → nat_lt 67108864 (length (text_of_lines (pre ++ l ∷ []))) ≡ b
-            → (found_lines p fs ≡ (pre ++ l ∷ []) ++ ls → length (text_of_lines (pre ++ l ∷ [])) ≤ 67108864
+        go : (b : Bool) → nat_lt 67108864 (length (with_feeds (pre ++ l ∷ []))) ≡ b
+            → (found_lines p fs ≡ (pre ++ l ∷ []) ++ ls → length (with_feeds (pre ++ l ∷ [])) ≤ 67108864
             → (more : List (List ℕ)) × (end : SearchEnd) × IsSearched p steps ((pre ++ l ∷ []) ++ more) end)
             → (more : List (List ℕ)) × (end : SearchEnd) × IsSearched p steps (pre ++ more) end
         go true t on = (
           [],
           cut,
           subst (λ (xs : List (List ℕ)). IsSearched p steps xs cut) (sym (append-nil pre))
-              (searched_cut pre l ls e fits (ltb-true 67108864 (length (text_of_lines (pre ++ l ∷ []))) t)),
+              (searched_cut pre l ls e fits (ltb-true 67108864 (length (with_feeds (pre ++ l ∷ []))) t)),
         )
         go false t on =
-            let small = ltb-false 67108864 (length (text_of_lines (pre ++ l ∷ []))) t in
+            let small = ltb-false 67108864 (length (with_feeds (pre ++ l ∷ []))) t in
             let r = on (e ∙ sym (append_assoc pre (l ∷ []) ls)) (omega (arith, small)) in
             (l ∷ r.0, r.1, subst (λ (xs : List (List ℕ)). IsSearched p steps xs r.1) (append_assoc pre (l ∷ []) r.0) r.2)
 
     -- a text that begins the text of lines
     part_of : (lines : List (List ℕ)) (end : SearchEnd) (text rest : List ℕ) (h k : Option (List ℕ)) → IsSearched p steps lines end
-        → text_of_lines lines ≡ text ++ rest → Grows h text k → WritesFoundPart p steps h k
+        → with_feeds lines ≡ text ++ rest → Grows h text k → WritesFoundPart p steps h k
     part_of lines end text rest h k s e g = record {
       lines = lines;
       end = end;
@@ -123,42 +123,42 @@ module _ (p : Source) (steps : ℕ) (w : IsWellFormed p) (short : length (canoni
 
     -- lines that were put, and a piece of the next
     module _ (pre post : List (List ℕ)) (e : found_lines p fs ≡ pre ++ post) (b : ℕ) (h m k : Option (List ℕ)) (put : PutsLines pre 0 b h m) where
-      fits : length (text_of_lines pre) ≤ 67108864
+      fits : length (with_feeds pre) ≤ 67108864
       fits = let q = put.measured in let f = put.fits in omega (arith, q, f)
 
       pub piece_put : IsPieceOf post b m k → WritesFoundPart p steps h k
       piece_put (inl same) =
           let s = searched_on pre post e fits in
-          part_of (pre ++ s.0) s.1 (text_of_lines pre) (text_of_lines s.0) h k s.2 (text_append pre s.0)
-          (subst (λ (x : Option (List ℕ)). Grows h (text_of_lines pre) x) (sym same) put.written)
+          part_of (pre ++ s.0) s.1 (with_feeds pre) (with_feeds s.0) h k s.2 (text_append pre s.0)
+          (subst (λ (x : Option (List ℕ)). Grows h (with_feeds pre) x) (sym same) put.written)
       piece_put (inr (line, more, count, is, small, g)) =
           let own = line ++ 10 ∷ [] in
           let one = pre ++ line ∷ [] in
-          let n : length (text_of_lines one) ≡ length (text_of_lines pre) + length own =
-          text_length-append pre (line ∷ []) ∙ ap (λ (t : List ℕ). length (text_of_lines pre) + length t) (text_one line) in
+          let n : length (with_feeds one) ≡ length (with_feeds pre) + length own =
+          text_length-append pre (line ∷ []) ∙ ap (λ (t : List ℕ). length (with_feeds pre) + length t) (text_one line) in
           let q = put.measured in
           let s = searched_on one more (e ∙ ap (λ (ls : List (List ℕ)). pre ++ ls) is ∙ sym (append_assoc pre (line ∷ []) more))
           (omega (arith, n, q, small)) in
           let r = take_all count own in
-          let text = text_of_lines pre ++ take count own in
-          let rest = r.0 ++ text_of_lines s.0 in
-          let split : text_of_lines (one ++ s.0) ≡ text ++ rest =
-          text_append one s.0 ∙ ap (λ (t : List ℕ). t ++ text_of_lines s.0)
-          (text_append pre (line ∷ []) ∙ ap (λ (t : List ℕ). text_of_lines pre ++ t) (text_one line ∙ r.1)
-          ∙ sym (append_assoc (text_of_lines pre) (take count own) r.0))
-          ∙ append_assoc text r.0 (text_of_lines s.0) in
-          part_of (one ++ s.0) s.1 text rest h k s.2 split (Grows-append h m k (text_of_lines pre) (take count own) put.written g)
+          let text = with_feeds pre ++ take count own in
+          let rest = r.0 ++ with_feeds s.0 in
+          let split : with_feeds (one ++ s.0) ≡ text ++ rest =
+          text_append one s.0 ∙ ap (λ (t : List ℕ). t ++ with_feeds s.0)
+          (text_append pre (line ∷ []) ∙ ap (λ (t : List ℕ). with_feeds pre ++ t) (text_one line ∙ r.1)
+          ∙ sym (append_assoc (with_feeds pre) (take count own) r.0))
+          ∙ append_assoc text r.0 (with_feeds s.0) in
+          part_of (one ++ s.0) s.1 text rest h k s.2 split (Grows-append h m k (with_feeds pre) (take count own) put.written g)
 
       pub cut_here : (line : List ℕ) (more : List (List ℕ)) → post ≡ line ∷ more → 67108864 < b + length (line ++ 10 ∷ []) → k ≡ m
           → WritesFound p steps h k cut
       cut_here line more is long same =
-          let n : length (text_of_lines (pre ++ line ∷ [])) ≡ length (text_of_lines pre) + length (line ++ 10 ∷ []) =
-          text_length-append pre (line ∷ []) ∙ ap (λ (t : List ℕ). length (text_of_lines pre) + length t) (text_one line) in
+          let n : length (with_feeds (pre ++ line ∷ [])) ≡ length (with_feeds pre) + length (line ++ 10 ∷ []) =
+          text_length-append pre (line ∷ []) ∙ ap (λ (t : List ℕ). length (with_feeds pre) + length t) (text_one line) in
           let q = put.measured in
           record {
             lines = pre;
             searched = searched_cut pre line more (e ∙ ap (λ (ls : List (List ℕ)). pre ++ ls) is) fits (omega (arith, n, q, long));
-            written = subst (λ (x : Option (List ℕ)). Grows h (text_of_lines pre) x) (sym same) put.written;
+            written = subst (λ (x : Option (List ℕ)). Grows h (with_feeds pre) x) (sym same) put.written;
           }
 
     -- where the lines of all are broken off
@@ -272,8 +272,8 @@ module _ (p : Source) (steps : ℕ) (w : IsWellFormed p) (short : length (canoni
       none_open [] o end h e = refl
       none_open (g ∷ gs) o end h e = go (outcome_of g.ending) (λ r. none_open gs o end r e) h
         where
-          go : (q : Outcome) → (TellsFirst None gs o → first_open end gs ≡ end) → IfOpen q ((i : ProveError) × EndsSo g i × (o ≡ Some i)) (TellsFirst None gs o)
-              → end_at q g (first_open end gs) ≡ end
+          go : (q : CandidateOutcome) → (TellsFirst None gs o → first_open end gs ≡ end) → IfOpen q ((i : ProveError) × EndsSo g i × (o ≡ Some i)) (TellsFirst None gs o)
+              → open_end_at q g (first_open end gs) ≡ end
           go open_still on (i, ends, is) = absurd (let r : None ≡ Some i = sym e ∙ is in cc)
           go relation on r = on r
           go nothing on r = on r
@@ -287,8 +287,8 @@ module _ (p : Source) (steps : ℕ) (w : IsWellFormed p) (short : length (canoni
       one_open_end [] o end i h e = absurd (let r : None ≡ Some i = sym h ∙ e in cc)
       one_open_end (g ∷ gs) o end i h e = go (outcome_of g.ending) (λ r. one_open_end gs o end i r e) h
         where
-          go : (q : Outcome) → (TellsFirst None gs o → OpensSo (first_open end gs) i) → IfOpen q ((j : ProveError) × EndsSo g j × (o ≡ Some j)) (TellsFirst None gs o)
-              → OpensSo (end_at q g (first_open end gs)) i
+          go : (q : CandidateOutcome) → (TellsFirst None gs o → OpensSo (first_open end gs) i) → IfOpen q ((j : ProveError) × EndsSo g j × (o ≡ Some j)) (TellsFirst None gs o)
+              → OpensSo (open_end_at q g (first_open end gs)) i
           go open_still on (j, ends, is) = (g, subst (λ (y : ProveError). EndsSo g y) (let r : Some j ≡ Some i = sym is ∙ e in cc) ends, refl)
           go relation on r = on r
           go nothing on r = on r

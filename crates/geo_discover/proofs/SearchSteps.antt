@@ -11,8 +11,8 @@ use Rattle.log_maker.specs.declared.errors.ProveError.{ProveError}
 use Rattle.log_maker.specs.declared.errors.ProveError.TheVariants as stopped
 use Rattle.geo_discover.specs.declared.errors.DiscoverError.{DiscoverError}
 use Rattle.geo_discover.specs.declared.errors.DiscoverError.TheVariants.{Impossible, Spent, TooLarge, TooLong, WriteFault, NoMemory}
-use Rattle.geo_discover.specs.FoundTexts.{AreFindings, Finding, IsFinding, Outcome, candidate_lines, first_impossible, impossible_in, nothing}
-use Rattle.geo_discover.specs.FoundTexts.{one_open, one_relation, open_still, opens, outcome_of, relation, relations, statement_text}
+use Rattle.geo_discover.specs.FoundTexts.{AreFindings, Finding, IsFinding, CandidateOutcome, candidate_lines, first_impossible, impossible_in, nothing}
+use Rattle.geo_discover.specs.FoundTexts.{one_open, one_relation, open_still, opens, outcome_of, relation, relations, candidate_text}
 use Rattle.geo_discover.specs.Inner.Puts.{BreaksOff, PutsLines}
 use Rattle.geo_discover.specs.Inner.Searching.{Adds, BreaksSearch, EndsSo, Examines, IfOpen, IsBroken, Progress, TellsFirst, first_of}
 use Rattle.geo_discover.specs.Inner.Searching.{impossible_line, lines_behind, lines_due, lines_of}
@@ -39,7 +39,7 @@ module _ (p : Source) (steps : ℕ) where
   none_found (s ∷ ss) (f ∷ fs) a e = absurd (let q : suc (length ss) ≡ 0 = e in omega (arith, q))
 
 pub lines_both : (p : Source) (fs gs : List Finding) → lines_of p (fs ++ gs) ≡ lines_of p fs ++ lines_of p gs
-lines_both p fs gs = flat_map-append (λ (f : Finding). candidate_lines (outcome_of f.ending) (statement_text p f.statement) f.lines) fs gs
+lines_both p fs gs = flat_map-append (λ (f : Finding). candidate_lines (outcome_of f.ending) (candidate_text p f.statement) f.lines) fs gs
 
 -- the lines that are due behind some findings
 pub behind_both : (p : Source) (n m : ℕ) (fs gs : List Finding) → m ≡ n + length fs → (n ≡ 0 → first_impossible fs ≡ None)
@@ -70,7 +70,7 @@ first_both (Some e) b d fs gs h k = subst (λ (x : Option ProveError). TellsFirs
 first_both None b d [] gs h k = subst (λ (x : Option ProveError). TellsFirst x gs d) h k
 first_both None b d (f ∷ fs) gs h k = go (outcome_of f.ending) (λ r. first_both None b d fs gs r k) h
   where
-    go : (o : Outcome) → (TellsFirst None fs b → TellsFirst None (fs ++ gs) d) → IfOpen o ((e : ProveError) × EndsSo f e × (b ≡ Some e)) (TellsFirst None fs b)
+    go : (o : CandidateOutcome) → (TellsFirst None fs b → TellsFirst None (fs ++ gs) d) → IfOpen o ((e : ProveError) × EndsSo f e × (b ≡ Some e)) (TellsFirst None fs b)
         → IfOpen o ((e : ProveError) × EndsSo f e × (d ≡ Some e)) (TellsFirst None (fs ++ gs) d)
     go open_still on (e, ends, is) = (e, ends, subst (λ (x : Option ProveError). TellsFirst x gs d) is k)
     go relation on r = on r
@@ -85,11 +85,11 @@ open_ends f stopped.WriteFault h = absurd h
 open_ends f stopped.NoMemory h = absurd h
 
 -- no open one more
-pub first_kept : (a : Option ProveError) (f : Finding) (o : Outcome) → outcome_of f.ending ≡ o → (o ≡ open_still → ⊥) → TellsFirst a (f ∷ []) a
+pub first_kept : (a : Option ProveError) (f : Finding) (o : CandidateOutcome) → outcome_of f.ending ≡ o → (o ≡ open_still → ⊥) → TellsFirst a (f ∷ []) a
 first_kept (Some e) f o is closed = refl
 first_kept None f o is closed = go (outcome_of f.ending) is
   where
-    go : (q : Outcome) → q ≡ o → IfOpen q ((e : ProveError) × EndsSo f e × (◌≡◌ {A = Option ProveError} None (Some e)))
+    go : (q : CandidateOutcome) → q ≡ o → IfOpen q ((e : ProveError) × EndsSo f e × (◌≡◌ {A = Option ProveError} None (Some e)))
         (◌≡◌ {A = Option ProveError} None None)
     go open_still same = absurd (closed (sym same))
     go relation same = refl
@@ -99,20 +99,20 @@ first_kept None f o is closed = go (outcome_of f.ending) is
 pub first_added : (a : Option ProveError) (f : Finding) (e : ProveError) → EndsSo f e → TellsFirst a (f ∷ []) (first_of a e)
 first_added (Some e') f e ends = refl
 first_added None f e ends =
-    subst (λ (o : Outcome). IfOpen o ((x : ProveError) × EndsSo f x × (◌≡◌ {A = Option ProveError} (Some e) (Some x)))
+    subst (λ (o : CandidateOutcome). IfOpen o ((x : ProveError) × EndsSo f x × (◌≡◌ {A = Option ProveError} (Some e) (Some x)))
     (◌≡◌ {A = Option ProveError} (Some e) None)) (sym (open_ends f e ends)) (e, ends, refl)
 
 -- its lines
-pub lines_one : (p : Source) (s : Statement) (f : Finding) (o : Outcome) → f.statement ≡ s → outcome_of f.ending ≡ o
-    → candidate_lines o (statement_text p s) f.lines ≡ lines_of p (f ∷ [])
+pub lines_one : (p : Source) (s : Statement) (f : Finding) (o : CandidateOutcome) → f.statement ≡ s → outcome_of f.ending ≡ o
+    → candidate_lines o (candidate_text p s) f.lines ≡ lines_of p (f ∷ [])
 lines_one p s f o own is =
-    ap (λ (x : Outcome). candidate_lines x (statement_text p s) f.lines) (sym is)
-    ∙ ap (λ (x : Statement). candidate_lines (outcome_of f.ending) (statement_text p x) f.lines) (sym own)
-    ∙ sym (append-nil (candidate_lines (outcome_of f.ending) (statement_text p f.statement) f.lines))
+    ap (λ (x : CandidateOutcome). candidate_lines x (candidate_text p s) f.lines) (sym is)
+    ∙ ap (λ (x : Statement). candidate_lines (outcome_of f.ending) (candidate_text p x) f.lines) (sym own)
+    ∙ sym (append-nil (candidate_lines (outcome_of f.ending) (candidate_text p f.statement) f.lines))
 
-pub one_examined : (p : Source) (steps : ℕ) (statement : Statement) (f : Finding) (o : Outcome) (first : Option ProveError) (s t : Progress)
+pub one_examined : (p : Source) (steps : ℕ) (statement : Statement) (f : Finding) (o : CandidateOutcome) (first : Option ProveError) (s t : Progress)
     → f.statement ≡ statement → IsFinding p steps f → outcome_of f.ending ≡ o → (s.examined ≡ 0 → impossible_in f.ending ≡ None)
-    → TellsFirst s.first (f ∷ []) first → Adds o (candidate_lines o (statement_text p statement) f.lines) first s t
+    → TellsFirst s.first (f ∷ []) first → Adds o (candidate_lines o (candidate_text p statement) f.lines) first s t
     → Examines p steps (statement ∷ []) s t
 one_examined p steps statement f o first s t own is outcome possible tells a = record {
   findings = f ∷ [];
@@ -132,10 +132,10 @@ one_examined p steps statement f o first s t own is outcome possible tells a = r
 }
 
 -- its lines are not all put
-pub one_broken : (p : Source) (steps : ℕ) (statement : Statement) (f : Finding) (o : Outcome) (s : Progress) (k : Option (List ℕ)) (n m : ℕ)
+pub one_broken : (p : Source) (steps : ℕ) (statement : Statement) (f : Finding) (o : CandidateOutcome) (s : Progress) (k : Option (List ℕ)) (n m : ℕ)
     (e : DiscoverError) → f.statement ≡ statement → IsFinding p steps f → outcome_of f.ending ≡ o
     → (s.examined ≡ 0 → impossible_in f.ending ≡ None)
-    → BreaksOff (candidate_lines o (statement_text p statement) f.lines) s.bytes s.held k n m e → BreaksSearch p steps (statement ∷ []) s k n m e
+    → BreaksOff (candidate_lines o (candidate_text p statement) f.lines) s.bytes s.held k n m e → BreaksSearch p steps (statement ∷ []) s k n m e
 one_broken p steps statement f o s k n m e own is outcome possible b = record {
   front = statement ∷ [];
   rest = [];

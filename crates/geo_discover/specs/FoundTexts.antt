@@ -16,7 +16,7 @@ use Rattle.geo_logs.specs.Ends.{Ending, ends_by, ends_with, too_long}
 use Rattle.log_checker.specs.Accepted.{Accepts}
 use Rattle.geo_prover.specs.Proving.{IsLogOf}
 use Rattle.geo_discover.specs.Candidates.{candidates}
-use Rattle.geo_discover.specs.TextLines.{text_of_lines}
+use Rattle.log_checker.specs.Checkers.{with_feeds}
 use Rattle.geo_program.specs.Relations.{with_statement}
 
 -- FINDINGS
@@ -38,12 +38,12 @@ AreFindings p steps _ _ = ⊥
 
 -- THE TEXT
 -- what a log says of its candidate: that it is a relation; that it is open; or nothing, since it is false, or behind an open one impossible
-pub data Outcome : Type 0 where
-  relation : Outcome
-  open_still : Outcome
-  nothing : Outcome
+pub data CandidateOutcome : Type 0 where
+  relation : CandidateOutcome
+  open_still : CandidateOutcome
+  nothing : CandidateOutcome
 
-abbrev pub outcome_of : Ending → Outcome
+abbrev pub outcome_of : Ending → CandidateOutcome
 outcome_of (ends_with Proved left) = relation
 outcome_of (ends_with (False g) left) = nothing
 outcome_of (ends_with (Impossible k) left) = nothing
@@ -51,21 +51,21 @@ outcome_of (ends_by stop) = open_still
 outcome_of too_long = open_still
 
 -- the candidate as text
-abbrev pub statement_text : Source → Statement → List ℕ
-statement_text p s = form_text p.names (statement_form p.nodes s)
+abbrev pub candidate_text : Source → Statement → List ℕ
+candidate_text p s = form_text p.names (statement_form p.nodes s)
 
 -- the lines of a candidate: a relation comes with its log
-abbrev pub candidate_lines : Outcome → List ℕ → List Line → List (List ℕ)
+abbrev pub candidate_lines : CandidateOutcome → List ℕ → List Line → List (List ℕ)
 candidate_lines relation text lines = (codes "relation " ++ text) ∷ map line_text lines
 candidate_lines open_still text lines = (codes "open " ++ text) ∷ []
 candidate_lines nothing text lines = []
 
 -- how many candidates are relations, and how many are open
-abbrev pub one_relation : Outcome → ℕ
+abbrev pub one_relation : CandidateOutcome → ℕ
 one_relation relation = 1
 one_relation _ = 0
 
-abbrev pub one_open : Outcome → ℕ
+abbrev pub one_open : CandidateOutcome → ℕ
 one_open open_still = 1
 one_open _ = 0
 
@@ -88,7 +88,7 @@ first_impossible (f ∷ fs) = impossible_in f.ending
 abbrev pub lines_with : Option ℕ → Source → List Finding → List (List ℕ)
 lines_with (Some k) p fs = (codes "impossible " ++ decimal k) ∷ []
 lines_with None p fs =
-    flat_map (λ f. candidate_lines (outcome_of f.ending) (statement_text p f.statement) f.lines) fs
+    flat_map (λ f. candidate_lines (outcome_of f.ending) (candidate_text p f.statement) f.lines) fs
     ++ (codes "relations " ++ decimal (relations fs) ++ codes " open " ++ decimal (opens fs)) ∷ []
 
 abbrev pub found_lines : Source → List Finding → List (List ℕ)
@@ -104,13 +104,13 @@ pub data SearchEnd : Type 0 where
   cut : SearchEnd
 
 -- the end of the first open candidate's log, where there is one
-abbrev pub end_at : Outcome → Finding → SearchEnd → SearchEnd
-end_at open_still f rest = open_by f.ending (length f.lines)
-end_at _ f rest = rest
+abbrev pub open_end_at : CandidateOutcome → Finding → SearchEnd → SearchEnd
+open_end_at open_still f rest = open_by f.ending (length f.lines)
+open_end_at _ f rest = rest
 
 abbrev pub first_open : SearchEnd → List Finding → SearchEnd
 first_open none [] = none
-first_open none (f ∷ fs) = end_at (outcome_of f.ending) f (first_open none fs)
+first_open none (f ∷ fs) = open_end_at (outcome_of f.ending) f (first_open none fs)
 
 -- how the search ends where its text is written whole
 abbrev pub end_with : Option ℕ → List Finding → SearchEnd
@@ -125,16 +125,16 @@ whole_end fs = end_with (first_impossible fs) fs
 pub record IsSearched (p : Source) (steps : ℕ) (lines : List (List ℕ)) (end : SearchEnd) : Type 0 where
   pub findings : List Finding
   pub found : AreFindings p steps (candidates p) findings
-  pub written : ((lines ≡ found_lines p findings) × (length (text_of_lines lines) ≤ 67108864) × (end ≡ whole_end findings))
-      ⊎ ((line : List ℕ) × (more : List (List ℕ)) × (found_lines p findings ≡ lines ++ line ∷ more) × (length (text_of_lines lines) ≤ 67108864)
-      × (67108864 < length (text_of_lines (lines ++ line ∷ []))) × (end ≡ cut))
+  pub written : ((lines ≡ found_lines p findings) × (length (with_feeds lines) ≤ 67108864) × (end ≡ whole_end findings))
+      ⊎ ((line : List ℕ) × (more : List (List ℕ)) × (found_lines p findings ≡ lines ++ line ∷ more) × (length (with_feeds lines) ≤ 67108864)
+      × (67108864 < length (with_feeds (lines ++ line ∷ []))) × (end ≡ cut))
 
 -- WHAT A CALL WRITES
 -- the text of the search was written, and it ends so
 pub record WritesFound (p : Source) (steps : ℕ) (held held' : Option (List ℕ)) (end : SearchEnd) : Type 0 where
   pub lines : List (List ℕ)
   pub searched : IsSearched p steps lines end
-  pub written : Grows held (text_of_lines lines) held'
+  pub written : Grows held (with_feeds lines) held'
 
 -- the first bytes of it were written
 pub record WritesFoundPart (p : Source) (steps : ℕ) (held held' : Option (List ℕ)) : Type 0 where
@@ -142,7 +142,7 @@ pub record WritesFoundPart (p : Source) (steps : ℕ) (held held' : Option (List
   pub end : SearchEnd
   pub searched : IsSearched p steps lines end
   pub count : ℕ
-  pub written : Grows held (take count (text_of_lines lines)) held'
+  pub written : Grows held (take count (with_feeds lines)) held'
 
 -- the search ends since a text is too long: its own, or the log of the first open candidate
 abbrev pub WritesTooLong : Source → ℕ → Option (List ℕ) → Option (List ℕ) → Type 0

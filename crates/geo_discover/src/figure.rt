@@ -7,7 +7,7 @@ ghost use Rattle.geo_conditions.specs.Problems.{form_of_problem};
 ghost use Rattle.geo_lowering.specs.declared.version.Version.TheVariants.{Two};
 ghost use Rattle.geo_program.specs.Programs.{program_text, source_of};
 ghost use Rattle.log_maker.specs.Parts.{CanWrite, items_of};
-ghost use Rattle.log_maker.specs.Tasks.{IsReady, conditions_from};
+ghost use Rattle.log_maker.specs.Tasks.{HasReadyItems, conditions_from};
 ghost use Rattle.log_maker.specs.declared.frame.Frame.TheVariants.{Full};
 ghost use Rattle.geo_discover.specs.Inner.Searching.{IsCandidate};
 ghost use Rattle.geo_discover.specs.Inner.Sharing.{AreWorked, IsFigureOf, stopped_by};
@@ -125,7 +125,7 @@ fn conditions_behind(
     numbers: &mut KnownRows,
     mut log: LogWriter,
 ) -> Worked
-    requires ready { IsReady problem.now }
+    requires ready { HasReadyItems problem.now }
     requires writable { CanWrite Full problem.now.steps
         (conditions_from Full problem.now 0 [] [] steps) log.size }
     requires written { (bytes : ℕ) × (log.size ≡ Size.Written bytes) }

@@ -2,7 +2,7 @@
 
 ghost use Rattle.std.specs.Prelude.{◌≡◌, ◌≤◌, ◌∷◌, ◌++◌, IfErr, IfOk, IsErrOf, OnOk, [], decimal};
 ghost use Rattle.geo_program.specs.Programs.{source_of};
-ghost use Rattle.geo_discover.specs.FoundTexts.{statement_text};
+ghost use Rattle.geo_discover.specs.FoundTexts.{candidate_text};
 ghost use Rattle.geo_discover.specs.Inner.Puts.{BreaksOff, PutsLines};
 ghost use Rattle.geo_discover.specs.Inner.Searching.{IsCandidate, counts_line, impossible_line};
 
@@ -24,10 +24,10 @@ pub(crate) fn put_candidate<K: Sink>(
 ) -> Result<(), DiscoverError>
     requires candidate { IsCandidate (source_of program.now) statement }
     ensures ok { OnOk result (PutsLines
-        ((word.now ++ statement_text (source_of program.now) statement) ∷ [])
+        ((word.now ++ candidate_text (source_of program.now) statement) ∷ [])
         text.old.bytes text.new.bytes (K.held sink.old) (K.held sink.new)) }
     ensures err { IfErr result (BreaksOff
-        ((word.now ++ statement_text (source_of program.now) statement) ∷ [])
+        ((word.now ++ candidate_text (source_of program.now) statement) ∷ [])
         text.old.bytes (K.held sink.old) (K.held sink.new)
         (K.faults sink.old) (K.faults sink.new)) }
     ensures faults { K.faults sink.old ≤ K.faults sink.new }
@@ -47,7 +47,7 @@ fn candidate_line(
 ) -> Result<Text, NoMemory>
     requires candidate { IsCandidate (source_of program.now) statement }
     ensures { IfOk result (λ line. line
-        ≡ (word.now ++ statement_text (source_of program.now) statement) ++ 10 ∷ []) }
+        ≡ (word.now ++ candidate_text (source_of program.now) statement) ++ 10 ∷ []) }
 {
     // `len` also says that the store is valid.
     let _ = program.terms.len();

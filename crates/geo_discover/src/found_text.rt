@@ -19,7 +19,7 @@ impl FoundText {
     ghost use Rattle.std.specs.List.{AllByRecursion};
     ghost use Rattle.proof_log.specs.Writable.{HasNoLineFeed};
     ghost use Rattle.geo_discover.specs.Inner.Puts.{BreaksOff, PutsLines};
-    ghost use Rattle.geo_discover.specs.TextLines.{text_of_lines};
+    ghost use Rattle.log_checker.specs.Checkers.{with_feeds};
 
     /// Nothing has been written.
     pub fn new() -> FoundText
@@ -48,10 +48,10 @@ impl FoundText {
 
     /// Writes the lines of a text, one after another.
     pub fn put_lines<K: Sink>(&mut self, sink: &mut K, text: &[u8]) -> Result<(), DiscoverError>
-        ensures ok { OnOk result ((lines : List (List ℕ)) → text.now ≡ text_of_lines lines
+        ensures ok { OnOk result ((lines : List (List ℕ)) → text.now ≡ with_feeds lines
             → AllByRecursion HasNoLineFeed lines
             → PutsLines lines self.old.bytes self.new.bytes (K.held sink.old) (K.held sink.new)) }
-        ensures err { IfErr result (λ e. (lines : List (List ℕ)) → text.now ≡ text_of_lines lines
+        ensures err { IfErr result (λ e. (lines : List (List ℕ)) → text.now ≡ with_feeds lines
             → AllByRecursion HasNoLineFeed lines
             → BreaksOff lines self.old.bytes (K.held sink.old) (K.held sink.new)
             (K.faults sink.old) (K.faults sink.new) e) }

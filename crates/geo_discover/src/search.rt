@@ -43,7 +43,7 @@ impl Search {
     ghost use Rattle.proof_log.specs.declared.log.Line.{Line};
     ghost use Rattle.proof_log.specs.Lines.{line_text, log_text};
     ghost use Rattle.proof_log.specs.Writable.{HasNoLineFeed};
-    ghost use Rattle.geo_discover.specs.FoundTexts.{candidate_lines, nothing, open_still, relation, statement_text};
+    ghost use Rattle.geo_discover.specs.FoundTexts.{candidate_lines, nothing, open_still, relation, candidate_text};
     ghost use Rattle.geo_discover.specs.Inner.Puts.{BreaksOff, PutsLines};
     ghost use Rattle.geo_discover.specs.Inner.Searching.{Adds, BreaksSearch, Examines, IsCandidate, IsNeverMet, IsUnsettled};
     ghost use Rattle.geo_discover.specs.Inner.Sharing.{IsFigureOf};
@@ -114,13 +114,13 @@ impl Search {
         ensures ok { OnOk result ((lines : List Line) → log.now ≡ log_text lines
             → AllByRecursion HasNoLineFeed (map line_text lines)
             → Adds relation
-            (candidate_lines relation (statement_text (source_of program.now) statement) lines)
+            (candidate_lines relation (candidate_text (source_of program.now) statement) lines)
             self.old.first_open
             (progress self.old (K.held sink.old)) (progress self.new (K.held sink.new))) }
         ensures err { IfErr result (λ e. (lines : List Line) → log.now ≡ log_text lines
             → AllByRecursion HasNoLineFeed (map line_text lines)
             → BreaksOff
-            (candidate_lines relation (statement_text (source_of program.now) statement) lines)
+            (candidate_lines relation (candidate_text (source_of program.now) statement) lines)
             self.old.text.bytes (K.held sink.old) (K.held sink.new)
             (K.faults sink.old) (K.faults sink.new) e) }
         ensures faults { K.faults sink.old ≤ K.faults sink.new }
@@ -153,11 +153,11 @@ impl Search {
         requires candidate { IsCandidate (source_of program.now) statement }
         requires few { self.old.examined + 1 < 2 ^ 64 }
         ensures ok { OnOk result ((lines : List Line) → Adds open_still
-            (candidate_lines open_still (statement_text (source_of program.now) statement) lines)
+            (candidate_lines open_still (candidate_text (source_of program.now) statement) lines)
             (first_of self.old.first_open error)
             (progress self.old (K.held sink.old)) (progress self.new (K.held sink.new))) }
         ensures err { IfErr result (λ e. (lines : List Line) → BreaksOff
-            (candidate_lines open_still (statement_text (source_of program.now) statement) lines)
+            (candidate_lines open_still (candidate_text (source_of program.now) statement) lines)
             self.old.text.bytes (K.held sink.old) (K.held sink.new)
             (K.faults sink.old) (K.faults sink.new) e) }
         ensures faults { K.faults sink.old ≤ K.faults sink.new }

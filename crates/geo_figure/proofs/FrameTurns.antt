@@ -18,7 +18,7 @@ use Rattle.geo_figure.specs.declared.cells.Cell.{Cell}
 use Rattle.geo_figure.specs.declared.errors.DrawError.{DrawError}
 use Rattle.geo_figure.specs.declared.errors.DrawError.TheVariants.{NoMemory, TooLarge}
 use Rattle.geo_figure.specs.Bounds.{greatest, least}
-use Rattle.geo_figure.specs.Drawing.{DrawTurn, IsPassed, bound_turn, bound_turns, differences, share_turn, shares, step_of, x_of, y_of}
+use Rattle.geo_figure.specs.Drawing.{DrawTurn, FitsNumbers, bound_turn, bound_turns, differences, share_turn, shares, step_of, x_of, y_of}
 use Rattle.geo_figure.specs.Inner.{AreBounds, AreKept, AreWider, IsCellOf, IsFrame, IsGreater, IsLesser, IsStep, IsWiderFrame, Stop, Stops}
 use Rattle.geo_figure.proofs.BoundLaws.{greatest_next, least_next}
 
@@ -80,7 +80,7 @@ module _ (at : At) (points : List At) where
   abbrev turn : DrawTurn
   turn = bound_turn points at
 
-  alone : (t : DrawTurn) → (IsPassed t → ⊥) → t.line ≡ at.line → Stop (t ∷ []) at.line
+  alone : (t : DrawTurn) → (FitsNumbers t → ⊥) → t.line ≡ at.line → Stop (t ∷ []) at.line
   alone t h l = record { before = []; turn = t; after = []; parts = refl; passed = tt; refused = h; same_line = l }
 
   pub frame_found : (X Y : Result Bounds FracTooLarge) → AreWider (map x_of points) (x_of at) X → AreWider (map y_of points) (y_of at) Y → (r : Result Frame DrawError)
@@ -133,7 +133,7 @@ module _ (all : List At) (at : At) where
       no_err r h = let z : false ≡ true = h in cc
 
 -- ONE TURN AFTER ANOTHER
-pub stop_in : (all xs ys zs : List DrawTurn) (e : DrawError) → all ≡ xs ++ ys ++ zs → AllByRecursion IsPassed xs → Stops ys e → Stops all e
+pub stop_in : (all xs ys zs : List DrawTurn) (e : DrawError) → all ≡ xs ++ ys ++ zs → AllByRecursion FitsNumbers xs → Stops ys e → Stops all e
 stop_in all xs ys zs NoMemory parts h s = tt
 stop_in all xs ys zs (TooLarge line) parts h s = record {
   before = xs ++ s.before;
@@ -141,7 +141,7 @@ stop_in all xs ys zs (TooLarge line) parts h s = record {
   after = s.after ++ zs;
   parts = parts ∙ ap (λ (ts : List DrawTurn). xs ++ ts ++ zs) s.parts ∙ ap (λ (ts : List DrawTurn). ts ++ zs) (sym (append_assoc xs s.before (s.turn ∷ s.after)))
       ∙ append_assoc (xs ++ s.before) (s.turn ∷ s.after) zs;
-  passed = each_append IsPassed xs s.before h s.passed;
+  passed = each_append FitsNumbers xs s.before h s.passed;
   refused = s.refused;
   same_line = s.same_line;
 }
@@ -192,23 +192,23 @@ module _ (points : List At) (k : ℕ) (at : At) (l : k < length points) (e : at 
   -- the frame of one point more
   pub record NextFrame (f : Frame) : Type 0 where
     pub frame : (take (k + 1) points ≢ []) × IsFrame f (take (k + 1) points)
-    pub passed : AllByRecursion IsPassed (bound_turns [] (take (k + 1) points))
+    pub passed : AllByRecursion FitsNumbers (bound_turns [] (take (k + 1) points))
 
-  pub frame_next : (f : Frame) → IsWiderFrame before at (Ok f) → AllByRecursion IsPassed (bound_turns [] before) → NextFrame f
+  pub frame_next : (f : Frame) → IsWiderFrame before at (Ok f) → AllByRecursion FitsNumbers (bound_turns [] before) → NextFrame f
   frame_next f h p = record {
     frame = subst (λ (ps : List At). (ps ≢ []) × IsFrame f ps) (sym more) (some before, h.0);
     passed =
-        subst (λ (ps : List At). AllByRecursion IsPassed (bound_turns [] ps)) (sym more)
-        (subst (λ (ts : List DrawTurn). AllByRecursion IsPassed ts) (sym turns_more) (each_append IsPassed (bound_turns [] before) (bound_turn before at ∷ []) p (h.1, tt)));
+        subst (λ (ps : List At). AllByRecursion FitsNumbers (bound_turns [] ps)) (sym more)
+        (subst (λ (ts : List DrawTurn). AllByRecursion FitsNumbers ts) (sym turns_more) (each_append FitsNumbers (bound_turns [] before) (bound_turn before at ∷ []) p (h.1, tt)));
   }
 
-  pub frame_stops : (x : DrawError) → IsWiderFrame before at (Err x) → AllByRecursion IsPassed (bound_turns [] before) → Stops (bound_turns [] points) x
+  pub frame_stops : (x : DrawError) → IsWiderFrame before at (Err x) → AllByRecursion FitsNumbers (bound_turns [] before) → Stops (bound_turns [] points) x
   frame_stops x h p =
       stop_in (bound_turns [] points) (bound_turns [] before) (bound_turn before at ∷ []) (bound_turns (before ++ at ∷ []) (drop (suc k) points)) x
       (ap (λ (ps : List At). bound_turns [] ps) whole ∙ bounds_append [] before (at ∷ drop (suc k) points)
       ∙ sym (append_assoc (bound_turns [] before) (bound_turn before at ∷ []) (bound_turns (before ++ at ∷ []) (drop (suc k) points)))) p h
 
-  pub cells_stop : (all : List At) (x : DrawError) → IsCellOf all at (Err x) → AllByRecursion IsPassed (map (share_turn all) before) → Stops (map (share_turn all) points) x
+  pub cells_stop : (all : List At) (x : DrawError) → IsCellOf all at (Err x) → AllByRecursion FitsNumbers (map (share_turn all) before) → Stops (map (share_turn all) points) x
   cells_stop all x h p =
       stop_in (map (share_turn all) points) (map (share_turn all) before) (share_turn all at ∷ []) (map (share_turn all) (drop (suc k) points)) x
       (ap (λ (ps : List At). map (share_turn all) ps) whole ∙ map-append (share_turn all) before (at ∷ drop (suc k) points)

@@ -6,21 +6,21 @@ use Rattle.std.proofs.lemmas.List.Elements.{recursion_from_All}
 use Rattle.geo_place.specs.declared.placed.At.{At}
 use Rattle.geo_place.proofs.ListParts.{head_of, tail_of}
 use Rattle.geo_figure.specs.declared.errors.DrawError.TheVariants.{NoMemory, TooLarge}
-use Rattle.geo_figure.specs.Drawing.{DrawTurn, IsPassed, IsTooLargeAt}
+use Rattle.geo_figure.specs.Drawing.{DrawTurn, FitsNumbers, IsTooLargeAt}
 use Rattle.geo_figure.specs.Laws.{PointsHaveOneDrawing}
 
 -- the first turn that does not pass is one
 first_once : (b : List DrawTurn) (t : DrawTurn) (a b' : List DrawTurn) (t' : DrawTurn) (a' : List DrawTurn) → b ++ t ∷ a ≡ b' ++ t' ∷ a'
-    → AllByRecursion IsPassed b → (IsPassed t → ⊥) → AllByRecursion IsPassed b' → (IsPassed t' → ⊥) → t ≡ t'
+    → AllByRecursion FitsNumbers b → (FitsNumbers t → ⊥) → AllByRecursion FitsNumbers b' → (FitsNumbers t' → ⊥) → t ≡ t'
 first_once [] t a [] t' a' e h n k m = head_of e
-first_once [] t a (x ∷ b') t' a' e h n k m = absurd (n (subst IsPassed (sym (head_of e)) k.0))
-first_once (x ∷ b) t a [] t' a' e h n k m = absurd (m (subst IsPassed (head_of e) h.0))
+first_once [] t a (x ∷ b') t' a' e h n k m = absurd (n (subst FitsNumbers (sym (head_of e)) k.0))
+first_once (x ∷ b) t a [] t' a' e h n k m = absurd (m (subst FitsNumbers (head_of e) h.0))
 first_once (x ∷ b) t a (y ∷ b') t' a' e h n k m = first_once b t a b' t' a' (tail_of e) h.1 n k.1 m
 
 line_once : (points : List At) (line line' : ℕ) → IsTooLargeAt points line → IsTooLargeAt points line' → line ≡ line'
 line_once points line line' h k =
-    let same = first_once h.before h.turn h.after k.before k.turn k.after (sym h.parts ∙ k.parts) (recursion_from_All IsPassed h.before h.passed) h.refused
-    (recursion_from_All IsPassed k.before k.passed) k.refused in
+    let same = first_once h.before h.turn h.after k.before k.turn k.after (sym h.parts ∙ k.parts) (recursion_from_All FitsNumbers h.before h.passed) h.refused
+    (recursion_from_All FitsNumbers k.before k.passed) k.refused in
     sym h.same_line ∙ ap (λ (t : DrawTurn). t.line) same ∙ k.same_line
 
 pub one_drawing : PointsHaveOneDrawing

@@ -8,7 +8,7 @@ use Rattle.geo_place.specs.Placing.{points_text}
 use Rattle.geo_place.specs.declared.placed.At.{At}
 use Rattle.geo_place.specs.declared.placed.Placed.{Placed}
 use Rattle.geo_figure.specs.declared.cells.Cell.{Cell}
-use Rattle.geo_figure.specs.Drawing.{IsDrawn, IsPassed, draw_turns, first_numbers, mark, picture_line, stands_in}
+use Rattle.geo_figure.specs.Drawing.{IsDrawn, FitsNumbers, draw_turns, first_numbers, mark, picture_line, stands_in}
 use Rattle.geo_figure.specs.Inner.{cell_at, cell_line, cell_mark, is_cell}
 
 -- MARKS
@@ -49,11 +49,11 @@ line_same points line =
 
 -- THE DRAWING
 module _ (placed : Placed) where
-  pub all_drawn : (cells : List Cell) → cells ≡ map (cell_at placed.points) placed.points → AllByRecursion IsPassed (draw_turns placed.points) → (text : Text)
+  pub all_drawn : (cells : List Cell) → cells ≡ map (cell_at placed.points) placed.points → AllByRecursion FitsNumbers (draw_turns placed.points) → (text : Text)
       → text ≡ flat_map (cell_line cells) (first_numbers 21) ++ points_text placed → IsDrawn placed (Ok text)
   all_drawn cells same passed text e = (
     e ∙ ap (λ (bytes : List ℕ). bytes ++ points_text placed)
         (ap (λ (cs : List Cell). flat_map (cell_line cs) (first_numbers 21)) same
         ∙ flat_map_same (cell_line (map (cell_at placed.points) placed.points)) (picture_line placed.points) (first_numbers 21) (line_same placed.points)),
-    λ line t. t.refused (each_back IsPassed t.before (t.turn ∷ t.after) (subst (λ ts. AllByRecursion IsPassed ts) t.parts passed)).0,
+    λ line t. t.refused (each_back FitsNumbers t.before (t.turn ∷ t.after) (subst (λ ts. AllByRecursion FitsNumbers ts) t.parts passed)).0,
   )

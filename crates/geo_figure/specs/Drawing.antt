@@ -97,8 +97,8 @@ abbrev pub draw_turns : List At → List DrawTurn
 draw_turns points = bound_turns [] points ++ map (share_turn points) points
 
 -- no number of the turn is too large
-abbrev pub IsPassed : DrawTurn → Type 0
-IsPassed t = All (λ e. Overflows e → ⊥) t.reckonings
+abbrev pub FitsNumbers : DrawTurn → Type 0
+FitsNumbers t = All (λ e. Overflows e → ⊥) t.reckonings
 
 -- this is the line of the first turn of which a number is too large
 pub record IsTooLargeAt (points : List At) (line : ℕ) : Type 0 where
@@ -106,8 +106,8 @@ pub record IsTooLargeAt (points : List At) (line : ℕ) : Type 0 where
   pub after : List DrawTurn
   pub turn : DrawTurn
   pub parts : draw_turns points ≡ before ++ turn ∷ after
-  pub passed : All IsPassed before
-  pub refused : IsPassed turn → ⊥
+  pub passed : All FitsNumbers before
+  pub refused : FitsNumbers turn → ⊥
   pub same_line : turn.line ≡ line
 
 -- ANSWERS

@@ -11,7 +11,7 @@ use Rattle.geo_figure.specs.declared.cells.Cell.{Cell}
 use Rattle.geo_figure.specs.declared.errors.DrawError.{DrawError}
 use Rattle.geo_figure.specs.declared.errors.DrawError.TheVariants.{NoMemory, TooLarge}
 use Rattle.geo_figure.specs.Bounds.{greater, greatest, least, lesser}
-use Rattle.geo_figure.specs.Drawing.{DrawTurn, IsPassed, bound_turn, differences, first_numbers, share_turn, shares, step_of, x_of, y_of}
+use Rattle.geo_figure.specs.Drawing.{DrawTurn, FitsNumbers, bound_turn, differences, first_numbers, share_turn, shares, step_of, x_of, y_of}
 use Rattle.geo_place.specs.Reckonings.{Overflows, Reckoning, known, ◌⊖◌}
 use Rattle.geo_place.specs.declared.placed.At.{At}
 
@@ -21,8 +21,8 @@ pub record Stop (turns : List DrawTurn) (line : ℕ) : Type 0 where
   pub turn : DrawTurn
   pub after : List DrawTurn
   pub parts : turns ≡ before ++ turn ∷ after
-  pub passed : AllByRecursion IsPassed before
-  pub refused : IsPassed turn → ⊥
+  pub passed : AllByRecursion FitsNumbers before
+  pub refused : FitsNumbers turn → ⊥
   pub same_line : turn.line ≡ line
 
 -- the drawing stops so at one of these turns, unless memory is wanting
@@ -61,7 +61,7 @@ AreWider xs a (Err refusal) = AreKept (differences xs a) → ⊥
 
 -- what comes of the frame of some points and one more
 abbrev pub IsWiderFrame : List At → At → Result Frame DrawError → Type 0
-IsWiderFrame points a (Ok f) = IsFrame f (points ++ a ∷ []) × IsPassed (bound_turn points a)
+IsWiderFrame points a (Ok f) = IsFrame f (points ++ a ∷ []) × FitsNumbers (bound_turn points a)
 IsWiderFrame points a (Err e) = Stops (bound_turn points a ∷ []) e
 
 -- the frame of points, if there are any
@@ -84,7 +84,7 @@ IsStep last xs a (Err refusal) = AreKept (shares last xs a) → ⊥
 
 -- what comes of the cell of a point
 abbrev pub IsCellOf : List At → At → Result Cell DrawError → Type 0
-IsCellOf points a (Ok c) = (c ≡ cell_at points a) × IsPassed (share_turn points a)
+IsCellOf points a (Ok c) = (c ≡ cell_at points a) × FitsNumbers (share_turn points a)
 IsCellOf points a (Err e) = Stops (share_turn points a ∷ []) e
 
 -- the cell is this one

@@ -6,7 +6,7 @@ ghost use Rattle.ring_laws.specs.Fraction.{Fraction};
 ghost use Rattle.frac_laws.specs.Numbers.{IsNumber};
 ghost use Rattle.geo_place.specs.Placing.{IsDrawable};
 ghost use Rattle.geo_place.specs.declared.placed.At.{At};
-ghost use Rattle.geo_figure.specs.Drawing.{IsPassed, bound_turns};
+ghost use Rattle.geo_figure.specs.Drawing.{FitsNumbers, bound_turns};
 ghost use Rattle.geo_figure.specs.Drawing.{x_of as x_coordinate_of, y_of as y_coordinate_of};
 ghost use Rattle.geo_figure.specs.Inner.{AreBounds, AreWider, IsFrame, IsFrameOf, IsGreater};
 ghost use Rattle.geo_figure.specs.Inner.{IsLesser, IsWiderFrame, Stops};
@@ -164,7 +164,7 @@ fn next_frame(frame: Option<Frame>, at: &At) -> Result<Frame, DrawError>
 pub fn frame_of(points: &[At]) -> Result<Option<Frame>, DrawError>
     requires { All IsDrawable points.now }
     ensures frame { IfOk result (λ f. IsFrameOf f points.now) }
-    ensures passed { OnOk result (AllByRecursion IsPassed (bound_turns [] points.now)) }
+    ensures passed { OnOk result (AllByRecursion FitsNumbers (bound_turns [] points.now)) }
     ensures stops { IfErr result (Stops (bound_turns [] points.now)) }
 {
     let mut frame = None;

@@ -7,7 +7,7 @@ ghost use Rattle.ring_laws.specs.Fraction.{Fraction};
 ghost use Rattle.frac_laws.specs.Numbers.{IsNumber};
 ghost use Rattle.geo_place.specs.Placing.{IsDrawable};
 ghost use Rattle.geo_place.specs.declared.placed.At.{At};
-ghost use Rattle.geo_figure.specs.Drawing.{IsPassed, draw_turns, share_turn};
+ghost use Rattle.geo_figure.specs.Drawing.{FitsNumbers, draw_turns, share_turn};
 ghost use Rattle.geo_figure.specs.Inner.{AreBounds, IsCellOf, IsFrame, IsStep, Stops, cell_at};
 
 use crate::bounds::{Bounds, Frame, frame_of, x_of, y_of};
@@ -91,7 +91,7 @@ fn cells_in(alloc: Global, frame: &Frame, points: &[At]) -> Result<Vec<Cell>, Dr
     ensures cells { IfOk result (λ cells. (all : List At) → IsFrame frame.now all
         → cells.items ≡ map (cell_at all) points.now) }
     ensures passed { OnOk result ((all : List At) → IsFrame frame.now all
-        → AllByRecursion IsPassed (map (share_turn all) points.now)) }
+        → AllByRecursion FitsNumbers (map (share_turn all) points.now)) }
     ensures stops { IfErr result (λ e. (all : List At) → IsFrame frame.now all
         → Stops (map (share_turn all) points.now) e) }
 {
@@ -106,7 +106,7 @@ fn cells_in(alloc: Global, frame: &Frame, points: &[At]) -> Result<Vec<Cell>, Dr
 pub fn cells_of(alloc: Global, points: &[At]) -> Result<Vec<Cell>, DrawError>
     requires { All IsDrawable points.now }
     ensures cells { IfOk result (λ cells. cells.items ≡ map (cell_at points.now) points.now) }
-    ensures passed { OnOk result (AllByRecursion IsPassed (draw_turns points.now)) }
+    ensures passed { OnOk result (AllByRecursion FitsNumbers (draw_turns points.now)) }
     ensures stops { IfErr result (Stops (draw_turns points.now)) }
 {
     match frame_of(points)? {

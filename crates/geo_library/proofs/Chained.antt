@@ -18,7 +18,7 @@ use Rattle.log_checker.proofs.AcceptedBytes.{accepted_bytes_mean}
 use Rattle.geo_library.specs.Citations.{IsCitation, behind_log}
 use Rattle.geo_library.specs.Cites.{AcceptedLogsCite, CitationsHold}
 use Rattle.geo_library.specs.Figures.{Figure, HasZeroChain, IsFigureOf}
-use Rattle.geo_library.specs.Instances.{Asked, AskedAt, IsAnswered, IsInstance, all_asked, asks_condition, asks_goal, asks_statement}
+use Rattle.geo_library.specs.Instances.{Asked, AskedAt, IsGranted, IsInstance, all_asked, asks_condition, asks_goal, asks_statement}
 use Rattle.geo_library.specs.Laws.{IsZeroOver}
 use Rattle.geo_library.specs.Renamings.{given_names}
 use Rattle.geo_library.specs.Working.{ArePassed, IsPassed, Progress}
@@ -34,13 +34,13 @@ zero_over q figure f e h lowered met has =
     (chain_accepted lemma_table c figure.known h.left term h.chain h.after works) (term_sound c term) h.zero lowered met has
 
 -- what is shown by chains is 0, so an instance by chains is one by zeros
-weaker : (S T : Tree → Type 0) (q : Source) → ((e : Tree) → S e → T e) → (a : Asked) → IsAnswered S q a → IsAnswered T q a
+weaker : (S T : Tree → Type 0) (q : Source) → ((e : Tree) → S e → T e) → (a : Asked) → IsGranted S q a → IsGranted T q a
 weaker S T q f (asks_condition text) h = h
 weaker S T q f (asks_goal e) h = f e h
 weaker S T q f (asks_statement text) h = h
 
 all_weaker : (S T : Tree → Type 0) (q : Source) → ((e : Tree) → S e → T e) → (asked : List AskedAt)
-    → AllByRecursion (λ a. IsAnswered S q a.asked) asked → AllByRecursion (λ a. IsAnswered T q a.asked) asked
+    → AllByRecursion (λ a. IsGranted S q a.asked) asked → AllByRecursion (λ a. IsGranted T q a.asked) asked
 all_weaker S T q f [] h = tt
 all_weaker S T q f (a ∷ asked) h = (weaker S T q f a.asked h.0, all_weaker S T q f asked h.1)
 
@@ -50,7 +50,7 @@ instance_weaker S T p q texts f i = record {
   renaming = i.renaming;
   renames = i.renames;
   answered = let asked = all_asked (given_names p.names texts) i.renaming p in
-      All-from_recursion (λ (a : AskedAt). IsAnswered T q a.asked) asked (all_weaker S T q f asked (recursion_from_All (λ (a : AskedAt). IsAnswered S q a.asked) asked i.answered));
+      All-from_recursion (λ (a : AskedAt). IsGranted T q a.asked) asked (all_weaker S T q f asked (recursion_from_All (λ (a : AskedAt). IsGranted S q a.asked) asked i.answered));
 }
 
 pub accepted_logs_cite : AcceptedLogsCite
@@ -59,12 +59,12 @@ accepted_logs_cite bytes steps p q figure texts a wq f i =
     (instance_weaker (HasZeroChain q figure) (IsZeroOver Two q f.form) p q texts (zero_over q figure f) i)
 
 -- what is passed one after another is answered by chains
-passed : (q : Source) (figure : Figure) (now then : Progress) (a : Asked) → IsPassed q figure now a then → IsAnswered (HasZeroChain q figure) q a
+passed : (q : Source) (figure : Figure) (now then : Progress) (a : Asked) → IsPassed q figure now a then → IsGranted (HasZeroChain q figure) q a
 passed q figure now then (asks_condition text) h = h.0
 passed q figure now then (asks_goal e) h = record { left = now.left; chain = h.0; after = then.left; works = h.1; zero = h.2 }
 passed q figure now then (asks_statement text) h = h.0
 
-all_passed : (q : Source) (figure : Figure) (now then : Progress) (asked : List AskedAt) → ArePassed q figure now asked then → AllByRecursion (λ a. IsAnswered (HasZeroChain q figure) q a.asked) asked
+all_passed : (q : Source) (figure : Figure) (now then : Progress) (asked : List AskedAt) → ArePassed q figure now asked then → AllByRecursion (λ a. IsGranted (HasZeroChain q figure) q a.asked) asked
 all_passed q figure now then [] h = tt
 all_passed q figure now then (a ∷ asked) h = (passed q figure now h.0 a.asked h.1, all_passed q figure h.0 then asked h.2)
 
@@ -78,5 +78,5 @@ citations_hold bytes steps text c =
       no_lines = h.no_lines;
       renaming = h.renaming;
       renames = h.renames;
-      answered = All-from_recursion (λ (a : AskedAt). IsAnswered (HasZeroChain q h.figure) q a.asked) asked (all_passed q h.figure (behind_log h.theorem) c.end asked c.passed);
+      answered = All-from_recursion (λ (a : AskedAt). IsGranted (HasZeroChain q h.figure) q a.asked) asked (all_passed q h.figure (behind_log h.theorem) c.end asked c.passed);
     })

@@ -53,7 +53,7 @@ use Rattle.geo_conditions.proofs.ConditionScopes.{AreOver, FoundOver, params-up,
 use Rattle.geo_conditions.proofs.Extensions.{extension_agrees, met_program}
 use Rattle.geo_conditions.proofs.Listings.{held, unmapped}
 use Rattle.geo_library.specs.CitedGoals.{command_goals, has_lines}
-use Rattle.geo_library.specs.Instances.{Asked, AskedAt, IsAnswered, IsInstance, all_asked, asks_condition, asks_goal, asks_statement}
+use Rattle.geo_library.specs.Instances.{Asked, AskedAt, IsGranted, IsInstance, all_asked, asks_condition, asks_goal, asks_statement}
 use Rattle.geo_library.specs.Instances.{asked_at, command_asked, commands_asked, condition_texts, conditions_asked, statement_asked}
 use Rattle.geo_library.specs.Instances.{statement_text}
 use Rattle.geo_library.specs.Laws.{IsZeroOver, ZeroGoalsCite}
@@ -172,7 +172,7 @@ module _ (version : Version) (p q : Source) (l : LoweredForm) (texts : List (Lis
       (image_condition m c) (image_over m X Y N M J into c o) (sym (image_condition_text given q.names m X Y images c o))
 
   abbrev Answer : Asked → Type 0
-  Answer a = IsAnswered (IsZeroOver version q l) q a
+  Answer a = IsGranted (IsZeroOver version q l) q a
 
   abbrev Held : List Condition → Type 0
   Held cs = AllByRecursion (λ c. IsConditionMet q V (image_condition m c)) cs

@@ -6,7 +6,8 @@ use Rattle.std.proofs.lemmas.List.{take_rest}
 use Rattle.std.proofs.lemmas.List.Elements.{All-from_recursion, recursion_from_All}
 use Rattle.proof_log.specs.Writable.{HasNoLineFeed}
 use Rattle.log_checker.proofs.FirstFeeds.{feed_absent, feed_found}
-use Rattle.geo_library.specs.Inputs.{BeginsWithLog, BeginsWithVerdict, EndsAtVerdict, HasNoVerdict, fed}
+use Rattle.geo_library.specs.Inputs.{BeginsWithLog, BeginsWithVerdict, EndsAtVerdict, HasNoVerdict}
+use Rattle.log_checker.specs.Checkers.{with_feeds}
 use Rattle.geo_library.specs.Inner.Names.{BeginsWithSome}
 use Rattle.geo_library.proofs.Cutting.{first_line, one_line}
 
@@ -18,7 +19,7 @@ skip line more one other log rest (inl a) = inl (record {
   one_line = All-from_recursion HasNoLineFeed (line ∷ a.lines ++ a.last ∷ []) (one, recursion_from_All HasNoLineFeed (a.lines ++ a.last ∷ []) a.one_line);
   before = All-from_recursion (λ (l : List ℕ). BeginsWithVerdict l → ⊥) (line ∷ a.lines) (other, recursion_from_All (λ (l : List ℕ). BeginsWithVerdict l → ⊥) a.lines a.before);
   verdict = a.verdict;
-  written = ap (λ (l : List ℕ). line ++ 10 ∷ l) a.written ∙ sym (append_assoc line (10 ∷ []) (fed (a.lines ++ a.last ∷ [])));
+  written = ap (λ (l : List ℕ). line ++ 10 ∷ l) a.written ∙ sym (append_assoc line (10 ∷ []) (with_feeds (a.lines ++ a.last ∷ [])));
   split = ap (λ (l : List ℕ). line ++ 10 ∷ l) a.split ∙ sym (append_assoc line (10 ∷ log) rest);
 })
 skip line more one other log rest (inr a) = inr (record {
@@ -29,11 +30,11 @@ skip line more one other log rest (inr a) = inr (record {
 })
   where
     by : (x y : List ℕ) (lines : List (List ℕ)) (last : List ℕ) → AllByRecursion HasNoLineFeed (lines ++ last ∷ []) → AllByRecursion (λ l. BeginsWithVerdict l → ⊥) lines → BeginsWithVerdict last
-        → line ++ 10 ∷ more ≡ fed (lines ++ last ∷ []) ++ y → ⊥
+        → line ++ 10 ∷ more ≡ with_feeds (lines ++ last ∷ []) ++ y → ⊥
     by x y [] last h k v e = let r = one_line line last more y one h.0 (e ∙ first_line last [] y) in other (subst BeginsWithVerdict (sym r.0) v)
     by x y (l ∷ ls) last h k v e =
-        let r = one_line line l more (fed (ls ++ last ∷ []) ++ y) one h.0 (e ∙ first_line l (ls ++ last ∷ []) y) in
-        a.none (fed (ls ++ last ∷ [])) y (record {
+        let r = one_line line l more (with_feeds (ls ++ last ∷ []) ++ y) one h.0 (e ∙ first_line l (ls ++ last ∷ []) y) in
+        a.none (with_feeds (ls ++ last ∷ [])) y (record {
           lines = ls;
           last = last;
           one_line = All-from_recursion HasNoLineFeed (ls ++ last ∷ []) h.1;
@@ -65,9 +66,9 @@ no_feed (l ∷ line) rest (x ∷ xs) h e = let tails : xs ≡ line ++ 10 ∷ res
 nothing_ends : (xs : List ℕ) → HasNoLineFeed xs → BeginsWithLog xs xs []
 nothing_ends xs h = inr (record { none = λ a b e. by b e.lines e.last (e.split ∙ ap (λ (l : List ℕ). l ++ b) e.written); whole = refl; nothing = refl })
   where
-    by : (b : List ℕ) (lines : List (List ℕ)) (last : List ℕ) → xs ≡ fed (lines ++ last ∷ []) ++ b → ⊥
+    by : (b : List ℕ) (lines : List (List ℕ)) (last : List ℕ) → xs ≡ with_feeds (lines ++ last ∷ []) ++ b → ⊥
     by b [] last e = no_feed last b xs h (e ∙ first_line last [] b)
-    by b (l ∷ ls) last e = no_feed l (fed (ls ++ last ∷ []) ++ b) xs h (e ∙ first_line l (ls ++ last ∷ []) b)
+    by b (l ∷ ls) last e = no_feed l (with_feeds (ls ++ last ∷ []) ++ b) xs h (e ∙ first_line l (ls ++ last ∷ []) b)
 
 -- the bytes, as far as they are read, do not end the log
 pub record Continues (bytes rest : List ℕ) : Type 0 where

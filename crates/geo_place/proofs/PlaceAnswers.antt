@@ -29,7 +29,7 @@ use Rattle.geo_place.specs.declared.placed.Placed.{Placed}
 use Rattle.geo_place.specs.declared.triples.Triple.{Triple}
 use Rattle.geo_place.specs.Evaluation.{EndsAs, IsLeast, IsReckoned, placed_all}
 use Rattle.geo_place.specs.Inner.{EndsWith, IsTripleOf, triple_at}
-use Rattle.geo_place.specs.Placing.{AreTold, AnswersValues, IsDrawable, IsTold, Places, point_lines}
+use Rattle.geo_place.specs.Placing.{AreTold, AnswersValues, IsDrawable, IsPointTold, Places, point_lines}
 use Rattle.geo_place.proofs.LawProofs.{evaluation_places, unmet_values_place_nothing}
 use Rattle.geo_place.proofs.LeastTriples.{least_once}
 
@@ -55,7 +55,7 @@ get_map f [] k x e = cc
 get_map f (y ∷ ys) zero x e = ap (λ (o : Option _). elim o [ None ↦ Some (f y) | Some z ↦ Some (f z) ]) e
 get_map f (y ∷ ys) (suc k) x e = get_map f ys k x e
 
-pub told_of : (a : At) (A : Triplet) → IsLeast A → IsTripleOf (triple_at a) A → IsTold a A
+pub told_of : (a : At) (A : Triplet) → IsLeast A → IsTripleOf (triple_at a) A → IsPointTold a A
 told_of a A l h =
     let s = least_once h.told A h.least l h.same in
     record { x = h.x ∙ s.x; y = h.y ∙ s.y; w = h.w ∙ ap pos s.w; least = l }

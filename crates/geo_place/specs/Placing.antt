@@ -37,7 +37,7 @@ point_lines line [] = []
 point_lines line (c ∷ cs) = gathered kind.Point (named c) line (point_lines (suc line) cs)
 
 -- the point is told: its triple, with the least w
-pub record IsTold (a : At) (A : Point) : Type 0 where
+pub record IsPointTold (a : At) (A : Point) : Type 0 where
   pub x : a.x ≡ A.x
   pub y : a.y ≡ A.y
   pub w : a.w ≡ pos A.w
@@ -47,7 +47,7 @@ pub record IsTold (a : At) (A : Point) : Type 0 where
 pub record AreTold (p : Source) (placed : Placement) (points : List At) : Type 0 where
   pub names : map (λ a. a.name) points ≡ names_of kind.Point p.names
   pub lines : map (λ a. a.line) points ≡ point_lines 1 p.commands
-  pub triples : (k : ℕ) (a : At) → slice_get points k ≡ Some a → IsTold a (placed.point k)
+  pub triples : (k : ℕ) (a : At) → slice_get points k ≡ Some a → IsPointTold a (placed.point k)
 
 -- ANSWERS
 -- evaluation places all points: these are they, they are the one placement with the values that meets the program, and `holds` tells

@@ -39,16 +39,16 @@ use Rattle.log_checker.proofs.WritableLines.{next_lines_are_writable}
 use Rattle.log_maker.specs.declared.errors.ProveError.{ProveError}
 use Rattle.log_maker.specs.declared.errors.ProveError.TheVariants.{TooLarge, Spent, TooLong, WriteFault, NoMemory}
 use Rattle.geo_prover.specs.declared.summary.Summary.{Summary}
-use Rattle.geo_prover.specs.Proving.{Concludes, IsLogOf, StopsAt, WritesLog, WritesPart}
+use Rattle.geo_prover.specs.Proving.{Concludes, IsLogOf, WritesToStop, WritesLog, WritesPart}
 use Rattle.geo_prover.specs.Inner.Answers.{IsAnswerOf}
 use Rattle.geo_prover.specs.FirstLines.{IsBrokenOffAmong, IsPartAmong}
 use Rattle.log_maker.specs.declared.frame.Frame.TheVariants.{Full}
 use Rattle.log_maker.specs.declared.size.Size.{Size}
 use Rattle.log_maker.specs.declared.size.Size.TheVariants.{Written}
-use Rattle.log_maker.specs.Sizes.{Fits, HoldsText, IsPast, IsSizeAfter, with_text}
+use Rattle.log_maker.specs.Sizes.{Fits, HoldsText, IsPastLimit, IsSizeAfter, with_text}
 use Rattle.log_maker.specs.Halting.{Finishes, Halts, IsBrokenOff, IsPieceOfNext, IsStopped, IsTooLong, Passes}
 use Rattle.log_maker.specs.Parts.{CanWrite, IsInside, Part, conditions_part, items_of, log_part}
-use Rattle.log_maker.specs.Tasks.{IsItemReady, IsReady}
+use Rattle.log_maker.specs.Tasks.{IsItemReady, HasReadyItems}
 use Rattle.log_maker.specs.Written.{State, Writes}
 use Rattle.log_maker.proofs.Listing.{conditions_start}
 use Rattle.log_maker.proofs.Passing.{log_text-append, text_length-append}
@@ -134,7 +134,7 @@ module _ (p : Source) (problem : Problem) (w : IsWellFormed p)
     same_goals = refl;
   }
 
-  pub ready : IsReady problem
+  pub ready : HasReadyItems problem
   ready = record {
     conditions =
         items_ready c c.nodes problem.conditions is.conditions.stored
@@ -185,13 +185,13 @@ module _ (p : Source) (c : Construction) (conditions goals : List Item) (steps :
         let m : t.size ≡ Written (0 + n) = subst (λ (z : Size). IsSizeAfter z n t.size) size_none h in
         let f : 0 + n ≤ 67108864 = subst Fits m fits in omega (arith, f)
 
-    past : (n : ℕ) → IsPast (with_text s.size n) → 67108864 < n
-    past n h = let f : 67108864 < 0 + n = subst (λ (z : Size). IsPast (with_text z n)) size_none h in omega (arith, f)
+    past : (n : ℕ) → IsPastLimit (with_text s.size n) → 67108864 < n
+    past n h = let f : 67108864 < 0 + n = subst (λ (z : Size). IsPastLimit (with_text z n)) size_none h in omega (arith, f)
 
     grown : (text : List ℕ) → HoldsText s.size s.held text t.held → Grows s.held text t.held
     grown text h = subst (λ (z : Size). HoldsText z s.held text t.held) size_none h
 
-    stopped : (stop : Stop) (n : ℕ) → IsStopped Full c whole s t stop n → StopsAt p steps s.held t.held stop n
+    stopped : (stop : Stop) (n : ℕ) → IsStopped Full c whole s t stop n → WritesToStop p steps s.held t.held stop n
     stopped stop n h =
         let counted : n ≡ suc (length h.lines) = let l = h.last in omega (arith, lines_none, l) in
         let lines = h.lines ++ stop_line n stop ∷ [] in

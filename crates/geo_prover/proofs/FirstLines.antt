@@ -17,8 +17,9 @@ use Rattle.proof_log.specs.Lines.{log_text}
 use Rattle.proof_log.specs.Writable.{HasNoLineFeed}
 use Rattle.log_maker.specs.declared.errors.ProveError.{ProveError}
 use Rattle.log_maker.specs.declared.errors.ProveError.TheVariants.{TooLarge, Spent, TooLong, WriteFault, NoMemory}
-use Rattle.geo_prover.specs.FirstLines.{IsBrokenOffAmong, IsPartAmong, IsTooLongAmong, pieces}
-use Rattle.log_maker.specs.Sizes.{Fits, HoldsText, IsPast, with_text}
+use Rattle.geo_prover.specs.FirstLines.{IsBrokenOffAmong, IsPartAmong, IsTooLongAmong}
+use Rattle.log_checker.specs.Checkers.{with_feeds}
+use Rattle.log_maker.specs.Sizes.{Fits, HoldsText, IsPastLimit, with_text}
 use Rattle.log_maker.specs.Written.{IsCutOff, IsUnwritten, State, Writes}
 use Rattle.log_maker.proofs.Passing.{fits_behind, held_on, log_text-append, past_behind, writes_more}
 use Rattle.log_maker.proofs.Sizing.{fits_none, holds_nothing}
@@ -71,11 +72,11 @@ first_feed text n e = go (nat_lt (prefix_len passes text) (length text)) refl e
 
 -- LINES FROM THE TEXT
 -- the canonical text has the program's lines
-lines_pieces : (lines : List (List Lexeme)) → flat_map (λ line. line_text line ++ 10 ∷ []) lines ≡ pieces (map line_text lines)
+lines_pieces : (lines : List (List Lexeme)) → flat_map (λ line. line_text line ++ 10 ∷ []) lines ≡ with_feeds (map line_text lines)
 lines_pieces [] = refl
 lines_pieces (l ∷ ls) = ap (λ text. (line_text l ++ 10 ∷ []) ++ text) (lines_pieces ls)
 
-pub program_pieces : (p : Source) → canonical_text p ≡ pieces (source_lines p)
+pub program_pieces : (p : Source) → canonical_text p ≡ with_feeds (source_lines p)
 program_pieces p = lines_pieces (line_lexemes (no_sketches p.commands) p)
 
 -- some lines were written, and the text that is left is that of the others
@@ -83,7 +84,7 @@ pub record IsBetween (lines : List (List ℕ)) (rest : List ℕ) (s t : State) :
   pub done : List (List ℕ)
   pub left : List (List ℕ)
   pub split : lines ≡ done ++ left
-  pub rest_is : rest ≡ pieces left
+  pub rest_is : rest ≡ with_feeds left
   pub one_line : AllByRecursion HasNoLineFeed left
   pub written : Writes (map ProgramLine done) s t
 
@@ -99,31 +100,31 @@ drop_front (x ∷ xs) ys y = drop_front xs ys y
 pub record IsNextPiece (left : List (List ℕ)) (rest : List ℕ) (n : ℕ) : Type 0 where
   pub later : List (List ℕ)
   pub split : left ≡ take n rest ∷ later
-  pub rest_is : drop (n + 1) rest ≡ pieces later
+  pub rest_is : drop (n + 1) rest ≡ with_feeds later
   pub one_line : AllByRecursion HasNoLineFeed later
 
-next_piece : (left : List (List ℕ)) (rest : List ℕ) (n : ℕ) → rest ≡ pieces left → AllByRecursion HasNoLineFeed left
+next_piece : (left : List (List ℕ)) (rest : List ℕ) (n : ℕ) → rest ≡ with_feeds left → AllByRecursion HasNoLineFeed left
     → position (λ b. b == 10) rest ≡ Some n → IsNextPiece left rest n
 next_piece [] rest n e h p = let q : None ≡ Some n = ap (λ xs. position (λ b. b == 10) xs) (sym e) ∙ p in absurd (let f : ⊥ = cc in f)
 next_piece (t ∷ ts) rest n e h p =
-    let whole : rest ≡ t ++ 10 ∷ pieces ts = e ∙ append_assoc t (10 ∷ []) (pieces ts) in
-    let same : Some (length t) ≡ Some n = sym (feed_at t (pieces ts) h.0) ∙ ap (λ xs. position (λ b. b == 10) xs) (sym whole) ∙ p in
+    let whole : rest ≡ t ++ 10 ∷ with_feeds ts = e ∙ append_assoc t (10 ∷ []) (with_feeds ts) in
+    let same : Some (length t) ≡ Some n = sym (feed_at t (with_feeds ts) h.0) ∙ ap (λ xs. position (λ b. b == 10) xs) (sym whole) ∙ p in
     let is : length t ≡ n = cc in
     record {
       later = ts;
-      split = ap (λ x. x ∷ ts) (sym (ap (λ xs. take n xs) whole ∙ ap (λ k. take k (t ++ 10 ∷ pieces ts)) (sym is) ∙ take_front t
-          (10 ∷ pieces ts)));
-      rest_is = ap (λ xs. drop (n + 1) xs) whole ∙ ap (λ k. drop k (t ++ 10 ∷ pieces ts))
-          (let f : n + 1 ≡ suc (length t) = omega (arith, is) in f) ∙ drop_front t (pieces ts) 10;
+      split = ap (λ x. x ∷ ts) (sym (ap (λ xs. take n xs) whole ∙ ap (λ k. take k (t ++ 10 ∷ with_feeds ts)) (sym is) ∙ take_front t
+          (10 ∷ with_feeds ts)));
+      rest_is = ap (λ xs. drop (n + 1) xs) whole ∙ ap (λ k. drop k (t ++ 10 ∷ with_feeds ts))
+          (let f : n + 1 ≡ suc (length t) = omega (arith, is) in f) ∙ drop_front t (with_feeds ts) 10;
       one_line = h.1;
     }
 
-no_piece : (left : List (List ℕ)) (rest : List ℕ) → rest ≡ pieces left → AllByRecursion HasNoLineFeed left
+no_piece : (left : List (List ℕ)) (rest : List ℕ) → rest ≡ with_feeds left → AllByRecursion HasNoLineFeed left
     → position (λ b. b == 10) rest ≡ None → left ≡ []
 no_piece [] rest e h p = refl
 no_piece (t ∷ ts) rest e h p =
-    let whole : rest ≡ t ++ 10 ∷ pieces ts = e ∙ append_assoc t (10 ∷ []) (pieces ts) in
-    let same : Some (length t) ≡ None = sym (feed_at t (pieces ts) h.0) ∙ ap (λ xs. position (λ b. b == 10) xs) (sym whole) ∙ p in absurd
+    let whole : rest ≡ t ++ 10 ∷ with_feeds ts = e ∙ append_assoc t (10 ∷ []) (with_feeds ts) in
+    let same : Some (length t) ≡ None = sym (feed_at t (with_feeds ts) h.0) ∙ ap (λ xs. position (λ b. b == 10) xs) (sym whole) ∙ p in absurd
     (let f : ⊥ = cc in f)
 
 module _ (lines : List (List ℕ)) (rest : List ℕ) (s t : State) (b : IsBetween lines rest s t) where
@@ -178,7 +179,7 @@ module _ (front : List Line) (s t u : State) (w : Writes front s t) where
     long =
         let same : text_length (front ++ (g.before ++ g.line ∷ [])) ≡ text_length ((front ++ g.before) ++ g.line ∷ []) = ap text_length
         (sym (append_assoc front g.before (g.line ∷ []))) in
-        subst (λ (n : ℕ). IsPast (with_text s.size n)) same (past_behind front s t w (g.before ++ g.line ∷ []) g.long);
+        subst (λ (n : ℕ). IsPastLimit (with_text s.size n)) same (past_behind front s t w (g.before ++ g.line ∷ []) g.long);
     written = subst (λ text. HoldsText s.size s.held text u.held) (sym (log_text-append front g.before))
         (held_on front s t u w (log_text g.before) g.written);
     faults = sound_on g.faults;

@@ -1,18 +1,13 @@
 -- The header and the lines of the program.
 use Rattle.std.specs.Prelude.{◌≡◌, ℕ, ◌≤◌, List, [], ◌∷◌, ◌++◌, take}
-use Rattle.std.specs.List.{flat_map}
 use Rattle.geo_base.specs.Devices.{HasRisen}
 use Rattle.geo_logs.specs.Ends.{text_length}
 use Rattle.proof_log.specs.declared.log.Line.{Line}
 use Rattle.proof_log.specs.Lines.{log_text}
 use Rattle.log_maker.specs.declared.errors.ProveError.{ProveError}
 use Rattle.log_maker.specs.declared.errors.ProveError.TheVariants.{TooLarge, Spent, TooLong, WriteFault, NoMemory}
-use Rattle.log_maker.specs.Sizes.{Fits, HoldsText, IsPast, with_text}
+use Rattle.log_maker.specs.Sizes.{Fits, HoldsText, IsPastLimit, with_text}
 use Rattle.log_maker.specs.Written.{State}
-
--- texts, each with its line feed
-abbrev pub pieces : List (List ℕ) → List ℕ
-pieces texts = flat_map (λ text. text ++ 10 ∷ []) texts
 
 -- some of the lines were written, and the next one takes the text past its limit
 pub record IsTooLongAmong (all : List Line) (s t : State) : Type 0 where
@@ -21,7 +16,7 @@ pub record IsTooLongAmong (all : List Line) (s t : State) : Type 0 where
   pub rest : List Line
   pub split : all ≡ before ++ line ∷ rest
   pub fits : Fits (with_text s.size (text_length before))
-  pub long : IsPast (with_text s.size (text_length (before ++ line ∷ [])))
+  pub long : IsPastLimit (with_text s.size (text_length (before ++ line ∷ [])))
   pub written : HoldsText s.size s.held (log_text before) t.held
   pub faults : t.faults ≡ s.faults
 

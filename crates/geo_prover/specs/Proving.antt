@@ -37,7 +37,7 @@ pub record WritesLog (p : Source) (steps : ℕ) (held held' : Option (List ℕ))
   pub written : Grows held (log_text lines) held'
 
 -- the log ends by a stop, and was written; its last line, that of the stop, has this number
-pub record StopsAt (p : Source) (steps : ℕ) (held held' : Option (List ℕ)) (stop : Stop) (number : ℕ) : Type 0 where
+pub record WritesToStop (p : Source) (steps : ℕ) (held held' : Option (List ℕ)) (stop : Stop) (number : ℕ) : Type 0 where
   pub whole : WritesLog p steps held held' (ends_by stop)
   pub last : number ≡ length whole.lines
 

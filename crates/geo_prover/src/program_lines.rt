@@ -6,7 +6,8 @@ ghost use Rattle.geo_program.specs.Programs.{source_of};
 ghost use Rattle.log_checker.specs.Subjects.{source_lines};
 ghost use Rattle.proof_log.specs.declared.log.Line.TheVariants.{Header, Program as ProgramLine};
 ghost use Rattle.proof_log.specs.Writable.{HasNoLineFeed};
-ghost use Rattle.geo_prover.specs.FirstLines.{IsBrokenOffAmong, pieces};
+ghost use Rattle.geo_prover.specs.FirstLines.{IsBrokenOffAmong};
+ghost use Rattle.log_checker.specs.Checkers.{with_feeds};
 ghost use Rattle.log_maker.specs.Written.{Writes, state};
 
 use geo_base::{Sink, Text};
@@ -43,12 +44,12 @@ fn write_pieces<K: Sink>(
     log: &mut LogWriter,
     sink: &mut K,
 ) -> Result<(), ProveError>
-    ensures ok { OnOk result ((lines : List (List ℕ)) → text.now ≡ pieces lines
+    ensures ok { OnOk result ((lines : List (List ℕ)) → text.now ≡ with_feeds lines
         → AllByRecursion HasNoLineFeed lines
         → Writes (map ProgramLine lines)
         (state log.old (K.held sink.old) (K.faults sink.old))
         (state log.new (K.held sink.new) (K.faults sink.new))) }
-    ensures err { IfErr result (λ e. (lines : List (List ℕ)) → text.now ≡ pieces lines
+    ensures err { IfErr result (λ e. (lines : List (List ℕ)) → text.now ≡ with_feeds lines
         → AllByRecursion HasNoLineFeed lines
         → IsBrokenOffAmong (map ProgramLine lines)
         (state log.old (K.held sink.old) (K.faults sink.old))

@@ -8,7 +8,7 @@ ghost use Rattle.geo_poly.specs.declared.limits.Which.{Which};
 ghost use Rattle.geo_program.specs.Programs.{source_of};
 ghost use Rattle.log_maker.specs.Written.{first_state};
 ghost use Rattle.geo_prover.specs.Inner.Answers.{IsAnswerOf};
-ghost use Rattle.geo_prover.specs.Proving.{Concludes, StopsAt, WritesLog, WritesPart};
+ghost use Rattle.geo_prover.specs.Proving.{Concludes, WritesToStop, WritesLog, WritesPart};
 
 use crate::program_lines::write_first_lines;
 use crate::summary::Summary;
@@ -33,9 +33,9 @@ pub fn prove<K: Sink>(
 
     // The last line is that of the stop.
     ensures spent { (line : ℕ) → result ≡ Err (ProveError.Spent line)
-        → StopsAt (source_of program.now) steps (K.held sink.old) (K.held sink.new) spent line }
+        → WritesToStop (source_of program.now) steps (K.held sink.old) (K.held sink.new) spent line }
     ensures too_large { (line : ℕ) (which : Which) → result ≡ Err (ProveError.TooLarge line which)
-        → StopsAt (source_of program.now) steps (K.held sink.old) (K.held sink.new)
+        → WritesToStop (source_of program.now) steps (K.held sink.old) (K.held sink.new)
         (too_large which) line }
 
     // The next line is left out.

@@ -19,10 +19,10 @@ use Rattle.log_maker.specs.declared.errors.ProveError.{ProveError}
 use Rattle.log_maker.specs.declared.errors.ProveError.TheVariants.{TooLarge, Spent, TooLong, WriteFault, NoMemory}
 use Rattle.log_maker.specs.declared.frame.Frame.{Frame}
 use Rattle.log_maker.specs.declared.size.Size.{Size}
-use Rattle.log_maker.specs.Halting.{Finishes, Halts, IsAnswered, IsBrokenOff, IsPieceOfNext, IsStopped, IsTooLong, Passes}
+use Rattle.log_maker.specs.Halting.{Finishes, Halts, IsStopAnswered, IsBrokenOff, IsPieceOfNext, IsStopped, IsTooLong, Passes}
 use Rattle.log_maker.specs.InFrame.{IsNextIn}
 use Rattle.log_maker.specs.Parts.{CanWrite, Continues, Part, here_part}
-use Rattle.log_maker.specs.Sizes.{Fits, HoldsText, IsPast, IsSizeAfter, IsTakable, with_text}
+use Rattle.log_maker.specs.Sizes.{Fits, HoldsText, IsPastLimit, IsSizeAfter, IsTakable, with_text}
 use Rattle.log_maker.specs.Written.{HasStopped, IsCutOff, IsUnwritten, State, Writes, WritesSome}
 use Rattle.log_maker.proofs.Sizing.{fits_none, holds_nothing, size_fits, size_holds, size_more, size_none, size_past, size_takes}
 use Rattle.log_maker.proofs.Sizing.{with_both, with_none}
@@ -50,9 +50,9 @@ module _ (xs : List Line) (s t : State) (h : Writes xs s t) (ys : List Line) whe
   fits_behind fits =
       subst (λ (n : ℕ). Fits (with_text s.size n)) further (size_fits s.size (text_length xs) t.size h.measured (text_length ys) fits)
 
-  pub past_behind : IsPast (with_text t.size (text_length ys)) → IsPast (with_text s.size (text_length (xs ++ ys)))
+  pub past_behind : IsPastLimit (with_text t.size (text_length ys)) → IsPastLimit (with_text s.size (text_length (xs ++ ys)))
   past_behind past =
-      subst (λ (n : ℕ). IsPast (with_text s.size n)) further (size_past s.size (text_length xs) t.size h.measured (text_length ys) past)
+      subst (λ (n : ℕ). IsPastLimit (with_text s.size n)) further (size_past s.size (text_length xs) t.size h.measured (text_length ys) past)
 
 -- the text behind lines
 pub held_on : (xs : List Line) (s t u : State) → Writes xs s t → (text : List ℕ) → HoldsText t.size t.held text u.held
@@ -171,7 +171,7 @@ module _ (frame : Frame) (c : Construction) (P Q : Part) (s t u : State) (h : Pa
     long =
         let same : text_length (h.lines ++ (g.lines ++ g.line ∷ [])) ≡ text_length ((h.lines ++ g.lines) ++ g.line ∷ []) = ap text_length
         (sym (append_assoc h.lines g.lines (g.line ∷ []))) in
-        subst (λ (n : ℕ). IsPast (with_text s.size n)) same (past_behind h.lines s t h.written (g.lines ++ g.line ∷ []) g.long);
+        subst (λ (n : ℕ). IsPastLimit (with_text s.size n)) same (past_behind h.lines s t h.written (g.lines ++ g.line ∷ []) g.long);
     written = written_on g.lines g.written;
     faults = sound_on g.faults;
   }
@@ -334,7 +334,7 @@ module _ (frame : Frame) (c : Construction) where
   pub answered_here : (place : Place) (s t : State) → Fits s.size → (error : ApplyError)
       → (error ≡ SpentThere → IsNextIn frame c place (stops spent))
       → ((which : Which) → error ≡ TooLargeThere which → IsNextIn frame c place (stops (too_large which))) → (error ≡ NoRow → ⊥)
-      → (e : ProveError) → IsAnswered error s t e
+      → (e : ProveError) → IsStopAnswered error s t e
       → Halts frame c (here_part place) s t e
   answered_here place s t fits NoRow is_spent is_large is_made e h = absurd (is_made refl)
   answered_here place s t fits SpentThere is_spent is_large is_made e h = stopped_here place spent s t (is_spent refl) fits e h

@@ -5,7 +5,7 @@ use Rattle.proof_log.specs.declared.log.Line.{Line}
 use Rattle.proof_log.specs.Writable.{IsWritable}
 use Rattle.log_maker.specs.declared.size.Size.{Size}
 use Rattle.log_maker.specs.declared.size.Size.TheVariants.{Written, Counted, Bounded}
-use Rattle.log_maker.specs.Sizes.{Fits, HoldsText, IsPast, IsSizeAfter, IsTakable, with_text}
+use Rattle.log_maker.specs.Sizes.{Fits, HoldsText, IsPastLimit, IsSizeAfter, IsTakable, with_text}
 
 pub with_both : (z : Size) (m n : ℕ) → with_text (with_text z m) n ≡ with_text z (m + n)
 with_both (Written bytes) m n = ap (λ (k : ℕ). Written k) (let e : (bytes + m) + n ≡ bytes + (m + n) = omega arith in e)
@@ -52,15 +52,15 @@ module _ (z : Size) (m : ℕ) (y : Size) (h : IsSizeAfter z m y) where
       go (Bounded bytes) (bound, e, more) =
           let f : bound + n ≤ 67108864 = subst (λ (k : Size). Fits (with_text k n)) e g in omega (arith, more, f)
 
-  pub size_past : (n : ℕ) → IsPast (with_text y n) → IsPast (with_text z (m + n))
+  pub size_past : (n : ℕ) → IsPastLimit (with_text y n) → IsPastLimit (with_text z (m + n))
   size_past n g = go z h
     where
-      go : (k : Size) → IsSizeAfter k m y → IsPast (with_text k (m + n))
+      go : (k : Size) → IsSizeAfter k m y → IsPastLimit (with_text k (m + n))
       go (Written bytes) e =
-          subst (λ (k : ℕ). IsPast (Written k)) (let e : (bytes + m) + n ≡ bytes + (m + n) = omega arith in e)
-          (subst (λ (k : Size). IsPast (with_text k n)) e g)
-      go Counted e = subst (λ (k : Size). IsPast (with_text k n)) e g
-      go (Bounded bytes) (bound, e, more) = subst (λ (k : Size). IsPast (with_text k n)) e g
+          subst (λ (k : ℕ). IsPastLimit (Written k)) (let e : (bytes + m) + n ≡ bytes + (m + n) = omega arith in e)
+          (subst (λ (k : Size). IsPastLimit (with_text k n)) e g)
+      go Counted e = subst (λ (k : Size). IsPastLimit (with_text k n)) e g
+      go (Bounded bytes) (bound, e, more) = subst (λ (k : Size). IsPastLimit (with_text k n)) e g
 
   pub size_holds : (a b d : Option (List ℕ)) (xs ys : List ℕ) → HoldsText z a xs b → HoldsText y b ys d → HoldsText z a (xs ++ ys) d
   size_holds a b d xs ys first g = go z h first

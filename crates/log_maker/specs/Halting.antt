@@ -26,7 +26,7 @@ use Rattle.log_maker.specs.declared.frame.Frame.{Frame}
 use Rattle.log_maker.specs.declared.size.Size.{Size}
 use Rattle.log_maker.specs.InFrame.{IsNextIn, leads_in, works_in}
 use Rattle.log_maker.specs.Parts.{Continues, Part}
-use Rattle.log_maker.specs.Sizes.{Fits, HoldsText, IsPast, with_text}
+use Rattle.log_maker.specs.Sizes.{Fits, HoldsText, IsPastLimit, with_text}
 use Rattle.log_maker.specs.Written.{HasStopped, State, Writes}
 
 -- STOPS
@@ -49,7 +49,7 @@ pub record IsTooLong (frame : Frame) (c : Construction) (part : Part) (s t : Sta
   pub begun : part.begun lines place
   pub next : IsNextIn frame c place (comes line)
   pub fits : Fits (with_text s.size (text_length lines))
-  pub long : IsPast (with_text s.size (text_length (lines ++ line ∷ [])))
+  pub long : IsPastLimit (with_text s.size (text_length (lines ++ line ∷ [])))
   pub written : HoldsText s.size s.held (log_text lines) t.held
   pub faults : t.faults ≡ s.faults
 
@@ -82,11 +82,11 @@ Halts frame c part s t WriteFault = IsBrokenOff frame c part s t × HasRisen s.f
 Halts frame c part s t NoMemory = IsBrokenOff frame c part s t × (t.faults ≡ s.faults)
 
 -- a line that has no polynomial for this reason is answered so
-abbrev pub IsAnswered : ApplyError → State → State → ProveError → Type 0
-IsAnswered NoRow s t e = Unit {0}
-IsAnswered SpentThere s t e = HasStopped spent s t e
-IsAnswered (TooLargeThere which) s t e = HasStopped (too_large which) s t e
-IsAnswered NoMemoryThere s t e = (e ≡ NoMemory) × (t ≡ s)
+abbrev pub IsStopAnswered : ApplyError → State → State → ProveError → Type 0
+IsStopAnswered NoRow s t e = Unit {0}
+IsStopAnswered SpentThere s t e = HasStopped spent s t e
+IsStopAnswered (TooLargeThere which) s t e = HasStopped (too_large which) s t e
+IsStopAnswered NoMemoryThere s t e = (e ≡ NoMemory) × (t ≡ s)
 
 -- WHAT IS WRITTEN WHOLE
 -- the steps from the polynomial on and the end were written, and the last polynomial is this

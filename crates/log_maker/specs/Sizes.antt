@@ -35,10 +35,10 @@ abbrev pub Fits : Size → Type 0
 Fits size = bytes_of size ≤ 67108864
 
 -- the text passes its limit, which a bound of it does not tell
-abbrev pub IsPast : Size → Type 0
-IsPast (Written bytes) = 67108864 < bytes
-IsPast Counted = ⊥
-IsPast (Bounded bytes) = ⊥
+abbrev pub IsPastLimit : Size → Type 0
+IsPastLimit (Written bytes) = 67108864 < bytes
+IsPastLimit Counted = ⊥
+IsPastLimit (Bounded bytes) = ⊥
 
 -- the text went to the sink; lines that are not written leave it as it is
 abbrev pub HoldsText : Size → Option (List ℕ) → List ℕ → Option (List ℕ) → Type 0

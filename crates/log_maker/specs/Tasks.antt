@@ -19,7 +19,7 @@ pub record IsItemReady (c : Construction) (nodes : Store) (item : Item) : Type 0
   pub inside : IsInside c (tree_of nodes item.term)
 
 -- so it is of all items of a problem
-pub record IsReady (problem : Problem) : Type 0 where
+pub record HasReadyItems (problem : Problem) : Type 0 where
   pub conditions : All (IsItemReady problem.steps problem.steps.nodes) problem.conditions
   pub goals : All (IsItemReady problem.steps problem.steps.nodes) problem.goals
 

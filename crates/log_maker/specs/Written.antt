@@ -10,7 +10,7 @@ use Rattle.log_maker.specs.declared.errors.ProveError.TheVariants.{TooLarge, Spe
 use Rattle.log_maker.specs.declared.log_writer.LogWriter.{LogWriter}
 use Rattle.log_maker.specs.declared.size.Size.{Size}
 use Rattle.log_maker.specs.declared.size.Size.TheVariants.{Written}
-use Rattle.log_maker.specs.Sizes.{Fits, HoldsText, IsPast, IsSizeAfter, with_text}
+use Rattle.log_maker.specs.Sizes.{Fits, HoldsText, IsPastLimit, IsSizeAfter, with_text}
 
 -- how many lines of a log there are, the size of their text, the bytes that its sink holds, and the sink's count of faults
 pub record State : Type 0 where
@@ -41,7 +41,7 @@ pub record WritesSome (text : List ℕ) (s t : State) : Type 0 where
 
 -- the line takes the text past its limit, and was not written
 pub record IsLeftOut (line : Line) (s t : State) : Type 0 where
-  pub long : IsPast (with_text s.size (text_length (line ∷ [])))
+  pub long : IsPastLimit (with_text s.size (text_length (line ∷ [])))
   pub kept : t.held ≡ s.held
   pub faults : t.faults ≡ s.faults
 
@@ -63,7 +63,7 @@ IsUnwritten line s t NoMemory = IsCutOff line s t × (t.faults ≡ s.faults)
 abbrev pub IsTextUnwritten : List ℕ → State → State → ProveError → Type 0
 IsTextUnwritten text s t (TooLarge n which) = ⊥
 IsTextUnwritten text s t (Spent n) = ⊥
-IsTextUnwritten text s t TooLong = IsPast (with_text s.size (length text)) × (t.held ≡ s.held) × (t.faults ≡ s.faults)
+IsTextUnwritten text s t TooLong = IsPastLimit (with_text s.size (length text)) × (t.held ≡ s.held) × (t.faults ≡ s.faults)
 IsTextUnwritten text s t WriteFault = WritesSome text s t × HasRisen s.faults t.faults
 IsTextUnwritten text s t NoMemory = WritesSome text s t × (t.faults ≡ s.faults)
 

@@ -13,7 +13,7 @@ ghost use Rattle.geo_terms.specs.Stores.{tree_of};
 ghost use Rattle.log_maker.specs.declared.frame.Frame.{Frame};
 ghost use Rattle.log_maker.specs.InFrame.{IsNextLineIn};
 ghost use Rattle.log_maker.specs.Sizes.{IsTakable};
-ghost use Rattle.log_maker.specs.Halting.{Halts, IsAnswered, WorksChain, WorksSteps};
+ghost use Rattle.log_maker.specs.Halting.{Halts, IsStopAnswered, WorksChain, WorksSteps};
 ghost use Rattle.log_maker.specs.Parts.{CanWrite, IsInside, chain_part};
 ghost use Rattle.log_maker.specs.Parts.{here_part, polynomial_on, steps_part};
 ghost use Rattle.log_maker.specs.Written.{IsUnwritten, Writes, state};
@@ -239,7 +239,7 @@ fn polynomial_of(line: Line) -> Option<Poly>
 /// Writes the line of the stop, if it is one, and answers it.
 fn stopped<K: Sink>(alloc: Global, error: ApplyError, log: &LogWriter, sink: &mut K) -> ProveError
     requires { error ≢ ApplyError.NoRow }
-    ensures { IsAnswered error (state log.now (K.held sink.old) (K.faults sink.old))
+    ensures { IsStopAnswered error (state log.now (K.held sink.old) (K.faults sink.old))
         (state log.now (K.held sink.new) (K.faults sink.new)) result }
 {
     match error {

@@ -8,7 +8,7 @@ ghost use Rattle.geo_poly.specs.Specialise.{NoneZero};
 ghost use Rattle.log_maker.specs.Halting.{Halts, IsImpossibleAt, Passes};
 ghost use Rattle.geo_logs.specs.Logs.{Item as LogItem};
 ghost use Rattle.log_maker.specs.Parts.{CanWrite, goals_part};
-ghost use Rattle.log_maker.specs.Tasks.{IsConditionTask, IsReady};
+ghost use Rattle.log_maker.specs.Tasks.{IsConditionTask, HasReadyItems};
 ghost use Rattle.log_maker.specs.Tasks.{conditions_before, conditions_from};
 ghost use Rattle.log_maker.specs.Written.{state};
 
@@ -36,7 +36,7 @@ pub fn work_conditions<K: Sink>(
     log: &mut LogWriter,
     sink: &mut K,
 ) -> Result<Option<u32>, ProveError>
-    requires ready { IsReady problem.now }
+    requires ready { HasReadyItems problem.now }
     requires numbers { AreKnownRows problem.now.steps numbers.old }
     requires nonzero { NoneZero findings.old.ends }
     requires writable { CanWrite frame problem.now.steps (conditions_from frame problem.now 0
@@ -88,7 +88,7 @@ fn work_condition<K: Sink>(
     log: &mut LogWriter,
     sink: &mut K,
 ) -> Result<WorkedChain, ProveError>
-    requires ready { IsReady problem.now }
+    requires ready { HasReadyItems problem.now }
     requires numbers { AreKnownRows problem.now.steps numbers.old }
     requires place { i < length problem.now.conditions }
     requires writable { CanWrite frame problem.now.steps (conditions_from frame problem.now i

@@ -6,7 +6,7 @@ ghost use Rattle.geo_poly.specs.Specialise.{NoneZero};
 ghost use Rattle.log_maker.specs.Halting.{Finishes, Halts};
 ghost use Rattle.log_maker.specs.Parts.{CanWrite};
 ghost use Rattle.log_maker.specs.Sizes.{IsTakable};
-ghost use Rattle.log_maker.specs.Tasks.{IsItemReady, IsReady, conditions_from, goals_from};
+ghost use Rattle.log_maker.specs.Tasks.{IsItemReady, HasReadyItems, conditions_from, goals_from};
 ghost use Rattle.log_maker.specs.Written.{IsUnwritten, Writes, state};
 ghost use Rattle.proof_log.specs.declared.log.Line.TheVariants.{Verdict as VerdictLine};
 ghost use Rattle.proof_log.specs.declared.log.Verdict.TheVariants.{Impossible};
@@ -35,7 +35,7 @@ pub fn work<K: Sink>(
     log: &mut LogWriter,
     sink: &mut K,
 ) -> Result<Verdict, ProveError>
-    requires ready { IsReady problem.now }
+    requires ready { HasReadyItems problem.now }
     requires numbers { AreKnownRows problem.now.steps numbers.old }
     requires writable { CanWrite frame problem.now.steps
         (conditions_from frame problem.now 0 [] [] budget.old.left) log.old.size }

@@ -3,13 +3,13 @@ use Rattle.std.specs.Prelude.{◌≡◌, ◌⊎◌, ℕ, ◌+◌, ◌<◌, ◌�
 use Rattle.geo_base.specs.Devices.{Grows, HasRisen}
 use Rattle.geo_discover.specs.declared.errors.DiscoverError.{DiscoverError}
 use Rattle.geo_discover.specs.declared.errors.DiscoverError.TheVariants.{Impossible, Spent, TooLarge, TooLong, WriteFault, NoMemory}
-use Rattle.geo_discover.specs.TextLines.{text_of_lines}
+use Rattle.log_checker.specs.Checkers.{with_feeds}
 
 -- the lines were written, within the limit
 pub record PutsLines (lines : List (List ℕ)) (before after : ℕ) (held held' : Option (List ℕ)) : Type 0 where
-  pub measured : after ≡ before + length (text_of_lines lines)
+  pub measured : after ≡ before + length (with_feeds lines)
   pub fits : after ≤ 67108864
-  pub written : Grows held (text_of_lines lines) held'
+  pub written : Grows held (with_feeds lines) held'
 
 -- the first bytes of the text were written
 abbrev pub IsTextCut : List ℕ → Option (List ℕ) → Option (List ℕ) → ℕ → ℕ → DiscoverError → Type 0

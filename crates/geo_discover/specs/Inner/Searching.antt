@@ -19,9 +19,9 @@ use Rattle.geo_discover.specs.declared.examining.Judgement.{Judgement}
 use Rattle.geo_discover.specs.declared.examining.Judgement.TheVariants as judged
 use Rattle.geo_discover.specs.declared.search.Search.{Search}
 use Rattle.geo_base.specs.Devices.{HasRisen}
-use Rattle.geo_discover.specs.FoundTexts.{AreFindings, Finding, IsFinding, Outcome, WritesFound, WritesFoundPart, WritesTooLong}
+use Rattle.geo_discover.specs.FoundTexts.{AreFindings, Finding, IsFinding, CandidateOutcome, WritesFound, WritesFoundPart, WritesTooLong}
 use Rattle.geo_discover.specs.FoundTexts.{candidate_lines, first_impossible, impossible, nothing, one_open, one_relation, open_by, open_still}
-use Rattle.geo_discover.specs.FoundTexts.{opens, outcome_of, relation, relations, statement_text}
+use Rattle.geo_discover.specs.FoundTexts.{opens, outcome_of, relation, relations, candidate_text}
 use Rattle.geo_discover.specs.Inner.Puts.{BreaksOff, PutsLines}
 
 -- a relation of points that the program declares, without conditions of its own, and one goal
@@ -89,7 +89,7 @@ progress search held = record {
 }
 
 -- one more candidate of this outcome, and its lines
-pub record Adds (o : Outcome) (lines : List (List ℕ)) (ends : Option ProveError) (s t : Progress) : Type 0 where
+pub record Adds (o : CandidateOutcome) (lines : List (List ℕ)) (ends : Option ProveError) (s t : Progress) : Type 0 where
   pub examined : t.examined ≡ s.examined + 1
   pub related : t.related ≡ s.related + one_relation o
   pub unsettled : t.unsettled ≡ s.unsettled + one_open o
@@ -103,7 +103,7 @@ first_of None error = Some error
 
 -- the lines of findings
 abbrev pub lines_of : Source → List Finding → List (List ℕ)
-lines_of p fs = flat_map (λ f. candidate_lines (outcome_of f.ending) (statement_text p f.statement) f.lines) fs
+lines_of p fs = flat_map (λ f. candidate_lines (outcome_of f.ending) (candidate_text p f.statement) f.lines) fs
 
 -- the line that says that a condition is never met
 abbrev pub impossible_line : ℕ → List ℕ
@@ -119,7 +119,7 @@ lines_behind zero p fs = lines_due (first_impossible fs) p fs
 lines_behind (suc n) p fs = lines_of p fs
 
 -- one of two, by whether a candidate is open
-abbrev pub IfOpen : Outcome → Type 0 → Type 0 → Type 0
+abbrev pub IfOpen : CandidateOutcome → Type 0 → Type 0 → Type 0
 IfOpen open_still A B = A
 IfOpen relation A B = B
 IfOpen nothing A B = B

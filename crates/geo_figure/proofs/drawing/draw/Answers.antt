@@ -4,7 +4,7 @@ use Rattle.geo_place.specs.Placing.{points_text}
 use Rattle.geo_place.specs.declared.placed.At.{At}
 use Rattle.geo_place.specs.declared.placed.Placed.{Placed}
 use Rattle.geo_figure.specs.declared.cells.Cell.{Cell}
-use Rattle.geo_figure.specs.Drawing.{IsPassed, draw_turns, first_numbers}
+use Rattle.geo_figure.specs.Drawing.{FitsNumbers, draw_turns, first_numbers}
 use Rattle.geo_figure.specs.Inner.{cell_at, cell_line}
 use Rattle.geo_figure.proofs.PictureLaws.{all_drawn}
 use Rattle.geo_figure.proofs.drawing.draw.Goals as goal
@@ -15,7 +15,7 @@ returns c =
     let cells = c.in_ok-cells.cells.items in
     let points : c.deref.result.now ≡ placed.points = c.deref.ensures.value ∙ ap (λ (p : Placed). p.points) c.placed.view_is in
     let same = subst (λ (ps : List At). cells ≡ map (cell_at ps) ps) points c.in_ok-cells.ensures.cells in
-    let passed = subst (λ (ps : List At). AllByRecursion IsPassed (draw_turns ps)) points c.in_ok-cells.ensures.passed in
+    let passed = subst (λ (ps : List At). AllByRecursion FitsNumbers (draw_turns ps)) points c.in_ok-cells.ensures.passed in
     let lines = flat_map (cell_line cells) (first_numbers 21) in
     let picture : c.push_picture.new.out.items ≡ lines =
     c.in_ok-push_picture.ensures ∙ ap (λ (bytes : List ℕ). bytes ++ flat_map (cell_line c.deref-2.result.now) (first_numbers 21)) c.new-bytes.ensures.items
