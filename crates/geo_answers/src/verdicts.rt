@@ -1,5 +1,5 @@
 //! A verdict or a number as a part of a text.
-ghost use Rattle.std.specs.Prelude.{◌≡◌, ◌∷◌, ◌++◌, [], OnOk};
+ghost use Rattle.std.specs.Prelude.{◌≡◌, ◌∷◌, ◌++◌, [], OnErr, OnOk};
 ghost use Rattle.std.specs.Fmt.{decimal};
 ghost use Rattle.proof_log.specs.Lines.{verdict_text};
 
@@ -10,8 +10,10 @@ use std::alloc::Global;
 
 /// Appends the words of a verdict, and a line feed.
 pub fn push_verdict(alloc: Global, out: &mut Vec<u8>, verdict: Verdict) -> Result<(), NoMemory>
-    ensures { OnOk result (out.new.items ≡ out.old.items ++ verdict_text verdict ++ 10 ∷ []) }
+    ensures ok { OnOk result (out.new.items ≡ out.old.items ++ verdict_text verdict ++ 10 ∷ []) }
+    ensures err { OnErr result (out.new.items ≡ out.old.items) }
 {
+    let before = out.len();
     match verdict {
         Verdict::Proved => out.extend_from_slice(b"proved")?,
         Verdict::False(goal) => push_numbered(alloc, out, b"false ", goal as u64)?,
@@ -19,7 +21,10 @@ pub fn push_verdict(alloc: Global, out: &mut Vec<u8>, verdict: Verdict) -> Resul
             push_numbered(alloc, out, b"impossible ", condition as u64)?
         }
     }
-    out.push(b'\n')?;
+    if out.push(b'\n').is_err() {
+        out.truncate(before);
+        return Err(NoMemory);
+    }
     Ok(())
 }
 
@@ -30,8 +35,14 @@ pub fn push_numbered(
     words: &[u8],
     number: u64,
 ) -> Result<(), NoMemory>
-    ensures { OnOk result (out.new.items ≡ out.old.items ++ words.now ++ decimal number) }
+    ensures ok { OnOk result (out.new.items ≡ out.old.items ++ words.now ++ decimal number) }
+    ensures err { OnErr result (out.new.items ≡ out.old.items) }
 {
+    let before = out.len();
     out.extend_from_slice(words)?;
-    push_decimal(alloc, out, number as i128).map_err(|_| NoMemory)
+    if push_decimal(alloc, out, number as i128).is_err() {
+        out.truncate(before);
+        return Err(NoMemory);
+    }
+    Ok(())
 }

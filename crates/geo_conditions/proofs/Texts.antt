@@ -32,7 +32,7 @@ module _ (p : Source) (w : IsWellFormed p) where
   S = scope_of empty_scope p.names
 
   -- the condition is over what the names declare
-  abbrev IsOverNames : Condition → Type 0
+  abbrev pub IsOverNames : Condition → Type 0
   IsOverNames c = IsConditionOver S.points S.params S.lines c
 
   abbrev spelling : List Argument → List Lexeme

@@ -1,6 +1,6 @@
 //! The items of listed conditions.
 
-ghost use Rattle.std.specs.Prelude.{◌≡◌, IfOk, OnOk, map};
+ghost use Rattle.std.specs.Prelude.{◌≡◌, IfOk, map};
 ghost use Rattle.std.specs.List.{AllByRecursion};
 ghost use Rattle.geo_program.specs.FormTexts.{form_text};
 ghost use Rattle.geo_conditions.specs.Inner.ConditionLists.{condition_of};
@@ -54,7 +54,8 @@ fn condition_item(
     requires printable { IsPrintableCondition printer.now.names printer.now.terms.now
         listed.condition }
     requires placed { ArePlaced printer.now.terms.now steps.old.nodes places.now }
-    ensures { IfOk result (λ item. HasItem steps.old steps.new item (condition_item_form
+    ensures keeps { Keeps steps.old steps.new }
+    ensures item { IfOk result (λ item. HasItem steps.old steps.new item (condition_item_form
         printer.now.names printer.now.terms.now (places_layout places.now) listed)) }
 {
     let text = condition_text(alloc, printer, listed.condition)?;
@@ -78,7 +79,7 @@ pub fn condition_items(
     requires printable { AllByRecursion (λ i.
         IsPrintableCondition printer.now.names printer.now.terms.now i.condition) listed.now }
     requires placed { ArePlaced printer.now.terms.now steps.old.nodes places.now }
-    ensures keeps { OnOk result (Keeps steps.old steps.new) }
+    ensures keeps { Keeps steps.old steps.new }
     ensures items { IfOk result (λ conditions. AreItems steps.new.nodes conditions
         (map (condition_item_form printer.now.names printer.now.terms.now
         (places_layout places.now)) listed.now)) }

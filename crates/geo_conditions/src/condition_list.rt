@@ -1,11 +1,12 @@
 //! Conditions, each listed once, and those that the terms of a program give.
 
-ghost use Rattle.std.specs.Prelude.{◌≡◌, ◌∷◌, ◌++◌, [], List, OnOk, if◌then◌else◌};
+ghost use Rattle.std.specs.Prelude.{◌≡◌, ◌∷◌, ◌++◌, [], List, OnErr, OnOk, if◌then◌else◌};
 ghost use Rattle.geo_lowering.specs.Conditions.{divisor_conditions, expression_conditions, nonzero};
 ghost use Rattle.geo_terms.specs.Stores.{IsStore, node_tree, tree_of};
 ghost use Rattle.geo_terms.specs.Trees.{Tree};
 ghost use Rattle.geo_conditions.specs.Inner.ConditionLists.{HasBraces, IsConditionList, IsKept};
 ghost use Rattle.geo_conditions.specs.Inner.ConditionLists.{Lists, condition_of};
+ghost use Rattle.geo_conditions.specs.Inner.ConditionLists.{IsSameList};
 ghost use Rattle.geo_conditions.specs.Lists.{found_at};
 
 use crate::conditions::{Condition, ListedCondition};
@@ -56,9 +57,11 @@ impl ConditionList {
     pub fn add(&mut self, terms: &Terms, condition: Condition, line: u64) -> Result<(), NoMemory>
         requires list { IsConditionList terms.now self.old }
         requires kept { IsKept terms.now condition }
-        ensures { OnOk result (Lists terms.now self.old self.new
+        ensures lists { OnOk result (Lists terms.now self.old self.new
             (found_at line (condition_of terms.now condition ∷ []))) }
+        ensures same { OnErr result (IsSameList self.old self.new) }
     {
+        self.items.reserve(1)?;
         if self.known.insert(condition)? {
             self.items.push(ListedCondition { condition, line })?;
         }

@@ -1,6 +1,6 @@
 //! The items of listed goals.
 
-ghost use Rattle.std.specs.Prelude.{IfOk, OnOk, map};
+ghost use Rattle.std.specs.Prelude.{IfOk, map};
 ghost use Rattle.std.specs.List.{AllByRecursion};
 ghost use Rattle.geo_terms.specs.Stores.{IsStore};
 ghost use Rattle.geo_conditions.specs.Inner.ItemForms.{AreItems, ArePlaced, HasItem};
@@ -28,7 +28,8 @@ fn goal_item(
     requires store { IsStore printer.now.terms.now }
     requires printable { IsPrintableGoal printer.now.names printer.now.terms.now goal }
     requires placed { ArePlaced printer.now.terms.now steps.old.nodes places.now }
-    ensures { IfOk result (λ item. HasItem steps.old steps.new item (goal_item_form
+    ensures keeps { Keeps steps.old steps.new }
+    ensures item { IfOk result (λ item. HasItem steps.old steps.new item (goal_item_form
         printer.now.names printer.now.terms.now (places_layout places.now) line goal)) }
 {
     let text = printer.statement_text(alloc, goal)?;
@@ -55,7 +56,7 @@ pub fn goal_items(
     requires printable { AllByRecursion (IsPrintableGoal printer.now.names printer.now.terms.now)
         listed.now }
     requires placed { ArePlaced printer.now.terms.now steps.old.nodes places.now }
-    ensures keeps { OnOk result (Keeps steps.old steps.new) }
+    ensures keeps { Keeps steps.old steps.new }
     ensures items { IfOk result (λ goals. AreItems steps.new.nodes goals (map (goal_item_form
         printer.now.names printer.now.terms.now (places_layout places.now) line) listed.now)) }
 {

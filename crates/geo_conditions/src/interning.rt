@@ -6,7 +6,7 @@ ghost use Rattle.geo_terms.specs.Stores.{HasChildrenBelow, HasShortInteger, node
 ghost use Rattle.geo_terms.specs.Stores.{trees_of};
 ghost use Rattle.geo_terms.specs.Trees.{addition, area_leaf, integer_leaf, multiplication};
 ghost use Rattle.geo_terms.specs.Trees.{pythagoras_leaf, ratio_leaf, subtraction};
-ghost use Rattle.geo_conditions.specs.Inner.ItemTerms.{HasTerm, IsItemStored, item_tree};
+ghost use Rattle.geo_conditions.specs.Inner.ItemTerms.{HasTerm, IsItemStored, Keeps, item_tree};
 ghost use Rattle.geo_conditions.specs.Terms.{area_of, circle_term, midpoint_term, parallel_term};
 ghost use Rattle.geo_conditions.specs.Terms.{pythagoras_of, ratio_of};
 
@@ -18,7 +18,8 @@ use geo_terms::{Node, Steps};
 pub fn intern(steps: &mut Steps, node: Node) -> Result<TermId, NoMemory>
     requires children { HasChildrenBelow (length steps.old.nodes) node }
     requires integer { HasShortInteger node }
-    ensures { IfOk result (λ id.
+    ensures keeps { Keeps steps.old steps.new }
+    ensures term { IfOk result (λ id.
         HasTerm steps.old steps.new id (node_tree (trees_of steps.old.nodes) node)) }
 {
     if steps.look().len() == u32::MAX {
@@ -29,21 +30,24 @@ pub fn intern(steps: &mut Steps, node: Node) -> Result<TermId, NoMemory>
 
 // The number 2.
 fn two(steps: &mut Steps) -> Result<TermId, NoMemory>
-    ensures { IfOk result (λ id. HasTerm steps.old steps.new id (integer_leaf (pos 2))) }
+    ensures keeps { Keeps steps.old steps.new }
+    ensures term { IfOk result (λ id. HasTerm steps.old steps.new id (integer_leaf (pos 2))) }
 {
     intern(steps, Node::Int(2))
 }
 
 /// `S_ABC`.
 pub fn area(steps: &mut Steps, a: PointId, b: PointId, c: PointId) -> Result<TermId, NoMemory>
-    ensures { IfOk result (λ id. HasTerm steps.old steps.new id (area_leaf a b c)) }
+    ensures keeps { Keeps steps.old steps.new }
+    ensures term { IfOk result (λ id. HasTerm steps.old steps.new id (area_leaf a b c)) }
 {
     intern(steps, Node::S(a, b, c))
 }
 
 /// `P_ABC`.
 pub fn pythagoras(steps: &mut Steps, a: PointId, b: PointId, c: PointId) -> Result<TermId, NoMemory>
-    ensures { IfOk result (λ id. HasTerm steps.old steps.new id (pythagoras_leaf a b c)) }
+    ensures keeps { Keeps steps.old steps.new }
+    ensures term { IfOk result (λ id. HasTerm steps.old steps.new id (pythagoras_leaf a b c)) }
 {
     intern(steps, Node::P(a, b, c))
 }
@@ -56,7 +60,8 @@ fn ratio(
     c: PointId,
     d: PointId,
 ) -> Result<TermId, NoMemory>
-    ensures { IfOk result (λ id. HasTerm steps.old steps.new id (ratio_leaf a b c d)) }
+    ensures keeps { Keeps steps.old steps.new }
+    ensures term { IfOk result (λ id. HasTerm steps.old steps.new id (ratio_leaf a b c d)) }
 {
     intern(steps, Node::R(a, b, c, d))
 }
@@ -65,7 +70,8 @@ fn ratio(
 pub fn sum(steps: &mut Steps, e: TermId, f: TermId) -> Result<TermId, NoMemory>
     requires first { e.0 < length steps.old.nodes }
     requires second { f.0 < length steps.old.nodes }
-    ensures { IfOk result (λ id. HasTerm steps.old steps.new id
+    ensures keeps { Keeps steps.old steps.new }
+    ensures term { IfOk result (λ id. HasTerm steps.old steps.new id
         (addition (tree_of steps.old.nodes e) (tree_of steps.old.nodes f))) }
 {
     intern(steps, Node::Add(e, f))
@@ -75,7 +81,8 @@ pub fn sum(steps: &mut Steps, e: TermId, f: TermId) -> Result<TermId, NoMemory>
 pub fn difference(steps: &mut Steps, e: TermId, f: TermId) -> Result<TermId, NoMemory>
     requires first { e.0 < length steps.old.nodes }
     requires second { f.0 < length steps.old.nodes }
-    ensures { IfOk result (λ id. HasTerm steps.old steps.new id
+    ensures keeps { Keeps steps.old steps.new }
+    ensures term { IfOk result (λ id. HasTerm steps.old steps.new id
         (subtraction (tree_of steps.old.nodes e) (tree_of steps.old.nodes f))) }
 {
     intern(steps, Node::Sub(e, f))
@@ -85,7 +92,8 @@ pub fn difference(steps: &mut Steps, e: TermId, f: TermId) -> Result<TermId, NoM
 pub fn product(steps: &mut Steps, e: TermId, f: TermId) -> Result<TermId, NoMemory>
     requires first { e.0 < length steps.old.nodes }
     requires second { f.0 < length steps.old.nodes }
-    ensures { IfOk result (λ id. HasTerm steps.old steps.new id
+    ensures keeps { Keeps steps.old steps.new }
+    ensures term { IfOk result (λ id. HasTerm steps.old steps.new id
         (multiplication (tree_of steps.old.nodes e) (tree_of steps.old.nodes f))) }
 {
     intern(steps, Node::Mul(e, f))
@@ -99,7 +107,8 @@ fn parallel(
     c: PointId,
     d: PointId,
 ) -> Result<TermId, NoMemory>
-    ensures { IfOk result (λ id. HasTerm steps.old steps.new id (parallel_term a.0 b.0 c.0 d.0)) }
+    ensures keeps { Keeps steps.old steps.new }
+    ensures term { IfOk result (λ id. HasTerm steps.old steps.new id (parallel_term a.0 b.0 c.0 d.0)) }
 {
     let first = area(steps, a, c, d)?;
     let second = area(steps, b, c, d)?;
@@ -114,7 +123,8 @@ pub fn perpendicular(
     c: PointId,
     d: PointId,
 ) -> Result<TermId, NoMemory>
-    ensures { IfOk result (λ id. HasTerm steps.old steps.new id
+    ensures keeps { Keeps steps.old steps.new }
+    ensures term { IfOk result (λ id. HasTerm steps.old steps.new id
         (subtraction (pythagoras_of a.0 c.0 d.0) (pythagoras_of b.0 c.0 d.0))) }
 {
     let first = pythagoras(steps, a, c, d)?;
@@ -130,7 +140,8 @@ pub fn same_length(
     c: PointId,
     d: PointId,
 ) -> Result<TermId, NoMemory>
-    ensures { IfOk result (λ id. HasTerm steps.old steps.new id
+    ensures keeps { Keeps steps.old steps.new }
+    ensures term { IfOk result (λ id. HasTerm steps.old steps.new id
         (subtraction (pythagoras_of a.0 b.0 a.0) (pythagoras_of c.0 d.0 c.0))) }
 {
     let first = pythagoras(steps, a, b, a)?;
@@ -146,7 +157,8 @@ fn harmonic(
     c: PointId,
     d: PointId,
 ) -> Result<TermId, NoMemory>
-    ensures { IfOk result (λ id. HasTerm steps.old steps.new id
+    ensures keeps { Keeps steps.old steps.new }
+    ensures term { IfOk result (λ id. HasTerm steps.old steps.new id
         (subtraction (ratio_of a.0 c.0 c.0 b.0) (ratio_of a.0 d.0 b.0 d.0))) }
 {
     let first = ratio(steps, a, c, c, b)?;
@@ -156,7 +168,8 @@ fn harmonic(
 
 // 2 P_AMA.
 fn twice_square(steps: &mut Steps, a: PointId, m: PointId) -> Result<TermId, NoMemory>
-    ensures { IfOk result (λ id. HasTerm steps.old steps.new id
+    ensures keeps { Keeps steps.old steps.new }
+    ensures term { IfOk result (λ id. HasTerm steps.old steps.new id
         (multiplication (integer_leaf (pos 2)) (pythagoras_of a.0 m.0 a.0))) }
 {
     let first = two(steps)?;
@@ -166,7 +179,8 @@ fn twice_square(steps: &mut Steps, a: PointId, m: PointId) -> Result<TermId, NoM
 
 // 2 P_AMA + 2 P_BMB.
 fn twice_squares(steps: &mut Steps, m: PointId, a: PointId, b: PointId) -> Result<TermId, NoMemory>
-    ensures { IfOk result (λ id. HasTerm steps.old steps.new id
+    ensures keeps { Keeps steps.old steps.new }
+    ensures term { IfOk result (λ id. HasTerm steps.old steps.new id
         (addition (multiplication (integer_leaf (pos 2)) (pythagoras_of a.0 m.0 a.0))
         (multiplication (integer_leaf (pos 2)) (pythagoras_of b.0 m.0 b.0)))) }
 {
@@ -177,7 +191,8 @@ fn twice_squares(steps: &mut Steps, m: PointId, a: PointId, b: PointId) -> Resul
 
 /// `2 P_AMA + 2 P_BMB - P_ABA`.
 pub fn midpoint(steps: &mut Steps, m: PointId, a: PointId, b: PointId) -> Result<TermId, NoMemory>
-    ensures { IfOk result (λ id. HasTerm steps.old steps.new id (midpoint_term m.0 a.0 b.0)) }
+    ensures keeps { Keeps steps.old steps.new }
+    ensures term { IfOk result (λ id. HasTerm steps.old steps.new id (midpoint_term m.0 a.0 b.0)) }
 {
     let first = twice_squares(steps, m, a, b)?;
     let second = pythagoras(steps, a, b, a)?;
@@ -192,7 +207,8 @@ fn area_first(
     c: PointId,
     d: PointId,
 ) -> Result<TermId, NoMemory>
-    ensures { IfOk result (λ id. HasTerm steps.old steps.new id
+    ensures keeps { Keeps steps.old steps.new }
+    ensures term { IfOk result (λ id. HasTerm steps.old steps.new id
         (multiplication (area_of c.0 a.0 d.0) (pythagoras_of c.0 b.0 d.0))) }
 {
     let first = area(steps, c, a, d)?;
@@ -208,7 +224,8 @@ fn area_second(
     c: PointId,
     d: PointId,
 ) -> Result<TermId, NoMemory>
-    ensures { IfOk result (λ id. HasTerm steps.old steps.new id
+    ensures keeps { Keeps steps.old steps.new }
+    ensures term { IfOk result (λ id. HasTerm steps.old steps.new id
         (multiplication (pythagoras_of c.0 a.0 d.0) (area_of c.0 b.0 d.0))) }
 {
     let first = pythagoras(steps, c, a, d)?;
@@ -224,7 +241,8 @@ fn concyclic(
     c: PointId,
     d: PointId,
 ) -> Result<TermId, NoMemory>
-    ensures { IfOk result (λ id. HasTerm steps.old steps.new id (circle_term a.0 b.0 c.0 d.0)) }
+    ensures keeps { Keeps steps.old steps.new }
+    ensures term { IfOk result (λ id. HasTerm steps.old steps.new id (circle_term a.0 b.0 c.0 d.0)) }
 {
     let first = area_first(steps, a, b, c, d)?;
     let second = area_second(steps, a, b, c, d)?;
@@ -234,7 +252,8 @@ fn concyclic(
 /// The index of a condition's or a goal's term, which is added where it is new.
 pub fn intern_item(steps: &mut Steps, term: ItemTerm) -> Result<TermId, NoMemory>
     requires { IsItemStored steps.old.nodes term }
-    ensures { IfOk result (λ id. HasTerm steps.old steps.new id (item_tree steps.old.nodes term)) }
+    ensures keeps { Keeps steps.old steps.new }
+    ensures term { IfOk result (λ id. HasTerm steps.old steps.new id (item_tree steps.old.nodes term)) }
 {
     match term {
         ItemTerm::Square { a, b } => pythagoras(steps, a, b, a),

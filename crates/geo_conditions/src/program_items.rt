@@ -1,6 +1,6 @@
 //! The conditions and goals of a lowered program, with their texts, terms and lines.
 
-ghost use Rattle.std.specs.Prelude.{IfOk, OnOk, map};
+ghost use Rattle.std.specs.Prelude.{IfOk, map};
 ghost use Rattle.std.specs.List.{AllByRecursion};
 ghost use Rattle.geo_program.specs.Programs.{source_of};
 ghost use Rattle.geo_terms.specs.Stores.{IsStore};
@@ -41,7 +41,7 @@ fn make_items(
     requires ratios { AllByRecursion (IsPrintableGoal printer.now.names printer.now.terms.now)
         ratios.now }
     requires placed { ArePlaced printer.now.terms.now steps.old.nodes places.now }
-    ensures keeps { OnOk result (Keeps steps.old steps.new) }
+    ensures keeps { Keeps steps.old steps.new }
     ensures conditions { IfOk result (λ both. AreItems steps.new.nodes both.0
         (map (condition_item_form printer.now.names printer.now.terms.now
         (places_layout places.now)) rows.now)) }
@@ -63,7 +63,7 @@ pub fn list_items(
     lines: &Lines,
     params: &Params,
 ) -> Result<(Conditions, Goals), NoMemory>
-    ensures keeps { OnOk result (Keeps steps.old steps.new) }
+    ensures keeps { Keeps steps.old steps.new }
     ensures conditions { (version : Version)
         → HasPlaces version program.now.commands points.now lines.now params.now
         → IfOk result (λ both.

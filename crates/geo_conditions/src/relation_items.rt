@@ -7,6 +7,7 @@ ghost use Rattle.geo_lowering.specs.Lowering.{point_places};
 ghost use Rattle.geo_lowering.specs.declared.version.Version.{Version};
 ghost use Rattle.geo_terms.specs.Stores.{IsStore};
 ghost use Rattle.geo_conditions.specs.Inner.ItemForms.{IsPrintableGoal};
+ghost use Rattle.geo_conditions.specs.Inner.ItemTerms.{Keeps};
 ghost use Rattle.geo_conditions.specs.Lists.{goal_item, item_form};
 
 use crate::interning::intern_item;
@@ -31,6 +32,7 @@ pub fn relation_item(
     requires relation { IsRelation statement }
     requires store { IsStore printer.now.terms.now }
     requires printable { IsPrintableGoal printer.now.names printer.now.terms.now statement }
+    ensures keeps { Keeps terms.old terms.new }
     ensures stored { IfOk result (λ item. item.term.0 < length terms.new.nodes) }
     ensures item { (version : Version) (p : Source)
         → p.names ≡ printer.now.names → p.nodes ≡ printer.now.terms.now

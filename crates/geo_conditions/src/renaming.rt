@@ -1,6 +1,6 @@
 //! The terms of a program over the points and numbers of its lowered form.
 
-ghost use Rattle.std.specs.Prelude.{◌≡◌, ◌<◌, IfOk, OnOk, length, map, slice_index_or};
+ghost use Rattle.std.specs.Prelude.{◌≡◌, ◌<◌, IfOk, length, map, slice_index_or};
 ghost use Rattle.geo_terms.specs.Stores.{HasChildrenBelow};
 ghost use Rattle.geo_lowering.specs.Inner.Renaming.{AreRenamed, renamed_node};
 ghost use Rattle.geo_conditions.specs.Inner.ItemTerms.{Keeps, terms_layout};
@@ -70,7 +70,7 @@ pub fn rename_terms(
     points: &[PointId],
     params: &[ParamId],
 ) -> Result<Vec<TermId>, NoMemory>
-    ensures keeps { OnOk result (Keeps steps.old steps.new) }
+    ensures keeps { Keeps steps.old steps.new }
     ensures count { IfOk result (λ items. length items.items ≡ length terms.now) }
     ensures renamed { IfOk result (λ items.
         AreRenamed (terms_layout points.now params.now) terms.now steps.new.nodes items.items) }

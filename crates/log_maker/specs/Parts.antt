@@ -9,7 +9,6 @@ use Rattle.geo_terms.specs.Stores.{Store}
 use Rattle.geo_terms.specs.TermBounds.{IsTermBelow}
 use Rattle.geo_terms.specs.Trees.{Tree}
 use Rattle.proof_log.specs.declared.log.Line.{Line}
-use Rattle.proof_log.specs.declared.log.Line.TheVariants.{Start, Ratio, Point, Coords, Cut}
 use Rattle.proof_log.specs.declared.log.Verdict.{Verdict}
 use Rattle.geo_logs.specs.Chains.{ChainStep, line_of}
 use Rattle.geo_logs.specs.Ends.{comes, text_length}
@@ -95,16 +94,6 @@ CanWrite frame c part size =
     (lines : List Line) (place : Place) (line : Line) → part.begun lines place → IsNextIn frame c place (comes line)
     → Fits (with_text size (text_length lines))
     → IsTakable size line
-
--- LINES
--- the polynomial of a line
-abbrev pub polynomial_on : Line → Option Summands
-polynomial_on (Start q) = Some q
-polynomial_on (Ratio v lemma at q) = Some q
-polynomial_on (Point at q) = Some q
-polynomial_on (Coords q) = Some q
-polynomial_on (Cut by q) = Some q
-polynomial_on _ = None
 
 -- ITEMS
 -- listed items as a log takes them

@@ -15,7 +15,7 @@ ghost use Rattle.log_maker.specs.InFrame.{IsNextLineIn};
 ghost use Rattle.log_maker.specs.Sizes.{IsTakable};
 ghost use Rattle.log_maker.specs.Halting.{Halts, IsStopAnswered, WorksChain, WorksSteps};
 ghost use Rattle.log_maker.specs.Parts.{CanWrite, IsInside, chain_part};
-ghost use Rattle.log_maker.specs.Parts.{here_part, polynomial_on, steps_part};
+ghost use Rattle.log_maker.specs.Parts.{here_part, steps_part};
 ghost use Rattle.log_maker.specs.Written.{IsUnwritten, Writes, state};
 
 use crate::errors::ProveError;
@@ -147,7 +147,7 @@ fn write_start<K: Sink>(
 {
     let line = Line::Start(first);
     log.write(alloc, sink, &line)?;
-    match polynomial_of(line) {
+    match line.into_polynomial() {
         Some(first) => Ok(first),
         None => unreachable!(),
     }
@@ -185,7 +185,7 @@ fn work_steps<K: Sink>(
             alloc, frame, steps, known, numbers, &last, budget, log, sink,
         )?;
         log.write(alloc, sink, &line)?;
-        match polynomial_of(line) {
+        match line.into_polynomial() {
             Some(poly) => last = poly,
             None => return Ok(last),
         }
@@ -219,20 +219,6 @@ fn line_after<K: Sink>(
     match next_line_known(alloc, steps, numbers, last, known, budget) {
         Ok(line) => Ok(frame.framed(alloc, line)?),
         Err(error) => Err(stopped(alloc, error, log, sink)),
-    }
-}
-
-/// The polynomial of a line, if it has one.
-fn polynomial_of(line: Line) -> Option<Poly>
-    ensures { result ≡ polynomial_on line }
-{
-    match line {
-        Line::Start(poly) => Some(poly),
-        Line::Ratio { poly, .. } => Some(poly),
-        Line::Point { poly, .. } => Some(poly),
-        Line::Coords(poly) => Some(poly),
-        Line::Cut { poly, .. } => Some(poly),
-        _ => None,
     }
 }
 

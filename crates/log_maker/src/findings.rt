@@ -39,7 +39,10 @@ impl Findings {
         ensures known { OnOk result
             (self.new.known ≡ self.old.known ++ cons_option chain.variable []) }
         ensures ends { OnOk result (self.new.ends ≡ self.old.ends ++ chain.end ∷ []) }
+        ensures known_stay { OnErr result (self.new.known ≡ self.old.known) }
+        ensures ends_stay { OnErr result (self.new.ends ≡ self.old.ends) }
     {
+        self.ends.items.reserve(1)?;
         if let Some(variable) = chain.variable {
             self.known.items.push(variable)?;
         }

@@ -49,6 +49,12 @@ pub record IsConditionList (nodes : Store) (list : ConditionList) : Type 0 where
   pub kept : AllByRecursion (λ i. IsKept nodes i.condition) list.items.items
   pub walked : AllByRecursion (λ e. AreListed nodes list.items.items (expression_conditions (tree_of nodes e))) list.walked.keys
 
+-- the same conditions, and the same terms
+pub record IsSameList (old new : ConditionList) : Type 0 where
+  pub items : new.items.items ≡ old.items.items
+  pub known : new.known.keys ≡ old.known.keys
+  pub walked : new.walked.keys ≡ old.walked.keys
+
 -- the list has these conditions more, each once and only where it was not there
 pub record Lists (nodes : Store) (old new : ConditionList) (found : List Found) : Type 0 where
   pub valid : IsConditionList nodes new

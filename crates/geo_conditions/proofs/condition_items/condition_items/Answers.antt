@@ -25,7 +25,7 @@ loop-condition-preserved c =
     let form = condition_item_form c.args.printer.now.names c.args.printer.now.terms.now (places_layout c.args.places.now) in
     let next = c.condition_item.new.steps in
     let item = c.in_ok-condition_item.field-0 in
-    let more = more_items l.steps next l.items.items (map form (take l.condition-index c.args.listed.now)) item _ l.invariant.items c.in_ok-condition_item.ensures in
+    let more = more_items l.steps next l.items.items (map form (take l.condition-index c.args.listed.now)) item _ l.invariant.items c.in_ok-condition_item.ensures.item in
     record {
       keeps = keeps_both c.args.steps.now l.steps next l.invariant.keeps c.in_ok-condition_item.ensures.keeps;
       items = subst₂ (λ (items : List Item) (forms : List ItemForm). AreItems next.nodes items forms) (sym c.in_ok-push.ensures.items)

@@ -1,6 +1,6 @@
 use Rattle.std.proofs.Common.{List, suc, ◌+◌, length, map, sym, ap, ◌∙◌, subst, ◌≤◌, ◌≡◌, add-one}
 use Rattle.std.specs.List.{AllByRecursion}
-use Rattle.std.proofs.lemmas.Result.{IfOk-weaker, on_ok_weaker}
+use Rattle.std.proofs.lemmas.Result.{IfOk-weaker}
 use Rattle.geo_points.specs.declared.ids.ParamId.{ParamId}
 use Rattle.geo_points.specs.declared.ids.PointId.{PointId}
 use Rattle.geo_points.specs.declared.ids.TermId.{TermId}
@@ -71,8 +71,7 @@ make_items-requires-clause-placed c =
     (subst (λ (ids : List TermId). AreRenamed (terms_layout places.points.now places.params.now) p.nodes nodes ids) (sym c.as_slice-terms.ensures.value) c.in_ok-renamed.ensures.renamed))
 
 pub returns-clause-keeps : goal.returns-clause-keeps
-returns-clause-keeps c =
-    on_ok_weaker c.make_items.result (λ k. keeps_both c.args.steps.now c.rename_terms.new.steps c.make_items.new.steps c.in_ok-renamed.ensures.keeps k) c.make_items.ensures.keeps
+returns-clause-keeps c = keeps_both c.args.steps.now c.rename_terms.new.steps c.make_items.new.steps c.in_ok-renamed.ensures.keeps c.make_items.ensures.keeps
 
 pub returns-clause-conditions : goal.returns-clause-conditions
 returns-clause-conditions c = λ version has.

@@ -8,7 +8,8 @@ use Rattle.geo_terms.specs.Stores.{tree_of}
 use Rattle.proof_log.specs.declared.log.Line.TheVariants.{Start}
 use Rattle.log_maker.specs.Parts.{chain_part, here_part, steps_part}
 use Rattle.log_maker.specs.Written.{Writes, state}
-use Rattle.log_maker.proofs.Chaining.{at_header, at_start, past_start, start_points, works_chain}
+use Rattle.geo_logs.proofs.NamedPoints.{start_points}
+use Rattle.log_maker.proofs.Chaining.{at_header, at_start, past_start, works_chain}
 use Rattle.log_maker.proofs.Framing.{line_due, start_due}
 use Rattle.log_maker.proofs.Handing.{if_err}
 use Rattle.log_maker.proofs.Passing.{can_write_on, halts_on, unwritten_here, write_here, writes_more, writes_nothing}

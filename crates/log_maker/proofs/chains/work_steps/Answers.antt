@@ -2,7 +2,8 @@ use Rattle.std.proofs.Common.{sym, subst}
 use Rattle.geo_logs.specs.Places.{in_chain}
 use Rattle.log_maker.specs.Parts.{here_part, steps_part}
 use Rattle.log_maker.specs.Written.{state}
-use Rattle.log_maker.proofs.Chaining.{IsUnderWay, begins, ends, goes_on, line_comes, line_points, stands_at}
+use Rattle.geo_chain.proofs.KeptPoints.{line_points}
+use Rattle.log_maker.proofs.Chaining.{IsUnderWay, begins, ends, goes_on, line_comes, stands_at}
 use Rattle.log_maker.proofs.Handing.{if_err}
 use Rattle.log_maker.proofs.Passing.{halts_on, unwritten_here, write_here, writes_nothing}
 use Rattle.log_maker.proofs.chains.work_steps.Goals as goal

@@ -59,7 +59,7 @@ list_parts-returns-in-R t c =
     let nodes = c.args.terms.now in
     let is = unfolds nodes c.requires.list.store c.args.e c.requires.braces (node.R c.in-R.field-0 c.in-R.field-1 c.in-R.c c.in-R.d) c.in-R.ensures in
     on_ok_weaker c.add.result
-    (λ one. lists_tree nodes c.args.self.now c.add.new.self c.args.line c.args.e (ratio_leaf c.in-R.field-0 c.in-R.field-1 c.in-R.c c.in-R.d) is one) c.add.ensures
+    (λ one. lists_tree nodes c.args.self.now c.add.new.self c.args.line c.args.e (ratio_leaf c.in-R.field-0 c.in-R.field-1 c.in-R.c c.in-R.d) is one) c.add.ensures.lists
 
 pub list_parts-returns-in-Neg : goal.list_parts-returns-in-Neg
 list_parts-returns-in-Neg t c =

@@ -23,4 +23,4 @@ returns-else-is_nonzero_number c =
     ap divisor_conditions is ∙ c.is_nonzero_number.ensures (trees_of nodes) ∙ ap (λ b. if b then [] else nonzero (node_tree (trees_of nodes) c.node.result) ∷ []) c.if-is_nonzero_number.false
     ∙ ap (λ t. nonzero t ∷ []) (sym is) in
     on_ok_weaker c.add.result (λ (h : Lists nodes c.args.self.now c.add.new.self (found_at c.args.line (nonzero (tree_of nodes c.args.e) ∷ []))).
-    subst (λ (cs : List Condition). Lists nodes c.args.self.now c.add.new.self (found_at c.args.line cs)) (sym one) h) c.add.ensures
+    subst (λ (cs : List Condition). Lists nodes c.args.self.now c.add.new.self (found_at c.args.line cs)) (sym one) h) c.add.ensures.lists
