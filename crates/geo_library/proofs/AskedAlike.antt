@@ -81,33 +81,7 @@ seen f = elim f.condition [ None ↦ seen_by f.word f.points f.arguments | Some 
 
 seen-is : (nodes : Store) (c : Command) → seen (command_form nodes c) ≡ sight nodes c
 seen-is nodes Point = refl
-seen-is nodes Param = refl
-seen-is nodes (Line a b) = refl
-seen-is nodes (Parallel p b) = refl
-seen-is nodes (Perp p b) = refl
-seen-is nodes (Med a b) = refl
-seen-is nodes (Intersec a b) = refl
-seen-is nodes (Inter a b c d) = refl
-seen-is nodes (Foot p a b) = refl
-seen-is nodes (Pratio w u v r) = refl
-seen-is nodes (Tratio u v r) = refl
-seen-is nodes (Online a b) = refl
-seen-is nodes (Lratio a b r) = refl
-seen-is nodes (Midpoint a b) = refl
-seen-is nodes (Translate a b c) = refl
-seen-is nodes (Symmetric a o) = refl
-seen-is nodes (Reflect a p q) = refl
-seen-is nodes (Circumcenter a b c) = refl
-seen-is nodes (Orthocenter a b c) = refl
-seen-is nodes (Centroid a b c) = refl
-seen-is nodes (Oncircle o a) = refl
-seen-is nodes (Second a b o) = refl
-seen-is nodes (Cc o p a) = refl
-seen-is nodes (Inverse p o a) = refl
-seen-is nodes (Weights a b c r s) = refl
-seen-is nodes (AssumeDifferent a b) = refl
-seen-is nodes (AssumeNotCollinear a b c) = refl
-seen-is nodes (AssumeNotParallel a b c d) = refl
+seen-is nodes _ = refl
 
 same_sight : (np nq : Store) (c d : Command) → command_form np c ≡ command_form nq d → sight np c ≡ sight nq d
 same_sight np nq c d e = sym (seen-is np c) ∙ ap seen e ∙ seen-is nq d

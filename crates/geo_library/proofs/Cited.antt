@@ -59,7 +59,7 @@ use Rattle.geo_library.specs.Instances.{statement_text}
 use Rattle.geo_library.specs.Laws.{IsZeroOver, ZeroGoalsCite}
 use Rattle.geo_library.specs.Renamings.{Renaming, given_names, image, places_in}
 use Rattle.geo_library.proofs.CommandGoals.{AreZero, MayOwn, command_met}
-use Rattle.geo_library.proofs.ConditionTexts.{IsOverNames, same, same_lexemes}
+use Rattle.geo_conditions.proofs.Texts.{IsOverNames, same, same_lexemes}
 use Rattle.geo_library.proofs.Given.{declared_scope, maps_into, names_images}
 use Rattle.geo_library.proofs.GoalScopes.{OnNumber, goals_over, goals_valued, lines_kept}
 use Rattle.geo_library.proofs.Images.{MapsInto, NamesImages, arguments_over, image_arguments_are, image_condition, image_condition_text}

@@ -15,6 +15,7 @@ use Rattle.geo_terms.specs.TermBounds.{IsTermBelow}
 use Rattle.geo_terms.specs.Trees.{Tree}
 use Rattle.proof_log.specs.declared.log.Line.{Line}
 use Rattle.proof_log.specs.declared.log.Line.TheVariants as line
+use Rattle.proof_log.specs.Steps.{polynomial_on}
 use Rattle.elim_apply.specs.LemmaTable.{lemma_table}
 use Rattle.elim_apply.specs.declared.errors.ApplyError.{ApplyError}
 use Rattle.elim_apply.specs.declared.errors.ApplyError.TheVariants as apply
@@ -29,47 +30,8 @@ use Rattle.geo_logs.specs.Starts.{IsStarted, start_charge, start_of}
 use Rattle.geo_logs.proofs.TermVariables.{term_sound}
 use Rattle.geo_library.specs.declared.errors.CiteError.{CiteError}
 use Rattle.geo_library.specs.declared.errors.CiteError.TheVariants as cite
-use Rattle.geo_library.specs.Inner.Counting.{AreStepsStopped, AreStepsWorked, IsChainHalted, IsChainWorked, IsStopAt, TellsStop, error_of_stop, polynomial_on}
+use Rattle.geo_library.specs.Inner.Counting.{AreStepsStopped, AreStepsWorked, IsChainHalted, IsChainWorked, IsStopAt, TellsStop, error_of_stop}
 use Rattle.geo_library.specs.Working.{counted_header}
-
--- VARIABLES
-module _ (Strong Weak : Var → Type 0) (weaker : (v : Var) → Strong v → Weak v) where
-  each_key : (m : Powers) → AllKeys Strong m → AllKeys Weak m
-  each_key [] h = tt
-  each_key (p ∷ m) h = (weaker p.0 h.0, each_key m h.1)
-
-  each_variable : (q : Summands) → AllVariables Strong q → AllVariables Weak q
-  each_variable [] h = tt
-  each_variable (t ∷ q) h = (each_key t.0 h.0, each_variable q h.1)
-
-named_points : (c : Construction) (n : ℕ) (v : Var) → IsNamed c n v → HasPointsBelow n v
-named_points c n (R a b d e) h = h
-named_points c n (S a b d) h = h
-named_points c n (P a b d) h = h
-named_points c n (X a) h = h.0
-named_points c n (Y a) h = h.0
-named_points c n (T t) h = tt
-
--- the start of a term names points of the construction
-pub start_points : (c : Construction) (e : Tree) → IsTermBelow (length c.steps) c.params e → AllVariables (HasPointsBelow (length c.steps)) (start_of e)
-start_points c e h = each_variable (IsNamed c (length c.steps)) (HasPointsBelow (length c.steps)) (named_points c (length c.steps)) (start_of e) ((term_sound c e).named (length c.steps) h)
-
--- so does the polynomial of the next line
-pub line_points : (n : ℕ) (l : Line) (q : Summands) → polynomial_on l ≡ Some q → HasLinePointsBelow n l → AllVariables (HasPointsBelow n) q
-line_points n (line.Start r) q e h = let same : r ≡ q = cc in subst (AllVariables (HasPointsBelow n)) same h
-line_points n (line.Ratio v lemma at r) q e h = let same : r ≡ q = cc in subst (AllVariables (HasPointsBelow n)) same h
-line_points n (line.Point at r) q e h = let same : r ≡ q = cc in subst (AllVariables (HasPointsBelow n)) same h
-line_points n (line.Coords r) q e h = let same : r ≡ q = cc in subst (AllVariables (HasPointsBelow n)) same h
-line_points n (line.Cut by r) q e h = let same : r ≡ q = cc in subst (AllVariables (HasPointsBelow n)) same h
-line_points n (line.Header v) q e h = absurd (let f : ⊥ = cc in f)
-line_points n (line.Program t) q e h = absurd (let f : ⊥ = cc in f)
-line_points n (line.Condition k t) q e h = absurd (let f : ⊥ = cc in f)
-line_points n (line.Goal k t) q e h = absurd (let f : ⊥ = cc in f)
-line_points n line.End q e h = absurd (let f : ⊥ = cc in f)
-line_points n (line.Sample vs) q e h = absurd (let f : ⊥ = cc in f)
-line_points n (line.Verdict v) q e h = absurd (let f : ⊥ = cc in f)
-line_points n (line.StopTooLarge m w) q e h = absurd (let f : ⊥ = cc in f)
-line_points n (line.StopSpent m) q e h = absurd (let f : ⊥ = cc in f)
 
 -- STOPS
 -- the error of a stop at its place

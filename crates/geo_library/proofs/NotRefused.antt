@@ -46,33 +46,7 @@ lines_seen f = if is_made kind.Line f.made then true else takes_line f.arguments
 
 pub lines-are : (nodes : Store) (c : Command) → lines_seen (command_form nodes c) ≡ has_lines c
 lines-are nodes Point = refl
-lines-are nodes Param = refl
-lines-are nodes (Line a b) = refl
-lines-are nodes (Parallel p b) = refl
-lines-are nodes (Perp p b) = refl
-lines-are nodes (Med a b) = refl
-lines-are nodes (Intersec a b) = refl
-lines-are nodes (Inter a b c d) = refl
-lines-are nodes (Foot p a b) = refl
-lines-are nodes (Pratio w u v r) = refl
-lines-are nodes (Tratio u v r) = refl
-lines-are nodes (Online a b) = refl
-lines-are nodes (Lratio a b r) = refl
-lines-are nodes (Midpoint a b) = refl
-lines-are nodes (Translate a b c) = refl
-lines-are nodes (Symmetric a o) = refl
-lines-are nodes (Reflect a p q) = refl
-lines-are nodes (Circumcenter a b c) = refl
-lines-are nodes (Orthocenter a b c) = refl
-lines-are nodes (Centroid a b c) = refl
-lines-are nodes (Oncircle o a) = refl
-lines-are nodes (Second a b o) = refl
-lines-are nodes (Cc o p a) = refl
-lines-are nodes (Inverse p o a) = refl
-lines-are nodes (Weights a b c r s) = refl
-lines-are nodes (AssumeDifferent a b) = refl
-lines-are nodes (AssumeNotCollinear a b c) = refl
-lines-are nodes (AssumeNotParallel a b c d) = refl
+lines-are nodes _ = refl
 
 abbrev pub NoLines : List Command → Type 0
 NoLines cs = AllByRecursion (λ c. has_lines c ≡ false) cs

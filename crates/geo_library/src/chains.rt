@@ -12,7 +12,7 @@ ghost use Rattle.geo_terms.specs.Stores.{tree_of};
 ghost use Rattle.geo_terms.specs.TermBounds.{IsTermBelow};
 ghost use Rattle.geo_library.specs.Inner.Counting.{AreStepsStopped, AreStepsWorked};
 ghost use Rattle.geo_library.specs.Inner.Counting.{IsChainHalted, IsChainWorked, IsStopAt};
-ghost use Rattle.geo_library.specs.Inner.Counting.{TellsStop, error_of_stop, polynomial_on};
+ghost use Rattle.geo_library.specs.Inner.Counting.{TellsStop, error_of_stop};
 
 use crate::errors::CiteError;
 use elim_apply::{ApplyError, KnownRows, start};
@@ -120,7 +120,7 @@ fn work_steps(
     let mut last = first;
     loop {
         let line = line_after(alloc, steps, known, numbers, &last, now)?;
-        match polynomial_of(line) {
+        match line.into_polynomial() {
             Some(poly) => last = poly,
             None => return Ok(last),
         }
@@ -152,20 +152,6 @@ fn line_after(
     match next_line_known(alloc, steps, numbers, last, known, &mut now.budget) {
         Ok(line) => Ok(line),
         Err(error) => Err(stopped(error, number)),
-    }
-}
-
-/// The polynomial of a line, if it has one.
-fn polynomial_of(line: Line) -> Option<Poly>
-    ensures { result ≡ polynomial_on line }
-{
-    match line {
-        Line::Start(poly) => Some(poly),
-        Line::Ratio { poly, .. } => Some(poly),
-        Line::Point { poly, .. } => Some(poly),
-        Line::Coords(poly) => Some(poly),
-        Line::Cut { poly, .. } => Some(poly),
-        _ => None,
     }
 }
 

@@ -5,7 +5,6 @@ use Rattle.geo_poly.specs.Polynomials.{Summands}
 use Rattle.geo_terms.specs.Constructions.{Construction}
 use Rattle.geo_terms.specs.Trees.{Tree}
 use Rattle.proof_log.specs.declared.log.Line.{Line}
-use Rattle.proof_log.specs.declared.log.Line.TheVariants.{Start, Ratio, Point, Coords, Cut}
 use Rattle.elim_apply.specs.LemmaTable.{lemma_table}
 use Rattle.elim_apply.specs.declared.errors.ApplyError.{ApplyError}
 use Rattle.elim_apply.specs.declared.errors.ApplyError.TheVariants as apply
@@ -18,15 +17,6 @@ use Rattle.geo_logs.specs.Samples.{IsLeastSample}
 use Rattle.geo_library.specs.declared.errors.CiteError.{CiteError}
 use Rattle.geo_library.specs.declared.errors.CiteError.TheVariants as cite
 use Rattle.geo_library.specs.Working.{counted_header}
-
--- the polynomial on a line, if it has one
-abbrev pub polynomial_on : Line → Option Summands
-polynomial_on (Start q) = Some q
-polynomial_on (Ratio v lemma at q) = Some q
-polynomial_on (Point at q) = Some q
-polynomial_on (Coords q) = Some q
-polynomial_on (Cut by q) = Some q
-polynomial_on _ = None
 
 -- STOPS
 -- the error that a stop at the line of this number is

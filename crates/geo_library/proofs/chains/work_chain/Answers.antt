@@ -7,7 +7,8 @@ use Rattle.geo_poly.specs.PolynomialVariables.{AllVariables}
 use Rattle.geo_terms.specs.Stores.{tree_of}
 use Rattle.log_checker.proofs.PassedOn.{passed_on}
 use Rattle.geo_library.specs.Inner.Counting.{AreStepsStopped, AreStepsWorked, IsChainHalted, IsChainWorked, TellsStop}
-use Rattle.geo_library.proofs.CountedChains.{chain_worked, start_points, stops_first, stops_later}
+use Rattle.geo_logs.proofs.NamedPoints.{start_points}
+use Rattle.geo_library.proofs.CountedChains.{chain_worked, stops_first, stops_later}
 use Rattle.geo_library.proofs.chains.work_chain.Goals as goal
 
 pub returns-in_err-first-clause-err : goal.returns-in_err-first-clause-err

@@ -1,7 +1,8 @@
 use Rattle.std.proofs.Common.{sym, arith}
 use Rattle.log_checker.proofs.PassedOn.{passed_on}
 use Rattle.geo_library.specs.Inner.Counting.{AreStepsStopped, TellsStop}
-use Rattle.geo_library.proofs.CountedChains.{begins, ends, goes_on, line_points, stops_there}
+use Rattle.geo_chain.proofs.KeptPoints.{line_points}
+use Rattle.geo_library.proofs.CountedChains.{begins, ends, goes_on, stops_there}
 use Rattle.geo_library.proofs.chains.work_steps.Goals as goal
 
 pub loop-last-init : goal.loop-last-init
