@@ -37,7 +37,7 @@ use Rattle.area_coords.specs.FreeTable.{area_in_coordinates, difference_in_coord
 use Rattle.elim_apply.specs.LemmaTable.{move_denominator, point_denominator, row_denominator, row_of_move}
 use Rattle.elim_ratio.specs.RatioTable.{end_at, ratio_table, same_line}
 use Rattle.geo_logs.proofs.MoveValues.{one_variable}
-use Rattle.elim_apply.proofs.RowVariables.{quadratic_row, Follows}
+use Rattle.elim_apply.proofs.RowVariables.{quadratic_row, Follows, FollowsFree}
 use Rattle.geo_logs.proofs.TermVariables.{OfLeaves, difference_named, difference_valued, named_leaves, sorted_named, sorted_ratio}
 
 -- NUMBERS OF STEPS
@@ -70,21 +70,23 @@ pub names_follow : (c : Construction) (n : ℕ) → Follows c (λ a. a.0 < n) (I
 names_follow c n = record {
   areas = sorted_named c n;
   differences = difference_named c n;
-  abscissas = λ a lt free. (lt, free);
-  ordinates = λ a lt free. (lt, free);
   numbers = λ y e lt h. named_leaves c n e (number_below y.0 c.params n e lt h);
   earlier = λ y a lt less. omega (arith, lt, less);
 }
+
+pub names_free : (c : Construction) (n : ℕ) → FollowsFree c (λ a. a.0 < n) (IsNamed c n)
+names_free c n = record { abscissas = λ a lt free. (lt, free); ordinates = λ a lt free. (lt, free) }
 
 pub values_follow : (c : Construction) (placed : Placement) → Follows c (λ a. Unit {0}) (HasVariable placed)
 values_follow c placed = record {
   areas = λ a b d g h k. tt;
   differences = λ a b d g h k. difference_valued placed a b d;
-  abscissas = λ a g free. tt;
-  ordinates = λ a g free. tt;
   numbers = λ y e g h. number_valued placed y.0 c.params e h;
   earlier = λ y a g less. tt;
 }
+
+pub values_free : (c : Construction) (placed : Placement) → FollowsFree c (λ a. Unit {0}) (HasVariable placed)
+values_free c placed = record { abscissas = λ a g free. tt; ordinates = λ a g free. tt }
 
 -- LEMMA 3 BRINGS IN A RATIO THAT IS DEFINED
 one_point : (a b : PointId) → eqb a.0 b.0 ≡ true → a ≡ b

@@ -13,6 +13,7 @@ pub mod NumberedRows
 pub mod LineBounds
 pub mod FittingRows
 pub mod FirstRows
+pub mod FoundRows
 pub mod HandedOn
 pub mod SketchedLines
 pub mod AppliedMoves

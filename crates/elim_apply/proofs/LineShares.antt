@@ -14,7 +14,7 @@ use Rattle.geo_poly.specs.Shared.{told, told_powers}
 use Rattle.geo_poly.proofs.Capped.{cap_left, cap_right, denominators-le}
 use Rattle.geo_poly.proofs.Told.{item, told-within, told_at}
 use Rattle.elim_apply.specs.declared.numbered.NumberedRow.{NumberedRow}
-use Rattle.elim_apply.specs.declared.shares.Share.{Share}
+use Rattle.elim_apply.specs.declared.share.Share.{Share}
 use Rattle.elim_apply.specs.Inner.Shares.{HaveShares, IsKeeping, IsReplacing, IsShareOf, IsWithPower}
 use Rattle.elim_apply.specs.Inner.Sketches.{AreKnown, sketched}
 

@@ -13,7 +13,7 @@ use Rattle.geo_poly.specs.Shared.{told, told_powers, told_term}
 use Rattle.geo_poly.proofs.Capped.{cap_left, cap_right}
 use Rattle.geo_poly.proofs.Told.{item, told-drop}
 use Rattle.geo_logs.specs.declared.moves.Replacement.{Replacement}
-use Rattle.elim_apply.specs.declared.shares.Share.{Share}
+use Rattle.elim_apply.specs.declared.share.Share.{Share}
 use Rattle.geo_logs.specs.Moves.{move_charge, term_charge}
 use Rattle.geo_poly.specs.Counted.{count_rows, replaced_exponents}
 use Rattle.elim_apply.specs.Inner.Sizes.{IsSizeOf as HasSize}

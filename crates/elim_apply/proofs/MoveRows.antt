@@ -39,8 +39,8 @@ use Rattle.elim_ratio.specs.RatioTable.{end_at, lemma_row, pythagoras_row, ratio
 use Rattle.geo_logs.specs.Sound.{IsBoundedRow, IsSoundTable, NamesNoLater, TellsValue}
 use Rattle.geo_poly.specs.PolynomialVariables.{AllVariables}
 use Rattle.elim_apply.proofs.FormVariables.{of-form}
-use Rattle.elim_apply.proofs.LemmaTableSound.{both_some, by_own, chained, each_some, move_den, names_follow, some_of, values_follow}
-use Rattle.elim_apply.proofs.RowVariables.{AreSteps, FitsRow, Follows, area_table_fits, difference_table_fits, free_area_fits, free_difference_fits, pythagoras_row_fits, ratio_table_fits, same_point}
+use Rattle.elim_apply.proofs.LemmaTableSound.{both_some, by_own, chained, each_some, move_den, names_follow, names_free, some_of, values_follow, values_free}
+use Rattle.elim_apply.proofs.RowVariables.{AreSteps, FitsRow, Follows, FollowsFree, area_table_fits, difference_table_fits, free_area_fits, free_difference_fits, pythagoras_row_fits, ratio_table_fits, same_point}
 use Rattle.geo_logs.proofs.TermVariables.{ratio_named, sorted_ratio}
 
 module _ (c : Construction) (Good : PointId → Type 0) (Holds : Var → Type 0) (follows : Follows c Good Holds) (steps : AreSteps c Good Holds follows) where
@@ -179,23 +179,24 @@ module _ (c : Construction) (Good : PointId → Type 0) (Holds : Var → Type 0)
   ratio_rows lemma y (Y i) g chain = tt
   ratio_rows lemma y (T t) g chain = tt
 
-  free_rows : (v : Var) → AreGood v → IfSome (free_table c (record { 0 = 0 }) v) (Both None)
-  free_rows (R i j k l) g = tt
-  free_rows (S i j k) g = each_some (free_table c (record { 0 = 0 }) (S i j k)) Fit (Both None) (λ t f. (tt, f)) (free_area_fits c Good Holds follows i j k g.0 g.1 g.2 (record { 0 = 0 }))
-  free_rows (P i j k) g = each_some (free_table c (record { 0 = 0 }) (P i j k)) Fit (Both None) (λ t f. (tt, f)) (free_difference_fits c Good Holds follows i j k g.0 g.1 g.2 (record { 0 = 0 }))
-  free_rows (X i) g = tt
-  free_rows (Y i) g = tt
-  free_rows (T t) g = tt
+  free_rows : FollowsFree c Good Holds → (v : Var) → AreGood v → IfSome (free_table c (record { 0 = 0 }) v) (Both None)
+  free_rows free (R i j k l) g = tt
+  free_rows free (S i j k) g = each_some (free_table c (record { 0 = 0 }) (S i j k)) Fit (Both None) (λ t f. (tt, f)) (free_area_fits c Good Holds follows free i j k g.0 g.1 g.2 (record { 0 = 0 }))
+  free_rows free (P i j k) g = each_some (free_table c (record { 0 = 0 }) (P i j k)) Fit (Both None) (λ t f. (tt, f)) (free_difference_fits c Good Holds follows free i j k g.0 g.1 g.2 (record { 0 = 0 }))
+  free_rows free (X i) g = tt
+  free_rows free (Y i) g = tt
+  free_rows free (T t) g = tt
 
-  pub move_rows : (move : Move) (v : Var) → AreGood v → ChainedBy move v → IfSome (row_of_move c move v) (Both (place_of move))
-  move_rows (Ratio w lemma at) v g chain = by_own c w v lemma at (Both (place_of_lemma lemma at)) (λ own. ratio_rows lemma at v g chain)
-  move_rows (Point y) (S i j k) g chain = area_rows y i j k g.0 g.1 g.2
-  move_rows (Point y) (P i j k) g chain = difference_rows y i j k g.0 g.1 g.2
-  move_rows (Point y) (R i j k l) g chain = tt
-  move_rows (Point y) (X i) g chain = tt
-  move_rows (Point y) (Y i) g chain = tt
-  move_rows (Point y) (T t) g chain = tt
-  move_rows Coords v g chain = free_rows v g
+  -- coordinates come in by the move to them alone
+  pub move_rows : (move : Move) → (move ≡ Coords → FollowsFree c Good Holds) → (v : Var) → AreGood v → ChainedBy move v → IfSome (row_of_move c move v) (Both (place_of move))
+  move_rows (Ratio w lemma at) free v g chain = by_own c w v lemma at (Both (place_of_lemma lemma at)) (λ own. ratio_rows lemma at v g chain)
+  move_rows (Point y) free (S i j k) g chain = area_rows y i j k g.0 g.1 g.2
+  move_rows (Point y) free (P i j k) g chain = difference_rows y i j k g.0 g.1 g.2
+  move_rows (Point y) free (R i j k l) g chain = tt
+  move_rows (Point y) free (X i) g chain = tt
+  move_rows (Point y) free (Y i) g chain = tt
+  move_rows (Point y) free (T t) g chain = tt
+  move_rows Coords free v g chain = free_rows (free refl) v g
 
 -- THE POINTS OF A READ PAIR
 same_end : (i a : PointId) (s t : Bool) → ◌≡◌ {A = Option (PointId × Bool)} (Some (i, s)) (Some (a, t)) → i ≡ a
@@ -313,7 +314,7 @@ module _ (c : Construction) (valid : IsConstruction c) where
   names_no_later : (n : ℕ) (move : Move) (v : Var) (t : TableRow) → row_of_move c move v ≡ Some t → IsNamed c n v → NamesNoLater lemma_table c n move (made_row v t).0
   names_no_later n move v t e named =
       let Q : TableRow → Type 0 = λ t. IsGoodPlace c (λ a. a.0 < n) (IsNamed c n) (names_follow c n) valid.steps (place_of move) × FitsRow c (λ a. a.0 < n) (IsNamed c n) (names_follow c n) t in
-      let fits = some_of (row_of_move c move v) t Q e (move_rows c (λ a. a.0 < n) (IsNamed c n) (names_follow c n) valid.steps move v (named_points n v named) (chain_named n move v named)) in
+      let fits = some_of (row_of_move c move v) t Q e (move_rows c (λ a. a.0 < n) (IsNamed c n) (names_follow c n) valid.steps move (λ e. names_free c n) v (named_points n v named) (chain_named n move v named)) in
       let den : t.den ≡ move_denominator c move = some_of (row_of_move c move v) t (λ t. t.den ≡ move_denominator c move) e (move_den c move v) in
       record {
         place = named_place n (place_of move) fits.0;
@@ -345,7 +346,7 @@ module _ (c : Construction) (valid : IsConstruction c) where
       let Q : TableRow → Type 0 =
       λ t. IsGoodPlace c (λ a. Unit {0}) (HasVariable placed) (values_follow c placed) valid.steps (place_of move) × FitsRow c (λ a. Unit {0}) (HasVariable placed) (values_follow c placed) t in
       let fits = some_of (row_of_move c move v) t Q e
-      (move_rows c (λ a. Unit {0}) (HasVariable placed) (values_follow c placed) valid.steps move v (all_points placed v) (chain_valued placed move v met has)) in
+      (move_rows c (λ a. Unit {0}) (HasVariable placed) (values_follow c placed) valid.steps move (λ e. values_free c placed) v (all_points placed v) (chain_valued placed move v met has)) in
       let den : t.den ≡ move_denominator c move = some_of (row_of_move c move v) t (λ t. t.den ≡ move_denominator c move) e (move_den c move v) in
       let told : RowHolds placed (made_row v t).0 (made_row v t).1 = some_of (row_of_move c move v) t (λ t. RowHolds placed (made_row v t).0 (made_row v t).1) e (row_told c placed move v met has) in
       record {

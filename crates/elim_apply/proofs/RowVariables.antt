@@ -32,14 +32,17 @@ use Rattle.geo_logs.proofs.TermVariables.{OfLeaves, sorted_ratio}
 abbrev pub quadratic_row : Store → Step → PointId → PointId → Option TableRow
 quadratic_row nodes step a b = option_map (step_row nodes step (quadratic_power step)) (quadratic_numerator nodes step a b)
 
--- a property of variables that follows from one of their points: for areas, differences and coordinates of such points, and for the numbers of steps
+-- a property of variables that follows from one of their points: for areas and differences of such points, and for the numbers of steps
 pub record Follows (c : Construction) (Good : PointId → Type 0) (Holds : Var → Type 0) : Type 0 where
   pub areas : (a b d : PointId) → Good a → Good b → Good d → Holds (sorted_area a b d)
   pub differences : (a b d : PointId) → Good a → Good b → Good d → Holds (sorted_difference a b d)
-  pub abscissas : (a : PointId) → Good a → IsFree c a → Holds (X a)
-  pub ordinates : (a : PointId) → Good a → IsFree c a → Holds (Y a)
   pub numbers : (y : PointId) (e : Tree) → Good y → IsStepNumber y.0 c.params e → OfLeaves Holds e
   pub earlier : (y a : PointId) → Good y → a.0 < y.0 → Good a
+
+-- and for the coordinates of free points
+pub record FollowsFree (c : Construction) (Good : PointId → Type 0) (Holds : Var → Type 0) : Type 0 where
+  pub abscissas : (a : PointId) → Good a → IsFree c a → Holds (X a)
+  pub ordinates : (a : PointId) → Good a → IsFree c a → Holds (Y a)
 
 module _ (c : Construction) (Good : PointId → Type 0) (Holds : Var → Type 0) (follows : Follows c Good Holds) where
   abbrev Fits : Form → Type 0
@@ -227,7 +230,7 @@ module _ (c : Construction) (Good : PointId → Type 0) (Holds : Var → Type 0)
       go (Some (Tratio u v r)) e = absurd (let q : ◌≡◌ {A = Bool} false true = e in cc)
       go (Some (Weights o u v r s)) e = absurd (let q : ◌≡◌ {A = Bool} false true = e in cc)
 
-  module _ (i j k : PointId) (I : Good i) (J : Good j) (K : Good k) where
+  module _ (free : FollowsFree c Good Holds) (i j k : PointId) (I : Good i) (J : Good j) (K : Good k) where
     three_fit : (row : TableRow) → (IsFree c i → IsFree c j → IsFree c k → FitsRow row) → IfSome (if is_free c i && is_free c j && is_free c k then Some row else None) FitsRow
     three_fit row fit = go (is_free c i) (is_free c j) (is_free c k) refl refl refl
       where
@@ -241,18 +244,18 @@ module _ (c : Construction) (Good : PointId → Type 0) (Holds : Var → Type 0)
     free_area_fits y =
         three_fit (record { power = 1; num = area_in_coordinates i j k; den = integer 2; charge = 0 })
         (λ fi fj fk.
-        let xi = follows.abscissas i I fi in let yi = follows.ordinates i I fi in
-        let xj = follows.abscissas j J fj in let yj = follows.ordinates j J fj in
-        let xk = follows.abscissas k K fk in let yk = follows.ordinates k K fk in
+        let xi = free.abscissas i I fi in let yi = free.ordinates i I fi in
+        let xj = free.abscissas j J fj in let yj = free.ordinates j J fj in
+        let xk = free.abscissas k K fk in let yk = free.ordinates k K fk in
         record { num = ((((((xi, yj), (xi, yk)), (yi, xj)), (yi, xk)), (xj, yk)), (yj, xk)); den = tt })
 
     pub free_difference_fits : (y : PointId) → IfSome (free_table c y (P i j k)) FitsRow
     free_difference_fits y =
         three_fit (record { power = 0; num = difference_in_coordinates i j k; den = integer 2; charge = 0 })
         (λ fi fj fk.
-        let xi = follows.abscissas i I fi in let yi = follows.ordinates i I fi in
-        let xj = follows.abscissas j J fj in let yj = follows.ordinates j J fj in
-        let xk = follows.abscissas k K fk in let yk = follows.ordinates k K fk in
+        let xi = free.abscissas i I fi in let yi = free.ordinates i I fi in
+        let xj = free.abscissas j J fj in let yj = free.ordinates j J fj in
+        let xk = free.abscissas k K fk in let yk = free.ordinates k K fk in
         record { num = (tt, ((((((((xi, xk), (xi, xj)), (xj, xk)), (xj, xj)), (yi, yk)), (yi, yj)), (yj, yk)), (yj, yj))); den = tt })
 
   -- RATIOS

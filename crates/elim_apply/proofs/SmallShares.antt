@@ -6,7 +6,7 @@ use Rattle.geo_poly.specs.declared.variables.Var.{Var}
 use Rattle.geo_poly.specs.Counted.{count_row, count_rows, exponent_row, replaced_exponents}
 use Rattle.geo_poly.specs.Monomials.{Powers, degree_of}
 use Rattle.geo_poly.specs.Replace.{degree_row, degree_rows, denominators, kept, others, power_in, row_of, weight_row, weight_rows}
-use Rattle.elim_apply.specs.declared.shares.Share.{Share}
+use Rattle.elim_apply.specs.declared.share.Share.{Share}
 use Rattle.elim_apply.specs.declared.small_shares.SmallShare.{SmallShare}
 use Rattle.elim_apply.specs.Inner.Shares.{IsShareOf, no_power, with_power, with_powers}
 use Rattle.elim_apply.proofs.LineShares.{degree_rows-plus}

@@ -13,6 +13,7 @@ mod limits;
 mod made;
 mod numbered;
 mod replacing;
+mod share;
 mod shares;
 mod sizes;
 mod small_shares;

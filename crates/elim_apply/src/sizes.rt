@@ -16,7 +16,8 @@ ghost use Rattle.geo_poly.specs.Shared.{AreParts, told};
 
 use crate::limits::LineSize;
 use crate::numbered::NumberedRow;
-use crate::shares::{Share, shares_of};
+use crate::share::Share;
+use crate::shares::shares_of;
 use fraction_poly::RowNumbers;
 use geo_points::NoMemory;
 use geo_poly::{Poly, Shared};

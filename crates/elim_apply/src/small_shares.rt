@@ -11,7 +11,7 @@ ghost use Rattle.geo_poly.specs.Shared.{IsIndexOf, told_powers};
 
 use crate::capped::{small, times_power};
 use crate::numbered::NumberedRow;
-use crate::shares::Share;
+use crate::share::Share;
 use geo_poly::{FirstPower, Shared};
 use mono_store::MonoId;
 

@@ -7,7 +7,7 @@ use Rattle.geo_terms.specs.Stores.{Store, tree_at, trees_of}
 use Rattle.geo_terms.specs.Trees.{Tree, integer_leaf}
 use Rattle.geo_terms.proofs.Trees.{length-trees_of}
 use Rattle.geo_poly.proofs.Capped.{cap_left, cap_right}
-use Rattle.fraction_poly.specs.declared.measures.Numbers.{Numbers}
+use Rattle.fraction_poly.specs.declared.numbers.Numbers.{Numbers}
 use Rattle.fraction_poly.specs.Inner.Parts.{AreNumbersOf}
 use Rattle.fraction_poly.proofs.Places.{place_cases, slice_get-end, slice_get-front}
 use Rattle.fraction_poly.specs.Measures.{numbers_of, capped_number, capped, store_numbers, sum_numbers, product_numbers}

@@ -5,9 +5,9 @@ use Rattle.fraction_poly.specs.declared.drafts.Draft.{Draft}
 use Rattle.fraction_poly.specs.declared.drafts.Draft.TheVariants.{Integer, Area, Pythagoras, Ratio, Abscissa, Ordinate, Numerator, Denominator, Combined', Opposite'}
 use Rattle.fraction_poly.specs.declared.drafts.Number.{Number}
 use Rattle.fraction_poly.specs.declared.drafts.Number.TheVariants.{First, Second}
-use Rattle.fraction_poly.specs.declared.drafts.Operation.{Operation}
-use Rattle.fraction_poly.specs.declared.drafts.Operation.TheVariants.{Sum, Difference, Product}
-use Rattle.fraction_poly.specs.declared.measures.Numbers.{Numbers}
+use Rattle.fraction_poly.specs.declared.operations.Operation.{Operation}
+use Rattle.fraction_poly.specs.declared.operations.Operation.TheVariants.{Sum, Difference, Product}
+use Rattle.fraction_poly.specs.declared.numbers.Numbers.{Numbers}
 use Rattle.fraction_poly.specs.declared.step_numbers.StepNumber.{StepNumber}
 use Rattle.fraction_poly.specs.Inner.Drafts.{AllFit, IsBoundedNumber, by_number, combined_form, combined_piece, drafted_piece, form_of}
 use Rattle.fraction_poly.specs.Forms.{Form, integer, area, pythagoras, ratio, abscissa, ordinate, numerator, denominator, ◌⊞◌, ◌⊟◌, ◌⊠◌}

@@ -8,7 +8,7 @@ use Rattle.geo_terms.specs.declared.nodes.Node.TheVariants.{Int, Param, S, P, R,
 use Rattle.geo_terms.specs.Stores.{Store, IsStore, node_tree, tree_at, trees_of, tree_of}
 use Rattle.geo_terms.specs.Trees.{Tree}
 use Rattle.geo_terms.proofs.Trees.{tree_of-node}
-use Rattle.fraction_poly.specs.declared.measures.Numbers.{Numbers}
+use Rattle.fraction_poly.specs.declared.numbers.Numbers.{Numbers}
 use Rattle.fraction_poly.specs.Inner.Parts.{AreNumbersOfParts, AreNumbersOfTrees, HasParts, IsPart}
 use Rattle.fraction_poly.specs.Measures.{capped, numbers_of, product_numbers, sum_numbers, turned_numbers}
 use Rattle.fraction_poly.specs.MultipliedOut.{multiplied_out}

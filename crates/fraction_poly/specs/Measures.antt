@@ -1,6 +1,6 @@
 -- How large a term's numerator and denominator may be, by the form of the term; and the charge for making them.
 use Rattle.std.specs.Prelude.{ℕ, ◌+◌, ◌-◌, ◌*◌, ◌^◌, ◌<◌, ◌≤◌, List, map, max, min, unsigned_abs}
-use Rattle.fraction_poly.specs.declared.measures.Numbers.{Numbers}
+use Rattle.fraction_poly.specs.declared.numbers.Numbers.{Numbers}
 use Rattle.geo_terms.specs.Stores.{Store, trees_of}
 use Rattle.geo_terms.specs.Trees.{Tree, integer_leaf, parameter_leaf, area_leaf, pythagoras_leaf, ratio_leaf, negation, addition, subtraction, multiplication, division}
 

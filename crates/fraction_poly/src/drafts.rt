@@ -12,7 +12,8 @@ ghost use Rattle.fraction_poly.specs.Forms.{◌⊞◌, ◌⊟◌, ◌⊠◌, opp
 ghost use Rattle.fraction_poly.specs.Measures.{capped, capped_number, numbers_of};
 ghost use Rattle.geo_terms.specs.Trees.{Tree};
 
-use crate::measures::Numbers;
+use crate::numbers::Numbers;
+use crate::operations::Operation;
 use crate::parts::{Part, combined, copied, integer, opposite, quantity, variable};
 use crate::step_numbers::StepNumber;
 use geo_points::{NoMemory, PointId, TermId};
@@ -64,17 +65,6 @@ pub struct Combination {
     pub left: Draft,
     /// The second.
     pub right: Draft,
-}
-
-/// What is made of two drafts.
-#[derive(Clone, Copy, Debug, PartialEq, Eq)]
-pub enum Operation {
-    /// The sum of both.
-    Sum,
-    /// The first less the second.
-    Difference,
-    /// The product of both.
-    Product,
 }
 
 /// What a draft multiplies out to is bounded so. A number past `2^128 - 1` is given as `2^128 - 1`.

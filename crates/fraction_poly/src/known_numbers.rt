@@ -8,7 +8,8 @@ ghost use Rattle.fraction_poly.specs.Measures.{HasRoom, capped, numbers_of};
 ghost use Rattle.geo_points.specs.declared.ids.TermId.{TermId};
 ghost use Rattle.geo_terms.specs.Stores.{Store, tree_of};
 
-use crate::measures::{Numbers, measure};
+use crate::measures::measure;
+use crate::numbers::Numbers;
 use crate::step_numbers::{StepNumber, one, step_number};
 use geo_points::{NoMemory, TermId};
 use geo_terms::Terms;

@@ -11,7 +11,9 @@ pub mod laws;
 mod linear;
 mod measures;
 mod multiplying;
+mod numbers;
 mod numerators;
+mod operations;
 mod parts;
 mod reaching;
 mod simple_drafts;
@@ -28,7 +30,8 @@ pub use linear::{
     Linear, along_numerator, both_denominators, crossing_numerator, first_weight, foot_numerator,
     origin_weight, second_weight, step_draft, weights_numerator,
 };
-pub use measures::{Numbers, measure};
+pub use measures::measure;
 pub use multiplying::multiply_out;
+pub use numbers::Numbers;
 pub use store_numbers::StoreNumbers;
 pub use table::{RowNumbers, Rows};

@@ -10,7 +10,7 @@ ghost use Rattle.geo_poly.specs.PolynomialVariables.{AllVariables};
 ghost use Rattle.geo_poly.specs.Replace.{IsBounded};
 ghost use Rattle.geo_poly.specs.Rings.{Grows, IsElement, IsElementFor};
 
-use crate::drafts::Operation;
+use crate::operations::Operation;
 use geo_points::NoMemory;
 use geo_poly::{Canon, Element, Piece, Ring, Var};
 use std::alloc::Global;

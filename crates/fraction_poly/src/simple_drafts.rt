@@ -10,8 +10,9 @@ ghost use Rattle.fraction_poly.specs.MultipliedOut.{canon_polynomial};
 ghost use Rattle.geo_poly.specs.Polynomials.{constant_of, difference_of, product_of, sum_of};
 ghost use Rattle.geo_poly.specs.Replace.{IsBounded};
 
-use crate::drafts::{Draft, Operation};
+use crate::drafts::Draft;
 use crate::fractions::{is_one, signed};
+use crate::operations::Operation;
 use crate::step_numbers::StepNumber;
 use geo_points::NoMemory;
 use geo_poly::{Canon, Piece, Poly, Var, canon_p, canon_r, canon_s};

@@ -4,7 +4,7 @@ ghost use Rattle.std.specs.Prelude.{◌≡◌, ◌<◌, IfOk, Some, length, slic
 ghost use Rattle.fraction_poly.specs.Measures.{capped, numbers_of, store_numbers};
 ghost use Rattle.geo_terms.specs.Stores.{Store, tree_of};
 
-use crate::measures::{Numbers, node_numbers};
+use crate::numbers::{Numbers, node_numbers};
 use geo_points::{NoMemory, TermId};
 use geo_terms::Terms;
 use std::alloc::Global;
@@ -18,7 +18,7 @@ pub struct StoreNumbers {
 
 impl Model for StoreNumbers {
     ghost use Rattle.std.specs.Prelude.{List};
-    ghost use Rattle.fraction_poly.specs.declared.measures.Numbers.{Numbers};
+    ghost use Rattle.fraction_poly.specs.declared.numbers.Numbers.{Numbers};
 
     ghost Value = { List Numbers };
 

@@ -1,5 +1,5 @@
 -- A step of a chain names no new points.
-use Rattle.std.proofs.Common.{◌≡◌, ℕ, Bool, true, false, cond, Option, Some, None, List, sym, subst}
+use Rattle.std.proofs.Common.{◌≡◌, ℕ, IfSome, Bool, true, false, cond, Option, Some, None, List, sym, subst}
 use Rattle.std.specs.List.{filter_map}
 use Rattle.std.specs.Option.{option_map}
 use Rattle.std.specs.Ordering.{is_eq}
@@ -12,12 +12,16 @@ use Rattle.geo_poly.specs.PolynomialVariables.{AllVariables, variables_of}
 use Rattle.geo_poly.proofs.EachVariable.{EachIn, OfNumerators, each-variables, of-both, of-replaced_by, of-rows, some_row}
 use Rattle.geo_terms.specs.Constructions.{Construction, IsConstruction}
 use Rattle.fraction_poly.specs.TableRows.{HasPointsBelow, TableRow, made_row}
+use Rattle.geo_chain.specs.NextLines.{HasLinePointsBelow}
+use Rattle.proof_log.specs.declared.log.Line.{Line}
+use Rattle.proof_log.specs.Steps.{polynomial_on}
 use Rattle.geo_logs.specs.declared.moves.Move.{Move}
 use Rattle.geo_logs.specs.declared.moves.Move.TheVariants.{Ratio, Point, Coords}
 use Rattle.elim_apply.specs.LemmaTable.{lemma_table}
 use Rattle.geo_logs.specs.Moves.{IsMoved, replacement}
 use Rattle.geo_logs.specs.Naming.{IsNamed}
 use Rattle.geo_logs.specs.Sound.{NamesNoLater}
+use Rattle.geo_logs.proofs.NamedPoints.{named_points}
 use Rattle.elim_apply.proofs.MoveRows.{lemma_table_sound}
 
 no_some : (r : Row) → ◌≡◌ {A = Option Row} None (Some r) → ⊥
@@ -42,17 +46,6 @@ module _ (c : Construction) (valid : IsConstruction c) where
   row_named n Coords (Ordinate a) r is h = absurd (no_some r is)
   row_named n Coords (Number t) r is h = absurd (no_some r is)
 
-  of_named : (n : ℕ) (v : Var) → IsNamed c n v → HasPointsBelow n v
-  of_named n (R a b d e) h = h
-  of_named n (S a b d) h = h
-  of_named n (P a b d) h = h
-  of_named n (Abscissa a) h = h.0
-  of_named n (Ordinate a) h = h.0
-  of_named n (Number t) h = tt
-
-  all_named : (n : ℕ) (q : Summands) → AllVariables (IsNamed c n) q → AllVariables (HasPointsBelow n) q
-  all_named n q h = of-both (IsNamed c n) (IsNamed c n) (HasPointsBelow n) (λ v a b. of_named n v a) q h h
-
   -- the polynomial after a move has points below n alone, if that before has
   pub points_kept : (n : ℕ) (move : Move) (left : ℕ) (q r : Summands) → AllVariables (HasPointsBelow n) q → IsMoved (replacement lemma_table c move q) left q r
       → AllVariables (HasPointsBelow n) r
@@ -62,6 +55,10 @@ module _ (c : Construction) (valid : IsConstruction c) where
       let one = some_row (HasPointsBelow n) (lemma_table.row c move) (variables_of q) each moved.replaces in
       let told : NamesNoLater lemma_table c n move one.1 = row_named n move one.0 one.1 one.2 one.3 in
       let numerators : OfNumerators (HasPointsBelow n) rows =
-      of-rows (HasPointsBelow n) (lemma_table.row c move) (variables_of q) (λ v r e h. all_named n r.num.poly (row_named n move v r e h).numerator) each in
+      of-rows (HasPointsBelow n) (lemma_table.row c move) (variables_of q) (λ v r e h. named_points c n r.num.poly (row_named n move v r e h).numerator) each in
       subst (AllVariables (HasPointsBelow n)) (sym moved.result)
-      (of-replaced_by (HasPointsBelow n) rows (lemma_table.denominator c move).poly q numerators (all_named n (lemma_table.denominator c move).poly told.denominator) points)
+      (of-replaced_by (HasPointsBelow n) rows (lemma_table.denominator c move).poly q numerators (named_points c n (lemma_table.denominator c move).poly told.denominator) points)
+
+-- the polynomial on a line
+pub line_points : (n : ℕ) (l : Line) (q : Summands) → polynomial_on l ≡ Some q → HasLinePointsBelow n l → AllVariables (HasPointsBelow n) q
+line_points n l q e h = subst (λ (o : Option Summands). IfSome o (AllVariables (HasPointsBelow n))) e h

@@ -1,5 +1,5 @@
 -- The line that the prover writes after a polynomial.
-use Rattle.std.specs.Prelude.{◌≡◌, ℕ, ◌-◌, ◌⊎◌, ℤ, List, [], ◌∷◌}
+use Rattle.std.specs.Prelude.{◌≡◌, ℕ, ◌-◌, ◌⊎◌, ℤ, IfSome, List, [], ◌∷◌}
 use Rattle.geo_logs.specs.declared.moves.Move.{Move}
 use Rattle.elim_apply.specs.LemmaTable.{lemma_table}
 use Rattle.geo_logs.specs.Moves.{move_charge, replacement}
@@ -13,7 +13,8 @@ use Rattle.geo_poly.specs.Polynomials.{Summands}
 use Rattle.geo_poly.specs.PolynomialVariables.{AllVariables}
 use Rattle.geo_terms.specs.Constructions.{Construction}
 use Rattle.proof_log.specs.declared.log.Line.{Line}
-use Rattle.proof_log.specs.declared.log.Line.TheVariants.{Start, Ratio, Point, Coords, Cut, End}
+use Rattle.proof_log.specs.Steps.{polynomial_on}
+use Rattle.proof_log.specs.declared.log.Line.TheVariants.{Cut, End}
 
 -- CUTS
 -- the line is the cut that is due
@@ -55,9 +56,4 @@ IsNextLine c known left q line left' = IsStepLine c known left q line left' ⊎ 
 
 -- the polynomial on the line, if any, has points below n alone
 abbrev pub HasLinePointsBelow : ℕ → Line → Type 0
-HasLinePointsBelow n (Start q) = AllVariables (HasPointsBelow n) q
-HasLinePointsBelow n (Ratio v lemma at q) = AllVariables (HasPointsBelow n) q
-HasLinePointsBelow n (Point at q) = AllVariables (HasPointsBelow n) q
-HasLinePointsBelow n (Coords q) = AllVariables (HasPointsBelow n) q
-HasLinePointsBelow n (Cut f q) = AllVariables (HasPointsBelow n) q
-HasLinePointsBelow n _ = Unit {0}
+HasLinePointsBelow n line = IfSome (polynomial_on line) (AllVariables (HasPointsBelow n))

@@ -6,7 +6,7 @@ use Rattle.geo_cli.specs.declared.order.Command.{Command}
 use Rattle.geo_cli.specs.declared.order.Command.TheVariants.{Bench, Check, Cite, Discover, Figure, Fixed, Place, Prove, Text}
 use Rattle.geo_cli.specs.declared.order.Order.{Order}
 use Rattle.geo_answers.specs.declared.status.Status.TheVariants.{Done, NotInstance, Rejected, Usage, Syntax, TooLong, Unmet}
-use Rattle.geo_cli.specs.Input.{IsInput, IsLong, log_limit, program_limit}
+use Rattle.geo_cli.specs.Input.{IsInput, IsLong, limit_of, log_limit, program_limit}
 use Rattle.geo_cli.specs.Orders.{IsOrder}
 use Rattle.geo_answers.specs.Due.{Due, IsAcceptedDue, IsLogDue, IsReadableDue, SpellsNone}
 use Rattle.geo_answers.specs.Status.{ending_status, refusal_status, stop_status, verdict_status}
@@ -280,17 +280,22 @@ IsReadDue limit For left left' due =
     (IsLong limit left left' × (due ≡ record { text = too_long_line; status = TooLong }))
     ⊎ ((bytes : List ℕ) × IsInput limit left bytes left' × For bytes due)
 
+-- what is to be written of the bytes that a command with so many steps reads; `bench` reads none
+abbrev pub due_for : Command → ℕ → List ℕ → Due → Type 0
+due_for Prove steps = IsDueFor steps
+due_for Check steps = IsDueForLog steps
+due_for Text steps = IsDueForText steps
+due_for Place steps = IsDueForValues false
+due_for Figure steps = IsDueForValues true
+due_for Cite steps = IsDueForCitation steps
+due_for Fixed steps = IsDueForFixed steps
+due_for Discover steps = IsDueForSearch steps
+due_for (Bench number) steps = λ bytes due. IsBenchDue number steps due
+
 -- what each command with so many steps is to write; `bench` reads nothing
 abbrev pub IsCommandDue : Command → ℕ → Option (List ℕ) → Option (List ℕ) → Due → Type 0
-IsCommandDue Prove steps left left' due = IsReadDue program_limit (IsDueFor steps) left left' due
-IsCommandDue Check steps left left' due = IsReadDue log_limit (IsDueForLog steps) left left' due
-IsCommandDue Text steps left left' due = IsReadDue log_limit (IsDueForText steps) left left' due
-IsCommandDue Place steps left left' due = IsReadDue program_limit (IsDueForValues false) left left' due
-IsCommandDue Figure steps left left' due = IsReadDue program_limit (IsDueForValues true) left left' due
-IsCommandDue Cite steps left left' due = IsReadDue log_limit (IsDueForCitation steps) left left' due
-IsCommandDue Fixed steps left left' due = IsReadDue program_limit (IsDueForFixed steps) left left' due
-IsCommandDue Discover steps left left' due = IsReadDue program_limit (IsDueForSearch steps) left left' due
 IsCommandDue (Bench number) steps left left' due = (left' ≡ left) × IsBenchDue number steps due
+IsCommandDue command steps left left' due = IsReadDue (limit_of command) (due_for command steps) left left' due
 
 -- they give an order
 pub record IsOrderDue (words : List (List ℕ)) (left left' : Option (List ℕ)) (due : Due) : Type 0 where
@@ -310,15 +315,8 @@ IsReadCall limit For (Some bytes) due =
 
 -- what each command calls for then; `bench` asks for no source that tells its bytes
 abbrev pub IsCommandCall : Command → ℕ → Option (List ℕ) → Due → Type 0
-IsCommandCall Prove steps left due = IsReadCall program_limit (IsDueFor steps) left due
-IsCommandCall Check steps left due = IsReadCall log_limit (IsDueForLog steps) left due
-IsCommandCall Text steps left due = IsReadCall log_limit (IsDueForText steps) left due
-IsCommandCall Place steps left due = IsReadCall program_limit (IsDueForValues false) left due
-IsCommandCall Figure steps left due = IsReadCall program_limit (IsDueForValues true) left due
-IsCommandCall Cite steps left due = IsReadCall log_limit (IsDueForCitation steps) left due
-IsCommandCall Fixed steps left due = IsReadCall program_limit (IsDueForFixed steps) left due
-IsCommandCall Discover steps left due = IsReadCall program_limit (IsDueForSearch steps) left due
 IsCommandCall (Bench number) steps left due = IsBenchDue number steps due
+IsCommandCall command steps left due = IsReadCall (limit_of command) (due_for command steps) left due
 
 -- what the words call for then
 abbrev pub IsCalledFor : List (List ℕ) → Option (List ℕ) → Due → Type 0

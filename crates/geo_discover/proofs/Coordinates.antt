@@ -26,123 +26,37 @@ use Rattle.geo_terms.specs.declared.steps.Step.{Step}
 use Rattle.geo_terms.specs.declared.steps.Step.TheVariants.{Point as FreeStep, Inter, Foot, Pratio, Tratio, Weights}
 use Rattle.geo_terms.specs.Constructions.{Construction}
 use Rattle.elim_apply.specs.LemmaTable.{lemma_table}
+use Rattle.elim_apply.proofs.FoundRows.{Row_of, coords_row, pt}
+use Rattle.geo_logs.proofs.NamedPoints.{occurring_points}
 use Rattle.elim_apply.proofs.FormVariables.{OfForm, of-form}
 use Rattle.geo_logs.specs.declared.moves.Move.TheVariants.{Coords}
 use Rattle.geo_logs.specs.Defined.{HasFreePointsAlone, IsNextMove, Occurs, is_point}
 use Rattle.geo_logs.specs.Moves.{IsMoved, replacement}
 use Rattle.geo_logs.specs.Naming.{IsNamed}
 
-mapped_some : {A B : Type 0} (f : A → B) (o : Option A) → IsTrue (is_some o) → IsTrue (is_some (option_map f o))
-mapped_some f None h = h
-mapped_some f (Some a) h = refl
-
--- the points of a quantity stand in it
-first_of : (a b d : PointId) → IsTrue (is_point a a || is_point b a || is_point d a)
-first_of a b d = go (is_point a a) (is_point b a) (is_point d a) (eq-eqb a.0 a.0 refl)
-  where
-    go : (i j k : Bool) → IsTrue i → IsTrue (i || j || k)
-    go true j k h = refl
-    go false j k h = let q : false ≡ true = h in absurd (cc)
-
-second_of : (a b d : PointId) → IsTrue (is_point a b || is_point b b || is_point d b)
-second_of a b d = go (is_point a b) (is_point b b) (is_point d b) (eq-eqb b.0 b.0 refl)
-  where
-    go : (i j k : Bool) → IsTrue j → IsTrue (i || j || k)
-    go true true k h = refl
-    go false true k h = refl
-    go i false k h = let q : false ≡ true = h in absurd (cc)
-
-third_of : (a b d : PointId) → IsTrue (is_point a d || is_point b d || is_point d d)
-third_of a b d = go (is_point a d) (is_point b d) (is_point d d) (eq-eqb d.0 d.0 refl)
-  where
-    go : (i j k : Bool) → IsTrue k → IsTrue (i || j || k)
-    go true true true h = refl
-    go true false true h = refl
-    go false true true h = refl
-    go false false true h = refl
-    go i j false h = let q : false ≡ true = h in absurd (cc)
-
-past_end : {A : Type 0} (xs : List A) (i : ℕ) → i < length xs → slice_get xs i ≡ None → ⊥
-past_end [] i lt e = omega (arith, lt)
-past_end {A} (x ∷ xs) zero lt e = let q : ◌≡◌ {A = Option A} (Some x) None = e in cc
-past_end (x ∷ xs) (suc i) lt e = past_end xs i (omega (arith, lt)) e
-
-abbrev pt : ℕ → PointId
-pt k = record { 0 = k }
-
 module _ (c : Construction) where
-  abbrev Row_of : Var → Option Row
-  Row_of v = lemma_table.row c Coords v
-
-  module _ (q : Summands) (free : HasFreePointsAlone c q) (named : AllVariables (IsNamed c (length c.steps)) q) where
-    free_here : (a : PointId) → a.0 < length c.steps → Occurs a q → IsTrue (is_free c a)
-    free_here a lt occurs = go (slice_get c.steps a.0) refl
-      where
-        go : (o : Option Step) → slice_get c.steps a.0 ≡ o → IsTrue (is_free_step o)
-        go None e = absurd (past_end c.steps a.0 lt e)
-        go (Some FreeStep) e = refl
-        go (Some (Inter u v p q)) e = absurd (free a (record { step = Inter u v p q; made = e; not_free = λ n. cc }) occurs)
-        go (Some (Foot p u v)) e = absurd (free a (record { step = Foot p u v; made = e; not_free = λ n. cc }) occurs)
-        go (Some (Pratio w u v r)) e = absurd (free a (record { step = Pratio w u v r; made = e; not_free = λ n. cc }) occurs)
-        go (Some (Tratio u v r)) e = absurd (free a (record { step = Tratio u v r; made = e; not_free = λ n. cc }) occurs)
-        go (Some (Weights o u v r s)) e = absurd (free a (record { step = Weights o u v r s; made = e; not_free = λ n. cc }) occurs)
-
-    named_at : (v : Var) → Contains (variables_of q) v → IsNamed c (length c.steps) v
-    named_at v stands = each-contained (IsNamed c (length c.steps)) (variables_of q) v (each-variables (IsNamed c (length c.steps)) q named) stands
-
-    area_free : (a b d : PointId) → Contains (variables_of q) (S a b d) → IsTrue (is_some (free_table c (pt 0) (S a b d)))
-    area_free a b d st =
-        let n = named_at (S a b d) st in
-        go (is_free c a) (is_free c b) (is_free c d) (free_here a n.0 (st.0, S a b d, st.1, st.2, first_of a b d))
-        (free_here b n.1 (st.0, S a b d, st.1, st.2, second_of a b d)) (free_here d n.2 (st.0, S a b d, st.1, st.2, third_of a b d))
-      where
-        go : (i j k : Bool) → IsTrue i → IsTrue j → IsTrue k
-            → IsTrue (is_some {T = TableRow} (if i && j && k then Some (record { power = 1; num = area_in_coordinates a b d; den = integer 2; charge = 0 }) else None))
-        go true true true x y z = refl
-        go false j k x y z = let q : false ≡ true = x in absurd (cc)
-        go true false k x y z = let q : false ≡ true = y in absurd (cc)
-        go true true false x y z = let q : false ≡ true = z in absurd (cc)
-
-    difference_free : (a b d : PointId) → Contains (variables_of q) (P a b d) → IsTrue (is_some (free_table c (pt 0) (P a b d)))
-    difference_free a b d st =
-        let n = named_at (P a b d) st in
-        go (is_free c a) (is_free c b) (is_free c d) (free_here a n.0 (st.0, P a b d, st.1, st.2, first_of a b d))
-        (free_here b n.1 (st.0, P a b d, st.1, st.2, second_of a b d)) (free_here d n.2 (st.0, P a b d, st.1, st.2, third_of a b d))
-      where
-        go : (i j k : Bool) → IsTrue i → IsTrue j → IsTrue k
-            → IsTrue (is_some {T = TableRow} (if i && j && k then Some (record { power = 0; num = difference_in_coordinates a b d; den = integer 2; charge = 0 }) else None))
-        go true true true x y z = refl
-        go false j k x y z = let q : false ≡ true = x in absurd (cc)
-        go true false k x y z = let q : false ≡ true = y in absurd (cc)
-        go true true false x y z = let q : false ≡ true = z in absurd (cc)
-
-    coords_row : (v : Var) → Contains (variables_of q) v → IsQuantity v → (IsRatio v → ⊥) → IsTrue (is_some (Row_of v))
-    coords_row (R a b d e) st h n = absurd (n tt)
-    coords_row (S a b d) st h n = mapped_some (λ r. (made_row (S a b d) r).0) (free_table c (pt 0) (S a b d)) (area_free a b d st)
-    coords_row (P a b d) st h n = mapped_some (λ r. (made_row (P a b d) r).0) (free_table c (pt 0) (P a b d)) (difference_free a b d st)
-    coords_row (Abscissa a) st h n = absurd h
-    coords_row (Ordinate a) st h n = absurd h
-    coords_row (Number t) st h n = absurd h
+  abbrev row_at : Var → Option Row
+  row_at v = Row_of c Coords v
 
   -- ROWS
   -- the row of a variable of some list stands among their rows
-  row_found : (vs : List Var) (v : Var) (r : Row) → Contains vs v → Row_of v ≡ Some r → r.var ≡ v → row_of (filter_map Row_of vs) v ≢ None
+  row_found : (vs : List Var) (v : Var) (r : Row) → Contains vs v → row_at v ≡ Some r → r.var ≡ v → row_of (filter_map row_at vs) v ≢ None
   row_found [] v r (k, lt, e) h own = absurd (omega (arith, lt))
   row_found (w ∷ vs) v r (zero, lt, e) h own =
-      subst (λ (o : Option Row). row_of (cons_option o (filter_map Row_of vs)) v ≢ None) (sym (ap Row_of e ∙ h))
+      subst (λ (o : Option Row). row_of (cons_option o (filter_map row_at vs)) v ≢ None) (sym (ap row_at e ∙ h))
       (here (var_cmp r.var v) (subst (λ (u : Var). var_cmp r.var u ≡ Equal) own (var_order.self r.var)))
     where
-      here : (o : Ordering) → o ≡ Equal → cond (is_eq o) (Some r) (row_of (filter_map Row_of vs) v) ≢ None
+      here : (o : Ordering) → o ≡ Equal → cond (is_eq o) (Some r) (row_of (filter_map row_at vs) v) ≢ None
       here Equal s n = let q : ◌≡◌ {A = Option Row} (Some r) None = n in cc
       here Less s n = let q : Less ≡ Equal = s in cc
       here Greater s n = let q : Greater ≡ Equal = s in cc
-  row_found (w ∷ vs) v r (suc k, lt, e) h own = go (Row_of w) (row_found vs v r (k, omega (arith, lt), e) h own)
+  row_found (w ∷ vs) v r (suc k, lt, e) h own = go (row_at w) (row_found vs v r (k, omega (arith, lt), e) h own)
     where
-      go : (o : Option Row) → row_of (filter_map Row_of vs) v ≢ None → row_of (cons_option o (filter_map Row_of vs)) v ≢ None
+      go : (o : Option Row) → row_of (filter_map row_at vs) v ≢ None → row_of (cons_option o (filter_map row_at vs)) v ≢ None
       go None n = n
       go (Some s) n = here (is_eq (var_cmp s.var v))
         where
-          here : (b : Bool) → cond b (Some s) (row_of (filter_map Row_of vs) v) ≢ None
+          here : (b : Bool) → cond b (Some s) (row_of (filter_map row_at vs) v) ≢ None
           here true m = let q : ◌≡◌ {A = Option Row} (Some s) None = m in cc
           here false m = n m
 
@@ -158,7 +72,7 @@ module _ (c : Construction) where
       subst (λ (x : Row). AllVariables IsPlain x.num.poly) same (of-form IsPlain row.num h)
   free_plain a b d false row h v r e = absurd (let q : ◌≡◌ {A = Option Row} None (Some r) = e in cc)
 
-  row_plain : (v : Var) (r : Row) → Row_of v ≡ Some r → AllVariables IsPlain r.num.poly
+  row_plain : (v : Var) (r : Row) → row_at v ≡ Some r → AllVariables IsPlain r.num.poly
   row_plain (S a b d) r e =
       free_plain a b d (is_free c a && is_free c b && is_free c d) (record { power = 1; num = area_in_coordinates a b d; den = integer 2; charge = 0 })
       ((((((tt, tt), (tt, tt)), (tt, tt)), (tt, tt)), (tt, tt)), (tt, tt)) (S a b d) r e
@@ -170,11 +84,11 @@ module _ (c : Construction) where
   row_plain (Ordinate a) r h = absurd (let q : ◌≡◌ {A = Option Row} None (Some r) = h in cc)
   row_plain (Number t) r h = absurd (let q : ◌≡◌ {A = Option Row} None (Some r) = h in cc)
 
-  rows_plain : (vs : List Var) → AllNumerators IsPlain (filter_map Row_of vs)
+  rows_plain : (vs : List Var) → AllNumerators IsPlain (filter_map row_at vs)
   rows_plain [] = tt
-  rows_plain (v ∷ vs) = go (Row_of v) refl (rows_plain vs)
+  rows_plain (v ∷ vs) = go (row_at v) refl (rows_plain vs)
     where
-      go : (o : Option Row) → Row_of v ≡ o → AllNumerators IsPlain (filter_map Row_of vs) → AllNumerators IsPlain (cons_option o (filter_map Row_of vs))
+      go : (o : Option Row) → row_at v ≡ o → AllNumerators IsPlain (filter_map row_at vs) → AllNumerators IsPlain (cons_option o (filter_map row_at vs))
       go None e rest = rest
       go (Some r) e rest = (row_plain v r e, rest)
 
@@ -187,7 +101,7 @@ module _ (c : Construction) where
   free_stands [] a h = let q : false ≡ true = h in absurd (cc)
   free_stands (s ∷ steps) a h = omega arith
 
-  pub row_named : (n : ℕ) (v : Var) (r : Row) → Row_of v ≡ Some r → IsNamed c n v → (0 < n) × (0 < length c.steps)
+  pub row_named : (n : ℕ) (v : Var) (r : Row) → row_at v ≡ Some r → IsNamed c n v → (0 < n) × (0 < length c.steps)
   row_named n (S a b d) r e named =
       let free = first_free (is_free c a) (is_free c b) (is_free c d) (record { power = 1; num = area_in_coordinates a b d; den = integer 2; charge = 0 }) (S a b d) r e in
       (omega (arith, named.0), free_stands c.steps a.0 free)
@@ -210,13 +124,13 @@ module _ (c : Construction) where
 
   module _ (left : ℕ) (q m : Summands) (next : IsNextMove lemma_table c q Coords) (named : AllVariables (IsNamed c (length c.steps)) q)
       (moved : IsMoved (replacement lemma_table c Coords q) left q m) where
-    stays : (v : Var) → Contains (variables_of q) v → row_of (filter_map Row_of (variables_of q)) v ≡ None → IsPlain v
+    stays : (v : Var) → Contains (variables_of q) v → row_of (filter_map row_at (variables_of q)) v ≡ None → IsPlain v
     stays v st none = go (quantity_or_plain v)
       where
-        row_is : (w : Var) → Contains (variables_of q) w → IsQuantity w → (r : Row) × (Row_of w ≡ Some r) × (r.var ≡ w)
+        row_is : (w : Var) → Contains (variables_of q) w → IsQuantity w → (r : Row) × (row_at w ≡ Some r) × (r.var ≡ w)
         row_is (R a b d e) s h = absurd (next.1 (R a b d e) s tt)
-        row_is (S a b d) s h = made_var (S a b d) (free_table c (pt 0) (S a b d)) (coords_row q next.0 named (S a b d) s tt (λ n. n))
-        row_is (P a b d) s h = made_var (P a b d) (free_table c (pt 0) (P a b d)) (coords_row q next.0 named (P a b d) s tt (λ n. n))
+        row_is (S a b d) s h = made_var (S a b d) (free_table c (pt 0) (S a b d)) (coords_row c q next.0 (occurring_points c (length c.steps) q named) (S a b d) s tt (λ n. n))
+        row_is (P a b d) s h = made_var (P a b d) (free_table c (pt 0) (P a b d)) (coords_row c q next.0 (occurring_points c (length c.steps) q named) (P a b d) s tt (λ n. n))
         row_is (Abscissa a) s h = absurd h
         row_is (Ordinate a) s h = absurd h
         row_is (Number t) s h = absurd h
@@ -228,7 +142,7 @@ module _ (c : Construction) where
     -- coordinates and parameters alone
     pub coordinates_plain : AllVariables IsPlain m
     coordinates_plain =
-        let rows : List Row = filter_map Row_of (variables_of q) in
+        let rows : List Row = filter_map row_at (variables_of q) in
         subst (AllVariables IsPlain) (sym moved.result)
         ((kept_property IsPlain).replacement rows (piece_of (integer 2)).poly q (rows_plain (variables_of q)) (of-form IsPlain (integer 2) tt)
         (all_variables (λ v. row_of rows v ≡ None → IsPlain v) q stays))

@@ -46,7 +46,7 @@ use Rattle.log_maker.specs.Frames.{first_point, framed_variables, is_of_first_po
 use Rattle.geo_discover.proofs.FixedChains.{fixed_elsewhere, fixed_named, fixed_null, fixed_null_on, fixed_polynomial}
 use Rattle.geo_discover.proofs.Origins.{IsAtOrigin, IsElsewhere, origin_stays, x0, y0}
 use Rattle.geo_discover.proofs.WithoutCoordinates.{start_without}
-use Rattle.geo_discover.proofs.ZeroGoals.{conditions_impossible, conditions_zero}
+use Rattle.geo_logs.proofs.AcceptedGoals.{conditions_impossible, conditions_zero}
 
 -- THE VARIABLES OF A SAMPLE
 abbrev elsewhere : Var → Bool

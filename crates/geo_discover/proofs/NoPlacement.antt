@@ -40,34 +40,7 @@ use Rattle.geo_discover.proofs.CandidateLaws.{candidates_are_well_formed}
 module _ (p : Source) (s t : Statement) (placed : Placement) where
   -- what meets a command with one statement meets it with the other
   command_met : (X : Triple) (n : Fraction) (c : Command) → IsCommandMet (with_statement p s) placed X n c → IsCommandMet (with_statement p t) placed X n c
-  command_met X n command.Point h = h
-  command_met X n command.Param h = h
-  command_met X n (command.Line a b) h = h
-  command_met X n (command.Parallel a l) h = h
-  command_met X n (command.Perp a l) h = h
-  command_met X n (command.Med a b) h = h
-  command_met X n (command.Intersec l m) h = h
-  command_met X n (command.Inter a b c d) h = h
-  command_met X n (command.Foot a b c) h = h
-  command_met X n (command.Pratio w u v r) h = h
-  command_met X n (command.Tratio u v r) h = h
-  command_met X n (command.Online a b) h = h
-  command_met X n (command.Lratio a b r) h = h
-  command_met X n (command.Midpoint a b) h = h
-  command_met X n (command.Translate a b c) h = h
-  command_met X n (command.Symmetric a o) h = h
-  command_met X n (command.Reflect a b c) h = h
-  command_met X n (command.Circumcenter a b c) h = h
-  command_met X n (command.Orthocenter a b c) h = h
-  command_met X n (command.Centroid a b c) h = h
-  command_met X n (command.Oncircle o a) h = h
-  command_met X n (command.Second a b o) h = h
-  command_met X n (command.Cc o q a) h = h
-  command_met X n (command.Inverse q o a) h = h
-  command_met X n (command.Weights a b c r q) h = h
-  command_met X n (command.AssumeDifferent a b) h = h
-  command_met X n (command.AssumeNotCollinear a b c) h = h
-  command_met X n (command.AssumeNotParallel a b c d) h = h
+  command_met X n _ h = h
 
   commands_met : (x m : ℕ) (cs : List Command) → AreCommandsMet (with_statement p s) placed x m cs → AreCommandsMet (with_statement p t) placed x m cs
   commands_met x m [] h = tt

@@ -1,4 +1,5 @@
 pub mod TermVariables
+pub mod NamedPoints
 pub mod MoveValues
 pub mod ChainPolynomials
 pub mod ChainValues

@@ -1,8 +1,9 @@
 -- What is due behind the first word of a command, of a statement and of an expression.
-use Rattle.std.specs.Prelude.{ℕ, ◌+◌, codes, Bool, true, false, Option, List, [], ◌∷◌, ◌++◌, option_map, find}
+use Rattle.std.specs.Prelude.{ℕ, ◌+◌, codes, Bool, true, false, Option, List, [], ◌∷◌, ◌++◌, drop, map, option_map, find}
 use Rattle.geo_parser.specs.Texts.{is_text}
+use Rattle.geo_program.specs.Rows.{ArgumentKind, CommandRow, command_rows, condition_rows, point_kind, line_kind, number_kind, side_kind}
 use Rattle.geo_program.specs.declared.names.NameKind.{NameKind}
-use Rattle.geo_program.specs.declared.names.NameKind.TheVariants.{Point, Param, Line}
+use Rattle.geo_program.specs.declared.names.NameKind.TheVariants.{Point, Line}
 
 -- what may stand at a place
 pub data Slot : Type 0 where
@@ -45,39 +46,20 @@ a_number = expression_slot 0 false
 abbrev pub Due : Type 0
 Due = List ℕ × List Slot
 
--- a command with a new name: its word, the name, and what is due behind it
-abbrev pub command : List ℕ → NameKind → ℕ → List Slot → Due
-command word kind points slots = (word, new_name_slot kind points ∷ slots)
+-- what is due at an argument of this kind
+abbrev pub slot_of : ArgumentKind → Slot
+slot_of point_kind = a_point
+slot_of line_kind = a_line
+slot_of number_kind = a_number
+slot_of side_kind = expression_slot 0 true
 
--- the commands that have a new name
+-- a command with a new name: its word, the name, and what is due behind it
+abbrev pub due_of : CommandRow → Due
+due_of row = (row.word, new_name_slot row.made row.points ∷ map slot_of row.arguments)
+
+-- the commands that have a new name; two numbers may follow that of a point
 abbrev pub naming_commands : List Due
-naming_commands =
-    command (codes "point") Point 1 (sketch_slot ∷ [])
-    ∷ command (codes "param") Param 0 ([])
-    ∷ command (codes "line") Line 0 (a_point ∷ a_point ∷ [])
-    ∷ command (codes "parallel") Line 1 (a_point ∷ a_line ∷ [])
-    ∷ command (codes "perp") Line 2 (a_point ∷ a_line ∷ [])
-    ∷ command (codes "med") Line 2 (a_point ∷ a_point ∷ [])
-    ∷ command (codes "intersec") Point 1 (a_line ∷ a_line ∷ [])
-    ∷ command (codes "inter") Point 1 (a_point ∷ a_point ∷ a_point ∷ a_point ∷ [])
-    ∷ command (codes "foot") Point 1 (a_point ∷ a_point ∷ a_point ∷ [])
-    ∷ command (codes "pratio") Point 1 (a_point ∷ a_point ∷ a_point ∷ a_number ∷ [])
-    ∷ command (codes "tratio") Point 1 (a_point ∷ a_point ∷ a_number ∷ [])
-    ∷ command (codes "online") Point 1 (a_point ∷ a_point ∷ [])
-    ∷ command (codes "lratio") Point 1 (a_point ∷ a_point ∷ a_number ∷ [])
-    ∷ command (codes "midpoint") Point 1 (a_point ∷ a_point ∷ [])
-    ∷ command (codes "translate") Point 1 (a_point ∷ a_point ∷ a_point ∷ [])
-    ∷ command (codes "symmetric") Point 1 (a_point ∷ a_point ∷ [])
-    ∷ command (codes "reflect") Point 2 (a_point ∷ a_point ∷ a_point ∷ [])
-    ∷ command (codes "circumcenter") Point 5 (a_point ∷ a_point ∷ a_point ∷ [])
-    ∷ command (codes "orthocenter") Point 3 (a_point ∷ a_point ∷ a_point ∷ [])
-    ∷ command (codes "centroid") Point 2 (a_point ∷ a_point ∷ a_point ∷ [])
-    ∷ command (codes "oncircle") Point 3 (a_point ∷ a_point ∷ [])
-    ∷ command (codes "second") Point 2 (a_point ∷ a_point ∷ a_point ∷ [])
-    ∷ command (codes "cc") Point 2 (a_point ∷ a_point ∷ a_point ∷ [])
-    ∷ command (codes "inverse") Point 1 (a_point ∷ a_point ∷ a_point ∷ [])
-    ∷ command (codes "weights") Point 2 (a_point ∷ a_point ∷ a_point ∷ a_number ∷ a_number ∷ [])
-    ∷ []
+naming_commands = (codes "point", new_name_slot Point 1 ∷ sketch_slot ∷ []) ∷ map due_of (drop 1 command_rows)
 
 -- the commands
 abbrev pub commands : List Due
@@ -85,11 +67,7 @@ commands = (codes "assume", condition_slot ∷ []) ∷ naming_commands
 
 -- the conditions that may be assumed
 abbrev pub conditions : List Due
-conditions =
-    (codes "different", a_point ∷ a_point ∷ [])
-    ∷ (codes "not_collinear", a_point ∷ a_point ∷ a_point ∷ [])
-    ∷ (codes "not_parallel", a_point ∷ a_point ∷ a_point ∷ a_point ∷ [])
-    ∷ []
+conditions = map (λ (row : List ℕ × List ArgumentKind). (row.0, map slot_of row.1)) condition_rows
 
 -- `{ e }`, a side of an equation
 abbrev pub side : List Slot

@@ -48,63 +48,11 @@ PlaceOf b n = elim b [ true ↦ n ∷ [] | false ↦ [] ]
 
 command_places : (l : Layout) (nodes : Store) (n m : ℕ) (c : Command) → free_places n (command_steps Two l nodes n m c) ≡ PlaceOf (is_free c) n
 command_places l nodes n m Free = refl
-command_places l nodes n m Param = refl
-command_places l nodes n m (Line a b) = refl
-command_places l nodes n m (Parallel p b) = refl
-command_places l nodes n m (Perp p b) = refl
-command_places l nodes n m (Med a b) = refl
-command_places l nodes n m (Intersec a b) = refl
-command_places l nodes n m (Inter a b c d) = refl
-command_places l nodes n m (Foot p a b) = refl
-command_places l nodes n m (Pratio w u v r) = refl
-command_places l nodes n m (Tratio u v r) = refl
-command_places l nodes n m (Online a b) = refl
-command_places l nodes n m (Lratio a b r) = refl
-command_places l nodes n m (Midpoint a b) = refl
-command_places l nodes n m (Translate a b c) = refl
-command_places l nodes n m (Symmetric a o) = refl
-command_places l nodes n m (Reflect a p q) = refl
-command_places l nodes n m (Circumcenter a b c) = refl
-command_places l nodes n m (Orthocenter a b c) = refl
-command_places l nodes n m (Centroid a b c) = refl
-command_places l nodes n m (Oncircle o a) = refl
-command_places l nodes n m (Second a b o) = refl
-command_places l nodes n m (Cc o p a) = refl
-command_places l nodes n m (Inverse p o a) = refl
-command_places l nodes n m (Weights a b c r s) = refl
-command_places l nodes n m (AssumeDifferent a b) = refl
-command_places l nodes n m (AssumeNotCollinear a b c) = refl
-command_places l nodes n m (AssumeNotParallel a b c d) = refl
+command_places l nodes n m _ = refl
 
 free_is : (c : Command) → is_free c ≡ true → c ≡ Free
 free_is Free e = refl
-free_is Param e = cc
-free_is (Line a b) e = cc
-free_is (Parallel p b) e = cc
-free_is (Perp p b) e = cc
-free_is (Med a b) e = cc
-free_is (Intersec a b) e = cc
-free_is (Inter a b c d) e = cc
-free_is (Foot p a b) e = cc
-free_is (Pratio w u v r) e = cc
-free_is (Tratio u v r) e = cc
-free_is (Online a b) e = cc
-free_is (Lratio a b r) e = cc
-free_is (Midpoint a b) e = cc
-free_is (Translate a b c) e = cc
-free_is (Symmetric a o) e = cc
-free_is (Reflect a p q) e = cc
-free_is (Circumcenter a b c) e = cc
-free_is (Orthocenter a b c) e = cc
-free_is (Centroid a b c) e = cc
-free_is (Oncircle o a) e = cc
-free_is (Second a b o) e = cc
-free_is (Cc o p a) e = cc
-free_is (Inverse p o a) e = cc
-free_is (Weights a b c r s) e = cc
-free_is (AssumeDifferent a b) e = cc
-free_is (AssumeNotCollinear a b c) e = cc
-free_is (AssumeNotParallel a b c d) e = cc
+free_is _ e = cc
 
 -- they are the free points that the commands name
 commands_places : (l : Layout) (nodes : Store) (cs : List Command) (x q j n m : ℕ) → AreLaid Two l x q j n m cs

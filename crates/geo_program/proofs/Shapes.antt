@@ -10,6 +10,7 @@ use Rattle.geo_program.specs.declared.names.NameKind.TheVariants as kind
 use Rattle.geo_program.specs.declared.statements.Statement.{Statement}
 use Rattle.geo_program.specs.declared.statements.Statement.TheVariants as statement
 use Rattle.geo_program.specs.Forms.{Argument, CommandForm, point_argument, line_argument, number_argument, side_argument, command_form, statement_form}
+use Rattle.geo_program.specs.Rows.{ArgumentKind, CommandRow, command_rows, condition_rows, point_kind, line_kind, number_kind, side_kind}
 use Rattle.geo_program.specs.Words.{command_words, statement_words}
 use Rattle.geo_program.proofs.WordPlaces.{both, place_of, same_text}
 use Rattle.geo_terms.specs.Stores.{Store}
@@ -36,6 +37,19 @@ making word kind points arguments = record { word = word; condition = None; made
 abbrev assuming : List ℕ → List ℕ → Shape
 assuming condition arguments = record { word = codes "assume"; condition = Some condition; made = None; points = 0; arguments = arguments }
 
+-- the number of a kind
+abbrev kind_number : ArgumentKind → ℕ
+kind_number point_kind = 0
+kind_number line_kind = 1
+kind_number number_kind = 2
+kind_number side_kind = 3
+
+abbrev making_row : CommandRow → Shape
+making_row row = making row.word row.made row.points (map kind_number row.arguments)
+
+abbrev assuming_row : List ℕ × List ArgumentKind → Shape
+assuming_row row = assuming row.0 (map kind_number row.1)
+
 abbrev pub shape_of : CommandForm → Shape
 shape_of f = record { word = f.word; condition = f.condition; made = f.made; points = f.points; arguments = map argument_kind f.arguments }
 
@@ -46,8 +60,7 @@ key word (Some condition) = condition
 
 -- the words of commands that have a new name, and those of conditions
 abbrev keys : List (List ℕ)
-keys =
-    drop 1 command_words ++ codes "different" ∷ codes "not_collinear" ∷ codes "not_parallel" ∷ []
+keys = drop 1 command_words ++ map (λ (row : List ℕ × List ArgumentKind). row.0) condition_rows
 
 -- the word is `assume` just where there is a condition
 abbrev tells : List ℕ → Option (List ℕ) → Bool
@@ -56,35 +69,7 @@ tells word (Some condition) = same_text word (codes "assume")
 
 -- the shapes, in the order of these words
 abbrev pub command_shapes : List Shape
-command_shapes =
-    making (codes "point") kind.Point 1 ([]) ∷
-    making (codes "param") kind.Param 0 ([]) ∷
-    making (codes "line") kind.Line 0 (0 ∷ 0 ∷ []) ∷
-    making (codes "parallel") kind.Line 1 (0 ∷ 1 ∷ []) ∷
-    making (codes "perp") kind.Line 2 (0 ∷ 1 ∷ []) ∷
-    making (codes "med") kind.Line 2 (0 ∷ 0 ∷ []) ∷
-    making (codes "intersec") kind.Point 1 (1 ∷ 1 ∷ []) ∷
-    making (codes "inter") kind.Point 1 (0 ∷ 0 ∷ 0 ∷ 0 ∷ []) ∷
-    making (codes "foot") kind.Point 1 (0 ∷ 0 ∷ 0 ∷ []) ∷
-    making (codes "pratio") kind.Point 1 (0 ∷ 0 ∷ 0 ∷ 2 ∷ []) ∷
-    making (codes "tratio") kind.Point 1 (0 ∷ 0 ∷ 2 ∷ []) ∷
-    making (codes "online") kind.Point 1 (0 ∷ 0 ∷ []) ∷
-    making (codes "lratio") kind.Point 1 (0 ∷ 0 ∷ 2 ∷ []) ∷
-    making (codes "midpoint") kind.Point 1 (0 ∷ 0 ∷ []) ∷
-    making (codes "translate") kind.Point 1 (0 ∷ 0 ∷ 0 ∷ []) ∷
-    making (codes "symmetric") kind.Point 1 (0 ∷ 0 ∷ []) ∷
-    making (codes "reflect") kind.Point 2 (0 ∷ 0 ∷ 0 ∷ []) ∷
-    making (codes "circumcenter") kind.Point 5 (0 ∷ 0 ∷ 0 ∷ []) ∷
-    making (codes "orthocenter") kind.Point 3 (0 ∷ 0 ∷ 0 ∷ []) ∷
-    making (codes "centroid") kind.Point 2 (0 ∷ 0 ∷ 0 ∷ []) ∷
-    making (codes "oncircle") kind.Point 3 (0 ∷ 0 ∷ []) ∷
-    making (codes "second") kind.Point 2 (0 ∷ 0 ∷ 0 ∷ []) ∷
-    making (codes "cc") kind.Point 2 (0 ∷ 0 ∷ 0 ∷ []) ∷
-    making (codes "inverse") kind.Point 1 (0 ∷ 0 ∷ 0 ∷ []) ∷
-    making (codes "weights") kind.Point 2 (0 ∷ 0 ∷ 0 ∷ 2 ∷ 2 ∷ []) ∷
-    assuming (codes "different") (0 ∷ 0 ∷ []) ∷
-    assuming (codes "not_collinear") (0 ∷ 0 ∷ 0 ∷ []) ∷
-    assuming (codes "not_parallel") (0 ∷ 0 ∷ 0 ∷ 0 ∷ []) ∷ []
+command_shapes = map making_row command_rows ++ map assuming_row condition_rows
 
 -- the first of them
 abbrev first_shape : Shape

@@ -1,15 +1,12 @@
 -- The words of the language.
-use Rattle.std.specs.Prelude.{ℕ, ◌≤◌, IsTrue, Contains, codes, List, [], ◌∷◌, ◌++◌, length, slice_index}
+use Rattle.std.specs.Prelude.{ℕ, ◌≤◌, IsTrue, Contains, codes, List, [], ◌∷◌, ◌++◌, length, map, slice_index}
 use Rattle.std.specs.List.{AllPass}
+use Rattle.geo_program.specs.Rows.{CommandRow, command_rows}
 use Rattle.geo_lexer.specs.Bytes.{is_letter, is_word_byte}
 
 -- the words that begin a command
 abbrev pub command_words : List (List ℕ)
-command_words =
-    codes "assume" ∷ codes "point" ∷ codes "param" ∷ codes "line" ∷ codes "parallel" ∷ codes "perp" ∷ codes "med"
-    ∷ codes "intersec" ∷ codes "inter" ∷ codes "foot" ∷ codes "pratio" ∷ codes "tratio" ∷ codes "online" ∷ codes "lratio" ∷ codes "midpoint"
-    ∷ codes "translate" ∷ codes "symmetric" ∷ codes "reflect" ∷ codes "circumcenter" ∷ codes "orthocenter"
-    ∷ codes "centroid" ∷ codes "oncircle" ∷ codes "second" ∷ codes "cc" ∷ codes "inverse" ∷ codes "weights" ∷ []
+command_words = codes "assume" ∷ map (λ (row : CommandRow). row.word) command_rows
 
 -- the words that begin a statement
 abbrev pub statement_words : List (List ℕ)

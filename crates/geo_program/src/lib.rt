@@ -12,7 +12,7 @@ mod restating;
 mod statements;
 
 pub use commands::{Command, Commands, LineId};
-pub use name_table::NameTable;
+pub use name_table::{NameTable, texts_of};
 pub use names::{Name, NameKind, Names};
 pub use printer::Printer;
 pub use printing::print;

@@ -77,7 +77,11 @@ impl<'a> NameTable<'a> {
 }
 
 /// The texts of the names of a kind, in order of declaration.
-fn texts_of<'a>(alloc: Global, names: &'a [Name], kind: NameKind) -> Result<Vec<&'a [u8]>, NoMemory>
+pub fn texts_of<'a>(
+    alloc: Global,
+    names: &'a [Name],
+    kind: NameKind,
+) -> Result<Vec<&'a [u8]>, NoMemory>
     ensures { IfOk result (λ texts. map (λ text. text.now) texts.items ≡ names_of kind names.now) }
 {
     let mut texts = Vec::new(alloc);

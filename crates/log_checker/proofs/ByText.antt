@@ -21,7 +21,8 @@ use Rattle.geo_logs.specs.Moves.{IsMoved, move_charge, replacement}
 use Rattle.geo_logs.specs.Starts.{start_charge, start_of}
 use Rattle.geo_logs.specs.declared.moves.Move.{Move}
 use Rattle.log_checker.specs.Checkers.{header_of, subject_of}
-use Rattle.log_checker.specs.Inner.ByText.{IsStepTo, polynomial_in}
+use Rattle.proof_log.specs.Steps.{polynomial_on}
+use Rattle.log_checker.specs.Inner.ByText.{IsStepTo}
 use Rattle.log_checker.specs.Inner.Lines.{IsNamedBy, IsReached, IsReady}
 use Rattle.log_checker.specs.declared.due.Due.TheVariants as due
 use Rattle.log_checker.specs.declared.due.Task.{Task}
@@ -40,7 +41,7 @@ module _ (c : Construction) (construction : IsConstruction c) (known : List Var)
   }
 
   pub move_to : (mv : Move) (r : Summands) (left' : ℕ) (line : Line) → IsMoved (replacement lemma_table c mv q) left q r
-      → left' ≡ left - move_charge (replacement lemma_table c mv q) q → line ≡ line_of (moves mv r) → polynomial_in line ≡ Some r
+      → left' ≡ left - move_charge (replacement lemma_table c mv q) q → line ≡ line_of (moves mv r) → polynomial_on line ≡ Some r
       → (CanWritePolynomial r → IsWritable line) → IsStepTo c known left q left' line
   move_to mv r left' line moved paid is has fits = record {
     poly = r;

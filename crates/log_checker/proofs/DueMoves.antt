@@ -16,17 +16,6 @@ use Rattle.geo_logs.specs.Moves.{place_of, replacement}
 use Rattle.geo_logs.specs.Naming.{IsNamed, IsPlaceBelow}
 
 module _ (c : Construction) where
-  point_of : (n : ℕ) (v : Var) → IsNamed c n v → HasPointsBelow n v
-  point_of n (R a b d e) h = h
-  point_of n (S a b d) h = h
-  point_of n (P a b d) h = h
-  point_of n (Abscissa a) h = h.0
-  point_of n (Ordinate a) h = h.0
-  point_of n (Number t) h = tt
-
-  pub points_named : (n : ℕ) (q : Summands) → AllVariables (IsNamed c n) q → AllVariables (HasPointsBelow n) q
-  points_named n q h = of-both (IsNamed c n) (IsNamed c n) (HasPointsBelow n) (λ v a b. point_of n v a) q h h
-
   module _ (valid : IsConstruction c) (n : ℕ) (move : Move) (past : IsPlaceBelow n (place_of move) → ⊥) where
     no_row : (v : Var) (o : Option Row) → lemma_table.row c move v ≡ o → IsNamed c n v → o ≡ None
     no_row v None e h = refl

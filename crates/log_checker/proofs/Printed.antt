@@ -48,33 +48,7 @@ sample_values version p values = record {
 -- A PLACEMENT HAS THEM
 free_is : (c : Command) → is_free c ≡ true → c ≡ Point
 free_is Point e = refl
-free_is Param e = cc
-free_is (Line a b) e = cc
-free_is (Parallel p b) e = cc
-free_is (Perp p b) e = cc
-free_is (Med a b) e = cc
-free_is (Intersec a b) e = cc
-free_is (Inter a b c d) e = cc
-free_is (Foot p a b) e = cc
-free_is (Pratio w u v r) e = cc
-free_is (Tratio u v r) e = cc
-free_is (Online a b) e = cc
-free_is (Lratio a b r) e = cc
-free_is (Midpoint a b) e = cc
-free_is (Translate a b c) e = cc
-free_is (Symmetric a o) e = cc
-free_is (Reflect a p q) e = cc
-free_is (Circumcenter a b c) e = cc
-free_is (Orthocenter a b c) e = cc
-free_is (Centroid a b c) e = cc
-free_is (Oncircle o a) e = cc
-free_is (Second a b o) e = cc
-free_is (Cc o p a) e = cc
-free_is (Inverse p o a) e = cc
-free_is (Weights a b c r s) e = cc
-free_is (AssumeDifferent a b) e = cc
-free_is (AssumeNotCollinear a b c) e = cc
-free_is (AssumeNotParallel a b c d) e = cc
+free_is _ e = cc
 
 -- with x in front, where it is so
 abbrev WithFirst : Bool → ℕ → List ℕ → List ℕ
@@ -157,35 +131,9 @@ module _ (version : Version) (l : Layout) (nodes : Store) where
   With b n vs = elim b [ true ↦ Abscissa (record { 0 = n }) ∷ Ordinate (record { 0 = n }) ∷ vs | false ↦ vs ]
 
   of_command : (n m : ℕ) (c : Command) (rest : List StepForm) → form_coordinates n (command_steps version l nodes n m c ++ rest) ≡ With (is_free c) n (form_coordinates (next_point version n c) rest)
-  of_command n m Point rest = refl
-  of_command n m Param rest = refl
-  of_command n m (Line a b) rest = refl
-  of_command n m (Parallel p b) rest = refl
-  of_command n m (Perp p b) rest = refl
-  of_command n m (Med a b) rest = refl
-  of_command n m (Intersec a b) rest = refl
-  of_command n m (Inter a b c d) rest = refl
-  of_command n m (Foot p a b) rest = refl
-  of_command n m (Pratio w u v r) rest = refl
-  of_command n m (Tratio u v r) rest = refl
-  of_command n m (Online a b) rest = refl
-  of_command n m (Lratio a b r) rest = refl
-  of_command n m (Midpoint a b) rest = refl
-  of_command n m (Translate a b c) rest = refl
-  of_command n m (Symmetric a o) rest = refl
-  of_command n m (Reflect a p q) rest = refl
-  of_command n m (Circumcenter a b c) rest = refl
-  of_command n m (Orthocenter a b c) rest = refl
-  of_command n m (Centroid a b c) rest = refl
-  of_command n m (Oncircle o a) rest = refl
-  of_command n m (Second a b o) rest = refl
-  of_command n m (Cc o p a) rest = refl
-  of_command n m (Inverse p o a) rest = refl
   of_command n m (Weights a b c r s) rest =
       weights_coordinates version n (l.point a.0) (l.point b.0) (l.point c.0) (renamed l (tree_of nodes r)) (renamed l (tree_of nodes s)) a b c r s rest
-  of_command n m (AssumeDifferent a b) rest = refl
-  of_command n m (AssumeNotCollinear a b c) rest = refl
-  of_command n m (AssumeNotParallel a b c d) rest = refl
+  of_command n m _ rest = refl
 
   -- both coordinates of a named point
   abbrev both : ℕ → List Var

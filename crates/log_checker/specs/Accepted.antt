@@ -1,5 +1,5 @@
 -- Accepted logs as bytes, and what each program has: a subject and a defined log.
-use Rattle.std.specs.Prelude.{◌≡◌, ℕ, ◌≤◌, ℤ, codes, List, [], ◌∷◌, ◌++◌, length}
+use Rattle.std.specs.Prelude.{◌≡◌, ℕ, ◌≤◌, ℤ, IfSome, codes, List, [], ◌∷◌, ◌++◌, length}
 use Rattle.std.specs.List.{AllByRecursion, flat_map}
 use Rattle.geo_program.specs.CanonicalText.{canonical_text}
 use Rattle.geo_program.specs.Spelling.{SameSource}
@@ -8,10 +8,10 @@ use Rattle.geo_lowering.specs.declared.version.Version.{Version}
 use Rattle.geo_conditions.specs.Truth.{Breaks, IsImpossible, IsTrueProgram, ProgramValues}
 use Rattle.geo_poly.specs.declared.variables.Var.{Var}
 use Rattle.proof_log.specs.declared.log.Line.{Line}
-use Rattle.proof_log.specs.declared.log.Line.TheVariants.{Start, Ratio, Point, Coords, Cut}
 use Rattle.proof_log.specs.declared.log.Verdict.{Verdict}
 use Rattle.proof_log.specs.declared.log.Verdict.TheVariants.{Proved, False, Impossible}
 use Rattle.proof_log.specs.Lines.{log_text, value_text, verdict_text}
+use Rattle.proof_log.specs.Steps.{polynomial_on}
 use Rattle.proof_log.specs.Writable.{AllWritable, CanWritePolynomial}
 use Rattle.elim_apply.specs.LemmaTable.{lemma_table}
 use Rattle.geo_logs.specs.Ends.{Ending, IsDefinedLog}
@@ -92,12 +92,7 @@ pub record SubjectsAgree : Type 0 where
 -- WRITING
 -- the polynomial of the line, where it has one, can be written
 abbrev pub HasWritablePolynomial : Line → Type 0
-HasWritablePolynomial (Start q) = CanWritePolynomial q
-HasWritablePolynomial (Ratio v lemma at q) = CanWritePolynomial q
-HasWritablePolynomial (Point at q) = CanWritePolynomial q
-HasWritablePolynomial (Coords q) = CanWritePolynomial q
-HasWritablePolynomial (Cut by q) = CanWritePolynomial q
-HasWritablePolynomial _ = Unit {0}
+HasWritablePolynomial line = IfSome (polynomial_on line) CanWritePolynomial
 
 -- so it is of each line of an accepted log
 abbrev pub AcceptedPolynomialsAreWritable : Type 0

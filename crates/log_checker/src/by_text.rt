@@ -2,13 +2,13 @@
 //! compared with it, so that their polynomial is not read.
 
 ghost use Rattle.std.specs.Prelude.{◌≡◌, IfOk, IfSome, IsTrue};
-ghost use Rattle.log_checker.specs.Inner.ByText.{IsStepText, IsStepTo, polynomial_in};
+ghost use Rattle.log_checker.specs.Inner.ByText.{IsStepText, IsStepTo};
 ghost use Rattle.log_checker.specs.Inner.Lines.{IsNamedBy};
 ghost use Rattle.proof_log.specs.Lines.{line_text};
 ghost use Rattle.proof_log.specs.Writable.{CanWritePolynomial, IsWritable};
 
 use crate::cutting::cut_result;
-use crate::judging::line_of;
+use crate::line_of::line_of;
 use crate::moving::{move_result, ratio_move};
 use crate::reasons::Reason;
 use crate::stops::Stop;
@@ -46,7 +46,7 @@ pub(crate) fn step_by_text(
     if !is_text_of(alloc, bytes, &line)? {
         return Ok(None);
     }
-    match polynomial_of(line) {
+    match line.into_polynomial() {
         Some(poly) => Ok(Some((poly, budget.left))),
         None => Ok(None),
     }
@@ -131,17 +131,4 @@ fn is_same(left: &[u8], right: &[u8]) -> bool
     ensures { IsTrue result → left.now ≡ right.now }
 {
     left == right
-}
-
-/// The polynomial of the line of a move or of a cut.
-fn polynomial_of(line: Line) -> Option<Poly>
-    ensures { result ≡ polynomial_in line }
-{
-    match line {
-        Line::Ratio { poly, .. } => Some(poly),
-        Line::Point { poly, .. } => Some(poly),
-        Line::Coords(poly) => Some(poly),
-        Line::Cut { poly, .. } => Some(poly),
-        _ => None,
-    }
 }

@@ -20,6 +20,7 @@ ghost use Rattle.log_checker.specs.declared.errors.CheckError.{CheckError};
 use crate::accepted::Accepted;
 use crate::due::Due;
 use crate::errors::CheckError;
+use crate::line_of::line_of;
 use crate::passing::state_passes;
 use crate::reasons::Reason;
 use crate::state::State;
@@ -28,7 +29,7 @@ use crate::versions::{number_of, version_of};
 use crate::work::{Work, begun_work, work_after};
 use geo_lowering::Version;
 use geo_points::NoMemory;
-use proof_log::{Line, LineError, read_line};
+use proof_log::Line;
 use std::alloc::Global;
 
 /// The state behind the line of this number, which has these bytes.
@@ -50,17 +51,6 @@ pub(crate) fn judged(
     }
     let read = line_of(alloc, line)?;
     state_after(alloc, steps, number, state, read)
-}
-
-/// The line with this text; `None` where there is none.
-pub(crate) fn line_of(alloc: Global, bytes: &[u8]) -> Result<Option<Line>, NoMemory>
-    ensures { IfOk result (IsRead bytes.now) }
-{
-    match read_line(alloc, bytes) {
-        Ok(line) => Ok(Some(line)),
-        Err(LineError::BadLine) => Ok(None),
-        Err(LineError::NoMemory) => Err(NoMemory),
-    }
 }
 
 /// The state behind what is read as the line of this number.

@@ -16,6 +16,7 @@ mod evidence;
 mod heading;
 mod judging;
 pub mod laws;
+mod line_of;
 mod moving;
 mod passing;
 mod reasons;

@@ -4,8 +4,6 @@ ghost use Rattle.std.specs.Prelude.{◌≡◌, false, [], ◌∷◌, IfSome};
 ghost use Rattle.proof_log.specs.Inner.Reading.{Begins, StopsAt, is_number_byte, naturals};
 ghost use Rattle.proof_log.specs.Inner.Reading.{number_lists};
 
-use crate::reader::is_number_byte;
-
 /// A number of one digit at the beginning, and what is behind it.
 #[tactic(auto, using(crate::proofs::Found::digit_read))]
 pub(crate) fn lone_digit(bytes: &[u8]) -> Option<(u32, &[u8])>
@@ -50,4 +48,11 @@ fn begins_with_number_byte(bytes: &[u8]) -> bool
         [first, ..] => is_number_byte(*first),
         [] => false,
     }
+}
+
+/// Whether a byte is a digit or `-`.
+pub(crate) fn is_number_byte(byte: u8) -> bool
+    ensures { result ≡ is_number_byte byte }
+{
+    byte == b'-' || byte.is_ascii_digit()
 }

@@ -5,7 +5,7 @@ ghost use Rattle.std.specs.Prelude.{IfNone, IfOk, IfSome, IsTrue, OnOk, drop, le
 ghost use Rattle.mono_store.specs.Words.{Limits, word_count};
 ghost use Rattle.proof_log.specs.Inner.KeptTexts.{AreKept, BeginWith, IsBegun, IsHead, IsSpan, numbered_text, word_text};
 
-use crate::writer::push_exponent;
+use crate::number_texts::push_exponent;
 use geo_base::Text;
 use geo_points::NoMemory;
 use mono_store::Digits;

@@ -11,7 +11,9 @@ mod leads;
 mod line_reader;
 mod log;
 mod names;
+mod number_texts;
 mod reader;
+mod steps;
 mod terms;
 mod writer;
 

@@ -13,7 +13,7 @@ ghost use Rattle.proof_log.specs.Inner.Reading.{exponents, integers, is_number_b
 ghost use Rattle.proof_log.specs.Inner.Reading.{names, naturals, number_lists, single_powers};
 ghost use Rattle.proof_log.specs.Inner.Reading.{variables};
 
-use crate::digits::{lone_digit, lone_digits};
+use crate::digits::{is_number_byte, lone_digit, lone_digits};
 use geo_base::read_decimal;
 use geo_points::{ParamId, PointId};
 use geo_poly::{MAX_DEGREE, Var};
@@ -292,13 +292,6 @@ impl<'a> Reader<'a> {
             if number < 0 { Some(number) } else { None }
         }
     }
-}
-
-/// Whether a byte is a digit or `-`.
-pub(crate) fn is_number_byte(byte: u8) -> bool
-    ensures { result ≡ is_number_byte byte }
-{
-    byte == b'-' || byte.is_ascii_digit()
 }
 
 /// Whether a byte is a digit, `-`, `^` or `*`.

@@ -16,6 +16,7 @@ ghost use Rattle.proof_log.specs.Lines.{value_text, variable_name, which_text};
 
 use crate::kept_texts::KeptTexts;
 use crate::log::{Line, Verdict};
+use crate::number_texts::{push_exponent, push_integer, push_long, push_number};
 use geo_base::Text;
 use geo_points::{NoMemory, PointId};
 use geo_poly::lists::Values;
@@ -385,18 +386,6 @@ fn push_power(
     push_exponent(alloc, out, exponent)
 }
 
-/// Appends an exponent where it is not 1.
-pub(crate) fn push_exponent(alloc: Global, out: &mut Vec<u8>, exponent: u32) -> Result<(), NoMemory>
-    ensures { OnOk result (out.new.items
-        ≡ out.old.items ++ cond (exponent == 1) [] (codes "^" ++ decimal exponent)) }
-{
-    if exponent != 1 {
-        out.push(b'^')?;
-        push_number(alloc, out, exponent)?;
-    }
-    Ok(())
-}
-
 /// `*` and the name of each variable, made once for all its powers; none where there are fewer terms
 /// than variables.
 fn names_of(alloc: Global, p: &Shared) -> Result<Vec<Text>, NoMemory>
@@ -454,25 +443,4 @@ fn push_name(
         push_number(alloc, out, *number)?;
     }
     Ok(())
-}
-
-/// Appends the digits of a number.
-fn push_number(alloc: Global, out: &mut Vec<u8>, n: u32) -> Result<(), NoMemory>
-    ensures { OnOk result (out.new.items ≡ out.old.items ++ decimal n) }
-{
-    push_integer(alloc, out, n as i128)
-}
-
-/// Appends the digits of a number of 64 bits.
-fn push_long(alloc: Global, out: &mut Vec<u8>, n: u64) -> Result<(), NoMemory>
-    ensures { OnOk result (out.new.items ≡ out.old.items ++ decimal n) }
-{
-    push_integer(alloc, out, n as i128)
-}
-
-/// Appends the digits of an integer, with a `-` before them where it is negative.
-fn push_integer(alloc: Global, out: &mut Vec<u8>, n: i128) -> Result<(), NoMemory>
-    ensures { OnOk result (out.new.items ≡ out.old.items ++ signed_decimal n) }
-{
-    geo_base::push_decimal(alloc, out, n).map_err(|_| NoMemory)
 }

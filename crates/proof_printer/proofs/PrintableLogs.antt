@@ -25,6 +25,7 @@ use Rattle.geo_logs.specs.Sound.{IsSoundTable}
 use Rattle.geo_logs.specs.Starts.{start_charge, start_of}
 use Rattle.geo_logs.proofs.Charges.{chain_spent}
 use Rattle.geo_logs.proofs.MoveValues.{move_named}
+use Rattle.geo_logs.proofs.NamedPoints.{named_points}
 use Rattle.geo_logs.proofs.TermVariables.{term_sound}
 use Rattle.elim_apply.specs.LemmaTable.{lemma_table, row_charge, row_denominator}
 use Rattle.elim_apply.proofs.MoveRows.{lemma_table_sound}
@@ -44,22 +45,10 @@ module _ (c : Construction) (construction : IsConstruction c) where
   abbrev points : ℕ
   points = length c.steps
 
-  -- the points of a variable
-  below : (v : Var) → IsNamed c points v → HasPointsBelow points v
-  below (R a b d e) h = h
-  below (S a b d) h = h
-  below (P a b d) h = h
-  below (Abscissa a) h = h.0
-  below (Ordinate a) h = h.0
-  below (Number t) h = tt
-
-  all_below : (q : Summands) → AllVariables (IsNamed c points) q → AllVariables (HasPointsBelow points) q
-  all_below q h = of-both (IsNamed c points) (IsNamed c points) (HasPointsBelow points) (λ v a b. below v a) q h h
-
   -- MOVES
   moved : (mv : Move) (left : ℕ) (q r : Summands) → AllVariables (IsNamed c points) q → left < 2 ^ 128 → IsMoved (replacement lemma_table c mv q) left q r → CanMove c q mv
   moved mv left q r named few m = record {
-    points = all_below q named;
+    points = named_points c points q named;
     place = (move_named lemma_table c sound points mv left q r named m).place;
     within = record {
       some = m.replaces;

@@ -4,7 +4,6 @@ ghost use Rattle.std.specs.Prelude.{codes, ◌≡◌, [], ◌∷◌, ◌++◌, I
 ghost use Rattle.geo_lowering.specs.Lowering.{IsLowered};
 ghost use Rattle.geo_lowering.specs.Parts.{form_of};
 ghost use Rattle.geo_lowering.specs.declared.version.Version.{Version};
-ghost use Rattle.geo_program.specs.Names.{names_of};
 ghost use Rattle.geo_program.specs.Programs.{source_of};
 ghost use Rattle.proof_printer.specs.Inner.Names.{naming_in};
 ghost use Rattle.proof_printer.specs.Naming.{naming_of, points_text, variable_text};
@@ -13,7 +12,7 @@ use crate::name_list::NameList;
 use geo_lowering::Lowered;
 use geo_points::{NoMemory, ParamId, PointId};
 use geo_poly::Var;
-use geo_program::{Name, NameKind, Program};
+use geo_program::{NameKind, Program, texts_of};
 use std::alloc::Global;
 
 /// The names of points and parameters by number.
@@ -111,19 +110,6 @@ impl Namer {
         }
         Ok(())
     }
-}
-
-/// The texts of the names of a kind, in order of declaration.
-fn texts_of<'a>(alloc: Global, names: &'a [Name], kind: NameKind) -> Result<Vec<&'a [u8]>, NoMemory>
-    ensures { IfOk result (λ texts. map (λ text. text.now) texts.items ≡ names_of kind names.now) }
-{
-    let mut texts = Vec::new(alloc);
-    for name in names {
-        if name.kind == kind {
-            texts.push(name.bytes())?;
-        }
-    }
-    Ok(texts)
 }
 
 /// The numbers of points.

@@ -8,7 +8,7 @@ use Rattle.geo_poly.specs.Monomials.{Powers, degree_of}
 use Rattle.geo_poly.specs.Replace.{degree_rows, denominators, others, row_of, weight_rows}
 use Rattle.geo_poly.specs.Polynomials.{term_at}
 use Rattle.geo_poly.specs.Shared.{told}
-use Rattle.elim_apply.specs.declared.shares.Share.{Share}
+use Rattle.elim_apply.specs.declared.share.Share.{Share}
 use Rattle.elim_apply.specs.declared.small_shares.SmallShare.{SmallShare}
 
 -- what becomes of the monomial, but for the denominators that it lacks, where its coefficient has the absolute value k

@@ -5,8 +5,8 @@ use Rattle.fraction_poly.specs.declared.drafts.Draft.{Draft}
 use Rattle.fraction_poly.specs.declared.drafts.Draft.TheVariants.{Integer, Area, Pythagoras, Ratio, Abscissa, Ordinate, Numerator, Denominator, Combined', Opposite'}
 use Rattle.fraction_poly.specs.declared.drafts.Number.{Number}
 use Rattle.fraction_poly.specs.declared.drafts.Number.TheVariants.{First, Second}
-use Rattle.fraction_poly.specs.declared.drafts.Operation.{Operation}
-use Rattle.fraction_poly.specs.declared.drafts.Operation.TheVariants.{Sum, Difference, Product}
+use Rattle.fraction_poly.specs.declared.operations.Operation.{Operation}
+use Rattle.fraction_poly.specs.declared.operations.Operation.TheVariants.{Sum, Difference, Product}
 use Rattle.fraction_poly.specs.declared.drafts.RowDraft.{RowDraft}
 use Rattle.fraction_poly.specs.declared.drafts.StepTerms.{StepTerms}
 use Rattle.fraction_poly.specs.declared.linear.Linear.{Linear}

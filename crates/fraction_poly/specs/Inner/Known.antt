@@ -2,7 +2,7 @@
 use Rattle.std.specs.Prelude.{◌≡◌, pos, Option, Some, IsSome, nat_eq}
 use Rattle.std.specs.HashMap.{get}
 use Rattle.fraction_poly.specs.declared.known_numbers.KnownNumbers.{KnownNumbers}
-use Rattle.fraction_poly.specs.declared.measures.Numbers.{Numbers}
+use Rattle.fraction_poly.specs.declared.numbers.Numbers.{Numbers}
 use Rattle.fraction_poly.specs.declared.step_numbers.StepNumber.{StepNumber}
 use Rattle.fraction_poly.specs.Forms.{step_number}
 use Rattle.fraction_poly.specs.Measures.{capped, numbers_of}

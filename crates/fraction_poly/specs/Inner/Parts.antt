@@ -8,7 +8,7 @@ use Rattle.geo_terms.specs.declared.nodes.Node.{Node}
 use Rattle.geo_terms.specs.declared.nodes.Node.TheVariants.{Neg, Add, Sub, Mul, Div}
 use Rattle.geo_terms.specs.Stores.{Store, tree_at, tree_of}
 use Rattle.geo_terms.specs.Trees.{Tree}
-use Rattle.fraction_poly.specs.declared.measures.Numbers.{Numbers}
+use Rattle.fraction_poly.specs.declared.numbers.Numbers.{Numbers}
 use Rattle.fraction_poly.specs.Measures.{HasRoom, capped, numbers_of}
 use Rattle.fraction_poly.specs.MultipliedOut.{multiplied_out}
 

@@ -201,33 +201,7 @@ word_begins w (x ∷ rest) e = in_word w (32 ∷ line_text (x ∷ rest)) e
 word_first : (nodes : Store) (c : Command) → first_word (command_form nodes c).word ≡ true
 unfolding first_word
 word_first nodes command.Point = refl
-word_first nodes command.Param = refl
-word_first nodes (command.Line a b) = refl
-word_first nodes (command.Parallel p b) = refl
-word_first nodes (command.Perp p b) = refl
-word_first nodes (command.Med a b) = refl
-word_first nodes (command.Intersec a b) = refl
-word_first nodes (command.Inter a b c d) = refl
-word_first nodes (command.Foot p a b) = refl
-word_first nodes (command.Pratio w u v r) = refl
-word_first nodes (command.Tratio u v r) = refl
-word_first nodes (command.Online a b) = refl
-word_first nodes (command.Lratio a b r) = refl
-word_first nodes (command.Midpoint a b) = refl
-word_first nodes (command.Translate a b c) = refl
-word_first nodes (command.Symmetric a o) = refl
-word_first nodes (command.Reflect a p q) = refl
-word_first nodes (command.Circumcenter a b c) = refl
-word_first nodes (command.Orthocenter a b c) = refl
-word_first nodes (command.Centroid a b c) = refl
-word_first nodes (command.Oncircle o a) = refl
-word_first nodes (command.Second a b o) = refl
-word_first nodes (command.Cc o p a) = refl
-word_first nodes (command.Inverse p o a) = refl
-word_first nodes (command.Weights a b c r s) = refl
-word_first nodes (command.AssumeDifferent a b) = refl
-word_first nodes (command.AssumeNotCollinear a b c) = refl
-word_first nodes (command.AssumeNotParallel a b c d) = refl
+word_first nodes _ = refl
 
 -- the first line of each program begins with a word
 begins_with_word : (p : Source) → first_word_of (source_lines p) ≡ true

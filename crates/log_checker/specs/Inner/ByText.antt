@@ -4,8 +4,8 @@ use Rattle.geo_poly.specs.declared.variables.Var.{Var}
 use Rattle.geo_poly.specs.Polynomials.{Summands}
 use Rattle.geo_terms.specs.Constructions.{Construction}
 use Rattle.proof_log.specs.declared.log.Line.{Line}
-use Rattle.proof_log.specs.declared.log.Line.TheVariants.{Ratio, Point, Coords, Cut}
 use Rattle.proof_log.specs.Lines.{line_text}
+use Rattle.proof_log.specs.Steps.{polynomial_on}
 use Rattle.proof_log.specs.Writable.{IsWritable}
 use Rattle.log_checker.specs.Inner.Judged.{IsNextPiece, Leaves}
 use Rattle.log_checker.specs.Inner.Lines.{GoesOn, IsStepLine}
@@ -13,18 +13,10 @@ use Rattle.log_checker.specs.declared.evidence.Evidence.{Evidence}
 use Rattle.log_checker.specs.declared.state.State.{State}
 use Rattle.log_checker.specs.declared.work.Work.{Work}
 
--- the polynomial after a move or a cut
-abbrev pub polynomial_in : Line → Option Summands
-polynomial_in (Ratio v lemma at q) = Some q
-polynomial_in (Point at q) = Some q
-polynomial_in (Coords q) = Some q
-polynomial_in (Cut by q) = Some q
-polynomial_in _ = None
-
 -- the line is that of a step of a chain, and may be written
 pub record IsStepTo (c : Construction) (known : List Var) (left : ℕ) (q : Summands) (left' : ℕ) (line : Line) : Type 0 where
   pub poly : Summands
-  pub has : polynomial_in line ≡ Some poly
+  pub has : polynomial_on line ≡ Some poly
   pub writable : IsWritable line
   pub is_step : IsStepLine c known left q line left' poly
 

@@ -1,9 +1,10 @@
 -- Lines without their polynomials.
-use Rattle.std.specs.Prelude.{◌≡◌, ℕ, Bool, true, false, List, []}
+use Rattle.std.specs.Prelude.{◌≡◌, ℕ, Bool, false, is_some, List, []}
 use Rattle.geo_poly.specs.Polynomials.{Summands}
 use Rattle.geo_terms.specs.Constructions.{Construction}
 use Rattle.proof_log.specs.declared.log.Line.{Line}
 use Rattle.proof_log.specs.declared.log.Line.TheVariants.{Start, Ratio, Point, Coords, Cut}
+use Rattle.proof_log.specs.Steps.{polynomial_on}
 use Rattle.proof_log.specs.Writable.{CanWritePolynomial}
 use Rattle.proof_printer.specs.Inner.Printing.{CanPrint}
 use Rattle.proof_printer.specs.Inner.Reading.{IsKept, IsTextOf}
@@ -13,12 +14,7 @@ use Rattle.proof_printer.specs.declared.reading.Before.{Before}
 
 -- whether a line has a polynomial
 abbrev pub has_polynomial : Line → Bool
-has_polynomial (Start q) = true
-has_polynomial (Ratio v lemma at q) = true
-has_polynomial (Point at q) = true
-has_polynomial (Coords q) = true
-has_polynomial (Cut by q) = true
-has_polynomial _ = false
+has_polynomial line = is_some (polynomial_on line)
 
 -- the line is this one, but for its polynomial, which has this text
 abbrev pub IsStep : Line → List ℕ → Line → Type 0

@@ -1,5 +1,6 @@
 use Rattle.std.proofs.Common.{length}
-use Rattle.log_checker.proofs.DueMoves.{nothing_past, points_named}
+use Rattle.geo_logs.proofs.NamedPoints.{named_points}
+use Rattle.log_checker.proofs.DueMoves.{nothing_past}
 use Rattle.log_checker.proofs.KeysInTurn.{false_not}
 use Rattle.log_checker.proofs.moving.move_result_in.Goals as goal
 
@@ -9,4 +10,4 @@ returns-then-not-has_place-clause-refused g c = λ q.
     (λ below. false_not (c.if-not-has_place.ensures.1 below)) c.args.before.now c.requires.named
 
 pub apply-requires-clause-points : goal.apply-requires-clause-points
-apply-requires-clause-points g c = points_named c.args.steps.now (length c.args.steps.now.steps) c.args.before.now c.requires.named
+apply-requires-clause-points g c = named_points c.args.steps.now (length c.args.steps.now.steps) c.args.before.now c.requires.named

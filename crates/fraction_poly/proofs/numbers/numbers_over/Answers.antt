@@ -1,7 +1,7 @@
 use Rattle.std.proofs.Common.{ap, ◌∙◌}
 use Rattle.fraction_poly.specs.Measures.{capped, product_numbers}
 use Rattle.fraction_poly.proofs.SmallTerms.{numbers_divided, numbers_multiplied, numbers_summed}
-use Rattle.fraction_poly.proofs.measures.numbers_over.Goals as goal
+use Rattle.fraction_poly.proofs.numbers.numbers_over.Goals as goal
 
 pub returns-in-Mul : goal.returns-in-Mul
 returns-in-Mul c trees h =

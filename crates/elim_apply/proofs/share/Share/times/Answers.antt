@@ -1,6 +1,6 @@
 use Rattle.std.proofs.Common.{refl}
 use Rattle.elim_apply.proofs.LineShares.{share_times}
-use Rattle.elim_apply.proofs.shares.Share.times.Goals as goal
+use Rattle.elim_apply.proofs.share.Share.times.Goals as goal
 
 pub returns : goal.returns
 returns c = λ rows m h.

@@ -1,6 +1,6 @@
 use Rattle.std.proofs.Common.{◌+◌, ◌-◌, ◌^◌}
 use Rattle.elim_apply.proofs.CappedRows.{capped_product}
-use Rattle.elim_apply.proofs.shares.Share.charge.Goals as goal
+use Rattle.elim_apply.proofs.share.Share.charge.Goals as goal
 
 pub returns : goal.returns
 returns c =

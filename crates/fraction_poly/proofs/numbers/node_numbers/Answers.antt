@@ -3,7 +3,7 @@ use Rattle.geo_terms.specs.declared.nodes.Node.{Node}
 use Rattle.geo_terms.specs.Stores.{node_tree, tree_at}
 use Rattle.fraction_poly.specs.Measures.{capped, numbers_of, sum_numbers, product_numbers, turned_numbers}
 use Rattle.fraction_poly.proofs.CappedNumbers.{capped-sum, capped-product, numbers_at}
-use Rattle.fraction_poly.proofs.measures.node_numbers.Goals as goal
+use Rattle.fraction_poly.proofs.numbers.node_numbers.Goals as goal
 
 pub returns-in-Add : goal.returns-in-Add
 returns-in-Add c = λ trees h.
