@@ -1,0 +1,88 @@
+"""Auxiliary points: each rule gives commands that may stand behind a program. A command makes its point wherever its conditions hold, and
+the answer has these."""
+# SPDX-License-Identifier: Apache-2.0
+from itertools import combinations
+
+from constructions import by_foot, by_line_and_circle, by_ratio, by_two_circles, by_two_lines, by_vectors
+from residues import NoFigure, Residue, place
+from figure import Figure
+from canonical import names_in
+
+ONE = ("number", 1)
+
+
+def middles(ground, facts):
+    """Midpoints of two points that a command or the statement names beside each other."""
+    words = ("circumcenter", "orthocenter", "centroid", "foot", "oncircle")
+    for args in [c.args for c in ground.commands if c.word in words] + [ground.statement.args]:
+        points = [x for x in dict.fromkeys(names_in(args)) if x in ground.at]
+        yield from (("midpoint", t) for t in combinations(points, 2))
+
+
+def triangle(ground, facts):
+    """The circumcenter, the orthocenter and the feet of the altitudes of a triangle that has a centre, and of the first free points."""
+    free = tuple(c.name for c in ground.commands if c.word == "point")[:3]
+    found = [c.args for c in ground.commands if c.word in ("circumcenter", "orthocenter")]
+    for a, b, c in dict.fromkeys(found + ([free] if len(free) == 3 else [])):
+        yield from (("circumcenter", (a, b, c)), ("orthocenter", (a, b, c)), ("foot", (a, b, c)), ("foot", (b, c, a)), ("foot", (c, a, b)))
+
+
+def touching(ground, facts):
+    """Where a reflection X of A in PQ made PQ a bisector: the feet of the perpendiculars from Q to both arms, also where a point is there.
+    And points of the tangents at feet."""
+    for c in ground.commands:
+        if c.word == "reflect":
+            yield from (("foot", (c.args[2], c.args[1], arm), "again") for arm in (c.name, c.args[0]))
+        if c.word == "foot":
+            yield "tratio", (c.name, c.args[0], ONE)
+
+
+def again(ground, facts):
+    """A point of the statement again, by another construction: it is proved of this one, and carried over."""
+    rules = (by_vectors, by_line_and_circle, by_two_lines, by_foot, by_ratio, by_two_circles)
+    for x in dict.fromkeys(names_in(ground.statement.args)):
+        if x in ground.at:
+            yield from ((*construction, "again") for rule in rules for construction in rule(facts, x))
+
+
+# What smaller statements and the rounds of the search take, and how many points at most.
+FOR_SMALLER = [((), 0), ((triangle,), 6), ((triangle, middles), 8), ((touching,), 12)]
+POOLS = [((), 0), ((triangle,), 6), ((middles,), 6), ((again,), 3), ((touching,), 12), ((triangle, middles), 8), ((triangle, again), 8)]
+
+
+def pool(ground, rules, most):
+    """Auxiliary commands of these rules, chosen at random, at most so many; none at a place where a point is, if it is not to be there
+    again. Behind some feet stands a quarter-turn."""
+    facts, dice, found = ground.relations(), ground.dice, []
+    offers = []
+    for rule in rules:
+        some = list(dict.fromkeys(rule(ground, facts)))
+        offers += dice.sample(some, min(len(some), 3 * most))
+    dice.shuffle(offers)
+    figure, there = Figure(), set(ground.at.values())
+    figure.points, figure.numbers = dict(ground.real.points), ground.real.numbers
+    for word, args, *twice in offers:
+        if len(found) >= most:
+            break
+        command = ground.names.command(word, *args)
+        if command in found or command in ground.commands or not has_place(figure, command, there, twice):
+            continue
+        found.append(command)
+        if word == "foot" and not twice and dice.random() < 0.5:
+            turn = ground.names.command("tratio", command.name, args[1], ONE)
+            if has_place(figure, turn, there, False):
+                found.append(turn)
+    return found
+
+
+def has_place(figure, command, there, twice):
+    """Makes the point of a command, where there is one."""
+    try:
+        figure.add(command, Residue(0))
+    except NoFigure:
+        return False
+    where = place(*figure.points[command.name])
+    if where in there and not twice:
+        return False
+    there.add(where)
+    return True

@@ -1,0 +1,85 @@
+"""Certificates: NAME.cite is the input of `cite`, NAME.at that of `place`. The proved program checks both; what they show is told here."""
+# SPDX-License-Identifier: Apache-2.0
+import re
+from pathlib import Path
+
+from canonical import program_text, read
+from prover import DONE, Prover
+
+ADDED = "% added\n"
+
+
+class Refused(Exception):
+    """A certificate that does not show what it should; the text says why."""
+
+
+def with_mark(figure, book, statement):
+    """The text of a figure, with a comment where what is added to the program begins."""
+    own, rest = program_text(book, statement), program_text(figure[len(book) :], statement)
+    return own[: own.rindex("prove {")] + (ADDED if len(figure) > len(book) else "") + rest
+
+
+def stem_of(name):
+    return re.sub(r"\.geo$", "", Path(name).name).replace("<stdin>", "stdin")
+
+
+def write(folder, name, parts):
+    """Writes the parts of a certificate, a text for each ending, in the place of an older one."""
+    Path(folder).mkdir(parents=True, exist_ok=True)
+    Path(folder, f"{stem_of(name)}.cite").unlink(missing_ok=True)
+    for ending, text in parts.items():
+        Path(folder, f"{stem_of(name)}.{ending}").write_text(text)
+
+
+def canonical_of(log):
+    """The canonical program of a log."""
+    return "".join(line[2:] + "\n" for line in log.split("\ngoal ")[0].splitlines() if line.startswith("| "))
+
+
+def canonical(program, path):
+    """The canonical text of the program in a file."""
+    text = canonical_of(Prover(program).ask("prove", file_text(path, path), steps=1).text)
+    if not text:
+        raise Refused(f"'{path}' is no program")
+    return text
+
+
+def file_text(path, name):
+    try:
+        return Path(path).read_text(encoding="utf-8", errors="surrogateescape")
+    except OSError as error:
+        raise Refused(f"cannot read {name}: {error.strerror}") from error
+
+
+def checked(program, folder, name, book=None):
+    """What a certificate shows: a word, the statement, the commands of its program and its `at` line. `book` is the canonical program that
+    it should be of."""
+    prover = Prover(program)
+    line, _, figure = file_text(Path(folder, f"{name}.at"), f"{name}.at").partition("\n")
+    status, rows = prover.place(line, figure)
+    if status != DONE:
+        raise Refused(f"place answers {rows[-1] if rows else status} to {name}.at")
+    told, wanted = ("solved", "holds") if Path(folder, f"{name}.cite").exists() else ("false", "fails")
+    if rows[-1] != wanted:
+        raise Refused(f"place answers {rows[-1]} to {name}.at, and {wanted} is due")
+    commands, statement = read(figure)
+    if told == "solved":
+        check_citation(prover, file_text(Path(folder, f"{name}.cite"), f"{name}.cite"), name, commands, statement)
+    if book is not None:
+        check_book(told, name, commands, statement, *read(book))
+    return told, statement, commands, line
+
+
+def check_citation(prover, citation, name, commands, statement):
+    """`cite` shows the statement at the program that `place` has."""
+    cited = prover.ask("cite", citation)
+    if cited.status != DONE:
+        raise Refused(f"cite answers {cited.last} to {name}.cite")
+    if read(citation[re.search(r"^with .*\n", citation, re.M).end() :]) != (commands, statement):
+        raise Refused(f"{name}.cite and {name}.at are of two programs")
+
+
+def check_book(told, name, commands, statement, book, goal):
+    """The certificate's program is the one that is asked for, and behind it at most auxiliary commands and assumptions."""
+    if commands[: len(book)] != book or statement != goal or told == "false" and len(commands) > len(book):
+        raise Refused(f"{name}.at is of another program")

@@ -1,0 +1,137 @@
+"""The search for another formulation of a program's theorem: which are tried, in which order, and what is believed of them.
+
+Nothing is believed of the search itself. A statement is told as false where `place` shows a figure in which it fails, and as solved where
+`cite` shows the proved formulation at the figure, and `place` shows that there is one."""
+# SPDX-License-Identifier: Apache-2.0
+import random
+from collections import deque
+from concurrent.futures import ThreadPoolExecutor, TimeoutError
+from itertools import count
+
+from auxiliary import FOR_SMALLER, POOLS, pool
+from frames import frames, smaller
+from ground import Ground, Orders
+from prover import DONE, MOST
+from residues import NoFigure
+from canonical import Names, program_text
+from figures import figure_where
+
+# The stages of a proof: its steps, its seconds of processor time, and how many of those that came farthest at the stage before get so far.
+STAGES = ((100_000_000, 1, 50), (100_000_000_000, 1, 5), (MOST, 4, 1))
+CITE_SECONDS = 3
+# How many orders that come far go into frames, and into how many.
+FRAMED = 2
+# The parts of the time that frames, smaller statements, and one list of a round have.
+FRAMES_SHARE, SMALLER_SHARE, ROUND_SHARE = 1 / 6, 1 / 10, 1 / 8
+SAMPLES = 200
+SOLVED = "solved"
+
+
+class Search:
+    def __init__(self, commands, statement, prover, jobs, tries=None, show=None, seed=1):
+        self.book, self.statement, self.prover = commands, statement, prover
+        self.jobs, self.tries, self.show = jobs, tries, show
+        self.tried, self.proved, self.lost, self.done = 0, 0, None, set()
+        self.names = Names(c.name for c in commands)
+        self.dice = random.Random(seed)
+
+    def batches(self):
+        """Lists of tries, each with its part of the time. Behind each list their outcomes are known."""
+        try:
+            ground = Ground(self.book, self.statement, self.names, self.dice)
+        except NoFigure:
+            return
+        yield self.fitting(frames(ground, ground.commands, "frame", 6)), FRAMES_SHARE
+        for rules, most in FOR_SMALLER:
+            wider = ground.with_added(pool(ground, rules, most)) if rules else ground
+            yield self.fitting(smaller(wider, 40)), SMALLER_SHARE
+        for k in count():
+            rules, most = POOLS[k % len(POOLS)]
+            added = pool(ground, rules, most)
+            if not most or added:
+                yield from self.round(ground.with_added(added))
+
+    def fitting(self, tries):
+        """The tries that were not made before, without those that make no figure."""
+        found = []
+        while True:
+            try:
+                attempt = next(tries, None)
+            except NoFigure:
+                continue
+            if attempt is None:
+                return found
+            text = program_text(attempt.form, self.statement) + program_text(attempt.figure, self.statement)
+            if text not in self.done:
+                self.done.add(text)
+                found.append(attempt)
+
+    def round(self, ground):
+        """Orders of one ground, the lightest first with few steps; those that came farthest with more, and then in frames."""
+        some = self.fitting(iter(Orders(ground).batch(STAGES[0][2])))
+        framed = (attempt for t in some[:FRAMED] for attempt in frames(ground, t.own_form, "frame of an order", FRAMED))
+        for stage, (_, _, most) in enumerate(STAGES):
+            some = sorted((attempt for attempt in some if not attempt.log), key=lambda attempt: -attempt.far)[:most]
+            for attempt in some:
+                attempt.stage = stage
+            yield some, ROUND_SHARE
+            if stage == 0:
+                yield self.fitting(framed), ROUND_SHARE
+
+    def run(self):
+        """The first formulation, in the order of the search, that is cited at a figure that there is; None: there is none."""
+        with ThreadPoolExecutor(self.jobs) as workers:
+            try:
+                for batch, share in self.batches():
+                    found = self.first(workers, iter(batch), self.prover.deadline(share))
+                    if found or self.is_over():
+                        return found
+            finally:
+                self.prover.stop()
+                if self.show:
+                    self.show("")
+
+    def is_over(self):
+        return self.prover.is_past(self.prover.until) or self.tries is not None and self.tried >= self.tries
+
+    def first(self, workers, queue, until):
+        """The first of the queue that is solved."""
+        waiting = deque()
+        while True:
+            while len(waiting) < self.jobs and not self.is_over() and not self.prover.is_past(until) and (attempt := next(queue, None)):
+                self.tried += 1
+                waiting.append(workers.submit(self.prove_and_cite, attempt))
+            if not waiting:
+                return None
+            attempt = self.result(waiting.popleft())
+            if attempt.outcome == SOLVED:
+                return attempt
+            if attempt.log:
+                self.proved += 1
+                self.lost = self.lost or attempt
+
+    def result(self, waiting):
+        """The outcome of a try; on a terminal the seconds are told meanwhile."""
+        while self.show:
+            self.show(f"{self.tried} formulations tried, {self.proved} proved and not carried back")
+            try:
+                return waiting.result(0.5)
+            except TimeoutError:
+                pass
+        return waiting.result()
+
+    def prove_and_cite(self, attempt):
+        """The try, with what came of it."""
+        steps, seconds, _ = STAGES[attempt.stage]
+        answer = self.prover.ask("prove", program_text(attempt.form, self.statement), seconds, steps)
+        attempt.outcome = answer.last
+        if answer.status != 0:
+            attempt.far = answer.text.count("\n") / len(attempt.form)
+            return attempt
+        attempt.log, figure = answer.text, program_text(attempt.figure, self.statement)
+        cited = self.prover.ask("cite", attempt.citation(figure), CITE_SECONDS)
+        attempt.outcome = cited.last
+        if cited.status == DONE:
+            attempt.placed = figure_where("holds", self.prover, figure, SAMPLES, SAMPLES)
+            attempt.outcome = SOLVED if attempt.placed else "no figure was found"
+        return attempt
