@@ -1,6 +1,14 @@
-# The word `page` of geo: proves one program, and makes a page of it. Sourced by geo.
+# The word `page` of geo: proves a program, and makes a page of it; with --into a folder of pages and an index. Sourced by geo.
 # SPDX-License-Identifier: Apache-2.0
-# shellcheck shell=bash disable=SC2154
+# shellcheck shell=bash disable=SC2034,SC2154
+
+. "$home/tools/figures.bash"
+. "$home/tools/record.bash"
+words=(prove)
+into=${given[into]-}
+[ -z "${given[into]+yes}" ] || [ -n "$into" ] || refuse "behind --into the name of a folder is due"
+[ ${#names[@]} -eq 1 ] || [ -n "$into" ] || refuse "behind 'page' the name of one file is due; for several files: geo page FILE.. --into FOLDER"
+command -v python3 >/dev/null || refuse "'page' needs python3, which is not found"
 
 # asked WORD FILE: the program's answer to this word, on a file that stands as one more input
 asked() {
@@ -9,11 +17,12 @@ asked() {
   answer $((${#inputs[@]} - 1))
 }
 
-# make_page NUMBER
-make_page() {
-  local log=$room/page.log text=$room/page.text ended
+# answer_page NUMBER: the page of the program of that number, or what is due for it in a list
+answer_page() {
+  local log=$room/page.$1.log text=$room/page.$1.text at='' ended
   answer "$1" >"$log"
   ended=$?
+  case $ended in 6 | 7 | 12 | 124) try_figures "$1" && ended=1 ;; esac
   if [ "$ended" -eq 7 ] && [ ${#taken[@]} -eq 0 ]; then
     taken=(--steps "$most")
     answer "$1" >"$log"
@@ -21,12 +30,35 @@ make_page() {
   fi
   : >"$text"
   case $ended in
-    0 | 1 | 2) asked text "$log" >"$text" ;;
-    6 | 7) ;;
+    0 | 1 | 2) [ -n "$at" ] || asked text "$log" >"$text" ;;
+    6 | 7 | 124) ;;
     12) grep -q '^geolog' "$log" || return 12 ;;
     *) return "$ended" ;;
   esac
   words=(prove)
-  python3 -B "$home/tools/page/page.py" "${names[$1]}" "${inputs[$1]}" "$log" "$text" "$([ "$fresh" = no ] || echo "$program")"
-  case $? in 0) return "$ended" ;; 9) return 9 ;; *) return 70 ;; esac
+  if [ -n "$into" ]; then
+    printf '%s\0' "${typed[$1]}" "${inputs[$1]}" "$log" "$text" "$at" >>"$room/pages"
+    return "$ended"
+  fi
+  pages "${typed[$1]}" "${inputs[$1]}" "$log" "$text" "$at" && return "$ended"
+}
+
+# pages WORD..: the pages for these words; what is wrong is told there, and ends with a status of geo
+pages() {
+  local ended binary='' record=()
+  [ "$fresh" = no ] || binary=$program
+  [ -z "$binary" ] || ! recorded "$program" tree >/dev/null || record=(--recorded)
+  run python3 -B "$home/tools/page" ${given[short]:+--short} "${record[@]}" -- "$@" "$binary" </dev/null
+  case $? in 0) return 0 ;; 3) ended=3 ;; 9) ended=9 ;; *) ended=70 ;; esac
+  quiet=yes
+  return "$ended"
+}
+
+# end_page: the pages of the list, where there is one
+end_page() {
+  local ended
+  [ -f "$room/pages" ] || return 0
+  pages "$into" "$room/pages"
+  ended=$?
+  [ "$ended" -le "$worst" ] || worst=$ended
 }

@@ -55,6 +55,12 @@ class Program:
         return [c for c in self.commands if c.word in VALUED_COMMANDS]
 
 
+def integer(word):
+    """The number that a word spells, with any count of leading zeros: Python reads 4,300 digits at most."""
+    number = int(word.lstrip("-").lstrip("0") or "0")
+    return -number if word.startswith("-") else number
+
+
 def read_forms():
     """The kinds of arguments of each word, from the list that the messages use too."""
     forms = {}
@@ -103,7 +109,7 @@ class Reader:
             return (word, *(self.braced() for _ in range(OPERANDS[word])))
         if word in QUANTITIES:
             return (word, *(self.take() for _ in range(QUANTITIES[word])))
-        return ("number", int(word)) if word.lstrip("-").isdigit() else ("name", word)
+        return ("number", integer(word)) if word.lstrip("-").isdigit() else ("name", word)
 
     def braced(self):
         self.take()
@@ -139,7 +145,7 @@ class Reader:
         args = self.arguments(FORMS[word + "!"])
         sketch = None
         if word == "point" and self.peek().lstrip("-").isdigit():
-            sketch = (int(self.take()), int(self.take()))
+            sketch = (integer(self.take()), integer(self.take()))
         return Command(word, name, args, sketch)
 
 

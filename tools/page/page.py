@@ -1,36 +1,40 @@
-"""Makes a page of a program: the figure, the statement, the verdict and the proof.
+"""A page of a program: the figure, the statement, the verdict and the proof.
 
-    page.py NAME PROGRAM LOG TEXT BINARY
-
-PROGRAM is the file that was proved, LOG its log, TEXT the readable proof (empty where there is none), BINARY the program that made them.
-The verdict and the proof are that program's. The picture and the words are this tool's, and nothing is proved of them.
+The verdict and the proof are the prover's. The picture and the words are this tool's, and nothing is proved of them.
 """
 # SPDX-License-Identifier: Apache-2.0
+import base64
+import hashlib
 import html
-import os
 import re
-import sys
 from fractions import Fraction
 from pathlib import Path
 
-from drawing import drawn
-from figure import NoFigure, placed
+from figure import placed
+from formulas import NoFigure
 from language import read_program, read_statement
+from live import controls, data, described, plain_text, script
+from picture import Drawn, picture
 from proof import Proof, lemmas_html, table_rows
 from values import chosen, is_clear, meets, sampled, sketched
 from words import command_html, condition_html, name_html, number_html, statement_html
 
 HERE = Path(__file__).parent
+GENERATOR = '<meta name="generator" content="Jarduzki">'
 
 
 class Page:
-    """All that is known of a program when its page is made."""
+    """All that is known of a program when its page is made. `at` is a line of numbers at which the statement fails, as `place` says, where
+    the log has no verdict. `is_short` leaves long lines of the proof out; `is_recorded`: the gate's record has the prover as proved."""
 
-    def __init__(self, name, source, log, text, binary):
+    def __init__(self, name, source, log, text, binary, at="", is_short=False, is_recorded=False):
         self.name = name
         self.log = log
         self.text = text
         self.binary = binary
+        self.source = source
+        self.is_short = is_short
+        self.is_recorded = is_recorded
         self.sketch = read_program(source)
         self.canonical = "".join(line[2:] + "\n" for line in log if line.startswith("| "))
         self.program = read_program(self.canonical)
@@ -39,7 +43,9 @@ class Page:
         self.conditions = [read_statement(line.split(" ", 2)[2]) for line in log if line.startswith("condition ")]
         self.goals = [read_statement(line.split(" ", 2)[2]) for line in log if line.startswith("goal ")]
         self.end = log[-1].split(" ")
-        self.verdict = self.end[1] if self.end[0] == "verdict" else "undecided"
+        self.tried = [Fraction(number) for number in at.split(" ")[1:]]
+        self.verdict = self.end[1] if self.end[0] == "verdict" else "false" if self.tried else "undecided"
+        self.live = None
 
     def title(self):
         """What the first comment begins with, where that is short and a parenthesis follows; else the name of the file."""
@@ -47,16 +53,11 @@ class Page:
         stem = Path(self.name).stem.replace("_", " ")
         return head[1] if head else stem[:1].upper() + stem[1:] if self.name != "<stdin>" else "A program"
 
-    def html(self):
-        style = (HERE / "style.css").read_text()
-        parts = [self.lead(), self.box(), self.picture(), self.counterexample(), self.construction(), self.proof(), self.footer()]
-        return (
-            '<!DOCTYPE html>\n<html lang="en">\n<head>\n<meta charset="utf-8">\n'
-            '<meta name="viewport" content="width=device-width, initial-scale=1">\n'
-            f"<title>{html.escape(self.title())}</title>\n<style>\n{style}</style>\n</head>\n<body>\n<main>\n"
-            + "\n".join(part for part in parts if part)
-            + "\n</main>\n</body>\n</html>\n"
-        )
+    def html(self, links=""):
+        """The page; `links` lead to others, where there are any."""
+        parts = [links, self.lead(), self.box(), self.picture(), self.brought(), self.counterexample(), self.construction()]
+        parts += [self.proof(), self.footer(), links]
+        return document(self.title(), "\n".join(part for part in parts if part), self.live)
 
     def lead(self):
         comment = html.escape(" ".join(self.sketch.comments))
@@ -68,6 +69,9 @@ class Page:
         if self.verdict == "proved":
             words = f"<p><b>Proved.</b> {statement}{' wherever' if listed else '.'}</p>"
             words += f"<ul>{listed}</ul>" if listed else ""
+        elif self.tried:
+            words = f"<p><b>False.</b> It is not always so that {statement}: it fails at the counterexample below, as the word <code>place</code> "
+            words += f"says. There is no log: the prover stopped, {self.stop()}.</p>"
         elif self.verdict == "false":
             goal = self.goals[int(self.end[2]) - 1]
             words = f"<p><b>False.</b> It is not always so that {statement_html(goal)}{' where' if listed else '.'}</p>"
@@ -81,57 +85,78 @@ class Page:
 
     def stop(self):
         if self.end[0] != "stop":
-            return "the log would be too long"
+            return "the log would be too long" if self.end == ["too", "long"] else "at the end of its time"
         if self.end[1] == "spent":
             return f"out of steps at line {self.end[2]} of its log"
         return f"a {'degree' if self.end[3] == 'degree' else 'number'} past the limit at line {self.end[2]} of its log"
 
     def figure(self, values):
+        """The figure at these values and what is drawn of it; nothing where there is none, or none that can be drawn."""
         try:
-            return placed(self.program, self.canonical, values, self.binary)
-        except (NoFigure, ZeroDivisionError):
+            figure = placed(self.program, self.canonical, values, self.binary)
+            drawn = Drawn(self.program, figure)
+            drawn.view()
+            return figure, drawn
+        except (NoFigure, ZeroDivisionError, OverflowError):
             return None
 
     def picture(self):
-        if self.verdict == "impossible":
+        if self.verdict == "impossible" or not self.program.points():
             return ""
         values, caption = self.values()
-        figure = self.figure(values) if values else None
-        if figure is None:
+        found = self.figure(values) if values else None
+        if found is None:
             return '<p class="note">No picture: no values were found that meet the figure.</p>'
-        return f"<figure>{drawn(self.program, figure)}<figcaption>{caption}</figcaption></figure>"
+        figure, drawn = found
+        self.live = data(described(self.program, figure, drawn, self.conditions))
+        still = picture(drawn, self.told()).replace("<svg ", '<svg class="still" ', 1)
+        return (
+            f'<figure class="live">{still}<svg class="moving" role="group" aria-label="The figure, to be moved"></svg>{controls(self.program, figure)}'
+            f'<figcaption>{caption}<span class="moved"> What has a ring can be pulled, or moved by the arrow keys. The moving figure is '
+            "reckoned in floating point, and proves nothing.</span></figcaption></figure>"
+        )
 
     def values(self):
         """The values of the picture, and where they come from."""
-        places, sample = sketched(self.program), sampled(self.log)
+        places, sample = sketched(self.program), self.tried or sampled(self.log)
         fails = self.verdict == "false"
         if places:
             values = chosen(self.program, self.conditions, places, False)
             if values:
                 return values, "The free points are where the program's numbers put them."
-        if sample:
+        if sample and fails:
             figure = meets(self.program, self.conditions, sample)
             if figure and is_clear(figure):
-                return sample, "The figure of the log's sample."
+                return sample, "The figure of the counterexample." if self.tried else "The figure of the log's sample."
         values = chosen(self.program, self.conditions, None, fails)
         more = "A figure in which the statement fails, chosen for a clear picture." if fails else "Free points and numbers are chosen for a clear picture."
         return (values, more) if values else (sample, "The figure of the log's sample.")
 
+    def brought(self):
+        """The program as it was made of another tool's figure, with its comments."""
+        if not any(", a figure of " in comment for comment in self.sketch.comments[:1]):
+            return ""
+        return f"<details><summary>The program that was made of this figure</summary><pre>{html.escape(self.source)}</pre></details>"
+
     def counterexample(self):
-        if self.verdict != "false":
+        found = self.figure(self.tried or sampled(self.log)) if self.verdict == "false" and self.program.points() else None
+        if found is None:
             return ""
-        figure = self.figure(sampled(self.log))
-        if figure is None:
-            return ""
+        figure, drawn = found
         rows = "".join(
             f"<tr><td>{name_html(name)}</td><td>({number_html(Fraction(x))}, {number_html(Fraction(y))})</td></tr>"
             for name, (x, y) in figure.points.items()
         )
         rows += "".join(f"<tr><td>{name_html(n)}</td><td>{number_html(Fraction(v))}</td></tr>" for n, v in figure.numbers.items())
-        return (
-            f"<h2>The counterexample of the log</h2><figure>{drawn(self.program, figure)}</figure>"
-            f'<table class="points">{rows}</table>'
-        )
+        title = "The counterexample" if self.tried else "The counterexample of the log"
+        return f'<h2>{title}</h2><figure>{picture(drawn, self.told())}</figure><table class="points">{rows}</table>'
+
+    def told(self):
+        """The picture in plain words, for a reader who does not see it."""
+        parts = ["A figure with " + ", ".join(command.name for command in self.program.commands if command.name)]
+        parts += [command_html(command) for command in self.program.commands if command.word not in ("point", "param")]
+        parts += [("Fails: " if self.verdict == "false" else "Drawn thicker: ") + statement_html(self.program.statement)]
+        return plain_text("; ".join(parts))
 
     def construction(self):
         rows = "".join(f"<li>{command_html(command)}</li>" for command in self.program.commands)
@@ -143,35 +168,41 @@ class Page:
         lemmas = HERE.parent.parent / "docs" / "LEMMAS.md"
         rows = table_rows(lemmas.read_text()) if lemmas.exists() else {}
         proof = Proof(self.program, self.log, self.text, rows)
-        body = proof.html()
+        body = proof.html(self.is_short)
         title = "The proof" if self.verdict == "proved" else "Why"
         used = f"<h2>The lemmas of these equations</h2>{lemmas_html(proof.used, rows)}" if proof.used else ""
+        short = " Its longest lines and the chains of its conditions are left out here." if self.is_short else ""
         return (
             f"<h2>{title}</h2><p class='note'><i>S</i><sub>ABC</sub> is the signed area of the triangle, <i>P</i><sub>ABC</sub> is "
-            f"AB&sup2; + CB&sup2; &minus; AC&sup2;. Each quantity is replaced, last point first, by its lemma.</p>{body}{used}"
+            f"AB&sup2; + CB&sup2; &minus; AC&sup2;. Each quantity is replaced, last point first, by its lemma.{short}</p>{body}{used}"
         )
 
     def footer(self):
+        prover = ", which is itself proved" if self.is_recorded else "; of this build of it no record says that it is proved"
         return (
-            f"<h2>The program</h2><pre>{html.escape(self.canonical)}</pre><footer>The verdict and the proof are the prover's, which is "
-            "itself proved. The picture and the words of this page are made by a tool that is not.</footer>"
+            f"<h2>The program</h2><pre>{html.escape(self.canonical)}</pre><footer>The verdict and the proof are the prover's{prover}. "
+            "The picture and the words of this page are made by a tool that is not.</footer>"
         )
 
 
-def read(path):
-    return Path(path).read_text(encoding="utf-8", errors="replace")
+def document(title, body, live=None):
+    """A page that loads nothing: its style stands in it, and its script, where it has the data of a figure that moves."""
+    style = "\n" + (HERE / "style.css").read_text()
+    code = script() if live else ""
+    return (
+        '<!DOCTYPE html>\n<html lang="en">\n<head>\n<meta charset="utf-8">\n'
+        f'<meta http-equiv="Content-Security-Policy" content="{policy(style, code)}">\n'
+        f'<meta name="viewport" content="width=device-width, initial-scale=1">\n{GENERATOR}\n'
+        f"<title>{html.escape(title)}</title>\n<style>{style}</style>\n</head>\n<body>\n<main>\n{body}\n</main>\n"
+        + (f"{live}\n<script>{code}</script>\n" if live else "")
+        + "</body>\n</html>\n"
+    )
 
 
-def main():
-    name, source, log, text, binary = sys.argv[1:]
-    page = Page(name, read(source), read(log).splitlines(), read(text).splitlines(), binary)
-    text = page.html().encode()
-    try:
-        sys.stdout.buffer.write(text)
-        sys.stdout.buffer.flush()
-    except OSError:
-        os._exit(9)
+def policy(style, code):
+    """A content security policy: nothing but this style and this code, by their hashes."""
 
+    def source(text):
+        return f"'sha256-{base64.b64encode(hashlib.sha256(text.encode()).digest()).decode()}'" if text else "'none'"
 
-if __name__ == "__main__":
-    main()
+    return f"default-src 'none'; style-src {source(style)}; script-src {source(code)}; base-uri 'none'; form-action 'none'"

@@ -2,11 +2,12 @@
 # SPDX-License-Identifier: Apache-2.0
 import html
 import re
+from dataclasses import dataclass, field
 
 from words import command_html, condition_html, fraction, name_html, statement_html
 from language import read_statement
 
-SHOWN = 24
+SHOWN, SHOWN_SHORT = 24, 12
 STEPS = {
     "point": ["free"],
     "line": [],
@@ -140,67 +141,89 @@ def lemmas_html(used, rows):
     return "".join(parts)
 
 
+@dataclass
+class Step:
+    """One move of a chain: what it takes away, in HTML, its equations, each with the key of its lemma, and the lines that follow."""
+
+    move: str = ""
+    equations: list = field(default_factory=list)
+    lines: list = field(default_factory=list)
+
+
+@dataclass
+class Section:
+    """The chain of a condition or a goal. The main ones are what the verdict rests on: the goals, or the condition that is never met."""
+
+    head: str
+    is_main: bool
+    steps: list
+
+
 class Proof:
     """Walks through the readable text and the log beside it."""
 
     def __init__(self, program, log, text, rows):
-        self.steps = steps_of(program)
+        self.points = steps_of(program)
         self.moves = iter([line for line in log if line.split(" ")[0] in ("point", "ratio", "coords")])
         self.lines = text
         self.rows = rows
         self.used = set()
-        self.in_move = False
-        self.move = ""
 
-    def html(self):
-        parts, is_open = [], False
+    def sections(self):
+        sections, move = [], ""
         for line in self.lines:
             if line.startswith(("Condition ", "Goal ")):
-                parts.append("</details>" * is_open + self.header(line))
-                is_open = True
-            elif line.startswith("  ") and is_open:
-                parts.append(self.line(line.strip()))
-        return "".join(parts) + "</details>" * is_open
+                sections.append(Section(head_html(line), line.startswith("Goal "), [Step()]))
+            elif line.startswith("  ") and sections:
+                steps = sections[-1].steps
+                if " = (" in line and (steps[-1].lines or not steps[-1].move):
+                    move = next(self.moves)
+                    steps.append(Step(self.move_html(move)))
+                if " = (" in line:
+                    steps[-1].equations.append(self.equation(line.strip(), move))
+                else:
+                    steps[-1].lines.append(line.strip())
+        if sections and not any(section.is_main for section in sections):
+            sections[-1].is_main = True
+        return sections
 
-    def header(self, line):
-        head, text = line.split(": ", 1)
-        statement = read_statement(text)
-        if head.startswith("Condition"):
-            return f"<details><summary><b>{head}</b>: {condition_html(statement)}</summary>"
-        return f"<details open><summary><b>{head}</b>: {statement_html(statement)}</summary>"
+    def html(self, is_short=False):
+        """The sections, as they stand in a page. With `is_short` the chains of the conditions are left out, and of a move with a long
+        outcome all but that it is made."""
+        return "".join(self.section_html(section, is_short) for section in self.sections() if section.is_main or not is_short)
 
-    def line(self, line):
-        if " = (" in line:
-            before = "" if self.in_move else self.opened()
-            return before + self.equation(line)
-        self.in_move = False
-        if line.startswith("gives "):
-            return f'<p class="gives"><span>which gives</span> {polynomial_html(line[6:])}</p>'
-        if line.startswith("divide by "):
-            factor, rest = line[10:].split(": ", 1)
-            return f'<p class="gives"><span>divided by</span> {monomial_html(factor, True)}<span>, which is not 0:</span> {polynomial_html(rest)}</p>'
-        if line in ("zero", "not zero"):
-            return f'<p class="end">{"This is 0." if line == "zero" else "This is a polynomial other than 0."}</p>'
-        return f'<p class="gives"><span>begin with</span> {polynomial_html(line)}</p>'
+    def section_html(self, section, is_short):
+        body = "".join(self.step_html(step, is_short) for step in section.steps)
+        return f"<details{' open' * section.is_main}><summary>{section.head}</summary>{body}</details>"
 
-    def opened(self):
+    def step_html(self, step, is_short):
+        is_long = is_short and any(terms_of(line) > SHOWN_SHORT for line in step.lines)
+        move = f'<p class="move">{step.move}:</p>' if step.move else ""
+        equations = [] if is_long else step.equations
+        self.used |= {key for key, _ in equations if key}
+        lines = [line_html(line, is_long) for line in step.lines if not (is_long and line.startswith("divide by "))]
+        return move + "".join(self.equation_html(*equation) for equation in equations) + "".join(lines)
+
+    def equation_html(self, key, text):
+        link = f' <a class="lemma" href="#{anchor(key)}">{html.escape(key)}</a>' if key else ""
+        return f'<p class="equation">{text}{link}</p>'
+
+    def move_html(self, move):
         """What a move takes away."""
-        self.in_move = True
-        self.move = next(self.moves)
-        words = self.move.split(" ")
+        words = move.split(" ")
         if words[0] == "coords":
-            return '<p class="move">The quantities of free points by their coordinates:</p>'
+            return "The quantities of free points by their coordinates"
         if words[0] == "ratio" and "at" not in words:
-            return '<p class="move">A ratio by Pythagoras differences:</p>'
-        number = int(words[words.index("at") + 1] if "at" in words else words[1])
-        _, name, command = self.steps[number]
+            return "A ratio by Pythagoras differences"
+        _, name, command = self.points[int(words[words.index("at") + 1] if "at" in words else words[1])]
         if name.startswith("#"):
-            return f'<p class="move">Without the auxiliary point {name_html(name)} (of: {command_html(command)}):</p>'
-        return f'<p class="move">Without {name_html(name)} ({command_html(command)}):</p>'
+            return f"Without the auxiliary point {name_html(name)} (of: {command_html(command)})"
+        return f"Without {name_html(name)} ({command_html(command)})"
 
-    def equation(self, line):
+    def equation(self, line, move):
+        """The key of an equation's lemma, where the table has it, and the equation."""
         name, rest = line.split(" = ", 1)
-        key = row_key(name, self.move, self.steps)
+        key = row_key(name, move, self.points)
         above, _, below = rest.partition(" / ")
         value = polynomial_html(above[1:-1])
         if below and not below.startswith("(+1)"):
@@ -209,8 +232,35 @@ class Proof:
             if below[close + 1 :]:
                 lower = f"({lower})<sup>{below[close + 2 :]}</sup>"
             value = fraction(value, lower)
-        link = ""
-        if key in self.rows:
-            self.used.add(key)
-            link = f' <a class="lemma" href="#{anchor(key)}">{html.escape(key)}</a>'
-        return f'<p class="equation">{factor_html(name)} = {value}{link}</p>'
+        return key if key in self.rows else "", f"{factor_html(name)} = {value}"
+
+
+def head_html(line):
+    head, text = line.split(": ", 1)
+    statement = read_statement(text)
+    return f"<b>{head}</b>: {condition_html(statement) if head.startswith('Condition') else statement_html(statement)}"
+
+
+def polynomial_of(line):
+    """The polynomial of a line of a chain that is no equation, or nothing."""
+    if line in ("zero", "not zero"):
+        return ""
+    return line.split(": ", 1)[1] if line.startswith("divide by ") else line.removeprefix("gives ")
+
+
+def terms_of(line):
+    text = polynomial_of(line)
+    return len(text.split(" ")) if text else 0
+
+
+def line_html(line, is_counted=False):
+    """A line of a chain that is no equation; where `is_counted` the terms of its polynomial are told by their number."""
+    if line in ("zero", "not zero"):
+        return f'<p class="end">{"This is 0." if line == "zero" else "This is a polynomial other than 0."}</p>'
+    words, text = ("begin with", "which gives")[line.startswith("gives ")], polynomial_html(polynomial_of(line))
+    if is_counted and terms_of(line) > SHOWN_SHORT:
+        text = f'<span class="more">a polynomial of {terms_of(line)} terms</span>'
+    if line.startswith("divide by "):
+        factor = line[10:].split(": ", 1)[0]
+        words, text = "divided by", f"{monomial_html(factor, True)}<span>, which is not 0:</span> {text}"
+    return f'<p class="gives"><span>{words}</span> {text}</p>'

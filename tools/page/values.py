@@ -4,12 +4,13 @@ import math
 import random
 from fractions import Fraction
 
-from figure import NoFigure, evaluated
+from figure import evaluated
+from formulas import NoFigure
 
 TRIANGLE = [(0, 0), (40, 4), (14, 30), (-6, 18), (34, 26), (22, -10), (46, 18), (4, 36)]
 NUMBERS = [Fraction(2, 5), Fraction(3, 5), Fraction(3, 2), Fraction(1, 3), Fraction(-1, 2), Fraction(2), Fraction(3, 4)]
 TURNS = [Fraction(2), Fraction(-1, 3), Fraction(2, 3), Fraction(-5, 2), Fraction(-1, 4), Fraction(5), Fraction(-6, 5), Fraction(1, 4)]
-TRIES = 300
+TRIES, MOST_POINTS = 300, 6000
 
 
 def sketched(program):
@@ -75,10 +76,11 @@ def is_clear(figure):
 
 
 def candidates(program, places):
-    """Values to try, always the same ones, each with what speaks for it beside its clarity: the first have the usual triangle."""
+    """Values to try, always the same ones, each with what speaks for it beside its clarity: the first have the usual triangle. Of a
+    figure with many points there are fewer."""
     dice = random.Random(1)
     count = len(program.free())
-    for k in range(TRIES):
+    for k in range(max(8, min(TRIES, MOST_POINTS // (len(program.points()) + 1)))):
         usual = k < 60 and count <= len(TRIANGLE)
         if places:
             free = places

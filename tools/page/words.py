@@ -1,8 +1,15 @@
 """Names, expressions, conditions and statements in words and in HTML."""
 # SPDX-License-Identifier: Apache-2.0
 import html
+import re
 
-from drawing import split_name
+
+def split_name(name):
+    """A name, and what of it is set lower: digits, and what stands behind `_`."""
+    parts = re.fullmatch(r"([A-Za-z]+)_?([0-9]*(?:_[A-Za-z0-9_]*)?|[A-Za-z0-9_]*)", name)
+    if parts and (parts[2] or "_" not in name) and not name.endswith("_"):
+        return parts[1], parts[2].lstrip("_")
+    return name, ""
 
 
 def name_html(name):
@@ -108,7 +115,7 @@ def command_html(command):
         "inter": lambda: f"{x} is on the lines {pairs[0]} and {pairs[1]}",
         "foot": lambda: f"{x} is the foot of the perpendicular from {n[0]} to the line {n[1]}{n[2]}",
         "pratio": lambda: f"{x} is the point with {n[0]}{x} = {times}{n[1]}{n[2]}, as vectors",
-        "tratio": lambda: f"{x} is the point with {n[0]}{x} = {times}{pairs[0]}, as vectors, that one turned a quarter to the left",
+        "tratio": lambda: f"{x} is the point to which {n[0]}{x} is {times}{pairs[0]} turned a quarter to the left, as vectors",
         "online": lambda: f"{x} is any point of the line {pairs[0]}",
         "lratio": lambda: f"{x} is the point with {n[0]}{x} = {times}{pairs[0]}, as vectors",
         "midpoint": lambda: f"{x} is the midpoint of {pairs[0]}",
