@@ -1,6 +1,11 @@
 """The module of bindings/python against the program: bindings.py BINARY. tests/bindings runs it."""
 
+import concurrent.futures
+import multiprocessing
+import os
 import pathlib
+import pickle
+import re
 import subprocess
 import sys
 import threading
@@ -106,6 +111,63 @@ def results():
     expect("a false statement", (proof.verdict, proof.number), (jarduzki.FALSE, 1))
 
 
+def figures():
+    """What a proof has of its log: beside the lines of the log of each program of the gallery."""
+    for path in sorted((here.parent / "examples").glob("*.geo")):
+        proof = jarduzki.prove(path.read_text())
+        log = proof.log.decode().splitlines()
+        for kind, found in (("condition", proof.conditions), ("goal", proof.goals)):
+            lines = [f"{kind} {k} {text}" for k, text in enumerate(found, 1)]
+            expect(f"{path.name}: {kind}s", lines, [line for line in log if line.startswith(kind + " ")])
+        sample = [line for line in log if line.startswith("sample ")]
+        values = [int(word.partition("=")[2]) for line in sample for word in line.split()[1:]]
+        figure = proof.figure
+        told = [x for point in figure.points.values() for x in point] + [*figure.numbers.values()] if figure else []
+        expect(f"{path.name}: figure", told, values)
+    figure = jarduzki.prove("point A point B param r online P A B oncircle C A B prove { collinear A B C }").figure
+    expect("names of a figure", (list(figure.points), list(figure.numbers)), (["A", "B"], ["r", "P", "C"]))
+
+
+def types():
+    """What is no text, and what is no number of steps."""
+    for wrong in (5, [65], (), {}, None, iter([65]), 1.5):
+        error = refused(TypeError, jarduzki.prove, wrong)
+        expect(f"{wrong!r} in the place of a text", str(error), f"str or bytes are due, not {type(wrong).__name__}")
+    text = "param r prove { equal { r } { r } }"
+    for given in (text.encode(), bytearray(text.encode()), memoryview(text.encode())):
+        expect(f"a text as {type(given).__name__}", jarduzki.prove(given), jarduzki.prove(text))
+    for steps in (1.5, "5", None):
+        expect(f"steps {steps!r}", type(refused(TypeError, jarduzki.prove, text, steps=steps)), TypeError)
+
+
+def raised(text, steps):
+    jarduzki.prove(text, steps=steps)
+
+
+def processes():
+    """Errors that are handed over between processes."""
+    texts = ["point A\npoint A", " " * 1048577, "param r prove { equal { r } { %d } }" % (2**127 - 1), "point A point B midpoint M A B prove { collinear A M B }"]
+    with concurrent.futures.ProcessPoolExecutor(1, mp_context=multiprocessing.get_context("fork")) as pool:
+        for text in texts:
+            error = pool.submit(raised, text, 5).exception()
+            here_too = refused(jarduzki.GeoError, jarduzki.prove, text, steps=5)
+            expect(f"{text[:20]}: from a process", (type(error), str(error), vars(error)), (type(here_too), str(here_too), vars(here_too)))
+    error = refused(jarduzki.Rejected, jarduzki.check, "geolog 2\n")
+    expect("a rejected log, pickled", vars(pickle.loads(pickle.dumps(error))), {"line": 2, "reason": 32})
+
+
+def versions():
+    """The version is told once in VERSION, and where a file has to have it of its own it is the same."""
+    version = (here.parent / "VERSION").read_text().strip()
+    expect("the version of the library", jarduzki.__version__, version)
+    for file, line in (("python/pyproject.toml", f'version = "{version}"'), ("c/geo_c.h", f'#define GEO_VERSION "{version}"')):
+        expect(file, line in (here.parent / "bindings" / file).read_text().splitlines(), True)
+    wrong = {**os.environ, "JARDUZKI_LIBRARY": "/none/libgeo_c.so"}
+    run = subprocess.run([sys.executable, "-c", "import jarduzki"], cwd=here.parent / "bindings/python", env=wrong, stderr=subprocess.PIPE, text=True)
+    words = run.stderr.splitlines()[-1]
+    expect("no library", bool(re.match("ImportError: .*bindings/build makes the library", words)), True)
+
+
 def threads():
     """Calls in several threads at once."""
     program = (here.parent / "examples" / "monge.geo").read_bytes()
@@ -122,6 +184,10 @@ def threads():
 gallery()
 errors()
 results()
+figures()
+types()
+processes()
+versions()
 threads()
 print(f"{passed} passed, {failed} failed")
 sys.exit(failed > 0)

@@ -25,8 +25,8 @@ begins() {
 
 # explain_refusal NAME FILE NUMBER PLACE [LINES]: in a log the program stands so many lines further down, behind '| '
 explain_refusal() {
-  tr '\000' '?' <"$2" | LC_ALL=C awk -v name="$1" -v refusal="$3" -v place="$4" -v meaning="$(meaning syntax "$3")" -v down="${5-0}" \
-    -f "$home/tools/refusal.awk" "$home/tools/forms" -
+  tr '\000' '?' <"$2" | name=$1 LC_ALL=C awk -v refusal="$3" -v place="$4" -v meaning="$(meaning syntax "$3")" -v down="${5-0}" \
+    -f "$home/tools/near.awk" -f "$home/tools/advice.awk" -f "$home/tools/refusal.awk" "$home/tools/forms" -
   if [ "$4" = 0 ] && begins "$2" 'geolog '; then
     hint "this file is a log: geo check takes it"
   elif [ "$3" = 13 ] && head -n 1 -- "$2" | head -c 1000 | grep -q $'^at .*\r$'; then
@@ -92,28 +92,86 @@ explain_rejection() {
   fi
 }
 
-# explain_spent NAME WORD: the steps are spent
-explain_spent() {
-  local limit=${taken[1]-100000000} remedy
-  if [ "$limit" = "$most" ]; then
-    remedy="there are no more steps than these: say it in another way (docs/GUIDE.md)"
-  elif [ "$2" = check ] || [ "$2" = text ] || [ "$2" = cite ]; then
-    remedy="a log that was made with more steps needs as many here: give --steps $most, the most"
-  else
-    remedy="try --steps $most, the most: it bounds the work, and is mostly far above it; else say it in another way (docs/GUIDE.md)"
-  fi
+# explain_other_way FILE WORD: how a program that stops may be said
+explain_other_way() {
   case $2 in
-    decide) echo "$1: $remedy" ;;
-    check | text) echo "$1: the log needs more steps than $limit"; hint "$remedy" ;;
-    discover) echo "$1: some candidates are open: their logs need more steps than $limit"; hint "$remedy" ;;
-    cite) echo "$1: the log and what is asked of the figure need more steps than $limit"; hint "$remedy" ;;
-    *) echo "$1: undecided: its log needs more steps than $limit"; hint "$remedy" ;;
+    prove | decide | page | fixed)
+      [ -z "${kind_of[solve]-}" ] || hint "geo solve seeks a smaller way by itself"
+      awk -f "$home/tools/other_way.awk" "$home/tools/forms" "$1"
+      ;;
   esac
+}
+
+# remedy WORD: what helps where the steps are spent
+remedy() {
+  if [ "${taken[1]-}" = "$most" ]; then
+    echo "there are no more steps than these: say it in another way ($guide)"
+  elif [ "$1" = check ] || [ "$1" = text ] || [ "$1" = cite ]; then
+    echo "a log that was made with more steps needs as many here: give --steps $most, the most"
+  else
+    echo "try --steps $most, the most: that mostly takes seconds, but it may take hours; --seconds 60 bounds it"
+    echo "or say it in another way ($guide)"
+  fi
+}
+
+# explain_spent NAME FILE WORD: the steps are spent
+explain_spent() {
+  local limit=${taken[1]-100000000} line
+  case $3 in
+    decide) echo "$1: its log needs more steps than $limit" ;;
+    check | text) echo "$1: the log needs more steps than $limit" ;;
+    discover) echo "$1: some candidates are open: their logs need more steps than $limit" ;;
+    cite) echo "$1: the log and what is asked of the figure need more steps than $limit" ;;
+    *) echo "$1: undecided: its log needs more steps than $limit" ;;
+  esac
+  remedy "$3" | while read -r line; do hint "$line"; done
+  explain_other_way "$2" "$3"
+}
+
+# explain_large NAME FILE WORD LINE: a number or a degree would pass its limit, of `place` at that line of the program
+explain_large() {
+  case $3 in
+    place | figure)
+      echo "$1: not placed: at line $4 of the program, written as the program writes it, a number does not fit 128 bits"
+      hint "smaller numbers in the line 'at' may help"
+      ;;
+    discover) echo "$1: some candidates are open: in the log of the first a number or a degree would pass the limit" ;;
+    *)
+      echo "$1: undecided: a number or a degree would pass the limit"
+      hint "more steps do not help: say it in another way ($guide)"
+      explain_other_way "$2" "$3"
+      ;;
+  esac
+}
+
+# explain_long NAME FILE WORD: the input is too long, or the log would be
+explain_long() {
+  case $3 in check | text | cite) set -- "$1" "$2" input ;; esac
+  [ "$(wc -c <"$2")" -le 1048576 ] || set -- "$1" "$2" input
+  case $3 in
+    input) echo "$1: too long: a program has at most 1,048,576 bytes, a log at most 67,108,864" ;;
+    discover) echo "$1: the text, or the log of the first open candidate, would be longer than 67,108,864 bytes" ;;
+    *)
+      echo "$1: undecided: its log would be longer than 67,108,864 bytes"
+      hint "more steps do not help: say it in another way ($guide)"
+      explain_other_way "$2" "$3"
+      ;;
+  esac
+}
+
+# explain_status NAME FILE STATUS LINE WORDS..: what the table of answers says of the status
+explain_status() {
+  local told
+  told=$(meaning status "$3")
+  echo "$1: ${4:+$4: }${told:-ended with status $3}"
+  [ "$3" -ne 15 ] || explain_unmet "$2" "$6"
+  [ "$3" -ne 16 ] || LC_ALL=C awk -v line="$7" -f "$home/tools/cite.awk" "$2"
 }
 
 # explain NAME FILE WORD STATUS LAST-LINE
 explain() {
-  local words told
+  local words guide=docs/GUIDE.md
+  [ ! -x "$home/geo_cli" ] || guide=$(cd -- "$home/../../share/doc/jarduzki/docs" 2>/dev/null && pwd)/GUIDE.md
   read -r -a words <<<"$5"
   case $4:${words[0]-} in
     4:syntax) explain_refusal "$1" "$2" "${words[1]}" "${words[3]}" ;;
@@ -122,84 +180,56 @@ explain() {
       echo "geo: the program has no such words: $3 (geo --help)"
       case $3 in bench*) hint "behind 'bench' one number from 1 to 60 is due" ;; esac
       ;;
-    6:*)
-      if [ "$3" = place ] || [ "$3" = figure ]; then
-        echo "$1: not placed: at line ${words[2]-} of the program, written as the program writes it, a number does not fit 128 bits"
-        hint "smaller numbers in the line 'at' may help"
-        return
-      fi
-      if [ "$3" = discover ]; then
-        echo "$1: some candidates are open: in the log of the first a number or a degree would pass the limit"
-        return
-      fi
-      echo "$1: undecided: a number or a degree would pass the limit"
-      hint "more steps do not help: say it in another way (docs/GUIDE.md)"
+    6:*) explain_large "$1" "$2" "$3" "${words[2]-}" ;;
+    7:*) explain_spent "$1" "$2" "$3" ;;
+    12:*) explain_long "$1" "$2" "$3" ;;
+    124:*)
+      [ "$3" = decide ] || echo "$1: undecided: $seconds seconds are over"
+      explain_other_way "$2" "$3"
       ;;
-    7:*) explain_spent "$1" "$3" ;;
-    12:*)
-      if [ "$3" = check ] || [ "$3" = text ] || [ "$3" = cite ] || [ "$(wc -c <"$2")" -gt 1048576 ]; then
-        echo "$1: too long: a program has at most 1,048,576 bytes, a log at most 67,108,864"
-      elif [ "$3" = discover ]; then
-        echo "$1: the text, or the log of the first open candidate, would be longer than 67,108,864 bytes"
-      else
-        echo "$1: undecided: its log would be longer than 67,108,864 bytes"
-        hint "more steps do not help: say it in another way (docs/GUIDE.md)"
-      fi
-      ;;
-    *)
-      told=$(meaning status "$4")
-      echo "$1: ${5:+$5: }${told:-ended with status $4}"
-      [ "$4" -ne 15 ] || explain_unmet "$2" "${words[1]}"
-      [ "$4" -ne 16 ] || LC_ALL=C awk -v line="${words[2]}" -f "$home/tools/cite.awk" "$2"
-      ;;
+    *) explain_status "$1" "$2" "$4" "$5" "${words[@]}" ;;
+  esac
+}
+
+# meanings NUMBER: all that has this number
+meanings() {
+  local kind words
+  for kind in syntax rejected status; do
+    words=$(meaning "$kind" "$1")
+    [ -z "$words" ] || printf '%s %s: %s\n' "$kind" "$1" "$words"
+  done
+}
+
+# explained KIND NUMBER ..: the words of an answer, of a verdict, of a number alone, or of a word of the language
+explained() {
+  case $1:${2-} in
+    verdict:?* | accepted:?* | fixed:?*) shift; explained "$@" ;;
+    syntax:?*) meaning syntax "$2" ;;
+    rejected:?*) meaning rejected "${3-$2}" ;;
+    status:?*) meaning status "$2" ;;
+    proved:*) meaning status 0 ;;
+    false:*) meaning status 1 ;;
+    impossible:*) meaning status 2 ;;
+    undecided:) meaning status 6; meaning status 7; meaning status 12 ;;
+    stop:spent | spent:*) meaning status 7 ;;
+    stop:too_large | too_large:*) meaning status 6 ;;
+    unmet:*) meaning status 15 ;;
+    no:instance) meaning status 16 ;;
+    too:long) meaning status 12 ;;
+    [0-9]*:) meanings "$1" ;;
+    [A-Za-z]*:) [[ $1 == *[!A-Za-z0-9_]* ]] || word=$1 awk -f "$home/tools/explain_word.awk" "$home/docs/LANGUAGE.md" ;;
   esac
 }
 
 # tell_explain WORD..: the command `geo explain`
 tell_explain() {
-  local told='' asked
+  local told asked
   read -r -a asked <<<"$*"
-  set -- "${asked[@]}"
-  case ${1-}:${2-} in
-    syntax:?*) told=$(meaning syntax "$2") ;;
-    rejected:?*) told=$(meaning rejected "${3-$2}") ;;
-    status:?*) told=$(meaning status "$2") ;;
-    stop:spent) told=$(meaning status 7) ;;
-    stop:too_large) told=$(meaning status 6) ;;
-    unmet:*) told=$(meaning status 15) ;;
-    no:instance) told=$(meaning status 16) ;;
-    too:long) told=$(meaning status 12) ;;
-  esac
+  told=$(explained "${asked[@]-}")
   if [ -z "$told" ]; then
-    echo "geo: no such answer: '$*'; as: geo explain syntax 5, geo explain rejected 27, geo explain status 7" >&2
+    clean "$*"
+    echo "geo: no such answer: '$cleaned'; as: geo explain syntax 5, geo explain rejected 27, geo explain tratio" >&2
     return 3
   fi
   printf '%s\n' "$told"
-}
-
-# tell_version: the version, the toolchain, and which program runs
-tell_version() {
-  local kit=unknown
-  echo "geo $(cat "$home/VERSION" 2>/dev/null || echo without a version)"
-  if [ -f "$home/KIT" ]; then
-    kit=$(cat "$home/KIT")
-  elif command -v rt >/dev/null; then
-    kit=$(rt version)
-  fi
-  echo "toolchain $kit"
-  if ! is_fresh; then
-    if [ -x "$program" ]; then
-      echo "program none: sources are newer than $program; each call builds one without proving it"
-    else
-      echo "program none: each call builds one without proving it; 'rt ci' proves it and keeps it"
-    fi
-  elif [ -n "${GEO_PROGRAM-}" ]; then
-    echo "program $program, as GEO_PROGRAM names it"
-  elif [ "$program" = "$home/geo_cli" ]; then
-    echo "program $program, as it was installed"
-  elif [ -n "$(find "$home"/crates/*/{specs,proofs} -type f -newer "$program" -print -quit 2>/dev/null)" ]; then
-    echo "program $program, as the toolchain left it; definitions or proofs are newer, and 'rt ci' tells whether they hold"
-  else
-    echo "program $program, as the toolchain left it over its proofs; nothing is newer"
-  fi
 }

@@ -1,5 +1,5 @@
 # Points at the token for which a program is refused, and says what is due there:
-#   awk -v name=NAME -v refusal=NUMBER -v place=BYTES -v meaning=TEXT -v down=LINES -f refusal.awk forms PROGRAM
+#   name=NAME awk -v refusal=NUMBER -v place=BYTES -v meaning=TEXT -v down=LINES -f near.awk -f advice.awk -f refusal.awk forms PROGRAM
 # `down` is 1 where the program comes from a log: there it stands one line further down, each line behind '| '.
 # It follows the commands up to that token, as docs/LANGUAGE.md has them. Columns are bytes, from 1.
 # SPDX-License-Identifier: Apache-2.0
@@ -37,6 +37,7 @@ function declared_kind(word) {
 }
 
 function take_expression(token) {
+  if (token ~ /^(neg|sum|sub|mult|div)$/) operator = token
   if (token == "neg") push("{ E }")
   else if (token ~ /^(sum|sub|mult|div)$/) push("{ E } { E }")
   else if (token ~ /^(signed_area3|pythagoras_difference3)$/) push("P P P")
@@ -58,6 +59,7 @@ function take(token,   due) {
     return
   }
   due = substr(need, 1, 1)
+  last = token
   if (due == "n" && token !~ /^-?[0-9]/) {
     need = ""
     take(token)
@@ -104,56 +106,21 @@ function due_words(   due) {
   return "the brace " due " is due"
 }
 
+# how an expression with braces is written
+function parts_of(operator) {
+  return operator (operator == "neg" ? " { e }" : " { e } { f }")
+}
+
 function due_here(   words) {
   words = "here " due_words()
+  if (need ~ /^\{/ && operator != "" && last == operator) return words ": " parts_of(operator)
   if (need != "" && need !~ /^n/ && shown != "" && shown != "prove" && shown != "assume")
     words = words ": " shown (begun == lines ? "" : ", begun in line " begun + down)
   return words
 }
 
-function almost(token,   other) {
-  for (other in kind) if (tolower(other) == tolower(token)) return other
-  return ""
-}
-
-# the last command is complete in this line, and a word more stands behind it
-function is_complete() {
-  return begun == lines && need ~ /^(n|$)/ && command != ""
-}
-
-# what to write for a byte that begins no token; `before` is what stands in front of it in its line
-function spelling(rest, before,   first) {
-  first = substr(rest, 1, 1)
-  if (substr(rest, 1, 3) == "\357\273\277") return "the file begins with a byte order mark: save it as UTF-8 without one"
-  if (substr(rest, 1, 2) ~ /^(\377\376|\376\377)/) return "the file is UTF-16: save it as UTF-8 without a byte order mark"
-  if (first ~ /[.\/]/ && before ~ /[0-9A-Za-z}] *$/) return "numbers are whole: a half is div { 1 } { 2 }"
-  if (first ~ /[#\/]/) return "a comment begins with %"
-  if (first ~ /[][()]/) return "the statement and the parts of an expression stand in braces { }"
-  return "a name has the letters A to Z and a to z, digits and _; a number is whole; blanks part them"
-}
-
-# one more line about the refusal, or nothing
-function advice(rest, before,   token) {
-  token = token_of(rest)
-  if (refusal == 1) return spelling(rest, before)
-  if (refusal == 4 && need ~ /^N/ && token ~ /^[A-Za-z]/) return token " is a word of the language, so it is no name"
-  if (refusal == 4 && need ~ /^(n|$)/ && tolower(token) in form) return "commands have small letters: " tolower(token)
-  if (refusal == 4 && is_complete() && token != "") return "in front of " token " the command is complete: " (command == "point" ? "point A" : shown)
-  if (refusal == 4 && need ~ /^(n|$)/ && token ~ /^[A-Za-z]/) return token " is no command"
-  if (refusal == 4 && need ~ /^S/ && ("prove " tolower(token)) in form) return "statements have small letters: " tolower(token)
-  if (refusal == 4 && need ~ /^S/ && token ~ /^[A-Za-z]/) return token " is no statement; these are:" statements
-  if (refusal == 4) return due_here()
-  if (refusal == 5 && almost(token) != "") return "declared is " almost(token)
-  if (refusal == 5) return due_here()
-  if (refusal == 6) return token " is declared in line " line_of[token] + down (command ~ /^(point|param)$/ ? "" : "; the new name comes first: " shown)
-  if (refusal == 7) return token " is " kind[token] " (line " line_of[token] + down "); " due_here()
-  if (refusal == 11 && carriage && lines == 1) return "the lines end with carriage returns alone, so a comment takes all that follows: save the file with line feeds"
-  if (refusal == 12 && token == "prove") return "a program has one statement: write another program for this one"
-  return ""
-}
-
 function report(line, column, text,   before, from, rest, front) {
-  print name ":" line + down ":" column + 2 * down ": refusal " refusal (meaning == "" ? "" : ": " meaning)
+  print ENVIRON["name"] ":" line + down ":" column + 2 * down ": refusal " refusal (meaning == "" ? "" : ": " meaning)
   rest = substr(text, column)
   front = substr(text, 1, column - 1)
   sub(/\r$/, "", text)
@@ -161,7 +128,7 @@ function report(line, column, text,   before, from, rest, front) {
   before = substr(text, from, column - from)
   if (text != "") {
     shown_line = substr(text, from, 160)
-    gsub(/[\001-\010\013-\037\177]/, "?", shown_line)
+    gsub(/[\001-\010\013-\037\177]|\342\200[\252-\256]|\342\201[\246-\251]/, "?", shown_line)
     gsub(/[^\t]/, " ", before)
     print "  " shown_line
     print "  " before "^"
@@ -181,17 +148,28 @@ FNR == NR {
 }
 
 {
-  lines++
+  if (!found) lines++
+  read_lines++
   if (/\r/) carriage = 1
 }
-seen + length($0) + 1 > place {
+!found && seen + length($0) + 1 > place {
   follow(substr($0, 1, place - seen))
-  report(lines, place - seen + 1, $0)
-  found = 1
-  exit
+  found = lines
+  at = place - seen + 1
+  line_text = $0
+  missing = token_of(substr($0, at))
+  if (refusal != 5) exit
+  next
+}
+found {
+  if (!later && $1 in form && $2 == missing) later = read_lines
+  next
 }
 {
   follow($0)
   seen += length($0) + 1
 }
-END { if (!found) report(lines + 1, 1, "") }
+END {
+  if (found) report(found, at, line_text)
+  else report(lines + 1, 1, "")
+}

@@ -1,8 +1,8 @@
 /*
  * The prover of plane geometry, the checker of its logs and the printer of readable proofs, as three calls over bytes.
  *
- * Link with libgeo_c.a, and with the toolchain's liblibc_c.a, which joins it to `malloc`, `realloc` and `free`; or load the shared
- * object that bindings/build makes of both.
+ * Link with bindings/out/libgeo_c.a, or load bindings/out/libgeo_c.so: bindings/build makes both of the proved library, of the
+ * toolchain's liblibc_c.a, which joins it to `malloc`, `realloc` and `free`, and of geo_version.c.
  *
  * Each call reads the bytes that it is given, writes a text into a buffer of the caller's, and answers a status. It keeps no
  * pointer, and hands out no memory: what it takes from `malloc` it has given back when it returns. Calls share nothing, so
@@ -25,6 +25,12 @@
 #ifdef __cplusplus
 extern "C" {
 #endif
+
+/* The version of this header. */
+#define GEO_VERSION "0.2.0"
+
+/* The version of the library: it fits this header where it is GEO_VERSION. */
+const char *geo_version(void);
 
 /* The statuses. They are the numbers that the program ends with. */
 enum geo_status {

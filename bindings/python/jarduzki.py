@@ -6,16 +6,22 @@
     jarduzki.check(proof.log).program
     jarduzki.text(proof.log)
 
-The module calls a shared object over `ctypes`. `bindings/build` links it; the variable JARDUZKI_LIBRARY names it where it
-stands at another place than `bindings/out/libgeo_c.so`.
+The module calls a shared object over `ctypes`. `bindings/build` links it. It is the one that the variable JARDUZKI_LIBRARY names, or
+`bindings/out/libgeo_c.so`, or the `libgeo_c.so` that the system finds.
 """
+# SPDX-License-Identifier: Apache-2.0
 
 from __future__ import annotations
 
 import ctypes
+import ctypes.util
+import operator
 import os
 import pathlib
 from dataclasses import dataclass
+from typing import Dict, NoReturn, Optional, Tuple, Union
+
+Text = Union[str, bytes, bytearray, memoryview]
 
 STEPS = 100_000_000
 PROGRAM_LIMIT = 1_048_576
@@ -59,6 +65,17 @@ _REASONS = {
 
 class GeoError(Exception):
     """Why a call has no result."""
+
+    def __reduce__(self):
+        """How it is handed to another process: its class, words and members, without a call of the constructor."""
+        return _remade, (type(self), self.args, self.__dict__)
+
+
+def _remade(kind, args, members):
+    error = kind.__new__(kind, *args)
+    error.args = args
+    error.__dict__.update(members)
+    return error
 
 
 class SyntaxRefused(GeoError):
@@ -134,8 +151,51 @@ class Proof:
     """
 
     verdict: str
-    number: int | None
+    number: Optional[int]
     log: bytes
+
+    def _texts(self, kind: str) -> Tuple[str, ...]:
+        """The texts of the lines of this kind, in order."""
+        rows = (line.split(" ", 2) for line in self.log.decode("ascii").splitlines())
+        return tuple(row[2] for row in rows if row[0] == kind)
+
+    @property
+    def conditions(self) -> Tuple[str, ...]:
+        """The conditions of the program, in order, up to the one that is never met."""
+        return self._texts("condition")
+
+    @property
+    def goals(self) -> Tuple[str, ...]:
+        """The goals of the statement, in order, up to the one that fails."""
+        return self._texts("goal")
+
+    @property
+    def figure(self) -> Optional[Figure]:
+        """The figure of the log's sample: an example of PROVED, the counterexample of FALSE; None for IMPOSSIBLE."""
+        points, numbers, values = [], [], []
+        for row in (line.split(" ") for line in self.log.decode("ascii").splitlines()):
+            if row[:2] == ["|", "point"]:
+                points.append(row[2])
+            elif row[0] == "|" and row[1] in ("param", "online", "oncircle"):
+                numbers.append(row[2])
+            elif row[0] == "sample":
+                values = [int(word.partition("=")[2]) for word in row[1:]]
+        if self.verdict == IMPOSSIBLE:
+            return None
+        pairs = zip(values[0 : 2 * len(points) : 2], values[1 : 2 * len(points) : 2])
+        return Figure(dict(zip(points, pairs)), dict(zip(numbers, values[2 * len(points) :])))
+
+
+@dataclass(frozen=True)
+class Figure:
+    """Numbers that fix a figure.
+
+    points   the coordinates of each free point, by its name
+    numbers  the number of each parameter, and of each point on a line or a circle, by its name
+    """
+
+    points: Dict[str, Tuple[int, int]]
+    numbers: Dict[str, int]
 
 
 @dataclass(frozen=True)
@@ -150,9 +210,9 @@ class Accepted:
     """
 
     verdict: str
-    number: int | None
+    number: Optional[int]
     program: str
-    conditions: tuple[str, ...]
+    conditions: Tuple[str, ...]
     told: bytes
 
 
@@ -162,8 +222,14 @@ class _Answer(ctypes.Structure):
 
 def _load():
     beside = pathlib.Path(__file__).resolve().parent.parent / "out" / "libgeo_c.so"
-    library = ctypes.CDLL(os.environ.get("JARDUZKI_LIBRARY") or str(beside))
-    for call in (library.geo_prove, library.geo_check, library.geo_text):
+    name = os.environ.get("JARDUZKI_LIBRARY") or (str(beside) if beside.exists() else ctypes.util.find_library("geo_c") or str(beside))
+    try:
+        library = ctypes.CDLL(name)
+        calls = (library.geo_prove, library.geo_check, library.geo_text)
+        library.geo_version.restype = ctypes.c_char_p
+    except (OSError, AttributeError) as error:
+        raise ImportError(f"{error}; bindings/build makes the library, and JARDUZKI_LIBRARY names one at another place") from None
+    for call in calls:
         call.restype = ctypes.c_uint32
         call.argtypes = [
             ctypes.c_char_p,
@@ -177,14 +243,20 @@ def _load():
 
 
 _library = _load()
+__version__: str = _library.geo_version().decode("ascii")
 
 
-def _bytes_of(text):
-    return text.encode() if isinstance(text, str) else bytes(text)
+def _bytes_of(text: Text) -> bytes:
+    if isinstance(text, str):
+        return text.encode()
+    if isinstance(text, (bytes, bytearray, memoryview)):
+        return bytes(text)
+    raise TypeError(f"str or bytes are due, not {type(text).__name__}")
 
 
-def _call(call, given, steps):
+def _call(call, given: bytes, steps: int) -> Tuple[int, _Answer, bytes]:
     """The status, the answer and the text of a call. A second one is made where the text did not fit."""
+    steps = operator.index(steps)
     if not 0 <= steps < 2**64:
         raise ValueError("steps are a number from 0 to 2^64 - 1")
     answer = _Answer(65536, 0, 0)
@@ -196,7 +268,7 @@ def _call(call, given, steps):
             return status, answer, buffer.raw[: answer.length]
 
 
-def _refuse(status, answer, given, log=None):
+def _refuse(status: int, answer: _Answer, given: bytes, log: Optional[bytes] = None) -> NoReturn:
     """Raises what a status without a result stands for."""
     if status == _SYNTAX:
         raise SyntaxRefused(given, answer.at, answer.reason)
@@ -213,7 +285,7 @@ def _refuse(status, answer, given, log=None):
     raise GeoError(f"status {status}")
 
 
-def prove(text, *, steps=STEPS):
+def prove(text: Text, *, steps: int = STEPS) -> Proof:
     """Proves the program that a text (str or bytes) spells, with so many steps."""
     given = _bytes_of(text)
     status, answer, log = _call(_library.geo_prove, given, steps)
@@ -222,7 +294,7 @@ def prove(text, *, steps=STEPS):
     return Proof(_VERDICTS[status], answer.at or None, log)
 
 
-def check(log, *, steps=STEPS):
+def check(log: Text, *, steps: int = STEPS) -> Accepted:
     """Checks a log (str or bytes), whoever wrote it, with so many steps.
 
     The verdict speaks of the program that is told: compare it with your own.
@@ -237,7 +309,7 @@ def check(log, *, steps=STEPS):
     return Accepted(_VERDICTS[status], answer.at or None, "\n".join(program) + "\n", tuple(conditions), told)
 
 
-def text(log, *, steps=STEPS):
+def text(log: Text, *, steps: int = STEPS) -> str:
     """Writes a log (str or bytes), which is checked first, as a proof that a person reads."""
     given = _bytes_of(log)
     status, answer, proof = _call(_library.geo_text, given, steps)

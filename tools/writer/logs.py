@@ -10,7 +10,7 @@ from rows import free_row, point_row, ratio_rows
 
 HEADER = "geolog 2"
 # How many monomials this writer makes in one move.
-MOST_PRODUCTS = 3_000
+MOST_PRODUCTS = 100_000
 # The most that the absolute coefficients of a line may add up to.
 MOST_NORM = 2**127 - 1
 
