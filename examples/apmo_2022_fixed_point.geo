@@ -1,0 +1,16 @@
+% ABC is a triangle with a right angle at B, and D is a point of the line BC. E is the midpoint of AD, and the circles
+% around ACD and BDE meet again at F. The line EF passes through a fixed point, wherever D is (Asian Pacific
+% Mathematics Olympiad 2022, problem 2): the reflection X of C in B. BC and BD are c and d times BA, on different
+% sides.
+point B
+point A
+param c
+tratio C B A c
+param d
+tratio D B A neg { d }
+midpoint E A D
+circumcenter P A C D
+circumcenter Q B D E
+cc F P Q D
+symmetric X C B
+prove { collinear E F X }

@@ -1,0 +1,11 @@
+% M is the midpoint of the side BC of a triangle and P the foot of the perpendicular from C to AM. The circle around
+% ABP meets BC at B and Q, and N is the midpoint of AQ. Then NB = NC (United States of America Mathematical Olympiad
+% 2023, problem 1). Q is found by the power of M: MB MQ = MP MA.
+point A
+point B
+point C
+midpoint M B C
+foot P C A M
+lratio Q M B div { pythagoras_difference3 P M A } { pythagoras_difference3 M B M }
+midpoint N A Q
+prove { same_length N B N C }
