@@ -1,6 +1,6 @@
 % The distances of a point P of the base BC of an isosceles triangle from the legs add up to the altitude from B
-% (classical). E is the foot of P on AB and F that on AC; with the reflection E1 of E in the base, FE1 is as long as
-% the altitude BH.
+% (classical). E is the foot of P on AB and F that on AC. The reflection E1 of E in the base is on the line FP, with
+% PE1 = PE; so FE1 is as long as the altitude BH.
 point B
 point C
 midpoint M B C

@@ -1,6 +1,6 @@
 % M and N are points of the sides AB and BC of a quadrilateral ABCD so that CM and AN halve its area. Then MN halves
-% the diagonal BD (Canadian Mathematical Olympiad 2008, problem 1). With the area w = ABC + ACD, BM is w/2 over ABC of
-% BA, and BN of BC.
+% the diagonal BD (Canadian Mathematical Olympiad 2008, problem 1). With the area w = ABC + ACD, BM is w / (2 ABC)
+% times BA, and BN as many times BC.
 point A
 point B
 point C

@@ -1,6 +1,6 @@
 % In a triangle with a right angle at C the bisector of this angle bisects the angle of the median CM and the altitude
-% CD too (classical): the reflection of M in the bisector is on CD. The bisector goes through the midpoint of CA and a
-% segment of the same length on CB.
+% CD too (classical): the reflection of M in the bisector is on CD. The bisector goes through the midpoint U of A and
+% the point A1 of CB with CA1 = CA.
 point C
 point A
 param r
