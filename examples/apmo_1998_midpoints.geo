@@ -1,7 +1,7 @@
-% D is the foot of the altitude from A of a triangle. A line through D has the points E and F, other than D, with AE
-% perpendicular to BE and AF to CF: its second points on the circles with the diameters AB and AC. M and N are the
-% midpoints of BC and EF. Then AN is perpendicular to NM (Asian Pacific Mathematics Olympiad 1998, problem 4). DB and
-% DC are b and c times DA.
+% A line through the foot of an altitude (Asian Pacific Mathematics Olympiad 1998, problem 4): D is the foot of the
+% altitude from A of a triangle. A line through D has the points E and F, other than D, with AE perpendicular to BE
+% and AF to CF: its second points on the circles with the diameters AB and AC. M and N are the midpoints of BC and EF.
+% Then AN is perpendicular to NM. DB and DC are b and c times DA.
 point D
 point A
 param b

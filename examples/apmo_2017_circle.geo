@@ -1,6 +1,6 @@
-% The bisector of the angle at A of a triangle meets the circumcircle again at D. The perpendicular bisector of AC
-% meets the bisector of the outer angle at A in Z. The circle around ADZ passes through the midpoint of AB (Asian
-% Pacific Mathematics Olympiad 2017, problem 2). C is the reflection of B in OD.
+% A circle through the midpoint of a side (Asian Pacific Mathematics Olympiad 2017, problem 2): the bisector of the
+% angle at A of a triangle meets the circumcircle again at D. The perpendicular bisector of AC meets the bisector of
+% the outer angle at A in Z. The circle around ADZ passes through the midpoint of AB. C is the reflection of B in OD.
 point O
 point D
 oncircle A O D

@@ -1,7 +1,7 @@
-% The bisectors of a triangle ABC meet its circumcircle again at D, E and F. The parallels to BC, CA and AB through
-% the incenter I meet EF, FD and DE at three points of one line (Balkan Mathematical Olympiad 2015, problem 2). The
-% figure begins with the circle and D, E, F: I is the orthocenter of this triangle, by vectors from the centre O, and
-% BC is perpendicular to OD.
+% Three parallels through the incenter (Balkan Mathematical Olympiad 2015, problem 2): the bisectors of a triangle ABC
+% meet its circumcircle again at D, E and F. The parallels to BC, CA and AB through the incenter I meet EF, FD and DE
+% at three points of one line. The figure begins with the circle and D, E, F: I is the orthocenter of this triangle,
+% by vectors from the centre O, and BC is perpendicular to OD.
 point O
 point D
 oncircle E O D

@@ -1,6 +1,7 @@
-% The tangents of the circumcircle of a triangle at A and B meet at X; Y is the foot of the perpendicular from the
-% centre O to CX. The parallel to AB through C meets the tangent at A in Z. The line YZ passes through the midpoint of
-% AC (Balkan Mathematical Olympiad 2022, problem 1). X is the inverse of the midpoint of AB.
+% A line through the midpoint of a side (Balkan Mathematical Olympiad 2022, problem 1): the tangents of the
+% circumcircle of a triangle at A and B meet at X; Y is the foot of the perpendicular from the centre O to CX. The
+% parallel to AB through C meets the tangent at A in Z. The line YZ passes through the midpoint of AC. X is the
+% inverse of the midpoint of AB.
 point O
 point A
 oncircle B O A

@@ -1,6 +1,6 @@
-% The side BC of a triangle is produced beyond C by its own length to D, and the side CA beyond A by twice its length
-% to E. Where AD = BE the angle at A is right (European Girls' Mathematical Olympiad 2013, problem 1): BE^2 - AD^2 is
-% eight times the product of the vectors AB and AC.
+% Two sides produced (European Girls' Mathematical Olympiad 2013, problem 1): the side BC of a triangle is produced
+% beyond C by its own length to D, and the side CA beyond A by twice its length to E. Where AD = BE the angle at A is
+% right: BE^2 - AD^2 is eight times the product of the vectors AB and AC.
 point A
 point B
 point C

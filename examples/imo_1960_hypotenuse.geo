@@ -1,6 +1,7 @@
-% The hypotenuse BC, of the length a, of a right triangle is cut into n equal parts; PQ is the one in the middle. With
-% the altitude h the angle PAQ has the tangent 4nh / ((n^2 - 1) a) (International Mathematical Olympiad 1960, problem
-% 3), here for each number n: PQ is a/n, with the midpoint of BC as its midpoint. The area of ABC is ah/2.
+% The middle part of a hypotenuse (International Mathematical Olympiad 1960, problem 3): the hypotenuse BC, of the
+% length a, of a right triangle is cut into n equal parts; PQ is the one in the middle. With the altitude h the angle
+% PAQ has the tangent 4nh / ((n^2 - 1) a), here for each number n: PQ is a/n, with the midpoint of BC as its midpoint.
+% The area of ABC is ah/2.
 point A
 point B
 param r

@@ -1,7 +1,7 @@
-% Two circles around O and L meet at A. From A two points X and Y set out in the same sense and go around the circles
-% in the same time. There is a point P that is always as far from X as from Y: the reflection of A in the
-% perpendicular bisector of OL (International Mathematical Olympiad 1979, problem 3). The tangent of half the angle is
-% t.
+% Two points on two circles (International Mathematical Olympiad 1979, problem 3): two circles around O and L meet at
+% A. From A two points X and Y set out in the same sense and go around the circles in the same time. There is a point
+% P that is always as far from X as from Y: the reflection of A in the perpendicular bisector of OL. The tangent of
+% half the angle is t.
 point O
 point L
 point A

@@ -1,7 +1,7 @@
-% A circle around O passes through the corners A and C of a triangle and meets AB and BC again at K and N. The circles
-% around the triangles ABC and KBN meet at B and M. Then the angle OMB is right (International Mathematical Olympiad
-% 1985, problem 5). BK is r BA, and BK BA = BN BC. The line BM goes through the intersection X of AC and KN, with XB
-% XM = XA XC; here the foot M of O on BX is this point.
+% A circle through two corners (International Mathematical Olympiad 1985, problem 5): a circle around O passes through
+% the corners A and C of a triangle and meets AB and BC again at K and N. The circles around the triangles ABC and KBN
+% meet at B and M. Then the angle OMB is right. BK is r BA, and BK BA = BN BC. The line BM goes through the
+% intersection X of AC and KN, with XB XM = XA XC; here the foot M of O on BX is this point.
 point B
 point A
 point C

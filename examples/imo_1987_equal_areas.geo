@@ -1,6 +1,7 @@
-% The bisector of the angle at A of a triangle meets BC at L and the circumcircle again at N; K and M are the feet of
-% L on AB and AC. The quadrilateral AKNM has the area of the triangle (International Mathematical Olympiad 1987,
-% problem 2). AU is the bisector, and V and W are at equal distances from A on the sides.
+% A kite with the area of the triangle (International Mathematical Olympiad 1987, problem 2): the bisector of the
+% angle at A of a triangle meets BC at L and the circumcircle again at N; K and M are the feet of L on AB and AC. The
+% quadrilateral AKNM has the area of the triangle. AU is the bisector, and V and W are at equal distances from A on
+% the sides.
 point A
 point U
 param r

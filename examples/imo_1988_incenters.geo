@@ -1,7 +1,7 @@
-% In a right triangle ABC with the altitude AD the points K of AB and L of AC are as far from A as D. They are on the
-% line through the incenters of ABD and ACD (a step of the International Mathematical Olympiad 1988, problem 5): here
-% the incenter I of ABD is on KL. AB is 2t, AC is 1 - t^2 and BC is 1 + t^2, with the unit AU; W is the point of BC
-% with BW = BA.
+% The line through two incenters (a step of the International Mathematical Olympiad 1988, problem 5): in a right
+% triangle ABC with the altitude AD the points K of AB and L of AC are as far from A as D. They are on the line
+% through the incenters of ABD and ACD: here the incenter I of ABD is on KL. AB is 2t, AC is 1 - t^2 and BC is 1 +
+% t^2, with the unit AU; W is the point of BC with BW = BA.
 point A
 point U
 param t

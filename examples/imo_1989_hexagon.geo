@@ -1,7 +1,7 @@
-% The bisectors of a triangle ABC meet in I and meet its circumcircle again at K, L and M. The triangle XYZ of the
-% excenters has twice the area of the hexagon AMBKCL (International Mathematical Olympiad 1989, problem 2): K, L and M
-% are the midpoints of XI, YI and ZI, and A, B and C are on the sides of XYZ. For this A, B and C may be any points of
-% the sides, and I any point.
+% The excenters and a hexagon (International Mathematical Olympiad 1989, problem 2): the bisectors of a triangle ABC
+% meet in I and meet its circumcircle again at K, L and M. The triangle XYZ of the excenters has twice the area of the
+% hexagon AMBKCL: K, L and M are the midpoints of XI, YI and ZI, and A, B and C are on the sides of XYZ. For this A, B
+% and C may be any points of the sides, and I any point.
 point X
 point Y
 point Z

@@ -1,6 +1,6 @@
-% The incircle of a triangle touches BC, CA and AB at K, L and M. The line through B parallel to MK meets LM at R and
-% LK at S. Then the product of the vectors IR and IS is the square of the radius (so that the angle RIS is acute:
-% International Mathematical Olympiad 1998, problem 5).
+% A product at the incircle (International Mathematical Olympiad 1998, problem 5): the incircle of a triangle touches
+% BC, CA and AB at K, L and M. The line through B parallel to MK meets LM at R and LK at S. Then the product of the
+% vectors IR and IS is the square of the radius, so that the angle RIS is acute.
 point I
 point K
 oncircle L I K

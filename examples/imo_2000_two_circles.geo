@@ -1,8 +1,8 @@
-% Two circles meet at M and N; AB is a common tangent, and the line through M parallel to AB meets the circles again
-% at C and D. CA and DB meet at E, AN and CD at P, BN and CD at Q. Then EP = EQ (International Mathematical Olympiad
-% 2000, problem 1). The figure begins with A, B and M. The line MN halves AB at K, with KM KN = KA^2; with the foot H
-% of M on AB, MC is twice HA and MD is twice HB. Here: E and the midpoint R of PQ are on one perpendicular to AB, so
-% to PQ.
+% A common tangent and a parallel (International Mathematical Olympiad 2000, problem 1): two circles meet at M and N;
+% AB is a common tangent, and the line through M parallel to AB meets the circles again at C and D. CA and DB meet at
+% E, AN and CD at P, BN and CD at Q. Then EP = EQ. The figure begins with A, B and M. The line MN halves AB at K, with
+% KM KN = KA^2; with the foot H of M on AB, MC is twice HA and MD is twice HB. Here: E and the midpoint R of PQ are on
+% one perpendicular to AB, so to PQ.
 point A
 point B
 point M

@@ -1,6 +1,7 @@
-% P and Q are points of the side BC of a triangle so that the angle PAB is equal to that at C, and CAQ to that at B. P
-% is the midpoint of AM, and Q that of AN. The lines BM and CN meet on the circumcircle (International Mathematical
-% Olympiad 2014, problem 4). By similar triangles BP BC = BA^2 and CQ CB = CA^2.
+% Two lines that meet on the circumcircle (International Mathematical Olympiad 2014, problem 4): P and Q are points of
+% the side BC of a triangle so that the angle PAB is equal to that at C, and CAQ to that at B. P is the midpoint of
+% AM, and Q that of AN. The lines BM and CN meet on the circumcircle. By similar triangles BP BC = BA^2 and CQ CB =
+% CA^2.
 point A
 point B
 point C

@@ -1,6 +1,7 @@
-% P is a point of the circumcircle of a triangle with the orthocenter H, and E is the foot of the altitude from B.
-% PAQB and PARC are parallelograms, and AQ meets HR at X. Then EX is parallel to AP (shortlist of the International
-% Mathematical Olympiad 1996, G1). H is made from the circumcenter O by vectors.
+% A parallel to a line of the circumcircle (shortlist of the International Mathematical Olympiad 1996, G1): P is a
+% point of the circumcircle of a triangle with the orthocenter H, and E is the foot of the altitude from B. PAQB and
+% PARC are parallelograms, and AQ meets HR at X. Then EX is parallel to AP. H is made from the circumcenter O by
+% vectors.
 point O
 point A
 oncircle B O A

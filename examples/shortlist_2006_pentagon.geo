@@ -1,6 +1,6 @@
-% ABCDE is a pentagon in which the triangles ABC, ACD and ADE are similar, and BD meets CE at P. The line AP halves
-% the side CD (shortlist of the International Mathematical Olympiad 2006, G3). C is r AB and s AB turned by a quarter
-% away from A, D has this place over AC, and E over AD.
+% A pentagon of three similar triangles (shortlist of the International Mathematical Olympiad 2006, G3): ABCDE is a
+% pentagon in which the triangles ABC, ACD and ADE are similar, and BD meets CE at P. The line AP halves the side CD.
+% C is r AB and s AB turned by a quarter away from A, D has this place over AC, and E over AD.
 point A
 point B
 param r

@@ -1,6 +1,6 @@
-% The diagonals of a cyclic quadrilateral ABCD meet at E, and the lines AD and BC at F; G and H are the midpoints of
-% AB and CD. The line EF touches the circle around EGH at E (shortlist of the International Mathematical Olympiad
-% 2009, G4). The figure begins with E, A and B; EC is r EA, and EA EC = EB ED.
+% A circle through two midpoints (shortlist of the International Mathematical Olympiad 2009, G4): the diagonals of a
+% cyclic quadrilateral ABCD meet at E, and the lines AD and BC at F; G and H are the midpoints of AB and CD. The line
+% EF touches the circle around EGH at E. The figure begins with E, A and B; EC is r EA, and EA EC = EB ED.
 point E
 point A
 point B

@@ -1,6 +1,6 @@
-% G is a line through a point P. The reflections of the lines PA, PB and PC in G meet the sides BC, CA and AB of a
-% triangle at three points of one line (United States of America Mathematical Olympiad 2012, problem 5). U is a second
-% point of G.
+% Three lines reflected in a line (United States of America Mathematical Olympiad 2012, problem 5): G is a line
+% through a point P. The reflections of the lines PA, PB and PC in G meet the sides BC, CA and AB of a triangle at
+% three points of one line. U is a second point of G.
 point P
 point U
 point A

@@ -1,7 +1,7 @@
-% Rectangles BCC1B2, CAA1C2 and ABB1A2 stand outside on the sides of a triangle, and the angles BC1C, CA1A and AB1B
-% add up to two right angles. The lines B1C2, C1A2 and A1B2 meet in one point (United States of America Mathematical
-% Olympiad 2021, problem 1). The heights are u, v and w times the sides; the cotangents of the angles are u, v and w,
-% so uv + vw + wu = 1.
+% Three rectangles on the sides (United States of America Mathematical Olympiad 2021, problem 1): rectangles BCC1B2,
+% CAA1C2 and ABB1A2 stand outside on the sides of a triangle, and the angles BC1C, CA1A and AB1B add up to two right
+% angles. The lines B1C2, C1A2 and A1B2 meet in one point. The heights are u, v and w times the sides; the cotangents
+% of the angles are u, v and w, so uv + vw + wu = 1.
 point A
 point B
 point C

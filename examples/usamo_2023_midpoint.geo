@@ -1,6 +1,6 @@
-% M is the midpoint of the side BC of a triangle and P the foot of the perpendicular from C to AM. The circle around
-% ABP meets BC at B and Q, and N is the midpoint of AQ. Then NB = NC (United States of America Mathematical Olympiad
-% 2023, problem 1). Q is found by the power of M: MB MQ = MP MA.
+% A midpoint as far from two corners (United States of America Mathematical Olympiad 2023, problem 1): M is the
+% midpoint of the side BC of a triangle and P the foot of the perpendicular from C to AM. The circle around ABP meets
+% BC at B and Q, and N is the midpoint of AQ. Then NB = NC. Q is found by the power of M: MB MQ = MP MA.
 point A
 point B
 point C

@@ -1,6 +1,6 @@
-% From a point M of the side AB of a triangle OAB the perpendiculars MP and MQ are drawn to OA and OB. The orthocenter
-% H of OPQ is on the line of the feet C and D of the altitudes from A and B (International Mathematical Olympiad 1965,
-% problem 5).
+% The orthocenters of the feet of a point (International Mathematical Olympiad 1965, problem 5): from a point M of the
+% side AB of a triangle OAB the perpendiculars MP and MQ are drawn to OA and OB. The orthocenter H of OPQ is on the
+% line of the feet C and D of the altitudes from A and B.
 point O
 point A
 point B

@@ -1,7 +1,7 @@
-% The outer common tangents of two circles that meet at A touch them at P1, Q1 and P2, Q2; M1 and M2 are the midpoints
-% of P1Q1 and P2Q2. The angles O1AO2 and M1AM2 are equal (International Mathematical Olympiad 1983, problem 2). The
-% figure begins with the intersection X of the tangents, A and O1. XO2 is XO1 times XA^2 over the power of X, which
-% makes A a point of both circles; M1 and M2 are the inverses of X.
+% Two circles and the chords of contact (International Mathematical Olympiad 1983, problem 2): the outer common
+% tangents of two circles that meet at A touch them at P1, Q1 and P2, Q2; M1 and M2 are the midpoints of P1Q1 and
+% P2Q2. The angles O1AO2 and M1AM2 are equal. The figure begins with the intersection X of the tangents, A and O1. XO2
+% is XO1 times XA^2 over the power of X, which makes A a point of both circles; M1 and M2 are the inverses of X.
 point X
 point A
 point O1

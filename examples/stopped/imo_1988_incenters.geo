@@ -1,7 +1,7 @@
-% In a right triangle ABC with the altitude AD the line through the incenters of ABD and ACD meets AB at K and AC at
-% L; then AK = AL = AD (a step of the International Mathematical Olympiad 1988, problem 5). Here K and L are laid off
-% at the distance AD: the line KL meets the bisector of the right angle ADB in a point I of the bisector of the angle
-% at B. AB is 2t, AC is 1 - t^2 and BC is 1 + t^2, with the unit AU.
+% The line through two incenters (a step of the International Mathematical Olympiad 1988, problem 5): in a right
+% triangle ABC with the altitude AD the line through the incenters of ABD and ACD meets AB at K and AC at L; then AK =
+% AL = AD. Here K and L are laid off at the distance AD: the line KL meets the bisector of the right angle ADB in a
+% point I of the bisector of the angle at B. AB is 2t, AC is 1 - t^2 and BC is 1 + t^2, with the unit AU.
 point A
 point U
 param t

@@ -1,7 +1,7 @@
-% The bisectors of a triangle ABC meet its circumcircle again at K, L and M. The triangle of the excenters has twice
-% the area of the hexagon AMBKCL (International Mathematical Olympiad 1989, problem 2). The figure begins with the
-% excenters X, Y, Z: A, B and C are the feet of the altitudes, the incenter I is the orthocenter, and K, L and M are
-% the midpoints of XI, YI and ZI.
+% The excenters and a hexagon (International Mathematical Olympiad 1989, problem 2): the bisectors of a triangle ABC
+% meet its circumcircle again at K, L and M. The triangle of the excenters has twice the area of the hexagon AMBKCL.
+% The figure begins with the excenters X, Y, Z: A, B and C are the feet of the altitudes, the incenter I is the
+% orthocenter, and K, L and M are the midpoints of XI, YI and ZI.
 point X
 point Y
 point Z

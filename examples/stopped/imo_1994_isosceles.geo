@@ -1,6 +1,6 @@
-% ABC is an isosceles triangle, M is the midpoint of the base BC, and O is the point of the line AM with OB
-% perpendicular to AB. Q is a point of BC; the perpendicular to OQ at Q meets AB at E and AC at F. Then QE = QF
-% (International Mathematical Olympiad 1994, problem 2).
+% A segment halved by a perpendicular (International Mathematical Olympiad 1994, problem 2): ABC is an isosceles
+% triangle, M is the midpoint of the base BC, and O is the point of the line AM with OB perpendicular to AB. Q is a
+% point of BC; the perpendicular to OQ at Q meets AB at E and AC at F. Then QE = QF.
 point B
 point C
 midpoint M B C

@@ -1,6 +1,7 @@
-% Two circles meet at M and N; AB is a common tangent, and the line through M parallel to AB meets the circles again
-% at C and D. CA and DB meet at E, AN and CD at P, BN and CD at Q. Then EP = EQ (International Mathematical Olympiad
-% 2000, problem 1). The figure begins with A, B and M; the centres are on the perpendiculars to AB at A and B.
+% A common tangent and a parallel (International Mathematical Olympiad 2000, problem 1): two circles meet at M and N;
+% AB is a common tangent, and the line through M parallel to AB meets the circles again at C and D. CA and DB meet at
+% E, AN and CD at P, BN and CD at Q. Then EP = EQ. The figure begins with A, B and M; the centres are on the
+% perpendiculars to AB at A and B.
 point A
 point B
 point M

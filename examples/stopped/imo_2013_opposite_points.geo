@@ -1,6 +1,6 @@
-% M and N are the feet of the altitudes from B and C of a triangle with the orthocenter H, and W is a point of BC. X
-% is opposite to W on the circle around BWN, and Y on the circle around CWM. Then X, H and Y are on one line
-% (International Mathematical Olympiad 2013, problem 4).
+% Two opposite points and the orthocenter (International Mathematical Olympiad 2013, problem 4): M and N are the feet
+% of the altitudes from B and C of a triangle with the orthocenter H, and W is a point of BC. X is opposite to W on
+% the circle around BWN, and Y on the circle around CWM. Then X, H and Y are on one line.
 point A
 point B
 point C
