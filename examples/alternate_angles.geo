@@ -1,6 +1,6 @@
-% A line meets two parallels at A and B. The alternate angles are equal (Euclid, Elements I.29): C and D are points of
-% the parallels on different sides of AB, and the angles CAB and DBA have equal tangents and the same turn. BD is r
-% times AC, turned round.
+% Alternate angles (Euclid, Elements I.29): a line meets two parallels at A and B, and the alternate angles are equal.
+% C and D are points of the parallels on different sides of AB, and the angles CAB and DBA have equal tangents and the
+% same turn. BD is r times AC, turned round.
 point A
 point B
 point C

@@ -1,4 +1,4 @@
-% The angles of a triangle add up to two right angles (Euclid, Elements I.32): so the products of two of their
+% The sum of the angles of a triangle (Euclid, Elements I.32) is two right angles: so the products of two of their
 % cotangents add up to 1. The cotangent of an angle is a Pythagoras difference over four areas.
 point A
 point B

@@ -1,7 +1,7 @@
-% The points A, B, C, D of a line and A1, B1, C1, D1 of another line have equal cross-ratios. The lines AB1 and BA1,
-% AC1 and CA1, AD1 and DA1 meet in three points of one line, the cross axis (Jakob Steiner, 1832; Pappus' theorem is
-% behind it). C and D are at c and d times the way from A to B, C1 at r times that from A1 to B1, and D1 is where the
-% cross-ratios are equal.
+% The cross axis of two projective ranges (Jakob Steiner, 1832; Pappus' theorem is behind it): the points A, B, C, D
+% of a line and A1, B1, C1, D1 of another line have equal cross-ratios. The lines AB1 and BA1, AC1 and CA1, AD1 and
+% DA1 meet in three points of one line. C and D are at c and d times the way from A to B, C1 at r times that from A1
+% to B1, and D1 is where the cross-ratios are equal.
 point A
 point B
 point A1

@@ -1,5 +1,5 @@
-% Where C and D divide AB harmonically, 2/AB = 1/AC + 1/AD, with signs (Rene Descartes, 17th century): AB is the
-% harmonic mean of AC and AD. C is at r times the way from A to B.
+% Descartes' relation of harmonic points (Rene Descartes, 17th century): where C and D divide AB harmonically, 2/AB =
+% 1/AC + 1/AD, with signs, so that AB is the harmonic mean of AC and AD. C is at r times the way from A to B.
 point A
 point B
 param r

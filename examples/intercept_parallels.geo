@@ -1,5 +1,5 @@
-% A parallel to the side BC of a triangle meets AB at D and AC at E. The parallels DE and BC are in the ratio of AD to
-% AB (the second intercept theorem; Euclid, Elements VI.4).
+% The second intercept theorem (Euclid, Elements VI.4): a parallel to the side BC of a triangle meets AB at D and AC
+% at E. The parallels DE and BC are in the ratio of AD to AB.
 point A
 point B
 point C

@@ -1,5 +1,6 @@
-% Three points of one line and three of another have six Pappus lines, one for each way to pair them. Those of the
-% pairings that go over into one another by cyclic exchange meet in one point (Jakob Steiner, 1832).
+% Three Pappus lines through one point (Jakob Steiner, 1832): three points of one line and three of another have six
+% Pappus lines, one for each way to pair them. Those of the three pairings that go over into one another by cyclic
+% exchange meet in one point.
 point A
 point B
 online C A B

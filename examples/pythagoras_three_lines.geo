@@ -1,6 +1,6 @@
-% Squares stand outside on the sides CA and CB of a triangle. The lines from A and B to the far corners of the squares
-% on CB and CA meet on the altitude from C (Heron of Alexandria, for a right angle at C, after an-Nairizi's commentary
-% on Euclid, Elements I.47).
+% Heron's three lines (Heron of Alexandria, for a right angle at C, after an-Nairizi's commentary on Euclid, Elements
+% I.47): squares stand outside on the sides CA and CB of a triangle. The lines from A and B to the far corners of the
+% squares on CB and CA meet on the altitude from C.
 point C
 point A
 point B

@@ -1,6 +1,6 @@
-% The six sides of a quadrangle PQRS meet a line in six points: PQ at A, PR at B, PS at C, QR at D, QS at E and RS at
-% F. Of a second quadrangle five sides pass through A, B, C, D and E; then the sixth passes through F (Karl von
-% Staudt, 1847).
+% The quadrangular set (Karl von Staudt, 1847): the six sides of a quadrangle PQRS meet a line in six points: PQ at A,
+% PR at B, PS at C, QR at D, QS at E and RS at F. Of a second quadrangle five sides pass through A, B, C, D and E;
+% then the sixth passes through F.
 point A
 point B
 online C A B

@@ -1,5 +1,5 @@
-% The addition theorem of the tangent (classical): for angles AOB and BOC with the tangents s and t the tangent of AOC
-% is (s + t) / (1 - st). The tangent of an angle is four areas over a Pythagoras difference.
+% The tangent of a sum of angles (classical): for angles AOB and BOC with the tangents s and t the tangent of AOC is
+% (s + t) / (1 - st). The tangent of an angle is four areas over a Pythagoras difference.
 point O
 point A
 point B
