@@ -1,6 +1,5 @@
 % D and E are any points of the sides BC and CA of a triangle. The orthocenter H has the same power for the circles
-% with the diameters AD and BE (John Casey, A Sequel to Euclid, 1881): HA HD and HB HE are equal as products of
-% vectors.
+% with the diameters AD and BE (classical): HA HD and HB HE are equal as products of vectors.
 point A
 point B
 point C

@@ -1,6 +1,7 @@
-% Haruki's theorem on three circles (Hiroshi Haruki, 20th century; Ross Honsberger, Episodes, 1995): where three
-% circles meet two by two in A, A1, in B, B1 and in C, C1, the six segments satisfy AB1 BC1 CA1 = BA1 CB1 AC1, here in
-% squares. The figure begins with the point X where the common chords meet; XA XA1 = XB XB1 = XC XC1 = k.
+% Haruki's theorem on three circles (Hiroshi Haruki, 20th century; Ross Honsberger, Episodes in Nineteenth and
+% Twentieth Century Euclidean Geometry, 1995): where three circles meet two by two in A, A1, in B, B1 and in C, C1,
+% the six segments satisfy AB1 BC1 CA1 = BA1 CB1 AC1, here in squares. The figure begins with the point X where the
+% common chords meet; XA XA1 = XB XB1 = XC XC1 = k.
 point X
 point A
 point B

@@ -1,7 +1,7 @@
-% The powers of a point X for two circles differ by twice the product of the distance of the centres and the distance
-% of X from the radical axis (John Casey, A Sequel to Euclid, 1881). The circles are around O through A and around P
-% through B; the radical axis is perpendicular to OP through L, the foot of X on OP is K, and V is such that LV is OP
-% as a vector.
+% The difference of two powers (John Casey, A Sequel to Euclid, 1881): the powers of a point X for two circles differ
+% by twice the product of the distance of the centres and the distance of X from the radical axis. The circles are
+% around O through A and around P through B; the radical axis is perpendicular to OP through L, the foot of X on OP is
+% K, and V is such that LV is OP as a vector.
 point O
 point A
 point P
