@@ -87,8 +87,10 @@ class Geometry {
       return off > size * (word === "different" ? 1e-18 : 1e-9) ? [] : [k + 1];
     });
   }
+  // a length that vanishes is that of an error, and the condition on it fails
   length(f, a, b) {
-    return far(f.points.get(a), f.points.get(b));
+    const long = far(f.points.get(a), f.points.get(b));
+    return long > 1e-9 * sizeOf(f) ? long : Infinity;
   }
 
   // the points that do not exist: without a place, or, where a condition fails, in another one as soon as anything moves at all
