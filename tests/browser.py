@@ -3,6 +3,7 @@
 import base64
 import json
 import os
+import select
 import shutil
 import signal
 import subprocess
@@ -46,6 +47,7 @@ class Browser:
         self.session = self.call("Target.attachToTarget", targetId=pages[0]["targetId"], flatten=True)["sessionId"]
         for domain in ("Page", "Runtime", "Log"):
             self.call(f"{domain}.enable")
+        self.call("Page.setLifecycleEventsEnabled", enabled=True)
 
     def read(self):
         while b"\0" not in self.rest:
@@ -69,10 +71,17 @@ class Browser:
         return answer["result"]
 
     def open(self, address):
+        """Opens a page anew, and waits until it is loaded; the page before it may have the same address."""
         self.events = []
-        self.call("Page.navigate", url=address)
-        if not self.wait(f"document.readyState === 'complete' && location.href === {json.dumps(address)}", 60):
+        loader = self.call("Page.navigate", url=address)["loaderId"]
+        if not self.wait(lambda: self.is_loaded(loader), 60):
             raise RuntimeError(f"{address} is not loaded within a minute")
+
+    def is_loaded(self, loader):
+        while b"\0" in self.rest or select.select([self.source], [], [], 0)[0]:
+            self.events.append(self.read())
+        said = [event["params"] for event in self.events if event.get("method") == "Page.lifecycleEvent"]
+        return any(event["name"] == "load" and event["loaderId"] == loader for event in said)
 
     def js(self, expression):
         answer = self.call("Runtime.evaluate", expression=expression, returnByValue=True, awaitPromise=True)
@@ -81,11 +90,15 @@ class Browser:
         return answer["result"].get("value")
 
     def wait(self, condition, seconds=15.0):
-        """Whether this expression becomes true in time."""
+        """Whether this expression, or this function, becomes true in time."""
         end = time.monotonic() + seconds
-        while not (value := self.js(condition)) and time.monotonic() < end:
+        while not (value := condition() if callable(condition) else self.js(condition)) and time.monotonic() < end:
             time.sleep(0.02)
         return bool(value)
+
+    def comes(self, selector, x, y, most=1.5):
+        """Whether the middle of an element comes to this place of the window."""
+        return self.wait(lambda: all(abs(p - q) <= most for p, q in zip(self.middle(selector), (x, y))), 5)
 
     def errors(self):
         """What the console has of errors, exceptions and warnings."""

@@ -3,7 +3,6 @@
 import json
 import random
 import tempfile
-import time
 from pathlib import Path
 
 from browser import Browser
@@ -30,6 +29,7 @@ def run(binary, want, has_editor, programs):
             first(browser, studio, want)
             typed(browser, want, has_editor)
             pulled(browser, want)
+            held(browser, want)
             panels(browser, studio, want)
             saved(browser, studio, want, file)
             gallery(browser, want, programs)
@@ -43,8 +43,8 @@ def run(binary, want, has_editor, programs):
 
 
 def settled(browser, words):
-    """The verdict has these words, and the figure is there."""
-    return browser.wait(f"{VERDICT}.includes({json.dumps(words)}) && {IDLE}", 30)
+    """The answers to the present text are there, and the verdict has these words."""
+    return browser.wait(f"window.studio && {IDLE}", 60) and words in browser.js(VERDICT)
 
 
 def put(browser, text):
@@ -65,9 +65,10 @@ def typed(browser, want, has_editor):
     browser.type("point A\npoint B\npoint C\nmidpoint M A B\nmidpoint N B C\nprove { parallel M N A C }")
     want("a theorem that is typed", settled(browser, "MN is parallel to AC"), browser.js(VERDICT))
     browser.type("\nx")
-    want("a mistake is told", browser.wait(f"{VERDICT}.startsWith('Line 7: nothing may stand behind the statement')"), browser.js(VERDICT))
+    want("a mistake is told", settled(browser, "Line 7: nothing may stand behind the statement"), browser.js(VERDICT))
     if has_editor:
-        want("and marked at its place", browser.wait("document.querySelector('.wrong')?.innerText === 'x'"), browser.js("document.querySelector('.wrong')?.innerText"))
+        marked = browser.js("document.querySelector('.wrong')?.innerText")
+        want("and marked at its place", marked == "x", marked)
     else:
         want("and marked", browser.js("document.querySelector('textarea').getAttribute('aria-invalid')") == "true")
     browser.key("Backspace", 8)
@@ -83,21 +84,36 @@ def typed(browser, want, has_editor):
 
 def pulled(browser, want):
     """A corner is pulled, and the midpoints go where they are due; what was moved stays when the statement changes."""
-    browser.wait(f"document.querySelectorAll('svg .dot').length === 5 && {IDLE}")
-    time.sleep(0.3)
+    want("five points", browser.js("document.querySelectorAll('svg .dot').length") == 5)
     b = browser.middle("svg [data-name=B]")
     browser.drag(*b, b[0] - 90, b[1] - 60)
+    want("a point is pulled", browser.comes("svg [data-name=B]", b[0] - 90, b[1] - 60), f"{b} {browser.middle('svg [data-name=B]')}")
     places = {name: browser.middle(f"svg [data-name={name}]") for name in "ABCMN"}
-    want("a point is pulled", all(abs(p - q) < 1.5 for p, q in zip(places["B"], (b[0] - 90, b[1] - 60))), places)
     for name, ends in (("M", "AB"), ("N", "BC")):
         middle = [(places[ends[0]][k] + places[ends[1]][k]) / 2 for k in (0, 1)]
         want(f"and the midpoint {name} follows", all(abs(p - q) < 0.3 for p, q in zip(places[name], middle)), places)
     put(browser, "point A\npoint B\npoint C\nmidpoint M A B\nmidpoint N B C\nprove { parallel M N A B }\n")
     want("a false statement", settled(browser, "False."), browser.js(VERDICT))
     want("the pulled point stays", browser.middle("svg [data-name=B]") == places["B"])
-    want("and the figure tells it", browser.wait(f"{STATE} === 'fails'"), browser.js("document.querySelector('.here').innerText"))
+    want("and the figure tells it", browser.js(STATE) == "fails", browser.js("document.querySelector('.here').innerText"))
     browser.js("document.querySelector('button.back').click()")
     want("as it was", browser.middle("svg [data-name=B]") != places["B"])
+
+
+def held(browser, want):
+    """An answer that comes while a point is held lays the figure out when it is let go: the point stays under the mouse."""
+    put(browser, "point A\npoint B\npoint C\nmidpoint M A B\nprove { collinear A M B }\n")
+    settled(browser, "A, M and B are on one line")
+    b = browser.middle("svg [data-name=B]")
+    browser.mouse("mousePressed", *b, clickCount=1)
+    put(browser, "point A\npoint B\npoint C\nmidpoint M A B\nmidpoint N A C\nprove { parallel M N B C }\n")
+    want("a verdict while a point is held", browser.wait(f"{VERDICT}.includes('MN is parallel to BC')", 60), browser.js(VERDICT))
+    browser.mouse("mouseMoved", b[0] - 40, b[1] + 30, buttons=1)
+    want("the point that is held follows", browser.comes("svg [data-name=B]", b[0] - 40, b[1] + 30), f"{b} {browser.middle('svg [data-name=B]')}")
+    want("the figure waits", not browser.js("!!document.querySelector('svg [data-name=N]')") and not browser.js(IDLE))
+    browser.mouse("mouseReleased", b[0] - 40, b[1] + 30, clickCount=1)
+    want("and is laid out", settled(browser, "MN is parallel to BC") and browser.js("!!document.querySelector('svg [data-name=N]')"))
+    want("with the point where it was let go", browser.comes("svg [data-name=B]", b[0] - 40, b[1] + 30), f"{b} {browser.middle('svg [data-name=B]')}")
 
 
 def panels(browser, studio, want):
@@ -154,10 +170,8 @@ def gallery(browser, want, count):
     verdicts = {line.split()[0]: line.split()[2] for line in (TOP / "examples" / "verdicts").read_text().splitlines()}
     dice = random.Random(7)
     for name in sorted(dice.sample(sorted(verdicts), min(count, len(verdicts)))):
-        browser.js("document.getElementById('verdict').replaceChildren()")
         put(browser, (TOP / "examples" / f"{name}.geo").read_text())
         settled(browser, "")
-        browser.wait(f"!!document.querySelector('#verdict .verdict') && {IDLE}", 30)
         seen = browser.js("document.querySelector('#verdict .verdict')?.className")
         want(f"{name} in the studio", seen == f"verdict {verdicts[name]}", seen)
         for _ in range(2):
@@ -170,7 +184,8 @@ def gallery(browser, want, count):
     browser.js("document.getElementById('examples').click(); document.getElementById('search').value = 'monge'; document.getElementById('search').dispatchEvent(new Event('input'))")
     want("the examples, searched", browser.js("document.querySelectorAll('#list button').length") in (1, 2, 3))
     browser.js("confirm = () => true; document.querySelector('#list button').click()")
-    want("an example is opened", browser.wait("document.getElementById('name').innerText.endsWith('.geo')") and browser.wait("!!document.querySelector('#verdict .verdict')"))
+    want("an example is opened", browser.wait("document.getElementById('name').innerText.startsWith('monge')"), browser.js("document.getElementById('name').innerText"))
+    want("and decided", settled(browser, "Proved."), browser.js(VERDICT))
 
 
 def narrow(browser, want):

@@ -26,11 +26,13 @@ def run(binary, want):
             pages(s, want)
             many(s, want)
             left(s, want)
-            s.connect().sendall(question(s, "relations", {"text": SLOW, "page": "c"}))
-            s.wait(lambda: s.searches() == 1)
+            with s.connect() as browser:
+                browser.sendall(question(s, "relations", {"text": SLOW, "page": "c"}))
+                want("a search before the end", s.wait(lambda: s.searches() == 1), s.children())
+                status, is_left = s.end()
+                want("Ctrl-C ends it with 0, and all its runs", status == 0 and not is_left, status)
         finally:
-            status, is_left = s.end()
-            want("Ctrl-C ends it with 0, and all its runs", status == 0 and not is_left, status)
+            s.kill()
         killed(binary, want, file)
         saving(binary, want, Path(room))
         building(binary, want, Path(room))
@@ -154,10 +156,10 @@ def many(s, want):
         thread.join()
     want("and none when it is stopped", s.searches() == 0, s.children())
     idle = [s.connect() for _ in range(40)]
-    want("40 idle connections: a word for the next one", s.wait(lambda: status(s.get(f"/{s.token}/")) == "503", 5))
+    want("40 idle connections: a word for the next one", s.wait(lambda: status(s.get(f"/{s.token}/")) == "503", 8))
     for connection in idle:
         connection.close()
-    want("and then the page again", s.wait(lambda: status(s.get(f"/{s.token}/")) == "200", 15))
+    want("and then the page again", s.wait(lambda: status(s.get(f"/{s.token}/")) == "200", 30))
 
 
 def left(s, want):
@@ -165,15 +167,16 @@ def left(s, want):
     with s.connect() as browser:
         browser.sendall(question(s, "relations", {"text": SLOW}))
         want("a search", s.wait(lambda: s.searches() == 1), s.children())
-    want("ends where the browser leaves", s.wait(lambda: s.searches() == 0, 5), s.children())
+    want("ends where the browser leaves", s.wait(lambda: s.searches() == 0), s.children())
 
 
 def killed(binary, want, file):
     s = Studio(binary, file)
-    s.connect().sendall(question(s, "relations", {"text": SLOW}))
-    s.wait(lambda: s.searches() == 1)
-    status, is_left = s.end(9)
-    want("nothing is left where it is killed", status == -9 and not is_left)
+    with s.connect() as browser:
+        browser.sendall(question(s, "relations", {"text": SLOW}))
+        want("a search before the studio is killed", s.wait(lambda: s.searches() == 1), s.children())
+        status, is_left = s.end(9)
+        want("nothing is left where it is killed", status == -9 and not is_left, status)
 
 
 def saving(binary, want, room):
@@ -201,38 +204,64 @@ def saving(binary, want, room):
 
 def limited(binary, want):
     """The steps of a run are those that are given; more of them are taken where it is asked for; a run ends at its time."""
-    s = Studio(binary, "--steps", "10", "--seconds", "1")
+    s = Studio(binary, "--steps", "10")
     try:
         altitudes = (TOP / "examples" / "altitudes.geo").read_text()
         answer = s.lines("ask", {"text": altitudes})
         want("out of steps", answer[0]["state"] == "undecided" and answer[0]["more"] and "out of steps" in answer[0]["html"], answer)
         answer = s.lines("ask", {"text": altitudes, "more": True})
         want("and with more", answer[0]["state"] == "proved", answer)
+        refuted(s, want)
     finally:
         s.end(15)
     s = Studio(binary, "--steps", "1000000000000", "--seconds", "1")
     try:
         answer = s.lines("ask", {"text": (TOP / "examples/stopped/miquel_of_four_lines.geo").read_text()})
         want("a run is stopped at its time", "stopped at its time" in answer[0]["html"] and answer[0]["more"], answer)
-        want("and the studio goes on", s.lines("ask", {"text": GOOD})[0]["state"] == "proved")
+        want("and its figure is there", "figure" in answer[-1], answer)
+        want("and the studio goes on", s.lines("ask", {"text": GOOD, "more": True})[0]["state"] == "proved")
     finally:
         s.end(15)
 
 
+def refuted(s, want):
+    """Where the steps are spent, a figure that is tried refutes a false statement, as `place` says; the picture is that figure."""
+    text = (TOP / "examples" / "varignon_as_a_rectangle.geo").read_text()
+    answer = s.lines("ask", {"text": text})
+    want("out of steps, and false", answer[0]["state"] == "false" and not answer[0]["more"] and not answer[0]["proof"], answer[0])
+    want("with its words", "The prover stopped" not in answer[0]["html"] and "as the word <code>place</code> says" in answer[0]["html"], answer[0])
+    numbers = [one["value"] for one in answer[0]["numbers"]]
+    placed = s.lines("place", {"text": text, "numbers": numbers})
+    want("and with its numbers", len(numbers) == 8 and placed[0]["holds"] is False, placed)
+    want("in its picture", answer[1]["caption"].startswith("The figure of the counterexample") or "fails" in answer[1]["caption"], answer[1])
+    page = s.lines("saved", {"text": text, "as": "page", "name": "a.geo"})[0]["text"]
+    want("in its page", "<b>False.</b>" in page and "as the word <code>place</code> says" in page, page[:300])
+    want("no log is false", "verdict" not in s.lines("saved", {"text": text, "as": "log", "name": "a.geo"})[0]["text"])
+
+
 def building(binary, want, room):
     """Where the program is not built, the studio says that it waits, and then answers."""
-    for script, wanted in ((f'sleep 2; echo "{binary}"', "proved"), ("echo 'geo: no compiler' >&2; exit 70", "There is no program: no compiler")):
+    go = room / "go"
+    for script, wanted in ((f'until [ -e "{go}" ]; do sleep 0.1; done; echo "{binary}"', "proved"), ("echo 'geo: no compiler' >&2; exit 70", "There is no program: no compiler")):
         build = room / "build"
         build.write_text(f"#!/bin/sh\n{script}\n")
         build.chmod(0o755)
         s = Studio.__new__(Studio)
         s.begun = time.monotonic()
         s.run = subprocess.Popen(["python3", "-SsEB", str(TOP / "tools/studio/studio.py"), "--build", str(build), "--no-open"], stdout=subprocess.PIPE, text=True)
-        s.read()
-        answer = s.lines("ask", {"text": GOOD})
-        want(f"building: {wanted}", any(wanted in (line.get("state"), line.get("note")) for line in answer), answer)
-        want(f"building: {wanted}: waits", wanted != "proved" or answer[0]["state"] == "building", answer)
-        want("building: the end", s.end()[0] == 0)
+        try:
+            s.read()
+            with s.connect() as browser, browser.makefile("r") as said:
+                browser.sendall(question(s, "ask", {"text": GOOD}))
+                lines = (json.loads(line) for line in said if line.startswith("{"))
+                first = next(lines)
+                want(f"building: {wanted}: waits", wanted != "proved" or first["state"] == "building", first)
+                go.touch()
+                answer = [first, *lines]
+            want(f"building: {wanted}", any(wanted in (line.get("state"), line.get("note")) for line in answer), answer)
+            want("building: the end", s.end()[0] == 0)
+        finally:
+            s.kill()
 
 
 def words(binary, want):

@@ -71,6 +71,12 @@ class Studio:
             time.sleep(0.05)
         return value
 
+    def kill(self):
+        """Where a test broke off."""
+        if self.run.poll() is None:
+            self.run.kill()
+            self.run.wait()
+
     def end(self, number=2):
         """Ends it by a signal: its status, and whether one of its children lives on."""
         alive = [pid for pid, _ in self.children()]

@@ -1,10 +1,12 @@
 // SPDX-License-Identifier: Apache-2.0
 // A figure that moves: its free points, the points of lines and circles and its numbers are changed by mouse, finger and keys, and all
 // that is constructed follows. `root` has an empty svg.moving and the controls, `data` is what live.py writes, `onChange` is told the
-// state after each change, `kept` has values and a view to begin with, and with `zoom` the wheel and the mouse move the picture.
+// state after each change, `onRelease` that what was held was let go, `kept` has values and a view to begin with, and with `zoom` the
+// wheel and the mouse move the picture.
 class LiveFigure {
-  constructor(root, data, { onChange = () => {}, kept = null, zoom = false } = {}) {
-    Object.assign(this, { root, data, onChange, geometry: new Geometry(data), svg: root.querySelector("svg.moving") });
+  constructor(root, data, { onChange = () => {}, onRelease = () => {}, kept = null, zoom = false } = {}) {
+    Object.assign(this, { root, data, onChange, onRelease, geometry: new Geometry(data), svg: root.querySelector("svg.moving") });
+    Object.assign(this, { pointer: null, held: null, pushed: null });
     this.first = new Map(data.commands.filter((c) => c.value !== null).map((c) => [c.name, c.value]));
     this.values = new Map(kept ? kept.values : this.first);
     this.svg.setAttribute("viewBox", `0 0 ${data.view[0]} ${data.view[1].toFixed(1)}`);
@@ -83,24 +85,37 @@ class LiveFigure {
     const { x, y } = new DOMPoint(event.clientX, event.clientY).matrixTransform(this.svg.getScreenCTM().inverse());
     return [x, y];
   }
-  held(event) {
+  under(event) {
     const inside = (x, most) => Math.min(Math.max(x, 8), most - 8), [x, y] = this.at(event);
     return this.sketch.place([inside(x, this.sketch.width), inside(y, this.sketch.height)]);
   }
 
+  // one pointer at a time holds a point, or the picture
+  isHeld() {
+    return this.pointer !== null;
+  }
+  hold(event, what) {
+    Object.assign(this, { pointer: event.pointerId, ...what });
+    if (event.isTrusted) this.svg.setPointerCapture(event.pointerId);
+  }
+  release(event) {
+    if (event.pointerId !== this.pointer) return;
+    Object.assign(this, { pointer: null, held: null, pushed: null });
+    this.onRelease();
+  }
+
   listen() {
-    let held = null;
     this.svg.addEventListener("pointerdown", (event) => {
-      held = event.target.getAttribute("data-point");
-      if (!held) return;
+      const held = event.target.getAttribute("data-point");
+      if (!held || this.isHeld()) return;
       event.preventDefault();
       event.target.focus();
-      if (event.isTrusted) this.svg.setPointerCapture(event.pointerId);
+      this.hold(event, { held });
     });
-    this.svg.addEventListener("pointermove", (event) => { if (held) this.move(held, this.held(event)); });
-    for (const end of ["pointerup", "pointercancel"]) this.svg.addEventListener(end, () => { held = null; });
+    this.svg.addEventListener("pointermove", (event) => { if (this.held && event.pointerId === this.pointer) this.move(this.held, this.under(event)); });
+    for (const end of ["pointerup", "pointercancel"]) this.svg.addEventListener(end, (event) => this.release(event));
     // a finger on a point pulls it; elsewhere it moves the page, as ever
-    this.svg.addEventListener("touchstart", (event) => { if (held) event.preventDefault(); }, { passive: false });
+    this.svg.addEventListener("touchstart", (event) => { if (this.held) event.preventDefault(); }, { passive: false });
     this.svg.addEventListener("keydown", (event) => {
       const name = event.target.getAttribute("data-point"), step = (event.shiftKey ? 20 : 4) / this.sketch.scale;
       const way = { ArrowLeft: [-step, 0], ArrowRight: [step, 0], ArrowUp: [0, step], ArrowDown: [0, -step] }[event.key];
@@ -127,24 +142,21 @@ class LiveFigure {
   // the wheel zooms, and the mouse pushes the picture where there is no point
   listenToZoom() {
     const sketch = this.sketch;
-    let pushed = null;
     this.svg.addEventListener("wheel", (event) => {
       event.preventDefault();
       this.zoom(Math.exp(-Math.max(-200, Math.min(200, event.deltaY)) / 500), sketch.place(this.at(event)));
     }, { passive: false });
     this.svg.addEventListener("pointerdown", (event) => {
-      if (event.target.hasAttribute("data-point") || event.pointerType !== "mouse" || event.button) return;
-      pushed = this.at(event);
-      if (event.isTrusted) this.svg.setPointerCapture(event.pointerId);
+      if (this.isHeld() || event.target.hasAttribute("data-point") || event.pointerType !== "mouse" || event.button) return;
+      this.hold(event, { pushed: this.at(event) });
     });
     this.svg.addEventListener("pointermove", (event) => {
-      if (!pushed) return;
-      const to = this.at(event), [dx, dy] = minus(to, pushed);
+      if (!this.pushed) return;
+      const to = this.at(event), [dx, dy] = minus(to, this.pushed);
       sketch.middle = [sketch.middle[0] - dx / sketch.scale, sketch.middle[1] + dy / sketch.scale];
-      pushed = to;
+      this.pushed = to;
       this.draw();
     });
-    for (const end of ["pointerup", "pointercancel"]) this.svg.addEventListener(end, () => { pushed = null; });
   }
   zoom(by, p) {
     this.sketch.scale *= by;

@@ -70,7 +70,7 @@ class Page:
             words = f"<p><b>Proved.</b> {statement}{' wherever' if listed else '.'}</p>"
             words += f"<ul>{listed}</ul>" if listed else ""
         elif self.tried:
-            words = f"<p><b>False.</b> It is not always so that {statement}: it fails at the counterexample below, as the word <code>place</code> "
+            words = f"<p><b>False.</b> It is not always so that {statement}: it fails at {self.tried_numbers()}, as the word <code>place</code> "
             words += f"says. There is no log: the prover stopped, {self.stop()}.</p>"
         elif self.verdict == "false":
             goal = self.goals[int(self.end[2]) - 1]
@@ -82,6 +82,13 @@ class Page:
         else:
             words = f"<p><b>Undecided.</b> {statement}? The prover stopped: {self.stop()}.</p>"
         return f'<section class="verdict {self.verdict}">{words}</section>'
+
+    def tried_numbers(self):
+        """What is free, with its numbers at the figure that was tried."""
+        points, rest = self.program.free(), [number_html(number) for number in self.tried]
+        places = [f"{name_html(c.name)} = ({rest[2 * k]}, {rest[2 * k + 1]})" for k, c in enumerate(points)]
+        valued = zip(self.program.valued(), rest[2 * len(points) :])
+        return ", ".join(places + [f"{name_html(c.name) if c.word == 'param' else f't({name_html(c.name)})'} = {number}" for c, number in valued])
 
     def stop(self):
         if self.end[0] != "stop":

@@ -14,7 +14,7 @@ class ProofPanel {
     if (this.root.hidden || this.of === answer) return;
     this.of = answer;
     this.clear();
-    if (!answer || !answer.proof) return this.root.replaceChildren(note("A proof stands here where there is a verdict."));
+    if (!answer || !answer.proof) return this.root.replaceChildren(note("A proof stands here where the log has a verdict."));
     for await (const line of this.studio.ask("proof", { text, more })) {
       if (this.of !== answer) return;
       if (line.note) this.root.replaceChildren(note(line.note));

@@ -18,7 +18,7 @@ class GivenUp(Exception):
 
 
 class TooLong(Exception):
-    """The time is spent."""
+    """The time is spent; with what came until then."""
 
 
 class Question:
@@ -121,7 +121,7 @@ def collected(asked, run, end, each):
             parts.append(part)
         asked.look()
         if time.monotonic() > end:
-            raise TooLong
+            raise TooLong(b"".join(parts))
 
 
 def process(words):

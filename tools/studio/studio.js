@@ -1,11 +1,12 @@
 // SPDX-License-Identifier: Apache-2.0
-// The studio's page: the text is asked about at each pause of typing, and the answers go to their places.
+// The studio's page: the text is asked about at each pause of typing, and the answers go to their places. From the first key until all of
+// them stand there, the page waits.
 const PAUSE = 300, MOST = 1 << 20, LOST = "The studio does not answer. It may have ended: start it anew.";
 const FIRST = "point A\npoint B\npoint C\nmidpoint M A B\nmidpoint N A C\nprove { parallel M N B C }\n";
 
 class Studio {
   constructor(start) {
-    Object.assign(this, { page: makeName(), asked: {}, figure: null, described: null, timer: null, question: null });
+    Object.assign(this, { page: makeName(), asked: {}, figure: null, described: null, due: null, timer: null, question: null });
     const Editor = window.CodeMirror ? RichEditor : PlainEditor;
     this.editor = new Editor($("text"), new Forms(start.forms), () => this.changed(), (form) => { $("form").textContent = form; });
     this.proof = new ProofPanel(this);
@@ -52,19 +53,27 @@ class Studio {
   }
   changed() {
     this.file.tell();
-    clearTimeout(this.timer);
+    this.giveUp();
     this.timer = setTimeout(() => this.askNow(), PAUSE);
   }
-  async askNow(more = false) {
+  // the question about a text that is no longer there, and its answer
+  giveUp() {
     clearTimeout(this.timer);
     if (this.question) this.question.abort();
+    Object.assign(this, { question: null, due: null });
+    this.wait(true);
+  }
+  wait(isWaiting) {
+    document.body.classList.toggle("waits", isWaiting);
+  }
+  async askNow(more = false) {
+    this.giveUp();
     const mine = (this.question = new AbortController()), text = this.editor.get();
     if (new TextEncoder().encode(text).length > MOST) return this.wrong({ words: "a program has at most 1,048,576 bytes", hint: "" });
-    document.body.classList.add("waits");
     try {
       for await (const line of this.ask("ask", { text, more }, mine.signal)) {
         if (this.question !== mine) return;
-        if (line.state === "building") this.say(line.words);
+        if (line.state === "building") this.say(line.words, "news");
         else if (line.state) this.tell(line, text, more);
         else this.picture(line);
       }
@@ -72,12 +81,12 @@ class Studio {
       if (mine.signal.aborted) return;
       this.say(LOST);
     }
-    if (this.question === mine) document.body.classList.remove("waits");
+    if (this.question === mine) this.wait(this.due !== null);
   }
 
   // the verdict
-  say(words) {
-    $("verdict").className = "";
+  say(words, look = "") {
+    $("verdict").className = look;
     $("verdict").replaceChildren(create("p", { textContent: words }));
   }
   tell(answer, text, more) {
@@ -100,7 +109,7 @@ class Studio {
     this.showPanels();
   }
   wrong(error) {
-    document.body.classList.remove("waits");
+    this.wait(false);
     const place = error.line === undefined ? "" : `Line ${error.line + 1}: `;
     const button = create("button", { type: "button", className: "where", textContent: place + error.words });
     button.addEventListener("click", () => { if (place) this.editor.go(error); });
@@ -112,8 +121,12 @@ class Studio {
     for (const panel of [this.proof, this.cites]) panel.show().catch(() => panel.root.replaceChildren(note(LOST)));
   }
 
-  // the figure: what was moved stays where it is, while the same points and numbers are free
+  // the figure: what was moved stays where it is, while the same points and numbers are free; what is held is let go first
   picture(line) {
+    if (this.figure && this.figure.isHeld()) {
+      this.due = line;
+      return;
+    }
     if (!line.figure) {
       this.figure = this.described = null;
       return $("picture").replaceChildren(note(line.note));
@@ -127,8 +140,16 @@ class Studio {
     $("picture").replaceChildren(root);
     this.described = line.figure;
     const onChange = ({ failing }) => $("verdict").querySelectorAll("li").forEach((item, k) => item.classList.toggle("fails", failing.includes(k + 1)));
-    this.figure = new LiveFigure(root, line.figure, { onChange, kept, zoom: true });
+    this.figure = new LiveFigure(root, line.figure, { onChange, onRelease: () => this.released(), kept, zoom: true });
     if (held) root.querySelector(`[data-point="${held}"]`)?.focus();
+  }
+  // what came while the figure was held
+  released() {
+    if (this.due === null) return;
+    const line = this.due;
+    this.due = null;
+    this.picture(line);
+    this.wait(false);
   }
   // moves the figure to numbers of points and parameters
   move(numbers) {

@@ -19,7 +19,7 @@ from pathlib import Path
 
 from answers import SECONDS, STEPS, Answers
 from files import Files, NoFile
-from prover import Program
+from program import Program
 from runs import Runs
 from web import Server
 
