@@ -19,7 +19,7 @@ home=${home%/}
 program=${GEO_PROGRAM:-$home/crates/geo_cli/out/geo_cli}
 [[ $program == */* ]] || program=./$program
 most=1000000000000
-room='' running=''
+room='' running='' before=''
 
 # refuse TEXT: the call makes no sense
 refuse() {
@@ -36,7 +36,8 @@ fail() {
 # end_by NUMBER: this signal ends geo, and what it runs
 end_by() {
   trap '' HUP INT TERM
-  [ -z "$running" ] || kill "$running" 2>/dev/null
+  [ "$running" != starts ] || [ "${!-}" = "$before" ] || running=$!
+  [[ $running != [0-9]* ]] || kill "$running" 2>/dev/null
   exit $((128 + $1))
 }
 trap 'end_by 1' HUP
@@ -50,6 +51,7 @@ run() {
     "$@"
     return
   fi
+  before=${!-} running=starts
   "$@" <&0 &
   running=$!
   { wait "$running"; } 2>/dev/null
@@ -289,6 +291,7 @@ quiet=${given[quiet]-}
 case $word in
   '') . "$home/tools/help.bash"; tell_help >&2; exit 3 ;;
   help | version | explain)
+    # shellcheck source=/dev/null
     . "$home/tools/$word.bash"
     "tell_$word" "${names[@]}"
     case $? in 0) exit 0 ;; 3) exit 3 ;; *) exit 9 ;; esac
@@ -307,6 +310,7 @@ fi
 # a tool's file looks at the call, and has a function answer_WORD for the input of a number; or it does the whole and ends the call
 if [ "${kind_of[$word]-}" = tool ] && [ -f "$home/tools/$word.bash" ]; then
   make_room
+  # shellcheck source=/dev/null
   . "$home/tools/$word.bash"
 fi
 [ -z "${given[json]-}" ] || . "$home/tools/json.bash"

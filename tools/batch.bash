@@ -1,7 +1,7 @@
 # Decides many programs at once: --jobs N of them side by side, their answers in the order of the files; --results FILE keeps what was
 # decided, and a program that FILE has is not run again. Sourced by geo.
 # SPDX-License-Identifier: Apache-2.0
-# shellcheck shell=bash disable=SC2154
+# shellcheck shell=bash disable=SC2034,SC2154
 
 # The first line of a file of results. A line below it is a program: its checksum, that of the prover, the steps that the prover was given
 # last, the verdict or what stands in its place, the seconds, and the name of the file. Of several lines of a name the last counts.
@@ -112,7 +112,7 @@ wait_for_one() {
 stop_all() {
   local pid
   trap - INT TERM HUP PIPE
-  for pid in "${!number_of[@]}"; do kill -- "-$pid"; done 2>/dev/null
+  for pid in $(jobs -p); do kill -- "-$pid"; done 2>/dev/null
   wait 2>/dev/null
   [ -z "$shows" ] || echo >&2
   exit "$1"

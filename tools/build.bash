@@ -7,17 +7,24 @@ list_sources() {
   cd -- "$home" && find crates.txt crates/*/src -type f "$@"
 }
 
-# find_sum FOLDER: sets `sum`, a checksum of the sources and of the toolchain's line. The folder keeps the last one, with the names, the
-# sizes and the times that the sources had, so that they are read again only where one of these is another
+# find_kit: sets `kit`, the toolchain's line, or nothing; `rt version` has it too, and takes longer
+find_kit() {
+  kit=''
+  hash rt 2>/dev/null || return 0
+  kit=$(readlink -f -- "${BASH_CMDS[rt]}")
+  { read -r kit <"${kit%/bin/rt}/KIT-ID"; } 2>/dev/null || kit=$(rt version 2>/dev/null)
+}
+
+# find_sum FOLDER: sets `sum`, a checksum of the sources and of the toolchain's line. The folder keeps the last one, with this line and the
+# names, the sizes and the times that the sources had, so that they are read again only where one of these is another
 find_sum() {
-  local line now was
-  line=$(readlink -f -- "$(command -v rt)" 2>/dev/null)
-  line=$(cat -- "${line%/bin/rt}/KIT-ID" 2>/dev/null || rt version 2>/dev/null)
-  now=$({ echo "$line"; list_sources -printf '%p %s %T@\n'; } | sha256sum)
-  if { read -r was sum <"$1/last"; } 2>/dev/null && [ "$was" = "${now%% *}" ]; then return; fi
-  sum=$({ echo "$line"; list_sources -print0 | LC_ALL=C sort -z | (cd -- "$home" && xargs -0 sha256sum); } | sha256sum)
+  local kit now was=''
+  find_kit
+  now=$kit$'\n'$(list_sources -printf '%p %s %T@\n')
+  if { read -r sum && IFS= read -r -d '' was; [ "$was" = "$now" ]; } 2>/dev/null <"$1/last"; then return; fi
+  sum=$({ echo "$kit"; list_sources -print0 | LC_ALL=C sort -z | (cd -- "$home" && xargs -0 sha256sum); } | sha256sum)
   sum=${sum%% *}
-  { echo "${now%% *} $sum" >"$1/last"; } 2>/dev/null || return 0
+  { printf '%s\n%s' "$sum" "$now" >"$1/last"; } 2>/dev/null || return 0
 }
 
 # keep_unproved: sets `program` to the one of the present sources that is kept, and builds it first where it is missing. It fails where
@@ -25,7 +32,8 @@ find_sum() {
 keep_unproved() {
   local folder=$home/out/unproved
   command -v rt >/dev/null || fail "there is no built program, and 'rt', which builds it, is not found"
-  if ! mkdir -p "$folder" 2>/dev/null || [ ! -w "$folder" ]; then
+  [ -d "$folder" ] || mkdir -p "$folder" 2>/dev/null
+  if [ ! -w "$folder" ]; then
     make_room
     folder=$room
   fi

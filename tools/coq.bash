@@ -1,7 +1,7 @@
 # The word `coq` of geo: checks logs, and makes a file for Coq with a theorem about the text of each; with --run Coq checks it. Where a log is
 # not accepted its answer is written, and no file. Sourced by geo.
 # SPDX-License-Identifier: Apache-2.0
-# shellcheck shell=bash disable=SC2154
+# shellcheck shell=bash disable=SC2034,SC2154
 
 command -v python3 >/dev/null || refuse "'coq' needs python3, which is not found"
 [ -z "${given[run]-}" ] || command -v coqc >/dev/null || refuse "'--run' needs Coq, whose command coqc is not found (Debian: apt-get install coq)"

@@ -1,6 +1,6 @@
 # The word `decide` of geo: the verdict of each program in a line, with the conditions in words and a figure. Sourced by geo.
 # SPDX-License-Identifier: Apache-2.0
-# shellcheck shell=bash disable=SC2154
+# shellcheck shell=bash disable=SC2034,SC2154
 
 . "$home/tools/figures.bash"
 words=(prove)
@@ -31,7 +31,7 @@ answer_decide() {
     answer "$1" >"$room/log"
     ended=$?
   fi
-  [ "$ended" -gt 2 ] || [ -n "$at" ] || tail -n 1 "$room/log" | grep -q '^verdict ' || ended=70
+  [ "$ended" -gt 2 ] || [ -n "$at" ] || [[ $(tail -n 1 "$room/log") == 'verdict '* ]] || ended=70
   tell "$1" "$ended" || return 9
   return "$ended"
 }

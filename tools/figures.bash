@@ -1,6 +1,6 @@
 # Figures that are tried where the work on a program is ended. Sourced by the tools of geo that try them.
 # SPDX-License-Identifier: Apache-2.0
-# shellcheck shell=bash disable=SC2154
+# shellcheck shell=bash disable=SC2034,SC2154
 
 # try_figures NUMBER: seeks among some figures one at which the statement fails, as the program says; sets `at` to its numbers
 try_figures() {

@@ -1,6 +1,6 @@
 # The word `help` of geo: all words and options, or what the manual says of one word. Sourced by geo.
 # SPDX-License-Identifier: Apache-2.0
-# shellcheck shell=bash disable=SC2154
+# shellcheck shell=bash disable=SC2034,SC2154
 
 # tell_help [WORD]
 tell_help() {

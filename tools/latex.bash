@@ -1,6 +1,6 @@
 # The word `latex` of geo: a log as a LaTeX document. Sourced by geo.
 # SPDX-License-Identifier: Apache-2.0
-# shellcheck shell=bash disable=SC2154
+# shellcheck shell=bash disable=SC2034,SC2154
 
 [ ${#names[@]} -eq 1 ] || refuse "behind 'latex' the name of one log is due"
 command -v python3 >/dev/null || refuse "'latex' needs python3, which is not found"

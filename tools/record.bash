@@ -10,11 +10,12 @@ sum_of() {
 
 # write_record PROGRAM [LINE]: the gate has passed, and left this program of the present sources, and this last line
 write_record() {
-  local tree sum=''
+  local tree kit='' sum=''
+  find_kit
   find_sum "$home/out/unproved"
   tree=$(git rev-parse 'HEAD^{tree}' 2>/dev/null || echo unknown)
   [ -z "$(git status --porcelain 2>/dev/null)" ] || tree="$tree, and files that differ from it"
-  printf '%s\n' "program $(sum_of "$1")" "toolchain $(rt version 2>/dev/null)" "sources $sum" "tree $tree" >"$1.proved" || return
+  printf '%s\n' "program $(sum_of "$1")" "toolchain $kit" "sources $sum" "tree $tree" >"$1.proved" || return
   [ $# -lt 2 ] || printf 'gate %s\n' "$2" >>"$1.proved"
 }
 

@@ -1,6 +1,7 @@
 # Points at the token for which a program is refused, and says what is due there:
 #   name=NAME awk -v refusal=NUMBER -v place=BYTES -v meaning=TEXT -v down=LINES -f near.awk -f advice.awk -f refusal.awk forms PROGRAM
-# `down` is 1 where the program comes from a log: there it stands one line further down, each line behind '| '.
+# `down` is 1 where the program comes from a log: there it stands one line further down, each line behind '| '. With alone=1 it only says
+# what is due.
 # It follows the commands up to that token, as docs/LANGUAGE.md has them. Columns are bytes, from 1.
 # SPDX-License-Identifier: Apache-2.0
 
@@ -119,22 +120,27 @@ function due_here(   words) {
   return words
 }
 
-function report(line, column, text,   before, from, rest, front) {
+function report(line, column, text,   said) {
+  said = advice(substr(text, column), substr(text, 1, column - 1))
+  if (alone) {
+    if (said != "") print said
+    return
+  }
   print ENVIRON["name"] ":" line + down ":" column + 2 * down ": refusal " refusal (meaning == "" ? "" : ": " meaning)
-  rest = substr(text, column)
-  front = substr(text, 1, column - 1)
   sub(/\r$/, "", text)
+  if (text != "") show(text, column)
+  if (said != "") print "  " said
+}
+
+# the line, and a mark below its column
+function show(text, column,   from, before) {
   from = column > 100 ? column - 80 : 1
   before = substr(text, from, column - from)
-  if (text != "") {
-    shown_line = substr(text, from, 160)
-    gsub(/[\001-\010\013-\037\177]|\342\200[\252-\256]|\342\201[\246-\251]/, "?", shown_line)
-    gsub(/[^\t]/, " ", before)
-    print "  " shown_line
-    print "  " before "^"
-  }
-  rest = advice(rest, front)
-  if (rest != "") print "  " rest
+  text = substr(text, from, 160)
+  gsub(/[\001-\010\013-\037\177]|\342\200[\252-\256]|\342\201[\246-\251]/, "?", text)
+  gsub(/[^\t]/, " ", before)
+  print "  " text
+  print "  " before "^"
 }
 
 FNR == NR {

@@ -2,6 +2,7 @@
 # SPDX-License-Identifier: Apache-2.0
 # shellcheck shell=bash disable=SC2154
 
+. "$home/tools/build.bash"
 . "$home/tools/record.bash"
 
 # how the program came to stand where it does
@@ -31,7 +32,6 @@ standing() {
 # which program runs, and is not proved; nothing is built
 unproved() {
   local kept sum=''
-  . "$home/tools/build.bash"
   find_sum "$home/out/unproved"
   kept=$home/out/unproved/$sum/geo_cli
   if [ -x "$kept" ]; then
@@ -42,7 +42,7 @@ unproved() {
 }
 
 tell_version() {
-  local kit='' which
+  local kit='' proved_with='' which
   echo "geo $(cat "$home/VERSION" 2>/dev/null || echo without a version)" || return
   if ! is_fresh; then
     which=$(unproved)
@@ -50,10 +50,11 @@ tell_version() {
     clean "$program"
     which="program none: $cleaned is no file, as GEO_PROGRAM names it"
   else
-    kit=$(recorded "$program" toolchain)
+    proved_with=$(recorded "$program" toolchain)
     clean "$program"
     which="program $cleaned, $(origin); $(standing)"
   fi
-  [ -n "$kit" ] || ! command -v rt >/dev/null || kit=$(rt version)
+  [ -n "$proved_with" ] || find_kit
+  kit=${proved_with:-$kit}
   echo "toolchain ${kit:-unknown}" && printf '%s\n' "$which"
 }

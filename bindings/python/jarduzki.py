@@ -18,6 +18,7 @@ import ctypes.util
 import operator
 import os
 import pathlib
+import subprocess
 from dataclasses import dataclass
 from typing import Dict, NoReturn, Optional, Tuple, Union
 
@@ -28,6 +29,10 @@ PROGRAM_LIMIT = 1_048_576
 LOG_LIMIT = 67_108_864
 
 PROVED, FALSE, IMPOSSIBLE = "proved", "false", "impossible"
+
+# the tools of `geo`: in a checkout, and where `make install` puts them
+_HERE = pathlib.Path(__file__).resolve().parent
+_TOOLS = [_HERE.parent.parent / "tools", _HERE.parent.parent / "jarduzki" / "tools"]
 
 _VERDICTS = {0: PROVED, 1: FALSE, 2: IMPOSSIBLE}
 _SYNTAX, _TOO_LARGE, _SPENT, _NO_MEMORY, _REJECTED, _TOO_LONG, _DONE = 4, 6, 7, 10, 11, 12, 13
@@ -81,19 +86,36 @@ def _remade(kind, args, members):
 class SyntaxRefused(GeoError):
     """The text spells no program.
 
+    text     the text, as bytes
     refusal  its number, 1 to 12
     place    where the refused token begins, in bytes from 0
     line     the same as a line, counted from 1, and
     column   a character of that line, counted from 1
+    hint     what to write there, in the words of `geo`
     """
 
     def __init__(self, text, place, refusal):
         before = text[:place].split(b"\n")
+        self.text = text
         self.refusal = refusal
         self.place = place
         self.line = len(before)
         self.column = len(before[-1].decode(errors="replace")) + 1
         super().__init__(f"line {self.line}, column {self.column}: {_REFUSALS[refusal]}")
+
+    @property
+    def hint(self) -> str:
+        """It is asked for by awk each time. It is empty where there is nothing to say, or where awk or the tools of `geo` are not there."""
+        tools = next((folder for folder in _TOOLS if (folder / "refusal.awk").is_file()), None)
+        if tools is None:
+            return ""
+        words = ["awk", "-v", f"refusal={self.refusal}", "-v", f"place={self.place}", "-v", "alone=1"]
+        words += [word for name in ("near", "advice", "refusal") for word in ("-f", str(tools / f"{name}.awk"))]
+        given = {"input": self.text.replace(b"\0", b"?"), "stdout": subprocess.PIPE, "stderr": subprocess.DEVNULL}
+        try:
+            return subprocess.run([*words, str(tools / "forms"), "-"], env={**os.environ, "LC_ALL": "C"}, **given).stdout.decode(errors="replace").strip()
+        except OSError:
+            return ""
 
 
 class Rejected(GeoError):
@@ -221,7 +243,7 @@ class _Answer(ctypes.Structure):
 
 
 def _load():
-    beside = pathlib.Path(__file__).resolve().parent.parent / "out" / "libgeo_c.so"
+    beside = _HERE.parent / "out" / "libgeo_c.so"
     name = os.environ.get("JARDUZKI_LIBRARY") or (str(beside) if beside.exists() else ctypes.util.find_library("geo_c") or str(beside))
     try:
         library = ctypes.CDLL(name)
