@@ -43,6 +43,8 @@ end_by() {
 trap 'end_by 1' HUP
 trap 'end_by 2' INT
 trap 'end_by 15' TERM
+# a limit on the size of files is a failing write then
+trap '' XFSZ
 
 # run COMMAND..: runs it so that a signal to geo ends it too; its input is given by redirection
 run() {

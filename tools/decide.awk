@@ -1,7 +1,7 @@
 # Tells a log in a few lines: the verdict, the conditions in words, and the points of its sample:
 #   awk -f words.awk -f sample.awk -f decide.awk LOG
 # The environment has the name of the program's file; `again`, where the log was made with the most steps, since the default ones were
-# spent; `at`, the figure that was tried and at which the statement fails; `seconds`, those that are over.
+# spent; `at`, the figure that was tried and at which the statement fails; `seconds`, those that are over; `ended`, the program's status.
 # SPDX-License-Identifier: Apache-2.0
 BEGIN { name = ENVIRON["name"] }
 $1 == "condition" {
@@ -46,7 +46,7 @@ END {
     print name ": impossible" by ": it is never so that " condition[word[3]]
   } else if (word[1] == "syntax") {
     print name ": no program"
-  } else if (ENVIRON["seconds"] == "" && (last == "too long" || last == "")) {
+  } else if (ENVIRON["ended"] ~ /^(8|9|10|70)$/ || ENVIRON["seconds"] == "" && (last == "too long" || last == "")) {
     print name ": no answer"
   } else {
     print name ": undecided: " undecided(word)

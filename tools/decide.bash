@@ -13,7 +13,7 @@ tell() {
     return
   fi
   [ "$2" -ne 124 ] || over=$seconds
-  name=${names[$1]} again=$again at=$at seconds=$over \
+  name=${names[$1]} again=$again at=$at seconds=$over ended=$2 \
     awk -f "$home/tools/words.awk" -f "$home/tools/sample.awk" -f "$home/tools/decide.awk" "$room/log"
 }
 

@@ -32,7 +32,7 @@ answer_page() {
   case $ended in
     0 | 1 | 2) [ -n "$at" ] || asked text "$log" >"$text" ;;
     6 | 7 | 124) ;;
-    12) grep -q '^geolog' "$log" || return 12 ;;
+    12) grep -q '^geolog' "$log" && echo "too long" >>"$log" || return 12 ;;
     *) return "$ended" ;;
   esac
   words=(prove)

@@ -7,6 +7,17 @@ class Sketch {
     this.shown = element("g");
     this.last = new Map();
     svg.append(this.shown);
+    this.measure(svg);
+  }
+
+  // how far a name stands from its point, and how deep its letters reach below their line: by the looks of the points that are pulled
+  measure(svg) {
+    const [grip, name] = [element("circle", { class: "free", r: 7 }), element("text")];
+    svg.append(grip, name);
+    this.reach = (parseFloat(getComputedStyle(grip).r) || 7) + 5;
+    this.depth = 0.3 * (parseFloat(getComputedStyle(name).fontSize) || 20);
+    grip.remove();
+    name.remove();
   }
 
   view() {
@@ -79,7 +90,8 @@ class Sketch {
       const [x, y] = key.split(" ").map(Number), u = freeDirection([x, y], ends, mid);
       const anchor = u[0] > 0.4 ? "start" : u[0] < -0.4 ? "end" : "middle";
       const style = names.every((name) => missing.has(name)) ? "missing" : "";
-      const text = element("text", { x: x + 12 * u[0], y: y + 17 * u[1] + 6, "text-anchor": anchor, class: style });
+      const place = { x: x + this.reach * u[0], y: y + 1.4 * this.reach * u[1] + this.depth };
+      const text = element("text", { ...place, "text-anchor": anchor, class: style });
       this.label(text, names);
       return text;
     });

@@ -29,7 +29,7 @@ DECIDED, SYNTAX, TOO_LARGE, SPENT, TOO_LONG, DONE, UNMET = (0, 1, 2), 4, 6, 7, 1
 OTHERWISE = '<p class="note">More steps do not help: say it in another way (docs/GUIDE.md).</p>'
 MISTAKE = {"note": "The program has a mistake: see its mark."}
 LIBRARY = shared("examples") / "library"
-TELLING = re.compile(rb"\| |condition |goal |sample|verdict|stop|too long")
+TELLING = re.compile(rb"\| |condition |goal |sample|verdict|stop")
 
 
 @dataclass
@@ -49,8 +49,9 @@ class Worked:
         return self.status in (TOO_LARGE, SPENT, TOO_LONG, None) and self.has_program()
 
     def told(self):
-        """The lines without the chains, as text."""
-        return [line.decode() for line in self.log.splitlines() if TELLING.match(line)] or [""]
+        """The lines without the chains, as text; behind them that the log would be too long."""
+        lines = [line.decode() for line in self.log.splitlines() if TELLING.match(line)]
+        return lines + ["too long"] * (self.status == TOO_LONG) or [""]
 
 
 class Placing:
