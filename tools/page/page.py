@@ -45,7 +45,7 @@ class Page:
         self.end = log[-1].split(" ")
         self.tried = [Fraction(number) for number in at.split(" ")[1:]]
         self.verdict = self.end[1] if self.end[0] == "verdict" else "false" if self.tried else "undecided"
-        self.live = None
+        self.live = self.drawn = None
 
     def title(self):
         """What the first comment begins with, where that is short and a parenthesis follows; else the name of the file."""
@@ -115,6 +115,7 @@ class Page:
         if found is None:
             return '<p class="note">No picture: no values were found that meet the figure.</p>'
         figure, drawn = found
+        self.drawn = values
         self.live = data(described(self.program, figure, drawn, self.conditions))
         still = picture(drawn, self.told()).replace("<svg ", '<svg class="still" ', 1)
         return (
@@ -146,7 +147,9 @@ class Page:
         return f"<details><summary>The program that was made of this figure</summary><pre>{html.escape(self.source)}</pre></details>"
 
     def counterexample(self):
-        found = self.figure(self.tried or sampled(self.log)) if self.verdict == "false" and self.program.points() else None
+        """Its points, and where the picture is another figure its own picture."""
+        values = self.tried or sampled(self.log)
+        found = self.figure(values) if self.verdict == "false" and self.program.points() else None
         if found is None:
             return ""
         figure, drawn = found
@@ -156,7 +159,8 @@ class Page:
         )
         rows += "".join(f"<tr><td>{name_html(n)}</td><td>{number_html(Fraction(v))}</td></tr>" for n, v in figure.numbers.items())
         title = "The counterexample" if self.tried else "The counterexample of the log"
-        return f'<h2>{title}</h2><figure>{picture(drawn, self.told())}</figure><table class="points">{rows}</table>'
+        shown = "" if values == self.drawn else f"<figure>{picture(drawn, self.told())}</figure>"
+        return f'<h2>{title}</h2>{shown}<table class="points">{rows}</table>'
 
     def told(self):
         """The picture in plain words, for a reader who does not see it."""
