@@ -114,6 +114,18 @@ def held(browser, want):
     browser.mouse("mouseReleased", b[0] - 40, b[1] + 30, clickCount=1)
     want("and is laid out", settled(browser, "MN is parallel to BC") and browser.js("!!document.querySelector('svg [data-name=N]')"))
     want("with the point where it was let go", browser.comes("svg [data-name=B]", b[0] - 40, b[1] + 30), f"{b} {browser.middle('svg [data-name=B]')}")
+    put(browser, "point A\npoint B\nparam r\nlratio X A B r\nprove { collinear A B X }\n")
+    settled(browser, "A, B and X are on one line")
+    x, y = browser.middle("input[type=range]")
+    before = browser.js("document.querySelector('input[type=range]').value")
+    browser.mouse("mousePressed", x, y, clickCount=1)
+    put(browser, "point A\npoint B\nparam r\nlratio X A B r\nprove { collinear X A B }\n")
+    want("a verdict while a slider is held", browser.wait(f"{VERDICT}.includes('X, A and B')", 60), browser.js(VERDICT))
+    browser.mouse("mouseMoved", x + 30, y, buttons=1)
+    value = browser.js("document.querySelector('input[type=range]').value")
+    browser.mouse("mouseReleased", x + 30, y, clickCount=1)
+    kept = settled(browser, "X, A and B") and browser.js("document.querySelector('input[type=range]').value")
+    want("the slider that is held follows, and stays", value != before and kept == value and browser.js("studio.figure.values.get('r')") == float(value), f"{before} {value} {kept}")
 
 
 def panels(browser, studio, want):

@@ -90,16 +90,18 @@ class LiveFigure {
     return this.sketch.place([inside(x, this.sketch.width), inside(y, this.sketch.height)]);
   }
 
-  // one pointer at a time holds a point, or the picture
+  // one pointer at a time holds a point, the picture or a slider, wherever it is let go
   isHeld() {
     return this.pointer !== null;
   }
-  hold(event, what) {
+  hold(event, what = {}) {
+    const over = new AbortController();
     Object.assign(this, { pointer: event.pointerId, ...what });
-    if (event.isTrusted) this.svg.setPointerCapture(event.pointerId);
+    for (const end of ["pointerup", "pointercancel"]) addEventListener(end, (one) => this.release(one, over), { signal: over.signal });
   }
-  release(event) {
+  release(event, over) {
     if (event.pointerId !== this.pointer) return;
+    over.abort();
     Object.assign(this, { pointer: null, held: null, pushed: null });
     this.onRelease();
   }
@@ -111,9 +113,9 @@ class LiveFigure {
       event.preventDefault();
       event.target.focus();
       this.hold(event, { held });
+      if (event.isTrusted) this.svg.setPointerCapture(event.pointerId);
     });
     this.svg.addEventListener("pointermove", (event) => { if (this.held && event.pointerId === this.pointer) this.move(this.held, this.under(event)); });
-    for (const end of ["pointerup", "pointercancel"]) this.svg.addEventListener(end, (event) => this.release(event));
     // a finger on a point pulls it; elsewhere it moves the page, as ever
     this.svg.addEventListener("touchstart", (event) => { if (this.held) event.preventDefault(); }, { passive: false });
     this.svg.addEventListener("keydown", (event) => {
@@ -131,6 +133,7 @@ class LiveFigure {
     for (const input of this.sliders) {
       input.value = this.values.get(input.name);
       input.addEventListener("input", () => { this.put(input.name, Number(input.value)); this.draw(); });
+      input.addEventListener("pointerdown", (event) => { if (!this.isHeld()) this.hold(event); });
     }
     this.root.querySelector("button.back").addEventListener("click", () => {
       [, , this.sketch.scale, ...this.sketch.middle] = this.data.view;
@@ -149,6 +152,7 @@ class LiveFigure {
     this.svg.addEventListener("pointerdown", (event) => {
       if (this.isHeld() || event.target.hasAttribute("data-point") || event.pointerType !== "mouse" || event.button) return;
       this.hold(event, { pushed: this.at(event) });
+      if (event.isTrusted) this.svg.setPointerCapture(event.pointerId);
     });
     this.svg.addEventListener("pointermove", (event) => {
       if (!this.pushed) return;
