@@ -3,3 +3,4 @@ pub mod ShareLaws
 pub mod FrameTurns
 pub mod PictureLaws
 pub mod OneDrawing
+pub mod SomeDrawing

@@ -1,4 +1,4 @@
--- The law that stands on the function of `laws`.
+-- The laws that stand on the functions of `laws`.
 use Rattle.std.specs.Prelude.{◌≡◌, Result, Err}
 use Rattle.geo_base.specs.declared.texts.Text.{Text}
 use Rattle.geo_place.specs.declared.placed.Placed.{Placed}
@@ -11,3 +11,7 @@ abbrev pub PointsHaveOneDrawing : Type 0
 PointsHaveOneDrawing =
     (placed : Placed) (one other : Result Text DrawError) → IsDrawn placed one → IsDrawn placed other
     → (one ≡ Err NoMemory → ⊥) → (other ≡ Err NoMemory → ⊥) → one ≡ other
+
+-- and they have one of the two
+abbrev pub PointsHaveADrawing : Type 0
+PointsHaveADrawing = (placed : Placed) → (answer : Result Text DrawError) × IsDrawn placed answer × (answer ≡ Err NoMemory → ⊥)

@@ -50,7 +50,7 @@ pub record LowestTerms (x : ℤ) (w : ℕ) : Type 0 where
   pub same : top *ℤ pos w ≡ x *ℤ pos bottom
 
 -- there is a greatest common divisor
-divisor_exists : (a b : ℕ) → (g : ℕ) × IsGcd a b g
+pub divisor_exists : (a b : ℕ) → (g : ℕ) × IsGcd a b g
 divisor_exists a b = let s = scaled (a + b) a b 1 (omega arith) in (s.divisor, s.greatest)
 
 signed_times : (b : Bool) (n g : ℕ) → signed_by b n *ℤ pos g ≡ signed_by b (n * g)
