@@ -65,7 +65,7 @@ module _ (p : Source) (steps : ℕ) (w : IsWellFormed p) (short : length (canoni
       let f : Finding = record { statement = s; lines = d.3.0; ending = d.3.1 } in
       (f, (refl, record { subject = d.0; about = d.1; version = d.2; defined = d.3.2 }, tt))
 
-  some_findings : (ss : List Statement) → All (λ s. IsRelation s) ss → All (λ s. IsWellFormed (with_statement p s)) ss
+  pub some_findings : (ss : List Statement) → All (λ s. IsRelation s) ss → All (λ s. IsWellFormed (with_statement p s)) ss
       → (fs : List Finding) × AreFindings p steps ss fs
   some_findings [] r v = ([], tt)
   some_findings (s ∷ ss) r v =
@@ -84,7 +84,7 @@ module _ (p : Source) (steps : ℕ) (w : IsWellFormed p) (short : length (canoni
     searched_cut pre line more e fits long = record { findings = fs; found = are; written = inr (line, more, e, fits, long, refl) }
 
     -- lines within the limit begin what is written
-    searched_on : (pre post : List (List ℕ)) → found_lines p fs ≡ pre ++ post → length (with_feeds pre) ≤ 67108864
+    pub searched_on : (pre post : List (List ℕ)) → found_lines p fs ≡ pre ++ post → length (with_feeds pre) ≤ 67108864
         → (more : List (List ℕ)) × (end : SearchEnd) × IsSearched p steps (pre ++ more) end
     searched_on pre [] e fits = (
       [],

@@ -4,6 +4,7 @@ use Rattle.std.specs.List.{AllByRecursion, flat_map}
 use Rattle.geo_base.specs.Devices.{Grows}
 use Rattle.geo_conditions.specs.Truth.{IsImpossible, IsTrueProgram}
 use Rattle.geo_program.specs.declared.statements.Statement.{Statement}
+use Rattle.geo_program.specs.CanonicalText.{canonical_text}
 use Rattle.geo_program.specs.FormTexts.{form_text}
 use Rattle.geo_program.specs.Forms.{statement_form}
 use Rattle.geo_program.specs.Spelling.{SameSource}
@@ -193,6 +194,12 @@ abbrev pub SearchIsUnique : Type 0
 SearchIsUnique =
     (p q : Source) (steps : ℕ) (lines other : List (List ℕ)) (end end' : SearchEnd) → IsWellFormed p → IsWellFormed q → SameSource p q
     → IsSearched p steps lines end → IsSearched q steps other end' → (lines ≡ other) × (end ≡ end')
+
+-- a program has a search
+abbrev pub ProgramsHaveASearch : Type 0
+ProgramsHaveASearch =
+    (p : Source) (steps : ℕ) → IsWellFormed p → length (canonical_text p) ≤ 67108864
+    → (lines : List (List ℕ)) × (end : SearchEnd) × IsSearched p steps lines end
 
 -- so it is of every candidate where a search ends with a number of relations
 abbrev pub SearchesTell : Type 0
