@@ -4,3 +4,4 @@ pub mod BenchPrograms
 pub mod BenchLengths
 pub mod BenchNames
 pub mod BenchSpelt
+pub mod SomeBench

@@ -1,5 +1,5 @@
 -- The program of `bench N`: a quadrangle, and N times the quadrangle of the middles of the sides of the one before.
-use Rattle.std.specs.Prelude.{◌≡◌, ℕ, zero, suc, ◌+◌, ◌*◌, codes, List, [], ◌∷◌, ◌++◌}
+use Rattle.std.specs.Prelude.{◌≡◌, ℕ, zero, suc, ◌+◌, ◌*◌, ◌≤◌, codes, List, [], ◌∷◌, ◌++◌}
 use Rattle.std.specs.Fmt.{decimal}
 use Rattle.geo_points.specs.declared.ids.PointId.{PointId}
 use Rattle.geo_terms.specs.Trees.{Tree, area_leaf}
@@ -8,6 +8,8 @@ use Rattle.geo_program.specs.declared.commands.Command.TheVariants.{Midpoint, Po
 use Rattle.geo_program.specs.declared.names.Name.{Name}
 use Rattle.geo_program.specs.declared.names.NameKind.TheVariants as kind
 use Rattle.geo_program.specs.Forms.{StatementForm, side_argument, statement_form}
+use Rattle.geo_program.specs.declared.program_type.Program.{Program}
+use Rattle.geo_program.specs.Programs.{source_of}
 use Rattle.geo_program.specs.WellFormed.{Source}
 
 -- the corners A, B, C, D of quadrangle k are the points 4 k, 4 k + 1, 4 k + 2, 4 k + 3
@@ -65,3 +67,7 @@ pub record IsBench (n : ℕ) (p : Source) : Type 0 where
   pub names : p.names ≡ bench_names n
   pub commands : p.commands ≡ bench_commands n
   pub statement : statement_form p.nodes p.statement ≡ bench_statement n
+
+-- each number from 1 to 60 has a program
+abbrev pub NumbersHaveAProgram : Type 0
+NumbersHaveAProgram = (n : ℕ) → 1 ≤ n → n ≤ 60 → (p : Program) × IsBench n (source_of p)

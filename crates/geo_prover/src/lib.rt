@@ -2,6 +2,7 @@
 #![tactic(auto)]
 
 mod bench;
+pub mod laws;
 mod program_lines;
 mod proving;
 mod summary;
