@@ -62,7 +62,7 @@ module _ (p q : Source) (texts : List (List ℕ)) (r : Renaming) (wp : IsWellFor
   abbrev IsInside : Tree → Type 0
   IsInside e = IsTermBelow (length form.construction.steps) form.construction.params e
 
-  image_inside : (e : Tree) → IsOver X Y e → IsInside (renamed (layout_of Two q.commands) (image r e))
+  pub image_inside : (e : Tree) → IsOver X Y e → IsInside (renamed (layout_of Two q.commands) (image r e))
   image_inside e h =
       let into = maps_into p q texts r wp wq ren in
       let made = renamed (layout_of Two q.commands) (image r e) in
