@@ -6,6 +6,8 @@ pub mod CitationsDue
 pub mod FixedDue
 pub mod SearchDue
 pub mod OneDue
+pub mod SomeLine
+pub mod SomeValues
 pub mod SomeDue
 pub mod Answered
 pub mod ReadLogs
@@ -16,3 +18,4 @@ pub mod Decisive
 pub mod Placed
 pub mod Uncited
 pub mod InPart
+pub mod Begun

@@ -12,7 +12,7 @@ use Rattle.geo_answers.specs.Due.{Due, IsAcceptedDue, IsLogDue, IsReadableDue, S
 use Rattle.geo_answers.specs.Status.{ending_status, refusal_status, stop_status, verdict_status}
 use Rattle.geo_cli.specs.Status.{search_status}
 use Rattle.geo_cli.specs.Values.{HasNoValuesLine, HasValuesLine, values_line}
-use Rattle.geo_cli.specs.Words.{IsCheck, IsNoCommand, IsProve, IsText}
+use Rattle.geo_cli.specs.Words.{IsNoCommand}
 use Rattle.geo_base.specs.declared.texts.Text.{Text as Written}
 use Rattle.geo_conditions.specs.Truth.{ProgramValues, free_points, integers_of}
 use Rattle.geo_discover.specs.FixedEnds.{EndsWithVerdict, StopsAtLine}
@@ -322,9 +322,7 @@ IsCommandCall command steps left due = IsReadCall (limit_of command) (due_for co
 abbrev pub IsCalledFor : List (List ℕ) → Option (List ℕ) → Due → Type 0
 IsCalledFor words left due = (order : Order) × IsOrder words order × IsCommandCall order.command order.steps left due
 
--- the words are `prove`, `check` or `text`, with so many steps, and the source tells the bytes that it has left
-pub record AsksForLog (words : List (List ℕ)) (left : Option (List ℕ)) : Type 0 where
-  pub steps : ℕ
-  pub command : IsProve words steps ⊎ (IsCheck words steps ⊎ IsText words steps)
-  pub bytes : List ℕ
-  pub told : left ≡ Some bytes
+-- the source tells the bytes that it has left; `bench` reads none
+abbrev pub HasInput : Command → Option (List ℕ) → Type 0
+HasInput (Bench number) left = Unit {0}
+HasInput command left = (bytes : List ℕ) × (left ≡ Some bytes)

@@ -5,8 +5,8 @@ use Rattle.std.specs.List.{AllByRecursion}
 use Rattle.geo_base.specs.Devices.{Grows, HasRisen}
 use Rattle.geo_answers.specs.declared.status.Status.{Status}
 use Rattle.geo_answers.specs.declared.status.Status.TheVariants.{NoMemory, ReadFault, Spent, TooLarge, TooLong, WriteFault}
-use Rattle.geo_answers.specs.Due.{Due}
-use Rattle.geo_cli.specs.Due.{IsDue, bench_text, cited_line, fixed_line}
+use Rattle.geo_answers.specs.Due.{Due, SpellsNone}
+use Rattle.geo_cli.specs.Due.{IsDue, bench_text, cited_line, fixed_line, syntax_line, too_long_line}
 use Rattle.geo_cli.specs.Input.{IsInput, IsLong, log_limit, program_limit}
 use Rattle.geo_cli.specs.Status.{search_status}
 use Rattle.geo_cli.specs.Values.{HasValuesLine}
@@ -16,6 +16,7 @@ use Rattle.geo_discover.specs.FixedEnds.{EndsWithVerdict}
 use Rattle.geo_discover.specs.FoundTexts.{FirstIsAccepted, IsSearched, IsTold, IsToldInPart, SearchEnd, found}
 use Rattle.log_checker.specs.Checkers.{with_feeds}
 use Rattle.geo_figure.specs.Drawing.{drawing}
+use Rattle.geo_lexer.specs.declared.token_types.Fault.{Fault}
 use Rattle.geo_library.specs.Citations.{IsCitation, Misses}
 use Rattle.geo_library.specs.Working.{no_instance}
 use Rattle.geo_logs.specs.Ends.{ends_with}
@@ -264,6 +265,44 @@ pub record FindsInPart (steps : ℕ) (left left' held held' : Option (List ℕ))
 abbrev pub SearchesInPart : ℕ → Option (List ℕ) → Option (List ℕ) → Option (List ℕ) → Option (List ℕ) → Status → Type 0
 SearchesInPart steps left left' held held' status =
     (IsLong program_limit left left' × (status ≡ TooLong)) ⊎ FindsInPart steps left left' held held' status
+
+-- writing failed, or memory ran out
+abbrev pub IsBrokenOff : Status → Type 0
+IsBrokenOff WriteFault = Unit {0}
+IsBrokenOff NoMemory = Unit {0}
+IsBrokenOff _ = ⊥
+
+-- the sink holds the first bytes of the text besides
+abbrev pub Begins : List ℕ → Option (List ℕ) → Option (List ℕ) → Type 0
+Begins text held held' = (count : ℕ) × Grows held (take count text) held'
+
+-- the source gave these bytes and no more, they spell this program, and the sink holds the first bytes of the text of its search besides;
+-- and of this text every candidate that is not open is told
+pub record BeginsSearch (steps : ℕ) (left left' held held' : Option (List ℕ)) : Type 0 where
+  pub bytes : List ℕ
+  pub input : IsInput program_limit left bytes left'
+  pub program : Program
+  pub spelt : Spells bytes program
+  pub lines : List (List ℕ)
+  pub end : SearchEnd
+  pub searched : IsSearched (source_of program) steps lines end
+  pub begun : Begins (with_feeds lines) held held'
+  pub told : AllByRecursion (IsToldInPart (source_of program) steps) searched.findings
+
+-- the bytes that the source gave spell no program, and the sink holds the first bytes of the line that tells why
+pub record BeginsRefusal (left left' held held' : Option (List ℕ)) : Type 0 where
+  pub bytes : List ℕ
+  pub input : IsInput program_limit left bytes left'
+  pub fault : Fault
+  pub no_program : SpellsNone bytes fault
+  pub begun : Begins (syntax_line fault) held held'
+
+-- what `discover` with so many steps has begun then: nothing, its text, or the line that tells why its input has none
+abbrev pub SearchesBegun : ℕ → Option (List ℕ) → Option (List ℕ) → Option (List ℕ) → Option (List ℕ) → Type 0
+SearchesBegun steps left left' held held' =
+    (held' ≡ held)
+    ⊎ (BeginsSearch steps left left' held held'
+    ⊎ (BeginsRefusal left left' held held' ⊎ (IsLong program_limit left left' × Begins too_long_line held held')))
 
 -- THE ENDS OF A RUN
 -- writing was cut short: a write failed, or memory ran out

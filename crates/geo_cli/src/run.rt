@@ -3,15 +3,15 @@ ghost use Rattle.std.specs.Prelude.{◌≡◌, ◌≢◌, ◌≤◌, ◌⊎◌, 
 ghost use Rattle.geo_base.specs.Devices.{Grows, HasRisen};
 ghost use Rattle.geo_answers.specs.Due.{Due};
 ghost use Rattle.geo_answers.specs.Status.{verdict_status};
-ghost use Rattle.geo_cli.specs.Due.{AsksForLog, IsCalledFor};
+ghost use Rattle.geo_cli.specs.Due.{HasInput, IsCalledFor};
 ghost use Rattle.geo_cli.specs.Inner.Answering.{AnswersCommand, HasNumber};
 ghost use Rattle.geo_cli.specs.Enough.{AsksForFirstForm, IsDecisive};
 ghost use Rattle.geo_cli.specs.Input.{Takes, limit_of};
 ghost use Rattle.geo_cli.specs.Orders.{IsOrder};
 ghost use Rattle.geo_cli.specs.declared.order.Command.TheVariants.{Bench};
 ghost use Rattle.geo_cli.specs.declared.order.Order.{Order};
-ghost use Rattle.geo_cli.specs.Run.{CitesNone, DoneTells, Ends, IsStopStatus, PlacesNone};
-ghost use Rattle.geo_cli.specs.Run.{SearchesInPart};
+ghost use Rattle.geo_cli.specs.Run.{CitesNone, DoneTells, Ends, IsBrokenOff, IsStopStatus};
+ghost use Rattle.geo_cli.specs.Run.{PlacesNone, SearchesBegun, SearchesInPart};
 ghost use Rattle.geo_cli.specs.Run.{VerdictAccepted, VerdictTells};
 ghost use Rattle.geo_cli.specs.Words.{IsDiscover, ReadsNothing, bytes_of_words};
 ghost use Rattle.proof_log.specs.declared.log.Verdict.{Verdict};
@@ -63,6 +63,10 @@ pub fn run<S: Source, K: Sink>(
         → IsStopStatus result
         → SearchesInPart steps (S.left source.old) (S.left source.new)
         (K.held sink.old) (K.held sink.new) result }
+    ensures begun { (steps : ℕ) → IsDiscover (bytes_of_words words.now.items) steps
+        → IsBrokenOff result
+        → SearchesBegun steps (S.left source.old) (S.left source.new)
+        (K.held sink.old) (K.held sink.new) }
     ensures ends { Ends (bytes_of_words words.now.items) (S.left source.old) (S.left source.new)
         (S.faults source.old) (S.faults source.new) (K.faults sink.old) (K.faults sink.new)
         (K.held sink.old) (K.held sink.new) result }
@@ -81,7 +85,8 @@ pub fn run<S: Source, K: Sink>(
         → IsCalledFor (bytes_of_words words.now.items) (S.left source.old) due
         → IsCalledFor (bytes_of_words words.now.items) (S.left source.old) other
         → due ≡ other }
-    ensures some { AsksForLog (bytes_of_words words.now.items) (S.left source.old)
+    ensures some { (order : Order) → IsOrder (bytes_of_words words.now.items) order
+        → HasInput order.command (S.left source.old)
         → (due : Due) × IsCalledFor (bytes_of_words words.now.items) (S.left source.old) due }
     ensures taken { (order : Order) → IsOrder (bytes_of_words words.now.items) order
         → Takes (limit_of order.command) (S.left source.old) (S.left source.new) }

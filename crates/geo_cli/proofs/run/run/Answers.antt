@@ -1,3 +1,4 @@
+use Rattle.geo_cli.proofs.Begun.{begun}
 use Rattle.geo_cli.proofs.Decisive.{decisive}
 use Rattle.geo_cli.proofs.Placed.{done, unmet}
 use Rattle.geo_cli.proofs.Ended.{accepts, completes, decides, ends_in, has_number, misused, no_order, reads_nothing, takes_order}
@@ -37,6 +38,14 @@ returns-in-Some-clause-in_part g c = λ steps given unfinished.
 
 pub returns-in-None-clause-in_part : goal.returns-in-None-clause-in_part
 returns-in-None-clause-in_part g c = λ steps given unfinished. absurd (no_order _ _ c.order_of.ensures.complete c.in-None.is _ given)
+
+pub returns-in-Some-clause-begun : goal.returns-in-Some-clause-begun
+returns-in-Some-clause-begun g c = λ steps given broken.
+    begun _ c.order_of.ensures.one steps given _ _ _ _ _ broken _ _ _ _
+    (ends_in _ c.order_of.ensures.one _ c.in-Some.ensures.given _ _ _ _ _ _ _ _ _ c.carry_out.ensures.answers)
+
+pub returns-in-None-clause-begun : goal.returns-in-None-clause-begun
+returns-in-None-clause-begun g c = λ steps given broken. absurd (no_order _ _ c.order_of.ensures.complete c.in-None.is _ given)
 
 pub returns-in-Some-clause-ends : goal.returns-in-Some-clause-ends
 returns-in-Some-clause-ends g c = ends_in _ c.order_of.ensures.one _ c.in-Some.ensures.given _ _ _ _ _ _ _ _ _ c.carry_out.ensures.answers
