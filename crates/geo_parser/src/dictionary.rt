@@ -10,8 +10,8 @@ use crate::expression_words::is_reserved;
 use geo_base::Text;
 use geo_points::NoMemory;
 use geo_program::{Name, NameKind, Names};
-use indexmap::IndexMap;
 use std::alloc::Global;
+use std::collections::BTreeMap;
 use std::marker::Model;
 
 /// What a word names: a kind, and the number among the names of this kind.
@@ -71,15 +71,16 @@ impl Counts {
 /// The names that are declared so far, with their meanings. Contracts see the list.
 #[derive(Drop)]
 pub struct Dictionary<'a> {
-    meanings: IndexMap<&'a [u8], Meaning>,
+    meanings: BTreeMap<&'a [u8], Meaning>,
     names: Vec<Name>,
     counts: Counts,
 }
 
 impl<'a> Model for Dictionary<'a> {
     ghost use Rattle.std.specs.Prelude.{List};
-    ghost use Rattle.std.specs.Str.{bytes_eq};
-    ghost use Rattle.indexmap.specs.IndexMap.{get_by};
+    ghost use Rattle.std.specs.BTreeMap.{get_by};
+    ghost use Rattle.std.specs.Cmp.Lexicographic.{slice_cmp};
+    ghost use Rattle.std.specs.Ordering.{nat_cmp};
     ghost use Rattle.geo_program.specs.declared.names.Name.{Name};
     ghost use Rattle.geo_parser.specs.Inner.Dictionaries.{IsDictionary};
 
@@ -88,7 +89,7 @@ impl<'a> Model for Dictionary<'a> {
     ghost view = { λ d. d.names.items };
 
     ghost invariant = { λ d. IsDictionary d.names.items
-        (λ word. get_by (λ key. bytes_eq word key.now) d.meanings) d.counts };
+        (λ word. get_by (λ key. slice_cmp nat_cmp word key.now) d.meanings) d.counts };
 }
 
 impl<'a> Dictionary<'a> {
@@ -97,7 +98,7 @@ impl<'a> Dictionary<'a> {
         ensures { result ≡ [] }
     {
         Dictionary {
-            meanings: IndexMap::new(alloc),
+            meanings: BTreeMap::new(alloc),
             names: Vec::new(alloc),
             counts: Counts {
                 points: 0,
