@@ -43,7 +43,7 @@ end_by() {
 trap 'end_by 1' HUP
 trap 'end_by 2' INT
 trap 'end_by 15' TERM
-# a limit on the size of files is a failing write then
+# a file that may grow no further is a failing write, as a closed pipe is
 trap '' XFSZ
 
 # run COMMAND..: runs it so that a signal to geo ends it too; its input is given by redirection
