@@ -1,6 +1,6 @@
 -- The names that texts give are looked up one after another.
-use Rattle.std.proofs.Common.{◌≡◌, ℕ, zero, suc, ◌+◌, ◌<◌, ◌≤◌, List, [], ◌∷◌, ◌++◌, drop, get_or, length, map, refl, sym, ◌∙◌, ap, subst}
-use Rattle.std.proofs.Common.{add-one, append-nil, append_assoc, drop-cons, length-append, arith}
+use Rattle.std.proofs.Common.{◌≡◌, ℕ, suc, ◌+◌, ◌<◌, ◌≤◌, List, [], ◌∷◌, ◌++◌, drop, get_or, length, map, refl, sym, ◌∙◌, ap, subst}
+use Rattle.std.proofs.Common.{add-one, append-nil, append_assoc, drop-cons, arith}
 use Rattle.std.specs.Prelude.{slice_index_or}
 use Rattle.std.specs.List.{AllByRecursion}
 use Rattle.std.proofs.lemmas.List.Elements.{All-from_recursion, recursion_from_All}
@@ -128,90 +128,3 @@ module _ (cited : List Name) (texts : List (List ℕ)) (k : ℕ) (name : Name) (
 
       none_for : (cs : List Name) (m : ℕ) → length texts ≤ m → given_names cs (drop m texts) ≡ []
       none_for cs m l = ap (given_names cs) (drop_all m texts l) ∙ no_text cs
-
--- NUMBERS
--- the names so far: none of this kind has the text, and so many are of the kind
-pub record AreOthers (k : NameKind) (text : List ℕ) (names left : List Name) (number : ℕ) : Type 0 where
-  pub front : List (List ℕ)
-  pub split : names_of k names ≡ front ++ names_of k left
-  pub counted : length front ≡ number
-  pub others : AllByRecursion (λ t. t ≡ text → ⊥) front
-
-pub no_others : (k : NameKind) (text : List ℕ) (names : List Name) → AreOthers k text names names 0
-no_others k text names = record { front = []; split = refl; counted = refl; others = tt }
-
-names_same : (k : NameKind) (n : Name) (ns : List Name) → n.kind ≡ k → names_of k (n ∷ ns) ≡ n.text ∷ names_of k ns
-names_same Point n ns e = ap (λ (kind : NameKind). names_of Point (record { text = n.text; kind = kind } ∷ ns)) e
-names_same Param n ns e = ap (λ (kind : NameKind). names_of Param (record { text = n.text; kind = kind } ∷ ns)) e
-names_same Line n ns e = ap (λ (kind : NameKind). names_of Line (record { text = n.text; kind = kind } ∷ ns)) e
-
-names_other : (k : NameKind) (n : Name) (ns : List Name) → (n.kind ≡ k → ⊥) → names_of k (n ∷ ns) ≡ names_of k ns
-names_other k n ns other = by k n.kind refl other
-  where
-    by : (k kind : NameKind) → n.kind ≡ kind → (n.kind ≡ k → ⊥) → names_of k (n ∷ ns) ≡ names_of k ns
-    by Point Point e o = absurd (o e)
-    by Param Param e o = absurd (o e)
-    by Line Line e o = absurd (o e)
-    by Point Param e o = ap (λ (kind : NameKind). names_of Point (record { text = n.text; kind = kind } ∷ ns)) e
-    by Point Line e o = ap (λ (kind : NameKind). names_of Point (record { text = n.text; kind = kind } ∷ ns)) e
-    by Param Point e o = ap (λ (kind : NameKind). names_of Param (record { text = n.text; kind = kind } ∷ ns)) e
-    by Param Line e o = ap (λ (kind : NameKind). names_of Param (record { text = n.text; kind = kind } ∷ ns)) e
-    by Line Point e o = ap (λ (kind : NameKind). names_of Line (record { text = n.text; kind = kind } ∷ ns)) e
-    by Line Param e o = ap (λ (kind : NameKind). names_of Line (record { text = n.text; kind = kind } ∷ ns)) e
-
-module _ (k : NameKind) (text : List ℕ) (names : List Name) (j : ℕ) (name : Name) (number : ℕ) (b : j < length names) (is : name ≡ get_or names j name)
-    (h : AreOthers k text names (drop j names) number) where
-  at_front : drop j names ≡ name ∷ drop (suc j) names
-  at_front = drop-cons names j name b ∙ ap (λ x. x ∷ drop (suc j) names) (sym is)
-
-  -- a name of another kind
-  pub other_kind : (name.kind ≡ k → ⊥) → AreOthers k text names (drop (j + 1) names) number
-  other_kind o = subst (λ m. AreOthers k text names (drop m names) number) (sym (add-one j)) (record {
-    front = h.front;
-    split = h.split ∙ ap (λ ns. h.front ++ names_of k ns) at_front ∙ ap (λ (ts : List (List ℕ)). h.front ++ ts) (names_other k name (drop (suc j) names) o);
-    counted = h.counted;
-    others = h.others;
-  })
-
-  -- one of the kind with another text
-  pub other_name : name.kind ≡ k → (name.text ≡ text → ⊥) → AreOthers k text names (drop (j + 1) names) (number + 1)
-  other_name e o = subst (λ m. AreOthers k text names (drop m names) (number + 1)) (sym (add-one j)) (record {
-    front = h.front ++ name.text ∷ [];
-    split =
-        h.split ∙ ap (λ ns. h.front ++ names_of k ns) at_front ∙ ap (λ (ts : List (List ℕ)). h.front ++ ts) (names_same k name (drop (suc j) names) e)
-        ∙ sym (append_assoc h.front (name.text ∷ []) (names_of k (drop (suc j) names)));
-    counted = length-append h.front (name.text ∷ []) ∙ ap (λ n. n + 1) h.counted;
-    others = each_append (λ t. t ≡ text → ⊥) h.front (name.text ∷ []) h.others (o, tt);
-  })
-
-  whole : name.kind ≡ k → names_of k names ≡ h.front ++ name.text ∷ names_of k (drop (suc j) names)
-  whole e = h.split ∙ ap (λ ns. h.front ++ names_of k ns) at_front ∙ ap (λ (ts : List (List ℕ)). h.front ++ ts) (names_same k name (drop (suc j) names) e)
-
-  -- the one that is looked for
-  pub declared_here : name.kind ≡ k → number < length (names_of k names)
-  declared_here e =
-      let l : length (names_of k names) ≡ length h.front + suc (length (names_of k (drop (suc j) names))) =
-      ap length (whole e) ∙ length-append h.front (name.text ∷ names_of k (drop (suc j) names)) in
-      let n = h.counted in omega (arith, l, n)
-
-  pub named_here : name.kind ≡ k → name.text ≡ text → name_text k names number ≡ text
-  named_here e t =
-      ap (λ (ts : List (List ℕ)). get_or ts number []) (whole e)
-      ∙ ap (λ n. get_or (h.front ++ name.text ∷ names_of k (drop (suc j) names)) n []) (sym h.counted)
-      ∙ at_end h.front ∙ t
-    where
-      at_end : (xs : List (List ℕ)) → get_or (xs ++ name.text ∷ names_of k (drop (suc j) names)) (length xs) [] ≡ name.text
-      at_end [] = refl
-      at_end (x ∷ xs) = at_end xs
-
--- there is none
-pub none_named : (k : NameKind) (text : List ℕ) (names left : List Name) (number : ℕ) → left ≡ [] → AreOthers k text names left number
-    → (n : ℕ) → n < length (names_of k names) → name_text k names n ≡ text → ⊥
-none_named k text names left number e h n b is =
-    let all : names_of k names ≡ h.front = h.split ∙ ap (λ ns. h.front ++ names_of k ns) e ∙ append-nil h.front in
-    by h.front n h.others (subst (λ (ts : List (List ℕ)). n < length ts) all b) (ap (λ (ts : List (List ℕ)). get_or ts n []) (sym all) ∙ is)
-  where
-    by : (ts : List (List ℕ)) (n : ℕ) → AllByRecursion (λ t. t ≡ text → ⊥) ts → n < length ts → get_or ts n [] ≡ text → ⊥
-    by [] n h b is = omega (arith, b)
-    by (t ∷ ts) zero h b is = h.0 is
-    by (t ∷ ts) (suc n) h b is = by ts n h.1 (omega (arith, b)) is

@@ -1,11 +1,12 @@
 //! What the names of the cited program stand for in the citing one.
 
-ghost use Rattle.std.specs.Prelude.{◌≡◌, ◌<◌, ℕ, IfNone, IfOk, IfSome, MatchOption, [], length, map};
+ghost use Rattle.std.specs.Prelude.{◌≡◌, IfOk, MatchOption, length, map};
 ghost use Rattle.std.specs.Prelude.{slice_index_or};
-ghost use Rattle.geo_program.specs.Names.{name_text, names_of};
+ghost use Rattle.geo_program.specs.Names.{names_of};
 ghost use Rattle.geo_library.specs.Inner.Naming.{AreImages, HasNoNumbers, HasNoRenaming, renaming_form};
 ghost use Rattle.geo_library.specs.Renamings.{AreNamesOf, IsRenaming, given_names};
 
+use crate::name_numbers::{number_of, numbers_of_names, text_at};
 use geo_base::Text;
 use geo_points::{NoMemory, ParamId, PointId};
 use geo_program::{Name, NameKind};
@@ -58,45 +59,17 @@ fn numbers_of(
         (HasNoNumbers kind citing.now (names_of kind (given_names cited.now (map (λ t. t.now) texts.now))))
         (λ v. AreNamesOf kind citing.now (names_of kind (given_names cited.now (map (λ t. t.now) texts.now))) v.items)) }
 {
+    let known = numbers_of_names(alloc, citing, kind)?;
     let mut numbers = Vec::new(alloc);
     for (k, name) in cited.iter().enumerate() {
         if name.kind == kind {
-            let Some(number) = number_of(citing, kind, text_at(texts, k)) else {
+            let Some(number) = number_of(&known, text_at(texts, k)) else {
                 return Ok(None);
             };
             numbers.push(number)?;
         }
     }
     Ok(Some(numbers))
-}
-
-/// The text at a place; past the end none.
-fn text_at<'a>(texts: &[&'a [u8]], k: usize) -> &'a [u8]
-    ensures { result.now ≡ slice_index_or (map (λ t. t.now) texts.now) k [] }
-{
-    match texts.get(k) {
-        Some(text) => *text,
-        None => &[],
-    }
-}
-
-/// The number of the name of this kind that has the text.
-fn number_of(names: &[Name], kind: NameKind, text: &[u8]) -> Option<usize>
-    ensures declared { IfSome result (λ n. n < length (names_of kind names.now)) }
-    ensures named { IfSome result (λ n. name_text kind names.now n ≡ text.now) }
-    ensures none { IfNone result ((n : ℕ) → n < length (names_of kind names.now)
-        → name_text kind names.now n ≡ text.now → ⊥) }
-{
-    let mut number = 0;
-    for name in names {
-        if name.kind == kind {
-            if name.bytes() == text {
-                return Some(number);
-            }
-            number += 1;
-        }
-    }
-    None
 }
 
 /// The cited names with the texts that are given to them.

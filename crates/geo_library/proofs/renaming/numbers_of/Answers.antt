@@ -1,4 +1,4 @@
-use Rattle.std.proofs.Common.{map, [], ℕ, List, ◌+◌, ◌≡◌, sym, ◌∙◌, ap, subst, slice_index_or, Vec, Global, rules}
+use Rattle.std.proofs.Common.{map, [], ℕ, ◌+◌, ◌≡◌, sym, ◌∙◌, ap, subst, slice_index_or, Vec, Global, rules}
 use Rattle.std.proofs.lemmas.List.{length-map}
 use Rattle.geo_program.specs.Names.{names_of}
 use Rattle.geo_library.specs.Renamings.{given_names}
@@ -17,7 +17,7 @@ returns-in_default c =
     not_named kind c.args.citing.now (names_of kind (given_names cited texts)) (left_at kind cited texts k) c.loop-k.numbers.items c.loop-k.invariant
     (slice_index_or texts k []) (left_at kind cited texts (k + 1))
     (left_here kind cited texts k name c.loop-k-test.true (length-map c.args.texts.now (λ t. t.now) ∙ c.requires) c.index-cited-k.is same)
-    (λ n b e. c.in_default.ensures.none n b (e ∙ sym c.text_at.ensures))
+    (λ n b e. c.in_default.ensures.none (names_of kind c.args.citing.now) c.in_ok-known.ensures n b (e ∙ sym c.text_at.ensures))
 
 pub loop-k-preserved : goal.loop-k-preserved
 loop-k-preserved c =
@@ -35,7 +35,7 @@ loop-k-preserved c =
           let same : name.kind ≡ kind = search rules in
           one_more kind citing all (left_at kind cited texts k) numbers c.loop-k.invariant (slice_index_or texts k []) (left_at kind cited texts (k + 1)) w.in-Some.number c.if-eq.numbers.items
           (left_here kind cited texts k name c.loop-k-test.true long c.index-cited-k.is same)
-          w.in-Some.ensures.declared (w.in-Some.ensures.named ∙ w.text_at.ensures)
+          (w.in-Some.ensures.declared (names_of kind citing) c.in_ok-known.ensures) (w.in-Some.ensures.named (names_of kind citing) c.in_ok-known.ensures ∙ w.text_at.ensures)
           (ap (λ (v : Vec ℕ Global). v.items) w.numbers-is ∙ w.in_ok-push.ensures.items)
       | else-eq w ↦
           let other : name.kind ≡ kind → ⊥ = search rules in
