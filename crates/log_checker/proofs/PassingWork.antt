@@ -4,6 +4,7 @@ use Rattle.std.specs.Result.{IfOk}
 use Rattle.geo_poly.specs.declared.variables.Var.{Var}
 use Rattle.geo_poly.specs.Polynomials.{Summands}
 use Rattle.geo_program.specs.Programs.{source_of}
+use Rattle.geo_conditions.specs.declared.problem.Problem.{Problem}
 use Rattle.proof_log.specs.declared.log.Line.{Line}
 use Rattle.proof_log.specs.Writable.{CanWritePolynomial}
 use Rattle.log_checker.specs.Checkers.{IsAtWork, IsDue, head_of, subject_of}
@@ -43,7 +44,7 @@ module _ (w : Work) (reached : (steps : ℕ) × (good : List Line) × IsAtWork w
 abbrev behind : Work → Evidence → Due → Work
 behind w e d = record w { evidence = e; due = d }
 
-pub chain_goes_on : {E : Type 0} (w : Work) (t : Task) (own : Option Var) (q : Summands) (e : Evidence) (r : Summands) (text : List ℕ) (result : Result Bool E)
+chain_goes_on : {E : Type 0} (w : Work) (t : Task) (own : Option Var) (q : Summands) (e : Evidence) (r : Summands) (text : List ℕ) (result : Result Bool E)
     → w.due ≡ due.Step t own q → IfOk result (StepGoesOn w.problem.steps text w.evidence q e r)
     → IfOk result (WorkGoesOn w text (behind w e (due.Step t own r)))
 chain_goes_on w t own q e r text (Ok true) is (kept, h) = (
@@ -72,6 +73,14 @@ chain_goes_on w t own q e r text (Ok false) is (kept, same) =
     ap (λ (p : Summands). behind w e (due.Step t own p)) same ∙ ap (λ (x : Evidence). behind w x (due.Step t own q)) kept
     ∙ ap (λ (d : Due). behind w w.evidence d) (sym is)
 chain_goes_on w t own q e r text (Err x) is h = tt
+
+-- the same, where the problem is handed back
+pub chain_goes_on_with : {E : Type 0} (w : Work) (problem : Problem) (t : Task) (own : Option Var) (q : Summands) (e : Evidence) (r : Summands) (text : List ℕ)
+    (result : Result Bool E) → w.due ≡ due.Step t own q → problem ≡ w.problem → IfOk result (StepGoesOn w.problem.steps text w.evidence q e r)
+    → IfOk result (WorkGoesOn w text (record w { problem = problem; evidence = e; due = due.Step t own r }))
+chain_goes_on_with w problem t own q e r text result is same h =
+    subst (λ (p : Problem). IfOk result (WorkGoesOn w text (record w { problem = p; evidence = e; due = due.Step t own r }))) (sym same)
+    (chain_goes_on w t own q e r text result is h)
 
 -- A STATE
 pub state_goes_on : {E : Type 0} (s : State) (w w' : Work) (text : List ℕ) (result : Result Bool E) → s ≡ state.Work w → IfOk result (WorkGoesOn w text w')

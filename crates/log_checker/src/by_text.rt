@@ -2,6 +2,7 @@
 //! compared with it, so that their polynomial is not read.
 
 ghost use Rattle.std.specs.Prelude.{◌≡◌, IfOk, IfSome, IsTrue};
+ghost use Rattle.elim_apply.specs.Kept.{AreKnownRows};
 ghost use Rattle.log_checker.specs.Inner.ByText.{IsStepText, IsStepTo};
 ghost use Rattle.log_checker.specs.Inner.Lines.{IsNamedBy};
 ghost use Rattle.proof_log.specs.Lines.{line_text};
@@ -12,7 +13,7 @@ use crate::line_of::line_of;
 use crate::moving::{move_result, ratio_move};
 use crate::reasons::Reason;
 use crate::stops::Stop;
-use elim_apply::Move;
+use elim_apply::{KnownRows, Move};
 use geo_base::Budget;
 use geo_points::NoMemory;
 use geo_poly::Poly;
@@ -26,21 +27,24 @@ use std::alloc::Global;
 pub(crate) fn step_by_text(
     alloc: Global,
     steps: &Steps,
+    numbers: &mut KnownRows,
     known: &Vars,
     left: u64,
     before: &Poly,
     bytes: &[u8],
 ) -> Result<Option<(Poly, u64)>, NoMemory>
+    requires numbers { AreKnownRows steps.now numbers.old }
     requires named { IsNamedBy steps.now before.now }
     requires written { CanWritePolynomial before.now }
-    ensures { IfOk result (λ found. IfSome found
+    ensures found { IfOk result (λ found. IfSome found
         (λ p. IsStepText steps.now known.now left before.now bytes.now p.1 p.0)) }
+    ensures numbers { AreKnownRows steps.now numbers.new }
 {
     let Some(head) = head_line(alloc, bytes)? else {
         return Ok(None);
     };
     let mut budget = Budget { left };
-    let Ok(line) = due_line(alloc, steps, known, before, head, &mut budget) else {
+    let Ok(line) = due_line(alloc, steps, numbers, known, before, head, &mut budget) else {
         return Ok(None);
     };
     if !is_text_of(alloc, bytes, &line)? {
@@ -74,23 +78,26 @@ fn before_colon(bytes: &[u8]) -> Option<&[u8]> {
 fn due_line(
     alloc: Global,
     steps: &Steps,
+    numbers: &mut KnownRows,
     known: &Vars,
     before: &Poly,
     head: Line,
     budget: &mut Budget,
 ) -> Result<Line, Stop>
+    requires numbers { AreKnownRows steps.now numbers.old }
     requires named { IsNamedBy steps.now before.now }
     requires written { CanWritePolynomial before.now }
     requires writable { IsWritable head }
-    ensures { IfOk result
+    ensures step { IfOk result
         (IsStepTo steps.now known.now budget.old.left before.now budget.new.left) }
+    ensures numbers { AreKnownRows steps.now numbers.new }
 {
     // From here on it is known that the steps are a construction.
     prove!(steps.count() <= 512);
     match head {
         Line::Ratio { var, lemma, at, .. } => {
             let mv = ratio_move(var, lemma, at);
-            let poly = move_result(alloc, steps, before, &mv, budget)?;
+            let poly = move_result(alloc, steps, numbers, before, &mv, budget)?;
             Ok(Line::Ratio {
                 var,
                 lemma,
@@ -100,12 +107,12 @@ fn due_line(
         }
         Line::Point { at, .. } => {
             let mv = Move::Point(at);
-            let poly = move_result(alloc, steps, before, &mv, budget)?;
+            let poly = move_result(alloc, steps, numbers, before, &mv, budget)?;
             Ok(Line::Point { at, poly })
         }
         Line::Coords(_) => {
             let mv = Move::Coords;
-            let poly = move_result(alloc, steps, before, &mv, budget)?;
+            let poly = move_result(alloc, steps, numbers, before, &mv, budget)?;
             Ok(Line::Coords(poly))
         }
         Line::Cut { by, .. } => {

@@ -1,6 +1,7 @@
 //! The lines of a chain behind its start.
 
 ghost use Rattle.std.specs.Prelude.{◌≡◌, ◌≢◌, IfErr, IfOk};
+ghost use Rattle.elim_apply.specs.Kept.{AreKnownRows};
 ghost use Rattle.geo_logs.specs.Chains.{IsEnd};
 ghost use Rattle.geo_logs.specs.Places.{in_chain};
 ghost use Rattle.log_checker.specs.Inner.Lines.{IsNamedBy, IsReached, IsReady, IsStepLine, LeadsOn};
@@ -16,7 +17,7 @@ use crate::heading::{condition_due, goal_due};
 use crate::moving::{after_move, ratio_move};
 use crate::reasons::Reason;
 use crate::stops::Stop;
-use elim_apply::Move;
+use elim_apply::{KnownRows, Move};
 use geo_base::Budget;
 use geo_conditions::Problem;
 use geo_points::NoMemory;
@@ -30,6 +31,7 @@ use std::alloc::Global;
 pub(crate) fn after_chain_line(
     alloc: Global,
     problem: &Problem,
+    numbers: &mut KnownRows,
     evidence: &mut Evidence,
     task: Task,
     own: Option<Var>,
@@ -37,18 +39,20 @@ pub(crate) fn after_chain_line(
     line: Line,
 ) -> Result<Due, Stop>
     requires ready { IsReady problem.now }
+    requires numbers { AreKnownRows problem.now.steps numbers.old }
     requires reached { IsReached problem.now evidence.old (Due.Step task own before) }
     requires writable { IsWritable line }
     ensures goes { IfOk result
         (LeadsOn problem.now evidence.old (Due.Step task own before) line evidence.new) }
     ensures refused { IfErr result
         (RefusesWhere problem.now evidence.old (Due.Step task own before) line) }
+    ensures numbers { AreKnownRows problem.now.steps numbers.new }
 {
     if let Line::End = line {
         return after_end(problem, evidence, task, own, before);
     }
     let Evidence { known, budget, .. } = evidence;
-    let poly = after_step(alloc, &problem.steps, known, budget, &before, line)?;
+    let poly = after_step(alloc, &problem.steps, numbers, known, budget, &before, line)?;
     Ok(Due::Step { task, own, poly })
 }
 
@@ -56,11 +60,13 @@ pub(crate) fn after_chain_line(
 fn after_step(
     alloc: Global,
     steps: &Steps,
+    numbers: &mut KnownRows,
     known: &Vars,
     budget: &mut Budget,
     before: &Poly,
     line: Line,
 ) -> Result<Poly, Stop>
+    requires numbers { AreKnownRows steps.now numbers.old }
     requires named { IsNamedBy steps.now before.now }
     requires writable { IsWritable line }
     requires not_end { line ≢ Line.End }
@@ -68,6 +74,7 @@ fn after_step(
         (IsStepLine steps.now known.now budget.old.left before.now line budget.new.left) }
     ensures refused { IfErr result
         (RefusesAt steps.now (in_chain known.now budget.old.left before.now) line) }
+    ensures numbers { AreKnownRows steps.now numbers.new }
 {
     match line {
         Line::Ratio {
@@ -77,15 +84,15 @@ fn after_step(
             poly,
         } => {
             let mv = ratio_move(var, lemma, at);
-            after_move(alloc, steps, before, &mv, &poly, budget)
+            after_move(alloc, steps, numbers, before, &mv, &poly, budget)
         }
         Line::Point { at, poly } => {
             let mv = Move::Point(at);
-            after_move(alloc, steps, before, &mv, &poly, budget)
+            after_move(alloc, steps, numbers, before, &mv, &poly, budget)
         }
         Line::Coords(poly) => {
             let mv = Move::Coords;
-            after_move(alloc, steps, before, &mv, &poly, budget)
+            after_move(alloc, steps, numbers, before, &mv, &poly, budget)
         }
         Line::Cut { by, poly } => after_cut(alloc, known, before, &by, &poly),
         _ => Err(Stop::Rejected(Reason::WrongLine)),

@@ -15,6 +15,7 @@ mod errors;
 mod evidence;
 mod heading;
 mod judging;
+mod known_problem;
 pub mod laws;
 mod line_of;
 mod moving;

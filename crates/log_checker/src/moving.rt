@@ -2,6 +2,7 @@
 
 ghost use Rattle.std.specs.Prelude.{◌≡◌, ◌-◌, ◌<◌, ◌↔◌, IfErr, IfOk, IsNone, IsTrue, OnOk, length};
 ghost use Rattle.elim_apply.specs.LemmaTable.{lemma_table};
+ghost use Rattle.elim_apply.specs.Kept.{AreKnownRows};
 ghost use Rattle.geo_logs.specs.Judging.{IsMoveRefused};
 ghost use Rattle.geo_logs.specs.Moves.{IsMoved, move_charge, place_of, place_of_lemma, replacement};
 ghost use Rattle.geo_logs.specs.Naming.{IsPlaceBelow};
@@ -12,7 +13,7 @@ ghost use Rattle.log_checker.specs.Inner.Lines.{IsNamedBy, Tells};
 
 use crate::reasons::Reason;
 use crate::stops::Stop;
-use elim_apply::{Move, apply};
+use elim_apply::{KnownRows, Move, apply_known};
 use geo_base::Budget;
 use geo_points::PointId;
 use geo_poly::{Poly, Ticks, Var};
@@ -25,12 +26,14 @@ use std::sync::ledger::{Blank, Ledger};
 pub(crate) fn after_move(
     alloc: Global,
     steps: &Steps,
+    numbers: &mut KnownRows,
     before: &Poly,
     mv: &Move,
     poly: &Poly,
     budget: &mut Budget,
 ) -> Result<Poly, Stop>
-    requires { IsNamedBy steps.now before.now }
+    requires named { IsNamedBy steps.now before.now }
+    requires numbers { AreKnownRows steps.now numbers.old }
     ensures result { IfOk result (λ q. q ≡ poly.now) }
     ensures moved { let made = replacement lemma_table steps.now mv.now before.now in
         IfOk result (IsMoved made budget.old.left before.now) }
@@ -38,8 +41,9 @@ pub(crate) fn after_move(
         OnOk result (budget.new.left ≡ budget.old.left - move_charge made before.now) }
     ensures refused { IfErr result (Tells (IsMoveRefused lemma_table steps.now budget.old.left
         before.now mv.now poly.now)) }
+    ensures numbers { AreKnownRows steps.now numbers.new }
 {
-    let moved = move_result(alloc, steps, before, mv, budget)?;
+    let moved = move_result(alloc, steps, numbers, before, mv, budget)?;
     if !moved.same(poly) {
         return Err(Stop::Rejected(Reason::WrongPoly));
     }
@@ -50,25 +54,29 @@ pub(crate) fn after_move(
 pub(crate) fn move_result(
     alloc: Global,
     steps: &Steps,
+    numbers: &mut KnownRows,
     before: &Poly,
     mv: &Move,
     budget: &mut Budget,
 ) -> Result<Poly, Stop>
-    requires { IsNamedBy steps.now before.now }
+    requires named { IsNamedBy steps.now before.now }
+    requires numbers { AreKnownRows steps.now numbers.old }
     ensures moved { let made = replacement lemma_table steps.now mv.now before.now in
         IfOk result (IsMoved made budget.old.left before.now) }
     ensures paid { let made = replacement lemma_table steps.now mv.now before.now in
         OnOk result (budget.new.left ≡ budget.old.left - move_charge made before.now) }
     ensures refused { (q : Summands) → IfErr result (Tells (IsMoveRefused lemma_table steps.now
         budget.old.left before.now mv.now q)) }
+    ensures numbers { AreKnownRows steps.now numbers.new }
 {
-    move_result_in::<Brand>(alloc, steps, before, mv, budget, Blank::new(1))
+    move_result_in::<Brand>(alloc, steps, numbers, before, mv, budget, Blank::new(1))
 }
 
 /// The polynomial, by a move with a counter of its own.
 fn move_result_in<L: Ledger>(
     alloc: Global,
     steps: &Steps,
+    numbers: &mut KnownRows,
     before: &Poly,
     mv: &Move,
     budget: &mut Budget,
@@ -78,12 +86,14 @@ fn move_result_in<L: Ledger>(
     requires parts { blank.parts ≡ L.parts }
     requires some { 0 < blank.parts }
     requires named { IsNamedBy steps.now before.now }
+    requires numbers { AreKnownRows steps.now numbers.old }
     ensures moved { let made = replacement lemma_table steps.now mv.now before.now in
         IfOk result (IsMoved made budget.old.left before.now) }
     ensures paid { let made = replacement lemma_table steps.now mv.now before.now in
         OnOk result (budget.new.left ≡ budget.old.left - move_charge made before.now) }
     ensures refused { (q : Summands) → IfErr result (Tells (IsMoveRefused lemma_table steps.now
         budget.old.left before.now mv.now q)) }
+    ensures numbers { AreKnownRows steps.now numbers.new }
 {
     // From here on it is known that the steps are a construction.
     prove!(steps.count() <= 512);
@@ -91,7 +101,7 @@ fn move_result_in<L: Ledger>(
         return Err(Stop::Rejected(Reason::NoRow));
     }
     let mut ticks = Ticks::<L>::new(blank);
-    let moved = apply(alloc, steps, before, mv, budget, &mut ticks)?;
+    let moved = apply_known(alloc, steps, numbers, before, mv, budget, &mut ticks)?;
     Ok(moved)
 }
 

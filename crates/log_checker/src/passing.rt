@@ -1,6 +1,6 @@
 //! Work that goes on with a line which is judged by its text.
 
-ghost use Rattle.std.specs.Prelude.{ℕ, List, IfOk};
+ghost use Rattle.std.specs.Prelude.{◌≡◌, ℕ, List, IfOk};
 ghost use Rattle.log_checker.specs.Checkers.{IsAtWork};
 ghost use Rattle.log_checker.specs.Inner.ByText.{StateGoesOn, StepGoesOn, WorkGoesOn};
 ghost use Rattle.log_checker.specs.Inner.Judged.{IsReachedState};
@@ -11,11 +11,11 @@ ghost use Rattle.proof_log.specs.declared.log.Line.{Line};
 use crate::by_text::step_by_text;
 use crate::due::Due;
 use crate::evidence::Evidence;
+use crate::known_problem::KnownProblem;
 use crate::state::State;
 use crate::work::Work;
 use geo_points::NoMemory;
 use geo_poly::Poly;
-use geo_terms::Steps;
 use std::alloc::Global;
 
 /// Whether the line with these bytes is that of a move or of a cut which goes on. The state is then
@@ -42,7 +42,7 @@ fn work_passes(alloc: Global, work: &mut Work, bytes: &[u8]) -> Result<bool, NoM
         ..
     } = work;
     match due {
-        Due::Step { poly, .. } => step_passes(alloc, &problem.steps, evidence, poly, bytes),
+        Due::Step { poly, .. } => step_passes(alloc, problem, evidence, poly, bytes),
         _ => Ok(false),
     }
 }
@@ -50,18 +50,21 @@ fn work_passes(alloc: Global, work: &mut Work, bytes: &[u8]) -> Result<bool, NoM
 /// The same of a chain: the polynomial is the one behind the line, and so are the steps left.
 fn step_passes(
     alloc: Global,
-    steps: &Steps,
+    problem: &mut KnownProblem,
     evidence: &mut Evidence,
     poly: &mut Poly,
     bytes: &[u8],
 ) -> Result<bool, NoMemory>
-    requires named { IsNamedBy steps.now poly.old }
+    requires named { IsNamedBy problem.old.steps poly.old }
     requires written { CanWritePolynomial poly.old }
-    ensures { IfOk result
-        (StepGoesOn steps.now bytes.now evidence.old poly.old evidence.new poly.new) }
+    ensures goes { IfOk result
+        (StepGoesOn problem.old.steps bytes.now evidence.old poly.old evidence.new poly.new) }
+    ensures problem { problem.new ≡ problem.old }
 {
     let left = evidence.budget.left;
-    let found = step_by_text(alloc, steps, &evidence.known, left, poly, bytes)?;
+    let KnownProblem { problem, numbers } = problem;
+    let steps = &problem.steps;
+    let found = step_by_text(alloc, steps, numbers, &evidence.known, left, poly, bytes)?;
     match found {
         Some((next, after)) => {
             *poly = next;

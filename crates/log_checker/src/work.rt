@@ -1,6 +1,7 @@
 //! A log behind the lines of its program, judged line by line.
 
 ghost use Rattle.std.specs.Prelude.{◌≡◌, ℕ, List, [], Some, ◌≤◌, IfErr, IfOk, length};
+ghost use Rattle.elim_apply.specs.Kept.{AreKnownRows};
 ghost use Rattle.geo_program.specs.CanonicalText.{canonical_text};
 ghost use Rattle.geo_program.specs.Programs.{Spells, source_of};
 ghost use Rattle.log_checker.specs.Checkers.{IsAtWork, head_of, subject_of};
@@ -15,11 +16,13 @@ use crate::chaining::after_chain_line;
 use crate::due::Due;
 use crate::evidence::Evidence;
 use crate::heading::{after_condition_header, after_goal_header, condition_due};
+use crate::known_problem::KnownProblem;
 use crate::reasons::Reason;
 use crate::sampling::test_sample;
 use crate::starting::after_start_line;
 use crate::stops::Stop;
 use crate::versions::problem_by;
+use elim_apply::KnownRows;
 use geo_conditions::Problem;
 use geo_lowering::Version;
 use geo_parser::{ParseError, parse};
@@ -35,7 +38,7 @@ pub(crate) struct Work {
     /// The program.
     pub program: Program,
     /// What is to be proved of it.
-    pub problem: Problem,
+    pub problem: KnownProblem,
     /// What the chains leave.
     pub evidence: Evidence,
     /// What is due.
@@ -59,10 +62,11 @@ pub(crate) fn begun_work(
     let problem = problem_by(alloc, version, &program)?;
     let evidence = Evidence::new(alloc, steps);
     let due = condition_due(&problem, 0);
+    let numbers = KnownRows::new(alloc)?;
     Ok(Work {
         version,
         program,
-        problem,
+        problem: KnownProblem { problem, numbers },
         evidence,
         due,
     })
@@ -85,11 +89,15 @@ pub(crate) fn work_after(alloc: Global, work: Work, line: Line) -> Result<Work, 
         mut evidence,
         due,
     } = work;
-    let due = after_line(alloc, &problem, &mut evidence, due, line)?;
+    let KnownProblem {
+        problem,
+        mut numbers,
+    } = problem;
+    let due = after_line(alloc, &problem, &mut numbers, &mut evidence, due, line)?;
     Ok(Work {
         version,
         program,
-        problem,
+        problem: KnownProblem { problem, numbers },
         evidence,
         due,
     })
@@ -118,15 +126,18 @@ fn canonical_program(alloc: Global, bytes: &[u8]) -> Result<Program, Stop>
 fn after_line(
     alloc: Global,
     problem: &Problem,
+    numbers: &mut KnownRows,
     evidence: &mut Evidence,
     due: Due,
     line: Line,
 ) -> Result<Due, Stop>
     requires ready { IsReady problem.now }
+    requires numbers { AreKnownRows problem.now.steps numbers.old }
     requires reached { IsReached problem.now evidence.old due }
     requires writable { IsWritable line }
     ensures goes { IfOk result (LeadsOn problem.now evidence.old due line evidence.new) }
     ensures refused { IfErr result (RefusesWhere problem.now evidence.old due line) }
+    ensures numbers { AreKnownRows problem.now.steps numbers.new }
 {
     match due {
         Due::Condition(index) => after_condition_header(problem, index, &line),
@@ -135,7 +146,7 @@ fn after_line(
             after_start_line(alloc, problem, evidence, task, term, line)
         }
         Due::Step { task, own, poly } => {
-            after_chain_line(alloc, problem, evidence, task, own, poly, line)
+            after_chain_line(alloc, problem, numbers, evidence, task, own, poly, line)
         }
         Due::Sample(verdict) => after_sample(alloc, problem, evidence, verdict, line),
         Due::Verdict(verdict) => after_verdict(verdict, line),

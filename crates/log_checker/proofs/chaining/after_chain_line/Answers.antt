@@ -12,6 +12,7 @@ use Rattle.log_checker.proofs.chaining.after_chain_line.Goals as goal
 
 pub after_step-requires : goal.after_step-requires
 after_step-requires c = record {
+  numbers = c.requires.numbers;
   named = step_named c.args.problem.now c.requires.ready c.args.evidence.now c.args.task c.args.own c.args.before c.requires.reached;
   writable = c.requires.writable;
   not_end = c.in_default.not-End;
@@ -26,6 +27,7 @@ returns-in_err-poly c =
       refused =
           passed_on c.from_residual.result c.in_err-poly.field-0.0 (RefusesWhere q e (Step c.args.task c.args.own c.args.before) c.args.line) c.from_residual.ensures.1
           (step_refused q e c.args.task c.args.own c.args.before c.args.line c.in_err-poly.field-0.0 c.in_err-poly.ensures.refused);
+      numbers = c.in_err-poly.ensures.numbers;
     }
 
 pub returns : goal.returns
@@ -40,4 +42,5 @@ returns c =
           subst Due (sym made.is)
           (next_step_due s steps good e.known e.ends e.budget.left c.after_step.new.budget.left c.args.task c.args.own c.args.before c.in_ok-poly.poly made.step d made.leads);
       refused = tt;
+      numbers = c.in_ok-poly.ensures.numbers;
     }

@@ -9,5 +9,5 @@ returns-then-not-has_place-clause-refused g c = λ q.
     nothing_past c.args.steps.now c.count.ensures.valid (length c.args.steps.now.steps) c.args.mv.now
     (λ below. false_not (c.if-not-has_place.ensures.1 below)) c.args.before.now c.requires.named
 
-pub apply-requires-clause-points : goal.apply-requires-clause-points
-apply-requires-clause-points g c = named_points c.args.steps.now (length c.args.steps.now.steps) c.args.before.now c.requires.named
+pub apply_known-requires-clause-points : goal.apply_known-requires-clause-points
+apply_known-requires-clause-points g c = named_points c.args.steps.now (length c.args.steps.now.steps) c.args.before.now c.requires.named

@@ -1,4 +1,4 @@
-use Rattle.log_checker.proofs.PassingWork.{chain_goes_on, chain_named, chain_written}
+use Rattle.log_checker.proofs.PassingWork.{chain_goes_on_with, chain_named, chain_written}
 use Rattle.log_checker.proofs.passing.work_passes.Goals as goal
 
 pub step_passes-requires-clause-named : goal.step_passes-requires-clause-named
@@ -9,5 +9,5 @@ step_passes-requires-clause-written c = chain_written c.args.work.now c.requires
 
 pub returns-in-Step : goal.returns-in-Step
 returns-in-Step c =
-    chain_goes_on c.args.work.now c.in-Step.task c.in-Step.own c.in-Step.poly c.step_passes.new.evidence c.step_passes.new.poly c.args.bytes.now
-    c.step_passes.result c.in-Step.is c.step_passes.ensures
+    chain_goes_on_with c.args.work.now c.step_passes.new.problem c.in-Step.task c.in-Step.own c.in-Step.poly c.step_passes.new.evidence c.step_passes.new.poly
+    c.args.bytes.now c.step_passes.result c.in-Step.is c.step_passes.ensures.problem c.step_passes.ensures.goes
